@@ -1,0 +1,4 @@
+pub mod CutLemmas
+pub mod EmitLemmas
+pub mod HeaderLemmas
+pub mod StreamLemmas

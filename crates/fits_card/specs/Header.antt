@@ -1,0 +1,81 @@
+-- A header: cards, the END card and the fill of its last block (FITS Standard 4.0, sections 3.1, 3.3.1 and 4.4.1).
+use Rattle.std.specs.Prelude.{◌≡◌, ℕ, ◌+◌, ◌-◌, ◌*◌, ◌%◌, List, ◌++◌, ◌<◌, ◌≤◌, length, map, take, drop, replicate, All}
+use Rattle.std.specs.List.{flat_map, range_with_len}
+use Rattle.fits_card.specs.Card.{IsEnd}
+
+-- the parts of a header: its cards, each a list of bytes, then END, then the fill
+pub record Header : Type 0 where
+  pub cards : List (List ℕ)
+  pub end : List ℕ
+  pub fill : List ℕ
+
+-- cards, one after another
+abbrev pub joined_cards : List (List ℕ) → List ℕ
+joined_cards cards = flat_map (λ card. card) cards
+
+-- a header's bytes
+abbrev pub header_bytes : Header → List ℕ
+header_bytes header = joined_cards header.cards ++ (header.end ++ header.fill)
+
+-- how many bytes are missing to the end of a block of 2880 (3.1)
+abbrev pub to_block_end : ℕ → ℕ
+to_block_end bytes = (2880 - bytes % 2880) % 2880
+
+-- how many bytes of fill a header of so many cards has: END and the fill complete its last block (3.3.1)
+unfoldable pub fill_length : ℕ → ℕ
+fill_length cards = to_block_end (80 * (cards + 1))
+
+-- a card of a header before its END
+pub record IsInnerCard (card : List ℕ) : Type 0 where
+  pub size : length card ≡ 80
+  pub not_end : IsEnd card → ⊥
+
+-- cards before END, then END, then a fill that completes the block and is shorter than one (3.3.1, 4.4.1)
+pub record IsHeader (header : Header) : Type 0 where
+  pub cards : All IsInnerCard header.cards
+  pub end_size : length header.end ≡ 80
+  pub ends : IsEnd header.end
+  pub fill_size : length header.fill ≡ fill_length (length header.cards)
+
+-- the header cut: bytes are a header and then a rest
+pub record IsHeaderOf (bytes : List ℕ) (header : Header) (rest : List ℕ) : Type 0 where
+  pub whole : IsHeader header
+  pub joined : bytes ≡ header_bytes header ++ rest
+
+-- no header stands at the front of these bytes
+abbrev pub HasNoHeader : List ℕ → Type 0
+HasNoHeader bytes = (header : Header) → (rest : List ℕ) → IsHeaderOf bytes header rest → ⊥
+
+-- piece k of 80 bytes, from 0
+abbrev pub piece : List ℕ → ℕ → List ℕ
+piece bytes k = take 80 (drop (80 * k) bytes)
+
+-- the first pieces of 80 bytes
+abbrev pub pieces : List ℕ → ℕ → List (List ℕ)
+pieces bytes count = map (piece bytes) (range_with_len 0 count)
+
+-- how many bytes a header of so many cards has
+abbrev pub header_length : ℕ → ℕ
+header_length cards = 80 * (cards + 1) + fill_length cards
+
+-- the header of so many cards at the front, if there is one
+abbrev pub header_at : List ℕ → ℕ → Header
+header_at bytes cards = record {
+  cards = pieces bytes cards;
+  end = piece bytes cards;
+  fill = take (fill_length cards) (drop (80 * (cards + 1)) bytes);
+}
+
+-- the first piece that ends a header is piece k, from 0 (4.4.1)
+pub record IsEndPlace (bytes : List ℕ) (k : ℕ) : Type 0 where
+  pub within : 80 * (k + 1) ≤ length bytes
+  pub ends : IsEnd (piece bytes k)
+  pub first : (j : ℕ) → j < k → IsEnd (piece bytes j) → ⊥
+
+-- no piece of 80 bytes ends a header
+abbrev pub HasNoEnd : List ℕ → Type 0
+HasNoEnd bytes = (j : ℕ) → 80 * (j + 1) ≤ length bytes → IsEnd (piece bytes j) → ⊥
+
+-- a header with other cards: END stays, and the fill is spaces (own)
+abbrev pub with_cards : Header → List (List ℕ) → Header
+with_cards header cards = record { cards = cards; end = header.end; fill = replicate (fill_length (length cards)) 32 }

@@ -1,0 +1,5 @@
+pub mod Card
+pub mod CardList
+pub mod Header
+pub mod Name
+pub mod Stream

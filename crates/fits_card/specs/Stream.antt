@@ -1,0 +1,28 @@
+-- What streams do to the bytes that are known of them, and which calls count as failed (own).
+use Rattle.std.specs.Prelude.{◌≡◌, ℕ, ◌<◌, ◌≤◌, ◌↔◌, List, ◌++◌, length, take, Bool, IsTrue, nat_lt, ◌==◌, ◌&&◌, if◌then◌else◌, Option, None, Some, Result, Ok, Err}
+
+-- 1 where a read failed, else 0
+abbrev pub read_faults : {E : Type 0} → Result ℕ E → ℕ
+read_faults (Ok count) = 0
+read_faults (Err error) = 1
+
+-- 1 where a write failed, or took nothing of a piece that isn't empty, else 0
+abbrev pub write_faults : {E : Type 0} → Result ℕ E → List ℕ → ℕ
+write_faults (Ok count) piece = if (count == 0) && nat_lt 0 (length piece) then 1 else 0
+write_faults (Err error) piece = 1
+
+-- 1 where a flush failed, else 0
+abbrev pub flush_faults : {T E : Type 0} → Result T E → ℕ
+flush_faults (Ok done) = 0
+flush_faults (Err error) = 1
+
+-- what a sink holds grew by a front of these bytes, perhaps by none of them or by all
+abbrev pub AppendsFront : Option (List ℕ) → Option (List ℕ) → List ℕ → Type 0
+AppendsFront None new bytes = Unit {0}
+AppendsFront (Some xs) None bytes = ⊥
+AppendsFront (Some xs) (Some ys) bytes = (n : ℕ) × (n ≤ length bytes) × (ys ≡ xs ++ take n bytes)
+
+-- these are all the bytes that a source had left, or its first `limit` bytes where it had more
+abbrev pub TakesUpTo : Option (List ℕ) → ℕ → List ℕ → Bool → Type 0
+TakesUpTo None limit bytes more = Unit {0}
+TakesUpTo (Some xs) limit bytes more = (bytes ≡ take limit xs) × (IsTrue more ↔ (limit < length xs))

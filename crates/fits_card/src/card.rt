@@ -1,0 +1,71 @@
+ghost use Rattle.std.specs.Prelude.{◌≡◌, ◌≤◌, ◌↔◌, IsTrue, length};
+
+use crate::name::Name;
+use std::marker::Model;
+
+/// How many bytes a card has (FITS Standard 4.0, section 4.1.1).
+pub const CARD_LEN: usize = 80;
+
+/// A keyword record: one line of a header, whatever its bytes.
+#[derive(Clone, Copy, PartialEq, Eq, Hash, Debug)]
+pub struct Card(pub [u8; 80]);
+
+impl Model for Card {
+    ghost use Rattle.std.specs.Prelude.{ℕ, List};
+
+    ghost Value = { List ℕ };
+
+    ghost view = { λ card. card.0 };
+
+    ghost inverse = { λ bytes. record { 0 = bytes } };
+}
+
+impl Card {
+    ghost use Rattle.fits_card.specs.Card.{keyword_name, HasValue, IsEnd, IsText, card_of_text};
+
+    /// The card that begins with this text and goes on in spaces.
+    pub fn padded(text: &[u8]) -> Card
+        requires { length text.now ≤ 80 }
+        ensures { result ≡ card_of_text text.now }
+    {
+        let mut card = [b' '; CARD_LEN];
+        let (front, _) = card.split_at_mut(text.len());
+        front.copy_from_slice(text);
+        Card(card)
+    }
+
+    pub fn bytes(&self) -> &[u8]
+        ensures value { result.now ≡ self.now }
+        ensures len { length self.now ≡ 80 }
+    {
+        &self.0
+    }
+
+    pub fn name(&self) -> Name
+        ensures { result ≡ keyword_name self.now }
+    {
+        let [a, b, c, d, e, f, g, h, ..] = self.0;
+        Name([a, b, c, d, e, f, g, h])
+    }
+
+    /// Whether the card has a value field, readable or not.
+    pub fn has_value(&self) -> bool
+        ensures { IsTrue result ↔ HasValue self.now }
+    {
+        self.0[8] == b'=' && self.0[9] == b' ' && !self.name().is_valueless()
+    }
+
+    /// Whether the card is named END, and so ends a header.
+    pub fn is_end(&self) -> bool
+        ensures { IsTrue result ↔ IsEnd self.now }
+    {
+        self.name().is_end()
+    }
+
+    /// Whether every byte is a character of text, from a space to a tilde.
+    pub fn is_text(&self) -> bool
+        ensures { IsTrue result ↔ IsText self.now }
+    {
+        self.0.iter().all(|byte| matches!(byte, b' '..=b'~'))
+    }
+}

@@ -1,0 +1,31 @@
+ghost use Rattle.std.specs.Prelude.{◌≡◌, ℕ, ◌+◌};
+ghost use Rattle.std.specs.Borrow.{ftrue};
+
+use std::marker::{Model, PhantomData};
+
+/// How often something was done. It takes no bytes and only contracts see it.
+///
+/// Nothing outside this module can set it: it begins at 0, and `tick` adds one.
+#[derive(Drop)]
+pub struct Count {
+    marker: PhantomData<()>,
+    pub ghost total: { ℕ },
+}
+
+impl Model for Count {
+    ghost also_owns = { λ _. ftrue };
+}
+
+impl Count {
+    pub fn new() -> Count
+        ensures { result.total ≡ 0 }
+    {
+        Count {
+            marker: PhantomData,
+        }
+    }
+
+    pub fn tick(&mut self)
+        ensures { self.new.total ≡ self.old.total + 1 }
+    {}
+}

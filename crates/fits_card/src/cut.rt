@@ -1,0 +1,121 @@
+//! The header at the front of bytes.
+ghost use Rattle.std.specs.Prelude.{◌≡◌, ◌+◌, ◌*◌, ◌≤◌, ◌↔◌, length, drop, IfOk, IfSome, IfNone, IsErrOf, IsTrue, vec_capacity};
+ghost use Rattle.fits_card.specs.Card.{IsEnd};
+ghost use Rattle.fits_card.specs.Header.{header_bytes, header_length, header_at, piece, pieces, IsEndPlace, HasNoEnd, IsHeaderOf, HasNoHeader};
+
+use crate::card::{CARD_LEN, Card};
+use crate::card_list::{CardList, LONGEST_FILL, fill_len};
+use crate::count::Count;
+use std::alloc::{AllocError, Global};
+
+/// Why no header was cut.
+#[derive(Clone, Copy, PartialEq, Eq, Debug)]
+pub enum HeaderFault {
+    /// There is no END card, or its block isn't whole.
+    NoEnd,
+    /// Memory was refused.
+    Memory,
+}
+
+impl From<AllocError> for HeaderFault {
+    ghost use Rattle.fits_card.specs.declared.cut.HeaderFault.TheVariants.{Memory};
+    ghost use Rattle.std.specs.Prelude.{◌≡◌};
+
+    ghost from_gives = { λ _ fault. fault ≡ Memory };
+
+    fn from(_: AllocError) -> HeaderFault {
+        HeaderFault::Memory
+    }
+}
+
+/// The header at the front of these bytes, and how many bytes it has (FITS Standard 4.0, section 3.3.1).
+///
+/// Whether there is one is found before any memory is asked for.
+#[tactic(auto, using(crate::proofs::CutLemmas::cut_steps))]
+pub fn cut_header(alloc: Global, bytes: &[u8]) -> Result<(CardList, usize), HeaderFault>
+    ensures found { IfOk result (λ cut. IsHeaderOf bytes.now cut.0.header (drop cut.1 bytes.now)) }
+    ensures len { IfOk result (λ cut. cut.1 ≡ length (header_bytes cut.0.header)) }
+    ensures within { IfOk result (λ cut. cut.1 ≤ length bytes.now) }
+    ensures unread { IfOk result (λ cut. cut.0.reads ≡ 0) }
+    ensures none { IsErrOf result HeaderFault.NoEnd → HasNoHeader bytes.now }
+    ensures no_end { HasNoHeader bytes.now → IsErrOf result HeaderFault.NoEnd }
+{
+    let Some(count) = card_count(bytes) else {
+        return Err(HeaderFault::NoEnd);
+    };
+    let front_len = CARD_LEN * (count + 1);
+    let fill_len = fill_len(count);
+    let (_, behind_end) = bytes.split_at(front_len);
+    let (fill, _) = behind_end.split_at(fill_len);
+    let header = CardList {
+        cards: cards_of(alloc, bytes, count)?,
+        end: card_at(bytes, count),
+        fill: fill_of(alloc, fill)?,
+        reads: Count::new(),
+    };
+    Ok((header, front_len + fill_len))
+}
+
+// How many cards the header at the front has, if there is one.
+#[tactic(auto, using(crate::proofs::CutLemmas::place_steps))]
+fn card_count(bytes: &[u8]) -> Option<usize>
+    ensures found { IfSome result (λ count. IsHeaderOf bytes.now (header_at bytes.now count) (drop (header_length count) bytes.now)) }
+    ensures within { IfSome result (λ count. header_length count ≤ length bytes.now) }
+    ensures none { IfNone result (HasNoHeader bytes.now) }
+{
+    let Some(count) = end_place(bytes) else {
+        return None;
+    };
+    let (_, behind_end) = bytes.split_at(CARD_LEN * (count + 1));
+    if behind_end.len() < fill_len(count) {
+        return None;
+    }
+    Some(count)
+}
+
+// How many cards stand before the first that is named END.
+fn end_place(bytes: &[u8]) -> Option<usize>
+    ensures found { IfSome result (IsEndPlace bytes.now) }
+    ensures none { IfNone result (HasNoEnd bytes.now) }
+{
+    for k in 0..bytes.len() / CARD_LEN {
+        if card_at(bytes, k).is_end() {
+            return Some(k);
+        }
+    }
+    None
+}
+
+fn card_at(bytes: &[u8], k: usize) -> Card
+    requires { 80 * (k + 1) ≤ length bytes.now }
+    ensures { result ≡ piece bytes.now k }
+{
+    let (_, rest) = bytes.split_at(CARD_LEN * k);
+    let (piece, _) = rest.split_at(CARD_LEN);
+    let mut card = [0u8; CARD_LEN];
+    card.copy_from_slice(piece);
+    Card(card)
+}
+
+// The first cards.
+#[tactic(auto, using(crate::proofs::CutLemmas::pieces_steps))]
+fn cards_of(alloc: Global, bytes: &[u8], count: usize) -> Result<Vec<Card>, AllocError>
+    requires { 80 * count ≤ length bytes.now }
+    ensures { IfOk result (λ cards. cards.items ≡ pieces bytes.now count) }
+{
+    let mut cards = Vec::with_capacity(alloc, count)?;
+    for k in 0..count {
+        cards.push(card_at(bytes, k))?;
+    }
+    Ok(cards)
+}
+
+// The bytes of a fill, with room for the longest.
+fn fill_of(alloc: Global, bytes: &[u8]) -> Result<Vec<u8>, AllocError>
+    ensures bytes { IfOk result (λ fill. fill.items ≡ bytes.now) }
+    ensures room { IfOk result (λ fill. 2800 ≤ vec_capacity fill) }
+{
+    let mut fill = Vec::with_capacity(alloc, LONGEST_FILL)?;
+    fill.extend_from_slice(bytes)?;
+    Ok(fill)
+}

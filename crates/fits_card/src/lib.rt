@@ -1,0 +1,14 @@
+//! Keyword records of FITS headers, the streams they come from and go to, and the store that edits them.
+#![tactic(auto)]
+
+pub mod card;
+pub mod card_list;
+pub mod count;
+pub mod cut;
+pub mod laws;
+pub mod name;
+pub mod reading;
+pub mod sink;
+pub mod source;
+pub mod watched;
+pub mod writing;
