@@ -1,0 +1,4 @@
+//! The values that cards of FITS headers hold, and how they are spelled.
+#![tactic(auto)]
+
+pub mod reading;
