@@ -156,8 +156,7 @@ rest_is f h rest cut =
 
 pub one_header : (f : List ℕ) (h i : Header) (s t : List ℕ) → IsHeaderOf f h s → IsHeaderOf f i t → (h ≡ i) × (s ≡ t)
 one_header f h i s t p q =
-    let same : length h.cards ≡ length i.cards = one_end_place f (length h.cards) (length i.cards) (header-end_place f h s p) (header-end_place f i t q) in
-    (
+    let same : length h.cards ≡ length i.cards = one_end_place f (length h.cards) (length i.cards) (header-end_place f h s p) (header-end_place f i t q) in (
       header_is f h s p ∙ ap (header_at f) same ∙ sym (header_is f i t q),
       rest_is f h s p ∙ ap (λ n. drop (header_length n) f) same ∙ sym (rest_is f i t q),
     )

@@ -10,5 +10,7 @@ pub mod name;
 pub mod reading;
 pub mod sink;
 pub mod source;
+#[cfg(test)]
+mod tests;
 pub mod watched;
 pub mod writing;
