@@ -1,6 +1,8 @@
 -- A keyword record, seen as its 80 bytes (FITS Standard 4.0, section 4.1).
-use Rattle.std.specs.Prelude.{◌≡◌, ℕ, ◌≤◌, ◌-◌, List, ◌++◌, length, take, drop, replicate, codes, All, Contains}
-use Rattle.fits_card.specs.Name.{end_name, valueless_names}
+use Rattle.std.specs.Prelude.{ℕ, ◌-◌, Bool, ◌&&◌, not, nat_le, IsTrue, List, ◌++◌, length, take, drop, replicate, codes}
+use Rattle.std.specs.List.{list_all}
+use Rattle.std.specs.Str.{bytes_eq}
+use Rattle.fits_card.specs.Name.{end_name, is_valueless}
 
 -- bytes 1 to 8: the keyword name (4.1.2.1)
 abbrev pub keyword_name : List ℕ → List ℕ
@@ -11,17 +13,30 @@ abbrev pub indicator : List ℕ → List ℕ
 indicator card = take 2 (drop 8 card)
 
 -- the card has a value field, readable or not (4.1.2.2)
-pub record HasValue (card : List ℕ) : Type 0 where
-  pub indicated : indicator card ≡ codes "= "
-  pub not_valueless : Contains valueless_names (keyword_name card) → ⊥
+unfoldable pub has_value : List ℕ → Bool
+has_value card = bytes_eq (indicator card) (codes "= ") && not (is_valueless (keyword_name card))
 
 -- the card ends a header (4.4.1)
-abbrev pub IsEnd : List ℕ → Type 0
-IsEnd card = keyword_name card ≡ end_name
+unfoldable pub is_end : List ℕ → Bool
+is_end card = bytes_eq (keyword_name card) end_name
 
--- every byte is a character of text, a space to a tilde (4.1.2.3)
+-- a character of text, from a space to a tilde (4.1.2.3)
+abbrev pub is_text_byte : ℕ → Bool
+is_text_byte byte = nat_le 32 byte && nat_le byte 126
+
+-- every byte of the card is one
+unfoldable pub is_text : List ℕ → Bool
+is_text card = list_all is_text_byte card
+
+-- the same as facts
+abbrev pub HasValue : List ℕ → Type 0
+HasValue card = IsTrue (has_value card)
+
+abbrev pub IsEnd : List ℕ → Type 0
+IsEnd card = IsTrue (is_end card)
+
 abbrev pub IsText : List ℕ → Type 0
-IsText card = All (λ byte. (32 ≤ byte) × (byte ≤ 126)) card
+IsText card = IsTrue (is_text card)
 
 -- the card that begins with a text and goes on in spaces
 abbrev pub card_of_text : List ℕ → List ℕ

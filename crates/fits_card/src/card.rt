@@ -1,4 +1,4 @@
-ghost use Rattle.std.specs.Prelude.{◌≡◌, ◌≤◌, ◌↔◌, IsTrue, length};
+ghost use Rattle.std.specs.Prelude.{◌≡◌, ◌≤◌, length};
 
 use crate::name::Name;
 use std::marker::Model;
@@ -21,7 +21,7 @@ impl Model for Card {
 }
 
 impl Card {
-    ghost use Rattle.fits_card.specs.Card.{keyword_name, HasValue, IsEnd, IsText, card_of_text};
+    ghost use Rattle.fits_card.specs.Card.{keyword_name, has_value, is_end, is_text, card_of_text};
 
     /// The card that begins with this text and goes on in spaces.
     pub fn padded(text: &[u8]) -> Card
@@ -49,22 +49,25 @@ impl Card {
     }
 
     /// Whether the card has a value field, readable or not.
+    #[tactic(auto, unfolding(crate::specs::Card::has_value))]
     pub fn has_value(&self) -> bool
-        ensures { IsTrue result ↔ HasValue self.now }
+        ensures { result ≡ has_value self.now }
     {
         self.0[8] == b'=' && self.0[9] == b' ' && !self.name().is_valueless()
     }
 
     /// Whether the card is named END, and so ends a header.
+    #[tactic(auto, unfolding(crate::specs::Card::is_end))]
     pub fn is_end(&self) -> bool
-        ensures { IsTrue result ↔ IsEnd self.now }
+        ensures { result ≡ is_end self.now }
     {
         self.name().is_end()
     }
 
     /// Whether every byte is a character of text, from a space to a tilde.
+    #[tactic(auto, unfolding(crate::specs::Card::is_text))]
     pub fn is_text(&self) -> bool
-        ensures { IsTrue result ↔ IsText self.now }
+        ensures { result ≡ is_text self.now }
     {
         self.0.iter().all(|byte| matches!(byte, b' '..=b'~'))
     }

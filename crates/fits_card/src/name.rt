@@ -1,4 +1,5 @@
-ghost use Rattle.std.specs.Prelude.{◌≡◌, ◌↔◌, IsTrue, Contains};
+ghost use Rattle.std.specs.Prelude.{◌≡◌};
+ghost use Rattle.std.specs.Str.{bytes_eq};
 
 use std::marker::Model;
 
@@ -17,22 +18,24 @@ impl Model for Name {
 }
 
 impl Name {
-    ghost use Rattle.fits_card.specs.Name.{end_name, valueless_names};
+    ghost use Rattle.fits_card.specs.Name.{end_name, is_valueless};
 
     /// The name of the card that ends a header.
     pub fn is_end(&self) -> bool
-        ensures { IsTrue result ↔ (self.now ≡ end_name) }
+        ensures { result ≡ bytes_eq self.now end_name }
     {
         self.0 == *b"END     "
     }
 
     /// Whether no card of this name has a value: commentary, CONTINUE and END.
+    #[tactic(auto, unfolding(crate::specs::Name::is_valueless))]
     pub fn is_valueless(&self) -> bool
-        ensures { IsTrue result ↔ Contains valueless_names self.now }
+        ensures { result ≡ is_valueless self.now }
     {
-        matches!(
-            &self.0,
-            b"COMMENT " | b"HISTORY " | b"CONTINUE" | b"END     " | b"        "
-        )
+        self.0 == *b"COMMENT "
+            || self.0 == *b"HISTORY "
+            || self.0 == *b"CONTINUE"
+            || self.0 == *b"END     "
+            || self.0 == *b"        "
     }
 }

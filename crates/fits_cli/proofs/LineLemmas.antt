@@ -1,0 +1,86 @@
+-- A line is cut into words in one way.
+use Rattle.std.proofs.Common.{◌≡◌, ◌≢◌, ℕ, ◌+◌, ◌-◌, ◌*◌, ◌^◌, ◌<◌, ◌≤◌, List, [], ◌∷◌, ◌++◌, length, get_or, refl, inl, inr, ap, sym, ◌∙◌, arith, Bool, true, false, ◌||◌, Option, None, Some, rules, suc}
+use Rattle.std.specs.List.{list_any, list_all}
+use Rattle.std.specs.Prelude.{codes, unwrap_or, IsTrue, nat_le}
+use Rattle.std.proofs.Math.Nat.{pow-le-pow_right, pow-suc}
+use Rattle.std.proofs.lemmas.List.Folds.{list_any-append, list_all_at}
+use Rattle.std.proofs.lemmas.Bool.{or_parts, or_right, and_parts, cases_Bool, leb-true}
+use Rattle.fits_cli.specs.Line.{is_space, is_digit, HasNoSpace, BeginsWithWord, IsNumber, IsInsert}
+
+-- two texts without a space before a space are one
+same_words : (v w r s : List ℕ) → HasNoSpace v → HasNoSpace w → v ++ 32 ∷ r ≡ w ++ 32 ∷ s → (v ≡ w) × (r ≡ s)
+same_words [] [] r s p q e = (refl, cc)
+same_words [] (b ∷ w) r s p q e =
+    let same : 32 ≡ b = cc in
+    absurd (let no_space : is_space b ≡ false = (or_parts (is_space b) (list_any is_space w) q).0 in let z : true ≡ false = rw (sym same) at no_space in cc)
+same_words (a ∷ v) [] r s p q e =
+    let same : a ≡ 32 = cc in
+    absurd (let no_space : is_space a ≡ false = (or_parts (is_space a) (list_any is_space v) p).0 in let z : true ≡ false = rw same at no_space in cc)
+same_words (a ∷ v) (b ∷ w) r s p q e =
+    let head : a ≡ b = cc in
+    let tail : v ++ 32 ∷ r ≡ w ++ 32 ∷ s = cc in
+    let more = same_words v w r s (or_parts (is_space a) (list_any is_space v) p).1 (or_parts (is_space b) (list_any is_space w) q).1 tail in
+    (rw (head, more.0) refl, more.1)
+
+-- a text with a space in it is no word
+spaced : (v r w : List ℕ) → HasNoSpace w → v ++ 32 ∷ r ≡ w → ⊥
+spaced v r w q e =
+    let some : list_any is_space (v ++ 32 ∷ r) ≡ true = rw list_any-append (or_right (list_any is_space v) true refl) in
+    let none : list_any is_space (v ++ 32 ∷ r) ≡ false = rw e q in
+    absurd (let z : true ≡ false = sym some ∙ none in cc)
+
+-- so the first word is one, and what follows it
+pub one_word : (t v w : List ℕ) (r s : Option (List ℕ)) → BeginsWithWord t v r → BeginsWithWord t w s → (v ≡ w) × (r ≡ s)
+one_word t v w None None p q = (sym p.1 ∙ q.1, refl)
+one_word t v w None (Some s) p q = absurd (spaced w s v p.0 (sym q.1 ∙ p.1))
+one_word t v w (Some r) None p q = absurd (spaced v r w q.0 (sym p.1 ∙ q.1))
+one_word t v w (Some r) (Some s) p q =
+    let same = same_words v w r s p.0 q.0 (sym p.1 ∙ q.1) in
+    (same.0, ap Some same.1)
+
+-- one of some digits
+pub digit_at : (digits : List ℕ) (i : ℕ) → IsTrue (list_all is_digit digits) → i < length digits → is_digit (get_or digits i 0) ≡ true
+digit_at digits i all h =
+    elim (cases_Bool (is_digit (get_or digits i 0))) [ inl yes_digit ↦ yes_digit | inr other ↦ absurd (let z : true ≡ false = sym all ∙ list_all_at is_digit digits i 0 h other in cc) ]
+
+pub is_digit-below : (byte : ℕ) → is_digit byte ≡ true → byte - 48 < 10
+is_digit-below byte is = let parts = and_parts (nat_le 48 byte) (nat_le byte 57) is in let high : byte ≤ 57 = leb-true byte 57 parts.1 in omega (arith, high)
+
+-- digits so far are small enough for one more
+pub room_for_digit : (number digit i : ℕ) → number < 10 ^ i → i < 18 → digit < 10 → number * 10 + digit < 10 ^ 18
+room_for_digit number digit i small few d =
+    let more : 10 ^ suc i ≤ 10 ^ 18 = pow-le-pow_right {n = 10} (omega arith) {i = suc i} {j = 18} (omega arith) in
+    omega (arith, more, pow-suc 10 i)
+
+pub ruleset digits_steps = (room_for_digit)
+
+-- an insertion has a word behind its first
+pub insert_has_words : (line verb : List ℕ) (hdu place : ℕ) (card : List ℕ) → BeginsWithWord line verb None → IsInsert line hdu place card → ⊥
+insert_has_words line verb hdu place card a is =
+    let same = one_word line verb (codes "ins") None (Some is.behind_ins) a is.ins in absurd (let z = same.1 in cc)
+
+-- and its first is ins
+pub insert_begins : (line verb behind_ins : List ℕ) (hdu place : ℕ) (card : List ℕ) → BeginsWithWord line verb (Some behind_ins) → IsInsert line hdu place card → verb ≡ codes "ins"
+insert_begins line verb behind_ins hdu place card a is = (one_word line verb (codes "ins") (Some behind_ins) (Some is.behind_ins) a is.ins).0
+
+-- and one behind its second
+pub insert_has_two_words : (line verb behind_ins hdu_word : List ℕ) (hdu place : ℕ) (card : List ℕ)
+    → BeginsWithWord line verb (Some behind_ins) → BeginsWithWord behind_ins hdu_word None → IsInsert line hdu place card → ⊥
+insert_has_two_words line verb behind_ins hdu_word hdu place card a b is =
+    let first = one_word line verb (codes "ins") (Some behind_ins) (Some is.behind_ins) a is.ins in
+    let one : behind_ins ≡ is.behind_ins = ap (λ o. unwrap_or o []) first.1 in
+    let second = one_word behind_ins hdu_word is.hdu_word None (Some is.behind_hdu) b (rw one is.first) in
+    absurd (let z = second.1 in cc)
+
+-- the words of an insertion, as a line was cut
+pub insert_words : (line verb hdu_word place_word behind_ins behind_hdu : List ℕ) (text : Option (List ℕ))
+    → BeginsWithWord line verb (Some behind_ins) → BeginsWithWord behind_ins hdu_word (Some behind_hdu) → BeginsWithWord behind_hdu place_word text
+    → (hdu place : ℕ) (card : List ℕ) → IsInsert line hdu place card
+    → (verb ≡ codes "ins") × IsNumber hdu_word hdu × IsNumber place_word place × (length (unwrap_or text []) ≤ 80)
+insert_words line verb hdu_word place_word behind_ins behind_hdu text a b c hdu place card is =
+    let first = one_word line verb (codes "ins") (Some behind_ins) (Some is.behind_ins) a is.ins in
+    let one : behind_ins ≡ is.behind_ins = ap (λ o. unwrap_or o []) first.1 in
+    let second = one_word behind_ins hdu_word is.hdu_word (Some behind_hdu) (Some is.behind_hdu) b (rw one is.first) in
+    let two : behind_hdu ≡ is.behind_hdu = ap (λ o. unwrap_or o []) second.1 in
+    let third = one_word behind_hdu place_word is.place_word text is.text c (rw two is.second) in
+    (first.0, rw second.0 is.is_hdu, rw third.0 is.is_place, rw third.1 is.short)

@@ -1,0 +1,9 @@
+pub mod Answer
+pub mod Edit
+pub mod File
+pub mod Limits
+pub mod Line
+pub mod Opening
+pub mod Output
+pub mod Refusal
+pub mod Script

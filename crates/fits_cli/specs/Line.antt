@@ -1,0 +1,70 @@
+-- The lines of a script: which bytes are which command (own).
+use Rattle.std.specs.Prelude.{◌≡◌, ◌⊎◌, ℕ, ◌+◌, ◌-◌, ◌*◌, ◌<◌, ◌≤◌, ◌&&◌, ◌==◌, Bool, false, nat_le, IsTrue, List, [], ◌∷◌, ◌++◌, length, codes, fold, Option, None, Some, unwrap_or}
+use Rattle.std.specs.List.{list_all, list_any}
+use Rattle.fits_card.specs.Card.{card_of_text}
+use Rattle.fits_cli.specs.Limits.{line_limit}
+use Rattle.fits_cli.specs.declared.command.Command.{Command}
+use Rattle.fits_cli.specs.declared.command.Command.TheVariants.{Nothing, Insert, Offsets}
+
+-- a space, which stands between words
+abbrev pub is_space : ℕ → Bool
+is_space byte = byte == 32
+
+abbrev pub HasNoSpace : List ℕ → Type 0
+HasNoSpace text = list_any is_space text ≡ false
+
+-- the text is a word alone, or a word, one space and what follows it
+abbrev pub BeginsWithWord : List ℕ → List ℕ → Option (List ℕ) → Type 0
+BeginsWithWord text word None = HasNoSpace word × (text ≡ word)
+BeginsWithWord text word (Some rest) = HasNoSpace word × (text ≡ word ++ 32 ∷ rest)
+
+-- a decimal digit
+abbrev pub is_digit : ℕ → Bool
+is_digit byte = nat_le 48 byte && nat_le byte 57
+
+-- the number that digits stand for
+abbrev pub number_of : List ℕ → ℕ
+number_of digits = fold (λ number digit. number * 10 + (digit - 48)) 0 digits
+
+-- 1 to 18 digits, and their number
+pub record IsNumber (word : List ℕ) (number : ℕ) : Type 0 where
+  pub digits : IsTrue (list_all is_digit word)
+  pub some : 1 ≤ length word
+  pub few : length word ≤ 18
+  pub value : number ≡ number_of word
+
+-- `ins H P CARD`: CARD is the rest of the line, of at most 80 bytes; it may be empty without the space before it
+pub record IsInsert (line : List ℕ) (hdu place : ℕ) (card : List ℕ) : Type 0 where
+  pub behind_ins : List ℕ
+  pub hdu_word : List ℕ
+  pub behind_hdu : List ℕ
+  pub place_word : List ℕ
+  pub text : Option (List ℕ)
+  pub ins : BeginsWithWord line (codes "ins") (Some behind_ins)
+  pub first : BeginsWithWord behind_ins hdu_word (Some behind_hdu)
+  pub second : BeginsWithWord behind_hdu place_word text
+  pub is_hdu : IsNumber hdu_word hdu
+  pub is_place : IsNumber place_word place
+  pub short : length (unwrap_or text []) ≤ 80
+  pub is_card : card ≡ card_of_text (unwrap_or text [])
+
+-- the line says this command
+abbrev pub Says : List ℕ → Command → Type 0
+Says line Nothing = (line ≡ []) ⊎ ((rest : List ℕ) × (line ≡ codes "#" ++ rest))
+Says line (Insert hdu place card) = IsInsert line hdu place card
+Says line Offsets = line ≡ codes "off"
+
+-- what a line comes to: past the limit, whatever it holds; or no command; or a command
+pub data LineReading : Type 0 where
+  too_long : LineReading
+  no_command : LineReading
+  command : Command → LineReading
+
+abbrev pub IsReading : List ℕ → LineReading → Type 0
+IsReading line too_long = line_limit < length line
+IsReading line no_command = (length line ≤ line_limit) × ((c : Command) → Says line c → ⊥)
+IsReading line (command c) = (length line ≤ line_limit) × Says line c
+
+-- a function that tells each line's reading; there is one, and no other
+abbrev pub ReadsLines : (List ℕ → LineReading) → Type 0
+ReadsLines read = (line : List ℕ) → IsReading line (read line)

@@ -1,0 +1,7 @@
+//! Scripts over FITS files: their lines, their answers, and the runs of the program `fitsed`.
+#![tactic(auto)]
+
+pub mod command;
+pub mod fault;
+pub mod line;
+pub mod refusal;

@@ -1,0 +1,142 @@
+//! The lines of a script: which bytes are which command.
+ghost use Rattle.std.specs.Prelude.{◌≡◌, ◌<◌, ◌≤◌, ◌+◌, ◌^◌, ◌↔◌, ℕ, IfOk, IsErrOf, IfSome, IfNone, IsTrue, length, List, [], option_copied, unwrap_or};
+ghost use Rattle.std.specs.List.{list_all};
+ghost use Rattle.fits_cli.specs.declared.command.Command.{Command};
+ghost use Rattle.fits_cli.specs.Limits.{line_limit};
+ghost use Rattle.fits_cli.specs.Line.{is_digit, number_of, BeginsWithWord, HasNoSpace, IsNumber, IsInsert, Says};
+
+use crate::command::Command;
+use fits_card::card::{CARD_LEN, Card};
+
+/// How many bytes a line has at most, without its line feed.
+pub const LINE_LIMIT: usize = 100_000;
+
+/// Why a line is no command.
+#[derive(Clone, Copy, PartialEq, Eq, Debug)]
+pub enum LineFault {
+    /// It has none of the forms, or is past the limit.
+    Bad,
+    /// Memory was refused. No line of today's asks for any.
+    Memory,
+}
+
+/// The command that a line says, without its line feed.
+pub fn parse_line(line: &[u8]) -> Result<Command, LineFault>
+    ensures command { IfOk result (Says line.now) }
+    ensures within { IfOk result (λ c. length line.now ≤ line_limit) }
+    ensures bad { IsErrOf result LineFault.Bad → length line.now ≤ line_limit → (c : Command) → Says line.now c → ⊥ }
+    ensures no_memory { IsErrOf result LineFault.Memory → ⊥ }
+{
+    if line.len() > LINE_LIMIT {
+        return Err(LineFault::Bad);
+    }
+    command_of(line).ok_or(LineFault::Bad)
+}
+
+// The command of a line within the limit.
+
+fn command_of(line: &[u8]) -> Option<Command>
+    ensures some { IfSome result (Says line.now) }
+    ensures none { IfNone result ((c : Command) → Says line.now c → ⊥) }
+{
+    if line.is_empty() || line.starts_with(b"#") {
+        return Some(Command::Nothing);
+    }
+    if line == b"off".as_slice() {
+        return Some(Command::Offsets);
+    }
+    insert_of(line)
+}
+
+// `ins H P CARD`
+
+fn insert_of(line: &[u8]) -> Option<Command>
+    ensures some { IfSome result (Says line.now) }
+    ensures none { IfNone result ((hdu place : ℕ) (card : List ℕ) → IsInsert line.now hdu place card → ⊥) }
+{
+    let (verb, behind) = cut_word(line);
+    let Some(behind_ins) = behind else {
+        return None;
+    };
+    if !is_word(verb, b"ins") {
+        return None;
+    }
+    let (hdu_word, behind) = cut_word(behind_ins);
+    let Some(behind_hdu) = behind else {
+        return None;
+    };
+    let (place_word, text) = cut_word(behind_hdu);
+    let text = text_of(text);
+    if text.len() > CARD_LEN {
+        return None;
+    }
+    let Some(hdu) = number_of_word(hdu_word) else {
+        return None;
+    };
+    let Some(place) = number_of_word(place_word) else {
+        return None;
+    };
+    let card = Card::padded(text);
+    Some(Command::Insert { hdu, place, card })
+}
+
+// The first word, and what follows the space behind it, if there is one.
+
+fn cut_word(text: &[u8]) -> (&[u8], Option<&[u8]>)
+    ensures { BeginsWithWord text.now result.0.now (option_copied result.1) }
+{
+    for (i, byte) in text.iter().enumerate() {
+        if *byte == b' ' {
+            let (word, rest) = text.split_at(i);
+            let (_, rest) = rest.split_at(1);
+            return (word, Some(rest));
+        }
+    }
+    (text, None)
+}
+
+fn is_word(word: &[u8], text: &[u8]) -> bool
+    ensures { IsTrue result ↔ (word.now ≡ text.now) }
+{
+    word == text
+}
+
+// The rest of a line, which may be empty without the space before it too.
+fn text_of(rest: Option<&[u8]>) -> &[u8]
+    ensures { result.now ≡ unwrap_or (option_copied rest.entry) [] }
+{
+    match rest {
+        Some(text) => text,
+        None => b"",
+    }
+}
+
+// The number that 1 to 18 digits stand for.
+fn number_of_word(word: &[u8]) -> Option<usize>
+    ensures some { IfSome result (IsNumber word.now) }
+    ensures none { IfNone result ((number : ℕ) → IsNumber word.now number → ⊥) }
+{
+    if word.is_empty() || word.len() > 18 || !are_digits(word) {
+        return None;
+    }
+    Some(number_of_digits(word))
+}
+
+fn are_digits(word: &[u8]) -> bool
+    ensures { result ≡ list_all is_digit word.now }
+{
+    word.iter().all(|byte| matches!(byte, b'0'..=b'9'))
+}
+
+#[tactic(auto, using(crate::proofs::LineLemmas::digits_steps))]
+fn number_of_digits(digits: &[u8]) -> usize
+    requires are_digits { IsTrue (list_all is_digit digits.now) }
+    requires few { length digits.now ≤ 18 }
+    ensures { result ≡ number_of digits.now }
+{
+    let mut number = 0usize;
+    for digit in digits {
+        number = number * 10 + (*digit - b'0') as usize;
+    }
+    number
+}
