@@ -1,10 +1,10 @@
 -- How long headers are, and what keeps them headers.
 use Rattle.std.proofs.Common.{◌≡◌, ℕ, ◌+◌, ◌-◌, ◌*◌, ◌%◌, ◌≤◌, List, [], ◌∷◌, ◌++◌, length, take, drop, refl, arith, All, suc}
 use Rattle.std.specs.Prelude.{insert}
-use Rattle.std.proofs.lemmas.List.{length-append}
+use Rattle.std.proofs.lemmas.List.{length-append, length-replicate}
 use Rattle.std.proofs.lemmas.List.Elements.{All-append, All-cons, All-take, All-drop}
 use Rattle.fits_card.specs.Card.{IsEnd}
-use Rattle.fits_card.specs.Header.{Header, IsHeader, IsInnerCard, joined_cards, header_bytes, fill_length}
+use Rattle.fits_card.specs.Header.{Header, IsHeader, IsInnerCard, joined_cards, header_bytes, fill_length, with_cards}
 
 -- the fill in cards: a block holds 36, and END is one
 pub fill_length-by_cards : (n : ℕ) → fill_length n ≡ 80 * (35 - n % 36)
@@ -29,3 +29,12 @@ pub inner-insert : (cards : List (List ℕ)) (i : ℕ) (card : List ℕ) → All
 inner-insert cards i card h size not_end =
     let one : All IsInnerCard (card ∷ drop i cards) = All-cons IsInnerCard card (drop i cards) (record { size = size; not_end = not_end }) (All-drop IsInnerCard i cards h) in
     All-append IsInnerCard (take i cards) (card ∷ drop i cards) (All-take IsInnerCard i cards h) one
+
+-- so a header stays one
+pub whole-insert : (header : Header) (i : ℕ) (card : List ℕ) → IsHeader header → length card ≡ 80 → (IsEnd card → ⊥) → IsHeader (with_cards header (insert header.cards i card))
+whole-insert header i card whole size not_end = record {
+  cards = inner-insert header.cards i card whole.cards size not_end;
+  end_size = whole.end_size;
+  ends = whole.ends;
+  fill_size = length-replicate (fill_length (length (insert header.cards i card))) 32;
+}

@@ -1,7 +1,7 @@
-ghost use Rattle.std.specs.Prelude.{◌≡◌, ℕ, ◌+◌, ◌≤◌, ◌<◌, length, OnOk, OnErr, vec_capacity, replicate};
+ghost use Rattle.std.specs.Prelude.{◌≡◌, ℕ, ◌+◌, ◌*◌, ◌≤◌, ◌<◌, length, OnOk, OnErr, vec_capacity, replicate};
 ghost use Rattle.std.specs.Io.KnownBytes.{Appends};
 ghost use Rattle.fits_card.specs.Stream.{AppendsFront};
-ghost use Rattle.fits_card.specs.Header.{joined_cards, fill_length};
+ghost use Rattle.fits_card.specs.Header.{joined_cards, fill_length, header_length};
 
 use crate::card::{CARD_LEN, Card};
 use crate::count::Count;
@@ -50,7 +50,7 @@ impl Model for CardList {
 }
 
 impl CardList {
-    ghost use Rattle.std.specs.Prelude.{◌≡◌, ◌+◌, ◌-◌, ◌≤◌, ◌<◌, length, insert, slice_index_or, OnOk, OnErr};
+    ghost use Rattle.std.specs.Prelude.{◌≡◌, ◌+◌, ◌-◌, ◌*◌, ◌≤◌, ◌<◌, length, insert, slice_index_or, OnOk, OnErr};
     ghost use Rattle.std.specs.Io.KnownBytes.{Appends};
     ghost use Rattle.fits_card.specs.Stream.{AppendsFront};
     ghost use Rattle.fits_card.specs.Card.{IsEnd};
@@ -61,6 +61,7 @@ impl CardList {
     pub fn len(&self) -> usize
         ensures value { result ≡ length self.now.header.cards }
         ensures whole { IsHeader self.now.header }
+        ensures within { 80 * (result + 1) ≤ length (header_bytes self.now.header) }
     {
         self.cards.len()
     }
@@ -134,6 +135,14 @@ impl CardList {
         write_all(sink, &self.fill)?;
         Ok(())
     }
+}
+
+/// How many bytes a header of so many cards has.
+pub fn header_len(cards: usize) -> usize
+    requires { 80 * cards ≤ 17179869184 }
+    ensures { result ≡ header_length cards }
+{
+    CARD_LEN * (cards + 1) + fill_len(cards)
 }
 
 /// How many bytes of fill follow END after so many cards.

@@ -6,7 +6,7 @@ use crate::source::Source;
 use std::alloc::{AllocError, Global};
 
 /// How many bytes a single call asks for.
-const PIECE_LEN: usize = 65_536;
+pub const PIECE_LEN: usize = 65_536;
 
 /// Why nothing was taken.
 #[derive(Clone, Copy, PartialEq, Eq, Debug)]
@@ -36,8 +36,8 @@ pub struct Portion {
     pub more: bool,
 }
 
-// A buffer of so many bytes, whatever they are.
-fn buffer_of(alloc: Global, len: usize) -> Result<Vec<u8>, AllocError>
+/// A buffer of so many bytes, whatever they are.
+pub fn buffer_of(alloc: Global, len: usize) -> Result<Vec<u8>, AllocError>
     ensures { IfOk result (λ buffer. vec_len buffer ≡ len) }
 {
     vec![in alloc; 0u8; len]

@@ -4,7 +4,8 @@ use Rattle.std.specs.Fmt.{decimal}
 use Rattle.fits_cli.specs.File.{FileParts, HduOffsets, offsets_from}
 use Rattle.fits_cli.specs.Edit.{file_after_insert}
 use Rattle.fits_cli.specs.Refusal.{refusal_of_insert}
-use Rattle.fits_cli.specs.Line.{LineReading, too_long, no_command, command}
+use Rattle.fits_cli.specs.declared.line.LineReading.{LineReading}
+use Rattle.fits_cli.specs.declared.line.LineReading.TheVariants.{TooLong, NoCommand, Said}
 use Rattle.fits_cli.specs.declared.command.Command.{Command}
 use Rattle.fits_cli.specs.declared.command.Command.TheVariants.{Nothing, Insert, Offsets}
 use Rattle.fits_cli.specs.declared.refusal.Refusal.{Refusal}
@@ -50,9 +51,9 @@ command_answer standing Offsets = offset_lines 1 (offsets_from 0 standing.file.h
 
 -- what a line prints
 abbrev pub line_answer : Standing → LineReading → List ℕ
-line_answer standing too_long = complaint standing.line (codes "too long")
-line_answer standing no_command = complaint standing.line (codes "not a command")
-line_answer standing (command c) = command_answer standing c
+line_answer standing TooLong = complaint standing.line (codes "too long")
+line_answer standing NoCommand = complaint standing.line (codes "not a command")
+line_answer standing (Said c) = command_answer standing c
 
 -- the next line, whose file is this
 abbrev pub done : Standing → FileParts → Standing
@@ -76,6 +77,6 @@ command_left standing Offsets = done standing standing.file
 
 -- what a line leaves
 abbrev pub line_left : Standing → LineReading → Standing
-line_left standing too_long = refused standing
-line_left standing no_command = refused standing
-line_left standing (command c) = command_left standing c
+line_left standing TooLong = refused standing
+line_left standing NoCommand = refused standing
+line_left standing (Said c) = command_left standing c

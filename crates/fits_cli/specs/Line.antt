@@ -5,6 +5,8 @@ use Rattle.fits_card.specs.Card.{card_of_text}
 use Rattle.fits_cli.specs.Limits.{line_limit}
 use Rattle.fits_cli.specs.declared.command.Command.{Command}
 use Rattle.fits_cli.specs.declared.command.Command.TheVariants.{Nothing, Insert, Offsets}
+use Rattle.fits_cli.specs.declared.line.LineReading.{LineReading}
+use Rattle.fits_cli.specs.declared.line.LineReading.TheVariants.{TooLong, NoCommand, Said}
 
 -- a space, which stands between words
 abbrev pub is_space : ℕ → Bool
@@ -54,16 +56,11 @@ Says line Nothing = (line ≡ []) ⊎ ((rest : List ℕ) × (line ≡ codes "#" 
 Says line (Insert hdu place card) = IsInsert line hdu place card
 Says line Offsets = line ≡ codes "off"
 
--- what a line comes to: past the limit, whatever it holds; or no command; or a command
-pub data LineReading : Type 0 where
-  too_long : LineReading
-  no_command : LineReading
-  command : Command → LineReading
-
+-- what a line comes to: it is past the limit, whatever it holds; or says no command; or says one
 abbrev pub IsReading : List ℕ → LineReading → Type 0
-IsReading line too_long = line_limit < length line
-IsReading line no_command = (length line ≤ line_limit) × ((c : Command) → Says line c → ⊥)
-IsReading line (command c) = (length line ≤ line_limit) × Says line c
+IsReading line TooLong = line_limit < length line
+IsReading line NoCommand = (length line ≤ line_limit) × ((c : Command) → Says line c → ⊥)
+IsReading line (Said c) = (length line ≤ line_limit) × Says line c
 
 -- a function that tells each line's reading; there is one, and no other
 abbrev pub ReadsLines : (List ℕ → LineReading) → Type 0

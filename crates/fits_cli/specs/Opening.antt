@@ -1,5 +1,7 @@
 -- Which files open, and why others don't (own; today a primary HDU without data alone).
 use Rattle.std.specs.Prelude.{◌≡◌, ◌≢◌, ◌⊎◌, ℕ, ◌<◌, ◌≤◌, ◌&&◌, Bool, true, false, IsTrue, List, [], ◌∷◌, length, take, codes}
+use Rattle.std.specs.Prelude.{nat_eq}
+use Rattle.std.specs.List.{starts_with}
 use Rattle.std.specs.Str.{bytes_eq}
 use Rattle.fits_card.specs.Card.{keyword_name, card_of_text}
 use Rattle.fits_card.specs.Header.{Header, IsHeaderOf, HasNoHeader}
@@ -10,17 +12,26 @@ use Rattle.fits_cli.specs.declared.fault.OpenFault.TheVariants.{NotFits, NoEnd, 
 use Rattle.fits_cli.specs.declared.fault.Fault.{Fault}
 use Rattle.fits_cli.specs.declared.fault.Fault.TheVariants.{Refused, NotYet, ScriptTooLong, Memory, ReadFailed, WriteFailed}
 
--- its first cards are SIMPLE, BITPIX 8 and NAXIS 0 in fixed format, so that no data follow (4.4.1.1)
-unfoldable pub is_plain_primary : List (List ℕ) → Bool
-is_plain_primary (simple ∷ bitpix ∷ naxis ∷ cards) =
-    bytes_eq (keyword_name simple) (codes "SIMPLE  ")
-    && bytes_eq bitpix (card_of_text (codes "BITPIX  =                    8"))
-    && bytes_eq naxis (card_of_text (codes "NAXIS   =                    0"))
+-- BITPIX 8 and NAXIS 0 in fixed format (4.2.3)
+unfoldable pub bitpix_card : List ℕ
+bitpix_card = card_of_text (codes "BITPIX  =                    8")
+
+unfoldable pub naxis_card : List ℕ
+naxis_card = card_of_text (codes "NAXIS   =                    0")
+
+-- SIMPLE, BITPIX 8 and NAXIS 0, so that no data follow (4.4.1.1)
+abbrev pub begins_plainly : List ℕ → List ℕ → List ℕ → Bool
+begins_plainly simple bitpix naxis = bytes_eq (keyword_name simple) (codes "SIMPLE  ") && bytes_eq bitpix bitpix_card && bytes_eq naxis naxis_card
+
+-- they are the first cards
+
+abbrev pub is_plain_primary : List (List ℕ) → Bool
+is_plain_primary (simple ∷ bitpix ∷ naxis ∷ cards) = begins_plainly simple bitpix naxis
 is_plain_primary cards = false
 
 -- the bytes begin as a FITS file does (4.4.1.1)
 abbrev pub BeginsAsFits : List ℕ → Type 0
-BeginsAsFits bytes = take 8 bytes ≡ codes "SIMPLE  "
+BeginsAsFits bytes = IsTrue (starts_with nat_eq bytes (codes "SIMPLE  "))
 
 -- a file of one HDU that is a header alone
 abbrev pub file_of_header : Header → FileParts

@@ -4,7 +4,7 @@ use Rattle.std.specs.Io.KnownBytes.{Appends}
 use Rattle.fits_card.specs.Header.{Header}
 use Rattle.fits_cli.specs.File.{FileParts, file_bytes}
 use Rattle.fits_cli.specs.Limits.{script_limit}
-use Rattle.fits_cli.specs.Line.{LineReading, ReadsLines}
+use Rattle.fits_cli.specs.declared.line.LineReading.{LineReading}
 use Rattle.fits_cli.specs.Opening.{IsOpened, OpenFails, file_of_header}
 use Rattle.fits_cli.specs.Script.{IsCutInLines, script_lines}
 use Rattle.fits_cli.specs.Answer.{Standing, line_answer, line_left}

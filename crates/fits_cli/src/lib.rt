@@ -4,4 +4,5 @@
 pub mod command;
 pub mod fault;
 pub mod line;
+mod plain_file;
 pub mod refusal;

@@ -3,7 +3,7 @@ ghost use Rattle.std.specs.Prelude.{◌≡◌, ◌<◌, ◌≤◌, ◌+◌, ◌^
 ghost use Rattle.std.specs.List.{list_all};
 ghost use Rattle.fits_cli.specs.declared.command.Command.{Command};
 ghost use Rattle.fits_cli.specs.Limits.{line_limit};
-ghost use Rattle.fits_cli.specs.Line.{is_digit, number_of, BeginsWithWord, HasNoSpace, IsNumber, IsInsert, Says};
+ghost use Rattle.fits_cli.specs.Line.{is_digit, number_of, BeginsWithWord, HasNoSpace, IsNumber, IsInsert, IsReading, Says};
 
 use crate::command::Command;
 use fits_card::card::{CARD_LEN, Card};
@@ -18,6 +18,30 @@ pub enum LineFault {
     Bad,
     /// Memory was refused. No line of today's asks for any.
     Memory,
+}
+
+/// What a line of a script comes to.
+#[derive(Clone, Copy, PartialEq, Eq, Debug)]
+pub enum LineReading {
+    /// It is past the limit, whatever it holds.
+    TooLong,
+    /// It has none of the forms.
+    NoCommand,
+    /// It says this command.
+    Said(Command),
+}
+
+/// What a line comes to, without its line feed.
+pub fn read_line(line: &[u8]) -> LineReading
+    ensures { IsReading line.now result }
+{
+    if line.len() > LINE_LIMIT {
+        return LineReading::TooLong;
+    }
+    match parse_line(line) {
+        Ok(command) => LineReading::Said(command),
+        Err(_) => LineReading::NoCommand,
+    }
 }
 
 /// The command that a line says, without its line feed.
