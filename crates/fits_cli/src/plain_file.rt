@@ -59,7 +59,7 @@ impl PlainFile {
     }
 
     /// Puts a card at a place of the HDU, or refuses it by the first test that fails.
-    #[tactic(auto, using(crate::proofs::PlainFileLemmas::insert_steps))]
+
     pub(crate) fn insert(&mut self, hdu: usize, place: usize, card: Card) -> Result<(), Refusal>
         ensures accepted { OnOk result (refusal_of_insert (file_of_header self.old.cards.header) hdu place card ≡ None) }
         ensures ok { OnOk result (file_of_header self.new.cards.header ≡ file_after_insert (file_of_header self.old.cards.header) hdu place card) }
@@ -104,6 +104,7 @@ fn card_refusal(cards: &mut CardList, place: usize, card: Card) -> Option<Refusa
     requires plain { IsTrue (is_plain_primary cards.old.header.cards) }
     requires within { length (header_bytes cards.old.header) ≤ 2880000000 }
     ensures value { result ≡ card_refusal cards.old.header.cards place card }
+    ensures size { length card ≡ 80 }
     ensures header { cards.new.header ≡ cards.old.header }
 {
     if !is_within(place, cards.len() + 1) {
