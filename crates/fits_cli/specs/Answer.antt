@@ -29,14 +29,14 @@ refusal_text Memory = codes "15 Memory"
 
 -- a line that says why line `number` wasn't done
 abbrev pub complaint : ℕ → List ℕ → List ℕ
-complaint number why = codes "line " ++ decimal number ++ codes ": " ++ why ++ codes "\n"
+complaint number why = codes "line " ++ (decimal number ++ (codes ": " ++ (why ++ codes "\n")))
 
 -- per HDU its number, where its header begins, its data begin and it ends
 abbrev pub offset_lines : ℕ → List HduOffsets → List ℕ
 offset_lines number [] = []
 offset_lines number (at ∷ others) =
-    decimal number ++ codes " " ++ decimal at.header_start ++ codes " " ++ decimal at.data_start ++ codes " " ++ decimal at.hdu_end ++ codes "\n"
-    ++ offset_lines (number + 1) others
+    decimal number ++ (codes " " ++ (decimal at.header_start ++ (codes " " ++ (decimal at.data_start ++ (codes " " ++ (decimal at.hdu_end ++ (codes "\n"
+    ++ offset_lines (number + 1) others)))))))
 
 -- what an edit prints that is refused, or isn't
 abbrev pub edit_answer : ℕ → Option Refusal → List ℕ

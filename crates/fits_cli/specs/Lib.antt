@@ -6,4 +6,6 @@ pub mod Line
 pub mod Opening
 pub mod Output
 pub mod Refusal
+pub mod Runner
+pub mod Running
 pub mod Script

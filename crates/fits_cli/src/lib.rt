@@ -1,8 +1,10 @@
 //! Scripts over FITS files: their lines, their answers, and the runs of the program `fitsed`.
 #![tactic(auto)]
 
+mod answer;
 pub mod command;
 pub mod fault;
 pub mod line;
 mod plain_file;
 pub mod refusal;
+mod runner;

@@ -1,0 +1,38 @@
+-- What private functions of a run keep to: how far a script has come.
+use Rattle.std.specs.Prelude.{◌≡◌, ℕ, ◌<◌, ◌≤◌, List, ◌++◌, length, map, take, Option, Some, None}
+use Rattle.std.specs.Io.KnownBytes.{Appends}
+use Rattle.fits_cli.specs.Limits.{script_limit}
+use Rattle.fits_cli.specs.Line.{ReadsLines}
+use Rattle.fits_cli.specs.Script.{IsCutInLines, script_lines}
+use Rattle.fits_cli.specs.Answer.{Standing}
+use Rattle.fits_cli.specs.Output.{answers, standing_after}
+use Rattle.fits_cli.specs.declared.line.LineReading.{LineReading}
+
+-- a sink was told what these lines print, and things stand as after them
+pub record AnswersLines (lines : List (List ℕ)) (before now : Standing) (held holds : Option (List ℕ)) : Type 0 where
+  pub told : (read : List ℕ → LineReading) → ReadsLines read → Appends held holds (answers before (map read lines))
+  pub left : (read : List ℕ → LineReading) → ReadsLines read → now ≡ standing_after before (map read lines)
+
+-- so far a script was this: its whole lines are answered, and its open end is the line to come
+pub record HasCome (script line : List ℕ) (before now : Standing) (held holds : Option (List ℕ)) : Type 0 where
+  pub lines : List (List ℕ)
+  pub cut : IsCutInLines script lines line
+  pub answered : AnswersLines lines before now held holds
+
+-- each piece of a script that comes next is answered
+abbrev pub Continues : List ℕ → List ℕ → List ℕ → Standing → Standing → Option (List ℕ) → Option (List ℕ) → Type 0
+Continues piece line_before line_now before now held holds =
+    (script : List ℕ) (first : Standing) (start : Option (List ℕ)) → HasCome script line_before first before start held → HasCome (script ++ piece) line_now first now start holds
+
+-- the whole script is answered
+abbrev pub AnswersScript : Option (List ℕ) → Standing → Standing → Option (List ℕ) → Option (List ℕ) → Type 0
+AnswersScript None before now held holds = Unit {0}
+AnswersScript (Some script) before now held holds =
+    (length script ≤ script_limit)
+    × (lines : List (List ℕ)) × (last : List ℕ) × IsCutInLines script lines last × AnswersLines (script_lines lines last) before now held holds
+
+-- the script is too long: the whole lines within the limit are answered
+abbrev pub AnswersTooLong : Option (List ℕ) → Standing → Standing → Option (List ℕ) → Option (List ℕ) → Type 0
+AnswersTooLong None before now held holds = Unit {0}
+AnswersTooLong (Some script) before now held holds =
+    (script_limit < length script) × (line : List ℕ) × HasCome (take script_limit script) line before now held holds
