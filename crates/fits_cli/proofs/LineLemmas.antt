@@ -1,11 +1,16 @@
 -- A line is cut into words in one way.
-use Rattle.std.proofs.Common.{◌≡◌, ◌≢◌, ℕ, ◌+◌, ◌-◌, ◌*◌, ◌^◌, ◌<◌, ◌≤◌, List, [], ◌∷◌, ◌++◌, length, get_or, refl, inl, inr, ap, sym, ◌∙◌, arith, Bool, true, false, ◌||◌, Option, None, Some, rules, suc}
+use Rattle.std.proofs.Common.{◌≡◌, ◌≢◌, ◌⊎◌, ℕ, ◌+◌, ◌-◌, ◌*◌, ◌^◌, ◌<◌, ◌≤◌, List, [], ◌∷◌, ◌++◌, length, get_or, refl, inl, inr, ap, sym, ◌∙◌, arith, Bool, true, false, ◌||◌, Option, None, Some, rules, suc}
 use Rattle.std.specs.List.{list_any, list_all}
 use Rattle.std.specs.Prelude.{codes, unwrap_or, IsTrue, nat_le}
 use Rattle.std.proofs.Math.Nat.{pow-le-pow_right, pow-suc}
 use Rattle.std.proofs.lemmas.List.Folds.{list_any-append, list_all_at}
 use Rattle.std.proofs.lemmas.Bool.{or_parts, or_right, and_parts, cases_Bool, leb-true}
-use Rattle.fits_cli.specs.Line.{is_space, is_digit, HasNoSpace, BeginsWithWord, IsNumber, IsInsert}
+use Rattle.fits_cli.specs.Line.{is_space, is_digit, number_of, HasNoSpace, BeginsWithWord, IsNumber, IsInsert, Says, IsReading}
+use Rattle.fits_card.specs.Card.{card_of_text}
+use Rattle.fits_cli.specs.declared.command.Command.{Command}
+use Rattle.fits_cli.specs.declared.command.Command.TheVariants.{Nothing, Insert, Offsets}
+use Rattle.fits_cli.specs.declared.line.LineReading.{LineReading}
+use Rattle.fits_cli.specs.declared.line.LineReading.TheVariants.{TooLong, NoCommand, Said}
 
 -- two texts without a space before a space are one
 same_words : (v w r s : List ℕ) → HasNoSpace v → HasNoSpace w → v ++ 32 ∷ r ≡ w ++ 32 ∷ s → (v ≡ w) × (r ≡ s)
@@ -84,3 +89,61 @@ insert_words line verb hdu_word place_word behind_ins behind_hdu text a b c hdu 
     let two : behind_hdu ≡ is.behind_hdu = ap (λ o. unwrap_or o []) second.1 in
     let third = one_word behind_hdu place_word is.place_word text is.text c (rw two is.second) in
     (first.0, rw second.0 is.is_hdu, rw third.0 is.is_place, rw third.1 is.short)
+
+-- an insertion has one HDU, place and card
+insert_same : (line : List ℕ) (h i p q : ℕ) (c d : List ℕ) → IsInsert line h p c → IsInsert line i q d → (h ≡ i) × (p ≡ q) × (c ≡ d)
+insert_same line h i p q c d is js =
+    let first = one_word line (codes "ins") (codes "ins") (Some is.behind_ins) (Some js.behind_ins) is.ins js.ins in
+    let one : is.behind_ins ≡ js.behind_ins = ap (λ o. unwrap_or o []) first.1 in
+    let second = one_word is.behind_ins is.hdu_word js.hdu_word (Some is.behind_hdu) (Some js.behind_hdu) is.first (rw one js.first) in
+    let two : is.behind_hdu ≡ js.behind_hdu = ap (λ o. unwrap_or o []) second.1 in
+    let third = one_word is.behind_hdu is.place_word js.place_word is.text js.text is.second (rw two js.second) in
+    (
+      is.is_hdu.value ∙ ap number_of second.0 ∙ sym js.is_hdu.value,
+      is.is_place.value ∙ ap number_of third.0 ∙ sym js.is_place.value,
+      is.is_card ∙ ap (λ t. card_of_text (unwrap_or t [])) third.1 ∙ sym js.is_card,
+    )
+
+-- the first byte of a line
+first_byte : List ℕ → ℕ
+first_byte [] = 0
+first_byte (byte ∷ bytes) = byte
+
+insert_first : (line : List ℕ) (h p : ℕ) (c : List ℕ) → IsInsert line h p c → first_byte line ≡ 105
+unfolding first_byte
+insert_first line h p c is = ap first_byte is.ins.1
+
+offsets_first : (line : List ℕ) → line ≡ codes "off" → first_byte line ≡ 111
+unfolding first_byte
+offsets_first line e = ap first_byte e
+
+nothing_first : (line : List ℕ) → Says line Nothing → (first_byte line ≡ 0) ⊎ (first_byte line ≡ 35)
+unfolding first_byte
+nothing_first line says = elim says [ inl e ↦ inl (ap first_byte e) | inr e ↦ inr (ap first_byte e.1) ]
+
+nothing_alone : (line : List ℕ) (n : ℕ) → Says line Nothing → first_byte line ≡ n → 100 ≤ n → ⊥
+nothing_alone line n says e le = elim (nothing_first line says) [ inl z ↦ omega (arith, z, e, le) | inr z ↦ omega (arith, z, e, le) ]
+
+-- a line says one command at the most
+pub one_command : (line : List ℕ) (c d : Command) → Says line c → Says line d → c ≡ d
+one_command line Nothing Nothing p q = refl
+one_command line Nothing (Insert i r d) p q = absurd (nothing_alone line 105 p (insert_first line i r d q) (omega arith))
+one_command line Nothing Offsets p q = absurd (nothing_alone line 111 p (offsets_first line q) (omega arith))
+one_command line (Insert h r c) Nothing p q = absurd (nothing_alone line 105 q (insert_first line h r c p) (omega arith))
+one_command line (Insert h r c) (Insert i s d) p q = let same = insert_same line h i r s c d p q in rw (same.0, same.1, same.2) refl
+one_command line (Insert h r c) Offsets p q = absurd (omega (arith, insert_first line h r c p, offsets_first line q))
+one_command line Offsets Nothing p q = absurd (nothing_alone line 111 q (offsets_first line p) (omega arith))
+one_command line Offsets (Insert i s d) p q = absurd (omega (arith, insert_first line i s d q, offsets_first line p))
+one_command line Offsets Offsets p q = refl
+
+-- and has one reading
+pub one_reading : (line : List ℕ) (r s : LineReading) → IsReading line r → IsReading line s → r ≡ s
+one_reading line TooLong TooLong p q = refl
+one_reading line TooLong NoCommand p q = absurd (omega (arith, p, q.0))
+one_reading line TooLong (Said d) p q = absurd (omega (arith, p, q.0))
+one_reading line NoCommand TooLong p q = absurd (omega (arith, q, p.0))
+one_reading line NoCommand NoCommand p q = refl
+one_reading line NoCommand (Said d) p q = absurd (p.1 d q.1)
+one_reading line (Said c) TooLong p q = absurd (omega (arith, q, p.0))
+one_reading line (Said c) NoCommand p q = absurd (q.1 c p.1)
+one_reading line (Said c) (Said d) p q = ap Said (one_command line c d p.1 q.1)

@@ -4,7 +4,7 @@ use Rattle.std.specs.Io.KnownBytes.{Appends}
 use Rattle.fits_cli.specs.Limits.{script_limit}
 use Rattle.fits_cli.specs.Line.{ReadsLines}
 use Rattle.fits_cli.specs.Script.{IsCutInLines, script_lines}
-use Rattle.fits_cli.specs.Answer.{Standing}
+use Rattle.fits_cli.specs.Answer.{Standing, line_answer, line_left}
 use Rattle.fits_cli.specs.Output.{answers, standing_after}
 use Rattle.fits_cli.specs.declared.line.LineReading.{LineReading}
 
@@ -12,6 +12,11 @@ use Rattle.fits_cli.specs.declared.line.LineReading.{LineReading}
 pub record AnswersLines (lines : List (List ℕ)) (before now : Standing) (held holds : Option (List ℕ)) : Type 0 where
   pub told : (read : List ℕ → LineReading) → ReadsLines read → Appends held holds (answers before (map read lines))
   pub left : (read : List ℕ → LineReading) → ReadsLines read → now ≡ standing_after before (map read lines)
+
+-- a sink was told what one line prints, and things stand as after it
+abbrev pub AnswersLine : List ℕ → Standing → Standing → Option (List ℕ) → Option (List ℕ) → Type 0
+AnswersLine line before now held holds =
+    (read : List ℕ → LineReading) → ReadsLines read → Appends held holds (line_answer before (read line)) × (now ≡ line_left before (read line))
 
 -- so far a script was this: its whole lines are answered, and its open end is the line to come
 pub record HasCome (script line : List ℕ) (before now : Standing) (held holds : Option (List ℕ)) : Type 0 where

@@ -8,3 +8,4 @@ pub mod line;
 mod plain_file;
 pub mod refusal;
 mod runner;
+mod script;

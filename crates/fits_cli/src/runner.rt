@@ -25,6 +25,7 @@ impl Runner {
         requires { self.old.line + 1 < 2 ^ 64 }
         ensures text { IfOk result (λ text. string_bytes text ≡ line_answer (standing_of self.old) line) }
         ensures left { OnOk result (standing_of self.new ≡ line_left (standing_of self.old) line) }
+        ensures line { OnOk result (self.new.line ≡ self.old.line + 1) }
     {
         let number = self.line;
         match line {
@@ -45,6 +46,7 @@ impl Runner {
         requires { self.old.line + 1 < 2 ^ 64 }
         ensures text { IfOk result (λ text. string_bytes text ≡ command_answer (standing_of self.old) command) }
         ensures left { OnOk result (standing_of self.new ≡ command_left (standing_of self.old) command) }
+        ensures line { OnOk result (self.new.line ≡ self.old.line + 1) }
     {
         let number = self.line;
         match command {

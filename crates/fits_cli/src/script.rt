@@ -1,0 +1,98 @@
+//! A script, answered line by line as it comes.
+ghost use Rattle.std.specs.Prelude.{◌≡◌, ◌<◌, ◌≤◌, ◌+◌, ◌++◌, ◌∷◌, ◌^◌, ◌⊎◌, ℕ, List, IfNone, IfSome, OnOk, IsErrOf, IsTrue, length};
+ghost use Rattle.std.specs.List.{list_any};
+ghost use Rattle.fits_cli.specs.Answer.{line_answer, line_left};
+ghost use Rattle.fits_cli.specs.Runner.{standing_of};
+ghost use Rattle.fits_cli.specs.Running.{AnswersLine, AnswersScript, AnswersTooLong, Continues};
+ghost use Rattle.fits_cli.specs.Script.{is_line_feed, HasNoLineFeed};
+
+use crate::line::read_line;
+use crate::runner::Runner;
+use fits_card::reading::{PIECE_LEN, buffer_of};
+use fits_card::sink::Sink;
+use fits_card::source::Source;
+use fits_card::writing::write_all;
+use std::alloc::{AllocError, Global};
+
+/// How many bytes a script has at most.
+pub const SCRIPT_LIMIT: usize = 100_000_000;
+
+/// Why answers ended.
+#[derive(Clone, Copy, PartialEq, Eq, Debug)]
+pub(crate) enum AnswerFault {
+    Memory,
+    WriteFailed,
+}
+
+impl From<AllocError> for AnswerFault {
+    ghost use Rattle.fits_cli.specs.declared.script.AnswerFault.TheVariants.{Memory};
+    ghost use Rattle.std.specs.Prelude.{◌≡◌};
+
+    ghost from_gives = { λ _ fault. fault ≡ Memory };
+
+    fn from(_: AllocError) -> AnswerFault {
+        AnswerFault::Memory
+    }
+}
+
+// The first line without its line feed, and what follows it.
+fn cut_line(text: &[u8]) -> Option<(&[u8], &[u8])>
+    ensures some { IfSome result (λ cut. HasNoLineFeed cut.0.now × (text.now ≡ cut.0.now ++ 10 ∷ cut.1.now)) }
+    ensures none { IfNone result (HasNoLineFeed text.now) }
+{
+    for (i, byte) in text.iter().enumerate() {
+        if *byte == b'\n' {
+            let (line, rest) = text.split_at(i);
+            let (_, rest) = rest.split_at(1);
+            return Some((line, rest));
+        }
+    }
+    None
+}
+
+// Answers one line.
+fn answer_line<O: Sink>(
+    alloc: Global,
+    runner: &mut Runner,
+    line: &[u8],
+    out: &mut O,
+) -> Result<(), AnswerFault>
+    requires { runner.old.line + 1 < 2 ^ 64 }
+    ensures ok { OnOk result (AnswersLine line.now (standing_of runner.old) (standing_of runner.new) (O.contents out.old) (O.contents out.new)) }
+    ensures line { OnOk result (runner.new.line ≡ runner.old.line + 1) }
+    ensures quiet { OnOk result (O.failures out.new ≡ O.failures out.old) }
+    ensures failed { IsErrOf result AnswerFault.WriteFailed → O.failures out.old < O.failures out.new }
+{
+    let reply = runner.reply(alloc, read_line(line))?;
+    let Ok(()) = write_all(out, reply.as_bytes()) else {
+        return Err(AnswerFault::WriteFailed);
+    };
+    Ok(())
+}
+
+// Answers each line that ends in this piece. `line` holds what came of a line that hasn't ended.
+fn answer_piece<O: Sink>(
+    alloc: Global,
+    runner: &mut Runner,
+    line: &mut Vec<u8>,
+    piece: &[u8],
+    out: &mut O,
+) -> Result<(), AnswerFault>
+    requires { runner.old.line + length piece.now + 1 < 2 ^ 64 }
+    ensures ok { OnOk result (Continues piece.now line.old.items line.new.items (standing_of runner.old) (standing_of runner.new) (O.contents out.old) (O.contents out.new)) }
+    ensures line { OnOk result (runner.new.line ≤ runner.old.line + length piece.now) }
+    ensures quiet { OnOk result (O.failures out.new ≡ O.failures out.old) }
+    ensures failed { IsErrOf result AnswerFault.WriteFailed → O.failures out.old < O.failures out.new }
+{
+    let mut rest = piece;
+    loop {
+        let Some((front, next)) = cut_line(rest) else {
+            line.extend_from_slice(rest)?;
+            return Ok(());
+        };
+        line.extend_from_slice(front)?;
+        answer_line(alloc, runner, line, out)?;
+        line.clear();
+        rest = next;
+    }
+}
