@@ -2,3 +2,4 @@ pub mod AnswerLemmas
 pub mod LineLemmas
 pub mod PlainFileLemmas
 pub mod RunLemmas
+pub mod ScriptLemmas

@@ -5,11 +5,12 @@ use Rattle.fits_card.specs.Header.{Header}
 use Rattle.fits_cli.specs.File.{FileParts, file_bytes}
 use Rattle.fits_cli.specs.Limits.{script_limit}
 use Rattle.fits_cli.specs.declared.line.LineReading.{LineReading}
+use Rattle.fits_cli.specs.Line.{ReadsLines}
 use Rattle.fits_cli.specs.Opening.{IsOpened, OpenFails, file_of_header}
 use Rattle.fits_cli.specs.Script.{IsCutInLines, script_lines}
 use Rattle.fits_cli.specs.Answer.{Standing, line_answer, line_left}
 use Rattle.fits_cli.specs.declared.fault.Fault.{Fault}
-use Rattle.fits_cli.specs.declared.fault.Fault.TheVariants.{ScriptTooLong}
+use Rattle.fits_cli.specs.declared.fault.Fault.TheVariants.{Refused, NotYet, ScriptTooLong, Memory, ReadFailed, WriteFailed}
 
 -- what lines print, one after another
 unfoldable pub answers : Standing → List LineReading → List ℕ
@@ -57,7 +58,39 @@ output_too_long file lines = record { text = answers (at_first_line file) lines;
 abbrev pub IsOutputOf : (List ℕ → LineReading) → List ℕ → List ℕ → Output → Type 0
 IsOutputOf read file script output =
     ((why : Fault) × OpenFails file why × (output ≡ output_unopened why))
-    ⊎ ((header : Header) × IsOpened file header × (lines : List (List ℕ)) × (last : List ℕ) × IsCutInLines (take script_limit script) lines last
+    ⊎ ((header : Header) × (lines : List (List ℕ)) × (last : List ℕ) × IsOpened file header × IsCutInLines (take script_limit script) lines last
     × (output ≡ (if nat_le (length script) script_limit
         then output_of_lines (file_of_header header) (map read (script_lines lines last))
         else output_too_long (file_of_header header) (map read lines))))
+
+-- where file and script tell their bytes, what was printed and saved, the status and the fault are those of their output
+abbrev pub IsRun : Option (List ℕ) → Option (List ℕ) → Option (List ℕ) → Option (List ℕ) → Option (List ℕ) → Option (List ℕ) → ℕ → Option Fault → Type 0
+IsRun None script printed prints saved saves status fault = Unit {0}
+IsRun (Some file) None printed prints saved saves status fault = Unit {0}
+IsRun (Some file) (Some script) printed prints saved saves status fault =
+    (read : List ℕ → LineReading) → ReadsLines read
+    → (output : Output) × IsOutputOf read file script output × Appends printed prints output.text × Appends saved saves output.saved
+    × (status ≡ output.status) × (fault ≡ output.fault)
+
+-- what a fault says of its run: it is the run's output; or memory was refused; or a read or a write failed
+abbrev pub FaultSays : (ℕ → Option Fault → Type 0) → Type 0 → Type 0 → Fault → Type 0
+FaultSays IsThisRun a_read_failed a_write_failed (Refused why) = IsThisRun 2 (Some (Refused why))
+FaultSays IsThisRun a_read_failed a_write_failed NotYet = IsThisRun 2 (Some NotYet)
+FaultSays IsThisRun a_read_failed a_write_failed ScriptTooLong = IsThisRun 2 (Some ScriptTooLong)
+FaultSays IsThisRun a_read_failed a_write_failed Memory = Unit {0}
+FaultSays IsThisRun a_read_failed a_write_failed ReadFailed = a_read_failed
+FaultSays IsThisRun a_read_failed a_write_failed WriteFailed = a_write_failed
+
+-- the status that goes with a fault
+abbrev pub status_of_fault : Fault → ℕ
+status_of_fault (Refused why) = 2
+status_of_fault NotYet = 2
+status_of_fault ScriptTooLong = 2
+status_of_fault Memory = 3
+status_of_fault ReadFailed = 3
+status_of_fault WriteFailed = 3
+
+-- how a run ended: as its output says, with status 0 or 1; or by a fault, with the fault's status
+abbrev pub EndSays : (ℕ → Option Fault → Type 0) → Type 0 → Type 0 → ℕ → Option Fault → Type 0
+EndSays IsThisRun a_read_failed a_write_failed status None = IsThisRun status None × (status ≤ 1)
+EndSays IsThisRun a_read_failed a_write_failed status (Some fault) = FaultSays IsThisRun a_read_failed a_write_failed fault × (status ≡ status_of_fault fault)

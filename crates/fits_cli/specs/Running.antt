@@ -7,6 +7,10 @@ use Rattle.fits_cli.specs.Script.{IsCutInLines, script_lines}
 use Rattle.fits_cli.specs.Answer.{Standing, line_answer, line_left}
 use Rattle.fits_cli.specs.Output.{answers, standing_after}
 use Rattle.fits_cli.specs.declared.line.LineReading.{LineReading}
+use Rattle.fits_cli.specs.declared.script.AnswerFault.{AnswerFault}
+use Rattle.fits_cli.specs.declared.script.AnswerFault.TheVariants.{Memory as AnswerMemory, WriteFailed as AnswerWriteFailed}
+use Rattle.fits_cli.specs.declared.script.ScriptFault.{ScriptFault}
+use Rattle.fits_cli.specs.declared.script.ScriptFault.TheVariants.{Memory as ScriptMemory, WriteFailed as ScriptWriteFailed}
 
 -- a sink was told what these lines print, and things stand as after them
 pub record AnswersLines (lines : List (List ℕ)) (before now : Standing) (held holds : Option (List ℕ)) : Type 0 where
@@ -29,6 +33,11 @@ abbrev pub Continues : List ℕ → List ℕ → List ℕ → Standing → Stand
 Continues piece line_before line_now before now held holds =
     (script : List ℕ) (first : Standing) (start : Option (List ℕ)) → HasCome script line_before first before start held → HasCome (script ++ piece) line_now first now start holds
 
+-- the last line, which has no line feed, is answered
+abbrev pub EndsScript : List ℕ → Standing → Standing → Option (List ℕ) → Option (List ℕ) → Type 0
+EndsScript line before now held holds =
+    (lines : List (List ℕ)) (first : Standing) (start : Option (List ℕ)) → AnswersLines lines first before start held → AnswersLines (script_lines lines line) first now start holds
+
 -- the whole script is answered
 abbrev pub AnswersScript : Option (List ℕ) → Standing → Standing → Option (List ℕ) → Option (List ℕ) → Type 0
 AnswersScript None before now held holds = Unit {0}
@@ -41,3 +50,8 @@ abbrev pub AnswersTooLong : Option (List ℕ) → Standing → Standing → Opti
 AnswersTooLong None before now held holds = Unit {0}
 AnswersTooLong (Some script) before now held holds =
     (script_limit < length script) × (line : List ℕ) × HasCome (take script_limit script) line before now held holds
+
+-- what a fault of one line is to its script
+abbrev pub script_fault_of : AnswerFault → ScriptFault
+script_fault_of AnswerMemory = ScriptMemory
+script_fault_of AnswerWriteFailed = ScriptWriteFailed

@@ -3,7 +3,7 @@ ghost use Rattle.std.specs.Prelude.{◌≡◌, ◌<◌, ◌≤◌, ◌+◌, ◌+
 ghost use Rattle.std.specs.List.{list_any};
 ghost use Rattle.fits_cli.specs.Answer.{line_answer, line_left};
 ghost use Rattle.fits_cli.specs.Runner.{standing_of};
-ghost use Rattle.fits_cli.specs.Running.{AnswersLine, AnswersScript, AnswersTooLong, Continues};
+ghost use Rattle.fits_cli.specs.Running.{AnswersLine, AnswersScript, AnswersTooLong, Continues, EndsScript};
 ghost use Rattle.fits_cli.specs.Script.{is_line_feed, HasNoLineFeed};
 
 use crate::line::read_line;
@@ -32,6 +32,40 @@ impl From<AllocError> for AnswerFault {
 
     fn from(_: AllocError) -> AnswerFault {
         AnswerFault::Memory
+    }
+}
+
+/// Why a script wasn't answered to its end.
+#[derive(Clone, Copy, PartialEq, Eq, Debug)]
+pub(crate) enum ScriptFault {
+    TooLong,
+    Memory,
+    ReadFailed,
+    WriteFailed,
+}
+
+impl From<AllocError> for ScriptFault {
+    ghost use Rattle.fits_cli.specs.declared.script.ScriptFault.TheVariants.{Memory};
+    ghost use Rattle.std.specs.Prelude.{◌≡◌};
+
+    ghost from_gives = { λ _ fault. fault ≡ Memory };
+
+    fn from(_: AllocError) -> ScriptFault {
+        ScriptFault::Memory
+    }
+}
+
+impl From<AnswerFault> for ScriptFault {
+    ghost use Rattle.fits_cli.specs.Running.{script_fault_of};
+    ghost use Rattle.std.specs.Prelude.{◌≡◌};
+
+    ghost from_gives = { λ why fault. fault ≡ script_fault_of why };
+
+    fn from(why: AnswerFault) -> ScriptFault {
+        match why {
+            AnswerFault::Memory => ScriptFault::Memory,
+            AnswerFault::WriteFailed => ScriptFault::WriteFailed,
+        }
     }
 }
 
@@ -94,5 +128,60 @@ fn answer_piece<O: Sink>(
         answer_line(alloc, runner, line, out)?;
         line.clear();
         rest = next;
+    }
+}
+
+// Answers what came behind the last line feed, unless it is nothing.
+#[tactic(auto, using(crate::proofs::ScriptLemmas::last_steps))]
+fn answer_last_line<O: Sink>(
+    alloc: Global,
+    runner: &mut Runner,
+    line: &[u8],
+    out: &mut O,
+) -> Result<(), AnswerFault>
+    requires { runner.old.line + 1 < 2 ^ 64 }
+    ensures ok { OnOk result (EndsScript line.now (standing_of runner.old) (standing_of runner.new) (O.contents out.old) (O.contents out.new)) }
+    ensures failed { IsErrOf result AnswerFault.WriteFailed → O.failures out.old < O.failures out.new }
+{
+    if line.is_empty() {
+        return Ok(());
+    }
+    answer_line(alloc, runner, line, out)
+}
+
+/// Answers a script to its end, or as far as its limit.
+pub(crate) fn answer_script<S: Source, O: Sink>(
+    alloc: Global,
+    runner: &mut Runner,
+    script: &mut S,
+    out: &mut O,
+) -> Result<(), ScriptFault>
+    requires { runner.old.line ≡ 1 }
+    ensures ok { OnOk result (AnswersScript (S.remaining script.old) (standing_of runner.old) (standing_of runner.new) (O.contents out.old) (O.contents out.new)) }
+    ensures too_long { IsErrOf result ScriptFault.TooLong → AnswersTooLong (S.remaining script.old) (standing_of runner.old) (standing_of runner.new) (O.contents out.old) (O.contents out.new) }
+    ensures read { IsErrOf result ScriptFault.ReadFailed → S.failures script.old < S.failures script.new }
+    ensures write { IsErrOf result ScriptFault.WriteFailed → O.failures out.old < O.failures out.new }
+{
+    let mut buffer = buffer_of(alloc, PIECE_LEN)?;
+    let piece = buffer.as_mut_slice();
+    let mut line = Vec::new(alloc);
+    let mut taken = 0usize;
+    loop {
+        let Ok(n) = script.read(piece) else {
+            return Err(ScriptFault::ReadFailed);
+        };
+        if n == 0 {
+            answer_last_line(alloc, runner, &line, out)?;
+            return Ok(());
+        }
+        let room = SCRIPT_LIMIT - taken;
+        if n > room {
+            let (front, _) = piece.split_at(room);
+            answer_piece(alloc, runner, &mut line, front, out)?;
+            return Err(ScriptFault::TooLong);
+        }
+        let (front, _) = piece.split_at(n);
+        answer_piece(alloc, runner, &mut line, front, out)?;
+        taken += n;
     }
 }
