@@ -1,4 +1,5 @@
 pub mod AnswerLemmas
+pub mod EditingLemmas
 pub mod LineLemmas
 pub mod PlainFileLemmas
 pub mod RunLemmas

@@ -1,8 +1,11 @@
 -- What private functions of a run keep to: how far a script has come.
-use Rattle.std.specs.Prelude.{◌≡◌, ℕ, ◌<◌, ◌≤◌, List, ◌++◌, length, map, take, Option, Some, None}
+use Rattle.std.specs.Prelude.{◌≡◌, ℕ, ◌<◌, ◌≤◌, List, ◌++◌, length, map, take, Option, Some, None, IfSome}
 use Rattle.std.specs.Io.KnownBytes.{Appends}
 use Rattle.fits_cli.specs.Limits.{script_limit}
 use Rattle.fits_cli.specs.Line.{ReadsLines}
+use Rattle.fits_cli.specs.Opening.{OpenFails}
+use Rattle.fits_cli.specs.declared.fault.Fault.{Fault}
+use Rattle.fits_cli.specs.declared.fault.Fault.TheVariants.{Refused, NotYet, ScriptTooLong, Memory, ReadFailed, WriteFailed}
 use Rattle.fits_cli.specs.Script.{IsCutInLines, script_lines}
 use Rattle.fits_cli.specs.Answer.{Standing, line_answer, line_left}
 use Rattle.fits_cli.specs.Output.{answers, standing_after}
@@ -55,3 +58,12 @@ AnswersTooLong (Some script) before now held holds =
 abbrev pub script_fault_of : AnswerFault → ScriptFault
 script_fault_of AnswerMemory = ScriptMemory
 script_fault_of AnswerWriteFailed = ScriptWriteFailed
+
+-- why a file wasn't opened: its bytes don't open, or memory was refused, or a read failed
+abbrev pub OpenEnds : Option (List ℕ) → Type 0 → Fault → Type 0
+OpenEnds file a_read_failed (Refused why) = IfSome file (λ bytes. OpenFails bytes (Refused why))
+OpenEnds file a_read_failed NotYet = IfSome file (λ bytes. OpenFails bytes NotYet)
+OpenEnds file a_read_failed ScriptTooLong = ⊥
+OpenEnds file a_read_failed Memory = Unit {0}
+OpenEnds file a_read_failed ReadFailed = a_read_failed
+OpenEnds file a_read_failed WriteFailed = ⊥

@@ -35,6 +35,21 @@ pub enum Fault {
     WriteFailed,
 }
 
+impl Fault {
+    ghost use Rattle.std.specs.Prelude.{◌≡◌};
+    ghost use Rattle.fits_cli.specs.Output.{status_of_fault};
+
+    /// The program's exit status: 2 for a file or a script that isn't taken, 3 for devices and memory.
+    pub fn status(self) -> u8
+        ensures { result ≡ status_of_fault self }
+    {
+        match self {
+            Fault::Refused(_) | Fault::NotYet | Fault::ScriptTooLong => 2,
+            Fault::Memory | Fault::ReadFailed | Fault::WriteFailed => 3,
+        }
+    }
+}
+
 impl From<AllocError> for Fault {
     ghost use Rattle.fits_cli.specs.declared.fault.Fault.TheVariants.{Memory};
     ghost use Rattle.std.specs.Prelude.{◌≡◌};

@@ -3,6 +3,8 @@
 
 mod answer;
 pub mod command;
+pub mod editing;
+pub mod end;
 pub mod fault;
 pub mod line;
 mod plain_file;

@@ -92,6 +92,7 @@ impl PlainFile {
     /// Writes the file.
     pub(crate) fn save<W: Sink>(&mut self, sink: &mut W) -> io::Result<()>
         ensures ok { OnOk result (Appends (W.contents sink.old) (W.contents sink.new) (header_bytes self.old.cards.header)) }
+        ensures quiet { OnOk result (W.failures sink.new ≡ W.failures sink.old) }
         ensures failed { OnErr result (W.failures sink.old < W.failures sink.new) }
         ensures header { self.new.cards.header ≡ self.old.cards.header }
     {

@@ -141,6 +141,7 @@ fn answer_last_line<O: Sink>(
 ) -> Result<(), AnswerFault>
     requires { runner.old.line + 1 < 2 ^ 64 }
     ensures ok { OnOk result (EndsScript line.now (standing_of runner.old) (standing_of runner.new) (O.contents out.old) (O.contents out.new)) }
+    ensures quiet { OnOk result (O.failures out.new ≡ O.failures out.old) }
     ensures failed { IsErrOf result AnswerFault.WriteFailed → O.failures out.old < O.failures out.new }
 {
     if line.is_empty() {
@@ -161,6 +162,8 @@ pub(crate) fn answer_script<S: Source, O: Sink>(
     ensures too_long { IsErrOf result ScriptFault.TooLong → AnswersTooLong (S.remaining script.old) (standing_of runner.old) (standing_of runner.new) (O.contents out.old) (O.contents out.new) }
     ensures read { IsErrOf result ScriptFault.ReadFailed → S.failures script.old < S.failures script.new }
     ensures write { IsErrOf result ScriptFault.WriteFailed → O.failures out.old < O.failures out.new }
+    ensures quiet { OnOk result (O.failures out.new ≡ O.failures out.old) }
+    ensures quiet_too_long { IsErrOf result ScriptFault.TooLong → O.failures out.new ≡ O.failures out.old }
 {
     let mut buffer = buffer_of(alloc, PIECE_LEN)?;
     let piece = buffer.as_mut_slice();
