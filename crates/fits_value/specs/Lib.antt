@@ -1,1 +1,3 @@
+pub mod Number
+pub mod NumberSteps
 pub mod Spelling

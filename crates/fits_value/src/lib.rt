@@ -1,4 +1,5 @@
 //! The values that cards of FITS headers hold, and how they are spelled.
 #![tactic(auto)]
 
+pub mod number;
 pub mod reading;

@@ -1,0 +1,175 @@
+//! The numbers that integers and reals denote, by digits and decimal exponent.
+ghost use Rattle.std.specs.Prelude.{◌≡◌, ◌≤◌, ◌<◌, ◌+◌, ◌*◌, ◌^◌, ◌++◌, ◌↔◌, Bool, ℕ, ℤ, List, IsTrue, IfSome, IfNone, IsSomeAnd, FitsSigned, unsigned_abs, length};
+ghost use Rattle.std.specs.List.{fold, list_all, prefix_len, take_while};
+ghost use Rattle.fits_value.specs.Spelling.{is_digit, IsDigits, AreSomeDigits};
+ghost use Rattle.fits_value.specs.Number.{with_digit, value_of, signed, IsSigned, IsIntegerOf, IsPowerOf, IsDecimal, raised, lowered, Denotes};
+ghost use Rattle.fits_value.specs.NumberSteps.{is_minus, after_sign, after_digits, fraction_of, after_fraction};
+
+/// The parts of an integer or a real: its digits before and behind the point, and those of its exponent.
+struct Decimal<'a> {
+    is_negative: bool,
+    front: &'a [u8],
+    back: &'a [u8],
+    is_lowered: bool,
+    exponent: &'a [u8],
+}
+
+/// Whether the text begins with a minus sign, and the text behind its sign.
+fn split_sign(text: &[u8]) -> (bool, &[u8])
+    ensures sign { result.0 ≡ is_minus text.now }
+    ensures rest { result.1.now ≡ after_sign text.now }
+{
+    match text {
+        [b'-', rest @ ..] => (true, rest),
+        [b'+', rest @ ..] => (false, rest),
+        _ => (false, text),
+    }
+}
+
+/// How many digits the text begins with.
+fn count_digits(text: &[u8]) -> usize
+    ensures value { result ≡ prefix_len is_digit text.now }
+    ensures within { result ≤ length text.now }
+{
+    for (i, byte) in text.iter().enumerate() {
+        if *byte < b'0' || b'9' < *byte {
+            return i;
+        }
+    }
+    text.len()
+}
+
+/// The digits that the text begins with, and the rest.
+fn split_digits(text: &[u8]) -> (&[u8], &[u8])
+    ensures digits { result.0.now ≡ take_while is_digit text.now }
+    ensures rest { result.1.now ≡ after_digits text.now }
+{
+    text.split_at(count_digits(text))
+}
+
+/// The digits behind the point that the text begins with, if it does, and the rest.
+fn split_fraction(text: &[u8]) -> (&[u8], &[u8])
+    ensures digits { result.0.now ≡ fraction_of text.now }
+    ensures rest { result.1.now ≡ after_fraction text.now }
+{
+    match text {
+        [b'.', rest @ ..] => split_digits(rest),
+        _ => (&[], text),
+    }
+}
+
+/// Whether each byte is a digit.
+fn are_digits(text: &[u8]) -> bool
+    ensures { result ≡ list_all is_digit text.now }
+{
+    text.iter().all(|byte| b'0' <= *byte && *byte <= b'9')
+}
+
+/// Whether the text is digits, at least one.
+fn are_some_digits(text: &[u8]) -> bool
+    ensures { IsTrue result ↔ AreSomeDigits text.now }
+{
+    !text.is_empty() && are_digits(text)
+}
+
+/// Whether an integer has a minus sign, and its digits.
+#[tactic(auto, using(crate::proofs::NumberLemmas::integer_reads))]
+fn split_integer(text: &[u8]) -> Option<(bool, &[u8])>
+    ensures found { IfSome result (λ r. IsSigned text.now r.0 r.1.now) }
+    ensures only { (negative : Bool) (digits : List ℕ) → IsSigned text.now negative digits → IsSomeAnd result (λ r. (r.0 ≡ negative) × (r.1.now ≡ digits)) }
+{
+    let (is_negative, digits) = split_sign(text);
+    if are_some_digits(digits) {
+        Some((is_negative, digits))
+    } else {
+        None
+    }
+}
+
+/// Whether an exponent lowers, and its digits. No exponent has no digits.
+#[tactic(auto, using(crate::proofs::NumberLemmas::power_reads))]
+fn split_exponent(text: &[u8]) -> Option<(bool, &[u8])>
+    ensures found { IfSome result (λ r. IsPowerOf text.now (signed r.0 (value_of r.1.now))) }
+    ensures digits { IfSome result (λ r. IsDigits r.1.now) }
+    ensures only { (power : ℤ) → IsPowerOf text.now power → IsSomeAnd result (λ r. signed r.0 (value_of r.1.now) ≡ power) }
+{
+    match text {
+        [] => Some((false, &[])),
+        [b'E' | b'D', rest @ ..] => split_integer(rest),
+        _ => None,
+    }
+}
+
+/// The parts of an integer or a real.
+#[tactic(auto, using(crate::proofs::NumberLemmas::decimal_reads))]
+fn split_decimal(text: &[u8]) -> Option<Decimal<'_>>
+    ensures found { IfSome result (λ d. IsDecimal text.now d.is_negative d.front.now d.back.now (signed d.is_lowered (value_of d.exponent.now))) }
+    ensures digits { IfSome result (λ d. IsDigits d.exponent.now) }
+    ensures none { IfNone result ((negative : Bool) (front back : List ℕ) (power : ℤ) → IsDecimal text.now negative front back power → ⊥) }
+{
+    let (is_negative, unsigned) = split_sign(text);
+    let (front, tail) = split_digits(unsigned);
+    let (back, rest) = split_fraction(tail);
+    let (is_lowered, exponent) = split_exponent(rest)?;
+    if front.is_empty() && back.is_empty() {
+        return None;
+    }
+    Some(Decimal {
+        is_negative,
+        front,
+        back,
+        is_lowered,
+        exponent,
+    })
+}
+
+/// The number that has these digits behind those of `start`, where it is at most `limit`.
+fn append_digits(start: u128, digits: &[u8], limit: u128) -> Option<u128>
+    requires small { limit ≤ 2 ^ 127 }
+    requires start { start ≤ limit }
+    requires digits { IsDigits digits.now }
+    ensures value { IfSome result (λ n. n ≡ fold with_digit start digits.now) }
+    ensures within { IfSome result (λ n. n ≤ limit) }
+    ensures large { IfNone result (limit < fold with_digit start digits.now) }
+{
+    let mut number = start;
+    for digit in digits {
+        if number > limit / 10 {
+            return None;
+        }
+        number = number * 10 + (*digit - b'0') as u128;
+        if number > limit {
+            return None;
+        }
+    }
+    Some(number)
+}
+
+/// Whether each digit is a zero.
+fn are_zeros(digits: &[u8]) -> bool
+    requires { IsDigits digits.now }
+    ensures { IsTrue result ↔ (value_of digits.now ≡ 0) }
+{
+    for digit in digits {
+        if *digit != b'0' {
+            return false;
+        }
+    }
+    true
+}
+
+/// The number without this many zeros at its end.
+fn without_zeros(number: u128, zeros: usize) -> Option<u128>
+    ensures value { IfSome result (λ m. m * 10 ^ zeros ≡ number) }
+    ensures within { IfSome result (λ m. m ≤ number) }
+    ensures none { IfNone result ((m : ℕ) → m * 10 ^ zeros ≡ number → ⊥) }
+{
+    let mut rest = number;
+    for i in 0..zeros {
+        if rest % 10 != 0 {
+            return None;
+        }
+        rest /= 10;
+    }
+    Some(rest)
+}
