@@ -1,8 +1,8 @@
 -- The number that digits stand for.
-use Rattle.std.proofs.Common.{◌≡◌, ℕ, ◌<◌, ◌≤◌, ◌+◌, ◌-◌, ◌*◌, ◌^◌, ◌%◌, ◌/◌, ◌≢◌, zero, inl, inr, List, [], ◌∷◌, ◌++◌, length, take, drop, get_or, suc, refl, sym, ◌∙◌, ap, arith}
+use Rattle.std.proofs.Common.{◌≡◌, ℕ, ◌<◌, ◌≤◌, ◌+◌, ◌-◌, ◌*◌, ◌^◌, ◌%◌, ◌/◌, ◌≢◌, zero, inl, inr, List, [], ◌∷◌, ◌++◌, length, take, drop, get_or, suc, refl, sym, ◌∙◌, ap, arith, append_assoc, length-append, lit<}
 use Rattle.std.specs.List.{list_all, fold}
 use Rattle.std.specs.Prelude.{IsTrue, ◌↔◌, nat_le}
-use Rattle.std.proofs.lemmas.List.{take-append-drop, length-drop}
+use Rattle.std.proofs.lemmas.List.{take-append-drop, length-drop, append-nil}
 use Rattle.std.proofs.lemmas.List.Sums.{fold_more, fold-append}
 use Rattle.std.proofs.lemmas.Bool.{and_parts, and_from, leb-true, cases_order}
 use Rattle.std.proofs.Math.Nat.{pow-suc, mul-le-mul_right, mul-le-mul_left, mul-mod_left, mul_assoc}
@@ -105,14 +105,19 @@ zero_times v up down m z =
       λ e. let f : v * 10 ^ up + 0 ≡ 0 * 10 ^ up = omega (arith, e, zero_right) in (unique v 0 (10 ^ up) 0 (ten_pos up) f).0,
     )
 
--- digits of which the last k are to be zeros
-pub by_parts : (ds : List ℕ) (front m k : ℕ) → front + k ≡ length ds → IsDigits ds → ((value_of (take front ds) ≡ m) × (value_of (drop front ds) ≡ 0)) ↔ (value_of ds ≡ m * 10 ^ k)
-by_parts ds front m k e a =
-    let size : length (drop front ds) ≡ k = omega (arith, length-drop front ds) in
-    let two : value_of ds ≡ value_of (take front ds) * 10 ^ k + value_of (drop front ds) =
-    ap value_of (sym (take-append-drop front ds)) ∙ (value_append (take front ds) (drop front ds) ∙ ap (λ (y : ℕ). value_of (take front ds) * 10 ^ y + value_of (drop front ds)) size) in
-    let low : value_of (drop front ds) < 10 ^ k = (rw size at (value_lt (drop front ds) (drop_digits front ds a))) in
-    (λ w. two ∙ rw (w.0, w.1) (omega arith), λ w. unique (value_of (take front ds)) m (10 ^ k) (value_of (drop front ds)) low (sym two ∙ w))
+-- digits of which the last are to be zeros
+pub by_zeros : (front back : List ℕ) (m k : ℕ) → length back ≡ k → IsDigits back → ((value_of front ≡ m) × (value_of back ≡ 0)) ↔ (value_of (front ++ back) ≡ m * 10 ^ k)
+by_zeros front back m k size a =
+    let two : value_of (front ++ back) ≡ value_of front * 10 ^ k + value_of back = value_append front back ∙ ap (λ (y : ℕ). value_of front * 10 ^ y + value_of back) size in
+    let low : value_of back < 10 ^ k = (rw size at (value_lt back a)) in
+    (λ w. two ∙ rw (w.0, w.1) (omega arith), λ w. unique (value_of front) m (10 ^ k) (value_of back) low (sym two ∙ w))
+
+-- digits that are all to be zeros
+pub by_all_zeros : (front back : List ℕ) → IsDigits back → ((value_of front ≡ 0) × (value_of back ≡ 0)) ↔ (value_of (front ++ back) ≡ 0)
+by_all_zeros front back a =
+    let w = by_zeros front back 0 (length back) refl a in
+    let none : 0 * 10 ^ length back ≡ 0 = omega arith in
+    (λ z. w.0 z ∙ none, λ z. w.1 (z ∙ sym none))
 
 -- digits that are too few
 pub too_few : (ds : List ℕ) (m k : ℕ) → length ds < k → 0 < m → IsDigits ds → value_of ds ≡ m * 10 ^ k → ⊥
@@ -141,10 +146,83 @@ lower m i n z e =
     let r : (m / 10 * 10) * 10 ^ i ≡ m * 10 ^ i = ap (λ (y : ℕ). y * 10 ^ i) q in
     ap (λ (y : ℕ). m / 10 * y) p ∙ omega (arith, e, r)
 
-pub split_true : (ds front back : List ℕ) (i m k : ℕ) → front ≡ take i ds → back ≡ drop i ds → i + k ≡ length ds → IsDigits ds → value_of back ≡ 0 → (value_of front ≡ m) ↔ (value_of ds ≡ m * 10 ^ k)
-split_true ds front back i m k f b e a z =
-    let w = by_parts ds i m k e a in
-    (λ h. w.0 (ap value_of (sym f) ∙ h, ap value_of (sym b) ∙ z), λ h. ap value_of f ∙ (w.1 h).0)
+-- digits behind digits are digits
+pub digits_joined : (xs ys : List ℕ) → IsDigits xs → IsDigits ys → IsDigits (xs ++ ys)
+digits_joined [] ys a b = b
+digits_joined (x ∷ xs) ys a b = let w = and_parts (is_digit x) (list_all is_digit xs) a in and_from _ _ w.0 (digits_joined xs ys w.1 b)
 
-pub split_false : (ds back : List ℕ) (i m k : ℕ) → back ≡ drop i ds → i + k ≡ length ds → IsDigits ds → (value_of back ≡ 0 → ⊥) → value_of ds ≡ m * 10 ^ k → ⊥
-split_false ds back i m k b e a no_zero h = no_zero (ap value_of b ∙ ((by_parts ds i m k e a).1 h).1)
+-- the digits of two parts, one after the other
+pub value_joined : (front back : List ℕ) (start : ℕ) → start ≡ value_of front → fold with_digit start back ≡ value_of (front ++ back)
+value_joined front back start e = ap (λ (n : ℕ). fold with_digit n back) e ∙ sym (fold-append with_digit 0 front back)
+
+-- the first part is no more than both
+pub value_front-le : (front back : List ℕ) → value_of front ≤ value_of (front ++ back)
+value_front-le front back = omega (arith, fold_ge (value_of front) back, fold-append with_digit 0 front back)
+
+pub ruleset joined_values = (value_joined, value_front-le)
+
+-- the point moved to the left, into the digits before it
+pub moved_left : (front whole behind back : List ℕ) (i places m : ℕ) → whole ≡ take i front → behind ≡ drop i front → i + places ≡ length front → IsDigits front → IsDigits back
+    → ((value_of (whole ++ []) ≡ m) × (value_of (behind ++ back) ≡ 0)) ↔ (value_of (front ++ back) ≡ m * 10 ^ (length back + places))
+moved_left front whole behind back i places m e f h a b =
+    let same : front ++ back ≡ whole ++ (behind ++ back) =
+    rw (e, f) (ap (λ (z : List ℕ). z ++ back) (sym (take-append-drop i front)) ∙ append_assoc (take i front) (drop i front) back) in
+    let size : length (behind ++ back) ≡ length back + places = rw f (omega (arith, length-append {A = ℕ}, length-drop i front)) in
+    let are_behind : IsDigits behind = rw f (drop_digits i front a) in
+    let w = by_zeros whole (behind ++ back) m (length back + places) size (digits_joined behind back are_behind b) in
+    (λ u. ap value_of same ∙ w.0 (ap value_of (sym (append-nil whole)) ∙ u.0, u.1), λ u. let v = w.1 (sym (ap value_of same) ∙ u) in (ap value_of (append-nil whole) ∙ v.0, v.1))
+
+-- the point moved to the right, into the digits behind it
+pub moved_right : (front back whole behind : List ℕ) (n places m : ℕ) → whole ≡ take n back → behind ≡ drop n back → n ≡ places → places ≤ length back → IsDigits back
+    → ((value_of (front ++ whole) ≡ m) × (value_of behind ≡ 0)) ↔ (value_of (front ++ back) * 10 ^ places ≡ m * 10 ^ length back)
+moved_right front back whole behind n places m e f i h b =
+    let same : front ++ back ≡ (front ++ whole) ++ behind =
+    rw (e, f) (ap (λ (z : List ℕ). front ++ z) (sym (take-append-drop n back)) ∙ sym (append_assoc front (take n back) (drop n back))) in
+    let size : length behind ≡ length back - places = rw (f, i) (length-drop places back) in
+    let w = by_zeros (front ++ whole) behind m (length back - places) size (rw f (drop_digits n back b)) in
+    let r = by_right (value_of (front ++ back)) m places (length back) h in
+    (λ u. r.0 (ap value_of same ∙ w.0 u), λ u. w.1 (sym (ap value_of same) ∙ r.1 u))
+
+-- the point moved to the right, past the digits behind it
+pub raised_more : (v rest m n places down : ℕ) → n ≡ places → down ≤ n → rest * 10 ^ (n - down) ≡ m → (v ≡ rest) ↔ (v * 10 ^ places ≡ m * 10 ^ down)
+raised_more v rest m n places down i h e =
+    let same : v * 10 ^ n ≡ v * 10 ^ places = ap (λ (y : ℕ). v * 10 ^ y) i in
+    let w = iff_join (via_lowered v rest (n - down) m e) (by_left v m n down h) in
+    (λ f. sym same ∙ w.0 f, λ f. w.1 (same ∙ f))
+
+-- where the number does not end in that many zeros
+pub raised_none : (v m n places down : ℕ) → n ≡ places → down ≤ n → ((x : ℕ) → x * 10 ^ (n - down) ≡ m → ⊥) → v * 10 ^ places ≡ m * 10 ^ down → ⊥
+raised_none v m n places down i h none e =
+    let same : v * 10 ^ n ≡ v * 10 ^ places = ap (λ (y : ℕ). v * 10 ^ y) i in
+    none v ((by_left v m n down h).1 (same ∙ e))
+
+-- an exponent that lowers by more than the digits before the point
+pub too_low : (front back : List ℕ) (m places : ℕ) → length front < places → 0 < m → IsDigits front → IsDigits back → value_of (front ++ back) ≡ m * 10 ^ (length back + places) → ⊥
+too_low front back m places short some a b = too_few (front ++ back) m (length back + places) (omega (arith, length-append {A = ℕ})) some (digits_joined front back a b)
+
+-- ten to a larger power is more
+pub pow-le : (a b : ℕ) → a ≤ b → 10 ^ a ≤ 10 ^ b
+pow-le a b h =
+    let s : b ≡ a + (b - a) = omega arith in
+    let p : 10 ^ b ≡ 10 ^ a * 10 ^ (b - a) = ap (λ (y : ℕ). 10 ^ y) s ∙ pow-add 10 a (b - a) in
+    let one : 10 ^ a * 1 ≤ 10 ^ a * 10 ^ (b - a) = mul-le-mul_left (10 ^ a) (ten_pos (b - a)) in
+    omega (arith, p, one)
+
+-- an exponent that raises past the largest number
+pub too_high : (v m places down most : ℕ) → m < 10 ^ most → 0 < m → down + most < places → v * 10 ^ places ≡ m * 10 ^ down → ⊥
+too_high v m places down most bound some far e =
+    let f : v * 10 ^ (places - down) ≡ m = (by_left v m places down (omega arith)).1 e in
+    elim (cases_order v 0) [
+      | inl z ↦ let x : v * 10 ^ (places - down) ≡ 0 * 10 ^ (places - down) = ap (λ (y : ℕ). y * 10 ^ (places - down)) z in absurd (omega arith)
+      | inr w ↦ elim w [
+        | inl below ↦ absurd (omega arith)
+        | inr above ↦
+            let one : 1 * 10 ^ (places - down) ≤ v * 10 ^ (places - down) = mul-le-mul_right (10 ^ (places - down)) above in
+            let more : 10 ^ most ≤ 10 ^ (places - down) = pow-le most (places - down) (omega arith) in
+            absurd (omega arith)
+      ]
+    ]
+
+-- any number of 127 bits has fewer than 40 digits
+pub below_most : (m : ℕ) → m ≤ 2 ^ 127 → m < 10 ^ 39
+below_most m h = let small : 2 ^ 127 < 10 ^ 39 = lit< tt in omega arith

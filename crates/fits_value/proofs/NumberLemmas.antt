@@ -1,13 +1,15 @@
 -- A text has one reading as an integer, and one as a decimal: sign, digits, point and exponent.
 use Rattle.std.proofs.Common.{◌≡◌, ◌⊎◌, inl, inr, ℕ, zero, suc, ◌<◌, ◌≤◌, ◌+◌, ◌-◌, Bool, true, false, List, [], ◌∷◌, ◌++◌, length, take, drop, refl, sym, ◌∙◌, ap, subst, arith, append_assoc}
-use Rattle.std.specs.Prelude.{IsTrue, ℤ, pos, ◌==◌, Option, Some, None, IsSomeAnd, IfNone}
+use Rattle.std.specs.Prelude.{IsTrue, ℤ, pos, ◌==◌, Option, Some, None, IsSomeAnd, IfNone, ◌↔◌, ◌*◌, ◌^◌, ◌≤ℤ◌, negsuc, unsigned_abs}
+use Rattle.std.proofs.lemmas.Int.{ints}
+use Rattle.fits_value.proofs.DigitLemmas.{cancel, zero_times}
 use Rattle.std.specs.List.{list_all, prefix_len, take_while}
 use Rattle.std.proofs.lemmas.List.{take-append-drop, append-nil, take_all}
 use Rattle.std.proofs.lemmas.List.Sums.{take_while-cons}
 use Rattle.std.proofs.lemmas.Bool.{cases_Bool, and_parts, and_from, or_cases, or_from, or_parts, cond-true, cond-false, cond_both, eqb-true, ne_eqb, leb-true}
 use Rattle.std.proofs.Math.Seq.{take-append_seam, drop-append_seam}
-use Rattle.fits_value.specs.Spelling.{is_digit, is_sign, is_exponent_letter, IsDigits, AreSomeDigits}
-use Rattle.fits_value.specs.Number.{value_of, signed, IsSignOf, IsSigned, IsIntegerOf, IsPowerOf, IsDecimal}
+use Rattle.fits_value.specs.Spelling.{is_digit, is_sign, is_exponent_letter, IsDigits, AreSomeDigits, IsOptionalSign, IsInteger, IsExponent, IsPointed, IsNumber}
+use Rattle.fits_value.specs.Number.{value_of, signed, IsSignOf, IsSigned, IsIntegerOf, IsPowerOf, IsDecimal, raised, lowered, IsExactly, Denotes}
 use Rattle.fits_value.specs.NumberSteps.{is_minus, after_sign, after_digits, fraction_of, after_fraction}
 
 -- the list is empty or its head fails the test
@@ -239,3 +241,144 @@ decimal_steps text unsigned front tail back rest negative power n u f t b x some
     rw n (decimal_found text front back rest power (f ∙ ap (take_while is_digit) u) (b ∙ ap fraction_of body) (x ∙ ap after_fraction body) some w)
 
 pub ruleset decimal_reads = (decimal_steps)
+
+-- the parts of a decimal, and the size and the sign of its number
+abbrev pub Stands : Bool → List ℕ → List ℕ → ℤ → ℕ → ℤ → Type 0
+Stands negative front back power size number = (number ≡ signed negative size) × IsExactly front back power size
+
+-- a text that denotes a number does so by the parts of any of its readings
+pub by_parts : (text : List ℕ) (negative : Bool) (front back : List ℕ) (power number : ℤ) → IsDecimal text negative front back power → (w : Denotes text number) → Stands negative front back power w.size number
+by_parts text negative front back power number d w =
+    let a = decimal_read text negative front back power d in
+    let b = decimal_read text w.negative w.front w.back w.power w.spelled in
+    let n : w.negative ≡ negative = b.is_negative ∙ sym a.is_negative in
+    let f : w.front ≡ front = b.is_front ∙ sym a.is_front in
+    let k : w.back ≡ back = b.is_back ∙ sym a.is_back in
+    let p : w.power ≡ power = one_power _ w.power power b.is_power a.is_power in
+    let w0 : Stands w.negative w.front w.back w.power w.size number = (w.value, w.exact) in
+    let w1 = subst (λ (z : Bool). Stands z w.front w.back w.power w.size number) n w0 in
+    let w2 = subst (λ (z : List ℕ). Stands negative z w.back w.power w.size number) f w1 in
+    let w3 = subst (λ (z : List ℕ). Stands negative front z w.power w.size number) k w2 in
+    subst (λ (z : ℤ). Stands negative front back z w.size number) p w3
+
+-- the size of a number with a sign
+pub abs-signed : (negative : Bool) (size : ℕ) → unsigned_abs (signed negative size) ≡ size
+abs-signed false size = refl
+abs-signed true zero = refl
+abs-signed true (suc size) = refl
+
+-- a text denotes a number exactly by its size and its sign
+pub denotes_size : (text : List ℕ) (negative : Bool) (front back : List ℕ) (power number : ℤ) → IsDecimal text negative front back power
+    → ((number ≡ signed negative (unsigned_abs number)) × IsExactly front back power (unsigned_abs number)) ↔ Denotes text number
+denotes_size text negative front back power number d = (
+  λ w. record { negative = negative; front = front; back = back; power = power; size = unsigned_abs number; spelled = d; exact = w.1; value = w.0 },
+  λ w. let s = by_parts text negative front back power number d w in
+      let e : w.size ≡ unsigned_abs number = sym (ap unsigned_abs s.0 ∙ abs-signed negative w.size) in
+      subst (λ (z : ℕ). Stands negative front back power z number) e s,
+)
+
+-- a text denotes one number at most
+pub one_denoted : (text : List ℕ) (m n : ℤ) → Denotes text m → Denotes text n → m ≡ n
+one_denoted text m n v w =
+    let s = by_parts text v.negative v.front v.back v.power n v.spelled w in
+    let e : v.size ≡ w.size = cancel v.size w.size (length v.back + lowered v.power) (sym v.exact ∙ s.1) in
+    v.value ∙ (ap (λ (z : ℕ). signed v.negative z) e ∙ sym s.0)
+
+-- a power that lowers
+pub raised-minus : (n : ℕ) → raised (signed true n) ≡ 0
+raised-minus zero = refl
+raised-minus (suc n) = refl
+
+pub lowered-minus : (n : ℕ) → lowered (signed true n) ≡ n
+lowered-minus zero = refl
+lowered-minus (suc n) = refl
+
+-- exactness where the exponent lowers
+pub exact_lowered : (front back : List ℕ) (is_lowered : Bool) (n number : ℕ) → is_lowered ≡ true → (value_of (front ++ back) ≡ number * 10 ^ (length back + n)) ↔ IsExactly front back (signed is_lowered n) number
+exact_lowered front back is_lowered n number t =
+    let one : value_of (front ++ back) * 10 ^ 0 ≡ value_of (front ++ back) = omega arith in
+    rw (t, raised-minus n, lowered-minus n) (λ e. one ∙ e, λ e. sym one ∙ e)
+
+-- exactness where the exponent raises, or there is none
+pub exact_raised : (front back : List ℕ) (is_lowered : Bool) (n number : ℕ) → is_lowered ≡ false → (value_of (front ++ back) * 10 ^ n ≡ number * 10 ^ length back) ↔ IsExactly front back (signed is_lowered n) number
+exact_raised front back is_lowered n number t =
+    let same : number * 10 ^ (length back + 0) ≡ number * 10 ^ length back = ap (λ (k : ℕ). number * 10 ^ k) (omega arith) in
+    rw t (λ e. e ∙ sym same, λ e. e ∙ same)
+
+-- exactness of 0
+pub exact_zero : (front back : List ℕ) (power : ℤ) (number : ℕ) → number ≡ 0 → (value_of (front ++ back) ≡ 0) ↔ IsExactly front back power number
+exact_zero front back power number z = zero_times (value_of (front ++ back)) (raised power) (length back + lowered power) number z
+
+-- a number that isn't above 0 may have a minus sign
+pub minus_sign : (number : ℤ) → (number ≤ℤ pos 0) ↔ (number ≡ signed true (unsigned_abs number))
+minus_sign (pos zero) = (λ h. refl, λ e. omega (arith, ints))
+minus_sign (pos (suc n)) = (λ h. absurd (omega (arith, ints)), λ e. (cc))
+minus_sign (negsuc n) = (λ h. refl, λ e. omega (arith, ints))
+
+-- a number that isn't below 0 needs none
+pub plus_sign : (number : ℤ) → (pos 0 ≤ℤ number) ↔ (number ≡ signed false (unsigned_abs number))
+plus_sign (pos n) = (λ h. refl, λ e. omega (arith, ints))
+plus_sign (negsuc n) = (λ h. absurd (omega (arith, ints)), λ e. (cc))
+
+pub ruleset signs = (minus_sign, plus_sign)
+
+-- a sign is an optional sign
+pub sign_spelling : (sign : List ℕ) (negative : Bool) → IsSignOf sign negative → IsOptionalSign sign
+sign_spelling sign true e = inr (45, refl, e)
+sign_spelling sign false (inl e) = inl e
+sign_spelling sign false (inr e) = inr (43, refl, e)
+
+-- an optional sign is a sign
+pub spelling_sign : (sign : List ℕ) → IsOptionalSign sign → (negative : Bool) × IsSignOf sign negative
+spelling_sign sign (inl e) = (false, inl e)
+spelling_sign sign (inr w) = elim (or_cases (w.0 == 43) (w.0 == 45) w.1) [
+  | inl f ↦ (false, inr (w.2 ∙ ap (λ (b : ℕ). b ∷ []) (eqb-true w.0 43 f)))
+  | inr f ↦ (true, w.2 ∙ ap (λ (b : ℕ). b ∷ []) (eqb-true w.0 45 f))
+]
+
+-- each integer has a number
+pub integer_has_number : (text : List ℕ) → IsInteger text → (n : ℤ) × IsIntegerOf text n
+integer_has_number text w =
+    let s = spelling_sign w.sign w.is_sign in
+    let spelled : IsSigned text s.0 w.digits = record { sign = w.sign; is_sign = s.1; are_digits = (w.are_digits, w.some); parts = w.parts } in
+    (signed s.0 (value_of w.digits), record { negative = s.0; digits = w.digits; spelled = spelled; value = refl })
+
+-- what has a number is an integer
+pub number_spelling : (text : List ℕ) (n : ℤ) → IsIntegerOf text n → IsInteger text
+number_spelling text n w =
+    let s = w.spelled in
+    record { sign = s.sign; digits = w.digits; is_sign = sign_spelling s.sign w.negative s.is_sign; are_digits = s.are_digits.0; some = s.are_digits.1; parts = s.parts }
+
+-- an integer denotes its number
+pub integer_denotes : (text : List ℕ) (n : ℤ) → IsIntegerOf text n → Denotes text n
+integer_denotes text n w =
+    let s = w.spelled in
+    let some : 0 < length w.digits + 0 = let h = s.are_digits.1 in omega arith in
+    let parts : text ≡ s.sign ++ w.digits ++ [] ++ [] = s.parts ∙ (sym (append-nil (s.sign ++ w.digits)) ∙ sym (append-nil (s.sign ++ w.digits ++ []))) in
+    let spelled : IsDecimal text w.negative w.digits [] (pos 0) =
+    record { sign = s.sign; point = []; exponent = []; is_sign = s.is_sign; are_front = s.are_digits.0; are_back = refl; some = some; is_point = inr (refl, refl); is_power = refl; parts = parts } in
+    record { negative = w.negative; front = w.digits; back = []; power = pos 0; size = value_of w.digits; spelled = spelled; exact = ap (λ (ds : List ℕ). value_of ds * 10 ^ 0) (append-nil w.digits); value = w.value }
+
+-- what has a power is an exponent or nothing
+pub power_spelling : (text : List ℕ) (power : ℤ) → IsPowerOf text power → (text ≡ []) ⊎ IsExponent text
+power_spelling [] power w = inl refl
+power_spelling (letter ∷ text) power w = inr (record { letter = letter; power = text; is_letter = w.0; is_power = number_spelling text power w.1; parts = refl })
+
+-- only an integer or a real denotes a number
+pub denotes_spelling : (text : List ℕ) (n : ℤ) → Denotes text n → IsNumber text
+denotes_spelling text n w =
+    let d = w.spelled in
+    let sign = sign_spelling d.sign w.negative d.is_sign in
+    elim d.is_point [
+      | inl e ↦
+          let pointed : IsPointed (w.front ++ d.point) = record { front = w.front; back = w.back; are_front = d.are_front; are_back = d.are_back; some = d.some; parts = ap (λ (z : List ℕ). w.front ++ z) e } in
+          inr (record { sign = d.sign; digits = w.front ++ d.point; exponent = d.exponent; is_sign = sign; parts = d.parts ∙ ap (λ (z : List ℕ). z ++ d.exponent) (append_assoc d.sign w.front d.point); form = inl (pointed, power_spelling d.exponent w.power d.is_power) })
+      | inr e ↦
+          let none : length w.back ≡ 0 = ap length e.1 in
+          let digits : AreSomeDigits w.front = (d.are_front, let h = d.some in omega arith) in
+          let front : text ≡ d.sign ++ w.front ++ d.exponent = d.parts ∙ (ap (λ (z : List ℕ). d.sign ++ w.front ++ z ++ d.exponent) e.0 ∙ ap (λ (z : List ℕ). z ++ d.exponent) (append-nil (d.sign ++ w.front))) in
+          elim (power_spelling d.exponent w.power d.is_power) [
+            | inl f ↦ inl (record { sign = d.sign; digits = w.front; is_sign = sign; are_digits = digits.0; some = digits.1; parts = front ∙ (ap (λ (z : List ℕ). d.sign ++ w.front ++ z) f ∙ append-nil (d.sign ++ w.front)) })
+            | inr f ↦ inr (record { sign = d.sign; digits = w.front; exponent = d.exponent; is_sign = sign; parts = front; form = inr (digits, f) })
+          ]
+    ]

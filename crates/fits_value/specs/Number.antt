@@ -1,5 +1,5 @@
 -- The numbers that integers and reals denote, by digits and decimal exponent (FITS Standard 4.0, sections 4.2.3 and 4.2.4).
-use Rattle.std.specs.Prelude.{◌≡◌, ◌⊎◌, Bool, true, false, ℕ, zero, suc, ◌<◌, ◌+◌, ◌*◌, ◌-◌, ◌^◌, ℤ, pos, negsuc, neg_ℤ, IsTrue, List, [], ◌∷◌, ◌++◌, length}
+use Rattle.std.specs.Prelude.{◌≡◌, ◌⊎◌, Bool, true, false, ℕ, suc, ◌<◌, ◌+◌, ◌*◌, ◌-◌, ◌^◌, ℤ, pos, negsuc, neg_ℤ, IsTrue, List, [], ◌∷◌, ◌++◌, length}
 use Rattle.std.specs.List.{fold}
 use Rattle.fits_value.specs.Spelling.{IsDigits, AreSomeDigits, is_exponent_letter}
 
@@ -53,16 +53,21 @@ pub record IsDecimal (text : List ℕ) (negative : Bool) (front back : List ℕ)
   pub is_power : IsPowerOf exponent power
   pub parts : text ≡ sign ++ front ++ point ++ exponent
 
--- how far a power of ten raises a number, and how far it lowers it
+-- how far a power of ten raises a number
 abbrev pub raised : ℤ → ℕ
 raised (pos n) = n
 raised (negsuc n) = 0
 
+-- how far it lowers a number
 abbrev pub lowered : ℤ → ℕ
 lowered (pos n) = 0
 lowered (negsuc n) = suc n
 
--- the text is an integer or a real, and by its digits and its exponent it is exactly this number (4.2.3, 4.2.4)
+-- these digits, with a point between them, times a power of ten are exactly this number
+abbrev pub IsExactly : List ℕ → List ℕ → ℤ → ℕ → Type 0
+IsExactly front back power number = value_of (front ++ back) * 10 ^ raised power ≡ number * 10 ^ (length back + lowered power)
+
+-- the text is an integer or a real that denotes exactly this number (4.2.3, 4.2.4)
 pub record Denotes (text : List ℕ) (number : ℤ) : Type 0 where
   pub negative : Bool
   pub front : List ℕ
@@ -70,5 +75,5 @@ pub record Denotes (text : List ℕ) (number : ℤ) : Type 0 where
   pub power : ℤ
   pub size : ℕ
   pub spelled : IsDecimal text negative front back power
-  pub exact : value_of (front ++ back) * 10 ^ raised power ≡ size * 10 ^ (length back + lowered power)
+  pub exact : IsExactly front back power size
   pub value : number ≡ signed negative size

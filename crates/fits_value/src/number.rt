@@ -1,11 +1,16 @@
 //! The numbers that integers and reals denote, by digits and decimal exponent.
-ghost use Rattle.std.specs.Prelude.{◌≡◌, ◌≤◌, ◌<◌, ◌+◌, ◌*◌, ◌^◌, ◌++◌, ◌↔◌, Bool, ℕ, ℤ, List, IsTrue, IfSome, IfNone, IsSomeAnd, FitsSigned, unsigned_abs, length};
+ghost use Rattle.std.specs.Prelude.{◌≡◌, ◌≤◌, ◌<◌, ◌+◌, ◌*◌, ◌^◌, ◌++◌, ◌↔◌, Bool, ℕ, ℤ, List, IsTrue, IfSome, IfNone, IsSomeAnd, SomeIff, FitsSigned, unsigned_abs, length};
+ghost use Rattle.std.specs.Int.{w64};
 ghost use Rattle.std.specs.List.{fold, list_all, prefix_len, take_while};
 ghost use Rattle.fits_value.specs.Spelling.{is_digit, IsDigits, AreSomeDigits};
-ghost use Rattle.fits_value.specs.Number.{with_digit, value_of, signed, IsSigned, IsIntegerOf, IsPowerOf, IsDecimal, raised, lowered, Denotes};
+ghost use Rattle.fits_value.specs.Number.{with_digit, value_of, signed, IsSigned, IsIntegerOf, IsPowerOf, IsDecimal, IsExactly, Denotes};
 ghost use Rattle.fits_value.specs.NumberSteps.{is_minus, after_sign, after_digits, fraction_of, after_fraction};
 
+/// How many digits a number of 127 bits has at most.
+const MOST_DIGITS: u128 = 39;
+
 /// The parts of an integer or a real: its digits before and behind the point, and those of its exponent.
+#[derive(Clone, Copy)]
 struct Decimal<'a> {
     is_negative: bool,
     front: &'a [u8],
@@ -158,6 +163,16 @@ fn are_zeros(digits: &[u8]) -> bool
     true
 }
 
+/// Whether each digit of both parts is a zero.
+#[tactic(auto, using(crate::proofs::DigitLemmas::by_all_zeros))]
+fn are_both_zeros(front: &[u8], back: &[u8]) -> bool
+    requires front { IsDigits front.now }
+    requires back { IsDigits back.now }
+    ensures { IsTrue result ↔ (value_of (front.now ++ back.now) ≡ 0) }
+{
+    are_zeros(front) && are_zeros(back)
+}
+
 /// The number without this many zeros at its end.
 fn without_zeros(number: u128, zeros: usize) -> Option<u128>
     ensures value { IfSome result (λ m. m * 10 ^ zeros ≡ number) }
@@ -172,4 +187,119 @@ fn without_zeros(number: u128, zeros: usize) -> Option<u128>
         rest /= 10;
     }
     Some(rest)
+}
+
+/// Whether the digits of both parts, one after the other, stand for this number.
+#[tactic(auto, using(crate::proofs::DigitLemmas::joined_values))]
+fn stand_for(front: &[u8], back: &[u8], number: u128) -> bool
+    requires small { number ≤ 2 ^ 127 }
+    requires front { IsDigits front.now }
+    requires back { IsDigits back.now }
+    ensures { IsTrue result ↔ (value_of (front.now ++ back.now) ≡ number) }
+{
+    let Some(start) = append_digits(0, front, number) else {
+        return false;
+    };
+    match append_digits(start, back, number) {
+        Some(found) => found == number,
+        None => false,
+    }
+}
+
+/// Whether digits with a point among them are this number once the exponent moves the point to the left.
+fn equal_lowered(front: &[u8], back: &[u8], exponent: &[u8], number: u128) -> bool
+    requires some { 0 < number }
+    requires small { number ≤ 2 ^ 127 }
+    requires front { IsDigits front.now }
+    requires back { IsDigits back.now }
+    requires exponent { IsDigits exponent.now }
+    ensures { IsTrue result ↔ (value_of (front.now ++ back.now) ≡ number * 10 ^ (length back.now + value_of exponent.now)) }
+{
+    let Some(places) = append_digits(0, exponent, front.len() as u128) else {
+        return false;
+    };
+    let (whole, behind) = front.split_at(front.len() - places as usize);
+    are_both_zeros(behind, back) && stand_for(whole, &[], number)
+}
+
+/// Whether digits with a point among them are this number once the exponent moves the point to the right.
+fn equal_raised(front: &[u8], back: &[u8], exponent: &[u8], number: u128) -> bool
+    requires some { 0 < number }
+    requires small { number ≤ 2 ^ 127 }
+    requires front { IsDigits front.now }
+    requires back { IsDigits back.now }
+    requires exponent { IsDigits exponent.now }
+    ensures { IsTrue result ↔ (value_of (front.now ++ back.now) * 10 ^ value_of exponent.now ≡ number * 10 ^ length back.now) }
+{
+    let Some(places) = append_digits(0, exponent, back.len() as u128 + MOST_DIGITS) else {
+        return false;
+    };
+    let places = places as usize;
+    if places < back.len() {
+        let (whole, behind) = back.split_at(places);
+        return are_zeros(behind) && stand_for(front, whole, number);
+    }
+    match without_zeros(number, places - back.len()) {
+        Some(rest) => stand_for(front, back, rest),
+        None => false,
+    }
+}
+
+/// Whether the decimal without its sign is this number.
+fn equals(decimal: &Decimal<'_>, number: u128) -> bool
+    requires small { number ≤ 2 ^ 127 }
+    requires front { IsDigits decimal.now.front.now }
+    requires back { IsDigits decimal.now.back.now }
+    requires exponent { IsDigits decimal.now.exponent.now }
+    ensures { IsTrue result ↔ IsExactly decimal.now.front.now decimal.now.back.now (signed decimal.now.is_lowered (value_of decimal.now.exponent.now)) number }
+{
+    if number == 0 {
+        are_both_zeros(decimal.front, decimal.back)
+    } else if decimal.is_lowered {
+        equal_lowered(decimal.front, decimal.back, decimal.exponent, number)
+    } else {
+        equal_raised(decimal.front, decimal.back, decimal.exponent, number)
+    }
+}
+
+/// Whether the number may stand behind a minus sign, or behind none.
+#[tactic(auto, using(crate::proofs::NumberLemmas::signs))]
+fn has_sign(number: i128, is_negative: bool) -> bool
+    ensures { IsTrue result ↔ (number ≡ signed is_negative (unsigned_abs number)) }
+{
+    if is_negative {
+        number <= 0
+    } else {
+        number >= 0
+    }
+}
+
+/// Whether the text is an integer or a real that denotes exactly this number.
+pub fn denotes(text: &[u8], number: i128) -> bool
+    ensures { IsTrue result ↔ Denotes text.now number }
+{
+    let size = number.unsigned_abs();
+    match split_decimal(text) {
+        Some(decimal) => has_sign(number, decimal.is_negative) && equals(&decimal, size),
+        None => false,
+    }
+}
+
+/// The number of this size and sign, where it fits.
+fn with_sign(is_negative: bool, size: u128) -> Option<i64>
+    requires { size ≤ 2 ^ 63 }
+    ensures { SomeIff result (FitsSigned w64 (signed is_negative size)) (signed is_negative size) }
+{
+    let size = size as i128;
+    i64::try_from(if is_negative { -size } else { size }).ok()
+}
+
+/// The number of an integer, where it fits.
+pub fn integer_of(text: &[u8]) -> Option<i64>
+    ensures value { IfSome result (λ number. IsIntegerOf text.now number) }
+    ensures only { (number : ℤ) → IsIntegerOf text.now number → FitsSigned w64 number → result ≡ Some number }
+{
+    let (is_negative, digits) = split_integer(text)?;
+    let size = append_digits(0, digits, 1 << 63)?;
+    with_sign(is_negative, size)
 }

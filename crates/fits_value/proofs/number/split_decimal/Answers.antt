@@ -1,4 +1,4 @@
-use Rattle.std.proofs.Common.{arith, rules}
+use Rattle.std.proofs.Common.{rules}
 use Rattle.fits_value.proofs.NumberLemmas.{decimal_empty, decimal_missed, none_map}
 use Rattle.fits_value.proofs.number.split_decimal.Goals as goal
 

@@ -1,4 +1,4 @@
-use Rattle.std.proofs.Common.{◌≡◌, ◌∙◌, sym, ap, arith, Bool, List, ℕ, drop, true, false}
+use Rattle.std.proofs.Common.{◌∙◌, sym, ap, arith, Bool, List, ℕ}
 use Rattle.fits_value.specs.Number.{value_of, signed}
 use Rattle.fits_value.proofs.NumberLemmas.{power_tail, some_map}
 use Rattle.fits_value.proofs.number.split_exponent.Goals as goal
