@@ -303,3 +303,6 @@ pub fn integer_of(text: &[u8]) -> Option<i64>
     let size = append_digits(0, digits, 1 << 63)?;
     with_sign(is_negative, size)
 }
+
+#[cfg(test)]
+mod tests;
