@@ -9,7 +9,7 @@ use Rattle.fits_card.specs.Stream.{TakesUpTo}
 use Rattle.fits_card.proofs.StreamLemmas.{Appends-none}
 use Rattle.fits_cli.specs.File.{file_bytes}
 use Rattle.fits_cli.specs.Limits.{file_limit, script_limit}
-use Rattle.fits_cli.specs.Opening.{IsOpened, OpenFails, file_of_header}
+use Rattle.fits_cli.specs.Opening.{IsOpened, OpenFails, HasOpenFault, file_of_header}
 use Rattle.fits_cli.specs.Script.{script_lines}
 use Rattle.fits_cli.specs.Answer.{Standing}
 use Rattle.fits_cli.specs.Output.{Output, IsOutputOf, IsRun, FaultSays, output_unopened, output_of_lines, output_too_long, at_first_line, standing_after, status_of}
@@ -34,7 +34,7 @@ too_large (Some xs) bytes t = t.1.0 refl
 
 pub OpenEnds-whole : (file : Option (List ℕ)) (bytes : List ℕ) (why : Fault) (a_read_failed : Type 0) → TakesUpTo file file_limit bytes false → OpenFails bytes why → OpenEnds file a_read_failed why
 OpenEnds-whole None bytes (Refused why) failed t p = tt
-OpenEnds-whole (Some xs) bytes (Refused why) failed t p = let P : List ℕ → Type 0 = λ b. OpenFails b (Refused why) in subst P (whole xs bytes file_limit t) p
+OpenEnds-whole (Some xs) bytes (Refused why) failed t p = let P : List ℕ → Type 0 = λ b. HasOpenFault b (Refused why) in subst P (whole xs bytes file_limit t) p
 OpenEnds-whole None bytes NotYet failed t p = tt
 OpenEnds-whole (Some xs) bytes NotYet failed t p = rw (whole xs bytes file_limit t) at p
 OpenEnds-whole file bytes ScriptTooLong failed t p = absurd p
@@ -45,7 +45,7 @@ OpenEnds-whole file bytes WriteFailed failed t p = absurd p
 pub ruleset open_steps = (opened_whole, too_large, OpenEnds-whole)
 
 -- a file that doesn't open: nothing is printed or saved
-run_unopened : (file script printed saved : Option (List ℕ)) (why : Fault) → IfSome file (λ f. OpenFails f why) → IsRun file script printed printed saved saved 2 (Some why)
+run_unopened : (file script printed saved : Option (List ℕ)) (why : Fault) → IfSome file (λ f. HasOpenFault f why) → IsRun file script printed printed saved saved 2 (Some why)
 run_unopened None script printed saved why p = tt
 run_unopened (Some f) None printed saved why p = tt
 run_unopened (Some f) (Some s) printed saved why p = λ read reads. (output_unopened why, inl (why, p, refl), Appends-none printed, Appends-none saved, refl, refl)

@@ -52,11 +52,20 @@ pub record IsLaterFile (bytes : List ℕ) : Type 0 where
   pub other : (rest ≢ []) ⊎ (is_plain_primary header.cards ≡ false)
 
 -- why the bytes don't open: their length before all else, then their first bytes, then the header, then the rest
+abbrev pub HasOpenFault : List ℕ → Fault → Type 0
+HasOpenFault bytes (Refused TooLarge) = file_limit < length bytes
+HasOpenFault bytes (Refused NotFits) = (length bytes ≤ file_limit) × (BeginsAsFits bytes → ⊥)
+HasOpenFault bytes (Refused (NoEnd hdu)) = (length bytes ≤ file_limit) × BeginsAsFits bytes × HasNoHeader bytes × (hdu ≡ 1)
+HasOpenFault bytes NotYet = (length bytes ≤ file_limit) × BeginsAsFits bytes × IsLaterFile bytes
+HasOpenFault bytes ScriptTooLong = ⊥
+HasOpenFault bytes Memory = ⊥
+HasOpenFault bytes ReadFailed = ⊥
+HasOpenFault bytes WriteFailed = ⊥
+
+-- opening these bytes may end so: by their fault, or by want of memory
 abbrev pub OpenFails : List ℕ → Fault → Type 0
-OpenFails bytes (Refused TooLarge) = file_limit < length bytes
-OpenFails bytes (Refused NotFits) = (length bytes ≤ file_limit) × (BeginsAsFits bytes → ⊥)
-OpenFails bytes (Refused (NoEnd hdu)) = (length bytes ≤ file_limit) × BeginsAsFits bytes × HasNoHeader bytes × (hdu ≡ 1)
-OpenFails bytes NotYet = (length bytes ≤ file_limit) × BeginsAsFits bytes × IsLaterFile bytes
+OpenFails bytes (Refused why) = HasOpenFault bytes (Refused why)
+OpenFails bytes NotYet = HasOpenFault bytes NotYet
 OpenFails bytes ScriptTooLong = ⊥
 OpenFails bytes Memory = Unit {0}
 OpenFails bytes ReadFailed = ⊥

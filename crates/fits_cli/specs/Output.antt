@@ -6,7 +6,7 @@ use Rattle.fits_cli.specs.File.{FileParts, file_bytes}
 use Rattle.fits_cli.specs.Limits.{script_limit}
 use Rattle.fits_cli.specs.declared.line.LineReading.{LineReading}
 use Rattle.fits_cli.specs.Line.{ReadsLines}
-use Rattle.fits_cli.specs.Opening.{IsOpened, OpenFails, file_of_header}
+use Rattle.fits_cli.specs.Opening.{IsOpened, HasOpenFault, file_of_header}
 use Rattle.fits_cli.specs.Script.{IsCutInLines, script_lines}
 use Rattle.fits_cli.specs.Answer.{Standing, line_answer, line_left}
 use Rattle.fits_cli.specs.declared.fault.Fault.{Fault}
@@ -57,7 +57,7 @@ output_too_long file lines = record { text = answers (at_first_line file) lines;
 -- the output of a file and a script, the lines being read by `read`
 abbrev pub IsOutputOf : (List ℕ → LineReading) → List ℕ → List ℕ → Output → Type 0
 IsOutputOf read file script output =
-    ((why : Fault) × OpenFails file why × (output ≡ output_unopened why))
+    ((why : Fault) × HasOpenFault file why × (output ≡ output_unopened why))
     ⊎ ((header : Header) × (lines : List (List ℕ)) × (last : List ℕ) × IsOpened file header × IsCutInLines (take script_limit script) lines last
     × (output ≡ (if nat_le (length script) script_limit
         then output_of_lines (file_of_header header) (map read (script_lines lines last))

@@ -3,7 +3,7 @@ use Rattle.std.specs.Prelude.{◌≡◌, ℕ, ◌<◌, ◌≤◌, List, ◌++◌
 use Rattle.std.specs.Io.KnownBytes.{Appends}
 use Rattle.fits_cli.specs.Limits.{script_limit}
 use Rattle.fits_cli.specs.Line.{ReadsLines}
-use Rattle.fits_cli.specs.Opening.{OpenFails}
+use Rattle.fits_cli.specs.Opening.{HasOpenFault}
 use Rattle.fits_cli.specs.declared.fault.Fault.{Fault}
 use Rattle.fits_cli.specs.declared.fault.Fault.TheVariants.{Refused, NotYet, ScriptTooLong, Memory, ReadFailed, WriteFailed}
 use Rattle.fits_cli.specs.Script.{IsCutInLines, script_lines}
@@ -61,8 +61,8 @@ script_fault_of AnswerWriteFailed = ScriptWriteFailed
 
 -- why a file wasn't opened: its bytes don't open, or memory was refused, or a read failed
 abbrev pub OpenEnds : Option (List ℕ) → Type 0 → Fault → Type 0
-OpenEnds file a_read_failed (Refused why) = IfSome file (λ bytes. OpenFails bytes (Refused why))
-OpenEnds file a_read_failed NotYet = IfSome file (λ bytes. OpenFails bytes NotYet)
+OpenEnds file a_read_failed (Refused why) = IfSome file (λ bytes. HasOpenFault bytes (Refused why))
+OpenEnds file a_read_failed NotYet = IfSome file (λ bytes. HasOpenFault bytes NotYet)
 OpenEnds file a_read_failed ScriptTooLong = ⊥
 OpenEnds file a_read_failed Memory = Unit {0}
 OpenEnds file a_read_failed ReadFailed = a_read_failed

@@ -6,6 +6,8 @@ pub mod command;
 pub mod editing;
 pub mod end;
 pub mod fault;
+pub mod laws;
+pub mod lazy_file;
 pub mod line;
 mod plain_file;
 pub mod refusal;

@@ -1,0 +1,44 @@
+use std::fs;
+use std::io;
+use std::io::Write;
+use std::rt::Files;
+
+/// A file that is created at the first write of some bytes.
+#[derive(Drop)]
+pub struct LazyFile<'a, R: Files> {
+    rt: &'a R,
+    path: &'a str,
+    file: Option<R::File>,
+}
+
+impl<'a, R: Files> LazyFile<'a, R> {
+    pub fn new(rt: &'a R, path: &'a str) -> LazyFile<'a, R> {
+        LazyFile {
+            rt,
+            path,
+            file: None,
+        }
+    }
+}
+
+impl<R: Files> Write for LazyFile<'_, R> {
+    fn write(&mut self, piece: &[u8]) -> io::Result<usize> {
+        if piece.is_empty() {
+            return Ok(0);
+        }
+        if self.file.is_none() {
+            self.file = Some(fs::create(self.rt, self.path)?);
+        }
+        match &mut self.file {
+            Some(file) => file.write(piece),
+            None => Ok(0),
+        }
+    }
+
+    fn flush(&mut self) -> io::Result<()> {
+        match &mut self.file {
+            Some(file) => file.flush(),
+            None => Ok(()),
+        }
+    }
+}

@@ -1,0 +1,96 @@
+//! The program `fitsed`: words to a run, and its end to a status.
+#![tactic(auto)]
+
+mod arguments;
+
+use arguments::{Task, command, task_of};
+use clap::Error;
+use clap::error::ErrorKind;
+use fits_card::watched::Watched;
+use fits_cli::editing::run_edit;
+use fits_cli::end::End;
+use fits_cli::fault::Fault;
+use fits_cli::lazy_file::LazyFile;
+use std::alloc::AllocError;
+use std::io::BufWriter;
+use std::process::ExitCode;
+use std::rt::Files;
+use std::{env, fs, io};
+
+fn main(rt: HostRuntime) -> ExitCode {
+    let args = match env::args(&rt) {
+        Ok(args) => args,
+        Err(error) => return ExitCode::from(unreadable(&rt, error)),
+    };
+    let Ok(words): Result<Vec<String>, AllocError> = args.collect(rt.alloc()) else {
+        return ExitCode::from(told(&rt, Fault::Memory));
+    };
+    let Ok(command) = command(rt.alloc()) else {
+        return ExitCode::from(told(&rt, Fault::Memory));
+    };
+    let matches = match command.try_get_matches_from(words.as_slice()) {
+        Ok(matches) => matches,
+        Err(error) => return ExitCode::from(usage(&rt, error)),
+    };
+    let Some(Task::Edit { from, to }) = task_of(&matches) else {
+        return ExitCode::from(2);
+    };
+    let end = edit(&rt, from, to);
+    if let Some(fault) = end.fault {
+        let _ = eprintln!(rt; "{fault}");
+    }
+    ExitCode::from(end.status)
+}
+
+// Runs `edit` over the file at `from` and standard input.
+fn edit<R: Files + Input + Print + AllocGlobal>(rt: &R, from: &str, to: &str) -> End {
+    let Ok(file) = fs::open(rt, from) else {
+        return failed(Fault::ReadFailed);
+    };
+    let Ok(out) = BufWriter::new(rt.alloc(), io::writer(rt)) else {
+        return failed(Fault::Memory);
+    };
+    let Ok(saved) = BufWriter::new(rt.alloc(), LazyFile::new(rt, to)) else {
+        return failed(Fault::Memory);
+    };
+    run_edit(
+        rt.alloc(),
+        &mut Watched::new(file),
+        &mut Watched::new(rt.reader()),
+        &mut Watched::new(saved),
+        &mut Watched::new(out),
+    )
+}
+
+fn failed(fault: Fault) -> End {
+    End {
+        status: fault.status(),
+        fault: Some(fault),
+    }
+}
+
+// Tells a fault on standard error.
+fn told<R: Eprint>(rt: &R, fault: Fault) -> u8 {
+    let _ = eprintln!(rt; "{fault}");
+    fault.status()
+}
+
+// Help goes to standard output and ends with 0, a usage fault to standard error.
+fn usage<R: Print + Eprint>(rt: &R, error: Error) -> u8 {
+    if error.kind() == ErrorKind::OutOfMemory {
+        return told(rt, Fault::Memory);
+    }
+    if error.print(rt).is_err() {
+        return told(rt, Fault::WriteFailed);
+    }
+    if error.use_stderr() { 2 } else { 0 }
+}
+
+// An argument that isn't UTF-8, which clap doesn't take.
+fn unreadable<R: Eprint>(rt: &R, error: io::Error) -> u8 {
+    if error.kind() == io::ErrorKind::OutOfMemory {
+        return told(rt, Fault::Memory);
+    }
+    let _ = eprintln!(rt; "fitsed: an argument is not UTF-8");
+    2
+}
