@@ -13,3 +13,5 @@ mod plain_file;
 pub mod refusal;
 mod runner;
 mod script;
+#[cfg(test)]
+mod tests;
