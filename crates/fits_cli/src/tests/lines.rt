@@ -53,8 +53,14 @@ fn a_line_of_a_form_says_its_command(rt: HostRuntime) {
         (b"ins 1 4 ins 1 4", inserts(1, 4, Card::padded(b"ins 1 4"))),
     ];
     for (line, command) in table {
-        assert_eq!(rt; parse_line(line), Ok(command));
-        assert_eq!(rt; read_line(line), LineReading::Said(command));
+        match parse_line(line) {
+            Ok(parsed) => assert_eq!(rt; parsed, command),
+            Err(_) => panic!(rt; "no command"),
+        }
+        match read_line(line) {
+            LineReading::Said(said) => assert_eq!(rt; said, command),
+            LineReading::TooLong | LineReading::NoCommand => panic!(rt; "not said"),
+        }
     }
 }
 
