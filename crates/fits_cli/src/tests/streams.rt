@@ -1,7 +1,7 @@
 use super::{BITPIX, NAXIS, Plan, SIMPLE, SMOOTH, header, p0, reader, writer};
 use crate::editing::run_edit;
 use crate::end::End;
-use crate::fault::Fault;
+use crate::fault::{Fault, OpenFault};
 use std::process::Abort;
 use std::test::Fail;
 
@@ -266,5 +266,24 @@ fn a_file_that_fails_is_not_opened(rt: HostRuntime) -> Result<(), Fail> {
         plans.file = after(count);
         stands_before(&rt, plans, Fault::ReadFailed, b"", b"")?;
     }
+    Ok(())
+}
+
+#[test]
+fn a_script_is_unread_where_the_file_does_not_open(rt: HostRuntime) -> Result<(), Fail> {
+    let alloc = rt.alloc();
+    let mut script = reader(SCRIPT, after(0));
+    let mut saved = writer(alloc, SMOOTH)?;
+    let mut out = writer(alloc, SMOOTH)?;
+    let mut file = reader(b"SIMPLE", SMOOTH);
+    let end = run_edit(alloc, &mut file, &mut script, &mut saved, &mut out);
+    let refused = End {
+        status: 2,
+        fault: Some(Fault::Refused(OpenFault::NotFits)),
+    };
+    assert_eq!(rt; end, refused);
+    assert_eq!(rt; script.into_inner().calls, 0);
+    assert!(rt; out.into_inner().bytes.is_empty());
+    assert_eq!(rt; saved.into_inner().calls, 0);
     Ok(())
 }
