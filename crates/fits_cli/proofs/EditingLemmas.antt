@@ -78,8 +78,7 @@ run_too_long None script held holds printed saved header now opened answered kep
 run_too_long (Some f) None held holds printed saved header now opened answered kept = tt
 run_too_long (Some f) (Some s) held holds printed saved header now opened answered kept = λ read reads.
     let has = answered.2 in
-    let lines = map read has.lines in
-    (
+    let lines = map read has.lines in (
       output_too_long (file_of_header header) lines,
       inr (header, has.lines, answered.1, opened, has.cut, choice-false (length s) script_limit _ _ answered.0),
       Appends-kept held holds printed _ (has.answered.told read reads) kept,
@@ -99,8 +98,7 @@ run_done (Some f) (Some s) held holds printed saved saves kept header last_heade
     let lines = map read (script_lines answered.1 answered.2) in
     let last : Standing = record { file = file_of_header last_header; line = number; any_refused = any_refused } in
     let left : last ≡ standing_after (at_first_line (file_of_header header)) lines = answered.4.left read reads in
-    let bytes : header_bytes last_header ≡ file_bytes (standing_after (at_first_line (file_of_header header)) lines).file = sym (file_bytes-plain last_header) ∙ ap (λ (t : Standing). file_bytes t.file) left in
-    (
+    let bytes : header_bytes last_header ≡ file_bytes (standing_after (at_first_line (file_of_header header)) lines).file = sym (file_bytes-plain last_header) ∙ ap (λ (t : Standing). file_bytes t.file) left in (
       output_of_lines (file_of_header header) lines,
       inr (header, answered.1, answered.2, opened, rw (← take_all script_limit s answered.0) at answered.3, choice-true (length s) script_limit _ _ answered.0),
       Appends-kept held holds printed _ (answered.4.told read reads) flushed,

@@ -97,8 +97,7 @@ insert_same line h i p q c d is js =
     let one : is.behind_ins ≡ js.behind_ins = ap (λ o. unwrap_or o []) first.1 in
     let second = one_word is.behind_ins is.hdu_word js.hdu_word (Some is.behind_hdu) (Some js.behind_hdu) is.first (rw one js.first) in
     let two : is.behind_hdu ≡ js.behind_hdu = ap (λ o. unwrap_or o []) second.1 in
-    let third = one_word is.behind_hdu is.place_word js.place_word is.text js.text is.second (rw two js.second) in
-    (
+    let third = one_word is.behind_hdu is.place_word js.place_word is.text js.text is.second (rw two js.second) in (
       is.is_hdu.value ∙ ap number_of second.0 ∙ sym js.is_hdu.value,
       is.is_place.value ∙ ap number_of third.0 ∙ sym js.is_place.value,
       is.is_card ∙ ap (λ t. card_of_text (unwrap_or t [])) third.1 ∙ sym js.is_card,

@@ -75,10 +75,25 @@ third_word line behind_ins hdu_word behind_hdu a b cut =
       | inl h ↦ elim (a_number cut.word) [
         | inl p ↦ elim (cases_lt 80 (length (unwrap_or cut.rest []))) [
           | inl long ↦ inr (λ i q d is. omega (arith, long, (insert_words line (codes "ins") hdu_word cut.word behind_ins behind_hdu cut.rest a b cut.begins i q d is).3))
-          | inr short ↦ inl (h.0, p.0, card_of_text (unwrap_or cut.rest []), record {
-            behind_ins = behind_ins; hdu_word = hdu_word; behind_hdu = behind_hdu; place_word = cut.word; text = cut.rest;
-            ins = a; first = b; second = cut.begins; is_hdu = h.1; is_place = p.1; short = short; is_card = refl;
-          })
+          | inr short ↦ inl (
+            h.0,
+            p.0,
+            card_of_text (unwrap_or cut.rest []),
+            record {
+              behind_ins = behind_ins;
+              hdu_word = hdu_word;
+              behind_hdu = behind_hdu;
+              place_word = cut.word;
+              text = cut.rest;
+              ins = a;
+              first = b;
+              second = cut.begins;
+              is_hdu = h.1;
+              is_place = p.1;
+              short = short;
+              is_card = refl;
+            },
+          )
         ]
         | inr other ↦ inr (λ i q d is. other q (insert_words line (codes "ins") hdu_word cut.word behind_ins behind_hdu cut.rest a b cut.begins i q d is).2)
       ]
@@ -113,11 +128,11 @@ short_reading line short nothing =
         ]
       ]
     ]
-    where
-      none : (line : List ℕ) (c : Command) → (Says line Nothing → ⊥) → (line ≡ codes "off" → ⊥) → ((h p : ℕ) (d : List ℕ) → IsInsert line h p d → ⊥) → Says line c → ⊥
-      none line Nothing a b d says = a says
-      none line (Insert h p c) a b d says = d h p c says
-      none line Offsets a b d says = b says
+  where
+    none : (line : List ℕ) (c : Command) → (Says line Nothing → ⊥) → (line ≡ codes "off" → ⊥) → ((h p : ℕ) (d : List ℕ) → IsInsert line h p d → ⊥) → Says line c → ⊥
+    none line Nothing a b d says = a says
+    none line (Insert h p c) a b d says = d h p c says
+    none line Offsets a b d says = b says
 
 -- an empty line or a comment, or none
 nothing_or_not : (line : List ℕ) → (Says line Nothing) ⊎ (Says line Nothing → ⊥)

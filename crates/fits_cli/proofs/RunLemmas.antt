@@ -56,13 +56,13 @@ pub AnswersLines-more : (lines : List (List ℕ)) (line : List ℕ) (before now 
     → AnswersLines lines before now held holds → AnswersLine line now next holds more → AnswersLines (lines ++ line ∷ []) before next held more
 AnswersLines-more lines line before now next held holds more so_far one = record {
   told = λ read reads.
-  let text : answers before (map read (lines ++ line ∷ [])) ≡ answers before (map read lines) ++ line_answer now (read line) =
-  ap (answers before) (map-append read lines (line ∷ [])) ∙ answers-append before (map read lines) (read line ∷ [])
-  ∙ ap (λ t. answers before (map read lines) ++ t) (ap (λ s. answers s (read line ∷ [])) (sym (so_far.left read reads)) ∙ answers-one now (read line)) in
-  rw text (Appends-more held holds more (answers before (map read lines)) (line_answer now (read line)) (so_far.told read reads) (one read reads).0);
+      let text : answers before (map read (lines ++ line ∷ [])) ≡ answers before (map read lines) ++ line_answer now (read line) =
+      ap (answers before) (map-append read lines (line ∷ [])) ∙ answers-append before (map read lines) (read line ∷ [])
+      ∙ ap (λ t. answers before (map read lines) ++ t) (ap (λ s. answers s (read line ∷ [])) (sym (so_far.left read reads)) ∙ answers-one now (read line)) in
+      rw text (Appends-more held holds more (answers before (map read lines)) (line_answer now (read line)) (so_far.told read reads) (one read reads).0);
   left = λ read reads.
-  (one read reads).1 ∙ sym (ap (standing_after before) (map-append read lines (line ∷ [])) ∙ standing_after-append before (map read lines) (read line ∷ [])
-  ∙ ap (λ s. standing_after s (read line ∷ [])) (sym (so_far.left read reads)) ∙ standing_after-one now (read line));
+      (one read reads).1 ∙ sym (ap (standing_after before) (map-append read lines (line ∷ [])) ∙ standing_after-append before (map read lines) (read line ∷ [])
+      ∙ ap (λ s. standing_after s (read line ∷ [])) (sym (so_far.left read reads)) ∙ standing_after-one now (read line));
 }
 
 -- nothing has come yet

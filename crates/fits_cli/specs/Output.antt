@@ -60,8 +60,8 @@ IsOutputOf read file script output =
     ((why : Fault) × HasOpenFault file why × (output ≡ output_unopened why))
     ⊎ ((header : Header) × (lines : List (List ℕ)) × (last : List ℕ) × IsOpened file header × IsCutInLines (take script_limit script) lines last
     × (output ≡ (if nat_le (length script) script_limit
-        then output_of_lines (file_of_header header) (map read (script_lines lines last))
-        else output_too_long (file_of_header header) (map read lines))))
+    then output_of_lines (file_of_header header) (map read (script_lines lines last))
+    else output_too_long (file_of_header header) (map read lines))))
 
 -- where file and script tell their bytes, what was printed and saved, the status and the fault are those of their output
 abbrev pub IsRun : Option (List ℕ) → Option (List ℕ) → Option (List ℕ) → Option (List ℕ) → Option (List ℕ) → Option (List ℕ) → ℕ → Option Fault → Type 0

@@ -25,12 +25,10 @@ pub fn run_edit<F: Source, S: Source, P: Sink, O: Sink>(
     saved: &mut P,
     out: &mut O,
 ) -> End
-    ensures {
-        EndSays (IsRun (F.remaining file.old) (S.remaining script.old) (O.contents out.old) (O.contents out.new) (P.contents saved.old) (P.contents saved.new))
+    ensures { EndSays (IsRun (F.remaining file.old) (S.remaining script.old) (O.contents out.old) (O.contents out.new) (P.contents saved.old) (P.contents saved.new))
         ((F.failures file.old < F.failures file.new) ⊎ (S.failures script.old < S.failures script.new))
         ((O.failures out.old < O.failures out.new) ⊎ (P.failures saved.old < P.failures saved.new))
-        result.status result.fault
-    }
+        result.status result.fault }
 {
     match edit(alloc, file, script, saved, out) {
         Ok(any_refused) => End {
@@ -53,15 +51,11 @@ fn edit<F: Source, S: Source, P: Sink, O: Sink>(
     saved: &mut P,
     out: &mut O,
 ) -> Result<bool, Fault>
-    ensures ok {
-        IfOk result (λ any_refused. IsRun (F.remaining file.old) (S.remaining script.old) (O.contents out.old) (O.contents out.new) (P.contents saved.old) (P.contents saved.new)
-        (if any_refused then 1 else 0) None)
-    }
-    ensures err {
-        IfErr result (FaultSays (IsRun (F.remaining file.old) (S.remaining script.old) (O.contents out.old) (O.contents out.new) (P.contents saved.old) (P.contents saved.new))
+    ensures ok { IfOk result (λ any_refused. IsRun (F.remaining file.old) (S.remaining script.old) (O.contents out.old) (O.contents out.new) (P.contents saved.old) (P.contents saved.new)
+        (if any_refused then 1 else 0) None) }
+    ensures err { IfErr result (FaultSays (IsRun (F.remaining file.old) (S.remaining script.old) (O.contents out.old) (O.contents out.new) (P.contents saved.old) (P.contents saved.new))
         ((F.failures file.old < F.failures file.new) ⊎ (S.failures script.old < S.failures script.new))
-        ((O.failures out.old < O.failures out.new) ⊎ (P.failures saved.old < P.failures saved.new)))
-    }
+        ((O.failures out.old < O.failures out.new) ⊎ (P.failures saved.old < P.failures saved.new))) }
 {
     let file = match open_file(alloc, file) {
         Ok(file) => file,

@@ -1,7 +1,6 @@
-use std::fs;
-use std::io;
 use std::io::Write;
 use std::rt::Files;
+use std::{fs, io};
 
 /// A file that is created at the first write of some bytes.
 #[derive(Drop)]

@@ -1,3 +1,9 @@
+pub mod Chaining
+pub mod Field
+pub mod LongString
 pub mod Number
 pub mod NumberSteps
+pub mod Scan
 pub mod Spelling
+pub mod Text
+pub mod Value

@@ -1,7 +1,44 @@
 //! Laws of the definitions, each the contract of a function that does nothing.
-ghost use Rattle.std.specs.Prelude.{◌≡◌, ℕ, ℤ, List};
-ghost use Rattle.fits_value.specs.Spelling.{IsInteger, IsNumber};
+ghost use Rattle.std.specs.Prelude.{◌≡◌, ℕ, ℤ, List, Option};
+ghost use Rattle.fits_value.specs.Field.{FieldReadsAs, ReadsAs};
 ghost use Rattle.fits_value.specs.Number.{IsIntegerOf, Denotes};
+ghost use Rattle.fits_value.specs.Spelling.{IsInteger, IsNumber};
+ghost use Rattle.fits_value.specs.Value.{FieldSays, CardSays};
+ghost use Rattle.fits_value.specs.LongString.{Piece, IsChain, LongSays};
+ghost use Rattle.fits_value.specs.declared.value.Value.{Value};
+ghost use Rattle.fits_value.specs.declared.reading.ValueKind.{ValueKind};
+
+/// A text has one reading at the most.
+pub fn one_field_reading()
+    ensures { (text : List ℕ) (k j : ValueKind) (s t : List ℕ) (c d : Option (List ℕ))
+        → FieldReadsAs text k s c → FieldReadsAs text j t d → (k ≡ j) × (s ≡ t) × (c ≡ d) }
+{}
+
+/// A card has one reading at the most.
+pub fn one_card_reading()
+    ensures { (card : List ℕ) (k j : ValueKind) (s t : List ℕ) (c d : Option (List ℕ))
+        → ReadsAs card k s c → ReadsAs card j t d → (k ≡ j) × (s ≡ t) × (c ≡ d) }
+{}
+
+/// A text says one value and comment at the most.
+pub fn one_field_value()
+    ensures { (text : List ℕ) (v w : Value) (c d : Option (List ℕ)) → FieldSays text v c → FieldSays text w d → (v ≡ w) × (c ≡ d) }
+{}
+
+/// A card says one value and comment at the most.
+pub fn one_card_value()
+    ensures { (card : List ℕ) (v w : Value) (c d : Option (List ℕ)) → CardSays card v c → CardSays card w d → (v ≡ w) × (c ≡ d) }
+{}
+
+/// One chain begins at a place at the most.
+pub fn one_chain()
+    ensures { (cards : List (List ℕ)) (place : ℕ) (f g : List Piece) (l m : Piece) → IsChain cards place f l → IsChain cards place g m → (f ≡ g) × (l ≡ m) }
+{}
+
+/// A place says one value and comment at the most, its chain's or its card's.
+pub fn one_long_value()
+    ensures { (cards : List (List ℕ)) (place : ℕ) (v w : Value) (c d : Option (List ℕ)) → LongSays cards place v c → LongSays cards place w d → (v ≡ w) × (c ≡ d) }
+{}
 
 /// A text denotes one number at the most.
 pub fn one_number()

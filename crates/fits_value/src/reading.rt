@@ -11,3 +11,21 @@ pub enum ValueKind {
     /// A character string (4.2.1).
     Str,
 }
+
+/// Bytes that follow one another: the first, and the one past the last, counted from 0.
+#[derive(Clone, Copy, PartialEq, Eq, Debug)]
+pub struct Span {
+    pub start: usize,
+    pub end: usize,
+}
+
+/// What a card says, by the places of its bytes in the card.
+///
+/// The span of a string has its quotes; the span of no value at all is (10, 10).
+#[derive(Clone, Copy, PartialEq, Eq, Debug)]
+pub struct Reading {
+    pub kind: ValueKind,
+    pub value: Span,
+    /// The bytes past the slash, without the spaces at the card's end.
+    pub comment: Option<Span>,
+}

@@ -22,8 +22,8 @@ loop-front-preserved g c =
       done = done ++ (front ++ 10 ∷ []);
       split = c.loop-front.invariant.split ∙ ap (λ t. done ++ t) (cut ∙ sym (append_assoc front (10 ∷ []) next)) ∙ sym (append_assoc done (front ++ 10 ∷ []) next);
       answered = rw c.clear.ensures.items
-      (Continues-line done front c.args.line.now.items c.loop-front.line.items (standing_of c.args.runner.now) (standing_of c.loop-front.runner) (standing_of c.answer_line.new.runner) _ _ _
-      c.loop-front.invariant.answered c.in-Some.ensures.some.0 one);
+          (Continues-line done front c.args.line.now.items c.loop-front.line.items (standing_of c.args.runner.now) (standing_of c.loop-front.runner) (standing_of c.answer_line.new.runner) _ _ _
+          c.loop-front.invariant.answered c.in-Some.ensures.some.0 one);
       numbered = omega (arith, c.in_ok-answer_line.ensures.line, ap length cut, length-append front (10 ∷ next), c.loop-front.invariant.numbered);
       quiet = c.in_ok-answer_line.ensures.quiet ∙ c.loop-front.invariant.quiet;
     }

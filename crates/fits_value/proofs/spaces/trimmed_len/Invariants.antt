@@ -1,0 +1,10 @@
+use Rattle.std.proofs.Common.{◌≡◌, ◌+◌, ◌≤◌, length, take}
+use Rattle.std.specs.List.{suffix_len}
+use Rattle.fits_value.specs.Spelling.{is_space}
+use Rattle.fits_value.proofs.spaces.trimmed_len.Given as goal
+
+abbrev pub invariant-loop-len : goal.invariant-loop-len
+invariant-loop-len l = (l.len ≤ length l.text) × (l.len + suffix_len is_space l.text ≡ length l.text + suffix_len is_space (take l.len l.text))
+
+abbrev pub decreases-loop-len : goal.decreases-loop-len
+decreases-loop-len l = l.len

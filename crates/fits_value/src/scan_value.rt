@@ -1,0 +1,46 @@
+//! The value at the front of a text (FITS Standard 4.0, section 4.2).
+ghost use Rattle.std.specs.Prelude.{◌≡◌, ◌≤◌, ◌<◌, ◌+◌, length, IfSome};
+ghost use Rattle.fits_value.specs.Scan.{closing_of, value_of};
+
+use crate::reading::ValueKind;
+use crate::scan_complex::scan_pair;
+use crate::scan_number::scan_number;
+
+// The place of the quote that closes a string, whose opening quote stands before the text.
+fn closing_place(text: &[u8]) -> Option<usize>
+    ensures value { result ≡ closing_of text.now }
+    ensures within { IfSome result (λ place. place < length text.now) }
+{
+    let mut place = 0;
+    while place < text.len() {
+        if text[place] != b'\'' {
+            place += 1;
+        } else if place + 1 < text.len() && text[place + 1] == b'\'' {
+            place += 2;
+        } else {
+            return Some(place);
+        }
+    }
+    None
+}
+
+/// The kind of the value at the front and how many bytes it has: none of them for no value.
+#[tactic(auto, unfolding(crate::specs::Scan::value_of))]
+pub(crate) fn scan_value(text: &[u8]) -> Option<(ValueKind, usize)>
+    ensures value { result ≡ value_of text.now }
+    ensures within { IfSome result (λ value. value.1 ≤ length text.now) }
+{
+    match text {
+        [] | [b'/', ..] => Some((ValueKind::Undefined, 0)),
+        [b'\'', rest @ ..] => {
+            let place = closing_place(rest)?;
+            Some((ValueKind::Str, place + 2))
+        }
+        [b'T' | b'F', ..] => Some((ValueKind::Logical, 1)),
+        [b'(', rest @ ..] => {
+            let pair = scan_pair(rest)?;
+            Some((ValueKind::Complex, pair.len))
+        }
+        _ => scan_number(text),
+    }
+}

@@ -1,0 +1,29 @@
+//! The spaces at the front and at the end of a text.
+ghost use Rattle.std.specs.Prelude.{◌≡◌, ◌≤◌, ◌+◌, length};
+ghost use Rattle.std.specs.List.{prefix_len, suffix_len};
+ghost use Rattle.fits_value.specs.Spelling.{is_space};
+
+/// How many spaces stand at the front.
+pub(crate) fn spaces_len(text: &[u8]) -> usize
+    ensures value { result ≡ prefix_len is_space text.now }
+    ensures within { result ≤ length text.now }
+{
+    for (i, byte) in text.iter().enumerate() {
+        if *byte != b' ' {
+            return i;
+        }
+    }
+    text.len()
+}
+
+/// How many bytes are left without the spaces at the end.
+pub(crate) fn trimmed_len(text: &[u8]) -> usize
+    ensures value { result + suffix_len is_space text.now ≡ length text.now }
+    ensures within { result ≤ length text.now }
+{
+    let mut len = text.len();
+    while 0 < len && text[len - 1] == b' ' {
+        len -= 1;
+    }
+    len
+}
