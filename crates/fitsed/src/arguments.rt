@@ -9,15 +9,15 @@ pub enum Task<'a> {
     Edit { from: &'a str, to: &'a str },
 }
 
-const ABOUT: &str = "Edits and verifies FITS files";
+const ABOUT: &str = "Edits FITS files";
 
 const EDIT: &str = "Edits a file by a script from standard input";
 
 const STATUSES: &str = "Exit status:
   0  done
   1  a line of the script was refused or bad
-  2  the command line, a file that doesn't open, or a script that is too long
-  3  a device failed, or memory was refused
+  2  a usage fault, a file that is no such FITS file, or a script that is too long
+  3  a file or stream can't be read or written, or memory was refused
 
 Example:
   printf 'ins 1 4 COMMENT hello\\noff\\n' | fitsed edit in.fits out.fits
