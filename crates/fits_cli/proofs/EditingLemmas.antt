@@ -1,5 +1,5 @@
 -- A whole run, from the bytes that were read to the output.
-use Rattle.std.proofs.Common.{◌≡◌, ◌⊎◌, ℕ, ◌<◌, ◌≤◌, List, [], ◌∷◌, ◌++◌, length, map, take, refl, ap, subst, sym, ◌∙◌, inl, inr, arith, Bool, true, false, Option, None, Some, rules}
+use Rattle.std.proofs.Common.{◌≡◌, ◌⊎◌, ℕ, ◌<◌, ◌≤◌, List, length, map, refl, ap, subst, sym, ◌∙◌, inl, inr, Bool, true, false, Option, None, Some, rules}
 use Rattle.std.specs.Prelude.{IfSome, nat_le, if◌then◌else◌}
 use Rattle.std.proofs.lemmas.Bool.{cases_lt}
 use Rattle.std.proofs.lemmas.List.{take_all}
@@ -12,7 +12,7 @@ use Rattle.fits_cli.specs.Limits.{file_limit, script_limit}
 use Rattle.fits_cli.specs.Opening.{IsOpened, OpenFails, HasOpenFault, file_of_header}
 use Rattle.fits_cli.specs.Script.{script_lines}
 use Rattle.fits_cli.specs.Answer.{Standing}
-use Rattle.fits_cli.specs.Output.{Output, IsOutputOf, IsRun, FaultSays, output_unopened, output_of_lines, output_too_long, at_first_line, standing_after, status_of}
+use Rattle.fits_cli.specs.Output.{Output, IsRun, FaultSays, output_unopened, output_of_lines, output_too_long, at_first_line, standing_after, status_of}
 use Rattle.fits_cli.specs.Running.{OpenEnds, AnswersScript, AnswersTooLong}
 use Rattle.fits_cli.proofs.PlainFileLemmas.{file_bytes-plain}
 use Rattle.fits_cli.specs.declared.fault.Fault.{Fault}

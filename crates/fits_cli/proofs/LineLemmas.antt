@@ -1,5 +1,5 @@
 -- A line is cut into words in one way.
-use Rattle.std.proofs.Common.{◌≡◌, ◌≢◌, ◌⊎◌, ℕ, ◌+◌, ◌-◌, ◌*◌, ◌^◌, ◌<◌, ◌≤◌, List, [], ◌∷◌, ◌++◌, length, get_or, refl, inl, inr, ap, sym, ◌∙◌, arith, Bool, true, false, ◌||◌, Option, None, Some, rules, suc}
+use Rattle.std.proofs.Common.{◌≡◌, ◌⊎◌, ℕ, ◌+◌, ◌-◌, ◌*◌, ◌^◌, ◌<◌, ◌≤◌, List, [], ◌∷◌, ◌++◌, length, get_or, refl, inl, inr, ap, sym, ◌∙◌, arith, true, false, Option, None, Some, suc}
 use Rattle.std.specs.List.{list_any, list_all}
 use Rattle.std.specs.Prelude.{codes, unwrap_or, IsTrue, nat_le}
 use Rattle.std.proofs.Math.Nat.{pow-le-pow_right, pow-suc}

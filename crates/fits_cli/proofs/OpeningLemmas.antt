@@ -1,9 +1,8 @@
 -- A file opens in one way, or doesn't for one reason.
-use Rattle.std.proofs.Common.{◌≡◌, ◌⊎◌, ℕ, ◌<◌, ◌≤◌, List, [], length, refl, ap, sym, ◌∙◌, inl, inr, arith, true, false}
+use Rattle.std.proofs.Common.{◌≡◌, ℕ, List, [], ap, sym, ◌∙◌, inl, inr, arith, true, false}
 use Rattle.fits_card.specs.Header.{Header}
 use Rattle.fits_card.proofs.CutLemmas.{one_header}
 use Rattle.fits_cli.specs.Opening.{is_plain_primary, IsOpened, HasOpenFault, IsLaterFile}
-use Rattle.fits_cli.specs.declared.fault.OpenFault.{OpenFault}
 use Rattle.fits_cli.specs.declared.fault.OpenFault.TheVariants.{NotFits, NoEnd, TooLarge}
 use Rattle.fits_cli.specs.declared.fault.Fault.{Fault}
 use Rattle.fits_cli.specs.declared.fault.Fault.TheVariants.{Refused, NotYet, ScriptTooLong, Memory, ReadFailed, WriteFailed}

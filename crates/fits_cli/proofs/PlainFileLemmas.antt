@@ -1,9 +1,9 @@
 -- A file of one plain header: what an insertion makes of it, and when it's refused.
-use Rattle.std.proofs.Common.{◌≡◌, ◌≢◌, ℕ, ◌+◌, ◌-◌, ◌*◌, ◌<◌, ◌≤◌, List, [], ◌∷◌, ◌++◌, length, get_or, refl, ap, sym, ◌∙◌, arith, Bool, true, false, Option, None, Some, zero, suc, rules}
+use Rattle.std.proofs.Common.{◌≡◌, ◌≢◌, ℕ, ◌+◌, ◌-◌, ◌<◌, ◌≤◌, List, [], ◌∷◌, ◌++◌, length, get_or, refl, ap, sym, ◌∙◌, arith, Bool, true, false, None, Some, zero, suc, rules}
 use Rattle.std.specs.Prelude.{IsTrue, insert, not, if◌then◌else◌, nat_lt, nat_le}
 use Rattle.std.proofs.lemmas.Bool.{and_parts, leb-true, lt-ltb}
 use Rattle.std.proofs.lemmas.List.Edits.{length-insert}
-use Rattle.std.proofs.lemmas.List.{append-nil, length-append}
+use Rattle.std.proofs.lemmas.List.{append-nil}
 use Rattle.fits_card.specs.Card.{IsEnd, is_end, is_text}
 use Rattle.fits_card.specs.Header.{Header, IsHeader, header_bytes, header_length, fill_length, with_cards}
 use Rattle.fits_card.proofs.HeaderLemmas.{length-header_bytes, whole-insert}

@@ -1,12 +1,12 @@
 -- Each line has a reading.
-use Rattle.std.proofs.Common.{◌≡◌, ◌⊎◌, ℕ, ◌+◌, ◌<◌, ◌≤◌, List, [], ◌∷◌, ◌++◌, length, refl, ap, sym, ◌∙◌, inl, inr, arith, Bool, true, false, ◌||◌, Option, None, Some, rules}
-use Rattle.std.specs.Prelude.{codes, unwrap_or, IsTrue, nat_le, ◌==◌}
+use Rattle.std.proofs.Common.{◌≡◌, ◌⊎◌, ℕ, ◌≤◌, List, [], ◌∷◌, length, refl, ap, sym, ◌∙◌, inl, inr, arith, true, false, Option, None, Some}
+use Rattle.std.specs.Prelude.{codes, unwrap_or}
 use Rattle.std.specs.List.{list_any, list_all}
 use Rattle.std.proofs.lemmas.Bool.{cases_Bool, cases_lt, or_from}
 use Rattle.std.proofs.lemmas.Bool.Decides.{eqb_tells}
 use Rattle.fits_card.specs.Card.{card_of_text}
 use Rattle.fits_cli.specs.Limits.{line_limit}
-use Rattle.fits_cli.specs.Line.{is_space, is_digit, number_of, HasNoSpace, BeginsWithWord, IsNumber, IsInsert, Says, IsReading}
+use Rattle.fits_cli.specs.Line.{is_space, is_digit, number_of, BeginsWithWord, IsNumber, IsInsert, Says, IsReading}
 use Rattle.fits_cli.specs.declared.command.Command.{Command}
 use Rattle.fits_cli.specs.declared.command.Command.TheVariants.{Nothing, Insert, Offsets}
 use Rattle.fits_cli.specs.declared.line.LineReading.{LineReading}

@@ -1,16 +1,13 @@
 -- A script's lines, answered one after another as they come.
-use Rattle.std.proofs.Common.{◌≡◌, ◌⊎◌, ℕ, ◌+◌, ◌-◌, ◌<◌, ◌≤◌, List, [], ◌∷◌, ◌++◌, length, map, take, refl, ap, sym, ◌∙◌, append_assoc, inl, inr, arith, Bool, true, false, ◌||◌, Option, None, Some, All}
-use Rattle.std.specs.Prelude.{codes, nat_le, if◌then◌else◌}
-use Rattle.std.specs.List.{flat_map, list_any}
-use Rattle.std.specs.Io.KnownBytes.{Appends, Consumes, IsAtEnd}
+use Rattle.std.proofs.Common.{◌≡◌, ℕ, List, [], ◌∷◌, ◌++◌, map, refl, ap, sym, ◌∙◌, append_assoc, Option}
+use Rattle.std.specs.List.{list_any}
 use Rattle.std.proofs.lemmas.Bool.{or_from}
-use Rattle.std.proofs.lemmas.List.{append-nil, length-append, map-append, take_all, take-append-le, take-take}
+use Rattle.std.proofs.lemmas.List.{append-nil, map-append}
 use Rattle.std.proofs.lemmas.List.Concat.{flat_map-append}
 use Rattle.std.proofs.lemmas.List.Elements.{All-append, All-cons, All-nil}
 use Rattle.std.proofs.lemmas.List.Folds.{list_any-append}
 use Rattle.fits_card.proofs.StreamLemmas.{Appends-none, Appends-more}
-use Rattle.fits_cli.specs.Line.{IsReading, ReadsLines}
-use Rattle.fits_cli.specs.Script.{is_line_feed, HasNoLineFeed, ended_lines, IsCutInLines, script_lines}
+use Rattle.fits_cli.specs.Script.{is_line_feed, HasNoLineFeed, ended_lines}
 use Rattle.fits_cli.specs.Answer.{Standing, line_answer, line_left}
 use Rattle.fits_cli.specs.Output.{answers, standing_after}
 use Rattle.fits_cli.specs.Running.{AnswersLines, AnswersLine, HasCome, Continues}

@@ -1,5 +1,5 @@
 -- A script to its end, or as far as its limit.
-use Rattle.std.proofs.Common.{◌≡◌, ℕ, ◌+◌, ◌-◌, ◌<◌, ◌≤◌, List, [], ◌∷◌, ◌++◌, length, take, refl, ap, sym, ◌∙◌, arith, inl, inr, true, false, Option, None, Some}
+use Rattle.std.proofs.Common.{◌≡◌, ℕ, ◌-◌, ◌<◌, ◌≤◌, List, [], ◌∷◌, length, take, refl, ◌∙◌, arith, inl, inr, true, false, Option, None, Some}
 use Rattle.std.proofs.lemmas.Bool.{cases_lt}
 use Rattle.std.proofs.lemmas.List.{take_all}
 use Rattle.std.specs.Io.KnownBytes.{Consumes, IsAtEnd}
@@ -7,8 +7,7 @@ use Rattle.fits_card.specs.Stream.{TakesUpTo}
 use Rattle.fits_card.proofs.StreamLemmas.{TakesUpTo-end, TakesUpTo-over}
 use Rattle.fits_cli.specs.Limits.{script_limit}
 use Rattle.fits_cli.specs.Answer.{Standing}
-use Rattle.fits_cli.specs.Script.{script_lines}
-use Rattle.fits_cli.specs.Running.{AnswersLines, AnswersLine, HasCome, Continues, EndsScript, AnswersScript, AnswersTooLong}
+use Rattle.fits_cli.specs.Running.{AnswersLine, HasCome, Continues, EndsScript, AnswersScript, AnswersTooLong}
 use Rattle.fits_cli.proofs.RunLemmas.{AnswersLines-more}
 
 -- nothing behind the last line feed

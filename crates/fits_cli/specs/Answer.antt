@@ -1,5 +1,5 @@
 -- What the lines of a script print and do (own).
-use Rattle.std.specs.Prelude.{ℕ, ◌+◌, Bool, true, false, List, [], ◌∷◌, ◌++◌, codes, Option, Some, None}
+use Rattle.std.specs.Prelude.{ℕ, ◌+◌, Bool, true, List, [], ◌∷◌, ◌++◌, codes, Option, Some, None}
 use Rattle.std.specs.Fmt.{decimal}
 use Rattle.fits_cli.specs.File.{FileParts, HduOffsets, offsets_from}
 use Rattle.fits_cli.specs.Edit.{file_after_insert}

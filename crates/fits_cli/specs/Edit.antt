@@ -1,7 +1,7 @@
 -- What an accepted edit makes of a file (own).
 use Rattle.std.specs.Prelude.{ℕ, ◌-◌, List, insert, Option, None, zero, suc}
 use Rattle.std.specs.List.{slice_get}
-use Rattle.fits_card.specs.Header.{Header, with_cards}
+use Rattle.fits_card.specs.Header.{with_cards}
 use Rattle.fits_cli.specs.File.{FileParts, HduParts, changed_at}
 
 -- HDU h, from 1, if it is there

@@ -1,5 +1,5 @@
 -- Which files open, and why others don't (own; today a primary HDU without data alone).
-use Rattle.std.specs.Prelude.{◌≡◌, ◌≢◌, ◌⊎◌, ℕ, ◌<◌, ◌≤◌, ◌&&◌, Bool, true, false, IsTrue, List, [], ◌∷◌, length, take, codes}
+use Rattle.std.specs.Prelude.{◌≡◌, ◌≢◌, ◌⊎◌, ℕ, ◌<◌, ◌≤◌, ◌&&◌, Bool, false, IsTrue, List, [], ◌∷◌, length, codes}
 use Rattle.std.specs.Prelude.{nat_eq}
 use Rattle.std.specs.List.{starts_with}
 use Rattle.std.specs.Str.{bytes_eq}
@@ -7,7 +7,6 @@ use Rattle.fits_card.specs.Card.{keyword_name, card_of_text}
 use Rattle.fits_card.specs.Header.{Header, IsHeaderOf, HasNoHeader}
 use Rattle.fits_cli.specs.File.{FileParts, HduParts}
 use Rattle.fits_cli.specs.Limits.{file_limit}
-use Rattle.fits_cli.specs.declared.fault.OpenFault.{OpenFault}
 use Rattle.fits_cli.specs.declared.fault.OpenFault.TheVariants.{NotFits, NoEnd, TooLarge}
 use Rattle.fits_cli.specs.declared.fault.Fault.{Fault}
 use Rattle.fits_cli.specs.declared.fault.Fault.TheVariants.{Refused, NotYet, ScriptTooLong, Memory, ReadFailed, WriteFailed}

@@ -1,4 +1,3 @@
-use Rattle.std.proofs.Common.{◌∙◌, sym}
 use Rattle.fits_cli.proofs.AnswerLemmas.{offset_lines-plain}
 use Rattle.fits_cli.proofs.answer.offsets.Goals as goal
 

@@ -1,4 +1,4 @@
-use Rattle.std.proofs.Common.{◌+◌, ◌-◌, ◌*◌, ◌^◌, ◌<◌, length, get_or, arith}
+use Rattle.std.proofs.Common.{◌-◌, ◌<◌, get_or, arith}
 use Rattle.fits_cli.proofs.LineLemmas.{room_for_digit, digit_at, is_digit-below}
 use Rattle.fits_cli.proofs.line.number_of_digits.Goals as goal
 

@@ -1,7 +1,6 @@
-use Rattle.std.proofs.Common.{◌≡◌, ◌+◌, ◌≤◌, ◌++◌, ◌∷◌, [], ◌∙◌, length, ap, sym, append_assoc, arith}
+use Rattle.std.proofs.Common.{◌≡◌, ◌++◌, ◌∷◌, [], ◌∙◌, length, ap, sym, append_assoc, arith}
 use Rattle.std.proofs.lemmas.List.{length-append}
 use Rattle.fits_cli.specs.Runner.{standing_of}
-use Rattle.fits_cli.specs.Running.{AnswersLine, Continues}
 use Rattle.fits_cli.proofs.RunLemmas.{Continues-open, Continues-line}
 use Rattle.fits_cli.proofs.script.answer_piece.Goals as goal
 

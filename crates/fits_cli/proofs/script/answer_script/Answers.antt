@@ -1,4 +1,4 @@
-use Rattle.std.proofs.Common.{◌≡◌, ◌+◌, ◌-◌, ◌<◌, ◌≤◌, ◌++◌, [], List, ℕ, length, take, ap, sym, refl, arith, rules}
+use Rattle.std.proofs.Common.{◌++◌, [], take, refl, arith, rules}
 use Rattle.std.proofs.lemmas.List.{length-append, length-take-le}
 use Rattle.fits_card.proofs.StreamLemmas.{Consumes-none, Consumes-more}
 use Rattle.fits_cli.specs.Runner.{standing_of}
