@@ -74,8 +74,15 @@ fn edit<F: Source, S: Source, P: Sink, O: Sink>(
             };
             return Err(Fault::ScriptTooLong);
         }
-        Err(ScriptFault::Memory) => return Err(Fault::Memory),
-        Err(ScriptFault::ReadFailed) => return Err(Fault::ReadFailed),
+        // The answers so far are of use all the same; the fault is the script's.
+        Err(ScriptFault::Memory) => {
+            let _ = out.flush();
+            return Err(Fault::Memory);
+        }
+        Err(ScriptFault::ReadFailed) => {
+            let _ = out.flush();
+            return Err(Fault::ReadFailed);
+        }
         Err(ScriptFault::WriteFailed) => return Err(Fault::WriteFailed),
     }
     let Ok(()) = out.flush() else {
