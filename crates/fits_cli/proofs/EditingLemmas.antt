@@ -12,7 +12,7 @@ use Rattle.fits_cli.specs.Limits.{file_limit, script_limit}
 use Rattle.fits_cli.specs.Opening.{IsOpened, OpenFails, HasOpenFault, file_of_header}
 use Rattle.fits_cli.specs.Script.{script_lines}
 use Rattle.fits_cli.specs.Answer.{Standing}
-use Rattle.fits_cli.specs.Output.{Output, IsRun, FaultSays, output_unopened, output_of_lines, output_too_long, at_first_line, standing_after, status_of}
+use Rattle.fits_cli.specs.Output.{Output, IsRun, FaultSays, NoCallFailed, output_unopened, output_of_lines, output_too_long, at_first_line, standing_after, status_of}
 use Rattle.fits_cli.specs.Running.{OpenEnds, AnswersScript, AnswersTooLong}
 use Rattle.fits_cli.proofs.PlainFileLemmas.{file_bytes-plain}
 use Rattle.fits_cli.specs.declared.fault.Fault.{Fault}
@@ -32,15 +32,16 @@ pub too_large : (file : Option (List ℕ)) (bytes : List ℕ) → TakesUpTo file
 too_large None bytes t = tt
 too_large (Some xs) bytes t = t.1.0 refl
 
-pub OpenEnds-whole : (file : Option (List ℕ)) (bytes : List ℕ) (why : Fault) (a_read_failed : Type 0) → TakesUpTo file file_limit bytes false → OpenFails bytes why → OpenEnds file a_read_failed why
-OpenEnds-whole None bytes (Refused why) failed t p = tt
-OpenEnds-whole (Some xs) bytes (Refused why) failed t p = let P : List ℕ → Type 0 = λ b. HasOpenFault b (Refused why) in subst P (whole xs bytes file_limit t) p
-OpenEnds-whole None bytes NotYet failed t p = tt
-OpenEnds-whole (Some xs) bytes NotYet failed t p = rw (whole xs bytes file_limit t) at p
-OpenEnds-whole file bytes ScriptTooLong failed t p = absurd p
-OpenEnds-whole file bytes Memory failed t p = tt
-OpenEnds-whole file bytes ReadFailed failed t p = absurd p
-OpenEnds-whole file bytes WriteFailed failed t p = absurd p
+pub OpenEnds-whole : (file : Option (List ℕ)) (bytes : List ℕ) (why : Fault) (no_read_failed a_read_failed : Type 0) → TakesUpTo file file_limit bytes false → OpenFails bytes why → no_read_failed
+    → OpenEnds file no_read_failed a_read_failed why
+OpenEnds-whole None bytes (Refused why) quiet failed t p q = (tt, q)
+OpenEnds-whole (Some xs) bytes (Refused why) quiet failed t p q = let P : List ℕ → Type 0 = λ b. HasOpenFault b (Refused why) in (subst P (whole xs bytes file_limit t) p, q)
+OpenEnds-whole None bytes NotYet quiet failed t p q = (tt, q)
+OpenEnds-whole (Some xs) bytes NotYet quiet failed t p q = (rw (whole xs bytes file_limit t) at p, q)
+OpenEnds-whole file bytes ScriptTooLong quiet failed t p q = absurd p
+OpenEnds-whole file bytes Memory quiet failed t p q = q
+OpenEnds-whole file bytes ReadFailed quiet failed t p q = absurd p
+OpenEnds-whole file bytes WriteFailed quiet failed t p q = absurd p
 
 pub ruleset open_steps = (opened_whole, too_large, OpenEnds-whole)
 
@@ -50,14 +51,18 @@ run_unopened None script printed saved why p = tt
 run_unopened (Some f) None printed saved why p = tt
 run_unopened (Some f) (Some s) printed saved why p = λ read reads. (output_unopened why, inl (why, p, refl), Appends-none printed, Appends-none saved, refl, refl)
 
-pub FaultSays-unopened : (file script printed saved : Option (List ℕ)) (file_failed script_failed a_write_failed : Type 0) (why : Fault) → OpenEnds file file_failed why
-    → FaultSays (IsRun file script printed printed saved saved) (file_failed ⊎ script_failed) a_write_failed why
-FaultSays-unopened file script printed saved ff sf wf (Refused why) p = run_unopened file script printed saved (Refused why) p
-FaultSays-unopened file script printed saved ff sf wf NotYet p = run_unopened file script printed saved NotYet p
-FaultSays-unopened file script printed saved ff sf wf ScriptTooLong p = absurd p
-FaultSays-unopened file script printed saved ff sf wf Memory p = tt
-FaultSays-unopened file script printed saved ff sf wf ReadFailed p = inl p
-FaultSays-unopened file script printed saved ff sf wf WriteFailed p = absurd p
+-- only the file was read
+pub NoCallFailed-unopened : (file file' script out saved : ℕ) → file' ≡ file → NoCallFailed file file' script script out out saved saved
+NoCallFailed-unopened file file' script out saved e = record { of_file = e; of_script = refl; of_out = refl; of_saved = refl }
+
+pub FaultSays-unopened : (file script printed saved : Option (List ℕ)) (a b c d e : ℕ) (script_failed a_write_failed : Type 0) (why : Fault) → OpenEnds file (b ≡ a) (a < b) why
+    → FaultSays (IsRun file script printed printed saved saved) (NoCallFailed a b c c d d e e) ((a < b) ⊎ script_failed) a_write_failed why
+FaultSays-unopened file script printed saved a b c d e sf wf (Refused why) p = (run_unopened file script printed saved (Refused why) p.0, NoCallFailed-unopened a b c d e p.1)
+FaultSays-unopened file script printed saved a b c d e sf wf NotYet p = (run_unopened file script printed saved NotYet p.0, NoCallFailed-unopened a b c d e p.1)
+FaultSays-unopened file script printed saved a b c d e sf wf ScriptTooLong p = absurd p
+FaultSays-unopened file script printed saved a b c d e sf wf Memory p = NoCallFailed-unopened a b c d e p
+FaultSays-unopened file script printed saved a b c d e sf wf ReadFailed p = inl p
+FaultSays-unopened file script printed saved a b c d e sf wf WriteFailed p = absurd p
 
 Appends-kept : (a b c : Option (List ℕ)) (text : List ℕ) → Appends a b text → Keeps b c → Appends a c text
 Appends-kept None b c text p q = tt

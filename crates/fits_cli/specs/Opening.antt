@@ -23,7 +23,6 @@ abbrev pub begins_plainly : List ℕ → List ℕ → List ℕ → Bool
 begins_plainly simple bitpix naxis = bytes_eq (keyword_name simple) (codes "SIMPLE  ") && bytes_eq bitpix bitpix_card && bytes_eq naxis naxis_card
 
 -- they are the first cards
-
 abbrev pub is_plain_primary : List (List ℕ) → Bool
 is_plain_primary (simple ∷ bitpix ∷ naxis ∷ cards) = begins_plainly simple bitpix naxis
 is_plain_primary cards = false

@@ -72,14 +72,14 @@ IsRun (Some file) (Some script) printed prints saved saves status fault =
     → (output : Output) × IsOutputOf read file script output × Appends printed prints output.text × Appends saved saves output.saved
     × (status ≡ output.status) × (fault ≡ output.fault)
 
--- what a fault says of its run: it is the run's output; or memory was refused; or a read or a write failed
-abbrev pub FaultSays : (ℕ → Option Fault → Type 0) → Type 0 → Type 0 → Fault → Type 0
-FaultSays IsThisRun a_read_failed a_write_failed (Refused why) = IsThisRun 2 (Some (Refused why))
-FaultSays IsThisRun a_read_failed a_write_failed NotYet = IsThisRun 2 (Some NotYet)
-FaultSays IsThisRun a_read_failed a_write_failed ScriptTooLong = IsThisRun 2 (Some ScriptTooLong)
-FaultSays IsThisRun a_read_failed a_write_failed Memory = Unit {0}
-FaultSays IsThisRun a_read_failed a_write_failed ReadFailed = a_read_failed
-FaultSays IsThisRun a_read_failed a_write_failed WriteFailed = a_write_failed
+-- what a fault says of its run: no call failed, and it is the run's output or memory was refused; or a read or a write failed
+abbrev pub FaultSays : (ℕ → Option Fault → Type 0) → Type 0 → Type 0 → Type 0 → Fault → Type 0
+FaultSays IsThisRun no_call_failed a_read_failed a_write_failed (Refused why) = IsThisRun 2 (Some (Refused why)) × no_call_failed
+FaultSays IsThisRun no_call_failed a_read_failed a_write_failed NotYet = IsThisRun 2 (Some NotYet) × no_call_failed
+FaultSays IsThisRun no_call_failed a_read_failed a_write_failed ScriptTooLong = IsThisRun 2 (Some ScriptTooLong) × no_call_failed
+FaultSays IsThisRun no_call_failed a_read_failed a_write_failed Memory = no_call_failed
+FaultSays IsThisRun no_call_failed a_read_failed a_write_failed ReadFailed = a_read_failed
+FaultSays IsThisRun no_call_failed a_read_failed a_write_failed WriteFailed = a_write_failed
 
 -- the status that goes with a fault
 abbrev pub status_of_fault : Fault → ℕ
@@ -90,7 +90,15 @@ status_of_fault Memory = 3
 status_of_fault ReadFailed = 3
 status_of_fault WriteFailed = 3
 
--- how a run ended: as its output says, with status 0 or 1; or by a fault, with the fault's status
-abbrev pub EndSays : (ℕ → Option Fault → Type 0) → Type 0 → Type 0 → ℕ → Option Fault → Type 0
-EndSays IsThisRun a_read_failed a_write_failed status None = IsThisRun status None × (status ≤ 1)
-EndSays IsThisRun a_read_failed a_write_failed status (Some fault) = FaultSays IsThisRun a_read_failed a_write_failed fault × (status ≡ status_of_fault fault)
+-- how a run ended: as its output says, with status 0 or 1 and no failed call; or by a fault, with the fault's status
+abbrev pub EndSays : (ℕ → Option Fault → Type 0) → Type 0 → Type 0 → Type 0 → ℕ → Option Fault → Type 0
+EndSays IsThisRun no_call_failed a_read_failed a_write_failed status None = IsThisRun status None × no_call_failed × (status ≤ 1)
+EndSays IsThisRun no_call_failed a_read_failed a_write_failed status (Some fault) =
+    FaultSays IsThisRun no_call_failed a_read_failed a_write_failed fault × (status ≡ status_of_fault fault)
+
+-- of these four counts of failed calls none grew
+pub record NoCallFailed (file file' script script' out out' saved saved' : ℕ) : Type 0 where
+  pub of_file : file' ≡ file
+  pub of_script : script' ≡ script
+  pub of_out : out' ≡ out
+  pub of_saved : saved' ≡ saved

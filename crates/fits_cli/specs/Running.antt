@@ -59,11 +59,11 @@ abbrev pub script_fault_of : AnswerFault → ScriptFault
 script_fault_of AnswerMemory = ScriptMemory
 script_fault_of AnswerWriteFailed = ScriptWriteFailed
 
--- why a file wasn't opened: its bytes don't open, or memory was refused, or a read failed
-abbrev pub OpenEnds : Option (List ℕ) → Type 0 → Fault → Type 0
-OpenEnds file a_read_failed (Refused why) = IfSome file (λ bytes. HasOpenFault bytes (Refused why))
-OpenEnds file a_read_failed NotYet = IfSome file (λ bytes. HasOpenFault bytes NotYet)
-OpenEnds file a_read_failed ScriptTooLong = ⊥
-OpenEnds file a_read_failed Memory = Unit {0}
-OpenEnds file a_read_failed ReadFailed = a_read_failed
-OpenEnds file a_read_failed WriteFailed = ⊥
+-- why a file wasn't opened: no call failed, and its bytes don't open or memory was refused; or a read failed
+abbrev pub OpenEnds : Option (List ℕ) → Type 0 → Type 0 → Fault → Type 0
+OpenEnds file no_read_failed a_read_failed (Refused why) = IfSome file (λ bytes. HasOpenFault bytes (Refused why)) × no_read_failed
+OpenEnds file no_read_failed a_read_failed NotYet = IfSome file (λ bytes. HasOpenFault bytes NotYet) × no_read_failed
+OpenEnds file no_read_failed a_read_failed ScriptTooLong = ⊥
+OpenEnds file no_read_failed a_read_failed Memory = no_read_failed
+OpenEnds file no_read_failed a_read_failed ReadFailed = a_read_failed
+OpenEnds file no_read_failed a_read_failed WriteFailed = ⊥

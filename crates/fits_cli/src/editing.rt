@@ -1,7 +1,7 @@
 //! The run of `edit`: a file, a script, answers, and the file saved.
-ghost use Rattle.std.specs.Prelude.{◌≡◌, ◌⊎◌, ◌<◌, IfOk, IfErr, IfSome, None, if◌then◌else◌};
+ghost use Rattle.std.specs.Prelude.{◌≡◌, ◌⊎◌, ◌<◌, IfOk, IfErr, IfSome, OnOk, None, if◌then◌else◌};
 ghost use Rattle.fits_cli.specs.Opening.{IsOpened};
-ghost use Rattle.fits_cli.specs.Output.{EndSays, FaultSays, IsRun};
+ghost use Rattle.fits_cli.specs.Output.{EndSays, FaultSays, IsRun, NoCallFailed};
 ghost use Rattle.fits_cli.specs.Running.{OpenEnds};
 
 use crate::end::End;
@@ -26,6 +26,7 @@ pub fn run_edit<F: Source, S: Source, P: Sink, O: Sink>(
     out: &mut O,
 ) -> End
     ensures { EndSays (IsRun (F.remaining file.old) (S.remaining script.old) (O.contents out.old) (O.contents out.new) (P.contents saved.old) (P.contents saved.new))
+        (NoCallFailed (F.failures file.old) (F.failures file.new) (S.failures script.old) (S.failures script.new) (O.failures out.old) (O.failures out.new) (P.failures saved.old) (P.failures saved.new))
         ((F.failures file.old < F.failures file.new) ⊎ (S.failures script.old < S.failures script.new))
         ((O.failures out.old < O.failures out.new) ⊎ (P.failures saved.old < P.failures saved.new))
         result.status result.fault }
@@ -53,7 +54,9 @@ fn edit<F: Source, S: Source, P: Sink, O: Sink>(
 ) -> Result<bool, Fault>
     ensures ok { IfOk result (λ any_refused. IsRun (F.remaining file.old) (S.remaining script.old) (O.contents out.old) (O.contents out.new) (P.contents saved.old) (P.contents saved.new)
         (if any_refused then 1 else 0) None) }
+    ensures quiet { OnOk result (NoCallFailed (F.failures file.old) (F.failures file.new) (S.failures script.old) (S.failures script.new) (O.failures out.old) (O.failures out.new) (P.failures saved.old) (P.failures saved.new)) }
     ensures err { IfErr result (FaultSays (IsRun (F.remaining file.old) (S.remaining script.old) (O.contents out.old) (O.contents out.new) (P.contents saved.old) (P.contents saved.new))
+        (NoCallFailed (F.failures file.old) (F.failures file.new) (S.failures script.old) (S.failures script.new) (O.failures out.old) (O.failures out.new) (P.failures saved.old) (P.failures saved.new))
         ((F.failures file.old < F.failures file.new) ⊎ (S.failures script.old < S.failures script.new))
         ((O.failures out.old < O.failures out.new) ⊎ (P.failures saved.old < P.failures saved.new))) }
 {
@@ -76,7 +79,9 @@ fn edit<F: Source, S: Source, P: Sink, O: Sink>(
         }
         // The answers so far are of use all the same; the fault is the script's.
         Err(ScriptFault::Memory) => {
-            let _ = out.flush();
+            let Ok(()) = out.flush() else {
+                return Err(Fault::WriteFailed);
+            };
             return Err(Fault::Memory);
         }
         Err(ScriptFault::ReadFailed) => {
@@ -101,7 +106,8 @@ fn edit<F: Source, S: Source, P: Sink, O: Sink>(
 #[tactic(auto, using(crate::proofs::EditingLemmas::open_steps))]
 fn open_file<F: Source>(alloc: Global, file: &mut F) -> Result<PlainFile, Fault>
     ensures ok { IfOk result (λ plain. IfSome (F.remaining file.old) (λ bytes. IsOpened bytes plain.cards.header)) }
-    ensures err { IfErr result (OpenEnds (F.remaining file.old) (F.failures file.old < F.failures file.new)) }
+    ensures quiet { OnOk result (F.failures file.new ≡ F.failures file.old) }
+    ensures err { IfErr result (OpenEnds (F.remaining file.old) (F.failures file.new ≡ F.failures file.old) (F.failures file.old < F.failures file.new)) }
 {
     let portion = match read_up_to(alloc, file, FILE_LIMIT) {
         Ok(portion) => portion,

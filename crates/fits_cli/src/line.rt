@@ -58,7 +58,6 @@ pub fn parse_line(line: &[u8]) -> Result<Command, LineFault>
 }
 
 // The command of a line within the limit.
-
 fn command_of(line: &[u8]) -> Option<Command>
     ensures some { IfSome result (Says line.now) }
     ensures none { IfNone result ((c : Command) → Says line.now c → ⊥) }
@@ -73,7 +72,6 @@ fn command_of(line: &[u8]) -> Option<Command>
 }
 
 // `ins H P CARD`
-
 fn insert_of(line: &[u8]) -> Option<Command>
     ensures some { IfSome result (Says line.now) }
     ensures none { IfNone result ((hdu place : ℕ) (card : List ℕ) → IsInsert line.now hdu place card → ⊥) }
@@ -105,7 +103,6 @@ fn insert_of(line: &[u8]) -> Option<Command>
 }
 
 // The first word, and what follows the space behind it, if there is one.
-
 fn cut_word(text: &[u8]) -> (&[u8], Option<&[u8]>)
     ensures { BeginsWithWord text.now result.0.now (option_copied result.1) }
 {

@@ -59,11 +59,11 @@ impl PlainFile {
     }
 
     /// Puts a card at a place of the HDU, or refuses it by the first test that fails.
-
     pub(crate) fn insert(&mut self, hdu: usize, place: usize, card: Card) -> Result<(), Refusal>
         ensures accepted { OnOk result (refusal_of_insert (file_of_header self.old.cards.header) hdu place card ≡ None) }
         ensures ok { OnOk result (file_of_header self.new.cards.header ≡ file_after_insert (file_of_header self.old.cards.header) hdu place card) }
         ensures refused { IfErr result (λ why. (why ≡ Refusal.Memory) ⊎ (refusal_of_insert (file_of_header self.old.cards.header) hdu place card ≡ Some why)) }
+        ensures memory { IsErrOf result Refusal.Memory → refusal_of_insert (file_of_header self.old.cards.header) hdu place card ≡ None }
         ensures err { OnErr result (self.new.cards.header ≡ self.old.cards.header) }
     {
         if hdu != 1 {

@@ -96,6 +96,7 @@ fn answer_line<O: Sink>(
     ensures line { OnOk result (runner.new.line ≡ runner.old.line + 1) }
     ensures quiet { OnOk result (O.failures out.new ≡ O.failures out.old) }
     ensures failed { IsErrOf result AnswerFault.WriteFailed → O.failures out.old < O.failures out.new }
+    ensures memory { IsErrOf result AnswerFault.Memory → O.failures out.new ≡ O.failures out.old }
 {
     let reply = runner.reply(alloc, read_line(line))?;
     let Ok(()) = write_all(out, reply.as_bytes()) else {
@@ -117,6 +118,7 @@ fn answer_piece<O: Sink>(
     ensures line { OnOk result (runner.new.line ≤ runner.old.line + length piece.now) }
     ensures quiet { OnOk result (O.failures out.new ≡ O.failures out.old) }
     ensures failed { IsErrOf result AnswerFault.WriteFailed → O.failures out.old < O.failures out.new }
+    ensures memory { IsErrOf result AnswerFault.Memory → O.failures out.new ≡ O.failures out.old }
 {
     let mut rest = piece;
     loop {
@@ -143,6 +145,7 @@ fn answer_last_line<O: Sink>(
     ensures ok { OnOk result (EndsScript line.now (standing_of runner.old) (standing_of runner.new) (O.contents out.old) (O.contents out.new)) }
     ensures quiet { OnOk result (O.failures out.new ≡ O.failures out.old) }
     ensures failed { IsErrOf result AnswerFault.WriteFailed → O.failures out.old < O.failures out.new }
+    ensures memory { IsErrOf result AnswerFault.Memory → O.failures out.new ≡ O.failures out.old }
 {
     if line.is_empty() {
         return Ok(());
@@ -162,8 +165,9 @@ pub(crate) fn answer_script<S: Source, O: Sink>(
     ensures too_long { IsErrOf result ScriptFault.TooLong → AnswersTooLong (S.remaining script.old) (standing_of runner.old) (standing_of runner.new) (O.contents out.old) (O.contents out.new) }
     ensures read { IsErrOf result ScriptFault.ReadFailed → S.failures script.old < S.failures script.new }
     ensures write { IsErrOf result ScriptFault.WriteFailed → O.failures out.old < O.failures out.new }
-    ensures quiet { OnOk result (O.failures out.new ≡ O.failures out.old) }
-    ensures quiet_too_long { IsErrOf result ScriptFault.TooLong → O.failures out.new ≡ O.failures out.old }
+    ensures quiet { OnOk result ((S.failures script.new ≡ S.failures script.old) × (O.failures out.new ≡ O.failures out.old)) }
+    ensures quiet_too_long { IsErrOf result ScriptFault.TooLong → (S.failures script.new ≡ S.failures script.old) × (O.failures out.new ≡ O.failures out.old) }
+    ensures memory { IsErrOf result ScriptFault.Memory → (S.failures script.new ≡ S.failures script.old) × (O.failures out.new ≡ O.failures out.old) }
 {
     let mut buffer = buffer_of(alloc, PIECE_LEN)?;
     let piece = buffer.as_mut_slice();

@@ -34,3 +34,10 @@ invariant_of-self-2 c =
       plain = rw (c.insert.ensures.header, c.in-Ok.ensures.header, c.in_default.ensures.header) ((card_accepted c.args.self.now.cards.header.cards c.args.place c.args.card (sym c.in_default.ensures.value)).2);
       within = rw (c.insert.ensures.header, c.in-Ok.ensures.header, c.in_default.ensures.header) (omega (arith, after, size, c.if-header_len-gt-FILE_LIMIT.false));
     }
+
+pub returns-in_default-reserve-clause-memory : goal.returns-in_default-reserve-clause-memory
+returns-in_default-reserve-clause-memory c _ =
+    let whole : IsHeader c.args.self.now.cards.header = rw c.in_default.ensures.header at c.len.ensures.whole in
+    let count : c.len.result ≡ length c.args.self.now.cards.header.cards = c.len.ensures.value ∙ ap (λ (h : Header). length h.cards) c.in_default.ensures.header in
+    let size : c.header_len.result ≡ header_length (length c.args.self.now.cards.header.cards + 1) = c.header_len.ensures ∙ ap (λ n. header_length (n + 1)) count in
+    accepted _ _ _ _ c.if-hdu-ne1.false whole c.in_default.ensures.size (sym c.in_default.ensures.value) (omega (arith, size, c.if-header_len-gt-FILE_LIMIT.false))
