@@ -1,7 +1,9 @@
 pub mod AnswerLemmas
+pub mod EditedLemmas
 pub mod EditingLemmas
 pub mod LineLemmas
 pub mod OpeningLemmas
+pub mod OutputLemmas
 pub mod PlainFileLemmas
 pub mod ReadingLemmas
 pub mod RunLemmas

@@ -6,10 +6,9 @@ use Rattle.fits_cli.proofs.editing.edit.Goals as goal
 pub returns-in-Err-TooLong-clause-err : goal.returns-in-Err-TooLong-clause-err
 returns-in-Err-TooLong-clause-err g c =
     let is = ap Err c.in-Err-TooLong.field-0-is in
-    let quiet = c.in-Err-TooLong.ensures.quiet_too_long is in
-    (
+    let quiet = c.in-Err-TooLong.ensures.quiet_too_long is in (
       run_too_long (g.F.Source.remaining c.args.file.now) (g.S.Source.remaining c.args.script.now) (g.O.Sink.contents c.args.out.now) (g.O.Sink.contents c.answer_script.new.out) (g.O.Sink.contents c.flush.new.self)
-      (g.P.Sink.contents c.args.saved.now) c.in-Ok.file.cards.header (standing_of c.answer_script.new.runner) c.in-Ok.ensures.ok (c.in-Err-TooLong.ensures.too_long is) c.in-Ok-flush.ensures.bytes,
+          (g.P.Sink.contents c.args.saved.now) c.in-Ok.file.cards.header (standing_of c.answer_script.new.runner) c.in-Ok.ensures.ok (c.in-Err-TooLong.ensures.too_long is) c.in-Ok-flush.ensures.bytes,
       record { of_file = c.in-Ok.ensures.quiet; of_script = quiet.0; of_out = omega (arith, c.in-Ok-flush.ensures.failed, quiet.1); of_saved = refl },
     )
 
