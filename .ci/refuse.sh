@@ -1,5 +1,5 @@
 #!/bin/sh
-# Runs each built test whose name holds `refus` once for each of its requests for memory, that one refused.
+# Runs each built test whose name holds `refused_memory` once for each of its requests for memory, that one refused.
 # The tests are those that `rt ci`, or `rt test` in a crate's folder, left in crates/NAME/out.
 # The last line is 'N passed, M failed': a test passes where every one of its runs does.
 set -u
@@ -10,7 +10,7 @@ passed=0
 failed=0
 for tests in crates/*/out/*_tests; do
     [ -x "$tests" ] || continue
-    for name in $("$tests" --list 2>/dev/null | sed -n 's/: test$//p' | grep refus); do
+    for name in $("$tests" --list 2>/dev/null | sed -n 's/: test$//p' | grep refused_memory); do
         count=$(REFUSE_COUNT=1 LD_PRELOAD="$room/refuse.so" "$tests" "$name" 2>&1 >/dev/null | tail -1)
         bad=0
         k=1

@@ -253,7 +253,7 @@ fn reading_ends_at_its_limit(rt: HostRuntime) -> Result<(), Fail> {
 
 /// Whatever request for memory is refused, the next try finds all as it was.
 #[test]
-fn a_refused_cut_is_told(rt: HostRuntime) -> Result<(), Fail> {
+fn refused_memory_is_told_by_a_cut(rt: HostRuntime) -> Result<(), Fail> {
     let Ok(bytes) = header_of(rt.alloc(), 40) else {
         return Ok(());
     };
@@ -270,7 +270,7 @@ fn a_refused_cut_is_told(rt: HostRuntime) -> Result<(), Fail> {
 }
 
 #[test]
-fn a_refused_room_changes_nothing(rt: HostRuntime) -> Result<(), Fail> {
+fn refused_memory_leaves_a_store_as_it_was(rt: HostRuntime) -> Result<(), Fail> {
     let Ok(bytes) = header_of(rt.alloc(), 3) else {
         return Ok(());
     };

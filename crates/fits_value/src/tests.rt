@@ -311,7 +311,7 @@ fn check_line<R: Abort>(rt: &R, line: Result<Vec<u8>, AllocError>, wanted: &str)
 }
 
 #[test]
-fn a_refused_reading_is_made_again(rt: HostRuntime) {
+fn refused_memory_keeps_no_reading_back(rt: HostRuntime) {
     for (field, wanted) in ASKING {
         // Twice, so that the second one follows a refusal.
         for _ in 0..2 {

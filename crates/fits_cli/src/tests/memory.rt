@@ -5,7 +5,7 @@ use std::test::Fail;
 
 /// Whichever request for memory is refused, a run either saves nothing or is as with ample memory.
 #[test]
-fn a_run_that_is_refused_memory_saves_nothing(rt: HostRuntime) -> Result<(), Fail> {
+fn refused_memory_saves_nothing(rt: HostRuntime) -> Result<(), Fail> {
     let alloc = rt.alloc();
     let Ok(file) = p0(alloc) else {
         return Ok(());

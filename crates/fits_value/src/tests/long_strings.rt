@@ -116,7 +116,7 @@ fn a_long_string_goes_on_over_proper_continue_cards(rt: HostRuntime) -> Result<(
 }
 
 #[test]
-fn a_refused_chain_leaves_its_header(rt: HostRuntime) {
+fn refused_memory_leaves_the_header_of_a_chain(rt: HostRuntime) {
     let cards = [
         "A       = 'one&'",
         "CONTINUE  'two&'",
