@@ -138,7 +138,9 @@ fn a_thirty_sixth_card_adds_a_block(rt: HostRuntime) -> Result<(), Fail> {
     assert_eq!(rt; list.len(), 35);
     list.reserve(1)?;
     assert_eq!(rt; list.len(), 35);
-    list.insert(36, Card::padded(b"COMMENT y"));
+    let card = Card::padded(b"COMMENT y");
+    assert!(rt; !card.is_end());
+    list.insert(36, card);
     assert_eq!(rt; list.len(), 36);
     assert_eq!(rt; list.card(35), Card::padded(b"COMMENT x"));
     assert_eq!(rt; list.card(36), Card::padded(b"COMMENT y"));
@@ -283,8 +285,10 @@ fn refused_memory_leaves_a_store_as_it_was(rt: HostRuntime) -> Result<(), Fail> 
             assert_eq!(rt; list.card(1), Card::padded(b"COMMENT x"));
         }
     }
+    let card = Card::padded(b"COMMENT y");
+    assert!(rt; !card.is_end());
     if list.reserve(1).is_ok() {
-        list.insert(1, Card::padded(b"COMMENT y"));
+        list.insert(1, card);
         assert_eq!(rt; list.len(), 4);
     }
     Ok(())
