@@ -1,14 +1,13 @@
 -- Where the header cut falls, and that it can fall nowhere else.
-use Rattle.std.proofs.Common.{◌≡◌, ◌⊎◌, ℕ, ◌+◌, ◌*◌, ◌<◌, ◌≤◌, List, [], ◌∷◌, ◌++◌, length, map, take, drop, get_or, refl, ap, sym, ◌∙◌, append_assoc, inl, inr, arith, All, zero, suc}
-use Rattle.std.specs.List.{range_with_len}
+use Rattle.std.proofs.Common.{◌≡◌, ◌⊎◌, ℕ, ◌+◌, ◌*◌, ◌/◌, ◌<◌, ◌≤◌, Bool, true, false, List, [], ◌∷◌, ◌++◌, length, take, drop, get_or, refl, ap, sym, ◌∙◌, append_assoc, inl, inr, arith, All, zero, suc}
 use Rattle.std.proofs.lemmas.Bool.{cases_lt}
 use Rattle.std.proofs.lemmas.List.{append-nil, length-append, length-take-le, length-drop, take_at, drop_at, get_or_default, take-append-drop}
 use Rattle.std.proofs.lemmas.List.Concat.{flat_map-append}
 use Rattle.std.proofs.lemmas.List.Elements.{All-take}
 use Rattle.std.proofs.lemmas.List.FromFn.{length-map-range_with_len, get_or-map-range_with_len, map-range_with_len_more, fill_by_all}
 use Rattle.std.proofs.Math.Seq.{take-add}
-use Rattle.fits_card.specs.Card.{IsEnd}
-use Rattle.fits_card.specs.Header.{Header, IsHeader, IsInnerCard, IsHeaderOf, HasNoHeader, IsEndPlace, HasNoEnd, joined_cards, header_bytes, header_at, header_length, fill_length, piece, pieces}
+use Rattle.fits_card.specs.Card.{IsEnd, is_end}
+use Rattle.fits_card.specs.Header.{Header, IsInnerCard, IsHeaderOf, HasNoHeader, IsEndPlace, HasNoEnd, joined_cards, header_bytes, header_at, header_length, fill_length, piece, pieces}
 use Rattle.fits_card.proofs.EmitLemmas.{joined-at}
 use Rattle.fits_card.proofs.HeaderLemmas.{length-joined_cards, length-header_bytes}
 
@@ -160,6 +159,34 @@ one_header f h i s t p q =
       header_is f h s p ∙ ap (header_at f) same ∙ sym (header_is f i t q),
       rest_is f h s p ∙ ap (λ n. drop (header_length n) f) same ∙ sym (rest_is f i t q),
     )
+
+-- the first of so many pieces that ends a header, or none of them does
+abbrev EndAmong : List ℕ → ℕ → Type 0
+EndAmong f n = ((k : ℕ) × IsEndPlace f k) ⊎ ((j : ℕ) → j < n → IsEnd (piece f j) → ⊥)
+
+-- one piece more
+end_more : (f : List ℕ) (n : ℕ) (b : Bool) → 80 * (n + 1) ≤ length f → ((j : ℕ) → j < n → IsEnd (piece f j) → ⊥) → is_end (piece f n) ≡ b → EndAmong f (suc n)
+end_more f n true le none e = inl (n, record { within = le; ends = e; first = none })
+end_more f n false le none e = inr (λ j l ends. elim (cases_lt j n) [ inl below ↦ none j below ends | inr last ↦ let same : j ≡ n = omega arith in let no : false ≡ true = sym e ∙ ap (λ i. is_end (piece f i)) (sym same) ∙ ends in cc ])
+
+end_among : (f : List ℕ) (n : ℕ) → 80 * n ≤ length f → EndAmong f n
+end_among f zero le = inr (λ j l ends. absurd (omega arith))
+end_among f (suc n) le = elim (end_among f n (omega arith)) [ inl p ↦ inl p | inr none ↦ end_more f n (is_end (piece f n)) (omega arith) none refl ]
+
+-- where the first END is, or that there is none
+end_or_none : (f : List ℕ) → ((k : ℕ) × IsEndPlace f k) ⊎ HasNoEnd f
+end_or_none f = elim (end_among f (length f / 80) (omega arith)) [ inl p ↦ inl p | inr none ↦ inr (λ j le. none j (omega arith)) ]
+
+-- bytes begin with a header, or with none
+pub header_or_none : (f : List ℕ) → ((header : Header) × (rest : List ℕ) × IsHeaderOf f header rest) ⊎ HasNoHeader f
+header_or_none f =
+    elim (end_or_none f) [
+      | inl place ↦ elim (cases_lt (length (drop (80 * (place.0 + 1)) f)) (fill_length place.0)) [
+        | inl short ↦ inr (short_no_header f place.0 place.1 short)
+        | inr le ↦ inl (header_at f place.0, drop (header_length place.0) f, header_there f place.0 place.1 le)
+      ]
+      | inr none ↦ inr (no_end_no_header f none)
+    ]
 
 pub ruleset place_steps = (header_there, no_end_no_header, short_no_header)
 

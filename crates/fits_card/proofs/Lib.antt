@@ -1,3 +1,4 @@
+pub mod ChangeLemmas
 pub mod CutLemmas
 pub mod EmitLemmas
 pub mod HeaderLemmas

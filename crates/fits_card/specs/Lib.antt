@@ -1,5 +1,6 @@
 pub mod Card
 pub mod CardList
+pub mod Change
 pub mod Header
 pub mod Name
 pub mod Stream

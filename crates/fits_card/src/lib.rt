@@ -3,6 +3,8 @@
 
 pub mod card;
 pub mod card_list;
+pub mod cards;
+pub mod change;
 pub mod count;
 pub mod cut;
 pub mod laws;
