@@ -213,7 +213,7 @@ none_size [] k n e u = sym (empty_size k n e)
 none_size (b ∷ s) k n e u = take_none n b s (undefined_spelled k (take n (b ∷ s)) u (value_found (b ∷ s) k n e))
 
 -- the value of a reading
-ending_value : (k : ValueKind) (v : Span) (n : ℕ) (s : List ℕ) (r : Reading) → ending_of k v n s ≡ Some r → v ≡ r.value
+pub ending_value : (k : ValueKind) (v : Span) (n : ℕ) (s : List ℕ) (r : Reading) → ending_of k v n s ≡ Some r → v ≡ r.value
 ending_value k v n [] r e = ap (λ (x : Reading). x.value) (some_reading _ r e)
 ending_value k v n (c ∷ s) r e = elim (chosen (eqb c 47) _ None (Some r) e) [
   | inl w ↦ ap (λ (x : Reading). x.value) (some_reading _ r w.1)

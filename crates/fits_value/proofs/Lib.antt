@@ -5,6 +5,8 @@ pub mod DigitLemmas
 pub mod FieldLemmas
 pub mod FieldOnlyLemmas
 pub mod FrontLemmas
+pub mod IntegerLemmas
+pub mod LongSaysLemmas
 pub mod LongStringLemmas
 pub mod LongValueLemmas
 pub mod NormalLemmas
@@ -16,5 +18,7 @@ pub mod PartLemmas
 pub mod QuoteLemmas
 pub mod ReadLemmas
 pub mod SayLemmas
+pub mod SaysLemmas
 pub mod TrimLemmas
 pub mod ValueScanLemmas
+pub mod WithinLemmas

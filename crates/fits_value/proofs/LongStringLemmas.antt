@@ -34,7 +34,7 @@ run_continues cards p [] last rest h = (last.card, rest, refl, all_head (λ (pie
 run_continues cards p (q ∷ front) last rest h = (q.card, cards_of (front ++ last ∷ []) ++ rest, refl, all_head (λ (piece : Piece). IsContinueCard piece.card) q (front ++ last ∷ []) h.continued)
 
 -- cards that begin with the same card go on alike
-cons_parts : (a b : List ℕ) (s t : List (List ℕ)) → a ∷ s ≡ b ∷ t → (a ≡ b) × (s ≡ t)
+pub cons_parts : (a b : List ℕ) (s t : List (List ℕ)) → a ∷ s ≡ b ∷ t → (a ≡ b) × (s ≡ t)
 cons_parts a b s t e = ((cc), (cc))
 
 -- the text of a string

@@ -1,5 +1,5 @@
 -- Complex numbers as pairs of elements against their spellings, in both directions.
-use Rattle.std.proofs.Common.{◌≡◌, ℕ, ◌+◌, eqb, List, [], ◌∷◌, ◌++◌, length, drop, take, Option, None, Some, refl, sym, ◌∙◌, ap, arith, inl, inr, append_assoc, length-append}
+use Rattle.std.proofs.Common.{◌≡◌, ℕ, ◌≤◌, ◌+◌, eqb, List, [], ◌∷◌, ◌++◌, length, drop, take, Option, None, Some, refl, sym, ◌∙◌, ap, arith, inl, inr, append_assoc, length-append}
 use Rattle.std.proofs.lemmas.Bool.{eqb-true}
 use Rattle.std.proofs.Math.Seq.{drop-append_seam}
 use Rattle.fits_value.proofs.FrontLemmas.{chosen}
@@ -123,6 +123,14 @@ pair_parts s p f =
       imaginary_end = omega (arith, a.len, b.end, m4);
       len = omega (arith, a.len, b.len, m5);
     }
+
+-- a pair that is found lies in the text
+pub pair_within : (s : List ℕ) (p : Pair) → pair_of s ≡ Some p → p.len ≤ length (40 ∷ s)
+pair_within s p f =
+    let h = pair_parts s p f in
+    let size : length (40 ∷ s) ≡ 3 + (length h.before_real + length h.real + length h.after_real) + (length h.before_imaginary + length h.imaginary + length h.after_imaginary) + length h.rest =
+    ap length h.whole ∙ simp length-append (omega arith) in
+    omega (arith, size, h.len)
 
 -- the spelling of a pair
 pair_spelled : (text : List ℕ) (p : Pair) → IsPairOf text p → IsComplexOf (take p.len text) (part text p.real) (part text p.imaginary)

@@ -15,18 +15,18 @@ use Rattle.fits_value.specs.declared.value.Value.{Value}
 use Rattle.fits_value.specs.declared.value.Value.TheVariants.{Undefined, Logical, Integer, Real, Complex, Str}
 
 -- where the parts of a complex number stand
-record Scans (spelling real imaginary : List ℕ) : Type 0 where
-  pair : Pair
-  found : pair_of (drop 1 spelling) ≡ Some pair
-  real_is : part spelling pair.real ≡ real
-  imaginary_is : part spelling pair.imaginary ≡ imaginary
+pub record Scans (spelling real imaginary : List ℕ) : Type 0 where
+  pub pair : Pair
+  pub found : pair_of (drop 1 spelling) ≡ Some pair
+  pub real_is : part spelling pair.real ≡ real
+  pub imaginary_is : part spelling pair.imaginary ≡ imaginary
 
 -- the pair that is known
 known_pair : (x y : Pair) → Some x ≡ Some y → x ≡ y
 known_pair x y e = (cc)
 
 -- the parts of a complex number are found in its spelling
-scans : (spelling real imaginary : List ℕ) → IsComplexOf spelling real imaginary → Scans spelling real imaginary
+pub scans : (spelling real imaginary : List ℕ) → IsComplexOf spelling real imaginary → Scans spelling real imaginary
 scans spelling real imaginary h =
     let w = subst (λ (x : List ℕ). FindsPair x spelling real imaginary) (append-nil spelling) (pair_only spelling real imaginary [] h) in
     let tail : drop 1 spelling ≡ w.tail = ap (λ (x : List ℕ). drop 1 x) w.begins in

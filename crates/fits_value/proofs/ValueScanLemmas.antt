@@ -15,7 +15,7 @@ use Rattle.fits_value.specs.declared.reading.ValueKind.TheVariants.{Undefined, L
 use Rattle.fits_value.specs.declared.scan_complex.Pair.{Pair}
 
 -- equal pairs have equal parts
-same_pair : (x y : ValueKind × ℕ) → Some x ≡ Some y → (x.0 ≡ y.0) × (x.1 ≡ y.1)
+pub same_pair : (x y : ValueKind × ℕ) → Some x ≡ Some y → (x.0 ≡ y.0) × (x.1 ≡ y.1)
 same_pair x y e = let p : x ≡ y = (cc) in (ap (λ (z : ValueKind × ℕ). z.0) p, ap (λ (z : ValueKind × ℕ). z.1) p)
 
 -- a pair that is known, carried to the one that was asked of

@@ -3,6 +3,7 @@ pub mod Field
 pub mod LongString
 pub mod Number
 pub mod NumberSteps
+pub mod Says
 pub mod Scan
 pub mod Spelling
 pub mod Text

@@ -1,10 +1,11 @@
 //! Laws of the definitions, each the contract of a function that does nothing.
-ghost use Rattle.std.specs.Prelude.{◌≡◌, ℕ, ℤ, List, Option};
+ghost use Rattle.std.specs.Prelude.{◌≡◌, ◌≤◌, ℕ, ℤ, List, Option, Some};
 ghost use Rattle.fits_value.specs.Field.{FieldReadsAs, ReadsAs};
 ghost use Rattle.fits_value.specs.Number.{IsIntegerOf, Denotes};
 ghost use Rattle.fits_value.specs.Spelling.{IsInteger, IsNumber};
 ghost use Rattle.fits_value.specs.Value.{FieldSays, CardSays};
 ghost use Rattle.fits_value.specs.LongString.{Piece, IsChain, LongSays};
+ghost use Rattle.fits_value.specs.Says.{field_says, card_says, long_says, integer_in};
 ghost use Rattle.fits_value.specs.declared.value.Value.{Value};
 ghost use Rattle.fits_value.specs.declared.reading.ValueKind.{ValueKind};
 
@@ -60,4 +61,28 @@ pub fn integers_have_numbers()
 #[tactic(auto, using(crate::proofs::NumberLemmas::integer_denotes))]
 pub fn integers_denote()
     ensures { (text : List ℕ) (n : ℤ) → IsIntegerOf text n → Denotes text n }
+{}
+
+/// What a text says, as a function: exactly the value and the comment.
+pub fn what_a_field_says()
+    ensures said { (text : List ℕ) (v : Value) (c : Option (List ℕ)) → FieldSays text v c → field_says text ≡ Some (v, c) }
+    ensures only { (text : List ℕ) (v : Value) (c : Option (List ℕ)) → field_says text ≡ Some (v, c) → FieldSays text v c }
+{}
+
+/// What a card says, as a function.
+pub fn what_a_card_says()
+    ensures said { (card : List ℕ) (v : Value) (c : Option (List ℕ)) → CardSays card v c → card_says card ≡ Some (v, c) }
+    ensures only { (card : List ℕ) (v : Value) (c : Option (List ℕ)) → card_says card ≡ Some (v, c) → CardSays card v c }
+{}
+
+/// What a place says, as a function. Places count from 1.
+pub fn what_a_place_says()
+    ensures said { (cards : List (List ℕ)) (place : ℕ) (v : Value) (c : Option (List ℕ)) → 1 ≤ place → LongSays cards place v c → long_says cards place ≡ Some (v, c) }
+    ensures only { (cards : List (List ℕ)) (place : ℕ) (v : Value) (c : Option (List ℕ)) → 1 ≤ place → long_says cards place ≡ Some (v, c) → LongSays cards place v c }
+{}
+
+/// Which number an integer has, as a function.
+pub fn which_integer()
+    ensures said { (text : List ℕ) (n : ℤ) → IsIntegerOf text n → integer_in text ≡ Some n }
+    ensures only { (text : List ℕ) (n : ℤ) → integer_in text ≡ Some n → IsIntegerOf text n }
 {}

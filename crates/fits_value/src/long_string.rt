@@ -3,6 +3,7 @@ ghost use Rattle.fits_value.specs.Text.{normal_form};
 ghost use Rattle.fits_card.specs.Card.{keyword_name, indicator, HasValue};
 ghost use Rattle.fits_value.specs.Value.{CardSays};
 ghost use Rattle.fits_value.specs.LongString.{Piece, IsContinueCard, EndsInAmpersand, BeginsWithContinue, BeginsChain, IsChain, SaysChain, LongSays, cards_from, without_last};
+ghost use Rattle.fits_value.specs.Says.{long_says};
 ghost use Rattle.fits_value.specs.Chaining.{ContinuesBy, JoinsTo};
 ghost use Rattle.fits_value.specs.declared.value.Value.{Value};
 
@@ -142,6 +143,7 @@ pub fn long_value(
     ensures found { IfOk result (λ said. IfSome said (λ reading. LongSays cards.old.header.cards place reading.0 reading.1)) }
     ensures only { (value : Value) (comment : Option (List ℕ)) → LongSays cards.old.header.cards place value comment
         → IfOk result (λ said. said ≡ Some (value, comment)) }
+    ensures same { IfOk result (λ said. said ≡ long_says cards.old.header.cards place) }
 
     // The header and its room stay. Cards are read once for a chain, and the one that ends it.
     ensures header { cards.new.header ≡ cards.old.header }

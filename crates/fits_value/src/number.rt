@@ -1,9 +1,10 @@
 //! The numbers that integers and reals denote, by digits and decimal exponent.
-ghost use Rattle.std.specs.Prelude.{◌≡◌, ◌≤◌, ◌<◌, ◌+◌, ◌*◌, ◌^◌, ◌++◌, ◌↔◌, Bool, ℕ, ℤ, List, IsTrue, IfSome, IfNone, IsSomeAnd, SomeIff, FitsSigned, unsigned_abs, length};
+ghost use Rattle.std.specs.Prelude.{◌≡◌, ◌≤◌, ◌<◌, ◌+◌, ◌*◌, ◌^◌, ◌++◌, ◌↔◌, Bool, ℕ, ℤ, List, Some, IsTrue, IfSome, IfNone, IsSomeAnd, SomeIff, FitsSigned, unsigned_abs, length};
 ghost use Rattle.std.specs.Int.{w64};
 ghost use Rattle.std.specs.List.{fold, list_all, prefix_len, take_while};
 ghost use Rattle.fits_value.specs.Spelling.{is_digit, IsDigits, AreSomeDigits};
 ghost use Rattle.fits_value.specs.Number.{with_digit, value_of, signed, IsSigned, IsIntegerOf, IsPowerOf, IsDecimal, IsExactly, Denotes};
+ghost use Rattle.fits_value.specs.Says.{integer_in};
 ghost use Rattle.fits_value.specs.NumberSteps.{is_minus, after_sign, after_digits, fraction_of, after_fraction};
 
 /// How many digits a number of 127 bits has at most.
@@ -298,6 +299,8 @@ fn with_sign(is_negative: bool, size: u128) -> Option<i64>
 pub fn integer_of(text: &[u8]) -> Option<i64>
     ensures value { IfSome result (λ number. IsIntegerOf text.now number) }
     ensures only { (number : ℤ) → IsIntegerOf text.now number → FitsSigned w64 number → result ≡ Some number }
+    ensures same { IfSome result (λ number. integer_in text.now ≡ Some number) }
+    ensures none { IfNone result ((number : ℤ) → integer_in text.now ≡ Some number → FitsSigned w64 number → ⊥) }
 {
     let (is_negative, digits) = split_integer(text)?;
     let size = append_digits(0, digits, 1 << 63)?;

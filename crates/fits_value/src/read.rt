@@ -4,6 +4,7 @@ ghost use Rattle.fits_card.specs.Card.{is_text};
 ghost use Rattle.fits_value.specs.Spelling.{Spells};
 ghost use Rattle.fits_value.specs.Field.{part};
 ghost use Rattle.fits_value.specs.Value.{kind_of, IsValueOf, FieldSays, CardSays};
+ghost use Rattle.fits_value.specs.Says.{field_says, card_says};
 ghost use Rattle.fits_value.specs.declared.reading.ValueKind.TheVariants as kind;
 ghost use Rattle.fits_value.specs.declared.value.Value.{Value};
 
@@ -102,6 +103,7 @@ fn is_text(text: &[u8]) -> bool
 pub fn read_field(alloc: Global, text: &[u8]) -> Result<Option<(Value, Option<Text>)>, AllocError>
     ensures found { IfOk result (λ said. IfSome said (λ reading. FieldSays text.now reading.0 reading.1)) }
     ensures only { (value : Value) (comment : Option (List ℕ)) → FieldSays text.now value comment → IfOk result (λ said. said ≡ Some (value, comment)) }
+    ensures same { IfOk result (λ said. said ≡ field_says text.now) }
 {
     if !is_text(text) {
         return Ok(None);
@@ -118,6 +120,7 @@ pub fn read_field(alloc: Global, text: &[u8]) -> Result<Option<(Value, Option<Te
 pub fn read_value(alloc: Global, card: &Card) -> Result<Option<(Value, Option<Text>)>, AllocError>
     ensures found { IfOk result (λ said. IfSome said (λ reading. CardSays card.now reading.0 reading.1)) }
     ensures only { (value : Value) (comment : Option (List ℕ)) → CardSays card.now value comment → IfOk result (λ said. said ≡ Some (value, comment)) }
+    ensures same { IfOk result (λ said. said ≡ card_says card.now) }
 {
     if !card.is_text() {
         return Ok(None);

@@ -1,7 +1,8 @@
-ghost use Rattle.std.specs.Prelude.{◌≡◌, ◌≤◌, ◌+◌, ℕ, List, Option, length, IfSome, IsSomeAnd};
+ghost use Rattle.std.specs.Prelude.{◌≡◌, ◌≤◌, ◌+◌, ℕ, List, Option, Some, None, length, IfSome, IfNone, IsSomeAnd};
 ghost use Rattle.std.specs.Option.{ForSome, option_map};
 ghost use Rattle.fits_card.specs.Card.{IsText};
 ghost use Rattle.fits_value.specs.Field.{FieldReadsAs, ReadsAs, IsPlacedIn, part};
+ghost use Rattle.fits_value.specs.Says.{read_said, card_says};
 ghost use Rattle.fits_value.specs.Scan.{reading_of, value_span, moved_reading};
 ghost use Rattle.fits_value.specs.declared.reading.ValueKind.{ValueKind};
 
@@ -104,6 +105,10 @@ pub fn scan_card(card: &Card) -> Option<Reading>
     ensures found { IfSome result (λ reading. ReadsAs card.now reading.kind (part card.now reading.value) (option_map (part card.now) reading.comment)) }
     ensures only { (kind : ValueKind) (spelling : List ℕ) (comment : Option (List ℕ)) → ReadsAs card.now kind spelling comment
         → IsSomeAnd result (λ reading. (reading.kind ≡ kind) × (part card.now reading.value ≡ spelling) × (option_map (part card.now) reading.comment ≡ comment)) }
+
+    // The same as a function: the value that the kind and the bytes spell.
+    ensures said { IfSome result (λ reading. card_says card.now ≡ read_said card.now (Some reading)) }
+    ensures none { IfNone result (card_says card.now ≡ None) }
 
     // The spans are those of the value and the comment, and not of the same bytes elsewhere.
     ensures placed { IfSome result (IsPlacedIn card.now 10) }

@@ -8,6 +8,7 @@ use Rattle.fits_value.specs.declared.value.Value.{Value}
 use Rattle.fits_value.specs.declared.value.Value.TheVariants.{Str}
 use Rattle.fits_value.proofs.ChainingLemmas.{joins_first}
 use Rattle.fits_value.proofs.LongValueLemmas.{long_none, long_only, long_alone, valueless, stringless, begins}
+use Rattle.fits_value.proofs.LongSaysLemmas.{place_said, place_silent}
 use Rattle.fits_value.proofs.long_string.long_value.Goals as goal
 
 pub returns-in_default-clause-only : goal.returns-in_default-clause-only
@@ -83,3 +84,28 @@ returns-in_default-value-clause-only c = λ value comment says.
     (long_alone c.args.cards.now.header.cards c.args.place c.card_at-card.result _ c.in-Some.value c.in-Some.comment c.card_at-card.ensures.at own
     (stringless c.args.cards.now.header.cards c.args.place c.card_at-card.result _ c.in-Some.value c.in-Some.comment c.card_at-card.ensures.at own c.in_default-value.not-Str))
     says
+
+pub returns-in_default-clause-same : goal.returns-in_default-clause-same
+returns-in_default-clause-same c =
+    sym (place_silent c.args.cards.now.header.cards c.args.place c.card_at-card.result _ c.card_at-card.ensures.at (λ v d h. c.in_default.not-Some _ (c.in_ok-value.ensures.only v d h)))
+
+pub returns-then-not-has_value-clause-same : goal.returns-then-not-has_value-clause-same
+returns-then-not-has_value-clause-same c =
+    let says : CardSays c.card_at-card.result c.in-Some.value c.in-Some.comment = rw c.in-Some.is at c.in_ok-value.ensures.found in
+    let none : HasValue c.card_at-card.result → ⊥ = search rules in
+    sym (place_said c.args.cards.now.header.cards c.args.place c.in-Some.value c.in-Some.comment
+    (long_alone c.args.cards.now.header.cards c.args.place c.card_at-card.result _ c.in-Some.value c.in-Some.comment c.card_at-card.ensures.at says
+    (valueless c.args.cards.now.header.cards c.args.place c.card_at-card.result _ c.card_at-card.ensures.at none)))
+
+pub returns-in_ok-text-in-Str-clause-same : goal.returns-in_ok-text-in-Str-clause-same
+returns-in_ok-text-in-Str-clause-same c =
+    let same : c.card_at-card.new.cards.header.cards ≡ c.args.cards.now.header.cards = ap (λ (x : CardStore). x.header.cards) c.card_at-card.ensures.work in
+    let chain = subst (λ (x : List (List ℕ)). SaysChain x c.args.place (Str c.in_ok-text-in-Str.text) c.in_ok-text-in-Str.comment) same c.in_ok-text-in-Str.ensures.said in
+    sym (place_said c.args.cards.now.header.cards c.args.place (Str c.in_ok-text-in-Str.text) c.in_ok-text-in-Str.comment (inl chain))
+
+pub returns-in_default-value-clause-same : goal.returns-in_default-value-clause-same
+returns-in_default-value-clause-same c =
+    let own : CardSays c.card_at-card.result c.in-Some.value c.in-Some.comment = rw c.in-Some.is at c.in_ok-value.ensures.found in
+    sym (place_said c.args.cards.now.header.cards c.args.place c.in-Some.value c.in-Some.comment
+    (long_alone c.args.cards.now.header.cards c.args.place c.card_at-card.result _ c.in-Some.value c.in-Some.comment c.card_at-card.ensures.at own
+    (stringless c.args.cards.now.header.cards c.args.place c.card_at-card.result _ c.in-Some.value c.in-Some.comment c.card_at-card.ensures.at own c.in_default-value.not-Str)))

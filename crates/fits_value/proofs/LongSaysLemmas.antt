@@ -1,0 +1,253 @@
+-- What places say, as a function and as a relation: each string has its chain.
+use Rattle.std.proofs.Common.{◌≡◌, ℕ, ◌-◌, true, false, List, [], ◌∷◌, ◌++◌, length, take, drop, codes, bytes_eq, All, Option, None, Some, refl, sym, ◌∙◌, ap, subst, arith, inl, inr, ◌&&◌, append_assoc, length-append}
+use Rattle.std.specs.List.{flat_map}
+use Rattle.std.specs.Option.{option_map}
+use Rattle.std.proofs.Math.Seq.{drop-append_seam}
+use Rattle.std.proofs.lemmas.Bool.{cases_Bool, both_ways, and_parts, and_from, cond-true, cond-false}
+use Rattle.std.proofs.lemmas.List.{take-append-drop}
+use Rattle.std.proofs.lemmas.List.Elements.{All-cons, All-nil}
+use Rattle.std.proofs.lemmas.Slice.Eq.{bytes_eq-Decides}
+use Rattle.fits_card.specs.Card.{keyword_name, indicator, has_value, HasValue}
+use Rattle.fits_value.proofs.FrontLemmas.{chosen, option_map_some}
+use Rattle.fits_value.proofs.LongStringLemmas.{cons_parts, chain_begins}
+use Rattle.fits_value.proofs.LongValueLemmas.{long_none, long_only, long_alone, valueless, stringless}
+use Rattle.fits_value.proofs.ReadLemmas.{Said, same_said}
+use Rattle.fits_value.proofs.SaysLemmas.{card_said, card_told, nothing_said}
+use Rattle.fits_value.specs.Text.{normal_form}
+use Rattle.fits_value.specs.Value.{CardSays}
+use Rattle.fits_value.specs.LongString.{Piece, SaysPiece, IsContinueCard, EndsInAmpersand, BeginsWithContinue, IsRun, LongSays, cards_from, without_last}
+use Rattle.fits_value.specs.Says.{card_says, string_of, string_said, link_says, link_before, links_of, ends_in_ampersand, joined, continued, first_says, long_says}
+use Rattle.fits_value.specs.declared.value.Value.{Value}
+use Rattle.fits_value.specs.declared.value.Value.TheVariants.{Str}
+
+-- a string with its comment
+abbrev Link : Type 0
+Link = List ℕ × Option (List ℕ)
+
+-- an ampersand is found at the end
+ampersand_told : (text : List ℕ) → ends_in_ampersand text ≡ true → EndsInAmpersand text
+ampersand_told text e =
+    let n = length text - 1 in
+    (take n text, sym (take-append-drop n text) ∙ ap (λ (x : List ℕ). take n text ++ x) ((bytes_eq-Decides (drop n text) (codes "&")).0 e))
+
+-- one at the end is found
+ampersand_said : (text : List ℕ) → EndsInAmpersand text → ends_in_ampersand text ≡ true
+ampersand_said text h =
+    let n : length text - 1 ≡ length h.0 = omega (arith, ap length h.1, length-append h.0 (38 ∷ [])) in
+    (bytes_eq-Decides (drop (length text - 1) text) (codes "&")).1 (ap (λ (k : ℕ). drop k text) n ∙ (ap (λ (x : List ℕ). drop (length h.0) x) h.1 ∙ drop-append_seam h.0 (38 ∷ [])))
+
+-- the string that is known
+some_link : (x y : Link) → Some x ≡ Some y → (x.0 ≡ y.0) × (x.1 ≡ y.1)
+some_link x y e = let p : x ≡ y = (cc) in (ap (λ (z : Link). z.0) p, ap (λ (z : Link). z.1) p)
+
+-- a value that is a string
+string_value : (v : Value) (c : Option (List ℕ)) (link : Link) → string_of v c ≡ Some link → (v ≡ Str link.0) × (c ≡ link.1)
+string_value (Str text) c link e = let p = some_link (text, c) link e in (ap Str p.0, p.1)
+string_value v c link e = absurd (cc)
+
+-- what is said and is a string
+string_told : (o : Option Said) (link : Link) → string_said o ≡ Some link → o ≡ Some (Str link.0, link.1)
+string_told None link e = absurd (cc)
+string_told (Some x) link e = let p = string_value x.0 x.1 link e in same_said x (Str link.0, link.1) p.0 p.1
+
+-- a link is a proper CONTINUE card, which says its string
+link_told : (card : List ℕ) (link : Link) → link_says card ≡ Some link → IsContinueCard card × CardSays card (Str link.0) link.1
+unfolding link_says
+link_told card link e = elim (chosen (bytes_eq (keyword_name card) (codes "CONTINUE") && bytes_eq (indicator card) (codes "  ")) (string_said (card_says card)) None (Some link) e) [
+  | inl w ↦
+      let both = and_parts (bytes_eq (keyword_name card) (codes "CONTINUE")) (bytes_eq (indicator card) (codes "  ")) w.0 in
+      let says = card_told card (Str link.0) link.1 (string_told (card_says card) link w.1) in (
+        record {
+          named = (bytes_eq-Decides (keyword_name card) (codes "CONTINUE")).0 both.0;
+          not_indicated = (bytes_eq-Decides (indicator card) (codes "  ")).0 both.1;
+          text = link.0;
+          comment = link.1;
+          says = says;
+        },
+        says,
+      )
+  | inr w ↦ absurd (let z = w.1 in (cc))
+]
+
+-- a proper CONTINUE card is a link
+link_said : (card : List ℕ) → (h : IsContinueCard card) → link_says card ≡ Some (h.text, h.comment)
+unfolding link_says
+link_said card h =
+    let named = (bytes_eq-Decides (keyword_name card) (codes "CONTINUE")).1 h.named in
+    let spaced = (bytes_eq-Decides (indicator card) (codes "  ")).1 h.not_indicated in
+    cond-true (bytes_eq (keyword_name card) (codes "CONTINUE") && bytes_eq (indicator card) (codes "  ")) (string_said (card_says card)) None (and_from _ _ named spaced) ∙ ap string_said (card_said card (Str h.text) h.comment h.says)
+
+-- a card that is no link does not continue a chain
+link_missed : (card : List ℕ) (cards : List (List ℕ)) → link_says card ≡ None → BeginsWithContinue (card ∷ cards) → ⊥
+link_missed card cards e h =
+    let is : card ≡ h.0 = (cons_parts card h.0 cards h.1 h.2).0 in
+    let found = link_said h.0 h.3 in
+    let none : link_says h.0 ≡ None = ap link_says (sym is) ∙ e in
+    (cc)
+
+-- no card continues a chain behind the last one
+none_behind : BeginsWithContinue [] → ⊥
+none_behind h = let e = h.2 in (cc)
+
+-- the chain that begins with a piece, and what it joins to
+record Chains (piece : Piece) (cards : List (List ℕ)) (whole : Link) : Type 0 where
+  front : List Piece
+  last : Piece
+  rest : List (List ℕ)
+  run : IsRun (piece.card ∷ cards) front last rest
+  longest : EndsInAmpersand last.text → BeginsWithContinue rest → ⊥
+  joined_is : whole.0 ≡ flat_map (λ p. without_last p.text) front ++ last.text
+  comment_is : whole.1 ≡ last.comment
+
+-- a piece that nothing continues
+chain_ends : (piece : Piece) (cards : List (List ℕ)) → SaysPiece piece → (EndsInAmpersand piece.text → BeginsWithContinue cards → ⊥) → Chains piece cards (piece.text, piece.comment)
+chain_ends piece cards says longest = record {
+  front = [];
+  last = piece;
+  rest = cards;
+  run = record {
+    parts = refl;
+    say = All-cons SaysPiece piece [] says (All-nil SaysPiece);
+    are_open = All-nil (λ (x : Piece). EndsInAmpersand x.text);
+    continued = All-nil (λ (x : Piece). IsContinueCard x.card);
+  };
+  longest = longest;
+  joined_is = refl;
+  comment_is = refl;
+}
+
+-- all pieces of a run stand on proper CONTINUE cards where the first does
+all_continue : (card : List ℕ) (cards : List (List ℕ)) (front : List Piece) (last : Piece) (rest : List (List ℕ)) → IsContinueCard card → IsRun (card ∷ cards) front last rest → All (λ (x : Piece). IsContinueCard x.card) (front ++ last ∷ [])
+all_continue card cards [] last rest is h =
+    let same = (cons_parts card last.card cards rest h.parts).0 in
+    All-cons (λ (x : Piece). IsContinueCard x.card) last [] (subst (λ (x : List ℕ). IsContinueCard x) same is) (All-nil (λ (x : Piece). IsContinueCard x.card))
+all_continue card cards (p ∷ front) last rest is h =
+    let same = (cons_parts card p.card cards _ h.parts).0 in
+    All-cons (λ (x : Piece). IsContinueCard x.card) p (front ++ last ∷ []) (subst (λ (x : List ℕ). IsContinueCard x) same is) h.continued
+
+-- a piece that a chain continues
+chain_grows : (piece : Piece) (card : List ℕ) (cards : List (List ℕ)) (next : Piece) (whole : Link) → SaysPiece piece → EndsInAmpersand piece.text → next.card ≡ card → IsContinueCard card → Chains next cards whole
+    → Chains piece (card ∷ cards) (without_last piece.text ++ whole.0, whole.1)
+chain_grows piece card cards next whole says is_open at is h =
+    let run = subst (λ (x : List ℕ). IsRun (x ∷ cards) h.front h.last h.rest) at h.run in
+    record {
+      front = piece ∷ h.front;
+      last = h.last;
+      rest = h.rest;
+      run = record {
+        parts = ap (λ (x : List (List ℕ)). piece.card ∷ x) run.parts;
+        say = All-cons SaysPiece piece (h.front ++ h.last ∷ []) says run.say;
+        are_open = All-cons (λ (x : Piece). EndsInAmpersand x.text) piece h.front is_open run.are_open;
+        continued = all_continue card cards h.front h.last h.rest is run;
+      };
+      longest = h.longest;
+      joined_is = ap (λ (x : List ℕ). without_last piece.text ++ x) h.joined_is ∙ sym (append_assoc (without_last piece.text) _ h.last.text);
+      comment_is = h.comment_is;
+    }
+
+-- what a piece is joined to, by what the card behind it says
+chain_behind : (piece : Piece) (card : List ℕ) (cards : List (List ℕ)) (o : Option Link) → SaysPiece piece → link_says card ≡ o
+    → ((next : Piece) → SaysPiece next → Chains next cards (joined next.text next.comment (links_of cards))) → Chains piece (card ∷ cards) (joined piece.text piece.comment (link_before o (links_of cards)))
+chain_behind piece card cards None says e more = chain_ends piece (card ∷ cards) says (λ _ begins. link_missed card cards e begins)
+chain_behind piece card cards (Some link) says e more =
+    let next : Piece = record { card = card; text = link.0; comment = link.1 } in
+    let told = link_told card link e in
+    let whole = joined link.0 link.1 (links_of cards) in
+    let on : Link = (without_last piece.text ++ whole.0, whole.1) in
+    let off : Link = (piece.text, piece.comment) in
+    elim (cases_Bool (ends_in_ampersand piece.text)) [
+      | inl is_open ↦
+          subst (λ (x : Link). Chains piece (card ∷ cards) x) (sym (cond-true (ends_in_ampersand piece.text) on off is_open))
+          (chain_grows piece card cards next whole says (ampersand_told piece.text is_open) refl told.0 (more next told.1))
+      | inr closed ↦
+          subst (λ (x : Link). Chains piece (card ∷ cards) x) (sym (cond-false (ends_in_ampersand piece.text) on off closed))
+          (chain_ends piece (card ∷ cards) says (λ is_open _. both_ways (ends_in_ampersand piece.text) closed (ampersand_said piece.text is_open)))
+    ]
+
+-- each piece begins a chain, which joins to what its links do
+chain_made : (cards : List (List ℕ)) (piece : Piece) → SaysPiece piece → Chains piece cards (joined piece.text piece.comment (links_of cards))
+chain_made [] piece says = chain_ends piece [] says (λ _ begins. none_behind begins)
+chain_made (card ∷ cards) piece says = chain_behind piece card cards (link_says card) says refl (chain_made cards)
+
+-- a card's value with what continues it, where it has a value field
+continued_told : (cards : List (List ℕ)) (place : ℕ) (card : List ℕ) (rest : List (List ℕ)) (v : Value) (c : Option (List ℕ)) → cards_from cards place ≡ card ∷ rest → HasValue card → CardSays card v c
+    → LongSays cards place (continued v c rest).0 (continued v c rest).1
+continued_told cards place card rest (Str text) c at value says =
+    let h = chain_made rest (record { card = card; text = text; comment = c }) says in
+    inl (record {
+      front = h.front;
+      last = h.last;
+      is_chain = record {
+        rest = h.rest;
+        run = subst (λ (x : List (List ℕ)). IsRun x h.front h.last h.rest) (sym at) h.run;
+        first = subst (λ (x : List (List ℕ)). All HasValue (take 1 x)) (sym at) (All-cons HasValue card [] value (All-nil HasValue));
+        longest = h.longest;
+      };
+      value_is = ap (λ (x : List ℕ). Str (normal_form x)) h.joined_is;
+      comment_is = h.comment_is;
+    })
+continued_told cards place card rest v c at value says = long_alone cards place card rest v c at says (stringless cards place card rest v c at says (λ text e. (cc)))
+
+-- what the first card says with those behind it
+first_told : (cards : List (List ℕ)) (place : ℕ) (s : List (List ℕ)) (v : Value) (c : Option (List ℕ)) → cards_from cards place ≡ s → first_says s ≡ Some (v, c) → LongSays cards place v c
+first_told cards place [] v c at e = absurd (cc)
+first_told cards place (card ∷ rest) v c at e = elim (chosen (has_value card) (option_map (λ (x : Said). continued x.0 x.1 rest) (card_says card)) (card_says card) (Some (v, c)) e) [
+  | inl w ↦
+      let x = option_map_some (λ (x : Said). continued x.0 x.1 rest) (card_says card) (v, c) w.1 in
+      subst (λ (y : Said). LongSays cards place y.0 y.1) x.2 (continued_told cards place card rest x.0.0 x.0.1 at w.0 (card_told card x.0.0 x.0.1 x.1))
+  | inr w ↦ long_alone cards place card rest v c at (card_told card v c w.1) (valueless cards place card rest at (both_ways (has_value card) w.0))
+]
+
+-- what is found, a place says
+pub place_told : (cards : List (List ℕ)) (place : ℕ) (v : Value) (c : Option (List ℕ)) → long_says cards place ≡ Some (v, c) → LongSays cards place v c
+unfolding long_says
+place_told cards place v c e = first_told cards place (cards_from cards place) v c refl e
+
+-- a card that says something, and those behind it
+record SaysFirst (cards : List (List ℕ)) : Type 0 where
+  card : List ℕ
+  at : take 1 cards ≡ card ∷ []
+  said : Said
+  is_said : card_says card ≡ Some said
+
+-- one stands where a place says something
+says_first : (cards : List (List ℕ)) (place : ℕ) (v : Value) (c : Option (List ℕ)) → LongSays cards place v c → SaysFirst (cards_from cards place)
+says_first cards place v c (inl h) =
+    let b = chain_begins cards place h.front h.last h.is_chain in
+    record { card = b.piece.card; at = b.at; said = (Str b.piece.text, b.piece.comment); is_said = card_said b.piece.card (Str b.piece.text) b.piece.comment b.says }
+says_first cards place v c (inr h) = record { card = h.card; at = h.at; said = (v, c); is_said = card_said h.card v c h.says }
+
+-- then something is found
+first_found : (s : List (List ℕ)) → SaysFirst s → (x : Said) × (first_says s ≡ Some x)
+first_found [] h = absurd (let e = h.at in (cc))
+first_found (card ∷ rest) h =
+    let same : card ≡ h.card = (cons_parts card h.card [] [] h.at).0 in
+    let said : card_says card ≡ Some h.said = ap card_says same ∙ h.is_said in
+    elim (cases_Bool (has_value card)) [
+      | inl e ↦ (continued h.said.0 h.said.1 rest, cond-true (has_value card) _ _ e ∙ ap (option_map (λ (x : Said). continued x.0 x.1 rest)) said)
+      | inr e ↦ (h.said, cond-false (has_value card) _ _ e ∙ said)
+    ]
+
+-- what a place says is found
+pub place_said : (cards : List (List ℕ)) (place : ℕ) (v : Value) (c : Option (List ℕ)) → LongSays cards place v c → long_says cards place ≡ Some (v, c)
+unfolding long_says
+place_said cards place v c h =
+    let found = first_found (cards_from cards place) (says_first cards place v c h) in
+    let told = first_told cards place (cards_from cards place) found.0.0 found.0.1 refl found.1 in
+    found.1 ∙ long_only cards place found.0 (v, c) told h
+
+-- a place whose card says nothing says nothing
+pub place_silent : (cards : List (List ℕ)) (place : ℕ) (card : List ℕ) (rest : List (List ℕ)) → cards_from cards place ≡ card ∷ rest → ((v : Value) (c : Option (List ℕ)) → CardSays card v c → ⊥) → long_says cards place ≡ None
+place_silent cards place card rest at none = nothing_said (long_says cards place) (λ x e. let f = long_none cards place card rest at none x (place_told cards place x.0 x.1 e) in (cc))
+
+-- a place whose card says no string says what its card does
+pub place_stringless : (cards : List (List ℕ)) (place : ℕ) (card : List ℕ) (rest : List (List ℕ)) (v : Value) (c : Option (List ℕ)) → cards_from cards place ≡ card ∷ rest → card_says card ≡ Some (v, c) → ((text : List ℕ) → v ≡ Str text → ⊥)
+    → long_says cards place ≡ Some (v, c)
+place_stringless cards place card rest v c at e none =
+    let says = card_told card v c e in
+    place_said cards place v c (long_alone cards place card rest v c at says (stringless cards place card rest v c at says none))
+
+-- so does one whose card has no value field
+pub place_valueless : (cards : List (List ℕ)) (place : ℕ) (card : List ℕ) (rest : List (List ℕ)) → cards_from cards place ≡ card ∷ rest → has_value card ≡ false → long_says cards place ≡ card_says card
+unfolding long_says
+place_valueless cards place card rest at e = ap first_says at ∙ cond-false (has_value card) _ _ e

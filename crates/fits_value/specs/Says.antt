@@ -1,0 +1,105 @@
+-- What texts, cards and places say, as functions: the laws tie them to the relations, which are the definitions (own).
+use Rattle.std.specs.Prelude.{ℕ, ◌-◌, Bool, ◌&&◌, nat_lt, ℤ, List, [], ◌∷◌, ◌++◌, length, take, drop, codes, Option, None, Some, if◌then◌else◌}
+use Rattle.std.specs.List.{list_all}
+use Rattle.std.specs.Option.{option_map}
+use Rattle.std.specs.Str.{bytes_eq}
+use Rattle.fits_card.specs.Card.{keyword_name, indicator, has_value, is_text}
+use Rattle.fits_value.specs.Spelling.{is_digit}
+use Rattle.fits_value.specs.Field.{field, part}
+use Rattle.fits_value.specs.Text.{normal_form}
+use Rattle.fits_value.specs.LongString.{cards_from, without_last}
+use Rattle.fits_value.specs.Number.{signed, value_of}
+use Rattle.fits_value.specs.NumberSteps.{is_minus, after_sign}
+use Rattle.fits_value.specs.Scan.{pair_of, reading_of, undoubled}
+use Rattle.fits_value.specs.declared.reading.ValueKind.{ValueKind}
+use Rattle.fits_value.specs.declared.reading.ValueKind.TheVariants as kind
+use Rattle.fits_value.specs.declared.reading.Reading.{Reading}
+use Rattle.fits_value.specs.declared.value.Value.{Value}
+use Rattle.fits_value.specs.declared.value.Value.TheVariants.{Undefined, Logical, Integer, Real, Complex, Str}
+
+-- the text is T
+abbrev pub is_true : List ℕ → Bool
+is_true text = bytes_eq text (codes "T")
+
+-- what stands between the first byte and the last one
+abbrev pub inner : List ℕ → List ℕ
+inner text = take (length text - 2) (drop 1 text)
+
+-- the value of this kind that is spelled so
+abbrev pub value_spelled : ValueKind → List ℕ → Option Value
+value_spelled kind.Undefined spelling = Some Undefined
+value_spelled kind.Logical spelling = Some (Logical (is_true spelling))
+value_spelled kind.Integer spelling = Some (Integer spelling)
+value_spelled kind.Real spelling = Some (Real spelling)
+value_spelled kind.Complex spelling = option_map (λ pair. Complex (part spelling pair.real) (part spelling pair.imaginary)) (pair_of (drop 1 spelling))
+value_spelled kind.Str spelling = Some (Str (normal_form (undoubled (inner spelling))))
+
+-- the value and the comment of a reading
+abbrev pub read_said : List ℕ → Option Reading → Option (Value × Option (List ℕ))
+read_said text None = None
+read_said text (Some reading) = option_map (λ value. (value, option_map (part text) reading.comment)) (value_spelled reading.kind (part text reading.value))
+
+-- what a text says, whatever its length
+unfoldable pub field_says : List ℕ → Option (Value × Option (List ℕ))
+field_says text = if is_text text then read_said text (reading_of text) else None
+
+-- what a card's bytes 11 to 80 say (4.1.2.3)
+unfoldable pub card_says : List ℕ → Option (Value × Option (List ℕ))
+card_says card = if is_text card then field_says (field card) else None
+
+-- a string and its comment
+abbrev pub string_of : Value → Option (List ℕ) → Option (List ℕ × Option (List ℕ))
+string_of (Str text) comment = Some (text, comment)
+string_of value comment = None
+
+-- the string that is said, and its comment
+abbrev pub string_said : Option (Value × Option (List ℕ)) → Option (List ℕ × Option (List ℕ))
+string_said None = None
+string_said (Some said) = string_of said.0 said.1
+
+-- the string and the comment of a proper CONTINUE card: spaces in bytes 9 and 10, and a string (4.2.1.2)
+unfoldable pub link_says : List ℕ → Option (List ℕ × Option (List ℕ))
+link_says card = if bytes_eq (keyword_name card) (codes "CONTINUE") && bytes_eq (indicator card) (codes "  ") then string_said (card_says card) else None
+
+-- a string and comment before those of the cards behind, where there is one
+abbrev pub link_before : Option (List ℕ × Option (List ℕ)) → List (List ℕ × Option (List ℕ)) → List (List ℕ × Option (List ℕ))
+link_before None links = []
+link_before (Some link) links = link ∷ links
+
+-- the strings and comments of the proper CONTINUE cards that come first
+abbrev pub links_of : List (List ℕ) → List (List ℕ × Option (List ℕ))
+links_of [] = []
+links_of (card ∷ cards) = link_before (link_says card) (links_of cards)
+
+-- the text ends in an ampersand: it may be continued (4.2.1.2)
+abbrev pub ends_in_ampersand : List ℕ → Bool
+ends_in_ampersand text = bytes_eq (drop (length text - 1) text) (codes "&")
+
+-- a text and its comment, continued by links: where it ends in an ampersand, it loses that and goes on in the next (4.2.1.2)
+abbrev pub joined : List ℕ → Option (List ℕ) → List (List ℕ × Option (List ℕ)) → List ℕ × Option (List ℕ)
+joined text comment [] = (text, comment)
+joined text comment (link ∷ links) =
+    let rest = joined link.0 link.1 links in
+    if ends_in_ampersand text then (without_last text ++ rest.0, rest.1) else (text, comment)
+
+-- what a card's value and comment come to, with the cards behind it: a string goes on in their links
+abbrev pub continued : Value → Option (List ℕ) → List (List ℕ) → Value × Option (List ℕ)
+continued (Str text) comment cards = let chain = joined text comment (links_of cards) in (Str (normal_form chain.0), chain.1)
+continued value comment cards = (value, comment)
+
+-- what the first of these cards says: only a value field begins a chain (4.2.1.2)
+abbrev pub first_says : List (List ℕ) → Option (Value × Option (List ℕ))
+first_says [] = None
+first_says (card ∷ cards) = if has_value card then option_map (λ said. continued said.0 said.1 cards) (card_says card) else card_says card
+
+-- what a place says, counted from 1: the string of its chain with the last card's comment, or what its card says alone
+unfoldable pub long_says : List (List ℕ) → ℕ → Option (Value × Option (List ℕ))
+long_says cards place = first_says (cards_from cards place)
+
+-- the number of digits behind a sign
+abbrev pub number_in : Bool → List ℕ → Option ℤ
+number_in negative digits = if nat_lt 0 (length digits) && list_all is_digit digits then Some (signed negative (value_of digits)) else None
+
+-- the number of a text that is an integer, however large (4.2.3)
+unfoldable pub integer_in : List ℕ → Option ℤ
+integer_in text = number_in (is_minus text) (after_sign text)
