@@ -1,0 +1,9 @@
+pub mod AxesLemmas
+pub mod LawLemmas
+pub mod LeadLemmas
+pub mod OutcomeLemmas
+pub mod ReadLemmas
+pub mod ReadingLemmas
+pub mod ShapeLemmas
+pub mod SizeLemmas
+pub mod StringLemmas

@@ -1,0 +1,12 @@
+use Rattle.std.proofs.Common.{◌≡◌, ◌≤◌, ◌+◌}
+use Rattle.fits_rules.proofs.LeadLemmas.{NoneBefore}
+use Rattle.fits_rules.proofs.lead.lead.Given as goal
+
+abbrev pub invariant-loop-index : goal.invariant-loop-index
+invariant-loop-index l = record {
+  header : l.cards.header ≡ l.fn.cards.header;
+  room : l.cards.room ≡ l.fn.cards.room;
+  least : l.fn.cards.reads ≤ l.cards.reads;
+  most : l.cards.reads ≤ l.fn.cards.reads + l.index;
+  none : NoneBefore l.fn.cards.header.cards l.name l.index;
+}

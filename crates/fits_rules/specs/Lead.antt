@@ -1,0 +1,21 @@
+-- The lead of a name: the first card of that name that has a value. It alone counts (own).
+use Rattle.std.specs.Prelude.{ℕ, ◌+◌, ◌-◌, Bool, ◌&&◌, List, Option, option_and_then, position, slice_get}
+use Rattle.std.specs.Option.{option_map}
+use Rattle.std.specs.Str.{bytes_eq}
+use Rattle.fits_card.specs.Card.{keyword_name, has_value}
+
+-- the card has this name and a value (4.1.2.1, 4.1.2.2)
+unfoldable pub is_value_of : List ℕ → List ℕ → Bool
+is_value_of name card = bytes_eq (keyword_name card) name && has_value card
+
+-- the card at a place, counted from 1
+abbrev pub card_at : List (List ℕ) → ℕ → Option (List ℕ)
+card_at cards place = slice_get cards (place - 1)
+
+-- where the lead stands, counted from 1
+unfoldable pub lead_place : List (List ℕ) → List ℕ → Option ℕ
+lead_place cards name = option_map (λ index. index + 1) (position (is_value_of name) cards)
+
+-- the lead
+unfoldable pub lead_card : List (List ℕ) → List ℕ → Option (List ℕ)
+lead_card cards name = option_and_then (card_at cards) (lead_place cards name)

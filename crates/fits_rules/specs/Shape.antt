@@ -1,0 +1,125 @@
+-- The shape that a header describes, or the first place that breaks a rule (FITS Standard 4.0, sections 4.4.1.1, 4.4.1.2, 6 and 7).
+use Rattle.std.specs.Prelude.{ℕ, suc, ◌+◌, ◌-◌, ◌==◌, ◌≤◌, All, Bool, IsTrue, false, ◌&&◌, ◌||◌, ℤ, pos, negsuc, nat_le, List, [], ◌∷◌, ◌++◌, length, codes, replicate, Option, None, Some, option_and_then, unwrap_or, ok_or, Result, Ok, Err, if◌then◌else◌}
+use Rattle.std.specs.List.{range_with_len}
+use Rattle.std.specs.Str.{bytes_eq}
+use Rattle.std.specs.Fmt.{decimal}
+use Rattle.fits_card.specs.Card.{keyword_name}
+use Rattle.fits_rules.specs.Reads.{integer_said, logical_said, string_said}
+use Rattle.fits_rules.specs.Lead.{card_at, lead_place, lead_card}
+use Rattle.fits_rules.specs.Class.{has_counts, extension_class}
+use Rattle.fits_rules.specs.declared.class.Class.{Class}
+use Rattle.fits_rules.specs.declared.class.Class.TheVariants.{Primary, Groups}
+use Rattle.fits_rules.specs.declared.array_shape.Shape.{Shape}
+
+-- what follows from a value; an error stays
+infixl 10 ◌>>=◌
+abbrev pub ◌>>=◌ : {X Y : Type 0} → Result X ℕ → (X → Result Y ℕ) → Result Y ℕ
+Ok value >>= next = next value
+Err place >>= next = Err place
+
+-- what each element gives, or the first error
+abbrev pub each : {X Y : Type 0} → (X → Result Y ℕ) → List X → Result (List Y) ℕ
+each give [] = Ok []
+each give (x ∷ xs) = do
+  y ← give x
+  ys ← each give xs
+  Ok (y ∷ ys)
+
+-- the largest axis and count
+abbrev pub largest : ℕ
+largest = 9223372036854775807
+
+-- the number, where it is from 0 to a limit
+abbrev pub up_to : ℕ → ℤ → Option ℕ
+up_to limit (pos number) = if nat_le number limit then Some number else None
+up_to limit (negsuc number) = None
+
+-- the bits of an array value: 8, 16, 32, 64, -32, -64 (4.4.1.1)
+abbrev pub is_bitpix : ℤ → Bool
+is_bitpix (pos bits) = (bits == 8) || (bits == 16) || (bits == 32) || (bits == 64)
+is_bitpix (negsuc bits) = (suc bits == 32) || (suc bits == 64)
+
+-- the number, where BITPIX may have it
+abbrev pub bitpix_in : ℤ → Option ℤ
+bitpix_in number = if is_bitpix number then Some number else None
+
+-- NAXISn: NAXIS and the number, with spaces to its eighth byte (4.4.1.1)
+unfoldable pub axis_name : ℕ → List ℕ
+axis_name n = let text = codes "NAXIS" ++ decimal n in text ++ replicate (8 - length text) 32
+
+-- the card, where it has this name
+abbrev pub if_named : List ℕ → List ℕ → Option (List ℕ)
+if_named name card = if bytes_eq (keyword_name card) name then Some card else None
+
+-- the card at a place, where it has this name
+unfoldable pub card_named : List (List ℕ) → ℕ → List ℕ → Option (List ℕ)
+card_named cards place name = option_and_then (if_named name) (card_at cards place)
+
+-- the integer that it says alone
+abbrev pub integer_named : List (List ℕ) → ℕ → List ℕ → Option ℤ
+integer_named cards place name = option_and_then integer_said (card_named cards place name)
+
+-- place 1: SIMPLE in the primary HDU, XTENSION in an extension, whatever they say (4.4.1.1, 4.4.1.2)
+unfoldable pub first_card : Bool → List (List ℕ) → Option (List ℕ)
+first_card primary cards = card_named cards 1 (if primary then codes "SIMPLE  " else codes "XTENSION")
+
+-- place 2: BITPIX
+unfoldable pub bitpix_of : List (List ℕ) → Option ℤ
+bitpix_of cards = option_and_then bitpix_in (integer_named cards 2 (codes "BITPIX  "))
+
+-- place 3: NAXIS, from 0 to 999
+unfoldable pub naxis_of : List (List ℕ) → Option ℕ
+naxis_of cards = option_and_then (up_to 999) (integer_named cards 3 (codes "NAXIS   "))
+
+-- place 3 + n: NAXISn
+unfoldable pub axis_of : List (List ℕ) → ℕ → Option ℕ
+axis_of cards n = option_and_then (up_to largest) (integer_named cards (3 + n) (axis_name n))
+
+-- the axes from 1 to NAXIS, or the place of the first that breaks its rule
+unfoldable pub axes_of : List (List ℕ) → ℕ → Result (List ℕ) ℕ
+axes_of cards naxis = each (λ n. ok_or (axis_of cards n) (3 + n)) (range_with_len 1 naxis)
+
+-- two axes or more, and the first is 0 (6)
+abbrev pub has_group_axes : List ℕ → Bool
+has_group_axes (first ∷ second ∷ more) = first == 0
+has_group_axes axes = false
+
+-- the value of GROUPS is T (6)
+unfoldable pub says_groups : List (List ℕ) → Bool
+says_groups cards = unwrap_or (option_and_then logical_said (lead_card cards (codes "GROUPS  "))) false
+
+-- the class: by axes and GROUPS in the primary HDU, by XTENSION in an extension (3.3, 3.4, 6)
+unfoldable pub class_of : Bool → List (List ℕ) → List ℕ → List ℕ → Class
+class_of primary cards first axes =
+    if primary then (if has_group_axes axes && says_groups cards then Groups else Primary)
+    else extension_class (string_said first)
+
+-- the count that the lead at a place says, or its default without a lead (own); else that place
+abbrev pub count_at : List (List ℕ) → ℕ → Option ℕ → Result ℕ ℕ
+count_at cards default None = Ok default
+count_at cards default (Some place) = ok_or (option_and_then (up_to largest) (option_and_then integer_said (card_at cards place))) place
+
+-- PCOUNT or GCOUNT by its lead, where the class has counts, else the default (4.4.1.2, 6)
+unfoldable pub count_of : Class → List (List ℕ) → List ℕ → ℕ → Result ℕ ℕ
+count_of class cards name default = if has_counts class then count_at cards default (lead_place cards name) else Ok default
+
+-- the shape, or the first place that breaks a rule: those of the mandatory keywords in order, then PCOUNT's lead, then GCOUNT's.
+-- Where a card is missing all before it are there, so its place is one past the last card's
+unfoldable pub shape_of : Bool → List (List ℕ) → Result Shape ℕ
+shape_of primary cards = do
+  first ← ok_or (first_card primary cards) 1
+  bitpix ← ok_or (bitpix_of cards) 2
+  naxis ← ok_or (naxis_of cards) 3
+  axes ← axes_of cards naxis
+  let class = class_of primary cards first axes
+  pcount ← count_of class cards (codes "PCOUNT  ") 0
+  gcount ← count_of class cards (codes "GCOUNT  ") 1
+  Ok (record { class = class; bitpix = bitpix; axes = axes; pcount = pcount; gcount = gcount })
+
+-- what each shape has that a header describes (4.4.1.1, 4.4.1.2)
+pub record IsBounded (shape : Shape) : Type 0 where
+  pub bitpix : IsTrue (is_bitpix shape.bitpix)
+  pub count : length shape.axes ≤ 999
+  pub axes : All (λ axis. axis ≤ largest) shape.axes
+  pub pcount : shape.pcount ≤ largest
+  pub gcount : shape.gcount ≤ largest
