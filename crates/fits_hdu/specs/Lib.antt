@@ -1,0 +1,5 @@
+pub mod Fault
+pub mod Hdu
+pub mod Keyword
+pub mod Kind
+pub mod State

@@ -1,0 +1,12 @@
+-- What an HDU under edits is to its callers.
+use Rattle.std.specs.Prelude.{ℕ}
+use Rattle.fits_rules.specs.declared.array_shape.Shape.{Shape}
+use Rattle.fits_hdu.specs.Hdu.{HduParts}
+
+-- its parts, the shape that its cards describe, how many of its cards were read so far,
+-- and how many more it has reserved room for
+pub record HduState : Type 0 where
+  pub hdu : HduParts
+  pub shape : Shape
+  pub reads : ℕ
+  pub room : ℕ

@@ -1,0 +1,57 @@
+//! Why no HDU was opened.
+
+use fits_card::cut::HeaderFault;
+use fits_rules::mandatory::ShapeFault;
+use std::alloc::AllocError;
+
+/// Why no HDU stands at the front of bytes.
+#[derive(Clone, Copy, PartialEq, Eq, Debug)]
+pub enum HduFault {
+    /// There is no END card, or its block isn't whole (FITS Standard 4.0, section 4.4.1).
+    NoEnd,
+    /// The first place, from 1, whose card breaks a rule of shapes (4.4.1.1, 4.4.1.2).
+    BadShape(usize),
+    /// Fewer bytes follow the header than its cards describe, with the fill of the last block (3.1).
+    ShortData,
+    /// Memory was refused.
+    Memory,
+}
+
+impl From<AllocError> for HduFault {
+    ghost use Rattle.fits_hdu.specs.declared.fault.HduFault.TheVariants.{Memory};
+    ghost use Rattle.std.specs.Prelude.{◌≡◌};
+
+    ghost from_gives = { λ _ fault. fault ≡ Memory };
+
+    fn from(_: AllocError) -> HduFault {
+        HduFault::Memory
+    }
+}
+
+impl From<HeaderFault> for HduFault {
+    ghost use Rattle.fits_hdu.specs.Fault.{of_header};
+    ghost use Rattle.std.specs.Prelude.{◌≡◌};
+
+    ghost from_gives = { λ step fault. fault ≡ of_header step };
+
+    fn from(fault: HeaderFault) -> HduFault {
+        match fault {
+            HeaderFault::NoEnd => HduFault::NoEnd,
+            HeaderFault::Memory => HduFault::Memory,
+        }
+    }
+}
+
+impl From<ShapeFault> for HduFault {
+    ghost use Rattle.fits_hdu.specs.Fault.{of_shape};
+    ghost use Rattle.std.specs.Prelude.{◌≡◌};
+
+    ghost from_gives = { λ step fault. fault ≡ of_shape step };
+
+    fn from(fault: ShapeFault) -> HduFault {
+        match fault {
+            ShapeFault::Bad(place) => HduFault::BadShape(place),
+            ShapeFault::Memory => HduFault::Memory,
+        }
+    }
+}

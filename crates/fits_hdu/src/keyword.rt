@@ -1,0 +1,56 @@
+//! What a keyword says.
+ghost use Rattle.std.specs.Prelude.{◌≡◌, ◌≤◌, ◌+◌, ◌*◌, Ok, length, IfOk, IfErr};
+ghost use Rattle.fits_hdu.specs.Keyword.{keyword_value, KeywordFails};
+
+use fits_card::card_list::CardList;
+use fits_card::name::Name;
+use fits_rules::lead::lead;
+use fits_value::long_string::long_value;
+use fits_value::text::Text;
+use fits_value::value::Value;
+use std::alloc::{AllocError, Global};
+
+/// Why a keyword gave no value.
+#[derive(Clone, Copy, PartialEq, Eq, Debug)]
+pub enum KeywordFault {
+    /// No card of this name has a value (FITS Standard 4.0, section 4.1.2.2).
+    NoKey,
+    /// The first one that has doesn't read as a value (4.1.2.3).
+    BadValue,
+    /// Memory was refused.
+    Memory,
+}
+
+impl From<AllocError> for KeywordFault {
+    ghost use Rattle.fits_hdu.specs.declared.keyword.KeywordFault.TheVariants.{Memory};
+    ghost use Rattle.std.specs.Prelude.{◌≡◌};
+
+    ghost from_gives = { λ _ fault. fault ≡ Memory };
+
+    fn from(_: AllocError) -> KeywordFault {
+        KeywordFault::Memory
+    }
+}
+
+/// The value and the comment of the lead of a name, with the lead's CONTINUE cards.
+#[tactic(auto, using(crate::proofs::KeywordLemmas::keyword_steps))]
+pub(crate) fn keyword_value(
+    alloc: Global,
+    cards: &mut CardList,
+    name: &Name,
+) -> Result<(Value, Option<Text>), KeywordFault>
+    ensures ok { IfOk result (λ said. keyword_value cards.old.header.cards name.now ≡ Ok said) }
+    ensures err { IfErr result (KeywordFails cards.old.header.cards name.now) }
+    ensures header { cards.new.header ≡ cards.old.header }
+    ensures room { cards.new.room ≡ cards.old.room }
+    ensures least_work { cards.old.reads ≤ cards.new.reads }
+    ensures most_work { cards.new.reads ≤ cards.old.reads + 3 * length cards.old.header.cards + 2 }
+{
+    let Some(place) = lead(cards, name) else {
+        return Err(KeywordFault::NoKey);
+    };
+    match long_value(alloc, cards, place)? {
+        Some(said) => Ok(said),
+        None => Err(KeywordFault::BadValue),
+    }
+}
