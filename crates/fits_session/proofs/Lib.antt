@@ -1,0 +1,10 @@
+pub mod ChangeLemmas
+pub mod EditLemmas
+pub mod EditedLemmas
+pub mod FileLemmas
+pub mod FrontLemmas
+pub mod OffsetLemmas
+pub mod OpeningLemmas
+pub mod QueryLemmas
+pub mod SaveLemmas
+pub mod ShapeLemmas

@@ -1,0 +1,15 @@
+use Rattle.std.proofs.Common.{◌≡◌, take, length}
+use Rattle.std.specs.Io.KnownBytes.{Appends}
+use Rattle.fits_session.specs.File.{joined_hdus}
+use Rattle.fits_session.specs.Session.{hdus_of, reads_of, HasClasses, NeverFalls}
+use Rattle.fits_session.proofs.saving.write_hdus.Given as goal
+
+abbrev pub invariant-loop-i : goal.invariant-loop-i
+invariant-loop-i g l = record {
+  written : Appends (g.W.Sink.contents l.fn.sink) (g.W.Sink.contents l.sink) (joined_hdus (take l.i (hdus_of l.fn.hdus.items)));
+  quiet : g.W.Sink.failures l.sink ≡ g.W.Sink.failures l.fn.sink;
+  same : hdus_of l.hdus.items ≡ hdus_of l.fn.hdus.items;
+  count : length l.hdus.items ≡ length l.fn.hdus.items;
+  classes : HasClasses l.hdus.items;
+  work : NeverFalls (reads_of l.fn.hdus.items) (reads_of l.hdus.items);
+}

@@ -1,0 +1,8 @@
+pub mod Edit
+pub mod File
+pub mod Limits
+pub mod Opening
+pub mod Query
+pub mod Refusal
+pub mod SameShape
+pub mod Session
