@@ -44,6 +44,35 @@ expect 'another command ends with 2' status 2 "$program" frob
 expect 'an argument that is not UTF-8 ends with 2' status 2 edit "$(printf 'a\377')" "$room/unsaved.fits"
 expect 'help ends with 0' status 0 "$program" --help
 expect 'help of a command ends with 0' status 0 "$program" edit --help
+# two HDUs: P0 and an image extension of one pixel of 16 bits, and a tail
+{
+    cat "$example/in.fits"
+    printf '%-80s%-80s%-80s%-80s%-80s%-80s%-2400s' \
+        "XTENSION= 'IMAGE   '" 'BITPIX  =                   16' 'NAXIS   =                    1' \
+        'NAXIS1  =                    1' 'PCOUNT  =                    0' 'GCOUNT  =                    1' 'END'
+    head -c 2880 /dev/zero
+    printf 'trailer'
+} >"$room/two.fits"
+{
+    echo 'hdu 1 PRIMARY bitpix 8 axes - cards 3 at 0 2880 2880'
+    echo 'hdu 2 IMAGE bitpix 16 axes 1 cards 6 at 2880 5760 8640'
+} >"$room/lines"
+list() { "$program" list "$@"; }
+list_to_a_full_device() { "$program" list "$1" >/dev/full; }
+ask() { printf 'get 2 BITPIX\noff\n' | "$program" edit "$@"; }
+expect 'a listing ends with 0' status 0 list "$room/two.fits"
+expect 'and has a line for each HDU' cmp -s "$room/printed" "$room/lines"
+expect 'a file of two HDUs is edited' status 0 ask "$room/two.fits" "$room/two.out"
+expect 'and answers' [ "$(cat "$room/printed")" = "integer 16
+1 0 2880 2880
+2 2880 5760 8640" ]
+expect 'and is saved as it was' cmp -s "$room/two.out" "$room/two.fits"
+expect 'a full device for a listing ends with 3' status 3 list_to_a_full_device "$room/two.fits"
+head -c 8639 "$room/two.fits" >"$room/short.fits"
+expect 'a file without its last byte ends with 2' status 2 list "$room/short.fits"
+expect 'and says why' grep -qx 'fitsed: open refused O4 ShortData hdu 2' "$room/told"
+expect 'a listing of nothing ends with 3' status 3 list "$room/nothing"
+expect 'a listing without a path ends with 2' status 2 list
 cp "$example/in.fits" "$room/same.fits"
 expect 'OUT may be IN' status 0 edit "$room/same.fits" "$room/same.fits"
 expect 'and holds the edits' cmp -s "$room/same.fits" "$example/out.fits"

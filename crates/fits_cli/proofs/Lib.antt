@@ -1,10 +1,10 @@
 pub mod AnswerLemmas
-pub mod EditedLemmas
 pub mod EditingLemmas
 pub mod LineLemmas
+pub mod ListingLemmas
 pub mod OpeningLemmas
 pub mod OutputLemmas
-pub mod PlainFileLemmas
 pub mod ReadingLemmas
 pub mod RunLemmas
 pub mod ScriptLemmas
+pub mod ValueLineLemmas

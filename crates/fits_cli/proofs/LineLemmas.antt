@@ -5,10 +5,13 @@ use Rattle.std.specs.Prelude.{codes, unwrap_or, IsTrue, nat_le}
 use Rattle.std.proofs.Math.Nat.{pow-le-pow_right, pow-suc}
 use Rattle.std.proofs.lemmas.List.Folds.{list_any-append, list_all_at}
 use Rattle.std.proofs.lemmas.Bool.{or_parts, or_right, and_parts, cases_Bool, leb-true}
-use Rattle.fits_cli.specs.Line.{is_space, is_digit, number_of, HasNoSpace, BeginsWithWord, IsNumber, IsInsert, Says, IsReading}
+use Rattle.fits_value.specs.Number.{value_of}
+use Rattle.fits_value.specs.Spelling.{is_space, is_digit}
+use Rattle.fits_cli.specs.Line.{HasNoSpace, BeginsWithWord, IsNumber, IsInsert, IsName, IsGet, Says, IsReading}
 use Rattle.fits_card.specs.Card.{card_of_text}
+use Rattle.fits_session.specs.declared.edit.Edit.TheVariants.{Insert}
 use Rattle.fits_cli.specs.declared.command.Command.{Command}
-use Rattle.fits_cli.specs.declared.command.Command.TheVariants.{Nothing, Insert, Offsets}
+use Rattle.fits_cli.specs.declared.command.Command.TheVariants.{Nothing, Edit, Offsets, Get}
 use Rattle.fits_cli.specs.declared.line.LineReading.{LineReading}
 use Rattle.fits_cli.specs.declared.line.LineReading.TheVariants.{TooLong, NoCommand, Said}
 
@@ -98,10 +101,44 @@ insert_same line h i p q c d is js =
     let second = one_word is.behind_ins is.hdu_word js.hdu_word (Some is.behind_hdu) (Some js.behind_hdu) is.first (rw one js.first) in
     let two : is.behind_hdu ≡ js.behind_hdu = ap (λ o. unwrap_or o []) second.1 in
     let third = one_word is.behind_hdu is.place_word js.place_word is.text js.text is.second (rw two js.second) in (
-      is.is_hdu.value ∙ ap number_of second.0 ∙ sym js.is_hdu.value,
-      is.is_place.value ∙ ap number_of third.0 ∙ sym js.is_place.value,
+      is.is_hdu.value ∙ ap value_of second.0 ∙ sym js.is_hdu.value,
+      is.is_place.value ∙ ap value_of third.0 ∙ sym js.is_place.value,
       is.is_card ∙ ap (λ t. card_of_text (unwrap_or t [])) third.1 ∙ sym js.is_card,
     )
+
+-- a query of a value has a word behind its first
+pub get_has_words : (line verb : List ℕ) (hdu : ℕ) (name : List ℕ) → BeginsWithWord line verb None → IsGet line hdu name → ⊥
+get_has_words line verb hdu name a is =
+    let same = one_word line verb (codes "get") None (Some is.behind_get) a is.get in absurd (let z = same.1 in cc)
+
+-- and its first is get
+pub get_begins : (line verb behind_get : List ℕ) (hdu : ℕ) (name : List ℕ) → BeginsWithWord line verb (Some behind_get) → IsGet line hdu name → verb ≡ codes "get"
+get_begins line verb behind_get hdu name a is = (one_word line verb (codes "get") (Some behind_get) (Some is.behind_get) a is.get).0
+
+-- and one behind its second
+pub get_has_two_words : (line verb behind_get hdu_word : List ℕ) (hdu : ℕ) (name : List ℕ)
+    → BeginsWithWord line verb (Some behind_get) → BeginsWithWord behind_get hdu_word None → IsGet line hdu name → ⊥
+get_has_two_words line verb behind_get hdu_word hdu name a b is =
+    let first = one_word line verb (codes "get") (Some behind_get) (Some is.behind_get) a is.get in
+    let one : behind_get ≡ is.behind_get = ap (λ o. unwrap_or o []) first.1 in
+    let second = one_word behind_get hdu_word is.hdu_word None (Some is.name_word) b (rw one is.first) in
+    absurd (let z = second.1 in cc)
+
+-- the words of a query, as a line was cut
+pub get_words : (line verb hdu_word name_word behind_get : List ℕ) → BeginsWithWord line verb (Some behind_get) → BeginsWithWord behind_get hdu_word (Some name_word)
+    → (hdu : ℕ) (name : List ℕ) → IsGet line hdu name → (verb ≡ codes "get") × IsNumber hdu_word hdu × IsName name_word name
+get_words line verb hdu_word name_word behind_get a b hdu name is =
+    let first = one_word line verb (codes "get") (Some behind_get) (Some is.behind_get) a is.get in
+    let one : behind_get ≡ is.behind_get = ap (λ o. unwrap_or o []) first.1 in
+    let second = one_word behind_get hdu_word is.hdu_word (Some name_word) (Some is.name_word) b (rw one is.first) in
+    let two : name_word ≡ is.name_word = ap (λ o. unwrap_or o []) second.1 in
+    (first.0, rw second.0 is.is_hdu, rw two is.is_name)
+
+-- a query has one HDU and one name
+get_same : (line : List ℕ) (h i : ℕ) (n m : List ℕ) → IsGet line h n → IsGet line i m → (h ≡ i) × (n ≡ m)
+get_same line h i n m is js =
+    let words = get_words line (codes "get") is.hdu_word is.name_word is.behind_get is.get is.first i m js in
+    (is.is_hdu.value ∙ sym words.1.value, is.is_name.value ∙ sym words.2.value)
 
 -- the first byte of a line
 first_byte : List ℕ → ℕ
@@ -111,6 +148,10 @@ first_byte (byte ∷ bytes) = byte
 insert_first : (line : List ℕ) (h p : ℕ) (c : List ℕ) → IsInsert line h p c → first_byte line ≡ 105
 unfolding first_byte
 insert_first line h p c is = ap first_byte is.ins.1
+
+get_first : (line : List ℕ) (h : ℕ) (n : List ℕ) → IsGet line h n → first_byte line ≡ 103
+unfolding first_byte
+get_first line h n is = ap first_byte is.get.1
 
 offsets_first : (line : List ℕ) → line ≡ codes "off" → first_byte line ≡ 111
 unfolding first_byte
@@ -126,14 +167,21 @@ nothing_alone line n says e le = elim (nothing_first line says) [ inl z ↦ omeg
 -- a line says one command at the most
 pub one_command : (line : List ℕ) (c d : Command) → Says line c → Says line d → c ≡ d
 one_command line Nothing Nothing p q = refl
-one_command line Nothing (Insert i r d) p q = absurd (nothing_alone line 105 p (insert_first line i r d q) (omega arith))
+one_command line Nothing (Edit (Insert i r d)) p q = absurd (nothing_alone line 105 p (insert_first line i r d q) (omega arith))
 one_command line Nothing Offsets p q = absurd (nothing_alone line 111 p (offsets_first line q) (omega arith))
-one_command line (Insert h r c) Nothing p q = absurd (nothing_alone line 105 q (insert_first line h r c p) (omega arith))
-one_command line (Insert h r c) (Insert i s d) p q = let same = insert_same line h i r s c d p q in rw (same.0, same.1, same.2) refl
-one_command line (Insert h r c) Offsets p q = absurd (omega (arith, insert_first line h r c p, offsets_first line q))
+one_command line Nothing (Get i n) p q = absurd (nothing_alone line 103 p (get_first line i n q) (omega arith))
+one_command line (Edit (Insert h r c)) Nothing p q = absurd (nothing_alone line 105 q (insert_first line h r c p) (omega arith))
+one_command line (Edit (Insert h r c)) (Edit (Insert i s d)) p q = let same = insert_same line h i r s c d p q in rw (same.0, same.1, same.2) refl
+one_command line (Edit (Insert h r c)) Offsets p q = absurd (omega (arith, insert_first line h r c p, offsets_first line q))
+one_command line (Edit (Insert h r c)) (Get i n) p q = absurd (omega (arith, insert_first line h r c p, get_first line i n q))
 one_command line Offsets Nothing p q = absurd (nothing_alone line 111 q (offsets_first line p) (omega arith))
-one_command line Offsets (Insert i s d) p q = absurd (omega (arith, insert_first line i s d q, offsets_first line p))
+one_command line Offsets (Edit (Insert i s d)) p q = absurd (omega (arith, insert_first line i s d q, offsets_first line p))
 one_command line Offsets Offsets p q = refl
+one_command line Offsets (Get i n) p q = absurd (omega (arith, get_first line i n q, offsets_first line p))
+one_command line (Get h m) Nothing p q = absurd (nothing_alone line 103 q (get_first line h m p) (omega arith))
+one_command line (Get h m) (Edit (Insert i s d)) p q = absurd (omega (arith, get_first line h m p, insert_first line i s d q))
+one_command line (Get h m) Offsets p q = absurd (omega (arith, get_first line h m p, offsets_first line q))
+one_command line (Get h m) (Get i n) p q = let same = get_same line h i m n p q in rw (same.0, same.1) refl
 
 -- and has one reading
 pub one_reading : (line : List ℕ) (r s : LineReading) → IsReading line r → IsReading line s → r ≡ s

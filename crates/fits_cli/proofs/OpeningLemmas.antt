@@ -1,75 +1,42 @@
--- A file opens in one way, or doesn't for one reason.
-use Rattle.std.proofs.Common.{◌≡◌, ℕ, List, [], ap, sym, ◌∙◌, inl, inr, arith, true, false, refl}
-use Rattle.fits_card.specs.Header.{Header}
-use Rattle.fits_card.proofs.CutLemmas.{one_header}
-use Rattle.fits_cli.specs.Opening.{is_plain_primary, IsOpened, HasOpenFault, IsLaterFile, file_of_header}
-use Rattle.std.proofs.lemmas.List.{append-nil}
-use Rattle.fits_card.specs.Header.{header_bytes}
-use Rattle.fits_cli.specs.File.{file_bytes}
-use Rattle.fits_cli.proofs.PlainFileLemmas.{file_bytes-plain}
-use Rattle.fits_cli.specs.declared.fault.OpenFault.TheVariants.{NotFits, NoEnd, TooLarge}
-use Rattle.fits_cli.specs.declared.fault.Fault.{Fault}
-use Rattle.fits_cli.specs.declared.fault.Fault.TheVariants.{Refused, NotYet, ScriptTooLong, Memory, ReadFailed, WriteFailed}
+-- From the bytes that were read to a file that opens, or doesn't.
+use Rattle.std.proofs.Common.{◌≡◌, refl, subst, ℕ, ◌<◌, ◌≤◌, List, length, ◌∙◌, inl, inr, true, false, Option, None, Some}
+use Rattle.std.specs.Prelude.{IfSome}
+use Rattle.std.proofs.lemmas.Bool.{cases_lt}
+use Rattle.std.proofs.lemmas.List.{take_all}
+use Rattle.fits_card.specs.Stream.{TakesUpTo}
+use Rattle.fits_session.specs.File.{FileParts, IsFileOf}
+use Rattle.fits_session.specs.Limits.{file_limit}
+use Rattle.fits_session.specs.Opening.{OpenFails, HasOpenFault}
+use Rattle.fits_session.specs.declared.fault.OpenFault.{OpenFault}
+use Rattle.fits_session.specs.declared.fault.OpenFault.TheVariants.{NotFits, NoEnd, BadShape, ShortData, TooLarge, Memory}
+use Rattle.fits_cli.specs.Running.{OpenEnds, fault_of_open}
 
--- a file that opens has one header
-pub one_opened : (f : List ℕ) (h i : Header) → IsOpened f h → IsOpened f i → h ≡ i
-one_opened f h i p q = (one_header f h i [] [] p.whole q.whole).0
+-- all of a file was read
+whole : (xs bytes : List ℕ) (limit : ℕ) → TakesUpTo (Some xs) limit bytes false → bytes ≡ xs
+whole xs bytes limit t =
+    let within : length xs ≤ limit = elim (cases_lt limit (length xs)) [ inl over ↦ absurd (let z : false ≡ true = t.1.1 over in cc) | inr le ↦ le ] in
+    t.0 ∙ take_all limit xs within
 
-later_not_opened : (f : List ℕ) (h : Header) → IsLaterFile f → IsOpened f h → ⊥
-later_not_opened f h later opened =
-    let same = one_header f later.header h later.rest [] later.whole opened.whole in
-    elim later.other [ inl other ↦ other same.1 | inr other ↦ absurd (let z : true ≡ false = sym opened.plain ∙ ap (λ (t : Header). is_plain_primary t.cards) (sym same.0) ∙ other in cc) ]
+pub opened_whole : (file : Option (List ℕ)) (bytes : List ℕ) (parts : FileParts) → TakesUpTo file file_limit bytes false → IsFileOf bytes parts → IfSome file (λ f. IsFileOf f parts)
+opened_whole None bytes parts t opened = tt
+opened_whole (Some xs) bytes parts t opened = rw (whole xs bytes file_limit t) at opened
 
--- and no fault
-pub opened_no_fault : (f : List ℕ) (h : Header) (why : Fault) → IsOpened f h → HasOpenFault f why → ⊥
-opened_no_fault f h (Refused TooLarge) p q = omega (arith, p.within, q)
-opened_no_fault f h (Refused NotFits) p q = q.1 p.begins
-opened_no_fault f h (Refused (NoEnd hdu)) p q = q.2 h [] p.whole
-opened_no_fault f h NotYet p q = later_not_opened f h q.2 p
-opened_no_fault f h ScriptTooLong p q = q
-opened_no_fault f h Memory p q = q
-opened_no_fault f h ReadFailed p q = q
-opened_no_fault f h WriteFailed p q = q
+pub too_large : (file : Option (List ℕ)) (bytes : List ℕ) → TakesUpTo file file_limit bytes true → IfSome file (λ f. HasOpenFault f TooLarge)
+too_large None bytes t = tt
+too_large (Some xs) bytes t = inl (t.1.0 refl)
 
--- one fault at the most
-pub one_fault : (f : List ℕ) (v w : Fault) → HasOpenFault f v → HasOpenFault f w → v ≡ w
-one_fault f (Refused TooLarge) (Refused TooLarge) p q = refl
-one_fault f (Refused TooLarge) (Refused NotFits) p q = absurd (omega (arith, p, q.0))
-one_fault f (Refused TooLarge) (Refused (NoEnd hdu)) p q = absurd (omega (arith, p, q.0))
-one_fault f (Refused TooLarge) NotYet p q = absurd (omega (arith, p, q.0))
-one_fault f (Refused NotFits) (Refused TooLarge) p q = absurd (omega (arith, p.0, q))
-one_fault f (Refused NotFits) (Refused NotFits) p q = refl
-one_fault f (Refused NotFits) (Refused (NoEnd hdu)) p q = absurd (p.1 q.1)
-one_fault f (Refused NotFits) NotYet p q = absurd (p.1 q.1)
-one_fault f (Refused (NoEnd hdu)) (Refused TooLarge) p q = absurd (omega (arith, p.0, q))
-one_fault f (Refused (NoEnd hdu)) (Refused NotFits) p q = absurd (q.1 p.1)
-one_fault f (Refused (NoEnd hdu)) (Refused (NoEnd other)) p q = ap (λ n. Refused (NoEnd n)) (p.3 ∙ sym q.3)
-one_fault f (Refused (NoEnd hdu)) NotYet p q = absurd (p.2 q.2.header q.2.rest q.2.whole)
-one_fault f NotYet (Refused TooLarge) p q = absurd (omega (arith, p.0, q))
-one_fault f NotYet (Refused NotFits) p q = absurd (q.1 p.1)
-one_fault f NotYet (Refused (NoEnd hdu)) p q = absurd (q.2 p.2.header p.2.rest p.2.whole)
-one_fault f NotYet NotYet p q = refl
-one_fault f ScriptTooLong w p q = absurd p
-one_fault f Memory w p q = absurd p
-one_fault f ReadFailed w p q = absurd p
-one_fault f WriteFailed w p q = absurd p
-one_fault f (Refused TooLarge) ScriptTooLong p q = absurd q
-one_fault f (Refused TooLarge) Memory p q = absurd q
-one_fault f (Refused TooLarge) ReadFailed p q = absurd q
-one_fault f (Refused TooLarge) WriteFailed p q = absurd q
-one_fault f (Refused NotFits) ScriptTooLong p q = absurd q
-one_fault f (Refused NotFits) Memory p q = absurd q
-one_fault f (Refused NotFits) ReadFailed p q = absurd q
-one_fault f (Refused NotFits) WriteFailed p q = absurd q
-one_fault f (Refused (NoEnd hdu)) ScriptTooLong p q = absurd q
-one_fault f (Refused (NoEnd hdu)) Memory p q = absurd q
-one_fault f (Refused (NoEnd hdu)) ReadFailed p q = absurd q
-one_fault f (Refused (NoEnd hdu)) WriteFailed p q = absurd q
-one_fault f NotYet ScriptTooLong p q = absurd q
-one_fault f NotYet Memory p q = absurd q
-one_fault f NotYet ReadFailed p q = absurd q
-one_fault f NotYet WriteFailed p q = absurd q
+-- a fault of the bytes that were read is the file's
+read_fault : (file : Option (List ℕ)) (bytes : List ℕ) (why : OpenFault) → TakesUpTo file file_limit bytes false → HasOpenFault bytes why → IfSome file (λ f. HasOpenFault f why)
+read_fault None bytes why t p = tt
+read_fault (Some xs) bytes why t p = subst (λ (b : List ℕ). HasOpenFault b why) (whole xs bytes file_limit t) p
 
--- the bytes of a file that opens are those of its parts
-pub opened_bytes : (f : List ℕ) (h : Header) → IsOpened f h → f ≡ file_bytes (file_of_header h)
-opened_bytes f h opened = opened.whole.joined ∙ append-nil (header_bytes h) ∙ sym (file_bytes-plain h)
+pub unopened : (file : Option (List ℕ)) (bytes : List ℕ) (why : OpenFault) (no_read_failed a_read_failed : Type 0) → TakesUpTo file file_limit bytes false → OpenFails bytes why → no_read_failed
+    → OpenEnds file no_read_failed a_read_failed (fault_of_open why)
+unopened file bytes NotFits quiet failed t p q = (read_fault file bytes NotFits t p, q)
+unopened file bytes (NoEnd hdu) quiet failed t p q = (read_fault file bytes (NoEnd hdu) t p, q)
+unopened file bytes (BadShape hdu place) quiet failed t p q = (read_fault file bytes (BadShape hdu place) t p, q)
+unopened file bytes (ShortData hdu) quiet failed t p q = (read_fault file bytes (ShortData hdu) t p, q)
+unopened file bytes TooLarge quiet failed t p q = (read_fault file bytes TooLarge t p, q)
+unopened file bytes Memory quiet failed t p q = q
+
+pub ruleset open_steps = (opened_whole, too_large, unopened)

@@ -6,12 +6,15 @@ use Rattle.std.proofs.lemmas.Bool.{cases_Bool, cases_lt, or_from}
 use Rattle.std.proofs.lemmas.Bool.Decides.{eqb_tells}
 use Rattle.fits_card.specs.Card.{card_of_text}
 use Rattle.fits_cli.specs.Limits.{line_limit}
-use Rattle.fits_cli.specs.Line.{is_space, is_digit, number_of, BeginsWithWord, IsNumber, IsInsert, Says, IsReading}
+use Rattle.fits_value.specs.Number.{value_of}
+use Rattle.fits_value.specs.Spelling.{is_space, is_digit}
+use Rattle.fits_cli.specs.Line.{BeginsWithWord, IsNumber, IsInsert, IsName, IsGet, name_of_text, Says, IsReading}
+use Rattle.fits_session.specs.declared.edit.Edit.TheVariants.{Insert}
 use Rattle.fits_cli.specs.declared.command.Command.{Command}
-use Rattle.fits_cli.specs.declared.command.Command.TheVariants.{Nothing, Insert, Offsets}
+use Rattle.fits_cli.specs.declared.command.Command.TheVariants.{Nothing, Edit, Offsets, Get}
 use Rattle.fits_cli.specs.declared.line.LineReading.{LineReading}
 use Rattle.fits_cli.specs.declared.line.LineReading.TheVariants.{TooLong, NoCommand, Said}
-use Rattle.fits_cli.proofs.LineLemmas.{insert_words, insert_begins, insert_has_words, insert_has_two_words}
+use Rattle.fits_cli.proofs.LineLemmas.{insert_words, insert_begins, insert_has_words, insert_has_two_words, get_words, get_begins, get_has_words, get_has_two_words}
 
 -- a text's first word, and what follows it
 pub record Cut (text : List ℕ) : Type 0 where
@@ -52,7 +55,7 @@ a_number word =
       | inl digits ↦ elim (cases_lt 0 (length word)) [
         | inl some ↦ elim (cases_lt 18 (length word)) [
           | inl many ↦ inr (λ number is. omega (arith, many, is.few))
-          | inr few ↦ inl (number_of word, record { digits = digits; some = omega (arith, some); few = few; value = refl })
+          | inr few ↦ inl (value_of word, record { digits = digits; some = omega (arith, some); few = few; value = refl })
         ]
         | inr none ↦ inr (λ number is. omega (arith, none, is.some))
       ]
@@ -114,25 +117,90 @@ first_word line word (Some rest) a =
       | inr other ↦ inr (λ i q d is. other (insert_begins line word rest i q d a is))
     ]
 
+-- a word is a name, or isn't
+a_name : (word : List ℕ) → ((name : List ℕ) × IsName word name) ⊎ ((name : List ℕ) → IsName word name → ⊥)
+a_name word =
+    elim (cases_Bool (list_any is_space word)) [
+      | inl spaced ↦ inr (λ name is. absurd (let z : true ≡ false = sym spaced ∙ is.unspaced in cc))
+      | inr unspaced ↦ elim (cases_lt 0 (length word)) [
+        | inl some ↦ elim (cases_lt 8 (length word)) [
+          | inl many ↦ inr (λ name is. omega (arith, many, is.few))
+          | inr few ↦ inl (name_of_text word, record { unspaced = unspaced; some = omega (arith, some); few = few; value = refl })
+        ]
+        | inr none ↦ inr (λ name is. omega (arith, none, is.some))
+      ]
+    ]
+
+-- a line is a query of a value
+AGet : List ℕ → Type 0
+AGet line = (h : ℕ) × (n : List ℕ) × IsGet line h n
+
+-- and none is
+NoGet : List ℕ → Type 0
+NoGet line = (h : ℕ) (n : List ℕ) → IsGet line h n → ⊥
+
+-- the HDU and the name
+get_second : (line behind_get hdu_word name_word : List ℕ) → BeginsWithWord line (codes "get") (Some behind_get) → BeginsWithWord behind_get hdu_word (Some name_word) → AGet line ⊎ NoGet line
+unfolding AGet NoGet
+get_second line behind_get hdu_word name_word a b =
+    elim (a_number hdu_word) [
+      | inl h ↦ elim (a_name name_word) [
+        | inl n ↦ inl (
+          h.0,
+          n.0,
+          record {
+            behind_get = behind_get;
+            hdu_word = hdu_word;
+            name_word = name_word;
+            get = a;
+            first = b;
+            is_hdu = h.1;
+            is_name = n.1;
+          },
+        )
+        | inr other ↦ inr (λ i n is. other n (get_words line (codes "get") hdu_word name_word behind_get a b i n is).2)
+      ]
+      | inr other ↦ inr (λ i n is. other i (get_words line (codes "get") hdu_word name_word behind_get a b i n is).1)
+    ]
+
+get_rest : (line behind_get word : List ℕ) (rest : Option (List ℕ)) → BeginsWithWord line (codes "get") (Some behind_get) → BeginsWithWord behind_get word rest → AGet line ⊎ NoGet line
+unfolding AGet NoGet
+get_rest line behind_get word None a b = inr (λ i n is. get_has_two_words line (codes "get") behind_get word i n a b is)
+get_rest line behind_get word (Some rest) a b = get_second line behind_get word rest a b
+
+get_first_word : (line word : List ℕ) (rest : Option (List ℕ)) → BeginsWithWord line word rest → AGet line ⊎ NoGet line
+unfolding AGet NoGet
+get_first_word line word None a = inr (λ i n is. get_has_words line word i n a is)
+get_first_word line word (Some rest) a =
+    elim (decided word (codes "get")) [
+      | inl get ↦ let cut = a_cut rest in get_rest line rest cut.word cut.rest (rw get at a) cut.begins
+      | inr other ↦ inr (λ i n is. other (get_begins line word rest i n a is))
+    ]
+
 -- what a line within the limit comes to
 short_reading : (line : List ℕ) → length line ≤ line_limit → (Says line Nothing) ⊎ (Says line Nothing → ⊥) → (r : LineReading) × IsReading line r
-unfolding AnInsert NoInsert
+unfolding AnInsert NoInsert AGet NoGet
 short_reading line short nothing =
     elim nothing [
       | inl is ↦ (Said Nothing, (short, is))
       | inr not_nothing ↦ elim (decided line (codes "off")) [
         | inl off ↦ (Said Offsets, (short, off))
         | inr not_off ↦ elim (let cut = a_cut line in first_word line cut.word cut.rest cut.begins) [
-          | inl insert ↦ (Said (Insert insert.0 insert.1 insert.2), (short, insert.3))
-          | inr no_insert ↦ (NoCommand, (short, (λ c says. none line c not_nothing not_off no_insert says)))
+          | inl insert ↦ (Said (Edit (Insert insert.0 insert.1 insert.2)), (short, insert.3))
+          | inr no_insert ↦ elim (let cut = a_cut line in get_first_word line cut.word cut.rest cut.begins) [
+            | inl get ↦ (Said (Get get.0 get.1), (short, get.2))
+            | inr no_get ↦ (NoCommand, (short, (λ c says. none line c not_nothing not_off no_insert no_get says)))
+          ]
         ]
       ]
     ]
   where
-    none : (line : List ℕ) (c : Command) → (Says line Nothing → ⊥) → (line ≡ codes "off" → ⊥) → ((h p : ℕ) (d : List ℕ) → IsInsert line h p d → ⊥) → Says line c → ⊥
-    none line Nothing a b d says = a says
-    none line (Insert h p c) a b d says = d h p c says
-    none line Offsets a b d says = b says
+    none : (line : List ℕ) (c : Command) → (Says line Nothing → ⊥) → (line ≡ codes "off" → ⊥) → ((h p : ℕ) (d : List ℕ) → IsInsert line h p d → ⊥) → ((h : ℕ) (n : List ℕ) → IsGet line h n → ⊥) → Says line c
+        → ⊥
+    none line Nothing a b d e says = a says
+    none line (Edit (Insert h p c)) a b d e says = d h p c says
+    none line Offsets a b d e says = b says
+    none line (Get h n) a b d e says = e h n says
 
 -- an empty line or a comment, or none
 nothing_or_not : (line : List ℕ) → (Says line Nothing) ⊎ (Says line Nothing → ⊥)

@@ -1,11 +1,9 @@
 pub mod Answer
-pub mod Edit
-pub mod File
 pub mod Limits
 pub mod Line
-pub mod Opening
+pub mod Listing
 pub mod Output
-pub mod Refusal
 pub mod Runner
 pub mod Running
 pub mod Script
+pub mod ValueLine

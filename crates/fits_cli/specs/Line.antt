@@ -1,17 +1,17 @@
 -- The lines of a script: which bytes are which command (own).
-use Rattle.std.specs.Prelude.{◌≡◌, ◌⊎◌, ℕ, ◌+◌, ◌-◌, ◌*◌, ◌<◌, ◌≤◌, ◌&&◌, ◌==◌, Bool, false, nat_le, IsTrue, List, [], ◌∷◌, ◌++◌, length, codes, fold, Option, None, Some, unwrap_or}
+use Rattle.std.specs.Prelude.{◌≡◌, ◌⊎◌, ℕ, ◌-◌, ◌<◌, ◌≤◌, false, IsTrue, List, [], ◌∷◌, ◌++◌, length, replicate, codes, Option, None, Some, unwrap_or}
 use Rattle.std.specs.List.{list_all, list_any}
 use Rattle.fits_card.specs.Card.{card_of_text}
+use Rattle.fits_value.specs.Number.{value_of}
+use Rattle.fits_value.specs.Spelling.{is_digit, is_space}
+use Rattle.fits_session.specs.declared.edit.Edit.TheVariants.{Insert}
 use Rattle.fits_cli.specs.Limits.{line_limit}
 use Rattle.fits_cli.specs.declared.command.Command.{Command}
-use Rattle.fits_cli.specs.declared.command.Command.TheVariants.{Nothing, Insert, Offsets}
+use Rattle.fits_cli.specs.declared.command.Command.TheVariants.{Nothing, Edit, Offsets, Get}
 use Rattle.fits_cli.specs.declared.line.LineReading.{LineReading}
 use Rattle.fits_cli.specs.declared.line.LineReading.TheVariants.{TooLong, NoCommand, Said}
 
--- a space, which stands between words
-abbrev pub is_space : ℕ → Bool
-is_space byte = byte == 32
-
+-- a word has no space in it
 abbrev pub HasNoSpace : List ℕ → Type 0
 HasNoSpace text = list_any is_space text ≡ false
 
@@ -20,20 +20,12 @@ abbrev pub BeginsWithWord : List ℕ → List ℕ → Option (List ℕ) → Type
 BeginsWithWord text word None = HasNoSpace word × (text ≡ word)
 BeginsWithWord text word (Some rest) = HasNoSpace word × (text ≡ word ++ 32 ∷ rest)
 
--- a decimal digit
-abbrev pub is_digit : ℕ → Bool
-is_digit byte = nat_le 48 byte && nat_le byte 57
-
--- the number that digits stand for
-abbrev pub number_of : List ℕ → ℕ
-number_of digits = fold (λ number digit. number * 10 + (digit - 48)) 0 digits
-
 -- 1 to 18 digits, and their number
 pub record IsNumber (word : List ℕ) (number : ℕ) : Type 0 where
   pub digits : IsTrue (list_all is_digit word)
   pub some : 1 ≤ length word
   pub few : length word ≤ 18
-  pub value : number ≡ number_of word
+  pub value : number ≡ value_of word
 
 -- `ins H P CARD`: CARD is the rest of the line, of at most 80 bytes; it may be empty without the space before it
 pub record IsInsert (line : List ℕ) (hdu place : ℕ) (card : List ℕ) : Type 0 where
@@ -50,11 +42,33 @@ pub record IsInsert (line : List ℕ) (hdu place : ℕ) (card : List ℕ) : Type
   pub short : length (unwrap_or text []) ≤ 80
   pub is_card : card ≡ card_of_text (unwrap_or text [])
 
+-- the keyword name that begins with a text and goes on in spaces
+abbrev pub name_of_text : List ℕ → List ℕ
+name_of_text text = text ++ replicate (8 - length text) 32
+
+-- 1 to 8 bytes without a space, and their keyword name
+pub record IsName (word name : List ℕ) : Type 0 where
+  pub unspaced : HasNoSpace word
+  pub some : 1 ≤ length word
+  pub few : length word ≤ 8
+  pub value : name ≡ name_of_text word
+
+-- `get H NAME`: NAME is the rest of the line
+pub record IsGet (line : List ℕ) (hdu : ℕ) (name : List ℕ) : Type 0 where
+  pub behind_get : List ℕ
+  pub hdu_word : List ℕ
+  pub name_word : List ℕ
+  pub get : BeginsWithWord line (codes "get") (Some behind_get)
+  pub first : BeginsWithWord behind_get hdu_word (Some name_word)
+  pub is_hdu : IsNumber hdu_word hdu
+  pub is_name : IsName name_word name
+
 -- the line says this command
 abbrev pub Says : List ℕ → Command → Type 0
 Says line Nothing = (line ≡ []) ⊎ ((rest : List ℕ) × (line ≡ codes "#" ++ rest))
-Says line (Insert hdu place card) = IsInsert line hdu place card
+Says line (Edit (Insert hdu place card)) = IsInsert line hdu place card
 Says line Offsets = line ≡ codes "off"
+Says line (Get hdu name) = IsGet line hdu name
 
 -- what a line comes to: it is past the limit, whatever it holds; or says no command; or says one
 abbrev pub IsReading : List ℕ → LineReading → Type 0

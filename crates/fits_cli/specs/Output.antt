@@ -1,16 +1,16 @@
 -- What a run of `edit` writes and answers: functions of the file and the script (own).
 use Rattle.std.specs.Prelude.{◌≡◌, ◌⊎◌, ℕ, ◌≤◌, false, nat_le, List, [], ◌∷◌, ◌++◌, length, map, take, Option, Some, None, if◌then◌else◌}
 use Rattle.std.specs.Io.KnownBytes.{Appends}
-use Rattle.fits_card.specs.Header.{Header}
-use Rattle.fits_cli.specs.File.{FileParts, file_bytes}
+use Rattle.fits_session.specs.File.{FileParts, file_bytes, IsFileOf}
+use Rattle.fits_session.specs.Opening.{HasOpenFault}
+use Rattle.fits_session.specs.declared.fault.OpenFault.{OpenFault}
 use Rattle.fits_cli.specs.Limits.{script_limit}
 use Rattle.fits_cli.specs.declared.line.LineReading.{LineReading}
 use Rattle.fits_cli.specs.Line.{ReadsLines}
-use Rattle.fits_cli.specs.Opening.{IsOpened, HasOpenFault, file_of_header}
 use Rattle.fits_cli.specs.Script.{IsCutInLines, script_lines}
 use Rattle.fits_cli.specs.Answer.{Standing, line_answer, line_left}
 use Rattle.fits_cli.specs.declared.fault.Fault.{Fault}
-use Rattle.fits_cli.specs.declared.fault.Fault.TheVariants.{Refused, NotYet, ScriptTooLong, Memory, ReadFailed, WriteFailed}
+use Rattle.fits_cli.specs.declared.fault.Fault.TheVariants.{Refused, ScriptTooLong, Memory, ReadFailed, WriteFailed}
 
 -- what lines print, one after another
 unfoldable pub answers : Standing → List LineReading → List ℕ
@@ -38,8 +38,8 @@ pub record Output : Type 0 where
   pub fault : Option Fault
 
 -- a file that doesn't open
-abbrev pub output_unopened : Fault → Output
-output_unopened why = record { text = []; saved = []; status = 2; fault = Some why }
+abbrev pub output_unopened : OpenFault → Output
+output_unopened why = record { text = []; saved = []; status = 2; fault = Some (Refused why) }
 
 -- all lines of a script, and then the file is saved
 abbrev pub output_of_lines : FileParts → List LineReading → Output
@@ -57,11 +57,11 @@ output_too_long file lines = record { text = answers (at_first_line file) lines;
 -- the output of a file and a script, the lines being read by `read`
 abbrev pub IsOutputOf : (List ℕ → LineReading) → List ℕ → List ℕ → Output → Type 0
 IsOutputOf read file script output =
-    ((why : Fault) × HasOpenFault file why × (output ≡ output_unopened why))
-    ⊎ ((header : Header) × (lines : List (List ℕ)) × (last : List ℕ) × IsOpened file header × IsCutInLines (take script_limit script) lines last
+    ((why : OpenFault) × HasOpenFault file why × (output ≡ output_unopened why))
+    ⊎ ((parts : FileParts) × (lines : List (List ℕ)) × (last : List ℕ) × IsFileOf file parts × IsCutInLines (take script_limit script) lines last
     × (output ≡ (if nat_le (length script) script_limit
-    then output_of_lines (file_of_header header) (map read (script_lines lines last))
-    else output_too_long (file_of_header header) (map read lines))))
+    then output_of_lines parts (map read (script_lines lines last))
+    else output_too_long parts (map read lines))))
 
 -- where file and script tell their bytes, what was printed and saved, the status and the fault are those of their output
 abbrev pub IsRun : Option (List ℕ) → Option (List ℕ) → Option (List ℕ) → Option (List ℕ) → Option (List ℕ) → Option (List ℕ) → ℕ → Option Fault → Type 0
@@ -75,7 +75,6 @@ IsRun (Some file) (Some script) printed prints saved saves status fault =
 -- what a fault says of its run: no call failed, and it is the run's output or memory was refused; or a read or a write failed
 abbrev pub FaultSays : (ℕ → Option Fault → Type 0) → Type 0 → Type 0 → Type 0 → Fault → Type 0
 FaultSays IsThisRun no_call_failed a_read_failed a_write_failed (Refused why) = IsThisRun 2 (Some (Refused why)) × no_call_failed
-FaultSays IsThisRun no_call_failed a_read_failed a_write_failed NotYet = IsThisRun 2 (Some NotYet) × no_call_failed
 FaultSays IsThisRun no_call_failed a_read_failed a_write_failed ScriptTooLong = IsThisRun 2 (Some ScriptTooLong) × no_call_failed
 FaultSays IsThisRun no_call_failed a_read_failed a_write_failed Memory = no_call_failed
 FaultSays IsThisRun no_call_failed a_read_failed a_write_failed ReadFailed = a_read_failed
@@ -84,7 +83,6 @@ FaultSays IsThisRun no_call_failed a_read_failed a_write_failed WriteFailed = a_
 -- the status that goes with a fault
 abbrev pub status_of_fault : Fault → ℕ
 status_of_fault (Refused why) = 2
-status_of_fault NotYet = 2
 status_of_fault ScriptTooLong = 2
 status_of_fault Memory = 3
 status_of_fault ReadFailed = 3

@@ -1,7 +1,6 @@
 -- The program's own record of a run, as the definitions see it.
 use Rattle.fits_cli.specs.declared.runner.Runner.{Runner}
 use Rattle.fits_cli.specs.Answer.{Standing}
-use Rattle.fits_cli.specs.Opening.{file_of_header}
 
 abbrev pub standing_of : Runner → Standing
-standing_of runner = record { file = file_of_header runner.file.cards.header; line = runner.line; any_refused = runner.any_refused }
+standing_of runner = record { file = runner.session.file; line = runner.line; any_refused = runner.any_refused }

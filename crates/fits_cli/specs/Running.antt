@@ -3,9 +3,11 @@ use Rattle.std.specs.Prelude.{◌≡◌, ℕ, ◌<◌, ◌≤◌, List, ◌++◌
 use Rattle.std.specs.Io.KnownBytes.{Appends}
 use Rattle.fits_cli.specs.Limits.{script_limit}
 use Rattle.fits_cli.specs.Line.{ReadsLines}
-use Rattle.fits_cli.specs.Opening.{HasOpenFault}
+use Rattle.fits_session.specs.Opening.{HasOpenFault}
+use Rattle.fits_session.specs.declared.fault.OpenFault.{OpenFault}
+use Rattle.fits_session.specs.declared.fault.OpenFault.TheVariants.{NotFits, NoEnd, BadShape, ShortData, TooLarge, Memory as OpenMemory}
 use Rattle.fits_cli.specs.declared.fault.Fault.{Fault}
-use Rattle.fits_cli.specs.declared.fault.Fault.TheVariants.{Refused, NotYet, ScriptTooLong, Memory, ReadFailed, WriteFailed}
+use Rattle.fits_cli.specs.declared.fault.Fault.TheVariants.{Refused, ScriptTooLong, Memory, ReadFailed, WriteFailed}
 use Rattle.fits_cli.specs.Script.{IsCutInLines, script_lines}
 use Rattle.fits_cli.specs.Answer.{Standing, line_answer, line_left}
 use Rattle.fits_cli.specs.Output.{answers, standing_after}
@@ -59,10 +61,18 @@ abbrev pub script_fault_of : AnswerFault → ScriptFault
 script_fault_of AnswerMemory = ScriptMemory
 script_fault_of AnswerWriteFailed = ScriptWriteFailed
 
+-- what ends a run whose file doesn't open
+abbrev pub fault_of_open : OpenFault → Fault
+fault_of_open NotFits = Refused NotFits
+fault_of_open (NoEnd hdu) = Refused (NoEnd hdu)
+fault_of_open (BadShape hdu place) = Refused (BadShape hdu place)
+fault_of_open (ShortData hdu) = Refused (ShortData hdu)
+fault_of_open TooLarge = Refused TooLarge
+fault_of_open OpenMemory = Memory
+
 -- why a file wasn't opened: no call failed, and its bytes don't open or memory was refused; or a read failed
 abbrev pub OpenEnds : Option (List ℕ) → Type 0 → Type 0 → Fault → Type 0
-OpenEnds file no_read_failed a_read_failed (Refused why) = IfSome file (λ bytes. HasOpenFault bytes (Refused why)) × no_read_failed
-OpenEnds file no_read_failed a_read_failed NotYet = IfSome file (λ bytes. HasOpenFault bytes NotYet) × no_read_failed
+OpenEnds file no_read_failed a_read_failed (Refused why) = IfSome file (λ bytes. HasOpenFault bytes why) × no_read_failed
 OpenEnds file no_read_failed a_read_failed ScriptTooLong = ⊥
 OpenEnds file no_read_failed a_read_failed Memory = no_read_failed
 OpenEnds file no_read_failed a_read_failed ReadFailed = a_read_failed

@@ -1,15 +1,12 @@
 //! The run of `edit`: a file, a script, answers, and the file saved.
-ghost use Rattle.std.specs.Prelude.{◌≡◌, ◌⊎◌, ◌<◌, IfOk, IfErr, IfSome, OnOk, None, if◌then◌else◌};
-ghost use Rattle.fits_cli.specs.Opening.{IsOpened};
+ghost use Rattle.std.specs.Prelude.{◌⊎◌, ◌<◌, IfOk, IfErr, OnOk, None, if◌then◌else◌};
 ghost use Rattle.fits_cli.specs.Output.{EndSays, FaultSays, IsRun, NoCallFailed};
-ghost use Rattle.fits_cli.specs.Running.{OpenEnds};
 
 use crate::end::End;
-use crate::fault::{Fault, OpenFault};
-use crate::plain_file::{FILE_LIMIT, PlainFile};
+use crate::fault::Fault;
+use crate::opening::open_file;
 use crate::runner::Runner;
 use crate::script::{ScriptFault, answer_script};
-use fits_card::reading::{ReadFault, read_up_to};
 use fits_card::sink::Sink;
 use fits_card::source::Source;
 use std::alloc::Global;
@@ -60,12 +57,12 @@ fn edit<F: Source, S: Source, P: Sink, O: Sink>(
         ((F.failures file.old < F.failures file.new) ⊎ (S.failures script.old < S.failures script.new))
         ((O.failures out.old < O.failures out.new) ⊎ (P.failures saved.old < P.failures saved.new))) }
 {
-    let file = match open_file(alloc, file) {
-        Ok(file) => file,
+    let session = match open_file(alloc, file) {
+        Ok(session) => session,
         Err(fault) => return Err(fault),
     };
     let mut runner = Runner {
-        file,
+        session,
         line: 1,
         any_refused: false,
     };
@@ -93,32 +90,11 @@ fn edit<F: Source, S: Source, P: Sink, O: Sink>(
     let Ok(()) = out.flush() else {
         return Err(Fault::WriteFailed);
     };
-    let Ok(()) = runner.file.save(saved) else {
+    let Ok(()) = runner.session.save(saved) else {
         return Err(Fault::WriteFailed);
     };
     let Ok(()) = saved.flush() else {
         return Err(Fault::WriteFailed);
     };
     Ok(runner.any_refused)
-}
-
-// Reads a file and opens it.
-#[tactic(auto, using(crate::proofs::EditingLemmas::open_steps))]
-fn open_file<F: Source>(alloc: Global, file: &mut F) -> Result<PlainFile, Fault>
-    ensures ok { IfOk result (λ plain. IfSome (F.remaining file.old) (λ bytes. IsOpened bytes plain.cards.header)) }
-    ensures quiet { OnOk result (F.failures file.new ≡ F.failures file.old) }
-    ensures err { IfErr result (OpenEnds (F.remaining file.old) (F.failures file.new ≡ F.failures file.old) (F.failures file.old < F.failures file.new)) }
-{
-    let portion = match read_up_to(alloc, file, FILE_LIMIT) {
-        Ok(portion) => portion,
-        Err(ReadFault::Memory) => return Err(Fault::Memory),
-        Err(ReadFault::Failed) => return Err(Fault::ReadFailed),
-    };
-    if portion.more {
-        return Err(Fault::Refused(OpenFault::TooLarge));
-    }
-    match PlainFile::open(alloc, &portion.bytes) {
-        Ok(file) => Ok(file),
-        Err(fault) => Err(fault),
-    }
 }

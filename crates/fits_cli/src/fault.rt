@@ -1,30 +1,15 @@
 ghost use Rattle.std.specs.Prelude.{◌≡◌};
 
+use fits_session::fault::OpenFault;
 use std::alloc::AllocError;
 use thiserror::Error;
-
-/// Why a file doesn't open.
-#[derive(Clone, Copy, PartialEq, Eq, Debug, Error)]
-pub enum OpenFault {
-    /// The file doesn't begin with `SIMPLE` and two spaces.
-    #[error("O1 NotFits")]
-    NotFits,
-    /// The header of this HDU, from 1, has no END, or its last block isn't whole.
-    #[error("O2 NoEnd hdu {hdu}")]
-    NoEnd { hdu: usize },
-    /// The file is longer than a file may be.
-    #[error("O5 TooLarge")]
-    TooLarge,
-}
 
 /// What ended a run before its end, as standard error tells it.
 #[derive(Clone, Copy, PartialEq, Eq, Debug, Error)]
 pub enum Fault {
+    /// The file doesn't open.
     #[error("fitsed: open refused {0}")]
     Refused(OpenFault),
-    /// The file has data or further HDUs, or its first cards aren't those of a plain header.
-    #[error("fitsed: not in this stage")]
-    NotYet,
     #[error("fitsed: script too long")]
     ScriptTooLong,
     #[error("fitsed: no memory")]
@@ -44,7 +29,7 @@ impl Fault {
         ensures { result ≡ status_of_fault self }
     {
         match self {
-            Fault::Refused(_) | Fault::NotYet | Fault::ScriptTooLong => 2,
+            Fault::Refused(_) | Fault::ScriptTooLong => 2,
             Fault::Memory | Fault::ReadFailed | Fault::WriteFailed => 3,
         }
     }

@@ -9,9 +9,10 @@ pub mod fault;
 pub mod laws;
 pub mod lazy_file;
 pub mod line;
-mod plain_file;
-pub mod refusal;
+pub mod listing;
+mod opening;
 mod runner;
 mod script;
 #[cfg(test)]
 mod tests;
+mod value_line;

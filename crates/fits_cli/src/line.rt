@@ -1,15 +1,22 @@
 //! The lines of a script: which bytes are which command.
 ghost use Rattle.std.specs.Prelude.{◌≡◌, ◌<◌, ◌≤◌, ◌+◌, ◌^◌, ◌↔◌, ℕ, IfOk, IsErrOf, IfSome, IfNone, IsTrue, length, List, [], option_copied, unwrap_or};
-ghost use Rattle.std.specs.List.{list_all};
+ghost use Rattle.std.specs.List.{list_all, list_any};
 ghost use Rattle.fits_cli.specs.declared.command.Command.{Command};
 ghost use Rattle.fits_cli.specs.Limits.{line_limit};
-ghost use Rattle.fits_cli.specs.Line.{is_digit, number_of, BeginsWithWord, HasNoSpace, IsNumber, IsInsert, IsReading, Says};
+ghost use Rattle.fits_cli.specs.Line.{name_of_text, BeginsWithWord, HasNoSpace, IsNumber, IsInsert, IsName, IsGet, IsReading, Says};
+ghost use Rattle.fits_value.specs.Number.{value_of};
+ghost use Rattle.fits_value.specs.Spelling.{is_digit, is_space};
 
 use crate::command::Command;
 use fits_card::card::{CARD_LEN, Card};
+use fits_session::edit::Edit;
+use fits_card::name::Name;
 
 /// How many bytes a line has at most, without its line feed.
 pub const LINE_LIMIT: usize = 100_000;
+
+/// How many bytes a keyword name has (FITS Standard 4.0, section 4.1.2.1).
+const NAME_LEN: usize = 8;
 
 /// Why a line is no command.
 #[derive(Clone, Copy, PartialEq, Eq, Debug)]
@@ -54,7 +61,10 @@ pub fn parse_line(line: &[u8]) -> Result<Command, LineFault>
     if line.len() > LINE_LIMIT {
         return Err(LineFault::Bad);
     }
-    command_of(line).ok_or(LineFault::Bad)
+    match command_of(line) {
+        Some(command) => Ok(command),
+        None => Err(LineFault::Bad),
+    }
 }
 
 // The command of a line within the limit.
@@ -68,7 +78,10 @@ fn command_of(line: &[u8]) -> Option<Command>
     if line == b"off".as_slice() {
         return Some(Command::Offsets);
     }
-    insert_of(line)
+    match insert_of(line) {
+        Some(insert) => Some(insert),
+        None => get_of(line),
+    }
 }
 
 // `ins H P CARD`
@@ -99,7 +112,32 @@ fn insert_of(line: &[u8]) -> Option<Command>
         return None;
     };
     let card = Card::padded(text);
-    Some(Command::Insert { hdu, place, card })
+    Some(Command::Edit(Edit::Insert { hdu, place, card }))
+}
+
+// `get H NAME`
+fn get_of(line: &[u8]) -> Option<Command>
+    ensures some { IfSome result (Says line.now) }
+    ensures none { IfNone result ((hdu : ℕ) (name : List ℕ) → IsGet line.now hdu name → ⊥) }
+{
+    let (verb, behind) = cut_word(line);
+    let Some(behind_get) = behind else {
+        return None;
+    };
+    if !is_word(verb, b"get") {
+        return None;
+    }
+    let (hdu_word, behind) = cut_word(behind_get);
+    let Some(name_word) = behind else {
+        return None;
+    };
+    let Some(hdu) = number_of_word(hdu_word) else {
+        return None;
+    };
+    let Some(name) = name_of_word(name_word) else {
+        return None;
+    };
+    Some(Command::Get { hdu, name })
 }
 
 // The first word, and what follows the space behind it, if there is one.
@@ -153,11 +191,39 @@ fn are_digits(word: &[u8]) -> bool
 fn number_of_digits(digits: &[u8]) -> usize
     requires are_digits { IsTrue (list_all is_digit digits.now) }
     requires few { length digits.now ≤ 18 }
-    ensures { result ≡ number_of digits.now }
+    ensures { result ≡ value_of digits.now }
 {
     let mut number = 0usize;
     for digit in digits {
         number = number * 10 + (*digit - b'0') as usize;
     }
     number
+}
+
+// The keyword name that 1 to 8 bytes without a space begin.
+fn name_of_word(word: &[u8]) -> Option<Name>
+    ensures some { IfSome result (IsName word.now) }
+    ensures none { IfNone result ((name : List ℕ) → IsName word.now name → ⊥) }
+{
+    if word.is_empty() || word.len() > NAME_LEN || has_space(word) {
+        return None;
+    }
+    Some(padded(word))
+}
+
+fn has_space(word: &[u8]) -> bool
+    ensures { result ≡ list_any is_space word.now }
+{
+    word.contains(&b' ')
+}
+
+// The name that begins with this text and goes on in spaces.
+fn padded(text: &[u8]) -> Name
+    requires { length text.now ≤ 8 }
+    ensures { result ≡ name_of_text text.now }
+{
+    let mut name = [b' '; NAME_LEN];
+    let (front, _) = name.split_at_mut(text.len());
+    front.copy_from_slice(text);
+    Name(name)
 }

@@ -99,7 +99,7 @@ fn answer_line<O: Sink>(
     ensures memory { IsErrOf result AnswerFault.Memory → O.failures out.new ≡ O.failures out.old }
 {
     let reply = runner.reply(alloc, read_line(line))?;
-    let Ok(()) = write_all(out, reply.as_bytes()) else {
+    let Ok(()) = write_all(out, &reply) else {
         return Err(AnswerFault::WriteFailed);
     };
     Ok(())

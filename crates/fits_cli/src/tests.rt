@@ -1,7 +1,10 @@
+mod files;
 mod lines;
+mod listing;
 mod memory;
 mod rows;
 mod streams;
+mod values;
 
 use crate::editing::run_edit;
 use crate::end::End;

@@ -7,19 +7,24 @@ use std::alloc::{AllocError, Global};
 pub enum Task<'a> {
     /// The script on standard input edits the file at `from`; the result goes to `to`.
     Edit { from: &'a str, to: &'a str },
+    /// The HDUs of the file at `from` are listed.
+    List { from: &'a str },
 }
 
-const ABOUT: &str = "Edits FITS files";
+const ABOUT: &str = "Edits and lists FITS files";
 
 const EDIT: &str = "Edits a file by a script from standard input";
+
+const LIST: &str = "Prints a line for each HDU of a file";
 
 const STATUSES: &str = "Exit status:
   0  done
   1  a line of the script was refused or bad
-  2  a usage fault, a file that is no such FITS file, or a script that is too long
+  2  a usage fault, a file that doesn't open, or a script that is too long
   3  a file or stream can't be read or written, or memory was refused
 
 Example:
+  fitsed list in.fits
   printf 'ins 1 4 COMMENT hello\\noff\\n' | fitsed edit in.fits out.fits
 
 The lines of a script are told by fitsed(1).";
@@ -31,12 +36,17 @@ pub fn command<'a>(alloc: Global) -> Result<Command<'a>, AllocError> {
         .after_help(STATUSES)
         .arg(path(alloc, "IN", "The file to read"))?
         .arg(path(alloc, "OUT", "The file to write; it may be IN"))?;
+    let list = Command::new(alloc, "list")
+        .about(LIST)
+        .after_help(STATUSES)
+        .arg(path(alloc, "IN", "The file to read"))?;
     Command::new(alloc, "fitsed")
         .about(ABOUT)
         .after_help(STATUSES)
         .subcommand_required(true)
         .disable_help_subcommand(true)
-        .subcommand(edit)
+        .subcommand(edit)?
+        .subcommand(list)
 }
 
 fn path<'a>(alloc: Global, id: &'a str, help: &'a str) -> Arg<'a> {
@@ -53,6 +63,9 @@ pub fn task_of<'a>(matches: &ArgMatches<'a>) -> Option<Task<'a>> {
         "edit" => Some(Task::Edit {
             from: words.get_str("IN")?,
             to: words.get_str("OUT")?,
+        }),
+        "list" => Some(Task::List {
+            from: words.get_str("IN")?,
         }),
         _ => None,
     }

@@ -11,6 +11,7 @@ use fits_cli::editing::run_edit;
 use fits_cli::end::End;
 use fits_cli::fault::Fault;
 use fits_cli::lazy_file::LazyFile;
+use fits_cli::listing::run_list;
 use std::alloc::AllocError;
 use std::io::BufWriter;
 use std::process::ExitCode;
@@ -32,10 +33,11 @@ fn main(rt: HostRuntime) -> ExitCode {
         Ok(matches) => matches,
         Err(error) => return ExitCode::from(usage(&rt, error)),
     };
-    let Some(Task::Edit { from, to }) = task_of(&matches) else {
-        return ExitCode::from(2);
+    let end = match task_of(&matches) {
+        Some(Task::Edit { from, to }) => edit(&rt, from, to),
+        Some(Task::List { from }) => list(&rt, from),
+        None => return ExitCode::from(2),
     };
-    let end = edit(&rt, from, to);
     if let Some(fault) = end.fault {
         let _ = eprintln!(rt; "{fault}");
     }
@@ -60,6 +62,17 @@ fn edit<R: Files + Input + Print + AllocGlobal>(rt: &R, from: &str, to: &str) ->
         &mut Watched::new(saved),
         &mut Watched::new(out),
     )
+}
+
+// Runs `list` over the file at `from`.
+fn list<R: Files + Print + AllocGlobal>(rt: &R, from: &str) -> End {
+    let Ok(file) = fs::open(rt, from) else {
+        return failed(Fault::ReadFailed);
+    };
+    let Ok(out) = BufWriter::new(rt.alloc(), io::writer(rt)) else {
+        return failed(Fault::Memory);
+    };
+    run_list(rt.alloc(), &mut Watched::new(file), &mut Watched::new(out))
 }
 
 fn failed(fault: Fault) -> End {

@@ -7,21 +7,30 @@ use crate::end::End;
 use crate::fault::Fault;
 use crate::line::{LineFault, LineReading, parse_line, read_line};
 use fits_card::card::Card;
+use fits_card::name::Name;
 use fits_card::watched::Watched;
+use fits_session::edit::Edit;
 use std::alloc::Global;
 use std::io;
 use std::io::Read;
 use std::process::Abort;
 use std::test::Fail;
 
+fn asks(hdu: usize, name: [u8; 8]) -> Command {
+    Command::Get {
+        hdu,
+        name: Name(name),
+    }
+}
+
 fn inserts(hdu: usize, place: usize, card: Card) -> Command {
-    Command::Insert { hdu, place, card }
+    Command::Edit(Edit::Insert { hdu, place, card })
 }
 
 #[test]
 fn a_line_of_a_form_says_its_command(rt: HostRuntime) {
     let blank = Card::padded(b"");
-    let table: [(&[u8], Command); 17] = [
+    let table: [(&[u8], Command); 24] = [
         (b"", Command::Nothing),
         (b"#", Command::Nothing),
         (b"#x", Command::Nothing),
@@ -51,6 +60,17 @@ fn a_line_of_a_form_says_its_command(rt: HostRuntime) {
         ),
         (b"ins 0 0 X", inserts(0, 0, Card::padded(b"X"))),
         (b"ins 1 4 ins 1 4", inserts(1, 4, Card::padded(b"ins 1 4"))),
+        // a name is filled up with spaces
+        (b"get 1 KEY", asks(1, *b"KEY     ")),
+        (b"get 2 K", asks(2, *b"K       ")),
+        (b"get 0 DATE-OBS", asks(0, *b"DATE-OBS")),
+        (b"get 000000000000000012 1", asks(12, *b"1       ")),
+        (
+            b"get 999999999999999999 get",
+            asks(999_999_999_999_999_999, *b"get     "),
+        ),
+        (b"get 1 #=/'\t\xff\0", asks(1, *b"#=/'\t\xff\0 ")),
+        (b"get 1 KEY\r", asks(1, *b"KEY\r    ")),
     ];
     for (line, command) in table {
         match parse_line(line) {
@@ -66,7 +86,7 @@ fn a_line_of_a_form_says_its_command(rt: HostRuntime) {
 
 #[test]
 fn a_line_of_no_form_is_no_command(rt: HostRuntime) {
-    let table: [&[u8]; 36] = [
+    let table: [&[u8]; 57] = [
         b"off ",
         b" off",
         b"off\r",
@@ -104,6 +124,29 @@ fn a_line_of_no_form_is_no_command(rt: HostRuntime) {
         b"ins 0000000000000000001 4 X",
         b"ins 1 0000000000000000000 X",
         b"INS 1 4 X",
+        b"get",
+        b"get ",
+        b"get 1",
+        b"get 1 ",
+        b"get 1  ",
+        b"get KEY",
+        b"get KEY 1",
+        b"get  1 KEY",
+        b"get 1  KEY",
+        b" get 1 KEY",
+        b"get\t1 KEY",
+        // a further space, or a further word
+        b"get 1 KEY ",
+        b"get 1 KEY 2",
+        // 9 bytes
+        b"get 1 DATE-OBS2",
+        b"get x KEY",
+        b"get -1 KEY",
+        b"get +1 KEY",
+        b"get 1000000000000000000 KEY",
+        b"gets 1 KEY",
+        b"ge 1 KEY",
+        b"GET 1 KEY",
     ];
     for line in table {
         assert_eq!(rt; parse_line(line), Err(LineFault::Bad));
@@ -136,7 +179,7 @@ fn a_card_of_a_line_has_at_most_eighty_bytes(rt: HostRuntime) -> Result<(), Fail
 fn a_line_of_a_later_command_is_none(rt: HostRuntime) -> Result<(), Fail> {
     p0_stays(
         &rt,
-        b"put 1 4 X\nget 1 KEY\nrep\nfrob\n",
+        b"put 1 4 X\npos 1 KEY\nrep\nfrob\n",
         b"line 1: not a command\nline 2: not a command\nline 3: not a command\nline 4: not a command\n",
         1,
     )

@@ -1,4 +1,4 @@
-use super::{SMOOTH, p0, reader, repeated, writer};
+use super::{BITPIX, NAXIS, SIMPLE, SMOOTH, header, p0, reader, repeated, writer};
 use crate::editing::run_edit;
 use crate::fault::Fault;
 use std::test::Fail;
@@ -50,6 +50,56 @@ fn refused_memory_saves_nothing(rt: HostRuntime) -> Result<(), Fail> {
             assert!(rt; rest.starts_with(b"END"));
             let (_, spaces) = rest.split_at(3);
             assert!(rt; spaces.iter().all(|byte| *byte == b' '));
+        }
+    }
+    Ok(())
+}
+
+/// Whichever request for memory is refused, a line tells a whole value or the run ends.
+#[test]
+fn refused_memory_tells_no_other_value(rt: HostRuntime) -> Result<(), Fail> {
+    let alloc = rt.alloc();
+    let cards: [&[u8]; 8] = [
+        SIMPLE,
+        BITPIX,
+        NAXIS,
+        b"KEY     = 'ab&' / first",
+        b"CONTINUE  'c''d&'",
+        b"CONTINUE  'e' / last",
+        b"PAIR    = (1, 2)/",
+        b"END",
+    ];
+    let Ok(file) = header(alloc, &cards) else {
+        return Ok(());
+    };
+    let script = b"get 1 KEY\nget 1 PAIR\nget 1 NONE\nget 1 KEY";
+    let answers: &[u8] =
+        b"string 'abc''de' / last\ncomplex (1, 2) /\nline 3: refused 3 NoKey\nstring 'abc''de' / last\n";
+    for _ in 0..2 {
+        let Ok(mut saved) = writer(alloc, SMOOTH) else {
+            return Ok(());
+        };
+        let Ok(mut out) = writer(alloc, SMOOTH) else {
+            return Ok(());
+        };
+        let end = run_edit(
+            alloc,
+            &mut reader(&file, SMOOTH),
+            &mut reader(script, SMOOTH),
+            &mut saved,
+            &mut out,
+        );
+        let printed = out.into_inner().bytes;
+        let saved = saved.into_inner().bytes;
+        if end.fault == Some(Fault::Memory) {
+            assert_eq!(rt; end.status, 3);
+            assert!(rt; saved.is_empty());
+            assert!(rt; answers.starts_with(printed.as_slice()));
+        } else {
+            assert_eq!(rt; end.fault, None);
+            assert_eq!(rt; end.status, 1);
+            assert_eq!(rt; printed.as_slice(), answers);
+            assert!(rt; saved.as_slice() == file.as_slice());
         }
     }
     Ok(())

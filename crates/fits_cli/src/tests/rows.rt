@@ -1,5 +1,6 @@
 use super::{BITPIX, NAXIS, SIMPLE, comes_to, header, p0, p0_stays, repeated, run};
-use crate::fault::{Fault, OpenFault};
+use crate::fault::Fault;
+use fits_session::fault::OpenFault;
 use std::process::Abort;
 use std::test::Fail;
 
@@ -88,7 +89,7 @@ fn an_insertion_is_refused_by_the_first_test_that_fails(rt: HostRuntime) -> Resu
             b"line 1: refused 6 Shape\n",
         ),
         (
-            b"ins 1 3 NAXIS   =                    0 /",
+            b"ins 1 3 NAXIS   =                    1",
             b"line 1: refused 6 Shape\n",
         ),
         (b"ins 2 4 X", b"line 1: refused 1 NoHdu\n"),
@@ -112,11 +113,15 @@ fn an_insertion_is_refused_by_the_first_test_that_fails(rt: HostRuntime) -> Resu
 
 #[test]
 fn an_accepted_card_stands_at_its_place(rt: HostRuntime) -> Result<(), Fail> {
-    let table: [(&[u8], &[&[u8]]); 9] = [
-        // the stage's test passes again
+    let table: [(&[u8], &[&[u8]]); 10] = [
+        // the same shape once more
         (
             b"ins 1 3 NAXIS   =                    0",
             &[SIMPLE, BITPIX, NAXIS, NAXIS, b"END"],
+        ),
+        (
+            b"ins 1 3 NAXIS   = 0 / none",
+            &[SIMPLE, BITPIX, b"NAXIS   = 0 / none", NAXIS, b"END"],
         ),
         // a second one that isn't read
         (
@@ -204,8 +209,6 @@ const NOT_FITS: &str = "fitsed: open refused O1 NotFits";
 
 const NO_END: &str = "fitsed: open refused O2 NoEnd hdu 1";
 
-const NOT_YET: &str = "fitsed: not in this stage";
-
 #[test]
 fn a_file_that_does_not_begin_as_fits_is_refused(rt: HostRuntime) -> Result<(), Fail> {
     for file in [
@@ -235,10 +238,48 @@ fn a_header_without_its_end_is_refused(rt: HostRuntime) -> Result<(), Fail> {
 }
 
 #[test]
-fn a_file_that_is_not_plain_is_refused(rt: HostRuntime) -> Result<(), Fail> {
-    let table: [&[&[u8]]; 9] = [
-        &[SIMPLE, b"BITPIX  =                   16", NAXIS, b"END"],
-        &[SIMPLE, BITPIX, b"NAXIS   =                    1", b"END"],
+fn a_bad_shape_is_told_by_its_first_place(rt: HostRuntime) -> Result<(), Fail> {
+    let table: [(&[&[u8]], &str); 8] = [
+        (&[SIMPLE, b"END"], "2"),
+        (&[SIMPLE, NAXIS, BITPIX, b"END"], "2"),
+        (
+            &[SIMPLE, b"BITPIX  =                   24", NAXIS, b"END"],
+            "2",
+        ),
+        (&[SIMPLE, BITPIX, b"END", NAXIS], "3"),
+        (
+            &[SIMPLE, BITPIX, b"NAXIS                        0", b"END"],
+            "3",
+        ),
+        (
+            &[SIMPLE, BITPIX, b"NAXIS   =                   0.", b"END"],
+            "3",
+        ),
+        (
+            &[SIMPLE, BITPIX, b"NAXIS   =                    1", b"END"],
+            "4",
+        ),
+        (
+            &[
+                SIMPLE,
+                BITPIX,
+                b"NAXIS   =                    1",
+                b"NAXIS2  =                    1",
+                b"END",
+            ],
+            "4",
+        ),
+    ];
+    for (cards, place) in table {
+        let text = format!(in rt.alloc(); "fitsed: open refused O3 BadShape hdu 1 card {place}")?;
+        opens_not(&rt, &header(rt.alloc(), cards)?, &text)?;
+    }
+    Ok(())
+}
+
+#[test]
+fn mandatory_cards_may_be_in_free_format(rt: HostRuntime) -> Result<(), Fail> {
+    let table: [&[&[u8]]; 4] = [
         &[SIMPLE, b"BITPIX  = 8", NAXIS, b"END"],
         &[
             SIMPLE,
@@ -247,31 +288,29 @@ fn a_file_that_is_not_plain_is_refused(rt: HostRuntime) -> Result<(), Fail> {
             b"END",
         ],
         &[SIMPLE, BITPIX, b"NAXIS   =                   00", b"END"],
-        &[SIMPLE, BITPIX, b"NAXIS                        0", b"END"],
-        &[SIMPLE, NAXIS, BITPIX, b"END"],
-        &[SIMPLE, BITPIX, b"END", NAXIS],
-        &[SIMPLE, b"END"],
+        &[SIMPLE, b"BITPIX  =                  -64", NAXIS, b"END"],
     ];
     for cards in table {
-        opens_not(&rt, &header(rt.alloc(), cards)?, NOT_YET)?;
+        let file = header(rt.alloc(), cards)?;
+        comes_to(&rt, &file, b"off\n", b"1 0 2880 2880\n", &file, 0)?;
     }
     Ok(())
 }
 
 #[test]
-fn what_follows_the_header_is_refused(rt: HostRuntime) -> Result<(), Fail> {
-    let mut file = p0(rt.alloc())?;
-    file.push(b' ')?;
-    opens_not(&rt, &file, NOT_YET)?;
-    for _ in 1..2880 {
-        file.push(b' ')?;
+fn what_follows_the_last_hdu_is_kept(rt: HostRuntime) -> Result<(), Fail> {
+    for tail in [b" ".as_slice(), b"XTENSIO".as_slice(), b"XTENSIOM".as_slice()] {
+        let mut file = p0(rt.alloc())?;
+        file.extend_from_slice(tail)?;
+        comes_to(&rt, &file, b"off\n", b"1 0 2880 2880\n", &file, 0)?;
     }
-    assert_eq!(rt; file.len(), 5760);
-    opens_not(&rt, &file, NOT_YET)?;
-    // the header's fault is met first
-    let cards: [&[u8]; 3] = [SIMPLE, BITPIX, NAXIS];
-    let file = header(rt.alloc(), &cards)?;
-    opens_not(&rt, &file, NO_END)
+    let mut file = p0(rt.alloc())?;
+    file.extend_from_slice(&repeated(rt.alloc(), b" ", 2880)?)?;
+    comes_to(&rt, &file, b"off\n", b"1 0 2880 2880\n", &file, 0)?;
+    // an extension begins, and has no END
+    let mut file = p0(rt.alloc())?;
+    file.extend_from_slice(b"XTENSION")?;
+    opens_not(&rt, &file, "fitsed: open refused O2 NoEnd hdu 2")
 }
 
 #[test]
@@ -297,7 +336,16 @@ fn each_fault_has_its_text_and_its_status(rt: HostRuntime) -> Result<(), Fail> {
             "fitsed: open refused O5 TooLarge",
             2,
         ),
-        (Fault::NotYet, "fitsed: not in this stage", 2),
+        (
+            Fault::Refused(OpenFault::BadShape { hdu: 2, card: 5 }),
+            "fitsed: open refused O3 BadShape hdu 2 card 5",
+            2,
+        ),
+        (
+            Fault::Refused(OpenFault::ShortData { hdu: 3 }),
+            "fitsed: open refused O4 ShortData hdu 3",
+            2,
+        ),
         (Fault::ScriptTooLong, "fitsed: script too long", 2),
         (Fault::Memory, "fitsed: no memory", 3),
         (Fault::ReadFailed, "fitsed: read failed", 3),

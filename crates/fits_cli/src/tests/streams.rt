@@ -1,7 +1,8 @@
 use super::{BITPIX, NAXIS, Plan, SIMPLE, SMOOTH, header, p0, reader, writer};
 use crate::editing::run_edit;
 use crate::end::End;
-use crate::fault::{Fault, OpenFault};
+use crate::fault::Fault;
+use fits_session::fault::OpenFault;
 use std::process::Abort;
 use std::test::Fail;
 

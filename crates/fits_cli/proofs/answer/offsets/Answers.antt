@@ -1,5 +1,5 @@
-use Rattle.fits_cli.proofs.AnswerLemmas.{offset_lines-plain}
+use Rattle.fits_cli.proofs.AnswerLemmas.{offsets_step}
 use Rattle.fits_cli.proofs.answer.offsets.Goals as goal
 
-pub returns : goal.returns
-returns c = rw (← offset_lines-plain c.args.file.now.cards.header c.byte_len-end.result c.byte_len-end.ensures) c.format.ensures.ok
+pub loop-i-preserved : goal.loop-i-preserved
+loop-i-preserved c = offsets_step c.loop-i.text.items c.push_offsets.new.text.items c.args.hdus.now c.loop-i.i _ c.loop-i-test.true c.loop-i.invariant c.in_ok-push_offsets.ensures

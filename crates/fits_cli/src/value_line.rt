@@ -1,0 +1,84 @@
+//! The line that tells a value and its comment.
+ghost use Rattle.std.specs.Prelude.{◌≡◌, [], ◌∷◌, ◌++◌, IfOk, OnOk};
+ghost use Rattle.std.specs.Option.{option_copied};
+ghost use Rattle.fits_cli.specs.ValueLine.{comment_text, value_line, value_text};
+ghost use Rattle.fits_value.specs.Spelling.{doubled};
+
+use fits_value::text::Text;
+use fits_value::value::Value;
+use std::alloc::{AllocError, Global};
+
+/// The type and the text of a value, its comment, and a line feed.
+pub(crate) fn value_line(
+    alloc: Global,
+    value: &Value,
+    comment: Option<&Text>,
+) -> Result<Vec<u8>, AllocError>
+    ensures { IfOk result (λ line. line.items ≡ value_line value.now (option_copied comment.entry)) }
+{
+    let mut line = Vec::new(alloc);
+    push_value(&mut line, value)?;
+    if let Some(comment) = comment {
+        push_comment(&mut line, comment)?;
+    }
+    line.push(b'\n')?;
+    Ok(line)
+}
+
+fn push_value(line: &mut Vec<u8>, value: &Value) -> Result<(), AllocError>
+    ensures { OnOk result (line.new.items ≡ line.old.items ++ value_text value.now) }
+{
+    match value {
+        Value::Undefined => line.extend_from_slice(b"undefined"),
+        Value::Logical(true) => line.extend_from_slice(b"logical T"),
+        Value::Logical(false) => line.extend_from_slice(b"logical F"),
+        Value::Integer(text) => {
+            line.extend_from_slice(b"integer ")?;
+            line.extend_from_slice(text.as_bytes())
+        }
+        Value::Real(text) => {
+            line.extend_from_slice(b"real ")?;
+            line.extend_from_slice(text.as_bytes())
+        }
+        Value::Complex(real, imaginary) => {
+            line.extend_from_slice(b"complex (")?;
+            line.extend_from_slice(real.as_bytes())?;
+            line.extend_from_slice(b", ")?;
+            line.extend_from_slice(imaginary.as_bytes())?;
+            line.extend_from_slice(b")")
+        }
+        Value::Str(text) => {
+            line.extend_from_slice(b"string '")?;
+            push_doubled(line, text.as_bytes())?;
+            line.extend_from_slice(b"'")
+        }
+    }
+}
+
+// Adds characters, with each quote doubled.
+fn push_doubled(line: &mut Vec<u8>, text: &[u8]) -> Result<(), AllocError>
+    ensures { OnOk result (line.new.items ≡ line.old.items ++ doubled text.now) }
+{
+    for character in text {
+        push_character(line, *character)?;
+    }
+    Ok(())
+}
+
+// Adds a character, and a quote twice.
+fn push_character(line: &mut Vec<u8>, character: u8) -> Result<(), AllocError>
+    ensures { OnOk result (line.new.items ≡ line.old.items ++ doubled (character ∷ [])) }
+{
+    if character == b'\'' {
+        line.push(b'\'')?;
+    }
+    line.push(character)?;
+    Ok(())
+}
+
+fn push_comment(line: &mut Vec<u8>, comment: &Text) -> Result<(), AllocError>
+    ensures { OnOk result (line.new.items ≡ line.old.items ++ comment_text (Some comment.now)) }
+{
+    line.extend_from_slice(b" /")?;
+    line.extend_from_slice(comment.as_bytes())
+}
