@@ -11,8 +11,5 @@ pub enum Command {
     /// `off`: where each HDU and its data begin, and where it ends.
     Offsets,
     /// `get H NAME`: the value of the first card of this name that has one.
-    Get {
-        hdu: usize,
-        name: Name,
-    },
+    Get { hdu: usize, name: Name },
 }

@@ -9,8 +9,8 @@ ghost use Rattle.fits_value.specs.Spelling.{is_digit, is_space};
 
 use crate::command::Command;
 use fits_card::card::{CARD_LEN, Card};
-use fits_session::edit::Edit;
 use fits_card::name::Name;
+use fits_session::edit::Edit;
 
 /// How many bytes a line has at most, without its line feed.
 pub const LINE_LIMIT: usize = 100_000;

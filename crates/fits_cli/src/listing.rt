@@ -64,11 +64,7 @@ fn list<F: Source, O: Sink>(alloc: Global, file: &mut F, out: &mut O) -> Result<
 }
 
 // Writes a line for each HDU.
-fn write_lines<O: Sink>(
-    alloc: Global,
-    session: &Session,
-    out: &mut O,
-) -> Result<(), AnswerFault>
+fn write_lines<O: Sink>(alloc: Global, session: &Session, out: &mut O) -> Result<(), AnswerFault>
     ensures ok { OnOk result (Appends (O.contents out.old) (O.contents out.new) (listing session.now.file)) }
     ensures quiet { OnOk result (O.failures out.new ≡ O.failures out.old) }
     ensures failed { IsErrOf result AnswerFault.WriteFailed → O.failures out.old < O.failures out.new }

@@ -1,4 +1,4 @@
-use super::{BITPIX, NAXIS, SIMPLE, comes_to, header, p0, reader, repeated, run, writer, SMOOTH};
+use super::{BITPIX, NAXIS, SIMPLE, SMOOTH, comes_to, header, p0, reader, repeated, run, writer};
 use crate::fault::Fault;
 use crate::listing::run_list;
 use fits_session::fault::OpenFault;
@@ -13,7 +13,12 @@ const BITPIX_16: &[u8] = b"BITPIX  =                   16";
 const ONE_AXIS: &[u8] = b"NAXIS   =                    1";
 
 /// An HDU: these cards, END, and so many blocks of zeros.
-pub(super) fn add_hdu(bytes: &mut Vec<u8>, alloc: Global, cards: &[&[u8]], blocks: usize) -> Result<(), AllocError> {
+pub(super) fn add_hdu(
+    bytes: &mut Vec<u8>,
+    alloc: Global,
+    cards: &[&[u8]],
+    blocks: usize,
+) -> Result<(), AllocError> {
     let header = header(alloc, cards)?;
     bytes.extend_from_slice(&header)?;
     for _ in 0..blocks {
@@ -60,7 +65,12 @@ fn lists<R: Abort + AllocGlobal>(rt: &R, file: &[u8], printed: &[u8]) -> Result<
 }
 
 /// A file doesn't open, for this reason, and nothing is printed or saved.
-fn stays_closed<R: Abort + AllocGlobal>(rt: &R, file: &[u8], why: OpenFault, text: &str) -> Result<(), Fail> {
+fn stays_closed<R: Abort + AllocGlobal>(
+    rt: &R,
+    file: &[u8],
+    why: OpenFault,
+    text: &str,
+) -> Result<(), Fail> {
     let alloc = rt.alloc();
     let ran = run(alloc, file, b"off\n")?;
     assert_eq!(rt; ran.end.status, 2);
@@ -80,7 +90,11 @@ fn stays_closed<R: Abort + AllocGlobal>(rt: &R, file: &[u8], why: OpenFault, tex
 #[test]
 fn a_plain_primary_is_listed(rt: HostRuntime) -> Result<(), Fail> {
     let file = p0(rt.alloc())?;
-    lists(&rt, &file, b"hdu 1 PRIMARY bitpix 8 axes - cards 3 at 0 2880 2880\n")
+    lists(
+        &rt,
+        &file,
+        b"hdu 1 PRIMARY bitpix 8 axes - cards 3 at 0 2880 2880\n",
+    )
 }
 
 #[test]
@@ -100,7 +114,11 @@ fn random_groups_are_listed(rt: HostRuntime) -> Result<(), Fail> {
         ],
         1,
     )?;
-    lists(&rt, &file, b"hdu 1 GROUPS bitpix 16 axes 0x3 cards 8 at 0 2880 5760\n")
+    lists(
+        &rt,
+        &file,
+        b"hdu 1 GROUPS bitpix 16 axes 0x3 cards 8 at 0 2880 5760\n",
+    )
 }
 
 #[test]
@@ -237,9 +255,18 @@ fn a_shape_is_kept(rt: HostRuntime) -> Result<(), Fail> {
     let file = file_of(alloc, THREE_PIXELS, 1)?;
     let table: [(&[u8], &[u8]); 6] = [
         (b"ins 1 5 END", b"line 1: refused 5 EndCard\n"),
-        (b"ins 1 4 NAXIS1  =                    4", b"line 1: refused 6 Shape\n"),
-        (b"ins 1 1 SIMPLE  =                    T", b"line 1: refused 6 Shape\n"),
-        (b"ins 1 2 BITPIX  =                   16", b"line 1: refused 6 Shape\n"),
+        (
+            b"ins 1 4 NAXIS1  =                    4",
+            b"line 1: refused 6 Shape\n",
+        ),
+        (
+            b"ins 1 1 SIMPLE  =                    T",
+            b"line 1: refused 6 Shape\n",
+        ),
+        (
+            b"ins 1 2 BITPIX  =                   16",
+            b"line 1: refused 6 Shape\n",
+        ),
         (b"ins 1 4 COMMENT", b"line 1: refused 6 Shape\n"),
         (b"ins 2 4 COMMENT", b"line 1: refused 1 NoHdu\n"),
     ];
@@ -303,10 +330,20 @@ fn a_zero_axis_needs_no_data(rt: HostRuntime) -> Result<(), Fail> {
 #[test]
 fn files_that_do_not_open_are_told_apart(rt: HostRuntime) -> Result<(), Fail> {
     let alloc = rt.alloc();
-    stays_closed(&rt, b"", OpenFault::NotFits, "fitsed: open refused O1 NotFits")?;
+    stays_closed(
+        &rt,
+        b"",
+        OpenFault::NotFits,
+        "fitsed: open refused O1 NotFits",
+    )?;
     let plain = p0(alloc)?;
     let (short, _) = plain.as_slice().split_at(plain.len().min(2879));
-    stays_closed(&rt, short, OpenFault::NoEnd { hdu: 1 }, "fitsed: open refused O2 NoEnd hdu 1")?;
+    stays_closed(
+        &rt,
+        short,
+        OpenFault::NoEnd { hdu: 1 },
+        "fitsed: open refused O2 NoEnd hdu 1",
+    )?;
     let image = file_of(alloc, THREE_PIXELS, 1)?;
     let (short, _) = image.as_slice().split_at(image.len().min(5759));
     stays_closed(
@@ -348,7 +385,11 @@ fn fifty_extensions_are_listed(rt: HostRuntime) -> Result<(), Fail> {
         add_hdu(&mut file, alloc, PIXEL, 1)?;
         let number = i + 2;
         let start = 2880 + 5760 * i;
-        let line = format!(in alloc; "hdu {number} IMAGE bitpix 16 axes 1 cards 6 at {start} {} {}\n", start + 2880, start + 5760)?;
+        let line = format!(in alloc;
+            "hdu {number} IMAGE bitpix 16 axes 1 cards 6 at {start} {} {}\n",
+            start + 2880,
+            start + 5760
+        )?;
         lines.extend_from_slice(line.as_bytes())?;
     }
     lists(&rt, &file, &lines)

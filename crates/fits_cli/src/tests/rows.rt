@@ -299,7 +299,11 @@ fn mandatory_cards_may_be_in_free_format(rt: HostRuntime) -> Result<(), Fail> {
 
 #[test]
 fn what_follows_the_last_hdu_is_kept(rt: HostRuntime) -> Result<(), Fail> {
-    for tail in [b" ".as_slice(), b"XTENSIO".as_slice(), b"XTENSIOM".as_slice()] {
+    for tail in [
+        b" ".as_slice(),
+        b"XTENSIO".as_slice(),
+        b"XTENSIOM".as_slice(),
+    ] {
         let mut file = p0(rt.alloc())?;
         file.extend_from_slice(tail)?;
         comes_to(&rt, &file, b"off\n", b"1 0 2880 2880\n", &file, 0)?;
