@@ -1,7 +1,6 @@
 -- A whole run, from the bytes that were read to the output.
-use Rattle.std.proofs.Common.{◌≡◌, ◌⊎◌, ℕ, ◌<◌, ◌≤◌, List, length, map, refl, ap, subst, sym, ◌∙◌, inl, inr, Bool, true, false, Option, None, Some, rules}
+use Rattle.std.proofs.Common.{◌≡◌, ◌⊎◌, ℕ, ◌<◌, ◌≤◌, List, length, map, refl, ap, ◌∙◌, inl, inr, Bool, true, false, Option, None, Some, rules}
 use Rattle.std.specs.Prelude.{IfSome, nat_le, if◌then◌else◌}
-use Rattle.std.proofs.lemmas.Bool.{cases_lt}
 use Rattle.std.proofs.lemmas.List.{take_all}
 use Rattle.std.specs.Io.KnownBytes.{Appends, Keeps}
 use Rattle.fits_card.proofs.StreamLemmas.{Appends-none}

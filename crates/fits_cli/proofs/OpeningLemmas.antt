@@ -1,5 +1,5 @@
 -- From the bytes that were read to a file that opens, or doesn't.
-use Rattle.std.proofs.Common.{◌≡◌, refl, subst, ℕ, ◌<◌, ◌≤◌, List, length, ◌∙◌, inl, inr, true, false, Option, None, Some}
+use Rattle.std.proofs.Common.{◌≡◌, refl, subst, ℕ, ◌≤◌, List, length, ◌∙◌, inl, inr, true, false, Option, None, Some}
 use Rattle.std.specs.Prelude.{IfSome}
 use Rattle.std.proofs.lemmas.Bool.{cases_lt}
 use Rattle.std.proofs.lemmas.List.{take_all}

@@ -1,12 +1,11 @@
 -- A script is cut in one way, and a run has one output.
-use Rattle.std.proofs.Common.{◌≡◌, ◌⊎◌, ℕ, List, [], ◌∷◌, ◌++◌, length, map, take, refl, ap, sym, ◌∙◌, append_assoc, arith, inl, inr, Bool, true, false, ◌||◌, All, Option, Some}
+use Rattle.std.proofs.Common.{◌≡◌, ℕ, List, [], ◌∷◌, ◌++◌, length, map, take, refl, ap, sym, ◌∙◌, append_assoc, inl, inr, true, false, All, Option, Some}
 use Rattle.std.specs.Prelude.{nat_le, if◌then◌else◌}
 use Rattle.std.specs.List.{list_any}
 use Rattle.std.proofs.lemmas.Bool.{or_parts, or_right}
 use Rattle.std.proofs.lemmas.List.Folds.{list_any-append}
 use Rattle.std.proofs.lemmas.List.Elements.{All-head, All-tail}
-use Rattle.fits_session.specs.File.{FileParts, IsFileOf}
-use Rattle.fits_session.specs.Opening.{HasOpenFault}
+use Rattle.fits_session.specs.File.{FileParts}
 use Rattle.fits_session.specs.declared.fault.OpenFault.{OpenFault}
 use Rattle.fits_cli.specs.Limits.{script_limit}
 use Rattle.fits_cli.specs.Script.{is_line_feed, HasNoLineFeed, ended_lines, IsCutInLines, script_lines}
