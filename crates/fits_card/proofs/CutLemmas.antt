@@ -7,7 +7,8 @@ use Rattle.std.proofs.lemmas.List.Elements.{All-take}
 use Rattle.std.proofs.lemmas.List.FromFn.{length-map-range_with_len, get_or-map-range_with_len, map-range_with_len_more, fill_by_all}
 use Rattle.std.proofs.Math.Seq.{take-add}
 use Rattle.fits_card.specs.Card.{IsEnd, is_end}
-use Rattle.fits_card.specs.Header.{Header, IsInnerCard, IsHeaderOf, HasNoHeader, IsEndPlace, HasNoEnd, joined_cards, header_bytes, header_at, header_length, fill_length, piece, pieces}
+use Rattle.fits_card.specs.Header.{Header, IsInnerCard, IsHeaderOf, HasNoHeader, joined_cards, header_bytes, header_length, fill_length}
+use Rattle.fits_card.specs.HeaderSteps.{IsEndPlace, HasNoEnd, header_at, piece, pieces}
 use Rattle.fits_card.proofs.EmitLemmas.{joined-at}
 use Rattle.fits_card.proofs.HeaderLemmas.{length-joined_cards, length-header_bytes}
 
@@ -40,6 +41,7 @@ header_bytes-pieces f k n =
     ∙ ap (λ t. t ++ behind) (sym (take-add (80 * k) 80 f) ∙ ap (λ m. take m f) (sym size))
     ∙ sym (take-add (80 * (k + 1)) n f)
 
+-- each has 80 bytes
 length-piece : (f : List ℕ) (k : ℕ) → 80 * (k + 1) ≤ length f → length (piece f k) ≡ 80
 length-piece f k le =
     let more : 80 ≤ length (drop (80 * k) f) = rw (length-drop (80 * k) f) (omega arith) in
@@ -86,6 +88,7 @@ header-spread : (f : List ℕ) (h : Header) (rest : List ℕ) → IsHeaderOf f h
 header-spread f h rest cut =
     cut.joined ∙ append_assoc (joined_cards h.cards) (h.end ++ h.fill) rest ∙ ap (λ t. joined_cards h.cards ++ t) (append_assoc h.end h.fill rest)
 
+-- how many bytes those are
 length-spread : (f : List ℕ) (h : Header) (rest : List ℕ) → IsHeaderOf f h rest → length f ≡ 80 * (length h.cards + 1) + fill_length (length h.cards) + length rest
 length-spread f h rest cut =
     omega (arith, ap length cut.joined, length-append (header_bytes h) rest, length-header_bytes h cut.whole, cut.whole.fill_size)
@@ -94,7 +97,7 @@ length-spread f h rest cut =
 header-piece : (f : List ℕ) (h : Header) (rest : List ℕ) → IsHeaderOf f h rest → (k : ℕ) → k < length h.cards → piece f k ≡ get_or h.cards k []
 header-piece f h rest cut k l = ap (λ t. piece t k) (header-spread f h rest cut) ∙ piece-joined_cards h.cards (h.end ++ (h.fill ++ rest)) k cut.whole.cards l
 
--- END is the piece behind them
+-- END is the piece after them
 header-end : (f : List ℕ) (h : Header) (rest : List ℕ) → IsHeaderOf f h rest → piece f (length h.cards) ≡ h.end
 header-end f h rest cut =
     ap (λ t. piece t (length h.cards)) (header-spread f h rest cut)
@@ -126,6 +129,7 @@ short_no_header f n at_end short h rest cut =
     let same : n ≡ length h.cards = one_end_place f n (length h.cards) at_end (header-end_place f h rest cut) in
     omega (arith, short, length-drop (80 * (n + 1)) f, length-spread f h rest cut, same, ap fill_length same)
 
+-- headers of equal parts are equal
 same_header : (cards cards' : List (List ℕ)) (end end' fill fill' : List ℕ) → cards ≡ cards' → end ≡ end' → fill ≡ fill'
     → (let h : Header = record { cards = cards; end = end; fill = fill } in h) ≡ (let h : Header = record { cards = cards'; end = end'; fill = fill' } in h)
 same_header cards cards' end end' fill fill' c e p = rw (c, e, p) refl
@@ -153,6 +157,7 @@ rest_is f h rest cut =
     let size : length (header_bytes h) ≡ n = omega (arith, length-header_bytes h cut.whole, cut.whole.fill_size) in
     sym (ap (λ t. drop n t) cut.joined ∙ drop_at (header_bytes h) rest n size)
 
+-- bytes begin with one header at most
 pub one_header : (f : List ℕ) (h i : Header) (s t : List ℕ) → IsHeaderOf f h s → IsHeaderOf f i t → (h ≡ i) × (s ≡ t)
 one_header f h i s t p q =
     let same : length h.cards ≡ length i.cards = one_end_place f (length h.cards) (length i.cards) (header-end_place f h s p) (header-end_place f i t q) in (
@@ -169,6 +174,7 @@ end_more : (f : List ℕ) (n : ℕ) (b : Bool) → 80 * (n + 1) ≤ length f →
 end_more f n true le none e = inl (n, record { within = le; ends = e; first = none })
 end_more f n false le none e = inr (λ j l ends. elim (cases_lt j n) [ inl below ↦ none j below ends | inr last ↦ let same : j ≡ n = omega arith in let no : false ≡ true = sym e ∙ ap (λ i. is_end (piece f i)) (sym same) ∙ ends in cc ])
 
+-- one of the first pieces ends a header, or none does
 end_among : (f : List ℕ) (n : ℕ) → 80 * n ≤ length f → EndAmong f n
 end_among f zero le = inr (λ j l ends. absurd (omega arith))
 end_among f (suc n) le = elim (end_among f n (omega arith)) [ inl p ↦ inl p | inr none ↦ end_more f n (is_end (piece f n)) (omega arith) none refl ]

@@ -17,23 +17,28 @@ pub joined-at : (cards : List (List ℕ)) (i : ℕ) (card : List ℕ) → i < le
 joined-at cards i card h e =
     ap joined_cards (sym (take-append-drop i cards)) ∙ flat_map-append (λ c. c) (take i cards) (drop i cards) ∙ ap (λ t. joined_cards (take i cards) ++ t) (ap joined_cards (drop_more cards i card h) ∙ ap (λ t. t ++ joined_cards (drop (i + 1) cards)) (sym e))
 
+-- one more card is written
 pub Appends-card : (a b c : Option (List ℕ)) (cards : List (List ℕ)) (i : ℕ) (card : List ℕ) → i < length cards → card ≡ get_or cards i card → Appends a b (joined_cards (take i cards)) → Appends b c card → Appends a c (joined_cards (take (i + 1) cards))
 Appends-card a b c cards i card h e p q = rw (joined-more cards i card h e) (Appends-more a b c _ _ p q)
 
+-- all are
 pub Appends-cards : (a b : Option (List ℕ)) (cards : List (List ℕ)) (i : ℕ) → length cards ≤ i → Appends a b (joined_cards (take i cards)) → Appends a b (joined_cards cards)
 Appends-cards a b cards i h p = rw (take_all i cards h) at p
 
+-- a prefix of one more card is written
 pub AppendsFront-card : (a b c : Option (List ℕ)) (cards : List (List ℕ)) (i : ℕ) (card : List ℕ) → i < length cards → card ≡ get_or cards i card → Appends a b (joined_cards (take i cards)) → AppendsFront b c card → AppendsFront a c (joined_cards cards)
 AppendsFront-card a b c cards i card h e p q =
     rw (joined-at cards i card h e) (AppendsFront-more a b c _ card (joined_cards (drop (i + 1) cards)) p q)
 
--- a front of the first part
+-- a prefix of the first part
 pub AppendsFront-first : (a b : Option (List ℕ)) (bs cs : List ℕ) → AppendsFront a b bs → AppendsFront a b (bs ++ cs)
 AppendsFront-first a b bs cs p = AppendsFront-more a a b [] bs cs (Appends-none a) p
 
+-- cards, END and fill are written
 pub Appends-whole : (a b c d : Option (List ℕ)) (bs cs ds : List ℕ) → Appends a b bs → Appends b c cs → Appends c d ds → Appends a d (bs ++ (cs ++ ds))
 Appends-whole a b c d bs cs ds p q r = Appends-more a b d bs (cs ++ ds) p (Appends-more b c d cs ds q r)
 
+-- cards, END and a prefix of the fill are
 pub AppendsFront-last : (a b c d : Option (List ℕ)) (bs cs ds : List ℕ) → Appends a b bs → Appends b c cs → AppendsFront c d ds → AppendsFront a d (bs ++ (cs ++ ds))
 AppendsFront-last a b c d bs cs ds p q r =
     let whole : AppendsFront a d ((bs ++ cs) ++ (ds ++ [])) = AppendsFront-more a c d (bs ++ cs) ds [] (Appends-more a b c bs cs p q) r in

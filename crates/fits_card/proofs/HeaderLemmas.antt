@@ -1,10 +1,10 @@
 -- How long headers are, and what keeps them headers.
-use Rattle.std.proofs.Common.{◌≡◌, ℕ, ◌+◌, ◌-◌, ◌*◌, ◌%◌, ◌≤◌, List, [], ◌∷◌, ◌++◌, length, take, drop, refl, arith, All, suc}
-use Rattle.std.specs.Prelude.{insert}
+use Rattle.std.proofs.Common.{◌≡◌, ℕ, ◌+◌, ◌-◌, ◌*◌, ◌%◌, List, [], ◌∷◌, ◌++◌, length, take, drop, replicate, refl, ap, ◌∙◌, arith, All, suc}
 use Rattle.std.proofs.lemmas.List.{length-append, length-replicate}
-use Rattle.std.proofs.lemmas.List.Elements.{All-append, All-cons, All-take, All-drop}
+use Rattle.std.proofs.lemmas.List.Elements.{All-append, All-take, All-drop}
 use Rattle.fits_card.specs.Card.{IsEnd}
-use Rattle.fits_card.specs.Header.{Header, IsHeader, IsInnerCard, joined_cards, header_bytes, fill_length, with_cards}
+use Rattle.fits_card.specs.Change.{spliced, moved, only_item}
+use Rattle.fits_card.specs.Header.{Header, IsHeader, IsInnerCard, joined_cards, header_bytes, fill_length}
 
 -- the fill in cards: a block holds 36, and END is one
 pub fill_length-by_cards : (n : ℕ) → fill_length n ≡ 80 * (35 - n % 36)
@@ -24,17 +24,36 @@ pub length-header_bytes : (header : Header) → IsHeader header → length (head
 length-header_bytes header whole =
     omega (arith, length-append (joined_cards header.cards) (header.end ++ header.fill), length-append header.end header.fill, length-joined_cards header.cards whole.cards, whole.end_size)
 
--- one more card that doesn't end a header
-pub inner-insert : (cards : List (List ℕ)) (i : ℕ) (card : List ℕ) → All IsInnerCard cards → length card ≡ 80 → (IsEnd card → ⊥) → All IsInnerCard (insert cards i card)
-inner-insert cards i card h size not_end =
-    let one : All IsInnerCard (card ∷ drop i cards) = All-cons IsInnerCard card (drop i cards) (record { size = size; not_end = not_end }) (All-drop IsInnerCard i cards h) in
-    All-append IsInnerCard (take i cards) (card ∷ drop i cards) (All-take IsInnerCard i cards h) one
+-- cards of a header among others, and new ones that don't end a header
+pub inner-spliced : (cards new : List (List ℕ)) (place removed : ℕ) → All IsInnerCard cards → All IsInnerCard new → All IsInnerCard (spliced cards place removed new)
+inner-spliced cards new place removed h g =
+    let rest : All IsInnerCard (new ++ drop (place - 1 + removed) cards) = All-append IsInnerCard new (drop (place - 1 + removed) cards) g (All-drop IsInnerCard (place - 1 + removed) cards h) in
+    All-append IsInnerCard (take (place - 1) cards) (new ++ drop (place - 1 + removed) cards) (All-take IsInnerCard (place - 1) cards h) rest
 
--- so a header stays one
-pub whole-insert : (header : Header) (i : ℕ) (card : List ℕ) → IsHeader header → length card ≡ 80 → (IsEnd card → ⊥) → IsHeader (with_cards header (insert header.cards i card))
-whole-insert header i card whole size not_end = record {
-  cards = inner-insert header.cards i card whole.cards size not_end;
+-- the same after a move
+pub inner-moved : (cards : List (List ℕ)) (from to : ℕ) → All IsInnerCard cards → All IsInnerCard (moved cards from to)
+inner-moved cards from to h =
+    inner-spliced (spliced cards from 1 []) (only_item cards from) to 0 (inner-spliced cards [] from 1 h (λ k d l. absurd (omega (arith, l))))
+    (All-take IsInnerCard 1 (drop (from - 1) cards) (All-drop IsInnerCard (from - 1) cards h))
+
+-- a header with other cards that don't end it is one
+pub whole-with_cards : (header : Header) (cards : List (List ℕ)) (fill : List ℕ) (n : ℕ) → IsHeader header → All IsInnerCard cards → n ≡ length cards → fill ≡ replicate (fill_length n) 32 → IsHeader (record { cards = cards; end = header.end; fill = fill })
+whole-with_cards header cards fill n whole inner count is = record {
+  cards = inner;
   end_size = whole.end_size;
   ends = whole.ends;
-  fill_size = length-replicate (fill_length (length (insert header.cards i card))) 32;
+  fill_size = ap length is ∙ (length-replicate (fill_length n) 32 ∙ ap fill_length count);
 }
+
+-- so a splice leaves a header
+pub whole-spliced : (header : Header) (cards new : List (List ℕ)) (place removed n : ℕ) (fill : List ℕ) → IsHeader header → cards ≡ spliced header.cards place removed new → All (λ card. length card ≡ 80) new → All (λ card. IsEnd card → ⊥) new → n ≡ length cards → fill ≡ replicate (fill_length n) 32
+    → IsHeader (record { cards = cards; end = header.end; fill = fill })
+whole-spliced header cards new place removed n fill whole are sizes no_end count is =
+    let inner : All IsInnerCard new = λ k d l. record { size = sizes k d l; not_end = no_end k d l } in
+    whole-with_cards header cards fill n whole (rw are (inner-spliced header.cards new place removed whole.cards inner)) count is
+
+-- and so does a move
+pub whole-moved : (header : Header) (cards : List (List ℕ)) (from to n : ℕ) (fill : List ℕ) → IsHeader header → cards ≡ moved header.cards from to → n ≡ length cards → fill ≡ replicate (fill_length n) 32
+    → IsHeader (record { cards = cards; end = header.end; fill = fill })
+whole-moved header cards from to n fill whole are count is =
+    whole-with_cards header cards fill n whole (rw are (inner-moved header.cards from to whole.cards)) count is

@@ -1,6 +1,6 @@
 -- A header: cards, the END card and the fill of its last block (FITS Standard 4.0, sections 3.1, 3.3.1 and 4.4.1).
-use Rattle.std.specs.Prelude.{◌≡◌, ℕ, ◌+◌, ◌-◌, ◌*◌, ◌%◌, List, ◌++◌, ◌<◌, ◌≤◌, length, map, take, drop, replicate, All}
-use Rattle.std.specs.List.{flat_map, range_with_len}
+use Rattle.std.specs.Prelude.{◌≡◌, ℕ, ◌+◌, ◌-◌, ◌*◌, ◌%◌, List, ◌++◌, length, replicate, All, Option, slice_get}
+use Rattle.std.specs.List.{flat_map}
 use Rattle.fits_card.specs.Card.{IsEnd}
 
 -- the parts of a header: its cards, each a list of bytes, then END, then the fill
@@ -8,6 +8,10 @@ pub record Header : Type 0 where
   pub cards : List (List ℕ)
   pub end : List ℕ
   pub fill : List ℕ
+
+-- the card at a place, counted from 1
+abbrev pub card_at : List (List ℕ) → ℕ → Option (List ℕ)
+card_at cards place = slice_get cards (place - 1)
 
 -- cards, one after another
 abbrev pub joined_cards : List (List ℕ) → List ℕ
@@ -46,35 +50,9 @@ pub record IsHeaderOf (bytes : List ℕ) (header : Header) (rest : List ℕ) : T
 abbrev pub HasNoHeader : List ℕ → Type 0
 HasNoHeader bytes = (header : Header) → (rest : List ℕ) → IsHeaderOf bytes header rest → ⊥
 
--- piece k of 80 bytes, from 0
-abbrev pub piece : List ℕ → ℕ → List ℕ
-piece bytes k = take 80 (drop (80 * k) bytes)
-
--- the first pieces of 80 bytes
-abbrev pub pieces : List ℕ → ℕ → List (List ℕ)
-pieces bytes count = map (piece bytes) (range_with_len 0 count)
-
 -- how many bytes a header of so many cards has
 abbrev pub header_length : ℕ → ℕ
 header_length cards = 80 * (cards + 1) + fill_length cards
-
--- the header of so many cards at the front, if there is one
-abbrev pub header_at : List ℕ → ℕ → Header
-header_at bytes cards = record {
-  cards = pieces bytes cards;
-  end = piece bytes cards;
-  fill = take (fill_length cards) (drop (80 * (cards + 1)) bytes);
-}
-
--- the first piece that ends a header is piece k, from 0 (4.4.1)
-pub record IsEndPlace (bytes : List ℕ) (k : ℕ) : Type 0 where
-  pub within : 80 * (k + 1) ≤ length bytes
-  pub ends : IsEnd (piece bytes k)
-  pub first : (j : ℕ) → j < k → IsEnd (piece bytes j) → ⊥
-
--- no piece of 80 bytes ends a header
-abbrev pub HasNoEnd : List ℕ → Type 0
-HasNoEnd bytes = (j : ℕ) → 80 * (j + 1) ≤ length bytes → IsEnd (piece bytes j) → ⊥
 
 -- a header with other cards: END stays, and the fill is spaces (own)
 abbrev pub with_cards : Header → List (List ℕ) → Header

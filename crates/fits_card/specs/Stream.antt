@@ -16,7 +16,7 @@ abbrev pub flush_faults : {T E : Type 0} → Result T E → ℕ
 flush_faults (Ok done) = 0
 flush_faults (Err error) = 1
 
--- what a sink holds grew by a front of these bytes, perhaps by none of them or by all
+-- what a sink holds grew by a prefix of these bytes, perhaps by none of them or by all
 abbrev pub AppendsFront : Option (List ℕ) → Option (List ℕ) → List ℕ → Type 0
 AppendsFront None new bytes = Unit {0}
 AppendsFront (Some xs) None bytes = ⊥
@@ -26,3 +26,9 @@ AppendsFront (Some xs) (Some ys) bytes = (n : ℕ) × (n ≤ length bytes) × (y
 abbrev pub TakesUpTo : Option (List ℕ) → ℕ → List ℕ → Bool → Type 0
 TakesUpTo None limit bytes more = Unit {0}
 TakesUpTo (Some xs) limit bytes more = (bytes ≡ take limit xs) × (IsTrue more ↔ (limit < length xs))
+
+-- a stream, how many of its calls have failed, and how many writes there were since its last flush that succeeded
+pub record Watch (S : Type 0) : Type 0 where
+  pub stream : S
+  pub failures : ℕ
+  pub unflushed : ℕ

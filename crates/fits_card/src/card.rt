@@ -1,6 +1,8 @@
 ghost use Rattle.std.specs.Prelude.{◌≡◌, ◌≤◌, length};
+ghost use Rattle.fits_card.specs.declared.card.TheConstants.{CARD_LEN};
 
 use crate::name::Name;
+use crate::text::is_text;
 use std::marker::Model;
 
 /// How many bytes a card has (FITS Standard 4.0, section 4.1.1).
@@ -25,7 +27,7 @@ impl Card {
 
     /// The card that begins with this text and goes on in spaces.
     pub fn padded(text: &[u8]) -> Card
-        requires { length text.now ≤ 80 }
+        requires { length text.now ≤ CARD_LEN }
         ensures { result ≡ card_of_text text.now }
     {
         let mut card = [b' '; CARD_LEN];
@@ -36,7 +38,7 @@ impl Card {
 
     pub fn bytes(&self) -> &[u8]
         ensures value { result.now ≡ self.now }
-        ensures len { length self.now ≡ 80 }
+        ensures len { length self.now ≡ CARD_LEN }
     {
         &self.0
     }
@@ -65,10 +67,10 @@ impl Card {
     }
 
     /// Whether every byte is a character of text, from a space to a tilde.
-    #[tactic(auto, unfolding(crate::specs::Card::is_text))]
     pub fn is_text(&self) -> bool
-        ensures { result ≡ is_text self.now }
+        ensures value { result ≡ is_text self.now }
+        ensures size { length self.now ≡ CARD_LEN }
     {
-        self.0.iter().all(|byte| matches!(byte, b' '..=b'~'))
+        is_text(&self.0)
     }
 }

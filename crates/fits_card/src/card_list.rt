@@ -1,11 +1,15 @@
-ghost use Rattle.std.specs.Prelude.{◌≡◌, ℕ, ◌+◌, ◌*◌, ◌≤◌, ◌<◌, length, OnOk, OnErr, vec_capacity, replicate};
+ghost use Rattle.std.specs.Prelude.{◌≡◌, ℕ, ◌+◌, ◌-◌, ◌*◌, ◌^◌, ◌≤◌, ◌<◌, length, OnOk, OnErr, vec_len, vec_capacity, replicate, slice_set, All};
 ghost use Rattle.std.specs.Io.KnownBytes.{Appends};
 ghost use Rattle.fits_card.specs.Stream.{AppendsFront};
+ghost use Rattle.fits_card.specs.declared.card.TheConstants.{CARD_LEN};
+ghost use Rattle.fits_card.specs.declared.card_list.TheConstants.{LONGEST_FILL};
+ghost use Rattle.fits_card.specs.Change.{spliced};
 ghost use Rattle.fits_card.specs.Header.{joined_cards, fill_length, header_length};
 
 use crate::card::{CARD_LEN, Card};
 use crate::count::Count;
 use crate::sink::Sink;
+use crate::splicing::{make_room, move_item};
 use crate::writing::write_all;
 use std::alloc::AllocError;
 use std::io;
@@ -28,10 +32,13 @@ pub struct CardList {
     // It has room for the longest fill, so that no edit asks for memory here.
     pub(crate) fill: Vec<u8>,
     pub(crate) reads: Count,
+    // How many more cards have reserved room.
+    pub(crate) room: usize,
 }
 
 impl Model for CardList {
-    ghost use Rattle.std.specs.Prelude.{◌-◌, ◌≤◌, vec_capacity, vec_len};
+    ghost use Rattle.std.specs.Prelude.{◌+◌, ◌≤◌, vec_capacity, vec_len};
+    ghost use Rattle.fits_card.specs.declared.card_list.TheConstants.{LONGEST_FILL};
     ghost use Rattle.fits_card.specs.CardList.{CardStore};
     ghost use Rattle.fits_card.specs.Header.{IsHeader};
 
@@ -40,20 +47,24 @@ impl Model for CardList {
     ghost view = { λ list. record {
       header = record { cards = list.cards.items; end = list.end; fill = list.fill.items };
       reads = list.reads.total;
-      room = vec_capacity list.cards - vec_len list.cards;
+      room = list.room;
     } };
 
     ghost invariant = { λ list. record {
-      fill_room : 2800 ≤ vec_capacity list.fill;
+      card_room : vec_len list.cards + list.room ≤ vec_capacity list.cards;
+      fill_room : LONGEST_FILL ≤ vec_capacity list.fill;
       whole : IsHeader (record { cards = list.cards.items; end = list.end; fill = list.fill.items });
     } };
 }
 
 impl CardList {
-    ghost use Rattle.std.specs.Prelude.{◌≡◌, ◌+◌, ◌-◌, ◌*◌, ◌≤◌, ◌<◌, length, insert, slice_index_or, OnOk, OnErr};
+    ghost use Rattle.std.specs.Prelude.{◌≡◌, ◌+◌, ◌-◌, ◌*◌, ◌^◌, ◌≤◌, ◌<◌, [], ◌∷◌, length, slice_index_or, All, IsOk, OnOk, OnErr};
     ghost use Rattle.std.specs.Io.KnownBytes.{Appends};
     ghost use Rattle.fits_card.specs.Stream.{AppendsFront};
     ghost use Rattle.fits_card.specs.Card.{IsEnd};
+    ghost use Rattle.fits_card.specs.declared.card.TheConstants.{CARD_LEN};
+    ghost use Rattle.fits_card.specs.CardList.{ReadsUpTo};
+    ghost use Rattle.fits_card.specs.Change.{spliced, moved};
     ghost use Rattle.fits_card.specs.Header.{IsHeader, header_bytes, with_cards};
 
     /// How many cards it has, END not counted.
@@ -61,14 +72,15 @@ impl CardList {
     pub fn len(&self) -> usize
         ensures value { result ≡ length self.now.header.cards }
         ensures whole { IsHeader self.now.header }
-        ensures within { 80 * (result + 1) ≤ length (header_bytes self.now.header) }
+        ensures within { CARD_LEN * (result + 1) ≤ length (header_bytes self.now.header) }
+        ensures few { result < 2 ^ 63 }
     {
         self.cards.len()
     }
 
     /// How many bytes its cards, END and the fill have.
     pub fn byte_len(&self) -> usize
-        requires { length (header_bytes self.now.header) ≤ 17179869184 }
+        requires { length (header_bytes self.now.header) ≤ 2 ^ 34 }
         ensures { result ≡ length (header_bytes self.now.header) }
     {
         CARD_LEN * (self.cards.len() + 1) + self.fill.len()
@@ -85,50 +97,112 @@ impl CardList {
         self.cards[place - 1]
     }
 
-    /// Makes room for this many more cards.
+    /// Makes room for this many more cards. It fails only where room was missing.
     pub fn reserve(&mut self, additional: usize) -> Result<(), AllocError>
         ensures ok { OnOk result (additional ≤ self.new.room) }
+        ensures err { OnErr result (self.new.room ≡ self.old.room) }
+        ensures succeeds { additional ≤ self.old.room → IsOk result }
         ensures header { self.new.header ≡ self.old.header }
         ensures room { self.old.room ≤ self.new.room }
         ensures work { self.new.reads ≡ self.old.reads }
     {
-        self.cards.reserve(additional)
+        self.cards.reserve(additional)?;
+        self.room = self.room.max(additional);
+        Ok(())
     }
 
-    /// Puts a card at a place, before the one that stands there. END stays, and the fill is spaces.
+    /// From a place on, so many cards go, and these stand there instead. END stays, and the fill is
+    /// spaces.
     ///
     /// It takes no memory: the room is reserved before.
-    pub fn insert(&mut self, place: usize, card: Card)
-        requires room { 0 < self.old.room }
+    pub fn splice(&mut self, place: usize, removed: usize, cards: &[Card])
         requires from { 1 ≤ place }
-        requires to { place ≤ length self.old.header.cards + 1 }
-        requires not_end { IsEnd card → ⊥ }
-        ensures header { self.new.header ≡ with_cards self.old.header (insert self.old.header.cards (place - 1) card) }
-        ensures room { self.new.room + 1 ≡ self.old.room }
+        requires to { place + removed ≤ length self.old.header.cards + 1 }
+        requires room { length cards.now ≤ self.old.room + removed }
+        requires not_end { All (λ card. IsEnd card → ⊥) cards.now }
+        ensures header { self.new.header
+            ≡ with_cards self.old.header (spliced self.old.header.cards place removed cards.now) }
+        ensures whole { IsHeader self.new.header }
+        ensures room { self.new.room + length cards.now ≡ self.old.room + removed }
         ensures work { self.new.reads ≡ self.old.reads }
     {
-        let _ = self.cards.insert(place - 1, card);
+        splice_cards(&mut self.cards, place, removed, cards);
+        self.room = self.room + removed - cards.len();
         make_blank(&mut self.fill, self.cards.len());
     }
 
-    /// Writes the cards, END and the fill, each card by a call of its own. Each card's read is counted.
+    /// Puts a card at a place, before the one that stands there.
+    pub fn insert(&mut self, place: usize, card: Card)
+        requires from { 1 ≤ place }
+        requires to { place ≤ length self.old.header.cards + 1 }
+        requires room { 0 < self.old.room }
+        requires not_end { IsEnd card → ⊥ }
+        ensures header { self.new.header
+            ≡ with_cards self.old.header (spliced self.old.header.cards place 0 (card ∷ [])) }
+        ensures room { self.new.room + 1 ≡ self.old.room }
+        ensures work { self.new.reads ≡ self.old.reads }
+    {
+        self.splice(place, 0, &[card]);
+    }
+
+    /// Takes the card at a place out.
+    pub fn remove(&mut self, place: usize)
+        requires from { 1 ≤ place }
+        requires to { place ≤ length self.old.header.cards }
+        ensures header { self.new.header
+            ≡ with_cards self.old.header (spliced self.old.header.cards place 1 []) }
+        ensures room { self.new.room ≡ self.old.room + 1 }
+        ensures work { self.new.reads ≡ self.old.reads }
+    {
+        self.splice(place, 1, &[]);
+    }
+
+    /// Puts a card in the place of another.
+    pub fn replace(&mut self, place: usize, card: Card)
+        requires from { 1 ≤ place }
+        requires to { place ≤ length self.old.header.cards }
+        requires not_end { IsEnd card → ⊥ }
+        ensures header { self.new.header
+            ≡ with_cards self.old.header (spliced self.old.header.cards place 1 (card ∷ [])) }
+        ensures room { self.new.room ≡ self.old.room }
+        ensures work { self.new.reads ≡ self.old.reads }
+    {
+        self.splice(place, 1, &[card]);
+    }
+
+    /// Takes the card at a place out, and puts it where it has the other place in the result.
+    pub fn move_card(&mut self, from: usize, to: usize)
+        requires from_first { 1 ≤ from }
+        requires from_last { from ≤ length self.old.header.cards }
+        requires to_first { 1 ≤ to }
+        requires to_last { to ≤ length self.old.header.cards }
+        ensures header { self.new.header
+            ≡ with_cards self.old.header (moved self.old.header.cards from to) }
+        ensures whole { IsHeader self.new.header }
+        ensures room { self.new.room ≡ self.old.room }
+        ensures work { self.new.reads ≡ self.old.reads }
+    {
+        move_item(&mut self.cards, from, to);
+        make_blank(&mut self.fill, self.cards.len());
+    }
+
+    /// Writes the cards, END and the fill. Each card's read is counted.
     ///
-    /// Where a call fails a front was written.
+    /// Where a call fails a prefix was written.
     #[tactic(auto, using(crate::proofs::EmitLemmas::emit_steps))]
     pub fn emit<W: Sink>(&mut self, sink: &mut W) -> io::Result<()>
-        ensures ok { OnOk result (Appends (W.contents sink.old) (W.contents sink.new) (header_bytes self.old.header)) }
-        ensures err { OnErr result (AppendsFront (W.contents sink.old) (W.contents sink.new) (header_bytes self.old.header)) }
+        ensures ok { OnOk result
+            (Appends (W.contents sink.old) (W.contents sink.new) (header_bytes self.old.header)) }
+        ensures err { OnErr result
+            (AppendsFront (W.contents sink.old) (W.contents sink.new) (header_bytes self.old.header)) }
 
-        // It fails exactly where a call did.
+        // It fails exactly where a call did, and ends there.
         ensures quiet { OnOk result (W.failures sink.new ≡ W.failures sink.old) }
-        ensures failed { OnErr result (W.failures sink.old < W.failures sink.new) }
+        ensures failed { OnErr result (W.failures sink.new ≡ W.failures sink.old + 1) }
 
-        // The header stays, and each card is read once at the most.
-        ensures header { self.new.header ≡ self.old.header }
-        ensures room { self.new.room ≡ self.old.room }
-        ensures work { OnOk result (self.new.reads ≡ self.old.reads + length self.old.header.cards) }
-        ensures least_work { self.old.reads ≤ self.new.reads }
-        ensures most_work { self.new.reads ≤ self.old.reads + length self.old.header.cards }
+        // The header stays. Each card is read at most once, and once where it succeeds.
+        ensures work { ReadsUpTo self.old self.new (length self.old.header.cards) }
+        ensures reads { OnOk result (self.new.reads ≡ self.old.reads + length self.old.header.cards) }
     {
         write_cards(&self.cards, &mut self.reads, sink)?;
         write_all(sink, self.end.bytes())?;
@@ -139,7 +213,7 @@ impl CardList {
 
 /// How many bytes a header of so many cards has.
 pub fn header_len(cards: usize) -> usize
-    requires { 80 * cards ≤ 17179869184 }
+    requires { CARD_LEN * cards ≤ 2 ^ 34 }
     ensures { result ≡ header_length cards }
 {
     CARD_LEN * (cards + 1) + fill_len(cards)
@@ -149,16 +223,53 @@ pub fn header_len(cards: usize) -> usize
 #[tactic(auto, using(crate::proofs::HeaderLemmas::fill_steps))]
 pub(crate) fn fill_len(cards: usize) -> usize
     ensures value { result ≡ fill_length cards }
-    ensures within { result ≤ 2800 }
+    ensures within { result ≤ LONGEST_FILL }
 {
     CARD_LEN * (35 - cards % 36)
 }
 
+// From a place on, so many cards go, and these stand there instead.
+fn splice_cards(cards: &mut Vec<Card>, place: usize, removed: usize, new: &[Card])
+    requires from { 1 ≤ place }
+    requires to { place + removed ≤ vec_len cards.old + 1 }
+    requires room { vec_len cards.old + length new.now ≤ vec_capacity cards.old + removed }
+    ensures cards { cards.new.items ≡ spliced cards.old.items place removed new.now }
+    ensures len { vec_len cards.new + removed ≡ vec_len cards.old + length new.now }
+    ensures room { vec_capacity cards.old ≤ vec_capacity cards.new }
+    ensures sizes { All (λ card. length card ≡ CARD_LEN) new.now }
+{
+    make_room(cards, place, removed, new.len(), Card::padded(b""));
+    write_over(cards, place, new);
+}
+
+// Writes cards over others, from a place on.
+#[tactic(auto, using(crate::proofs::SpliceLemmas::write_steps))]
+fn write_over(cards: &mut [Card], place: usize, new: &[Card])
+    requires from { 1 ≤ place }
+    requires to { place + length new.now ≤ length cards.old + 1 }
+    ensures cards { cards.new ≡ spliced cards.old place (length new.now) new.now }
+    ensures len { length cards.new ≡ length cards.old }
+    ensures sizes { All (λ card. length card ≡ CARD_LEN) new.now }
+{
+    for index in 0..new.len() {
+        write_card(cards, place - 1 + index, new[index]);
+    }
+}
+
+// Writes a card over another.
+fn write_card(cards: &mut [Card], index: usize, card: Card)
+    requires { index < length cards.old }
+    ensures cards { cards.new ≡ slice_set cards.old index card }
+    ensures size { length card ≡ CARD_LEN }
+{
+    cards[index] = card;
+}
+
 // The spaces that follow END after so many cards.
 fn make_blank(fill: &mut Vec<u8>, cards: usize)
-    requires { 2800 ≤ vec_capacity fill.old }
+    requires { LONGEST_FILL ≤ vec_capacity fill.old }
     ensures spaces { fill.new.items ≡ replicate (fill_length cards) 32 }
-    ensures room { 2800 ≤ vec_capacity fill.new }
+    ensures room { LONGEST_FILL ≤ vec_capacity fill.new }
 {
     fill.clear();
     let _ = fill.resize(fill_len(cards), b' ');
@@ -166,10 +277,12 @@ fn make_blank(fill: &mut Vec<u8>, cards: usize)
 
 #[tactic(auto, using(crate::proofs::EmitLemmas::emit_steps))]
 fn write_cards<W: Sink>(cards: &[Card], reads: &mut Count, sink: &mut W) -> io::Result<()>
-    ensures ok { OnOk result (Appends (W.contents sink.old) (W.contents sink.new) (joined_cards cards.now)) }
-    ensures err { OnErr result (AppendsFront (W.contents sink.old) (W.contents sink.new) (joined_cards cards.now)) }
+    ensures ok { OnOk result
+        (Appends (W.contents sink.old) (W.contents sink.new) (joined_cards cards.now)) }
+    ensures err { OnErr result
+        (AppendsFront (W.contents sink.old) (W.contents sink.new) (joined_cards cards.now)) }
     ensures quiet { OnOk result (W.failures sink.new ≡ W.failures sink.old) }
-    ensures failed { OnErr result (W.failures sink.old < W.failures sink.new) }
+    ensures failed { OnErr result (W.failures sink.new ≡ W.failures sink.old + 1) }
     ensures work { OnOk result (reads.new.total ≡ reads.old.total + length cards.now) }
     ensures least_work { reads.old.total ≤ reads.new.total }
     ensures most_work { reads.new.total ≤ reads.old.total + length cards.now }

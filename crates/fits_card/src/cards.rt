@@ -29,11 +29,4 @@ impl Cards {
     {
         &self.cards
     }
-
-    pub fn into_cards(self) -> Vec<Card>
-        ensures { result.items ≡ self }
-    {
-        let Cards { cards } = self;
-        cards
-    }
 }

@@ -1,4 +1,5 @@
 ghost use Rattle.std.specs.Prelude.{◌≡◌, ◌≤◌, ◌+◌, ◌-◌, ◌↔◌, IsTrue, Some, length, slice_get};
+ghost use Rattle.fits_card.specs.CardList.{ReadsUpTo};
 ghost use Rattle.fits_card.specs.Change.{moved, spliced};
 
 use crate::card::Card;
@@ -8,7 +9,7 @@ use crate::cards::Cards;
 /// A change of a header's cards. Places count from 1.
 #[derive(Drop, Debug)]
 pub enum Change {
-    /// From a place on, so many cards go, and these cards come in their stead.
+    /// From a place on, so many cards go, and these cards come instead.
     Splice {
         /// From 1 to one past the last card.
         place: usize,
@@ -25,16 +26,56 @@ pub enum Change {
     },
 }
 
-/// What the cards would be after a change that isn't made.
+/// What the cards would be after a change that isn't made, and the change made.
 impl Change {
-    ghost use Rattle.fits_card.specs.Change.{cards_after, IsInRange};
+    ghost use Rattle.std.specs.Prelude.{All};
+    ghost use Rattle.fits_card.specs.Card.{IsEnd};
+    ghost use Rattle.fits_card.specs.Header.{IsHeader, with_cards};
+    ghost use Rattle.fits_card.specs.Change.{cards_after, new_cards, IsInRange};
+
+    /// Makes the change. END stays, and the fill is spaces, also where no card comes or goes.
+    ///
+    /// It takes no memory: the room is reserved before.
+    #[tactic(auto, using(crate::proofs::ChangeLemmas::change_lengths), unfolding(crate::specs::Change::cards_after, crate::specs::Change::new_cards, crate::specs::Change::IsInRange))]
+    pub fn apply(&self, list: &mut CardList)
+        requires in_range { IsInRange list.old.header.cards self.now }
+        requires not_end { All (λ card. IsEnd card → ⊥) (new_cards self.now) }
+        requires room { length (cards_after list.old.header.cards self.now)
+            ≤ length list.old.header.cards + list.old.room }
+        ensures header { list.new.header
+            ≡ with_cards list.old.header (cards_after list.old.header.cards self.now) }
+        ensures whole { IsHeader list.new.header }
+        ensures room { list.new.room + length list.new.header.cards
+            ≡ list.old.room + length list.old.header.cards }
+        ensures work { list.new.reads ≡ list.old.reads }
+    {
+        match self {
+            Change::Splice {
+                place,
+                removed,
+                cards,
+            } => list.splice(*place, *removed, cards.as_slice()),
+            Change::Move { from, to } => list.move_card(*from, *to),
+        }
+    }
+
+    /// The cards that it puts in. A move puts in none.
+    #[tactic(auto, unfolding(crate::specs::Change::new_cards))]
+    pub fn cards(&self) -> &[Card]
+        ensures { result.now ≡ new_cards self.now }
+    {
+        match self {
+            Change::Splice { cards, .. } => cards.as_slice(),
+            Change::Move { .. } => &[],
+        }
+    }
 
     /// Whether its places are in range.
     #[tactic(auto, unfolding(crate::specs::Change::IsInRange))]
     pub fn is_in_range(&self, cards: &CardList) -> bool
         ensures { IsTrue result ↔ IsInRange cards.now.header.cards self.now }
     {
-        let count = cards.cards.len();
+        let count = cards.len();
         match self {
             Change::Splice { place, removed, .. } => {
                 1 <= *place && *place <= count + 1 && *removed <= count + 1 - *place
@@ -56,8 +97,8 @@ impl Change {
                 removed,
                 cards: new,
                 ..
-            } => cards.cards.len() - *removed + new.as_slice().len(),
-            Change::Move { .. } => cards.cards.len(),
+            } => cards.len() - *removed + new.as_slice().len(),
+            Change::Move { .. } => cards.len(),
         }
     }
 
@@ -68,10 +109,7 @@ impl Change {
         requires from { 1 ≤ place }
         requires to { place ≤ length (cards_after cards.old.header.cards self.now) }
         ensures value { slice_get (cards_after cards.old.header.cards self.now) (place - 1) ≡ Some result }
-        ensures header { cards.new.header ≡ cards.old.header }
-        ensures room { cards.new.room ≡ cards.old.room }
-        ensures least_work { cards.old.reads ≤ cards.new.reads }
-        ensures most_work { cards.new.reads ≤ cards.old.reads + 1 }
+        ensures work { ReadsUpTo cards.old cards.new 1 }
     {
         match self {
             Change::Splice {
@@ -97,20 +135,18 @@ fn spliced_card(
     requires removed { first + removed ≤ length cards.old.header.cards + 1 }
     requires from { 1 ≤ place }
     requires to { place ≤ length (spliced cards.old.header.cards first removed new.now) }
-    ensures value { slice_get (spliced cards.old.header.cards first removed new.now) (place - 1) ≡ Some result }
-    ensures header { cards.new.header ≡ cards.old.header }
-    ensures room { cards.new.room ≡ cards.old.room }
-    ensures least_work { cards.old.reads ≤ cards.new.reads }
-    ensures most_work { cards.new.reads ≤ cards.old.reads + 1 }
+    ensures value { slice_get (spliced cards.old.header.cards first removed new.now) (place - 1)
+        ≡ Some result }
+    ensures work { ReadsUpTo cards.old cards.new 1 }
 {
     if place < first {
         return cards.card(place);
     }
-    let behind = place - first;
-    if behind < new.len() {
-        return new[behind];
+    let index = place - first;
+    if index < new.len() {
+        return new[index];
     }
-    // A card behind the new ones stands as far from the end as before.
+    // A card after the new ones stands as far from the end as before.
     let kept = cards.len() - removed;
     let to_end = kept - (place - new.len());
     cards.card(cards.len() - to_end)
@@ -126,10 +162,7 @@ fn moved_card(cards: &mut CardList, from: usize, to: usize, place: usize) -> Car
     requires first { 1 ≤ place }
     requires last { place ≤ length cards.old.header.cards }
     ensures value { slice_get (moved cards.old.header.cards from to) (place - 1) ≡ Some result }
-    ensures header { cards.new.header ≡ cards.old.header }
-    ensures room { cards.new.room ≡ cards.old.room }
-    ensures least_work { cards.old.reads ≤ cards.new.reads }
-    ensures most_work { cards.new.reads ≤ cards.old.reads + 1 }
+    ensures work { ReadsUpTo cards.old cards.new 1 }
 {
     if place == to {
         return cards.card(from);

@@ -5,7 +5,7 @@ use std::marker::{Model, PhantomData};
 
 /// How often something was done. It takes no bytes and only contracts see it.
 ///
-/// Nothing outside this module can set it: it begins at 0, and `tick` adds one.
+/// Outside this module it can only be begun anew at 0; `tick` adds one.
 #[derive(Drop)]
 pub struct Count {
     marker: PhantomData<()>,

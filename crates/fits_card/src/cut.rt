@@ -1,19 +1,24 @@
 //! The header at the front of bytes.
 ghost use Rattle.std.specs.Prelude.{◌≡◌, ◌+◌, ◌*◌, ◌≤◌, ◌↔◌, length, drop, IfOk, IfSome, IfNone, IsErrOf, IsTrue, vec_capacity};
-ghost use Rattle.fits_card.specs.Card.{IsEnd};
-ghost use Rattle.fits_card.specs.Header.{header_bytes, header_length, header_at, piece, pieces, IsEndPlace, HasNoEnd, IsHeaderOf, HasNoHeader};
+ghost use Rattle.fits_card.specs.declared.card.TheConstants.{CARD_LEN};
+ghost use Rattle.fits_card.specs.declared.card_list.TheConstants.{LONGEST_FILL};
+ghost use Rattle.fits_card.specs.Header.{header_bytes, header_length, IsHeaderOf, HasNoHeader};
+ghost use Rattle.fits_card.specs.HeaderSteps.{header_at, piece, pieces, IsEndPlace, HasNoEnd};
 
 use crate::card::{CARD_LEN, Card};
 use crate::card_list::{CardList, LONGEST_FILL, fill_len};
 use crate::count::Count;
 use std::alloc::{AllocError, Global};
+use thiserror::Error;
 
 /// Why no header was cut.
-#[derive(Clone, Copy, PartialEq, Eq, Debug)]
+#[derive(Clone, Copy, PartialEq, Eq, Debug, Error)]
 pub enum HeaderFault {
     /// There is no END card, or its block isn't whole.
+    #[error("the header has no END, or its last block is not whole")]
     NoEnd,
     /// Memory was refused.
+    #[error("out of memory")]
     Memory,
 }
 
@@ -40,37 +45,49 @@ pub fn cut_header(alloc: Global, bytes: &[u8]) -> Result<(CardList, usize), Head
     ensures none { IsErrOf result HeaderFault.NoEnd → HasNoHeader bytes.now }
     ensures no_end { HasNoHeader bytes.now → IsErrOf result HeaderFault.NoEnd }
 {
-    let Some(count) = card_count(bytes) else {
+    let Some(front) = front_of(bytes) else {
         return Err(HeaderFault::NoEnd);
     };
-    let front_len = CARD_LEN * (count + 1);
-    let fill_len = fill_len(count);
-    let (_, behind_end) = bytes.split_at(front_len);
-    let (fill, _) = behind_end.split_at(fill_len);
     let header = CardList {
-        cards: cards_of(alloc, bytes, count)?,
-        end: card_at(bytes, count),
-        fill: fill_of(alloc, fill)?,
+        cards: cards_of(alloc, bytes, front.count)?,
+        end: card_at(bytes, front.count),
+        fill: fill_of(alloc, front.fill)?,
         reads: Count::new(),
+        room: 0,
     };
-    Ok((header, front_len + fill_len))
+    Ok((header, front.cards.len() + front.fill.len()))
 }
 
-// How many cards the header at the front has, if there is one.
+// The parts of the header at the front.
+#[derive(Drop)]
+struct Front<'a> {
+    // How many cards stand before END.
+    count: usize,
+    // Their bytes and those of END.
+    cards: &'a [u8],
+    fill: &'a [u8],
+}
+
+// The parts of the header at the front, if there is one.
 #[tactic(auto, using(crate::proofs::CutLemmas::place_steps))]
-fn card_count(bytes: &[u8]) -> Option<usize>
-    ensures found { IfSome result (λ count. IsHeaderOf bytes.now (header_at bytes.now count) (drop (header_length count) bytes.now)) }
-    ensures within { IfSome result (λ count. header_length count ≤ length bytes.now) }
+fn front_of(bytes: &[u8]) -> Option<Front<'_>>
+    ensures found { IfSome result (λ front. IsHeaderOf bytes.now
+        (header_at bytes.now front.count) (drop (header_length front.count) bytes.now)) }
+    ensures within { IfSome result (λ front. header_length front.count ≤ length bytes.now) }
+    ensures cards { IfSome result (λ front. length front.cards.now ≡ 80 * (front.count + 1)) }
+    ensures fill { IfSome result (λ front. front.fill.now ≡ (header_at bytes.now front.count).fill) }
     ensures none { IfNone result (HasNoHeader bytes.now) }
 {
     let Some(count) = end_place(bytes) else {
         return None;
     };
-    let (_, behind_end) = bytes.split_at(CARD_LEN * (count + 1));
-    if behind_end.len() < fill_len(count) {
+    let (cards, rest) = bytes.split_at(CARD_LEN * (count + 1));
+    let fill_len = fill_len(count);
+    if rest.len() < fill_len {
         return None;
     }
-    Some(count)
+    let (fill, _) = rest.split_at(fill_len);
+    Some(Front { count, cards, fill })
 }
 
 // How many cards stand before the first that is named END.
@@ -87,7 +104,7 @@ fn end_place(bytes: &[u8]) -> Option<usize>
 }
 
 fn card_at(bytes: &[u8], k: usize) -> Card
-    requires { 80 * (k + 1) ≤ length bytes.now }
+    requires { CARD_LEN * (k + 1) ≤ length bytes.now }
     ensures { result ≡ piece bytes.now k }
 {
     let (_, rest) = bytes.split_at(CARD_LEN * k);
@@ -100,7 +117,7 @@ fn card_at(bytes: &[u8], k: usize) -> Card
 // The first cards.
 #[tactic(auto, using(crate::proofs::CutLemmas::pieces_steps))]
 fn cards_of(alloc: Global, bytes: &[u8], count: usize) -> Result<Vec<Card>, AllocError>
-    requires { 80 * count ≤ length bytes.now }
+    requires { CARD_LEN * count ≤ length bytes.now }
     ensures { IfOk result (λ cards. cards.items ≡ pieces bytes.now count) }
 {
     let mut cards = Vec::with_capacity(alloc, count)?;
@@ -113,7 +130,7 @@ fn cards_of(alloc: Global, bytes: &[u8], count: usize) -> Result<Vec<Card>, Allo
 // The bytes of a fill, with room for the longest.
 fn fill_of(alloc: Global, bytes: &[u8]) -> Result<Vec<u8>, AllocError>
     ensures bytes { IfOk result (λ fill. fill.items ≡ bytes.now) }
-    ensures room { IfOk result (λ fill. 2800 ≤ vec_capacity fill) }
+    ensures room { IfOk result (λ fill. LONGEST_FILL ≤ vec_capacity fill) }
 {
     let mut fill = Vec::with_capacity(alloc, LONGEST_FILL)?;
     fill.extend_from_slice(bytes)?;

@@ -12,7 +12,23 @@ pub mod name;
 pub mod reading;
 pub mod sink;
 pub mod source;
-#[cfg(test)]
-mod tests;
+pub mod splicing;
+pub mod text;
 pub mod watched;
 pub mod writing;
+
+pub use card::{CARD_LEN, Card};
+pub use card_list::{BLOCK_LEN, CardList, header_len};
+pub use cards::Cards;
+pub use change::Change;
+pub use count::Count;
+pub use cut::{HeaderFault, cut_header};
+pub use laws::{a_header_or_none, one_header};
+pub use name::Name;
+pub use reading::{PIECE_LEN, Portion, ReadFault, buffer_of, read_up_to};
+pub use sink::Sink;
+pub use source::Source;
+pub use splicing::{make_room, move_item};
+pub use text::is_text;
+pub use watched::Watched;
+pub use writing::write_all;

@@ -1,5 +1,7 @@
-ghost use Rattle.std.specs.Prelude.{◌≡◌};
+ghost use Rattle.std.specs.Prelude.{◌≡◌, ◌≤◌, length};
+ghost use Rattle.std.specs.List.{prefix_len};
 ghost use Rattle.std.specs.Str.{bytes_eq};
+ghost use Rattle.fits_card.specs.Name.{is_name_byte};
 
 use std::marker::Model;
 
@@ -18,7 +20,7 @@ impl Model for Name {
 }
 
 impl Name {
-    ghost use Rattle.fits_card.specs.Name.{end_name, is_valueless};
+    ghost use Rattle.fits_card.specs.Name.{end_name, blank_name, is_valueless, is_spelled, is_settable};
 
     /// The name of the card that ends a header.
     pub fn is_end(&self) -> bool
@@ -35,7 +37,45 @@ impl Name {
         self.0 == *b"COMMENT "
             || self.0 == *b"HISTORY "
             || self.0 == *b"CONTINUE"
-            || self.0 == *b"END     "
-            || self.0 == *b"        "
+            || self.is_end()
+            || self.is_blank()
     }
+
+    /// The name of spaces alone.
+    pub fn is_blank(&self) -> bool
+        ensures { result ≡ bytes_eq self.now blank_name }
+    {
+        self.0 == *b"        "
+    }
+
+    /// Whether the name is spelled as the standard asks: capital letters, digits, hyphens and
+    /// underscores, then spaces.
+    #[tactic(auto, unfolding(crate::specs::Name::is_spelled))]
+    pub fn is_spelled(&self) -> bool
+        ensures { result ≡ is_spelled self.now }
+    {
+        let (_, rest) = self.0.split_at(spelled_len(&self.0));
+        rest.iter().all(|byte| *byte == b' ')
+    }
+
+    /// Whether a card of this name may be given a value.
+    #[tactic(auto, unfolding(crate::specs::Name::is_settable))]
+    pub fn is_settable(&self) -> bool
+        ensures { result ≡ is_settable self.now }
+    {
+        self.is_spelled() && !self.is_valueless()
+    }
+}
+
+// How many characters of a name stand at the front.
+fn spelled_len(text: &[u8]) -> usize
+    ensures value { result ≡ prefix_len is_name_byte text.now }
+    ensures within { result ≤ length text.now }
+{
+    for (index, byte) in text.iter().enumerate() {
+        if !matches!(byte, b'A'..=b'Z' | b'0'..=b'9' | b'-' | b'_') {
+            return index;
+        }
+    }
+    text.len()
 }

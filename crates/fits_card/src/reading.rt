@@ -1,19 +1,22 @@
 //! Reading a source to its end, or to a limit.
-ghost use Rattle.std.specs.Prelude.{◌≡◌, ◌<◌, ◌≤◌, OnOk, IfOk, IsErrOf, vec_len};
+ghost use Rattle.std.specs.Prelude.{◌≡◌, ◌+◌, ◌≤◌, OnOk, IfOk, IsErrOf, vec_len};
 ghost use Rattle.fits_card.specs.Stream.{TakesUpTo};
 
 use crate::source::Source;
 use std::alloc::{AllocError, Global};
+use thiserror::Error;
 
 /// How many bytes a single call asks for.
 pub const PIECE_LEN: usize = 65_536;
 
 /// Why nothing was taken.
-#[derive(Clone, Copy, PartialEq, Eq, Debug)]
+#[derive(Clone, Copy, PartialEq, Eq, Debug, Error)]
 pub enum ReadFault {
     /// Memory was refused.
+    #[error("out of memory")]
     Memory,
     /// A call of the source failed.
+    #[error("a read failed")]
     Failed,
 }
 
@@ -52,13 +55,16 @@ pub fn read_up_to<R: Source>(
     source: &mut R,
     limit: usize,
 ) -> Result<Portion, ReadFault>
-    ensures ok { IfOk result (λ portion. TakesUpTo (R.remaining source.old) limit portion.bytes.items portion.more) }
+    ensures ok { IfOk result
+        (λ portion. TakesUpTo (R.remaining source.old) limit portion.bytes.items portion.more) }
     ensures within { IfOk result (λ portion. vec_len portion.bytes ≤ limit) }
 
-    // It answers `Failed` only where a call did.
+    // It answers `Failed` only where a call did, and ends there.
     ensures quiet { OnOk result (R.failures source.new ≡ R.failures source.old) }
-    ensures failed { IsErrOf result ReadFault.Failed → R.failures source.old < R.failures source.new }
-    ensures memory { IsErrOf result ReadFault.Memory → R.failures source.new ≡ R.failures source.old }
+    ensures failed { IsErrOf result ReadFault.Failed
+        → R.failures source.new ≡ R.failures source.old + 1 }
+    ensures memory { IsErrOf result ReadFault.Memory
+        → R.failures source.new ≡ R.failures source.old }
 {
     let mut buffer = buffer_of(alloc, PIECE_LEN)?;
     let piece = buffer.as_mut_slice();

@@ -1,4 +1,4 @@
-ghost use Rattle.std.specs.Prelude.{◌≡◌, ◌+◌, ℕ, List, Option};
+ghost use Rattle.std.specs.Prelude.{◌≡◌, ◌+◌, ℕ, List, Option, OnOk, OnErr};
 ghost use Rattle.std.specs.Io.{WritesAtMost};
 ghost use Rattle.std.specs.Io.KnownBytes.{Keeps, WriteAppends};
 ghost use Rattle.fits_card.specs.Stream.{write_faults, flush_faults};
@@ -15,14 +15,20 @@ pub trait Sink {
     /// How many calls have failed.
     ghost failures: { Self → ℕ };
 
-    /// Takes a front of the piece, and says how many bytes it has.
+    /// How many writes there were since the last flush that succeeded.
+    ghost unflushed: { Self → ℕ };
+
+    /// Takes a prefix of the piece, and says how many bytes it has.
     fn write(&mut self, piece: &[u8]) -> io::Result<usize>
         ensures bound { WritesAtMost result piece.now }
         ensures bytes { WriteAppends (contents self.old) (contents self.new) result piece.now }
-        ensures failed { failures self.new ≡ failures self.old + write_faults result piece.now };
+        ensures failed { failures self.new ≡ failures self.old + write_faults result piece.now }
+        ensures unflushed { unflushed self.new ≡ unflushed self.old + 1 };
 
     /// Passes on what it still holds back. Dropped in place of this, a buffered writer loses its error.
     fn flush(&mut self) -> io::Result<()>
         ensures bytes { Keeps (contents self.old) (contents self.new) }
-        ensures failed { failures self.new ≡ failures self.old + flush_faults result };
+        ensures failed { failures self.new ≡ failures self.old + flush_faults result }
+        ensures flushed { OnOk result (unflushed self.new ≡ 0) }
+        ensures unflushed { OnErr result (unflushed self.new ≡ unflushed self.old) };
 }

@@ -13,7 +13,7 @@ pub trait Source {
     /// How many calls have failed.
     ghost failures: { Self → ℕ };
 
-    /// Fills a front of the buffer, and says how many bytes it has. 0 is the end.
+    /// Fills a prefix of the buffer, and says how many bytes it has. 0 is the end.
     fn read(&mut self, buffer: &mut [u8]) -> io::Result<usize>
         ensures bound { ReadsAtMost result buffer.new }
         ensures bytes { ReadConsumes (remaining self.old) (remaining self.new) result buffer.new }

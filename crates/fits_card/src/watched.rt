@@ -5,24 +5,40 @@ use crate::sink::Sink;
 use crate::source::Source;
 use std::io;
 use std::io::{Read, Write};
+use std::marker::Model;
 
-/// A reader or a writer of std, with a count of its failed calls.
+/// A reader or a writer of std, with a count of its failed calls, and of its writes since the last
+/// flush that succeeded.
 ///
-/// Every kind of error is a failed call, and no call is tried again.
+/// Every kind of error is a failed call. That no call is tried again, and that a flush reaches the
+/// writer below is tested: std's `Write` doesn't say what has arrived.
 #[derive(Drop)]
 pub struct Watched<S> {
-    pub(crate) stream: S,
-    pub(crate) failed: Count,
+    stream: S,
+    failed: Count,
+    unflushed: Count,
+}
+
+impl<S> Model for Watched<S> {
+    ghost use Rattle.fits_card.specs.Stream.{Watch};
+
+    ghost Value = { Watch S };
+
+    ghost view = { λ it. record {
+      stream = it.stream;
+      failures = it.failed.total;
+      unflushed = it.unflushed.total;
+    } };
 }
 
 impl<S> Watched<S> {
     pub fn new(stream: S) -> Watched<S>
-        ensures stream { result.stream ≡ stream }
-        ensures none { result.failed.total ≡ 0 }
+        ensures { result ≡ record { stream = stream; failures = 0; unflushed = 0 } }
     {
         Watched {
             stream,
             failed: Count::new(),
+            unflushed: Count::new(),
         }
     }
 
@@ -30,7 +46,7 @@ impl<S> Watched<S> {
     pub fn into_inner(self) -> S
         ensures { result ≡ self.stream }
     {
-        let Watched { stream, failed: _ } = self;
+        let Watched { stream, .. } = self;
         stream
     }
 }
@@ -38,7 +54,7 @@ impl<S> Watched<S> {
 impl<R: Read> Source for Watched<R> {
     ghost remaining = { λ it. R.remaining it.stream };
 
-    ghost failures = { λ it. it.failed.total };
+    ghost failures = { λ it. it.failures };
 
     fn read(&mut self, buffer: &mut [u8]) -> io::Result<usize> {
         match self.stream.read(buffer) {
@@ -54,9 +70,12 @@ impl<R: Read> Source for Watched<R> {
 impl<W: Write> Sink for Watched<W> {
     ghost contents = { λ it. W.contents it.stream };
 
-    ghost failures = { λ it. it.failed.total };
+    ghost failures = { λ it. it.failures };
+
+    ghost unflushed = { λ it. it.unflushed };
 
     fn write(&mut self, piece: &[u8]) -> io::Result<usize> {
+        self.unflushed.tick();
         match self.stream.write(piece) {
             Ok(n) => {
                 if n == 0 && !piece.is_empty() {
@@ -73,7 +92,10 @@ impl<W: Write> Sink for Watched<W> {
 
     fn flush(&mut self) -> io::Result<()> {
         match self.stream.flush() {
-            Ok(()) => Ok(()),
+            Ok(()) => {
+                self.unflushed = Count::new();
+                Ok(())
+            }
             Err(error) => {
                 self.failed.tick();
                 Err(error)

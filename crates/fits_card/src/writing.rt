@@ -1,5 +1,5 @@
 //! Writing all of a piece.
-ghost use Rattle.std.specs.Prelude.{◌≡◌, ◌<◌, OnOk, OnErr};
+ghost use Rattle.std.specs.Prelude.{◌≡◌, ◌+◌, OnOk, OnErr};
 ghost use Rattle.std.specs.Io.KnownBytes.{Appends};
 ghost use Rattle.fits_card.specs.Stream.{AppendsFront};
 
@@ -13,9 +13,9 @@ pub fn write_all<W: Sink>(sink: &mut W, bytes: &[u8]) -> io::Result<()>
     ensures ok { OnOk result (Appends (W.contents sink.old) (W.contents sink.new) bytes.now) }
     ensures err { OnErr result (AppendsFront (W.contents sink.old) (W.contents sink.new) bytes.now) }
 
-    // It fails exactly where a call did.
+    // It fails exactly where a call did, and ends there.
     ensures quiet { OnOk result (W.failures sink.new ≡ W.failures sink.old) }
-    ensures failed { OnErr result (W.failures sink.old < W.failures sink.new) }
+    ensures failed { OnErr result (W.failures sink.new ≡ W.failures sink.old + 1) }
 {
     let mut at = 0;
     while at < bytes.len() {

@@ -1,5 +1,5 @@
 use Rattle.std.proofs.Common.{◌≡◌}
-use Rattle.fits_card.specs.Header.{pieces}
+use Rattle.fits_card.specs.HeaderSteps.{pieces}
 use Rattle.fits_card.proofs.cut.cards_of.Given as goal
 
 abbrev pub invariant-loop-k : goal.invariant-loop-k

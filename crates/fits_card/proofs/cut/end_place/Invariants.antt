@@ -1,6 +1,6 @@
 use Rattle.std.proofs.Common.{ℕ, ◌<◌}
 use Rattle.fits_card.specs.Card.{IsEnd}
-use Rattle.fits_card.specs.Header.{piece}
+use Rattle.fits_card.specs.HeaderSteps.{piece}
 use Rattle.fits_card.proofs.cut.end_place.Given as goal
 
 abbrev pub invariant-loop-k : goal.invariant-loop-k

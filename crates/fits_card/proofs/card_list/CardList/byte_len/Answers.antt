@@ -1,6 +1,5 @@
-use Rattle.std.proofs.Common.{◌≡◌, ◌+◌, ◌*◌, ◌≤◌, length, ap, arith}
-use Rattle.fits_card.specs.CardList.{CardStore}
-use Rattle.fits_card.specs.Header.{Header, header_bytes}
+use Rattle.std.proofs.Common.{◌≤◌, length, arith}
+use Rattle.fits_card.specs.Header.{header_bytes}
 use Rattle.fits_card.proofs.HeaderLemmas.{length-header_bytes}
 use Rattle.fits_card.proofs.card_list.CardList.byte_len.Goals as goal
 

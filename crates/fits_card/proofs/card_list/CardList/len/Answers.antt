@@ -1,4 +1,4 @@
-use Rattle.std.proofs.Common.{◌≡◌, ◌+◌, ◌*◌, length, arith}
+use Rattle.std.proofs.Common.{arith}
 use Rattle.fits_card.proofs.HeaderLemmas.{length-header_bytes}
 use Rattle.fits_card.proofs.card_list.CardList.len.Goals as goal
 

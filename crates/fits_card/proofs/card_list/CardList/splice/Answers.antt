@@ -1,0 +1,10 @@
+use Rattle.std.proofs.Common.{arith}
+use Rattle.fits_card.proofs.HeaderLemmas.{whole-spliced}
+use Rattle.fits_card.proofs.card_list.CardList.splice.Goals as goal
+
+pub invariant_of-self : goal.invariant_of-self
+invariant_of-self c = record {
+  card_room = omega arith;
+  fill_room = c.make_blank.ensures.room;
+  whole = whole-spliced _ _ c.args.cards.now c.args.place c.args.removed c.len.result _ c.self.invariant.whole c.splice_cards.ensures.cards c.splice_cards.ensures.sizes c.requires.not_end (omega arith) c.make_blank.ensures.spaces;
+}

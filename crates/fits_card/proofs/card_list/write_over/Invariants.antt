@@ -1,0 +1,10 @@
+use Rattle.std.proofs.Common.{◌≡◌, ℕ, List, ◌-◌, ◌<◌, length, get_or}
+use Rattle.std.proofs.Math.Seq.{paste}
+use Rattle.fits_card.proofs.card_list.write_over.Given as goal
+
+abbrev pub invariant-loop-index : goal.invariant-loop-index
+invariant-loop-index l = record {
+  cards : l.cards ≡ paste l.fn.cards (l.place - 1) l.new l.index;
+  len : length l.cards ≡ length l.fn.cards;
+  sizes : (k : ℕ) (d : List ℕ) → k < l.index → length (get_or l.new k d) ≡ 80;
+}
