@@ -1,118 +1,152 @@
--- The steps along a chain.
-use Rattle.std.proofs.Common.{◌≡◌, ℕ, ◌≤◌, ◌+◌, List, [], ◌∷◌, ◌++◌, length, map, take, drop, All, Option, refl, sym, ◌∙◌, ap, subst, arith, append_assoc, length-append}
-use Rattle.std.specs.List.{flat_map}
-use Rattle.std.proofs.lemmas.List.{append-nil}
-use Rattle.std.proofs.lemmas.List.Elements.{All-append, All-cons, All-nil}
-use Rattle.fits_card.specs.Card.{HasValue}
-use Rattle.fits_value.specs.Text.{normal_form}
-use Rattle.fits_value.specs.Value.{CardSays}
-use Rattle.fits_value.specs.LongString.{Piece, SaysPiece, IsContinueCard, EndsInAmpersand, BeginsWithContinue, IsRun, IsChain, SaysChain, cards_from, without_last}
-use Rattle.fits_value.specs.Chaining.{ContinuesBy, JoinsTo}
+-- The steps along a chain: what the links behind a text come to, by the first of them.
+use Rattle.std.proofs.Common.{◌≡◌, ℕ, ◌≤◌, ◌<◌, ◌+◌, Bool, true, false, List, [], ◌∷◌, ◌++◌, length, drop, get_or, Option, None, Some, refl, sym, ◌∙◌, ap, inl, inr, append_assoc}
+use Rattle.std.specs.Prelude.{IsTrue, ◌↔◌}
+use Rattle.std.specs.Option.{option_map}
+use Rattle.std.proofs.lemmas.Bool.{cases_Bool, cases_lt, both_ways, false_from_ne_true, cond-true, cond-false}
+use Rattle.std.proofs.lemmas.List.{drop_all, drop_more}
+use Rattle.fits_value.proofs.FrontLemmas.{chosen}
+use Rattle.fits_value.proofs.ReadLemmas.{Said}
+use Rattle.fits_value.proofs.AmpersandLemmas.{ampersand_told, ampersand_said}
+use Rattle.fits_value.specs.LongString.{EndsInAmpersand, without_last}
+use Rattle.fits_value.specs.Says.{card_says, said_string, card_string, is_continue, string_with, link_string, link_says, link_before, links_of, ends_in_ampersand, joined, links_after}
+use Rattle.fits_value.specs.declared.value.Value.{Value}
 use Rattle.fits_value.specs.declared.value.Value.TheVariants.{Str}
-use Rattle.fits_value.proofs.LongStringLemmas.{run_within}
+use Rattle.fits_value.specs.Chaining.{next_link, JoinsTo}
 
--- facts of both parts of a list
-all_more : {X : Type 0} (P : X → Type 0) (xs : List X) (x : X) → All P xs → P x → All P (xs ++ x ∷ [])
-all_more P xs x h p = All-append P xs (x ∷ []) h (All-cons P x [] p (All-nil P))
+-- a string with its comment
+abbrev pub Link : Type 0
+Link = List ℕ × Option (List ℕ)
 
--- the pieces of two lists
-map-append : (xs ys : List Piece) → map (λ (piece : Piece). piece.card) (xs ++ ys) ≡ map (λ (piece : Piece). piece.card) xs ++ map (λ (piece : Piece). piece.card) ys
-map-append [] ys = refl
-map-append (x ∷ xs) ys = ap (λ (s : List (List ℕ)). x.card ∷ s) (map-append xs ys)
+-- where a text ends in no ampersand, nothing is joined to it
+joined-closed : (text : List ℕ) (comment : Option (List ℕ)) (links : List Link) → ends_in_ampersand text ≡ false → joined text comment links ≡ (text, comment)
+joined-closed text comment [] e = refl
+joined-closed text comment (link ∷ links) e = cond-false (ends_in_ampersand text) _ _ e
 
--- the bytes of two lists
-join-append : (xs ys : List Piece) → flat_map (λ (piece : Piece). without_last piece.text) (xs ++ ys) ≡ flat_map (λ (piece : Piece). without_last piece.text) xs ++ flat_map (λ (piece : Piece). without_last piece.text) ys
-join-append [] ys = refl
-join-append (x ∷ xs) ys = ap (λ (s : List ℕ). without_last x.text ++ s) (join-append xs ys) ∙ sym (append_assoc (without_last x.text) _ _)
+-- and it goes on in no link
+links_after-closed : (text : List ℕ) (links : List Link) → ends_in_ampersand text ≡ false → links_after text links ≡ 0
+links_after-closed text [] e = refl
+links_after-closed text (link ∷ links) e = cond-false (ends_in_ampersand text) _ _ e
 
--- all but the first of a list that grows
-drop_first : (front : List Piece) (last more : Piece) → drop 1 ((front ++ last ∷ []) ++ more ∷ []) ≡ drop 1 (front ++ last ∷ []) ++ more ∷ []
-drop_first [] last more = refl
-drop_first (p ∷ front) last more = refl
+-- what is known of the cards that a text is before, where no link continues it
+pub record Ends (text : List ℕ) (comment : Option (List ℕ)) (cards : List (List ℕ)) : Type 0 where
+  pub whole : joined text comment (links_of cards) ≡ (text, comment)
+  pub links : links_after text (links_of cards) ≡ 0
 
--- a run goes on over one more card
-run_more : (cards : List (List ℕ)) (front : List Piece) (last more : Piece) (rest : List (List ℕ)) → IsRun cards front last (more.card ∷ rest) → EndsInAmpersand last.text → IsContinueCard more.card → SaysPiece more
-    → IsRun cards (front ++ last ∷ []) more rest
-run_more cards front last more rest h is_open is_continue says = record {
-  parts = h.parts ∙ sym (ap (λ (x : List (List ℕ)). x ++ rest) (map-append (front ++ last ∷ []) (more ∷ [])) ∙ append_assoc _ (more.card ∷ []) rest);
-  say = all_more SaysPiece (front ++ last ∷ []) more h.say says;
-  are_open = all_more (λ (x : Piece). EndsInAmpersand x.text) front last h.are_open is_open;
-  continued = subst (λ (x : List Piece). All (λ (y : Piece). IsContinueCard y.card) x) (sym (drop_first front last more)) (all_more (λ (y : Piece). IsContinueCard y.card) (drop 1 (front ++ last ∷ [])) more h.continued is_continue);
-}
+-- nothing is joined to a text that no link continues
+pub next_none : (text : List ℕ) (comment : Option (List ℕ)) (cards : List (List ℕ)) → next_link text cards ≡ None → Ends text comment cards
+next_none text comment [] e = record { whole = refl; links = refl }
+next_none text comment (card ∷ cards) e = elim (chosen (ends_in_ampersand text) (link_says card) None None e) [
+  | inl w ↦ record {
+    whole = ap (λ (o : Option Link). joined text comment (link_before o (links_of cards))) w.1;
+    links = ap (λ (o : Option Link). links_after text (link_before o (links_of cards))) w.1;
+  }
+  | inr w ↦ record {
+    whole = joined-closed text comment (links_of (card ∷ cards)) w.0;
+    links = links_after-closed text (links_of (card ∷ cards)) w.0;
+  }
+]
 
--- one card is a run
-pub joins_first : (cards : List (List ℕ)) (place : ℕ) (card piece : List ℕ) (comment : Option (List ℕ)) → cards_from cards place ≡ card ∷ drop place cards → CardSays card (Str piece) comment → JoinsTo cards place place [] piece comment
-joins_first cards place card piece comment at says =
-    let last : Piece = record { card = card; text = piece; comment = comment } in
+-- what is known of the cards that a text is before, where a link continues it
+record GoesOn (text : List ℕ) (comment : Option (List ℕ)) (link : Link) (cards rest : List (List ℕ)) : Type 0 where
+  is_open : ends_in_ampersand text ≡ true
+  whole : joined text comment (links_of cards) ≡ (without_last text ++ (joined link.0 link.1 (links_of rest)).0, (joined link.0 link.1 (links_of rest)).1)
+  links : links_after text (links_of cards) ≡ 1 + links_after link.0 (links_of rest)
+
+-- a text goes on in the link that continues it
+next_some : (text : List ℕ) (comment : Option (List ℕ)) (link : Link) (card : List ℕ) (rest : List (List ℕ)) → next_link text (card ∷ rest) ≡ Some link → GoesOn text comment link (card ∷ rest) rest
+next_some text comment link card rest e = elim (chosen (ends_in_ampersand text) (link_says card) None (Some link) e) [
+  | inl w ↦ record {
+    is_open = w.0;
+    whole = ap (λ (o : Option Link). joined text comment (link_before o (links_of rest))) w.1 ∙ cond-true (ends_in_ampersand text) _ _ w.0;
+    links = ap (λ (o : Option Link). links_after text (link_before o (links_of rest))) w.1 ∙ cond-true (ends_in_ampersand text) _ _ w.0;
+  }
+  | inr w ↦ absurd (let z = w.1 in (cc))
+]
+
+-- whether a text ends in an ampersand
+is_open_as : (text : List ℕ) (b : Bool) → IsTrue b ↔ EndsInAmpersand text → b ≡ ends_in_ampersand text
+is_open_as text b h = elim (cases_Bool b) [
+  | inl e ↦ e ∙ sym (ampersand_said text (h.0 e))
+  | inr e ↦ e ∙ sym (false_from_ne_true (ends_in_ampersand text) (λ is. both_ways b e (h.1 (ampersand_told text is))))
+]
+
+-- nothing continues a text behind the last card
+pub next_link-end : (text : List ℕ) (place : ℕ) (cards : List (List ℕ)) → length cards ≤ place → next_link text (drop place cards) ≡ None
+next_link-end text place cards within = ap (λ (x : List (List ℕ)). next_link text x) (drop_all place cards within)
+
+-- nor one that ends in no ampersand
+pub next_link-closed : (text : List ℕ) (cards : List (List ℕ)) (b : Bool) → IsTrue b ↔ EndsInAmpersand text → b ≡ false → next_link text cards ≡ None
+next_link-closed text [] b h e = refl
+next_link-closed text (card ∷ cards) b h e = cond-false (ends_in_ampersand text) _ _ (sym (is_open_as text b h) ∙ e)
+
+-- the link of the next card
+pub next_link-open : (text : List ℕ) (cards : List (List ℕ)) (card : List ℕ) (rest : List (List ℕ)) (b : Bool) → IsTrue b ↔ EndsInAmpersand text → b ≡ true → cards ≡ card ∷ rest → next_link text cards ≡ link_says card
+next_link-open text cards card rest b h e at = ap (λ (x : List (List ℕ)). next_link text x) at ∙ cond-true (ends_in_ampersand text) _ _ (sym (is_open_as text b h) ∙ e)
+
+-- the string of a link
+pub link_string-said : (card : List ℕ) → link_string card ≡ option_map (λ (x : Link). x.0) (link_says card)
+unfolding link_string link_says card_string
+link_string-said card = elim (cases_Bool (is_continue card)) [
+  | inl e ↦ cond-true (is_continue card) _ _ e ∙ sym (ap (λ (o : Option Link). option_map (λ (x : Link). x.0) o) (cond-true (is_continue card) (said_string (card_says card)) None e))
+  | inr e ↦ cond-false (is_continue card) _ _ e ∙ sym (ap (λ (o : Option Link). option_map (λ (x : Link). x.0) o) (cond-false (is_continue card) (said_string (card_says card)) None e))
+]
+
+-- a card that is no link
+pub link_says-none : (card : List ℕ) → link_string card ≡ None → link_says card ≡ None
+link_says-none card e = none_mapped (link_says card) (sym (link_string-said card) ∙ e)
+  where
+    none_mapped : (o : Option Link) → option_map (λ (x : Link). x.0) o ≡ None → o ≡ None
+    none_mapped None f = refl
+    none_mapped (Some x) f = absurd (cc)
+
+-- a link says what its card says
+pub link_says-continue : (card text : List ℕ) → link_string card ≡ Some text → link_says card ≡ said_string (card_says card)
+unfolding link_string link_says
+link_says-continue card text e = elim (chosen (is_continue card) (card_string card) None (Some text) e) [
+  | inl w ↦ cond-true (is_continue card) _ _ w.0
+  | inr w ↦ absurd (let z = w.1 in (cc))
+]
+
+-- a card with a string is a link or none
+pub link_speaks : (card text : List ℕ) → link_string card ≡ Some text → link_says card ≡ None → ⊥
+link_speaks card text e none =
+    let f = link_string-said card ∙ ap (λ (o : Option Link). option_map (λ (x : Link). x.0) o) none in
+    let g : None ≡ Some text = sym f ∙ e in
+    (cc)
+
+-- a value that is no string
+pub string_with-other : (v : Value) (c : Option (List ℕ)) → ((text : List ℕ) → v ≡ Str text → ⊥) → string_with v c ≡ None
+string_with-other (Str text) c other = absurd (other text refl)
+string_with-other v c other = refl
+
+-- the string of a card that says one
+pub card_string-said : (card text : List ℕ) (c : Option (List ℕ)) → card_says card ≡ Some (Str text, c) → card_string card ≡ Some text
+unfolding card_string
+card_string-said card text c e = ap (λ (o : Option Said). option_map (λ (x : Link). x.0) (said_string o)) e
+
+-- the step of a loop over links, which counts them
+pub links_step : (text : List ℕ) (link : Link) (cards : List (List ℕ)) (place : ℕ) → place < length cards → next_link text (drop place cards) ≡ Some link
+    → links_after text (links_of (drop place cards)) ≡ 1 + links_after link.0 (links_of (drop (place + 1) cards))
+links_step text link cards place within e =
+    let at = drop_more cards place [] within in
+    let on = next_some text None link (get_or cards place []) (drop (place + 1) cards) (ap (λ (x : List (List ℕ)). next_link text x) (sym at) ∙ e) in
+    ap (λ (x : List (List ℕ)). links_after text (links_of x)) at ∙ on.links
+
+-- which joins them
+pub joins_step : (whole link : Link) (so_far piece : List ℕ) (comment : Option (List ℕ)) (cards : List (List ℕ)) (place : ℕ) → place < length cards → JoinsTo whole so_far piece comment (drop place cards)
+    → next_link piece (drop place cards) ≡ Some link → JoinsTo whole (so_far ++ without_last piece) link.0 link.1 (drop (place + 1) cards)
+joins_step whole link so_far piece comment cards place within h e =
+    let at = drop_more cards place [] within in
+    let on = next_some piece comment link (get_or cards place []) (drop (place + 1) cards) (ap (λ (x : List (List ℕ)). next_link piece x) (sym at) ∙ e) in
+    let is = ap (λ (x : List (List ℕ)). joined piece comment (links_of x)) at ∙ on.whole in
     record {
-      front = [];
-      last = last;
-      run = record {
-        parts = at;
-        say = All-cons SaysPiece last [] says (All-nil SaysPiece);
-        are_open = All-nil (λ (x : Piece). EndsInAmpersand x.text);
-        continued = All-nil (λ (x : Piece). IsContinueCard x.card);
-      };
-      size = omega arith;
-      joined_is = refl;
-      piece_is = refl;
-      comment_is = refl;
+      text = h.text ∙ (ap (λ (x : Link). so_far ++ x.0) is ∙ sym (append_assoc so_far (without_last piece) _));
+      comment_is = h.comment_is ∙ ap (λ (x : Link). x.1) is;
     }
 
--- a run goes on over a card that continues it
-pub joins_more : (cards : List (List ℕ)) (first place : ℕ) (joined piece text : List ℕ) (comment next : Option (List ℕ)) → JoinsTo cards first place joined piece comment → ContinuesBy cards place piece text next
-    → JoinsTo cards first (place + 1) (joined ++ without_last piece) text next
-joins_more cards first place joined piece text comment next h c =
-    let more : Piece = record { card = c.card; text = text; comment = next } in
-    let run = subst (λ (x : List (List ℕ)). IsRun (cards_from cards first) h.front h.last x) c.at h.run in
-    let is_open : EndsInAmpersand h.last.text = subst (λ (x : List ℕ). EndsInAmpersand x) h.piece_is c.is_open in
-    record {
-      front = h.front ++ h.last ∷ [];
-      last = more;
-      run = run_more (cards_from cards first) h.front h.last more (drop (place + 1) cards) run is_open c.is_continue c.says;
-      size = omega (arith, h.size, length-append h.front (h.last ∷ []));
-      joined_is =
-          ap (λ (x : List ℕ). x ++ without_last piece) h.joined_is
-          ∙ (ap (λ (x : List ℕ). flat_map (λ (p : Piece). without_last p.text) h.front ++ without_last x) h.piece_is
-          ∙ sym (join-append h.front (h.last ∷ []) ∙ ap (λ (x : List ℕ). flat_map (λ (p : Piece). without_last p.text) h.front ++ x) (append-nil (without_last h.last.text))));
-      piece_is = refl;
-      comment_is = refl;
-    }
-
--- a run that nothing continues is the chain
-pub joins_end : (cards : List (List ℕ)) (first place : ℕ) (joined piece text : List ℕ) (comment : Option (List ℕ)) → JoinsTo cards first place joined piece comment → All HasValue (take 1 (cards_from cards first))
-    → (EndsInAmpersand piece → BeginsWithContinue (drop place cards) → ⊥) → text ≡ normal_form (joined ++ piece) → SaysChain cards first (Str text) comment
-joins_end cards first place joined piece text comment h value none e = record {
-  front = h.front;
-  last = h.last;
-  is_chain = record {
-    rest = drop place cards;
-    run = h.run;
-    first = value;
-    longest = λ is_open begins. none (subst (λ (x : List ℕ). EndsInAmpersand x) (sym h.piece_is) is_open) begins;
-  };
-  value_is = ap Str (e ∙ (ap (λ (x : List ℕ). normal_form (x ++ piece)) h.joined_is ∙ ap (λ (x : List ℕ). normal_form (flat_map (λ (p : Piece). without_last p.text) h.front ++ x)) h.piece_is));
-  comment_is = h.comment_is;
-}
-
--- a run is no longer than the chain
-pub joins_within : (cards : List (List ℕ)) (first place : ℕ) (joined piece : List ℕ) (comment : Option (List ℕ)) (front : List Piece) (last : Piece) → JoinsTo cards first place joined piece comment → IsChain cards first front last
-    → place ≤ first + length front
-joins_within cards first place joined piece comment front last h chain =
-    let shorter = run_within (cards_from cards first) h.front front h.last last (drop place cards) chain.rest h.run chain.run chain.longest in
-    omega (arith, h.size, shorter)
-
--- how many cards were read: no more than the chain has, and one
-pub work_within : (h k : List (List ℕ)) (first place : ℕ) (joined piece : List ℕ) (comment : Option (List ℕ)) (old now more : ℕ) → h ≡ k → JoinsTo h first place joined piece comment → now + first ≤ old + place → more ≤ now + 1
-    → (front : List Piece) (last : Piece) → IsChain k first front last → more ≤ old + length front + 1
-work_within h k first place joined piece comment old now more e j most step front last chain =
-    let joins = subst (λ (x : List (List ℕ)). JoinsTo x first place joined piece comment) e j in
-    let size = joins_within k first place joined piece comment front last joins chain in
-    omega arith
-
--- the step of the loop
-pub joins_step : (h m : List (List ℕ)) (first place : ℕ) (joined joined' piece text : List ℕ) (comment next : Option (List ℕ)) → m ≡ h → JoinsTo h first place joined piece comment → ContinuesBy h place piece text next
-    → joined' ≡ joined ++ without_last piece → JoinsTo m first (place + 1) joined' text next
-joins_step h m first place joined joined' piece text comment next e j c f =
-    subst (λ (x : List (List ℕ)). JoinsTo x first (place + 1) joined' text next) (sym e)
-    (subst (λ (x : List ℕ). JoinsTo h first (place + 1) x text next) (sym f) (joins_more h first place joined piece text comment next j c))
+-- the next card is there where a link continues a text
+pub next_within : (text : List ℕ) (link : Link) (cards : List (List ℕ)) (place : ℕ) → next_link text (drop place cards) ≡ Some link → place < length cards
+next_within text link cards place e = elim (cases_lt place (length cards)) [
+  | inl less ↦ less
+  | inr more ↦ absurd (let z : None ≡ Some link = sym (next_link-end text place cards more) ∙ e in (cc))
+]

@@ -5,11 +5,13 @@ use Rattle.std.proofs.Math.Seq.{drop-append_seam}
 use Rattle.std.proofs.lemmas.List.{take-append-drop, length-take-le, length-drop, drop-drop}
 use Rattle.std.proofs.lemmas.List.Folds.{length-prefix_len}
 use Rattle.std.proofs.lemmas.Bool.{eqb-true, and_parts, cond_both}
+use Rattle.std.proofs.lemmas.Option.{same_Some, some_pair_parts}
 use Rattle.fits_value.proofs.FrontLemmas.{chosen, Stops, prefix_len-front, prefix_passes}
 use Rattle.fits_value.proofs.NumberScanLemmas.{number_found, number_integer, number_real, Separates}
 use Rattle.fits_value.proofs.NumberFrontLemmas.{begins_number, begins_stops}
-use Rattle.fits_value.specs.Spelling.{is_space, is_digit, IsSpaces, IsNumber, Spells}
-use Rattle.fits_value.specs.Scan.{sign_of, fraction_of, exponent_of, number_of, element_at, element_of}
+use Rattle.fits_value.specs.Spelling.{is_space, is_digit, IsSpaces, Spells}
+use Rattle.fits_value.specs.Number.{IsNumber}
+use Rattle.fits_value.specs.Scan.{sign_of, fraction_length, exponent_of, number_of, element_at, element_of}
 use Rattle.fits_value.specs.declared.reading.ValueKind.{ValueKind}
 use Rattle.fits_value.specs.declared.reading.ValueKind.TheVariants.{Integer, Real}
 use Rattle.fits_value.specs.declared.scan_complex.Element.{Element}
@@ -17,10 +19,6 @@ use Rattle.fits_value.specs.declared.scan_complex.Element.{Element}
 -- a kind of number
 IsNumberKind : ValueKind → Type 0
 IsNumberKind kind = (kind ≡ Integer) ⊎ (kind ≡ Real)
-
--- the kind of a pair that is known
-kind_told : (x y : ValueKind × ℕ) → Some x ≡ Some y → x.0 ≡ y.0
-kind_told x y e = let p : x ≡ y = (cc) in ap (λ (z : ValueKind × ℕ). z.0) p
 
 -- one of the two kinds
 either_kind : (b : Bool) → (cond b Integer Real ≡ Integer) ⊎ (cond b Integer Real ≡ Real)
@@ -34,13 +32,13 @@ number_kind s k n e =
     let body = drop a s in
     let b = prefix_len is_digit body in
     let rest = drop b body in
-    let c = fraction_of rest in
+    let c = fraction_length rest in
     let d = exponent_of (drop c rest) in
     let kind : ValueKind = cond ((eqb c 0) && (eqb d 0)) Integer Real in
     elim (chosen (ltb 0 (b + (c - 1))) (Some (kind, a + (b + (c + d)))) None (Some (k, n)) e) [
       | inr w ↦ absurd (let z = w.1 in (cc))
       | inl w ↦
-          let is : kind ≡ k = kind_told (kind, a + (b + (c + d))) (k, n) w.1 in
+          let is : kind ≡ k = (some_pair_parts kind k (a + (b + (c + d))) n w.1).0 in
           elim (either_kind ((eqb c 0) && (eqb d 0))) [ inl x ↦ inl (sym is ∙ x) | inr x ↦ inr (sym is ∙ x) ]
     ]
 
@@ -62,10 +60,6 @@ pub record IsElementOf (s : List ℕ) (e : Element) : Type 0 where
   pub end : e.end ≡ length before + length number
   pub len : e.len ≡ length before + length number + length after
 
--- the element that is known
-some_element : (x y : Element) → Some x ≡ Some y → x ≡ y
-some_element x y e = (cc)
-
 -- the element of a number that was found
 element_at_found : (s : List ℕ) (o : Option (ValueKind × ℕ)) (e : Element) → e.len ≤ length s → number_of (drop (prefix_len is_space s) s) ≡ o
     → element_at (prefix_len is_space s) (drop (prefix_len is_space s) s) o ≡ Some e → IsElementOf s e
@@ -75,7 +69,7 @@ element_at_found s (Some v) e within f g =
     let body = drop a s in
     let behind = drop v.1 body in
     let c = prefix_len is_space behind in
-    let is = some_element _ e g in
+    let is = same_Some _ e g in
     let start : a ≡ e.start = ap (λ (x : Element). x.start) is in
     let end : a + v.1 ≡ e.end = ap (λ (x : Element). x.end) is in
     let len : a + v.1 + c ≡ e.len = ap (λ (x : Element). x.len) is in

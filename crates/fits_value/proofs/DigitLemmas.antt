@@ -10,13 +10,16 @@ use Rattle.std.proofs.lemmas.Nat.{pow-add}
 use Rattle.fits_value.specs.Spelling.{is_digit, IsDigits}
 use Rattle.fits_value.specs.Number.{with_digit, value_of}
 
+-- more digits make no smaller number
 pub fold_ge : (n : ℕ) (ds : List ℕ) → n ≤ fold with_digit n ds
 fold_ge n [] = omega arith
 fold_ge n (d ∷ ds) = omega (arith, fold_ge (with_digit n d) ds)
 
+-- the number of one more digit
 pub value_more : (ds : List ℕ) (i : ℕ) → i < length ds → value_of (take (i + 1) ds) ≡ value_of (take i ds) * 10 + (get_or ds i 0 - 48)
 value_more ds i h = fold_more with_digit 0 ds i 0 h
 
+-- a prefix has no larger number
 pub value_front : (ds : List ℕ) (i : ℕ) → value_of (take i ds) ≤ value_of ds
 value_front ds i =
     let e : value_of ds ≡ fold with_digit (value_of (take i ds)) (drop i ds) = ap value_of (sym (take-append-drop i ds)) ∙ fold-append with_digit 0 (take i ds) (drop i ds) in
@@ -37,13 +40,16 @@ fold_from n (d ∷ ds) =
     let p : 10 ^ suc (length ds) ≡ 10 ^ length ds * 10 = pow-suc 10 (length ds) in
     rw p (omega (arith, fold_from (with_digit n d) ds, fold_from (with_digit 0 d) ds))
 
+-- the number of two lists of digits
 pub value_append : (xs ys : List ℕ) → value_of (xs ++ ys) ≡ value_of xs * 10 ^ length ys + value_of ys
 value_append xs ys = fold-append with_digit 0 xs ys ∙ fold_from (value_of xs) ys
 
+-- a power of ten is above 0
 pub ten_pos : (k : ℕ) → 0 < 10 ^ k
 ten_pos zero = omega arith
 ten_pos (suc k) = rw (pow-suc 10 k) (omega (arith, ten_pos k))
 
+-- so many digits stay below that power of ten
 pub value_lt : (ds : List ℕ) → IsDigits ds → value_of ds < 10 ^ length ds
 value_lt [] a = omega arith
 value_lt (d ∷ ds) a =
@@ -53,16 +59,19 @@ value_lt (d ∷ ds) a =
     let c : (d - 48) * 10 ^ length ds ≤ 9 * 10 ^ length ds = mul-le-mul_right (10 ^ length ds) nine in
     rw (pow-suc 10 (length ds)) (omega (arith, fold_from (with_digit 0 d) ds, value_lt ds b.1, c))
 
+-- what is left of digits is digits
 pub drop_digits : (n : ℕ) (ds : List ℕ) → IsDigits ds → IsTrue (list_all is_digit (drop n ds))
 drop_digits zero ds a = a
 drop_digits (suc n) [] a = a
 drop_digits (suc n) (d ∷ ds) a = drop_digits n ds (and_parts (is_digit d) _ a).1
 
+-- what is taken of digits is digits
 pub take_digits : (n : ℕ) (ds : List ℕ) → IsDigits ds → IsTrue (list_all is_digit (take n ds))
 take_digits zero ds a = refl
 take_digits (suc n) [] a = a
 take_digits (suc n) (d ∷ ds) a = let b = and_parts (is_digit d) _ a in and_from _ _ b.0 (take_digits n ds b.1)
 
+-- a number has one quotient and rest
 pub unique : (a m p v : ℕ) → v < p → a * p + v ≡ m * p → (a ≡ m) × (v ≡ 0)
 unique a m p v lt e = elim (cases_order a m) [
   | inl same ↦ let x : a * p ≡ m * p = ap (λ (y : ℕ). y * p) same in (same, omega arith)
@@ -72,6 +81,7 @@ unique a m p v lt e = elim (cases_order a m) [
   ]
 ]
 
+-- a digit above 0 makes a number above 0
 pub not_zero : (ds : List ℕ) (i : ℕ) → i < length ds → IsDigits ds → 48 < get_or ds i 0 → value_of ds ≡ 0 → ⊥
 not_zero ds i h a d e = omega (arith, value_more ds i h, value_front ds (i + 1))
 
@@ -85,6 +95,7 @@ no_more m n i k ne is lt x e =
     let same : x * 10 ^ j * 10 ≡ m = (unique (x * 10 ^ j * 10) m (10 ^ i) 0 (ten_pos i) q).0 in
     ne (is ∙ (ap (λ (y : ℕ). y % 10) (sym same) ∙ mul-mod_left (x * 10 ^ j) 10))
 
+-- equal multiples of a power of ten have equal factors
 pub cancel : (a b k : ℕ) → a * 10 ^ k ≡ b * 10 ^ k → a ≡ b
 cancel a b k e = let f : a * 10 ^ k + 0 ≡ b * 10 ^ k = omega (arith, e) in (unique a b (10 ^ k) 0 (ten_pos k) f).0
 
@@ -95,9 +106,11 @@ by_left v m up down h =
     let p : v * 10 ^ up ≡ v * 10 ^ (up - down) * 10 ^ down = ap (λ (y : ℕ). v * 10 ^ y) s ∙ (ap (λ (y : ℕ). v * y) (pow-add 10 (up - down) down) ∙ sym (mul_assoc v (10 ^ (up - down)) (10 ^ down))) in
     (λ e. p ∙ ap (λ (y : ℕ). y * 10 ^ down) e, λ e. cancel _ _ down (sym p ∙ e))
 
+-- powers of ten on both sides, the right one no smaller
 pub by_right : (v m up down : ℕ) → up ≤ down → (v ≡ m * 10 ^ (down - up)) ↔ (v * 10 ^ up ≡ m * 10 ^ down)
 by_right v m up down h = let w = by_left m v down up h in (λ e. sym (w.0 (sym e)), λ e. sym (w.1 (sym e)))
 
+-- exactly 0 times a power of ten is 0
 pub zero_times : (v up down m : ℕ) → m ≡ 0 → (v ≡ 0) ↔ (v * 10 ^ up ≡ m * 10 ^ down)
 zero_times v up down m z =
     let zero_right : m * 10 ^ down ≡ 0 = ap (λ (y : ℕ). y * 10 ^ down) z ∙ omega arith in (
@@ -128,17 +141,21 @@ too_few ds m k short pos a e =
     let more : 1 * 10 ^ k ≤ m * 10 ^ k = mul-le-mul_right (10 ^ k) pos in
     omega (arith, value_lt ds a, e, one, p, more)
 
+-- a digit lies from 48 to 57
 pub digit_at : (ds : List ℕ) (i : ℕ) → IsDigits ds → i < length ds → (48 ≤ get_or ds i 0) × (get_or ds i 0 ≤ 57)
 digit_at [] i a h = absurd (omega arith)
 digit_at (d ∷ ds) zero a h = let b = and_parts _ _ (and_parts (is_digit d) _ a).0 in (leb-true 48 d b.0, leb-true d 57 b.1)
 digit_at (d ∷ ds) (suc i) a h = digit_at ds i (and_parts (is_digit d) _ a).1 (omega arith)
 
+-- two equivalences, one after the other
 pub iff_join : {A B C : Type 0} → A ↔ B → B ↔ C → A ↔ C
 iff_join f g = (λ a. g.0 (f.0 a), λ c. f.1 (g.1 c))
 
+-- a number without its zeros at the end
 pub via_lowered : (v m k n : ℕ) → m * 10 ^ k ≡ n → (v ≡ m) ↔ (v * 10 ^ k ≡ n)
 via_lowered v m k n e = (λ f. ap (λ (y : ℕ). y * 10 ^ k) f ∙ e, λ f. cancel v m k (f ∙ sym e))
 
+-- one more zero is taken off
 pub lower : (m i n : ℕ) → m % 10 ≡ 0 → m * 10 ^ i ≡ n → m / 10 * 10 ^ (i + 1) ≡ n
 lower m i n z e =
     let q : m / 10 * 10 ≡ m = omega arith in

@@ -7,13 +7,14 @@ use Rattle.std.proofs.lemmas.List.{take-append-drop, length-take-le, length-drop
 use Rattle.std.proofs.lemmas.List.Folds.{list_all-append, length-prefix_len}
 use Rattle.std.proofs.lemmas.Bool.{and_from, eqb-true}
 use Rattle.fits_card.specs.Card.{IsText}
+use Rattle.std.proofs.lemmas.Option.{same_Some}
 use Rattle.fits_value.proofs.FrontLemmas.{chosen, prefix_passes}
 use Rattle.fits_value.proofs.TrimLemmas.{trims}
 use Rattle.fits_value.proofs.PartLemmas.{part_is}
 use Rattle.fits_value.proofs.ValueScanLemmas.{value_found}
 use Rattle.fits_value.specs.Spelling.{is_space, IsSpaces, Spells}
 use Rattle.fits_value.specs.Field.{FieldReadsAs, IsPlacedIn, part}
-use Rattle.fits_value.specs.Scan.{value_of, value_span, ending_of, valued_of, reading_of}
+use Rattle.fits_value.specs.Scan.{front_value, value_span, ending_of, valued_of, reading_of}
 use Rattle.fits_value.specs.declared.reading.ValueKind.{ValueKind}
 use Rattle.fits_value.specs.declared.reading.ValueKind.TheVariants.{Undefined, Logical, Integer, Real, Complex, Str}
 use Rattle.fits_value.specs.declared.reading.Span.{Span}
@@ -125,14 +126,10 @@ comment_describes text before spelling after comment spaces k h c s =
       };
     }
 
--- the reading that is known
-pub some_reading : (x y : Reading) → Some x ≡ Some y → x ≡ y
-some_reading x y e = (cc)
-
 -- the reading that an ending gives
 ending_describes : (text before spelling after ending : List ℕ) (k : ValueKind) (r : Reading) → IsCut text k before spelling after ending
     → ending_of k (span_after before spelling) (length before + length spelling + length after) ending ≡ Some r → Describes text r
-ending_describes text before spelling after [] k r h e = subst (λ (x : Reading). Describes text x) (some_reading _ r e) (plain_describes text before spelling after k h)
+ending_describes text before spelling after [] k r h e = subst (λ (x : Reading). Describes text x) (same_Some _ r e) (plain_describes text before spelling after k h)
 ending_describes text before spelling after (c ∷ s) k r h e =
     let n = length before + length spelling + length after in
     let value = span_after before spelling in
@@ -143,7 +140,7 @@ ending_describes text before spelling after (c ∷ s) k r h e =
           let is : c ∷ s ≡ 47 ∷ (t.front ++ t.back) = ap (λ (x : ℕ). x ∷ s) (eqb-true c 47 w.0) ∙ ap (λ (x : List ℕ). 47 ∷ x) t.whole in
           let made : Reading = record { kind = k; value = value; comment = Some (record { start = n + 1; end = n + 1 + length t.front }) } in
           let same : made ≡ r =
-          ap (λ (m : ℕ). let x : Reading = record { kind = k; value = value; comment = Some (record { start = n + 1; end = n + 1 + m }) } in x) (sym size) ∙ some_reading _ r w.1 in
+          ap (λ (m : ℕ). let x : Reading = record { kind = k; value = value; comment = Some (record { start = n + 1; end = n + 1 + m }) } in x) (sym size) ∙ same_Some _ r w.1 in
           subst (λ (x : Reading). Describes text x) same
           (comment_describes text before spelling after t.front t.back k (subst (λ (x : List ℕ). IsCut text k before spelling after x) is h) t.stops t.passes)
       | inr w ↦ absurd (let z = w.1 in (cc))
@@ -198,8 +195,8 @@ parts_describe text before spelling after ending k r whole is_text b a h e = eli
 ]
 
 -- the size of no value in an empty list
-empty_size : (k : ValueKind) (n : ℕ) → value_of [] ≡ Some (k, n) → 0 ≡ n
-unfolding value_of
+empty_size : (k : ValueKind) (n : ℕ) → front_value [] ≡ Some (k, n) → 0 ≡ n
+unfolding front_value
 empty_size k n e = let x : ValueKind × ℕ = (Undefined, 0) in let y : ValueKind × ℕ = (k, n) in let p : x ≡ y = (cc) in ap (λ (z : ValueKind × ℕ). z.1) p
 
 -- nothing was taken from a list that is not empty
@@ -208,21 +205,21 @@ take_none zero b s e = refl
 take_none (suc n) b s e = absurd (cc)
 
 -- no value takes no bytes
-none_size : (s : List ℕ) (k : ValueKind) (n : ℕ) → value_of s ≡ Some (k, n) → k ≡ Undefined → n ≡ 0
+none_size : (s : List ℕ) (k : ValueKind) (n : ℕ) → front_value s ≡ Some (k, n) → k ≡ Undefined → n ≡ 0
 none_size [] k n e u = sym (empty_size k n e)
 none_size (b ∷ s) k n e u = take_none n b s (undefined_spelled k (take n (b ∷ s)) u (value_found (b ∷ s) k n e))
 
 -- the value of a reading
 pub ending_value : (k : ValueKind) (v : Span) (n : ℕ) (s : List ℕ) (r : Reading) → ending_of k v n s ≡ Some r → v ≡ r.value
-ending_value k v n [] r e = ap (λ (x : Reading). x.value) (some_reading _ r e)
+ending_value k v n [] r e = ap (λ (x : Reading). x.value) (same_Some _ r e)
 ending_value k v n (c ∷ s) r e = elim (chosen (eqb c 47) _ None (Some r) e) [
-  | inl w ↦ ap (λ (x : Reading). x.value) (some_reading _ r w.1)
+  | inl w ↦ ap (λ (x : Reading). x.value) (same_Some _ r w.1)
   | inr w ↦ absurd (let z = w.1 in (cc))
 ]
 
 -- a value that was taken lies in the text
 value_size : (text : List ℕ) (v : ValueKind × ℕ) (r : Reading) → prefix_len is_space text ≤ length text → r.value.end ≤ length text
-    → value_of (drop (prefix_len is_space text) text) ≡ Some v → value_span v.0 (prefix_len is_space text) v.1 ≡ r.value → v.1 ≤ length (drop (prefix_len is_space text) text)
+    → front_value (drop (prefix_len is_space text) text) ≡ Some v → value_span v.0 (prefix_len is_space text) v.1 ≡ r.value → v.1 ≤ length (drop (prefix_len is_space text) text)
 value_size text v r within last e f =
     let a = prefix_len is_space text in
     let size : length (drop a text) ≡ length text - a = length-drop a text in
@@ -235,7 +232,7 @@ value_size text v r within last e f =
 
 -- the reading of a value that was taken
 valued_describes : (text : List ℕ) (v : Option (ValueKind × ℕ)) (r : Reading) → IsText text → r.value.end ≤ length text
-    → value_of (drop (prefix_len is_space text) text) ≡ v → valued_of (prefix_len is_space text) (drop (prefix_len is_space text) text) v ≡ Some r → Describes text r
+    → front_value (drop (prefix_len is_space text) text) ≡ v → valued_of (prefix_len is_space text) (drop (prefix_len is_space text) text) v ≡ Some r → Describes text r
 valued_describes text None r is_text last e f = absurd (cc)
 valued_describes text (Some v) r is_text last e f =
     let a = prefix_len is_space text in
@@ -255,7 +252,7 @@ valued_describes text (Some v) r is_text last e f =
 -- a reading that is found is said
 reading_found : (text : List ℕ) (r : Reading) → IsText text → r.value.end ≤ length text → reading_of text ≡ Some r → Describes text r
 unfolding reading_of
-reading_found text r is_text last e = valued_describes text (value_of (drop (prefix_len is_space text) text)) r is_text last refl e
+reading_found text r is_text last e = valued_describes text (front_value (drop (prefix_len is_space text) text)) r is_text last refl e
 
 -- so is whatever reading is found
 scan_found : (text : List ℕ) (found : Option Reading) → IsText text → IfSome found (λ (r : Reading). r.value.end ≤ length text) → found ≡ reading_of text → IfSome found (Describes text)

@@ -6,15 +6,16 @@ use Rattle.std.specs.Option.{option_map}
 use Rattle.std.proofs.Math.Seq.{drop-append_seam}
 use Rattle.std.proofs.lemmas.List.{append-nil}
 use Rattle.std.proofs.lemmas.Bool.{and_parts, eqb-true}
+use Rattle.std.proofs.lemmas.Option.{same_Some}
 use Rattle.fits_value.proofs.FrontLemmas.{Stops, prefix_len-front}
 use Rattle.fits_value.proofs.TrimLemmas.{suffix_len-back}
 use Rattle.fits_value.proofs.PartLemmas.{part_is}
 use Rattle.fits_value.proofs.NumberScanLemmas.{Separates}
 use Rattle.fits_value.proofs.ValueScanLemmas.{value_only, value_undefined, spelled_stops}
-use Rattle.fits_value.proofs.FieldLemmas.{is_undefined, undefined_spelled, all_two, value_span-some, value_span-none, some_reading, span_after}
+use Rattle.fits_value.proofs.FieldLemmas.{is_undefined, undefined_spelled, all_two, value_span-some, value_span-none, span_after}
 use Rattle.fits_value.specs.Spelling.{is_space, IsSpaces}
 use Rattle.fits_value.specs.Field.{IsEndingOf, FieldReadsAs, part}
-use Rattle.fits_value.specs.Scan.{value_of, value_span, ending_of, reading_of}
+use Rattle.fits_value.specs.Scan.{front_value, value_span, ending_of, reading_of}
 use Rattle.fits_value.specs.declared.reading.ValueKind.{ValueKind}
 use Rattle.fits_value.specs.declared.reading.ValueKind.TheVariants.{Undefined}
 use Rattle.fits_value.specs.declared.reading.Span.{Span}
@@ -22,7 +23,7 @@ use Rattle.fits_value.specs.declared.reading.Reading.{Reading}
 
 -- the steps of a text that is cut into the parts of a field
 parts_found : (text before v after ending : List ℕ) (k : ValueKind) → text ≡ before ++ (v ++ (after ++ ending)) → IsSpaces before → IsSpaces after
-    → Stops is_space (v ++ (after ++ ending)) → value_of (v ++ (after ++ ending)) ≡ Some (k, length v) → Stops is_space ending
+    → Stops is_space (v ++ (after ++ ending)) → front_value (v ++ (after ++ ending)) ≡ Some (k, length v) → Stops is_space ending
     → reading_of text ≡ ending_of k (value_span k (length before) (length v)) (length before + length v + length after) ending
 unfolding reading_of
 parts_found text before v after ending k e b a s f t =
@@ -76,7 +77,7 @@ none_only text k v comment e h =
     let none : v ≡ [] = undefined_spelled k v e h.spelled in
     let front : List ℕ = h.before ++ h.after in
     let parts : text ≡ front ++ h.ending = h.parts ∙ rw none (simp (append_assoc, append-nil)) in
-    let value : value_of h.ending ≡ Some (k, 0) = value_undefined h.ending (ending_first h.ending comment h.ends) ∙ ap (λ (x : ValueKind). let y : ValueKind × ℕ = (x, 0) in Some y) (sym e) in
+    let value : front_value h.ending ≡ Some (k, 0) = value_undefined h.ending (ending_first h.ending comment h.ends) ∙ ap (λ (x : ValueKind). let y : ValueKind × ℕ = (x, 0) in Some y) (sym e) in
     let stops = ending_stops h.ending comment h.ends in
     let found = parts_found text front [] [] h.ending k parts (all_two h.before h.after h.spaced.0 h.spaced.1) refl stops value stops in
     let at : value_span k (length front) 0 ≡ record { start = 0; end = 0 } = value_span-none k (length front) 0 e in
@@ -114,7 +115,7 @@ pub one_reading : (text : List ℕ) (k j : ValueKind) (s t : List ℕ) (c d : Op
 one_reading text k j s t c d g h =
     let x = reading_only text k s c g in
     let y = reading_only text j t d h in
-    let same : x.0 ≡ y.0 = some_reading x.0 y.0 (sym x.1 ∙ y.1) in (
+    let same : x.0 ≡ y.0 = same_Some x.0 y.0 (sym x.1 ∙ y.1) in (
       sym x.2 ∙ (ap (λ (r : Reading). r.kind) same ∙ y.2),
       sym x.3 ∙ (ap (λ (r : Reading). part text r.value) same ∙ y.3),
       sym x.4 ∙ (ap (λ (r : Reading). option_map (part text) r.comment) same ∙ y.4),

@@ -1,59 +1,41 @@
 -- What places say, as a function and as a relation: each string has its chain.
-use Rattle.std.proofs.Common.{◌≡◌, ℕ, ◌-◌, true, false, List, [], ◌∷◌, ◌++◌, length, take, drop, codes, bytes_eq, All, Option, None, Some, refl, sym, ◌∙◌, ap, subst, arith, inl, inr, ◌&&◌, append_assoc, length-append}
+use Rattle.std.proofs.Common.{◌≡◌, ℕ, ◌+◌, cond, List, [], ◌∷◌, ◌++◌, length, take, arith, codes, bytes_eq, All, Option, None, Some, refl, sym, ◌∙◌, ap, subst, inl, inr, ◌&&◌, append_assoc}
 use Rattle.std.specs.List.{flat_map}
 use Rattle.std.specs.Option.{option_map}
-use Rattle.std.proofs.Math.Seq.{drop-append_seam}
 use Rattle.std.proofs.lemmas.Bool.{cases_Bool, both_ways, and_parts, and_from, cond-true, cond-false}
-use Rattle.std.proofs.lemmas.List.{take-append-drop}
 use Rattle.std.proofs.lemmas.List.Elements.{All-cons, All-nil}
 use Rattle.std.proofs.lemmas.Slice.Eq.{bytes_eq-Decides}
+use Rattle.std.proofs.lemmas.Option.{some_pair_parts}
 use Rattle.fits_card.specs.Card.{keyword_name, indicator, has_value, HasValue}
+use Rattle.fits_value.proofs.AmpersandLemmas.{ampersand_told, ampersand_said}
+use Rattle.fits_value.proofs.ChainingLemmas.{Link, card_string-said, link_string-said}
+use Rattle.fits_value.proofs.PlaceLemmas.{chain_length-string}
 use Rattle.fits_value.proofs.FrontLemmas.{chosen, option_map_some}
-use Rattle.fits_value.proofs.LongStringLemmas.{cons_parts, chain_begins}
-use Rattle.fits_value.proofs.LongValueLemmas.{long_none, long_only, long_alone, valueless, stringless}
+use Rattle.fits_value.proofs.LongStringLemmas.{cons_parts, chain_begins, one_chain}
+use Rattle.fits_value.proofs.LongValueLemmas.{long_only, long_alone, valueless, stringless}
 use Rattle.fits_value.proofs.ReadLemmas.{Said, same_said}
-use Rattle.fits_value.proofs.SaysLemmas.{card_said, card_told, nothing_said}
+use Rattle.fits_value.proofs.SaysLemmas.{card_said, card_told}
 use Rattle.fits_value.specs.Text.{normal_form}
 use Rattle.fits_value.specs.Value.{CardSays}
-use Rattle.fits_value.specs.LongString.{Piece, SaysPiece, IsContinueCard, EndsInAmpersand, BeginsWithContinue, IsRun, LongSays, cards_from, without_last}
-use Rattle.fits_value.specs.Says.{card_says, string_of, string_said, link_says, link_before, links_of, ends_in_ampersand, joined, continued, first_says, long_says}
+use Rattle.fits_value.specs.LongString.{Piece, SaysPiece, IsContinueCard, EndsInAmpersand, BeginsWithContinue, BeginsChain, IsChain, IsRun, LongSays, cards_from, without_last}
+use Rattle.fits_value.specs.Says.{card_says, string_with, said_string, card_string, is_continue, link_string, link_says, link_before, links_of, ends_in_ampersand, joined, links_after, string_cards, continued, first_says, first_chain_length, long_says, chain_length}
 use Rattle.fits_value.specs.declared.value.Value.{Value}
 use Rattle.fits_value.specs.declared.value.Value.TheVariants.{Str}
 
--- a string with its comment
-abbrev Link : Type 0
-Link = List ℕ × Option (List ℕ)
-
--- an ampersand is found at the end
-ampersand_told : (text : List ℕ) → ends_in_ampersand text ≡ true → EndsInAmpersand text
-ampersand_told text e =
-    let n = length text - 1 in
-    (take n text, sym (take-append-drop n text) ∙ ap (λ (x : List ℕ). take n text ++ x) ((bytes_eq-Decides (drop n text) (codes "&")).0 e))
-
--- one at the end is found
-ampersand_said : (text : List ℕ) → EndsInAmpersand text → ends_in_ampersand text ≡ true
-ampersand_said text h =
-    let n : length text - 1 ≡ length h.0 = omega (arith, ap length h.1, length-append h.0 (38 ∷ [])) in
-    (bytes_eq-Decides (drop (length text - 1) text) (codes "&")).1 (ap (λ (k : ℕ). drop k text) n ∙ (ap (λ (x : List ℕ). drop (length h.0) x) h.1 ∙ drop-append_seam h.0 (38 ∷ [])))
-
--- the string that is known
-some_link : (x y : Link) → Some x ≡ Some y → (x.0 ≡ y.0) × (x.1 ≡ y.1)
-some_link x y e = let p : x ≡ y = (cc) in (ap (λ (z : Link). z.0) p, ap (λ (z : Link). z.1) p)
-
 -- a value that is a string
-string_value : (v : Value) (c : Option (List ℕ)) (link : Link) → string_of v c ≡ Some link → (v ≡ Str link.0) × (c ≡ link.1)
-string_value (Str text) c link e = let p = some_link (text, c) link e in (ap Str p.0, p.1)
+string_value : (v : Value) (c : Option (List ℕ)) (link : Link) → string_with v c ≡ Some link → (v ≡ Str link.0) × (c ≡ link.1)
+string_value (Str text) c link e = let p = some_pair_parts text link.0 c link.1 e in (ap Str p.0, p.1)
 string_value v c link e = absurd (cc)
 
 -- what is said and is a string
-string_told : (o : Option Said) (link : Link) → string_said o ≡ Some link → o ≡ Some (Str link.0, link.1)
+string_told : (o : Option Said) (link : Link) → said_string o ≡ Some link → o ≡ Some (Str link.0, link.1)
 string_told None link e = absurd (cc)
 string_told (Some x) link e = let p = string_value x.0 x.1 link e in same_said x (Str link.0, link.1) p.0 p.1
 
 -- a link is a proper CONTINUE card, which says its string
 link_told : (card : List ℕ) (link : Link) → link_says card ≡ Some link → IsContinueCard card × CardSays card (Str link.0) link.1
-unfolding link_says
-link_told card link e = elim (chosen (bytes_eq (keyword_name card) (codes "CONTINUE") && bytes_eq (indicator card) (codes "  ")) (string_said (card_says card)) None (Some link) e) [
+unfolding link_says is_continue
+link_told card link e = elim (chosen (bytes_eq (keyword_name card) (codes "CONTINUE") && bytes_eq (indicator card) (codes "  ")) (said_string (card_says card)) None (Some link) e) [
   | inl w ↦
       let both = and_parts (bytes_eq (keyword_name card) (codes "CONTINUE")) (bytes_eq (indicator card) (codes "  ")) w.0 in
       let says = card_told card (Str link.0) link.1 (string_told (card_says card) link w.1) in (
@@ -71,11 +53,11 @@ link_told card link e = elim (chosen (bytes_eq (keyword_name card) (codes "CONTI
 
 -- a proper CONTINUE card is a link
 link_said : (card : List ℕ) → (h : IsContinueCard card) → link_says card ≡ Some (h.text, h.comment)
-unfolding link_says
+unfolding link_says is_continue
 link_said card h =
     let named = (bytes_eq-Decides (keyword_name card) (codes "CONTINUE")).1 h.named in
     let spaced = (bytes_eq-Decides (indicator card) (codes "  ")).1 h.not_indicated in
-    cond-true (bytes_eq (keyword_name card) (codes "CONTINUE") && bytes_eq (indicator card) (codes "  ")) (string_said (card_says card)) None (and_from _ _ named spaced) ∙ ap string_said (card_said card (Str h.text) h.comment h.says)
+    cond-true (bytes_eq (keyword_name card) (codes "CONTINUE") && bytes_eq (indicator card) (codes "  ")) (said_string (card_says card)) None (and_from _ _ named spaced) ∙ ap said_string (card_said card (Str h.text) h.comment h.says)
 
 -- a card that is no link does not continue a chain
 link_missed : (card : List ℕ) (cards : List (List ℕ)) → link_says card ≡ None → BeginsWithContinue (card ∷ cards) → ⊥
@@ -89,8 +71,8 @@ link_missed card cards e h =
 none_behind : BeginsWithContinue [] → ⊥
 none_behind h = let e = h.2 in (cc)
 
--- the chain that begins with a piece, and what it joins to
-record Chains (piece : Piece) (cards : List (List ℕ)) (whole : Link) : Type 0 where
+-- the chain that begins with a piece, what it joins to and how many links it has
+record Chains (piece : Piece) (cards : List (List ℕ)) (whole : Link) (links : ℕ) : Type 0 where
   front : List Piece
   last : Piece
   rest : List (List ℕ)
@@ -98,9 +80,10 @@ record Chains (piece : Piece) (cards : List (List ℕ)) (whole : Link) : Type 0 
   longest : EndsInAmpersand last.text → BeginsWithContinue rest → ⊥
   joined_is : whole.0 ≡ flat_map (λ p. without_last p.text) front ++ last.text
   comment_is : whole.1 ≡ last.comment
+  size : length front ≡ links
 
 -- a piece that nothing continues
-chain_ends : (piece : Piece) (cards : List (List ℕ)) → SaysPiece piece → (EndsInAmpersand piece.text → BeginsWithContinue cards → ⊥) → Chains piece cards (piece.text, piece.comment)
+chain_ends : (piece : Piece) (cards : List (List ℕ)) → SaysPiece piece → (EndsInAmpersand piece.text → BeginsWithContinue cards → ⊥) → Chains piece cards (piece.text, piece.comment) 0
 chain_ends piece cards says longest = record {
   front = [];
   last = piece;
@@ -114,6 +97,7 @@ chain_ends piece cards says longest = record {
   longest = longest;
   joined_is = refl;
   comment_is = refl;
+  size = refl;
 }
 
 -- all pieces of a run stand on proper CONTINUE cards where the first does
@@ -126,9 +110,9 @@ all_continue card cards (p ∷ front) last rest is h =
     All-cons (λ (x : Piece). IsContinueCard x.card) p (front ++ last ∷ []) (subst (λ (x : List ℕ). IsContinueCard x) same is) h.continued
 
 -- a piece that a chain continues
-chain_grows : (piece : Piece) (card : List ℕ) (cards : List (List ℕ)) (next : Piece) (whole : Link) → SaysPiece piece → EndsInAmpersand piece.text → next.card ≡ card → IsContinueCard card → Chains next cards whole
-    → Chains piece (card ∷ cards) (without_last piece.text ++ whole.0, whole.1)
-chain_grows piece card cards next whole says is_open at is h =
+chain_grows : (piece : Piece) (card : List ℕ) (cards : List (List ℕ)) (next : Piece) (whole : Link) (links : ℕ) → SaysPiece piece → EndsInAmpersand piece.text → next.card ≡ card → IsContinueCard card → Chains next cards whole links
+    → Chains piece (card ∷ cards) (without_last piece.text ++ whole.0, whole.1) (1 + links)
+chain_grows piece card cards next whole links says is_open at is h =
     let run = subst (λ (x : List ℕ). IsRun (x ∷ cards) h.front h.last h.rest) at h.run in
     record {
       front = piece ∷ h.front;
@@ -143,11 +127,13 @@ chain_grows piece card cards next whole says is_open at is h =
       longest = h.longest;
       joined_is = ap (λ (x : List ℕ). without_last piece.text ++ x) h.joined_is ∙ sym (append_assoc (without_last piece.text) _ h.last.text);
       comment_is = h.comment_is;
+      size = omega (arith, h.size);
     }
 
 -- what a piece is joined to, by what the card behind it says
 chain_behind : (piece : Piece) (card : List ℕ) (cards : List (List ℕ)) (o : Option Link) → SaysPiece piece → link_says card ≡ o
-    → ((next : Piece) → SaysPiece next → Chains next cards (joined next.text next.comment (links_of cards))) → Chains piece (card ∷ cards) (joined piece.text piece.comment (link_before o (links_of cards)))
+    → ((next : Piece) → SaysPiece next → Chains next cards (joined next.text next.comment (links_of cards)) (links_after next.text (links_of cards)))
+    → Chains piece (card ∷ cards) (joined piece.text piece.comment (link_before o (links_of cards))) (links_after piece.text (link_before o (links_of cards)))
 chain_behind piece card cards None says e more = chain_ends piece (card ∷ cards) says (λ _ begins. link_missed card cards e begins)
 chain_behind piece card cards (Some link) says e more =
     let next : Piece = record { card = card; text = link.0; comment = link.1 } in
@@ -155,26 +141,39 @@ chain_behind piece card cards (Some link) says e more =
     let whole = joined link.0 link.1 (links_of cards) in
     let on : Link = (without_last piece.text ++ whole.0, whole.1) in
     let off : Link = (piece.text, piece.comment) in
+    let more_links = links_after link.0 (links_of cards) in
+    let count = cond (ends_in_ampersand piece.text) (1 + more_links) 0 in
     elim (cases_Bool (ends_in_ampersand piece.text)) [
       | inl is_open ↦
-          subst (λ (x : Link). Chains piece (card ∷ cards) x) (sym (cond-true (ends_in_ampersand piece.text) on off is_open))
-          (chain_grows piece card cards next whole says (ampersand_told piece.text is_open) refl told.0 (more next told.1))
+          subst (λ (x : Link). Chains piece (card ∷ cards) x count) (sym (cond-true (ends_in_ampersand piece.text) on off is_open))
+          (subst (λ (n : ℕ). Chains piece (card ∷ cards) on n) (sym (cond-true (ends_in_ampersand piece.text) (1 + more_links) 0 is_open))
+          (chain_grows piece card cards next whole more_links says (ampersand_told piece.text is_open) refl told.0 (more next told.1)))
       | inr closed ↦
-          subst (λ (x : Link). Chains piece (card ∷ cards) x) (sym (cond-false (ends_in_ampersand piece.text) on off closed))
-          (chain_ends piece (card ∷ cards) says (λ is_open _. both_ways (ends_in_ampersand piece.text) closed (ampersand_said piece.text is_open)))
+          subst (λ (x : Link). Chains piece (card ∷ cards) x count) (sym (cond-false (ends_in_ampersand piece.text) on off closed))
+          (subst (λ (n : ℕ). Chains piece (card ∷ cards) off n) (sym (cond-false (ends_in_ampersand piece.text) (1 + more_links) 0 closed))
+          (chain_ends piece (card ∷ cards) says (λ is_open _. both_ways (ends_in_ampersand piece.text) closed (ampersand_said piece.text is_open))))
     ]
 
 -- each piece begins a chain, which joins to what its links do
-chain_made : (cards : List (List ℕ)) (piece : Piece) → SaysPiece piece → Chains piece cards (joined piece.text piece.comment (links_of cards))
+chain_made : (cards : List (List ℕ)) (piece : Piece) → SaysPiece piece → Chains piece cards (joined piece.text piece.comment (links_of cards)) (links_after piece.text (links_of cards))
 chain_made [] piece says = chain_ends piece [] says (λ _ begins. none_behind begins)
 chain_made (card ∷ cards) piece says = chain_behind piece card cards (link_says card) says refl (chain_made cards)
 
--- a card's value with what continues it, where it has a value field
-continued_told : (cards : List (List ℕ)) (place : ℕ) (card : List ℕ) (rest : List (List ℕ)) (v : Value) (c : Option (List ℕ)) → cards_from cards place ≡ card ∷ rest → HasValue card → CardSays card v c
-    → LongSays cards place (continued v c rest).0 (continued v c rest).1
-continued_told cards place card rest (Str text) c at value says =
+-- the chain of a card whose value is a string
+record IsChainOf (cards : List (List ℕ)) (place : ℕ) (whole : Link) (links : ℕ) : Type 0 where
+  front : List Piece
+  last : Piece
+  is_chain : IsChain cards place front last
+  joined_is : whole.0 ≡ flat_map (λ p. without_last p.text) front ++ last.text
+  comment_is : whole.1 ≡ last.comment
+  size : length front ≡ links
+
+-- each has one
+chain_of : (cards : List (List ℕ)) (place : ℕ) (card : List ℕ) (rest : List (List ℕ)) (text : List ℕ) (c : Option (List ℕ)) → cards_from cards place ≡ card ∷ rest → HasValue card → CardSays card (Str text) c
+    → IsChainOf cards place (joined text c (links_of rest)) (links_after text (links_of rest))
+chain_of cards place card rest text c at value says =
     let h = chain_made rest (record { card = card; text = text; comment = c }) says in
-    inl (record {
+    record {
       front = h.front;
       last = h.last;
       is_chain = record {
@@ -183,6 +182,20 @@ continued_told cards place card rest (Str text) c at value says =
         first = subst (λ (x : List (List ℕ)). All HasValue (take 1 x)) (sym at) (All-cons HasValue card [] value (All-nil HasValue));
         longest = h.longest;
       };
+      joined_is = h.joined_is;
+      comment_is = h.comment_is;
+      size = h.size;
+    }
+
+-- a card's value with what continues it, where it has a value field
+continued_told : (cards : List (List ℕ)) (place : ℕ) (card : List ℕ) (rest : List (List ℕ)) (v : Value) (c : Option (List ℕ)) → cards_from cards place ≡ card ∷ rest → HasValue card → CardSays card v c
+    → LongSays cards place (continued v c rest).0 (continued v c rest).1
+continued_told cards place card rest (Str text) c at value says =
+    let h = chain_of cards place card rest text c at value says in
+    inl (record {
+      front = h.front;
+      last = h.last;
+      is_chain = h.is_chain;
       value_is = ap (λ (x : List ℕ). Str (normal_form x)) h.joined_is;
       comment_is = h.comment_is;
     })
@@ -236,18 +249,85 @@ place_said cards place v c h =
     let told = first_told cards place (cards_from cards place) found.0.0 found.0.1 refl found.1 in
     found.1 ∙ long_only cards place found.0 (v, c) told h
 
--- a place whose card says nothing says nothing
-pub place_silent : (cards : List (List ℕ)) (place : ℕ) (card : List ℕ) (rest : List (List ℕ)) → cards_from cards place ≡ card ∷ rest → ((v : Value) (c : Option (List ℕ)) → CardSays card v c → ⊥) → long_says cards place ≡ None
-place_silent cards place card rest at none = nothing_said (long_says cards place) (λ x e. let f = long_none cards place card rest at none x (place_told cards place x.0 x.1 e) in (cc))
+-- a card that begins a chain
+record BeginsWith (cards : List (List ℕ)) : Type 0 where
+  card : List ℕ
+  rest : List (List ℕ)
+  text : List ℕ
+  comment : Option (List ℕ)
+  at : cards ≡ card ∷ rest
+  value : HasValue card
+  says : CardSays card (Str text) comment
 
--- a place whose card says no string says what its card does
-pub place_stringless : (cards : List (List ℕ)) (place : ℕ) (card : List ℕ) (rest : List (List ℕ)) (v : Value) (c : Option (List ℕ)) → cards_from cards place ≡ card ∷ rest → card_says card ≡ Some (v, c) → ((text : List ℕ) → v ≡ Str text → ⊥)
-    → long_says cards place ≡ Some (v, c)
-place_stringless cards place card rest v c at e none =
-    let says = card_told card v c e in
-    place_said cards place v c (long_alone cards place card rest v c at says (stringless cards place card rest v c at says none))
+-- the first card of a chain is one
+begins_with : (cards : List (List ℕ)) (piece : Piece) → All HasValue (take 1 cards) → SaysPiece piece → take 1 cards ≡ piece.card ∷ [] → BeginsWith cards
+begins_with [] piece first says at = absurd (cc)
+begins_with (card ∷ rest) piece first says at =
+    let same : card ≡ piece.card = (cons_parts card piece.card [] [] at).0 in
+    record {
+      card = card;
+      rest = rest;
+      text = piece.text;
+      comment = piece.comment;
+      at = refl;
+      value = first 0 card (omega arith);
+      says = subst (λ (x : List ℕ). CardSays x (Str piece.text) piece.comment) (sym same) says;
+    }
 
--- so does one whose card has no value field
-pub place_valueless : (cards : List (List ℕ)) (place : ℕ) (card : List ℕ) (rest : List (List ℕ)) → cards_from cards place ≡ card ∷ rest → has_value card ≡ false → long_says cards place ≡ card_says card
-unfolding long_says
-place_valueless cards place card rest at e = ap first_says at ∙ cond-false (has_value card) _ _ e
+-- how many cards a chain has
+pub chain_length-chain : (cards : List (List ℕ)) (place : ℕ) (front : List Piece) (last : Piece) → IsChain cards place front last → chain_length cards place ≡ length front + 1
+chain_length-chain cards place front last h =
+    let b = chain_begins cards place front last h in
+    let w = begins_with (cards_from cards place) b.piece b.first b.says b.at in
+    let own = chain_of cards place w.card w.rest w.text w.comment w.at w.value w.says in
+    let same = one_chain cards place front own.front last own.last h own.is_chain in
+    let count = chain_length-string cards place w.card w.rest w.at w.text w.value (card_string-said w.card w.text w.comment (card_said w.card (Str w.text) w.comment w.says)) in
+    omega (arith, count, own.size, ap (λ (x : List Piece). length x) same.0)
+
+-- a card with a value that is a string begins a chain
+begins : (cards : List (List ℕ)) (place : ℕ) (card text : List ℕ) (rest : List (List ℕ)) (c : Option (List ℕ)) → cards_from cards place ≡ card ∷ rest → HasValue card → CardSays card (Str text) c → BeginsChain cards place
+begins cards place card text rest c at value says = record {
+  first = subst (λ (x : List (List ℕ)). All HasValue (take 1 x)) (sym at) (All-cons HasValue card [] value (All-nil HasValue));
+  piece = record { card = card; text = text; comment = c };
+  says = says;
+  at = ap (λ (x : List (List ℕ)). take 1 x) at;
+}
+
+-- where none begins there are none
+pub chain_length-none : (cards : List (List ℕ)) (place : ℕ) → (BeginsChain cards place → ⊥) → chain_length cards place ≡ 0
+unfolding chain_length card_string
+chain_length-none cards place none = first_none (cards_from cards place) refl
+  where
+    said_none : (card : List ℕ) (rest : List (List ℕ)) (o : Option Link) → cards_from cards place ≡ card ∷ rest → HasValue card → said_string (card_says card) ≡ o → string_cards (option_map (λ (x : Link). x.0) o) rest ≡ 0
+    said_none card rest None at value e = refl
+    said_none card rest (Some link) at value e = absurd (none (begins cards place card link.0 rest link.1 at value (card_told card (Str link.0) link.1 (string_told (card_says card) link e))))
+
+    first_none : (s : List (List ℕ)) → cards_from cards place ≡ s → first_chain_length s ≡ 0
+    first_none [] at = refl
+    first_none (card ∷ rest) at = elim (cases_Bool (has_value card)) [
+      | inl valued ↦ cond-true (has_value card) _ _ valued ∙ said_none card rest (said_string (card_says card)) at valued refl
+      | inr bare ↦ cond-false (has_value card) _ _ bare
+    ]
+
+-- the string of a card
+pub string_found : (card text : List ℕ) (comment : Option (List ℕ)) → CardSays card (Str text) comment → card_string card ≡ Some text
+string_found card text comment h = card_string-said card text comment (card_said card (Str text) comment h)
+
+-- is what the card says
+pub string_told_of : (card text : List ℕ) → card_string card ≡ Some text → (comment : Option (List ℕ)) × CardSays card (Str text) comment
+unfolding card_string
+string_told_of card text e =
+    let link = option_map_some (λ (x : Link). x.0) (said_string (card_says card)) text e in
+    let says = card_told card (Str link.0.0) link.0.1 (string_told (card_says card) link.0 link.1) in
+    (link.0.1, subst (λ (x : List ℕ). CardSays card (Str x) link.0.1) link.2 says)
+
+-- the string of a proper CONTINUE card
+pub link_found : (card : List ℕ) → (h : IsContinueCard card) → link_string card ≡ Some h.text
+link_found card h = link_string-said card ∙ ap (λ (o : Option Link). option_map (λ (x : Link). x.0) o) (link_said card h)
+
+-- stands on one
+pub link_told_of : (card text : List ℕ) → link_string card ≡ Some text → IsContinueCard card × ((comment : Option (List ℕ)) × CardSays card (Str text) comment)
+link_told_of card text e =
+    let link = option_map_some (λ (x : Link). x.0) (link_says card) text (sym (link_string-said card) ∙ e) in
+    let told = link_told card link.0 link.1 in
+    (told.0, (link.0.1, subst (λ (x : List ℕ). CardSays card (Str x) link.0.1) link.2 told.1))

@@ -1,6 +1,6 @@
 -- Chains of cards: each place has one at the most, and the run so far is no longer than it.
-use Rattle.std.proofs.Common.{◌≡◌, ℕ, ◌≤◌, List, [], ◌∷◌, ◌++◌, length, map, take, All, Option, refl, sym, ◌∙◌, ap, subst, arith, inl, inr}
-use Rattle.std.proofs.lemmas.List.Elements.{All-drop}
+use Rattle.std.proofs.Common.{◌≡◌, ℕ, ◌≤◌, List, [], ◌∷◌, ◌++◌, length, map, take, Option, refl, sym, ◌∙◌, ap, subst, arith, inl, inr}
+use Rattle.std.proofs.lemmas.List.Elements.{All-drop, All-head, All-tail}
 use Rattle.fits_value.proofs.ReadLemmas.{one_card_value}
 use Rattle.fits_value.specs.Value.{CardSays}
 use Rattle.fits_value.specs.LongString.{Piece, SaysPiece, IsContinueCard, EndsInAmpersand, BeginsWithContinue, IsRun, IsChain, BeginsChain, LongSays, chain_text, cards_from}
@@ -11,27 +11,19 @@ use Rattle.fits_value.specs.declared.value.Value.TheVariants.{Str}
 abbrev cards_of : List Piece → List (List ℕ)
 cards_of pieces = map (λ piece. piece.card) pieces
 
--- the first of a list whose elements all meet a fact
-all_head : {X : Type 0} (P : X → Type 0) (x : X) (xs : List X) → All P (x ∷ xs) → P x
-all_head P x xs h = h 0 x (omega arith)
-
--- the others
-all_tail : {X : Type 0} (P : X → Type 0) (x : X) (xs : List X) → All P (x ∷ xs) → All P xs
-all_tail P x xs h = All-drop P 1 (x ∷ xs) h
-
 -- a run without its first piece
 run_tail : (cards : List (List ℕ)) (p : Piece) (front : List Piece) (last : Piece) (rest : List (List ℕ)) → IsRun cards (p ∷ front) last rest → IsRun (cards_of (front ++ last ∷ []) ++ rest) front last rest
 run_tail cards p front last rest h = record {
   parts = refl;
-  say = all_tail SaysPiece p (front ++ last ∷ []) h.say;
-  are_open = all_tail (λ (x : Piece). EndsInAmpersand x.text) p front h.are_open;
+  say = All-tail SaysPiece p (front ++ last ∷ []) h.say;
+  are_open = All-tail (λ (x : Piece). EndsInAmpersand x.text) p front h.are_open;
   continued = All-drop (λ (x : Piece). IsContinueCard x.card) 1 (front ++ last ∷ []) h.continued;
 }
 
 -- a run of two cards or more goes on over a proper CONTINUE card
 run_continues : (cards : List (List ℕ)) (p : Piece) (front : List Piece) (last : Piece) (rest : List (List ℕ)) → IsRun cards (p ∷ front) last rest → BeginsWithContinue (cards_of (front ++ last ∷ []) ++ rest)
-run_continues cards p [] last rest h = (last.card, rest, refl, all_head (λ (piece : Piece). IsContinueCard piece.card) last [] h.continued)
-run_continues cards p (q ∷ front) last rest h = (q.card, cards_of (front ++ last ∷ []) ++ rest, refl, all_head (λ (piece : Piece). IsContinueCard piece.card) q (front ++ last ∷ []) h.continued)
+run_continues cards p [] last rest h = (last.card, rest, refl, All-head (λ (piece : Piece). IsContinueCard piece.card) last [] h.continued)
+run_continues cards p (q ∷ front) last rest h = (q.card, cards_of (front ++ last ∷ []) ++ rest, refl, All-head (λ (piece : Piece). IsContinueCard piece.card) q (front ++ last ∷ []) h.continued)
 
 -- cards that begin with the same card go on alike
 pub cons_parts : (a b : List ℕ) (s t : List (List ℕ)) → a ∷ s ≡ b ∷ t → (a ≡ b) × (s ≡ t)
@@ -57,8 +49,8 @@ pub run_within : (cards : List (List ℕ)) (f g : List Piece) (l m : Piece) (r s
 run_within cards [] g l m r s h k longest = omega arith
 run_within cards (p ∷ f) [] l m r s h k longest =
     let e = cons_parts p.card m.card (cards_of (f ++ l ∷ []) ++ r) s (sym h.parts ∙ k.parts) in
-    let same : p ≡ m = same_piece p m e.0 (all_head SaysPiece p (f ++ l ∷ []) h.say) (all_head SaysPiece m [] k.say) in
-    let is_open : EndsInAmpersand m.text = subst (λ (x : Piece). EndsInAmpersand x.text) same (all_head (λ (x : Piece). EndsInAmpersand x.text) p f h.are_open) in
+    let same : p ≡ m = same_piece p m e.0 (All-head SaysPiece p (f ++ l ∷ []) h.say) (All-head SaysPiece m [] k.say) in
+    let is_open : EndsInAmpersand m.text = subst (λ (x : Piece). EndsInAmpersand x.text) same (All-head (λ (x : Piece). EndsInAmpersand x.text) p f h.are_open) in
     absurd (longest is_open (subst (λ (x : List (List ℕ)). BeginsWithContinue x) e.1 (run_continues cards p f l r h)))
 run_within cards (p ∷ f) (q ∷ g) l m r s h k longest =
     let e = cons_parts p.card q.card (cards_of (f ++ l ∷ []) ++ r) (cards_of (g ++ m ∷ []) ++ s) (sym h.parts ∙ k.parts) in
@@ -72,12 +64,12 @@ pub one_run : (cards : List (List ℕ)) (f g : List Piece) (l m : Piece) (r s : 
     → (EndsInAmpersand l.text → BeginsWithContinue r → ⊥) → (EndsInAmpersand m.text → BeginsWithContinue s → ⊥) → (f ≡ g) × (l ≡ m)
 one_run cards [] [] l m r s h k longest longest' =
     let e = cons_parts l.card m.card r s (sym h.parts ∙ k.parts) in
-    (refl, same_piece l m e.0 (all_head SaysPiece l [] h.say) (all_head SaysPiece m [] k.say))
+    (refl, same_piece l m e.0 (All-head SaysPiece l [] h.say) (All-head SaysPiece m [] k.say))
 one_run cards [] (q ∷ g) l m r s h k longest longest' = let n = run_within cards (q ∷ g) [] m l s r k h longest in absurd (omega arith)
 one_run cards (p ∷ f) [] l m r s h k longest longest' = let n = run_within cards (p ∷ f) [] l m r s h k longest' in absurd (omega arith)
 one_run cards (p ∷ f) (q ∷ g) l m r s h k longest longest' =
     let e = cons_parts p.card q.card (cards_of (f ++ l ∷ []) ++ r) (cards_of (g ++ m ∷ []) ++ s) (sym h.parts ∙ k.parts) in
-    let same : p ≡ q = same_piece p q e.0 (all_head SaysPiece p (f ++ l ∷ []) h.say) (all_head SaysPiece q (g ++ m ∷ []) k.say) in
+    let same : p ≡ q = same_piece p q e.0 (All-head SaysPiece p (f ++ l ∷ []) h.say) (All-head SaysPiece q (g ++ m ∷ []) k.say) in
     let a = run_tail cards p f l r h in
     let b = subst (λ (x : List (List ℕ)). IsRun x g m s) (sym e.1) (run_tail cards q g m s k) in
     let others = one_run (cards_of (f ++ l ∷ []) ++ r) f g l m r s a b longest longest' in
@@ -95,8 +87,8 @@ record Starts (cards : List (List ℕ)) : Type 0 where
 
 -- each run does
 run_starts : (cards : List (List ℕ)) (f : List Piece) (l : Piece) (r : List (List ℕ)) → IsRun cards f l r → Starts cards
-run_starts cards [] l r h = record { piece = l; says = all_head SaysPiece l [] h.say; at = ap (λ (x : List (List ℕ)). take 1 x) h.parts }
-run_starts cards (p ∷ f) l r h = record { piece = p; says = all_head SaysPiece p (f ++ l ∷ []) h.say; at = ap (λ (x : List (List ℕ)). take 1 x) h.parts }
+run_starts cards [] l r h = record { piece = l; says = All-head SaysPiece l [] h.say; at = ap (λ (x : List (List ℕ)). take 1 x) h.parts }
+run_starts cards (p ∷ f) l r h = record { piece = p; says = All-head SaysPiece p (f ++ l ∷ []) h.say; at = ap (λ (x : List (List ℕ)). take 1 x) h.parts }
 
 -- a chain begins at its place
 pub chain_begins : (cards : List (List ℕ)) (place : ℕ) (f : List Piece) (l : Piece) → IsChain cards place f l → BeginsChain cards place

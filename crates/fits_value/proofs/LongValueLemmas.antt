@@ -1,9 +1,8 @@
 -- What a place says, from what its card says.
-use Rattle.std.proofs.Common.{◌≡◌, ℕ, List, [], ◌∷◌, take, All, Option, None, Some, sym, ◌∙◌, ap, subst, arith, inl, inr}
-use Rattle.std.proofs.lemmas.List.Elements.{All-cons, All-nil}
+use Rattle.std.proofs.Common.{◌≡◌, ℕ, List, [], ◌∷◌, take, All, Option, Some, sym, ◌∙◌, ap, subst, arith, inr}
 use Rattle.fits_card.specs.Card.{HasValue}
 use Rattle.fits_value.proofs.ReadLemmas.{Said, same_said, one_card_value}
-use Rattle.fits_value.proofs.LongStringLemmas.{chain_begins, one_long_value}
+use Rattle.fits_value.proofs.LongStringLemmas.{one_long_value}
 use Rattle.fits_value.specs.Value.{CardSays}
 use Rattle.fits_value.specs.LongString.{BeginsChain, LongSays, cards_from}
 use Rattle.fits_value.specs.declared.value.Value.{Value}
@@ -16,12 +15,6 @@ one_card a b s rest e f = let g : ◌≡◌ {A = List (List ℕ)} (b ∷ []) (a 
 -- the card of a chain says its first piece
 begun_says : (cards : List (List ℕ)) (place : ℕ) (card : List ℕ) (rest : List (List ℕ)) → cards_from cards place ≡ card ∷ rest → (h : BeginsChain cards place) → CardSays card (Str h.piece.text) h.piece.comment
 begun_says cards place card rest at h = subst (λ (x : List ℕ). CardSays x (Str h.piece.text) h.piece.comment) (one_card card h.piece.card (cards_from cards place) rest at h.at) h.says
-
--- a card that says nothing
-pub long_none : (cards : List (List ℕ)) (place : ℕ) (card : List ℕ) (rest : List (List ℕ)) → cards_from cards place ≡ card ∷ rest → ((v : Value) (c : Option (List ℕ)) → CardSays card v c → ⊥)
-    → (y : Said) → LongSays cards place y.0 y.1 → None ≡ Some y
-long_none cards place card rest at none y (inl h) = absurd (none _ _ (begun_says cards place card rest at (chain_begins cards place h.front h.last h.is_chain)))
-long_none cards place card rest at none y (inr h) = absurd (none y.0 y.1 (subst (λ (x : List ℕ). CardSays x y.0 y.1) (one_card card h.card (cards_from cards place) rest at h.at) h.says))
 
 -- what is said is what is found
 pub long_only : (cards : List (List ℕ)) (place : ℕ) (x y : Said) → LongSays cards place x.0 x.1 → LongSays cards place y.0 y.1 → Some x ≡ Some y
@@ -41,12 +34,3 @@ stringless cards place card rest v c at says none h =
 pub long_alone : (cards : List (List ℕ)) (place : ℕ) (card : List ℕ) (rest : List (List ℕ)) (v : Value) (c : Option (List ℕ)) → cards_from cards place ≡ card ∷ rest → CardSays card v c → (BeginsChain cards place → ⊥)
     → LongSays cards place v c
 long_alone cards place card rest v c at says none = inr (record { card = card; at = ap (λ (x : List (List ℕ)). take 1 x) at; says = says; no_chain = none })
-
--- a card with a value that is a string begins a chain
-pub begins : (cards : List (List ℕ)) (place : ℕ) (card piece : List ℕ) (rest : List (List ℕ)) (c : Option (List ℕ)) → cards_from cards place ≡ card ∷ rest → HasValue card → CardSays card (Str piece) c → BeginsChain cards place
-begins cards place card piece rest c at value says = record {
-  first = subst (λ (x : List (List ℕ)). All HasValue (take 1 x)) (sym at) (All-cons HasValue card [] value (All-nil HasValue));
-  piece = record { card = card; text = piece; comment = c };
-  says = says;
-  at = ap (λ (x : List (List ℕ)). take 1 x) at;
-}

@@ -1,22 +1,19 @@
 -- The normal form of a text by its length without the spaces at its end.
-use Rattle.std.proofs.Common.{◌≡◌, ℕ, ◌<◌, ◌+◌, ◌&&◌, true, false, ltb, List, [], ◌∷◌, ◌++◌, length, take, min, refl, sym, ◌∙◌, ap, arith, inl, inr, length-append}
+use Rattle.std.proofs.Common.{◌≡◌, ℕ, ◌<◌, ◌≤◌, ◌+◌, ◌-◌, ◌&&◌, true, false, ltb, List, [], ◌∷◌, ◌++◌, length, take, drop, min, refl, sym, ◌∙◌, ap, arith, inl, inr, length-append}
 use Rattle.std.specs.List.{list_all, suffix_len}
 use Rattle.std.proofs.lemmas.Bool.{cases_Bool, and_parts, and_from, cond-true, cond-false, eqb-true, lt-ltb}
+use Rattle.std.proofs.lemmas.List.{take-append-drop, drop-drop, drop_at, nil_from_length}
+use Rattle.std.proofs.lemmas.List.Folds.{list_all-append}
 use Rattle.fits_value.proofs.TrimLemmas.{trims, suffix_len-back}
 use Rattle.fits_value.specs.Spelling.{is_space}
 use Rattle.fits_value.specs.Text.{normal_form, trimmed}
-
--- a list without elements
-empty_is : (s : List ℕ) → length s ≡ 0 → s ≡ []
-empty_is [] e = refl
-empty_is (b ∷ s) e = absurd (omega arith)
 
 -- a text that is spaces to its end
 all_spaces : (text : List ℕ) → suffix_len is_space text ≡ length text → list_all is_space text ≡ true
 all_spaces text e =
     let t = trims is_space text in
     let size : length text ≡ length t.front + length t.back = ap length t.whole ∙ length-append t.front t.back in
-    let none : t.front ≡ [] = empty_is t.front (omega (arith, size, e, t.size)) in
+    let none : t.front ≡ [] = nil_from_length t.front (omega (arith, size, e, t.size)) in
     let is : text ≡ t.back = t.whole ∙ ap (λ (x : List ℕ). x ++ t.back) none in
     ap (λ (x : List ℕ). list_all is_space x) is ∙ t.passes
 
@@ -53,3 +50,19 @@ normal_form-other text n e h =
       | inr f ↦ f
     ] in
     trimmed-length text n e ∙ sym (cond-false (ltb 0 (length text) && list_all is_space text) _ _ off)
+
+-- the rest of a list whose elements all pass
+rest_passes : (text : List ℕ) (n : ℕ) → list_all is_space text ≡ true → list_all is_space (drop n text) ≡ true
+rest_passes text n all =
+    let both : (list_all is_space (take n text) && list_all is_space (drop n text)) ≡ true = sym (list_all-append is_space (take n text) (drop n text)) ∙ (ap (λ (x : List ℕ). list_all is_space x) (take-append-drop n text) ∙ all) in
+    (and_parts (list_all is_space (take n text)) (list_all is_space (drop n text)) both).1
+
+-- spaces alone stand behind a text without its trailing spaces
+pub spaces_behind : (text : List ℕ) (n k : ℕ) → n + suffix_len is_space text ≡ length text → n ≤ k → list_all is_space (drop k text) ≡ true
+spaces_behind text n k e within =
+    let t = trims is_space text in
+    let size : length text ≡ length t.front + length t.back = ap length t.whole ∙ length-append t.front t.back in
+    let behind : drop n text ≡ t.back = ap (λ (x : List ℕ). drop n x) t.whole ∙ drop_at t.front t.back n (omega (arith, size, e, t.size)) in
+    let all : list_all is_space (drop n text) ≡ true = ap (λ (x : List ℕ). list_all is_space x) behind ∙ t.passes in
+    let place : n + (k - n) ≡ k = omega arith in
+    ap (λ (i : ℕ). list_all is_space (drop i text)) (sym place) ∙ (ap (λ (x : List ℕ). list_all is_space x) (sym (drop-drop (k - n) n text)) ∙ rest_passes (drop n text) (k - n) all)

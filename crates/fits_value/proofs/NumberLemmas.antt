@@ -4,38 +4,17 @@ use Rattle.std.specs.Prelude.{IsTrue, ℤ, pos, ◌==◌, Option, Some, None, Is
 use Rattle.std.proofs.lemmas.Int.{ints}
 use Rattle.fits_value.proofs.DigitLemmas.{cancel, zero_times}
 use Rattle.std.specs.List.{list_all, prefix_len, take_while}
-use Rattle.std.proofs.lemmas.List.{take-append-drop, append-nil, take_all}
-use Rattle.std.proofs.lemmas.List.Sums.{take_while-cons}
-use Rattle.std.proofs.lemmas.Bool.{cases_Bool, and_parts, and_from, or_cases, or_from, or_parts, cond-true, cond-false, cond_both, eqb-true, ne_eqb, leb-true}
+use Rattle.std.proofs.lemmas.List.{take-append-drop, append-nil, take_all, nil_from_length}
+use Rattle.std.proofs.lemmas.Bool.{cases_Bool, cases_eq, and_parts, or_cases, or_from, or_parts, cond-false, eqb-true, ne_eqb, leb-true}
 use Rattle.std.proofs.Math.Seq.{take-append_seam, drop-append_seam}
-use Rattle.fits_value.specs.Spelling.{is_digit, is_sign, is_exponent_letter, IsDigits, AreSomeDigits, IsOptionalSign, IsInteger, IsExponent, IsPointed, IsNumber}
-use Rattle.fits_value.specs.Number.{value_of, signed, IsSignOf, IsSigned, IsIntegerOf, IsPowerOf, IsDecimal, raised, lowered, IsExactly, Denotes}
-use Rattle.fits_value.specs.NumberSteps.{is_minus, after_sign, after_digits, fraction_of, after_fraction}
-
--- the list is empty or its head fails the test
-abbrev pub Stops : (ℕ → Bool) → List ℕ → Type 0
-Stops p [] = Unit {0}
-Stops p (x ∷ xs) = p x ≡ false
-
--- a front that passes, before a list that stops, is the longest front that passes
-pub prefix_len-front : (p : ℕ → Bool) (xs ys : List ℕ) → list_all p xs ≡ true → Stops p ys → prefix_len p (xs ++ ys) ≡ length xs
-prefix_len-front p [] [] all stops = refl
-prefix_len-front p [] (y ∷ ys) all stops = cond-false (p y) _ _ stops
-prefix_len-front p (x ∷ xs) ys all stops =
-    let both = and_parts (p x) (list_all p xs) all in
-    let rest = prefix_len-front p xs ys both.1 stops in
-    cond-true (p x) _ _ both.0 ∙ (rw rest (omega arith))
+use Rattle.fits_value.proofs.FrontLemmas.{Stops, prefix_len-front, prefix_passes}
+use Rattle.fits_value.specs.Spelling.{is_digit, is_sign, is_exponent_letter, IsDigits, AreSomeDigits}
+use Rattle.fits_value.specs.Number.{value_of, signed, IsSignOf, IsSigned, IsIntegerOf, IsPowerOf, IsDecimal, IsInteger, IsNumber, raised, lowered, IsExactly, Denotes}
+use Rattle.fits_value.specs.NumberSteps.{is_minus, after_sign, after_digits, fraction_digits, after_fraction}
 
 -- such a front is what is taken, and what follows is what is left
 pub front_taken : (p : ℕ → Bool) (xs ys : List ℕ) → list_all p xs ≡ true → Stops p ys → (xs ≡ take_while p (xs ++ ys)) × (ys ≡ drop (prefix_len p (xs ++ ys)) (xs ++ ys))
 front_taken p xs ys all stops = rw (prefix_len-front p xs ys all stops) (sym (take-append_seam xs ys), sym (drop-append_seam xs ys))
-
--- what is taken passes
-pub taken_passes : (p : ℕ → Bool) (xs : List ℕ) → list_all p (take_while p xs) ≡ true
-taken_passes p [] = refl
-taken_passes p (x ∷ xs) =
-    subst (λ (s : List ℕ). list_all p s ≡ true) (sym (take_while-cons p x xs))
-    (cond_both (p x) (x ∷ take_while p xs) [] (λ s. list_all p s ≡ true) (λ e. and_from (p x) _ e (taken_passes p xs)) (λ e. refl))
 
 -- a digit is no sign
 pub digit_no_sign : (b : ℕ) → is_digit b ≡ true → is_sign b ≡ false
@@ -108,7 +87,7 @@ power_stops [] power w = tt
 power_stops (letter ∷ text) power w = (letter_stops letter w.0).0
 
 -- and with no point
-pub power_no_point : (text : List ℕ) (power : ℤ) → IsPowerOf text power → ([] ≡ fraction_of text) × (text ≡ after_fraction text)
+pub power_no_point : (text : List ℕ) (power : ℤ) → IsPowerOf text power → ([] ≡ fraction_digits text) × (text ≡ after_fraction text)
 power_no_point [] power w = (refl, refl)
 power_no_point (letter ∷ text) power w =
     let e = (letter_stops letter w.0).1 in
@@ -116,7 +95,7 @@ power_no_point (letter ∷ text) power w =
 
 -- the digits behind a point are those that are read, and the exponent is what is left
 pub point_read : (point back exponent : List ℕ) (power : ℤ) → (point ≡ 46 ∷ back) ⊎ ((point ≡ []) × (back ≡ [])) → IsDigits back → IsPowerOf exponent power
-    → (back ≡ fraction_of (point ++ exponent)) × (exponent ≡ after_fraction (point ++ exponent))
+    → (back ≡ fraction_digits (point ++ exponent)) × (exponent ≡ after_fraction (point ++ exponent))
 point_read point back exponent power (inl e) all w = rw e (front_taken is_digit back exponent all (power_stops exponent power w))
 point_read point back exponent power (inr e) all w = rw (e.0, e.1) (power_no_point exponent power w)
 
@@ -135,9 +114,10 @@ body_stops (b ∷ front) point back exponent all some e = digit_no_sign b (and_p
 pub record IsRead (text : List ℕ) (negative : Bool) (front back : List ℕ) (power : ℤ) : Type 0 where
   pub is_negative : negative ≡ is_minus text
   pub is_front : front ≡ take_while is_digit (after_sign text)
-  pub is_back : back ≡ fraction_of (after_digits (after_sign text))
+  pub is_back : back ≡ fraction_digits (after_digits (after_sign text))
   pub is_power : IsPowerOf (after_fraction (after_digits (after_sign text))) power
 
+-- the parts of a decimal are read
 pub decimal_read : (text : List ℕ) (negative : Bool) (front back : List ℕ) (power : ℤ) → IsDecimal text negative front back power → IsRead text negative front back power
 decimal_read text negative front back power w =
     let tail = w.point ++ w.exponent in
@@ -150,22 +130,22 @@ decimal_read text negative front back power w =
     record {
       is_negative = sign.0 ∙ ap is_minus (sym parts);
       is_front = digits.0 ∙ ap (take_while is_digit) body;
-      is_back = fraction.0 ∙ ap fraction_of rest;
+      is_back = fraction.0 ∙ ap fraction_digits rest;
       is_power = subst (λ (s : List ℕ). IsPowerOf s power) (fraction.1 ∙ ap after_fraction rest) w.is_power;
     }
 
 -- what is read behind the first digits is a point with digits or nothing, and the rest
-pub point_found : (text : List ℕ) → (point : List ℕ) × IsDigits (fraction_of text) × ((point ≡ 46 ∷ fraction_of text) ⊎ ((point ≡ []) × (fraction_of text ≡ []))) × (text ≡ point ++ after_fraction text)
+pub point_found : (text : List ℕ) → (point : List ℕ) × IsDigits (fraction_digits text) × ((point ≡ 46 ∷ fraction_digits text) ⊎ ((point ≡ []) × (fraction_digits text ≡ []))) × (text ≡ point ++ after_fraction text)
 point_found [] = ([], refl, inr (refl, refl), refl)
 point_found (b ∷ text) = elim (cases_Bool (b == 46)) [
-  | inl e ↦ rw (eqb-true b 46 e) (46 ∷ take_while is_digit text, taken_passes is_digit text, inl refl, ap (λ (s : List ℕ). 46 ∷ s) (sym (take-append-drop (prefix_len is_digit text) text)))
+  | inl e ↦ rw (eqb-true b 46 e) (46 ∷ take_while is_digit text, prefix_passes is_digit text, inl refl, ap (λ (s : List ℕ). 46 ∷ s) (sym (take-append-drop (prefix_len is_digit text) text)))
   | inr e ↦
-      let none : fraction_of (b ∷ text) ≡ [] = cond-false (b == 46) _ _ e in
+      let none : fraction_digits (b ∷ text) ≡ [] = cond-false (b == 46) _ _ e in
       ([], rw none refl, inr (refl, none), sym (cond-false (b == 46) _ _ e))
 ]
 
 -- what is read is a decimal where there is a digit and the rest is an exponent
-pub decimal_found : (text front back exponent : List ℕ) (power : ℤ) → front ≡ take_while is_digit (after_sign text) → back ≡ fraction_of (after_digits (after_sign text)) → exponent ≡ after_fraction (after_digits (after_sign text))
+pub decimal_found : (text front back exponent : List ℕ) (power : ℤ) → front ≡ take_while is_digit (after_sign text) → back ≡ fraction_digits (after_digits (after_sign text)) → exponent ≡ after_fraction (after_digits (after_sign text))
     → 0 < length front + length back → IsPowerOf exponent power → IsDecimal text (is_minus text) front back power
 decimal_found text front back exponent power f b x some w =
     let s = sign_found text in
@@ -178,7 +158,7 @@ decimal_found text front back exponent power f b x some w =
       point = p.0;
       exponent = exponent;
       is_sign = s.1;
-      are_front = rw f (taken_passes is_digit body);
+      are_front = rw f (prefix_passes is_digit body);
       are_back = rw b p.1;
       some = some;
       is_point = rw b p.2;
@@ -218,12 +198,12 @@ none_map None P w = w
 none_map (Some x) P w = tt
 
 -- what is read is no decimal where there is no digit
-pub decimal_empty : (text unsigned front tail back f b : List ℕ) (negative : Bool) (power : ℤ) → unsigned ≡ after_sign text → front ≡ take_while is_digit unsigned → tail ≡ after_digits unsigned → back ≡ fraction_of tail
+pub decimal_empty : (text unsigned front tail back f b : List ℕ) (negative : Bool) (power : ℤ) → unsigned ≡ after_sign text → front ≡ take_while is_digit unsigned → tail ≡ after_digits unsigned → back ≡ fraction_digits tail
     → length front ≡ 0 → length back ≡ 0 → IsDecimal text negative f b power → ⊥
 decimal_empty text unsigned front tail back f b negative power u e t g m n w =
     let r = decimal_read text negative f b power w in
     let x : length f ≡ 0 = ap length (r.is_front ∙ sym (e ∙ ap (take_while is_digit) u)) ∙ m in
-    let y : length b ≡ 0 = ap length (r.is_back ∙ sym (g ∙ ap fraction_of (t ∙ ap after_digits u))) ∙ n in
+    let y : length b ≡ 0 = ap length (r.is_back ∙ sym (g ∙ ap fraction_digits (t ∙ ap after_digits u))) ∙ n in
     let some = w.some in
     absurd (omega arith)
 
@@ -235,10 +215,10 @@ decimal_missed text unsigned tail rest f b negative power u t x none w =
 
 -- the steps one after another
 pub decimal_steps : (text unsigned front tail back rest : List ℕ) (negative : Bool) (power : ℤ) → negative ≡ is_minus text → unsigned ≡ after_sign text → front ≡ take_while is_digit unsigned → tail ≡ after_digits unsigned
-    → back ≡ fraction_of tail → rest ≡ after_fraction tail → 0 < length front + length back → IsPowerOf rest power → IsDecimal text negative front back power
+    → back ≡ fraction_digits tail → rest ≡ after_fraction tail → 0 < length front + length back → IsPowerOf rest power → IsDecimal text negative front back power
 decimal_steps text unsigned front tail back rest negative power n u f t b x some w =
     let body : tail ≡ after_digits (after_sign text) = t ∙ ap after_digits u in
-    rw n (decimal_found text front back rest power (f ∙ ap (take_while is_digit) u) (b ∙ ap fraction_of body) (x ∙ ap after_fraction body) some w)
+    rw n (decimal_found text front back rest power (f ∙ ap (take_while is_digit) u) (b ∙ ap fraction_digits body) (x ∙ ap after_fraction body) some w)
 
 pub ruleset decimal_reads = (decimal_steps)
 
@@ -284,26 +264,15 @@ one_denoted text m n v w =
     let e : v.size ≡ w.size = cancel v.size w.size (length v.back + lowered v.power) (sym v.exact ∙ s.1) in
     v.value ∙ (ap (λ (z : ℕ). signed v.negative z) e ∙ sym s.0)
 
--- a power that lowers
+-- a power that lowers raises nothing
 pub raised-minus : (n : ℕ) → raised (signed true n) ≡ 0
 raised-minus zero = refl
 raised-minus (suc n) = refl
 
+-- by its digits
 pub lowered-minus : (n : ℕ) → lowered (signed true n) ≡ n
 lowered-minus zero = refl
 lowered-minus (suc n) = refl
-
--- exactness where the exponent lowers
-pub exact_lowered : (front back : List ℕ) (is_lowered : Bool) (n number : ℕ) → is_lowered ≡ true → (value_of (front ++ back) ≡ number * 10 ^ (length back + n)) ↔ IsExactly front back (signed is_lowered n) number
-exact_lowered front back is_lowered n number t =
-    let one : value_of (front ++ back) * 10 ^ 0 ≡ value_of (front ++ back) = omega arith in
-    rw (t, raised-minus n, lowered-minus n) (λ e. one ∙ e, λ e. sym one ∙ e)
-
--- exactness where the exponent raises, or there is none
-pub exact_raised : (front back : List ℕ) (is_lowered : Bool) (n number : ℕ) → is_lowered ≡ false → (value_of (front ++ back) * 10 ^ n ≡ number * 10 ^ length back) ↔ IsExactly front back (signed is_lowered n) number
-exact_raised front back is_lowered n number t =
-    let same : number * 10 ^ (length back + 0) ≡ number * 10 ^ length back = ap (λ (k : ℕ). number * 10 ^ k) (omega arith) in
-    rw t (λ e. e ∙ sym same, λ e. e ∙ same)
 
 -- exactness of 0
 pub exact_zero : (front back : List ℕ) (power : ℤ) (number : ℕ) → number ≡ 0 → (value_of (front ++ back) ≡ 0) ↔ IsExactly front back power number
@@ -322,63 +291,49 @@ plus_sign (negsuc n) = (λ h. absurd (omega (arith, ints)), λ e. (cc))
 
 pub ruleset signs = (minus_sign, plus_sign)
 
--- a sign is an optional sign
-pub sign_spelling : (sign : List ℕ) (negative : Bool) → IsSignOf sign negative → IsOptionalSign sign
-sign_spelling sign true e = inr (45, refl, e)
-sign_spelling sign false (inl e) = inl e
-sign_spelling sign false (inr e) = inr (43, refl, e)
-
--- an optional sign is a sign
-pub spelling_sign : (sign : List ℕ) → IsOptionalSign sign → (negative : Bool) × IsSignOf sign negative
-spelling_sign sign (inl e) = (false, inl e)
-spelling_sign sign (inr w) = elim (or_cases (w.0 == 43) (w.0 == 45) w.1) [
-  | inl f ↦ (false, inr (w.2 ∙ ap (λ (b : ℕ). b ∷ []) (eqb-true w.0 43 f)))
-  | inr f ↦ (true, w.2 ∙ ap (λ (b : ℕ). b ∷ []) (eqb-true w.0 45 f))
-]
-
 -- each integer has a number
 pub integer_has_number : (text : List ℕ) → IsInteger text → (n : ℤ) × IsIntegerOf text n
-integer_has_number text w =
-    let s = spelling_sign w.sign w.is_sign in
-    let spelled : IsSigned text s.0 w.digits = record { sign = w.sign; is_sign = s.1; are_digits = (w.are_digits, w.some); parts = w.parts } in
-    (signed s.0 (value_of w.digits), record { negative = s.0; digits = w.digits; spelled = spelled; value = refl })
+integer_has_number text w = (signed w.negative (value_of w.digits), record { negative = w.negative; digits = w.digits; spelled = w.spelled; value = refl })
 
--- what has a number is an integer
-pub number_spelling : (text : List ℕ) (n : ℤ) → IsIntegerOf text n → IsInteger text
-number_spelling text n w =
-    let s = w.spelled in
-    record { sign = s.sign; digits = w.digits; is_sign = sign_spelling s.sign w.negative s.is_sign; are_digits = s.are_digits.0; some = s.are_digits.1; parts = s.parts }
+-- an integer is a decimal
+integer_decimal : (text : List ℕ) (negative : Bool) (digits : List ℕ) → IsSigned text negative digits → IsDecimal text negative digits [] (pos 0)
+integer_decimal text negative digits s = record {
+  sign = s.sign;
+  point = [];
+  exponent = [];
+  is_sign = s.is_sign;
+  are_front = s.are_digits.0;
+  are_back = refl;
+  some = let h = s.are_digits.1 in omega arith;
+  is_point = inr (refl, refl);
+  is_power = refl;
+  parts = s.parts ∙ (sym (append-nil (s.sign ++ digits)) ∙ sym (append-nil (s.sign ++ digits ++ [])));
+}
+
+-- so is each number
+pub number_decimal : (text : List ℕ) → IsNumber text → (negative : Bool) × (front : List ℕ) × (back : List ℕ) × (power : ℤ) × IsDecimal text negative front back power
+number_decimal text (inl i) = (i.negative, i.digits, [], pos 0, integer_decimal text i.negative i.digits i.spelled)
+number_decimal text (inr i) = (i.negative, i.front, i.back, i.power, i.spelled)
 
 -- an integer denotes its number
 pub integer_denotes : (text : List ℕ) (n : ℤ) → IsIntegerOf text n → Denotes text n
 integer_denotes text n w =
-    let s = w.spelled in
-    let some : 0 < length w.digits + 0 = let h = s.are_digits.1 in omega arith in
-    let parts : text ≡ s.sign ++ w.digits ++ [] ++ [] = s.parts ∙ (sym (append-nil (s.sign ++ w.digits)) ∙ sym (append-nil (s.sign ++ w.digits ++ []))) in
-    let spelled : IsDecimal text w.negative w.digits [] (pos 0) =
-    record { sign = s.sign; point = []; exponent = []; is_sign = s.is_sign; are_front = s.are_digits.0; are_back = refl; some = some; is_point = inr (refl, refl); is_power = refl; parts = parts } in
+    let spelled = integer_decimal text w.negative w.digits w.spelled in
     record { negative = w.negative; front = w.digits; back = []; power = pos 0; size = value_of w.digits; spelled = spelled; exact = ap (λ (ds : List ℕ). value_of ds * 10 ^ 0) (append-nil w.digits); value = w.value }
 
--- what has a power is an exponent or nothing
-pub power_spelling : (text : List ℕ) (power : ℤ) → IsPowerOf text power → (text ≡ []) ⊎ IsExponent text
-power_spelling [] power w = inl refl
-power_spelling (letter ∷ text) power w = inr (record { letter = letter; power = text; is_letter = w.0; is_power = number_spelling text power w.1; parts = refl })
+-- each decimal is an integer or a real, and each of these is a decimal
+pub decimal_number : (text : List ℕ) (negative : Bool) (front back : List ℕ) (power : ℤ) → IsDecimal text negative front back power → IsNumber text
+decimal_number text negative front back power d = elim d.is_point [
+  | inl e ↦ inr (record { negative = negative; front = front; back = back; power = power; spelled = d; form = inl e })
+  | inr e ↦ elim (cases_eq (length d.exponent) 0) [
+    | inl none ↦
+        let size : length back ≡ 0 = ap length e.1 in
+        let whole : text ≡ d.sign ++ front = d.parts ∙ (rw (e.0, nil_from_length d.exponent none) (append-nil (d.sign ++ front ++ []) ∙ append-nil (d.sign ++ front))) in
+        inl (record { negative = negative; digits = front; spelled = record { sign = d.sign; is_sign = d.is_sign; are_digits = (d.are_front, let h = d.some in omega arith); parts = whole } })
+    | inr some ↦ inr (record { negative = negative; front = front; back = back; power = power; spelled = d; form = inr (omega arith) })
+  ]
+]
 
 -- only an integer or a real denotes a number
 pub denotes_spelling : (text : List ℕ) (n : ℤ) → Denotes text n → IsNumber text
-denotes_spelling text n w =
-    let d = w.spelled in
-    let sign = sign_spelling d.sign w.negative d.is_sign in
-    elim d.is_point [
-      | inl e ↦
-          let pointed : IsPointed (w.front ++ d.point) = record { front = w.front; back = w.back; are_front = d.are_front; are_back = d.are_back; some = d.some; parts = ap (λ (z : List ℕ). w.front ++ z) e } in
-          inr (record { sign = d.sign; digits = w.front ++ d.point; exponent = d.exponent; is_sign = sign; parts = d.parts ∙ ap (λ (z : List ℕ). z ++ d.exponent) (append_assoc d.sign w.front d.point); form = inl (pointed, power_spelling d.exponent w.power d.is_power) })
-      | inr e ↦
-          let none : length w.back ≡ 0 = ap length e.1 in
-          let digits : AreSomeDigits w.front = (d.are_front, let h = d.some in omega arith) in
-          let front : text ≡ d.sign ++ w.front ++ d.exponent = d.parts ∙ (ap (λ (z : List ℕ). d.sign ++ w.front ++ z ++ d.exponent) e.0 ∙ ap (λ (z : List ℕ). z ++ d.exponent) (append-nil (d.sign ++ w.front))) in
-          elim (power_spelling d.exponent w.power d.is_power) [
-            | inl f ↦ inl (record { sign = d.sign; digits = w.front; is_sign = sign; are_digits = digits.0; some = digits.1; parts = front ∙ (ap (λ (z : List ℕ). d.sign ++ w.front ++ z) f ∙ append-nil (d.sign ++ w.front)) })
-            | inr f ↦ inr (record { sign = d.sign; digits = w.front; exponent = d.exponent; is_sign = sign; parts = front; form = inr (digits, f) })
-          ]
-    ]
+denotes_spelling text n w = decimal_number text w.negative w.front w.back w.power w.spelled

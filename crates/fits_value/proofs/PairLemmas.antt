@@ -2,18 +2,16 @@
 use Rattle.std.proofs.Common.{◌≡◌, ℕ, ◌≤◌, ◌+◌, eqb, List, [], ◌∷◌, ◌++◌, length, drop, take, Option, None, Some, refl, sym, ◌∙◌, ap, arith, inl, inr, append_assoc, length-append}
 use Rattle.std.proofs.lemmas.Bool.{eqb-true}
 use Rattle.std.proofs.Math.Seq.{drop-append_seam}
+use Rattle.std.proofs.lemmas.Option.{same_Some}
 use Rattle.fits_value.proofs.FrontLemmas.{chosen}
 use Rattle.fits_value.proofs.PartLemmas.{part_is, take_is, drop_some}
 use Rattle.fits_value.proofs.ComplexLemmas.{element_found, element_only, made_element}
-use Rattle.fits_value.specs.Spelling.{IsSpaces, IsNumber, IsComplexOf}
+use Rattle.fits_value.specs.Spelling.{IsSpaces, IsComplexOf}
+use Rattle.fits_value.specs.Number.{IsNumber}
 use Rattle.fits_value.specs.Field.{part}
 use Rattle.fits_value.specs.Scan.{element_of, closed_of, second_of, comma_of, first_of, pair_of}
 use Rattle.fits_value.specs.declared.scan_complex.Element.{Element}
 use Rattle.fits_value.specs.declared.scan_complex.Pair.{Pair}
-
--- the pair that is known
-some_pair : (x y : Pair) → Some x ≡ Some y → x ≡ y
-some_pair x y e = (cc)
 
 -- the pair of two elements
 abbrev made_pair : Element → Element → Pair
@@ -39,7 +37,7 @@ record Steps (s : List ℕ) (p : Pair) : Type 0 where
 closed_steps : (real imaginary : Element) (s : List ℕ) (p : Pair) → closed_of real imaginary s ≡ Some p → (rest : List ℕ) × (s ≡ 41 ∷ rest) × (made_pair real imaginary ≡ p)
 closed_steps real imaginary [] p e = absurd (cc)
 closed_steps real imaginary (b ∷ s) p e = elim (chosen (eqb b 41) (Some (made_pair real imaginary)) None (Some p) e) [
-  | inl w ↦ (s, ap (λ (x : ℕ). x ∷ s) (eqb-true b 41 w.0), some_pair _ p w.1)
+  | inl w ↦ (s, ap (λ (x : ℕ). x ∷ s) (eqb-true b 41 w.0), same_Some _ p w.1)
   | inr w ↦ absurd (let z = w.1 in (cc))
 ]
 
@@ -192,7 +190,8 @@ pair_only spelling real imaginary r h =
     let tail : List ℕ = h.before_real ++ (real ++ (h.after_real ++ 44 ∷ middle)) in
     let x = made_element h.before_real real h.after_real in
     let y = made_element h.before_imaginary imaginary h.after_imaginary in
-    let begins : spelling ++ r ≡ 40 ∷ tail = ap (λ (s : List ℕ). s ++ r) h.parts ∙ simp append_assoc in
+    let parts : spelling ≡ 40 ∷ h.before_real ++ real ++ h.after_real ++ 44 ∷ h.before_imaginary ++ imaginary ++ h.after_imaginary ++ 41 ∷ [] = h.parts in
+    let begins : spelling ++ r ≡ 40 ∷ tail = ap (λ (s : List ℕ). s ++ r) parts ∙ simp append_assoc in
     let first = element_only h.before_real real h.after_real (44 ∷ middle) h.spaces_real.0 h.is_real h.spaces_real.1 (inr (inr (inl refl))) refl in
     let second = element_only h.before_imaginary imaginary h.after_imaginary last h.spaces_imaginary.0 h.is_imaginary h.spaces_imaginary.1 (inr (inr (inr refl))) refl in
     let cut : drop x.len tail ≡ 44 ∷ middle = drop_three h.before_real real h.after_real (44 ∷ middle) in

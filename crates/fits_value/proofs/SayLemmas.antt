@@ -1,6 +1,7 @@
 -- Values against their spellings: each spelling of a kind has one value.
-use Rattle.std.proofs.Common.{◌≡◌, ℕ, ◌≤◌, ◌+◌, ◌-◌, Bool, true, false, cond, List, [], ◌∷◌, length, drop, get_or, Option, None, Some, refl, sym, ◌∙◌, ap, subst, arith, inl, inr, length-append}
+use Rattle.std.proofs.Common.{codes, ◌≡◌, ℕ, ◌+◌, ◌-◌, Bool, true, false, cond, List, [], ◌∷◌, length, drop, get_or, Option, None, Some, refl, sym, ◌∙◌, ap, subst, arith, length-append}
 use Rattle.std.proofs.lemmas.List.{append-nil}
+use Rattle.std.proofs.lemmas.Option.{same_Some}
 use Rattle.fits_value.proofs.QuoteLemmas.{undoubled-doubled}
 use Rattle.fits_value.proofs.PartLemmas.{part_is}
 use Rattle.fits_value.proofs.PairLemmas.{FindsPair, pair_only}
@@ -21,10 +22,6 @@ pub record Scans (spelling real imaginary : List ℕ) : Type 0 where
   pub real_is : part spelling pair.real ≡ real
   pub imaginary_is : part spelling pair.imaginary ≡ imaginary
 
--- the pair that is known
-known_pair : (x y : Pair) → Some x ≡ Some y → x ≡ y
-known_pair x y e = (cc)
-
 -- the parts of a complex number are found in its spelling
 pub scans : (spelling real imaginary : List ℕ) → IsComplexOf spelling real imaginary → Scans spelling real imaginary
 scans spelling real imaginary h =
@@ -44,7 +41,7 @@ pub complex_read : (spelling behind real imaginary : List ℕ) (p : Pair) → Sp
     → real ≡ part spelling p.real → imaginary ≡ part spelling p.imaginary → IsComplexOf spelling real imaginary
 complex_read spelling behind real imaginary p h e f r i =
     let w = scans spelling h.0 h.1 h.2 in
-    let same : w.pair ≡ p = known_pair w.pair p (sym (f ∙ (ap pair_of e ∙ w.found))) in
+    let same : w.pair ≡ p = same_Some w.pair p (sym (f ∙ (ap pair_of e ∙ w.found))) in
     let r1 : h.0 ≡ real = sym w.real_is ∙ (ap (λ (x : Pair). part spelling x.real) same ∙ sym r) in
     let i1 : h.1 ≡ imaginary = sym w.imaginary_is ∙ (ap (λ (x : Pair). part spelling x.imaginary) same ∙ sym i) in
     subst (λ (x : List ℕ). IsComplexOf spelling x imaginary) r1 (subst (λ (x : List ℕ). IsComplexOf spelling h.0 x) i1 h.2)
@@ -54,7 +51,7 @@ one_complex : (spelling a b c d : List ℕ) → IsComplexOf spelling a b → IsC
 one_complex spelling a b c d g h =
     let v = scans spelling a b g in
     let w = scans spelling c d h in
-    let same : v.pair ≡ w.pair = known_pair v.pair w.pair (sym v.found ∙ w.found) in (
+    let same : v.pair ≡ w.pair = same_Some v.pair w.pair (sym v.found ∙ w.found) in (
       sym v.real_is ∙ (ap (λ (x : Pair). part spelling x.real) same ∙ w.real_is),
       sym v.imaginary_is ∙ (ap (λ (x : Pair). part spelling x.imaginary) same ∙ w.imaginary_is),
     )
@@ -65,10 +62,6 @@ between_quotes spelling characters end h e =
     let size : length spelling ≡ 1 + (length (doubled characters) + 1) = rw h (simp length-append (omega arith)) in
     part_is spelling (39 ∷ []) (doubled characters) (39 ∷ []) 1 end h refl (omega (arith, size, e))
 
--- a string has its quotes
-pub string_size : (spelling characters : List ℕ) → IsStringOf spelling characters → 2 ≤ length spelling
-string_size spelling characters h = rw h (simp length-append (omega arith))
-
 -- the characters of a spelling
 one_string : (a b : List ℕ) (spelling : List ℕ) → IsStringOf spelling a → IsStringOf spelling b → a ≡ b
 one_string a b spelling g h =
@@ -77,7 +70,7 @@ one_string a b spelling g h =
     sym (undoubled-doubled a) ∙ (ap undoubled (sym x ∙ y) ∙ undoubled-doubled b)
 
 -- T is not F
-one_flag : (a b : Bool) → ◌≡◌ {A = List ℕ} (cond a 84 70 ∷ []) (cond b 84 70 ∷ []) → a ≡ b
+one_flag : (a b : Bool) → ◌≡◌ {A = List ℕ} (cond a (codes "T") (codes "F")) (cond b (codes "T") (codes "F")) → a ≡ b
 one_flag true true e = refl
 one_flag true false e = let x : ◌≡◌ {A = ℕ} 84 70 = ap (λ (l : List ℕ). get_or l 0 0) e in absurd (omega arith)
 one_flag false true e = let x : ◌≡◌ {A = ℕ} 70 84 = ap (λ (l : List ℕ). get_or l 0 0) e in absurd (omega arith)
@@ -96,11 +89,3 @@ one_value (Str a) (Str b) s e g h =
     let same : g.0 ≡ h.0 = one_string g.0 h.0 s g.1 h.1 in
     ap Str (g.2 ∙ (ap normal_form same ∙ sym h.2))
 one_value v w s e g h = absurd (cc)
-
--- T and F
-pub logical_read : (spelling : List ℕ) (flag : Bool) → Spells kind.Logical spelling → (flag ≡ true → (rest : List ℕ) × (spelling ≡ 84 ∷ rest)) → (flag ≡ false → (rest : List ℕ) → spelling ≡ 84 ∷ rest → ⊥)
-    → spelling ≡ (cond flag 84 70) ∷ []
-logical_read spelling true (inl e) t f = e
-logical_read spelling true (inr e) t f = let w = t refl in let x : ◌≡◌ {A = ℕ} 70 84 = ap (λ (l : List ℕ). get_or l 0 0) (sym e ∙ w.1) in absurd (omega arith)
-logical_read spelling false (inl e) t f = absurd (f refl [] e)
-logical_read spelling false (inr e) t f = e

@@ -1,8 +1,9 @@
 -- What texts and cards say, as functions and as relations.
-use Rattle.std.proofs.Common.{◌≡◌, ℕ, ◌-◌, Bool, true, false, cond, List, [], ◌∷◌, length, drop, take, Option, None, Some, refl, sym, ◌∙◌, ap, subst, arith, inl, inr}
+use Rattle.std.proofs.Common.{◌≡◌, ℕ, ◌-◌, true, false, List, length, drop, take, Option, None, Some, refl, sym, ◌∙◌, ap, subst, arith, inl, inr}
 use Rattle.std.specs.Option.{option_map}
 use Rattle.std.proofs.lemmas.Bool.{cond-true, cond-false}
 use Rattle.fits_card.specs.Card.{is_text, IsText}
+use Rattle.std.proofs.lemmas.Option.{same_Some}
 use Rattle.fits_value.proofs.FrontLemmas.{chosen, option_map_some}
 use Rattle.fits_value.proofs.FieldLemmas.{found_said}
 use Rattle.fits_value.proofs.FieldOnlyLemmas.{reading_only}
@@ -58,20 +59,16 @@ value_made kind.Real s h = record { value = Real s; of_kind = refl; is_value = r
 value_made kind.Complex s h = record { value = Complex h.0 h.1; of_kind = refl; is_value = h.2 }
 value_made kind.Str s h = record { value = Str (normal_form h.0); of_kind = refl; is_value = (h.0, h.1, refl) }
 
--- the value that is known
-some_value : (v w : Value) → Some v ≡ Some w → v ≡ w
-some_value v w e = (cc)
-
 -- the value that is found in a spelling is its value
 value_told : (k : ValueKind) (spelling : List ℕ) (v : Value) → Spells k spelling → value_spelled k spelling ≡ Some v → (kind_of v ≡ k) × IsValueOf v spelling
 value_told k s v h e =
     let w = value_made k s h in
     let found : value_spelled k s ≡ Some w.value = subst (λ (x : ValueKind). value_spelled x s ≡ Some w.value) w.of_kind (value_said w.value s w.is_value) in
-    let same : w.value ≡ v = some_value w.value v (sym found ∙ e) in
+    let same : w.value ≡ v = same_Some w.value v (sym found ∙ e) in
     subst (λ (x : Value). (kind_of x ≡ k) × IsValueOf x s) same (w.of_kind, w.is_value)
 
 -- a value with this comment
-abbrev with_comment : Option (List ℕ) → Value → Said
+abbrev pub with_comment : Option (List ℕ) → Value → Said
 with_comment comment value = (value, comment)
 
 -- a text says the value of its reading
@@ -87,6 +84,14 @@ field_reads text k spelling comment h =
 -- what a text says is found
 pub field_said : (text : List ℕ) (v : Value) (c : Option (List ℕ)) → FieldSays text v c → field_says text ≡ Some (v, c)
 field_said text v c h = field_reads text (kind_of v) h.spelling c h.reads ∙ ap (option_map (with_comment c)) (value_said v h.spelling h.is_value)
+
+-- a text that reads as a value says something
+pub field_speaks : (text : List ℕ) (k : ValueKind) (spelling : List ℕ) (comment : Option (List ℕ)) → FieldReadsAs text k spelling comment → field_says text ≡ None → ⊥
+field_speaks text k spelling comment h e =
+    let w = value_made k spelling h.spelled in
+    let says : FieldSays text w.value comment = record { spelling = spelling; reads = subst (λ (x : ValueKind). FieldReadsAs text x spelling comment) (sym w.of_kind) h; is_value = w.is_value } in
+    let said = field_said text w.value comment says in
+    (cc)
 
 -- a value that is read with its comment is said
 read_told : (text : List ℕ) (o : Option Reading) (v : Value) (c : Option (List ℕ)) → IsText text → reading_of text ≡ o → read_said text o ≡ Some (v, c) → FieldSays text v c
@@ -164,35 +169,3 @@ card_reads card k spelling comment h = card_says-text card h.is_text ∙ field_r
 -- what is read of a card's bytes 11 to 80 is what the card says
 pub card_field : (card text : List ℕ) → IsText card → text ≡ field card → field_says text ≡ card_says card
 card_field card text h e = ap field_says e ∙ sym (card_says-text card h)
-
--- a card that reads as an integer says it as it is written
-pub card_integer : (card spelling : List ℕ) (comment : Option (List ℕ)) → ReadsAs card kind.Integer spelling comment → card_says card ≡ Some (Integer spelling, comment)
-card_integer card spelling comment h = card_reads card kind.Integer spelling comment h
-
--- so does one that reads as a real
-pub card_real : (card spelling : List ℕ) (comment : Option (List ℕ)) → ReadsAs card kind.Real spelling comment → card_says card ≡ Some (Real spelling, comment)
-card_real card spelling comment h = card_reads card kind.Real spelling comment h
-
--- one that reads as a logical value says whether it is T
-pub card_logical : (card spelling : List ℕ) (comment : Option (List ℕ)) → ReadsAs card kind.Logical spelling comment → card_says card ≡ Some (Logical (is_true spelling), comment)
-card_logical card spelling comment h = card_reads card kind.Logical spelling comment h
-
--- one that reads as a string says its characters in normal form
-pub card_string : (card spelling : List ℕ) (comment : Option (List ℕ)) → ReadsAs card kind.Str spelling comment → card_says card ≡ Some (Str (normal_form (undoubled (inner spelling))), comment)
-card_string card spelling comment h = card_reads card kind.Str spelling comment h
-
--- one that reads as no value says that there is none
-pub card_undefined : (card spelling : List ℕ) (comment : Option (List ℕ)) → ReadsAs card kind.Undefined spelling comment → card_says card ≡ Some (Undefined, comment)
-card_undefined card spelling comment h = card_reads card kind.Undefined spelling comment h
-
--- a card that says an integer reads as one
-pub integer_card : (card text : List ℕ) (comment : Option (List ℕ)) → card_says card ≡ Some (Integer text, comment) → ReadsAs card kind.Integer text comment
-integer_card card text comment e =
-    let h = card_told card (Integer text) comment e in
-    record { is_text = h.is_text; reads = subst (λ (x : List ℕ). FieldReadsAs (field card) kind.Integer x comment) h.says.is_value h.says.reads }
-
--- a card that says a logical value reads as T or F
-pub logical_card : (card : List ℕ) (flag : Bool) (comment : Option (List ℕ)) → card_says card ≡ Some (Logical flag, comment) → ReadsAs card kind.Logical (cond flag 84 70 ∷ []) comment
-logical_card card flag comment e =
-    let h = card_told card (Logical flag) comment e in
-    record { is_text = h.is_text; reads = subst (λ (x : List ℕ). FieldReadsAs (field card) kind.Logical x comment) h.says.is_value h.says.reads }

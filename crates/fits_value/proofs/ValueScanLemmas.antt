@@ -9,7 +9,7 @@ use Rattle.fits_value.proofs.NumberFrontLemmas.{IsFirst, Begins, first_is_not, b
 use Rattle.fits_value.proofs.PairLemmas.{pair_found, pair_only}
 use Rattle.fits_value.specs.Spelling.{is_space, doubled, IsComplexOf, Spells}
 use Rattle.fits_value.specs.Field.{part}
-use Rattle.fits_value.specs.Scan.{closing_of, number_of, pair_of, value_of}
+use Rattle.fits_value.specs.Scan.{closing_of, number_of, pair_of, front_value}
 use Rattle.fits_value.specs.declared.reading.ValueKind.{ValueKind}
 use Rattle.fits_value.specs.declared.reading.ValueKind.TheVariants.{Undefined, Logical, Integer, Real, Complex, Str}
 use Rattle.fits_value.specs.declared.scan_complex.Pair.{Pair}
@@ -47,8 +47,8 @@ bracketed b s p e f =
     subst (λ (x : ℕ). Spells Complex (take p.len (x ∷ s))) is (part (40 ∷ s) p.real, part (40 ∷ s) p.imaginary, pair_found s p f)
 
 -- the value that is found is spelled so
-pub value_found : (s : List ℕ) (k : ValueKind) (n : ℕ) → value_of s ≡ Some (k, n) → Spells k (take n s)
-unfolding value_of
+pub value_found : (s : List ℕ) (k : ValueKind) (n : ℕ) → front_value s ≡ Some (k, n) → Spells k (take n s)
+unfolding front_value
 value_found [] k n e = told [] (Undefined, 0) (k, n) e refl
 value_found (b ∷ s) k n e = elim (chosen (eqb b 47) _ _ (Some (k, n)) e) [
   | inl w ↦ told (b ∷ s) (Undefined, 0) (k, n) w.1 refl
@@ -69,14 +69,14 @@ value_found (b ∷ s) k n e = elim (chosen (eqb b 47) _ _ (Some (k, n)) e) [
 ]
 
 -- no value stands before the end or a slash
-pub value_undefined : (r : List ℕ) → (r ≡ []) ⊎ ((s : List ℕ) × (r ≡ 47 ∷ s)) → value_of r ≡ Some (Undefined, 0)
-unfolding value_of
+pub value_undefined : (r : List ℕ) → (r ≡ []) ⊎ ((s : List ℕ) × (r ≡ 47 ∷ s)) → front_value r ≡ Some (Undefined, 0)
+unfolding front_value
 value_undefined r (inl e) = rw e refl
 value_undefined r (inr w) = rw w.1 refl
 
 -- a logical value is found
-value_logical : (v r : List ℕ) → (v ≡ 84 ∷ []) ⊎ (v ≡ 70 ∷ []) → value_of (v ++ r) ≡ Some (Logical, length v)
-unfolding value_of
+value_logical : (v r : List ℕ) → (v ≡ 84 ∷ []) ⊎ (v ≡ 70 ∷ []) → front_value (v ++ r) ≡ Some (Logical, length v)
+unfolding front_value
 value_logical v r (inl e) = rw e refl
 value_logical v r (inr e) = rw e refl
 
@@ -86,27 +86,27 @@ stops_quote [] h = tt
 stops_quote (b ∷ r) h = separator_is_not b 39 h (inl refl)
 
 -- a string is found
-value_quoted : (cs r : List ℕ) → Separates r → value_of ((39 ∷ doubled cs ++ 39 ∷ []) ++ r) ≡ Some (Str, length (39 ∷ doubled cs ++ 39 ∷ []))
-unfolding value_of
+value_quoted : (cs r : List ℕ) → Separates r → front_value ((39 ∷ doubled cs ++ 39 ∷ []) ++ r) ≡ Some (Str, length (39 ∷ doubled cs ++ 39 ∷ []))
+unfolding front_value
 value_quoted cs r h =
     let found : closing_of ((doubled cs ++ 39 ∷ []) ++ r) ≡ Some (length (doubled cs)) = ap closing_of (append_assoc (doubled cs) (39 ∷ []) r) ∙ closing_only cs r (stops_quote r h) in
     let size : length (doubled cs) + 2 ≡ suc (length (doubled cs ++ 39 ∷ [])) = omega (arith, length-append (doubled cs) (39 ∷ [])) in
     rw found (ap (λ (n : ℕ). let x : ValueKind × ℕ = (Str, n) in Some x) size)
 
 -- a value behind an opening bracket is a complex number
-value_bracketed : (s : List ℕ) (p : Pair) → pair_of s ≡ Some p → value_of (40 ∷ s) ≡ Some (Complex, p.len)
-unfolding value_of
+value_bracketed : (s : List ℕ) (p : Pair) → pair_of s ≡ Some p → front_value (40 ∷ s) ≡ Some (Complex, p.len)
+unfolding front_value
 value_bracketed s p f = rw f refl
 
 -- a complex number is found
-value_complex : (v real imaginary r : List ℕ) → IsComplexOf v real imaginary → value_of (v ++ r) ≡ Some (Complex, length v)
+value_complex : (v real imaginary r : List ℕ) → IsComplexOf v real imaginary → front_value (v ++ r) ≡ Some (Complex, length v)
 value_complex v real imaginary r h =
     let w = pair_only v real imaginary r h in
-    ap value_of w.begins ∙ (value_bracketed w.tail w.pair w.found ∙ ap (λ (n : ℕ). let x : ValueKind × ℕ = (Complex, n) in Some x) w.len)
+    ap front_value w.begins ∙ (value_bracketed w.tail w.pair w.found ∙ ap (λ (n : ℕ). let x : ValueKind × ℕ = (Complex, n) in Some x) w.len)
 
 -- what begins as a number is read as one
-value_first : (b : ℕ) (s : List ℕ) → IsFirst b → value_of (b ∷ s) ≡ number_of (b ∷ s)
-unfolding value_of
+value_first : (b : ℕ) (s : List ℕ) → IsFirst b → front_value (b ∷ s) ≡ number_of (b ∷ s)
+unfolding front_value
 value_first b s f =
     cond-false (eqb b 47) _ _ (first_is_not b 47 f (inl refl))
     ∙ (cond-false (eqb b 39) _ _ (first_is_not b 39 f (inr (inl refl)))
@@ -114,17 +114,17 @@ value_first b s f =
     ∙ cond-false (eqb b 40) _ _ (first_is_not b 40 f (inr (inr (inr (inr refl)))))))
 
 -- a list that begins as a number
-value_begins : (s : List ℕ) → Begins s → value_of s ≡ number_of s
-value_begins s h = ap value_of h.is ∙ (value_first h.head h.tail h.first ∙ ap number_of (sym h.is))
+value_begins : (s : List ℕ) → Begins s → front_value s ≡ number_of s
+value_begins s h = ap front_value h.is ∙ (value_first h.head h.tail h.first ∙ ap number_of (sym h.is))
 
 -- a value that is spelled, before what separates it, is found
-pub value_only : (k : ValueKind) (v r : List ℕ) → (k ≡ Undefined → ⊥) → Spells k v → Separates r → value_of (v ++ r) ≡ Some (k, length v)
+pub value_only : (k : ValueKind) (v r : List ℕ) → (k ≡ Undefined → ⊥) → Spells k v → Separates r → front_value (v ++ r) ≡ Some (k, length v)
 value_only Undefined v r k h s = absurd (k refl)
 value_only Logical v r k h s = value_logical v r h
 value_only Integer v r k h s = value_begins (v ++ r) (begins_number v r (inl h)) ∙ number_integer v r h s
 value_only Real v r k h s = value_begins (v ++ r) (begins_number v r (inr h)) ∙ number_real v r h s
 value_only Complex v r k h s = value_complex v h.0 h.1 r h.2
-value_only Str v r k h s = subst (λ (x : List ℕ). value_of (x ++ r) ≡ Some (Str, length x)) (sym h.1) (value_quoted h.0 r s)
+value_only Str v r k h s = subst (λ (x : List ℕ). front_value (x ++ r) ≡ Some (Str, length x)) (sym h.1) (value_quoted h.0 r s)
 
 -- a value does not begin with a space
 pub spelled_stops : (k : ValueKind) (v t : List ℕ) → (k ≡ Undefined → ⊥) → Spells k v → Stops is_space (v ++ t)

@@ -10,7 +10,7 @@ use Rattle.fits_value.proofs.PairLemmas.{pair_within}
 use Rattle.fits_value.proofs.ValueScanLemmas.{same_pair}
 use Rattle.fits_value.proofs.FieldLemmas.{ending_value}
 use Rattle.fits_value.specs.Spelling.{is_space, is_digit, is_sign, is_exponent_letter, doubled}
-use Rattle.fits_value.specs.Scan.{sign_of, exponent_of, fraction_of, closing_of, pair_of, number_of, value_of, value_span, valued_of, reading_of}
+use Rattle.fits_value.specs.Scan.{sign_of, exponent_of, fraction_length, closing_of, pair_of, number_of, front_value, value_span, valued_of, reading_of}
 use Rattle.fits_value.specs.declared.reading.ValueKind.{ValueKind}
 use Rattle.fits_value.specs.declared.reading.ValueKind.TheVariants.{Undefined, Logical, Integer, Real, Complex, Str}
 use Rattle.fits_value.specs.declared.reading.Reading.{Reading}
@@ -28,7 +28,7 @@ sign_within [] = omega arith
 sign_within (b ∷ s) = cond_both (is_sign b) 1 0 (λ n. n ≤ length (b ∷ s)) (λ e. omega arith) (λ e. omega arith)
 
 -- a point and digits
-fraction_within : (s : List ℕ) → fraction_of s ≤ length s
+fraction_within : (s : List ℕ) → fraction_length s ≤ length s
 fraction_within [] = omega arith
 fraction_within (b ∷ s) =
     let size = front_within is_digit s in
@@ -52,7 +52,7 @@ number_within s k n e =
     let body = drop a s in
     let b = prefix_len is_digit body in
     let rest = drop b body in
-    let c = fraction_of rest in
+    let c = fraction_length rest in
     let d = exponent_of (drop c rest) in
     let kind : ValueKind = cond ((eqb c 0) && (eqb d 0)) Integer Real in
     elim (chosen (ltb 0 (b + (c - 1))) (Some (kind, a + (b + (c + d)))) None (Some (k, n)) e) [
@@ -79,8 +79,8 @@ closing_within s n e =
     omega (arith, h.place, ap length h.whole, length-append (doubled h.characters) (39 ∷ h.rest))
 
 -- a value
-value_within : (s : List ℕ) (k : ValueKind) (n : ℕ) → value_of s ≡ Some (k, n) → n ≤ length s
-unfolding value_of
+value_within : (s : List ℕ) (k : ValueKind) (n : ℕ) → front_value s ≡ Some (k, n) → n ≤ length s
+unfolding front_value
 value_within [] k n e = let p = same_pair (Undefined, 0) (k, n) e in omega (arith, p.1)
 value_within (b ∷ s) k n e = elim (chosen (eqb b 47) _ _ (Some (k, n)) e) [
   | inl w ↦ let p = same_pair (Undefined, 0) (k, n) w.1 in omega (arith, p.1)
@@ -110,7 +110,7 @@ span_within Complex start len = omega arith
 span_within Str start len = omega arith
 
 -- the value of a reading, from the value that was taken
-valued_within : (text : List ℕ) (o : Option (ValueKind × ℕ)) (r : Reading) → value_of (drop (prefix_len is_space text) text) ≡ o
+valued_within : (text : List ℕ) (o : Option (ValueKind × ℕ)) (r : Reading) → front_value (drop (prefix_len is_space text) text) ≡ o
     → valued_of (prefix_len is_space text) (drop (prefix_len is_space text) text) o ≡ Some r → r.value.end ≤ length text
 valued_within text None r e f = absurd (cc)
 valued_within text (Some v) r e f =
@@ -124,4 +124,4 @@ valued_within text (Some v) r e f =
 -- the value of a reading that is found lies in the text
 pub reading_within : (text : List ℕ) (r : Reading) → reading_of text ≡ Some r → r.value.end ≤ length text
 unfolding reading_of
-reading_within text r e = valued_within text (value_of (drop (prefix_len is_space text) text)) r refl e
+reading_within text r e = valued_within text (front_value (drop (prefix_len is_space text) text)) r refl e

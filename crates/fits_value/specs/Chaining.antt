@@ -1,24 +1,18 @@
--- What is known on the way along a chain: private contracts alone name it (own).
-use Rattle.std.specs.Prelude.{◌≡◌, ℕ, ◌+◌, List, ◌∷◌, drop, length, Option}
-use Rattle.std.specs.List.{flat_map}
-use Rattle.fits_value.specs.Value.{CardSays}
-use Rattle.fits_value.specs.LongString.{Piece, IsContinueCard, EndsInAmpersand, IsRun, cards_from, without_last}
-use Rattle.fits_value.specs.declared.value.Value.TheVariants.{Str}
+-- The steps along a chain: private contracts alone name them (own).
+use Rattle.std.specs.Prelude.{◌≡◌, ℕ, List, [], ◌∷◌, ◌++◌, Option, None, if◌then◌else◌}
+use Rattle.std.specs.Option.{option_map}
+use Rattle.fits_value.specs.Says.{link_says, links_of, ends_in_ampersand, joined}
 
--- the card behind a place continues a piece by this text and comment
-pub record ContinuesBy (cards : List (List ℕ)) (place : ℕ) (piece text : List ℕ) (comment : Option (List ℕ)) : Type 0 where
-  pub is_open : EndsInAmpersand piece
-  pub card : List ℕ
-  pub at : drop place cards ≡ card ∷ drop (place + 1) cards
-  pub is_continue : IsContinueCard card
-  pub says : CardSays card (Str text) comment
+-- the link that continues a text: that of the next card, where the text ends in an ampersand
+abbrev pub next_link : List ℕ → List (List ℕ) → Option (List ℕ × Option (List ℕ))
+next_link text [] = None
+next_link text (card ∷ cards) = if ends_in_ampersand text then link_says card else None
 
--- the cards from one place to another are a run: what its pieces but the last join to, its last piece and comment
-pub record JoinsTo (cards : List (List ℕ)) (first place : ℕ) (joined piece : List ℕ) (comment : Option (List ℕ)) : Type 0 where
-  pub front : List Piece
-  pub last : Piece
-  pub run : IsRun (cards_from cards first) front last (drop place cards)
-  pub size : place ≡ first + length front
-  pub joined_is : joined ≡ flat_map (λ p. without_last p.text) front
-  pub piece_is : piece ≡ last.text
-  pub comment_is : comment ≡ last.comment
+-- its string alone
+abbrev pub next_string : List ℕ → List (List ℕ) → Option (List ℕ)
+next_string text cards = option_map (λ link. link.0) (next_link text cards)
+
+-- a text joined so far, with what a piece and the cards after it join to, is the whole
+pub record JoinsTo (whole : List ℕ × Option (List ℕ)) (so_far piece : List ℕ) (comment : Option (List ℕ)) (cards : List (List ℕ)) : Type 0 where
+  pub text : whole.0 ≡ so_far ++ (joined piece comment (links_of cards)).0
+  pub comment_is : whole.1 ≡ (joined piece comment (links_of cards)).1

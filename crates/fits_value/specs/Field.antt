@@ -1,5 +1,5 @@
 -- What a field says: a value's kind, its spelling and a comment (FITS Standard 4.0, section 4.1.2.3).
-use Rattle.std.specs.Prelude.{◌≡◌, ℕ, ◌≤◌, List, [], ◌∷◌, ◌++◌, length, drop, Option, None, Some, IfSome}
+use Rattle.std.specs.Prelude.{codes, ◌≡◌, ℕ, ◌≤◌, List, [], ◌++◌, length, drop, Option, None, Some, IfSome}
 use Rattle.std.specs.List.{slice_range, suffix_len}
 use Rattle.fits_card.specs.Card.{IsText}
 use Rattle.fits_value.specs.Spelling.{is_space, IsSpaces, Spells}
@@ -11,7 +11,7 @@ use Rattle.fits_value.specs.declared.reading.Reading.{Reading}
 -- nothing, or a slash, a comment that ends in no space, and spaces (4.1.2.3)
 abbrev pub IsEndingOf : List ℕ → Option (List ℕ) → Type 0
 IsEndingOf ending None = ending ≡ []
-IsEndingOf ending (Some comment) = (spaces : List ℕ) × IsSpaces spaces × (suffix_len is_space comment ≡ 0) × (ending ≡ 47 ∷ comment ++ spaces)
+IsEndingOf ending (Some comment) = (spaces : List ℕ) × IsSpaces spaces × (suffix_len is_space comment ≡ 0) × (ending ≡ codes "/" ++ comment ++ spaces)
 
 -- spaces, a value as it is spelled, spaces, and nothing or a slash with a comment (4.1.2.3)
 pub record FieldReadsAs (text : List ℕ) (kind : ValueKind) (spelling : List ℕ) (comment : Option (List ℕ)) : Type 0 where
@@ -47,4 +47,4 @@ pub record IsPlacedIn (text : List ℕ) (from : ℕ) (reading : Reading) : Type 
   pub no_value : reading.kind ≡ Undefined → reading.value ≡ record { start = from; end = from }
   pub comment_order : IfSome reading.comment (λ span. span.start ≤ span.end)
   pub comment_within : IfSome reading.comment (λ span. span.end ≤ length text)
-  pub comment_after : IfSome reading.comment (λ span. (spaces : List ℕ) × IsSpaces spaces × (part text (record { start = reading.value.end; end = span.start }) ≡ spaces ++ 47 ∷ []))
+  pub comment_after : IfSome reading.comment (λ span. (spaces : List ℕ) × IsSpaces spaces × (part text (record { start = reading.value.end; end = span.start }) ≡ spaces ++ codes "/"))

@@ -1,4 +1,5 @@
 pub mod Chaining
+pub mod Characters
 pub mod Field
 pub mod LongString
 pub mod Number
@@ -8,3 +9,4 @@ pub mod Scan
 pub mod Spelling
 pub mod Text
 pub mod Value
+pub mod Written

@@ -27,7 +27,7 @@ pub record IsContinueCard (card : List ℕ) : Type 0 where
 
 -- the text ends in an ampersand: it may be continued (4.2.1.2)
 abbrev pub EndsInAmpersand : List ℕ → Type 0
-EndsInAmpersand text = (front : List ℕ) × (text ≡ front ++ 38 ∷ [])
+EndsInAmpersand text = (front : List ℕ) × (text ≡ front ++ codes "&")
 
 -- a proper CONTINUE card comes first
 abbrev pub BeginsWithContinue : List (List ℕ) → Type 0

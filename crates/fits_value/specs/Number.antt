@@ -1,9 +1,9 @@
 -- The numbers that integers and reals denote, by digits and decimal exponent (FITS Standard 4.0, sections 4.2.3 and 4.2.4).
-use Rattle.std.specs.Prelude.{◌≡◌, ◌⊎◌, Bool, true, false, ℕ, suc, ◌<◌, ◌+◌, ◌*◌, ◌-◌, ◌^◌, ℤ, pos, negsuc, neg_ℤ, IsTrue, List, [], ◌∷◌, ◌++◌, length}
+use Rattle.std.specs.Prelude.{codes, ◌≡◌, ◌⊎◌, Bool, true, false, ℕ, suc, ◌<◌, ◌+◌, ◌*◌, ◌-◌, ◌^◌, ℤ, pos, negsuc, neg_ℤ, IsTrue, List, [], ◌∷◌, ◌++◌, length}
 use Rattle.std.specs.List.{fold}
-use Rattle.fits_value.specs.Spelling.{IsDigits, AreSomeDigits, is_exponent_letter}
+use Rattle.fits_value.specs.Characters.{IsDigits, AreSomeDigits, is_exponent_letter}
 
--- a number with one more digit behind its digits
+-- a number with one more digit after its digits
 abbrev pub with_digit : ℕ → ℕ → ℕ
 with_digit number digit = number * 10 + (digit - 48)
 
@@ -18,8 +18,8 @@ signed true size = neg_ℤ (pos size)
 
 -- where negative a minus sign, else a plus sign or nothing
 abbrev pub IsSignOf : List ℕ → Bool → Type 0
-IsSignOf sign true = sign ≡ 45 ∷ []
-IsSignOf sign false = (sign ≡ []) ⊎ (sign ≡ 43 ∷ [])
+IsSignOf sign true = sign ≡ codes "-"
+IsSignOf sign false = (sign ≡ []) ⊎ (sign ≡ codes "+")
 
 -- [sign] digits (4.2.3)
 pub record IsSigned (text : List ℕ) (negative : Bool) (digits : List ℕ) : Type 0 where
@@ -27,6 +27,12 @@ pub record IsSigned (text : List ℕ) (negative : Bool) (digits : List ℕ) : Ty
   pub is_sign : IsSignOf sign negative
   pub are_digits : AreSomeDigits digits
   pub parts : text ≡ sign ++ digits
+
+-- [sign] digits, whatever they are (4.2.3)
+pub record IsInteger (text : List ℕ) : Type 0 where
+  pub negative : Bool
+  pub digits : List ℕ
+  pub spelled : IsSigned text negative digits
 
 -- the text is an integer, and this is its number (4.2.3)
 pub record IsIntegerOf (text : List ℕ) (number : ℤ) : Type 0 where
@@ -40,7 +46,7 @@ abbrev pub IsPowerOf : List ℕ → ℤ → Type 0
 IsPowerOf [] power = power ≡ pos 0
 IsPowerOf (letter ∷ text) power = IsTrue (is_exponent_letter letter) × IsIntegerOf text power
 
--- [sign] digits, with digits behind a point or without a point, [exponent] (4.2.3, 4.2.4)
+-- [sign] digits, with digits after a point or without a point, [exponent] (4.2.3, 4.2.4)
 pub record IsDecimal (text : List ℕ) (negative : Bool) (front back : List ℕ) (power : ℤ) : Type 0 where
   pub sign : List ℕ
   pub point : List ℕ
@@ -49,9 +55,22 @@ pub record IsDecimal (text : List ℕ) (negative : Bool) (front back : List ℕ)
   pub are_front : IsDigits front
   pub are_back : IsDigits back
   pub some : 0 < length front + length back
-  pub is_point : (point ≡ 46 ∷ back) ⊎ ((point ≡ []) × (back ≡ []))
+  pub is_point : (point ≡ codes "." ++ back) ⊎ ((point ≡ []) × (back ≡ []))
   pub is_power : IsPowerOf exponent power
   pub parts : text ≡ sign ++ front ++ point ++ exponent
+
+-- a decimal with a point or an exponent, or both (4.2.4)
+pub record IsReal (text : List ℕ) : Type 0 where
+  pub negative : Bool
+  pub front : List ℕ
+  pub back : List ℕ
+  pub power : ℤ
+  pub spelled : IsDecimal text negative front back power
+  pub form : (spelled.point ≡ codes "." ++ back) ⊎ (0 < length spelled.exponent)
+
+-- an integer or a real number
+abbrev pub IsNumber : List ℕ → Type 0
+IsNumber text = IsInteger text ⊎ IsReal text
 
 -- how far a power of ten raises a number
 abbrev pub raised : ℤ → ℕ

@@ -17,12 +17,12 @@ after_sign (byte ∷ text) = if is_sign byte then text else byte ∷ text
 abbrev pub after_digits : List ℕ → List ℕ
 after_digits text = drop (prefix_len is_digit text) text
 
--- the digits behind the point that the list begins with
-abbrev pub fraction_of : List ℕ → List ℕ
-fraction_of [] = []
-fraction_of (byte ∷ text) = if byte == 46 then take_while is_digit text else []
+-- the digits after the point that the list begins with
+abbrev pub fraction_digits : List ℕ → List ℕ
+fraction_digits [] = []
+fraction_digits (byte ∷ text) = if byte == 46 then take_while is_digit text else []
 
--- the list without the point that it begins with and the digits behind it
+-- the list without the point that it begins with and the digits after it
 abbrev pub after_fraction : List ℕ → List ℕ
 after_fraction [] = []
 after_fraction (byte ∷ text) = if byte == 46 then after_digits text else byte ∷ text

@@ -1,5 +1,5 @@
 -- What texts, cards and places say, as functions: the laws tie them to the relations, which are the definitions (own).
-use Rattle.std.specs.Prelude.{ℕ, ◌-◌, Bool, ◌&&◌, nat_lt, ℤ, List, [], ◌∷◌, ◌++◌, length, take, drop, codes, Option, None, Some, if◌then◌else◌}
+use Rattle.std.specs.Prelude.{ℕ, ◌+◌, ◌-◌, ◌<◌, ◌≤◌, Bool, ◌&&◌, nat_lt, ℤ, List, [], ◌∷◌, ◌++◌, length, take, drop, codes, Option, None, Some, if◌then◌else◌}
 use Rattle.std.specs.List.{list_all}
 use Rattle.std.specs.Option.{option_map}
 use Rattle.std.specs.Str.{bytes_eq}
@@ -47,21 +47,33 @@ field_says text = if is_text text then read_said text (reading_of text) else Non
 unfoldable pub card_says : List ℕ → Option (Value × Option (List ℕ))
 card_says card = if is_text card then field_says (field card) else None
 
--- a string and its comment
-abbrev pub string_of : Value → Option (List ℕ) → Option (List ℕ × Option (List ℕ))
-string_of (Str text) comment = Some (text, comment)
-string_of value comment = None
+-- the text of a value that is a string, with a comment
+abbrev pub string_with : Value → Option (List ℕ) → Option (List ℕ × Option (List ℕ))
+string_with (Str text) comment = Some (text, comment)
+string_with value comment = None
 
--- the string that is said, and its comment
-abbrev pub string_said : Option (Value × Option (List ℕ)) → Option (List ℕ × Option (List ℕ))
-string_said None = None
-string_said (Some said) = string_of said.0 said.1
+-- the string that is said, with its comment
+abbrev pub said_string : Option (Value × Option (List ℕ)) → Option (List ℕ × Option (List ℕ))
+said_string None = None
+said_string (Some said) = string_with said.0 said.1
 
--- the string and the comment of a proper CONTINUE card: spaces in bytes 9 and 10, and a string (4.2.1.2)
+-- the string that a card says alone, decoded and in normal form (4.2.1.1)
+unfoldable pub card_string : List ℕ → Option (List ℕ)
+card_string card = option_map (λ said. said.0) (said_string (card_says card))
+
+-- named CONTINUE, with spaces in bytes 9 and 10 (4.2.1.2)
+unfoldable pub is_continue : List ℕ → Bool
+is_continue card = bytes_eq (keyword_name card) (codes "CONTINUE") && bytes_eq (indicator card) (codes "  ")
+
+-- the string and the comment of a proper CONTINUE card (4.2.1.2)
 unfoldable pub link_says : List ℕ → Option (List ℕ × Option (List ℕ))
-link_says card = if bytes_eq (keyword_name card) (codes "CONTINUE") && bytes_eq (indicator card) (codes "  ") then string_said (card_says card) else None
+link_says card = if is_continue card then said_string (card_says card) else None
 
--- a string and comment before those of the cards behind, where there is one
+-- its string alone
+unfoldable pub link_string : List ℕ → Option (List ℕ)
+link_string card = if is_continue card then card_string card else None
+
+-- a string and comment before those of the cards after it, where there is one
 abbrev pub link_before : Option (List ℕ × Option (List ℕ)) → List (List ℕ × Option (List ℕ)) → List (List ℕ × Option (List ℕ))
 link_before None links = []
 link_before (Some link) links = link ∷ links
@@ -82,9 +94,13 @@ joined text comment (link ∷ links) =
     let rest = joined link.0 link.1 links in
     if ends_in_ampersand text then (without_last text ++ rest.0, rest.1) else (text, comment)
 
--- what a card's value and comment come to, with the cards behind it: a string goes on in their links
+-- the string in normal form and the comment that a text and its comment come to with the cards after them (4.2.1.2)
+abbrev pub whole_string : List ℕ → Option (List ℕ) → List (List ℕ) → List ℕ × Option (List ℕ)
+whole_string text comment cards = let chain = joined text comment (links_of cards) in (normal_form chain.0, chain.1)
+
+-- what a card's value and comment come to, with the cards after it: a string goes on in their links
 abbrev pub continued : Value → Option (List ℕ) → List (List ℕ) → Value × Option (List ℕ)
-continued (Str text) comment cards = let chain = joined text comment (links_of cards) in (Str (normal_form chain.0), chain.1)
+continued (Str text) comment cards = let whole = whole_string text comment cards in (Str whole.0, whole.1)
 continued value comment cards = (value, comment)
 
 -- what the first of these cards says: only a value field begins a chain (4.2.1.2)
@@ -96,7 +112,37 @@ first_says (card ∷ cards) = if has_value card then option_map (λ said. contin
 unfoldable pub long_says : List (List ℕ) → ℕ → Option (Value × Option (List ℕ))
 long_says cards place = first_says (cards_from cards place)
 
--- the number of digits behind a sign
+-- how many links a text goes on in: it and each but the last end in an ampersand (4.2.1.2)
+abbrev pub links_after : List ℕ → List (List ℕ × Option (List ℕ)) → ℕ
+links_after text [] = 0
+links_after text (link ∷ links) = if ends_in_ampersand text then 1 + links_after link.0 links else 0
+
+-- how many cards a string has that goes on in the links after it
+abbrev pub string_cards : Option (List ℕ) → List (List ℕ) → ℕ
+string_cards None cards = 0
+string_cards (Some text) cards = 1 + links_after text (links_of cards)
+
+-- how many cards the chain has that the first of these begins
+abbrev pub first_chain_length : List (List ℕ) → ℕ
+first_chain_length [] = 0
+first_chain_length (card ∷ cards) = if has_value card then string_cards (card_string card) cards else 0
+
+-- how many cards the chain has that begins at a place, 0 where none begins (4.2.1.2)
+unfoldable pub chain_length : List (List ℕ) → ℕ → ℕ
+chain_length cards place = first_chain_length (cards_from cards place)
+
+-- how many CONTINUE cards belong to the string that begins at a place, 0 where none begins (4.2.1.2)
+abbrev pub link_count : List (List ℕ) → ℕ → ℕ
+link_count cards place = chain_length cards place - 1
+
+-- the card at a place belongs to a string that begins before it (4.2.1.2)
+pub record IsLink (cards : List (List ℕ)) (place : ℕ) : Type 0 where
+  pub first : ℕ
+  pub from : 1 ≤ first
+  pub before : first < place
+  pub within : place < first + chain_length cards first
+
+-- the number of digits after a sign
 abbrev pub number_in : Bool → List ℕ → Option ℤ
 number_in negative digits = if nat_lt 0 (length digits) && list_all is_digit digits then Some (signed negative (value_of digits)) else None
 

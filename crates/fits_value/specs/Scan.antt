@@ -1,4 +1,5 @@
--- What the scanner's steps compute, as functions on lists: private contracts alone name them (own).
+-- The scanner's steps, as functions on lists (own). What texts and cards say is computed by them, and `laws` tie
+-- that to the relations of Field, Value and LongString, which are the definitions.
 use Rattle.std.specs.Prelude.{ℕ, ◌≤◌, ◌+◌, ◌-◌, ◌&&◌, ◌||◌, ◌==◌, List, [], ◌∷◌, length, drop, Option, None, Some, if◌then◌else◌, nat_lt}
 use Rattle.std.specs.List.{prefix_len, suffix_len}
 use Rattle.std.specs.Option.{option_map}
@@ -29,10 +30,10 @@ exponent_of (b ∷ s) =
     let digits = prefix_len is_digit (drop sign s) in
     if is_exponent_letter b && nat_lt 0 digits then 1 + (sign + digits) else 0
 
--- how many bytes a point and the digits behind it take, 0 where there is no point
-abbrev pub fraction_of : List ℕ → ℕ
-fraction_of [] = 0
-fraction_of (b ∷ s) = if b == 46 then 1 + prefix_len is_digit s else 0
+-- how many bytes a point and the digits after it take, 0 where there is no point
+abbrev pub fraction_length : List ℕ → ℕ
+fraction_length [] = 0
+fraction_length (b ∷ s) = if b == 46 then 1 + prefix_len is_digit s else 0
 
 -- the kind and the bytes of a number by the lengths of its sign, first digits, fraction and exponent
 abbrev pub made_of : ℕ → ℕ → ℕ → ℕ → Option (ValueKind × ℕ)
@@ -43,7 +44,7 @@ made_of sign front back exponent =
 
 -- the kind and the bytes of a number whose sign and first digits were taken
 abbrev pub tail_of : ℕ → ℕ → List ℕ → Option (ValueKind × ℕ)
-tail_of sign front rest = made_of sign front (fraction_of rest) (exponent_of (drop (fraction_of rest) rest))
+tail_of sign front rest = made_of sign front (fraction_length rest) (exponent_of (drop (fraction_length rest) rest))
 
 -- the kind and the bytes of a number whose sign was taken
 abbrev pub unsigned_of : ℕ → List ℕ → Option (ValueKind × ℕ)
@@ -55,7 +56,7 @@ unsigned_of sign s =
 unfoldable pub number_of : List ℕ → Option (ValueKind × ℕ)
 number_of s = unsigned_of (sign_of s) (drop (sign_of s) s)
 
--- the number after so many spaces, and how far it goes with the spaces behind it
+-- the number after so many spaces, and how far it goes with the spaces after it
 abbrev pub element_at : ℕ → List ℕ → Option (ValueKind × ℕ) → Option Element
 element_at before s None = None
 element_at before s (Some number) =
@@ -88,7 +89,7 @@ abbrev pub second_of : Element → List ℕ → Option Element → Option Pair
 second_of real s None = None
 second_of real s (Some imaginary) = closed_of real imaginary (drop imaginary.len s)
 
--- the pair of an element and the one behind a comma
+-- the pair of an element and the one after a comma
 abbrev pub comma_of : Element → List ℕ → Option Pair
 comma_of real [] = None
 comma_of real (b ∷ s) = if b == 44 then second_of real s (element_of s) else None
@@ -103,9 +104,9 @@ unfoldable pub pair_of : List ℕ → Option Pair
 pair_of s = first_of s (element_of s)
 
 -- the kind and the bytes of the value at the front of a list that begins with no space
-unfoldable pub value_of : List ℕ → Option (ValueKind × ℕ)
-value_of [] = Some (Undefined, 0)
-value_of (b ∷ s) =
+unfoldable pub front_value : List ℕ → Option (ValueKind × ℕ)
+front_value [] = Some (Undefined, 0)
+front_value (b ∷ s) =
     if b == 47 then Some (Undefined, 0)
     else (if b == 39 then option_map (λ n. (Str, n + 2)) (closing_of s)
     else (if (b == 84) || (b == 70) then Some (Logical, 1)
@@ -138,9 +139,9 @@ valued_of start body (Some v) = rest_of v.0 (value_span v.0 start v.1) (start + 
 unfoldable pub reading_of : List ℕ → Option Reading
 reading_of text =
     let start = prefix_len is_space text in
-    valued_of start (drop start text) (value_of (drop start text))
+    valued_of start (drop start text) (front_value (drop start text))
 
--- the characters of a spelling: the byte behind a quote is passed over
+-- the characters of a spelling: the byte after a quote is passed over
 abbrev pub undoubled : List ℕ → List ℕ
 undoubled [] = []
 undoubled (b ∷ []) = b ∷ []

@@ -1,5 +1,5 @@
 -- Values, and the values that fields and cards say (FITS Standard 4.0, section 4.2).
-use Rattle.std.specs.Prelude.{◌≡◌, ℕ, List, [], ◌∷◌, Option, if◌then◌else◌}
+use Rattle.std.specs.Prelude.{codes, ◌≡◌, ℕ, List, [], Option, if◌then◌else◌}
 use Rattle.fits_card.specs.Card.{IsText}
 use Rattle.fits_value.specs.Spelling.{IsComplexOf, IsStringOf}
 use Rattle.fits_value.specs.Field.{FieldReadsAs, field}
@@ -21,7 +21,7 @@ kind_of (Str text) = kind.Str
 -- the value that is spelled so: numbers as they are written, strings decoded and in normal form (4.2.1 to 4.2.6)
 abbrev pub IsValueOf : Value → List ℕ → Type 0
 IsValueOf Undefined spelling = spelling ≡ []
-IsValueOf (Logical flag) spelling = spelling ≡ (if flag then 84 else 70) ∷ []
+IsValueOf (Logical flag) spelling = spelling ≡ (if flag then codes "T" else codes "F")
 IsValueOf (Integer text) spelling = spelling ≡ text
 IsValueOf (Real text) spelling = spelling ≡ text
 IsValueOf (Complex real imaginary) spelling = IsComplexOf spelling real imaginary

@@ -1,6 +1,6 @@
 //! The characters of strings (FITS Standard 4.0, section 4.2.1).
-ghost use Rattle.std.specs.Prelude.{◌≡◌, ℕ, List, IfOk, take};
-ghost use Rattle.fits_value.specs.Spelling.{doubled};
+ghost use Rattle.std.specs.Prelude.{◌≡◌, ℕ, List, ◌≤◌, IfOk, length, take, drop};
+ghost use Rattle.fits_value.specs.Spelling.{doubled, IsSpaces};
 ghost use Rattle.fits_value.specs.Scan.{undoubled};
 ghost use Rattle.fits_value.specs.Text.{normal_form};
 
@@ -10,7 +10,8 @@ use std::alloc::{AllocError, Global};
 /// The characters that stand between the quotes, where two quotes are one.
 pub(crate) fn decoded(alloc: Global, text: &[u8]) -> Result<Vec<u8>, AllocError>
     ensures value { IfOk result (λ characters. characters.items ≡ undoubled text.now) }
-    ensures spelled { IfOk result (λ characters. (cs : List ℕ) → text.now ≡ doubled cs → characters.items ≡ cs) }
+    ensures spelled { IfOk result (λ characters. (cs : List ℕ)
+        → text.now ≡ doubled cs → characters.items ≡ cs) }
 {
     let mut characters = Vec::new(alloc);
     let mut i = 0;
@@ -25,9 +26,11 @@ pub(crate) fn decoded(alloc: Global, text: &[u8]) -> Result<Vec<u8>, AllocError>
     Ok(characters)
 }
 
-// How many bytes the normal form has: it is a front of the text.
-fn normal_len(text: &[u8]) -> usize
+/// How many bytes the normal form has: it is a prefix of the text.
+pub(crate) fn normal_len(text: &[u8]) -> usize
     ensures value { take result text.now ≡ normal_form text.now }
+    ensures spaces { IsSpaces (drop result text.now) }
+    ensures within { result ≤ length text.now }
 {
     let len = trimmed_len(text);
     if len == 0 { text.len().min(1) } else { len }

@@ -1,6 +1,7 @@
 //! The values that cards of FITS headers hold, and how they are spelled.
 #![tactic(auto)]
 
+mod card_text;
 mod characters;
 pub mod laws;
 pub mod long_string;
@@ -12,7 +13,29 @@ mod scan_complex;
 mod scan_number;
 mod scan_value;
 mod spaces;
-#[cfg(test)]
-mod tests;
+pub mod strings;
 pub mod text;
 pub mod value;
+mod writable;
+pub mod write;
+pub mod write_laws;
+
+pub use laws::{
+    how_long_a_chain_is, integers_denote, integers_have_numbers, numbers_are_spelled,
+    one_card_reading, one_card_value, one_chain, one_field_reading, one_field_value,
+    one_long_value, one_number, what_a_card_says, what_a_field_says, what_a_place_says,
+    which_integer, which_string_a_card_says, which_string_a_link_says,
+};
+pub use long_string::{link_count, long_value};
+pub use number::{denotes, integer_of};
+pub use read::{read_field, read_value};
+pub use reading::{Reading, Span, ValueKind};
+pub use scan::scan_card;
+pub use strings::{CardString, card_string, link_string};
+pub use text::Text;
+pub use value::Value;
+pub use write::{WriteFault, write_value};
+pub use write_laws::{
+    pieces_are_longest, strings_go_over_cards, what_can_be_written, written_cards_are_inner,
+    written_cards_read_back,
+};

@@ -1,35 +1,28 @@
-ghost use Rattle.std.specs.Prelude.{◌≡◌, ◌≤◌, ◌<◌, ◌+◌, ◌*◌, ◌↔◌, ℕ, List, Option, Some, [], ◌∷◌, ◌++◌, length, drop, codes, take, All, IsTrue, IfOk, IfSome, IfNone, OnOk};
+//! Strings that go on over CONTINUE cards (FITS Standard 4.0, section 4.2.1.2).
+ghost use Rattle.std.specs.Prelude.{◌≡◌, ◌≤◌, ◌<◌, ◌+◌, ◌↔◌, ℕ, List, Option, None, [], ◌∷◌, ◌++◌, length, drop, IsTrue, IfOk, IfSome, Ok, OnOk};
+ghost use Rattle.fits_card.specs.CardList.{ReadsUpTo};
 ghost use Rattle.fits_value.specs.Text.{normal_form};
-ghost use Rattle.fits_card.specs.Card.{keyword_name, indicator, HasValue};
-ghost use Rattle.fits_value.specs.Value.{CardSays};
-ghost use Rattle.fits_value.specs.LongString.{Piece, IsContinueCard, EndsInAmpersand, BeginsWithContinue, BeginsChain, IsChain, SaysChain, LongSays, cards_from, without_last};
-ghost use Rattle.fits_value.specs.Says.{long_says};
-ghost use Rattle.fits_value.specs.Chaining.{ContinuesBy, JoinsTo};
-ghost use Rattle.fits_value.specs.declared.value.Value.{Value};
+ghost use Rattle.fits_value.specs.LongString.{EndsInAmpersand, cards_from, without_last};
+ghost use Rattle.fits_value.specs.Says.{link_says, links_of, links_after, whole_string, long_says, chain_length, link_count};
+ghost use Rattle.fits_value.specs.Chaining.{next_link, next_string};
 
 use crate::characters::normalize;
 use crate::read::read_value;
+use crate::strings::{CardString, card_string, link_string};
 use crate::text::Text;
 use crate::value::Value;
-use fits_card::card::Card;
-use fits_card::card_list::CardList;
+use fits_card::{Card, CardList};
 use std::alloc::{AllocError, Global};
 
-// The card at a place, and those behind it.
+// The card at a place, and those after it.
 fn card_at(cards: &mut CardList, place: usize) -> Card
     requires from { 1 ≤ place }
     requires to { place ≤ length cards.old.header.cards }
-    ensures at { cards_from cards.old.header.cards place ≡ result ∷ drop place cards.old.header.cards }
+    ensures at { cards_from cards.old.header.cards place
+        ≡ result ∷ drop place cards.old.header.cards }
     ensures work { cards.new ≡ record cards.old { reads = cards.old.reads + 1 } }
 {
     cards.card(place)
-}
-
-// Whether the card is named CONTINUE and has spaces in bytes 9 and 10.
-fn is_continue(card: &Card) -> bool
-    ensures { IsTrue result ↔ ((keyword_name card.now ≡ codes "CONTINUE") × (indicator card.now ≡ codes "  ")) }
-{
-    card.name().0 == *b"CONTINUE" && card.0[8] == b' ' && card.0[9] == b' '
 }
 
 // Whether a text ends in an ampersand.
@@ -39,14 +32,14 @@ fn is_open(text: &[u8]) -> bool
     matches!(text, [.., b'&'])
 }
 
-// The string and the comment of a proper CONTINUE card.
+// The string and the comment of a proper CONTINUE card. Nothing else asks for memory.
 fn link_of(alloc: Global, card: &Card) -> Result<Option<(Text, Option<Text>)>, AllocError>
-    ensures found { IfOk result (λ link. IfSome link (λ more. IsContinueCard card.now × CardSays card.now (Value.Str more.0) more.1)) }
-    ensures none { IfOk result (λ link. IfNone link (IsContinueCard card.now → ⊥)) }
+    ensures value { IfOk result (λ link. link ≡ link_says card.now) }
+    ensures firm { link_says card.now ≡ None → result ≡ Ok None }
 {
-    if !is_continue(card) {
+    let Some(_) = link_string(card) else {
         return Ok(None);
-    }
+    };
     let Some((value, comment)) = read_value(alloc, card)? else {
         return Ok(None);
     };
@@ -56,7 +49,7 @@ fn link_of(alloc: Global, card: &Card) -> Result<Option<(Text, Option<Text>)>, A
     }
 }
 
-// The string and the comment of the card behind a place, where it continues this piece.
+// The string and the comment of the card after a place, where it continues this piece.
 fn next_piece(
     alloc: Global,
     cards: &mut CardList,
@@ -64,14 +57,12 @@ fn next_piece(
     piece: &[u8],
 ) -> Result<Option<(Text, Option<Text>)>, AllocError>
     requires { place ≤ length cards.old.header.cards }
-    ensures found { IfOk result (λ next. IfSome next (λ more. ContinuesBy cards.old.header.cards place piece.now more.0 more.1)) }
-    ensures within { IfOk result (λ next. IfSome next (λ more. place < length cards.old.header.cards)) }
+    ensures value { IfOk result (λ next.
+        next ≡ next_link piece.now (drop place cards.old.header.cards)) }
+    ensures firm { next_link piece.now (drop place cards.old.header.cards) ≡ None
+        → result ≡ Ok None }
     ensures fits { IfOk result (λ next. IfSome next (λ more. place < usize.MAX)) }
-    ensures none { IfOk result (λ next. IfNone next (EndsInAmpersand piece.now → BeginsWithContinue (drop place cards.old.header.cards) → ⊥)) }
-    ensures header { cards.new.header ≡ cards.old.header }
-    ensures room { cards.new.room ≡ cards.old.room }
-    ensures least_work { cards.old.reads ≤ cards.new.reads }
-    ensures most_work { cards.new.reads ≤ cards.old.reads + 1 }
+    ensures work { ReadsUpTo cards.old cards.new 1 }
 {
     if place == cards.len() || !is_open(piece) {
         return Ok(None);
@@ -99,7 +90,7 @@ fn ended(mut joined: Vec<u8>, piece: &[u8]) -> Result<Text, AllocError>
     Ok(Text::new(joined))
 }
 
-// The string of the chain at a place whose first card says this piece and comment, with the comment of its last card.
+// The string of the chain whose first card stands at a place and says this piece and comment.
 fn chain_at(
     alloc: Global,
     cards: &mut CardList,
@@ -107,15 +98,11 @@ fn chain_at(
     piece: Text,
     comment: Option<Text>,
 ) -> Result<(Text, Option<Text>), AllocError>
-    requires from { 1 ≤ first }
-    requires to { first ≤ length cards.old.header.cards }
-    requires begun { JoinsTo cards.old.header.cards first first [] piece comment }
-    requires value { All HasValue (take 1 (cards_from cards.old.header.cards first)) }
-    ensures said { IfOk result (λ said. SaysChain cards.old.header.cards first (Value.Str said.0) said.1) }
-    ensures header { cards.new.header ≡ cards.old.header }
-    ensures room { cards.new.room ≡ cards.old.room }
-    ensures least_work { cards.old.reads ≤ cards.new.reads }
-    ensures most_work { (front : List Piece) (last : Piece) → IsChain cards.old.header.cards first front last → cards.new.reads ≤ cards.old.reads + length front + 1 }
+    requires { first ≤ length cards.old.header.cards }
+    ensures value { IfOk result (λ said.
+        said ≡ whole_string piece comment (drop first cards.old.header.cards)) }
+    ensures work { ReadsUpTo cards.old cards.new
+        (links_after piece (links_of (drop first cards.old.header.cards)) + 1) }
 {
     let mut joined = Vec::new(alloc);
     let mut piece = piece;
@@ -132,7 +119,8 @@ fn chain_at(
     }
 }
 
-/// What the card at a place says: where it begins a chain, the chain's string and its last card's comment.
+/// What the card at a place says: where it begins a chain, the chain's string and the comment of
+/// its last card.
 pub fn long_value(
     alloc: Global,
     cards: &mut CardList,
@@ -140,18 +128,13 @@ pub fn long_value(
 ) -> Result<Option<(Value, Option<Text>)>, AllocError>
     requires from { 1 ≤ place }
     requires to { place ≤ length cards.old.header.cards }
-    ensures found { IfOk result (λ said. IfSome said (λ reading. LongSays cards.old.header.cards place reading.0 reading.1)) }
-    ensures only { (value : Value) (comment : Option (List ℕ)) → LongSays cards.old.header.cards place value comment
-        → IfOk result (λ said. said ≡ Some (value, comment)) }
-    ensures same { IfOk result (λ said. said ≡ long_says cards.old.header.cards place) }
+    ensures value { IfOk result (λ said. said ≡ long_says cards.old.header.cards place) }
 
-    // The header and its room stay. Cards are read once for a chain, and the one that ends it.
-    ensures header { cards.new.header ≡ cards.old.header }
-    ensures room { cards.new.room ≡ cards.old.room }
-    ensures least_work { cards.old.reads ≤ cards.new.reads }
-    ensures chain_work { (front : List Piece) (last : Piece) → IsChain cards.old.header.cards place front last
-        → cards.new.reads ≤ cards.old.reads + 2 * length (front ++ last ∷ []) + 2 }
-    ensures work { (BeginsChain cards.old.header.cards place → ⊥) → cards.new.reads ≤ cards.old.reads + 2 }
+    // A place that says nothing is never out of memory.
+    ensures firm { long_says cards.old.header.cards place ≡ None → result ≡ Ok None }
+
+    // The cards of the chain are read, and the one after them.
+    ensures work { ReadsUpTo cards.old cards.new (chain_length cards.old.header.cards place + 1) }
 {
     let card = card_at(cards, place);
     let Some((value, comment)) = read_value(alloc, &card)? else {
@@ -166,5 +149,59 @@ pub fn long_value(
             Ok(Some((Value::Str(text), comment)))
         }
         other => Ok(Some((other, comment))),
+    }
+}
+
+// The string of the card after a place, where it continues this text.
+fn next_text(cards: &mut CardList, place: usize, text: &CardString) -> Option<CardString>
+    requires { place ≤ length cards.old.header.cards }
+    ensures value { result ≡ next_string text.now (drop place cards.old.header.cards) }
+    ensures fits { IfSome result (λ next. place < usize.MAX) }
+    ensures work { ReadsUpTo cards.old cards.new 1 }
+{
+    if place == cards.len() || !is_open(text.as_bytes()) {
+        return None;
+    }
+    let card = card_at(cards, place + 1);
+    link_string(&card)
+}
+
+/// How many CONTINUE cards belong to the string that begins at a place, 0 where none begins.
+///
+/// It takes no memory.
+pub fn link_count(cards: &mut CardList, place: usize) -> usize
+    requires from { 1 ≤ place }
+    requires to { place ≤ length cards.old.header.cards }
+    ensures value { result ≡ link_count cards.old.header.cards place }
+    ensures within { place + result ≤ length cards.old.header.cards }
+
+    // The cards of the chain are read, and the one after them.
+    ensures work { ReadsUpTo cards.old cards.new (chain_length cards.old.header.cards place + 1) }
+{
+    let card = card_at(cards, place);
+    if !card.has_value() {
+        return 0;
+    }
+    let Some(text) = card_string(&card) else {
+        return 0;
+    };
+    links_from(cards, place, text)
+}
+
+// How many links a text goes on in that stands on the card at a place.
+fn links_from(cards: &mut CardList, first: usize, text: CardString) -> usize
+    requires { first ≤ length cards.old.header.cards }
+    ensures value { result ≡ links_after text (links_of (drop first cards.old.header.cards)) }
+    ensures within { first + result ≤ length cards.old.header.cards }
+    ensures work { ReadsUpTo cards.old cards.new (result + 1) }
+{
+    let mut text = text;
+    let mut place = first;
+    'links: loop {
+        let Some(next) = next_text(cards, place, &text) else {
+            return place - first;
+        };
+        text = next;
+        place += 1;
     }
 }

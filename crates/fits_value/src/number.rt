@@ -5,12 +5,14 @@ ghost use Rattle.std.specs.List.{fold, list_all, prefix_len, take_while};
 ghost use Rattle.fits_value.specs.Spelling.{is_digit, IsDigits, AreSomeDigits};
 ghost use Rattle.fits_value.specs.Number.{with_digit, value_of, signed, IsSigned, IsIntegerOf, IsPowerOf, IsDecimal, IsExactly, Denotes};
 ghost use Rattle.fits_value.specs.Says.{integer_in};
-ghost use Rattle.fits_value.specs.NumberSteps.{is_minus, after_sign, after_digits, fraction_of, after_fraction};
+ghost use Rattle.fits_value.specs.NumberSteps.{is_minus, after_sign, after_digits, fraction_digits, after_fraction};
+
+use crate::scan_number::digits_len;
 
 /// How many digits a number of 127 bits has at most.
 const MOST_DIGITS: u128 = 39;
 
-/// The parts of an integer or a real: its digits before and behind the point, and those of its exponent.
+/// The parts of an integer or a real: its digits before and after the point, and its exponent's.
 #[derive(Clone, Copy)]
 struct Decimal<'a> {
     is_negative: bool,
@@ -20,7 +22,7 @@ struct Decimal<'a> {
     exponent: &'a [u8],
 }
 
-/// Whether the text begins with a minus sign, and the text behind its sign.
+/// Whether the text begins with a minus sign, and the text after its sign.
 fn split_sign(text: &[u8]) -> (bool, &[u8])
     ensures sign { result.0 ≡ is_minus text.now }
     ensures rest { result.1.now ≡ after_sign text.now }
@@ -32,30 +34,17 @@ fn split_sign(text: &[u8]) -> (bool, &[u8])
     }
 }
 
-/// How many digits the text begins with.
-fn count_digits(text: &[u8]) -> usize
-    ensures value { result ≡ prefix_len is_digit text.now }
-    ensures within { result ≤ length text.now }
-{
-    for (i, byte) in text.iter().enumerate() {
-        if *byte < b'0' || b'9' < *byte {
-            return i;
-        }
-    }
-    text.len()
-}
-
 /// The digits that the text begins with, and the rest.
 fn split_digits(text: &[u8]) -> (&[u8], &[u8])
     ensures digits { result.0.now ≡ take_while is_digit text.now }
     ensures rest { result.1.now ≡ after_digits text.now }
 {
-    text.split_at(count_digits(text))
+    text.split_at(digits_len(text))
 }
 
-/// The digits behind the point that the text begins with, if it does, and the rest.
+/// The digits after the point that the text begins with, if it does, and the rest.
 fn split_fraction(text: &[u8]) -> (&[u8], &[u8])
-    ensures digits { result.0.now ≡ fraction_of text.now }
+    ensures digits { result.0.now ≡ fraction_digits text.now }
     ensures rest { result.1.now ≡ after_fraction text.now }
 {
     match text {
@@ -82,7 +71,8 @@ fn are_some_digits(text: &[u8]) -> bool
 #[tactic(auto, using(crate::proofs::NumberLemmas::integer_reads))]
 fn split_integer(text: &[u8]) -> Option<(bool, &[u8])>
     ensures found { IfSome result (λ r. IsSigned text.now r.0 r.1.now) }
-    ensures only { (negative : Bool) (digits : List ℕ) → IsSigned text.now negative digits → IsSomeAnd result (λ r. (r.0 ≡ negative) × (r.1.now ≡ digits)) }
+    ensures only { (negative : Bool) (digits : List ℕ) → IsSigned text.now negative digits
+        → IsSomeAnd result (λ r. (r.0 ≡ negative) × (r.1.now ≡ digits)) }
 {
     let (is_negative, digits) = split_sign(text);
     if are_some_digits(digits) {
@@ -97,7 +87,8 @@ fn split_integer(text: &[u8]) -> Option<(bool, &[u8])>
 fn split_exponent(text: &[u8]) -> Option<(bool, &[u8])>
     ensures found { IfSome result (λ r. IsPowerOf text.now (signed r.0 (value_of r.1.now))) }
     ensures digits { IfSome result (λ r. IsDigits r.1.now) }
-    ensures only { (power : ℤ) → IsPowerOf text.now power → IsSomeAnd result (λ r. signed r.0 (value_of r.1.now) ≡ power) }
+    ensures only { (power : ℤ) → IsPowerOf text.now power
+        → IsSomeAnd result (λ r. signed r.0 (value_of r.1.now) ≡ power) }
 {
     match text {
         [] => Some((false, &[])),
@@ -109,9 +100,11 @@ fn split_exponent(text: &[u8]) -> Option<(bool, &[u8])>
 /// The parts of an integer or a real.
 #[tactic(auto, using(crate::proofs::NumberLemmas::decimal_reads))]
 fn split_decimal(text: &[u8]) -> Option<Decimal<'_>>
-    ensures found { IfSome result (λ d. IsDecimal text.now d.is_negative d.front.now d.back.now (signed d.is_lowered (value_of d.exponent.now))) }
+    ensures found { IfSome result (λ d. IsDecimal text.now d.is_negative d.front.now d.back.now
+        (signed d.is_lowered (value_of d.exponent.now))) }
     ensures digits { IfSome result (λ d. IsDigits d.exponent.now) }
-    ensures none { IfNone result ((negative : Bool) (front back : List ℕ) (power : ℤ) → IsDecimal text.now negative front back power → ⊥) }
+    ensures none { IfNone result ((negative : Bool) (front back : List ℕ) (power : ℤ)
+        → IsDecimal text.now negative front back power → ⊥) }
 {
     let (is_negative, unsigned) = split_sign(text);
     let (front, tail) = split_digits(unsigned);
@@ -129,7 +122,7 @@ fn split_decimal(text: &[u8]) -> Option<Decimal<'_>>
     })
 }
 
-/// The number that has these digits behind those of `start`, where it is at most `limit`.
+/// The number that has these digits after those of `start`, where it is at most `limit`.
 fn append_digits(start: u128, digits: &[u8], limit: u128) -> Option<u128>
     requires small { limit ≤ 2 ^ 127 }
     requires start { start ≤ limit }
@@ -207,14 +200,15 @@ fn stand_for(front: &[u8], back: &[u8], number: u128) -> bool
     }
 }
 
-/// Whether digits with a point among them are this number once the exponent moves the point to the left.
+/// Whether digits with a point are this number once the exponent moves the point to the left.
 fn equal_lowered(front: &[u8], back: &[u8], exponent: &[u8], number: u128) -> bool
     requires some { 0 < number }
     requires small { number ≤ 2 ^ 127 }
     requires front { IsDigits front.now }
     requires back { IsDigits back.now }
     requires exponent { IsDigits exponent.now }
-    ensures { IsTrue result ↔ (value_of (front.now ++ back.now) ≡ number * 10 ^ (length back.now + value_of exponent.now)) }
+    ensures { IsTrue result ↔ (value_of (front.now ++ back.now)
+        ≡ number * 10 ^ (length back.now + value_of exponent.now)) }
 {
     let Some(places) = append_digits(0, exponent, front.len() as u128) else {
         return false;
@@ -223,14 +217,15 @@ fn equal_lowered(front: &[u8], back: &[u8], exponent: &[u8], number: u128) -> bo
     are_both_zeros(behind, back) && stand_for(whole, &[], number)
 }
 
-/// Whether digits with a point among them are this number once the exponent moves the point to the right.
+/// Whether digits with a point are this number once the exponent moves the point to the right.
 fn equal_raised(front: &[u8], back: &[u8], exponent: &[u8], number: u128) -> bool
     requires some { 0 < number }
     requires small { number ≤ 2 ^ 127 }
     requires front { IsDigits front.now }
     requires back { IsDigits back.now }
     requires exponent { IsDigits exponent.now }
-    ensures { IsTrue result ↔ (value_of (front.now ++ back.now) * 10 ^ value_of exponent.now ≡ number * 10 ^ length back.now) }
+    ensures { IsTrue result ↔ (value_of (front.now ++ back.now) * 10 ^ value_of exponent.now
+        ≡ number * 10 ^ length back.now) }
 {
     let Some(places) = append_digits(0, exponent, back.len() as u128 + MOST_DIGITS) else {
         return false;
@@ -252,7 +247,8 @@ fn equals(decimal: &Decimal<'_>, number: u128) -> bool
     requires front { IsDigits decimal.now.front.now }
     requires back { IsDigits decimal.now.back.now }
     requires exponent { IsDigits decimal.now.exponent.now }
-    ensures { IsTrue result ↔ IsExactly decimal.now.front.now decimal.now.back.now (signed decimal.now.is_lowered (value_of decimal.now.exponent.now)) number }
+    ensures { IsTrue result ↔ IsExactly decimal.now.front.now decimal.now.back.now
+        (signed decimal.now.is_lowered (value_of decimal.now.exponent.now)) number }
 {
     if number == 0 {
         are_both_zeros(decimal.front, decimal.back)
@@ -263,7 +259,7 @@ fn equals(decimal: &Decimal<'_>, number: u128) -> bool
     }
 }
 
-/// Whether the number may stand behind a minus sign, or behind none.
+/// Whether the number may stand after a minus sign, or after none.
 #[tactic(auto, using(crate::proofs::NumberLemmas::signs))]
 fn has_sign(number: i128, is_negative: bool) -> bool
     ensures { IsTrue result ↔ (number ≡ signed is_negative (unsigned_abs number)) }
@@ -297,15 +293,11 @@ fn with_sign(is_negative: bool, size: u128) -> Option<i64>
 
 /// The number of an integer, where it fits.
 pub fn integer_of(text: &[u8]) -> Option<i64>
-    ensures value { IfSome result (λ number. IsIntegerOf text.now number) }
-    ensures only { (number : ℤ) → IsIntegerOf text.now number → FitsSigned w64 number → result ≡ Some number }
-    ensures same { IfSome result (λ number. integer_in text.now ≡ Some number) }
-    ensures none { IfNone result ((number : ℤ) → integer_in text.now ≡ Some number → FitsSigned w64 number → ⊥) }
+    ensures found { IfSome result (λ number. integer_in text.now ≡ Some number) }
+    ensures none { IfNone result ((number : ℤ)
+        → integer_in text.now ≡ Some number → FitsSigned w64 number → ⊥) }
 {
     let (is_negative, digits) = split_integer(text)?;
     let size = append_digits(0, digits, 1 << 63)?;
     with_sign(is_negative, size)
 }
-
-#[cfg(test)]
-mod tests;

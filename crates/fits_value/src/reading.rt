@@ -1,3 +1,5 @@
+ghost use Rattle.std.specs.Prelude.{◌≡◌, ◌≤◌, length};
+
 /// The type of a card's value (FITS Standard 4.0, section 4.2).
 #[derive(Clone, Copy, PartialEq, Eq, Debug)]
 pub enum ValueKind {
@@ -17,6 +19,19 @@ pub enum ValueKind {
 pub struct Span {
     pub start: usize,
     pub end: usize,
+}
+
+impl Span {
+    ghost use Rattle.fits_value.specs.Field.{part};
+
+    /// The bytes of a text that stand here.
+    pub fn part(self, text: &[u8]) -> &[u8]
+        requires order { self.start ≤ self.end }
+        requires within { self.end ≤ length text.now }
+        ensures { result.now ≡ part text.now self }
+    {
+        &text[self.start..self.end]
+    }
 }
 
 /// What a card says, by the places of its bytes in the card.

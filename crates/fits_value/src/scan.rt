@@ -9,7 +9,7 @@ ghost use Rattle.fits_value.specs.declared.reading.ValueKind.{ValueKind};
 use crate::reading::{Reading, Span, ValueKind};
 use crate::scan_value::scan_value;
 use crate::spaces::{spaces_len, trimmed_len};
-use fits_card::card::Card;
+use fits_card::Card;
 
 // Where a value of this kind stands; no value stands nowhere.
 fn span_of(kind: ValueKind, start: usize, len: usize) -> Span
@@ -65,9 +65,13 @@ fn scan_parts(text: &[u8]) -> Option<Reading>
 /// What a text of any length says.
 pub(crate) fn scan_field(text: &[u8]) -> Option<Reading>
     requires { IsText text.now }
-    ensures found { IfSome result (λ reading. FieldReadsAs text.now reading.kind (part text.now reading.value) (option_map (part text.now) reading.comment)) }
-    ensures only { (kind : ValueKind) (spelling : List ℕ) (comment : Option (List ℕ)) → FieldReadsAs text.now kind spelling comment
-        → IsSomeAnd result (λ reading. (reading.kind ≡ kind) × (part text.now reading.value ≡ spelling) × (option_map (part text.now) reading.comment ≡ comment)) }
+    ensures found { IfSome result (λ reading. FieldReadsAs text.now reading.kind
+        (part text.now reading.value) (option_map (part text.now) reading.comment)) }
+    ensures only { (kind : ValueKind) (spelling : List ℕ) (comment : Option (List ℕ))
+        → FieldReadsAs text.now kind spelling comment
+        → IsSomeAnd result (λ reading. (reading.kind ≡ kind)
+        × (part text.now reading.value ≡ spelling)
+        × (option_map (part text.now) reading.comment ≡ comment)) }
     ensures placed { IfSome result (IsPlacedIn text.now 0) }
 {
     scan_parts(text)
@@ -102,12 +106,17 @@ fn moved(reading: Reading) -> Reading
 /// What a card's bytes 11 to 80 say, by places in the card. It takes no memory.
 pub fn scan_card(card: &Card) -> Option<Reading>
     // What is read is said so, and nothing else is.
-    ensures found { IfSome result (λ reading. ReadsAs card.now reading.kind (part card.now reading.value) (option_map (part card.now) reading.comment)) }
-    ensures only { (kind : ValueKind) (spelling : List ℕ) (comment : Option (List ℕ)) → ReadsAs card.now kind spelling comment
-        → IsSomeAnd result (λ reading. (reading.kind ≡ kind) × (part card.now reading.value ≡ spelling) × (option_map (part card.now) reading.comment ≡ comment)) }
+    ensures found { IfSome result (λ reading. ReadsAs card.now reading.kind
+        (part card.now reading.value) (option_map (part card.now) reading.comment)) }
+    ensures only { (kind : ValueKind) (spelling : List ℕ) (comment : Option (List ℕ))
+        → ReadsAs card.now kind spelling comment
+        → IsSomeAnd result (λ reading. (reading.kind ≡ kind)
+        × (part card.now reading.value ≡ spelling)
+        × (option_map (part card.now) reading.comment ≡ comment)) }
 
     // The same as a function: the value that the kind and the bytes spell.
-    ensures said { IfSome result (λ reading. card_says card.now ≡ read_said card.now (Some reading)) }
+    ensures said { IfSome result (λ reading.
+        card_says card.now ≡ read_said card.now (Some reading)) }
     ensures none { IfNone result (card_says card.now ≡ None) }
 
     // The spans are those of the value and the comment, and not of the same bytes elsewhere.

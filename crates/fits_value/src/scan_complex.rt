@@ -50,7 +50,8 @@ fn closed(real: Element, imaginary: Element, text: &[u8]) -> Option<Pair>
     requires second_end { imaginary.end ≤ imaginary.len }
     requires room { 2 + real.len + imaginary.len + length text.now ≤ usize.MAX }
     ensures value { result ≡ closed_of real imaginary text.now }
-    ensures within { IfSome result (λ pair. pair.len ≤ 2 + real.len + imaginary.len + length text.now) }
+    ensures within { IfSome result (λ pair.
+        pair.len ≤ 2 + real.len + imaginary.len + length text.now) }
     ensures order { IfSome result IsOrdered }
 {
     match text {

@@ -1,13 +1,13 @@
-//! Numbers at the front of a text, by the lengths of their parts (FITS Standard 4.0, sections 4.2.3 and 4.2.4).
+//! Numbers at the front of a text, by the lengths of their parts (FITS Standard 4.0, 4.2.3, 4.2.4).
 ghost use Rattle.std.specs.Prelude.{◌≡◌, ◌≤◌, length, IfSome};
 ghost use Rattle.std.specs.List.{prefix_len};
 ghost use Rattle.fits_value.specs.Spelling.{is_digit};
-ghost use Rattle.fits_value.specs.Scan.{sign_of, exponent_of, fraction_of, number_of};
+ghost use Rattle.fits_value.specs.Scan.{sign_of, exponent_of, fraction_length, number_of};
 
 use crate::reading::ValueKind;
 
-// digits
-fn digits_len(text: &[u8]) -> usize
+/// How many digits the text begins with.
+pub(crate) fn digits_len(text: &[u8]) -> usize
     ensures value { result ≡ prefix_len is_digit text.now }
     ensures within { result ≤ length text.now }
 {
@@ -48,7 +48,7 @@ fn exponent_len(text: &[u8]) -> usize
 
 // [. digits]
 fn fraction_len(text: &[u8]) -> usize
-    ensures value { result ≡ fraction_of text.now }
+    ensures value { result ≡ fraction_length text.now }
     ensures within { result ≤ length text.now }
 {
     match text {

@@ -1,6 +1,6 @@
 //! The value at the front of a text (FITS Standard 4.0, section 4.2).
 ghost use Rattle.std.specs.Prelude.{◌≡◌, ◌≤◌, ◌<◌, ◌+◌, length, IfSome};
-ghost use Rattle.fits_value.specs.Scan.{closing_of, value_of};
+ghost use Rattle.fits_value.specs.Scan.{closing_of, front_value};
 
 use crate::reading::ValueKind;
 use crate::scan_complex::scan_pair;
@@ -25,9 +25,9 @@ fn closing_place(text: &[u8]) -> Option<usize>
 }
 
 /// The kind of the value at the front and how many bytes it has: none of them for no value.
-#[tactic(auto, unfolding(crate::specs::Scan::value_of))]
+#[tactic(auto, unfolding(crate::specs::Scan::front_value))]
 pub(crate) fn scan_value(text: &[u8]) -> Option<(ValueKind, usize)>
-    ensures value { result ≡ value_of text.now }
+    ensures value { result ≡ front_value text.now }
     ensures within { IfSome result (λ value. value.1 ≤ length text.now) }
 {
     match text {

@@ -7,4 +7,4 @@ unreachable-requires c = complex_scans c.args.spelling.now _ c.scan_pair.result 
 
 pub returns-clause-value : goal.returns-clause-value
 returns-clause-value c =
-    complex_read c.args.spelling.now _ _ _ c.in-Some.pair c.requires c.split_at.ensures.back c.in-Some.ensures.value (c.in_ok-real.ensures ∙ c.part_of.ensures) (c.in_ok-imaginary.ensures ∙ c.part_of-2.ensures)
+    complex_read c.args.spelling.now _ _ _ c.in-Some.pair c.requires c.split_at.ensures.back c.in-Some.ensures.value (c.in_ok-real.ensures ∙ c.part.ensures) (c.in_ok-imaginary.ensures ∙ c.part-2.ensures)
