@@ -2,7 +2,7 @@
 use Rattle.std.proofs.Common.{◌≡◌, ℕ, zero, suc, ◌+◌, ◌-◌, ◌<◌, ◌≤◌, List, [], ◌∷◌, ◌++◌, length, Option, None, Some, option_and_then, ok_or, Result, Ok, Err, refl, ap, sym, ◌∙◌, arith}
 use Rattle.std.specs.List.{range_with_len}
 use Rattle.std.proofs.lemmas.Option.{slice_get_within, option_and_then_some}
-use Rattle.fits_rules.specs.Lead.{card_at}
+use Rattle.fits_card.specs.Header.{card_at}
 use Rattle.fits_rules.specs.Reads.{integer_said}
 use Rattle.fits_rules.specs.Shape.{each, ◌>>=◌, largest, up_to, if_named, card_named, axis_name, axis_of, axes_of}
 use Rattle.fits_rules.proofs.ShapeLemmas.{reads_header, still_in_range, reads_both}
@@ -43,16 +43,19 @@ each-stop {X} {Y} give (w ∷ xs) zs ys x place before here =
 axis_gives : (cards : List (List ℕ)) (n m : ℕ) (o : Option ℕ) → n ≡ m → o ≡ axis_of cards m → ok_or (axis_of cards n) (3 + n) ≡ ok_or o (3 + m)
 axis_gives cards n m o same is = ap (λ k. ok_or (axis_of cards k) (3 + k)) same ∙ ap (λ x. ok_or x (3 + m)) (sym is)
 
+-- no axes are there at first
 pub axes_begin : (cards : List (List ℕ)) → axes_of cards 0 ≡ Ok []
 unfolding axes_of
 axes_begin cards = refl
 
+-- one more axis that is there
 pub axes_more : (cards : List (List ℕ)) (i axis : ℕ) (axes : List ℕ) → axes_of cards i ≡ Ok axes → Some axis ≡ axis_of cards (i + 1) → axes_of cards (i + 1) ≡ Ok (axes ++ axis ∷ [])
 unfolding axes_of
 axes_more cards i axis axes before here =
     ap (each (λ n. ok_or (axis_of cards n) (3 + n))) (range_parts 1 i 1)
     ∙ each-push (λ n. ok_or (axis_of cards n) (3 + n)) (range_with_len 1 i) axes (1 + i) axis before (axis_gives cards (1 + i) (i + 1) (Some axis) (omega arith) here)
 
+-- the first axis that breaks its rule
 pub axes_stop : (cards : List (List ℕ)) (i naxis : ℕ) (axes : List ℕ) → axes_of cards i ≡ Ok axes → i < naxis → None ≡ axis_of cards (i + 1) → Err (4 + i) ≡ axes_of cards naxis
 unfolding axes_of
 axes_stop cards i naxis axes before within here =

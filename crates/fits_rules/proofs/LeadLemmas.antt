@@ -5,12 +5,14 @@ use Rattle.std.proofs.lemmas.List.{get_or_default}
 use Rattle.std.proofs.lemmas.List.Sums.{position_or_len_is}
 use Rattle.std.proofs.lemmas.Bool.{lt-ltb, le-ltb, cases_lt}
 use Rattle.std.proofs.lemmas.Option.{slice_get_past, slice_get_within, get_or_from_slice_get}
-use Rattle.fits_rules.specs.Lead.{is_value_of, lead_place, card_at}
+use Rattle.fits_card.specs.Header.{card_at}
+use Rattle.fits_rules.specs.Lead.{is_value_of, lead_place}
 
 -- none of the first cards is the lead
 pub record NoneBefore (cards : List (List ℕ)) (name : List ℕ) (count : ℕ) : Type 0 where
   pub none : (k : ℕ) → k < count → is_value_of name (get_or cards k []) ≡ false
 
+-- none is before the first card
 pub none_at_first : (cards : List (List ℕ)) (name : List ℕ) → NoneBefore cards name 0
 none_at_first cards name = record { none = λ k h. absurd (omega arith) }
 
@@ -39,9 +41,11 @@ lead_nowhere cards name i before end =
 read_at : (cards : List (List ℕ)) (i : ℕ) (card : List ℕ) → i < length cards → card ≡ get_or cards (i + 1 - 1) card → get_or cards i [] ≡ card
 read_at cards i card within is = get_or_default cards i [] card within ∙ sym (is ∙ ap (λ k. get_or cards k card) (omega arith))
 
+-- it is not the lead
 pub read_more : (cards : List (List ℕ)) (name : List ℕ) (i : ℕ) (card : List ℕ) → NoneBefore cards name i → i < length cards → card ≡ get_or cards (i + 1 - 1) card → is_value_of name card ≡ false → NoneBefore cards name (i + 1)
 read_more cards name i card before within is here = none_more cards name i before (rw (read_at cards i card within is) here)
 
+-- it is the lead
 pub read_here : (cards : List (List ℕ)) (name : List ℕ) (i : ℕ) (card : List ℕ) → NoneBefore cards name i → i < length cards → card ≡ get_or cards (i + 1 - 1) card → is_value_of name card ≡ true → Some (i + 1) ≡ lead_place cards name
 read_here cards name i card before within is here = lead_at cards name i before within (rw (read_at cards i card within is) here)
 
@@ -52,9 +56,11 @@ got_at cards i card got = get_or_from_slice_get cards i card [] (rw (same i) at 
     same : (i : ℕ) → i + 1 - 1 ≡ i
     same i = omega arith
 
+-- it is not the lead
 pub got_more : (cards : List (List ℕ)) (name : List ℕ) (i : ℕ) (card : List ℕ) → NoneBefore cards name i → slice_get cards (i + 1 - 1) ≡ Some card → is_value_of name card ≡ false → NoneBefore cards name (i + 1)
 got_more cards name i card before got here = none_more cards name i before (rw (got_at cards i card got) here)
 
+-- it is the lead
 pub got_here : (cards : List (List ℕ)) (name : List ℕ) (i : ℕ) (card : List ℕ) → NoneBefore cards name i → slice_get cards (i + 1 - 1) ≡ Some card → is_value_of name card ≡ true → Some (i + 1) ≡ lead_place cards name
 got_here cards name i card before got here =
     let within : i + 1 - 1 < length cards = slice_get_within cards (i + 1 - 1) card got in

@@ -1,16 +1,13 @@
 -- The lead of a name: the first card of that name that has a value. It alone counts (own).
-use Rattle.std.specs.Prelude.{ℕ, ◌+◌, ◌-◌, Bool, ◌&&◌, List, Option, option_and_then, position, slice_get}
+use Rattle.std.specs.Prelude.{ℕ, ◌+◌, Bool, ◌&&◌, List, Option, option_and_then, position}
 use Rattle.std.specs.Option.{option_map}
 use Rattle.std.specs.Str.{bytes_eq}
 use Rattle.fits_card.specs.Card.{keyword_name, has_value}
+pub use Rattle.fits_card.specs.Header.{card_at}
 
 -- the card has this name and a value (4.1.2.1, 4.1.2.2)
 unfoldable pub is_value_of : List ℕ → List ℕ → Bool
 is_value_of name card = bytes_eq (keyword_name card) name && has_value card
-
--- the card at a place, counted from 1
-abbrev pub card_at : List (List ℕ) → ℕ → Option (List ℕ)
-card_at cards place = slice_get cards (place - 1)
 
 -- where the lead stands, counted from 1
 unfoldable pub lead_place : List (List ℕ) → List ℕ → Option ℕ

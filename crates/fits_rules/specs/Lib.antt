@@ -1,8 +1,10 @@
 pub mod Class
+pub mod Denotes
+pub mod Image
 pub mod Lead
-pub mod ReadSteps
 pub mod Reads
+pub mod SameShape
 pub mod Shape
+pub mod ShapeSteps
 pub mod Size
 pub mod SizeSteps
-pub mod Work

@@ -1,11 +1,12 @@
 -- The shape that a header describes, or the first place that breaks a rule (FITS Standard 4.0, sections 4.4.1.1, 4.4.1.2, 6 and 7).
-use Rattle.std.specs.Prelude.{ℕ, suc, ◌+◌, ◌-◌, ◌==◌, ◌≤◌, All, Bool, IsTrue, false, ◌&&◌, ◌||◌, ℤ, pos, negsuc, nat_le, List, [], ◌∷◌, ◌++◌, length, codes, replicate, Option, None, Some, option_and_then, unwrap_or, ok_or, Result, Ok, Err, if◌then◌else◌}
+use Rattle.std.specs.Prelude.{◌≡◌, ℕ, suc, ◌+◌, ◌-◌, ◌==◌, ◌≤◌, EachIndex, slice_get, All, Bool, IsTrue, false, ◌&&◌, ◌||◌, ℤ, pos, negsuc, nat_le, List, [], ◌∷◌, ◌++◌, length, codes, replicate, Option, None, Some, option_and_then, unwrap_or, ok_or, Result, Ok, Err, if◌then◌else◌}
 use Rattle.std.specs.List.{range_with_len}
 use Rattle.std.specs.Str.{bytes_eq}
 use Rattle.std.specs.Fmt.{decimal}
 use Rattle.fits_card.specs.Card.{keyword_name}
 use Rattle.fits_rules.specs.Reads.{integer_said, logical_said, string_said}
-use Rattle.fits_rules.specs.Lead.{card_at, lead_place, lead_card}
+use Rattle.fits_card.specs.Header.{card_at}
+use Rattle.fits_rules.specs.Lead.{lead_place, lead_card}
 use Rattle.fits_rules.specs.Class.{has_counts, extension_class}
 use Rattle.fits_rules.specs.declared.class.Class.{Class}
 use Rattle.fits_rules.specs.declared.class.Class.TheVariants.{Primary, Groups}
@@ -115,6 +116,17 @@ shape_of primary cards = do
   pcount ← count_of class cards (codes "PCOUNT  ") 0
   gcount ← count_of class cards (codes "GCOUNT  ") 1
   Ok (record { class = class; bitpix = bitpix; axes = axes; pcount = pcount; gcount = gcount })
+
+-- a header describes this shape: each part of it is what its keyword says (4.4.1.1, 4.4.1.2, 6, 7)
+pub record Describes (primary : Bool) (cards : List (List ℕ)) (shape : Shape) : Type 0 where
+  pub first : List ℕ
+  pub begins : first_card primary cards ≡ Some first
+  pub bitpix : bitpix_of cards ≡ Some shape.bitpix
+  pub naxis : naxis_of cards ≡ Some (length shape.axes)
+  pub axes : EachIndex shape.axes (λ n. axis_of cards (n + 1) ≡ slice_get shape.axes n)
+  pub class : class_of primary cards first shape.axes ≡ shape.class
+  pub pcount : count_of shape.class cards (codes "PCOUNT  ") 0 ≡ Ok shape.pcount
+  pub gcount : count_of shape.class cards (codes "GCOUNT  ") 1 ≡ Ok shape.gcount
 
 -- what each shape has that a header describes (4.4.1.1, 4.4.1.2)
 pub record IsBounded (shape : Shape) : Type 0 where

@@ -9,7 +9,7 @@ pub struct Shape {
     pub bitpix: i64,
     /// The numbers of NAXIS1, NAXIS2 and so on.
     pub axes: Axes,
-    /// Parameters of a group, or bytes behind an array. 0 in class Primary.
+    /// Parameters of a group, or values after an array. 0 in class Primary.
     pub pcount: u64,
     /// How many groups. 1 in class Primary.
     pub gcount: u64,

@@ -32,7 +32,7 @@ impl AxisBuffer {
         }
     }
 
-    /// Puts one more axis behind the others.
+    /// Puts one more axis after the others.
     pub(crate) fn push(&mut self, axis: u64)
         requires { length self.old < 999 }
         ensures { self.new ≡ self.old ++ axis ∷ [] }

@@ -1,10 +1,11 @@
 //! A header's cards as a change would leave them.
 ghost use Rattle.std.specs.Prelude.{◌≡◌, ◌≤◌, ◌+◌, length, IfSome};
 ghost use Rattle.fits_card.specs.Change.{cards_after, IsInRange};
-ghost use Rattle.fits_rules.specs.Lead.{card_at, lead_place, lead_card};
-ghost use Rattle.fits_rules.specs.Work.{ReadsUpTo};
+ghost use Rattle.fits_card.specs.Header.{card_at};
+ghost use Rattle.fits_rules.specs.Lead.{lead_place, lead_card};
+ghost use Rattle.fits_card.specs.CardList.{ReadsUpTo};
 
-use crate::lead::is_value_of;
+use crate::leads::is_value_of;
 use fits_card::card::Card;
 use fits_card::card_list::CardList;
 use fits_card::change::Change;
@@ -31,7 +32,8 @@ pub(crate) fn lead_place(cards: &mut CardList, change: &Change, name: &Name) -> 
     requires in_range { IsInRange cards.old.header.cards change.now }
     ensures value { result ≡ lead_place (cards_after cards.old.header.cards change.now) name.now }
     ensures from { IfSome result (λ place. 1 ≤ place) }
-    ensures work { ReadsUpTo cards.old cards.new (length (cards_after cards.old.header.cards change.now)) }
+    ensures work { ReadsUpTo cards.old cards.new
+        (length (cards_after cards.old.header.cards change.now)) }
 {
     for index in 0..change.len_after(cards) {
         if is_value_of(&change.card_after(cards, index + 1), name) {

@@ -3,15 +3,13 @@ ghost use Rattle.std.specs.Prelude.{◌≡◌, ◌≤◌, ◌+◌, ◌*◌, ◌�
 ghost use Rattle.fits_card.specs.Change.{cards_after, IsInRange};
 ghost use Rattle.fits_rules.specs.Class.{is_primary};
 ghost use Rattle.fits_rules.specs.Shape.{shape_of};
-ghost use Rattle.fits_rules.specs.Work.{ReadsUpTo};
+ghost use Rattle.fits_card.specs.CardList.{ReadsUpTo};
 
 use crate::array_shape::Shape;
-use crate::rules::{axes, bitpix, class, count, first_card, naxis};
-use crate::shape_reading::ShapeReading;
+use crate::reading::read_shape;
 use fits_card::card_list::CardList;
 use fits_card::cards::Cards;
 use fits_card::change::Change;
-use fits_card::name::Name;
 use std::alloc::{AllocError, Global};
 
 /// Why a header has no shape.
@@ -34,34 +32,6 @@ impl From<AllocError> for ShapeFault {
     }
 }
 
-// The shape that the cards after the change describe, or the first place that breaks a rule.
-fn read_shape(cards: &mut CardList, change: &Change, primary: bool) -> Result<ShapeReading, usize>
-    requires { IsInRange cards.old.header.cards change.now }
-    ensures value { result ≡ shape_of primary (cards_after cards.old.header.cards change.now) }
-    ensures work { ReadsUpTo cards.old cards.new (4 * length (cards_after cards.old.header.cards change.now) + 7) }
-{
-    let Some(first) = first_card(cards, change, primary) else {
-        return Err(1);
-    };
-    let Some(bitpix) = bitpix(cards, change) else {
-        return Err(2);
-    };
-    let Some(naxis) = naxis(cards, change) else {
-        return Err(3);
-    };
-    let axes = axes(cards, change, naxis as usize)?;
-    let class = class(cards, change, primary, &first, axes.as_slice());
-    let pcount = count(cards, change, class, &Name(*b"PCOUNT  "), 0)?;
-    let gcount = count(cards, change, class, &Name(*b"GCOUNT  "), 1)?;
-    Ok(ShapeReading {
-        class,
-        bitpix,
-        axes,
-        pcount,
-        gcount,
-    })
-}
-
 // The change that leaves the cards as they are.
 #[tactic(auto, unfolding(fits_card::specs::Change::cards_after, fits_card::specs::Change::IsInRange))]
 fn no_change(alloc: Global) -> Change
@@ -82,35 +52,17 @@ fn no_change(alloc: Global) -> Change
 pub fn shape(alloc: Global, cards: &mut CardList, primary: bool) -> Result<Shape, ShapeFault>
     ensures ok { IfOk result (λ shape. shape_of primary cards.old.header.cards ≡ Ok shape) }
 
-    // The first broken place, and want of memory hides none.
-    ensures bad { (place : ℕ) → IsErrOf result (ShapeFault.Bad place) → shape_of primary cards.old.header.cards ≡ Err place }
-    ensures broken { (place : ℕ) → shape_of primary cards.old.header.cards ≡ Err place → IsErrOf result (ShapeFault.Bad place) }
+    // The first broken place, whatever memory there is.
+    ensures bad { (place : ℕ) → IsErrOf result (ShapeFault.Bad place)
+        → shape_of primary cards.old.header.cards ≡ Err place }
+    ensures broken { (place : ℕ) → shape_of primary cards.old.header.cards ≡ Err place
+        → IsErrOf result (ShapeFault.Bad place) }
 
-    ensures header { cards.new.header ≡ cards.old.header }
-    ensures room { cards.new.room ≡ cards.old.room }
-    ensures least_work { cards.old.reads ≤ cards.new.reads }
-    ensures most_work { cards.new.reads ≤ cards.old.reads + 4 * length cards.old.header.cards + 7 }
+    ensures work { ReadsUpTo cards.old cards.new (4 * length cards.old.header.cards + 7) }
 {
     let change = no_change(alloc);
     match read_shape(cards, &change, primary) {
         Ok(reading) => Ok(reading.to_shape(alloc)?),
         Err(place) => Err(ShapeFault::Bad(place)),
-    }
-}
-
-/// Whether the cards after a change would describe this shape, in an HDU of its class.
-///
-/// It takes no memory.
-pub fn keeps_shape(cards: &mut CardList, shape: &Shape, change: &Change) -> bool
-    requires { IsInRange cards.old.header.cards change.now }
-    ensures value { IsTrue result ↔ (shape_of (is_primary shape.now.class) (cards_after cards.old.header.cards change.now) ≡ Ok shape.now) }
-    ensures header { cards.new.header ≡ cards.old.header }
-    ensures room { cards.new.room ≡ cards.old.room }
-    ensures least_work { cards.old.reads ≤ cards.new.reads }
-    ensures most_work { cards.new.reads ≤ cards.old.reads + 4 * length (cards_after cards.old.header.cards change.now) + 7 }
-{
-    match read_shape(cards, change, shape.class.is_primary()) {
-        Ok(reading) => reading.is(shape),
-        Err(_) => false,
     }
 }

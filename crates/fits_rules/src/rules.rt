@@ -1,10 +1,10 @@
 //! The rules of the mandatory keywords, one by one, over the cards after a change (FITS Standard 4.0, sections 4.4.1.1, 4.4.1.2 and 6).
 ghost use Rattle.std.specs.Prelude.{◌≡◌, ◌≤◌, ◌+◌, ◌<◌, length, option_and_then, IfSome};
 ghost use Rattle.fits_card.specs.Change.{cards_after, IsInRange};
-ghost use Rattle.fits_rules.specs.Lead.{card_at};
+ghost use Rattle.fits_card.specs.Header.{card_at};
 ghost use Rattle.fits_rules.specs.Reads.{integer_said};
 ghost use Rattle.fits_rules.specs.Shape.{largest, up_to, axis_name, card_named, first_card, bitpix_of, naxis_of, axis_of, axes_of, has_group_axes, says_groups, class_of, count_of};
-ghost use Rattle.fits_rules.specs.Work.{ReadsUpTo};
+ghost use Rattle.fits_card.specs.CardList.{ReadsUpTo};
 
 use crate::axis_buffer::{AxisBuffer, MOST_AXES};
 use crate::changed::{card_at, lead_place};
@@ -49,7 +49,8 @@ fn axis_name(n: usize) -> Name
 fn card_named(cards: &mut CardList, change: &Change, place: usize, name: &Name) -> Option<Card>
     requires in_range { IsInRange cards.old.header.cards change.now }
     requires from { 1 ≤ place }
-    ensures value { result ≡ card_named (cards_after cards.old.header.cards change.now) place name.now }
+    ensures value { result ≡
+        card_named (cards_after cards.old.header.cards change.now) place name.now }
     ensures work { ReadsUpTo cards.old cards.new 1 }
 {
     let Some(card) = card_at(cards, change, place) else {
@@ -103,9 +104,9 @@ pub(crate) fn naxis(cards: &mut CardList, change: &Change) -> Option<u64>
     }
 }
 
-// NAXISn (4.4.1.1).
+/// NAXISn (4.4.1.1).
 #[tactic(auto, using(crate::proofs::ShapeLemmas::axis_steps))]
-fn axis(cards: &mut CardList, change: &Change, n: usize) -> Option<u64>
+pub(crate) fn axis(cards: &mut CardList, change: &Change, n: usize) -> Option<u64>
     requires in_range { IsInRange cards.old.header.cards change.now }
     requires small { n < 1000 }
     ensures value { result ≡ axis_of (cards_after cards.old.header.cards change.now) n }
@@ -123,7 +124,8 @@ pub(crate) fn axes(cards: &mut CardList, change: &Change, naxis: usize) -> Resul
     requires in_range { IsInRange cards.old.header.cards change.now }
     requires small { naxis < 1000 }
     ensures value { result ≡ axes_of (cards_after cards.old.header.cards change.now) naxis }
-    ensures work { ReadsUpTo cards.old cards.new (length (cards_after cards.old.header.cards change.now) + 1) }
+    ensures work { ReadsUpTo cards.old cards.new
+        (length (cards_after cards.old.header.cards change.now) + 1) }
 {
     let mut axes = AxisBuffer::new();
     for i in 0..naxis {
@@ -140,7 +142,8 @@ pub(crate) fn axes(cards: &mut CardList, change: &Change, naxis: usize) -> Resul
 fn says_groups(cards: &mut CardList, change: &Change) -> bool
     requires { IsInRange cards.old.header.cards change.now }
     ensures value { result ≡ says_groups (cards_after cards.old.header.cards change.now) }
-    ensures work { ReadsUpTo cards.old cards.new (length (cards_after cards.old.header.cards change.now) + 1) }
+    ensures work { ReadsUpTo cards.old cards.new
+        (length (cards_after cards.old.header.cards change.now) + 1) }
 {
     let Some(place) = lead_place(cards, change, &Name(*b"GROUPS  ")) else {
         return false;
@@ -156,7 +159,9 @@ fn says_groups(cards: &mut CardList, change: &Change) -> bool
 fn count_at(cards: &mut CardList, change: &Change, place: usize) -> Option<u64>
     requires in_range { IsInRange cards.old.header.cards change.now }
     requires from { 1 ≤ place }
-    ensures value { result ≡ option_and_then (up_to largest) (option_and_then integer_said (card_at (cards_after cards.old.header.cards change.now) place)) }
+    ensures value { result ≡
+        option_and_then (up_to largest) (option_and_then integer_said
+        (card_at (cards_after cards.old.header.cards change.now) place)) }
     ensures work { ReadsUpTo cards.old cards.new 1 }
 {
     match card_at(cards, change, place) {
@@ -175,8 +180,10 @@ pub(crate) fn count(
     default: u64,
 ) -> Result<u64, usize>
     requires { IsInRange cards.old.header.cards change.now }
-    ensures value { result ≡ count_of class (cards_after cards.old.header.cards change.now) name.now default }
-    ensures work { ReadsUpTo cards.old cards.new (length (cards_after cards.old.header.cards change.now) + 1) }
+    ensures value { result ≡
+        count_of class (cards_after cards.old.header.cards change.now) name.now default }
+    ensures work { ReadsUpTo cards.old cards.new
+        (length (cards_after cards.old.header.cards change.now) + 1) }
 {
     if !class.has_counts() {
         return Ok(default);
@@ -204,8 +211,10 @@ pub(crate) fn class(
     axes: &[u64],
 ) -> Class
     requires { IsInRange cards.old.header.cards change.now }
-    ensures value { result ≡ class_of primary (cards_after cards.old.header.cards change.now) first.now axes.now }
-    ensures work { ReadsUpTo cards.old cards.new (length (cards_after cards.old.header.cards change.now) + 1) }
+    ensures value { result ≡
+        class_of primary (cards_after cards.old.header.cards change.now) first.now axes.now }
+    ensures work { ReadsUpTo cards.old cards.new
+        (length (cards_after cards.old.header.cards change.now) + 1) }
 {
     if !primary {
         return reads::extension_class(first);

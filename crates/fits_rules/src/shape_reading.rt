@@ -1,4 +1,4 @@
-ghost use Rattle.std.specs.Prelude.{◌≡◌, ◌↔◌, IsTrue, IfOk};
+ghost use Rattle.std.specs.Prelude.{◌≡◌, IfOk};
 
 use crate::array_shape::Shape;
 use crate::axes::Axes;
@@ -32,17 +32,6 @@ impl Model for ShapeReading {
 }
 
 impl ShapeReading {
-    /// Whether this is the shape.
-    pub(crate) fn is(&self, shape: &Shape) -> bool
-        ensures { IsTrue result ↔ (self.now ≡ shape.now) }
-    {
-        self.class == shape.class
-            && self.bitpix == shape.bitpix
-            && self.axes.as_slice() == shape.axes.as_slice()
-            && self.pcount == shape.pcount
-            && self.gcount == shape.gcount
-    }
-
     /// The shape, with memory of its own.
     pub(crate) fn to_shape(&self, alloc: Global) -> Result<Shape, AllocError>
         ensures { IfOk result (λ shape. shape ≡ self.now) }

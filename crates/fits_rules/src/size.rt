@@ -47,7 +47,7 @@ fn array_values(axes: &[u64]) -> Option<u64>
 }
 
 // The axes but the first.
-fn behind_first(axes: &[u64]) -> &[u64]
+fn after_first(axes: &[u64]) -> &[u64]
     ensures { result.now ≡ drop 1 axes.now }
 {
     match axes {
@@ -56,7 +56,7 @@ fn behind_first(axes: &[u64]) -> &[u64]
     }
 }
 
-// How many values the data unit has, parameters of groups and bytes behind an array among them.
+// How many values the data unit has, parameters of groups and values after an array among them.
 fn values(shape: &Shape) -> Option<u64>
     ensures { result ≡ limited (values_in shape.now.class shape.now) }
 {
@@ -65,7 +65,7 @@ fn values(shape: &Shape) -> Option<u64>
         Class::Primary => array_values(axes),
         Class::Groups => times(
             shape.gcount,
-            plus(shape.pcount, array_values(behind_first(axes))),
+            plus(shape.pcount, array_values(after_first(axes))),
         ),
         _ => times(shape.gcount, plus(shape.pcount, array_values(axes))),
     }

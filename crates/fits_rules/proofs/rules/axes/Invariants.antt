@@ -1,7 +1,7 @@
 use Rattle.std.proofs.Common.{◌≡◌, ◌≤◌, length, Ok}
 use Rattle.fits_card.specs.Change.{cards_after}
 use Rattle.fits_rules.specs.Shape.{axes_of}
-use Rattle.fits_rules.specs.Work.{ReadsUpTo}
+use Rattle.fits_card.specs.CardList.{ReadsUpTo}
 use Rattle.fits_rules.proofs.rules.axes.Given as goal
 
 abbrev pub invariant-loop-i : goal.invariant-loop-i

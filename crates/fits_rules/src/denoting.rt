@@ -1,0 +1,43 @@
+//! Cards that denote a number exactly.
+ghost use Rattle.std.specs.Prelude.{◌≡◌, ◌+◌, ◌↔◌, IsTrue, length};
+ghost use Rattle.fits_rules.specs.Denotes.{is_numeric, CardDenotes, LeadDenotes};
+ghost use Rattle.fits_card.specs.CardList.{ReadsUpTo};
+
+use crate::leads::lead_card;
+use fits_card::card::Card;
+use fits_card::card_list::CardList;
+use fits_card::name::Name;
+use fits_value::number::denotes;
+use fits_value::reading::ValueKind;
+use fits_value::scan::scan_card;
+
+// Whether values of this type are numbers.
+fn is_numeric(kind: ValueKind) -> bool
+    ensures { result ≡ is_numeric kind }
+{
+    matches!(kind, ValueKind::Integer | ValueKind::Real)
+}
+
+/// Whether the card reads as an integer or a real that denotes exactly this number.
+pub fn card_denotes(card: &Card, number: i128) -> bool
+    ensures { IsTrue result ↔ CardDenotes card.now number }
+{
+    match scan_card(card) {
+        Some(reading) => {
+            is_numeric(reading.kind) && denotes(reading.value.part(card.bytes()), number)
+        }
+        None => false,
+    }
+}
+
+/// Whether the lead of a name denotes exactly this number.
+#[tactic(auto, using(crate::proofs::DenotesLemmas::lead_steps))]
+pub fn lead_denotes(cards: &mut CardList, name: &Name, number: i128) -> bool
+    ensures value { IsTrue result ↔ LeadDenotes cards.old.header.cards name.now number }
+    ensures work { ReadsUpTo cards.old cards.new (length cards.old.header.cards + 1) }
+{
+    match lead_card(cards, name) {
+        Some(card) => card_denotes(&card, number),
+        None => false,
+    }
+}
