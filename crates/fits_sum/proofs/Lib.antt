@@ -1,0 +1,7 @@
+pub mod CharacterLemmas
+pub mod ColumnLemmas
+pub mod FillLemmas
+pub mod StandardFacts
+pub mod SumLemmas
+pub mod TextLemmas
+pub mod WordLemmas

@@ -1,0 +1,4 @@
+pub mod ChecksumText
+pub mod Laws
+pub mod OnesComplement
+pub mod Words
