@@ -1,0 +1,14 @@
+pub mod BlockLemmas
+pub mod ExactLemmas
+pub mod JoinLemmas
+pub mod LeafLemmas
+pub mod PixelLemmas
+pub mod PlaceLemmas
+pub mod PlaneLemmas
+pub mod PlantLemmas
+pub mod PowerLemmas
+pub mod RowLemmas
+pub mod ScanLemmas
+pub mod TreeLemmas
+pub mod TurnLemmas
+pub mod WriteLemmas

@@ -1,0 +1,55 @@
+use Rattle.std.proofs.Common.{◌≡◌, ◌≤◌, ◌+◌, ◌-◌, ◌/◌, max, ℕ, List, arith, ap, ◌∙◌, length}
+use Rattle.std.proofs.Math.Nat.{mul-le-mul_left}
+use Rattle.fits_plane.specs.Rectangle.{row_size, row_count}
+use Rattle.fits_plane.specs.Layout.{block_pixels}
+use Rattle.fits_plane.specs.Leaves.{IsLeaf}
+use Rattle.fits_plane.proofs.RowLemmas.{row_of, rectangle_size-rows}
+use Rattle.fits_plane.proofs.BlockLemmas.{walk_more, walk_all, walk_work, joins_more}
+use Rattle.fits_plane.proofs.LeafLemmas.{block_pixels_some, layout_room}
+use Rattle.fits_plane.proofs.leaves.refresh_rows.Goals as goal
+
+pub loop-row-preserved : goal.loop-row-preserved
+loop-row-preserved c =
+    let axes : List ℕ = c.args.axes.now in
+    let lo : List ℕ = c.args.lo.now in
+    let hi : List ℕ = c.args.hi.now in
+    let per : ℕ = block_pixels c.args.layout.width in
+    let blocks : ℕ = length c.args.tree.now.leaves in
+    let first : ℕ = c.row_start-first.result in
+    let some = block_pixels_some c.args.layout.width c.requires.width in
+    let room = layout_room c.args.layout c.args.bytes.now blocks c.requires.layout c.requires.whole in
+    let w = row_of axes lo hi c.loop-row.row first c.requires.rectangle (omega (arith, c.loop-row-test.true, c.rows-row-end.ensures)) c.row_start-first.ensures.value in
+    let v = c.loop-row.invariant in
+    let e = c.refresh_blocks.ensures in
+    let stop : ℕ = (first + c.row_len-side.result - 1) / c.pixels_per_block-per.result + 1 in
+    let start_is = c.max-start.ensures ∙ ap (λ p. max (first / p) c.loop-row.next) c.pixels_per_block-per.ensures in
+    let stop_is : stop ≡ (first + row_size lo hi - 1) / per + 1
+    = ap (λ p. (first + c.row_len-side.result - 1) / p + 1) c.pixels_per_block-per.ensures ∙ ap (λ s. (first + s - 1) / per + 1) c.row_len-side.ensures.value in
+    let more : c.refresh_blocks.new.scans.total - c.args.scans.now.total ≡ (c.loop-row.scans.total - c.args.scans.now.total) + (stop - c.max-start.result) = omega (arith, e.work, v.more_work) in
+    record {
+      long = e.long ∙ v.long;
+      walk = walk_more axes lo hi (row_size lo hi) per c.args.layout.pixels blocks c.loop-row.row first c.loop-row.next c.max-start.result stop c.max-next.result _ _
+          (IsLeaf c.args.layout c.args.bytes.now c.loop-row.tree.leaves) (IsLeaf c.args.layout c.args.bytes.now c.refresh_blocks.new.tree.leaves)
+          c.requires.rectangle c.requires.all some room w v.walk start_is stop_is c.max-next.ensures more e.made (λ k away r. e.kept k away ∙ r);
+      more_work = omega (arith, e.work, v.more_work);
+      more = omega (arith, e.more, v.more);
+      joins = λ d u. joins_more (c.loop-row.scans.total - c.args.scans.now.total) (stop - c.max-start.result) _ d c.args.tree.now.joins c.loop-row.tree.joins c.refresh_blocks.new.tree.joins more (v.joins d u) (e.joins d (omega (arith, u, v.long)));
+    }
+
+pub returns-clause-right : goal.returns-clause-right
+returns-clause-right c =
+    let axes : List ℕ = c.args.axes.now in
+    let lo : List ℕ = c.args.lo.now in
+    let hi : List ℕ = c.args.hi.now in
+    let blocks : ℕ = length c.args.tree.now.leaves in
+    let v = c.loop-row.invariant in
+    let some = block_pixels_some c.args.layout.width c.requires.width in
+    let done : row_count lo hi ≤ c.loop-row.row = omega (arith, c.loop-row-test.false, c.rows-row-end.ensures) in
+    let all = mul-le-mul_left (row_size lo hi) done in
+    λ k b. walk_all axes lo hi (row_size lo hi) (block_pixels c.args.layout.width) c.args.layout.pixels blocks c.loop-row.row c.loop-row.next _ _ c.requires.rectangle c.requires.all some v.walk
+    (omega (arith, all, rectangle_size-rows lo hi)) k (omega (arith, b, v.long))
+
+pub returns-clause-work : goal.returns-clause-work
+returns-clause-work c =
+    let w = walk_work _ _ _ _ _ _ _ _ _ _ _ c.loop-row.invariant.walk in
+    omega (arith, w, c.loop-row.invariant.more_work)

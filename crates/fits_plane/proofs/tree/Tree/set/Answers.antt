@@ -1,0 +1,31 @@
+use Rattle.std.proofs.Common.{◌≡◌, ◌∙◌, ◌<◌, ◌+◌, ◌-◌, ℕ, take, drop, set, length, arith, ap}
+use Rattle.std.proofs.lemmas.List.{with_items_is, length-take, length-drop}
+use Rattle.std.proofs.Math.Seq.{take-set-lt}
+use Rattle.fits_plane.proofs.PowerLemmas.{few_joins}
+use Rattle.fits_plane.proofs.tree.Tree.set.Goals as goal
+
+pub returns-clause-leaves : goal.returns-clause-leaves
+returns-clause-leaves g c =
+    let t = c.self.inside in
+    let n : ℕ = t.width in
+    let i : ℕ = c.args.index in
+    let value = c.args.value in
+    let seen = ap (λ z. z.leaves) c.self.view_is in
+    let below : i < t.used = omega (arith, ap length seen, length-take t.used (drop n t.nodes.items), c.requires.within) in
+    let place : n + i - n ≡ i = omega arith in
+    ap (λ xs. take t.used (drop n xs)) (with_items_is t.nodes c.write_leaf.new.nodes (omega arith))
+    ∙ ap (take t.used) c.write_leaf.ensures.leaves
+    ∙ ap (λ xs. take t.used (set (drop n xs) (n + i - n) value)) c.as_mut_slice.ensures.value
+    ∙ ap (λ k. take t.used (set (drop n t.nodes.items) k value)) place
+    ∙ take-set-lt t.used (drop n t.nodes.items) i value below
+    ∙ ap (λ xs. set xs i value) seen
+
+pub returns-clause-work : goal.returns-clause-work
+returns-clause-work g c = λ d u.
+    let t = c.self.inside in
+    let seen = ap (λ z. z.leaves) c.self.view_is in
+    let made = ap (λ z. z.joins) c.self.view_is in
+    let v = c.self.invariant in
+    let many : t.used ≡ length c.args.self.now.leaves = omega (arith, ap length seen, length-take t.used (drop t.width t.nodes.items), length-drop t.width t.nodes.items, v.tree.long, v.power.enough) in
+    let few = few_joins (c.write_leaf.new.joins.total - t.joins.total) v.power.depth (t.width + c.args.index) t.width t.used d v.power.power (omega (arith, many, c.requires.within, v.power.enough)) c.write_leaf.ensures.few v.power.least (omega (arith, many, u)) in
+    omega (arith, few, made, c.write_leaf.ensures.more)

@@ -1,0 +1,11 @@
+pub mod Layout
+pub mod Leaves
+pub mod Pixels
+pub mod Plane
+pub mod Rectangle
+pub mod Scan
+pub mod Statistics
+pub mod Summary
+pub mod SummaryLaws
+pub mod Tree
+pub mod Work

@@ -1,0 +1,33 @@
+-- Stored pixels in a list of bytes (FITS Standard 4.0, 3.3.2 and 5.2).
+use Rattle.std.specs.Prelude.{◌≡◌, ◌⊎◌, ◌≤ℤ◌, ℕ, zero, suc, ◌+◌, ◌-◌, ◌*◌, ◌/◌, ◌^◌, ◌==◌, ℤ, pos, negsuc, List, [], ◌∷◌, if◌then◌else◌}
+use Rattle.byteorder.specs.Endian.{big_from, twos_complement}
+
+-- how many bytes a pixel of integers has
+abbrev pub IsWidth : ℕ → Type 0
+IsWidth width = (width ≡ 1) ⊎ ((width ≡ 2) ⊎ ((width ≡ 4) ⊎ (width ≡ 8)))
+
+-- the number that a pixel's bits stand for: unsigned at one byte, else two's complement
+abbrev pub stored_number : ℕ → ℕ → ℤ
+stored_number width bits = if width == 1 then pos bits else twos_complement width bits
+
+-- the least number that a pixel of so many bytes can store
+abbrev pub least_stored : ℕ → ℤ
+least_stored width = if width == 1 then pos 0 else negsuc (256 ^ width / 2 - 1)
+
+-- the greatest number that a pixel of so many bytes can store
+abbrev pub greatest_stored : ℕ → ℤ
+greatest_stored width = if width == 1 then pos 255 else pos (256 ^ width / 2 - 1)
+
+-- a pixel of so many bytes can store the number
+pub record IsStorable (width : ℕ) (number : ℤ) : Type 0 where
+  pub least : least_stored width ≤ℤ number
+  pub greatest : number ≤ℤ greatest_stored width
+
+-- stored pixel i, from 0: the big-endian number of bytes i * width to i * width + width - 1
+abbrev pub pixel : ℕ → List ℕ → ℕ → ℤ
+pixel width bytes i = stored_number width (big_from (i * width) width bytes)
+
+-- n stored pixels from pixel a on
+abbrev pub pixels : ℕ → List ℕ → ℕ → ℕ → List ℤ
+pixels width bytes a zero = []
+pixels width bytes a (suc n) = pixel width bytes a ∷ pixels width bytes (a + 1) n

@@ -1,0 +1,31 @@
+//! Data units of integer images: pixels and sums, with statistics that stand under edits.
+#![tactic(auto)]
+
+mod both;
+pub mod laws;
+mod layout;
+mod leaves;
+mod nodes;
+mod pixel_summary;
+mod pixel_writes;
+mod pixels;
+mod pixels_16;
+mod pixels_32;
+mod pixels_64;
+mod pixels_8;
+mod plane;
+mod rectangle;
+mod rescan;
+mod scan;
+mod scan_end;
+mod summary;
+mod tree;
+mod word_summary;
+
+pub use both::Both;
+pub use layout::Layout;
+pub use pixel_summary::PixelSummary;
+pub use plane::Plane;
+pub use summary::Summary;
+pub use tree::Tree;
+pub use word_summary::WordSummary;

@@ -1,0 +1,99 @@
+//! Rectangles of pixels, filled and written in the bytes of a data unit.
+ghost use Rattle.std.specs.Prelude.{◌≡◌, ◌≤◌, ◌<◌, ◌*◌, ◌+◌, ◌-ℤ◌, ◌^◌, ◌⊎◌, ℕ, pos, length, slice_index, slice_index_or, FitsSigned};
+ghost use Rattle.std.specs.Int.{w64};
+ghost use Rattle.fits_plane.specs.Pixels.{pixel, IsWidth, IsStorable};
+ghost use Rattle.fits_plane.specs.Rectangle.{IsRectangle, IsWritten, product, rectangle_size};
+
+use crate::pixels::put_pixel;
+use crate::rectangle::{row_len, row_start, rows};
+
+/// Writes one number over a run of pixels.
+fn fill_row(bytes: &mut [u8], width: usize, start: usize, count: usize, stored: i64)
+    requires width { IsWidth width }
+    requires within { (start + count) * width ≤ length bytes.old }
+    requires storable { IsStorable width stored }
+    ensures long { length bytes.new ≡ length bytes.old }
+    ensures inside { (x : ℕ) → x < count → pixel width bytes.new (start + x) ≡ stored }
+    ensures outside { (j : ℕ) → (j < start * width) ⊎ ((start + count) * width ≤ j)
+        → slice_index bytes.new j ≡ slice_index bytes.old j }
+{
+    for x in 0..count {
+        put_pixel(bytes, width, start + x, stored);
+    }
+}
+
+/// The stored number of a pixel value.
+fn stored_of(value: i128, offset: i128) -> i64
+    requires { FitsSigned w64 (value -ℤ offset) }
+    ensures { result ≡ value -ℤ offset }
+{
+    (value - offset) as i64
+}
+
+/// Writes values less the offset over a run of pixels.
+fn write_row(bytes: &mut [u8], width: usize, start: usize, values: &[i128], offset: i128)
+    requires width { IsWidth width }
+    requires within { (start + length values.now) * width ≤ length bytes.old }
+    requires storable { (x : ℕ) → x < length values.now
+        → IsStorable width (slice_index_or values.now x (pos 0) -ℤ offset) }
+    ensures long { length bytes.new ≡ length bytes.old }
+    ensures inside { (x : ℕ) → x < length values.now
+        → pixel width bytes.new (start + x) ≡ slice_index_or values.now x (pos 0) -ℤ offset }
+    ensures outside { (j : ℕ) → (j < start * width) ⊎ ((start + length values.now) * width ≤ j)
+        → slice_index bytes.new j ≡ slice_index bytes.old j }
+{
+    for x in 0..values.len() {
+        put_pixel(bytes, width, start + x, stored_of(values[x], offset));
+    }
+}
+
+/// Fills a rectangle with a stored number, row by row.
+pub(crate) fn fill_rows(
+    bytes: &mut [u8],
+    width: usize,
+    axes: &[u64],
+    lo: &[u64],
+    hi: &[u64],
+    stored: i64,
+)
+    requires width { IsWidth width }
+    requires rectangle { IsRectangle axes.now lo.now hi.now }
+    requires room { product axes.now * width ≤ length bytes.old }
+    requires small { product axes.now < 2 ^ 62 }
+    requires storable { IsStorable width stored }
+    ensures { IsWritten width axes.now lo.now hi.now (λ k. stored) bytes.old bytes.new }
+{
+    let side = row_len(axes, lo, hi) as usize;
+    for row in 0..rows(axes, lo, hi) {
+        let start = row_start(axes, lo, hi, row);
+        fill_row(bytes, width, start, side, stored);
+    }
+}
+
+/// Writes values less the offset over a rectangle in file order, row by row.
+pub(crate) fn write_rows(
+    bytes: &mut [u8],
+    width: usize,
+    axes: &[u64],
+    lo: &[u64],
+    hi: &[u64],
+    values: &[i128],
+    offset: i128,
+)
+    requires width { IsWidth width }
+    requires rectangle { IsRectangle axes.now lo.now hi.now }
+    requires room { product axes.now * width ≤ length bytes.old }
+    requires small { product axes.now < 2 ^ 62 }
+    requires count { length values.now ≡ rectangle_size lo.now hi.now }
+    requires storable { (k : ℕ) → k < length values.now
+        → IsStorable width (slice_index_or values.now k (pos 0) -ℤ offset) }
+    ensures { IsWritten width axes.now lo.now hi.now
+        (λ k. slice_index_or values.now k (pos 0) -ℤ offset) bytes.old bytes.new }
+{
+    let side = row_len(axes, lo, hi) as usize;
+    for row in 0..rows(axes, lo, hi) {
+        let start = row_start(axes, lo, hi, row);
+        let at = row as usize * side;
+        write_row(bytes, width, start, &values[at..at + side], offset);
+    }
+}

@@ -1,0 +1,86 @@
+//! The statistics of a block of 16-bit pixels.
+//!
+//! The pass holds numbers of the pixel's own type, a sum and a count no wider than a block needs.
+ghost use Rattle.std.specs.Prelude.{◌≡◌, ◌≤◌, ◌*◌, ◌+◌, length, Some, None};
+ghost use Rattle.fits_plane.specs.Pixels.{pixel, pixels};
+ghost use Rattle.fits_plane.specs.Statistics.{statistics};
+
+use crate::pixel_summary::PixelSummary;
+use crate::scan_end::found;
+use byteorder::{BigEndian, ByteOrder};
+
+/// Stored pixel i.
+fn read(block: &[u8], i: usize) -> i16
+    requires within { (i + 1) * 2 ≤ length block.now }
+    ensures { result ≡ pixel 2 block.now i }
+{
+    BigEndian::read_i16(&block[2 * i..])
+}
+
+/// The statistics of the first pixels, where none is blank.
+fn scan_defined(block: &[u8], held: usize) -> PixelSummary
+    requires within { held * 2 ≤ length block.now }
+    requires short { length block.now ≤ 2880 }
+    ensures { result ≡ statistics None (pixels 2 block.now 0 held) }
+{
+    let mut least = i16::MAX;
+    let mut greatest = i16::MIN;
+    let mut sum = 0i32;
+    for i in 0..held {
+        let x = read(block, i);
+        least = least.min(x);
+        greatest = greatest.max(x);
+        sum += i32::from(x);
+    }
+    found(
+        held as u64,
+        0,
+        i64::from(least),
+        i64::from(greatest),
+        i128::from(sum),
+    )
+}
+
+/// The statistics of the first pixels, where one number is blank.
+fn scan_blank(block: &[u8], held: usize, blank: i16) -> PixelSummary
+    requires within { held * 2 ≤ length block.now }
+    requires short { length block.now ≤ 2880 }
+    ensures { result ≡ statistics (Some blank) (pixels 2 block.now 0 held) }
+{
+    let mut least = i16::MAX;
+    let mut greatest = i16::MIN;
+    let mut sum = 0i32;
+    let mut blanks = 0u32;
+    for i in 0..held {
+        let x = read(block, i);
+        if x == blank {
+            blanks += 1;
+        } else {
+            least = least.min(x);
+            greatest = greatest.max(x);
+            sum += i32::from(x);
+        }
+    }
+    let defined = (held - blanks as usize) as u64;
+    found(
+        defined,
+        blanks as u64,
+        i64::from(least),
+        i64::from(greatest),
+        i128::from(sum),
+    )
+}
+
+/// The statistics of the first pixels. A BLANK outside the pixels' range marks none.
+pub(crate) fn scan(block: &[u8], held: usize, blank: Option<i64>) -> PixelSummary
+    requires within { held * 2 ≤ length block.now }
+    requires short { length block.now ≤ 2880 }
+    ensures { result ≡ statistics blank (pixels 2 block.now 0 held) }
+{
+    if let Some(number) = blank {
+        if let Ok(number) = i16::try_from(number) {
+            return scan_blank(block, held, number);
+        }
+    }
+    scan_defined(block, held)
+}

@@ -1,0 +1,72 @@
+//! The statistics of a block of 64-bit pixels.
+//!
+//! The pass holds numbers of the pixel's own type, and a count no wider than a block needs.
+ghost use Rattle.std.specs.Prelude.{◌≡◌, ◌≤◌, ◌*◌, ◌+◌, length, Some, None};
+ghost use Rattle.fits_plane.specs.Pixels.{pixel, pixels};
+ghost use Rattle.fits_plane.specs.Statistics.{statistics};
+
+use crate::pixel_summary::PixelSummary;
+use crate::scan_end::found;
+use byteorder::{BigEndian, ByteOrder};
+
+/// Stored pixel i.
+fn read(block: &[u8], i: usize) -> i64
+    requires within { (i + 1) * 8 ≤ length block.now }
+    ensures { result ≡ pixel 8 block.now i }
+{
+    BigEndian::read_i64(&block[8 * i..])
+}
+
+/// The statistics of the first pixels, where none is blank.
+fn scan_defined(block: &[u8], held: usize) -> PixelSummary
+    requires within { held * 8 ≤ length block.now }
+    requires short { length block.now ≤ 2880 }
+    ensures { result ≡ statistics None (pixels 8 block.now 0 held) }
+{
+    let mut least = i64::MAX;
+    let mut greatest = i64::MIN;
+    let mut sum = 0i128;
+    for i in 0..held {
+        let x = read(block, i);
+        least = least.min(x);
+        greatest = greatest.max(x);
+        sum += i128::from(x);
+    }
+    found(held as u64, 0, least, greatest, sum)
+}
+
+/// The statistics of the first pixels, where one number is blank.
+fn scan_blank(block: &[u8], held: usize, blank: i64) -> PixelSummary
+    requires within { held * 8 ≤ length block.now }
+    requires short { length block.now ≤ 2880 }
+    ensures { result ≡ statistics (Some blank) (pixels 8 block.now 0 held) }
+{
+    let mut least = i64::MAX;
+    let mut greatest = i64::MIN;
+    let mut sum = 0i128;
+    let mut blanks = 0u32;
+    for i in 0..held {
+        let x = read(block, i);
+        if x == blank {
+            blanks += 1;
+        } else {
+            least = least.min(x);
+            greatest = greatest.max(x);
+            sum += i128::from(x);
+        }
+    }
+    let defined = (held - blanks as usize) as u64;
+    found(defined, blanks as u64, least, greatest, sum)
+}
+
+/// The statistics of the first pixels.
+pub(crate) fn scan(block: &[u8], held: usize, blank: Option<i64>) -> PixelSummary
+    requires within { held * 8 ≤ length block.now }
+    requires short { length block.now ≤ 2880 }
+    ensures { result ≡ statistics blank (pixels 8 block.now 0 held) }
+{
+    match blank {
+        None => scan_defined(block, held),
+        Some(number) => scan_blank(block, held, number),
+    }
+}

@@ -1,0 +1,62 @@
+//! The summary of one block, by one visit to it.
+ghost use Rattle.std.specs.Prelude.{◌≡◌, ◌≤◌, ◌*◌, ◌+◌, ◌⊎◌, length};
+ghost use Rattle.fits_plane.specs.Pixels.{pixels, IsWidth};
+ghost use Rattle.fits_plane.specs.Statistics.{statistics};
+ghost use Rattle.fits_plane.specs.Layout.{IsLayout, block_pixels};
+ghost use Rattle.fits_plane.specs.Leaves.{leaf_of};
+
+use crate::both::Both;
+use crate::layout::Layout;
+use crate::pixel_summary::PixelSummary;
+use crate::summary::Summary;
+use crate::word_summary::WordSummary;
+use crate::{pixels_8, pixels_16, pixels_32, pixels_64};
+use fits_card::{BLOCK_LEN, Count};
+use fits_sum::words_total;
+
+/// What is kept of a block: its statistics, and the total of its words.
+pub(crate) type Leaf = Both<PixelSummary, WordSummary>;
+
+/// The statistics of the first pixels of a block.
+fn scan_pixels(block: &[u8], width: usize, held: usize, blank: Option<i64>) -> PixelSummary
+    requires width { (width ≡ 0) ⊎ IsWidth width }
+    requires no_pixels { width ≡ 0 → held ≡ 0 }
+    requires within { held * width ≤ length block.now }
+    requires short { length block.now ≤ 2880 }
+    ensures { result ≡ statistics blank (pixels width block.now 0 held) }
+{
+    match width {
+        1 => pixels_8::scan(block, held, blank),
+        2 => pixels_16::scan(block, held, blank),
+        4 => pixels_32::scan(block, held, blank),
+        8 => pixels_64::scan(block, held, blank),
+        _ => PixelSummary::unit(),
+    }
+}
+
+/// How many whole pixels a block has.
+pub(crate) fn pixels_per_block(width: usize) -> usize
+    ensures { result ≡ block_pixels width }
+{
+    BLOCK_LEN.checked_div(width).unwrap_or(0)
+}
+
+/// Scans block k. The scan is counted.
+pub(crate) fn scan_block(bytes: &[u8], layout: Layout, k: usize, scans: &mut Count) -> Leaf
+    requires layout { IsLayout layout bytes.now }
+    requires within { 2880 * k + 2880 ≤ length bytes.now }
+    ensures leaf { result ≡ leaf_of layout bytes.now k }
+    ensures work { scans.new.total ≡ scans.old.total + 1 }
+{
+    scans.tick();
+    let at = BLOCK_LEN * k;
+    let block = &bytes[at..at + BLOCK_LEN];
+    let per = pixels_per_block(layout.width);
+    let held = layout.pixels.saturating_sub(k * per).min(per);
+    Both {
+        first: scan_pixels(block, layout.width, held, layout.blank),
+        second: WordSummary {
+            total: words_total(block),
+        },
+    }
+}
