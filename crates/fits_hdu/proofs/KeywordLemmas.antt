@@ -1,17 +1,16 @@
 -- What the lead of a name says.
-use Rattle.std.proofs.Common.{◌≡◌, ℕ, ◌+◌, ◌*◌, ◌≤◌, true, List, [], ◌∷◌, ◌++◌, length, take, Option, None, Some, inl, inr, refl, ap, ◌∙◌, All, arith}
-use Rattle.std.specs.Prelude.{Ok, Err}
-use Rattle.std.proofs.lemmas.List.{length-append, length-map, length-drop}
-use Rattle.fits_card.specs.Card.{HasValue, has_value}
-use Rattle.fits_value.specs.Says.{card_says, first_says, long_says}
-use Rattle.fits_value.specs.LongString.{Piece, IsChain, BeginsChain, cards_from}
+use Rattle.std.proofs.Common.{◌≡◌, ℕ, ◌+◌, ◌-◌, ◌≤◌, Bool, true, false, List, [], ◌∷◌, length, Option, None, Some, refl, sym, ◌∙◌, arith}
+use Rattle.std.specs.Prelude.{Ok, Err, IsOk, if◌then◌else◌}
+use Rattle.std.proofs.lemmas.List.{length-drop}
+use Rattle.fits_card.specs.Card.{has_value}
+use Rattle.fits_card.specs.CardList.{CardStore, ReadsUpTo}
+use Rattle.fits_value.specs.Says.{card_string, link_says, link_before, links_of, ends_in_ampersand, links_after, string_cards, first_chain_length, chain_length, long_says}
+use Rattle.fits_value.specs.LongString.{cards_from}
 use Rattle.fits_value.specs.declared.value.Value.{Value}
-use Rattle.fits_value.proofs.LongSaysLemmas.{place_told}
-use Rattle.fits_value.proofs.SaysLemmas.{card_said}
 use Rattle.fits_rules.specs.Lead.{lead_place}
+use Rattle.fits_rules.proofs.LeadCardLemmas.{lead_from, lead_to}
 use Rattle.fits_hdu.specs.declared.keyword.KeywordFault.TheVariants.{NoKey, BadValue}
-use Rattle.fits_hdu.specs.Keyword.{said_at, keyword_value}
-use Rattle.fits_hdu.proofs.LeadLemmas.{lead_from, lead_to}
+use Rattle.fits_hdu.specs.Keyword.{keyword_value}
 
 -- the lead says this
 pub lead_says : (cards : List (List ℕ)) (name : List ℕ) (place : ℕ) (said : Value × Option (List ℕ)) → Some place ≡ lead_place cards name → Some said ≡ long_says cards place → keyword_value cards name ≡ Ok said
@@ -28,57 +27,62 @@ pub no_lead : (cards : List (List ℕ)) (name : List ℕ) → None ≡ lead_plac
 unfolding keyword_value
 no_lead cards name lead = rw (← lead) refl
 
--- where there is one the fault isn't NoKey
-has_key : (cards : List (List ℕ)) (o : Option ℕ) (place : ℕ) (said : Option (Value × Option (List ℕ))) → Some place ≡ o → long_says cards place ≡ said → said_at cards o ≡ Err NoKey → ⊥
-has_key cards None place said lead says e = cc
-has_key cards (Some at) place None lead says e =
-    let same : at ≡ place = cc in
-    let no = rw (same, says) at e in cc
-has_key cards (Some at) place (Some said) lead says e =
-    let same : at ≡ place = cc in
-    let no = rw (same, says) at e in cc
+-- a lead that says something has a value
+by_what_is_said : (cards : List (List ℕ)) (name : List ℕ) (place : ℕ) (said : Option (Value × Option (List ℕ))) → Some place ≡ lead_place cards name → said ≡ long_says cards place → (long_says cards place ≡ None → ⊥) → IsOk (keyword_value cards name)
+by_what_is_said cards name place None lead says not = absurd (not (sym says))
+by_what_is_said cards name place (Some said) lead says not = rw (lead_says cards name place said lead says) refl
 
-pub lead_has_key : (cards : List (List ℕ)) (name : List ℕ) (place : ℕ) → Some place ≡ lead_place cards name → keyword_value cards name ≡ Err NoKey → ⊥
-unfolding keyword_value
-lead_has_key cards name place lead e = has_key cards (lead_place cards name) place (long_says cards place) lead refl e
+pub lead_not_silent : (cards : List (List ℕ)) (name : List ℕ) (place : ℕ) → Some place ≡ lead_place cards name → (long_says cards place ≡ None → ⊥) → IsOk (keyword_value cards name)
+lead_not_silent cards name place lead not = by_what_is_said cards name place (long_says cards place) lead refl not
 
--- a card that begins a chain says something
-begun : (cards : List (List ℕ)) (card : List ℕ) (v : Value) (c : Option (List ℕ)) → take 1 cards ≡ card ∷ [] → All HasValue (take 1 cards) → card_says card ≡ Some (v, c) → first_says cards ≡ None → ⊥
-begun [] card v c at first says none = cc
-begun (other ∷ cards) card v c at first says none =
-    let same : other ≡ card = cc in
-    let has : has_value other ≡ true = first 0 other (omega arith) in
-    let told : card_says other ≡ Some (v, c) = ap card_says same ∙ says in
-    let no = rw (has, told) at none in cc
+-- a list of links is no longer than the cards
+links_bound : (link : Option (List ℕ × Option (List ℕ))) (links : List (List ℕ × Option (List ℕ))) (n : ℕ) → length links ≤ n → length (link_before link links) ≤ n + 1
+links_bound None links n l = omega arith
+links_bound (Some link) links n l = omega arith
 
-no_chain : (cards : List (List ℕ)) (place : ℕ) → long_says cards place ≡ None → BeginsChain cards place → ⊥
-unfolding long_says
-no_chain cards place none p =
-    begun (cards_from cards place) p.piece.card (Value.Str p.piece.text) p.piece.comment p.at p.first (card_said p.piece.card (Value.Str p.piece.text) p.piece.comment p.says) none
+links_within : (cards : List (List ℕ)) → length (links_of cards) ≤ length cards
+links_within [] = omega arith
+links_within (card ∷ cards) = omega (arith, links_bound (link_says card) (links_of cards) (length cards) (links_within cards))
 
--- a chain has no more pieces than there are cards
-chain_within : (cards : List (List ℕ)) (place : ℕ) (front : List Piece) (last : Piece) → IsChain cards place front last → length (front ++ last ∷ []) ≤ length cards
-chain_within cards place front last p =
-    omega (arith, simp (length-append, length-map, length-drop) at (ap length p.run.parts), length-append front (last ∷ []))
+-- no more of them belong to a string
+one_more : (b : Bool) (m n : ℕ) → m ≤ n → (if b then 1 + m else 0) ≤ n + 1
+one_more true m n l = omega arith
+one_more false m n l = omega arith
 
--- how many cards a long value reads: its chain's, or two
-abbrev ChainWork : List (List ℕ) → ℕ → ℕ → ℕ → Type 0
-ChainWork cards place old new = (front : List Piece) (last : Piece) → IsChain cards place front last → new ≤ old + 2 * length (front ++ last ∷ []) + 2
+after_within : (text : List ℕ) (links : List (List ℕ × Option (List ℕ))) → links_after text links ≤ length links
+after_within text [] = omega arith
+after_within text (link ∷ links) = omega (arith, one_more (ends_in_ampersand text) (links_after link.0 links) (length links) (after_within link.0 links))
 
-abbrev AloneWork : List (List ℕ) → ℕ → ℕ → ℕ → Type 0
-AloneWork cards place old new = (BeginsChain cards place → ⊥) → new ≤ old + 2
+string_within : (text : Option (List ℕ)) (cards : List (List ℕ)) → string_cards text cards ≤ length cards + 1
+string_within None cards = omega arith
+string_within (Some text) cards = omega (arith, after_within text (links_of cards), links_within cards)
 
-by_what_is_said : (cards : List (List ℕ)) (place old new : ℕ) (said : Option (Value × Option (List ℕ))) → long_says cards place ≡ said → ChainWork cards place old new → AloneWork cards place old new → new ≤ old + 2 * length cards + 2
-by_what_is_said cards place old new None e chain alone = omega (arith, alone (no_chain cards place e))
-by_what_is_said cards place old new (Some said) e chain alone =
-    elim (place_told cards place said.0 said.1 e) [
-      | inl p ↦ omega (arith, chain p.front p.last p.is_chain, chain_within cards place p.front p.last p.is_chain)
-      | inr p ↦ omega (arith, alone p.no_chain)
-    ]
+valued_within : (b : Bool) (m n : ℕ) → m ≤ n → (if b then m else 0) ≤ n
+valued_within true m n l = l
+valued_within false m n l = omega arith
 
--- with those that were read to find the lead
-pub most_read : (cards here : List (List ℕ)) (place old found new : ℕ) → here ≡ cards → found ≤ old + length cards → ChainWork here place found new → AloneWork here place found new → new ≤ old + 3 * length cards + 2
-most_read cards here place old found new same lead chain alone =
-    omega (arith, ap length same, lead, by_what_is_said here place found new (long_says here place) refl chain alone)
+first_within : (cards : List (List ℕ)) → first_chain_length cards ≤ length cards
+first_within [] = omega arith
+first_within (card ∷ cards) = omega (arith, valued_within (has_value card) (string_cards (card_string card) cards) (length cards + 1) (string_within (card_string card) cards))
 
-pub ruleset keyword_steps = (lead_from, lead_to, lead_says, lead_silent, no_lead, lead_has_key)
+-- so a chain has no more cards than stand from its place on
+chain_within : (cards : List (List ℕ)) (place : ℕ) → chain_length cards place ≤ length cards - (place - 1)
+unfolding chain_length
+chain_within cards place = omega (arith, first_within (cards_from cards place), length-drop (place - 1) cards)
+
+-- and with those that were read to find it, at most all cards, and two
+most_read : (cards : List (List ℕ)) (name : List ℕ) (place old found new : ℕ) → Some place ≡ lead_place cards name → found ≤ old + place → new ≤ found + (chain_length cards place + 1) → new ≤ old + (length cards + 2)
+most_read cards name place old found new lead l m = omega (arith, l, m, chain_within cards place, lead_from cards name place lead, lead_to cards name place lead)
+
+-- so the lead and what it says are read
+pub both_read : (old found new : CardStore) (name : List ℕ) (place : ℕ) → Some place ≡ lead_place old.header.cards name → ReadsUpTo old found place → ReadsUpTo found new (chain_length found.header.cards place + 1) → ReadsUpTo old new (length old.header.cards + 2)
+both_read old found new name place lead p q =
+    let chain : new.reads ≤ found.reads + (chain_length old.header.cards place + 1) = rw p.header at q.most in
+    record {
+      header = q.header ∙ p.header;
+      room = q.room ∙ p.room;
+      least = omega (arith, p.least, q.least);
+      most = most_read old.header.cards name place old.reads found.reads new.reads lead p.most chain;
+    }
+
+pub ruleset keyword_steps = (lead_from, lead_to, lead_says, lead_silent, no_lead, lead_not_silent)

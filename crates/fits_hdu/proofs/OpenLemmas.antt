@@ -1,19 +1,33 @@
 -- Steps of `open`.
-use Rattle.std.proofs.Common.{◌≡◌, ℕ, ◌+◌, ◌≤◌, Bool, List, length, take, drop}
-use Rattle.std.specs.Prelude.{Ok}
+use Rattle.std.proofs.Common.{◌≡◌, ℕ, ◌+◌, ◌≤◌, Bool, List, length, take, drop, refl}
+use Rattle.std.specs.Prelude.{Result, Ok, Err, IsErrOf}
 use Rattle.std.proofs.lemmas.List.{drop-drop}
 use Rattle.fits_card.specs.Header.{Header, IsHeaderOf}
 use Rattle.fits_rules.specs.Shape.{shape_of}
 use Rattle.fits_rules.specs.Size.{data_length}
 use Rattle.fits_rules.specs.declared.array_shape.Shape.{Shape}
-use Rattle.fits_hdu.specs.Hdu.{IsHduOf}
+use Rattle.fits_rules.specs.declared.mandatory.ShapeFault.{ShapeFault}
+use Rattle.fits_rules.specs.declared.mandatory.ShapeFault.TheVariants as shape_fault
+use Rattle.fits_rules.proofs.LawLemmas.{shape_primary}
+use Rattle.fits_hdu.specs.Fault.{of_shape}
+use Rattle.fits_hdu.specs.Hdu.{IsHduOf, DataFails}
 use Rattle.fits_hdu.proofs.HduLemmas.{hdu_there}
-use Rattle.fits_hdu.proofs.ShapeLemmas.{shape_is_primary}
 
--- the header that was cut, and as many bytes behind it as its cards describe
+-- cards that break no rule describe a shape
+described_or_not : (primary : Bool) (cards : List (List ℕ)) (r : Result Shape ℕ) → shape_of primary cards ≡ r → ((place : ℕ) → r ≡ Err place → ⊥) → (shape : Shape) × (shape_of primary cards ≡ Ok shape)
+described_or_not primary cards (Ok shape) e none = (shape, e)
+described_or_not primary cards (Err place) e none = absurd (none place refl)
+
+-- a fault of the shape is one of the HDU
+pub shape_fails : (primary : Bool) (cards : List (List ℕ)) (rest : List ℕ) (why : ShapeFault)
+    → ((place : ℕ) → IsErrOf {T = Shape} (Err why) (shape_fault.Bad place) → shape_of primary cards ≡ Err place) → ((place : ℕ) → shape_of primary cards ≡ Err place → IsErrOf {T = Shape} (Err why) (shape_fault.Bad place)) → DataFails primary cards rest (of_shape why)
+shape_fails primary cards rest (shape_fault.Bad place) bad broken = bad place refl
+shape_fails primary cards rest shape_fault.Memory bad broken = described_or_not primary cards (shape_of primary cards) refl (λ place e. let no = broken place e in cc)
+
+-- the header that was cut, and as many bytes after it as its cards describe
 pub hdu_opened : (primary : Bool) (f rest : List ℕ) (cut header : Header) (unit : List ℕ) (shape : Shape) (m n : ℕ) → IsHeaderOf f cut (drop m f) → header ≡ cut → shape_of primary cut.cards ≡ Ok shape → rest ≡ drop m f → n ≡ data_length shape → n ≤ length rest → unit ≡ take n rest
     → IsHduOf primary f (record { header = header; data_unit = unit }) (drop (m + n) f)
 hdu_opened primary f rest cut header unit shape m n found same described behind size enough taken =
     rw (same, taken, ← drop-drop n m f, behind, size) (hdu_there primary f cut (drop m f) shape found described (rw (size, behind) at enough))
 
-pub ruleset open_steps = (shape_is_primary)
+pub ruleset open_steps = (shape_primary)

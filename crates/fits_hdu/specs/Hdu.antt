@@ -1,6 +1,9 @@
 -- One HDU: its header and its data unit (FITS Standard 4.0, sections 3.1 to 3.3).
-use Rattle.std.specs.Prelude.{◌≡◌, ℕ, ◌-◌, ◌<◌, Bool, List, ◌++◌, length, insert, Ok, Err}
+use Rattle.std.specs.Prelude.{◌≡◌, ℕ, ◌<◌, Bool, List, ◌++◌, length, Ok, Err}
 use Rattle.fits_card.specs.Header.{Header, IsHeader, IsHeaderOf, HasNoHeader, header_bytes, with_cards}
+use Rattle.fits_card.specs.Change.{cards_after}
+use Rattle.fits_card.specs.declared.change.Change.{Change}
+use Rattle.fits_rules.specs.SameShape.{same_shape}
 use Rattle.fits_rules.specs.Shape.{shape_of}
 use Rattle.fits_rules.specs.Size.{data_length}
 use Rattle.fits_rules.specs.declared.array_shape.Shape.{Shape}
@@ -28,14 +31,14 @@ pub record IsHduOf (primary : Bool) (bytes : List ℕ) (hdu : HduParts) (rest : 
   pub whole : IsHdu primary hdu
   pub joined : bytes ≡ hdu_bytes hdu ++ rest
 
--- the cards of the header at the front break a rule of shapes, and this is the first place that does
+-- the cards of the header that they begin with break a rule of shapes, and this is the first place that does
 pub record BreaksShape (primary : Bool) (bytes : List ℕ) (place : ℕ) : Type 0 where
   pub header : Header
   pub rest : List ℕ
   pub cut : IsHeaderOf bytes header rest
   pub broken : shape_of primary header.cards ≡ Err place
 
--- fewer bytes follow the header at the front than its cards describe
+-- fewer bytes follow the header that they begin with than its cards describe
 pub record LacksData (primary : Bool) (bytes : List ℕ) : Type 0 where
   pub header : Header
   pub rest : List ℕ
@@ -44,22 +47,30 @@ pub record LacksData (primary : Bool) (bytes : List ℕ) : Type 0 where
   pub described : shape_of primary header.cards ≡ Ok shape
   pub short : length rest < data_length shape
 
--- why no HDU stands at the front: no header, then a bad shape, then too few data
+-- why bytes begin with no HDU: no header, then a bad shape, then too few data
 abbrev pub HasHduFault : Bool → List ℕ → HduFault → Type 0
 HasHduFault primary bytes NoEnd = HasNoHeader bytes
 HasHduFault primary bytes (BadShape place) = BreaksShape primary bytes place
 HasHduFault primary bytes ShortData = LacksData primary bytes
 HasHduFault primary bytes Memory = ⊥
 
--- opening the HDU at the front may end so: by its fault, or by want of memory
+-- the cards of a header that was cut and the bytes after it make no HDU: a bad shape, or too few data;
+-- memory is asked for only where the cards describe a shape
+abbrev pub DataFails : Bool → List (List ℕ) → List ℕ → HduFault → Type 0
+DataFails primary cards rest NoEnd = ⊥
+DataFails primary cards rest (BadShape place) = shape_of primary cards ≡ Err place
+DataFails primary cards rest ShortData = (shape : Shape) × (shape_of primary cards ≡ Ok shape) × (length rest < data_length shape)
+DataFails primary cards rest Memory = (shape : Shape) × (shape_of primary cards ≡ Ok shape)
+
+-- opening an HDU may end so: by its fault, or out of memory
 abbrev pub HduFails : Bool → List ℕ → HduFault → Type 0
 HduFails primary bytes Memory = Unit {0}
 HduFails primary bytes fault = HasHduFault primary bytes fault
 
--- the card stands at the place, counted from 1, before the one that stood there
-abbrev pub cards_after_insert : List (List ℕ) → ℕ → List ℕ → List (List ℕ)
-cards_after_insert cards place card = insert cards (place - 1) card
+-- the HDU after a change of its cards: END stays, and the header's fill is spaces
+abbrev pub hdu_after : Change → HduParts → HduParts
+hdu_after change hdu = record hdu { header = with_cards hdu.header (cards_after hdu.header.cards change) }
 
--- END stays, and the header's fill is spaces
-abbrev pub hdu_after_insert : ℕ → List ℕ → HduParts → HduParts
-hdu_after_insert place card hdu = record hdu { header = with_cards hdu.header (cards_after_insert hdu.header.cards place card) }
+-- the cards after describe the shape that those before do
+abbrev pub keeps_shape : Bool → List (List ℕ) → List (List ℕ) → Bool
+keeps_shape primary before after = same_shape (shape_of primary before) (shape_of primary after)

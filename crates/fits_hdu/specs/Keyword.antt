@@ -1,5 +1,5 @@
 -- What a keyword says in an HDU (FITS Standard 4.0, sections 4.1.2 and 4.2.1.2).
-use Rattle.std.specs.Prelude.{◌≡◌, ℕ, List, Option, None, Some, ok_or, Result, Err}
+use Rattle.std.specs.Prelude.{◌≡◌, ℕ, List, Option, None, Some, ok_or, Result, Err, IsOk}
 use Rattle.fits_value.specs.Says.{long_says}
 use Rattle.fits_value.specs.declared.value.Value.{Value}
 use Rattle.fits_rules.specs.Lead.{lead_place}
@@ -15,7 +15,7 @@ said_at cards (Some place) = ok_or (long_says cards place) BadValue
 unfoldable pub keyword_value : List (List ℕ) → List ℕ → Result (Value × Option (List ℕ)) KeywordFault
 keyword_value cards name = said_at cards (lead_place cards name)
 
--- asking for a keyword may end so: by its fault, or by want of memory where it has a lead
+-- asking for a keyword may end so: by its fault, or out of memory where it has a value
 abbrev pub KeywordFails : List (List ℕ) → List ℕ → KeywordFault → Type 0
-KeywordFails cards name Memory = keyword_value cards name ≡ Err NoKey → ⊥
+KeywordFails cards name Memory = IsOk (keyword_value cards name)
 KeywordFails cards name fault = keyword_value cards name ≡ Err fault

@@ -1,37 +1,12 @@
 -- The kind of an integer image: the type of its pixels, by BITPIX and by the offset of the conventions for unsigned integers
 -- and signed bytes (FITS Standard 4.0, sections 4.4.2.5 and 5.2.5).
-use Rattle.std.specs.Prelude.{◌≡◌, ◌⊎◌, ℕ, ◌==◌, ◌&&◌, Bool, true, false, IsTrue, nat_lt, ◌↔◌, ℤ, pos, negsuc, List, length, codes, Option, None, Some, if◌then◌else◌}
-use Rattle.fits_value.specs.Field.{ReadsAs}
-use Rattle.fits_value.specs.Number.{Denotes}
-use Rattle.fits_value.specs.declared.reading.ValueKind.{ValueKind}
-use Rattle.fits_value.specs.declared.reading.ValueKind.TheVariants.{Integer, Real}
+use Rattle.std.specs.Prelude.{◌≡◌, ◌⊎◌, ℕ, ◌==◌, Bool, true, false, IsTrue, ◌↔◌, ℤ, pos, negsuc, List, codes, None, Some, if◌then◌else◌}
+use Rattle.fits_rules.specs.Denotes.{LeadDenotes}
+use Rattle.fits_rules.specs.Image.{image_bits}
 use Rattle.fits_rules.specs.Lead.{lead_card}
-use Rattle.fits_rules.specs.declared.class.Class.{Class}
-use Rattle.fits_rules.specs.declared.class.Class.TheVariants.{Primary, Image}
 use Rattle.fits_rules.specs.declared.array_shape.Shape.{Shape}
 use Rattle.fits_hdu.specs.declared.kind.Kind.{Kind}
 use Rattle.fits_hdu.specs.declared.kind.Kind.TheVariants.{U8, I8, I16, U16, I32, U32, I64, U64}
-
--- an integer or a real (4.2.3, 4.2.4)
-abbrev pub is_numeric : ValueKind → Bool
-is_numeric Integer = true
-is_numeric Real = true
-is_numeric kind = false
-
--- the card reads as an integer or a real whose text denotes exactly this number
-pub record CardDenotes (card : List ℕ) (number : ℤ) : Type 0 where
-  pub kind : ValueKind
-  pub text : List ℕ
-  pub comment : Option (List ℕ)
-  pub reads : ReadsAs card kind text comment
-  pub numeric : IsTrue (is_numeric kind)
-  pub denotes : Denotes text number
-
--- the lead of a name does
-pub record LeadDenotes (cards : List (List ℕ)) (name : List ℕ) (number : ℤ) : Type 0 where
-  pub card : List ℕ
-  pub lead : lead_card cards name ≡ Some card
-  pub denotes : CardDenotes card number
 
 -- BSCALE is absent, or denotes 1 (4.4.2.5)
 abbrev pub IsUnscaled : List (List ℕ) → Type 0
@@ -54,21 +29,6 @@ convention bits =
 abbrev pub kind_of : ℕ → Bool → Kind
 kind_of bits true = if bits == 8 then I8 else if bits == 16 then U16 else if bits == 32 then U32 else U64
 kind_of bits false = if bits == 8 then U8 else if bits == 16 then I16 else if bits == 32 then I32 else I64
-
--- the primary array, or an image extension with PCOUNT 0 and GCOUNT 1 (3.3.2, 7.1)
-abbrev pub is_array : Class → ℕ → ℕ → Bool
-is_array Primary pcount gcount = true
-is_array Image pcount gcount = (pcount == 0) && (gcount == 1)
-is_array class pcount gcount = false
-
--- how many bits a pixel of integers has: None for reals (4.4.1.1)
-abbrev pub integer_bits : ℤ → Option ℕ
-integer_bits (pos bits) = Some bits
-integer_bits (negsuc number) = None
-
--- how many bits a pixel has in an array of integers that has an axis; None where the shape is no such array
-unfoldable pub image_bits : Shape → Option ℕ
-image_bits shape = if is_array shape.class shape.pcount shape.gcount && nat_lt 0 (length shape.axes) then integer_bits shape.bitpix else None
 
 -- the kind of the image that a shape and cards describe
 pub record IsKind (shape : Shape) (cards : List (List ℕ)) (kind : Kind) : Type 0 where

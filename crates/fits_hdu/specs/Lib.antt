@@ -3,3 +3,4 @@ pub mod Hdu
 pub mod Keyword
 pub mod Kind
 pub mod State
+pub mod Work

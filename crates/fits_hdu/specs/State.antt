@@ -1,5 +1,5 @@
 -- What an HDU under edits is to its callers.
-use Rattle.std.specs.Prelude.{ℕ}
+use Rattle.std.specs.Prelude.{◌≡◌, ℕ, ◌+◌, ◌≤◌}
 use Rattle.fits_rules.specs.declared.array_shape.Shape.{Shape}
 use Rattle.fits_hdu.specs.Hdu.{HduParts}
 
@@ -10,3 +10,11 @@ pub record HduState : Type 0 where
   pub shape : Shape
   pub reads : ℕ
   pub room : ℕ
+
+-- so many of its cards were read at most, and nothing else changed
+pub record ReadsUpTo (old new : HduState) (count : ℕ) : Type 0 where
+  pub hdu : new.hdu ≡ old.hdu
+  pub shape : new.shape ≡ old.shape
+  pub room : new.room ≡ old.room
+  pub least : old.reads ≤ new.reads
+  pub most : new.reads ≤ old.reads + count

@@ -1,25 +1,30 @@
-//! The data unit behind a header.
-ghost use Rattle.std.specs.Prelude.{◌≡◌, ◌<◌, ◌≤◌, length, IfSome, IfNone};
+//! The data unit after a header.
+ghost use Rattle.std.specs.Prelude.{◌≡◌, ◌<◌, ◌≤◌, length, IfOk, IfErr};
 ghost use Rattle.fits_rules.specs.Size.{data_length};
 
-use fits_card::card_list::BLOCK_LEN;
-use fits_rules::array_shape::Shape;
-use fits_rules::size::data_bytes;
+use crate::fault::HduFault;
+use fits_card::BLOCK_LEN;
+use fits_rules::{Shape, data_bytes};
 
-/// How many bytes the data unit has that a shape describes, with its fill, where as many follow.
+/// How many bytes the data unit has that a shape describes, with its fill, where as many follow the
+/// header.
 #[tactic(auto, unfolding(fits_rules::specs::Size::data_length))]
-pub(crate) fn unit_len(shape: &Shape, rest: &[u8]) -> Option<usize>
-    ensures found { IfSome result (λ len. len ≡ data_length shape.now) }
-    ensures within { IfSome result (λ len. len ≤ length rest.now) }
-    ensures none { IfNone result (length rest.now < data_length shape.now) }
+pub(crate) fn unit_len(shape: &Shape, rest: &[u8]) -> Result<usize, HduFault>
+    ensures ok { IfOk result (λ len. len ≡ data_length shape.now) }
+    ensures within { IfOk result (λ len. len ≤ length rest.now) }
+    ensures fault { IfErr result (λ why. why ≡ HduFault.ShortData) }
+    ensures short { IfErr result (λ _. length rest.now < data_length shape.now) }
 {
     let Some(bytes) = data_bytes(shape) else {
-        return None;
+        return Err(HduFault::ShortData);
     };
     if (rest.len() as u64) < bytes {
-        return None;
+        return Err(HduFault::ShortData);
     }
     let bytes = bytes as usize;
     let len = bytes + (BLOCK_LEN - bytes % BLOCK_LEN) % BLOCK_LEN;
-    if rest.len() < len { None } else { Some(len) }
+    if rest.len() < len {
+        return Err(HduFault::ShortData);
+    }
+    Ok(len)
 }

@@ -1,17 +1,18 @@
 //! Why no HDU was opened.
 
-use fits_card::cut::HeaderFault;
-use fits_rules::mandatory::ShapeFault;
+use fits_card::HeaderFault;
+use fits_rules::ShapeFault;
 use std::alloc::AllocError;
 
-/// Why no HDU stands at the front of bytes.
+/// Why bytes don't begin with an HDU.
 #[derive(Clone, Copy, PartialEq, Eq, Debug)]
 pub enum HduFault {
     /// There is no END card, or its block isn't whole (FITS Standard 4.0, section 4.4.1).
     NoEnd,
     /// The first place, from 1, whose card breaks a rule of shapes (4.4.1.1, 4.4.1.2).
     BadShape(usize),
-    /// Fewer bytes follow the header than its cards describe, with the fill of the last block (3.1).
+    /// Fewer bytes follow the header than its cards describe, with the fill of the last block
+    /// (3.1).
     ShortData,
     /// Memory was refused.
     Memory,

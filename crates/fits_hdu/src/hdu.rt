@@ -4,17 +4,9 @@ use crate::data_unit::unit_len;
 use crate::fault::HduFault;
 use crate::keyword::{KeywordFault, keyword_value};
 use crate::kind::{Kind, image_kind};
-use fits_card::card::Card;
-use fits_card::card_list::CardList;
-use fits_card::change::Change;
-use fits_card::cut::cut_header;
-use fits_card::name::Name;
-use fits_card::sink::Sink;
-use fits_card::writing::write_all;
-use fits_rules::array_shape::Shape;
-use fits_rules::mandatory::{keeps_shape, shape};
-use fits_value::text::Text;
-use fits_value::value::Value;
+use fits_card::{CardList, Change, Name, Sink, cut_header, write_all};
+use fits_rules::{Shape, keeps_shape, shape};
+use fits_value::{Text, Value};
 use std::alloc::{AllocError, Global};
 use std::io;
 use std::marker::Model;
@@ -50,26 +42,32 @@ impl Model for Hdu {
 }
 
 impl Hdu {
-    ghost use Rattle.std.specs.Prelude.{◌≡◌, ◌+◌, ◌*◌, ◌≤◌, ◌<◌, length, drop, Ok, None, IfOk, IfErr, IsErrOf, IfSome, IfNone, OnOk, OnErr, IsTrue, ◌↔◌};
+    ghost use Rattle.std.specs.Prelude.{◌≡◌, ◌+◌, ◌*◌, ◌≤◌, ◌<◌, length, take, drop, All, Ok, IsOk, None, IfOk, IfErr, IsErrOf, IfSome, IfNone, OnOk, OnErr, IsTrue, ◌↔◌};
     ghost use Rattle.std.specs.Io.KnownBytes.{Appends};
     ghost use Rattle.fits_card.specs.Card.{IsEnd};
-    ghost use Rattle.fits_card.specs.Change.{cards_after, IsInRange};
+    ghost use Rattle.fits_card.specs.Change.{cards_after, new_cards, IsInRange};
     ghost use Rattle.fits_card.specs.Header.{HasNoHeader, header_bytes};
     ghost use Rattle.fits_card.specs.Stream.{AppendsFront};
     ghost use Rattle.fits_rules.specs.Class.{is_primary};
     ghost use Rattle.fits_rules.specs.Shape.{shape_of};
+    ghost use Rattle.fits_rules.specs.Size.{data_length};
     ghost use Rattle.fits_hdu.specs.Keyword.{keyword_value, KeywordFails};
-    ghost use Rattle.fits_hdu.specs.Kind.{image_bits, IsKind};
-    ghost use Rattle.fits_hdu.specs.Hdu.{IsHdu, IsHduOf, HduFails, hdu_bytes, cards_after_insert, hdu_after_insert};
+    ghost use Rattle.fits_rules.specs.Image.{image_bits};
+    ghost use Rattle.fits_hdu.specs.Kind.{IsKind};
+    ghost use Rattle.fits_hdu.specs.State.{ReadsUpTo};
+    ghost use Rattle.fits_hdu.specs.Work.{shape_reads};
+    ghost use Rattle.fits_hdu.specs.Hdu.{IsHdu, IsHduOf, DataFails, HduFails, hdu_bytes, hdu_after, keeps_shape};
 
-    /// The HDU at the front of these bytes, the primary one or an extension, and how many bytes it
+    /// The HDU that these bytes begin with, the primary one or an extension, and how many bytes it
     /// has (FITS Standard 4.0, section 3.1).
     ///
     /// The faults are looked for in the order of `HduFault`. The cards that it reads are counted.
     #[tactic(auto, using(crate::proofs::OpenLemmas::open_steps))]
     pub fn open(alloc: Global, bytes: &[u8], primary: bool) -> Result<(Hdu, usize), HduFault>
-        ensures found { IfOk result (λ cut. IsHduOf primary bytes.now cut.0.hdu (drop cut.1 bytes.now)) }
-        ensures described { IfOk result (λ cut. shape_of primary cut.0.hdu.header.cards ≡ Ok cut.0.shape) }
+        ensures found { IfOk result (λ cut. IsHduOf primary bytes.now cut.0.hdu
+            (drop cut.1 bytes.now)) }
+        ensures described { IfOk result (λ cut. shape_of primary cut.0.hdu.header.cards
+            ≡ Ok cut.0.shape) }
         ensures class { IfOk result (λ cut. is_primary cut.0.shape.class ≡ primary) }
         ensures len { IfOk result (λ cut. cut.1 ≡ length (hdu_bytes cut.0.hdu)) }
         ensures within { IfOk result (λ cut. cut.1 ≤ length bytes.now) }
@@ -79,12 +77,33 @@ impl Hdu {
         ensures fault { IfErr result (HduFails primary bytes.now) }
         ensures no_end { HasNoHeader bytes.now → IsErrOf result HduFault.NoEnd }
     {
-        let (mut cards, header_len) = cut_header(alloc, bytes)?;
-        let shape = shape(alloc, &mut cards, primary)?;
+        let (cards, header_len) = cut_header(alloc, bytes)?;
         let (_, rest) = bytes.split_at(header_len);
-        let Some(unit_len) = unit_len(&shape, rest) else {
-            return Err(HduFault::ShortData);
-        };
+        let (hdu, unit_len) = Hdu::with_data(alloc, cards, rest, primary)?;
+        Ok((hdu, header_len + unit_len))
+    }
+
+    // The HDU of a header and of the data unit that begins these bytes, and how many bytes the unit
+    // has.
+    #[tactic(auto, using(crate::proofs::OpenLemmas::open_steps))]
+    fn with_data(
+        alloc: Global,
+        mut cards: CardList,
+        rest: &[u8],
+        primary: bool,
+    ) -> Result<(Hdu, usize), HduFault>
+        ensures header { IfOk result (λ cut. cut.0.hdu.header ≡ cards.header) }
+        ensures described { IfOk result (λ cut. shape_of primary cards.header.cards
+            ≡ Ok cut.0.shape) }
+        ensures unit { IfOk result (λ cut. cut.0.hdu.data_unit ≡ take cut.1 rest.now) }
+        ensures len { IfOk result (λ cut. cut.1 ≡ data_length cut.0.shape) }
+        ensures within { IfOk result (λ cut. cut.1 ≤ length rest.now) }
+        ensures work { IfOk result (λ cut. cut.0.reads
+            ≤ cards.reads + 4 * length cards.header.cards + 7) }
+        ensures fault { IfErr result (DataFails primary cards.header.cards rest.now) }
+    {
+        let shape = shape(alloc, &mut cards, primary)?;
+        let unit_len = unit_len(&shape, rest)?;
         let (unit, _) = rest.split_at(unit_len);
         let data_unit = unit.to_vec(alloc)?;
         let hdu = Hdu {
@@ -92,27 +111,22 @@ impl Hdu {
             shape,
             data_unit,
         };
-        Ok((hdu, header_len + unit_len))
-    }
-
-    /// What it is: a whole HDU, whose cards describe its shape.
-    pub fn whole(&self)
-        ensures hdu { IsHdu (is_primary self.now.shape.class) self.now.hdu }
-        ensures described { shape_of (is_primary self.now.shape.class) self.now.hdu.header.cards ≡ Ok self.now.shape }
-    {
-        let _ = self.cards.len();
+        Ok((hdu, unit_len))
     }
 
     /// The shape that its cards describe.
     pub fn shape(&self) -> &Shape
-        ensures { result.now ≡ self.now.shape }
+        ensures value { result.now ≡ self.now.shape }
+        ensures described { shape_of (is_primary self.now.shape.class) self.now.hdu.header.cards
+            ≡ Ok self.now.shape }
     {
         &self.shape
     }
 
     /// How many cards its header has, END not counted.
     pub fn card_count(&self) -> usize
-        ensures { result ≡ length self.now.hdu.header.cards }
+        ensures value { result ≡ length self.now.hdu.header.cards }
+        ensures whole { IsHdu (is_primary self.now.shape.class) self.now.hdu }
     {
         self.cards.len()
     }
@@ -132,9 +146,11 @@ impl Hdu {
         self.data_unit.len()
     }
 
-    /// Makes room for this many more cards.
+    /// Makes room for this many more cards. It fails only where room was missing.
     pub fn reserve(&mut self, additional: usize) -> Result<(), AllocError>
         ensures ok { OnOk result (additional ≤ self.new.room) }
+        ensures err { OnErr result (self.new.room ≡ self.old.room) }
+        ensures succeeds { additional ≤ self.old.room → IsOk result }
         ensures hdu { self.new.hdu ≡ self.old.hdu }
         ensures shape { self.new.shape ≡ self.old.shape }
         ensures room { self.old.room ≤ self.new.room }
@@ -143,93 +159,101 @@ impl Hdu {
         self.cards.reserve(additional)
     }
 
-    /// The kind of its pixels, where it is an image of integers (FITS Standard 4.0, sections 4.4.2.5
-    /// and 5.2.5).
+    /// The kind of its pixels, where it is an image of integers (FITS Standard 4.0, sections
+    /// 4.4.2.5 and 5.2.5).
     ///
     /// It takes no memory. The cards that it reads are counted.
     pub fn kind(&mut self) -> Option<Kind>
         ensures found { IfSome result (IsKind self.old.shape self.old.hdu.header.cards) }
         ensures none { IfNone result (image_bits self.old.shape ≡ None) }
-        ensures hdu { self.new.hdu ≡ self.old.hdu }
-        ensures shape { self.new.shape ≡ self.old.shape }
-        ensures room { self.new.room ≡ self.old.room }
-        ensures least_work { self.old.reads ≤ self.new.reads }
-        ensures most_work { self.new.reads ≤ self.old.reads + 2 * (length self.old.hdu.header.cards + 1) }
+        ensures described { shape_of (is_primary self.old.shape.class) self.old.hdu.header.cards
+            ≡ Ok self.old.shape }
+        ensures work { ReadsUpTo self.old self.new (2 * (length self.old.hdu.header.cards + 1)) }
     {
         image_kind(&mut self.cards, &self.shape)
     }
 
-    /// The value and the comment of a keyword: those of the first card of this name that has a value,
-    /// with its CONTINUE cards (FITS Standard 4.0, section 4.2.1.2). The cards that it reads are counted.
+    /// The value and the comment of a keyword: those of the first card of this name that has a
+    /// value, with its CONTINUE cards (FITS Standard 4.0, section 4.2.1.2). The cards that it reads
+    /// are counted.
     pub fn value(
         &mut self,
         alloc: Global,
         name: &Name,
     ) -> Result<(Value, Option<Text>), KeywordFault>
-        ensures ok { IfOk result (λ said. keyword_value self.old.hdu.header.cards name.now ≡ Ok said) }
+        ensures ok { IfOk result (λ said. keyword_value self.old.hdu.header.cards name.now
+            ≡ Ok said) }
         ensures err { IfErr result (KeywordFails self.old.hdu.header.cards name.now) }
-        ensures hdu { self.new.hdu ≡ self.old.hdu }
-        ensures shape { self.new.shape ≡ self.old.shape }
-        ensures room { self.new.room ≡ self.old.room }
-        ensures least_work { self.old.reads ≤ self.new.reads }
-        ensures most_work { self.new.reads ≤ self.old.reads + 3 * length self.old.hdu.header.cards + 2 }
+        ensures work { ReadsUpTo self.old self.new (length self.old.hdu.header.cards + 2) }
     {
         keyword_value(alloc, &mut self.cards, name)
     }
 
-    /// Whether its cards after a change would describe the same shape. The cards that it reads are counted.
+    /// Whether its cards after a change would describe the same shape. The cards that it reads are
+    /// counted.
     ///
     /// It takes no memory.
+    #[tactic(auto, using(crate::proofs::ChangeLemmas::kept_steps))]
     pub fn keeps_shape(&mut self, change: &Change) -> bool
         requires { IsInRange self.old.hdu.header.cards change.now }
-        ensures value { IsTrue result ↔ (shape_of (is_primary self.old.shape.class) (cards_after self.old.hdu.header.cards change.now) ≡ Ok self.old.shape) }
-        ensures hdu { self.new.hdu ≡ self.old.hdu }
-        ensures shape { self.new.shape ≡ self.old.shape }
-        ensures room { self.new.room ≡ self.old.room }
-        ensures least_work { self.old.reads ≤ self.new.reads }
-        ensures most_work { self.new.reads ≤ self.old.reads + 4 * length (cards_after self.old.hdu.header.cards change.now) + 7 }
+        ensures value { result ≡ keeps_shape
+            (is_primary self.old.shape.class) self.old.hdu.header.cards
+            (cards_after self.old.hdu.header.cards change.now) }
+        ensures work { ReadsUpTo self.old self.new (shape_reads
+            (is_primary self.old.shape.class) self.old.hdu.header.cards
+            (cards_after self.old.hdu.header.cards change.now)) }
     {
         keeps_shape(&mut self.cards, &self.shape, change)
     }
 
-    /// Puts a card at a place, from 1, before the one that stands there. END stays, and the header's
-    /// fill is spaces.
-    ///
-    /// It takes no memory: the room is reserved before, and `keeps_shape` tells whether the shape stays.
-    pub fn insert(&mut self, place: usize, card: Card)
-        requires room { 0 < self.old.room }
-        requires from { 1 ≤ place }
-        requires to { place ≤ length self.old.hdu.header.cards + 1 }
-        requires not_end { IsEnd card → ⊥ }
-        requires kept { shape_of (is_primary self.old.shape.class) (cards_after_insert self.old.hdu.header.cards place card) ≡ Ok self.old.shape }
-        ensures hdu { self.new.hdu ≡ hdu_after_insert place card self.old.hdu }
-        ensures shape { self.new.shape ≡ self.old.shape }
-        ensures room { self.new.room + 1 ≡ self.old.room }
-        ensures work { self.new.reads ≡ self.old.reads }
+    /// How many cards its header has after a change.
+    pub fn count_after(&self, change: &Change) -> usize
+        requires { IsInRange self.now.hdu.header.cards change.now }
+        ensures { result ≡ length (cards_after self.now.hdu.header.cards change.now) }
     {
-        self.cards.insert(place, card);
+        change.len_after(&self.cards)
     }
 
-    /// Writes the header, each card by a call of its own, and then the data unit, in as few calls as
-    /// it takes. Each card's read is counted.
+    /// Makes a change of its cards. END stays, and the header's fill is spaces.
     ///
-    /// Where a call fails a front was written.
+    /// It takes no memory: the room is reserved before, and `keeps_shape` says whether the shape
+    /// stays.
+    #[tactic(auto, using(crate::proofs::ChangeLemmas::kept_steps))]
+    pub fn apply(&mut self, change: &Change)
+        requires in_range { IsInRange self.old.hdu.header.cards change.now }
+        requires not_end { All (λ card. IsEnd card → ⊥) (new_cards change.now) }
+        requires room { length (cards_after self.old.hdu.header.cards change.now)
+            ≤ length self.old.hdu.header.cards + self.old.room }
+        requires kept { IsTrue (keeps_shape
+            (is_primary self.old.shape.class) self.old.hdu.header.cards
+            (cards_after self.old.hdu.header.cards change.now)) }
+        ensures hdu { self.new.hdu ≡ hdu_after change.now self.old.hdu }
+        ensures shape { self.new.shape ≡ self.old.shape }
+        ensures room { self.new.room + length self.new.hdu.header.cards
+            ≡ self.old.room + length self.old.hdu.header.cards }
+        ensures work { self.new.reads ≡ self.old.reads }
+    {
+        change.apply(&mut self.cards);
+    }
+
+    /// Writes the header and then the data unit. Each card's read is counted.
+    ///
+    /// Where a call fails a prefix was written.
     #[tactic(auto, using(crate::proofs::EmitLemmas::emit_steps))]
     pub fn emit<W: Sink>(&mut self, sink: &mut W) -> io::Result<()>
-        ensures ok { OnOk result (Appends (W.contents sink.old) (W.contents sink.new) (hdu_bytes self.old.hdu)) }
-        ensures err { OnErr result (AppendsFront (W.contents sink.old) (W.contents sink.new) (hdu_bytes self.old.hdu)) }
+        ensures ok { OnOk result (Appends (W.contents sink.old) (W.contents sink.new)
+            (hdu_bytes self.old.hdu)) }
+        ensures err { OnErr result (AppendsFront (W.contents sink.old) (W.contents sink.new)
+            (hdu_bytes self.old.hdu)) }
 
         // It fails exactly where a call did.
         ensures quiet { OnOk result (W.failures sink.new ≡ W.failures sink.old) }
-        ensures failed { OnErr result (W.failures sink.old < W.failures sink.new) }
+        ensures failed { OnErr result (W.failures sink.new ≡ W.failures sink.old + 1) }
 
-        // The HDU stays, and each card is read once at the most.
-        ensures hdu { self.new.hdu ≡ self.old.hdu }
-        ensures shape { self.new.shape ≡ self.old.shape }
-        ensures room { self.new.room ≡ self.old.room }
-        ensures work { OnOk result (self.new.reads ≡ self.old.reads + length self.old.hdu.header.cards) }
-        ensures least_work { self.old.reads ≤ self.new.reads }
-        ensures most_work { self.new.reads ≤ self.old.reads + length self.old.hdu.header.cards }
+        // The HDU stays, and each card is read once at most.
+        ensures work { ReadsUpTo self.old self.new (length self.old.hdu.header.cards) }
+        ensures all_read { OnOk result (self.new.reads
+            ≡ self.old.reads + length self.old.hdu.header.cards) }
     {
         self.cards.emit(sink)?;
         write_all(sink, &self.data_unit)?;

@@ -1,13 +1,11 @@
 //! What a keyword says.
-ghost use Rattle.std.specs.Prelude.{◌≡◌, ◌≤◌, ◌+◌, ◌*◌, Ok, length, IfOk, IfErr};
+ghost use Rattle.std.specs.Prelude.{◌≡◌, ◌≤◌, ◌+◌, Ok, length, IfOk, IfErr};
+ghost use Rattle.fits_card.specs.CardList.{ReadsUpTo};
 ghost use Rattle.fits_hdu.specs.Keyword.{keyword_value, KeywordFails};
 
-use fits_card::card_list::CardList;
-use fits_card::name::Name;
-use fits_rules::lead::lead;
-use fits_value::long_string::long_value;
-use fits_value::text::Text;
-use fits_value::value::Value;
+use fits_card::{CardList, Name};
+use fits_rules::lead;
+use fits_value::{Text, Value, long_value};
 use std::alloc::{AllocError, Global};
 
 /// Why a keyword gave no value.
@@ -41,10 +39,7 @@ pub(crate) fn keyword_value(
 ) -> Result<(Value, Option<Text>), KeywordFault>
     ensures ok { IfOk result (λ said. keyword_value cards.old.header.cards name.now ≡ Ok said) }
     ensures err { IfErr result (KeywordFails cards.old.header.cards name.now) }
-    ensures header { cards.new.header ≡ cards.old.header }
-    ensures room { cards.new.room ≡ cards.old.room }
-    ensures least_work { cards.old.reads ≤ cards.new.reads }
-    ensures most_work { cards.new.reads ≤ cards.old.reads + 3 * length cards.old.header.cards + 2 }
+    ensures work { ReadsUpTo cards.old cards.new (length cards.old.header.cards + 2) }
 {
     let Some(place) = lead(cards, name) else {
         return Err(KeywordFault::NoKey);

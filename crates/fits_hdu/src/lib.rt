@@ -7,6 +7,8 @@ pub mod hdu;
 pub mod keyword;
 pub mod kind;
 pub mod laws;
-mod lead;
-#[cfg(test)]
-mod tests;
+
+pub use fault::HduFault;
+pub use hdu::Hdu;
+pub use keyword::KeywordFault;
+pub use kind::Kind;
