@@ -1,140 +1,340 @@
--- Steps of an insertion into one HDU.
-use Rattle.std.proofs.Common.{◌≡◌, ℕ, ◌+◌, ◌-◌, ◌*◌, ◌≤◌, Bool, true, false, List, [], ◌∷◌, length, refl, ap, sym, ◌∙◌, arith, rules, Option, None, Some}
-use Rattle.std.specs.Prelude.{IsTrue, ◌↔◌, not, Ok, if◌then◌else◌}
+-- Edits of cards: the tests of a change by itself, and what an edit owes.
+use Rattle.std.proofs.Common.{◌≡◌, inl, inr, ℕ, ◌+◌, ◌≤◌, Bool, true, false, List, [], ◌∷◌, length, set, refl, ap, sym, ◌∙◌, subst, arith, rules, All, Option, None, Some, zero, suc, add-one, replicate}
+use Rattle.std.specs.Prelude.{◌&&◌, ◌||◌, not, nat_le, Result, Ok, Err, IsOk, if◌then◌else◌}
+use Rattle.std.specs.List.{slice_get, list_all, list_any}
 use Rattle.std.proofs.lemmas.List.{length-append}
 use Rattle.fits_card.specs.Card.{is_text, is_end, IsEnd}
-use Rattle.fits_card.specs.Change.{cards_after, IsInRange}
-use Rattle.fits_card.specs.Header.{header_bytes, header_length}
+use Rattle.fits_card.specs.Change.{cards_after, new_cards, IsInRange}
+use Rattle.fits_card.specs.Header.{header_length, header_bytes, fill_length, IsInnerCard}
 use Rattle.fits_card.specs.declared.change.Change.{Change}
-use Rattle.fits_card.specs.declared.change.Change.TheVariants.{Splice}
-use Rattle.fits_card.proofs.HeaderLemmas.{fill_length-by_cards, length-header_bytes}
+use Rattle.fits_card.specs.declared.change.Change.TheVariants.{Splice, Move}
+use Rattle.fits_card.proofs.HeaderLemmas.{whole-with_cards}
 use Rattle.fits_rules.specs.Class.{is_primary}
 use Rattle.fits_rules.specs.Shape.{shape_of}
-use Rattle.fits_hdu.specs.Hdu.{HduParts, hdu_bytes, IsHdu, cards_after_insert}
-use Rattle.fits_hdu.specs.State.{HduState}
-use Rattle.fits_hdu.proofs.InsertLemmas.{cards_after-insert}
-use Rattle.fits_session.specs.Edit.{growth_of}
-use Rattle.fits_session.specs.Limits.{file_limit, is_within_limits}
-use Rattle.fits_session.specs.Refusal.{is_within, card_refusal, shape_refusal, limit_refusal, first_refusal, hdu_refusal, NeedsMemory}
-use Rattle.fits_session.specs.Session.{insert_refusal}
+use Rattle.fits_hdu.specs.Hdu.{HduParts, hdu_after, hdu_bytes, IsHdu, keeps_shape}
+use Rattle.fits_hdu.specs.State.{HduState, ReadsUpTo}
+use Rattle.fits_hdu.specs.Work.{shape_reads}
+use Rattle.fits_hdu.proofs.ChangeLemmas.{hdu-changed, inner_after}
+use Rattle.fits_rules.proofs.SameShapeLemmas.{same_shape-Decides}
+use Rattle.fits_session.specs.Edit.{hdu_of, hdu_named, changed_at, with_hdu, is_in_range, own_refusal, unless, tested, change_of, hdu_changed, file_after}
+use Rattle.fits_session.specs.File.{FileParts, joined_hdus, file_bytes, IsFileOf, IsFile}
+use Rattle.fits_session.specs.Limits.{file_limit, hdu_limit, is_within_limits}
+use Rattle.fits_session.specs.Refusal.{is_primary_hdu, shape_refusal, limit_refusal, size_refusal, first_refusal, change_refusal, refusal_in, refusal_of, NeedsMemory, EditFails, ChangeFails}
+use Rattle.fits_session.specs.Session.{file_of, hdus_of, held_of, state_of, length_after, made_refusal, EditsTo, IsNowhere}
+use Rattle.fits_session.specs.Work.{own_reads, change_reads, hdu_reads, edit_reads}
+use Rattle.fits_session.specs.declared.edit.Edit.{Edit}
+use Rattle.fits_session.specs.declared.edit.Edit.TheVariants.{Insert}
 use Rattle.fits_session.specs.declared.refusal.Refusal.{Refusal}
 use Rattle.fits_session.specs.declared.refusal.Refusal.TheVariants as refusal
-use Rattle.fits_session.specs.SameShape.{keeps_shape}
-use Rattle.fits_session.proofs.ShapeLemmas.{keeps_shape-same, keeps_shape-other}
+use Rattle.fits_session.proofs.ChangeLemmas.{hdu_is, joined-changed, length-changed, changed_at-same, goes_on-changed, front_changed}
+use Rattle.fits_session.proofs.MakingLemmas.{header_long, header_part}
+use Rattle.fits_session.proofs.StateLemmas.{IsHduAt, hdus_of-changed, file_of-same, length-hdus_of, slice_get-hdus_of, hdu_of-there, hdu_of-nowhere, part_there, primary_there, reads_none, reads_more}
 
--- a header grows by one more card, or stays as long
-pub header_grows : (n : ℕ) → header_length n ≤ header_length (n + 1)
-header_grows n = omega (arith, fill_length-by_cards n, fill_length-by_cards (n + 1))
+-- what a change that passes its own tests passed
+passed : (a b c : Bool) → (if not a then Some refusal.NoCard else (if not b then Some refusal.BadText else (if c then Some refusal.EndCard else None))) ≡ None → (a ≡ true) × (b ≡ true) × (c ≡ false)
+passed true true false e = (refl, refl, refl)
+passed true true true e = cc
+passed true false c e = cc
+passed false b c e = cc
 
--- and is not much longer than its cards
-pub header_bound : (n : ℕ) → header_length n ≤ 80 * (n + 1) + 2800
-header_bound n = omega (arith, fill_length-by_cards n)
+-- the places of a splice in range
+splice_ranged : (place removed count : ℕ) → (nat_le 1 place && nat_le (place + removed) (count + 1)) ≡ true → (1 ≤ place) × (place + removed ≤ count + 1)
+splice_ranged place removed count e = search rules
 
--- an HDU of a file has few cards
-pub few_cards : (primary : Bool) (hdu : HduParts) (len n : ℕ) → IsHdu primary hdu → length (hdu_bytes hdu) ≤ len → len ≤ file_limit → n ≡ length hdu.header.cards → 80 * (n + 1) ≤ file_limit
-few_cards primary hdu len n p part within e = omega (arith, length-header_bytes hdu.header p.header, length-append (header_bytes hdu.header) hdu.data_unit)
+-- and of a move
+move_ranged : (from to count : ℕ) → ((nat_le 1 from && nat_le from count) && (nat_le 1 to && nat_le to count)) ≡ true → (1 ≤ from) × (from ≤ count) × (1 ≤ to) × (to ≤ count)
+move_ranged from to count e = search rules
 
-pub growth_bound : (n : ℕ) → header_length (n + 1) - header_length n ≤ 2880
-growth_bound n = omega (arith, fill_length-by_cards n, fill_length-by_cards (n + 1))
+ranged : (cards : List (List ℕ)) (change : Change) → is_in_range (length cards) change ≡ true → IsInRange cards change
+unfolding IsInRange
+ranged cards (Splice place removed new) e = splice_ranged place removed (length cards) e
+ranged cards (Move from to) e = move_ranged from to (length cards) e
 
-pub ruleset growth_steps = (header_grows, growth_bound)
+-- no card is END where a test finds none
+neither : (a b : Bool) → (a || b) ≡ false → (a ≡ false) × (b ≡ false)
+neither true b e = cc
+neither false b e = (refl, e)
 
--- what an accepted card is
-card_cases : (a b c : Bool) → (if not a then Some refusal.NoCard else (if not b then Some refusal.BadText else (if c then Some refusal.EndCard else None))) ≡ None → (a ≡ true) × (b ≡ true) × (c ≡ false)
-card_cases true true false e = (refl, refl, refl)
-card_cases true true true e = cc
-card_cases true false c e = cc
-card_cases false b c e = cc
+none_ends : (cards : List (List ℕ)) → list_any is_end cards ≡ false → All (λ card. IsEnd card → ⊥) cards
+none_ends [] e k d l = absurd (omega arith)
+none_ends (card ∷ cards) e zero d l = λ ends. let no = (neither (is_end card) (list_any is_end cards) e).0 in cc
+none_ends (card ∷ cards) e (suc k) d l = none_ends cards (neither (is_end card) (list_any is_end cards) e).1 k d (omega arith)
 
-within_is : (a b : ℕ) → is_within a b ≡ true → (1 ≤ a) × (a ≤ b)
-within_is a b e = search rules
+own_tests : (count : ℕ) (change : Change) → own_refusal count change ≡ None → (is_in_range count change ≡ true) × (list_any is_end (new_cards change) ≡ false)
+unfolding own_refusal
+own_tests count change e = let p = passed (is_in_range count change) (list_all is_text (new_cards change)) (list_any is_end (new_cards change)) e in (p.0, p.2)
 
-pub place_from : (count place : ℕ) (card : List ℕ) → card_refusal count place card ≡ None → 1 ≤ place
-place_from count place card e = (within_is place (count + 1) (card_cases (is_within place (count + 1)) (is_text card) (is_end card) e).0).0
+-- a change that came of tests passed them
+unless_ok : (o : Option Refusal) (change other : Change) → unless o change ≡ Ok other → (o ≡ None) × (change ≡ other)
+unless_ok None change other e = (refl, cc)
+unless_ok (Some why) change other e = cc
 
-pub place_to : (count place : ℕ) (card : List ℕ) → card_refusal count place card ≡ None → place ≤ count + 1
-place_to count place card e = (within_is place (count + 1) (card_cases (is_within place (count + 1)) (is_text card) (is_end card) e).0).1
+tested_ok : (count : ℕ) (change other : Change) → tested count change ≡ Ok other → own_refusal count other ≡ None
+tested_ok count change other e =
+    let p = unless_ok (own_refusal count change) change other e in
+    subst (λ (ch : Change). own_refusal count ch ≡ None) p.1 p.0
 
-pub card_not_end : (count place : ℕ) (card : List ℕ) → card_refusal count place card ≡ None → IsEnd card → ⊥
-card_not_end count place card e end = let no = (card_cases (is_within place (count + 1)) (is_text card) (is_end card) e).2 in cc
+-- the change of an edit passed its own tests
+made_passes : (cards : List (List ℕ)) (edit : Edit) (change : Change) → change_of cards edit ≡ Ok change → own_refusal (length cards) change ≡ None
+unfolding change_of
+made_passes cards (Insert h place card) change e = tested_ok (length cards) (Splice place 0 (card ∷ [])) change e
 
--- a card's tests need no memory
-card_memory : (a b c : Bool) → (if not a then Some refusal.NoCard else (if not b then Some refusal.BadText else (if c then Some refusal.EndCard else None))) ≡ Some refusal.Memory → ⊥
-card_memory true true false e = cc
-card_memory true true true e = cc
-card_memory true false c e = cc
-card_memory false b c e = cc
+pub made_in_range : (cards : List (List ℕ)) (edit : Edit) (change : Change) → change_of cards edit ≡ Ok change → IsInRange cards change
+made_in_range cards edit change e = ranged cards change (own_tests (length cards) change (made_passes cards edit change e)).0
 
-pub card_not_memory : (count place : ℕ) (card : List ℕ) → card_refusal count place card ≡ Some refusal.Memory → ⊥
-card_not_memory count place card e = card_memory (is_within place (count + 1)) (is_text card) (is_end card) e
+pub made_not_end : (cards : List (List ℕ)) (edit : Edit) (change : Change) → change_of cards edit ≡ Ok change → All (λ card. IsEnd card → ⊥) (new_cards change)
+made_not_end cards edit change e = none_ends (new_cards change) (own_tests (length cards) change (made_passes cards edit change e)).1
 
--- the refusal is the first test's that fails
-pub refused_card : (state : HduState) (len hdus place : ℕ) (card : List ℕ) (why : Refusal) → card_refusal (length state.hdu.header.cards) place card ≡ Some why → insert_refusal state len hdus place card ≡ Some why
-unfolding insert_refusal hdu_refusal
-refused_card state len hdus place card why e =
-    let cards : List (List ℕ) = state.hdu.header.cards in
-    ap (λ r. first_refusal r (first_refusal (shape_refusal (is_primary state.shape.class) cards (cards_after_insert cards place card)) (limit_refusal (len + growth_of (length cards)) hdus))) e
+-- so it puts in cards that may stand before END
+pub made_inner : (cards : List (List ℕ)) (edit : Edit) (change : Change) → change_of cards edit ≡ Ok change → All (λ card. length card ≡ 80) (new_cards change) → All IsInnerCard (new_cards change)
+made_inner cards edit change e sizes k d l = record { size = sizes k d l; not_end = made_not_end cards edit change e k d l }
 
-pub behind_card : (state : HduState) (len hdus place : ℕ) (card : List ℕ) (r : Option Refusal) → card_refusal (length state.hdu.header.cards) place card ≡ None
-    → first_refusal (shape_refusal (is_primary state.shape.class) state.hdu.header.cards (cards_after_insert state.hdu.header.cards place card)) (limit_refusal (len + growth_of (length state.hdu.header.cards)) hdus) ≡ r
-    → insert_refusal state len hdus place card ≡ r
-unfolding insert_refusal hdu_refusal
-behind_card state len hdus place card r e f =
-    let cards : List (List ℕ) = state.hdu.header.cards in
-    ap (λ o. first_refusal o (first_refusal (shape_refusal (is_primary state.shape.class) cards (cards_after_insert cards place card)) (limit_refusal (len + growth_of (length cards)) hdus))) e ∙ f
+-- how many bytes an HDU has after a change
+length_changed : (primary : Bool) (hdu : HduParts) (change : Change) → IsHdu primary hdu → All IsInnerCard (new_cards change)
+    → length (hdu_bytes (hdu_after change hdu)) + header_length (length hdu.header.cards) ≡ length (hdu_bytes hdu) + header_length (length (cards_after hdu.header.cards change))
+length_changed primary hdu change p inner =
+    let cards : List (List ℕ) = cards_after hdu.header.cards change in
+    let whole = whole-with_cards hdu.header cards (replicate (fill_length (length cards)) 32) (length cards) p.header (inner_after hdu.header.cards change p.header.cards inner) refl refl in
+    omega (
+      arith,
+      length-append (header_bytes hdu.header) hdu.data_unit,
+      length-append (header_bytes (hdu_after change hdu).header) hdu.data_unit,
+      header_long hdu.header p.header,
+      header_long (hdu_after change hdu).header whole,
+    )
 
-pub refused_shape : (state : HduState) (len hdus place : ℕ) (card : List ℕ) → card_refusal (length state.hdu.header.cards) place card ≡ None
-    → keeps_shape (is_primary state.shape.class) state.hdu.header.cards (cards_after_insert state.hdu.header.cards place card) ≡ false
-    → insert_refusal state len hdus place card ≡ Some refusal.Shape
-refused_shape state len hdus place card e f = behind_card state len hdus place card (Some refusal.Shape) e (rw f refl)
+-- how many bytes its file has
+pub length_file : (file : FileParts) (i : ℕ) (hdu : HduParts) (change : Change) → slice_get file.hdus i ≡ Some hdu → IsHdu (is_primary_hdu (suc i)) hdu → All IsInnerCard (new_cards change)
+    → length (file_bytes (with_hdu file (suc i) (hdu_after change))) + header_length (length hdu.header.cards) ≡ length (file_bytes file) + header_length (length (cards_after hdu.header.cards change))
+length_file file i hdu change there whole inner =
+    omega (
+      arith,
+      length-append (joined_hdus (changed_at i (hdu_after change) file.hdus)) file.tail,
+      length-append (joined_hdus file.hdus) file.tail,
+      joined-changed file.hdus i hdu (hdu_after change) there,
+      length_changed (is_primary_hdu (suc i)) hdu change whole inner,
+    )
 
-pub behind_shape : (state : HduState) (len hdus place : ℕ) (card : List ℕ) → card_refusal (length state.hdu.header.cards) place card ≡ None
-    → keeps_shape (is_primary state.shape.class) state.hdu.header.cards (cards_after_insert state.hdu.header.cards place card) ≡ true
-    → insert_refusal state len hdus place card ≡ limit_refusal (len + growth_of (length state.hdu.header.cards)) hdus
-behind_shape state len hdus place card e f = behind_card state len hdus place card (limit_refusal (len + growth_of (length state.hdu.header.cards)) hdus) e (rw f refl)
+-- the file after an edit whose change is made
+pub file_made : (file : FileParts) (edit : Edit) (i : ℕ) (hdu : HduParts) (change : Change) → hdu_named edit ≡ suc i → slice_get file.hdus i ≡ Some hdu → change_of hdu.header.cards edit ≡ Ok change → file_after file edit ≡ with_hdu file (suc i) (hdu_after change)
+unfolding file_after
+file_made file edit i hdu change named there made =
+    let change_here : HduParts → HduParts = λ u. hdu_changed (change_of u.header.cards edit) u in
+    ap (λ h. with_hdu file h change_here) named
+    ∙ ap (λ (us : List HduParts). let after : FileParts = record { hdus = us; tail = file.tail } in after) (changed_at-same i change_here (hdu_after change) hdu file.hdus there (ap (λ r. hdu_changed r hdu) made))
 
-pub refused_limit : (state : HduState) (len hdus place : ℕ) (card : List ℕ) (n : ℕ) → card_refusal (length state.hdu.header.cards) place card ≡ None
-    → keeps_shape (is_primary state.shape.class) state.hdu.header.cards (cards_after_insert state.hdu.header.cards place card) ≡ true
-    → n ≡ len + growth_of (length state.hdu.header.cards) → is_within_limits n hdus ≡ false → insert_refusal state len hdus place card ≡ Some refusal.TooLarge
-refused_limit state len hdus place card n e f g h = behind_shape state len hdus place card e f ∙ rw (← g, h) refl
+-- what keeps to the limits
+within_limits : (bytes hdus : ℕ) → is_within_limits bytes hdus ≡ true → (bytes ≤ file_limit) × (hdus ≤ hdu_limit)
+within_limits bytes hdus e = search rules
 
-pub accepted : (state : HduState) (len hdus place : ℕ) (card : List ℕ) (n : ℕ) → card_refusal (length state.hdu.header.cards) place card ≡ None
-    → keeps_shape (is_primary state.shape.class) state.hdu.header.cards (cards_after_insert state.hdu.header.cards place card) ≡ true
-    → n ≡ len + growth_of (length state.hdu.header.cards) → is_within_limits n hdus ≡ true → insert_refusal state len hdus place card ≡ None
-accepted state len hdus place card n e f g h = behind_shape state len hdus place card e f ∙ rw (← g, h) refl
+-- a change that keeps the shape and the limits leaves a file
+pub file_kept : (f : List ℕ) (file : FileParts) (i : ℕ) (hdu : HduParts) (change : Change) → IsFileOf f file → slice_get file.hdus i ≡ Some hdu → All IsInnerCard (new_cards change) → keeps_shape (is_primary_hdu (suc i)) hdu.header.cards (cards_after hdu.header.cards change) ≡ true
+    → is_within_limits (length (file_bytes (with_hdu file (suc i) (hdu_after change)))) (length (with_hdu file (suc i) (hdu_after change)).hdus) ≡ true → IsFile (with_hdu file (suc i) (hdu_after change))
+file_kept f file i hdu change p there inner kept within =
+    let whole : IsHdu (is_primary_hdu (suc i)) hdu = hdu_is f file.hdus file.tail i hdu p.front there in
+    let same : shape_of (is_primary_hdu (suc i)) (cards_after hdu.header.cards change) ≡ Ok whole.shape = (same_shape-Decides whole.shape (shape_of (is_primary_hdu (suc i)) (cards_after hdu.header.cards change))).0 (rw whole.described at kept) in
+    let limits = within_limits (length (file_bytes (with_hdu file (suc i) (hdu_after change)))) (length (with_hdu file (suc i) (hdu_after change)).hdus) within in
+    record {
+      front = front_changed f file.hdus file.tail i hdu (hdu_after change) p.front there (hdu-changed (is_primary_hdu (suc i)) hdu change whole inner (same ∙ sym whole.described));
+      ends = goes_on-changed i (hdu_after change) file.hdus file.tail ∙ p.ends;
+      size = limits.0;
+      count = limits.1;
+    }
 
--- the tests of shape and length need memory
+-- the tests of an edit are those of its HDU
+refusal_there : (file : FileParts) (edit : Edit) (hdu : HduParts) → hdu_of file (hdu_named edit) ≡ Some hdu → refusal_of file edit ≡ refusal_in file edit (Some hdu)
+unfolding refusal_of
+refusal_there file edit hdu there = ap (refusal_in file edit) there
+
+-- an HDU that isn't there refuses an edit
+pub edits_nowhere : (hdus : List HduState) (tail : List ℕ) (edit : Edit) → IsNowhere (length hdus) (hdu_named edit) → EditsTo {X = ℕ} edit (state_of hdus tail) (state_of hdus tail) (Err refusal.NoHdu)
+unfolding refusal_of
+edits_nowhere hdus tail edit p = record {
+  accepted = tt;
+  ok = tt;
+  refused = inl (ap (refusal_in (file_of (state_of hdus tail)) edit) (hdu_of-nowhere hdus tail (hdu_named edit) p));
+  err = refl;
+  work = reads_none (hdu_named edit) (edit_reads (file_of (state_of hdus tail)) edit) _;
+}
+
+-- an edit that its HDU refuses owes this
+pub edits_not : (hdus : List HduState) (tail : List ℕ) (edit : Edit) (i : ℕ) (old new : HduState) (why : Refusal) → IsHduAt hdus (hdu_named edit) i old → new.hdu ≡ old.hdu → old.reads ≤ new.reads → new.reads ≤ old.reads + hdu_reads (Some old.hdu) edit
+    → EditFails (refusal_in (file_of (state_of hdus tail)) edit (Some old.hdu)) why → EditsTo {X = ℕ} edit (state_of hdus tail) (state_of (set hdus i new) tail) (Err why)
+edits_not hdus tail edit i old new why at same least most p =
+    let there = hdu_of-there hdus tail (hdu_named edit) i old at in
+    record {
+      accepted = tt;
+      ok = tt;
+      refused = rw (refusal_there (file_of (state_of hdus tail)) edit old.hdu there) p;
+      err = file_of-same hdus tail (hdu_named edit) i old new at same;
+      work = reads_more hdus (hdu_named edit) i (edit_reads (file_of (state_of hdus tail)) edit) old new at least (rw there most);
+    }
+
+-- memory may run out on the way to the tests that all changes share
 needs : (a b : Bool) → NeedsMemory (first_refusal (if a then None else Some refusal.Shape) (if b then None else Some refusal.TooLarge))
 needs true true = tt
 needs true false = tt
 needs false b = tt
 
-pub needs_memory : (state : HduState) (len hdus place : ℕ) (card : List ℕ) → card_refusal (length state.hdu.header.cards) place card ≡ None → NeedsMemory (insert_refusal state len hdus place card)
-needs_memory state len hdus place card e =
-    let cards : List (List ℕ) = state.hdu.header.cards in
-    rw (behind_card state len hdus place card _ e refl) (needs (keeps_shape (is_primary state.shape.class) cards (cards_after_insert cards place card)) (is_within_limits (len + growth_of (length cards)) hdus))
+needs_memory : (file : FileParts) (h : ℕ) (hdu : HduParts) (made : Result Change Refusal) → IsOk made → NeedsMemory (change_refusal file h hdu made)
+needs_memory file h hdu (Ok change) p =
+    needs (keeps_shape (is_primary_hdu h) hdu.header.cards (cards_after hdu.header.cards change)) (is_within_limits (length (file_bytes (with_hdu file h (hdu_after change)))) (length (with_hdu file h (hdu_after change)).hdus))
+needs_memory file h hdu (Err why) p = cc
 
-pub in_range : (cards : List (List ℕ)) (place : ℕ) (card : List ℕ) → 1 ≤ place → place ≤ length cards + 1 → IsInRange cards (Splice place 0 (card ∷ []))
-unfolding IsInRange
-in_range cards place card p q = (p, omega arith)
+-- where no change is made the edit fails so
+pub change_fails : (file : FileParts) (edit : Edit) (hdu : HduParts) (why : Refusal) → ChangeFails (change_of hdu.header.cards edit) why → EditFails (refusal_in file edit (Some hdu)) why
+change_fails file edit hdu why p = elim p [
+  | inl e ↦ inl (ap (change_refusal file (hdu_named edit) hdu) e)
+  | inr m ↦ inr (m.0, needs_memory file (hdu_named edit) hdu (change_of hdu.header.cards edit) m.1)
+]
 
-pub ruleset into_steps = (place_from, place_to, card_not_end, card_not_memory, refused_card, refused_shape, refused_limit, accepted, needs_memory)
+-- such an edit owes this
+pub edits_unmade : (hdus : List HduState) (tail : List ℕ) (edit : Edit) (i : ℕ) (old new : HduState) (why : Refusal) → IsHduAt hdus (hdu_named edit) i old → ReadsUpTo old new (own_reads old.hdu.header.cards edit) → ChangeFails (change_of old.hdu.header.cards edit) why
+    → EditsTo {X = ℕ} edit (state_of hdus tail) (state_of (set hdus i new) tail) (Err why)
+edits_unmade hdus tail edit i old new why at r p = edits_not hdus tail edit i old new why at r.hdu r.least (omega (arith, r.most)) (change_fails (file_of (state_of hdus tail)) edit old.hdu why p)
 
--- what an HDU tells of the cards with one more
-abbrev Tells : HduState → Change → Bool → Type 0
-Tells state change kept = IsTrue kept ↔ (shape_of (is_primary state.shape.class) (cards_after state.hdu.header.cards change) ≡ Ok state.shape)
+-- a change that passes the tests that all changes share keeps the shape and the limits
+kept_none : (b : Bool) → (if b then None else Some refusal.Shape) ≡ None → b ≡ true
+kept_none true e = refl
+kept_none false e = cc
 
-cards_with : (cards : List (List ℕ)) (place : ℕ) (card : List ℕ) (change : Change) → change ≡ Splice place 0 (card ∷ []) → cards_after cards change ≡ cards_after_insert cards place card
-cards_with cards place card change e = ap (cards_after cards) e ∙ cards_after-insert cards place card
+pub limit_none : (b : Bool) → (if b then None else Some refusal.TooLarge) ≡ None → b ≡ true
+limit_none true e = refl
+limit_none false e = cc
 
-pub kept_shape_is : (state : HduState) (place : ℕ) (card : List ℕ) (change : Change) (kept : Bool) → change ≡ Splice place 0 (card ∷ [])
-    → Tells state change kept → IsTrue kept → shape_of (is_primary state.shape.class) (cards_after_insert state.hdu.header.cards place card) ≡ Ok state.shape
-kept_shape_is state place card change kept e p h = ap (shape_of (is_primary state.shape.class)) (sym (cards_with state.hdu.header.cards place card change e)) ∙ p.0 h
+first_none : (a b : Option Refusal) → first_refusal a b ≡ None → (a ≡ None) × (b ≡ None)
+first_none None b e = (refl, e)
+first_none (Some why) b e = cc
 
-pub kept_value : (state : HduState) (place : ℕ) (card : List ℕ) (change : Change) (kept : Bool) → change ≡ Splice place 0 (card ∷ []) → shape_of (is_primary state.shape.class) state.hdu.header.cards ≡ Ok state.shape
-    → Tells state change kept → kept ≡ keeps_shape (is_primary state.shape.class) state.hdu.header.cards (cards_after_insert state.hdu.header.cards place card)
-kept_value state place card change true e d p = sym (keeps_shape-same (is_primary state.shape.class) state.hdu.header.cards (cards_after_insert state.hdu.header.cards place card) state.shape d (kept_shape_is state place card change true e p refl))
-kept_value state place card change false e d p = sym (keeps_shape-other (is_primary state.shape.class) state.hdu.header.cards (cards_after_insert state.hdu.header.cards place card) state.shape d
-    (λ same. let wrong = p.1 (ap (shape_of (is_primary state.shape.class)) (cards_with state.hdu.header.cards place card change e) ∙ same) in cc))
+pub passes_all : (primary : Bool) (before after : List (List ℕ)) (next : Option Refusal) → first_refusal (shape_refusal primary before after) next ≡ None → (keeps_shape primary before after ≡ true) × (next ≡ None)
+passes_all primary before after next e =
+    let p = first_none (shape_refusal primary before after) next e in
+    (kept_none (keeps_shape primary before after) p.0, p.1)
 
-pub ruleset kept_steps = (in_range, kept_value, kept_shape_is)
+-- what is known where the change of an edit was made
+pub record IsMade (hdus : List HduState) (tail : List ℕ) (edit : Edit) (i : ℕ) (state : HduState) (change : Change) (len count : ℕ) : Type 0 where
+  pub at : IsHduAt hdus (hdu_named edit) i state
+  pub file : IsFile (file_of (state_of hdus tail))
+  pub made : change_of state.hdu.header.cards edit ≡ Ok change
+  pub sizes : All (λ card. length card ≡ 80) (new_cards change)
+  pub whole : IsHdu (is_primary state.shape.class) state.hdu
+  pub size : len ≡ length (joined_hdus (hdus_of (held_of hdus))) + length tail
+  pub number : count ≡ length hdus
+
+-- it is known once cards were read for it, and the HDU was found whole
+pub is_made : (hdus : List HduState) (tail : List ℕ) (edit : Edit) (i : ℕ) (state left : HduState) (change : Change) (len count : ℕ) → IsHduAt hdus (hdu_named edit) i state → IsFile (file_of (state_of hdus tail)) → change_of state.hdu.header.cards edit ≡ Ok change
+    → All (λ card. length card ≡ 80) (new_cards change) → ReadsUpTo state left (own_reads state.hdu.header.cards edit) → IsHdu (is_primary left.shape.class) left.hdu → len ≡ length (joined_hdus (hdus_of (held_of hdus))) + length tail → count ≡ length hdus → IsMade hdus tail edit i state change len count
+is_made hdus tail edit i state left change len count at file made sizes r whole size number = record {
+  at = at;
+  file = file;
+  made = made;
+  sizes = sizes;
+  whole = rw (r.hdu, r.shape) at whole;
+  size = size;
+  number = number;
+}
+
+module _ (hdus : List HduState) (tail : List ℕ) (edit : Edit) (i : ℕ) (state : HduState) (change : Change) (len count : ℕ) (p : IsMade hdus tail edit i state change len count) where
+  named : hdu_named edit ≡ suc i
+  named = p.at.index.at ∙ add-one i
+
+  there : slice_get (hdus_of (held_of hdus)) i ≡ Some state.hdu
+  there = slice_get-hdus_of hdus i state p.at.index.within p.at.is
+
+  inner : All IsInnerCard (new_cards change)
+  inner = made_inner state.hdu.header.cards edit change p.made p.sizes
+
+  primary : is_primary state.shape.class ≡ is_primary_hdu (suc i)
+  primary = primary_there hdus tail (hdu_named edit) i state p.file p.at p.whole ∙ ap is_primary_hdu named
+
+  -- how many bytes the file has after it
+  length_made : length (file_bytes (with_hdu (file_of (state_of hdus tail)) (suc i) (hdu_after change))) ≡ length_after len state.hdu.header.cards (cards_after state.hdu.header.cards change)
+  length_made =
+      let whole = subst (λ (b : Bool). IsHdu b state.hdu) primary p.whole in
+      omega (
+        arith,
+        length_file (file_of (state_of hdus tail)) i state.hdu change there whole inner,
+        length-append (joined_hdus (hdus_of (held_of hdus))) tail,
+        p.size,
+        header_part (is_primary state.shape.class) state.hdu p.whole,
+        part_there hdus (hdu_named edit) i state p.at,
+      )
+
+  -- the tests are those of the HDU under edits
+  refusal_made : refusal_in (file_of (state_of hdus tail)) edit (Some state.hdu) ≡ made_refusal state change len count
+  refusal_made =
+      let file : FileParts = file_of (state_of hdus tail) in
+      let cards : List (List ℕ) = state.hdu.header.cards in
+      let after : List (List ℕ) = cards_after cards change in
+      let bytes : ℕ = length_after len cards after in
+      let many : length (with_hdu file (suc i) (hdu_after change)).hdus ≡ count = length-changed i (hdu_after change) (hdus_of (held_of hdus)) ∙ length-hdus_of hdus ∙ sym p.number in
+      ap (change_refusal file (hdu_named edit) state.hdu) p.made
+      ∙ ap (λ h. change_refusal file h state.hdu (Ok change)) named
+      ∙ ap (λ b. first_refusal (shape_refusal b cards after) (size_refusal (with_hdu file (suc i) (hdu_after change)))) (sym primary)
+      ∙ ap (λ n. first_refusal (shape_refusal (is_primary state.shape.class) cards after) (limit_refusal n (length (with_hdu file (suc i) (hdu_after change)).hdus))) length_made
+      ∙ ap (λ n. first_refusal (shape_refusal (is_primary state.shape.class) cards after) (limit_refusal bytes n)) many
+
+  -- and so are the cards that are read
+  reads_made : (read : ℕ) → read ≤ own_reads state.hdu.header.cards edit + shape_reads (is_primary state.shape.class) state.hdu.header.cards (cards_after state.hdu.header.cards change) → read ≤ hdu_reads (Some state.hdu) edit
+  reads_made read l =
+      let cards : List (List ℕ) = state.hdu.header.cards in
+      let same : change_reads (is_primary_hdu (hdu_named edit)) cards (change_of cards edit) ≡ shape_reads (is_primary state.shape.class) cards (cards_after cards change) =
+      ap (change_reads (is_primary_hdu (hdu_named edit)) cards) p.made ∙ ap (λ b. shape_reads b cards (cards_after cards change)) (ap is_primary_hdu named ∙ sym primary) in
+      omega (arith, l, same)
+
+  -- the tests are the same where cards were read
+  refusal_left : (left : HduState) (most : ℕ) → ReadsUpTo state left most → made_refusal left change len count ≡ refusal_in (file_of (state_of hdus tail)) edit (Some state.hdu)
+  refusal_left left most r = rw (r.hdu, r.shape) (sym refusal_made)
+
+  -- so many cards were read in all
+  reads_left : (left new : HduState) → ReadsUpTo state left (own_reads state.hdu.header.cards edit) → left.reads ≤ new.reads → new.reads ≤ left.reads + shape_reads (is_primary left.shape.class) left.hdu.header.cards (cards_after left.hdu.header.cards change)
+      → (state.reads ≤ new.reads) × (new.reads ≤ state.reads + hdu_reads (Some state.hdu) edit)
+  reads_left left new r least most =
+      let most_here : new.reads ≤ left.reads + shape_reads (is_primary state.shape.class) state.hdu.header.cards (cards_after state.hdu.header.cards change) = rw (r.hdu, r.shape) at most in
+      (omega (arith, r.least, least), omega (arith, r.most, most_here, reads_made (own_reads state.hdu.header.cards edit + shape_reads (is_primary state.shape.class) state.hdu.header.cards (cards_after state.hdu.header.cards change)) (omega arith)))
+
+  -- the HDU refuses the change
+  pub edits_refused : (left new : HduState) (why : Refusal) → ReadsUpTo state left (own_reads state.hdu.header.cards edit) → left.reads ≤ new.reads → new.reads ≤ left.reads + shape_reads (is_primary left.shape.class) left.hdu.header.cards (cards_after left.hdu.header.cards change)
+      → new.hdu ≡ left.hdu → EditFails (made_refusal left change len count) why → EditsTo {X = ℕ} edit (state_of hdus tail) (state_of (set hdus i new) tail) (Err why)
+  edits_refused left new why r least most same fails =
+      let reads = reads_left left new r least most in
+      edits_not hdus tail edit i state new why p.at (same ∙ r.hdu) reads.0 reads.1 (subst (λ (o : Option Refusal). EditFails o why) (refusal_left left (own_reads state.hdu.header.cards edit) r) fails)
+
+  -- the file after it
+  file_left : (left new : HduState) → ReadsUpTo state left (own_reads state.hdu.header.cards edit) → new.hdu ≡ hdu_after change left.hdu → file_of (state_of (set hdus i new) tail) ≡ with_hdu (file_of (state_of hdus tail)) (suc i) (hdu_after change)
+  file_left left new r is =
+      ap (λ (us : List HduParts). let file : FileParts = record { hdus = us; tail = tail } in file) (hdus_of-changed hdus (hdu_named edit) i state new (hdu_after change) p.at (is ∙ ap (hdu_after change) r.hdu))
+
+  -- the change is made
+  pub edits_made : (left new : HduState) (n : ℕ) → ReadsUpTo state left (own_reads state.hdu.header.cards edit) → left.reads ≤ new.reads → new.reads ≤ left.reads + shape_reads (is_primary left.shape.class) left.hdu.header.cards (cards_after left.hdu.header.cards change)
+      → new.hdu ≡ hdu_after change left.hdu → made_refusal left change len count ≡ None → EditsTo {X = ℕ} edit (state_of hdus tail) (state_of (set hdus i new) tail) (Ok n)
+  edits_made left new n r least most is none =
+      let reads = reads_left left new r least most in
+      let file : FileParts = file_of (state_of hdus tail) in
+      let here = hdu_of-there hdus tail (hdu_named edit) i state p.at in
+      record {
+        accepted = refusal_there file edit state.hdu here ∙ sym (refusal_left left (own_reads state.hdu.header.cards edit) r) ∙ none;
+        ok = file_left left new r is ∙ sym (file_made file edit i state.hdu change named there p.made);
+        refused = tt;
+        err = tt;
+        work = reads_more hdus (hdu_named edit) i (edit_reads file edit) state new p.at reads.0 (rw here reads.1);
+      }
+
+  -- it leaves a file
+  pub leaves_file : (left new : HduState) → ReadsUpTo state left (own_reads state.hdu.header.cards edit) → new.hdu ≡ hdu_after change left.hdu → made_refusal left change len count ≡ None → IsFile (file_of (state_of (set hdus i new) tail))
+  leaves_file left new r is none =
+      let file : FileParts = file_of (state_of hdus tail) in
+      let after : FileParts = with_hdu file (suc i) (hdu_after change) in
+      let tests = passes_all (is_primary_hdu (hdu_named edit)) state.hdu.header.cards (cards_after state.hdu.header.cards change) (size_refusal (with_hdu file (hdu_named edit) (hdu_after change)))
+      (sym (ap (change_refusal file (hdu_named edit) state.hdu) p.made) ∙ sym (refusal_left left (own_reads state.hdu.header.cards edit) r) ∙ none) in
+      let kept : keeps_shape (is_primary_hdu (suc i)) state.hdu.header.cards (cards_after state.hdu.header.cards change) ≡ true = rw named at tests.0 in
+      let size : size_refusal after ≡ None = rw named at tests.1 in
+      subst (λ (f : FileParts). IsFile f) (sym (file_left left new r is))
+      (file_kept (file_bytes file) file i state.hdu change p.file there inner kept (limit_none (is_within_limits (length (file_bytes after)) (length after.hdus)) size))
+
+  -- of which the HDUs have the rest of the bytes
+  pub leaves_length : (left new : HduState) (n : ℕ) → ReadsUpTo state left (own_reads state.hdu.header.cards edit) → new.hdu ≡ hdu_after change left.hdu → n ≡ length_after len left.hdu.header.cards (cards_after left.hdu.header.cards change)
+      → n ≡ length (joined_hdus (hdus_of (held_of (set hdus i new)))) + length tail
+  leaves_length left new n r is e =
+      let here : n ≡ length_after len state.hdu.header.cards (cards_after state.hdu.header.cards change) = rw r.hdu at e in
+      here ∙ sym length_made ∙ ap (λ (f : FileParts). length (file_bytes f)) (sym (file_left left new r is)) ∙ length-append (joined_hdus (hdus_of (held_of (set hdus i new)))) tail

@@ -11,8 +11,8 @@ use Rattle.fits_hdu.proofs.HduLemmas.{no_fault, one_fault, hdu_or_fault, BeginsW
 use Rattle.fits_session.specs.File.{FileParts, begins_extension, is_first, goes_on, IsFrontOf, IsFileOf}
 use Rattle.fits_session.specs.Limits.{file_limit, hdu_limit}
 use Rattle.fits_session.specs.Opening.{BeginsAsFits, StopsAt, FailsAt, HasTooManyHdus, HasOpenFault, open_fault_of, IsFileOrNot}
-use Rattle.fits_session.specs.declared.fault.OpenFault.{OpenFault}
-use Rattle.fits_session.specs.declared.fault.OpenFault.TheVariants.{NotFits, NoEnd, BadShape, ShortData, TooLarge, Memory}
+use Rattle.fits_session.specs.declared.open_fault.OpenFault.{OpenFault}
+use Rattle.fits_session.specs.declared.open_fault.OpenFault.TheVariants.{NotFits, NoEnd, BadShape, ShortData, TooLarge, Memory}
 use Rattle.fits_session.proofs.FrontLemmas.{front_none, front_push, goes_on-push, goes_on-some, fronts_level, fronts_ahead, none_beyond, front_begins, file_begins, hdu_long}
 
 -- neither of two numbers is the less

@@ -1,10 +1,12 @@
+pub mod CardLemmas
 pub mod ChangeLemmas
 pub mod EditLemmas
-pub mod EditedLemmas
 pub mod FileLemmas
 pub mod FrontLemmas
+pub mod LawLemmas
+pub mod MakingLemmas
 pub mod OffsetLemmas
 pub mod OpeningLemmas
 pub mod QueryLemmas
 pub mod SaveLemmas
-pub mod ShapeLemmas
+pub mod StateLemmas

@@ -1,19 +1,21 @@
--- What an accepted edit makes of a file (own).
-use Rattle.std.specs.Prelude.{◌≡◌, ℕ, ◌+◌, ◌-◌, List, [], ◌∷◌, length, Option, None, zero, suc}
-use Rattle.std.specs.List.{slice_get}
-use Rattle.fits_card.specs.Header.{header_length}
-use Rattle.fits_hdu.specs.Hdu.{HduParts, hdu_after_insert}
+-- Edits: the change that each makes of the cards of its HDU, and the file after it (own).
+use Rattle.std.specs.Prelude.{◌≡◌, ℕ, ◌+◌, ◌&&◌, Bool, not, nat_le, List, [], ◌∷◌, length, All, Option, None, Some, Result, Ok, Err, zero, suc, if◌then◌else◌}
+use Rattle.std.specs.List.{slice_get, list_all, list_any}
+use Rattle.fits_card.specs.Card.{is_text, is_end}
+use Rattle.fits_card.specs.Change.{new_cards}
+use Rattle.fits_card.specs.declared.change.Change.{Change}
+use Rattle.fits_card.specs.declared.change.Change.TheVariants.{Splice, Move}
+use Rattle.fits_hdu.specs.Hdu.{HduParts, hdu_after}
 use Rattle.fits_session.specs.File.{FileParts}
 use Rattle.fits_session.specs.declared.edit.Edit.{Edit}
 use Rattle.fits_session.specs.declared.edit.Edit.TheVariants.{Insert}
+use Rattle.fits_session.specs.declared.refusal.Refusal.{Refusal}
+use Rattle.fits_session.specs.declared.refusal.Refusal.TheVariants.{NoCard, BadText, EndCard}
 
 -- HDU h, from 1, if it is there
-abbrev pub hdu_at : List HduParts → ℕ → Option HduParts
-hdu_at hdus zero = None
-hdu_at hdus (suc h) = slice_get hdus h
-
 abbrev pub hdu_of : FileParts → ℕ → Option HduParts
-hdu_of file h = hdu_at file.hdus h
+hdu_of file zero = None
+hdu_of file (suc h) = slice_get file.hdus h
 
 -- the list with its element at index i, from 0, changed
 abbrev pub changed_at : {X : Type 0} → ℕ → (X → X) → List X → List X
@@ -30,18 +32,54 @@ changed_of (suc h) change xs = changed_at h change xs
 abbrev pub with_hdu : FileParts → ℕ → (HduParts → HduParts) → FileParts
 with_hdu file h change = record file { hdus = changed_of h change file.hdus }
 
--- the file after an edit
-unfoldable pub file_after : FileParts → Edit → FileParts
-file_after file (Insert h place card) = with_hdu file h (hdu_after_insert place card)
+-- a number from 1 to a last one
+abbrev pub is_within : ℕ → ℕ → Bool
+is_within number last = nat_le 1 number && nat_le number last
 
--- how many bytes a header of so many cards grows by with one more: none, or a block
-abbrev pub growth_of : ℕ → ℕ
-growth_of count = header_length (count + 1) - header_length count
+-- a splice takes out so many of so many cards from a place on, which may be one past the last
+abbrev pub is_splice_within : ℕ → ℕ → ℕ → Bool
+is_splice_within count place removed = nat_le 1 place && nat_le (place + removed) (count + 1)
+
+-- the places of a change are in range among so many cards
+abbrev pub is_in_range : ℕ → Change → Bool
+is_in_range count (Splice place removed new) = is_splice_within count place removed
+is_in_range count (Move from to) = is_within from count && is_within to count
+
+-- the tests of a change by itself: its places, and that the cards that it puts in are text, and none is END
+unfoldable pub own_refusal : ℕ → Change → Option Refusal
+own_refusal count change =
+    if not (is_in_range count change) then Some NoCard
+    else if not (list_all is_text (new_cards change)) then Some BadText
+    else if list_any is_end (new_cards change) then Some EndCard
+    else None
+
+-- a change, unless it's refused
+abbrev pub unless : Option Refusal → Change → Result Change Refusal
+unless None change = Ok change
+unless (Some why) change = Err why
+
+-- a change among so many cards, if it passes the tests by itself
+abbrev pub tested : ℕ → Change → Result Change Refusal
+tested count change = unless (own_refusal count change) change
+
+-- the change that an edit makes of the cards of its HDU, or the first of its own tests that fails
+unfoldable pub change_of : List (List ℕ) → Edit → Result Change Refusal
+change_of cards (Insert h place card) = tested (length cards) (Splice place 0 (card ∷ []))
 
 -- the HDU that an edit names
 abbrev pub hdu_named : Edit → ℕ
 hdu_named (Insert h place card) = h
 
--- its cards have 80 bytes (4.1)
-abbrev pub HasCards : Edit → Type 0
-HasCards (Insert h place card) = length card ≡ 80
+-- an HDU after a change of its cards; one that isn't made leaves it
+abbrev pub hdu_changed : Result Change Refusal → HduParts → HduParts
+hdu_changed (Ok change) hdu = hdu_after change hdu
+hdu_changed (Err why) hdu = hdu
+
+-- the file after an edit
+unfoldable pub file_after : FileParts → Edit → FileParts
+file_after file edit = with_hdu file (hdu_named edit) (λ hdu. hdu_changed (change_of hdu.header.cards edit) hdu)
+
+-- the cards that an edit puts into an HDU have 80 bytes (4.1)
+abbrev pub HasCards : FileParts → Edit → Type 0
+HasCards file edit =
+    (hdu : HduParts) (change : Change) → hdu_of file (hdu_named edit) ≡ Some hdu → change_of hdu.header.cards edit ≡ Ok change → All (λ card. length card ≡ 80) (new_cards change)

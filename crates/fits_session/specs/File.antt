@@ -28,7 +28,7 @@ abbrev pub is_first : List HduParts → Bool
 is_first [] = true
 is_first (hdu ∷ hdus) = false
 
--- an HDU must stand here, behind these: the first one, or an extension that begins
+-- an HDU must stand here, after these: the first one, or an extension that begins
 abbrev pub goes_on : List HduParts → List ℕ → Bool
 goes_on [] rest = true
 goes_on (hdu ∷ hdus) rest = begins_extension rest

@@ -4,5 +4,5 @@ pub mod Limits
 pub mod Opening
 pub mod Query
 pub mod Refusal
-pub mod SameShape
 pub mod Session
+pub mod Work

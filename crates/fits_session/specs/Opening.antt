@@ -1,13 +1,13 @@
 -- Which files open, and why others don't (own; FITS Standard 4.0, sections 3.1 and 4.4.1).
-use Rattle.std.specs.Prelude.{◌≡◌, ◌⊎◌, ℕ, ◌+◌, ◌<◌, ◌≤◌, true, IsTrue, List, length, codes, nat_eq}
+use Rattle.std.specs.Prelude.{◌≡◌, ◌⊎◌, ℕ, ◌+◌, ◌<◌, ◌≤◌, ◌==◌, Bool, true, false, IsTrue, List, length, codes, nat_eq, Result, Ok, Err, if◌then◌else◌}
 use Rattle.std.specs.List.{starts_with}
 use Rattle.fits_hdu.specs.Hdu.{HduParts, HasHduFault}
 use Rattle.fits_hdu.specs.declared.fault.HduFault.{HduFault}
 use Rattle.fits_hdu.specs.declared.fault.HduFault.TheVariants as hdu_fault
 use Rattle.fits_session.specs.Limits.{file_limit, hdu_limit}
 use Rattle.fits_session.specs.File.{FileParts, IsFileOf, IsFrontOf, goes_on, is_first, begins_extension}
-use Rattle.fits_session.specs.declared.fault.OpenFault.{OpenFault}
-use Rattle.fits_session.specs.declared.fault.OpenFault.TheVariants.{NotFits, NoEnd, BadShape, ShortData, TooLarge, Memory}
+use Rattle.fits_session.specs.declared.open_fault.OpenFault.{OpenFault}
+use Rattle.fits_session.specs.declared.open_fault.OpenFault.TheVariants.{NotFits, NoEnd, BadShape, ShortData, TooLarge, Memory}
 
 -- the bytes begin as a FITS file does (4.4.1.1)
 abbrev pub BeginsAsFits : List ℕ → Type 0
@@ -29,7 +29,7 @@ pub record FailsAt (bytes : List ℕ) (h : ℕ) (fault : HduFault) : Type 0 wher
   pub begins : BeginsAsFits bytes
   pub stops : StopsAt bytes h fault
 
--- an extension begins behind as many HDUs as a file may have
+-- an extension begins after as many HDUs as a file may have
 pub record HasTooManyHdus (bytes : List ℕ) : Type 0 where
   pub before : List HduParts
   pub rest : List ℕ
@@ -46,7 +46,7 @@ HasOpenFault bytes (ShortData h) = FailsAt bytes h hdu_fault.ShortData
 HasOpenFault bytes TooLarge = (file_limit < length bytes) ⊎ HasTooManyHdus bytes
 HasOpenFault bytes Memory = ⊥
 
--- opening these bytes may end so: by their fault, or by want of memory
+-- opening these bytes may end so: by their fault, or out of memory
 abbrev pub OpenFails : List ℕ → OpenFault → Type 0
 OpenFails bytes Memory = Unit {0}
 OpenFails bytes fault = HasOpenFault bytes fault
@@ -61,3 +61,7 @@ open_fault_of hdu_fault.Memory h = Memory
 -- the bytes are a file, or have a fault
 abbrev pub IsFileOrNot : List ℕ → Type 0
 IsFileOrNot bytes = ((file : FileParts) × IsFileOf bytes file) ⊎ ((fault : OpenFault) × HasOpenFault bytes fault)
+
+-- another HDU follows so many: an extension that begins, unless there are as many as a file may have
+abbrev pub goes_on_after : List ℕ → ℕ → Result Bool OpenFault
+goes_on_after rest hdus = if begins_extension rest then (if hdus == hdu_limit then Err TooLarge else Ok true) else Ok false

@@ -1,5 +1,5 @@
 -- What queries answer of a file: a fresh reading of it (own).
-use Rattle.std.specs.Prelude.{◌≡◌, ℕ, List, length, Option, None, Some, Result, Ok, Err}
+use Rattle.std.specs.Prelude.{◌≡◌, ℕ, List, length, Option, None, Some, Result, Ok, Err, IsOk}
 use Rattle.fits_value.specs.declared.value.Value.{Value}
 use Rattle.fits_rules.specs.Shape.{shape_of}
 use Rattle.fits_rules.specs.declared.array_shape.Shape.{Shape}
@@ -10,7 +10,7 @@ use Rattle.fits_hdu.specs.declared.kind.Kind.{Kind}
 use Rattle.fits_hdu.specs.declared.keyword.KeywordFault.{KeywordFault}
 use Rattle.fits_hdu.specs.declared.keyword.KeywordFault.TheVariants as keyword
 use Rattle.fits_session.specs.File.{FileParts}
-use Rattle.fits_session.specs.Edit.{hdu_at, hdu_of}
+use Rattle.fits_session.specs.Edit.{hdu_of}
 use Rattle.fits_session.specs.Refusal.{is_primary_hdu}
 use Rattle.fits_session.specs.declared.refusal.Refusal.{Refusal}
 use Rattle.fits_session.specs.declared.refusal.Refusal.TheVariants.{NoHdu, NoKey, BadValue, NotImage, Memory}
@@ -25,30 +25,30 @@ abbrev pub card_count_in : FileParts → ℕ → Result ℕ Refusal
 card_count_in file h = in_hdu (λ hdu. Ok (length hdu.header.cards)) (hdu_of file h)
 
 -- the cards of HDU h describe this shape (4.4.1)
-pub record IsShapeIn (hdus : List HduParts) (h : ℕ) (shape : Shape) : Type 0 where
+pub record IsShapeIn (file : FileParts) (h : ℕ) (shape : Shape) : Type 0 where
   pub hdu : HduParts
-  pub there : hdu_at hdus h ≡ Some hdu
+  pub there : hdu_of file h ≡ Some hdu
   pub described : shape_of (is_primary_hdu h) hdu.header.cards ≡ Ok shape
 
 -- HDU h is an integer image of this kind (5.2)
-pub record IsKindIn (hdus : List HduParts) (h : ℕ) (kind : Kind) : Type 0 where
+pub record IsKindIn (file : FileParts) (h : ℕ) (kind : Kind) : Type 0 where
   pub hdu : HduParts
   pub shape : Shape
-  pub there : hdu_at hdus h ≡ Some hdu
+  pub there : hdu_of file h ≡ Some hdu
   pub described : shape_of (is_primary_hdu h) hdu.header.cards ≡ Ok shape
   pub is : IsKind shape hdu.header.cards kind
 
 -- HDU h is there, and no integer image
-pub record HasNoKind (hdus : List HduParts) (h : ℕ) : Type 0 where
+pub record HasNoKind (file : FileParts) (h : ℕ) : Type 0 where
   pub hdu : HduParts
-  pub there : hdu_at hdus h ≡ Some hdu
-  pub none : (kind : Kind) → IsKindIn hdus h kind → ⊥
+  pub there : hdu_of file h ≡ Some hdu
+  pub none : (kind : Kind) → IsKindIn file h kind → ⊥
 
 -- why HDU h has no kind: it isn't there, or is no integer image
-abbrev pub KindFails : List HduParts → ℕ → Refusal → Type 0
-KindFails hdus h NoHdu = hdu_at hdus h ≡ None
-KindFails hdus h NotImage = HasNoKind hdus h
-KindFails hdus h why = ⊥
+abbrev pub KindFails : FileParts → ℕ → Refusal → Type 0
+KindFails file h NoHdu = hdu_of file h ≡ None
+KindFails file h NotImage = HasNoKind file h
+KindFails file h why = ⊥
 
 -- a keyword's fault as a refusal
 abbrev pub refusal_of_keyword : KeywordFault → Refusal
@@ -56,24 +56,16 @@ refusal_of_keyword keyword.NoKey = NoKey
 refusal_of_keyword keyword.BadValue = BadValue
 refusal_of_keyword keyword.Memory = Memory
 
+-- a keyword's value, or its fault as a refusal
 abbrev pub or_refused : Result (Value × Option (List ℕ)) KeywordFault → Result (Value × Option (List ℕ)) Refusal
 or_refused (Ok said) = Ok said
 or_refused (Err why) = Err (refusal_of_keyword why)
 
 -- the value and the comment of a keyword in HDU h
-abbrev pub value_at : List HduParts → ℕ → List ℕ → Result (Value × Option (List ℕ)) Refusal
-value_at hdus h name = in_hdu (λ hdu. or_refused (keyword_value hdu.header.cards name)) (hdu_at hdus h)
-
 abbrev pub value_in : FileParts → ℕ → List ℕ → Result (Value × Option (List ℕ)) Refusal
-value_in file h name = value_at file.hdus h name
+value_in file h name = in_hdu (λ hdu. or_refused (keyword_value hdu.header.cards name)) (hdu_of file h)
 
--- memory may run out on the way to this answer: a value, or one that can't be read
-abbrev pub ValueNeedsMemory : Result (Value × Option (List ℕ)) Refusal → Type 0
-ValueNeedsMemory (Ok said) = Unit {0}
-ValueNeedsMemory (Err BadValue) = Unit {0}
-ValueNeedsMemory (Err why) = ⊥
-
--- asking for a keyword may end so: by its refusal, or by want of memory on the way
-abbrev pub ValueFails : List HduParts → ℕ → List ℕ → Refusal → Type 0
-ValueFails hdus h name Memory = ValueNeedsMemory (value_at hdus h name)
-ValueFails hdus h name why = value_at hdus h name ≡ Err why
+-- asking for a keyword may end so: by its refusal, or out of memory where it has a value
+abbrev pub ValueFails : FileParts → ℕ → List ℕ → Refusal → Type 0
+ValueFails file h name Memory = IsOk (value_in file h name)
+ValueFails file h name why = value_in file h name ≡ Err why

@@ -1,51 +1,93 @@
--- What a session is to its callers.
-use Rattle.std.specs.Prelude.{◌≡◌, ℕ, ◌+◌, ◌<◌, ◌≤◌, nat_eq, List, length, get_or, map, Option}
+-- What a session is to its callers, and what its calls owe.
+use Rattle.std.specs.Prelude.{◌≡◌, ◌⊎◌, ℕ, ◌+◌, ◌-◌, ◌<◌, ◌≤◌, List, Option, length, get_or, map, Result, IfErr, OnOk, OnErr, None}
+use Rattle.fits_card.specs.Change.{cards_after}
+use Rattle.fits_card.specs.Header.{header_length}
+use Rattle.fits_card.specs.declared.change.Change.{Change}
 use Rattle.fits_rules.specs.Class.{is_primary}
 use Rattle.fits_hdu.specs.Hdu.{HduParts}
 use Rattle.fits_hdu.specs.State.{HduState}
-use Rattle.fits_session.specs.Edit.{changed_of, growth_of}
-use Rattle.fits_session.specs.File.{FileParts, IsFile}
-use Rattle.fits_session.specs.Refusal.{hdu_refusal, limit_refusal}
+use Rattle.fits_session.specs.Edit.{changed_of, file_after, hdu_named}
+use Rattle.fits_session.specs.File.{FileParts}
+use Rattle.fits_session.specs.Refusal.{first_refusal, limit_refusal, refusal_of, shape_refusal, EditFails}
+use Rattle.fits_session.specs.Work.{edit_reads}
+use Rattle.fits_session.specs.declared.edit.Edit.{Edit}
 use Rattle.fits_session.specs.declared.refusal.Refusal.{Refusal}
 
--- a file, and how many cards of each HDU were read so far
+-- what a session holds of an HDU: its parts, and how many of its cards were read so far
+pub record Held : Type 0 where
+  pub hdu : HduParts
+  pub reads : ℕ
+
+-- HDU after HDU, and the bytes that trail them
 pub record SessionState : Type 0 where
-  pub file : FileParts
-  pub reads : List ℕ
+  pub held : List Held
+  pub tail : List ℕ
+
+-- the parts of what is held
+abbrev pub hdus_of : List Held → List HduParts
+hdus_of held = map (λ one. one.hdu) held
+
+-- the cards read of each
+abbrev pub reads_of : List Held → List ℕ
+reads_of held = map (λ one. one.reads) held
+
+-- the file that a session is
+abbrev pub file_of : SessionState → FileParts
+file_of session = record { hdus = hdus_of session.held; tail = session.tail }
+
+-- an HDU under edits, as it is held
+abbrev pub held_as : HduState → Held
+held_as state = record { hdu = state.hdu; reads = state.reads }
+
+-- HDUs under edits, as they are held
+abbrev pub held_of : List HduState → List Held
+held_of hdus = map held_as hdus
+
+-- HDUs under edits and a tail
+abbrev pub state_of : List HduState → List ℕ → SessionState
+state_of hdus tail = record { held = held_of hdus; tail = tail }
+
+-- cards of HDU h alone were read, and so many at most
+pub record ReadsOnly (h most : ℕ) (before after : List ℕ) : Type 0 where
+  pub count : ℕ
+  pub few : count ≤ most
+  pub is : after ≡ changed_of h (λ reads. reads + count) before
 
 -- no count is less than it was
 pub record NeverFalls (before after : List ℕ) : Type 0 where
   pub size : length after ≡ length before
   pub grows : (i : ℕ) → get_or before i 0 ≤ get_or after i 0
 
--- cards of HDU h alone were read
-pub record ReadsOnly (h : ℕ) (before after : List ℕ) : Type 0 where
-  pub count : ℕ
-  pub is : after ≡ changed_of h (λ reads. reads + count) before
+-- an edit owes: it is made where none of its tests fails, and then the file is the one after it; else the file is as
+-- before, and the refusal is the first test's that fails, or memory's. Cards of the HDU that it names alone are read.
+pub record EditsTo {X : Type 0} (edit : Edit) (old new : SessionState) (result : Result X Refusal) : Type 0 where
+  pub accepted : OnOk result (refusal_of (file_of old) edit ≡ None)
+  pub ok : OnOk result (file_of new ≡ file_after (file_of old) edit)
+  pub refused : IfErr result (EditFails (refusal_of (file_of old) edit))
+  pub err : OnErr result (file_of new ≡ file_of old)
+  pub work : ReadsOnly (hdu_named edit) (edit_reads (file_of old) edit) (reads_of old.held) (reads_of new.held)
 
--- the parts of HDUs under edits
-abbrev pub hdus_of : List HduState → List HduParts
-hdus_of hdus = map (λ state. state.hdu) hdus
+-- a query of HDU h owes: the file stays, and so many of that HDU's cards are read at most
+pub record Asks (h most : ℕ) (old new : SessionState) : Type 0 where
+  pub file : file_of new ≡ file_of old
+  pub work : ReadsOnly h most (reads_of old.held) (reads_of new.held)
 
--- the file of HDUs under edits and a tail
-abbrev pub file_of : List HduState → List ℕ → FileParts
-file_of hdus tail = record { hdus = hdus_of hdus; tail = tail }
+-- HDU h of so many stands at index i, from 0
+pub record IsIndexOf (count h i : ℕ) : Type 0 where
+  pub at : h ≡ i + 1
+  pub within : i < count
 
--- the cards read of each
-abbrev pub reads_of : List HduState → List ℕ
-reads_of hdus = map (λ state. state.reads) hdus
+-- none of so many HDUs is HDU h
+abbrev pub IsNowhere : ℕ → ℕ → Type 0
+IsNowhere count h = (h ≡ 0) ⊎ (count < h)
 
--- the first HDU alone is of a primary class (3.3)
-abbrev pub HasClasses : List HduState → Type 0
-HasClasses hdus = (i : ℕ) → (d : HduState) → i < length hdus → is_primary (get_or hdus i d).shape.class ≡ nat_eq i 0
+-- how many bytes a file of so many has with other cards in one HDU
+abbrev pub length_after : ℕ → List (List ℕ) → List (List ℕ) → ℕ
+length_after bytes before after = bytes - header_length (length before) + header_length (length after)
 
--- HDUs under edits and a tail: a file, and the first HDU alone is of a primary class
-pub record IsSession (hdus : List HduState) (tail : List ℕ) : Type 0 where
-  pub whole : IsFile (file_of hdus tail)
-  pub classes : HasClasses hdus
-
--- the first refusal of an insertion into an HDU under edits, in a file of so many bytes and HDUs
-unfoldable pub insert_refusal : HduState → ℕ → ℕ → ℕ → List ℕ → Option Refusal
-insert_refusal state len hdus place card =
-    let cards : List (List ℕ) = state.hdu.header.cards in
-    hdu_refusal (is_primary state.shape.class) cards place card (limit_refusal (len + growth_of (length cards)) hdus)
+-- the tests of a change of an HDU under edits that all changes share, in a file of so many bytes and HDUs
+abbrev pub made_refusal : HduState → Change → ℕ → ℕ → Option Refusal
+made_refusal state change bytes hdus =
+    let before : List (List ℕ) = state.hdu.header.cards in
+    let after : List (List ℕ) = cards_after before change in
+    first_refusal (shape_refusal (is_primary state.shape.class) before after) (limit_refusal (length_after bytes before after) hdus)

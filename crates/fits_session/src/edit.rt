@@ -1,4 +1,6 @@
-use fits_card::card::Card;
+ghost use Rattle.std.specs.Prelude.{◌≡◌};
+
+use fits_card::Card;
 
 /// A change of a file. HDUs and places count from 1.
 #[derive(Clone, Copy, PartialEq, Eq, Debug)]
@@ -10,4 +12,17 @@ pub enum Edit {
         place: usize,
         card: Card,
     },
+}
+
+impl Edit {
+    ghost use Rattle.fits_session.specs.Edit.{hdu_named};
+
+    // The HDU that it names.
+    pub(crate) fn hdu(&self) -> usize
+        ensures { result ≡ hdu_named self.now }
+    {
+        match self {
+            Edit::Insert { hdu, .. } => *hdu,
+        }
+    }
 }

@@ -1,17 +1,19 @@
 //! A FITS file under edits: several HDUs and a tail, opened, changed, asked and saved.
 #![tactic(auto)]
 
-mod asking;
 pub mod edit;
-mod editing;
-pub mod fault;
-mod finding;
 pub mod laws;
 pub mod limits;
 pub mod offsets;
-mod opening;
+pub mod open_fault;
 pub mod refusal;
-mod saving;
+pub mod save_fault;
 pub mod session;
-#[cfg(test)]
-mod tests;
+
+pub use edit::Edit;
+pub use limits::{FILE_LIMIT, HDU_LIMIT, within};
+pub use offsets::HduOffsets;
+pub use open_fault::OpenFault;
+pub use refusal::Refusal;
+pub use save_fault::SaveFault;
+pub use session::Session;

@@ -2,7 +2,7 @@
 ghost use Rattle.std.specs.Prelude.{◌≡◌};
 ghost use Rattle.fits_session.specs.Limits.{is_within_limits};
 
-/// How many bytes a file has at most: 1,000,000 blocks, the bytes behind its last HDU included.
+/// How many bytes a file has at most: 1,000,000 blocks, the bytes after its last HDU included.
 pub const FILE_LIMIT: u64 = 2_880_000_000;
 
 /// How many HDUs a file has at most.

@@ -1,5 +1,5 @@
-use Rattle.fits_session.proofs.EditedLemmas as edits
+use Rattle.fits_session.proofs.LawLemmas.{edited}
 use Rattle.fits_session.proofs.laws.an_edited_file_is_a_file.Goals as goal
 
 pub returns : goal.returns
-returns c = edits.edited
+returns c = edited

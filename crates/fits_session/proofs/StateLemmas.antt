@@ -1,0 +1,156 @@
+-- HDUs under edits, as a session holds them.
+use Rattle.std.proofs.Common.{◌≡◌, inl, inr, ℕ, ◌+◌, ◌-◌, ◌<◌, ◌≤◌, List, [], ◌∷◌, ◌++◌, length, map, get_or, set, refl, ap, sym, ◌∙◌, subst, arith, None, Some, zero, suc, add-one}
+use Rattle.std.specs.Prelude.{Ok}
+use Rattle.std.specs.List.{slice_get}
+use Rattle.std.specs.Option.{option_map}
+use Rattle.std.proofs.lemmas.List.{length-append, length-map}
+use Rattle.std.proofs.lemmas.Option.{slice_get_read, slice_get-map, get_or_from_slice_get}
+use Rattle.fits_rules.specs.Class.{is_primary}
+use Rattle.fits_rules.specs.Shape.{shape_of}
+use Rattle.fits_hdu.specs.Hdu.{HduParts, hdu_bytes, IsHdu}
+use Rattle.fits_hdu.specs.State.{HduState, ReadsUpTo}
+use Rattle.fits_hdu.proofs.ShapeLemmas.{one_primary}
+use Rattle.fits_session.specs.Edit.{hdu_of, changed_at, changed_of}
+use Rattle.fits_session.specs.File.{FileParts, IsFile, file_bytes, joined_hdus}
+use Rattle.fits_session.specs.Limits.{file_limit}
+use Rattle.fits_session.specs.Refusal.{is_primary_hdu}
+use Rattle.fits_session.specs.Session.{Held, SessionState, file_of, hdus_of, reads_of, held_as, held_of, state_of, ReadsOnly, Asks, IsIndexOf, IsNowhere}
+use Rattle.fits_session.proofs.ChangeLemmas.{hdu_is, part_within}
+
+-- HDU h of those under edits
+pub record IsHduAt (hdus : List HduState) (h i : ℕ) (hdu : HduState) : Type 0 where
+  pub index : IsIndexOf (length hdus) h i
+  pub is : hdu ≡ get_or hdus i hdu
+
+-- it is found by its index
+pub is_at : (hdus seen : List HduState) (h k i : ℕ) (hdu : HduState) → seen ≡ hdus → k ≡ h → IsIndexOf (length seen) k i → hdu ≡ get_or hdus i hdu → IsHduAt hdus h i hdu
+is_at hdus seen h k i hdu same named index is = record { index = rw (same, named) at index; is = is }
+
+-- the list that a write leaves, seen through a part of its elements
+parts_changed : {X : Type 0} (part : Held → X) (change : X → X) (hdus : List HduState) (i : ℕ) (old new : HduState) → i < length hdus → old ≡ get_or hdus i old → part (held_as new) ≡ change (part (held_as old))
+    → map part (held_of (set hdus i new)) ≡ changed_at i change (map part (held_of hdus))
+parts_changed part change [] i old new l e p = absurd (omega arith)
+parts_changed part change (hdu ∷ hdus) zero old new l e p = ap (λ x. x ∷ map part (held_of hdus)) (p ∙ ap (λ (state : HduState). change (part (held_as state))) e)
+parts_changed part change (hdu ∷ hdus) (suc i) old new l e p = ap (λ xs. part (held_as hdu) ∷ xs) (parts_changed part change hdus i old new (omega arith) e p)
+
+-- the same where the part stays
+parts_same : {X : Type 0} (part : Held → X) (hdus : List HduState) (i : ℕ) (old new : HduState) → i < length hdus → old ≡ get_or hdus i old → part (held_as new) ≡ part (held_as old) → map part (held_of (set hdus i new)) ≡ map part (held_of hdus)
+parts_same part [] i old new l e p = absurd (omega arith)
+parts_same part (hdu ∷ hdus) zero old new l e p = ap (λ x. x ∷ map part (held_of hdus)) (p ∙ ap (λ (state : HduState). part (held_as state)) e)
+parts_same part (hdu ∷ hdus) (suc i) old new l e p = ap (λ xs. part (held_as hdu) ∷ xs) (parts_same part hdus i old new (omega arith) e p)
+
+-- the HDUs with one changed
+pub hdus_of-changed : (hdus : List HduState) (h i : ℕ) (old new : HduState) (change : HduParts → HduParts) → IsHduAt hdus h i old → new.hdu ≡ change old.hdu → hdus_of (held_of (set hdus i new)) ≡ changed_at i change (hdus_of (held_of hdus))
+hdus_of-changed hdus h i old new change at p = parts_changed (λ (one : Held). one.hdu) change hdus i old new at.index.within at.is p
+
+-- the HDUs stay where the one written stays
+pub hdus_of-same : (hdus : List HduState) (i : ℕ) (old new : HduState) → i < length hdus → old ≡ get_or hdus i old → new.hdu ≡ old.hdu → hdus_of (held_of (set hdus i new)) ≡ hdus_of (held_of hdus)
+hdus_of-same hdus i old new l e p = parts_same (λ (one : Held). one.hdu) hdus i old new l e p
+
+-- and so does the file
+pub file_of-same : (hdus : List HduState) (tail : List ℕ) (h i : ℕ) (old new : HduState) → IsHduAt hdus h i old → new.hdu ≡ old.hdu → file_of (state_of (set hdus i new) tail) ≡ file_of (state_of hdus tail)
+file_of-same hdus tail h i old new at p = ap (λ (us : List HduParts). let file : FileParts = record { hdus = us; tail = tail } in file) (hdus_of-same hdus i old new at.index.within at.is p)
+
+-- a session stays a file where its HDUs stay, and they have as many bytes
+pub stays_file : (hdus : List HduState) (tail : List ℕ) (h i len : ℕ) (old new : HduState) → IsHduAt hdus h i old → new.hdu ≡ old.hdu → IsFile (file_of (state_of hdus tail)) → len ≡ length (joined_hdus (hdus_of (held_of hdus)))
+    → IsFile (file_of (state_of (set hdus i new) tail)) × (len ≡ length (joined_hdus (hdus_of (held_of (set hdus i new)))))
+stays_file hdus tail h i len old new at p file e =
+    let same = file_of-same hdus tail h i old new at p in
+    (subst (λ (f : FileParts). IsFile f) (sym same) file, e ∙ ap (λ (f : FileParts). length (joined_hdus f.hdus)) (sym same))
+
+-- there are as many parts as HDUs
+pub length-hdus_of : (hdus : List HduState) → length (hdus_of (held_of hdus)) ≡ length hdus
+length-hdus_of hdus = length-map (held_of hdus) (λ (one : Held). one.hdu) ∙ length-map hdus held_as
+
+-- and as many counts
+pub length-reads_of : (hdus : List HduState) → length (reads_of (held_of hdus)) ≡ length hdus
+length-reads_of hdus = length-map (held_of hdus) (λ (one : Held). one.reads) ∙ length-map hdus held_as
+
+-- the parts of an HDU at an index
+pub slice_get-hdus_of : (hdus : List HduState) (i : ℕ) (hdu : HduState) → i < length hdus → hdu ≡ get_or hdus i hdu → slice_get (hdus_of (held_of hdus)) i ≡ Some hdu.hdu
+slice_get-hdus_of hdus i hdu l e =
+    slice_get-map (λ (one : Held). one.hdu) (held_of hdus) i
+    ∙ ap (option_map (λ (one : Held). one.hdu)) (slice_get-map held_as hdus i ∙ ap (option_map held_as) (slice_get_read hdus (length hdus) i hdu refl l e))
+
+-- HDU h
+pub hdu_of-there : (hdus : List HduState) (tail : List ℕ) (h i : ℕ) (hdu : HduState) → IsHduAt hdus h i hdu → hdu_of (file_of (state_of hdus tail)) h ≡ Some hdu.hdu
+hdu_of-there hdus tail h i hdu at = ap (hdu_of (file_of (state_of hdus tail))) (at.index.at ∙ add-one i) ∙ slice_get-hdus_of hdus i hdu at.index.within at.is
+
+-- no element stands past the last
+past_last : (us : List HduParts) (k : ℕ) → length us ≤ k → slice_get us k ≡ None
+past_last [] k l = refl
+past_last (u ∷ us) zero l = absurd (omega arith)
+past_last (u ∷ us) (suc k) l = past_last us k (omega arith)
+
+after_last : (file : FileParts) (h : ℕ) → length file.hdus < h → hdu_of file h ≡ None
+after_last file zero l = refl
+after_last file (suc h) l = past_last file.hdus h (omega arith)
+
+-- an HDU that isn't there
+pub hdu_of-nowhere : (hdus : List HduState) (tail : List ℕ) (h : ℕ) → IsNowhere (length hdus) h → hdu_of (file_of (state_of hdus tail)) h ≡ None
+hdu_of-nowhere hdus tail h p = elim p [ inl zero_is ↦ ap (hdu_of (file_of (state_of hdus tail))) zero_is | inr past ↦ after_last (file_of (state_of hdus tail)) h (omega (arith, past, length-hdus_of hdus)) ]
+
+-- HDU h of a file is one
+pub whole_there : (hdus : List HduState) (tail : List ℕ) (h i : ℕ) (hdu : HduState) → IsFile (file_of (state_of hdus tail)) → IsHduAt hdus h i hdu → IsHdu (is_primary_hdu h) hdu.hdu
+whole_there hdus tail h i hdu p at =
+    subst (λ (k : ℕ). IsHdu (is_primary_hdu k) hdu.hdu) (sym (at.index.at ∙ add-one i)) (hdu_is (file_bytes (file_of (state_of hdus tail))) (hdus_of (held_of hdus)) tail i hdu.hdu p.front (slice_get-hdus_of hdus i hdu at.index.within at.is))
+
+-- its class says whether it is the primary one
+pub primary_there : (hdus : List HduState) (tail : List ℕ) (h i : ℕ) (hdu : HduState) → IsFile (file_of (state_of hdus tail)) → IsHduAt hdus h i hdu → IsHdu (is_primary hdu.shape.class) hdu.hdu → is_primary hdu.shape.class ≡ is_primary_hdu h
+primary_there hdus tail h i hdu p at whole =
+    let there = whole_there hdus tail h i hdu p at in
+    one_primary (is_primary hdu.shape.class) (is_primary_hdu h) hdu.hdu.header.cards whole.shape there.shape whole.described there.described
+
+-- so its cards describe its shape as those of HDU h
+pub described_there : (hdus : List HduState) (tail : List ℕ) (h i : ℕ) (hdu : HduState) → IsFile (file_of (state_of hdus tail)) → IsHduAt hdus h i hdu → shape_of (is_primary hdu.shape.class) hdu.hdu.header.cards ≡ Ok hdu.shape → shape_of (is_primary_hdu h) hdu.hdu.header.cards ≡ Ok hdu.shape
+described_there hdus tail h i hdu p at described =
+    let there = whole_there hdus tail h i hdu p at in
+    let same = one_primary (is_primary hdu.shape.class) (is_primary_hdu h) hdu.hdu.header.cards hdu.shape there.shape described there.described in
+    ap (λ b. shape_of b hdu.hdu.header.cards) (sym same) ∙ described
+
+-- it is a part of the file
+pub part_there : (hdus : List HduState) (h i : ℕ) (hdu : HduState) → IsHduAt hdus h i hdu → length (hdu_bytes hdu.hdu) ≤ length (joined_hdus (hdus_of (held_of hdus)))
+part_there hdus h i hdu at = part_within (hdus_of (held_of hdus)) i hdu.hdu (slice_get-hdus_of hdus i hdu at.index.within at.is)
+
+-- which is not too long
+pub file_size : (hdus : List HduState) (tail : List ℕ) → IsFile (file_of (state_of hdus tail)) → length (joined_hdus (hdus_of (held_of hdus))) + length tail ≤ file_limit
+file_size hdus tail p = omega (arith, p.size, length-append (joined_hdus (hdus_of (held_of hdus))) tail)
+
+-- a count of 0 changes nothing
+changed-none : (h : ℕ) (xs : List ℕ) → changed_at h (λ n. n + 0) xs ≡ xs
+changed-none h [] = refl
+changed-none zero (x ∷ xs) = ap (λ n. n ∷ xs) (omega arith)
+changed-none (suc h) (x ∷ xs) = ap (λ ns. x ∷ ns) (changed-none h xs)
+
+pub reads_none : (h most : ℕ) (reads : List ℕ) → ReadsOnly h most reads reads
+reads_none zero most reads = record { count = 0; few = omega arith; is = refl }
+reads_none (suc h) most reads = record { count = 0; few = omega arith; is = sym (changed-none h reads) }
+
+-- cards of HDU h alone were read
+pub reads_more : (hdus : List HduState) (h i most : ℕ) (old new : HduState) → IsHduAt hdus h i old → old.reads ≤ new.reads → new.reads ≤ old.reads + most → ReadsOnly h most (reads_of (held_of hdus)) (reads_of (held_of (set hdus i new)))
+reads_more hdus h i most old new at least few =
+    let count : ℕ = new.reads - old.reads in
+    let is : reads_of (held_of (set hdus i new)) ≡ changed_at i (λ n. n + count) (reads_of (held_of hdus)) = parts_changed (λ (one : Held). one.reads) (λ n. n + count) hdus i old new at.index.within at.is (omega arith) in
+    record { count = count; few = omega arith; is = is ∙ ap (λ k. changed_of k (λ n. n + count) (reads_of (held_of hdus))) (sym (at.index.at ∙ add-one i)) }
+
+-- a query read cards of HDU h
+pub asked : (hdus : List HduState) (tail : List ℕ) (h i most : ℕ) (old new : HduState) → IsHduAt hdus h i old → ReadsUpTo old new most → Asks h most (state_of hdus tail) (state_of (set hdus i new) tail)
+asked hdus tail h i most old new at p = record {
+  file = file_of-same hdus tail h i old new at p.hdu;
+  work = reads_more hdus h i most old new at p.least p.most;
+}
+
+-- a query read none
+pub asked_none : (h most : ℕ) (session : SessionState) → Asks h most session session
+asked_none h most session = record { file = refl; work = reads_none h most (reads_of session.held) }
+
+-- one more HDU
+pub hdus_of-push : (hdus : List HduState) (hdu : HduState) → hdus_of (held_of (hdus ++ hdu ∷ [])) ≡ hdus_of (held_of hdus) ++ hdu.hdu ∷ []
+hdus_of-push [] hdu = refl
+hdus_of-push (first ∷ hdus) hdu = ap (λ us. first.hdu ∷ us) (hdus_of-push hdus hdu)
+
+-- the HDU at an index
+pub get_or-hdus_of : (hdus : List HduState) (i : ℕ) (hdu : HduState) → i < length hdus → hdu ≡ get_or hdus i hdu → get_or (hdus_of (held_of hdus)) i hdu.hdu ≡ hdu.hdu
+get_or-hdus_of hdus i hdu l e = get_or_from_slice_get (hdus_of (held_of hdus)) i hdu.hdu hdu.hdu (slice_get-hdus_of hdus i hdu l e)
+
+pub ruleset count_steps = (length-hdus_of)

@@ -1,0 +1,14 @@
+use Rattle.std.proofs.Common.{◌≡◌, take, length}
+use Rattle.std.specs.Io.KnownBytes.{Appends}
+use Rattle.fits_session.specs.File.{joined_hdus}
+use Rattle.fits_session.specs.Session.{hdus_of, held_of, reads_of, NeverFalls}
+use Rattle.fits_session.proofs.session.saving.write_hdus.Given as goal
+
+abbrev pub invariant-loop-i : goal.invariant-loop-i
+invariant-loop-i g l = record {
+  written : Appends (g.W.Sink.contents l.fn.sink) (g.W.Sink.contents l.sink) (joined_hdus (take l.i (hdus_of (held_of l.fn.hdus.items))));
+  quiet : g.W.Sink.failures l.sink ≡ g.W.Sink.failures l.fn.sink;
+  same : hdus_of (held_of l.hdus.items) ≡ hdus_of (held_of l.fn.hdus.items);
+  count : length l.hdus.items ≡ length l.fn.hdus.items;
+  work : NeverFalls (reads_of (held_of l.fn.hdus.items)) (reads_of (held_of l.hdus.items));
+}

@@ -1,0 +1,115 @@
+//! What a session answers. Queries leave the file as it is.
+ghost use Rattle.std.specs.Prelude.{◌≡◌, ◌≤◌, length, IfOk};
+ghost use Rattle.fits_session.specs.File.{joined_hdus, offsets_from};
+ghost use Rattle.fits_session.specs.Limits.{file_limit};
+ghost use Rattle.fits_session.specs.Session.{held_of, hdus_of};
+
+use super::Session;
+use super::finding::index_of;
+use crate::offsets::HduOffsets;
+use crate::refusal::Refusal;
+use fits_card::Name;
+use fits_hdu::{Hdu, Kind};
+use fits_rules::Shape;
+use fits_value::{Text, Value};
+use std::alloc::{AllocError, Global};
+
+impl Session {
+    ghost use Rattle.std.specs.Prelude.{◌≡◌, length, IfOk, IfErr, None, Ok};
+    ghost use Rattle.fits_session.specs.Edit.{hdu_of};
+    ghost use Rattle.fits_session.specs.File.{offsets_from};
+    ghost use Rattle.fits_session.specs.Query.{card_count_in, value_in, IsKindIn, IsShapeIn, KindFails, ValueFails};
+    ghost use Rattle.fits_session.specs.Session.{file_of, Asks};
+    ghost use Rattle.fits_session.specs.Work.{kind_reads, value_reads};
+
+    /// How many HDUs there are.
+    #[tactic(auto, using(crate::proofs::StateLemmas::count_steps))]
+    pub fn hdus(&self) -> usize
+        ensures { result ≡ length (file_of self.now).hdus }
+    {
+        self.hdus.len()
+    }
+
+    /// How many cards HDU h has, END not counted. Refusal 1.
+    pub fn card_count(&self, h: usize) -> Result<usize, Refusal>
+        ensures { result ≡ card_count_in (file_of self.now) h }
+    {
+        let Some(i) = index_of(&self.hdus, h) else {
+            return Err(Refusal::NoHdu);
+        };
+        let hdu = &self.hdus[i];
+        Ok(hdu.card_count())
+    }
+
+    /// What the mandatory keywords of HDU h say of its data. Refusal 1.
+    pub fn shape(&self, h: usize) -> Result<&Shape, Refusal>
+        ensures ok { IfOk result (λ shape. IsShapeIn (file_of self.now) h shape.now) }
+        ensures err { IfErr result (λ why. (why ≡ Refusal.NoHdu) × (hdu_of (file_of self.now) h
+            ≡ None)) }
+    {
+        let Some(i) = index_of(&self.hdus, h) else {
+            return Err(Refusal::NoHdu);
+        };
+        let hdu = &self.hdus[i];
+        Ok(hdu.shape())
+    }
+
+    /// The type of the pixels of HDU h. Refusals 1 and 9. It takes no memory.
+    pub fn kind(&mut self, h: usize) -> Result<Kind, Refusal>
+        ensures ok { IfOk result (IsKindIn (file_of self.old) h) }
+        ensures err { IfErr result (KindFails (file_of self.old) h) }
+        ensures asks { Asks h (kind_reads (file_of self.old) h) self.old self.new }
+    {
+        let Some(i) = index_of(&self.hdus, h) else {
+            return Err(Refusal::NoHdu);
+        };
+        let hdu = &mut self.hdus[i];
+        match hdu.kind() {
+            Some(kind) => Ok(kind),
+            None => Err(Refusal::NotImage),
+        }
+    }
+
+    /// The value of a keyword in HDU h, with the cards that continue it, and its comment. Refusals
+    /// 1, 3, 8 and 15.
+    pub fn value(&mut self, h: usize, name: &Name) -> Result<(Value, Option<Text>), Refusal>
+        ensures ok { IfOk result (λ said. value_in (file_of self.old) h name.now ≡ Ok said) }
+        ensures err { IfErr result (ValueFails (file_of self.old) h name.now) }
+        ensures asks { Asks h (value_reads (file_of self.old) h) self.old self.new }
+    {
+        let Some(i) = index_of(&self.hdus, h) else {
+            return Err(Refusal::NoHdu);
+        };
+        let hdu = &mut self.hdus[i];
+        let said = hdu.value(self.alloc, name)?;
+        Ok(said)
+    }
+
+    /// Where each HDU stands.
+    pub fn offsets(&self) -> Result<Vec<HduOffsets>, AllocError>
+        ensures { IfOk result (λ offsets. offsets.items ≡ offsets_from 0 (file_of self.now).hdus) }
+    {
+        offsets_of(self.alloc, &self.hdus)
+    }
+}
+
+// Where HDUs stand, of which the first begins at 0.
+#[tactic(auto, using(crate::proofs::OffsetLemmas::offset_steps))]
+fn offsets_of(alloc: Global, hdus: &[Hdu]) -> Result<Vec<HduOffsets>, AllocError>
+    requires { length (joined_hdus (hdus_of (held_of hdus.now))) ≤ file_limit }
+    ensures { IfOk result (λ offsets. offsets.items ≡ offsets_from 0 (hdus_of (held_of hdus.now))) }
+{
+    let mut offsets = Vec::with_capacity(alloc, hdus.len())?;
+    let mut start = 0;
+    for hdu in hdus {
+        let data_start = start + hdu.header_len() as u64;
+        let hdu_end = data_start + hdu.data_len() as u64;
+        offsets.push(HduOffsets {
+            header_start: start,
+            data_start,
+            hdu_end,
+        })?;
+        start = hdu_end;
+    }
+    Ok(offsets)
+}

@@ -1,0 +1,64 @@
+//! Writing the file.
+ghost use Rattle.std.specs.Prelude.{◌≡◌, ◌+◌, OnOk, OnErr};
+ghost use Rattle.std.specs.Io.KnownBytes.{Appends};
+ghost use Rattle.fits_card.specs.Stream.{AppendsFront};
+ghost use Rattle.fits_session.specs.File.{joined_hdus};
+ghost use Rattle.fits_session.specs.Session.{hdus_of, held_of, reads_of, NeverFalls};
+
+use super::Session;
+use crate::save_fault::SaveFault;
+use fits_card::{Sink, write_all};
+use fits_hdu::Hdu;
+use std::io;
+
+impl Session {
+    ghost use Rattle.std.specs.Prelude.{◌≡◌, ◌+◌, OnOk, OnErr};
+    ghost use Rattle.std.specs.Io.KnownBytes.{Appends};
+    ghost use Rattle.fits_card.specs.Stream.{AppendsFront};
+    ghost use Rattle.fits_session.specs.File.{file_bytes};
+    ghost use Rattle.fits_session.specs.Session.{file_of, reads_of, NeverFalls};
+
+    /// Writes the file. Where a call fails a prefix was written. It takes no memory.
+    #[tactic(auto, using(crate::proofs::SaveLemmas::save_steps))]
+    pub fn save<W: Sink>(&mut self, sink: &mut W) -> Result<(), SaveFault>
+        ensures ok { OnOk result (Appends (W.contents sink.old) (W.contents sink.new) (file_bytes
+            (file_of self.old))) }
+        ensures err { OnErr result (AppendsFront (W.contents sink.old) (W.contents sink.new)
+            (file_bytes (file_of self.old))) }
+
+        // It fails exactly where a call did, and no call follows.
+        ensures quiet { OnOk result (W.failures sink.new ≡ W.failures sink.old) }
+        ensures failed { OnErr result (W.failures sink.new ≡ W.failures sink.old + 1) }
+
+        ensures file { file_of self.new ≡ file_of self.old }
+        ensures work { NeverFalls (reads_of self.old.held) (reads_of self.new.held) }
+    {
+        let Ok(()) = write_hdus(&mut self.hdus, sink) else {
+            return Err(SaveFault::Device);
+        };
+        let Ok(()) = write_all(sink, &self.tail) else {
+            return Err(SaveFault::Device);
+        };
+        Ok(())
+    }
+}
+
+// Writes HDUs, one after another. Where a call fails a prefix was written.
+#[tactic(auto, using(crate::proofs::SaveLemmas::save_steps))]
+fn write_hdus<W: Sink>(hdus: &mut Vec<Hdu>, sink: &mut W) -> io::Result<()>
+    ensures ok { OnOk result (Appends (W.contents sink.old) (W.contents sink.new) (joined_hdus
+        (hdus_of (held_of hdus.old.items)))) }
+    ensures err { OnErr result (AppendsFront (W.contents sink.old) (W.contents sink.new)
+        (joined_hdus (hdus_of (held_of hdus.old.items)))) }
+    ensures quiet { OnOk result (W.failures sink.new ≡ W.failures sink.old) }
+    ensures failed { OnErr result (W.failures sink.new ≡ W.failures sink.old + 1) }
+    ensures hdus { hdus_of (held_of hdus.new.items) ≡ hdus_of (held_of hdus.old.items) }
+    ensures work { NeverFalls (reads_of (held_of hdus.old.items)) (reads_of
+        (held_of hdus.new.items)) }
+{
+    for i in 0..hdus.len() {
+        let hdu = &mut hdus[i];
+        hdu.emit(sink)?;
+    }
+    Ok(())
+}
