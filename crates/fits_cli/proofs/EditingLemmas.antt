@@ -1,85 +1,354 @@
--- A whole run, from the bytes that were read to the output.
-use Rattle.std.proofs.Common.{◌≡◌, ◌⊎◌, ℕ, ◌<◌, ◌≤◌, List, length, map, refl, ap, ◌∙◌, inl, inr, Bool, true, false, Option, None, Some, rules}
-use Rattle.std.specs.Prelude.{IfSome, nat_le, if◌then◌else◌}
-use Rattle.std.proofs.lemmas.List.{take_all}
-use Rattle.std.specs.Io.KnownBytes.{Appends, Keeps}
-use Rattle.fits_card.proofs.StreamLemmas.{Appends-none}
-use Rattle.fits_session.specs.File.{FileParts, file_bytes, IsFileOf}
-use Rattle.fits_session.specs.Opening.{HasOpenFault}
-use Rattle.fits_session.specs.declared.fault.OpenFault.{OpenFault}
+-- A whole run of `edit`, from the bytes that were read to its end.
+use Rattle.std.proofs.Common.{◌≡◌, ◌⊎◌, ℕ, ◌<◌, ◌≤◌, List, [], ◌∷◌, ◌++◌, length, refl, ap, sym, subst, ◌∙◌, inl, inr, rules, arith, true, false, Result, Ok, Err, Option, None, Some}
+use Rattle.std.specs.Prelude.{nat_le, if◌then◌else◌}
+use Rattle.std.specs.Result.{OnOk, IfErr}
+use Rattle.std.specs.Io.KnownBytes.{Appends, Consumes, IsAtEnd}
+use Rattle.fits_card.proofs.StreamLemmas.{Consumes-none}
+use Rattle.std.proofs.lemmas.List.{append-nil, take_all}
+use Rattle.fits_session.specs.File.{FileParts, file_bytes}
+use Rattle.fits_cli.specs.Answer.{Standing, at_first_line}
+use Rattle.fits_cli.specs.Ends.{Streams, Opens, HasLines, Succeeds, AnswersFail, StopsBy}
+use Rattle.fits_cli.specs.Faults.{PrintFails}
 use Rattle.fits_cli.specs.Limits.{script_limit}
+use Rattle.fits_cli.specs.Output.{Output, answers, standing_after, status_of, output_unopened, output_of_lines, output_too_long, IsOutputOf}
+use Rattle.fits_cli.specs.Running.{OpeningStops, AnswersScript, AnswersTooLong, NeedsMemoryAt, ScriptReadFails, ScriptWriteFails, ScriptStops, FlushesThen, FlushesAnswers}
 use Rattle.fits_cli.specs.Script.{script_lines}
-use Rattle.fits_cli.specs.Answer.{Standing}
-use Rattle.fits_cli.specs.Output.{Output, IsRun, FaultSays, NoCallFailed, output_unopened, output_of_lines, output_too_long, at_first_line, standing_after, status_of}
-use Rattle.fits_cli.specs.Running.{OpenEnds, AnswersScript, AnswersTooLong}
+use Rattle.fits_cli.specs.Streams.{SourceState, SinkState, Tells, Prints, PrintsFront, Flushes, FailsToFlush, FlushesOrFails}
 use Rattle.fits_cli.specs.declared.fault.Fault.{Fault}
 use Rattle.fits_cli.specs.declared.fault.Fault.TheVariants.{Refused, ScriptTooLong, Memory, ReadFailed, WriteFailed}
+use Rattle.fits_cli.proofs.LinesLemmas.{IsCutInLines-none}
+use Rattle.fits_cli.proofs.RunLemmas.{answers-append, answers-none}
+use Rattle.fits_cli.proofs.StreamLemmas.{Appends-kept, Prints-none, Prints-flushed, PrintsFront-unflushed, PrintsFront-longer}
 
--- a file that doesn't open: nothing is printed or saved
-run_unopened : (file script printed saved : Option (List ℕ)) (why : OpenFault) → IfSome file (λ f. HasOpenFault f why) → IsRun file script printed printed saved saved 2 (Some (Refused why))
-run_unopened None script printed saved why p = tt
-run_unopened (Some f) None printed saved why p = tt
-run_unopened (Some f) (Some s) printed saved why p = λ read reads. (output_unopened why, inl (why, p, refl), Appends-none printed, Appends-none saved, refl, refl)
+-- bytes that a source had
+some_bytes : (left : Option (List ℕ)) → (bytes : List ℕ) × Tells left bytes
+some_bytes None = ([], tt)
+some_bytes (Some xs) = (xs, refl)
 
--- only the file was read
-pub NoCallFailed-unopened : (file file' script out saved : ℕ) → file' ≡ file → NoCallFailed file file' script script out out saved saved
-NoCallFailed-unopened file file' script out saved e = record { of_file = e; of_script = refl; of_out = refl; of_saved = refl }
+-- a sink that wasn't touched
+Prints-same : (a b : SinkState) → b ≡ a → Prints [] a b
+Prints-same a b same = subst (λ (s : SinkState). Prints [] a s) (sym same) (Prints-none a)
 
-pub FaultSays-unopened : (file script printed saved : Option (List ℕ)) (a b c d e : ℕ) (script_failed a_write_failed : Type 0) (why : Fault) → OpenEnds file (b ≡ a) (a < b) why
-    → FaultSays (IsRun file script printed printed saved saved) (NoCallFailed a b c c d d e e) ((a < b) ⊎ script_failed) a_write_failed why
-FaultSays-unopened file script printed saved a b c d e sf wf (Refused why) p = (run_unopened file script printed saved why p.0, NoCallFailed-unopened a b c d e p.1)
-FaultSays-unopened file script printed saved a b c d e sf wf ScriptTooLong p = absurd p
-FaultSays-unopened file script printed saved a b c d e sf wf Memory p = NoCallFailed-unopened a b c d e p
-FaultSays-unopened file script printed saved a b c d e sf wf ReadFailed p = inl p
-FaultSays-unopened file script printed saved a b c d e sf wf WriteFailed p = absurd p
+-- a file that doesn't open: no other stream is touched
+pub StopsBy-opening : (old new : Streams) (fault : Fault) → new.script ≡ old.script → new.printed ≡ old.printed → new.saved ≡ old.saved → OpeningStops old.file new.file fault → StopsBy old new fault
+StopsBy-opening old new (Refused why) script printed saved stops = record {
+  run =
+      let other = some_bytes old.script.left in
+      record {
+        file = stops.0.0;
+        script = other.0;
+        output = output_unopened why;
+        told_file = stops.0.1;
+        told_script = other.1;
+        is = inl (record { why = why; fails = stops.0.2; is = refl });
+        printed = Prints-same old.printed new.printed printed;
+        saved = Prints-same old.saved new.saved saved;
+        status_is = refl;
+        fault_is = refl;
+        read = record { of_file = stops.1; of_script = ap (λ (s : SourceState). s.failures) script };
+      };
+  script = script;
+  printed = printed;
+  saved = saved;
+}
+StopsBy-opening old new ScriptTooLong script printed saved stops = absurd stops
+StopsBy-opening old new Memory script printed saved stops = record {
+  read = record { of_file = stops; of_script = ap (λ (s : SourceState). s.failures) script };
+  printed = inl (script, Prints-same old.printed new.printed printed);
+  saved = saved;
+}
+StopsBy-opening old new ReadFailed script printed saved stops = inl (record { failed = stops; script = script; printed = printed; saved = saved })
+StopsBy-opening old new WriteFailed script printed saved stops = absurd stops
 
--- what was written, and kept as it is by a flush
-pub Appends-kept : (a b c : Option (List ℕ)) (text : List ℕ) → Appends a b text → Keeps b c → Appends a c text
-Appends-kept None b c text p q = tt
-Appends-kept (Some xs) None c text p q = absurd p
-Appends-kept (Some xs) (Some ys) None text p q = absurd q
-Appends-kept (Some xs) (Some ys) (Some zs) text p q = q ∙ p
+-- what comes within a limit
+choice-within : (n limit : ℕ) (a b : Output) → n ≤ limit → a ≡ (if nat_le n limit then a else b)
+choice-within n limit a b le = let test : nat_le n limit ≡ true = search rules in rw test refl
 
-choice-true : (n limit : ℕ) (a b : Output) → n ≤ limit → a ≡ (if nat_le n limit then a else b)
-choice-true n limit a b le = let test : nat_le n limit ≡ true = search rules in rw test refl
+-- what goes past it
+choice-over : (n limit : ℕ) (a b : Output) → limit < n → b ≡ (if nat_le n limit then a else b)
+choice-over n limit a b over = let test : nat_le n limit ≡ false = search rules in rw test refl
 
-choice-false : (n limit : ℕ) (a b : Output) → limit < n → b ≡ (if nat_le n limit then a else b)
-choice-false n limit a b over = let test : nat_le n limit ≡ false = search rules in rw test refl
+-- the output of a script that is answered whole
+output_whole : (old new : SourceState) (file : SourceState) (parts : FileParts) (now : Standing) (held holds : SinkState) (opened : Opens file parts) (done : AnswersScript old new (at_first_line parts) now held holds)
+    → IsOutputOf opened.bytes done.script (output_of_lines parts (script_lines done.lines done.last))
+output_whole old new file parts now held holds opened done = inr (record {
+  parts = parts;
+  lines = done.lines;
+  last = done.last;
+  opens = opened.opens;
+  cut = rw (take_all script_limit done.script done.short) done.cut;
+  is = choice-within (length done.script) script_limit (output_of_lines parts (script_lines done.lines done.last)) (output_too_long parts done.lines) done.short;
+})
 
--- a script that is too long: the whole lines within the limit were answered
-pub run_too_long : (file script held holds printed saved : Option (List ℕ)) (parts : FileParts) (now : Standing)
-    → IfSome file (λ f. IsFileOf f parts) → AnswersTooLong script (at_first_line parts) now held holds → Keeps holds printed → IsRun file script held printed saved saved 2 (Some ScriptTooLong)
-run_too_long None script held holds printed saved parts now opened answered kept = tt
-run_too_long (Some f) None held holds printed saved parts now opened answered kept = tt
-run_too_long (Some f) (Some s) held holds printed saved parts now opened answered kept = λ read reads.
-    let has = answered.2 in
-    let lines = map read has.lines in (
-      output_too_long parts lines,
-      inr (parts, has.lines, answered.1, opened, has.cut, choice-false (length s) script_limit _ _ answered.0),
-      Appends-kept held holds printed _ (has.answered.told read reads) kept,
-      Appends-none saved,
-      refl,
-      refl,
-    )
+-- a script that was read to its end
+script_told : (a b : Option (List ℕ)) (bytes : List ℕ) → Consumes a b bytes → IsAtEnd b → Tells a bytes
+script_told None b bytes read ended = tt
+script_told (Some xs) None bytes read ended = absurd read
+script_told (Some xs) (Some ys) bytes read ended = read ∙ ap (λ t. bytes ++ t) ended ∙ append-nil bytes
 
--- a whole run
-pub run_done : (file script held holds printed saved saves kept : Option (List ℕ)) (parts last_parts : FileParts) (any_refused : Bool) (number : ℕ)
-    → IfSome file (λ f. IsFileOf f parts)
-    → AnswersScript script (at_first_line parts) (record { file = last_parts; line = number; any_refused = any_refused }) held holds → Keeps holds printed
-    → Appends saved saves (file_bytes last_parts) → Keeps saves kept → IsRun file script held printed saved kept (if any_refused then 1 else 0) None
-run_done None script held holds printed saved saves kept parts last_parts any_refused number opened answered flushed emitted emitted_whole = tt
-run_done (Some f) None held holds printed saved saves kept parts last_parts any_refused number opened answered flushed emitted emitted_whole = tt
-run_done (Some f) (Some s) held holds printed saved saves kept parts last_parts any_refused number opened answered flushed emitted emitted_whole = λ read reads.
-    let lines = map read (script_lines answered.1 answered.2) in
-    let last : Standing = record { file = last_parts; line = number; any_refused = any_refused } in
-    let left : last ≡ standing_after (at_first_line parts) lines = answered.4.left read reads in
-    let bytes : file_bytes last_parts ≡ file_bytes (standing_after (at_first_line parts) lines).file = ap (λ (t : Standing). file_bytes t.file) left in (
-      output_of_lines parts lines,
-      inr (parts, answered.1, answered.2, opened, rw (← take_all script_limit s answered.0) at answered.3, choice-true (length s) script_limit _ _ answered.0),
-      Appends-kept held holds printed _ (answered.4.told read reads) flushed,
-      Appends-kept saved saves kept _ (rw bytes at emitted) emitted_whole,
-      ap status_of left,
-      refl,
-    )
+-- all its lines
+all_lines : (old new : SourceState) (before now : Standing) (held holds : SinkState) (done : AnswersScript old new before now held holds) → HasLines old new (script_lines done.lines done.last)
+all_lines old new before now held holds done = record {
+  whole = done.lines;
+  last = done.last;
+  reached = record { came = done.script; read = done.read; cut = rw (take_all script_limit done.script done.short) done.cut };
+  are = inr (done.ended, done.short, refl);
+}
 
-pub ruleset edit_steps = (FaultSays-unopened, run_too_long, run_done)
+-- the answers to some lines can't be flushed
+AnswersFail-flush : (old new : Streams) (mid : SinkState) (parts : FileParts) (lines others all : List (List ℕ)) → new.file.failures ≡ old.file.failures → new.script.failures ≡ old.script.failures → new.saved ≡ old.saved
+    → Opens old.file parts → HasLines old.script new.script all → all ≡ lines ++ others → Prints (answers (at_first_line parts) lines) old.printed mid → FailsToFlush mid new.printed → AnswersFail old new
+AnswersFail-flush old new mid parts lines others all of_file of_script saved opened has split printed failed = record {
+  read = record { of_file = of_file; of_script = of_script };
+  parts = parts;
+  lines = all;
+  opened = opened;
+  reached = has;
+  printed =
+      let first : Standing = at_first_line parts in
+      let whole : answers first all ≡ answers first lines ++ answers (standing_after first lines) others = ap (answers first) split ∙ answers-append first lines others in
+      rw whole (PrintsFront-longer old.printed new.printed (answers first lines) (answers (standing_after first lines) others)
+      (PrintsFront-unflushed old.printed mid new.printed (answers first lines) printed failed));
+  saved = saved;
+}
+
+-- two faults in one place
+same_fault : (r : Result (Unit {0}) Fault) (a b : Fault) → r ≡ Err a → r ≡ Err b → a ≡ b
+same_fault r a b p q = let e : ◌≡◌ {A = Result (Unit {0}) Fault} (Err a) (Err b) = sym p ∙ q in cc
+
+-- done and a fault in one place
+no_fault : (r : Result (Unit {0}) Fault) (a : Unit {0}) (b : Fault) → r ≡ Ok a → r ≡ Err b → ⊥
+no_fault r a b p q = let e : ◌≡◌ {A = Result (Unit {0}) Fault} (Ok a) (Err b) = sym p ∙ q in absurd (cc)
+
+-- a fault after the script, with its answers flushed or not
+abbrev Ended : Result (Unit {0}) Fault → Fault → SinkState → SinkState → Type 0
+Ended result why mid out = ((result ≡ Err why) × Flushes mid out) ⊎ ((result ≡ Err WriteFailed) × FailsToFlush mid out)
+
+-- a run whose script was answered whole, and whose answers aren't flushed
+StopsBy-done : (old new : Streams) (mid : SinkState) (result : Result (Unit {0}) Fault) (fault : Fault) (parts : FileParts) (now : Standing) → result ≡ Err fault
+    → Opens old.file parts → new.file.failures ≡ old.file.failures → new.saved ≡ old.saved
+    → AnswersScript old.script new.script (at_first_line parts) now old.printed mid → (result ≡ Err WriteFailed) × FailsToFlush mid new.printed → StopsBy old new fault
+StopsBy-done old new mid result fault parts now is opened of_file saved done flush =
+    let lines : List (List ℕ) = script_lines done.lines done.last in
+    subst (λ (f : Fault). StopsBy old new f) (same_fault result WriteFailed fault flush.0 is)
+    (inl (AnswersFail-flush old new mid parts lines [] lines of_file done.quiet saved opened
+    (all_lines old.script new.script (at_first_line parts) now old.printed mid done) (sym (append-nil lines)) done.answered.printed flush.1))
+
+-- a run whose script is too long
+StopsBy-too_long : (old new : Streams) (mid : SinkState) (result : Result (Unit {0}) Fault) (fault : Fault) (parts : FileParts) → result ≡ Err fault
+    → Opens old.file parts → new.file.failures ≡ old.file.failures → new.saved ≡ old.saved
+    → AnswersTooLong old.script new.script (at_first_line parts) old.printed mid → Ended result ScriptTooLong mid new.printed → StopsBy old new fault
+StopsBy-too_long old new mid result fault parts is opened of_file saved long (inl flush) =
+    subst (λ (f : Fault). StopsBy old new f) (same_fault result ScriptTooLong fault flush.0 is)
+    (record {
+      run = record {
+        file = opened.bytes;
+        script = long.script;
+        output = output_too_long parts long.lines;
+        told_file = opened.told;
+        told_script = long.told;
+        is = inr (record {
+          parts = parts;
+          lines = long.lines;
+          last = long.last;
+          opens = opened.opens;
+          cut = long.cut;
+          is = choice-over (length long.script) script_limit (output_of_lines parts (script_lines long.lines long.last)) (output_too_long parts long.lines) long.long;
+        });
+        printed = Prints-flushed old.printed mid new.printed (answers (at_first_line parts) long.lines) long.printed flush.1;
+        saved = Prints-same old.saved new.saved saved;
+        status_is = refl;
+        fault_is = refl;
+        read = record { of_file = of_file; of_script = long.quiet };
+      };
+      printed = flush.1.flushed;
+      saved = saved;
+    })
+StopsBy-too_long old new mid result fault parts is opened of_file saved long (inr flush) =
+    subst (λ (f : Fault). StopsBy old new f) (same_fault result WriteFailed fault flush.0 is)
+    (inl (AnswersFail-flush old new mid parts long.lines [] long.lines of_file long.quiet saved opened
+    (record { whole = long.lines; last = long.last; reached = long.reached; are = inl refl }) (sym (append-nil long.lines)) long.printed flush.1))
+
+-- nothing is printed, and that can't be flushed
+unprinted : (a b c : SinkState) → b ≡ a → FailsToFlush b c → PrintsFront [] a c
+unprinted a b c same failed = PrintsFront-unflushed a b c [] (Prints-same a b same) failed
+
+-- before the first line
+no_lines : (old new : SourceState) → new ≡ old → HasLines old new []
+no_lines old new same = record {
+  whole = [];
+  last = [];
+  reached = record { came = []; read = subst (λ (s : SourceState). Consumes old.left s.left []) (sym same) (Consumes-none old.left); cut = IsCutInLines-none };
+  are = inl refl;
+}
+
+-- a run whose script needs memory that is refused
+StopsBy-memory : (old new : Streams) (mid : SinkState) (result : Result (Unit {0}) Fault) (fault : Fault) (parts : FileParts) → result ≡ Err fault
+    → Opens old.file parts → new.file.failures ≡ old.file.failures → new.saved ≡ old.saved → new.script.failures ≡ old.script.failures
+    → (new.script ≡ old.script × mid ≡ old.printed) ⊎ ((lines : List (List ℕ)) × HasLines old.script new.script lines × NeedsMemoryAt lines (at_first_line parts) old.printed mid)
+    → Ended result Memory mid new.printed → StopsBy old new fault
+StopsBy-memory old new mid result fault parts is opened of_file saved of_script (inl none) (inl flush) =
+    subst (λ (f : Fault). StopsBy old new f) (same_fault result Memory fault flush.0 is)
+    (record {
+      read = record { of_file = of_file; of_script = of_script };
+      printed = inl (none.0, Prints-flushed old.printed mid new.printed [] (Prints-same old.printed mid none.1) flush.1);
+      saved = saved;
+    })
+StopsBy-memory old new mid result fault parts is opened of_file saved of_script (inl none) (inr flush) =
+    subst (λ (f : Fault). StopsBy old new f) (same_fault result WriteFailed fault flush.0 is)
+    (inl (AnswersFail-flush old new mid parts [] [] [] of_file of_script saved opened (no_lines old.script new.script none.0) refl
+    (rw (answers-none (at_first_line parts)) (Prints-same old.printed mid none.1)) flush.1))
+StopsBy-memory old new mid result fault parts is opened of_file saved of_script (inr some) (inl flush) =
+    let at = some.2 in
+    subst (λ (f : Fault). StopsBy old new f) (same_fault result Memory fault flush.0 is)
+    (record {
+      read = record { of_file = of_file; of_script = of_script };
+      printed = inr (record {
+        parts = parts;
+        lines = at.done;
+        line = at.line;
+        others = at.others;
+        opened = opened;
+        reached = subst (λ (ls : List (List ℕ)). HasLines old.script new.script ls) at.split some.1;
+        needs = at.needs;
+        printed = Prints-flushed old.printed mid new.printed (answers (at_first_line parts) at.done) at.printed flush.1;
+        flushed = flush.1.flushed;
+      });
+      saved = saved;
+    })
+StopsBy-memory old new mid result fault parts is opened of_file saved of_script (inr some) (inr flush) =
+    let at = some.2 in
+    subst (λ (f : Fault). StopsBy old new f) (same_fault result WriteFailed fault flush.0 is)
+    (inl (AnswersFail-flush old new mid parts at.done (at.line ∷ at.others) some.0 of_file of_script saved opened some.1 at.split at.printed flush.1))
+
+-- how the answers stand after a failed read, flushed or not
+flushed_or_not : (a b c : SinkState) (text : List ℕ) → Prints text a b → Flushes b c ⊎ FailsToFlush b c → Appends a.holds c.holds text × FlushesOrFails a c
+flushed_or_not a b c text printed (inl flush) = let whole = Prints-flushed a b c text printed flush in (whole.bytes, inl (whole.quiet, flush.flushed))
+flushed_or_not a b c text printed (inr failed) = (Appends-kept a.holds b.holds c.holds text printed.bytes failed.bytes, inr (omega (arith, printed.quiet, failed.failed)))
+
+-- a run whose script can't be read
+StopsBy-read : (old new : Streams) (mid : SinkState) (result : Result (Unit {0}) Fault) (fault : Fault) (parts : FileParts) → result ≡ Err fault
+    → Opens old.file parts → new.file.failures ≡ old.file.failures → new.saved ≡ old.saved
+    → ScriptReadFails old.script new.script (at_first_line parts) old.printed mid → (result ≡ Err ReadFailed) × (Flushes mid new.printed ⊎ FailsToFlush mid new.printed) → StopsBy old new fault
+StopsBy-read old new mid result fault parts is opened of_file saved fails flush =
+    let out = flushed_or_not old.printed mid new.printed (answers (at_first_line parts) fails.lines) fails.printed flush.1 in
+    subst (λ (f : Fault). StopsBy old new f) (same_fault result ReadFailed fault flush.0 is)
+    (inr (record {
+      of_file = of_file;
+      failed = fails.failed;
+      parts = parts;
+      lines = fails.lines;
+      last = fails.last;
+      opened = opened;
+      reached = fails.reached;
+      short = fails.short;
+      printed = out.0;
+      flushed = out.1;
+      saved = saved;
+    }))
+
+-- a run whose answers can't be written
+StopsBy-write : (old new : Streams) (mid : SinkState) (result : Result (Unit {0}) Fault) (fault : Fault) (parts : FileParts) → result ≡ Err fault
+    → Opens old.file parts → new.file.failures ≡ old.file.failures → new.saved ≡ old.saved
+    → ScriptWriteFails old.script new.script (at_first_line parts) old.printed mid → (result ≡ Err WriteFailed) × (new.printed ≡ mid) → StopsBy old new fault
+StopsBy-write old new mid result fault parts is opened of_file saved fails flush =
+    subst (λ (f : Fault). StopsBy old new f) (same_fault result WriteFailed fault flush.0 is)
+    (inl (record {
+      read = record { of_file = of_file; of_script = fails.quiet };
+      parts = parts;
+      lines = fails.lines;
+      opened = opened;
+      reached = fails.reached;
+      printed = subst (λ (s : SinkState). PrintsFront (answers (at_first_line parts) fails.lines) old.printed s) (sym flush.1) fails.printed;
+      saved = saved;
+    }))
+
+-- a flush that ends a run whose script was answered whole
+flush_fails : (result : Result (Unit {0}) Fault) (done : Unit {0}) (fault : Fault) (mid out : SinkState) → result ≡ Err fault → FlushesThen (Ok done) result mid out → (result ≡ Err WriteFailed) × FailsToFlush mid out
+flush_fails result done fault mid out is (inl flush) = absurd (no_fault result done fault flush.0 is)
+flush_fails result done fault mid out is (inr flush) = flush
+
+-- a run that ends after its script, before saving
+pub StopsBy-script : (old new : Streams) (mid : SinkState) (answered result : Result (Unit {0}) Fault) (fault : Fault) (parts : FileParts) (now : Standing) → result ≡ Err fault
+    → Opens old.file parts → new.file.failures ≡ old.file.failures → new.saved ≡ old.saved
+    → OnOk answered (AnswersScript old.script new.script (at_first_line parts) now old.printed mid)
+    → IfErr answered (ScriptStops old.script new.script (at_first_line parts) old.printed mid)
+    → FlushesAnswers answered result mid new.printed → StopsBy old new fault
+StopsBy-script old new mid (Ok done) result fault parts now is opened of_file saved ok err flush =
+    StopsBy-done old new mid result fault parts now is opened of_file saved ok (flush_fails result done fault mid new.printed is flush)
+StopsBy-script old new mid (Err (Refused why)) result fault parts now is opened of_file saved ok err flush = absurd err
+StopsBy-script old new mid (Err ScriptTooLong) result fault parts now is opened of_file saved ok err flush = StopsBy-too_long old new mid result fault parts is opened of_file saved err flush
+StopsBy-script old new mid (Err Memory) result fault parts now is opened of_file saved ok err flush = StopsBy-memory old new mid result fault parts is opened of_file saved err.quiet err.at flush
+StopsBy-script old new mid (Err ReadFailed) result fault parts now is opened of_file saved ok err flush = StopsBy-read old new mid result fault parts is opened of_file saved err flush
+StopsBy-script old new mid (Err WriteFailed) result fault parts now is opened of_file saved ok err flush = StopsBy-write old new mid result fault parts is opened of_file saved err flush
+
+-- a script that was answered whole, and its answers flushed
+pub record IsFlushed (old new : SourceState) (parts : FileParts) (now : Standing) (held holds : SinkState) : Type 0 where
+  pub mid : SinkState
+  pub script : AnswersScript old new (at_first_line parts) now held mid
+  pub flush : Flushes mid holds
+
+-- nothing else is done
+pub flushed_done : (old new : SourceState) (parts : FileParts) (now : Standing) (held mid holds : SinkState) (answered result : Result (Unit {0}) Fault) (done : Unit {0}) → result ≡ Ok done
+    → OnOk answered (AnswersScript old new (at_first_line parts) now held mid) → FlushesAnswers answered result mid holds → IsFlushed old new parts now held holds
+flushed_done old new parts now held mid holds (Ok a) result done is ok (inl flush) = record { mid = mid; script = ok; flush = flush.1 }
+flushed_done old new parts now held mid holds (Ok a) result done is ok (inr flush) = absurd (no_fault result done WriteFailed is flush.0)
+flushed_done old new parts now held mid holds (Err (Refused why)) result done is ok (inl flush) = absurd (no_fault result done (Refused why) is flush.0)
+flushed_done old new parts now held mid holds (Err (Refused why)) result done is ok (inr flush) = absurd (no_fault result done WriteFailed is flush.0)
+flushed_done old new parts now held mid holds (Err ScriptTooLong) result done is ok (inl flush) = absurd (no_fault result done ScriptTooLong is flush.0)
+flushed_done old new parts now held mid holds (Err ScriptTooLong) result done is ok (inr flush) = absurd (no_fault result done WriteFailed is flush.0)
+flushed_done old new parts now held mid holds (Err Memory) result done is ok (inl flush) = absurd (no_fault result done Memory is flush.0)
+flushed_done old new parts now held mid holds (Err Memory) result done is ok (inr flush) = absurd (no_fault result done WriteFailed is flush.0)
+flushed_done old new parts now held mid holds (Err ReadFailed) result done is ok flush = absurd (no_fault result done ReadFailed is flush.0)
+flushed_done old new parts now held mid holds (Err WriteFailed) result done is ok flush = absurd (no_fault result done WriteFailed is flush.0)
+
+-- the file after the last line
+left_file : (parts : FileParts) (now : Standing) (lines : List (List ℕ)) → now ≡ standing_after (at_first_line parts) lines
+    → file_bytes now.file ≡ file_bytes (standing_after (at_first_line parts) lines).file
+left_file parts now lines left = ap (λ (s : Standing). file_bytes s.file) left
+
+-- a run whose file can't be saved
+pub StopsBy-saving : (old new : Streams) (fault : Fault) (parts : FileParts) (now : Standing) → Opens old.file parts → new.file.failures ≡ old.file.failures
+    → IsFlushed old.script new.script parts now old.printed new.printed → PrintFails (file_bytes now.file) old.saved new.saved fault → StopsBy old new fault
+StopsBy-saving old new fault parts now opened of_file flushed fails =
+    let done = flushed.script in
+    let lines : List (List ℕ) = script_lines done.lines done.last in
+    subst (λ (f : Fault). StopsBy old new f) (sym fails.0)
+    (inr (record {
+      read = record { of_file = of_file; of_script = done.quiet };
+      file = opened.bytes;
+      script = done.script;
+      output = output_of_lines parts lines;
+      told_file = opened.told;
+      told_script = script_told old.script.left new.script.left done.script done.read done.ended;
+      is = output_whole old.script new.script old.file parts now old.printed flushed.mid opened done;
+      whole = refl;
+      printed = Prints-flushed old.printed flushed.mid new.printed (answers (at_first_line parts) lines) done.answered.printed flushed.flush;
+      flushed = flushed.flush.flushed;
+      saved = subst (λ (t : List ℕ). PrintsFront t old.saved new.saved) (left_file parts now lines done.answered.left) fails.1;
+    }))
+
+-- a run to its end
+pub Succeeds-saved : (old new : Streams) (parts : FileParts) (now : Standing) → Opens old.file parts → new.file.failures ≡ old.file.failures
+    → IsFlushed old.script new.script parts now old.printed new.printed → Prints (file_bytes now.file) old.saved new.saved → new.saved.unflushed ≡ 0
+    → Succeeds old new (if now.any_refused then 1 else 0)
+Succeeds-saved old new parts now opened of_file flushed saved flush =
+    let done = flushed.script in
+    let lines : List (List ℕ) = script_lines done.lines done.last in
+    record {
+      run = record {
+        file = opened.bytes;
+        script = done.script;
+        output = output_of_lines parts lines;
+        told_file = opened.told;
+        told_script = script_told old.script.left new.script.left done.script done.read done.ended;
+        is = output_whole old.script new.script old.file parts now old.printed flushed.mid opened done;
+        printed = Prints-flushed old.printed flushed.mid new.printed (answers (at_first_line parts) lines) done.answered.printed flushed.flush;
+        saved = subst (λ (t : List ℕ). Prints t old.saved new.saved) (left_file parts now lines done.answered.left) saved;
+        status_is = ap status_of done.answered.left;
+        fault_is = refl;
+        read = record { of_file = of_file; of_script = done.quiet };
+      };
+      printed = flushed.flush.flushed;
+      saved = flush;
+    }

@@ -1,119 +1,230 @@
 -- A script's lines, answered one after another as they come.
-use Rattle.std.proofs.Common.{◌≡◌, ℕ, List, [], ◌∷◌, ◌++◌, map, refl, ap, sym, ◌∙◌, append_assoc, Option}
-use Rattle.std.specs.List.{list_any}
-use Rattle.std.proofs.lemmas.Bool.{or_from}
-use Rattle.std.proofs.lemmas.List.{append-nil, map-append}
-use Rattle.std.proofs.lemmas.List.Concat.{flat_map-append}
-use Rattle.std.proofs.lemmas.List.Elements.{All-append, All-cons, All-nil}
-use Rattle.std.proofs.lemmas.List.Folds.{list_any-append}
-use Rattle.fits_card.proofs.StreamLemmas.{Appends-none, Appends-more}
-use Rattle.fits_cli.specs.Script.{is_line_feed, HasNoLineFeed, ended_lines}
+use Rattle.std.proofs.Common.{◌≡◌, ℕ, zero, suc, ◌+◌, ◌<◌, List, [], ◌∷◌, ◌++◌, length, take, refl, ap, sym, ◌∙◌, append_assoc, arith, inl, inr}
+use Rattle.std.proofs.lemmas.Bool.{cases_lt}
+use Rattle.std.proofs.lemmas.List.{append-nil, take_all, take-append-le, length-take-le}
 use Rattle.fits_cli.specs.Answer.{Standing, line_answer, line_left}
+use Rattle.fits_cli.specs.Limits.{line_limit}
+use Rattle.fits_cli.specs.Line.{reading_of}
 use Rattle.fits_cli.specs.Output.{answers, standing_after}
-use Rattle.fits_cli.specs.Running.{AnswersLines, AnswersLine, HasCome, Continues}
-use Rattle.fits_cli.specs.declared.line.LineReading.{LineReading}
+use Rattle.fits_cli.specs.Running.{AnswersLine, AnswersLines, LineStops, LinesStop, HasCome, HasStopped, Continues, PieceStops, EndsScript, EndStops, kept_of}
+use Rattle.fits_cli.specs.Script.{HasNoLineFeed, script_lines}
+use Rattle.fits_cli.specs.Streams.{SinkState}
+use Rattle.fits_cli.specs.declared.fault.Fault.{Fault}
+use Rattle.fits_cli.specs.declared.fault.Fault.TheVariants.{Refused, ScriptTooLong, Memory, ReadFailed, WriteFailed}
+use Rattle.fits_cli.proofs.LinesLemmas.{IsCutInLines-none, IsCutInLines-open, IsCutInLines-line, IsCutInLines-append, a_cut}
+use Rattle.fits_cli.proofs.ReadingLemmas.{reading_of-kept_of}
+use Rattle.fits_cli.proofs.StreamLemmas.{Prints-none, Prints-more, PrintsFront-more, PrintsFront-longer}
 
 -- answers to lines, and to more lines
-pub answers-append : (s : Standing) (xs ys : List LineReading) → answers s (xs ++ ys) ≡ answers s xs ++ answers (standing_after s xs) ys
+pub answers-append : (s : Standing) (xs ys : List (List ℕ)) → answers s (xs ++ ys) ≡ answers s xs ++ answers (standing_after s xs) ys
 unfolding answers standing_after
 answers-append s [] ys = refl
 answers-append s (x ∷ xs) ys =
-    ap (λ t. line_answer s x ++ t) (answers-append (line_left s x) xs ys) ∙ sym (append_assoc (line_answer s x) (answers (line_left s x) xs) (answers (standing_after (line_left s x) xs) ys))
+    let next : Standing = line_left s (reading_of x) in
+    ap (λ t. line_answer s (reading_of x) ++ t) (answers-append next xs ys) ∙ sym (append_assoc (line_answer s (reading_of x)) (answers next xs) (answers (standing_after next xs) ys))
 
-pub standing_after-append : (s : Standing) (xs ys : List LineReading) → standing_after s (xs ++ ys) ≡ standing_after (standing_after s xs) ys
+-- how things stand after lines, and after more lines
+pub standing_after-append : (s : Standing) (xs ys : List (List ℕ)) → standing_after s (xs ++ ys) ≡ standing_after (standing_after s xs) ys
 unfolding standing_after
 standing_after-append s [] ys = refl
-standing_after-append s (x ∷ xs) ys = standing_after-append (line_left s x) xs ys
+standing_after-append s (x ∷ xs) ys = standing_after-append (line_left s (reading_of x)) xs ys
 
-answers-one : (s : Standing) (x : LineReading) → answers s (x ∷ []) ≡ line_answer s x
+-- the answer to one line
+answers-one : (s : Standing) (x : List ℕ) → answers s (x ∷ []) ≡ line_answer s (reading_of x)
 unfolding answers
-answers-one s x = append-nil (line_answer s x)
+answers-one s x = append-nil (line_answer s (reading_of x))
 
-standing_after-one : (s : Standing) (x : LineReading) → standing_after s (x ∷ []) ≡ line_left s x
+-- how things stand after one
+standing_after-one : (s : Standing) (x : List ℕ) → standing_after s (x ∷ []) ≡ line_left s (reading_of x)
 unfolding standing_after
 standing_after-one s x = refl
 
-answers-none : (s : Standing) → answers s [] ≡ []
+-- no line prints nothing
+pub answers-none : (s : Standing) → answers s [] ≡ []
 unfolding answers
 answers-none s = refl
 
+-- and leaves things as they stand
 standing_after-none : (s : Standing) → standing_after s [] ≡ s
 unfolding standing_after
 standing_after-none s = refl
 
 -- no line yet
-pub AnswersLines-none : (s : Standing) (held : Option (List ℕ)) → AnswersLines [] s s held held
-AnswersLines-none s held = record {
-  told = λ read reads. rw (answers-none s) (Appends-none held);
-  left = λ read reads. sym (standing_after-none s);
-}
+pub AnswersLines-none : (s : Standing) (held : SinkState) → AnswersLines [] s s held held
+AnswersLines-none s held = record { printed = rw (answers-none s) (Prints-none held); left = sym (standing_after-none s) }
+
+-- the answer to a line after others
+answers-next : (lines : List (List ℕ)) (line : List ℕ) (before now : Standing) → now ≡ standing_after before lines
+    → answers before (lines ++ line ∷ []) ≡ answers before lines ++ line_answer now (reading_of line)
+answers-next lines line before now left =
+    answers-append before lines (line ∷ []) ∙ ap (λ t. answers before lines ++ t) (ap (λ s. answers s (line ∷ [])) (sym left) ∙ answers-one now line)
 
 -- one more line
-pub AnswersLines-more : (lines : List (List ℕ)) (line : List ℕ) (before now next : Standing) (held holds more : Option (List ℕ))
+pub AnswersLines-more : (lines : List (List ℕ)) (line : List ℕ) (before now next : Standing) (held holds more : SinkState)
     → AnswersLines lines before now held holds → AnswersLine line now next holds more → AnswersLines (lines ++ line ∷ []) before next held more
 AnswersLines-more lines line before now next held holds more so_far one = record {
-  told = λ read reads.
-      let text : answers before (map read (lines ++ line ∷ [])) ≡ answers before (map read lines) ++ line_answer now (read line) =
-      ap (answers before) (map-append read lines (line ∷ [])) ∙ answers-append before (map read lines) (read line ∷ [])
-      ∙ ap (λ t. answers before (map read lines) ++ t) (ap (λ s. answers s (read line ∷ [])) (sym (so_far.left read reads)) ∙ answers-one now (read line)) in
-      rw text (Appends-more held holds more (answers before (map read lines)) (line_answer now (read line)) (so_far.told read reads) (one read reads).0);
-  left = λ read reads.
-      (one read reads).1 ∙ sym (ap (standing_after before) (map-append read lines (line ∷ [])) ∙ standing_after-append before (map read lines) (read line ∷ [])
-      ∙ ap (λ s. standing_after s (read line ∷ [])) (sym (so_far.left read reads)) ∙ standing_after-one now (read line));
+  printed = rw (answers-next lines line before now so_far.left) (Prints-more held holds more (answers before lines) (line_answer now (reading_of line)) so_far.printed one.printed);
+  left = one.left ∙ sym (standing_after-append before lines (line ∷ []) ∙ ap (λ s. standing_after s (line ∷ [])) (sym so_far.left) ∙ standing_after-one now line);
 }
+
+-- of two parts of a line as much is kept as of the first and what is kept of the second
+kept_of-more : (last piece : List ℕ) → kept_of (kept_of last ++ piece) ≡ kept_of (last ++ piece)
+unfolding kept_of
+kept_of-more last piece =
+    let n : ℕ = line_limit + 1 in
+    elim (cases_lt n (length last)) [
+      | inl long ↦
+          let size : length (take n last) ≡ n = length-take-le n last (omega (arith, long)) in
+          take-append-le n (take n last) piece (omega (arith, size)) ∙ take_all n (take n last) (omega (arith, size)) ∙ sym (take-append-le n last piece (omega (arith, long)))
+      | inr short ↦ ap (λ t. take n (t ++ piece)) (take_all n last short)
+    ]
 
 -- nothing has come yet
-pub HasCome-none : (s : Standing) (held : Option (List ℕ)) → HasCome [] [] s s held held
-HasCome-none s held = record {
-  lines = [];
-  cut = record { joined = refl; whole = All-nil HasNoLineFeed; open_end = refl };
-  answered = AnswersLines-none s held;
-}
-
-no_line_feed-append : (xs ys : List ℕ) → HasNoLineFeed xs → HasNoLineFeed ys → HasNoLineFeed (xs ++ ys)
-no_line_feed-append xs ys p q = list_any-append is_line_feed xs ys ∙ or_from (list_any is_line_feed xs) (list_any is_line_feed ys) p q
+pub HasCome-none : (s : Standing) (held : SinkState) → HasCome [] [] s s held held
+unfolding kept_of
+HasCome-none s held = record { lines = []; last = []; cut = IsCutInLines-none; kept_is = refl; answered = AnswersLines-none s held }
 
 -- more of the open end
-pub HasCome-open : (script line piece : List ℕ) (before now : Standing) (held holds : Option (List ℕ)) → HasNoLineFeed piece
-    → HasCome script line before now held holds → HasCome (script ++ piece) (line ++ piece) before now held holds
-HasCome-open script line piece before now held holds none come = record {
+HasCome-open : (script kept piece : List ℕ) (before now : Standing) (held holds : SinkState) → HasNoLineFeed piece
+    → HasCome script kept before now held holds → HasCome (script ++ piece) (kept_of (kept ++ piece)) before now held holds
+HasCome-open script kept piece before now held holds none come = record {
   lines = come.lines;
-  cut = record {
-    joined = ap (λ t. t ++ piece) come.cut.joined ∙ append_assoc (ended_lines come.lines) line piece;
-    whole = come.cut.whole;
-    open_end = no_line_feed-append line piece come.cut.open_end none;
-  };
+  last = come.last ++ piece;
+  cut = IsCutInLines-open script piece come.last come.lines none come.cut;
+  kept_is = ap (λ t. kept_of (t ++ piece)) come.kept_is ∙ kept_of-more come.last piece;
   answered = come.answered;
 }
 
-ended_lines-more : (lines : List (List ℕ)) (line : List ℕ) → ended_lines (lines ++ line ∷ []) ≡ ended_lines lines ++ (line ++ 10 ∷ [])
-ended_lines-more lines line = flat_map-append (λ l. l ++ 10 ∷ []) lines (line ∷ []) ∙ ap (λ t. ended_lines lines ++ t) (append-nil (line ++ 10 ∷ []))
+-- a line of which this is kept is answered
+AnswersLine-kept : (kept line : List ℕ) (before now : Standing) (held holds : SinkState) → kept ≡ kept_of line → AnswersLine kept before now held holds → AnswersLine line before now held holds
+AnswersLine-kept kept line before now held holds is one =
+    let same : reading_of kept ≡ reading_of line = ap reading_of is ∙ reading_of-kept_of line in
+    record { printed = rw (← same) one.printed; left = one.left ∙ ap (line_left before) same }
+
+-- or it isn't
+LineStops-kept : (kept line : List ℕ) (before : Standing) (held holds : SinkState) (fault : Fault) → kept ≡ kept_of line → LineStops kept before held holds fault → LineStops line before held holds fault
+LineStops-kept kept line before held holds (Refused why) is stops = stops
+LineStops-kept kept line before held holds ScriptTooLong is stops = stops
+LineStops-kept kept line before held holds Memory is stops = (rw (← (ap reading_of is ∙ reading_of-kept_of line)) stops.0, stops.1)
+LineStops-kept kept line before held holds ReadFailed is stops = stops
+LineStops-kept kept line before held holds WriteFailed is stops = rw (← (ap reading_of is ∙ reading_of-kept_of line)) stops
 
 -- a line feed, and the line before it is answered
-pub HasCome-line : (script line : List ℕ) (before now next : Standing) (held holds more : Option (List ℕ))
-    → HasCome script line before now held holds → AnswersLine line now next holds more → HasCome (script ++ 10 ∷ []) [] before next held more
-HasCome-line script line before now next held holds more come one = record {
-  lines = come.lines ++ line ∷ [];
-  cut = record {
-    joined = ap (λ t. t ++ 10 ∷ []) come.cut.joined ∙ append_assoc (ended_lines come.lines) line (10 ∷ []) ∙ sym (ended_lines-more come.lines line) ∙ sym (append-nil (ended_lines (come.lines ++ line ∷ [])));
-    whole = All-append HasNoLineFeed come.lines (line ∷ []) come.cut.whole (All-cons HasNoLineFeed line [] come.cut.open_end (All-nil HasNoLineFeed));
-    open_end = refl;
-  };
-  answered = AnswersLines-more come.lines line before now next held holds more come.answered one;
+HasCome-line : (script kept : List ℕ) (before now next : Standing) (held holds more : SinkState)
+    → HasCome script kept before now held holds → AnswersLine kept now next holds more → HasCome (script ++ 10 ∷ []) [] before next held more
+unfolding kept_of
+HasCome-line script kept before now next held holds more come one = record {
+  lines = come.lines ++ come.last ∷ [];
+  last = [];
+  cut = IsCutInLines-line script come.last come.lines come.cut;
+  kept_is = refl;
+  answered = AnswersLines-more come.lines come.last before now next held holds more come.answered (AnswersLine-kept kept come.last now next holds more come.kept_is one);
 }
 
--- the pieces of a script that follow
-pub Continues-none : (line : List ℕ) (s : Standing) (held : Option (List ℕ)) → Continues [] line line s s held held
-Continues-none line s held script first start come = rw (append-nil script) come
+-- a line after others isn't answered
+pub LinesStop-line : (lines others : List (List ℕ)) (line : List ℕ) (before now : Standing) (held holds more : SinkState) (fault : Fault)
+    → AnswersLines lines before now held holds → LineStops line now holds more fault → LinesStop (lines ++ line ∷ others) before held more fault
+LinesStop-line lines others line before now held holds more (Refused why) so_far stops = stops
+LinesStop-line lines others line before now held holds more ScriptTooLong so_far stops = stops
+LinesStop-line lines others line before now held holds more Memory so_far stops = record {
+  done = lines;
+  line = line;
+  others = others;
+  split = refl;
+  needs = rw (← so_far.left) stops.0;
+  printed = rw stops.1 so_far.printed;
+}
+LinesStop-line lines others line before now held holds more ReadFailed so_far stops = stops
+LinesStop-line lines others line before now held holds more WriteFailed so_far stops =
+    let split : (lines ++ line ∷ []) ++ others ≡ lines ++ line ∷ others = append_assoc lines (line ∷ []) others in
+    let all : answers before (lines ++ line ∷ others) ≡ (answers before lines ++ line_answer now (reading_of line)) ++ answers (standing_after before (lines ++ line ∷ [])) others =
+    ap (answers before) (sym split) ∙ answers-append before (lines ++ line ∷ []) others ∙ ap (λ t. t ++ answers (standing_after before (lines ++ line ∷ [])) others) (answers-next lines line before now so_far.left) in
+    rw all (PrintsFront-longer held more (answers before lines ++ line_answer now (reading_of line)) (answers (standing_after before (lines ++ line ∷ [])) others)
+    (PrintsFront-more held holds more (answers before lines) (line_answer now (reading_of line)) so_far.printed stops))
 
-pub Continues-open : (piece rest line_before line_now : List ℕ) (before now : Standing) (held holds : Option (List ℕ)) → Continues piece line_before line_now before now held holds → HasNoLineFeed rest
-    → Continues (piece ++ rest) line_before (line_now ++ rest) before now held holds
-Continues-open piece rest line_before line_now before now held holds so_far none script first start come =
-    rw (← append_assoc script piece rest) (HasCome-open (script ++ piece) line_now rest first now start holds none (so_far script first start come))
+-- a line of a piece isn't answered, whatever follows it
+HasStopped-line : (script kept next : List ℕ) (before now : Standing) (held holds more : SinkState) (fault : Fault)
+    → HasCome script kept before now held holds → LineStops kept now holds more fault → HasStopped (script ++ 10 ∷ next) before held more fault
+HasStopped-line script kept next before now held holds more fault come stops =
+    let rest = a_cut next in
+    record {
+      lines = come.lines ++ come.last ∷ rest.lines;
+      last = rest.last;
+      cut =
+          rw (← append_assoc script (10 ∷ []) next, ← append_assoc come.lines (come.last ∷ []) rest.lines)
+          (IsCutInLines-append (script ++ 10 ∷ []) next rest.last (come.lines ++ come.last ∷ []) rest.lines (IsCutInLines-line script come.last come.lines come.cut) rest.cut);
+      stops = LinesStop-line come.lines rest.lines come.last before now held holds more fault come.answered (LineStops-kept kept come.last now holds more fault come.kept_is stops);
+    }
 
-pub Continues-line : (piece front line_before line_now : List ℕ) (before now next : Standing) (held holds more : Option (List ℕ)) → Continues piece line_before line_now before now held holds
-    → HasNoLineFeed front → AnswersLine (line_now ++ front) now next holds more → Continues (piece ++ (front ++ 10 ∷ [])) line_before [] before next held more
-Continues-line piece front line_before line_now before now next held holds more so_far none one script first start come =
-    let opened = HasCome-open (script ++ piece) line_now front first now start holds none (so_far script first start come) in
-    let ended = HasCome-line ((script ++ piece) ++ front) (line_now ++ front) first now next start holds more opened one in
-    rw (append_assoc (script ++ piece) front (10 ∷ []) ∙ append_assoc script piece (front ++ 10 ∷ [])) at ended
+-- no piece yet
+pub Continues-none : (kept : List ℕ) (s : Standing) (held : SinkState) → Continues [] kept kept s s held held
+Continues-none kept s held script first start come = rw (append-nil script) come
+
+-- a piece without a line feed
+pub Continues-open : (done rest kept_before kept_now kept_next : List ℕ) (before now : Standing) (held holds : SinkState)
+    → Continues done kept_before kept_now before now held holds → HasNoLineFeed rest → kept_next ≡ kept_of (kept_now ++ rest)
+    → Continues (done ++ rest) kept_before kept_next before now held holds
+Continues-open done rest kept_before kept_now kept_next before now held holds so_far none is script first start come =
+    rw (is, ← append_assoc script done rest) (HasCome-open (script ++ done) kept_now rest first now start holds none (so_far script first start come))
+
+-- a line of a piece
+pub Continues-line : (done front kept_before kept_now kept : List ℕ) (before now next : Standing) (held holds more : SinkState)
+    → Continues done kept_before kept_now before now held holds → HasNoLineFeed front → kept ≡ kept_of (kept_now ++ front)
+    → AnswersLine kept now next holds more → Continues (done ++ (front ++ 10 ∷ [])) kept_before [] before next held more
+Continues-line done front kept_before kept_now kept before now next held holds more so_far none is one script first start come =
+    let opened = HasCome-open (script ++ done) kept_now front first now start holds none (so_far script first start come) in
+    let ended = HasCome-line ((script ++ done) ++ front) (kept_of (kept_now ++ front)) first now next start holds more opened (rw is at one) in
+    rw (append_assoc (script ++ done) front (10 ∷ []) ∙ append_assoc script done (front ++ 10 ∷ [])) at ended
+
+-- or a line of it isn't answered
+pub PieceStops-line : (done front next kept_before kept_now kept : List ℕ) (before now : Standing) (held holds more : SinkState) (fault : Fault)
+    → Continues done kept_before kept_now before now held holds → HasNoLineFeed front → kept ≡ kept_of (kept_now ++ front)
+    → LineStops kept now holds more fault → PieceStops (done ++ (front ++ 10 ∷ next)) kept_before before held more fault
+PieceStops-line done front next kept_before kept_now kept before now held holds more fault so_far none is stops script first start come =
+    let opened = HasCome-open (script ++ done) kept_now front first now start holds none (so_far script first start come) in
+    let stopped = HasStopped-line ((script ++ done) ++ front) (kept_of (kept_now ++ front)) next first now start holds more fault opened (rw is at stops) in
+    rw (append_assoc (script ++ done) front (10 ∷ next) ∙ append_assoc script done (front ++ 10 ∷ next)) at stopped
+
+-- nothing is taken of nothing alone
+nothing_taken : (n : ℕ) (xs : List ℕ) → 0 < n → length (take n xs) ≡ 0 → xs ≡ []
+nothing_taken zero xs some e = absurd (omega arith)
+nothing_taken (suc n) [] some e = refl
+nothing_taken (suc n) (x ∷ xs) some e = absurd (omega (arith, e))
+
+-- so where nothing is kept, nothing is there
+kept_of-nothing : (last : List ℕ) → length (kept_of last) ≡ 0 → last ≡ []
+unfolding kept_of
+kept_of-nothing last e = nothing_taken (line_limit + 1) last (omega arith) e
+
+-- nothing after the last line feed
+pub EndsScript-none : (kept : List ℕ) (s : Standing) (held : SinkState) → length kept ≡ 0 → EndsScript kept s s held held
+EndsScript-none kept s held empty lines last first start is answered =
+    let nothing : last ≡ [] = kept_of-nothing last (sym (ap length is) ∙ empty) in
+    rw nothing answered
+
+-- the lines of a script with a last piece
+lines_with_last : (lines : List (List ℕ)) (last : List ℕ) → 0 < length last → script_lines lines last ≡ lines ++ last ∷ []
+lines_with_last lines [] some = absurd (omega arith)
+lines_with_last lines (byte ∷ bytes) some = refl
+
+-- something is taken of something alone
+something_taken : (n : ℕ) (xs : List ℕ) → 0 < length (take n xs) → 0 < length xs
+something_taken zero xs some = absurd (omega arith)
+something_taken (suc n) [] some = absurd (omega arith)
+something_taken (suc n) (x ∷ xs) some = omega arith
+
+-- so where something is kept, something is there
+kept_of-some : (kept last : List ℕ) → 0 < length kept → kept ≡ kept_of last → 0 < length last
+unfolding kept_of
+kept_of-some kept last some is = something_taken (line_limit + 1) last (omega (arith, some, ap length is))
+
+-- a line after the last line feed
+pub EndsScript-line : (kept : List ℕ) (before now : Standing) (held holds : SinkState) → 0 < length kept → AnswersLine kept before now held holds → EndsScript kept before now held holds
+EndsScript-line kept before now held holds some one lines last first start is answered =
+    rw (lines_with_last lines last (kept_of-some kept last some is)) (AnswersLines-more lines last first before now start held holds answered (AnswersLine-kept kept last before now held holds is one))
+
+-- or it isn't answered
+pub EndStops-line : (kept : List ℕ) (before : Standing) (held holds : SinkState) (fault : Fault) → 0 < length kept → LineStops kept before held holds fault → EndStops kept before held holds fault
+EndStops-line kept before held holds fault some stops lines last first start is answered =
+    rw (lines_with_last lines last (kept_of-some kept last some is))
+    (LinesStop-line lines [] last first before start held holds fault answered (LineStops-kept kept last before held holds fault is stops))

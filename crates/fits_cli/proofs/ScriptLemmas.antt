@@ -1,44 +1,156 @@
--- A script to its end, or as far as its limit.
-use Rattle.std.proofs.Common.{◌≡◌, ℕ, ◌-◌, ◌<◌, ◌≤◌, List, [], ◌∷◌, length, take, refl, ◌∙◌, arith, inl, inr, true, false, Option, None, Some}
-use Rattle.std.proofs.lemmas.Bool.{cases_lt}
-use Rattle.std.proofs.lemmas.List.{take_all}
-use Rattle.std.specs.Io.KnownBytes.{Consumes, IsAtEnd}
-use Rattle.fits_card.specs.Stream.{TakesUpTo}
-use Rattle.fits_card.proofs.StreamLemmas.{TakesUpTo-end, TakesUpTo-over}
-use Rattle.fits_cli.specs.Limits.{script_limit}
+-- A script to its end, as far as its limit, or as far as it could be answered.
+use Rattle.std.proofs.Common.{◌≡◌, ℕ, ◌+◌, ◌-◌, ◌<◌, ◌≤◌, List, [], ◌++◌, length, take, refl, ap, sym, ◌∙◌, arith, inl, inr, Option, None, Some}
+use Rattle.std.proofs.lemmas.List.{append-nil, take_all, take-append-le, take-take, length-append, length-take-le}
+use Rattle.std.proofs.Math.Seq.{take-append-add}
+use Rattle.std.specs.Io.KnownBytes.{Consumes, IsAtEnd, Keeps}
+use Rattle.fits_card.proofs.StreamLemmas.{Consumes-more}
 use Rattle.fits_cli.specs.Answer.{Standing}
-use Rattle.fits_cli.specs.Running.{AnswersLine, HasCome, Continues, EndsScript, AnswersScript, AnswersTooLong}
-use Rattle.fits_cli.proofs.RunLemmas.{AnswersLines-more}
+use Rattle.fits_cli.specs.Ends.{CameTo, HasLines}
+use Rattle.fits_cli.specs.Limits.{script_limit}
+use Rattle.fits_cli.specs.Running.{HasCome, HasStopped, Continues, PieceStops, LinesStop, EndsScript, EndStops, AnswersScript, AnswersTooLong, ScriptStops, ScriptReadFails}
+use Rattle.fits_cli.specs.Script.{IsCutInLines, script_lines}
+use Rattle.fits_cli.specs.Streams.{SourceState, SinkState, Tells}
+use Rattle.fits_cli.specs.declared.fault.Fault.{Fault}
+use Rattle.fits_cli.specs.declared.fault.Fault.TheVariants.{Refused, ScriptTooLong, Memory, ReadFailed, WriteFailed}
 
--- nothing behind the last line feed
-pub EndsScript-none : (line : List ℕ) (s : Standing) (held : Option (List ℕ)) → length line ≡ 0 → EndsScript line s s held held
-EndsScript-none [] s held e lines first start answered = answered
-EndsScript-none (byte ∷ bytes) s held e lines first start answered = absurd (omega arith)
+-- bytes within a limit are all taken
+within_limit : (limit : ℕ) (bytes : List ℕ) → length bytes ≤ limit → take limit bytes ≡ bytes
+within_limit limit bytes short = take_all limit bytes short
 
--- a line behind it
-pub EndsScript-line : (line : List ℕ) (before now : Standing) (held holds : Option (List ℕ)) → 0 < length line → AnswersLine line before now held holds → EndsScript line before now held holds
-EndsScript-line [] before now held holds some one lines first start answered = absurd (omega arith)
-EndsScript-line (byte ∷ bytes) before now held holds some one lines first start answered = AnswersLines-more lines (byte ∷ bytes) first before now start held holds answered one
+-- what came within the limit, cut into lines
+came_within : (old new : SourceState) (came last : List ℕ) (lines : List (List ℕ)) → Consumes old.left new.left came → length came ≤ script_limit → IsCutInLines came lines last → CameTo old new lines last
+came_within old new came last lines read short cut = record { came = came; read = read; cut = rw (within_limit script_limit came short) cut }
 
-pub ruleset last_steps = (EndsScript-none, EndsScript-line)
+-- what a failed read leaves
+kept_bytes : (a b c : Option (List ℕ)) (came : List ℕ) → Consumes a b came → Keeps b c → Consumes a c came
+kept_bytes None b c came p q = tt
+kept_bytes (Some xs) None c came p q = absurd p
+kept_bytes (Some xs) (Some ys) None came p q = absurd q
+kept_bytes (Some xs) (Some ys) (Some zs) came p q = p ∙ ap (λ t. came ++ t) (sym q)
 
--- what was read is all
-whole : (xs come : List ℕ) (limit : ℕ) → TakesUpTo (Some xs) limit come false → (length xs ≤ limit) × (come ≡ xs)
-whole xs come limit t =
-    let within : length xs ≤ limit = elim (cases_lt limit (length xs)) [ inl over ↦ absurd (let z : false ≡ true = t.1.1 over in cc) | inr le ↦ le ] in
-    (within, t.0 ∙ take_all limit xs within)
+-- a read fails after these bytes came
+pub ScriptReadFails-after : (old mid new : SourceState) (came kept : List ℕ) (before now : Standing) (held holds : SinkState)
+    → Consumes old.left mid.left came → Keeps mid.left new.left → length came ≤ script_limit → new.failures ≡ old.failures + 1
+    → HasCome came kept before now held holds → ScriptReadFails old new before held holds
+unfolding came_within
+ScriptReadFails-after old mid new came kept before now held holds read keeps short failed come = record {
+  failed = failed;
+  lines = come.lines;
+  last = come.last;
+  reached = came_within old new came come.last come.lines (kept_bytes old.left mid.left new.left came read keeps) short come.cut;
+  short = short;
+  printed = come.answered.printed;
+}
 
-pub AnswersScript-end : (a b : Option (List ℕ)) (come line : List ℕ) (before now next : Standing) (held holds more : Option (List ℕ)) → Consumes a b come → IsAtEnd b → length come ≤ script_limit
-    → HasCome come line before now held holds → EndsScript line now next holds more → AnswersScript a before next held more
-AnswersScript-end None b come line before now next held holds more p e le has ends = tt
-AnswersScript-end (Some xs) b come line before now next held holds more p e le has ends =
-    let all = whole xs come script_limit (TakesUpTo-end (Some xs) b come script_limit p e le) in
-    (all.0, has.lines, line, rw all.1 at has.cut, ends has.lines before held has.answered)
+-- lines of a script that aren't all answered
+ScriptStops-lines : (old new : SourceState) (lines : List (List ℕ)) (before : Standing) (held holds : SinkState) (fault : Fault)
+    → HasLines old new lines → new.failures ≡ old.failures → LinesStop lines before held holds fault → ScriptStops old new before held holds fault
+ScriptStops-lines old new lines before held holds (Refused why) has quiet stops = stops
+ScriptStops-lines old new lines before held holds ScriptTooLong has quiet stops = absurd stops
+ScriptStops-lines old new lines before held holds Memory has quiet stops = record { quiet = quiet; at = inr (lines, has, stops) }
+ScriptStops-lines old new lines before held holds ReadFailed has quiet stops = absurd stops
+ScriptStops-lines old new lines before held holds WriteFailed has quiet stops = record { quiet = quiet; lines = lines; reached = has; printed = stops }
 
-pub AnswersTooLong-over : (a b c : Option (List ℕ)) (come line : List ℕ) (before now next : Standing) (held holds more : Option (List ℕ)) (n : ℕ) (buffer line_now : List ℕ)
-    → Consumes a b come → Consumes b c (take n buffer) → length come ≤ script_limit → script_limit - length come < n → n ≤ length buffer
-    → HasCome come line before now held holds → Continues (take (script_limit - length come) buffer) line line_now now next holds more → AnswersTooLong a before next held more
-AnswersTooLong-over None b c come line before now next held holds more n buffer line_now p q le over within has continues = tt
-AnswersTooLong-over (Some xs) b c come line before now next held holds more n buffer line_now p q le over within has continues =
-    let t = TakesUpTo-over (Some xs) b c come script_limit n buffer p q le over within in
-    (t.1.0 refl, line_now, rw t.0 at (continues come before held has))
+-- lines that came aren't all answered
+ScriptStops-came : (old new : SourceState) (came text : List ℕ) (before : Standing) (held holds : SinkState) (fault : Fault)
+    → Consumes old.left new.left came → take script_limit came ≡ text → new.failures ≡ old.failures
+    → HasStopped text before held holds fault → ScriptStops old new before held holds fault
+ScriptStops-came old new came text before held holds fault read within quiet stopped =
+    ScriptStops-lines old new stopped.lines before held holds fault
+    (record { whole = stopped.lines; last = stopped.last; reached = record { came = came; read = read; cut = rw within stopped.cut }; are = inl refl })
+    quiet stopped.stops
+
+-- a piece within the limit isn't answered
+pub ScriptStops-piece : (old mid new : SourceState) (came piece kept : List ℕ) (before now : Standing) (held holds more : SinkState) (fault : Fault)
+    → Consumes old.left mid.left came → Consumes mid.left new.left piece → length came + length piece ≤ script_limit → new.failures ≡ old.failures
+    → HasCome came kept before now held holds → PieceStops piece kept now holds more fault → ScriptStops old new before held more fault
+ScriptStops-piece old mid new came piece kept before now held holds more fault read next short quiet come stops =
+    ScriptStops-came old new (came ++ piece) (came ++ piece) before held more fault (Consumes-more old.left mid.left new.left came piece read next)
+    (within_limit script_limit (came ++ piece) (omega (arith, short, length-append came piece))) quiet (stops came before held come)
+
+-- what came as far as the limit, where it goes past it
+over_limit : (limit n : ℕ) (came buffer : List ℕ) → length came ≤ limit → limit - length came ≤ n → n ≤ length buffer
+    → take limit (came ++ take n buffer) ≡ came ++ take (limit - length came) buffer
+over_limit limit n came buffer short over within =
+    let whole : limit ≡ length came + (limit - length came) = omega (arith, short) in
+    ap (λ k. take k (came ++ take n buffer)) whole ∙ take-append-add came (take n buffer) (limit - length came) ∙ ap (λ t. came ++ t) (take-take (limit - length came) n buffer (omega (arith, over)))
+
+-- a piece that goes past the limit isn't answered as far as it
+pub ScriptStops-over : (old mid new : SourceState) (n : ℕ) (came buffer kept : List ℕ) (before now : Standing) (held holds more : SinkState) (fault : Fault)
+    → Consumes old.left mid.left came → Consumes mid.left new.left (take n buffer) → length came ≤ script_limit → script_limit - length came < n → n ≤ length buffer
+    → new.failures ≡ old.failures → HasCome came kept before now held holds
+    → PieceStops (take (script_limit - length came) buffer) kept now holds more fault → ScriptStops old new before held more fault
+ScriptStops-over old mid new n came buffer kept before now held holds more fault read next short over within quiet come stops =
+    ScriptStops-came old new (came ++ take n buffer) (came ++ take (script_limit - length came) buffer) before held more fault
+    (Consumes-more old.left mid.left new.left came (take n buffer) read next) (over_limit script_limit n came buffer short (omega (arith, over)) within) quiet (stops came before held come)
+
+-- the bytes that a source had, of which these came first
+source_bytes : (a b : Option (List ℕ)) (came : List ℕ) → Consumes a b came → (bytes : List ℕ) × (rest : List ℕ) × Tells a bytes × (bytes ≡ came ++ rest)
+source_bytes None b came read = (came, [], tt, sym (append-nil came))
+source_bytes (Some xs) None came read = absurd read
+source_bytes (Some xs) (Some ys) came read = (xs, ys, refl, read)
+
+-- a prefix is a prefix of what goes on
+take_longer : (limit : ℕ) (came rest : List ℕ) → limit ≤ length came → take limit (came ++ rest) ≡ take limit came
+take_longer limit came rest within = take-append-le limit came rest within
+
+-- a script that goes past its limit
+pub AnswersTooLong-over : (old mid new : SourceState) (n : ℕ) (came buffer kept kept_now : List ℕ) (before now next : Standing) (held holds more : SinkState)
+    → Consumes old.left mid.left came → Consumes mid.left new.left (take n buffer) → length came ≤ script_limit → script_limit - length came < n → n ≤ length buffer
+    → new.failures ≡ old.failures → HasCome came kept before now held holds
+    → Continues (take (script_limit - length came) buffer) kept kept_now now next holds more → AnswersTooLong old new before held more
+AnswersTooLong-over old mid new n came buffer kept kept_now before now next held holds more read after short over within quiet come continues =
+    let all : List ℕ = came ++ take n buffer in
+    let read_all : Consumes old.left new.left all = Consumes-more old.left mid.left new.left came (take n buffer) read after in
+    let script = source_bytes old.left new.left all read_all in
+    let size : length all ≡ length came + n = length-append came (take n buffer) ∙ ap (λ k. length came + k) (length-take-le n buffer within) in
+    let front : take script_limit all ≡ came ++ take (script_limit - length came) buffer = over_limit script_limit n came buffer short (omega (arith, over)) within in
+    let answered = continues came before held come in
+    record {
+      script = script.0;
+      lines = answered.lines;
+      last = answered.last;
+      told = script.2;
+      long = omega (arith, size, ap length script.3, length-append all script.1, over, short);
+      quiet = quiet;
+      reached = record { came = all; read = read_all; cut = rw front answered.cut };
+      cut = rw (script.3, take_longer script_limit all script.1 (omega (arith, size, over, short)), front) answered.cut;
+      printed = answered.answered.printed;
+    }
+
+-- nothing more is read
+read_at_end : (a b c : Option (List ℕ)) (n : ℕ) (came buffer : List ℕ) → Consumes a b came → Consumes b c (take n buffer) → n ≡ 0 → Consumes a c came
+read_at_end a b c n came buffer read none zero =
+    let nothing : take n buffer ≡ [] = ap (λ k. take k buffer) zero in
+    rw (← append-nil came) (Consumes-more a b c came [] read (rw nothing at none))
+
+-- the whole script is answered
+pub AnswersScript-end : (old mid new : SourceState) (n : ℕ) (came buffer kept : List ℕ) (before now next : Standing) (held holds more : SinkState)
+    → Consumes old.left mid.left came → Consumes mid.left new.left (take n buffer) → n ≡ 0 → IsAtEnd new.left → length came ≤ script_limit → new.failures ≡ old.failures
+    → HasCome came kept before now held holds → EndsScript kept now next holds more → AnswersScript old new before next held more
+AnswersScript-end old mid new n came buffer kept before now next held holds more read none zero ended short quiet come ends = record {
+  script = came;
+  lines = come.lines;
+  last = come.last;
+  read = read_at_end old.left mid.left new.left n came buffer read none zero;
+  ended = ended;
+  quiet = quiet;
+  short = short;
+  cut = come.cut;
+  answered = ends come.lines come.last before held come.kept_is come.answered;
+}
+
+-- its last line isn't answered
+pub ScriptStops-end : (old mid new : SourceState) (n : ℕ) (came buffer kept : List ℕ) (before now : Standing) (held holds more : SinkState) (fault : Fault)
+    → Consumes old.left mid.left came → Consumes mid.left new.left (take n buffer) → n ≡ 0 → IsAtEnd new.left → length came ≤ script_limit → new.failures ≡ old.failures
+    → HasCome came kept before now held holds → EndStops kept now holds more fault → ScriptStops old new before held more fault
+unfolding came_within
+ScriptStops-end old mid new n came buffer kept before now held holds more fault read none zero ended short quiet come stops =
+    ScriptStops-lines old new (script_lines come.lines come.last) before held more fault
+    (record {
+      whole = come.lines;
+      last = come.last;
+      reached = came_within old new came come.last come.lines (read_at_end old.left mid.left new.left n came buffer read none zero) short come.cut;
+      are = inr (ended, short, refl);
+    })
+    quiet (stops come.lines come.last before held come.kept_is come.answered)

@@ -1,9 +1,14 @@
 pub mod Answer
+pub mod Cut
+pub mod Ends
+pub mod Faults
 pub mod Limits
 pub mod Line
 pub mod Listing
 pub mod Output
-pub mod Runner
+pub mod Reply
 pub mod Running
 pub mod Script
+pub mod Streams
+pub mod Telling
 pub mod ValueLine

@@ -1,6 +1,7 @@
 -- The lines of a script: which bytes are which command (own).
-use Rattle.std.specs.Prelude.{◌≡◌, ◌⊎◌, ℕ, ◌-◌, ◌<◌, ◌≤◌, false, IsTrue, List, [], ◌∷◌, ◌++◌, length, replicate, codes, Option, None, Some, unwrap_or}
+use Rattle.std.specs.Prelude.{ℕ, ◌-◌, ◌&&◌, ◌==◌, not, nat_le, List, [], ◌∷◌, ◌++◌, length, replicate, codes, Option, None, Some, option_and_then, unwrap_or, if◌then◌else◌}
 use Rattle.std.specs.List.{list_all, list_any}
+use Rattle.std.specs.Str.{bytes_eq}
 use Rattle.fits_card.specs.Card.{card_of_text}
 use Rattle.fits_value.specs.Number.{value_of}
 use Rattle.fits_value.specs.Spelling.{is_digit, is_space}
@@ -11,71 +12,99 @@ use Rattle.fits_cli.specs.declared.command.Command.TheVariants.{Nothing, Edit, O
 use Rattle.fits_cli.specs.declared.line.LineReading.{LineReading}
 use Rattle.fits_cli.specs.declared.line.LineReading.TheVariants.{TooLong, NoCommand, Said}
 
--- a word has no space in it
-abbrev pub HasNoSpace : List ℕ → Type 0
-HasNoSpace text = list_any is_space text ≡ false
+-- the first word of a text: its bytes before the first space, or all of them
+unfoldable pub first_word : List ℕ → List ℕ
+first_word [] = []
+first_word (byte ∷ bytes) = if is_space byte then [] else byte ∷ first_word bytes
 
--- the text is a word alone, or a word, one space and what follows it
-abbrev pub BeginsWithWord : List ℕ → List ℕ → Option (List ℕ) → Type 0
-BeginsWithWord text word None = HasNoSpace word × (text ≡ word)
-BeginsWithWord text word (Some rest) = HasNoSpace word × (text ≡ word ++ 32 ∷ rest)
+-- what follows that space, if there is one
+unfoldable pub after_word : List ℕ → Option (List ℕ)
+after_word [] = None
+after_word (byte ∷ bytes) = if is_space byte then Some bytes else after_word bytes
 
--- 1 to 18 digits, and their number
-pub record IsNumber (word : List ℕ) (number : ℕ) : Type 0 where
-  pub digits : IsTrue (list_all is_digit word)
-  pub some : 1 ≤ length word
-  pub few : length word ≤ 18
-  pub value : number ≡ value_of word
+-- what follows from one part of a line; where the part is missing, nothing does
+infixl 10 ◌>>=◌
+abbrev pub ◌>>=◌ : {X Y : Type 0} → Option X → (X → Option Y) → Option Y
+part >>= next = option_and_then next part
 
--- `ins H P CARD`: CARD is the rest of the line, of at most 80 bytes; it may be empty without the space before it
-pub record IsInsert (line : List ℕ) (hdu place : ℕ) (card : List ℕ) : Type 0 where
-  pub behind_ins : List ℕ
-  pub hdu_word : List ℕ
-  pub behind_hdu : List ℕ
-  pub place_word : List ℕ
-  pub text : Option (List ℕ)
-  pub ins : BeginsWithWord line (codes "ins") (Some behind_ins)
-  pub first : BeginsWithWord behind_ins hdu_word (Some behind_hdu)
-  pub second : BeginsWithWord behind_hdu place_word text
-  pub is_hdu : IsNumber hdu_word hdu
-  pub is_place : IsNumber place_word place
-  pub short : length (unwrap_or text []) ≤ 80
-  pub is_card : card ≡ card_of_text (unwrap_or text [])
+-- the number of 1 to 18 digits
+unfoldable pub number_of_word : List ℕ → Option ℕ
+number_of_word word =
+    if list_all is_digit word && nat_le 1 (length word) && nat_le (length word) 18 then Some (value_of word) else None
+
+-- a number, and what follows it
+unfoldable pub number_first : Option (List ℕ) → Option (ℕ × Option (List ℕ))
+number_first rest = do
+  text ← rest
+  number ← number_of_word (first_word text)
+  Some (number, after_word text)
+
+-- the card of a text of at most 80 bytes; the text may be empty without the space before it
+unfoldable pub card_last : Option (List ℕ) → Option (List ℕ)
+card_last rest = let text = unwrap_or rest [] in if nat_le (length text) 80 then Some (card_of_text text) else None
 
 -- the keyword name that begins with a text and goes on in spaces
 abbrev pub name_of_text : List ℕ → List ℕ
 name_of_text text = text ++ replicate (8 - length text) 32
 
--- 1 to 8 bytes without a space, and their keyword name
-pub record IsName (word name : List ℕ) : Type 0 where
-  pub unspaced : HasNoSpace word
-  pub some : 1 ≤ length word
-  pub few : length word ≤ 8
-  pub value : name ≡ name_of_text word
+-- the name of 1 to 8 bytes without a space
+unfoldable pub name_last : Option (List ℕ) → Option (List ℕ)
+name_last rest = do
+  text ← rest
+  if not (list_any is_space text) && nat_le 1 (length text) && nat_le (length text) 8 then Some (name_of_text text) else None
 
--- `get H NAME`: NAME is the rest of the line
-pub record IsGet (line : List ℕ) (hdu : ℕ) (name : List ℕ) : Type 0 where
-  pub behind_get : List ℕ
-  pub hdu_word : List ℕ
-  pub name_word : List ℕ
-  pub get : BeginsWithWord line (codes "get") (Some behind_get)
-  pub first : BeginsWithWord behind_get hdu_word (Some name_word)
-  pub is_hdu : IsNumber hdu_word hdu
-  pub is_name : IsName name_word name
+-- nothing follows
+unfoldable pub nothing_last : Option (List ℕ) → Option Command → Option Command
+nothing_last None command = command
+nothing_last (Some text) command = None
 
--- the line says this command
-abbrev pub Says : List ℕ → Command → Type 0
-Says line Nothing = (line ≡ []) ⊎ ((rest : List ℕ) × (line ≡ codes "#" ++ rest))
-Says line (Edit (Insert hdu place card)) = IsInsert line hdu place card
-Says line Offsets = line ≡ codes "off"
-Says line (Get hdu name) = IsGet line hdu name
+-- `ins H P CARD`
+unfoldable pub insert_said : Option (List ℕ) → Option Command
+insert_said rest = do
+  hdu ← number_first rest
+  place ← number_first hdu.1
+  card ← card_last place.1
+  Some (Edit (Insert hdu.0 place.0 card))
 
--- what a line comes to: it is past the limit, whatever it holds; or says no command; or says one
-abbrev pub IsReading : List ℕ → LineReading → Type 0
-IsReading line TooLong = line_limit < length line
-IsReading line NoCommand = (length line ≤ line_limit) × ((c : Command) → Says line c → ⊥)
-IsReading line (Said c) = (length line ≤ line_limit) × Says line c
+-- `get H NAME`
+unfoldable pub get_said : Option (List ℕ) → Option Command
+get_said rest = do
+  hdu ← number_first rest
+  name ← name_last hdu.1
+  Some (Get hdu.0 name)
 
--- a function that tells each line's reading; there is one, and no other
-abbrev pub ReadsLines : (List ℕ → LineReading) → Type 0
-ReadsLines read = (line : List ℕ) → IsReading line (read line)
+-- what a line says by its first word
+unfoldable pub said_by : List ℕ → Option (List ℕ) → Option Command
+said_by verb rest =
+    if bytes_eq verb (codes "ins") then insert_said rest
+    else if bytes_eq verb (codes "get") then get_said rest
+    else if bytes_eq verb (codes "off") then nothing_last rest (Some Offsets)
+    else None
+
+-- what a line says: an empty line and a comment say that nothing is to be done
+unfoldable pub command_of : List ℕ → Option Command
+command_of [] = Some Nothing
+command_of (byte ∷ bytes) =
+    if byte == 35 then Some Nothing else said_by (first_word (byte ∷ bytes)) (after_word (byte ∷ bytes))
+
+-- a line within the limit says a command, or none
+abbrev pub said_or_none : Option Command → LineReading
+said_or_none (Some command) = Said command
+said_or_none None = NoCommand
+
+-- what a line comes to: past the limit it is too long, whatever it holds
+unfoldable pub reading_of : List ℕ → LineReading
+reading_of line = if nat_le (length line) line_limit then said_or_none (command_of line) else TooLong
+
+-- taking up this command may need memory; none of today's holds any
+abbrev pub HoldsMemory : Command → Type 0
+HoldsMemory Nothing = ⊥
+HoldsMemory (Edit edit) = ⊥
+HoldsMemory Offsets = ⊥
+HoldsMemory (Get hdu name) = ⊥
+
+-- reading a line may need memory
+abbrev pub ReadingNeedsMemory : LineReading → Type 0
+ReadingNeedsMemory TooLong = ⊥
+ReadingNeedsMemory NoCommand = ⊥
+ReadingNeedsMemory (Said command) = HoldsMemory command

@@ -1,19 +1,15 @@
 -- What `list` prints (own; FITS Standard 4.0, sections 3.1 and 4.4.1).
-use Rattle.std.specs.Prelude.{◌≡◌, ◌⊎◌, ℕ, ℤ, ◌+◌, List, [], ◌∷◌, ◌++◌, length, codes, Option, None, Some, Result, Ok, Err}
+use Rattle.std.specs.Prelude.{ℕ, ℤ, ◌+◌, List, [], ◌∷◌, ◌++◌, length, take, codes, Result, Ok, Err}
 use Rattle.std.specs.Fmt.{decimal, signed_decimal}
-use Rattle.std.specs.Io.KnownBytes.{Appends}
 use Rattle.fits_rules.specs.Shape.{shape_of}
 use Rattle.fits_rules.specs.declared.class.Class.{Class}
 use Rattle.fits_rules.specs.declared.class.Class.TheVariants.{Primary, Groups, Image, Table, Other}
 use Rattle.fits_rules.specs.declared.array_shape.Shape.{Shape}
 use Rattle.fits_hdu.specs.Hdu.{HduParts}
-use Rattle.fits_session.specs.File.{FileParts, offsets_from, IsFileOf}
-use Rattle.fits_session.specs.Opening.{HasOpenFault}
+use Rattle.fits_session.specs.File.{FileParts, offsets_from}
 use Rattle.fits_session.specs.Refusal.{is_primary_hdu}
-use Rattle.fits_session.specs.declared.fault.OpenFault.{OpenFault}
 use Rattle.fits_session.specs.declared.offsets.HduOffsets.{HduOffsets}
-use Rattle.fits_cli.specs.declared.fault.Fault.{Fault}
-use Rattle.fits_cli.specs.declared.fault.Fault.TheVariants.{Refused}
+use Rattle.fits_cli.specs.Answer.{offsets_text}
 
 -- a class as it is printed
 abbrev pub class_text : Class → List ℕ
@@ -23,12 +19,12 @@ class_text Image = codes "IMAGE"
 class_text Table = codes "TABLE"
 class_text Other = codes "OTHER"
 
--- further axes, each behind an x
+-- further axes, each after an x
 abbrev pub more_axes_text : List ℕ → List ℕ
 more_axes_text [] = []
 more_axes_text (axis ∷ axes) = codes "x" ++ (decimal axis ++ more_axes_text axes)
 
--- axes, parted by x, or - for none
+-- axes, separated by x, or - for none
 abbrev pub axes_text : List ℕ → List ℕ
 axes_text [] = codes "-"
 axes_text (axis ∷ axes) = decimal axis ++ more_axes_text axes
@@ -40,8 +36,7 @@ line_front number class bitpix =
 
 -- ` cards C at HEADER DATA END`
 abbrev pub line_back : ℕ → HduOffsets → List ℕ
-line_back cards at =
-    codes " cards " ++ (decimal cards ++ (codes " at " ++ (decimal at.header_start ++ (codes " " ++ (decimal at.data_start ++ (codes " " ++ (decimal at.hdu_end ++ codes "\n")))))))
+line_back cards at = codes " cards " ++ (decimal cards ++ (codes " at " ++ (offsets_text at ++ codes "\n")))
 
 -- `hdu N CLASS bitpix B axes A cards C at HEADER DATA END`
 unfoldable pub hdu_line : ℕ → ℕ → HduOffsets → Shape → List ℕ
@@ -63,13 +58,6 @@ hdu_lines number (hdu ∷ hdus) (at ∷ offsets) =
 unfoldable pub listing : FileParts → List ℕ
 listing file = hdu_lines 1 file.hdus (offsets_from 0 file.hdus)
 
--- the file opens, and this is its listing; or it doesn't open
-abbrev pub IsListed : List ℕ → List ℕ → ℕ → Option Fault → Type 0
-IsListed file text status fault =
-    ((why : OpenFault) × HasOpenFault file why × (text ≡ []) × (status ≡ 2) × (fault ≡ Some (Refused why)))
-    ⊎ ((parts : FileParts) × IsFileOf file parts × (text ≡ listing parts) × (status ≡ 0) × (fault ≡ None))
-
--- where a file tells its bytes, what was printed, the status and the fault are those of its listing
-abbrev pub IsListRun : Option (List ℕ) → Option (List ℕ) → Option (List ℕ) → ℕ → Option Fault → Type 0
-IsListRun None printed prints status fault = Unit {0}
-IsListRun (Some file) printed prints status fault = (text : List ℕ) × IsListed file text status fault × Appends printed prints text
+-- its first lines, so many of them
+unfoldable pub first_lines : ℕ → FileParts → List ℕ
+first_lines count file = hdu_lines 1 (take count file.hdus) (take count (offsets_from 0 file.hdus))

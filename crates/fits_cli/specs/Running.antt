@@ -1,79 +1,169 @@
 -- What private functions of a run keep to: how far a script has come.
-use Rattle.std.specs.Prelude.{◌≡◌, ℕ, ◌<◌, ◌≤◌, List, ◌++◌, length, map, take, Option, Some, None, IfSome}
-use Rattle.std.specs.Io.KnownBytes.{Appends}
-use Rattle.fits_cli.specs.Limits.{script_limit}
-use Rattle.fits_cli.specs.Line.{ReadsLines}
+use Rattle.std.specs.Prelude.{◌≡◌, ◌⊎◌, ℕ, ◌+◌, ◌<◌, ◌≤◌, List, ◌∷◌, ◌++◌, length, take, Result, Ok, Err}
+use Rattle.std.specs.Io.KnownBytes.{Consumes, IsAtEnd}
+use Rattle.fits_cli.specs.Answer.{Standing, line_answer, line_left, LineNeedsMemory}
+use Rattle.fits_cli.specs.Ends.{CameTo, HasLines}
+use Rattle.fits_cli.specs.Limits.{line_limit, script_limit}
+use Rattle.fits_cli.specs.Line.{reading_of}
+use Rattle.fits_cli.specs.Output.{answers, standing_after}
+use Rattle.fits_cli.specs.Script.{IsCutInLines, script_lines}
+use Rattle.fits_cli.specs.Streams.{SourceState, SinkState, Tells, Prints, PrintsFront, Flushes, FailsToFlush}
 use Rattle.fits_session.specs.Opening.{HasOpenFault}
-use Rattle.fits_session.specs.declared.fault.OpenFault.{OpenFault}
-use Rattle.fits_session.specs.declared.fault.OpenFault.TheVariants.{NotFits, NoEnd, BadShape, ShortData, TooLarge, Memory as OpenMemory}
 use Rattle.fits_cli.specs.declared.fault.Fault.{Fault}
 use Rattle.fits_cli.specs.declared.fault.Fault.TheVariants.{Refused, ScriptTooLong, Memory, ReadFailed, WriteFailed}
-use Rattle.fits_cli.specs.Script.{IsCutInLines, script_lines}
-use Rattle.fits_cli.specs.Answer.{Standing, line_answer, line_left}
-use Rattle.fits_cli.specs.Output.{answers, standing_after}
-use Rattle.fits_cli.specs.declared.line.LineReading.{LineReading}
-use Rattle.fits_cli.specs.declared.script.AnswerFault.{AnswerFault}
-use Rattle.fits_cli.specs.declared.script.AnswerFault.TheVariants.{Memory as AnswerMemory, WriteFailed as AnswerWriteFailed}
-use Rattle.fits_cli.specs.declared.script.ScriptFault.{ScriptFault}
-use Rattle.fits_cli.specs.declared.script.ScriptFault.TheVariants.{Memory as ScriptMemory, WriteFailed as ScriptWriteFailed}
 
--- a sink was told what these lines print, and things stand as after them
-pub record AnswersLines (lines : List (List ℕ)) (before now : Standing) (held holds : Option (List ℕ)) : Type 0 where
-  pub told : (read : List ℕ → LineReading) → ReadsLines read → Appends held holds (answers before (map read lines))
-  pub left : (read : List ℕ → LineReading) → ReadsLines read → now ≡ standing_after before (map read lines)
+-- why a file wasn't opened: its bytes don't open, memory was refused, or a read failed
+abbrev pub OpeningStops : SourceState → SourceState → Fault → Type 0
+OpeningStops old new (Refused why) =
+    ((bytes : List ℕ) × Tells old.left bytes × HasOpenFault bytes why) × (new.failures ≡ old.failures)
+OpeningStops old new ScriptTooLong = ⊥
+OpeningStops old new Memory = new.failures ≡ old.failures
+OpeningStops old new ReadFailed = new.failures ≡ old.failures + 1
+OpeningStops old new WriteFailed = ⊥
 
--- a sink was told what one line prints, and things stand as after it
-abbrev pub AnswersLine : List ℕ → Standing → Standing → Option (List ℕ) → Option (List ℕ) → Type 0
-AnswersLine line before now held holds =
-    (read : List ℕ → LineReading) → ReadsLines read → Appends held holds (line_answer before (read line)) × (now ≡ line_left before (read line))
+-- one line is answered, and things stand as after it
+pub record AnswersLine (line : List ℕ) (before now : Standing) (held holds : SinkState) : Type 0 where
+  pub printed : Prints (line_answer before (reading_of line)) held holds
+  pub left : now ≡ line_left before (reading_of line)
 
--- so far a script was this: its whole lines are answered, and its open end is the line to come
-pub record HasCome (script line : List ℕ) (before now : Standing) (held holds : Option (List ℕ)) : Type 0 where
+-- one line isn't answered: memory was refused at it, or a write of its answer failed
+abbrev pub LineStops : List ℕ → Standing → SinkState → SinkState → Fault → Type 0
+LineStops line before held holds (Refused why) = ⊥
+LineStops line before held holds ScriptTooLong = ⊥
+LineStops line before held holds Memory = LineNeedsMemory before.file (reading_of line) × (holds ≡ held)
+LineStops line before held holds ReadFailed = ⊥
+LineStops line before held holds WriteFailed = PrintsFront (line_answer before (reading_of line)) held holds
+
+-- these lines are answered, and things stand as after them
+pub record AnswersLines (lines : List (List ℕ)) (before now : Standing) (held holds : SinkState) : Type 0 where
+  pub printed : Prints (answers before lines) held holds
+  pub left : now ≡ standing_after before lines
+
+-- the first of these lines are answered, and the next one may need memory
+pub record NeedsMemoryAt (lines : List (List ℕ)) (before : Standing) (held holds : SinkState) : Type 0 where
+  pub done : List (List ℕ)
+  pub line : List ℕ
+  pub others : List (List ℕ)
+  pub split : lines ≡ done ++ line ∷ others
+  pub needs : LineNeedsMemory (standing_after before done).file (reading_of line)
+  pub printed : Prints (answers before done) held holds
+
+-- these lines aren't all answered
+abbrev pub LinesStop : List (List ℕ) → Standing → SinkState → SinkState → Fault → Type 0
+LinesStop lines before held holds (Refused why) = ⊥
+LinesStop lines before held holds ScriptTooLong = ⊥
+LinesStop lines before held holds Memory = NeedsMemoryAt lines before held holds
+LinesStop lines before held holds ReadFailed = ⊥
+LinesStop lines before held holds WriteFailed = PrintsFront (answers before lines) held holds
+
+-- of a line that may go on as much is kept as decides what it comes to
+unfoldable pub kept_of : List ℕ → List ℕ
+kept_of line = take (line_limit + 1) line
+
+-- so far a script was this: its whole lines are answered, and its open end is kept
+pub record HasCome (script kept : List ℕ) (before now : Standing) (held holds : SinkState) : Type 0 where
   pub lines : List (List ℕ)
-  pub cut : IsCutInLines script lines line
+  pub last : List ℕ
+  pub cut : IsCutInLines script lines last
+  pub kept_is : kept ≡ kept_of last
   pub answered : AnswersLines lines before now held holds
 
--- each piece of a script that comes next is answered
-abbrev pub Continues : List ℕ → List ℕ → List ℕ → Standing → Standing → Option (List ℕ) → Option (List ℕ) → Type 0
-Continues piece line_before line_now before now held holds =
-    (script : List ℕ) (first : Standing) (start : Option (List ℕ)) → HasCome script line_before first before start held → HasCome (script ++ piece) line_now first now start holds
+-- so far a script was this, and not all its whole lines are answered
+pub record HasStopped (script : List ℕ) (before : Standing) (held holds : SinkState) (fault : Fault) : Type 0 where
+  pub lines : List (List ℕ)
+  pub last : List ℕ
+  pub cut : IsCutInLines script lines last
+  pub stops : LinesStop lines before held holds fault
 
--- the last line, which has no line feed, is answered
-abbrev pub EndsScript : List ℕ → Standing → Standing → Option (List ℕ) → Option (List ℕ) → Type 0
-EndsScript line before now held holds =
-    (lines : List (List ℕ)) (first : Standing) (start : Option (List ℕ)) → AnswersLines lines first before start held → AnswersLines (script_lines lines line) first now start holds
+-- each piece of a script that comes next is answered
+abbrev pub Continues : List ℕ → List ℕ → List ℕ → Standing → Standing → SinkState → SinkState → Type 0
+Continues piece kept_before kept_now before now held holds =
+    (script : List ℕ) (first : Standing) (start : SinkState)
+    → HasCome script kept_before first before start held → HasCome (script ++ piece) kept_now first now start holds
+
+-- or it isn't
+abbrev pub PieceStops : List ℕ → List ℕ → Standing → SinkState → SinkState → Fault → Type 0
+PieceStops piece kept_before before held holds fault =
+    (script : List ℕ) (first : Standing) (start : SinkState)
+    → HasCome script kept_before first before start held → HasStopped (script ++ piece) first start holds fault
+
+-- the script ends, and its last line, which has no line feed, is answered
+abbrev pub EndsScript : List ℕ → Standing → Standing → SinkState → SinkState → Type 0
+EndsScript kept before now held holds =
+    (lines : List (List ℕ)) (last : List ℕ) (first : Standing) (start : SinkState)
+    → kept ≡ kept_of last → AnswersLines lines first before start held → AnswersLines (script_lines lines last) first now start holds
+
+-- or it isn't
+abbrev pub EndStops : List ℕ → Standing → SinkState → SinkState → Fault → Type 0
+EndStops kept before held holds fault =
+    (lines : List (List ℕ)) (last : List ℕ) (first : Standing) (start : SinkState)
+    → kept ≡ kept_of last → AnswersLines lines first before start held → LinesStop (script_lines lines last) first start holds fault
 
 -- the whole script is answered
-abbrev pub AnswersScript : Option (List ℕ) → Standing → Standing → Option (List ℕ) → Option (List ℕ) → Type 0
-AnswersScript None before now held holds = Unit {0}
-AnswersScript (Some script) before now held holds =
-    (length script ≤ script_limit)
-    × (lines : List (List ℕ)) × (last : List ℕ) × IsCutInLines script lines last × AnswersLines (script_lines lines last) before now held holds
+pub record AnswersScript (old new : SourceState) (before now : Standing) (held holds : SinkState) : Type 0 where
+  pub script : List ℕ
+  pub lines : List (List ℕ)
+  pub last : List ℕ
+  pub read : Consumes old.left new.left script
+  pub ended : IsAtEnd new.left
+  pub quiet : new.failures ≡ old.failures
+  pub short : length script ≤ script_limit
+  pub cut : IsCutInLines script lines last
+  pub answered : AnswersLines (script_lines lines last) before now held holds
 
 -- the script is too long: the whole lines within the limit are answered
-abbrev pub AnswersTooLong : Option (List ℕ) → Standing → Standing → Option (List ℕ) → Option (List ℕ) → Type 0
-AnswersTooLong None before now held holds = Unit {0}
-AnswersTooLong (Some script) before now held holds =
-    (script_limit < length script) × (line : List ℕ) × HasCome (take script_limit script) line before now held holds
+pub record AnswersTooLong (old new : SourceState) (before : Standing) (held holds : SinkState) : Type 0 where
+  pub script : List ℕ
+  pub lines : List (List ℕ)
+  pub last : List ℕ
+  pub told : Tells old.left script
+  pub long : script_limit < length script
+  pub quiet : new.failures ≡ old.failures
+  pub reached : CameTo old new lines last
+  pub cut : IsCutInLines (take script_limit script) lines last
+  pub printed : Prints (answers before lines) held holds
 
--- what a fault of one line is to its script
-abbrev pub script_fault_of : AnswerFault → ScriptFault
-script_fault_of AnswerMemory = ScriptMemory
-script_fault_of AnswerWriteFailed = ScriptWriteFailed
+-- memory was refused: on the way to the first line, or at a line
+pub record ScriptNeedsMemory (old new : SourceState) (before : Standing) (held holds : SinkState) : Type 0 where
+  pub quiet : new.failures ≡ old.failures
+  pub at : (new ≡ old × holds ≡ held)
+      ⊎ ((lines : List (List ℕ)) × HasLines old new lines × NeedsMemoryAt lines before held holds)
 
--- what ends a run whose file doesn't open
-abbrev pub fault_of_open : OpenFault → Fault
-fault_of_open NotFits = Refused NotFits
-fault_of_open (NoEnd hdu) = Refused (NoEnd hdu)
-fault_of_open (BadShape hdu place) = Refused (BadShape hdu place)
-fault_of_open (ShortData hdu) = Refused (ShortData hdu)
-fault_of_open TooLarge = Refused TooLarge
-fault_of_open OpenMemory = Memory
+-- a read failed: the whole lines that came before are answered
+pub record ScriptReadFails (old new : SourceState) (before : Standing) (held holds : SinkState) : Type 0 where
+  pub failed : new.failures ≡ old.failures + 1
+  pub lines : List (List ℕ)
+  pub last : List ℕ
+  pub reached : CameTo old new lines last
+  pub short : length reached.came ≤ script_limit
+  pub printed : Prints (answers before lines) held holds
 
--- why a file wasn't opened: no call failed, and its bytes don't open or memory was refused; or a read failed
-abbrev pub OpenEnds : Option (List ℕ) → Type 0 → Type 0 → Fault → Type 0
-OpenEnds file no_read_failed a_read_failed (Refused why) = IfSome file (λ bytes. HasOpenFault bytes why) × no_read_failed
-OpenEnds file no_read_failed a_read_failed ScriptTooLong = ⊥
-OpenEnds file no_read_failed a_read_failed Memory = no_read_failed
-OpenEnds file no_read_failed a_read_failed ReadFailed = a_read_failed
-OpenEnds file no_read_failed a_read_failed WriteFailed = ⊥
+-- a write failed: a prefix of the answers stands
+pub record ScriptWriteFails (old new : SourceState) (before : Standing) (held holds : SinkState) : Type 0 where
+  pub quiet : new.failures ≡ old.failures
+  pub lines : List (List ℕ)
+  pub reached : HasLines old new lines
+  pub printed : PrintsFront (answers before lines) held holds
+
+-- why a script isn't answered to its end
+abbrev pub ScriptStops : SourceState → SourceState → Standing → SinkState → SinkState → Fault → Type 0
+ScriptStops old new before held holds (Refused why) = ⊥
+ScriptStops old new before held holds ScriptTooLong = AnswersTooLong old new before held holds
+ScriptStops old new before held holds Memory = ScriptNeedsMemory old new before held holds
+ScriptStops old new before held holds ReadFailed = ScriptReadFails old new before held holds
+ScriptStops old new before held holds WriteFailed = ScriptWriteFails old new before held holds
+
+-- then the answers are flushed, or that call fails and is the fault
+abbrev pub FlushesThen : {T : Type 0} → Result T Fault → Result T Fault → SinkState → SinkState → Type 0
+FlushesThen answered result held holds =
+    ((result ≡ answered) × Flushes held holds) ⊎ ((result ≡ Err WriteFailed) × FailsToFlush held holds)
+
+-- how answers are flushed, whatever ended them: a sink that failed is left alone, and a failed read stays the fault
+abbrev pub FlushesAnswers : {T : Type 0} → Result T Fault → Result T Fault → SinkState → SinkState → Type 0
+FlushesAnswers (Ok done) result held holds = FlushesThen (Ok done) result held holds
+FlushesAnswers (Err (Refused why)) result held holds = FlushesThen (Err (Refused why)) result held holds
+FlushesAnswers (Err ScriptTooLong) result held holds = FlushesThen (Err ScriptTooLong) result held holds
+FlushesAnswers (Err Memory) result held holds = FlushesThen (Err Memory) result held holds
+FlushesAnswers (Err ReadFailed) result held holds =
+    (result ≡ Err ReadFailed) × (Flushes held holds ⊎ FailsToFlush held holds)
+FlushesAnswers (Err WriteFailed) result held holds = (result ≡ Err WriteFailed) × (holds ≡ held)

@@ -1,15 +1,13 @@
 -- A script, cut at its line feeds (own).
-use Rattle.std.specs.Prelude.{◌≡◌, ℕ, ◌==◌, Bool, false, List, [], ◌∷◌, ◌++◌, All}
-use Rattle.std.specs.List.{flat_map, list_any}
+use Rattle.std.specs.Prelude.{◌≡◌, ℕ, List, [], ◌∷◌, ◌++◌, All}
+use Rattle.std.specs.List.{flat_map}
+use Rattle.fits_cli.specs.Cut.{HasNo}
 
--- a line feed
-abbrev pub is_line_feed : ℕ → Bool
-is_line_feed byte = byte == 10
-
+-- no line feed is in the text
 abbrev pub HasNoLineFeed : List ℕ → Type 0
-HasNoLineFeed text = list_any is_line_feed text ≡ false
+HasNoLineFeed text = HasNo 10 text
 
--- lines, a line feed behind each
+-- lines, a line feed after each
 abbrev pub ended_lines : List (List ℕ) → List ℕ
 ended_lines lines = flat_map (λ line. line ++ 10 ∷ []) lines
 
@@ -19,7 +17,7 @@ pub record IsCutInLines (text : List ℕ) (lines : List (List ℕ)) (last : List
   pub whole : All HasNoLineFeed lines
   pub open_end : HasNoLineFeed last
 
--- the last line may lack its line feed; a script that ends with one has no further line
+-- the last line may be without its line feed; a script that ends with one has no further line
 abbrev pub script_lines : List (List ℕ) → List ℕ → List (List ℕ)
 script_lines lines [] = lines
 script_lines lines (byte ∷ bytes) = lines ++ (byte ∷ bytes) ∷ []

@@ -1,57 +1,55 @@
-//! The printed texts of a script's lines.
-ghost use Rattle.std.specs.Prelude.{◌≡◌, ◌<◌, ◌^◌, ◌+◌, ◌++◌, IfOk, OnOk, length};
-ghost use Rattle.fits_cli.specs.Answer.{complaint, offset_line, offset_lines, refusal_answer, refusal_text};
+//! What a command makes of a file, and what it prints.
+ghost use Rattle.std.specs.Prelude.{◌≡◌, ◌++◌, IfOk, IfErr, OnOk, OnErr, Ok};
+ghost use Rattle.fits_session.specs.Session.{file_of};
+ghost use Rattle.fits_cli.specs.Answer.{offset_line, offset_lines, offsets_text, outcome_of, CommandFails};
 
-use fits_session::offsets::HduOffsets;
-use fits_session::refusal::Refusal;
+use crate::command::Command;
+use crate::value_line::value_line;
+use fits_session::{HduOffsets, Refusal, Session};
 use std::alloc::{AllocError, Global};
 
-/// Says why a line wasn't done.
-pub(crate) fn complaint(alloc: Global, line: u64, why: &str) -> Result<Vec<u8>, AllocError>
-    ensures { IfOk result (λ text. text.items ≡ complaint line why.now) }
+/// Does a command, and gives what it prints; or its refusal, which leaves the file.
+#[tactic(auto, unfolding(crate::specs::Answer::outcome_of, crate::specs::Answer::OutcomeNeedsMemory))]
+pub(crate) fn answer(
+    alloc: Global,
+    session: &mut Session,
+    command: Command,
+) -> Result<Vec<u8>, Refusal>
+    ensures ok { IfOk result (λ text.
+        outcome_of (file_of session.old) command ≡ Ok (record { text = text.items; file = (file_of session.new) })) }
+    ensures err { IfErr result (CommandFails (file_of session.old) command) }
+    ensures kept { OnErr result ((file_of session.new) ≡ (file_of session.old)) }
 {
-    Ok(format!(in alloc; "line {line}: {why}\n")?.into_bytes())
-}
-
-/// Says that a line's edit or query was refused.
-pub(crate) fn refused(alloc: Global, line: u64, why: Refusal) -> Result<Vec<u8>, AllocError>
-    ensures { IfOk result (λ text. text.items ≡ refusal_answer line why) }
-{
-    let why = refusal_text(why);
-    Ok(format!(in alloc; "line {line}: refused {why}\n")?.into_bytes())
-}
-
-// The number and the name of a refusal.
-fn refusal_text(why: Refusal) -> &'static str
-    ensures { result.now ≡ refusal_text why }
-{
-    match why {
-        Refusal::NoHdu => "1 NoHdu",
-        Refusal::NoCard => "2 NoCard",
-        Refusal::NoKey => "3 NoKey",
-        Refusal::BadText => "4 BadText",
-        Refusal::EndCard => "5 EndCard",
-        Refusal::Shape => "6 Shape",
-        Refusal::BadValue => "8 BadValue",
-        Refusal::NotImage => "9 NotImage",
-        Refusal::TooLarge => "14 TooLarge",
-        Refusal::Memory => "15 Memory",
+    match command {
+        Command::Nothing => Ok(Vec::new(alloc)),
+        Command::Edit(edit) => {
+            session.edit(edit)?;
+            Ok(Vec::new(alloc))
+        }
+        Command::Offsets => {
+            let hdus = session.offsets()?;
+            Ok(offsets(alloc, &hdus)?)
+        }
+        Command::Get { hdu, name } => {
+            let (value, comment) = session.value(hdu, &name)?;
+            Ok(value_line(alloc, &value, comment.as_ref())?)
+        }
     }
 }
 
-/// Where each HDU begins, its data begin, and it ends.
+// Where each HDU begins, its data begin, and it ends.
 #[tactic(auto, using(crate::proofs::AnswerLemmas::offset_steps))]
-pub(crate) fn offsets(alloc: Global, hdus: &[HduOffsets]) -> Result<Vec<u8>, AllocError>
+fn offsets(alloc: Global, hdus: &[HduOffsets]) -> Result<Vec<u8>, AllocError>
     ensures { IfOk result (λ text. text.items ≡ offset_lines 1 hdus.now) }
 {
     let mut text = Vec::new(alloc);
     for (i, at) in hdus.iter().enumerate() {
-        push_offsets(alloc, &mut text, i + 1, *at)?;
+        push_offset_line(alloc, &mut text, i + 1, *at)?;
     }
     Ok(text)
 }
 
-fn push_offsets(
+fn push_offset_line(
     alloc: Global,
     text: &mut Vec<u8>,
     number: usize,
@@ -59,11 +57,24 @@ fn push_offsets(
 ) -> Result<(), AllocError>
     ensures { OnOk result (text.new.items ≡ text.old.items ++ offset_line number at) }
 {
+    text.extend_from_slice(format!(in alloc; "{number} ")?.as_bytes())?;
+    push_offsets(alloc, text, at)?;
+    text.extend_from_slice(b"\n")
+}
+
+/// Where an HDU begins, its data begin, and it ends.
+pub(crate) fn push_offsets(
+    alloc: Global,
+    text: &mut Vec<u8>,
+    at: HduOffsets,
+) -> Result<(), AllocError>
+    ensures { OnOk result (text.new.items ≡ text.old.items ++ offsets_text at) }
+{
     let HduOffsets {
         header_start,
         data_start,
         hdu_end,
     } = at;
-    let line = format!(in alloc; "{number} {header_start} {data_start} {hdu_end}\n")?;
-    text.extend_from_slice(line.as_bytes())
+    let numbers = format!(in alloc; "{header_start} {data_start} {hdu_end}")?;
+    text.extend_from_slice(numbers.as_bytes())
 }

@@ -1,8 +1,8 @@
-use fits_card::name::Name;
-use fits_session::edit::Edit;
+use fits_card::Name;
+use fits_session::Edit;
 
 /// What a line of a script asks for. HDUs and places count from 1.
-#[derive(Clone, Copy, PartialEq, Eq, Debug)]
+#[derive(PartialEq, Eq, Debug, Drop)]
 pub enum Command {
     /// An empty line, or a comment.
     Nothing,

@@ -1,14 +1,16 @@
 //! The run of `edit`: a file, a script, answers, and the file saved.
-ghost use Rattle.std.specs.Prelude.{◌⊎◌, ◌<◌, IfOk, IfErr, OnOk, None, if◌then◌else◌};
-ghost use Rattle.fits_cli.specs.Output.{EndSays, FaultSays, IsRun, NoCallFailed};
+ghost use Rattle.std.specs.Prelude.{◌≡◌, IfOk, IfErr, None, if◌then◌else◌};
+ghost use Rattle.fits_cli.specs.Ends.{streams, EndsAs, StopsBy, Succeeds};
+ghost use Rattle.fits_cli.specs.Running.{FlushesAnswers};
+ghost use Rattle.fits_cli.specs.Streams.{sink, source};
 
 use crate::end::End;
 use crate::fault::Fault;
 use crate::opening::open_file;
+use crate::printing::flush;
 use crate::runner::Runner;
-use crate::script::{ScriptFault, answer_script};
-use fits_card::sink::Sink;
-use fits_card::source::Source;
+use crate::script::answer_script;
+use fits_card::{Sink, Source};
 use std::alloc::Global;
 
 /// Reads a file and opens it, answers a script, and saves what the script made of the file.
@@ -22,10 +24,11 @@ pub fn run_edit<F: Source, S: Source, P: Sink, O: Sink>(
     saved: &mut P,
     out: &mut O,
 ) -> End
-    ensures { EndSays (IsRun (F.remaining file.old) (S.remaining script.old) (O.contents out.old) (O.contents out.new) (P.contents saved.old) (P.contents saved.new))
-        (NoCallFailed (F.failures file.old) (F.failures file.new) (S.failures script.old) (S.failures script.new) (O.failures out.old) (O.failures out.new) (P.failures saved.old) (P.failures saved.new))
-        ((F.failures file.old < F.failures file.new) ⊎ (S.failures script.old < S.failures script.new))
-        ((O.failures out.old < O.failures out.new) ⊎ (P.failures saved.old < P.failures saved.new))
+    ensures { EndsAs
+        (streams (source (F.remaining file.old) (F.failures file.old)) (source (S.remaining script.old) (S.failures script.old))
+        (sink (O.contents out.old) (O.failures out.old) (O.unflushed out.old)) (sink (P.contents saved.old) (P.failures saved.old) (P.unflushed saved.old)))
+        (streams (source (F.remaining file.new) (F.failures file.new)) (source (S.remaining script.new) (S.failures script.new))
+        (sink (O.contents out.new) (O.failures out.new) (O.unflushed out.new)) (sink (P.contents saved.new) (P.failures saved.new) (P.unflushed saved.new)))
         result.status result.fault }
 {
     match edit(alloc, file, script, saved, out) {
@@ -33,15 +36,11 @@ pub fn run_edit<F: Source, S: Source, P: Sink, O: Sink>(
             status: if any_refused { 1 } else { 0 },
             fault: None,
         },
-        Err(fault) => End {
-            status: fault.status(),
-            fault: Some(fault),
-        },
+        Err(fault) => End::from(fault),
     }
 }
 
 // The run as a result: whether a line was refused or bad, or the fault that ended it.
-#[tactic(auto, using(crate::proofs::EditingLemmas::edit_steps))]
 fn edit<F: Source, S: Source, P: Sink, O: Sink>(
     alloc: Global,
     file: &mut F,
@@ -49,52 +48,41 @@ fn edit<F: Source, S: Source, P: Sink, O: Sink>(
     saved: &mut P,
     out: &mut O,
 ) -> Result<bool, Fault>
-    ensures ok { IfOk result (λ any_refused. IsRun (F.remaining file.old) (S.remaining script.old) (O.contents out.old) (O.contents out.new) (P.contents saved.old) (P.contents saved.new)
-        (if any_refused then 1 else 0) None) }
-    ensures quiet { OnOk result (NoCallFailed (F.failures file.old) (F.failures file.new) (S.failures script.old) (S.failures script.new) (O.failures out.old) (O.failures out.new) (P.failures saved.old) (P.failures saved.new)) }
-    ensures err { IfErr result (FaultSays (IsRun (F.remaining file.old) (S.remaining script.old) (O.contents out.old) (O.contents out.new) (P.contents saved.old) (P.contents saved.new))
-        (NoCallFailed (F.failures file.old) (F.failures file.new) (S.failures script.old) (S.failures script.new) (O.failures out.old) (O.failures out.new) (P.failures saved.old) (P.failures saved.new))
-        ((F.failures file.old < F.failures file.new) ⊎ (S.failures script.old < S.failures script.new))
-        ((O.failures out.old < O.failures out.new) ⊎ (P.failures saved.old < P.failures saved.new))) }
+    ensures ok { IfOk result (λ any_refused. Succeeds
+        (streams (source (F.remaining file.old) (F.failures file.old)) (source (S.remaining script.old) (S.failures script.old))
+        (sink (O.contents out.old) (O.failures out.old) (O.unflushed out.old)) (sink (P.contents saved.old) (P.failures saved.old) (P.unflushed saved.old)))
+        (streams (source (F.remaining file.new) (F.failures file.new)) (source (S.remaining script.new) (S.failures script.new))
+        (sink (O.contents out.new) (O.failures out.new) (O.unflushed out.new)) (sink (P.contents saved.new) (P.failures saved.new) (P.unflushed saved.new)))
+        (if any_refused then 1 else 0)) }
+    ensures err { IfErr result (StopsBy
+        (streams (source (F.remaining file.old) (F.failures file.old)) (source (S.remaining script.old) (S.failures script.old))
+        (sink (O.contents out.old) (O.failures out.old) (O.unflushed out.old)) (sink (P.contents saved.old) (P.failures saved.old) (P.unflushed saved.old)))
+        (streams (source (F.remaining file.new) (F.failures file.new)) (source (S.remaining script.new) (S.failures script.new))
+        (sink (O.contents out.new) (O.failures out.new) (O.unflushed out.new)) (sink (P.contents saved.new) (P.failures saved.new) (P.unflushed saved.new)))) }
 {
-    let session = match open_file(alloc, file) {
-        Ok(session) => session,
-        Err(fault) => return Err(fault),
-    };
-    let mut runner = Runner {
-        session,
-        line: 1,
-        any_refused: false,
-    };
-    match answer_script(alloc, &mut runner, script, out) {
-        Ok(()) => {}
-        Err(ScriptFault::TooLong) => {
-            let Ok(()) = out.flush() else {
-                return Err(Fault::WriteFailed);
-            };
-            return Err(Fault::ScriptTooLong);
-        }
-        // The answers so far are of use all the same; the fault is the script's.
-        Err(ScriptFault::Memory) => {
-            let Ok(()) = out.flush() else {
-                return Err(Fault::WriteFailed);
-            };
-            return Err(Fault::Memory);
-        }
-        Err(ScriptFault::ReadFailed) => {
+    let mut runner = Runner::new(open_file(alloc, file)?);
+    let answered = answer_script(alloc, &mut runner, script, out);
+    flush_answers(answered, out)?;
+    runner.save(saved)?;
+    Ok(runner.any_refused())
+}
+
+// Flushes the answers to a script, which are of use whatever ended it.
+fn flush_answers<O: Sink>(answered: Result<(), Fault>, out: &mut O) -> Result<(), Fault>
+    ensures { FlushesAnswers answered result
+        (sink (O.contents out.old) (O.failures out.old) (O.unflushed out.old)) (sink (O.contents out.new) (O.failures out.new) (O.unflushed out.new)) }
+{
+    match answered {
+        // A sink that failed is left alone.
+        Err(Fault::WriteFailed) => answered,
+        // The fault is the script's, also where this call fails too.
+        Err(Fault::ReadFailed) => {
             let _ = out.flush();
-            return Err(Fault::ReadFailed);
+            answered
         }
-        Err(ScriptFault::WriteFailed) => return Err(Fault::WriteFailed),
+        _ => {
+            flush(out)?;
+            answered
+        }
     }
-    let Ok(()) = out.flush() else {
-        return Err(Fault::WriteFailed);
-    };
-    let Ok(()) = runner.session.save(saved) else {
-        return Err(Fault::WriteFailed);
-    };
-    let Ok(()) = saved.flush() else {
-        return Err(Fault::WriteFailed);
-    };
-    Ok(runner.any_refused)
 }

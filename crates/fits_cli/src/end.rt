@@ -8,3 +8,17 @@ pub struct End {
     /// What ended the run before its end.
     pub fault: Option<Fault>,
 }
+
+impl From<Fault> for End {
+    ghost use Rattle.std.specs.Prelude.{◌≡◌, Some};
+    ghost use Rattle.fits_cli.specs.Faults.{status_of_fault};
+
+    ghost from_gives = { λ why end. (end.status ≡ status_of_fault why) × (end.fault ≡ Some why) };
+
+    fn from(why: Fault) -> End {
+        End {
+            status: why.status(),
+            fault: Some(why),
+        }
+    }
+}

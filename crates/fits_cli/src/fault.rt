@@ -1,6 +1,7 @@
 ghost use Rattle.std.specs.Prelude.{◌≡◌};
 
-use fits_session::fault::OpenFault;
+use fits_card::ReadFault;
+use fits_session::OpenFault;
 use std::alloc::AllocError;
 use thiserror::Error;
 
@@ -22,7 +23,7 @@ pub enum Fault {
 
 impl Fault {
     ghost use Rattle.std.specs.Prelude.{◌≡◌};
-    ghost use Rattle.fits_cli.specs.Output.{status_of_fault};
+    ghost use Rattle.fits_cli.specs.Faults.{status_of_fault};
 
     /// The program's exit status: 2 for a file or a script that isn't taken, 3 for devices and memory.
     pub fn status(self) -> u8
@@ -43,5 +44,33 @@ impl From<AllocError> for Fault {
 
     fn from(_: AllocError) -> Fault {
         Fault::Memory
+    }
+}
+
+impl From<ReadFault> for Fault {
+    ghost use Rattle.fits_cli.specs.Faults.{fault_of_read};
+    ghost use Rattle.std.specs.Prelude.{◌≡◌};
+
+    ghost from_gives = { λ why fault. fault ≡ fault_of_read why };
+
+    fn from(why: ReadFault) -> Fault {
+        match why {
+            ReadFault::Memory => Fault::Memory,
+            ReadFault::Failed => Fault::ReadFailed,
+        }
+    }
+}
+
+impl From<OpenFault> for Fault {
+    ghost use Rattle.fits_cli.specs.Faults.{fault_of_open};
+    ghost use Rattle.std.specs.Prelude.{◌≡◌};
+
+    ghost from_gives = { λ why fault. fault ≡ fault_of_open why };
+
+    fn from(why: OpenFault) -> Fault {
+        match why {
+            OpenFault::Memory => Fault::Memory,
+            _ => Fault::Refused(why),
+        }
     }
 }

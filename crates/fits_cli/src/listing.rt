@@ -1,92 +1,60 @@
 //! The run of `list`: a line for each HDU of a file.
-ghost use Rattle.std.specs.Prelude.{◌≡◌, ◌+◌, ◌++◌, ◌<◌, ◌^◌, IfOk, IfErr, IsErrOf, OnOk, None};
-ghost use Rattle.std.specs.Io.KnownBytes.{Appends};
+ghost use Rattle.std.specs.Prelude.{◌≡◌, ◌++◌, IfErr, OnOk};
 ghost use Rattle.fits_session.specs.File.{offsets_from};
-ghost use Rattle.fits_cli.specs.Listing.{axes_text, class_text, hdu_line, line_back, line_front, listing, more_axes_text, IsListRun};
-ghost use Rattle.fits_cli.specs.Output.{EndSays, FaultSays};
+ghost use Rattle.fits_session.specs.Session.{file_of};
+ghost use Rattle.fits_cli.specs.Listing.{axes_text, class_text, hdu_line, line_back, line_front, listing, more_axes_text};
+ghost use Rattle.fits_cli.specs.Streams.{sink, source, Prints};
+ghost use Rattle.fits_cli.specs.Telling.{ListingStops, PrintingStops, TextEndsAs};
 
+use crate::answer::push_offsets;
 use crate::end::End;
 use crate::fault::Fault;
-use crate::opening::open_file;
-use crate::script::AnswerFault;
-use fits_card::sink::Sink;
-use fits_card::source::Source;
-use fits_card::writing::write_all;
+use crate::printing::print;
+use crate::telling::{Telling, run_telling};
+use fits_card::{Sink, Source};
 use fits_rules::array_shape::Shape;
 use fits_rules::class::Class;
-use fits_session::offsets::HduOffsets;
-use fits_session::session::Session;
+use fits_session::{HduOffsets, Session};
 use std::alloc::{AllocError, Global};
 
 /// Reads a file, opens it, and prints a line for each of its HDUs.
 pub fn run_list<F: Source, O: Sink>(alloc: Global, file: &mut F, out: &mut O) -> End
-    ensures { EndSays (IsListRun (F.remaining file.old) (O.contents out.old) (O.contents out.new))
-        ((F.failures file.new ≡ F.failures file.old) × (O.failures out.new ≡ O.failures out.old))
-        (F.failures file.old < F.failures file.new)
-        (O.failures out.old < O.failures out.new)
+    ensures { TextEndsAs Telling.List
+        (source (F.remaining file.old) (F.failures file.old)) (source (F.remaining file.new) (F.failures file.new))
+        (sink (O.contents out.old) (O.failures out.old) (O.unflushed out.old)) (sink (O.contents out.new) (O.failures out.new) (O.unflushed out.new))
         result.status result.fault }
 {
-    match list(alloc, file, out) {
-        Ok(()) => End {
-            status: 0,
-            fault: None,
-        },
-        Err(fault) => End {
-            status: fault.status(),
-            fault: Some(fault),
-        },
-    }
+    run_telling(alloc, Telling::List, file, out)
 }
 
-// The run as a result: done, or the fault that ended it.
-#[tactic(auto, using(crate::proofs::ListingLemmas::list_steps))]
-fn list<F: Source, O: Sink>(alloc: Global, file: &mut F, out: &mut O) -> Result<(), Fault>
-    ensures ok { OnOk result (IsListRun (F.remaining file.old) (O.contents out.old) (O.contents out.new) 0 None) }
-    ensures quiet { OnOk result ((F.failures file.new ≡ F.failures file.old) × (O.failures out.new ≡ O.failures out.old)) }
-    ensures err { IfErr result (FaultSays (IsListRun (F.remaining file.old) (O.contents out.old) (O.contents out.new))
-        ((F.failures file.new ≡ F.failures file.old) × (O.failures out.new ≡ O.failures out.old))
-        (F.failures file.old < F.failures file.new)
-        (O.failures out.old < O.failures out.new)) }
+/// Prints a line for each HDU.
+pub(crate) fn print_listing<O: Sink>(
+    alloc: Global,
+    session: &Session,
+    out: &mut O,
+) -> Result<(), Fault>
+    ensures ok { OnOk result (Prints (listing (file_of session.now))
+        (sink (O.contents out.old) (O.failures out.old) (O.unflushed out.old)) (sink (O.contents out.new) (O.failures out.new) (O.unflushed out.new))) }
+    ensures err { IfErr result (PrintingStops (listing (file_of session.now))
+        (sink (O.contents out.old) (O.failures out.old) (O.unflushed out.old)) (sink (O.contents out.new) (O.failures out.new) (O.unflushed out.new))) }
 {
-    let session = match open_file(alloc, file) {
-        Ok(session) => session,
-        Err(fault) => return Err(fault),
-    };
-    match write_lines(alloc, &session, out) {
-        Ok(()) => {}
-        Err(AnswerFault::Memory) => return Err(Fault::Memory),
-        Err(AnswerFault::WriteFailed) => return Err(Fault::WriteFailed),
-    }
-    let Ok(()) = out.flush() else {
-        return Err(Fault::WriteFailed);
-    };
+    let offsets = session.offsets()?;
+    print_each(alloc, session, &offsets, out)?;
     Ok(())
 }
 
-// Writes a line for each HDU.
-fn write_lines<O: Sink>(alloc: Global, session: &Session, out: &mut O) -> Result<(), AnswerFault>
-    ensures ok { OnOk result (Appends (O.contents out.old) (O.contents out.new) (listing session.now.file)) }
-    ensures quiet { OnOk result (O.failures out.new ≡ O.failures out.old) }
-    ensures failed { IsErrOf result AnswerFault.WriteFailed → O.failures out.old < O.failures out.new }
-    ensures memory { IsErrOf result AnswerFault.Memory → O.failures out.new ≡ O.failures out.old }
-{
-    let offsets = session.offsets()?;
-    write_each(alloc, session, &offsets, out)
-}
-
-// Writes a line for each HDU. They stand at these offsets.
-#[tactic(auto, using(crate::proofs::ListingLemmas::line_steps))]
-fn write_each<O: Sink>(
+// Prints a line for each HDU. They stand at these offsets.
+fn print_each<O: Sink>(
     alloc: Global,
     session: &Session,
     offsets: &[HduOffsets],
     out: &mut O,
-) -> Result<(), AnswerFault>
-    requires { offsets.now ≡ offsets_from 0 session.now.file.hdus }
-    ensures ok { OnOk result (Appends (O.contents out.old) (O.contents out.new) (listing session.now.file)) }
-    ensures quiet { OnOk result (O.failures out.new ≡ O.failures out.old) }
-    ensures failed { IsErrOf result AnswerFault.WriteFailed → O.failures out.old < O.failures out.new }
-    ensures memory { IsErrOf result AnswerFault.Memory → O.failures out.new ≡ O.failures out.old }
+) -> Result<(), Fault>
+    requires { offsets.now ≡ offsets_from 0 (file_of session.now).hdus }
+    ensures ok { OnOk result (Prints (listing (file_of session.now))
+        (sink (O.contents out.old) (O.failures out.old) (O.unflushed out.old)) (sink (O.contents out.new) (O.failures out.new) (O.unflushed out.new))) }
+    ensures err { IfErr result (ListingStops (file_of session.now)
+        (sink (O.contents out.old) (O.failures out.old) (O.unflushed out.old)) (sink (O.contents out.new) (O.failures out.new) (O.unflushed out.new))) }
 {
     let mut line = Vec::new(alloc);
     for (i, at) in offsets.iter().enumerate() {
@@ -101,9 +69,7 @@ fn write_each<O: Sink>(
         };
         line.clear();
         push_line(alloc, &mut line, h, cards, *at, shape)?;
-        let Ok(()) = write_all(out, &line) else {
-            return Err(AnswerFault::WriteFailed);
-        };
+        print(out, &line)?;
     }
     Ok(())
 }
@@ -150,16 +116,13 @@ fn push_back(
 ) -> Result<(), AllocError>
     ensures { OnOk result (line.new.items ≡ line.old.items ++ line_back cards at) }
 {
-    let HduOffsets {
-        header_start,
-        data_start,
-        hdu_end,
-    } = at;
-    let back = format!(in alloc; " cards {cards} at {header_start} {data_start} {hdu_end}\n")?;
-    line.extend_from_slice(back.as_bytes())
+    let front = format!(in alloc; " cards {cards} at ")?;
+    line.extend_from_slice(front.as_bytes())?;
+    push_offsets(alloc, line, at)?;
+    line.extend_from_slice(b"\n")
 }
 
-// Axes, parted by x, or - for none.
+// Axes, separated by x, or - for none.
 fn push_axes(alloc: Global, line: &mut Vec<u8>, axes: &[u64]) -> Result<(), AllocError>
     ensures { OnOk result (line.new.items ≡ line.old.items ++ axes_text axes.now) }
 {
@@ -173,7 +136,7 @@ fn push_axes(alloc: Global, line: &mut Vec<u8>, axes: &[u64]) -> Result<(), Allo
     Ok(())
 }
 
-// Further axes, each behind an x.
+// Further axes, each after an x.
 fn push_more_axes(alloc: Global, line: &mut Vec<u8>, axes: &[u64]) -> Result<(), AllocError>
     ensures { OnOk result (line.new.items ≡ line.old.items ++ more_axes_text axes.now) }
 {

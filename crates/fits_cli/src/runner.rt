@@ -1,126 +1,120 @@
-use crate::answer::{complaint, offsets, refused};
-use crate::command::Command;
-use crate::line::LineReading;
-use crate::value_line::value_line;
-use fits_card::name::Name;
-use fits_session::edit::Edit;
-use fits_session::refusal::Refusal;
-use fits_session::session::Session;
+use crate::answer::answer;
+use crate::fault::Fault;
+use crate::line::{LineReading, read_line};
+use crate::printing::flush;
+use crate::reply::{Reply, counts_as_refused, settled};
+use fits_card::Sink;
+use fits_session::Session;
 use std::alloc::{AllocError, Global};
+use std::marker::Model;
 
-/// A file and how far its script has come.
+/// A file and how far its script has come. Contracts see the standing.
 #[derive(Drop)]
 pub(crate) struct Runner {
-    pub(crate) session: Session,
+    session: Session,
     /// The number of the line that comes, from 1.
-    pub(crate) line: u64,
+    line: u64,
     /// Whether a line so far was refused or bad.
-    pub(crate) any_refused: bool,
+    any_refused: bool,
+}
+
+impl Model for Runner {
+    ghost use Rattle.fits_cli.specs.Answer.{Standing};
+    ghost use Rattle.fits_session.specs.Session.{file_of};
+
+    ghost Value = { Standing };
+
+    ghost view = { λ runner. record {
+      file = file_of runner.session;
+      line = runner.line;
+      any_refused = runner.any_refused;
+    } };
 }
 
 impl Runner {
-    ghost use Rattle.std.specs.Prelude.{◌≡◌, ◌+◌, ◌^◌, ◌<◌, ◌||◌, IfOk, OnOk};
-    ghost use Rattle.fits_cli.specs.Answer.{line_answer, line_left, command_answer, command_left, refusal_answer, refused};
-    ghost use Rattle.fits_cli.specs.declared.command.Command.{Command};
-    ghost use Rattle.fits_cli.specs.Runner.{standing_of};
+    ghost use Rattle.std.specs.Prelude.{◌≡◌, ◌+◌, ◌^◌, ◌<◌, ◌||◌, IfOk, IfErr, OnOk, OnErr};
+    ghost use Rattle.fits_cli.specs.Answer.{at_first_line, line_answer, line_left, LineNeedsMemory};
+    ghost use Rattle.fits_cli.specs.Line.{reading_of};
+    ghost use Rattle.fits_cli.specs.Reply.{counts_as_refused, reply_text};
+    ghost use Rattle.fits_cli.specs.Streams.{sink, Prints};
+    ghost use Rattle.fits_cli.specs.Faults.{PrintFails};
+    ghost use Rattle.fits_session.specs.File.{file_bytes};
+    ghost use Rattle.fits_session.specs.Session.{file_of};
 
-    /// What a line prints. What it does is done.
-    pub(crate) fn reply(&mut self, alloc: Global, line: LineReading) -> Result<Vec<u8>, AllocError>
-        requires { self.old.line + 1 < 2 ^ 64 }
-        ensures text { IfOk result (λ text. text.items ≡ line_answer (standing_of self.old) line) }
-        ensures left { OnOk result (standing_of self.new ≡ line_left (standing_of self.old) line) }
-        ensures line { OnOk result (self.new.line ≡ self.old.line + 1) }
+    /// Before the first line.
+    pub(crate) fn new(session: Session) -> Runner
+        ensures { result ≡ at_first_line (file_of session) }
     {
-        let number = self.line;
-        match line {
-            LineReading::TooLong => {
-                self.pass(true);
-                complaint(alloc, number, "too long")
-            }
-            LineReading::NoCommand => {
-                self.pass(true);
-                complaint(alloc, number, "not a command")
-            }
-            LineReading::Said(command) => self.obey(alloc, command),
+        Runner {
+            session,
+            line: 1,
+            any_refused: false,
         }
     }
 
-    // What a command prints. What it does is done.
-    fn obey(&mut self, alloc: Global, command: Command) -> Result<Vec<u8>, AllocError>
+    /// The number of the line that comes.
+    pub(crate) fn line(&self) -> u64
+        ensures { result ≡ self.now.line }
+    {
+        self.line
+    }
+
+    /// Whether a line so far was refused or bad.
+    pub(crate) fn any_refused(&self) -> bool
+        ensures { result ≡ self.now.any_refused }
+    {
+        self.any_refused
+    }
+
+    /// Does what a line says, and goes on to the next one.
+    #[tactic(auto, unfolding(crate::specs::Answer::line_answer, crate::specs::Answer::line_left, crate::specs::Answer::LineNeedsMemory))]
+    pub(crate) fn reply(&mut self, alloc: Global, line: &[u8]) -> Result<Reply, AllocError>
         requires { self.old.line + 1 < 2 ^ 64 }
-        ensures text { IfOk result (λ text. text.items ≡ command_answer (standing_of self.old) command) }
-        ensures left { OnOk result (standing_of self.new ≡ command_left (standing_of self.old) command) }
+        ensures text { IfOk result (λ reply.
+            reply_text self.old.line reply ≡ line_answer self.old (reading_of line.now)) }
+        ensures left { OnOk result (self.new ≡ line_left self.old (reading_of line.now)) }
+        ensures err { OnErr result (LineNeedsMemory self.old.file (reading_of line.now)) }
         ensures line { OnOk result (self.new.line ≡ self.old.line + 1) }
     {
-        match command {
-            Command::Nothing => {
-                self.pass(false);
-                Ok(Vec::new(alloc))
+        match read_line(alloc, line) {
+            Ok(LineReading::TooLong) => Ok(self.pass(Reply::TooLong)),
+            Ok(LineReading::NoCommand) => Ok(self.pass(Reply::NoCommand)),
+            Ok(LineReading::Said(command)) => {
+                let reply = settled(answer(alloc, &mut self.session, command))?;
+                Ok(self.pass(reply))
             }
-            Command::Offsets => {
-                self.pass(false);
-                let hdus = self.session.offsets()?;
-                offsets(alloc, &hdus)
-            }
-            Command::Edit(edit) => self.edit(alloc, edit),
-            Command::Get { hdu, name } => self.get(alloc, hdu, &name),
+            Err(refused) => Err(refused),
         }
     }
 
-    // What an edit prints. It is made, or refused.
-    fn edit(&mut self, alloc: Global, edit: Edit) -> Result<Vec<u8>, AllocError>
+    // Goes on to the next line, after one that came to this.
+    fn pass(&mut self, reply: Reply) -> Reply
         requires { self.old.line + 1 < 2 ^ 64 }
-        ensures text { IfOk result (λ text. text.items ≡ command_answer (standing_of self.old) (Command.Edit edit)) }
-        ensures left { OnOk result (standing_of self.new ≡ command_left (standing_of self.old) (Command.Edit edit)) }
-        ensures line { OnOk result (self.new.line ≡ self.old.line + 1) }
-    {
-        match self.session.edit(edit) {
-            Ok(()) => {
-                self.pass(false);
-                Ok(Vec::new(alloc))
-            }
-            Err(Refusal::Memory) => Err(AllocError),
-            Err(why) => self.refuse(alloc, why),
-        }
-    }
-
-    // What a query of a value prints.
-    fn get(&mut self, alloc: Global, hdu: usize, name: &Name) -> Result<Vec<u8>, AllocError>
-        requires { self.old.line + 1 < 2 ^ 64 }
-        ensures text { IfOk result (λ text. text.items ≡ command_answer (standing_of self.old) (Command.Get hdu name.now)) }
-        ensures left { OnOk result (standing_of self.new ≡ command_left (standing_of self.old) (Command.Get hdu name.now)) }
-        ensures line { OnOk result (self.new.line ≡ self.old.line + 1) }
-    {
-        match self.session.value(hdu, name) {
-            Ok((value, comment)) => {
-                self.pass(false);
-                value_line(alloc, &value, comment.as_ref())
-            }
-            Err(Refusal::Memory) => Err(AllocError),
-            Err(why) => self.refuse(alloc, why),
-        }
-    }
-
-    // Goes on behind a line that is refused, and says why.
-    fn refuse(&mut self, alloc: Global, why: Refusal) -> Result<Vec<u8>, AllocError>
-        requires { self.old.line + 1 < 2 ^ 64 }
-        ensures text { IfOk result (λ text. text.items ≡ refusal_answer self.old.line why) }
-        ensures left { OnOk result (standing_of self.new ≡ refused (standing_of self.old)) }
-        ensures line { OnOk result (self.new.line ≡ self.old.line + 1) }
-    {
-        let number = self.line;
-        self.pass(true);
-        refused(alloc, number, why)
-    }
-
-    // Goes on to the next line.
-    fn pass(&mut self, is_refused: bool)
-        requires { self.old.line + 1 < 2 ^ 64 }
-        ensures session { self.new.session ≡ self.old.session }
-        ensures line { self.new.line ≡ self.old.line + 1 }
-        ensures refused { self.new.any_refused ≡ (is_refused || self.old.any_refused) }
+        ensures same { result ≡ reply }
+        ensures left { self.new ≡ record {
+          file = self.old.file;
+          line = self.old.line + 1;
+          any_refused = counts_as_refused reply || self.old.any_refused;
+        } }
     {
         self.line += 1;
-        self.any_refused = is_refused || self.any_refused;
+        self.any_refused = counts_as_refused(&reply) || self.any_refused;
+        reply
+    }
+
+    /// Saves the file, and flushes it.
+    #[tactic(auto, using(crate::proofs::StreamLemmas::flush_steps))]
+    pub(crate) fn save<P: Sink>(&mut self, saved: &mut P) -> Result<(), Fault>
+        ensures ok { OnOk result (Prints (file_bytes self.old.file)
+            (sink (P.contents saved.old) (P.failures saved.old) (P.unflushed saved.old)) (sink (P.contents saved.new) (P.failures saved.new) (P.unflushed saved.new))) }
+        ensures err { IfErr result (PrintFails (file_bytes self.old.file)
+            (sink (P.contents saved.old) (P.failures saved.old) (P.unflushed saved.old)) (sink (P.contents saved.new) (P.failures saved.new) (P.unflushed saved.new))) }
+        ensures flushed { OnOk result (P.unflushed saved.new ≡ 0) }
+        ensures left { self.new ≡ self.old }
+    {
+        let Ok(()) = self.session.save(saved) else {
+            return Err(Fault::WriteFailed);
+        };
+        flush(saved)
     }
 }

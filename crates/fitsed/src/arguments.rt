@@ -11,6 +11,8 @@ pub enum Task<'a> {
     List { from: &'a str },
 }
 
+const VERSION: &str = "0.1.0";
+
 const ABOUT: &str = "Edits and lists FITS files";
 
 const EDIT: &str = "Edits a file by a script from standard input";
@@ -21,19 +23,33 @@ const STATUSES: &str = "Exit status:
   0  done
   1  a line of the script was refused or bad
   2  a usage fault, a file that doesn't open, or a script that is too long
-  3  a file or stream can't be read or written, or memory was refused
+  3  a file or stream can't be read or written, or memory ran out
 
 Example:
   fitsed list in.fits
   printf 'ins 1 4 COMMENT hello\\noff\\n' | fitsed edit in.fits out.fits
 
-The lines of a script are told by fitsed(1).";
+fitsed(1) has the lines of a script.";
+
+const LINES: &str = "Lines of the script, words separated by one space:
+  ins H P CARD  insert a card at place P of HDU H
+  get H NAME    print the value of a keyword
+  off           print where each HDU begins, its data begin, and it ends
+  # text        nothing; so does an empty line
+
+Exit status:
+  0  done
+  1  a line of the script was refused or bad
+  2  a usage fault, a file that doesn't open, or a script that is too long
+  3  a file or stream can't be read or written, or memory ran out
+
+fitsed(1) says when a line is refused.";
 
 /// The command line.
 pub fn command<'a>(alloc: Global) -> Result<Command<'a>, AllocError> {
     let edit = Command::new(alloc, "edit")
         .about(EDIT)
-        .after_help(STATUSES)
+        .after_help(LINES)
         .arg(path(alloc, "IN", "The file to read"))?
         .arg(path(alloc, "OUT", "The file to write; it may be IN"))?;
     let list = Command::new(alloc, "list")
@@ -41,6 +57,7 @@ pub fn command<'a>(alloc: Global) -> Result<Command<'a>, AllocError> {
         .after_help(STATUSES)
         .arg(path(alloc, "IN", "The file to read"))?;
     Command::new(alloc, "fitsed")
+        .version(VERSION)
         .about(ABOUT)
         .after_help(STATUSES)
         .subcommand_required(true)

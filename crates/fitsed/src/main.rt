@@ -6,12 +6,8 @@ mod arguments;
 use arguments::{Task, command, task_of};
 use clap::Error;
 use clap::error::ErrorKind;
-use fits_card::watched::Watched;
-use fits_cli::editing::run_edit;
-use fits_cli::end::End;
-use fits_cli::fault::Fault;
-use fits_cli::lazy_file::LazyFile;
-use fits_cli::listing::run_list;
+use fits_card::Watched;
+use fits_cli::{End, Fault, LazyFile, run_edit, run_list};
 use std::alloc::AllocError;
 use std::io::BufWriter;
 use std::process::ExitCode;
@@ -24,10 +20,10 @@ fn main(rt: HostRuntime) -> ExitCode {
         Err(error) => return ExitCode::from(unreadable(&rt, error)),
     };
     let Ok(words): Result<Vec<String>, AllocError> = args.collect(rt.alloc()) else {
-        return ExitCode::from(told(&rt, Fault::Memory));
+        return ExitCode::from(reported(&rt, Fault::Memory));
     };
     let Ok(command) = command(rt.alloc()) else {
-        return ExitCode::from(told(&rt, Fault::Memory));
+        return ExitCode::from(reported(&rt, Fault::Memory));
     };
     let matches = match command.try_get_matches_from(words.as_slice()) {
         Ok(matches) => matches,
@@ -47,13 +43,13 @@ fn main(rt: HostRuntime) -> ExitCode {
 // Runs `edit` over the file at `from` and standard input.
 fn edit<R: Files + Input + Print + AllocGlobal>(rt: &R, from: &str, to: &str) -> End {
     let Ok(file) = fs::open(rt, from) else {
-        return failed(Fault::ReadFailed);
+        return End::from(Fault::ReadFailed);
     };
     let Ok(out) = BufWriter::new(rt.alloc(), io::writer(rt)) else {
-        return failed(Fault::Memory);
+        return End::from(Fault::Memory);
     };
     let Ok(saved) = BufWriter::new(rt.alloc(), LazyFile::new(rt, to)) else {
-        return failed(Fault::Memory);
+        return End::from(Fault::Memory);
     };
     run_edit(
         rt.alloc(),
@@ -67,23 +63,16 @@ fn edit<R: Files + Input + Print + AllocGlobal>(rt: &R, from: &str, to: &str) ->
 // Runs `list` over the file at `from`.
 fn list<R: Files + Print + AllocGlobal>(rt: &R, from: &str) -> End {
     let Ok(file) = fs::open(rt, from) else {
-        return failed(Fault::ReadFailed);
+        return End::from(Fault::ReadFailed);
     };
     let Ok(out) = BufWriter::new(rt.alloc(), io::writer(rt)) else {
-        return failed(Fault::Memory);
+        return End::from(Fault::Memory);
     };
     run_list(rt.alloc(), &mut Watched::new(file), &mut Watched::new(out))
 }
 
-fn failed(fault: Fault) -> End {
-    End {
-        status: fault.status(),
-        fault: Some(fault),
-    }
-}
-
-// Tells a fault on standard error.
-fn told<R: Eprint>(rt: &R, fault: Fault) -> u8 {
+// Reports a fault on standard error, and gives its status.
+fn reported<R: Eprint>(rt: &R, fault: Fault) -> u8 {
     let _ = eprintln!(rt; "{fault}");
     fault.status()
 }
@@ -91,10 +80,10 @@ fn told<R: Eprint>(rt: &R, fault: Fault) -> u8 {
 // Help goes to standard output and ends with 0, a usage fault to standard error.
 fn usage<R: Print + Eprint>(rt: &R, error: Error) -> u8 {
     if error.kind() == ErrorKind::OutOfMemory {
-        return told(rt, Fault::Memory);
+        return reported(rt, Fault::Memory);
     }
     if error.print(rt).is_err() {
-        return told(rt, Fault::WriteFailed);
+        return reported(rt, Fault::WriteFailed);
     }
     if error.use_stderr() { 2 } else { 0 }
 }
@@ -102,7 +91,7 @@ fn usage<R: Print + Eprint>(rt: &R, error: Error) -> u8 {
 // An argument that isn't UTF-8, which clap doesn't take.
 fn unreadable<R: Eprint>(rt: &R, error: io::Error) -> u8 {
     if error.kind() == io::ErrorKind::OutOfMemory {
-        return told(rt, Fault::Memory);
+        return reported(rt, Fault::Memory);
     }
     let _ = eprintln!(rt; "fitsed: an argument is not UTF-8");
     2

@@ -1,32 +1,33 @@
-use Rattle.std.proofs.Common.{ap, refl, Err, arith}
-use Rattle.fits_cli.specs.Runner.{standing_of}
-use Rattle.fits_cli.proofs.EditingLemmas.{run_too_long, run_done}
+use Rattle.fits_session.specs.Session.{file_of}
+use Rattle.std.proofs.Common.{refl}
+use Rattle.fits_cli.proofs.EditingLemmas.{StopsBy-opening, StopsBy-script, StopsBy-saving, Succeeds-saved, flushed_done}
+use Rattle.fits_cli.proofs.ExitLemmas.{at_exit}
 use Rattle.fits_cli.proofs.editing.edit.Goals as goal
 
-pub returns-in-Err-TooLong-clause-err : goal.returns-in-Err-TooLong-clause-err
-returns-in-Err-TooLong-clause-err g c =
-    let is = ap Err c.in-Err-TooLong.field-0-is in
-    let quiet = c.in-Err-TooLong.ensures.quiet_too_long is in (
-      run_too_long (g.F.Source.remaining c.args.file.now) (g.S.Source.remaining c.args.script.now) (g.O.Sink.contents c.args.out.now) (g.O.Sink.contents c.answer_script.new.out) (g.O.Sink.contents c.flush.new.self)
-          (g.P.Sink.contents c.args.saved.now) c.in-Ok.session.file (standing_of c.answer_script.new.runner) c.in-Ok.ensures.ok (c.in-Err-TooLong.ensures.too_long is) c.in-Ok-flush.ensures.bytes,
-      record { of_file = c.in-Ok.ensures.quiet; of_script = quiet.0; of_out = omega (arith, c.in-Ok-flush.ensures.failed, quiet.1); of_saved = refl },
-    )
+pub returns-in_err-open_file-clause-err : goal.returns-in_err-open_file-clause-err
+returns-in_err-open_file-clause-err g c = at_exit _ _ _ c.from_residual.ensures.1 (StopsBy-opening _ _ _ refl refl refl c.in_err-open_file.ensures.err)
 
-pub returns-in-Err-Memory-clause-err : goal.returns-in-Err-Memory-clause-err
-returns-in-Err-Memory-clause-err g c =
-    let quiet = c.in-Err-Memory.ensures.memory (ap Err c.in-Err-Memory.field-0-is) in
-    record { of_file = c.in-Ok.ensures.quiet; of_script = quiet.0; of_out = omega (arith, c.in-Ok-flush-2.ensures.failed, quiet.1); of_saved = refl }
+pub returns-in_err-flush_answers-clause-err : goal.returns-in_err-flush_answers-clause-err
+returns-in_err-flush_answers-clause-err g c =
+    let session = c.in_ok-open_file.ensures in
+    at_exit _ _ _ c.from_residual-in_err-flush_answers.ensures.1
+    (StopsBy-script _ _ _ c.answer_script-answered.result c.flush_answers.result _ (file_of c.in_ok-open_file.field-0) c.answer_script-answered.new.runner c.in_err-flush_answers.was session.ok session.quiet refl
+    (rw c.new-runner.ensures at c.answer_script-answered.ensures.ok) (rw c.new-runner.ensures at c.answer_script-answered.ensures.err) c.flush_answers.ensures)
+
+pub returns-in_err-save-clause-err : goal.returns-in_err-save-clause-err
+returns-in_err-save-clause-err g c =
+    let session = c.in_ok-open_file.ensures in
+    at_exit _ _ _ c.from_residual-in_err-save.ensures.1
+    (StopsBy-saving _ _ _ (file_of c.in_ok-open_file.field-0) c.answer_script-answered.new.runner session.ok session.quiet
+    (flushed_done _ _ (file_of c.in_ok-open_file.field-0) c.answer_script-answered.new.runner _ _ _ c.answer_script-answered.result c.flush_answers.result _ c.in_ok-flush_answers.was
+    (rw c.new-runner.ensures at c.answer_script-answered.ensures.ok) c.flush_answers.ensures)
+    c.in_err-save.ensures.err)
 
 pub returns-clause-ok : goal.returns-clause-ok
 returns-clause-ok g c =
-    run_done (g.F.Source.remaining c.args.file.now) (g.S.Source.remaining c.args.script.now) (g.O.Sink.contents c.args.out.now) (g.O.Sink.contents c.answer_script.new.out) (g.O.Sink.contents c.flush-2.new.self)
-    (g.P.Sink.contents c.args.saved.now) (g.P.Sink.contents c.save.new.sink) (g.P.Sink.contents c.flush-3.new.self) c.in-Ok.session.file c.answer_script.new.runner.session.file
-    c.answer_script.new.runner.any_refused c.answer_script.new.runner.line c.in-Ok.ensures.ok c.in-Ok-answer_script.ensures.ok c.in-Ok-flush-3.ensures.bytes c.in-Ok-save.ensures.ok c.in-Ok-flush-4.ensures.bytes
-
-pub returns-clause-quiet : goal.returns-clause-quiet
-returns-clause-quiet g c = record {
-  of_file = c.in-Ok.ensures.quiet;
-  of_script = c.in-Ok-answer_script.ensures.quiet.0;
-  of_out = omega (arith, c.in-Ok-flush-3.ensures.failed, c.in-Ok-answer_script.ensures.quiet.1);
-  of_saved = omega (arith, c.in-Ok-flush-4.ensures.failed, c.in-Ok-save.ensures.quiet);
-}
+    let session = c.in_ok-open_file.ensures in
+    rw (c.any_refused.ensures, c.in_ok-save.ensures.left)
+    (Succeeds-saved _ _ (file_of c.in_ok-open_file.field-0) c.answer_script-answered.new.runner session.ok session.quiet
+    (flushed_done _ _ (file_of c.in_ok-open_file.field-0) c.answer_script-answered.new.runner _ _ _ c.answer_script-answered.result c.flush_answers.result _ c.in_ok-flush_answers.was
+    (rw c.new-runner.ensures at c.answer_script-answered.ensures.ok) c.flush_answers.ensures)
+    c.in_ok-save.ensures.ok c.in_ok-save.ensures.flushed)

@@ -1,28 +1,52 @@
-use Rattle.std.proofs.Common.{◌≡◌, ◌++◌, ◌∷◌, [], ◌∙◌, length, ap, sym, append_assoc, arith}
+use Rattle.std.proofs.Common.{◌≡◌, ◌++◌, ◌∷◌, [], ◌∙◌, length, ap, sym, append_assoc, refl, arith}
 use Rattle.std.proofs.lemmas.List.{length-append}
-use Rattle.fits_cli.specs.Runner.{standing_of}
-use Rattle.fits_cli.proofs.RunLemmas.{Continues-open, Continues-line}
+use Rattle.fits_cli.proofs.ExitLemmas.{at_exit}
+use Rattle.fits_cli.proofs.RunLemmas.{Continues-none, Continues-open, Continues-line, PieceStops-line}
 use Rattle.fits_cli.proofs.script.answer_piece.Goals as goal
+
+pub loop-front-init : goal.loop-front-init
+loop-front-init g c = record {
+  done = [];
+  split = refl;
+  answered = Continues-none c.args.line.now.items c.args.runner.now _;
+  numbered = omega arith;
+  room = c.requires.room;
+  within = c.requires.within;
+}
 
 pub returns-in_default-clause-ok : goal.returns-in_default-clause-ok
 returns-in_default-clause-ok g c =
-    rw (c.loop-front.invariant.split, c.in_ok-extend_from_slice.ensures.items)
-    (Continues-open c.loop-front.invariant.done c.loop-front.rest.now c.args.line.now.items c.loop-front.line.items (standing_of c.args.runner.now) (standing_of c.loop-front.runner) _ _
-    c.loop-front.invariant.answered c.in_default.ensures.none)
+    let inv = c.loop-front.invariant in
+    rw inv.split
+    (Continues-open inv.done c.loop-front.rest.now c.args.line.now.items c.loop-front.line.items c.keep.new.line.items c.args.runner.now c.loop-front.runner _ _
+    inv.answered c.in_default.ensures.none c.keep.ensures.kept)
 
-pub loop-front-preserved : goal.loop-front-preserved
-loop-front-preserved g c =
-    let done = c.loop-front.invariant.done in
+pub returns-in_err-answer_line-clause-err : goal.returns-in_err-answer_line-clause-err
+returns-in_err-answer_line-clause-err g c =
+    let inv = c.loop-front.invariant in
     let front = c.in-Some.front.now in
     let next = c.in-Some.next.now in
     let cut : c.loop-front.rest.now ≡ front ++ 10 ∷ next = c.in-Some.ensures.some.1 in
-    let one = rw (c.deref.ensures.value ∙ c.in_ok-extend_from_slice-2.ensures.items) at c.in_ok-answer_line.ensures.ok in
+    let whole : c.args.piece.now ≡ inv.done ++ (front ++ 10 ∷ next) = inv.split ∙ ap (λ t. inv.done ++ t) cut in
+    at_exit _ _ _ c.from_residual.ensures.1
+    (rw whole
+    (PieceStops-line inv.done front next c.args.line.now.items c.loop-front.line.items c.keep-in-loop-front.new.line.items c.args.runner.now c.loop-front.runner _ _ _ c.in_err-answer_line.field-0.0
+    inv.answered c.in-Some.ensures.some.0 c.keep-in-loop-front.ensures.kept (rw c.deref.ensures.value at c.in_err-answer_line.ensures.err)))
+
+pub loop-front-preserved : goal.loop-front-preserved
+loop-front-preserved g c =
+    let inv = c.loop-front.invariant in
+    let done = inv.done in
+    let front = c.in-Some.front.now in
+    let next = c.in-Some.next.now in
+    let cut : c.loop-front.rest.now ≡ front ++ 10 ∷ next = c.in-Some.ensures.some.1 in
     record {
       done = done ++ (front ++ 10 ∷ []);
-      split = c.loop-front.invariant.split ∙ ap (λ t. done ++ t) (cut ∙ sym (append_assoc front (10 ∷ []) next)) ∙ sym (append_assoc done (front ++ 10 ∷ []) next);
+      split = inv.split ∙ ap (λ t. done ++ t) (cut ∙ sym (append_assoc front (10 ∷ []) next)) ∙ sym (append_assoc done (front ++ 10 ∷ []) next);
       answered = rw c.clear.ensures.items
-          (Continues-line done front c.args.line.now.items c.loop-front.line.items (standing_of c.args.runner.now) (standing_of c.loop-front.runner) (standing_of c.answer_line.new.runner) _ _ _
-          c.loop-front.invariant.answered c.in-Some.ensures.some.0 one);
-      numbered = omega (arith, c.in_ok-answer_line.ensures.line, ap length cut, length-append front (10 ∷ next), c.loop-front.invariant.numbered);
-      quiet = c.in_ok-answer_line.ensures.quiet ∙ c.loop-front.invariant.quiet;
+          (Continues-line done front c.args.line.now.items c.loop-front.line.items c.keep-in-loop-front.new.line.items c.args.runner.now c.loop-front.runner c.answer_line.new.runner _ _ _
+          inv.answered c.in-Some.ensures.some.0 c.keep-in-loop-front.ensures.kept (rw c.deref.ensures.value at c.in_ok-answer_line.ensures.ok));
+      numbered = omega (arith, c.in_ok-answer_line.ensures.line, ap length cut, length-append front (10 ∷ next), inv.numbered);
+      room = omega (arith, c.clear.ensures.capacity, c.keep-in-loop-front.ensures.room);
+      within = omega (arith, c.clear.ensures.len);
     }

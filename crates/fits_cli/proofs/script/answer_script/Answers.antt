@@ -1,42 +1,83 @@
-use Rattle.std.proofs.Common.{◌++◌, [], take, refl, arith, rules}
+use Rattle.std.proofs.Common.{◌≡◌, ◌++◌, [], take, length, refl, arith, rules}
 use Rattle.std.proofs.lemmas.List.{length-append, length-take-le}
 use Rattle.fits_card.proofs.StreamLemmas.{Consumes-none, Consumes-more}
-use Rattle.fits_cli.specs.Runner.{standing_of}
+use Rattle.fits_cli.specs.Streams.{source}
+use Rattle.fits_cli.proofs.ExitLemmas.{at_exit}
 use Rattle.fits_cli.proofs.RunLemmas.{HasCome-none}
-use Rattle.fits_cli.proofs.ScriptLemmas.{AnswersTooLong-over}
+use Rattle.fits_cli.proofs.ScriptLemmas.{ScriptReadFails-after, ScriptStops-piece, ScriptStops-over, ScriptStops-end, AnswersTooLong-over, AnswersScript-end}
 use Rattle.fits_cli.proofs.script.answer_script.Goals as goal
 
 pub loop-n-init : goal.loop-n-init
 loop-n-init g c = record {
-  come = [];
+  came = [];
   consumed = Consumes-none (g.S.Source.remaining c.args.script.now);
   counted = refl;
-  within = omega arith;
-  has = rw c.new-line.ensures.items (HasCome-none (standing_of c.args.runner.now) (g.O.Sink.contents c.args.out.now));
+  short = omega arith;
+  has = rw c.in_ok-line.ensures.items (HasCome-none c.args.runner.now _);
   numbered = omega (arith, c.requires);
   wide = omega (arith, c.as_mut_slice-piece.ensures.len, c.in_ok-buffer.ensures);
-  quiet_script = refl;
-  quiet_out = refl;
+  room = c.in_ok-line.ensures.capacity;
+  within = omega (arith, c.in_ok-line.ensures.len);
+  quiet = refl;
 }
 
-pub returns-then-n-room-clause-too_long : goal.returns-then-n-room-clause-too_long
-returns-then-n-room-clause-too_long g c _ =
+pub returns-in_default-clause-err : goal.returns-in_default-clause-err
+returns-in_default-clause-err g c =
     let inv = c.loop-n.invariant in
-    AnswersTooLong-over _ _ _ inv.come c.loop-n.line.items (standing_of c.args.runner.now) (standing_of c.loop-n.runner) (standing_of c.answer_piece.new.runner)
-    _ _ _ c.in-Ok.n c.read.new.buffer c.answer_piece.new.line.items inv.consumed c.in-Ok.ensures.bytes.0 (omega (arith, inv.within, inv.counted)) (omega (arith, c.if-n-room.true, inv.counted)) (search rules)
-    inv.has (rw (c.split_at.ensures.front, inv.counted) at c.in_ok-answer_piece.ensures.ok)
+    ScriptReadFails-after _ (source (g.S.Source.remaining c.loop-n.script) (g.S.Source.failures c.loop-n.script)) _ inv.came c.loop-n.line.items c.args.runner.now c.loop-n.runner _ _
+    inv.consumed c.in_default.ensures.bytes (omega (arith, inv.counted, inv.short)) (search (arith, inv.quiet, c.in_default.ensures.failed)) inv.has
+
+pub returns-in_err-answer_last_line-clause-err : goal.returns-in_err-answer_last_line-clause-err
+returns-in_err-answer_last_line-clause-err g c =
+    let inv = c.loop-n.invariant in
+    at_exit _ _ _ c.from_residual-in_err-answer_last_line.ensures.1
+    (ScriptStops-end _ (source (g.S.Source.remaining c.loop-n.script) (g.S.Source.failures c.loop-n.script)) _ c.in-Ok.n inv.came c.read.new.buffer c.loop-n.line.items c.args.runner.now c.loop-n.runner _ _ _
+    c.in_err-answer_last_line.field-0.0 inv.consumed c.in-Ok.ensures.bytes.0 c.if-n-eq0.true (c.in-Ok.ensures.bytes.1 c.if-n-eq0.true (search rules)) (omega (arith, inv.counted, inv.short))
+    (search (arith, inv.quiet, c.in-Ok.ensures.failed)) inv.has (rw c.deref.ensures.value at c.in_err-answer_last_line.ensures.err))
+
+pub returns-then-n-eq0-clause-ok : goal.returns-then-n-eq0-clause-ok
+returns-then-n-eq0-clause-ok g c =
+    let inv = c.loop-n.invariant in
+    AnswersScript-end _ (source (g.S.Source.remaining c.loop-n.script) (g.S.Source.failures c.loop-n.script)) _ c.in-Ok.n inv.came c.read.new.buffer c.loop-n.line.items c.args.runner.now c.loop-n.runner _ _ _ _
+    inv.consumed c.in-Ok.ensures.bytes.0 c.if-n-eq0.true (c.in-Ok.ensures.bytes.1 c.if-n-eq0.true (search rules)) (omega (arith, inv.counted, inv.short))
+    (search (arith, inv.quiet, c.in-Ok.ensures.failed)) inv.has (rw c.deref.ensures.value at c.in_ok-answer_last_line.ensures.ok)
+
+pub returns-in_err-answer_piece-clause-err : goal.returns-in_err-answer_piece-clause-err
+returns-in_err-answer_piece-clause-err g c =
+    let inv = c.loop-n.invariant in
+    at_exit _ _ _ c.from_residual-in_err-answer_piece.ensures.1
+    (ScriptStops-over _ (source (g.S.Source.remaining c.loop-n.script) (g.S.Source.failures c.loop-n.script)) _ c.in-Ok.n inv.came c.read.new.buffer c.loop-n.line.items c.args.runner.now c.loop-n.runner _ _ _
+    c.in_err-answer_piece.field-0.0 inv.consumed c.in-Ok.ensures.bytes.0 (omega (arith, inv.counted, inv.short)) (omega (arith, c.if-n-room.true, inv.counted)) (search rules)
+    (search (arith, inv.quiet, c.in-Ok.ensures.failed)) inv.has (rw (c.split_at.ensures.front, inv.counted) at c.in_err-answer_piece.ensures.err))
+
+pub returns-then-n-room-clause-err : goal.returns-then-n-room-clause-err
+returns-then-n-room-clause-err g c =
+    let inv = c.loop-n.invariant in
+    AnswersTooLong-over _ (source (g.S.Source.remaining c.loop-n.script) (g.S.Source.failures c.loop-n.script)) _ c.in-Ok.n inv.came c.read.new.buffer c.loop-n.line.items c.answer_piece.new.line.items
+    c.args.runner.now c.loop-n.runner c.answer_piece.new.runner _ _ _ inv.consumed c.in-Ok.ensures.bytes.0 (omega (arith, inv.counted, inv.short)) (omega (arith, c.if-n-room.true, inv.counted)) (search rules)
+    (search (arith, inv.quiet, c.in-Ok.ensures.failed)) inv.has (rw (c.split_at.ensures.front, inv.counted) at c.in_ok-answer_piece.ensures.ok)
+
+pub returns-in_err-answer_piece-2-clause-err : goal.returns-in_err-answer_piece-2-clause-err
+returns-in_err-answer_piece-2-clause-err g c =
+    let inv = c.loop-n.invariant in
+    let size : length (take c.in-Ok.n c.read.new.buffer) ≡ c.in-Ok.n = length-take-le c.in-Ok.n c.read.new.buffer (search rules) in
+    at_exit _ _ _ c.from_residual-in_err-answer_piece-2.ensures.1
+    (ScriptStops-piece _ (source (g.S.Source.remaining c.loop-n.script) (g.S.Source.failures c.loop-n.script)) _ inv.came (take c.in-Ok.n c.read.new.buffer) c.loop-n.line.items c.args.runner.now c.loop-n.runner _ _ _
+    c.in_err-answer_piece-2.field-0.0 inv.consumed c.in-Ok.ensures.bytes.0 (omega (arith, c.if-n-room.false, inv.counted, inv.short, size))
+    (search (arith, inv.quiet, c.in-Ok.ensures.failed)) inv.has (rw c.split_at-in-loop-n.ensures.front at c.in_err-answer_piece-2.ensures.err))
 
 pub loop-n-preserved : goal.loop-n-preserved
 loop-n-preserved g c =
     let inv = c.loop-n.invariant in
     record {
-      come = inv.come ++ take c.in-Ok.n c.read.new.buffer;
+      came = inv.came ++ take c.in-Ok.n c.read.new.buffer;
       consumed = Consumes-more _ _ _ _ _ inv.consumed c.in-Ok.ensures.bytes.0;
-      counted = omega (arith, inv.counted, length-append inv.come (take c.in-Ok.n c.read.new.buffer), length-take-le c.in-Ok.n c.read.new.buffer (search rules));
-      within = omega (arith, c.if-n-room.false, inv.within);
-      has = (rw c.split_at-in-loop-n.ensures.front at c.in_ok-answer_piece-2.ensures.ok) inv.come (standing_of c.args.runner.now) _ inv.has;
+      counted = omega (arith, inv.counted, length-append inv.came (take c.in-Ok.n c.read.new.buffer), length-take-le c.in-Ok.n c.read.new.buffer (search rules));
+      short = omega (arith, c.if-n-room.false, inv.short);
+      has = (rw c.split_at-in-loop-n.ensures.front at c.in_ok-answer_piece-2.ensures.ok) inv.came c.args.runner.now _ inv.has;
       numbered = omega (arith, c.in_ok-answer_piece-2.ensures.line, c.split_at-in-loop-n.ensures.front_len, inv.numbered);
       wide = omega (arith, inv.wide, c.read.auto.buffer);
-      quiet_script = search (arith, inv.quiet_script, c.in-Ok.ensures.failed);
-      quiet_out = search (arith, inv.quiet_out, c.in_ok-answer_piece-2.ensures.quiet);
+      room = c.in_ok-answer_piece-2.ensures.room;
+      within = c.in_ok-answer_piece-2.ensures.within;
+      quiet = search (arith, inv.quiet, c.in-Ok.ensures.failed);
     }

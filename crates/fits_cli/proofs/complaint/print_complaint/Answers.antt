@@ -1,0 +1,28 @@
+use Rattle.fits_cli.proofs.ComplaintLemmas.{complaint_word, complaint_number, complaint_colon, complaint_why, complaint_end}
+use Rattle.fits_cli.proofs.ExitLemmas.{print_exit}
+use Rattle.fits_cli.proofs.complaint.print_complaint.Goals as goal
+
+pub returns-in_err-print-clause-err : goal.returns-in_err-print-clause-err
+returns-in_err-print-clause-err g c =
+    let failed = c.in_err-print.ensures.err in
+    print_exit _ _ _ _ _ c.from_residual.ensures.1 failed.0 (complaint_word _ _ c.args.line c.args.why.now failed.1)
+
+pub returns-in_err-print_number-clause-err : goal.returns-in_err-print_number-clause-err
+returns-in_err-print_number-clause-err g c =
+    let failed = c.in_err-print_number.ensures.err in
+    print_exit _ _ _ _ _ c.from_residual-in_err-print_number.ensures.1 failed.0 (complaint_number _ _ _ c.args.line c.args.why.now c.in_ok-print.ensures.ok failed.1)
+
+pub returns-in_err-print-2-clause-err : goal.returns-in_err-print-2-clause-err
+returns-in_err-print-2-clause-err g c =
+    let failed = c.in_err-print-2.ensures.err in
+    print_exit _ _ _ _ _ c.from_residual-in_err-print-2.ensures.1 failed.0 (complaint_colon _ _ _ _ c.args.line c.args.why.now c.in_ok-print.ensures.ok c.in_ok-print_number.ensures.ok failed.1)
+
+pub returns-in_err-print-3-clause-err : goal.returns-in_err-print-3-clause-err
+returns-in_err-print-3-clause-err g c =
+    let failed = rw c.as_bytes.ensures.value at c.in_err-print-3.ensures.err in
+    print_exit _ _ _ _ _ c.from_residual-in_err-print-3.ensures.1 failed.0 (complaint_why _ _ _ _ _ c.args.line c.args.why.now c.in_ok-print.ensures.ok c.in_ok-print_number.ensures.ok c.in_ok-print-2.ensures.ok failed.1)
+
+pub returns-in_err-print-4-clause-err : goal.returns-in_err-print-4-clause-err
+returns-in_err-print-4-clause-err g c =
+    let failed = c.in_err-print-4.ensures.err in
+    print_exit _ _ _ _ _ c.from_residual-in_err-print-4.ensures.1 failed.0 (complaint_end _ _ _ _ _ _ c.args.line c.args.why.now c.in_ok-print.ensures.ok c.in_ok-print_number.ensures.ok c.in_ok-print-2.ensures.ok (rw c.as_bytes.ensures.value at c.in_ok-print-3.ensures.ok) failed.1)

@@ -1,0 +1,39 @@
+-- Faults: their status, and which one stands for a failed call (own).
+use Rattle.std.specs.Prelude.{◌≡◌, ℕ, List}
+use Rattle.fits_session.specs.declared.open_fault.OpenFault.{OpenFault}
+use Rattle.fits_session.specs.declared.open_fault.OpenFault.TheVariants.{NotFits, NoEnd, BadShape, ShortData, TooLarge, Memory as OpenMemory}
+use Rattle.fits_card.specs.declared.reading.ReadFault.{ReadFault}
+use Rattle.fits_card.specs.declared.reading.ReadFault.TheVariants as read_fault
+use Rattle.fits_cli.specs.Streams.{SinkState, PrintsFront, FailsToFlush}
+use Rattle.fits_cli.specs.declared.fault.Fault.{Fault}
+use Rattle.fits_cli.specs.declared.fault.Fault.TheVariants.{Refused, ScriptTooLong, Memory, ReadFailed, WriteFailed}
+
+-- the status that goes with a fault
+abbrev pub status_of_fault : Fault → ℕ
+status_of_fault (Refused why) = 2
+status_of_fault ScriptTooLong = 2
+status_of_fault Memory = 3
+status_of_fault ReadFailed = 3
+status_of_fault WriteFailed = 3
+
+-- what ends a run whose file doesn't open
+abbrev pub fault_of_open : OpenFault → Fault
+fault_of_open NotFits = Refused NotFits
+fault_of_open (NoEnd hdu) = Refused (NoEnd hdu)
+fault_of_open (BadShape hdu place) = Refused (BadShape hdu place)
+fault_of_open (ShortData hdu) = Refused (ShortData hdu)
+fault_of_open TooLarge = Refused TooLarge
+fault_of_open OpenMemory = Memory
+
+-- what ends a run whose file can't be read
+abbrev pub fault_of_read : ReadFault → Fault
+fault_of_read read_fault.Memory = Memory
+fault_of_read read_fault.Failed = ReadFailed
+
+-- a text isn't written whole
+abbrev pub PrintFails : List ℕ → SinkState → SinkState → Fault → Type 0
+PrintFails text old new fault = (fault ≡ WriteFailed) × PrintsFront text old new
+
+-- what was written isn't passed on
+abbrev pub FlushFails : SinkState → SinkState → Fault → Type 0
+FlushFails old new fault = (fault ≡ WriteFailed) × FailsToFlush old new

@@ -1,0 +1,30 @@
+-- What a line comes to in the program, and what is printed of it.
+use Rattle.std.specs.Prelude.{ℕ, Bool, true, false, List, codes, Result, Ok, Err, alloc_error}
+use Rattle.std.specs.declared.alloc.AllocError.{AllocError}
+use Rattle.std.specs.declared.alloc.Global.{Global}
+use Rattle.std.specs.declared.vec.Vec.{Vec}
+use Rattle.fits_session.specs.declared.refusal.Refusal.{Refusal as SessionRefusal}
+use Rattle.fits_session.specs.declared.refusal.Refusal.TheVariants.{Memory}
+use Rattle.fits_cli.specs.Answer.{complaint, refusal_text}
+use Rattle.fits_cli.specs.declared.reply.Reply.{Reply}
+use Rattle.fits_cli.specs.declared.reply.Reply.TheVariants.{Done, Refused, TooLong, NoCommand}
+
+-- what is printed of line `number`
+abbrev pub reply_text : ℕ → Reply → List ℕ
+reply_text number (Done text) = text.items
+reply_text number (Refused why) = complaint number (refusal_text why)
+reply_text number TooLong = complaint number (codes "too long")
+reply_text number NoCommand = complaint number (codes "not a command")
+
+-- the line was refused or bad
+abbrev pub counts_as_refused : Reply → Bool
+counts_as_refused (Done text) = false
+counts_as_refused (Refused why) = true
+counts_as_refused TooLong = true
+counts_as_refused NoCommand = true
+
+-- what a command's outcome is to its line: out of memory alone ends the run
+abbrev pub settled : Result (Vec ℕ Global) SessionRefusal → Result Reply AllocError
+settled (Ok text) = Ok (Done text)
+settled (Err Memory) = Err alloc_error
+settled (Err why) = Ok (Refused why)

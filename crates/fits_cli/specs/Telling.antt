@@ -1,0 +1,88 @@
+-- How a run ends that prints a text of a file, as `list` does (own).
+use Rattle.std.specs.Prelude.{◌≡◌, ◌⊎◌, ℕ, ◌+◌, List, Option, Some, None}
+use Rattle.fits_card.specs.Stream.{AppendsFront}
+use Rattle.fits_session.specs.File.{FileParts}
+use Rattle.fits_session.specs.Opening.{HasOpenFault}
+use Rattle.fits_session.specs.declared.open_fault.OpenFault.{OpenFault}
+use Rattle.fits_cli.specs.Ends.{Opens}
+use Rattle.fits_cli.specs.Faults.{status_of_fault}
+use Rattle.fits_cli.specs.Listing.{first_lines, listing}
+use Rattle.fits_cli.specs.Streams.{SourceState, SinkState, Tells, Prints, PrintsFront}
+use Rattle.fits_cli.specs.declared.fault.Fault.{Fault}
+use Rattle.fits_cli.specs.declared.fault.Fault.TheVariants.{Refused, ScriptTooLong, Memory, ReadFailed, WriteFailed}
+use Rattle.fits_cli.specs.declared.telling.Telling.{Telling}
+use Rattle.fits_cli.specs.declared.telling.Telling.TheVariants as telling
+
+-- the text of a file
+abbrev pub text_of : Telling → FileParts → List ℕ
+text_of telling.List file = listing file
+
+-- the status of a run that has printed it
+abbrev pub status_of_text : Telling → FileParts → ℕ
+status_of_text telling.List file = 0
+
+-- the text is printed and flushed
+pub record TextIsPrinted (kind : Telling) (file file_after : SourceState) (out out_after : SinkState) (status : ℕ) : Type 0 where
+  pub parts : FileParts
+  pub opened : Opens file parts
+  pub read : file_after.failures ≡ file.failures
+  pub printed : Prints (text_of kind parts) out out_after
+  pub flushed : out_after.unflushed ≡ 0
+  pub status_is : status ≡ status_of_text kind parts
+
+-- the file doesn't open: nothing is printed
+pub record TextIsRefused (file file_after : SourceState) (out out_after : SinkState) (why : OpenFault) : Type 0 where
+  pub bytes : List ℕ
+  pub told : Tells file.left bytes
+  pub fails : HasOpenFault bytes why
+  pub read : file_after.failures ≡ file.failures
+  pub printed : out_after ≡ out
+
+-- memory was refused: before the text, so that nothing is printed, or within it
+pub record TextIsOutOfMemory (kind : Telling) (file file_after : SourceState) (out out_after : SinkState) : Type 0 where
+  pub read : file_after.failures ≡ file.failures
+  pub quiet : out_after.failures ≡ out.failures
+  pub printed : (out_after ≡ out)
+      ⊎ ((parts : FileParts) × Opens file parts × AppendsFront out.holds out_after.holds (text_of kind parts))
+
+-- a read failed: nothing is printed
+pub record TextFileFails (file file_after : SourceState) (out out_after : SinkState) : Type 0 where
+  pub failed : file_after.failures ≡ file.failures + 1
+  pub printed : out_after ≡ out
+
+-- a write failed: a prefix of the text stands
+pub record TextFails (kind : Telling) (file file_after : SourceState) (out out_after : SinkState) : Type 0 where
+  pub parts : FileParts
+  pub opened : Opens file parts
+  pub read : file_after.failures ≡ file.failures
+  pub printed : PrintsFront (text_of kind parts) out out_after
+
+-- a text isn't printed to its end: memory was refused, or a write failed; a prefix of it stands
+abbrev pub PrintingStops : List ℕ → SinkState → SinkState → Fault → Type 0
+PrintingStops text out out_after (Refused why) = ⊥
+PrintingStops text out out_after ScriptTooLong = ⊥
+PrintingStops text out out_after Memory = AppendsFront out.holds out_after.holds text × (out_after.failures ≡ out.failures)
+PrintingStops text out out_after ReadFailed = ⊥
+PrintingStops text out out_after WriteFailed = PrintsFront text out out_after
+
+-- a listing isn't: where memory was refused, so many whole lines stand
+abbrev pub ListingStops : FileParts → SinkState → SinkState → Fault → Type 0
+ListingStops file out out_after (Refused why) = ⊥
+ListingStops file out out_after ScriptTooLong = ⊥
+ListingStops file out out_after Memory = (lines : ℕ) × Prints (first_lines lines file) out out_after
+ListingStops file out out_after ReadFailed = ⊥
+ListingStops file out out_after WriteFailed = PrintsFront (listing file) out out_after
+
+-- what stands before a fault that ends a run
+abbrev pub TextStopsBy : Telling → SourceState → SourceState → SinkState → SinkState → Fault → Type 0
+TextStopsBy kind file file_after out out_after (Refused why) = TextIsRefused file file_after out out_after why
+TextStopsBy kind file file_after out out_after ScriptTooLong = ⊥
+TextStopsBy kind file file_after out out_after Memory = TextIsOutOfMemory kind file file_after out out_after
+TextStopsBy kind file file_after out out_after ReadFailed = TextFileFails file file_after out out_after
+TextStopsBy kind file file_after out out_after WriteFailed = TextFails kind file file_after out out_after
+
+-- how a run ends: with its text, or by a fault and the fault's status
+abbrev pub TextEndsAs : Telling → SourceState → SourceState → SinkState → SinkState → ℕ → Option Fault → Type 0
+TextEndsAs kind file file_after out out_after status None = TextIsPrinted kind file file_after out out_after status
+TextEndsAs kind file file_after out out_after status (Some fault) =
+    TextStopsBy kind file file_after out out_after fault × (status ≡ status_of_fault fault)

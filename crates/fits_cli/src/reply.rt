@@ -1,0 +1,80 @@
+//! What a line comes to, and what is printed of it.
+ghost use Rattle.std.specs.Prelude.{◌≡◌, OnOk, IfErr};
+ghost use Rattle.fits_cli.specs.Answer.{refusal_text};
+ghost use Rattle.fits_cli.specs.Faults.{PrintFails};
+ghost use Rattle.fits_cli.specs.Reply.{counts_as_refused, reply_text, settled};
+ghost use Rattle.fits_cli.specs.Streams.{sink, Prints};
+
+use crate::complaint::print_complaint;
+use crate::fault::Fault;
+use crate::printing::print;
+use fits_card::Sink;
+use fits_session::Refusal;
+use std::alloc::AllocError;
+
+/// What a line comes to.
+#[derive(Drop)]
+pub(crate) enum Reply {
+    /// Its command was done, and prints this text.
+    Done(Vec<u8>),
+    /// Its command was refused.
+    Refused(Refusal),
+    /// It is past the limit.
+    TooLong,
+    /// It says no command.
+    NoCommand,
+}
+
+/// What a command's outcome is to its line: out of memory alone ends the run.
+pub(crate) fn settled(outcome: Result<Vec<u8>, Refusal>) -> Result<Reply, AllocError>
+    ensures { result ≡ settled outcome }
+{
+    match outcome {
+        Ok(text) => Ok(Reply::Done(text)),
+        Err(Refusal::Memory) => Err(AllocError),
+        Err(why) => Ok(Reply::Refused(why)),
+    }
+}
+
+/// Whether a line that comes to this was refused or bad.
+pub(crate) fn counts_as_refused(reply: &Reply) -> bool
+    ensures { result ≡ counts_as_refused reply.now }
+{
+    match reply {
+        Reply::Done(_) => false,
+        Reply::Refused(_) | Reply::TooLong | Reply::NoCommand => true,
+    }
+}
+
+/// Prints what a line comes to. It takes no memory.
+pub(crate) fn print_reply<O: Sink>(out: &mut O, line: u64, reply: &Reply) -> Result<(), Fault>
+    ensures ok { OnOk result (Prints (reply_text line reply.now)
+        (sink (O.contents out.old) (O.failures out.old) (O.unflushed out.old)) (sink (O.contents out.new) (O.failures out.new) (O.unflushed out.new))) }
+    ensures err { IfErr result (PrintFails (reply_text line reply.now)
+        (sink (O.contents out.old) (O.failures out.old) (O.unflushed out.old)) (sink (O.contents out.new) (O.failures out.new) (O.unflushed out.new))) }
+{
+    match reply {
+        Reply::Done(text) => print(out, text),
+        Reply::Refused(why) => print_complaint(out, line, refusal_text(*why)),
+        Reply::TooLong => print_complaint(out, line, "too long"),
+        Reply::NoCommand => print_complaint(out, line, "not a command"),
+    }
+}
+
+// What the line of a refusal says: its number and its name.
+fn refusal_text(why: Refusal) -> &'static str
+    ensures { result.now ≡ refusal_text why }
+{
+    match why {
+        Refusal::NoHdu => "refused 1 NoHdu",
+        Refusal::NoCard => "refused 2 NoCard",
+        Refusal::NoKey => "refused 3 NoKey",
+        Refusal::BadText => "refused 4 BadText",
+        Refusal::EndCard => "refused 5 EndCard",
+        Refusal::Shape => "refused 6 Shape",
+        Refusal::BadValue => "refused 8 BadValue",
+        Refusal::NotImage => "refused 9 NotImage",
+        Refusal::TooLarge => "refused 14 TooLarge",
+        Refusal::Memory => "refused 15 Memory",
+    }
+}

@@ -1,0 +1,83 @@
+//! A run that prints a text of a file.
+ghost use Rattle.std.specs.Prelude.{◌≡◌, IfOk, IfErr, OnOk};
+ghost use Rattle.fits_session.specs.Session.{file_of};
+ghost use Rattle.fits_cli.specs.Streams.{sink, source, Prints};
+ghost use Rattle.fits_cli.specs.Telling.{status_of_text, text_of, PrintingStops, TextEndsAs, TextIsPrinted, TextStopsBy};
+
+use crate::end::End;
+use crate::fault::Fault;
+use crate::listing::print_listing;
+use crate::opening::open_file;
+use crate::printing::flush;
+use fits_card::{Sink, Source};
+use fits_session::Session;
+use std::alloc::Global;
+
+/// Which text of a file a run prints.
+#[derive(Clone, Copy)]
+pub enum Telling {
+    /// A line for each HDU.
+    List,
+}
+
+/// Reads a file, opens it, and prints a text of it.
+pub(crate) fn run_telling<F: Source, O: Sink>(
+    alloc: Global,
+    telling: Telling,
+    file: &mut F,
+    out: &mut O,
+) -> End
+    ensures { TextEndsAs telling
+        (source (F.remaining file.old) (F.failures file.old)) (source (F.remaining file.new) (F.failures file.new))
+        (sink (O.contents out.old) (O.failures out.old) (O.unflushed out.old)) (sink (O.contents out.new) (O.failures out.new) (O.unflushed out.new))
+        result.status result.fault }
+{
+    match tell(alloc, telling, file, out) {
+        Ok(status) => End {
+            status,
+            fault: None,
+        },
+        Err(fault) => End::from(fault),
+    }
+}
+
+// The run as a result: its status, or the fault that ended it.
+fn tell<F: Source, O: Sink>(
+    alloc: Global,
+    telling: Telling,
+    file: &mut F,
+    out: &mut O,
+) -> Result<u8, Fault>
+    ensures ok { IfOk result (TextIsPrinted telling
+        (source (F.remaining file.old) (F.failures file.old)) (source (F.remaining file.new) (F.failures file.new))
+        (sink (O.contents out.old) (O.failures out.old) (O.unflushed out.old)) (sink (O.contents out.new) (O.failures out.new) (O.unflushed out.new))) }
+    ensures err { IfErr result (TextStopsBy telling
+        (source (F.remaining file.old) (F.failures file.old)) (source (F.remaining file.new) (F.failures file.new))
+        (sink (O.contents out.old) (O.failures out.old) (O.unflushed out.old)) (sink (O.contents out.new) (O.failures out.new) (O.unflushed out.new))) }
+{
+    let session = open_file(alloc, file)?;
+    let status = print_text(alloc, telling, &session, out)?;
+    flush(out)?;
+    Ok(status)
+}
+
+// Prints a text of a file, and gives the status that goes with it.
+fn print_text<O: Sink>(
+    alloc: Global,
+    telling: Telling,
+    session: &Session,
+    out: &mut O,
+) -> Result<u8, Fault>
+    ensures status { IfOk result (λ status. status ≡ status_of_text telling (file_of session.now)) }
+    ensures ok { OnOk result (Prints (text_of telling (file_of session.now))
+        (sink (O.contents out.old) (O.failures out.old) (O.unflushed out.old)) (sink (O.contents out.new) (O.failures out.new) (O.unflushed out.new))) }
+    ensures err { IfErr result (PrintingStops (text_of telling (file_of session.now))
+        (sink (O.contents out.old) (O.failures out.old) (O.unflushed out.old)) (sink (O.contents out.new) (O.failures out.new) (O.unflushed out.new))) }
+{
+    match telling {
+        Telling::List => {
+            print_listing(alloc, session, out)?;
+            Ok(0)
+        }
+    }
+}
