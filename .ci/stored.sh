@@ -5,7 +5,6 @@ set -u
 room=$(mktemp -d)
 trap 'rm -rf "$room"' EXIT
 program=crates/fitsed/out/fitsed
-example=examples/a_comment
 passed=0
 failed=0
 # expect NAME CONDITION..: the condition is a command
@@ -22,19 +21,51 @@ expect() {
 status() {
     want=$1
     shift
-    "$@" >"$room/printed" 2>"$room/told"
+    "$@" >"$room/printed" 2>"$room/reported"
     [ $? = "$want" ]
 }
 edit() { "$program" edit "$@" <"$example/script"; }
 onto_a_full_device() { "$program" edit "$1" "$2" <"$example/script" >/dev/full; }
 
-expect 'the example ends with 0' status 0 edit "$example/in.fits" "$room/out.fits"
-expect 'the example prints its answers' cmp -s "$room/printed" "$example/answers"
-expect 'the example saves its file' cmp -s "$room/out.fits" "$example/out.fits"
+# each example: its script over in.fits comes to its answers, its out.fits and its status
+for script in examples/*/script; do
+    example=$(dirname "$script")
+    name=$(basename "$example")
+    want=0
+    [ -e "$example/status" ] && want=$(cat "$example/status")
+    rm -f "$room/out.fits"
+    expect "the example $name ends with $want" status "$want" edit "$example/in.fits" "$room/out.fits"
+    expect "the example $name prints its answers" cmp -s "$room/printed" "$example/answers"
+    expect "the example $name saves its file" cmp -s "$room/out.fits" "$example/out.fits"
+done
+
+# each example with a listing: its in.fits is listed so
+for listing in examples/*/listing; do
+    example=$(dirname "$listing")
+    expect "the example $(basename "$example") is listed" status 0 "$program" list "$example/in.fits"
+    expect "the example $(basename "$example") has its listing" cmp -s "$room/printed" "$listing"
+done
+
+# many files at once, as docs/GUIDE.md has it
+example=examples/a_comment
+mkdir "$room/new"
+for k in 1 2 3 4 5 6 7 8; do cp "$example/in.fits" "$room/$k.fits"; done
+here=$(pwd)
+(cd "$room" && ls [1-8].fits | xargs -P 4 -I{} sh -c \
+    "\"\$0/$program\" edit \"\$1\" \"new/\$1\" < \"\$0/$example/script\" > \"new/\$1.answers\" 2>&1; echo \"\$? \$1\"" "$here" {} > done)
+expect 'eight files at once end with 0' [ "$(grep -c '^0 ' "$room/done")" = 8 ]
+expect 'and each is saved' cmp -s "$room/new/8.fits" "$example/out.fits"
+
+# the stored run of the program is this example
+example=examples/a_comment
+expect 'the stored run has its file' cmp -s crates/fitsed/data/p0.fits "$example/in.fits"
+expect 'the stored run has its script' cmp -s crates/fitsed/stdin "$example/script"
+expect 'the stored run has its answers' cmp -s crates/fitsed/stdout "$example/answers"
+
 expect 'a full device for answers ends with 3' status 3 onto_a_full_device "$example/in.fits" "$room/unsaved.fits"
 expect 'and nothing is saved' [ ! -e "$room/unsaved.fits" ]
 expect 'a full device for OUT ends with 3' status 3 edit "$example/in.fits" /dev/full
-expect 'and says so' grep -qx 'fitsed: write failed' "$room/told"
+expect 'and says so' grep -qx 'fitsed: write failed' "$room/reported"
 expect 'an IN that is not there ends with 3' status 3 edit "$room/nothing" "$room/unsaved.fits"
 expect 'an IN that is a folder ends with 3' status 3 edit "$room" "$room/unsaved.fits"
 expect 'an OUT that cannot be made ends with 3' status 3 edit "$example/in.fits" "$room/no/out.fits"
@@ -44,6 +75,9 @@ expect 'another command ends with 2' status 2 "$program" frob
 expect 'an argument that is not UTF-8 ends with 2' status 2 edit "$(printf 'a\377')" "$room/unsaved.fits"
 expect 'help ends with 0' status 0 "$program" --help
 expect 'help of a command ends with 0' status 0 "$program" edit --help
+expect 'and has the forms of the lines' grep -q 'ins H P CARD' "$room/printed"
+expect 'the version ends with 0' status 0 "$program" --version
+expect 'and is that of the manual page' [ "$(cat "$room/printed")" = "$(sed -n '1s/.*"\(fitsed [0-9.]*\)".*/\1/p' man/fitsed.1)" ]
 # two HDUs: P0 and an image extension of one pixel of 16 bits, and a tail
 {
     cat "$example/in.fits"
@@ -70,7 +104,7 @@ expect 'and is saved as it was' cmp -s "$room/two.out" "$room/two.fits"
 expect 'a full device for a listing ends with 3' status 3 list_to_a_full_device "$room/two.fits"
 head -c 8639 "$room/two.fits" >"$room/short.fits"
 expect 'a file without its last byte ends with 2' status 2 list "$room/short.fits"
-expect 'and says why' grep -qx 'fitsed: open refused O4 ShortData hdu 2' "$room/told"
+expect 'and says why' grep -qx 'fitsed: open refused O4 ShortData hdu 2' "$room/reported"
 expect 'a listing of nothing ends with 3' status 3 list "$room/nothing"
 expect 'a listing without a path ends with 2' status 2 list
 cp "$example/in.fits" "$room/same.fits"

@@ -1,0 +1,35 @@
+//! The tests of all the libraries: what no contract says, as tables of cases.
+#![tactic(auto)]
+
+#[cfg(test)]
+mod builders;
+#[cfg(test)]
+mod cards;
+#[cfg(test)]
+mod files;
+#[cfg(test)]
+mod hdus;
+#[cfg(test)]
+mod lines;
+#[cfg(test)]
+mod listings;
+#[cfg(test)]
+mod memory;
+#[cfg(test)]
+mod numbers;
+#[cfg(test)]
+mod planned;
+#[cfg(test)]
+mod rows;
+#[cfg(test)]
+mod runs;
+#[cfg(test)]
+mod shapes;
+#[cfg(test)]
+mod streams;
+#[cfg(test)]
+mod sums;
+#[cfg(test)]
+mod values;
+#[cfg(test)]
+mod writing;

@@ -1,0 +1,383 @@
+//! Lines of scripts: their commands, their lengths, and scripts of any length.
+
+use crate::builders::{P0, card_of, hdu_of, name_of, repeated};
+use crate::planned::{SMOOTH, reader, writer};
+use crate::runs::{ALL_SMOOTH, edit};
+use fits_card::Watched;
+use fits_cli::{Command, End, Fault, LineFault, parse_line, run_edit};
+use fits_session::Edit;
+use std::alloc::{AllocError, Global};
+use std::io;
+use std::io::Read;
+use std::process::Abort;
+use std::test::Fail;
+
+/// What a line says.
+#[derive(Clone, Copy)]
+enum Said<'a> {
+    Nothing,
+    Off,
+    Ins(usize, usize, &'a str),
+    Get(usize, &'a str),
+    /// It is no command.
+    Bad,
+}
+
+use Said::{Bad, Get, Ins, Nothing, Off};
+
+/// A line, and what it says.
+const LINES: &[(&str, Said<'static>)] = &[
+    ("", Nothing),
+    ("#", Nothing),
+    ("#x", Nothing),
+    ("# off", Nothing),
+    ("#\r", Nothing),
+    ("off", Off),
+    ("ins 1 4 CARD", Ins(1, 4, "CARD")),
+    ("ins 1 4", Ins(1, 4, "")),
+    ("ins 1 4 ", Ins(1, 4, "")),
+    // the rest of the line, spaces and all
+    ("ins 1 4  X", Ins(1, 4, " X")),
+    ("ins 1 4 X  Y ", Ins(1, 4, "X  Y")),
+    ("ins 1 4 X\r", Ins(1, 4, "X\r")),
+    ("ins 1 4 #", Ins(1, 4, "#")),
+    // 18 digits, zeros too
+    (
+        "ins 999999999999999999 123456789012345678 X",
+        Ins(999_999_999_999_999_999, 123_456_789_012_345_678, "X"),
+    ),
+    ("ins 000000000000000000 000000000000000012", Ins(0, 12, "")),
+    ("ins 0 0 X", Ins(0, 0, "X")),
+    ("ins 1 4 ins 1 4", Ins(1, 4, "ins 1 4")),
+    // a name is filled up with spaces
+    ("get 1 KEY", Get(1, "KEY")),
+    ("get 2 K", Get(2, "K")),
+    ("get 0 DATE-OBS", Get(0, "DATE-OBS")),
+    ("get 000000000000000012 1", Get(12, "1")),
+    (
+        "get 999999999999999999 get",
+        Get(999_999_999_999_999_999, "get"),
+    ),
+    ("get 1 #=/'\t\u{ff}\0", Get(1, "#=/'\t\u{ff}\0")),
+    ("get 1 KEY\r", Get(1, "KEY\r")),
+    // no command
+    ("off ", Bad),
+    (" off", Bad),
+    ("off\r", Bad),
+    ("off\t", Bad),
+    ("OFF", Bad),
+    ("offs", Bad),
+    ("of", Bad),
+    ("off 1", Bad),
+    (" ", Bad),
+    ("\r", Bad),
+    (" #", Bad),
+    ("\u{feff}off", Bad),
+    ("\0", Bad),
+    ("frob", Bad),
+    ("ins", Bad),
+    ("ins ", Bad),
+    ("ins 1", Bad),
+    ("ins 1 ", Bad),
+    ("ins  1 4 X", Bad),
+    ("ins 1  4 X", Bad),
+    (" ins 1 4 X", Bad),
+    ("ins\t1 4 X", Bad),
+    ("ins 1 x", Bad),
+    ("ins 1 x X", Bad),
+    ("ins x 4 X", Bad),
+    ("ins 1 4\r", Bad),
+    ("ins 1 4x X", Bad),
+    ("ins +1 4 X", Bad),
+    ("ins -1 4 X", Bad),
+    ("ins 1 +4 X", Bad),
+    ("ins 0x1 4 X", Bad),
+    // 19 digits, zeros too
+    ("ins 1000000000000000000 4 X", Bad),
+    ("ins 1 1000000000000000000 X", Bad),
+    ("ins 0000000000000000001 4 X", Bad),
+    ("ins 1 0000000000000000000 X", Bad),
+    ("INS 1 4 X", Bad),
+    ("get", Bad),
+    ("get ", Bad),
+    ("get 1", Bad),
+    ("get 1 ", Bad),
+    ("get 1  ", Bad),
+    ("get KEY", Bad),
+    ("get KEY 1", Bad),
+    ("get  1 KEY", Bad),
+    ("get 1  KEY", Bad),
+    (" get 1 KEY", Bad),
+    ("get\t1 KEY", Bad),
+    // a further space, or a further word
+    ("get 1 KEY ", Bad),
+    ("get 1 KEY 2", Bad),
+    // 9 bytes
+    ("get 1 DATE-OBS2", Bad),
+    ("get x KEY", Bad),
+    ("get -1 KEY", Bad),
+    ("get +1 KEY", Bad),
+    ("get 1000000000000000000 KEY", Bad),
+    ("gets 1 KEY", Bad),
+    ("ge 1 KEY", Bad),
+    ("GET 1 KEY", Bad),
+    // commands to come
+    ("put 1 4 X", Bad),
+    ("pos 1 KEY", Bad),
+    ("rep", Bad),
+    // 80 bytes, and 81
+    (
+        "ins 1 4 yyyyyyyyyyyyyyyyyyyyyyyyyyyyyyyyyyyyyyyyyyyyyyyyyyyyyyyyyyyyyyyyyyyyyyyyyyyyyyyy",
+        Ins(
+            1,
+            4,
+            "yyyyyyyyyyyyyyyyyyyyyyyyyyyyyyyyyyyyyyyyyyyyyyyyyyyyyyyyyyyyyyyyyyyyyyyyyyyyyyyy",
+        ),
+    ),
+    (
+        "ins 1 4 yyyyyyyyyyyyyyyyyyyyyyyyyyyyyyyyyyyyyyyyyyyyyyyyyyyyyyyyyyyyyyyyyyyyyyyyyyyyyyyyy",
+        Bad,
+    ),
+    (
+        "ins 1 4 yyyyyyyyyyyyyyyyyyyyyyyyyyyyyyyyyyyyyyyyyyyyyyyyyyyyyyyyyyyyyyyyyyyyyyyyyyyyyyyy ",
+        Bad,
+    ),
+];
+
+#[test]
+fn a_line_says_one_command_or_none(rt: HostRuntime) {
+    for (line, said) in LINES {
+        assert_eq!(rt;
+            parse_line(rt.alloc(), line.as_bytes()),
+            command_of(*said),
+            "{line:?}"
+        );
+    }
+}
+
+// The command that is said so.
+fn command_of(said: Said<'_>) -> Result<Command, LineFault> {
+    match said {
+        Nothing => Ok(Command::Nothing),
+        Off => Ok(Command::Offsets),
+        Ins(hdu, place, text) => Ok(Command::Edit(Edit::Insert {
+            hdu,
+            place,
+            card: card_of(text),
+        })),
+        Get(hdu, name) => Ok(Command::Get {
+            hdu,
+            name: name_of(name),
+        }),
+        Bad => Err(LineFault::Bad),
+    }
+}
+
+/// A script over the shortest file: its parts, each so many times; its answers, and the status.
+const SCRIPTS: &[(&[(&str, usize)], &str, u8)] = &[
+    (&[("#", 100_000)], "", 0),
+    (&[("x", 100_000)], "line 1: not a command\n", 1),
+    (&[("#", 100_001)], "line 1: too long\n", 1),
+    (&[(" ", 100_001)], "line 1: too long\n", 1),
+    (&[("x", 100_001)], "line 1: too long\n", 1),
+    (&[("\0", 100_001)], "line 1: too long\n", 1),
+    // a line is measured without its line feed
+    (
+        &[
+            ("#", 100_000),
+            ("\noff\n", 1),
+            ("#", 100_001),
+            ("\noff\n", 1),
+            ("x", 100_000),
+            ("\n", 1),
+            ("x", 300_000),
+            ("\noff", 1),
+        ],
+        "1 0 2880 2880\nline 3: too long\n1 0 2880 2880\nline 5: not a command\nline 6: too long\n1 0 2880 2880\n",
+        1,
+    ),
+    // lines are counted from 1
+    (&[], "", 0),
+    (&[("\n", 1)], "", 0),
+    (&[("\n", 3)], "", 0),
+    (&[("off", 1)], "1 0 2880 2880\n", 0),
+    (&[("off\n", 1)], "1 0 2880 2880\n", 0),
+    (&[("frob", 1)], "line 1: not a command\n", 1),
+    (&[("frob\n", 1)], "line 1: not a command\n", 1),
+    (
+        &[("\n#\n\nfrob\n\nfrob", 1)],
+        "line 4: not a command\nline 6: not a command\n",
+        1,
+    ),
+    (
+        &[("\n", 98), ("x\n", 2), ("\n", 9899), ("x", 1)],
+        "line 99: not a command\nline 100: not a command\nline 10000: not a command\n",
+        1,
+    ),
+];
+
+#[test]
+fn lines_are_counted_and_measured(rt: HostRuntime) -> Result<(), Fail> {
+    let file = hdu_of(rt.alloc(), P0, 0)?;
+    for (parts, answers, status) in SCRIPTS {
+        let script = script_of(rt.alloc(), parts)?;
+        let ran = edit(rt.alloc(), &file, &script, ALL_SMOOTH)?;
+        assert_eq!(rt; ran.printed.as_slice(), answers.as_bytes());
+        assert_eq!(rt;
+            ran.end,
+            End {
+                status: *status,
+                fault: None
+            }
+        );
+        assert!(rt; ran.saved.as_slice() == file.as_slice());
+    }
+    Ok(())
+}
+
+// Parts, each so many times.
+fn script_of(alloc: Global, parts: &[(&str, usize)]) -> Result<Vec<u8>, AllocError> {
+    let mut script = Vec::new(alloc);
+    for (text, times) in parts {
+        script.extend_from_slice(&repeated(alloc, text, *times)?)?;
+    }
+    Ok(script)
+}
+
+/// A script of a first part, another so many times, and a last one.
+#[derive(Drop)]
+struct LongScript<'a> {
+    rest: &'a [u8],
+    piece: &'a [u8],
+    times: usize,
+    last: &'a [u8],
+}
+
+impl Read for LongScript<'_> {
+    fn read(&mut self, buf: &mut [u8]) -> io::Result<usize> {
+        if self.rest.is_empty() {
+            if self.times > 0 {
+                self.times -= 1;
+                self.rest = self.piece;
+            } else {
+                self.rest = self.last;
+                self.last = b"";
+            }
+        }
+        let count = buf.len().min(self.rest.len());
+        let (piece, rest) = self.rest.split_at(count);
+        let (front, _) = buf.split_at_mut(count);
+        front.copy_from_slice(piece);
+        self.rest = rest;
+        Ok(count)
+    }
+}
+
+const NEVER: usize = usize::MAX;
+
+/// A script over the shortest file: its first lines, what 99,999 bytes of a comment end with, and how often they
+/// come; a last comment of so many bytes, and what follows it; its answers, and the fault.
+type LongText<'a> = (
+    &'a str,
+    &'a str,
+    usize,
+    usize,
+    &'a str,
+    &'a str,
+    Option<Fault>,
+);
+
+const NEVER_ENDING_LINE: LongText<'static> = (
+    "",
+    "#",
+    usize::MAX,
+    0,
+    "",
+    "",
+    Some(Fault::ScriptTooLong),
+);
+
+const NEVER_ENDING_SCRIPT: LongText<'static> = (
+    "off\nfrob\n",
+    "\n",
+    usize::MAX,
+    0,
+    "",
+    "1 0 2880 2880\nline 2: not a command\n",
+    Some(Fault::ScriptTooLong),
+);
+
+/// 100,000,000 bytes.
+const LONGEST: LongText<'static> = ("", "\n", 999, 99_995, "\noff\n", "1 0 2880 2880\n", None);
+
+/// One byte more, the last of a line.
+const LONGER: LongText<'static> = (
+    "",
+    "\n",
+    999,
+    99_992,
+    "\noff\noff\n",
+    "1 0 2880 2880\n",
+    Some(Fault::ScriptTooLong),
+);
+
+#[test]
+fn a_line_without_end_is_a_script_too_long(rt: HostRuntime) -> Result<(), Fail> {
+    check_long(&rt, NEVER_ENDING_LINE)
+}
+
+#[test]
+fn a_script_without_end_is_answered_as_far_as_the_limit(rt: HostRuntime) -> Result<(), Fail> {
+    check_long(&rt, NEVER_ENDING_SCRIPT)
+}
+
+#[test]
+fn a_script_of_a_hundred_million_bytes_is_taken(rt: HostRuntime) -> Result<(), Fail> {
+    check_long(&rt, LONGEST)
+}
+
+#[test]
+fn a_line_that_ends_past_the_limit_is_not_answered(rt: HostRuntime) -> Result<(), Fail> {
+    check_long(&rt, LONGER)
+}
+
+// Whether a long script comes to its answers and its fault.
+fn check_long<R: Abort + AllocGlobal>(rt: &R, text: LongText<'_>) -> Result<(), Fail> {
+    let (first, end, times, len, last, answers, fault) = text;
+    let mut comment = repeated(rt.alloc(), "#", 99_999)?;
+    comment.extend_from_slice(end.as_bytes())?;
+    let mut rest = repeated(rt.alloc(), "#", len)?;
+    rest.extend_from_slice(last.as_bytes())?;
+    let script = LongScript {
+        rest: first.as_bytes(),
+        piece: &comment,
+        times,
+        last: &rest,
+    };
+    check_script(rt, script, answers, fault)
+}
+
+// Whether a run of this script over the shortest file prints this, and saves the file where no fault ends it.
+fn check_script<R: Abort + AllocGlobal>(
+    rt: &R,
+    script: LongScript<'_>,
+    answers: &str,
+    fault: Option<Fault>,
+) -> Result<(), Fail> {
+    let alloc = rt.alloc();
+    let file = hdu_of(alloc, P0, 0)?;
+    let mut saved = writer(alloc, SMOOTH)?;
+    let mut out = writer(alloc, SMOOTH)?;
+    let end = run_edit(
+        alloc,
+        &mut reader(&file, SMOOTH),
+        &mut Watched::new(script),
+        &mut saved,
+        &mut out,
+    );
+    assert_eq!(rt; end.fault, fault);
+    assert_eq!(rt; out.into_inner().bytes.as_slice(), answers.as_bytes());
+    let wanted = if fault.is_none() { file.len() } else { 0 };
+    assert_eq!(rt; saved.into_inner().bytes.len(), wanted);
+    Ok(())
+}

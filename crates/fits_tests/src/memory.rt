@@ -1,0 +1,421 @@
+//! Refused memory: each of these tests is run once for each of its requests, with that one refused.
+//!
+//! Where the request belongs to what a test sets up, the test gives up quietly. After a refusal the next try finds
+//! all as it was.
+
+use crate::builders::{
+    COMMENTS, FileText, P0, PIXEL, add_cards, card_of, end_header, file_of, hdu_of, header_of,
+    name_of, repeated,
+};
+use crate::hdus::ASKED;
+use crate::planned::{SMOOTH, writer};
+use crate::runs::{ALL_SMOOTH, Ran, edit, list};
+use crate::shapes::{ShapeText, check_shape};
+use crate::streams::{LISTED, LISTING};
+use crate::values::line_of;
+use fits_card::{HeaderFault, cut_header};
+use fits_cli::{End, Fault};
+use fits_hdu::{Hdu, HduFault, KeywordFault};
+use fits_rules::{Class, ShapeFault, shape};
+use fits_session::{Edit, OpenFault, Refusal, Session};
+use fits_value::{Text, Value, long_value, read_field, read_value};
+use std::alloc::{AllocError, Global};
+use std::process::Abort;
+use std::test::Fail;
+
+// A header of 42 cards.
+fn long_header(alloc: Global) -> Result<Vec<u8>, AllocError> {
+    let mut bytes = Vec::new(alloc);
+    for text in [COMMENTS, "A|B|C|D|E|F|G|H|I|J|END"] {
+        add_cards(&mut bytes, text)?;
+    }
+    end_header(&mut bytes)?;
+    Ok(bytes)
+}
+
+#[test]
+fn refused_memory_at_a_cut(rt: HostRuntime) {
+    let Ok(bytes) = long_header(rt.alloc()) else {
+        return;
+    };
+    for _ in 0..2 {
+        match cut_header(rt.alloc(), &bytes) {
+            Ok((list, len)) => {
+                assert_eq!(rt; list.len(), 42);
+                assert_eq!(rt; len, 5760);
+            }
+            Err(fault) => assert_eq!(rt; fault, HeaderFault::Memory),
+        }
+    }
+}
+
+#[test]
+fn refused_memory_in_a_store(rt: HostRuntime) -> Result<(), Fail> {
+    let (Ok(bytes), Ok(mut sink), Ok(mut list)) = (
+        hdu_of(rt.alloc(), P0, 0),
+        writer(rt.alloc(), SMOOTH),
+        header_of(rt.alloc(), P0),
+    ) else {
+        return Ok(());
+    };
+    for room in [1usize, 100, 10_000] {
+        let _ = list.reserve(room);
+    }
+    assert_eq!(rt; list.len(), 3);
+    list.emit(&mut sink)?;
+    assert!(rt; sink.into_inner().bytes.as_slice() == bytes.as_slice());
+    Ok(())
+}
+
+/// Fields that ask for memory, and what they say.
+const FIELDS: &[(&str, &str)] = &[
+    ("'it''s' / c", "string [it's] / c"),
+    ("(1, 2.5) / pair", "complex [1] [2.5] / pair"),
+    ("42 / n", "integer [42] / n"),
+    ("-1.5E3", "real [-1.5E3]"),
+];
+
+// Whether this was said, where there was memory for it.
+fn check_said<R: Abort + AllocGlobal>(
+    rt: &R,
+    said: Result<Option<(Value, Option<Text>)>, AllocError>,
+    wanted: &str,
+) {
+    if let Ok(said) = said
+        && let Ok(line) = line_of(rt.alloc(), &said)
+    {
+        assert_eq!(rt; line.as_slice(), wanted.as_bytes());
+    }
+}
+
+#[test]
+fn refused_memory_at_a_field(rt: HostRuntime) {
+    for (field, wanted) in FIELDS {
+        for _ in 0..2 {
+            check_said(&rt, read_field(rt.alloc(), field.as_bytes()), wanted);
+        }
+    }
+}
+
+/// A card, and what it says.
+const CARD: &str = "KEY     = 'it''s' / c";
+
+#[test]
+fn refused_memory_at_a_card(rt: HostRuntime) {
+    for _ in 0..2 {
+        let said = read_value(rt.alloc(), &card_of(CARD));
+        check_said(&rt, said, "string [it's] / c");
+    }
+}
+
+#[test]
+fn refused_memory_at_a_long_string(rt: HostRuntime) {
+    let cards = "A       = 'one&'|CONTINUE  'two&'|CONTINUE  'three' / c|END";
+    let Ok(mut header) = header_of(rt.alloc(), cards) else {
+        return;
+    };
+    for _ in 0..3 {
+        assert_eq!(rt; header.len(), 3);
+        let said = long_value(rt.alloc(), &mut header, 1);
+        check_said(&rt, said, "string [onetwothree] / c");
+    }
+}
+
+const GOOD: &str =
+    "XTENSION= 'IMAGE'|BITPIX  = 16|NAXIS   = 2|NAXIS1  = 3|NAXIS2  = 4|PCOUNT  = 1|END";
+
+const GOOD_SHAPE: ShapeText<'static> = (Class::Image, 16, &[3, 4], 1, 1);
+
+const BROKEN: &str =
+    "XTENSION= 'IMAGE'|BITPIX  = 16|NAXIS   = 2|NAXIS1  = 3|NAXIS2  = -4|PCOUNT  = 1|END";
+
+#[test]
+fn refused_memory_at_a_shape(rt: HostRuntime) {
+    let (Ok(mut good), Ok(mut broken)) = (
+        header_of(rt.alloc(), GOOD),
+        header_of(rt.alloc(), BROKEN),
+    ) else {
+        return;
+    };
+    for _ in 0..2 {
+        match shape(rt.alloc(), &mut good, false) {
+            Ok(found) => check_shape(&rt, &found, GOOD_SHAPE, GOOD),
+            Err(fault) => assert_eq!(rt; fault, ShapeFault::Memory),
+        }
+        // a broken place is found without memory
+        let fault = shape(rt.alloc(), &mut broken, false).err();
+        assert_eq!(rt; fault, Some(ShapeFault::Bad(5)));
+    }
+}
+
+#[test]
+fn refused_memory_at_an_hdu(rt: HostRuntime) {
+    let Ok(bytes) = hdu_of(rt.alloc(), PIXEL, 1) else {
+        return;
+    };
+    for _ in 0..2 {
+        match Hdu::open(rt.alloc(), &bytes, false) {
+            Ok((hdu, len)) => {
+                assert_eq!(rt; hdu.data_len(), 2880);
+                assert_eq!(rt; len, 5760);
+            }
+            Err(fault) => assert_eq!(rt; fault, HduFault::Memory),
+        }
+    }
+}
+
+#[test]
+fn refused_memory_at_a_keyword(rt: HostRuntime) {
+    let Ok(bytes) = hdu_of(rt.alloc(), ASKED, 0) else {
+        return;
+    };
+    let Ok((mut hdu, _)) = Hdu::open(rt.alloc(), &bytes, true) else {
+        return;
+    };
+    for _ in 0..2 {
+        if let Err(fault) = hdu.value(rt.alloc(), &name_of("KEY")) {
+            assert_eq!(rt; fault, KeywordFault::Memory);
+        }
+        let fault = hdu.value(rt.alloc(), &name_of("ABSENT")).err();
+        assert_eq!(rt; fault, Some(KeywordFault::NoKey));
+    }
+}
+
+/// Two HDUs and a tail; the first has 35 cards.
+fn full_file(alloc: Global, more: &str) -> Result<Vec<u8>, AllocError> {
+    let mut bytes = Vec::new(alloc);
+    for text in ["SIMPLE|BITPIX  = 8|NAXIS   = 0", COMMENTS, more] {
+        add_cards(&mut bytes, text)?;
+    }
+    end_header(&mut bytes)?;
+    let rest: FileText<'_> = (&[(PIXEL, 1)], "tail");
+    bytes.extend_from_slice(&file_of(alloc, rest)?)?;
+    Ok(bytes)
+}
+
+// Whether two files give the same answers. Err: the memory for a comparison was refused.
+fn same_answers<R: Abort + AllocGlobal>(
+    rt: &R,
+    one: &mut Session,
+    other: &mut Session,
+) -> Result<(), AllocError> {
+    assert_eq!(rt; one.hdus(), other.hdus());
+    for h in 0..4usize {
+        assert_eq!(rt; one.card_count(h), other.card_count(h));
+        assert_eq!(rt; one.kind(h), other.kind(h));
+        assert_eq!(rt; one.shape(h).is_ok(), other.shape(h).is_ok());
+        for name in ["XTENSION", "BITPIX", "OBJECT"] {
+            let line = answer(rt.alloc(), one, h, name)?;
+            assert!(rt; line == answer(rt.alloc(), other, h, name)?);
+        }
+    }
+    assert!(rt; one.offsets()?.as_slice() == other.offsets()?.as_slice());
+    assert!(rt; saved(rt.alloc(), one)?.as_slice() == saved(rt.alloc(), other)?.as_slice());
+    Ok(())
+}
+
+// What a keyword of an HDU says, as a line.
+fn answer(
+    alloc: Global,
+    session: &mut Session,
+    h: usize,
+    name: &str,
+) -> Result<Result<Vec<u8>, Refusal>, AllocError> {
+    match session.value(h, &name_of(name)) {
+        Ok(said) => Ok(Ok(line_of(alloc, &Some(said))?)),
+        Err(Refusal::Memory) => Err(AllocError),
+        Err(why) => Ok(Err(why)),
+    }
+}
+
+// The bytes that are saved.
+fn saved(alloc: Global, session: &mut Session) -> Result<Vec<u8>, AllocError> {
+    let mut sink = writer(alloc, SMOOTH)?;
+    match session.save(&mut sink) {
+        Ok(()) => Ok(sink.into_inner().bytes),
+        Err(_) => Err(AllocError),
+    }
+}
+
+#[test]
+fn refused_memory_at_opening(rt: HostRuntime) {
+    let Ok(bytes) = full_file(rt.alloc(), "END") else {
+        return;
+    };
+    for _ in 0..2 {
+        match Session::open(rt.alloc(), &bytes) {
+            Ok(session) => assert_eq!(rt; session.hdus(), 2),
+            Err(why) => assert_eq!(rt; why, OpenFault::Memory),
+        }
+        // what begins otherwise is no file, whatever memory there is
+        let why = Session::open(rt.alloc(), b"SIMPLE").err();
+        assert_eq!(rt; why, Some(OpenFault::NotFits));
+    }
+}
+
+#[test]
+fn refused_memory_at_an_edit(rt: HostRuntime) {
+    let alloc = rt.alloc();
+    let (Ok(before), Ok(after)) = (full_file(alloc, "END"), full_file(alloc, "COMMENT x|END"))
+    else {
+        return;
+    };
+    let Ok(mut session) = Session::open(alloc, &before) else {
+        return;
+    };
+    let edit = Edit::Insert {
+        hdu: 1,
+        place: 36,
+        card: card_of("COMMENT x"),
+    };
+    let edited = session.edit(edit);
+    if let Err(why) = edited {
+        assert_eq!(rt; why, Refusal::Memory);
+    }
+    // nothing else is refused after a refusal
+    let bytes = if edited.is_ok() { &after } else { &before };
+    if let Ok(mut fresh) = Session::open(alloc, bytes) {
+        let _ = same_answers(&rt, &mut session, &mut fresh);
+    }
+}
+
+#[test]
+fn refused_memory_at_a_refused_edit(rt: HostRuntime) {
+    let Ok(bytes) = full_file(rt.alloc(), "END") else {
+        return;
+    };
+    let Ok(mut session) = Session::open(rt.alloc(), &bytes) else {
+        return;
+    };
+    let edit = Edit::Insert {
+        hdu: 2,
+        place: 2,
+        card: card_of("COMMENT x"),
+    };
+    for _ in 0..2 {
+        let why = session.edit(edit).err();
+        assert!(rt; why == Some(Refusal::Memory) || why == Some(Refusal::Shape));
+    }
+    if let Ok(mut fresh) = Session::open(rt.alloc(), &bytes) {
+        let _ = same_answers(&rt, &mut session, &mut fresh);
+    }
+}
+
+#[test]
+fn refused_memory_at_a_query(rt: HostRuntime) {
+    let Ok(bytes) = full_file(rt.alloc(), "END") else {
+        return;
+    };
+    let Ok(mut session) = Session::open(rt.alloc(), &bytes) else {
+        return;
+    };
+    if let Err(why) = session.value(2, &name_of("XTENSION")) {
+        assert_eq!(rt; why, Refusal::Memory);
+    }
+    let why = session.value(2, &name_of("ABSENT")).err();
+    assert_eq!(rt; why, Some(Refusal::NoKey));
+    let _ = session.offsets();
+    if let Ok(mut fresh) = Session::open(rt.alloc(), &bytes) {
+        let _ = same_answers(&rt, &mut session, &mut fresh);
+    }
+}
+
+#[test]
+fn refused_memory_at_saving(rt: HostRuntime) {
+    let Ok(bytes) = full_file(rt.alloc(), "END") else {
+        return;
+    };
+    let (Ok(mut session), Ok(mut sink)) = (
+        Session::open(rt.alloc(), &bytes),
+        writer(rt.alloc(), SMOOTH),
+    ) else {
+        return;
+    };
+    // saving asks for none
+    assert_eq!(rt; session.save(&mut sink), Ok(()));
+    assert!(rt; sink.into_inner().bytes.as_slice() == bytes.as_slice());
+}
+
+// Whether a run prints and saves this, or ends by want of memory, prints a front and saves nothing.
+fn check_ended<R: Abort>(rt: &R, ran: &Ran, answers: &str, status: u8, saved: &[u8]) {
+    if ran.end.fault == Some(Fault::Memory) {
+        assert_eq!(rt; ran.end.status, 3);
+        assert!(rt; ran.saved.is_empty());
+        assert!(rt; answers.as_bytes().starts_with(&ran.printed));
+    } else {
+        assert_eq!(rt;
+            ran.end,
+            End {
+                status,
+                fault: None
+            }
+        );
+        assert_eq!(rt; ran.printed.as_slice(), answers.as_bytes());
+        assert!(rt; ran.saved.as_slice() == saved);
+    }
+}
+
+// A script that makes 36 cards of three, so that the header grows by a block.
+fn growing_script(alloc: Global) -> Result<Vec<u8>, AllocError> {
+    let mut script = repeated(alloc, "ins 1 4 COMMENT\n", 33)?;
+    script.extend_from_slice(b"off\n# the end\noff")?;
+    Ok(script)
+}
+
+// The file that the script leaves.
+fn grown_file(alloc: Global) -> Result<Vec<u8>, AllocError> {
+    let mut bytes = Vec::new(alloc);
+    for text in ["SIMPLE|BITPIX  = 8|NAXIS   = 0", COMMENTS, "COMMENT|END"] {
+        add_cards(&mut bytes, text)?;
+    }
+    end_header(&mut bytes)?;
+    Ok(bytes)
+}
+
+#[test]
+fn refused_memory_in_a_run_saves_nothing(rt: HostRuntime) {
+    let (Ok(file), Ok(script), Ok(saved)) = (
+        hdu_of(rt.alloc(), "SIMPLE|BITPIX  = 8|NAXIS   = 0|END", 0),
+        growing_script(rt.alloc()),
+        grown_file(rt.alloc()),
+    ) else {
+        return;
+    };
+    for _ in 0..2 {
+        if let Ok(ran) = edit(rt.alloc(), &file, &script, ALL_SMOOTH) {
+            check_ended(&rt, &ran, "1 0 5760 5760\n1 0 5760 5760\n", 0, &saved);
+        }
+    }
+}
+
+const SAID: &str = "SIMPLE|BITPIX  = 8|NAXIS   = 0|KEY     = 'ab&' / first|CONTINUE  'c''d&'|\
+    CONTINUE  'e' / last|PAIR    = (1, 2)/|END";
+
+const QUESTIONS: &[u8] = b"get 1 KEY\nget 1 PAIR\nget 1 NONE\nget 1 KEY";
+
+const ANSWERS: &str = "string 'abc''de' / last\ncomplex (1, 2) /\nline 3: refused 3 NoKey\n\
+    string 'abc''de' / last\n";
+
+#[test]
+fn refused_memory_prints_no_other_value(rt: HostRuntime) {
+    let Ok(file) = hdu_of(rt.alloc(), SAID, 0) else {
+        return;
+    };
+    for _ in 0..2 {
+        if let Ok(ran) = edit(rt.alloc(), &file, QUESTIONS, ALL_SMOOTH) {
+            check_ended(&rt, &ran, ANSWERS, 1, &file);
+        }
+    }
+}
+
+#[test]
+fn refused_memory_lists_no_other_lines(rt: HostRuntime) {
+    let Ok(file) = file_of(rt.alloc(), LISTED) else {
+        return;
+    };
+    for _ in 0..2 {
+        if let Ok(ran) = list(rt.alloc(), &file, ALL_SMOOTH) {
+            check_ended(&rt, &ran, LISTING, 0, b"");
+        }
+    }
+}

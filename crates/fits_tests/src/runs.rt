@@ -1,0 +1,77 @@
+//! Runs of scripts and listings over memory.
+
+use crate::planned::{Plan, SMOOTH, reader, writer};
+use fits_cli::{End, run_edit, run_list};
+use std::alloc::{AllocError, Global};
+
+/// What each stream of a run does.
+#[derive(Clone, Copy)]
+pub struct Plans {
+    pub file: Plan,
+    pub script: Plan,
+    pub answers: Plan,
+    pub saved: Plan,
+}
+
+/// No call of any stream fails.
+pub const ALL_SMOOTH: Plans = Plans {
+    file: SMOOTH,
+    script: SMOOTH,
+    answers: SMOOTH,
+    saved: SMOOTH,
+};
+
+/// The end of a run without a fault and without a refused line.
+pub const DONE: End = End {
+    status: 0,
+    fault: None,
+};
+
+/// What a run came to, and how often it called each stream.
+#[derive(Drop)]
+pub struct Ran {
+    pub end: End,
+    pub printed: Vec<u8>,
+    pub saved: Vec<u8>,
+    pub file_calls: usize,
+    pub script_calls: usize,
+    pub answer_calls: usize,
+    pub save_calls: usize,
+}
+
+/// A run of a script over a file.
+pub fn edit(alloc: Global, file: &[u8], script: &[u8], plans: Plans) -> Result<Ran, AllocError> {
+    let mut file = reader(file, plans.file);
+    let mut script = reader(script, plans.script);
+    let mut saved = writer(alloc, plans.saved)?;
+    let mut out = writer(alloc, plans.answers)?;
+    let end = run_edit(alloc, &mut file, &mut script, &mut saved, &mut out);
+    let out = out.into_inner();
+    let saved = saved.into_inner();
+    Ok(Ran {
+        end,
+        file_calls: file.into_inner().calls,
+        script_calls: script.into_inner().calls,
+        answer_calls: out.calls,
+        save_calls: saved.calls,
+        printed: out.bytes,
+        saved: saved.bytes,
+    })
+}
+
+/// A listing of a file.
+pub fn list(alloc: Global, file: &[u8], plans: Plans) -> Result<Ran, AllocError> {
+    let mut file = reader(file, plans.file);
+    let mut out = writer(alloc, plans.answers)?;
+    let end = run_list(alloc, &mut file, &mut out);
+    let out = out.into_inner();
+    Ok(Ran {
+        end,
+        file_calls: file.into_inner().calls,
+        script_calls: 0,
+        answer_calls: out.calls,
+        save_calls: 0,
+        printed: out.bytes,
+        saved: Vec::new(alloc),
+    })
+}

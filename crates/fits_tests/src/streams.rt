@@ -1,0 +1,276 @@
+//! Streams that fail, or that move little: how a run ends, and what was printed and saved before.
+
+use crate::builders::{FileText, P0, PIXEL, file_of, hdu_of};
+use crate::planned::Plan;
+use crate::runs::{ALL_SMOOTH, DONE, Plans, Ran, edit, list};
+use fits_cli::{End, Fault};
+use std::process::Abort;
+use std::test::Fail;
+
+/// A stream of a run, or each of them.
+#[derive(Clone, Copy, Debug)]
+enum Stream {
+    File,
+    Script,
+    Answers,
+    Saved,
+    Each,
+}
+
+use Stream::{Answers, Each, File, Saved, Script};
+
+// The stream has this plan, and the others are smooth.
+fn plans_of(stream: Stream, plan: Plan) -> Plans {
+    let mut plans = ALL_SMOOTH;
+    match stream {
+        File => plans.file = plan,
+        Script => plans.script = plan,
+        Answers => plans.answers = plan,
+        Saved => plans.saved = plan,
+        Each => {
+            plans = Plans {
+                file: plan,
+                script: plan,
+                answers: plan,
+                saved: plan,
+            }
+        }
+    }
+    plans
+}
+
+/// A script over the shortest file, its answers, and the cards that are saved.
+const SCRIPT: &str = "off\n# note\nfrob\nins 1 4 COMMENT x\noff";
+
+const ANSWERS: &str = "1 0 2880 2880\nline 3: not a command\n1 0 2880 2880\n";
+
+const SAVED: &str =
+    "SIMPLE  =                    T|BITPIX  =                    8|NAXIS   =                    0|\
+    COMMENT x|END";
+
+fn ended_by(fault: Fault) -> End {
+    End {
+        status: 3,
+        fault: Some(fault),
+    }
+}
+
+// Whether one of the calls that were made failed, or took nothing.
+fn has_failed(plan: Plan, calls: usize) -> bool {
+    0 < calls && (plan.step == 0 || (plan.failing != 0 && plan.failing <= calls))
+}
+
+// How a run by these plans has to end, where it made so many calls.
+fn end_of(plans: Plans, ran: &Ran, end: End) -> End {
+    if has_failed(plans.file, ran.file_calls) || has_failed(plans.script, ran.script_calls) {
+        ended_by(Fault::ReadFailed)
+    } else if has_failed(plans.answers, ran.answer_calls)
+        || has_failed(plans.saved, ran.save_calls)
+    {
+        ended_by(Fault::WriteFailed)
+    } else {
+        end
+    }
+}
+
+/// The end of a run that had a bad line.
+const BAD_LINE: End = End {
+    status: 1,
+    fault: None,
+};
+
+// One run where a stream has this plan. It answers whether no call failed.
+fn is_smooth<R: Abort + AllocGlobal>(rt: &R, stream: Stream, plan: Plan) -> Result<bool, Fail> {
+    let file = hdu_of(rt.alloc(), P0, 0)?;
+    let whole = hdu_of(rt.alloc(), SAVED, 0)?;
+    let plans = plans_of(stream, plan);
+    let ran = edit(rt.alloc(), &file, SCRIPT.as_bytes(), plans)?;
+    let call = plan.failing;
+    assert_eq!(rt;
+        ran.end,
+        end_of(plans, &ran, BAD_LINE),
+        "{stream:?}, call {call}"
+    );
+    check_fronts(rt, &ran, &whole, call);
+    if 0 < ran.save_calls {
+        assert_eq!(rt; ran.printed.len(), ANSWERS.len(), "{stream:?}, call {call}");
+    }
+    if ran.end == BAD_LINE {
+        assert_eq!(rt; ran.saved.len(), whole.len(), "{stream:?}, call {call}");
+    }
+    Ok(ran.end == BAD_LINE)
+}
+
+// Whether the answers and the saved bytes are fronts of the whole.
+fn check_fronts<R: Abort>(rt: &R, ran: &Ran, whole: &[u8], call: usize) {
+    assert!(rt; ANSWERS.as_bytes().starts_with(&ran.printed), "call {call}");
+    assert!(rt; whole.starts_with(&ran.saved), "call {call}");
+}
+
+// Each call of a stream fails once, in a run of its own, whatever a call moves.
+fn each_call_fails<R: Abort + AllocGlobal>(
+    rt: &R,
+    stream: Stream,
+    steps: &[usize],
+) -> Result<(), Fail> {
+    for step in steps {
+        let mut is_done = false;
+        for failing in 1..10_000usize {
+            let plan = Plan {
+                step: *step,
+                failing,
+            };
+            is_done = is_smooth(rt, stream, plan)?;
+            if is_done {
+                break;
+            }
+        }
+        assert!(rt; is_done, "{stream:?} {step}");
+    }
+    Ok(())
+}
+
+#[test]
+fn each_read_of_the_file_fails_once(rt: HostRuntime) -> Result<(), Fail> {
+    each_call_fails(&rt, File, &[7, 100, 4096])
+}
+
+#[test]
+fn each_read_of_the_script_fails_once(rt: HostRuntime) -> Result<(), Fail> {
+    each_call_fails(&rt, Script, &[1, 7, 4096])
+}
+
+#[test]
+fn each_write_of_answers_fails_once(rt: HostRuntime) -> Result<(), Fail> {
+    each_call_fails(&rt, Answers, &[1, 7, 4096])
+}
+
+#[test]
+fn each_write_of_saved_bytes_fails_once(rt: HostRuntime) -> Result<(), Fail> {
+    each_call_fails(&rt, Saved, &[7, 100, 4096])
+}
+
+/// One byte a call, and none a call.
+const SLOW: Plan = Plan {
+    step: 1,
+    failing: 0,
+};
+
+const STUCK: Plan = Plan {
+    step: 0,
+    failing: 0,
+};
+
+#[test]
+fn one_byte_a_call_comes_to_the_same(rt: HostRuntime) -> Result<(), Fail> {
+    assert!(rt; is_smooth(&rt, Each, SLOW)?);
+    Ok(())
+}
+
+#[test]
+fn a_writer_that_takes_nothing_fails(rt: HostRuntime) -> Result<(), Fail> {
+    assert!(rt; !is_smooth(&rt, Answers, STUCK)?);
+    assert!(rt; !is_smooth(&rt, Saved, STUCK)?);
+    Ok(())
+}
+
+/// A stream that moves so many bytes, one a call, and then fails; the fault; and how many bytes of the answers are
+/// printed and how many of the file are saved.
+const STOPPED: &[(Stream, usize, Fault, usize, usize)] = &[
+    // also where the file's bytes would be refused, or are whole
+    (File, 0, Fault::ReadFailed, 0, 0),
+    (File, 1, Fault::ReadFailed, 0, 0),
+    (File, 2879, Fault::ReadFailed, 0, 0),
+    (File, 2880, Fault::ReadFailed, 0, 0),
+    // the whole lines of the script that came are answered
+    (Script, 0, Fault::ReadFailed, 0, 0),
+    (Script, 3, Fault::ReadFailed, 0, 0),
+    (Script, 4, Fault::ReadFailed, 14, 0),
+    (Script, 15, Fault::ReadFailed, 14, 0),
+    (Script, 16, Fault::ReadFailed, 36, 0),
+    (Script, 34, Fault::ReadFailed, 36, 0),
+    // the last line is without its line feed, and may go on
+    (Script, 37, Fault::ReadFailed, 36, 0),
+    (Answers, 0, Fault::WriteFailed, 0, 0),
+    (Answers, 15, Fault::WriteFailed, 15, 0),
+    // the flush fails
+    (Answers, 50, Fault::WriteFailed, 50, 0),
+    (Saved, 0, Fault::WriteFailed, 50, 0),
+    (Saved, 100, Fault::WriteFailed, 50, 100),
+    (Saved, 250, Fault::WriteFailed, 50, 250),
+    (Saved, 2879, Fault::WriteFailed, 50, 2879),
+    (Saved, 2880, Fault::WriteFailed, 50, 2880),
+];
+
+#[test]
+fn what_stands_before_a_fault_is_a_front(rt: HostRuntime) -> Result<(), Fail> {
+    let file = hdu_of(rt.alloc(), P0, 0)?;
+    let whole = hdu_of(rt.alloc(), SAVED, 0)?;
+    for (stream, count, fault, printed, saved) in STOPPED {
+        let plan = Plan {
+            step: 1,
+            failing: count.wrapping_add(1),
+        };
+        let ran = edit(
+            rt.alloc(),
+            &file,
+            SCRIPT.as_bytes(),
+            plans_of(*stream, plan),
+        )?;
+        assert_eq!(rt; ran.end, ended_by(*fault), "{stream:?} {count}");
+        assert_eq!(rt; ran.printed.len(), *printed, "{stream:?} {count}");
+        assert_eq!(rt; ran.saved.len(), *saved, "{stream:?} {count}");
+        check_fronts(&rt, &ran, &whole, *count);
+    }
+    Ok(())
+}
+
+/// A file of two HDUs and a tail, and its listing.
+pub const LISTED: FileText<'static> = (&[(P0, 0), (PIXEL, 1)], "trailer");
+
+pub const LISTING: &str = "hdu 1 PRIMARY bitpix 8 axes - cards 3 at 0 2880 2880\n\
+    hdu 2 IMAGE bitpix 16 axes 1 cards 6 at 2880 5760 8640\n";
+
+/// A stream of a listing, and how many bytes each of its calls moves.
+const LISTED_BY: &[(Stream, usize)] = &[(File, 100), (File, 4096), (Answers, 7), (Answers, 4096)];
+
+// One listing where a stream has this plan. It answers whether no call failed.
+fn is_listed<R: Abort + AllocGlobal>(rt: &R, stream: Stream, plan: Plan) -> Result<bool, Fail> {
+    let bytes = file_of(rt.alloc(), LISTED)?;
+    let plans = plans_of(stream, plan);
+    let ran = list(rt.alloc(), &bytes, plans)?;
+    let call = plan.failing;
+    assert_eq!(rt;
+        ran.end,
+        end_of(plans, &ran, DONE),
+        "{stream:?}, call {call}"
+    );
+    assert!(rt;
+        LISTING.as_bytes().starts_with(&ran.printed),
+        "{stream:?}, call {call}"
+    );
+    if ran.end == DONE {
+        assert_eq!(rt; ran.printed.len(), LISTING.len(), "{stream:?}, call {call}");
+    }
+    Ok(ran.end == DONE)
+}
+
+#[test]
+fn each_call_of_a_listing_fails_once(rt: HostRuntime) -> Result<(), Fail> {
+    for (stream, step) in LISTED_BY {
+        let mut is_done = false;
+        for failing in 1..10_000usize {
+            let plan = Plan {
+                step: *step,
+                failing,
+            };
+            is_done = is_listed(&rt, *stream, plan)?;
+            if is_done {
+                break;
+            }
+        }
+        assert!(rt; is_done, "{stream:?} {step}");
+    }
+    assert!(rt; !is_listed(&rt, Answers, STUCK)?);
+    Ok(())
+}

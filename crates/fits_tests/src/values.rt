@@ -1,0 +1,362 @@
+//! What fields, cards and places of headers say, and where in the card.
+
+use crate::builders::{card_of, card_of_bytes, header_of};
+use fits_card::Card;
+use fits_value::{
+    CardString, Reading, Span, Text, Value, ValueKind, card_string, link_count, link_string,
+    long_value, read_field, read_value, scan_card,
+};
+use std::alloc::{AllocError, Global};
+use std::process::Abort;
+use std::test::Fail;
+
+// Adds a text in brackets.
+fn add_bracketed(line: &mut Vec<u8>, text: &Text) -> Result<(), AllocError> {
+    line.extend_from_slice(b" [")?;
+    line.extend_from_slice(text.as_bytes())?;
+    line.extend_from_slice(b"]")
+}
+
+// Adds a value: its type, and its texts in brackets.
+fn add_value(line: &mut Vec<u8>, value: &Value) -> Result<(), AllocError> {
+    match value {
+        Value::Undefined => line.extend_from_slice(b"undefined"),
+        Value::Logical(true) => line.extend_from_slice(b"logical T"),
+        Value::Logical(false) => line.extend_from_slice(b"logical F"),
+        Value::Integer(text) => {
+            line.extend_from_slice(b"integer")?;
+            add_bracketed(line, text)
+        }
+        Value::Real(text) => {
+            line.extend_from_slice(b"real")?;
+            add_bracketed(line, text)
+        }
+        Value::Complex(real, imaginary) => {
+            line.extend_from_slice(b"complex")?;
+            add_bracketed(line, real)?;
+            add_bracketed(line, imaginary)
+        }
+        Value::Str(text) => {
+            line.extend_from_slice(b"string")?;
+            add_bracketed(line, text)
+        }
+    }
+}
+
+/// What was read, as a line: `none`, or a value and ` /` before a comment.
+pub fn line_of(alloc: Global, said: &Option<(Value, Option<Text>)>) -> Result<Vec<u8>, AllocError> {
+    let mut line = Vec::new(alloc);
+    let Some((value, comment)) = said else {
+        line.extend_from_slice(b"none")?;
+        return Ok(line);
+    };
+    add_value(&mut line, value)?;
+    if let Some(text) = comment {
+        line.extend_from_slice(b" /")?;
+        line.extend_from_slice(text.as_bytes())?;
+    }
+    Ok(line)
+}
+
+/// A field, and what it says.
+const FIELDS: &[(&str, &str)] = &[
+    // Strings lose their doubled quotes and trailing spaces.
+    ("'IMAGE   '           / type", "string [IMAGE] / type"),
+    ("''", "string []"),
+    ("' '", "string [ ]"),
+    ("'        '", "string [ ]"),
+    ("'  lead'", "string [  lead]"),
+    ("'it''s'", "string [it's]"),
+    ("''''", "string [']"),
+    ("''''''", "string ['']"),
+    ("'a / b' /c ", "string [a / b] /c"),
+    ("'a&'", "string [a&]"),
+    ("    'later'", "string [later]"),
+    ("'x'/", "string [x] /"),
+    ("'open", "none"),
+    ("'", "none"),
+    ("'a'b'", "none"),
+    ("'a' 'b'", "none"),
+    ("'''", "none"),
+    ("\"a\"", "none"),
+    ("'tab\t'", "none"),
+    ("'tilde~' / \u{7f}", "none"),
+    // Logical values are T or F alone.
+    ("                   T / conforms", "logical T / conforms"),
+    ("F", "logical F"),
+    ("T/", "logical T /"),
+    ("T ", "logical T"),
+    ("TRUE", "none"),
+    ("t", "none"),
+    ("TT", "none"),
+    ("T F", "none"),
+    (".T.", "none"),
+    // Integers are digits, with a sign or none.
+    ("                  16 / bits", "integer [16] / bits"),
+    ("+8", "integer [+8]"),
+    ("-0", "integer [-0]"),
+    ("008", "integer [008]"),
+    (
+        "99999999999999999999999",
+        "integer [99999999999999999999999]",
+    ),
+    ("5/6", "integer [5] /6"),
+    ("+", "none"),
+    ("- 5", "none"),
+    ("--5", "none"),
+    ("5-", "none"),
+    ("5 6", "none"),
+    ("1,000", "none"),
+    ("0x10", "none"),
+    ("'5", "none"),
+    // Real numbers have a point or an exponent.
+    ("1.5", "real [1.5]"),
+    ("8.", "real [8.]"),
+    (".5", "real [.5]"),
+    ("-.5E-3", "real [-.5E-3]"),
+    ("+1.D+10", "real [+1.D+10]"),
+    ("1E3", "real [1E3]"),
+    ("1D3 / double", "real [1D3] / double"),
+    ("0E99999999999999999999", "real [0E99999999999999999999]"),
+    ("32768.00000000000000001", "real [32768.00000000000000001]"),
+    ("1e3", "none"),
+    ("1d3", "none"),
+    (".", "none"),
+    ("+.", "none"),
+    (".E5", "none"),
+    ("E5", "none"),
+    ("1E", "none"),
+    ("1E+", "none"),
+    ("1E3.5", "none"),
+    ("1.2.3", "none"),
+    ("1. 5", "none"),
+    ("NaN", "none"),
+    ("INF", "none"),
+    // Complex numbers are two numbers in brackets.
+    ("(1, 2)", "complex [1] [2]"),
+    ("(1.5,-2E3) / pair", "complex [1.5] [-2E3] / pair"),
+    ("(  +1  ,  .5  )", "complex [+1] [.5]"),
+    ("(0,0)/", "complex [0] [0] /"),
+    ("(1)", "none"),
+    ("(1,)", "none"),
+    ("(,1)", "none"),
+    ("(1 2)", "none"),
+    ("(1,2", "none"),
+    ("(1,2,3)", "none"),
+    ("(1,2))", "none"),
+    ("( 1,T )", "none"),
+    ("(1/2,3)", "none"),
+    ("()", "none"),
+    // A field may have no value, and a comment.
+    ("", "undefined"),
+    ("     ", "undefined"),
+    ("/", "undefined /"),
+    ("  / only a comment  ", "undefined / only a comment"),
+    ("/ a / b", "undefined / a / b"),
+    ("T /   led", "logical T /   led"),
+    ("T /   ", "logical T /"),
+    ("T x / c", "none"),
+    ("x", "none"),
+    ("\u{e9}", "none"),
+];
+
+// The card with a value indicator and this field.
+fn field_card(alloc: Global, field: &str) -> Result<Card, AllocError> {
+    let mut bytes = b"KEYWORD = ".to_vec(alloc)?;
+    bytes.extend_from_slice(field.as_bytes())?;
+    Ok(card_of_bytes(&bytes))
+}
+
+#[test]
+fn a_field_says_one_value_or_none(rt: HostRuntime) -> Result<(), Fail> {
+    for (field, wanted) in FIELDS {
+        let said = read_field(rt.alloc(), field.as_bytes())?;
+        check_line(&rt, &said, wanted)?;
+        let card = field_card(rt.alloc(), field)?;
+        let said = read_value(rt.alloc(), &card)?;
+        check_line(&rt, &said, wanted)?;
+        assert_eq!(rt; scan_card(&card).is_none(), *wanted == "none", "{field}");
+    }
+    Ok(())
+}
+
+// Whether this was read.
+fn check_line<R: Abort + AllocGlobal>(
+    rt: &R,
+    said: &Option<(Value, Option<Text>)>,
+    wanted: &str,
+) -> Result<(), AllocError> {
+    let line = line_of(rt.alloc(), said)?;
+    assert_eq!(rt; line.as_slice(), wanted.as_bytes(), "{wanted}");
+    Ok(())
+}
+
+/// A card, whatever its name and its indicator, and what it says.
+const CARDS: &[(&str, &str)] = &[
+    ("CONTINUE  'more' / c", "string [more] / c"),
+    ("HIERARCH= 5", "integer [5]"),
+    ("COMMENT   7", "integer [7]"),
+    ("SIMPLE  =                    T", "logical T"),
+    ("NAME    =5", "undefined"),
+    ("\u{7f}AME    = 5", "none"),
+];
+
+#[test]
+fn a_card_says_what_its_field_does(rt: HostRuntime) -> Result<(), Fail> {
+    for (text, wanted) in CARDS {
+        let said = read_value(rt.alloc(), &card_of(text))?;
+        check_line(&rt, &said, wanted)?;
+    }
+    Ok(())
+}
+
+/// A field, its kind, and where its value and its comment stand in the card.
+const SPANS: &[(&str, ValueKind, (usize, usize), Option<(usize, usize)>)] = &[
+    ("   1.5D3 / x  ", ValueKind::Real, (13, 18), Some((20, 22))),
+    ("'it''s'", ValueKind::Str, (10, 17), None),
+    ("      / x", ValueKind::Undefined, (10, 10), Some((17, 19))),
+    ("", ValueKind::Undefined, (10, 10), None),
+    ("T/", ValueKind::Logical, (10, 11), Some((12, 12))),
+    (" (1, 2) /c", ValueKind::Complex, (11, 17), Some((19, 20))),
+    ("-7", ValueKind::Integer, (10, 12), None),
+];
+
+fn span_of(span: (usize, usize)) -> Span {
+    let (start, end) = span;
+    Span { start, end }
+}
+
+#[test]
+fn a_scan_finds_the_places_in_the_card(rt: HostRuntime) -> Result<(), Fail> {
+    for (field, kind, value, comment) in SPANS {
+        let wanted = Reading {
+            kind: *kind,
+            value: span_of(*value),
+            comment: comment.map(span_of),
+        };
+        let card = field_card(rt.alloc(), field)?;
+        assert_eq!(rt; scan_card(&card), Some(wanted), "{field}");
+    }
+    Ok(())
+}
+
+/// Cards, what the first of them says, and how many CONTINUE cards belong to its string.
+const LONG_STRINGS: &[(&str, &str, usize)] = &[
+    (
+        "A       = 'one &' / first|CONTINUE  'two &'|CONTINUE  'three' / last|END",
+        "string [one two three] / last",
+        2,
+    ),
+    (
+        "A       = 'one&'|CONTINUE  'two&' / last|B       = 'three'|END",
+        "string [onetwo&] / last",
+        1,
+    ),
+    (
+        "A       = 'one&  '|CONTINUE  '' / empty|CONTINUE  'three'|END",
+        "string [one] / empty",
+        1,
+    ),
+    (
+        "A       = 'one&&'|CONTINUE  ''|CONTINUE  'three'|END",
+        "string [one&]",
+        1,
+    ),
+    (
+        "A       = 'one&' / own|CONTINUE= 'two'|CONTINUE  'three'|END",
+        "string [one&] / own",
+        0,
+    ),
+    (
+        "A       = 'one&'|CONTINUE  5|CONTINUE  'three'|END",
+        "string [one&]",
+        0,
+    ),
+    (
+        "A       = 'one&'|CONTINU   'two'|CONTINUE  'three'|END",
+        "string [one&]",
+        0,
+    ),
+    (
+        "A       = 'one'|CONTINUE  'two'|CONTINUE  'three'|END",
+        "string [one]",
+        0,
+    ),
+    (
+        "A       = '&'|CONTINUE  '&'|CONTINUE  '  '|END",
+        "string [ ]",
+        2,
+    ),
+    (
+        "A         'one&'|CONTINUE  'two'|CONTINUE  'three'|END",
+        "string [one&]",
+        0,
+    ),
+    (
+        "CONTINUE  'one&'|CONTINUE  'two'|CONTINUE  'three'|END",
+        "string [one&]",
+        0,
+    ),
+    (
+        "A       = 5 / &|CONTINUE  'two'|CONTINUE  'three'|END",
+        "integer [5] / &",
+        0,
+    ),
+    (
+        "A       = 'it''s &'|CONTINUE  '''two''&'|CONTINUE  'x   '|END",
+        "string [it's 'two'x]",
+        2,
+    ),
+    (
+        "A       = 1e3|CONTINUE  'two'|CONTINUE  'three'|END",
+        "none",
+        0,
+    ),
+];
+
+#[test]
+fn a_long_string_goes_on_over_its_continue_cards(rt: HostRuntime) -> Result<(), Fail> {
+    for (cards, wanted, links) in LONG_STRINGS {
+        let mut header = header_of(rt.alloc(), cards)?;
+        assert_eq!(rt; header.len(), 3, "{cards}");
+        assert_eq!(rt; link_count(&mut header, 1), *links, "{cards}");
+        assert_eq!(rt; header.len(), 3, "{cards}");
+        let said = long_value(rt.alloc(), &mut header, 1)?;
+        check_line(&rt, &said, wanted)?;
+    }
+    Ok(())
+}
+
+/// A card, the string that it says alone, and whether that may continue another.
+const STRINGS: &[(&str, Option<&str>, bool)] = &[
+    ("CONTINUE  'it''s  ' / c", Some("it's"), true),
+    ("CONTINUE  '   '", Some(" "), true),
+    ("CONTINUE  ''", Some(""), true),
+    ("CONTINUE= 'a'", Some("a"), false),
+    ("CONTINUE  5", None, true),
+    ("KEY     = 'a&'", Some("a&"), false),
+    ("KEY     = T", None, false),
+    ("KEY     = 'a", None, false),
+];
+
+#[test]
+fn a_card_says_its_string_without_memory(rt: HostRuntime) {
+    for (text, wanted, may_continue) in STRINGS {
+        let card = card_of(text);
+        check_string(&rt, card_string(&card), *wanted, text);
+        check_string(
+            &rt,
+            link_string(&card),
+            wanted.filter(|_| *may_continue),
+            text,
+        );
+    }
+}
+
+// Whether a string is the one that is wanted.
+fn check_string<R: Abort>(rt: &R, found: Option<CardString>, wanted: Option<&str>, text: &str) {
+    match found {
+        Some(found) => assert_eq!(rt; Some(found.as_bytes()), wanted.map(str::as_bytes), "{text}"),
+        None => assert!(rt; wanted.is_none(), "{text}"),
+    }
+}

@@ -1,0 +1,176 @@
+//! The cards that a value is written to, by hand from the standard's fixed format (4.2) and its rules for CONTINUE
+//! (4.2.1.2).
+
+use crate::builders::{add_cards, name_of};
+use fits_card::Cards;
+use fits_value::{Text, Value, WriteFault, read_field, write_value};
+use std::alloc::{AllocError, Global};
+use std::process::Abort;
+use std::test::Fail;
+
+/// A field that says a value and a comment, and the cards of `KEY` that these are written to, if they can be.
+const WRITTEN: &[(&str, Option<&str>)] = &[
+    ("", Some("KEY     =")),
+    ("/ none", Some("KEY     =                      / none")),
+    ("T / x", Some("KEY     =                    T / x")),
+    ("F", Some("KEY     =                    F")),
+    ("5 / c", Some("KEY     =                    5 / c")),
+    ("5 /", Some("KEY     =                    5 /")),
+    (
+        "-12345678901234567890",
+        Some("KEY     = -12345678901234567890"),
+    ),
+    (
+        "12345678901234567890/x",
+        Some("KEY     = 12345678901234567890 /x"),
+    ),
+    (
+        "123456789012345678901/x",
+        Some("KEY     = 123456789012345678901 /x"),
+    ),
+    ("-1.5E-3", Some("KEY     =              -1.5E-3")),
+    ("(1,2.5)", Some("KEY     =             (1, 2.5)")),
+    ("'a' / x", Some("KEY     = 'a       '           / x")),
+    ("'12345678'", Some("KEY     = '12345678'")),
+    ("'it''s'", Some("KEY     = 'it''s   '")),
+    (
+        "'1234567890123456789' /x",
+        Some("KEY     = '1234567890123456789' /x"),
+    ),
+    ("''", Some("KEY     = ''")),
+    ("' '", Some("KEY     = '        '")),
+    ("'a&'", None),
+    (
+        "'aaaaaaaaaaaaaaaaaaaaaaaaaaaaaaaaaaaaaaaaaaaaaaaaaaaaaaaaaaaaaaaaaaaa'",
+        Some("KEY     = 'aaaaaaaaaaaaaaaaaaaaaaaaaaaaaaaaaaaaaaaaaaaaaaaaaaaaaaaaaaaaaaaaaaaa'"),
+    ),
+    (
+        "'aaaaaaaaaaaaaaaaaaaaaaaaaaaaaaaaaaaaaaaaaaaaaaaaaaaaaaaaaaaaaaaaaaaa' /",
+        None,
+    ),
+    (
+        "1234567890123456789012345678901234567890123456789012345678901234567890",
+        Some("KEY     = 1234567890123456789012345678901234567890123456789012345678901234567890"),
+    ),
+    (
+        "12345678901234567890123456789012345678901234567890123456789012345678901",
+        None,
+    ),
+    (
+        "'aaaaaaaaaaaaaaaaaaaaaaaaaaaaaaaaaaaaaaaaaaaaaaaaaaaaaaaaaaaaaaaaaaaaa' / x",
+        Some(
+            "KEY     = 'aaaaaaaaaaaaaaaaaaaaaaaaaaaaaaaaaaaaaaaaaaaaaaaaaaaaaaaaaaaaaaaaaaa&'|CONTINUE  'aa'                 / x",
+        ),
+    ),
+    (
+        "'aaaaaaaaaaaaaaaaaaaaaaaaaaaaaaaaaaaaaaaaaaaaaaaaaaaaaaaaaaaaaaaaaa''bbbbbbbbbbbbbbbbbbbbbbbbbbbbbbbbbbbbbbbbbbbbbbbbbbbbbbbbbbbbbbbbbbbbbbbbb'",
+        Some(
+            "KEY     = 'aaaaaaaaaaaaaaaaaaaaaaaaaaaaaaaaaaaaaaaaaaaaaaaaaaaaaaaaaaaaaaaaaa&'|CONTINUE  '''bbbbbbbbbbbbbbbbbbbbbbbbbbbbbbbbbbbbbbbbbbbbbbbbbbbbbbbbbbbbbbbbb&'|CONTINUE  'bbbbbbbb'",
+        ),
+    ),
+];
+
+#[test]
+fn a_value_is_written_to_its_cards(rt: HostRuntime) -> Result<(), Fail> {
+    for (field, wanted) in WRITTEN {
+        let (value, comment) = read_field(rt.alloc(), field.as_bytes())?.ok_or("no value")?;
+        match write(&rt, &value, &comment) {
+            Ok(cards) => check_cards(&rt, &cards, wanted.ok_or("cards")?)?,
+            Err(fault) => assert_eq!(rt; (fault, *wanted), (WriteFault::BadValue, None), "{field}"),
+        }
+    }
+    Ok(())
+}
+
+// Writes a value of `KEY`.
+fn write<R: Abort + AllocGlobal>(
+    rt: &R,
+    value: &Value,
+    comment: &Option<Text>,
+) -> Result<Cards, WriteFault> {
+    let name = name_of("KEY");
+    assert!(rt; name.is_settable());
+    write_value(rt.alloc(), &name, value, comment)
+}
+
+// Whether these are the cards.
+fn check_cards<R: Abort + AllocGlobal>(
+    rt: &R,
+    cards: &Cards,
+    wanted: &str,
+) -> Result<(), AllocError> {
+    let mut texts = Vec::new(rt.alloc());
+    add_cards(&mut texts, wanted)?;
+    let mut bytes = Vec::new(rt.alloc());
+    for card in cards.as_slice() {
+        bytes.extend_from_slice(card.bytes())?;
+    }
+    assert!(rt; bytes.as_slice() == texts.as_slice(), "{wanted}");
+    Ok(())
+}
+
+/// The kinds of value that hold one text.
+#[derive(Clone, Copy)]
+enum Kind {
+    Integer,
+    Real,
+    Str,
+}
+
+use Kind::{Integer, Real, Str};
+
+/// Texts that no field says, as values of a kind.
+const UNSAID: &[(&str, Kind)] = &[
+    ("", Integer),
+    ("1.5", Integer),
+    ("5 ", Integer),
+    ("1e3", Real),
+    ("5", Real),
+    ("a ", Str),
+    ("  ", Str),
+    ("\t", Str),
+    ("&", Str),
+];
+
+#[test]
+fn what_no_field_says_is_not_written(rt: HostRuntime) -> Result<(), Fail> {
+    for (text, kind) in UNSAID {
+        let value = value_of(rt.alloc(), text, *kind)?;
+        let fault = write(&rt, &value, &None).err();
+        assert_eq!(rt; fault, Some(WriteFault::BadValue), "{text}");
+    }
+    for text in ["x ", "\t"] {
+        let comment = Some(Text::new(text.as_bytes().to_vec(rt.alloc())?));
+        let fault = write(&rt, &Value::Undefined, &comment).err();
+        assert_eq!(rt; fault, Some(WriteFault::BadValue), "{text}");
+    }
+    Ok(())
+}
+
+// The value of a kind with this text.
+fn value_of(alloc: Global, text: &str, kind: Kind) -> Result<Value, AllocError> {
+    let text = Text::new(text.as_bytes().to_vec(alloc)?);
+    Ok(match kind {
+        Integer => Value::Integer(text),
+        Real => Value::Real(text),
+        Str => Value::Str(text),
+    })
+}
+
+#[test]
+fn refused_memory_at_a_written_value(rt: HostRuntime) -> Result<(), Fail> {
+    let field = b"'it''s' / c";
+    let Ok(Some((value, comment))) = read_field(rt.alloc(), field) else {
+        return Ok(());
+    };
+    for _ in 0..2 {
+        match write(&rt, &value, &comment) {
+            Ok(cards) => {
+                let wanted = "KEY     = 'it''s   '           / c";
+                let _ = check_cards(&rt, &cards, wanted);
+            }
+            Err(fault) => assert_eq!(rt; fault, WriteFault::Memory),
+        }
+    }
+    Ok(())
+}
