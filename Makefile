@@ -1,13 +1,29 @@
 PREFIX = /usr/local
 
-.PHONY: all test install clean
+.PHONY: all test install uninstall clean
 
 all: crates/fitsed/out/fitsed
 
+# The crates of crates.txt, and what the line of one says that it stands on, lowest first.
+crates := $(shell sed -n 's/^\([a-z_]*\):.*/\1/p' crates.txt)
+stands_on = $(filter $(crates),$(shell sed -n 's/^$(1)://p' crates.txt))
+sources = $(shell find crates/$(1) -name out -prune -o \( -name '*.rt' -o -name '*.antt' \) -print)
+
+# A crate is proved once those are that it stands on; crates beside one another are proved at once by `make -j`.
+define proved
+crates/$(1)/out/proved: $(call sources,$(1)) $(patsubst %,crates/%/out/proved,$(call stands_on,$(1)))
+	@mkdir -p crates/$(1)/out
+	@echo 'fitsed: proving $(1)' >&2
+	@cd crates/$(1) && { rt check >out/log 2>&1 || { cat out/log >&2; exit 1; }; }
+	@touch $$@
+endef
+$(foreach crate,$(crates),$(eval $(call proved,$(crate))))
+
 # The program is proved before it is built.
-crates/fitsed/out/fitsed: $(wildcard crates/*/src/*.rt crates/*/specs/*.antt)
-	cd crates/fitsed && rt run -- --help >/dev/null
-	touch $@
+crates/fitsed/out/fitsed: crates/fitsed/out/proved
+	@echo 'fitsed: building the program' >&2
+	@cd crates/fitsed && { rt run -- --help >out/log 2>&1 || { cat out/log >&2; exit 1; }; }
+	@touch $@
 
 test:
 	@sh .ci/test.sh
@@ -16,6 +32,9 @@ install: crates/fitsed/out/fitsed
 	install -d $(DESTDIR)$(PREFIX)/bin $(DESTDIR)$(PREFIX)/share/man/man1
 	install -m 755 crates/fitsed/out/fitsed $(DESTDIR)$(PREFIX)/bin/fitsed
 	install -m 644 man/fitsed.1 $(DESTDIR)$(PREFIX)/share/man/man1/fitsed.1
+
+uninstall:
+	rm -f $(DESTDIR)$(PREFIX)/bin/fitsed $(DESTDIR)$(PREFIX)/share/man/man1/fitsed.1
 
 clean:
 	rm -rf crates/*/out
