@@ -14,7 +14,7 @@ get_or-before : (cards new : List (List ℕ)) (first removed i : ℕ) (d : List 
 get_or-before cards new first removed i d fits before =
     get_or_append_left (take (first - 1) cards) (new ++ drop (first - 1 + removed) cards) d i (omega (arith, length-take-le (first - 1) cards fits)) ∙ get_or-take (first - 1) cards i d before
 
--- past its front
+-- from its place on
 get_or-past : (cards new : List (List ℕ)) (first removed i : ℕ) (d : List ℕ) → first - 1 ≤ length cards → first - 1 ≤ i → get_or (spliced cards first removed new) i d ≡ get_or (new ++ drop (first - 1 + removed) cards) (i - (first - 1)) d
 get_or-past cards new first removed i d fits past =
     get_or-append_right (take (first - 1) cards) (new ++ drop (first - 1 + removed) cards) (first - 1) i d (length-take-le (first - 1) cards fits) past

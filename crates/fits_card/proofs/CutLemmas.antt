@@ -19,7 +19,7 @@ pieces-more f k cards card c e = rw (c, e) (sym (map-range_with_len_more (piece 
 pub ruleset pieces_steps = (pieces-more)
 
 -- the first pieces, one after another
-joined-pieces : (f : List ℕ) (k : ℕ) → joined_cards (pieces f k) ≡ take (80 * k) f
+pub joined-pieces : (f : List ℕ) (k : ℕ) → joined_cards (pieces f k) ≡ take (80 * k) f
 joined-pieces f zero = refl
 joined-pieces f (suc k) =
     let more : pieces f (k + 1) ≡ pieces f k ++ piece f k ∷ [] = map-range_with_len_more (piece f) 0 k k (omega arith) in
@@ -42,13 +42,13 @@ header_bytes-pieces f k n =
     ∙ sym (take-add (80 * (k + 1)) n f)
 
 -- each has 80 bytes
-length-piece : (f : List ℕ) (k : ℕ) → 80 * (k + 1) ≤ length f → length (piece f k) ≡ 80
+pub length-piece : (f : List ℕ) (k : ℕ) → 80 * (k + 1) ≤ length f → length (piece f k) ≡ 80
 length-piece f k le =
     let more : 80 ≤ length (drop (80 * k) f) = rw (length-drop (80 * k) f) (omega arith) in
     length-take-le 80 (drop (80 * k) f) more
 
 -- pieces before the first END are cards of a header
-inner-pieces : (f : List ℕ) (n : ℕ) → 80 * n ≤ length f → ((j : ℕ) → j < n → IsEnd (piece f j) → ⊥) → All IsInnerCard (pieces f n)
+pub inner-pieces : (f : List ℕ) (n : ℕ) → 80 * n ≤ length f → ((j : ℕ) → j < n → IsEnd (piece f j) → ⊥) → All IsInnerCard (pieces f n)
 inner-pieces f n le first k d h =
     let l : k < n = rw (length-map-range_with_len (piece f) 0 n) at h in
     rw (get_or-map-range_with_len (piece f) 0 n k k d l (omega arith)) (record { size = length-piece f k (omega arith); not_end = first k l })
@@ -70,7 +70,7 @@ drop-cards : (cards : List (List ℕ)) (rest : List ℕ) → All IsInnerCard car
 drop-cards cards rest h = drop_at (joined_cards cards) rest (80 * length cards) (length-joined_cards cards h)
 
 -- piece k of cards that are joined is card k
-piece-joined_cards : (cards : List (List ℕ)) (rest : List ℕ) (k : ℕ) → All IsInnerCard cards → k < length cards → piece (joined_cards cards ++ rest) k ≡ get_or cards k []
+pub piece-joined_cards : (cards : List (List ℕ)) (rest : List ℕ) (k : ℕ) → All IsInnerCard cards → k < length cards → piece (joined_cards cards ++ rest) k ≡ get_or cards k []
 piece-joined_cards cards rest k h l =
     let card : List ℕ = get_or cards k [] in
     let a : List ℕ = joined_cards (take k cards) in
@@ -89,7 +89,7 @@ header-spread f h rest cut =
     cut.joined ∙ append_assoc (joined_cards h.cards) (h.end ++ h.fill) rest ∙ ap (λ t. joined_cards h.cards ++ t) (append_assoc h.end h.fill rest)
 
 -- how many bytes those are
-length-spread : (f : List ℕ) (h : Header) (rest : List ℕ) → IsHeaderOf f h rest → length f ≡ 80 * (length h.cards + 1) + fill_length (length h.cards) + length rest
+pub length-spread : (f : List ℕ) (h : Header) (rest : List ℕ) → IsHeaderOf f h rest → length f ≡ 80 * (length h.cards + 1) + fill_length (length h.cards) + length rest
 length-spread f h rest cut =
     omega (arith, ap length cut.joined, length-append (header_bytes h) rest, length-header_bytes h cut.whole, cut.whole.fill_size)
 
@@ -105,7 +105,7 @@ header-end f h rest cut =
     ∙ take_at h.end (h.fill ++ rest) 80 cut.whole.end_size
 
 -- so the first END stands there
-header-end_place : (f : List ℕ) (h : Header) (rest : List ℕ) → IsHeaderOf f h rest → IsEndPlace f (length h.cards)
+pub header-end_place : (f : List ℕ) (h : Header) (rest : List ℕ) → IsHeaderOf f h rest → IsEndPlace f (length h.cards)
 header-end_place f h rest cut = record {
   within = omega (arith, length-spread f h rest cut);
   ends = rw (header-end f h rest cut) cut.whole.ends;

@@ -2,5 +2,8 @@ pub mod ChangeLemmas
 pub mod CutLemmas
 pub mod EmitLemmas
 pub mod HeaderLemmas
+pub mod HeaderReadingLemmas
+pub mod IntakeLemmas
+pub mod SightLemmas
 pub mod SpliceLemmas
 pub mod StreamLemmas

@@ -1,6 +1,6 @@
 -- A header: cards, the END card and the fill of its last block (FITS Standard 4.0, sections 3.1, 3.3.1 and 4.4.1).
-use Rattle.std.specs.Prelude.{◌≡◌, ℕ, ◌+◌, ◌-◌, ◌*◌, ◌%◌, List, ◌++◌, length, replicate, All, Option, slice_get}
-use Rattle.std.specs.List.{flat_map}
+use Rattle.std.specs.Prelude.{◌≡◌, ℕ, ◌+◌, ◌-◌, ◌*◌, ◌%◌, Bool, nat_eq, drop, List, ◌++◌, length, replicate, All, Option, slice_get}
+use Rattle.std.specs.List.{flat_map, list_all}
 use Rattle.fits_card.specs.Card.{IsEnd}
 
 -- the parts of a header: its cards, each a list of bytes, then END, then the fill
@@ -57,3 +57,11 @@ header_length cards = 80 * (cards + 1) + fill_length cards
 -- a header with other cards: END stays, and the fill is spaces (own)
 abbrev pub with_cards : Header → List (List ℕ) → Header
 with_cards header cards = record { cards = cards; end = header.end; fill = replicate (fill_length (length cards)) 32 }
+
+-- END has spaces alone after its name (4.4.1)
+abbrev pub is_end_blank : Header → Bool
+is_end_blank header = list_all (nat_eq 32) (drop 8 header.end)
+
+-- the fill is spaces (3.3.1)
+abbrev pub is_fill_blank : Header → Bool
+is_fill_blank header = list_all (nat_eq 32) header.fill

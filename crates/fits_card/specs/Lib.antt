@@ -2,6 +2,8 @@ pub mod Card
 pub mod CardList
 pub mod Change
 pub mod Header
+pub mod HeaderReading
 pub mod HeaderSteps
+pub mod Intake
 pub mod Name
 pub mod Stream

@@ -1,5 +1,5 @@
 -- What streams do to the bytes that are known of them, and which calls count as failed (own).
-use Rattle.std.specs.Prelude.{◌≡◌, ℕ, ◌<◌, ◌≤◌, ◌↔◌, List, ◌++◌, length, take, Bool, IsTrue, nat_lt, ◌==◌, ◌&&◌, if◌then◌else◌, Option, None, Some, Result, Ok, Err}
+use Rattle.std.specs.Prelude.{◌≡◌, ℕ, ◌≤◌, List, ◌++◌, length, take, nat_lt, ◌==◌, ◌&&◌, if◌then◌else◌, Option, None, Some, Result, Ok, Err}
 
 -- 1 where a read failed, else 0
 abbrev pub read_faults : {E : Type 0} → Result ℕ E → ℕ
@@ -21,11 +21,6 @@ abbrev pub AppendsFront : Option (List ℕ) → Option (List ℕ) → List ℕ �
 AppendsFront None new bytes = Unit {0}
 AppendsFront (Some xs) None bytes = ⊥
 AppendsFront (Some xs) (Some ys) bytes = (n : ℕ) × (n ≤ length bytes) × (ys ≡ xs ++ take n bytes)
-
--- these are all the bytes that a source had left, or its first `limit` bytes where it had more
-abbrev pub TakesUpTo : Option (List ℕ) → ℕ → List ℕ → Bool → Type 0
-TakesUpTo None limit bytes more = Unit {0}
-TakesUpTo (Some xs) limit bytes more = (bytes ≡ take limit xs) × (IsTrue more ↔ (limit < length xs))
 
 -- a stream, how many of its calls have failed, and how many writes there were since its last flush that succeeded
 pub record Watch (S : Type 0) : Type 0 where

@@ -53,7 +53,11 @@ impl Model for CardList {
     ghost invariant = { λ list. record {
       card_room : vec_len list.cards + list.room ≤ vec_capacity list.cards;
       fill_room : LONGEST_FILL ≤ vec_capacity list.fill;
-      whole : IsHeader (record { cards = list.cards.items; end = list.end; fill = list.fill.items });
+      whole : IsHeader (record {
+        cards = list.cards.items;
+        end = list.end;
+        fill = list.fill.items;
+      });
     } };
 }
 
@@ -65,7 +69,7 @@ impl CardList {
     ghost use Rattle.fits_card.specs.declared.card.TheConstants.{CARD_LEN};
     ghost use Rattle.fits_card.specs.CardList.{ReadsUpTo};
     ghost use Rattle.fits_card.specs.Change.{spliced, moved};
-    ghost use Rattle.fits_card.specs.Header.{IsHeader, header_bytes, with_cards};
+    ghost use Rattle.fits_card.specs.Header.{IsHeader, header_bytes, with_cards, is_end_blank, is_fill_blank};
 
     /// How many cards it has, END not counted.
     #[allow(clippy::len_without_is_empty)]
@@ -84,6 +88,21 @@ impl CardList {
         ensures { result ≡ length (header_bytes self.now.header) }
     {
         CARD_LEN * (self.cards.len() + 1) + self.fill.len()
+    }
+
+    /// Whether END has spaces alone after its name (FITS Standard 4.0, section 4.4.1).
+    pub fn end_blank(&self) -> bool
+        ensures { result ≡ is_end_blank self.now.header }
+    {
+        let (_, rest) = self.end.0.split_at(8);
+        rest.iter().all(|byte| *byte == b' ')
+    }
+
+    /// Whether the fill is spaces (FITS Standard 4.0, section 3.3.1).
+    pub fn fill_blank(&self) -> bool
+        ensures { result ≡ is_fill_blank self.now.header }
+    {
+        self.fill.iter().all(|byte| *byte == b' ')
     }
 
     /// The card at a place. The read is counted.
@@ -193,8 +212,8 @@ impl CardList {
     pub fn emit<W: Sink>(&mut self, sink: &mut W) -> io::Result<()>
         ensures ok { OnOk result
             (Appends (W.contents sink.old) (W.contents sink.new) (header_bytes self.old.header)) }
-        ensures err { OnErr result
-            (AppendsFront (W.contents sink.old) (W.contents sink.new) (header_bytes self.old.header)) }
+        ensures err { OnErr result (AppendsFront (W.contents sink.old) (W.contents sink.new)
+            (header_bytes self.old.header)) }
 
         // It fails exactly where a call did, and ends there.
         ensures quiet { OnOk result (W.failures sink.new ≡ W.failures sink.old) }
@@ -202,7 +221,8 @@ impl CardList {
 
         // The header stays. Each card is read at most once, and once where it succeeds.
         ensures work { ReadsUpTo self.old self.new (length self.old.header.cards) }
-        ensures reads { OnOk result (self.new.reads ≡ self.old.reads + length self.old.header.cards) }
+        ensures reads { OnOk result
+            (self.new.reads ≡ self.old.reads + length self.old.header.cards) }
     {
         write_cards(&self.cards, &mut self.reads, sink)?;
         write_all(sink, self.end.bytes())?;

@@ -108,7 +108,8 @@ impl Change {
         requires in_range { IsInRange cards.old.header.cards self.now }
         requires from { 1 ≤ place }
         requires to { place ≤ length (cards_after cards.old.header.cards self.now) }
-        ensures value { slice_get (cards_after cards.old.header.cards self.now) (place - 1) ≡ Some result }
+        ensures value { slice_get (cards_after cards.old.header.cards self.now) (place - 1)
+            ≡ Some result }
         ensures work { ReadsUpTo cards.old cards.new 1 }
     {
         match self {

@@ -33,7 +33,7 @@ impl From<AllocError> for HeaderFault {
     }
 }
 
-/// The header at the front of these bytes, and how many bytes it has (FITS Standard 4.0, section 3.3.1).
+/// The header at the front of these bytes, and how many bytes it has (FITS Standard 4.0, 3.3.1).
 ///
 /// Whether there is one is found before any memory is asked for.
 #[tactic(auto, using(crate::proofs::CutLemmas::cut_steps))]
@@ -75,7 +75,8 @@ fn front_of(bytes: &[u8]) -> Option<Front<'_>>
         (header_at bytes.now front.count) (drop (header_length front.count) bytes.now)) }
     ensures within { IfSome result (λ front. header_length front.count ≤ length bytes.now) }
     ensures cards { IfSome result (λ front. length front.cards.now ≡ 80 * (front.count + 1)) }
-    ensures fill { IfSome result (λ front. front.fill.now ≡ (header_at bytes.now front.count).fill) }
+    ensures fill { IfSome result
+        (λ front. front.fill.now ≡ (header_at bytes.now front.count).fill) }
     ensures none { IfNone result (HasNoHeader bytes.now) }
 {
     let Some(count) = end_place(bytes) else {
@@ -91,7 +92,7 @@ fn front_of(bytes: &[u8]) -> Option<Front<'_>>
 }
 
 // How many cards stand before the first that is named END.
-fn end_place(bytes: &[u8]) -> Option<usize>
+pub(crate) fn end_place(bytes: &[u8]) -> Option<usize>
     ensures found { IfSome result (IsEndPlace bytes.now) }
     ensures none { IfNone result (HasNoEnd bytes.now) }
 {
@@ -103,7 +104,7 @@ fn end_place(bytes: &[u8]) -> Option<usize>
     None
 }
 
-fn card_at(bytes: &[u8], k: usize) -> Card
+pub(crate) fn card_at(bytes: &[u8], k: usize) -> Card
     requires { CARD_LEN * (k + 1) ≤ length bytes.now }
     ensures { result ≡ piece bytes.now k }
 {
@@ -128,7 +129,7 @@ fn cards_of(alloc: Global, bytes: &[u8], count: usize) -> Result<Vec<Card>, Allo
 }
 
 // The bytes of a fill, with room for the longest.
-fn fill_of(alloc: Global, bytes: &[u8]) -> Result<Vec<u8>, AllocError>
+pub(crate) fn fill_of(alloc: Global, bytes: &[u8]) -> Result<Vec<u8>, AllocError>
     ensures bytes { IfOk result (λ fill. fill.items ≡ bytes.now) }
     ensures room { IfOk result (λ fill. LONGEST_FILL ≤ vec_capacity fill) }
 {

@@ -1,21 +1,25 @@
-//! Keyword records of FITS headers, the streams they come from and go to, and the store that edits them.
+//! Keyword records of FITS headers, the streams they come from and go to, and the store that edits
+//! them.
 #![tactic(auto)]
 
-pub mod card;
-pub mod card_list;
-pub mod cards;
-pub mod change;
-pub mod count;
-pub mod cut;
-pub mod laws;
-pub mod name;
-pub mod reading;
-pub mod sink;
-pub mod source;
-pub mod splicing;
-pub mod text;
-pub mod watched;
-pub mod writing;
+mod card;
+mod card_list;
+mod cards;
+mod change;
+mod count;
+mod cut;
+mod header_reading;
+mod intake;
+mod laws;
+mod name;
+mod reading;
+mod sink;
+mod skipping;
+mod source;
+mod splicing;
+mod text;
+mod watched;
+mod writing;
 
 pub use card::{CARD_LEN, Card};
 pub use card_list::{BLOCK_LEN, CardList, header_len};
@@ -23,9 +27,11 @@ pub use cards::Cards;
 pub use change::Change;
 pub use count::Count;
 pub use cut::{HeaderFault, cut_header};
+pub use header_reading::{ReadHeaderFault, read_header};
+pub use intake::Intake;
 pub use laws::{a_header_or_none, one_header};
 pub use name::Name;
-pub use reading::{PIECE_LEN, Portion, ReadFault, buffer_of, read_up_to};
+pub use reading::{PIECE_LEN, ReadFault, buffer_of};
 pub use sink::Sink;
 pub use source::Source;
 pub use splicing::{make_room, move_item};

@@ -25,7 +25,8 @@ pub trait Sink {
         ensures failed { failures self.new ≡ failures self.old + write_faults result piece.now }
         ensures unflushed { unflushed self.new ≡ unflushed self.old + 1 };
 
-    /// Passes on what it still holds back. Dropped in place of this, a buffered writer loses its error.
+    /// Passes on what it still holds back. Dropped instead of this, a buffered writer loses its
+    /// error.
     fn flush(&mut self) -> io::Result<()>
         ensures bytes { Keeps (contents self.old) (contents self.new) }
         ensures failed { failures self.new ≡ failures self.old + flush_faults result }

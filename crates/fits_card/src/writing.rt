@@ -11,7 +11,8 @@ use std::io::ErrorKind;
 #[tactic(auto, using(crate::proofs::StreamLemmas::writing_steps))]
 pub fn write_all<W: Sink>(sink: &mut W, bytes: &[u8]) -> io::Result<()>
     ensures ok { OnOk result (Appends (W.contents sink.old) (W.contents sink.new) bytes.now) }
-    ensures err { OnErr result (AppendsFront (W.contents sink.old) (W.contents sink.new) bytes.now) }
+    ensures err { OnErr result
+        (AppendsFront (W.contents sink.old) (W.contents sink.new) bytes.now) }
 
     // It fails exactly where a call did, and ends there.
     ensures quiet { OnOk result (W.failures sink.new ≡ W.failures sink.old) }

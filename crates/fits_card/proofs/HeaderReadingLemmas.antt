@@ -1,0 +1,109 @@
+-- Steps of reading a header block by block.
+use Rattle.std.proofs.Common.{◌≡◌, ℕ, ◌+◌, ◌*◌, ◌%◌, ◌<◌, ◌≤◌, List, [], ◌∷◌, ◌++◌, length, take, drop, refl, ap, sym, ◌∙◌, append_assoc, subst, arith, All, Option}
+use Rattle.std.proofs.lemmas.List.{append-nil, length-append, length-drop, take_all, take-append-drop}
+use Rattle.std.proofs.lemmas.List.Concat.{flat_map-append}
+use Rattle.std.proofs.lemmas.List.Elements.{All-append, All-nil}
+use Rattle.std.proofs.lemmas.List.FromFn.{length-map-range_with_len}
+use Rattle.std.proofs.Math.Seq.{take-add}
+use Rattle.fits_card.specs.Card.{IsEnd}
+use Rattle.fits_card.specs.Header.{Header, IsHeader, IsInnerCard, HasNoHeader, header_bytes, joined_cards}
+use Rattle.fits_card.specs.HeaderReading.{HeaderStops, of_read}
+use Rattle.fits_card.specs.HeaderSteps.{HasNoEnd, IsEndPlace, piece, pieces}
+use Rattle.fits_card.specs.Intake.{Finds, IsSpent, Takes, TakesAfter}
+use Rattle.fits_card.specs.declared.reading.ReadFault.{ReadFault}
+use Rattle.fits_card.specs.declared.reading.ReadFault.TheVariants as read
+use Rattle.fits_card.proofs.HeaderLemmas.{fill_length-by_cards, length-joined_cards}
+use Rattle.fits_card.proofs.CutLemmas.{header-end_place, inner-pieces, joined-pieces, length-spread, pieces-more, piece-joined_cards, length-piece}
+use Rattle.fits_card.proofs.SightLemmas.{finds_after_spent, takes_after_more, takes_after_none}
+
+-- one more card of a block, after others
+pub pushed : (start cards next : List (List ℕ)) (card : List ℕ) (f : List ℕ) (k : ℕ) → cards ≡ start ++ pieces f k → next ≡ cards ++ card ∷ [] → card ≡ piece f k → next ≡ start ++ pieces f (k + 1)
+pushed start cards next card f k e p q =
+    p ∙ ap (λ t. t ++ card ∷ []) e ∙ append_assoc start (pieces f k) (card ∷ []) ∙ ap (λ t. start ++ t) (pieces-more f k (pieces f k) card refl q)
+
+pub pushed_none : (start : List (List ℕ)) (f : List ℕ) → start ≡ start ++ pieces f 0
+pushed_none start f = sym (append-nil start)
+
+pub ruleset push_steps = (pushed_none, pushed)
+
+-- cards, END and the fill of a last block are a header
+pub ended_whole : (cards : List (List ℕ)) (block fill : List ℕ) (k n : ℕ) → length block ≡ 2880 → IsEndPlace block k → All IsInnerCard cards → n ≡ length cards → n % 36 ≡ k → fill ≡ drop (80 * (k + 1)) block
+    → IsHeader (record { cards = cards; end = piece block k; fill = fill })
+ended_whole cards block fill k n size place inner count full is = record {
+  cards = inner;
+  end_size = length-piece block k place.within;
+  ends = place.ends;
+  fill_size = ap length is ∙ omega (arith, length-drop (80 * (k + 1)) block, size, place.within, fill_length-by_cards (length cards), count, full);
+}
+
+-- a block is the cards before its END, END and the rest
+pub ended_block : (block fill : List ℕ) (k : ℕ) → fill ≡ drop (80 * (k + 1)) block → joined_cards (pieces block k) ++ (piece block k ++ fill) ≡ block
+ended_block block fill k is =
+    let size : 80 * (k + 1) ≡ 80 * k + 80 = omega arith in
+    sym (append_assoc (joined_cards (pieces block k)) (piece block k) fill)
+    ∙ ap (λ t. (t ++ piece block k) ++ fill) (joined-pieces block k)
+    ∙ ap (λ t. t ++ fill) (sym (take-add (80 * k) 80 block) ∙ ap (λ m. take m block) (sym size))
+    ∙ ap (λ t. take (80 * (k + 1)) block ++ t) is ∙ take-append-drop (80 * (k + 1)) block
+
+pub ruleset ending_steps = (ended_whole, ended_block)
+
+-- no block is read yet
+pub blocks_none : (cards : List (List ℕ)) (before : List ℕ) (a : Option (List ℕ)) (left : ℕ) → cards ≡ [] → TakesAfter before a a left left (joined_cards cards ++ before)
+blocks_none cards before a left none = rw none (takes_after_none before a left)
+
+-- a whole block without END is 36 cards
+block_cards : (block : List ℕ) (n : ℕ) → length block ≡ 80 * n → joined_cards (pieces block n) ≡ block
+block_cards block n size = joined-pieces block n ∙ take_all (80 * n) block (omega (arith, size))
+
+pub inner_more : (cards new : List (List ℕ)) (block : List ℕ) (n : ℕ) → All IsInnerCard cards → 80 * n ≤ length block → HasNoEnd block → new ≡ cards ++ pieces block n → All IsInnerCard new
+inner_more cards new block n inner size none is =
+    rw is (All-append IsInnerCard cards (pieces block n) inner (inner-pieces block n size (λ j l. none j (omega (arith, l, size)))))
+
+pub length-more : (cards new : List (List ℕ)) (block : List ℕ) (n : ℕ) → new ≡ cards ++ pieces block n → length new ≡ length cards + n
+length-more cards new block n is = ap length is ∙ length-append cards (pieces block n) ∙ ap (λ k. length cards + k) (length-map-range_with_len (piece block) 0 n)
+
+-- and then the next block
+pub blocks_more : (cards new : List (List ℕ)) (block next before : List ℕ) (a b c : Option (List ℕ)) (left left' left'' n : ℕ) → TakesAfter before a b left left' (joined_cards cards ++ block) → Takes b c left' left'' next → length block ≡ 80 * n → new ≡ cards ++ pieces block n
+    → TakesAfter before a c left left'' (joined_cards new ++ next)
+blocks_more cards new block next before a b c left left' left'' n p q size is =
+    let all : joined_cards cards ++ block ≡ joined_cards new = sym (ap joined_cards is ∙ flat_map-append (λ card. card) cards (pieces block n) ∙ ap (λ t. joined_cards cards ++ t) (block_cards block n size)) in
+    subst (λ (t : List ℕ). TakesAfter before a c left left'' (t ++ next)) all (takes_after_more before a b c left left' left'' (joined_cards cards ++ block) next p q)
+
+-- cards before the END of a block end no header
+pub inner_ended : (cards new : List (List ℕ)) (block : List ℕ) (n : ℕ) → All IsInnerCard cards → IsEndPlace block n → new ≡ cards ++ pieces block n → All IsInnerCard new
+inner_ended cards new block n inner place is = rw is (All-append IsInnerCard cards (pieces block n) inner (inner-pieces block n (omega (arith, place.within)) place.first))
+
+-- the last block, from its END on
+pub blocks_ended : (cards new : List (List ℕ)) (block before : List ℕ) (a b : Option (List ℕ)) (left left' n : ℕ) (header : Header) → TakesAfter before a b left left' (joined_cards cards ++ block) → new ≡ cards ++ pieces block n → header.cards ≡ new → joined_cards (pieces block n) ++ (header.end ++ header.fill) ≡ block
+    → TakesAfter before a b left left' (header_bytes header)
+blocks_ended cards new block before a b left left' n header p is same ended =
+    let all : joined_cards cards ++ block ≡ header_bytes header =
+    ap (λ t. joined_cards cards ++ t) (sym ended)
+    ∙ sym (append_assoc (joined_cards cards) (joined_cards (pieces block n)) (header.end ++ header.fill))
+    ∙ ap (λ t. t ++ (header.end ++ header.fill)) (sym (flat_map-append (λ card. card) cards (pieces block n)) ∙ ap joined_cards (sym (same ∙ is))) in
+    subst (TakesAfter before a b left left') all p
+
+-- cards of whole blocks, and then less than a block, are no header
+no_header_short : (cards : List (List ℕ)) (block : List ℕ) → All IsInnerCard cards → length cards % 36 ≡ 0 → length block < 2880 → HasNoHeader (joined_cards cards ++ block)
+no_header_short cards block inner full short header rest cut =
+    let n : ℕ = length header.cards in
+    let size : length (joined_cards cards ++ block) ≡ 80 * length cards + length block = length-append (joined_cards cards) block ∙ ap (λ k. k + length block) (length-joined_cards cards inner) in
+    let before : n < length cards = omega (arith, size, full, short, length-spread (joined_cards cards ++ block) header rest cut, fill_length-by_cards n) in
+    let place : IsEndPlace (joined_cards cards ++ block) n = header-end_place (joined_cards cards ++ block) header rest cut in
+    (inner n [] before).not_end (subst (λ (card : List ℕ). IsEnd card) (piece-joined_cards cards block n inner before) place.ends)
+
+-- the source ended, or the limit came, within a block
+pub stops_short : (cards : List (List ℕ)) (block before : List ℕ) (a b : Option (List ℕ)) (left left' : ℕ) → TakesAfter before a b left left' (joined_cards cards ++ block) → IsSpent b left' → All IsInnerCard cards → length cards % 36 ≡ 0 → length block < 2880
+    → Finds a b left left' (λ sight. HasNoHeader (before ++ sight))
+stops_short cards block before a b left left' p spent inner full short =
+    finds_after_spent HasNoHeader before a b left left' (joined_cards cards ++ block) p spent (no_header_short cards block inner full short)
+
+-- a source's fault
+pub stops_by_read : (before : List ℕ) (a b : Option (List ℕ)) (left left' f g : ℕ) (why : ReadFault) → (why ≡ read.Memory → g ≡ f) → (why ≡ read.Failed → g ≡ f + 1) → HeaderStops before a b left left' f g (of_read why)
+stops_by_read before a b left left' f g read.Memory m q = m refl
+stops_by_read before a b left left' f g read.Failed m q = q refl
+
+pub no_cards : (cards : List (List ℕ)) → cards ≡ [] → All IsInnerCard cards
+no_cards cards none = rw none (All-nil IsInnerCard)
+
+pub ruleset header_steps = (blocks_none, no_cards, inner_more, length-more, blocks_more, inner_ended, blocks_ended, stops_short, stops_by_read)

@@ -1,0 +1,29 @@
+use Rattle.std.proofs.Common.{◌≡◌, ◌*◌, ◌++◌, ◌∙◌, length, arith}
+use Rattle.std.proofs.lemmas.Grind.{common_steps}
+use Rattle.fits_card.specs.HeaderSteps.{HasNoEnd, pieces}
+use Rattle.fits_card.proofs.HeaderReadingLemmas.{blocks_more, inner_ended, inner_more, length-more, stops_short}
+use Rattle.fits_card.proofs.header_reading.read_header.Goals as goal
+
+-- the source ended, or the limit came, within a block
+pub returns-then-len-lt-BLOCK_LEN-clause-err : goal.returns-then-len-lt-BLOCK_LEN-clause-err
+returns-then-len-lt-BLOCK_LEN-clause-err g c =
+    (stops_short c.block.cards.items c.block.block.items _ _ _ _ _ c.block.invariant.taken (c.block.invariant.short (grind (arith, common_steps))) c.block.invariant.inner c.block.invariant.full (grind (arith, common_steps)), c.block.invariant.quiet)
+
+pub ended_list-requires-clause-inner : goal.ended_list-requires-clause-inner
+ended_list-requires-clause-inner g c =
+    inner_ended c.block.cards.items _ c.block.block.items _ c.block.invariant.inner (rw c.deref.ensures.value at c.in-Some.ensures.found) (rw c.deref-in-Some.ensures.value at c.in_ok-push_cards.ensures)
+
+-- a whole block without END
+pub block-preserved : goal.block-preserved
+block-preserved g c =
+    let size : length c.block.block.items ≡ 80 * 36 = grind (arith, common_steps) in
+    let none : HasNoEnd c.block.block.items = rw c.deref.ensures.value at c.in_default.ensures.none in
+    let new : c.push_cards-in-block.new.cards.items ≡ c.block.cards.items ++ pieces c.block.block.items 36 = rw c.deref-in-block.ensures.value at c.in_ok-push_cards-2.ensures in
+    record {
+      taken = blocks_more c.block.cards.items _ c.block.block.items _ _ _ _ _ _ _ _ 36 c.block.invariant.taken c.in-Ok.ensures.ok size new;
+      inner = inner_more c.block.cards.items _ c.block.block.items 36 c.block.invariant.inner (omega (arith, size)) none new;
+      full = omega (arith, length-more c.block.cards.items _ c.block.block.items 36 new, c.block.invariant.full);
+      within = c.in-Ok.ensures.within;
+      short = c.in-Ok.ensures.ends;
+      quiet = c.in-Ok.ensures.quiet ∙ c.block.invariant.quiet;
+    }

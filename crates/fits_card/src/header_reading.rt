@@ -1,0 +1,139 @@
+//! The header that comes next in a source.
+ghost use Rattle.std.specs.Prelude.{◌≡◌, ◌+◌, ◌*◌, ◌%◌, ◌<◌, ◌≤◌, ◌++◌, All, length, IfOk, IfErr, OnOk};
+ghost use Rattle.fits_card.specs.declared.card.TheConstants.{CARD_LEN};
+ghost use Rattle.fits_card.specs.declared.card_list.TheConstants.{BLOCK_LEN};
+ghost use Rattle.fits_card.specs.Header.{header_bytes, joined_cards, IsHeader, IsInnerCard};
+ghost use Rattle.fits_card.specs.HeaderReading.{HeaderStops};
+ghost use Rattle.fits_card.specs.HeaderSteps.{pieces, IsEndPlace};
+ghost use Rattle.fits_card.specs.Intake.{IsSpent, TakesAfter};
+
+use crate::card::{CARD_LEN, Card};
+use crate::card_list::{BLOCK_LEN, CardList};
+use crate::count::Count;
+use crate::cut::{card_at, end_place, fill_of};
+use crate::intake::Intake;
+use crate::reading::ReadFault;
+use crate::source::Source;
+use std::alloc::{AllocError, Global};
+use thiserror::Error;
+
+/// Why no header was read.
+#[derive(Clone, Copy, PartialEq, Eq, Debug, Error)]
+pub enum ReadHeaderFault {
+    /// There is no END card, or its block isn't whole.
+    #[error("the header has no END, or its last block is not whole")]
+    NoEnd,
+    /// Memory was refused.
+    #[error("out of memory")]
+    Memory,
+    /// A call of the source failed.
+    #[error("a read failed")]
+    Failed,
+}
+
+impl From<AllocError> for ReadHeaderFault {
+    ghost use Rattle.fits_card.specs.declared.header_reading.ReadHeaderFault.TheVariants.{Memory};
+    ghost use Rattle.std.specs.Prelude.{◌≡◌};
+
+    ghost from_gives = { λ _ fault. fault ≡ Memory };
+
+    fn from(_: AllocError) -> ReadHeaderFault {
+        ReadHeaderFault::Memory
+    }
+}
+
+impl From<ReadFault> for ReadHeaderFault {
+    ghost use Rattle.fits_card.specs.HeaderReading.{of_read};
+    ghost use Rattle.std.specs.Prelude.{◌≡◌};
+
+    ghost from_gives = { λ step fault. fault ≡ of_read step };
+
+    fn from(fault: ReadFault) -> ReadHeaderFault {
+        match fault {
+            ReadFault::Memory => ReadHeaderFault::Memory,
+            ReadFault::Failed => ReadHeaderFault::Failed,
+        }
+    }
+}
+
+/// The header that comes next, whose first block had been taken before (FITS Standard 4.0, section
+/// 3.3.1).
+///
+/// Block after block is taken, as far as the first that has an END. Memory is asked for as cards
+/// come, and for cards alone.
+#[tactic(auto, using(crate::proofs::HeaderReadingLemmas::header_steps))]
+pub fn read_header<R: Source>(
+    alloc: Global,
+    intake: &mut Intake,
+    source: &mut R,
+    first: Vec<u8>,
+) -> Result<CardList, ReadHeaderFault>
+    requires within { length first.items ≤ BLOCK_LEN }
+    requires short { length first.items < BLOCK_LEN → IsSpent (R.remaining source.old) intake.old }
+    ensures ok { IfOk result (λ list. TakesAfter first.items
+        (R.remaining source.old) (R.remaining source.new) intake.old intake.new
+        (header_bytes list.header)) }
+    ensures whole { IfOk result (λ list. IsHeader list.header) }
+    ensures unread { IfOk result (λ list. list.reads ≡ 0) }
+    ensures quiet { OnOk result (R.failures source.new ≡ R.failures source.old) }
+    ensures err { IfErr result (HeaderStops first.items
+        (R.remaining source.old) (R.remaining source.new) intake.old intake.new
+        (R.failures source.old) (R.failures source.new)) }
+{
+    let mut cards = Vec::new(alloc);
+    let mut block = first;
+    'block: loop {
+        if block.len() < BLOCK_LEN {
+            return Err(ReadHeaderFault::NoEnd);
+        }
+        if let Some(count) = end_place(&block) {
+            push_cards(&mut cards, &block, count)?;
+            return Ok(ended_list(alloc, cards, &block, count)?);
+        }
+        push_cards(&mut cards, &block, BLOCK_LEN / CARD_LEN)?;
+        block = match intake.take(alloc, source, BLOCK_LEN) {
+            Ok(next) => next,
+            Err(fault) => return Err(ReadHeaderFault::from(fault)),
+        };
+    }
+}
+
+// The first cards of a block, after others.
+#[tactic(auto, using(crate::proofs::HeaderReadingLemmas::push_steps))]
+fn push_cards(cards: &mut Vec<Card>, block: &[u8], count: usize) -> Result<(), AllocError>
+    requires { CARD_LEN * count ≤ length block.now }
+    ensures { OnOk result (cards.new.items ≡ cards.old.items ++ pieces block.now count) }
+{
+    for k in 0..count {
+        cards.push(card_at(block, k))?;
+    }
+    Ok(())
+}
+
+// A header of cards of which the last ones stand in its last block, before END.
+#[tactic(auto, using(crate::proofs::HeaderReadingLemmas::ending_steps))]
+fn ended_list(
+    alloc: Global,
+    cards: Vec<Card>,
+    block: &[u8],
+    count: usize,
+) -> Result<CardList, AllocError>
+    requires whole { length block.now ≡ BLOCK_LEN }
+    requires ends { IsEndPlace block.now count }
+    requires inner { All IsInnerCard cards.items }
+    requires full { (length cards.items) % 36 ≡ count }
+    ensures cards { IfOk result (λ list. list.header.cards ≡ cards.items) }
+    ensures ended { IfOk result (λ list. joined_cards (pieces block.now count)
+        ++ (list.header.end ++ list.header.fill) ≡ block.now) }
+    ensures whole { IfOk result (λ list. IsHeader list.header) }
+    ensures unread { IfOk result (λ list. list.reads ≡ 0) }
+{
+    let (_, fill) = block.split_at(CARD_LEN * (count + 1));
+    Ok(CardList {
+        cards,
+        end: card_at(block, count),
+        fill: fill_of(alloc, fill)?,
+        reads: Count::new(),
+        room: 0,
+    })
+}

@@ -1,0 +1,185 @@
+ghost use Rattle.std.specs.Prelude.{◌≡◌, ◌+◌, ◌<◌, ◌≤◌, ◌↔◌, length, IfOk, IfSome, OnOk, OnErr, IsErrOf, IsTrue};
+ghost use Rattle.std.specs.Io.KnownBytes.{IsAtEnd};
+ghost use Rattle.fits_card.specs.Intake.{ConsumesAfter};
+
+use crate::reading::{PIECE_LEN, ReadFault, buffer_of};
+use crate::source::Source;
+use std::alloc::{AllocError, Global};
+use std::io;
+use std::marker::Model;
+
+/// How the bytes of a source are taken, piece by piece, up to a limit.
+///
+/// Contracts see how many more may be taken.
+#[derive(Drop)]
+pub struct Intake {
+    piece: Vec<u8>,
+    left: usize,
+}
+
+impl Model for Intake {
+    ghost use Rattle.std.specs.Prelude.{ℕ, ◌<◌, vec_len};
+
+    ghost Value = { ℕ };
+
+    ghost view = { λ intake. intake.left };
+
+    ghost invariant = { λ intake. 0 < vec_len intake.piece };
+}
+
+impl Intake {
+    ghost use Rattle.std.specs.Prelude.{◌≡◌, ◌+◌, ◌<◌, ◌≤◌, ◌↔◌, ◌^◌, length, IfOk, IfSome, OnOk, OnErr, IsErrOf, IsTrue};
+    ghost use Rattle.fits_card.specs.Intake.{IsSpent, Skips, Takes, TakesAfter};
+
+    pub fn new(alloc: Global, limit: usize) -> Result<Intake, AllocError>
+        ensures { IfOk result (λ intake. intake ≡ limit) }
+    {
+        Ok(Intake {
+            piece: buffer_of(alloc, PIECE_LEN)?,
+            left: limit,
+        })
+    }
+
+    /// How many more bytes may be taken.
+    pub fn left(&self) -> usize
+        ensures { result ≡ self.now }
+    {
+        self.left
+    }
+
+    /// The next bytes, so many or as many as there are. Memory is asked for as they come.
+    #[tactic(auto, using(crate::proofs::IntakeLemmas::intake_steps))]
+    pub fn take<R: Source>(
+        &mut self,
+        alloc: Global,
+        source: &mut R,
+        len: usize,
+    ) -> Result<Vec<u8>, ReadFault>
+        ensures ok { IfOk result (λ bytes. Takes (R.remaining source.old) (R.remaining source.new)
+            self.old self.new bytes.items) }
+        ensures within { IfOk result (λ bytes. length bytes.items ≤ len) }
+        ensures ends { IfOk result (λ bytes. length bytes.items < len
+            → IsSpent (R.remaining source.new) self.new) }
+
+        // It answers `Failed` only where a call did, and ends there.
+        ensures quiet { OnOk result (R.failures source.new ≡ R.failures source.old) }
+        ensures failed { IsErrOf result ReadFault.Failed
+            → R.failures source.new ≡ R.failures source.old + 1 }
+        ensures memory { IsErrOf result ReadFault.Memory
+            → R.failures source.new ≡ R.failures source.old }
+    {
+        let most = len.min(self.left);
+        let piece = self.piece.as_mut_slice();
+        let bytes = take_after(Vec::new(alloc), source, piece, most)?;
+        self.left -= bytes.len();
+        Ok(bytes)
+    }
+
+    /// All that may still be taken, after bytes that had been taken before.
+    #[tactic(auto, using(crate::proofs::IntakeLemmas::intake_steps))]
+    pub fn take_rest<R: Source>(
+        &mut self,
+        source: &mut R,
+        before: Vec<u8>,
+    ) -> Result<Vec<u8>, ReadFault>
+        requires { self.old + length before.items ≤ 2 ^ 34 }
+        ensures ok { IfOk result (λ bytes. TakesAfter before.items
+            (R.remaining source.old) (R.remaining source.new) self.old self.new bytes.items) }
+        ensures ends { OnOk result (IsSpent (R.remaining source.new) self.new) }
+        ensures quiet { OnOk result (R.failures source.new ≡ R.failures source.old) }
+        ensures failed { IsErrOf result ReadFault.Failed
+            → R.failures source.new ≡ R.failures source.old + 1 }
+        ensures memory { IsErrOf result ReadFault.Memory
+            → R.failures source.new ≡ R.failures source.old }
+    {
+        let most = self.left + before.len();
+        let bytes = take_after(before, source, self.piece.as_mut_slice(), most)?;
+        self.left = most - bytes.len();
+        Ok(bytes)
+    }
+
+    /// Drops the next bytes, so many or as many as there are, and says how many.
+    #[tactic(auto, using(crate::proofs::IntakeLemmas::intake_steps))]
+    pub fn skip<R: Source>(&mut self, source: &mut R, len: usize) -> io::Result<usize>
+        ensures ok { IfOk result (λ count. Skips (R.remaining source.old) (R.remaining source.new)
+            count) }
+        ensures count { IfOk result (λ count. self.old ≡ self.new + count) }
+        ensures within { IfOk result (λ count. count ≤ len) }
+        ensures ends { IfOk result (λ count. count < len
+            → IsSpent (R.remaining source.new) self.new) }
+        ensures quiet { OnOk result (R.failures source.new ≡ R.failures source.old) }
+        ensures failed { OnErr result (R.failures source.new ≡ R.failures source.old + 1) }
+    {
+        let most = len.min(self.left);
+        let count = source.skip(self.piece.as_mut_slice(), most)?;
+        self.left -= count;
+        Ok(count)
+    }
+
+    /// Drops what may still be taken, and says whether the source has more than that.
+    #[tactic(auto, using(crate::proofs::IntakeLemmas::intake_steps))]
+    pub fn overruns<R: Source>(mut self, source: &mut R) -> io::Result<bool>
+        ensures more { IfOk result (λ more. IfSome (R.remaining source.old)
+            (λ bytes. IsTrue more ↔ (self < length bytes))) }
+        ensures quiet { OnOk result (R.failures source.new ≡ R.failures source.old) }
+        ensures failed { OnErr result (R.failures source.new ≡ R.failures source.old + 1) }
+    {
+        let piece = self.piece.as_mut_slice();
+        let count = source.skip(piece, self.left)?;
+        if count < self.left {
+            return Ok(false);
+        }
+        has_more(source, piece)
+    }
+}
+
+// Whether another byte is left. It is dropped.
+#[tactic(auto, using(crate::proofs::IntakeLemmas::intake_steps))]
+fn has_more<R: Source>(source: &mut R, piece: &mut [u8]) -> io::Result<bool>
+    requires { 0 < length piece.old }
+    ensures ok { IfOk result (λ more. IfSome (R.remaining source.old)
+        (λ bytes. IsTrue more ↔ (0 < length bytes))) }
+    ensures quiet { OnOk result (R.failures source.new ≡ R.failures source.old) }
+    ensures failed { OnErr result (R.failures source.new ≡ R.failures source.old + 1) }
+{
+    let n = source.read(piece)?;
+    Ok(n > 0)
+}
+
+// These bytes and those that follow, so many in all, or as many as there are. No call asks for
+// more.
+#[tactic(auto, using(crate::proofs::IntakeLemmas::intake_steps))]
+fn take_after<R: Source>(
+    before: Vec<u8>,
+    source: &mut R,
+    piece: &mut [u8],
+    len: usize,
+) -> Result<Vec<u8>, ReadFault>
+    requires wide { 0 < length piece.old }
+    requires within { length before.items ≤ len }
+    ensures ok { IfOk result (λ bytes. ConsumesAfter before.items
+        (R.remaining source.old) (R.remaining source.new) bytes.items) }
+    ensures within { IfOk result (λ bytes. length bytes.items ≤ len) }
+    ensures ends { IfOk result (λ bytes. length bytes.items < len
+        → IsAtEnd (R.remaining source.new)) }
+    ensures size { length piece.new ≡ length piece.old }
+    ensures quiet { OnOk result (R.failures source.new ≡ R.failures source.old) }
+    ensures failed { IsErrOf result ReadFault.Failed
+        → R.failures source.new ≡ R.failures source.old + 1 }
+    ensures memory { IsErrOf result ReadFault.Memory
+        → R.failures source.new ≡ R.failures source.old }
+{
+    let mut bytes = before;
+    while bytes.len() < len {
+        let most = piece.len().min(len - bytes.len());
+        let (room, _) = piece.split_at_mut(most);
+        let Ok(n) = source.read(room) else {
+            return Err(ReadFault::Failed);
+        };
+        if n == 0 {
+            return Ok(bytes);
+        }
+        bytes.extend_from_slice(&room[..n])?;
+    }
+    Ok(bytes)
+}
