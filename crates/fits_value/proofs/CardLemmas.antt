@@ -106,6 +106,6 @@ pub card_none : (card text : List ℕ) → text ≡ field card → ((k : ValueKi
     → (k : ValueKind) (s : List ℕ) (c : Option (List ℕ)) → ReadsAs card k s c → ⊥
 card_none card text e h k s c says = h k s c (subst (λ (x : List ℕ). FieldReadsAs x k s c) (sym e) says.reads)
 
--- a card has one reading at the most
+-- a card has at most one reading
 pub one_card_reading : (card : List ℕ) (k j : ValueKind) (s t : List ℕ) (c d : Option (List ℕ)) → ReadsAs card k s c → ReadsAs card j t d → (k ≡ j) × (s ≡ t) × (c ≡ d)
 one_card_reading card k j s t c d g h = one_reading (field card) k j s t c d g.reads h.reads

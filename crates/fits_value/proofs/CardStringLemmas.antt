@@ -1,4 +1,4 @@
--- The strings of single cards, in an array with spaces behind them.
+-- The strings of single cards, in an array with spaces after them.
 use Rattle.std.proofs.Common.{◌≡◌, ℕ, ◌≤◌, ◌+◌, ◌-◌, true, List, [], ◌∷◌, ◌++◌, length, take, drop, replicate, Option, None, Some, zero, suc, refl, sym, ◌∙◌, ap, arith, length-take-le, take-append-drop}
 use Rattle.std.specs.List.{list_all}
 use Rattle.std.specs.Option.{option_map}

@@ -1,4 +1,4 @@
--- The steps along a chain: what the links behind a text come to, by the first of them.
+-- The steps along a chain: what the links after a text come to, by the first of them.
 use Rattle.std.proofs.Common.{◌≡◌, ℕ, ◌≤◌, ◌<◌, ◌+◌, Bool, true, false, List, [], ◌∷◌, ◌++◌, length, drop, get_or, Option, None, Some, refl, sym, ◌∙◌, ap, inl, inr, append_assoc}
 use Rattle.std.specs.Prelude.{IsTrue, ◌↔◌}
 use Rattle.std.specs.Option.{option_map}
@@ -70,7 +70,7 @@ is_open_as text b h = elim (cases_Bool b) [
   | inr e ↦ e ∙ sym (false_from_ne_true (ends_in_ampersand text) (λ is. both_ways b e (h.1 (ampersand_told text is))))
 ]
 
--- nothing continues a text behind the last card
+-- nothing continues a text after the last card
 pub next_link-end : (text : List ℕ) (place : ℕ) (cards : List (List ℕ)) → length cards ≤ place → next_link text (drop place cards) ≡ None
 next_link-end text place cards within = ap (λ (x : List (List ℕ)). next_link text x) (drop_all place cards within)
 

@@ -1,50 +1,24 @@
 -- Complex numbers at the front of a list against their spellings, in both directions.
-use Rattle.std.proofs.Common.{◌≡◌, ℕ, ◌≤◌, ◌+◌, ◌-◌, Bool, cond, eqb, ltb, List, [], ◌∷◌, ◌++◌, length, drop, take, Option, None, Some, refl, sym, ◌∙◌, ap, subst, arith, inl, inr, ◌⊎◌, ◌&&◌}
+use Rattle.std.proofs.Common.{◌≡◌, ℕ, ◌≤◌, ◌+◌, eqb, List, [], ◌∷◌, ◌++◌, length, drop, take, Option, None, Some, refl, sym, ◌∙◌, ap, subst, arith, inl, inr, ◌⊎◌}
 use Rattle.std.specs.List.{prefix_len}
 use Rattle.std.proofs.Math.Seq.{drop-append_seam}
 use Rattle.std.proofs.lemmas.List.{take-append-drop, length-take-le, length-drop, drop-drop}
 use Rattle.std.proofs.lemmas.List.Folds.{length-prefix_len}
-use Rattle.std.proofs.lemmas.Bool.{eqb-true, and_parts, cond_both}
-use Rattle.std.proofs.lemmas.Option.{same_Some, some_pair_parts}
-use Rattle.fits_value.proofs.FrontLemmas.{chosen, Stops, prefix_len-front, prefix_passes}
-use Rattle.fits_value.proofs.NumberScanLemmas.{number_found, number_integer, number_real, Separates}
+use Rattle.std.proofs.lemmas.Bool.{eqb-true, and_parts}
+use Rattle.std.proofs.lemmas.Option.{same_Some}
+use Rattle.fits_value.proofs.FrontLemmas.{Stops, prefix_len-front, prefix_passes}
+use Rattle.fits_value.proofs.NumberScanLemmas.{number_found, number_integer, number_real, number_kinds}
+use Rattle.fits_value.proofs.SeparatorLemmas.{Separates}
 use Rattle.fits_value.proofs.NumberFrontLemmas.{begins_number, begins_stops}
-use Rattle.fits_value.specs.Spelling.{is_space, is_digit, IsSpaces, Spells}
+use Rattle.fits_value.specs.Spelling.{is_space, IsSpaces, Spells}
 use Rattle.fits_value.specs.Number.{IsNumber}
-use Rattle.fits_value.specs.Scan.{sign_of, fraction_length, exponent_of, number_of, element_at, element_of}
+use Rattle.fits_value.specs.Scan.{number_of, element_at, element_of}
 use Rattle.fits_value.specs.declared.reading.ValueKind.{ValueKind}
 use Rattle.fits_value.specs.declared.reading.ValueKind.TheVariants.{Integer, Real}
 use Rattle.fits_value.specs.declared.scan_complex.Element.{Element}
 
--- a kind of number
-IsNumberKind : ValueKind → Type 0
-IsNumberKind kind = (kind ≡ Integer) ⊎ (kind ≡ Real)
-
--- one of the two kinds
-either_kind : (b : Bool) → (cond b Integer Real ≡ Integer) ⊎ (cond b Integer Real ≡ Real)
-either_kind b = cond_both b Integer Real (λ k. (k ≡ Integer) ⊎ (k ≡ Real)) (λ e. inl refl) (λ e. inr refl)
-
--- what is found for a number is an integer or a real number
-number_kind : (s : List ℕ) (k : ValueKind) (n : ℕ) → number_of s ≡ Some (k, n) → IsNumberKind k
-unfolding number_of IsNumberKind
-number_kind s k n e =
-    let a = sign_of s in
-    let body = drop a s in
-    let b = prefix_len is_digit body in
-    let rest = drop b body in
-    let c = fraction_length rest in
-    let d = exponent_of (drop c rest) in
-    let kind : ValueKind = cond ((eqb c 0) && (eqb d 0)) Integer Real in
-    elim (chosen (ltb 0 (b + (c - 1))) (Some (kind, a + (b + (c + d)))) None (Some (k, n)) e) [
-      | inr w ↦ absurd (let z = w.1 in (cc))
-      | inl w ↦
-          let is : kind ≡ k = (some_pair_parts kind k (a + (b + (c + d))) n w.1).0 in
-          elim (either_kind ((eqb c 0) && (eqb d 0))) [ inl x ↦ inl (sym is ∙ x) | inr x ↦ inr (sym is ∙ x) ]
-    ]
-
 -- a spelling of such a kind is a number
-number_spelled : (k : ValueKind) (s : List ℕ) → IsNumberKind k → Spells k s → IsNumber s
-unfolding IsNumberKind
+number_spelled : (k : ValueKind) (s : List ℕ) → (k ≡ Integer) ⊎ (k ≡ Real) → Spells k s → IsNumber s
 number_spelled k s (inl e) h = inl (subst (λ (x : ValueKind). Spells x s) e h)
 number_spelled k s (inr e) h = inr (subst (λ (x : ValueKind). Spells x s) e h)
 
@@ -84,7 +58,7 @@ element_at_found s (Some v) e within f g =
       number = take v.1 body;
       after = take c behind;
       spaced = (prefix_passes is_space s, prefix_passes is_space behind);
-      is_number = number_spelled v.0 (take v.1 body) (number_kind body v.0 v.1 f) (number_found body v.0 v.1 f);
+      is_number = number_spelled v.0 (take v.1 body) (number_kinds body v.0 v.1 f) (number_found body v.0 v.1 f);
       whole = whole ∙ ap (λ (x : List ℕ). take a s ++ (take v.1 body ++ (take c behind ++ x))) (sym cut);
       start = omega arith;
       end = omega arith;

@@ -163,7 +163,7 @@ lower m i n z e =
     let r : (m / 10 * 10) * 10 ^ i ≡ m * 10 ^ i = ap (λ (y : ℕ). y * 10 ^ i) q in
     ap (λ (y : ℕ). m / 10 * y) p ∙ omega (arith, e, r)
 
--- digits behind digits are digits
+-- digits after digits are digits
 pub digits_joined : (xs ys : List ℕ) → IsDigits xs → IsDigits ys → IsDigits (xs ++ ys)
 digits_joined [] ys a b = b
 digits_joined (x ∷ xs) ys a b = let w = and_parts (is_digit x) (list_all is_digit xs) a in and_from _ _ w.0 (digits_joined xs ys w.1 b)
@@ -189,7 +189,7 @@ moved_left front whole behind back i places m e f h a b =
     let w = by_zeros whole (behind ++ back) m (length back + places) size (digits_joined behind back are_behind b) in
     (λ u. ap value_of same ∙ w.0 (ap value_of (sym (append-nil whole)) ∙ u.0, u.1), λ u. let v = w.1 (sym (ap value_of same) ∙ u) in (ap value_of (append-nil whole) ∙ v.0, v.1))
 
--- the point moved to the right, into the digits behind it
+-- the point moved to the right, into the digits after it
 pub moved_right : (front back whole behind : List ℕ) (n places m : ℕ) → whole ≡ take n back → behind ≡ drop n back → n ≡ places → places ≤ length back → IsDigits back
     → ((value_of (front ++ whole) ≡ m) × (value_of behind ≡ 0)) ↔ (value_of (front ++ back) * 10 ^ places ≡ m * 10 ^ length back)
 moved_right front back whole behind n places m e f i h b =
@@ -200,7 +200,7 @@ moved_right front back whole behind n places m e f i h b =
     let r = by_right (value_of (front ++ back)) m places (length back) h in
     (λ u. r.0 (ap value_of same ∙ w.0 u), λ u. w.1 (sym (ap value_of same) ∙ r.1 u))
 
--- the point moved to the right, past the digits behind it
+-- the point moved to the right, past the digits after it
 pub raised_more : (v rest m n places down : ℕ) → n ≡ places → down ≤ n → rest * 10 ^ (n - down) ≡ m → (v ≡ rest) ↔ (v * 10 ^ places ≡ m * 10 ^ down)
 raised_more v rest m n places down i h e =
     let same : v * 10 ^ n ≡ v * 10 ^ places = ap (λ (y : ℕ). v * 10 ^ y) i in

@@ -25,7 +25,7 @@ pub record Describes (text : List ℕ) (r : Reading) : Type 0 where
   pub says : FieldReadsAs text r.kind (part text r.value) (option_map (part text) r.comment)
   pub placed : IsPlacedIn text 0 r
 
--- a text cut into the parts of a field: a value that is none begins at its front
+-- a text cut into the parts of a field: a value that is none begins where it does
 pub record IsCut (text : List ℕ) (kind : ValueKind) (before spelling after ending : List ℕ) : Type 0 where
   pub whole : text ≡ before ++ (spelling ++ (after ++ ending))
   pub is_text : IsText text

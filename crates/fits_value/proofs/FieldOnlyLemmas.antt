@@ -10,7 +10,7 @@ use Rattle.std.proofs.lemmas.Option.{same_Some}
 use Rattle.fits_value.proofs.FrontLemmas.{Stops, prefix_len-front}
 use Rattle.fits_value.proofs.TrimLemmas.{suffix_len-back}
 use Rattle.fits_value.proofs.PartLemmas.{part_is}
-use Rattle.fits_value.proofs.NumberScanLemmas.{Separates}
+use Rattle.fits_value.proofs.SeparatorLemmas.{Separates}
 use Rattle.fits_value.proofs.ValueScanLemmas.{value_only, value_undefined, spelled_stops}
 use Rattle.fits_value.proofs.FieldLemmas.{is_undefined, undefined_spelled, all_two, value_span-some, value_span-none, span_after}
 use Rattle.fits_value.specs.Spelling.{is_space, IsSpaces}
@@ -110,7 +110,7 @@ scan_only text found e k spelling comment h =
     let given = reading_only text k spelling comment h in
     subst (λ (o : Option Reading). IsSomeAnd o (λ (r : Reading). (r.kind ≡ k) × (part text r.value ≡ spelling) × (option_map (part text) r.comment ≡ comment))) (sym (e ∙ given.1)) (given.2, given.3, given.4)
 
--- a text has one reading at the most
+-- a text has at most one reading
 pub one_reading : (text : List ℕ) (k j : ValueKind) (s t : List ℕ) (c d : Option (List ℕ)) → FieldReadsAs text k s c → FieldReadsAs text j t d → (k ≡ j) × (s ≡ t) × (c ≡ d)
 one_reading text k j s t c d g h =
     let x = reading_only text k s c g in

@@ -1,4 +1,4 @@
--- Fronts of lists: the longest front whose elements pass a test.
+-- Prefixes of lists: the longest prefix whose elements pass a test.
 use Rattle.std.proofs.Common.{◌≡◌, ℕ, ◌+◌, Bool, true, false, cond, List, [], ◌∷◌, ◌++◌, length, drop, take, Option, None, Some, suc, refl, sym, ◌∙◌, subst, arith, inl, inr, ◌⊎◌}
 use Rattle.std.specs.List.{prefix_len, list_all, take_while}
 use Rattle.std.specs.Option.{option_map}
@@ -20,7 +20,7 @@ abbrev pub Stops : (ℕ → Bool) → List ℕ → Type 0
 Stops p [] = Unit {0}
 Stops p (b ∷ s) = p b ≡ false
 
--- a front that passes, before a list that stops, is the longest front that passes
+-- a prefix that passes, before a list that stops, is the longest one that passes
 pub prefix_len-front : (p : ℕ → Bool) (xs ys : List ℕ) → list_all p xs ≡ true → Stops p ys → prefix_len p (xs ++ ys) ≡ length xs
 prefix_len-front p [] [] all stops = refl
 prefix_len-front p [] (y ∷ ys) all stops = cond-false (p y) _ _ stops
@@ -29,14 +29,14 @@ prefix_len-front p (x ∷ xs) ys all stops =
     let rest = prefix_len-front p xs ys both.1 stops in
     cond-true (p x) _ _ both.0 ∙ (rw rest (omega arith))
 
--- the longest front that passes does pass
+-- the longest prefix that passes does pass
 pub prefix_passes : (p : ℕ → Bool) (xs : List ℕ) → list_all p (take (prefix_len p xs) xs) ≡ true
 prefix_passes p [] = refl
 prefix_passes p (x ∷ xs) =
     subst (λ (s : List ℕ). list_all p s ≡ true) (sym (take_while-cons p x xs))
     (cond_both (p x) (x ∷ take_while p xs) [] (λ s. list_all p s ≡ true) (λ e. and_from (p x) _ e (prefix_passes p xs)) (λ e. refl))
 
--- what stands behind the longest front that passes stops
+-- what stands after the longest prefix that passes stops
 pub prefix_stops : (p : ℕ → Bool) (xs : List ℕ) → Stops p (drop (prefix_len p xs) xs)
 prefix_stops p [] = tt
 prefix_stops p (x ∷ xs) =

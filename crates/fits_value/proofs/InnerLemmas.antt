@@ -88,6 +88,7 @@ settable_valued name h = not-true (is_valueless name) (and_parts (is_spelled nam
 name_text : (b : ℕ) → is_name_byte b ≡ true → is_text_byte b ≡ true
 name_text b h = grind arith
 
+-- and so is a space
 space_text : (b : ℕ) → eqb 32 b ≡ true → is_text_byte b ≡ true
 space_text b h = grind arith
 

@@ -26,6 +26,7 @@ pub mod ReadBackLemmas
 pub mod ReadLemmas
 pub mod SayLemmas
 pub mod SaysLemmas
+pub mod SeparatorLemmas
 pub mod StandardFacts
 pub mod TrimLemmas
 pub mod ValueScanLemmas

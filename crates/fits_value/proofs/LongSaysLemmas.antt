@@ -1,5 +1,5 @@
 -- What places say, as a function and as a relation: each string has its chain.
-use Rattle.std.proofs.Common.{◌≡◌, ℕ, ◌+◌, cond, List, [], ◌∷◌, ◌++◌, length, take, arith, codes, bytes_eq, All, Option, None, Some, refl, sym, ◌∙◌, ap, subst, inl, inr, ◌&&◌, append_assoc}
+use Rattle.std.proofs.Common.{◌≡◌, ℕ, ◌+◌, ◌<◌, ◌≤◌, cond, List, [], ◌∷◌, ◌++◌, length, take, arith, codes, bytes_eq, All, Option, None, Some, refl, sym, ◌∙◌, ap, subst, inl, inr, ◌&&◌, append_assoc}
 use Rattle.std.specs.List.{flat_map}
 use Rattle.std.specs.Option.{option_map}
 use Rattle.std.proofs.lemmas.Bool.{cases_Bool, both_ways, and_parts, and_from, cond-true, cond-false}
@@ -18,7 +18,7 @@ use Rattle.fits_value.proofs.SaysLemmas.{card_said, card_told}
 use Rattle.fits_value.specs.Text.{normal_form}
 use Rattle.fits_value.specs.Value.{CardSays}
 use Rattle.fits_value.specs.LongString.{Piece, SaysPiece, IsContinueCard, EndsInAmpersand, BeginsWithContinue, BeginsChain, IsChain, IsRun, LongSays, cards_from, without_last}
-use Rattle.fits_value.specs.Says.{card_says, string_with, said_string, card_string, is_continue, link_string, link_says, link_before, links_of, ends_in_ampersand, joined, links_after, string_cards, continued, first_says, first_chain_length, long_says, chain_length}
+use Rattle.fits_value.specs.Says.{card_says, string_with, said_string, card_string, is_continue, link_string, link_says, link_before, links_of, ends_in_ampersand, joined, links_after, string_cards, continued, first_says, first_chain_length, long_says, chain_length, IsLink}
 use Rattle.fits_value.specs.declared.value.Value.{Value}
 use Rattle.fits_value.specs.declared.value.Value.TheVariants.{Str}
 
@@ -67,7 +67,7 @@ link_missed card cards e h =
     let none : link_says h.0 ≡ None = ap link_says (sym is) ∙ e in
     (cc)
 
--- no card continues a chain behind the last one
+-- no card continues a chain after the last one
 none_behind : BeginsWithContinue [] → ⊥
 none_behind h = let e = h.2 in (cc)
 
@@ -130,7 +130,7 @@ chain_grows piece card cards next whole links says is_open at is h =
       size = omega (arith, h.size);
     }
 
--- what a piece is joined to, by what the card behind it says
+-- what a piece is joined to, by what the card after it says
 chain_behind : (piece : Piece) (card : List ℕ) (cards : List (List ℕ)) (o : Option Link) → SaysPiece piece → link_says card ≡ o
     → ((next : Piece) → SaysPiece next → Chains next cards (joined next.text next.comment (links_of cards)) (links_after next.text (links_of cards)))
     → Chains piece (card ∷ cards) (joined piece.text piece.comment (link_before o (links_of cards))) (links_after piece.text (link_before o (links_of cards)))
@@ -201,7 +201,7 @@ continued_told cards place card rest (Str text) c at value says =
     })
 continued_told cards place card rest v c at value says = long_alone cards place card rest v c at says (stringless cards place card rest v c at says (λ text e. (cc)))
 
--- what the first card says with those behind it
+-- what the first card says with those after it
 first_told : (cards : List (List ℕ)) (place : ℕ) (s : List (List ℕ)) (v : Value) (c : Option (List ℕ)) → cards_from cards place ≡ s → first_says s ≡ Some (v, c) → LongSays cards place v c
 first_told cards place [] v c at e = absurd (cc)
 first_told cards place (card ∷ rest) v c at e = elim (chosen (has_value card) (option_map (λ (x : Said). continued x.0 x.1 rest) (card_says card)) (card_says card) (Some (v, c)) e) [
@@ -216,7 +216,7 @@ pub place_told : (cards : List (List ℕ)) (place : ℕ) (v : Value) (c : Option
 unfolding long_says
 place_told cards place v c e = first_told cards place (cards_from cards place) v c refl e
 
--- a card that says something, and those behind it
+-- a card that says something, and those after it
 record SaysFirst (cards : List (List ℕ)) : Type 0 where
   card : List ℕ
   at : take 1 cards ≡ card ∷ []
@@ -308,6 +308,40 @@ chain_length-none cards place none = first_none (cards_from cards place) refl
       | inl valued ↦ cond-true (has_value card) _ _ valued ∙ said_none card rest (said_string (card_says card)) at valued refl
       | inr bare ↦ cond-false (has_value card) _ _ bare
     ]
+
+-- where it isn't 0 a chain begins
+chain_length-some : (cards : List (List ℕ)) (place : ℕ) → 0 < chain_length cards place → (front : List Piece) × (last : Piece) × IsChain cards place front last
+unfolding chain_length card_string
+chain_length-some cards place some = first_some (cards_from cards place) refl some
+  where
+    said_some : (card : List ℕ) (rest : List (List ℕ)) (o : Option Link) → cards_from cards place ≡ card ∷ rest → HasValue card → said_string (card_says card) ≡ o → 0 < string_cards (option_map (λ (x : Link). x.0) o) rest
+        → (front : List Piece) × (last : Piece) × IsChain cards place front last
+    said_some card rest None at value e some = absurd (omega (arith, some))
+    said_some card rest (Some link) at value e some =
+        let h = chain_of cards place card rest link.0 link.1 at value (card_told card (Str link.0) link.1 (string_told (card_says card) link e)) in
+        (h.front, h.last, h.is_chain)
+
+    first_some : (s : List (List ℕ)) → cards_from cards place ≡ s → 0 < first_chain_length s → (front : List Piece) × (last : Piece) × IsChain cards place front last
+    first_some [] at some = absurd (omega (arith, some))
+    first_some (card ∷ rest) at some = elim (cases_Bool (has_value card)) [
+      | inl valued ↦ said_some card rest (said_string (card_says card)) at valued refl (subst (λ (n : ℕ). 0 < n) (cond-true (has_value card) _ _ valued) some)
+      | inr bare ↦ absurd (omega (arith, some, cond-false (has_value card) (string_cards (option_map (λ (x : Link). x.0) (said_string (card_says card))) rest) 0 bare))
+    ]
+
+-- a card of a chain after its first is a link
+pub link_in_chain : (cards : List (List ℕ)) (first place : ℕ) (front : List Piece) (last : Piece) → IsChain cards first front last → 1 ≤ first → first < place → place ≤ first + length front → IsLink cards place
+link_in_chain cards first place front last h from before to = record {
+  first = first;
+  from = from;
+  before = before;
+  within = omega (arith, chain_length-chain cards first front last h);
+}
+
+-- and each link stands in one so
+pub chain_of_link : (cards : List (List ℕ)) (place : ℕ) → (h : IsLink cards place) → (front : List Piece) × (last : Piece) × IsChain cards h.first front last × (place ≤ h.first + length front)
+chain_of_link cards place h =
+    let begun = chain_length-some cards h.first (omega (arith, h.before, h.within)) in
+    (begun.0, begun.1, begun.2, omega (arith, h.within, chain_length-chain cards h.first begun.0 begun.1 begun.2))
 
 -- the string of a card
 pub string_found : (card text : List ℕ) (comment : Option (List ℕ)) → CardSays card (Str text) comment → card_string card ≡ Some text

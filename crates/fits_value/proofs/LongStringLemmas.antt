@@ -1,4 +1,4 @@
--- Chains of cards: each place has one at the most, and the run so far is no longer than it.
+-- Chains of cards: each place has at most one, and the run so far is no longer than it.
 use Rattle.std.proofs.Common.{◌≡◌, ℕ, ◌≤◌, List, [], ◌∷◌, ◌++◌, length, map, take, Option, refl, sym, ◌∙◌, ap, subst, arith, inl, inr}
 use Rattle.std.proofs.lemmas.List.Elements.{All-drop, All-head, All-tail}
 use Rattle.fits_value.proofs.ReadLemmas.{one_card_value}
@@ -75,7 +75,7 @@ one_run cards (p ∷ f) (q ∷ g) l m r s h k longest longest' =
     let others = one_run (cards_of (f ++ l ∷ []) ++ r) f g l m r s a b longest longest' in
     (ap (λ (x : Piece). x ∷ f) same ∙ ap (λ (x : List Piece). q ∷ x) others.0, others.1)
 
--- one chain begins at a place at the most
+-- at most one chain begins at a place
 pub one_chain : (cards : List (List ℕ)) (place : ℕ) (f g : List Piece) (l m : Piece) → IsChain cards place f l → IsChain cards place g m → (f ≡ g) × (l ≡ m)
 one_chain cards place f g l m h k = one_run (cards_from cards place) f g l m h.rest k.rest h.run k.run h.longest k.longest
 
@@ -100,7 +100,7 @@ chain_begins cards place f l h =
 same_card : (a b : List ℕ) (s : List (List ℕ)) → s ≡ a ∷ [] → s ≡ b ∷ [] → a ≡ b
 same_card a b s e f = let g : ◌≡◌ {A = List (List ℕ)} (a ∷ []) (b ∷ []) = sym e ∙ f in (cc)
 
--- a place says one thing at the most
+-- a place says at most one thing
 pub one_long_value : (cards : List (List ℕ)) (place : ℕ) (v w : Value) (c d : Option (List ℕ)) → LongSays cards place v c → LongSays cards place w d → (v ≡ w) × (c ≡ d)
 one_long_value cards place v w c d (inl g) (inl h) =
     let e = one_chain cards place g.front h.front g.last h.last g.is_chain h.is_chain in (

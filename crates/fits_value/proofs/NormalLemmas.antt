@@ -57,7 +57,7 @@ rest_passes text n all =
     let both : (list_all is_space (take n text) && list_all is_space (drop n text)) ≡ true = sym (list_all-append is_space (take n text) (drop n text)) ∙ (ap (λ (x : List ℕ). list_all is_space x) (take-append-drop n text) ∙ all) in
     (and_parts (list_all is_space (take n text)) (list_all is_space (drop n text)) both).1
 
--- spaces alone stand behind a text without its trailing spaces
+-- spaces alone stand after a text without its trailing spaces
 pub spaces_behind : (text : List ℕ) (n k : ℕ) → n + suffix_len is_space text ≡ length text → n ≤ k → list_all is_space (drop k text) ≡ true
 spaces_behind text n k e within =
     let t = trims is_space text in

@@ -1,10 +1,11 @@
 -- The first byte of a number.
 use Rattle.std.proofs.Common.{◌≡◌, ℕ, ◌<◌, true, false, eqb, List, [], ◌∷◌, ◌++◌, length, refl, sym, ◌∙◌, ap, subst, arith, inl, inr, ◌⊎◌, append_assoc}
 use Rattle.std.proofs.lemmas.Bool.{and_parts, ne_eqb, leb-true}
-use Rattle.std.specs.Prelude.{Bool}
+use Rattle.std.specs.Prelude.{Bool, ℤ}
 use Rattle.fits_value.specs.Spelling.{is_space, is_digit, IsDigits}
-use Rattle.fits_value.specs.Number.{IsSignOf, IsInteger, IsReal, IsNumber}
+use Rattle.fits_value.specs.Number.{IsSignOf, IsDecimal, IsNumber}
 use Rattle.fits_value.proofs.FrontLemmas.{Stops}
+use Rattle.fits_value.proofs.NumberLemmas.{number_decimal}
 
 -- the first byte of a number: a digit, a point or a sign
 abbrev pub IsFirst : ℕ → Type 0
@@ -42,28 +43,19 @@ begins_point (b ∷ s) t d = record { head = b; tail = s ++ 46 ∷ t; is = refl;
 begins_same : (s t : List ℕ) → s ≡ t → Begins t → Begins s
 begins_same s t e h = subst (λ (x : List ℕ). Begins x) (sym e) h
 
--- an integer begins so
-begins_integer : (v r : List ℕ) → IsInteger v → Begins (v ++ r)
-begins_integer v r i =
-    let w = i.spelled in
-    begins_same _ _ (ap (λ (y : List ℕ). y ++ r) w.parts ∙ append_assoc w.sign i.digits r)
-    (begins_sign w.sign (i.digits ++ r) i.negative w.is_sign (begins_digits i.digits r w.are_digits.0 w.are_digits.1))
-
--- a real number begins so
-begins_real : (v r : List ℕ) → IsReal v → Begins (v ++ r)
-begins_real v r i =
-    let w = i.spelled in
+-- a decimal begins so
+begins_decimal : (v r : List ℕ) (negative : Bool) (front back : List ℕ) (power : ℤ) → IsDecimal v negative front back power → Begins (v ++ r)
+begins_decimal v r negative front back power w =
     let rest = w.exponent ++ r in
-    begins_same _ _ (ap (λ (y : List ℕ). y ++ r) w.parts ∙ (append_assoc (w.sign ++ i.front ++ w.point) w.exponent r ∙ (append_assoc (w.sign ++ i.front) w.point rest ∙ append_assoc w.sign i.front (w.point ++ rest))))
-    (begins_sign w.sign (i.front ++ (w.point ++ rest)) i.negative w.is_sign (elim w.is_point [
-      | inl p ↦ begins_same _ _ (ap (λ (y : List ℕ). i.front ++ (y ++ rest)) p) (begins_point i.front (i.back ++ rest) w.are_front)
-      | inr p ↦ let none : length i.back ≡ 0 = ap (λ (y : List ℕ). length y) p.1 in let some : 0 < length i.front = let n = w.some in omega arith in begins_digits i.front (w.point ++ rest) w.are_front some
+    begins_same _ _ (ap (λ (y : List ℕ). y ++ r) w.parts ∙ (append_assoc (w.sign ++ front ++ w.point) w.exponent r ∙ (append_assoc (w.sign ++ front) w.point rest ∙ append_assoc w.sign front (w.point ++ rest))))
+    (begins_sign w.sign (front ++ (w.point ++ rest)) negative w.is_sign (elim w.is_point [
+      | inl p ↦ begins_same _ _ (ap (λ (y : List ℕ). front ++ (y ++ rest)) p) (begins_point front (back ++ rest) w.are_front)
+      | inr p ↦ begins_digits front (w.point ++ rest) w.are_front (omega (arith, w.some, ap length p.1))
     ]))
 
 -- a number begins so
 pub begins_number : (v r : List ℕ) → IsNumber v → Begins (v ++ r)
-begins_number v r (inl i) = begins_integer v r i
-begins_number v r (inr i) = begins_real v r i
+begins_number v r n = let d = number_decimal v n in begins_decimal v r d.0 d.1 d.2 d.3 d.4
 
 -- no number begins with a space
 first_no_space : (b : ℕ) → IsFirst b → is_space b ≡ false

@@ -1,18 +1,19 @@
--- A text has one reading as an integer, and one as a decimal: sign, digits, point and exponent.
-use Rattle.std.proofs.Common.{◌≡◌, ◌⊎◌, inl, inr, ℕ, zero, suc, ◌<◌, ◌≤◌, ◌+◌, ◌-◌, Bool, true, false, List, [], ◌∷◌, ◌++◌, length, take, drop, refl, sym, ◌∙◌, ap, subst, arith, append_assoc}
-use Rattle.std.specs.Prelude.{IsTrue, ℤ, pos, ◌==◌, Option, Some, None, IsSomeAnd, IfNone, ◌↔◌, ◌*◌, ◌^◌, ◌≤ℤ◌, negsuc, unsigned_abs}
+-- A text has one reading as a number: sign, digits, point and exponent, before what separates it.
+use Rattle.std.proofs.Common.{◌≡◌, ◌⊎◌, inl, inr, ℕ, zero, suc, ◌<◌, ◌≤◌, ◌+◌, Bool, true, false, List, [], ◌∷◌, ◌++◌, length, length-append, drop, refl, sym, ◌∙◌, ap, subst, arith, append_assoc}
+use Rattle.std.specs.Prelude.{ℤ, pos, ◌==◌, ◌↔◌, ◌*◌, ◌^◌, ◌≤ℤ◌, negsuc, unsigned_abs}
 use Rattle.std.proofs.lemmas.Int.{ints}
 use Rattle.fits_value.proofs.DigitLemmas.{cancel, zero_times}
 use Rattle.std.specs.List.{list_all, prefix_len, take_while}
-use Rattle.std.proofs.lemmas.List.{take-append-drop, append-nil, take_all, nil_from_length}
-use Rattle.std.proofs.lemmas.Bool.{cases_Bool, cases_eq, and_parts, or_cases, or_from, or_parts, cond-false, eqb-true, ne_eqb, leb-true}
+use Rattle.std.proofs.lemmas.List.{take-append-drop, append-nil, nil_from_length}
+use Rattle.std.proofs.lemmas.Bool.{cases_Bool, cases_eq, and_parts, and_from, or_cases, or_from, or_parts, cond-true, cond-false, cond_both, eqb-true, ne_eqb, leb-true, ltb-true, lt-ltb}
 use Rattle.std.proofs.Math.Seq.{take-append_seam, drop-append_seam}
 use Rattle.fits_value.proofs.FrontLemmas.{Stops, prefix_len-front, prefix_passes}
+use Rattle.fits_value.proofs.SeparatorLemmas.{Separates, separated_digit, separated_point, separated_exponent}
 use Rattle.fits_value.specs.Spelling.{is_digit, is_sign, is_exponent_letter, IsDigits, AreSomeDigits}
-use Rattle.fits_value.specs.Number.{value_of, signed, IsSignOf, IsSigned, IsIntegerOf, IsPowerOf, IsDecimal, IsInteger, IsNumber, raised, lowered, IsExactly, Denotes}
-use Rattle.fits_value.specs.NumberSteps.{is_minus, after_sign, after_digits, fraction_digits, after_fraction}
+use Rattle.fits_value.specs.Number.{value_of, signed, IsSignOf, IsSigned, IsIntegerOf, IsPowerOf, IsDecimal, IsInteger, IsReal, IsNumber, raised, lowered, IsExactly, Denotes}
+use Rattle.fits_value.specs.NumberSteps.{is_minus, after_sign, after_digits, fraction_digits, after_fraction, begins_exponent, is_lowered, exponent_digits, after_exponent, BeginsWithDecimal}
 
--- such a front is what is taken, and what follows is what is left
+-- such a prefix is what is taken, and what follows is what is left
 pub front_taken : (p : ℕ → Bool) (xs ys : List ℕ) → list_all p xs ≡ true → Stops p ys → (xs ≡ take_while p (xs ++ ys)) × (ys ≡ drop (prefix_len p (xs ++ ys)) (xs ++ ys))
 front_taken p xs ys all stops = rw (prefix_len-front p xs ys all stops) (sym (take-append_seam xs ys), sym (drop-append_seam xs ys))
 
@@ -81,61 +82,82 @@ letter_stops b e = elim (or_cases (b == 69) (b == 68) e) [
   | inr f ↦ rw (eqb-true b 68 f) (refl, refl)
 ]
 
--- so an exponent begins with no digit
-pub power_stops : (text : List ℕ) (power : ℤ) → IsPowerOf text power → Stops is_digit text
-power_stops [] power w = tt
-power_stops (letter ∷ text) power w = (letter_stops letter w.0).0
+-- so an exponent, or none, begins with no digit
+power_stops : (text rest : List ℕ) (power : ℤ) → IsPowerOf text power → Separates rest → Stops is_digit (text ++ rest)
+power_stops [] rest power w h = separated_digit rest h
+power_stops (letter ∷ text) rest power w h = (letter_stops letter w.0).0
 
 -- and with no point
-pub power_no_point : (text : List ℕ) (power : ℤ) → IsPowerOf text power → ([] ≡ fraction_digits text) × (text ≡ after_fraction text)
-power_no_point [] power w = (refl, refl)
-power_no_point (letter ∷ text) power w =
+power_no_point : (text rest : List ℕ) (power : ℤ) → IsPowerOf text power → Separates rest → ([] ≡ fraction_digits (text ++ rest)) × (text ++ rest ≡ after_fraction (text ++ rest))
+power_no_point [] rest power w h = separated_point rest h
+power_no_point (letter ∷ text) rest power w h =
     let e = (letter_stops letter w.0).1 in
     (sym (cond-false (letter == 46) _ _ e), sym (cond-false (letter == 46) _ _ e))
 
--- the digits behind a point are those that are read, and the exponent is what is left
-pub point_read : (point back exponent : List ℕ) (power : ℤ) → (point ≡ 46 ∷ back) ⊎ ((point ≡ []) × (back ≡ [])) → IsDigits back → IsPowerOf exponent power
-    → (back ≡ fraction_digits (point ++ exponent)) × (exponent ≡ after_fraction (point ++ exponent))
-point_read point back exponent power (inl e) all w = rw e (front_taken is_digit back exponent all (power_stops exponent power w))
-point_read point back exponent power (inr e) all w = rw (e.0, e.1) (power_no_point exponent power w)
+-- an exponent, or none, is taken whole
+power_read : (text rest : List ℕ) (power : ℤ) → IsPowerOf text power → Separates rest → rest ≡ after_exponent (text ++ rest)
+power_read [] rest power w h = separated_exponent rest h
+power_read (letter ∷ text) rest power w h =
+    let s = w.1.spelled in
+    let digits = w.1.digits in
+    let is : text ++ rest ≡ s.sign ++ (digits ++ rest) = ap (λ (x : List ℕ). x ++ rest) s.parts ∙ append_assoc s.sign digits rest in
+    let body : digits ++ rest ≡ after_sign (text ++ rest) = (sign_read s.sign (digits ++ rest) w.1.negative s.is_sign (digits_first digits rest s.are_digits.0 s.are_digits.1)).1 ∙ ap after_sign (sym is) in
+    let taken = front_taken is_digit digits rest s.are_digits.0 (separated_digit rest h) in
+    let size : length digits ≡ length (take_while is_digit (after_sign (text ++ rest))) = ap length (taken.0 ∙ ap (take_while is_digit) body) in
+    let test : begins_exponent letter (text ++ rest) ≡ true = and_from _ _ w.0 (lt-ltb 0 _ (omega (arith, size, s.are_digits.1))) in
+    taken.1 ∙ (ap after_digits body ∙ sym (cond-true (begins_exponent letter (text ++ rest)) _ _ test))
+
+-- the digits after a point are those that are read, and the exponent is what is left
+point_read : (point back exponent rest : List ℕ) (power : ℤ) → (point ≡ 46 ∷ back) ⊎ ((point ≡ []) × (back ≡ [])) → IsDigits back → IsPowerOf exponent power → Separates rest
+    → (back ≡ fraction_digits (point ++ (exponent ++ rest))) × (exponent ++ rest ≡ after_fraction (point ++ (exponent ++ rest)))
+point_read point back exponent rest power (inl e) all w h = rw e (front_taken is_digit back (exponent ++ rest) all (power_stops exponent rest power w h))
+point_read point back exponent rest power (inr e) all w h = rw (e.0, e.1) (power_no_point exponent rest power w h)
 
 -- a point and an exponent begin with no digit
-pub tail_stops : (point back exponent : List ℕ) (power : ℤ) → (point ≡ 46 ∷ back) ⊎ ((point ≡ []) × (back ≡ [])) → IsPowerOf exponent power → Stops is_digit (point ++ exponent)
-tail_stops point back exponent power (inl e) w = rw e refl
-tail_stops point back exponent power (inr e) w = rw e.0 (power_stops exponent power w)
+tail_stops : (point back exponent rest : List ℕ) (power : ℤ) → (point ≡ 46 ∷ back) ⊎ ((point ≡ []) × (back ≡ [])) → IsPowerOf exponent power → Separates rest → Stops is_digit (point ++ (exponent ++ rest))
+tail_stops point back exponent rest power (inl e) w h = rw e refl
+tail_stops point back exponent rest power (inr e) w h = rw e.0 (power_stops exponent rest power w h)
 
 -- digits with a point among them begin with no sign
-pub body_stops : (front point back exponent : List ℕ) → IsDigits front → 0 < length front + length back → (point ≡ 46 ∷ back) ⊎ ((point ≡ []) × (back ≡ [])) → Stops is_sign (front ++ (point ++ exponent))
-body_stops [] point back exponent all some (inl e) = rw e refl
-body_stops [] point back exponent all some (inr e) = let size : length back ≡ 0 = ap length e.1 in absurd (omega arith)
-body_stops (b ∷ front) point back exponent all some e = digit_no_sign b (and_parts (is_digit b) _ all).0
+body_stops : (front point back tail : List ℕ) → IsDigits front → 0 < length front + length back → (point ≡ 46 ∷ back) ⊎ ((point ≡ []) × (back ≡ [])) → Stops is_sign (front ++ (point ++ tail))
+body_stops [] point back tail all some (inl e) = rw e refl
+body_stops [] point back tail all some (inr e) = let size : length back ≡ 0 = ap length e.1 in absurd (omega arith)
+body_stops (b ∷ front) point back tail all some e = digit_no_sign b (and_parts (is_digit b) _ all).0
 
--- the parts of a decimal are those that are read
-pub record IsRead (text : List ℕ) (negative : Bool) (front back : List ℕ) (power : ℤ) : Type 0 where
+-- the parts of a number are those that are read
+pub record IsRead (text : List ℕ) (negative : Bool) (front back tail last rest : List ℕ) : Type 0 where
   pub is_negative : negative ≡ is_minus text
   pub is_front : front ≡ take_while is_digit (after_sign text)
+  pub is_tail : tail ≡ after_digits (after_sign text)
   pub is_back : back ≡ fraction_digits (after_digits (after_sign text))
-  pub is_power : IsPowerOf (after_fraction (after_digits (after_sign text))) power
+  pub is_last : last ≡ after_fraction (after_digits (after_sign text))
+  pub is_rest : rest ≡ after_exponent (after_fraction (after_digits (after_sign text)))
 
--- the parts of a decimal are read
-pub decimal_read : (text : List ℕ) (negative : Bool) (front back : List ℕ) (power : ℤ) → IsDecimal text negative front back power → IsRead text negative front back power
-decimal_read text negative front back power w =
-    let tail = w.point ++ w.exponent in
-    let parts : text ≡ w.sign ++ (front ++ tail) = w.parts ∙ (append_assoc (w.sign ++ front) w.point w.exponent ∙ append_assoc w.sign front tail) in
-    let sign = sign_read w.sign (front ++ tail) negative w.is_sign (body_stops front w.point back w.exponent w.are_front w.some w.is_point) in
-    let body : front ++ tail ≡ after_sign text = sign.1 ∙ ap after_sign (sym parts) in
-    let digits = front_taken is_digit front tail w.are_front (tail_stops w.point back w.exponent power w.is_point w.is_power) in
-    let rest : tail ≡ after_digits (after_sign text) = digits.1 ∙ ap after_digits body in
-    let fraction = point_read w.point back w.exponent power w.is_point w.are_back w.is_power in
+-- the parts of a decimal are read, before what separates it
+pub decimal_read : (text rest : List ℕ) (negative : Bool) (front back : List ℕ) (power : ℤ) → (w : IsDecimal text negative front back power) → Separates rest
+    → IsRead (text ++ rest) negative front back (w.point ++ (w.exponent ++ rest)) (w.exponent ++ rest) rest
+decimal_read text rest negative front back power w h =
+    let last = w.exponent ++ rest in
+    let tail = w.point ++ last in
+    let parts : text ++ rest ≡ w.sign ++ (front ++ tail) =
+    ap (λ (x : List ℕ). x ++ rest) w.parts ∙ (append_assoc (w.sign ++ front ++ w.point) w.exponent rest ∙ (append_assoc (w.sign ++ front) w.point last ∙ append_assoc w.sign front tail)) in
+    let sign = sign_read w.sign (front ++ tail) negative w.is_sign (body_stops front w.point back last w.are_front w.some w.is_point) in
+    let body : front ++ tail ≡ after_sign (text ++ rest) = sign.1 ∙ ap after_sign (sym parts) in
+    let digits = front_taken is_digit front tail w.are_front (tail_stops w.point back w.exponent rest power w.is_point w.is_power h) in
+    let left : tail ≡ after_digits (after_sign (text ++ rest)) = digits.1 ∙ ap after_digits body in
+    let fraction = point_read w.point back w.exponent rest power w.is_point w.are_back w.is_power h in
+    let end : last ≡ after_fraction (after_digits (after_sign (text ++ rest))) = fraction.1 ∙ ap after_fraction left in
     record {
       is_negative = sign.0 ∙ ap is_minus (sym parts);
       is_front = digits.0 ∙ ap (take_while is_digit) body;
-      is_back = fraction.0 ∙ ap fraction_digits rest;
-      is_power = subst (λ (s : List ℕ). IsPowerOf s power) (fraction.1 ∙ ap after_fraction rest) w.is_power;
+      is_tail = left;
+      is_back = fraction.0 ∙ ap fraction_digits left;
+      is_last = end;
+      is_rest = power_read w.exponent rest power w.is_power h ∙ ap after_exponent end;
     }
 
--- what is read behind the first digits is a point with digits or nothing, and the rest
-pub point_found : (text : List ℕ) → (point : List ℕ) × IsDigits (fraction_digits text) × ((point ≡ 46 ∷ fraction_digits text) ⊎ ((point ≡ []) × (fraction_digits text ≡ []))) × (text ≡ point ++ after_fraction text)
+-- what is read after the first digits is a point with digits or nothing, and the rest
+point_found : (text : List ℕ) → (point : List ℕ) × IsDigits (fraction_digits text) × ((point ≡ 46 ∷ fraction_digits text) ⊎ ((point ≡ []) × (fraction_digits text ≡ []))) × (text ≡ point ++ after_fraction text)
 point_found [] = ([], refl, inr (refl, refl), refl)
 point_found (b ∷ text) = elim (cases_Bool (b == 46)) [
   | inl e ↦ rw (eqb-true b 46 e) (46 ∷ take_while is_digit text, prefix_passes is_digit text, inl refl, ap (λ (s : List ℕ). 46 ∷ s) (sym (take-append-drop (prefix_len is_digit text) text)))
@@ -144,83 +166,97 @@ point_found (b ∷ text) = elim (cases_Bool (b == 46)) [
       ([], rw none refl, inr (refl, none), sym (cond-false (b == 46) _ _ e))
 ]
 
--- what is read is a decimal where there is a digit and the rest is an exponent
-pub decimal_found : (text front back exponent : List ℕ) (power : ℤ) → front ≡ take_while is_digit (after_sign text) → back ≡ fraction_digits (after_digits (after_sign text)) → exponent ≡ after_fraction (after_digits (after_sign text))
-    → 0 < length front + length back → IsPowerOf exponent power → IsDecimal text (is_minus text) front back power
-decimal_found text front back exponent power f b x some w =
-    let s = sign_found text in
+-- what is read for an exponent is one, or nothing
+abbrev IsExponentOf : List ℕ → Bool → List ℕ → List ℕ → Type 0
+IsExponentOf text lowered digits rest = (exponent : List ℕ) × IsPowerOf exponent (signed lowered (value_of digits)) × (text ≡ exponent ++ rest)
+
+-- and so it is found
+exponent_found : (text : List ℕ) → IsExponentOf text (is_lowered text) (exponent_digits text) (after_exponent text)
+exponent_found [] = ([], refl, refl)
+exponent_found (b ∷ text) =
     let body = after_sign text in
-    let p = point_found (after_digits body) in
-    let whole : text ≡ s.0 ++ (take_while is_digit body ++ (p.0 ++ after_fraction (after_digits body))) =
-    s.2 ∙ ap (λ (z : List ℕ). s.0 ++ z) (sym (take-append-drop (prefix_len is_digit body) body) ∙ ap (λ (z : List ℕ). take_while is_digit body ++ z) p.3) in
+    let digits = take_while is_digit body in
+    elim (cases_Bool (begins_exponent b text)) [
+      | inl e ↦
+          let both = and_parts (is_exponent_letter b) _ e in
+          let s = sign_found text in
+          let number : IsIntegerOf (s.0 ++ digits) (signed (is_minus text) (value_of digits)) = record {
+            negative = is_minus text;
+            digits = digits;
+            spelled = record { sign = s.0; is_sign = s.1; are_digits = (prefix_passes is_digit body, ltb-true 0 (length digits) both.1); parts = refl };
+            value = refl;
+          } in
+          let whole : b ∷ text ≡ b ∷ (s.0 ++ digits ++ after_digits body) =
+          ap (λ (x : List ℕ). b ∷ x) (s.2 ∙ (ap (λ (x : List ℕ). s.0 ++ x) (sym (take-append-drop (prefix_len is_digit body) body)) ∙ sym (append_assoc s.0 digits (after_digits body)))) in
+          let found : IsExponentOf (b ∷ text) (is_minus text) digits (after_digits body) = (b ∷ (s.0 ++ digits), (both.0, number), whole) in
+          subst (λ (x : Bool). IsExponentOf (b ∷ text) x (exponent_digits (b ∷ text)) (after_exponent (b ∷ text))) (sym (cond-true (begins_exponent b text) (is_minus text) false e))
+          (subst (λ (x : List ℕ). IsExponentOf (b ∷ text) (is_minus text) x (after_exponent (b ∷ text))) (sym (cond-true (begins_exponent b text) digits [] e))
+          (subst (λ (x : List ℕ). IsExponentOf (b ∷ text) (is_minus text) digits x) (sym (cond-true (begins_exponent b text) (after_digits body) (b ∷ text) e)) found))
+      | inr e ↦
+          let none : IsExponentOf (b ∷ text) false [] (b ∷ text) = ([], refl, refl) in
+          subst (λ (x : Bool). IsExponentOf (b ∷ text) x (exponent_digits (b ∷ text)) (after_exponent (b ∷ text))) (sym (cond-false (begins_exponent b text) (is_minus text) false e))
+          (subst (λ (x : List ℕ). IsExponentOf (b ∷ text) false x (after_exponent (b ∷ text))) (sym (cond-false (begins_exponent b text) digits [] e))
+          (subst (λ (x : List ℕ). IsExponentOf (b ∷ text) false [] x) (sym (cond-false (begins_exponent b text) (after_digits body) (b ∷ text) e)) none))
+    ]
+
+-- its digits are digits
+pub exponent_all : (text digits : List ℕ) → digits ≡ exponent_digits text → IsDigits digits
+exponent_all [] digits e = rw e refl
+exponent_all (b ∷ text) digits e =
+    subst (λ (x : List ℕ). IsDigits x) (sym e) (cond_both (begins_exponent b text) (take_while is_digit (after_sign text)) [] (λ x. IsDigits x) (λ _. prefix_passes is_digit (after_sign text)) (λ _. refl))
+
+-- a number that is found at the front of a text, and what follows its first digits
+pub record IsFound (text : List ℕ) (negative : Bool) (front back : List ℕ) (power : ℤ) (tail rest : List ℕ) : Type 0 where
+  pub spelling : List ℕ
+  pub is_decimal : IsDecimal spelling negative front back power
+  pub parts : text ≡ spelling ++ rest
+  pub is_tail : tail ≡ is_decimal.point ++ (is_decimal.exponent ++ rest)
+
+-- where there is a digit, the steps find one
+pub decimal_found : (text unsigned front tail back last exponent rest : List ℕ) (negative lowered : Bool) → negative ≡ is_minus text → unsigned ≡ after_sign text → front ≡ take_while is_digit unsigned → tail ≡ after_digits unsigned
+    → back ≡ fraction_digits tail → last ≡ after_fraction tail → lowered ≡ is_lowered last → exponent ≡ exponent_digits last → rest ≡ after_exponent last → 0 < length front + length back
+    → IsFound text negative front back (signed lowered (value_of exponent)) tail rest
+decimal_found text unsigned front tail back last exponent rest negative lowered n u f t b l w e r some =
+    let s = sign_found text in
+    let p = point_found tail in
+    let x = exponent_found last in
+    let begin : text ≡ s.0 ++ unsigned = s.2 ∙ ap (λ (z : List ℕ). s.0 ++ z) (sym u) in
+    let cut : unsigned ≡ front ++ tail = rw (f, t) (sym (take-append-drop (prefix_len is_digit unsigned) unsigned)) in
+    let power : IsPowerOf x.0 (signed lowered (value_of exponent)) = rw (w, e) x.1 in
+    let end : last ≡ x.0 ++ rest = x.2 ∙ ap (λ (z : List ℕ). x.0 ++ z) (sym r) in
+    let is_tail : tail ≡ p.0 ++ (x.0 ++ rest) = p.3 ∙ ap (λ (z : List ℕ). p.0 ++ z) (sym l ∙ end) in
+    let whole : text ≡ s.0 ++ (front ++ (p.0 ++ (x.0 ++ rest))) = begin ∙ ap (λ (z : List ℕ). s.0 ++ z) (cut ∙ ap (λ (z : List ℕ). front ++ z) is_tail) in
     record {
-      sign = s.0;
-      point = p.0;
-      exponent = exponent;
-      is_sign = s.1;
-      are_front = rw f (prefix_passes is_digit body);
-      are_back = rw b p.1;
-      some = some;
-      is_point = rw b p.2;
-      is_power = w;
-      parts = rw (f, x) (whole ∙ (sym (append_assoc s.0 (take_while is_digit body) _) ∙ sym (append_assoc (s.0 ++ take_while is_digit body) p.0 _)));
+      spelling = s.0 ++ front ++ p.0 ++ x.0;
+      is_decimal = record {
+        sign = s.0;
+        point = p.0;
+        exponent = x.0;
+        is_sign = rw n s.1;
+        are_front = rw f (prefix_passes is_digit unsigned);
+        are_back = rw b p.1;
+        some = some;
+        is_point = rw b p.2;
+        is_power = power;
+        parts = refl;
+      };
+      parts = whole ∙ sym (append_assoc (s.0 ++ front ++ p.0) x.0 rest ∙ (append_assoc (s.0 ++ front) p.0 (x.0 ++ rest) ∙ append_assoc s.0 front (p.0 ++ (x.0 ++ rest))));
+      is_tail = is_tail;
     }
 
--- an integer is read
-pub integer_found : (text : List ℕ) (negative : Bool) (digits : List ℕ) → negative ≡ is_minus text → digits ≡ after_sign text → AreSomeDigits digits → IsSigned text negative digits
-integer_found text negative digits e f some = let s = sign_found text in record { sign = s.0; is_sign = rw e s.1; are_digits = some; parts = rw f s.2 }
+-- so a decimal stands at the front
+pub decimal_begins : (text unsigned front tail back last exponent rest : List ℕ) (negative lowered : Bool) → negative ≡ is_minus text → unsigned ≡ after_sign text → front ≡ take_while is_digit unsigned → tail ≡ after_digits unsigned
+    → back ≡ fraction_digits tail → last ≡ after_fraction tail → lowered ≡ is_lowered last → exponent ≡ exponent_digits last → rest ≡ after_exponent last → 0 < length front + length back
+    → BeginsWithDecimal text negative front back (signed lowered (value_of exponent)) rest
+decimal_begins text unsigned front tail back last exponent rest negative lowered n u f t b l w e r some =
+    let d = decimal_found text unsigned front tail back last exponent rest negative lowered n u f t b l w e r some in
+    record { spelling = d.spelling; is_decimal = d.is_decimal; parts = d.parts }
 
--- what is no digits behind a sign is no integer
-pub integer_missed : (text rest : List ℕ) (negative : Bool) (digits : List ℕ) → rest ≡ after_sign text → (AreSomeDigits rest → ⊥) → IsSigned text negative digits → ⊥
-integer_missed text rest negative digits e none w = none (subst (λ (s : List ℕ). AreSomeDigits s) ((signed_read text negative digits w).1 ∙ sym e) w.are_digits)
+-- and what follows it is no longer than the text
+pub begins_within : (text front back rest : List ℕ) (negative : Bool) (power : ℤ) → BeginsWithDecimal text negative front back power rest → length rest ≤ length text
+begins_within text front back rest negative power w = omega (arith, ap length w.parts, length-append w.spelling rest)
 
-pub ruleset integer_reads = (signed_read, integer_found, integer_missed)
-
--- an exponent's letter before an integer is an exponent of its number
-pub power_found : (letter : ℕ) (text : List ℕ) (negative : Bool) (digits : List ℕ) → IsTrue (is_exponent_letter letter) → IsSigned text negative digits → IsPowerOf (letter ∷ text) (signed negative (value_of digits))
-power_found letter text negative digits e w = (e, record { negative = negative; digits = digits; spelled = w; value = refl })
-
-pub ruleset power_reads = (power_found)
-
--- behind an exponent's letter stands an integer
-pub power_tail : (text : List ℕ) (power : ℤ) → 0 < length text → IsPowerOf text power → IsIntegerOf (take (length text - 1) (drop 1 text)) power
-power_tail [] power some w = absurd (omega arith)
-power_tail (letter ∷ text) power some w = let whole : take (suc (length text) - 1) text ≡ text = take_all (suc (length text) - 1) text (omega arith) in rw whole w.1
-
--- what holds of a value, another fact follows of it
-pub some_map : {X : Type 0} (o : Option X) (P Q : X → Type 0) → IsSomeAnd o P → ((x : X) → P x → Q x) → IsSomeAnd o Q
-some_map None P Q w f = w
-some_map (Some x) P Q w f = f x w
-
--- what holds, holds where there is no value
-pub none_map : {X : Type 0} (o : Option X) (P : Type 0) → P → IfNone o P
-none_map None P w = w
-none_map (Some x) P w = tt
-
--- what is read is no decimal where there is no digit
-pub decimal_empty : (text unsigned front tail back f b : List ℕ) (negative : Bool) (power : ℤ) → unsigned ≡ after_sign text → front ≡ take_while is_digit unsigned → tail ≡ after_digits unsigned → back ≡ fraction_digits tail
-    → length front ≡ 0 → length back ≡ 0 → IsDecimal text negative f b power → ⊥
-decimal_empty text unsigned front tail back f b negative power u e t g m n w =
-    let r = decimal_read text negative f b power w in
-    let x : length f ≡ 0 = ap length (r.is_front ∙ sym (e ∙ ap (take_while is_digit) u)) ∙ m in
-    let y : length b ≡ 0 = ap length (r.is_back ∙ sym (g ∙ ap fraction_digits (t ∙ ap after_digits u))) ∙ n in
-    let some = w.some in
-    absurd (omega arith)
-
--- nor where what is left is no exponent
-pub decimal_missed : (text unsigned tail rest f b : List ℕ) (negative : Bool) (power : ℤ) → unsigned ≡ after_sign text → tail ≡ after_digits unsigned → rest ≡ after_fraction tail → ((p : ℤ) → IsPowerOf rest p → ⊥)
-    → IsDecimal text negative f b power → ⊥
-decimal_missed text unsigned tail rest f b negative power u t x none w =
-    none power (subst (λ (s : List ℕ). IsPowerOf s power) (sym (x ∙ ap after_fraction (t ∙ ap after_digits u))) (decimal_read text negative f b power w).is_power)
-
--- the steps one after another
-pub decimal_steps : (text unsigned front tail back rest : List ℕ) (negative : Bool) (power : ℤ) → negative ≡ is_minus text → unsigned ≡ after_sign text → front ≡ take_while is_digit unsigned → tail ≡ after_digits unsigned
-    → back ≡ fraction_digits tail → rest ≡ after_fraction tail → 0 < length front + length back → IsPowerOf rest power → IsDecimal text negative front back power
-decimal_steps text unsigned front tail back rest negative power n u f t b x some w =
-    let body : tail ≡ after_digits (after_sign text) = t ∙ ap after_digits u in
-    rw n (decimal_found text front back rest power (f ∙ ap (take_while is_digit) u) (b ∙ ap fraction_digits body) (x ∙ ap after_fraction body) some w)
-
-pub ruleset decimal_reads = (decimal_steps)
+pub ruleset split_steps = (decimal_begins, begins_within, exponent_all)
 
 -- the parts of a decimal, and the size and the sign of its number
 abbrev pub Stands : Bool → List ℕ → List ℕ → ℤ → ℕ → ℤ → Type 0
@@ -229,12 +265,13 @@ Stands negative front back power size number = (number ≡ signed negative size)
 -- a text that denotes a number does so by the parts of any of its readings
 pub by_parts : (text : List ℕ) (negative : Bool) (front back : List ℕ) (power number : ℤ) → IsDecimal text negative front back power → (w : Denotes text number) → Stands negative front back power w.size number
 by_parts text negative front back power number d w =
-    let a = decimal_read text negative front back power d in
-    let b = decimal_read text w.negative w.front w.back w.power w.spelled in
+    let a = decimal_read text [] negative front back power d tt in
+    let b = decimal_read text [] w.negative w.front w.back w.power w.spelled tt in
     let n : w.negative ≡ negative = b.is_negative ∙ sym a.is_negative in
     let f : w.front ≡ front = b.is_front ∙ sym a.is_front in
     let k : w.back ≡ back = b.is_back ∙ sym a.is_back in
-    let p : w.power ≡ power = one_power _ w.power power b.is_power a.is_power in
+    let x : w.spelled.exponent ≡ d.exponent = sym (append-nil w.spelled.exponent) ∙ (b.is_last ∙ (sym a.is_last ∙ append-nil d.exponent)) in
+    let p : w.power ≡ power = one_power d.exponent w.power power (subst (λ (z : List ℕ). IsPowerOf z w.power) x w.spelled.is_power) d.is_power in
     let w0 : Stands w.negative w.front w.back w.power w.size number = (w.value, w.exact) in
     let w1 = subst (λ (z : Bool). Stands z w.front w.back w.power w.size number) n w0 in
     let w2 = subst (λ (z : List ℕ). Stands negative z w.back w.power w.size number) f w1 in
@@ -296,7 +333,7 @@ pub integer_has_number : (text : List ℕ) → IsInteger text → (n : ℤ) × I
 integer_has_number text w = (signed w.negative (value_of w.digits), record { negative = w.negative; digits = w.digits; spelled = w.spelled; value = refl })
 
 -- an integer is a decimal
-integer_decimal : (text : List ℕ) (negative : Bool) (digits : List ℕ) → IsSigned text negative digits → IsDecimal text negative digits [] (pos 0)
+unfoldable pub integer_decimal : (text : List ℕ) (negative : Bool) (digits : List ℕ) → IsSigned text negative digits → IsDecimal text negative digits [] (pos 0)
 integer_decimal text negative digits s = record {
   sign = s.sign;
   point = [];
@@ -321,17 +358,31 @@ integer_denotes text n w =
     let spelled = integer_decimal text w.negative w.digits w.spelled in
     record { negative = w.negative; front = w.digits; back = []; power = pos 0; size = value_of w.digits; spelled = spelled; exact = ap (λ (ds : List ℕ). value_of ds * 10 ^ 0) (append-nil w.digits); value = w.value }
 
--- each decimal is an integer or a real, and each of these is a decimal
+-- a decimal with no point and no exponent is an integer
+pub decimal_integer : (text : List ℕ) (negative : Bool) (front back : List ℕ) (power : ℤ) → (d : IsDecimal text negative front back power) → length d.point + length d.exponent ≡ 0 → IsInteger text
+decimal_integer text negative front back power d none =
+    let point : d.point ≡ [] = nil_from_length d.point (omega (arith, none)) in
+    let exponent : d.exponent ≡ [] = nil_from_length d.exponent (omega (arith, none)) in
+    let bare : length back ≡ 0 = elim d.is_point [ inl e ↦ absurd (omega (arith, none, ap length e)) | inr e ↦ ap length e.1 ] in
+    let whole : text ≡ d.sign ++ front = d.parts ∙ rw (point, exponent) (append-nil (d.sign ++ front ++ []) ∙ append-nil (d.sign ++ front)) in
+    record { negative = negative; digits = front; spelled = record { sign = d.sign; is_sign = d.is_sign; are_digits = (d.are_front, omega (arith, d.some, bare)); parts = whole } }
+
+-- one with either is a real
+pub decimal_real : (text : List ℕ) (negative : Bool) (front back : List ℕ) (power : ℤ) → (d : IsDecimal text negative front back power) → 0 < length d.point + length d.exponent → IsReal text
+decimal_real text negative front back power d some = record {
+  negative = negative;
+  front = front;
+  back = back;
+  power = power;
+  spelled = d;
+  form = elim d.is_point [ inl e ↦ inl e | inr e ↦ inr (omega (arith, some, ap length e.0)) ];
+}
+
+-- each decimal is an integer or a real
 pub decimal_number : (text : List ℕ) (negative : Bool) (front back : List ℕ) (power : ℤ) → IsDecimal text negative front back power → IsNumber text
-decimal_number text negative front back power d = elim d.is_point [
-  | inl e ↦ inr (record { negative = negative; front = front; back = back; power = power; spelled = d; form = inl e })
-  | inr e ↦ elim (cases_eq (length d.exponent) 0) [
-    | inl none ↦
-        let size : length back ≡ 0 = ap length e.1 in
-        let whole : text ≡ d.sign ++ front = d.parts ∙ (rw (e.0, nil_from_length d.exponent none) (append-nil (d.sign ++ front ++ []) ∙ append-nil (d.sign ++ front))) in
-        inl (record { negative = negative; digits = front; spelled = record { sign = d.sign; is_sign = d.is_sign; are_digits = (d.are_front, let h = d.some in omega arith); parts = whole } })
-    | inr some ↦ inr (record { negative = negative; front = front; back = back; power = power; spelled = d; form = inr (omega arith) })
-  ]
+decimal_number text negative front back power d = elim (cases_eq (length d.point + length d.exponent) 0) [
+  | inl none ↦ inl (decimal_integer text negative front back power d none)
+  | inr some ↦ inr (decimal_real text negative front back power d (omega arith))
 ]
 
 -- only an integer or a real denotes a number

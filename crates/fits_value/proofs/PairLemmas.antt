@@ -169,7 +169,7 @@ pub record FindsPair (text spelling real imaginary : List ℕ) : Type 0 where
   pub real_is : part text pair.real ≡ real
   pub imaginary_is : part text pair.imaginary ≡ imaginary
 
--- what stands behind three fronts
+-- what stands after three prefixes
 drop_three : (a b c r : List ℕ) → drop (length a + length b + length c) (a ++ (b ++ (c ++ r))) ≡ r
 drop_three a b c r =
     let size : length a + length b + length c ≡ length (a ++ (b ++ c)) = simp length-append (omega arith) in

@@ -24,10 +24,11 @@ doubled_size c s = elim (cases_Bool (eqb c 39)) [
   | inr e ↦ let w : width c ≡ 1 = cond-false (eqb c 39) 2 1 e in omega (arith, ap length (doubled-other c s e), w)
 ]
 
--- a character takes one byte or two
+-- a character takes a byte
 pub width_least : (c : ℕ) → 1 ≤ width c
 width_least c = cond_both (eqb c 39) 2 1 (λ n. 1 ≤ n) (λ e. omega arith) (λ e. omega arith)
 
+-- or two
 pub width_most : (c : ℕ) → width c ≤ 2
 width_most c = cond_both (eqb c 39) 2 1 (λ n. n ≤ 2) (λ e. omega arith) (λ e. omega arith)
 
@@ -38,6 +39,7 @@ fitting_next room c s h = elim (cases_Bool (leb (width c) room)) [
   | inr e ↦ absurd (let f : room < width c = leb-false (width c) room e in omega arith)
 ]
 
+-- one that doesn't fit ends what does
 pub fitting_stop : (room c : ℕ) (s : List ℕ) → room < width c → fitting room (c ∷ s) ≡ 0
 fitting_stop room c s h = elim (cases_Bool (leb (width c) room)) [
   | inl e ↦ absurd (let f : width c ≤ room = leb-true (width c) room e in omega arith)
@@ -138,6 +140,7 @@ open_size text =
 pub card_size : (text : List ℕ) → length text ≤ 80 → length (card_of_text text) ≡ 80
 card_size text h = omega (arith, length-append text (replicate (80 - length text) 32), length-replicate {A = ℕ} (80 - length text) 32)
 
+-- and more where it has more
 pub card_longer : (text : List ℕ) → 80 < length text → 80 < length (card_of_text text)
 card_longer text h = omega (arith, length-append text (replicate (80 - length text) 32))
 
@@ -159,6 +162,7 @@ double_over s v w i room n h wide inv over =
     let cut : length (doubled (drop i s)) ≡ width (get_or s i 0) + length (doubled (drop (i + 1) s)) = ap (λ (x : List ℕ). length (doubled x)) (drop_more s i 0 h) ∙ doubled_size (get_or s i 0) (drop (i + 1) s) in
     omega (arith, cut, length-append v (doubled (drop i s)), length-append w (doubled s), ap length inv, wide, over)
 
+-- nor does a quote, which takes two bytes
 pub over_quote : (s v w : List ℕ) (i room : ℕ) → i < length s → get_or s i 0 ≡ 39 → v ++ doubled (drop i s) ≡ w ++ doubled s → room < length v + 2 → room < length w + length (doubled s)
 over_quote s v w i room h e inv over = double_over s v w i room 2 h (let f : width (get_or s i 0) ≡ 2 = ap width e in omega arith) inv over
 

@@ -9,7 +9,7 @@ use Rattle.fits_value.specs.Says.{card_says, card_string, links_of, links_after,
 use Rattle.fits_value.specs.declared.value.Value.{Value}
 use Rattle.fits_value.specs.declared.value.Value.TheVariants.{Str}
 
--- a place says what its first card does, with those behind it
+-- a place says what its first card does, with those after it
 module _ (cards : List (List ℕ)) (place : ℕ) (card : List ℕ) (rest : List (List ℕ)) (at : cards_from cards place ≡ card ∷ rest) where
   -- what it says where its card has a value field
   place_valued : has_value card ≡ true → long_says cards place ≡ option_map (λ (x : Said). continued x.0 x.1 rest) (card_says card)

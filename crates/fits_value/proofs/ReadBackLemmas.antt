@@ -28,10 +28,11 @@ use Rattle.fits_value.specs.Written.{justified, card_of, quoted, filled, cards_o
 use Rattle.fits_value.specs.declared.value.Value.{Value}
 use Rattle.fits_value.specs.declared.value.Value.TheVariants.{Undefined, Logical, Integer, Real, Complex, Str}
 
--- a digit and an exponent letter are characters of text
+-- a digit is a character of text
 digit_text : (b : ℕ) → is_digit b ≡ true → is_text_byte b ≡ true
 digit_text b h = grind arith
 
+-- and so is the letter of an exponent
 letter_text : (b : ℕ) → is_exponent_letter b ≡ true → is_text_byte b ≡ true
 letter_text b h = grind arith
 
@@ -95,6 +96,7 @@ pair_spelled real imaginary g h = record {
   parts = joined_parts (codes "(" ++ real) (codes ", ") imaginary (codes ")");
 }
 
+-- it is text
 pair_text : (real imaginary : List ℕ) → IsNumber real → IsNumber imaginary → IsText (pair_of_texts real imaginary)
 pair_text real imaginary g h =
     let front = text_more 40 real refl (number_text real g) in
@@ -175,10 +177,11 @@ doubled_most (c ∷ s) =
       | inr e ↦ let f : doubled (c ∷ s) ≡ c ∷ doubled s = cond-false (eqb c 39) _ _ e in omega (arith, ap length f, more)
     ]
 
--- the first ten bytes of a card with a value
+-- the first ten bytes of a card with a value are text
 lead_text : (name : List ℕ) → IsText name → IsText (name ++ codes "= ")
 lead_text name h = text_both name (codes "= ") h (text_more 61 _ refl (text_more 32 _ refl none_text))
 
+-- and are ten
 lead_size : (name : List ℕ) → length name ≡ 8 → length (name ++ codes "= ") ≡ 10
 lead_size name e = omega (arith, length-append name (codes "= "))
 

@@ -29,7 +29,7 @@ scans spelling real imaginary h =
     let tail : drop 1 spelling ≡ w.tail = ap (λ (x : List ℕ). drop 1 x) w.begins in
     record { pair = w.pair; found = ap pair_of tail ∙ w.found; real_is = w.real_is; imaginary_is = w.imaginary_is }
 
--- a complex number is found behind its bracket
+-- a complex number is found after its bracket
 pub complex_scans : (spelling behind : List ℕ) (found : Option Pair) → Spells kind.Complex spelling → behind ≡ drop 1 spelling → found ≡ pair_of behind → found ≡ None → ⊥
 complex_scans spelling behind found h e f g =
     let w = scans spelling h.0 h.1 h.2 in

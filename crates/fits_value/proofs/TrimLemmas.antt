@@ -50,7 +50,7 @@ trims p s =
       size = rw (length-reverse (take k r)) (sym (length-prefix_len p r));
     }
 
--- an end that passes, behind a front that ends in nothing that does
+-- an end that passes, after a prefix that ends in nothing that does
 pub suffix_len-back : (p : ℕ → Bool) (front back : List ℕ) → suffix_len p front ≡ 0 → list_all p back ≡ true → suffix_len p (front ++ back) ≡ length back
 suffix_len-back p front back f b =
     ap (λ (x : List ℕ). prefix_len p x) (reverse-append front back) ∙ (prefix_len-front p (reverse back) (reverse front) (all_reversed p back b) (zero_stops p (reverse front) f) ∙ length-reverse back)

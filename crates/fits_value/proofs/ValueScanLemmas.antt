@@ -4,7 +4,8 @@ use Rattle.std.proofs.Math.Seq.{take-append_seam}
 use Rattle.std.proofs.lemmas.Bool.{or_cases, or_from, cond-false, eqb-true}
 use Rattle.fits_value.proofs.FrontLemmas.{chosen, option_map_some, Stops}
 use Rattle.fits_value.proofs.QuoteLemmas.{is_quote, closing_found, closing_only, Closed}
-use Rattle.fits_value.proofs.NumberScanLemmas.{number_found, number_integer, number_real, Separates, separator_is_not}
+use Rattle.fits_value.proofs.NumberScanLemmas.{number_found, number_integer, number_real}
+use Rattle.fits_value.proofs.SeparatorLemmas.{Separates, separator_is_not}
 use Rattle.fits_value.proofs.NumberFrontLemmas.{IsFirst, Begins, first_is_not, begins_number, begins_stops}
 use Rattle.fits_value.proofs.PairLemmas.{pair_found, pair_only}
 use Rattle.fits_value.specs.Spelling.{is_space, doubled, IsComplexOf, Spells}
@@ -40,7 +41,7 @@ letter b s e = elim (or_cases (eqb b 84) (eqb b 70) e) [
   | inr x ↦ inr (ap (λ (c : ℕ). c ∷ []) (eqb-true b 70 x))
 ]
 
--- a complex number behind its opening bracket
+-- a complex number after its opening bracket
 bracketed : (b : ℕ) (s : List ℕ) (p : Pair) → eqb b 40 ≡ true → pair_of s ≡ Some p → Spells Complex (take p.len (b ∷ s))
 bracketed b s p e f =
     let is : 40 ≡ b = sym (eqb-true b 40 e) in
@@ -93,7 +94,7 @@ value_quoted cs r h =
     let size : length (doubled cs) + 2 ≡ suc (length (doubled cs ++ 39 ∷ [])) = omega (arith, length-append (doubled cs) (39 ∷ [])) in
     rw found (ap (λ (n : ℕ). let x : ValueKind × ℕ = (Str, n) in Some x) size)
 
--- a value behind an opening bracket is a complex number
+-- a value after an opening bracket is a complex number
 value_bracketed : (s : List ℕ) (p : Pair) → pair_of s ≡ Some p → front_value (40 ∷ s) ≡ Some (Complex, p.len)
 unfolding front_value
 value_bracketed s p f = rw f refl

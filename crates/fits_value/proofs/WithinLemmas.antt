@@ -1,76 +1,26 @@
 -- What is found at the front of a text lies in it.
-use Rattle.std.proofs.Common.{◌≡◌, ℕ, ◌≤◌, ◌+◌, ◌-◌, Bool, cond, eqb, ltb, List, [], ◌∷◌, length, drop, take, Option, None, Some, refl, ap, arith, inl, inr, ◌&&◌, ◌||◌, length-append}
+use Rattle.std.proofs.Common.{◌≡◌, ℕ, ◌≤◌, ◌+◌, Bool, eqb, List, [], ◌∷◌, length, drop, take, Option, None, Some, refl, ap, arith, inl, inr, ◌||◌, length-append}
 use Rattle.std.specs.List.{prefix_len}
 use Rattle.std.proofs.lemmas.List.{take-append-drop, length-drop}
 use Rattle.std.proofs.lemmas.List.Folds.{length-prefix_len}
-use Rattle.std.proofs.lemmas.Bool.{cond_both}
 use Rattle.fits_value.proofs.FrontLemmas.{chosen, option_map_some}
+use Rattle.fits_value.proofs.NumberScanLemmas.{number_within}
 use Rattle.fits_value.proofs.QuoteLemmas.{closing_found}
 use Rattle.fits_value.proofs.PairLemmas.{pair_within}
 use Rattle.fits_value.proofs.ValueScanLemmas.{same_pair}
 use Rattle.fits_value.proofs.FieldLemmas.{ending_value}
-use Rattle.fits_value.specs.Spelling.{is_space, is_digit, is_sign, is_exponent_letter, doubled}
-use Rattle.fits_value.specs.Scan.{sign_of, exponent_of, fraction_length, closing_of, pair_of, number_of, front_value, value_span, valued_of, reading_of}
+use Rattle.fits_value.specs.Spelling.{is_space, doubled}
+use Rattle.fits_value.specs.Scan.{closing_of, pair_of, front_value, value_span, valued_of, reading_of}
 use Rattle.fits_value.specs.declared.reading.ValueKind.{ValueKind}
 use Rattle.fits_value.specs.declared.reading.ValueKind.TheVariants.{Undefined, Logical, Integer, Real, Complex, Str}
 use Rattle.fits_value.specs.declared.reading.Reading.{Reading}
 use Rattle.fits_value.specs.declared.scan_complex.Pair.{Pair}
 
--- a front that passes
+-- a prefix that passes
 front_within : (p : ℕ → Bool) (s : List ℕ) → prefix_len p s ≤ length s
 front_within p s =
     let k = prefix_len p s in
     omega (arith, length-prefix_len p s, length-append (take k s) (drop k s), ap length (take-append-drop k s))
-
--- a sign
-sign_within : (s : List ℕ) → sign_of s ≤ length s
-sign_within [] = omega arith
-sign_within (b ∷ s) = cond_both (is_sign b) 1 0 (λ n. n ≤ length (b ∷ s)) (λ e. omega arith) (λ e. omega arith)
-
--- a point and digits
-fraction_within : (s : List ℕ) → fraction_length s ≤ length s
-fraction_within [] = omega arith
-fraction_within (b ∷ s) =
-    let size = front_within is_digit s in
-    cond_both (eqb b 46) (1 + prefix_len is_digit s) 0 (λ n. n ≤ length (b ∷ s)) (λ e. omega arith) (λ e. omega arith)
-
--- an exponent
-exponent_within : (s : List ℕ) → exponent_of s ≤ length s
-exponent_within [] = omega arith
-exponent_within (b ∷ s) =
-    let digits = prefix_len is_digit (drop (sign_of s) s) in
-    let size = front_within is_digit (drop (sign_of s) s) in
-    let left = length-drop (sign_of s) s in
-    let front = sign_within s in
-    cond_both (is_exponent_letter b && ltb 0 digits) (1 + (sign_of s + digits)) 0 (λ n. n ≤ length (b ∷ s)) (λ e. omega (arith, size, left, front)) (λ e. omega arith)
-
--- a number
-number_within : (s : List ℕ) (k : ValueKind) (n : ℕ) → number_of s ≡ Some (k, n) → n ≤ length s
-unfolding number_of
-number_within s k n e =
-    let a = sign_of s in
-    let body = drop a s in
-    let b = prefix_len is_digit body in
-    let rest = drop b body in
-    let c = fraction_length rest in
-    let d = exponent_of (drop c rest) in
-    let kind : ValueKind = cond ((eqb c 0) && (eqb d 0)) Integer Real in
-    elim (chosen (ltb 0 (b + (c - 1))) (Some (kind, a + (b + (c + d)))) None (Some (k, n)) e) [
-      | inr w ↦ absurd (let z = w.1 in (cc))
-      | inl w ↦
-          let size = (same_pair (kind, a + (b + (c + d))) (k, n) w.1).1 in
-          omega (
-            arith,
-            size,
-            sign_within s,
-            length-drop a s,
-            front_within is_digit body,
-            length-drop b body,
-            fraction_within rest,
-            length-drop c rest,
-            exponent_within (drop c rest),
-          )
-    ]
 
 -- a closing quote
 closing_within : (s : List ℕ) (n : ℕ) → closing_of s ≡ Some n → n + 1 ≤ length s

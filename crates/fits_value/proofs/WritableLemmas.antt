@@ -4,7 +4,7 @@ use Rattle.std.specs.Prelude.{◌↔◌, IsTrue, IfSome}
 use Rattle.std.specs.Cmp.{both_ways}
 use Rattle.std.specs.List.{suffix_len}
 use Rattle.std.proofs.Math.Seq.{take-length}
-use Rattle.std.proofs.lemmas.List.{append-nil, length-take-le}
+use Rattle.std.proofs.lemmas.List.{length-take-le}
 use Rattle.std.proofs.lemmas.List.Elements.{All-cons, All-nil}
 use Rattle.std.proofs.lemmas.Bool.{cases_Bool, and_parts, and_from, cond-true, cond-false, eq-eqb, eqb-true, not-true, not_from_false, false_from_ne_true}
 use Rattle.std.proofs.lemmas.Option.{same_Some}
@@ -12,7 +12,7 @@ use Rattle.std.proofs.lemmas.Slice.Eq.{bytes_eq-Decides}
 use Rattle.fits_card.specs.Card.{is_text}
 use Rattle.fits_value.proofs.AmpersandLemmas.{ampersand_told, ampersand_said}
 use Rattle.fits_value.proofs.FrontLemmas.{chosen}
-use Rattle.fits_value.proofs.NumberScanLemmas.{number_found, number_integer, number_real}
+use Rattle.fits_value.proofs.NumberScanLemmas.{number_found, whole_integer, whole_real}
 use Rattle.fits_value.specs.Number.{IsInteger, IsReal, IsNumber}
 use Rattle.fits_value.specs.Spelling.{is_space, Spells}
 use Rattle.fits_value.specs.Scan.{number_of}
@@ -27,14 +27,6 @@ use Rattle.fits_value.specs.declared.value.Value.TheVariants as value
 -- a number that is found and goes to the end is the whole text
 pub whole_number : (s : List ℕ) (k : ValueKind) (n : ℕ) → Some (k, n) ≡ number_of s → n ≡ length s → Spells k s
 whole_number s k n e f = subst (λ (x : List ℕ). Spells k x) (ap (λ (i : ℕ). take i s) f ∙ take-length s) (number_found s k n (sym e))
-
--- an integer is found as a whole
-pub whole_integer : (s : List ℕ) → IsInteger s → number_of s ≡ Some (Integer, length s)
-whole_integer s h = ap number_of (sym (append-nil s)) ∙ number_integer s [] h tt
-
--- and so is a real
-pub whole_real : (s : List ℕ) → IsReal s → number_of s ≡ Some (Real, length s)
-whole_real s h = ap number_of (sym (append-nil s)) ∙ number_real s [] h tt
 
 -- the normal form is as long as the text where it is the text
 pub normal_same : (n : ℕ) (text : List ℕ) → take n text ≡ normal_form text → n ≤ length text → eqb n (length text) ≡ bytes_eq (normal_form text) text
@@ -65,7 +57,7 @@ kind_spelled : (s : List ℕ) (k : ValueKind) → number_kind s ≡ Some k → S
 unfolding number_kind
 kind_spelled s k e = let w = whole_found (length s) (number_of s) k e in whole_number s k w.0 w.1 w.2
 
--- the tests of kinds
+-- what is tested to be the kind of integers is it
 integer_kind : (o : Option ValueKind) → is_integer_kind o ≡ true → o ≡ Some Integer
 integer_kind None e = absurd (cc)
 integer_kind (Some Undefined) e = absurd (cc)
@@ -75,6 +67,7 @@ integer_kind (Some Real) e = absurd (cc)
 integer_kind (Some Complex) e = absurd (cc)
 integer_kind (Some Str) e = absurd (cc)
 
+-- and so is that of reals
 real_kind : (o : Option ValueKind) → is_real_kind o ≡ true → o ≡ Some Real
 real_kind None e = absurd (cc)
 real_kind (Some Undefined) e = absurd (cc)

@@ -1,9 +1,10 @@
 -- The scanner's steps, as functions on lists (own). What texts and cards say is computed by them, and `laws` tie
 -- that to the relations of Field, Value and LongString, which are the definitions.
-use Rattle.std.specs.Prelude.{ℕ, ◌≤◌, ◌+◌, ◌-◌, ◌&&◌, ◌||◌, ◌==◌, List, [], ◌∷◌, length, drop, Option, None, Some, if◌then◌else◌, nat_lt}
-use Rattle.std.specs.List.{prefix_len, suffix_len}
+use Rattle.std.specs.Prelude.{ℕ, ◌≤◌, ◌+◌, ◌-◌, ◌&&◌, ◌||◌, ◌==◌, List, [], ◌∷◌, length, drop, Option, None, Some, if◌then◌else◌}
+use Rattle.std.specs.List.{prefix_len, suffix_len, take_while}
 use Rattle.std.specs.Option.{option_map}
-use Rattle.fits_value.specs.Spelling.{is_space, is_digit, is_sign, is_exponent_letter}
+use Rattle.fits_value.specs.Spelling.{is_space, is_digit}
+use Rattle.fits_value.specs.NumberSteps.{after_sign, after_digits, fraction_digits, after_fraction, after_exponent}
 use Rattle.fits_value.specs.declared.reading.ValueKind.{ValueKind}
 use Rattle.fits_value.specs.declared.reading.ValueKind.TheVariants.{Undefined, Logical, Integer, Real, Complex, Str}
 use Rattle.fits_value.specs.declared.reading.Span.{Span}
@@ -11,50 +12,25 @@ use Rattle.fits_value.specs.declared.reading.Reading.{Reading}
 use Rattle.fits_value.specs.declared.scan_complex.Element.{Element}
 use Rattle.fits_value.specs.declared.scan_complex.Pair.{Pair}
 
--- how many bytes a sign takes
-abbrev pub sign_of : List ℕ → ℕ
-sign_of [] = 0
-sign_of (b ∷ s) = if is_sign b then 1 else 0
-
 -- the place of the quote that closes a string, whose opening quote stands before the list
 abbrev pub closing_of : List ℕ → Option ℕ
 closing_of [] = None
 closing_of (b ∷ []) = if b == 39 then Some 0 else None
 closing_of (b ∷ c ∷ s) = if b == 39 then (if c == 39 then option_map (λ n. n + 2) (closing_of s) else Some 0) else option_map (λ n. n + 1) (closing_of (c ∷ s))
 
--- how many bytes an exponent takes, 0 where there is none
-abbrev pub exponent_of : List ℕ → ℕ
-exponent_of [] = 0
-exponent_of (b ∷ s) =
-    let sign = sign_of s in
-    let digits = prefix_len is_digit (drop sign s) in
-    if is_exponent_letter b && nat_lt 0 digits then 1 + (sign + digits) else 0
-
--- how many bytes a point and the digits after it take, 0 where there is no point
-abbrev pub fraction_length : List ℕ → ℕ
-fraction_length [] = 0
-fraction_length (b ∷ s) = if b == 46 then 1 + prefix_len is_digit s else 0
-
--- the kind and the bytes of a number by the lengths of its sign, first digits, fraction and exponent
-abbrev pub made_of : ℕ → ℕ → ℕ → ℕ → Option (ValueKind × ℕ)
-made_of sign front back exponent =
-    if nat_lt 0 (front + (back - 1))
-    then Some (if (back == 0) && (exponent == 0) then Integer else Real, sign + (front + (back + exponent)))
-    else None
-
--- the kind and the bytes of a number whose sign and first digits were taken
-abbrev pub tail_of : ℕ → ℕ → List ℕ → Option (ValueKind × ℕ)
-tail_of sign front rest = made_of sign front (fraction_length rest) (exponent_of (drop (fraction_length rest) rest))
-
--- the kind and the bytes of a number whose sign was taken
-abbrev pub unsigned_of : ℕ → List ℕ → Option (ValueKind × ℕ)
-unsigned_of sign s =
-    let front = prefix_len is_digit s in
-    tail_of sign front (drop front s)
+-- the kind and the bytes of a number by its digits before and after the point, what follows the first
+-- of these, what follows the number, and the length of all
+abbrev pub number_by : List ℕ → List ℕ → List ℕ → List ℕ → ℕ → Option (ValueKind × ℕ)
+number_by front back tail rest size =
+    if (length front == 0) && (length back == 0)
+    then None
+    else Some (if length rest == length tail then Integer else Real, size - length rest)
 
 -- the kind and the bytes of the number at the front
 unfoldable pub number_of : List ℕ → Option (ValueKind × ℕ)
-number_of s = unsigned_of (sign_of s) (drop (sign_of s) s)
+number_of text =
+    let tail = after_digits (after_sign text) in
+    number_by (take_while is_digit (after_sign text)) (fraction_digits tail) tail (after_exponent (after_fraction tail)) (length text)
 
 -- the number after so many spaces, and how far it goes with the spaces after it
 abbrev pub element_at : ℕ → List ℕ → Option (ValueKind × ℕ) → Option Element

@@ -1,29 +1,31 @@
 //! The text of a card that is being written, in place.
 ghost use Rattle.std.specs.Prelude.{◌≡◌, ◌≤◌, ◌<◌, ◌+◌, [], ◌++◌, length, take, replicate, codes, IfSome, IfNone};
 ghost use Rattle.fits_card.specs.Card.{card_of_text};
+ghost use Rattle.fits_card.specs.declared.card.TheConstants.{CARD_LEN};
 ghost use Rattle.fits_value.specs.Spelling.{doubled};
 ghost use Rattle.fits_value.specs.Written.{justified, quoted, commented, card_of};
 
 use crate::text::Text;
-use fits_card::card::{CARD_LEN, Card};
+use fits_card::{CARD_LEN, Card};
 use std::marker::Model;
 
 // The text that a card begins with, while it is written. Contracts see it as its list of bytes.
 #[derive(Drop)]
 struct CardText {
-    bytes: [u8; 80],
+    bytes: [u8; CARD_LEN],
     len: usize,
 }
 
 impl Model for CardText {
     ghost use Rattle.std.specs.Prelude.{◌≡◌, ◌≤◌, ℕ, List, length, take};
+    ghost use Rattle.fits_card.specs.declared.card.TheConstants.{CARD_LEN};
 
     ghost Value = { List ℕ };
 
     ghost view = { λ text. take text.len text.bytes };
 
     ghost invariant = { λ text. record {
-      within : text.len ≤ 80;
+      within : text.len ≤ CARD_LEN;
       size : length (take text.len text.bytes) ≡ text.len;
     } };
 }
@@ -39,8 +41,8 @@ fn empty() -> CardText
 }
 
 // Writes bytes over those after the first ones.
-fn write_at(card: &mut [u8; 80], len: usize, bytes: &[u8])
-    requires { len + length bytes.now ≤ 80 }
+fn write_at(card: &mut [u8; CARD_LEN], len: usize, bytes: &[u8])
+    requires { len + length bytes.now ≤ CARD_LEN }
     ensures { take (len + length bytes.now) card.new ≡ take len card.old ++ bytes.now }
 {
     let (_, free) = card.split_at_mut(len);
@@ -51,7 +53,7 @@ fn write_at(card: &mut [u8; 80], len: usize, bytes: &[u8])
 // Adds bytes, where they fit.
 fn add(text: &mut CardText, bytes: &[u8]) -> Option<()>
     ensures some { IfSome result (λ _. text.new ≡ text.old ++ bytes.now) }
-    ensures none { IfNone result (80 < length text.old + length bytes.now) }
+    ensures none { IfNone result (CARD_LEN < length text.old + length bytes.now) }
 {
     if CARD_LEN - text.len < bytes.len() {
         return None;
@@ -65,7 +67,7 @@ fn add(text: &mut CardText, bytes: &[u8]) -> Option<()>
 fn add_spaces(text: &mut CardText, count: usize) -> Option<()>
     requires { count ≤ 31 }
     ensures some { IfSome result (λ _. text.new ≡ text.old ++ replicate count 32) }
-    ensures none { IfNone result (80 < length text.old + count) }
+    ensures none { IfNone result (CARD_LEN < length text.old + count) }
 {
     let (spaces, _) = [b' '; 31].split_at(count);
     add(text, spaces)
@@ -74,7 +76,7 @@ fn add_spaces(text: &mut CardText, count: usize) -> Option<()>
 // Adds characters with each quote doubled, where they fit.
 fn add_doubled(text: &mut CardText, characters: &[u8]) -> Option<()>
     ensures some { IfSome result (λ _. text.new ≡ text.old ++ doubled characters.now) }
-    ensures none { IfNone result (80 < length text.old + length (doubled characters.now)) }
+    ensures none { IfNone result (CARD_LEN < length text.old + length (doubled characters.now)) }
 {
     for byte in characters {
         if *byte == b'\'' {
@@ -91,7 +93,7 @@ fn add_quoted(text: &mut CardText, characters: &[u8], after: &[u8]) -> Option<()
     ensures some { IfSome result (λ _.
         text.new ≡ text.old ++ quoted (characters.now ++ after.now)) }
     ensures none { IfNone result
-        (80 < length text.old + length (quoted (characters.now ++ after.now))) }
+        (CARD_LEN < length text.old + length (quoted (characters.now ++ after.now))) }
 {
     add(text, b"'")?;
     add_doubled(text, characters)?;
@@ -103,8 +105,8 @@ fn add_quoted(text: &mut CardText, characters: &[u8], after: &[u8]) -> Option<()
 // The card of a text, where it fits with the comment after it.
 fn closed(mut text: CardText, comment: &Option<Text>) -> Option<Card>
     ensures some { IfSome result (λ card. card ≡ card_of_text (commented text comment.now)) }
-    ensures size { IfSome result (λ card. length card ≡ 80) }
-    ensures none { IfNone result (80 < length (commented text comment.now)) }
+    ensures size { IfSome result (λ card. length card ≡ CARD_LEN) }
+    ensures none { IfNone result (CARD_LEN < length (commented text comment.now)) }
 {
     if let Some(comment) = comment {
         let gap = 1 + 30usize.saturating_sub(text.len);
@@ -120,9 +122,9 @@ fn closed(mut text: CardText, comment: &Option<Text>) -> Option<Card>
 pub(crate) fn justified_card(lead: &[u8], spelling: &[u8], comment: &Option<Text>) -> Option<Card>
     ensures some { IfSome result (λ card.
         card ≡ card_of lead.now (justified spelling.now) comment.now) }
-    ensures size { IfSome result (λ card. length card ≡ 80) }
+    ensures size { IfSome result (λ card. length card ≡ CARD_LEN) }
     ensures none { IfNone result
-        (80 < length (card_of lead.now (justified spelling.now) comment.now)) }
+        (CARD_LEN < length (card_of lead.now (justified spelling.now) comment.now)) }
 {
     let mut text = empty();
     add(&mut text, lead)?;
@@ -140,9 +142,9 @@ pub(crate) fn string_card(
 ) -> Option<Card>
     ensures some { IfSome result (λ card.
         card ≡ card_of lead.now (quoted (characters.now ++ after.now)) comment.now) }
-    ensures size { IfSome result (λ card. length card ≡ 80) }
+    ensures size { IfSome result (λ card. length card ≡ CARD_LEN) }
     ensures none { IfNone result
-        (80 < length (card_of lead.now (quoted (characters.now ++ after.now)) comment.now)) }
+        (CARD_LEN < length (card_of lead.now (quoted (characters.now ++ after.now)) comment.now)) }
 {
     let mut text = empty();
     add(&mut text, lead)?;
@@ -160,8 +162,8 @@ pub(crate) fn pair_card(
     ensures some { IfSome result (λ card. card ≡ card_of lead.now
         (justified (codes "(" ++ real.now ++ (codes ", " ++ imaginary.now) ++ codes ")"))
         comment.now) }
-    ensures size { IfSome result (λ card. length card ≡ 80) }
-    ensures none { IfNone result (80 < length (card_of lead.now
+    ensures size { IfSome result (λ card. length card ≡ CARD_LEN) }
+    ensures none { IfNone result (CARD_LEN < length (card_of lead.now
         (justified (codes "(" ++ real.now ++ (codes ", " ++ imaginary.now) ++ codes ")"))
         comment.now)) }
 {

@@ -1,10 +1,10 @@
 //! Laws of the definitions, each the contract of a function that does nothing.
-ghost use Rattle.std.specs.Prelude.{◌≡◌, ◌≤◌, Bool, ◌+◌, ℕ, ℤ, List, length, Option, Some};
+ghost use Rattle.std.specs.Prelude.{◌≡◌, ◌≤◌, ◌<◌, Bool, ◌+◌, ℕ, ℤ, List, length, Option, Some};
 ghost use Rattle.fits_value.specs.Field.{FieldReadsAs, ReadsAs};
 ghost use Rattle.fits_value.specs.Number.{IsIntegerOf, IsDecimal, IsInteger, IsNumber, Denotes};
 ghost use Rattle.fits_value.specs.Value.{FieldSays, CardSays};
 ghost use Rattle.fits_value.specs.LongString.{Piece, IsChain, BeginsChain, IsContinueCard, LongSays};
-ghost use Rattle.fits_value.specs.Says.{field_says, card_says, long_says, integer_in, card_string, link_string, chain_length};
+ghost use Rattle.fits_value.specs.Says.{field_says, card_says, long_says, integer_in, card_string, link_string, chain_length, IsLink};
 ghost use Rattle.fits_value.specs.declared.value.Value.{Value};
 ghost use Rattle.fits_value.specs.declared.value.Value.TheVariants.{Str};
 ghost use Rattle.fits_value.specs.declared.reading.ValueKind.{ValueKind};
@@ -121,6 +121,16 @@ pub fn how_long_a_chain_is()
         → IsChain cards place front last → chain_length cards place ≡ length front + 1 }
     ensures none { (cards : List (List ℕ)) (place : ℕ)
         → (BeginsChain cards place → ⊥) → chain_length cards place ≡ 0 }
+{}
+
+/// A card is a link exactly where it stands in a chain after its first card. Places count from 1.
+pub fn which_cards_are_links()
+    ensures said { (cards : List (List ℕ)) (first place : ℕ) (front : List Piece) (last : Piece)
+        → IsChain cards first front last → 1 ≤ first → first < place
+        → place ≤ first + length front → IsLink cards place }
+    ensures only { (cards : List (List ℕ)) (place : ℕ) → (h : IsLink cards place)
+        → (front : List Piece) × (last : Piece)
+        × IsChain cards h.first front last × (place ≤ h.first + length front) }
 {}
 
 /// Which number an integer has, as a function.

@@ -3,28 +3,29 @@
 
 mod card_text;
 mod characters;
-pub mod laws;
-pub mod long_string;
-pub mod number;
-pub mod read;
-pub mod reading;
-pub mod scan;
+mod decimal;
+mod laws;
+mod long_string;
+mod number;
+mod read;
+mod reading;
+mod scan;
 mod scan_complex;
-mod scan_number;
 mod scan_value;
 mod spaces;
-pub mod strings;
-pub mod text;
-pub mod value;
+mod strings;
+mod text;
+mod value;
 mod writable;
-pub mod write;
-pub mod write_laws;
+mod write;
+mod write_laws;
 
 pub use laws::{
-    how_long_a_chain_is, integers_denote, integers_have_numbers, numbers_are_spelled,
-    one_card_reading, one_card_value, one_chain, one_field_reading, one_field_value,
-    one_long_value, one_number, what_a_card_says, what_a_field_says, what_a_place_says,
-    which_integer, which_string_a_card_says, which_string_a_link_says,
+    each_number_is_a_decimal, how_long_a_chain_is, integers_denote, integers_have_numbers,
+    numbers_are_spelled, one_card_reading, one_card_value, one_chain, one_field_reading,
+    one_field_value, one_long_value, one_number, what_a_card_says, what_a_field_says,
+    what_a_place_says, which_cards_are_links, which_integer, which_string_a_card_says,
+    which_string_a_link_says,
 };
 pub use long_string::{link_count, long_value};
 pub use number::{denotes, integer_of};

@@ -1,125 +1,50 @@
 //! The numbers that integers and reals denote, by digits and decimal exponent.
-ghost use Rattle.std.specs.Prelude.{◌≡◌, ◌≤◌, ◌<◌, ◌+◌, ◌*◌, ◌^◌, ◌++◌, ◌↔◌, Bool, ℕ, ℤ, List, Some, IsTrue, IfSome, IfNone, IsSomeAnd, SomeIff, FitsSigned, unsigned_abs, length};
+ghost use Rattle.std.specs.Prelude.{◌≡◌, ◌≤◌, ◌<◌, ◌+◌, ◌*◌, ◌^◌, ◌++◌, ◌↔◌, Bool, ℕ, ℤ, List, Some, IsTrue, if◌then◌else◌, IfSome, IfNone, IsSomeAnd, SomeIff, FitsSigned, unsigned_abs, length};
 ghost use Rattle.std.specs.Int.{w64};
-ghost use Rattle.std.specs.List.{fold, list_all, prefix_len, take_while};
-ghost use Rattle.fits_value.specs.Spelling.{is_digit, IsDigits, AreSomeDigits};
-ghost use Rattle.fits_value.specs.Number.{with_digit, value_of, signed, IsSigned, IsIntegerOf, IsPowerOf, IsDecimal, IsExactly, Denotes};
+ghost use Rattle.std.specs.List.{fold};
+ghost use Rattle.fits_value.specs.Spelling.{IsDigits};
+ghost use Rattle.fits_value.specs.Number.{with_digit, value_of, signed, IsSigned, IsIntegerOf, IsDecimal, IsExactly, Denotes};
 ghost use Rattle.fits_value.specs.Says.{integer_in};
-ghost use Rattle.fits_value.specs.NumberSteps.{is_minus, after_sign, after_digits, fraction_digits, after_fraction};
+ghost use Rattle.fits_value.specs.Scan.{number_of};
+ghost use Rattle.fits_value.specs.declared.reading.ValueKind.TheVariants.{Integer, Real};
 
-use crate::scan_number::digits_len;
+use crate::decimal::{Decimal, scan_decimal};
 
 /// How many digits a number of 127 bits has at most.
 const MOST_DIGITS: u128 = 39;
 
-/// The parts of an integer or a real: its digits before and after the point, and its exponent's.
-#[derive(Clone, Copy)]
-struct Decimal<'a> {
-    is_negative: bool,
-    front: &'a [u8],
-    back: &'a [u8],
-    is_lowered: bool,
-    exponent: &'a [u8],
-}
-
-/// Whether the text begins with a minus sign, and the text after its sign.
-fn split_sign(text: &[u8]) -> (bool, &[u8])
-    ensures sign { result.0 ≡ is_minus text.now }
-    ensures rest { result.1.now ≡ after_sign text.now }
+/// The parts of an integer or a real.
+#[tactic(auto, using(crate::proofs::NumberScanLemmas::decimal_reads))]
+fn split_decimal(text: &[u8]) -> Option<Decimal<'_>>
+    ensures found { IfSome result (λ d. IsDecimal text.now d.is_negative d.front.now d.back.now
+        (signed d.is_lowered (value_of d.exponent.now))) }
+    ensures digits { IfSome result (λ d. IsDigits d.exponent.now) }
+    ensures kind { IfSome result (λ d. number_of text.now
+        ≡ Some (if d.is_integer then Integer else Real, length text.now)) }
+    ensures none { IfNone result ((negative : Bool) (front back : List ℕ) (power : ℤ)
+        → IsDecimal text.now negative front back power → ⊥) }
 {
-    match text {
-        [b'-', rest @ ..] => (true, rest),
-        [b'+', rest @ ..] => (false, rest),
-        _ => (false, text),
-    }
-}
-
-/// The digits that the text begins with, and the rest.
-fn split_digits(text: &[u8]) -> (&[u8], &[u8])
-    ensures digits { result.0.now ≡ take_while is_digit text.now }
-    ensures rest { result.1.now ≡ after_digits text.now }
-{
-    text.split_at(digits_len(text))
-}
-
-/// The digits after the point that the text begins with, if it does, and the rest.
-fn split_fraction(text: &[u8]) -> (&[u8], &[u8])
-    ensures digits { result.0.now ≡ fraction_digits text.now }
-    ensures rest { result.1.now ≡ after_fraction text.now }
-{
-    match text {
-        [b'.', rest @ ..] => split_digits(rest),
-        _ => (&[], text),
-    }
-}
-
-/// Whether each byte is a digit.
-fn are_digits(text: &[u8]) -> bool
-    ensures { result ≡ list_all is_digit text.now }
-{
-    text.iter().all(|byte| b'0' <= *byte && *byte <= b'9')
-}
-
-/// Whether the text is digits, at least one.
-fn are_some_digits(text: &[u8]) -> bool
-    ensures { IsTrue result ↔ AreSomeDigits text.now }
-{
-    !text.is_empty() && are_digits(text)
+    let Some((decimal, rest)) = scan_decimal(text) else {
+        return None;
+    };
+    if rest.is_empty() { Some(decimal) } else { None }
 }
 
 /// Whether an integer has a minus sign, and its digits.
-#[tactic(auto, using(crate::proofs::NumberLemmas::integer_reads))]
+#[tactic(auto, using(crate::proofs::NumberScanLemmas::integer_reads))]
 fn split_integer(text: &[u8]) -> Option<(bool, &[u8])>
     ensures found { IfSome result (λ r. IsSigned text.now r.0 r.1.now) }
     ensures only { (negative : Bool) (digits : List ℕ) → IsSigned text.now negative digits
         → IsSomeAnd result (λ r. (r.0 ≡ negative) × (r.1.now ≡ digits)) }
 {
-    let (is_negative, digits) = split_sign(text);
-    if are_some_digits(digits) {
-        Some((is_negative, digits))
+    let Some(decimal) = split_decimal(text) else {
+        return None;
+    };
+    if decimal.is_integer {
+        Some((decimal.is_negative, decimal.front))
     } else {
         None
     }
-}
-
-/// Whether an exponent lowers, and its digits. No exponent has no digits.
-#[tactic(auto, using(crate::proofs::NumberLemmas::power_reads))]
-fn split_exponent(text: &[u8]) -> Option<(bool, &[u8])>
-    ensures found { IfSome result (λ r. IsPowerOf text.now (signed r.0 (value_of r.1.now))) }
-    ensures digits { IfSome result (λ r. IsDigits r.1.now) }
-    ensures only { (power : ℤ) → IsPowerOf text.now power
-        → IsSomeAnd result (λ r. signed r.0 (value_of r.1.now) ≡ power) }
-{
-    match text {
-        [] => Some((false, &[])),
-        [b'E' | b'D', rest @ ..] => split_integer(rest),
-        _ => None,
-    }
-}
-
-/// The parts of an integer or a real.
-#[tactic(auto, using(crate::proofs::NumberLemmas::decimal_reads))]
-fn split_decimal(text: &[u8]) -> Option<Decimal<'_>>
-    ensures found { IfSome result (λ d. IsDecimal text.now d.is_negative d.front.now d.back.now
-        (signed d.is_lowered (value_of d.exponent.now))) }
-    ensures digits { IfSome result (λ d. IsDigits d.exponent.now) }
-    ensures none { IfNone result ((negative : Bool) (front back : List ℕ) (power : ℤ)
-        → IsDecimal text.now negative front back power → ⊥) }
-{
-    let (is_negative, unsigned) = split_sign(text);
-    let (front, tail) = split_digits(unsigned);
-    let (back, rest) = split_fraction(tail);
-    let (is_lowered, exponent) = split_exponent(rest)?;
-    if front.is_empty() && back.is_empty() {
-        return None;
-    }
-    Some(Decimal {
-        is_negative,
-        front,
-        back,
-        is_lowered,
-        exponent,
-    })
 }
 
 /// The number that has these digits after those of `start`, where it is at most `limit`.

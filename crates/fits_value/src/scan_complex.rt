@@ -2,8 +2,8 @@
 ghost use Rattle.std.specs.Prelude.{◌≡◌, ◌+◌, ◌≤◌, length, IfSome};
 ghost use Rattle.fits_value.specs.Scan.{element_of, closed_of, comma_of, pair_of, IsOrdered};
 
+use crate::decimal::scan_number;
 use crate::reading::Span;
-use crate::scan_number::scan_number;
 use crate::spaces::spaces_len;
 
 /// A number at the front of a text: where it stands, and how far it goes with the spaces round it.

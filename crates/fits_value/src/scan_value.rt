@@ -2,9 +2,9 @@
 ghost use Rattle.std.specs.Prelude.{◌≡◌, ◌≤◌, ◌<◌, ◌+◌, length, IfSome};
 ghost use Rattle.fits_value.specs.Scan.{closing_of, front_value};
 
+use crate::decimal::scan_number;
 use crate::reading::ValueKind;
 use crate::scan_complex::scan_pair;
-use crate::scan_number::scan_number;
 
 // The place of the quote that closes a string, whose opening quote stands before the text.
 fn closing_place(text: &[u8]) -> Option<usize>

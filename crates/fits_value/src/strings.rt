@@ -3,6 +3,7 @@ ghost use Rattle.std.specs.Prelude.{◌≡◌, ◌≤◌, length, take, drop, If
 ghost use Rattle.fits_value.specs.Spelling.{IsSpaces};
 ghost use Rattle.fits_value.specs.Text.{normal_form};
 ghost use Rattle.fits_value.specs.Scan.{undoubled};
+ghost use Rattle.fits_value.specs.declared.strings.TheConstants.{MOST_CHARACTERS};
 ghost use Rattle.fits_value.specs.Says.{inner, is_continue, card_string, link_string};
 
 use crate::characters::normal_len;
@@ -12,37 +13,40 @@ use fits_card::Card;
 use std::marker::Model;
 
 /// How many characters a card's string has at most: bytes 11 to 80 without the two quotes.
-const MOST_CHARACTERS: usize = 68;
+pub(crate) const MOST_CHARACTERS: usize = 68;
 
 /// The string of one card, decoded and in normal form. Contracts see it as its list of characters.
 #[derive(Clone, Copy)]
 pub struct CardString {
     // Spaces follow the characters.
-    bytes: [u8; 68],
+    bytes: [u8; MOST_CHARACTERS],
     len: usize,
 }
 
 impl Model for CardString {
     ghost use Rattle.std.specs.Prelude.{◌≡◌, ◌≤◌, ◌-◌, ◌++◌, ℕ, List, length, take, replicate};
     ghost use Rattle.std.proofs.Common.{ap, ◌∙◌};
+    ghost use Rattle.fits_value.specs.declared.strings.TheConstants.{MOST_CHARACTERS};
 
     ghost Value = { List ℕ };
 
     ghost view = { λ string. take string.len string.bytes };
 
     ghost invariant = { λ string. record {
-      within : string.len ≤ 68;
+      within : string.len ≤ MOST_CHARACTERS;
       size : length (take string.len string.bytes) ≡ string.len;
-      padded : take string.len string.bytes ++ replicate (68 - string.len) 32 ≡ string.bytes;
+      padded : take string.len string.bytes ++ replicate (MOST_CHARACTERS - string.len) 32
+          ≡ string.bytes;
     } };
 
     ghost inverse = { λ text. record {
-      bytes = text ++ replicate (68 - length text) 32;
+      bytes = text ++ replicate (MOST_CHARACTERS - length text) 32;
       len = length text;
     } };
 
     ghost inverse_ok = { λ string whole i. record {
-      bytes = (ap (λ n. take string.len string.bytes ++ replicate (68 - n) 32) whole.size ∙ whole.padded) i;
+      bytes = (ap (λ n. take string.len string.bytes ++ replicate (MOST_CHARACTERS - n) 32)
+          whole.size ∙ whole.padded) i;
       len = whole.size i;
     } };
 }
@@ -50,7 +54,7 @@ impl Model for CardString {
 impl CardString {
     pub fn as_bytes(&self) -> &[u8]
         ensures value { result.now ≡ self.now }
-        ensures within { length self.now ≤ 68 }
+        ensures within { length self.now ≤ MOST_CHARACTERS }
     {
         let (text, _) = self.bytes.split_at(self.len);
         text
@@ -58,11 +62,11 @@ impl CardString {
 }
 
 // Writes the characters that stand between the quotes, where two quotes are one, and counts them.
-fn write_decoded(characters: &mut [u8; 68], text: &[u8]) -> usize
-    requires { length text.now ≤ 68 }
+fn write_decoded(characters: &mut [u8; MOST_CHARACTERS], text: &[u8]) -> usize
+    requires { length text.now ≤ MOST_CHARACTERS }
     ensures value { take result characters.new ≡ undoubled text.now }
     ensures rest { drop result characters.new ≡ drop result characters.old }
-    ensures within { result ≤ 68 }
+    ensures within { result ≤ MOST_CHARACTERS }
 {
     let mut len = 0;
     let mut i = 0;
@@ -80,7 +84,7 @@ fn write_decoded(characters: &mut [u8; 68], text: &[u8]) -> usize
 
 // The string whose characters stand between the quotes, where two quotes are one.
 fn decoded(text: &[u8]) -> CardString
-    requires { length text.now ≤ 68 }
+    requires { length text.now ≤ MOST_CHARACTERS }
     ensures { result ≡ normal_form (undoubled text.now) }
 {
     let mut bytes = [b' '; MOST_CHARACTERS];

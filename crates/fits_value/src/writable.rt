@@ -6,12 +6,12 @@ ghost use Rattle.fits_value.specs.Says.{ends_in_ampersand};
 ghost use Rattle.fits_value.specs.Written.{number_kind, is_integer, is_real, is_number, is_writable_string, is_writable_value, is_writable_comment};
 
 use crate::characters::normal_len;
+use crate::decimal::scan_number;
 use crate::reading::ValueKind;
-use crate::scan_number::scan_number;
 use crate::spaces::trimmed_len;
 use crate::text::Text;
 use crate::value::Value;
-use fits_card::text::is_text;
+use fits_card::is_text;
 
 // The kind of a text that is a number.
 #[tactic(auto, unfolding(crate::specs::Written::number_kind))]

@@ -1,18 +1,19 @@
 //! Values and comments, written to cards.
 ghost use Rattle.std.specs.Prelude.{◌≡◌, ◌≤◌, ◌<◌, ◌-◌, [], ◌∷◌, ◌++◌, length, codes, replicate, IsTrue, IfOk, IfSome, IfNone, OnOk, IsErrOf, Err, All, Some, None, nat_lt, if◌then◌else◌, false};
+ghost use Rattle.fits_card.specs.declared.card.TheConstants.{CARD_LEN};
 ghost use Rattle.fits_card.specs.Name.{is_settable};
 ghost use Rattle.fits_card.specs.Header.{IsInnerCard};
 ghost use Rattle.fits_value.specs.Spelling.{doubled};
 ghost use Rattle.fits_value.specs.Written.{width, fitting, value_field, value_lead, card_of, cards_of_string, is_long, cards_of, all_fit, write_says};
+ghost use Rattle.fits_value.specs.declared.strings.TheConstants.{MOST_CHARACTERS};
 ghost use Rattle.fits_value.specs.declared.value.Value.TheVariants.{Str};
 
 use crate::card_text::{justified_card, pair_card, string_card};
+use crate::strings::MOST_CHARACTERS;
 use crate::text::Text;
 use crate::value::Value;
 use crate::writable::is_writable;
-use fits_card::card::Card;
-use fits_card::cards::Cards;
-use fits_card::name::Name;
+use fits_card::{Card, Cards, Name};
 use std::alloc::{AllocError, Global};
 use thiserror::Error;
 
@@ -112,9 +113,9 @@ fn filling(len: usize) -> &'static [u8]
 fn filled_card(lead: &[u8], characters: &[u8], comment: &Option<Text>) -> Option<Card>
     ensures some { IfSome result (λ card.
         card ≡ card_of lead.now (value_field (Str characters.now)) comment.now) }
-    ensures size { IfSome result (λ card. length card ≡ 80) }
+    ensures size { IfSome result (λ card. length card ≡ CARD_LEN) }
     ensures none { IfNone result
-        (80 < length (card_of lead.now (value_field (Str characters.now)) comment.now)) }
+        (CARD_LEN < length (card_of lead.now (value_field (Str characters.now)) comment.now)) }
 {
     string_card(lead, characters, filling(doubled_len(characters)), comment)
 }
@@ -123,9 +124,9 @@ fn filled_card(lead: &[u8], characters: &[u8], comment: &Option<Text>) -> Option
 fn value_card(lead: &[u8], value: &Value, comment: &Option<Text>) -> Option<Card>
     ensures some { IfSome result (λ card.
         card ≡ card_of lead.now (value_field value.now) comment.now) }
-    ensures size { IfSome result (λ card. length card ≡ 80) }
+    ensures size { IfSome result (λ card. length card ≡ CARD_LEN) }
     ensures none { IfNone result
-        (80 < length (card_of lead.now (value_field value.now) comment.now)) }
+        (CARD_LEN < length (card_of lead.now (value_field value.now) comment.now)) }
 {
     match value {
         Value::Undefined => justified_card(lead, b"", comment),
@@ -159,18 +160,18 @@ fn one_card(alloc: Global, card: Card) -> Result<Cards, AllocError>
 // How many cards a string takes that goes over cards, where its comment fits the last one.
 fn card_count(lead: [u8; 10], characters: &[u8], comment: &Option<Text>) -> Option<usize>
     requires { length lead ≡ 10 }
-    ensures some { IfSome result (λ count.
-        IsTrue (all_fit (cards_of_string lead (length characters.now) characters.now comment.now))) }
+    ensures some { IfSome result (λ count. IsTrue (all_fit
+        (cards_of_string lead (length characters.now) characters.now comment.now))) }
     ensures count { IfSome result (λ count.
         count ≡ length (cards_of_string lead (length characters.now) characters.now comment.now)) }
-    ensures none { IfNone result
-        (all_fit (cards_of_string lead (length characters.now) characters.now comment.now) ≡ false) }
+    ensures none { IfNone result (all_fit
+        (cards_of_string lead (length characters.now) characters.now comment.now) ≡ false) }
 {
     let mut lead = lead;
     let mut rest = characters;
     let mut left = doubled_len(characters);
     let mut count = 1;
-    'pieces: while 68 < left {
+    'pieces: while MOST_CHARACTERS < left {
         let (piece, others) = rest.split_at(piece_len(rest));
         lead = *b"CONTINUE  ";
         left -= doubled_len(piece);
@@ -192,14 +193,14 @@ fn cards_of_string(
     requires { length lead ≡ 10 }
     ensures ok { IfOk result (λ cards.
         cards.items ≡ cards_of_string lead (length characters.now) characters.now comment.now) }
-    ensures bad { IsErrOf result WriteFault.BadValue
-        → all_fit (cards_of_string lead (length characters.now) characters.now comment.now) ≡ false }
+    ensures bad { IsErrOf result WriteFault.BadValue → all_fit
+        (cards_of_string lead (length characters.now) characters.now comment.now) ≡ false }
 {
     let mut cards = Vec::with_capacity(alloc, count)?;
     let mut lead = lead;
     let mut rest = characters;
     let mut left = doubled_len(characters);
-    'pieces: while 68 < left {
+    'pieces: while MOST_CHARACTERS < left {
         let (piece, others) = rest.split_at(piece_len(rest));
         let Some(card) = string_card(&lead, piece, b"&", &None) else {
             return Err(WriteFault::BadValue);
@@ -219,11 +220,12 @@ fn cards_of_string(
 // The characters of a string that goes over cards.
 fn long_text(value: &Value) -> Option<&[u8]>
     ensures some { IfSome result (λ text. value.now ≡ Str text.now) }
-    ensures long { IfSome result (λ text. 68 < length (doubled text.now)) }
+    ensures long { IfSome result (λ text.
+        MOST_CHARACTERS < length (doubled text.now)) }
     ensures none { IfNone result (is_long value.now ≡ false) }
 {
     match value {
-        Value::Str(text) if 68 < doubled_len(text.as_bytes()) => Some(text.as_bytes()),
+        Value::Str(text) if MOST_CHARACTERS < doubled_len(text.as_bytes()) => Some(text.as_bytes()),
         _ => None,
     }
 }

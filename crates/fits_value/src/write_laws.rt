@@ -6,6 +6,7 @@ ghost use Rattle.fits_value.specs.Spelling.{doubled};
 ghost use Rattle.fits_value.specs.LongString.{LongSays, cards_from};
 ghost use Rattle.fits_value.specs.Says.{long_says};
 ghost use Rattle.fits_value.specs.Written.{fitting, quoted, card_of, continue_lead, cards_of_string, IsWritable, is_writable, write_says};
+ghost use Rattle.fits_value.specs.declared.strings.TheConstants.{MOST_CHARACTERS};
 ghost use Rattle.fits_value.specs.declared.value.Value.{Value};
 
 /// Which values and comments can be written, as a function.
@@ -43,9 +44,12 @@ pub fn pieces_are_longest()
 
 /// A string that 68 bytes hold takes one card; a longer one goes on after its first piece.
 pub fn strings_go_over_cards()
-    ensures last { (lead text : List ℕ) (comment : Option (List ℕ)) → length (doubled text) ≤ 68
-        → cards_of_string lead (length text) text comment ≡ card_of lead (quoted text) comment ∷ [] }
-    ensures more { (lead text : List ℕ) (comment : Option (List ℕ)) → 68 < length (doubled text)
+    ensures last { (lead text : List ℕ) (comment : Option (List ℕ))
+        → length (doubled text) ≤ MOST_CHARACTERS
+        → cards_of_string lead (length text) text comment
+        ≡ card_of lead (quoted text) comment ∷ [] }
+    ensures more { (lead text : List ℕ) (comment : Option (List ℕ))
+        → MOST_CHARACTERS < length (doubled text)
         → cards_of_string lead (length text) text comment
         ≡ card_of lead (quoted (take (fitting 67 text) text ++ codes "&")) None
         ∷ cards_of_string continue_lead (length (drop (fitting 67 text) text))
