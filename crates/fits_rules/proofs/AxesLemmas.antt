@@ -4,7 +4,8 @@ use Rattle.std.specs.List.{range_with_len}
 use Rattle.std.proofs.lemmas.Option.{slice_get_within, option_and_then_some}
 use Rattle.fits_card.specs.Header.{card_at}
 use Rattle.fits_rules.specs.Reads.{integer_said}
-use Rattle.fits_rules.specs.Shape.{each, ◌>>=◌, largest, up_to, if_named, card_named, axis_name, axis_of, axes_of}
+use Rattle.fits_rules.specs.Shape.{each, ◌>>=◌, up_to, if_named, card_named, axis_name, axis_of, axes_of}
+use Rattle.fits_rules.specs.declared.rules.TheConstants.{LARGEST}
 use Rattle.fits_rules.proofs.ShapeLemmas.{reads_header, still_in_range, reads_both}
 
 -- numbers in order, in two parts
@@ -69,7 +70,7 @@ axes_stop cards i naxis axes before within here =
 pub axis_within : (cards : List (List ℕ)) (n axis : ℕ) → Some axis ≡ axis_of cards n → 3 + n ≤ length cards
 unfolding axis_of card_named
 axis_within cards n axis is =
-    option_and_then_some (up_to largest) (option_and_then integer_said (option_and_then (if_named (axis_name n)) (card_at cards (3 + n)))) axis (sym is) (λ number e _.
+    option_and_then_some (up_to LARGEST) (option_and_then integer_said (option_and_then (if_named (axis_name n)) (card_at cards (3 + n)))) axis (sym is) (λ number e _.
     option_and_then_some integer_said (option_and_then (if_named (axis_name n)) (card_at cards (3 + n))) number e (λ card f _.
     option_and_then_some (if_named (axis_name n)) (card_at cards (3 + n)) card f (λ found g _.
     let within = slice_get_within cards (3 + n - 1) found g in omega arith)))

@@ -18,7 +18,9 @@ use Rattle.fits_rules.specs.Class.{has_counts}
 use Rattle.fits_rules.specs.Lead.{is_value_of, lead_place, lead_card}
 use Rattle.fits_rules.specs.Reads.{integer_said, logical_said}
 use Rattle.fits_rules.specs.SameShape.{IsUncounted}
-use Rattle.fits_rules.specs.Shape.{largest, up_to, bitpix_in, if_named, axis_name, card_named, first_card, bitpix_of, naxis_of, axis_of, has_group_axes, says_groups, class_of, count_at, count_of, shape_of, Describes}
+use Rattle.fits_rules.specs.Shape.{up_to, bitpix_in, if_named, axis_name, card_named, first_card, bitpix_of, naxis_of, axis_of, has_group_axes, says_groups, class_of, count_at, count_of, shape_of, Describes}
+use Rattle.fits_rules.specs.declared.axis_buffer.TheConstants.{MOST_AXES}
+use Rattle.fits_rules.specs.declared.rules.TheConstants.{LARGEST}
 use Rattle.fits_rules.specs.declared.class.Class.{Class}
 use Rattle.fits_rules.specs.declared.class.Class.TheVariants.{Primary, Groups}
 use Rattle.fits_rules.specs.declared.array_shape.Shape.{Shape}
@@ -113,12 +115,12 @@ bitpix_same after cards same = ap (λ (c : Option (List ℕ)). option_and_then b
 -- NAXIS
 naxis_same : (after cards : List (List ℕ)) → HaveSame after cards 3 → naxis_of after ≡ naxis_of cards
 unfolding naxis_of card_named
-naxis_same after cards same = ap (λ (c : Option (List ℕ)). option_and_then (up_to 999) (option_and_then integer_said (option_and_then (if_named (codes "NAXIS   ")) c))) same
+naxis_same after cards same = ap (λ (c : Option (List ℕ)). option_and_then (up_to MOST_AXES) (option_and_then integer_said (option_and_then (if_named (codes "NAXIS   ")) c))) same
 
 -- an axis
 axis_same : (after cards : List (List ℕ)) (n : ℕ) → HaveSame after cards (3 + n) → axis_of after n ≡ axis_of cards n
 unfolding axis_of card_named
-axis_same after cards n same = ap (λ (c : Option (List ℕ)). option_and_then (up_to largest) (option_and_then integer_said (option_and_then (if_named (axis_name n)) c))) same
+axis_same after cards n same = ap (λ (c : Option (List ℕ)). option_and_then (up_to LARGEST) (option_and_then integer_said (option_and_then (if_named (axis_name n)) c))) same
 
 -- two headers with the same lead of GROUPS have the same class
 groups_same : (after cards : List (List ℕ)) → lead_card after (codes "GROUPS  ") ≡ lead_card cards (codes "GROUPS  ") → says_groups after ≡ says_groups cards
@@ -134,15 +136,15 @@ class_same false after cards first axes same = refl
 -- the count that a lead says, wherever it stands, or the default without a lead
 abbrev count_said : ℕ → Option (List ℕ) → Option ℕ
 count_said default None = Some default
-count_said default (Some card) = option_and_then (up_to largest) (integer_said card)
+count_said default (Some card) = option_and_then (up_to LARGEST) (integer_said card)
 
 -- a count that a card says
-card_count : (default n : ℕ) (c : Option (List ℕ)) → option_and_then (up_to largest) (option_and_then integer_said c) ≡ Some n → count_said default c ≡ Some n
+card_count : (default n : ℕ) (c : Option (List ℕ)) → option_and_then (up_to LARGEST) (option_and_then integer_said c) ≡ Some n → count_said default c ≡ Some n
 card_count default n None e = absurd (cc)
 card_count default n (Some card) e = e
 
 -- and the other way round
-count_card : (default n place : ℕ) (c : Option (List ℕ)) → (c ≡ None → ⊥) → count_said default c ≡ Some n → ok_or (option_and_then (up_to largest) (option_and_then integer_said c)) place ≡ Ok n
+count_card : (default n place : ℕ) (c : Option (List ℕ)) → (c ≡ None → ⊥) → count_said default c ≡ Some n → ok_or (option_and_then (up_to LARGEST) (option_and_then integer_said c)) place ≡ Ok n
 count_card default n place None there e = absurd (there refl)
 count_card default n place (Some card) there e = rw e refl
 
@@ -150,7 +152,7 @@ count_card default n place (Some card) there e = rw e refl
 from_count : (cards : List (List ℕ)) (default n : ℕ) (o : Option ℕ) → count_at cards default o ≡ Ok n → count_said default (option_and_then (card_at cards) o) ≡ Some n
 from_count cards default n None e = let same : default ≡ n = cc in ap Some same
 from_count cards default n (Some place) e =
-    card_count default n (card_at cards place) (ok_or_ok (option_and_then (up_to largest) (option_and_then integer_said (card_at cards place))) place n e)
+    card_count default n (card_at cards place) (ok_or_ok (option_and_then (up_to LARGEST) (option_and_then integer_said (card_at cards place))) place n e)
 
 -- and the other way round
 to_count : (cards : List (List ℕ)) (default n : ℕ) (o : Option ℕ) → ((place : ℕ) → o ≡ Some place → card_at cards place ≡ None → ⊥) → count_said default (option_and_then (card_at cards) o) ≡ Some n → count_at cards default o ≡ Ok n

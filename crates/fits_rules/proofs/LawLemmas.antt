@@ -10,7 +10,9 @@ use Rattle.fits_rules.specs.Class.{is_primary, has_counts, extension_class}
 use Rattle.fits_card.specs.Header.{card_at}
 use Rattle.fits_rules.specs.Lead.{lead_place}
 use Rattle.fits_rules.specs.Reads.{integer_said, string_said}
-use Rattle.fits_rules.specs.Shape.{largest, up_to, is_bitpix, bitpix_in, integer_named, bitpix_of, naxis_of, axis_name, axis_of, has_group_axes, says_groups, class_of, count_at, count_of, shape_of, IsBounded}
+use Rattle.fits_rules.specs.Shape.{up_to, is_bitpix, bitpix_in, integer_named, bitpix_of, naxis_of, axis_name, axis_of, has_group_axes, says_groups, class_of, count_at, count_of, shape_of, IsBounded}
+use Rattle.fits_rules.specs.declared.axis_buffer.TheConstants.{MOST_AXES}
+use Rattle.fits_rules.specs.declared.rules.TheConstants.{LARGEST}
 use Rattle.fits_rules.specs.declared.class.Class.{Class}
 use Rattle.fits_rules.specs.declared.class.Class.TheVariants.{Primary, Groups, Image, Table, Other}
 use Rattle.fits_rules.specs.declared.array_shape.Shape.{Shape}
@@ -31,14 +33,14 @@ said_bound limit None n e = absurd (cc)
 said_bound limit (Some number) n e = up_to_bound limit number n e
 
 -- each number that the rules limit is in its range
-axis_bound : (cards : List (List ℕ)) (n axis : ℕ) → axis_of cards n ≡ Some axis → axis ≤ largest
+axis_bound : (cards : List (List ℕ)) (n axis : ℕ) → axis_of cards n ≡ Some axis → axis ≤ LARGEST
 unfolding axis_of
-axis_bound cards n axis e = said_bound largest (integer_named cards (3 + n) (axis_name n)) axis e
+axis_bound cards n axis e = said_bound LARGEST (integer_named cards (3 + n) (axis_name n)) axis e
 
 -- NAXIS
-naxis_bound : (cards : List (List ℕ)) (naxis : ℕ) → naxis_of cards ≡ Some naxis → naxis ≤ 999
+naxis_bound : (cards : List (List ℕ)) (naxis : ℕ) → naxis_of cards ≡ Some naxis → naxis ≤ MOST_AXES
 unfolding naxis_of
-naxis_bound cards naxis e = said_bound 999 (integer_named cards 3 (codes "NAXIS   ")) naxis e
+naxis_bound cards naxis e = said_bound MOST_AXES (integer_named cards 3 (codes "NAXIS   ")) naxis e
 
 -- BITPIX
 bitpix_bound : (cards : List (List ℕ)) (bitpix : ℤ) → bitpix_of cards ≡ Some bitpix → IsTrue (is_bitpix bitpix)
@@ -49,20 +51,20 @@ bitpix_bound cards bitpix e =
     subst (λ (z : ℤ). IsTrue (is_bitpix z)) kept.1 kept.0)
 
 -- the axes, one by one
-axes_bound : (cards : List (List ℕ)) (axes : List ℕ) (first : ℕ) → ((n : ℕ) → n < length axes → axis_of cards (first + n) ≡ slice_get axes n) → All (λ (axis : ℕ). axis ≤ largest) axes
-axes_bound cards [] first there = All-nil (λ (axis : ℕ). axis ≤ largest)
+axes_bound : (cards : List (List ℕ)) (axes : List ℕ) (first : ℕ) → ((n : ℕ) → n < length axes → axis_of cards (first + n) ≡ slice_get axes n) → All (λ (axis : ℕ). axis ≤ LARGEST) axes
+axes_bound cards [] first there = All-nil (λ (axis : ℕ). axis ≤ LARGEST)
 axes_bound cards (axis ∷ axes) first there =
-    All-cons (λ (axis : ℕ). axis ≤ largest) axis axes (axis_bound cards (first + 0) axis (there 0 (omega arith)))
+    All-cons (λ (axis : ℕ). axis ≤ LARGEST) axis axes (axis_bound cards (first + 0) axis (there 0 (omega arith)))
     (axes_bound cards axes (first + 1) (λ n within. let same : first + 1 + n ≡ first + suc n = omega arith in ap (axis_of cards) same ∙ there (suc n) (omega arith)))
 
 -- a count is below its limit
-counted_bound : (cards : List (List ℕ)) (default n : ℕ) (o : Option ℕ) → default ≤ largest → count_at cards default o ≡ Ok n → n ≤ largest
+counted_bound : (cards : List (List ℕ)) (default n : ℕ) (o : Option ℕ) → default ≤ LARGEST → count_at cards default o ≡ Ok n → n ≤ LARGEST
 counted_bound cards default n None small e = let same : n ≡ default = cc in omega arith
 counted_bound cards default n (Some lead) small e =
-    said_bound largest (option_and_then integer_said (card_at cards lead)) n (ok_or_ok (option_and_then (up_to largest) (option_and_then integer_said (card_at cards lead))) lead n e)
+    said_bound LARGEST (option_and_then integer_said (card_at cards lead)) n (ok_or_ok (option_and_then (up_to LARGEST) (option_and_then integer_said (card_at cards lead))) lead n e)
 
 -- PCOUNT and GCOUNT
-count_bound : (class : Class) (cards : List (List ℕ)) (name : List ℕ) (default n : ℕ) → default ≤ largest → count_of class cards name default ≡ Ok n → n ≤ largest
+count_bound : (class : Class) (cards : List (List ℕ)) (name : List ℕ) (default n : ℕ) → default ≤ LARGEST → count_of class cards name default ≡ Ok n → n ≤ LARGEST
 unfolding count_of
 count_bound class cards name default n small e = elim (cases_Bool (has_counts class)) [
   | inl some ↦ counted_bound cards default n (lead_place cards name) small (sym (cond-true (has_counts class) (count_at cards default (lead_place cards name)) (Ok default) some) ∙ e)

@@ -24,7 +24,7 @@ none_more cards name i before here = record { none = λ k h. ⊎_elim (λ lt. be
     same k h ge = omega arith
 
 -- the first one that is
-lead_at : (cards : List (List ℕ)) (name : List ℕ) (i : ℕ) → NoneBefore cards name i → i < length cards → is_value_of name (get_or cards i []) ≡ true → Some (i + 1) ≡ lead_place cards name
+pub lead_at : (cards : List (List ℕ)) (name : List ℕ) (i : ℕ) → NoneBefore cards name i → i < length cards → is_value_of name (get_or cards i []) ≡ true → Some (i + 1) ≡ lead_place cards name
 unfolding lead_place
 lead_at cards name i before within here =
     let at : position_or_len (is_value_of name) cards ≡ i = position_or_len_is (is_value_of name) cards i [] (omega arith) before.none (λ _. here) in

@@ -8,7 +8,9 @@ use Rattle.fits_rules.specs.Class.{has_counts}
 use Rattle.fits_card.specs.Header.{card_at}
 use Rattle.fits_rules.specs.Lead.{lead_place}
 use Rattle.fits_rules.specs.Reads.{integer_said}
-use Rattle.fits_rules.specs.Shape.{each, ◌>>=◌, largest, up_to, bitpix_in, if_named, card_named, integer_named, first_card, bitpix_of, naxis_of, axis_of, axes_of, class_of, count_at, count_of, shape_of}
+use Rattle.fits_rules.specs.Shape.{each, ◌>>=◌, up_to, bitpix_in, if_named, card_named, integer_named, first_card, bitpix_of, naxis_of, axis_of, axes_of, class_of, count_at, count_of, shape_of}
+use Rattle.fits_rules.specs.declared.axis_buffer.TheConstants.{MOST_AXES}
+use Rattle.fits_rules.specs.declared.rules.TheConstants.{LARGEST}
 use Rattle.fits_rules.specs.declared.class.Class.{Class}
 use Rattle.fits_rules.proofs.AxesLemmas.{axis_within}
 use Rattle.fits_rules.proofs.DescribesLemmas.{ok_or_ok}
@@ -55,7 +57,7 @@ bitpix_within cards bitpix is =
 pub naxis_within : (cards : List (List ℕ)) (naxis : ℕ) → naxis_of cards ≡ Some naxis → 3 ≤ length cards
 unfolding naxis_of
 naxis_within cards naxis is =
-    option_and_then_some (up_to 999) (integer_named cards 3 (codes "NAXIS   ")) naxis is (λ number e _. integer_within cards 3 (codes "NAXIS   ") number (omega arith) e)
+    option_and_then_some (up_to MOST_AXES) (integer_named cards 3 (codes "NAXIS   ")) naxis is (λ number e _. integer_within cards 3 (codes "NAXIS   ") number (omega arith) e)
 
 -- the first broken axis
 axes_near_from : (cards : List (List ℕ)) (count first place : ℕ) → 2 + first ≤ length cards → each (λ n. ok_or (axis_of cards n) (3 + n)) (range_with_len first count) ≡ Err place → IsNear cards place
@@ -86,7 +88,7 @@ count_near class cards name default place e = elim (cases_Bool (has_counts class
     counted : (o : Option ℕ) → o ≡ lead_place cards name → count_at cards default o ≡ Err place → IsNear cards place
     counted None at is = absurd (cc)
     counted (Some lead) at is =
-        let same : place ≡ lead = ok_or_err (option_and_then (up_to largest) (option_and_then integer_said (card_at cards lead))) lead place is in
+        let same : place ≡ lead = ok_or_err (option_and_then (up_to LARGEST) (option_and_then integer_said (card_at cards lead))) lead place is in
         let within = lead_within cards name lead (sym at) in
         (omega arith, omega arith)
 

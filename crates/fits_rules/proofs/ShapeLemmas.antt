@@ -14,7 +14,9 @@ use Rattle.fits_rules.specs.declared.class.Class.{Class}
 use Rattle.fits_rules.specs.declared.class.Class.TheVariants.{Primary, Groups}
 use Rattle.std.specs.Fmt.{decimal}
 use Rattle.std.proofs.lemmas.Fmt.{decimal_digit, decimal_step}
-use Rattle.fits_rules.specs.Shape.{largest, up_to, bitpix_in, axis_name, card_named, if_named, first_card, bitpix_of, naxis_of, axis_of, has_group_axes, says_groups, class_of, count_at, count_of}
+use Rattle.fits_rules.specs.Shape.{up_to, bitpix_in, axis_name, card_named, if_named, first_card, bitpix_of, naxis_of, axis_of, has_group_axes, says_groups, class_of, count_at, count_of}
+use Rattle.fits_rules.specs.declared.axis_buffer.TheConstants.{MOST_AXES}
+use Rattle.fits_rules.specs.declared.rules.TheConstants.{LARGEST}
 use Rattle.fits_card.specs.Header.{card_at}
 use Rattle.fits_rules.specs.Lead.{lead_place, lead_card}
 
@@ -82,26 +84,26 @@ bitpix_missing cards at = ap (λ c. option_and_then bitpix_in (option_and_then i
 pub ruleset bitpix_steps = (bitpix_there, bitpix_missing)
 
 -- the card of NAXIS
-pub naxis_there : (cards : List (List ℕ)) (card : List ℕ) (o : Option ℕ) → Some card ≡ card_named cards 3 (codes "NAXIS   ") → o ≡ option_and_then (up_to 999) (integer_said card) → o ≡ naxis_of cards
+pub naxis_there : (cards : List (List ℕ)) (card : List ℕ) (o : Option ℕ) → Some card ≡ card_named cards 3 (codes "NAXIS   ") → o ≡ option_and_then (up_to MOST_AXES) (integer_said card) → o ≡ naxis_of cards
 unfolding naxis_of
-naxis_there cards card o at is = is ∙ ap (λ c. option_and_then (up_to 999) (option_and_then integer_said c)) at
+naxis_there cards card o at is = is ∙ ap (λ c. option_and_then (up_to MOST_AXES) (option_and_then integer_said c)) at
 
 -- no card of NAXIS
 pub naxis_missing : (cards : List (List ℕ)) → None ≡ card_named cards 3 (codes "NAXIS   ") → None ≡ naxis_of cards
 unfolding naxis_of
-naxis_missing cards at = ap (λ c. option_and_then (up_to 999) (option_and_then integer_said c)) at
+naxis_missing cards at = ap (λ c. option_and_then (up_to MOST_AXES) (option_and_then integer_said c)) at
 
 pub ruleset naxis_steps = (naxis_there, naxis_missing)
 
 -- the card of an axis
-pub axis_there : (cards : List (List ℕ)) (n : ℕ) (card : List ℕ) (o : Option ℕ) → Some card ≡ card_named cards (3 + n) (axis_name n) → o ≡ option_and_then (up_to largest) (integer_said card) → o ≡ axis_of cards n
+pub axis_there : (cards : List (List ℕ)) (n : ℕ) (card : List ℕ) (o : Option ℕ) → Some card ≡ card_named cards (3 + n) (axis_name n) → o ≡ option_and_then (up_to LARGEST) (integer_said card) → o ≡ axis_of cards n
 unfolding axis_of
-axis_there cards n card o at is = is ∙ ap (λ c. option_and_then (up_to largest) (option_and_then integer_said c)) at
+axis_there cards n card o at is = is ∙ ap (λ c. option_and_then (up_to LARGEST) (option_and_then integer_said c)) at
 
 -- no card of an axis
 pub axis_missing : (cards : List (List ℕ)) (n : ℕ) → None ≡ card_named cards (3 + n) (axis_name n) → None ≡ axis_of cards n
 unfolding axis_of
-axis_missing cards n at = ap (λ c. option_and_then (up_to largest) (option_and_then integer_said c)) at
+axis_missing cards n at = ap (λ c. option_and_then (up_to LARGEST) (option_and_then integer_said c)) at
 
 pub ruleset axis_steps = (axis_there, axis_missing)
 
@@ -144,12 +146,12 @@ groups_missing cards lead = ap (λ o. unwrap_or (option_and_then logical_said (o
 pub ruleset groups_steps = (still_in_range, reads_both, groups_there, groups_gone, groups_missing)
 
 -- a count that a card says
-pub number_there : (cards : List (List ℕ)) (place : ℕ) (card : List ℕ) (o : Option ℕ) → Some card ≡ card_at cards place → o ≡ option_and_then (up_to largest) (integer_said card) → o ≡ option_and_then (up_to largest) (option_and_then integer_said (card_at cards place))
-number_there cards place card o at is = is ∙ ap (λ c. option_and_then (up_to largest) (option_and_then integer_said c)) at
+pub number_there : (cards : List (List ℕ)) (place : ℕ) (card : List ℕ) (o : Option ℕ) → Some card ≡ card_at cards place → o ≡ option_and_then (up_to LARGEST) (integer_said card) → o ≡ option_and_then (up_to LARGEST) (option_and_then integer_said (card_at cards place))
+number_there cards place card o at is = is ∙ ap (λ c. option_and_then (up_to LARGEST) (option_and_then integer_said c)) at
 
 -- no card says none
-pub number_missing : (cards : List (List ℕ)) (place : ℕ) → None ≡ card_at cards place → None ≡ option_and_then (up_to largest) (option_and_then integer_said (card_at cards place))
-number_missing cards place at = ap (λ c. option_and_then (up_to largest) (option_and_then integer_said c)) at
+pub number_missing : (cards : List (List ℕ)) (place : ℕ) → None ≡ card_at cards place → None ≡ option_and_then (up_to LARGEST) (option_and_then integer_said (card_at cards place))
+number_missing cards place at = ap (λ c. option_and_then (up_to LARGEST) (option_and_then integer_said c)) at
 
 pub ruleset number_steps = (number_there, number_missing)
 
@@ -164,11 +166,11 @@ unfolding count_of
 count_default class cards name default some lead = sym (cond-true (has_counts class) _ _ some ∙ ap (count_at cards default) (sym lead))
 
 -- with a lead
-pub count_lead : (class : Class) (old new : CardStore) (count : ℕ) (change : Change) (name : List ℕ) (default place : ℕ) (o : Option ℕ) (r : Result ℕ ℕ) → has_counts class ≡ true → ReadsUpTo old new count → Some place ≡ lead_place (cards_after old.header.cards change) name → o ≡ option_and_then (up_to largest) (option_and_then integer_said (card_at (cards_after new.header.cards change) place)) → r ≡ ok_or o place → r ≡ count_of class (cards_after old.header.cards change) name default
+pub count_lead : (class : Class) (old new : CardStore) (count : ℕ) (change : Change) (name : List ℕ) (default place : ℕ) (o : Option ℕ) (r : Result ℕ ℕ) → has_counts class ≡ true → ReadsUpTo old new count → Some place ≡ lead_place (cards_after old.header.cards change) name → o ≡ option_and_then (up_to LARGEST) (option_and_then integer_said (card_at (cards_after new.header.cards change) place)) → r ≡ ok_or o place → r ≡ count_of class (cards_after old.header.cards change) name default
 unfolding count_of
 count_lead class old new count change name default place o r some reads lead is gives =
     let cards = cards_after old.header.cards change in
-    gives ∙ (ap (λ (x : Option ℕ). ok_or x place) (is ∙ ap (λ (cs : List (List ℕ)). option_and_then (up_to largest) (option_and_then integer_said (card_at cs place))) (reads_header old new count change reads))
+    gives ∙ (ap (λ (x : Option ℕ). ok_or x place) (is ∙ ap (λ (cs : List (List ℕ)). option_and_then (up_to LARGEST) (option_and_then integer_said (card_at cs place))) (reads_header old new count change reads))
     ∙ (ap (count_at cards default) lead ∙ sym (cond-true (has_counts class) (count_at cards default (lead_place cards name)) (Ok default) some)))
 
 pub ruleset count_steps = (still_in_range, reads_both, count_none, count_default, count_lead)

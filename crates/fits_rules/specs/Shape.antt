@@ -8,9 +8,11 @@ use Rattle.fits_rules.specs.Reads.{integer_said, logical_said, string_said}
 use Rattle.fits_card.specs.Header.{card_at}
 use Rattle.fits_rules.specs.Lead.{lead_place, lead_card}
 use Rattle.fits_rules.specs.Class.{has_counts, extension_class}
+use Rattle.fits_rules.specs.declared.axis_buffer.TheConstants.{MOST_AXES}
 use Rattle.fits_rules.specs.declared.class.Class.{Class}
 use Rattle.fits_rules.specs.declared.class.Class.TheVariants.{Primary, Groups}
 use Rattle.fits_rules.specs.declared.array_shape.Shape.{Shape}
+use Rattle.fits_rules.specs.declared.rules.TheConstants.{LARGEST}
 
 -- what follows from a value; an error stays
 infixl 10 ◌>>=◌
@@ -25,10 +27,6 @@ each give (x ∷ xs) = do
   y ← give x
   ys ← each give xs
   Ok (y ∷ ys)
-
--- the largest axis and count
-abbrev pub largest : ℕ
-largest = 9223372036854775807
 
 -- the number, where it is from 0 to a limit
 abbrev pub up_to : ℕ → ℤ → Option ℕ
@@ -70,11 +68,11 @@ bitpix_of cards = option_and_then bitpix_in (integer_named cards 2 (codes "BITPI
 
 -- place 3: NAXIS, from 0 to 999
 unfoldable pub naxis_of : List (List ℕ) → Option ℕ
-naxis_of cards = option_and_then (up_to 999) (integer_named cards 3 (codes "NAXIS   "))
+naxis_of cards = option_and_then (up_to MOST_AXES) (integer_named cards 3 (codes "NAXIS   "))
 
 -- place 3 + n: NAXISn
 unfoldable pub axis_of : List (List ℕ) → ℕ → Option ℕ
-axis_of cards n = option_and_then (up_to largest) (integer_named cards (3 + n) (axis_name n))
+axis_of cards n = option_and_then (up_to LARGEST) (integer_named cards (3 + n) (axis_name n))
 
 -- the axes from 1 to NAXIS, or the place of the first that breaks its rule
 unfoldable pub axes_of : List (List ℕ) → ℕ → Result (List ℕ) ℕ
@@ -98,7 +96,7 @@ class_of primary cards first axes =
 -- the count that the lead at a place says, or its default without a lead (own); else that place
 abbrev pub count_at : List (List ℕ) → ℕ → Option ℕ → Result ℕ ℕ
 count_at cards default None = Ok default
-count_at cards default (Some place) = ok_or (option_and_then (up_to largest) (option_and_then integer_said (card_at cards place))) place
+count_at cards default (Some place) = ok_or (option_and_then (up_to LARGEST) (option_and_then integer_said (card_at cards place))) place
 
 -- PCOUNT or GCOUNT by its lead, where the class has counts, else the default (4.4.1.2, 6)
 unfoldable pub count_of : Class → List (List ℕ) → List ℕ → ℕ → Result ℕ ℕ
@@ -131,7 +129,7 @@ pub record Describes (primary : Bool) (cards : List (List ℕ)) (shape : Shape) 
 -- what each shape has that a header describes (4.4.1.1, 4.4.1.2)
 pub record IsBounded (shape : Shape) : Type 0 where
   pub bitpix : IsTrue (is_bitpix shape.bitpix)
-  pub count : length shape.axes ≤ 999
-  pub axes : All (λ axis. axis ≤ largest) shape.axes
-  pub pcount : shape.pcount ≤ largest
-  pub gcount : shape.gcount ≤ largest
+  pub count : length shape.axes ≤ MOST_AXES
+  pub axes : All (λ axis. axis ≤ LARGEST) shape.axes
+  pub pcount : shape.pcount ≤ LARGEST
+  pub gcount : shape.gcount ≤ LARGEST

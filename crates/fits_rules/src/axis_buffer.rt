@@ -1,4 +1,5 @@
 ghost use Rattle.std.specs.Prelude.{◌≡◌, ◌<◌, [], ◌∷◌, ◌++◌, length};
+ghost use Rattle.fits_rules.specs.declared.axis_buffer.TheConstants.{MOST_AXES};
 
 use std::marker::Model;
 
@@ -14,12 +15,13 @@ pub(crate) struct AxisBuffer {
 
 impl Model for AxisBuffer {
     ghost use Rattle.std.specs.Prelude.{ℕ, ◌≤◌, List, take};
+    ghost use Rattle.fits_rules.specs.declared.axis_buffer.TheConstants.{MOST_AXES};
 
     ghost Value = { List ℕ };
 
     ghost view = { λ axes. take axes.len axes.numbers };
 
-    ghost invariant = { λ axes. axes.len ≤ 999 };
+    ghost invariant = { λ axes. axes.len ≤ MOST_AXES };
 }
 
 impl AxisBuffer {
@@ -34,7 +36,7 @@ impl AxisBuffer {
 
     /// Puts one more axis after the others.
     pub(crate) fn push(&mut self, axis: u64)
-        requires { length self.old < 999 }
+        requires { length self.old < MOST_AXES }
         ensures { self.new ≡ self.old ++ axis ∷ [] }
     {
         self.numbers[self.len] = axis;

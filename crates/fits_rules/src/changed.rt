@@ -6,10 +6,7 @@ ghost use Rattle.fits_rules.specs.Lead.{lead_place, lead_card};
 ghost use Rattle.fits_card.specs.CardList.{ReadsUpTo};
 
 use crate::leads::is_value_of;
-use fits_card::card::Card;
-use fits_card::card_list::CardList;
-use fits_card::change::Change;
-use fits_card::name::Name;
+use fits_card::{Card, CardList, Change, Name};
 
 /// The card at a place after the change.
 #[tactic(auto, using(crate::proofs::LeadLemmas::card_steps))]

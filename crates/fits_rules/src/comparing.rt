@@ -8,10 +8,7 @@ ghost use Rattle.fits_card.specs.CardList.{ReadsUpTo};
 
 use crate::array_shape::Shape;
 use crate::rules::{axis, bitpix, class, count, first_card, naxis};
-use fits_card::card::Card;
-use fits_card::card_list::CardList;
-use fits_card::change::Change;
-use fits_card::name::Name;
+use fits_card::{Card, CardList, Change, Name};
 
 // Whether BITPIX is that of the shape.
 fn has_bitpix(cards: &mut CardList, change: &Change, shape: &Shape) -> bool

@@ -4,12 +4,8 @@ ghost use Rattle.fits_rules.specs.Denotes.{is_numeric, CardDenotes, LeadDenotes}
 ghost use Rattle.fits_card.specs.CardList.{ReadsUpTo};
 
 use crate::leads::lead_card;
-use fits_card::card::Card;
-use fits_card::card_list::CardList;
-use fits_card::name::Name;
-use fits_value::number::denotes;
-use fits_value::reading::ValueKind;
-use fits_value::scan::scan_card;
+use fits_card::{Card, CardList, Name};
+use fits_value::{ValueKind, denotes, scan_card};
 
 // Whether values of this type are numbers.
 fn is_numeric(kind: ValueKind) -> bool

@@ -3,9 +3,8 @@ ghost use Rattle.std.specs.Prelude.{◌≡◌};
 ghost use Rattle.fits_rules.specs.Reads.{integer_said, in_64_bits};
 
 use crate::reads::spelling;
-use fits_card::card::Card;
-use fits_value::number::integer_of;
-use fits_value::reading::ValueKind;
+use fits_card::Card;
+use fits_value::{ValueKind, integer_of};
 
 /// An Integer, where there is one (FITS Standard 4.0, section 4.2.3).
 #[derive(Clone, Copy, PartialEq, Eq, Debug)]

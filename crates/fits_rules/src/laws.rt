@@ -37,7 +37,8 @@ pub fn shapes_are_described()
         → (shape_of primary cards ≡ Ok shape) ↔ Describes primary cards shape }
 {}
 
-/// A splice after the last axis that neither takes nor brings GROUPS, PCOUNT or GCOUNT keeps a shape.
+/// A splice after the last axis keeps a shape, where it neither takes nor brings GROUPS, PCOUNT or
+/// GCOUNT.
 pub fn later_splices_keep_shapes()
     ensures { LaterSplicesKeepShapes }
 {}

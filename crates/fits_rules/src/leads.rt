@@ -3,9 +3,7 @@ ghost use Rattle.std.specs.Prelude.{◌≡◌, ◌+◌, length, unwrap_or};
 ghost use Rattle.fits_rules.specs.Lead.{is_value_of, lead_place, lead_card};
 ghost use Rattle.fits_card.specs.CardList.{ReadsUpTo};
 
-use fits_card::card::Card;
-use fits_card::card_list::CardList;
-use fits_card::name::Name;
+use fits_card::{Card, CardList, Name};
 
 /// Whether a card has this name and a value.
 #[tactic(auto, unfolding(crate::specs::Lead::is_value_of))]

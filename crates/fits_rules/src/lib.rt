@@ -1,23 +1,23 @@
 //! What a header of a FITS file says of its data: shapes and sizes.
 #![tactic(auto)]
 
-pub mod array_shape;
-pub mod axes;
+mod array_shape;
+mod axes;
 mod axis_buffer;
 mod changed;
-pub mod class;
-pub mod comparing;
-pub mod denoting;
-pub mod image;
-pub mod integers;
-pub mod laws;
-pub mod leads;
-pub mod mandatory;
+mod class;
+mod comparing;
+mod denoting;
+mod image;
+mod integers;
+mod laws;
+mod leads;
+mod mandatory;
 mod reading;
 mod reads;
 mod rules;
 mod shape_reading;
-pub mod size;
+mod size;
 
 pub use array_shape::Shape;
 pub use axes::Axes;
@@ -26,6 +26,10 @@ pub use comparing::keeps_shape;
 pub use denoting::{card_denotes, lead_denotes};
 pub use image::image_bits;
 pub use integers::{IntegerSaid, integer_said};
+pub use laws::{
+    broken_places_are_near, classes_tell_the_primary_hdu, later_splices_keep_shapes,
+    shapes_are_bounded, shapes_are_described, shapes_compare_exactly,
+};
 pub use leads::{lead, lead_card};
 pub use mandatory::{ShapeFault, shape};
 pub use size::data_bytes;

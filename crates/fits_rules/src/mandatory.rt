@@ -1,4 +1,5 @@
-//! The shape that a header's mandatory keywords describe (FITS Standard 4.0, sections 4.4.1.1, 4.4.1.2 and 6).
+//! The shape that a header's mandatory keywords describe (FITS Standard 4.0, sections 4.4.1.1,
+//! 4.4.1.2 and 6).
 ghost use Rattle.std.specs.Prelude.{◌≡◌, ◌≤◌, ◌+◌, ◌*◌, ◌↔◌, ℕ, List, length, IsTrue, IfOk, IsErrOf, Ok, Err};
 ghost use Rattle.fits_card.specs.Change.{cards_after, IsInRange};
 ghost use Rattle.fits_rules.specs.Class.{is_primary};
@@ -7,17 +8,19 @@ ghost use Rattle.fits_card.specs.CardList.{ReadsUpTo};
 
 use crate::array_shape::Shape;
 use crate::reading::read_shape;
-use fits_card::card_list::CardList;
-use fits_card::cards::Cards;
-use fits_card::change::Change;
+use fits_card::{CardList, Cards, Change};
 use std::alloc::{AllocError, Global};
+use thiserror::Error;
 
 /// Why a header has no shape.
-#[derive(Clone, Copy, PartialEq, Eq, Debug)]
+#[derive(Clone, Copy, PartialEq, Eq, Debug, Error)]
 pub enum ShapeFault {
-    /// The card at this place, counted from 1, breaks a rule. A missing card's place is one past the last card's.
+    /// The card at this place, counted from 1, breaks a rule. A missing card's place is one past
+    /// the last card's.
+    #[error("card {0} breaks a rule of the mandatory keywords, or is missing")]
     Bad(usize),
     /// Memory was refused.
+    #[error("out of memory")]
     Memory,
 }
 

@@ -9,10 +9,7 @@ use crate::axis_buffer::AxisBuffer;
 use crate::class::Class;
 use crate::rules::{axes, bitpix, class, count, first_card, naxis};
 use crate::shape_reading::ShapeReading;
-use fits_card::card::Card;
-use fits_card::card_list::CardList;
-use fits_card::change::Change;
-use fits_card::name::Name;
+use fits_card::{Card, CardList, Change, Name};
 
 // The first card, BITPIX and NAXIS.
 #[derive(Drop)]

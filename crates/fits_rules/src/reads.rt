@@ -5,16 +5,15 @@ ghost use Rattle.fits_value.specs.Says.{value_spelled};
 ghost use Rattle.fits_value.specs.Spelling.{Spells};
 ghost use Rattle.fits_value.specs.Value.{kind_of};
 ghost use Rattle.fits_value.specs.declared.value.Value.{Value};
+ghost use Rattle.fits_rules.specs.declared.rules.TheConstants.{LARGEST};
 ghost use Rattle.fits_rules.specs.Class.{extension_class};
 ghost use Rattle.fits_rules.specs.Reads.{value_said, integer_said, logical_said, string_said};
 ghost use Rattle.fits_rules.specs.Shape.{is_bitpix, bitpix_in, up_to};
 
 use crate::class::Class;
 use crate::integers::{IntegerSaid, integer_said};
-use fits_card::card::Card;
-use fits_value::reading::ValueKind;
-use fits_value::scan::scan_card;
-use fits_value::strings::{CardString, card_string};
+use fits_card::Card;
+use fits_value::{CardString, ValueKind, card_string, scan_card};
 
 /// The bytes of the card's value, where it has one of this kind.
 #[tactic(auto, using(crate::proofs::ReadLemmas::spelling_steps))]
@@ -58,7 +57,7 @@ fn is_bitpix(number: i64) -> bool
 /// The integer, where it is from 0 to a limit.
 #[tactic(auto, using(crate::proofs::IntegerLemmas::number_steps))]
 pub(crate) fn number_up_to(card: &Card, limit: u64) -> Option<u64>
-    requires { limit ≤ 9223372036854775807 }
+    requires { limit ≤ LARGEST }
     ensures value { result ≡ option_and_then (up_to limit) (integer_said card.now) }
     ensures within { IfSome result (λ number. number ≤ limit) }
 {

@@ -1,21 +1,20 @@
-//! The rules of the mandatory keywords, one by one, over the cards after a change (FITS Standard 4.0, sections 4.4.1.1, 4.4.1.2 and 6).
+//! The rules of the mandatory keywords, one by one, over the cards after a change (FITS Standard
+//! 4.0, sections 4.4.1.1, 4.4.1.2 and 6).
 ghost use Rattle.std.specs.Prelude.{◌≡◌, ◌≤◌, ◌+◌, ◌<◌, length, option_and_then, IfSome};
 ghost use Rattle.fits_card.specs.Change.{cards_after, IsInRange};
 ghost use Rattle.fits_card.specs.Header.{card_at};
 ghost use Rattle.fits_rules.specs.Reads.{integer_said};
-ghost use Rattle.fits_rules.specs.Shape.{largest, up_to, axis_name, card_named, first_card, bitpix_of, naxis_of, axis_of, axes_of, has_group_axes, says_groups, class_of, count_of};
+ghost use Rattle.fits_rules.specs.Shape.{up_to, axis_name, card_named, first_card, bitpix_of, naxis_of, axis_of, axes_of, has_group_axes, says_groups, class_of, count_of};
+ghost use Rattle.fits_rules.specs.declared.rules.TheConstants.{LARGEST};
 ghost use Rattle.fits_card.specs.CardList.{ReadsUpTo};
 
 use crate::axis_buffer::{AxisBuffer, MOST_AXES};
 use crate::changed::{card_at, lead_place};
 use crate::class::Class;
 use crate::reads;
-use fits_card::card::Card;
-use fits_card::card_list::CardList;
-use fits_card::change::Change;
-use fits_card::name::Name;
+use fits_card::{Card, CardList, Change, Name};
 
-/// The largest axis, PCOUNT and GCOUNT.
+/// The largest axis, PCOUNT and GCOUNT (FITS Standard 4.0, sections 4.4.1.1 and 4.4.1.2).
 const LARGEST: u64 = 9223372036854775807;
 
 // The digit of a number below 10.
@@ -160,7 +159,7 @@ fn count_at(cards: &mut CardList, change: &Change, place: usize) -> Option<u64>
     requires in_range { IsInRange cards.old.header.cards change.now }
     requires from { 1 ≤ place }
     ensures value { result ≡
-        option_and_then (up_to largest) (option_and_then integer_said
+        option_and_then (up_to LARGEST) (option_and_then integer_said
         (card_at (cards_after cards.old.header.cards change.now) place)) }
     ensures work { ReadsUpTo cards.old cards.new 1 }
 {

@@ -71,13 +71,14 @@ fn values(shape: &Shape) -> Option<u64>
     }
 }
 
-/// How many bytes the data have, without the data fill (FITS Standard 4.0, sections 4.4.1.1, 4.4.1.2 and 6).
+/// How many bytes the data have, without the data fill (FITS Standard 4.0, sections 4.4.1.1, 4.4.1.2
+/// and 6).
 ///
-/// None is a number above 18446744073709551615, larger than any file. It takes no memory.
+/// None is a number of more than 64 bits, larger than any file. It takes no memory.
 #[tactic(auto, using(crate::proofs::SizeLemmas::size_steps), unfolding(crate::specs::Size::data_size))]
 pub fn data_bytes(shape: &Shape) -> Option<u64>
     ensures found { IfSome result (λ bytes. bytes ≡ data_size shape.now) }
-    ensures none { IfNone result (18446744073709551615 < data_size shape.now) }
+    ensures none { IfNone result (u64.MAX < data_size shape.now) }
 {
     times(shape.bitpix.unsigned_abs() / 8, values(shape))
 }
