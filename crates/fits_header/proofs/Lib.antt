@@ -1,0 +1,13 @@
+pub mod FilterLemmas
+pub mod IndexLemmas
+pub mod EntriesLemmas
+pub mod LeadLemmas
+pub mod OpenLemmas
+pub mod KeyLemmas
+pub mod CountLemmas
+pub mod ChangeLemmas
+pub mod NumberLemmas
+pub mod AnswerLemmas
+pub mod NameLemmas
+pub mod StandardFacts
+pub mod LinkLemmas

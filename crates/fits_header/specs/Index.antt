@@ -1,0 +1,68 @@
+-- Entries of names and places, sorted (own).
+use Rattle.std.specs.Prelude.{◌≡◌, ℕ, ◌+◌, ◌-◌, ◌==◌, ◌&&◌, ◌||◌, nat_lt, nat_le, Bool, false, not, List, [], ◌∷◌, ◌++◌, filter, AllPairs, Option, None, Some, if◌then◌else◌}
+use Rattle.fits_header.specs.Names.{name_number}
+use Rattle.fits_header.specs.declared.entry.Entry.{Entry}
+use Rattle.fits_header.specs.declared.key.Key.{Key}
+
+-- the entry of a card at a place
+abbrev pub entry_of : Key → ℕ → Entry
+entry_of key place = record { name = name_number key.name; place = place; has_value = key.has_value }
+
+-- the entries of cards, in the order of their places
+abbrev pub entries_from : ℕ → List Key → List Entry
+entries_from place [] = []
+entries_from place (key ∷ keys) = entry_of key place ∷ entries_from (place + 1) keys
+
+-- the entry has this name
+abbrev pub is_named : ℕ → Entry → Bool
+is_named name entry = entry.name == name
+
+-- the entry comes before one of this name and place
+abbrev pub comes_before : ℕ → ℕ → Entry → Bool
+comes_before name place entry =
+    nat_lt entry.name name || (entry.name == name && nat_lt entry.place place)
+
+-- the second doesn't come before the first
+abbrev pub IsInOrder : Entry → Entry → Type 0
+IsInOrder first second = comes_before first.name first.place second ≡ false
+
+-- by name, and those of a name by place
+abbrev pub IsSortedIndex : List Entry → Type 0
+IsSortedIndex entries = AllPairs IsInOrder entries
+
+-- of each name they have the same entries, in the same order
+abbrev pub AreSame : List Entry → List Entry → Type 0
+AreSame es fs = (name : ℕ) → filter (is_named name) es ≡ filter (is_named name) fs
+
+-- the entries are those of the cards, by name and then by place: what a stable sort gives
+pub record IsIndexOf (entries : List Entry) (keys : List Key) : Type 0 where
+  pub sorted : IsSortedIndex entries
+  pub same : AreSame entries (entries_from 1 keys)
+
+-- the entries with one more, where it goes
+abbrev pub added : List Entry → Entry → List Entry
+added entries entry =
+    filter (comes_before entry.name entry.place) entries
+    ++ entry ∷ filter (λ e. not (comes_before entry.name entry.place e)) entries
+
+-- the entry is of none of the places that go
+abbrev pub stays : ℕ → ℕ → Entry → Bool
+stays place removed entry = nat_lt entry.place place || nat_le removed (entry.place - place)
+
+-- its place once others come instead
+abbrev pub shifted : ℕ → ℕ → ℕ → Entry → Entry
+shifted place removed coming entry = record {
+  name = entry.name;
+  place = if nat_lt entry.place place then entry.place else (entry.place - removed) + coming;
+  has_value = entry.has_value;
+}
+
+-- the place of the first that has a value
+abbrev pub first_value : List Entry → Option ℕ
+first_value [] = None
+first_value (entry ∷ entries) = if entry.has_value then Some entry.place else first_value entries
+
+-- the places of entries
+abbrev pub places_in : List Entry → List ℕ
+places_in [] = []
+places_in (entry ∷ entries) = entry.place ∷ places_in entries

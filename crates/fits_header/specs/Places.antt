@@ -1,0 +1,19 @@
+-- The places of a keyword.
+use Rattle.std.specs.Prelude.{ℕ, ◌+◌, Bool, List, [], ◌∷◌, if◌then◌else◌}
+use Rattle.std.specs.Str.{bytes_eq}
+use Rattle.fits_card.specs.Card.{keyword_name}
+
+-- the card has this name (4.1.2.1)
+abbrev pub has_name : List ℕ → List ℕ → Bool
+has_name name card = bytes_eq (keyword_name card) name
+
+-- the places of those that have it, where the first stands at a place
+abbrev pub places_from : ℕ → List (List ℕ) → List ℕ → List ℕ
+places_from place [] name = []
+places_from place (card ∷ cards) name =
+    if has_name name card then place ∷ places_from (place + 1) cards name
+    else places_from (place + 1) cards name
+
+-- the places of the cards that have a name, ascending, counted from 1 (own)
+abbrev pub keyword_places : List (List ℕ) → List ℕ → List ℕ
+keyword_places cards name = places_from 1 cards name
