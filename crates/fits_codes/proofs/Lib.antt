@@ -1,0 +1,9 @@
+pub mod CalendarLemmas
+pub mod DateLemmas
+pub mod FixedLemmas
+pub mod HeaderLemmas
+pub mod LawLemmas
+pub mod MarkLemmas
+pub mod SaidLemmas
+pub mod SetLemmas
+pub mod StandardFacts

@@ -1,0 +1,9 @@
+pub mod Alone
+pub mod Calendar
+pub mod Code
+pub mod Date
+pub mod Fixed
+pub mod HeaderCodes
+pub mod Judged
+pub mod Keywords
+pub mod Mark
