@@ -1,4 +1,5 @@
 pub mod BlockLemmas
+pub mod CornerLemmas
 pub mod ExactLemmas
 pub mod JoinLemmas
 pub mod LeafLemmas

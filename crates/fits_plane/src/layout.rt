@@ -11,3 +11,21 @@ pub struct Layout {
     /// The stored number of undefined pixels.
     pub blank: Option<i64>,
 }
+
+impl Layout {
+    ghost use Rattle.std.specs.Prelude.{◌↔◌, IsTrue};
+    ghost use Rattle.fits_plane.specs.Layout.{IsLayout};
+
+    /// Whether it fits these bytes.
+    pub fn fits(self, bytes: &[u8]) -> bool
+        ensures { IsTrue result ↔ IsLayout self bytes.now }
+    {
+        let readable = match self.width {
+            0 => self.pixels == 0,
+            1 | 2 | 4 | 8 => self.pixels <= self.used / self.width,
+            _ => false,
+        };
+        let whole = bytes.len() % 2880 == 0 && bytes.len() <= 17_179_869_184;
+        readable && whole && self.used <= bytes.len()
+    }
+}

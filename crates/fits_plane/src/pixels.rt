@@ -1,8 +1,46 @@
 //! One pixel, read and written in a list of bytes.
-ghost use Rattle.std.specs.Prelude.{◌≡◌, ◌≤◌, ◌<◌, ◌*◌, ◌+◌, ◌⊎◌, ℕ, length, slice_index};
+ghost use Rattle.std.specs.Prelude.{◌≡◌, ◌≤◌, ◌<◌, ◌*◌, ◌+◌, ◌-ℤ◌, ◌⊎◌, ◌↔◌, ℕ, pos, IsTrue, length, slice_index, slice_index_or};
 ghost use Rattle.fits_plane.specs.Pixels.{pixel, IsWidth, IsStorable};
 
 use byteorder::{BigEndian, ByteOrder};
+
+/// Whether pixels of so many bytes can store a number.
+pub fn is_storable(width: usize, number: i128) -> bool
+    requires { IsWidth width }
+    ensures { IsTrue result ↔ IsStorable width number }
+{
+    match width {
+        1 => u8::try_from(number).is_ok(),
+        2 => i16::try_from(number).is_ok(),
+        4 => i32::try_from(number).is_ok(),
+        _ => i64::try_from(number).is_ok(),
+    }
+}
+
+/// Whether they can store a value less the offset.
+fn stores(width: usize, value: i128, offset: i128) -> bool
+    requires { IsWidth width }
+    ensures { IsTrue result ↔ IsStorable width (value -ℤ offset) }
+{
+    match value.checked_sub(offset) {
+        Some(number) => is_storable(width, number),
+        None => false,
+    }
+}
+
+/// Whether they can store each of these values less the offset.
+pub fn are_storable(width: usize, values: &[i128], offset: i128) -> bool
+    requires { IsWidth width }
+    ensures { IsTrue result ↔ ((k : ℕ) → k < length values.now
+        → IsStorable width (slice_index_or values.now k (pos 0) -ℤ offset)) }
+{
+    for i in 0..values.len() {
+        if !stores(width, values[i], offset) {
+            return false;
+        }
+    }
+    true
+}
 
 /// Stored pixel i.
 pub(crate) fn pixel_at(bytes: &[u8], width: usize, i: usize) -> i64
@@ -28,6 +66,12 @@ pub(crate) fn put_pixel(bytes: &mut [u8], width: usize, i: usize, stored: i64)
     ensures other { (j : ℕ) → (j < i * width) ⊎ ((i + 1) * width ≤ j)
         → slice_index bytes.new j ≡ slice_index bytes.old j }
 {
-    let at = i * width;
-    BigEndian::write_int(&mut bytes[at..], stored, width);
+    let pixel = &mut bytes[i * width..];
+    // A width that is known here is written as one number.
+    match width {
+        1 => BigEndian::write_int(pixel, stored, 1),
+        2 => BigEndian::write_int(pixel, stored, 2),
+        4 => BigEndian::write_int(pixel, stored, 4),
+        _ => BigEndian::write_int(pixel, stored, 8),
+    }
 }

@@ -1,9 +1,31 @@
 //! Rectangles of pixels: how long they are, and where their rows begin.
-ghost use Rattle.std.specs.Prelude.{◌≡◌, ◌<◌, ◌+◌, ◌*◌, ◌^◌, ◌≤◌};
+ghost use Rattle.std.specs.Prelude.{◌≡◌, ◌<◌, ◌+◌, ◌*◌, ◌^◌, ◌≤◌, ◌↔◌, IsTrue};
 ghost use Rattle.fits_plane.specs.Rectangle.{IsRectangle, product, rectangle_size, row_size, row_count, place};
 
+/// Whether two corners lie in one axis, in order.
+fn lie_in(axis: u64, low: u64, high: u64) -> bool
+    ensures { IsTrue result ↔ (1 ≤ low) × ((low ≤ high) × (high ≤ axis)) }
+{
+    1 <= low && low <= high && high <= axis
+}
+
+/// Whether these corners, counted from 1, lie in the axes.
+pub fn is_rectangle(axes: &[u64], lo: &[u64], hi: &[u64]) -> bool
+    ensures { IsTrue result ↔ IsRectangle axes.now lo.now hi.now }
+{
+    if lo.len() != axes.len() || hi.len() != axes.len() {
+        return false;
+    }
+    for i in 0..axes.len() {
+        if !lie_in(axes[i], lo[i], hi[i]) {
+            return false;
+        }
+    }
+    true
+}
+
 /// How many pixels a rectangle has.
-fn size(axes: &[u64], lo: &[u64], hi: &[u64]) -> u64
+pub fn rectangle_len(axes: &[u64], lo: &[u64], hi: &[u64]) -> u64
     requires rectangle { IsRectangle axes.now lo.now hi.now }
     requires small { product axes.now < 2 ^ 62 }
     ensures { result ≡ rectangle_size lo.now hi.now }
@@ -36,7 +58,7 @@ pub(crate) fn rows(axes: &[u64], lo: &[u64], hi: &[u64]) -> u64
     requires small { product axes.now < 2 ^ 62 }
     ensures { result ≡ row_count lo.now hi.now }
 {
-    size(axes, lo, hi) / row_len(axes, lo, hi)
+    rectangle_len(axes, lo, hi) / row_len(axes, lo, hi)
 }
 
 /// Which pixel of the image a pixel of the rectangle is, both counted from 0.

@@ -5,5 +5,5 @@ use Rattle.fits_plane.proofs.rectangle.rows.Goals as goal
 
 pub returns : goal.returns
 returns c =
-    ap (λ m. m / c.row_len.result) c.size.ensures ∙ ap (λ n. rectangle_size c.args.lo.now c.args.hi.now / n) c.row_len.ensures.value
+    ap (λ m. m / c.row_len.result) c.rectangle_len.ensures ∙ ap (λ n. rectangle_size c.args.lo.now c.args.hi.now / n) c.row_len.ensures.value
     ∙ rows_are c.args.axes.now c.args.lo.now c.args.hi.now c.requires.rectangle

@@ -1,7 +1,7 @@
 use Rattle.std.proofs.Common.{arith}
 use Rattle.fits_plane.proofs.TurnLemmas.{same_lengths, side_of, corner_room}
 use Rattle.fits_plane.proofs.RowLemmas.{rectangle_size-le-product}
-use Rattle.fits_plane.proofs.rectangle.size.Goals as goal
+use Rattle.fits_plane.proofs.rectangle.rectangle_len.Goals as goal
 
 pub bounds-hi-i : goal.bounds-hi-i
 bounds-hi-i c = let s = same_lengths _ _ _ c.requires.rectangle in omega (arith, s.high)

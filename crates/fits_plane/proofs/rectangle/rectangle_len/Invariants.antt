@@ -1,6 +1,6 @@
 use Rattle.std.proofs.Common.{◌≡◌, ◌*◌, drop}
 use Rattle.fits_plane.specs.Rectangle.{IsRectangle, rectangle_size}
-use Rattle.fits_plane.proofs.rectangle.size.Given as goal
+use Rattle.fits_plane.proofs.rectangle.rectangle_len.Given as goal
 
 abbrev pub invariant-loop-i : goal.invariant-loop-i
 invariant-loop-i l = record {
