@@ -6,7 +6,7 @@ use Rattle.fits_card.specs.Stream.{AppendsFront}
 use Rattle.fits_card.proofs.StreamLemmas.{Appends-more, AppendsFront-more}
 use Rattle.fits_card.proofs.EmitLemmas.{AppendsFront-first}
 
--- all of the first part, and a front of the second
+-- all of the first part, and a prefix of the second
 pub AppendsFront-second : (a b c : Option (List ℕ)) (bs cs : List ℕ) → Appends a b bs → AppendsFront b c cs → AppendsFront a c (bs ++ cs)
 AppendsFront-second a b c bs cs p q = rw (ap (λ t. bs ++ t) (append-nil cs)) at (AppendsFront-more a b c bs cs [] p q)
 

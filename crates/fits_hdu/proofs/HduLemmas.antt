@@ -1,4 +1,4 @@
--- One HDU at the front of bytes, or one fault.
+-- One HDU begins bytes, or they have one fault.
 use Rattle.std.proofs.Common.{◌≡◌, ◌⊎◌, ℕ, ◌≤◌, Bool, true, false, List, ◌∷◌, ◌++◌, length, take, drop, refl, ap, sym, ◌∙◌, append_assoc, subst, All, inl, inr, arith}
 use Rattle.std.specs.Prelude.{Result, Ok, Err, IsTrue, nat_eq, codes}
 use Rattle.std.specs.List.{starts_with}
@@ -16,7 +16,7 @@ use Rattle.fits_hdu.specs.declared.fault.HduFault.TheVariants.{NoEnd, BadShape, 
 use Rattle.fits_hdu.specs.Hdu.{HduParts, IsHduOf, BreaksShape, LacksData, HasHduFault}
 use Rattle.fits_hdu.proofs.ShapeLemmas.{first_name, shape_begins}
 
--- the header at the front of an HDU's bytes
+-- the header that begins an HDU's bytes
 pub header_of_hdu : (primary : Bool) (f : List ℕ) (hdu : HduParts) (rest : List ℕ) → IsHduOf primary f hdu rest → IsHeaderOf f hdu.header (hdu.data_unit ++ rest)
 header_of_hdu primary f hdu rest p = record {
   whole = p.whole.header;
@@ -29,9 +29,11 @@ one_shape primary a b s t e p q =
     let same : Result.Ok s ≡ Ok t = sym p ∙ ap (λ (h : Header). shape_of primary h.cards) e ∙ q in
     cc
 
+-- an HDU is its parts
 same_hdu : (a b : Header) (s t : List ℕ) → a ≡ b → s ≡ t → (let u : HduParts = record { header = a; data_unit = s } in u) ≡ (let u : HduParts = record { header = b; data_unit = t } in u)
 same_hdu a b s t e p = rw (e, p) refl
 
+-- bytes begin with one HDU at most
 pub one_hdu : (primary : Bool) (f : List ℕ) (a b : HduParts) (s t : List ℕ) → IsHduOf primary f a s → IsHduOf primary f b t → (a ≡ b) × (s ≡ t)
 one_hdu primary f a b s t p q =
     let headers = one_header f a.header b.header (a.data_unit ++ s) (b.data_unit ++ t) (header_of_hdu primary f a s p) (header_of_hdu primary f b t q) in
@@ -50,6 +52,7 @@ not_both primary f a b s t place shape p q broken described =
     let no : Result.Err place ≡ Ok shape = sym broken ∙ ap (λ (h : Header). shape_of primary h.cards) same.0 ∙ described in
     cc
 
+-- where an HDU stands there is no fault
 pub no_fault : (primary : Bool) (f : List ℕ) (hdu : HduParts) (rest : List ℕ) (fault : HduFault) → IsHduOf primary f hdu rest → HasHduFault primary f fault → ⊥
 no_fault primary f hdu rest NoEnd p none = none hdu.header (hdu.data_unit ++ rest) (header_of_hdu primary f hdu rest p)
 no_fault primary f hdu rest (BadShape place) p q =
@@ -67,9 +70,11 @@ one_place primary f m n p q =
     let places = sym p.broken ∙ ap (λ (h : Header). shape_of primary h.cards) same.0 ∙ q.broken in
     cc
 
+-- a header with a broken rule is not short of data
 shape_or_data : (primary : Bool) (f : List ℕ) (place : ℕ) → BreaksShape primary f place → LacksData primary f → ⊥
 shape_or_data primary f place p q = not_both primary f p.header q.header p.rest q.rest place q.shape p.cut q.cut p.broken q.described
 
+-- bytes have one fault at most
 pub one_fault : (primary : Bool) (f : List ℕ) (d e : HduFault) → HasHduFault primary f d → HasHduFault primary f e → d ≡ e
 one_fault primary f NoEnd NoEnd p q = refl
 one_fault primary f NoEnd (BadShape place) p q = absurd (p q.header q.rest q.cut)
@@ -89,10 +94,11 @@ one_fault primary f Memory e p q = absurd p
 abbrev pub BeginsWithHdu : Bool → List ℕ → Type 0
 BeginsWithHdu primary f = (hdu : HduParts) × (rest : List ℕ) × IsHduOf primary f hdu rest
 
+-- an HDU begins the bytes, or they have a fault
 abbrev HduOrFault : Bool → List ℕ → Type 0
 HduOrFault primary f = BeginsWithHdu primary f ⊎ ((fault : HduFault) × HasHduFault primary f fault)
 
--- a header, and as many bytes behind it as its cards describe
+-- a header, and as many bytes after it as its cards describe
 pub hdu_there : (primary : Bool) (f : List ℕ) (header : Header) (rest : List ℕ) (shape : Shape) → IsHeaderOf f header rest → shape_of primary header.cards ≡ Ok shape → data_length shape ≤ length rest
     → IsHduOf primary f (record { header = header; data_unit = take (data_length shape) rest }) (drop (data_length shape) rest)
 hdu_there primary f header rest shape cut described enough = record {
@@ -109,6 +115,7 @@ by_shape primary f header rest (Ok shape) cut e =
       | inr enough ↦ inl (record { header = header; data_unit = take (data_length shape) rest }, drop (data_length shape) rest, hdu_there primary f header rest shape cut e enough)
     ]
 
+-- by the header that begins them, or none
 pub hdu_or_fault : (primary : Bool) (f : List ℕ) → HduOrFault primary f
 hdu_or_fault primary f =
     elim (header_or_none f) [
@@ -122,6 +129,7 @@ header_begins card cards rest size =
     take-append-le 8 (joined_cards (card ∷ cards)) rest (omega (arith, length-append card (joined_cards cards)))
     ∙ take-append-le 8 card (joined_cards cards) (omega arith)
 
+-- its first card has 80 bytes
 first_size : (cards : List (List ℕ)) (card : List ℕ) (rest : List (List ℕ)) → cards ≡ card ∷ rest → All IsInnerCard cards → length card ≡ 80
 first_size cards card rest e h =
     let inner : All IsInnerCard (card ∷ rest) = subst (λ (c : List (List ℕ)). All IsInnerCard c) e h in
@@ -138,8 +146,10 @@ hdu_begins primary f hdu rest p =
     ∙ header_begins begin.0 begin.1 behind size
     ∙ begin.3
 
+-- a primary HDU begins with SIMPLE
 pub primary_begins : (f : List ℕ) (hdu : HduParts) (rest : List ℕ) → IsHduOf true f hdu rest → IsTrue (starts_with nat_eq f (codes "SIMPLE  "))
 primary_begins f hdu rest p = ap (bytes_eq (codes "SIMPLE  ")) (hdu_begins true f hdu rest p)
 
+-- an extension begins with XTENSION
 pub extension_begins : (f : List ℕ) (hdu : HduParts) (rest : List ℕ) → IsHduOf false f hdu rest → IsTrue (starts_with nat_eq f (codes "XTENSION"))
 extension_begins f hdu rest p = ap (bytes_eq (codes "XTENSION")) (hdu_begins false f hdu rest p)

@@ -4,5 +4,6 @@ pub mod HduLemmas
 pub mod KeywordLemmas
 pub mod KindLemmas
 pub mod OpenLemmas
+pub mod ReadingLemmas
 pub mod ShapeLemmas
 pub mod StandardFacts

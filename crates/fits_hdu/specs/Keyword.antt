@@ -1,9 +1,11 @@
--- What a keyword says in an HDU (FITS Standard 4.0, sections 4.1.2 and 4.2.1.2).
-use Rattle.std.specs.Prelude.{◌≡◌, ℕ, List, Option, None, Some, ok_or, Result, Err, IsOk}
-use Rattle.fits_value.specs.Says.{long_says}
+-- What a keyword says in an HDU, and which cards say it (FITS Standard 4.0, sections 4.1.2 and 4.2.1.2).
+use Rattle.std.specs.Prelude.{◌≡◌, ℕ, ◌+◌, List, Option, None, Some, ok_or, Result, Err, IsOk}
+use Rattle.std.specs.Option.{option_map}
+use Rattle.fits_value.specs.Says.{link_count, long_says}
 use Rattle.fits_value.specs.declared.value.Value.{Value}
 use Rattle.fits_rules.specs.Lead.{lead_place}
 use Rattle.fits_hdu.specs.declared.keyword.KeywordFault.{KeywordFault}
+use Rattle.fits_hdu.specs.declared.keyword_cards.KeywordCards.{KeywordCards}
 use Rattle.fits_hdu.specs.declared.keyword.KeywordFault.TheVariants.{NoKey, BadValue, Memory}
 
 -- what stands at the lead's place, if there is a lead
@@ -19,3 +21,11 @@ keyword_value cards name = said_at cards (lead_place cards name)
 abbrev pub KeywordFails : List (List ℕ) → List ℕ → KeywordFault → Type 0
 KeywordFails cards name Memory = IsOk (keyword_value cards name)
 KeywordFails cards name fault = keyword_value cards name ≡ Err fault
+
+-- the card at a place with the CONTINUE cards that belong to its string (4.2.1.2)
+abbrev pub with_links : List (List ℕ) → ℕ → KeywordCards
+with_links cards place = record { place = place; count = 1 + link_count cards place }
+
+-- where the cards of a keyword stand, if it has a lead (own)
+unfoldable pub keyword_cards : List (List ℕ) → List ℕ → Option KeywordCards
+keyword_cards cards name = option_map (with_links cards) (lead_place cards name)

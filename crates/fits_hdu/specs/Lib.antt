@@ -2,5 +2,6 @@ pub mod Fault
 pub mod Hdu
 pub mod Keyword
 pub mod Kind
+pub mod Reading
 pub mod State
 pub mod Work

@@ -1,10 +1,14 @@
 ghost use Rattle.std.specs.Prelude.{◌≡◌, ◌≤◌, ◌+◌, length};
 
 use crate::data_unit::unit_len;
+use crate::described::{Described, read_described};
 use crate::fault::HduFault;
-use crate::keyword::{KeywordFault, keyword_value};
+use crate::keyword::{KeywordFault, keyword_cards, keyword_value};
+use crate::keyword_cards::KeywordCards;
 use crate::kind::{Kind, image_kind};
-use fits_card::{CardList, Change, Name, Sink, cut_header, write_all};
+use crate::read_fault::ReadHduFault;
+use fits_card::{CardList, Change, Intake, Name, Sink, Source, cut_header, write_all};
+use fits_header::KeyIndex;
 use fits_rules::{Shape, keeps_shape, shape};
 use fits_value::{Text, Value};
 use std::alloc::{AllocError, Global};
@@ -42,18 +46,23 @@ impl Model for Hdu {
 }
 
 impl Hdu {
-    ghost use Rattle.std.specs.Prelude.{◌≡◌, ◌+◌, ◌*◌, ◌≤◌, ◌<◌, length, take, drop, All, Ok, IsOk, None, IfOk, IfErr, IsErrOf, IfSome, IfNone, OnOk, OnErr, IsTrue, ◌↔◌};
+    ghost use Rattle.std.specs.Prelude.{◌≡◌, ◌+◌, ◌*◌, ◌^◌, ◌≤◌, ◌<◌, length, take, drop, All, Ok, IsOk, None, IfOk, IfErr, IsErrOf, IfSome, IfNone, OnOk, OnErr, IsTrue, ◌↔◌};
     ghost use Rattle.std.specs.Io.KnownBytes.{Appends};
     ghost use Rattle.fits_card.specs.Card.{IsEnd};
     ghost use Rattle.fits_card.specs.Change.{cards_after, new_cards, IsInRange};
+    ghost use Rattle.fits_card.specs.declared.card_list.TheConstants.{BLOCK_LEN};
     ghost use Rattle.fits_card.specs.Header.{HasNoHeader, header_bytes};
+    ghost use Rattle.fits_card.specs.Intake.{IsSpent, TakesAfter};
     ghost use Rattle.fits_card.specs.Stream.{AppendsFront};
+    ghost use Rattle.fits_header.specs.Names.{header_names};
+    ghost use Rattle.fits_header.specs.Places.{keyword_places};
     ghost use Rattle.fits_rules.specs.Class.{is_primary};
     ghost use Rattle.fits_rules.specs.Shape.{shape_of};
     ghost use Rattle.fits_rules.specs.Size.{data_length};
-    ghost use Rattle.fits_hdu.specs.Keyword.{keyword_value, KeywordFails};
+    ghost use Rattle.fits_hdu.specs.Keyword.{keyword_cards, keyword_value, KeywordFails};
     ghost use Rattle.fits_rules.specs.Image.{image_bits};
     ghost use Rattle.fits_hdu.specs.Kind.{IsKind};
+    ghost use Rattle.fits_hdu.specs.Reading.{HduStops};
     ghost use Rattle.fits_hdu.specs.State.{ReadsUpTo};
     ghost use Rattle.fits_hdu.specs.Work.{shape_reads};
     ghost use Rattle.fits_hdu.specs.Hdu.{IsHdu, IsHduOf, DataFails, HduFails, hdu_bytes, hdu_after, keeps_shape};
@@ -103,7 +112,7 @@ impl Hdu {
         ensures fault { IfErr result (DataFails primary cards.header.cards rest.now) }
     {
         let shape = shape(alloc, &mut cards, primary)?;
-        let unit_len = unit_len(&shape, rest)?;
+        let unit_len = unit_len(&shape, rest.len())?;
         let (unit, _) = rest.split_at(unit_len);
         let data_unit = unit.to_vec(alloc)?;
         let hdu = Hdu {
@@ -112,6 +121,51 @@ impl Hdu {
             data_unit,
         };
         Ok((hdu, unit_len))
+    }
+
+    /// The HDU that comes next in a source, whose first block had been taken before. Its data unit
+    /// is read into its place.
+    ///
+    /// A data unit longer than what may still be taken isn't begun, and memory is asked for as its
+    /// bytes come.
+    #[tactic(auto, using(crate::proofs::ReadingLemmas::read_steps))]
+    pub fn read<R: Source>(
+        alloc: Global,
+        intake: &mut Intake,
+        source: &mut R,
+        first: Vec<u8>,
+        primary: bool,
+    ) -> Result<Hdu, ReadHduFault>
+        requires within { length first.items ≤ BLOCK_LEN }
+        requires short { length first.items < BLOCK_LEN
+            → IsSpent (R.remaining source.old) intake.old }
+        ensures taken { IfOk result (λ hdu. TakesAfter first.items
+            (R.remaining source.old) (R.remaining source.new) intake.old intake.new
+            (hdu_bytes hdu.hdu)) }
+        ensures whole { IfOk result (λ hdu. IsHdu primary hdu.hdu) }
+        ensures work { IfOk result (λ hdu. hdu.reads ≤ 4 * length hdu.hdu.header.cards + 7) }
+        ensures quiet { OnOk result (R.failures source.new ≡ R.failures source.old) }
+        ensures err { IfErr result (HduStops primary first.items
+            (R.remaining source.old) (R.remaining source.new) intake.old intake.new
+            (R.failures source.old) (R.failures source.new)) }
+    {
+        let Described {
+            cards,
+            shape,
+            unit_len,
+        } = read_described(alloc, intake, source, first, primary)?;
+        let data_unit = match intake.take(alloc, source, unit_len) {
+            Ok(data_unit) => data_unit,
+            Err(fault) => return Err(ReadHduFault::from(fault)),
+        };
+        if data_unit.len() < unit_len {
+            return Err(ReadHduFault::Hdu(HduFault::ShortData));
+        }
+        Ok(Hdu {
+            cards,
+            shape,
+            data_unit,
+        })
     }
 
     /// The shape that its cards describe.
@@ -127,13 +181,14 @@ impl Hdu {
     pub fn card_count(&self) -> usize
         ensures value { result ≡ length self.now.hdu.header.cards }
         ensures whole { IsHdu (is_primary self.now.shape.class) self.now.hdu }
+        ensures few { result < 2 ^ 63 }
     {
         self.cards.len()
     }
 
     /// How many bytes its header has, with END and the fill.
     pub fn header_len(&self) -> usize
-        requires { length (header_bytes self.now.hdu.header) ≤ 17179869184 }
+        requires { length (header_bytes self.now.hdu.header) ≤ 2 ^ 34 }
         ensures { result ≡ length (header_bytes self.now.hdu.header) }
     {
         self.cards.byte_len()
@@ -187,6 +242,38 @@ impl Hdu {
         ensures work { ReadsUpTo self.old self.new (length self.old.hdu.header.cards + 2) }
     {
         keyword_value(alloc, &mut self.cards, name)
+    }
+
+    /// Where the cards of a keyword stand: the first card of this name that has a value, and the
+    /// CONTINUE cards that belong to its string (FITS Standard 4.0, section 4.2.1.2). The cards
+    /// that it reads are counted.
+    ///
+    /// It takes no memory.
+    pub fn keyword_cards(&mut self, name: &Name) -> Option<KeywordCards>
+        ensures value { result ≡ keyword_cards self.old.hdu.header.cards name.now }
+        ensures work { ReadsUpTo self.old self.new (length self.old.hdu.header.cards + 2) }
+    {
+        keyword_cards(&mut self.cards, name)
+    }
+
+    /// The places of the cards of a name, ascending. The cards that it reads are counted.
+    pub fn positions(&mut self, alloc: Global, name: &Name) -> Result<Vec<usize>, AllocError>
+        ensures value { IfOk result (λ places. places.items
+            ≡ keyword_places self.old.hdu.header.cards name.now) }
+        ensures work { ReadsUpTo self.old self.new (length self.old.hdu.header.cards) }
+    {
+        let index = KeyIndex::open(alloc, &mut self.cards)?;
+        index.positions(alloc, name)
+    }
+
+    /// The names of its cards, each once, ascending by bytes. The cards that it reads are counted.
+    pub fn names(&mut self, alloc: Global) -> Result<Vec<Name>, AllocError>
+        ensures value { IfOk result (λ names. names.items
+            ≡ header_names self.old.hdu.header.cards) }
+        ensures work { ReadsUpTo self.old self.new (length self.old.hdu.header.cards) }
+    {
+        let index = KeyIndex::open(alloc, &mut self.cards)?;
+        index.names(alloc)
     }
 
     /// Whether its cards after a change would describe the same shape. The cards that it reads are

@@ -1,0 +1,99 @@
+-- Steps of reading an HDU from a source.
+use Rattle.std.proofs.Common.{◌≡◌, ℕ, ◌+◌, ◌<◌, Bool, List, ◌++◌, length, refl, sym, ◌∙◌, arith, Option}
+use Rattle.std.specs.Prelude.{Ok, Err, IsErrOf}
+use Rattle.fits_card.specs.Header.{Header, IsHeader, header_bytes}
+use Rattle.fits_card.specs.HeaderReading.{HeaderStops}
+use Rattle.fits_card.specs.Intake.{IsSpent, Skips, Takes, TakesAfter}
+use Rattle.fits_card.specs.declared.header_reading.ReadHeaderFault.{ReadHeaderFault}
+use Rattle.fits_card.specs.declared.header_reading.ReadHeaderFault.TheVariants as header_fault
+use Rattle.fits_card.specs.declared.reading.ReadFault.{ReadFault}
+use Rattle.fits_card.specs.declared.reading.ReadFault.TheVariants as read_fault
+use Rattle.fits_card.proofs.SightLemmas.{finds_after_begun, finds_after_spent, takes_after_more, takes_skipped}
+use Rattle.fits_rules.specs.Class.{is_primary}
+use Rattle.fits_rules.specs.Shape.{shape_of}
+use Rattle.fits_rules.specs.Size.{data_length}
+use Rattle.fits_rules.specs.declared.array_shape.Shape.{Shape}
+use Rattle.fits_rules.specs.declared.mandatory.ShapeFault.{ShapeFault}
+use Rattle.fits_rules.specs.declared.mandatory.ShapeFault.TheVariants as shape_fault
+use Rattle.fits_rules.proofs.LawLemmas.{shape_primary}
+use Rattle.fits_hdu.specs.declared.fault.HduFault.{HduFault}
+use Rattle.fits_hdu.specs.declared.fault.HduFault.TheVariants.{BadShape, ShortData}
+use Rattle.fits_hdu.specs.declared.read_fault.ReadHduFault.TheVariants.{Hdu}
+use Rattle.fits_hdu.specs.Hdu.{HasHduFault, IsHdu, hdu_bytes}
+use Rattle.fits_hdu.specs.Reading.{HduStops, IsOutlined, TakesHdu, of_read, of_read_header, of_read_shape}
+
+-- there is no header, or memory was refused, or a call failed
+pub stops_by_header : (primary : Bool) (before : List ℕ) (a b : Option (List ℕ)) (left left' f g : ℕ) (fault : ReadHeaderFault) → HeaderStops before a b left left' f g fault → HduStops primary before a b left left' f g (of_read_header fault)
+stops_by_header primary before a b left left' f g header_fault.NoEnd p = p
+stops_by_header primary before a b left left' f g header_fault.Memory p = p
+stops_by_header primary before a b left left' f g header_fault.Failed p = p
+
+-- the cards break a rule, or memory was refused
+pub stops_by_shape : (primary : Bool) (before : List ℕ) (a b : Option (List ℕ)) (left left' f g : ℕ) (header : Header) (fault : ShapeFault) → TakesAfter before a b left left' (header_bytes header) → IsHeader header
+    → ((place : ℕ) → IsErrOf {T = Shape} {E = ShapeFault} (Err fault) (shape_fault.Bad place) → shape_of primary header.cards ≡ Err place) → g ≡ f
+    → HduStops primary before a b left left' f g (of_read_shape fault)
+stops_by_shape primary before a b left left' f g header (shape_fault.Bad place) p whole broken q = (
+  finds_after_begun (λ bytes. HasHduFault primary bytes (BadShape place)) before a b left left' (header_bytes header) p
+      (λ rest le. record { header = header; rest = rest; cut = record { whole = whole; joined = refl }; broken = broken place refl }),
+  q,
+)
+stops_by_shape primary before a b left left' f g header shape_fault.Memory p whole broken q = q
+
+-- the data unit is longer than what may be taken
+pub stops_far : (primary : Bool) (before : List ℕ) (a b : Option (List ℕ)) (left left' f g : ℕ) (header : Header) (shape : Shape) (why : HduFault) → TakesAfter before a b left left' (header_bytes header) → IsHeader header → shape_of primary header.cards ≡ Ok shape
+    → left' < data_length shape → why ≡ ShortData → g ≡ f
+    → HduStops primary before a b left left' f g (Hdu why)
+stops_far primary before a b left left' f g header shape why p whole described short is q =
+    rw is (
+      finds_after_begun (λ bytes. HasHduFault primary bytes ShortData) before a b left left' (header_bytes header) p
+          (λ rest le. record { header = header; rest = rest; shape = shape; cut = record { whole = whole; joined = refl }; described = described; short = omega (arith, le, short) }),
+      q,
+    )
+
+-- or than what was left
+pub stops_near : (primary : Bool) (before : List ℕ) (a b c : Option (List ℕ)) (left left' left'' f g : ℕ) (header : Header) (shape : Shape) (unit : List ℕ) → TakesAfter before a b left left' (header_bytes header) → IsHeader header → shape_of primary header.cards ≡ Ok shape
+    → Takes b c left' left'' unit → IsSpent c left'' → length unit < data_length shape → g ≡ f
+    → HduStops primary before a c left left'' f g (Hdu ShortData)
+stops_near primary before a b c left left' left'' f g header shape unit p whole described q spent short r = (
+  finds_after_spent (λ bytes. HasHduFault primary bytes ShortData) before a c left left'' (header_bytes header ++ unit) (takes_after_more before a b c left left' left'' (header_bytes header) unit p q) spent
+      (record { header = header; rest = unit; shape = shape; cut = record { whole = whole; joined = refl }; described = described; short = short }),
+  r,
+)
+
+-- memory for the data unit was refused, or a call failed
+pub stops_by_unit : (primary : Bool) (before : List ℕ) (a b : Option (List ℕ)) (left left' f g : ℕ) (fault : ReadFault) → (fault ≡ read_fault.Memory → g ≡ f) → (fault ≡ read_fault.Failed → g ≡ f + 1) → HduStops primary before a b left left' f g (of_read fault)
+stops_by_unit primary before a b left left' f g read_fault.Memory m q = m refl
+stops_by_unit primary before a b left left' f g read_fault.Failed m q = q refl
+
+pub ruleset described_steps = (stops_by_header, stops_by_shape, stops_far)
+
+-- the header, and then the data unit
+pub hdu_taken : (before : List ℕ) (a b c : Option (List ℕ)) (left left' left'' : ℕ) (header : Header) (unit : List ℕ) → TakesAfter before a b left left' (header_bytes header) → Takes b c left' left'' unit
+    → TakesAfter before a c left left'' (hdu_bytes (record { header = header; data_unit = unit }))
+hdu_taken before a b c left left' left'' header unit p q = takes_after_more before a b c left left' left'' (header_bytes header) unit p q
+
+pub hdu_whole : (primary : Bool) (header : Header) (shape : Shape) (unit : List ℕ) → IsHeader header → shape_of primary header.cards ≡ Ok shape → length unit ≡ data_length shape
+    → IsHdu primary (record { header = header; data_unit = unit })
+hdu_whole primary header shape unit whole described size = record { shape = shape; header = whole; described = described; size = size }
+
+pub ruleset read_steps = (shape_primary, hdu_taken, hdu_whole, stops_near, stops_by_unit)
+
+-- an HDU whose data unit was skipped
+pub hdu_passed : (primary : Bool) (before : List ℕ) (a b c : Option (List ℕ)) (left left' left'' count cards size : ℕ) (header : Header) (shape : Shape) → TakesAfter before a b left left' (header_bytes header) → IsHeader header → shape_of primary header.cards ≡ Ok shape
+    → (q : Skips b c count) → left' ≡ left'' + count → count ≡ data_length shape → is_primary shape.class ≡ primary → cards ≡ length header.cards → size ≡ length (header_bytes header)
+    → TakesHdu (λ hdu. IsOutlined hdu cards shape size count) primary before a c left left''
+hdu_passed primary before a b c left left' left'' count cards size header shape p whole described q e unit class m n = record {
+  hdu = record { header = header; data_unit = q.bytes };
+  kept = record { count = m; described = rw class described; header = n; unit = sym q.size };
+  whole = hdu_whole primary header shape q.bytes whole described (q.size ∙ unit);
+  taken = hdu_taken before a b c left left' left'' header q.bytes p (takes_skipped b c left' left'' count q e);
+}
+
+-- the data unit that was skipped is too short
+pub stops_passed : (primary : Bool) (before : List ℕ) (a b c : Option (List ℕ)) (left left' left'' count f g : ℕ) (header : Header) (shape : Shape) → TakesAfter before a b left left' (header_bytes header) → IsHeader header → shape_of primary header.cards ≡ Ok shape
+    → (q : Skips b c count) → left' ≡ left'' + count → IsSpent c left'' → count < data_length shape → g ≡ f
+    → HduStops primary before a c left left'' f g (Hdu ShortData)
+stops_passed primary before a b c left left' left'' count f g header shape p whole described q e spent short r =
+    stops_near primary before a b c left left' left'' f g header shape q.bytes p whole described (takes_skipped b c left' left'' count q e) spent (omega (arith, q.size, short)) r
+
+pub ruleset passing_steps = (shape_primary, hdu_passed, stops_passed)

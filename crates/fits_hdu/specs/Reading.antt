@@ -1,0 +1,54 @@
+-- How an HDU is read from a source, whatever is kept of it (own).
+use Rattle.std.specs.Prelude.{◌≡◌, ℕ, ◌+◌, Bool, List, ◌++◌, length, Ok, Option}
+use Rattle.fits_card.specs.Header.{header_bytes}
+use Rattle.fits_card.specs.Intake.{Finds, TakesAfter}
+use Rattle.fits_card.specs.declared.header_reading.ReadHeaderFault.{ReadHeaderFault}
+use Rattle.fits_card.specs.declared.header_reading.ReadHeaderFault.TheVariants as header
+use Rattle.fits_card.specs.declared.reading.ReadFault.{ReadFault}
+use Rattle.fits_card.specs.declared.reading.ReadFault.TheVariants as read
+use Rattle.fits_rules.specs.Class.{is_primary}
+use Rattle.fits_rules.specs.Shape.{shape_of}
+use Rattle.fits_rules.specs.declared.array_shape.Shape.{Shape}
+use Rattle.fits_rules.specs.declared.mandatory.ShapeFault.{ShapeFault}
+use Rattle.fits_rules.specs.declared.mandatory.ShapeFault.TheVariants as shape
+use Rattle.fits_hdu.specs.Hdu.{HduParts, HasHduFault, IsHdu, hdu_bytes}
+use Rattle.fits_hdu.specs.declared.fault.HduFault.TheVariants.{NoEnd, BadShape, Memory}
+use Rattle.fits_hdu.specs.declared.read_fault.ReadHduFault.{ReadHduFault}
+use Rattle.fits_hdu.specs.declared.read_fault.ReadHduFault.TheVariants.{Hdu, Failed}
+
+-- the header's fault
+abbrev pub of_read_header : ReadHeaderFault → ReadHduFault
+of_read_header header.NoEnd = Hdu NoEnd
+of_read_header header.Memory = Hdu Memory
+of_read_header header.Failed = Failed
+
+-- the shape's fault
+abbrev pub of_read_shape : ShapeFault → ReadHduFault
+of_read_shape (shape.Bad place) = Hdu (BadShape place)
+of_read_shape shape.Memory = Hdu Memory
+
+-- the data unit's fault
+abbrev pub of_read : ReadFault → ReadHduFault
+of_read read.Memory = Hdu Memory
+of_read read.Failed = Failed
+
+-- after bytes that had been taken before no HDU comes, for this fault; or memory was refused; or a call failed
+abbrev pub HduStops : Bool → List ℕ → Option (List ℕ) → Option (List ℕ) → ℕ → ℕ → ℕ → ℕ → ReadHduFault → Type 0
+HduStops primary before old new left left' failures failures' (Hdu Memory) = failures' ≡ failures
+HduStops primary before old new left left' failures failures' (Hdu fault) =
+    Finds old new left left' (λ sight. HasHduFault primary (before ++ sight) fault) × (failures' ≡ failures)
+HduStops primary before old new left left' failures failures' Failed = failures' ≡ failures + 1
+
+-- an HDU was taken, whose first bytes had been taken before, and of it something is kept
+pub record TakesHdu (keeps : HduParts → Type 0) (primary : Bool) (before : List ℕ) (old new : Option (List ℕ)) (left left' : ℕ) : Type 0 where
+  pub hdu : HduParts
+  pub kept : keeps hdu
+  pub whole : IsHdu primary hdu
+  pub taken : TakesAfter before old new left left' (hdu_bytes hdu)
+
+-- the shape of an HDU, and how many cards it has, how many bytes its header and its data unit
+pub record IsOutlined (hdu : HduParts) (cards : ℕ) (shape : Shape) (header_len data_len : ℕ) : Type 0 where
+  pub count : cards ≡ length hdu.header.cards
+  pub described : shape_of (is_primary shape.class) hdu.header.cards ≡ Ok shape
+  pub header : header_len ≡ length (header_bytes hdu.header)
+  pub unit : data_len ≡ length hdu.data_unit

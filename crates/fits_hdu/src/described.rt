@@ -1,0 +1,67 @@
+//! The header of the HDU that comes next in a source, and what it says of its data unit.
+ghost use Rattle.std.specs.Prelude.{◌≡◌, ◌+◌, ◌*◌, ◌<◌, ◌≤◌, length, Ok, IfOk, IfErr, OnOk};
+ghost use Rattle.fits_card.specs.declared.card_list.TheConstants.{BLOCK_LEN};
+ghost use Rattle.fits_card.specs.Header.{header_bytes, IsHeader};
+ghost use Rattle.fits_card.specs.Intake.{IsSpent, TakesAfter};
+ghost use Rattle.fits_rules.specs.Shape.{shape_of};
+ghost use Rattle.fits_rules.specs.Size.{data_length};
+ghost use Rattle.fits_hdu.specs.Reading.{HduStops};
+
+use crate::data_unit::unit_len;
+use crate::read_fault::ReadHduFault;
+use fits_card::{CardList, Intake, Source, read_header};
+use fits_rules::{Shape, shape};
+use std::alloc::Global;
+
+/// A header, the shape that its cards describe, and how long its data unit is with the fill.
+#[derive(Drop)]
+pub(crate) struct Described {
+    pub cards: CardList,
+    pub shape: Shape,
+    pub unit_len: usize,
+}
+
+/// The header that comes next, whose first block had been taken before, where its data unit may be
+/// taken after it.
+#[tactic(auto, using(crate::proofs::ReadingLemmas::described_steps))]
+pub(crate) fn read_described<R: Source>(
+    alloc: Global,
+    intake: &mut Intake,
+    source: &mut R,
+    first: Vec<u8>,
+    primary: bool,
+) -> Result<Described, ReadHduFault>
+    requires within { length first.items ≤ BLOCK_LEN }
+    requires short { length first.items < BLOCK_LEN → IsSpent (R.remaining source.old) intake.old }
+    ensures taken { IfOk result (λ head. TakesAfter first.items
+        (R.remaining source.old) (R.remaining source.new) intake.old intake.new
+        (header_bytes head.cards.header)) }
+    ensures whole { IfOk result (λ head. IsHeader head.cards.header) }
+    ensures described { IfOk result (λ head. shape_of primary head.cards.header.cards
+        ≡ Ok head.shape) }
+    ensures len { IfOk result (λ head. head.unit_len ≡ data_length head.shape) }
+    ensures room { IfOk result (λ head. head.unit_len ≤ intake.new) }
+    ensures work { IfOk result (λ head. head.cards.reads
+        ≤ 4 * length head.cards.header.cards + 7) }
+    ensures quiet { OnOk result (R.failures source.new ≡ R.failures source.old) }
+    ensures err { IfErr result (HduStops primary first.items
+        (R.remaining source.old) (R.remaining source.new) intake.old intake.new
+        (R.failures source.old) (R.failures source.new)) }
+{
+    let mut cards = match read_header(alloc, intake, source, first) {
+        Ok(cards) => cards,
+        Err(fault) => return Err(ReadHduFault::from(fault)),
+    };
+    let shape = match shape(alloc, &mut cards, primary) {
+        Ok(shape) => shape,
+        Err(fault) => return Err(ReadHduFault::from(fault)),
+    };
+    match unit_len(&shape, intake.left()) {
+        Ok(unit_len) => Ok(Described {
+            cards,
+            shape,
+            unit_len,
+        }),
+        Err(fault) => Err(ReadHduFault::from(fault)),
+    }
+}

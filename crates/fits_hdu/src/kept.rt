@@ -1,0 +1,69 @@
+ghost use Rattle.std.specs.Prelude.{◌≡◌, ◌+◌, ◌<◌, ◌≤◌, ◌^◌, length, IfOk, IfErr, OnOk};
+ghost use Rattle.fits_card.specs.declared.card_list.TheConstants.{BLOCK_LEN};
+ghost use Rattle.fits_card.specs.Intake.{IsSpent};
+ghost use Rattle.fits_hdu.specs.Hdu.{HduParts};
+ghost use Rattle.fits_hdu.specs.Reading.{HduStops, TakesHdu};
+
+use crate::hdu::Hdu;
+use crate::outline::Outline;
+use crate::read_fault::ReadHduFault;
+use fits_card::{Intake, Source};
+use std::alloc::Global;
+
+/// What is kept of an HDU that was read.
+pub trait Kept {
+    /// This is kept of the HDU.
+    ghost keeps: { Self → HduParts → Type 0 };
+
+    /// Reads the HDU that comes next in a source, whose first block had been taken before.
+    fn read_next<R: Source>(
+        alloc: Global,
+        intake: &mut Intake,
+        source: &mut R,
+        first: Vec<u8>,
+        primary: bool,
+    ) -> Result<Self, ReadHduFault>
+        requires within { length first.items ≤ BLOCK_LEN }
+        requires short { length first.items < BLOCK_LEN
+            → IsSpent (R.remaining source.old) intake.old }
+        requires room { intake.old + length first.items ≤ 2 ^ 34 }
+        ensures ok { IfOk result (λ kept. TakesHdu (keeps kept) primary first.items
+            (R.remaining source.old) (R.remaining source.new) intake.old intake.new) }
+        ensures quiet { OnOk result (R.failures source.new ≡ R.failures source.old) }
+        ensures err { IfErr result (HduStops primary first.items
+            (R.remaining source.old) (R.remaining source.new) intake.old intake.new
+            (R.failures source.old) (R.failures source.new)) };
+}
+
+/// All of it is kept.
+impl Kept for Hdu {
+    ghost use Rattle.std.specs.Prelude.{◌≡◌};
+
+    ghost keeps = { λ it hdu. it.hdu ≡ hdu };
+
+    fn read_next<R: Source>(
+        alloc: Global,
+        intake: &mut Intake,
+        source: &mut R,
+        first: Vec<u8>,
+        primary: bool,
+    ) -> Result<Hdu, ReadHduFault> {
+        Hdu::read(alloc, intake, source, first, primary)
+    }
+}
+
+impl Kept for Outline {
+    ghost use Rattle.fits_hdu.specs.Reading.{IsOutlined};
+
+    ghost keeps = { λ it hdu. IsOutlined hdu it.card_count it.shape it.header_len it.data_len };
+
+    fn read_next<R: Source>(
+        alloc: Global,
+        intake: &mut Intake,
+        source: &mut R,
+        first: Vec<u8>,
+        primary: bool,
+    ) -> Result<Outline, ReadHduFault> {
+        Outline::read(alloc, intake, source, first, primary)
+    }
+}

@@ -1,0 +1,69 @@
+ghost use Rattle.std.specs.Prelude.{◌≡◌};
+
+use crate::described::{Described, read_described};
+use crate::fault::HduFault;
+use crate::read_fault::ReadHduFault;
+use fits_card::{Intake, Source};
+use fits_rules::Shape;
+use std::alloc::Global;
+
+/// An HDU without its cards and data: what is told of it where it stands in a file.
+#[derive(Drop)]
+pub struct Outline {
+    /// How many cards its header has, END not counted.
+    pub card_count: usize,
+    pub shape: Shape,
+    /// How many bytes its header has, with END and the fill.
+    pub header_len: usize,
+    /// How many bytes its data unit has, with the fill of its last block.
+    pub data_len: usize,
+}
+
+impl Outline {
+    ghost use Rattle.std.specs.Prelude.{◌≡◌, ◌+◌, ◌<◌, ◌≤◌, ◌^◌, length, IfOk, IfErr, OnOk};
+    ghost use Rattle.fits_card.specs.declared.card_list.TheConstants.{BLOCK_LEN};
+    ghost use Rattle.fits_card.specs.Intake.{IsSpent};
+    ghost use Rattle.fits_hdu.specs.Reading.{HduStops, IsOutlined, TakesHdu};
+
+    /// The outline of the HDU that comes next in a source, as `Hdu::read`. Its data unit is
+    /// skipped.
+    #[tactic(auto, using(crate::proofs::ReadingLemmas::passing_steps))]
+    pub fn read<R: Source>(
+        alloc: Global,
+        intake: &mut Intake,
+        source: &mut R,
+        first: Vec<u8>,
+        primary: bool,
+    ) -> Result<Outline, ReadHduFault>
+        requires within { length first.items ≤ BLOCK_LEN }
+        requires short { length first.items < BLOCK_LEN
+            → IsSpent (R.remaining source.old) intake.old }
+        requires room { intake.old + length first.items ≤ 2 ^ 34 }
+        ensures ok { IfOk result (λ it. TakesHdu
+            (λ hdu. IsOutlined hdu it.card_count it.shape it.header_len it.data_len)
+            primary first.items (R.remaining source.old) (R.remaining source.new)
+            intake.old intake.new) }
+        ensures quiet { OnOk result (R.failures source.new ≡ R.failures source.old) }
+        ensures err { IfErr result (HduStops primary first.items
+            (R.remaining source.old) (R.remaining source.new) intake.old intake.new
+            (R.failures source.old) (R.failures source.new)) }
+    {
+        let Described {
+            cards,
+            shape,
+            unit_len,
+        } = read_described(alloc, intake, source, first, primary)?;
+        let Ok(data_len) = intake.skip(source, unit_len) else {
+            return Err(ReadHduFault::Failed);
+        };
+        if data_len < unit_len {
+            return Err(ReadHduFault::Hdu(HduFault::ShortData));
+        }
+        Ok(Outline {
+            card_count: cards.len(),
+            shape,
+            header_len: cards.byte_len(),
+            data_len,
+        })
+    }
+}
