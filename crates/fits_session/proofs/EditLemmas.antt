@@ -6,24 +6,32 @@ use Rattle.std.proofs.lemmas.List.{length-append}
 use Rattle.fits_card.specs.Card.{is_text, is_end, IsEnd}
 use Rattle.fits_card.specs.Change.{cards_after, new_cards, IsInRange}
 use Rattle.fits_card.specs.Header.{header_length, header_bytes, fill_length, IsInnerCard}
+use Rattle.fits_card.specs.Name.{is_settable}
 use Rattle.fits_card.specs.declared.change.Change.{Change}
-use Rattle.fits_card.specs.declared.change.Change.TheVariants.{Splice, Move}
+use Rattle.fits_card.specs.declared.change.Change.TheVariants as change
 use Rattle.fits_card.proofs.HeaderLemmas.{whole-with_cards}
+use Rattle.fits_value.specs.Written.{write_says}
+use Rattle.fits_value.specs.declared.value.Value.{Value}
+use Rattle.fits_value.proofs.InnerLemmas.{inner_written}
 use Rattle.fits_rules.specs.Class.{is_primary}
 use Rattle.fits_rules.specs.Shape.{shape_of}
 use Rattle.fits_hdu.specs.Hdu.{HduParts, hdu_after, hdu_bytes, IsHdu, keeps_shape}
+use Rattle.fits_hdu.specs.Keyword.{keyword_cards}
 use Rattle.fits_hdu.specs.State.{HduState, ReadsUpTo}
 use Rattle.fits_hdu.specs.Work.{shape_reads}
+use Rattle.fits_hdu.specs.declared.keyword_cards.KeywordCards.{KeywordCards}
 use Rattle.fits_hdu.proofs.ChangeLemmas.{hdu-changed, inner_after}
+use Rattle.fits_hdu.proofs.KeywordLemmas.{keyword_within}
 use Rattle.fits_rules.proofs.SameShapeLemmas.{same_shape-Decides}
-use Rattle.fits_session.specs.Edit.{hdu_of, hdu_named, changed_at, with_hdu, is_in_range, own_refusal, unless, tested, change_of, hdu_changed, file_after}
+use Rattle.fits_session.specs.Edit.{hdu_of, hdu_named, changed_at, with_hdu, is_in_range, own_refusal, unless, tested, is_keyword_name, replacing, setting, unsetting, set_of, unset_of, change_of, hdu_changed, file_after, HasSizes}
 use Rattle.fits_session.specs.File.{FileParts, joined_hdus, file_bytes, IsFileOf, IsFile}
-use Rattle.fits_session.specs.Limits.{file_limit, hdu_limit, is_within_limits}
+use Rattle.fits_session.specs.Limits.{is_within_limits}
+use Rattle.fits_session.specs.declared.limits.TheConstants.{FILE_LIMIT, HDU_LIMIT}
 use Rattle.fits_session.specs.Refusal.{is_primary_hdu, shape_refusal, limit_refusal, size_refusal, first_refusal, change_refusal, refusal_in, refusal_of, NeedsMemory, EditFails, ChangeFails}
 use Rattle.fits_session.specs.Session.{file_of, hdus_of, held_of, state_of, length_after, made_refusal, EditsTo, IsNowhere}
 use Rattle.fits_session.specs.Work.{own_reads, change_reads, hdu_reads, edit_reads}
 use Rattle.fits_session.specs.declared.edit.Edit.{Edit}
-use Rattle.fits_session.specs.declared.edit.Edit.TheVariants.{Insert}
+use Rattle.fits_session.specs.declared.edit.Edit.TheVariants.{Insert, Put, Delete, Move, Set, Unset}
 use Rattle.fits_session.specs.declared.refusal.Refusal.{Refusal}
 use Rattle.fits_session.specs.declared.refusal.Refusal.TheVariants as refusal
 use Rattle.fits_session.proofs.ChangeLemmas.{hdu_is, joined-changed, length-changed, changed_at-same, goes_on-changed, front_changed}
@@ -45,21 +53,24 @@ splice_ranged place removed count e = search rules
 move_ranged : (from to count : ℕ) → ((nat_le 1 from && nat_le from count) && (nat_le 1 to && nat_le to count)) ≡ true → (1 ≤ from) × (from ≤ count) × (1 ≤ to) × (to ≤ count)
 move_ranged from to count e = search rules
 
+-- of each change
 ranged : (cards : List (List ℕ)) (change : Change) → is_in_range (length cards) change ≡ true → IsInRange cards change
 unfolding IsInRange
-ranged cards (Splice place removed new) e = splice_ranged place removed (length cards) e
-ranged cards (Move from to) e = move_ranged from to (length cards) e
+ranged cards (change.Splice place removed new) e = splice_ranged place removed (length cards) e
+ranged cards (change.Move from to) e = move_ranged from to (length cards) e
 
 -- no card is END where a test finds none
 neither : (a b : Bool) → (a || b) ≡ false → (a ≡ false) × (b ≡ false)
 neither true b e = cc
 neither false b e = (refl, e)
 
+-- the same in the words of a change's condition
 none_ends : (cards : List (List ℕ)) → list_any is_end cards ≡ false → All (λ card. IsEnd card → ⊥) cards
 none_ends [] e k d l = absurd (omega arith)
 none_ends (card ∷ cards) e zero d l = λ ends. let no = (neither (is_end card) (list_any is_end cards) e).0 in cc
 none_ends (card ∷ cards) e (suc k) d l = none_ends cards (neither (is_end card) (list_any is_end cards) e).1 k d (omega arith)
 
+-- what a change passed by itself
 own_tests : (count : ℕ) (change : Change) → own_refusal count change ≡ None → (is_in_range count change ≡ true) × (list_any is_end (new_cards change) ≡ false)
 unfolding own_refusal
 own_tests count change e = let p = passed (is_in_range count change) (list_all is_text (new_cards change)) (list_any is_end (new_cards change)) e in (p.0, p.2)
@@ -69,25 +80,98 @@ unless_ok : (o : Option Refusal) (change other : Change) → unless o change ≡
 unless_ok None change other e = (refl, cc)
 unless_ok (Some why) change other e = cc
 
+-- a change that came of its tests passed them
 tested_ok : (count : ℕ) (change other : Change) → tested count change ≡ Ok other → own_refusal count other ≡ None
 tested_ok count change other e =
     let p = unless_ok (own_refusal count change) change other e in
     subst (λ (ch : Change). own_refusal count ch ≡ None) p.1 p.0
 
--- the change of an edit passed its own tests
-made_passes : (cards : List (List ℕ)) (edit : Edit) (change : Change) → change_of cards edit ≡ Ok change → own_refusal (length cards) change ≡ None
-unfolding change_of
-made_passes cards (Insert h place card) change e = tested_ok (length cards) (Splice place 0 (card ∷ [])) change e
+-- so its places are in range
+tested_in_range : (cards : List (List ℕ)) (change other : Change) → tested (length cards) change ≡ Ok other → IsInRange cards other
+tested_in_range cards change other e = ranged cards other (own_tests (length cards) other (tested_ok (length cards) change other e)).0
 
+-- and it puts in no END
+tested_inner : (count : ℕ) (change other : Change) → All (λ card. length card ≡ 80) (new_cards change) → tested count change ≡ Ok other → All IsInnerCard (new_cards other)
+tested_inner count change other sizes e k d l =
+    let same : change ≡ other = (unless_ok (own_refusal count change) change other e).1 in
+    record {
+      size = subst (λ (ch : Change). All (λ card. length card ≡ 80) (new_cards ch)) same sizes k d l;
+      not_end = none_ends (new_cards other) (own_tests count other (tested_ok count change other e)).1 k d l;
+    }
+
+-- the places of a keyword's cards are in range, and that behind the last card is
+replacing_in_range : (cards new : List (List ℕ)) (old : Option KeywordCards) (name : List ℕ) → keyword_cards cards name ≡ old → IsInRange cards (replacing (length cards) old new)
+unfolding IsInRange
+replacing_in_range cards new None name e = (omega arith, omega arith)
+replacing_in_range cards new (Some old) name e = keyword_within cards name old e
+
+set_in_range : (cards : List (List ℕ)) (name : List ℕ) (written : Option (List (List ℕ))) (change : Change) → setting (length cards) (keyword_cards cards name) written ≡ Ok change → IsInRange cards change
+set_in_range cards name None change e = cc
+set_in_range cards name (Some new) change e =
+    let same : replacing (length cards) (keyword_cards cards name) new ≡ change = cc in
+    subst (λ (ch : Change). IsInRange cards ch) same (replacing_in_range cards new (keyword_cards cards name) name refl)
+
+unset_in_range : (cards : List (List ℕ)) (name : List ℕ) (old : Option KeywordCards) (change : Change) → keyword_cards cards name ≡ old → unsetting old ≡ Ok change → IsInRange cards change
+unset_in_range cards name None change at e = cc
+unset_in_range cards name (Some old) change at e =
+    let same : replacing (length cards) (Some old) [] ≡ change = cc in
+    subst (λ (ch : Change). IsInRange cards ch) same (replacing_in_range cards [] (Some old) name at)
+
+-- a test that fails makes no change
+pub set_if : (b : Bool) (made : Result Change Refusal) (change : Change) → (if b then made else Err refusal.BadName) ≡ Ok change → (b ≡ true) × (made ≡ Ok change)
+set_if true made change e = (refl, e)
+set_if false made change e = cc
+
+-- the change of an edit is in range
 pub made_in_range : (cards : List (List ℕ)) (edit : Edit) (change : Change) → change_of cards edit ≡ Ok change → IsInRange cards change
-made_in_range cards edit change e = ranged cards change (own_tests (length cards) change (made_passes cards edit change e)).0
+unfolding change_of set_of unset_of
+made_in_range cards (Insert h place card) made e = tested_in_range cards (change.Splice place 0 (card ∷ [])) made e
+made_in_range cards (Put h place card) made e = tested_in_range cards (change.Splice place 1 (card ∷ [])) made e
+made_in_range cards (Delete h place) made e = tested_in_range cards (change.Splice place 1 []) made e
+made_in_range cards (Move h from to) made e = tested_in_range cards (change.Move from to) made e
+made_in_range cards (Set h name value comment) made e =
+    set_in_range cards name (write_says name value comment) made (set_if (is_settable name) (setting (length cards) (keyword_cards cards name) (write_says name value comment)) made e).1
+made_in_range cards (Unset h name) made e =
+    unset_in_range cards name (keyword_cards cards name) made refl (set_if (is_keyword_name name) (unsetting (keyword_cards cards name)) made e).1
 
-pub made_not_end : (cards : List (List ℕ)) (edit : Edit) (change : Change) → change_of cards edit ≡ Ok change → All (λ card. IsEnd card → ⊥) (new_cards change)
-made_not_end cards edit change e = none_ends (new_cards change) (own_tests (length cards) change (made_passes cards edit change e)).1
+-- one card of 80 bytes
+one_size : (card : List ℕ) → length card ≡ 80 → All (λ (one : List ℕ). length one ≡ 80) (card ∷ [])
+one_size card s zero d l = s
+one_size card s (suc k) d l = absurd (omega arith)
 
--- so it puts in cards that may stand before END
-pub made_inner : (cards : List (List ℕ)) (edit : Edit) (change : Change) → change_of cards edit ≡ Ok change → All (λ card. length card ≡ 80) (new_cards change) → All IsInnerCard (new_cards change)
-made_inner cards edit change e sizes k d l = record { size = sizes k d l; not_end = made_not_end cards edit change e k d l }
+-- no card of none
+no_cards : All IsInnerCard []
+no_cards k d l = absurd (omega arith)
+
+-- a keyword's new cards may stand before END
+replacing_inner : (count : ℕ) (old : Option KeywordCards) (new : List (List ℕ)) → All IsInnerCard new → All IsInnerCard (new_cards (replacing count old new))
+unfolding new_cards
+replacing_inner count None new inner = inner
+replacing_inner count (Some old) new inner = inner
+
+set_inner : (count : ℕ) (old : Option KeywordCards) (name : List ℕ) (value : Value) (comment : Option (List ℕ)) (written : Option (List (List ℕ))) (change : Change) → length name ≡ 8 → is_settable name ≡ true → write_says name value comment ≡ written → setting count old written ≡ Ok change → All IsInnerCard (new_cards change)
+set_inner count old name value comment None change size settable says e = cc
+set_inner count old name value comment (Some new) change size settable says e =
+    let same : replacing count old new ≡ change = cc in
+    subst (λ (ch : Change). All IsInnerCard (new_cards ch)) same (replacing_inner count old new (inner_written new name value comment size settable says))
+
+unset_inner : (old : Option KeywordCards) (change : Change) → unsetting old ≡ Ok change → All IsInnerCard (new_cards change)
+unset_inner None change e = cc
+unset_inner (Some old) change e =
+    let same : replacing 0 (Some old) [] ≡ change = cc in
+    subst (λ (ch : Change). All IsInnerCard (new_cards ch)) same (replacing_inner 0 (Some old) [] no_cards)
+
+-- the change of an edit puts in cards that may stand before END
+pub made_inner : (cards : List (List ℕ)) (edit : Edit) (change : Change) → HasSizes edit → change_of cards edit ≡ Ok change → All IsInnerCard (new_cards change)
+unfolding change_of set_of unset_of new_cards
+made_inner cards (Insert h place card) made size e = tested_inner (length cards) (change.Splice place 0 (card ∷ [])) made (one_size card size) e
+made_inner cards (Put h place card) made size e = tested_inner (length cards) (change.Splice place 1 (card ∷ [])) made (one_size card size) e
+made_inner cards (Delete h place) made size e = tested_inner (length cards) (change.Splice place 1 []) made (λ k d l. absurd (omega arith)) e
+made_inner cards (Move h from to) made size e = tested_inner (length cards) (change.Move from to) made (λ k d l. absurd (omega arith)) e
+made_inner cards (Set h name value comment) made size e =
+    let p = set_if (is_settable name) (setting (length cards) (keyword_cards cards name) (write_says name value comment)) made e in
+    set_inner (length cards) (keyword_cards cards name) name value comment (write_says name value comment) made size p.0 refl p.1
+made_inner cards (Unset h name) made size e = unset_inner (keyword_cards cards name) made (set_if (is_keyword_name name) (unsetting (keyword_cards cards name)) made e).1
 
 -- how many bytes an HDU has after a change
 length_changed : (primary : Bool) (hdu : HduParts) (change : Change) → IsHdu primary hdu → All IsInnerCard (new_cards change)
@@ -124,7 +208,7 @@ file_made file edit i hdu change named there made =
     ∙ ap (λ (us : List HduParts). let after : FileParts = record { hdus = us; tail = file.tail } in after) (changed_at-same i change_here (hdu_after change) hdu file.hdus there (ap (λ r. hdu_changed r hdu) made))
 
 -- what keeps to the limits
-within_limits : (bytes hdus : ℕ) → is_within_limits bytes hdus ≡ true → (bytes ≤ file_limit) × (hdus ≤ hdu_limit)
+within_limits : (bytes hdus : ℕ) → is_within_limits bytes hdus ≡ true → (bytes ≤ FILE_LIMIT) × (hdus ≤ HDU_LIMIT)
 within_limits bytes hdus e = search rules
 
 -- a change that keeps the shape and the limits leaves a file
@@ -176,6 +260,7 @@ needs true true = tt
 needs true false = tt
 needs false b = tt
 
+-- so that memory may run out wherever a change was made
 needs_memory : (file : FileParts) (h : ℕ) (hdu : HduParts) (made : Result Change Refusal) → IsOk made → NeedsMemory (change_refusal file h hdu made)
 needs_memory file h hdu (Ok change) p =
     needs (keeps_shape (is_primary_hdu h) hdu.header.cards (cards_after hdu.header.cards change)) (is_within_limits (length (file_bytes (with_hdu file h (hdu_after change)))) (length (with_hdu file h (hdu_after change)).hdus))
@@ -198,14 +283,17 @@ kept_none : (b : Bool) → (if b then None else Some refusal.Shape) ≡ None →
 kept_none true e = refl
 kept_none false e = cc
 
+-- no refusal for the limits says that they are kept
 pub limit_none : (b : Bool) → (if b then None else Some refusal.TooLarge) ≡ None → b ≡ true
 limit_none true e = refl
 limit_none false e = cc
 
+-- the first of two refusals is none where both are
 first_none : (a b : Option Refusal) → first_refusal a b ≡ None → (a ≡ None) × (b ≡ None)
 first_none None b e = (refl, e)
 first_none (Some why) b e = cc
 
+-- so a change without a refusal keeps the shape, and passes what comes next
 pub passes_all : (primary : Bool) (before after : List (List ℕ)) (next : Option Refusal) → first_refusal (shape_refusal primary before after) next ≡ None → (keeps_shape primary before after ≡ true) × (next ≡ None)
 passes_all primary before after next e =
     let p = first_none (shape_refusal primary before after) next e in
@@ -216,19 +304,19 @@ pub record IsMade (hdus : List HduState) (tail : List ℕ) (edit : Edit) (i : �
   pub at : IsHduAt hdus (hdu_named edit) i state
   pub file : IsFile (file_of (state_of hdus tail))
   pub made : change_of state.hdu.header.cards edit ≡ Ok change
-  pub sizes : All (λ card. length card ≡ 80) (new_cards change)
+  pub inner : All IsInnerCard (new_cards change)
   pub whole : IsHdu (is_primary state.shape.class) state.hdu
   pub size : len ≡ length (joined_hdus (hdus_of (held_of hdus))) + length tail
   pub number : count ≡ length hdus
 
 -- it is known once cards were read for it, and the HDU was found whole
 pub is_made : (hdus : List HduState) (tail : List ℕ) (edit : Edit) (i : ℕ) (state left : HduState) (change : Change) (len count : ℕ) → IsHduAt hdus (hdu_named edit) i state → IsFile (file_of (state_of hdus tail)) → change_of state.hdu.header.cards edit ≡ Ok change
-    → All (λ card. length card ≡ 80) (new_cards change) → ReadsUpTo state left (own_reads state.hdu.header.cards edit) → IsHdu (is_primary left.shape.class) left.hdu → len ≡ length (joined_hdus (hdus_of (held_of hdus))) + length tail → count ≡ length hdus → IsMade hdus tail edit i state change len count
-is_made hdus tail edit i state left change len count at file made sizes r whole size number = record {
+    → All IsInnerCard (new_cards change) → ReadsUpTo state left (own_reads state.hdu.header.cards edit) → IsHdu (is_primary left.shape.class) left.hdu → len ≡ length (joined_hdus (hdus_of (held_of hdus))) + length tail → count ≡ length hdus → IsMade hdus tail edit i state change len count
+is_made hdus tail edit i state left change len count at file made inner r whole size number = record {
   at = at;
   file = file;
   made = made;
-  sizes = sizes;
+  inner = inner;
   whole = rw (r.hdu, r.shape) at whole;
   size = size;
   number = number;
@@ -241,9 +329,6 @@ module _ (hdus : List HduState) (tail : List ℕ) (edit : Edit) (i : ℕ) (state
   there : slice_get (hdus_of (held_of hdus)) i ≡ Some state.hdu
   there = slice_get-hdus_of hdus i state p.at.index.within p.at.is
 
-  inner : All IsInnerCard (new_cards change)
-  inner = made_inner state.hdu.header.cards edit change p.made p.sizes
-
   primary : is_primary state.shape.class ≡ is_primary_hdu (suc i)
   primary = primary_there hdus tail (hdu_named edit) i state p.file p.at p.whole ∙ ap is_primary_hdu named
 
@@ -253,7 +338,7 @@ module _ (hdus : List HduState) (tail : List ℕ) (edit : Edit) (i : ℕ) (state
       let whole = subst (λ (b : Bool). IsHdu b state.hdu) primary p.whole in
       omega (
         arith,
-        length_file (file_of (state_of hdus tail)) i state.hdu change there whole inner,
+        length_file (file_of (state_of hdus tail)) i state.hdu change there whole p.inner,
         length-append (joined_hdus (hdus_of (held_of hdus))) tail,
         p.size,
         header_part (is_primary state.shape.class) state.hdu p.whole,
@@ -330,7 +415,7 @@ module _ (hdus : List HduState) (tail : List ℕ) (edit : Edit) (i : ℕ) (state
       let kept : keeps_shape (is_primary_hdu (suc i)) state.hdu.header.cards (cards_after state.hdu.header.cards change) ≡ true = rw named at tests.0 in
       let size : size_refusal after ≡ None = rw named at tests.1 in
       subst (λ (f : FileParts). IsFile f) (sym (file_left left new r is))
-      (file_kept (file_bytes file) file i state.hdu change p.file there inner kept (limit_none (is_within_limits (length (file_bytes after)) (length after.hdus)) size))
+      (file_kept (file_bytes file) file i state.hdu change p.file there p.inner kept (limit_none (is_within_limits (length (file_bytes after)) (length after.hdus)) size))
 
   -- of which the HDUs have the rest of the bytes
   pub leaves_length : (left new : HduState) (n : ℕ) → ReadsUpTo state left (own_reads state.hdu.header.cards edit) → new.hdu ≡ hdu_after change left.hdu → n ≡ length_after len left.hdu.header.cards (cards_after left.hdu.header.cards change)

@@ -1,4 +1,4 @@
--- The HDUs at the front of bytes.
+-- The HDUs that begin bytes.
 use Rattle.std.proofs.Common.{◌≡◌, ℕ, ◌<◌, ◌≤◌, Bool, true, false, List, [], ◌∷◌, ◌++◌, length, refl, ap, sym, ◌∙◌, append_assoc, arith, All, suc}
 use Rattle.std.proofs.lemmas.List.{append-nil, length-append}
 use Rattle.std.proofs.lemmas.List.Elements.{All-push}
@@ -18,6 +18,7 @@ hdu_long primary hdu p =
 joined-first : (u : HduParts) (us : List HduParts) (s : List ℕ) → joined_hdus (u ∷ us) ++ s ≡ hdu_bytes u ++ (joined_hdus us ++ s)
 joined-first u us s = append_assoc (hdu_bytes u) (joined_hdus us) s
 
+-- one HDU more before a rest
 joined-push : (us : List HduParts) (u : HduParts) (s : List ℕ) → joined_hdus (us ++ u ∷ []) ++ s ≡ joined_hdus us ++ (hdu_bytes u ++ s)
 joined-push us u s =
     ap (λ t. t ++ s) (flat_map-append hdu_bytes us (u ∷ []) ∙ ap (λ t. joined_hdus us ++ t) (append-nil (hdu_bytes u)))
@@ -40,14 +41,17 @@ front_push f (v ∷ vs) u rest after p q = record {
   others = All-push (IsHdu false) vs u p.others q.whole;
 }
 
+-- after one more HDU the next one is an extension
 pub goes_on-push : (us : List HduParts) (u : HduParts) (rest : List ℕ) → goes_on (us ++ u ∷ []) rest ≡ begins_extension rest
 goes_on-push [] u rest = refl
 goes_on-push (v ∷ vs) u rest = refl
 
+-- so it is after any HDU
 pub goes_on-some : (us : List HduParts) (rest : List ℕ) → 0 < length us → goes_on us rest ≡ begins_extension rest
 goes_on-some [] rest l = absurd (omega arith)
 goes_on-some (u ∷ us) rest l = refl
 
+-- lists are one where their heads and tails are
 cons_eq : (u v : HduParts) (us vs : List HduParts) → u ≡ v → us ≡ vs → u ∷ us ≡ v ∷ vs
 cons_eq u v us vs p q = rw (p, q) refl
 
@@ -55,10 +59,11 @@ cons_eq u v us vs p q = rw (p, q) refl
 first_extension : (f : List ℕ) (u : HduParts) (us : List HduParts) (s : List ℕ) → All (IsHdu false) (u ∷ us) → f ≡ joined_hdus (u ∷ us) ++ s → IsHduOf false f u (joined_hdus us ++ s)
 first_extension f u us s p e = record { whole = p 0 u (omega arith); joined = e ∙ joined-first u us s }
 
+-- the first HDU, and what follows it
 first_hdu : (f : List ℕ) (u : HduParts) (us : List HduParts) (s : List ℕ) → IsFrontOf f (u ∷ us) s → IsHduOf true f u (joined_hdus us ++ s)
 first_hdu f u us s p = record { whole = p.first 0 u (omega arith); joined = p.joined ∙ joined-first u us s }
 
--- as many extensions at the front of the same bytes are the same ones
+-- as many extensions that begin the same bytes are the same ones
 extensions_level : (us vs : List HduParts) (s t : List ℕ) → All (IsHdu false) us → All (IsHdu false) vs → joined_hdus us ++ s ≡ joined_hdus vs ++ t → length us ≡ length vs → (us ≡ vs) × (s ≡ t)
 extensions_level [] [] s t p q e l = (refl, e)
 extensions_level [] (v ∷ vs) s t p q e l = absurd (omega arith)
@@ -68,7 +73,7 @@ extensions_level (u ∷ us) (v ∷ vs) s t p q e l =
     let more = extensions_level us vs s t (λ k d h. p (suc k) d (omega arith)) (λ k d h. q (suc k) d (omega arith)) one.1 (omega arith) in
     (cons_eq u v us vs one.0 more.0, more.1)
 
--- behind fewer of them another one follows
+-- after fewer of them another one follows
 extensions_ahead : (us vs : List HduParts) (s t : List ℕ) → All (IsHdu false) us → All (IsHdu false) vs → joined_hdus us ++ s ≡ joined_hdus vs ++ t → length us < length vs → BeginsWithHdu false s
 extensions_ahead [] [] s t p q e l = absurd (omega arith)
 extensions_ahead [] (v ∷ vs) s t p q e l = (v, joined_hdus vs ++ t, first_extension s v vs t q e)
@@ -87,7 +92,7 @@ fronts_level f (u ∷ us) (v ∷ vs) s t p q l =
     let more = extensions_level us vs s t p.others q.others one.1 (omega arith) in
     (cons_eq u v us vs one.0 more.0, more.1)
 
--- behind the shorter one another HDU follows
+-- after the shorter one another HDU follows
 pub fronts_ahead : (f : List ℕ) (a b : List HduParts) (s t : List ℕ) → IsFrontOf f a s → IsFrontOf f b t → length a < length b → BeginsWithHdu (is_first a) s
 fronts_ahead f [] [] s t p q l = absurd (omega arith)
 fronts_ahead f [] (v ∷ vs) s t p q l =
@@ -109,9 +114,11 @@ pub front_begins : (f : List ℕ) (us : List HduParts) (rest : List ℕ) → IsF
 front_begins f [] rest p l = absurd (omega arith)
 front_begins f (u ∷ us) rest p l = primary_begins f u (joined_hdus us ++ rest) (first_hdu f u us rest p)
 
+-- a file has an HDU
 some_hdus : (us : List HduParts) (rest : List ℕ) → goes_on us rest ≡ false → 0 < length us
 some_hdus [] rest e = cc
 some_hdus (u ∷ us) rest e = omega arith
 
+-- so it begins as a file does
 pub file_begins : (f : List ℕ) (file : FileParts) → IsFileOf f file → BeginsAsFits f
 file_begins f file p = front_begins f file.hdus file.tail p.front (some_hdus file.hdus file.tail p.ends)

@@ -3,10 +3,14 @@ pub mod ChangeLemmas
 pub mod EditLemmas
 pub mod FileLemmas
 pub mod FrontLemmas
+pub mod KeywordLemmas
 pub mod LawLemmas
 pub mod MakingLemmas
 pub mod OffsetLemmas
 pub mod OpeningLemmas
 pub mod QueryLemmas
+pub mod RefusalLemmas
 pub mod SaveLemmas
+pub mod SetLemmas
 pub mod StateLemmas
+pub mod WalkLemmas

@@ -9,7 +9,8 @@ use Rattle.fits_card.proofs.HeaderLemmas.{fill_length-by_cards, length-header_by
 use Rattle.fits_rules.specs.Class.{is_primary}
 use Rattle.fits_hdu.specs.Hdu.{HduParts, hdu_bytes, IsHdu, keeps_shape}
 use Rattle.fits_hdu.specs.State.{HduState}
-use Rattle.fits_session.specs.Limits.{file_limit, is_within_limits, size_within}
+use Rattle.fits_session.specs.Limits.{is_within_limits, size_within}
+use Rattle.fits_session.specs.declared.limits.TheConstants.{FILE_LIMIT}
 use Rattle.fits_session.specs.Refusal.{EditFails, limit_refusal}
 use Rattle.fits_session.specs.Session.{length_after, made_refusal}
 use Rattle.fits_session.specs.declared.refusal.Refusal.TheVariants as refusal
@@ -27,14 +28,15 @@ pub fill_bound : (n : ℕ) → fill_length n ≤ 2800
 fill_bound n = omega (arith, fill_length-by_cards n)
 
 -- too many bytes don't keep to the limits
-not_within : (bytes hdus : ℕ) → file_limit < bytes → is_within_limits bytes hdus ≡ false
+not_within : (bytes hdus : ℕ) → FILE_LIMIT < bytes → is_within_limits bytes hdus ≡ false
 not_within bytes hdus l = search rules
 
-pub too_long : (bytes hdus : ℕ) → file_limit < bytes → size_within bytes hdus ≡ None
+-- so no size comes of them
+pub too_long : (bytes hdus : ℕ) → FILE_LIMIT < bytes → size_within bytes hdus ≡ None
 too_long bytes hdus l = rw (not_within bytes hdus l) refl
 
 -- more cards than a file has bytes for make one too long
-pub too_many : (len before after hdus : ℕ) → file_limit < 80 * after → size_within (len - header_length before + header_length after) hdus ≡ None
+pub too_many : (len before after hdus : ℕ) → FILE_LIMIT < 80 * after → size_within (len - header_length before + header_length after) hdus ≡ None
 too_many len before after hdus l = too_long (len - header_length before + header_length after) hdus (omega arith)
 
 pub ruleset length_steps = (fill_bound, too_many)
@@ -44,6 +46,7 @@ limits_are : (b : Bool) (m n : ℕ) → Some n ≡ (if b then Some m else None) 
 limits_are true m n e = (refl, cc)
 limits_are false m n e = cc
 
+-- none says that they aren't kept
 limits_not : (b : Bool) (m : ℕ) → (let o : Option ℕ = None in o) ≡ (if b then Some m else None) → b ≡ false
 limits_not true m e = cc
 limits_not false m e = refl

@@ -29,12 +29,14 @@ hdus_more hdus i hdu l e =
     let within : i < length (hdus_of (held_of hdus)) = omega (arith, length-hdus_of hdus) in
     take_more (hdus_of (held_of hdus)) i hdu.hdu within ∙ ap (λ u. take i (hdus_of (held_of hdus)) ++ u ∷ []) (get_or-hdus_of hdus i hdu l e)
 
+-- their offsets
 pub offsets_more : (hdus : List HduState) (i start data_start over : ℕ) (hdu : HduState) (offsets : List HduOffsets) → i < length hdus → hdu ≡ get_or hdus i hdu
     → offsets ≡ offsets_from 0 (take i (hdus_of (held_of hdus))) → start ≡ length (joined_hdus (take i (hdus_of (held_of hdus)))) → data_start ≡ start + length (header_bytes hdu.hdu.header) → over ≡ data_start + length hdu.hdu.data_unit
     → offsets ++ (let here : HduOffsets = record { header_start = start; data_start = data_start; hdu_end = over } in here) ∷ [] ≡ offsets_from 0 (take (i + 1) (hdus_of (held_of hdus)))
 offsets_more hdus i start data_start over hdu offsets l e p q r s =
     rw (p, s, r, q) (sym (ap (offsets_from 0) (hdus_more hdus i hdu l e) ∙ offsets-push 0 (take i (hdus_of (held_of hdus))) hdu.hdu ∙ ap (λ n. offsets_from 0 (take i (hdus_of (held_of hdus))) ++ offsets_at n hdu.hdu ∷ []) (zero-add (length (joined_hdus (take i (hdus_of (held_of hdus))))))))
 
+-- and where the next one begins
 pub start_more : (hdus : List HduState) (i start data_start over : ℕ) (hdu : HduState) → i < length hdus → hdu ≡ get_or hdus i hdu
     → start ≡ length (joined_hdus (take i (hdus_of (held_of hdus)))) → data_start ≡ start + length (header_bytes hdu.hdu.header) → over ≡ data_start + length hdu.hdu.data_unit
     → over ≡ length (joined_hdus (take (i + 1) (hdus_of (held_of hdus))))
@@ -59,7 +61,8 @@ ends_within hdus i start hdu l e q =
     let within : i < length (hdus_of (held_of hdus)) = omega (arith, length-hdus_of hdus) in
     omega (arith, q, length-flat_map-take hdu_bytes (hdus_of (held_of hdus)) i hdu.hdu within, ap (λ u. length (hdu_bytes u)) here, length-append (header_bytes hdu.hdu.header) hdu.hdu.data_unit)
 
+-- the offsets of all
 pub offsets_all : (hdus : List HduState) (i : ℕ) (offsets : List HduOffsets) → length hdus ≤ i → offsets ≡ offsets_from 0 (take i (hdus_of (held_of hdus))) → offsets ≡ offsets_from 0 (hdus_of (held_of hdus))
 offsets_all hdus i offsets l p = p ∙ ap (offsets_from 0) (take_all i (hdus_of (held_of hdus)) (omega (arith, length-hdus_of hdus)))
 
-pub ruleset offset_steps = (offsets_more, start_more, ends_within, offsets_all)
+pub ruleset offset_steps = (ends_within, offsets_all)

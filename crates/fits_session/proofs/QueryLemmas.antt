@@ -2,6 +2,8 @@
 use Rattle.std.proofs.Common.{◌≡◌, ℕ, ◌+◌, ◌*◌, List, length, set, refl, ap, sym, ◌∙◌, subst, Option, None, Some}
 use Rattle.std.specs.Prelude.{Result, Ok, Err, IsOk}
 use Rattle.fits_value.specs.declared.value.Value.{Value}
+use Rattle.fits_header.specs.Names.{header_names}
+use Rattle.fits_header.specs.Places.{keyword_places}
 use Rattle.fits_rules.specs.Class.{is_primary}
 use Rattle.fits_rules.specs.Image.{image_bits}
 use Rattle.fits_rules.specs.Shape.{shape_of}
@@ -13,12 +15,14 @@ use Rattle.fits_hdu.specs.State.{HduState, ReadsUpTo}
 use Rattle.fits_hdu.specs.declared.kind.Kind.{Kind}
 use Rattle.fits_hdu.specs.declared.keyword.KeywordFault.{KeywordFault}
 use Rattle.fits_hdu.specs.declared.keyword.KeywordFault.TheVariants as keyword
+use Rattle.fits_session.specs.Edit.{hdu_of}
 use Rattle.fits_session.specs.File.{IsFile}
-use Rattle.fits_session.specs.Query.{card_count_in, IsShapeIn, IsKindIn, HasNoKind, value_in, in_hdu, or_refused, refusal_of_keyword, ValueFails}
+use Rattle.fits_session.specs.Query.{card_count_in, IsShapeIn, IsKindIn, HasNoKind, value_in, positions_in, names_in, in_hdu, or_refused, refusal_of_keyword, QueryFails}
 use Rattle.fits_session.specs.Refusal.{is_primary_hdu}
 use Rattle.fits_session.specs.Session.{file_of, state_of, Asks}
-use Rattle.fits_session.specs.Work.{count_in, kind_reads, value_reads}
+use Rattle.fits_session.specs.Work.{count_in, kind_reads, name_reads, value_reads}
 use Rattle.fits_session.specs.declared.refusal.Refusal.{Refusal}
+use Rattle.fits_session.specs.declared.refusal.Refusal.TheVariants as refusal
 use Rattle.fits_session.proofs.StateLemmas.{IsHduAt, hdu_of-there, described_there, asked}
 
 -- how many cards HDU h has
@@ -78,10 +82,35 @@ says_something (Ok said) p = refl
 says_something (Err why) p = cc
 
 -- so a keyword's fault is the query's
-pub value_fails : (hdus : List HduState) (tail : List ℕ) (h i : ℕ) (hdu : HduState) (name : List ℕ) (why : KeywordFault) → IsHduAt hdus h i hdu → KeywordFails hdu.hdu.header.cards name why → ValueFails (file_of (state_of hdus tail)) h name (refusal_of_keyword why)
+pub value_fails : (hdus : List HduState) (tail : List ℕ) (h i : ℕ) (hdu : HduState) (name : List ℕ) (why : KeywordFault) → IsHduAt hdus h i hdu → KeywordFails hdu.hdu.header.cards name why → QueryFails (value_in (file_of (state_of hdus tail)) h name) (refusal_of_keyword why)
 value_fails hdus tail h i hdu name keyword.NoKey at p = value_err hdus tail h i hdu name keyword.NoKey at p
 value_fails hdus tail h i hdu name keyword.BadValue at p = value_err hdus tail h i hdu name keyword.BadValue at p
 value_fails hdus tail h i hdu name keyword.Memory at p = rw (value_there hdus tail h i hdu name at) (says_something (keyword_value hdu.hdu.header.cards name) p)
+
+-- what a query that HDU h answers says
+answer_there : {X : Type 0} (answer : HduParts → Result X Refusal) (hdus : List HduState) (tail : List ℕ) (h i : ℕ) (hdu : HduState) → IsHduAt hdus h i hdu → in_hdu answer (hdu_of (file_of (state_of hdus tail)) h) ≡ answer hdu.hdu
+answer_there answer hdus tail h i hdu at = ap (in_hdu answer) (hdu_of-there hdus tail h i hdu at)
+
+-- the places of a name
+pub places_there : (hdus : List HduState) (tail : List ℕ) (h i : ℕ) (hdu : HduState) (name places : List ℕ) → IsHduAt hdus h i hdu → places ≡ keyword_places hdu.hdu.header.cards name → positions_in (file_of (state_of hdus tail)) h name ≡ Ok places
+places_there hdus tail h i hdu name places at is = answer_there (λ (u : HduParts). Ok (keyword_places u.header.cards name)) hdus tail h i hdu at ∙ ap Ok (sym is)
+
+-- they are refused for memory alone
+pub no_places : (hdus : List HduState) (tail : List ℕ) (h i : ℕ) (hdu : HduState) (name : List ℕ) → IsHduAt hdus h i hdu → QueryFails (positions_in (file_of (state_of hdus tail)) h name) refusal.Memory
+no_places hdus tail h i hdu name at = rw (places_there hdus tail h i hdu name (keyword_places hdu.hdu.header.cards name) at refl) refl
+
+-- the names of a header
+pub names_there : (hdus : List HduState) (tail : List ℕ) (h i : ℕ) (hdu : HduState) (names : List (List ℕ)) → IsHduAt hdus h i hdu → names ≡ header_names hdu.hdu.header.cards → names_in (file_of (state_of hdus tail)) h ≡ Ok names
+names_there hdus tail h i hdu names at is = answer_there (λ (u : HduParts). Ok (header_names u.header.cards)) hdus tail h i hdu at ∙ ap Ok (sym is)
+
+-- they are refused for memory alone
+pub no_names : (hdus : List HduState) (tail : List ℕ) (h i : ℕ) (hdu : HduState) → IsHduAt hdus h i hdu → QueryFails (names_in (file_of (state_of hdus tail)) h) refusal.Memory
+no_names hdus tail h i hdu at = rw (names_there hdus tail h i hdu (header_names hdu.hdu.header.cards) at refl) refl
+
+-- what these two read
+pub name_asks : (hdus : List HduState) (tail : List ℕ) (h i : ℕ) (old new : HduState) → IsHduAt hdus h i old → ReadsUpTo old new (length old.hdu.header.cards) → Asks h (name_reads (file_of (state_of hdus tail)) h) (state_of hdus tail) (state_of (set hdus i new) tail)
+name_asks hdus tail h i old new at r =
+    asked hdus tail h i (name_reads (file_of (state_of hdus tail)) h) old new at (subst (λ (o : Option HduParts). ReadsUpTo old new (count_in o)) (sym (hdu_of-there hdus tail h i old at)) r)
 
 -- what the query of a kind reads
 pub kind_asks : (hdus : List HduState) (tail : List ℕ) (h i : ℕ) (old new : HduState) → IsHduAt hdus h i old → ReadsUpTo old new (2 * (length old.hdu.header.cards + 1)) → Asks h (kind_reads (file_of (state_of hdus tail)) h) (state_of hdus tail) (state_of (set hdus i new) tail)

@@ -12,7 +12,7 @@ use Rattle.fits_hdu.specs.State.{HduState, ReadsUpTo}
 use Rattle.fits_hdu.proofs.ShapeLemmas.{one_primary}
 use Rattle.fits_session.specs.Edit.{hdu_of, changed_at, changed_of}
 use Rattle.fits_session.specs.File.{FileParts, IsFile, file_bytes, joined_hdus}
-use Rattle.fits_session.specs.Limits.{file_limit}
+use Rattle.fits_session.specs.declared.limits.TheConstants.{FILE_LIMIT}
 use Rattle.fits_session.specs.Refusal.{is_primary_hdu}
 use Rattle.fits_session.specs.Session.{Held, SessionState, file_of, hdus_of, reads_of, held_as, held_of, state_of, ReadsOnly, Asks, IsIndexOf, IsNowhere}
 use Rattle.fits_session.proofs.ChangeLemmas.{hdu_is, part_within}
@@ -82,6 +82,7 @@ past_last [] k l = refl
 past_last (u ∷ us) zero l = absurd (omega arith)
 past_last (u ∷ us) (suc k) l = past_last us k (omega arith)
 
+-- no HDU has a number past the last
 after_last : (file : FileParts) (h : ℕ) → length file.hdus < h → hdu_of file h ≡ None
 after_last file zero l = refl
 after_last file (suc h) l = past_last file.hdus h (omega arith)
@@ -113,7 +114,7 @@ pub part_there : (hdus : List HduState) (h i : ℕ) (hdu : HduState) → IsHduAt
 part_there hdus h i hdu at = part_within (hdus_of (held_of hdus)) i hdu.hdu (slice_get-hdus_of hdus i hdu at.index.within at.is)
 
 -- which is not too long
-pub file_size : (hdus : List HduState) (tail : List ℕ) → IsFile (file_of (state_of hdus tail)) → length (joined_hdus (hdus_of (held_of hdus))) + length tail ≤ file_limit
+pub file_size : (hdus : List HduState) (tail : List ℕ) → IsFile (file_of (state_of hdus tail)) → length (joined_hdus (hdus_of (held_of hdus))) + length tail ≤ FILE_LIMIT
 file_size hdus tail p = omega (arith, p.size, length-append (joined_hdus (hdus_of (held_of hdus))) tail)
 
 -- a count of 0 changes nothing
@@ -122,6 +123,7 @@ changed-none h [] = refl
 changed-none zero (x ∷ xs) = ap (λ n. n ∷ xs) (omega arith)
 changed-none (suc h) (x ∷ xs) = ap (λ ns. x ∷ ns) (changed-none h xs)
 
+-- of no HDU
 pub reads_none : (h most : ℕ) (reads : List ℕ) → ReadsOnly h most reads reads
 reads_none zero most reads = record { count = 0; few = omega arith; is = refl }
 reads_none (suc h) most reads = record { count = 0; few = omega arith; is = sym (changed-none h reads) }

@@ -1,16 +1,22 @@
 -- Edits: the change that each makes of the cards of its HDU, and the file after it (own).
-use Rattle.std.specs.Prelude.{◌≡◌, ℕ, ◌+◌, ◌&&◌, Bool, not, nat_le, List, [], ◌∷◌, length, All, Option, None, Some, Result, Ok, Err, zero, suc, if◌then◌else◌}
+use Rattle.std.specs.Prelude.{◌≡◌, ℕ, ◌+◌, ◌&&◌, Bool, not, nat_le, List, [], ◌∷◌, length, Option, None, Some, Result, Ok, Err, zero, suc, if◌then◌else◌}
 use Rattle.std.specs.List.{slice_get, list_all, list_any}
+use Rattle.std.specs.Str.{bytes_eq}
 use Rattle.fits_card.specs.Card.{is_text, is_end}
 use Rattle.fits_card.specs.Change.{new_cards}
+use Rattle.fits_card.specs.Name.{blank_name, is_settable, is_spelled}
 use Rattle.fits_card.specs.declared.change.Change.{Change}
-use Rattle.fits_card.specs.declared.change.Change.TheVariants.{Splice, Move}
+use Rattle.fits_card.specs.declared.change.Change.TheVariants as change
+use Rattle.fits_value.specs.Written.{write_says}
+use Rattle.fits_value.specs.declared.value.Value.{Value}
 use Rattle.fits_hdu.specs.Hdu.{HduParts, hdu_after}
+use Rattle.fits_hdu.specs.Keyword.{keyword_cards}
+use Rattle.fits_hdu.specs.declared.keyword_cards.KeywordCards.{KeywordCards}
 use Rattle.fits_session.specs.File.{FileParts}
 use Rattle.fits_session.specs.declared.edit.Edit.{Edit}
-use Rattle.fits_session.specs.declared.edit.Edit.TheVariants.{Insert}
+use Rattle.fits_session.specs.declared.edit.Edit.TheVariants.{Insert, Put, Delete, Move, Set, Unset}
 use Rattle.fits_session.specs.declared.refusal.Refusal.{Refusal}
-use Rattle.fits_session.specs.declared.refusal.Refusal.TheVariants.{NoCard, BadText, EndCard}
+use Rattle.fits_session.specs.declared.refusal.Refusal.TheVariants.{NoCard, NoKey, BadText, EndCard, BadName, BadValue}
 
 -- HDU h, from 1, if it is there
 abbrev pub hdu_of : FileParts → ℕ → Option HduParts
@@ -42,8 +48,8 @@ is_splice_within count place removed = nat_le 1 place && nat_le (place + removed
 
 -- the places of a change are in range among so many cards
 abbrev pub is_in_range : ℕ → Change → Bool
-is_in_range count (Splice place removed new) = is_splice_within count place removed
-is_in_range count (Move from to) = is_within from count && is_within to count
+is_in_range count (change.Splice place removed new) = is_splice_within count place removed
+is_in_range count (change.Move from to) = is_within from count && is_within to count
 
 -- the tests of a change by itself: its places, and that the cards that it puts in are text, and none is END
 unfoldable pub own_refusal : ℕ → Change → Option Refusal
@@ -62,13 +68,51 @@ unless (Some why) change = Err why
 abbrev pub tested : ℕ → Change → Result Change Refusal
 tested count change = unless (own_refusal count change) change
 
+-- the name is a keyword's: spelled as the standard asks, and not of spaces alone (4.1.2.1)
+abbrev pub is_keyword_name : List ℕ → Bool
+is_keyword_name name = is_spelled name && not (bytes_eq name blank_name)
+
+-- new cards instead of a keyword's among so many; where it has no lead they go behind the last
+abbrev pub replacing : ℕ → Option KeywordCards → List (List ℕ) → Change
+replacing count None new = change.Splice (count + 1) 0 new
+replacing count (Some old) new = change.Splice old.place old.count new
+
+-- written cards instead of a keyword's, if its value and comment can be written
+abbrev pub setting : ℕ → Option KeywordCards → Option (List (List ℕ)) → Result Change Refusal
+setting count old None = Err BadValue
+setting count old (Some new) = Ok (replacing count old new)
+
+-- nothing instead of a keyword's cards, if it has a lead
+abbrev pub unsetting : Option KeywordCards → Result Change Refusal
+unsetting None = Err NoKey
+unsetting (Some old) = Ok (change.Splice old.place old.count [])
+
+-- the change that gives a keyword a value and a comment; an old comment doesn't stay
+unfoldable pub set_of : List (List ℕ) → List ℕ → Value → Option (List ℕ) → Result Change Refusal
+set_of cards name value comment =
+    if is_settable name then setting (length cards) (keyword_cards cards name) (write_says name value comment) else Err BadName
+
+-- the change that takes a keyword out
+unfoldable pub unset_of : List (List ℕ) → List ℕ → Result Change Refusal
+unset_of cards name = if is_keyword_name name then unsetting (keyword_cards cards name) else Err BadName
+
 -- the change that an edit makes of the cards of its HDU, or the first of its own tests that fails
 unfoldable pub change_of : List (List ℕ) → Edit → Result Change Refusal
-change_of cards (Insert h place card) = tested (length cards) (Splice place 0 (card ∷ []))
+change_of cards (Insert h place card) = tested (length cards) (change.Splice place 0 (card ∷ []))
+change_of cards (Put h place card) = tested (length cards) (change.Splice place 1 (card ∷ []))
+change_of cards (Delete h place) = tested (length cards) (change.Splice place 1 [])
+change_of cards (Move h from to) = tested (length cards) (change.Move from to)
+change_of cards (Set h name value comment) = set_of cards name value comment
+change_of cards (Unset h name) = unset_of cards name
 
 -- the HDU that an edit names
 abbrev pub hdu_named : Edit → ℕ
 hdu_named (Insert h place card) = h
+hdu_named (Put h place card) = h
+hdu_named (Delete h place) = h
+hdu_named (Move h from to) = h
+hdu_named (Set h name value comment) = h
+hdu_named (Unset h name) = h
 
 -- an HDU after a change of its cards; one that isn't made leaves it
 abbrev pub hdu_changed : Result Change Refusal → HduParts → HduParts
@@ -79,7 +123,9 @@ hdu_changed (Err why) hdu = hdu
 unfoldable pub file_after : FileParts → Edit → FileParts
 file_after file edit = with_hdu file (hdu_named edit) (λ hdu. hdu_changed (change_of hdu.header.cards edit) hdu)
 
--- the cards that an edit puts into an HDU have 80 bytes (4.1)
-abbrev pub HasCards : FileParts → Edit → Type 0
-HasCards file edit =
-    (hdu : HduParts) (change : Change) → hdu_of file (hdu_named edit) ≡ Some hdu → change_of hdu.header.cards edit ≡ Ok change → All (λ card. length card ≡ 80) (new_cards change)
+-- its card has 80 bytes (4.1), and the name that it sets has 8 (4.1.2.1)
+abbrev pub HasSizes : Edit → Type 0
+HasSizes (Insert h place card) = length card ≡ 80
+HasSizes (Put h place card) = length card ≡ 80
+HasSizes (Set h name value comment) = length name ≡ 8
+HasSizes edit = Unit {0}

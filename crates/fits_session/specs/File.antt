@@ -3,7 +3,7 @@ use Rattle.std.specs.Prelude.{◌≡◌, ℕ, ◌+◌, ◌≤◌, Bool, true, fa
 use Rattle.std.specs.List.{flat_map, starts_with}
 use Rattle.fits_card.specs.Header.{header_bytes}
 use Rattle.fits_hdu.specs.Hdu.{HduParts, hdu_bytes, IsHdu}
-use Rattle.fits_session.specs.Limits.{file_limit, hdu_limit}
+use Rattle.fits_session.specs.declared.limits.TheConstants.{FILE_LIMIT, HDU_LIMIT}
 use Rattle.fits_session.specs.declared.offsets.HduOffsets.{HduOffsets}
 
 -- the HDUs, and what follows the last one (own)
@@ -43,8 +43,8 @@ pub record IsFrontOf (bytes : List ℕ) (hdus : List HduParts) (rest : List ℕ)
 pub record IsFileOf (bytes : List ℕ) (file : FileParts) : Type 0 where
   pub front : IsFrontOf bytes file.hdus file.tail
   pub ends : goes_on file.hdus file.tail ≡ false
-  pub size : length bytes ≤ file_limit
-  pub count : length file.hdus ≤ hdu_limit
+  pub size : length bytes ≤ FILE_LIMIT
+  pub count : length file.hdus ≤ HDU_LIMIT
 
 -- the parts are those of a file
 abbrev pub IsFile : FileParts → Type 0

@@ -3,6 +3,7 @@ pub mod File
 pub mod Limits
 pub mod Opening
 pub mod Query
+pub mod Reading
 pub mod Refusal
 pub mod Session
 pub mod Work

@@ -4,7 +4,7 @@ use Rattle.std.specs.List.{starts_with}
 use Rattle.fits_hdu.specs.Hdu.{HduParts, HasHduFault}
 use Rattle.fits_hdu.specs.declared.fault.HduFault.{HduFault}
 use Rattle.fits_hdu.specs.declared.fault.HduFault.TheVariants as hdu_fault
-use Rattle.fits_session.specs.Limits.{file_limit, hdu_limit}
+use Rattle.fits_session.specs.declared.limits.TheConstants.{FILE_LIMIT, HDU_LIMIT}
 use Rattle.fits_session.specs.File.{FileParts, IsFileOf, IsFrontOf, goes_on, is_first, begins_extension}
 use Rattle.fits_session.specs.declared.open_fault.OpenFault.{OpenFault}
 use Rattle.fits_session.specs.declared.open_fault.OpenFault.TheVariants.{NotFits, NoEnd, BadShape, ShortData, TooLarge, Memory}
@@ -19,13 +19,13 @@ pub record StopsAt (bytes : List ℕ) (h : ℕ) (fault : HduFault) : Type 0 wher
   pub rest : List ℕ
   pub front : IsFrontOf bytes before rest
   pub more : goes_on before rest ≡ true
-  pub few : length before < hdu_limit
+  pub few : length before < HDU_LIMIT
   pub here : HasHduFault (is_first before) rest fault
   pub at : h ≡ length before + 1
 
 -- the file isn't too long, begins as one, and HDU h is the first that can't be read
 pub record FailsAt (bytes : List ℕ) (h : ℕ) (fault : HduFault) : Type 0 where
-  pub size : length bytes ≤ file_limit
+  pub size : length bytes ≤ FILE_LIMIT
   pub begins : BeginsAsFits bytes
   pub stops : StopsAt bytes h fault
 
@@ -34,16 +34,16 @@ pub record HasTooManyHdus (bytes : List ℕ) : Type 0 where
   pub before : List HduParts
   pub rest : List ℕ
   pub front : IsFrontOf bytes before rest
-  pub all : length before ≡ hdu_limit
+  pub all : length before ≡ HDU_LIMIT
   pub more : begins_extension rest ≡ true
 
 -- why the bytes don't open: their length before all else, then their first bytes, then HDU after HDU
 abbrev pub HasOpenFault : List ℕ → OpenFault → Type 0
-HasOpenFault bytes NotFits = (length bytes ≤ file_limit) × (BeginsAsFits bytes → ⊥)
+HasOpenFault bytes NotFits = (length bytes ≤ FILE_LIMIT) × (BeginsAsFits bytes → ⊥)
 HasOpenFault bytes (NoEnd h) = FailsAt bytes h hdu_fault.NoEnd
 HasOpenFault bytes (BadShape h place) = FailsAt bytes h (hdu_fault.BadShape place)
 HasOpenFault bytes (ShortData h) = FailsAt bytes h hdu_fault.ShortData
-HasOpenFault bytes TooLarge = (file_limit < length bytes) ⊎ HasTooManyHdus bytes
+HasOpenFault bytes TooLarge = (FILE_LIMIT < length bytes) ⊎ HasTooManyHdus bytes
 HasOpenFault bytes Memory = ⊥
 
 -- opening these bytes may end so: by their fault, or out of memory
@@ -64,4 +64,4 @@ IsFileOrNot bytes = ((file : FileParts) × IsFileOf bytes file) ⊎ ((fault : Op
 
 -- another HDU follows so many: an extension that begins, unless there are as many as a file may have
 abbrev pub goes_on_after : List ℕ → ℕ → Result Bool OpenFault
-goes_on_after rest hdus = if begins_extension rest then (if hdus == hdu_limit then Err TooLarge else Ok true) else Ok false
+goes_on_after rest hdus = if begins_extension rest then (if hdus == HDU_LIMIT then Err TooLarge else Ok true) else Ok false

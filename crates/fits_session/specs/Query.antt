@@ -1,6 +1,8 @@
 -- What queries answer of a file: a fresh reading of it (own).
 use Rattle.std.specs.Prelude.{◌≡◌, ℕ, List, length, Option, None, Some, Result, Ok, Err, IsOk}
 use Rattle.fits_value.specs.declared.value.Value.{Value}
+use Rattle.fits_header.specs.Names.{header_names}
+use Rattle.fits_header.specs.Places.{keyword_places}
 use Rattle.fits_rules.specs.Shape.{shape_of}
 use Rattle.fits_rules.specs.declared.array_shape.Shape.{Shape}
 use Rattle.fits_hdu.specs.Hdu.{HduParts}
@@ -65,7 +67,15 @@ or_refused (Err why) = Err (refusal_of_keyword why)
 abbrev pub value_in : FileParts → ℕ → List ℕ → Result (Value × Option (List ℕ)) Refusal
 value_in file h name = in_hdu (λ hdu. or_refused (keyword_value hdu.header.cards name)) (hdu_of file h)
 
--- asking for a keyword may end so: by its refusal, or out of memory where it has a value
-abbrev pub ValueFails : FileParts → ℕ → List ℕ → Refusal → Type 0
-ValueFails file h name Memory = IsOk (value_in file h name)
-ValueFails file h name why = value_in file h name ≡ Err why
+-- the places of the cards of a name in HDU h, ascending
+abbrev pub positions_in : FileParts → ℕ → List ℕ → Result (List ℕ) Refusal
+positions_in file h name = in_hdu (λ hdu. Ok (keyword_places hdu.header.cards name)) (hdu_of file h)
+
+-- the names of the cards of HDU h, each once, ascending by bytes
+abbrev pub names_in : FileParts → ℕ → Result (List (List ℕ)) Refusal
+names_in file h = in_hdu (λ hdu. Ok (header_names hdu.header.cards)) (hdu_of file h)
+
+-- a query may end so: by its refusal, or out of memory where it has an answer
+abbrev pub QueryFails : {X : Type 0} → Result X Refusal → Refusal → Type 0
+QueryFails answer Memory = IsOk answer
+QueryFails answer why = answer ≡ Err why

@@ -10,7 +10,9 @@ use Rattle.fits_session.specs.Limits.{is_within_limits}
 use Rattle.fits_session.specs.Edit.{hdu_of, hdu_named, change_of, with_hdu}
 use Rattle.fits_session.specs.declared.edit.Edit.{Edit}
 use Rattle.fits_session.specs.declared.refusal.Refusal.{Refusal}
-use Rattle.fits_session.specs.declared.refusal.Refusal.TheVariants.{NoHdu, Shape, TooLarge, Memory}
+use Rattle.fits_session.specs.declared.refusal.Refusal.TheVariants.{NoHdu, BadValue, Shape, TooLarge, Memory}
+use Rattle.fits_value.specs.declared.write.WriteFault.{WriteFault}
+use Rattle.fits_value.specs.declared.write.WriteFault.TheVariants as write
 
 -- whether HDU h is the primary one
 abbrev pub is_primary_hdu : ℕ → Bool
@@ -63,3 +65,8 @@ EditFails refused why = (refused ≡ Some why) ⊎ ((why ≡ Memory) × NeedsMem
 -- making the change of an edit may end so: by its own test that fails, or out of memory where none does
 abbrev pub ChangeFails : Result Change Refusal → Refusal → Type 0
 ChangeFails made why = (made ≡ Err why) ⊎ ((why ≡ Memory) × IsOk made)
+
+-- why cards can't be written, as a refusal
+abbrev pub refusal_of_writing : WriteFault → Refusal
+refusal_of_writing write.BadValue = BadValue
+refusal_of_writing write.Memory = Memory

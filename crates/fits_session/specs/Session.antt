@@ -53,10 +53,19 @@ pub record ReadsOnly (h most : ℕ) (before after : List ℕ) : Type 0 where
   pub few : count ≤ most
   pub is : after ≡ changed_of h (λ reads. reads + count) before
 
--- no count is less than it was
-pub record NeverFalls (before after : List ℕ) : Type 0 where
-  pub size : length after ≡ length before
-  pub grows : (i : ℕ) → get_or before i 0 ≤ get_or after i 0
+-- an HDU with each of its cards read once more
+abbrev pub once_read : Held → Held
+once_read one = record one { reads = one.reads + length one.hdu.header.cards }
+
+-- the same of each
+abbrev pub each_read : List Held → List Held
+each_read held = map once_read held
+
+-- the HDUs stay, no count falls, and no card was read more than once
+pub record ReadsOnceAtMost (before after : List Held) : Type 0 where
+  pub hdus : hdus_of after ≡ hdus_of before
+  pub least : (i : ℕ) → get_or (reads_of before) i 0 ≤ get_or (reads_of after) i 0
+  pub most : (i : ℕ) → get_or (reads_of after) i 0 ≤ get_or (reads_of (each_read before)) i 0
 
 -- an edit owes: it is made where none of its tests fails, and then the file is the one after it; else the file is as
 -- before, and the refusal is the first test's that fails, or memory's. Cards of the HDU that it names alone are read.

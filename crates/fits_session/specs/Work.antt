@@ -8,12 +8,15 @@ use Rattle.fits_session.specs.Edit.{change_of, hdu_named, hdu_of}
 use Rattle.fits_session.specs.File.{FileParts}
 use Rattle.fits_session.specs.Refusal.{is_primary_hdu}
 use Rattle.fits_session.specs.declared.edit.Edit.{Edit}
-use Rattle.fits_session.specs.declared.edit.Edit.TheVariants.{Insert}
+use Rattle.fits_session.specs.declared.edit.Edit.TheVariants.{Set, Unset}
 use Rattle.fits_session.specs.declared.refusal.Refusal.{Refusal}
 
--- how many cards the tests of an edit's own read at most: an insertion's none
+-- how many cards an edit reads at most to find its change: all of them, the lead again, and the one after its last link, where
+-- it names a keyword; else none
 abbrev pub own_reads : List (List ℕ) → Edit → ℕ
-own_reads cards (Insert h place card) = 0
+own_reads cards (Set h name value comment) = length cards + 2
+own_reads cards (Unset h name) = length cards + 2
+own_reads cards edit = 0
 
 -- how many cards a change reads at most: those that say whether the shape stays
 abbrev pub change_reads : Bool → List (List ℕ) → Result Change Refusal → ℕ
@@ -37,6 +40,10 @@ count_in (Some hdu) = length hdu.header.cards
 -- how many cards the query of a kind reads at most: each twice, to find BZERO and BSCALE, and these two
 abbrev pub kind_reads : FileParts → ℕ → ℕ
 kind_reads file h = 2 * (count_in (hdu_of file h) + 1)
+
+-- how many cards the queries of positions and of names read at most: each once
+abbrev pub name_reads : FileParts → ℕ → ℕ
+name_reads file h = count_in (hdu_of file h)
 
 -- how many cards the query of a value reads at most: all of them, the lead again, and the one after its last link
 abbrev pub value_reads : FileParts → ℕ → ℕ

@@ -1,9 +1,10 @@
 ghost use Rattle.std.specs.Prelude.{◌≡◌};
 
-use fits_card::Card;
+use fits_card::{Card, Name};
+use fits_value::{Text, Value};
 
 /// A change of a file. HDUs and places count from 1.
-#[derive(Clone, Copy, PartialEq, Eq, Debug)]
+#[derive(Drop, Debug)]
 pub enum Edit {
     /// The card stands at a place of an HDU, before the one that stood there.
     Insert {
@@ -11,6 +12,40 @@ pub enum Edit {
         /// From 1 to one past the last card.
         place: usize,
         card: Card,
+    },
+    /// The card stands at a place instead of the one that stood there.
+    Put {
+        hdu: usize,
+        /// The place of a card.
+        place: usize,
+        card: Card,
+    },
+    /// The card at a place goes.
+    Delete {
+        hdu: usize,
+        /// The place of a card.
+        place: usize,
+    },
+    /// The card at a place is taken out, and put where it has this place in the result.
+    Move {
+        hdu: usize,
+        /// The place of a card.
+        from: usize,
+        /// The place of a card.
+        to: usize,
+    },
+    /// A keyword has this value and comment: its lead and the CONTINUE cards that belong to it are
+    /// replaced, and an old comment doesn't stay. Without a lead the new cards go to the end.
+    Set {
+        hdu: usize,
+        name: Name,
+        value: Value,
+        comment: Option<Text>,
+    },
+    /// The lead of a keyword goes, with the CONTINUE cards that belong to it.
+    Unset {
+        hdu: usize,
+        name: Name,
     },
 }
 
@@ -23,6 +58,11 @@ impl Edit {
     {
         match self {
             Edit::Insert { hdu, .. } => *hdu,
+            Edit::Put { hdu, .. } => *hdu,
+            Edit::Delete { hdu, .. } => *hdu,
+            Edit::Move { hdu, .. } => *hdu,
+            Edit::Set { hdu, .. } => *hdu,
+            Edit::Unset { hdu, .. } => *hdu,
         }
     }
 }

@@ -1,15 +1,18 @@
 //! Laws of the definitions, each the contract of a function that does nothing.
-ghost use Rattle.std.specs.Prelude.{◌≡◌, ◌≤◌, ℕ, List, length, All, None, Some};
+ghost use Rattle.std.specs.Prelude.{◌≡◌, ◌≤◌, ℕ, List, length, All, Ok, Option, None, Some};
 ghost use Rattle.fits_card.specs.Change.{cards_after, new_cards};
 ghost use Rattle.fits_card.specs.Header.{IsInnerCard};
 ghost use Rattle.fits_card.specs.declared.change.Change.{Change};
+ghost use Rattle.fits_value.specs.declared.value.Value.{Value};
 ghost use Rattle.fits_hdu.specs.Hdu.{HduParts, hdu_after};
-ghost use Rattle.fits_session.specs.Edit.{file_after, hdu_of, with_hdu, HasCards};
+ghost use Rattle.fits_hdu.specs.Keyword.{keyword_value};
+ghost use Rattle.fits_session.specs.Edit.{file_after, hdu_of, set_of, with_hdu, HasSizes};
 ghost use Rattle.fits_session.specs.File.{FileParts, IsFile, IsFileOf};
 ghost use Rattle.fits_session.specs.Opening.{HasOpenFault, IsFileOrNot};
 ghost use Rattle.fits_session.specs.Refusal.{refusal_of, size_refusal};
 ghost use Rattle.fits_session.specs.declared.edit.Edit.{Edit};
 ghost use Rattle.fits_session.specs.declared.open_fault.OpenFault.{OpenFault};
+ghost use Rattle.fits_session.specs.declared.refusal.Refusal.TheVariants.{Memory};
 
 /// Bytes are one file at most.
 pub fn one_file()
@@ -35,8 +38,15 @@ pub fn a_file_or_a_fault()
 
 /// An accepted edit leaves a file: the edited HDUs and the tail.
 pub fn an_edited_file_is_a_file()
-    ensures { (bytes : List ℕ) (file : FileParts) (edit : Edit) → HasCards file edit
+    ensures { (bytes : List ℕ) (file : FileParts) (edit : Edit) → HasSizes edit
         → IsFileOf bytes file → refusal_of file edit ≡ None → IsFile (file_after file edit) }
+{}
+
+/// A keyword that was set says its value and comment.
+pub fn a_set_keyword_says_its_value()
+    ensures { (cards : List (List ℕ)) (name : List ℕ) (value : Value) (comment : Option (List ℕ))
+        (change : Change) → length name ≡ 8 → set_of cards name value comment ≡ Ok change
+        → keyword_value (cards_after cards change) name ≡ Ok (value, comment) }
 {}
 
 /// A change that leaves no more cards than there were passes no limit that the file keeps.
@@ -45,4 +55,9 @@ pub fn fewer_cards_pass_no_limit()
         → IsFileOf bytes file → hdu_of file h ≡ Some hdu → All IsInnerCard (new_cards change)
         → length (cards_after hdu.header.cards change) ≤ length hdu.header.cards
         → size_refusal (with_hdu file h (hdu_after change)) ≡ None }
+{}
+
+/// No test refuses an edit for memory.
+pub fn no_refusal_is_memory()
+    ensures { (file : FileParts) (edit : Edit) → refusal_of file edit ≡ Some Memory → ⊥ }
 {}

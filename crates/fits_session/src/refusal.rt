@@ -1,4 +1,5 @@
 use fits_hdu::KeywordFault;
+use fits_value::WriteFault;
 use std::alloc::{AllocError, AllocFailed};
 use thiserror::Error;
 
@@ -25,7 +26,11 @@ pub enum Refusal {
     /// 6: the cards would describe another shape, or none.
     #[error("6 Shape")]
     Shape,
-    /// 8: the first card of this name that has a value can't be read.
+    /// 7: the name isn't a keyword's, or can't have a value.
+    #[error("7 BadName")]
+    BadName,
+    /// 8: the value or the comment can't be written, or the first card of this name that has a
+    /// value can't be read.
     #[error("8 BadValue")]
     BadValue,
     /// 9: the HDU is no image of integers.
@@ -72,6 +77,20 @@ impl From<KeywordFault> for Refusal {
             KeywordFault::NoKey => Refusal::NoKey,
             KeywordFault::BadValue => Refusal::BadValue,
             KeywordFault::Memory => Refusal::Memory,
+        }
+    }
+}
+
+impl From<WriteFault> for Refusal {
+    ghost use Rattle.fits_session.specs.Refusal.{refusal_of_writing};
+    ghost use Rattle.std.specs.Prelude.{◌≡◌};
+
+    ghost from_gives = { λ fault why. why ≡ refusal_of_writing fault };
+
+    fn from(fault: WriteFault) -> Refusal {
+        match fault {
+            WriteFault::BadValue => Refusal::BadValue,
+            WriteFault::Memory => Refusal::Memory,
         }
     }
 }

@@ -3,17 +3,21 @@ ghost use Rattle.std.specs.Prelude.{◌≡◌};
 mod applying;
 mod changes;
 mod finding;
-mod opening;
+pub(crate) mod opening;
 mod queries;
+mod reading;
 mod saving;
 
 use crate::edit::Edit;
 use crate::limits::FILE_LIMIT;
 use crate::open_fault::OpenFault;
+use crate::read_fault::ReadFileFault;
 use crate::refusal::Refusal;
 use applying::edit_cards;
+use fits_card::Source;
 use fits_hdu::Hdu;
 use opening::open_hdus;
+use reading::read_file;
 use std::alloc::Global;
 use std::marker::Model;
 
@@ -46,10 +50,12 @@ impl Model for Session {
 }
 
 impl Session {
-    ghost use Rattle.std.specs.Prelude.{◌≡◌, ◌<◌, length, IfOk, IfErr, IsErrOf};
+    ghost use Rattle.std.specs.Prelude.{◌≡◌, ◌<◌, length, IfOk, IfErr, IsErrOf, OnOk};
+    ghost use Rattle.fits_card.specs.Intake.{Gives};
     ghost use Rattle.fits_session.specs.File.{IsFileOf};
-    ghost use Rattle.fits_session.specs.Limits.{file_limit};
+    ghost use Rattle.fits_session.specs.declared.limits.TheConstants.{FILE_LIMIT};
     ghost use Rattle.fits_session.specs.Opening.{HasOpenFault, OpenFails};
+    ghost use Rattle.fits_session.specs.Reading.{ReadStops};
     ghost use Rattle.fits_session.specs.Session.{file_of, EditsTo};
 
     /// Opens the file that has these bytes.
@@ -58,7 +64,7 @@ impl Session {
         ensures err { IfErr result (OpenFails bytes.now) }
 
         // Its length and its first bytes are looked at before memory is asked for.
-        ensures too_large { file_limit < length bytes.now → IsErrOf result OpenFault.TooLarge }
+        ensures too_large { FILE_LIMIT < length bytes.now → IsErrOf result OpenFault.TooLarge }
         ensures not_fits { HasOpenFault bytes.now OpenFault.NotFits
             → IsErrOf result OpenFault.NotFits }
     {
@@ -77,6 +83,26 @@ impl Session {
             }),
             Err(fault) => Err(fault),
         }
+    }
+
+    /// Reads the file that a source has, each data unit into its place, and opens it.
+    ///
+    /// The source is read to its end, or past the limit of a file. That it is too long comes before
+    /// all else, then a failed call, then a fault of its bytes. `Memory` may stand anywhere.
+    pub fn read<R: Source>(alloc: Global, source: &mut R) -> Result<Session, ReadFileFault>
+        ensures ok { IfOk result (λ session. Gives (R.remaining source.old)
+            (λ bytes. IsFileOf bytes (file_of session))) }
+        ensures quiet { OnOk result (R.failures source.new ≡ R.failures source.old) }
+        ensures err { IfErr result (ReadStops (R.remaining source.old)
+            (R.failures source.old) (R.failures source.new)) }
+    {
+        let (hdus, hdus_len, tail) = read_file(alloc, source)?;
+        Ok(Session {
+            hdus,
+            hdus_len,
+            tail,
+            alloc,
+        })
     }
 
     /// Makes an edit, or refuses it by the first test that fails.

@@ -8,7 +8,8 @@ ghost use Rattle.fits_rules.specs.Class.{is_primary};
 ghost use Rattle.fits_hdu.specs.Hdu.{hdu_after, hdu_bytes, IsHdu};
 ghost use Rattle.fits_hdu.specs.Work.{shape_reads};
 ghost use Rattle.fits_session.specs.File.{joined_hdus, IsFile};
-ghost use Rattle.fits_session.specs.Limits.{file_limit, size_within};
+ghost use Rattle.fits_session.specs.Limits.{size_within};
+ghost use Rattle.fits_session.specs.declared.limits.TheConstants.{FILE_LIMIT};
 ghost use Rattle.fits_session.specs.Refusal.{EditFails};
 ghost use Rattle.fits_session.specs.Session.{file_of, held_of, hdus_of, length_after, made_refusal, state_of, EditsTo};
 
@@ -54,7 +55,7 @@ fn make_change(hdu: &mut Hdu, change: &Change, len: u64, hdus: u64) -> Result<u6
     requires in_range { IsInRange hdu.old.hdu.header.cards change.now }
     requires not_end { All (λ card. IsEnd card → ⊥) (new_cards change.now) }
     requires part { length (hdu_bytes hdu.old.hdu) ≤ len }
-    requires within { len ≤ file_limit }
+    requires within { len ≤ FILE_LIMIT }
     ensures accepted { OnOk result (made_refusal hdu.old change.now len hdus ≡ None) }
     ensures ok { OnOk result (hdu.new.hdu ≡ hdu_after change.now hdu.old.hdu) }
     ensures len { IfOk result (λ after. after
@@ -85,7 +86,7 @@ fn make_change(hdu: &mut Hdu, change: &Change, len: u64, hdus: u64) -> Result<u6
 #[tactic(auto, using(crate::proofs::MakingLemmas::length_steps))]
 fn len_after(len: u64, before: usize, after: usize, hdus: u64) -> Option<u64>
     requires part { header_length before ≤ len }
-    requires within { len ≤ file_limit }
+    requires within { len ≤ FILE_LIMIT }
     ensures { result ≡ size_within (len - header_length before + header_length after) hdus }
 {
     if after > FILE_LIMIT as usize / CARD_LEN {

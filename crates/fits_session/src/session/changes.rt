@@ -1,17 +1,18 @@
 //! The change that each edit makes of the cards of its HDU, by a function of its own.
-ghost use Rattle.std.specs.Prelude.{◌≡◌, ◌≤◌, ◌+◌, ◌*◌, length, All, Ok, OnOk, IfOk, IfErr, None, Some, ◌∷◌, []};
+ghost use Rattle.std.specs.Prelude.{◌≡◌, ◌+◌, ◌<◌, ◌^◌, length, All, Ok, IfOk, IfErr, OnOk, None, Some, ◌∷◌, []};
 ghost use Rattle.fits_card.specs.Change.{new_cards};
+ghost use Rattle.fits_card.specs.Header.{IsInnerCard};
 ghost use Rattle.fits_hdu.specs.State.{ReadsUpTo};
-ghost use Rattle.fits_session.specs.Edit.{change_of, is_splice_within, own_refusal, tested};
+ghost use Rattle.fits_session.specs.Edit.{change_of, is_keyword_name, is_splice_within, is_within, own_refusal, replacing, set_of, tested, unset_of};
 ghost use Rattle.fits_session.specs.Refusal.{ChangeFails};
 ghost use Rattle.fits_session.specs.Work.{own_reads};
-ghost use Rattle.fits_session.specs.declared.edit.Edit.TheVariants.{Insert};
 
 use crate::edit::Edit;
 use crate::refusal::Refusal;
-use fits_card::{Card, Cards, Change};
-use fits_hdu::Hdu;
-use std::alloc::Global;
+use fits_card::{Card, Cards, Change, Name};
+use fits_hdu::{Hdu, KeywordCards};
+use fits_value::{Text, Value, write_value};
+use std::alloc::{AllocError, Global};
 
 /// The change that an edit makes of the cards of its HDU, or the first of its own tests that fails.
 ///
@@ -19,18 +20,27 @@ use std::alloc::Global;
 #[tactic(auto, unfolding(crate::specs::Edit::change_of))]
 pub(crate) fn change_of(alloc: Global, hdu: &mut Hdu, edit: &Edit) -> Result<Change, Refusal>
     ensures ok { IfOk result (λ change. change_of hdu.old.hdu.header.cards edit.now ≡ Ok change) }
-    ensures sizes { IfOk result (λ change. All (λ card. length card ≡ 80) (new_cards change)) }
+    ensures inner { IfOk result (λ change. All IsInnerCard (new_cards change)) }
     ensures err { IfErr result (ChangeFails (change_of hdu.old.hdu.header.cards edit.now)) }
     ensures work { ReadsUpTo hdu.old hdu.new (own_reads hdu.old.hdu.header.cards edit.now) }
 {
     let count = hdu.card_count();
     match edit {
         Edit::Insert { place, card, .. } => put_card(alloc, count, *place, 0, card),
+        Edit::Put { place, card, .. } => put_card(alloc, count, *place, 1, card),
+        Edit::Delete { place, .. } => delete_card(alloc, count, *place),
+        Edit::Move { from, to, .. } => move_card(count, *from, *to),
+        Edit::Set {
+            name,
+            value,
+            comment,
+            ..
+        } => set_keyword(alloc, hdu, name, value, comment),
+        Edit::Unset { name, .. } => unset_keyword(alloc, hdu, name),
     }
 }
 
 // A card at a place among so many others, instead of so many from there on.
-#[tactic(auto, using(crate::proofs::CardLemmas::put_steps))]
 fn put_card(
     alloc: Global,
     count: usize,
@@ -40,18 +50,26 @@ fn put_card(
 ) -> Result<Change, Refusal>
     ensures ok { IfOk result (λ change. tested count (Change.Splice place removed
         (card.now ∷ [])) ≡ Ok change) }
-    ensures sizes { IfOk result (λ change. All (λ card. length card ≡ 80) (new_cards change)) }
+    ensures inner { IfOk result (λ change. All IsInnerCard (new_cards change)) }
     ensures err { IfErr result (ChangeFails (tested count (Change.Splice place removed
         (card.now ∷ [])))) }
 {
     test_card(count, place, removed, card)?;
-    let mut cards = Vec::new(alloc);
-    cards.push(*card)?;
+    let cards = one_card(alloc, card)?;
     Ok(Change::Splice {
         place,
         removed,
-        cards: Cards::new(cards),
+        cards,
     })
+}
+
+// A card as cards.
+fn one_card(alloc: Global, card: &Card) -> Result<Cards, AllocError>
+    ensures { IfOk result (λ cards. cards ≡ card.now ∷ []) }
+{
+    let mut cards = Vec::with_capacity(alloc, 1)?;
+    cards.push(*card)?;
+    Ok(Cards::new(cards))
 }
 
 // Tests a card that comes to a place among so many others, instead of so many from there on.
@@ -59,9 +77,9 @@ fn put_card(
 fn test_card(count: usize, place: usize, removed: usize, card: &Card) -> Result<(), Refusal>
     ensures ok { OnOk result (own_refusal count (Change.Splice place removed (card.now ∷ []))
         ≡ None) }
+    ensures inner { OnOk result (IsInnerCard card.now) }
     ensures err { IfErr result (λ why. own_refusal count (Change.Splice place removed
         (card.now ∷ [])) ≡ Some why) }
-    ensures size { OnOk result (length card.now ≡ 80) }
 {
     if !is_splice_within(count, place, removed) {
         return Err(Refusal::NoCard);
@@ -79,4 +97,114 @@ fn is_splice_within(count: usize, place: usize, removed: usize) -> bool
     ensures { result ≡ is_splice_within count place removed }
 {
     1 <= place && place - 1 <= count && removed <= count - (place - 1)
+}
+
+// The card at a place among so many goes.
+#[tactic(auto, using(crate::proofs::CardLemmas::take_steps))]
+fn delete_card(alloc: Global, count: usize, place: usize) -> Result<Change, Refusal>
+    ensures value { result ≡ tested count (Change.Splice place 1 []) }
+    ensures inner { IfOk result (λ change. All IsInnerCard (new_cards change)) }
+{
+    if !is_splice_within(count, place, 1) {
+        return Err(Refusal::NoCard);
+    }
+    Ok(removal(alloc, place, 1))
+}
+
+// So many cards from a place on go.
+fn removal(alloc: Global, place: usize, removed: usize) -> Change
+    ensures value { result ≡ Change.Splice place removed [] }
+    ensures inner { All IsInnerCard (new_cards result) }
+{
+    Change::Splice {
+        place,
+        removed,
+        cards: Cards::new(Vec::new(alloc)),
+    }
+}
+
+// The card at a place among so many goes to another.
+#[tactic(auto, using(crate::proofs::CardLemmas::take_steps))]
+fn move_card(count: usize, from: usize, to: usize) -> Result<Change, Refusal>
+    ensures value { result ≡ tested count (Change.Move from to) }
+    ensures inner { IfOk result (λ change. All IsInnerCard (new_cards change)) }
+{
+    if !is_within(from, count) || !is_within(to, count) {
+        return Err(Refusal::NoCard);
+    }
+    Ok(Change::Move { from, to })
+}
+
+fn is_within(place: usize, count: usize) -> bool
+    ensures { result ≡ is_within place count }
+{
+    1 <= place && place <= count
+}
+
+// A keyword's value and comment instead of its cards, or behind the last card.
+#[tactic(auto, using(crate::proofs::KeywordLemmas::set_steps))]
+fn set_keyword(
+    alloc: Global,
+    hdu: &mut Hdu,
+    name: &Name,
+    value: &Value,
+    comment: &Option<Text>,
+) -> Result<Change, Refusal>
+    ensures ok { IfOk result (λ change. set_of hdu.old.hdu.header.cards name.now value.now
+        comment.now ≡ Ok change) }
+    ensures inner { IfOk result (λ change. All IsInnerCard (new_cards change)) }
+    ensures err { IfErr result (ChangeFails (set_of hdu.old.hdu.header.cards name.now value.now
+        comment.now)) }
+    ensures work { ReadsUpTo hdu.old hdu.new (length hdu.old.hdu.header.cards + 2) }
+{
+    if !name.is_settable() {
+        return Err(Refusal::BadName);
+    }
+    let cards = write_value(alloc, name, value, comment)?;
+    let old = hdu.keyword_cards(name);
+    Ok(replacement(hdu.card_count(), old, cards))
+}
+
+// New cards instead of a keyword's; where it has none they go behind the last of so many cards.
+#[tactic(auto, unfolding(fits_card::specs::Change::new_cards))]
+fn replacement(count: usize, old: Option<KeywordCards>, cards: Cards) -> Change
+    requires { count < 2 ^ 63 }
+    ensures value { result ≡ replacing count old cards }
+    ensures cards { new_cards result ≡ cards }
+{
+    match old {
+        Some(old) => Change::Splice {
+            place: old.place,
+            removed: old.count,
+            cards,
+        },
+        None => Change::Splice {
+            place: count + 1,
+            removed: 0,
+            cards,
+        },
+    }
+}
+
+// A keyword's cards go.
+#[tactic(auto, using(crate::proofs::KeywordLemmas::unset_steps))]
+fn unset_keyword(alloc: Global, hdu: &mut Hdu, name: &Name) -> Result<Change, Refusal>
+    ensures value { result ≡ unset_of hdu.old.hdu.header.cards name.now }
+    ensures inner { IfOk result (λ change. All IsInnerCard (new_cards change)) }
+    ensures work { ReadsUpTo hdu.old hdu.new (length hdu.old.hdu.header.cards + 2) }
+{
+    if !is_keyword_name(name) {
+        return Err(Refusal::BadName);
+    }
+    let Some(old) = hdu.keyword_cards(name) else {
+        return Err(Refusal::NoKey);
+    };
+    Ok(removal(alloc, old.place, old.count))
+}
+
+// Whether the name is a keyword's: spelled as the standard asks, and not of spaces alone.
+fn is_keyword_name(name: &Name) -> bool
+    ensures { result ≡ is_keyword_name name.now }
+{
+    name.is_spelled() && !name.is_blank()
 }

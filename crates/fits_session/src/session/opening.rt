@@ -1,7 +1,7 @@
 //! The HDUs of a file, and what follows them.
 ghost use Rattle.std.specs.Prelude.{◌≡◌, ◌≤◌, IfOk, IfErr, length};
 ghost use Rattle.fits_session.specs.File.{begins_extension, is_first, IsFileOf};
-ghost use Rattle.fits_session.specs.Limits.{file_limit};
+ghost use Rattle.fits_session.specs.declared.limits.TheConstants.{FILE_LIMIT};
 ghost use Rattle.fits_session.specs.Opening.{BeginsAsFits, OpenFails, goes_on_after, open_fault_of};
 ghost use Rattle.fits_session.specs.Session.{file_of, hdus_of, held_of, state_of};
 
@@ -13,7 +13,7 @@ use std::alloc::Global;
 /// The HDUs of a file that isn't too long and begins as one, and the bytes after the last.
 #[tactic(auto, using(crate::proofs::OpeningLemmas::opening_steps))]
 pub(crate) fn open_hdus(alloc: Global, bytes: &[u8]) -> Result<(Vec<Hdu>, Vec<u8>), OpenFault>
-    requires size { length bytes.now ≤ file_limit }
+    requires size { length bytes.now ≤ FILE_LIMIT }
     requires begins { BeginsAsFits bytes.now }
     ensures file { IfOk result (λ parts. IsFileOf bytes.now (file_of
         (state_of parts.0.items parts.1.items))) }
@@ -59,7 +59,7 @@ fn goes_on(rest: &[u8], hdus: usize) -> Result<bool, OpenFault>
 }
 
 // The fault of HDU h as the file's.
-fn open_fault(fault: HduFault, h: usize) -> OpenFault
+pub(crate) fn open_fault(fault: HduFault, h: usize) -> OpenFault
     ensures { result ≡ open_fault_of fault h }
 {
     match fault {
@@ -72,7 +72,7 @@ fn open_fault(fault: HduFault, h: usize) -> OpenFault
 
 // Whether an extension begins here.
 #[tactic(auto, unfolding(crate::specs::File::begins_extension))]
-fn begins_extension(bytes: &[u8]) -> bool
+pub(crate) fn begins_extension(bytes: &[u8]) -> bool
     ensures { result ≡ begins_extension bytes.now }
 {
     bytes.starts_with(b"XTENSION")

@@ -1,7 +1,7 @@
 //! What a session answers. Queries leave the file as it is.
 ghost use Rattle.std.specs.Prelude.{◌≡◌, ◌≤◌, length, IfOk};
 ghost use Rattle.fits_session.specs.File.{joined_hdus, offsets_from};
-ghost use Rattle.fits_session.specs.Limits.{file_limit};
+ghost use Rattle.fits_session.specs.declared.limits.TheConstants.{FILE_LIMIT};
 ghost use Rattle.fits_session.specs.Session.{held_of, hdus_of};
 
 use super::Session;
@@ -18,9 +18,9 @@ impl Session {
     ghost use Rattle.std.specs.Prelude.{◌≡◌, length, IfOk, IfErr, None, Ok};
     ghost use Rattle.fits_session.specs.Edit.{hdu_of};
     ghost use Rattle.fits_session.specs.File.{offsets_from};
-    ghost use Rattle.fits_session.specs.Query.{card_count_in, value_in, IsKindIn, IsShapeIn, KindFails, ValueFails};
+    ghost use Rattle.fits_session.specs.Query.{card_count_in, names_in, positions_in, value_in, IsKindIn, IsShapeIn, KindFails, QueryFails};
     ghost use Rattle.fits_session.specs.Session.{file_of, Asks};
-    ghost use Rattle.fits_session.specs.Work.{kind_reads, value_reads};
+    ghost use Rattle.fits_session.specs.Work.{kind_reads, name_reads, value_reads};
 
     /// How many HDUs there are.
     #[tactic(auto, using(crate::proofs::StateLemmas::count_steps))]
@@ -74,7 +74,7 @@ impl Session {
     /// 1, 3, 8 and 15.
     pub fn value(&mut self, h: usize, name: &Name) -> Result<(Value, Option<Text>), Refusal>
         ensures ok { IfOk result (λ said. value_in (file_of self.old) h name.now ≡ Ok said) }
-        ensures err { IfErr result (ValueFails (file_of self.old) h name.now) }
+        ensures err { IfErr result (QueryFails (value_in (file_of self.old) h name.now)) }
         ensures asks { Asks h (value_reads (file_of self.old) h) self.old self.new }
     {
         let Some(i) = index_of(&self.hdus, h) else {
@@ -83,6 +83,36 @@ impl Session {
         let hdu = &mut self.hdus[i];
         let said = hdu.value(self.alloc, name)?;
         Ok(said)
+    }
+
+    /// The places of the cards of a name in HDU h, ascending; of a name that no card has, none.
+    /// Refusals 1 and 15.
+    pub fn positions(&mut self, h: usize, name: &Name) -> Result<Vec<usize>, Refusal>
+        ensures ok { IfOk result (λ places. positions_in (file_of self.old) h name.now
+            ≡ Ok places.items) }
+        ensures err { IfErr result (QueryFails (positions_in (file_of self.old) h name.now)) }
+        ensures asks { Asks h (name_reads (file_of self.old) h) self.old self.new }
+    {
+        let Some(i) = index_of(&self.hdus, h) else {
+            return Err(Refusal::NoHdu);
+        };
+        let hdu = &mut self.hdus[i];
+        let places = hdu.positions(self.alloc, name)?;
+        Ok(places)
+    }
+
+    /// The names of the cards of HDU h, each once, ascending by bytes. Refusals 1 and 15.
+    pub fn names(&mut self, h: usize) -> Result<Vec<Name>, Refusal>
+        ensures ok { IfOk result (λ names. names_in (file_of self.old) h ≡ Ok names.items) }
+        ensures err { IfErr result (QueryFails (names_in (file_of self.old) h)) }
+        ensures asks { Asks h (name_reads (file_of self.old) h) self.old self.new }
+    {
+        let Some(i) = index_of(&self.hdus, h) else {
+            return Err(Refusal::NoHdu);
+        };
+        let hdu = &mut self.hdus[i];
+        let names = hdu.names(self.alloc)?;
+        Ok(names)
     }
 
     /// Where each HDU stands.
@@ -96,7 +126,7 @@ impl Session {
 // Where HDUs stand, of which the first begins at 0.
 #[tactic(auto, using(crate::proofs::OffsetLemmas::offset_steps))]
 fn offsets_of(alloc: Global, hdus: &[Hdu]) -> Result<Vec<HduOffsets>, AllocError>
-    requires { length (joined_hdus (hdus_of (held_of hdus.now))) ≤ file_limit }
+    requires { length (joined_hdus (hdus_of (held_of hdus.now))) ≤ FILE_LIMIT }
     ensures { IfOk result (λ offsets. offsets.items ≡ offsets_from 0 (hdus_of (held_of hdus.now))) }
 {
     let mut offsets = Vec::with_capacity(alloc, hdus.len())?;

@@ -3,7 +3,7 @@ ghost use Rattle.std.specs.Prelude.{◌≡◌, ◌+◌, OnOk, OnErr};
 ghost use Rattle.std.specs.Io.KnownBytes.{Appends};
 ghost use Rattle.fits_card.specs.Stream.{AppendsFront};
 ghost use Rattle.fits_session.specs.File.{joined_hdus};
-ghost use Rattle.fits_session.specs.Session.{hdus_of, held_of, reads_of, NeverFalls};
+ghost use Rattle.fits_session.specs.Session.{hdus_of, held_of, each_read, ReadsOnceAtMost};
 
 use super::Session;
 use crate::save_fault::SaveFault;
@@ -16,7 +16,7 @@ impl Session {
     ghost use Rattle.std.specs.Io.KnownBytes.{Appends};
     ghost use Rattle.fits_card.specs.Stream.{AppendsFront};
     ghost use Rattle.fits_session.specs.File.{file_bytes};
-    ghost use Rattle.fits_session.specs.Session.{file_of, reads_of, NeverFalls};
+    ghost use Rattle.fits_session.specs.Session.{file_of, each_read, ReadsOnceAtMost};
 
     /// Writes the file. Where a call fails a prefix was written. It takes no memory.
     #[tactic(auto, using(crate::proofs::SaveLemmas::save_steps))]
@@ -30,8 +30,10 @@ impl Session {
         ensures quiet { OnOk result (W.failures sink.new ≡ W.failures sink.old) }
         ensures failed { OnErr result (W.failures sink.new ≡ W.failures sink.old + 1) }
 
+        // The file stays, and each card is read once at most.
         ensures file { file_of self.new ≡ file_of self.old }
-        ensures work { NeverFalls (reads_of self.old.held) (reads_of self.new.held) }
+        ensures work { ReadsOnceAtMost self.old.held self.new.held }
+        ensures all_read { OnOk result (self.new.held ≡ each_read self.old.held) }
     {
         let Ok(()) = write_hdus(&mut self.hdus, sink) else {
             return Err(SaveFault::Device);
@@ -52,9 +54,8 @@ fn write_hdus<W: Sink>(hdus: &mut Vec<Hdu>, sink: &mut W) -> io::Result<()>
         (joined_hdus (hdus_of (held_of hdus.old.items)))) }
     ensures quiet { OnOk result (W.failures sink.new ≡ W.failures sink.old) }
     ensures failed { OnErr result (W.failures sink.new ≡ W.failures sink.old + 1) }
-    ensures hdus { hdus_of (held_of hdus.new.items) ≡ hdus_of (held_of hdus.old.items) }
-    ensures work { NeverFalls (reads_of (held_of hdus.old.items)) (reads_of
-        (held_of hdus.new.items)) }
+    ensures work { ReadsOnceAtMost (held_of hdus.old.items) (held_of hdus.new.items) }
+    ensures all_read { OnOk result (held_of hdus.new.items ≡ each_read (held_of hdus.old.items)) }
 {
     for i in 0..hdus.len() {
         let hdu = &mut hdus[i];

@@ -1,6 +1,6 @@
-use Rattle.std.proofs.Common.{◌<◌, length, arith, ◌∙◌}
+use Rattle.std.proofs.Common.{◌<◌, ◌≤◌, length, arith, ◌∙◌}
 use Rattle.std.proofs.lemmas.Grind.{common_steps}
-use Rattle.fits_session.proofs.SaveLemmas.{Appends-hdu, hdus_kept, never_falls_more}
+use Rattle.fits_session.proofs.SaveLemmas.{Appends-hdu, hdus_kept, first_read_more, all_read, once_at_end, once_at_most}
 use Rattle.fits_session.proofs.session.saving.write_hdus.Goals as goal
 
 pub loop-i-preserved : goal.loop-i-preserved
@@ -11,5 +11,20 @@ loop-i-preserved g c =
       quiet = c.in_ok-emit.ensures.quiet ∙ c.loop-i.invariant.quiet;
       same = hdus_kept c.loop-i.hdus.items _ c.loop-i.i c.index_mut-hdu.result.now _ c.loop-i.invariant.same l c.index_mut-hdu.ensures.value c.emit.ensures.work.hdu;
       count = grind (arith, common_steps);
-      work = never_falls_more _ c.loop-i.hdus.items c.loop-i.i c.index_mut-hdu.result.now _ c.loop-i.invariant.work l c.index_mut-hdu.ensures.value c.emit.ensures.work.least;
+      work = first_read_more _ c.loop-i.hdus.items c.loop-i.i c.index_mut-hdu.result.now _ c.loop-i.invariant.work l c.index_mut-hdu.ensures.value c.emit.ensures.work.hdu c.in_ok-emit.ensures.all_read;
     }
+
+pub returns-in_err-emit-clause-work : goal.returns-in_err-emit-clause-work
+returns-in_err-emit-clause-work g c =
+    let l : c.loop-i.i < length c.loop-i.hdus.items = omega (arith, c.loop-i.invariant.count) in
+    once_at_most _ c.loop-i.hdus.items c.loop-i.i c.index_mut-hdu.result.now _ c.loop-i.invariant.work c.loop-i.invariant.same l c.index_mut-hdu.ensures.value c.emit.ensures.work
+
+pub returns-clause-work : goal.returns-clause-work
+returns-clause-work g c =
+    let l : length c.loop-i.hdus.items ≤ c.loop-i.i = omega (arith, c.loop-i.invariant.count) in
+    once_at_end _ _ (all_read c.args.hdus.now.items c.loop-i.hdus.items c.loop-i.i c.loop-i.invariant.work c.loop-i.invariant.count l)
+
+pub returns-clause-all_read : goal.returns-clause-all_read
+returns-clause-all_read g c =
+    let l : length c.loop-i.hdus.items ≤ c.loop-i.i = omega (arith, c.loop-i.invariant.count) in
+    all_read c.args.hdus.now.items c.loop-i.hdus.items c.loop-i.i c.loop-i.invariant.work c.loop-i.invariant.count l

@@ -1,7 +1,8 @@
 use Rattle.std.proofs.Common.{◌≡◌, take, length}
 use Rattle.std.specs.Io.KnownBytes.{Appends}
 use Rattle.fits_session.specs.File.{joined_hdus}
-use Rattle.fits_session.specs.Session.{hdus_of, held_of, reads_of, NeverFalls}
+use Rattle.fits_session.specs.Session.{hdus_of, held_of}
+use Rattle.fits_session.proofs.SaveLemmas.{first_read}
 use Rattle.fits_session.proofs.session.saving.write_hdus.Given as goal
 
 abbrev pub invariant-loop-i : goal.invariant-loop-i
@@ -10,5 +11,5 @@ invariant-loop-i g l = record {
   quiet : g.W.Sink.failures l.sink ≡ g.W.Sink.failures l.fn.sink;
   same : hdus_of (held_of l.hdus.items) ≡ hdus_of (held_of l.fn.hdus.items);
   count : length l.hdus.items ≡ length l.fn.hdus.items;
-  work : NeverFalls (reads_of (held_of l.fn.hdus.items)) (reads_of (held_of l.hdus.items));
+  work : held_of l.hdus.items ≡ first_read l.i (held_of l.fn.hdus.items);
 }

@@ -1,0 +1,57 @@
+-- Steps of changes of a keyword.
+use Rattle.std.proofs.Common.{◌≡◌, inl, inr, ℕ, true, false, List, [], length, refl, Option, None, Some}
+use Rattle.std.specs.Prelude.{Ok, Err, IsOk}
+use Rattle.fits_card.specs.Name.{is_settable}
+use Rattle.fits_card.specs.declared.change.Change.TheVariants.{Splice}
+use Rattle.fits_value.specs.Written.{write_says}
+use Rattle.fits_value.specs.declared.value.Value.{Value}
+use Rattle.fits_value.specs.declared.write.WriteFault.{WriteFault}
+use Rattle.fits_value.specs.declared.write.WriteFault.TheVariants as write
+use Rattle.fits_hdu.specs.Keyword.{keyword_cards}
+use Rattle.fits_hdu.specs.declared.keyword_cards.KeywordCards.{KeywordCards}
+use Rattle.fits_session.specs.Edit.{is_keyword_name, replacing, setting, set_of, unset_of}
+use Rattle.fits_session.specs.Refusal.{ChangeFails, refusal_of_writing}
+use Rattle.fits_session.specs.declared.refusal.Refusal.TheVariants as refusal
+
+-- a name that can't have a value is the first test
+pub not_settable : (cards : List (List ℕ)) (name : List ℕ) (value : Value) (comment : Option (List ℕ)) → is_settable name ≡ false → set_of cards name value comment ≡ Err refusal.BadName
+unfolding set_of
+not_settable cards name value comment e = rw e refl
+
+-- what is left is whether the value can be written
+settable : (cards : List (List ℕ)) (name : List ℕ) (value : Value) (comment : Option (List ℕ)) (written : Option (List (List ℕ))) → is_settable name ≡ true → write_says name value comment ≡ written → set_of cards name value comment ≡ setting (length cards) (keyword_cards cards name) written
+unfolding set_of
+settable cards name value comment written e says = rw (e, says) refl
+
+-- its cards come instead of the keyword's
+pub is_set : (cards new : List (List ℕ)) (name : List ℕ) (value : Value) (comment : Option (List ℕ)) (old : Option KeywordCards) → is_settable name ≡ true → write_says name value comment ≡ Some new → old ≡ keyword_cards cards name → set_of cards name value comment ≡ Ok (replacing (length cards) old new)
+is_set cards new name value comment old e says at = rw at (settable cards name value comment (Some new) e says)
+
+-- where it can't be written, or memory runs out
+can_write : (cards : List (List ℕ)) (name : List ℕ) (value : Value) (comment : Option (List ℕ)) (written : Option (List (List ℕ))) → is_settable name ≡ true → write_says name value comment ≡ written → (written ≡ None → ⊥) → IsOk (set_of cards name value comment)
+can_write cards name value comment None e says some = absurd (some refl)
+can_write cards name value comment (Some new) e says some = rw (settable cards name value comment (Some new) e says) refl
+
+pub not_written : (cards : List (List ℕ)) (name : List ℕ) (value : Value) (comment : Option (List ℕ)) (fault : WriteFault) → is_settable name ≡ true → (fault ≡ write.BadValue → write_says name value comment ≡ None) → (write_says name value comment ≡ None → fault ≡ write.BadValue)
+    → ChangeFails (set_of cards name value comment) (refusal_of_writing fault)
+not_written cards name value comment write.BadValue e bad firm = inl (settable cards name value comment None e (bad refl))
+not_written cards name value comment write.Memory e bad firm = inr (refl, can_write cards name value comment (write_says name value comment) e refl (λ none. let same = firm none in cc))
+
+pub ruleset set_steps = (not_settable, is_set)
+
+-- a name that isn't a keyword's is the first test
+pub not_keyword : (cards : List (List ℕ)) (name : List ℕ) → is_keyword_name name ≡ false → unset_of cards name ≡ Err refusal.BadName
+unfolding unset_of
+not_keyword cards name e = rw e refl
+
+-- a lead that is missing is the second
+pub no_lead : (cards : List (List ℕ)) (name : List ℕ) → is_keyword_name name ≡ true → None ≡ keyword_cards cards name → unset_of cards name ≡ Err refusal.NoKey
+unfolding unset_of
+no_lead cards name e at = rw (e, ← at) refl
+
+-- else the keyword's cards go
+pub is_unset : (cards : List (List ℕ)) (name : List ℕ) (old : KeywordCards) → is_keyword_name name ≡ true → Some old ≡ keyword_cards cards name → unset_of cards name ≡ Ok (Splice old.place old.count [])
+unfolding unset_of
+is_unset cards name old e at = rw (e, ← at) refl
+
+pub ruleset unset_steps = (not_keyword, no_lead, is_unset)

@@ -1,0 +1,311 @@
+-- Steps of a walk over the HDUs of a source.
+use Rattle.std.proofs.Common.{◌≡◌, ◌⊎◌, ℕ, ◌+◌, ◌<◌, ◌≤◌, Bool, true, false, List, [], ◌∷◌, ◌++◌, length, take, refl, subst, ap, sym, ◌∙◌, append_assoc, arith, rules, inl, inr, Option}
+use Rattle.std.specs.Prelude.{IfSome, nat_eq, codes}
+use Rattle.std.specs.Str.{bytes_eq}
+use Rattle.std.specs.List.{starts_with}
+use Rattle.std.proofs.lemmas.Bool.{cases_lt}
+use Rattle.std.proofs.lemmas.List.{append-nil, length-append, take_all, take-append-le}
+use Rattle.std.proofs.lemmas.List.Concat.{flat_map-append}
+use Rattle.fits_card.specs.Intake.{Finds, Gives, IsSpent, Takes, TakesAfter, Tells}
+use Rattle.fits_card.specs.declared.reading.ReadFault.{ReadFault}
+use Rattle.fits_card.specs.declared.reading.ReadFault.TheVariants as read
+use Rattle.fits_card.proofs.SightLemmas.{finds_begun, finds_given, finds_next, finds_spent, long_given, past_limit, rest_given, takes_after_none, takes_before, takes_more, tells_after, within_limit}
+use Rattle.fits_hdu.specs.Hdu.{HduParts, HasHduFault, IsHdu, hdu_bytes}
+use Rattle.fits_hdu.specs.Reading.{HduStops, TakesHdu}
+use Rattle.fits_hdu.specs.State.{HduState}
+use Rattle.fits_hdu.specs.declared.fault.HduFault.{HduFault}
+use Rattle.fits_hdu.specs.declared.fault.HduFault.TheVariants as hdu_fault
+use Rattle.fits_hdu.specs.declared.read_fault.ReadHduFault.{ReadHduFault}
+use Rattle.fits_hdu.specs.declared.read_fault.ReadHduFault.TheVariants as read_hdu
+use Rattle.fits_session.specs.File.{FileParts, begins_extension, goes_on, is_first, joined_hdus, IsFile, IsFileOf, IsFrontOf}
+use Rattle.fits_session.specs.declared.limits.TheConstants.{FILE_LIMIT, HDU_LIMIT}
+use Rattle.fits_session.specs.Opening.{BeginsAsFits, HasOpenFault, open_fault_of}
+use Rattle.fits_session.specs.Reading.{file_fault_of, is_of_bytes, of_read, IsKeptOf, KeepsEach, NextBegins, ReadStops, RestStops, Walked, WalkStops}
+use Rattle.fits_session.specs.Session.{file_of, held_of, hdus_of, state_of}
+use Rattle.fits_session.specs.declared.open_fault.OpenFault.{OpenFault}
+use Rattle.fits_session.specs.declared.open_fault.OpenFault.TheVariants.{NotFits, NoEnd, BadShape, ShortData, TooLarge, Memory}
+use Rattle.fits_session.specs.declared.read_fault.ReadFileFault.{ReadFileFault}
+use Rattle.fits_session.specs.declared.read_fault.ReadFileFault.TheVariants.{Open, Failed}
+use Rattle.fits_session.proofs.FileLemmas.{fault_here}
+use Rattle.fits_session.proofs.FrontLemmas.{front_begins, front_none, front_push, goes_on-some, hdu_long}
+
+-- texts that compare as one are one
+bytes_are : (a b : List ℕ) → bytes_eq a b ≡ true → a ≡ b
+bytes_are a b e = search rules
+
+-- bytes that begin with a text go on beginning with it
+begins_more : (text xs s : List ℕ) (n : ℕ) → length text ≡ n → bytes_eq text (take n xs) ≡ true → bytes_eq text (take n (xs ++ s)) ≡ true
+begins_more text xs s n size e =
+    let same : length (take n xs) ≡ n = ap length (sym (bytes_are text (take n xs) e)) ∙ size in
+    elim (cases_lt (length xs) n) [
+      | inl few ↦ absurd (omega (arith, same, few, ap length (take_all n xs (omega (arith, few)))))
+      | inr many ↦ ap (bytes_eq text) (take-append-le n xs s many) ∙ e
+    ]
+
+-- the first eight bytes of a whole block, or of all there is, are those of all
+begins_same : (text xs s : List ℕ) (n : ℕ) → (s ≡ []) ⊎ (n ≤ length xs) → bytes_eq text (take n (xs ++ s)) ≡ bytes_eq text (take n xs)
+begins_same text xs s n few = elim few [ inl none ↦ ap (λ t. bytes_eq text (take n (xs ++ t))) none ∙ ap (λ t. bytes_eq text (take n t)) (append-nil xs) | inr many ↦ ap (bytes_eq text) (take-append-le n xs s many) ]
+
+extension_more : (xs s : List ℕ) → begins_extension xs ≡ true → begins_extension (xs ++ s) ≡ true
+unfolding begins_extension
+extension_more xs s e = begins_more (codes "XTENSION") xs s 8 refl e
+
+pub extension_same : (xs s : List ℕ) → (s ≡ []) ⊎ (8 ≤ length xs) → begins_extension (xs ++ s) ≡ begins_extension xs
+unfolding begins_extension
+extension_same xs s few = begins_same (codes "XTENSION") xs s 8 few
+
+-- HDUs, whatever follows them
+pub front_rest : (us : List HduParts) (s : List ℕ) → IsFrontOf (joined_hdus us) us [] → IsFrontOf (joined_hdus us ++ s) us s
+front_rest us s p = record { joined = refl; first = p.first; others = p.others }
+
+joined_push : (us : List HduParts) (u : HduParts) → joined_hdus (us ++ u ∷ []) ≡ joined_hdus us ++ hdu_bytes u
+joined_push us u = flat_map-append hdu_bytes us (u ∷ []) ∙ ap (λ t. joined_hdus us ++ t) (append-nil (hdu_bytes u))
+
+-- one more
+pub front_next : (us : List HduParts) (u : HduParts) → IsFrontOf (joined_hdus us) us [] → IsHdu (is_first us) u → IsFrontOf (joined_hdus (us ++ u ∷ [])) (us ++ u ∷ []) []
+front_next us u p whole =
+    let q : IsFrontOf (joined_hdus us ++ hdu_bytes u) (us ++ u ∷ []) [] = front_push (joined_hdus us ++ hdu_bytes u) us u (hdu_bytes u) [] (front_rest us (hdu_bytes u) p) (record { whole = whole; joined = sym (append-nil (hdu_bytes u)) }) in
+    record { joined = sym (append-nil (joined_hdus (us ++ u ∷ []))); first = q.first; others = q.others }
+
+-- what is kept of one more
+each_push : {K : Type 0} (keeps : K → HduParts → Type 0) (ks : List K) (us : List HduParts) (k : K) (u : HduParts) → KeepsEach keeps ks us → keeps k u → KeepsEach keeps (ks ++ k ∷ []) (us ++ u ∷ [])
+each_push keeps [] [] k u p q = (q, tt)
+each_push keeps [] (v ∷ vs) k u p q = absurd p
+each_push keeps (l ∷ ls) [] k u p q = absurd p
+each_push keeps (l ∷ ls) (v ∷ vs) k u p q = (p.0, each_push keeps ls vs k u p.1 q)
+
+pub each_length : {K : Type 0} (keeps : K → HduParts → Type 0) (ks : List K) (us : List HduParts) → KeepsEach keeps ks us → length ks ≡ length us
+each_length keeps [] [] p = refl
+each_length keeps [] (v ∷ vs) p = absurd p
+each_length keeps (l ∷ ls) [] p = absurd p
+each_length keeps (l ∷ ls) (v ∷ vs) p = omega (arith, each_length keeps ls vs p.1)
+
+not_zero : (n : ℕ) → 0 < n → nat_eq n 0 ≡ false
+not_zero n h = search rules
+
+first_of : {K : Type 0} (keeps : K → HduParts → Type 0) (ks : List K) (us : List HduParts) → KeepsEach keeps ks us → nat_eq (length ks) 0 ≡ is_first us
+first_of keeps [] [] p = refl
+first_of keeps [] (v ∷ vs) p = absurd p
+first_of keeps (l ∷ ls) [] p = absurd p
+first_of keeps (l ∷ ls) (v ∷ vs) p = not_zero (length (l ∷ ls)) (omega arith)
+
+-- no HDU is walked yet
+pub walked_none : {K : Type 0} (keeps : K → HduParts → Type 0) (ks : List K) (first : List ℕ) (a b : Option (List ℕ)) (left left' : ℕ) → ks ≡ [] → Takes a b left left' first → Walked keeps ks first a b left left'
+walked_none keeps ks first a b left left' none p = rw none (record { hdus = []; each = tt; front = front_none []; taken = p })
+
+-- one more is, and the first block of what follows it is taken
+pub walked_more : {K : Type 0} (keeps : K → HduParts → Type 0) (ks new : List K) (k : K) (first next : List ℕ) (a b c d : Option (List ℕ)) (left left' left'' last : ℕ) (primary : Bool) → Walked keeps ks first a b left left'
+    → TakesHdu (keeps k) primary first b c left' left'' → primary ≡ nat_eq (length ks) 0 → new ≡ ks ++ k ∷ [] → Takes c d left'' last next → Walked keeps new next a d left last
+walked_more keeps ks new k first next a b c d left left' left'' last primary p q at is r =
+    let whole : IsHdu (is_first p.hdus) q.hdu = subst (λ (b' : Bool). IsHdu b' q.hdu) (at ∙ first_of keeps ks p.hdus p.each) q.whole in
+    let taken : Takes a c left left'' (joined_hdus p.hdus ++ hdu_bytes q.hdu) = takes_before a b c left left' left'' (joined_hdus p.hdus) first (hdu_bytes q.hdu) p.taken q.taken in
+    rw is (record {
+      hdus = p.hdus ++ q.hdu ∷ [];
+      each = each_push keeps ks p.hdus k q.hdu p.each q.kept;
+      front = front_next p.hdus q.hdu p.front whole;
+      taken = rw (joined_push p.hdus q.hdu) (takes_more a c d left left'' last (joined_hdus p.hdus ++ hdu_bytes q.hdu) next taken r);
+    })
+
+-- less is left to walk over
+pub walk_shorter : (keeps : HduParts → Type 0) (primary : Bool) (first next : List ℕ) (b c d : Option (List ℕ)) (left left' last : ℕ) → TakesHdu keeps primary first b c left left' → Takes c d left' last next → last + length next < left + length first
+walk_shorter keeps primary first next b c d left left' last q r =
+    omega (arith, hdu_long primary q.hdu q.whole, ap length q.taken.joined, length-append first q.taken.more, q.taken.taken.count, r.count)
+
+-- how the next one begins
+pub next_first : {K : Type 0} (ks : List K) (first : List ℕ) → ks ≡ [] → starts_with nat_eq first (codes "SIMPLE  ") ≡ true → NextBegins (nat_eq (length ks) 0) first
+next_first ks first none e = rw none e
+
+pub next_more : {K : Type 0} (ks new : List K) (k : K) (first : List ℕ) → new ≡ ks ++ k ∷ [] → begins_extension first ≡ true → NextBegins (nat_eq (length new) 0) first
+next_more ks new k first is e = rw (not_zero (length new) (omega (arith, ap length is, length-append ks (k ∷ [])))) e
+
+-- so an HDU must stand there, and the bytes begin as a file
+next_on : (us : List HduParts) (first s : List ℕ) → NextBegins (is_first us) first → IsFrontOf (joined_hdus us) us [] → (goes_on us (first ++ s) ≡ true) × BeginsAsFits (joined_hdus us ++ (first ++ s))
+next_on [] first s begins p = (refl, begins_more (codes "SIMPLE  ") first s 8 refl begins)
+next_on (u ∷ us) first s begins p =
+    (extension_more first s begins, front_begins (joined_hdus (u ∷ us) ++ (first ++ s)) (u ∷ us) (first ++ s) (front_rest (u ∷ us) (first ++ s) p) (omega arith))
+
+-- a fault of the next HDU is one of all that may be taken
+fails_at : (us : List HduParts) (first s : List ℕ) (fault : HduFault) → length ((joined_hdus us ++ first) ++ s) ≤ FILE_LIMIT → IsFrontOf (joined_hdus us) us [] → NextBegins (is_first us) first → length us < HDU_LIMIT
+    → HasHduFault (is_first us) (first ++ s) fault → HasOpenFault ((joined_hdus us ++ first) ++ s) (open_fault_of fault (length us + 1))
+fails_at us first s fault size front begins few fails =
+    let file : List ℕ = joined_hdus us ++ (first ++ s) in
+    let on = next_on us first s begins front in
+    let same : (joined_hdus us ++ first) ++ s ≡ file = append_assoc (joined_hdus us) first s in
+    subst (λ (t : List ℕ). HasOpenFault t (open_fault_of fault (length us + 1))) (sym same)
+    (fault_here file us (first ++ s) fault (omega (arith, size, ap length same)) on.1 (front_rest us (first ++ s) front) on.0 few fails)
+
+stops_at : (us : List HduParts) (first : List ℕ) (a b c : Option (List ℕ)) (left left' left'' : ℕ) (fault : HduFault) → left ≤ FILE_LIMIT → Takes a b left left' (joined_hdus us ++ first) → IsFrontOf (joined_hdus us) us [] → NextBegins (is_first us) first → length us < HDU_LIMIT
+    → Finds b c left' left'' (λ s. HasHduFault (is_first us) (first ++ s) fault) → Finds a c left left'' (λ bytes. HasOpenFault bytes (open_fault_of fault (length us + 1)))
+stops_at us first a b c left left' left'' fault limit p front begins few f =
+    finds_next (λ s. HasHduFault (is_first us) (first ++ s) fault) (λ bytes. HasOpenFault bytes (open_fault_of fault (length us + 1))) a b c left left' left'' (joined_hdus us ++ first) p f
+    (λ s le fails. fails_at us first s fault (omega (arith, limit, p.count, le, length-append (joined_hdus us ++ first) s)) front begins few fails)
+
+walk_stops : (us : List HduParts) (first : List ℕ) (a b c : Option (List ℕ)) (left left' left'' f g g' : ℕ) (fault : ReadHduFault) → left ≤ FILE_LIMIT → Takes a b left left' (joined_hdus us ++ first) → IsFrontOf (joined_hdus us) us [] → NextBegins (is_first us) first → length us < HDU_LIMIT
+    → g ≡ f → HduStops (is_first us) first b c left' left'' g g' fault → WalkStops a c left left'' f g' (file_fault_of fault (length us + 1))
+walk_stops us first a b c left left' left'' f g g' (read_hdu.Hdu hdu_fault.NoEnd) limit p front begins few quiet stops = (stops_at us first a b c left left' left'' hdu_fault.NoEnd limit p front begins few stops.0, stops.1 ∙ quiet)
+walk_stops us first a b c left left' left'' f g g' (read_hdu.Hdu (hdu_fault.BadShape place)) limit p front begins few quiet stops = (stops_at us first a b c left left' left'' (hdu_fault.BadShape place) limit p front begins few stops.0, stops.1 ∙ quiet)
+walk_stops us first a b c left left' left'' f g g' (read_hdu.Hdu hdu_fault.ShortData) limit p front begins few quiet stops = (stops_at us first a b c left left' left'' hdu_fault.ShortData limit p front begins few stops.0, stops.1 ∙ quiet)
+walk_stops us first a b c left left' left'' f g g' (read_hdu.Hdu hdu_fault.Memory) limit p front begins few quiet stops = stops ∙ quiet
+walk_stops us first a b c left left' left'' f g g' read_hdu.Failed limit p front begins few quiet stops = omega (arith, stops, quiet)
+
+pub stops_by_hdu : {K : Type 0} (keeps : K → HduParts → Type 0) (ks : List K) (first : List ℕ) (a b c : Option (List ℕ)) (left left' left'' f g g' h : ℕ) (primary : Bool) (fault : ReadHduFault) → left ≤ FILE_LIMIT → Walked keeps ks first a b left left' → NextBegins (nat_eq (length ks) 0) first → length ks < HDU_LIMIT
+    → primary ≡ nat_eq (length ks) 0 → h ≡ length ks + 1 → g ≡ f → HduStops primary first b c left' left'' g g' fault → WalkStops a c left left'' f g' (file_fault_of fault h)
+stops_by_hdu keeps ks first a b c left left' left'' f g g' h primary fault limit p begins few at is quiet stops =
+    let count : length ks ≡ length p.hdus = each_length keeps ks p.hdus p.each in
+    let place : h ≡ length p.hdus + 1 = omega (arith, is, count) in
+    let same_first : nat_eq (length ks) 0 ≡ is_first p.hdus = first_of keeps ks p.hdus p.each in
+    rw place (walk_stops p.hdus first a b c left left' left'' f g g' fault limit p.taken p.front (subst (λ (b' : Bool). NextBegins b' first) same_first begins) (omega (arith, few, count)) quiet
+    (subst (λ (b' : Bool). HduStops b' first b c left' left'' g g' fault) (at ∙ same_first) stops))
+
+-- the bytes don't begin as a file does
+not_fits_begun : (first : List ℕ) (a b : Option (List ℕ)) (left left' : ℕ) → left ≤ FILE_LIMIT → Takes a b left left' first → starts_with nat_eq first (codes "SIMPLE  ") ≡ false → 8 ≤ length first → Finds a b left left' (λ bytes. HasOpenFault bytes NotFits)
+not_fits_begun first a b left left' limit p e many =
+    finds_begun (λ bytes. HasOpenFault bytes NotFits) a b left left' first p
+    (λ s le. (omega (arith, limit, p.count, le, length-append first s), λ begins. let no : true ≡ false = sym begins ∙ begins_same (codes "SIMPLE  ") first s 8 (inr many) ∙ e in cc))
+
+not_fits_spent : (first : List ℕ) (a b : Option (List ℕ)) (left left' : ℕ) → left ≤ FILE_LIMIT → Takes a b left left' first → starts_with nat_eq first (codes "SIMPLE  ") ≡ false → IsSpent b left' → Finds a b left left' (λ bytes. HasOpenFault bytes NotFits)
+not_fits_spent first a b left left' limit p e spent =
+    finds_spent (λ bytes. HasOpenFault bytes NotFits) a b left left' first p spent (omega (arith, limit, p.count), λ begins. let no : true ≡ false = sym begins ∙ e in cc)
+
+pub stops_at_first : (first : List ℕ) (a b : Option (List ℕ)) (left left' : ℕ) → left ≤ FILE_LIMIT → Takes a b left left' first → (length first < 2880 → IsSpent b left') → starts_with nat_eq first (codes "SIMPLE  ") ≡ false → Finds a b left left' (λ bytes. HasOpenFault bytes NotFits)
+stops_at_first first a b left left' limit p short e =
+    elim (cases_lt (length first) 2880) [ inl few ↦ not_fits_spent first a b left left' limit p e (short few) | inr many ↦ not_fits_begun first a b left left' limit p e (omega (arith, many)) ]
+
+-- an extension begins after as many HDUs as a file may have
+pub stops_full : {K : Type 0} (keeps : K → HduParts → Type 0) (ks : List K) (first : List ℕ) (a b : Option (List ℕ)) (left left' : ℕ) → Walked keeps ks first a b left left' → length ks ≡ HDU_LIMIT → begins_extension first ≡ true → Finds a b left left' (λ bytes. HasOpenFault bytes TooLarge)
+stops_full keeps ks first a b left left' p all e =
+    finds_begun (λ bytes. HasOpenFault bytes TooLarge) a b left left' (joined_hdus p.hdus ++ first) p.taken
+    (λ s le. subst (λ (t : List ℕ). HasOpenFault t TooLarge) (sym (append_assoc (joined_hdus p.hdus) first s))
+    (inr (record { before = p.hdus; rest = first ++ s; front = front_rest p.hdus (first ++ s) p.front; all = omega (arith, all, each_length keeps ks p.hdus p.each); more = extension_more first s e })))
+
+-- a source's fault
+pub stops_by_read : (a b : Option (List ℕ)) (left left' f g : ℕ) (fault : ReadFault) → (fault ≡ read.Memory → g ≡ f) → (fault ≡ read.Failed → g ≡ f + 1) → WalkStops a b left left' f g (of_read fault)
+stops_by_read a b left left' f g read.Memory m q = m refl
+stops_by_read a b left left' f g read.Failed m q = q refl
+
+pub ruleset walk_steps = (walked_none, walked_more, walk_shorter, next_first, next_more, stops_at_first, stops_by_read)
+
+-- what is left is more than may be taken, or a call failed: so of all
+pub ends_before : (a b : Option (List ℕ)) (left' f g g' : ℕ) (bytes : List ℕ) (before : ReadFileFault) → Takes a b FILE_LIMIT left' bytes → g ≡ f → RestStops b left' g g' before → ReadStops a f g' before
+ends_before a b left' f g g' bytes (Open NotFits) p quiet stops = absurd stops
+ends_before a b left' f g g' bytes (Open (NoEnd h)) p quiet stops = absurd stops
+ends_before a b left' f g g' bytes (Open (BadShape h place)) p quiet stops = absurd stops
+ends_before a b left' f g g' bytes (Open (ShortData h)) p quiet stops = absurd stops
+ends_before a b left' f g g' bytes (Open TooLarge) p quiet stops =
+    let all = long_given a b FILE_LIMIT left' bytes p stops.0 in ((all.0, all.1, inl all.2), stops.1 ∙ quiet)
+ends_before a b left' f g g' bytes (Open Memory) p quiet stops = absurd stops
+ends_before a b left' f g g' bytes Failed p quiet stops = omega (arith, stops, quiet)
+
+-- a fault of what was taken
+pub settled_before : (a b : Option (List ℕ)) (left' f g g' : ℕ) (fault before : ReadFileFault) → is_of_bytes fault ≡ true → WalkStops a b FILE_LIMIT left' f g fault → RestStops b left' g g' before → ReadStops a f g' before
+settled_before a b left' f g g' (Open NotFits) before is p q = ends_before a b left' f g g' p.0.bytes before p.0.taken p.1 q
+settled_before a b left' f g g' (Open (NoEnd h)) before is p q = ends_before a b left' f g g' p.0.bytes before p.0.taken p.1 q
+settled_before a b left' f g g' (Open (BadShape h place)) before is p q = ends_before a b left' f g g' p.0.bytes before p.0.taken p.1 q
+settled_before a b left' f g g' (Open (ShortData h)) before is p q = ends_before a b left' f g g' p.0.bytes before p.0.taken p.1 q
+settled_before a b left' f g g' (Open TooLarge) before is p q = ends_before a b left' f g g' p.0.bytes before p.0.taken p.1 q
+settled_before a b left' f g g' (Open Memory) before is p q = cc
+settled_before a b left' f g g' Failed before is p q = cc
+
+-- is one of all where no more is left
+pub settled_here : (a b : Option (List ℕ)) (left' f g g' : ℕ) (fault : ReadFileFault) → is_of_bytes fault ≡ true → WalkStops a b FILE_LIMIT left' f g fault → IfSome b (λ ys. length ys ≤ left') → g' ≡ g → ReadStops a f g' fault
+settled_here a b left' f g g' (Open NotFits) is p few quiet = (finds_given (λ s. HasOpenFault s NotFits) a b FILE_LIMIT left' p.0 few, quiet ∙ p.1)
+settled_here a b left' f g g' (Open (NoEnd h)) is p few quiet = (finds_given (λ s. HasOpenFault s (NoEnd h)) a b FILE_LIMIT left' p.0 few, quiet ∙ p.1)
+settled_here a b left' f g g' (Open (BadShape h place)) is p few quiet = (finds_given (λ s. HasOpenFault s (BadShape h place)) a b FILE_LIMIT left' p.0 few, quiet ∙ p.1)
+settled_here a b left' f g g' (Open (ShortData h)) is p few quiet = (finds_given (λ s. HasOpenFault s (ShortData h)) a b FILE_LIMIT left' p.0 few, quiet ∙ p.1)
+settled_here a b left' f g g' (Open TooLarge) is p few quiet = (finds_given (λ s. HasOpenFault s TooLarge) a b FILE_LIMIT left' p.0 few, quiet ∙ p.1)
+settled_here a b left' f g g' (Open Memory) is p few quiet = cc
+settled_here a b left' f g g' Failed is p few quiet = cc
+
+-- memory was refused, or a call failed
+pub settled_early : (a b : Option (List ℕ)) (left' f g : ℕ) (fault : ReadFileFault) → is_of_bytes fault ≡ false → WalkStops a b FILE_LIMIT left' f g fault → ReadStops a f g fault
+settled_early a b left' f g (Open NotFits) early p = cc
+settled_early a b left' f g (Open (NoEnd h)) early p = cc
+settled_early a b left' f g (Open (BadShape h place)) early p = cc
+settled_early a b left' f g (Open (ShortData h)) early p = cc
+settled_early a b left' f g (Open TooLarge) early p = cc
+settled_early a b left' f g (Open Memory) early p = p
+settled_early a b left' f g Failed early p = p
+
+-- HDUs and what follows them are a file
+pub file_walked : {K : Type 0} (keeps : K → HduParts → Type 0) (ks : List K) (us : List HduParts) (tail : List ℕ) → KeepsEach keeps ks us → IsFrontOf (joined_hdus us) us [] → 0 < length ks → length ks ≤ HDU_LIMIT → begins_extension tail ≡ false → length (joined_hdus us ++ tail) ≤ FILE_LIMIT
+    → IsFileOf (joined_hdus us ++ tail) (record { hdus = us; tail = tail })
+file_walked keeps ks us tail each front some few ends size =
+    let count : length ks ≡ length us = each_length keeps ks us each in
+    record { front = front_rest us tail front; ends = goes_on-some us tail (omega (arith, some, count)) ∙ ends; size = size; count = omega (arith, few, count) }
+
+-- the first block of what follows the last HDU, and what is left, begin no extension
+rest_ends : (first s : List ℕ) (b : Option (List ℕ)) (left' : ℕ) → begins_extension first ≡ false → (length first < 2880 → IsSpent b left') → (IsSpent b left' → s ≡ []) → begins_extension (first ++ s) ≡ false
+rest_ends first s b left' ends short none =
+    elim (cases_lt (length first) 2880) [
+      | inl few ↦ extension_same first s (inl (none (short few))) ∙ ends
+      | inr many ↦ extension_same first s (inr (omega (arith, many))) ∙ ends
+    ]
+
+-- all of the source is a file
+pub kept_given : {K : Type 0} (keeps : K → HduParts → Type 0) (ks : List K) (first : List ℕ) (a b : Option (List ℕ)) (left' : ℕ) → Walked keeps ks first a b FILE_LIMIT left' → 0 < length ks → length ks ≤ HDU_LIMIT → begins_extension first ≡ false → (length first < 2880 → IsSpent b left') → IfSome b (λ ys. length ys ≤ left')
+    → Gives a (IsKeptOf keeps ks)
+kept_given keeps ks first a b left' p some few ends short rest =
+    let s = rest_given b left' rest in
+    let same : (joined_hdus p.hdus ++ first) ++ s.0 ≡ joined_hdus p.hdus ++ (first ++ s.0) = append_assoc (joined_hdus p.hdus) first s.0 in
+    let size : length (joined_hdus p.hdus ++ (first ++ s.0)) ≤ FILE_LIMIT = omega (arith, p.taken.count, s.2.0, ap length (sym same), length-append (joined_hdus p.hdus ++ first) s.0) in
+    let file : FileParts = record { hdus = p.hdus; tail = first ++ s.0 } in (
+      joined_hdus p.hdus ++ (first ++ s.0),
+      subst (λ (t : List ℕ). Tells a t) same (tells_after a b FILE_LIMIT left' (joined_hdus p.hdus ++ first) s.0 p.taken s.1),
+      (file, file_walked keeps ks p.hdus (first ++ s.0) p.each p.front some few (rest_ends first s.0 b left' ends short s.2.1) size, p.each),
+    )
+
+-- a walk whose source has more than may be taken, or fails
+pub kept_before : {K : Type 0} (keeps : K → HduParts → Type 0) (ks : List K) (first : List ℕ) (a b : Option (List ℕ)) (left' f g g' : ℕ) (before : ReadFileFault) → Walked keeps ks first a b FILE_LIMIT left' → g ≡ f → RestStops b left' g g' before → ReadStops a f g' before
+kept_before keeps ks first a b left' f g g' before p quiet q = ends_before a b left' f g g' (joined_hdus p.hdus ++ first) before p.taken quiet q
+
+pub ruleset kept_steps = (kept_given, kept_before)
+
+pub ruleset end_steps = (within_limit, past_limit)
+
+pub ruleset settled_steps = (settled_before, settled_here, settled_early)
+
+-- the HDUs that are kept whole are those of the file
+each_is : (hdus : List HduState) (us : List HduParts) → KeepsEach (λ (it : HduState) hdu. it.hdu ≡ hdu) hdus us → hdus_of (held_of hdus) ≡ us
+each_is [] [] p = refl
+each_is [] (u ∷ us) p = absurd p
+each_is (hdu ∷ hdus) [] p = absurd p
+each_is (hdu ∷ hdus) (u ∷ us) p = rw (p.0, each_is hdus us p.1) refl
+
+-- they and the tail were taken
+pub session_taken : (hdus : List HduState) (first tail : List ℕ) (a b c : Option (List ℕ)) (left left' left'' : ℕ) → Walked (λ (it : HduState) hdu. it.hdu ≡ hdu) hdus first a b left left' → TakesAfter first b c left' left'' tail
+    → Takes a c left left'' (joined_hdus (hdus_of (held_of hdus)) ++ tail)
+session_taken hdus first tail a b c left left' left'' p q = rw (each_is hdus p.hdus p.each) (takes_before a b c left left' left'' (joined_hdus p.hdus) first tail p.taken q)
+
+-- and are a file
+pub session_whole : (hdus : List HduState) (first tail : List ℕ) (a b c : Option (List ℕ)) (left' left'' : ℕ) → Walked (λ (it : HduState) hdu. it.hdu ≡ hdu) hdus first a b FILE_LIMIT left' → TakesAfter first b c left' left'' tail → 0 < length hdus → length hdus ≤ HDU_LIMIT → begins_extension tail ≡ false
+    → IsFile (file_of (state_of hdus tail))
+session_whole hdus first tail a b c left' left'' p q some few ends =
+    let taken : Takes a c FILE_LIMIT left'' (joined_hdus p.hdus ++ tail) = takes_before a b c FILE_LIMIT left' left'' (joined_hdus p.hdus) first tail p.taken q in
+    rw (each_is hdus p.hdus p.each) (file_walked (λ (it : HduState) hdu. it.hdu ≡ hdu) hdus p.hdus tail p.each p.front some few ends (omega (arith, taken.count)))
+
+-- of which nothing is left
+pub session_given : (hdus : List HduState) (tail : List ℕ) (a c : Option (List ℕ)) (left'' : ℕ) → Takes a c FILE_LIMIT left'' (joined_hdus (hdus_of (held_of hdus)) ++ tail) → IsSpent c left'' → IfSome c (λ ys. length ys ≤ left'') → IsFile (file_of (state_of hdus tail))
+    → Gives a (λ bytes. IsFileOf bytes (file_of (state_of hdus tail)))
+session_given hdus tail a c left'' taken spent few file =
+    let bytes : List ℕ = joined_hdus (hdus_of (held_of hdus)) ++ tail in
+    let s = rest_given c left'' few in
+    let told : Tells a (bytes ++ s.0) = tells_after a c FILE_LIMIT left'' bytes s.0 taken s.1 in
+    (bytes, subst (λ (t : List ℕ). Tells a t) (ap (λ t. bytes ++ t) (s.2.1 spent) ∙ append-nil bytes) told, file)
+
+-- how many bytes the HDUs have
+pub hdus_length : (hdus : List HduState) (first : List ℕ) (a b : Option (List ℕ)) (left' : ℕ) → Walked (λ (it : HduState) hdu. it.hdu ≡ hdu) hdus first a b FILE_LIMIT left' → FILE_LIMIT ≡ left' + (length (joined_hdus (hdus_of (held_of hdus))) + length first)
+hdus_length hdus first a b left' p =
+    rw (each_is hdus p.hdus p.each) (p.taken.count ∙ ap (λ n. left' + n) (length-append (joined_hdus p.hdus) first))
+
+-- the tail that was read begins no extension
+pub tail_ends : (first tail : List ℕ) (a b : Option (List ℕ)) (left left' : ℕ) → TakesAfter first a b left left' tail → 2880 ≤ length first → begins_extension tail ≡ begins_extension first
+tail_ends first tail a b left left' p many = ap begins_extension p.joined ∙ extension_same first p.more (inr (omega (arith, many)))
+
+-- memory for it was refused, or a call failed
+pub reads_by_read : (a : Option (List ℕ)) (f g : ℕ) (fault : ReadFault) → (fault ≡ read.Memory → g ≡ f) → (fault ≡ read.Failed → g ≡ f + 1) → ReadStops a f g (of_read fault)
+reads_by_read a f g read.Memory m q = m refl
+reads_by_read a f g read.Failed m q = q refl
+
+pub ruleset tail_steps = (takes_after_none, tail_ends)
+
+pub ruleset session_steps = (hdus_length, session_taken, session_whole, session_given, reads_by_read, ends_before)

@@ -1,0 +1,21 @@
+use Rattle.std.proofs.Common.{◌∙◌, arith}
+use Rattle.std.proofs.lemmas.Grind.{common_steps}
+use Rattle.fits_session.proofs.WalkLemmas.{stops_at_first, stops_by_hdu, stops_full, walked_more}
+use Rattle.fits_session.proofs.walking.walk.Goals as goal
+
+pub returns-then-not-begins_file-clause-err : goal.returns-then-not-begins_file-clause-err
+returns-then-not-begins_file-clause-err g c =
+    (stops_at_first c.in-Ok.first.items _ _ _ _ c.requires c.in-Ok.ensures.ok c.in-Ok.ensures.ends (grind (arith, common_steps)), c.in-Ok.ensures.quiet)
+
+pub returns-in-Err-read_next-clause-err : goal.returns-in-Err-read_next-clause-err
+returns-in-Err-read_next-clause-err g c = rw c.file_fault.ensures
+    (stops_by_hdu g.K.Kept.keeps c.hdu.kept.items c.hdu.first.items _ _ _ _ _ _ _ _ _ _ c.is_empty.result c.in-Err-read_next.fault c.requires c.hdu.invariant.walked c.hdu.invariant.begins c.hdu.invariant.few
+    (grind (arith, common_steps)) (grind (arith, common_steps)) c.hdu.invariant.quiet c.in-Err-read_next.ensures.err)
+
+pub returns-then-len-eq-HDU_LIMIT-clause-err : goal.returns-then-len-eq-HDU_LIMIT-clause-err
+returns-then-len-eq-HDU_LIMIT-clause-err g c = (
+  stops_full g.K.Kept.keeps c.push.new.self.items c.in-Ok-take.first.items _ _ _ _
+      (walked_more g.K.Kept.keeps c.hdu.kept.items c.push.new.self.items c.in-Ok-read_next.next c.hdu.first.items c.in-Ok-take.first.items _ _ _ _ _ _ _ _ c.is_empty.result c.hdu.invariant.walked c.in-Ok-read_next.ensures.ok (grind (arith, common_steps)) c.in_ok-push-in-Ok-read_next.ensures.items c.in-Ok-take.ensures.ok)
+      (grind (arith, common_steps)) (grind (arith, common_steps)),
+  c.in-Ok-take.ensures.quiet ∙ c.in-Ok-read_next.ensures.quiet ∙ c.hdu.invariant.quiet,
+)

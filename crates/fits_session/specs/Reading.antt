@@ -1,0 +1,82 @@
+-- How a file is read from a source, whatever is kept of its HDUs (own).
+use Rattle.std.specs.Prelude.{◌≡◌, ℕ, ◌+◌, ◌<◌, Bool, true, false, List, [], ◌∷◌, ◌++◌, length, nat_eq, codes, Option, IfSome}
+use Rattle.std.specs.List.{starts_with}
+use Rattle.fits_card.specs.Intake.{Finds, Gives, Takes}
+use Rattle.fits_card.specs.declared.reading.ReadFault.{ReadFault}
+use Rattle.fits_card.specs.declared.reading.ReadFault.TheVariants as read
+use Rattle.fits_hdu.specs.Hdu.{HduParts}
+use Rattle.fits_hdu.specs.Reading.{IsOutlined}
+use Rattle.fits_hdu.specs.declared.outline.Outline.{Outline}
+use Rattle.fits_hdu.specs.declared.read_fault.ReadHduFault.{ReadHduFault}
+use Rattle.fits_hdu.specs.declared.read_fault.ReadHduFault.TheVariants as hdu
+use Rattle.fits_session.specs.File.{FileParts, begins_extension, joined_hdus, IsFileOf, IsFrontOf}
+use Rattle.fits_session.specs.Opening.{HasOpenFault, open_fault_of}
+use Rattle.fits_session.specs.declared.open_fault.OpenFault.{OpenFault}
+use Rattle.fits_session.specs.declared.open_fault.OpenFault.TheVariants.{NotFits, NoEnd, BadShape, ShortData, TooLarge, Memory}
+use Rattle.fits_session.specs.declared.read_fault.ReadFileFault.{ReadFileFault}
+use Rattle.fits_session.specs.declared.read_fault.ReadFileFault.TheVariants.{Open, Failed}
+
+-- a source's fault as the file's
+abbrev pub of_read : ReadFault → ReadFileFault
+of_read read.Memory = Open Memory
+of_read read.Failed = Failed
+
+-- the fault of HDU h as the file's
+abbrev pub file_fault_of : ReadHduFault → ℕ → ReadFileFault
+file_fault_of (hdu.Hdu fault) h = Open (open_fault_of fault h)
+file_fault_of hdu.Failed h = Failed
+
+-- the bytes that may be taken don't open, for this fault; or memory was refused; or a call failed
+abbrev pub WalkStops : Option (List ℕ) → Option (List ℕ) → ℕ → ℕ → ℕ → ℕ → ReadFileFault → Type 0
+WalkStops old new left left' failures failures' (Open Memory) = failures' ≡ failures
+WalkStops old new left left' failures failures' (Open fault) = Finds old new left left' (λ bytes. HasOpenFault bytes fault) × (failures' ≡ failures)
+WalkStops old new left left' failures failures' Failed = failures' ≡ failures + 1
+
+-- all the bytes of a source don't open, for this fault; or memory was refused; or a call failed
+abbrev pub ReadStops : Option (List ℕ) → ℕ → ℕ → ReadFileFault → Type 0
+ReadStops old failures failures' (Open Memory) = failures' ≡ failures
+ReadStops old failures failures' (Open fault) = Gives old (λ bytes. HasOpenFault bytes fault) × (failures' ≡ failures)
+ReadStops old failures failures' Failed = failures' ≡ failures + 1
+
+-- more is left than may be taken; or a call failed
+abbrev pub RestStops : Option (List ℕ) → ℕ → ℕ → ℕ → ReadFileFault → Type 0
+RestStops old left failures failures' (Open TooLarge) = IfSome old (λ bytes. left < length bytes) × (failures' ≡ failures)
+RestStops old left failures failures' (Open fault) = ⊥
+RestStops old left failures failures' Failed = failures' ≡ failures + 1
+
+-- the bytes are at fault, and not memory or a call
+abbrev pub is_of_bytes : ReadFileFault → Bool
+is_of_bytes (Open Memory) = false
+is_of_bytes (Open fault) = true
+is_of_bytes Failed = false
+
+-- one by one, this is kept of these HDUs
+abbrev pub KeepsEach : {K : Type 0} → (K → HduParts → Type 0) → List K → List HduParts → Type 0
+KeepsEach keeps [] [] = Unit {0}
+KeepsEach keeps [] (u ∷ us) = ⊥
+KeepsEach keeps (k ∷ ks) [] = ⊥
+KeepsEach keeps (k ∷ ks) (u ∷ us) = keeps k u × KeepsEach keeps ks us
+
+-- HDUs were taken, of which this is kept, and the first block of what follows them
+pub record Walked {K : Type 0} (keeps : K → HduParts → Type 0) (kept : List K) (first : List ℕ) (old new : Option (List ℕ)) (left left' : ℕ) : Type 0 where
+  pub hdus : List HduParts
+  pub each : KeepsEach keeps kept hdus
+  pub front : IsFrontOf (joined_hdus hdus) hdus []
+  pub taken : Takes old new left left' (joined_hdus hdus ++ first)
+
+-- the bytes are a file, of whose HDUs this is kept
+abbrev pub IsKeptOf : {K : Type 0} → (K → HduParts → Type 0) → List K → List ℕ → Type 0
+IsKeptOf keeps kept bytes = (file : FileParts) × IsFileOf bytes file × KeepsEach keeps kept file.hdus
+
+-- the next HDU begins so: the primary one, or an extension
+abbrev pub NextBegins : Bool → List ℕ → Type 0
+NextBegins true first = starts_with nat_eq first (codes "SIMPLE  ") ≡ true
+NextBegins false first = begins_extension first ≡ true
+
+-- this is an HDU's outline
+abbrev pub is_outline : Outline → HduParts → Type 0
+is_outline it hdu = IsOutlined hdu it.card_count it.shape it.header_len it.data_len
+
+-- these are the outlines of a file's HDUs
+abbrev pub IsOutlineOf : List Outline → List ℕ → Type 0
+IsOutlineOf outlines bytes = IsKeptOf is_outline outlines bytes

@@ -1,0 +1,27 @@
+//! The HDUs of a source without their cards and data.
+ghost use Rattle.std.specs.Prelude.{◌≡◌, IfOk, IfErr, OnOk};
+ghost use Rattle.fits_card.specs.Intake.{Gives};
+ghost use Rattle.fits_session.specs.Reading.{IsOutlineOf, ReadStops};
+
+use crate::read_fault::ReadFileFault;
+use crate::walking::read_kept;
+use fits_card::Source;
+use fits_hdu::Outline;
+use std::alloc::Global;
+
+/// The outlines of the HDUs of the file that a source has, which is read as `Session::read` reads
+/// it.
+///
+/// No data unit and no tail is kept.
+pub fn read_outlines<R: Source>(
+    alloc: Global,
+    source: &mut R,
+) -> Result<Vec<Outline>, ReadFileFault>
+    ensures ok { IfOk result (λ outlines. Gives (R.remaining source.old)
+        (IsOutlineOf outlines.items)) }
+    ensures quiet { OnOk result (R.failures source.new ≡ R.failures source.old) }
+    ensures err { IfErr result (ReadStops (R.remaining source.old)
+        (R.failures source.old) (R.failures source.new)) }
+{
+    read_kept(alloc, source)
+}

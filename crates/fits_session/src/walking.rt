@@ -1,0 +1,150 @@
+//! A walk over the HDUs of a source, whatever is kept of them.
+ghost use Rattle.std.specs.Prelude.{◌≡◌, ◌+◌, ◌≤◌, ◌<◌, false, length, codes, nat_eq, ℕ, List, Option, IfOk, IfErr, IfSome, OnOk};
+ghost use Rattle.std.specs.List.{starts_with};
+ghost use Rattle.fits_card.specs.declared.card_list.TheConstants.{BLOCK_LEN};
+ghost use Rattle.fits_card.specs.Intake.{Gives, IsSpent};
+ghost use Rattle.fits_session.specs.File.{begins_extension};
+ghost use Rattle.fits_session.specs.declared.limits.TheConstants.{FILE_LIMIT, HDU_LIMIT};
+ghost use Rattle.fits_session.specs.Reading.{file_fault_of, is_of_bytes, IsKeptOf, ReadStops, RestStops, Walked, WalkStops};
+
+use crate::limits::{FILE_LIMIT, HDU_LIMIT};
+use crate::open_fault::OpenFault;
+use crate::read_fault::ReadFileFault;
+use crate::session::opening::{begins_extension, open_fault};
+use fits_card::{BLOCK_LEN, Intake, Source};
+use fits_hdu::{Kept, ReadHduFault};
+use std::alloc::Global;
+
+/// What is kept of the HDUs of what may be taken of a source, and the first block after the last.
+#[tactic(auto, using(crate::proofs::WalkLemmas::walk_steps))]
+pub(crate) fn walk<K: Kept + Drop, R: Source>(
+    alloc: Global,
+    intake: &mut Intake,
+    source: &mut R,
+) -> Result<(Vec<K>, Vec<u8>), ReadFileFault>
+    requires { intake.old ≤ FILE_LIMIT }
+    ensures walked { IfOk result (λ parts. Walked K.keeps parts.0.items parts.1.items
+        (R.remaining source.old) (R.remaining source.new) intake.old intake.new) }
+    ensures some { IfOk result (λ parts. 0 < length parts.0.items) }
+    ensures few { IfOk result (λ parts. length parts.0.items ≤ HDU_LIMIT) }
+    ensures ends { IfOk result (λ parts. begins_extension parts.1.items ≡ false) }
+    ensures within { IfOk result (λ parts. length parts.1.items ≤ BLOCK_LEN) }
+    ensures short { IfOk result (λ parts. length parts.1.items < BLOCK_LEN
+        → IsSpent (R.remaining source.new) intake.new) }
+    ensures quiet { OnOk result (R.failures source.new ≡ R.failures source.old) }
+    ensures err { IfErr result (WalkStops
+        (R.remaining source.old) (R.remaining source.new) intake.old intake.new
+        (R.failures source.old) (R.failures source.new)) }
+{
+    let mut kept = Vec::new(alloc);
+    let mut first = match intake.take(alloc, source, BLOCK_LEN) {
+        Ok(first) => first,
+        Err(fault) => return Err(ReadFileFault::from(fault)),
+    };
+    if !begins_file(&first) {
+        return Err(ReadFileFault::Open(OpenFault::NotFits));
+    }
+    'hdu: loop {
+        match K::read_next(alloc, intake, source, first, kept.is_empty()) {
+            Ok(next) => kept.push(next)?,
+            Err(fault) => return Err(file_fault(fault, kept.len() + 1)),
+        }
+        first = match intake.take(alloc, source, BLOCK_LEN) {
+            Ok(first) => first,
+            Err(fault) => return Err(ReadFileFault::from(fault)),
+        };
+        if !begins_extension(&first) {
+            return Ok((kept, first));
+        }
+        if kept.len() as u64 == HDU_LIMIT {
+            return Err(ReadFileFault::Open(OpenFault::TooLarge));
+        }
+    }
+}
+
+/// What is kept of the HDUs of a source, which is read to its end, or past the limit of a file.
+#[tactic(auto, using(crate::proofs::WalkLemmas::kept_steps))]
+pub(crate) fn read_kept<K: Kept + Drop, R: Source>(
+    alloc: Global,
+    source: &mut R,
+) -> Result<Vec<K>, ReadFileFault>
+    ensures ok { IfOk result (λ kept. Gives (R.remaining source.old)
+        (IsKeptOf K.keeps kept.items)) }
+    ensures quiet { OnOk result (R.failures source.new ≡ R.failures source.old) }
+    ensures err { IfErr result (ReadStops (R.remaining source.old)
+        (R.failures source.old) (R.failures source.new)) }
+{
+    let mut intake = Intake::new(alloc, FILE_LIMIT as usize)?;
+    match walk(alloc, &mut intake, source) {
+        Ok((kept, _)) => match end(intake, source) {
+            Ok(()) => Ok(kept),
+            Err(fault) => Err(fault),
+        },
+        Err(fault) => Err(settled(intake, source, fault)),
+    }
+}
+
+/// Goes past what may still be taken. A source that has more is too large.
+#[tactic(auto, using(crate::proofs::WalkLemmas::end_steps))]
+pub(crate) fn end<R: Source>(intake: Intake, source: &mut R) -> Result<(), ReadFileFault>
+    ensures ok { OnOk result (IfSome (R.remaining source.old) (λ bytes. length bytes ≤ intake)) }
+    ensures quiet { OnOk result (R.failures source.new ≡ R.failures source.old) }
+    ensures err { IfErr result (RestStops (R.remaining source.old) intake
+        (R.failures source.old) (R.failures source.new)) }
+{
+    match intake.overruns(source) {
+        Ok(true) => Err(ReadFileFault::Open(OpenFault::TooLarge)),
+        Ok(false) => Ok(()),
+        Err(_) => Err(ReadFileFault::Failed),
+    }
+}
+
+/// The fault of a source by that which ended a walk: that it is too large, or a failed call, comes
+/// before a fault of its bytes.
+#[tactic(auto, using(crate::proofs::WalkLemmas::settled_steps))]
+pub(crate) fn settled<R: Source>(
+    intake: Intake,
+    source: &mut R,
+    fault: ReadFileFault,
+) -> ReadFileFault
+    ensures { (old : Option (List ℕ)) (failures : ℕ)
+        → WalkStops old (R.remaining source.old) FILE_LIMIT intake
+        failures (R.failures source.old) fault
+        → ReadStops old failures (R.failures source.new) result }
+{
+    if !is_of_bytes(fault) {
+        return fault;
+    }
+    match end(intake, source) {
+        Ok(()) => fault,
+        Err(before) => before,
+    }
+}
+
+// Whether the bytes are at fault, and not memory or a call.
+fn is_of_bytes(fault: ReadFileFault) -> bool
+    ensures { result ≡ is_of_bytes fault }
+{
+    match fault {
+        ReadFileFault::Failed => false,
+        ReadFileFault::Open(why) => !matches!(why, OpenFault::Memory),
+    }
+}
+
+// Whether a file begins here.
+#[tactic(auto)]
+fn begins_file(bytes: &[u8]) -> bool
+    ensures { result ≡ starts_with nat_eq bytes.now (codes "SIMPLE  ") }
+{
+    bytes.starts_with(b"SIMPLE  ")
+}
+
+// The fault of HDU h as the file's.
+fn file_fault(fault: ReadHduFault, h: usize) -> ReadFileFault
+    ensures { result ≡ file_fault_of fault h }
+{
+    match fault {
+        ReadHduFault::Hdu(fault) => ReadFileFault::Open(open_fault(fault, h)),
+        ReadHduFault::Failed => ReadFileFault::Failed,
+    }
+}
