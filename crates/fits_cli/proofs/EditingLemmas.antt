@@ -3,17 +3,18 @@ use Rattle.std.proofs.Common.{◌≡◌, ◌⊎◌, ℕ, ◌<◌, ◌≤◌, Lis
 use Rattle.std.specs.Prelude.{nat_le, if◌then◌else◌}
 use Rattle.std.specs.Result.{OnOk, IfErr}
 use Rattle.std.specs.Io.KnownBytes.{Appends, Consumes, IsAtEnd}
+use Rattle.fits_card.specs.Intake.{Tells}
 use Rattle.fits_card.proofs.StreamLemmas.{Consumes-none}
 use Rattle.std.proofs.lemmas.List.{append-nil, take_all}
 use Rattle.fits_session.specs.File.{FileParts, file_bytes}
 use Rattle.fits_cli.specs.Answer.{Standing, at_first_line}
 use Rattle.fits_cli.specs.Ends.{Streams, Opens, HasLines, Succeeds, AnswersFail, StopsBy}
 use Rattle.fits_cli.specs.Faults.{PrintFails}
-use Rattle.fits_cli.specs.Limits.{script_limit}
+use Rattle.fits_cli.specs.declared.limits.TheConstants.{SCRIPT_LIMIT}
 use Rattle.fits_cli.specs.Output.{Output, answers, standing_after, status_of, output_unopened, output_of_lines, output_too_long, IsOutputOf}
 use Rattle.fits_cli.specs.Running.{OpeningStops, AnswersScript, AnswersTooLong, NeedsMemoryAt, ScriptReadFails, ScriptWriteFails, ScriptStops, FlushesThen, FlushesAnswers}
 use Rattle.fits_cli.specs.Script.{script_lines}
-use Rattle.fits_cli.specs.Streams.{SourceState, SinkState, Tells, Prints, PrintsFront, Flushes, FailsToFlush, FlushesOrFails}
+use Rattle.fits_cli.specs.Streams.{SourceState, SinkState, Prints, PrintsFront, Flushes, FailsToFlush, FlushesOrFails}
 use Rattle.fits_cli.specs.declared.fault.Fault.{Fault}
 use Rattle.fits_cli.specs.declared.fault.Fault.TheVariants.{Refused, ScriptTooLong, Memory, ReadFailed, WriteFailed}
 use Rattle.fits_cli.proofs.LinesLemmas.{IsCutInLines-none}
@@ -76,8 +77,8 @@ output_whole old new file parts now held holds opened done = inr (record {
   lines = done.lines;
   last = done.last;
   opens = opened.opens;
-  cut = rw (take_all script_limit done.script done.short) done.cut;
-  is = choice-within (length done.script) script_limit (output_of_lines parts (script_lines done.lines done.last)) (output_too_long parts done.lines) done.short;
+  cut = rw (take_all SCRIPT_LIMIT done.script done.short) done.cut;
+  is = choice-within (length done.script) SCRIPT_LIMIT (output_of_lines parts (script_lines done.lines done.last)) (output_too_long parts done.lines) done.short;
 })
 
 -- a script that was read to its end
@@ -91,7 +92,7 @@ all_lines : (old new : SourceState) (before now : Standing) (held holds : SinkSt
 all_lines old new before now held holds done = record {
   whole = done.lines;
   last = done.last;
-  reached = record { came = done.script; read = done.read; cut = rw (take_all script_limit done.script done.short) done.cut };
+  reached = record { came = done.script; read = done.read; cut = rw (take_all SCRIPT_LIMIT done.script done.short) done.cut };
   are = inr (done.ended, done.short, refl);
 }
 
@@ -153,7 +154,7 @@ StopsBy-too_long old new mid result fault parts is opened of_file saved long (in
           last = long.last;
           opens = opened.opens;
           cut = long.cut;
-          is = choice-over (length long.script) script_limit (output_of_lines parts (script_lines long.lines long.last)) (output_too_long parts long.lines) long.long;
+          is = choice-over (length long.script) SCRIPT_LIMIT (output_of_lines parts (script_lines long.lines long.last)) (output_too_long parts long.lines) long.long;
         });
         printed = Prints-flushed old.printed mid new.printed (answers (at_first_line parts) long.lines) long.printed flush.1;
         saved = Prints-same old.saved new.saved saved;

@@ -3,13 +3,16 @@ pub mod ComplaintLemmas
 pub mod CutLemmas
 pub mod EditingLemmas
 pub mod ExitLemmas
+pub mod FormLemmas
 pub mod LinesLemmas
 pub mod ListingLemmas
 pub mod OpeningLemmas
 pub mod OutputLemmas
+pub mod PlacesLemmas
 pub mod ReadingLemmas
 pub mod RefusalLemmas
 pub mod RunLemmas
+pub mod SaidLemmas
 pub mod ScriptLemmas
 pub mod StreamLemmas
 pub mod TellingLemmas

@@ -1,170 +1,161 @@
 -- A listing, line by line, and its run.
-use Rattle.std.proofs.Common.{◌≡◌, subst, ℕ, ◌+◌, ◌-◌, ◌<◌, ◌≤◌, List, [], ◌∷◌, ◌++◌, length, take, drop, get_or, refl, ap, sym, ◌∙◌, append_assoc, arith, inl, inr, Option, None, Some, suc}
-use Rattle.std.specs.Prelude.{min, Result, Ok, Err, codes}
+use Rattle.std.proofs.Common.{◌≡◌, subst, ℕ, ◌+◌, ◌-◌, ◌<◌, ◌≤◌, Bool, true, false, List, [], ◌∷◌, ◌++◌, length, take, drop, get_or, refl, ap, sym, ◌∙◌, append_assoc, arith, rules, All, Option}
+use Rattle.std.specs.Prelude.{nat_le, Ok, codes}
 use Rattle.std.specs.Fmt.{decimal}
-use Rattle.std.specs.List.{slice_get}
-use Rattle.std.specs.Io.KnownBytes.{Appends}
-use Rattle.std.proofs.lemmas.List.{append-nil, get_or_default, length-take, take_all, take-append-drop, take_more, length-take-le}
-use Rattle.std.proofs.lemmas.Option.{get_or_from_slice_get, slice_get_cases}
-use Rattle.fits_card.specs.Stream.{AppendsFront}
+use Rattle.std.proofs.lemmas.List.{append-nil, get_or_default, length-append, take_all, take-append-drop, take_more, length-take-le}
+use Rattle.std.proofs.lemmas.List.Elements.{All-head, All-tail}
 use Rattle.fits_card.specs.Header.{header_bytes}
+use Rattle.fits_card.specs.Intake.{Gives}
+use Rattle.fits_rules.specs.Class.{is_primary}
 use Rattle.fits_rules.specs.Shape.{shape_of}
 use Rattle.fits_rules.specs.declared.array_shape.Shape.{Shape}
-use Rattle.fits_hdu.specs.Hdu.{HduParts}
-use Rattle.fits_session.specs.File.{FileParts, offsets_from}
-use Rattle.fits_session.specs.Edit.{hdu_of}
-use Rattle.fits_session.specs.Query.{card_count_in, in_hdu, IsShapeIn}
+use Rattle.fits_hdu.specs.Hdu.{HduParts, IsHdu, hdu_bytes}
+use Rattle.fits_hdu.specs.declared.outline.Outline.{Outline}
+use Rattle.fits_hdu.proofs.ShapeLemmas.{one_primary}
+use Rattle.fits_session.specs.File.{FileParts, joined_hdus, offsets_from, IsFileOf}
+use Rattle.fits_session.specs.declared.limits.TheConstants.{FILE_LIMIT}
+use Rattle.fits_session.specs.Reading.{is_outline, IsOutlineOf, KeepsEach}
 use Rattle.fits_session.specs.Refusal.{is_primary_hdu}
-use Rattle.fits_session.specs.declared.refusal.Refusal.{Refusal}
 use Rattle.fits_session.specs.declared.offsets.HduOffsets.{HduOffsets}
-use Rattle.fits_cli.specs.Listing.{axes_text, more_axes_text, line_front, line_back, hdu_line, line_of, hdu_lines, listing, first_lines}
+use Rattle.fits_cli.specs.Listing.{axes_text, more_axes_text, line_front, line_back, hdu_line, line_of, hdu_lines, listing, outlined_len, outlined_lines, outlined_offsets}
 use Rattle.fits_cli.specs.Faults.{PrintFails}
 use Rattle.fits_cli.specs.Streams.{SinkState, Prints, PrintsFront}
-use Rattle.fits_cli.specs.Telling.{ListingStops, PrintingStops}
+use Rattle.fits_cli.specs.Telling.{PrintingStops}
 use Rattle.fits_cli.specs.declared.fault.Fault.{Fault}
-use Rattle.fits_cli.specs.declared.fault.Fault.TheVariants.{Refused, ScriptTooLong, Memory, ReadFailed, WriteFailed}
+use Rattle.fits_cli.specs.declared.fault.Fault.TheVariants.{Memory}
 use Rattle.fits_cli.proofs.StreamLemmas.{Prints-more, PrintsFront-more, PrintsFront-longer, AppendsFront-longer, AppendsFront-whole}
 
--- as many offsets as HDUs
-pub length-offsets_from : (start : ℕ) (hdus : List HduParts) → length (offsets_from start hdus) ≡ length hdus
-length-offsets_from start [] = refl
-length-offsets_from start (hdu ∷ hdus) = ap suc (length-offsets_from (start + length (header_bytes hdu.header) + length hdu.data_unit) hdus)
+-- the line of an HDU is that of its outline
+line_same : (number start : ℕ) (primary : Bool) (it : Outline) (u : HduParts) → is_primary_hdu number ≡ primary → IsHdu primary u → is_outline it u
+    → hdu_line number it.card_count (outlined_offsets start it) it.shape
+    ≡ line_of number (length u.header.cards) (let at : HduOffsets = record { header_start = start; data_start = start + length (header_bytes u.header); hdu_end = start + length (header_bytes u.header) + length u.data_unit } in at) (shape_of (is_primary_hdu number) u.header.cards)
+line_same number start primary it u at whole outline =
+    let class : is_primary it.shape.class ≡ primary = one_primary (is_primary it.shape.class) primary u.header.cards it.shape whole.shape outline.described whole.described in
+    let described : shape_of (is_primary_hdu number) u.header.cards ≡ Ok it.shape = ap (λ b. shape_of b u.header.cards) (at ∙ sym class) ∙ outline.described in
+    rw (described, ← outline.count, ← outline.header, ← outline.unit) refl
 
--- lines of HDUs, and of more
-hdu_lines-append : (n : ℕ) (us vs : List HduParts) (xs ys : List HduOffsets) → length us ≡ length xs → hdu_lines n (us ++ vs) (xs ++ ys) ≡ hdu_lines n us xs ++ hdu_lines (n + length us) vs ys
-hdu_lines-append n [] vs [] ys e = let same : n ≡ n + 0 = omega arith in ap (λ m. hdu_lines m vs ys) same
-hdu_lines-append n [] vs (x ∷ xs) ys e = absurd (cc)
-hdu_lines-append n (u ∷ us) vs [] ys e = absurd (cc)
-hdu_lines-append n (u ∷ us) vs (x ∷ xs) ys e =
-    let line : List ℕ = line_of n (length u.header.cards) x (shape_of (is_primary_hdu n) u.header.cards) in
-    let size : length us ≡ length xs = cc in
-    let next : n + 1 + length us ≡ n + suc (length us) = omega arith in
-    ap (λ t. line ++ t) (hdu_lines-append (n + 1) us vs xs ys size ∙ ap (λ m. hdu_lines (n + 1) us xs ++ hdu_lines m vs ys) next)
-    ∙ sym (append_assoc line (hdu_lines (n + 1) us xs) (hdu_lines (n + suc (length us)) vs ys))
+-- HDU 2 and those after it aren't the primary one
+past_one : (n : ℕ) → 1 < n → nat_le n 1 ≡ false
+past_one n l = search rules
 
--- the value of an Ok
-ok_same : (a b : ℕ) → ◌≡◌ {A = Result ℕ Refusal} (Ok a) (Ok b) → a ≡ b
-ok_same a b e = (cc)
+-- the lines of extensions
+extension_lines : (k start : ℕ) (outlines : List Outline) (us : List HduParts) → KeepsEach is_outline outlines us → All (IsHdu false) us → outlined_lines (2 + k) start outlines ≡ hdu_lines (2 + k) us (offsets_from start us)
+extension_lines k start [] [] p q = refl
+extension_lines k start [] (u ∷ us) p q = absurd p
+extension_lines k start (it ∷ outlines) [] p q = absurd p
+extension_lines k start (it ∷ outlines) (u ∷ us) p q =
+    let next : 2 + k + 1 ≡ 2 + (k + 1) = omega arith in
+    let more : ℕ = start + length (header_bytes u.header) + length u.data_unit in
+    let end : start + it.header_len + it.data_len ≡ more = omega (arith, p.0.header, p.0.unit) in
+    let line = line_same (2 + k) start false it u (past_one (2 + k) (omega arith)) (All-head (IsHdu false) u us q) p.0 in
+    ap (λ t. t ++ outlined_lines (2 + k + 1) (start + it.header_len + it.data_len) outlines) line
+    ∙ ap (λ t. line_of (2 + k) (length u.header.cards) (let at : HduOffsets = record { header_start = start; data_start = start + length (header_bytes u.header); hdu_end = more } in at) (shape_of (is_primary_hdu (2 + k)) u.header.cards) ++ t)
+    (ap (λ n. outlined_lines n (start + it.header_len + it.data_len) outlines) next ∙ ap (λ n. outlined_lines (2 + (k + 1)) n outlines) end ∙ extension_lines (k + 1) more outlines us p.1 (All-tail (IsHdu false) u us q)
+    ∙ ap (λ n. hdu_lines n us (offsets_from more us)) (sym next))
 
--- the line of the next HDU
-pub hdu_lines-more : (file : FileParts) (offsets : List HduOffsets) (i h : ℕ) (cards : ℕ) (at : HduOffsets) (shape : Shape) → length offsets ≡ length file.hdus → i < length offsets → h ≡ i + 1
-    → card_count_in file h ≡ Ok cards → at ≡ get_or offsets i at → IsShapeIn file h shape
-    → hdu_lines 1 (take (i + 1) file.hdus) (take (i + 1) offsets) ≡ hdu_lines 1 (take i file.hdus) (take i offsets) ++ hdu_line h cards at shape
-hdu_lines-more file offsets i h cards at shape size l next counted e has =
-    let hdu : HduParts = has.hdu in
-    let place : h ≡ suc i = omega (arith, next) in
-    let got : slice_get file.hdus i ≡ Some hdu = ap (λ n. hdu_of file n) (sym place) ∙ has.there in
-    let same : get_or file.hdus i hdu ≡ hdu = get_or_from_slice_get file.hdus i hdu hdu got in
-    let count : length hdu.header.cards ≡ cards = ok_same (length hdu.header.cards) cards (ap (λ o. in_hdu (λ (u : HduParts). Ok (length u.header.cards)) o) (sym has.there) ∙ counted) in
-    let fronts : length (take i file.hdus) ≡ length (take i offsets) = length-take-le i file.hdus (omega (arith, size)) ∙ sym (length-take-le i offsets (omega arith)) in
-    let us : take (i + 1) file.hdus ≡ take i file.hdus ++ hdu ∷ [] = take_more file.hdus i hdu (omega (arith, size)) ∙ ap (λ u. take i file.hdus ++ u ∷ []) same in
-    let xs : take (i + 1) offsets ≡ take i offsets ++ at ∷ [] = take_more offsets i at l ∙ ap (λ x. take i offsets ++ x ∷ []) (sym e) in
-    let number : 1 + length (take i file.hdus) ≡ h = omega (arith, length-take-le i file.hdus (omega (arith, size)), next) in
-    let line : line_of h (length hdu.header.cards) at (shape_of (is_primary_hdu h) hdu.header.cards) ≡ hdu_line h cards at shape =
-    ap (λ o. line_of h (length hdu.header.cards) at o) has.described ∙ ap (λ n. hdu_line h n at shape) count in
-    ap (λ t. hdu_lines 1 t (take (i + 1) offsets)) us ∙ ap (λ t. hdu_lines 1 (take i file.hdus ++ hdu ∷ []) t) xs
-    ∙ hdu_lines-append 1 (take i file.hdus) (hdu ∷ []) (take i offsets) (at ∷ []) fronts
-    ∙ ap (λ n. hdu_lines 1 (take i file.hdus) (take i offsets) ++ hdu_lines n (hdu ∷ []) (at ∷ [])) number
-    ∙ ap (λ t. hdu_lines 1 (take i file.hdus) (take i offsets) ++ t) (append-nil (line_of h (length hdu.header.cards) at (shape_of (is_primary_hdu h) hdu.header.cards)) ∙ line)
+-- the lines of the primary HDU and of extensions
+front_lines : (outlines : List Outline) (us : List HduParts) → All (IsHdu true) (take 1 us) → All (IsHdu false) (drop 1 us) → KeepsEach is_outline outlines us → outlined_lines 1 0 outlines ≡ hdu_lines 1 us (offsets_from 0 us)
+front_lines [] [] first others p = refl
+front_lines [] (u ∷ us) first others p = absurd p
+front_lines (it ∷ outlines) [] first others p = absurd p
+front_lines (it ∷ outlines) (u ∷ us) first others p =
+    let more : ℕ = 0 + length (header_bytes u.header) + length u.data_unit in
+    let end : 0 + it.header_len + it.data_len ≡ more = omega (arith, p.0.header, p.0.unit) in
+    let line = line_same 1 0 true it u refl (first 0 u (omega arith)) p.0 in
+    ap (λ t. t ++ outlined_lines 2 (0 + it.header_len + it.data_len) outlines) line
+    ∙ ap (λ t. line_of 1 (length u.header.cards) (let at : HduOffsets = record { header_start = 0; data_start = 0 + length (header_bytes u.header); hdu_end = more } in at) (shape_of (is_primary_hdu 1) u.header.cards) ++ t)
+    (ap (λ n. outlined_lines 2 n outlines) end ∙ extension_lines 0 more outlines us p.1 others)
 
--- all lines
-pub listing-whole : (file : FileParts) (offsets : List HduOffsets) (i : ℕ) → offsets ≡ offsets_from 0 file.hdus → length offsets ≤ i → hdu_lines 1 (take i file.hdus) (take i offsets) ≡ listing file
+-- the lines of a file's outlines are its listing
+pub listing-outlined : (outlines : List Outline) (bytes : List ℕ) (file : FileParts) → IsFileOf bytes file → KeepsEach is_outline outlines file.hdus → outlined_lines 1 0 outlines ≡ listing file
 unfolding listing
-listing-whole file offsets i e l =
-    let size : length offsets ≡ length file.hdus = ap length e ∙ length-offsets_from 0 file.hdus in
-    ap (λ t. hdu_lines 1 t (take i offsets)) (take_all i file.hdus (omega (arith, size, l)))
-    ∙ ap (λ t. hdu_lines 1 file.hdus t) (take_all i offsets l ∙ e)
+listing-outlined outlines bytes file p each = front_lines outlines file.hdus p.front.first p.front.others each
 
--- the HDU of an offset is there
-there : (file : FileParts) (offsets : List HduOffsets) (i h : ℕ) → offsets ≡ offsets_from 0 file.hdus → i < length offsets → h ≡ i + 1 → (hdu : HduParts) × (hdu_of file h ≡ Some hdu)
-there file offsets i h e l next =
-    let size : length offsets ≡ length file.hdus = ap length e ∙ length-offsets_from 0 file.hdus in
-    let place : h ≡ suc i = omega (arith, next) in
-    elim (slice_get_cases file.hdus i).1 [
-      | inl has ↦ (has.0, ap (λ n. hdu_of file n) place ∙ has.2)
-      | inr none ↦ absurd (omega (arith, none.0, l, size))
-    ]
+-- how many bytes HDUs have, by their outlines
+pub outlined_len-kept : (outlines : List Outline) (us : List HduParts) → KeepsEach is_outline outlines us → outlined_len outlines ≡ length (joined_hdus us)
+outlined_len-kept [] [] p = refl
+outlined_len-kept [] (u ∷ us) p = absurd p
+outlined_len-kept (it ∷ outlines) [] p = absurd p
+outlined_len-kept (it ∷ outlines) (u ∷ us) p =
+    omega (arith, p.0.header, p.0.unit, outlined_len-kept outlines us p.1, length-append (hdu_bytes u) (joined_hdus us), length-append (header_bytes u.header) u.data_unit)
 
-pub no_count : (file : FileParts) (offsets : List HduOffsets) (i h : ℕ) (why : Refusal) → offsets ≡ offsets_from 0 file.hdus → i < length offsets → h ≡ i + 1
-    → Err why ≡ in_hdu (λ (u : HduParts). Ok (length u.header.cards)) (hdu_of file h) → ⊥
-no_count file offsets i h why e l next counted =
-    let has = there file offsets i h e l next in
-    let z : Err why ≡ Ok (length has.0.header.cards) = counted ∙ ap (λ o. in_hdu (λ (u : HduParts). Ok (length u.header.cards)) o) has.1 in
-    absurd (cc)
+-- they keep to the limit
+pub outlined_within : (left : Option (List ℕ)) (outlines : List Outline) → Gives left (IsOutlineOf outlines) → outlined_len outlines ≤ FILE_LIMIT
+outlined_within left outlines p =
+    let file : FileParts = p.2.0 in
+    omega (arith, outlined_len-kept outlines file.hdus p.2.2, p.2.1.size, ap length p.2.1.front.joined, length-append (joined_hdus file.hdus) file.tail)
 
-pub no_shape : (file : FileParts) (offsets : List HduOffsets) (i h : ℕ) → offsets ≡ offsets_from 0 file.hdus → i < length offsets → h ≡ i + 1 → hdu_of file h ≡ None → ⊥
-no_shape file offsets i h e l next none =
-    let has = there file offsets i h e l next in
-    let z : None ≡ Some has.0 = sym none ∙ has.1 in
-    absurd (cc)
+-- lines of some outlines, and of more
+lines-append : (n start : ℕ) (xs ys : List Outline) → outlined_lines n start (xs ++ ys) ≡ outlined_lines n start xs ++ outlined_lines (n + length xs) (start + outlined_len xs) ys
+lines-append n start [] ys =
+    let number : n ≡ n + 0 = omega arith in
+    let here : start ≡ start + 0 = omega arith in
+    ap (λ m. outlined_lines m start ys) number ∙ ap (λ m. outlined_lines (n + 0) m ys) here
+lines-append n start (x ∷ xs) ys =
+    let line : List ℕ = hdu_line n x.card_count (outlined_offsets start x) x.shape in
+    let next : ℕ = start + x.header_len + x.data_len in
+    let number : n + 1 + length xs ≡ n + length (x ∷ xs) = omega arith in
+    let end : next + outlined_len xs ≡ start + outlined_len (x ∷ xs) = omega arith in
+    ap (λ t. line ++ t) (lines-append (n + 1) next xs ys ∙ ap (λ m. outlined_lines (n + 1) next xs ++ outlined_lines m (next + outlined_len xs) ys) number
+    ∙ ap (λ m. outlined_lines (n + 1) next xs ++ outlined_lines (n + length (x ∷ xs)) m ys) end)
+    ∙ sym (append_assoc line (outlined_lines (n + 1) next xs) (outlined_lines (n + length (x ∷ xs)) (start + outlined_len (x ∷ xs)) ys))
 
--- so many lines, and one more
-pub first_lines-more : (file : FileParts) (offsets : List HduOffsets) (i cards : ℕ) (d : HduOffsets) (shape : Shape) → offsets ≡ offsets_from 0 file.hdus → i < length offsets
-    → Ok cards ≡ card_count_in file (i + 1) → IsShapeIn file (i + 1) shape
-    → first_lines (i + 1) file ≡ first_lines i file ++ hdu_line (i + 1) cards (get_or offsets i d) shape
-unfolding first_lines
-first_lines-more file offsets i cards d shape e l counted has =
-    let at : HduOffsets = get_or offsets i d in
-    rw (← e) (hdu_lines-more file offsets i (i + 1) cards at shape (ap length e ∙ length-offsets_from 0 file.hdus) l refl (sym counted) (sym (get_or_default offsets i at d l)) has)
+len-append : (xs ys : List Outline) → outlined_len (xs ++ ys) ≡ outlined_len xs + outlined_len ys
+len-append [] ys = omega arith
+len-append (x ∷ xs) ys = omega (arith, len-append xs ys)
 
--- as many as there are HDUs
-pub first_lines-whole : (file : FileParts) (offsets : List HduOffsets) (i : ℕ) → offsets ≡ offsets_from 0 file.hdus → length offsets ≤ i → first_lines i file ≡ listing file
-unfolding first_lines
-first_lines-whole file offsets i e l = rw (← e) (listing-whole file offsets i e l)
+-- lines of the first outlines, and of the others
+lines-split : (xs ys : List Outline) → outlined_lines 1 0 (xs ++ ys) ≡ outlined_lines 1 0 xs ++ outlined_lines (1 + length xs) (outlined_len xs) ys
+lines-split xs ys =
+    let here : 0 + outlined_len xs ≡ outlined_len xs = omega arith in
+    lines-append 1 0 xs ys ∙ ap (λ n. outlined_lines 1 0 xs ++ outlined_lines (1 + length xs) n ys) here
 
--- none
-pub first_lines-none : (file : FileParts) → first_lines 0 file ≡ []
-unfolding first_lines
-first_lines-none file = refl
+-- one outline more
+pub lines-more : (outlines : List Outline) (i start : ℕ) (it : Outline) (line : List ℕ) → i < length outlines → it ≡ get_or outlines i it → start ≡ outlined_len (take i outlines) → line ≡ hdu_line (i + 1) it.card_count (outlined_offsets start it) it.shape
+    → outlined_lines 1 0 (take (i + 1) outlines) ≡ outlined_lines 1 0 (take i outlines) ++ line
+lines-more outlines i start it line l e at is =
+    let number : 1 + length (take i outlines) ≡ i + 1 = omega (arith, length-take-le i outlines (omega (arith, l))) in
+    ap (outlined_lines 1 0) (take_more outlines i it l ∙ ap (λ x. take i outlines ++ x ∷ []) (sym e))
+    ∙ lines-split (take i outlines) (it ∷ [])
+    ∙ ap (λ n. outlined_lines 1 0 (take i outlines) ++ outlined_lines n (outlined_len (take i outlines)) (it ∷ [])) number
+    ∙ ap (λ n. outlined_lines 1 0 (take i outlines) ++ outlined_lines (i + 1) n (it ∷ [])) (sym at)
+    ∙ ap (λ t. outlined_lines 1 0 (take i outlines) ++ t) (append-nil (hdu_line (i + 1) it.card_count (outlined_offsets start it) it.shape) ∙ sym is)
+
+pub len-more : (outlines : List Outline) (i start : ℕ) (it : Outline) → i < length outlines → it ≡ get_or outlines i it → start ≡ outlined_len (take i outlines) → start + it.header_len + it.data_len ≡ outlined_len (take (i + 1) outlines)
+len-more outlines i start it l e at =
+    omega (arith, at, ap outlined_len (take_more outlines i it l ∙ ap (λ x. take i outlines ++ x ∷ []) (sym e)), len-append (take i outlines) (it ∷ []))
+
+-- it ends where all end, or before
+pub len_within : (outlines : List Outline) (i start : ℕ) (it : Outline) → i < length outlines → it ≡ get_or outlines i it → start ≡ outlined_len (take i outlines) → start + it.header_len + it.data_len ≤ outlined_len outlines
+len_within outlines i start it l e at =
+    omega (arith, len-more outlines i start it l e at, ap outlined_len (take-append-drop (i + 1) outlines), len-append (take (i + 1) outlines) (drop (i + 1) outlines))
 
 -- the other lines
-rest_lines : (count : ℕ) (file : FileParts) → (rest : List ℕ) × (listing file ≡ first_lines count file ++ rest)
-unfolding first_lines listing
-rest_lines count file =
-    let offsets : List HduOffsets = offsets_from 0 file.hdus in
-    let size : length (take count file.hdus) ≡ length (take count offsets) = length-take count file.hdus ∙ ap (min count) (sym (length-offsets_from 0 file.hdus)) ∙ sym (length-take count offsets) in (
-      hdu_lines (1 + length (take count file.hdus)) (drop count file.hdus) (drop count offsets),
-      ap (λ us. hdu_lines 1 us offsets) (sym (take-append-drop count file.hdus)) ∙ ap (λ xs. hdu_lines 1 (take count file.hdus ++ drop count file.hdus) xs) (sym (take-append-drop count offsets))
-          ∙ hdu_lines-append 1 (take count file.hdus) (drop count file.hdus) (take count offsets) (drop count offsets) size,
-    )
-
--- the lines so far, and one more
-pub Prints-line : (a b c : SinkState) (file : FileParts) (offsets : List HduOffsets) (i cards : ℕ) (d : HduOffsets) (shape : Shape) (line : List ℕ) → offsets ≡ offsets_from 0 file.hdus → i < length offsets
-    → Ok cards ≡ card_count_in file (i + 1) → IsShapeIn file (i + 1) shape
-    → line ≡ hdu_line (i + 1) cards (get_or offsets i d) shape → Prints (first_lines i file) a b → Prints line b c → Prints (first_lines (i + 1) file) a c
-Prints-line a b c file offsets i cards d shape line e l counted has is p q =
-    rw (first_lines-more file offsets i cards d shape e l counted has ∙ ap (λ t. first_lines i file ++ t) (sym is)) (Prints-more a b c (first_lines i file) line p q)
-
--- a prefix of the lines is a prefix of all
-pub PrintsFront-lines : (a b : SinkState) (file : FileParts) (count : ℕ) → PrintsFront (first_lines count file) a b → PrintsFront (listing file) a b
-PrintsFront-lines a b file count p = let rest = rest_lines count file in rw rest.1 (PrintsFront-longer a b (first_lines count file) rest.0 p)
-
--- the lines so far, and a prefix of one more
-pub PrintsFront-line : (a b c : SinkState) (file : FileParts) (offsets : List HduOffsets) (i cards : ℕ) (d : HduOffsets) (shape : Shape) (line : List ℕ) → offsets ≡ offsets_from 0 file.hdus → i < length offsets
-    → Ok cards ≡ card_count_in file (i + 1) → IsShapeIn file (i + 1) shape
-    → line ≡ hdu_line (i + 1) cards (get_or offsets i d) shape → Prints (first_lines i file) a b → PrintsFront line b c → PrintsFront (listing file) a c
-PrintsFront-line a b c file offsets i cards d shape line e l counted has is p q =
-    PrintsFront-lines a c file (i + 1)
-    (rw (first_lines-more file offsets i cards d shape e l counted has ∙ ap (λ t. first_lines i file ++ t) (sym is)) (PrintsFront-more a b c (first_lines i file) line p q))
-
--- a line that isn't printed whole
-pub ListingStops-line : (a b c : SinkState) (file : FileParts) (offsets : List HduOffsets) (i cards : ℕ) (d : HduOffsets) (shape : Shape) (line : List ℕ) (fault : Fault) → offsets ≡ offsets_from 0 file.hdus → i < length offsets
-    → Ok cards ≡ card_count_in file (i + 1) → IsShapeIn file (i + 1) shape
-    → line ≡ hdu_line (i + 1) cards (get_or offsets i d) shape → Prints (first_lines i file) a b → PrintFails line b c fault → ListingStops file a c fault
-ListingStops-line a b c file offsets i cards d shape line fault e l counted has is p q =
-    subst (λ (f : Fault). ListingStops file a c f) (sym q.0) (PrintsFront-line a b c file offsets i cards d shape line e l counted has is p q.1)
+rest_lines : (outlines : List Outline) (i : ℕ) → (rest : List ℕ) × (outlined_lines 1 0 outlines ≡ outlined_lines 1 0 (take i outlines) ++ rest)
+rest_lines outlines i = (
+  outlined_lines (1 + length (take i outlines)) (outlined_len (take i outlines)) (drop i outlines),
+  ap (outlined_lines 1 0) (sym (take-append-drop i outlines)) ∙ lines-split (take i outlines) (drop i outlines),
+)
 
 -- so many whole lines are a prefix of all
-pub AppendsFront-lines : (a b : Option (List ℕ)) (file : FileParts) (count : ℕ) → Appends a b (first_lines count file) → AppendsFront a b (listing file)
-AppendsFront-lines a b file count p = let rest = rest_lines count file in rw rest.1 (AppendsFront-longer a b (first_lines count file) rest.0 (AppendsFront-whole a b (first_lines count file) p))
+pub PrintingStops-lines : (a b : SinkState) (outlines : List Outline) (i : ℕ) → Prints (outlined_lines 1 0 (take i outlines)) a b → PrintingStops (outlined_lines 1 0 outlines) a b Memory
+PrintingStops-lines a b outlines i p =
+    let rest = rest_lines outlines i in
+    (rw rest.1 (AppendsFront-longer a.holds b.holds (outlined_lines 1 0 (take i outlines)) rest.0 (AppendsFront-whole a.holds b.holds (outlined_lines 1 0 (take i outlines)) p.bytes)), p.quiet)
 
--- a listing that isn't printed to its end
-pub PrintingStops-listing : (file : FileParts) (a b : SinkState) (fault : Fault) → ListingStops file a b fault → PrintingStops (listing file) a b fault
-PrintingStops-listing file a b (Refused why) stops = stops
-PrintingStops-listing file a b ScriptTooLong stops = stops
-PrintingStops-listing file a b Memory stops = (AppendsFront-lines a.holds b.holds file stops.0 stops.1.bytes, stops.1.quiet)
-PrintingStops-listing file a b ReadFailed stops = stops
-PrintingStops-listing file a b WriteFailed stops = stops
+-- and so are they with a prefix of one more
+pub PrintingStops-line : (a b c : SinkState) (outlines : List Outline) (i start : ℕ) (it : Outline) (line : List ℕ) (fault : Fault) → i < length outlines → it ≡ get_or outlines i it → start ≡ outlined_len (take i outlines) → line ≡ hdu_line (i + 1) it.card_count (outlined_offsets start it) it.shape
+    → Prints (outlined_lines 1 0 (take i outlines)) a b → PrintFails line b c fault → PrintingStops (outlined_lines 1 0 outlines) a c fault
+PrintingStops-line a b c outlines i start it line fault l e at is p q =
+    let rest = rest_lines outlines (i + 1) in
+    let front : PrintsFront (outlined_lines 1 0 (take (i + 1) outlines)) a c = rw (lines-more outlines i start it line l e at is) (PrintsFront-more a b c (outlined_lines 1 0 (take i outlines)) line p q.1) in
+    subst (λ (f : Fault). PrintingStops (outlined_lines 1 0 outlines) a c f) (sym q.0) (rw rest.1 (PrintsFront-longer a c (outlined_lines 1 0 (take (i + 1) outlines)) rest.0 front))
+
+-- a line is added
+pub Prints-line : (a b c : SinkState) (outlines : List Outline) (i start : ℕ) (it : Outline) (line : List ℕ) → i < length outlines → it ≡ get_or outlines i it → start ≡ outlined_len (take i outlines) → line ≡ hdu_line (i + 1) it.card_count (outlined_offsets start it) it.shape
+    → Prints (outlined_lines 1 0 (take i outlines)) a b → Prints line b c → Prints (outlined_lines 1 0 (take (i + 1) outlines)) a c
+Prints-line a b c outlines i start it line l e at is p q =
+    rw (lines-more outlines i start it line l e at is) (Prints-more a b c (outlined_lines 1 0 (take i outlines)) line p q)
 
 -- further axes, and one more
 more_axes-append : (xs ys : List ℕ) → more_axes_text (xs ++ ys) ≡ more_axes_text xs ++ more_axes_text ys

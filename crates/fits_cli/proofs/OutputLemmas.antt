@@ -1,7 +1,7 @@
 -- A script is cut in one way, and a run has one output.
 use Rattle.std.proofs.Common.{◌≡◌, ℕ, List, [], ◌∷◌, ◌++◌, length, take, refl, ap, sym, ◌∙◌, append_assoc, inl, inr, All}
 use Rattle.std.proofs.lemmas.List.Elements.{All-head, All-tail}
-use Rattle.fits_cli.specs.Limits.{script_limit}
+use Rattle.fits_cli.specs.declared.limits.TheConstants.{SCRIPT_LIMIT}
 use Rattle.fits_cli.specs.Script.{HasNoLineFeed, ended_lines, IsCutInLines}
 use Rattle.fits_cli.specs.Output.{Output, IsOutputOf, output_unopened, output_of_cut}
 use Rattle.fits_cli.proofs.CutLemmas.{one_cut_at, not_without}
@@ -38,7 +38,7 @@ one_output file script o p a b =
         | inl y ↦ absurd (no_open_fault file x.parts y.why x.opens y.fails)
         | inr y ↦
             let size : ℕ = length script in
-            let cut = one_cut (take script_limit script) x.lines y.lines x.last y.last x.cut y.cut in
+            let cut = one_cut (take SCRIPT_LIMIT script) x.lines y.lines x.last y.last x.cut y.cut in
             x.is ∙ ap (λ h. output_of_cut h size x.lines x.last) (one_file file x.parts y.parts x.opens y.opens)
             ∙ ap (λ ls. output_of_cut y.parts size ls x.last) cut.0 ∙ ap (λ t. output_of_cut y.parts size y.lines t) cut.1 ∙ sym y.is
       ]
@@ -47,7 +47,7 @@ one_output file script o p a b =
 -- each file and script has one
 pub an_output : (file script : List ℕ) → (output : Output) × IsOutputOf file script output
 an_output file script =
-    let cut = a_cut (take script_limit script) in
+    let cut = a_cut (take SCRIPT_LIMIT script) in
     elim (file_or_fault file) [
       | inl opened ↦
           let output : Output = output_of_cut opened.0 (length script) cut.lines cut.last in

@@ -3,7 +3,7 @@ use Rattle.std.proofs.Common.{◌≡◌, ℕ, zero, suc, ◌+◌, ◌<◌, List,
 use Rattle.std.proofs.lemmas.Bool.{cases_lt}
 use Rattle.std.proofs.lemmas.List.{append-nil, take_all, take-append-le, length-take-le}
 use Rattle.fits_cli.specs.Answer.{Standing, line_answer, line_left}
-use Rattle.fits_cli.specs.Limits.{line_limit}
+use Rattle.fits_cli.specs.declared.limits.TheConstants.{LINE_LIMIT}
 use Rattle.fits_cli.specs.Line.{reading_of}
 use Rattle.fits_cli.specs.Output.{answers, standing_after}
 use Rattle.fits_cli.specs.Running.{AnswersLine, AnswersLines, LineStops, LinesStop, HasCome, HasStopped, Continues, PieceStops, EndsScript, EndStops, kept_of}
@@ -71,7 +71,7 @@ AnswersLines-more lines line before now next held holds more so_far one = record
 kept_of-more : (last piece : List ℕ) → kept_of (kept_of last ++ piece) ≡ kept_of (last ++ piece)
 unfolding kept_of
 kept_of-more last piece =
-    let n : ℕ = line_limit + 1 in
+    let n : ℕ = LINE_LIMIT + 1 in
     elim (cases_lt n (length last)) [
       | inl long ↦
           let size : length (take n last) ≡ n = length-take-le n last (omega (arith, long)) in
@@ -194,7 +194,7 @@ nothing_taken (suc n) (x ∷ xs) some e = absurd (omega (arith, e))
 -- so where nothing is kept, nothing is there
 kept_of-nothing : (last : List ℕ) → length (kept_of last) ≡ 0 → last ≡ []
 unfolding kept_of
-kept_of-nothing last e = nothing_taken (line_limit + 1) last (omega arith) e
+kept_of-nothing last e = nothing_taken (LINE_LIMIT + 1) last (omega arith) e
 
 -- nothing after the last line feed
 pub EndsScript-none : (kept : List ℕ) (s : Standing) (held : SinkState) → length kept ≡ 0 → EndsScript kept s s held held
@@ -216,7 +216,7 @@ something_taken (suc n) (x ∷ xs) some = omega arith
 -- so where something is kept, something is there
 kept_of-some : (kept last : List ℕ) → 0 < length kept → kept ≡ kept_of last → 0 < length last
 unfolding kept_of
-kept_of-some kept last some is = something_taken (line_limit + 1) last (omega (arith, some, ap length is))
+kept_of-some kept last some is = something_taken (LINE_LIMIT + 1) last (omega (arith, some, ap length is))
 
 -- a line after the last line feed
 pub EndsScript-line : (kept : List ℕ) (before now : Standing) (held holds : SinkState) → 0 < length kept → AnswersLine kept before now held holds → EndsScript kept before now held holds

@@ -3,13 +3,14 @@ use Rattle.std.proofs.Common.{◌≡◌, ℕ, ◌+◌, ◌-◌, ◌<◌, ◌≤�
 use Rattle.std.proofs.lemmas.List.{append-nil, take_all, take-append-le, take-take, length-append, length-take-le}
 use Rattle.std.proofs.Math.Seq.{take-append-add}
 use Rattle.std.specs.Io.KnownBytes.{Consumes, IsAtEnd, Keeps}
+use Rattle.fits_card.specs.Intake.{Tells}
 use Rattle.fits_card.proofs.StreamLemmas.{Consumes-more}
 use Rattle.fits_cli.specs.Answer.{Standing}
 use Rattle.fits_cli.specs.Ends.{CameTo, HasLines}
-use Rattle.fits_cli.specs.Limits.{script_limit}
+use Rattle.fits_cli.specs.declared.limits.TheConstants.{SCRIPT_LIMIT}
 use Rattle.fits_cli.specs.Running.{HasCome, HasStopped, Continues, PieceStops, LinesStop, EndsScript, EndStops, AnswersScript, AnswersTooLong, ScriptStops, ScriptReadFails}
 use Rattle.fits_cli.specs.Script.{IsCutInLines, script_lines}
-use Rattle.fits_cli.specs.Streams.{SourceState, SinkState, Tells}
+use Rattle.fits_cli.specs.Streams.{SourceState, SinkState}
 use Rattle.fits_cli.specs.declared.fault.Fault.{Fault}
 use Rattle.fits_cli.specs.declared.fault.Fault.TheVariants.{Refused, ScriptTooLong, Memory, ReadFailed, WriteFailed}
 
@@ -18,8 +19,8 @@ within_limit : (limit : ℕ) (bytes : List ℕ) → length bytes ≤ limit → t
 within_limit limit bytes short = take_all limit bytes short
 
 -- what came within the limit, cut into lines
-came_within : (old new : SourceState) (came last : List ℕ) (lines : List (List ℕ)) → Consumes old.left new.left came → length came ≤ script_limit → IsCutInLines came lines last → CameTo old new lines last
-came_within old new came last lines read short cut = record { came = came; read = read; cut = rw (within_limit script_limit came short) cut }
+came_within : (old new : SourceState) (came last : List ℕ) (lines : List (List ℕ)) → Consumes old.left new.left came → length came ≤ SCRIPT_LIMIT → IsCutInLines came lines last → CameTo old new lines last
+came_within old new came last lines read short cut = record { came = came; read = read; cut = rw (within_limit SCRIPT_LIMIT came short) cut }
 
 -- what a failed read leaves
 kept_bytes : (a b c : Option (List ℕ)) (came : List ℕ) → Consumes a b came → Keeps b c → Consumes a c came
@@ -30,7 +31,7 @@ kept_bytes (Some xs) (Some ys) (Some zs) came p q = p ∙ ap (λ t. came ++ t) (
 
 -- a read fails after these bytes came
 pub ScriptReadFails-after : (old mid new : SourceState) (came kept : List ℕ) (before now : Standing) (held holds : SinkState)
-    → Consumes old.left mid.left came → Keeps mid.left new.left → length came ≤ script_limit → new.failures ≡ old.failures + 1
+    → Consumes old.left mid.left came → Keeps mid.left new.left → length came ≤ SCRIPT_LIMIT → new.failures ≡ old.failures + 1
     → HasCome came kept before now held holds → ScriptReadFails old new before held holds
 unfolding came_within
 ScriptReadFails-after old mid new came kept before now held holds read keeps short failed come = record {
@@ -53,7 +54,7 @@ ScriptStops-lines old new lines before held holds WriteFailed has quiet stops = 
 
 -- lines that came aren't all answered
 ScriptStops-came : (old new : SourceState) (came text : List ℕ) (before : Standing) (held holds : SinkState) (fault : Fault)
-    → Consumes old.left new.left came → take script_limit came ≡ text → new.failures ≡ old.failures
+    → Consumes old.left new.left came → take SCRIPT_LIMIT came ≡ text → new.failures ≡ old.failures
     → HasStopped text before held holds fault → ScriptStops old new before held holds fault
 ScriptStops-came old new came text before held holds fault read within quiet stopped =
     ScriptStops-lines old new stopped.lines before held holds fault
@@ -62,11 +63,11 @@ ScriptStops-came old new came text before held holds fault read within quiet sto
 
 -- a piece within the limit isn't answered
 pub ScriptStops-piece : (old mid new : SourceState) (came piece kept : List ℕ) (before now : Standing) (held holds more : SinkState) (fault : Fault)
-    → Consumes old.left mid.left came → Consumes mid.left new.left piece → length came + length piece ≤ script_limit → new.failures ≡ old.failures
+    → Consumes old.left mid.left came → Consumes mid.left new.left piece → length came + length piece ≤ SCRIPT_LIMIT → new.failures ≡ old.failures
     → HasCome came kept before now held holds → PieceStops piece kept now holds more fault → ScriptStops old new before held more fault
 ScriptStops-piece old mid new came piece kept before now held holds more fault read next short quiet come stops =
     ScriptStops-came old new (came ++ piece) (came ++ piece) before held more fault (Consumes-more old.left mid.left new.left came piece read next)
-    (within_limit script_limit (came ++ piece) (omega (arith, short, length-append came piece))) quiet (stops came before held come)
+    (within_limit SCRIPT_LIMIT (came ++ piece) (omega (arith, short, length-append came piece))) quiet (stops came before held come)
 
 -- what came as far as the limit, where it goes past it
 over_limit : (limit n : ℕ) (came buffer : List ℕ) → length came ≤ limit → limit - length came ≤ n → n ≤ length buffer
@@ -77,12 +78,12 @@ over_limit limit n came buffer short over within =
 
 -- a piece that goes past the limit isn't answered as far as it
 pub ScriptStops-over : (old mid new : SourceState) (n : ℕ) (came buffer kept : List ℕ) (before now : Standing) (held holds more : SinkState) (fault : Fault)
-    → Consumes old.left mid.left came → Consumes mid.left new.left (take n buffer) → length came ≤ script_limit → script_limit - length came < n → n ≤ length buffer
+    → Consumes old.left mid.left came → Consumes mid.left new.left (take n buffer) → length came ≤ SCRIPT_LIMIT → SCRIPT_LIMIT - length came < n → n ≤ length buffer
     → new.failures ≡ old.failures → HasCome came kept before now held holds
-    → PieceStops (take (script_limit - length came) buffer) kept now holds more fault → ScriptStops old new before held more fault
+    → PieceStops (take (SCRIPT_LIMIT - length came) buffer) kept now holds more fault → ScriptStops old new before held more fault
 ScriptStops-over old mid new n came buffer kept before now held holds more fault read next short over within quiet come stops =
-    ScriptStops-came old new (came ++ take n buffer) (came ++ take (script_limit - length came) buffer) before held more fault
-    (Consumes-more old.left mid.left new.left came (take n buffer) read next) (over_limit script_limit n came buffer short (omega (arith, over)) within) quiet (stops came before held come)
+    ScriptStops-came old new (came ++ take n buffer) (came ++ take (SCRIPT_LIMIT - length came) buffer) before held more fault
+    (Consumes-more old.left mid.left new.left came (take n buffer) read next) (over_limit SCRIPT_LIMIT n came buffer short (omega (arith, over)) within) quiet (stops came before held come)
 
 -- the bytes that a source had, of which these came first
 source_bytes : (a b : Option (List ℕ)) (came : List ℕ) → Consumes a b came → (bytes : List ℕ) × (rest : List ℕ) × Tells a bytes × (bytes ≡ came ++ rest)
@@ -96,15 +97,15 @@ take_longer limit came rest within = take-append-le limit came rest within
 
 -- a script that goes past its limit
 pub AnswersTooLong-over : (old mid new : SourceState) (n : ℕ) (came buffer kept kept_now : List ℕ) (before now next : Standing) (held holds more : SinkState)
-    → Consumes old.left mid.left came → Consumes mid.left new.left (take n buffer) → length came ≤ script_limit → script_limit - length came < n → n ≤ length buffer
+    → Consumes old.left mid.left came → Consumes mid.left new.left (take n buffer) → length came ≤ SCRIPT_LIMIT → SCRIPT_LIMIT - length came < n → n ≤ length buffer
     → new.failures ≡ old.failures → HasCome came kept before now held holds
-    → Continues (take (script_limit - length came) buffer) kept kept_now now next holds more → AnswersTooLong old new before held more
+    → Continues (take (SCRIPT_LIMIT - length came) buffer) kept kept_now now next holds more → AnswersTooLong old new before held more
 AnswersTooLong-over old mid new n came buffer kept kept_now before now next held holds more read after short over within quiet come continues =
     let all : List ℕ = came ++ take n buffer in
     let read_all : Consumes old.left new.left all = Consumes-more old.left mid.left new.left came (take n buffer) read after in
     let script = source_bytes old.left new.left all read_all in
     let size : length all ≡ length came + n = length-append came (take n buffer) ∙ ap (λ k. length came + k) (length-take-le n buffer within) in
-    let front : take script_limit all ≡ came ++ take (script_limit - length came) buffer = over_limit script_limit n came buffer short (omega (arith, over)) within in
+    let front : take SCRIPT_LIMIT all ≡ came ++ take (SCRIPT_LIMIT - length came) buffer = over_limit SCRIPT_LIMIT n came buffer short (omega (arith, over)) within in
     let answered = continues came before held come in
     record {
       script = script.0;
@@ -114,7 +115,7 @@ AnswersTooLong-over old mid new n came buffer kept kept_now before now next held
       long = omega (arith, size, ap length script.3, length-append all script.1, over, short);
       quiet = quiet;
       reached = record { came = all; read = read_all; cut = rw front answered.cut };
-      cut = rw (script.3, take_longer script_limit all script.1 (omega (arith, size, over, short)), front) answered.cut;
+      cut = rw (script.3, take_longer SCRIPT_LIMIT all script.1 (omega (arith, size, over, short)), front) answered.cut;
       printed = answered.answered.printed;
     }
 
@@ -126,7 +127,7 @@ read_at_end a b c n came buffer read none zero =
 
 -- the whole script is answered
 pub AnswersScript-end : (old mid new : SourceState) (n : ℕ) (came buffer kept : List ℕ) (before now next : Standing) (held holds more : SinkState)
-    → Consumes old.left mid.left came → Consumes mid.left new.left (take n buffer) → n ≡ 0 → IsAtEnd new.left → length came ≤ script_limit → new.failures ≡ old.failures
+    → Consumes old.left mid.left came → Consumes mid.left new.left (take n buffer) → n ≡ 0 → IsAtEnd new.left → length came ≤ SCRIPT_LIMIT → new.failures ≡ old.failures
     → HasCome came kept before now held holds → EndsScript kept now next holds more → AnswersScript old new before next held more
 AnswersScript-end old mid new n came buffer kept before now next held holds more read none zero ended short quiet come ends = record {
   script = came;
@@ -142,7 +143,7 @@ AnswersScript-end old mid new n came buffer kept before now next held holds more
 
 -- its last line isn't answered
 pub ScriptStops-end : (old mid new : SourceState) (n : ℕ) (came buffer kept : List ℕ) (before now : Standing) (held holds more : SinkState) (fault : Fault)
-    → Consumes old.left mid.left came → Consumes mid.left new.left (take n buffer) → n ≡ 0 → IsAtEnd new.left → length came ≤ script_limit → new.failures ≡ old.failures
+    → Consumes old.left mid.left came → Consumes mid.left new.left (take n buffer) → n ≡ 0 → IsAtEnd new.left → length came ≤ SCRIPT_LIMIT → new.failures ≡ old.failures
     → HasCome came kept before now held holds → EndStops kept now holds more fault → ScriptStops old new before held more fault
 unfolding came_within
 ScriptStops-end old mid new n came buffer kept before now held holds more fault read none zero ended short quiet come stops =

@@ -1,14 +1,21 @@
 -- A run that prints a text of a file, from the bytes that were read to its end.
-use Rattle.std.proofs.Common.{◌≡◌, ℕ, refl, sym, subst, inl, inr}
+use Rattle.std.proofs.Common.{◌≡◌, ℕ, List, Option, refl, sym, subst, inl, inr}
+use Rattle.fits_card.specs.Intake.{Gives}
+use Rattle.fits_hdu.specs.declared.outline.Outline.{Outline}
 use Rattle.fits_session.specs.File.{FileParts}
+use Rattle.fits_session.specs.Reading.{IsOutlineOf}
 use Rattle.fits_cli.specs.Ends.{Opens}
 use Rattle.fits_cli.specs.Faults.{FlushFails}
+use Rattle.fits_cli.specs.Listing.{outlined_lines}
 use Rattle.fits_cli.specs.Running.{OpeningStops}
-use Rattle.fits_cli.specs.Streams.{SourceState, SinkState, Prints, Flushes}
-use Rattle.fits_cli.specs.Telling.{text_of, status_of_text, PrintingStops, TextIsPrinted, TextStopsBy}
+use Rattle.fits_cli.specs.Streams.{source, SourceState, SinkState, Prints, Flushes}
+use Rattle.fits_cli.specs.Telling.{text_of, PrintingStops, TextIsPrinted, TextIsTold, TextStopsBy}
 use Rattle.fits_cli.specs.declared.fault.Fault.{Fault}
 use Rattle.fits_cli.specs.declared.fault.Fault.TheVariants.{Refused, ScriptTooLong, Memory, ReadFailed, WriteFailed}
 use Rattle.fits_cli.specs.declared.telling.Telling.{Telling}
+use Rattle.fits_cli.specs.declared.telling.Telling.TheVariants as telling
+use Rattle.fits_cli.proofs.ListingLemmas.{listing-outlined}
+use Rattle.fits_cli.proofs.OpeningLemmas.{opens_given}
 use Rattle.fits_cli.proofs.StreamLemmas.{Prints-flushed, PrintsFront-unflushed}
 
 -- a file that doesn't open: nothing is printed
@@ -29,20 +36,35 @@ TextStopsBy-printing kind file file_after out out_after parts ReadFailed opened 
 TextStopsBy-printing kind file file_after out out_after parts WriteFailed opened read stops = record { parts = parts; opened = opened; read = read; printed = stops }
 
 -- a text that can't be flushed
-pub TextStopsBy-flush : (kind : Telling) (file file_after : SourceState) (out mid out_after : SinkState) (parts : FileParts) (fault : Fault) → Opens file parts → file_after.failures ≡ file.failures
-    → Prints (text_of kind parts) out mid → FlushFails mid out_after fault → TextStopsBy kind file file_after out out_after fault
-TextStopsBy-flush kind file file_after out mid out_after parts fault opened read printed failed =
+pub TextStopsBy-flush : (kind : Telling) (file file_after : SourceState) (out mid out_after : SinkState) (status : ℕ) (fault : Fault) → TextIsTold kind file file_after out mid status → FlushFails mid out_after fault → TextStopsBy kind file file_after out out_after fault
+TextStopsBy-flush kind file file_after out mid out_after status fault told failed =
     subst (λ (f : Fault). TextStopsBy kind file file_after out out_after f) (sym failed.0)
-    (record { parts = parts; opened = opened; read = read; printed = PrintsFront-unflushed out mid out_after (text_of kind parts) printed failed.1 })
+    (record { parts = told.parts; opened = told.opened; read = told.read; printed = PrintsFront-unflushed out mid out_after (text_of kind told.parts) told.printed failed.1 })
 
--- a text that is printed and flushed
-pub TextIsPrinted-flushed : (kind : Telling) (file file_after : SourceState) (out mid out_after : SinkState) (parts : FileParts) (status : ℕ) → Opens file parts → file_after.failures ≡ file.failures
-    → Prints (text_of kind parts) out mid → Flushes mid out_after → status ≡ status_of_text kind parts → TextIsPrinted kind file file_after out out_after status
-TextIsPrinted-flushed kind file file_after out mid out_after parts status opened read printed flush is = record {
-  parts = parts;
-  opened = opened;
-  read = read;
-  printed = Prints-flushed out mid out_after (text_of kind parts) printed flush;
+-- a text that is flushed
+pub TextIsPrinted-flushed : (kind : Telling) (file file_after : SourceState) (out mid out_after : SinkState) (status : ℕ) → TextIsTold kind file file_after out mid status → Flushes mid out_after → TextIsPrinted kind file file_after out out_after status
+TextIsPrinted-flushed kind file file_after out mid out_after status told flush = record {
+  parts = told.parts;
+  opened = told.opened;
+  read = told.read;
+  printed = Prints-flushed out mid out_after (text_of kind told.parts) told.printed flush;
   flushed = flush.flushed;
-  status_is = is;
+  status_is = told.status_is;
 }
+
+-- a text is the listing
+pub only_listing : (kind : Telling) → kind ≡ telling.List
+only_listing telling.List = refl
+
+-- the listing of outlines that were read
+pub listed : (left left' : Option (List ℕ)) (f g : ℕ) (out out_after : SinkState) (outlines : List Outline) → Gives left (IsOutlineOf outlines) → g ≡ f → Prints (outlined_lines 1 0 outlines) out out_after → TextIsTold telling.List (source left f) (source left' g) out out_after 0
+listed left left' f g out out_after outlines given quiet printed =
+    let parts : FileParts = given.2.0 in
+    record { parts = parts; opened = opens_given left f parts (given.0, given.1, given.2.1); read = quiet; printed = rw (← listing-outlined outlines given.0 parts given.2.1 given.2.2) printed; status_is = refl }
+
+-- or a prefix of it
+pub TextStopsBy-listing : (left left' : Option (List ℕ)) (f g : ℕ) (out out_after : SinkState) (outlines : List Outline) (fault : Fault) → Gives left (IsOutlineOf outlines) → g ≡ f → PrintingStops (outlined_lines 1 0 outlines) out out_after fault → TextStopsBy telling.List (source left f) (source left' g) out out_after fault
+TextStopsBy-listing left left' f g out out_after outlines fault given quiet stops =
+    let parts : FileParts = given.2.0 in
+    TextStopsBy-printing telling.List (source left f) (source left' g) out out_after parts fault (opens_given left f parts (given.0, given.1, given.2.1)) quiet
+    (rw (← listing-outlined outlines given.0 parts given.2.1 given.2.2) stops)

@@ -4,10 +4,12 @@ use Rattle.std.specs.Prelude.{if◌then◌else◌, ◌==◌}
 use Rattle.std.proofs.lemmas.List.{take_more}
 use Rattle.fits_value.specs.Spelling.{doubled}
 
+-- characters after one that is a quote, or isn't, and more after them
 either : (quote : Bool) (c : ℕ) (xs ys zs : List ℕ) → zs ≡ xs ++ ys → (if quote then 39 ∷ 39 ∷ zs else c ∷ zs) ≡ (if quote then 39 ∷ 39 ∷ xs else c ∷ xs) ++ ys
 either true c xs ys zs e = ap (λ t. 39 ∷ 39 ∷ t) e
 either false c xs ys zs e = ap (λ t. c ∷ t) e
 
+-- a text and another, with each quote doubled
 pub doubled-append : (xs ys : List ℕ) → doubled (xs ++ ys) ≡ doubled xs ++ doubled ys
 doubled-append [] ys = refl
 doubled-append (c ∷ cs) ys = either (c == 39) c (doubled cs) (doubled ys) (doubled (cs ++ ys)) (doubled-append cs ys)

@@ -1,19 +1,20 @@
 -- What the lines of a script print and do (own).
 use Rattle.std.specs.Prelude.{◌≡◌, ◌⊎◌, ℕ, ◌+◌, Bool, false, true, List, [], ◌∷◌, ◌++◌, codes, Option, Some, None, Result, Ok, Err, IsOk}
 use Rattle.std.specs.Fmt.{decimal}
+use Rattle.std.specs.List.{flat_map}
 use Rattle.fits_session.specs.Edit.{file_after}
 use Rattle.fits_session.specs.File.{FileParts, offsets_from}
-use Rattle.fits_session.specs.Query.{value_in}
+use Rattle.fits_session.specs.Query.{positions_in, value_in}
 use Rattle.fits_session.specs.Refusal.{refusal_of, NeedsMemory}
 use Rattle.fits_session.specs.declared.offsets.HduOffsets.{HduOffsets}
 use Rattle.fits_session.specs.declared.refusal.Refusal.{Refusal}
-use Rattle.fits_session.specs.declared.refusal.Refusal.TheVariants.{NoHdu, NoCard, NoKey, BadText, EndCard, Shape, BadValue, NotImage, TooLarge, Memory}
+use Rattle.fits_session.specs.declared.refusal.Refusal.TheVariants.{NoHdu, NoCard, NoKey, BadText, EndCard, Shape, BadName, BadValue, NotImage, TooLarge, Memory}
 use Rattle.fits_cli.specs.Line.{ReadingNeedsMemory}
 use Rattle.fits_cli.specs.ValueLine.{value_line}
-use Rattle.fits_cli.specs.declared.line.LineReading.{LineReading}
-use Rattle.fits_cli.specs.declared.line.LineReading.TheVariants.{TooLong, NoCommand, Said}
+use Rattle.fits_cli.specs.declared.line_reading.LineReading.{LineReading}
+use Rattle.fits_cli.specs.declared.line_reading.LineReading.TheVariants.{TooLong, NoCommand, Said}
 use Rattle.fits_cli.specs.declared.command.Command.{Command}
-use Rattle.fits_cli.specs.declared.command.Command.TheVariants.{Nothing, Edit, Offsets, Get}
+use Rattle.fits_cli.specs.declared.command.Command.TheVariants.{Nothing, Edit, Offsets, Get, Positions}
 
 -- the offsets of an HDU: where its header begins, its data begin and it ends
 abbrev pub offsets_text : HduOffsets → List ℕ
@@ -27,6 +28,21 @@ offset_line number at = decimal number ++ (codes " " ++ (offsets_text at ++ code
 abbrev pub offset_lines : ℕ → List HduOffsets → List ℕ
 offset_lines number [] = []
 offset_lines number (at ∷ others) = offset_line number at ++ offset_lines (number + 1) others
+
+-- numbers, each after a space
+abbrev pub spaced : List ℕ → List ℕ
+spaced numbers = flat_map (λ number. codes " " ++ decimal number) numbers
+
+-- places, a space between
+abbrev pub places_line : List ℕ → List ℕ
+places_line [] = codes "\n"
+places_line (place ∷ places) = decimal place ++ (spaced places ++ codes "\n")
+
+-- the places of a name's cards; where there is none the name is refused
+abbrev pub some_places : Result (List ℕ) Refusal → Result (List ℕ) Refusal
+some_places (Ok []) = Err NoKey
+some_places (Ok (place ∷ places)) = Ok (place ∷ places)
+some_places (Err why) = Err why
 
 -- what a command that was done prints, and the file that it leaves
 pub record Done : Type 0 where
@@ -49,6 +65,7 @@ outcome_of file Nothing = Ok (record { text = []; file = file })
 outcome_of file (Edit edit) = unless (refusal_of file edit) (record { text = []; file = file_after file edit })
 outcome_of file Offsets = Ok (record { text = offset_lines 1 (offsets_from 0 file.hdus); file = file })
 outcome_of file (Get hdu name) = asked file (λ said. value_line said.0 said.1) (value_in file hdu name)
+outcome_of file (Positions hdu name) = asked file places_line (some_places (positions_in file hdu name))
 
 -- memory may run out on the way to this outcome
 unfoldable pub OutcomeNeedsMemory : FileParts → Command → Type 0
@@ -56,6 +73,7 @@ OutcomeNeedsMemory file Nothing = ⊥
 OutcomeNeedsMemory file (Edit edit) = NeedsMemory (refusal_of file edit)
 OutcomeNeedsMemory file Offsets = Unit {0}
 OutcomeNeedsMemory file (Get hdu name) = IsOk (value_in file hdu name)
+OutcomeNeedsMemory file (Positions hdu name) = IsOk (positions_in file hdu name)
 
 -- a command may end so: by its refusal, or by memory refused on the way to its outcome
 abbrev pub CommandFails : FileParts → Command → Refusal → Type 0
@@ -70,6 +88,7 @@ refusal_text NoKey = codes "refused 3 NoKey"
 refusal_text BadText = codes "refused 4 BadText"
 refusal_text EndCard = codes "refused 5 EndCard"
 refusal_text Shape = codes "refused 6 Shape"
+refusal_text BadName = codes "refused 7 BadName"
 refusal_text BadValue = codes "refused 8 BadValue"
 refusal_text NotImage = codes "refused 9 NotImage"
 refusal_text TooLarge = codes "refused 14 TooLarge"

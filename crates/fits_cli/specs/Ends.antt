@@ -1,14 +1,15 @@
 -- How a run of `edit` ends: what was printed and saved, and what stood before a fault (own).
 use Rattle.std.specs.Prelude.{◌≡◌, ◌⊎◌, ℕ, ◌+◌, ◌≤◌, List, [], ◌∷◌, ◌++◌, length, take, Option, Some, None}
 use Rattle.std.specs.Io.KnownBytes.{Appends, Consumes, IsAtEnd}
+use Rattle.fits_card.specs.Intake.{Tells}
 use Rattle.fits_session.specs.File.{FileParts, IsFileOf}
 use Rattle.fits_cli.specs.Answer.{at_first_line, LineNeedsMemory}
 use Rattle.fits_cli.specs.Faults.{status_of_fault}
-use Rattle.fits_cli.specs.Limits.{script_limit}
+use Rattle.fits_cli.specs.declared.limits.TheConstants.{SCRIPT_LIMIT}
 use Rattle.fits_cli.specs.Line.{reading_of}
 use Rattle.fits_cli.specs.Output.{answers, standing_after, Output, IsOutputOf}
 use Rattle.fits_cli.specs.Script.{IsCutInLines, script_lines}
-use Rattle.fits_cli.specs.Streams.{SourceState, SinkState, Tells, Prints, PrintsFront, FlushesOrFails}
+use Rattle.fits_cli.specs.Streams.{SourceState, SinkState, Prints, PrintsFront, FlushesOrFails}
 use Rattle.fits_cli.specs.declared.fault.Fault.{Fault}
 use Rattle.fits_cli.specs.declared.fault.Fault.TheVariants.{Refused, ScriptTooLong, Memory, ReadFailed, WriteFailed}
 
@@ -38,14 +39,14 @@ pub record Opens (old : SourceState) (parts : FileParts) : Type 0 where
 pub record CameTo (old new : SourceState) (lines : List (List ℕ)) (last : List ℕ) : Type 0 where
   pub came : List ℕ
   pub read : Consumes old.left new.left came
-  pub cut : IsCutInLines (take script_limit came) lines last
+  pub cut : IsCutInLines (take SCRIPT_LIMIT came) lines last
 
 -- the lines that may have been answered: the whole ones, and the last piece too where the script ended with it
 pub record HasLines (old new : SourceState) (lines : List (List ℕ)) : Type 0 where
   pub whole : List (List ℕ)
   pub last : List ℕ
   pub reached : CameTo old new whole last
-  pub are : (lines ≡ whole) ⊎ (IsAtEnd new.left × (length reached.came ≤ script_limit) × (lines ≡ script_lines whole last))
+  pub are : (lines ≡ whole) ⊎ (IsAtEnd new.left × (length reached.came ≤ SCRIPT_LIMIT) × (lines ≡ script_lines whole last))
 
 -- a run with the output of its file and its script
 pub record IsRun (old new : Streams) (status : ℕ) (fault : Option Fault) : Type 0 where
@@ -115,7 +116,7 @@ pub record ScriptFails (old new : Streams) : Type 0 where
   pub last : List ℕ
   pub opened : Opens old.file parts
   pub reached : CameTo old.script new.script lines last
-  pub short : length reached.came ≤ script_limit
+  pub short : length reached.came ≤ SCRIPT_LIMIT
   pub printed : Appends old.printed.holds new.printed.holds (answers (at_first_line parts) lines)
   pub flushed : FlushesOrFails old.printed new.printed
   pub saved : new.saved ≡ old.saved

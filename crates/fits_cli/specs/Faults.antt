@@ -2,6 +2,8 @@
 use Rattle.std.specs.Prelude.{◌≡◌, ℕ, List}
 use Rattle.fits_session.specs.declared.open_fault.OpenFault.{OpenFault}
 use Rattle.fits_session.specs.declared.open_fault.OpenFault.TheVariants.{NotFits, NoEnd, BadShape, ShortData, TooLarge, Memory as OpenMemory}
+use Rattle.fits_session.specs.declared.read_fault.ReadFileFault.{ReadFileFault}
+use Rattle.fits_session.specs.declared.read_fault.ReadFileFault.TheVariants as read_file
 use Rattle.fits_card.specs.declared.reading.ReadFault.{ReadFault}
 use Rattle.fits_card.specs.declared.reading.ReadFault.TheVariants as read_fault
 use Rattle.fits_cli.specs.Streams.{SinkState, PrintsFront, FailsToFlush}
@@ -25,7 +27,12 @@ fault_of_open (ShortData hdu) = Refused (ShortData hdu)
 fault_of_open TooLarge = Refused TooLarge
 fault_of_open OpenMemory = Memory
 
--- what ends a run whose file can't be read
+-- what ends a run whose file isn't read
+abbrev pub fault_of_file : ReadFileFault → Fault
+fault_of_file (read_file.Open why) = fault_of_open why
+fault_of_file read_file.Failed = ReadFailed
+
+-- what ends a run whose script can't be read
 abbrev pub fault_of_read : ReadFault → Fault
 fault_of_read read_fault.Memory = Memory
 fault_of_read read_fault.Failed = ReadFailed

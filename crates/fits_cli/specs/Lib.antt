@@ -2,7 +2,7 @@ pub mod Answer
 pub mod Cut
 pub mod Ends
 pub mod Faults
-pub mod Limits
+pub mod Forms
 pub mod Line
 pub mod Listing
 pub mod Output

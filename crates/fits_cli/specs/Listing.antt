@@ -1,11 +1,12 @@
 -- What `list` prints (own; FITS Standard 4.0, sections 3.1 and 4.4.1).
-use Rattle.std.specs.Prelude.{ℕ, ℤ, ◌+◌, List, [], ◌∷◌, ◌++◌, length, take, codes, Result, Ok, Err}
+use Rattle.std.specs.Prelude.{ℕ, ℤ, ◌+◌, List, [], ◌∷◌, ◌++◌, length, codes, Result, Ok, Err}
 use Rattle.std.specs.Fmt.{decimal, signed_decimal}
 use Rattle.fits_rules.specs.Shape.{shape_of}
 use Rattle.fits_rules.specs.declared.class.Class.{Class}
 use Rattle.fits_rules.specs.declared.class.Class.TheVariants.{Primary, Groups, Image, Table, Other}
 use Rattle.fits_rules.specs.declared.array_shape.Shape.{Shape}
 use Rattle.fits_hdu.specs.Hdu.{HduParts}
+use Rattle.fits_hdu.specs.declared.outline.Outline.{Outline}
 use Rattle.fits_session.specs.File.{FileParts, offsets_from}
 use Rattle.fits_session.specs.Refusal.{is_primary_hdu}
 use Rattle.fits_session.specs.declared.offsets.HduOffsets.{HduOffsets}
@@ -58,6 +59,17 @@ hdu_lines number (hdu ∷ hdus) (at ∷ offsets) =
 unfoldable pub listing : FileParts → List ℕ
 listing file = hdu_lines 1 file.hdus (offsets_from 0 file.hdus)
 
--- its first lines, so many of them
-unfoldable pub first_lines : ℕ → FileParts → List ℕ
-first_lines count file = hdu_lines 1 (take count file.hdus) (take count (offsets_from 0 file.hdus))
+-- where an HDU stands that begins here, by its outline
+abbrev pub outlined_offsets : ℕ → Outline → HduOffsets
+outlined_offsets start it = record { header_start = start; data_start = start + it.header_len; hdu_end = start + it.header_len + it.data_len }
+
+-- the lines of HDUs from this number on, of which the first begins here, by their outlines
+abbrev pub outlined_lines : ℕ → ℕ → List Outline → List ℕ
+outlined_lines number start [] = []
+outlined_lines number start (it ∷ outlines) =
+    hdu_line number it.card_count (outlined_offsets start it) it.shape ++ outlined_lines (number + 1) (start + it.header_len + it.data_len) outlines
+
+-- how many bytes HDUs have, by their outlines
+abbrev pub outlined_len : List Outline → ℕ
+outlined_len [] = 0
+outlined_len (it ∷ outlines) = it.header_len + it.data_len + outlined_len outlines

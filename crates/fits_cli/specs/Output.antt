@@ -3,7 +3,7 @@ use Rattle.std.specs.Prelude.{◌≡◌, ◌⊎◌, ℕ, nat_le, List, [], ◌�
 use Rattle.fits_session.specs.File.{FileParts, file_bytes, IsFileOf}
 use Rattle.fits_session.specs.Opening.{HasOpenFault}
 use Rattle.fits_session.specs.declared.open_fault.OpenFault.{OpenFault}
-use Rattle.fits_cli.specs.Limits.{script_limit}
+use Rattle.fits_cli.specs.declared.limits.TheConstants.{SCRIPT_LIMIT}
 use Rattle.fits_cli.specs.Line.{reading_of}
 use Rattle.fits_cli.specs.Script.{IsCutInLines, script_lines}
 use Rattle.fits_cli.specs.Answer.{Standing, at_first_line, line_answer, line_left}
@@ -51,7 +51,7 @@ output_too_long file lines = record { text = answers (at_first_line file) lines;
 -- the output of a script of this length, cut into lines and a last piece without a line feed
 abbrev pub output_of_cut : FileParts → ℕ → List (List ℕ) → List ℕ → Output
 output_of_cut file size lines last =
-    if nat_le size script_limit then output_of_lines file (script_lines lines last) else output_too_long file lines
+    if nat_le size SCRIPT_LIMIT then output_of_lines file (script_lines lines last) else output_too_long file lines
 
 -- the output of a file that doesn't open
 pub record IsUnopened (file : List ℕ) (output : Output) : Type 0 where
@@ -65,7 +65,7 @@ pub record IsAnswered (file script : List ℕ) (output : Output) : Type 0 where
   pub lines : List (List ℕ)
   pub last : List ℕ
   pub opens : IsFileOf file parts
-  pub cut : IsCutInLines (take script_limit script) lines last
+  pub cut : IsCutInLines (take SCRIPT_LIMIT script) lines last
   pub is : output ≡ output_of_cut parts (length script) lines last
 
 -- the output of a file and a script

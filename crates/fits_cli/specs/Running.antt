@@ -1,13 +1,14 @@
 -- What private functions of a run keep to: how far a script has come.
 use Rattle.std.specs.Prelude.{◌≡◌, ◌⊎◌, ℕ, ◌+◌, ◌<◌, ◌≤◌, List, ◌∷◌, ◌++◌, length, take, Result, Ok, Err}
 use Rattle.std.specs.Io.KnownBytes.{Consumes, IsAtEnd}
+use Rattle.fits_card.specs.Intake.{Tells}
 use Rattle.fits_cli.specs.Answer.{Standing, line_answer, line_left, LineNeedsMemory}
 use Rattle.fits_cli.specs.Ends.{CameTo, HasLines}
-use Rattle.fits_cli.specs.Limits.{line_limit, script_limit}
+use Rattle.fits_cli.specs.declared.limits.TheConstants.{LINE_LIMIT, SCRIPT_LIMIT}
 use Rattle.fits_cli.specs.Line.{reading_of}
 use Rattle.fits_cli.specs.Output.{answers, standing_after}
 use Rattle.fits_cli.specs.Script.{IsCutInLines, script_lines}
-use Rattle.fits_cli.specs.Streams.{SourceState, SinkState, Tells, Prints, PrintsFront, Flushes, FailsToFlush}
+use Rattle.fits_cli.specs.Streams.{SourceState, SinkState, Prints, PrintsFront, Flushes, FailsToFlush}
 use Rattle.fits_session.specs.Opening.{HasOpenFault}
 use Rattle.fits_cli.specs.declared.fault.Fault.{Fault}
 use Rattle.fits_cli.specs.declared.fault.Fault.TheVariants.{Refused, ScriptTooLong, Memory, ReadFailed, WriteFailed}
@@ -58,7 +59,7 @@ LinesStop lines before held holds WriteFailed = PrintsFront (answers before line
 
 -- of a line that may go on as much is kept as decides what it comes to
 unfoldable pub kept_of : List ℕ → List ℕ
-kept_of line = take (line_limit + 1) line
+kept_of line = take (LINE_LIMIT + 1) line
 
 -- so far a script was this: its whole lines are answered, and its open end is kept
 pub record HasCome (script kept : List ℕ) (before now : Standing) (held holds : SinkState) : Type 0 where
@@ -107,7 +108,7 @@ pub record AnswersScript (old new : SourceState) (before now : Standing) (held h
   pub read : Consumes old.left new.left script
   pub ended : IsAtEnd new.left
   pub quiet : new.failures ≡ old.failures
-  pub short : length script ≤ script_limit
+  pub short : length script ≤ SCRIPT_LIMIT
   pub cut : IsCutInLines script lines last
   pub answered : AnswersLines (script_lines lines last) before now held holds
 
@@ -117,10 +118,10 @@ pub record AnswersTooLong (old new : SourceState) (before : Standing) (held hold
   pub lines : List (List ℕ)
   pub last : List ℕ
   pub told : Tells old.left script
-  pub long : script_limit < length script
+  pub long : SCRIPT_LIMIT < length script
   pub quiet : new.failures ≡ old.failures
   pub reached : CameTo old new lines last
-  pub cut : IsCutInLines (take script_limit script) lines last
+  pub cut : IsCutInLines (take SCRIPT_LIMIT script) lines last
   pub printed : Prints (answers before lines) held holds
 
 -- memory was refused: on the way to the first line, or at a line
@@ -135,7 +136,7 @@ pub record ScriptReadFails (old new : SourceState) (before : Standing) (held hol
   pub lines : List (List ℕ)
   pub last : List ℕ
   pub reached : CameTo old new lines last
-  pub short : length reached.came ≤ script_limit
+  pub short : length reached.came ≤ SCRIPT_LIMIT
   pub printed : Prints (answers before lines) held holds
 
 -- a write failed: a prefix of the answers stands

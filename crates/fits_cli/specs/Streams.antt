@@ -22,11 +22,6 @@ source left failures = record { left = left; failures = failures }
 abbrev pub sink : Option (List ℕ) → ℕ → ℕ → SinkState
 sink holds failures unflushed = record { holds = holds; failures = failures; unflushed = unflushed }
 
--- these are the bytes that a stream had left, where it tells them
-abbrev pub Tells : Option (List ℕ) → List ℕ → Type 0
-Tells None bytes = Unit {0}
-Tells (Some left) bytes = left ≡ bytes
-
 -- a sink took all of a text, and no call failed
 pub record Prints (text : List ℕ) (old new : SinkState) : Type 0 where
   pub bytes : Appends old.holds new.holds text

@@ -1,13 +1,14 @@
 -- How a run ends that prints a text of a file, as `list` does (own).
 use Rattle.std.specs.Prelude.{◌≡◌, ◌⊎◌, ℕ, ◌+◌, List, Option, Some, None}
+use Rattle.fits_card.specs.Intake.{Tells}
 use Rattle.fits_card.specs.Stream.{AppendsFront}
 use Rattle.fits_session.specs.File.{FileParts}
 use Rattle.fits_session.specs.Opening.{HasOpenFault}
 use Rattle.fits_session.specs.declared.open_fault.OpenFault.{OpenFault}
 use Rattle.fits_cli.specs.Ends.{Opens}
 use Rattle.fits_cli.specs.Faults.{status_of_fault}
-use Rattle.fits_cli.specs.Listing.{first_lines, listing}
-use Rattle.fits_cli.specs.Streams.{SourceState, SinkState, Tells, Prints, PrintsFront}
+use Rattle.fits_cli.specs.Listing.{listing}
+use Rattle.fits_cli.specs.Streams.{SourceState, SinkState, Prints, PrintsFront}
 use Rattle.fits_cli.specs.declared.fault.Fault.{Fault}
 use Rattle.fits_cli.specs.declared.fault.Fault.TheVariants.{Refused, ScriptTooLong, Memory, ReadFailed, WriteFailed}
 use Rattle.fits_cli.specs.declared.telling.Telling.{Telling}
@@ -28,6 +29,14 @@ pub record TextIsPrinted (kind : Telling) (file file_after : SourceState) (out o
   pub read : file_after.failures ≡ file.failures
   pub printed : Prints (text_of kind parts) out out_after
   pub flushed : out_after.unflushed ≡ 0
+  pub status_is : status ≡ status_of_text kind parts
+
+-- the text is printed, and not yet flushed
+pub record TextIsTold (kind : Telling) (file file_after : SourceState) (out out_after : SinkState) (status : ℕ) : Type 0 where
+  pub parts : FileParts
+  pub opened : Opens file parts
+  pub read : file_after.failures ≡ file.failures
+  pub printed : Prints (text_of kind parts) out out_after
   pub status_is : status ≡ status_of_text kind parts
 
 -- the file doesn't open: nothing is printed
@@ -64,14 +73,6 @@ PrintingStops text out out_after ScriptTooLong = ⊥
 PrintingStops text out out_after Memory = AppendsFront out.holds out_after.holds text × (out_after.failures ≡ out.failures)
 PrintingStops text out out_after ReadFailed = ⊥
 PrintingStops text out out_after WriteFailed = PrintsFront text out out_after
-
--- a listing isn't: where memory was refused, so many whole lines stand
-abbrev pub ListingStops : FileParts → SinkState → SinkState → Fault → Type 0
-ListingStops file out out_after (Refused why) = ⊥
-ListingStops file out out_after ScriptTooLong = ⊥
-ListingStops file out out_after Memory = (lines : ℕ) × Prints (first_lines lines file) out out_after
-ListingStops file out out_after ReadFailed = ⊥
-ListingStops file out out_after WriteFailed = PrintsFront (listing file) out out_after
 
 -- what stands before a fault that ends a run
 abbrev pub TextStopsBy : Telling → SourceState → SourceState → SinkState → SinkState → Fault → Type 0

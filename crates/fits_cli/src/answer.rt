@@ -1,9 +1,11 @@
 //! What a command makes of a file, and what it prints.
 ghost use Rattle.std.specs.Prelude.{◌≡◌, ◌++◌, IfOk, IfErr, OnOk, OnErr, Ok};
 ghost use Rattle.fits_session.specs.Session.{file_of};
-ghost use Rattle.fits_cli.specs.Answer.{offset_line, offset_lines, offsets_text, outcome_of, CommandFails};
+ghost use Rattle.fits_cli.specs.Answer.{offset_line, offset_lines, offsets_text};
+ghost use Rattle.fits_cli.specs.Answer.{outcome_of, CommandFails};
 
 use crate::command::Command;
+use crate::places_line::places_line;
 use crate::value_line::value_line;
 use fits_session::{HduOffsets, Refusal, Session};
 use std::alloc::{AllocError, Global};
@@ -15,10 +17,10 @@ pub(crate) fn answer(
     session: &mut Session,
     command: Command,
 ) -> Result<Vec<u8>, Refusal>
-    ensures ok { IfOk result (λ text.
-        outcome_of (file_of session.old) command ≡ Ok (record { text = text.items; file = (file_of session.new) })) }
+    ensures ok { IfOk result (λ text. outcome_of (file_of session.old) command
+        ≡ Ok (record { text = text.items; file = file_of session.new })) }
     ensures err { IfErr result (CommandFails (file_of session.old) command) }
-    ensures kept { OnErr result ((file_of session.new) ≡ (file_of session.old)) }
+    ensures kept { OnErr result (file_of session.new ≡ file_of session.old) }
 {
     match command {
         Command::Nothing => Ok(Vec::new(alloc)),
@@ -33,6 +35,13 @@ pub(crate) fn answer(
         Command::Get { hdu, name } => {
             let (value, comment) = session.value(hdu, &name)?;
             Ok(value_line(alloc, &value, comment.as_ref())?)
+        }
+        Command::Positions { hdu, name } => {
+            let places = session.positions(hdu, &name)?;
+            let Some((first, more)) = places.split_first() else {
+                return Err(Refusal::NoKey);
+            };
+            Ok(places_line(alloc, *first, more)?)
         }
     }
 }

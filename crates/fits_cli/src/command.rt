@@ -2,14 +2,16 @@ use fits_card::Name;
 use fits_session::Edit;
 
 /// What a line of a script asks for. HDUs and places count from 1.
-#[derive(PartialEq, Eq, Debug, Drop)]
+#[derive(Debug, Drop)]
 pub enum Command {
     /// An empty line, or a comment.
     Nothing,
-    /// `ins H P CARD`: the file changes.
+    /// `ins`, `put`, `del`, `mov`, `set` or `unset`: the file changes.
     Edit(Edit),
     /// `off`: where each HDU and its data begin, and where it ends.
     Offsets,
     /// `get H NAME`: the value of the first card of this name that has one.
     Get { hdu: usize, name: Name },
+    /// `pos H NAME`: the places of the cards of this name.
+    Positions { hdu: usize, name: Name },
 }

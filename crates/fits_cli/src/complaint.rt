@@ -13,9 +13,11 @@ use fits_card::Sink;
 #[tactic(auto, using(crate::proofs::StreamLemmas::text_steps))]
 pub(crate) fn print_complaint<O: Sink>(out: &mut O, line: u64, why: &str) -> Result<(), Fault>
     ensures ok { OnOk result (Prints (complaint line why.now)
-        (sink (O.contents out.old) (O.failures out.old) (O.unflushed out.old)) (sink (O.contents out.new) (O.failures out.new) (O.unflushed out.new))) }
+        (sink (O.contents out.old) (O.failures out.old) (O.unflushed out.old))
+        (sink (O.contents out.new) (O.failures out.new) (O.unflushed out.new))) }
     ensures err { IfErr result (PrintFails (complaint line why.now)
-        (sink (O.contents out.old) (O.failures out.old) (O.unflushed out.old)) (sink (O.contents out.new) (O.failures out.new) (O.unflushed out.new))) }
+        (sink (O.contents out.old) (O.failures out.old) (O.unflushed out.old))
+        (sink (O.contents out.new) (O.failures out.new) (O.unflushed out.new))) }
 {
     print(out, b"line ")?;
     print_number(out, line)?;
@@ -28,9 +30,11 @@ pub(crate) fn print_complaint<O: Sink>(out: &mut O, line: u64, why: &str) -> Res
 // A number in decimal digits.
 fn print_number<O: Sink>(out: &mut O, number: u64) -> Result<(), Fault>
     ensures ok { OnOk result (Prints (decimal number)
-        (sink (O.contents out.old) (O.failures out.old) (O.unflushed out.old)) (sink (O.contents out.new) (O.failures out.new) (O.unflushed out.new))) }
+        (sink (O.contents out.old) (O.failures out.old) (O.unflushed out.old))
+        (sink (O.contents out.new) (O.failures out.new) (O.unflushed out.new))) }
     ensures err { IfErr result (PrintFails (decimal number)
-        (sink (O.contents out.old) (O.failures out.old) (O.unflushed out.old)) (sink (O.contents out.new) (O.failures out.new) (O.unflushed out.new))) }
+        (sink (O.contents out.old) (O.failures out.old) (O.unflushed out.old))
+        (sink (O.contents out.new) (O.failures out.new) (O.unflushed out.new))) }
 {
     if number < 10 {
         print_digit(out, number)?;
@@ -44,9 +48,11 @@ fn print_number<O: Sink>(out: &mut O, number: u64) -> Result<(), Fault>
 fn print_digit<O: Sink>(out: &mut O, digit: u64) -> Result<(), Fault>
     requires { digit < 10 }
     ensures ok { OnOk result (Prints ((48 + digit) ∷ [])
-        (sink (O.contents out.old) (O.failures out.old) (O.unflushed out.old)) (sink (O.contents out.new) (O.failures out.new) (O.unflushed out.new))) }
+        (sink (O.contents out.old) (O.failures out.old) (O.unflushed out.old))
+        (sink (O.contents out.new) (O.failures out.new) (O.unflushed out.new))) }
     ensures err { IfErr result (PrintFails ((48 + digit) ∷ [])
-        (sink (O.contents out.old) (O.failures out.old) (O.unflushed out.old)) (sink (O.contents out.new) (O.failures out.new) (O.unflushed out.new))) }
+        (sink (O.contents out.old) (O.failures out.old) (O.unflushed out.old))
+        (sink (O.contents out.new) (O.failures out.new) (O.unflushed out.new))) }
 {
     print(out, &[b'0' + digit as u8])
 }

@@ -4,7 +4,8 @@ ghost use Rattle.fits_cli.specs.Cut.{HasNo};
 
 /// What stands before the first such byte, and what follows it.
 pub(crate) fn split_once(text: &[u8], separator: u8) -> Option<(&[u8], &[u8])>
-    ensures some { IfSome result (λ cut. HasNo separator cut.0.now × (text.now ≡ cut.0.now ++ separator ∷ cut.1.now)) }
+    ensures some { IfSome result (λ cut. HasNo separator cut.0.now
+        × (text.now ≡ cut.0.now ++ separator ∷ cut.1.now)) }
     ensures none { IfNone result (HasNo separator text.now) }
 {
     for (i, byte) in text.iter().enumerate() {

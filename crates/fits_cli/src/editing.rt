@@ -15,8 +15,9 @@ use std::alloc::Global;
 
 /// Reads a file and opens it, answers a script, and saves what the script made of the file.
 ///
-/// The file is read to its end before the script. The answers go to `out`, and are flushed before the
-/// first byte is saved. The file is saved also after refused lines; not where a fault came before.
+/// The file is read to its end before the script. The answers go to `out`, and are flushed before
+/// the first byte is saved. The file is saved also after refused lines; not where a fault came
+/// before.
 pub fn run_edit<F: Source, S: Source, P: Sink, O: Sink>(
     alloc: Global,
     file: &mut F,
@@ -25,10 +26,14 @@ pub fn run_edit<F: Source, S: Source, P: Sink, O: Sink>(
     out: &mut O,
 ) -> End
     ensures { EndsAs
-        (streams (source (F.remaining file.old) (F.failures file.old)) (source (S.remaining script.old) (S.failures script.old))
-        (sink (O.contents out.old) (O.failures out.old) (O.unflushed out.old)) (sink (P.contents saved.old) (P.failures saved.old) (P.unflushed saved.old)))
-        (streams (source (F.remaining file.new) (F.failures file.new)) (source (S.remaining script.new) (S.failures script.new))
-        (sink (O.contents out.new) (O.failures out.new) (O.unflushed out.new)) (sink (P.contents saved.new) (P.failures saved.new) (P.unflushed saved.new)))
+        (streams (source (F.remaining file.old) (F.failures file.old))
+        (source (S.remaining script.old) (S.failures script.old))
+        (sink (O.contents out.old) (O.failures out.old) (O.unflushed out.old))
+        (sink (P.contents saved.old) (P.failures saved.old) (P.unflushed saved.old)))
+        (streams (source (F.remaining file.new) (F.failures file.new))
+        (source (S.remaining script.new) (S.failures script.new))
+        (sink (O.contents out.new) (O.failures out.new) (O.unflushed out.new))
+        (sink (P.contents saved.new) (P.failures saved.new) (P.unflushed saved.new)))
         result.status result.fault }
 {
     match edit(alloc, file, script, saved, out) {
@@ -49,16 +54,24 @@ fn edit<F: Source, S: Source, P: Sink, O: Sink>(
     out: &mut O,
 ) -> Result<bool, Fault>
     ensures ok { IfOk result (λ any_refused. Succeeds
-        (streams (source (F.remaining file.old) (F.failures file.old)) (source (S.remaining script.old) (S.failures script.old))
-        (sink (O.contents out.old) (O.failures out.old) (O.unflushed out.old)) (sink (P.contents saved.old) (P.failures saved.old) (P.unflushed saved.old)))
-        (streams (source (F.remaining file.new) (F.failures file.new)) (source (S.remaining script.new) (S.failures script.new))
-        (sink (O.contents out.new) (O.failures out.new) (O.unflushed out.new)) (sink (P.contents saved.new) (P.failures saved.new) (P.unflushed saved.new)))
+        (streams (source (F.remaining file.old) (F.failures file.old))
+        (source (S.remaining script.old) (S.failures script.old))
+        (sink (O.contents out.old) (O.failures out.old) (O.unflushed out.old))
+        (sink (P.contents saved.old) (P.failures saved.old) (P.unflushed saved.old)))
+        (streams (source (F.remaining file.new) (F.failures file.new))
+        (source (S.remaining script.new) (S.failures script.new))
+        (sink (O.contents out.new) (O.failures out.new) (O.unflushed out.new))
+        (sink (P.contents saved.new) (P.failures saved.new) (P.unflushed saved.new)))
         (if any_refused then 1 else 0)) }
     ensures err { IfErr result (StopsBy
-        (streams (source (F.remaining file.old) (F.failures file.old)) (source (S.remaining script.old) (S.failures script.old))
-        (sink (O.contents out.old) (O.failures out.old) (O.unflushed out.old)) (sink (P.contents saved.old) (P.failures saved.old) (P.unflushed saved.old)))
-        (streams (source (F.remaining file.new) (F.failures file.new)) (source (S.remaining script.new) (S.failures script.new))
-        (sink (O.contents out.new) (O.failures out.new) (O.unflushed out.new)) (sink (P.contents saved.new) (P.failures saved.new) (P.unflushed saved.new)))) }
+        (streams (source (F.remaining file.old) (F.failures file.old))
+        (source (S.remaining script.old) (S.failures script.old))
+        (sink (O.contents out.old) (O.failures out.old) (O.unflushed out.old))
+        (sink (P.contents saved.old) (P.failures saved.old) (P.unflushed saved.old)))
+        (streams (source (F.remaining file.new) (F.failures file.new))
+        (source (S.remaining script.new) (S.failures script.new))
+        (sink (O.contents out.new) (O.failures out.new) (O.unflushed out.new))
+        (sink (P.contents saved.new) (P.failures saved.new) (P.unflushed saved.new)))) }
 {
     let mut runner = Runner::new(open_file(alloc, file)?);
     let answered = answer_script(alloc, &mut runner, script, out);
@@ -70,7 +83,8 @@ fn edit<F: Source, S: Source, P: Sink, O: Sink>(
 // Flushes the answers to a script, which are of use whatever ended it.
 fn flush_answers<O: Sink>(answered: Result<(), Fault>, out: &mut O) -> Result<(), Fault>
     ensures { FlushesAnswers answered result
-        (sink (O.contents out.old) (O.failures out.old) (O.unflushed out.old)) (sink (O.contents out.new) (O.failures out.new) (O.unflushed out.new)) }
+        (sink (O.contents out.old) (O.failures out.old) (O.unflushed out.old))
+        (sink (O.contents out.new) (O.failures out.new) (O.unflushed out.new)) }
 {
     match answered {
         // A sink that failed is left alone.

@@ -13,7 +13,8 @@ impl From<Fault> for End {
     ghost use Rattle.std.specs.Prelude.{◌≡◌, Some};
     ghost use Rattle.fits_cli.specs.Faults.{status_of_fault};
 
-    ghost from_gives = { λ why end. (end.status ≡ status_of_fault why) × (end.fault ≡ Some why) };
+    ghost from_gives = { λ why end.
+        (end.status ≡ status_of_fault why) × (end.fault ≡ Some why) };
 
     fn from(why: Fault) -> End {
         End {

@@ -1,7 +1,7 @@
 ghost use Rattle.std.specs.Prelude.{◌≡◌};
 
 use fits_card::ReadFault;
-use fits_session::OpenFault;
+use fits_session::{OpenFault, ReadFileFault};
 use std::alloc::AllocError;
 use thiserror::Error;
 
@@ -25,7 +25,8 @@ impl Fault {
     ghost use Rattle.std.specs.Prelude.{◌≡◌};
     ghost use Rattle.fits_cli.specs.Faults.{status_of_fault};
 
-    /// The program's exit status: 2 for a file or a script that isn't taken, 3 for devices and memory.
+    /// The program's exit status: 2 for a file or a script that isn't taken, 3 for devices and
+    /// memory.
     pub fn status(self) -> u8
         ensures { result ≡ status_of_fault self }
     {
@@ -71,6 +72,20 @@ impl From<OpenFault> for Fault {
         match why {
             OpenFault::Memory => Fault::Memory,
             _ => Fault::Refused(why),
+        }
+    }
+}
+
+impl From<ReadFileFault> for Fault {
+    ghost use Rattle.fits_cli.specs.Faults.{fault_of_file};
+    ghost use Rattle.std.specs.Prelude.{◌≡◌};
+
+    ghost from_gives = { λ why fault. fault ≡ fault_of_file why };
+
+    fn from(why: ReadFileFault) -> Fault {
+        match why {
+            ReadFileFault::Open(why) => Fault::from(why),
+            ReadFileFault::Failed => Fault::ReadFailed,
         }
     }
 }

@@ -1,13 +1,21 @@
 //! Laws of the definitions, each the contract of a function that does nothing.
-ghost use Rattle.std.specs.Prelude.{◌≡◌, ◌+◌, ℕ, List, take};
-ghost use Rattle.fits_cli.specs.Limits.{line_limit};
-ghost use Rattle.fits_cli.specs.Line.{reading_of};
+ghost use Rattle.std.specs.Prelude.{◌≡◌, ◌↔◌, ◌+◌, ℕ, List, Some, take};
+ghost use Rattle.fits_cli.specs.Forms.{Says};
+ghost use Rattle.fits_cli.specs.declared.command.Command.{Command};
+ghost use Rattle.fits_cli.specs.declared.limits.TheConstants.{LINE_LIMIT};
+ghost use Rattle.fits_cli.specs.Line.{command_of, reading_of};
 ghost use Rattle.fits_cli.specs.Output.{Output, IsOutputOf};
 ghost use Rattle.fits_cli.specs.Script.{IsCutInLines};
 
 /// What a line comes to is decided by one byte more than a line may have.
 pub fn reading_of_a_front()
-    ensures { (line : List ℕ) → reading_of (take (line_limit + 1) line) ≡ reading_of line }
+    ensures { (line : List ℕ) → reading_of (take (LINE_LIMIT + 1) line) ≡ reading_of line }
+{}
+
+/// A line within the limit says a command exactly where it has its form.
+pub fn what_a_line_says()
+    ensures { (line : List ℕ) (command : Command)
+        → (command_of line ≡ Some command) ↔ Says line command }
 {}
 
 /// A script is cut into lines in one way.
@@ -18,12 +26,14 @@ pub fn one_cut()
 
 /// And it can be cut.
 pub fn a_cut()
-    ensures { (text : List ℕ) → (lines : List (List ℕ)) × (last : List ℕ) × IsCutInLines text lines last }
+    ensures { (text : List ℕ)
+        → (lines : List (List ℕ)) × (last : List ℕ) × IsCutInLines text lines last }
 {}
 
 /// A run has at most one output.
 pub fn one_output()
-    ensures { (file script : List ℕ) (o p : Output) → IsOutputOf file script o → IsOutputOf file script p → o ≡ p }
+    ensures { (file script : List ℕ) (o p : Output)
+        → IsOutputOf file script o → IsOutputOf file script p → o ≡ p }
 {}
 
 /// And it has one, whatever file and script are.

@@ -1,57 +1,30 @@
 //! The lines of a script: which bytes are which command.
 ghost use Rattle.std.specs.Prelude.{◌≡◌, IfOk, IsErrOf, OnErr};
 ghost use Rattle.std.specs.Option.{option_copied};
+ghost use Rattle.fits_cli.specs.Line.{alone, command_of, reading_of, said_by, said_or_none};
+ghost use Rattle.fits_cli.specs.Line.{delete_said, get_said, insert_said, move_said, put_said};
+ghost use Rattle.fits_cli.specs.Line.{positions_said, set_said, unset_said, ReadingNeedsMemory};
 ghost use Rattle.fits_cli.specs.declared.command.Command.{Command};
-ghost use Rattle.fits_cli.specs.Line.{command_of, get_said, insert_said, nothing_last, reading_of, said_by, ReadingNeedsMemory};
 
 use crate::command::Command;
-use crate::words::{card_last, cut_word, name_last, number_first};
+use crate::limits::LINE_LIMIT;
+use crate::line_fault::LineFault;
+use crate::line_reading::LineReading;
+use crate::words::{card_words, cut_word, field_words, move_words, name_words, place_words};
 use fits_session::Edit;
 use std::alloc::{AllocError, Global};
-
-/// How many bytes a line has at most, without its line feed.
-pub const LINE_LIMIT: usize = 100_000;
-
-/// Why a line is no command.
-#[derive(Clone, Copy, PartialEq, Eq, Debug)]
-pub enum LineFault {
-    /// It has none of the forms, or is past the limit.
-    Bad,
-    /// Memory was refused. No line of today's asks for any.
-    Memory,
-}
-
-impl From<AllocError> for LineFault {
-    ghost use Rattle.fits_cli.specs.declared.line.LineFault.TheVariants.{Memory};
-    ghost use Rattle.std.specs.Prelude.{◌≡◌};
-
-    ghost from_gives = { λ _ fault. fault ≡ Memory };
-
-    fn from(_: AllocError) -> LineFault {
-        LineFault::Memory
-    }
-}
-
-/// What a line of a script comes to.
-#[derive(PartialEq, Eq, Debug, Drop)]
-pub enum LineReading {
-    /// It is past the limit, whatever it holds.
-    TooLong,
-    /// It has none of the forms.
-    NoCommand,
-    /// It says this command.
-    Said(Command),
-}
 
 /// The command that a line says, without its line feed.
 pub fn parse_line(alloc: Global, line: &[u8]) -> Result<Command, LineFault>
     ensures ok { IfOk result (λ command. reading_of line.now ≡ LineReading.Said command) }
-    ensures bad { IsErrOf result LineFault.Bad → (c : Command) → reading_of line.now ≡ LineReading.Said c → ⊥ }
+    ensures bad { IsErrOf result LineFault.Bad
+        → (command : Command) → reading_of line.now ≡ LineReading.Said command → ⊥ }
     ensures memory { IsErrOf result LineFault.Memory → ReadingNeedsMemory (reading_of line.now) }
 {
-    match read_line(alloc, line)? {
-        LineReading::Said(command) => Ok(command),
-        LineReading::TooLong | LineReading::NoCommand => Err(LineFault::Bad),
+    match read_line(alloc, line) {
+        Ok(LineReading::Said(command)) => Ok(command),
+        Ok(LineReading::TooLong | LineReading::NoCommand) => Err(LineFault::Bad),
+        Err(refused) => Err(LineFault::from(refused)),
     }
 }
 
@@ -64,67 +37,139 @@ pub fn read_line(alloc: Global, line: &[u8]) -> Result<LineReading, AllocError>
     if line.len() > LINE_LIMIT {
         return Ok(LineReading::TooLong);
     }
-    match command_of(line) {
-        Some(command) => Ok(LineReading::Said(command)),
-        None => Ok(LineReading::NoCommand),
+    match command_of(alloc, line) {
+        Ok(Some(command)) => Ok(LineReading::Said(command)),
+        Ok(None) => Ok(LineReading::NoCommand),
+        Err(refused) => Err(refused),
     }
 }
 
 // What a line within the limit says.
 #[tactic(auto, unfolding(crate::specs::Line::command_of))]
-fn command_of(line: &[u8]) -> Option<Command>
-    ensures { result ≡ command_of line.now }
+fn command_of(alloc: Global, line: &[u8]) -> Result<Option<Command>, AllocError>
+    ensures ok { IfOk result (λ said. said ≡ command_of line.now) }
+    ensures err { OnErr result (ReadingNeedsMemory (said_or_none (command_of line.now))) }
 {
     match line {
-        [] | [b'#', ..] => Some(Command::Nothing),
+        [] | [b'#', ..] => Ok(Some(Command::Nothing)),
         _ => {
             let (verb, rest) = cut_word(line);
-            said_by(verb, rest)
+            said_by(alloc, verb, rest)
         }
     }
 }
 
 // What a line says by its first word.
 #[tactic(auto, unfolding(crate::specs::Line::said_by))]
-fn said_by(verb: &[u8], rest: Option<&[u8]>) -> Option<Command>
-    ensures { result ≡ said_by verb.now (option_copied rest.entry) }
+fn said_by(alloc: Global, verb: &[u8], rest: Option<&[u8]>) -> Result<Option<Command>, AllocError>
+    ensures ok { IfOk result (λ said. said ≡ said_by verb.now (option_copied rest.entry)) }
+    ensures err { OnErr result
+        (ReadingNeedsMemory (said_or_none (said_by verb.now (option_copied rest.entry)))) }
 {
-    match verb {
-        b"ins" => insert_said(rest),
-        b"get" => get_said(rest),
-        b"off" => nothing_last(rest, Command::Offsets),
-        _ => None,
+    if verb == b"ins".as_slice() {
+        Ok(insert_said(rest))
+    } else if verb == b"put".as_slice() {
+        Ok(put_said(rest))
+    } else if verb == b"del".as_slice() {
+        Ok(delete_said(rest))
+    } else if verb == b"mov".as_slice() {
+        Ok(move_said(rest))
+    } else if verb == b"set".as_slice() {
+        set_said(alloc, rest)
+    } else if verb == b"unset".as_slice() {
+        Ok(unset_said(rest))
+    } else if verb == b"get".as_slice() {
+        Ok(get_said(rest))
+    } else if verb == b"pos".as_slice() {
+        Ok(positions_said(rest))
+    } else if verb == b"off".as_slice() {
+        Ok(offsets_said(rest))
+    } else {
+        Ok(None)
     }
 }
 
 // `ins H P CARD`
-#[tactic(auto, unfolding(crate::specs::Line::insert_said))]
 fn insert_said(rest: Option<&[u8]>) -> Option<Command>
     ensures { result ≡ insert_said (option_copied rest.entry) }
 {
-    let (hdu, rest) = number_first(rest)?;
-    let (place, rest) = number_first(rest)?;
-    let card = card_last(rest)?;
+    let (hdu, place, card) = card_words(rest)?;
     Some(Command::Edit(Edit::Insert { hdu, place, card }))
 }
 
+// `put H P CARD`
+fn put_said(rest: Option<&[u8]>) -> Option<Command>
+    ensures { result ≡ put_said (option_copied rest.entry) }
+{
+    let (hdu, place, card) = card_words(rest)?;
+    Some(Command::Edit(Edit::Put { hdu, place, card }))
+}
+
+// `del H P`
+fn delete_said(rest: Option<&[u8]>) -> Option<Command>
+    ensures { result ≡ delete_said (option_copied rest.entry) }
+{
+    let (hdu, place) = place_words(rest)?;
+    Some(Command::Edit(Edit::Delete { hdu, place }))
+}
+
+// `mov H P Q`
+fn move_said(rest: Option<&[u8]>) -> Option<Command>
+    ensures { result ≡ move_said (option_copied rest.entry) }
+{
+    let (hdu, from, to) = move_words(rest)?;
+    Some(Command::Edit(Edit::Move { hdu, from, to }))
+}
+
+// `set H NAME FIELD`
+fn set_said(alloc: Global, rest: Option<&[u8]>) -> Result<Option<Command>, AllocError>
+    ensures ok { IfOk result (λ said. said ≡ set_said (option_copied rest.entry)) }
+    ensures err { OnErr result
+        (ReadingNeedsMemory (said_or_none (set_said (option_copied rest.entry)))) }
+{
+    match field_words(alloc, rest) {
+        Ok(Some((hdu, name, value, comment))) => Ok(Some(Command::Edit(Edit::Set {
+            hdu,
+            name,
+            value,
+            comment,
+        }))),
+        Ok(None) => Ok(None),
+        Err(refused) => Err(refused),
+    }
+}
+
+// `unset H NAME`
+fn unset_said(rest: Option<&[u8]>) -> Option<Command>
+    ensures { result ≡ unset_said (option_copied rest.entry) }
+{
+    let (hdu, name) = name_words(rest)?;
+    Some(Command::Edit(Edit::Unset { hdu, name }))
+}
+
 // `get H NAME`
-#[tactic(auto, unfolding(crate::specs::Line::get_said))]
 fn get_said(rest: Option<&[u8]>) -> Option<Command>
     ensures { result ≡ get_said (option_copied rest.entry) }
 {
-    let (hdu, rest) = number_first(rest)?;
-    let name = name_last(rest)?;
+    let (hdu, name) = name_words(rest)?;
     Some(Command::Get { hdu, name })
 }
 
-// A command whose word stands alone.
-#[tactic(auto, unfolding(crate::specs::Line::nothing_last))]
-fn nothing_last(rest: Option<&[u8]>, command: Command) -> Option<Command>
-    ensures { result ≡ nothing_last (option_copied rest.entry) (Some command) }
+// `pos H NAME`
+fn positions_said(rest: Option<&[u8]>) -> Option<Command>
+    ensures { result ≡ positions_said (option_copied rest.entry) }
+{
+    let (hdu, name) = name_words(rest)?;
+    Some(Command::Positions { hdu, name })
+}
+
+// `off`
+#[tactic(auto, unfolding(crate::specs::Line::alone))]
+fn offsets_said(rest: Option<&[u8]>) -> Option<Command>
+    ensures { result ≡ alone (option_copied rest.entry) Command.Offsets }
 {
     match rest {
-        None => Some(command),
+        None => Some(Command::Offsets),
         Some(_) => None,
     }
 }

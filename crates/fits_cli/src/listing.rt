@@ -1,75 +1,80 @@
 //! The run of `list`: a line for each HDU of a file.
-ghost use Rattle.std.specs.Prelude.{◌≡◌, ◌++◌, IfErr, OnOk};
-ghost use Rattle.fits_session.specs.File.{offsets_from};
-ghost use Rattle.fits_session.specs.Session.{file_of};
-ghost use Rattle.fits_cli.specs.Listing.{axes_text, class_text, hdu_line, line_back, line_front, listing, more_axes_text};
+ghost use Rattle.std.specs.Prelude.{◌≡◌, ◌++◌, ◌≤◌, ◌+◌, IfOk, IfErr, OnOk};
+ghost use Rattle.fits_session.specs.declared.limits.TheConstants.{FILE_LIMIT};
+ghost use Rattle.fits_cli.specs.Listing.{axes_text, class_text, hdu_line, line_back, line_front, more_axes_text, outlined_len, outlined_lines};
 ghost use Rattle.fits_cli.specs.Streams.{sink, source, Prints};
-ghost use Rattle.fits_cli.specs.Telling.{ListingStops, PrintingStops, TextEndsAs};
+ghost use Rattle.fits_cli.specs.Telling.{PrintingStops, TextEndsAs, TextIsTold, TextStopsBy};
 
 use crate::answer::push_offsets;
 use crate::end::End;
 use crate::fault::Fault;
+use crate::opening::outline_file;
 use crate::printing::print;
 use crate::telling::{Telling, run_telling};
 use fits_card::{Sink, Source};
-use fits_rules::array_shape::Shape;
-use fits_rules::class::Class;
-use fits_session::{HduOffsets, Session};
+use fits_hdu::Outline;
+use fits_rules::{Class, Shape};
+use fits_session::HduOffsets;
 use std::alloc::{AllocError, Global};
 
-/// Reads a file, opens it, and prints a line for each of its HDUs.
+/// Reads a file, and prints a line for each of its HDUs. No data unit is kept.
 pub fn run_list<F: Source, O: Sink>(alloc: Global, file: &mut F, out: &mut O) -> End
     ensures { TextEndsAs Telling.List
-        (source (F.remaining file.old) (F.failures file.old)) (source (F.remaining file.new) (F.failures file.new))
-        (sink (O.contents out.old) (O.failures out.old) (O.unflushed out.old)) (sink (O.contents out.new) (O.failures out.new) (O.unflushed out.new))
+        (source (F.remaining file.old) (F.failures file.old))
+        (source (F.remaining file.new) (F.failures file.new))
+        (sink (O.contents out.old) (O.failures out.old) (O.unflushed out.old))
+        (sink (O.contents out.new) (O.failures out.new) (O.unflushed out.new))
         result.status result.fault }
 {
     run_telling(alloc, Telling::List, file, out)
 }
 
-/// Prints a line for each HDU.
-pub(crate) fn print_listing<O: Sink>(
+/// Reads a file, and prints a line for each of its HDUs. The status is 0.
+pub(crate) fn list<F: Source, O: Sink>(
     alloc: Global,
-    session: &Session,
+    file: &mut F,
     out: &mut O,
-) -> Result<(), Fault>
-    ensures ok { OnOk result (Prints (listing (file_of session.now))
-        (sink (O.contents out.old) (O.failures out.old) (O.unflushed out.old)) (sink (O.contents out.new) (O.failures out.new) (O.unflushed out.new))) }
-    ensures err { IfErr result (PrintingStops (listing (file_of session.now))
-        (sink (O.contents out.old) (O.failures out.old) (O.unflushed out.old)) (sink (O.contents out.new) (O.failures out.new) (O.unflushed out.new))) }
+) -> Result<u8, Fault>
+    ensures ok { IfOk result (λ status. TextIsTold Telling.List
+        (source (F.remaining file.old) (F.failures file.old))
+        (source (F.remaining file.new) (F.failures file.new))
+        (sink (O.contents out.old) (O.failures out.old) (O.unflushed out.old))
+        (sink (O.contents out.new) (O.failures out.new) (O.unflushed out.new))
+        status) }
+    ensures err { IfErr result (TextStopsBy Telling.List
+        (source (F.remaining file.old) (F.failures file.old))
+        (source (F.remaining file.new) (F.failures file.new))
+        (sink (O.contents out.old) (O.failures out.old) (O.unflushed out.old))
+        (sink (O.contents out.new) (O.failures out.new) (O.unflushed out.new))) }
 {
-    let offsets = session.offsets()?;
-    print_each(alloc, session, &offsets, out)?;
-    Ok(())
+    let outlines = outline_file(alloc, file)?;
+    print_outlines(alloc, &outlines, out)?;
+    Ok(0)
 }
 
-// Prints a line for each HDU. They stand at these offsets.
-fn print_each<O: Sink>(
-    alloc: Global,
-    session: &Session,
-    offsets: &[HduOffsets],
-    out: &mut O,
-) -> Result<(), Fault>
-    requires { offsets.now ≡ offsets_from 0 (file_of session.now).hdus }
-    ensures ok { OnOk result (Prints (listing (file_of session.now))
-        (sink (O.contents out.old) (O.failures out.old) (O.unflushed out.old)) (sink (O.contents out.new) (O.failures out.new) (O.unflushed out.new))) }
-    ensures err { IfErr result (ListingStops (file_of session.now)
-        (sink (O.contents out.old) (O.failures out.old) (O.unflushed out.old)) (sink (O.contents out.new) (O.failures out.new) (O.unflushed out.new))) }
+// Prints a line for each outline, of HDUs that stand one after another.
+fn print_outlines<O: Sink>(alloc: Global, outlines: &[Outline], out: &mut O) -> Result<(), Fault>
+    requires { outlined_len outlines.now ≤ FILE_LIMIT }
+    ensures ok { OnOk result (Prints (outlined_lines 1 0 outlines.now)
+        (sink (O.contents out.old) (O.failures out.old) (O.unflushed out.old))
+        (sink (O.contents out.new) (O.failures out.new) (O.unflushed out.new))) }
+    ensures err { IfErr result (PrintingStops (outlined_lines 1 0 outlines.now)
+        (sink (O.contents out.old) (O.failures out.old) (O.unflushed out.old))
+        (sink (O.contents out.new) (O.failures out.new) (O.unflushed out.new))) }
 {
     let mut line = Vec::new(alloc);
-    for (i, at) in offsets.iter().enumerate() {
-        let h = i + 1;
-        let cards = match session.card_count(h) {
-            Ok(cards) => cards,
-            Err(_) => unreachable!(),
-        };
-        let shape = match session.shape(h) {
-            Ok(shape) => shape,
-            Err(_) => unreachable!(),
+    let mut start = 0u64;
+    for (i, it) in outlines.iter().enumerate() {
+        let data_start = start + it.header_len as u64;
+        let at = HduOffsets {
+            header_start: start,
+            data_start,
+            hdu_end: data_start + it.data_len as u64,
         };
         line.clear();
-        push_line(alloc, &mut line, h, cards, *at, shape)?;
+        push_line(alloc, &mut line, i + 1, it.card_count, at, &it.shape)?;
         print(out, &line)?;
+        start = at.hdu_end;
     }
     Ok(())
 }

@@ -9,9 +9,11 @@ use fits_card::{Sink, write_all};
 /// Writes a text.
 pub(crate) fn print<O: Sink>(out: &mut O, text: &[u8]) -> Result<(), Fault>
     ensures ok { OnOk result (Prints text.now
-        (sink (O.contents out.old) (O.failures out.old) (O.unflushed out.old)) (sink (O.contents out.new) (O.failures out.new) (O.unflushed out.new))) }
+        (sink (O.contents out.old) (O.failures out.old) (O.unflushed out.old))
+        (sink (O.contents out.new) (O.failures out.new) (O.unflushed out.new))) }
     ensures err { IfErr result (PrintFails text.now
-        (sink (O.contents out.old) (O.failures out.old) (O.unflushed out.old)) (sink (O.contents out.new) (O.failures out.new) (O.unflushed out.new))) }
+        (sink (O.contents out.old) (O.failures out.old) (O.unflushed out.old))
+        (sink (O.contents out.new) (O.failures out.new) (O.unflushed out.new))) }
 {
     match write_all(out, text) {
         Ok(()) => Ok(()),
@@ -22,9 +24,11 @@ pub(crate) fn print<O: Sink>(out: &mut O, text: &[u8]) -> Result<(), Fault>
 /// Passes on what was written.
 pub(crate) fn flush<O: Sink>(out: &mut O) -> Result<(), Fault>
     ensures ok { OnOk result (Flushes
-        (sink (O.contents out.old) (O.failures out.old) (O.unflushed out.old)) (sink (O.contents out.new) (O.failures out.new) (O.unflushed out.new))) }
+        (sink (O.contents out.old) (O.failures out.old) (O.unflushed out.old))
+        (sink (O.contents out.new) (O.failures out.new) (O.unflushed out.new))) }
     ensures err { IfErr result (FlushFails
-        (sink (O.contents out.old) (O.failures out.old) (O.unflushed out.old)) (sink (O.contents out.new) (O.failures out.new) (O.unflushed out.new))) }
+        (sink (O.contents out.old) (O.failures out.old) (O.unflushed out.old))
+        (sink (O.contents out.new) (O.failures out.new) (O.unflushed out.new))) }
 {
     match out.flush() {
         Ok(()) => Ok(()),

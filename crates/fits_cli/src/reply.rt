@@ -49,9 +49,11 @@ pub(crate) fn counts_as_refused(reply: &Reply) -> bool
 /// Prints what a line comes to. It takes no memory.
 pub(crate) fn print_reply<O: Sink>(out: &mut O, line: u64, reply: &Reply) -> Result<(), Fault>
     ensures ok { OnOk result (Prints (reply_text line reply.now)
-        (sink (O.contents out.old) (O.failures out.old) (O.unflushed out.old)) (sink (O.contents out.new) (O.failures out.new) (O.unflushed out.new))) }
+        (sink (O.contents out.old) (O.failures out.old) (O.unflushed out.old))
+        (sink (O.contents out.new) (O.failures out.new) (O.unflushed out.new))) }
     ensures err { IfErr result (PrintFails (reply_text line reply.now)
-        (sink (O.contents out.old) (O.failures out.old) (O.unflushed out.old)) (sink (O.contents out.new) (O.failures out.new) (O.unflushed out.new))) }
+        (sink (O.contents out.old) (O.failures out.old) (O.unflushed out.old))
+        (sink (O.contents out.new) (O.failures out.new) (O.unflushed out.new))) }
 {
     match reply {
         Reply::Done(text) => print(out, text),
@@ -72,6 +74,7 @@ fn refusal_text(why: Refusal) -> &'static str
         Refusal::BadText => "refused 4 BadText",
         Refusal::EndCard => "refused 5 EndCard",
         Refusal::Shape => "refused 6 Shape",
+        Refusal::BadName => "refused 7 BadName",
         Refusal::BadValue => "refused 8 BadValue",
         Refusal::NotImage => "refused 9 NotImage",
         Refusal::TooLarge => "refused 14 TooLarge",

@@ -1,6 +1,7 @@
 use crate::answer::answer;
 use crate::fault::Fault;
-use crate::line::{LineReading, read_line};
+use crate::line::read_line;
+use crate::line_reading::LineReading;
 use crate::printing::flush;
 use crate::reply::{Reply, counts_as_refused, settled};
 use fits_card::Sink;
@@ -106,9 +107,11 @@ impl Runner {
     #[tactic(auto, using(crate::proofs::StreamLemmas::flush_steps))]
     pub(crate) fn save<P: Sink>(&mut self, saved: &mut P) -> Result<(), Fault>
         ensures ok { OnOk result (Prints (file_bytes self.old.file)
-            (sink (P.contents saved.old) (P.failures saved.old) (P.unflushed saved.old)) (sink (P.contents saved.new) (P.failures saved.new) (P.unflushed saved.new))) }
+            (sink (P.contents saved.old) (P.failures saved.old) (P.unflushed saved.old))
+            (sink (P.contents saved.new) (P.failures saved.new) (P.unflushed saved.new))) }
         ensures err { IfErr result (PrintFails (file_bytes self.old.file)
-            (sink (P.contents saved.old) (P.failures saved.old) (P.unflushed saved.old)) (sink (P.contents saved.new) (P.failures saved.new) (P.unflushed saved.new))) }
+            (sink (P.contents saved.old) (P.failures saved.old) (P.unflushed saved.old))
+            (sink (P.contents saved.new) (P.failures saved.new) (P.unflushed saved.new))) }
         ensures flushed { OnOk result (P.unflushed saved.new ≡ 0) }
         ensures left { self.new ≡ self.old }
     {

@@ -1,20 +1,18 @@
 //! A script, answered line by line as it comes.
-ghost use Rattle.std.specs.Prelude.{◌≡◌, ◌<◌, ◌≤◌, ◌+◌, ◌^◌, IfErr, OnOk, length, vec_capacity, vec_len, ◌++◌};
+ghost use Rattle.std.specs.Prelude.{◌≡◌, ◌<◌, ◌≤◌, ◌+◌, ◌^◌, ◌++◌, length, IfErr, OnOk};
+ghost use Rattle.std.specs.Prelude.{vec_capacity, vec_len};
 ghost use Rattle.fits_cli.specs.Line.{reading_of};
-ghost use Rattle.fits_cli.specs.Limits.{line_limit};
-ghost use Rattle.fits_cli.specs.Running.{AnswersLine, AnswersScript, Continues, EndsScript, EndStops, LineStops, PieceStops, ScriptStops, kept_of};
+ghost use Rattle.fits_cli.specs.Running.{kept_of, AnswersLine, AnswersScript, Continues};
+ghost use Rattle.fits_cli.specs.Running.{EndsScript, EndStops, LineStops, PieceStops, ScriptStops};
 ghost use Rattle.fits_cli.specs.Streams.{sink, source};
 
 use crate::cut::split_once;
 use crate::fault::Fault;
-use crate::line::LINE_LIMIT;
+use crate::limits::{LINE_LIMIT, SCRIPT_LIMIT};
 use crate::reply::print_reply;
 use crate::runner::Runner;
 use fits_card::{PIECE_LEN, Sink, Source, buffer_of};
 use std::alloc::Global;
-
-/// How many bytes a script has at most.
-pub const SCRIPT_LIMIT: usize = 100_000_000;
 
 /// How many bytes of a line are kept until it ends. More aren't needed: it is too long.
 const LINE_ROOM: usize = LINE_LIMIT + 1;
@@ -28,9 +26,11 @@ fn answer_line<O: Sink>(
 ) -> Result<(), Fault>
     requires { runner.old.line + 1 < 2 ^ 64 }
     ensures ok { OnOk result (AnswersLine line.now runner.old runner.new
-        (sink (O.contents out.old) (O.failures out.old) (O.unflushed out.old)) (sink (O.contents out.new) (O.failures out.new) (O.unflushed out.new))) }
+        (sink (O.contents out.old) (O.failures out.old) (O.unflushed out.old))
+        (sink (O.contents out.new) (O.failures out.new) (O.unflushed out.new))) }
     ensures err { IfErr result (LineStops line.now runner.old
-        (sink (O.contents out.old) (O.failures out.old) (O.unflushed out.old)) (sink (O.contents out.new) (O.failures out.new) (O.unflushed out.new))) }
+        (sink (O.contents out.old) (O.failures out.old) (O.unflushed out.old))
+        (sink (O.contents out.new) (O.failures out.new) (O.unflushed out.new))) }
     ensures line { OnOk result (runner.new.line ≡ runner.old.line + 1) }
 {
     let number = runner.line();
@@ -42,11 +42,11 @@ fn answer_line<O: Sink>(
 // Keeps more of a line, as far as it decides what the line comes to.
 #[tactic(auto, unfolding(crate::specs::Running::kept_of))]
 fn keep(line: &mut Vec<u8>, more: &[u8])
-    requires room { line_limit + 1 ≤ vec_capacity line.old }
-    requires within { vec_len line.old ≤ line_limit + 1 }
+    requires room { LINE_LIMIT + 1 ≤ vec_capacity line.old }
+    requires within { vec_len line.old ≤ LINE_LIMIT + 1 }
     ensures kept { line.new.items ≡ kept_of (line.old.items ++ more.now) }
-    ensures room { line_limit + 1 ≤ vec_capacity line.new }
-    ensures within { vec_len line.new ≤ line_limit + 1 }
+    ensures room { LINE_LIMIT + 1 ≤ vec_capacity line.new }
+    ensures within { vec_len line.new ≤ LINE_LIMIT + 1 }
 {
     let room = LINE_ROOM - line.len();
     let (front, _) = more.split_at(room.min(more.len()));
@@ -64,15 +64,18 @@ fn answer_piece<O: Sink>(
     out: &mut O,
 ) -> Result<(), Fault>
     requires numbers { runner.old.line + length piece.now + 1 < 2 ^ 64 }
-    requires room { line_limit + 1 ≤ vec_capacity line.old }
-    requires within { vec_len line.old ≤ line_limit + 1 }
-    ensures ok { OnOk result (Continues piece.now line.old.items line.new.items runner.old runner.new
-        (sink (O.contents out.old) (O.failures out.old) (O.unflushed out.old)) (sink (O.contents out.new) (O.failures out.new) (O.unflushed out.new))) }
+    requires room { LINE_LIMIT + 1 ≤ vec_capacity line.old }
+    requires within { vec_len line.old ≤ LINE_LIMIT + 1 }
+    ensures ok { OnOk result (Continues piece.now line.old.items line.new.items
+        runner.old runner.new
+        (sink (O.contents out.old) (O.failures out.old) (O.unflushed out.old))
+        (sink (O.contents out.new) (O.failures out.new) (O.unflushed out.new))) }
     ensures err { IfErr result (PieceStops piece.now line.old.items runner.old
-        (sink (O.contents out.old) (O.failures out.old) (O.unflushed out.old)) (sink (O.contents out.new) (O.failures out.new) (O.unflushed out.new))) }
+        (sink (O.contents out.old) (O.failures out.old) (O.unflushed out.old))
+        (sink (O.contents out.new) (O.failures out.new) (O.unflushed out.new))) }
     ensures line { OnOk result (runner.new.line ≤ runner.old.line + length piece.now) }
-    ensures room { OnOk result (line_limit + 1 ≤ vec_capacity line.new) }
-    ensures within { OnOk result (vec_len line.new ≤ line_limit + 1) }
+    ensures room { OnOk result (LINE_LIMIT + 1 ≤ vec_capacity line.new) }
+    ensures within { OnOk result (vec_len line.new ≤ LINE_LIMIT + 1) }
 {
     let mut rest = piece;
     loop {
@@ -96,9 +99,11 @@ fn answer_last_line<O: Sink>(
 ) -> Result<(), Fault>
     requires { runner.old.line + 1 < 2 ^ 64 }
     ensures ok { OnOk result (EndsScript line.now runner.old runner.new
-        (sink (O.contents out.old) (O.failures out.old) (O.unflushed out.old)) (sink (O.contents out.new) (O.failures out.new) (O.unflushed out.new))) }
+        (sink (O.contents out.old) (O.failures out.old) (O.unflushed out.old))
+        (sink (O.contents out.new) (O.failures out.new) (O.unflushed out.new))) }
     ensures err { IfErr result (EndStops line.now runner.old
-        (sink (O.contents out.old) (O.failures out.old) (O.unflushed out.old)) (sink (O.contents out.new) (O.failures out.new) (O.unflushed out.new))) }
+        (sink (O.contents out.old) (O.failures out.old) (O.unflushed out.old))
+        (sink (O.contents out.new) (O.failures out.new) (O.unflushed out.new))) }
 {
     if line.is_empty() {
         return Ok(());
@@ -115,12 +120,16 @@ pub(crate) fn answer_script<S: Source, O: Sink>(
     out: &mut O,
 ) -> Result<(), Fault>
     requires { runner.old.line ≡ 1 }
-    ensures ok { OnOk result (AnswersScript (source (S.remaining script.old) (S.failures script.old))
+    ensures ok { OnOk result (AnswersScript
+        (source (S.remaining script.old) (S.failures script.old))
         (source (S.remaining script.new) (S.failures script.new)) runner.old runner.new
-        (sink (O.contents out.old) (O.failures out.old) (O.unflushed out.old)) (sink (O.contents out.new) (O.failures out.new) (O.unflushed out.new))) }
-    ensures err { IfErr result (ScriptStops (source (S.remaining script.old) (S.failures script.old))
+        (sink (O.contents out.old) (O.failures out.old) (O.unflushed out.old))
+        (sink (O.contents out.new) (O.failures out.new) (O.unflushed out.new))) }
+    ensures err { IfErr result (ScriptStops
+        (source (S.remaining script.old) (S.failures script.old))
         (source (S.remaining script.new) (S.failures script.new)) runner.old
-        (sink (O.contents out.old) (O.failures out.old) (O.unflushed out.old)) (sink (O.contents out.new) (O.failures out.new) (O.unflushed out.new))) }
+        (sink (O.contents out.old) (O.failures out.old) (O.unflushed out.old))
+        (sink (O.contents out.new) (O.failures out.new) (O.unflushed out.new))) }
 {
     let mut buffer = buffer_of(alloc, PIECE_LEN)?;
     let piece = buffer.as_mut_slice();

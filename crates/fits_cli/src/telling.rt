@@ -1,16 +1,13 @@
 //! A run that prints a text of a file.
-ghost use Rattle.std.specs.Prelude.{◌≡◌, IfOk, IfErr, OnOk};
-ghost use Rattle.fits_session.specs.Session.{file_of};
-ghost use Rattle.fits_cli.specs.Streams.{sink, source, Prints};
-ghost use Rattle.fits_cli.specs.Telling.{status_of_text, text_of, PrintingStops, TextEndsAs, TextIsPrinted, TextStopsBy};
+ghost use Rattle.std.specs.Prelude.{IfOk, IfErr};
+ghost use Rattle.fits_cli.specs.Streams.{sink, source};
+ghost use Rattle.fits_cli.specs.Telling.{TextEndsAs, TextIsPrinted, TextStopsBy};
 
 use crate::end::End;
 use crate::fault::Fault;
-use crate::listing::print_listing;
-use crate::opening::open_file;
+use crate::listing::list;
 use crate::printing::flush;
 use fits_card::{Sink, Source};
-use fits_session::Session;
 use std::alloc::Global;
 
 /// Which text of a file a run prints.
@@ -28,8 +25,10 @@ pub(crate) fn run_telling<F: Source, O: Sink>(
     out: &mut O,
 ) -> End
     ensures { TextEndsAs telling
-        (source (F.remaining file.old) (F.failures file.old)) (source (F.remaining file.new) (F.failures file.new))
-        (sink (O.contents out.old) (O.failures out.old) (O.unflushed out.old)) (sink (O.contents out.new) (O.failures out.new) (O.unflushed out.new))
+        (source (F.remaining file.old) (F.failures file.old))
+        (source (F.remaining file.new) (F.failures file.new))
+        (sink (O.contents out.old) (O.failures out.old) (O.unflushed out.old))
+        (sink (O.contents out.new) (O.failures out.new) (O.unflushed out.new))
         result.status result.fault }
 {
     match tell(alloc, telling, file, out) {
@@ -49,35 +48,19 @@ fn tell<F: Source, O: Sink>(
     out: &mut O,
 ) -> Result<u8, Fault>
     ensures ok { IfOk result (TextIsPrinted telling
-        (source (F.remaining file.old) (F.failures file.old)) (source (F.remaining file.new) (F.failures file.new))
-        (sink (O.contents out.old) (O.failures out.old) (O.unflushed out.old)) (sink (O.contents out.new) (O.failures out.new) (O.unflushed out.new))) }
+        (source (F.remaining file.old) (F.failures file.old))
+        (source (F.remaining file.new) (F.failures file.new))
+        (sink (O.contents out.old) (O.failures out.old) (O.unflushed out.old))
+        (sink (O.contents out.new) (O.failures out.new) (O.unflushed out.new))) }
     ensures err { IfErr result (TextStopsBy telling
-        (source (F.remaining file.old) (F.failures file.old)) (source (F.remaining file.new) (F.failures file.new))
-        (sink (O.contents out.old) (O.failures out.old) (O.unflushed out.old)) (sink (O.contents out.new) (O.failures out.new) (O.unflushed out.new))) }
+        (source (F.remaining file.old) (F.failures file.old))
+        (source (F.remaining file.new) (F.failures file.new))
+        (sink (O.contents out.old) (O.failures out.old) (O.unflushed out.old))
+        (sink (O.contents out.new) (O.failures out.new) (O.unflushed out.new))) }
 {
-    let session = open_file(alloc, file)?;
-    let status = print_text(alloc, telling, &session, out)?;
+    let status = match telling {
+        Telling::List => list(alloc, file, out)?,
+    };
     flush(out)?;
     Ok(status)
-}
-
-// Prints a text of a file, and gives the status that goes with it.
-fn print_text<O: Sink>(
-    alloc: Global,
-    telling: Telling,
-    session: &Session,
-    out: &mut O,
-) -> Result<u8, Fault>
-    ensures status { IfOk result (λ status. status ≡ status_of_text telling (file_of session.now)) }
-    ensures ok { OnOk result (Prints (text_of telling (file_of session.now))
-        (sink (O.contents out.old) (O.failures out.old) (O.unflushed out.old)) (sink (O.contents out.new) (O.failures out.new) (O.unflushed out.new))) }
-    ensures err { IfErr result (PrintingStops (text_of telling (file_of session.now))
-        (sink (O.contents out.old) (O.failures out.old) (O.unflushed out.old)) (sink (O.contents out.new) (O.failures out.new) (O.unflushed out.new))) }
-{
-    match telling {
-        Telling::List => {
-            print_listing(alloc, session, out)?;
-            Ok(0)
-        }
-    }
 }

@@ -4,8 +4,7 @@ ghost use Rattle.std.specs.Option.{option_copied};
 ghost use Rattle.fits_cli.specs.ValueLine.{comment_text, value_line, value_text};
 ghost use Rattle.fits_value.specs.Spelling.{doubled};
 
-use fits_value::text::Text;
-use fits_value::value::Value;
+use fits_value::{Text, Value};
 use std::alloc::{AllocError, Global};
 
 /// The type and the text of a value, its comment, and a line feed.
@@ -14,7 +13,8 @@ pub(crate) fn value_line(
     value: &Value,
     comment: Option<&Text>,
 ) -> Result<Vec<u8>, AllocError>
-    ensures { IfOk result (λ line. line.items ≡ value_line value.now (option_copied comment.entry)) }
+    ensures { IfOk result (λ line. line.items
+        ≡ value_line value.now (option_copied comment.entry)) }
 {
     let mut line = Vec::new(alloc);
     push_value(&mut line, value)?;

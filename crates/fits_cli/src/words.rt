@@ -1,13 +1,18 @@
-//! The words of a line: the first one, and what each may be.
-ghost use Rattle.std.specs.Prelude.{◌≡◌, ◌≤◌, IfSome, IfNone, IsTrue, None, Some, length};
-ghost use Rattle.std.specs.List.{list_all, list_any};
+//! The words of a line: the first one, what each may be, and those that several lines have.
+ghost use Rattle.std.specs.Prelude.{◌≡◌, ◌≤◌, [], length, unwrap_or, None, Some};
+ghost use Rattle.std.specs.Prelude.{IfOk, IfSome, IfNone, IsSome, IsTrue, OnErr};
+ghost use Rattle.std.specs.List.{list_all};
 ghost use Rattle.std.specs.Option.{option_copied};
-ghost use Rattle.fits_cli.specs.Line.{after_word, card_last, first_word, name_last, name_of_text, number_first, number_of_word};
+ghost use Rattle.fits_cli.specs.Line.{after_word, card_last, card_words, first_word, move_words};
+ghost use Rattle.fits_cli.specs.Line.{name_first, name_of_text, name_of_word, name_words};
+ghost use Rattle.fits_cli.specs.Line.{field_words, number_first, number_of_word, place_words};
 ghost use Rattle.fits_value.specs.Number.{value_of};
-ghost use Rattle.fits_value.specs.Spelling.{is_digit, is_space};
+ghost use Rattle.fits_value.specs.Spelling.{is_digit};
 
 use crate::cut::split_once;
 use fits_card::{CARD_LEN, Card, Name};
+use fits_value::{Text, Value, read_field};
+use std::alloc::{AllocError, Global};
 
 /// How many digits a number has at most.
 const DIGITS: usize = 18;
@@ -30,7 +35,8 @@ pub(crate) fn cut_word(text: &[u8]) -> (&[u8], Option<&[u8]>)
 /// A number, and what follows it.
 #[tactic(auto, unfolding(crate::specs::Line::number_first))]
 pub(crate) fn number_first(rest: Option<&[u8]>) -> Option<(usize, Option<&[u8]>)>
-    ensures some { IfSome result (λ cut. number_first (option_copied rest.entry) ≡ Some (cut.0, option_copied cut.1)) }
+    ensures some { IfSome result (λ cut.
+        number_first (option_copied rest.entry) ≡ Some (cut.0, option_copied cut.1)) }
     ensures none { IfNone result (number_first (option_copied rest.entry) ≡ None) }
 {
     let (word, rest) = cut_word(rest?);
@@ -68,37 +74,27 @@ fn number_of_digits(digits: &[u8]) -> usize
     number
 }
 
-/// The card of a text of at most 80 bytes, which may be empty without the space before it.
-#[tactic(auto, unfolding(crate::specs::Line::card_last))]
-pub(crate) fn card_last(rest: Option<&[u8]>) -> Option<Card>
-    ensures { result ≡ card_last (option_copied rest.entry) }
+/// A keyword name, and what follows it.
+#[tactic(auto, unfolding(crate::specs::Line::name_first))]
+pub(crate) fn name_first(rest: Option<&[u8]>) -> Option<(Name, Option<&[u8]>)>
+    ensures some { IfSome result (λ cut.
+        name_first (option_copied rest.entry) ≡ Some (cut.0, option_copied cut.1)) }
+    ensures none { IfNone result (name_first (option_copied rest.entry) ≡ None) }
 {
-    let text: &[u8] = match rest {
-        Some(text) => text,
-        None => b"",
-    };
-    if text.len() > CARD_LEN {
-        return None;
-    }
-    Some(Card::padded(text))
+    let (word, rest) = cut_word(rest?);
+    let name = name_of_word(word)?;
+    Some((name, rest))
 }
 
-/// The keyword name of 1 to 8 bytes without a space.
-#[tactic(auto, unfolding(crate::specs::Line::name_last))]
-pub(crate) fn name_last(rest: Option<&[u8]>) -> Option<Name>
-    ensures { result ≡ name_last (option_copied rest.entry) }
+// The keyword name of 1 to 8 bytes.
+#[tactic(auto, unfolding(crate::specs::Line::name_of_word))]
+fn name_of_word(word: &[u8]) -> Option<Name>
+    ensures { result ≡ name_of_word word.now }
 {
-    let text = rest?;
-    if text.is_empty() || text.len() > NAME_LEN || has_space(text) {
+    if word.is_empty() || word.len() > NAME_LEN {
         return None;
     }
-    Some(padded(text))
-}
-
-fn has_space(text: &[u8]) -> bool
-    ensures { result ≡ list_any is_space text.now }
-{
-    text.contains(&b' ')
+    Some(padded(word))
 }
 
 // The name that begins with this text and goes on in spaces.
@@ -110,4 +106,98 @@ fn padded(text: &[u8]) -> Name
     let (front, _) = name.split_at_mut(text.len());
     front.copy_from_slice(text);
     Name(name)
+}
+
+// The rest of a line, which may be empty without the space before it.
+fn text_of(rest: Option<&[u8]>) -> &[u8]
+    ensures { result.now ≡ unwrap_or (option_copied rest.entry) [] }
+{
+    match rest {
+        Some(text) => text,
+        None => b"",
+    }
+}
+
+// The card of a text of at most 80 bytes, which may be empty without the space before it.
+#[tactic(auto, unfolding(crate::specs::Line::card_last))]
+fn card_last(rest: Option<&[u8]>) -> Option<Card>
+    ensures { result ≡ card_last (option_copied rest.entry) }
+{
+    let text = text_of(rest);
+    if text.len() > CARD_LEN {
+        return None;
+    }
+    Some(Card::padded(text))
+}
+
+/// `H P CARD`
+#[tactic(auto, unfolding(crate::specs::Line::card_words))]
+pub(crate) fn card_words(rest: Option<&[u8]>) -> Option<(usize, usize, Card)>
+    ensures { result ≡ card_words (option_copied rest.entry) }
+{
+    let (hdu, rest) = number_first(rest)?;
+    let (place, rest) = number_first(rest)?;
+    let card = card_last(rest)?;
+    Some((hdu, place, card))
+}
+
+/// `H P`
+#[tactic(auto, unfolding(crate::specs::Line::place_words, crate::specs::Line::alone))]
+pub(crate) fn place_words(rest: Option<&[u8]>) -> Option<(usize, usize)>
+    ensures { result ≡ place_words (option_copied rest.entry) }
+{
+    let (hdu, rest) = number_first(rest)?;
+    let (place, rest) = number_first(rest)?;
+    match rest {
+        None => Some((hdu, place)),
+        Some(_) => None,
+    }
+}
+
+/// `H P Q`
+#[tactic(auto, unfolding(crate::specs::Line::move_words, crate::specs::Line::alone))]
+pub(crate) fn move_words(rest: Option<&[u8]>) -> Option<(usize, usize, usize)>
+    ensures { result ≡ move_words (option_copied rest.entry) }
+{
+    let (hdu, rest) = number_first(rest)?;
+    let (from, rest) = number_first(rest)?;
+    let (to, rest) = number_first(rest)?;
+    match rest {
+        None => Some((hdu, from, to)),
+        Some(_) => None,
+    }
+}
+
+/// `H NAME`
+#[tactic(auto, unfolding(crate::specs::Line::name_words, crate::specs::Line::alone))]
+pub(crate) fn name_words(rest: Option<&[u8]>) -> Option<(usize, Name)>
+    ensures { result ≡ name_words (option_copied rest.entry) }
+{
+    let (hdu, rest) = number_first(rest)?;
+    match name_first(rest) {
+        Some((name, None)) => Some((hdu, name)),
+        _ => None,
+    }
+}
+
+/// `H NAME FIELD`
+#[tactic(auto, unfolding(crate::specs::Line::field_words))]
+pub(crate) fn field_words(
+    alloc: Global,
+    rest: Option<&[u8]>,
+) -> Result<Option<(usize, Name, Value, Option<Text>)>, AllocError>
+    ensures ok { IfOk result (λ words. words ≡ field_words (option_copied rest.entry)) }
+    ensures err { OnErr result (IsSome (field_words (option_copied rest.entry))) }
+{
+    let Some((hdu, rest)) = number_first(rest) else {
+        return Ok(None);
+    };
+    let Some((name, rest)) = name_first(rest) else {
+        return Ok(None);
+    };
+    match read_field(alloc, text_of(rest)) {
+        Ok(Some((value, comment))) => Ok(Some((hdu, name, value, comment))),
+        Ok(None) => Ok(None),
+        Err(refused) => Err(refused),
+    }
 }

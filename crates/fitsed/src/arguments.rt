@@ -32,10 +32,16 @@ Example:
 fitsed(1) has the lines of a script.";
 
 const LINES: &str = "Lines of the script, words separated by one space:
-  ins H P CARD  insert a card at place P of HDU H
-  get H NAME    print the value of a keyword
-  off           print where each HDU begins, its data begin, and it ends
-  # text        nothing; so does an empty line
+  ins H P CARD      insert a card at place P of HDU H
+  put H P CARD      put a card instead of the one at place P
+  del H P           delete the card at place P
+  mov H P Q         move the card at place P to place Q
+  set H NAME FIELD  give a keyword a value and a comment, as VALUE / COMMENT
+  unset H NAME      delete a keyword
+  get H NAME        print the value of a keyword
+  pos H NAME        print the places of the cards of a keyword
+  off               print where each HDU begins, its data begin, and it ends
+  # text            nothing; so does an empty line
 
 Exit status:
   0  done

@@ -1,6 +1,6 @@
 use Rattle.std.proofs.Common.{◌≡◌, ◌≤◌, ◌+◌, ◌++◌, ℕ, List, length}
 use Rattle.std.specs.Prelude.{vec_len, vec_capacity}
-use Rattle.fits_cli.specs.Limits.{line_limit}
+use Rattle.fits_cli.specs.declared.limits.TheConstants.{LINE_LIMIT}
 use Rattle.fits_cli.specs.Running.{Continues}
 use Rattle.fits_cli.specs.Streams.{sink}
 use Rattle.fits_cli.proofs.script.answer_piece.Given as goal
@@ -11,8 +11,8 @@ invariant-loop-front g l = record {
   split : l.piece ≡ done ++ l.rest;
   answered : Continues done l.fn.line.items l.line.items l.fn.runner l.runner (sink (g.O.Sink.contents l.fn.out) (g.O.Sink.failures l.fn.out) (g.O.Sink.unflushed l.fn.out)) (sink (g.O.Sink.contents l.out) (g.O.Sink.failures l.out) (g.O.Sink.unflushed l.out));
   numbered : l.runner.line + length l.rest ≤ l.fn.runner.line + length l.piece;
-  room : line_limit + 1 ≤ vec_capacity l.line;
-  within : vec_len l.line ≤ line_limit + 1;
+  room : LINE_LIMIT + 1 ≤ vec_capacity l.line;
+  within : vec_len l.line ≤ LINE_LIMIT + 1;
 }
 
 abbrev pub decreases-loop-front : goal.decreases-loop-front

@@ -1,0 +1,218 @@
+-- A line says a command exactly where it has its form.
+use Rattle.std.proofs.Common.{◌≡◌, ℕ, List, [], ◌∷◌, ◌++◌, refl, ap, sym, ◌∙◌, inl, inr, rules, true, false, Bool, Option, None, Some}
+use Rattle.std.specs.Prelude.{◌==◌, ◌⊎◌, codes, unwrap_or, if◌then◌else◌}
+use Rattle.std.specs.Option.{option_map}
+use Rattle.std.specs.Str.{bytes_eq}
+use Rattle.std.proofs.lemmas.Bool.{cases_Bool}
+use Rattle.std.proofs.lemmas.List.{append-nil}
+use Rattle.std.proofs.lemmas.Option.{option_and_then_some}
+use Rattle.std.proofs.lemmas.Slice.Eq.{bytes_eq-Decides}
+use Rattle.fits_value.specs.Says.{field_says}
+use Rattle.fits_value.specs.declared.value.Value.{Value}
+use Rattle.fits_session.specs.declared.edit.Edit.TheVariants.{Insert, Put, Delete, Move, Set, Unset}
+use Rattle.fits_cli.specs.Cut.{HasNo}
+use Rattle.fits_cli.specs.Forms.{Begins, IsCardForm, IsPlaceForm, IsMoveForm, IsNameForm, IsFieldForm, Says, before, followed}
+use Rattle.fits_cli.specs.Line.{after_word, alone, card_last, card_words, command_of, field_words, first_word, move_words, name_first, name_words, number_first, place_words, said_by}
+use Rattle.fits_cli.specs.declared.command.Command.{Command}
+use Rattle.fits_cli.specs.declared.command.Command.TheVariants.{Nothing, Edit, Offsets, Get, Positions}
+use Rattle.fits_cli.proofs.FormLemmas.{first_word-followed, after_word-followed, followed-after_word, number_first-is, name_first-is, card_last-is, IsCard-is, NumberFirst-is, NameFirst-is, alone-is, followed-nothing}
+
+-- words of a form are read
+pub card_words-is : (h p : ℕ) (card text : List ℕ) → IsCardForm h p card text → card_words (Some text) ≡ Some (h, p, card)
+unfolding card_words
+card_words-is h p card text form =
+    rw (form.is, number_first-is form.hdu (Some (form.place ++ followed form.rest)) h form.is_hdu, number_first-is form.place form.rest p form.is_place, card_last-is form.rest card form.is_card) refl
+
+-- a text that words were read of
+abbrev Of : (List ℕ → Type 0) → Option (List ℕ) → Type 0
+Of IsForm rest = (text : List ℕ) × (rest ≡ Some text) × IsForm text
+
+-- and words that are read have the form
+pub card_words-says : (rest : Option (List ℕ)) (words : ℕ × ℕ × List ℕ) → card_words rest ≡ Some words → Of (IsCardForm words.0 words.1 words.2) rest
+unfolding card_words
+card_words-says rest words e =
+    option_and_then_some _ (number_first rest) words e (λ hdu is_hdu e1.
+    option_and_then_some _ (number_first hdu.1) words e1 (λ place is_place e2.
+    option_and_then_some _ (card_last place.1) words e2 (λ card is_card e3.
+    let same : ◌≡◌ {A = ℕ × ℕ × List ℕ} words (hdu.0, place.0, card) = cc in
+    let h = NumberFirst-is rest hdu is_hdu in
+    let p = NumberFirst-is hdu.1 place is_place in
+    let whole : rest ≡ Some (before h.word (p.word ++ followed place.1)) = h.is ∙ ap (λ r. Some (h.word ++ followed r)) p.is in
+    rw same (
+      before h.word (p.word ++ followed place.1),
+      whole,
+      record { hdu = h.word; place = p.word; rest = place.1; is = refl; is_hdu = h.is_number; is_place = p.is_number; is_card = IsCard-is place.1 card is_card },
+    ))))
+
+-- `H P`, where it is written so
+pub place_words-is : (h p : ℕ) (text : List ℕ) → IsPlaceForm h p text → place_words (Some text) ≡ Some (h, p)
+unfolding place_words alone
+place_words-is h p text form =
+    let last : number_first (Some form.place) ≡ Some (p, None) = ap (λ t. number_first (Some t)) (sym (append-nil form.place)) ∙ number_first-is form.place None p form.is_place in
+    rw (form.is, number_first-is form.hdu (Some form.place) h form.is_hdu, last) refl
+
+-- and where it is read
+pub place_words-says : (rest : Option (List ℕ)) (words : ℕ × ℕ) → place_words rest ≡ Some words → Of (IsPlaceForm words.0 words.1) rest
+unfolding place_words
+place_words-says rest words e =
+    option_and_then_some _ (number_first rest) words e (λ hdu is_hdu e1.
+    option_and_then_some _ (number_first hdu.1) words e1 (λ place is_place e2.
+    let last = alone-is place.1 (hdu.0, place.0) words e2 in
+    let h = NumberFirst-is rest hdu is_hdu in
+    let p = NumberFirst-is hdu.1 place is_place in
+    let end : hdu.1 ≡ Some p.word = followed-nothing hdu.1 p.word place.1 p.is last.0 in
+    let whole : rest ≡ Some (before h.word p.word) = h.is ∙ ap (λ r. Some (h.word ++ followed r)) end in
+    rw (sym last.1) (before h.word p.word, whole, record { hdu = h.word; place = p.word; is = refl; is_hdu = h.is_number; is_place = p.is_number })))
+
+-- `H P Q`, where it is written so
+pub move_words-is : (h p q : ℕ) (text : List ℕ) → IsMoveForm h p q text → move_words (Some text) ≡ Some (h, p, q)
+unfolding move_words alone
+move_words-is h p q text form =
+    let last : number_first (Some form.to) ≡ Some (q, None) = ap (λ t. number_first (Some t)) (sym (append-nil form.to)) ∙ number_first-is form.to None q form.is_to in
+    rw (form.is, number_first-is form.hdu (Some (before form.from form.to)) h form.is_hdu, number_first-is form.from (Some form.to) p form.is_from, last) refl
+
+-- and where it is read
+pub move_words-says : (rest : Option (List ℕ)) (words : ℕ × ℕ × ℕ) → move_words rest ≡ Some words → Of (IsMoveForm words.0 words.1 words.2) rest
+unfolding move_words
+move_words-says rest words e =
+    option_and_then_some _ (number_first rest) words e (λ hdu is_hdu e1.
+    option_and_then_some _ (number_first hdu.1) words e1 (λ from is_from e2.
+    option_and_then_some _ (number_first from.1) words e2 (λ to is_to e3.
+    let last = alone-is to.1 (hdu.0, from.0, to.0) words e3 in
+    let h = NumberFirst-is rest hdu is_hdu in
+    let p = NumberFirst-is hdu.1 from is_from in
+    let q = NumberFirst-is from.1 to is_to in
+    let end : from.1 ≡ Some q.word = followed-nothing from.1 q.word to.1 q.is last.0 in
+    let middle : hdu.1 ≡ Some (before p.word q.word) = p.is ∙ ap (λ r. Some (p.word ++ followed r)) end in
+    let whole : rest ≡ Some (before h.word (before p.word q.word)) = h.is ∙ ap (λ r. Some (h.word ++ followed r)) middle in
+    rw (sym last.1) (
+      before h.word (before p.word q.word),
+      whole,
+      record { hdu = h.word; from = p.word; to = q.word; is = refl; is_hdu = h.is_number; is_from = p.is_number; is_to = q.is_number },
+    ))))
+
+-- `H NAME`, where it is written so
+pub name_words-is : (h : ℕ) (name text : List ℕ) → IsNameForm h name text → name_words (Some text) ≡ Some (h, name)
+unfolding name_words alone
+name_words-is h name text form =
+    let last : name_first (Some form.word) ≡ Some (name, None) = ap (λ t. name_first (Some t)) (sym (append-nil form.word)) ∙ name_first-is form.word None name form.is_name in
+    rw (form.is, number_first-is form.hdu (Some form.word) h form.is_hdu, last) refl
+
+-- and where it is read
+pub name_words-says : (rest : Option (List ℕ)) (words : ℕ × List ℕ) → name_words rest ≡ Some words → Of (IsNameForm words.0 words.1) rest
+unfolding name_words
+name_words-says rest words e =
+    option_and_then_some _ (number_first rest) words e (λ hdu is_hdu e1.
+    option_and_then_some _ (name_first hdu.1) words e1 (λ name is_name e2.
+    let last = alone-is name.1 (hdu.0, name.0) words e2 in
+    let h = NumberFirst-is rest hdu is_hdu in
+    let n = NameFirst-is hdu.1 name is_name in
+    let end : hdu.1 ≡ Some n.word = followed-nothing hdu.1 n.word name.1 n.is last.0 in
+    let whole : rest ≡ Some (before h.word n.word) = h.is ∙ ap (λ r. Some (h.word ++ followed r)) end in
+    rw (sym last.1) (before h.word n.word, whole, record { hdu = h.word; word = n.word; is = refl; is_hdu = h.is_number; is_name = n.is_name })))
+
+-- `H NAME FIELD`, where it is written so
+pub field_words-is : (h : ℕ) (name : List ℕ) (value : Value) (comment : Option (List ℕ)) (text : List ℕ) → IsFieldForm h name value comment text
+    → field_words (Some text) ≡ Some (h, name, value, comment)
+unfolding field_words
+field_words-is h name value comment text form =
+    rw (form.is, number_first-is form.hdu (Some (form.word ++ followed form.rest)) h form.is_hdu, name_first-is form.word form.rest name form.is_name, form.says) refl
+
+-- and where it is read
+pub field_words-says : (rest : Option (List ℕ)) (words : ℕ × List ℕ × Value × Option (List ℕ)) → field_words rest ≡ Some words
+    → Of (IsFieldForm words.0 words.1 words.2 words.3) rest
+unfolding field_words
+field_words-says rest words e =
+    option_and_then_some _ (number_first rest) words e (λ hdu is_hdu e1.
+    option_and_then_some _ (name_first hdu.1) words e1 (λ name is_name e2.
+    option_and_then_some _ (field_says (unwrap_or name.1 [])) words e2 (λ said is_said e3.
+    let same : ◌≡◌ {A = ℕ × List ℕ × Value × Option (List ℕ)} words (hdu.0, name.0, said.0, said.1) = cc in
+    let h = NumberFirst-is rest hdu is_hdu in
+    let n = NameFirst-is hdu.1 name is_name in
+    let whole : rest ≡ Some (before h.word (n.word ++ followed name.1)) = h.is ∙ ap (λ r. Some (h.word ++ followed r)) n.is in
+    rw same (
+      before h.word (n.word ++ followed name.1),
+      whole,
+      record { hdu = h.word; word = n.word; rest = name.1; is = refl; is_hdu = h.is_number; is_name = n.is_name; says = is_said },
+    ))))
+
+-- a line of this word and a rest is what the word says of the rest, unless it is a comment
+command_of-verb : (byte : ℕ) (verb rest : List ℕ) → HasNo 32 (byte ∷ verb) → (byte == 35) ≡ false → command_of (before (byte ∷ verb) rest) ≡ said_by (byte ∷ verb) (Some rest)
+unfolding command_of
+command_of-verb byte verb rest bare other =
+    rw (other, first_word-followed (byte ∷ verb) (Some rest) bare, after_word-followed (byte ∷ verb) (Some rest) bare) refl
+
+-- a line that has the form of a command says it
+pub command_of-says : (line : List ℕ) (command : Command) → Says line command → command_of line ≡ Some command
+unfolding command_of said_by alone first_word after_word
+command_of-says line Nothing (inl e) = rw e refl
+command_of-says line Nothing (inr comment) = rw comment.1 refl
+command_of-says line (Edit (Insert h p card)) says =
+    rw (says.is, command_of-verb 105 (codes "ns") says.rest refl refl) (ap (option_map (λ said. Edit (Insert said.0 said.1 said.2))) (card_words-is h p card says.rest says.form))
+command_of-says line (Edit (Put h p card)) says =
+    rw (says.is, command_of-verb 112 (codes "ut") says.rest refl refl) (ap (option_map (λ said. Edit (Put said.0 said.1 said.2))) (card_words-is h p card says.rest says.form))
+command_of-says line (Edit (Delete h p)) says =
+    rw (says.is, command_of-verb 100 (codes "el") says.rest refl refl) (ap (option_map (λ said. Edit (Delete said.0 said.1))) (place_words-is h p says.rest says.form))
+command_of-says line (Edit (Move h p q)) says =
+    rw (says.is, command_of-verb 109 (codes "ov") says.rest refl refl) (ap (option_map (λ said. Edit (Move said.0 said.1 said.2))) (move_words-is h p q says.rest says.form))
+command_of-says line (Edit (Set h name value comment)) says =
+    rw (says.is, command_of-verb 115 (codes "et") says.rest refl refl)
+    (ap (option_map (λ said. Edit (Set said.0 said.1 said.2 said.3))) (field_words-is h name value comment says.rest says.form))
+command_of-says line (Edit (Unset h name)) says =
+    rw (says.is, command_of-verb 117 (codes "nset") says.rest refl refl) (ap (option_map (λ said. Edit (Unset said.0 said.1))) (name_words-is h name says.rest says.form))
+command_of-says line (Get h name) says =
+    rw (says.is, command_of-verb 103 (codes "et") says.rest refl refl) (ap (option_map (λ said. Get said.0 said.1)) (name_words-is h name says.rest says.form))
+command_of-says line (Positions h name) says =
+    rw (says.is, command_of-verb 112 (codes "os") says.rest refl refl) (ap (option_map (λ said. Positions said.0 said.1)) (name_words-is h name says.rest says.form))
+command_of-says line Offsets says = rw says refl
+
+-- one of two things is said
+said_either : {P : Type 0} (test : Bool) (a b : Option Command) (command : Command) → (if test then a else b) ≡ Some command
+    → (test ≡ true → a ≡ Some command → P) → (test ≡ false → b ≡ Some command → P) → P
+said_either true a b command e first next = first refl e
+said_either false a b command e first next = next refl e
+
+-- what words come to
+mapped : {X P : Type 0} (f : X → Command) (words : Option X) (command : Command) → option_map f words ≡ Some command → ((x : X) → words ≡ Some x → command ≡ f x → P) → P
+mapped f None command e give = absurd (let z : ◌≡◌ {A = Option Command} None (Some command) = e in cc)
+mapped f (Some x) command e give = give x refl (let z : ◌≡◌ {A = Option Command} (Some (f x)) (Some command) = e in cc)
+
+-- a line that begins with a word and goes on in a form
+begins : (verb word : List ℕ) (rest : Option (List ℕ)) (IsForm : List ℕ → Type 0) → bytes_eq verb word ≡ true → Of IsForm rest → Begins word IsForm (verb ++ followed rest)
+begins verb word rest IsForm test of =
+    record { rest = of.0; is = ap (λ v. v ++ followed rest) ((bytes_eq-Decides verb word).0 test) ∙ ap (λ r. word ++ followed r) of.1; form = of.2 }
+
+-- what a word says of a rest has the form of that
+said_by-says : (verb : List ℕ) (rest : Option (List ℕ)) (command : Command) → said_by verb rest ≡ Some command → Says (verb ++ followed rest) command
+unfolding said_by
+said_by-says verb rest command said =
+    said_either (bytes_eq verb (codes "ins")) _ _ command said
+    (λ test e. mapped (λ w. Edit (Insert w.0 w.1 w.2)) (card_words rest) command e (λ w is same. rw same (begins verb (codes "ins") rest _ test (card_words-says rest w is))))
+    (λ not_ins e1. said_either (bytes_eq verb (codes "put")) _ _ command e1
+    (λ test e. mapped (λ w. Edit (Put w.0 w.1 w.2)) (card_words rest) command e (λ w is same. rw same (begins verb (codes "put") rest _ test (card_words-says rest w is))))
+    (λ not_put e2. said_either (bytes_eq verb (codes "del")) _ _ command e2
+    (λ test e. mapped (λ w. Edit (Delete w.0 w.1)) (place_words rest) command e (λ w is same. rw same (begins verb (codes "del") rest _ test (place_words-says rest w is))))
+    (λ not_del e3. said_either (bytes_eq verb (codes "mov")) _ _ command e3
+    (λ test e. mapped (λ w. Edit (Move w.0 w.1 w.2)) (move_words rest) command e (λ w is same. rw same (begins verb (codes "mov") rest _ test (move_words-says rest w is))))
+    (λ not_mov e4. said_either (bytes_eq verb (codes "set")) _ _ command e4
+    (λ test e. mapped (λ w. Edit (Set w.0 w.1 w.2 w.3)) (field_words rest) command e (λ w is same. rw same (begins verb (codes "set") rest _ test (field_words-says rest w is))))
+    (λ not_set e5. said_either (bytes_eq verb (codes "unset")) _ _ command e5
+    (λ test e. mapped (λ w. Edit (Unset w.0 w.1)) (name_words rest) command e (λ w is same. rw same (begins verb (codes "unset") rest _ test (name_words-says rest w is))))
+    (λ not_unset e6. said_either (bytes_eq verb (codes "get")) _ _ command e6
+    (λ test e. mapped (λ w. Get w.0 w.1) (name_words rest) command e (λ w is same. rw same (begins verb (codes "get") rest _ test (name_words-says rest w is))))
+    (λ not_get e7. said_either (bytes_eq verb (codes "pos")) _ _ command e7
+    (λ test e. mapped (λ w. Positions w.0 w.1) (name_words rest) command e (λ w is same. rw same (begins verb (codes "pos") rest _ test (name_words-says rest w is))))
+    (λ not_pos e8. said_either (bytes_eq verb (codes "off")) _ _ command e8
+    (λ test e.
+    let last = alone-is rest Offsets command e in
+    rw (sym last.1) (ap (λ v. v ++ followed rest) ((bytes_eq-Decides verb (codes "off")).0 test) ∙ rw last.0 (append-nil (codes "off"))))
+    (λ not_off e9. absurd (let z : ◌≡◌ {A = Option Command} None (Some command) = e9 in cc))))))))))
+
+-- a line that says a command has its form
+pub Says-command_of : (line : List ℕ) (command : Command) → command_of line ≡ Some command → Says line command
+unfolding command_of
+Says-command_of [] command e = let same : command ≡ Nothing = let z : ◌≡◌ {A = Option Command} (Some Nothing) (Some command) = e in cc in rw same (inl refl)
+Says-command_of (byte ∷ bytes) command e =
+    said_either (byte == 35) (Some Nothing) _ command e
+    (λ hash z. let same : command ≡ Nothing = cc in let byte_is : byte ≡ 35 = search rules in rw same (inr (bytes, ap (λ b. b ∷ bytes) byte_is)))
+    (λ other said. rw (followed-after_word (byte ∷ bytes)) (said_by-says (first_word (byte ∷ bytes)) (after_word (byte ∷ bytes)) command said))
