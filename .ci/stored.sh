@@ -62,6 +62,26 @@ expect 'the stored run has its file' cmp -s crates/fitsed/data/p0.fits "$example
 expect 'the stored run has its script' cmp -s crates/fitsed/stdin "$example/script"
 expect 'the stored run has its answers' cmp -s crates/fitsed/stdout "$example/answers"
 
+# a file of the limit opens, and one byte more is too much; both are sparse
+cp "$example/in.fits" "$room/limit.fits"
+truncate -s 2880000000 "$room/limit.fits"
+expect 'a file of the limit is listed' status 0 "$program" list "$room/limit.fits"
+truncate -s 2880000001 "$room/limit.fits"
+expect 'one byte more ends with 2' status 2 "$program" list "$room/limit.fits"
+expect 'and is too large' grep -qx 'fitsed: open refused O5 TooLarge' "$room/reported"
+rm "$room/limit.fits"
+expect 'a device without an end ends with 2' status 2 "$program" list /dev/zero
+expect 'and is too large' grep -qx 'fitsed: open refused O5 TooLarge' "$room/reported"
+
+# a header that claims 2 GB over a file of one block asks for no memory
+{
+    printf '%-80s' 'SIMPLE  =                    T' 'BITPIX  =                    8' 'NAXIS   =                    1' 'NAXIS1  =           2000000000' END
+    printf '%2480s' ''
+} >"$room/claims.fits"
+in_100_mb() { (ulimit -v 100000 && "$program" edit "$@" </dev/null); }
+expect 'a header that claims 2 GB ends with 2' status 2 in_100_mb "$room/claims.fits" "$room/unsaved.fits"
+expect 'and has too few data' grep -qx 'fitsed: open refused O4 ShortData hdu 1' "$room/reported"
+
 expect 'a full device for answers ends with 3' status 3 onto_a_full_device "$example/in.fits" "$room/unsaved.fits"
 expect 'and nothing is saved' [ ! -e "$room/unsaved.fits" ]
 expect 'a full device for OUT ends with 3' status 3 edit "$example/in.fits" /dev/full
@@ -105,6 +125,18 @@ expect 'a full device for a listing ends with 3' status 3 list_to_a_full_device 
 head -c 8639 "$room/two.fits" >"$room/short.fits"
 expect 'a file without its last byte ends with 2' status 2 list "$room/short.fits"
 expect 'and says why' grep -qx 'fitsed: open refused O4 ShortData hdu 2' "$room/reported"
+# as many HDUs as a file may have, and one more
+primary=$(printf '%-80s%-80s%-80s%-2640s' 'SIMPLE  =                    T' 'BITPIX  =                    8' \
+    'NAXIS   =                    0' 'END')
+extension=$(printf '%-80s%-80s%-80s%-80s%-80s%-2480s' "XTENSION= 'IMAGE   '" 'BITPIX  =                    8' \
+    'NAXIS   =                    0' 'PCOUNT  =                    0' 'GCOUNT  =                    1' 'END')
+many() { awk -v p="$primary" -v e="$extension" -v n="$1" 'BEGIN { printf "%s", p; for (k = 1; k < n; k++) printf "%s", e }'; }
+many 10000 >"$room/most.fits"
+expect 'a file of 10,000 HDUs is listed' status 0 list "$room/most.fits"
+expect 'and has a line for each' [ "$(wc -l <"$room/printed")" = 10000 ]
+many 10001 >"$room/many.fits"
+expect 'one of 10,001 HDUs ends with 2' status 2 list "$room/many.fits"
+expect 'and is too large' grep -qx 'fitsed: open refused O5 TooLarge' "$room/reported"
 expect 'a listing of nothing ends with 3' status 3 list "$room/nothing"
 expect 'a listing without a path ends with 2' status 2 list
 cp "$example/in.fits" "$room/same.fits"

@@ -198,7 +198,7 @@ fn the_first_fault_of_a_file_is_reported(rt: HostRuntime) -> Result<(), Fail> {
     Ok(())
 }
 
-/// Files of one HDU and a front of an extension: where none begins, the file opens.
+/// Files of one HDU and a prefix of an extension: where none begins, the file opens.
 #[test]
 fn each_front_of_an_extension_is_a_tail_or_a_fault(rt: HostRuntime) -> Result<(), Fail> {
     let bytes = file_of(rt.alloc(), (&[(P0, 0), (PIXEL, 1)], ""))?;

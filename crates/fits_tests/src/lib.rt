@@ -6,9 +6,15 @@ mod builders;
 #[cfg(test)]
 mod cards;
 #[cfg(test)]
+mod codes;
+#[cfg(test)]
+mod edits;
+#[cfg(test)]
 mod files;
 #[cfg(test)]
 mod hdus;
+#[cfg(test)]
+mod indexes;
 #[cfg(test)]
 mod lines;
 #[cfg(test)]
@@ -18,7 +24,11 @@ mod memory;
 #[cfg(test)]
 mod numbers;
 #[cfg(test)]
+mod planes;
+#[cfg(test)]
 mod planned;
+#[cfg(test)]
+mod reading;
 #[cfg(test)]
 mod rows;
 #[cfg(test)]

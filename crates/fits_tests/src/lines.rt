@@ -3,6 +3,7 @@
 use crate::builders::{P0, card_of, hdu_of, name_of, repeated};
 use crate::planned::{SMOOTH, reader, writer};
 use crate::runs::{ALL_SMOOTH, edit};
+use crate::values::line_of;
 use fits_card::Watched;
 use fits_cli::{Command, End, Fault, LineFault, parse_line, run_edit};
 use fits_session::Edit;
@@ -18,12 +19,19 @@ enum Said<'a> {
     Nothing,
     Off,
     Ins(usize, usize, &'a str),
+    Put(usize, usize, &'a str),
+    Del(usize, usize),
+    Mov(usize, usize, usize),
+    /// What the field says stands as a line.
+    Set(usize, &'a str, &'a str),
+    Unset(usize, &'a str),
     Get(usize, &'a str),
-    /// It is no command.
+    Pos(usize, &'a str),
+    /// It is not a command.
     Bad,
 }
 
-use Said::{Bad, Get, Ins, Nothing, Off};
+use Said::{Bad, Del, Get, Ins, Mov, Nothing, Off, Pos, Put, Set, Unset};
 
 /// A line, and what it says.
 const LINES: &[(&str, Said<'static>)] = &[
@@ -49,6 +57,41 @@ const LINES: &[(&str, Said<'static>)] = &[
     ("ins 000000000000000000 000000000000000012", Ins(0, 12, "")),
     ("ins 0 0 X", Ins(0, 0, "X")),
     ("ins 1 4 ins 1 4", Ins(1, 4, "ins 1 4")),
+    ("put 1 4 CARD", Put(1, 4, "CARD")),
+    ("put 1 4", Put(1, 4, "")),
+    ("put 0 0  X ", Put(0, 0, " X ")),
+    ("del 1 4", Del(1, 4)),
+    (
+        "del 000000000000000000 999999999999999999",
+        Del(0, 999_999_999_999_999_999),
+    ),
+    ("mov 1 4 5", Mov(1, 4, 5)),
+    ("mov 0 000000000000000012 0", Mov(0, 12, 0)),
+    // a field is read at any length, spaces before it too
+    ("set 1 KEY 5", Set(1, "KEY", "integer [5]")),
+    ("set 1 KEY  5", Set(1, "KEY", "integer [5]")),
+    ("set 1 KEY 5 / c ", Set(1, "KEY", "integer [5] / c")),
+    ("set 1 KEY 5 /", Set(1, "KEY", "integer [5] /")),
+    ("set 1 KEY 5/", Set(1, "KEY", "integer [5] /")),
+    ("set 1 KEY T", Set(1, "KEY", "logical T")),
+    ("set 1 KEY -1.5D3", Set(1, "KEY", "real [-1.5D3]")),
+    ("set 1 KEY (1, 2.)", Set(1, "KEY", "complex [1] [2.]")),
+    (
+        "set 1 KEY 'it''s  ' / x",
+        Set(1, "KEY", "string [it's] / x"),
+    ),
+    ("set 1 KEY 'ab&'", Set(1, "KEY", "string [ab&]")),
+    ("set 1 KEY=5 7", Set(1, "KEY=5", "integer [7]")),
+    // it may be empty without the space before it
+    ("set 1 KEY", Set(1, "KEY", "undefined")),
+    ("set 1 KEY ", Set(1, "KEY", "undefined")),
+    ("set 1 KEY    ", Set(1, "KEY", "undefined")),
+    ("set 1 KEY=5", Set(1, "KEY=5", "undefined")),
+    ("set 1 KEY / c", Set(1, "KEY", "undefined / c")),
+    ("unset 1 KEY", Unset(1, "KEY")),
+    ("unset 0 END", Unset(0, "END")),
+    ("pos 1 KEY", Pos(1, "KEY")),
+    ("pos 0 #=/'", Pos(0, "#=/'")),
     // a name is filled up with spaces
     ("get 1 KEY", Get(1, "KEY")),
     ("get 2 K", Get(2, "K")),
@@ -121,10 +164,49 @@ const LINES: &[(&str, Said<'static>)] = &[
     ("gets 1 KEY", Bad),
     ("ge 1 KEY", Bad),
     ("GET 1 KEY", Bad),
+    ("put", Bad),
+    ("put 1", Bad),
+    ("put 1 x X", Bad),
+    ("PUT 1 4 X", Bad),
+    ("del", Bad),
+    ("del 1", Bad),
+    ("del 1 ", Bad),
+    ("del 1 4 ", Bad),
+    ("del 1 4 5", Bad),
+    ("del 1 4\r", Bad),
+    ("del  1 4", Bad),
+    ("mov 1 4", Bad),
+    ("mov 1 4 ", Bad),
+    ("mov 1 4 5 ", Bad),
+    ("mov 1 4 5 6", Bad),
+    ("mov 1 4  5", Bad),
+    ("mov 1 4 x", Bad),
+    ("mov 1 4 1000000000000000000", Bad),
+    ("set", Bad),
+    ("set 1", Bad),
+    ("set 1 ", Bad),
+    ("set 1  KEY 5", Bad),
+    ("set x KEY 5", Bad),
+    ("set 1 DATE-OBS2 5", Bad),
+    // a field without a reading
+    ("set 1 KEY junk", Bad),
+    ("set 99 KEY junk", Bad),
+    ("set 1 KEY 5 6", Bad),
+    ("set 1 KEY 1e3", Bad),
+    ("set 1 KEY 5\r", Bad),
+    ("set 1 KEY 5 / \u{80}", Bad),
+    ("set 1 KEY 'open", Bad),
+    ("set 1 KEY (1)", Bad),
+    ("unset 1", Bad),
+    ("unset 1 KEY ", Bad),
+    ("unset 1 KEY 5", Bad),
+    ("unset 1 DATE-OBS2", Bad),
+    ("pos 1", Bad),
+    ("pos 1 KEY ", Bad),
+    ("pos KEY", Bad),
     // commands to come
-    ("put 1 4 X", Bad),
-    ("pos 1 KEY", Bad),
     ("rep", Bad),
+    ("fill 1 1:1 5", Bad),
     // 80 bytes, and 81
     (
         "ins 1 4 yyyyyyyyyyyyyyyyyyyyyyyyyyyyyyyyyyyyyyyyyyyyyyyyyyyyyyyyyyyyyyyyyyyyyyyyyyyyyyyy",
@@ -145,31 +227,62 @@ const LINES: &[(&str, Said<'static>)] = &[
 ];
 
 #[test]
-fn a_line_says_one_command_or_none(rt: HostRuntime) {
+fn a_line_says_one_command_or_none(rt: HostRuntime) -> Result<(), Fail> {
     for (line, said) in LINES {
-        assert_eq!(rt;
-            parse_line(rt.alloc(), line.as_bytes()),
-            command_of(*said),
-            "{line:?}"
-        );
+        match parse_line(rt.alloc(), line.as_bytes()) {
+            Ok(command) => assert!(rt; says(rt.alloc(), command, *said)?, "{line:?}"),
+            Err(fault) => {
+                assert_eq!(rt; fault, LineFault::Bad, "{line:?}");
+                assert!(rt; matches!(said, Bad), "{line:?}");
+            }
+        }
+    }
+    Ok(())
+}
+
+// Whether a command is the one that is said so.
+fn says(alloc: Global, command: Command, said: Said<'_>) -> Result<bool, AllocError> {
+    match command {
+        Command::Nothing => Ok(matches!(said, Nothing)),
+        Command::Offsets => Ok(matches!(said, Off)),
+        Command::Get { hdu, name } => {
+            Ok(matches!(said, Get(h, text) if h == hdu && name_of(text) == name))
+        }
+        Command::Positions { hdu, name } => {
+            Ok(matches!(said, Pos(h, text) if h == hdu && name_of(text) == name))
+        }
+        Command::Edit(edit) => edits(alloc, edit, said),
     }
 }
 
-// The command that is said so.
-fn command_of(said: Said<'_>) -> Result<Command, LineFault> {
-    match said {
-        Nothing => Ok(Command::Nothing),
-        Off => Ok(Command::Offsets),
-        Ins(hdu, place, text) => Ok(Command::Edit(Edit::Insert {
+// Whether an edit is the one that is said so.
+fn edits(alloc: Global, edit: Edit, said: Said<'_>) -> Result<bool, AllocError> {
+    match edit {
+        Edit::Insert { hdu, place, card } => {
+            Ok(matches!(said, Ins(h, p, text) if h == hdu && p == place && card_of(text) == card))
+        }
+        Edit::Put { hdu, place, card } => {
+            Ok(matches!(said, Put(h, p, text) if h == hdu && p == place && card_of(text) == card))
+        }
+        Edit::Delete { hdu, place } => Ok(matches!(said, Del(h, p) if h == hdu && p == place)),
+        Edit::Move { hdu, from, to } => {
+            Ok(matches!(said, Mov(h, p, q) if h == hdu && p == from && q == to))
+        }
+        Edit::Set {
             hdu,
-            place,
-            card: card_of(text),
-        })),
-        Get(hdu, name) => Ok(Command::Get {
-            hdu,
-            name: name_of(name),
-        }),
-        Bad => Err(LineFault::Bad),
+            name,
+            value,
+            comment,
+        } => match said {
+            Set(h, text, wanted) => {
+                let line = line_of(alloc, &Some((value, comment)))?;
+                Ok(h == hdu && name_of(text) == name && line.as_slice() == wanted.as_bytes())
+            }
+            _ => Ok(false),
+        },
+        Edit::Unset { hdu, name } => {
+            Ok(matches!(said, Unset(h, text) if h == hdu && name_of(text) == name))
+        }
     }
 }
 

@@ -8,16 +8,16 @@ use crate::builders::{
     name_of, repeated,
 };
 use crate::hdus::ASKED;
-use crate::planned::{SMOOTH, writer};
+use crate::planned::{SMOOTH, reader, writer};
 use crate::runs::{ALL_SMOOTH, Ran, edit, list};
 use crate::shapes::{ShapeText, check_shape};
 use crate::streams::{LISTED, LISTING};
 use crate::values::line_of;
-use fits_card::{HeaderFault, cut_header};
-use fits_cli::{End, Fault};
+use fits_card::{HeaderFault, Name, cut_header};
+use fits_cli::{Command, End, Fault, LineFault, parse_line};
 use fits_hdu::{Hdu, HduFault, KeywordFault};
 use fits_rules::{Class, ShapeFault, shape};
-use fits_session::{Edit, OpenFault, Refusal, Session};
+use fits_session::{Edit, OpenFault, ReadFileFault, Refusal, Session, read_outlines};
 use fits_value::{Text, Value, long_value, read_field, read_value};
 use std::alloc::{AllocError, Global};
 use std::process::Abort;
@@ -204,10 +204,14 @@ fn same_answers<R: Abort + AllocGlobal>(
         assert_eq!(rt; one.card_count(h), other.card_count(h));
         assert_eq!(rt; one.kind(h), other.kind(h));
         assert_eq!(rt; one.shape(h).is_ok(), other.shape(h).is_ok());
-        for name in ["XTENSION", "BITPIX", "OBJECT"] {
+        for name in ["XTENSION", "BITPIX", "KEY", "NEW"] {
             let line = answer(rt.alloc(), one, h, name)?;
             assert!(rt; line == answer(rt.alloc(), other, h, name)?);
+            let found = places(one, h, name)?;
+            assert!(rt; found == places(other, h, name)?);
         }
+        let found = names(one, h)?;
+        assert!(rt; found == names(other, h)?);
     }
     assert!(rt; one.offsets()?.as_slice() == other.offsets()?.as_slice());
     assert!(rt; saved(rt.alloc(), one)?.as_slice() == saved(rt.alloc(), other)?.as_slice());
@@ -225,6 +229,26 @@ fn answer(
         Ok(said) => Ok(Ok(line_of(alloc, &Some(said))?)),
         Err(Refusal::Memory) => Err(AllocError),
         Err(why) => Ok(Err(why)),
+    }
+}
+
+// The places of a keyword of an HDU.
+fn places(
+    session: &mut Session,
+    h: usize,
+    name: &str,
+) -> Result<Result<Vec<usize>, Refusal>, AllocError> {
+    match session.positions(h, &name_of(name)) {
+        Err(Refusal::Memory) => Err(AllocError),
+        answer => Ok(answer),
+    }
+}
+
+// The names of an HDU's cards.
+fn names(session: &mut Session, h: usize) -> Result<Result<Vec<Name>, Refusal>, AllocError> {
+    match session.names(h) {
+        Err(Refusal::Memory) => Err(AllocError),
+        answer => Ok(answer),
     }
 }
 
@@ -253,51 +277,111 @@ fn refused_memory_at_opening(rt: HostRuntime) {
     }
 }
 
-#[test]
-fn refused_memory_at_an_edit(rt: HostRuntime) {
-    let alloc = rt.alloc();
-    let (Ok(before), Ok(after)) = (full_file(alloc, "END"), full_file(alloc, "COMMENT x|END"))
-    else {
-        return;
+/// A line that edits the second HDU of a file, the cards that this has before and after, and the refusal that stands
+/// where memory doesn't.
+type EditText<'a> = (&'a str, &'a str, &'a str, Option<Refusal>);
+
+const EDITS: &[EditText<'static>] = &[
+    ("ins 2 5 X", "A|B|END", "X|A|B|END", None),
+    ("put 2 5 X", "A|B|END", "X|B|END", None),
+    ("del 2 5", "A|B|END", "B|END", None),
+    ("mov 2 5 6", "A|B|END", "B|A|END", None),
+    (
+        "set 2 KEY 'it''s' / c",
+        "A|KEY     = 'a&'|CONTINUE  'b'|B|END",
+        "A|KEY     = 'it''s   '           / c|B|END",
+        None,
+    ),
+    (
+        "set 2 NEW 7",
+        "A|END",
+        "A|NEW     =                    7|END",
+        None,
+    ),
+    (
+        "unset 2 KEY",
+        "A|KEY     = 'a&'|CONTINUE  'b'|B|END",
+        "A|B|END",
+        None,
+    ),
+    ("ins 2 2 X", "A|END", "A|END", Some(Refusal::Shape)),
+    ("set 2 NAXIS 2", "A|END", "A|END", Some(Refusal::Shape)),
+    ("del 2 4", "A|END", "A|END", Some(Refusal::Shape)),
+];
+
+// A file of two HDUs, the second with these cards behind its mandatory ones, and a tail.
+fn edited_file(alloc: Global, cards: &str) -> Result<Vec<u8>, AllocError> {
+    let mut bytes = hdu_of(alloc, P0, 0)?;
+    add_cards(
+        &mut bytes,
+        "XTENSION= 'IMAGE   '|BITPIX  = 16|NAXIS   = 1|NAXIS1  = 0",
+    )?;
+    add_cards(&mut bytes, cards)?;
+    end_header(&mut bytes)?;
+    bytes.extend_from_slice(b"tail")?;
+    Ok(bytes)
+}
+
+// Makes the edit of a line, if there is memory for it. Err: the memory for a comparison was refused.
+fn check_edit<R: Abort + AllocGlobal>(rt: &R, text: EditText<'_>) -> Result<(), AllocError> {
+    let (line, before, after, refusal) = text;
+    let before = edited_file(rt.alloc(), before)?;
+    let after = edited_file(rt.alloc(), after)?;
+    let Ok(mut session) = Session::open(rt.alloc(), &before) else {
+        return Err(AllocError);
     };
-    let Ok(mut session) = Session::open(alloc, &before) else {
-        return;
+    let Ok(Command::Edit(edit)) = parse_line(rt.alloc(), line.as_bytes()) else {
+        return Err(AllocError);
     };
-    let edit = Edit::Insert {
-        hdu: 1,
-        place: 36,
-        card: card_of("COMMENT x"),
-    };
-    let edited = session.edit(edit);
-    if let Err(why) = edited {
-        assert_eq!(rt; why, Refusal::Memory);
-    }
+    let refused = session.edit(edit).err();
+    assert!(rt;
+        refused == refusal || refused == Some(Refusal::Memory),
+        "{line:?}"
+    );
     // nothing else is refused after a refusal
-    let bytes = if edited.is_ok() { &after } else { &before };
-    if let Ok(mut fresh) = Session::open(alloc, bytes) {
-        let _ = same_answers(&rt, &mut session, &mut fresh);
+    let bytes = if refused.is_none() { &after } else { &before };
+    let Ok(mut fresh) = Session::open(rt.alloc(), bytes) else {
+        return Err(AllocError);
+    };
+    same_answers(rt, &mut session, &mut fresh)
+}
+
+#[test]
+fn refused_memory_at_reading(rt: HostRuntime) {
+    let Ok(bytes) = full_file(rt.alloc(), "END") else {
+        return;
+    };
+    for _ in 0..2 {
+        match Session::read(rt.alloc(), &mut reader(&bytes, SMOOTH)) {
+            Ok(session) => assert_eq!(rt; session.hdus(), 2),
+            Err(why) => assert_eq!(rt; why, ReadFileFault::Open(OpenFault::Memory)),
+        }
+        match read_outlines(rt.alloc(), &mut reader(&bytes, SMOOTH)) {
+            Ok(outlines) => assert_eq!(rt; outlines.len(), 2),
+            Err(why) => assert_eq!(rt; why, ReadFileFault::Open(OpenFault::Memory)),
+        }
     }
 }
 
 #[test]
-fn refused_memory_at_a_refused_edit(rt: HostRuntime) {
-    let Ok(bytes) = full_file(rt.alloc(), "END") else {
-        return;
-    };
-    let Ok(mut session) = Session::open(rt.alloc(), &bytes) else {
-        return;
-    };
-    let edit = Edit::Insert {
-        hdu: 2,
-        place: 2,
-        card: card_of("COMMENT x"),
-    };
-    for _ in 0..2 {
-        let why = session.edit(edit).err();
-        assert!(rt; why == Some(Refusal::Memory) || why == Some(Refusal::Shape));
+fn refused_memory_at_an_edit(rt: HostRuntime) {
+    for text in EDITS {
+        let _ = check_edit(&rt, *text);
     }
-    if let Ok(mut fresh) = Session::open(rt.alloc(), &bytes) {
-        let _ = same_answers(&rt, &mut session, &mut fresh);
+}
+
+#[test]
+fn refused_memory_at_a_line(rt: HostRuntime) {
+    for _ in 0..2 {
+        match parse_line(rt.alloc(), b"set 1 KEY 'it''s' / c") {
+            Ok(command) => assert!(rt; matches!(command, Command::Edit(Edit::Set { .. }))),
+            Err(fault) => assert_eq!(rt; fault, LineFault::Memory),
+        }
+        // a line without a reading, and one that sets nothing, need none
+        for (line, is_bad) in [("set 1 KEY 'open", true), ("put 1 4 X", false)] {
+            let fault = parse_line(rt.alloc(), line.as_bytes()).err();
+            assert_eq!(rt; fault, if is_bad { Some(LineFault::Bad) } else { None });
+        }
     }
 }
 
@@ -336,7 +420,7 @@ fn refused_memory_at_saving(rt: HostRuntime) {
     assert!(rt; sink.into_inner().bytes.as_slice() == bytes.as_slice());
 }
 
-// Whether a run prints and saves this, or ends by want of memory, prints a front and saves nothing.
+// Whether a run prints and saves this, or ends out of memory, prints a prefix and saves nothing.
 fn check_ended<R: Abort>(rt: &R, ran: &Ran, answers: &str, status: u8, saved: &[u8]) {
     if ran.end.fault == Some(Fault::Memory) {
         assert_eq!(rt; ran.end.status, 3);

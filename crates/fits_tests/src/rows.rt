@@ -11,8 +11,8 @@ use std::alloc::{AllocError, Global};
 use std::process::Abort;
 use std::test::Fail;
 
-// Whether a script over a file prints this, ends with this status, and saves this.
-fn check_run<R: Abort + AllocGlobal>(
+/// Whether a script over a file prints this, ends with this status, and saves this.
+pub fn check_run<R: Abort + AllocGlobal>(
     rt: &R,
     file: &[u8],
     script: &str,
@@ -79,8 +79,8 @@ const SHORTEST: &[(&str, &str, u8)] = &[
     ("ins 1 1 END", "line 1: refused 5 EndCard\n", 1),
     ("frob", "line 1: not a command\n", 1),
     (
-        "put 1 4 X\npos 1 KEY\nrep\nfrob\n",
-        "line 1: not a command\nline 2: not a command\nline 3: not a command\nline 4: not a command\n",
+        "rep\nstat 1\nfrob\n",
+        "line 1: not a command\nline 2: not a command\nline 3: not a command\n",
         1,
     ),
     (

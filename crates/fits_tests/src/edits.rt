@@ -1,0 +1,255 @@
+//! Edits of cards by scripts: what they print, and the cards that are saved.
+
+use crate::builders::{P0, hdu_of};
+use crate::rows::check_run;
+use std::alloc::{AllocError, Global};
+use std::test::Fail;
+
+/// A script over the shortest file that changes nothing: its answers.
+const REFUSED: &[(&str, &str)] = &[
+    // the first test that fails
+    ("put 2 9 X\t", "line 1: refused 1 NoHdu\n"),
+    ("put 0 1 X", "line 1: refused 1 NoHdu\n"),
+    ("put 1 0 X\t", "line 1: refused 2 NoCard\n"),
+    ("put 1 4 X", "line 1: refused 2 NoCard\n"),
+    ("put 1 3 END     \t", "line 1: refused 4 BadText\n"),
+    ("put 1 3 END", "line 1: refused 5 EndCard\n"),
+    ("put 1 3 NAXIS   = 1", "line 1: refused 6 Shape\n"),
+    ("put 1 1 COMMENT", "line 1: refused 6 Shape\n"),
+    ("put 1 2", "line 1: refused 6 Shape\n"),
+    ("del 2 9", "line 1: refused 1 NoHdu\n"),
+    ("del 1 0", "line 1: refused 2 NoCard\n"),
+    ("del 1 4", "line 1: refused 2 NoCard\n"),
+    ("del 1 1", "line 1: refused 6 Shape\n"),
+    ("del 1 3", "line 1: refused 6 Shape\n"),
+    ("mov 0 1 1", "line 1: refused 1 NoHdu\n"),
+    ("mov 1 0 1", "line 1: refused 2 NoCard\n"),
+    ("mov 1 1 0", "line 1: refused 2 NoCard\n"),
+    ("mov 1 4 1", "line 1: refused 2 NoCard\n"),
+    ("mov 1 1 4", "line 1: refused 2 NoCard\n"),
+    ("mov 1 1 2", "line 1: refused 6 Shape\n"),
+    ("set 2 key 'a&'", "line 1: refused 1 NoHdu\n"),
+    ("set 1 key 'a&'", "line 1: refused 7 BadName\n"),
+    ("set 1 K.Y 5", "line 1: refused 7 BadName\n"),
+    ("set 1 KEY=5", "line 1: refused 7 BadName\n"),
+    ("set 1 COMMENT 'x'", "line 1: refused 7 BadName\n"),
+    ("set 1 HISTORY 'x'", "line 1: refused 7 BadName\n"),
+    ("set 1 CONTINUE 'x'", "line 1: refused 7 BadName\n"),
+    ("set 1 END", "line 1: refused 7 BadName\n"),
+    ("set 1 NAXIS 'a&'", "line 1: refused 8 BadValue\n"),
+    ("set 1 NAXIS 1", "line 1: refused 6 Shape\n"),
+    ("set 1 NAXIS", "line 1: refused 6 Shape\n"),
+    ("set 1 BITPIX 16", "line 1: refused 6 Shape\n"),
+    ("unset 2 key", "line 1: refused 1 NoHdu\n"),
+    ("unset 1 key", "line 1: refused 7 BadName\n"),
+    ("unset 1 KEY", "line 1: refused 3 NoKey\n"),
+    ("unset 1 COMMENT", "line 1: refused 3 NoKey\n"),
+    ("unset 1 CONTINUE", "line 1: refused 3 NoKey\n"),
+    ("unset 1 END", "line 1: refused 3 NoKey\n"),
+    ("unset 1 NAXIS", "line 1: refused 6 Shape\n"),
+    ("pos 2 NAXIS", "line 1: refused 1 NoHdu\n"),
+    ("pos 1 KEY", "line 1: refused 3 NoKey\n"),
+    ("pos 1 key", "line 1: refused 3 NoKey\n"),
+    ("pos 1 END", "line 1: refused 3 NoKey\n"),
+    (
+        "set 1 KEY 'ab&'\nget 1 KEY\nfrob\n",
+        "line 1: refused 8 BadValue\nline 2: refused 3 NoKey\nline 3: not a command\n",
+    ),
+];
+
+#[test]
+fn a_refused_edit_leaves_the_file(rt: HostRuntime) -> Result<(), Fail> {
+    let file = hdu_of(rt.alloc(), P0, 0)?;
+    for (script, answers) in REFUSED {
+        check_run(&rt, &file, script, answers, 1, &file)?;
+    }
+    Ok(())
+}
+
+/// The cards of a file and how many blocks of data it has; a script, its answers, the status, and the cards that are
+/// saved.
+const EDITED: &[(&str, usize, &str, &str, u8, &str)] = &[
+    // a value and its comment; without a comment the old one goes
+    (
+        "SIMPLE|BITPIX  = 8|NAXIS   = 0|END",
+        0,
+        "set 1 KEY 5 / c\nget 1 KEY",
+        "integer 5 / c\n",
+        0,
+        "SIMPLE|BITPIX  = 8|NAXIS   = 0|KEY     =                    5 / c|END",
+    ),
+    (
+        "SIMPLE|BITPIX  = 8|NAXIS   = 0|KEY     =                    5 / c|END",
+        0,
+        "set 1 KEY\nget 1 KEY",
+        "undefined\n",
+        0,
+        "SIMPLE|BITPIX  = 8|NAXIS   = 0|KEY     =|END",
+    ),
+    (
+        "SIMPLE|BITPIX  = 8|NAXIS   = 0|KEY     =|END",
+        0,
+        "unset 1 KEY\nunset 1 KEY\nset 1 CONTINUE 'x'",
+        "line 2: refused 3 NoKey\nline 3: refused 7 BadName\n",
+        1,
+        "SIMPLE|BITPIX  = 8|NAXIS   = 0|END",
+    ),
+    // a string over cards, its first card replaced and put back
+    (
+        "SIMPLE|BITPIX  = 8|NAXIS   = 0|END",
+        0,
+        "set 1 KEY 'aaaaaaaaaaaaaaaaaaaaaaaaaaaaaaaaaaaaaaaaaaaaaaaaaaaaaaaaaaaaaaaaaa''bbbbbbbbbbbbbbbbbbbbbbbbbbbbbbbbbbbbbbbbbbbbbbbbbbbbbbbbbbbbbbbbbbbbbbbbb'",
+        "",
+        0,
+        "SIMPLE|BITPIX  = 8|NAXIS   = 0|KEY     = 'aaaaaaaaaaaaaaaaaaaaaaaaaaaaaaaaaaaaaaaaaaaaaaaaaaaaaaaaaaaaaaaaaa&'|CONTINUE  '''bbbbbbbbbbbbbbbbbbbbbbbbbbbbbbbbbbbbbbbbbbbbbbbbbbbbbbbbbbbbbbbbb&'|CONTINUE  'bbbbbbbb'|END",
+    ),
+    (
+        "SIMPLE|BITPIX  = 8|NAXIS   = 0|KEY     = 'aaaaaaaaaaaaaaaaaaaaaaaaaaaaaaaaaaaaaaaaaaaaaaaaaaaaaaaaaaaaaaaaaa&'|CONTINUE  '''bbbbbbbbbbbbbbbbbbbbbbbbbbbbbbbbbbbbbbbbbbbbbbbbbbbbbbbbbbbbbbbbb&'|CONTINUE  'bbbbbbbb'|END",
+        0,
+        "put 1 4 KEY     = 'x'\nget 1 KEY\nput 1 4 KEY     = 'aaaaaaaaaaaaaaaaaaaaaaaaaaaaaaaaaaaaaaaaaaaaaaaaaaaaaaaaaaaaaaaaaa&'\nget 1 KEY\npos 1 CONTINUE",
+        "string 'x'\nstring 'aaaaaaaaaaaaaaaaaaaaaaaaaaaaaaaaaaaaaaaaaaaaaaaaaaaaaaaaaaaaaaaaaa''bbbbbbbbbbbbbbbbbbbbbbbbbbbbbbbbbbbbbbbbbbbbbbbbbbbbbbbbbbbbbbbbbbbbbbbbb'\n5 6\n",
+        0,
+        "SIMPLE|BITPIX  = 8|NAXIS   = 0|KEY     = 'aaaaaaaaaaaaaaaaaaaaaaaaaaaaaaaaaaaaaaaaaaaaaaaaaaaaaaaaaaaaaaaaaa&'|CONTINUE  '''bbbbbbbbbbbbbbbbbbbbbbbbbbbbbbbbbbbbbbbbbbbbbbbbbbbbbbbbbbbbbbbbb&'|CONTINUE  'bbbbbbbb'|END",
+    ),
+    // a shorter value takes the links of the old one along, and no other CONTINUE card
+    (
+        "SIMPLE|BITPIX  = 8|NAXIS   = 0|KEY     = 'a&'|CONTINUE  'b&'|CONTINUE  'c'|CONTINUE  'd'|X|END",
+        0,
+        "set 1 KEY 1\nget 1 KEY",
+        "integer 1\n",
+        0,
+        "SIMPLE|BITPIX  = 8|NAXIS   = 0|KEY     =                    1|CONTINUE  'd'|X|END",
+    ),
+    (
+        "SIMPLE|BITPIX  = 8|NAXIS   = 0|KEY     = 'a&'|CONTINUE  'b&'|CONTINUE  'c'|CONTINUE  'd'|X|END",
+        0,
+        "unset 1 KEY",
+        "",
+        0,
+        "SIMPLE|BITPIX  = 8|NAXIS   = 0|CONTINUE  'd'|X|END",
+    ),
+    // the mandatory cards may be written anew where they say the same
+    (
+        "SIMPLE|BITPIX  =                   16|NAXIS   =                    1|NAXIS1  =                    3|END",
+        1,
+        "ins 1 5 END\nput 1 4 NAXIS1  =                    4\nput 1 4 NAXIS1  = 3",
+        "line 1: refused 5 EndCard\nline 2: refused 6 Shape\n",
+        1,
+        "SIMPLE|BITPIX  =                   16|NAXIS   =                    1|NAXIS1  = 3|END",
+    ),
+    (
+        "SIMPLE  = T|BITPIX  = 8|NAXIS   = 0|END",
+        0,
+        "set 1 NAXIS 0 / c\nset 1 BITPIX 8\nset 1 SIMPLE F",
+        "",
+        0,
+        "SIMPLE  =                    F|BITPIX  =                    8|NAXIS   =                    0 / c|END",
+    ),
+    // cards move, and a new one stands among them
+    (
+        P0,
+        0,
+        "set 1 OBJECT 'a'\nset 1 ORIGIN 'b'\nmov 1 4 5\nins 1 4 COMMENT\npos 1 OBJECT\nmov 1 1 2\nset 1 SIMPLE F",
+        "6\nline 6: refused 6 Shape\n",
+        1,
+        "SIMPLE  =                    F|BITPIX  =                    8|NAXIS   =                    0|COMMENT|ORIGIN  = 'b       '|OBJECT  = 'a       '|END",
+    ),
+    // the place is counted when the card is out
+    (
+        "SIMPLE|BITPIX  = 8|NAXIS   = 0|A|B|C|D|END",
+        0,
+        "mov 1 4 6\nmov 1 7 5",
+        "",
+        0,
+        "SIMPLE|BITPIX  = 8|NAXIS   = 0|B|D|C|A|END",
+    ),
+    (
+        "SIMPLE|BITPIX  = 8|NAXIS   = 0|A|B|C|D|END",
+        0,
+        "del 1 5\ndel 1 6\nput 1 4 X",
+        "",
+        0,
+        "SIMPLE|BITPIX  = 8|NAXIS   = 0|X|C|END",
+    ),
+    // cards without a value are none of a keyword, but have places
+    (
+        "SIMPLE|BITPIX  = 8|NAXIS   = 0|KEY       1|KEY     =2|END",
+        0,
+        "set 1 KEY 5\npos 1 KEY\nunset 1 KEY\nunset 1 KEY\npos 1 KEY",
+        "4 5 6\nline 4: refused 3 NoKey\n4 5\n",
+        1,
+        "SIMPLE|BITPIX  = 8|NAXIS   = 0|KEY       1|KEY     =2|END",
+    ),
+    // of a repeated keyword the first card is meant
+    (
+        "SIMPLE|BITPIX  = 8|NAXIS   = 0|KEY     = 1|KEY     = 2|END",
+        0,
+        "set 1 KEY 3\nunset 1 KEY\nget 1 KEY",
+        "integer 2\n",
+        0,
+        "SIMPLE|BITPIX  = 8|NAXIS   = 0|KEY     = 2|END",
+    ),
+    // no edit mends its neighbours: a card in a string parts it, and without the card it is whole again
+    (
+        "SIMPLE|BITPIX  = 8|NAXIS   = 0|KEY     = 'a&'|CONTINUE  'b'|END",
+        0,
+        "ins 1 5 COMMENT\nget 1 KEY\ndel 1 5\nget 1 KEY",
+        "string 'a&'\nstring 'ab'\n",
+        0,
+        "SIMPLE|BITPIX  = 8|NAXIS   = 0|KEY     = 'a&'|CONTINUE  'b'|END",
+    ),
+    // an edit without effect makes the fill spaces
+    (
+        "SIMPLE|BITPIX  = 8|NAXIS   = 0|X|END     / the end|fill",
+        0,
+        "mov 1 4 4",
+        "",
+        0,
+        "SIMPLE|BITPIX  = 8|NAXIS   = 0|X|END     / the end",
+    ),
+    // GROUPS counts where NAXIS1 is 0, PCOUNT only in random groups
+    (
+        "SIMPLE|BITPIX  = 8|NAXIS   = 2|NAXIS1  = 0|NAXIS2  = 0|END",
+        0,
+        "set 1 GROUPS T\nset 1 GROUPS F\nset 1 PCOUNT 7",
+        "line 1: refused 6 Shape\n",
+        1,
+        "SIMPLE|BITPIX  = 8|NAXIS   = 2|NAXIS1  = 0|NAXIS2  = 0|GROUPS  =                    F|PCOUNT  =                    7|END",
+    ),
+];
+
+#[test]
+fn edits_change_the_cards_of_a_file(rt: HostRuntime) -> Result<(), Fail> {
+    for (cards, blocks, script, answers, status, saved) in EDITED {
+        let file = hdu_of(rt.alloc(), cards, *blocks)?;
+        let saved = hdu_of(rt.alloc(), saved, *blocks)?;
+        check_run(&rt, &file, script, answers, *status, &saved)?;
+    }
+    Ok(())
+}
+
+/// How many characters the longest string has that is set and asked for.
+const LONGEST: usize = 300;
+
+#[test]
+fn a_string_of_any_length_is_read_back(rt: HostRuntime) -> Result<(), Fail> {
+    let file = hdu_of(rt.alloc(), P0, 0)?;
+    for len in 0..=LONGEST {
+        let text = spelled(rt.alloc(), len)?;
+        let script = format!(in rt.alloc();
+            "set 1 KEY '{text}' \nget 1 KEY\nunset 1 KEY\npos 1 KEY\n"
+        )?;
+        let answers = format!(in rt.alloc(); "string '{text}'\nline 4: refused 3 NoKey\n")?;
+        check_run(&rt, &file, script.as_str(), answers.as_str(), 1, &file)?;
+    }
+    Ok(())
+}
+
+// So many characters, each seventh a quote that stands twice.
+fn spelled(alloc: Global, len: usize) -> Result<String, AllocError> {
+    let mut text = String::new(alloc);
+    for i in 0..len {
+        text.push_str(if i % 7 == 6 { "''" } else { "x" })?;
+    }
+    Ok(text)
+}

@@ -1,0 +1,135 @@
+//! What the index of a header's keywords answers, at once and after changes of the cards.
+ghost use Rattle.std.specs.Prelude.{◌≡◌, ◌≤◌, length};
+
+use crate::builders::ChangeText::{self, Move, Splice};
+use crate::builders::{P0, change_of, hdu_of, header_of, name_of};
+use fits_card::Change;
+use fits_header::KeyIndex;
+use fits_session::{Refusal, Session};
+use std::alloc::Global;
+use std::process::Abort;
+use std::test::Fail;
+
+/// Eight cards.
+const CARDS: &str =
+    "SIMPLE  = T|BITPIX  = 8|NAXIS   = 0|KEY|COMMENT = 1|KEY     = 1|COMMENT|KEY     = 2|END";
+
+/// A name, the places of its cards, and that of its lead.
+type Places<'a> = (&'a str, &'a [usize], Option<usize>);
+
+/// At once.
+const PLACES: &[Places<'static>] = &[
+    ("KEY     ", &[4, 6, 8], Some(6)),
+    ("COMMENT ", &[5, 7], None),
+    ("SIMPLE  ", &[1], Some(1)),
+    ("KEYS    ", &[], None),
+    ("key     ", &[], None),
+];
+
+/// A change of the cards, and a name after it.
+const CHANGED: &[(ChangeText<'static>, Places<'static>)] = &[
+    (Splice(6, 0, "HISTORY"), ("KEY     ", &[4, 7, 9], Some(7))),
+    (Splice(4, 3, ""), ("KEY     ", &[5], Some(5))),
+    (
+        Splice(4, 1, "KEY     = 0|KEY"),
+        ("KEY     ", &[4, 5, 7, 9], Some(4)),
+    ),
+    (Splice(9, 0, "A       = 1"), ("A       ", &[9], Some(9))),
+    (Move(8, 4), ("KEY     ", &[4, 5, 7], Some(4))),
+    (Move(4, 8), ("KEY     ", &[5, 7, 8], Some(5))),
+    (Move(5, 5), ("COMMENT ", &[5, 7], None)),
+];
+
+/// Whether an index answers what is wanted.
+fn check_places<R: Abort>(
+    rt: &R,
+    alloc: Global,
+    index: &KeyIndex,
+    wanted: &Places<'_>,
+) -> Result<(), Fail> {
+    let (name, places, lead) = wanted;
+    let found = index.positions(alloc, &name_of(name))?;
+    assert_eq!(rt; found.as_slice(), *places, "{name}");
+    assert_eq!(rt; index.lead(&name_of(name)), *lead, "{name}");
+    Ok(())
+}
+
+#[test]
+fn a_name_has_the_places_of_its_cards(rt: HostRuntime) -> Result<(), Fail> {
+    let mut header = header_of(rt.alloc(), CARDS)?;
+    let index = KeyIndex::open(rt.alloc(), &mut header)?;
+    for wanted in PLACES {
+        check_places(&rt, rt.alloc(), &index, wanted)?;
+    }
+    Ok(())
+}
+
+/// Makes a change of so many cards that an index stands for, if its places are among them.
+fn change_index(index: &mut KeyIndex, count: usize, change: &Change)
+    requires count { length index.old.keys ≡ count }
+    requires room { 2 ≤ index.old.room }
+{
+    match change {
+        Change::Splice {
+            place,
+            removed,
+            cards,
+        } => {
+            let cards = cards.as_slice();
+            if 1 <= *place && *place - 1 <= count && *removed <= count - (*place - 1) {
+                if cards.len() <= 2 {
+                    index.splice(*place, *removed, cards);
+                }
+            }
+        }
+        Change::Move { from, to } => {
+            if 1 <= *from && *from <= count && 1 <= *to && *to <= count {
+                index.move_place(*from, *to);
+            }
+        }
+    }
+}
+
+#[test]
+fn an_index_stays_that_of_the_changed_cards(rt: HostRuntime) -> Result<(), Fail> {
+    for (change, wanted) in CHANGED {
+        let mut header = header_of(rt.alloc(), CARDS)?;
+        let count = header.len();
+        let mut index = KeyIndex::open(rt.alloc(), &mut header)?;
+        index.reserve(2)?;
+        change_index(&mut index, count, &change_of(rt.alloc(), *change)?);
+        check_places(&rt, rt.alloc(), &index, wanted)?;
+    }
+    Ok(())
+}
+
+/// The cards of a header, and their names.
+const NAMES: &[(&str, &[&str])] = &[
+    (
+        CARDS,
+        &["BITPIX  ", "COMMENT ", "KEY     ", "NAXIS   ", "SIMPLE  "],
+    ),
+    (P0, &["BITPIX  ", "NAXIS   ", "SIMPLE  "]),
+    (
+        "SIMPLE|BITPIX  = 8|NAXIS   = 0|b| |B|AB|A|A|END",
+        &[
+            "        ", "A       ", "AB      ", "B       ", "BITPIX  ", "NAXIS   ", "SIMPLE  ",
+            "b       ",
+        ],
+    ),
+];
+
+#[test]
+fn a_header_has_each_name_once_ascending(rt: HostRuntime) -> Result<(), Fail> {
+    for (cards, wanted) in NAMES {
+        let bytes = hdu_of(rt.alloc(), cards, 0)?;
+        let mut session = Session::open(rt.alloc(), &bytes)?;
+        let names = session.names(1)?;
+        assert_eq!(rt; names.len(), wanted.len());
+        for (name, text) in names.iter().zip(wanted.iter()) {
+            assert_eq!(rt; *name, name_of(text));
+        }
+        assert_eq!(rt; session.names(2).err(), Some(Refusal::NoHdu));
+    }
+    Ok(())
+}

@@ -1,0 +1,121 @@
+//! Files that come from a source: they open as their bytes do, however the source gives them.
+
+use crate::builders::{FileText, P0, PIXEL, file_of};
+use crate::planned::{Plan, SMOOTH, reader};
+use fits_session::{OpenFault, ReadFileFault, Session, read_outlines};
+use std::process::Abort;
+use std::test::Fail;
+
+/// A file of three HDUs and a tail.
+const FILE: FileText<'static> = (&[(P0, 0), (PIXEL, 1), (PIXEL, 1)], "trailer");
+
+/// The fault of each prefix of it, from a length through another.
+const PREFIXES: &[(usize, usize, Option<OpenFault>)] = &[
+    (0, 7, Some(OpenFault::NotFits)),
+    (8, 2879, Some(OpenFault::NoEnd { hdu: 1 })),
+    (2880, 2887, None),
+    (2888, 5759, Some(OpenFault::NoEnd { hdu: 2 })),
+    (5760, 8639, Some(OpenFault::ShortData { hdu: 2 })),
+    (8640, 8647, None),
+    (8648, 11_519, Some(OpenFault::NoEnd { hdu: 3 })),
+    (11_520, 14_399, Some(OpenFault::ShortData { hdu: 3 })),
+    (14_400, 14_407, None),
+];
+
+// Whether a source of these bytes ends so, with its data kept and without.
+fn reads_to<R: Abort + AllocGlobal>(
+    rt: &R,
+    bytes: &[u8],
+    plan: Plan,
+    fault: Option<ReadFileFault>,
+    place: usize,
+) {
+    let kept = Session::read(rt.alloc(), &mut reader(bytes, plan)).err();
+    assert_eq!(rt; kept, fault, "at {place}");
+    let outlined = read_outlines(rt.alloc(), &mut reader(bytes, plan)).err();
+    assert_eq!(rt; outlined, fault, "at {place}, outlined");
+}
+
+#[test]
+fn each_prefix_of_a_file_has_its_fault(rt: HostRuntime) -> Result<(), Fail> {
+    let bytes = file_of(rt.alloc(), FILE)?;
+    for (least, most, fault) in PREFIXES {
+        for len in *least..=*most {
+            let (front, _) = bytes.split_at(len.min(bytes.len()));
+            reads_to(&rt, front, SMOOTH, fault.map(ReadFileFault::Open), len);
+        }
+    }
+    Ok(())
+}
+
+/// Where the headers stand, with their fill.
+const HEADERS: &[(usize, usize)] = &[(0, 2880), (2880, 5760), (8640, 11_520)];
+
+#[test]
+fn a_changed_byte_of_a_header_reads_as_it_opens(rt: HostRuntime) -> Result<(), Fail> {
+    let mut bytes = file_of(rt.alloc(), FILE)?;
+    for (start, end) in HEADERS {
+        for place in *start..*end {
+            let before = change(&mut bytes, place, b'?');
+            let fault = Session::open(rt.alloc(), &bytes).err();
+            reads_to(&rt, &bytes, SMOOTH, fault.map(ReadFileFault::Open), place);
+            change(&mut bytes, place, before);
+        }
+    }
+    Ok(())
+}
+
+// Puts a byte at a place, and gives the one that stood there.
+fn change(bytes: &mut [u8], place: usize, byte: u8) -> u8 {
+    match bytes.get_mut(place) {
+        Some(here) => {
+            let before = *here;
+            *here = byte;
+            before
+        }
+        None => 0,
+    }
+}
+
+#[test]
+fn a_call_may_give_few_bytes(rt: HostRuntime) -> Result<(), Fail> {
+    let bytes = file_of(rt.alloc(), FILE)?;
+    for step in [1usize, 7, 2879, 2880, 2881] {
+        let plan = Plan { step, failing: 0 };
+        reads_to(&rt, &bytes, plan, None, step);
+    }
+    // a source that gives nothing has no bytes
+    let plan = Plan {
+        step: 0,
+        failing: 0,
+    };
+    reads_to(
+        &rt,
+        &bytes,
+        plan,
+        Some(ReadFileFault::Open(OpenFault::NotFits)),
+        0,
+    );
+    Ok(())
+}
+
+#[test]
+fn a_failed_call_comes_before_any_fault_of_the_bytes(rt: HostRuntime) -> Result<(), Fail> {
+    let bytes = file_of(rt.alloc(), FILE)?;
+    for (_, len, _) in PREFIXES {
+        let (front, _) = bytes.split_at((*len).min(bytes.len()));
+        let mut whole = reader(front, SMOOTH);
+        let _ = Session::read(rt.alloc(), &mut whole);
+        let calls = whole.into_inner().calls;
+        for failing in 1..=calls {
+            let plan = Plan { failing, ..SMOOTH };
+            let fault = Session::read(rt.alloc(), &mut reader(front, plan)).err();
+            assert_eq!(rt;
+                fault,
+                Some(ReadFileFault::Failed),
+                "{len} bytes, call {failing}"
+            );
+        }
+    }
+    Ok(())
+}
