@@ -21,6 +21,7 @@ pub pushed : (start cards next : List (List ℕ)) (card : List ℕ) (f : List �
 pushed start cards next card f k e p q =
     p ∙ ap (λ t. t ++ card ∷ []) e ∙ append_assoc start (pieces f k) (card ∷ []) ∙ ap (λ t. start ++ t) (pieces-more f k (pieces f k) card refl q)
 
+-- no card is pushed yet
 pub pushed_none : (start : List (List ℕ)) (f : List ℕ) → start ≡ start ++ pieces f 0
 pushed_none start f = sym (append-nil start)
 
@@ -55,10 +56,12 @@ blocks_none cards before a left none = rw none (takes_after_none before a left)
 block_cards : (block : List ℕ) (n : ℕ) → length block ≡ 80 * n → joined_cards (pieces block n) ≡ block
 block_cards block n size = joined-pieces block n ∙ take_all (80 * n) block (omega (arith, size))
 
+-- inner cards stay so when those of a block without END are pushed
 pub inner_more : (cards new : List (List ℕ)) (block : List ℕ) (n : ℕ) → All IsInnerCard cards → 80 * n ≤ length block → HasNoEnd block → new ≡ cards ++ pieces block n → All IsInnerCard new
 inner_more cards new block n inner size none is =
     rw is (All-append IsInnerCard cards (pieces block n) inner (inner-pieces block n size (λ j l. none j (omega (arith, l, size)))))
 
+-- and so many more cards are there
 pub length-more : (cards new : List (List ℕ)) (block : List ℕ) (n : ℕ) → new ≡ cards ++ pieces block n → length new ≡ length cards + n
 length-more cards new block n is = ap length is ∙ length-append cards (pieces block n) ∙ ap (λ k. length cards + k) (length-map-range_with_len (piece block) 0 n)
 
@@ -103,6 +106,7 @@ pub stops_by_read : (before : List ℕ) (a b : Option (List ℕ)) (left left' f 
 stops_by_read before a b left left' f g read.Memory m q = m refl
 stops_by_read before a b left left' f g read.Failed m q = q refl
 
+-- no cards are all inner ones
 pub no_cards : (cards : List (List ℕ)) → cards ≡ [] → All IsInnerCard cards
 no_cards cards none = rw none (All-nil IsInnerCard)
 

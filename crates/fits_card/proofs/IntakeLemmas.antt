@@ -33,6 +33,7 @@ consumes_after_more before a b c bytes piece p q = record {
 pub takes_here : (a b : Option (List ℕ)) (left left' : ℕ) (bytes : List ℕ) → ConsumesAfter [] a b bytes → left ≡ left' + length bytes → Takes a b left left' bytes
 takes_here a b left left' bytes p e = record { gone = rw p.joined p.gone; count = e }
 
+-- bytes taken after others, by the count of all
 pub takes_after_here : (before : List ℕ) (a b : Option (List ℕ)) (left left' : ℕ) (bytes : List ℕ) → ConsumesAfter before a b bytes → left + length before ≡ left' + length bytes → TakesAfter before a b left left' bytes
 takes_after_here before a b left left' bytes p e = record {
   more = p.more;

@@ -44,6 +44,7 @@ takes_before a b c left left' left'' start before bytes p q =
 length-take-within : (n : ℕ) (xs : List ℕ) → length (take n xs) ≤ n
 length-take-within n xs = elim (cases_lt n (length xs)) [ inl l ↦ omega (arith, length-take-le n xs (omega arith)) | inr le ↦ rw (take_all n xs le) le ]
 
+-- no more bytes are in sight than may be taken
 pub sight_within : (a : Option (List ℕ)) (left : ℕ) (s : List ℕ) → IsInSight a left s → length s ≤ left
 sight_within None left s p = p
 sight_within (Some xs) left s p = omega (arith, ap length p, length-take-within left xs)
@@ -104,6 +105,7 @@ finds_after_begun P before a b left left' bytes p q =
     finds_begun (λ s. P (before ++ s)) a b left left' p.more p.taken
     (λ s le. subst P (ap (λ t. t ++ s) p.joined ∙ append_assoc before p.more s) (q s le))
 
+-- a fact of bytes after which nothing is left is one of all in sight
 pub finds_after_spent : (P : List ℕ → Type 0) (before : List ℕ) (a b : Option (List ℕ)) (left left' : ℕ) (bytes : List ℕ) → TakesAfter before a b left left' bytes → IsSpent b left' → P bytes → Finds a b left left' (λ s. P (before ++ s))
 finds_after_spent P before a b left left' bytes p spent q =
     finds_spent (λ s. P (before ++ s)) a b left left' p.more p.taken spent (subst P p.joined q)
@@ -143,6 +145,7 @@ pub within_limit : (a : Option (List ℕ)) (left : ℕ) → IfSome a (λ xs. IsT
 within_limit None left p = tt
 within_limit (Some xs) left p = elim (cases_lt left (length xs)) [ inl over ↦ absurd (let no : false ≡ true = p.1 over in cc) | inr le ↦ le ]
 
+-- a source has more than may be taken
 pub past_limit : (a : Option (List ℕ)) (left : ℕ) → IfSome a (λ xs. IsTrue true ↔ (left < length xs)) → IfSome a (λ xs. left < length xs)
 past_limit None left p = tt
 past_limit (Some xs) left p = p.0 refl

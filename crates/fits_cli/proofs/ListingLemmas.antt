@@ -100,6 +100,7 @@ lines-append n start (x ∷ xs) ys =
     ∙ ap (λ m. outlined_lines (n + 1) next xs ++ outlined_lines (n + length (x ∷ xs)) m ys) end)
     ∙ sym (append_assoc line (outlined_lines (n + 1) next xs) (outlined_lines (n + length (x ∷ xs)) (start + outlined_len (x ∷ xs)) ys))
 
+-- the length of outlines one after another
 len-append : (xs ys : List Outline) → outlined_len (xs ++ ys) ≡ outlined_len xs + outlined_len ys
 len-append [] ys = omega arith
 len-append (x ∷ xs) ys = omega (arith, len-append xs ys)
@@ -121,6 +122,7 @@ lines-more outlines i start it line l e at is =
     ∙ ap (λ n. outlined_lines 1 0 (take i outlines) ++ outlined_lines (i + 1) n (it ∷ [])) (sym at)
     ∙ ap (λ t. outlined_lines 1 0 (take i outlines) ++ t) (append-nil (hdu_line (i + 1) it.card_count (outlined_offsets start it) it.shape) ∙ sym is)
 
+-- and with one outline more
 pub len-more : (outlines : List Outline) (i start : ℕ) (it : Outline) → i < length outlines → it ≡ get_or outlines i it → start ≡ outlined_len (take i outlines) → start + it.header_len + it.data_len ≡ outlined_len (take (i + 1) outlines)
 len-more outlines i start it l e at =
     omega (arith, at, ap outlined_len (take_more outlines i it l ∙ ap (λ x. take i outlines ++ x ∷ []) (sym e)), len-append (take i outlines) (it ∷ []))

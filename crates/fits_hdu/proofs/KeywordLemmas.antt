@@ -110,6 +110,7 @@ by_lead cards name (Some place) at lead e =
     let bound : place + (1 + link_count cards place) ≤ length cards + 1 = omega (arith, chain_within cards place, lead_from cards name place lead, lead_to cards name place lead) in
     subst (λ (found : KeywordCards). (1 ≤ found.place) × (found.place + found.count ≤ length cards + 1)) same (lead_from cards name place lead, bound)
 
+-- the cards of a keyword lie among the cards
 pub keyword_within : (cards : List (List ℕ)) (name : List ℕ) (at : KeywordCards) → keyword_cards cards name ≡ Some at → (1 ≤ at.place) × (at.place + at.count ≤ length cards + 1)
 keyword_within cards name at e = by_lead cards name (lead_place cards name) at refl e
 

@@ -72,6 +72,7 @@ pub hdu_taken : (before : List ℕ) (a b c : Option (List ℕ)) (left left' left
     → TakesAfter before a c left left'' (hdu_bytes (record { header = header; data_unit = unit }))
 hdu_taken before a b c left left' left'' header unit p q = takes_after_more before a b c left left' left'' (header_bytes header) unit p q
 
+-- a header, and data as long as it describes, are an HDU
 pub hdu_whole : (primary : Bool) (header : Header) (shape : Shape) (unit : List ℕ) → IsHeader header → shape_of primary header.cards ≡ Ok shape → length unit ≡ data_length shape
     → IsHdu primary (record { header = header; data_unit = unit })
 hdu_whole primary header shape unit whole described size = record { shape = shape; header = whole; described = described; size = size }

@@ -19,6 +19,7 @@ use Rattle.fits_header.proofs.NumberLemmas.{same-number}
 abbrev pub AreNamed : List (List ℕ) → Type 0
 AreNamed cards = All (λ (card : List ℕ). IsName (keyword_name card)) cards
 
+-- the places of entries, with one more or not
 place_step : (b : Bool) (p : ℕ) (e : Entry) (es : List Entry) (ps : List ℕ) → e.place ≡ p → places_in es ≡ ps → places_in (cond b (e ∷ es) es) ≡ cond b (p ∷ ps) ps
 place_step true p e es ps h more = cc
 place_step false p e es ps h more = more
@@ -36,6 +37,7 @@ are_named keys cards named is k d l =
     let all : All (λ (key : Key). IsName key.name) (keys_of cards) = subst (All (λ (key : Key). IsName key.name)) is named in
     subst (λ (key : Key). IsName key.name) (get_or-map key_of cards k d (key_of d) l) (all k (key_of d) (omega (arith, length-map cards key_of)))
 
+-- an index answers the places of a name
 pub index-places : (es : List Entry) (keys : List Key) (cards : List (List ℕ)) (name : List ℕ) → IsIndexOf es keys → All (λ (key : Key). IsName key.name) keys → keys ≡ keys_of cards → IsName name
     → places_in (filter (is_named (name_number name)) es) ≡ keyword_places cards name
 index-places es keys cards name index named is h =
@@ -46,27 +48,33 @@ pos_some : (b : Bool) (k : ℕ) → cond b (Some (1 + k)) None ≡ option_map (�
 pos_some true k = ap Some (omega arith)
 pos_some false k = refl
 
+-- where the first one stands, one further
 pos_step : (b : Bool) (k n : ℕ) → cond (nat_lt (cond (not b) (1 + k) 0) (suc n)) (Some (cond (not b) (1 + k) 0)) None ≡ cond b (Some 0) (option_map (λ i. i + 1) (cond (nat_lt k n) (Some k) None))
 pos_step true k n = let t : nat_lt 0 (suc n) ≡ true = grind (arith, nat_tests) in rw t refl
 pos_step false k n = let t : nat_lt (1 + k) (suc n) ≡ nat_lt k n = grind (arith, nat_tests) in rw t (pos_some (nat_lt k n) k)
 
+-- where the first one that passes stands, by the first of a list
 position_cons : {X : Type 0} (q : X → Bool) (m : X) (ms : List X) → position q (m ∷ ms) ≡ cond (q m) (Some 0) (option_map (λ i. i + 1) (position q ms))
 position_cons q m ms = pos_step (q m) (position_or_len q ms) (length ms)
 
+-- adding in two steps
 two_maps : (p : ℕ) (o : Option ℕ) → option_map (λ i. i + (p + 1)) o ≡ option_map (λ i. i + p) (option_map (λ i. i + 1) o)
 two_maps p None = refl
 two_maps p (Some k) = ap Some (omega arith)
 
+-- the first with a value, with one entry more or not
 lead_step : (b v : Bool) (p : ℕ) (e : Entry) (es : List Entry) (o : Option ℕ) → e.has_value ≡ v → e.place ≡ p → first_value es ≡ option_map (λ i. i + (p + 1)) o
     → first_value (cond b (e ∷ es) es) ≡ option_map (λ i. i + p) (cond (b && v) (Some 0) (option_map (λ i. i + 1) o))
 lead_step true true p e es o h g r = rw (h, g) (ap Some (omega arith))
 lead_step true false p e es o h g r = rw h (r ∙ two_maps p o)
 lead_step false v p e es o h g r = r ∙ two_maps p o
 
+-- equal numbers tell that a card has the name
 value_test : (card name : List ℕ) → IsName (keyword_name card) → IsName name → ((name_number (keyword_name card) == name_number name) && has_value card) ≡ is_value_of name card
 unfolding is_value_of
 value_test card name named is = ap (λ b. b && has_value card) (sym (same-number (keyword_name card) name named is))
 
+-- the first entry with a value is the first card that is the name's
 lead_from : (p : ℕ) (cards : List (List ℕ)) (name : List ℕ) → AreNamed cards → IsName name → first_value (filter (is_named (name_number name)) (entries_from p (keys_of cards))) ≡ option_map (λ i. i + p) (position (is_value_of name) cards)
 lead_from p [] name named is = refl
 lead_from p (card ∷ cards) name named is =
@@ -75,6 +83,7 @@ lead_from p (card ∷ cards) name named is =
     ∙ (ap (λ b. option_map (λ i. i + p) (cond b (Some 0) (option_map (λ i. i + 1) (position (is_value_of name) cards)))) (value_test card name (named 0 card (omega arith)) is)
     ∙ ap (option_map (λ i. i + p)) (sym (position_cons (is_value_of name) card cards)))
 
+-- an index answers the lead of a name
 pub index-lead : (es : List Entry) (keys : List Key) (cards : List (List ℕ)) (name : List ℕ) → IsIndexOf es keys → All (λ (key : Key). IsName key.name) keys → keys ≡ keys_of cards → IsName name
     → first_value (filter (is_named (name_number name)) es) ≡ lead_place cards name
 unfolding lead_place

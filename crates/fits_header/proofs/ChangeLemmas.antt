@@ -13,6 +13,7 @@ use Rattle.fits_header.specs.Key.{key_of, keys_of}
 use Rattle.fits_header.proofs.EntriesLemmas.{same-more, same-done, entries-append, entries-low, entries-high, same-taken, is_low, is_high}
 use Rattle.fits_header.proofs.CountLemmas.{length-two}
 
+-- what holds of all with one more holds of all
 kept_all : (P : Entry → Type 0) (b : Bool) (e : Entry) (es : List Entry) → All P (cond b (e ∷ es) es) → All P es
 kept_all P true e es h = All-tail P e es h
 kept_all P false e es h = h
@@ -25,6 +26,7 @@ all_by_name P (e ∷ es) h =
     let here : All P (e ∷ filter (is_named e.name) es) = rw own at (h e.name) in
     All-cons P e es (here 0 e (omega arith)) (all_by_name P es (λ name. kept_all P (is_named name e) e (filter (is_named name) es) (h name)))
 
+-- below the next number is at most this one
 no_more : (limit n : ℕ) → n < limit + 1 → n ≤ limit
 no_more limit n h = omega arith
 
@@ -68,6 +70,7 @@ same-put es fs xs zs key place size is same name =
     sym (entries-append 1 xs (key ∷ zs) ∙ ap (λ p. before ++ (entry_of key p ∷ entries_from (p + 1) zs)) {x = 1 + length xs} {y = place} (omega arith)) in
     ap (filter (is_named name)) is ∙ (more name ∙ ap (filter (is_named name)) joined)
 
+-- the key at a place, as a list
 one_item : (keys : List Key) (place : ℕ) (key : Key) → 1 ≤ place → place ≤ length keys → key ≡ get_or keys (place - 1) key → only_item keys place ≡ key ∷ []
 one_item keys place key one within is =
     ap (take 1) (drop_more keys (place - 1) key (omega arith)) ∙ ap (λ y. y ∷ []) (sym is)

@@ -22,6 +22,7 @@ shorter : {X : Type 0} (p : X → Bool) (xs : List X) (y : X) (ys : List X) → 
 shorter p [] y ys h = absurd (cc)
 shorter p (x ∷ xs) y ys h = shorter_by p (p x) x y xs ys (shorter p xs y ys) h
 
+-- the first that passes is taken out of those that pass
 rest_by : {X : Type 0} (p : X → Bool) (b : Bool) (x y : X) (xs ys : List X) → p x ≡ b → (filter p xs ≡ y ∷ ys → filter p (without p xs) ≡ ys)
     → cond b (x ∷ filter p xs) (filter p xs) ≡ y ∷ ys → filter p (cond b xs (x ∷ without p xs)) ≡ ys
 rest_by p true x y xs ys e more h = cc
@@ -32,6 +33,7 @@ rest_passes : {X : Type 0} (p : X → Bool) (xs : List X) (y : X) (ys : List X) 
 rest_passes p [] y ys h = absurd (cc)
 rest_passes p (x ∷ xs) y ys h = rest_by p (p x) x y xs ys refl (rest_passes p xs y ys) h
 
+-- and those of another kind stay
 others_by : {X : Type 0} (p q : X → Bool) (b : Bool) (x : X) (xs : List X) → (b ≡ true → q x ≡ false) → filter q (without p xs) ≡ filter q xs
     → filter q (cond b xs (x ∷ without p xs)) ≡ cond (q x) (x ∷ filter q xs) (filter q xs)
 others_by p q true x xs apart more = rw (apart refl) refl
@@ -42,9 +44,11 @@ others_pass : {X : Type 0} (p q : X → Bool) (xs : List X) → ((x : X) → p x
 others_pass p q [] apart = refl
 others_pass p q (x ∷ xs) apart = others_by p q (p x) x xs (apart x) (others_pass p q xs apart)
 
+-- an entry has its own name
 own : (e : Entry) → is_named e.name e ≡ true
 own e = grind (arith, nat_tests)
 
+-- and no other
 other : (m n : ℕ) (x : Entry) → (n < m) ⊎ (m < n) → is_named m x ≡ true → is_named n x ≡ false
 other m n x (inl less) h = grind (arith, nat_tests)
 other m n x (inr more) h = grind (arith, nat_tests)
@@ -71,6 +75,7 @@ length-same (e ∷ es) fs same =
     let first : filter (is_named e.name) fs ≡ e ∷ filter (is_named e.name) es = sym (same e.name) ∙ rw (own e) refl in
     omega (arith, shorter (is_named e.name) fs e (filter (is_named e.name) es) first, length-same es (without (is_named e.name) fs) (less_one e es fs same))
 
+-- as many entries as keys
 pub length-entries : (p : ℕ) (keys : List Key) → length (entries_from p keys) ≡ length keys
 length-entries p [] = refl
 length-entries p (key ∷ keys) = omega (arith, length-entries (p + 1) keys)

@@ -10,49 +10,60 @@ use Rattle.fits_header.specs.Index.{added, is_named, shifted, stays, entry_of, e
 use Rattle.fits_header.proofs.FilterLemmas.{filter_all, filter_none}
 use Rattle.fits_header.proofs.IndexLemmas.{same-added, same-stay, same-shift}
 
+-- the entries of keys one after another
 pub entries-append : (p : ℕ) (xs ys : List Key) → entries_from p (xs ++ ys) ≡ entries_from p xs ++ entries_from (p + length xs) ys
 entries-append p [] ys = ap (λ k. entries_from k ys) {x = p} {y = p + length {A = Key} []} (omega arith)
 entries-append p (x ∷ xs) ys =
     ap (λ es. entry_of x p ∷ es) (entries-append (p + 1) xs ys ∙ ap (λ k. entries_from (p + 1) xs ++ entries_from k ys) {x = p + 1 + length xs} {y = p + length (x ∷ xs)} (omega arith))
 
+-- entries of places before one
 pub entries-low : (p q : ℕ) (xs : List Key) → p + length xs ≤ q → All (λ (e : Entry). e.place < q) (entries_from p xs)
 entries-low p q [] h = All-nil (λ (e : Entry). e.place < q)
 entries-low p q (x ∷ xs) h = All-cons (λ (e : Entry). e.place < q) _ (entries_from (p + 1) xs) (omega arith) (entries-low (p + 1) q xs (omega arith))
 
+-- entries of places from one on
 pub entries-high : (p q : ℕ) (xs : List Key) → q ≤ p → All (λ (e : Entry). q ≤ e.place) (entries_from p xs)
 entries-high p q [] h = All-nil (λ (e : Entry). q ≤ e.place)
 entries-high p q (x ∷ xs) h = All-cons (λ (e : Entry). q ≤ e.place) _ (entries_from (p + 1) xs) h (entries-high (p + 1) q xs (omega arith))
 
+-- an entry before the change stays
 shift_before : (place removed coming : ℕ) (e : Entry) → e.place < place → shifted place removed coming e ≡ e
 shift_before place removed coming e h =
     let t : nat_lt e.place place ≡ true = grind (arith, nat_tests) in
     rw t refl
 
+-- one behind it moves by the difference
 shift_behind : (place removed coming q : ℕ) (x : Key) (p : ℕ) → place ≤ p → removed ≤ p → q + removed ≡ p + coming → shifted place removed coming (entry_of x p) ≡ entry_of x q
 shift_behind place removed coming q x p a b h =
     let t : nat_lt p place ≡ false = grind (arith, nat_tests) in
     let e : (p - removed) + coming ≡ q = omega arith in
     rw (t, e) refl
 
+-- equal firsts and equal rests
 cons_both : {X : Type 0} (x y : X) (xs ys : List X) → x ≡ y → xs ≡ ys → x ∷ xs ≡ y ∷ ys
 cons_both x y xs ys e f = rw (e, f) refl
 
+-- entries before the change stay
 shifted_low : (place removed coming p : ℕ) (xs : List Key) → p + length xs ≤ place → map (shifted place removed coming) (entries_from p xs) ≡ entries_from p xs
 shifted_low place removed coming p [] h = refl
 shifted_low place removed coming p (x ∷ xs) h =
     cons_both _ _ _ _ (shift_before place removed coming (entry_of x p) (omega arith)) (shifted_low place removed coming (p + 1) xs (omega arith))
 
+-- those behind it move by the difference
 shifted_high : (place removed coming p q : ℕ) (xs : List Key) → place ≤ p → removed ≤ p → q + removed ≡ p + coming → map (shifted place removed coming) (entries_from p xs) ≡ entries_from q xs
 shifted_high place removed coming p q [] a b h = refl
 shifted_high place removed coming p q (x ∷ xs) a b h =
     cons_both _ _ _ _ (shift_behind place removed coming q x p a b h) (shifted_high place removed coming (p + 1) (q + 1) xs (omega arith) (omega arith) (omega arith))
 
+-- what stands before is not taken out
 stays_low : (place removed : ℕ) (e : Entry) → e.place < place → stays place removed e ≡ true
 stays_low place removed e h = grind (arith, nat_tests)
 
+-- nor what stands behind
 stays_high : (place removed : ℕ) (e : Entry) → place + removed ≤ e.place → stays place removed e ≡ true
 stays_high place removed e h = grind (arith, nat_tests)
 
+-- what stands between is
 goes : (place removed : ℕ) (e : Entry) → place ≤ e.place → e.place < place + removed → stays place removed e ≡ false
 goes place removed e h g = grind (arith, nat_tests)
 
@@ -96,12 +107,15 @@ same-taken es all place removed coming one fits same =
     (omega (arith, length-take-le (place - 1) all (omega arith))) (omega (arith, length-take removed (drop (place - 1) all), length-drop (place - 1) all)) in
     λ name. kept name ∙ ap (filter (is_named name)) (parts ∙ left)
 
+-- a test of places before one
 pub is_low : (p : ℕ) (e : Entry) → e.place < p → nat_lt e.place p ≡ true
 is_low p e h = grind (arith, nat_tests)
 
+-- and of places from it on
 pub is_high : (p : ℕ) (e : Entry) → p ≤ e.place → nat_lt e.place p ≡ false
 is_high p e h = grind (arith, nat_tests)
 
+-- at most, in two steps
 no_less : (a b c : ℕ) → a ≤ b → b ≤ c → a ≤ c
 no_less a b c h g = omega arith
 
@@ -131,6 +145,7 @@ pub same-all : (place : ℕ) (xs zs keys : List Key) → length xs + 1 ≡ place
 same-all place xs zs keys size =
     ap (λ k. entries_from 1 (xs ++ keys) ++ entries_from k zs) {x = place + length keys} {y = 1 + length (xs ++ keys)} (omega (arith, length-append xs keys)) ∙ sym (entries-append 1 (xs ++ keys) zs)
 
+-- once all new keys are in, the gap in the places is closed
 pub same-done : (es : List Entry) (place : ℕ) (xs zs keys : List Key) (index : ℕ) → length xs + 1 ≡ place → length keys ≤ index
     → AreSame es (entries_from 1 (xs ++ take index keys) ++ entries_from (place + length keys) zs) → AreSame es (entries_from 1 ((xs ++ keys) ++ zs))
 same-done es place xs zs keys index size whole same name =

@@ -9,14 +9,17 @@ pub filter_all : {X : Type 0} (p : X → Bool) (xs : List X) → All (λ x. p x 
 filter_all p [] h = refl
 filter_all p (x ∷ xs) h = rw (h 0 x (omega arith)) (ap (λ ys. x ∷ ys) (filter_all p xs (All-tail (λ x. p x ≡ true) x xs h)))
 
+-- of elements that all fail none is left
 pub filter_none : {X : Type 0} (p : X → Bool) (xs : List X) → All (λ x. p x ≡ false) xs → filter p xs ≡ []
 filter_none p [] h = refl
 filter_none p (x ∷ xs) h = rw (h 0 x (omega arith)) (filter_none p xs (All-tail (λ x. p x ≡ false) x xs h))
 
+-- a filter of one of two lists
 filter-cond : {X : Type 0} (p : X → Bool) (b : Bool) (xs ys : List X) → filter p (cond b xs ys) ≡ cond b (filter p xs) (filter p ys)
 filter-cond p true xs ys = refl
 filter-cond p false xs ys = refl
 
+-- two tests in either order
 swap_cond : {X : Type 0} (a b : Bool) (x : X) (xs ys : List X) → xs ≡ ys → cond a (cond b (x ∷ xs) xs) xs ≡ cond b (cond a (x ∷ ys) ys) ys
 swap_cond true true x xs ys e = ap (λ zs. x ∷ zs) e
 swap_cond true false x xs ys e = e
@@ -31,6 +34,7 @@ filter-filter p q (x ∷ xs) =
     ∙ (swap_cond (q x) (p x) x (filter p (filter q xs)) (filter q (filter p xs)) (filter-filter p q xs)
     ∙ sym (filter-cond q (p x) (x ∷ filter p xs) (filter p xs)))
 
+-- a map of one of two lists
 map-cond : {X Y : Type 0} (f : X → Y) (b : Bool) (xs ys : List X) → map f (cond b xs ys) ≡ cond b (map f xs) (map f ys)
 map-cond f true xs ys = refl
 map-cond f false xs ys = refl
@@ -53,6 +57,7 @@ take_filter p [] (suc i) passes fails within = refl
 take_filter p (x ∷ xs) (suc i) passes fails within =
     rw (passes 0 x (omega arith)) (ap (λ ys. x ∷ ys) (take_filter p xs i (λ k d l. passes (suc k) d (omega arith)) (λ k d l m. fails (suc k) d (omega arith) (omega arith)) (omega arith)))
 
+-- behind a partition point stand those that fail
 pub drop_filter : {X : Type 0} (p : X → Bool) (xs : List X) (i : ℕ) → ((k : ℕ) (d : X) → k < i → p (get_or xs k d) ≡ true) → ((k : ℕ) (d : X) → i ≤ k → k < length xs → p (get_or xs k d) ≡ false) → i ≤ length xs → drop i xs ≡ filter (λ x. not (p x)) xs
 drop_filter p xs zero passes fails within = sym (filter_all (λ x. not (p x)) xs (λ k d l. ap not (fails k d (omega arith) l)))
 drop_filter p [] (suc i) passes fails within = refl

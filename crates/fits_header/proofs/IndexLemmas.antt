@@ -15,12 +15,15 @@ use Rattle.fits_header.proofs.FilterLemmas.{filter_all, filter_none, filter-filt
 before-in_order : (n p : ℕ) (a b : Entry) → IsInOrder a b → comes_before n p b ≡ true → comes_before n p a ≡ true
 before-in_order n p a b order h = grind (arith, nat_tests)
 
+-- an entry that comes before is in order
 in_order-before : (x e : Entry) → comes_before e.name e.place x ≡ true → IsInOrder x e
 in_order-before x e h = grind (arith, nat_tests)
 
+-- also with all that don't come before
 in_order-through : (x e y : Entry) → comes_before e.name e.place x ≡ true → comes_before e.name e.place y ≡ false → IsInOrder x y
 in_order-through x e y h g = grind (arith, nat_tests)
 
+-- a sorted index is parted at every name and place
 pub sorted-parted : (es : List Entry) (n p : ℕ) → IsSortedIndex es → IsPartitionedBy (comes_before n p) es
 sorted-parted es n p sorted i j d up within h =
     elim (cases_lt i j) [
@@ -28,6 +31,7 @@ sorted-parted es n p sorted i j d up within h =
       | inr same ↦ subst (λ k. comes_before n p (get_or es k d) ≡ true) {x = j} (omega arith) h
     ]
 
+-- a new entry at its place keeps it sorted
 pub sorted-added : (es : List Entry) (e : Entry) → IsSortedIndex es → IsSortedIndex (added es e)
 sorted-added es e sorted =
     let before = filter (comes_before e.name e.place) es in
@@ -40,9 +44,11 @@ sorted-added es e sorted =
     (λ k d l. All-cons (IsInOrder (get_or before k d)) e behind (in_order-before (get_or before k d) e (first k d l))
     (λ j c m. in_order-through (get_or before k d) e (get_or behind j c) (first k d l) (fails j c m)))
 
+-- two entries that stay keep their order
 shifted-in_order : (place removed coming : ℕ) (a b : Entry) → stays place removed a ≡ true → stays place removed b ≡ true → IsInOrder a b → IsInOrder (shifted place removed coming a) (shifted place removed coming b)
 shifted-in_order place removed coming a b sa sb order = grind (arith, nat_tests)
 
+-- so all do
 shifted-pairs : (place removed coming : ℕ) (es : List Entry) → All (λ x. stays place removed x ≡ true) es → IsSortedIndex es → IsSortedIndex (map (shifted place removed coming) es)
 shifted-pairs place removed coming [] stay sorted = λ i j d l m. absurd (omega arith)
 shifted-pairs place removed coming (x ∷ xs) stay sorted =
@@ -60,10 +66,12 @@ sorted-shifted es place removed coming sorted =
 pub all_written : {X : Type 0} (xs ys : List X) (n : ℕ) → length xs ≡ n → take n (xs ++ drop (length xs) ys) ≡ xs
 all_written xs ys n e = rw (← e) (take-append-le (length xs) xs (drop (length xs) ys) (omega arith) ∙ take_all (length xs) xs (omega arith))
 
+-- what is the same of each name stays so where entries are taken out
 pub same-stay : (es fs : List Entry) (place removed : ℕ) → AreSame es fs → AreSame (filter (stays place removed) es) (filter (stays place removed) fs)
 same-stay es fs place removed same name =
     filter-filter (is_named name) (stays place removed) es ∙ (ap (filter (stays place removed)) (same name) ∙ filter-filter (stays place removed) (is_named name) fs)
 
+-- and where places move
 pub same-shift : (es fs : List Entry) (place removed coming : ℕ) → AreSame es fs → AreSame (map (shifted place removed coming) es) (map (shifted place removed coming) fs)
 same-shift es fs place removed coming same name =
     filter-map (is_named name) (shifted place removed coming) es ∙ (ap (map (shifted place removed coming)) (same name) ∙ sym (filter-map (is_named name) (shifted place removed coming) fs))
@@ -72,12 +80,15 @@ same-shift es fs place removed coming same name =
 of_name : (name : ℕ) (es : List Entry) → All (λ x. is_named name x ≡ true) (filter (is_named name) es)
 of_name name es = filter_passes (is_named name) es
 
+-- of one name the place decides
 by_place : (name p : ℕ) (x : Entry) → is_named name x ≡ true → comes_before name p x ≡ nat_lt x.place p
 by_place name p x h = grind (arith, nat_tests)
 
+-- a lower name comes before
 all_before : (name n p : ℕ) (x : Entry) → name < n → is_named name x ≡ true → comes_before n p x ≡ true
 all_before name n p x less h = grind (arith, nat_tests)
 
+-- a higher one doesn't
 none_before : (name n p : ℕ) (x : Entry) → n < name → is_named name x ≡ true → comes_before n p x ≡ false
 none_before name n p x less h = grind (arith, nat_tests)
 
@@ -91,6 +102,7 @@ parted_before name p es us vs same low high =
     ∙ (filter-filter (λ x. nat_lt x.place p) (is_named name) (us ++ vs)
     ∙ ap (filter (is_named name)) (filter-append (λ (x : Entry). nat_lt x.place p) us vs ∙ (rw (filter_all (λ (x : Entry). nat_lt x.place p) us low, filter_none (λ (x : Entry). nat_lt x.place p) vs high) (append-nil us))))))
 
+-- the entries of a name from a place on
 parted_behind : (name p : ℕ) (es us vs : List Entry) → filter (is_named name) es ≡ filter (is_named name) (us ++ vs) → All (λ x. nat_lt x.place p ≡ true) us → All (λ x. nat_lt x.place p ≡ false) vs
     → filter (is_named name) (filter (λ x. not (comes_before name p x)) es) ≡ filter (is_named name) vs
 parted_behind name p es us vs same low high =
@@ -104,6 +116,7 @@ parted_behind name p es us vs same low high =
 not_named : (name : ℕ) (e : Entry) (es : List Entry) → is_named name e ≡ false → filter (is_named name) (e ∷ es) ≡ filter (is_named name) es
 not_named name e es h = rw h refl
 
+-- an entry of the name is among those of it
 is_there : (name : ℕ) (e : Entry) (es : List Entry) → is_named name e ≡ true → filter (is_named name) (e ∷ es) ≡ e ∷ filter (is_named name) es
 is_there name e es h = rw h refl
 
@@ -126,6 +139,7 @@ other_sides name n p es (inr more) =
     )
     refl
 
+-- the entries of other names are as before
 same-added_other : (name : ℕ) (es us vs : List Entry) (e : Entry) → (name < e.name) ⊎ (e.name < name) → is_named name e ≡ false → filter (is_named name) es ≡ filter (is_named name) (us ++ vs)
     → filter (is_named name) (added es e) ≡ filter (is_named name) (us ++ e ∷ vs)
 same-added_other name es us vs e apart h same =
@@ -139,6 +153,7 @@ same-added_other name es us vs e apart h same =
     ∙ (ap (λ ys. filter (is_named name) us ++ ys) (sym (not_named name e vs h))
     ∙ sym (filter-append (is_named name) us (e ∷ vs)))))))
 
+-- those of the new entry's name have it at its place
 same-added_own : (es us vs : List Entry) (e : Entry) → filter (is_named e.name) es ≡ filter (is_named e.name) (us ++ vs) → All (λ x. nat_lt x.place e.place ≡ true) us → All (λ x. nat_lt x.place e.place ≡ false) vs
     → filter (is_named e.name) (added es e) ≡ filter (is_named e.name) (us ++ e ∷ vs)
 same-added_own es us vs e same low high =
@@ -150,6 +165,7 @@ same-added_own es us vs e same low high =
     (ap (λ ys. filter (is_named e.name) us ++ ys) (sym (is_there e.name e vs own)))
     ∙ sym (filter-append (is_named e.name) us (e ∷ vs)))
 
+-- so a new entry keeps the entries of each name in the order of places
 pub same-added : (es us vs : List Entry) (e : Entry) → AreSame es (us ++ vs) → All (λ x. nat_lt x.place e.place ≡ true) us → All (λ x. nat_lt x.place e.place ≡ false) vs → AreSame (added es e) (us ++ e ∷ vs)
 same-added es us vs e same low high name =
     elim (cases_lt name e.name) [

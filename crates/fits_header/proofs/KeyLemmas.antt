@@ -21,6 +21,7 @@ keys-more xs ys cards from i x card h fits within key is =
 
 pub ruleset write_steps = (keys-spliced, keys-more)
 
+-- an index from one on and below the next
 same_index : (k i : ℕ) → k < i + 1 → i ≤ k → k ≡ i
 same_index k i h g = omega arith
 

@@ -17,14 +17,17 @@ parts_by : (b : Bool) (said : Option (List ℕ × Option (List ℕ))) (link : Li
 parts_by true said link h = (refl, ap (option_map (λ s. s.0)) h, ap (option_map (λ s. s.0)) h)
 parts_by false said link h = absurd (cc)
 
+-- a card that says a piece is a CONTINUE card, and says it as a string too
 link_parts : (card : List ℕ) (link : List ℕ × Option (List ℕ)) → link_says card ≡ Some link → (is_continue card ≡ true) × (link_string card ≡ Some link.0) × (card_string card ≡ Some link.0)
 unfolding link_says link_string card_string
 link_parts card link h = parts_by (is_continue card) (said_string (card_says card)) link h
 
+-- no piece, no string of one
 none_by : (b : Bool) (said : Option (List ℕ × Option (List ℕ))) → cond b said None ≡ None → cond b (option_map (λ s. s.0) said) None ≡ None
 none_by true said h = ap (option_map (λ s. s.0)) h
 none_by false said h = refl
 
+-- a card that says no piece has no string of one
 no_link : (card : List ℕ) → link_says card ≡ None → link_string card ≡ None
 unfolding link_says link_string card_string
 no_link card h = none_by (is_continue card) (said_string (card_says card)) h
@@ -48,10 +51,12 @@ run_by : (b : Bool) (m n : ℕ) (card : List ℕ) (cards : List (List ℕ)) → 
 run_by true m n card cards is more = more refl ∙ ap (λ k. replicate k true ++ links_open false (drop k (card ∷ cards))) {x = suc n} {y = m} (omega arith)
 run_by false m n card cards is more = ap (λ k. replicate k true ++ links_open false (drop k (card ∷ cards))) {x = 0} {y = m} (omega arith)
 
+-- a card says a piece, or none
 link_cases : (said : Option (List ℕ × Option (List ℕ))) → (said ≡ None) ⊎ ((link : List ℕ × Option (List ℕ)) × (said ≡ Some link))
 link_cases None = inl refl
 link_cases (Some link) = inr (link, refl)
 
+-- behind a string the cards of its chain are marked, and then it is closed
 pub run-marked : (text : List ℕ) (cards : List (List ℕ)) → links_open (ends_in_ampersand text) cards ≡ replicate (links_after text (links_of cards)) true ++ links_open false (drop (links_after text (links_of cards)) cards)
 run-marked text [] = refl
 run-marked text (card ∷ cards) =
@@ -69,6 +74,7 @@ run-marked text (card ∷ cards) =
 abbrev first_links : List (List ℕ) → ℕ
 first_links cards = first_chain_length cards - 1
 
+-- how many cards follow one that begins a chain or not
 begins_by : (v : Bool) (said : Option (List ℕ)) (cards : List (List ℕ)) → (n : ℕ) → n ≡ cond v (string_cards said cards) 0 - 1
     → links_open ((v && is_some said) && option_map_or ends_in_ampersand said false) cards ≡ replicate n true ++ links_open false (drop n cards)
 begins_by false said cards n is = ap (λ k. replicate k true ++ links_open false (drop k cards)) {x = 0} {y = n} (omega arith)
@@ -79,6 +85,7 @@ begins_by true (Some text) cards n is = run-marked text cards ∙ ap (λ k. repl
 pub links-first : (card : List ℕ) (cards : List (List ℕ)) → header_links (card ∷ cards) ≡ false ∷ (replicate (first_links (card ∷ cards)) true ++ header_links (drop (first_links (card ∷ cards)) cards))
 links-first card cards = ap (λ ls. false ∷ ls) (begins_by (has_value card) (card_string card) cards (first_links (card ∷ cards)) refl)
 
+-- the second of two that hold
 second : (a b : Bool) → (a && b) ≡ true → b ≡ true
 second true b h = h
 second false b h = absurd (cc)
@@ -99,6 +106,7 @@ no_chain_by text (Some link) links j h = (link, refl, within (ends_in_ampersand 
     within true h = h
     within false h = absurd (omega arith)
 
+-- no chain begins at a link
 no_chain : (text : List ℕ) (cards : List (List ℕ)) (j : ℕ) → j < links_after text (links_of cards) → first_chain_length (drop j cards) ≡ 0
 no_chain text [] j h = absurd (omega arith)
 no_chain text (card ∷ cards) zero h =
@@ -199,9 +207,11 @@ to_place cards place first h =
     let same : first_chain_length (drop (first + 1 - 1) cards) ≡ first_chain_length (drop first cards) = ap (λ k. first_chain_length (drop k cards)) (omega arith) in
     omega arith
 
+-- a place from 1 as an index from 0
 to_index : (place first length : ℕ) → 1 ≤ place → 1 ≤ first → place < first + length → place - 1 < first - 1 + length
 to_index place first length h g within = omega arith
 
+-- a link by its index is one by its place
 is_link : (cards : List (List ℕ)) (place : ℕ) → IsLinkAt cards (place - 1) → IsLink cards place
 unfolding chain_length
 is_link cards place link = record {
@@ -211,6 +221,7 @@ is_link cards place link = record {
   within = to_place cards place link.first link.within;
 }
 
+-- and the other way
 is_link_at : (cards : List (List ℕ)) (place : ℕ) → 1 ≤ place → IsLink cards place → IsLinkAt cards (place - 1)
 unfolding chain_length
 is_link_at cards place one link = record {

@@ -40,6 +40,7 @@ All-with_by P true b n m ms here first others more = All-cons P n (m ∷ ms) her
 All-with_by P false true n m ms here first others more = All-cons P m ms first others
 All-with_by P false false n m ms here first others more = All-cons P m (with_number n ms) first more
 
+-- what holds of a number and of all others holds of all with it
 All-with : (P : ℕ → Type 0) (n : ℕ) (ms : List ℕ) → P n → All P ms → All P (with_number n ms)
 All-with P n [] here others = All-cons P n [] here (All-nil P)
 All-with P n (m ∷ ms) here others =
@@ -49,18 +50,22 @@ All-with P n (m ∷ ms) here others =
 abbrev Rises : List ℕ → Type 0
 Rises ns = AllPairs (λ (x y : ℕ). x < y) ns
 
+-- the rest of rising numbers rises
 rises_tail : (n : ℕ) (ns : List ℕ) → Rises (n ∷ ns) → Rises ns
 rises_tail n ns h = λ i j d l m. h (suc i) (suc j) d (omega arith) (omega arith)
 
+-- and lies above the first
 rises_first : (n : ℕ) (ns : List ℕ) → Rises (n ∷ ns) → All (λ m. n < m) ns
 rises_first n ns h = λ k d l. h 0 (suc k) d (omega arith) (omega arith)
 
+-- below the first is below all
 lower_all : (n m : ℕ) (ms : List ℕ) → n < m → All (λ k. m < k) ms → All (λ k. n < k) ms
 lower_all n m ms less h = λ k d l. before n m (get_or ms k d) less (h k d l)
   where
     before : (n m p : ℕ) → n < m → m < p → n < p
     before n m p h g = omega arith
 
+-- rising numbers with one more still rise
 rises-with_by : (a b : Bool) (n m : ℕ) (ms : List ℕ) → nat_lt n m ≡ a → (n == m) ≡ b → Rises (m ∷ ms) → Rises (with_number n ms) → Rises (cond a (n ∷ m ∷ ms) (cond b (m ∷ ms) (m ∷ with_number n ms)))
 rises-with_by true b n m ms is _ h more =
     let less : n < m = grind (arith, nat_tests) in
@@ -75,16 +80,19 @@ rises-with : (n : ℕ) (ms : List ℕ) → Rises ms → Rises (with_number n ms)
 rises-with n [] h = λ i j d l m. absurd (omega arith)
 rises-with n (m ∷ ms) h = rises-with_by (nat_lt n m) (n == m) n m ms refl refl h (rises-with n ms (rises_tail m ms h))
 
+-- three facts in another order
 or_swap : (a b c : Bool) → (a || (b || c)) ≡ (b || (a || c))
 or_swap true true c = refl
 or_swap true false c = refl
 or_swap false true c = refl
 or_swap false false c = refl
 
+-- a fact said twice
 or_same : (a c : Bool) → (a || c) ≡ (a || (a || c))
 or_same true c = refl
 or_same false c = refl
 
+-- a number is among those with one more where it is that one, or was there
 has-with_by : (a b : Bool) (q n m : ℕ) (ms : List ℕ) → (n == m) ≡ b → has_number q (with_number n ms) ≡ (nat_eq q n || has_number q ms)
     → has_number q (cond a (n ∷ m ∷ ms) (cond b (m ∷ ms) (m ∷ with_number n ms))) ≡ (nat_eq q n || (nat_eq q m || has_number q ms))
 has-with_by true b q n m ms is more = refl
@@ -106,6 +114,7 @@ none_lower q (m ∷ ms) h =
     let t : nat_eq q m ≡ false = grind (arith, nat_tests) in
     rw t (none_lower q ms (All-tail (λ m. q < m) m ms h))
 
+-- the first number is there
 is_there : (q : ℕ) (ms : List ℕ) → has_number q (q ∷ ms) ≡ true
 is_there q ms = let t : nat_eq q q ≡ true = grind (arith, nat_tests) in rw t refl
 
@@ -117,6 +126,7 @@ first_same x y xs ys up rise same =
       | inr no_less ↦ no_less
     ]
 
+-- two rising lists of the same numbers have the same ones behind the first
 rest_by : (b : Bool) (q x : ℕ) (xs ys : List ℕ) → nat_eq q x ≡ b → All (λ k. x < k) xs → All (λ k. x < k) ys → (b || has_number q xs) ≡ (b || has_number q ys) → has_number q xs ≡ has_number q ys
 rest_by true q x xs ys is low high h =
     let same : q ≡ x = grind (arith, nat_tests) in
@@ -146,15 +156,18 @@ numbers-rise (card ∷ cards) = rises-with (name_number (keyword_name card)) (nu
 abbrev is_some : ℕ → List Entry → Bool
 is_some q es = list_any (is_named q) es
 
+-- the two tests of equal numbers agree
 same_eq : (q n : ℕ) → nat_eq q n ≡ (n == q)
 same_eq q n = grind (arith, nat_tests)
 
+-- a header has a number where an entry of it is there
 has-entries : (q p : ℕ) (cards : List (List ℕ)) → has_number q (numbers_of cards) ≡ is_some q (entries_from p (keys_of cards))
 has-entries q p [] = refl
 has-entries q p (card ∷ cards) =
     has-with q (name_number (keyword_name card)) (numbers_of cards)
     ∙ (ap (λ b. b || has_number q (numbers_of cards)) (same_eq q (name_number (keyword_name card))) ∙ ap (λ b. (name_number (keyword_name card) == q) || b) (has-entries q (p + 1) cards))
 
+-- an entry of a number, with one entry more
 some_by : (b : Bool) (q : ℕ) (e : Entry) (es : List Entry) → is_named q e ≡ b → is_some q (cond b (e ∷ filter (is_named q) es) (filter (is_named q) es)) ≡ (b || is_some q (filter (is_named q) es))
 some_by true q e es is = rw is refl
 some_by false q e es is = refl
@@ -164,15 +177,18 @@ some-filter : (q : ℕ) (es : List Entry) → is_some q (filter (is_named q) es)
 some-filter q [] = refl
 some-filter q (e ∷ es) = some_by (is_named q e) q e es refl ∙ ap (λ b. is_named q e || b) (some-filter q es)
 
+-- the names of entries, as numbers
 has-names : (q : ℕ) (es : List Entry) → has_number q (map (λ (e : Entry). e.name) es) ≡ is_some q es
 has-names q [] = refl
 has-names q (e ∷ es) = ap (λ b. b || has_number q (map (λ (e : Entry). e.name) es)) (same_eq q e.name) ∙ ap (λ b. (e.name == q) || b) (has-names q es)
 
+-- two tests that imply each other are equal
 iff : (a b : Bool) → (a ≡ true → b ≡ true) → (b ≡ true → a ≡ true) → a ≡ b
 iff true b h g = sym (h refl)
 iff false true h g = g refl
 iff false false h g = refl
 
+-- equal by the test is equal
 equal : (x y : ℕ) → nat_eq x y ≡ true → x ≡ y
 equal x y h = grind (arith, nat_tests)
 
@@ -183,6 +199,7 @@ has-dedup q ns =
     (λ h. list_any-from_Contains nat_eq_equiv q ns (Contains-from_dedup nat_eq ns q (Contains-from_any equal q (dedup nat_eq ns) h)))
     (λ h. list_any-from_Contains nat_eq_equiv q (dedup nat_eq ns) (Contains-dedup_nat ns q (Contains-from_any equal q ns h)))
 
+-- a name comes among names as its number does among numbers
 map-with_by : (a b : Bool) (name : List ℕ) (n m : ℕ) (ms : List ℕ) → to_be_bytes w64 n ≡ name → with_name name (map (to_be_bytes w64) ms) ≡ map (to_be_bytes w64) (with_number n ms)
     → cond a (name ∷ map (to_be_bytes w64) (m ∷ ms)) (cond b (map (to_be_bytes w64) (m ∷ ms)) (to_be_bytes w64 m ∷ with_name name (map (to_be_bytes w64) ms)))
     ≡ map (to_be_bytes w64) (cond a (n ∷ m ∷ ms) (cond b (m ∷ ms) (m ∷ with_number n ms)))
@@ -203,6 +220,7 @@ map-with name (m ∷ ms) is fits =
     ∙ (ap (λ b. cond (nat_lt n m) (name ∷ map (to_be_bytes w64) (m ∷ ms)) (cond b (map (to_be_bytes w64) (m ∷ ms)) (first ∷ with_name name (map (to_be_bytes w64) ms)))) same
     ∙ map-with_by (nat_lt n m) (n == m) name n m ms (name-bytes name is) (map-with name ms is (All-tail (λ m. m < 2 ^ 64) m ms fits)))
 
+-- the numbers of names have 64 bits
 numbers-fit : (cards : List (List ℕ)) → AreNamed cards → All (λ m. m < 2 ^ 64) (numbers_of cards)
 numbers-fit [] named = All-nil (λ m. m < 2 ^ 64)
 numbers-fit (card ∷ cards) named =
@@ -226,6 +244,7 @@ index-names es keys cards index named is rise =
     ap (map (to_be_bytes w64)) (rising_same (dedup nat_eq numbers) (numbers_of cards) (AllPairs-from_increasing (dedup nat_eq numbers) rise) (numbers-rise cards) same)
     ∙ sym (names-numbers cards (are_named keys cards named is))
 
+-- a smaller number has smaller bytes
 before_bytes : (m n : ℕ) → m < 2 ^ 64 → n < 2 ^ 64 → m < n → IsTrue (is_before (to_be_bytes w64 m) (to_be_bytes w64 n))
 before_bytes m n low high less = (earlier (to_be_bytes w64 m) (to_be_bytes w64 n) (bytes-name m) (bytes-name n)).1 (rw (bytes-number m low, bytes-number n high) less)
 
@@ -243,6 +262,7 @@ ascend (n ∷ ns) up fits =
 abbrev has_one : List ℕ → List (List ℕ) → Bool
 has_one name names = list_any (bytes_eq name) names
 
+-- a name is among those with one more where it is that one, or was there
 any-with_by : (a b : Bool) (q name first : List ℕ) (others : List (List ℕ)) → bytes_eq name first ≡ b → has_one q (with_name name others) ≡ (bytes_eq q name || has_one q others)
     → has_one q (cond a (name ∷ first ∷ others) (cond b (first ∷ others) (first ∷ with_name name others))) ≡ (bytes_eq q name || (bytes_eq q first || has_one q others))
 any-with_by true b q name first others is more = refl
@@ -250,6 +270,7 @@ any-with_by false true q name first others is more =
     or_same (bytes_eq q first) (has_one q others) ∙ ap (λ k. bytes_eq q k || (bytes_eq q first || has_one q others)) (sym ((bytes_eq-Decides name first).0 is))
 any-with_by false false q name first others is more = ap (λ b. bytes_eq q first || b) more ∙ or_swap (bytes_eq q first) (bytes_eq q name) (has_one q others)
 
+-- so it is
 any-with : (q name : List ℕ) (names : List (List ℕ)) → has_one q (with_name name names) ≡ (bytes_eq q name || has_one q names)
 any-with q name [] = refl
 any-with q name (first ∷ others) = any-with_by (is_before name first) (bytes_eq name first) q name first others refl (any-with q name others)
@@ -259,18 +280,23 @@ any-names : (q : List ℕ) (cards : List (List ℕ)) → has_one q (header_names
 any-names q [] = refl
 any-names q (card ∷ cards) = any-with q (keyword_name card) (header_names cards) ∙ ap (λ b. bytes_eq q (keyword_name card) || b) (any-names q cards)
 
+-- equal by the test is equal
 same_bytes : (x y : List ℕ) → bytes_eq x y ≡ true → x ≡ y
 same_bytes x y h = (bytes_eq-Decides x y).0 h
 
+-- a name equals itself
 same_self : (x : List ℕ) → bytes_eq x x ≡ true
 same_self x = (bytes_eq-Decides x x).1 refl
 
+-- in either order
 turned : (x y : List ℕ) → bytes_eq x y ≡ bytes_eq y x
 turned x y = iff (bytes_eq x y) (bytes_eq y x) (λ h. rw (same_bytes x y h) (same_self y)) (λ h. rw (same_bytes y x h) (same_self x))
 
+-- so equality of bytes is an equivalence
 bytes_equiv : IsEquivalence bytes_eq
 bytes_equiv = record { refl = same_self; symm = turned; congr = λ x y z h. ap (λ k. bytes_eq k z) (same_bytes x y h) }
 
+-- what is in one list is in another with the same names
 moved_over : (q : List ℕ) (xs ys : List (List ℕ)) → has_one q xs ≡ has_one q ys → Contains xs q → Contains ys q
 moved_over q xs ys same h = Contains-from_any same_bytes q ys (sym same ∙ list_any-from_Contains bytes_equiv q xs h)
 

@@ -14,6 +14,7 @@ use Rattle.std.proofs.lemmas.Map.Text.{is_eq-slice_cmp}
 use Rattle.std.proofs.lemmas.Nat.{be_bytes_8, from_be_bytes-to_be_bytes_8}
 use Rattle.fits_header.specs.Names.{IsName, name_number, is_before}
 
+-- a byte
 abbrev IsByte : ℕ → Type 0
 IsByte byte = byte < 256
 
@@ -31,15 +32,18 @@ smaller m n (x ∷ xs) (y ∷ ys) e h g less =
     let low : x < 256 = h 0 x (omega arith) in
     smaller (256 * m + x) (256 * n + y) xs ys (omega arith) (All-tail IsByte x xs h) (All-tail IsByte y ys g) (omega arith)
 
+-- a smaller number compares as less
 is_less : (m n : ℕ) → m < n → nat_cmp m n ≡ Less
 is_less m n h = let t : nat_lt m n ≡ true = grind (arith, nat_tests) in rw t refl
 
+-- an equal one as equal
 is_same : (m n : ℕ) → m ≡ n → nat_cmp m n ≡ Equal
 is_same m n h =
     let t : nat_lt m n ≡ false = grind (arith, nat_tests) in
     let u : (m == n) ≡ true = grind (arith, nat_tests) in
     rw (t, u) refl
 
+-- a larger one as greater
 is_greater : (m n : ℕ) → n < m → nat_cmp m n ≡ Greater
 is_greater m n h =
     let t : nat_lt m n ≡ false = grind (arith, nat_tests) in
@@ -83,17 +87,20 @@ name-cmp : (a b : List ℕ) → IsName a → IsName b → slice_cmp nat_cmp a b 
 name-cmp a b h g =
     cmp-numbers 0 a b (h.size ∙ sym g.size) h.bytes g.bytes ∙ sym (ap (λ n. nat_cmp n (name_number b)) (number-is a h.size) ∙ ap (nat_cmp (number_behind 0 a)) (number-is b g.size))
 
+-- less, by the two tests
 lt_by : (b c : Bool) → is_lt (cond b Less (cond c Equal Greater)) ≡ b
 lt_by true c = refl
 lt_by false true = refl
 lt_by false false = refl
 
+-- equal, by the two tests
 eq_by : (b c : Bool) → (c ≡ true → b ≡ false) → is_eq (cond b Less (cond c Equal Greater)) ≡ c
 eq_by true true h = let e : true ≡ false = h refl in absurd (cc)
 eq_by true false h = refl
 eq_by false true h = refl
 eq_by false false h = refl
 
+-- equal numbers aren't less
 not_less : (m n : ℕ) → (m == n) ≡ true → nat_lt m n ≡ false
 not_less m n h = grind (arith, nat_tests)
 
@@ -106,6 +113,7 @@ pub same-number : (a b : List ℕ) → IsName a → IsName b → bytes_eq a b �
 same-number a b h g =
     sym (is_eq-slice_cmp a b) ∙ (ap is_eq (name-cmp a b h g) ∙ eq_by (nat_lt (name_number a) (name_number b)) (name_number a == name_number b) (not_less (name_number a) (name_number b)))
 
+-- each byte of a name is one
 byte_at : (name : List ℕ) → IsName name → (i : ℕ) → get_or name i 0 < 256
 byte_at name h i = elim (cases_lt i (length name)) [
   | inl within ↦ h.bytes i 0 within
@@ -117,11 +125,13 @@ pub name-bytes : (name : List ℕ) → IsName name → to_be_bytes w64 (name_num
 unfolding name_number
 name-bytes name h = be_bytes_8 name (from_be_bytes w64 name) h.size (byte_at name h) refl
 
+-- eight bytes are all bytes
 eight_bytes : (a b c d e f g h : ℕ) → a < 256 → b < 256 → c < 256 → d < 256 → e < 256 → f < 256 → g < 256 → h < 256 → All IsByte (a ∷ b ∷ c ∷ d ∷ e ∷ f ∷ g ∷ h ∷ [])
 eight_bytes a b c d e f g h a' b' c' d' e' f' g' h' =
     All-cons IsByte a (b ∷ c ∷ d ∷ e ∷ f ∷ g ∷ h ∷ []) a' (All-cons IsByte b (c ∷ d ∷ e ∷ f ∷ g ∷ h ∷ []) b' (All-cons IsByte c (d ∷ e ∷ f ∷ g ∷ h ∷ []) c' (All-cons IsByte d (e ∷ f ∷ g ∷ h ∷ []) d'
     (All-cons IsByte e (f ∷ g ∷ h ∷ []) e' (All-cons IsByte f (g ∷ h ∷ []) f' (All-cons IsByte g (h ∷ []) g' (All-cons IsByte h [] h' (All-nil IsByte))))))))
 
+-- a remainder by 256 is a byte
 below : (n : ℕ) → n % 256 < 256
 below n = omega arith
 

@@ -20,6 +20,7 @@ entries_more ms i d within =
     ∙ (entries-append 1 (take i ms) (get_or ms i d ∷ [])
     ∙ ap (λ p. entries_from 1 (take i ms) ++ entry_of (get_or ms i d) p ∷ []) {x = 1 + length (take i ms)} {y = i + 1} (omega (arith, length-take-le i ms (omega arith)))))
 
+-- the entries of so many keys, with one more
 pub entries_push : (ms : List Key) (es : List Entry) (e : Entry) (i : ℕ) (d : Key) → i < length ms → es ≡ entries_from 1 (take i ms) → e ≡ entry_of (get_or ms i d) (i + 1) → es ++ e ∷ [] ≡ entries_from 1 (take (i + 1) ms)
 entries_push ms es e i d within was is = rw (was, is) (entries_more ms i d within)
 
@@ -27,11 +28,13 @@ entries_push ms es e i d within was is = rw (was, is) (entries_more ms i d withi
 same_name : (name : ℕ) (x y : Entry) → x.name ≡ name → ties (λ a b. is_lt (nat_cmp a.name b.name)) x y ≡ is_named name y
 same_name name x y h = grind (arith, nat_tests)
 
+-- a stable sort by name leaves the entries of each name as they were
 pub same_from_stable : (es fs : List Entry) → IsStableByKey (λ (e : Entry). e.name) nat_cmp fs es → AreSame es fs
 same_from_stable es fs stable name =
     let x : Entry = record { name = name; place = 0; has_value = false } in
     sym (filter_agree _ _ (λ y. same_name name x y refl) es) ∙ (stable x ∙ filter_agree _ _ (λ y. same_name name x y refl) fs)
 
+-- at most the next is below
 less : (p q : ℕ) → p + 1 ≤ q → p < q
 less p q h = omega arith
 
@@ -41,6 +44,7 @@ entries-rise p [] = λ i j d l m. absurd (omega arith)
 entries-rise p (m ∷ ms) =
     AllPairs-cons (λ (a b : Entry). a.place < b.place) (entry_of m p) (entries_from (p + 1) ms) (λ k d l. less p _ (entries-high (p + 1) (p + 1) ms (omega arith) k d l)) (entries-rise (p + 1) ms)
 
+-- what holds of all that pass, by the first
 all_of_cond : (P : Entry → Type 0) (p : Entry → Bool) (b : Bool) (e : Entry) (es : List Entry) → p e ≡ b → (All P (filter p es) → All (λ e. p e ≡ true → P e) es) → All P (cond b (e ∷ filter p es) (filter p es)) → All (λ e. p e ≡ true → P e) (e ∷ es)
 all_of_cond P p true e es is more h = All-cons (λ e. p e ≡ true → P e) e es (λ t. h 0 e (omega arith)) (more (All-tail P e (filter p es) h))
 all_of_cond P p false e es is more h = All-cons (λ e. p e ≡ true → P e) e es (λ t. absurd (false≢true (sym is ∙ t))) (more h)
@@ -50,9 +54,11 @@ all_of_filter : (P : Entry → Type 0) (p : Entry → Bool) (es : List Entry) �
 all_of_filter P p [] h = All-nil (λ e. p e ≡ true → P e)
 all_of_filter P p (e ∷ es) h = all_of_cond P p (p e) e es refl (all_of_filter P p es) h
 
+-- an entry of that name
 named : (name : ℕ) (e : Entry) → name ≡ e.name → is_named name e ≡ true
 named name e h = grind (arith, nat_tests)
 
+-- pairs with one more are pairs
 kept_pairs : (b : Bool) (e : Entry) (es : List Entry) → AllPairs (λ (a b : Entry). a.place < b.place) (cond b (e ∷ es) es) → AllPairs (λ (a b : Entry). a.place < b.place) es
 kept_pairs true e es h = λ i j d l m. h (suc i) (suc j) d (omega arith) (omega arith)
 kept_pairs false e es h = h
@@ -69,14 +75,17 @@ pairs_by_name (e ∷ es) h =
     (λ k d l same. behind k d l (named e.name (get_or es k d) same))
     (pairs_by_name es (λ name. kept_pairs (is_named name e) e (filter (is_named name) es) (h name)))
 
+-- by name, and in one name by place, is in order
 in_order : (a b : Entry) → a.name ≤ b.name → (a.name ≡ b.name → a.place < b.place) → IsInOrder a b
 in_order a b h g = grind (arith, nat_tests)
 
+-- so what a stable sort gives is a sorted index
 pub sorted_from_stable : (es : List Entry) (ms : List Key) → IsNonDecreasingBy (λ (e : Entry). e.name) es → AreSame es (entries_from 1 ms) → IsSortedIndex es
 sorted_from_stable es ms up same i j d less within =
     in_order (get_or es i d) (get_or es j d) (up i j d (omega arith) within)
     (pairs_by_name es (λ name. rw (same name) (AllPairs-filter (λ (a b : Entry). a.place < b.place) (is_named name) (entries_from 1 ms) (entries-rise 1 ms))) i j d less within)
 
+-- in order, no name is above the next
 names_up : (a b : Entry) → IsInOrder a b → is_lt (nat_cmp b.name a.name) ≡ false
 names_up a b h = grind (arith, nat_tests)
 

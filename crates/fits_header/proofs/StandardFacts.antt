@@ -15,5 +15,6 @@ names_once = refl
 places_twice : keyword_places five_cards (codes "BITPIX  ") ≡ 2 ∷ 5 ∷ []
 places_twice = refl
 
+-- a name that no card has
 places_nowhere : keyword_places five_cards (codes "GCOUNT  ") ≡ []
 places_nowhere = refl

@@ -105,12 +105,14 @@ unfolding IsInRange
 replacing_in_range cards new None name e = (omega arith, omega arith)
 replacing_in_range cards new (Some old) name e = keyword_within cards name old e
 
+-- the change of a keyword that is set is in range
 set_in_range : (cards : List (List ℕ)) (name : List ℕ) (written : Option (List (List ℕ))) (change : Change) → setting (length cards) (keyword_cards cards name) written ≡ Ok change → IsInRange cards change
 set_in_range cards name None change e = cc
 set_in_range cards name (Some new) change e =
     let same : replacing (length cards) (keyword_cards cards name) new ≡ change = cc in
     subst (λ (ch : Change). IsInRange cards ch) same (replacing_in_range cards new (keyword_cards cards name) name refl)
 
+-- and of one that is unset
 unset_in_range : (cards : List (List ℕ)) (name : List ℕ) (old : Option KeywordCards) (change : Change) → keyword_cards cards name ≡ old → unsetting old ≡ Ok change → IsInRange cards change
 unset_in_range cards name None change at e = cc
 unset_in_range cards name (Some old) change at e =
@@ -149,12 +151,14 @@ unfolding new_cards
 replacing_inner count None new inner = inner
 replacing_inner count (Some old) new inner = inner
 
+-- a keyword that is set gets inner cards
 set_inner : (count : ℕ) (old : Option KeywordCards) (name : List ℕ) (value : Value) (comment : Option (List ℕ)) (written : Option (List (List ℕ))) (change : Change) → length name ≡ 8 → is_settable name ≡ true → write_says name value comment ≡ written → setting count old written ≡ Ok change → All IsInnerCard (new_cards change)
 set_inner count old name value comment None change size settable says e = cc
 set_inner count old name value comment (Some new) change size settable says e =
     let same : replacing count old new ≡ change = cc in
     subst (λ (ch : Change). All IsInnerCard (new_cards ch)) same (replacing_inner count old new (inner_written new name value comment size settable says))
 
+-- one that is unset gets none
 unset_inner : (old : Option KeywordCards) (change : Change) → unsetting old ≡ Ok change → All IsInnerCard (new_cards change)
 unset_inner None change e = cc
 unset_inner (Some old) change e =

@@ -32,6 +32,7 @@ can_write : (cards : List (List ℕ)) (name : List ℕ) (value : Value) (comment
 can_write cards name value comment None e says some = absurd (some refl)
 can_write cards name value comment (Some new) e says some = rw (settable cards name value comment (Some new) e says) refl
 
+-- a fault of writing is the edit's
 pub not_written : (cards : List (List ℕ)) (name : List ℕ) (value : Value) (comment : Option (List ℕ)) (fault : WriteFault) → is_settable name ≡ true → (fault ≡ write.BadValue → write_says name value comment ≡ None) → (write_says name value comment ≡ None → fault ≡ write.BadValue)
     → ChangeFails (set_of cards name value comment) (refusal_of_writing fault)
 not_written cards name value comment write.BadValue e bad firm = inl (settable cards name value comment None e (bad refl))

@@ -103,6 +103,7 @@ before_lead cards name place (Some i) k at e l =
     let same : i + 1 ≡ place = cc in
     (position-Some (is_value_of name) cards i [] at).2 k (omega arith)
 
+-- no card before the lead is the name's
 before_place : (cards : List (List ℕ)) (name : List ℕ) (place k : ℕ) → lead_place cards name ≡ Some place → k < place - 1 → is_value_of name (get_or cards k []) ≡ false
 unfolding lead_place
 before_place cards name place k e l = before_lead cards name place (position (is_value_of name) cards) k refl e l
@@ -112,6 +113,7 @@ no_position : (o : Option ℕ) → option_map (λ index. index + 1) o ≡ None �
 no_position None e = refl
 no_position (Some i) e = cc
 
+-- without a lead no card is
 nowhere : (cards : List (List ℕ)) (name : List ℕ) (k : ℕ) → lead_place cards name ≡ None → k < length cards → is_value_of name (get_or cards k []) ≡ false
 unfolding lead_place
 nowhere cards name k e l =
@@ -164,6 +166,7 @@ set_says cards name value comment (Some new) change size settable says e =
     let same : replacing (length cards) (keyword_cards cards name) new ≡ change = cc in
     subst (λ (ch : Change). keyword_value (cards_after cards ch) name ≡ Ok (value, comment)) same (replaced_says cards new name value comment (lead_place cards name) refl size settable says)
 
+-- a keyword that was set says what it was set to
 pub set_reads_back : (cards : List (List ℕ)) (name : List ℕ) (value : Value) (comment : Option (List ℕ)) (change : Change) → length name ≡ 8 → set_of cards name value comment ≡ Ok change → keyword_value (cards_after cards change) name ≡ Ok (value, comment)
 unfolding set_of
 set_reads_back cards name value comment change size e =

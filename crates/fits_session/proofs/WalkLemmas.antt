@@ -46,10 +46,12 @@ begins_more text xs s n size e =
 begins_same : (text xs s : List ℕ) (n : ℕ) → (s ≡ []) ⊎ (n ≤ length xs) → bytes_eq text (take n (xs ++ s)) ≡ bytes_eq text (take n xs)
 begins_same text xs s n few = elim few [ inl none ↦ ap (λ t. bytes_eq text (take n (xs ++ t))) none ∙ ap (λ t. bytes_eq text (take n t)) (append-nil xs) | inr many ↦ ap (bytes_eq text) (take-append-le n xs s many) ]
 
+-- what begins an extension does so whatever follows
 extension_more : (xs s : List ℕ) → begins_extension xs ≡ true → begins_extension (xs ++ s) ≡ true
 unfolding begins_extension
 extension_more xs s e = begins_more (codes "XTENSION") xs s 8 refl e
 
+-- eight bytes, or all there are, decide it
 pub extension_same : (xs s : List ℕ) → (s ≡ []) ⊎ (8 ≤ length xs) → begins_extension (xs ++ s) ≡ begins_extension xs
 unfolding begins_extension
 extension_same xs s few = begins_same (codes "XTENSION") xs s 8 few
@@ -58,6 +60,7 @@ extension_same xs s few = begins_same (codes "XTENSION") xs s 8 few
 pub front_rest : (us : List HduParts) (s : List ℕ) → IsFrontOf (joined_hdus us) us [] → IsFrontOf (joined_hdus us ++ s) us s
 front_rest us s p = record { joined = refl; first = p.first; others = p.others }
 
+-- the bytes of HDUs with one more
 joined_push : (us : List HduParts) (u : HduParts) → joined_hdus (us ++ u ∷ []) ≡ joined_hdus us ++ hdu_bytes u
 joined_push us u = flat_map-append hdu_bytes us (u ∷ []) ∙ ap (λ t. joined_hdus us ++ t) (append-nil (hdu_bytes u))
 
@@ -74,15 +77,18 @@ each_push keeps [] (v ∷ vs) k u p q = absurd p
 each_push keeps (l ∷ ls) [] k u p q = absurd p
 each_push keeps (l ∷ ls) (v ∷ vs) k u p q = (p.0, each_push keeps ls vs k u p.1 q)
 
+-- as many kept as HDUs
 pub each_length : {K : Type 0} (keeps : K → HduParts → Type 0) (ks : List K) (us : List HduParts) → KeepsEach keeps ks us → length ks ≡ length us
 each_length keeps [] [] p = refl
 each_length keeps [] (v ∷ vs) p = absurd p
 each_length keeps (l ∷ ls) [] p = absurd p
 each_length keeps (l ∷ ls) (v ∷ vs) p = omega (arith, each_length keeps ls vs p.1)
 
+-- above zero isn't zero
 not_zero : (n : ℕ) → 0 < n → nat_eq n 0 ≡ false
 not_zero n h = search rules
 
+-- nothing is kept before the first HDU
 first_of : {K : Type 0} (keeps : K → HduParts → Type 0) (ks : List K) (us : List HduParts) → KeepsEach keeps ks us → nat_eq (length ks) 0 ≡ is_first us
 first_of keeps [] [] p = refl
 first_of keeps [] (v ∷ vs) p = absurd p
@@ -115,6 +121,7 @@ walk_shorter keeps primary first next b c d left left' last q r =
 pub next_first : {K : Type 0} (ks : List K) (first : List ℕ) → ks ≡ [] → starts_with nat_eq first (codes "SIMPLE  ") ≡ true → NextBegins (nat_eq (length ks) 0) first
 next_first ks first none e = rw none e
 
+-- after one more HDU an extension begins
 pub next_more : {K : Type 0} (ks new : List K) (k : K) (first : List ℕ) → new ≡ ks ++ k ∷ [] → begins_extension first ≡ true → NextBegins (nat_eq (length new) 0) first
 next_more ks new k first is e = rw (not_zero (length new) (omega (arith, ap length is, length-append ks (k ∷ [])))) e
 
@@ -134,12 +141,14 @@ fails_at us first s fault size front begins few fails =
     subst (λ (t : List ℕ). HasOpenFault t (open_fault_of fault (length us + 1))) (sym same)
     (fault_here file us (first ++ s) fault (omega (arith, size, ap length same)) on.1 (front_rest us (first ++ s) front) on.0 few fails)
 
+-- a fault of the next HDU is the file's
 stops_at : (us : List HduParts) (first : List ℕ) (a b c : Option (List ℕ)) (left left' left'' : ℕ) (fault : HduFault) → left ≤ FILE_LIMIT → Takes a b left left' (joined_hdus us ++ first) → IsFrontOf (joined_hdus us) us [] → NextBegins (is_first us) first → length us < HDU_LIMIT
     → Finds b c left' left'' (λ s. HasHduFault (is_first us) (first ++ s) fault) → Finds a c left left'' (λ bytes. HasOpenFault bytes (open_fault_of fault (length us + 1)))
 stops_at us first a b c left left' left'' fault limit p front begins few f =
     finds_next (λ s. HasHduFault (is_first us) (first ++ s) fault) (λ bytes. HasOpenFault bytes (open_fault_of fault (length us + 1))) a b c left left' left'' (joined_hdus us ++ first) p f
     (λ s le fails. fails_at us first s fault (omega (arith, limit, p.count, le, length-append (joined_hdus us ++ first) s)) front begins few fails)
 
+-- so is whatever ended its reading
 walk_stops : (us : List HduParts) (first : List ℕ) (a b c : Option (List ℕ)) (left left' left'' f g g' : ℕ) (fault : ReadHduFault) → left ≤ FILE_LIMIT → Takes a b left left' (joined_hdus us ++ first) → IsFrontOf (joined_hdus us) us [] → NextBegins (is_first us) first → length us < HDU_LIMIT
     → g ≡ f → HduStops (is_first us) first b c left' left'' g g' fault → WalkStops a c left left'' f g' (file_fault_of fault (length us + 1))
 walk_stops us first a b c left left' left'' f g g' (read_hdu.Hdu hdu_fault.NoEnd) limit p front begins few quiet stops = (stops_at us first a b c left left' left'' hdu_fault.NoEnd limit p front begins few stops.0, stops.1 ∙ quiet)
@@ -148,6 +157,7 @@ walk_stops us first a b c left left' left'' f g g' (read_hdu.Hdu hdu_fault.Short
 walk_stops us first a b c left left' left'' f g g' (read_hdu.Hdu hdu_fault.Memory) limit p front begins few quiet stops = stops ∙ quiet
 walk_stops us first a b c left left' left'' f g g' read_hdu.Failed limit p front begins few quiet stops = omega (arith, stops, quiet)
 
+-- so the walk stops
 pub stops_by_hdu : {K : Type 0} (keeps : K → HduParts → Type 0) (ks : List K) (first : List ℕ) (a b c : Option (List ℕ)) (left left' left'' f g g' h : ℕ) (primary : Bool) (fault : ReadHduFault) → left ≤ FILE_LIMIT → Walked keeps ks first a b left left' → NextBegins (nat_eq (length ks) 0) first → length ks < HDU_LIMIT
     → primary ≡ nat_eq (length ks) 0 → h ≡ length ks + 1 → g ≡ f → HduStops primary first b c left' left'' g g' fault → WalkStops a c left left'' f g' (file_fault_of fault h)
 stops_by_hdu keeps ks first a b c left left' left'' f g g' h primary fault limit p begins few at is quiet stops =
@@ -163,10 +173,12 @@ not_fits_begun first a b left left' limit p e many =
     finds_begun (λ bytes. HasOpenFault bytes NotFits) a b left left' first p
     (λ s le. (omega (arith, limit, p.count, le, length-append first s), λ begins. let no : true ≡ false = sym begins ∙ begins_same (codes "SIMPLE  ") first s 8 (inr many) ∙ e in cc))
 
+-- bytes that don't begin as a file, and no more of them
 not_fits_spent : (first : List ℕ) (a b : Option (List ℕ)) (left left' : ℕ) → left ≤ FILE_LIMIT → Takes a b left left' first → starts_with nat_eq first (codes "SIMPLE  ") ≡ false → IsSpent b left' → Finds a b left left' (λ bytes. HasOpenFault bytes NotFits)
 not_fits_spent first a b left left' limit p e spent =
     finds_spent (λ bytes. HasOpenFault bytes NotFits) a b left left' first p spent (omega (arith, limit, p.count), λ begins. let no : true ≡ false = sym begins ∙ e in cc)
 
+-- a file that doesn't begin as one stops the walk
 pub stops_at_first : (first : List ℕ) (a b : Option (List ℕ)) (left left' : ℕ) → left ≤ FILE_LIMIT → Takes a b left left' first → (length first < 2880 → IsSpent b left') → starts_with nat_eq first (codes "SIMPLE  ") ≡ false → Finds a b left left' (λ bytes. HasOpenFault bytes NotFits)
 stops_at_first first a b left left' limit p short e =
     elim (cases_lt (length first) 2880) [ inl few ↦ not_fits_spent first a b left left' limit p e (short few) | inr many ↦ not_fits_begun first a b left left' limit p e (omega (arith, many)) ]
