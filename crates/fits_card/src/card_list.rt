@@ -116,6 +116,13 @@ impl CardList {
         self.cards[place - 1]
     }
 
+    /// How many more cards have reserved room.
+    pub fn room(&self) -> usize
+        ensures { result ≡ self.now.room }
+    {
+        self.room
+    }
+
     /// Makes room for this many more cards. It fails only where room was missing.
     pub fn reserve(&mut self, additional: usize) -> Result<(), AllocError>
         ensures ok { OnOk result (additional ≤ self.new.room) }
@@ -123,6 +130,7 @@ impl CardList {
         ensures succeeds { additional ≤ self.old.room → IsOk result }
         ensures header { self.new.header ≡ self.old.header }
         ensures room { self.old.room ≤ self.new.room }
+        ensures no_more { self.old.room < self.new.room → self.new.room ≡ additional }
         ensures work { self.new.reads ≡ self.old.reads }
     {
         self.cards.reserve(additional)?;
