@@ -115,7 +115,7 @@ static Summary one;
     say("the same with BLANK, " #BITS " bits", n, began, one.sum);
 
 int main(int argc, char **argv) {
-    size_t n = (size_t)BLOCK * (argc > 1 ? strtoull(argv[1], 0, 10) : 486111);
+    size_t n = (size_t)BLOCK * (argc > 1 ? strtoull(argv[1], 0, 10) : 486112);
     uint8_t *p = malloc(n);
     uint64_t state = 1;
     for (size_t i = 0; i < n; i += 8) {

@@ -2,6 +2,7 @@ pub mod BlockLemmas
 pub mod CornerLemmas
 pub mod ExactLemmas
 pub mod JoinLemmas
+pub mod LaneLemmas
 pub mod LeafLemmas
 pub mod PixelLemmas
 pub mod PlaceLemmas
@@ -9,6 +10,7 @@ pub mod PlaneLemmas
 pub mod PlantLemmas
 pub mod PowerLemmas
 pub mod RowLemmas
+pub mod RunLemmas
 pub mod ScanLemmas
 pub mod TreeLemmas
 pub mod TurnLemmas

@@ -178,11 +178,11 @@ scanned_result b top bottom low high sum low' high' sum' defined blanks all s ra
 -- ---- a blank number
 
 -- BLANK's number is blank
-is_blank_same : (b x : ℤ) → x ≡ b → is_blank (Some b) x ≡ true
+pub is_blank_same : (b x : ℤ) → x ≡ b → is_blank (Some b) x ≡ true
 is_blank_same b x e = grind (arith, ints)
 
 -- another number is not blank
-is_blank_other : (b x : ℤ) → x ≢ b → is_blank (Some b) x ≡ false
+pub is_blank_other : (b x : ℤ) → x ≢ b → is_blank (Some b) x ≡ false
 is_blank_other b x e = grind (arith, ints)
 
 -- a turn that finds a blank number

@@ -2,7 +2,7 @@ use Rattle.std.proofs.Common.{◌≤◌, ◌*◌, ◌-◌, Some}
 use Rattle.std.specs.Prelude.{pos}
 use Rattle.fits_plane.specs.Pixels.{pixels}
 use Rattle.fits_plane.proofs.ScanLemmas.{Scanned}
-use Rattle.fits_plane.proofs.pixels_8.scan_blank.Given as goal
+use Rattle.fits_plane.proofs.pixels_8.scan_few.Given as goal
 
 abbrev pub invariant-loop-i : goal.invariant-loop-i
 invariant-loop-i l = record {
