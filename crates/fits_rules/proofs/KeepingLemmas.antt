@@ -1,5 +1,5 @@
 -- Splices that keep a shape.
-use Rattle.std.proofs.Common.{◌≡◌, ℕ, ◌+◌, ◌-◌, ◌<◌, ◌≤◌, Bool, true, false, cond, List, [], ◌∷◌, ◌++◌, length, get_or, take, drop, codes, Option, None, Some, option_and_then, unwrap_or, ok_or, Ok, inl, inr, refl, ap, sym, ◌∙◌, arith, length-append, take-append-drop}
+use Rattle.std.proofs.Common.{◌≡◌, ℕ, ◌+◌, ◌-◌, ◌<◌, ◌≤◌, Bool, false, cond, List, [], ◌∷◌, ◌++◌, length, get_or, take, drop, codes, Option, None, Some, option_and_then, Ok, inl, inr, refl, ap, sym, ◌∙◌, arith, length-append, take-append-drop}
 use Rattle.std.specs.Prelude.{◌≢◌, ◌&&◌, nat_lt}
 use Rattle.std.specs.List.{All, find, position_or_len, slice_get}
 use Rattle.std.specs.Option.{option_map, option_or}
@@ -14,20 +14,19 @@ use Rattle.std.proofs.lemmas.Slice.Eq.{bytes_eq-Decides}
 use Rattle.fits_card.specs.Card.{keyword_name, has_value}
 use Rattle.fits_card.specs.Change.{spliced}
 use Rattle.fits_card.specs.Header.{card_at}
-use Rattle.fits_rules.specs.Class.{has_counts}
 use Rattle.fits_rules.specs.Lead.{is_value_of, lead_place, lead_card}
-use Rattle.fits_rules.specs.Reads.{integer_said, logical_said}
+use Rattle.fits_rules.specs.Reads.{integer_said}
 use Rattle.fits_rules.specs.SameShape.{IsUncounted}
-use Rattle.fits_rules.specs.Shape.{up_to, bitpix_in, if_named, axis_name, card_named, first_card, bitpix_of, naxis_of, axis_of, has_group_axes, says_groups, class_of, count_at, count_of, shape_of, Describes}
+use Rattle.fits_rules.specs.Shape.{up_to, bitpix_in, if_named, axis_name, card_named, first_card, bitpix_of, naxis_of, axis_of, class_of, count_of, shape_of, Describes}
+use Rattle.fits_rules.specs.ShapeSteps.{class_by, count_by}
 use Rattle.fits_rules.specs.declared.axis_buffer.TheConstants.{MOST_AXES}
 use Rattle.fits_rules.specs.declared.rules.TheConstants.{LARGEST}
 use Rattle.fits_rules.specs.declared.class.Class.{Class}
-use Rattle.fits_rules.specs.declared.class.Class.TheVariants.{Primary, Groups}
 use Rattle.fits_rules.specs.declared.array_shape.Shape.{Shape}
 use Rattle.fits_rules.proofs.AxesLemmas.{axis_within}
-use Rattle.fits_rules.proofs.DescribesLemmas.{ok_or_ok, described, describes}
-use Rattle.fits_rules.proofs.LeadCardLemmas.{lead_within}
+use Rattle.fits_rules.proofs.DescribesLemmas.{described, describes}
 use Rattle.fits_rules.proofs.NearLemmas.{naxis_within}
+use Rattle.fits_rules.proofs.ShapeLeadLemmas.{class_of-lead, by_lead, from_lead}
 
 -- what holds of each element, and what follows from it
 weaker : {X : Type 0} (P Q : X → Type 0) (xs : List X) → ((x : X) → P x → Q x) → All P xs → All Q xs
@@ -123,59 +122,12 @@ unfolding axis_of card_named
 axis_same after cards n same = ap (λ (c : Option (List ℕ)). option_and_then (up_to LARGEST) (option_and_then integer_said (option_and_then (if_named (axis_name n)) c))) same
 
 -- two headers with the same lead of GROUPS have the same class
-groups_same : (after cards : List (List ℕ)) → lead_card after (codes "GROUPS  ") ≡ lead_card cards (codes "GROUPS  ") → says_groups after ≡ says_groups cards
-unfolding says_groups
-groups_same after cards same = ap (λ (o : Option (List ℕ)). unwrap_or (option_and_then logical_said o) false) same
-
--- by the axes and GROUPS
 class_same : (primary : Bool) (after cards : List (List ℕ)) (first axes : List ℕ) → lead_card after (codes "GROUPS  ") ≡ lead_card cards (codes "GROUPS  ") → class_of primary after first axes ≡ class_of primary cards first axes
-unfolding class_of
-class_same true after cards first axes same = ap (λ (b : Bool). cond (has_group_axes axes && b) Groups Primary) (groups_same after cards same)
-class_same false after cards first axes same = refl
-
--- the count that a lead says, wherever it stands, or the default without a lead
-abbrev count_said : ℕ → Option (List ℕ) → Option ℕ
-count_said default None = Some default
-count_said default (Some card) = option_and_then (up_to LARGEST) (integer_said card)
-
--- a count that a card says
-card_count : (default n : ℕ) (c : Option (List ℕ)) → option_and_then (up_to LARGEST) (option_and_then integer_said c) ≡ Some n → count_said default c ≡ Some n
-card_count default n None e = absurd (cc)
-card_count default n (Some card) e = e
-
--- and the other way round
-count_card : (default n place : ℕ) (c : Option (List ℕ)) → (c ≡ None → ⊥) → count_said default c ≡ Some n → ok_or (option_and_then (up_to LARGEST) (option_and_then integer_said c)) place ≡ Ok n
-count_card default n place None there e = absurd (there refl)
-count_card default n place (Some card) there e = rw e refl
-
--- a count is what the lead says
-from_count : (cards : List (List ℕ)) (default n : ℕ) (o : Option ℕ) → count_at cards default o ≡ Ok n → count_said default (option_and_then (card_at cards) o) ≡ Some n
-from_count cards default n None e = let same : default ≡ n = cc in ap Some same
-from_count cards default n (Some place) e =
-    card_count default n (card_at cards place) (ok_or_ok (option_and_then (up_to LARGEST) (option_and_then integer_said (card_at cards place))) place n e)
-
--- and the other way round
-to_count : (cards : List (List ℕ)) (default n : ℕ) (o : Option ℕ) → ((place : ℕ) → o ≡ Some place → card_at cards place ≡ None → ⊥) → count_said default (option_and_then (card_at cards) o) ≡ Some n → count_at cards default o ≡ Ok n
-to_count cards default n None there e = let same : default ≡ n = cc in ap Ok same
-to_count cards default n (Some place) there e = count_card default n place (card_at cards place) (there place refl) e
-
--- the lead is there
-lead_is : (cards : List (List ℕ)) (name : List ℕ) (place : ℕ) → lead_place cards name ≡ Some place → card_at cards place ≡ None → ⊥
-lead_is cards name place e none =
-    let within = lead_within cards name place e in
-    let card = slice_get-get_or cards (place - 1) [] (omega arith) in
-    cc
+class_same primary after cards first axes same = class_of-lead primary after first axes ∙ (ap (class_by primary first axes) same ∙ sym (class_of-lead primary cards first axes))
 
 -- two headers with the same lead of a name have the same count
 count_same : (class : Class) (after cards : List (List ℕ)) (name : List ℕ) (default n : ℕ) → lead_card after name ≡ lead_card cards name → count_of class cards name default ≡ Ok n → count_of class after name default ≡ Ok n
-unfolding count_of lead_card
-count_same class after cards name default n same e = elim (cases_Bool (has_counts class)) [
-  | inl some ↦
-      let before : count_at cards default (lead_place cards name) ≡ Ok n = sym (cond-true (has_counts class) _ _ some) ∙ e in
-      cond-true (has_counts class) _ _ some
-      ∙ to_count after default n (lead_place after name) (lead_is after name) (ap (count_said default) same ∙ from_count cards default n (lead_place cards name) before)
-  | inr none ↦ cond-false (has_counts class) _ _ none ∙ (sym (cond-false (has_counts class) _ _ none) ∙ e)
-]
+count_same class after cards name default n same e = from_lead class after name default n (ap (λ (lead : Option (List ℕ)). count_by class lead default) same ∙ by_lead class cards name default n e)
 
 -- a shape has the cards of its axes
 described_within : (primary : Bool) (cards : List (List ℕ)) (shape : Shape) → Describes primary cards shape → 3 + length shape.axes ≤ length cards

@@ -11,6 +11,7 @@ pub mod NearLemmas
 pub mod PartLemmas
 pub mod ReadLemmas
 pub mod SameShapeLemmas
+pub mod ShapeLeadLemmas
 pub mod ShapeLemmas
 pub mod SizeLemmas
 pub mod StandardFacts

@@ -16,6 +16,7 @@ mod mandatory;
 mod reading;
 mod reads;
 mod rules;
+mod shape_leads;
 mod shape_reading;
 mod size;
 
@@ -32,4 +33,5 @@ pub use laws::{
 };
 pub use leads::{lead, lead_card};
 pub use mandatory::{ShapeFault, shape};
+pub use shape_leads::ShapeLeads;
 pub use size::data_bytes;

@@ -15,7 +15,7 @@ use crate::reads;
 use fits_card::{Card, CardList, Change, Name};
 
 /// The largest axis, PCOUNT and GCOUNT (FITS Standard 4.0, sections 4.4.1.1 and 4.4.1.2).
-const LARGEST: u64 = 9223372036854775807;
+pub(crate) const LARGEST: u64 = 9223372036854775807;
 
 // The digit of a number below 10.
 fn digit(number: usize) -> u8
@@ -193,8 +193,8 @@ pub(crate) fn count(
     }
 }
 
-// Whether there are two axes or more, and the first is 0 (6).
-fn has_group_axes(axes: &[u64]) -> bool
+/// Whether there are two axes or more, and the first is 0 (6).
+pub(crate) fn has_group_axes(axes: &[u64]) -> bool
     ensures { result ≡ has_group_axes axes.now }
 {
     matches!(axes, [0, _, ..])
