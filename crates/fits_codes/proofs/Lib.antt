@@ -1,7 +1,6 @@
 pub mod CalendarLemmas
 pub mod DateLemmas
 pub mod FixedLemmas
-pub mod HeaderLemmas
 pub mod LawLemmas
 pub mod MarkLemmas
 pub mod SaidLemmas

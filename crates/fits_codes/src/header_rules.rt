@@ -1,12 +1,10 @@
 //! The codes of a header as a whole.
-ghost use Rattle.std.specs.Prelude.{◌≡◌, ◌+◌, ◌*◌, ◌<◌, length};
-ghost use Rattle.fits_card.specs.CardList.{ReadsUpTo};
-ghost use Rattle.fits_codes.specs.HeaderCodes.{has_image_counts, is_stored, is_out_of_range, is_outside, has_header_code, header_judged, header_mark_of};
+ghost use Rattle.std.specs.Prelude.{◌≡◌};
+ghost use Rattle.fits_codes.specs.HeaderCodes.{has_image_counts, is_stored, is_out_of_range, is_outside, has_header_code, header_judged};
 
 use crate::code::Code;
 use crate::code_set::CodeSet;
-use crate::header_mark::{HeaderMark, header_mark_of};
-use fits_card::CardList;
+use crate::header_mark::HeaderMark;
 use fits_rules::{Class, IntegerSaid, Shape, image_bits};
 
 /// The codes that a header as a whole can have, by number.
@@ -92,13 +90,4 @@ pub fn judge_header_mark(mark: &HeaderMark, shape: &Shape) -> CodeSet
         }
     }
     found
-}
-
-/// The codes of a header that has this shape: exactly those whose fact holds. It takes no memory.
-pub fn judge_header(cards: &mut CardList, shape: &Shape) -> CodeSet
-    requires { length shape.now.axes < 1000 }
-    ensures value { result ≡ header_judged (header_mark_of cards.old.header shape.now) shape.now }
-    ensures work { ReadsUpTo cards.old cards.new (2 * length cards.old.header.cards + 4) }
-{
-    judge_header_mark(&header_mark_of(cards, shape), shape)
 }

@@ -18,8 +18,8 @@ mod mark;
 pub use code::Code;
 pub use code_set::CodeSet;
 pub use context::Context;
-pub use header_mark::{HeaderMark, header_mark_of};
-pub use header_rules::{judge_header, judge_header_mark};
+pub use header_mark::{HeaderMark, says_false};
+pub use header_rules::judge_header_mark;
 pub use judging::judge;
 pub use laws::{
     each_code_of_a_card_alone_is_found, each_code_of_a_card_is_found,
