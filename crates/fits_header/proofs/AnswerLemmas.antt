@@ -1,6 +1,6 @@
 -- What the index of cards answers.
-use Rattle.std.proofs.Common.{◌≡◌, ℕ, suc, ◌+◌, ◌==◌, ◌&&◌, nat_lt, Bool, true, false, not, cond, List, [], ◌∷◌, length, filter, ap, sym, ◌∙◌, refl, subst, arith, Option, Some, None}
-use Rattle.std.specs.List.{All, position, position_or_len}
+use Rattle.std.proofs.Common.{◌≡◌, ℕ, suc, ◌+◌, ◌==◌, ◌&&◌, nat_lt, ◌||◌, Bool, true, false, not, cond, List, [], ◌∷◌, length, filter, ap, sym, ◌∙◌, refl, subst, arith, Option, Some, None}
+use Rattle.std.specs.List.{All, list_any, position, position_or_len}
 use Rattle.std.specs.Option.{option_map}
 use Rattle.std.proofs.lemmas.Bool.Decides.{nat_tests}
 use Rattle.std.proofs.lemmas.List.{length-map, get_or-map}
@@ -12,7 +12,8 @@ use Rattle.fits_header.specs.declared.key.Key.{Key}
 use Rattle.fits_header.specs.Index.{is_named, entry_of, entries_from, first_value, places_in, IsIndexOf}
 use Rattle.fits_header.specs.Key.{key_of, keys_of}
 use Rattle.fits_header.specs.Names.{IsName, name_number}
-use Rattle.fits_header.specs.Places.{places_from, keyword_places}
+use Rattle.fits_header.specs.Places.{has_name, places_from, keyword_places}
+use Rattle.fits_header.proofs.FilterLemmas.{any-same}
 use Rattle.fits_header.proofs.NumberLemmas.{same-number}
 
 -- the names of cards are names
@@ -54,7 +55,7 @@ pos_step true k n = let t : nat_lt 0 (suc n) ≡ true = grind (arith, nat_tests)
 pos_step false k n = let t : nat_lt (1 + k) (suc n) ≡ nat_lt k n = grind (arith, nat_tests) in rw t (pos_some (nat_lt k n) k)
 
 -- where the first one that passes stands, by the first of a list
-position_cons : {X : Type 0} (q : X → Bool) (m : X) (ms : List X) → position q (m ∷ ms) ≡ cond (q m) (Some 0) (option_map (λ i. i + 1) (position q ms))
+pub position_cons : {X : Type 0} (q : X → Bool) (m : X) (ms : List X) → position q (m ∷ ms) ≡ cond (q m) (Some 0) (option_map (λ i. i + 1) (position q ms))
 position_cons q m ms = pos_step (q m) (position_or_len q ms) (length ms)
 
 -- adding in two steps
@@ -70,12 +71,12 @@ lead_step true false p e es o h g r = rw h (r ∙ two_maps p o)
 lead_step false v p e es o h g r = r ∙ two_maps p o
 
 -- equal numbers tell that a card has the name
-value_test : (card name : List ℕ) → IsName (keyword_name card) → IsName name → ((name_number (keyword_name card) == name_number name) && has_value card) ≡ is_value_of name card
+pub value_test : (card name : List ℕ) → IsName (keyword_name card) → IsName name → ((name_number (keyword_name card) == name_number name) && has_value card) ≡ is_value_of name card
 unfolding is_value_of
 value_test card name named is = ap (λ b. b && has_value card) (sym (same-number (keyword_name card) name named is))
 
 -- the first entry with a value is the first card that is the name's
-lead_from : (p : ℕ) (cards : List (List ℕ)) (name : List ℕ) → AreNamed cards → IsName name → first_value (filter (is_named (name_number name)) (entries_from p (keys_of cards))) ≡ option_map (λ i. i + p) (position (is_value_of name) cards)
+pub lead_from : (p : ℕ) (cards : List (List ℕ)) (name : List ℕ) → AreNamed cards → IsName name → first_value (filter (is_named (name_number name)) (entries_from p (keys_of cards))) ≡ option_map (λ i. i + p) (position (is_value_of name) cards)
 lead_from p [] name named is = refl
 lead_from p (card ∷ cards) name named is =
     lead_step (name_number (keyword_name card) == name_number name) (has_value card) p (entry_of (key_of card) p) (filter (is_named (name_number name)) (entries_from (p + 1) (keys_of cards))) (position (is_value_of name) cards) refl refl
@@ -89,3 +90,17 @@ pub index-lead : (es : List Entry) (keys : List Key) (cards : List (List ℕ)) (
 unfolding lead_place
 index-lead es keys cards name index named is h =
     ap first_value (index.same (name_number name)) ∙ (ap (λ ks. first_value (filter (is_named (name_number name)) (entries_from 1 ks))) is ∙ lead_from 1 cards name (are_named keys cards named is) h)
+
+-- an entry has a name exactly where a card does
+any_named : (p : ℕ) (cards : List (List ℕ)) (name : List ℕ) → AreNamed cards → IsName name → list_any (is_named (name_number name)) (entries_from p (keys_of cards)) ≡ list_any (has_name name) cards
+any_named p [] name named is = refl
+any_named p (card ∷ cards) name named is =
+    ap (λ b. (name_number (keyword_name card) == name_number name) || b) (any_named (p + 1) cards name (All-tail (λ (card : List ℕ). IsName (keyword_name card)) card cards named) is)
+    ∙ ap (λ b. b || list_any (has_name name) cards) (sym (same-number (keyword_name card) name (named 0 card (omega arith)) is))
+
+-- an index answers whether a card has a name
+pub index-has : (es : List Entry) (keys : List Key) (cards : List (List ℕ)) (name : List ℕ) → IsIndexOf es keys → All (λ (key : Key). IsName key.name) keys → keys ≡ keys_of cards → IsName name
+    → list_any (is_named (name_number name)) es ≡ list_any (has_name name) cards
+index-has es keys cards name index named is h =
+    any-same (is_named (name_number name)) es (entries_from 1 keys) (index.same (name_number name))
+    ∙ (ap (λ ks. list_any (is_named (name_number name)) (entries_from 1 ks)) is ∙ any_named 1 cards name (are_named keys cards named is) h)

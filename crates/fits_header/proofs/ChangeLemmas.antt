@@ -19,7 +19,7 @@ kept_all P true e es h = All-tail P e es h
 kept_all P false e es h = h
 
 -- what holds of the entries of each name holds of all
-all_by_name : (P : Entry → Type 0) (es : List Entry) → ((name : ℕ) → All P (filter (is_named name) es)) → All P es
+pub all_by_name : (P : Entry → Type 0) (es : List Entry) → ((name : ℕ) → All P (filter (is_named name) es)) → All P es
 all_by_name P [] h = All-nil P
 all_by_name P (e ∷ es) h =
     let own : is_named e.name e ≡ true = grind (arith, nat_tests) in

@@ -3,7 +3,7 @@ use Rattle.std.proofs.Common.{◌≡◌, ℕ, ◌+◌, ◌-◌, ◌<◌, ◌≤�
 use Rattle.std.specs.List.{All}
 use Rattle.std.proofs.lemmas.Bool.Decides.{nat_tests}
 use Rattle.std.proofs.lemmas.List.{take_more, length-take-le, take_all, map-append, take-append-drop, drop-drop}
-use Rattle.std.proofs.lemmas.List.Elements.{All-nil, All-cons, filter-append}
+use Rattle.std.proofs.lemmas.List.Elements.{All-nil, All-cons, All-tail, filter-append}
 use Rattle.fits_header.specs.declared.entry.Entry.{Entry}
 use Rattle.fits_header.specs.declared.key.Key.{Key}
 use Rattle.fits_header.specs.Index.{added, is_named, shifted, stays, entry_of, entries_from, AreSame}
@@ -66,6 +66,23 @@ stays_high place removed e h = grind (arith, nat_tests)
 -- what stands between is
 goes : (place removed : ℕ) (e : Entry) → place ≤ e.place → e.place < place + removed → stays place removed e ≡ false
 goes place removed e h g = grind (arith, nat_tests)
+
+-- entries before a place are not shifted
+shifted_none : (place removed coming : ℕ) (es : List Entry) → All (λ (e : Entry). e.place < place) es → map (shifted place removed coming) es ≡ es
+shifted_none place removed coming [] h = refl
+shifted_none place removed coming (e ∷ es) h =
+    cons_both _ _ _ _ (shift_before place removed coming e (h 0 e (omega arith))) (shifted_none place removed coming es (All-tail (λ (x : Entry). x.place < place) e es h))
+
+-- below a place that is past the last
+past_last : (last place n : ℕ) → last < place → n ≤ last → n < place
+past_last last place n h g = omega arith
+
+-- where cards come after all others the entries are as before
+pub way-free : (es : List Entry) (place removed coming last : ℕ) → All (λ (e : Entry). e.place ≤ last) es → last < place → es ≡ map (shifted place removed coming) (filter (stays place removed) es)
+way-free es place removed coming last within h =
+    let low : All (λ (e : Entry). e.place < place) es = λ k d l. past_last last place _ h (within k d l) in
+    let all : filter (stays place removed) es ≡ es = filter_all (stays place removed) es (λ k d l. stays_low place removed (get_or es k d) (low k d l)) in
+    sym (ap (map (shifted place removed coming)) all ∙ shifted_none place removed coming es low)
 
 -- the entries that are left once some went
 pub entries-taken : (place removed coming : ℕ) (xs ys zs : List Key) → length xs + 1 ≡ place → length ys ≡ removed

@@ -1,6 +1,6 @@
 -- Filters, and lists in order.
-use Rattle.std.proofs.Common.{◌≡◌, ℕ, zero, suc, ◌<◌, ◌≤◌, Bool, true, false, not, cond, List, [], ◌∷◌, ◌++◌, length, take, drop, get_or, map, filter, ap, sym, ◌∙◌, refl, arith}
-use Rattle.std.specs.List.{AllPairs, All}
+use Rattle.std.proofs.Common.{◌≡◌, ℕ, zero, suc, ◌<◌, ◌≤◌, Bool, true, false, not, cond, ◌||◌, List, [], ◌∷◌, ◌++◌, length, take, drop, get_or, map, filter, ap, sym, ◌∙◌, refl, arith}
+use Rattle.std.specs.List.{AllPairs, All, list_any}
 use Rattle.std.proofs.lemmas.List.Elements.{All-append, All-tail, All-map}
 use Rattle.std.proofs.lemmas.List.Kept.{AllPairs-cons}
 
@@ -77,3 +77,22 @@ AllPairs-map R S f keeps [] h = λ i j d l m. absurd (omega arith)
 AllPairs-map R S f keeps (x ∷ xs) h =
     AllPairs-cons S (f x) (map f xs) (All-map (S (f x)) f xs (λ k d l. keeps x (get_or xs k d) (h 0 (suc k) d (omega arith) (omega arith))))
     (AllPairs-map R S f keeps xs (λ i j d l m. h (suc i) (suc j) d (omega arith) (omega arith)))
+
+-- whether a list has an element
+abbrev is_some_list : {X : Type 0} → List X → Bool
+is_some_list [] = false
+is_some_list (x ∷ xs) = true
+
+-- with one element more or not
+some_step : {X : Type 0} (b : Bool) (x : X) (xs : List X) → (b || is_some_list xs) ≡ is_some_list (cond b (x ∷ xs) xs)
+some_step true x xs = refl
+some_step false x xs = refl
+
+-- one passes exactly where the filter leaves some
+any-filter : {X : Type 0} (p : X → Bool) (xs : List X) → list_any p xs ≡ is_some_list (filter p xs)
+any-filter p [] = refl
+any-filter p (x ∷ xs) = ap (λ b. p x || b) (any-filter p xs) ∙ some_step (p x) x (filter p xs)
+
+-- lists of the same elements that pass
+pub any-same : {X : Type 0} (p : X → Bool) (xs ys : List X) → filter p xs ≡ filter p ys → list_any p xs ≡ list_any p ys
+any-same p xs ys same = any-filter p xs ∙ (ap is_some_list same ∙ sym (any-filter p ys))

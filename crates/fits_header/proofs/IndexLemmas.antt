@@ -103,7 +103,7 @@ parted_before name p es us vs same low high =
     ∙ ap (filter (is_named name)) (filter-append (λ (x : Entry). nat_lt x.place p) us vs ∙ (rw (filter_all (λ (x : Entry). nat_lt x.place p) us low, filter_none (λ (x : Entry). nat_lt x.place p) vs high) (append-nil us))))))
 
 -- the entries of a name from a place on
-parted_behind : (name p : ℕ) (es us vs : List Entry) → filter (is_named name) es ≡ filter (is_named name) (us ++ vs) → All (λ x. nat_lt x.place p ≡ true) us → All (λ x. nat_lt x.place p ≡ false) vs
+pub parted_behind : (name p : ℕ) (es us vs : List Entry) → filter (is_named name) es ≡ filter (is_named name) (us ++ vs) → All (λ x. nat_lt x.place p ≡ true) us → All (λ x. nat_lt x.place p ≡ false) vs
     → filter (is_named name) (filter (λ x. not (comes_before name p x)) es) ≡ filter (is_named name) vs
 parted_behind name p es us vs same low high =
     filter-filter (is_named name) (λ x. not (comes_before name p x)) es

@@ -1,32 +1,32 @@
 -- Leads.
-use Rattle.std.proofs.Common.{◌≡◌, ℕ, zero, suc, ◌+◌, ◌<◌, ◌≤◌, true, false, not, List, [], ◌∷◌, ◌++◌, length, take, drop, get_or, filter, ap, sym, ◌∙◌, refl, append-nil, append_assoc, arith, Some, None, take-append-drop}
-use Rattle.std.specs.List.{All}
+use Rattle.std.proofs.Common.{◌≡◌, ℕ, zero, suc, ◌+◌, ◌<◌, ◌≤◌, ◌==◌, true, false, not, List, [], ◌∷◌, ◌++◌, length, drop, get_or, slice_get, filter, ap, sym, ◌∙◌, refl, inl, inr, append-nil, append_assoc, arith, Some, None}
+use Rattle.std.specs.List.{All, list_any}
 use Rattle.std.proofs.lemmas.List.{drop_all}
 use Rattle.std.proofs.Math.Seq.{drop-cons}
+use Rattle.std.proofs.lemmas.Bool.{cases_lt}
 use Rattle.std.proofs.lemmas.Bool.Decides.{nat_tests}
-use Rattle.std.proofs.lemmas.List.Elements.{All-cons, filter-append, filter_passes}
+use Rattle.std.proofs.lemmas.List.Elements.{All-cons, filter_passes}
 use Rattle.fits_header.specs.declared.entry.Entry.{Entry}
-use Rattle.fits_header.specs.Index.{IsSortedIndex, IsInOrder, comes_before, is_named, first_value, places_in}
-use Rattle.fits_header.proofs.FilterLemmas.{filter_none}
+use Rattle.fits_header.specs.Index.{IsSortedIndex, IsInOrder, comes_before, from_place, is_named, first_value, places_in}
+use Rattle.fits_header.proofs.FilterLemmas.{any-same, filter_all, filter-filter, filter_none}
 
--- what doesn't come before place 0 of a name has it or a higher one
-at_least : (name : ℕ) (e : Entry) → not (comes_before name 0 e) ≡ true → name ≤ e.name
-at_least name e h = grind (arith, nat_tests)
+-- what doesn't come before a place of a name has it or a higher one
+at_least : (name place : ℕ) (e : Entry) → not (comes_before name place e) ≡ true → name ≤ e.name
+at_least name place e h = grind (arith, nat_tests)
 
--- what does has a lower one
-lower : (name : ℕ) (e : Entry) → comes_before name 0 e ≡ true → is_named name e ≡ false
+-- what comes before place 0 has a lower one
+lower : (name : ℕ) (e : Entry) → is_named name e ≡ true → comes_before name 0 e ≡ false
 lower name e h = grind (arith, nat_tests)
 
 -- those from the name's place on
-pub from_place : (name : ℕ) (es : List Entry) → All (λ (e : Entry). name ≤ e.name) (filter (λ x. not (comes_before name 0 x)) es)
-from_place name es k d l = at_least name (get_or (filter (λ x. not (comes_before name 0 x)) es) k d) (filter_passes (λ x. not (comes_before name 0 x)) es k d l)
+pub names_from : (name place : ℕ) (es : List Entry) → All (λ (e : Entry). name ≤ e.name) (from_place name place es)
+names_from name place es k d l = at_least name place (get_or (from_place name place es) k d) (filter_passes (λ x. not (comes_before name place x)) es k d l)
 
--- no entry of a name stands before its partition point
-pub named_from_place : (name at : ℕ) (es : List Entry) → take at es ≡ filter (comes_before name 0) es → filter (is_named name) (drop at es) ≡ filter (is_named name) es
-named_from_place name at es front =
-    let none : filter (is_named name) (take at es) ≡ [] = filter_none (is_named name) (take at es) (rw front (λ k d l. lower name (get_or (filter (comes_before name 0) es) k d) (filter_passes (comes_before name 0) es k d l))) in
-    ap (λ xs. xs ++ filter (is_named name) (drop at es)) (sym none)
-    ∙ (sym (filter-append (is_named name) (take at es) (drop at es)) ∙ ap (filter (is_named name)) (take-append-drop at es))
+-- no entry of a name stands before its place 0
+pub named_from_first : (name : ℕ) (es : List Entry) → filter (is_named name) (from_place name 0 es) ≡ filter (is_named name) es
+named_from_first name es =
+    filter-filter (is_named name) (λ x. not (comes_before name 0 x)) es
+    ∙ filter_all (λ x. not (comes_before name 0 x)) (filter (is_named name) es) (λ k d l. ap not (lower name (get_or (filter (is_named name) es) k d) (filter_passes (is_named name) es k d l)))
 
 -- the rest of a sorted index is sorted
 pub sorted-drop : (n : ℕ) (es : List Entry) → IsSortedIndex es → IsSortedIndex (drop n es)
@@ -47,6 +47,21 @@ pub none_behind : (name : ℕ) (e : Entry) (es : List Entry) → IsSortedIndex (
 none_behind name e es sorted h =
     filter_none (is_named name) (e ∷ es)
     (All-cons (λ x. is_named name x ≡ false) e es (not_this name e h) (λ k d l. greater name e (get_or es k d) h (sorted 0 (suc k) d (omega arith) (omega arith))))
+
+-- the first of them tells whether the name is there
+pub any_first : (name : ℕ) (es : List Entry) (e : Entry) → IsSortedIndex es → All (λ (e : Entry). name ≤ e.name) es → slice_get es 0 ≡ Some e → (e.name == name) ≡ list_any (is_named name) es
+any_first name [] e sorted high first = absurd (cc)
+any_first name (x ∷ es) e sorted high first =
+    let here : x ≡ e = cc in
+    rw (← here) (elim (cases_lt name x.name) [
+      | inl less ↦ not_this name x less ∙ any-same (is_named name) [] (x ∷ es) (sym (none_behind name x es sorted less))
+      | inr most ↦ let own : is_named name x ≡ true = grind (arith, nat_tests, high 0 x (omega arith)) in rw own refl
+    ])
+
+-- and where there is none it isn't
+pub any_none : (name : ℕ) (es : List Entry) → slice_get es 0 ≡ None → false ≡ list_any (is_named name) es
+any_none name [] none = refl
+any_none name (x ∷ es) none = absurd (cc)
 
 -- at an entry of another name the search ends
 pub lead-stop : (name i : ℕ) (d : Entry) (es : List Entry) → IsSortedIndex es → All (λ (e : Entry). name ≤ e.name) es → i < length es → ((get_or es i d).name ≡ name → ⊥) → first_value (filter (is_named name) (drop i es)) ≡ None

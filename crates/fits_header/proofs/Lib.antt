@@ -9,5 +9,14 @@ pub mod ChangeLemmas
 pub mod NumberLemmas
 pub mod AnswerLemmas
 pub mod NameLemmas
+pub mod StretchLemmas
+pub mod TurnLemmas
+pub mod HeaderMarkLemmas
 pub mod StandardFacts
 pub mod LinkLemmas
+pub mod HeaderLemmas
+pub mod MarksLemmas
+pub mod RepeatLemmas
+pub mod SurroundingLemmas
+pub mod MarkedLinkLemmas
+pub mod FindingLemmas

@@ -39,7 +39,7 @@ less : (p q : ℕ) → p + 1 ≤ q → p < q
 less p q h = omega arith
 
 -- the places of entries rise
-entries-rise : (p : ℕ) (ms : List Key) → AllPairs (λ (a b : Entry). a.place < b.place) (entries_from p ms)
+pub entries-rise : (p : ℕ) (ms : List Key) → AllPairs (λ (a b : Entry). a.place < b.place) (entries_from p ms)
 entries-rise p [] = λ i j d l m. absurd (omega arith)
 entries-rise p (m ∷ ms) =
     AllPairs-cons (λ (a b : Entry). a.place < b.place) (entry_of m p) (entries_from (p + 1) ms) (λ k d l. less p _ (entries-high (p + 1) (p + 1) ms (omega arith) k d l)) (entries-rise (p + 1) ms)
@@ -64,7 +64,7 @@ kept_pairs true e es h = λ i j d l m. h (suc i) (suc j) d (omega arith) (omega 
 kept_pairs false e es h = h
 
 -- pairs of one name are in the order of their filter
-pairs_by_name : (es : List Entry) → ((name : ℕ) → AllPairs (λ (a b : Entry). a.place < b.place) (filter (is_named name) es)) → AllPairs (λ (a b : Entry). a.name ≡ b.name → a.place < b.place) es
+pub pairs_by_name : (es : List Entry) → ((name : ℕ) → AllPairs (λ (a b : Entry). a.place < b.place) (filter (is_named name) es)) → AllPairs (λ (a b : Entry). a.name ≡ b.name → a.place < b.place) es
 pairs_by_name [] h = λ i j d l m. absurd (omega arith)
 pairs_by_name (e ∷ es) h =
     let own : is_named e.name e ≡ true = grind (arith, nat_tests) in

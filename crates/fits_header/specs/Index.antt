@@ -62,6 +62,15 @@ abbrev pub first_value : List Entry → Option ℕ
 first_value [] = None
 first_value (entry ∷ entries) = if entry.has_value then Some entry.place else first_value entries
 
+-- the place, where it is before another
+abbrev pub before : ℕ → Option ℕ → Option ℕ
+before to None = None
+before to (Some place) = if nat_lt place to then Some place else None
+
+-- the entries of a name from a place on, and those of greater names
+abbrev pub from_place : ℕ → ℕ → List Entry → List Entry
+from_place name place entries = filter (λ e. not (comes_before name place e)) entries
+
 -- the places of entries
 abbrev pub places_in : List Entry → List ℕ
 places_in [] = []

@@ -1,6 +1,13 @@
+pub mod Findings
 pub mod Index
 pub mod Key
 pub mod KeyIndex
 pub mod Links
+pub mod Marks
 pub mod Names
 pub mod Places
+pub mod Repeats
+pub mod State
+pub mod Stretch
+pub mod Surroundings
+pub mod Work

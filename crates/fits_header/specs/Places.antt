@@ -1,7 +1,9 @@
 -- The places of a keyword.
-use Rattle.std.specs.Prelude.{ℕ, ◌+◌, Bool, List, [], ◌∷◌, if◌then◌else◌}
+use Rattle.std.specs.Prelude.{ℕ, ◌+◌, ◌-◌, Bool, List, [], ◌∷◌, take, drop, Option, if◌then◌else◌}
+use Rattle.std.specs.Option.{option_map}
 use Rattle.std.specs.Str.{bytes_eq}
 use Rattle.fits_card.specs.Card.{keyword_name}
+use Rattle.fits_rules.specs.Lead.{lead_place}
 
 -- the card has this name (4.1.2.1)
 abbrev pub has_name : List ℕ → List ℕ → Bool
@@ -17,3 +19,11 @@ places_from place (card ∷ cards) name =
 -- the places of the cards that have a name, ascending, counted from 1 (own)
 abbrev pub keyword_places : List (List ℕ) → List ℕ → List ℕ
 keyword_places cards name = places_from 1 cards name
+
+-- the cards from a place on and before another
+abbrev pub cards_within : List (List ℕ) → ℕ → ℕ → List (List ℕ)
+cards_within cards from to = take (to - from) (drop (from - 1) cards)
+
+-- where the lead of those stands, among all cards (own)
+abbrev pub lead_place_within : List (List ℕ) → List ℕ → ℕ → ℕ → Option ℕ
+lead_place_within cards name from to = option_map (λ place. place + (from - 1)) (lead_place (cards_within cards from to) name)

@@ -6,7 +6,7 @@ ghost use Rattle.fits_header.specs.Index.{IsIndexOf};
 ghost use Rattle.fits_header.specs.Key.{keys_of};
 ghost use Rattle.fits_header.specs.Names.{IsName};
 
-use crate::entries::{add, add_cards, take_out};
+use crate::entries::{add, add_cards, make_way, take_out};
 use crate::entry::{Entry, entry_of};
 use crate::key::Key;
 use fits_card::{Card, Name, make_room, move_item};
@@ -32,7 +32,7 @@ pub(crate) fn splice_beside(
     ensures room { vec_capacity keys.old ≤ vec_capacity keys.new }
     ensures entry_room { vec_capacity entries.old ≤ vec_capacity entries.new }
 {
-    take_out(entries, place, removed, cards.len());
+    make_way(entries, place, removed, cards.len(), keys.len());
     add_cards(entries, place, cards);
     splice_keys(keys, place, removed, cards);
 }

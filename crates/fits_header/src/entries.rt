@@ -48,6 +48,31 @@ pub(crate) fn place_for(entries: &[Entry], name: u64, place: usize) -> usize
     })
 }
 
+/// Takes the entries of places out, and shifts those behind, for as many as come. No entry has a
+/// place after the last one.
+///
+/// Cards that come after all others leave the entries as they are.
+pub(crate) fn make_way(
+    entries: &mut Vec<Entry>,
+    place: usize,
+    removed: usize,
+    coming: usize,
+    last: usize,
+)
+    requires sorted { IsSortedIndex entries.old.items }
+    requires low { All (λ e. e.place + coming < 2 ^ 64 + removed) entries.old.items }
+    requires within { All (λ e. e.place ≤ last) entries.old.items }
+    ensures items { entries.new.items
+        ≡ map (shifted place removed coming) (filter (stays place removed) entries.old.items) }
+    ensures sorted { IsSortedIndex entries.new.items }
+    ensures room { vec_capacity entries.new ≡ vec_capacity entries.old }
+{
+    if last < place {
+        return;
+    }
+    take_out(entries, place, removed, coming);
+}
+
 /// Takes the entries of places out, and shifts those behind, for as many as come.
 pub(crate) fn take_out(entries: &mut Vec<Entry>, place: usize, removed: usize, coming: usize)
     requires sorted { IsSortedIndex entries.old.items }

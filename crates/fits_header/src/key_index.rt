@@ -7,9 +7,13 @@ use crate::changing::{move_beside, splice_beside};
 use crate::entries::index_of;
 use crate::entry::Entry;
 use crate::key::Key;
-use crate::lookups::{lead, numbers, positions};
+use crate::lookups::{has, lead, lead_within, numbers, positions};
+use crate::marks::keys_in;
 use crate::numbers::{names_of, number_of};
+use crate::repeats::mark_repeats;
+use crate::surrounding::Surrounding;
 use fits_card::{Card, CardList, Name};
+use fits_codes::Mark;
 use std::alloc::{AllocError, Global};
 use std::marker::Model;
 
@@ -59,8 +63,11 @@ fn keys_of_cards(alloc: Global, cards: &mut CardList) -> Result<Vec<Key>, AllocE
 impl KeyIndex {
     ghost use Rattle.std.specs.Prelude.{◌≡◌, ◌≤◌, ◌<◌, ◌+◌, List, ℕ, IfOk, IsOk, OnOk, OnErr, length};
     ghost use Rattle.fits_card.specs.Change.{moved, spliced};
+    ghost use Rattle.fits_header.specs.Marks.{keys_in};
     ghost use Rattle.fits_header.specs.Names.{header_names};
-    ghost use Rattle.fits_header.specs.Places.{keyword_places};
+    ghost use Rattle.std.specs.List.{list_any};
+    ghost use Rattle.fits_header.specs.Places.{has_name, keyword_places, lead_place_within};
+    ghost use Rattle.fits_header.specs.Surroundings.{AreRepeatsMarked};
     ghost use Rattle.fits_rules.specs.Lead.{lead_place};
 
     /// The index of a store's cards. Each is read once.
@@ -69,6 +76,19 @@ impl KeyIndex {
         ensures work { ReadsUpTo cards.old cards.new (length cards.old.header.cards) }
     {
         let keys = keys_of_cards(alloc, cards)?;
+        let entries = index_of(alloc, &keys)?;
+        Ok(KeyIndex {
+            keys,
+            entries,
+            room: 0,
+        })
+    }
+
+    /// The index of the cards that have these marks.
+    pub(crate) fn of_marks(alloc: Global, marks: &[Mark]) -> Result<KeyIndex, AllocError>
+        ensures { IfOk result (λ index. index.keys ≡ keys_in marks.now) }
+    {
+        let keys = keys_in(alloc, marks)?;
         let entries = index_of(alloc, &keys)?;
         Ok(KeyIndex {
             keys,
@@ -93,6 +113,24 @@ impl KeyIndex {
         lead(&self.entries, number_of(name))
     }
 
+    /// Where the lead of a name stands among the cards from a place on and before another. It takes
+    /// no memory, and reads no card.
+    pub fn lead_within(&self, name: &Name, from: usize, to: usize) -> Option<usize>
+        requires { 1 ≤ from }
+        ensures { (cards : List (List ℕ)) → self.now.keys ≡ keys_of cards
+            → result ≡ lead_place_within cards name.now from to }
+    {
+        lead_within(&self.entries, number_of(name), from, to)
+    }
+
+    /// Whether a card has a name. It takes no memory, and reads no card.
+    pub fn has(&self, name: &Name) -> bool
+        ensures { (cards : List (List ℕ)) → self.now.keys ≡ keys_of cards
+            → result ≡ list_any (has_name name.now) cards }
+    {
+        has(&self.entries, number_of(name))
+    }
+
     /// The names of the cards, each once, ascending.
     pub fn names(&self, alloc: Global) -> Result<Vec<Name>, AllocError>
         ensures { (cards : List (List ℕ)) → self.now.keys ≡ keys_of cards
@@ -100,6 +138,17 @@ impl KeyIndex {
     {
         let numbers = numbers(alloc, &self.entries)?;
         names_of(alloc, &numbers)
+    }
+
+    /// Marks at each card whether an earlier one has its name, and whether one has a value too. The
+    /// links stay.
+    pub(crate) fn mark_repeats(&self, surroundings: &mut [Surrounding])
+        requires { length surroundings.old ≡ length self.now.keys }
+        ensures len { length surroundings.new ≡ length surroundings.old }
+        ensures marked { (cards : List (List ℕ)) → self.now.keys ≡ keys_of cards
+            → AreRepeatsMarked cards surroundings.old surroundings.new }
+    {
+        mark_repeats(&self.entries, surroundings);
     }
 
     /// Makes room for this many more cards. It fails only where room was missing.

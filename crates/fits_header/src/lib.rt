@@ -1,15 +1,32 @@
-//! What is kept beside the cards of a header: the index of its keywords, and its links.
+//! What is kept beside the cards of a header: the index of its keywords, the marks of its cards, and
+//! what stands round them.
 #![tactic(auto)]
 
 mod changing;
+mod counting;
+mod counts;
 mod entries;
 mod entry;
+mod finding;
+mod findings;
+mod header;
+mod header_marks;
 mod key;
 mod key_index;
 mod laws;
+mod leads;
+mod links;
 mod lookups;
+mod marks;
 mod numbers;
+mod repeats;
+mod seen;
+mod surrounding;
+mod survey;
 
+pub use counts::Counts;
+pub use finding::Finding;
+pub use header::Header;
 pub use key::Key;
 pub use key_index::KeyIndex;
 pub use laws::{

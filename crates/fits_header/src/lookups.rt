@@ -1,9 +1,9 @@
 //! What sorted entries answer.
 ghost use Rattle.std.specs.Prelude.{◌≡◌, ◌≤◌, ◌+◌, All, IfOk, filter, length, map, nat_eq};
-ghost use Rattle.std.specs.List.{dedup};
+ghost use Rattle.std.specs.List.{dedup, list_any};
 ghost use Rattle.std.specs.List.Sorted.{IsStrictlyIncreasing};
 ghost use Rattle.fits_header.specs.declared.entry.Entry.{Entry};
-ghost use Rattle.fits_header.specs.Index.{IsSortedIndex, first_value, is_named, places_in};
+ghost use Rattle.fits_header.specs.Index.{IsSortedIndex, before, first_value, from_place, is_named, places_in};
 
 use crate::entries::place_for;
 use crate::entry::Entry;
@@ -15,6 +15,29 @@ pub(crate) fn lead(entries: &[Entry], name: u64) -> Option<usize>
     ensures { result ≡ first_value (filter (is_named name) entries.now) }
 {
     lead_in(rest_of(entries, name), name)
+}
+
+/// The same of the cards from a place on and before another.
+pub(crate) fn lead_within(entries: &[Entry], name: u64, from: usize, to: usize) -> Option<usize>
+    requires { IsSortedIndex entries.now }
+    ensures { result
+        ≡ before to (first_value (filter (is_named name) (from_place name from entries.now))) }
+{
+    match lead_in(rest_from(entries, name, from), name) {
+        Some(place) if place < to => Some(place),
+        _ => None,
+    }
+}
+
+/// Whether an entry has a name.
+pub(crate) fn has(entries: &[Entry], name: u64) -> bool
+    requires { IsSortedIndex entries.now }
+    ensures { result ≡ list_any (is_named name) entries.now }
+{
+    match rest_of(entries, name).first() {
+        Some(entry) => entry.name == name,
+        None => false,
+    }
 }
 
 /// The places of a name, ascending.
@@ -52,7 +75,17 @@ fn rest_of(entries: &[Entry], name: u64) -> &[Entry]
     ensures from { All (λ e. name ≤ e.name) result.now }
     ensures same { filter (is_named name) result.now ≡ filter (is_named name) entries.now }
 {
-    let (_, rest) = entries.split_at(place_for(entries, name, 0));
+    rest_from(entries, name, 0)
+}
+
+// The entries from a place of a name on.
+fn rest_from(entries: &[Entry], name: u64, place: usize) -> &[Entry]
+    requires { IsSortedIndex entries.now }
+    ensures sorted { IsSortedIndex result.now }
+    ensures from { All (λ e. name ≤ e.name) result.now }
+    ensures same { result.now ≡ from_place name place entries.now }
+{
+    let (_, rest) = entries.split_at(place_for(entries, name, place));
     rest
 }
 

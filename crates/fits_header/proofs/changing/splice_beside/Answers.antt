@@ -7,12 +7,15 @@ use Rattle.fits_header.proofs.CountLemmas.{length-index}
 use Rattle.fits_header.proofs.EntriesLemmas.{same-taken}
 use Rattle.fits_header.proofs.changing.splice_beside.Goals as goal
 
-pub take_out-requires-clause-low : goal.take_out-requires-clause-low
-take_out-requires-clause-low c k d l = omega (arith, places_within c.args.entries.now.items c.args.keys.now.items c.requires.index k d l)
+pub make_way-requires-clause-low : goal.make_way-requires-clause-low
+make_way-requires-clause-low c k d l = omega (arith, places_within c.args.entries.now.items c.args.keys.now.items c.requires.index k d l)
+
+pub make_way-requires-clause-within : goal.make_way-requires-clause-within
+make_way-requires-clause-within c k d l = omega (arith, places_within c.args.entries.now.items c.args.keys.now.items c.requires.index k d l)
 
 pub add_cards-requires-clause-room : goal.add_cards-requires-clause-room
 add_cards-requires-clause-room c =
-    omega (arith, ap length c.take_out.ensures.items, length-taken c.args.entries.now.items c.args.keys.now.items c.args.place c.args.removed (length c.args.cards.now) c.requires.from (omega arith) c.requires.index)
+    omega (arith, ap length c.make_way.ensures.items, length-taken c.args.entries.now.items c.args.keys.now.items c.args.place c.args.removed (length c.args.cards.now) c.requires.from (omega arith) c.requires.index)
 
 pub returns-clause-index : goal.returns-clause-index
 returns-clause-index c =
@@ -20,8 +23,8 @@ returns-clause-index c =
     let front = take (c.args.place - 1) keys in
     let rest = drop (c.args.place - 1 + c.args.removed) keys in
     let kept = same-taken c.args.entries.now.items keys c.args.place c.args.removed (length c.args.cards.now) c.requires.from (omega arith) c.requires.index.same in
-    let left : AreSame c.take_out.new.entries.items (entries_from 1 front ++ entries_from (c.args.place + length c.args.cards.now) rest) =
-    λ name. ap (filter (is_named name)) c.take_out.ensures.items ∙ kept name in
+    let left : AreSame c.make_way.new.entries.items (entries_from 1 front ++ entries_from (c.args.place + length c.args.cards.now) rest) =
+    λ name. ap (filter (is_named name)) c.make_way.ensures.items ∙ kept name in
     let put = c.add_cards.ensures.same front rest (omega (arith, length-take-le (c.args.place - 1) keys (omega arith))) left in
     record {
       sorted = c.add_cards.ensures.sorted;

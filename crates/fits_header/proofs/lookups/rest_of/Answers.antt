@@ -1,11 +1,7 @@
-use Rattle.fits_header.proofs.LeadLemmas.{from_place, named_from_place, sorted-drop}
+use Rattle.std.proofs.Common.{ap, ◌∙◌, filter}
+use Rattle.fits_header.specs.Index.{is_named}
+use Rattle.fits_header.proofs.LeadLemmas.{named_from_first}
 use Rattle.fits_header.proofs.lookups.rest_of.Goals as goal
 
-pub returns-clause-sorted : goal.returns-clause-sorted
-returns-clause-sorted c = rw c.split_at.ensures.back (sorted-drop c.place_for.result c.args.entries.now c.requires)
-
-pub returns-clause-from : goal.returns-clause-from
-returns-clause-from c = rw (c.split_at.ensures.back, c.place_for.ensures.from) (from_place c.args.name c.args.entries.now)
-
 pub returns-clause-same : goal.returns-clause-same
-returns-clause-same c = rw c.split_at.ensures.back (named_from_place c.args.name c.place_for.result c.args.entries.now c.place_for.ensures.below)
+returns-clause-same c = ap (filter (is_named c.args.name)) c.rest_from.ensures.same ∙ named_from_first c.args.name c.args.entries.now

@@ -1,0 +1,64 @@
+//! How many errors and warnings are found of cards.
+ghost use Rattle.std.specs.Prelude.{◌≡◌, ◌≤◌, ◌<◌, ◌+◌, ◌*◌, ◌^◌, ◌++◌, List, ℕ, length};
+ghost use Rattle.fits_codes.specs.declared.code.Code.{Code};
+ghost use Rattle.fits_header.specs.Findings.{card_counts, counted, counts_of};
+ghost use Rattle.fits_header.specs.Marks.{marks_of};
+ghost use Rattle.fits_header.specs.Surroundings.{surroundings_of};
+
+use crate::counts::Counts;
+use crate::findings::codes_at;
+use crate::surrounding::Surrounding;
+use fits_codes::{Code, Mark};
+use fits_rules::Shape;
+
+/// The errors and warnings of all cards.
+pub(crate) fn count_all(shape: &Shape, marks: &[Mark], surroundings: &[Surrounding]) -> Counts
+    requires size { length surroundings.now ≡ length marks.now }
+    requires few { length marks.now < 2 ^ 59 }
+    ensures value { (cards : List (List ℕ)) → marks.now ≡ marks_of cards
+        → surroundings.now ≡ surroundings_of cards → result ≡ card_counts shape.now cards }
+    ensures within { result.errors + result.warnings ≤ 13 * length marks.now }
+{
+    let mut counts = Counts {
+        errors: 0,
+        warnings: 0,
+    };
+    for index in 0..marks.len() {
+        let codes = codes_at(shape, marks, surroundings, index + 1);
+        counts = count_more(counts, codes.as_slice());
+    }
+    counts
+}
+
+/// The counts with those of these codes.
+pub(crate) fn count_more(counts: Counts, codes: &[Code]) -> Counts
+    requires { counts.errors + counts.warnings + length codes.now < 2 ^ 64 }
+    ensures value { (found : List Code) → counts ≡ counts_of found
+        → result ≡ counts_of (found ++ codes.now) }
+    ensures sum { result.errors + result.warnings
+        ≡ counts.errors + counts.warnings + length codes.now }
+{
+    let mut counts = counts;
+    for index in 0..codes.len() {
+        counts = count_one(counts, codes[index]);
+    }
+    counts
+}
+
+// The counts with one more code.
+fn count_one(counts: Counts, code: Code) -> Counts
+    requires { counts.errors + counts.warnings + 1 < 2 ^ 64 }
+    ensures value { result ≡ counted counts code }
+    ensures sum { result.errors + result.warnings ≡ counts.errors + counts.warnings + 1 }
+{
+    if code.is_error() {
+        return Counts {
+            errors: counts.errors + 1,
+            ..counts
+        };
+    }
+    Counts {
+        warnings: counts.warnings + 1,
+        ..counts
+    }
+}

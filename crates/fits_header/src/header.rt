@@ -1,0 +1,368 @@
+ghost use Rattle.std.specs.Prelude.{◌≡◌, ◌≤◌, ◌+◌, length};
+ghost use Rattle.fits_card.specs.Change.{cards_after, IsInRange};
+ghost use Rattle.fits_header.specs.Key.{keys_of};
+
+use crate::counting::count_all;
+use crate::counts::Counts;
+use crate::finding::Finding;
+use crate::findings::{codes_at, findings_of, is_link};
+use crate::header_marks::header_mark_of;
+use crate::key_index::KeyIndex;
+use crate::leads::{lead_after, leads_after};
+use crate::marks::{change_marks, read_marks};
+use crate::surrounding::Surrounding;
+use crate::survey::{reserve_surroundings, survey};
+use fits_card::{Card, CardList, Change, Name, Sink};
+use fits_codes::{CodeSet, Mark, judge_header_mark};
+use fits_rules::{Shape, ShapeFault, keeps_shape, shape};
+use fits_value::{Text, Value, link_count, long_value};
+use std::alloc::{AllocError, Global};
+use std::io;
+use std::marker::Model;
+
+/// A header under edits: its cards, the shape that they describe, and what is kept beside them, so
+/// that no card is read again after a change.
+#[derive(Drop)]
+pub struct Header {
+    cards: CardList,
+    shape: Shape,
+    index: KeyIndex,
+    marks: Vec<Mark>,
+    // What stands round each card, or nothing where it wasn't asked for since the last change.
+    surroundings: Vec<Surrounding>,
+}
+
+impl Model for Header {
+    ghost use Rattle.std.specs.Prelude.{◌≡◌, ◌≤◌, ◌<◌, ◌+◌, Ok, length, vec_capacity, vec_len};
+    ghost use Rattle.fits_rules.specs.Class.{is_primary};
+    ghost use Rattle.fits_rules.specs.Shape.{shape_of};
+    ghost use Rattle.fits_header.specs.Key.{keys_of};
+    ghost use Rattle.fits_header.specs.Marks.{marks_of};
+    ghost use Rattle.fits_header.specs.State.{HeaderState};
+    ghost use Rattle.fits_header.specs.Surroundings.{surroundings_of};
+
+    ghost Value = { HeaderState };
+
+    ghost view = { λ it. record {
+      header = it.cards.header;
+      shape = it.shape;
+      reads = it.cards.reads;
+      room = it.cards.room;
+    } };
+
+    ghost invariant = { λ it. record {
+      described : shape_of (is_primary it.shape.class) it.cards.header.cards ≡ Ok it.shape;
+      keys : it.index.keys ≡ keys_of it.cards.header.cards;
+      marks : it.marks.items ≡ marks_of it.cards.header.cards;
+      size : vec_len it.marks ≡ length it.cards.header.cards;
+      found : 0 < vec_len it.surroundings
+          → it.surroundings.items ≡ surroundings_of it.cards.header.cards;
+      whole : 0 < vec_len it.surroundings
+          → vec_len it.surroundings ≡ length it.cards.header.cards;
+      room_of_index : it.cards.room ≤ it.index.room;
+      room_of_marks : vec_len it.marks + it.cards.room ≤ vec_capacity it.marks;
+      room_of_surroundings : vec_len it.marks + it.cards.room ≤ vec_capacity it.surroundings;
+    } };
+}
+
+impl Header {
+    ghost use Rattle.std.specs.Prelude.{◌≡◌, ◌≤◌, ◌<◌, ◌+◌, ◌-◌, ◌*◌, ◌^◌, List, ℕ, Ok, IsOk, IfOk, IfErr, OnOk, OnErr, IsTrue, None, false, length, slice_index_or, All};
+    ghost use Rattle.std.specs.Io.KnownBytes.{Appends};
+    ghost use Rattle.fits_card.specs.Card.{IsEnd};
+    ghost use Rattle.fits_card.specs.Change.{cards_after, new_cards, IsInRange};
+    ghost use Rattle.fits_card.specs.Header.{IsHeader, header_bytes, with_cards};
+    ghost use Rattle.fits_card.specs.Stream.{AppendsFront};
+    ghost use Rattle.fits_card.specs.declared.card.TheConstants.{CARD_LEN};
+    ghost use Rattle.fits_value.specs.Says.{chain_length, link_count, long_says};
+    ghost use Rattle.fits_rules.specs.Class.{is_primary};
+    ghost use Rattle.fits_rules.specs.Lead.{lead_card, lead_place};
+    ghost use Rattle.fits_rules.specs.Shape.{shape_of};
+    ghost use Rattle.fits_rules.specs.declared.mandatory.ShapeFault.{ShapeFault};
+    ghost use Rattle.fits_header.specs.Findings.{card_counts, card_findings, codes_at, header_codes_of};
+    ghost use Rattle.fits_header.specs.Links.{header_links};
+    ghost use Rattle.fits_header.specs.Names.{header_names};
+    ghost use Rattle.fits_header.specs.Places.{keyword_places};
+    ghost use Rattle.fits_header.specs.State.{ReadsUpTo, still_describes};
+    ghost use Rattle.fits_header.specs.Work.{judge_reads, shape_reads};
+
+    /// The header that has these cards, which describe this shape. Each card is read once.
+    #[tactic(auto, using(crate::proofs::MarksLemmas::key_steps))]
+    pub fn open(alloc: Global, cards: CardList, shape: Shape) -> Result<Header, AllocError>
+        requires described { shape_of (is_primary shape.class) cards.header.cards ≡ Ok shape }
+        ensures header { IfOk result (λ it. it.header ≡ cards.header) }
+        ensures shape { IfOk result (λ it. it.shape ≡ shape) }
+        ensures work { IfOk result (λ it. it.reads ≤ cards.reads + length cards.header.cards) }
+    {
+        let mut cards = cards;
+        let mut marks = read_marks(alloc, &mut cards)?;
+        let mut index = KeyIndex::of_marks(alloc, &marks)?;
+        index.reserve(cards.room())?;
+        marks.reserve(cards.room())?;
+        let mut surroundings = Vec::new(alloc);
+        reserve_surroundings(&mut surroundings, marks.len(), cards.room())?;
+        Ok(Header {
+            cards,
+            shape,
+            index,
+            marks,
+            surroundings,
+        })
+    }
+
+    /// The shape that its cards describe.
+    pub fn shape(&self) -> &Shape
+        ensures value { result.now ≡ self.now.shape }
+        ensures described { shape_of (is_primary self.now.shape.class) self.now.header.cards
+            ≡ Ok self.now.shape }
+    {
+        &self.shape
+    }
+
+    /// How many cards it has, END not counted.
+    pub fn len(&self) -> usize
+        ensures value { result ≡ length self.now.header.cards }
+        ensures whole { IsHeader self.now.header }
+        ensures within { CARD_LEN * (result + 1) ≤ length (header_bytes self.now.header) }
+        ensures few { result < 2 ^ 63 }
+    {
+        self.cards.len()
+    }
+
+    /// How many bytes it has, with END and the fill.
+    pub fn byte_len(&self) -> usize
+        requires { length (header_bytes self.now.header) ≤ 2 ^ 34 }
+        ensures { result ≡ length (header_bytes self.now.header) }
+    {
+        self.cards.byte_len()
+    }
+
+    /// The card at a place. The read is counted.
+    pub fn card(&mut self, place: usize) -> Card
+        requires from { 1 ≤ place }
+        requires to { place ≤ length self.old.header.cards }
+        ensures value { result ≡ slice_index_or self.old.header.cards (place - 1) result }
+        ensures work { ReadsUpTo self.old self.new 1 }
+    {
+        self.cards.card(place)
+    }
+
+    /// Where the lead of a name stands. It takes no memory, and reads no card.
+    pub fn lead(&self, name: &Name) -> Option<usize>
+        ensures { result ≡ lead_place self.now.header.cards name.now }
+    {
+        self.index.lead(name)
+    }
+
+    /// The places of the cards of a name, ascending. No card is read.
+    pub fn positions(&self, alloc: Global, name: &Name) -> Result<Vec<usize>, AllocError>
+        ensures { IfOk result (λ places. places.items
+            ≡ keyword_places self.now.header.cards name.now) }
+    {
+        self.index.positions(alloc, name)
+    }
+
+    /// The names of its cards, each once, ascending by bytes. No card is read.
+    pub fn names(&self, alloc: Global) -> Result<Vec<Name>, AllocError>
+        ensures { IfOk result (λ names. names.items ≡ header_names self.now.header.cards) }
+    {
+        self.index.names(alloc)
+    }
+
+    /// What the card at a place says, with the CONTINUE cards that belong to it (FITS Standard 4.0,
+    /// section 4.2.1.2).
+    pub fn long_value(
+        &mut self,
+        alloc: Global,
+        place: usize,
+    ) -> Result<Option<(Value, Option<Text>)>, AllocError>
+        requires from { 1 ≤ place }
+        requires to { place ≤ length self.old.header.cards }
+        ensures value { IfOk result (λ said. said ≡ long_says self.old.header.cards place) }
+        ensures firm { long_says self.old.header.cards place ≡ None → result ≡ Ok None }
+        ensures work { ReadsUpTo self.old self.new (chain_length self.old.header.cards place + 1) }
+    {
+        long_value(alloc, &mut self.cards, place)
+    }
+
+    /// How many CONTINUE cards belong to the string of the card at a place.
+    pub fn link_count(&mut self, place: usize) -> usize
+        requires from { 1 ≤ place }
+        requires to { place ≤ length self.old.header.cards }
+        ensures value { result ≡ link_count self.old.header.cards place }
+        ensures within { place + result ≤ length self.old.header.cards }
+        ensures work { ReadsUpTo self.old self.new (chain_length self.old.header.cards place + 1) }
+    {
+        link_count(&mut self.cards, place)
+    }
+
+    /// Makes room for this many more cards. It fails only where room was missing.
+    pub fn reserve(&mut self, additional: usize) -> Result<(), AllocError>
+        ensures ok { OnOk result (additional ≤ self.new.room) }
+        ensures err { OnErr result (self.new.room ≡ self.old.room) }
+        ensures succeeds { additional ≤ self.old.room → IsOk result }
+        ensures header { self.new.header ≡ self.old.header }
+        ensures shape { self.new.shape ≡ self.old.shape }
+        ensures room { self.old.room ≤ self.new.room }
+        ensures work { self.new.reads ≡ self.old.reads }
+    {
+        self.index.reserve(additional)?;
+        self.marks.reserve(additional)?;
+        reserve_surroundings(&mut self.surroundings, self.marks.len(), additional)?;
+        self.cards.reserve(additional)
+    }
+
+    /// Whether its cards after a change would describe the same shape.
+    ///
+    /// It takes no memory.
+    #[tactic(auto, unfolding(crate::specs::State::still_describes))]
+    pub fn keeps_shape(&mut self, change: &Change) -> bool
+        requires { IsInRange self.old.header.cards change.now }
+        ensures value { result ≡ still_describes self.old.shape
+            (cards_after self.old.header.cards change.now) }
+        ensures work { ReadsUpTo self.old self.new (shape_reads self.old.shape) }
+    {
+        let leads = leads_after(&mut self.cards, &self.index, change);
+        keeps_shape(&mut self.cards, &self.shape, change, &leads)
+    }
+
+    /// The lead of a name after a change that isn't made. It takes no memory.
+    pub fn lead_card(&mut self, change: &Change, name: &Name) -> Option<Card>
+        requires { IsInRange self.old.header.cards change.now }
+        ensures value { result
+            ≡ lead_card (cards_after self.old.header.cards change.now) name.now }
+        ensures work { ReadsUpTo self.old self.new 1 }
+    {
+        lead_after(&mut self.cards, &self.index, change, name)
+    }
+
+    /// How many cards it has after a change.
+    pub fn count_after(&self, change: &Change) -> usize
+        requires { IsInRange self.now.header.cards change.now }
+        ensures { result ≡ length (cards_after self.now.header.cards change.now) }
+    {
+        change.len_after(&self.cards)
+    }
+
+    /// Makes a change of its cards. END stays, and the fill is spaces. No card is read.
+    ///
+    /// It takes no memory: the room is reserved before, and `keeps_shape` says whether the shape
+    /// stays.
+    #[tactic(auto, using(crate::proofs::HeaderLemmas::kept_steps))]
+    pub fn apply(&mut self, change: &Change)
+        requires in_range { IsInRange self.old.header.cards change.now }
+        requires not_end { All (λ card. IsEnd card → ⊥) (new_cards change.now) }
+        requires room { length (cards_after self.old.header.cards change.now)
+            ≤ length self.old.header.cards + self.old.room }
+        requires kept { IsTrue (still_describes self.old.shape
+            (cards_after self.old.header.cards change.now)) }
+        ensures header { self.new.header ≡ with_cards self.old.header
+            (cards_after self.old.header.cards change.now) }
+        ensures shape { self.new.shape ≡ self.old.shape }
+        ensures room { self.new.room + length self.new.header.cards
+            ≡ self.old.room + length self.old.header.cards }
+        ensures work { self.new.reads ≡ self.old.reads }
+    {
+        change_index(&mut self.index, &self.cards, change);
+        change_marks(&mut self.marks, &self.cards, change);
+        self.surroundings.clear();
+        change.apply(&mut self.cards);
+    }
+
+    /// The codes of the header as a whole, by number. It takes no memory.
+    pub fn judge(&mut self) -> CodeSet
+        ensures value { result ≡ header_codes_of self.old.shape self.old.header }
+        ensures work { ReadsUpTo self.old self.new judge_reads }
+    {
+        let mark = header_mark_of(&mut self.cards, &self.index, &self.shape);
+        judge_header_mark(&mark, &self.shape)
+    }
+
+    /// What is found of its cards: by place, and at each by number. No card is read.
+    pub fn findings(&mut self, alloc: Global) -> Result<Vec<Finding>, AllocError>
+        ensures found { IfOk result (λ found. found.items
+            ≡ card_findings self.old.shape self.old.header.cards) }
+        ensures same { self.new ≡ self.old }
+    {
+        survey(&mut self.surroundings, &self.marks, &self.index);
+        findings_of(alloc, &self.shape, &self.marks, &self.surroundings)
+    }
+
+    /// The codes of the card at a place, by number. It takes no memory, and reads no card.
+    pub fn codes(&mut self, place: usize) -> CodeSet
+        requires from { 1 ≤ place }
+        requires to { place ≤ length self.old.header.cards }
+        ensures value { result ≡ codes_at self.old.shape self.old.header.cards place }
+        ensures same { self.new ≡ self.old }
+    {
+        survey(&mut self.surroundings, &self.marks, &self.index);
+        codes_at(&self.shape, &self.marks, &self.surroundings, place)
+    }
+
+    /// How many errors and warnings are found of its cards. It takes no memory, and reads no card.
+    pub fn counts(&mut self) -> Counts
+        requires { length (header_bytes self.old.header) ≤ 2 ^ 34 }
+        ensures value { result ≡ card_counts self.old.shape self.old.header.cards }
+        ensures within { result.errors + result.warnings ≤ 13 * length self.old.header.cards }
+        ensures same { self.new ≡ self.old }
+    {
+        // So few cards have no more codes than the counts can hold.
+        let _few = self.cards.len();
+        survey(&mut self.surroundings, &self.marks, &self.index);
+        count_all(&self.shape, &self.marks, &self.surroundings)
+    }
+
+    /// Whether the card at a place goes on with a long string. It takes no memory, and reads no
+    /// card.
+    pub fn is_link(&mut self, place: usize) -> bool
+        requires from { 1 ≤ place }
+        requires to { place ≤ length self.old.header.cards }
+        ensures value { result
+            ≡ slice_index_or (header_links self.old.header.cards) (place - 1) false }
+        ensures same { self.new ≡ self.old }
+    {
+        survey(&mut self.surroundings, &self.marks, &self.index);
+        is_link(&self.surroundings, place - 1)
+    }
+
+    /// Writes the cards, END and the fill. Each card's read is counted.
+    ///
+    /// Where a call fails a prefix was written.
+    pub fn emit<W: Sink>(&mut self, sink: &mut W) -> io::Result<()>
+        ensures ok { OnOk result
+            (Appends (W.contents sink.old) (W.contents sink.new) (header_bytes self.old.header)) }
+        ensures err { OnErr result (AppendsFront (W.contents sink.old) (W.contents sink.new)
+            (header_bytes self.old.header)) }
+
+        // It fails exactly where a call did.
+        ensures quiet { OnOk result (W.failures sink.new ≡ W.failures sink.old) }
+        ensures failed { OnErr result (W.failures sink.new ≡ W.failures sink.old + 1) }
+
+        // The header stays, and each card is read once at most.
+        ensures work { ReadsUpTo self.old self.new (length self.old.header.cards) }
+        ensures reads { OnOk result
+            (self.new.reads ≡ self.old.reads + length self.old.header.cards) }
+    {
+        self.cards.emit(sink)
+    }
+}
+
+// Makes a change of an index, as of the cards.
+#[tactic(auto, using(crate::proofs::HeaderLemmas::change_steps))]
+fn change_index(index: &mut KeyIndex, cards: &CardList, change: &Change)
+    requires keys { index.old.keys ≡ keys_of cards.now.header.cards }
+    requires in_range { IsInRange cards.now.header.cards change.now }
+    requires room { length (cards_after cards.now.header.cards change.now)
+        ≤ length cards.now.header.cards + index.old.room }
+    ensures keys { index.new.keys ≡ keys_of (cards_after cards.now.header.cards change.now) }
+    ensures room { index.new.room + length (cards_after cards.now.header.cards change.now)
+        ≡ index.old.room + length cards.now.header.cards }
+{
+    match change {
+        Change::Splice {
+            place,
+            removed,
+            cards: new,
+        } => index.splice(*place, *removed, new.as_slice()),
+        Change::Move { from, to } => index.move_place(*from, *to),
+    }
+}

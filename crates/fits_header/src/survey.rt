@@ -1,0 +1,72 @@
+//! What stands round the cards, found in two passes and kept until the next change.
+ghost use Rattle.std.specs.Prelude.{◌≡◌, ◌≤◌, ◌<◌, ◌+◌, ◌^◌, List, ℕ, IsOk, OnOk, length, vec_capacity, vec_len};
+ghost use Rattle.fits_header.specs.Key.{keys_of};
+ghost use Rattle.fits_header.specs.Marks.{marks_of};
+ghost use Rattle.fits_header.specs.Surroundings.{surroundings_of};
+
+use crate::key_index::KeyIndex;
+use crate::links::mark_links;
+use crate::surrounding::Surrounding;
+use fits_codes::Mark;
+use std::alloc::AllocError;
+
+/// Finds what stands round the cards, unless that is there. It reads no card.
+///
+/// It takes no memory: the room is reserved before.
+pub(crate) fn survey(surroundings: &mut Vec<Surrounding>, marks: &[Mark], index: &KeyIndex)
+    requires size { length index.now.keys ≡ length marks.now }
+    requires whole { 0 < vec_len surroundings.old
+        → vec_len surroundings.old ≡ length marks.now }
+    requires room { length marks.now ≤ vec_capacity surroundings.old }
+    ensures len { vec_len surroundings.new ≡ length marks.now }
+    ensures room { vec_capacity surroundings.old ≤ vec_capacity surroundings.new }
+    ensures found { (cards : List (List ℕ)) → marks.now ≡ marks_of cards
+        → index.now.keys ≡ keys_of cards
+        → (0 < vec_len surroundings.old → surroundings.old.items ≡ surroundings_of cards)
+        → surroundings.new.items ≡ surroundings_of cards }
+{
+    if !surroundings.is_empty() {
+        return;
+    }
+    let unknown = Surrounding {
+        name_before: false,
+        value_before: false,
+        is_link: false,
+    };
+    let _ = surroundings.resize(marks.len(), unknown);
+    mark_all(surroundings, marks, index);
+}
+
+/// Makes room for what stands round so many cards, and this many more.
+///
+/// It fails only where room was missing.
+pub(crate) fn reserve_surroundings(
+    surroundings: &mut Vec<Surrounding>,
+    count: usize,
+    additional: usize,
+) -> Result<(), AllocError>
+    requires fits { count + additional < 2 ^ 64 }
+    requires whole { 0 < vec_len surroundings.old → vec_len surroundings.old ≡ count }
+    ensures items { surroundings.new.items ≡ surroundings.old.items }
+    ensures len { vec_len surroundings.new ≡ vec_len surroundings.old }
+    ensures ok { OnOk result (count + additional ≤ vec_capacity surroundings.new) }
+    ensures succeeds { count + additional ≤ vec_capacity surroundings.old → IsOk result }
+    ensures room { vec_capacity surroundings.old ≤ vec_capacity surroundings.new }
+{
+    if surroundings.is_empty() {
+        return surroundings.reserve(count + additional);
+    }
+    surroundings.reserve(additional)
+}
+
+// Marks what stands round each card.
+fn mark_all(surroundings: &mut [Surrounding], marks: &[Mark], index: &KeyIndex)
+    requires size { length index.now.keys ≡ length marks.now }
+    requires each { length surroundings.old ≡ length marks.now }
+    ensures len { length surroundings.new ≡ length surroundings.old }
+    ensures found { (cards : List (List ℕ)) → marks.now ≡ marks_of cards
+        → index.now.keys ≡ keys_of cards → surroundings.new ≡ surroundings_of cards }
+{
+    mark_links(marks, surroundings);
+    index.mark_repeats(surroundings);
+}
