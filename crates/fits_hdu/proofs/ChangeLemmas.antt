@@ -1,17 +1,18 @@
 -- What a change of cards leaves.
-use Rattle.std.proofs.Common.{◌≡◌, ℕ, ◌+◌, ◌*◌, Bool, true, List, length, replicate, refl, ap, sym, ◌∙◌, All}
+use Rattle.std.proofs.Common.{◌≡◌, ℕ, Bool, true, List, length, replicate, refl, ap, sym, ◌∙◌, All}
 use Rattle.std.specs.Prelude.{Ok}
 use Rattle.fits_card.specs.Change.{cards_after, new_cards}
 use Rattle.fits_card.specs.Header.{IsInnerCard, fill_length}
 use Rattle.fits_card.specs.declared.change.Change.{Change}
 use Rattle.fits_card.specs.declared.change.Change.TheVariants.{Splice, Move}
 use Rattle.fits_card.proofs.HeaderLemmas.{inner-spliced, inner-moved, whole-with_cards}
+use Rattle.fits_rules.specs.Class.{is_primary}
 use Rattle.fits_rules.specs.Shape.{shape_of}
 use Rattle.fits_rules.specs.SameShape.{same_shape}
 use Rattle.fits_rules.specs.declared.array_shape.Shape.{Shape}
 use Rattle.fits_rules.proofs.SameShapeLemmas.{same_shape-Decides}
+use Rattle.fits_header.specs.State.{still_describes}
 use Rattle.fits_hdu.specs.Hdu.{HduParts, IsHdu, hdu_after, keeps_shape}
-use Rattle.fits_hdu.specs.Work.{axis_count, shape_reads}
 
 -- cards before END are left where such ones are put in
 pub inner_after : (cards : List (List ℕ)) (change : Change) → All IsInnerCard cards → All IsInnerCard (new_cards change) → All IsInnerCard (cards_after cards change)
@@ -29,15 +30,13 @@ hdu-changed primary hdu change p inner same = record {
 }
 
 -- a comparison with the shape of the cards before is one with what they describe
-pub kept_value : (primary : Bool) (before after : List (List ℕ)) (shape : Shape) → shape_of primary before ≡ Ok shape → same_shape (Ok shape) (shape_of primary after) ≡ keeps_shape primary before after
-kept_value primary before after shape e = ap (λ r. same_shape r (shape_of primary after)) (sym e)
-
--- so many cards are read for it
-pub kept_reads : (primary : Bool) (before after : List (List ℕ)) (shape : Shape) → shape_of primary before ≡ Ok shape → 3 + length shape.axes + 3 * (length after + 1) ≡ shape_reads primary before after
-kept_reads primary before after shape e = ap (λ r. 3 + axis_count r + 3 * (length after + 1)) (sym e)
+pub kept_value : (before after : List (List ℕ)) (shape : Shape) → shape_of (is_primary shape.class) before ≡ Ok shape → still_describes shape after ≡ keeps_shape (is_primary shape.class) before after
+unfolding still_describes
+kept_value before after shape e = ap (λ r. same_shape r (shape_of (is_primary shape.class) after)) (sym e)
 
 -- cards that keep the shape describe it
-pub kept_shape : (primary : Bool) (before after : List (List ℕ)) (shape : Shape) → shape_of primary before ≡ Ok shape → keeps_shape primary before after ≡ true → shape_of primary after ≡ Ok shape
-kept_shape primary before after shape e kept = (same_shape-Decides shape (shape_of primary after)).0 (kept_value primary before after shape e ∙ kept)
+pub kept_shape : (before after : List (List ℕ)) (shape : Shape) → shape_of (is_primary shape.class) before ≡ Ok shape → keeps_shape (is_primary shape.class) before after ≡ true → shape_of (is_primary shape.class) after ≡ Ok shape
+unfolding still_describes
+kept_shape before after shape e kept = (same_shape-Decides shape (shape_of (is_primary shape.class) after)).0 (kept_value before after shape e ∙ kept)
 
-pub ruleset kept_steps = (kept_value, kept_reads, kept_shape)
+pub ruleset kept_steps = (kept_value, kept_shape)

@@ -1,9 +1,8 @@
 -- What the lead of a name says.
-use Rattle.std.proofs.Common.{◌≡◌, ℕ, ◌+◌, ◌-◌, ◌≤◌, Bool, true, false, List, [], ◌∷◌, length, Option, None, Some, refl, sym, ◌∙◌, subst, arith}
+use Rattle.std.proofs.Common.{◌≡◌, ℕ, ◌+◌, ◌-◌, ◌≤◌, Bool, true, false, List, [], ◌∷◌, length, Option, None, Some, refl, sym, subst, arith}
 use Rattle.std.specs.Prelude.{Ok, Err, IsOk, if◌then◌else◌}
 use Rattle.std.proofs.lemmas.List.{length-drop}
 use Rattle.fits_card.specs.Card.{has_value}
-use Rattle.fits_card.specs.CardList.{CardStore, ReadsUpTo}
 use Rattle.fits_value.specs.Says.{card_string, link_says, link_before, links_of, ends_in_ampersand, links_after, string_cards, first_chain_length, chain_length, link_count, long_says}
 use Rattle.fits_value.specs.LongString.{cards_from}
 use Rattle.fits_value.specs.declared.value.Value.{Value}
@@ -11,6 +10,7 @@ use Rattle.fits_rules.specs.Lead.{lead_place}
 use Rattle.fits_rules.proofs.LeadCardLemmas.{lead_from, lead_to}
 use Rattle.fits_hdu.specs.declared.keyword.KeywordFault.TheVariants.{NoKey, BadValue}
 use Rattle.fits_hdu.specs.Keyword.{keyword_cards, keyword_value, with_links}
+use Rattle.fits_hdu.specs.Work.{keyword_reads}
 use Rattle.fits_hdu.specs.declared.keyword_cards.KeywordCards.{KeywordCards}
 
 -- the lead says this
@@ -77,20 +77,10 @@ chain_within : (cards : List (List ℕ)) (place : ℕ) → chain_length cards pl
 unfolding chain_length
 chain_within cards place = omega (arith, first_within (cards_from cards place), length-drop (place - 1) cards)
 
--- and with those that were read to find it, at most all cards, and two
-most_read : (cards : List (List ℕ)) (name : List ℕ) (place old found new : ℕ) → Some place ≡ lead_place cards name → found ≤ old + place → new ≤ found + (chain_length cards place + 1) → new ≤ old + (length cards + 2)
-most_read cards name place old found new lead l m = omega (arith, l, m, chain_within cards place, lead_from cards name place lead, lead_to cards name place lead)
-
--- so the lead and what it says are read
-pub both_read : (old found new : CardStore) (name : List ℕ) (place : ℕ) → Some place ≡ lead_place old.header.cards name → ReadsUpTo old found place → ReadsUpTo found new (chain_length found.header.cards place + 1) → ReadsUpTo old new (length old.header.cards + 2)
-both_read old found new name place lead p q =
-    let chain : new.reads ≤ found.reads + (chain_length old.header.cards place + 1) = rw p.header at q.most in
-    record {
-      header = q.header ∙ p.header;
-      room = q.room ∙ p.room;
-      least = omega (arith, p.least, q.least);
-      most = most_read old.header.cards name place old.reads found.reads new.reads lead p.most chain;
-    }
+-- so many cards of a keyword that has a lead are read
+pub lead_reads : (cards : List (List ℕ)) (name : List ℕ) (place : ℕ) → Some place ≡ lead_place cards name → keyword_reads cards name ≡ chain_length cards place + 1
+unfolding keyword_reads
+lead_reads cards name place lead = rw (← lead) refl
 
 -- the lead's place and its links are the keyword's cards
 pub keyword_at : (cards : List (List ℕ)) (name : List ℕ) (place : ℕ) → Some place ≡ lead_place cards name → keyword_cards cards name ≡ Some (with_links cards place)
@@ -114,4 +104,4 @@ by_lead cards name (Some place) at lead e =
 pub keyword_within : (cards : List (List ℕ)) (name : List ℕ) (at : KeywordCards) → keyword_cards cards name ≡ Some at → (1 ≤ at.place) × (at.place + at.count ≤ length cards + 1)
 keyword_within cards name at e = by_lead cards name (lead_place cards name) at refl e
 
-pub ruleset keyword_steps = (lead_from, lead_to, lead_says, lead_silent, no_lead, lead_not_silent, keyword_at, keyword_nowhere)
+pub ruleset keyword_steps = (lead_from, lead_to, lead_says, lead_silent, no_lead, lead_not_silent, lead_reads, keyword_at, keyword_nowhere)

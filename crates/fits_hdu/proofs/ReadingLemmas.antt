@@ -19,8 +19,8 @@ use Rattle.fits_rules.proofs.LawLemmas.{shape_primary}
 use Rattle.fits_hdu.specs.declared.fault.HduFault.{HduFault}
 use Rattle.fits_hdu.specs.declared.fault.HduFault.TheVariants.{BadShape, ShortData}
 use Rattle.fits_hdu.specs.declared.read_fault.ReadHduFault.TheVariants.{Hdu}
-use Rattle.fits_hdu.specs.Hdu.{HasHduFault, IsHdu, hdu_bytes}
-use Rattle.fits_hdu.specs.Reading.{HduStops, IsOutlined, TakesHdu, of_read, of_read_header, of_read_shape}
+use Rattle.fits_hdu.specs.Hdu.{HasHduFault, HduParts, IsHdu, hdu_bytes}
+use Rattle.fits_hdu.specs.Reading.{HduStops, IsOutlined, IsPassed, TakesHdu, of_read, of_read_header, of_read_shape}
 
 -- there is no header, or memory was refused, or a call failed
 pub stops_by_header : (primary : Bool) (before : List ℕ) (a b : Option (List ℕ)) (left left' f g : ℕ) (fault : ReadHeaderFault) → HeaderStops before a b left left' f g fault → HduStops primary before a b left left' f g (of_read_header fault)
@@ -80,13 +80,13 @@ hdu_whole primary header shape unit whole described size = record { shape = shap
 pub ruleset read_steps = (shape_primary, hdu_taken, hdu_whole, stops_near, stops_by_unit)
 
 -- an HDU whose data unit was skipped
-pub hdu_passed : (primary : Bool) (before : List ℕ) (a b c : Option (List ℕ)) (left left' left'' count cards size : ℕ) (header : Header) (shape : Shape) → TakesAfter before a b left left' (header_bytes header) → IsHeader header → shape_of primary header.cards ≡ Ok shape
-    → (q : Skips b c count) → left' ≡ left'' + count → count ≡ data_length shape → is_primary shape.class ≡ primary → cards ≡ length header.cards → size ≡ length (header_bytes header)
-    → TakesHdu (λ hdu. IsOutlined hdu cards shape size count) primary before a c left left''
-hdu_passed primary before a b c left left' left'' count cards size header shape p whole described q e unit class m n = record {
+pub hdu_passed : (primary : Bool) (before : List ℕ) (a b c : Option (List ℕ)) (left left' left'' count len : ℕ) (header : Header) (shape : Shape) → TakesAfter before a b left left' (header_bytes header) → IsHeader header → shape_of primary header.cards ≡ Ok shape
+    → (q : Skips b c count) → left' ≡ left'' + count → len ≡ count → len ≡ data_length shape → is_primary shape.class ≡ primary
+    → TakesHdu (λ hdu. IsPassed hdu header shape len) primary before a c left left''
+hdu_passed primary before a b c left left' left'' count len header shape p whole described q e same unit class = record {
   hdu = record { header = header; data_unit = q.bytes };
-  kept = record { count = m; described = rw class described; header = n; unit = sym q.size };
-  whole = hdu_whole primary header shape q.bytes whole described (q.size ∙ unit);
+  kept = record { same = refl; described = rw class described; unit = same ∙ sym q.size };
+  whole = hdu_whole primary header shape q.bytes whole described (q.size ∙ (sym same ∙ unit));
   taken = hdu_taken before a b c left left' left'' header q.bytes p (takes_skipped b c left' left'' count q e);
 }
 
@@ -98,3 +98,16 @@ stops_passed primary before a b c left left' left'' count f g header shape p who
     stops_near primary before a b c left left' left'' f g header shape q.bytes p whole described (takes_skipped b c left' left'' count q e) spent (omega (arith, q.size, short)) r
 
 pub ruleset passing_steps = (shape_primary, hdu_passed, stops_passed)
+
+-- what is kept of an HDU that passed
+pub hdu_kept : (keeps keeps' : HduParts → Type 0) (primary : Bool) (before : List ℕ) (a b : Option (List ℕ)) (left left' : ℕ) → TakesHdu keeps primary before a b left left' → ((hdu : HduParts) → keeps hdu → keeps' hdu) → TakesHdu keeps' primary before a b left left'
+hdu_kept keeps keeps' primary before a b left left' p f = record { hdu = p.hdu; kept = f p.hdu p.kept; whole = p.whole; taken = p.taken }
+
+-- its outline
+pub outline_kept : (primary : Bool) (before : List ℕ) (a b : Option (List ℕ)) (left left' count cards size : ℕ) (header : Header) (shape : Shape) → TakesHdu (λ hdu. IsPassed hdu header shape count) primary before a b left left' → cards ≡ length header.cards → size ≡ length (header_bytes header)
+    → TakesHdu (λ hdu. IsOutlined hdu cards shape size count) primary before a b left left'
+outline_kept primary before a b left left' count cards size header shape p m n =
+    hdu_kept (λ hdu. IsPassed hdu header shape count) (λ hdu. IsOutlined hdu cards shape size count) primary before a b left left' p
+    (λ hdu it. record { count = rw it.same m; described = rw it.same it.described; header = rw it.same n; unit = it.unit })
+
+pub ruleset outline_steps = (outline_kept)

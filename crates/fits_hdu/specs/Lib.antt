@@ -1,4 +1,5 @@
 pub mod Fault
+pub mod Findings
 pub mod Hdu
 pub mod Keyword
 pub mod Kind

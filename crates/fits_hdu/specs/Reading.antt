@@ -1,6 +1,6 @@
 -- How an HDU is read from a source, whatever is kept of it (own).
 use Rattle.std.specs.Prelude.{◌≡◌, ℕ, ◌+◌, Bool, List, ◌++◌, length, Ok, Option}
-use Rattle.fits_card.specs.Header.{header_bytes}
+use Rattle.fits_card.specs.Header.{Header, header_bytes}
 use Rattle.fits_card.specs.Intake.{Finds, TakesAfter}
 use Rattle.fits_card.specs.declared.header_reading.ReadHeaderFault.{ReadHeaderFault}
 use Rattle.fits_card.specs.declared.header_reading.ReadHeaderFault.TheVariants as header
@@ -45,6 +45,12 @@ pub record TakesHdu (keeps : HduParts → Type 0) (primary : Bool) (before : Lis
   pub kept : keeps hdu
   pub whole : IsHdu primary hdu
   pub taken : TakesAfter before old new left left' (hdu_bytes hdu)
+
+-- of an HDU that passed by its header is known, the shape that its cards describe, and how long its data unit was
+pub record IsPassed (hdu : HduParts) (header : Header) (shape : Shape) (unit_len : ℕ) : Type 0 where
+  pub same : hdu.header ≡ header
+  pub described : shape_of (is_primary shape.class) header.cards ≡ Ok shape
+  pub unit : unit_len ≡ length hdu.data_unit
 
 -- the shape of an HDU, and how many cards it has, how many bytes its header and its data unit
 pub record IsOutlined (hdu : HduParts) (cards : ℕ) (shape : Shape) (header_len data_len : ℕ) : Type 0 where

@@ -1,14 +1,14 @@
--- How many cards of an HDU its calls read (own).
-use Rattle.std.specs.Prelude.{ℕ, ◌+◌, ◌*◌, Bool, List, length, Result, Ok, Err}
-use Rattle.fits_rules.specs.Shape.{shape_of}
-use Rattle.fits_rules.specs.declared.array_shape.Shape.{Shape}
+-- How many cards of an HDU its calls read at most (own).
+use Rattle.std.specs.Prelude.{ℕ, ◌+◌, ◌*◌, List, length}
+use Rattle.std.specs.Option.{option_map_or}
+use Rattle.fits_value.specs.Says.{chain_length}
+use Rattle.fits_rules.specs.Lead.{lead_place}
+use Rattle.fits_header.specs.Work.{judge_reads}
 
--- how many axes a header describes
-abbrev pub axis_count : Result Shape ℕ → ℕ
-axis_count (Ok shape) = length shape.axes
-axis_count (Err place) = 0
+-- an HDU is opened by so many: its shape is read, then each card for what is kept beside it, and then the codes of the whole
+abbrev pub open_reads : List (List ℕ) → ℕ
+open_reads cards = 5 * length cards + 7 + judge_reads
 
--- whether the shape stays is found by so many cards at most: those of the mandatory keywords, and all of them for each of
--- GROUPS, PCOUNT and GCOUNT
-abbrev pub shape_reads : Bool → List (List ℕ) → List (List ℕ) → ℕ
-shape_reads primary before after = 3 + axis_count (shape_of primary before) + 3 * (length after + 1)
+-- a keyword is read by so many: the cards of its lead's value, and one
+unfoldable pub keyword_reads : List (List ℕ) → List ℕ → ℕ
+keyword_reads cards name = option_map_or (λ place. chain_length cards place + 1) (lead_place cards name) 0

@@ -1,13 +1,15 @@
 //! The header of the HDU that comes next in a source, and what it says of its data unit.
-ghost use Rattle.std.specs.Prelude.{◌≡◌, ◌+◌, ◌*◌, ◌<◌, ◌≤◌, length, Ok, IfOk, IfErr, OnOk};
+ghost use Rattle.std.specs.Prelude.{◌≡◌, ◌+◌, ◌*◌, ◌^◌, ◌<◌, ◌≤◌, length, Ok, IfOk, IfErr, OnOk};
 ghost use Rattle.fits_card.specs.declared.card_list.TheConstants.{BLOCK_LEN};
 ghost use Rattle.fits_card.specs.Header.{header_bytes, IsHeader};
 ghost use Rattle.fits_card.specs.Intake.{IsSpent, TakesAfter};
 ghost use Rattle.fits_rules.specs.Shape.{shape_of};
 ghost use Rattle.fits_rules.specs.Size.{data_length};
-ghost use Rattle.fits_hdu.specs.Reading.{HduStops};
+ghost use Rattle.fits_rules.specs.Class.{is_primary};
+ghost use Rattle.fits_hdu.specs.Reading.{HduStops, IsPassed, TakesHdu};
 
 use crate::data_unit::unit_len;
+use crate::fault::HduFault;
 use crate::read_fault::ReadHduFault;
 use fits_card::{CardList, Intake, Source, read_header};
 use fits_rules::{Shape, shape};
@@ -64,4 +66,38 @@ pub(crate) fn read_described<R: Source>(
         }),
         Err(fault) => Err(ReadHduFault::from(fault)),
     }
+}
+
+/// The header that comes next, as `read_described`. Its data unit is skipped.
+#[tactic(auto, using(crate::proofs::ReadingLemmas::passing_steps))]
+pub(crate) fn read_past<R: Source>(
+    alloc: Global,
+    intake: &mut Intake,
+    source: &mut R,
+    first: Vec<u8>,
+    primary: bool,
+) -> Result<Described, ReadHduFault>
+    requires within { length first.items ≤ BLOCK_LEN }
+    requires short { length first.items < BLOCK_LEN → IsSpent (R.remaining source.old) intake.old }
+    requires room { intake.old + length first.items ≤ 2 ^ 34 }
+    ensures ok { IfOk result (λ head. TakesHdu
+        (λ hdu. IsPassed hdu head.cards.header head.shape head.unit_len)
+        primary first.items (R.remaining source.old) (R.remaining source.new)
+        intake.old intake.new) }
+    ensures described { IfOk result (λ head. shape_of (is_primary head.shape.class)
+        head.cards.header.cards ≡ Ok head.shape) }
+    ensures small { IfOk result (λ head. length (header_bytes head.cards.header) ≤ 2 ^ 34) }
+    ensures quiet { OnOk result (R.failures source.new ≡ R.failures source.old) }
+    ensures err { IfErr result (HduStops primary first.items
+        (R.remaining source.old) (R.remaining source.new) intake.old intake.new
+        (R.failures source.old) (R.failures source.new)) }
+{
+    let head = read_described(alloc, intake, source, first, primary)?;
+    let Ok(data_len) = intake.skip(source, head.unit_len) else {
+        return Err(ReadHduFault::Failed);
+    };
+    if data_len < head.unit_len {
+        return Err(ReadHduFault::Hdu(HduFault::ShortData));
+    }
+    Ok(head)
 }

@@ -7,20 +7,23 @@ use crate::keyword::{KeywordFault, keyword_cards, keyword_value};
 use crate::keyword_cards::KeywordCards;
 use crate::kind::{Kind, image_kind};
 use crate::read_fault::ReadHduFault;
+use crate::reporting::all_findings;
 use fits_card::{CardList, Change, Intake, Name, Sink, Source, cut_header, write_all};
-use fits_header::KeyIndex;
-use fits_rules::{Shape, keeps_shape, shape};
+use fits_codes::CodeSet;
+use fits_header::{Counts, Finding, Header};
+use fits_rules::{Shape, shape};
 use fits_value::{Text, Value};
 use std::alloc::{AllocError, Global};
 use std::io;
 use std::marker::Model;
 
-/// One HDU under edits: its header, the shape that its cards describe, and its data unit.
+/// One HDU under edits: its header, with what is kept beside the cards, and its data unit.
 #[derive(Drop)]
 pub struct Hdu {
-    cards: CardList,
-    shape: Shape,
+    header: Header,
     data_unit: Vec<u8>,
+    // The codes of the HDU as a whole.
+    whole: CodeSet,
 }
 
 impl Model for Hdu {
@@ -28,20 +31,24 @@ impl Model for Hdu {
     ghost use Rattle.fits_rules.specs.Class.{is_primary};
     ghost use Rattle.fits_rules.specs.Shape.{shape_of};
     ghost use Rattle.fits_rules.specs.Size.{data_length};
+    ghost use Rattle.fits_hdu.specs.Findings.{whole_codes};
     ghost use Rattle.fits_hdu.specs.State.{HduState};
 
     ghost Value = { HduState };
 
-    ghost view = { λ hdu. record {
-      hdu = record { header = hdu.cards.header; data_unit = hdu.data_unit.items };
-      shape = hdu.shape;
-      reads = hdu.cards.reads;
-      room = hdu.cards.room;
+    ghost view = { λ it. record {
+      hdu = record { header = it.header.header; data_unit = it.data_unit.items };
+      shape = it.header.shape;
+      reads = it.header.reads;
+      room = it.header.room;
     } };
 
-    ghost invariant = { λ hdu. record {
-      described : shape_of (is_primary hdu.shape.class) hdu.cards.header.cards ≡ Ok hdu.shape;
-      size : length hdu.data_unit.items ≡ data_length hdu.shape;
+    ghost invariant = { λ it. record {
+      described : shape_of (is_primary it.header.shape.class) it.header.header.cards
+          ≡ Ok it.header.shape;
+      size : length it.data_unit.items ≡ data_length it.header.shape;
+      whole : it.whole ≡ whole_codes it.header.shape
+          (record { header = it.header.header; data_unit = it.data_unit.items });
     } };
 }
 
@@ -56,15 +63,17 @@ impl Hdu {
     ghost use Rattle.fits_card.specs.Stream.{AppendsFront};
     ghost use Rattle.fits_header.specs.Names.{header_names};
     ghost use Rattle.fits_header.specs.Places.{keyword_places};
+    ghost use Rattle.fits_header.specs.Work.{judge_reads, shape_reads};
     ghost use Rattle.fits_rules.specs.Class.{is_primary};
     ghost use Rattle.fits_rules.specs.Shape.{shape_of};
     ghost use Rattle.fits_rules.specs.Size.{data_length};
+    ghost use Rattle.fits_hdu.specs.Findings.{AreFindings, hdu_counts};
     ghost use Rattle.fits_hdu.specs.Keyword.{keyword_cards, keyword_value, KeywordFails};
     ghost use Rattle.fits_rules.specs.Image.{image_bits};
     ghost use Rattle.fits_hdu.specs.Kind.{IsKind};
     ghost use Rattle.fits_hdu.specs.Reading.{HduStops};
     ghost use Rattle.fits_hdu.specs.State.{ReadsUpTo};
-    ghost use Rattle.fits_hdu.specs.Work.{shape_reads};
+    ghost use Rattle.fits_hdu.specs.Work.{keyword_reads, open_reads};
     ghost use Rattle.fits_hdu.specs.Hdu.{IsHdu, IsHduOf, DataFails, HduFails, hdu_bytes, hdu_after, keeps_shape};
 
     /// The HDU that these bytes begin with, the primary one or an extension, and how many bytes it
@@ -80,7 +89,7 @@ impl Hdu {
         ensures class { IfOk result (λ cut. is_primary cut.0.shape.class ≡ primary) }
         ensures len { IfOk result (λ cut. cut.1 ≡ length (hdu_bytes cut.0.hdu)) }
         ensures within { IfOk result (λ cut. cut.1 ≤ length bytes.now) }
-        ensures work { IfOk result (λ cut. cut.0.reads ≤ 4 * length cut.0.hdu.header.cards + 7) }
+        ensures work { IfOk result (λ cut. cut.0.reads ≤ open_reads cut.0.hdu.header.cards) }
 
         // Whether there is a header is found before any memory is asked for.
         ensures fault { IfErr result (HduFails primary bytes.now) }
@@ -108,19 +117,39 @@ impl Hdu {
         ensures len { IfOk result (λ cut. cut.1 ≡ data_length cut.0.shape) }
         ensures within { IfOk result (λ cut. cut.1 ≤ length rest.now) }
         ensures work { IfOk result (λ cut. cut.0.reads
-            ≤ cards.reads + 4 * length cards.header.cards + 7) }
+            ≤ cards.reads + open_reads cards.header.cards) }
         ensures fault { IfErr result (DataFails primary cards.header.cards rest.now) }
     {
         let shape = shape(alloc, &mut cards, primary)?;
         let unit_len = unit_len(&shape, rest.len())?;
         let (unit, _) = rest.split_at(unit_len);
         let data_unit = unit.to_vec(alloc)?;
-        let hdu = Hdu {
-            cards,
-            shape,
-            data_unit,
-        };
+        let hdu = Hdu::of(alloc, cards, shape, data_unit)?;
         Ok((hdu, unit_len))
+    }
+
+    // The HDU of these cards, which describe this shape, and of a data unit that is as long.
+    fn of(
+        alloc: Global,
+        cards: CardList,
+        shape: Shape,
+        data_unit: Vec<u8>,
+    ) -> Result<Hdu, AllocError>
+        requires described { shape_of (is_primary shape.class) cards.header.cards ≡ Ok shape }
+        requires size { length data_unit.items ≡ data_length shape }
+        ensures header { IfOk result (λ it. it.hdu.header ≡ cards.header) }
+        ensures unit { IfOk result (λ it. it.hdu.data_unit ≡ data_unit.items) }
+        ensures shape { IfOk result (λ it. it.shape ≡ shape) }
+        ensures work { IfOk result (λ it. it.reads
+            ≤ cards.reads + length cards.header.cards + judge_reads) }
+    {
+        let mut header = Header::open(alloc, cards, shape)?;
+        let whole = header.judge();
+        Ok(Hdu {
+            header,
+            data_unit,
+            whole,
+        })
     }
 
     /// The HDU that comes next in a source, whose first block had been taken before. Its data unit
@@ -143,7 +172,7 @@ impl Hdu {
             (R.remaining source.old) (R.remaining source.new) intake.old intake.new
             (hdu_bytes hdu.hdu)) }
         ensures whole { IfOk result (λ hdu. IsHdu primary hdu.hdu) }
-        ensures work { IfOk result (λ hdu. hdu.reads ≤ 4 * length hdu.hdu.header.cards + 7) }
+        ensures work { IfOk result (λ hdu. hdu.reads ≤ open_reads hdu.hdu.header.cards) }
         ensures quiet { OnOk result (R.failures source.new ≡ R.failures source.old) }
         ensures err { IfErr result (HduStops primary first.items
             (R.remaining source.old) (R.remaining source.new) intake.old intake.new
@@ -161,11 +190,10 @@ impl Hdu {
         if data_unit.len() < unit_len {
             return Err(ReadHduFault::Hdu(HduFault::ShortData));
         }
-        Ok(Hdu {
-            cards,
-            shape,
-            data_unit,
-        })
+        match Hdu::of(alloc, cards, shape, data_unit) {
+            Ok(hdu) => Ok(hdu),
+            Err(_) => Err(ReadHduFault::Hdu(HduFault::Memory)),
+        }
     }
 
     /// The shape that its cards describe.
@@ -174,16 +202,18 @@ impl Hdu {
         ensures described { shape_of (is_primary self.now.shape.class) self.now.hdu.header.cards
             ≡ Ok self.now.shape }
     {
-        &self.shape
+        self.header.shape()
     }
 
     /// How many cards its header has, END not counted.
     pub fn card_count(&self) -> usize
         ensures value { result ≡ length self.now.hdu.header.cards }
         ensures whole { IsHdu (is_primary self.now.shape.class) self.now.hdu }
+        ensures described { shape_of (is_primary self.now.shape.class) self.now.hdu.header.cards
+            ≡ Ok self.now.shape }
         ensures few { result < 2 ^ 63 }
     {
-        self.cards.len()
+        self.header.len()
     }
 
     /// How many bytes its header has, with END and the fill.
@@ -191,7 +221,7 @@ impl Hdu {
         requires { length (header_bytes self.now.hdu.header) ≤ 2 ^ 34 }
         ensures { result ≡ length (header_bytes self.now.hdu.header) }
     {
-        self.cards.byte_len()
+        self.header.byte_len()
     }
 
     /// How many bytes its data unit has, with the fill of its last block.
@@ -211,21 +241,21 @@ impl Hdu {
         ensures room { self.old.room ≤ self.new.room }
         ensures work { self.new.reads ≡ self.old.reads }
     {
-        self.cards.reserve(additional)
+        self.header.reserve(additional)
     }
 
     /// The kind of its pixels, where it is an image of integers (FITS Standard 4.0, sections
     /// 4.4.2.5 and 5.2.5).
     ///
-    /// It takes no memory. The cards that it reads are counted.
+    /// It takes no memory. The cards that it reads are counted: the leads of BZERO and BSCALE.
     pub fn kind(&mut self) -> Option<Kind>
         ensures found { IfSome result (IsKind self.old.shape self.old.hdu.header.cards) }
         ensures none { IfNone result (image_bits self.old.shape ≡ None) }
         ensures described { shape_of (is_primary self.old.shape.class) self.old.hdu.header.cards
             ≡ Ok self.old.shape }
-        ensures work { ReadsUpTo self.old self.new (2 * (length self.old.hdu.header.cards + 1)) }
+        ensures work { ReadsUpTo self.old self.new 2 }
     {
-        image_kind(&mut self.cards, &self.shape)
+        image_kind(&mut self.header)
     }
 
     /// The value and the comment of a keyword: those of the first card of this name that has a
@@ -239,9 +269,10 @@ impl Hdu {
         ensures ok { IfOk result (λ said. keyword_value self.old.hdu.header.cards name.now
             ≡ Ok said) }
         ensures err { IfErr result (KeywordFails self.old.hdu.header.cards name.now) }
-        ensures work { ReadsUpTo self.old self.new (length self.old.hdu.header.cards + 2) }
+        ensures work { ReadsUpTo self.old self.new
+            (keyword_reads self.old.hdu.header.cards name.now) }
     {
-        keyword_value(alloc, &mut self.cards, name)
+        keyword_value(alloc, &mut self.header, name)
     }
 
     /// Where the cards of a keyword stand: the first card of this name that has a value, and the
@@ -251,29 +282,51 @@ impl Hdu {
     /// It takes no memory.
     pub fn keyword_cards(&mut self, name: &Name) -> Option<KeywordCards>
         ensures value { result ≡ keyword_cards self.old.hdu.header.cards name.now }
-        ensures work { ReadsUpTo self.old self.new (length self.old.hdu.header.cards + 2) }
+        ensures work { ReadsUpTo self.old self.new
+            (keyword_reads self.old.hdu.header.cards name.now) }
     {
-        keyword_cards(&mut self.cards, name)
+        keyword_cards(&mut self.header, name)
     }
 
-    /// The places of the cards of a name, ascending. The cards that it reads are counted.
-    pub fn positions(&mut self, alloc: Global, name: &Name) -> Result<Vec<usize>, AllocError>
-        ensures value { IfOk result (λ places. places.items
-            ≡ keyword_places self.old.hdu.header.cards name.now) }
-        ensures work { ReadsUpTo self.old self.new (length self.old.hdu.header.cards) }
+    /// The places of the cards of a name, ascending. No card is read.
+    pub fn positions(&self, alloc: Global, name: &Name) -> Result<Vec<usize>, AllocError>
+        ensures { IfOk result (λ places. places.items
+            ≡ keyword_places self.now.hdu.header.cards name.now) }
     {
-        let index = KeyIndex::open(alloc, &mut self.cards)?;
-        index.positions(alloc, name)
+        self.header.positions(alloc, name)
     }
 
-    /// The names of its cards, each once, ascending by bytes. The cards that it reads are counted.
-    pub fn names(&mut self, alloc: Global) -> Result<Vec<Name>, AllocError>
-        ensures value { IfOk result (λ names. names.items
-            ≡ header_names self.old.hdu.header.cards) }
-        ensures work { ReadsUpTo self.old self.new (length self.old.hdu.header.cards) }
+    /// The names of its cards, each once, ascending by bytes. No card is read.
+    pub fn names(&self, alloc: Global) -> Result<Vec<Name>, AllocError>
+        ensures { IfOk result (λ names. names.items ≡ header_names self.now.hdu.header.cards) }
     {
-        let index = KeyIndex::open(alloc, &mut self.cards)?;
-        index.names(alloc)
+        self.header.names(alloc)
+    }
+
+    /// What is found of it: of it as a whole, at place 0, and then of its cards. No card is read.
+    pub fn findings(&mut self, alloc: Global) -> Result<Vec<Finding>, AllocError>
+        ensures found { IfOk result (λ found. AreFindings found.items self.old.hdu) }
+        ensures same { self.new ≡ self.old }
+    {
+        let found = all_findings(alloc, &mut self.header, &self.whole)?;
+        Ok(found)
+    }
+
+    /// How many errors and warnings are found of it. It takes no memory, and reads no card.
+    pub fn counts(&mut self) -> Counts
+        requires { length (header_bytes self.old.hdu.header) ≤ 2 ^ 34 }
+        ensures value { result ≡ hdu_counts self.old.shape self.old.hdu }
+        ensures described { shape_of (is_primary self.old.shape.class) self.old.hdu.header.cards
+            ≡ Ok self.old.shape }
+        ensures within { result.errors + result.warnings
+            ≤ length (header_bytes self.old.hdu.header) }
+        ensures same { self.new ≡ self.old }
+    {
+        // A card has fewer codes than bytes, and so have the whole and END.
+        let _few = self.header.len();
+        let whole = Counts::of(self.whole.as_slice());
+        let cards = self.header.counts();
+        whole.plus(cards)
     }
 
     /// Whether its cards after a change would describe the same shape. The cards that it reads are
@@ -286,11 +339,9 @@ impl Hdu {
         ensures value { result ≡ keeps_shape
             (is_primary self.old.shape.class) self.old.hdu.header.cards
             (cards_after self.old.hdu.header.cards change.now) }
-        ensures work { ReadsUpTo self.old self.new (shape_reads
-            (is_primary self.old.shape.class) self.old.hdu.header.cards
-            (cards_after self.old.hdu.header.cards change.now)) }
+        ensures work { ReadsUpTo self.old self.new (shape_reads self.old.shape) }
     {
-        keeps_shape(&mut self.cards, &self.shape, change)
+        self.header.keeps_shape(change)
     }
 
     /// How many cards its header has after a change.
@@ -298,13 +349,13 @@ impl Hdu {
         requires { IsInRange self.now.hdu.header.cards change.now }
         ensures { result ≡ length (cards_after self.now.hdu.header.cards change.now) }
     {
-        change.len_after(&self.cards)
+        self.header.count_after(change)
     }
 
     /// Makes a change of its cards. END stays, and the header's fill is spaces.
     ///
     /// It takes no memory: the room is reserved before, and `keeps_shape` says whether the shape
-    /// stays.
+    /// stays. The cards that it reads are counted: those that decide the codes of the whole.
     #[tactic(auto, using(crate::proofs::ChangeLemmas::kept_steps))]
     pub fn apply(&mut self, change: &Change)
         requires in_range { IsInRange self.old.hdu.header.cards change.now }
@@ -318,9 +369,11 @@ impl Hdu {
         ensures shape { self.new.shape ≡ self.old.shape }
         ensures room { self.new.room + length self.new.hdu.header.cards
             ≡ self.old.room + length self.old.hdu.header.cards }
-        ensures work { self.new.reads ≡ self.old.reads }
+        ensures work { self.new.reads ≤ self.old.reads + judge_reads }
+        ensures least { self.old.reads ≤ self.new.reads }
     {
-        change.apply(&mut self.cards);
+        self.header.apply(change);
+        self.whole = self.header.judge();
     }
 
     /// Writes the header and then the data unit. Each card's read is counted.
@@ -342,7 +395,7 @@ impl Hdu {
         ensures all_read { OnOk result (self.new.reads
             ≡ self.old.reads + length self.old.hdu.header.cards) }
     {
-        self.cards.emit(sink)?;
+        self.header.emit(sink)?;
         write_all(sink, &self.data_unit)?;
         Ok(())
     }

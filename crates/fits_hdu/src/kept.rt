@@ -4,6 +4,7 @@ ghost use Rattle.fits_card.specs.Intake.{IsSpent};
 ghost use Rattle.fits_hdu.specs.Hdu.{HduParts};
 ghost use Rattle.fits_hdu.specs.Reading.{HduStops, TakesHdu};
 
+use crate::findings::Findings;
 use crate::hdu::Hdu;
 use crate::outline::Outline;
 use crate::read_fault::ReadHduFault;
@@ -65,5 +66,21 @@ impl Kept for Outline {
         primary: bool,
     ) -> Result<Outline, ReadHduFault> {
         Outline::read(alloc, intake, source, first, primary)
+    }
+}
+
+impl Kept for Findings {
+    ghost use Rattle.fits_hdu.specs.Findings.{AreFindings};
+
+    ghost keeps = { λ it hdu. AreFindings it.0.items hdu };
+
+    fn read_next<R: Source>(
+        alloc: Global,
+        intake: &mut Intake,
+        source: &mut R,
+        first: Vec<u8>,
+        primary: bool,
+    ) -> Result<Findings, ReadHduFault> {
+        Findings::read(alloc, intake, source, first, primary)
     }
 }

@@ -1,12 +1,13 @@
 //! What a keyword says.
-ghost use Rattle.std.specs.Prelude.{◌≡◌, ◌≤◌, ◌+◌, Ok, length, IfOk, IfErr};
-ghost use Rattle.fits_card.specs.CardList.{ReadsUpTo};
+ghost use Rattle.std.specs.Prelude.{◌≡◌, Ok, IfOk, IfErr};
+ghost use Rattle.fits_header.specs.State.{ReadsUpTo};
 ghost use Rattle.fits_hdu.specs.Keyword.{keyword_cards, keyword_value, KeywordFails};
+ghost use Rattle.fits_hdu.specs.Work.{keyword_reads};
 
 use crate::keyword_cards::KeywordCards;
-use fits_card::{CardList, Name};
-use fits_rules::lead;
-use fits_value::{Text, Value, link_count, long_value};
+use fits_card::Name;
+use fits_header::Header;
+use fits_value::{Text, Value};
 use std::alloc::{AllocError, Global};
 use thiserror::Error;
 
@@ -39,17 +40,18 @@ impl From<AllocError> for KeywordFault {
 #[tactic(auto, using(crate::proofs::KeywordLemmas::keyword_steps))]
 pub(crate) fn keyword_value(
     alloc: Global,
-    cards: &mut CardList,
+    header: &mut Header,
     name: &Name,
 ) -> Result<(Value, Option<Text>), KeywordFault>
-    ensures ok { IfOk result (λ said. keyword_value cards.old.header.cards name.now ≡ Ok said) }
-    ensures err { IfErr result (KeywordFails cards.old.header.cards name.now) }
-    ensures work { ReadsUpTo cards.old cards.new (length cards.old.header.cards + 2) }
+    ensures ok { IfOk result (λ said. keyword_value header.old.header.cards name.now ≡ Ok said) }
+    ensures err { IfErr result (KeywordFails header.old.header.cards name.now) }
+    ensures work { ReadsUpTo header.old header.new
+        (keyword_reads header.old.header.cards name.now) }
 {
-    let Some(place) = lead(cards, name) else {
+    let Some(place) = header.lead(name) else {
         return Err(KeywordFault::NoKey);
     };
-    match long_value(alloc, cards, place)? {
+    match header.long_value(alloc, place)? {
         Some(said) => Ok(said),
         None => Err(KeywordFault::BadValue),
     }
@@ -57,13 +59,14 @@ pub(crate) fn keyword_value(
 
 /// Where the cards of a name stand: its lead, and the CONTINUE cards that belong to it.
 #[tactic(auto, using(crate::proofs::KeywordLemmas::keyword_steps))]
-pub(crate) fn keyword_cards(cards: &mut CardList, name: &Name) -> Option<KeywordCards>
-    ensures value { result ≡ keyword_cards cards.old.header.cards name.now }
-    ensures work { ReadsUpTo cards.old cards.new (length cards.old.header.cards + 2) }
+pub(crate) fn keyword_cards(header: &mut Header, name: &Name) -> Option<KeywordCards>
+    ensures value { result ≡ keyword_cards header.old.header.cards name.now }
+    ensures work { ReadsUpTo header.old header.new
+        (keyword_reads header.old.header.cards name.now) }
 {
-    let place = lead(cards, name)?;
-    let links = link_count(cards, place);
-    prove!(links < cards.len());
+    let place = header.lead(name)?;
+    let links = header.link_count(place);
+    prove!(links < header.len());
     Some(KeywordCards {
         place,
         count: 1 + links,

@@ -1,10 +1,13 @@
-ghost use Rattle.std.specs.Prelude.{◌≡◌, ◌+◌, ◌*◌, ◌↔◌, IsTrue, IfSome, IfNone, None, length};
+ghost use Rattle.std.specs.Prelude.{◌≡◌, ◌↔◌, IsTrue, IfSome, IfNone, None, codes};
+ghost use Rattle.fits_rules.specs.Denotes.{LeadDenotes};
 ghost use Rattle.fits_rules.specs.Image.{image_bits};
-ghost use Rattle.fits_card.specs.CardList.{ReadsUpTo};
+ghost use Rattle.fits_rules.specs.Lead.{lead_card};
+ghost use Rattle.fits_header.specs.State.{ReadsUpTo};
 ghost use Rattle.fits_hdu.specs.Kind.{IsUnscaled, HasOffset, convention, IsKind, kind_of};
 
-use fits_card::{CardList, Name};
-use fits_rules::{Shape, card_denotes, image_bits, lead_card, lead_denotes};
+use fits_card::{Card, Name};
+use fits_header::Header;
+use fits_rules::{card_denotes, image_bits};
 
 /// The type of an image's pixels: how many bits, and whether they are signed (FITS Standard 4.0,
 /// sections 5.2.1 to 5.2.5).
@@ -28,24 +31,47 @@ const BZERO: Name = Name(*b"BZERO   ");
 
 const BSCALE: Name = Name(*b"BSCALE  ");
 
+// The lead of a name.
+#[tactic(auto, using(fits_rules::proofs::LeadCardLemmas::lead_card_steps))]
+fn lead_card(header: &mut Header, name: &Name) -> Option<Card>
+    ensures value { result ≡ lead_card header.old.header.cards name.now }
+    ensures work { ReadsUpTo header.old header.new 1 }
+{
+    let place = header.lead(name)?;
+    Some(header.card(place))
+}
+
+// Whether the lead of BZERO denotes this offset.
+#[tactic(auto, using(fits_rules::proofs::DenotesLemmas::lead_steps))]
+fn has_zero(header: &mut Header, offset: i128) -> bool
+    ensures value { IsTrue result
+        ↔ LeadDenotes header.old.header.cards (codes "BZERO   ") offset }
+    ensures work { ReadsUpTo header.old header.new 1 }
+{
+    match lead_card(header, &BZERO) {
+        Some(card) => card_denotes(&card, offset),
+        None => false,
+    }
+}
+
 // Whether BSCALE is absent or denotes 1.
 #[tactic(auto, using(crate::proofs::KindLemmas::scale_steps))]
-fn is_unscaled(cards: &mut CardList) -> bool
-    ensures value { IsTrue result ↔ IsUnscaled cards.old.header.cards }
-    ensures work { ReadsUpTo cards.old cards.new (length cards.old.header.cards + 1) }
+fn is_unscaled(header: &mut Header) -> bool
+    ensures value { IsTrue result ↔ IsUnscaled header.old.header.cards }
+    ensures work { ReadsUpTo header.old header.new 1 }
 {
-    match lead_card(cards, &BSCALE) {
+    match lead_card(header, &BSCALE) {
         Some(card) => card_denotes(&card, 1),
         None => true,
     }
 }
 
 // Whether BZERO denotes this offset, and nothing is scaled.
-fn has_offset(cards: &mut CardList, offset: i128) -> bool
-    ensures value { IsTrue result ↔ HasOffset cards.old.header.cards offset }
-    ensures work { ReadsUpTo cards.old cards.new (2 * (length cards.old.header.cards + 1)) }
+fn has_offset(header: &mut Header, offset: i128) -> bool
+    ensures value { IsTrue result ↔ HasOffset header.old.header.cards offset }
+    ensures work { ReadsUpTo header.old header.new 2 }
 {
-    lead_denotes(cards, &BZERO, offset) && is_unscaled(cards)
+    has_zero(header, offset) && is_unscaled(header)
 }
 
 // The offset of the convention for so many bits.
@@ -76,13 +102,13 @@ fn kind_of(bits: u64, has_offset: bool) -> Kind
     }
 }
 
-/// The kind of the integer image that a shape and the cards describe. It takes no memory.
-pub(crate) fn image_kind(cards: &mut CardList, shape: &Shape) -> Option<Kind>
-    ensures found { IfSome result (IsKind shape.now cards.old.header.cards) }
-    ensures none { IfNone result (image_bits shape.now ≡ None) }
-    ensures work { ReadsUpTo cards.old cards.new (2 * (length cards.old.header.cards + 1)) }
+/// The kind of the integer image that a header describes. It takes no memory.
+pub(crate) fn image_kind(header: &mut Header) -> Option<Kind>
+    ensures found { IfSome result (IsKind header.old.shape header.old.header.cards) }
+    ensures none { IfNone result (image_bits header.old.shape ≡ None) }
+    ensures work { ReadsUpTo header.old header.new 2 }
 {
-    let bits = image_bits(shape)?;
-    let has_offset = has_offset(cards, convention(bits));
+    let bits = image_bits(header.shape())?;
+    let has_offset = has_offset(header, convention(bits));
     Some(kind_of(bits, has_offset))
 }

@@ -8,6 +8,8 @@ ghost use Rattle.fits_rules.specs.Shape.{shape_of};
 ghost use Rattle.fits_rules.specs.declared.array_shape.Shape.{Shape};
 ghost use Rattle.fits_hdu.specs.declared.fault.HduFault.{HduFault};
 ghost use Rattle.fits_hdu.specs.declared.kind.Kind.{Kind};
+ghost use Rattle.fits_header.specs.declared.finding.Finding.{Finding};
+ghost use Rattle.fits_hdu.specs.Findings.{AreFindings};
 ghost use Rattle.fits_hdu.specs.Hdu.{HduParts, IsHdu, IsHduOf, HasHduFault, hdu_after};
 ghost use Rattle.fits_hdu.specs.Kind.{IsKind};
 
@@ -56,4 +58,10 @@ pub fn a_change_leaves_an_hdu()
 pub fn one_kind()
     ensures { (shape : Shape) (cards : List (List ℕ)) (k j : Kind) → IsKind shape cards k
         → IsKind shape cards j → k ≡ j }
+{}
+
+/// One list of findings is that of an HDU.
+pub fn one_list_of_findings()
+    ensures { (hdu : HduParts) (found other : List Finding) → AreFindings found hdu
+        → AreFindings other hdu → found ≡ other }
 {}

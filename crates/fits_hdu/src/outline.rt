@@ -1,7 +1,6 @@
 ghost use Rattle.std.specs.Prelude.{◌≡◌};
 
-use crate::described::{Described, read_described};
-use crate::fault::HduFault;
+use crate::described::{Described, read_past};
 use crate::read_fault::ReadHduFault;
 use fits_card::{Intake, Source};
 use fits_rules::Shape;
@@ -27,7 +26,7 @@ impl Outline {
 
     /// The outline of the HDU that comes next in a source, as `Hdu::read`. Its data unit is
     /// skipped.
-    #[tactic(auto, using(crate::proofs::ReadingLemmas::passing_steps))]
+    #[tactic(auto, using(crate::proofs::ReadingLemmas::outline_steps))]
     pub fn read<R: Source>(
         alloc: Global,
         intake: &mut Intake,
@@ -52,18 +51,12 @@ impl Outline {
             cards,
             shape,
             unit_len,
-        } = read_described(alloc, intake, source, first, primary)?;
-        let Ok(data_len) = intake.skip(source, unit_len) else {
-            return Err(ReadHduFault::Failed);
-        };
-        if data_len < unit_len {
-            return Err(ReadHduFault::Hdu(HduFault::ShortData));
-        }
+        } = read_past(alloc, intake, source, first, primary)?;
         Ok(Outline {
             card_count: cards.len(),
             shape,
             header_len: cards.byte_len(),
-            data_len,
+            data_len: unit_len,
         })
     }
 }
