@@ -18,7 +18,7 @@ use Rattle.fits_rules.specs.Shape.{shape_of}
 use Rattle.fits_hdu.specs.Hdu.{HduParts, hdu_after, hdu_bytes, IsHdu, keeps_shape}
 use Rattle.fits_hdu.specs.Keyword.{keyword_cards}
 use Rattle.fits_hdu.specs.State.{HduState, ReadsUpTo}
-use Rattle.fits_hdu.specs.Work.{shape_reads}
+use Rattle.fits_header.specs.Work.{judge_reads, shape_reads}
 use Rattle.fits_hdu.specs.declared.keyword_cards.KeywordCards.{KeywordCards}
 use Rattle.fits_hdu.proofs.ChangeLemmas.{hdu-changed, inner_after}
 use Rattle.fits_hdu.proofs.KeywordLemmas.{keyword_within}
@@ -310,18 +310,20 @@ pub record IsMade (hdus : List HduState) (tail : List ℕ) (edit : Edit) (i : �
   pub made : change_of state.hdu.header.cards edit ≡ Ok change
   pub inner : All IsInnerCard (new_cards change)
   pub whole : IsHdu (is_primary state.shape.class) state.hdu
+  pub described : shape_of (is_primary state.shape.class) state.hdu.header.cards ≡ Ok state.shape
   pub size : len ≡ length (joined_hdus (hdus_of (held_of hdus))) + length tail
   pub number : count ≡ length hdus
 
 -- it is known once cards were read for it, and the HDU was found whole
 pub is_made : (hdus : List HduState) (tail : List ℕ) (edit : Edit) (i : ℕ) (state left : HduState) (change : Change) (len count : ℕ) → IsHduAt hdus (hdu_named edit) i state → IsFile (file_of (state_of hdus tail)) → change_of state.hdu.header.cards edit ≡ Ok change
-    → All IsInnerCard (new_cards change) → ReadsUpTo state left (own_reads state.hdu.header.cards edit) → IsHdu (is_primary left.shape.class) left.hdu → len ≡ length (joined_hdus (hdus_of (held_of hdus))) + length tail → count ≡ length hdus → IsMade hdus tail edit i state change len count
-is_made hdus tail edit i state left change len count at file made inner r whole size number = record {
+    → All IsInnerCard (new_cards change) → ReadsUpTo state left (own_reads state.hdu.header.cards edit) → IsHdu (is_primary left.shape.class) left.hdu → shape_of (is_primary left.shape.class) left.hdu.header.cards ≡ Ok left.shape → len ≡ length (joined_hdus (hdus_of (held_of hdus))) + length tail → count ≡ length hdus → IsMade hdus tail edit i state change len count
+is_made hdus tail edit i state left change len count at file made inner r whole described size number = record {
   at = at;
   file = file;
   made = made;
   inner = inner;
   whole = rw (r.hdu, r.shape) at whole;
+  described = rw (r.hdu, r.shape) at described;
   size = size;
   number = number;
 }
@@ -364,11 +366,12 @@ module _ (hdus : List HduState) (tail : List ℕ) (edit : Edit) (i : ℕ) (state
       ∙ ap (λ n. first_refusal (shape_refusal (is_primary state.shape.class) cards after) (limit_refusal bytes n)) many
 
   -- and so are the cards that are read
-  reads_made : (read : ℕ) → read ≤ own_reads state.hdu.header.cards edit + shape_reads (is_primary state.shape.class) state.hdu.header.cards (cards_after state.hdu.header.cards change) → read ≤ hdu_reads (Some state.hdu) edit
+  reads_made : (read : ℕ) → read ≤ own_reads state.hdu.header.cards edit + (shape_reads state.shape + judge_reads) → read ≤ hdu_reads (Some state.hdu) edit
   reads_made read l =
       let cards : List (List ℕ) = state.hdu.header.cards in
-      let same : change_reads (is_primary_hdu (hdu_named edit)) cards (change_of cards edit) ≡ shape_reads (is_primary state.shape.class) cards (cards_after cards change) =
-      ap (change_reads (is_primary_hdu (hdu_named edit)) cards) p.made ∙ ap (λ b. shape_reads b cards (cards_after cards change)) (ap is_primary_hdu named ∙ sym primary) in
+      let primary_one : is_primary_hdu (hdu_named edit) ≡ is_primary state.shape.class = ap is_primary_hdu named ∙ sym primary in
+      let described : shape_of (is_primary_hdu (hdu_named edit)) cards ≡ Ok state.shape = ap (λ b. shape_of b cards) primary_one ∙ p.described in
+      let same : change_reads (shape_of (is_primary_hdu (hdu_named edit)) cards) (change_of cards edit) ≡ shape_reads state.shape + judge_reads = rw (described, p.made) refl in
       omega (arith, l, same)
 
   -- the tests are the same where cards were read
@@ -376,14 +379,14 @@ module _ (hdus : List HduState) (tail : List ℕ) (edit : Edit) (i : ℕ) (state
   refusal_left left most r = rw (r.hdu, r.shape) (sym refusal_made)
 
   -- so many cards were read in all
-  reads_left : (left new : HduState) → ReadsUpTo state left (own_reads state.hdu.header.cards edit) → left.reads ≤ new.reads → new.reads ≤ left.reads + shape_reads (is_primary left.shape.class) left.hdu.header.cards (cards_after left.hdu.header.cards change)
+  reads_left : (left new : HduState) → ReadsUpTo state left (own_reads state.hdu.header.cards edit) → left.reads ≤ new.reads → new.reads ≤ left.reads + (shape_reads left.shape + judge_reads)
       → (state.reads ≤ new.reads) × (new.reads ≤ state.reads + hdu_reads (Some state.hdu) edit)
   reads_left left new r least most =
-      let most_here : new.reads ≤ left.reads + shape_reads (is_primary state.shape.class) state.hdu.header.cards (cards_after state.hdu.header.cards change) = rw (r.hdu, r.shape) at most in
-      (omega (arith, r.least, least), omega (arith, r.most, most_here, reads_made (own_reads state.hdu.header.cards edit + shape_reads (is_primary state.shape.class) state.hdu.header.cards (cards_after state.hdu.header.cards change)) (omega arith)))
+      let most_here : new.reads ≤ left.reads + (shape_reads state.shape + judge_reads) = rw r.shape at most in
+      (omega (arith, r.least, least), omega (arith, r.most, most_here, reads_made (own_reads state.hdu.header.cards edit + (shape_reads state.shape + judge_reads)) (omega arith)))
 
   -- the HDU refuses the change
-  pub edits_refused : (left new : HduState) (why : Refusal) → ReadsUpTo state left (own_reads state.hdu.header.cards edit) → left.reads ≤ new.reads → new.reads ≤ left.reads + shape_reads (is_primary left.shape.class) left.hdu.header.cards (cards_after left.hdu.header.cards change)
+  pub edits_refused : (left new : HduState) (why : Refusal) → ReadsUpTo state left (own_reads state.hdu.header.cards edit) → left.reads ≤ new.reads → new.reads ≤ left.reads + (shape_reads left.shape + judge_reads)
       → new.hdu ≡ left.hdu → EditFails (made_refusal left change len count) why → EditsTo {X = ℕ} edit (state_of hdus tail) (state_of (set hdus i new) tail) (Err why)
   edits_refused left new why r least most same fails =
       let reads = reads_left left new r least most in
@@ -395,7 +398,7 @@ module _ (hdus : List HduState) (tail : List ℕ) (edit : Edit) (i : ℕ) (state
       ap (λ (us : List HduParts). let file : FileParts = record { hdus = us; tail = tail } in file) (hdus_of-changed hdus (hdu_named edit) i state new (hdu_after change) p.at (is ∙ ap (hdu_after change) r.hdu))
 
   -- the change is made
-  pub edits_made : (left new : HduState) (n : ℕ) → ReadsUpTo state left (own_reads state.hdu.header.cards edit) → left.reads ≤ new.reads → new.reads ≤ left.reads + shape_reads (is_primary left.shape.class) left.hdu.header.cards (cards_after left.hdu.header.cards change)
+  pub edits_made : (left new : HduState) (n : ℕ) → ReadsUpTo state left (own_reads state.hdu.header.cards edit) → left.reads ≤ new.reads → new.reads ≤ left.reads + (shape_reads left.shape + judge_reads)
       → new.hdu ≡ hdu_after change left.hdu → made_refusal left change len count ≡ None → EditsTo {X = ℕ} edit (state_of hdus tail) (state_of (set hdus i new) tail) (Ok n)
   edits_made left new n r least most is none =
       let reads = reads_left left new r least most in

@@ -1,5 +1,6 @@
 pub mod CardLemmas
 pub mod ChangeLemmas
+pub mod CountLemmas
 pub mod EditLemmas
 pub mod FileLemmas
 pub mod FrontLemmas
@@ -8,8 +9,11 @@ pub mod LawLemmas
 pub mod MakingLemmas
 pub mod OffsetLemmas
 pub mod OpeningLemmas
+pub mod OrderLemmas
+pub mod ProblemLemmas
 pub mod QueryLemmas
 pub mod RefusalLemmas
+pub mod ReportLemmas
 pub mod SaveLemmas
 pub mod SetLemmas
 pub mod StateLemmas

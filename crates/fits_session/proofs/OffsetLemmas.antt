@@ -24,7 +24,7 @@ offsets-push start (v ∷ vs) u =
     ap (λ xs. offsets_at start v ∷ xs) (offsets-push next vs u ∙ ap (λ n. offsets_from next vs ++ offsets_at n u ∷ []) same)
 
 -- the HDUs through number i + 1
-hdus_more : (hdus : List HduState) (i : ℕ) (hdu : HduState) → i < length hdus → hdu ≡ get_or hdus i hdu → take (i + 1) (hdus_of (held_of hdus)) ≡ take i (hdus_of (held_of hdus)) ++ hdu.hdu ∷ []
+pub hdus_more : (hdus : List HduState) (i : ℕ) (hdu : HduState) → i < length hdus → hdu ≡ get_or hdus i hdu → take (i + 1) (hdus_of (held_of hdus)) ≡ take i (hdus_of (held_of hdus)) ++ hdu.hdu ∷ []
 hdus_more hdus i hdu l e =
     let within : i < length (hdus_of (held_of hdus)) = omega (arith, length-hdus_of hdus) in
     take_more (hdus_of (held_of hdus)) i hdu.hdu within ∙ ap (λ u. take i (hdus_of (held_of hdus)) ++ u ∷ []) (get_or-hdus_of hdus i hdu l e)

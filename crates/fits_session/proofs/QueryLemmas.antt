@@ -1,5 +1,5 @@
 -- Steps of queries.
-use Rattle.std.proofs.Common.{◌≡◌, ℕ, ◌+◌, ◌*◌, List, length, set, refl, ap, sym, ◌∙◌, subst, Option, None, Some}
+use Rattle.std.proofs.Common.{◌≡◌, ℕ, List, length, set, refl, ap, sym, ◌∙◌, subst, Option, None, Some}
 use Rattle.std.specs.Prelude.{Result, Ok, Err, IsOk}
 use Rattle.fits_value.specs.declared.value.Value.{Value}
 use Rattle.fits_header.specs.Names.{header_names}
@@ -12,6 +12,7 @@ use Rattle.fits_hdu.specs.Hdu.{HduParts}
 use Rattle.fits_hdu.specs.Keyword.{keyword_value, KeywordFails}
 use Rattle.fits_hdu.specs.Kind.{IsKind}
 use Rattle.fits_hdu.specs.State.{HduState, ReadsUpTo}
+use Rattle.fits_hdu.specs.Work.{keyword_reads}
 use Rattle.fits_hdu.specs.declared.kind.Kind.{Kind}
 use Rattle.fits_hdu.specs.declared.keyword.KeywordFault.{KeywordFault}
 use Rattle.fits_hdu.specs.declared.keyword.KeywordFault.TheVariants as keyword
@@ -20,7 +21,7 @@ use Rattle.fits_session.specs.File.{IsFile}
 use Rattle.fits_session.specs.Query.{card_count_in, IsShapeIn, IsKindIn, HasNoKind, value_in, positions_in, names_in, in_hdu, or_refused, refusal_of_keyword, QueryFails}
 use Rattle.fits_session.specs.Refusal.{is_primary_hdu}
 use Rattle.fits_session.specs.Session.{file_of, state_of, Asks}
-use Rattle.fits_session.specs.Work.{count_in, kind_reads, name_reads, value_reads}
+use Rattle.fits_session.specs.Work.{reads_in, value_reads}
 use Rattle.fits_session.specs.declared.refusal.Refusal.{Refusal}
 use Rattle.fits_session.specs.declared.refusal.Refusal.TheVariants as refusal
 use Rattle.fits_session.proofs.StateLemmas.{IsHduAt, hdu_of-there, described_there, asked}
@@ -107,17 +108,8 @@ names_there hdus tail h i hdu names at is = answer_there (λ (u : HduParts). Ok 
 pub no_names : (hdus : List HduState) (tail : List ℕ) (h i : ℕ) (hdu : HduState) → IsHduAt hdus h i hdu → QueryFails (names_in (file_of (state_of hdus tail)) h) refusal.Memory
 no_names hdus tail h i hdu at = rw (names_there hdus tail h i hdu (header_names hdu.hdu.header.cards) at refl) refl
 
--- what these two read
-pub name_asks : (hdus : List HduState) (tail : List ℕ) (h i : ℕ) (old new : HduState) → IsHduAt hdus h i old → ReadsUpTo old new (length old.hdu.header.cards) → Asks h (name_reads (file_of (state_of hdus tail)) h) (state_of hdus tail) (state_of (set hdus i new) tail)
-name_asks hdus tail h i old new at r =
-    asked hdus tail h i (name_reads (file_of (state_of hdus tail)) h) old new at (subst (λ (o : Option HduParts). ReadsUpTo old new (count_in o)) (sym (hdu_of-there hdus tail h i old at)) r)
-
--- what the query of a kind reads
-pub kind_asks : (hdus : List HduState) (tail : List ℕ) (h i : ℕ) (old new : HduState) → IsHduAt hdus h i old → ReadsUpTo old new (2 * (length old.hdu.header.cards + 1)) → Asks h (kind_reads (file_of (state_of hdus tail)) h) (state_of hdus tail) (state_of (set hdus i new) tail)
-kind_asks hdus tail h i old new at r =
-    asked hdus tail h i (kind_reads (file_of (state_of hdus tail)) h) old new at (subst (λ (o : Option HduParts). ReadsUpTo old new (2 * (count_in o + 1))) (sym (hdu_of-there hdus tail h i old at)) r)
-
--- and that of a value
-pub value_asks : (hdus : List HduState) (tail : List ℕ) (h i : ℕ) (old new : HduState) → IsHduAt hdus h i old → ReadsUpTo old new (length old.hdu.header.cards + 2) → Asks h (value_reads (file_of (state_of hdus tail)) h) (state_of hdus tail) (state_of (set hdus i new) tail)
-value_asks hdus tail h i old new at r =
-    asked hdus tail h i (value_reads (file_of (state_of hdus tail)) h) old new at (subst (λ (o : Option HduParts). ReadsUpTo old new (count_in o + 2)) (sym (hdu_of-there hdus tail h i old at)) r)
+-- what the query of a value reads
+pub value_asks : (hdus : List HduState) (tail : List ℕ) (h i : ℕ) (old new : HduState) (name : List ℕ) → IsHduAt hdus h i old → ReadsUpTo old new (keyword_reads old.hdu.header.cards name)
+    → Asks h (value_reads (file_of (state_of hdus tail)) h name) (state_of hdus tail) (state_of (set hdus i new) tail)
+value_asks hdus tail h i old new name at r =
+    asked hdus tail h i (value_reads (file_of (state_of hdus tail)) h name) old new at (subst (λ (o : Option HduParts). ReadsUpTo old new (reads_in o name)) (sym (hdu_of-there hdus tail h i old at)) r)

@@ -1,6 +1,6 @@
 -- Steps of a walk over the HDUs of a source.
 use Rattle.std.proofs.Common.{◌≡◌, ◌⊎◌, ℕ, ◌+◌, ◌<◌, ◌≤◌, Bool, true, false, List, [], ◌∷◌, ◌++◌, length, take, refl, subst, ap, sym, ◌∙◌, append_assoc, arith, rules, inl, inr, Option}
-use Rattle.std.specs.Prelude.{IfSome, nat_eq, codes}
+use Rattle.std.specs.Prelude.{IfSome, nat_eq, not, codes}
 use Rattle.std.specs.Str.{bytes_eq}
 use Rattle.std.specs.List.{starts_with}
 use Rattle.std.proofs.lemmas.Bool.{cases_lt}
@@ -17,12 +17,11 @@ use Rattle.fits_hdu.specs.declared.fault.HduFault.{HduFault}
 use Rattle.fits_hdu.specs.declared.fault.HduFault.TheVariants as hdu_fault
 use Rattle.fits_hdu.specs.declared.read_fault.ReadHduFault.{ReadHduFault}
 use Rattle.fits_hdu.specs.declared.read_fault.ReadHduFault.TheVariants as read_hdu
-use Rattle.fits_session.specs.File.{FileParts, begins_extension, goes_on, is_first, joined_hdus, IsFile, IsFileOf, IsFrontOf}
+use Rattle.fits_session.specs.File.{FileParts, begins_extension, goes_on, is_first, is_followed, joined_hdus, IsFile, IsFileOf, IsFrontOf}
 use Rattle.fits_session.specs.declared.limits.TheConstants.{FILE_LIMIT, HDU_LIMIT}
 use Rattle.fits_session.specs.Opening.{BeginsAsFits, HasOpenFault, open_fault_of}
-use Rattle.fits_session.specs.Reading.{file_fault_of, is_of_bytes, of_read, IsKeptOf, KeepsEach, NextBegins, ReadStops, RestStops, Walked, WalkStops}
+use Rattle.fits_session.specs.Reading.{file_fault_of, is_of_bytes, of_read, IsKeptOf, IsWalkOf, KeepsEach, NextBegins, ReadStops, RestStops, Walked, WalkStops}
 use Rattle.fits_session.specs.Session.{file_of, held_of, hdus_of, state_of}
-use Rattle.fits_session.specs.declared.open_fault.OpenFault.{OpenFault}
 use Rattle.fits_session.specs.declared.open_fault.OpenFault.TheVariants.{NotFits, NoEnd, BadShape, ShortData, TooLarge, Memory}
 use Rattle.fits_session.specs.declared.read_fault.ReadFileFault.{ReadFileFault}
 use Rattle.fits_session.specs.declared.read_fault.ReadFileFault.TheVariants.{Open, Failed}
@@ -71,7 +70,7 @@ front_next us u p whole =
     record { joined = sym (append-nil (joined_hdus (us ++ u ∷ []))); first = q.first; others = q.others }
 
 -- what is kept of one more
-each_push : {K : Type 0} (keeps : K → HduParts → Type 0) (ks : List K) (us : List HduParts) (k : K) (u : HduParts) → KeepsEach keeps ks us → keeps k u → KeepsEach keeps (ks ++ k ∷ []) (us ++ u ∷ [])
+pub each_push : {K : Type 0} (keeps : K → HduParts → Type 0) (ks : List K) (us : List HduParts) (k : K) (u : HduParts) → KeepsEach keeps ks us → keeps k u → KeepsEach keeps (ks ++ k ∷ []) (us ++ u ∷ [])
 each_push keeps [] [] k u p q = (q, tt)
 each_push keeps [] (v ∷ vs) k u p q = absurd p
 each_push keeps (l ∷ ls) [] k u p q = absurd p
@@ -253,17 +252,31 @@ rest_ends first s b left' ends short none =
       | inr many ↦ extension_same first s (inr (omega (arith, many))) ∙ ends
     ]
 
+-- bytes follow where there are any
+followed : (bytes : List ℕ) → not (nat_eq (length bytes) 0) ≡ is_followed bytes
+followed [] = refl
+followed (byte ∷ bytes) = ap not (not_zero (length (byte ∷ bytes)) (omega arith))
+
+-- so they do where what is seen isn't empty
+pub followed_seen : (bytes : List ℕ) (none : Bool) → none ≡ nat_eq (length bytes) 0 → not none ≡ is_followed bytes
+followed_seen bytes none is = ap not is ∙ followed bytes
+
+-- bytes follow the last HDU where the first block of what follows has any
+followed_by : (first s : List ℕ) (b : Option (List ℕ)) (left' : ℕ) → (length first < 2880 → IsSpent b left') → (IsSpent b left' → s ≡ []) → not (nat_eq (length first) 0) ≡ is_followed (first ++ s)
+followed_by [] s b left' short none = rw (none (short (omega arith))) refl
+followed_by (byte ∷ bytes) s b left' short none = followed (byte ∷ bytes)
+
 -- all of the source is a file
-pub kept_given : {K : Type 0} (keeps : K → HduParts → Type 0) (ks : List K) (first : List ℕ) (a b : Option (List ℕ)) (left' : ℕ) → Walked keeps ks first a b FILE_LIMIT left' → 0 < length ks → length ks ≤ HDU_LIMIT → begins_extension first ≡ false → (length first < 2880 → IsSpent b left') → IfSome b (λ ys. length ys ≤ left')
-    → Gives a (IsKeptOf keeps ks)
-kept_given keeps ks first a b left' p some few ends short rest =
+pub kept_given : {K : Type 0} (keeps : K → HduParts → Type 0) (ks : List K) (first : List ℕ) (none : Bool) (a b : Option (List ℕ)) (left' : ℕ) → Walked keeps ks first a b FILE_LIMIT left' → none ≡ nat_eq (length first) 0 → 0 < length ks → length ks ≤ HDU_LIMIT → begins_extension first ≡ false → (length first < 2880 → IsSpent b left') → IfSome b (λ ys. length ys ≤ left')
+    → Gives a (IsWalkOf keeps ks (not none))
+kept_given keeps ks first none a b left' p is some few ends short rest =
     let s = rest_given b left' rest in
     let same : (joined_hdus p.hdus ++ first) ++ s.0 ≡ joined_hdus p.hdus ++ (first ++ s.0) = append_assoc (joined_hdus p.hdus) first s.0 in
     let size : length (joined_hdus p.hdus ++ (first ++ s.0)) ≤ FILE_LIMIT = omega (arith, p.taken.count, s.2.0, ap length (sym same), length-append (joined_hdus p.hdus ++ first) s.0) in
     let file : FileParts = record { hdus = p.hdus; tail = first ++ s.0 } in (
       joined_hdus p.hdus ++ (first ++ s.0),
       subst (λ (t : List ℕ). Tells a t) same (tells_after a b FILE_LIMIT left' (joined_hdus p.hdus ++ first) s.0 p.taken s.1),
-      (file, file_walked keeps ks p.hdus (first ++ s.0) p.each p.front some few (rest_ends first s.0 b left' ends short s.2.1) size, p.each),
+      (file, file_walked keeps ks p.hdus (first ++ s.0) p.each p.front some few (rest_ends first s.0 b left' ends short s.2.1) size, p.each, ap not is ∙ followed_by first s.0 b left' short s.2.1),
     )
 
 -- a walk whose source has more than may be taken, or fails
@@ -271,6 +284,12 @@ pub kept_before : {K : Type 0} (keeps : K → HduParts → Type 0) (ks : List K)
 kept_before keeps ks first a b left' f g g' before p quiet q = ends_before a b left' f g g' (joined_hdus p.hdus ++ first) before p.taken quiet q
 
 pub ruleset kept_steps = (kept_given, kept_before)
+
+-- what is kept of a file, whatever follows
+pub kept_alone : {K : Type 0} (keeps : K → HduParts → Type 0) (ks : List K) (followed : Bool) (a : Option (List ℕ)) → Gives a (IsWalkOf keeps ks followed) → Gives a (IsKeptOf keeps ks)
+kept_alone keeps ks followed a p = (p.0, p.1, (p.2.0, p.2.1, p.2.2))
+
+pub ruleset outline_steps = (kept_alone)
 
 pub ruleset end_steps = (within_limit, past_limit)
 

@@ -46,6 +46,11 @@ pub record IsFileOf (bytes : List ℕ) (file : FileParts) : Type 0 where
   pub size : length bytes ≤ FILE_LIMIT
   pub count : length file.hdus ≤ HDU_LIMIT
 
+-- bytes follow the last HDU
+abbrev pub is_followed : List ℕ → Bool
+is_followed [] = false
+is_followed (byte ∷ bytes) = true
+
 -- the parts are those of a file
 abbrev pub IsFile : FileParts → Type 0
 IsFile file = IsFileOf (file_bytes file) file

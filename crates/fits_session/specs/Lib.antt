@@ -5,5 +5,6 @@ pub mod Opening
 pub mod Query
 pub mod Reading
 pub mod Refusal
+pub mod Report
 pub mod Session
 pub mod Work

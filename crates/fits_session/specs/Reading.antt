@@ -4,15 +4,16 @@ use Rattle.std.specs.List.{starts_with}
 use Rattle.fits_card.specs.Intake.{Finds, Gives, Takes}
 use Rattle.fits_card.specs.declared.reading.ReadFault.{ReadFault}
 use Rattle.fits_card.specs.declared.reading.ReadFault.TheVariants as read
+use Rattle.fits_hdu.specs.Findings.{AreFindings}
 use Rattle.fits_hdu.specs.Hdu.{HduParts}
 use Rattle.fits_hdu.specs.Reading.{IsOutlined}
+use Rattle.fits_hdu.specs.declared.findings.Findings.{Findings}
 use Rattle.fits_hdu.specs.declared.outline.Outline.{Outline}
 use Rattle.fits_hdu.specs.declared.read_fault.ReadHduFault.{ReadHduFault}
 use Rattle.fits_hdu.specs.declared.read_fault.ReadHduFault.TheVariants as hdu
-use Rattle.fits_session.specs.File.{FileParts, begins_extension, joined_hdus, IsFileOf, IsFrontOf}
+use Rattle.fits_session.specs.File.{FileParts, begins_extension, is_followed, joined_hdus, IsFileOf, IsFrontOf}
 use Rattle.fits_session.specs.Opening.{HasOpenFault, open_fault_of}
-use Rattle.fits_session.specs.declared.open_fault.OpenFault.{OpenFault}
-use Rattle.fits_session.specs.declared.open_fault.OpenFault.TheVariants.{NotFits, NoEnd, BadShape, ShortData, TooLarge, Memory}
+use Rattle.fits_session.specs.declared.open_fault.OpenFault.TheVariants.{TooLarge, Memory}
 use Rattle.fits_session.specs.declared.read_fault.ReadFileFault.{ReadFileFault}
 use Rattle.fits_session.specs.declared.read_fault.ReadFileFault.TheVariants.{Open, Failed}
 
@@ -68,10 +69,18 @@ pub record Walked {K : Type 0} (keeps : K → HduParts → Type 0) (kept : List 
 abbrev pub IsKeptOf : {K : Type 0} → (K → HduParts → Type 0) → List K → List ℕ → Type 0
 IsKeptOf keeps kept bytes = (file : FileParts) × IsFileOf bytes file × KeepsEach keeps kept file.hdus
 
+-- the same, and this tells whether bytes follow the last HDU
+abbrev pub IsWalkOf : {K : Type 0} → (K → HduParts → Type 0) → List K → Bool → List ℕ → Type 0
+IsWalkOf keeps kept followed bytes = (file : FileParts) × IsFileOf bytes file × KeepsEach keeps kept file.hdus × (followed ≡ is_followed file.tail)
+
 -- the next HDU begins so: the primary one, or an extension
 abbrev pub NextBegins : Bool → List ℕ → Type 0
 NextBegins true first = starts_with nat_eq first (codes "SIMPLE  ") ≡ true
 NextBegins false first = begins_extension first ≡ true
+
+-- this is found of an HDU
+abbrev pub is_found : Findings → HduParts → Type 0
+is_found it hdu = AreFindings it.0.items hdu
 
 -- this is an HDU's outline
 abbrev pub is_outline : Outline → HduParts → Type 0

@@ -1,9 +1,11 @@
 -- How many cards edits and queries read (own).
-use Rattle.std.specs.Prelude.{ℕ, ◌+◌, ◌*◌, Bool, List, length, Option, None, Some, Result, Ok, Err}
-use Rattle.fits_card.specs.Change.{cards_after}
+use Rattle.std.specs.Prelude.{ℕ, ◌+◌, List, Option, None, Some, Result, Ok, Err}
 use Rattle.fits_card.specs.declared.change.Change.{Change}
+use Rattle.fits_rules.specs.Shape.{shape_of}
+use Rattle.fits_rules.specs.declared.array_shape.Shape.{Shape}
+use Rattle.fits_header.specs.Work.{judge_reads, shape_reads}
 use Rattle.fits_hdu.specs.Hdu.{HduParts}
-use Rattle.fits_hdu.specs.Work.{shape_reads}
+use Rattle.fits_hdu.specs.Work.{keyword_reads}
 use Rattle.fits_session.specs.Edit.{change_of, hdu_named, hdu_of}
 use Rattle.fits_session.specs.File.{FileParts}
 use Rattle.fits_session.specs.Refusal.{is_primary_hdu}
@@ -11,40 +13,37 @@ use Rattle.fits_session.specs.declared.edit.Edit.{Edit}
 use Rattle.fits_session.specs.declared.edit.Edit.TheVariants.{Set, Unset}
 use Rattle.fits_session.specs.declared.refusal.Refusal.{Refusal}
 
--- how many cards an edit reads at most to find its change: all of them, the lead again, and the one after its last link, where
--- it names a keyword; else none
+-- how many cards an edit reads at most to find its change: those of the keyword that it names, and one; else none
 abbrev pub own_reads : List (List ℕ) → Edit → ℕ
-own_reads cards (Set h name value comment) = length cards + 2
-own_reads cards (Unset h name) = length cards + 2
+own_reads cards (Set h name value comment) = keyword_reads cards name
+own_reads cards (Unset h name) = keyword_reads cards name
 own_reads cards edit = 0
 
--- how many cards a change reads at most: those that say whether the shape stays
-abbrev pub change_reads : Bool → List (List ℕ) → Result Change Refusal → ℕ
-change_reads primary cards (Err why) = 0
-change_reads primary cards (Ok change) = shape_reads primary cards (cards_after cards change)
+-- how many cards a change reads at most: those that say whether the shape stays, and those that decide the codes of the HDU as
+-- a whole
+abbrev pub change_reads : Result Shape ℕ → Result Change Refusal → ℕ
+change_reads (Ok shape) (Ok change) = shape_reads shape + judge_reads
+change_reads (Ok shape) (Err why) = 0
+change_reads (Err place) change = 0
 
 -- how many cards an edit of an HDU reads at most
 abbrev pub hdu_reads : Option HduParts → Edit → ℕ
 hdu_reads None edit = 0
-hdu_reads (Some hdu) edit = own_reads hdu.header.cards edit + change_reads (is_primary_hdu (hdu_named edit)) hdu.header.cards (change_of hdu.header.cards edit)
+hdu_reads (Some hdu) edit = own_reads hdu.header.cards edit + change_reads (shape_of (is_primary_hdu (hdu_named edit)) hdu.header.cards) (change_of hdu.header.cards edit)
 
 -- how many cards an edit of a file reads at most
 abbrev pub edit_reads : FileParts → Edit → ℕ
 edit_reads file edit = hdu_reads (hdu_of file (hdu_named edit)) edit
 
--- how many cards HDU h has, none where it isn't there
-abbrev pub count_in : Option HduParts → ℕ
-count_in None = 0
-count_in (Some hdu) = length hdu.header.cards
+-- how many cards the query of a kind reads at most: the leads of BZERO and BSCALE
+abbrev pub kind_reads : ℕ
+kind_reads = 2
 
--- how many cards the query of a kind reads at most: each twice, to find BZERO and BSCALE, and these two
-abbrev pub kind_reads : FileParts → ℕ → ℕ
-kind_reads file h = 2 * (count_in (hdu_of file h) + 1)
+-- how many cards a keyword of an HDU is read by at most, none where the HDU isn't there
+abbrev pub reads_in : Option HduParts → List ℕ → ℕ
+reads_in None name = 0
+reads_in (Some hdu) name = keyword_reads hdu.header.cards name
 
--- how many cards the queries of positions and of names read at most: each once
-abbrev pub name_reads : FileParts → ℕ → ℕ
-name_reads file h = count_in (hdu_of file h)
-
--- how many cards the query of a value reads at most: all of them, the lead again, and the one after its last link
-abbrev pub value_reads : FileParts → ℕ → ℕ
-value_reads file h = count_in (hdu_of file h) + 2
+-- how many cards the query of a value reads at most
+abbrev pub value_reads : FileParts → ℕ → List ℕ → ℕ
+value_reads file h name = reads_in (hdu_of file h) name

@@ -1,5 +1,5 @@
 //! Laws of the definitions, each the contract of a function that does nothing.
-ghost use Rattle.std.specs.Prelude.{◌≡◌, ◌≤◌, ℕ, List, length, All, Ok, Option, None, Some};
+ghost use Rattle.std.specs.Prelude.{◌≡◌, ◌≤◌, ◌↔◌, ◌⊎◌, ℕ, List, length, All, AllPairs, Contains, Ok, Option, None, Some};
 ghost use Rattle.fits_card.specs.Change.{cards_after, new_cards};
 ghost use Rattle.fits_card.specs.Header.{IsInnerCard};
 ghost use Rattle.fits_card.specs.declared.change.Change.{Change};
@@ -10,8 +10,10 @@ ghost use Rattle.fits_session.specs.Edit.{file_after, hdu_of, set_of, with_hdu, 
 ghost use Rattle.fits_session.specs.File.{FileParts, IsFile, IsFileOf};
 ghost use Rattle.fits_session.specs.Opening.{HasOpenFault, IsFileOrNot};
 ghost use Rattle.fits_session.specs.Refusal.{refusal_of, size_refusal};
+ghost use Rattle.fits_session.specs.Report.{report_of, IsListedBefore, IsTrailing, IsWrong};
 ghost use Rattle.fits_session.specs.declared.edit.Edit.{Edit};
 ghost use Rattle.fits_session.specs.declared.open_fault.OpenFault.{OpenFault};
+ghost use Rattle.fits_session.specs.declared.problem.Problem.{Problem};
 ghost use Rattle.fits_session.specs.declared.refusal.Refusal.TheVariants.{Memory};
 
 /// Bytes are one file at most.
@@ -55,6 +57,18 @@ pub fn fewer_cards_pass_no_limit()
         → IsFileOf bytes file → hdu_of file h ≡ Some hdu → All IsInnerCard (new_cards change)
         → length (cards_after hdu.header.cards change) ≤ length hdu.header.cards
         → size_refusal (with_hdu file h (hdu_after change)) ≡ None }
+{}
+
+/// The report has a problem exactly where the code is among those of the place, in the HDU as a
+/// whole or in a card, or says that bytes follow the last HDU.
+pub fn the_report_is_all_problems()
+    ensures { (file : FileParts) (problem : Problem) → Contains (report_of file) problem
+        ↔ (IsWrong file problem ⊎ IsTrailing file problem) }
+{}
+
+/// The report is in order: by HDU, by place, by the code's number. No problem stands twice.
+pub fn the_report_is_in_order()
+    ensures { (file : FileParts) → AllPairs IsListedBefore (report_of file) }
 {}
 
 /// No test refuses an edit for memory.

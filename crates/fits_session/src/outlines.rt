@@ -13,6 +13,7 @@ use std::alloc::Global;
 /// it.
 ///
 /// No data unit and no tail is kept.
+#[tactic(auto, using(crate::proofs::WalkLemmas::outline_steps))]
 pub fn read_outlines<R: Source>(
     alloc: Global,
     source: &mut R,
@@ -23,5 +24,6 @@ pub fn read_outlines<R: Source>(
     ensures err { IfErr result (ReadStops (R.remaining source.old)
         (R.failures source.old) (R.failures source.new)) }
 {
-    read_kept(alloc, source)
+    let (outlines, _) = read_kept(alloc, source)?;
+    Ok(outlines)
 }

@@ -5,7 +5,7 @@ ghost use Rattle.fits_card.specs.declared.card_list.TheConstants.{BLOCK_LEN};
 ghost use Rattle.fits_card.specs.Intake.{Gives, IsSpent};
 ghost use Rattle.fits_session.specs.File.{begins_extension};
 ghost use Rattle.fits_session.specs.declared.limits.TheConstants.{FILE_LIMIT, HDU_LIMIT};
-ghost use Rattle.fits_session.specs.Reading.{file_fault_of, is_of_bytes, IsKeptOf, ReadStops, RestStops, Walked, WalkStops};
+ghost use Rattle.fits_session.specs.Reading.{file_fault_of, is_of_bytes, IsWalkOf, ReadStops, RestStops, Walked, WalkStops};
 
 use crate::limits::{FILE_LIMIT, HDU_LIMIT};
 use crate::open_fault::OpenFault;
@@ -62,22 +62,23 @@ pub(crate) fn walk<K: Kept + Drop, R: Source>(
     }
 }
 
-/// What is kept of the HDUs of a source, which is read to its end, or past the limit of a file.
+/// What is kept of the HDUs of a source, and whether bytes follow the last. It is read to its end,
+/// or past the limit of a file.
 #[tactic(auto, using(crate::proofs::WalkLemmas::kept_steps))]
 pub(crate) fn read_kept<K: Kept + Drop, R: Source>(
     alloc: Global,
     source: &mut R,
-) -> Result<Vec<K>, ReadFileFault>
-    ensures ok { IfOk result (λ kept. Gives (R.remaining source.old)
-        (IsKeptOf K.keeps kept.items)) }
+) -> Result<(Vec<K>, bool), ReadFileFault>
+    ensures ok { IfOk result (λ walk. Gives (R.remaining source.old)
+        (IsWalkOf K.keeps walk.0.items walk.1)) }
     ensures quiet { OnOk result (R.failures source.new ≡ R.failures source.old) }
     ensures err { IfErr result (ReadStops (R.remaining source.old)
         (R.failures source.old) (R.failures source.new)) }
 {
     let mut intake = Intake::new(alloc, FILE_LIMIT as usize)?;
     match walk(alloc, &mut intake, source) {
-        Ok((kept, _)) => match end(intake, source) {
-            Ok(()) => Ok(kept),
+        Ok((kept, first)) => match end(intake, source) {
+            Ok(()) => Ok((kept, !first.is_empty())),
             Err(fault) => Err(fault),
         },
         Err(fault) => Err(settled(intake, source, fault)),

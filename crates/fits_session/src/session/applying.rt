@@ -1,12 +1,13 @@
 //! The one path of edits that change cards: the change with its own tests, the shape, the limits,
 //! the room, and then the change is made.
-ghost use Rattle.std.specs.Prelude.{◌≡◌, ◌≤◌, ◌+◌, ◌-◌, length, All, IsOk, IfOk, IfErr, OnOk, OnErr, None};
+ghost use Rattle.std.specs.Prelude.{◌≡◌, ◌≤◌, ◌+◌, ◌-◌, length, All, Ok, IsOk, IfOk, IfErr, OnOk, OnErr, None};
 ghost use Rattle.fits_card.specs.Card.{IsEnd};
 ghost use Rattle.fits_card.specs.Change.{cards_after, new_cards, IsInRange};
 ghost use Rattle.fits_card.specs.Header.{header_length};
 ghost use Rattle.fits_rules.specs.Class.{is_primary};
+ghost use Rattle.fits_rules.specs.Shape.{shape_of};
 ghost use Rattle.fits_hdu.specs.Hdu.{hdu_after, hdu_bytes, IsHdu};
-ghost use Rattle.fits_hdu.specs.Work.{shape_reads};
+ghost use Rattle.fits_header.specs.Work.{judge_reads, shape_reads};
 ghost use Rattle.fits_session.specs.File.{joined_hdus, IsFile};
 ghost use Rattle.fits_session.specs.Limits.{size_within};
 ghost use Rattle.fits_session.specs.declared.limits.TheConstants.{FILE_LIMIT};
@@ -64,10 +65,11 @@ fn make_change(hdu: &mut Hdu, change: &Change, len: u64, hdus: u64) -> Result<u6
     ensures refused { IfErr result (EditFails (made_refusal hdu.old change.now len hdus)) }
     ensures err { OnErr result (hdu.new.hdu ≡ hdu.old.hdu) }
     ensures whole { IsHdu (is_primary hdu.old.shape.class) hdu.old.hdu }
+    ensures described { shape_of (is_primary hdu.old.shape.class) hdu.old.hdu.header.cards
+        ≡ Ok hdu.old.shape }
     ensures least_work { hdu.old.reads ≤ hdu.new.reads }
-    ensures most_work { hdu.new.reads ≤ hdu.old.reads + shape_reads
-        (is_primary hdu.old.shape.class) hdu.old.hdu.header.cards
-        (cards_after hdu.old.hdu.header.cards change.now) }
+    ensures most_work { hdu.new.reads
+        ≤ hdu.old.reads + (shape_reads hdu.old.shape + judge_reads) }
 {
     let cards = hdu.card_count();
     if !hdu.keeps_shape(change) {

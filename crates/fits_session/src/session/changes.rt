@@ -3,6 +3,7 @@ ghost use Rattle.std.specs.Prelude.{◌≡◌, ◌+◌, ◌<◌, ◌^◌, length
 ghost use Rattle.fits_card.specs.Change.{new_cards};
 ghost use Rattle.fits_card.specs.Header.{IsInnerCard};
 ghost use Rattle.fits_hdu.specs.State.{ReadsUpTo};
+ghost use Rattle.fits_hdu.specs.Work.{keyword_reads};
 ghost use Rattle.fits_session.specs.Edit.{change_of, is_keyword_name, is_splice_within, is_within, own_refusal, replacing, set_of, tested, unset_of};
 ghost use Rattle.fits_session.specs.Refusal.{ChangeFails};
 ghost use Rattle.fits_session.specs.Work.{own_reads};
@@ -155,7 +156,8 @@ fn set_keyword(
     ensures inner { IfOk result (λ change. All IsInnerCard (new_cards change)) }
     ensures err { IfErr result (ChangeFails (set_of hdu.old.hdu.header.cards name.now value.now
         comment.now)) }
-    ensures work { ReadsUpTo hdu.old hdu.new (length hdu.old.hdu.header.cards + 2) }
+    ensures work { ReadsUpTo hdu.old hdu.new
+        (keyword_reads hdu.old.hdu.header.cards name.now) }
 {
     if !name.is_settable() {
         return Err(Refusal::BadName);
@@ -191,7 +193,8 @@ fn replacement(count: usize, old: Option<KeywordCards>, cards: Cards) -> Change
 fn unset_keyword(alloc: Global, hdu: &mut Hdu, name: &Name) -> Result<Change, Refusal>
     ensures value { result ≡ unset_of hdu.old.hdu.header.cards name.now }
     ensures inner { IfOk result (λ change. All IsInnerCard (new_cards change)) }
-    ensures work { ReadsUpTo hdu.old hdu.new (length hdu.old.hdu.header.cards + 2) }
+    ensures work { ReadsUpTo hdu.old hdu.new
+        (keyword_reads hdu.old.hdu.header.cards name.now) }
 {
     if !is_keyword_name(name) {
         return Err(Refusal::BadName);

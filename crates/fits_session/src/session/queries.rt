@@ -1,15 +1,21 @@
 //! What a session answers. Queries leave the file as it is.
 ghost use Rattle.std.specs.Prelude.{◌≡◌, ◌≤◌, length, IfOk};
-ghost use Rattle.fits_session.specs.File.{joined_hdus, offsets_from};
+ghost use Rattle.fits_session.specs.File.{joined_hdus, offsets_from, IsFile};
 ghost use Rattle.fits_session.specs.declared.limits.TheConstants.{FILE_LIMIT};
-ghost use Rattle.fits_session.specs.Session.{held_of, hdus_of};
+ghost use Rattle.fits_session.specs.Reading.{is_found, KeepsEach};
+ghost use Rattle.fits_session.specs.Report.{counts_in, report_of};
+ghost use Rattle.fits_session.specs.Session.{file_of, held_of, hdus_of, state_of};
 
 use super::Session;
 use super::finding::index_of;
 use crate::offsets::HduOffsets;
+use crate::problem::Problem;
 use crate::refusal::Refusal;
+use crate::reporting::report_of;
 use fits_card::Name;
-use fits_hdu::{Hdu, Kind};
+use fits_codes::Code;
+use fits_hdu::{Findings, Hdu, Kind};
+use fits_header::Counts;
 use fits_rules::Shape;
 use fits_value::{Text, Value};
 use std::alloc::{AllocError, Global};
@@ -19,8 +25,9 @@ impl Session {
     ghost use Rattle.fits_session.specs.Edit.{hdu_of};
     ghost use Rattle.fits_session.specs.File.{offsets_from};
     ghost use Rattle.fits_session.specs.Query.{card_count_in, names_in, positions_in, value_in, IsKindIn, IsShapeIn, KindFails, QueryFails};
+    ghost use Rattle.fits_session.specs.Report.{counts_in, report_of};
     ghost use Rattle.fits_session.specs.Session.{file_of, Asks};
-    ghost use Rattle.fits_session.specs.Work.{kind_reads, name_reads, value_reads};
+    ghost use Rattle.fits_session.specs.Work.{kind_reads, value_reads};
 
     /// How many HDUs there are.
     #[tactic(auto, using(crate::proofs::StateLemmas::count_steps))]
@@ -58,7 +65,7 @@ impl Session {
     pub fn kind(&mut self, h: usize) -> Result<Kind, Refusal>
         ensures ok { IfOk result (IsKindIn (file_of self.old) h) }
         ensures err { IfErr result (KindFails (file_of self.old) h) }
-        ensures asks { Asks h (kind_reads (file_of self.old) h) self.old self.new }
+        ensures asks { Asks h kind_reads self.old self.new }
     {
         let Some(i) = index_of(&self.hdus, h) else {
             return Err(Refusal::NoHdu);
@@ -75,7 +82,7 @@ impl Session {
     pub fn value(&mut self, h: usize, name: &Name) -> Result<(Value, Option<Text>), Refusal>
         ensures ok { IfOk result (λ said. value_in (file_of self.old) h name.now ≡ Ok said) }
         ensures err { IfErr result (QueryFails (value_in (file_of self.old) h name.now)) }
-        ensures asks { Asks h (value_reads (file_of self.old) h) self.old self.new }
+        ensures asks { Asks h (value_reads (file_of self.old) h name.now) self.old self.new }
     {
         let Some(i) = index_of(&self.hdus, h) else {
             return Err(Refusal::NoHdu);
@@ -86,33 +93,49 @@ impl Session {
     }
 
     /// The places of the cards of a name in HDU h, ascending; of a name that no card has, none.
-    /// Refusals 1 and 15.
-    pub fn positions(&mut self, h: usize, name: &Name) -> Result<Vec<usize>, Refusal>
-        ensures ok { IfOk result (λ places. positions_in (file_of self.old) h name.now
+    /// Refusals 1 and 15. No card is read.
+    pub fn positions(&self, h: usize, name: &Name) -> Result<Vec<usize>, Refusal>
+        ensures ok { IfOk result (λ places. positions_in (file_of self.now) h name.now
             ≡ Ok places.items) }
-        ensures err { IfErr result (QueryFails (positions_in (file_of self.old) h name.now)) }
-        ensures asks { Asks h (name_reads (file_of self.old) h) self.old self.new }
+        ensures err { IfErr result (QueryFails (positions_in (file_of self.now) h name.now)) }
     {
         let Some(i) = index_of(&self.hdus, h) else {
             return Err(Refusal::NoHdu);
         };
-        let hdu = &mut self.hdus[i];
+        let hdu = &self.hdus[i];
         let places = hdu.positions(self.alloc, name)?;
         Ok(places)
     }
 
-    /// The names of the cards of HDU h, each once, ascending by bytes. Refusals 1 and 15.
-    pub fn names(&mut self, h: usize) -> Result<Vec<Name>, Refusal>
-        ensures ok { IfOk result (λ names. names_in (file_of self.old) h ≡ Ok names.items) }
-        ensures err { IfErr result (QueryFails (names_in (file_of self.old) h)) }
-        ensures asks { Asks h (name_reads (file_of self.old) h) self.old self.new }
+    /// The names of the cards of HDU h, each once, ascending by bytes. Refusals 1 and 15. No card
+    /// is read.
+    pub fn names(&self, h: usize) -> Result<Vec<Name>, Refusal>
+        ensures ok { IfOk result (λ names. names_in (file_of self.now) h ≡ Ok names.items) }
+        ensures err { IfErr result (QueryFails (names_in (file_of self.now) h)) }
     {
         let Some(i) = index_of(&self.hdus, h) else {
             return Err(Refusal::NoHdu);
         };
-        let hdu = &mut self.hdus[i];
+        let hdu = &self.hdus[i];
         let names = hdu.names(self.alloc)?;
         Ok(names)
+    }
+
+    /// What is wrong: by HDU, by place, by the number of the code. No card is read.
+    pub fn report(&mut self) -> Result<Vec<Problem>, AllocError>
+        ensures value { IfOk result (λ report. report.items ≡ report_of (file_of self.old)) }
+        ensures same { self.new ≡ self.old }
+    {
+        let found = findings_of(self.alloc, &mut self.hdus)?;
+        report_of(self.alloc, &found, !self.tail.is_empty())
+    }
+
+    /// How many errors and warnings the report has. It takes no memory, and reads no card.
+    pub fn counts(&mut self) -> Counts
+        ensures value { result ≡ counts_in (report_of (file_of self.old)) }
+        ensures same { self.new ≡ self.old }
+    {
+        counts_of(&mut self.hdus, &self.tail)
     }
 
     /// Where each HDU stands.
@@ -121,6 +144,39 @@ impl Session {
     {
         offsets_of(self.alloc, &self.hdus)
     }
+}
+
+// What is found of HDUs, one after another.
+fn findings_of(alloc: Global, hdus: &mut Vec<Hdu>) -> Result<Vec<Findings>, AllocError>
+    ensures found { IfOk result (λ found. KeepsEach is_found found.items
+        (hdus_of (held_of hdus.old.items))) }
+    ensures same { hdus.new.items ≡ hdus.old.items }
+{
+    let mut found = Vec::new(alloc);
+    for i in 0..hdus.len() {
+        let hdu = &mut hdus[i];
+        let here = hdu.findings(alloc)?;
+        found.push(Findings(here))?;
+    }
+    Ok(found)
+}
+
+// How many errors and warnings the report of a file has, by its HDUs and the bytes after the last.
+fn counts_of(hdus: &mut Vec<Hdu>, tail: &[u8]) -> Counts
+    requires { IsFile (file_of (state_of hdus.old.items tail.now)) }
+    ensures value { result ≡ counts_in (report_of (file_of (state_of hdus.old.items tail.now))) }
+    ensures same { hdus.new.items ≡ hdus.old.items }
+{
+    let mut counts = Counts::of(&[]);
+    for i in 0..hdus.len() {
+        let hdu = &mut hdus[i];
+        let here = hdu.counts();
+        counts = counts.plus(here);
+    }
+    if tail.is_empty() {
+        return counts;
+    }
+    counts.plus(Counts::of(&[Code::TrailingBytes]))
 }
 
 // Where HDUs stand, of which the first begins at 0.

@@ -26,7 +26,7 @@ impl Session {
         ensures err { OnErr result (AppendsFront (W.contents sink.old) (W.contents sink.new)
             (file_bytes (file_of self.old))) }
 
-        // It fails exactly where a call did, and no call follows.
+        // It fails exactly where a call did.
         ensures quiet { OnOk result (W.failures sink.new ≡ W.failures sink.old) }
         ensures failed { OnErr result (W.failures sink.new ≡ W.failures sink.old + 1) }
 

@@ -1,6 +1,6 @@
 use Rattle.std.proofs.Common.{refl}
-use Rattle.fits_session.proofs.QueryLemmas.{kind_there, no_kind_there, kind_asks}
-use Rattle.fits_session.proofs.StateLemmas.{is_at, stays_file, asked_none}
+use Rattle.fits_session.proofs.QueryLemmas.{kind_there, no_kind_there}
+use Rattle.fits_session.proofs.StateLemmas.{is_at, stays_file, asked, asked_none}
 use Rattle.fits_session.proofs.session.Session.kind.Goals.{in-Some-kind, in-None}
 use Rattle.fits_session.proofs.session.Session.kind.Goals as goal
 
@@ -32,6 +32,6 @@ returns-clause-err c = elim c.match-kind.branch [
 
 pub returns-clause-asks : goal.returns-clause-asks
 returns-clause-asks c =
-    rw (← c.self.view_is) (kind_asks c.self.inside.hdus.items c.self.inside.tail.items c.args.h c.in-Some.i c.index_mut-hdu.result.now c.kind.new.self
+    rw (← c.self.view_is) (asked c.self.inside.hdus.items c.self.inside.tail.items c.args.h c.in-Some.i _ c.index_mut-hdu.result.now c.kind.new.self
     (is_at c.self.inside.hdus.items c.deref.result.now c.args.h c.args.h c.in-Some.i c.index_mut-hdu.result.now c.deref.ensures.value refl c.in-Some.ensures.found c.index_mut-hdu.ensures.value)
     c.kind.ensures.work)

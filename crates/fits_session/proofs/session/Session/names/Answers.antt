@@ -1,46 +1,17 @@
 use Rattle.std.proofs.Common.{refl}
 use Rattle.std.proofs.lemmas.Result.{err_from_is_err_and}
-use Rattle.fits_session.proofs.QueryLemmas.{names_there, no_names, name_asks}
-use Rattle.fits_session.proofs.StateLemmas.{is_at, stays_file, asked_none}
+use Rattle.fits_session.proofs.QueryLemmas.{names_there, no_names}
+use Rattle.fits_session.proofs.StateLemmas.{is_at}
 use Rattle.fits_session.proofs.session.Session.names.Goals as goal
-
-pub returns-in_default-clause-asks : goal.returns-in_default-clause-asks
-returns-in_default-clause-asks c = asked_none _ _ _
-
-pub invariant_of-self : goal.invariant_of-self
-invariant_of-self c =
-    let stays = stays_file c.self.inside.hdus.items c.self.inside.tail.items c.args.h c.in-Some.i c.self.inside.hdus_len c.index_mut-hdu.result.now c.names.new.self
-    (is_at c.self.inside.hdus.items c.deref.result.now c.args.h c.args.h c.in-Some.i c.index_mut-hdu.result.now c.deref.ensures.value refl c.in-Some.ensures.found c.index_mut-hdu.ensures.value)
-    c.names.ensures.work.hdu c.self.invariant.whole c.self.invariant.len in
-    record { whole = stays.0; len = stays.1 }
 
 pub returns-in_err-names-clause-err : goal.returns-in_err-names-clause-err
 returns-in_err-names-clause-err c =
     let p = err_from_is_err_and c.from_residual.result c.from_residual.ensures.1 in
-    rw (p.1, p.2, ← c.self.view_is) (no_names c.self.inside.hdus.items c.self.inside.tail.items c.args.h c.in-Some.i c.index_mut-hdu.result.now
-    (is_at c.self.inside.hdus.items c.deref.result.now c.args.h c.args.h c.in-Some.i c.index_mut-hdu.result.now c.deref.ensures.value refl c.in-Some.ensures.found c.index_mut-hdu.ensures.value))
-
-pub returns-in_err-names-clause-asks : goal.returns-in_err-names-clause-asks
-returns-in_err-names-clause-asks c =
-    rw (← c.self.view_is) (name_asks c.self.inside.hdus.items c.self.inside.tail.items c.args.h c.in-Some.i c.index_mut-hdu.result.now c.names.new.self
-    (is_at c.self.inside.hdus.items c.deref.result.now c.args.h c.args.h c.in-Some.i c.index_mut-hdu.result.now c.deref.ensures.value refl c.in-Some.ensures.found c.index_mut-hdu.ensures.value)
-    c.names.ensures.work)
-
-pub invariant_of-self-2 : goal.invariant_of-self-2
-invariant_of-self-2 c =
-    let stays = stays_file c.self.inside.hdus.items c.self.inside.tail.items c.args.h c.in-Some.i c.self.inside.hdus_len c.index_mut-hdu.result.now c.names.new.self
-    (is_at c.self.inside.hdus.items c.deref.result.now c.args.h c.args.h c.in-Some.i c.index_mut-hdu.result.now c.deref.ensures.value refl c.in-Some.ensures.found c.index_mut-hdu.ensures.value)
-    c.names.ensures.work.hdu c.self.invariant.whole c.self.invariant.len in
-    record { whole = stays.0; len = stays.1 }
+    rw (p.1, p.2, ← c.self.view_is) (no_names c.self.inside.hdus.items c.self.inside.tail.items c.args.h c.in-Some.i c.index-hdu.result.now
+    (is_at c.self.inside.hdus.items c.deref.result.now c.args.h c.args.h c.in-Some.i c.index-hdu.result.now c.deref.ensures.value refl c.in-Some.ensures.found c.index-hdu.ensures))
 
 pub returns-clause-ok : goal.returns-clause-ok
 returns-clause-ok c =
-    rw (← c.self.view_is) (names_there c.self.inside.hdus.items c.self.inside.tail.items c.args.h c.in-Some.i c.index_mut-hdu.result.now c.in_ok-names.names.items
-    (is_at c.self.inside.hdus.items c.deref.result.now c.args.h c.args.h c.in-Some.i c.index_mut-hdu.result.now c.deref.ensures.value refl c.in-Some.ensures.found c.index_mut-hdu.ensures.value)
-    c.in_ok-names.ensures.value)
-
-pub returns-clause-asks : goal.returns-clause-asks
-returns-clause-asks c =
-    rw (← c.self.view_is) (name_asks c.self.inside.hdus.items c.self.inside.tail.items c.args.h c.in-Some.i c.index_mut-hdu.result.now c.names.new.self
-    (is_at c.self.inside.hdus.items c.deref.result.now c.args.h c.args.h c.in-Some.i c.index_mut-hdu.result.now c.deref.ensures.value refl c.in-Some.ensures.found c.index_mut-hdu.ensures.value)
-    c.names.ensures.work)
+    rw (← c.self.view_is) (names_there c.self.inside.hdus.items c.self.inside.tail.items c.args.h c.in-Some.i c.index-hdu.result.now c.in_ok-names.names.items
+    (is_at c.self.inside.hdus.items c.deref.result.now c.args.h c.args.h c.in-Some.i c.index-hdu.result.now c.deref.ensures.value refl c.in-Some.ensures.found c.index-hdu.ensures)
+    c.in_ok-names.ensures)

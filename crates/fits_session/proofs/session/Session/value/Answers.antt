@@ -23,7 +23,7 @@ returns-in_err-said-clause-err c =
 
 pub returns-in_err-said-clause-asks : goal.returns-in_err-said-clause-asks
 returns-in_err-said-clause-asks c =
-    rw (← c.self.view_is) (value_asks c.self.inside.hdus.items c.self.inside.tail.items c.args.h c.in-Some.i c.index_mut-hdu.result.now c.value.new.self
+    rw (← c.self.view_is) (value_asks c.self.inside.hdus.items c.self.inside.tail.items c.args.h c.in-Some.i c.index_mut-hdu.result.now c.value.new.self c.args.name.now
     (is_at c.self.inside.hdus.items c.deref.result.now c.args.h c.args.h c.in-Some.i c.index_mut-hdu.result.now c.deref.ensures.value refl c.in-Some.ensures.found c.index_mut-hdu.ensures.value)
     c.value.ensures.work)
 
@@ -42,6 +42,6 @@ returns-clause-ok c =
 
 pub returns-clause-asks : goal.returns-clause-asks
 returns-clause-asks c =
-    rw (← c.self.view_is) (value_asks c.self.inside.hdus.items c.self.inside.tail.items c.args.h c.in-Some.i c.index_mut-hdu.result.now c.value.new.self
+    rw (← c.self.view_is) (value_asks c.self.inside.hdus.items c.self.inside.tail.items c.args.h c.in-Some.i c.index_mut-hdu.result.now c.value.new.self c.args.name.now
     (is_at c.self.inside.hdus.items c.deref.result.now c.args.h c.args.h c.in-Some.i c.index_mut-hdu.result.now c.deref.ensures.value refl c.in-Some.ensures.found c.index_mut-hdu.ensures.value)
     c.value.ensures.work)

@@ -44,7 +44,7 @@ returns-in_err-len-clause-edits c =
     rw (p.1, p.2) (edits_refused c.args.hdus.now.items c.args.tail.now c.args.edit.now c.in-Some.i c.index_mut-hdu.result.now c.in_ok-change.change (c.args.hdus_len + length c.args.tail.now) c.len-count.result
     (is_made c.args.hdus.now.items c.args.tail.now c.args.edit.now c.in-Some.i c.index_mut-hdu.result.now c.change_of.new.hdu c.in_ok-change.change (c.args.hdus_len + length c.args.tail.now) c.len-count.result
     (is_at c.args.hdus.now.items c.deref.result.now (hdu_named c.args.edit.now) c.hdu.result c.in-Some.i c.index_mut-hdu.result.now c.deref.ensures.value c.hdu.ensures c.in-Some.ensures.found c.index_mut-hdu.ensures.value)
-    c.requires.file c.in_ok-change.ensures.ok c.in_ok-change.ensures.inner c.change_of.ensures.work c.make_change.ensures.whole (ap (λ n. n + length c.args.tail.now) c.requires.len) (c.len-count.ensures ∙ sym c.deref.ensures.len ∙ ap length c.deref.ensures.value))
+    c.requires.file c.in_ok-change.ensures.ok c.in_ok-change.ensures.inner c.change_of.ensures.work c.make_change.ensures.whole c.make_change.ensures.described (ap (λ n. n + length c.args.tail.now) c.requires.len) (c.len-count.ensures ∙ sym c.deref.ensures.len ∙ ap length c.deref.ensures.value))
     c.change_of.new.hdu c.make_change.new.hdu c.in_err-len.field-0.0 c.change_of.ensures.work c.make_change.ensures.least_work c.make_change.ensures.most_work c.in_err-len.ensures.err c.in_err-len.ensures.refused)
 
 pub returns-in_err-len-clause-file : goal.returns-in_err-len-clause-file
@@ -60,7 +60,7 @@ overflow_sub-result c = omega (
   leaves_length c.args.hdus.now.items c.args.tail.now c.args.edit.now c.in-Some.i c.index_mut-hdu.result.now c.in_ok-change.change (c.args.hdus_len + length c.args.tail.now) c.len-count.result
       (is_made c.args.hdus.now.items c.args.tail.now c.args.edit.now c.in-Some.i c.index_mut-hdu.result.now c.change_of.new.hdu c.in_ok-change.change (c.args.hdus_len + length c.args.tail.now) c.len-count.result
       (is_at c.args.hdus.now.items c.deref.result.now (hdu_named c.args.edit.now) c.hdu.result c.in-Some.i c.index_mut-hdu.result.now c.deref.ensures.value c.hdu.ensures c.in-Some.ensures.found c.index_mut-hdu.ensures.value)
-      c.requires.file c.in_ok-change.ensures.ok c.in_ok-change.ensures.inner c.change_of.ensures.work c.make_change.ensures.whole (ap (λ n. n + length c.args.tail.now) c.requires.len) (c.len-count.ensures ∙ sym c.deref.ensures.len ∙ ap length c.deref.ensures.value))
+      c.requires.file c.in_ok-change.ensures.ok c.in_ok-change.ensures.inner c.change_of.ensures.work c.make_change.ensures.whole c.make_change.ensures.described (ap (λ n. n + length c.args.tail.now) c.requires.len) (c.len-count.ensures ∙ sym c.deref.ensures.len ∙ ap length c.deref.ensures.value))
       c.change_of.new.hdu c.make_change.new.hdu c.in_ok-len.len c.change_of.ensures.work c.in_ok-len.ensures.ok c.in_ok-len.ensures.len,
 )
 
@@ -68,14 +68,14 @@ pub returns-clause-edits : goal.returns-clause-edits
 returns-clause-edits c = edits_made c.args.hdus.now.items c.args.tail.now c.args.edit.now c.in-Some.i c.index_mut-hdu.result.now c.in_ok-change.change (c.args.hdus_len + length c.args.tail.now) c.len-count.result
     (is_made c.args.hdus.now.items c.args.tail.now c.args.edit.now c.in-Some.i c.index_mut-hdu.result.now c.change_of.new.hdu c.in_ok-change.change (c.args.hdus_len + length c.args.tail.now) c.len-count.result
     (is_at c.args.hdus.now.items c.deref.result.now (hdu_named c.args.edit.now) c.hdu.result c.in-Some.i c.index_mut-hdu.result.now c.deref.ensures.value c.hdu.ensures c.in-Some.ensures.found c.index_mut-hdu.ensures.value)
-    c.requires.file c.in_ok-change.ensures.ok c.in_ok-change.ensures.inner c.change_of.ensures.work c.make_change.ensures.whole (ap (λ n. n + length c.args.tail.now) c.requires.len) (c.len-count.ensures ∙ sym c.deref.ensures.len ∙ ap length c.deref.ensures.value))
+    c.requires.file c.in_ok-change.ensures.ok c.in_ok-change.ensures.inner c.change_of.ensures.work c.make_change.ensures.whole c.make_change.ensures.described (ap (λ n. n + length c.args.tail.now) c.requires.len) (c.len-count.ensures ∙ sym c.deref.ensures.len ∙ ap length c.deref.ensures.value))
     c.change_of.new.hdu c.make_change.new.hdu _ c.change_of.ensures.work c.make_change.ensures.least_work c.make_change.ensures.most_work c.in_ok-len.ensures.ok c.in_ok-len.ensures.accepted
 
 pub returns-clause-file : goal.returns-clause-file
 returns-clause-file c = leaves_file c.args.hdus.now.items c.args.tail.now c.args.edit.now c.in-Some.i c.index_mut-hdu.result.now c.in_ok-change.change (c.args.hdus_len + length c.args.tail.now) c.len-count.result
     (is_made c.args.hdus.now.items c.args.tail.now c.args.edit.now c.in-Some.i c.index_mut-hdu.result.now c.change_of.new.hdu c.in_ok-change.change (c.args.hdus_len + length c.args.tail.now) c.len-count.result
     (is_at c.args.hdus.now.items c.deref.result.now (hdu_named c.args.edit.now) c.hdu.result c.in-Some.i c.index_mut-hdu.result.now c.deref.ensures.value c.hdu.ensures c.in-Some.ensures.found c.index_mut-hdu.ensures.value)
-    c.requires.file c.in_ok-change.ensures.ok c.in_ok-change.ensures.inner c.change_of.ensures.work c.make_change.ensures.whole (ap (λ n. n + length c.args.tail.now) c.requires.len) (c.len-count.ensures ∙ sym c.deref.ensures.len ∙ ap length c.deref.ensures.value))
+    c.requires.file c.in_ok-change.ensures.ok c.in_ok-change.ensures.inner c.change_of.ensures.work c.make_change.ensures.whole c.make_change.ensures.described (ap (λ n. n + length c.args.tail.now) c.requires.len) (c.len-count.ensures ∙ sym c.deref.ensures.len ∙ ap length c.deref.ensures.value))
     c.change_of.new.hdu c.make_change.new.hdu c.change_of.ensures.work c.in_ok-len.ensures.ok c.in_ok-len.ensures.accepted
 
 pub returns-clause-len : goal.returns-clause-len
@@ -84,6 +84,6 @@ returns-clause-len c = omega (
   leaves_length c.args.hdus.now.items c.args.tail.now c.args.edit.now c.in-Some.i c.index_mut-hdu.result.now c.in_ok-change.change (c.args.hdus_len + length c.args.tail.now) c.len-count.result
       (is_made c.args.hdus.now.items c.args.tail.now c.args.edit.now c.in-Some.i c.index_mut-hdu.result.now c.change_of.new.hdu c.in_ok-change.change (c.args.hdus_len + length c.args.tail.now) c.len-count.result
       (is_at c.args.hdus.now.items c.deref.result.now (hdu_named c.args.edit.now) c.hdu.result c.in-Some.i c.index_mut-hdu.result.now c.deref.ensures.value c.hdu.ensures c.in-Some.ensures.found c.index_mut-hdu.ensures.value)
-      c.requires.file c.in_ok-change.ensures.ok c.in_ok-change.ensures.inner c.change_of.ensures.work c.make_change.ensures.whole (ap (λ n. n + length c.args.tail.now) c.requires.len) (c.len-count.ensures ∙ sym c.deref.ensures.len ∙ ap length c.deref.ensures.value))
+      c.requires.file c.in_ok-change.ensures.ok c.in_ok-change.ensures.inner c.change_of.ensures.work c.make_change.ensures.whole c.make_change.ensures.described (ap (λ n. n + length c.args.tail.now) c.requires.len) (c.len-count.ensures ∙ sym c.deref.ensures.len ∙ ap length c.deref.ensures.value))
       c.change_of.new.hdu c.make_change.new.hdu c.in_ok-len.len c.change_of.ensures.work c.in_ok-len.ensures.ok c.in_ok-len.ensures.len,
 )

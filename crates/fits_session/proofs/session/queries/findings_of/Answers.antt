@@ -1,0 +1,11 @@
+use Rattle.std.proofs.Common.{◌<◌, length, ap, arith}
+use Rattle.fits_session.proofs.ReportLemmas.{each_found, hdus_stay}
+use Rattle.fits_session.proofs.session.queries.findings_of.Goals as goal
+
+pub loop-i-preserved : goal.loop-i-preserved
+loop-i-preserved c =
+    let l : c.loop-i.i < length c.loop-i.hdus.items = omega (arith, ap length c.loop-i.invariant.same) in
+    record {
+      found = each_found c.loop-i.hdus.items _ c.loop-i.i c.index_mut-hdu.result.now c.loop-i.found.items _ _ c.loop-i.invariant.same l c.index_mut-hdu.ensures.value c.loop-i.invariant.found c.in_ok-here.ensures.found c.in_ok-push.ensures.items;
+      same = hdus_stay c.loop-i.hdus.items _ c.loop-i.i c.index_mut-hdu.result.now _ c.loop-i.invariant.same l c.index_mut-hdu.ensures.value c.findings.ensures.same;
+    }

@@ -1,0 +1,78 @@
+//! The report of a file.
+ghost use Rattle.std.specs.Prelude.{◌≡◌, ◌++◌, ◌+◌, length, map, List, ℕ, IfOk, IfErr, OnOk};
+ghost use Rattle.fits_card.specs.Intake.{Gives};
+ghost use Rattle.fits_session.specs.File.{FileParts, IsFileOf, is_followed};
+ghost use Rattle.fits_session.specs.Reading.{is_found, KeepsEach, ReadStops};
+ghost use Rattle.fits_session.specs.Report.{found_from, in_hdu, report_of, IsReportOf};
+
+use crate::problem::Problem;
+use crate::read_fault::ReadFileFault;
+use crate::walking::read_kept;
+use fits_card::Source;
+use fits_codes::Code;
+use fits_hdu::Findings;
+use fits_header::Finding;
+use std::alloc::{AllocError, Global};
+
+/// The report of the file that a source has, which is read as `Session::read` reads it.
+///
+/// No data unit and no tail is kept.
+pub fn read_report<R: Source>(alloc: Global, source: &mut R) -> Result<Vec<Problem>, ReadFileFault>
+    ensures ok { IfOk result (λ report. Gives (R.remaining source.old)
+        (IsReportOf report.items)) }
+    ensures quiet { OnOk result (R.failures source.new ≡ R.failures source.old) }
+    ensures err { IfErr result (ReadStops (R.remaining source.old)
+        (R.failures source.old) (R.failures source.new)) }
+{
+    let (found, followed) = read_kept::<Findings, R>(alloc, source)?;
+    let report = report_of(alloc, &found, followed)?;
+    Ok(report)
+}
+
+/// The report of a file, by what is found of each of its HDUs and whether bytes follow the last.
+#[tactic(auto, using(crate::proofs::ReportLemmas::report_steps))]
+pub(crate) fn report_of(
+    alloc: Global,
+    found: &[Findings],
+    followed: bool,
+) -> Result<Vec<Problem>, AllocError>
+    ensures { (bytes : List ℕ) (file : FileParts) → IsFileOf bytes file
+        → KeepsEach is_found found.now file.hdus → followed ≡ is_followed file.tail
+        → IfOk result (λ report. report.items ≡ report_of file) }
+{
+    let mut report = problems(alloc, found)?;
+    if followed {
+        report.push(Problem {
+            hdu: found.len() + 1,
+            place: 0,
+            code: Code::TrailingBytes,
+        })?;
+    }
+    Ok(report)
+}
+
+// What is found of HDUs, one after another.
+#[tactic(auto, using(crate::proofs::ReportLemmas::found_more))]
+fn problems(alloc: Global, found: &[Findings]) -> Result<Vec<Problem>, AllocError>
+    ensures { IfOk result (λ report. report.items ≡ found_from 1 found.now) }
+{
+    let mut report = Vec::new(alloc);
+    for (i, it) in found.iter().enumerate() {
+        push_problems(&mut report, i + 1, &it.0)?;
+    }
+    Ok(report)
+}
+
+// Lists what is found of HDU h.
+fn push_problems(report: &mut Vec<Problem>, h: usize, found: &[Finding]) -> Result<(), AllocError>
+    ensures { OnOk result (report.new.items ≡ report.old.items ++ map (in_hdu h) found.now) }
+{
+    for finding in found {
+        report.push(Problem {
+            hdu: h,
+            place: finding.place,
+            code: finding.code,
+        })?;
+    }
+    Ok(())
+}
