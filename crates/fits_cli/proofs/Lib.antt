@@ -11,10 +11,12 @@ pub mod OutputLemmas
 pub mod PlacesLemmas
 pub mod ReadingLemmas
 pub mod RefusalLemmas
+pub mod ReportLemmas
 pub mod RunLemmas
 pub mod SaidLemmas
 pub mod ScriptLemmas
 pub mod StreamLemmas
 pub mod TellingLemmas
 pub mod ValueLineLemmas
+pub mod VerifyingLemmas
 pub mod WordLemmas

@@ -14,7 +14,7 @@ use Rattle.fits_cli.specs.Cut.{HasNo}
 use Rattle.fits_cli.specs.Forms.{Begins, IsCardForm, IsPlaceForm, IsMoveForm, IsNameForm, IsFieldForm, Says, before, followed}
 use Rattle.fits_cli.specs.Line.{after_word, alone, card_last, card_words, command_of, field_words, first_word, move_words, name_first, name_words, number_first, place_words, said_by}
 use Rattle.fits_cli.specs.declared.command.Command.{Command}
-use Rattle.fits_cli.specs.declared.command.Command.TheVariants.{Nothing, Edit, Offsets, Get, Positions}
+use Rattle.fits_cli.specs.declared.command.Command.TheVariants.{Nothing, Edit, Offsets, Get, Positions, Report}
 use Rattle.fits_cli.proofs.FormLemmas.{first_word-followed, after_word-followed, followed-after_word, number_first-is, name_first-is, card_last-is, IsCard-is, NumberFirst-is, NameFirst-is, alone-is, followed-nothing}
 
 -- words of a form are read
@@ -165,6 +165,7 @@ command_of-says line (Get h name) says =
 command_of-says line (Positions h name) says =
     rw (says.is, command_of-verb 112 (codes "os") says.rest refl refl) (ap (option_map (λ said. Positions said.0 said.1)) (name_words-is h name says.rest says.form))
 command_of-says line Offsets says = rw says refl
+command_of-says line Report says = rw says refl
 
 -- one of two things is said
 said_either : {P : Type 0} (test : Bool) (a b : Option Command) (command : Command) → (if test then a else b) ≡ Some command
@@ -181,6 +182,10 @@ mapped f (Some x) command e give = give x refl (let z : ◌≡◌ {A = Option Co
 begins : (verb word : List ℕ) (rest : Option (List ℕ)) (IsForm : List ℕ → Type 0) → bytes_eq verb word ≡ true → Of IsForm rest → Begins word IsForm (verb ++ followed rest)
 begins verb word rest IsForm test of =
     record { rest = of.0; is = ap (λ v. v ++ followed rest) ((bytes_eq-Decides verb word).0 test) ∙ ap (λ r. word ++ followed r) of.1; form = of.2 }
+
+-- a line that is a word alone
+lone : (verb word : List ℕ) (rest : Option (List ℕ)) → bytes_eq verb word ≡ true → rest ≡ None → verb ++ followed rest ≡ word
+lone verb word rest test none = ap (λ v. v ++ followed rest) ((bytes_eq-Decides verb word).0 test) ∙ rw none (append-nil word)
 
 -- what a word says of a rest has the form of that
 said_by-says : (verb : List ℕ) (rest : Option (List ℕ)) (command : Command) → said_by verb rest ≡ Some command → Says (verb ++ followed rest) command
@@ -205,8 +210,12 @@ said_by-says verb rest command said =
     (λ not_pos e8. said_either (bytes_eq verb (codes "off")) _ _ command e8
     (λ test e.
     let last = alone-is rest Offsets command e in
-    rw (sym last.1) (ap (λ v. v ++ followed rest) ((bytes_eq-Decides verb (codes "off")).0 test) ∙ rw last.0 (append-nil (codes "off"))))
-    (λ not_off e9. absurd (let z : ◌≡◌ {A = Option Command} None (Some command) = e9 in cc))))))))))
+    rw (sym last.1) (lone verb (codes "off") rest test last.0))
+    (λ not_off e9. said_either (bytes_eq verb (codes "rep")) _ _ command e9
+    (λ test e.
+    let last = alone-is rest Report command e in
+    rw (sym last.1) (lone verb (codes "rep") rest test last.0))
+    (λ not_rep e10. absurd (let z : ◌≡◌ {A = Option Command} None (Some command) = e10 in cc)))))))))))
 
 -- a line that says a command has its form
 pub Says-command_of : (line : List ℕ) (command : Command) → command_of line ≡ Some command → Says line command

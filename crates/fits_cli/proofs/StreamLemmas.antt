@@ -32,6 +32,10 @@ PrintsFront-more a b c xs ys p q = record {
   failed = omega (arith, p.quiet, q.failed);
 }
 
+-- a text, and then a prefix of another
+pub AppendsFront-after : (a b c : Option (List ℕ)) (xs ys : List ℕ) → Appends a b xs → AppendsFront b c ys → AppendsFront a c (xs ++ ys)
+AppendsFront-after a b c xs ys p q = rw (← append-nil ys) (AppendsFront-more a b c xs ys [] p q)
+
 -- what was appended, and kept as it is
 pub Appends-kept : (a b c : Option (List ℕ)) (text : List ℕ) → Appends a b text → Keeps b c → Appends a c text
 Appends-kept None b c text p q = tt

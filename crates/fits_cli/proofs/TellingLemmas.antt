@@ -52,10 +52,6 @@ TextIsPrinted-flushed kind file file_after out mid out_after status told flush =
   status_is = told.status_is;
 }
 
--- a text is the listing
-pub only_listing : (kind : Telling) → kind ≡ telling.List
-only_listing telling.List = refl
-
 -- the listing of outlines that were read
 pub listed : (left left' : Option (List ℕ)) (f g : ℕ) (out out_after : SinkState) (outlines : List Outline) → Gives left (IsOutlineOf outlines) → g ≡ f → Prints (outlined_lines 1 0 outlines) out out_after → TextIsTold telling.List (source left f) (source left' g) out out_after 0
 listed left left' f g out out_after outlines given quiet printed =

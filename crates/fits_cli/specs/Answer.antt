@@ -5,16 +5,19 @@ use Rattle.std.specs.List.{flat_map}
 use Rattle.fits_session.specs.Edit.{file_after}
 use Rattle.fits_session.specs.File.{FileParts, offsets_from}
 use Rattle.fits_session.specs.Query.{positions_in, value_in}
+use Rattle.fits_session.specs.Report.{report_of}
 use Rattle.fits_session.specs.Refusal.{refusal_of, NeedsMemory}
 use Rattle.fits_session.specs.declared.offsets.HduOffsets.{HduOffsets}
 use Rattle.fits_session.specs.declared.refusal.Refusal.{Refusal}
 use Rattle.fits_session.specs.declared.refusal.Refusal.TheVariants.{NoHdu, NoCard, NoKey, BadText, EndCard, Shape, BadName, BadValue, NotImage, TooLarge, Memory}
 use Rattle.fits_cli.specs.Line.{ReadingNeedsMemory}
+use Rattle.fits_cli.specs.Report.{report_text}
 use Rattle.fits_cli.specs.ValueLine.{value_line}
 use Rattle.fits_cli.specs.declared.line_reading.LineReading.{LineReading}
 use Rattle.fits_cli.specs.declared.line_reading.LineReading.TheVariants.{TooLong, NoCommand, Said}
 use Rattle.fits_cli.specs.declared.command.Command.{Command}
-use Rattle.fits_cli.specs.declared.command.Command.TheVariants.{Nothing, Edit, Offsets, Get, Positions}
+use Rattle.fits_cli.specs.declared.command.Command.TheVariants.{Nothing, Edit, Offsets, Get, Positions, Report}
+use Rattle.fits_cli.specs.declared.level.Level.TheVariants.{All}
 
 -- the offsets of an HDU: where its header begins, its data begin and it ends
 abbrev pub offsets_text : HduOffsets → List ℕ
@@ -66,6 +69,7 @@ outcome_of file (Edit edit) = unless (refusal_of file edit) (record { text = [];
 outcome_of file Offsets = Ok (record { text = offset_lines 1 (offsets_from 0 file.hdus); file = file })
 outcome_of file (Get hdu name) = asked file (λ said. value_line said.0 said.1) (value_in file hdu name)
 outcome_of file (Positions hdu name) = asked file places_line (some_places (positions_in file hdu name))
+outcome_of file Report = Ok (record { text = report_text All (report_of file); file = file })
 
 -- memory may run out on the way to this outcome
 unfoldable pub OutcomeNeedsMemory : FileParts → Command → Type 0
@@ -74,6 +78,7 @@ OutcomeNeedsMemory file (Edit edit) = NeedsMemory (refusal_of file edit)
 OutcomeNeedsMemory file Offsets = Unit {0}
 OutcomeNeedsMemory file (Get hdu name) = IsOk (value_in file hdu name)
 OutcomeNeedsMemory file (Positions hdu name) = IsOk (positions_in file hdu name)
+OutcomeNeedsMemory file Report = Unit {0}
 
 -- a command may end so: by its refusal, or by memory refused on the way to its outcome
 abbrev pub CommandFails : FileParts → Command → Refusal → Type 0

@@ -10,7 +10,7 @@ use Rattle.fits_session.specs.declared.edit.Edit.TheVariants.{Insert, Put, Delet
 use Rattle.fits_cli.specs.Cut.{HasNo}
 use Rattle.fits_cli.specs.Line.{name_of_text}
 use Rattle.fits_cli.specs.declared.command.Command.{Command}
-use Rattle.fits_cli.specs.declared.command.Command.TheVariants.{Nothing, Edit, Offsets, Get, Positions}
+use Rattle.fits_cli.specs.declared.command.Command.TheVariants.{Nothing, Edit, Offsets, Get, Positions, Report}
 
 -- what follows a word: nothing, or one space and the rest of the line
 abbrev pub followed : Option (List ℕ) → List ℕ
@@ -108,3 +108,4 @@ Says line (Edit (Unset h name)) = Begins (codes "unset") (IsNameForm h name) lin
 Says line (Get h name) = Begins (codes "get") (IsNameForm h name) line
 Says line (Positions h name) = Begins (codes "pos") (IsNameForm h name) line
 Says line Offsets = line ≡ codes "off"
+Says line Report = line ≡ codes "rep"

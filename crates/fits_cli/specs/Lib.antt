@@ -7,6 +7,7 @@ pub mod Line
 pub mod Listing
 pub mod Output
 pub mod Reply
+pub mod Report
 pub mod Running
 pub mod Script
 pub mod Streams

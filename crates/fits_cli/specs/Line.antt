@@ -12,7 +12,7 @@ use Rattle.fits_session.specs.declared.edit.Edit.{Edit as SessionEdit}
 use Rattle.fits_session.specs.declared.edit.Edit.TheVariants.{Insert, Put, Delete, Move, Set, Unset}
 use Rattle.fits_cli.specs.declared.limits.TheConstants.{LINE_LIMIT}
 use Rattle.fits_cli.specs.declared.command.Command.{Command}
-use Rattle.fits_cli.specs.declared.command.Command.TheVariants.{Nothing, Edit, Offsets, Get, Positions}
+use Rattle.fits_cli.specs.declared.command.Command.TheVariants.{Nothing, Edit, Offsets, Get, Positions, Report}
 use Rattle.fits_cli.specs.declared.line_reading.LineReading.{LineReading}
 use Rattle.fits_cli.specs.declared.line_reading.LineReading.TheVariants.{TooLong, NoCommand, Said}
 
@@ -149,6 +149,7 @@ said_by verb rest =
     else if bytes_eq verb (codes "get") then get_said rest
     else if bytes_eq verb (codes "pos") then positions_said rest
     else if bytes_eq verb (codes "off") then alone rest Offsets
+    else if bytes_eq verb (codes "rep") then alone rest Report
     else None
 
 -- what a line says: an empty line and a comment say that nothing is to be done
@@ -178,6 +179,7 @@ HoldsMemory (Edit edit) = EditHoldsMemory edit
 HoldsMemory Offsets = ⊥
 HoldsMemory (Get hdu name) = ⊥
 HoldsMemory (Positions hdu name) = ⊥
+HoldsMemory Report = ⊥
 
 -- reading a line may need memory: one that says no command needs none
 abbrev pub ReadingNeedsMemory : LineReading → Type 0

@@ -6,6 +6,7 @@ ghost use Rattle.fits_cli.specs.Answer.{outcome_of, CommandFails};
 
 use crate::command::Command;
 use crate::places_line::places_line;
+use crate::report_text::report_text;
 use crate::value_line::value_line;
 use fits_session::{HduOffsets, Refusal, Session};
 use std::alloc::{AllocError, Global};
@@ -42,6 +43,10 @@ pub(crate) fn answer(
                 return Err(Refusal::NoKey);
             };
             Ok(places_line(alloc, *first, more)?)
+        }
+        Command::Report => {
+            let report = session.report()?;
+            Ok(report_text(alloc, &report)?)
         }
     }
 }

@@ -14,4 +14,6 @@ pub enum Command {
     Get { hdu: usize, name: Name },
     /// `pos H NAME`: the places of the cards of this name.
     Positions { hdu: usize, name: Name },
+    /// `rep`: what is wrong with the file.
+    Report,
 }

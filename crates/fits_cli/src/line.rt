@@ -83,7 +83,9 @@ fn said_by(alloc: Global, verb: &[u8], rest: Option<&[u8]>) -> Result<Option<Com
     } else if verb == b"pos".as_slice() {
         Ok(positions_said(rest))
     } else if verb == b"off".as_slice() {
-        Ok(offsets_said(rest))
+        Ok(alone(rest, Command::Offsets))
+    } else if verb == b"rep".as_slice() {
+        Ok(alone(rest, Command::Report))
     } else {
         Ok(None)
     }
@@ -163,13 +165,13 @@ fn positions_said(rest: Option<&[u8]>) -> Option<Command>
     Some(Command::Positions { hdu, name })
 }
 
-// `off`
+// The command of a word that stands alone: `off` or `rep`.
 #[tactic(auto, unfolding(crate::specs::Line::alone))]
-fn offsets_said(rest: Option<&[u8]>) -> Option<Command>
-    ensures { result ≡ alone (option_copied rest.entry) Command.Offsets }
+fn alone(rest: Option<&[u8]>, command: Command) -> Option<Command>
+    ensures { result ≡ alone (option_copied rest.entry) command }
 {
     match rest {
-        None => Some(Command::Offsets),
+        None => Some(command),
         Some(_) => None,
     }
 }

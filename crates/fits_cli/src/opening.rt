@@ -2,6 +2,7 @@
 ghost use Rattle.std.specs.Prelude.{◌≡◌, IfOk, IfErr, OnOk};
 ghost use Rattle.fits_card.specs.Intake.{Gives};
 ghost use Rattle.fits_session.specs.Reading.{IsOutlineOf};
+ghost use Rattle.fits_session.specs.Report.{IsReportOf};
 ghost use Rattle.fits_session.specs.Session.{file_of};
 ghost use Rattle.fits_cli.specs.Ends.{Opens};
 ghost use Rattle.fits_cli.specs.Running.{OpeningStops};
@@ -10,7 +11,7 @@ ghost use Rattle.fits_cli.specs.Streams.{source};
 use crate::fault::Fault;
 use fits_card::Source;
 use fits_hdu::Outline;
-use fits_session::{Session, read_outlines};
+use fits_session::{Problem, Session, read_outlines, read_report};
 use std::alloc::Global;
 
 /// Reads a file and opens it.
@@ -39,6 +40,21 @@ pub(crate) fn outline_file<F: Source>(alloc: Global, file: &mut F) -> Result<Vec
 {
     match read_outlines(alloc, file) {
         Ok(outlines) => Ok(outlines),
+        Err(why) => Err(Fault::from(why)),
+    }
+}
+
+/// Reads a file and finds what is wrong with it, keeping nothing else.
+#[tactic(auto, using(crate::proofs::OpeningLemmas::opening_steps))]
+pub(crate) fn report_file<F: Source>(alloc: Global, file: &mut F) -> Result<Vec<Problem>, Fault>
+    ensures ok { IfOk result (λ report. Gives (F.remaining file.old)
+        (IsReportOf report.items)) }
+    ensures quiet { OnOk result (F.failures file.new ≡ F.failures file.old) }
+    ensures err { IfErr result (OpeningStops (source (F.remaining file.old) (F.failures file.old))
+        (source (F.remaining file.new) (F.failures file.new))) }
+{
+    match read_report(alloc, file) {
+        Ok(report) => Ok(report),
         Err(why) => Err(Fault::from(why)),
     }
 }

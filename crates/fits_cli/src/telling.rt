@@ -1,12 +1,14 @@
 //! A run that prints a text of a file.
 ghost use Rattle.std.specs.Prelude.{IfOk, IfErr};
 ghost use Rattle.fits_cli.specs.Streams.{sink, source};
-ghost use Rattle.fits_cli.specs.Telling.{TextEndsAs, TextIsPrinted, TextStopsBy};
+ghost use Rattle.fits_cli.specs.Telling.{TextEndsAs, TextIsPrinted, TextIsTold, TextStopsBy};
 
 use crate::end::End;
 use crate::fault::Fault;
+use crate::level::Level;
 use crate::listing::list;
 use crate::printing::flush;
+use crate::verifying::verify;
 use fits_card::{Sink, Source};
 use std::alloc::Global;
 
@@ -15,6 +17,8 @@ use std::alloc::Global;
 pub enum Telling {
     /// A line for each HDU.
     List,
+    /// What is wrong, as a level has it.
+    Report(Level),
 }
 
 /// Reads a file, opens it, and prints a text of it.
@@ -58,9 +62,32 @@ fn tell<F: Source, O: Sink>(
         (sink (O.contents out.old) (O.failures out.old) (O.unflushed out.old))
         (sink (O.contents out.new) (O.failures out.new) (O.unflushed out.new))) }
 {
-    let status = match telling {
-        Telling::List => list(alloc, file, out)?,
-    };
+    let status = print_text(alloc, telling, file, out)?;
     flush(out)?;
     Ok(status)
+}
+
+// Reads a file, opens it, and prints a text of it, which isn't yet flushed.
+fn print_text<F: Source, O: Sink>(
+    alloc: Global,
+    telling: Telling,
+    file: &mut F,
+    out: &mut O,
+) -> Result<u8, Fault>
+    ensures ok { IfOk result (λ status. TextIsTold telling
+        (source (F.remaining file.old) (F.failures file.old))
+        (source (F.remaining file.new) (F.failures file.new))
+        (sink (O.contents out.old) (O.failures out.old) (O.unflushed out.old))
+        (sink (O.contents out.new) (O.failures out.new) (O.unflushed out.new))
+        status) }
+    ensures err { IfErr result (TextStopsBy telling
+        (source (F.remaining file.old) (F.failures file.old))
+        (source (F.remaining file.new) (F.failures file.new))
+        (sink (O.contents out.old) (O.failures out.old) (O.unflushed out.old))
+        (sink (O.contents out.new) (O.failures out.new) (O.unflushed out.new))) }
+{
+    match telling {
+        Telling::List => list(alloc, file, out),
+        Telling::Report(level) => verify(alloc, level, file, out),
+    }
 }

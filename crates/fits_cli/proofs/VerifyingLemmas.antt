@@ -1,0 +1,89 @@
+-- The run of `verify`: its lines as they are printed, from the problems that were found.
+use Rattle.std.proofs.Common.{◌≡◌, ℕ, ◌+◌, ◌<◌, ◌≤◌, List, [], ◌++◌, length, take, drop, get_or, refl, ap, sym, subst, ◌∙◌, Option}
+use Rattle.std.proofs.lemmas.List.{take_all}
+use Rattle.fits_card.specs.Intake.{Gives}
+use Rattle.fits_card.proofs.StreamLemmas.{Appends-none}
+use Rattle.fits_session.specs.File.{FileParts}
+use Rattle.fits_session.specs.Report.{IsReportOf}
+use Rattle.fits_session.specs.declared.problem.Problem.{Problem}
+use Rattle.fits_cli.specs.Faults.{PrintFails}
+use Rattle.fits_cli.specs.Report.{closing_line, listed_line, problem_lines, report_text, status_of_report}
+use Rattle.fits_cli.specs.Streams.{source, SinkState, Prints}
+use Rattle.fits_cli.specs.Telling.{PrintingStops, TextIsTold, TextStopsBy}
+use Rattle.fits_cli.specs.declared.fault.Fault.{Fault}
+use Rattle.fits_cli.specs.declared.fault.Fault.TheVariants.{Refused, ScriptTooLong, Memory, ReadFailed, WriteFailed}
+use Rattle.fits_cli.specs.declared.level.Level.{Level}
+use Rattle.fits_cli.specs.declared.telling.Telling.TheVariants as telling
+use Rattle.fits_cli.proofs.OpeningLemmas.{opens_given}
+use Rattle.fits_cli.proofs.ReportLemmas.{lines-more, lines-split}
+use Rattle.fits_cli.proofs.StreamLemmas.{Prints-more, PrintsFront-more, PrintsFront-longer, AppendsFront-after, AppendsFront-longer, AppendsFront-whole}
+use Rattle.fits_cli.proofs.TellingLemmas.{TextStopsBy-printing}
+
+-- a text of which nothing is printed, for want of memory
+pub PrintingStops-none : (a : SinkState) (text : List ℕ) → PrintingStops text a a Memory
+PrintingStops-none a text = (AppendsFront-longer a.holds a.holds [] text (AppendsFront-whole a.holds a.holds [] (Appends-none a.holds)), refl)
+
+-- a text that a failed write stops
+pub PrintingStops-print : (a b : SinkState) (text : List ℕ) (fault : Fault) → PrintFails text a b fault → PrintingStops text a b fault
+PrintingStops-print a b text fault failed = subst (λ (f : Fault). PrintingStops text a b f) (sym failed.0) failed.1
+
+-- what stops a text stops a longer one
+pub PrintingStops-longer : (a b : SinkState) (xs ys : List ℕ) (fault : Fault) → PrintingStops xs a b fault → PrintingStops (xs ++ ys) a b fault
+PrintingStops-longer a b xs ys (Refused why) stops = absurd stops
+PrintingStops-longer a b xs ys ScriptTooLong stops = absurd stops
+PrintingStops-longer a b xs ys Memory stops = (AppendsFront-longer a.holds b.holds xs ys stops.0, stops.1)
+PrintingStops-longer a b xs ys ReadFailed stops = absurd stops
+PrintingStops-longer a b xs ys WriteFailed stops = PrintsFront-longer a b xs ys stops
+
+-- what stops a text stops it after another
+pub PrintingStops-more : (a b c : SinkState) (xs ys : List ℕ) (fault : Fault) → Prints xs a b → PrintingStops ys b c fault → PrintingStops (xs ++ ys) a c fault
+PrintingStops-more a b c xs ys (Refused why) front stops = absurd stops
+PrintingStops-more a b c xs ys ScriptTooLong front stops = absurd stops
+PrintingStops-more a b c xs ys Memory front stops = (AppendsFront-after a.holds b.holds c.holds xs ys front.bytes stops.0, stops.1 ∙ front.quiet)
+PrintingStops-more a b c xs ys ReadFailed front stops = absurd stops
+PrintingStops-more a b c xs ys WriteFailed front stops = PrintsFront-more a b c xs ys front stops
+
+-- the line of the next problem stops the report
+pub stops_at_line : (a b c : SinkState) (level : Level) (report : List Problem) (i : ℕ) (d : Problem) (fault : Fault) → i < length report → Prints (problem_lines level (take i report)) a b → PrintingStops (listed_line level (get_or report i d)) b c fault
+    → PrintingStops (report_text level report) a c fault
+stops_at_line a b c level report i d fault l front stops =
+    let rest : List ℕ = problem_lines level (drop (i + 1) report) in
+    let line : List ℕ = listed_line level (get_or report i d) in
+    let lines : problem_lines level report ≡ (problem_lines level (take i report) ++ line) ++ rest =
+    lines-split level report (i + 1) ∙ ap (λ t. t ++ rest) (lines-more level report i d l) in
+    PrintingStops-longer a c (problem_lines level report) (closing_line report) fault
+    (rw lines (PrintingStops-longer a c (problem_lines level (take i report) ++ line) rest fault (PrintingStops-more a b c (problem_lines level (take i report)) line fault front stops)))
+
+-- the closing line stops the report
+pub stops_at_closing : (a b c : SinkState) (level : Level) (report : List Problem) (i : ℕ) (fault : Fault) → length report ≤ i → Prints (problem_lines level (take i report)) a b → PrintingStops (closing_line report) b c fault
+    → PrintingStops (report_text level report) a c fault
+stops_at_closing a b c level report i fault l front stops =
+    PrintingStops-more a b c (problem_lines level report) (closing_line report) fault (rw (take_all i report l) at front) stops
+
+-- memory is refused before the closing line
+pub stops_before_closing : (a b : SinkState) (level : Level) (report : List Problem) (i : ℕ) → length report ≤ i → Prints (problem_lines level (take i report)) a b → PrintingStops (report_text level report) a b Memory
+stops_before_closing a b level report i l front = stops_at_closing a b b level report i Memory l front (PrintingStops-none b (closing_line report))
+
+-- all lines, and the closing one
+pub prints_report : (a b c : SinkState) (level : Level) (report : List Problem) (i : ℕ) → length report ≤ i → Prints (problem_lines level (take i report)) a b → Prints (closing_line report) b c → Prints (report_text level report) a c
+prints_report a b c level report i l front closing = Prints-more a b c (problem_lines level report) (closing_line report) (rw (take_all i report l) at front) closing
+
+-- one more line
+pub prints_line : (a b c : SinkState) (level : Level) (report : List Problem) (i : ℕ) (d : Problem) → i < length report → Prints (problem_lines level (take i report)) a b → Prints (listed_line level (get_or report i d)) b c
+    → Prints (problem_lines level (take (i + 1) report)) a c
+prints_line a b c level report i d l front line =
+    rw (lines-more level report i d l) (Prints-more a b c (problem_lines level (take i report)) (listed_line level (get_or report i d)) front line)
+
+-- the report of problems that were found
+pub reported : (left left' : Option (List ℕ)) (f g : ℕ) (out out_after : SinkState) (level : Level) (report : List Problem) → Gives left (IsReportOf report) → g ≡ f → Prints (report_text level report) out out_after
+    → TextIsTold (telling.Report level) (source left f) (source left' g) out out_after (status_of_report report)
+reported left left' f g out out_after level report given quiet printed =
+    let parts : FileParts = given.2.file in
+    record { parts = parts; opened = opens_given left f parts (given.0, given.1, given.2.opened); read = quiet; printed = rw (← given.2.all) printed; status_is = ap status_of_report given.2.all }
+
+-- or a prefix of it
+pub TextStopsBy-report : (left left' : Option (List ℕ)) (f g : ℕ) (out out_after : SinkState) (level : Level) (report : List Problem) (fault : Fault) → Gives left (IsReportOf report) → g ≡ f → PrintingStops (report_text level report) out out_after fault
+    → TextStopsBy (telling.Report level) (source left f) (source left' g) out out_after fault
+TextStopsBy-report left left' f g out out_after level report fault given quiet stops =
+    let parts : FileParts = given.2.file in
+    TextStopsBy-printing (telling.Report level) (source left f) (source left' g) out out_after parts fault (opens_given left f parts (given.0, given.1, given.2.opened)) quiet (rw (← given.2.all) stops)

@@ -1,0 +1,18 @@
+use Rattle.fits_cli.proofs.ExitLemmas.{at_exit}
+use Rattle.fits_cli.proofs.VerifyingLemmas.{PrintingStops-print, stops_at_line, stops_at_closing, stops_before_closing}
+use Rattle.fits_cli.proofs.verifying.print_report.Goals as goal
+
+pub returns-in_err-print_problem-clause-err : goal.returns-in_err-print_problem-clause-err
+returns-in_err-print_problem-clause-err g c =
+    at_exit _ _ _ c.from_residual.ensures.1 (stops_at_line _ _ _ c.args.level c.args.report.now c.loop-it.it-index _ c.in_err-print_problem.field-0.0 c.loop-it-test.true c.loop-it.invariant c.in_err-print_problem.ensures.err)
+
+pub returns-in_err-push_closing_line-clause-err : goal.returns-in_err-push_closing_line-clause-err
+returns-in_err-push_closing_line-clause-err g c =
+    at_exit _ _ _ c.from_residual-in_err-push_closing_line.ensures.1
+    (stops_before_closing _ _ c.args.level c.args.report.now c.loop-it.it-index c.loop-it-test.false c.loop-it.invariant)
+
+pub returns-in_err-print-clause-err : goal.returns-in_err-print-clause-err
+returns-in_err-print-clause-err g c =
+    at_exit _ _ _ c.from_residual-in_err-print.ensures.1
+    (stops_at_closing _ _ _ c.args.level c.args.report.now c.loop-it.it-index c.in_err-print.field-0.0 c.loop-it-test.false c.loop-it.invariant
+    (PrintingStops-print _ _ _ c.in_err-print.field-0.0 (rw (c.deref.ensures.value, c.in_ok-push_closing_line.ensures, c.clear.ensures.items) at c.in_err-print.ensures.err)))

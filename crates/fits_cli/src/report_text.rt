@@ -1,0 +1,79 @@
+//! The report of a file as it is printed.
+ghost use Rattle.std.specs.Prelude.{◌≡◌, ◌++◌, ◌≤◌, length, IfOk, OnOk};
+ghost use Rattle.fits_cli.specs.Report.{closing_line, counts_line, errors_in, problem_line};
+ghost use Rattle.fits_cli.specs.Report.{report_text, status_of_report};
+
+use crate::level::Level;
+use fits_session::Problem;
+use std::alloc::{AllocError, Global};
+
+/// A line for each problem, and the closing line.
+pub(crate) fn report_text(alloc: Global, report: &[Problem]) -> Result<Vec<u8>, AllocError>
+    ensures { IfOk result (λ text. text.items ≡ report_text Level.All report.now) }
+{
+    let mut text = Vec::new(alloc);
+    for it in report {
+        push_problem(alloc, &mut text, *it)?;
+    }
+    push_closing_line(alloc, &mut text, report)?;
+    Ok(text)
+}
+
+/// `CODE HDU PLACE TEXT`
+#[tactic(auto, unfolding(crate::specs::Report::problem_line))]
+pub(crate) fn push_problem(alloc: Global, text: &mut Vec<u8>, it: Problem) -> Result<(), AllocError>
+    ensures { OnOk result (text.new.items ≡ text.old.items ++ problem_line it) }
+{
+    let Problem { hdu, place, code } = it;
+    let label = code.label();
+    let what = code.text();
+    let line = format!(in alloc; "{label} {hdu} {place} {what}\n")?;
+    text.extend_from_slice(line.as_bytes())
+}
+
+/// The closing line: it counts all problems.
+pub(crate) fn push_closing_line(
+    alloc: Global,
+    text: &mut Vec<u8>,
+    report: &[Problem],
+) -> Result<(), AllocError>
+    ensures { OnOk result (text.new.items ≡ text.old.items ++ closing_line report.now) }
+{
+    let errors = count_errors(report);
+    push_counts(alloc, text, errors, report.len() - errors)
+}
+
+// `errors N warnings M`
+#[tactic(auto, unfolding(crate::specs::Report::counts_line))]
+fn push_counts(
+    alloc: Global,
+    text: &mut Vec<u8>,
+    errors: usize,
+    warnings: usize,
+) -> Result<(), AllocError>
+    ensures { OnOk result (text.new.items ≡ text.old.items ++ counts_line errors warnings) }
+{
+    let line = format!(in alloc; "errors {errors} warnings {warnings}\n")?;
+    text.extend_from_slice(line.as_bytes())
+}
+
+/// The status of a run that has printed a report, at whatever level.
+pub(crate) fn status_of_report(report: &[Problem]) -> u8
+    ensures { result ≡ status_of_report report.now }
+{
+    if count_errors(report) == 0 { 0 } else { 1 }
+}
+
+#[tactic(auto, using(crate::proofs::ReportLemmas::count_steps))]
+fn count_errors(report: &[Problem]) -> usize
+    ensures value { result ≡ errors_in report.now }
+    ensures within { result ≤ length report.now }
+{
+    let mut errors = 0;
+    for it in report {
+        if it.code.is_error() {
+            errors += 1;
+        }
+    }
+    errors
+}

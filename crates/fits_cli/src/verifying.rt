@@ -1,0 +1,101 @@
+//! The run of `verify`: the report of a file.
+ghost use Rattle.std.specs.Prelude.{IfOk, IfErr, OnOk};
+ghost use Rattle.fits_cli.specs.Report.{listed_line, problem_lines, report_text};
+ghost use Rattle.fits_cli.specs.Streams.{sink, source, Prints};
+ghost use Rattle.fits_cli.specs.Telling.{PrintingStops, TextEndsAs, TextIsTold, TextStopsBy};
+
+use crate::end::End;
+use crate::fault::Fault;
+use crate::level::Level;
+use crate::opening::report_file;
+use crate::printing::print;
+use crate::report_text::{push_closing_line, push_problem, status_of_report};
+use crate::telling::{Telling, run_telling};
+use fits_card::{Sink, Source};
+use fits_session::Problem;
+use std::alloc::Global;
+
+/// Reads a file, and prints what is wrong with it. No data unit is kept.
+///
+/// The status is 1 where an error is found, at whatever level.
+pub fn run_verify<F: Source, O: Sink>(alloc: Global, level: Level, file: &mut F, out: &mut O) -> End
+    ensures { TextEndsAs (Telling.Report level)
+        (source (F.remaining file.old) (F.failures file.old))
+        (source (F.remaining file.new) (F.failures file.new))
+        (sink (O.contents out.old) (O.failures out.old) (O.unflushed out.old))
+        (sink (O.contents out.new) (O.failures out.new) (O.unflushed out.new))
+        result.status result.fault }
+{
+    run_telling(alloc, Telling::Report(level), file, out)
+}
+
+/// Reads a file, and prints its report. The status is 1 where an error is found.
+pub(crate) fn verify<F: Source, O: Sink>(
+    alloc: Global,
+    level: Level,
+    file: &mut F,
+    out: &mut O,
+) -> Result<u8, Fault>
+    ensures ok { IfOk result (λ status. TextIsTold (Telling.Report level)
+        (source (F.remaining file.old) (F.failures file.old))
+        (source (F.remaining file.new) (F.failures file.new))
+        (sink (O.contents out.old) (O.failures out.old) (O.unflushed out.old))
+        (sink (O.contents out.new) (O.failures out.new) (O.unflushed out.new))
+        status) }
+    ensures err { IfErr result (TextStopsBy (Telling.Report level)
+        (source (F.remaining file.old) (F.failures file.old))
+        (source (F.remaining file.new) (F.failures file.new))
+        (sink (O.contents out.old) (O.failures out.old) (O.unflushed out.old))
+        (sink (O.contents out.new) (O.failures out.new) (O.unflushed out.new))) }
+{
+    let report = report_file(alloc, file)?;
+    print_report(alloc, level, &report, out)?;
+    Ok(status_of_report(&report))
+}
+
+// Prints a report as a level has it. Room for one line is taken.
+fn print_report<O: Sink>(
+    alloc: Global,
+    level: Level,
+    report: &[Problem],
+    out: &mut O,
+) -> Result<(), Fault>
+    ensures ok { OnOk result (Prints (report_text level report.now)
+        (sink (O.contents out.old) (O.failures out.old) (O.unflushed out.old))
+        (sink (O.contents out.new) (O.failures out.new) (O.unflushed out.new))) }
+    ensures err { IfErr result (PrintingStops (report_text level report.now)
+        (sink (O.contents out.old) (O.failures out.old) (O.unflushed out.old))
+        (sink (O.contents out.new) (O.failures out.new) (O.unflushed out.new))) }
+{
+    let mut line = Vec::new(alloc);
+    for it in report {
+        print_problem(alloc, level, *it, &mut line, out)?;
+    }
+    line.clear();
+    push_closing_line(alloc, &mut line, report)?;
+    print(out, &line)?;
+    Ok(())
+}
+
+// Prints the line of a problem, where the level lists it. `line` is room for it.
+fn print_problem<O: Sink>(
+    alloc: Global,
+    level: Level,
+    it: Problem,
+    line: &mut Vec<u8>,
+    out: &mut O,
+) -> Result<(), Fault>
+    ensures ok { OnOk result (Prints (listed_line level it)
+        (sink (O.contents out.old) (O.failures out.old) (O.unflushed out.old))
+        (sink (O.contents out.new) (O.failures out.new) (O.unflushed out.new))) }
+    ensures err { IfErr result (PrintingStops (listed_line level it)
+        (sink (O.contents out.old) (O.failures out.old) (O.unflushed out.old))
+        (sink (O.contents out.new) (O.failures out.new) (O.unflushed out.new))) }
+{
+    line.clear();
+    if level.lists(it.code) {
+        push_problem(alloc, line, it)?;
+    }
+    print(out, line.as_slice())?;
+    Ok(())
+}
