@@ -1,5 +1,6 @@
 //! The words of the command line, as clap reads them.
 use clap::{Arg, ArgAction, ArgMatches, Command};
+use fits_cli::Level;
 use std::alloc::{AllocError, Global};
 
 /// What the command line asks for.
@@ -9,27 +10,32 @@ pub enum Task<'a> {
     Edit { from: &'a str, to: &'a str },
     /// The HDUs of the file at `from` are listed.
     List { from: &'a str },
+    /// What is wrong with the file at `from` is printed, as far as the level has it.
+    Verify { from: &'a str, level: Level },
 }
 
 const VERSION: &str = "0.1.0";
 
-const ABOUT: &str = "Edits and lists FITS files";
+const ABOUT: &str = "Edits, lists and verifies FITS files";
 
 const EDIT: &str = "Edits a file by a script from standard input";
 
 const LIST: &str = "Prints a line for each HDU of a file";
 
+const VERIFY: &str = "Prints what is wrong with a file, and counts it";
+
 const STATUSES: &str = "Exit status:
   0  done
-  1  a line of the script was refused or bad
+  1  a line of the script was refused or bad; verify found an error
   2  a usage fault, a file that doesn't open, or a script that is too long
   3  a file or stream can't be read or written, or memory ran out
 
 Example:
   fitsed list in.fits
+  fitsed verify in.fits
   printf 'ins 1 4 COMMENT hello\\noff\\n' | fitsed edit in.fits out.fits
 
-fitsed(1) has the lines of a script.";
+fitsed(1) has the lines of a script and the codes of a report.";
 
 const LINES: &str = "Lines of the script, words separated by one space:
   ins H P CARD      insert a card at place P of HDU H
@@ -41,6 +47,7 @@ const LINES: &str = "Lines of the script, words separated by one space:
   get H NAME        print the value of a keyword
   pos H NAME        print the places of the cards of a keyword
   off               print where each HDU begins, its data begin, and it ends
+  rep               print what is wrong, and count it
   # text            nothing; so does an empty line
 
 Exit status:
@@ -62,6 +69,12 @@ pub fn command<'a>(alloc: Global) -> Result<Command<'a>, AllocError> {
         .about(LIST)
         .after_help(STATUSES)
         .arg(path(alloc, "IN", "The file to read"))?;
+    let verify = Command::new(alloc, "verify")
+        .about(VERIFY)
+        .after_help(STATUSES)
+        .arg(flag(alloc, "errors", 'e', "List errors alone"))?
+        .arg(flag(alloc, "quiet", 'q', "List nothing: print the counts alone"))?
+        .arg(path(alloc, "IN", "The file to read"))?;
     Command::new(alloc, "fitsed")
         .version(VERSION)
         .about(ABOUT)
@@ -69,7 +82,8 @@ pub fn command<'a>(alloc: Global) -> Result<Command<'a>, AllocError> {
         .subcommand_required(true)
         .disable_help_subcommand(true)
         .subcommand(edit)?
-        .subcommand(list)
+        .subcommand(list)?
+        .subcommand(verify)
 }
 
 fn path<'a>(alloc: Global, id: &'a str, help: &'a str) -> Arg<'a> {
@@ -77,6 +91,24 @@ fn path<'a>(alloc: Global, id: &'a str, help: &'a str) -> Arg<'a> {
         .required(true)
         .action(ArgAction::Set)
         .help(help)
+}
+
+fn flag<'a>(alloc: Global, id: &'a str, letter: char, help: &'a str) -> Arg<'a> {
+    Arg::new(alloc, id)
+        .short(letter)
+        .action(ArgAction::SetTrue)
+        .help(help)
+}
+
+// The level of the words of `verify`. With both flags nothing is listed.
+fn level_of(words: &ArgMatches<'_>) -> Level {
+    if words.get_flag("quiet") {
+        Level::Quiet
+    } else if words.get_flag("errors") {
+        Level::Errors
+    } else {
+        Level::All
+    }
 }
 
 /// The task of words that were read.
@@ -89,6 +121,10 @@ pub fn task_of<'a>(matches: &ArgMatches<'a>) -> Option<Task<'a>> {
         }),
         "list" => Some(Task::List {
             from: words.get_str("IN")?,
+        }),
+        "verify" => Some(Task::Verify {
+            from: words.get_str("IN")?,
+            level: level_of(words),
         }),
         _ => None,
     }

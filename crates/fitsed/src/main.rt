@@ -7,7 +7,7 @@ use arguments::{Task, command, task_of};
 use clap::Error;
 use clap::error::ErrorKind;
 use fits_card::Watched;
-use fits_cli::{End, Fault, LazyFile, run_edit, run_list};
+use fits_cli::{End, Fault, LazyFile, Level, run_edit, run_list, run_verify};
 use std::alloc::AllocError;
 use std::io::BufWriter;
 use std::process::ExitCode;
@@ -32,6 +32,7 @@ fn main(rt: HostRuntime) -> ExitCode {
     let end = match task_of(&matches) {
         Some(Task::Edit { from, to }) => edit(&rt, from, to),
         Some(Task::List { from }) => list(&rt, from),
+        Some(Task::Verify { from, level }) => verify(&rt, from, level),
         None => return ExitCode::from(2),
     };
     if let Some(fault) = end.fault {
@@ -69,6 +70,22 @@ fn list<R: Files + Print + AllocGlobal>(rt: &R, from: &str) -> End {
         return End::from(Fault::Memory);
     };
     run_list(rt.alloc(), &mut Watched::new(file), &mut Watched::new(out))
+}
+
+// Runs `verify` over the file at `from`.
+fn verify<R: Files + Print + AllocGlobal>(rt: &R, from: &str, level: Level) -> End {
+    let Ok(file) = fs::open(rt, from) else {
+        return End::from(Fault::ReadFailed);
+    };
+    let Ok(out) = BufWriter::new(rt.alloc(), io::writer(rt)) else {
+        return End::from(Fault::Memory);
+    };
+    run_verify(
+        rt.alloc(),
+        level,
+        &mut Watched::new(file),
+        &mut Watched::new(out),
+    )
 }
 
 // Reports a fault on standard error, and gives its status.
