@@ -1,9 +1,9 @@
 //! What is wrong with cards and headers: expected codes by hand, from the rules' own words.
 
-use crate::builders::{add_cards, end_header};
-use fits_card::{CardList, HeaderFault, cut_header};
-use fits_codes::{CodeSet, Context, Mark, judge, judge_header, mark_of};
-use fits_rules::{Shape, shape};
+use crate::builders::{P0, add_cards, end_header, fill_up};
+use crate::runs::{ALL_SMOOTH, verify};
+use fits_card::BLOCK_LEN;
+use fits_cli::Level;
 use std::alloc::{AllocError, Global};
 use std::process::Abort;
 use std::test::Fail;
@@ -16,84 +16,48 @@ const PRIMARY: &str =
 const IMAGE: &str =
     "XTENSION= 'IMAGE   '|BITPIX  =                    8|NAXIS   =                    0|";
 
-/// The marks of a header's cards.
-fn marks_of(alloc: Global, cards: &mut CardList) -> Result<Vec<Mark>, AllocError> {
-    let mut marks = Vec::new(alloc);
-    for index in 0..cards.len() {
-        if index < cards.len() {
-            marks.push(mark_of(&cards.card(index + 1)))?;
-        }
-    }
-    Ok(marks)
-}
+/// A parameter, and so a byte of data.
+const ONE_PARAMETER: &str = "PCOUNT  =                    1";
 
-/// Whether the card at a place continues the string of the card before it.
-fn is_link(marks: &[Mark], place: usize) -> bool {
-    let mut is_open = false;
-    let mut is_link = false;
-    for mark in marks.iter().take(place) {
-        is_link = is_open && mark.continues;
-        is_open = (is_link || mark.begins) && mark.is_open;
-    }
-    is_link && place <= marks.len()
-}
-
-/// What stands round the card that follows these.
-fn context_after(before: &[Mark], marks: &[Mark], mark: &Mark, shape: &Shape) -> Context {
-    let place = before.len().saturating_add(1);
-    Context {
-        class: shape.class,
-        axes: shape.axes.as_slice().len(),
-        place,
-        name_before: before.iter().any(|other| other.name == mark.name),
-        value_before: before
-            .iter()
-            .any(|other| other.name == mark.name && other.has_value),
-        is_link: is_link(marks, place),
-        next_is_link: is_link(marks, place.saturating_add(1)),
-    }
-}
-
-/// Adds codes with their place, separated by spaces.
-fn add_codes(text: &mut Vec<u8>, codes: &CodeSet, place: usize) -> Result<(), AllocError> {
-    for code in codes.as_slice() {
-        if !text.is_empty() {
-            text.push(b' ')?;
-        }
-        text.extend_from_slice(code.label().as_bytes())?;
-        text.push(b' ')?;
-        text.push(b'0' + (place % 10) as u8)?;
-    }
-    Ok(())
-}
-
-/// The codes of a header with their places: place 0 first.
-fn codes_of(alloc: Global, cards: &mut CardList, shape: &Shape) -> Result<Vec<u8>, AllocError> {
-    let mut text = Vec::new(alloc);
-    if shape.axes.as_slice().len() < 1000 {
-        add_codes(&mut text, &judge_header(cards, shape), 0)?;
-    }
-    let marks = marks_of(alloc, cards)?;
-    for index in 0..marks.len() {
-        let (before, _) = marks.split_at(index);
-        let context = context_after(before, &marks, &marks[index], shape);
-        let codes = judge(&marks[index], &context);
-        add_codes(&mut text, &codes, index + 1)?;
-    }
-    Ok(text)
-}
-
-/// The header of these cards.
-fn header_with(alloc: Global, first: &str, others: &str) -> Result<CardList, HeaderFault> {
+/// A file with this header, after the shortest primary HDU where it is an extension's.
+fn file_with(alloc: Global, first: &str, others: &str) -> Result<Vec<u8>, AllocError> {
     let mut bytes = Vec::new(alloc);
+    if first.starts_with("XTENSION") || (first.is_empty() && others.starts_with("XTENSION")) {
+        add_cards(&mut bytes, P0)?;
+        end_header(&mut bytes)?;
+    }
     add_cards(&mut bytes, first)?;
     add_cards(&mut bytes, others)?;
     end_header(&mut bytes)?;
-    let (header, _) = cut_header(alloc, &bytes)?;
-    Ok(header)
+    if others.contains(ONE_PARAMETER) {
+        bytes.push(0)?;
+        fill_up(&mut bytes, BLOCK_LEN, 0)?;
+    }
+    Ok(bytes)
 }
 
-/// Whether a header has these codes.
+/// The labels and places of a report's lines, separated by spaces.
+fn codes_in(alloc: Global, report: &str) -> Result<String, AllocError> {
+    let mut codes = String::new(alloc);
+    for line in report.split('\n') {
+        let mut words = line.split(' ');
+        let (Some(label), Some(_), Some(place)) = (words.next(), words.next(), words.next()) else {
+            break;
+        };
+        if label == "errors" {
+            break;
+        }
+        if !codes.is_empty() {
+            codes.push_str(" ")?;
+        }
+        codes.push_str(label)?;
+        codes.push_str(" ")?;
+        codes.push_str(place)?;
+    }
+    Ok(codes)
+}
+
+/// Whether a file with this header is verified with these codes, and is found wrong by errors alone.
 fn check_codes<R: Abort>(
     rt: &R,
     alloc: Global,
@@ -101,11 +65,16 @@ fn check_codes<R: Abort>(
     others: &str,
     wanted: &str,
 ) -> Result<(), Fail> {
-    let mut header = header_with(alloc, first, others)?;
-    let primary = first.starts_with("SIMPLE") || others.starts_with("SIMPLE");
-    let found = shape(alloc, &mut header, primary)?;
-    let codes = codes_of(alloc, &mut header, &found)?;
-    assert_eq!(rt; codes.as_slice(), wanted.as_bytes(), "{first}{others}");
+    let file = file_with(alloc, first, others)?;
+    let ran = verify(alloc, Level::All, &file, ALL_SMOOTH)?;
+    let report = std::str::from_utf8(&ran.printed).ok().ok_or("no text")?;
+    let codes = codes_in(alloc, report)?;
+    assert_eq!(rt; codes.as_str(), wanted, "{first}{others}");
+    assert_eq!(rt;
+        ran.end.status == 1,
+        wanted.contains('E'),
+        "{first}{others}"
+    );
     Ok(())
 }
 

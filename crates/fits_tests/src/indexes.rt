@@ -4,7 +4,9 @@ ghost use Rattle.std.specs.Prelude.{◌≡◌, ◌≤◌, length};
 use crate::builders::ChangeText::{self, Move, Splice};
 use crate::builders::{P0, change_of, hdu_of, header_of, name_of};
 use fits_card::Change;
-use fits_header::KeyIndex;
+use fits_codes::Code;
+use fits_header::{Header, KeyIndex};
+use fits_rules::shape;
 use fits_session::{Refusal, Session};
 use std::alloc::Global;
 use std::process::Abort;
@@ -130,6 +132,44 @@ fn a_header_has_each_name_once_ascending(rt: HostRuntime) -> Result<(), Fail> {
             assert_eq!(rt; *name, name_of(text));
         }
         assert_eq!(rt; session.names(2).err(), Some(Refusal::NoHdu));
+    }
+    Ok(())
+}
+
+/// A header, and of each card whether it is a link and its code, if it has one.
+const JUDGED: &str = "SIMPLE  =                    T|BITPIX  =                    8|\
+    NAXIS   =                    0|KEY     = 'a&'|CONTINUE  'b&'|CONTINUE  'c'|CONTINUE  'd'|KEY     =2|KEY     = 3|END";
+
+const CARD_CODES: &[(bool, Option<Code>)] = &[
+    (false, None),
+    (false, None),
+    (false, None),
+    (false, None),
+    (true, None),
+    (true, None),
+    (false, Some(Code::StrayContinue)),
+    (false, Some(Code::NoSpaceAfterEquals)),
+    (false, Some(Code::KeywordRepeated)),
+];
+
+/// The header that has these cards.
+#[tactic(auto, using(fits_rules::proofs::LawLemmas::laws))]
+fn opened(alloc: Global, cards: &str) -> Result<Header, Fail> {
+    let mut list = header_of(alloc, cards)?;
+    let found = shape(alloc, &mut list, cards.starts_with("SIMPLE"))?;
+    Ok(Header::open(alloc, list, found)?)
+}
+
+#[test]
+fn each_card_has_its_codes(rt: HostRuntime) -> Result<(), Fail> {
+    let mut header = opened(rt.alloc(), JUDGED)?;
+    assert_eq!(rt; header.len(), CARD_CODES.len());
+    for (index, (is_link, code)) in CARD_CODES.iter().enumerate() {
+        if index < header.len() {
+            assert_eq!(rt; header.is_link(index + 1), *is_link, "{index}");
+            let codes = header.codes(index + 1);
+            assert_eq!(rt; codes.as_slice().first().copied(), *code, "{index}");
+        }
     }
     Ok(())
 }

@@ -27,11 +27,12 @@ enum Said<'a> {
     Unset(usize, &'a str),
     Get(usize, &'a str),
     Pos(usize, &'a str),
+    Rep,
     /// It is not a command.
     Bad,
 }
 
-use Said::{Bad, Del, Get, Ins, Mov, Nothing, Off, Pos, Put, Set, Unset};
+use Said::{Bad, Del, Get, Ins, Mov, Nothing, Off, Pos, Put, Rep, Set, Unset};
 
 /// A line, and what it says.
 const LINES: &[(&str, Said<'static>)] = &[
@@ -41,6 +42,10 @@ const LINES: &[(&str, Said<'static>)] = &[
     ("# off", Nothing),
     ("#\r", Nothing),
     ("off", Off),
+    ("rep", Rep),
+    ("rep ", Bad),
+    ("rep 1", Bad),
+    ("repo", Bad),
     ("ins 1 4 CARD", Ins(1, 4, "CARD")),
     ("ins 1 4", Ins(1, 4, "")),
     ("ins 1 4 ", Ins(1, 4, "")),
@@ -205,7 +210,6 @@ const LINES: &[(&str, Said<'static>)] = &[
     ("pos 1 KEY ", Bad),
     ("pos KEY", Bad),
     // commands to come
-    ("rep", Bad),
     ("fill 1 1:1 5", Bad),
     // 80 bytes, and 81
     (
@@ -251,6 +255,7 @@ fn says(alloc: Global, command: Command, said: Said<'_>) -> Result<bool, AllocEr
         Command::Positions { hdu, name } => {
             Ok(matches!(said, Pos(h, text) if h == hdu && name_of(text) == name))
         }
+        Command::Report => Ok(matches!(said, Rep)),
         Command::Edit(edit) => edits(alloc, edit, said),
     }
 }

@@ -9,9 +9,9 @@ use crate::builders::{
 };
 use crate::hdus::ASKED;
 use crate::planned::{SMOOTH, reader, writer};
-use crate::runs::{ALL_SMOOTH, Ran, edit, list};
+use crate::runs::{ALL_SMOOTH, Ran, edit, tell};
 use crate::shapes::{ShapeText, check_shape};
-use crate::streams::{LISTED, LISTING};
+use crate::streams::{LISTED_LINES, REPORTED_LINES};
 use crate::values::line_of;
 use fits_card::{HeaderFault, Name, cut_header};
 use fits_cli::{Command, End, Fault, LineFault, parse_line};
@@ -214,6 +214,8 @@ fn same_answers<R: Abort + AllocGlobal>(
         assert!(rt; found == names(other, h)?);
     }
     assert!(rt; one.offsets()?.as_slice() == other.offsets()?.as_slice());
+    assert!(rt; one.report()?.as_slice() == other.report()?.as_slice());
+    assert_eq!(rt; one.counts(), other.counts());
     assert!(rt; saved(rt.alloc(), one)?.as_slice() == saved(rt.alloc(), other)?.as_slice());
     Ok(())
 }
@@ -475,10 +477,11 @@ fn refused_memory_in_a_run_saves_nothing(rt: HostRuntime) {
 const SAID: &str = "SIMPLE|BITPIX  = 8|NAXIS   = 0|KEY     = 'ab&' / first|CONTINUE  'c''d&'|\
     CONTINUE  'e' / last|PAIR    = (1, 2)/|END";
 
-const QUESTIONS: &[u8] = b"get 1 KEY\nget 1 PAIR\nget 1 NONE\nget 1 KEY";
+const QUESTIONS: &[u8] = b"get 1 KEY\nget 1 PAIR\nget 1 NONE\nrep\nget 1 KEY";
 
 const ANSWERS: &str = "string 'abc''de' / last\ncomplex (1, 2) /\nline 3: refused 3 NoKey\n\
-    string 'abc''de' / last\n";
+    E06 1 1 mandatory card not in fixed format\nE06 1 2 mandatory card not in fixed format\n\
+    E06 1 3 mandatory card not in fixed format\nerrors 3 warnings 0\nstring 'abc''de' / last\n";
 
 #[test]
 fn refused_memory_prints_no_other_value(rt: HostRuntime) {
@@ -493,13 +496,15 @@ fn refused_memory_prints_no_other_value(rt: HostRuntime) {
 }
 
 #[test]
-fn refused_memory_lists_no_other_lines(rt: HostRuntime) {
-    let Ok(file) = file_of(rt.alloc(), LISTED) else {
-        return;
-    };
-    for _ in 0..2 {
-        if let Ok(ran) = list(rt.alloc(), &file, ALL_SMOOTH) {
-            check_ended(&rt, &ran, LISTING, 0, b"");
+fn refused_memory_tells_no_other_lines(rt: HostRuntime) {
+    for (told, file, lines, status) in [LISTED_LINES, REPORTED_LINES] {
+        let Ok(file) = file_of(rt.alloc(), file) else {
+            return;
+        };
+        for _ in 0..2 {
+            if let Ok(ran) = tell(rt.alloc(), told, &file, ALL_SMOOTH) {
+                check_ended(&rt, &ran, lines, status, b"");
+            }
         }
     }
 }

@@ -4,8 +4,8 @@ use crate::builders::{
     COMMENTS, FileText, HduText, P0, PIXEL, THREE_PIXELS, add_cards, end_header, file_of, hdu_of,
     repeated,
 };
-use crate::runs::{ALL_SMOOTH, DONE, Ran, edit, list};
-use fits_cli::{End, Fault};
+use crate::runs::{ALL_SMOOTH, DONE, Ran, Told, edit, tell};
+use fits_cli::{End, Fault, Level};
 use fits_session::OpenFault;
 use std::alloc::{AllocError, Global};
 use std::process::Abort;
@@ -80,7 +80,7 @@ const SHORTEST: &[(&str, &str, u8)] = &[
     ("frob", "line 1: not a command\n", 1),
     (
         "rep\nstat 1\nfrob\n",
-        "line 1: not a command\nline 2: not a command\nline 3: not a command\n",
+        "errors 0 warnings 0\nline 2: not a command\nline 3: not a command\n",
         1,
     ),
     (
@@ -787,7 +787,9 @@ fn a_file_that_does_not_open_ends_the_run(rt: HostRuntime) -> Result<(), Fail> {
         let ran = edit(rt.alloc(), front, b"off\nfrob\n", ALL_SMOOTH)?;
         check_closed(&rt, &ran, text)?;
         assert_eq!(rt; ran.script_calls, 0, "{text}");
-        check_closed(&rt, &list(rt.alloc(), front, ALL_SMOOTH)?, text)?;
+        for told in [Told::Listing, Told::Report(Level::Quiet)] {
+            check_closed(&rt, &tell(rt.alloc(), told, front, ALL_SMOOTH)?, text)?;
+        }
     }
     Ok(())
 }

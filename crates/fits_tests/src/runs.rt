@@ -1,7 +1,7 @@
-//! Runs of scripts and listings over memory.
+//! Runs of scripts, listings and reports over memory.
 
 use crate::planned::{Plan, SMOOTH, reader, writer};
-use fits_cli::{End, run_edit, run_list};
+use fits_cli::{End, Level, run_edit, run_list, run_verify};
 use std::alloc::{AllocError, Global};
 
 /// What each stream of a run does.
@@ -59,11 +59,21 @@ pub fn edit(alloc: Global, file: &[u8], script: &[u8], plans: Plans) -> Result<R
     })
 }
 
-/// A listing of a file.
-pub fn list(alloc: Global, file: &[u8], plans: Plans) -> Result<Ran, AllocError> {
+/// A text of a file.
+#[derive(Clone, Copy, Debug)]
+pub enum Told {
+    Listing,
+    Report(Level),
+}
+
+/// A run that prints a text of a file.
+pub fn tell(alloc: Global, told: Told, file: &[u8], plans: Plans) -> Result<Ran, AllocError> {
     let mut file = reader(file, plans.file);
     let mut out = writer(alloc, plans.answers)?;
-    let end = run_list(alloc, &mut file, &mut out);
+    let end = match told {
+        Told::Listing => run_list(alloc, &mut file, &mut out),
+        Told::Report(level) => run_verify(alloc, level, &mut file, &mut out),
+    };
     let out = out.into_inner();
     Ok(Ran {
         end,
@@ -74,4 +84,14 @@ pub fn list(alloc: Global, file: &[u8], plans: Plans) -> Result<Ran, AllocError>
         printed: out.bytes,
         saved: Vec::new(alloc),
     })
+}
+
+/// A listing of a file.
+pub fn list(alloc: Global, file: &[u8], plans: Plans) -> Result<Ran, AllocError> {
+    tell(alloc, Told::Listing, file, plans)
+}
+
+/// A report of a file.
+pub fn verify(alloc: Global, level: Level, file: &[u8], plans: Plans) -> Result<Ran, AllocError> {
+    tell(alloc, Told::Report(level), file, plans)
 }

@@ -4,7 +4,8 @@
 use crate::builders::ChangeText::{Move, Splice};
 use crate::builders::{ChangeText, add_cards, change_of, end_header, fill_up, header_of, name_of};
 use fits_card::cut_header;
-use fits_rules::{Axes, Class, Shape, ShapeFault, data_bytes, keeps_shape, lead, shape};
+use fits_header::Header;
+use fits_rules::{Axes, Class, Shape, ShapeFault, data_bytes, lead, shape};
 use std::alloc::{AllocError, Global};
 use std::process::Abort;
 use std::test::Fail;
@@ -557,18 +558,24 @@ const KEPT: &[(&str, ChangeText<'static>, bool)] = &[
     (ROW, Move(3, 4), false),
 ];
 
+/// Whether a header keeps its shape by a change, if the change is in range.
+#[tactic(auto, using(fits_rules::proofs::LawLemmas::laws))]
+fn keeps(alloc: Global, cards: &str, text: ChangeText<'_>) -> Result<Option<bool>, Fail> {
+    let mut list = header_of(alloc, cards)?;
+    let found = shape(alloc, &mut list, cards.starts_with("SIMPLE"))?;
+    let change = change_of(alloc, text)?;
+    if !change.is_in_range(&list) {
+        return Ok(None);
+    }
+    let mut header = Header::open(alloc, list, found)?;
+    Ok(Some(header.keeps_shape(&change)))
+}
+
 #[test]
 fn a_change_keeps_the_shape_or_not(rt: HostRuntime) -> Result<(), Fail> {
-    for (row, (cards, text, keeps)) in KEPT.iter().enumerate() {
-        let mut header = header_of(rt.alloc(), cards)?;
-        let found = shape(rt.alloc(), &mut header, cards.starts_with("SIMPLE"))?;
-        let change = change_of(rt.alloc(), *text)?;
-        assert!(rt; change.is_in_range(&header), "row {row}");
-        assert_eq!(rt;
-            keeps_shape(&mut header, &found, &change),
-            *keeps,
-            "row {row}: {cards}"
-        );
+    for (row, (cards, text, wanted)) in KEPT.iter().enumerate() {
+        let found = keeps(rt.alloc(), cards, *text)?;
+        assert_eq!(rt; found, Some(*wanted), "row {row}: {cards}");
     }
     Ok(())
 }

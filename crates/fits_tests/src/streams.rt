@@ -2,8 +2,9 @@
 
 use crate::builders::{FileText, P0, PIXEL, file_of, hdu_of};
 use crate::planned::Plan;
-use crate::runs::{ALL_SMOOTH, DONE, Plans, Ran, edit, list};
-use fits_cli::{End, Fault};
+use crate::reports::{REPORT, WRONG};
+use crate::runs::{ALL_SMOOTH, DONE, Plans, Ran, Told, edit, tell};
+use fits_cli::{End, Fault, Level};
 use std::process::Abort;
 use std::test::Fail;
 
@@ -226,51 +227,82 @@ fn what_stands_before_a_fault_is_a_front(rt: HostRuntime) -> Result<(), Fail> {
 }
 
 /// A file of two HDUs and a tail, and its listing.
-pub const LISTED: FileText<'static> = (&[(P0, 0), (PIXEL, 1)], "trailer");
+const LISTED: FileText<'static> = (&[(P0, 0), (PIXEL, 1)], "trailer");
 
-pub const LISTING: &str = "hdu 1 PRIMARY bitpix 8 axes - cards 3 at 0 2880 2880\n\
+const LISTING: &str = "hdu 1 PRIMARY bitpix 8 axes - cards 3 at 0 2880 2880\n\
     hdu 2 IMAGE bitpix 16 axes 1 cards 6 at 2880 5760 8640\n";
 
-/// A stream of a listing, and how many bytes each of its calls moves.
-const LISTED_BY: &[(Stream, usize)] = &[(File, 100), (File, 4096), (Answers, 7), (Answers, 4096)];
+/// A text of a file: the file, what is printed of it, and the status.
+pub type ToldText = (Told, FileText<'static>, &'static str, u8);
 
-// One listing where a stream has this plan. It answers whether no call failed.
-fn is_listed<R: Abort + AllocGlobal>(rt: &R, stream: Stream, plan: Plan) -> Result<bool, Fail> {
-    let bytes = file_of(rt.alloc(), LISTED)?;
+pub const LISTED_LINES: ToldText = (Told::Listing, LISTED, LISTING, 0);
+
+pub const REPORTED_LINES: ToldText = (Told::Report(Level::All), WRONG, REPORT, 1);
+
+/// A text of a file, a stream of its run, and how many bytes each call of the stream moves.
+const TOLD_BY: &[(ToldText, Stream, usize)] = &[
+    (LISTED_LINES, File, 100),
+    (LISTED_LINES, File, 4096),
+    (LISTED_LINES, Answers, 7),
+    (LISTED_LINES, Answers, 4096),
+    (REPORTED_LINES, File, 100),
+    (REPORTED_LINES, Answers, 7),
+    (REPORTED_LINES, Answers, 4096),
+];
+
+// One run where a stream has this plan. It answers whether no call failed.
+fn is_told<R: Abort + AllocGlobal>(
+    rt: &R,
+    text: ToldText,
+    stream: Stream,
+    plan: Plan,
+) -> Result<bool, Fail> {
+    let (told, file, lines, status) = text;
+    let whole = End {
+        status,
+        fault: None,
+    };
+    let bytes = file_of(rt.alloc(), file)?;
     let plans = plans_of(stream, plan);
-    let ran = list(rt.alloc(), &bytes, plans)?;
+    let ran = tell(rt.alloc(), told, &bytes, plans)?;
     let call = plan.failing;
     assert_eq!(rt;
         ran.end,
-        end_of(plans, &ran, DONE),
-        "{stream:?}, call {call}"
+        end_of(plans, &ran, whole),
+        "{told:?}, {stream:?}, call {call}"
     );
     assert!(rt;
-        LISTING.as_bytes().starts_with(&ran.printed),
-        "{stream:?}, call {call}"
+        lines.as_bytes().starts_with(&ran.printed),
+        "{told:?}, {stream:?}, call {call}"
     );
-    if ran.end == DONE {
-        assert_eq!(rt; ran.printed.len(), LISTING.len(), "{stream:?}, call {call}");
+    if ran.end == whole {
+        assert_eq!(rt;
+            ran.printed.len(),
+            lines.len(),
+            "{told:?}, {stream:?}, call {call}"
+        );
     }
-    Ok(ran.end == DONE)
+    Ok(ran.end == whole)
 }
 
 #[test]
-fn each_call_of_a_listing_fails_once(rt: HostRuntime) -> Result<(), Fail> {
-    for (stream, step) in LISTED_BY {
+fn each_call_of_a_run_that_tells_fails_once(rt: HostRuntime) -> Result<(), Fail> {
+    for (text, stream, step) in TOLD_BY {
         let mut is_done = false;
         for failing in 1..10_000usize {
             let plan = Plan {
                 step: *step,
                 failing,
             };
-            is_done = is_listed(&rt, *stream, plan)?;
+            is_done = is_told(&rt, *text, *stream, plan)?;
             if is_done {
                 break;
             }
         }
         assert!(rt; is_done, "{stream:?} {step}");
     }
-    assert!(rt; !is_listed(&rt, Answers, STUCK)?);
+    for text in [LISTED_LINES, REPORTED_LINES] {
+        assert!(rt; !is_told(&rt, text, Answers, STUCK)?);
+    }
     Ok(())
 }

@@ -1,0 +1,241 @@
+//! What is wrong with files: the report of a script and of `verify`, expected lines by hand.
+
+use crate::builders::{FileText, P0, PIXEL, THREE_PIXELS, file_of};
+use crate::runs::{ALL_SMOOTH, edit, verify};
+use fits_cli::{End, Level};
+use std::test::Fail;
+
+/// A primary array of two pixels of 16 bits.
+const TWO_PIXELS: &str = "SIMPLE  =                    T|BITPIX  =                   16|\
+    NAXIS   =                    1|NAXIS1  =                    2|END";
+
+/// A primary array of one pixel of 16 bits.
+const ONE_PIXEL: &str = "SIMPLE  =                    T|BITPIX  =                   16|\
+    NAXIS   =                    1|NAXIS1  =                    1|END";
+
+/// An image extension without data, and three things wrong with it as a whole.
+const THREE_WRONG: &str = "XTENSION= 'IMAGE   '|BITPIX  =                    8|\
+    NAXIS   =                    0|SIMPLE  =                    T|END     x";
+
+/// Nothing is wrong.
+const CLEAN: &str = "errors 0 warnings 0\n";
+
+/// A file, a script, its answers and its status.
+const SCRIPTS: &[(FileText<'static>, &str, &str, u8)] = &[
+    ((&[(P0, 0)], ""), "rep", CLEAN, 0),
+    (
+        (&[(P0, 0)], ""),
+        "rep \nrep 1\nrepo\n",
+        "line 1: not a command\nline 2: not a command\nline 3: not a command\n",
+        1,
+    ),
+    // END keeps its bytes, and an edit makes the fill spaces
+    (
+        (
+            &[(
+                "SIMPLE  =                    T|BITPIX  =                    8|NAXIS   =                    0|END      x|x",
+                0,
+            )],
+            "",
+        ),
+        "rep\nins 1 4 COMMENT\nrep",
+        "E14 1 0 END card not blank\nE15 1 0 header fill not spaces\nerrors 2 warnings 0\n\
+         E14 1 0 END card not blank\nerrors 1 warnings 0\n",
+        0,
+    ),
+    (
+        (
+            &[(
+                "SIMPLE  =                    T         \u{7f}|BITPIX  =                    8|NAXIS   =                    0|END",
+                0,
+            )],
+            "",
+        ),
+        "rep",
+        "E01 1 1 byte outside ASCII text\nE06 1 1 mandatory card not in fixed format\n\
+         errors 2 warnings 0\n",
+        0,
+    ),
+    // a repeated keyword is one no longer where the first card went
+    (
+        (&[(TWO_PIXELS, 1)], ""),
+        "set 1 BLANK 7\nins 1 6 BLANK   =                    8\nrep\ndel 1 5\nrep",
+        "W08 1 6 keyword repeated\nerrors 0 warnings 1\nerrors 0 warnings 0\n",
+        0,
+    ),
+    // links are none without their string, and are again with it
+    (
+        (&[(P0, 0)], ""),
+        "set 1 KEY 'aaaaaaaaaaaaaaaaaaaaaaaaaaaaaaaaaaaaaaaaaaaaaaaaaaaaaaaaaaaaaaaaaa''bbbbbbbbbbbbbbbbbbbbbbbbbbbbbbbbbbbbbbbbbbbbbbbbbbbbbbbbbbbbbbbbbbbbbbbbb'\n\
+         rep\nput 1 4 KEY     = 'x'\nrep\n\
+         put 1 4 KEY     = 'aaaaaaaaaaaaaaaaaaaaaaaaaaaaaaaaaaaaaaaaaaaaaaaaaaaaaaaaaaaaaaaaaa&'\nrep",
+        "errors 0 warnings 0\n\
+         W09 1 5 CONTINUE without an open string\nW09 1 6 CONTINUE without an open string\nerrors 0 warnings 2\n\
+         errors 0 warnings 0\n",
+        0,
+    ),
+    // a card put between parts a string
+    (
+        (&[(P0, 0)], ""),
+        "ins 1 4 KEY     = 'a&'\nins 1 5 CONTINUE  'b&'\nins 1 6 CONTINUE  'c'\nrep\nins 1 5 COMMENT\nrep\nmov 1 5 7\nrep",
+        "errors 0 warnings 0\n\
+         W10 1 4 ampersand not continued\nW09 1 6 CONTINUE without an open string\n\
+         W09 1 7 CONTINUE without an open string\nerrors 0 warnings 3\n\
+         errors 0 warnings 0\n",
+        0,
+    ),
+    (
+        (&[(THREE_PIXELS, 1)], ""),
+        "ins 1 5 END\nput 1 4 NAXIS1  =                    4\nput 1 4 NAXIS1  = 3\nrep",
+        "line 1: refused 5 EndCard\nline 2: refused 6 Shape\n\
+         E06 1 4 mandatory card not in fixed format\nerrors 1 warnings 0\n",
+        1,
+    ),
+    (
+        (&[(P0, 0)], "trailer"),
+        "rep",
+        "W26 2 0 bytes after the last HDU\nerrors 0 warnings 1\n",
+        0,
+    ),
+    (
+        (
+            &[(
+                "SIMPLE  =                    T / file does conform to FITS standard|BITPIX  =                    8|NAXIS   =                    0|END",
+                0,
+            )],
+            "",
+        ),
+        "rep\nget 1 SIMPLE",
+        "errors 0 warnings 0\nlogical T / file does conform to FITS standard\n",
+        0,
+    ),
+    (
+        (&[(P0, 0)], ""),
+        "set 1 DATE '2024-02-30'\nrep\nset 1 DATE '29/02/00'\nrep\nset 1 DATE '2024-02-29T23:59:60.5'\nrep",
+        "E12 1 4 bad date\nerrors 1 warnings 0\nE12 1 4 bad date\nerrors 1 warnings 0\nerrors 0 warnings 0\n",
+        0,
+    ),
+    (
+        (&[(P0, 0)], ""),
+        "set 1 OBJECT 'a'\nset 1 ORIGIN 'b'\nmov 1 4 5\nins 1 4 COMMENT\npos 1 OBJECT\nmov 1 1 2\nset 1 SIMPLE F\nrep",
+        "6\nline 6: refused 6 Shape\nW19 1 0 SIMPLE is F\nerrors 0 warnings 1\n",
+        1,
+    ),
+    // those of a card by number, then the next HDU as a whole, and the bytes after it
+    (
+        (&[(P0, 0), (THREE_WRONG, 0)], "x"),
+        "ins 1 4 DATE    = 5\nins 1 5 DATE    = 'x&'\nrep",
+        "E05 1 4 value of the wrong type\nW08 1 5 keyword repeated\n\
+         W10 1 5 ampersand not continued\nE12 1 5 bad date\n\
+         E14 2 0 END card not blank\nE16 2 0 PCOUNT or GCOUNT out of place\n\
+         E18 2 0 SIMPLE or XTENSION in the wrong kind of HDU\n\
+         W26 3 0 bytes after the last HDU\nerrors 5 warnings 3\n",
+        0,
+    ),
+    // which card leads is asked of the cards as they are
+    (
+        (&[(ONE_PIXEL, 1)], ""),
+        "set 1 BLANK 40000\nins 1 5 BLANK   = 5\nrep\nmov 1 5 6\nrep\nunset 1 BLANK\nrep",
+        "W08 1 6 keyword repeated\nerrors 0 warnings 1\n\
+         W21 1 0 BLANK out of range\nW08 1 6 keyword repeated\nerrors 0 warnings 2\n\
+         errors 0 warnings 0\n",
+        0,
+    ),
+    (
+        (
+            &[(
+                "SIMPLE  = T|BITPIX  = 8|NAXIS   = 0|EPOCH   = 'a|EPOCH   =|epoch   =1|EPOCH   = 'a&'|END",
+                0,
+            )],
+            "",
+        ),
+        "rep",
+        "E06 1 1 mandatory card not in fixed format\nE06 1 2 mandatory card not in fixed format\n\
+         E06 1 3 mandatory card not in fixed format\nE03 1 4 unreadable value\nW13 1 4 deprecated keyword\n\
+         W04 1 5 undefined value\nW08 1 5 keyword repeated\nW13 1 5 deprecated keyword\n\
+         E02 1 6 bad keyword name\nW11 1 6 no space after the equals sign\n\
+         W08 1 7 keyword repeated\nW10 1 7 ampersand not continued\nW13 1 7 deprecated keyword\n\
+         errors 5 warnings 8\n",
+        0,
+    ),
+];
+
+#[test]
+fn a_report_follows_the_edits(rt: HostRuntime) -> Result<(), Fail> {
+    for (file, script, answers, status) in SCRIPTS {
+        let file = file_of(rt.alloc(), *file)?;
+        let ran = edit(rt.alloc(), &file, script.as_bytes(), ALL_SMOOTH)?;
+        assert_eq!(rt; ran.printed.as_slice(), answers.as_bytes(), "{script:?}");
+        assert_eq!(rt;
+            ran.end,
+            End {
+                status: *status,
+                fault: None
+            },
+            "{script:?}"
+        );
+        // what was saved has the same report, in a new session and as it passes by
+        let fresh = edit(rt.alloc(), &ran.saved, b"rep", ALL_SMOOTH)?;
+        let passing = verify(rt.alloc(), Level::All, &ran.saved, ALL_SMOOTH)?;
+        assert!(rt;
+            ran.printed.ends_with(&fresh.printed) || !script.ends_with("rep"),
+            "{script:?}"
+        );
+        assert_eq!(rt;
+            passing.printed.as_slice(),
+            fresh.printed.as_slice(),
+            "{script:?}"
+        );
+    }
+    Ok(())
+}
+
+/// A file of two HDUs and bytes after them, and what is wrong with it.
+pub const WRONG: FileText<'static> = (&[(P0, 0), (THREE_WRONG, 0)], "x");
+
+/// The report of that file.
+pub const REPORT: &str = "E14 2 0 END card not blank\nE16 2 0 PCOUNT or GCOUNT out of place\n\
+    E18 2 0 SIMPLE or XTENSION in the wrong kind of HDU\n\
+    W26 3 0 bytes after the last HDU\nerrors 3 warnings 1\n";
+
+/// A file, how much of its report is printed, what is, and the status.
+const VERIFIED: &[(FileText<'static>, Level, &str, u8)] = &[
+    ((&[(P0, 0), (PIXEL, 1)], ""), Level::All, CLEAN, 0),
+    ((&[(P0, 0)], ""), Level::Errors, CLEAN, 0),
+    ((&[(P0, 0)], ""), Level::Quiet, CLEAN, 0),
+    (WRONG, Level::All, REPORT, 1),
+    (
+        WRONG,
+        Level::Errors,
+        "E14 2 0 END card not blank\nE16 2 0 PCOUNT or GCOUNT out of place\n\
+         E18 2 0 SIMPLE or XTENSION in the wrong kind of HDU\nerrors 3 warnings 1\n",
+        1,
+    ),
+    (WRONG, Level::Quiet, "errors 3 warnings 1\n", 1),
+    // warnings alone are no error
+    (
+        (&[(P0, 0)], "x"),
+        Level::All,
+        "W26 2 0 bytes after the last HDU\nerrors 0 warnings 1\n",
+        0,
+    ),
+    ((&[(P0, 0)], "x"), Level::Errors, "errors 0 warnings 1\n", 0),
+    ((&[(P0, 0)], "x"), Level::Quiet, "errors 0 warnings 1\n", 0),
+];
+
+#[test]
+fn a_file_is_verified(rt: HostRuntime) -> Result<(), Fail> {
+    for (file, level, text, status) in VERIFIED {
+        let bytes = file_of(rt.alloc(), *file)?;
+        let ran = verify(rt.alloc(), *level, &bytes, ALL_SMOOTH)?;
+        assert_eq!(rt; ran.printed.as_slice(), text.as_bytes());
+        assert_eq!(rt;
+            ran.end,
+            End {
+                status: *status,
+                fault: None
+            }
+        );
+    }
+    Ok(())
+}
