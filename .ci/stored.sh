@@ -46,6 +46,26 @@ for listing in examples/*/listing; do
     expect "the example $(basename "$example") has its listing" cmp -s "$room/printed" "$listing"
 done
 
+# each example with a report: its in.fits is verified so, with an error
+for report in examples/*/report; do
+    example=$(dirname "$report")
+    name=$(basename "$example")
+    expect "the example $name has errors" status 1 "$program" verify "$example/in.fits"
+    expect "the example $name has its report" cmp -s "$room/printed" "$report"
+    expect 'without its warnings it ends so too' status 1 "$program" verify -e "$example/in.fits"
+    grep -v '^W' "$report" >"$room/lines"
+    expect 'and lists its errors' cmp -s "$room/printed" "$room/lines"
+    tail -n 1 "$report" >"$room/lines"
+    for flags in -q -eq -qe; do
+        expect "with $flags it ends so too" status 1 "$program" verify "$flags" "$example/in.fits"
+        expect 'and is counted' cmp -s "$room/printed" "$room/lines"
+    done
+    expect 'flags may come last' status 1 "$program" verify "$example/in.fits" -e -q
+    expect 'and count' cmp -s "$room/printed" "$room/lines"
+    expect 'the example mended has no error' status 0 "$program" verify -q "$example/out.fits"
+    expect 'and no warning' [ "$(cat "$room/printed")" = 'errors 0 warnings 0' ]
+done
+
 # many files at once, as docs/GUIDE.md has it
 example=examples/a_comment
 mkdir "$room/new"
@@ -122,9 +142,18 @@ expect 'and answers' [ "$(cat "$room/printed")" = "integer 16
 2 2880 5760 8640" ]
 expect 'and is saved as it was' cmp -s "$room/two.out" "$room/two.fits"
 expect 'a full device for a listing ends with 3' status 3 list_to_a_full_device "$room/two.fits"
+verify_to_a_full_device() { "$program" verify "$1" >/dev/full; }
+expect 'a file with bytes after it has no error' status 0 "$program" verify "$room/two.fits"
+expect 'but a warning' [ "$(cat "$room/printed")" = "W26 3 0 bytes after the last HDU
+errors 0 warnings 1" ]
+expect 'a full device for a report ends with 3' status 3 verify_to_a_full_device "$room/two.fits"
+expect 'a report of nothing ends with 3' status 3 "$program" verify "$room/nothing"
+expect 'a report without a path ends with 2' status 2 "$program" verify -q
+expect 'another flag ends with 2' status 2 "$program" verify -x "$room/two.fits"
 head -c 8639 "$room/two.fits" >"$room/short.fits"
 expect 'a file without its last byte ends with 2' status 2 list "$room/short.fits"
 expect 'and says why' grep -qx 'fitsed: open refused O4 ShortData hdu 2' "$room/reported"
+expect 'verify ends so too' status 2 "$program" verify "$room/short.fits"
 # as many HDUs as a file may have, and one more
 primary=$(printf '%-80s%-80s%-80s%-2640s' 'SIMPLE  =                    T' 'BITPIX  =                    8' \
     'NAXIS   =                    0' 'END')
