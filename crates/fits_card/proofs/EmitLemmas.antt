@@ -44,5 +44,3 @@ AppendsFront-last a b c d bs cs ds p q r =
     let whole : AppendsFront a d ((bs ++ cs) ++ (ds ++ [])) = AppendsFront-more a c d (bs ++ cs) ds [] (Appends-more a b c bs cs p q) r in
     let same : (bs ++ cs) ++ (ds ++ []) ≡ bs ++ (cs ++ ds) = append_assoc bs cs (ds ++ []) ∙ ap (λ t. bs ++ (cs ++ t)) (append-nil ds) in
     rw same at whole
-
-pub ruleset emit_steps = (Appends-none, Appends-card, Appends-cards, AppendsFront-card, AppendsFront-first, AppendsFront-more, Appends-whole, AppendsFront-last)

@@ -1,6 +1,7 @@
 -- Steps of taking bytes up to a limit.
 use Rattle.std.proofs.Common.{◌≡◌, ℕ, ◌+◌, ◌≤◌, List, [], ◌++◌, length, take, refl, ap, sym, ◌∙◌, append_assoc, arith, Option}
-use Rattle.std.proofs.lemmas.List.{append-nil, length-append, length-take-le}
+use Rattle.std.proofs.lemmas.List.{append-nil, length-append, length-take-le, take-append-le}
+use Rattle.std.proofs.Math.Seq.{take-append-add}
 use Rattle.std.specs.Io.KnownBytes.{Consumes}
 use Rattle.fits_card.specs.Intake.{Takes, TakesAfter, Skips, ConsumesAfter}
 use Rattle.fits_card.proofs.StreamLemmas.{Consumes-none, Consumes-more}
@@ -42,3 +43,22 @@ takes_after_here before a b left left' bytes p e = record {
 }
 
 pub ruleset intake_steps = (Consumes-none, Consumes-more, skips_none, skips_more, consumes_after_none, consumes_after_more, takes_here, takes_after_here)
+
+-- nothing of a piece is filled
+pub filled_none : (a : Option (List ℕ)) (piece : List ℕ) → Consumes a a (take 0 piece)
+filled_none a piece = Consumes-none a
+
+-- the beginning of a piece is filled, then more of it
+pub filled_more : (a b c : Option (List ℕ)) (piece front room : List ℕ) (m n : ℕ) → Consumes a b (take m piece) → front ≡ take m piece → length front ≡ m → Consumes b c (take n room) → Consumes a c (take (m + n) (front ++ room))
+filled_more a b c piece front room m n p is size q =
+    let begun : Consumes a b front = rw is p in
+    let all : take (m + n) (front ++ room) ≡ front ++ take n room = ap (λ k. take (k + n) (front ++ room)) (sym size) ∙ take-append-add front room n in
+    rw all (Consumes-more a b c front (take n room) begun q)
+
+-- bytes that are taken by filling the front of a piece
+pub takes_filled : (a b : Option (List ℕ)) (left left' count : ℕ) (front rest : List ℕ) → Consumes a b (take count front) → count ≤ length front → left ≡ left' + count → Takes a b left left' (take count (front ++ rest))
+takes_filled a b left left' count front rest p le e =
+    let same : take count (front ++ rest) ≡ take count front = take-append-le count front rest le in
+    rw same (record { gone = p; count = omega (arith, e, length-take-le count front le) })
+
+pub ruleset filling_steps = (filled_none, filled_more, takes_filled)

@@ -90,6 +90,19 @@ impl CardList {
         CARD_LEN * (self.cards.len() + 1) + self.fill.len()
     }
 
+    pub fn end(&self) -> &Card
+        ensures { result.now ≡ self.now.header.end }
+    {
+        &self.end
+    }
+
+    /// The bytes from END to the end of its block (FITS Standard 4.0, section 3.3.1).
+    pub fn fill(&self) -> &[u8]
+        ensures { result.now ≡ self.now.header.fill }
+    {
+        &self.fill
+    }
+
     /// Whether END has spaces alone after its name (FITS Standard 4.0, section 4.4.1).
     pub fn end_blank(&self) -> bool
         ensures { result ≡ is_end_blank self.now.header }
@@ -216,7 +229,6 @@ impl CardList {
     /// Writes the cards, END and the fill. Each card's read is counted.
     ///
     /// Where a call fails a prefix was written.
-    #[tactic(auto, using(crate::proofs::EmitLemmas::emit_steps))]
     pub fn emit<W: Sink>(&mut self, sink: &mut W) -> io::Result<()>
         ensures ok { OnOk result
             (Appends (W.contents sink.old) (W.contents sink.new) (header_bytes self.old.header)) }
@@ -303,7 +315,6 @@ fn make_blank(fill: &mut Vec<u8>, cards: usize)
     let _ = fill.resize(fill_len(cards), b' ');
 }
 
-#[tactic(auto, using(crate::proofs::EmitLemmas::emit_steps))]
 fn write_cards<W: Sink>(cards: &[Card], reads: &mut Count, sink: &mut W) -> io::Result<()>
     ensures ok { OnOk result
         (Appends (W.contents sink.old) (W.contents sink.new) (joined_cards cards.now)) }

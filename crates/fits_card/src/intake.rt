@@ -1,5 +1,5 @@
-ghost use Rattle.std.specs.Prelude.{◌≡◌, ◌+◌, ◌<◌, ◌≤◌, ◌↔◌, length, IfOk, IfSome, OnOk, OnErr, IsErrOf, IsTrue};
-ghost use Rattle.std.specs.Io.KnownBytes.{IsAtEnd};
+ghost use Rattle.std.specs.Prelude.{◌≡◌, ◌+◌, ◌<◌, ◌≤◌, ◌↔◌, length, take, IfOk, IfSome, OnOk, OnErr, IsErrOf, IsTrue};
+ghost use Rattle.std.specs.Io.KnownBytes.{Consumes, IsAtEnd};
 ghost use Rattle.fits_card.specs.Intake.{ConsumesAfter};
 
 use crate::reading::{PIECE_LEN, ReadFault, buffer_of};
@@ -28,7 +28,7 @@ impl Model for Intake {
 }
 
 impl Intake {
-    ghost use Rattle.std.specs.Prelude.{◌≡◌, ◌+◌, ◌<◌, ◌≤◌, ◌↔◌, ◌^◌, length, IfOk, IfSome, OnOk, OnErr, IsErrOf, IsTrue};
+    ghost use Rattle.std.specs.Prelude.{◌≡◌, ◌+◌, ◌<◌, ◌≤◌, ◌↔◌, ◌^◌, length, take, IfOk, IfSome, OnOk, OnErr, IsErrOf, IsTrue};
     ghost use Rattle.fits_card.specs.Intake.{IsSpent, Skips, Takes, TakesAfter};
 
     pub fn new(alloc: Global, limit: usize) -> Result<Intake, AllocError>
@@ -116,6 +116,26 @@ impl Intake {
         Ok(count)
     }
 
+    /// Fills a piece with the next bytes, or takes as many as there are, and says how many. It takes
+    /// no memory.
+    #[tactic(auto, using(crate::proofs::IntakeLemmas::filling_steps))]
+    pub fn fill<R: Source>(&mut self, source: &mut R, piece: &mut [u8]) -> io::Result<usize>
+        ensures ok { IfOk result (λ count. Takes (R.remaining source.old) (R.remaining source.new)
+            self.old self.new (take count piece.new)) }
+        ensures within { IfOk result (λ count. count ≤ length piece.new) }
+        ensures ends { IfOk result (λ count. count < length piece.new
+            → IsSpent (R.remaining source.new) self.new) }
+        ensures size { length piece.new ≡ length piece.old }
+        ensures quiet { OnOk result (R.failures source.new ≡ R.failures source.old) }
+        ensures failed { OnErr result (R.failures source.new ≡ R.failures source.old + 1) }
+    {
+        let most = piece.len().min(self.left);
+        let (room, _) = piece.split_at_mut(most);
+        let count = fill_from(source, room)?;
+        self.left -= count;
+        Ok(count)
+    }
+
     /// Drops what may still be taken, and says whether the source has more than that.
     #[tactic(auto, using(crate::proofs::IntakeLemmas::intake_steps))]
     pub fn overruns<R: Source>(mut self, source: &mut R) -> io::Result<bool>
@@ -144,6 +164,31 @@ fn has_more<R: Source>(source: &mut R, piece: &mut [u8]) -> io::Result<bool>
 {
     let n = source.read(piece)?;
     Ok(n > 0)
+}
+
+// Fills a piece by as many reads as it takes, or as far as the source ends, and says how many bytes
+// it has.
+#[tactic(auto, using(crate::proofs::IntakeLemmas::filling_steps))]
+fn fill_from<R: Source>(source: &mut R, piece: &mut [u8]) -> io::Result<usize>
+    ensures ok { IfOk result (λ count. Consumes (R.remaining source.old) (R.remaining source.new)
+        (take count piece.new)) }
+    ensures within { IfOk result (λ count. count ≤ length piece.new) }
+    ensures ends { IfOk result (λ count. count < length piece.new
+        → IsAtEnd (R.remaining source.new)) }
+    ensures size { length piece.new ≡ length piece.old }
+    ensures quiet { OnOk result (R.failures source.new ≡ R.failures source.old) }
+    ensures failed { OnErr result (R.failures source.new ≡ R.failures source.old + 1) }
+{
+    let mut count = 0;
+    while count < piece.len() {
+        let (_, room) = piece.split_at_mut(count);
+        let n = source.read(room)?;
+        if n == 0 {
+            return Ok(count);
+        }
+        count += n;
+    }
+    Ok(count)
 }
 
 // These bytes and those that follow, so many in all, or as many as there are. No call asks for
