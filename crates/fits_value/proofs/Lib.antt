@@ -16,6 +16,7 @@ pub mod LongValueLemmas
 pub mod NormalLemmas
 pub mod NumberFrontLemmas
 pub mod NumberLemmas
+pub mod NumberSaysLemmas
 pub mod NumberScanLemmas
 pub mod PairLemmas
 pub mod PartLemmas

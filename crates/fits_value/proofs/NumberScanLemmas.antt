@@ -159,8 +159,6 @@ no_whole_decimal text front back rest negative power k e within some d =
     let same = some_pair_parts w.0 k (length text) (length text - length rest) (sym w.1 ∙ e) in
     some (omega (arith, same.1, within))
 
-pub ruleset decimal_reads = (whole_decimal)
-
 -- the sign and the first digits of a number that is an integer are the integer's
 pub integer_parts : (text front back : List ℕ) (negative is_integer : Bool) (power : ℤ) → IsDecimal text negative front back power → number_of text ≡ Some (cond is_integer Integer Real, length text) → is_integer ≡ true → IsSigned text negative front
 integer_parts text front back negative is_integer power d e is =

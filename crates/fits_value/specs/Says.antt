@@ -1,6 +1,6 @@
 -- What texts, cards and places say, as functions: the laws tie them to the relations, which are the definitions (own).
-use Rattle.std.specs.Prelude.{ℕ, ◌+◌, ◌-◌, ◌<◌, ◌≤◌, Bool, ◌&&◌, nat_lt, ℤ, List, [], ◌∷◌, ◌++◌, length, take, drop, codes, Option, None, Some, if◌then◌else◌}
-use Rattle.std.specs.List.{list_all}
+use Rattle.std.specs.Prelude.{ℕ, ◌+◌, ◌-◌, ◌*◌, ◌^◌, ◌==◌, ◌<◌, ◌≤◌, Bool, true, false, ◌&&◌, nat_lt, ℤ, pos, negsuc, unsigned_abs, List, [], ◌∷◌, ◌++◌, length, take, drop, codes, Option, None, Some, if◌then◌else◌}
+use Rattle.std.specs.List.{list_all, take_while}
 use Rattle.std.specs.Option.{option_map}
 use Rattle.std.specs.Str.{bytes_eq}
 use Rattle.fits_card.specs.Card.{keyword_name, indicator, has_value, is_text}
@@ -8,8 +8,8 @@ use Rattle.fits_value.specs.Spelling.{is_digit}
 use Rattle.fits_value.specs.Field.{field, part}
 use Rattle.fits_value.specs.Text.{normal_form}
 use Rattle.fits_value.specs.LongString.{cards_from, without_last}
-use Rattle.fits_value.specs.Number.{signed, value_of}
-use Rattle.fits_value.specs.NumberSteps.{is_minus, after_sign}
+use Rattle.fits_value.specs.Number.{signed, value_of, raised, lowered}
+use Rattle.fits_value.specs.NumberSteps.{is_minus, after_sign, after_digits, fraction_digits, after_fraction, is_lowered, exponent_digits, after_exponent}
 use Rattle.fits_value.specs.Scan.{pair_of, reading_of, undoubled}
 use Rattle.fits_value.specs.declared.reading.ValueKind.{ValueKind}
 use Rattle.fits_value.specs.declared.reading.ValueKind.TheVariants as kind
@@ -149,3 +149,43 @@ number_in negative digits = if nat_lt 0 (length digits) && list_all is_digit dig
 -- the number of a text that is an integer, however large (4.2.3)
 unfoldable pub integer_in : List ℕ → Option ℤ
 integer_in text = number_in (is_minus text) (after_sign text)
+
+-- the digits before the point
+abbrev pub front_digits : List ℕ → List ℕ
+front_digits text = take_while is_digit (after_sign text)
+
+-- the text without its sign and them: the point, the digits after it and the exponent
+abbrev pub after_front : List ℕ → List ℕ
+after_front text = after_digits (after_sign text)
+
+-- the digits after the point
+abbrev pub back_digits : List ℕ → List ℕ
+back_digits text = fraction_digits (after_front text)
+
+-- the text without the point and them: the exponent
+abbrev pub after_back : List ℕ → List ℕ
+after_back text = after_fraction (after_front text)
+
+-- the power of ten, 0 without an exponent (4.2.4)
+abbrev pub power_in : List ℕ → ℤ
+power_in text = signed (is_lowered (after_back text)) (value_of (exponent_digits (after_back text)))
+
+-- the text is an integer or a real: it has a digit before the exponent, and nothing after it (4.2.3, 4.2.4)
+abbrev pub is_number : List ℕ → Bool
+is_number text = nat_lt 0 (length (front_digits text) + length (back_digits text)) && (length (after_exponent (after_back text)) == 0)
+
+-- the number is 0, or negative exactly where the text has a minus sign
+abbrev pub agrees_in_sign : Bool → ℤ → Bool
+agrees_in_sign true (pos number) = number == 0
+agrees_in_sign true (negsuc number) = true
+agrees_in_sign false (pos number) = true
+agrees_in_sign false (negsuc number) = false
+
+-- these digits, with a point between them, times a power of ten are exactly this number
+abbrev pub is_exactly : List ℕ → List ℕ → ℤ → ℕ → Bool
+is_exactly front back power number = value_of (front ++ back) * 10 ^ raised power == number * 10 ^ (length back + lowered power)
+
+-- the text is an integer or a real that denotes exactly this number (4.2.3, 4.2.4)
+unfoldable pub says_number : List ℕ → ℤ → Bool
+says_number text number =
+    is_number text && (agrees_in_sign (is_minus text) number && is_exactly (front_digits text) (back_digits text) (power_in text) (unsigned_abs number))

@@ -1,10 +1,10 @@
 //! Laws of the definitions, each the contract of a function that does nothing.
-ghost use Rattle.std.specs.Prelude.{◌≡◌, ◌≤◌, ◌<◌, Bool, ◌+◌, ℕ, ℤ, List, length, Option, Some};
+ghost use Rattle.std.specs.Prelude.{◌≡◌, ◌↔◌, ◌≤◌, ◌<◌, IsTrue, Bool, ◌+◌, ℕ, ℤ, List, length, Option, Some};
 ghost use Rattle.fits_value.specs.Field.{FieldReadsAs, ReadsAs};
 ghost use Rattle.fits_value.specs.Number.{IsIntegerOf, IsDecimal, IsInteger, IsNumber, Denotes};
 ghost use Rattle.fits_value.specs.Value.{FieldSays, CardSays};
 ghost use Rattle.fits_value.specs.LongString.{Piece, IsChain, BeginsChain, IsContinueCard, LongSays};
-ghost use Rattle.fits_value.specs.Says.{field_says, card_says, long_says, integer_in, card_string, link_string, chain_length, IsLink};
+ghost use Rattle.fits_value.specs.Says.{field_says, card_says, long_says, integer_in, says_number, card_string, link_string, chain_length, IsLink};
 ghost use Rattle.fits_value.specs.declared.value.Value.{Value};
 ghost use Rattle.fits_value.specs.declared.value.Value.TheVariants.{Str};
 ghost use Rattle.fits_value.specs.declared.reading.ValueKind.{ValueKind};
@@ -137,4 +137,9 @@ pub fn which_cards_are_links()
 pub fn which_integer()
     ensures said { (text : List ℕ) (n : ℤ) → IsIntegerOf text n → integer_in text ≡ Some n }
     ensures only { (text : List ℕ) (n : ℤ) → integer_in text ≡ Some n → IsIntegerOf text n }
+{}
+
+/// Which numbers a text denotes, as a function.
+pub fn which_numbers_are_denoted()
+    ensures { (text : List ℕ) (n : ℤ) → IsTrue (says_number text n) ↔ Denotes text n }
 {}

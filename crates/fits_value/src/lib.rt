@@ -24,8 +24,8 @@ pub use laws::{
     each_number_is_a_decimal, how_long_a_chain_is, integers_denote, integers_have_numbers,
     numbers_are_spelled, one_card_reading, one_card_value, one_chain, one_field_reading,
     one_field_value, one_long_value, one_number, what_a_card_says, what_a_field_says,
-    what_a_place_says, which_cards_are_links, which_integer, which_string_a_card_says,
-    which_string_a_link_says,
+    what_a_place_says, which_cards_are_links, which_integer, which_numbers_are_denoted,
+    which_string_a_card_says, which_string_a_link_says,
 };
 pub use long_string::{link_count, long_value};
 pub use number::{denotes, integer_of};

@@ -4,7 +4,7 @@ ghost use Rattle.std.specs.Int.{w64};
 ghost use Rattle.std.specs.List.{fold};
 ghost use Rattle.fits_value.specs.Spelling.{IsDigits};
 ghost use Rattle.fits_value.specs.Number.{with_digit, value_of, signed, IsSigned, IsIntegerOf, IsDecimal, IsExactly, Denotes};
-ghost use Rattle.fits_value.specs.Says.{integer_in};
+ghost use Rattle.fits_value.specs.Says.{integer_in, says_number};
 ghost use Rattle.fits_value.specs.Scan.{number_of};
 ghost use Rattle.fits_value.specs.declared.reading.ValueKind.TheVariants.{Integer, Real};
 
@@ -14,7 +14,6 @@ use crate::decimal::{Decimal, scan_decimal};
 const MOST_DIGITS: u128 = 39;
 
 /// The parts of an integer or a real.
-#[tactic(auto, using(crate::proofs::NumberScanLemmas::decimal_reads))]
 fn split_decimal(text: &[u8]) -> Option<Decimal<'_>>
     ensures found { IfSome result (λ d. IsDecimal text.now d.is_negative d.front.now d.back.now
         (signed d.is_lowered (value_of d.exponent.now))) }
@@ -198,7 +197,8 @@ fn has_sign(number: i128, is_negative: bool) -> bool
 
 /// Whether the text is an integer or a real that denotes exactly this number.
 pub fn denotes(text: &[u8], number: i128) -> bool
-    ensures { IsTrue result ↔ Denotes text.now number }
+    ensures value { result ≡ says_number text.now number }
+    ensures exact { IsTrue result ↔ Denotes text.now number }
 {
     let size = number.unsigned_abs();
     match split_decimal(text) {

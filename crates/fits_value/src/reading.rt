@@ -14,7 +14,7 @@ pub enum ValueKind {
     Str,
 }
 
-/// Bytes that follow one another: the first, and the one past the last, counted from 0.
+/// A part of a text: its first byte, and the byte after its last, counted from 0.
 #[derive(Clone, Copy, PartialEq, Eq, Debug)]
 pub struct Span {
     pub start: usize,

@@ -25,7 +25,6 @@ fn closing_place(text: &[u8]) -> Option<usize>
 }
 
 /// The kind of the value at the front and how many bytes it has: none of them for no value.
-#[tactic(auto, unfolding(crate::specs::Scan::front_value))]
 pub(crate) fn scan_value(text: &[u8]) -> Option<(ValueKind, usize)>
     ensures value { result ≡ front_value text.now }
     ensures within { IfSome result (λ value. value.1 ≤ length text.now) }
