@@ -103,5 +103,3 @@ counts_decide primary read cards bits dims placed first axes shape leads b n a k
           ),
     )
     (same_shape-Decides shape (shape_of primary cards))
-
-pub ruleset shape_steps = (lost_first, lost_bitpix, lost_naxis, lost_axes, lost_class)

@@ -63,8 +63,6 @@ pub counts_are : (class : Class) (cards later : List (List ℕ)) (pcount gcount 
 unfolding counts_of
 counts_are class cards later pcount gcount same p g = let g2 = rw same at g in rw (← p, ← g2) refl
 
-pub ruleset count_steps = (no_pcount, no_gcount, counts_are)
-
 -- values that follow one another, as parts of one
 abbrev one_front : Result (List ℕ) ℕ → Result ℤ ℕ → Result ℕ ℕ → Result Front ℕ
 one_front f b n = f >>= (λ first. b >>= (λ bitpix. n >>= (λ naxis. Ok (record { first = first; bitpix = bitpix; naxis = naxis }))))
@@ -143,5 +141,3 @@ pub shape_is : (primary : Bool) (cards later last : List (List ℕ)) (front : Fr
     → Ok (record { class = array.class; bitpix = front.bitpix; axes = array.axes; pcount = counts.pcount; gcount = counts.gcount }) ≡ shape_of primary cards
 shape_is primary cards later last front array counts same still f a c =
     let b = rw same at a in let g = rw still at c in sym (by_counts primary cards front array f b ∙ rw (← g) refl)
-
-pub ruleset shape_steps = (no_front, no_array, no_counts, shape_is)

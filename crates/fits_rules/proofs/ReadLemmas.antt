@@ -79,8 +79,6 @@ other_kind card reading k holds said other value is same =
 pub spells_value : (card spelling : List ℕ) (reading : Reading) (k : ValueKind) → ReadsAs card reading.kind (part card reading.value) (option_map (part card) reading.comment) → reading.kind ≡ k → spelling ≡ part card reading.value → Spells k spelling
 spells_value card spelling reading k reads same is = subst (λ (s : List ℕ). Spells k s) (sym is) (subst (λ (x : ValueKind). Spells x (part card reading.value)) same reads.reads.spelled)
 
-pub ruleset spelling_steps = (no_field, no_reading, value_of_kind, other_kind, spells_value)
-
 -- a value of another kind gives nothing
 pub of_no_kind : {X : Type 0} (f : Value → Option X) (k : ValueKind) (o : Option Value) → ((value : Value) → (kind_of value ≡ k → ⊥) → f value ≡ None) → ((value : Value) → o ≡ Some value → kind_of value ≡ k → ⊥) → option_and_then f o ≡ None
 of_no_kind f k None others none = refl

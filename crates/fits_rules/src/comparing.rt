@@ -118,7 +118,6 @@ fn has_counts(shape: &Shape, leads: &ShapeLeads) -> bool
 /// are found by the caller.
 ///
 /// It takes no memory.
-#[tactic(auto, using(crate::proofs::CompareLemmas::shape_steps))]
 pub fn keeps_shape(cards: &mut CardList, shape: &Shape, change: &Change, leads: &ShapeLeads) -> bool
     requires in_range { IsInRange cards.old.header.cards change.now }
     requires leads { AreLeads (cards_after cards.old.header.cards change.now) leads.now }

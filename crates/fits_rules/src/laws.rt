@@ -1,6 +1,7 @@
 //! Laws of the definitions, each the contract of a function that does nothing.
-ghost use Rattle.std.specs.Prelude.{◌≡◌, ◌↔◌, ◌≤◌, ◌+◌, ℕ, Bool, List, length, Ok, Err};
+ghost use Rattle.std.specs.Prelude.{◌≡◌, ◌↔◌, ◌≤◌, ◌+◌, ℕ, ℤ, Bool, IsTrue, List, length, Ok, Err};
 ghost use Rattle.fits_rules.specs.Class.{is_primary};
+ghost use Rattle.fits_rules.specs.Denotes.{CardDenotes, LeadDenotes, card_says_number, lead_says_number};
 ghost use Rattle.fits_rules.specs.SameShape.{ComparesExactly, LaterSplicesKeepShapes};
 ghost use Rattle.fits_rules.specs.Shape.{shape_of, IsBounded, Describes};
 ghost use Rattle.fits_rules.specs.declared.array_shape.Shape.{Shape};
@@ -41,4 +42,12 @@ pub fn shapes_are_described()
 /// GCOUNT.
 pub fn later_splices_keep_shapes()
     ensures { LaterSplicesKeepShapes }
+{}
+
+/// Which numbers a card and the lead of a name denote, as functions.
+pub fn which_numbers_cards_denote()
+    ensures card { (card : List ℕ) (n : ℤ)
+        → IsTrue (card_says_number card n) ↔ CardDenotes card n }
+    ensures lead { (cards : List (List ℕ)) (name : List ℕ) (n : ℤ)
+        → IsTrue (lead_says_number cards name n) ↔ LeadDenotes cards name n }
 {}

@@ -29,7 +29,7 @@ pub use image::image_bits;
 pub use integers::{IntegerSaid, integer_said};
 pub use laws::{
     broken_places_are_near, classes_tell_the_primary_hdu, later_splices_keep_shapes,
-    shapes_are_bounded, shapes_are_described, shapes_compare_exactly,
+    shapes_are_bounded, shapes_are_described, shapes_compare_exactly, which_numbers_cards_denote,
 };
 pub use leads::{lead, lead_card};
 pub use mandatory::{ShapeFault, shape};

@@ -78,7 +78,6 @@ fn read_array(
 }
 
 // PCOUNT and GCOUNT, or the first lead of theirs that breaks its rule.
-#[tactic(auto, using(crate::proofs::PartLemmas::count_steps))]
 fn read_counts(cards: &mut CardList, change: &Change, class: Class) -> Result<Counts, usize>
     requires { IsInRange cards.old.header.cards change.now }
     ensures value { result ≡ counts_of class (cards_after cards.old.header.cards change.now) }
@@ -91,7 +90,6 @@ fn read_counts(cards: &mut CardList, change: &Change, class: Class) -> Result<Co
 }
 
 /// The shape, or the first place that breaks a rule.
-#[tactic(auto, using(crate::proofs::PartLemmas::shape_steps))]
 pub(crate) fn read_shape(
     cards: &mut CardList,
     change: &Change,

@@ -16,7 +16,6 @@ use fits_card::Card;
 use fits_value::{CardString, ValueKind, card_string, scan_card};
 
 /// The bytes of the card's value, where it has one of this kind.
-#[tactic(auto, using(crate::proofs::ReadLemmas::spelling_steps))]
 pub(crate) fn spelling(card: &Card, kind: ValueKind) -> Option<&[u8]>
     ensures found { IfSome result (λ spelling. value_said card.now ≡
         value_spelled kind spelling.now) }
