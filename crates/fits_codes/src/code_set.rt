@@ -6,7 +6,8 @@ use std::marker::Model;
 /// The most codes that one card or one header can have.
 const MOST_CODES: usize = 13;
 
-/// The codes of a card, or of a header as a whole. Contracts see them as a list, by number.
+/// The codes of a card, or of a header or an HDU as a whole. Contracts see them as a list, by
+/// number.
 #[derive(Clone, Copy)]
 pub struct CodeSet {
     // The first code of all fills the places after the codes.
@@ -54,7 +55,7 @@ impl CodeSet {
     }
 
     /// Puts a code after the others.
-    pub(crate) fn push(&mut self, code: Code)
+    pub fn push(&mut self, code: Code)
         requires { length self.old < 13 }
         ensures { self.new ≡ self.old ++ code ∷ [] }
     {
