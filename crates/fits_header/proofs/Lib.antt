@@ -20,3 +20,4 @@ pub mod RepeatLemmas
 pub mod SurroundingLemmas
 pub mod MarkedLinkLemmas
 pub mod FindingLemmas
+pub mod TotalLemmas

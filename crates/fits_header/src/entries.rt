@@ -48,7 +48,7 @@ pub(crate) fn place_for(entries: &[Entry], name: u64, place: usize) -> usize
     })
 }
 
-/// Takes the entries of places out, and shifts those behind, for as many as come. No entry has a
+/// Takes the entries of places out, and shifts the later ones, for as many as come. No entry has a
 /// place after the last one.
 ///
 /// Cards that come after all others leave the entries as they are.
@@ -73,7 +73,7 @@ pub(crate) fn make_way(
     take_out(entries, place, removed, coming);
 }
 
-/// Takes the entries of places out, and shifts those behind, for as many as come.
+/// Takes the entries of places out, and shifts the later ones, for as many as come.
 pub(crate) fn take_out(entries: &mut Vec<Entry>, place: usize, removed: usize, coming: usize)
     requires sorted { IsSortedIndex entries.old.items }
     requires low { All (λ e. e.place + coming < 2 ^ 64 + removed) entries.old.items }

@@ -9,12 +9,13 @@ use crate::findings::{codes_at, findings_of, is_link};
 use crate::header_marks::header_mark_of;
 use crate::key_index::KeyIndex;
 use crate::leads::{lead_after, leads_after};
-use crate::marks::{change_marks, read_marks};
+use crate::marks::{change_marks, read_marks, total_in};
 use crate::surrounding::Surrounding;
 use crate::survey::{reserve_surroundings, survey};
 use fits_card::{Card, CardList, Change, Name, Sink};
 use fits_codes::{CodeSet, Mark, judge_header_mark};
 use fits_rules::{Shape, ShapeFault, keeps_shape, shape};
+use fits_sum::{card_total, words_total};
 use fits_value::{Text, Value, link_count, long_value};
 use std::alloc::{AllocError, Global};
 use std::io;
@@ -66,7 +67,7 @@ impl Model for Header {
 }
 
 impl Header {
-    ghost use Rattle.std.specs.Prelude.{◌≡◌, ◌≤◌, ◌<◌, ◌+◌, ◌-◌, ◌*◌, ◌^◌, List, ℕ, Ok, IsOk, IfOk, IfErr, OnOk, OnErr, IsTrue, None, false, length, slice_index_or, All};
+    ghost use Rattle.std.specs.Prelude.{◌≡◌, ◌≤◌, ◌<◌, ◌+◌, ◌-◌, ◌*◌, ◌/◌, ◌^◌, List, ℕ, Ok, IsOk, IfOk, IfErr, OnOk, OnErr, IsTrue, None, false, length, slice_index_or, All};
     ghost use Rattle.std.specs.Io.KnownBytes.{Appends};
     ghost use Rattle.fits_card.specs.Card.{IsEnd};
     ghost use Rattle.fits_card.specs.Change.{cards_after, new_cards, IsInRange};
@@ -84,6 +85,7 @@ impl Header {
     ghost use Rattle.fits_header.specs.Places.{keyword_places};
     ghost use Rattle.fits_header.specs.State.{ReadsUpTo, still_describes};
     ghost use Rattle.fits_header.specs.Work.{judge_reads, shape_reads};
+    ghost use Rattle.fits_sum.specs.Words.{word_total};
 
     /// The header that has these cards, which describe this shape. Each card is read once.
     #[tactic(auto, using(crate::proofs::MarksLemmas::key_steps))]
@@ -134,6 +136,22 @@ impl Header {
         ensures { result ≡ length (header_bytes self.now.header) }
     {
         self.cards.byte_len()
+    }
+
+    /// The total of its words, with END and the fill (FITS Standard 4.0, Appendix J).
+    ///
+    /// It takes no memory, and reads no card.
+    #[tactic(auto, using(crate::proofs::TotalLemmas::header_steps))]
+    pub fn total(&self) -> u64
+        requires { length (header_bytes self.now.header) ≤ 2 ^ 34 }
+        ensures value { result ≡ word_total (header_bytes self.now.header) }
+        ensures within { result ≤ 4294967295 * (length (header_bytes self.now.header) / 4) }
+    {
+        // So few cards have a total that 64 bits hold.
+        let _few = self.cards.len();
+        let end = card_total(&self.cards.end().0);
+        let fill = words_total(self.cards.fill());
+        total_in(&self.marks) + end + fill
     }
 
     /// The card at a place. The read is counted.

@@ -60,7 +60,7 @@ pub(crate) fn leads_after(cards: &mut CardList, index: &KeyIndex, change: &Chang
     }
 }
 
-// The lead after a splice: among the cards before it, then the new ones, then those behind.
+// The lead after a splice: among the cards before it, then the new ones, then those after it.
 #[tactic(auto, using(crate::proofs::TurnLemmas::splice_steps))]
 fn lead_spliced(
     cards: &mut CardList,

@@ -1,8 +1,8 @@
 //! The marks of cards, read once, and under changes of the cards.
-ghost use Rattle.std.specs.Prelude.{◌≡◌, ◌≤◌, ◌+◌, ◌-◌, IfOk, length, vec_len, vec_capacity};
+ghost use Rattle.std.specs.Prelude.{◌≡◌, ◌≤◌, ◌+◌, ◌-◌, ◌*◌, ◌^◌, IfOk, length, vec_len, vec_capacity};
 ghost use Rattle.fits_card.specs.CardList.{ReadsUpTo};
 ghost use Rattle.fits_card.specs.Change.{cards_after, spliced, IsInRange};
-ghost use Rattle.fits_header.specs.Marks.{keys_in, marks_of};
+ghost use Rattle.fits_header.specs.Marks.{keys_in, marks_of, total_in};
 
 use crate::key::Key;
 use fits_card::{Card, CardList, Change, make_room, move_item};
@@ -34,6 +34,20 @@ pub(crate) fn keys_in(alloc: Global, marks: &[Mark]) -> Result<Vec<Key>, AllocEr
         })?;
     }
     Ok(keys)
+}
+
+/// The totals of marks, added up.
+#[tactic(auto, using(crate::proofs::TotalLemmas::total_steps))]
+pub(crate) fn total_in(marks: &[Mark]) -> u64
+    requires { 20 * length marks.now ≤ 2 ^ 32 }
+    ensures value { result ≡ total_in marks.now }
+    ensures within { result ≤ 4294967295 * (20 * length marks.now) }
+{
+    let mut total = 0u64;
+    for mark in marks {
+        total += mark.total.number();
+    }
+    total
 }
 
 /// Makes a change of marks, as of the cards, in reserved room.
