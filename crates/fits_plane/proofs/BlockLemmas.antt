@@ -48,7 +48,7 @@ any_found p a (suc n) h = found_case p a n (p a) refl (any_found p (a + 1) n) h
 -- ---- counts over a range
 
 -- a range of two runs
-range-append : (a m n : ℕ) → range_with_len a (m + n) ≡ range_with_len a m ++ range_with_len (a + m) n
+pub range-append : (a m n : ℕ) → range_with_len a (m + n) ≡ range_with_len a m ++ range_with_len (a + m) n
 range-append a zero n = let e : a + 0 ≡ a = omega arith in let z : 0 + n ≡ n = omega arith in ap (range_with_len a) z ∙ ap (λ k. range_with_len k n) (sym e)
 range-append a (suc m) n =
     let ih = range-append (a + 1) m n in

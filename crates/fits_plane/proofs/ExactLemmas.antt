@@ -23,7 +23,7 @@ sum_case true x ds n p h = omega (arith, h)
 sum_case false x ds n p h = omega (arith, h, p, abs_add x (sum_of ds))
 
 -- the sum of n numbers has at most n times 2^63
-sum_bound : (blank : Option ℤ) (xs : List ℤ) → AllFit64 xs → unsigned_abs (sum_of (defined_numbers blank xs)) ≤ 2 ^ 63 * length xs
+pub sum_bound : (blank : Option ℤ) (xs : List ℤ) → AllFit64 xs → unsigned_abs (sum_of (defined_numbers blank xs)) ≤ 2 ^ 63 * length xs
 sum_bound blank [] f = omega arith
 sum_bound blank (x ∷ xs) f = sum_case (is_blank blank x) x (defined_numbers blank xs) (length xs) (small x f.0) (sum_bound blank xs f.1)
 
@@ -52,7 +52,7 @@ one_more true x ds bs d e s t = same_pixels _ _ _ _ _ _ _ _ _ _ (same_count (len
 one_more false x ds bs d e s t = same_pixels _ _ _ _ _ _ _ _ _ _ (counted (length ds) (omega arith)) (same_count (length bs) (omega arith)) refl refl (int_wrap_fits w128 (x +ℤ sum_of ds) (fits_sum _ t))
 
 -- a filter leaves no more than there was
-short : {X : Type 0} (p : X → Bool) (xs : List X) → length (filter p xs) ≤ length xs
+pub short : {X : Type 0} (p : X → Bool) (xs : List X) → length (filter p xs) ≤ length xs
 short p xs = omega (arith, length-filter p xs, count_by-le-length p xs)
 
 -- number by number nothing is lost

@@ -9,9 +9,14 @@ pub mod PlaceLemmas
 pub mod PlaneLemmas
 pub mod PlantLemmas
 pub mod PowerLemmas
+pub mod ReadLemmas
+pub mod RectangleLemmas
 pub mod RowLemmas
 pub mod RunLemmas
 pub mod ScanLemmas
+pub mod TestLemmas
 pub mod TreeLemmas
 pub mod TurnLemmas
+pub mod ValueLemmas
 pub mod WriteLemmas
+pub mod ZeroLemmas

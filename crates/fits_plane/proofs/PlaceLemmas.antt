@@ -16,11 +16,11 @@ number (a ∷ axs) (l ∷ ls) (h ∷ hs) i = (i % a + 1 - l) + (h + 1 - l) * num
 number _ _ _ i = 0
 
 -- the remainder of c + a * q
-rem_at : (c a q : ℕ) → c < a → (c + a * q) % a ≡ c
+pub rem_at : (c a q : ℕ) → c < a → (c + a * q) % a ≡ c
 rem_at c a q h = add-mul-mod_self_left c a q ∙ mod-eq_of_lt h
 
 -- the quotient of c + a * q
-quot_at : (c a q : ℕ) → c < a → (c + a * q) / a ≡ q
+pub quot_at : (c a q : ℕ) → c < a → (c + a * q) / a ≡ q
 quot_at c a q h = add-mul-div_left c q (omega arith) ∙ ap (λ n. n + q) (div-eq_of_lt h) ∙ omega arith
 
 -- a quotient is below its part of the product
@@ -211,3 +211,26 @@ number_grows axs ls hs i j r b w p q =
     let e : i + 1 + (j - (i + 1)) ≡ j = omega arith in
     let last : before axs ls hs (i + 1 + (j - (i + 1))) ≡ before axs ls hs j = ap (before axs ls hs) e in
     omega (arith, more, here, up, last, before-number axs ls hs i r (omega arith) p, before-number axs ls hs j r w q)
+
+-- nor before the first coordinate of a row
+no_more : (l n g : ℕ) (b : Bool) → 1 ≤ l → n * g + cond b (min (0 + 1 - l) n) 0 ≡ n * g
+no_more l n g true h = grind arith
+no_more l n g false h = grind arith
+
+-- before the end of the image stand all
+before-all : (axs ls hs : List ℕ) → IsRectangle axs ls hs → before axs ls hs (product axs) ≡ rectangle_size ls hs
+before-all [] [] [] r = refl
+before-all (a ∷ axs) (l ∷ ls) (h ∷ hs) r =
+    let some : 0 < a = omega (arith, r.0, r.1, r.2) in
+    let turn : a * product axs ≡ 0 + a * product axs = omega arith in
+    let rem : a * product axs % a ≡ 0 = ap (λ m. m % a) turn ∙ rem_at 0 a (product axs) some in
+    let quot : a * product axs / a ≡ product axs = ap (λ m. m / a) turn ∙ quot_at 0 a (product axs) some in
+    rw (rem, quot, before-all axs ls hs r.3) (no_more l (h + 1 - l) (rectangle_size ls hs) (is_inside axs ls hs (product axs)) r.0)
+before-all _ _ _ r = elim r [ ]
+
+-- the rank of the end is the size
+pub rank-all : (axs ls hs : List ℕ) → IsRectangle axs ls hs → rank axs ls hs (product axs) ≡ rectangle_size ls hs
+rank-all axs ls hs r =
+    let all = before-range axs ls hs 0 (product axs) r in
+    let start = before-none axs ls hs r in
+    omega (arith, all, start, before-all axs ls hs r, ap (before axs ls hs) (let z : 0 + product axs ≡ product axs = omega arith in z))

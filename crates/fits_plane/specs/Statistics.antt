@@ -1,7 +1,9 @@
 -- The statistics of a list of stored numbers (own; undefined pixels by FITS Standard 4.0, 4.4.2.5).
-use Rattle.std.specs.Prelude.{◌≡◌, ◌<◌, ◌^◌, ℤ, pos, ◌+ℤ◌, Bool, false, not, ◌&&◌, Option, Some, None, List, [], ◌∷◌, length, filter, map, int_lt, FitsSigned, if◌then◌else◌}
+use Rattle.std.specs.Prelude.{◌≡◌, ◌<◌, ◌^◌, ℤ, pos, ◌+ℤ◌, ◌*ℤ◌, Bool, false, not, ◌&&◌, Option, Some, None, List, [], ◌∷◌, length, filter, map, int_lt, FitsSigned, if◌then◌else◌}
 use Rattle.std.specs.Int.{w64}
+use Rattle.std.specs.Option.{option_map}
 use Rattle.fits_plane.specs.declared.pixel_summary.PixelSummary.{PixelSummary}
+use Rattle.fits_plane.specs.declared.value_summary.ValueSummary.{ValueSummary}
 use Rattle.fits_plane.specs.Summary.{all_joined, pixel_unit, pixels_joined, lesser, greater}
 
 -- is this stored number the one that BLANK names?
@@ -54,3 +56,30 @@ AllFit64 (x ∷ xs) = FitsSigned w64 x × AllFit64 xs
 abbrev pub JoinedIsExact : Type 0
 JoinedIsExact = (blank : Option ℤ) (xs : List ℤ) → AllFit64 xs → length xs < 2 ^ 62
     → all_joined pixel_unit pixels_joined (map (number_summary blank) xs) ≡ statistics blank xs
+
+-- the statistics of the values of stored numbers, each the number and the offset (4.4.2.5): those that
+-- BLANK names are counted alone
+abbrev pub value_statistics : ℤ → Option ℤ → List ℤ → ValueSummary
+value_statistics offset blank xs =
+    let vs = map (λ x. x +ℤ offset) (defined_numbers blank xs) in record {
+      defined = length vs;
+      blank = length (filter (is_blank blank) xs);
+      least = least_of vs;
+      greatest = greatest_of vs;
+      sum = sum_of vs;
+    }
+
+-- the summary of numbers, as that of each and the offset
+abbrev pub summary_with : ℤ → PixelSummary → ValueSummary
+summary_with offset s = record {
+  defined = s.defined;
+  blank = s.blank;
+  least = option_map (λ x. x +ℤ offset) s.least;
+  greatest = option_map (λ x. x +ℤ offset) s.greatest;
+  sum = s.sum +ℤ pos s.defined *ℤ offset;
+}
+
+-- the statistics of numbers give those of their values
+abbrev pub OffsetIsExact : Type 0
+OffsetIsExact = (offset : ℤ) (blank : Option ℤ) (xs : List ℤ)
+    → summary_with offset (statistics blank xs) ≡ value_statistics offset blank xs

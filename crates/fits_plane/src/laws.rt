@@ -1,7 +1,32 @@
-//! What stands of summaries whatever they are joined from, as contracts.
-ghost use Rattle.fits_plane.specs.Statistics.{JoinedIsExact};
+//! What stands of rectangles whatever is written, of tests whatever they are of, and of summaries
+//! whatever they are joined from, as contracts.
+ghost use Rattle.fits_plane.specs.Pixels.{CanStoreDecides, CanStoreAllDecides};
+ghost use Rattle.fits_plane.specs.Rectangle.{LiesWithinDecides, RectangleIsWritten, WrittenIsRectangle};
+ghost use Rattle.fits_plane.specs.Statistics.{JoinedIsExact, OffsetIsExact};
+
+/// A rectangle of numbers is written.
+pub fn rectangles_are_written()
+    ensures { RectangleIsWritten }
+{}
+
+/// It is written in one way.
+pub fn rectangles_are_written_in_one_way()
+    ensures { WrittenIsRectangle }
+{}
 
 /// The summaries of single pixels, fewer than 2^62, are joined to their statistics.
 pub fn summaries_join_exactly()
     ensures { JoinedIsExact }
+{}
+
+/// The tests of rectangles and of numbers say what they ask.
+pub fn tests_decide()
+    ensures lies_within { LiesWithinDecides }
+    ensures can_store { CanStoreDecides }
+    ensures can_store_all { CanStoreAllDecides }
+{}
+
+/// The statistics of stored numbers give those of their values.
+pub fn offsets_are_exact()
+    ensures { OffsetIsExact }
 {}

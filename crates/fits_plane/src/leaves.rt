@@ -1,5 +1,5 @@
 //! The leaves of a data unit's tree: its blocks, each scanned once.
-ghost use Rattle.std.specs.Prelude.{◌≡◌, ◌≤◌, ◌<◌, ◌*◌, ◌+◌, ◌-◌, ◌^◌, ◌⊎◌, ℕ, false, length, slice_index_or, IfOk, OnOk};
+ghost use Rattle.std.specs.Prelude.{◌≡◌, ◌≤◌, ◌<◌, ◌*◌, ◌+◌, ◌-◌, ◌/◌, ◌^◌, ◌⊎◌, ℕ, false, length, replicate, slice_index_or, IfOk, OnOk};
 ghost use Rattle.fits_sum.specs.Words.{word_total};
 ghost use Rattle.fits_plane.specs.Summary.{PixelFits, WordFits, HalvesFit};
 ghost use Rattle.fits_plane.specs.Statistics.{statistics};
@@ -37,6 +37,47 @@ pub(crate) fn leaves_of(
         leaves.push(scan_block(bytes, layout, k, scans))?;
     }
     Ok(leaves)
+}
+
+/// The summaries of all blocks, where each byte is zero. Blocks that are full of pixels are all the
+/// same, so one of them is scanned.
+pub(crate) fn zero_leaves(
+    alloc: Global,
+    bytes: &[u8],
+    layout: Layout,
+    blocks: usize,
+    scans: &mut Count,
+) -> Result<Vec<Leaf>, AllocError>
+    requires layout { IsLayout layout bytes.now }
+    requires whole { length bytes.now ≡ 2880 * blocks }
+    requires zeros { bytes.now ≡ replicate (length bytes.now) 0 }
+    ensures long { IfOk result (λ v. length v.items ≡ blocks) }
+    ensures right { IfOk result (λ v. AreLeaves layout bytes.now v.items) }
+    ensures fit { IfOk result (λ v. (k : ℕ) → k < blocks
+        → HalvesFit PixelFits WordFits (slice_index_or v.items k leaf_unit)) }
+    ensures work { OnOk result (scans.new.total ≤ scans.old.total + blocks) }
+{
+    let full = full_blocks(layout);
+    let mut leaves = Vec::with_capacity(alloc, blocks)?;
+    for k in 0..blocks {
+        let leaf = if 0 < k && k < full {
+            leaves[0]
+        } else {
+            scan_block(bytes, layout, k, scans)
+        };
+        leaves.push(leaf)?;
+    }
+    Ok(leaves)
+}
+
+/// How many blocks are full of pixels.
+fn full_blocks(layout: Layout) -> usize
+    ensures { result ≡ layout.pixels / block_pixels layout.width }
+{
+    layout
+        .pixels
+        .checked_div(pixels_per_block(layout.width))
+        .unwrap_or(0)
 }
 
 /// Scans the blocks of a range.

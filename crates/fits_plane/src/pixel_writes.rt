@@ -2,9 +2,9 @@
 ghost use Rattle.std.specs.Prelude.{◌≡◌, ◌≤◌, ◌<◌, ◌*◌, ◌+◌, ◌-ℤ◌, ◌^◌, ◌⊎◌, ℕ, pos, length, slice_index, slice_index_or, FitsSigned};
 ghost use Rattle.std.specs.Int.{w64};
 ghost use Rattle.fits_plane.specs.Pixels.{pixel, IsWidth, IsStorable};
-ghost use Rattle.fits_plane.specs.Rectangle.{IsRectangle, IsWritten, product, rectangle_size};
+ghost use Rattle.fits_plane.specs.Rectangle.{IsRectangle, IsWritten, product, rectangle_size, rectangle_written};
 
-use crate::pixels::put_pixel;
+use crate::pixels::{put_pixel, read_bytes};
 use crate::rectangle::{row_len, row_start, rows};
 
 /// Writes one number over a run of pixels.
@@ -61,13 +61,16 @@ pub(crate) fn fill_rows(
     requires room { product axes.now * width ≤ length bytes.old }
     requires small { product axes.now < 2 ^ 62 }
     requires storable { IsStorable width stored }
-    ensures { IsWritten width axes.now lo.now hi.now (λ k. stored) bytes.old bytes.new }
+    ensures written { IsWritten width axes.now lo.now hi.now (λ k. stored) bytes.old bytes.new }
+    ensures value { bytes.new
+        ≡ rectangle_written width axes.now lo.now hi.now (λ k. stored) bytes.old }
 {
     let side = row_len(axes, lo, hi) as usize;
     for row in 0..rows(axes, lo, hi) {
         let start = row_start(axes, lo, hi, row);
         fill_row(bytes, width, start, side, stored);
     }
+    read_bytes(bytes);
 }
 
 /// Writes values less the offset over a rectangle in file order, row by row.
@@ -87,8 +90,10 @@ pub(crate) fn write_rows(
     requires count { length values.now ≡ rectangle_size lo.now hi.now }
     requires storable { (k : ℕ) → k < length values.now
         → IsStorable width (slice_index_or values.now k (pos 0) -ℤ offset) }
-    ensures { IsWritten width axes.now lo.now hi.now
+    ensures written { IsWritten width axes.now lo.now hi.now
         (λ k. slice_index_or values.now k (pos 0) -ℤ offset) bytes.old bytes.new }
+    ensures value { bytes.new ≡ rectangle_written width axes.now lo.now hi.now
+        (λ k. slice_index_or values.now k (pos 0) -ℤ offset) bytes.old }
 {
     let side = row_len(axes, lo, hi) as usize;
     for row in 0..rows(axes, lo, hi) {
@@ -96,4 +101,5 @@ pub(crate) fn write_rows(
         let at = row as usize * side;
         write_row(bytes, width, start, &values[at..at + side], offset);
     }
+    read_bytes(bytes);
 }

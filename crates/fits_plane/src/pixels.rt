@@ -1,13 +1,14 @@
 //! One pixel, read and written in a list of bytes.
 ghost use Rattle.std.specs.Prelude.{◌≡◌, ◌≤◌, ◌<◌, ◌*◌, ◌+◌, ◌-ℤ◌, ◌⊎◌, ◌↔◌, ℕ, pos, IsTrue, length, slice_index, slice_index_or};
-ghost use Rattle.fits_plane.specs.Pixels.{pixel, IsWidth, IsStorable};
+ghost use Rattle.fits_plane.specs.Pixels.{pixel, IsWidth, IsStorable, can_store, AreStorable, can_store_all};
 
 use byteorder::{BigEndian, ByteOrder};
 
 /// Whether pixels of so many bytes can store a number.
 pub fn is_storable(width: usize, number: i128) -> bool
     requires { IsWidth width }
-    ensures { IsTrue result ↔ IsStorable width number }
+    ensures means { IsTrue result ↔ IsStorable width number }
+    ensures value { result ≡ can_store width number }
 {
     match width {
         1 => u8::try_from(number).is_ok(),
@@ -31,8 +32,8 @@ fn stores(width: usize, value: i128, offset: i128) -> bool
 /// Whether they can store each of these values less the offset.
 pub fn are_storable(width: usize, values: &[i128], offset: i128) -> bool
     requires { IsWidth width }
-    ensures { IsTrue result ↔ ((k : ℕ) → k < length values.now
-        → IsStorable width (slice_index_or values.now k (pos 0) -ℤ offset)) }
+    ensures means { IsTrue result ↔ AreStorable width offset values.now }
+    ensures value { result ≡ can_store_all width offset values.now }
 {
     for i in 0..values.len() {
         if !stores(width, values[i], offset) {
@@ -74,4 +75,11 @@ pub(crate) fn put_pixel(bytes: &mut [u8], width: usize, i: usize, stored: i64)
         4 => BigEndian::write_int(pixel, stored, 4),
         _ => BigEndian::write_int(pixel, stored, 8),
     }
+}
+
+/// That each is below 256, which contracts are told of bytes where a body reads them.
+pub(crate) fn read_bytes(bytes: &[u8])
+    ensures { (k : ℕ) → slice_index bytes.now k < 256 }
+{
+    let _first = bytes.first();
 }

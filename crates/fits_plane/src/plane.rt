@@ -1,10 +1,15 @@
+ghost use Rattle.std.specs.Prelude.{◌≡◌, replicate, IfOk};
+
 use crate::layout::Layout;
-use crate::leaves::{leaves_of, refresh_rows, root_of};
+use crate::leaves::{leaves_of, refresh_rows, root_of, zero_leaves};
+use crate::pixel_reads::read_rows;
 use crate::pixel_summary::PixelSummary;
 use crate::pixel_writes::{fill_rows, write_rows};
-use crate::pixels::pixel_at;
+use crate::pixels::{pixel_at, read_bytes};
+use crate::rectangle::rectangle_len;
 use crate::scan::Leaf;
 use crate::tree::Tree;
+use crate::value_summary::ValueSummary;
 use fits_card::{BLOCK_LEN, Count, Sink, write_all};
 use fits_sum::all_are;
 use std::alloc::{AllocError, Global};
@@ -48,13 +53,13 @@ impl Model for Plane {
 }
 
 impl Plane {
-    ghost use Rattle.std.specs.Prelude.{◌≡◌, ◌≤◌, ◌<◌, ◌*◌, ◌+◌, ◌-ℤ◌, ◌^◌, ◌↔◌, ℕ, pos, drop, length, slice_index_or, All, IsTrue, IfOk, OnOk, OnErr};
+    ghost use Rattle.std.specs.Prelude.{◌≡◌, ◌≤◌, ◌<◌, ◌*◌, ◌+◌, ◌-ℤ◌, ◌^◌, ◌↔◌, ℕ, pos, drop, length, replicate, slice_index_or, unsigned_abs, All, IsTrue, IfOk, OnOk, OnErr};
     ghost use Rattle.std.specs.Io.KnownBytes.{Appends};
     ghost use Rattle.fits_card.specs.Stream.{AppendsFront};
     ghost use Rattle.fits_sum.specs.Words.{word_total};
-    ghost use Rattle.fits_plane.specs.Statistics.{statistics};
+    ghost use Rattle.fits_plane.specs.Statistics.{statistics, value_statistics};
     ghost use Rattle.fits_plane.specs.Pixels.{pixel, pixels, IsStorable};
-    ghost use Rattle.fits_plane.specs.Rectangle.{IsRectangle, IsWritten, product, rectangle_size};
+    ghost use Rattle.fits_plane.specs.Rectangle.{IsRectangle, product, rectangle_size, rectangle_values, rectangle_written};
     ghost use Rattle.fits_plane.specs.Layout.{IsLayout, block_count};
     ghost use Rattle.fits_plane.specs.Work.{rectangle_blocks};
 
@@ -85,6 +90,32 @@ impl Plane {
         let mut scans = Count::new();
         let blocks = bytes.len() / BLOCK_LEN;
         let leaves = leaves_of(alloc, bytes.as_slice(), layout, blocks, &mut scans)?;
+        let tree = Tree::open(alloc, leaves)?;
+        Ok(Plane {
+            bytes,
+            layout,
+            tree,
+            scans,
+            reads: Count::new(),
+        })
+    }
+
+    /// The data unit of so many bytes, each zero.
+    ///
+    /// Blocks that are full of pixels are all the same, so one of them is scanned.
+    pub fn zeroed(alloc: Global, len: usize, layout: Layout) -> Result<Plane, AllocError>
+        requires layout { IsLayout layout (replicate len 0) }
+        ensures bytes { IfOk result (λ p. p.bytes ≡ replicate len 0) }
+        ensures layout { IfOk result (λ p. p.layout ≡ layout) }
+        ensures scans { IfOk result (λ p. p.scans ≤ block_count (replicate len 0)) }
+        ensures reads { IfOk result (λ p. p.reads ≡ 0) }
+        ensures joins { IfOk result
+            (λ p. (d : ℕ) → block_count (replicate len 0) ≤ 2 ^ d → p.joins ≤ 2 ^ d) }
+    {
+        let mut scans = Count::new();
+        let bytes = zeros(alloc, len)?;
+        let blocks = bytes.len() / BLOCK_LEN;
+        let leaves = zero_leaves(alloc, bytes.as_slice(), layout, blocks, &mut scans)?;
         let tree = Tree::open(alloc, leaves)?;
         Ok(Plane {
             bytes,
@@ -127,6 +158,16 @@ impl Plane {
         root_of(&self.tree, self.bytes.as_slice(), self.layout).first
     }
 
+    /// The statistics of its values, each a stored number and the offset.
+    pub fn value_stats(&self, offset: i128) -> ValueSummary
+        requires { unsigned_abs offset ≤ 2 ^ 63 }
+        ensures { result ≡ value_statistics offset self.now.layout.blank
+            (pixels self.now.layout.width self.now.bytes 0 self.now.layout.pixels) }
+    {
+        read_bytes(self.bytes.as_slice());
+        self.stats().with_offset(offset)
+    }
+
     /// The total of its words, with the fill.
     pub fn total(&self) -> u64
         ensures { result ≡ word_total self.now.bytes }
@@ -151,8 +192,8 @@ impl Plane {
         requires storable { IsStorable self.old.layout.width stored }
 
         // Each pixel of the rectangle has the number, every other byte is as before.
-        ensures bytes { IsWritten self.old.layout.width axes.now lo.now hi.now (λ k. stored)
-            self.old.bytes self.new.bytes }
+        ensures bytes { self.new.bytes ≡ rectangle_written self.old.layout.width
+            axes.now lo.now hi.now (λ k. stored) self.old.bytes }
         ensures layout { self.new.layout ≡ self.old.layout }
 
         // Each block that holds a byte of it is scanned at most once. It takes no memory.
@@ -200,9 +241,9 @@ impl Plane {
             → IsStorable self.old.layout.width (slice_index_or values.now k (pos 0) -ℤ offset) }
 
         // Each pixel of the rectangle has the value of its rank, every other byte is as before.
-        ensures bytes { IsWritten self.old.layout.width axes.now lo.now hi.now
-            (λ k. slice_index_or values.now k (pos 0) -ℤ offset)
-            self.old.bytes self.new.bytes }
+        ensures bytes { self.new.bytes ≡ rectangle_written self.old.layout.width
+            axes.now lo.now hi.now (λ k. slice_index_or values.now k (pos 0) -ℤ offset)
+            self.old.bytes }
         ensures layout { self.new.layout ≡ self.old.layout }
 
         // Each block that holds a byte of it is scanned at most once. It takes no memory.
@@ -235,6 +276,42 @@ impl Plane {
         );
     }
 
+    /// The values of a rectangle in file order, each its stored number and the offset.
+    pub fn rect(
+        &mut self,
+        alloc: Global,
+        axes: &[u64],
+        lo: &[u64],
+        hi: &[u64],
+        offset: i128,
+    ) -> Result<Vec<i128>, AllocError>
+        requires rectangle { IsRectangle axes.now lo.now hi.now }
+        requires all { product axes.now ≡ self.old.layout.pixels }
+        requires offset { unsigned_abs offset ≤ 2 ^ 64 }
+        ensures value { IfOk result (λ v. v.items
+            ≡ rectangle_values self.old.layout.width self.old.bytes axes.now lo.now hi.now offset) }
+
+        // Each of its pixels is read once. The memory is had before any is.
+        ensures work { OnOk result (self.new
+            ≡ record self.old { reads = self.old.reads + rectangle_size lo.now hi.now }) }
+        ensures err { OnErr result (self.new ≡ self.old) }
+    {
+        let width = self.layout.width;
+        let size = rectangle_len(axes, lo, hi) as usize;
+        let mut values = Vec::with_capacity(alloc, size)?;
+        read_rows(
+            &mut values,
+            self.bytes.as_slice(),
+            width,
+            axes,
+            lo,
+            hi,
+            offset,
+            &mut self.reads,
+        );
+        Ok(values)
+    }
+
     /// Makes this the stored number of undefined pixels. It takes no memory.
     pub fn set_blank(&mut self, blank: Option<i64>)
         ensures bytes { self.new.bytes ≡ self.old.bytes }
@@ -263,4 +340,13 @@ impl Plane {
     {
         write_all(sink, self.bytes.as_slice())
     }
+}
+
+// So many zero bytes.
+fn zeros(alloc: Global, len: usize) -> Result<Vec<u8>, AllocError>
+    ensures { IfOk result (λ bytes. bytes.items ≡ replicate len 0) }
+{
+    let mut bytes = Vec::new(alloc);
+    bytes.resize(len, 0)?;
+    Ok(bytes)
 }

@@ -1,6 +1,6 @@
 //! Rectangles of pixels: how long they are, and where their rows begin.
 ghost use Rattle.std.specs.Prelude.{◌≡◌, ◌<◌, ◌+◌, ◌*◌, ◌^◌, ◌≤◌, ◌↔◌, IsTrue};
-ghost use Rattle.fits_plane.specs.Rectangle.{IsRectangle, product, rectangle_size, row_size, row_count, place};
+ghost use Rattle.fits_plane.specs.Rectangle.{IsRectangle, lies_within, product, rectangle_size, row_size, row_count, place};
 
 /// Whether two corners lie in one axis, in order.
 fn lie_in(axis: u64, low: u64, high: u64) -> bool
@@ -11,7 +11,8 @@ fn lie_in(axis: u64, low: u64, high: u64) -> bool
 
 /// Whether these corners, counted from 1, lie in the axes.
 pub fn is_rectangle(axes: &[u64], lo: &[u64], hi: &[u64]) -> bool
-    ensures { IsTrue result ↔ IsRectangle axes.now lo.now hi.now }
+    ensures means { IsTrue result ↔ IsRectangle axes.now lo.now hi.now }
+    ensures value { result ≡ lies_within axes.now lo.now hi.now }
 {
     if lo.len() != axes.len() || hi.len() != axes.len() {
         return false;

@@ -5,6 +5,7 @@ use Rattle.std.proofs.lemmas.Int.{to_z-of_z}
 use Rattle.fits_plane.specs.Pixels.{IsStorable}
 use Rattle.fits_plane.specs.Rectangle.{IsWritten}
 use Rattle.fits_plane.proofs.WriteLemmas.{rows_more, write_all, part_of, part_room}
+use Rattle.fits_plane.proofs.RectangleLemmas.{written_is}
 use Rattle.fits_plane.proofs.pixel_writes.write_rows.Goals as goal
 
 pub slice_bounds-write_row-end : goal.slice_bounds-write_row-end
@@ -33,7 +34,15 @@ loop-row-preserved c =
     (λ x b. e.inside x (omega (arith, b, part.long)) ∙ ap (λ v. v -ℤ to_z w128 (of_z w128 c.args.offset)) (part.is x b))
     (λ j away. e.outside j (subst (λ m. (j < c.row_start-start.result * c.args.width) ⊎ ((c.row_start-start.result + m) * c.args.width ≤ j)) (sym part.long) away))
 
-pub returns : goal.returns
-returns c =
+-- the rectangle that all rows make
+all : goal.returns-clause-written
+all c =
     subst (λ z. IsWritten c.args.width c.args.axes.now c.args.lo.now c.args.hi.now (λ k. get_or c.args.values.now k (pos 0) -ℤ z) c.args.bytes.now c.loop-row.bytes) (to_z-of_z w128 c.args.offset c.ranges.offset)
     (write_all c.args.width c.args.axes.now c.args.lo.now c.args.hi.now c.loop-row.row _ c.args.bytes.now c.loop-row.bytes c.requires.rectangle c.loop-row.invariant (omega (arith, c.loop-row-test.false, c.rows-row-end.ensures)))
+
+pub returns-clause-written : goal.returns-clause-written
+returns-clause-written c = all c
+
+pub returns-clause-value : goal.returns-clause-value
+returns-clause-value c =
+    written_is c.args.width c.args.axes.now c.args.lo.now c.args.hi.now (λ k. get_or c.args.values.now k (pos 0) -ℤ c.args.offset) c.args.bytes.now c.loop-row.bytes c.requires.width c.read_bytes.ensures (all c)

@@ -1,0 +1,44 @@
+use Rattle.std.proofs.Common.{◌≡◌, ◌≤◌, ◌+◌, ◌*◌, ◌++◌, ◌∙◌, ℕ, ℤ, to_z, of_z, ap, arith, subst}
+use Rattle.std.specs.Int.{w128}
+use Rattle.std.proofs.Math.Nat.{mul-le-mul_left}
+use Rattle.std.proofs.lemmas.Int.{to_z-of_z}
+use Rattle.fits_plane.specs.Rectangle.{row_size, row_count, rectangle_size, rectangle_values}
+use Rattle.fits_plane.proofs.ReadLemmas.{rows_read, all_read}
+use Rattle.fits_plane.proofs.RowLemmas.{rectangle_size-rows}
+use Rattle.fits_plane.proofs.pixel_reads.read_rows.Goals as goal
+
+pub read_row-requires-clause-room : goal.read_row-requires-clause-room
+read_row-requires-clause-room c =
+    let side : ℕ = row_size c.args.lo.now c.args.hi.now in
+    let below : c.loop-row.row + 1 ≤ row_count c.args.lo.now c.args.hi.now = omega (arith, c.loop-row-test.true, c.rows-row-end.ensures) in
+    let more = mul-le-mul_left side below in
+    let all = rectangle_size-rows c.args.lo.now c.args.hi.now in
+    let inv = c.loop-row.invariant in
+    let fits : (c.loop-row.row + 1) * side ≤ rectangle_size c.args.lo.now c.args.hi.now = omega (arith, more, all) in
+    omega (arith, inv.len, inv.room, c.requires.room, fits, c.row_len-side.ensures.value)
+
+pub loop-row-preserved : goal.loop-row-preserved
+loop-row-preserved c =
+    let offset : ℤ = to_z w128 (of_z w128 c.args.offset) in
+    let e = c.read_row.ensures in
+    let inv = c.loop-row.invariant in
+    record {
+      items = rows_read c.args.width c.args.bytes.now c.args.axes.now c.args.lo.now c.args.hi.now offset c.row_len-side.result c.rows-row-end.result c.loop-row.row c.row_start-start.result
+          c.args.values.now.items c.loop-row.values.items _ c.requires.rectangle c.row_len-side.ensures.value c.rows-row-end.ensures c.loop-row-test.true c.row_start-start.ensures.value inv.items e.items;
+      len = omega (arith, inv.len, e.len, c.row_len-side.ensures.value);
+      room = omega (arith, inv.room, e.room);
+      work = omega (arith, inv.work, e.work, c.row_len-side.ensures.value);
+    }
+
+pub returns-clause-items : goal.returns-clause-items
+returns-clause-items c =
+    let last : c.loop-row.row ≡ row_count c.args.lo.now c.args.hi.now = omega (arith, c.loop-row-test.false, c.loop-row.auto.row-end, c.rows-row-end.ensures) in
+    subst (λ z. c.loop-row.values.items ≡ c.args.values.now.items ++ rectangle_values c.args.width c.args.bytes.now c.args.axes.now c.args.lo.now c.args.hi.now z) (to_z-of_z w128 c.args.offset c.ranges.offset)
+    (all_read c.args.width c.args.bytes.now c.args.axes.now c.args.lo.now c.args.hi.now _ c.loop-row.row c.args.values.now.items c.loop-row.values.items c.requires.rectangle last c.loop-row.invariant.items)
+
+pub returns-clause-work : goal.returns-clause-work
+returns-clause-work c =
+    let last : c.loop-row.row ≡ row_count c.args.lo.now c.args.hi.now = omega (arith, c.loop-row-test.false, c.loop-row.auto.row-end, c.rows-row-end.ensures) in
+    let side : ℕ = row_size c.args.lo.now c.args.hi.now in
+    let all : c.loop-row.row * side ≡ rectangle_size c.args.lo.now c.args.hi.now = ap (λ m. m * side) last ∙ omega (arith, rectangle_size-rows c.args.lo.now c.args.hi.now) in
+    omega (arith, c.loop-row.invariant.work, all)

@@ -1,0 +1,82 @@
+//! Rectangles of pixels, read from the bytes of a data unit.
+ghost use Rattle.std.specs.Prelude.{◌≡◌, ◌≤◌, ◌<◌, ◌*◌, ◌+◌, ◌+ℤ◌, ◌^◌, ◌++◌, [], ◌∷◌, length, map, unsigned_abs, vec_len, vec_capacity};
+ghost use Rattle.std.specs.List.{range_with_len};
+ghost use Rattle.fits_plane.specs.Pixels.{IsWidth};
+ghost use Rattle.fits_plane.specs.Rectangle.{IsRectangle, product, rectangle_size, value_at, rectangle_values};
+
+use crate::pixels::pixel_at;
+use crate::rectangle::{row_len, row_start, rows};
+use fits_card::Count;
+
+/// The value of a stored number.
+fn value_of(stored: i64, offset: i128) -> i128
+    requires { unsigned_abs offset ≤ 2 ^ 64 }
+    ensures { result ≡ stored +ℤ offset }
+{
+    stored as i128 + offset
+}
+
+/// Puts a value after the others, in room that is reserved.
+fn put_value(values: &mut Vec<i128>, value: i128)
+    requires { vec_len values.old < vec_capacity values.old }
+    ensures items { values.new.items ≡ values.old.items ++ value ∷ [] }
+    ensures len { vec_len values.new ≡ vec_len values.old + 1 }
+    ensures room { vec_capacity values.old ≤ vec_capacity values.new }
+{
+    let _ = values.push(value);
+}
+
+/// Reads a run of pixels into room that is reserved, each with the offset.
+fn read_row(
+    values: &mut Vec<i128>,
+    bytes: &[u8],
+    width: usize,
+    start: usize,
+    count: usize,
+    offset: i128,
+    reads: &mut Count,
+)
+    requires width { IsWidth width }
+    requires within { (start + count) * width ≤ length bytes.now }
+    requires offset { unsigned_abs offset ≤ 2 ^ 64 }
+    requires room { vec_len values.old + count ≤ vec_capacity values.old }
+    ensures items { values.new.items ≡ values.old.items
+        ++ map (value_at width bytes.now offset) (range_with_len start count) }
+    ensures len { vec_len values.new ≡ vec_len values.old + count }
+    ensures room { vec_capacity values.old ≤ vec_capacity values.new }
+    ensures work { reads.new.total ≡ reads.old.total + count }
+{
+    for x in 0..count {
+        let value = value_of(pixel_at(bytes, width, start + x), offset);
+        reads.tick();
+        put_value(values, value);
+    }
+}
+
+/// Reads a rectangle into room that is reserved, row by row, each pixel with the offset.
+pub(crate) fn read_rows(
+    values: &mut Vec<i128>,
+    bytes: &[u8],
+    width: usize,
+    axes: &[u64],
+    lo: &[u64],
+    hi: &[u64],
+    offset: i128,
+    reads: &mut Count,
+)
+    requires width { IsWidth width }
+    requires rectangle { IsRectangle axes.now lo.now hi.now }
+    requires within { product axes.now * width ≤ length bytes.now }
+    requires small { product axes.now < 2 ^ 62 }
+    requires offset { unsigned_abs offset ≤ 2 ^ 64 }
+    requires room { vec_len values.old + rectangle_size lo.now hi.now ≤ vec_capacity values.old }
+    ensures items { values.new.items ≡ values.old.items
+        ++ rectangle_values width bytes.now axes.now lo.now hi.now offset }
+    ensures work { reads.new.total ≡ reads.old.total + rectangle_size lo.now hi.now }
+{
+    let side = row_len(axes, lo, hi) as usize;
+    for row in 0..rows(axes, lo, hi) {
+        let start = row_start(axes, lo, hi, row);
+        read_row(values, bytes, width, start, side, offset, reads);
+    }
+}
