@@ -13,6 +13,7 @@ use Rattle.fits_rules.specs.declared.array_shape.Shape.{Shape}
 use Rattle.fits_rules.proofs.SameShapeLemmas.{same_shape-Decides}
 use Rattle.fits_header.specs.State.{still_describes}
 use Rattle.fits_hdu.specs.Hdu.{HduParts, IsHdu, hdu_after, keeps_shape}
+use Rattle.fits_hdu.proofs.LayoutLemmas.{layout_kept}
 
 -- cards before END are left where such ones are put in
 pub inner_after : (cards : List (List ℕ)) (change : Change) → All IsInnerCard cards → All IsInnerCard (new_cards change) → All IsInnerCard (cards_after cards change)
@@ -39,4 +40,4 @@ pub kept_shape : (before after : List (List ℕ)) (shape : Shape) → shape_of (
 unfolding still_describes
 kept_shape before after shape e kept = (same_shape-Decides shape (shape_of (is_primary shape.class) after)).0 (kept_value before after shape e ∙ kept)
 
-pub ruleset kept_steps = (kept_value, kept_shape)
+pub ruleset kept_steps = (kept_value, kept_shape, layout_kept)

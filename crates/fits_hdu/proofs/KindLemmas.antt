@@ -1,45 +1,84 @@
 -- The kind of an image.
-use Rattle.std.proofs.Common.{◌≡◌, inl, inr, ℕ, Bool, true, false, pos, List, refl, sym, ◌∙◌, Option, None, Some}
-use Rattle.std.specs.Prelude.{IsTrue, ◌↔◌, codes}
-use Rattle.fits_rules.specs.Denotes.{CardDenotes}
+use Rattle.std.proofs.Common.{◌≡◌, inl, inr, ℕ, true, ℤ, pos, List, refl, sym, ap, ◌∙◌, Option, None, Some}
+use Rattle.std.specs.Prelude.{IsTrue, ◌↔◌, is_none, codes, IfSome, IfNone}
+use Rattle.std.specs.Cmp.{both_ways}
+use Rattle.std.specs.Option.{option_map}
+use Rattle.std.proofs.lemmas.Bool.{false≢true, and_parts, and_from, or_cases, or_left, or_right}
+use Rattle.fits_rules.specs.Denotes.{lead_says_number}
+use Rattle.fits_rules.specs.Image.{image_bits}
 use Rattle.fits_rules.specs.Lead.{lead_card}
 use Rattle.fits_rules.specs.declared.array_shape.Shape.{Shape}
-use Rattle.fits_rules.proofs.DenotesLemmas.{lead_here}
+use Rattle.fits_rules.proofs.DenotesLemmas.{lead_number}
+use Rattle.fits_value.proofs.FrontLemmas.{option_map_some}
 use Rattle.fits_hdu.specs.declared.kind.Kind.{Kind}
-use Rattle.fits_hdu.specs.Kind.{IsUnscaled, kind_of, IsKind}
+use Rattle.fits_hdu.specs.Kind.{IsUnscaled, HasOffset, convention, kind_of, IsKind, is_unscaled, has_offset, kind_in}
 
--- two answers to one question are the same
-same_answer : {P : Type 0} (a b : Bool) → (IsTrue a ↔ P) → (IsTrue b ↔ P) → a ≡ b
-same_answer true true p q = refl
-same_answer true false p q = sym (q.1 (p.0 refl))
-same_answer false true p q = p.1 (q.0 refl)
-same_answer false false p q = refl
+-- an option that holds nothing
+nothing : {X : Type 0} (o : Option X) → is_none o ≡ true → o ≡ None
+nothing None e = refl
+nothing (Some x) e = absurd (false≢true e)
 
--- the same bits and the same answer make one kind
-same_kind : (a b : ℕ) (p q : Bool) → a ≡ b → p ≡ q → kind_of a p ≡ kind_of b q
-same_kind a b p q e f = rw (e, f) refl
+-- nothing is scaled exactly where the test says so
+unscaled_is : (cards : List (List ℕ)) → IsTrue (is_unscaled cards) ↔ IsUnscaled cards
+unscaled_is cards =
+    let absent = is_none (lead_card cards (codes "BSCALE  ")) in
+    let one = lead_says_number cards (codes "BSCALE  ") (pos 1) in
+    let number = lead_number cards (codes "BSCALE  ") (pos 1) in (
+      λ e. elim (or_cases absent one e) [
+        | inl f ↦ inl (nothing (lead_card cards (codes "BSCALE  ")) f)
+        | inr f ↦ inr (number.0 f)
+      ],
+      λ u. elim u [
+        | inl none ↦ or_left absent one (ap is_none none)
+        | inr denotes ↦ or_right absent one (number.1 denotes)
+      ],
+    )
+
+-- and an offset is there
+offset_is : (cards : List (List ℕ)) (offset : ℤ) → IsTrue (has_offset cards offset) ↔ HasOffset cards offset
+offset_is cards offset =
+    let zero = lead_says_number cards (codes "BZERO   ") offset in
+    let number = lead_number cards (codes "BZERO   ") offset in
+    let scale = unscaled_is cards in (
+      λ e. let both = and_parts zero (is_unscaled cards) e in record { zero = number.0 both.0; scale = scale.0 both.1 },
+      λ w. and_from zero (is_unscaled cards) (number.1 w.zero) (scale.1 w.scale),
+    )
+
+-- an image has exactly the kind that is found
+pub kind_is : (shape : Shape) (cards : List (List ℕ)) (kind : Kind) → IsKind shape cards kind ↔ (kind_in shape cards ≡ Some kind)
+unfolding kind_in
+kind_is shape cards kind = (
+  λ w. let offset = offset_is cards (convention w.bits) in
+      let same : has_offset cards (convention w.bits) ≡ w.has_offset = both_ways _ _ (λ e. w.offset.1 (offset.0 e)) (λ e. offset.1 (w.offset.0 e)) in
+      ap (option_map (λ bits. kind_of bits (has_offset cards (convention bits)))) w.image ∙ ap Some (ap (kind_of w.bits) same ∙ sym w.is),
+  λ e. let found = option_map_some (λ bits. kind_of bits (has_offset cards (convention bits))) (image_bits shape) kind e in
+      record { bits = found.0; has_offset = has_offset cards (convention found.0); image = found.1; offset = offset_is cards (convention found.0); is = sym found.2 },
+)
+
+-- a mapped option holds something exactly where it did
+mapped_none : {X Y : Type 0} (f : X → Y) (o : Option X) → (option_map f o ≡ None) ↔ (o ≡ None)
+mapped_none f None = (λ e. refl, λ e. refl)
+mapped_none f (Some x) = (λ e. absurd (cc), λ e. absurd (cc))
+
+-- none is found exactly where there is no image of integers
+pub kind_is_none : (shape : Shape) (cards : List (List ℕ)) → (kind_in shape cards ≡ None) ↔ (image_bits shape ≡ None)
+unfolding kind_in
+kind_is_none shape cards = mapped_none (λ bits. kind_of bits (has_offset cards (convention bits))) (image_bits shape)
 
 -- an image has one kind
 pub one_kind : (shape : Shape) (cards : List (List ℕ)) (k j : Kind) → IsKind shape cards k → IsKind shape cards j → k ≡ j
 one_kind shape cards k j p q =
-    let some : Option.Some p.bits ≡ Some q.bits = sym p.image ∙ q.image in
-    let bits : p.bits ≡ q.bits = cc in
-    let offsets : p.has_offset ≡ q.has_offset = same_answer p.has_offset q.has_offset p.offset (rw (← bits) at q.offset) in
-    p.is ∙ same_kind p.bits q.bits p.has_offset q.has_offset bits offsets ∙ sym q.is
+    let some : Option.Some k ≡ Some j = sym ((kind_is shape cards k).0 p) ∙ (kind_is shape cards j).0 q in
+    (cc)
 
--- a BSCALE that is there must denote 1
-pub unscaled_here : (cards : List (List ℕ)) (card : List ℕ) (b : Bool) → Some card ≡ lead_card cards (codes "BSCALE  ") → (IsTrue b ↔ CardDenotes card (pos 1)) → IsTrue b ↔ IsUnscaled cards
-unscaled_here cards card b lead p =
-    let q = lead_here cards (codes "BSCALE  ") card (pos 1) b lead p in (
-      λ yes. inr (q.0 yes),
-      λ u. elim u [
-        | inl none ↦ let no : Option.None ≡ Some card = sym none ∙ sym lead in cc
-        | inr denotes ↦ q.1 denotes
-      ],
-    )
+-- the kind that was found
+pub kind_found : (shape : Shape) (cards : List (List ℕ)) (o : Option Kind) → o ≡ kind_in shape cards → IfSome o (IsKind shape cards)
+kind_found shape cards None e = tt
+kind_found shape cards (Some kind) e = (kind_is shape cards kind).1 (sym e)
 
--- without one nothing is scaled
-pub unscaled_nowhere : (cards : List (List ℕ)) → None ≡ lead_card cards (codes "BSCALE  ") → IsTrue true ↔ IsUnscaled cards
-unscaled_nowhere cards none = (λ yes. inl (sym none), λ u. refl)
+-- or there is no image
+pub kind_missing : (shape : Shape) (cards : List (List ℕ)) (o : Option Kind) → o ≡ kind_in shape cards → IfNone o (image_bits shape ≡ None)
+kind_missing shape cards None e = (kind_is_none shape cards).0 (sym e)
+kind_missing shape cards (Some kind) e = tt
 
-pub ruleset scale_steps = (unscaled_here, unscaled_nowhere)
+pub ruleset kind_steps = (kind_found, kind_missing)

@@ -22,7 +22,7 @@ bytes_are : (a b : List ℕ) → bytes_eq a b ≡ true → a ≡ b
 bytes_are a b e = search rules
 
 -- a card that is found by its name has it
-named : (name card other : List ℕ) → if_named name card ≡ Some other → keyword_name card ≡ name
+pub named : (name card other : List ℕ) → if_named name card ≡ Some other → keyword_name card ≡ name
 named name card other e = bytes_are (keyword_name card) name (test_true (bytes_eq (keyword_name card) name) card other e)
 
 -- the first card has its name

@@ -1,6 +1,6 @@
 -- The offsets that the standard names for unsigned integers and signed bytes (FITS Standard 4.0, section 5.2.5, table 11).
-use Rattle.std.proofs.Common.{◌≡◌, true, false, refl, pos, negsuc}
-use Rattle.fits_hdu.specs.Kind.{convention, kind_of}
+use Rattle.std.proofs.Common.{◌≡◌, Bool, ◌*◌, true, false, refl, pos, negsuc}
+use Rattle.fits_hdu.specs.Kind.{convention, kind_of, offset_of, width_of}
 use Rattle.fits_hdu.specs.declared.kind.Kind.TheVariants.{U8, I8, I16, U16, I32, U32, I64, U64}
 
 -- BITPIX 8 and BZERO -128: signed bytes
@@ -22,3 +22,15 @@ unsigned_of_64_bits = (refl, refl)
 -- without these offsets bytes are unsigned, and the others signed
 as_stored : (kind_of 8 false ≡ U8) × (kind_of 16 false ≡ I16) × (kind_of 32 false ≡ I32) × (kind_of 64 false ≡ I64)
 as_stored = (refl, refl, refl, refl)
+
+-- a kind has the convention's offset where its image does, or 0
+offsets : (offset_of (kind_of 8 true) ≡ convention 8) × (offset_of (kind_of 16 true) ≡ convention 16)
+    × (offset_of (kind_of 32 true) ≡ convention 32) × (offset_of (kind_of 64 true) ≡ convention 64)
+    × (offset_of U8 ≡ pos 0) × (offset_of I16 ≡ pos 0) × (offset_of I32 ≡ pos 0) × (offset_of I64 ≡ pos 0)
+offsets = (refl, refl, refl, refl, refl, refl, refl, refl)
+
+-- a pixel has as many bytes as BITPIX asks
+widths : (offset : Bool) → (width_of (kind_of 8 offset) * 8 ≡ 8) × (width_of (kind_of 16 offset) * 8 ≡ 16)
+    × (width_of (kind_of 32 offset) * 8 ≡ 32) × (width_of (kind_of 64 offset) * 8 ≡ 64)
+widths true = (refl, refl, refl, refl)
+widths false = (refl, refl, refl, refl)

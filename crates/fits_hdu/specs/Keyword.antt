@@ -1,6 +1,8 @@
 -- What a keyword says in an HDU, and which cards say it (FITS Standard 4.0, sections 4.1.2 and 4.2.1.2).
 use Rattle.std.specs.Prelude.{◌≡◌, ℕ, ◌+◌, List, Option, None, Some, ok_or, Result, Err, IsOk}
 use Rattle.std.specs.Option.{option_map}
+use Rattle.fits_card.specs.declared.change.Change.{Change}
+use Rattle.fits_card.specs.declared.change.Change.TheVariants.{Splice}
 use Rattle.fits_value.specs.Says.{link_count, long_says}
 use Rattle.fits_value.specs.declared.value.Value.{Value}
 use Rattle.fits_rules.specs.Lead.{lead_place}
@@ -29,3 +31,8 @@ with_links cards place = record { place = place; count = 1 + link_count cards pl
 -- where the cards of a keyword stand, if it has a lead (own)
 unfoldable pub keyword_cards : List (List ℕ) → List ℕ → Option KeywordCards
 keyword_cards cards name = option_map (with_links cards) (lead_place cards name)
+
+-- new cards instead of a keyword's among so many; where it has no lead they go after the last
+abbrev pub replacing : ℕ → Option KeywordCards → List (List ℕ) → Change
+replacing count None new = Splice (count + 1) 0 new
+replacing count (Some old) new = Splice old.place old.count new

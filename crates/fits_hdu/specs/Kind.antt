@@ -1,7 +1,8 @@
 -- The kind of an integer image: the type of its pixels, by BITPIX and by the offset of the conventions for unsigned integers
 -- and signed bytes (FITS Standard 4.0, sections 4.4.2.5 and 5.2.5).
-use Rattle.std.specs.Prelude.{◌≡◌, ◌⊎◌, ℕ, ◌==◌, Bool, true, false, IsTrue, ◌↔◌, ℤ, pos, negsuc, List, codes, None, Some, if◌then◌else◌}
-use Rattle.fits_rules.specs.Denotes.{LeadDenotes}
+use Rattle.std.specs.Prelude.{◌≡◌, ◌⊎◌, ℕ, ◌==◌, Bool, ◌&&◌, ◌||◌, true, false, IsTrue, ◌↔◌, ℤ, pos, negsuc, List, codes, Option, None, Some, is_none, if◌then◌else◌}
+use Rattle.std.specs.Option.{option_map}
+use Rattle.fits_rules.specs.Denotes.{LeadDenotes, lead_says_number}
 use Rattle.fits_rules.specs.Image.{image_bits}
 use Rattle.fits_rules.specs.Lead.{lead_card}
 use Rattle.fits_rules.specs.declared.array_shape.Shape.{Shape}
@@ -37,3 +38,34 @@ pub record IsKind (shape : Shape) (cards : List (List ℕ)) (kind : Kind) : Type
   pub image : image_bits shape ≡ Some bits
   pub offset : IsTrue has_offset ↔ HasOffset cards (convention bits)
   pub is : kind ≡ kind_of bits has_offset
+
+-- BSCALE is absent, or denotes 1, as a function
+abbrev pub is_unscaled : List (List ℕ) → Bool
+is_unscaled cards = is_none (lead_card cards (codes "BSCALE  ")) || lead_says_number cards (codes "BSCALE  ") (pos 1)
+
+-- BZERO denotes this offset, and nothing is scaled, as a function
+abbrev pub has_offset : List (List ℕ) → ℤ → Bool
+has_offset cards offset = lead_says_number cards (codes "BZERO   ") offset && is_unscaled cards
+
+-- the kind of the image that a shape and cards describe, as a function
+unfoldable pub kind_in : Shape → List (List ℕ) → Option Kind
+kind_in shape cards = option_map (λ bits. kind_of bits (has_offset cards (convention bits))) (image_bits shape)
+
+-- what is added to the number that stands in a pixel: the convention's offset, or 0 (4.4.2.5, 5.2.5)
+abbrev pub offset_of : Kind → ℤ
+offset_of I8 = negsuc 127
+offset_of U16 = pos 32768
+offset_of U32 = pos 2147483648
+offset_of U64 = pos 9223372036854775808
+offset_of kind = pos 0
+
+-- how many bytes a pixel has (5.2.1 to 5.2.4)
+abbrev pub width_of : Kind → ℕ
+width_of U8 = 1
+width_of I8 = 1
+width_of I16 = 2
+width_of U16 = 2
+width_of I32 = 4
+width_of U32 = 4
+width_of I64 = 8
+width_of U64 = 8

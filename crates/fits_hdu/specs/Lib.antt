@@ -1,8 +1,15 @@
+pub mod ExtensionName
 pub mod Fault
 pub mod Findings
 pub mod Hdu
 pub mod Keyword
 pub mod Kind
+pub mod Layout
+pub mod NewImage
+pub mod Passing
+pub mod Pixels
 pub mod Reading
+pub mod Stamp
 pub mod State
+pub mod Sums
 pub mod Work

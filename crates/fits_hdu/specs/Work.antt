@@ -1,14 +1,68 @@
--- How many cards of an HDU its calls read at most (own).
-use Rattle.std.specs.Prelude.{ℕ, ◌+◌, ◌*◌, List, length}
+-- How much work the calls of an HDU are at most: cards read, blocks scanned, pixels read, nodes joined (own).
+use Rattle.std.specs.Prelude.{◌≡◌, ◌⊎◌, ℕ, ◌+◌, ◌*◌, ◌^◌, ◌≤◌, ℤ, List, length, codes, Option}
 use Rattle.std.specs.Option.{option_map_or}
 use Rattle.fits_value.specs.Says.{chain_length}
 use Rattle.fits_rules.specs.Lead.{lead_place}
 use Rattle.fits_header.specs.Work.{judge_reads}
+use Rattle.fits_plane.specs.Plane.{PlaneState}
+use Rattle.fits_hdu.specs.State.{PixelWork}
 
--- an HDU is opened by so many: its shape is read, then each card for what is kept beside it, and then the codes of the whole
+-- what is read after a change of the cards: the leads of BZERO, BSCALE, BLANK, DATASUM, CHECKSUM, EXTNAME and EXTVER, and place 1
+abbrev pub lead_reads : ℕ
+lead_reads = 8
+
+-- a change of the cards reads so many when it is made: the leads, and those that decide the codes of the header
+abbrev pub apply_reads : ℕ
+apply_reads = judge_reads + lead_reads
+
+-- an HDU is opened by so many: its shape is read, then each card for what is kept beside it, and then what a change reads
 abbrev pub open_reads : List (List ℕ) → ℕ
-open_reads cards = 5 * length cards + 7 + judge_reads
+open_reads cards = 5 * length cards + 7 + apply_reads
 
 -- a keyword is read by so many: the cards of its lead's value, and one
 unfoldable pub keyword_reads : List (List ℕ) → List ℕ → ℕ
 keyword_reads cards name = option_map_or (λ place. chain_length cards place + 1) (lead_place cards name) 0
+
+-- both keywords of a stamp are looked for by so many
+unfoldable pub stamp_count_reads : List (List ℕ) → ℕ
+stamp_count_reads cards = keyword_reads cards (codes "CHECKSUM") + keyword_reads cards (codes "DATASUM ")
+
+-- a stamp reads so many: both keywords, and then what three changes read
+unfoldable pub stamp_reads : List (List ℕ) → ℕ
+stamp_reads cards = stamp_count_reads cards + 3 * apply_reads + 2
+
+-- the work on a data unit so far
+abbrev pub plane_work : PlaneState → PixelWork
+plane_work plane = record { scans = plane.scans; reads = plane.reads; joins = plane.joins }
+
+-- a data unit of so many blocks was opened: each was scanned once, and no pixel read
+pub record IsScanned (blocks : ℕ) (work : PixelWork) : Type 0 where
+  pub scans : work.scans ≡ blocks
+  pub reads : work.reads ≡ 0
+  pub joins : (d : ℕ) → blocks ≤ 2 ^ d → work.joins ≤ 2 ^ d
+
+-- a data unit of so many blocks was made: each was scanned once at most, and no pixel read
+pub record IsMade (blocks : ℕ) (work : PixelWork) : Type 0 where
+  pub scans : work.scans ≤ blocks
+  pub reads : work.reads ≡ 0
+  pub joins : (d : ℕ) → blocks ≤ 2 ^ d → work.joins ≤ 2 ^ d
+
+-- each of so many blocks was scanned once more, and no pixel read
+pub record IsRescanned (blocks : ℕ) (old new : PixelWork) : Type 0 where
+  pub scans : new.scans ≡ old.scans + blocks
+  pub reads : new.reads ≡ old.reads
+  pub more_joins : old.joins ≤ new.joins
+  pub joins : (d : ℕ) → blocks ≤ 2 ^ d → new.joins ≤ old.joins + 2 ^ d
+
+-- the number that BLANK names was this and is that: where it stays, nothing is done
+pub record FollowsBlank (before after : Option ℤ) (blocks : ℕ) (old new : PixelWork) : Type 0 where
+  pub same : before ≡ after → new ≡ old
+  pub any : (new ≡ old) ⊎ IsRescanned blocks old new
+
+-- of so many blocks some were written to: each of them was scanned once at most, and no pixel read
+pub record IsPatched (touched blocks : ℕ) (old new : PixelWork) : Type 0 where
+  pub reads : new.reads ≡ old.reads
+  pub more_scans : old.scans ≤ new.scans
+  pub scans : new.scans ≤ old.scans + touched
+  pub more_joins : old.joins ≤ new.joins
+  pub joins : (d : ℕ) → blocks ≤ 2 ^ d → new.joins ≤ old.joins + touched * d

@@ -11,7 +11,7 @@ pub enum HduFault {
     /// There is no END card, or its block isn't whole (FITS Standard 4.0, section 4.4.1).
     #[error("the header has no END, or its last block is not whole")]
     NoEnd,
-    /// The first place, from 1, whose card breaks a rule of shapes (4.4.1.1, 4.4.1.2).
+    /// The first place, from 1, whose card breaks a rule of shapes or is missing (4.4.1.1, 4.4.1.2).
     #[error("card {0} breaks a rule of the mandatory keywords, or is missing")]
     BadShape(usize),
     /// Fewer bytes follow the header than its cards describe, with the fill of the last block

@@ -1,20 +1,35 @@
-ghost use Rattle.std.specs.Prelude.{◌≡◌, ◌++◌, Ok, IfOk};
+ghost use Rattle.std.specs.Prelude.{◌≡◌, ◌≤◌, ◌^◌, length, Ok, IfOk};
+ghost use Rattle.fits_card.specs.Header.{header_bytes};
 ghost use Rattle.fits_rules.specs.Class.{is_primary};
 ghost use Rattle.fits_rules.specs.Shape.{shape_of};
-ghost use Rattle.fits_header.specs.Findings.{card_findings, found_at, header_codes_of};
+ghost use Rattle.fits_header.specs.Findings.{card_findings};
+ghost use Rattle.fits_hdu.specs.ExtensionName.{extension_name};
+ghost use Rattle.fits_hdu.specs.Passing.{codes_by};
 
-use crate::described::{Described, read_past};
+use crate::described::Described;
+use crate::extension_name::{ExtensionName, extension_name};
 use crate::fault::HduFault;
+use crate::found::with_data_codes;
 use crate::read_fault::ReadHduFault;
-use crate::reporting::all_findings;
-use fits_card::{CardList, Intake, Source};
+use crate::summed::{Summed, read_summed};
+use crate::sums::{sum_keywords, verdicts_by, whole_sum};
+use crate::unit_sums::UnitSums;
+use fits_card::{Intake, Source};
+use fits_codes::CodeSet;
 use fits_header::{Finding, Header};
-use fits_rules::Shape;
+use fits_sum::fold;
 use std::alloc::{AllocError, Global};
 
-/// What is found of an HDU: by place, and at each by code.
+/// What is found of an HDU. Whether another extension is called the same is found of a file.
 #[derive(Drop)]
-pub struct Findings(pub Vec<Finding>);
+pub struct Findings {
+    /// The codes of it as a whole, but for that of its name.
+    pub whole: CodeSet,
+    /// What is found of its cards: by place, and at each by code.
+    pub of_cards: Vec<Finding>,
+    /// What it is called, if it is an extension with a name.
+    pub name: Option<ExtensionName>,
+}
 
 impl Findings {
     ghost use Rattle.std.specs.Prelude.{◌≡◌, ◌+◌, ◌<◌, ◌≤◌, ◌^◌, length, IfOk, IfErr, OnOk};
@@ -23,8 +38,8 @@ impl Findings {
     ghost use Rattle.fits_hdu.specs.Findings.{AreFindings};
     ghost use Rattle.fits_hdu.specs.Reading.{HduStops, TakesHdu};
 
-    /// What is found of the HDU that comes next in a source, as `Hdu::read`. Its data unit is
-    /// skipped.
+    /// What is found of the HDU that comes next in a source, as `Hdu::read`. Its data unit passes
+    /// by: one piece of it is held at a time.
     pub fn read<R: Source>(
         alloc: Global,
         intake: &mut Intake,
@@ -36,7 +51,7 @@ impl Findings {
         requires short { length first.items < BLOCK_LEN
             → IsSpent (R.remaining source.old) intake.old }
         requires room { intake.old + length first.items ≤ 2 ^ 34 }
-        ensures ok { IfOk result (λ it. TakesHdu (AreFindings it.0.items)
+        ensures ok { IfOk result (λ it. TakesHdu (AreFindings it.whole it.of_cards.items it.name)
             primary first.items (R.remaining source.old) (R.remaining source.new)
             intake.old intake.new) }
         ensures quiet { OnOk result (R.failures source.new ≡ R.failures source.old) }
@@ -44,21 +59,38 @@ impl Findings {
             (R.remaining source.old) (R.remaining source.new) intake.old intake.new
             (R.failures source.old) (R.failures source.new)) }
     {
-        let Described { cards, shape, .. } = read_past(alloc, intake, source, first, primary)?;
-        match findings_of(alloc, cards, shape) {
-            Ok(found) => Ok(Findings(found)),
+        let Summed { head, sums } = read_summed(alloc, intake, source, first, primary)?;
+        match findings_of(alloc, head, sums) {
+            Ok(found) => Ok(found),
             Err(_) => Err(ReadHduFault::Hdu(HduFault::Memory)),
         }
     }
 }
 
-// What is found of an HDU with these cards, which describe this shape.
-fn findings_of(alloc: Global, cards: CardList, shape: Shape) -> Result<Vec<Finding>, AllocError>
-    requires described { shape_of (is_primary shape.class) cards.header.cards ≡ Ok shape }
-    ensures found { IfOk result (λ found. found.items
-        ≡ found_at 0 (header_codes_of shape cards.header) ++ card_findings shape cards.header.cards) }
+// What is found of an HDU with this header and these sums of its data unit.
+#[tactic(auto, using(crate::proofs::ReportLemmas::few_codes))]
+fn findings_of(alloc: Global, head: Described, sums: UnitSums) -> Result<Findings, AllocError>
+    requires described { shape_of (is_primary head.shape.class) head.cards.header.cards
+        ≡ Ok head.shape }
+    requires small { length (header_bytes head.cards.header) ≤ 2 ^ 34 }
+    ensures whole { IfOk result (λ it. it.whole
+        ≡ codes_by head.shape head.cards.header sums) }
+    ensures cards { IfOk result (λ it. it.of_cards.items
+        ≡ card_findings head.shape head.cards.header.cards) }
+    ensures name { IfOk result (λ it. it.name
+        ≡ extension_name (is_primary head.shape.class) head.cards.header.cards) }
 {
+    let Described { cards, shape, .. } = head;
     let mut header = Header::open(alloc, cards, shape)?;
-    let whole = header.judge();
-    all_findings(alloc, &mut header, &whole)
+    let said = sum_keywords(&mut header);
+    let whole = whole_sum(header.total(), sums.total);
+    let verdicts = verdicts_by(said, fold(sums.total), whole);
+    let whole = with_data_codes(header.judge(), sums.filled, verdicts);
+    let name = extension_name(&mut header);
+    let of_cards = header.findings(alloc)?;
+    Ok(Findings {
+        whole,
+        of_cards,
+        name,
+    })
 }

@@ -1,29 +1,45 @@
 ghost use Rattle.std.specs.Prelude.{◌≡◌, ◌≤◌, ◌+◌, length};
 
+mod making;
+mod pixels;
+mod reporting;
+mod stamping;
+
 use crate::data_unit::unit_len;
 use crate::described::{Described, read_described};
+use crate::extension_name::{ExtensionName, extension_name};
 use crate::fault::HduFault;
 use crate::keyword::{KeywordFault, keyword_cards, keyword_value};
 use crate::keyword_cards::KeywordCards;
 use crate::kind::{Kind, image_kind};
+use crate::layout::{follow_blank, plane_of};
 use crate::read_fault::ReadHduFault;
-use crate::reporting::all_findings;
-use fits_card::{CardList, Change, Intake, Name, Sink, Source, cut_header, write_all};
+use crate::sum_keywords::SumKeywords;
+use crate::sums::sum_keywords;
+use fits_card::{CardList, Change, Intake, Name, Sink, Source, cut_header};
 use fits_codes::CodeSet;
-use fits_header::{Counts, Finding, Header};
+use fits_header::Header;
+use fits_plane::Plane;
 use fits_rules::{Shape, shape};
 use fits_value::{Text, Value};
 use std::alloc::{AllocError, Global};
 use std::io;
 use std::marker::Model;
 
-/// One HDU under edits: its header, with what is kept beside the cards, and its data unit.
+/// One HDU under edits: its header and its data unit, with what is kept beside them.
 #[derive(Drop)]
 pub struct Hdu {
     header: Header,
-    data_unit: Vec<u8>,
-    // The codes of the HDU as a whole.
-    whole: CodeSet,
+    // Its layout follows the cards.
+    plane: Plane,
+    // The codes of the header as a whole.
+    codes: CodeSet,
+    // The kind of its pixels, where it is an image of integers.
+    kind: Option<Kind>,
+    // What DATASUM and CHECKSUM say.
+    sums: SumKeywords,
+    // What it is called, if it is an extension with a name.
+    name: Option<ExtensionName>,
 }
 
 impl Model for Hdu {
@@ -31,29 +47,37 @@ impl Model for Hdu {
     ghost use Rattle.fits_rules.specs.Class.{is_primary};
     ghost use Rattle.fits_rules.specs.Shape.{shape_of};
     ghost use Rattle.fits_rules.specs.Size.{data_length};
-    ghost use Rattle.fits_hdu.specs.Findings.{whole_codes};
+    ghost use Rattle.fits_header.specs.Findings.{header_codes_of};
+    ghost use Rattle.fits_hdu.specs.ExtensionName.{extension_name};
+    ghost use Rattle.fits_hdu.specs.Kind.{kind_in};
+    ghost use Rattle.fits_hdu.specs.Layout.{layout_of};
     ghost use Rattle.fits_hdu.specs.State.{HduState};
+    ghost use Rattle.fits_hdu.specs.Sums.{sum_keywords};
 
     ghost Value = { HduState };
 
     ghost view = { λ it. record {
-      hdu = record { header = it.header.header; data_unit = it.data_unit.items };
+      hdu = record { header = it.header.header; data_unit = it.plane.bytes };
       shape = it.header.shape;
       reads = it.header.reads;
       room = it.header.room;
+      pixel_work = record { scans = it.plane.scans; reads = it.plane.reads; joins = it.plane.joins };
     } };
 
     ghost invariant = { λ it. record {
       described : shape_of (is_primary it.header.shape.class) it.header.header.cards
           ≡ Ok it.header.shape;
-      size : length it.data_unit.items ≡ data_length it.header.shape;
-      whole : it.whole ≡ whole_codes it.header.shape
-          (record { header = it.header.header; data_unit = it.data_unit.items });
+      size : length it.plane.bytes ≡ data_length it.header.shape;
+      layout : it.plane.layout ≡ layout_of it.header.shape it.header.header.cards;
+      codes : it.codes ≡ header_codes_of it.header.shape it.header.header;
+      kind : it.kind ≡ kind_in it.header.shape it.header.header.cards;
+      sums : it.sums ≡ sum_keywords it.header.header.cards;
+      name : it.name ≡ extension_name (is_primary it.header.shape.class) it.header.header.cards;
     } };
 }
 
 impl Hdu {
-    ghost use Rattle.std.specs.Prelude.{◌≡◌, ◌+◌, ◌*◌, ◌^◌, ◌≤◌, ◌<◌, length, take, drop, All, Ok, IsOk, None, IfOk, IfErr, IsErrOf, IfSome, IfNone, OnOk, OnErr, IsTrue, ◌↔◌};
+    ghost use Rattle.std.specs.Prelude.{◌≡◌, ◌+◌, ◌^◌, ◌≤◌, ◌<◌, true, length, take, drop, All, Ok, IsOk, IfOk, IfErr, IsErrOf, OnOk, OnErr, IsTrue};
     ghost use Rattle.std.specs.Io.KnownBytes.{Appends};
     ghost use Rattle.fits_card.specs.Card.{IsEnd};
     ghost use Rattle.fits_card.specs.Change.{cards_after, new_cards, IsInRange};
@@ -63,17 +87,17 @@ impl Hdu {
     ghost use Rattle.fits_card.specs.Stream.{AppendsFront};
     ghost use Rattle.fits_header.specs.Names.{header_names};
     ghost use Rattle.fits_header.specs.Places.{keyword_places};
-    ghost use Rattle.fits_header.specs.Work.{judge_reads, shape_reads};
+    ghost use Rattle.fits_header.specs.Work.{shape_reads};
+    ghost use Rattle.fits_plane.specs.Layout.{block_count};
     ghost use Rattle.fits_rules.specs.Class.{is_primary};
     ghost use Rattle.fits_rules.specs.Shape.{shape_of};
     ghost use Rattle.fits_rules.specs.Size.{data_length};
-    ghost use Rattle.fits_hdu.specs.Findings.{AreFindings, hdu_counts};
     ghost use Rattle.fits_hdu.specs.Keyword.{keyword_cards, keyword_value, KeywordFails};
-    ghost use Rattle.fits_rules.specs.Image.{image_bits};
-    ghost use Rattle.fits_hdu.specs.Kind.{IsKind};
+    ghost use Rattle.fits_hdu.specs.Kind.{kind_in};
+    ghost use Rattle.fits_hdu.specs.Layout.{layout_of};
     ghost use Rattle.fits_hdu.specs.Reading.{HduStops};
     ghost use Rattle.fits_hdu.specs.State.{ReadsUpTo};
-    ghost use Rattle.fits_hdu.specs.Work.{keyword_reads, open_reads};
+    ghost use Rattle.fits_hdu.specs.Work.{apply_reads, keyword_reads, open_reads, plane_work, FollowsBlank, IsScanned};
     ghost use Rattle.fits_hdu.specs.Hdu.{IsHdu, IsHduOf, DataFails, HduFails, hdu_bytes, hdu_after, keeps_shape};
 
     /// The HDU that these bytes begin with, the primary one or an extension, and how many bytes it
@@ -82,6 +106,7 @@ impl Hdu {
     /// The faults are looked for in the order of `HduFault`. The cards that it reads are counted.
     #[tactic(auto, using(crate::proofs::OpenLemmas::open_steps))]
     pub fn open(alloc: Global, bytes: &[u8], primary: bool) -> Result<(Hdu, usize), HduFault>
+        requires { length bytes.now ≤ 2 ^ 34 }
         ensures found { IfOk result (λ cut. IsHduOf primary bytes.now cut.0.hdu
             (drop cut.1 bytes.now)) }
         ensures described { IfOk result (λ cut. shape_of primary cut.0.hdu.header.cards
@@ -90,6 +115,8 @@ impl Hdu {
         ensures len { IfOk result (λ cut. cut.1 ≡ length (hdu_bytes cut.0.hdu)) }
         ensures within { IfOk result (λ cut. cut.1 ≤ length bytes.now) }
         ensures work { IfOk result (λ cut. cut.0.reads ≤ open_reads cut.0.hdu.header.cards) }
+        ensures scans { IfOk result (λ cut. IsScanned (block_count cut.0.hdu.data_unit)
+            cut.0.pixel_work) }
 
         // Whether there is a header is found before any memory is asked for.
         ensures fault { IfErr result (HduFails primary bytes.now) }
@@ -110,6 +137,7 @@ impl Hdu {
         rest: &[u8],
         primary: bool,
     ) -> Result<(Hdu, usize), HduFault>
+        requires { length rest.now ≤ 2 ^ 34 }
         ensures header { IfOk result (λ cut. cut.0.hdu.header ≡ cards.header) }
         ensures described { IfOk result (λ cut. shape_of primary cards.header.cards
             ≡ Ok cut.0.shape) }
@@ -118,6 +146,8 @@ impl Hdu {
         ensures within { IfOk result (λ cut. cut.1 ≤ length rest.now) }
         ensures work { IfOk result (λ cut. cut.0.reads
             ≤ cards.reads + open_reads cards.header.cards) }
+        ensures scans { IfOk result (λ cut. IsScanned (block_count cut.0.hdu.data_unit)
+            cut.0.pixel_work) }
         ensures fault { IfErr result (DataFails primary cards.header.cards rest.now) }
     {
         let shape = shape(alloc, &mut cards, primary)?;
@@ -137,19 +167,43 @@ impl Hdu {
     ) -> Result<Hdu, AllocError>
         requires described { shape_of (is_primary shape.class) cards.header.cards ≡ Ok shape }
         requires size { length data_unit.items ≡ data_length shape }
+        requires small { length data_unit.items ≤ 2 ^ 34 }
         ensures header { IfOk result (λ it. it.hdu.header ≡ cards.header) }
         ensures unit { IfOk result (λ it. it.hdu.data_unit ≡ data_unit.items) }
         ensures shape { IfOk result (λ it. it.shape ≡ shape) }
         ensures work { IfOk result (λ it. it.reads
-            ≤ cards.reads + length cards.header.cards + judge_reads) }
+            ≤ cards.reads + length cards.header.cards + apply_reads) }
+        ensures scans { IfOk result (λ it. IsScanned (block_count data_unit.items) it.pixel_work) }
     {
         let mut header = Header::open(alloc, cards, shape)?;
-        let whole = header.judge();
-        Ok(Hdu {
+        let plane = plane_of(alloc, &mut header, data_unit)?;
+        Ok(Hdu::joined(header, plane))
+    }
+
+    // The HDU of a header and of the data unit that it describes.
+    fn joined(mut header: Header, plane: Plane) -> Hdu
+        requires described { shape_of (is_primary header.shape.class) header.header.cards
+            ≡ Ok header.shape }
+        requires size { length plane.bytes ≡ data_length header.shape }
+        requires layout { plane.layout ≡ layout_of header.shape header.header.cards }
+        ensures header { result.hdu.header ≡ header.header }
+        ensures unit { result.hdu.data_unit ≡ plane.bytes }
+        ensures shape { result.shape ≡ header.shape }
+        ensures work { result.reads + 1 ≤ header.reads + apply_reads }
+        ensures scans { result.pixel_work ≡ plane_work plane }
+    {
+        let codes = header.judge();
+        let kind = image_kind(&mut header);
+        let sums = sum_keywords(&mut header);
+        let name = extension_name(&mut header);
+        Hdu {
             header,
-            data_unit,
-            whole,
-        })
+            plane,
+            codes,
+            kind,
+            sums,
+            name,
+        }
     }
 
     /// The HDU that comes next in a source, whose first block had been taken before. Its data unit
@@ -168,11 +222,14 @@ impl Hdu {
         requires within { length first.items ≤ BLOCK_LEN }
         requires short { length first.items < BLOCK_LEN
             → IsSpent (R.remaining source.old) intake.old }
+        requires room { intake.old + length first.items ≤ 2 ^ 34 }
         ensures taken { IfOk result (λ hdu. TakesAfter first.items
             (R.remaining source.old) (R.remaining source.new) intake.old intake.new
             (hdu_bytes hdu.hdu)) }
         ensures whole { IfOk result (λ hdu. IsHdu primary hdu.hdu) }
         ensures work { IfOk result (λ hdu. hdu.reads ≤ open_reads hdu.hdu.header.cards) }
+        ensures scans { IfOk result (λ hdu. IsScanned (block_count hdu.hdu.data_unit)
+            hdu.pixel_work) }
         ensures quiet { OnOk result (R.failures source.new ≡ R.failures source.old) }
         ensures err { IfErr result (HduStops primary first.items
             (R.remaining source.old) (R.remaining source.new) intake.old intake.new
@@ -228,7 +285,7 @@ impl Hdu {
     pub fn data_len(&self) -> usize
         ensures { result ≡ length self.now.hdu.data_unit }
     {
-        self.data_unit.len()
+        self.plane.byte_len()
     }
 
     /// Makes room for this many more cards. It fails only where room was missing.
@@ -240,22 +297,19 @@ impl Hdu {
         ensures shape { self.new.shape ≡ self.old.shape }
         ensures room { self.old.room ≤ self.new.room }
         ensures work { self.new.reads ≡ self.old.reads }
+        ensures pixel_work { self.new.pixel_work ≡ self.old.pixel_work }
     {
         self.header.reserve(additional)
     }
 
     /// The kind of its pixels, where it is an image of integers (FITS Standard 4.0, sections
-    /// 4.4.2.5 and 5.2.5).
-    ///
-    /// It takes no memory. The cards that it reads are counted: the leads of BZERO and BSCALE.
-    pub fn kind(&mut self) -> Option<Kind>
-        ensures found { IfSome result (IsKind self.old.shape self.old.hdu.header.cards) }
-        ensures none { IfNone result (image_bits self.old.shape ≡ None) }
-        ensures described { shape_of (is_primary self.old.shape.class) self.old.hdu.header.cards
-            ≡ Ok self.old.shape }
-        ensures work { ReadsUpTo self.old self.new 2 }
+    /// 4.4.2.5 and 5.2.5). It takes no memory, and reads no card.
+    pub fn kind(&self) -> Option<Kind>
+        ensures value { result ≡ kind_in self.now.shape self.now.hdu.header.cards }
+        ensures described { shape_of (is_primary self.now.shape.class) self.now.hdu.header.cards
+            ≡ Ok self.now.shape }
     {
-        image_kind(&mut self.header)
+        self.kind
     }
 
     /// The value and the comment of a keyword: those of the first card of this name that has a
@@ -303,32 +357,6 @@ impl Hdu {
         self.header.names(alloc)
     }
 
-    /// What is found of it: of it as a whole, at place 0, and then of its cards. No card is read.
-    pub fn findings(&mut self, alloc: Global) -> Result<Vec<Finding>, AllocError>
-        ensures found { IfOk result (λ found. AreFindings found.items self.old.hdu) }
-        ensures same { self.new ≡ self.old }
-    {
-        let found = all_findings(alloc, &mut self.header, &self.whole)?;
-        Ok(found)
-    }
-
-    /// How many errors and warnings are found of it. It takes no memory, and reads no card.
-    pub fn counts(&mut self) -> Counts
-        requires { length (header_bytes self.old.hdu.header) ≤ 2 ^ 34 }
-        ensures value { result ≡ hdu_counts self.old.shape self.old.hdu }
-        ensures described { shape_of (is_primary self.old.shape.class) self.old.hdu.header.cards
-            ≡ Ok self.old.shape }
-        ensures within { result.errors + result.warnings
-            ≤ length (header_bytes self.old.hdu.header) }
-        ensures same { self.new ≡ self.old }
-    {
-        // A card has fewer codes than bytes, and so have the whole and END.
-        let _few = self.header.len();
-        let whole = Counts::of(self.whole.as_slice());
-        let cards = self.header.counts();
-        whole.plus(cards)
-    }
-
     /// Whether its cards after a change would describe the same shape. The cards that it reads are
     /// counted.
     ///
@@ -355,7 +383,8 @@ impl Hdu {
     /// Makes a change of its cards. END stays, and the header's fill is spaces.
     ///
     /// It takes no memory: the room is reserved before, and `keeps_shape` says whether the shape
-    /// stays. The cards that it reads are counted: those that decide the codes of the whole.
+    /// stays. The cards that it reads are counted: those that decide the codes of the header, and
+    /// those that say how pixels are read, what the sums are and what it is called.
     #[tactic(auto, using(crate::proofs::ChangeLemmas::kept_steps))]
     pub fn apply(&mut self, change: &Change)
         requires in_range { IsInRange self.old.hdu.header.cards change.now }
@@ -369,11 +398,20 @@ impl Hdu {
         ensures shape { self.new.shape ≡ self.old.shape }
         ensures room { self.new.room + length self.new.hdu.header.cards
             ≡ self.old.room + length self.old.hdu.header.cards }
-        ensures work { self.new.reads ≤ self.old.reads + judge_reads }
+        ensures work { self.new.reads ≤ self.old.reads + apply_reads }
         ensures least { self.old.reads ≤ self.new.reads }
+
+        // The data unit is scanned again where the number that BLANK says changes.
+        ensures scans { FollowsBlank (layout_of self.old.shape self.old.hdu.header.cards).blank
+            (layout_of self.new.shape self.new.hdu.header.cards).blank
+            (block_count self.old.hdu.data_unit) self.old.pixel_work self.new.pixel_work }
     {
         self.header.apply(change);
-        self.whole = self.header.judge();
+        self.codes = self.header.judge();
+        self.kind = image_kind(&mut self.header);
+        self.sums = sum_keywords(&mut self.header);
+        self.name = extension_name(&mut self.header);
+        follow_blank(&mut self.plane, &mut self.header);
     }
 
     /// Writes the header and then the data unit. Each card's read is counted.
@@ -396,7 +434,6 @@ impl Hdu {
             ≡ self.old.reads + length self.old.hdu.header.cards) }
     {
         self.header.emit(sink)?;
-        write_all(sink, &self.data_unit)?;
-        Ok(())
+        self.plane.emit(sink)
     }
 }

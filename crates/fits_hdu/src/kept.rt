@@ -6,6 +6,7 @@ ghost use Rattle.fits_hdu.specs.Reading.{HduStops, TakesHdu};
 
 use crate::findings::Findings;
 use crate::hdu::Hdu;
+use crate::hdu_sums::HduSums;
 use crate::outline::Outline;
 use crate::read_fault::ReadHduFault;
 use fits_card::{Intake, Source};
@@ -72,7 +73,7 @@ impl Kept for Outline {
 impl Kept for Findings {
     ghost use Rattle.fits_hdu.specs.Findings.{AreFindings};
 
-    ghost keeps = { λ it hdu. AreFindings it.0.items hdu };
+    ghost keeps = { λ it hdu. AreFindings it.whole it.of_cards.items it.name hdu };
 
     fn read_next<R: Source>(
         alloc: Global,
@@ -82,5 +83,21 @@ impl Kept for Findings {
         primary: bool,
     ) -> Result<Findings, ReadHduFault> {
         Findings::read(alloc, intake, source, first, primary)
+    }
+}
+
+impl Kept for HduSums {
+    ghost use Rattle.fits_hdu.specs.Sums.{AreSumsOf};
+
+    ghost keeps = { λ it hdu. AreSumsOf it.datasum it.verdicts hdu };
+
+    fn read_next<R: Source>(
+        alloc: Global,
+        intake: &mut Intake,
+        source: &mut R,
+        first: Vec<u8>,
+        primary: bool,
+    ) -> Result<HduSums, ReadHduFault> {
+        HduSums::read(alloc, intake, source, first, primary)
     }
 }

@@ -17,7 +17,7 @@ pub enum KeywordFault {
     /// No card of this name has a value (FITS Standard 4.0, section 4.1.2.2).
     #[error("no card of this name has a value")]
     NoKey,
-    /// The first one that has doesn't read as a value (4.1.2.3).
+    /// The first card that has one doesn't read as a value (4.1.2.3).
     #[error("the value of the first card of this name cannot be read")]
     BadValue,
     /// Memory was refused.

@@ -1,9 +1,8 @@
-ghost use Rattle.std.specs.Prelude.{◌≡◌, ◌↔◌, IsTrue, IfSome, IfNone, None, codes};
-ghost use Rattle.fits_rules.specs.Denotes.{LeadDenotes};
-ghost use Rattle.fits_rules.specs.Image.{image_bits};
+ghost use Rattle.std.specs.Prelude.{◌≡◌, ◌≤◌, codes};
+ghost use Rattle.fits_rules.specs.Denotes.{lead_says_number};
 ghost use Rattle.fits_rules.specs.Lead.{lead_card};
 ghost use Rattle.fits_header.specs.State.{ReadsUpTo};
-ghost use Rattle.fits_hdu.specs.Kind.{IsUnscaled, HasOffset, convention, IsKind, kind_of};
+ghost use Rattle.fits_hdu.specs.Kind.{convention, kind_of, is_unscaled, has_offset, kind_in, offset_of, width_of};
 
 use fits_card::{Card, Name};
 use fits_header::Header;
@@ -27,13 +26,43 @@ pub enum Kind {
     U64,
 }
 
+impl Kind {
+    /// What is added to the number that stands in a pixel: the convention's offset, or 0 (FITS
+    /// Standard 4.0, sections 4.4.2.5 and 5.2.5).
+    pub fn offset(self) -> i128
+        ensures { result ≡ offset_of self }
+    {
+        match self {
+            Kind::I8 => -128,
+            Kind::U16 => 1 << 15,
+            Kind::U32 => 1 << 31,
+            Kind::U64 => 1 << 63,
+            Kind::U8 | Kind::I16 | Kind::I32 | Kind::I64 => 0,
+        }
+    }
+
+    /// How many bytes a pixel has (FITS Standard 4.0, sections 5.2.1 to 5.2.4).
+    pub fn width(self) -> usize
+        ensures value { result ≡ width_of self }
+        ensures some { 1 ≤ result }
+        ensures within { result ≤ 8 }
+    {
+        match self {
+            Kind::U8 | Kind::I8 => 1,
+            Kind::I16 | Kind::U16 => 2,
+            Kind::I32 | Kind::U32 => 4,
+            Kind::I64 | Kind::U64 => 8,
+        }
+    }
+}
+
 const BZERO: Name = Name(*b"BZERO   ");
 
 const BSCALE: Name = Name(*b"BSCALE  ");
 
-// The lead of a name.
+/// The lead of a name.
 #[tactic(auto, using(fits_rules::proofs::LeadCardLemmas::lead_card_steps))]
-fn lead_card(header: &mut Header, name: &Name) -> Option<Card>
+pub(crate) fn lead_card(header: &mut Header, name: &Name) -> Option<Card>
     ensures value { result ≡ lead_card header.old.header.cards name.now }
     ensures work { ReadsUpTo header.old header.new 1 }
 {
@@ -42,10 +71,10 @@ fn lead_card(header: &mut Header, name: &Name) -> Option<Card>
 }
 
 // Whether the lead of BZERO denotes this offset.
-#[tactic(auto, using(fits_rules::proofs::DenotesLemmas::lead_steps))]
+#[tactic(auto, unfolding(fits_rules::specs::Denotes::lead_says_number))]
 fn has_zero(header: &mut Header, offset: i128) -> bool
-    ensures value { IsTrue result
-        ↔ LeadDenotes header.old.header.cards (codes "BZERO   ") offset }
+    ensures value { result
+        ≡ lead_says_number header.old.header.cards (codes "BZERO   ") offset }
     ensures work { ReadsUpTo header.old header.new 1 }
 {
     match lead_card(header, &BZERO) {
@@ -55,9 +84,9 @@ fn has_zero(header: &mut Header, offset: i128) -> bool
 }
 
 // Whether BSCALE is absent or denotes 1.
-#[tactic(auto, using(crate::proofs::KindLemmas::scale_steps))]
+#[tactic(auto, unfolding(fits_rules::specs::Denotes::lead_says_number))]
 fn is_unscaled(header: &mut Header) -> bool
-    ensures value { IsTrue result ↔ IsUnscaled header.old.header.cards }
+    ensures value { result ≡ is_unscaled header.old.header.cards }
     ensures work { ReadsUpTo header.old header.new 1 }
 {
     match lead_card(header, &BSCALE) {
@@ -68,7 +97,7 @@ fn is_unscaled(header: &mut Header) -> bool
 
 // Whether BZERO denotes this offset, and nothing is scaled.
 fn has_offset(header: &mut Header, offset: i128) -> bool
-    ensures value { IsTrue result ↔ HasOffset header.old.header.cards offset }
+    ensures value { result ≡ has_offset header.old.header.cards offset }
     ensures work { ReadsUpTo header.old header.new 2 }
 {
     has_zero(header, offset) && is_unscaled(header)
@@ -103,9 +132,9 @@ fn kind_of(bits: u64, has_offset: bool) -> Kind
 }
 
 /// The kind of the integer image that a header describes. It takes no memory.
+#[tactic(auto, unfolding(crate::specs::Kind::kind_in))]
 pub(crate) fn image_kind(header: &mut Header) -> Option<Kind>
-    ensures found { IfSome result (IsKind header.old.shape header.old.header.cards) }
-    ensures none { IfNone result (image_bits header.old.shape ≡ None) }
+    ensures value { result ≡ kind_in header.old.shape header.old.header.cards }
     ensures work { ReadsUpTo header.old header.new 2 }
 {
     let bits = image_bits(header.shape())?;

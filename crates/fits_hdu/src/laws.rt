@@ -1,17 +1,25 @@
 //! Laws of the definitions, each the contract of a function that does nothing.
-ghost use Rattle.std.specs.Prelude.{◌≡◌, ◌⊎◌, ℕ, Bool, true, false, IsTrue, List, All, codes, nat_eq};
+ghost use Rattle.std.specs.Prelude.{◌≡◌, ◌⊎◌, ◌↔◌, ◌≤◌, ◌+◌, ℕ, ℤ, Bool, true, false, IsTrue, List, length, All, Option, None, Some, Ok, codes, nat_eq};
 ghost use Rattle.std.specs.List.{starts_with};
 ghost use Rattle.fits_card.specs.Change.{cards_after, new_cards};
 ghost use Rattle.fits_card.specs.Header.{IsInnerCard};
 ghost use Rattle.fits_card.specs.declared.change.Change.{Change};
+ghost use Rattle.fits_rules.specs.Image.{image_bits};
 ghost use Rattle.fits_rules.specs.Shape.{shape_of};
 ghost use Rattle.fits_rules.specs.declared.array_shape.Shape.{Shape};
+ghost use Rattle.fits_codes.specs.declared.code.Code.{Code};
+ghost use Rattle.fits_hdu.specs.declared.extension_name.ExtensionName.{ExtensionName};
 ghost use Rattle.fits_hdu.specs.declared.fault.HduFault.{HduFault};
 ghost use Rattle.fits_hdu.specs.declared.kind.Kind.{Kind};
 ghost use Rattle.fits_header.specs.declared.finding.Finding.{Finding};
 ghost use Rattle.fits_hdu.specs.Findings.{AreFindings};
 ghost use Rattle.fits_hdu.specs.Hdu.{HduParts, IsHdu, IsHduOf, HasHduFault, hdu_after};
-ghost use Rattle.fits_hdu.specs.Kind.{IsKind};
+ghost use Rattle.fits_hdu.specs.Kind.{IsKind, kind_in};
+ghost use Rattle.fits_hdu.specs.NewImage.{are_axes, image_cards, image_shape, new_image};
+ghost use Rattle.fits_hdu.specs.Pixels.{filled, written};
+ghost use Rattle.fits_hdu.specs.Stamp.{stamped};
+ghost use Rattle.fits_hdu.specs.Sums.{hdu_sum, verdicts_of};
+ghost use Rattle.fits_hdu.specs.declared.verdict.Verdict.TheVariants.{Right};
 
 /// Bytes begin with one HDU at most.
 pub fn one_hdu()
@@ -54,14 +62,75 @@ pub fn a_change_leaves_an_hdu()
         ≡ shape_of primary hdu.header.cards → IsHdu primary (hdu_after change hdu) }
 {}
 
+/// A new image is an HDU of the shape that is asked for, and, where it has an axis, of that kind.
+pub fn new_images_are_hdus()
+    ensures whole { (kind : Kind) (axes : List ℕ) → are_axes axes ≡ true
+        → IsHdu false (new_image kind axes) }
+    ensures shape { (kind : Kind) (axes : List ℕ) → are_axes axes ≡ true
+        → shape_of false (image_cards kind axes) ≡ Ok (image_shape kind axes) }
+    ensures kind { (kind : Kind) (axes : List ℕ) → are_axes axes ≡ true → 1 ≤ length axes
+        → kind_in (image_shape kind axes) (image_cards kind axes) ≡ Some kind }
+{}
+
 /// An image has one kind.
 pub fn one_kind()
     ensures { (shape : Shape) (cards : List (List ℕ)) (k j : Kind) → IsKind shape cards k
         → IsKind shape cards j → k ≡ j }
 {}
 
+/// Which kind an image has, as a function.
+pub fn which_kind_an_image_has()
+    ensures kind { (shape : Shape) (cards : List (List ℕ)) (kind : Kind)
+        → IsKind shape cards kind ↔ (kind_in shape cards ≡ Some kind) }
+    ensures none { (shape : Shape) (cards : List (List ℕ))
+        → (kind_in shape cards ≡ None) ↔ (image_bits shape ≡ None) }
+{}
+
 /// One list of findings is that of an HDU.
 pub fn one_list_of_findings()
-    ensures { (hdu : HduParts) (found other : List Finding) → AreFindings found hdu
-        → AreFindings other hdu → found ≡ other }
+    ensures { (hdu : HduParts) (codes codes' : List Code) (found found' : List Finding)
+        (name name' : Option ExtensionName) → AreFindings codes found name hdu
+        → AreFindings codes' found' name' hdu → (codes ≡ codes') × (found ≡ found')
+        × (name ≡ name') }
+{}
+
+/// An HDU whose pixels were filled is one: its header is the same, and its data unit as long.
+pub fn filled_hdus_are_hdus()
+    ensures { (primary : Bool) (shape : Shape) (hdu : HduParts) (lo hi : List ℕ) (value : ℤ)
+        (new : HduParts) → IsHdu primary hdu → shape_of primary hdu.header.cards ≡ Ok shape
+        → filled shape lo hi value hdu ≡ Ok new → IsHdu primary new × (new.header ≡ hdu.header)
+        × (length new.data_unit ≡ length hdu.data_unit) }
+{}
+
+/// An HDU whose pixels were written is one: its header is the same, and its data unit as long.
+pub fn written_hdus_are_hdus()
+    ensures { (primary : Bool) (shape : Shape) (hdu : HduParts) (lo hi : List ℕ) (values : List ℤ)
+        (new : HduParts) → IsHdu primary hdu → shape_of primary hdu.header.cards ≡ Ok shape
+        → written shape lo hi values hdu ≡ Ok new → IsHdu primary new × (new.header ≡ hdu.header)
+        × (length new.data_unit ≡ length hdu.data_unit) }
+{}
+
+/// A stamp leaves an HDU, of the same shape and with the same data unit, and brings two cards at
+/// most.
+pub fn stamped_hdus_are_hdus()
+    ensures hdu { (primary : Bool) (hdu : HduParts) → IsHdu primary hdu
+        → IsHdu primary (stamped hdu) }
+    ensures shape { (primary : Bool) (hdu : HduParts) (shape : Shape)
+        → shape_of primary hdu.header.cards ≡ Ok shape
+        → shape_of primary (stamped hdu).header.cards ≡ Ok shape }
+    ensures unit { (hdu : HduParts) → (stamped hdu).data_unit ≡ hdu.data_unit }
+    ensures count { (hdu : HduParts) → length (stamped hdu).header.cards
+        ≤ length hdu.header.cards + 2 }
+{}
+
+/// A stamped HDU sums to all ones (FITS Standard 4.0, section 4.4.2.7 and Appendix J).
+pub fn stamped_hdus_sum_to_all_ones()
+    ensures { (primary : Bool) (hdu : HduParts) → IsHdu primary hdu
+        → hdu_sum (stamped hdu) ≡ 4294967295 }
+{}
+
+/// In a stamped HDU, DATASUM and CHECKSUM are right (FITS Standard 4.0, section 4.4.2.7).
+pub fn a_stamped_hdu_is_right()
+    ensures { (primary : Bool) (hdu : HduParts) → IsHdu primary hdu
+        → verdicts_of (stamped hdu) ≡ record { datasum = Right; checksum = Right } }
 {}

@@ -3,28 +3,51 @@
 
 mod data_unit;
 mod described;
+mod extension_name;
 mod fault;
 mod findings;
+mod found;
 mod hdu;
+mod hdu_sums;
+mod image_cards;
 mod kept;
 mod keyword;
 mod keyword_cards;
 mod kind;
 mod laws;
+mod layout;
+mod new_image;
 mod outline;
+mod pixel_fault;
 mod read_fault;
-mod reporting;
+mod stats;
+mod sum_keywords;
+mod sum_said;
+mod summed;
+mod sums;
+mod unit_sums;
+mod verdict;
+mod verdicts;
 
+pub use extension_name::ExtensionName;
 pub use fault::HduFault;
 pub use findings::Findings;
 pub use hdu::Hdu;
+pub use hdu_sums::HduSums;
 pub use kept::Kept;
 pub use keyword::KeywordFault;
 pub use keyword_cards::KeywordCards;
 pub use kind::Kind;
 pub use laws::{
-    a_change_leaves_an_hdu, an_hdu_or_a_fault, how_hdus_begin, no_fault_at_an_hdu, one_hdu,
-    one_hdu_fault, one_kind, one_list_of_findings,
+    a_change_leaves_an_hdu, a_stamped_hdu_is_right, an_hdu_or_a_fault, filled_hdus_are_hdus,
+    how_hdus_begin, new_images_are_hdus, no_fault_at_an_hdu, one_hdu, one_hdu_fault, one_kind,
+    one_list_of_findings, stamped_hdus_are_hdus, stamped_hdus_sum_to_all_ones,
+    which_kind_an_image_has, written_hdus_are_hdus,
 };
+pub use new_image::{are_axes, image_len, image_shape};
 pub use outline::Outline;
+pub use pixel_fault::PixelFault;
 pub use read_fault::ReadHduFault;
+pub use stats::Stats;
+pub use verdict::Verdict;
+pub use verdicts::Verdicts;

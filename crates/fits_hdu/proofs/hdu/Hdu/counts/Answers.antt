@@ -1,7 +1,14 @@
 use Rattle.std.proofs.Common.{◌∙◌}
-use Rattle.fits_hdu.proofs.FindingsLemmas.{kept_counts}
+use Rattle.fits_hdu.proofs.ReportLemmas.{counts_known, counts_named}
 use Rattle.fits_hdu.proofs.hdu.Hdu.counts.Goals as goal
 
 pub returns-clause-value : goal.returns-clause-value
 returns-clause-value c =
-    rw (← c.self.view_is) (kept_counts c.plus.result c.of-whole.result c.counts-cards.result _ c.self.inside.header.shape c.as_slice.result.now c.plus.ensures c.of-whole.ensures.value (c.as_slice.ensures.value ∙ c.self.invariant.whole) c.counts-cards.ensures.value)
+    let whole = (rw (← c.self.view_is) at c.whole-whole.ensures) in
+    rw (← c.self.view_is) (counts_known c.plus-counts.result c.of-of_whole.result c.counts-of_cards.result _ c.self.inside.header.shape c.as_slice.result.now _ c.plus-counts.ensures c.of-of_whole.ensures.value (c.as_slice.ensures.value ∙ whole) c.counts-of_cards.ensures.value c.if-repeated.false)
+
+-- where another extension is called the same
+pub returns-then-repeated-clause-value : goal.returns-then-repeated-clause-value
+returns-then-repeated-clause-value c =
+    let whole = (rw (← c.self.view_is) at c.whole-whole.ensures) in
+    rw (← c.self.view_is) (counts_named c.plus.result c.plus-counts.result c.of.result c.of-of_whole.result c.counts-of_cards.result _ c.self.inside.header.shape c.as_slice.result.now _ c.plus.ensures c.of.ensures.value c.plus-counts.ensures c.of-of_whole.ensures.value (c.as_slice.ensures.value ∙ whole) c.counts-of_cards.ensures.value c.if-repeated.true)

@@ -1,0 +1,168 @@
+-- Steps of an HDU that passes by, and is summed.
+use Rattle.std.proofs.Common.{◌≡◌, ℕ, ◌+◌, ◌-◌, ◌<◌, ◌≤◌, Bool, true, nat_eq, List, [], ◌++◌, length, take, drop, drop_of_length-le, refl, ap, sym, ◌∙◌, arith, Option}
+use Rattle.std.specs.Prelude.{Ok, ◌%◌, ◌&&◌}
+use Rattle.std.specs.List.{list_all}
+use Rattle.std.proofs.lemmas.List.{length-append, length-take-le, take_all}
+use Rattle.fits_card.specs.Header.{Header, IsHeader, header_bytes}
+use Rattle.fits_card.specs.Intake.{IsSpent, Takes, TakesAfter}
+use Rattle.fits_card.proofs.HeaderLemmas.{fill_length-by_cards, length-header_bytes}
+use Rattle.fits_card.proofs.SightLemmas.{takes_more, takes_none}
+use Rattle.fits_rules.specs.Class.{is_primary}
+use Rattle.fits_rules.specs.Shape.{shape_of}
+use Rattle.fits_rules.specs.Size.{data_length, data_size}
+use Rattle.fits_rules.specs.declared.array_shape.Shape.{Shape}
+use Rattle.fits_rules.proofs.LawLemmas.{shape_primary}
+use Rattle.fits_codes.specs.declared.code.Code.{Code}
+use Rattle.fits_header.specs.Findings.{card_findings, header_codes_of}
+use Rattle.fits_header.specs.declared.finding.Finding.{Finding}
+use Rattle.fits_sum.specs.OnesComplement.{ones_complement}
+use Rattle.fits_sum.specs.Words.{word_total}
+use Rattle.fits_sum.proofs.WordLemmas.{totals_add}
+use Rattle.fits_hdu.specs.ExtensionName.{extension_name}
+use Rattle.fits_hdu.specs.Findings.{AreFindings, data_codes, is_filled, whole_codes}
+use Rattle.fits_hdu.specs.Hdu.{HduParts, IsHdu, hdu_bytes}
+use Rattle.fits_hdu.specs.Layout.{fill_byte}
+use Rattle.fits_hdu.specs.Passing.{AreSums, IsSummed, TakesFewer, TakesSummed, codes_by, verdicts_of_sums}
+use Rattle.fits_hdu.specs.Reading.{HduStops, TakesHdu}
+use Rattle.fits_hdu.specs.Sums.{AreSumsOf, data_sum, hdu_sum, sum_keywords, verdicts_by, verdicts_of}
+use Rattle.fits_hdu.specs.declared.extension_name.ExtensionName.{ExtensionName}
+use Rattle.fits_hdu.specs.declared.fault.HduFault.TheVariants.{ShortData}
+use Rattle.fits_hdu.specs.declared.read_fault.ReadHduFault.TheVariants.{Hdu}
+use Rattle.fits_hdu.specs.declared.unit_sums.UnitSums.{UnitSums}
+use Rattle.fits_hdu.specs.declared.verdicts.Verdicts.{Verdicts}
+use Rattle.fits_hdu.proofs.ReadingLemmas.{hdu_taken, hdu_whole, stops_by_unit, stops_near}
+use Rattle.fits_hdu.proofs.UnitLemmas.{filled-append}
+
+-- nothing is summed yet
+pub summed_none : (used fill : ℕ) (a : Option (List ℕ)) (left : ℕ) (sums : UnitSums) → sums ≡ record { count = 0; total = 0; filled = true } → TakesSummed used fill a a left left sums
+summed_none used fill a left sums is = record {
+  bytes = [];
+  taken = takes_none a left;
+  summed = record {
+    count = ap (λ s. s.count) is;
+    total = ap (λ s. s.total) is;
+    filled = ap (λ s. s.filled) is ∙ ap (list_all (nat_eq fill)) (sym (drop_of_length-le [] {i = used} (omega arith)));
+  };
+}
+
+-- the sums of bytes and of those of a piece
+sums_more : (used fill : ℕ) (bytes room : List ℕ) (sums sums' : UnitSums) → AreSums used fill bytes sums → sums.count % 4 ≡ 0 → sums'.count ≡ sums.count + length room → sums'.total ≡ sums.total + word_total room
+    → sums'.filled ≡ (sums.filled && list_all (nat_eq fill) (drop (used - sums.count) room)) → AreSums used fill (bytes ++ room) sums'
+sums_more used fill bytes room sums sums' p words count total filled = record {
+  count = omega (arith, count, p.count, length-append bytes room);
+  total = omega (arith, total, p.total, totals_add bytes room (ap (λ n. n % 4) (sym p.count) ∙ words));
+  filled = filled ∙ (rw (p.filled, p.count) (sym (filled-append fill used bytes room)));
+}
+
+-- a piece more is summed
+pub summed_more : (used fill : ℕ) (a b c : Option (List ℕ)) (left left' left'' n : ℕ) (room : List ℕ) (sums sums' : UnitSums) → TakesSummed used fill a b left left' sums → Takes b c left' left'' (take n room) → length room ≤ n
+    → sums.count % 4 ≡ 0 → sums'.count ≡ sums.count + length room → sums'.total ≡ sums.total + word_total room
+    → sums'.filled ≡ (sums.filled && list_all (nat_eq fill) (drop (used - sums.count) room)) → TakesSummed used fill a c left left'' sums'
+summed_more used fill a b c left left' left'' n room sums sums' p q le words count total filled = record {
+  bytes = p.bytes ++ room;
+  taken = takes_more a b c left left' left'' p.bytes room p.taken (rw (take_all n room le) at q);
+  summed = sums_more used fill p.bytes room sums sums' p.summed words count total filled;
+}
+
+-- the source ended within a piece
+pub takes_fewer : (used fill : ℕ) (a b c : Option (List ℕ)) (left left' left'' n len : ℕ) (room : List ℕ) (sums : UnitSums) → TakesSummed used fill a b left left' sums → Takes b c left' left'' (take n room) → n < length room → IsSpent c left''
+    → sums.count + length room ≤ len → TakesFewer a c left left'' len
+takes_fewer used fill a b c left left' left'' n len room sums p q short spent le = record {
+  bytes = p.bytes ++ take n room;
+  taken = takes_more a b c left left' left'' p.bytes (take n room) p.taken q;
+  short = omega (arith, short, le, p.summed.count, length-append p.bytes (take n room), length-take-le n room (omega (arith, short)));
+  spent = spent;
+}
+
+pub ruleset summing_steps = (summed_none, summed_more, takes_fewer)
+
+-- a data unit is of whole words
+pub unit_words : (shape : Shape) → data_length shape % 4 ≡ 0
+unfolding data_length
+unit_words shape = omega arith
+
+-- an HDU whose data unit was summed
+pub hdu_summed : (primary : Bool) (before : List ℕ) (a b c : Option (List ℕ)) (left left' left'' len used fill : ℕ) (header : Header) (shape : Shape) (sums : UnitSums) → TakesAfter before a b left left' (header_bytes header) → IsHeader header → shape_of primary header.cards ≡ Ok shape
+    → TakesSummed used fill b c left' left'' sums → sums.count ≡ len → len ≡ data_length shape → used ≡ data_size shape → fill ≡ fill_byte shape.class → is_primary shape.class ≡ primary
+    → TakesHdu (λ hdu. IsSummed hdu header shape sums) primary before a c left left''
+unfolding is_filled
+hdu_summed primary before a b c left left' left'' len used fill header shape sums p whole described q count unit data_is fill_is class = record {
+  hdu = record { header = header; data_unit = q.bytes };
+  kept = record {
+    passed = record { same = refl; described = rw class described; unit = q.summed.count };
+    total = q.summed.total;
+    filled = rw (data_is, fill_is) at q.summed.filled;
+  };
+  whole = hdu_whole primary header shape q.bytes whole described (sym q.summed.count ∙ (count ∙ unit));
+  taken = hdu_taken before a b c left left' left'' header q.bytes p q.taken;
+}
+
+-- the data unit that passed by is too short
+pub stops_summed : (primary : Bool) (before : List ℕ) (a b c : Option (List ℕ)) (left left' left'' len f g : ℕ) (header : Header) (shape : Shape) → TakesAfter before a b left left' (header_bytes header) → IsHeader header → shape_of primary header.cards ≡ Ok shape
+    → (q : TakesFewer b c left' left'' len) → len ≡ data_length shape → g ≡ f → HduStops primary before a c left left'' f g (Hdu ShortData)
+stops_summed primary before a b c left left' left'' len f g header shape p whole described q unit r =
+    stops_near primary before a b c left left' left'' f g header shape q.bytes p whole described q.taken q.spent (omega (arith, q.short, unit)) r
+
+pub ruleset summed_steps = (shape_primary, unit_words, hdu_summed, stops_summed, stops_by_unit)
+
+-- an HDU's header is of whole words
+header_words : (header : Header) → IsHeader header → length (header_bytes header) % 4 ≡ 0
+header_words header whole = omega (arith, length-header_bytes header whole, fill_length-by_cards (length header.cards), whole.fill_size)
+
+-- the total of an HDU, by those of its parts
+hdu_total : (primary : Bool) (header : Header) (hdu : HduParts) (unit : ℕ) → IsHdu primary hdu → hdu.header ≡ header → unit ≡ word_total hdu.data_unit → word_total (header_bytes header) + unit ≡ word_total (hdu_bytes hdu)
+hdu_total primary header hdu unit whole same total =
+    ap (λ n. word_total (header_bytes header) + n) total ∙ ap (λ (h : Header). word_total (header_bytes h) + word_total hdu.data_unit) (sym same)
+    ∙ sym (totals_add (header_bytes hdu.header) hdu.data_unit (header_words hdu.header whole.header))
+
+-- the verdicts by the total of a data unit and that of the whole HDU
+abbrev verdicts_with : Header → ℕ → ℕ → Verdicts
+verdicts_with header unit whole = verdicts_by (sum_keywords header.cards) (ones_complement unit) (ones_complement whole)
+
+-- the verdicts by the sums of an HDU are its own
+summed_verdicts : (primary : Bool) (header : Header) (shape : Shape) (sums : UnitSums) (hdu : HduParts) → IsHdu primary hdu → IsSummed hdu header shape sums → verdicts_of_sums header sums ≡ verdicts_of hdu
+unfolding verdicts_of data_sum hdu_sum
+summed_verdicts primary header shape sums hdu whole p =
+    let total : ℕ = word_total (header_bytes header) + sums.total in
+    ap (λ (h : Header). verdicts_with h sums.total total) (sym p.passed.same) ∙ (ap (λ n. verdicts_with hdu.header n total) p.total
+    ∙ ap (λ n. verdicts_with hdu.header (word_total hdu.data_unit) n) (hdu_total primary header hdu sums.total whole p.passed.same p.total))
+
+-- the codes by the sums of an HDU are those of it as a whole
+summed_codes : (primary : Bool) (header : Header) (shape : Shape) (sums : UnitSums) (hdu : HduParts) → IsHdu primary hdu → IsSummed hdu header shape sums → codes_by shape header sums ≡ whole_codes shape hdu
+summed_codes primary header shape sums hdu whole p =
+    ap (λ (h : Header). header_codes_of shape h ++ data_codes sums.filled (verdicts_of_sums header sums)) (sym p.passed.same)
+    ∙ (ap (λ (b : Bool). header_codes_of shape hdu.header ++ data_codes b (verdicts_of_sums header sums)) p.filled
+    ∙ ap (λ (v : Verdicts). header_codes_of shape hdu.header ++ data_codes (is_filled shape hdu.data_unit) v) (summed_verdicts primary header shape sums hdu whole p))
+
+-- what is found by the sums of an HDU is found of it
+summed_findings : (primary : Bool) (codes : List Code) (found : List Finding) (name : Option ExtensionName) (header : Header) (shape : Shape) (sums : UnitSums) (hdu : HduParts) → codes ≡ codes_by shape header sums → found ≡ card_findings shape header.cards
+    → name ≡ extension_name (is_primary shape.class) header.cards → IsHdu primary hdu → IsSummed hdu header shape sums → AreFindings codes found name hdu
+summed_findings primary codes found name header shape sums hdu is cards called whole p = record {
+  shape = shape;
+  described = rw p.passed.same p.passed.described;
+  codes = is ∙ summed_codes primary header shape sums hdu whole p;
+  cards = cards ∙ ap (λ (h : Header). card_findings shape h.cards) (sym p.passed.same);
+  called = called ∙ ap (λ (h : Header). extension_name (is_primary shape.class) h.cards) (sym p.passed.same);
+}
+
+-- they are kept of it
+pub findings_summed : (primary : Bool) (before : List ℕ) (a b : Option (List ℕ)) (left left' : ℕ) (codes : List Code) (found : List Finding) (name : Option ExtensionName) (header : Header) (shape : Shape) (sums : UnitSums)
+    → TakesHdu (λ hdu. IsSummed hdu header shape sums) primary before a b left left' → codes ≡ codes_by shape header sums → found ≡ card_findings shape header.cards → name ≡ extension_name (is_primary shape.class) header.cards
+    → TakesHdu (AreFindings codes found name) primary before a b left left'
+findings_summed primary before a b left left' codes found name header shape sums p is cards called = record {
+  hdu = p.hdu;
+  kept = summed_findings primary codes found name header shape sums p.hdu is cards called p.whole p.kept;
+  whole = p.whole;
+  taken = p.taken;
+}
+
+-- and so are its sum and its verdicts
+pub sums_summed : (primary : Bool) (before : List ℕ) (a b : Option (List ℕ)) (left left' : ℕ) (datasum : ℕ) (verdicts : Verdicts) (header : Header) (shape : Shape) (sums : UnitSums) → TakesHdu (λ hdu. IsSummed hdu header shape sums) primary before a b left left'
+    → datasum ≡ ones_complement sums.total → verdicts ≡ verdicts_of_sums header sums → TakesHdu (AreSumsOf datasum verdicts) primary before a b left left'
+unfolding data_sum
+sums_summed primary before a b left left' datasum verdicts header shape sums p is are = record {
+  hdu = p.hdu;
+  kept = record { sum = is ∙ ap ones_complement p.kept.total; right = are ∙ summed_verdicts primary header shape sums p.hdu p.whole p.kept };
+  whole = p.whole;
+  taken = p.taken;
+}

@@ -1,0 +1,323 @@
+-- The pixels of an image of integers: their layout by the kind, and their values.
+use Rattle.std.proofs.Common.{◌≡◌, ◌≤◌, ◌<◌, ℕ, ◌+◌, ◌*◌, ◌/◌, ◌^◌, ◌==◌, Bool, true, false, cond, List, length, inl, inr, refl, ap, sym, ◌∙◌, subst, arith, Option, None, Some, ℤ, pos, negsuc, to_z, of_z}
+use Rattle.std.specs.Prelude.{Result, Ok, Err, IsTrue, ◌-ℤ◌, unsigned_abs, slice_index_or, not, FitsSigned}
+use Rattle.std.specs.Int.{w64, w128}
+use Rattle.std.proofs.Math.Nat.{mul-le-mul_left}
+use Rattle.std.proofs.lemmas.Bool.{eqb-true, eq-eqb, ne_eqb, or_cases}
+use Rattle.std.proofs.lemmas.Int.{ints, fits_signed_from_abs, to_z-of_z}
+use Rattle.std.proofs.lemmas.List.FromFn.{length-map-range_with_len}
+use Rattle.fits_value.proofs.FrontLemmas.{option_map_some}
+use Rattle.fits_card.specs.Header.{Header, IsHeader}
+use Rattle.fits_plane.specs.Layout.{IsLayout, block_count}
+use Rattle.fits_plane.specs.Pixels.{IsWidth, IsStorable, can_store, can_store_all, pixels}
+use Rattle.fits_plane.specs.Rectangle.{lies_within, product, rectangle_size, rectangle_values, rectangle_written, byte_written}
+use Rattle.fits_plane.specs.Statistics.{value_statistics}
+use Rattle.fits_plane.specs.Work.{rectangle_blocks}
+use Rattle.fits_plane.specs.declared.layout.Layout.{Layout}
+use Rattle.fits_plane.specs.declared.value_summary.ValueSummary.{ValueSummary}
+use Rattle.fits_plane.proofs.PixelLemmas.{by_width, width_range}
+use Rattle.fits_plane.proofs.TestLemmas.{can_store_decides}
+use Rattle.fits_rules.specs.Class.{is_primary}
+use Rattle.fits_rules.specs.Image.{image_bits, integer_bits}
+use Rattle.fits_rules.specs.Shape.{shape_of, is_bitpix}
+use Rattle.fits_rules.specs.declared.array_shape.Shape.{Shape}
+use Rattle.fits_rules.proofs.LawLemmas.{shape_bounded}
+use Rattle.fits_hdu.specs.Hdu.{HduParts, IsHdu}
+use Rattle.fits_hdu.specs.Kind.{kind_in, kind_of, convention, has_offset, offset_of, width_of}
+use Rattle.fits_hdu.specs.Layout.{layout_by, layout_of}
+use Rattle.fits_hdu.specs.Pixels.{filled, filled_by, rect_by, rect_of, stats_of, with_numbers, written, written_by}
+use Rattle.fits_hdu.specs.State.{PixelWork}
+use Rattle.fits_hdu.specs.Work.{IsPatched}
+use Rattle.fits_hdu.specs.declared.kind.Kind.{Kind}
+use Rattle.fits_hdu.specs.declared.kind.Kind.TheVariants.{U8, I8, I16, U16, I32, U32, I64, U64}
+use Rattle.fits_hdu.specs.declared.pixel_fault.PixelFault.{PixelFault}
+use Rattle.fits_hdu.specs.declared.pixel_fault.PixelFault.TheVariants.{NotImage, BadRectangle, WrongCount, OutOfRange}
+
+-- ---- the layout of an image
+
+-- the bits of an image are what BITPIX says
+bits_said : (b : Bool) (bitpix : ℤ) (bits : ℕ) → cond b (integer_bits bitpix) None ≡ Some bits → bitpix ≡ pos bits
+bits_said true (pos n) bits e = ap pos (cc)
+bits_said true (negsuc n) bits e = absurd (cc)
+bits_said false bitpix bits e = absurd (cc)
+
+-- an image of integers
+image_bitpix : (shape : Shape) (bits : ℕ) → image_bits shape ≡ Some bits → shape.bitpix ≡ pos bits
+unfolding image_bits
+image_bitpix shape bits e = bits_said _ shape.bitpix bits e
+
+-- a kind has the width of its bits
+width_of_bits : (bits : ℕ) (offset : Bool) → IsTrue (is_bitpix (pos bits)) → bits / 8 ≡ width_of (kind_of bits offset)
+width_of_bits bits offset e = elim (or_cases _ _ e) [
+  | inl e ↦ elim (or_cases _ _ e) [
+    | inl e ↦ elim (or_cases _ _ e) [
+      | inl e ↦ known 8 (eqb-true bits 8 e) (λ b. of_8 b)
+      | inr e ↦ known 16 (eqb-true bits 16 e) (λ b. of_16 b)
+    ]
+    | inr e ↦ known 32 (eqb-true bits 32 e) (λ b. of_32 b)
+  ]
+  | inr e ↦ known 64 (eqb-true bits 64 e) (λ b. of_64 b)
+]
+  where
+    known : (n : ℕ) → bits ≡ n → ((b : Bool) → n / 8 ≡ width_of (kind_of n b)) → bits / 8 ≡ width_of (kind_of bits offset)
+    known n same h = subst (λ m. m / 8 ≡ width_of (kind_of m offset)) (sym same) (h offset)
+
+    of_8 : (b : Bool) → 8 / 8 ≡ width_of (kind_of 8 b)
+    of_8 true = refl
+    of_8 false = refl
+
+    of_16 : (b : Bool) → 16 / 8 ≡ width_of (kind_of 16 b)
+    of_16 true = refl
+    of_16 false = refl
+
+    of_32 : (b : Bool) → 32 / 8 ≡ width_of (kind_of 32 b)
+    of_32 true = refl
+    of_32 false = refl
+
+    of_64 : (b : Bool) → 64 / 8 ≡ width_of (kind_of 64 b)
+    of_64 true = refl
+    of_64 false = refl
+
+-- the layout of an image has the width of its kind
+pub layout_width : (shape : Shape) (cards : List (List ℕ)) (kind : Kind) → shape_of (is_primary shape.class) cards ≡ Ok shape → kind_in shape cards ≡ Some kind → (layout_of shape cards).width ≡ width_of kind
+unfolding kind_in layout_of
+layout_width shape cards kind described e =
+    let found = option_map_some (λ bits. kind_of bits (has_offset cards (convention bits))) (image_bits shape) kind e in
+    let bitpix = (shape_bounded (is_primary shape.class) cards shape described).bitpix in
+    let known : IsTrue (is_bitpix (pos found.0)) = subst (λ z. IsTrue (is_bitpix z)) (image_bitpix shape found.0 found.1) bitpix in
+    ap (λ o. (layout_by o shape cards).width) found.1 ∙ width_of_bits found.0 (has_offset cards (convention found.0)) known ∙ ap width_of found.2
+
+-- and a pixel for each place in its axes
+pub layout_pixels : (shape : Shape) (cards : List (List ℕ)) (kind : Kind) → kind_in shape cards ≡ Some kind → product shape.axes ≡ (layout_of shape cards).pixels
+unfolding kind_in layout_of
+layout_pixels shape cards kind e =
+    let found = option_map_some (λ bits. kind_of bits (has_offset cards (convention bits))) (image_bits shape) kind e in
+    sym (ap (λ o. (layout_by o shape cards).pixels) found.1)
+
+-- the plane of an image has it
+pub plane_width : (layout : Layout) (shape : Shape) (cards : List (List ℕ)) (kind : Kind) (o : Option Kind) (width : ℕ) → layout ≡ layout_of shape cards → shape_of (is_primary shape.class) cards ≡ Ok shape → o ≡ kind_in shape cards → o ≡ Some kind → width ≡ width_of kind → layout.width ≡ width
+plane_width layout shape cards kind o width is described found some w =
+    ap (λ (l : Layout). l.width) is ∙ layout_width shape cards kind described (sym found ∙ some) ∙ sym w
+
+-- and its pixels
+pub plane_pixels : (layout : Layout) (shape : Shape) (cards : List (List ℕ)) (kind : Kind) (o : Option Kind) → layout ≡ layout_of shape cards → o ≡ kind_in shape cards → o ≡ Some kind → product shape.axes ≡ layout.pixels
+plane_pixels layout shape cards kind o is found some = layout_pixels shape cards kind (sym found ∙ some) ∙ ap (λ (l : Layout). l.pixels) (sym is)
+
+-- a pixel of any kind has 1, 2, 4 or 8 bytes
+pub kind_width : (kind : Kind) → IsWidth (width_of kind)
+kind_width U8 = inl refl
+kind_width I8 = inl refl
+kind_width I16 = inr (inl refl)
+kind_width U16 = inr (inl refl)
+kind_width I32 = inr (inr (inl refl))
+kind_width U32 = inr (inr (inl refl))
+kind_width I64 = inr (inr (inr refl))
+kind_width U64 = inr (inr (inr refl))
+
+-- no offset is larger than 2^63
+pub small_offset : (kind : Kind) → unsigned_abs (offset_of kind) ≤ 2 ^ 63
+small_offset U8 = omega arith
+small_offset I8 = omega arith
+small_offset I16 = omega arith
+small_offset U16 = omega arith
+small_offset I32 = omega arith
+small_offset U32 = omega arith
+small_offset I64 = omega arith
+small_offset U64 = omega arith
+
+-- so an offset is a number of 128 bits
+pub offset_fits : (kind : Kind) (offset : ℤ) → offset ≡ offset_of kind → to_z w128 (of_z w128 offset) ≡ offset
+offset_fits kind offset is =
+    let small : unsigned_abs offset ≤ 2 ^ 63 = rw is (small_offset kind) in
+    to_z-of_z w128 offset (fits_signed_from_abs w128 offset (omega (arith, small)))
+
+-- a rectangle that is written leaves as many bytes
+pub length-rectangle_written : (width : ℕ) (axes lo hi : List ℕ) (number : ℕ → ℤ) (bytes : List ℕ) → length (rectangle_written width axes lo hi number bytes) ≡ length bytes
+unfolding rectangle_written
+length-rectangle_written width axes lo hi number bytes = length-map-range_with_len (byte_written width axes lo hi number bytes) 0 (length bytes)
+
+-- the work of a write, by that of its plane
+pub patched : (layout : Layout) (shape : Shape) (cards : List (List ℕ)) (bytes axes lo hi : List ℕ) (old new : PixelWork) → layout ≡ layout_of shape cards → axes ≡ shape.axes
+    → new.reads ≡ old.reads → old.scans ≤ new.scans → new.scans ≤ old.scans + rectangle_blocks layout bytes axes lo hi → old.joins ≤ new.joins
+    → ((d : ℕ) → block_count bytes ≤ 2 ^ d → new.joins ≤ old.joins + rectangle_blocks layout bytes axes lo hi * d)
+    → IsPatched (rectangle_blocks (layout_of shape cards) bytes shape.axes lo hi) (block_count bytes) old new
+patched layout shape cards bytes axes lo hi old new is same reads more_scans scans more_joins joins =
+    let blocks : rectangle_blocks layout bytes axes lo hi ≡ rectangle_blocks (layout_of shape cards) bytes shape.axes lo hi =
+    ap (λ l. rectangle_blocks l bytes axes lo hi) is ∙ ap (λ xs. rectangle_blocks (layout_of shape cards) bytes xs lo hi) same in
+    subst (λ n. IsPatched n (block_count bytes) old new) blocks (record { reads = reads; more_scans = more_scans; scans = scans; more_joins = more_joins; joins = joins })
+
+-- ---- numbers that are small, and pixels that are few
+
+-- a number that is stored has 64 bits
+pub stored_fits : (width : ℕ) (number : ℤ) → IsWidth width → IsStorable width number → FitsSigned w64 number
+stored_fits width number w s =
+    by_width (λ w. IsStorable w number → FitsSigned w64 number)
+    (λ s. omega (arith, ints, s.least, s.greatest)) (λ s. omega (arith, ints, s.least, s.greatest))
+    (λ s. omega (arith, ints, s.least, s.greatest)) (λ s. omega (arith, ints, s.least, s.greatest)) width w s
+
+-- as many pixels as a data unit has bytes at most
+few_pixels : (layout : Layout) (bytes : List ℕ) → IsLayout layout bytes → layout.pixels ≤ 17179869184
+few_pixels layout bytes fits = elim fits.width [
+  | inl zero ↦ let no = fits.no_pixels zero in omega (arith, no)
+  | inr width ↦ let more = mul-le-mul_left layout.pixels (width_range layout.width width).0 in omega (arith, more, fits.room, fits.used, fits.limit)
+]
+
+-- so its axes span few
+pub few_places : (layout : Layout) (bytes axes : List ℕ) → IsLayout layout bytes → product axes ≡ layout.pixels → product axes < 4611686018427387904
+few_places layout bytes axes fits all = omega (arith, all, few_pixels layout bytes fits)
+
+-- ---- what is read
+
+-- the statistics of an image
+pub stats_of-image : (shape : Shape) (hdu : HduParts) (kind : Kind) (layout : Layout) (values : ValueSummary) → kind_in shape hdu.header.cards ≡ Some kind → layout ≡ layout_of shape hdu.header.cards
+    → values ≡ value_statistics (offset_of kind) layout.blank (pixels layout.width hdu.data_unit 0 layout.pixels)
+    → Some (record { defined = values.defined; blank = values.blank; least = values.least; greatest = values.greatest; sum = values.sum }) ≡ stats_of shape hdu
+unfolding stats_of
+stats_of-image shape hdu kind layout values e is found = rw (e, found, is) refl
+
+-- no image
+pub stats_of-none : (shape : Shape) (hdu : HduParts) → kind_in shape hdu.header.cards ≡ None → None ≡ stats_of shape hdu
+unfolding stats_of
+stats_of-none shape hdu e = rw e refl
+
+-- no image
+pub rect_of-not_image : (shape : Shape) (hdu : HduParts) (lo hi : List ℕ) → kind_in shape hdu.header.cards ≡ None → rect_of shape lo hi hdu ≡ Err NotImage
+unfolding rect_of
+rect_of-not_image shape hdu lo hi e = ap (λ o. rect_by o shape lo hi hdu) e
+
+-- a bad rectangle
+pub rect_of-bad : (shape : Shape) (hdu : HduParts) (lo hi : List ℕ) (kind : Kind) → kind_in shape hdu.header.cards ≡ Some kind → lies_within shape.axes lo hi ≡ false → rect_of shape lo hi hdu ≡ Err BadRectangle
+unfolding rect_of
+rect_of-bad shape hdu lo hi kind e bad = rw (e, bad) refl
+
+-- its values
+pub rect_of-values : (shape : Shape) (hdu : HduParts) (lo hi : List ℕ) (kind : Kind) → kind_in shape hdu.header.cards ≡ Some kind → lies_within shape.axes lo hi ≡ true
+    → rect_of shape lo hi hdu ≡ Ok (rectangle_values (width_of kind) hdu.data_unit shape.axes lo hi (offset_of kind))
+unfolding rect_of
+rect_of-values shape hdu lo hi kind e within = rw (e, within) refl
+
+-- ---- what is written
+
+-- no image
+pub filled-not_image : (shape : Shape) (hdu : HduParts) (lo hi : List ℕ) (value : ℤ) → kind_in shape hdu.header.cards ≡ None → filled shape lo hi value hdu ≡ Err NotImage
+unfolding filled
+filled-not_image shape hdu lo hi value e = ap (λ o. filled_by o shape lo hi value hdu) e
+
+-- a bad rectangle
+pub filled-bad : (shape : Shape) (hdu : HduParts) (lo hi : List ℕ) (value : ℤ) (kind : Kind) → kind_in shape hdu.header.cards ≡ Some kind → lies_within shape.axes lo hi ≡ false → filled shape lo hi value hdu ≡ Err BadRectangle
+unfolding filled
+filled-bad shape hdu lo hi value kind e bad = rw (e, bad) refl
+
+-- a test that fails
+not_so : {P : Type 0} (b : Bool) → (IsTrue b → P) → (P → ⊥) → b ≡ false
+not_so true f g = absurd (g (f refl))
+not_so false f g = refl
+
+-- a number that isn't stored
+pub filled-out : (shape : Shape) (hdu : HduParts) (lo hi : List ℕ) (value : ℤ) (kind : Kind) → kind_in shape hdu.header.cards ≡ Some kind → lies_within shape.axes lo hi ≡ true → (IsStorable (width_of kind) (value -ℤ offset_of kind) → ⊥) → filled shape lo hi value hdu ≡ Err OutOfRange
+unfolding filled
+filled-out shape hdu lo hi value kind e within none =
+    let out = not_so (can_store (width_of kind) (value -ℤ offset_of kind)) (can_store_decides (width_of kind) (value -ℤ offset_of kind)).0 none in
+    rw (e, within, out) refl
+
+-- it is filled
+pub filled-done : (shape : Shape) (header : Header) (old new : List ℕ) (lo hi : List ℕ) (value number : ℤ) (kind : Kind) (width : ℕ) → kind_in shape header.cards ≡ Some kind → lies_within shape.axes lo hi ≡ true → width ≡ width_of kind
+    → IsStorable (width_of kind) number → number ≡ value -ℤ offset_of kind → new ≡ rectangle_written width shape.axes lo hi (λ rank. number) old
+    → filled shape lo hi value (record { header = header; data_unit = old }) ≡ Ok (record { header = header; data_unit = new })
+unfolding filled
+filled-done shape header old new lo hi value number kind width e within w stored is written =
+    let can = (can_store_decides (width_of kind) (value -ℤ offset_of kind)).1 (subst (IsStorable (width_of kind)) is stored) in
+    rw (e, within, can, written, is, w) refl
+
+-- no image
+pub written-not_image : (shape : Shape) (hdu : HduParts) (lo hi : List ℕ) (values : List ℤ) → kind_in shape hdu.header.cards ≡ None → written shape lo hi values hdu ≡ Err NotImage
+unfolding written
+written-not_image shape hdu lo hi values e = ap (λ o. written_by o shape lo hi values hdu) e
+
+-- a bad rectangle
+pub written-bad : (shape : Shape) (hdu : HduParts) (lo hi : List ℕ) (values : List ℤ) (kind : Kind) → kind_in shape hdu.header.cards ≡ Some kind → lies_within shape.axes lo hi ≡ false → written shape lo hi values hdu ≡ Err BadRectangle
+unfolding written
+written-bad shape hdu lo hi values kind e bad = rw (e, bad) refl
+
+-- too many values, or too few
+pub written-count : (shape : Shape) (hdu : HduParts) (lo hi : List ℕ) (values : List ℤ) (kind : Kind) → kind_in shape hdu.header.cards ≡ Some kind → lies_within shape.axes lo hi ≡ true → (length values ≡ rectangle_size lo hi → ⊥) → written shape lo hi values hdu ≡ Err WrongCount
+unfolding written
+written-count shape hdu lo hi values kind e within h =
+    rw (e, within, ne_eqb (length values) (rectangle_size lo hi) h) refl
+
+-- one that isn't stored
+pub written-out : (shape : Shape) (hdu : HduParts) (lo hi : List ℕ) (values : List ℤ) (kind : Kind) → kind_in shape hdu.header.cards ≡ Some kind → lies_within shape.axes lo hi ≡ true → length values ≡ rectangle_size lo hi → can_store_all (width_of kind) (offset_of kind) values ≡ false → written shape lo hi values hdu ≡ Err OutOfRange
+unfolding written
+written-out shape hdu lo hi values kind e within count out =
+    rw (e, within, eq-eqb (length values) (rectangle_size lo hi) count, out) refl
+
+-- they are written
+pub written-done : (shape : Shape) (header : Header) (old new : List ℕ) (lo hi : List ℕ) (values : List ℤ) (kind : Kind) (width : ℕ) → kind_in shape header.cards ≡ Some kind → lies_within shape.axes lo hi ≡ true → width ≡ width_of kind
+    → length values ≡ rectangle_size lo hi → can_store_all (width_of kind) (offset_of kind) values ≡ true
+    → new ≡ rectangle_written width shape.axes lo hi (λ rank. slice_index_or values rank (pos 0) -ℤ offset_of kind) old
+    → written shape lo hi values (record { header = header; data_unit = old }) ≡ Ok (record { header = header; data_unit = new })
+unfolding written
+written-done shape header old new lo hi values kind width e within w count can put =
+    rw (e, within, eq-eqb (length values) (rectangle_size lo hi) count, can, put, w) refl
+
+-- ---- what is written is an HDU
+
+-- the header is the same, and the data unit as long
+abbrev pub KeepsSize : HduParts → HduParts → Type 0
+KeepsSize hdu new = (new.header ≡ hdu.header) × (length new.data_unit ≡ length hdu.data_unit)
+
+-- what was let through by a test
+passed : {X E : Type 0} (b : Bool) (fault : E) (r : Result X E) (x : X) → cond b (Err fault) r ≡ Ok x → r ≡ Ok x
+passed true fault r x e = absurd (cc)
+passed false fault r x e = e
+
+-- with numbers in a rectangle
+keeps : (shape : Shape) (kind : Kind) (lo hi : List ℕ) (number : ℕ → ℤ) (hdu new : HduParts) (r : Result HduParts PixelFault) → r ≡ Ok (with_numbers shape kind lo hi number hdu) → r ≡ Ok new → KeepsSize hdu new
+keeps shape kind lo hi number hdu new r is e =
+    let both : Result.Ok (with_numbers shape kind lo hi number hdu) ≡ Ok new = sym is ∙ e in
+    let same : with_numbers shape kind lo hi number hdu ≡ new = cc in
+    subst (λ (h : HduParts). KeepsSize hdu h) same (refl, length-rectangle_written (width_of kind) shape.axes lo hi number hdu.data_unit)
+
+-- filled
+keeps_filled : (o : Option Kind) (shape : Shape) (lo hi : List ℕ) (value : ℤ) (hdu new : HduParts) → filled_by o shape lo hi value hdu ≡ Ok new → KeepsSize hdu new
+keeps_filled None shape lo hi value hdu new e = absurd (cc)
+keeps_filled (Some kind) shape lo hi value hdu new e =
+    let within = passed (not (lies_within shape.axes lo hi)) BadRectangle _ new e in
+    let stored = passed (not (can_store (width_of kind) (value -ℤ offset_of kind))) OutOfRange _ new within in
+    keeps shape kind lo hi (λ rank. value -ℤ offset_of kind) hdu new _ refl stored
+
+-- written
+keeps_written : (o : Option Kind) (shape : Shape) (lo hi : List ℕ) (values : List ℤ) (hdu new : HduParts) → written_by o shape lo hi values hdu ≡ Ok new → KeepsSize hdu new
+keeps_written None shape lo hi values hdu new e = absurd (cc)
+keeps_written (Some kind) shape lo hi values hdu new e =
+    let within = passed (not (lies_within shape.axes lo hi)) BadRectangle _ new e in
+    let counted = passed (not (length values == rectangle_size lo hi)) WrongCount _ new within in
+    let stored = passed (not (can_store_all (width_of kind) (offset_of kind) values)) OutOfRange _ new counted in
+    keeps shape kind lo hi (λ rank. slice_index_or values rank (pos 0) -ℤ offset_of kind) hdu new _ refl stored
+
+-- so it is an HDU
+kept_whole : (primary : Bool) (hdu new : HduParts) → IsHdu primary hdu → KeepsSize hdu new → IsHdu primary new × (new.header ≡ hdu.header) × (length new.data_unit ≡ length hdu.data_unit)
+kept_whole primary hdu new p k = (
+  record {
+    shape = p.shape;
+    header = subst (λ (h : Header). IsHeader h) (sym k.0) p.header;
+    described = subst (λ (h : Header). shape_of primary h.cards ≡ Ok p.shape) (sym k.0) p.described;
+    size = k.1 ∙ p.size;
+  },
+  k.0,
+  k.1,
+)
+
+-- an HDU that was filled
+pub filled_hdu : (primary : Bool) (shape : Shape) (hdu : HduParts) (lo hi : List ℕ) (value : ℤ) (new : HduParts) → IsHdu primary hdu → shape_of primary hdu.header.cards ≡ Ok shape → filled shape lo hi value hdu ≡ Ok new
+    → IsHdu primary new × (new.header ≡ hdu.header) × (length new.data_unit ≡ length hdu.data_unit)
+unfolding filled
+filled_hdu primary shape hdu lo hi value new p described e = kept_whole primary hdu new p (keeps_filled (kind_in shape hdu.header.cards) shape lo hi value hdu new e)
+
+-- an HDU that was written
+pub written_hdu : (primary : Bool) (shape : Shape) (hdu : HduParts) (lo hi : List ℕ) (values : List ℤ) (new : HduParts) → IsHdu primary hdu → shape_of primary hdu.header.cards ≡ Ok shape → written shape lo hi values hdu ≡ Ok new
+    → IsHdu primary new × (new.header ≡ hdu.header) × (length new.data_unit ≡ length hdu.data_unit)
+unfolding written
+written_hdu primary shape hdu lo hi values new p described e = kept_whole primary hdu new p (keeps_written (kind_in shape hdu.header.cards) shape lo hi values hdu new e)
+
+pub ruleset pixel_steps = (layout_width, layout_pixels, kind_width, small_offset, length-rectangle_written)

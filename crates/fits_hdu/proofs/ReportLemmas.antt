@@ -1,0 +1,132 @@
+-- What is found of an HDU under edits.
+use Rattle.std.proofs.Common.{◌≡◌, ℕ, ◌+◌, ◌≤◌, Bool, true, false, List, ◌++◌, length, drop, map, All, Option, None, Some, refl, ap, sym, ◌∙◌, inl, inr, arith}
+use Rattle.std.specs.Prelude.{Ok, IsTrue, ◌↔◌, nat_eq}
+use Rattle.std.specs.List.{list_all}
+use Rattle.std.proofs.lemmas.Bool.{cases_Bool}
+use Rattle.std.proofs.lemmas.Bool.Decides.{nat_tests}
+use Rattle.std.proofs.lemmas.List.{map-append}
+use Rattle.std.proofs.lemmas.List.Sums.{AllPass-from_list_all, count_by-le-length, length-filter, list_all-from_AllPass}
+use Rattle.fits_card.specs.Header.{Header}
+use Rattle.fits_rules.specs.Class.{is_primary}
+use Rattle.fits_rules.specs.Shape.{shape_of}
+use Rattle.fits_rules.specs.Size.{data_size}
+use Rattle.fits_rules.specs.declared.array_shape.Shape.{Shape}
+use Rattle.fits_codes.specs.HeaderCodes.{has_header_code, header_codes, header_judged, header_mark_of}
+use Rattle.fits_codes.specs.declared.code.Code.{Code}
+use Rattle.fits_header.specs.Findings.{card_counts, card_findings, counts_by, counts_of, found_at, header_codes_of, summed}
+use Rattle.fits_header.specs.declared.counts.Counts.{Counts}
+use Rattle.fits_header.specs.declared.finding.Finding.{Finding}
+use Rattle.fits_header.proofs.FindingLemmas.{codes-found_at, counts-append}
+use Rattle.fits_plane.specs.declared.layout.Layout.{Layout}
+use Rattle.fits_hdu.specs.ExtensionName.{extension_name, name_codes}
+use Rattle.fits_hdu.specs.Findings.{AreFindings, data_codes, hdu_counts, hdu_findings, is_filled, whole_codes}
+use Rattle.fits_hdu.specs.Hdu.{HduParts}
+use Rattle.fits_hdu.specs.Layout.{fill_byte, layout_by, layout_of}
+use Rattle.fits_hdu.specs.Sums.{verdicts_of}
+use Rattle.fits_hdu.specs.declared.extension_name.ExtensionName.{ExtensionName}
+use Rattle.fits_hdu.specs.declared.verdicts.Verdicts.{Verdicts}
+
+-- a header as a whole has eight codes at most
+few_header_codes : (shape : Shape) (header : Header) → length (header_codes_of shape header) ≤ 8
+unfolding header_judged
+few_header_codes shape header =
+    let test : Code → Bool = has_header_code (header_mark_of header shape) shape in
+    omega (arith, length-filter test header_codes, count_by-le-length test header_codes)
+
+-- so there is room for three more
+pub few_codes : (codes : List Code) (shape : Shape) (header : Header) → codes ≡ header_codes_of shape header → length codes ≤ 10
+few_codes codes shape header is = rw is (omega (arith, few_header_codes shape header))
+
+-- the test of bytes that should all be the same
+pub are_all : (ok : Bool) (byte : ℕ) (bytes : List ℕ) → (IsTrue ok ↔ All (λ b. b ≡ byte) bytes) → ok ≡ list_all (nat_eq byte) bytes
+are_all true byte bytes is =
+    sym (list_all-from_AllPass (nat_eq byte) bytes (λ k d l. let same = is.0 refl k d l in grind (arith, nat_tests)))
+are_all false byte bytes is =
+    elim (cases_Bool (list_all (nat_eq byte) bytes)) [
+      | inl holds ↦ let no : false ≡ true = is.1 (λ k d l. let same = AllPass-from_list_all (nat_eq byte) bytes holds k d l in grind (arith, nat_tests)) in absurd (cc)
+      | inr fails ↦ sym fails
+    ]
+
+-- where the fill begins
+layout_used : (bits : Option ℕ) (shape : Shape) (cards : List (List ℕ)) → (layout_by bits shape cards).used ≡ data_size shape
+layout_used None shape cards = refl
+layout_used (Some bits) shape cards = refl
+
+-- and which byte it is of
+layout_fill : (bits : Option ℕ) (shape : Shape) (cards : List (List ℕ)) → (layout_by bits shape cards).fill ≡ fill_byte shape.class
+layout_fill None shape cards = refl
+layout_fill (Some bits) shape cards = refl
+
+-- the fill by the layout is the fill by the shape
+same_fill : (layout : Layout) (shape : Shape) (cards : List (List ℕ)) (unit : List ℕ) → layout ≡ layout_of shape cards → list_all (nat_eq layout.fill) (drop layout.used unit) ≡ is_filled shape unit
+unfolding layout_of is_filled
+same_fill layout shape cards unit is =
+    let used : layout.used ≡ data_size shape = ap (λ (l : Layout). l.used) is ∙ layout_used _ shape cards in
+    let fill : layout.fill ≡ fill_byte shape.class = ap (λ (l : Layout). l.fill) is ∙ layout_fill _ shape cards in
+    rw (used, fill) refl
+
+-- whether the data fill is what it should be, by the layout
+pub fill_known : (ok : Bool) (layout : Layout) (shape : Shape) (cards : List (List ℕ)) (unit : List ℕ) → layout ≡ layout_of shape cards → (IsTrue ok ↔ All (λ b. b ≡ layout.fill) (drop layout.used unit)) → ok ≡ is_filled shape unit
+fill_known ok layout shape cards unit is test = are_all ok layout.fill (drop layout.used unit) test ∙ same_fill layout shape cards unit is
+
+-- the codes of a whole, by its parts
+pub whole_known : (result codes : List Code) (ok : Bool) (verdicts : Verdicts) (shape : Shape) (hdu : HduParts) → result ≡ codes ++ data_codes ok verdicts → codes ≡ header_codes_of shape hdu.header → ok ≡ is_filled shape hdu.data_unit → verdicts ≡ verdicts_of hdu
+    → result ≡ whole_codes shape hdu
+whole_known result codes ok verdicts shape hdu is p q r =
+    is ∙ (ap (λ (xs : List Code). xs ++ data_codes ok verdicts) p ∙ ap (λ (b : Bool). header_codes_of shape hdu.header ++ data_codes b verdicts) q
+    ∙ ap (λ (v : Verdicts). header_codes_of shape hdu.header ++ data_codes (is_filled shape hdu.data_unit) v) r)
+
+-- the codes of the whole, what is found of the cards, and the name
+pub findings_known : (whole : List Code) (of_cards : List Finding) (name : Option ExtensionName) (hdu : HduParts) (shape : Shape) → shape_of (is_primary shape.class) hdu.header.cards ≡ Ok shape → whole ≡ whole_codes shape hdu → of_cards ≡ card_findings shape hdu.header.cards
+    → name ≡ extension_name (is_primary shape.class) hdu.header.cards → AreFindings whole of_cards name hdu
+findings_known whole of_cards name hdu shape described is cards called = record { shape = shape; described = described; codes = is; cards = cards; called = called }
+
+-- the last two of three counts may change places
+summed_swap : (a b c : Counts) → summed (summed a b) c ≡ summed (summed a c) b
+summed_swap a b c =
+    let errors : (a.errors + b.errors) + c.errors ≡ (a.errors + c.errors) + b.errors = omega arith in
+    let warnings : (a.warnings + b.warnings) + c.warnings ≡ (a.warnings + c.warnings) + b.warnings = omega arith in
+    ap (λ n. counts_by n ((a.warnings + b.warnings) + c.warnings)) errors ∙ ap (λ n. counts_by ((a.errors + c.errors) + b.errors) n) warnings
+
+-- the counts of an HDU are those of the whole, those of its cards, and that of its name
+counts_parts : (shape : Shape) (hdu : HduParts) (repeated : Bool) → hdu_counts shape hdu repeated ≡ summed (summed (counts_of (whole_codes shape hdu)) (card_counts shape hdu.header.cards)) (counts_of (name_codes repeated))
+unfolding hdu_findings hdu_counts card_counts
+counts_parts shape hdu repeated =
+    let whole : List Code = whole_codes shape hdu in
+    let named : List Code = name_codes repeated in
+    let cards : List Finding = card_findings shape hdu.header.cards in
+    let code : Finding → Code = λ (finding : Finding). finding.code in
+    ap counts_of (map-append code (found_at 0 (whole ++ named)) cards ∙ ap (λ xs. xs ++ map code cards) (codes-found_at 0 (whole ++ named)))
+    ∙ counts-append (whole ++ named) (map code cards)
+    ∙ ap (λ (c : Counts). summed c (counts_of (map code cards))) (counts-append whole named)
+    ∙ summed_swap (counts_of whole) (counts_of named) (counts_of (map code cards))
+
+-- nothing is added to counts
+summed_none : (a : Counts) → summed a (counts_by 0 0) ≡ a
+summed_none a =
+    let errors : a.errors + 0 ≡ a.errors = omega arith in
+    let warnings : a.warnings + 0 ≡ a.warnings = omega arith in
+    ap (λ n. counts_by n (a.warnings + 0)) errors ∙ ap (λ n. counts_by a.errors n) warnings
+
+-- where the whole and the cards were counted apart
+counted_apart : (result of_whole of_cards : Counts) (hdu : HduParts) (shape : Shape) (whole : List Code) → result ≡ summed of_whole of_cards → of_whole ≡ counts_of whole → whole ≡ whole_codes shape hdu → of_cards ≡ card_counts shape hdu.header.cards
+    → result ≡ summed (counts_of (whole_codes shape hdu)) (card_counts shape hdu.header.cards)
+counted_apart result of_whole of_cards hdu shape whole is p q r = is ∙ (rw (p, q, r) refl)
+
+-- and no other extension is called the same
+pub counts_known : (result of_whole of_cards : Counts) (hdu : HduParts) (shape : Shape) (whole : List Code) (repeated : Bool) → result ≡ summed of_whole of_cards → of_whole ≡ counts_of whole → whole ≡ whole_codes shape hdu → of_cards ≡ card_counts shape hdu.header.cards
+    → repeated ≡ false → result ≡ hdu_counts shape hdu repeated
+counts_known result of_whole of_cards hdu shape whole repeated is p q r once =
+    let apart = counted_apart result of_whole of_cards hdu shape whole is p q r in
+    let parts : hdu_counts shape hdu false ≡ summed (summed (counts_of (whole_codes shape hdu)) (card_counts shape hdu.header.cards)) (counts_by 0 0) = counts_parts shape hdu false in
+    apart ∙ (sym (summed_none _) ∙ (sym parts ∙ ap (hdu_counts shape hdu) (sym once)))
+
+-- or another is
+pub counts_named : (result counts named of_whole of_cards : Counts) (hdu : HduParts) (shape : Shape) (whole : List Code) (repeated : Bool) → result ≡ summed counts named → named ≡ counts_of (name_codes true) → counts ≡ summed of_whole of_cards → of_whole ≡ counts_of whole
+    → whole ≡ whole_codes shape hdu → of_cards ≡ card_counts shape hdu.header.cards → repeated ≡ true → result ≡ hdu_counts shape hdu repeated
+counts_named result counts named of_whole of_cards hdu shape whole repeated is name p q r s twice =
+    let apart = counted_apart counts of_whole of_cards hdu shape whole p q r s in
+    is ∙ (ap (λ (c : Counts). summed c named) apart ∙ (ap (λ (c : Counts). summed (summed (counts_of (whole_codes shape hdu)) (card_counts shape hdu.header.cards)) c) name
+    ∙ (sym (counts_parts shape hdu true) ∙ ap (hdu_counts shape hdu) (sym twice))))
+
+pub ruleset report_steps = (few_codes, findings_known)

@@ -1,0 +1,55 @@
+use Rattle.std.proofs.Common.{ap, ◌∙◌, arith, codes, decimal, set, List, ℕ, Some, [], ◌∷◌}
+use Rattle.fits_rules.specs.Class.{is_primary}
+use Rattle.fits_sum.specs.ChecksumText.{checksum_text}
+use Rattle.fits_hdu.specs.Hdu.{HduParts}
+use Rattle.fits_hdu.specs.Stamp.{with_keyword}
+use Rattle.fits_hdu.specs.Work.{keyword_reads}
+use Rattle.fits_hdu.proofs.StampTextLemmas.{plain_card}
+use Rattle.fits_hdu.proofs.StampingLemmas.{checksum_reads, datasum_one, datasum_reads, stamp_bytes, stamp_most, stamped_by, text_one}
+use Rattle.fits_hdu.proofs.hdu.Hdu.stamp.Goals as goal
+
+pub set_card-requires-2-clause-one : goal.set_card-requires-2-clause-one
+set_card-requires-2-clause-one c =
+    let digits = c.deref.ensures.value ∙ (c.in_ok-digits.ensures.ok ∙ ap decimal c.datasum.ensures) in
+    datasum_one c.args.self.now.hdu c.new-2.result (c.new-2.ensures ∙ (c.in_ok-datasum.ensures ∙ ap (λ (card : List ℕ). card ∷ []) (c.sum_card-2.ensures ∙ ap (plain_card (codes "DATASUM ")) digits)))
+
+pub sum-requires : goal.sum-requires
+sum-requires c =
+    let zeros = c.new.ensures ∙ (c.in_ok-zeros.ensures ∙ ap (λ (card : List ℕ). card ∷ []) c.sum_card.ensures) in
+    let digits = c.deref.ensures.value ∙ (c.in_ok-digits.ensures.ok ∙ ap decimal c.datasum.ensures) in
+    let sum = c.new-2.ensures ∙ (c.in_ok-datasum.ensures ∙ ap (λ (card : List ℕ). card ∷ []) (c.sum_card-2.ensures ∙ ap (plain_card (codes "DATASUM ")) digits)) in
+    let first = c.set_card.ensures.hdu ∙ ap (λ (hdu : HduParts). with_keyword (codes "CHECKSUM") (Some c.new.result) hdu) c.reserve.ensures.hdu in
+    stamp_bytes (is_primary c.args.self.now.shape.class) c.args.self.now.hdu c.set_card.new.self.hdu c.set_card-2.new.self.hdu c.new.result c.new-2.result c.card_count-described.ensures.whole c.requires zeros first sum c.set_card-2.ensures.hdu
+
+pub set_card-requires-3-clause-one : goal.set_card-requires-3-clause-one
+set_card-requires-3-clause-one c = text_one c.set_card-2.new.self.hdu c.new-3.result (c.new-3.ensures ∙ (ap (λ cards. set cards 0 c.sum_card-4.result) c.in_ok-checksum.ensures ∙ ap (λ (card : List ℕ). card ∷ []) (c.sum_card-4.ensures ∙ ap (plain_card (codes "CHECKSUM")) (c.encode.ensures ∙ ap checksum_text c.sum.ensures))))
+
+pub set_card-requires-3-clause-room : goal.set_card-requires-3-clause-room
+set_card-requires-3-clause-room c = omega (arith, c.in_ok-reserve.ensures.ok, c.set_card.ensures.room, c.set_card-2.ensures.room)
+
+pub returns-clause-ok : goal.returns-clause-ok
+returns-clause-ok c =
+    let zeros = c.new.ensures ∙ (c.in_ok-zeros.ensures ∙ ap (λ (card : List ℕ). card ∷ []) c.sum_card.ensures) in
+    let digits = c.deref.ensures.value ∙ (c.in_ok-digits.ensures.ok ∙ ap decimal c.datasum.ensures) in
+    let sum = c.new-2.ensures ∙ (c.in_ok-datasum.ensures ∙ ap (λ (card : List ℕ). card ∷ []) (c.sum_card-2.ensures ∙ ap (plain_card (codes "DATASUM ")) digits)) in
+    let first = c.set_card.ensures.hdu ∙ ap (λ (hdu : HduParts). with_keyword (codes "CHECKSUM") (Some c.new.result) hdu) c.reserve.ensures.hdu in
+    let text = c.new-3.ensures ∙ (ap (λ cards. set cards 0 c.sum_card-4.result) c.in_ok-checksum.ensures ∙ ap (λ (card : List ℕ). card ∷ []) (c.sum_card-4.ensures ∙ ap (plain_card (codes "CHECKSUM")) (c.encode.ensures ∙ ap checksum_text c.sum.ensures))) in
+    stamped_by c.args.self.now.hdu c.set_card.new.self.hdu c.set_card-2.new.self.hdu c.set_card-3.new.self.hdu c.new.result c.new-2.result c.new-3.result zeros first sum c.set_card-2.ensures.hdu text c.set_card-3.ensures.hdu
+
+pub returns-clause-work : goal.returns-clause-work
+returns-clause-work c =
+    let zeros = c.new.ensures ∙ (c.in_ok-zeros.ensures ∙ ap (λ (card : List ℕ). card ∷ []) c.sum_card.ensures) in
+    let digits = c.deref.ensures.value ∙ (c.in_ok-digits.ensures.ok ∙ ap decimal c.datasum.ensures) in
+    let sum = c.new-2.ensures ∙ (c.in_ok-datasum.ensures ∙ ap (λ (card : List ℕ). card ∷ []) (c.sum_card-2.ensures ∙ ap (plain_card (codes "DATASUM ")) digits)) in
+    let first = c.set_card.ensures.hdu ∙ ap (λ (hdu : HduParts). with_keyword (codes "CHECKSUM") (Some c.new.result) hdu) c.reserve.ensures.hdu in
+    let old = c.args.self.now in
+    let a = c.set_card.new.self in
+    let b = c.set_card-2.new.self in
+    let x = keyword_reads c.reserve.new.self.hdu.header.cards (codes "CHECKSUM") in
+    let y = keyword_reads a.hdu.header.cards (codes "DATASUM ") in
+    let z = keyword_reads b.hdu.header.cards (codes "CHECKSUM") in
+    stamp_most old.hdu.header.cards old.reads a.reads b.reads c.set_card-3.new.self.reads x y z
+    (omega (arith, c.set_card.ensures.work, c.reserve.ensures.work)) c.set_card-2.ensures.work c.set_card-3.ensures.work
+    (ap (λ (hdu : HduParts). keyword_reads hdu.header.cards (codes "CHECKSUM")) c.reserve.ensures.hdu)
+    (datasum_reads old.hdu a.hdu c.new.result zeros first)
+    (checksum_reads old.hdu a.hdu b.hdu c.new.result c.new-2.result zeros first sum c.set_card-2.ensures.hdu)

@@ -1,0 +1,34 @@
+use Rattle.std.proofs.Common.{◌≡◌, ◌∙◌, ap, sym, subst, rules, None, Some, FitsSigned}
+use Rattle.std.specs.Int.{w128}
+use Rattle.std.proofs.lemmas.Int.{to_z-of_z}
+use Rattle.fits_plane.specs.Pixels.{pixels}
+use Rattle.fits_plane.specs.Statistics.{value_statistics}
+use Rattle.fits_plane.specs.declared.value_summary.ValueSummary.{ValueSummary}
+use Rattle.fits_hdu.specs.Hdu.{HduParts}
+use Rattle.fits_hdu.specs.Kind.{offset_of}
+use Rattle.fits_hdu.specs.Pixels.{stats_of}
+use Rattle.fits_hdu.specs.State.{HduState}
+use Rattle.fits_hdu.proofs.PixelLemmas.{offset_fits, stats_of-image, stats_of-none}
+use Rattle.fits_hdu.proofs.hdu.Hdu.stats.Goals as goal
+
+pub returns-in_err-kind : goal.returns-in_err-kind
+returns-in_err-kind c =
+    let t = c.self.inside in
+    let hdu : HduParts = record { header = t.header.header; data_unit = t.plane.bytes } in
+    let no : t.kind ≡ None = search rules in
+    let result : c.from_residual.result ≡ None = search rules in
+    result ∙ subst (λ (s : HduState). None ≡ stats_of s.shape s.hdu) c.self.view_is (stats_of-none t.header.shape hdu (sym c.self.invariant.kind ∙ no))
+
+pub returns : goal.returns
+returns c =
+    let t = c.self.inside in
+    let hdu : HduParts = record { header = t.header.header; data_unit = t.plane.bytes } in
+    let values : ValueSummary = c.value_stats-values.result in
+    let some : t.kind ≡ Some c.in_ok-kind.kind = search rules in
+    let fits : FitsSigned w128 values.sum = search rules in
+    let found : values ≡ value_statistics (offset_of c.in_ok-kind.kind) t.plane.layout.blank (pixels t.plane.layout.width t.plane.bytes 0 t.plane.layout.pixels) =
+    c.value_stats-values.ensures
+    ∙ ap (λ o. value_statistics o t.plane.layout.blank (pixels t.plane.layout.width t.plane.bytes 0 t.plane.layout.pixels)) (offset_fits c.in_ok-kind.kind c.offset.result c.offset.ensures ∙ c.offset.ensures) in
+    rw (to_z-of_z w128 values.sum fits)
+    (subst (λ (s : HduState). Some (record { defined = values.defined; blank = values.blank; least = values.least; greatest = values.greatest; sum = values.sum }) ≡ stats_of s.shape s.hdu) c.self.view_is
+    (stats_of-image t.header.shape hdu c.in_ok-kind.kind t.plane.layout values (sym c.self.invariant.kind ∙ some) c.self.invariant.layout found))

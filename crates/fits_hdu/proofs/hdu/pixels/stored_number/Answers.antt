@@ -1,0 +1,15 @@
+use Rattle.std.proofs.Common.{◌≡◌, rules, w64, FitsSigned}
+use Rattle.std.specs.Prelude.{◌-ℤ◌}
+use Rattle.std.specs.Int.{w128}
+use Rattle.std.proofs.lemmas.Int.{to_z-of_z}
+use Rattle.fits_plane.specs.Pixels.{IsStorable}
+use Rattle.fits_hdu.proofs.PixelLemmas.{stored_fits}
+use Rattle.fits_hdu.proofs.hdu.pixels.stored_number.Goals as goal
+
+pub returns-in-Some-clause-some : goal.returns-in-Some-clause-some
+returns-in-Some-clause-some c =
+    let means = c.is_storable.ensures.means in
+    let stored : IsStorable c.args.width c.in-Some.number = search (rules, means) in
+    let wide : FitsSigned w128 c.in-Some.number = search rules in
+    let is : c.in-Some.number ≡ c.args.value -ℤ c.args.offset = search rules in
+    rw (to_z-of_z w128 c.in-Some.number wide, to_z-of_z w64 c.in-Some.number (stored_fits c.args.width c.in-Some.number c.requires stored)) (stored, is)

@@ -1,0 +1,82 @@
+-- The pixels of an integer image, and what may be written to them (FITS Standard 4.0, sections 4.4.2.5 and 5.2; own).
+use Rattle.std.specs.Prelude.{◌≡◌, ℕ, ◌==◌, not, ℤ, pos, ◌+ℤ◌, ◌-ℤ◌, List, length, filter, map, slice_index_or, Option, None, Some, Result, Ok, Err, IsOk, if◌then◌else◌}
+use Rattle.std.specs.Option.{option_map}
+use Rattle.fits_plane.specs.Pixels.{can_store, can_store_all, pixels}
+use Rattle.fits_plane.specs.Rectangle.{lies_within, rectangle_size, rectangle_values, rectangle_written}
+use Rattle.fits_plane.specs.Statistics.{defined_numbers, greatest_of, is_blank, least_of, sum_of}
+use Rattle.fits_rules.specs.declared.array_shape.Shape.{Shape}
+use Rattle.fits_hdu.specs.Hdu.{HduParts}
+use Rattle.fits_hdu.specs.Kind.{kind_in, offset_of, width_of}
+use Rattle.fits_hdu.specs.Layout.{layout_of}
+use Rattle.fits_hdu.specs.declared.kind.Kind.{Kind}
+use Rattle.fits_hdu.specs.declared.pixel_fault.PixelFault.{PixelFault}
+use Rattle.fits_hdu.specs.declared.pixel_fault.PixelFault.TheVariants.{NotImage, BadRectangle, WrongCount, OutOfRange, Memory}
+use Rattle.fits_hdu.specs.declared.stats.Stats.{Stats}
+
+-- the stored numbers of the pixels, in order
+abbrev pub stored_numbers : Shape → HduParts → List ℤ
+stored_numbers shape hdu = let layout = layout_of shape hdu.header.cards in pixels layout.width hdu.data_unit 0 layout.pixels
+
+-- the values of the pixels that BLANK doesn't name: stored numbers plus the offset (4.4.2.5)
+abbrev pub defined_values : Option ℤ → ℤ → List ℤ → List ℤ
+defined_values blank offset numbers = map (λ number. number +ℤ offset) (defined_numbers blank numbers)
+
+-- how many pixels are defined and blank, and the least, the greatest and the sum of the values of those defined
+abbrev pub stats_by : Option ℤ → ℤ → List ℤ → Stats
+stats_by blank offset numbers = let values = defined_values blank offset numbers in record {
+  defined = length values;
+  blank = length (filter (is_blank blank) numbers);
+  least = least_of values;
+  greatest = greatest_of values;
+  sum = sum_of values;
+}
+
+-- the statistics of an image of integers
+unfoldable pub stats_of : Shape → HduParts → Option Stats
+stats_of shape hdu =
+    option_map (λ kind. stats_by (layout_of shape hdu.header.cards).blank (offset_of kind) (stored_numbers shape hdu)) (kind_in shape hdu.header.cards)
+
+-- a number for each pixel of a rectangle, by its rank, in place of those that stood there
+abbrev pub with_numbers : Shape → Kind → List ℕ → List ℕ → (ℕ → ℤ) → HduParts → HduParts
+with_numbers shape kind lo hi number hdu =
+    record hdu { data_unit = rectangle_written (width_of kind) shape.axes lo hi number hdu.data_unit }
+
+-- a rectangle is read
+abbrev pub rect_by : Option Kind → Shape → List ℕ → List ℕ → HduParts → Result (List ℤ) PixelFault
+rect_by None shape lo hi hdu = Err NotImage
+rect_by (Some kind) shape lo hi hdu =
+    if lies_within shape.axes lo hi then Ok (rectangle_values (width_of kind) hdu.data_unit shape.axes lo hi (offset_of kind)) else Err BadRectangle
+
+-- the values of a rectangle, in file order, or the first test that fails
+unfoldable pub rect_of : Shape → List ℕ → List ℕ → HduParts → Result (List ℤ) PixelFault
+rect_of shape lo hi hdu = rect_by (kind_in shape hdu.header.cards) shape lo hi hdu
+
+-- reading a rectangle may end so: by the test that fails, or out of memory where none does
+abbrev pub RectFails : Result (List ℤ) PixelFault → PixelFault → Type 0
+RectFails answer Memory = IsOk answer
+RectFails answer why = answer ≡ Err why
+
+-- a rectangle is filled
+abbrev pub filled_by : Option Kind → Shape → List ℕ → List ℕ → ℤ → HduParts → Result HduParts PixelFault
+filled_by None shape lo hi value hdu = Err NotImage
+filled_by (Some kind) shape lo hi value hdu =
+    if not (lies_within shape.axes lo hi) then Err BadRectangle
+    else if not (can_store (width_of kind) (value -ℤ offset_of kind)) then Err OutOfRange
+    else Ok (with_numbers shape kind lo hi (λ rank. value -ℤ offset_of kind) hdu)
+
+-- an HDU with one value in each pixel of a rectangle, or the first test that fails
+unfoldable pub filled : Shape → List ℕ → List ℕ → ℤ → HduParts → Result HduParts PixelFault
+filled shape lo hi value hdu = filled_by (kind_in shape hdu.header.cards) shape lo hi value hdu
+
+-- a rectangle is written
+abbrev pub written_by : Option Kind → Shape → List ℕ → List ℕ → List ℤ → HduParts → Result HduParts PixelFault
+written_by None shape lo hi values hdu = Err NotImage
+written_by (Some kind) shape lo hi values hdu =
+    if not (lies_within shape.axes lo hi) then Err BadRectangle
+    else if not (length values == rectangle_size lo hi) then Err WrongCount
+    else if not (can_store_all (width_of kind) (offset_of kind) values) then Err OutOfRange
+    else Ok (with_numbers shape kind lo hi (λ rank. slice_index_or values rank (pos 0) -ℤ offset_of kind) hdu)
+
+-- an HDU with these values in a rectangle, in file order, or the first test that fails
+unfoldable pub written : Shape → List ℕ → List ℕ → List ℤ → HduParts → Result HduParts PixelFault
+written shape lo hi values hdu = written_by (kind_in shape hdu.header.cards) shape lo hi values hdu

@@ -1,0 +1,43 @@
+//! Making an HDU of nothing.
+use super::Hdu;
+use crate::data_unit::unit_len;
+use crate::image_cards::image_header;
+use crate::kind::Kind;
+use crate::layout::zero_plane;
+use fits_header::Header;
+use fits_rules::Shape;
+use std::alloc::{AllocError, Global};
+
+/// How many bytes the data unit of a new image has at most.
+const LARGEST_UNIT: usize = 1 << 33;
+
+impl Hdu {
+    ghost use Rattle.std.specs.Prelude.{◌≡◌, ◌^◌, ◌≤◌, true, length, IfOk};
+    ghost use Rattle.fits_plane.specs.Layout.{block_count};
+    ghost use Rattle.fits_hdu.specs.Hdu.{hdu_bytes};
+    ghost use Rattle.fits_hdu.specs.NewImage.{are_axes, image_shape, new_image};
+    ghost use Rattle.fits_hdu.specs.Work.{open_reads, IsMade};
+
+    /// A new image of this kind and shape (FITS Standard 4.0, section 7.1), each of whose bytes of
+    /// data is zero. With its header it has 2^33 bytes at most.
+    ///
+    /// Err: memory was refused.
+    #[tactic(auto, using(crate::proofs::NewHeaderLemmas::make_steps))]
+    pub fn new_image(alloc: Global, kind: Kind, shape: Shape) -> Result<Hdu, AllocError>
+        requires shape { shape ≡ image_shape kind shape.axes }
+        requires axes { are_axes shape.axes ≡ true }
+        requires small { length (hdu_bytes (new_image kind shape.axes)) ≤ 2 ^ 33 }
+        ensures hdu { IfOk result (λ it. it.hdu ≡ new_image kind shape.axes) }
+        ensures shape { IfOk result (λ it. it.shape ≡ shape) }
+        ensures work { IfOk result (λ it. it.reads ≤ open_reads it.hdu.header.cards) }
+        ensures scans { IfOk result (λ it. IsMade (block_count it.hdu.data_unit) it.pixel_work) }
+    {
+        let cards = image_header(alloc, kind, shape.axes.as_slice())?;
+        let Ok(len) = unit_len(&shape, LARGEST_UNIT) else {
+            return Err(AllocError);
+        };
+        let mut header = Header::open(alloc, cards, shape)?;
+        let plane = zero_plane(alloc, &mut header, len)?;
+        Ok(Hdu::joined(header, plane))
+    }
+}

@@ -1,0 +1,103 @@
+//! What is found of an HDU under edits.
+ghost use Rattle.std.specs.Prelude.{◌≡◌};
+
+use super::Hdu;
+use crate::extension_name::ExtensionName;
+use crate::findings::Findings;
+use crate::found::with_data_codes;
+use crate::sums::{verdicts_by, whole_sum};
+use crate::verdicts::Verdicts;
+use fits_codes::{Code, CodeSet};
+use fits_header::Counts;
+use fits_sum::fold;
+use std::alloc::{AllocError, Global};
+
+impl Hdu {
+    ghost use Rattle.std.specs.Prelude.{◌≡◌, ◌+◌, ◌≤◌, ◌^◌, length, Ok, IfOk};
+    ghost use Rattle.fits_rules.specs.Class.{is_primary};
+    ghost use Rattle.fits_rules.specs.Shape.{shape_of};
+    ghost use Rattle.fits_hdu.specs.ExtensionName.{extension_name};
+    ghost use Rattle.fits_hdu.specs.Findings.{AreFindings, hdu_counts, whole_codes};
+    ghost use Rattle.fits_hdu.specs.Hdu.{hdu_bytes};
+    ghost use Rattle.fits_hdu.specs.Sums.{data_sum, verdicts_of};
+
+    /// The sum of its data unit, with the fill (FITS Standard 4.0, Appendix J). It takes no memory,
+    /// and nothing is read.
+    #[tactic(auto, unfolding(crate::specs::Sums::data_sum))]
+    pub fn datasum(&self) -> u32
+        ensures { result ≡ data_sum self.now.hdu }
+    {
+        fold(self.plane.total())
+    }
+
+    /// Whether its sums are right (FITS Standard 4.0, section 4.4.2.7). It takes no memory, and
+    /// reads no card and no block.
+    pub fn verdicts(&self) -> Verdicts
+        requires { length (hdu_bytes self.now.hdu) ≤ 2 ^ 34 }
+        ensures { result ≡ verdicts_of self.now.hdu }
+    {
+        // A header is of whole words, so the data unit's total adds to its own.
+        let _whole_words = self.header.len();
+        let unit = self.plane.total();
+        let whole = whole_sum(self.header.total(), unit);
+        verdicts_by(self.sums, fold(unit), whole)
+    }
+
+    // The codes of it as a whole: those of its header, and then those of its data and its sums.
+    #[tactic(auto, using(crate::proofs::ReportLemmas::report_steps))]
+    fn whole(&self) -> CodeSet
+        requires { length (hdu_bytes self.now.hdu) ≤ 2 ^ 34 }
+        ensures { result ≡ whole_codes self.now.shape self.now.hdu }
+    {
+        with_data_codes(self.codes, self.plane.fill_ok(), self.verdicts())
+    }
+
+    /// What it is called, if it is an extension with a name. It takes no memory, and reads no card.
+    pub fn extension_name(&self) -> Option<ExtensionName>
+        ensures value { result
+            ≡ extension_name (is_primary self.now.shape.class) self.now.hdu.header.cards }
+        ensures described { shape_of (is_primary self.now.shape.class) self.now.hdu.header.cards
+            ≡ Ok self.now.shape }
+    {
+        self.name
+    }
+
+    /// What is found of it. No card is read.
+    #[tactic(auto, using(crate::proofs::ReportLemmas::report_steps))]
+    pub fn findings(&mut self, alloc: Global) -> Result<Findings, AllocError>
+        requires { length (hdu_bytes self.old.hdu) ≤ 2 ^ 34 }
+        ensures found { IfOk result (λ it.
+            AreFindings it.whole it.of_cards.items it.name self.old.hdu) }
+        ensures same { self.new ≡ self.old }
+    {
+        let whole = self.whole();
+        let of_cards = self.header.findings(alloc)?;
+        Ok(Findings {
+            whole,
+            of_cards,
+            name: self.name,
+        })
+    }
+
+    /// How many errors and warnings are found of it, which is called as another extension is or
+    /// isn't. It takes no memory, and reads no card.
+    pub fn counts(&mut self, repeated: bool) -> Counts
+        requires { length (hdu_bytes self.old.hdu) ≤ 2 ^ 34 }
+        ensures value { result ≡ hdu_counts self.old.shape self.old.hdu repeated }
+        ensures described { shape_of (is_primary self.old.shape.class) self.old.hdu.header.cards
+            ≡ Ok self.old.shape }
+        ensures within { result.errors + result.warnings ≤ length (hdu_bytes self.old.hdu) }
+        ensures same { self.new ≡ self.old }
+    {
+        // A card has fewer codes than bytes, and so have the whole and END.
+        let _few = self.header.len();
+        let whole = self.whole();
+        let of_whole = Counts::of(whole.as_slice());
+        let of_cards = self.header.counts();
+        let counts = of_whole.plus(of_cards);
+        if repeated {
+            return counts.plus(Counts::of(&[Code::DuplicateExtension]));
+        }
+        counts
+    }
+}

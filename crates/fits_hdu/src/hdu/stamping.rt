@@ -1,0 +1,169 @@
+//! Making the sums of an HDU right.
+ghost use Rattle.std.specs.Prelude.{◌≡◌, ◌≤◌, ◌<◌, ◌+◌, ◌-◌, ◌^◌, [], ◌∷◌, ◌++◌, length, codes, replicate, Some, IfOk};
+ghost use Rattle.std.specs.Option.{option_map_or};
+ghost use Rattle.fits_card.specs.Card.{card_of_text};
+ghost use Rattle.fits_card.specs.Change.{new_cards};
+ghost use Rattle.fits_hdu.specs.Keyword.{replacing};
+ghost use Rattle.fits_hdu.specs.declared.keyword_cards.KeywordCards.{KeywordCards};
+
+use super::Hdu;
+use crate::keyword_cards::KeywordCards;
+use fits_card::{Card, Cards, Change, Name};
+use fits_sum::{datasum_text, encode, fold};
+use std::alloc::{AllocError, Global};
+
+const DATASUM: Name = Name(*b"DATASUM ");
+
+const CHECKSUM: Name = Name(*b"CHECKSUM");
+
+impl Hdu {
+    ghost use Rattle.std.specs.Prelude.{◌≡◌, ◌≤◌, ◌+◌, ◌^◌, length, Ok, Some, OnOk, OnErr};
+    ghost use Rattle.fits_rules.specs.Class.{is_primary};
+    ghost use Rattle.fits_rules.specs.Shape.{shape_of};
+    ghost use Rattle.fits_hdu.specs.Hdu.{hdu_bytes};
+    ghost use Rattle.fits_hdu.specs.Stamp.{stamped, with_keyword, IsOneCard, IsSumName};
+    ghost use Rattle.fits_hdu.specs.State.{ReadsUpTo};
+    ghost use Rattle.fits_hdu.specs.Sums.{hdu_sum};
+    ghost use Rattle.fits_hdu.specs.Work.{apply_reads, keyword_reads, stamp_count_reads, stamp_reads};
+
+    /// How many cards its header has when it is stamped. The cards that it reads are counted. It
+    /// takes no memory.
+    #[tactic(auto, using(crate::proofs::StampingLemmas::count_steps))]
+    pub fn count_stamped(&mut self) -> usize
+        ensures value { result ≡ length (stamped self.old.hdu).header.cards }
+        ensures work { ReadsUpTo self.old self.new (stamp_count_reads self.old.hdu.header.cards) }
+    {
+        let checksum = count_of(self.keyword_cards(&CHECKSUM));
+        let datasum = count_of(self.keyword_cards(&DATASUM));
+        self.card_count() + 2 - checksum - datasum
+    }
+
+    /// Makes DATASUM and CHECKSUM right: each keeps its place, or comes after the last card, and
+    /// loses its comment (FITS Standard 4.0, section 4.4.2.7 and Appendix J).
+    ///
+    /// Memory is asked for before anything changes. The cards that it reads are counted; nothing of
+    /// the data unit is read.
+    #[tactic(auto, using(crate::proofs::StampingLemmas::stamp_steps))]
+    pub fn stamp(&mut self, alloc: Global) -> Result<(), AllocError>
+        requires { length (hdu_bytes self.old.hdu) ≤ 2 ^ 33 }
+        ensures ok { OnOk result (self.new.hdu ≡ stamped self.old.hdu) }
+        ensures err { OnErr result (self.new.hdu ≡ self.old.hdu) }
+        ensures shape { self.new.shape ≡ self.old.shape }
+        ensures pixel_work { self.new.pixel_work ≡ self.old.pixel_work }
+        ensures least { self.old.reads ≤ self.new.reads }
+        ensures work { self.new.reads
+            ≤ self.old.reads + stamp_reads self.old.hdu.header.cards }
+        ensures described { shape_of (is_primary self.old.shape.class) self.old.hdu.header.cards
+            ≡ Ok self.old.shape }
+    {
+        let _described = self.card_count();
+        let zeros = one_card(alloc, sum_card(&CHECKSUM, &[b'0'; 16]))?;
+        let digits = datasum_text(alloc, self.datasum())?;
+        let datasum = one_card(alloc, sum_card(&DATASUM, &digits))?;
+        let mut checksum = one_card(alloc, sum_card(&CHECKSUM, &[b'0'; 16]))?;
+        // Each of the three changes asks for room for one card.
+        self.reserve(3)?;
+        self.set_card(&CHECKSUM, Cards::new(zeros));
+        self.set_card(&DATASUM, Cards::new(datasum));
+        checksum[0] = sum_card(&CHECKSUM, &encode(self.sum()));
+        self.set_card(&CHECKSUM, Cards::new(checksum));
+        Ok(())
+    }
+
+    // The sum of the whole of it.
+    #[tactic(auto, using(crate::proofs::StampingLemmas::sum_steps), unfolding(crate::specs::Sums::hdu_sum))]
+    fn sum(&self) -> u32
+        requires { length (hdu_bytes self.now.hdu) ≤ 2 ^ 34 }
+        ensures { result ≡ hdu_sum self.now.hdu }
+    {
+        let _whole = self.card_count();
+        let header = fold(self.header.total());
+        fold(u64::from(header) + u64::from(self.datasum()))
+    }
+
+    // Sets one of the two keywords to one card. It takes no memory, and scans no block.
+    #[tactic(auto, using(crate::proofs::StampingLemmas::set_steps))]
+    fn set_card(&mut self, name: &Name, new: Cards)
+        requires keyword { IsSumName name.now }
+        requires one { IsOneCard name.now new }
+        requires room { 1 ≤ self.old.room }
+        ensures hdu { self.new.hdu ≡ with_keyword name.now (Some new) self.old.hdu }
+        ensures shape { self.new.shape ≡ self.old.shape }
+        ensures room { self.old.room ≤ self.new.room + 1 }
+        ensures pixel_work { self.new.pixel_work ≡ self.old.pixel_work }
+        ensures least { self.old.reads ≤ self.new.reads }
+        ensures work { self.new.reads
+            ≤ self.old.reads + keyword_reads self.old.hdu.header.cards name.now + apply_reads }
+    {
+        let count = self.card_count();
+        let old = self.keyword_cards(name);
+        let change = replacement(count, old, new);
+        self.apply(&change);
+    }
+}
+
+// How many cards a keyword has.
+fn count_of(cards: Option<KeywordCards>) -> usize
+    ensures { result ≡ option_map_or (λ (cards : KeywordCards). cards.count) cards 0 }
+{
+    match cards {
+        Some(cards) => cards.count,
+        None => 0,
+    }
+}
+
+// A card with room of its own.
+fn one_card(alloc: Global, card: Card) -> Result<Vec<Card>, AllocError>
+    ensures { IfOk result (λ cards. cards.items ≡ card ∷ []) }
+{
+    let mut cards = Vec::with_capacity(alloc, 1)?;
+    cards.push(card)?;
+    Ok(cards)
+}
+
+// A text as the string of a keyword, in quotes and with spaces up to 8 bytes between them.
+#[tactic(auto, using(crate::proofs::StampingLemmas::card_steps))]
+fn sum_card(name: &Name, text: &[u8]) -> Card
+    requires { length text.now ≤ 16 }
+    ensures { result ≡ card_of_text (name.now ++ codes "= " ++ (codes "'" ++ (text.now
+        ++ replicate (8 - length text.now) 32) ++ codes "'")) }
+{
+    let mut card = [b' '; 80];
+    let (front, rest) = card.split_at_mut(8);
+    front.copy_from_slice(&name.0);
+    let (mark, rest) = rest.split_at_mut(3);
+    mark.copy_from_slice(b"= '");
+    let (characters, rest) = rest.split_at_mut(text.len());
+    characters.copy_from_slice(text);
+    let (_, rest) = rest.split_at_mut(fill_len(text.len()));
+    rest[0] = b'\'';
+    Card(card)
+}
+
+// How many spaces fill so many bytes up to 8.
+fn fill_len(len: usize) -> usize
+    ensures { result ≡ 8 - len }
+{
+    if len < 8 { 8 - len } else { 0 }
+}
+
+// New cards instead of a keyword's; where it has none they go after the last of so many cards.
+#[tactic(auto, unfolding(fits_card::specs::Change::new_cards))]
+fn replacement(count: usize, old: Option<KeywordCards>, cards: Cards) -> Change
+    requires { count < 2 ^ 63 }
+    ensures value { result ≡ replacing count old cards }
+    ensures cards { new_cards result ≡ cards }
+{
+    match old {
+        Some(old) => Change::Splice {
+            place: old.place,
+            removed: old.count,
+            cards,
+        },
+        None => Change::Splice {
+            place: count + 1,
+            removed: 0,
+            cards,
+        },
+    }
+}

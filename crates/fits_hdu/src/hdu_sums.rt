@@ -1,0 +1,82 @@
+ghost use Rattle.std.specs.Prelude.{◌≡◌, ◌≤◌, ◌^◌, length, Ok, IfOk};
+ghost use Rattle.fits_card.specs.Header.{header_bytes};
+ghost use Rattle.fits_rules.specs.Class.{is_primary};
+ghost use Rattle.fits_rules.specs.Shape.{shape_of};
+ghost use Rattle.fits_sum.specs.OnesComplement.{ones_complement};
+ghost use Rattle.fits_hdu.specs.Passing.{verdicts_of_sums};
+
+use crate::described::Described;
+use crate::fault::HduFault;
+use crate::read_fault::ReadHduFault;
+use crate::summed::{Summed, read_summed};
+use crate::sums::{sum_keywords, verdicts_by, whole_sum};
+use crate::unit_sums::UnitSums;
+use crate::verdicts::Verdicts;
+use fits_card::{Intake, Source};
+use fits_header::Header;
+use fits_sum::fold;
+use std::alloc::{AllocError, Global};
+
+/// The sums of an HDU: what is told of it where it passes by.
+#[derive(Clone, Copy)]
+pub struct HduSums {
+    /// The sum of the data unit, with its fill (FITS Standard 4.0, Appendix J).
+    pub datasum: u32,
+    /// Whether DATASUM and CHECKSUM are right (FITS Standard 4.0, section 4.4.2.7).
+    pub verdicts: Verdicts,
+}
+
+impl HduSums {
+    ghost use Rattle.std.specs.Prelude.{◌≡◌, ◌+◌, ◌<◌, ◌≤◌, ◌^◌, length, IfOk, IfErr, OnOk};
+    ghost use Rattle.fits_card.specs.declared.card_list.TheConstants.{BLOCK_LEN};
+    ghost use Rattle.fits_card.specs.Intake.{IsSpent};
+    ghost use Rattle.fits_hdu.specs.Reading.{HduStops, TakesHdu};
+    ghost use Rattle.fits_hdu.specs.Sums.{AreSumsOf};
+
+    /// The sums of the HDU that comes next in a source, as `Hdu::read`. Its data unit passes by: one
+    /// piece of it is held at a time.
+    pub fn read<R: Source>(
+        alloc: Global,
+        intake: &mut Intake,
+        source: &mut R,
+        first: Vec<u8>,
+        primary: bool,
+    ) -> Result<HduSums, ReadHduFault>
+        requires within { length first.items ≤ BLOCK_LEN }
+        requires short { length first.items < BLOCK_LEN
+            → IsSpent (R.remaining source.old) intake.old }
+        requires room { intake.old + length first.items ≤ 2 ^ 34 }
+        ensures ok { IfOk result (λ it. TakesHdu (AreSumsOf it.datasum it.verdicts)
+            primary first.items (R.remaining source.old) (R.remaining source.new)
+            intake.old intake.new) }
+        ensures quiet { OnOk result (R.failures source.new ≡ R.failures source.old) }
+        ensures err { IfErr result (HduStops primary first.items
+            (R.remaining source.old) (R.remaining source.new) intake.old intake.new
+            (R.failures source.old) (R.failures source.new)) }
+    {
+        let Summed { head, sums } = read_summed(alloc, intake, source, first, primary)?;
+        match sums_of(alloc, head, sums) {
+            Ok(found) => Ok(found),
+            Err(_) => Err(ReadHduFault::Hdu(HduFault::Memory)),
+        }
+    }
+}
+
+// The sums of an HDU with this header and these sums of its data unit.
+fn sums_of(alloc: Global, head: Described, sums: UnitSums) -> Result<HduSums, AllocError>
+    requires described { shape_of (is_primary head.shape.class) head.cards.header.cards
+        ≡ Ok head.shape }
+    requires small { length (header_bytes head.cards.header) ≤ 2 ^ 34 }
+    ensures sum { IfOk result (λ it. it.datasum ≡ ones_complement sums.total) }
+    ensures verdicts { IfOk result (λ it. it.verdicts ≡ verdicts_of_sums head.cards.header sums) }
+{
+    let Described { cards, shape, .. } = head;
+    let mut header = Header::open(alloc, cards, shape)?;
+    let said = sum_keywords(&mut header);
+    let datasum = fold(sums.total);
+    let whole = whole_sum(header.total(), sums.total);
+    Ok(HduSums {
+        datasum,
+        verdicts: verdicts_by(said, datasum, whole),
+    })
+}

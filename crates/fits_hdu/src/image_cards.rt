@@ -1,0 +1,177 @@
+//! The cards of a new image, and its header.
+ghost use Rattle.std.specs.Prelude.{◌≡◌, ◌≤◌, ◌<◌, ◌+◌, ◌++◌, true, length, replicate, IsTrue, IfOk, OnOk};
+ghost use Rattle.fits_card.specs.Header.{header_bytes};
+ghost use Rattle.fits_card.specs.Name.{is_settable};
+ghost use Rattle.fits_rules.specs.Shape.{axis_name};
+ghost use Rattle.fits_hdu.specs.NewImage.{are_axes, axis_cards, image_cards, new_header, offset_cards, written, written_number};
+
+use crate::kind::Kind;
+use fits_card::{BLOCK_LEN, CARD_LEN, Card, CardList, Name, cut_header};
+use fits_value::{Text, Value, WriteFault, write_value};
+use std::alloc::{AllocError, Global};
+
+/// The header of a new image of this kind and with these axes.
+#[tactic(auto, using(crate::proofs::NewHeaderLemmas::header_steps))]
+pub(crate) fn image_header(alloc: Global, kind: Kind, axes: &[u64]) -> Result<CardList, AllocError>
+    requires axes { are_axes axes.now ≡ true }
+    ensures header { IfOk result (λ cards. cards.header
+        ≡ new_header (image_cards kind axes.now)) }
+    ensures unread { IfOk result (λ cards. cards.reads ≡ 0) }
+{
+    let cards = image_cards(alloc, kind, axes)?;
+    let bytes = header_bytes(alloc, cards.as_slice())?;
+    match cut_header(alloc, bytes.as_slice()) {
+        Ok((cards, _)) => Ok(cards),
+        Err(_) => Err(AllocError),
+    }
+}
+
+// The bytes of a header of these cards.
+#[tactic(auto, using(crate::proofs::NewHeaderLemmas::byte_steps), unfolding(fits_card::specs::Header::fill_length))]
+fn header_bytes(alloc: Global, cards: &[Card]) -> Result<Vec<u8>, AllocError>
+    requires { length cards.now ≤ 2000 }
+    ensures { IfOk result (λ bytes. bytes.items ≡ header_bytes (new_header cards.now)) }
+{
+    let size = CARD_LEN * (cards.len() + 1);
+    let fill = (BLOCK_LEN - size % BLOCK_LEN) % BLOCK_LEN;
+    let mut bytes = Vec::with_capacity(alloc, size + fill)?;
+    for k in 0..cards.len() {
+        let card = cards[k];
+        bytes.extend_from_slice(&card.0)?;
+    }
+    bytes.extend_from_slice(b"END")?;
+    push_spaces(&mut bytes, 77 + fill)?;
+    Ok(bytes)
+}
+
+// So many spaces more.
+#[tactic(auto, using(crate::proofs::NewHeaderLemmas::spaces_are))]
+fn push_spaces(bytes: &mut Vec<u8>, count: usize) -> Result<(), AllocError>
+    requires { count ≤ 3000 }
+    ensures { OnOk result (bytes.new.items ≡ bytes.old.items ++ replicate count 32) }
+{
+    let spaces = [b' '; 3000];
+    bytes.extend_from_slice(&spaces[..count])
+}
+
+// The cards of a new image, in their order.
+#[tactic(auto, using(crate::proofs::NewHeaderLemmas::card_steps), unfolding(crate::specs::NewImage::image_cards))]
+fn image_cards(alloc: Global, kind: Kind, axes: &[u64]) -> Result<Vec<Card>, AllocError>
+    requires { are_axes axes.now ≡ true }
+    ensures { IfOk result (λ cards. cards.items ≡ image_cards kind axes.now) }
+{
+    let mut cards = Vec::new(alloc);
+    let image = Value::Str(Text::new(Vec::from_slice(alloc, b"IMAGE")?));
+    push_value(alloc, &mut cards, &Name(*b"XTENSION"), &image)?;
+    push_number(
+        alloc,
+        &mut cards,
+        &Name(*b"BITPIX  "),
+        8 * kind.width() as i128,
+    )?;
+    push_number(alloc, &mut cards, &Name(*b"NAXIS   "), axes.len() as i128)?;
+    push_axes(alloc, &mut cards, axes)?;
+    push_number(alloc, &mut cards, &Name(*b"PCOUNT  "), 0)?;
+    push_number(alloc, &mut cards, &Name(*b"GCOUNT  "), 1)?;
+    push_offset(alloc, &mut cards, kind)?;
+    Ok(cards)
+}
+
+/// How many cards a new image has. It takes no memory.
+#[tactic(auto, using(crate::proofs::NewHeaderLemmas::count_steps))]
+pub(crate) fn card_count(kind: Kind, axes: &[u64]) -> usize
+    requires { are_axes axes.now ≡ true }
+    ensures value { result ≡ length (image_cards kind axes.now) }
+    ensures few { result ≤ 2000 }
+{
+    let offset = match kind {
+        Kind::U8 | Kind::I16 | Kind::I32 | Kind::I64 => 0,
+        Kind::I8 | Kind::U16 | Kind::U32 | Kind::U64 => 2,
+    };
+    5 + axes.len() + offset
+}
+
+// NAXISn of each axis.
+#[tactic(auto, using(crate::proofs::NewHeaderLemmas::axes_steps))]
+fn push_axes(alloc: Global, cards: &mut Vec<Card>, axes: &[u64]) -> Result<(), AllocError>
+    requires { length axes.now < 1000 }
+    ensures { OnOk result (cards.new.items ≡ cards.old.items ++ axis_cards 1 axes.now) }
+{
+    for k in 0..axes.len() {
+        push_number(alloc, cards, &axis_name(k + 1), i128::from(axes[k]))?;
+    }
+    Ok(())
+}
+
+// BSCALE and BZERO, where the kind has an offset.
+#[tactic(auto, using(crate::proofs::NewHeaderLemmas::card_steps))]
+fn push_offset(alloc: Global, cards: &mut Vec<Card>, kind: Kind) -> Result<(), AllocError>
+    ensures { OnOk result (cards.new.items ≡ cards.old.items ++ offset_cards kind) }
+{
+    match kind {
+        Kind::U8 | Kind::I16 | Kind::I32 | Kind::I64 => Ok(()),
+        Kind::I8 | Kind::U16 | Kind::U32 | Kind::U64 => {
+            push_number(alloc, cards, &Name(*b"BSCALE  "), 1)?;
+            push_number(alloc, cards, &Name(*b"BZERO   "), kind.offset())
+        }
+    }
+}
+
+// The card of a number.
+fn push_number(
+    alloc: Global,
+    cards: &mut Vec<Card>,
+    name: &Name,
+    number: i128,
+) -> Result<(), AllocError>
+    requires settable { IsTrue (is_settable name.now) }
+    ensures { OnOk result (cards.new.items ≡ cards.old.items ++ written_number name.now number) }
+{
+    let text = format!(in alloc; "{number}")?;
+    let value = Value::Integer(Text::new(Vec::from_slice(alloc, text.as_bytes())?));
+    push_value(alloc, cards, name, &value)
+}
+
+// The cards of a value.
+fn push_value(
+    alloc: Global,
+    cards: &mut Vec<Card>,
+    name: &Name,
+    value: &Value,
+) -> Result<(), AllocError>
+    requires settable { IsTrue (is_settable name.now) }
+    ensures { OnOk result (cards.new.items ≡ cards.old.items ++ written name.now value.now) }
+{
+    match write_value(alloc, name, value, &None) {
+        Ok(new) => cards.extend_from_slice(new.as_slice()),
+        // It isn't written, and none of these values is such a one.
+        Err(WriteFault::BadValue) => Ok(()),
+        Err(WriteFault::Memory) => Err(AllocError),
+    }
+}
+
+// The digit of a number below 10.
+fn digit(number: usize) -> u8
+    requires { number < 10 }
+    ensures { result ≡ 48 + number }
+{
+    b'0' + number as u8
+}
+
+// The name of NAXISn.
+#[tactic(auto, using(fits_rules::proofs::ShapeLemmas::name_steps))]
+fn axis_name(n: usize) -> Name
+    requires { n < 1000 }
+    ensures { result ≡ axis_name n }
+{
+    let ones = digit(n % 10);
+    let tens = digit(n / 10 % 10);
+    let hundreds = digit(n / 100);
+    if n < 10 {
+        Name([b'N', b'A', b'X', b'I', b'S', ones, b' ', b' '])
+    } else if n < 100 {
+        Name([b'N', b'A', b'X', b'I', b'S', tens, ones, b' '])
+    } else {
+        Name([b'N', b'A', b'X', b'I', b'S', hundreds, tens, ones])
+    }
+}
