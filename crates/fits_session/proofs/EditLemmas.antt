@@ -15,28 +15,32 @@ use Rattle.fits_value.specs.declared.value.Value.{Value}
 use Rattle.fits_value.proofs.InnerLemmas.{inner_written}
 use Rattle.fits_rules.specs.Class.{is_primary}
 use Rattle.fits_rules.specs.Shape.{shape_of}
+use Rattle.fits_rules.specs.declared.array_shape.Shape.{Shape}
 use Rattle.fits_hdu.specs.Hdu.{HduParts, hdu_after, hdu_bytes, IsHdu, keeps_shape}
-use Rattle.fits_hdu.specs.Keyword.{keyword_cards}
-use Rattle.fits_hdu.specs.State.{HduState, ReadsUpTo}
-use Rattle.fits_header.specs.Work.{judge_reads, shape_reads}
+use Rattle.fits_hdu.specs.Keyword.{keyword_cards, replacing}
+use Rattle.fits_hdu.specs.State.{HduState, PixelWork, ReadsUpTo}
+use Rattle.fits_header.specs.Work.{shape_reads}
+use Rattle.fits_plane.specs.Layout.{block_count}
+use Rattle.fits_hdu.specs.Layout.{layout_of}
+use Rattle.fits_hdu.specs.Work.{apply_reads, FollowsBlank}
 use Rattle.fits_hdu.specs.declared.keyword_cards.KeywordCards.{KeywordCards}
 use Rattle.fits_hdu.proofs.ChangeLemmas.{hdu-changed, inner_after}
 use Rattle.fits_hdu.proofs.KeywordLemmas.{keyword_within}
 use Rattle.fits_rules.proofs.SameShapeLemmas.{same_shape-Decides}
-use Rattle.fits_session.specs.Edit.{hdu_of, hdu_named, changed_at, with_hdu, is_in_range, own_refusal, unless, tested, is_keyword_name, replacing, setting, unsetting, set_of, unset_of, change_of, hdu_changed, file_after, HasSizes}
+use Rattle.fits_session.specs.Edit.{hdu_of, hdu_named, changed_at, with_hdu, is_in_range, own_refusal, unless, tested, is_keyword_name, setting, unsetting, set_of, unset_of, change_of, hdu_changed, hdu_edited, is_card_edit, file_after, HasSizes}
 use Rattle.fits_session.specs.File.{FileParts, joined_hdus, file_bytes, IsFileOf, IsFile}
 use Rattle.fits_session.specs.Limits.{is_within_limits}
 use Rattle.fits_session.specs.declared.limits.TheConstants.{FILE_LIMIT, HDU_LIMIT}
-use Rattle.fits_session.specs.Refusal.{is_primary_hdu, shape_refusal, limit_refusal, size_refusal, first_refusal, change_refusal, refusal_in, refusal_of, NeedsMemory, EditFails, ChangeFails}
-use Rattle.fits_session.specs.Session.{file_of, hdus_of, held_of, state_of, length_after, made_refusal, EditsTo, IsNowhere}
+use Rattle.fits_session.specs.Refusal.{is_primary_hdu, shape_refusal, limit_refusal, size_refusal, first_refusal, change_refusal, refusal_in, refusal_of, NeedsMemory, EditFails, EditRefused, ChangeFails}
+use Rattle.fits_session.specs.Session.{file_of, hdus_of, held_of, state_of, length_after, made_refusal, EditsTo, EditWork, HduWork, IsNowhere, NamedWork, PatchesIn, SessionState, WorksAs, blank_of}
 use Rattle.fits_session.specs.Work.{own_reads, change_reads, hdu_reads, edit_reads}
 use Rattle.fits_session.specs.declared.edit.Edit.{Edit}
-use Rattle.fits_session.specs.declared.edit.Edit.TheVariants.{Insert, Put, Delete, Move, Set, Unset}
+use Rattle.fits_session.specs.declared.edit.Edit.TheVariants.{Insert, Put, Delete, Move, Set, Unset, Fill, Write, NewImage, RemoveHdu, Stamp}
 use Rattle.fits_session.specs.declared.refusal.Refusal.{Refusal}
 use Rattle.fits_session.specs.declared.refusal.Refusal.TheVariants as refusal
 use Rattle.fits_session.proofs.ChangeLemmas.{hdu_is, joined-changed, length-changed, changed_at-same, goes_on-changed, front_changed}
 use Rattle.fits_session.proofs.MakingLemmas.{header_long, header_part}
-use Rattle.fits_session.proofs.StateLemmas.{IsHduAt, hdus_of-changed, file_of-same, length-hdus_of, slice_get-hdus_of, hdu_of-there, hdu_of-nowhere, part_there, primary_there, reads_none, reads_more}
+use Rattle.fits_session.proofs.StateLemmas.{IsHduAt, hdus_of-changed, file_of-same, length-hdus_of, slice_get-hdus_of, hdu_of-there, hdu_of-nowhere, part_there, primary_there, reads_none, reads_more, works_nowhere, works_there}
 
 -- what a change that passes its own tests passed
 passed : (a b c : Bool) → (if not a then Some refusal.NoCard else (if not b then Some refusal.BadText else (if c then Some refusal.EndCard else None))) ≡ None → (a ≡ true) × (b ≡ true) × (c ≡ false)
@@ -135,6 +139,11 @@ made_in_range cards (Set h name value comment) made e =
     set_in_range cards name (write_says name value comment) made (set_if (is_settable name) (setting (length cards) (keyword_cards cards name) (write_says name value comment)) made e).1
 made_in_range cards (Unset h name) made e =
     unset_in_range cards name (keyword_cards cards name) made refl (set_if (is_keyword_name name) (unsetting (keyword_cards cards name)) made e).1
+made_in_range cards (Fill h lo hi value) made e = cc
+made_in_range cards (Write h lo hi values) made e = cc
+made_in_range cards (NewImage at kind axes) made e = cc
+made_in_range cards (RemoveHdu h) made e = cc
+made_in_range cards (Stamp h) made e = cc
 
 -- one card of 80 bytes
 one_size : (card : List ℕ) → length card ≡ 80 → All (λ (one : List ℕ). length one ≡ 80) (card ∷ [])
@@ -176,6 +185,11 @@ made_inner cards (Set h name value comment) made size e =
     let p = set_if (is_settable name) (setting (length cards) (keyword_cards cards name) (write_says name value comment)) made e in
     set_inner (length cards) (keyword_cards cards name) name value comment (write_says name value comment) made size p.0 refl p.1
 made_inner cards (Unset h name) made size e = unset_inner (keyword_cards cards name) made (set_if (is_keyword_name name) (unsetting (keyword_cards cards name)) made e).1
+made_inner cards (Fill h lo hi value) made size e = cc
+made_inner cards (Write h lo hi values) made size e = cc
+made_inner cards (NewImage at kind axes) made size e = cc
+made_inner cards (RemoveHdu h) made size e = cc
+made_inner cards (Stamp h) made size e = cc
 
 -- how many bytes an HDU has after a change
 length_changed : (primary : Bool) (hdu : HduParts) (change : Change) → IsHdu primary hdu → All IsInnerCard (new_cards change)
@@ -203,17 +217,200 @@ length_file file i hdu change there whole inner =
       length_changed (is_primary_hdu (suc i)) hdu change whole inner,
     )
 
+-- an edit that makes a change is one of cards
+pub card_made : (cards : List (List ℕ)) (edit : Edit) (change : Change) → change_of cards edit ≡ Ok change → is_card_edit edit ≡ true
+unfolding change_of
+card_made cards (Insert h place card) change made = refl
+card_made cards (Put h place card) change made = refl
+card_made cards (Delete h place) change made = refl
+card_made cards (Move h from to) change made = refl
+card_made cards (Set h name value comment) change made = refl
+card_made cards (Unset h name) change made = refl
+card_made cards (Fill h lo hi value) change made = cc
+card_made cards (Write h lo hi values) change made = cc
+card_made cards (NewImage at kind axes) change made = cc
+card_made cards (RemoveHdu h) change made = cc
+card_made cards (Stamp h) change made = cc
+
+-- an edit of cards changes those of its HDU
+card_edited : (edit : Edit) (hdu : HduParts) → is_card_edit edit ≡ true → hdu_edited edit hdu ≡ hdu_changed (change_of hdu.header.cards edit) hdu
+card_edited (Insert h place card) hdu e = refl
+card_edited (Put h place card) hdu e = refl
+card_edited (Delete h place) hdu e = refl
+card_edited (Move h from to) hdu e = refl
+card_edited (Set h name value comment) hdu e = refl
+card_edited (Unset h name) hdu e = refl
+card_edited (Fill h lo hi value) hdu e = cc
+card_edited (Write h lo hi values) hdu e = cc
+card_edited (NewImage at kind axes) hdu e = cc
+card_edited (RemoveHdu h) hdu e = cc
+card_edited (Stamp h) hdu e = cc
+
+-- an edit of an HDU that is there before it and after it
+abbrev pub IsNamed : Edit → Type 0
+IsNamed (NewImage at kind axes) = ⊥
+IsNamed (RemoveHdu h) = ⊥
+IsNamed edit = Unit {0}
+
+-- an edit of cards is one
+pub card_named : (edit : Edit) → is_card_edit edit ≡ true → IsNamed edit
+card_named (Insert h place card) e = tt
+card_named (Put h place card) e = tt
+card_named (Delete h place) e = tt
+card_named (Move h from to) e = tt
+card_named (Set h name value comment) e = tt
+card_named (Unset h name) e = tt
+card_named (Fill h lo hi value) e = cc
+card_named (Write h lo hi values) e = cc
+card_named (NewImage at kind axes) e = cc
+card_named (RemoveHdu h) e = cc
+card_named (Stamp h) e = cc
+
+-- its tests are those of the HDU that it names
+pub named_refusal : (file : FileParts) (edit : Edit) → IsNamed edit → refusal_of file edit ≡ refusal_in file edit (hdu_of file (hdu_named edit))
+unfolding refusal_of
+named_refusal file (Insert h place card) n = refl
+named_refusal file (Put h place card) n = refl
+named_refusal file (Delete h place) n = refl
+named_refusal file (Move h from to) n = refl
+named_refusal file (Set h name value comment) n = refl
+named_refusal file (Unset h name) n = refl
+named_refusal file (Fill h lo hi value) n = refl
+named_refusal file (Write h lo hi values) n = refl
+named_refusal file (NewImage at kind axes) n = absurd n
+named_refusal file (RemoveHdu h) n = absurd n
+named_refusal file (Stamp h) n = refl
+
+-- the file after it has that HDU changed
+pub named_file : (file : FileParts) (edit : Edit) → IsNamed edit → file_after file edit ≡ with_hdu file (hdu_named edit) (hdu_edited edit)
+unfolding file_after
+named_file file (Insert h place card) n = refl
+named_file file (Put h place card) n = refl
+named_file file (Delete h place) n = refl
+named_file file (Move h from to) n = refl
+named_file file (Set h name value comment) n = refl
+named_file file (Unset h name) n = refl
+named_file file (Fill h lo hi value) n = refl
+named_file file (Write h lo hi values) n = refl
+named_file file (NewImage at kind axes) n = absurd n
+named_file file (RemoveHdu h) n = absurd n
+named_file file (Stamp h) n = refl
+
+-- and its work is that on that HDU
+pub named_work : (edit : Edit) (old new : SessionState) → IsNamed edit → NamedWork edit old new → WorksAs edit old new
+named_work (Insert h place card) old new n p = p
+named_work (Put h place card) old new n p = p
+named_work (Delete h place) old new n p = p
+named_work (Move h from to) old new n p = p
+named_work (Set h name value comment) old new n p = p
+named_work (Unset h name) old new n p = p
+named_work (Fill h lo hi value) old new n p = p
+named_work (Write h lo hi values) old new n p = p
+named_work (NewImage at kind axes) old new n p = absurd n
+named_work (RemoveHdu h) old new n p = absurd n
+named_work (Stamp h) old new n p = p
+
+-- its tests are those of the change
+pub card_refusal : (file : FileParts) (edit : Edit) (hdu : HduParts) → is_card_edit edit ≡ true → refusal_in file edit (Some hdu) ≡ change_refusal file (hdu_named edit) hdu (change_of hdu.header.cards edit)
+card_refusal file (Insert h place card) hdu e = refl
+card_refusal file (Put h place card) hdu e = refl
+card_refusal file (Delete h place) hdu e = refl
+card_refusal file (Move h from to) hdu e = refl
+card_refusal file (Set h name value comment) hdu e = refl
+card_refusal file (Unset h name) hdu e = refl
+card_refusal file (Fill h lo hi value) hdu e = cc
+card_refusal file (Write h lo hi values) hdu e = cc
+card_refusal file (NewImage at kind axes) hdu e = cc
+card_refusal file (RemoveHdu h) hdu e = cc
+card_refusal file (Stamp h) hdu e = cc
+
+-- and it is refused as the change is
+card_refused : (edit : Edit) (refused : Option Refusal) (why : Refusal) → is_card_edit edit ≡ true → EditFails refused why → EditRefused edit refused why
+card_refused (Insert h place card) refused why e p = p
+card_refused (Put h place card) refused why e p = p
+card_refused (Delete h place) refused why e p = p
+card_refused (Move h from to) refused why e p = p
+card_refused (Set h name value comment) refused why e p = p
+card_refused (Unset h name) refused why e p = p
+card_refused (Fill h lo hi value) refused why e p = cc
+card_refused (Write h lo hi values) refused why e p = cc
+card_refused (NewImage at kind axes) refused why e p = cc
+card_refused (RemoveHdu h) refused why e p = cc
+card_refused (Stamp h) refused why e p = cc
+
+-- how an edit of cards works on the data unit
+CardWork : Edit → HduParts → PixelWork → PixelWork → Type 0
+CardWork edit hdu =
+    let cards : List (List ℕ) = hdu.header.cards in
+    let after : List (List ℕ) = (hdu_edited edit hdu).header.cards in
+    let primary : Bool = is_primary_hdu (hdu_named edit) in
+    FollowsBlank (blank_of (shape_of primary cards) cards) (blank_of (shape_of primary after) after) (block_count hdu.data_unit)
+
+-- so it owes
+card_work : (edit : Edit) (hdu : HduParts) (old new : PixelWork) → is_card_edit edit ≡ true → CardWork edit hdu old new → HduWork edit hdu old new
+unfolding CardWork
+card_work (Insert h place card) hdu old new e p = p
+card_work (Put h place card) hdu old new e p = p
+card_work (Delete h place) hdu old new e p = p
+card_work (Move h from to) hdu old new e p = p
+card_work (Set h name value comment) hdu old new e p = p
+card_work (Unset h name) hdu old new e p = p
+card_work (Fill h lo hi value) hdu old new e p = cc
+card_work (Write h lo hi values) hdu old new e p = cc
+card_work (NewImage at kind axes) hdu old new e p = cc
+card_work (RemoveHdu h) hdu old new e p = cc
+card_work (Stamp h) hdu old new e p = cc
+
+-- no work on the blocks of a rectangle
+patches_none : (described : Result Shape ℕ) (lo hi : List ℕ) (hdu : HduParts) (work : PixelWork) → PatchesIn described lo hi hdu work work
+patches_none (Ok shape) lo hi hdu work = record {
+  reads = refl;
+  more_scans = omega arith;
+  scans = omega arith;
+  more_joins = omega arith;
+  joins = λ d l. omega arith;
+}
+patches_none (Err place) lo hi hdu work = refl
+
+-- no work is what any edit may do
+pub works_none : (edit : Edit) (hdu : HduParts) (work : PixelWork) → HduWork edit hdu work work
+works_none (Insert h place card) hdu work = record { same = λ e. refl; any = inl refl }
+works_none (Put h place card) hdu work = record { same = λ e. refl; any = inl refl }
+works_none (Delete h place) hdu work = record { same = λ e. refl; any = inl refl }
+works_none (Move h from to) hdu work = record { same = λ e. refl; any = inl refl }
+works_none (Set h name value comment) hdu work = record { same = λ e. refl; any = inl refl }
+works_none (Unset h name) hdu work = record { same = λ e. refl; any = inl refl }
+works_none (Fill h lo hi value) hdu work = patches_none (shape_of (is_primary_hdu h) hdu.header.cards) lo hi hdu work
+works_none (Write h lo hi values) hdu work = patches_none (shape_of (is_primary_hdu h) hdu.header.cards) lo hi hdu work
+works_none (NewImage at kind axes) hdu work = record { same = λ e. refl; any = inl refl }
+works_none (RemoveHdu h) hdu work = record { same = λ e. refl; any = inl refl }
+works_none (Stamp h) hdu work = record { same = λ e. refl; any = inl refl }
+
+-- the work on an HDU is that of an edit of it
+pub edit_works : (hdus : List HduState) (tail : List ℕ) (edit : Edit) (i : ℕ) (state : HduState) (old new : PixelWork) → IsHduAt hdus (hdu_named edit) i state → HduWork edit state.hdu old new → EditWork (file_of (state_of hdus tail)) edit old new
+edit_works hdus tail edit i state old new at p hdu there =
+    let both : Option.Some hdu ≡ Some state.hdu = sym there ∙ hdu_of-there hdus tail (hdu_named edit) i state at in
+    let same : hdu ≡ state.hdu = cc in
+    subst (λ (u : HduParts). HduWork edit u old new) (sym same) p
+
+-- an HDU after an edit whose change is made
+pub hdu_made : (edit : Edit) (hdu : HduParts) (change : Change) → change_of hdu.header.cards edit ≡ Ok change → hdu_edited edit hdu ≡ hdu_after change hdu
+hdu_made edit hdu change made = card_edited edit hdu (card_made hdu.header.cards edit change made) ∙ ap (λ r. hdu_changed r hdu) made
+
 -- the file after an edit whose change is made
 pub file_made : (file : FileParts) (edit : Edit) (i : ℕ) (hdu : HduParts) (change : Change) → hdu_named edit ≡ suc i → slice_get file.hdus i ≡ Some hdu → change_of hdu.header.cards edit ≡ Ok change → file_after file edit ≡ with_hdu file (suc i) (hdu_after change)
-unfolding file_after
 file_made file edit i hdu change named there made =
-    let change_here : HduParts → HduParts = λ u. hdu_changed (change_of u.header.cards edit) u in
-    ap (λ h. with_hdu file h change_here) named
-    ∙ ap (λ (us : List HduParts). let after : FileParts = record { hdus = us; tail = file.tail } in after) (changed_at-same i change_here (hdu_after change) hdu file.hdus there (ap (λ r. hdu_changed r hdu) made))
+    named_file file edit (card_named edit (card_made hdu.header.cards edit change made))
+    ∙ ap (λ h. with_hdu file h (hdu_edited edit)) named
+    ∙ ap (λ (us : List HduParts). let after : FileParts = record { hdus = us; tail = file.tail } in after) (changed_at-same i (hdu_edited edit) (hdu_after change) hdu file.hdus there (hdu_made edit hdu change made))
 
 -- what keeps to the limits
-within_limits : (bytes hdus : ℕ) → is_within_limits bytes hdus ≡ true → (bytes ≤ FILE_LIMIT) × (hdus ≤ HDU_LIMIT)
+pub within_limits : (bytes hdus : ℕ) → is_within_limits bytes hdus ≡ true → (bytes ≤ FILE_LIMIT) × (hdus ≤ HDU_LIMIT)
 within_limits bytes hdus e = search rules
+
+-- what keeps to the limits is not refused
+pub kept_limits : (bytes hdus : ℕ) → bytes ≤ FILE_LIMIT → hdus ≤ HDU_LIMIT → is_within_limits bytes hdus ≡ true
+kept_limits bytes hdus l m = search rules
 
 -- a change that keeps the shape and the limits leaves a file
 pub file_kept : (f : List ℕ) (file : FileParts) (i : ℕ) (hdu : HduParts) (change : Change) → IsFileOf f file → slice_get file.hdus i ≡ Some hdu → All IsInnerCard (new_cards change) → keeps_shape (is_primary_hdu (suc i)) hdu.header.cards (cards_after hdu.header.cards change) ≡ true
@@ -230,32 +427,37 @@ file_kept f file i hdu change p there inner kept within =
     }
 
 -- the tests of an edit are those of its HDU
-refusal_there : (file : FileParts) (edit : Edit) (hdu : HduParts) → hdu_of file (hdu_named edit) ≡ Some hdu → refusal_of file edit ≡ refusal_in file edit (Some hdu)
-unfolding refusal_of
-refusal_there file edit hdu there = ap (refusal_in file edit) there
+pub refusal_there : (file : FileParts) (edit : Edit) (hdu : HduParts) → IsNamed edit → hdu_of file (hdu_named edit) ≡ Some hdu → refusal_of file edit ≡ refusal_in file edit (Some hdu)
+refusal_there file edit hdu named there = named_refusal file edit named ∙ ap (refusal_in file edit) there
 
 -- an HDU that isn't there refuses an edit
-pub edits_nowhere : (hdus : List HduState) (tail : List ℕ) (edit : Edit) → IsNowhere (length hdus) (hdu_named edit) → EditsTo {X = ℕ} edit (state_of hdus tail) (state_of hdus tail) (Err refusal.NoHdu)
-unfolding refusal_of
-edits_nowhere hdus tail edit p = record {
+pub edits_nowhere : (hdus : List HduState) (tail : List ℕ) (edit : Edit) → IsNamed edit → IsNowhere (length hdus) (hdu_named edit) → EditsTo {X = ℕ} edit (state_of hdus tail) (state_of hdus tail) (Err refusal.NoHdu)
+edits_nowhere hdus tail edit named p = record {
   accepted = tt;
   ok = tt;
-  refused = inl (ap (refusal_in (file_of (state_of hdus tail)) edit) (hdu_of-nowhere hdus tail (hdu_named edit) p));
+  refused = inl (named_refusal (file_of (state_of hdus tail)) edit named ∙ ap (refusal_in (file_of (state_of hdus tail)) edit) (hdu_of-nowhere hdus tail (hdu_named edit) p));
   err = refl;
-  work = reads_none (hdu_named edit) (edit_reads (file_of (state_of hdus tail)) edit) _;
+  work = named_work edit (state_of hdus tail) (state_of hdus tail) named (record {
+    cards = reads_none (hdu_named edit) (edit_reads (file_of (state_of hdus tail)) edit) _;
+    pixels = works_nowhere hdus (hdu_named edit) (EditWork (file_of (state_of hdus tail)) edit) p;
+  });
 }
 
 -- an edit that its HDU refuses owes this
-pub edits_not : (hdus : List HduState) (tail : List ℕ) (edit : Edit) (i : ℕ) (old new : HduState) (why : Refusal) → IsHduAt hdus (hdu_named edit) i old → new.hdu ≡ old.hdu → old.reads ≤ new.reads → new.reads ≤ old.reads + hdu_reads (Some old.hdu) edit
-    → EditFails (refusal_in (file_of (state_of hdus tail)) edit (Some old.hdu)) why → EditsTo {X = ℕ} edit (state_of hdus tail) (state_of (set hdus i new) tail) (Err why)
-edits_not hdus tail edit i old new why at same least most p =
+pub edits_not : (hdus : List HduState) (tail : List ℕ) (edit : Edit) (i : ℕ) (old new : HduState) (why : Refusal) → IsNamed edit → IsHduAt hdus (hdu_named edit) i old → new.hdu ≡ old.hdu → old.reads ≤ new.reads → new.reads ≤ old.reads + hdu_reads (Some old.hdu) edit
+    → new.pixel_work ≡ old.pixel_work → EditRefused edit (refusal_in (file_of (state_of hdus tail)) edit (Some old.hdu)) why → EditsTo {X = ℕ} edit (state_of hdus tail) (state_of (set hdus i new) tail) (Err why)
+edits_not hdus tail edit i old new why named at same least most idle p =
     let there = hdu_of-there hdus tail (hdu_named edit) i old at in
     record {
       accepted = tt;
       ok = tt;
-      refused = rw (refusal_there (file_of (state_of hdus tail)) edit old.hdu there) p;
+      refused = rw (refusal_there (file_of (state_of hdus tail)) edit old.hdu named there) p;
       err = file_of-same hdus tail (hdu_named edit) i old new at same;
-      work = reads_more hdus (hdu_named edit) i (edit_reads (file_of (state_of hdus tail)) edit) old new at least (rw there most);
+      work = named_work edit (state_of hdus tail) (state_of (set hdus i new) tail) named (record {
+        cards = reads_more hdus (hdu_named edit) i (edit_reads (file_of (state_of hdus tail)) edit) old new at least (rw there most);
+        pixels = works_there hdus (hdu_named edit) i (EditWork (file_of (state_of hdus tail)) edit) old new at
+            (edit_works hdus tail edit i old old.pixel_work new.pixel_work at (subst (λ (w : PixelWork). HduWork edit old.hdu old.pixel_work w) (sym idle) (works_none edit old.hdu old.pixel_work)));
+      });
     }
 
 -- memory may run out on the way to the tests that all changes share
@@ -271,16 +473,16 @@ needs_memory file h hdu (Ok change) p =
 needs_memory file h hdu (Err why) p = cc
 
 -- where no change is made the edit fails so
-pub change_fails : (file : FileParts) (edit : Edit) (hdu : HduParts) (why : Refusal) → ChangeFails (change_of hdu.header.cards edit) why → EditFails (refusal_in file edit (Some hdu)) why
-change_fails file edit hdu why p = elim p [
+pub change_fails : (file : FileParts) (edit : Edit) (hdu : HduParts) (why : Refusal) → is_card_edit edit ≡ true → ChangeFails (change_of hdu.header.cards edit) why → EditRefused edit (refusal_in file edit (Some hdu)) why
+change_fails file edit hdu why cards p = card_refused edit (refusal_in file edit (Some hdu)) why cards (rw (card_refusal file edit hdu cards) (elim p [
   | inl e ↦ inl (ap (change_refusal file (hdu_named edit) hdu) e)
   | inr m ↦ inr (m.0, needs_memory file (hdu_named edit) hdu (change_of hdu.header.cards edit) m.1)
-]
+]))
 
 -- such an edit owes this
-pub edits_unmade : (hdus : List HduState) (tail : List ℕ) (edit : Edit) (i : ℕ) (old new : HduState) (why : Refusal) → IsHduAt hdus (hdu_named edit) i old → ReadsUpTo old new (own_reads old.hdu.header.cards edit) → ChangeFails (change_of old.hdu.header.cards edit) why
+pub edits_unmade : (hdus : List HduState) (tail : List ℕ) (edit : Edit) (i : ℕ) (old new : HduState) (why : Refusal) → is_card_edit edit ≡ true → IsHduAt hdus (hdu_named edit) i old → ReadsUpTo old new (own_reads old.hdu.header.cards edit) → ChangeFails (change_of old.hdu.header.cards edit) why
     → EditsTo {X = ℕ} edit (state_of hdus tail) (state_of (set hdus i new) tail) (Err why)
-edits_unmade hdus tail edit i old new why at r p = edits_not hdus tail edit i old new why at r.hdu r.least (omega (arith, r.most)) (change_fails (file_of (state_of hdus tail)) edit old.hdu why p)
+edits_unmade hdus tail edit i old new why cards at r p = edits_not hdus tail edit i old new why (card_named edit cards) at r.hdu r.least (omega (arith, r.most)) r.pixel_work (change_fails (file_of (state_of hdus tail)) edit old.hdu why cards p)
 
 -- a change that passes the tests that all changes share keeps the shape and the limits
 kept_none : (b : Bool) → (if b then None else Some refusal.Shape) ≡ None → b ≡ true
@@ -332,6 +534,9 @@ module _ (hdus : List HduState) (tail : List ℕ) (edit : Edit) (i : ℕ) (state
   named : hdu_named edit ≡ suc i
   named = p.at.index.at ∙ add-one i
 
+  cards_made : is_card_edit edit ≡ true
+  cards_made = card_made state.hdu.header.cards edit change p.made
+
   there : slice_get (hdus_of (held_of hdus)) i ≡ Some state.hdu
   there = slice_get-hdus_of hdus i state p.at.index.within p.at.is
 
@@ -359,19 +564,23 @@ module _ (hdus : List HduState) (tail : List ℕ) (edit : Edit) (i : ℕ) (state
       let after : List (List ℕ) = cards_after cards change in
       let bytes : ℕ = length_after len cards after in
       let many : length (with_hdu file (suc i) (hdu_after change)).hdus ≡ count = length-changed i (hdu_after change) (hdus_of (held_of hdus)) ∙ length-hdus_of hdus ∙ sym p.number in
-      ap (change_refusal file (hdu_named edit) state.hdu) p.made
+      card_refusal file edit state.hdu cards_made
+      ∙ ap (change_refusal file (hdu_named edit) state.hdu) p.made
       ∙ ap (λ h. change_refusal file h state.hdu (Ok change)) named
       ∙ ap (λ b. first_refusal (shape_refusal b cards after) (size_refusal (with_hdu file (suc i) (hdu_after change)))) (sym primary)
       ∙ ap (λ n. first_refusal (shape_refusal (is_primary state.shape.class) cards after) (limit_refusal n (length (with_hdu file (suc i) (hdu_after change)).hdus))) length_made
       ∙ ap (λ n. first_refusal (shape_refusal (is_primary state.shape.class) cards after) (limit_refusal bytes n)) many
 
+  -- the cards describe the shape
+  described_before : shape_of (is_primary_hdu (hdu_named edit)) state.hdu.header.cards ≡ Ok state.shape
+  described_before = ap (λ b. shape_of b state.hdu.header.cards) (ap is_primary_hdu named ∙ sym primary) ∙ p.described
+
   -- and so are the cards that are read
-  reads_made : (read : ℕ) → read ≤ own_reads state.hdu.header.cards edit + (shape_reads state.shape + judge_reads) → read ≤ hdu_reads (Some state.hdu) edit
+  reads_made : (read : ℕ) → read ≤ own_reads state.hdu.header.cards edit + (shape_reads state.shape + apply_reads) → read ≤ hdu_reads (Some state.hdu) edit
   reads_made read l =
       let cards : List (List ℕ) = state.hdu.header.cards in
-      let primary_one : is_primary_hdu (hdu_named edit) ≡ is_primary state.shape.class = ap is_primary_hdu named ∙ sym primary in
-      let described : shape_of (is_primary_hdu (hdu_named edit)) cards ≡ Ok state.shape = ap (λ b. shape_of b cards) primary_one ∙ p.described in
-      let same : change_reads (shape_of (is_primary_hdu (hdu_named edit)) cards) (change_of cards edit) ≡ shape_reads state.shape + judge_reads = rw (described, p.made) refl in
+      let described : shape_of (is_primary_hdu (hdu_named edit)) cards ≡ Ok state.shape = described_before in
+      let same : change_reads (shape_of (is_primary_hdu (hdu_named edit)) cards) (change_of cards edit) ≡ shape_reads state.shape + apply_reads = rw (described, p.made) refl in
       omega (arith, l, same)
 
   -- the tests are the same where cards were read
@@ -379,37 +588,64 @@ module _ (hdus : List HduState) (tail : List ℕ) (edit : Edit) (i : ℕ) (state
   refusal_left left most r = rw (r.hdu, r.shape) (sym refusal_made)
 
   -- so many cards were read in all
-  reads_left : (left new : HduState) → ReadsUpTo state left (own_reads state.hdu.header.cards edit) → left.reads ≤ new.reads → new.reads ≤ left.reads + (shape_reads left.shape + judge_reads)
+  reads_left : (left new : HduState) → ReadsUpTo state left (own_reads state.hdu.header.cards edit) → left.reads ≤ new.reads → new.reads ≤ left.reads + (shape_reads left.shape + apply_reads)
       → (state.reads ≤ new.reads) × (new.reads ≤ state.reads + hdu_reads (Some state.hdu) edit)
   reads_left left new r least most =
-      let most_here : new.reads ≤ left.reads + (shape_reads state.shape + judge_reads) = rw r.shape at most in
-      (omega (arith, r.least, least), omega (arith, r.most, most_here, reads_made (own_reads state.hdu.header.cards edit + (shape_reads state.shape + judge_reads)) (omega arith)))
+      let most_here : new.reads ≤ left.reads + (shape_reads state.shape + apply_reads) = rw r.shape at most in
+      (omega (arith, r.least, least), omega (arith, r.most, most_here, reads_made (own_reads state.hdu.header.cards edit + (shape_reads state.shape + apply_reads)) (omega arith)))
 
   -- the HDU refuses the change
-  pub edits_refused : (left new : HduState) (why : Refusal) → ReadsUpTo state left (own_reads state.hdu.header.cards edit) → left.reads ≤ new.reads → new.reads ≤ left.reads + (shape_reads left.shape + judge_reads)
-      → new.hdu ≡ left.hdu → EditFails (made_refusal left change len count) why → EditsTo {X = ℕ} edit (state_of hdus tail) (state_of (set hdus i new) tail) (Err why)
-  edits_refused left new why r least most same fails =
+  pub edits_refused : (left new : HduState) (why : Refusal) → ReadsUpTo state left (own_reads state.hdu.header.cards edit) → left.reads ≤ new.reads → new.reads ≤ left.reads + (shape_reads left.shape + apply_reads)
+      → new.hdu ≡ left.hdu → new.pixel_work ≡ left.pixel_work → EditFails (made_refusal left change len count) why → EditsTo {X = ℕ} edit (state_of hdus tail) (state_of (set hdus i new) tail) (Err why)
+  edits_refused left new why r least most same idle fails =
       let reads = reads_left left new r least most in
-      edits_not hdus tail edit i state new why p.at (same ∙ r.hdu) reads.0 reads.1 (subst (λ (o : Option Refusal). EditFails o why) (refusal_left left (own_reads state.hdu.header.cards edit) r) fails)
+      edits_not hdus tail edit i state new why (card_named edit cards_made) p.at (same ∙ r.hdu) reads.0 reads.1 (idle ∙ r.pixel_work)
+      (card_refused edit (refusal_in (file_of (state_of hdus tail)) edit (Some state.hdu)) why cards_made (subst (λ (o : Option Refusal). EditFails o why) (refusal_left left (own_reads state.hdu.header.cards edit) r) fails))
 
   -- the file after it
   file_left : (left new : HduState) → ReadsUpTo state left (own_reads state.hdu.header.cards edit) → new.hdu ≡ hdu_after change left.hdu → file_of (state_of (set hdus i new) tail) ≡ with_hdu (file_of (state_of hdus tail)) (suc i) (hdu_after change)
   file_left left new r is =
       ap (λ (us : List HduParts). let file : FileParts = record { hdus = us; tail = tail } in file) (hdus_of-changed hdus (hdu_named edit) i state new (hdu_after change) p.at (is ∙ ap (hdu_after change) r.hdu))
 
+  -- the change passed the tests that all changes share
+  change_passed : (left : HduState) → ReadsUpTo state left (own_reads state.hdu.header.cards edit) → made_refusal left change len count ≡ None → change_refusal (file_of (state_of hdus tail)) (hdu_named edit) state.hdu (Ok change) ≡ None
+  change_passed left r none =
+      let file : FileParts = file_of (state_of hdus tail) in
+      sym (ap (change_refusal file (hdu_named edit) state.hdu) p.made) ∙ sym (card_refusal file edit state.hdu cards_made) ∙ sym (refusal_left left (own_reads state.hdu.header.cards edit) r) ∙ none
+
+  -- so the cards describe the shape after it
+  described_after : (left : HduState) → ReadsUpTo state left (own_reads state.hdu.header.cards edit) → made_refusal left change len count ≡ None → shape_of (is_primary_hdu (hdu_named edit)) (cards_after state.hdu.header.cards change) ≡ Ok state.shape
+  described_after left r none =
+      let after : List (List ℕ) = cards_after state.hdu.header.cards change in
+      let tests = passes_all (is_primary_hdu (hdu_named edit)) state.hdu.header.cards after (size_refusal (with_hdu (file_of (state_of hdus tail)) (hdu_named edit) (hdu_after change))) (change_passed left r none) in
+      (same_shape-Decides state.shape (shape_of (is_primary_hdu (hdu_named edit)) after)).0 (rw described_before at tests.0)
+
+  -- and the data unit is worked on as an edit of cards may
+  works_made : (left new : HduState) → ReadsUpTo state left (own_reads state.hdu.header.cards edit) → made_refusal left change len count ≡ None
+      → FollowsBlank (layout_of left.shape left.hdu.header.cards).blank (layout_of left.shape (cards_after left.hdu.header.cards change)).blank (block_count left.hdu.data_unit) left.pixel_work new.pixel_work → HduWork edit state.hdu state.pixel_work new.pixel_work
+  unfolding CardWork
+  works_made left new r none follows =
+      let here : FollowsBlank (layout_of state.shape state.hdu.header.cards).blank (layout_of state.shape (cards_after state.hdu.header.cards change)).blank (block_count state.hdu.data_unit) state.pixel_work new.pixel_work =
+      rw (r.hdu, r.shape, r.pixel_work) at follows in
+      card_work edit state.hdu state.pixel_work new.pixel_work cards_made (rw (hdu_made edit state.hdu change p.made, described_before, described_after left r none) here)
+
   -- the change is made
-  pub edits_made : (left new : HduState) (n : ℕ) → ReadsUpTo state left (own_reads state.hdu.header.cards edit) → left.reads ≤ new.reads → new.reads ≤ left.reads + (shape_reads left.shape + judge_reads)
-      → new.hdu ≡ hdu_after change left.hdu → made_refusal left change len count ≡ None → EditsTo {X = ℕ} edit (state_of hdus tail) (state_of (set hdus i new) tail) (Ok n)
-  edits_made left new n r least most is none =
+  pub edits_made : (left new : HduState) (n : ℕ) → ReadsUpTo state left (own_reads state.hdu.header.cards edit) → left.reads ≤ new.reads → new.reads ≤ left.reads + (shape_reads left.shape + apply_reads)
+      → new.hdu ≡ hdu_after change left.hdu → made_refusal left change len count ≡ None
+      → FollowsBlank (layout_of left.shape left.hdu.header.cards).blank (layout_of left.shape (cards_after left.hdu.header.cards change)).blank (block_count left.hdu.data_unit) left.pixel_work new.pixel_work → EditsTo {X = ℕ} edit (state_of hdus tail) (state_of (set hdus i new) tail) (Ok n)
+  edits_made left new n r least most is none follows =
       let reads = reads_left left new r least most in
       let file : FileParts = file_of (state_of hdus tail) in
       let here = hdu_of-there hdus tail (hdu_named edit) i state p.at in
       record {
-        accepted = refusal_there file edit state.hdu here ∙ sym (refusal_left left (own_reads state.hdu.header.cards edit) r) ∙ none;
+        accepted = refusal_there file edit state.hdu (card_named edit cards_made) here ∙ sym (refusal_left left (own_reads state.hdu.header.cards edit) r) ∙ none;
         ok = file_left left new r is ∙ sym (file_made file edit i state.hdu change named there p.made);
         refused = tt;
         err = tt;
-        work = reads_more hdus (hdu_named edit) i (edit_reads file edit) state new p.at reads.0 (rw here reads.1);
+        work = named_work edit (state_of hdus tail) (state_of (set hdus i new) tail) (card_named edit cards_made) (record {
+          cards = reads_more hdus (hdu_named edit) i (edit_reads file edit) state new p.at reads.0 (rw here reads.1);
+          pixels = works_there hdus (hdu_named edit) i (EditWork file edit) state new p.at (edit_works hdus tail edit i state state.pixel_work new.pixel_work p.at (works_made left new r none follows));
+        });
       }
 
   -- it leaves a file
@@ -418,7 +654,7 @@ module _ (hdus : List HduState) (tail : List ℕ) (edit : Edit) (i : ℕ) (state
       let file : FileParts = file_of (state_of hdus tail) in
       let after : FileParts = with_hdu file (suc i) (hdu_after change) in
       let tests = passes_all (is_primary_hdu (hdu_named edit)) state.hdu.header.cards (cards_after state.hdu.header.cards change) (size_refusal (with_hdu file (hdu_named edit) (hdu_after change)))
-      (sym (ap (change_refusal file (hdu_named edit) state.hdu) p.made) ∙ sym (refusal_left left (own_reads state.hdu.header.cards edit) r) ∙ none) in
+      (change_passed left r none) in
       let kept : keeps_shape (is_primary_hdu (suc i)) state.hdu.header.cards (cards_after state.hdu.header.cards change) ≡ true = rw named at tests.0 in
       let size : size_refusal after ≡ None = rw named at tests.1 in
       subst (λ (f : FileParts). IsFile f) (sym (file_left left new r is))

@@ -115,7 +115,7 @@ front_begins f [] rest p l = absurd (omega arith)
 front_begins f (u ∷ us) rest p l = primary_begins f u (joined_hdus us ++ rest) (first_hdu f u us rest p)
 
 -- a file has an HDU
-some_hdus : (us : List HduParts) (rest : List ℕ) → goes_on us rest ≡ false → 0 < length us
+pub some_hdus : (us : List HduParts) (rest : List ℕ) → goes_on us rest ≡ false → 0 < length us
 some_hdus [] rest e = cc
 some_hdus (u ∷ us) rest e = omega arith
 

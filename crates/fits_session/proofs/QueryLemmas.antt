@@ -1,30 +1,36 @@
 -- Steps of queries.
-use Rattle.std.proofs.Common.{◌≡◌, ℕ, List, length, set, refl, ap, sym, ◌∙◌, subst, Option, None, Some}
-use Rattle.std.specs.Prelude.{Result, Ok, Err, IsOk}
+use Rattle.std.proofs.Common.{◌≡◌, ℕ, List, length, set, refl, ap, sym, ◌∙◌, subst, ℤ, Option, None, Some}
+use Rattle.std.specs.Prelude.{ok_or, Result, Ok, Err, IsOk}
 use Rattle.fits_value.specs.declared.value.Value.{Value}
 use Rattle.fits_header.specs.Names.{header_names}
 use Rattle.fits_header.specs.Places.{keyword_places}
 use Rattle.fits_rules.specs.Class.{is_primary}
-use Rattle.fits_rules.specs.Image.{image_bits}
 use Rattle.fits_rules.specs.Shape.{shape_of}
 use Rattle.fits_rules.specs.declared.array_shape.Shape.{Shape}
 use Rattle.fits_hdu.specs.Hdu.{HduParts}
 use Rattle.fits_hdu.specs.Keyword.{keyword_value, KeywordFails}
-use Rattle.fits_hdu.specs.Kind.{IsKind}
+use Rattle.fits_hdu.specs.Kind.{kind_in as hdu_kind}
+use Rattle.fits_hdu.specs.Pixels.{rect_of, stats_of, RectFails}
+use Rattle.fits_hdu.specs.Sums.{data_sum, verdicts_of}
+use Rattle.fits_hdu.specs.declared.pixel_fault.PixelFault.{PixelFault}
+use Rattle.fits_hdu.specs.declared.pixel_fault.PixelFault.TheVariants as pixel
+use Rattle.fits_hdu.specs.declared.stats.Stats.{Stats}
+use Rattle.fits_hdu.specs.declared.verdicts.Verdicts.{Verdicts}
 use Rattle.fits_hdu.specs.State.{HduState, ReadsUpTo}
 use Rattle.fits_hdu.specs.Work.{keyword_reads}
 use Rattle.fits_hdu.specs.declared.kind.Kind.{Kind}
 use Rattle.fits_hdu.specs.declared.keyword.KeywordFault.{KeywordFault}
 use Rattle.fits_hdu.specs.declared.keyword.KeywordFault.TheVariants as keyword
-use Rattle.fits_session.specs.Edit.{hdu_of}
+use Rattle.fits_session.specs.Edit.{hdu_of, pixels_made, refusal_of_pixels, shaped}
 use Rattle.fits_session.specs.File.{IsFile}
-use Rattle.fits_session.specs.Query.{card_count_in, IsShapeIn, IsKindIn, HasNoKind, value_in, positions_in, names_in, in_hdu, or_refused, refusal_of_keyword, QueryFails}
+use Rattle.fits_session.specs.Query.{by_shape, card_count_in, datasum_in, kind_in, rect_in, shape_in, some_shape, stats_in, verdicts_in, value_in, positions_in, names_in, in_hdu, or_refused, refusal_of_keyword, QueryFails}
 use Rattle.fits_session.specs.Refusal.{is_primary_hdu}
-use Rattle.fits_session.specs.Session.{file_of, state_of, Asks}
+use Rattle.fits_session.specs.Session.{file_of, read_more, state_of, Asks, AsksPixels}
 use Rattle.fits_session.specs.Work.{reads_in, value_reads}
 use Rattle.fits_session.specs.declared.refusal.Refusal.{Refusal}
 use Rattle.fits_session.specs.declared.refusal.Refusal.TheVariants as refusal
-use Rattle.fits_session.proofs.StateLemmas.{IsHduAt, hdu_of-there, described_there, asked}
+use Rattle.fits_session.proofs.ReportLemmas.{hdus_stay}
+use Rattle.fits_session.proofs.StateLemmas.{IsHduAt, hdu_of-there, described_there, asked, file_of-same, reads_of-same, works_changed}
 
 -- how many cards HDU h has
 pub count_there : (hdus : List HduState) (tail : List ℕ) (h i n : ℕ) (hdu : HduState) → IsHduAt hdus h i hdu → n ≡ length hdu.hdu.header.cards → Path (Result ℕ Refusal) (Ok n) (card_count_in (file_of (state_of hdus tail)) h)
@@ -32,38 +38,10 @@ count_there hdus tail h i n hdu at count = ap Ok count ∙ sym (ap (in_hdu (λ (
 
 -- its shape
 pub shape_there : (hdus : List HduState) (tail : List ℕ) (h i : ℕ) (hdu : HduState) (shape : Shape) → IsFile (file_of (state_of hdus tail)) → IsHduAt hdus h i hdu → shape_of (is_primary hdu.shape.class) hdu.hdu.header.cards ≡ Ok hdu.shape → shape ≡ hdu.shape
-    → IsShapeIn (file_of (state_of hdus tail)) h shape
-shape_there hdus tail h i hdu shape p at described is = record {
-  hdu = hdu.hdu;
-  there = hdu_of-there hdus tail h i hdu at;
-  described = described_there hdus tail h i hdu p at described ∙ ap Ok (sym is);
-}
-
--- its kind
-pub kind_there : (hdus : List HduState) (tail : List ℕ) (h i : ℕ) (hdu : HduState) (kind : Kind) → IsFile (file_of (state_of hdus tail)) → IsHduAt hdus h i hdu → shape_of (is_primary hdu.shape.class) hdu.hdu.header.cards ≡ Ok hdu.shape
-    → IsKind hdu.shape hdu.hdu.header.cards kind → IsKindIn (file_of (state_of hdus tail)) h kind
-kind_there hdus tail h i hdu kind p at described is = record {
-  hdu = hdu.hdu;
-  shape = hdu.shape;
-  there = hdu_of-there hdus tail h i hdu at;
-  described = described_there hdus tail h i hdu p at described;
-  is = is;
-}
-
--- that it has none
-pub no_kind_there : (hdus : List HduState) (tail : List ℕ) (h i : ℕ) (hdu : HduState) → IsFile (file_of (state_of hdus tail)) → IsHduAt hdus h i hdu → shape_of (is_primary hdu.shape.class) hdu.hdu.header.cards ≡ Ok hdu.shape → image_bits hdu.shape ≡ None
-    → HasNoKind (file_of (state_of hdus tail)) h
-no_kind_there hdus tail h i hdu p at described none = record {
-  hdu = hdu.hdu;
-  there = hdu_of-there hdus tail h i hdu at;
-  none = λ kind other.
-      let parts : Option.Some other.hdu ≡ Some hdu.hdu = sym other.there ∙ hdu_of-there hdus tail h i hdu at in
-      let same : other.hdu ≡ hdu.hdu = cc in
-      let shapes : Result.Ok other.shape ≡ Ok hdu.shape = sym other.described ∙ ap (λ (u : HduParts). shape_of (is_primary_hdu h) u.header.cards) same ∙ described_there hdus tail h i hdu p at described in
-      let shape : other.shape ≡ hdu.shape = cc in
-      let bits : Option.Some other.is.bits ≡ None = sym other.is.image ∙ ap image_bits shape ∙ none in
-      cc;
-}
+    → shape_in (file_of (state_of hdus tail)) h ≡ Ok shape
+shape_there hdus tail h i hdu shape p at described is =
+    ap (in_hdu (λ (u : HduParts). some_shape (shape_of (is_primary_hdu h) u.header.cards))) (hdu_of-there hdus tail h i hdu at)
+    ∙ ap some_shape (described_there hdus tail h i hdu p at described ∙ ap Ok (sym is))
 
 -- what a keyword of HDU h says
 value_there : (hdus : List HduState) (tail : List ℕ) (h i : ℕ) (hdu : HduState) (name : List ℕ) → IsHduAt hdus h i hdu → value_in (file_of (state_of hdus tail)) h name ≡ or_refused (keyword_value hdu.hdu.header.cards name)
@@ -91,6 +69,86 @@ value_fails hdus tail h i hdu name keyword.Memory at p = rw (value_there hdus ta
 -- what a query that HDU h answers says
 answer_there : {X : Type 0} (answer : HduParts → Result X Refusal) (hdus : List HduState) (tail : List ℕ) (h i : ℕ) (hdu : HduState) → IsHduAt hdus h i hdu → in_hdu answer (hdu_of (file_of (state_of hdus tail)) h) ≡ answer hdu.hdu
 answer_there answer hdus tail h i hdu at = ap (in_hdu answer) (hdu_of-there hdus tail h i hdu at)
+
+-- what it answers by the shape that its cards describe
+shaped_there : {X : Type 0} (answer : Shape → HduParts → Result X PixelFault) (hdus : List HduState) (tail : List ℕ) (h i : ℕ) (hdu : HduState) → IsFile (file_of (state_of hdus tail)) → IsHduAt hdus h i hdu → shape_of (is_primary hdu.shape.class) hdu.hdu.header.cards ≡ Ok hdu.shape
+    → in_hdu (by_shape (is_primary_hdu h) answer) (hdu_of (file_of (state_of hdus tail)) h) ≡ pixels_made (answer hdu.shape hdu.hdu)
+shaped_there answer hdus tail h i hdu p at described =
+    answer_there (by_shape (is_primary_hdu h) answer) hdus tail h i hdu at
+    ∙ ap (λ said. shaped said (λ shape. answer shape hdu.hdu)) (described_there hdus tail h i hdu p at described)
+
+-- an answer of an image, or that it is none
+image_or : {X : Type 0} (answer : Option X) → pixels_made (ok_or answer pixel.NotImage) ≡ ok_or answer refusal.NotImage
+image_or None = refl
+image_or (Some answer) = refl
+
+-- what HDU h answers where it is an image
+image_there : {X : Type 0} (answer : Shape → HduParts → Option X) (hdus : List HduState) (tail : List ℕ) (h i : ℕ) (hdu : HduState) (found : Option X) → IsFile (file_of (state_of hdus tail)) → IsHduAt hdus h i hdu → shape_of (is_primary hdu.shape.class) hdu.hdu.header.cards ≡ Ok hdu.shape → found ≡ answer hdu.shape hdu.hdu
+    → ok_or found refusal.NotImage ≡ in_hdu (by_shape (is_primary_hdu h) (λ shape it. ok_or (answer shape it) pixel.NotImage)) (hdu_of (file_of (state_of hdus tail)) h)
+image_there answer hdus tail h i hdu found p at described is =
+    ap (λ one. ok_or one refusal.NotImage) is
+    ∙ sym (shaped_there (λ shape it. ok_or (answer shape it) pixel.NotImage) hdus tail h i hdu p at described ∙ image_or (answer hdu.shape hdu.hdu))
+
+-- its kind
+pub kind_there : (hdus : List HduState) (tail : List ℕ) (h i : ℕ) (hdu : HduState) (kind : Option Kind) → IsFile (file_of (state_of hdus tail)) → IsHduAt hdus h i hdu → shape_of (is_primary hdu.shape.class) hdu.hdu.header.cards ≡ Ok hdu.shape → kind ≡ hdu_kind hdu.shape hdu.hdu.header.cards
+    → ok_or kind refusal.NotImage ≡ kind_in (file_of (state_of hdus tail)) h
+kind_there hdus tail h i hdu kind p at described is = image_there (λ shape it. hdu_kind shape it.header.cards) hdus tail h i hdu kind p at described is
+
+-- its statistics
+pub stats_there : (hdus : List HduState) (tail : List ℕ) (h i : ℕ) (hdu : HduState) (stats : Option Stats) → IsFile (file_of (state_of hdus tail)) → IsHduAt hdus h i hdu → shape_of (is_primary hdu.shape.class) hdu.hdu.header.cards ≡ Ok hdu.shape → stats ≡ stats_of hdu.shape hdu.hdu
+    → ok_or stats refusal.NotImage ≡ stats_in (file_of (state_of hdus tail)) h
+stats_there hdus tail h i hdu stats p at described is = image_there stats_of hdus tail h i hdu stats p at described is
+
+-- its sum
+pub datasum_there : (hdus : List HduState) (tail : List ℕ) (h i n : ℕ) (hdu : HduState) → IsHduAt hdus h i hdu → n ≡ data_sum hdu.hdu → Path (Result ℕ Refusal) (Ok n) (datasum_in (file_of (state_of hdus tail)) h)
+datasum_there hdus tail h i n hdu at is = ap Ok is ∙ sym (answer_there (λ (u : HduParts). Ok (data_sum u)) hdus tail h i hdu at)
+
+-- its verdicts
+pub verdicts_there : (hdus : List HduState) (tail : List ℕ) (h i : ℕ) (hdu : HduState) (verdicts : Verdicts) → IsHduAt hdus h i hdu → verdicts ≡ verdicts_of hdu.hdu → Path (Result Verdicts Refusal) (Ok verdicts) (verdicts_in (file_of (state_of hdus tail)) h)
+verdicts_there hdus tail h i hdu verdicts at is = ap Ok is ∙ sym (answer_there (λ (u : HduParts). Ok (verdicts_of u)) hdus tail h i hdu at)
+
+-- the values of a rectangle of it
+rect_there : (hdus : List HduState) (tail : List ℕ) (h i : ℕ) (hdu : HduState) (lo hi : List ℕ) → IsFile (file_of (state_of hdus tail)) → IsHduAt hdus h i hdu → shape_of (is_primary hdu.shape.class) hdu.hdu.header.cards ≡ Ok hdu.shape → rect_in (file_of (state_of hdus tail)) h lo hi ≡ pixels_made (rect_of hdu.shape lo hi hdu.hdu)
+rect_there hdus tail h i hdu lo hi p at described = shaped_there (λ shape it. rect_of shape lo hi it) hdus tail h i hdu p at described
+
+-- are these
+pub rect_ok : (hdus : List HduState) (tail : List ℕ) (h i : ℕ) (hdu : HduState) (lo hi : List ℕ) (values : List ℤ) → IsFile (file_of (state_of hdus tail)) → IsHduAt hdus h i hdu → shape_of (is_primary hdu.shape.class) hdu.hdu.header.cards ≡ Ok hdu.shape → rect_of hdu.shape lo hi hdu.hdu ≡ Ok values
+    → rect_in (file_of (state_of hdus tail)) h lo hi ≡ Ok values
+rect_ok hdus tail h i hdu lo hi values p at described is = rect_there hdus tail h i hdu lo hi p at described ∙ ap pixels_made is
+
+-- out of memory only where there are some
+rect_something : (answer : Result (List ℤ) PixelFault) → IsOk answer → IsOk (pixels_made answer)
+rect_something (Ok values) p = refl
+rect_something (Err why) p = cc
+
+-- so a fault of pixels is the query's
+rect_fault : (answer : Result (List ℤ) PixelFault) (why : PixelFault) → RectFails answer why → QueryFails (pixels_made answer) (refusal_of_pixels why)
+rect_fault answer pixel.NotImage p = ap pixels_made p
+rect_fault answer pixel.BadRectangle p = ap pixels_made p
+rect_fault answer pixel.WrongCount p = ap pixels_made p
+rect_fault answer pixel.OutOfRange p = ap pixels_made p
+rect_fault answer pixel.Memory p = rect_something answer p
+
+-- of HDU h
+pub rect_fails : (hdus : List HduState) (tail : List ℕ) (h i : ℕ) (hdu : HduState) (lo hi : List ℕ) (why : PixelFault) → IsFile (file_of (state_of hdus tail)) → IsHduAt hdus h i hdu → shape_of (is_primary hdu.shape.class) hdu.hdu.header.cards ≡ Ok hdu.shape → RectFails (rect_of hdu.shape lo hi hdu.hdu) why
+    → QueryFails (rect_in (file_of (state_of hdus tail)) h lo hi) (refusal_of_pixels why)
+rect_fails hdus tail h i hdu lo hi why p at described fails = rw (rect_there hdus tail h i hdu lo hi p at described) (rect_fault (rect_of hdu.shape lo hi hdu.hdu) why fails)
+
+-- an HDU of which so many pixels were read
+abbrev pub pixels_read : ℕ → HduState → HduState
+pixels_read count state = record state { pixel_work = read_more count state.pixel_work }
+
+-- what the query of a rectangle reads
+pub rect_asks : (hdus : List HduState) (tail : List ℕ) (h i count : ℕ) (old new : HduState) → IsHduAt hdus h i old → new ≡ pixels_read count old → AsksPixels h count (state_of hdus tail) (state_of (set hdus i new) tail)
+rect_asks hdus tail h i count old new at is = record {
+  file = file_of-same hdus tail h i old new at (ap (λ (state : HduState). state.hdu) is);
+  work = reads_of-same hdus i old new at.index.within at.is (ap (λ (state : HduState). state.reads) is);
+  pixel_work = works_changed hdus h i old new (read_more count) at (ap (λ (state : HduState). state.pixel_work) is);
+}
+
+-- a query that leaves its HDU leaves the session
+pub session_stays : (hdus : List HduState) (tail : List ℕ) (h i : ℕ) (old new : HduState) → IsHduAt hdus h i old → new ≡ old → state_of (set hdus i new) tail ≡ state_of hdus tail
+session_stays hdus tail h i old new at is = ap (λ (us : List HduState). state_of us tail) (hdus_stay hdus hdus i old new refl at.index.within at.is is)
 
 -- the places of a name
 pub places_there : (hdus : List HduState) (tail : List ℕ) (h i : ℕ) (hdu : HduState) (name places : List ℕ) → IsHduAt hdus h i hdu → places ≡ keyword_places hdu.hdu.header.cards name → positions_in (file_of (state_of hdus tail)) h name ≡ Ok places

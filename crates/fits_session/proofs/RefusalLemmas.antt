@@ -1,6 +1,6 @@
 -- No test refuses an edit for memory.
-use Rattle.std.proofs.Common.{◌≡◌, ℕ, ap, [], ◌∷◌, length, Bool, true, false, List, Option, None, Some}
-use Rattle.std.specs.Prelude.{if◌then◌else◌, not, Result, Ok, Err}
+use Rattle.std.proofs.Common.{◌≡◌, ℕ, ◌+◌, ℤ, refl, ap, [], ◌∷◌, length, Bool, true, false, List, Option, None, Some}
+use Rattle.std.specs.Prelude.{◌==◌, ◌-ℤ◌, if◌then◌else◌, not, Result, Ok, Err}
 use Rattle.std.specs.List.{list_all, list_any}
 use Rattle.fits_card.specs.Card.{is_text, is_end}
 use Rattle.fits_card.specs.Change.{cards_after, new_cards}
@@ -11,17 +11,29 @@ use Rattle.fits_card.specs.declared.change.Change.TheVariants as change
 use Rattle.fits_value.specs.Written.{write_says}
 use Rattle.fits_rules.specs.SameShape.{same_shape}
 use Rattle.fits_rules.specs.Shape.{shape_of}
+use Rattle.fits_rules.specs.declared.array_shape.Shape.{Shape}
+use Rattle.fits_plane.specs.Pixels.{can_store, can_store_all}
+use Rattle.fits_plane.specs.Rectangle.{lies_within, rectangle_size}
+use Rattle.fits_hdu.specs.Kind.{kind_in, offset_of, width_of}
+use Rattle.fits_hdu.specs.NewImage.{are_axes, new_image}
+use Rattle.fits_hdu.specs.Pixels.{filled, filled_by, written, written_by}
+use Rattle.fits_hdu.specs.Stamp.{stamped}
+use Rattle.fits_hdu.specs.declared.kind.Kind.{Kind}
+use Rattle.fits_hdu.specs.declared.pixel_fault.PixelFault.{PixelFault}
+use Rattle.fits_hdu.specs.declared.pixel_fault.PixelFault.TheVariants as pixel
 use Rattle.fits_hdu.specs.Hdu.{HduParts, hdu_after}
-use Rattle.fits_hdu.specs.Keyword.{keyword_cards}
+use Rattle.fits_hdu.specs.Keyword.{keyword_cards, replacing}
 use Rattle.fits_hdu.specs.declared.keyword_cards.KeywordCards.{KeywordCards}
-use Rattle.fits_session.specs.Edit.{change_of, hdu_named, hdu_of, is_in_range, is_keyword_name, own_refusal, replacing, set_of, setting, tested, unless, unset_of, unsetting, with_hdu}
+use Rattle.fits_session.specs.Edit.{change_of, fill_of, is_card_edit, pixels_made, shaped, write_of, hdu_named, hdu_of, is_in_range, is_keyword_name, is_within, own_refusal, set_of, setting, tested, unless, unset_of, unsetting, with_hdu, with_new_hdu}
 use Rattle.fits_session.specs.File.{FileParts, file_bytes}
 use Rattle.fits_session.specs.Limits.{is_within_limits}
-use Rattle.fits_session.specs.Refusal.{change_refusal, first_refusal, is_primary_hdu, refusal_in, refusal_of}
+use Rattle.fits_session.specs.Refusal.{change_refusal, first_refusal, is_primary_hdu, new_image_refusal, refusal_in, refusal_made, refusal_of, size_refusal}
 use Rattle.fits_session.specs.declared.edit.Edit.{Edit}
-use Rattle.fits_session.specs.declared.edit.Edit.TheVariants.{Insert, Put, Delete, Move, Set, Unset}
+use Rattle.fits_session.specs.declared.edit.Edit.TheVariants.{Insert, Put, Delete, Move, Set, Unset, Fill, Write, NewImage, RemoveHdu, Stamp}
 use Rattle.fits_session.specs.declared.refusal.Refusal.{Refusal}
-use Rattle.fits_session.specs.declared.refusal.Refusal.TheVariants.{NoHdu, NoCard, NoKey, BadText, EndCard, Shape, BadName, BadValue, TooLarge, Memory}
+use Rattle.fits_session.specs.declared.refusal.Refusal.TheVariants.{NoHdu, NoCard, NoKey, BadText, EndCard, BadName, BadValue, NotImage, BadRect, WrongCount, Range, PrimaryStays, TooLarge, Memory}
+use Rattle.fits_session.specs.declared.refusal.Refusal.TheVariants as refusal
+use Rattle.fits_session.proofs.EditLemmas.{card_refusal}
 
 -- this isn't out of memory
 IsFirm : Option Refusal → Type 0
@@ -117,6 +129,11 @@ firm_change cards (Set h name value comment) =
     firm_either (is_settable name) _ (Err BadName) (firm_setting (length cards) (keyword_cards cards name) (write_says name value comment)) (firm_refused BadName (λ e. cc))
 firm_change cards (Unset h name) =
     firm_either (is_keyword_name name) _ (Err BadName) (firm_unsetting (keyword_cards cards name)) (firm_refused BadName (λ e. cc))
+firm_change cards (Fill h lo hi value) = firm_refused NotImage (λ e. cc)
+firm_change cards (Write h lo hi values) = firm_refused NotImage (λ e. cc)
+firm_change cards (NewImage at kind axes) = firm_refused NotImage (λ e. cc)
+firm_change cards (RemoveHdu h) = firm_refused NotImage (λ e. cc)
+firm_change cards (Stamp h) = firm_refused NotImage (λ e. cc)
 
 -- the tests of a change
 firm_tests : (file : FileParts) (h : ℕ) (hdu : HduParts) (made : Result Change Refusal) → FirmChange made → IsFirm (change_refusal file h hdu made)
@@ -124,15 +141,104 @@ unfolding IsFirm FirmChange
 firm_tests file h hdu (Err why) firm = λ e. firm (let same : why ≡ Memory = cc in ap Err same)
 firm_tests file h hdu (Ok change) firm =
     firm_first _ _
-    (firm_choice (same_shape (shape_of (is_primary_hdu h) hdu.header.cards) (shape_of (is_primary_hdu h) (cards_after hdu.header.cards change))) None (Some Shape) firm_none (firm_some Shape (λ e. cc)))
+    (firm_choice (same_shape (shape_of (is_primary_hdu h) hdu.header.cards) (shape_of (is_primary_hdu h) (cards_after hdu.header.cards change))) None (Some refusal.Shape) firm_none (firm_some refusal.Shape (λ e. cc)))
     (firm_choice (is_within_limits (length (file_bytes (with_hdu file h (hdu_after change)))) (length (with_hdu file h (hdu_after change)).hdus)) None (Some TooLarge) firm_none (firm_some TooLarge (λ e. cc)))
+
+-- a test of pixels that fails isn't out of memory
+FirmPixels : {X : Type 0} → Result X PixelFault → Type 0
+FirmPixels made = made ≡ Err pixel.Memory → ⊥
+
+-- pixels that are made, and each fault of them that the tests can have
+firm_pixels : {X : Type 0} (made : Result X PixelFault) → FirmPixels made → IsFirm (refusal_made (pixels_made made))
+unfolding FirmPixels
+firm_pixels (Ok made) firm = firm_none
+firm_pixels (Err pixel.NotImage) firm = firm_some NotImage (λ e. cc)
+firm_pixels (Err pixel.BadRectangle) firm = firm_some BadRect (λ e. cc)
+firm_pixels (Err pixel.WrongCount) firm = firm_some WrongCount (λ e. cc)
+firm_pixels (Err pixel.OutOfRange) firm = firm_some Range (λ e. cc)
+firm_pixels (Err pixel.Memory) firm = absurd (firm refl)
+
+-- of two choices neither
+firm_pick : {X : Type 0} (test : Bool) (a b : Result X PixelFault) → FirmPixels a → FirmPixels b → FirmPixels (if test then a else b)
+firm_pick true a b p q = p
+firm_pick false a b p q = q
+
+-- a fault of its own
+firm_fault : (X : Type 0) (why : PixelFault) → (why ≡ pixel.Memory → ⊥) → FirmPixels {X = X} (Err why)
+unfolding FirmPixels
+firm_fault X why other e = other (same why e)
+  where
+    same : (why : PixelFault) → ◌≡◌ {A = Result X PixelFault} (Err why) (Err pixel.Memory) → why ≡ pixel.Memory
+    same why e = cc
+
+-- pixels that are made
+firm_done : {X : Type 0} (made : X) → FirmPixels (Ok made)
+unfolding FirmPixels
+firm_done made e = absurd (cc)
+
+-- the tests of a rectangle that is filled
+firm_filled : (kind : Option Kind) (shape : Shape) (lo hi : List ℕ) (value : ℤ) (hdu : HduParts) → FirmPixels (filled_by kind shape lo hi value hdu)
+firm_filled None shape lo hi value hdu = firm_fault _ pixel.NotImage (λ e. cc)
+firm_filled (Some kind) shape lo hi value hdu =
+    firm_pick (not (lies_within shape.axes lo hi)) (Err pixel.BadRectangle) _ (firm_fault _ pixel.BadRectangle (λ e. cc))
+    (firm_pick (not (can_store (width_of kind) (value -ℤ offset_of kind))) (Err pixel.OutOfRange) _ (firm_fault _ pixel.OutOfRange (λ e. cc)) (firm_done _))
+
+-- and of one that is written
+firm_written : (kind : Option Kind) (shape : Shape) (lo hi : List ℕ) (values : List ℤ) (hdu : HduParts) → FirmPixels (written_by kind shape lo hi values hdu)
+firm_written None shape lo hi values hdu = firm_fault _ pixel.NotImage (λ e. cc)
+firm_written (Some kind) shape lo hi values hdu =
+    firm_pick (not (lies_within shape.axes lo hi)) (Err pixel.BadRectangle) _ (firm_fault _ pixel.BadRectangle (λ e. cc))
+    (firm_pick (not (length values == rectangle_size lo hi)) (Err pixel.WrongCount) _ (firm_fault _ pixel.WrongCount (λ e. cc))
+    (firm_pick (not (can_store_all (width_of kind) (offset_of kind) values)) (Err pixel.OutOfRange) _ (firm_fault _ pixel.OutOfRange (λ e. cc)) (firm_done _)))
+
+-- the tests of an edit of pixels
+firm_shaped : {X : Type 0} (described : Result Shape ℕ) (make : Shape → Result X PixelFault) → ((shape : Shape) → FirmPixels (make shape)) → IsFirm (refusal_made (shaped described make))
+firm_shaped (Ok shape) make firm = firm_pixels (make shape) (firm shape)
+firm_shaped (Err place) make firm = firm_some NotImage (λ e. cc)
+
+-- the tests of a file's size
+firm_size : (file : FileParts) → IsFirm (size_refusal file)
+firm_size file = firm_choice (is_within_limits (length (file_bytes file)) (length file.hdus)) None (Some TooLarge) firm_none (firm_some TooLarge (λ e. cc))
+
+-- the tests of an edit of cards
+firm_cards : (file : FileParts) (edit : Edit) (hdu : HduParts) → is_card_edit edit ≡ true → IsFirm (refusal_in file edit (Some hdu))
+firm_cards file edit hdu cards = rw (card_refusal file edit hdu cards) (firm_tests file (hdu_named edit) hdu (change_of hdu.header.cards edit) (firm_change hdu.header.cards edit))
 
 -- the tests of an edit, whether its HDU is there or not
 firm_edit : (file : FileParts) (edit : Edit) (hdu : Option HduParts) → IsFirm (refusal_in file edit hdu)
+unfolding fill_of write_of filled written
 firm_edit file edit None = firm_some NoHdu (λ e. cc)
-firm_edit file edit (Some hdu) = firm_tests file (hdu_named edit) hdu (change_of hdu.header.cards edit) (firm_change hdu.header.cards edit)
+firm_edit file (Insert h place card) (Some hdu) = firm_cards file (Insert h place card) hdu refl
+firm_edit file (Put h place card) (Some hdu) = firm_cards file (Put h place card) hdu refl
+firm_edit file (Delete h place) (Some hdu) = firm_cards file (Delete h place) hdu refl
+firm_edit file (Move h from to) (Some hdu) = firm_cards file (Move h from to) hdu refl
+firm_edit file (Set h name value comment) (Some hdu) = firm_cards file (Set h name value comment) hdu refl
+firm_edit file (Unset h name) (Some hdu) = firm_cards file (Unset h name) hdu refl
+firm_edit file (Fill h lo hi value) (Some hdu) = firm_shaped (shape_of (is_primary_hdu h) hdu.header.cards) (λ shape. filled shape lo hi value hdu) (λ shape. firm_filled (kind_in shape hdu.header.cards) shape lo hi value hdu)
+firm_edit file (Write h lo hi values) (Some hdu) = firm_shaped (shape_of (is_primary_hdu h) hdu.header.cards) (λ shape. written shape lo hi values hdu) (λ shape. firm_written (kind_in shape hdu.header.cards) shape lo hi values hdu)
+firm_edit file (NewImage at kind axes) (Some hdu) = firm_tests file at hdu (change_of hdu.header.cards (NewImage at kind axes)) (firm_change hdu.header.cards (NewImage at kind axes))
+firm_edit file (RemoveHdu h) (Some hdu) = firm_choice (h == 1) (Some PrimaryStays) None (firm_some PrimaryStays (λ e. cc)) firm_none
+firm_edit file (Stamp h) (Some hdu) = firm_size (with_hdu file h stamped)
+
+-- the tests of a new image
+firm_new : (file : FileParts) (h : ℕ) (kind : Kind) (axes : List ℕ) → IsFirm (new_image_refusal file h kind axes)
+unfolding new_image_refusal
+firm_new file h kind axes =
+    firm_choice (not (is_within h (length file.hdus + 1))) (Some NoHdu) _ (firm_some NoHdu (λ e. cc))
+    (firm_choice (h == 1) (Some PrimaryStays) _ (firm_some PrimaryStays (λ e. cc))
+    (firm_choice (not (are_axes axes)) (Some refusal.Shape) _ (firm_some refusal.Shape (λ e. cc)) (firm_size (with_new_hdu file h (new_image kind axes)))))
 
 -- no edit of any file is refused for memory
 pub never_memory : (file : FileParts) (edit : Edit) → refusal_of file edit ≡ Some Memory → ⊥
 unfolding IsFirm refusal_of
-never_memory file edit = firm_edit file edit (hdu_of file (hdu_named edit))
+never_memory file (Insert h place card) = firm_edit file (Insert h place card) (hdu_of file h)
+never_memory file (Put h place card) = firm_edit file (Put h place card) (hdu_of file h)
+never_memory file (Delete h place) = firm_edit file (Delete h place) (hdu_of file h)
+never_memory file (Move h from to) = firm_edit file (Move h from to) (hdu_of file h)
+never_memory file (Set h name value comment) = firm_edit file (Set h name value comment) (hdu_of file h)
+never_memory file (Unset h name) = firm_edit file (Unset h name) (hdu_of file h)
+never_memory file (Fill h lo hi value) = firm_edit file (Fill h lo hi value) (hdu_of file h)
+never_memory file (Write h lo hi values) = firm_edit file (Write h lo hi values) (hdu_of file h)
+never_memory file (NewImage at kind axes) = firm_new file at kind axes
+never_memory file (RemoveHdu h) = firm_edit file (RemoveHdu h) (hdu_of file h)
+never_memory file (Stamp h) = firm_edit file (Stamp h) (hdu_of file h)

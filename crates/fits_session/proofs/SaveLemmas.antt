@@ -7,10 +7,10 @@ use Rattle.fits_card.specs.Stream.{AppendsFront}
 use Rattle.fits_card.proofs.StreamLemmas.{Appends-none, Appends-more, AppendsFront-more}
 use Rattle.fits_card.proofs.EmitLemmas.{AppendsFront-first}
 use Rattle.fits_hdu.specs.Hdu.{HduParts, hdu_bytes}
-use Rattle.fits_hdu.specs.State.{HduState, ReadsUpTo}
+use Rattle.fits_hdu.specs.State.{HduState, PixelWork, ReadsUpTo}
 use Rattle.fits_session.specs.File.{joined_hdus}
-use Rattle.fits_session.specs.Session.{Held, hdus_of, reads_of, held_as, held_of, once_read, each_read, ReadsOnceAtMost}
-use Rattle.fits_session.proofs.StateLemmas.{get_or-hdus_of, hdus_of-same, length-hdus_of}
+use Rattle.fits_session.specs.Session.{Held, hdus_of, reads_of, works_of, held_as, held_of, once_read, each_read, ReadsOnceAtMost}
+use Rattle.fits_session.proofs.StateLemmas.{get_or-hdus_of, hdus_of-same, length-hdus_of, works_of-same}
 
 -- HDU i of those that are there
 hdu_here : (hdus : List HduState) (us : List HduParts) (i : ℕ) (hdu : HduState) → hdus_of (held_of hdus) ≡ us → i < length hdus → hdu ≡ get_or hdus i hdu → get_or us i hdu.hdu ≡ hdu.hdu
@@ -61,28 +61,28 @@ pub first_read_none : (held : List Held) → held ≡ first_read 0 held
 first_read_none held = refl
 
 -- an HDU whose cards all were read
-read_as : (one : Held) (hdu new : HduState) → held_as hdu ≡ one → new.hdu ≡ hdu.hdu → new.reads ≡ hdu.reads + length hdu.hdu.header.cards → held_as new ≡ once_read one
-read_as one hdu new e same more = rw (← e) (rw (same, more) refl)
+read_as : (one : Held) (hdu new : HduState) → held_as hdu ≡ one → new.hdu ≡ hdu.hdu → new.pixel_work ≡ hdu.pixel_work → new.reads ≡ hdu.reads + length hdu.hdu.header.cards → held_as new ≡ once_read one
+read_as one hdu new e same idle more = rw (← e) (rw (same, idle, more) refl)
 
 -- one more HDU was read
-read_next : (held : List Held) (hdus : List HduState) (i : ℕ) (old new : HduState) → held_of hdus ≡ first_read i held → i < length hdus → old ≡ get_or hdus i old → new.hdu ≡ old.hdu → new.reads ≡ old.reads + length old.hdu.header.cards → held_of (set hdus i new) ≡ first_read (suc i) held
-read_next held [] i old new e l is same more = absurd (omega arith)
-read_next [] (hdu ∷ hdus) zero old new e l is same more = absurd (cc)
-read_next [] (hdu ∷ hdus) (suc i) old new e l is same more = absurd (cc)
-read_next (one ∷ held) (hdu ∷ hdus) zero old new e l is same more =
+read_next : (held : List Held) (hdus : List HduState) (i : ℕ) (old new : HduState) → held_of hdus ≡ first_read i held → i < length hdus → old ≡ get_or hdus i old → new.hdu ≡ old.hdu → new.pixel_work ≡ old.pixel_work → new.reads ≡ old.reads + length old.hdu.header.cards → held_of (set hdus i new) ≡ first_read (suc i) held
+read_next held [] i old new e l is same idle more = absurd (omega arith)
+read_next [] (hdu ∷ hdus) zero old new e l is same idle more = absurd (cc)
+read_next [] (hdu ∷ hdus) (suc i) old new e l is same idle more = absurd (cc)
+read_next (one ∷ held) (hdu ∷ hdus) zero old new e l is same idle more =
     let head : held_as hdu ≡ one = cc in
     let tail : held_of hdus ≡ held = cc in
-    let at : held_as new ≡ once_read one = read_as one hdu new head (rw is at same) (rw is at more) in
+    let at : held_as new ≡ once_read one = read_as one hdu new head (rw is at same) (rw is at idle) (rw is at more) in
     cc
-read_next (one ∷ held) (hdu ∷ hdus) (suc i) old new e l is same more =
+read_next (one ∷ held) (hdu ∷ hdus) (suc i) old new e l is same idle more =
     let head : held_as hdu ≡ once_read one = cc in
     let tail : held_of hdus ≡ first_read i held = cc in
-    let next : held_of (set hdus i new) ≡ first_read (suc i) held = read_next held hdus i old new tail (omega arith) is same more in
+    let next : held_of (set hdus i new) ≡ first_read (suc i) held = read_next held hdus i old new tail (omega arith) is same idle more in
     cc
 
 -- the same in the loop's words
-pub first_read_more : (held : List Held) (hdus : List HduState) (i : ℕ) (old new : HduState) → held_of hdus ≡ first_read i held → i < length hdus → old ≡ get_or hdus i old → new.hdu ≡ old.hdu → new.reads ≡ old.reads + length old.hdu.header.cards → held_of (set hdus i new) ≡ first_read (i + 1) held
-first_read_more held hdus i old new e l is same more = rw (add-one i) (read_next held hdus i old new e l is same more)
+pub first_read_more : (held : List Held) (hdus : List HduState) (i : ℕ) (old new : HduState) → held_of hdus ≡ first_read i held → i < length hdus → old ≡ get_or hdus i old → new.hdu ≡ old.hdu → new.pixel_work ≡ old.pixel_work → new.reads ≡ old.reads + length old.hdu.header.cards → held_of (set hdus i new) ≡ first_read (i + 1) held
+first_read_more held hdus i old new e l is same idle more = rw (add-one i) (read_next held hdus i old new e l is same idle more)
 
 -- in the end all were read
 first_read_all : (held : List Held) (i : ℕ) → length held ≤ i → first_read i held ≡ each_read held
@@ -106,9 +106,14 @@ read_same : (held : List Held) → hdus_of (each_read held) ≡ hdus_of held
 read_same [] = refl
 read_same (one ∷ held) = ap (λ (us : List HduParts). one.hdu ∷ us) (read_same held)
 
+-- nor is the work on their data units
+work_same : (held : List Held) → works_of (each_read held) ≡ works_of held
+work_same [] = refl
+work_same (one ∷ held) = ap (λ (works : List PixelWork). one.pixel_work ∷ works) (work_same held)
+
 -- so each card was read once at most
 pub once_at_end : (held after : List Held) → after ≡ each_read held → ReadsOnceAtMost held after
-once_at_end held after e = rw e (record { hdus = read_same held; least = λ j. read_grows held j; most = λ j. omega arith })
+once_at_end held after e = rw e (record { hdus = read_same held; pixel_work = work_same held; least = λ j. read_grows held j; most = λ j. omega arith })
 
 -- no count falls where one HDU is being read
 least_read : (held : List Held) (hdus : List HduState) (i : ℕ) (old new : HduState) → held_of hdus ≡ first_read i held → i < length hdus → old ≡ get_or hdus i old → old.reads ≤ new.reads → (j : ℕ) → get_or (reads_of held) j 0 ≤ get_or (reads_of (held_of (set hdus i new))) j 0
@@ -146,10 +151,17 @@ most_read (one ∷ held) (hdu ∷ hdus) (suc i) old new e l is le (suc j) =
     let tail : held_of hdus ≡ first_read i held = cc in
     most_read held hdus i old new tail (omega arith) is le j
 
+-- the reads of cards of the first so many leave the work on their data units
+first_work : (i : ℕ) (held : List Held) → works_of (first_read i held) ≡ works_of held
+first_work zero held = refl
+first_work (suc i) [] = refl
+first_work (suc i) (one ∷ held) = ap (λ (works : List PixelWork). one.pixel_work ∷ works) (first_work i held)
+
 -- so each card is read once at most, also where a call fails
 pub once_at_most : (held : List Held) (hdus : List HduState) (i : ℕ) (old new : HduState) → held_of hdus ≡ first_read i held → hdus_of (held_of hdus) ≡ hdus_of held → i < length hdus → old ≡ get_or hdus i old → ReadsUpTo old new (length old.hdu.header.cards) → ReadsOnceAtMost held (held_of (set hdus i new))
 once_at_most held hdus i old new e same l is work = record {
   hdus = hdus_of-same hdus i old new l is work.hdu ∙ same;
+  pixel_work = works_of-same hdus i old new l is work.pixel_work ∙ ap works_of e ∙ first_work i held;
   least = λ j. least_read held hdus i old new e l is work.least j;
   most = λ j. most_read held hdus i old new e l is work.most j;
 }

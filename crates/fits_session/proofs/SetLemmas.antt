@@ -25,9 +25,9 @@ use Rattle.fits_value.proofs.WrittenLemmas.{commented_after, lead_name, lead_mar
 use Rattle.fits_rules.specs.Lead.{is_value_of, lead_place}
 use Rattle.fits_rules.proofs.LeadLemmas.{NoneBefore, lead_at}
 use Rattle.fits_rules.proofs.LeadCardLemmas.{lead_to}
-use Rattle.fits_hdu.specs.Keyword.{keyword_cards, keyword_value, with_links}
+use Rattle.fits_hdu.specs.Keyword.{keyword_cards, keyword_value, with_links, replacing}
 use Rattle.fits_hdu.proofs.KeywordLemmas.{keyword_at, keyword_nowhere, lead_says}
-use Rattle.fits_session.specs.Edit.{replacing, setting, set_of}
+use Rattle.fits_session.specs.Edit.{setting, set_of}
 use Rattle.fits_session.proofs.EditLemmas.{set_if}
 
 -- a card that is written under a name has that name and a value

@@ -1,20 +1,20 @@
 -- HDUs under edits, as a session holds them.
-use Rattle.std.proofs.Common.{◌≡◌, inl, inr, ℕ, ◌+◌, ◌-◌, ◌<◌, ◌≤◌, List, [], ◌∷◌, ◌++◌, length, map, get_or, set, refl, ap, sym, ◌∙◌, subst, arith, None, Some, zero, suc, add-one}
+use Rattle.std.proofs.Common.{◌≡◌, inl, inr, ℕ, ◌+◌, ◌-◌, ◌<◌, ◌≤◌, List, [], ◌∷◌, ◌++◌, length, map, get_or, set, refl, ap, sym, ◌∙◌, subst, arith, Option, None, Some, zero, suc, add-one}
 use Rattle.std.specs.Prelude.{Ok}
 use Rattle.std.specs.List.{slice_get}
 use Rattle.std.specs.Option.{option_map}
 use Rattle.std.proofs.lemmas.List.{length-append, length-map}
-use Rattle.std.proofs.lemmas.Option.{slice_get_read, slice_get-map, get_or_from_slice_get}
+use Rattle.std.proofs.lemmas.Option.{slice_get_read, slice_get_within, slice_get-map, get_or_from_slice_get}
 use Rattle.fits_rules.specs.Class.{is_primary}
 use Rattle.fits_rules.specs.Shape.{shape_of}
 use Rattle.fits_hdu.specs.Hdu.{HduParts, hdu_bytes, IsHdu}
-use Rattle.fits_hdu.specs.State.{HduState, ReadsUpTo}
+use Rattle.fits_hdu.specs.State.{HduState, PixelWork, ReadsUpTo}
 use Rattle.fits_hdu.proofs.ShapeLemmas.{one_primary}
 use Rattle.fits_session.specs.Edit.{hdu_of, changed_at, changed_of}
 use Rattle.fits_session.specs.File.{FileParts, IsFile, file_bytes, joined_hdus}
 use Rattle.fits_session.specs.declared.limits.TheConstants.{FILE_LIMIT}
 use Rattle.fits_session.specs.Refusal.{is_primary_hdu}
-use Rattle.fits_session.specs.Session.{Held, SessionState, file_of, hdus_of, reads_of, held_as, held_of, state_of, ReadsOnly, Asks, IsIndexOf, IsNowhere}
+use Rattle.fits_session.specs.Session.{Held, SessionState, file_of, hdus_of, reads_of, works_of, held_as, held_of, state_of, ReadsOnly, WorksOnly, Asks, IsIndexOf, IsNowhere}
 use Rattle.fits_session.proofs.ChangeLemmas.{hdu_is, part_within}
 
 -- HDU h of those under edits
@@ -135,16 +135,77 @@ reads_more hdus h i most old new at least few =
     let is : reads_of (held_of (set hdus i new)) ≡ changed_at i (λ n. n + count) (reads_of (held_of hdus)) = parts_changed (λ (one : Held). one.reads) (λ n. n + count) hdus i old new at.index.within at.is (omega arith) in
     record { count = count; few = omega arith; is = is ∙ ap (λ k. changed_of k (λ n. n + count) (reads_of (held_of hdus))) (sym (at.index.at ∙ add-one i)) }
 
+-- there are as many works as HDUs
+length-works_of : (hdus : List HduState) → length (works_of (held_of hdus)) ≡ length hdus
+length-works_of hdus = length-map (held_of hdus) (λ (one : Held). one.pixel_work) ∙ length-map hdus held_as
+
+-- the work on the HDU at an index
+slice_get-works_of : (hdus : List HduState) (i : ℕ) (hdu : HduState) → i < length hdus → hdu ≡ get_or hdus i hdu → slice_get (works_of (held_of hdus)) i ≡ Some hdu.pixel_work
+slice_get-works_of hdus i hdu l e =
+    slice_get-map (λ (one : Held). one.pixel_work) (held_of hdus) i
+    ∙ ap (option_map (λ (one : Held). one.pixel_work)) (slice_get-map held_as hdus i ∙ ap (option_map held_as) (slice_get_read hdus (length hdus) i hdu refl l e))
+
+-- where HDU h stays as it was worked on, all do
+pub works_of-same : (hdus : List HduState) (i : ℕ) (old new : HduState) → i < length hdus → old ≡ get_or hdus i old → new.pixel_work ≡ old.pixel_work → works_of (held_of (set hdus i new)) ≡ works_of (held_of hdus)
+works_of-same hdus i old new l e p = parts_same (λ (one : Held). one.pixel_work) hdus i old new l e p
+
+-- where no card of it was read, none of any was
+pub reads_of-same : (hdus : List HduState) (i : ℕ) (old new : HduState) → i < length hdus → old ≡ get_or hdus i old → new.reads ≡ old.reads → reads_of (held_of (set hdus i new)) ≡ reads_of (held_of hdus)
+reads_of-same hdus i old new l e p = parts_same (λ (one : Held). one.reads) hdus i old new l e p
+
+-- HDU h alone was worked on
+pub works_changed : (hdus : List HduState) (h i : ℕ) (old new : HduState) (change : PixelWork → PixelWork) → IsHduAt hdus h i old → new.pixel_work ≡ change old.pixel_work → works_of (held_of (set hdus i new)) ≡ changed_of h change (works_of (held_of hdus))
+works_changed hdus h i old new change at p =
+    parts_changed (λ (one : Held). one.pixel_work) change hdus i old new at.index.within at.is p
+    ∙ ap (λ k. changed_of k change (works_of (held_of hdus))) (sym (at.index.at ∙ add-one i))
+
+-- and so much
+pub works_there : (hdus : List HduState) (h i : ℕ) (Much : PixelWork → PixelWork → Type 0) (old new : HduState) → IsHduAt hdus h i old → Much old.pixel_work new.pixel_work → WorksOnly h Much (works_of (held_of hdus)) (works_of (held_of (set hdus i new)))
+works_there hdus h i Much old new at p = record {
+  now = new.pixel_work;
+  is = works_changed hdus h i old new (λ work. new.pixel_work) at refl;
+  much = λ k work number there.
+      let index : k ≡ i = omega (arith, number, at.index.at) in
+      let both : Option.Some work ≡ Some old.pixel_work = sym there ∙ ap (slice_get (works_of (held_of hdus))) index ∙ slice_get-works_of hdus i old at.index.within at.is in
+      let same : work ≡ old.pixel_work = cc in
+      subst (λ (w : PixelWork). Much w new.pixel_work) (sym same) p;
+}
+
+-- a change past the last element changes nothing
+changed_at-past : {X : Type 0} (i : ℕ) (change : X → X) (xs : List X) → length xs ≤ i → changed_at i change xs ≡ xs
+changed_at-past i change [] l = refl
+changed_at-past zero change (x ∷ xs) l = absurd (omega arith)
+changed_at-past (suc i) change (x ∷ xs) l = ap (λ ys. x ∷ ys) (changed_at-past i change xs (omega arith))
+
+-- so a change of an HDU that isn't there changes nothing
+changed_of-nowhere : {X : Type 0} (h : ℕ) (change : X → X) (xs : List X) → IsNowhere (length xs) h → changed_of h change xs ≡ xs
+changed_of-nowhere zero change xs p = refl
+changed_of-nowhere (suc h) change xs p = elim p [ inl none ↦ absurd (omega (arith, none)) | inr past ↦ changed_at-past h change xs (omega (arith, past)) ]
+
+-- and it isn't worked on
+pub works_nowhere : (hdus : List HduState) (h : ℕ) (Much : PixelWork → PixelWork → Type 0) → IsNowhere (length hdus) h → WorksOnly h Much (works_of (held_of hdus)) (works_of (held_of hdus))
+works_nowhere hdus h Much p =
+    let idle : PixelWork = record { scans = 0; reads = 0; joins = 0 } in
+    let nowhere : IsNowhere (length (works_of (held_of hdus))) h = rw (length-works_of hdus) p in
+    record {
+      now = idle;
+      is = sym (changed_of-nowhere h (λ work. idle) (works_of (held_of hdus)) nowhere);
+      much = λ k work number there.
+          let within : k < length hdus = omega (arith, slice_get_within (works_of (held_of hdus)) k work there, length-works_of hdus) in
+          absurd (elim p [ inl none ↦ omega (arith, number, none) | inr past ↦ omega (arith, number, past, within) ]);
+    }
+
 -- a query read cards of HDU h
 pub asked : (hdus : List HduState) (tail : List ℕ) (h i most : ℕ) (old new : HduState) → IsHduAt hdus h i old → ReadsUpTo old new most → Asks h most (state_of hdus tail) (state_of (set hdus i new) tail)
 asked hdus tail h i most old new at p = record {
   file = file_of-same hdus tail h i old new at p.hdu;
   work = reads_more hdus h i most old new at p.least p.most;
+  pixel_work = works_of-same hdus i old new at.index.within at.is p.pixel_work;
 }
 
 -- a query read none
 pub asked_none : (h most : ℕ) (session : SessionState) → Asks h most session session
-asked_none h most session = record { file = refl; work = reads_none h most (reads_of session.held) }
+asked_none h most session = record { file = refl; work = reads_none h most (reads_of session.held); pixel_work = refl }
 
 -- one more HDU
 pub hdus_of-push : (hdus : List HduState) (hdu : HduState) → hdus_of (held_of (hdus ++ hdu ∷ [])) ≡ hdus_of (held_of hdus) ++ hdu.hdu ∷ []

@@ -1,6 +1,8 @@
 pub mod Edit
 pub mod File
+pub mod Fresh
 pub mod Limits
+pub mod NameTable
 pub mod Opening
 pub mod Query
 pub mod Reading

@@ -1,5 +1,5 @@
 -- What queries answer of a file: a fresh reading of it (own).
-use Rattle.std.specs.Prelude.{◌≡◌, ℕ, List, length, Option, None, Some, Result, Ok, Err, IsOk}
+use Rattle.std.specs.Prelude.{◌≡◌, ℕ, Bool, ℤ, List, length, Option, None, Some, ok_or, Result, Ok, Err, IsOk}
 use Rattle.fits_value.specs.declared.value.Value.{Value}
 use Rattle.fits_header.specs.Names.{header_names}
 use Rattle.fits_header.specs.Places.{keyword_places}
@@ -7,15 +7,21 @@ use Rattle.fits_rules.specs.Shape.{shape_of}
 use Rattle.fits_rules.specs.declared.array_shape.Shape.{Shape}
 use Rattle.fits_hdu.specs.Hdu.{HduParts}
 use Rattle.fits_hdu.specs.Keyword.{keyword_value}
-use Rattle.fits_hdu.specs.Kind.{IsKind}
+use Rattle.fits_hdu.specs.Kind.{kind_in as hdu_kind, IsKind}
+use Rattle.fits_hdu.specs.Pixels.{rect_of, stats_of}
+use Rattle.fits_hdu.specs.Sums.{data_sum, verdicts_of}
 use Rattle.fits_hdu.specs.declared.kind.Kind.{Kind}
+use Rattle.fits_hdu.specs.declared.pixel_fault.PixelFault.{PixelFault}
+use Rattle.fits_hdu.specs.declared.pixel_fault.PixelFault.TheVariants as pixel
+use Rattle.fits_hdu.specs.declared.stats.Stats.{Stats}
+use Rattle.fits_hdu.specs.declared.verdicts.Verdicts.{Verdicts}
 use Rattle.fits_hdu.specs.declared.keyword.KeywordFault.{KeywordFault}
 use Rattle.fits_hdu.specs.declared.keyword.KeywordFault.TheVariants as keyword
 use Rattle.fits_session.specs.File.{FileParts}
-use Rattle.fits_session.specs.Edit.{hdu_of}
+use Rattle.fits_session.specs.Edit.{hdu_of, shaped}
 use Rattle.fits_session.specs.Refusal.{is_primary_hdu}
 use Rattle.fits_session.specs.declared.refusal.Refusal.{Refusal}
-use Rattle.fits_session.specs.declared.refusal.Refusal.TheVariants.{NoHdu, NoKey, BadValue, NotImage, Memory}
+use Rattle.fits_session.specs.declared.refusal.Refusal.TheVariants.{NoHdu, NoKey, BadValue, Shape as BadShape, Memory}
 
 -- what an HDU answers, if it is there
 abbrev pub in_hdu : {X : Type 0} → (HduParts → Result X Refusal) → Option HduParts → Result X Refusal
@@ -26,11 +32,14 @@ in_hdu answer (Some hdu) = answer hdu
 abbrev pub card_count_in : FileParts → ℕ → Result ℕ Refusal
 card_count_in file h = in_hdu (λ hdu. Ok (length hdu.header.cards)) (hdu_of file h)
 
--- the cards of HDU h describe this shape (4.4.1)
-pub record IsShapeIn (file : FileParts) (h : ℕ) (shape : Shape) : Type 0 where
-  pub hdu : HduParts
-  pub there : hdu_of file h ≡ Some hdu
-  pub described : shape_of (is_primary_hdu h) hdu.header.cards ≡ Ok shape
+-- a shape, which each HDU of a file has
+abbrev pub some_shape : Result Shape ℕ → Result Shape Refusal
+some_shape (Ok shape) = Ok shape
+some_shape (Err place) = Err BadShape
+
+-- the shape that the cards of HDU h describe (4.4.1)
+abbrev pub shape_in : FileParts → ℕ → Result Shape Refusal
+shape_in file h = in_hdu (λ hdu. some_shape (shape_of (is_primary_hdu h) hdu.header.cards)) (hdu_of file h)
 
 -- HDU h is an integer image of this kind (5.2)
 pub record IsKindIn (file : FileParts) (h : ℕ) (kind : Kind) : Type 0 where
@@ -40,17 +49,29 @@ pub record IsKindIn (file : FileParts) (h : ℕ) (kind : Kind) : Type 0 where
   pub described : shape_of (is_primary_hdu h) hdu.header.cards ≡ Ok shape
   pub is : IsKind shape hdu.header.cards kind
 
--- HDU h is there, and no integer image
-pub record HasNoKind (file : FileParts) (h : ℕ) : Type 0 where
-  pub hdu : HduParts
-  pub there : hdu_of file h ≡ Some hdu
-  pub none : (kind : Kind) → IsKindIn file h kind → ⊥
+-- what an HDU answers by the shape that its cards describe
+abbrev pub by_shape : {X : Type 0} → Bool → (Shape → HduParts → Result X PixelFault) → HduParts → Result X Refusal
+by_shape primary answer hdu = shaped (shape_of primary hdu.header.cards) (λ shape. answer shape hdu)
 
--- why HDU h has no kind: it isn't there, or is no integer image
-abbrev pub KindFails : FileParts → ℕ → Refusal → Type 0
-KindFails file h NoHdu = hdu_of file h ≡ None
-KindFails file h NotImage = HasNoKind file h
-KindFails file h why = ⊥
+-- the kind of the integer image that HDU h is (5.2)
+abbrev pub kind_in : FileParts → ℕ → Result Kind Refusal
+kind_in file h = in_hdu (by_shape (is_primary_hdu h) (λ shape hdu. ok_or (hdu_kind shape hdu.header.cards) pixel.NotImage)) (hdu_of file h)
+
+-- the statistics of the pixels of HDU h
+abbrev pub stats_in : FileParts → ℕ → Result Stats Refusal
+stats_in file h = in_hdu (by_shape (is_primary_hdu h) (λ shape hdu. ok_or (stats_of shape hdu) pixel.NotImage)) (hdu_of file h)
+
+-- the sum of the data unit of HDU h (Appendix J)
+abbrev pub datasum_in : FileParts → ℕ → Result ℕ Refusal
+datasum_in file h = in_hdu (λ hdu. Ok (data_sum hdu)) (hdu_of file h)
+
+-- whether the sums of HDU h are right (4.4.2.7)
+abbrev pub verdicts_in : FileParts → ℕ → Result Verdicts Refusal
+verdicts_in file h = in_hdu (λ hdu. Ok (verdicts_of hdu)) (hdu_of file h)
+
+-- the values of a rectangle of HDU h, in file order
+abbrev pub rect_in : FileParts → ℕ → List ℕ → List ℕ → Result (List ℤ) Refusal
+rect_in file h lo hi = in_hdu (by_shape (is_primary_hdu h) (λ shape hdu. rect_of shape lo hi hdu)) (hdu_of file h)
 
 -- a keyword's fault as a refusal
 abbrev pub refusal_of_keyword : KeywordFault → Refusal

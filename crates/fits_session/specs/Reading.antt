@@ -7,7 +7,9 @@ use Rattle.fits_card.specs.declared.reading.ReadFault.TheVariants as read
 use Rattle.fits_hdu.specs.Findings.{AreFindings}
 use Rattle.fits_hdu.specs.Hdu.{HduParts}
 use Rattle.fits_hdu.specs.Reading.{IsOutlined}
+use Rattle.fits_hdu.specs.Sums.{AreSumsOf}
 use Rattle.fits_hdu.specs.declared.findings.Findings.{Findings}
+use Rattle.fits_hdu.specs.declared.hdu_sums.HduSums.{HduSums}
 use Rattle.fits_hdu.specs.declared.outline.Outline.{Outline}
 use Rattle.fits_hdu.specs.declared.read_fault.ReadHduFault.{ReadHduFault}
 use Rattle.fits_hdu.specs.declared.read_fault.ReadHduFault.TheVariants as hdu
@@ -80,7 +82,7 @@ NextBegins false first = begins_extension first ≡ true
 
 -- this is found of an HDU
 abbrev pub is_found : Findings → HduParts → Type 0
-is_found it hdu = AreFindings it.0.items hdu
+is_found it hdu = AreFindings it.whole it.of_cards.items it.name hdu
 
 -- this is an HDU's outline
 abbrev pub is_outline : Outline → HduParts → Type 0
@@ -89,3 +91,11 @@ is_outline it hdu = IsOutlined hdu it.card_count it.shape it.header_len it.data_
 -- these are the outlines of a file's HDUs
 abbrev pub IsOutlineOf : List Outline → List ℕ → Type 0
 IsOutlineOf outlines bytes = IsKeptOf is_outline outlines bytes
+
+-- these are an HDU's sums
+abbrev pub is_summed : HduSums → HduParts → Type 0
+is_summed it hdu = AreSumsOf it.datasum it.verdicts hdu
+
+-- these are the sums of a file's HDUs
+abbrev pub AreSumsOfFile : List HduSums → List ℕ → Type 0
+AreSumsOfFile sums bytes = IsKeptOf is_summed sums bytes

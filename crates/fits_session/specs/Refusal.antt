@@ -1,22 +1,23 @@
 -- When an edit is refused: the first test of its row that fails (own).
-use Rattle.std.specs.Prelude.{◌≡◌, ◌⊎◌, ℕ, Bool, nat_le, List, length, Option, Some, None, Result, Ok, Err, IsOk, if◌then◌else◌}
+use Rattle.std.specs.Prelude.{◌≡◌, ◌⊎◌, ℕ, ◌+◌, ◌==◌, Bool, not, List, length, Option, Some, None, Result, Ok, Err, IsOk, if◌then◌else◌}
 use Rattle.fits_card.specs.Change.{cards_after}
 use Rattle.fits_card.specs.declared.change.Change.{Change}
 use Rattle.fits_rules.specs.SameShape.{same_shape}
 use Rattle.fits_rules.specs.Shape.{shape_of}
 use Rattle.fits_hdu.specs.Hdu.{HduParts, hdu_after}
+use Rattle.fits_hdu.specs.NewImage.{are_axes, new_image}
+use Rattle.fits_hdu.specs.Stamp.{stamped}
 use Rattle.fits_session.specs.File.{FileParts, file_bytes}
 use Rattle.fits_session.specs.Limits.{is_within_limits}
-use Rattle.fits_session.specs.Edit.{hdu_of, hdu_named, change_of, with_hdu}
+pub use Rattle.fits_session.specs.Edit.{is_primary_hdu}
+use Rattle.fits_session.specs.Edit.{hdu_of, hdu_named, change_of, fill_of, is_within, with_hdu, with_new_hdu, write_of}
+use Rattle.fits_hdu.specs.declared.kind.Kind.{Kind}
 use Rattle.fits_session.specs.declared.edit.Edit.{Edit}
+use Rattle.fits_session.specs.declared.edit.Edit.TheVariants.{Fill, Write, NewImage, RemoveHdu, Stamp}
 use Rattle.fits_session.specs.declared.refusal.Refusal.{Refusal}
-use Rattle.fits_session.specs.declared.refusal.Refusal.TheVariants.{NoHdu, BadValue, Shape, TooLarge, Memory}
+use Rattle.fits_session.specs.declared.refusal.Refusal.TheVariants.{NoHdu, BadValue, Shape, PrimaryStays, TooLarge, Memory}
 use Rattle.fits_value.specs.declared.write.WriteFault.{WriteFault}
 use Rattle.fits_value.specs.declared.write.WriteFault.TheVariants as write
-
--- whether HDU h is the primary one
-abbrev pub is_primary_hdu : ℕ → Bool
-is_primary_hdu h = nat_le h 1
 
 -- the cards would describe another shape, or none
 abbrev pub shape_refusal : Bool → List (List ℕ) → List (List ℕ) → Option Refusal
@@ -42,13 +43,35 @@ change_refusal file h hdu (Err why) = Some why
 change_refusal file h hdu (Ok change) =
     first_refusal (shape_refusal (is_primary_hdu h) hdu.header.cards (cards_after hdu.header.cards change)) (size_refusal (with_hdu file h (hdu_after change)))
 
+-- why nothing was made, if so
+abbrev pub refusal_made : {X : Type 0} → Result X Refusal → Option Refusal
+refusal_made (Ok made) = None
+refusal_made (Err why) = Some why
+
+-- HDU 1 stays
+abbrev pub primary_refusal : ℕ → Option Refusal
+primary_refusal h = if h == 1 then Some PrimaryStays else None
+
+-- the tests of a new image that will be HDU h, in this order
+unfoldable pub new_image_refusal : FileParts → ℕ → Kind → List ℕ → Option Refusal
+new_image_refusal file h kind axes =
+    if not (is_within h (length file.hdus + 1)) then Some NoHdu
+    else if h == 1 then Some PrimaryStays
+    else if not (are_axes axes) then Some Shape
+    else size_refusal (with_new_hdu file h (new_image kind axes))
+
 -- the tests of an edit of an HDU, if it is there
 abbrev pub refusal_in : FileParts → Edit → Option HduParts → Option Refusal
 refusal_in file edit None = Some NoHdu
+refusal_in file (Fill h lo hi value) (Some hdu) = refusal_made (fill_of (is_primary_hdu h) lo hi value hdu)
+refusal_in file (Write h lo hi values) (Some hdu) = refusal_made (write_of (is_primary_hdu h) lo hi values hdu)
+refusal_in file (RemoveHdu h) (Some hdu) = primary_refusal h
+refusal_in file (Stamp h) (Some hdu) = size_refusal (with_hdu file h stamped)
 refusal_in file edit (Some hdu) = change_refusal file (hdu_named edit) hdu (change_of hdu.header.cards edit)
 
 -- the first refusal of an edit, if it is refused
 unfoldable pub refusal_of : FileParts → Edit → Option Refusal
+refusal_of file (NewImage at kind axes) = new_image_refusal file at kind axes
 refusal_of file edit = refusal_in file edit (hdu_of file (hdu_named edit))
 
 -- memory may run out on the way to this answer: none, or a refusal whose test needs the cards of the change
@@ -58,9 +81,33 @@ NeedsMemory (Some Shape) = Unit {0}
 NeedsMemory (Some TooLarge) = Unit {0}
 NeedsMemory (Some why) = ⊥
 
--- an edit may end so: by its refusal, or out of memory where it may run out
+-- a change may end so: by its refusal, or out of memory where it may run out
 abbrev pub EditFails : Option Refusal → Refusal → Type 0
 EditFails refused why = (refused ≡ Some why) ⊎ ((why ≡ Memory) × NeedsMemory refused)
+
+-- memory may run out on the way to this answer of a new image: none, or that it would be too large
+abbrev pub NewNeedsMemory : Option Refusal → Type 0
+NewNeedsMemory None = Unit {0}
+NewNeedsMemory (Some TooLarge) = Unit {0}
+NewNeedsMemory (Some why) = ⊥
+
+-- memory may run out on the way to this answer of an edit: one of pixels takes none, nor does taking an HDU out; a stamp asks for it
+-- after its test
+abbrev pub EditNeedsMemory : Edit → Option Refusal → Type 0
+EditNeedsMemory (Fill h lo hi value) refused = ⊥
+EditNeedsMemory (Write h lo hi values) refused = ⊥
+EditNeedsMemory (RemoveHdu h) refused = ⊥
+EditNeedsMemory (NewImage at kind axes) refused = NewNeedsMemory refused
+EditNeedsMemory (Stamp h) refused = refused ≡ None
+EditNeedsMemory edit refused = NeedsMemory refused
+
+-- an edit may end so: by its refusal, or out of memory where it may run out
+abbrev pub EditRefused : Edit → Option Refusal → Refusal → Type 0
+EditRefused edit refused why = (refused ≡ Some why) ⊎ ((why ≡ Memory) × EditNeedsMemory edit refused)
+
+-- a stamp may end so: by its test that fails, or out of memory where it doesn't
+abbrev pub StampFails : Option Refusal → Refusal → Type 0
+StampFails refused why = (refused ≡ Some why) ⊎ ((why ≡ Memory) × (refused ≡ None))
 
 -- making the change of an edit may end so: by its own test that fails, or out of memory where none does
 abbrev pub ChangeFails : Result Change Refusal → Refusal → Type 0

@@ -1,15 +1,18 @@
 -- The report of a file: what is wrong, HDU after HDU (own).
-use Rattle.std.specs.Prelude.{◌≡◌, ◌⊎◌, ℕ, ◌+◌, ◌<◌, true, List, [], ◌∷◌, ◌++◌, length, map, Contains, Some, Result, Ok, Err, zero, suc}
+use Rattle.std.specs.Prelude.{◌≡◌, ◌⊎◌, ℕ, ◌+◌, ◌<◌, nat_le, Bool, true, false, List, [], ◌∷◌, ◌++◌, length, map, Contains, Option, None, Some, Result, Ok, Err, zero, suc}
+use Rattle.std.specs.List.{filter}
 use Rattle.fits_rules.specs.Shape.{shape_of}
 use Rattle.fits_rules.specs.declared.array_shape.Shape.{Shape}
 use Rattle.fits_codes.specs.Code.{number}
 use Rattle.fits_codes.specs.declared.code.Code.{Code}
-use Rattle.fits_codes.specs.declared.code.Code.TheVariants.{TrailingBytes}
-use Rattle.fits_header.specs.Findings.{codes_at, counts_of}
+use Rattle.fits_codes.specs.declared.code.Code.TheVariants.{DuplicateExtension, TrailingBytes}
+use Rattle.fits_header.specs.Findings.{codes_at, counts_of, found_at}
 use Rattle.fits_header.specs.declared.counts.Counts.{Counts}
 use Rattle.fits_header.specs.declared.finding.Finding.{Finding}
+use Rattle.fits_hdu.specs.ExtensionName.{extension_name, is_same_name, name_codes}
 use Rattle.fits_hdu.specs.Findings.{hdu_findings, whole_codes}
 use Rattle.fits_hdu.specs.Hdu.{HduParts}
+use Rattle.fits_hdu.specs.declared.extension_name.ExtensionName.{ExtensionName}
 use Rattle.fits_hdu.specs.declared.findings.Findings.{Findings}
 use Rattle.fits_session.specs.Edit.{hdu_of}
 use Rattle.fits_session.specs.File.{FileParts, is_followed, IsFileOf}
@@ -20,15 +23,39 @@ use Rattle.fits_session.specs.declared.problem.Problem.{Problem}
 abbrev pub in_hdu : ℕ → Finding → Problem
 in_hdu h found = record { hdu = h; place = found.place; code = found.code }
 
--- what is wrong in HDU h, whose cards describe a shape
-abbrev pub wrong_in : ℕ → HduParts → Result Shape ℕ → List Problem
-wrong_in h hdu (Ok shape) = map (in_hdu h) (hdu_findings shape hdu)
-wrong_in h hdu (Err place) = []
+-- what an HDU is called
+abbrev pub name_in : ℕ → HduParts → Option ExtensionName
+name_in h hdu = extension_name (is_primary_hdu h) hdu.header.cards
 
--- what is wrong in HDUs from number h on
-abbrev pub wrong_from : ℕ → List HduParts → List Problem
-wrong_from h [] = []
-wrong_from h (hdu ∷ hdus) = wrong_in h hdu (shape_of (is_primary_hdu h) hdu.header.cards) ++ wrong_from (h + 1) hdus
+-- what HDUs from number h on are called
+abbrev pub names_from : ℕ → List HduParts → List (Option ExtensionName)
+names_from h [] = []
+names_from h (hdu ∷ hdus) = name_in h hdu ∷ names_from (h + 1) hdus
+
+-- whether an HDU is called so
+abbrev pub is_called : ExtensionName → Option ExtensionName → Bool
+is_called name None = false
+is_called name (Some other) = is_same_name name other
+
+-- how many are called so
+abbrev pub called_count : ExtensionName → List (Option ExtensionName) → ℕ
+called_count name names = length (filter (is_called name) names)
+
+-- an HDU with this name isn't the only one of all that is called so (4.4.2.6)
+unfoldable pub is_repeated : List (Option ExtensionName) → Option ExtensionName → Bool
+is_repeated names None = false
+is_repeated names (Some name) = nat_le 2 (called_count name names)
+
+-- what is wrong in HDU h, whose cards describe a shape, and which is called as another is or isn't
+abbrev pub wrong_in : ℕ → HduParts → Bool → Result Shape ℕ → List Problem
+wrong_in h hdu repeated (Ok shape) = map (in_hdu h) (hdu_findings shape hdu repeated)
+wrong_in h hdu repeated (Err place) = []
+
+-- what is wrong in HDUs from number h on, among all that are called so
+abbrev pub wrong_from : List (Option ExtensionName) → ℕ → List HduParts → List Problem
+wrong_from names h [] = []
+wrong_from names h (hdu ∷ hdus) =
+    wrong_in h hdu (is_repeated names (name_in h hdu)) (shape_of (is_primary_hdu h) hdu.header.cards) ++ wrong_from names (h + 1) hdus
 
 -- that bytes follow the last HDU, and would be HDU h (3.5)
 abbrev pub trails : ℕ → Problem
@@ -41,16 +68,32 @@ trailing h (byte ∷ bytes) = trails h ∷ []
 
 -- the report: by HDU, by place, by the code's number
 unfoldable pub report_of : FileParts → List Problem
-report_of file = wrong_from 1 file.hdus ++ trailing (length file.hdus + 1) file.tail
+report_of file = wrong_from (names_from 1 file.hdus) 1 file.hdus ++ trailing (length file.hdus + 1) file.tail
 
 -- how many errors and warnings a report has
 abbrev pub counts_in : List Problem → Counts
 counts_in report = counts_of (map (λ (it : Problem). it.code) report)
 
--- the code is among those of a place of an HDU, which is 0 for the HDU as a whole
-abbrev pub IsCodeAt : Shape → HduParts → ℕ → Code → Type 0
-IsCodeAt shape hdu zero code = Contains (whole_codes shape hdu) code
-IsCodeAt shape hdu (suc index) code = (index < length hdu.header.cards) × Contains (codes_at shape hdu.header.cards (suc index)) code
+-- another HDU than HDU h is called so
+pub record IsNameOfAnother (file : FileParts) (h : ℕ) (name : ExtensionName) : Type 0 where
+  pub other : ℕ
+  pub hdu : HduParts
+  pub differs : other ≡ h → ⊥
+  pub there : hdu_of file other ≡ Some hdu
+  pub called : name_in other hdu ≡ Some name
+
+-- HDU h is called as another is (4.4.2.6)
+pub record HasNameOfAnother (file : FileParts) (h : ℕ) (hdu : HduParts) : Type 0 where
+  pub name : ExtensionName
+  pub called : name_in h hdu ≡ Some name
+  pub again : IsNameOfAnother file h name
+
+-- the code is among those of a place of HDU h, which is 0 for the HDU as a whole: those of its header, of its data and of its sums, or
+-- that it is called as another is
+abbrev pub IsCodeAt : FileParts → ℕ → Shape → HduParts → ℕ → Code → Type 0
+IsCodeAt file h shape hdu zero code =
+    Contains (whole_codes shape hdu) code ⊎ ((code ≡ DuplicateExtension) × HasNameOfAnother file h hdu)
+IsCodeAt file h shape hdu (suc index) code = (index < length hdu.header.cards) × Contains (codes_at shape hdu.header.cards (suc index)) code
 
 -- the HDU of a problem is there, its cards describe a shape, and the code is among those of the place
 pub record IsWrong (file : FileParts) (problem : Problem) : Type 0 where
@@ -58,7 +101,7 @@ pub record IsWrong (file : FileParts) (problem : Problem) : Type 0 where
   pub shape : Shape
   pub there : hdu_of file problem.hdu ≡ Some hdu
   pub described : shape_of (is_primary_hdu problem.hdu) hdu.header.cards ≡ Ok shape
-  pub code : IsCodeAt shape hdu problem.place problem.code
+  pub code : IsCodeAt file problem.hdu shape hdu problem.place problem.code
 
 -- bytes follow the last HDU, and the problem says so
 abbrev pub IsTrailing : FileParts → Problem → Type 0
@@ -70,10 +113,15 @@ IsListedBefore problem other =
     (problem.hdu < other.hdu)
     ⊎ ((problem.hdu ≡ other.hdu) × ((problem.place < other.place) ⊎ ((problem.place ≡ other.place) × (number problem.code < number other.code))))
 
--- the same of HDUs from number h on, by what was found of each
-abbrev pub found_from : ℕ → List Findings → List Problem
-found_from h [] = []
-found_from h (it ∷ found) = map (in_hdu h) it.0.items ++ found_from (h + 1) found
+-- what findings call their HDUs
+abbrev pub found_names : List Findings → List (Option ExtensionName)
+found_names found = map (λ (it : Findings). it.name) found
+
+-- what is wrong by what was found of HDUs from number h on, among all that are called so
+abbrev pub found_from : List (Option ExtensionName) → ℕ → List Findings → List Problem
+found_from names h [] = []
+found_from names h (it ∷ found) =
+    map (in_hdu h) (found_at 0 (it.whole ++ name_codes (is_repeated names it.name)) ++ it.of_cards.items) ++ found_from names (h + 1) found
 
 -- the bytes are a file, and this is its report
 pub record IsReportOf (report : List Problem) (bytes : List ℕ) : Type 0 where

@@ -1,22 +1,31 @@
 -- What a session is to its callers, and what its calls owe.
-use Rattle.std.specs.Prelude.{◌≡◌, ◌⊎◌, ℕ, ◌+◌, ◌-◌, ◌<◌, ◌≤◌, List, Option, length, get_or, map, Result, IfErr, OnOk, OnErr, None}
+use Rattle.std.specs.Prelude.{◌≡◌, ◌⊎◌, ℕ, Bool, ◌+◌, ◌-◌, ◌<◌, ◌≤◌, List, Option, length, get_or, map, Result, Ok, Err, IfErr, OnOk, OnErr, None, Some, ℤ}
+use Rattle.std.specs.List.{insert, remove, slice_get}
 use Rattle.fits_card.specs.Change.{cards_after}
 use Rattle.fits_card.specs.Header.{header_length}
 use Rattle.fits_card.specs.declared.change.Change.{Change}
 use Rattle.fits_rules.specs.Class.{is_primary}
+use Rattle.fits_plane.specs.Layout.{block_count}
+use Rattle.fits_plane.specs.Work.{rectangle_blocks}
+use Rattle.fits_rules.specs.Shape.{shape_of}
+use Rattle.fits_rules.specs.declared.array_shape.Shape.{Shape}
 use Rattle.fits_hdu.specs.Hdu.{HduParts}
-use Rattle.fits_hdu.specs.State.{HduState}
-use Rattle.fits_session.specs.Edit.{changed_of, file_after, hdu_named}
+use Rattle.fits_hdu.specs.Layout.{layout_of}
+use Rattle.fits_hdu.specs.State.{HduState, PixelWork}
+use Rattle.fits_hdu.specs.Work.{open_reads, FollowsBlank, IsMade, IsPatched}
+use Rattle.fits_session.specs.Edit.{changed_of, file_after, hdu_edited, hdu_named, hdu_of, is_primary_hdu}
 use Rattle.fits_session.specs.File.{FileParts}
-use Rattle.fits_session.specs.Refusal.{first_refusal, limit_refusal, refusal_of, shape_refusal, EditFails}
+use Rattle.fits_session.specs.Refusal.{first_refusal, limit_refusal, refusal_of, shape_refusal, EditRefused}
 use Rattle.fits_session.specs.Work.{edit_reads}
 use Rattle.fits_session.specs.declared.edit.Edit.{Edit}
+use Rattle.fits_session.specs.declared.edit.Edit.TheVariants.{Fill, Write, NewImage, RemoveHdu}
 use Rattle.fits_session.specs.declared.refusal.Refusal.{Refusal}
 
--- what a session holds of an HDU: its parts, and how many of its cards were read so far
+-- what a session holds of an HDU: its parts, how many of its cards were read so far, and the work on its data unit
 pub record Held : Type 0 where
   pub hdu : HduParts
   pub reads : ℕ
+  pub pixel_work : PixelWork
 
 -- HDU after HDU, and the bytes that trail them
 pub record SessionState : Type 0 where
@@ -31,13 +40,17 @@ hdus_of held = map (λ one. one.hdu) held
 abbrev pub reads_of : List Held → List ℕ
 reads_of held = map (λ one. one.reads) held
 
+-- the work on the data unit of each
+abbrev pub works_of : List Held → List PixelWork
+works_of held = map (λ one. one.pixel_work) held
+
 -- the file that a session is
 abbrev pub file_of : SessionState → FileParts
 file_of session = record { hdus = hdus_of session.held; tail = session.tail }
 
 -- an HDU under edits, as it is held
 abbrev pub held_as : HduState → Held
-held_as state = record { hdu = state.hdu; reads = state.reads }
+held_as state = record { hdu = state.hdu; reads = state.reads; pixel_work = state.pixel_work }
 
 -- HDUs under edits, as they are held
 abbrev pub held_of : List HduState → List Held
@@ -53,6 +66,38 @@ pub record ReadsOnly (h most : ℕ) (before after : List ℕ) : Type 0 where
   pub few : count ≤ most
   pub is : after ≡ changed_of h (λ reads. reads + count) before
 
+-- the data unit of HDU h alone was worked on, and so much
+pub record WorksOnly (h : ℕ) (Much : PixelWork → PixelWork → Type 0) (before after : List PixelWork) : Type 0 where
+  pub now : PixelWork
+  pub is : after ≡ changed_of h (λ work. now) before
+  pub much : (i : ℕ) (work : PixelWork) → h ≡ i + 1 → slice_get before i ≡ Some work → Much work now
+
+-- the number that BLANK names, by the shape that cards describe
+abbrev pub blank_of : Result Shape ℕ → List (List ℕ) → Option ℤ
+blank_of (Ok shape) cards = (layout_of shape cards).blank
+blank_of (Err place) cards = None
+
+-- the blocks that hold a byte of a rectangle are worked on, by the shape that cards describe
+abbrev pub PatchesIn : Result Shape ℕ → List ℕ → List ℕ → HduParts → PixelWork → PixelWork → Type 0
+PatchesIn (Ok shape) lo hi hdu =
+    IsPatched (rectangle_blocks (layout_of shape hdu.header.cards) hdu.data_unit shape.axes lo hi) (block_count hdu.data_unit)
+PatchesIn (Err place) lo hi hdu = λ old new. new ≡ old
+
+-- so much work on the data unit of its HDU an edit is: one of pixels works on their blocks; one of cards on none, or on all where the number
+-- that BLANK names changes
+abbrev pub HduWork : Edit → HduParts → PixelWork → PixelWork → Type 0
+HduWork (Fill h lo hi value) hdu = PatchesIn (shape_of (is_primary_hdu h) hdu.header.cards) lo hi hdu
+HduWork (Write h lo hi values) hdu = PatchesIn (shape_of (is_primary_hdu h) hdu.header.cards) lo hi hdu
+HduWork edit hdu =
+    let cards : List (List ℕ) = hdu.header.cards in
+    let after : List (List ℕ) = (hdu_edited edit hdu).header.cards in
+    let primary : Bool = is_primary_hdu (hdu_named edit) in
+    FollowsBlank (blank_of (shape_of primary cards) cards) (blank_of (shape_of primary after) after) (block_count hdu.data_unit)
+
+-- the same of the HDU that it names
+abbrev pub EditWork : FileParts → Edit → PixelWork → PixelWork → Type 0
+EditWork file edit old new = (hdu : HduParts) → hdu_of file (hdu_named edit) ≡ Some hdu → HduWork edit hdu old new
+
 -- an HDU with each of its cards read once more
 abbrev pub once_read : Held → Held
 once_read one = record one { reads = one.reads + length one.hdu.header.cards }
@@ -61,25 +106,55 @@ once_read one = record one { reads = one.reads + length one.hdu.header.cards }
 abbrev pub each_read : List Held → List Held
 each_read held = map once_read held
 
--- the HDUs stay, no count falls, and no card was read more than once
+-- the HDUs stay, no count falls, no card was read more than once, and no data unit was worked on
 pub record ReadsOnceAtMost (before after : List Held) : Type 0 where
   pub hdus : hdus_of after ≡ hdus_of before
+  pub pixel_work : works_of after ≡ works_of before
   pub least : (i : ℕ) → get_or (reads_of before) i 0 ≤ get_or (reads_of after) i 0
   pub most : (i : ℕ) → get_or (reads_of after) i 0 ≤ get_or (reads_of (each_read before)) i 0
+
+-- work on the HDU that an edit names, and on no other
+pub record NamedWork (edit : Edit) (old new : SessionState) : Type 0 where
+  pub cards : ReadsOnly (hdu_named edit) (edit_reads (file_of old) edit) (reads_of old.held) (reads_of new.held)
+  pub pixels : WorksOnly (hdu_named edit) (EditWork (file_of old) edit) (works_of old.held) (works_of new.held)
+
+-- an HDU was put in that will be HDU h: it was read and scanned as much as one that is opened, and the counts of the others are theirs
+pub record PutsIn (h : ℕ) (before after : List Held) : Type 0 where
+  pub one : Held
+  pub is : after ≡ insert before (h - 1) one
+  pub reads : one.reads ≤ open_reads one.hdu.header.cards
+  pub made : IsMade (block_count one.hdu.data_unit) one.pixel_work
+
+-- the work of an edit: of one that is named, or none but that of an HDU that is put in; the counts go with their HDUs
+abbrev pub WorksAs : Edit → SessionState → SessionState → Type 0
+WorksAs (NewImage at kind axes) old new = (new ≡ old) ⊎ PutsIn at old.held new.held
+WorksAs (RemoveHdu h) old new = (new ≡ old) ⊎ (new.held ≡ remove old.held (h - 1))
+WorksAs edit old new = NamedWork edit old new
 
 -- an edit owes: it is made where none of its tests fails, and then the file is the one after it; else the file is as
 -- before, and the refusal is the first test's that fails, or memory's. Cards of the HDU that it names alone are read.
 pub record EditsTo {X : Type 0} (edit : Edit) (old new : SessionState) (result : Result X Refusal) : Type 0 where
   pub accepted : OnOk result (refusal_of (file_of old) edit ≡ None)
   pub ok : OnOk result (file_of new ≡ file_after (file_of old) edit)
-  pub refused : IfErr result (EditFails (refusal_of (file_of old) edit))
+  pub refused : IfErr result (EditRefused edit (refusal_of (file_of old) edit))
   pub err : OnErr result (file_of new ≡ file_of old)
-  pub work : ReadsOnly (hdu_named edit) (edit_reads (file_of old) edit) (reads_of old.held) (reads_of new.held)
+  pub work : WorksAs edit old new
 
 -- a query of HDU h owes: the file stays, and so many of that HDU's cards are read at most
 pub record Asks (h most : ℕ) (old new : SessionState) : Type 0 where
   pub file : file_of new ≡ file_of old
   pub work : ReadsOnly h most (reads_of old.held) (reads_of new.held)
+  pub pixel_work : works_of new.held ≡ works_of old.held
+
+-- so many pixels of an HDU were read more
+abbrev pub read_more : ℕ → PixelWork → PixelWork
+read_more count work = record work { reads = work.reads + count }
+
+-- a query of pixels of HDU h owes: the file stays, no card is read, and so many of that HDU's pixels are read
+pub record AsksPixels (h count : ℕ) (old new : SessionState) : Type 0 where
+  pub file : file_of new ≡ file_of old
+  pub work : reads_of new.held ≡ reads_of old.held
+  pub pixel_work : works_of new.held ≡ changed_of h (read_more count) (works_of old.held)
 
 -- HDU h of so many stands at index i, from 0
 pub record IsIndexOf (count h i : ℕ) : Type 0 where

@@ -1,6 +1,10 @@
 ghost use Rattle.std.specs.Prelude.{◌≡◌};
 
+use crate::corner::Corner;
+use crate::pixel_values::PixelValues;
 use fits_card::{Card, Name};
+use fits_hdu::Kind;
+use fits_rules::Axes;
 use fits_value::{Text, Value};
 
 /// A change of a file. HDUs and places count from 1.
@@ -47,6 +51,43 @@ pub enum Edit {
         hdu: usize,
         name: Name,
     },
+    /// Every pixel of a rectangle has this value: a stored number plus the offset of the image's
+    /// kind.
+    Fill {
+        hdu: usize,
+        /// The least place on each axis.
+        lo: Corner,
+        /// The greatest place on each axis, which is in the rectangle too.
+        hi: Corner,
+        value: i128,
+    },
+    /// The pixels of a rectangle have these values, in file order.
+    Write {
+        hdu: usize,
+        /// The least place on each axis.
+        lo: Corner,
+        /// The greatest place on each axis, which is in the rectangle too.
+        hi: Corner,
+        values: PixelValues,
+    },
+    /// A new image extension of this kind and with these axes, whose pixels are zero bytes. It is HDU
+    /// `at` then: those from there on move up.
+    NewImage {
+        /// From 2 to one past the last HDU.
+        at: usize,
+        kind: Kind,
+        /// NAXIS1 first; 999 at most.
+        axes: Axes,
+    },
+    /// The HDU goes, and those after it move down. The primary HDU stays.
+    RemoveHdu {
+        hdu: usize,
+    },
+    /// DATASUM and CHECKSUM are made right (FITS Standard 4.0, section 4.4.2.7): each keeps its
+    /// place, or comes after the last card, and loses its comment.
+    Stamp {
+        hdu: usize,
+    },
 }
 
 impl Edit {
@@ -63,6 +104,11 @@ impl Edit {
             Edit::Move { hdu, .. } => *hdu,
             Edit::Set { hdu, .. } => *hdu,
             Edit::Unset { hdu, .. } => *hdu,
+            Edit::Fill { hdu, .. } => *hdu,
+            Edit::Write { hdu, .. } => *hdu,
+            Edit::NewImage { at, .. } => *at,
+            Edit::RemoveHdu { hdu } => *hdu,
+            Edit::Stamp { hdu } => *hdu,
         }
     }
 }

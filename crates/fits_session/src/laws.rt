@@ -6,28 +6,37 @@ ghost use Rattle.fits_card.specs.declared.change.Change.{Change};
 ghost use Rattle.fits_value.specs.declared.value.Value.{Value};
 ghost use Rattle.fits_hdu.specs.Hdu.{HduParts, hdu_after};
 ghost use Rattle.fits_hdu.specs.Keyword.{keyword_value};
+ghost use Rattle.fits_hdu.specs.declared.kind.Kind.{Kind};
 ghost use Rattle.fits_session.specs.Edit.{file_after, hdu_of, set_of, with_hdu, HasSizes};
-ghost use Rattle.fits_session.specs.File.{FileParts, IsFile, IsFileOf};
+ghost use Rattle.fits_session.specs.File.{FileParts, file_bytes, IsFile, IsFileOf};
+ghost use Rattle.fits_session.specs.Fresh.{Answered, EditsInTurn, file_after_all, fresh, Fresh, ReadsAs};
 ghost use Rattle.fits_session.specs.Opening.{HasOpenFault, IsFileOrNot};
+ghost use Rattle.fits_session.specs.Query.{kind_in, IsKindIn};
 ghost use Rattle.fits_session.specs.Refusal.{refusal_of, size_refusal};
 ghost use Rattle.fits_session.specs.Report.{report_of, IsListedBefore, IsTrailing, IsWrong};
+ghost use Rattle.fits_session.specs.Session.{file_of, SessionState};
 ghost use Rattle.fits_session.specs.declared.edit.Edit.{Edit};
 ghost use Rattle.fits_session.specs.declared.open_fault.OpenFault.{OpenFault};
 ghost use Rattle.fits_session.specs.declared.problem.Problem.{Problem};
 ghost use Rattle.fits_session.specs.declared.refusal.Refusal.TheVariants.{Memory};
+
+use fits_hdu::{
+    filled_hdus_are_hdus, new_images_are_hdus, stamped_hdus_are_hdus, which_kind_an_image_has,
+    written_hdus_are_hdus,
+};
 
 /// Bytes are one file at most.
 pub fn one_file()
     ensures { (bytes : List ℕ) (f g : FileParts) → IsFileOf bytes f → IsFileOf bytes g → f ≡ g }
 {}
 
-/// They have one fault at most.
+/// Bytes have one fault at most.
 pub fn one_open_fault()
     ensures { (bytes : List ℕ) (e f : OpenFault) → HasOpenFault bytes e → HasOpenFault bytes f
         → e ≡ f }
 {}
 
-/// A file has none.
+/// Bytes that are a file have no fault.
 pub fn no_fault_where_open()
     ensures { (bytes : List ℕ) (file : FileParts) (fault : OpenFault) → IsFileOf bytes file
         → HasOpenFault bytes fault → ⊥ }
@@ -42,7 +51,40 @@ pub fn a_file_or_a_fault()
 pub fn an_edited_file_is_a_file()
     ensures { (bytes : List ℕ) (file : FileParts) (edit : Edit) → HasSizes edit
         → IsFileOf bytes file → refusal_of file edit ≡ None → IsFile (file_after file edit) }
-{}
+{
+    filled_hdus_are_hdus();
+    written_hdus_are_hdus();
+    stamped_hdus_are_hdus();
+    new_images_are_hdus();
+}
+
+/// Edits of a session, one after another, with queries and savings anywhere between: its file is the
+/// one before them with those made that were accepted, in their order, and its present bytes, read
+/// afresh, are that file and answer as it does.
+pub fn accepted_edits_in_order()
+    ensures file { (old new : SessionState) (steps : List Answered) → EditsInTurn steps old new
+        → file_of new ≡ file_after_all (file_of old) steps }
+    ensures fresh { (old new : SessionState) (steps : List Answered)
+        → All (λ step. HasSizes step.0) steps → IsFile (file_of old) → EditsInTurn steps old new
+        → ReadsAs (file_bytes (file_of new)) (fresh (file_of new)) }
+{
+    an_edited_file_is_a_file();
+}
+
+/// Bytes read afresh answer in one way.
+pub fn one_fresh_reading()
+    ensures { (bytes : List ℕ) (a b : Fresh) → ReadsAs bytes a → ReadsAs bytes b → a ≡ b }
+{
+    one_file();
+}
+
+/// Which kind an HDU of a file has, in the standard's terms.
+pub fn which_kind_an_hdu_has()
+    ensures { (file : FileParts) (h : ℕ) (kind : Kind) → (kind_in file h ≡ Ok kind)
+        ↔ IsKindIn file h kind }
+{
+    which_kind_an_image_has();
+}
 
 /// A keyword that was set says its value and comment.
 pub fn a_set_keyword_says_its_value()

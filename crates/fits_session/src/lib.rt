@@ -1,33 +1,41 @@
 //! A FITS file under edits: several HDUs and a tail, opened, changed, asked and saved.
 #![tactic(auto)]
 
+mod corner;
 mod edit;
 mod laws;
 mod limits;
+mod name_table;
 mod offsets;
 mod open_fault;
 mod outlines;
+mod pixel_values;
 mod problem;
 mod read_fault;
 mod refusal;
 mod reporting;
 mod save_fault;
 mod session;
+mod summing;
 mod walking;
 
+pub use corner::Corner;
 pub use edit::Edit;
 pub use laws::{
-    a_file_or_a_fault, a_set_keyword_says_its_value, an_edited_file_is_a_file,
-    fewer_cards_pass_no_limit, no_fault_where_open, no_refusal_is_memory, one_file, one_open_fault,
-    the_report_is_all_problems, the_report_is_in_order,
+    a_file_or_a_fault, a_set_keyword_says_its_value, accepted_edits_in_order,
+    an_edited_file_is_a_file, fewer_cards_pass_no_limit, no_fault_where_open, no_refusal_is_memory,
+    one_file, one_fresh_reading, one_open_fault, the_report_is_all_problems,
+    the_report_is_in_order, which_kind_an_hdu_has,
 };
 pub use limits::{FILE_LIMIT, HDU_LIMIT, within};
 pub use offsets::HduOffsets;
 pub use open_fault::OpenFault;
 pub use outlines::read_outlines;
+pub use pixel_values::PixelValues;
 pub use problem::Problem;
 pub use read_fault::ReadFileFault;
 pub use refusal::Refusal;
 pub use reporting::read_report;
 pub use save_fault::SaveFault;
 pub use session::Session;
+pub use summing::read_sums;

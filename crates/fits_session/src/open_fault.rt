@@ -10,7 +10,8 @@ pub enum OpenFault {
     /// The header of this HDU has no END, or its last block isn't whole (4.4.1).
     #[error("O2 NoEnd hdu {hdu}")]
     NoEnd { hdu: usize },
-    /// The card at this place is the first that breaks a rule of shapes (4.4.1.1, 4.4.1.2).
+    /// The card at this place is the first that breaks a rule of shapes, or is missing (4.4.1.1,
+    /// 4.4.1.2).
     #[error("O3 BadShape hdu {hdu} card {card}")]
     BadShape { hdu: usize, card: usize },
     /// Fewer bytes follow the header than it describes, with the fill of the last block (3.1).

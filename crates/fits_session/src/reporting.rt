@@ -1,10 +1,14 @@
 //! The report of a file.
 ghost use Rattle.std.specs.Prelude.{◌≡◌, ◌++◌, ◌+◌, length, map, List, ℕ, IfOk, IfErr, OnOk};
 ghost use Rattle.fits_card.specs.Intake.{Gives};
+ghost use Rattle.fits_header.specs.Findings.{found_at};
+ghost use Rattle.fits_hdu.specs.ExtensionName.{name_codes};
 ghost use Rattle.fits_session.specs.File.{FileParts, IsFileOf, is_followed};
 ghost use Rattle.fits_session.specs.Reading.{is_found, KeepsEach, ReadStops};
-ghost use Rattle.fits_session.specs.Report.{found_from, in_hdu, report_of, IsReportOf};
+ghost use Rattle.fits_session.specs.NameTable.{TellsOf};
+ghost use Rattle.fits_session.specs.Report.{found_from, found_names, in_hdu, report_of, IsReportOf};
 
+use crate::name_table::NameTable;
 use crate::problem::Problem;
 use crate::read_fault::ReadFileFault;
 use crate::walking::read_kept;
@@ -40,7 +44,8 @@ pub(crate) fn report_of(
         → KeepsEach is_found found.now file.hdus → followed ≡ is_followed file.tail
         → IfOk result (λ report. report.items ≡ report_of file) }
 {
-    let mut report = problems(alloc, found)?;
+    let table = NameTable::of(alloc, found)?;
+    let mut report = problems(alloc, found, &table)?;
     if followed {
         report.push(Problem {
             hdu: found.len() + 1,
@@ -51,20 +56,57 @@ pub(crate) fn report_of(
     Ok(report)
 }
 
-// What is found of HDUs, one after another.
-#[tactic(auto, using(crate::proofs::ReportLemmas::found_more))]
-fn problems(alloc: Global, found: &[Findings]) -> Result<Vec<Problem>, AllocError>
-    ensures { IfOk result (λ report. report.items ≡ found_from 1 found.now) }
+// What is found of HDUs, one after another, by a table of all that they are called.
+fn problems(
+    alloc: Global,
+    found: &[Findings],
+    table: &NameTable,
+) -> Result<Vec<Problem>, AllocError>
+    requires { TellsOf (found_names found.now) table.now.several }
+    ensures { IfOk result (λ report. report.items
+        ≡ found_from (found_names found.now) 1 found.now) }
 {
     let mut report = Vec::new(alloc);
     for (i, it) in found.iter().enumerate() {
-        push_problems(&mut report, i + 1, &it.0)?;
+        push_problems(&mut report, i + 1, it, table.is_repeated(&it.name))?;
     }
     Ok(report)
 }
 
-// Lists what is found of HDU h.
-fn push_problems(report: &mut Vec<Problem>, h: usize, found: &[Finding]) -> Result<(), AllocError>
+// Lists what is found of HDU h, whose name is repeated or isn't.
+fn push_problems(
+    report: &mut Vec<Problem>,
+    h: usize,
+    it: &Findings,
+    repeated: bool,
+) -> Result<(), AllocError>
+    ensures { OnOk result (report.new.items ≡ report.old.items ++ map (in_hdu h)
+        (found_at 0 (it.now.whole ++ name_codes repeated) ++ it.now.of_cards.items)) }
+{
+    push_codes(report, h, it.whole.as_slice())?;
+    if repeated {
+        push_codes(report, h, &[Code::DuplicateExtension])?;
+    }
+    push_found(report, h, &it.of_cards)
+}
+
+// Lists codes of HDU h as a whole.
+fn push_codes(report: &mut Vec<Problem>, h: usize, codes: &[Code]) -> Result<(), AllocError>
+    ensures { OnOk result (report.new.items
+        ≡ report.old.items ++ map (in_hdu h) (found_at 0 codes.now)) }
+{
+    for code in codes {
+        report.push(Problem {
+            hdu: h,
+            place: 0,
+            code: *code,
+        })?;
+    }
+    Ok(())
+}
+
+// Lists what is found of the cards of HDU h.
+fn push_found(report: &mut Vec<Problem>, h: usize, found: &[Finding]) -> Result<(), AllocError>
     ensures { OnOk result (report.new.items ≡ report.old.items ++ map (in_hdu h) found.now) }
 {
     for finding in found {

@@ -2,18 +2,22 @@ ghost use Rattle.std.specs.Prelude.{◌≡◌};
 
 mod applying;
 mod changes;
+mod editing;
 mod finding;
+mod hdu_edits;
 pub(crate) mod opening;
+mod pixel_edits;
 mod queries;
 mod reading;
 mod saving;
+mod stamping;
 
 use crate::edit::Edit;
 use crate::limits::FILE_LIMIT;
 use crate::open_fault::OpenFault;
 use crate::read_fault::ReadFileFault;
 use crate::refusal::Refusal;
-use applying::edit_cards;
+use editing::make_edit;
 use fits_card::Source;
 use fits_hdu::Hdu;
 use opening::open_hdus;
@@ -23,8 +27,8 @@ use std::marker::Model;
 
 /// A file under edits: its HDUs, and the bytes after the last.
 ///
-/// HDUs count from 1. Contracts see the HDUs, how many cards of each were read so far, and the
-/// bytes after them.
+/// HDUs count from 1. Contracts see the HDUs, how many cards of each were read and what work was
+/// done on its data unit so far, and the bytes after them.
 #[derive(Drop)]
 pub struct Session {
     hdus: Vec<Hdu>,
@@ -107,12 +111,13 @@ impl Session {
 
     /// Makes an edit, or refuses it by the first test that fails.
     ///
-    /// `Memory` may stand in place of `Shape` and `TooLarge`, whose tests need the cards of the
-    /// change, and of success.
+    /// `Memory` may stand in place of success, but not where pixels are edited or an HDU goes, which
+    /// takes none; for an edit of cards in place of `Shape` and `TooLarge`, whose tests need the
+    /// cards of the change; and for a new image in place of `TooLarge`.
     pub fn edit(&mut self, edit: Edit) -> Result<(), Refusal>
         ensures edits { EditsTo edit self.old self.new result }
     {
-        match edit_cards(self.alloc, &mut self.hdus, self.hdus_len, &self.tail, &edit) {
+        match make_edit(self.alloc, &mut self.hdus, self.hdus_len, &self.tail, &edit) {
             Ok(len) => {
                 self.hdus_len = len;
                 Ok(())

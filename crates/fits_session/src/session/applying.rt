@@ -1,13 +1,17 @@
 //! The one path of edits that change cards: the change with its own tests, the shape, the limits,
 //! the room, and then the change is made.
-ghost use Rattle.std.specs.Prelude.{◌≡◌, ◌≤◌, ◌+◌, ◌-◌, length, All, Ok, IsOk, IfOk, IfErr, OnOk, OnErr, None};
+ghost use Rattle.std.specs.Prelude.{◌≡◌, ◌≤◌, ◌+◌, ◌-◌, true, length, All, Ok, IsOk, IfOk, IfErr, OnOk, OnErr, None};
 ghost use Rattle.fits_card.specs.Card.{IsEnd};
 ghost use Rattle.fits_card.specs.Change.{cards_after, new_cards, IsInRange};
 ghost use Rattle.fits_card.specs.Header.{header_length};
+ghost use Rattle.fits_plane.specs.Layout.{block_count};
 ghost use Rattle.fits_rules.specs.Class.{is_primary};
 ghost use Rattle.fits_rules.specs.Shape.{shape_of};
 ghost use Rattle.fits_hdu.specs.Hdu.{hdu_after, hdu_bytes, IsHdu};
-ghost use Rattle.fits_header.specs.Work.{judge_reads, shape_reads};
+ghost use Rattle.fits_header.specs.Work.{shape_reads};
+ghost use Rattle.fits_hdu.specs.Layout.{layout_of};
+ghost use Rattle.fits_hdu.specs.Work.{apply_reads, FollowsBlank};
+ghost use Rattle.fits_session.specs.Edit.{is_card_edit};
 ghost use Rattle.fits_session.specs.File.{joined_hdus, IsFile};
 ghost use Rattle.fits_session.specs.Limits.{size_within};
 ghost use Rattle.fits_session.specs.declared.limits.TheConstants.{FILE_LIMIT};
@@ -31,6 +35,7 @@ pub(crate) fn edit_cards(
     tail: &[u8],
     edit: &Edit,
 ) -> Result<u64, Refusal>
+    requires cards { is_card_edit edit.now ≡ true }
     requires file { IsFile (file_of (state_of hdus.old.items tail.now)) }
     requires len { hdus_len ≡ length (joined_hdus (hdus_of (held_of hdus.old.items))) }
     ensures edits { EditsTo edit.now (state_of hdus.old.items tail.now)
@@ -69,7 +74,12 @@ fn make_change(hdu: &mut Hdu, change: &Change, len: u64, hdus: u64) -> Result<u6
         ≡ Ok hdu.old.shape }
     ensures least_work { hdu.old.reads ≤ hdu.new.reads }
     ensures most_work { hdu.new.reads
-        ≤ hdu.old.reads + (shape_reads hdu.old.shape + judge_reads) }
+        ≤ hdu.old.reads + (shape_reads hdu.old.shape + apply_reads) }
+    ensures scans { OnOk result (FollowsBlank
+        (layout_of hdu.old.shape hdu.old.hdu.header.cards).blank
+        (layout_of hdu.old.shape (cards_after hdu.old.hdu.header.cards change.now)).blank
+        (block_count hdu.old.hdu.data_unit) hdu.old.pixel_work hdu.new.pixel_work) }
+    ensures unscanned { OnErr result (hdu.new.pixel_work ≡ hdu.old.pixel_work) }
 {
     let cards = hdu.card_count();
     if !hdu.keeps_shape(change) {
@@ -83,10 +93,10 @@ fn make_change(hdu: &mut Hdu, change: &Change, len: u64, hdus: u64) -> Result<u6
     Ok(len)
 }
 
-// How many bytes a file of so many bytes and HDUs has with another number of cards in one of them,
-// if it keeps to the limits.
+/// How many bytes a file of so many bytes and HDUs has with another number of cards in one of them,
+/// if it keeps to the limits.
 #[tactic(auto, using(crate::proofs::MakingLemmas::length_steps))]
-fn len_after(len: u64, before: usize, after: usize, hdus: u64) -> Option<u64>
+pub(crate) fn len_after(len: u64, before: usize, after: usize, hdus: u64) -> Option<u64>
     requires part { header_length before ≤ len }
     requires within { len ≤ FILE_LIMIT }
     ensures { result ≡ size_within (len - header_length before + header_length after) hdus }
@@ -108,6 +118,7 @@ fn make_room(hdu: &mut Hdu, change: &Change) -> Result<(), AllocError>
     ensures hdu { hdu.new.hdu ≡ hdu.old.hdu }
     ensures shape { hdu.new.shape ≡ hdu.old.shape }
     ensures work { hdu.new.reads ≡ hdu.old.reads }
+    ensures pixel_work { hdu.new.pixel_work ≡ hdu.old.pixel_work }
 {
     let added = hdu.count_after(change).saturating_sub(hdu.card_count());
     hdu.reserve(added)

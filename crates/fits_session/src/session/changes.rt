@@ -2,9 +2,10 @@
 ghost use Rattle.std.specs.Prelude.{◌≡◌, ◌+◌, ◌<◌, ◌^◌, length, All, Ok, IfOk, IfErr, OnOk, None, Some, ◌∷◌, []};
 ghost use Rattle.fits_card.specs.Change.{new_cards};
 ghost use Rattle.fits_card.specs.Header.{IsInnerCard};
+ghost use Rattle.fits_hdu.specs.Keyword.{replacing};
 ghost use Rattle.fits_hdu.specs.State.{ReadsUpTo};
 ghost use Rattle.fits_hdu.specs.Work.{keyword_reads};
-ghost use Rattle.fits_session.specs.Edit.{change_of, is_keyword_name, is_splice_within, is_within, own_refusal, replacing, set_of, tested, unset_of};
+ghost use Rattle.fits_session.specs.Edit.{change_of, is_keyword_name, is_splice_within, is_within, own_refusal, set_of, tested, unset_of};
 ghost use Rattle.fits_session.specs.Refusal.{ChangeFails};
 ghost use Rattle.fits_session.specs.Work.{own_reads};
 
@@ -38,6 +39,11 @@ pub(crate) fn change_of(alloc: Global, hdu: &mut Hdu, edit: &Edit) -> Result<Cha
             ..
         } => set_keyword(alloc, hdu, name, value, comment),
         Edit::Unset { name, .. } => unset_keyword(alloc, hdu, name),
+        Edit::Fill { .. } => Err(Refusal::NotImage),
+        Edit::Write { .. } => Err(Refusal::NotImage),
+        Edit::NewImage { .. } => Err(Refusal::NotImage),
+        Edit::RemoveHdu { .. } => Err(Refusal::NotImage),
+        Edit::Stamp { .. } => Err(Refusal::NotImage),
     }
 }
 
@@ -136,13 +142,14 @@ fn move_card(count: usize, from: usize, to: usize) -> Result<Change, Refusal>
     Ok(Change::Move { from, to })
 }
 
-fn is_within(place: usize, count: usize) -> bool
+// Whether a number from 1 is that of one of so many.
+pub(crate) fn is_within(place: usize, count: usize) -> bool
     ensures { result ≡ is_within place count }
 {
     1 <= place && place <= count
 }
 
-// A keyword's value and comment instead of its cards, or behind the last card.
+// A keyword's value and comment instead of its cards, or after the last card.
 #[tactic(auto, using(crate::proofs::KeywordLemmas::set_steps))]
 fn set_keyword(
     alloc: Global,
@@ -167,7 +174,7 @@ fn set_keyword(
     Ok(replacement(hdu.card_count(), old, cards))
 }
 
-// New cards instead of a keyword's; where it has none they go behind the last of so many cards.
+// New cards instead of a keyword's; where it has none they go after the last of so many cards.
 #[tactic(auto, unfolding(fits_card::specs::Change::new_cards))]
 fn replacement(count: usize, old: Option<KeywordCards>, cards: Cards) -> Change
     requires { count < 2 ^ 63 }

@@ -1,9 +1,10 @@
 //! What a session answers. Queries leave the file as it is.
-ghost use Rattle.std.specs.Prelude.{◌≡◌, ◌≤◌, length, IfOk};
+ghost use Rattle.std.specs.Prelude.{◌≡◌, ◌≤◌, ◌<◌, ◌+◌, ℕ, List, length, get_or, IfOk};
+ghost use Rattle.fits_hdu.specs.State.{HduState};
 ghost use Rattle.fits_session.specs.File.{joined_hdus, offsets_from, IsFile};
 ghost use Rattle.fits_session.specs.declared.limits.TheConstants.{FILE_LIMIT};
 ghost use Rattle.fits_session.specs.Reading.{is_found, KeepsEach};
-ghost use Rattle.fits_session.specs.Report.{counts_in, report_of};
+ghost use Rattle.fits_session.specs.Report.{called_count, counts_in, is_repeated, name_in, names_from, report_of};
 ghost use Rattle.fits_session.specs.Session.{file_of, held_of, hdus_of, state_of};
 
 use super::Session;
@@ -14,20 +15,21 @@ use crate::refusal::Refusal;
 use crate::reporting::report_of;
 use fits_card::Name;
 use fits_codes::Code;
-use fits_hdu::{Findings, Hdu, Kind};
+use fits_hdu::{ExtensionName, Findings, Hdu, Kind, Stats, Verdicts};
 use fits_header::Counts;
 use fits_rules::Shape;
 use fits_value::{Text, Value};
 use std::alloc::{AllocError, Global};
 
 impl Session {
-    ghost use Rattle.std.specs.Prelude.{◌≡◌, length, IfOk, IfErr, None, Ok};
+    ghost use Rattle.std.specs.Prelude.{◌≡◌, length, IfOk, IfErr, OnOk, OnErr, None, Ok};
+    ghost use Rattle.fits_plane.specs.Rectangle.{rectangle_size};
     ghost use Rattle.fits_session.specs.Edit.{hdu_of};
     ghost use Rattle.fits_session.specs.File.{offsets_from};
-    ghost use Rattle.fits_session.specs.Query.{card_count_in, names_in, positions_in, value_in, IsKindIn, IsShapeIn, KindFails, QueryFails};
+    ghost use Rattle.fits_session.specs.Query.{card_count_in, datasum_in, kind_in, names_in, positions_in, rect_in, shape_in, stats_in, value_in, verdicts_in, QueryFails};
     ghost use Rattle.fits_session.specs.Report.{counts_in, report_of};
-    ghost use Rattle.fits_session.specs.Session.{file_of, Asks};
-    ghost use Rattle.fits_session.specs.Work.{kind_reads, value_reads};
+    ghost use Rattle.fits_session.specs.Session.{file_of, Asks, AsksPixels};
+    ghost use Rattle.fits_session.specs.Work.{value_reads};
 
     /// How many HDUs there are.
     #[tactic(auto, using(crate::proofs::StateLemmas::count_steps))]
@@ -50,9 +52,8 @@ impl Session {
 
     /// What the mandatory keywords of HDU h say of its data. Refusal 1.
     pub fn shape(&self, h: usize) -> Result<&Shape, Refusal>
-        ensures ok { IfOk result (λ shape. IsShapeIn (file_of self.now) h shape.now) }
-        ensures err { IfErr result (λ why. (why ≡ Refusal.NoHdu) × (hdu_of (file_of self.now) h
-            ≡ None)) }
+        ensures ok { IfOk result (λ shape. shape_in (file_of self.now) h ≡ Ok shape.now) }
+        ensures err { IfErr result (λ why. shape_in (file_of self.now) h ≡ Err why) }
     {
         let Some(i) = index_of(&self.hdus, h) else {
             return Err(Refusal::NoHdu);
@@ -61,20 +62,73 @@ impl Session {
         Ok(hdu.shape())
     }
 
-    /// The type of the pixels of HDU h. Refusals 1 and 9. It takes no memory.
-    pub fn kind(&mut self, h: usize) -> Result<Kind, Refusal>
-        ensures ok { IfOk result (IsKindIn (file_of self.old) h) }
-        ensures err { IfErr result (KindFails (file_of self.old) h) }
-        ensures asks { Asks h kind_reads self.old self.new }
+    /// The type of the pixels of HDU h. Refusals 1 and 9. It takes no memory, and reads nothing.
+    pub fn kind(&self, h: usize) -> Result<Kind, Refusal>
+        ensures { result ≡ kind_in (file_of self.now) h }
+    {
+        let Some(i) = index_of(&self.hdus, h) else {
+            return Err(Refusal::NoHdu);
+        };
+        let hdu = &self.hdus[i];
+        hdu.kind().ok_or(Refusal::NotImage)
+    }
+
+    /// The statistics of the pixels of HDU h. Refusals 1 and 9. It takes no memory, and reads
+    /// nothing.
+    pub fn stats(&self, h: usize) -> Result<Stats, Refusal>
+        ensures { result ≡ stats_in (file_of self.now) h }
+    {
+        let Some(i) = index_of(&self.hdus, h) else {
+            return Err(Refusal::NoHdu);
+        };
+        let hdu = &self.hdus[i];
+        // Its cards describe this shape.
+        let _shape = hdu.shape();
+        hdu.stats().ok_or(Refusal::NotImage)
+    }
+
+    /// The sum of the data unit of HDU h, with its fill (FITS Standard 4.0, Appendix J). Refusal 1.
+    /// It takes no memory, and reads nothing.
+    pub fn datasum(&self, h: usize) -> Result<u32, Refusal>
+        ensures { result ≡ datasum_in (file_of self.now) h }
+    {
+        let Some(i) = index_of(&self.hdus, h) else {
+            return Err(Refusal::NoHdu);
+        };
+        let hdu = &self.hdus[i];
+        Ok(hdu.datasum())
+    }
+
+    /// Whether the sums of HDU h are right (FITS Standard 4.0, section 4.4.2.7). Refusal 1. It takes
+    /// no memory, and reads nothing.
+    pub fn verdicts(&self, h: usize) -> Result<Verdicts, Refusal>
+        ensures { result ≡ verdicts_in (file_of self.now) h }
+    {
+        let Some(i) = index_of(&self.hdus, h) else {
+            return Err(Refusal::NoHdu);
+        };
+        let hdu = &self.hdus[i];
+        Ok(hdu.verdicts())
+    }
+
+    /// The values of a rectangle of HDU h, in file order. The corners count from 1. Refusals 1, 9,
+    /// 10 and 15. Each of its pixels is read once.
+    pub fn rect(&mut self, h: usize, lo: &[u64], hi: &[u64]) -> Result<Vec<i128>, Refusal>
+        ensures ok { IfOk result (λ values. rect_in (file_of self.old) h lo.now hi.now
+            ≡ Ok values.items) }
+        ensures err { IfErr result (QueryFails (rect_in (file_of self.old) h lo.now hi.now)) }
+        ensures asks { OnOk result (AsksPixels h (rectangle_size lo.now hi.now)
+            self.old self.new) }
+        ensures same { OnErr result (self.new ≡ self.old) }
     {
         let Some(i) = index_of(&self.hdus, h) else {
             return Err(Refusal::NoHdu);
         };
         let hdu = &mut self.hdus[i];
-        match hdu.kind() {
-            Some(kind) => Ok(kind),
-            None => Err(Refusal::NotImage),
-        }
+        // Its cards describe this shape.
+        let _shape = hdu.shape();
+        let values = hdu.rect(self.alloc, lo, hi)?;
+        Ok(values)
     }
 
     /// The value of a keyword in HDU h, with the cards that continue it, and its comment. Refusals
@@ -148,6 +202,7 @@ impl Session {
 
 // What is found of HDUs, one after another.
 fn findings_of(alloc: Global, hdus: &mut Vec<Hdu>) -> Result<Vec<Findings>, AllocError>
+    requires { length (joined_hdus (hdus_of (held_of hdus.old.items))) ≤ FILE_LIMIT }
     ensures found { IfOk result (λ found. KeepsEach is_found found.items
         (hdus_of (held_of hdus.old.items))) }
     ensures same { hdus.new.items ≡ hdus.old.items }
@@ -156,7 +211,7 @@ fn findings_of(alloc: Global, hdus: &mut Vec<Hdu>) -> Result<Vec<Findings>, Allo
     for i in 0..hdus.len() {
         let hdu = &mut hdus[i];
         let here = hdu.findings(alloc)?;
-        found.push(Findings(here))?;
+        found.push(here)?;
     }
     Ok(found)
 }
@@ -169,14 +224,44 @@ fn counts_of(hdus: &mut Vec<Hdu>, tail: &[u8]) -> Counts
 {
     let mut counts = Counts::of(&[]);
     for i in 0..hdus.len() {
+        let repeated = is_repeated(hdus, i);
         let hdu = &mut hdus[i];
-        let here = hdu.counts();
+        let here = hdu.counts(repeated);
         counts = counts.plus(here);
     }
     if tail.is_empty() {
         return counts;
     }
     counts.plus(Counts::of(&[Code::TrailingBytes]))
+}
+
+// Whether the HDU at an index is called as another is.
+fn is_repeated(hdus: &[Hdu], i: usize) -> bool
+    requires within { i < length hdus.now }
+    ensures { (tail : List ℕ) (hdu : HduState) → IsFile (file_of (state_of hdus.now tail))
+        → hdu ≡ get_or hdus.now i hdu
+        → result ≡ is_repeated (names_from 1 (hdus_of (held_of hdus.now))) (name_in (i + 1) hdu.hdu) }
+{
+    match hdus[i].extension_name() {
+        Some(name) => called_count(hdus, &name) >= 2,
+        None => false,
+    }
+}
+
+// How many HDUs are called so.
+fn called_count(hdus: &[Hdu], name: &ExtensionName) -> usize
+    ensures { (tail : List ℕ) → IsFile (file_of (state_of hdus.now tail))
+        → result ≡ called_count name.now (names_from 1 (hdus_of (held_of hdus.now))) }
+{
+    let mut count = 0;
+    for hdu in hdus {
+        if let Some(other) = hdu.extension_name() {
+            if name.is_same(&other) {
+                count += 1;
+            }
+        }
+    }
+    count
 }
 
 // Where HDUs stand, of which the first begins at 0.

@@ -1,5 +1,5 @@
 use Rattle.std.proofs.Common.{◌≤◌, ◌<◌, length, not, ap, sym, ◌∙◌, arith}
-use Rattle.fits_session.proofs.CountLemmas.{counts_alone, counts_followed, counts_more, counts_small, header_small, within_more}
+use Rattle.fits_session.proofs.CountLemmas.{counts_alone, counts_followed, counts_more, counts_small, hdu_small, within_more}
 use Rattle.fits_session.proofs.ReportLemmas.{hdus_stay}
 use Rattle.fits_session.proofs.WalkLemmas.{followed_seen}
 use Rattle.fits_session.proofs.session.queries.counts_of.Goals as goal
@@ -7,7 +7,7 @@ use Rattle.fits_session.proofs.session.queries.counts_of.Goals as goal
 pub counts-here-requires : goal.counts-here-requires
 counts-here-requires c =
     let l : c.loop-i.i < length c.loop-i.hdus.items = omega (arith, ap length c.loop-i.invariant.same) in
-    header_small c.loop-i.hdus.items _ c.args.tail.now c.loop-i.i c.index_mut-hdu.result.now c.loop-i.invariant.same c.requires l c.index_mut-hdu.ensures.value
+    hdu_small c.loop-i.hdus.items _ c.args.tail.now c.loop-i.i c.index_mut-hdu.result.now c.loop-i.invariant.same c.requires l c.index_mut-hdu.ensures.value
 
 pub plus-counts-requires-clause-errors : goal.plus-counts-requires-clause-errors
 plus-counts-requires-clause-errors c =
@@ -23,7 +23,7 @@ pub loop-i-preserved : goal.loop-i-preserved
 loop-i-preserved c =
     let l : c.loop-i.i < length c.loop-i.hdus.items = omega (arith, ap length c.loop-i.invariant.same) in
     record {
-      counts = counts_more c.loop-i.hdus.items _ c.args.tail.now c.loop-i.i c.index_mut-hdu.result.now c.loop-i.counts c.counts-here.result c.plus-counts.result c.loop-i.invariant.same c.requires l c.index_mut-hdu.ensures.value c.counts-here.ensures.described c.loop-i.invariant.counts c.counts-here.ensures.value c.plus-counts.ensures;
+      counts = counts_more c.loop-i.hdus.items _ c.deref.result.now c.args.tail.now c.loop-i.i c.index_mut-hdu.result.now c.is_repeated-repeated.result c.loop-i.counts c.counts-here.result c.plus-counts.result c.loop-i.invariant.same c.requires l c.index_mut-hdu.ensures.value c.counts-here.ensures.described c.deref.ensures.value (c.is_repeated-repeated.ensures c.args.tail.now c.index_mut-hdu.result.now) c.loop-i.invariant.counts c.counts-here.ensures.value c.plus-counts.ensures;
       within = within_more c.loop-i.hdus.items _ c.loop-i.i c.index_mut-hdu.result.now c.loop-i.counts c.counts-here.result c.plus-counts.result c.loop-i.invariant.same l c.index_mut-hdu.ensures.value c.loop-i.invariant.within c.counts-here.ensures.within c.plus-counts.ensures;
       same = hdus_stay c.loop-i.hdus.items _ c.loop-i.i c.index_mut-hdu.result.now _ c.loop-i.invariant.same l c.index_mut-hdu.ensures.value c.counts-here.ensures.same;
     }

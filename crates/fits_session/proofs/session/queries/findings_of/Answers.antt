@@ -1,4 +1,5 @@
 use Rattle.std.proofs.Common.{◌<◌, length, ap, arith}
+use Rattle.fits_session.proofs.CountLemmas.{hdu_within}
 use Rattle.fits_session.proofs.ReportLemmas.{each_found, hdus_stay}
 use Rattle.fits_session.proofs.session.queries.findings_of.Goals as goal
 
@@ -9,3 +10,8 @@ loop-i-preserved c =
       found = each_found c.loop-i.hdus.items _ c.loop-i.i c.index_mut-hdu.result.now c.loop-i.found.items _ _ c.loop-i.invariant.same l c.index_mut-hdu.ensures.value c.loop-i.invariant.found c.in_ok-here.ensures.found c.in_ok-push.ensures.items;
       same = hdus_stay c.loop-i.hdus.items _ c.loop-i.i c.index_mut-hdu.result.now _ c.loop-i.invariant.same l c.index_mut-hdu.ensures.value c.findings.ensures.same;
     }
+
+pub findings-requires : goal.findings-requires
+findings-requires c =
+    let l : c.loop-i.i < length c.loop-i.hdus.items = omega (arith, ap length c.loop-i.invariant.same) in
+    hdu_within c.loop-i.hdus.items _ c.loop-i.i c.index_mut-hdu.result.now c.loop-i.invariant.same c.requires l c.index_mut-hdu.ensures.value

@@ -11,7 +11,7 @@ loop-i-preserved g c =
       quiet = c.in_ok-emit.ensures.quiet ∙ c.loop-i.invariant.quiet;
       same = hdus_kept c.loop-i.hdus.items _ c.loop-i.i c.index_mut-hdu.result.now _ c.loop-i.invariant.same l c.index_mut-hdu.ensures.value c.emit.ensures.work.hdu;
       count = grind (arith, common_steps);
-      work = first_read_more _ c.loop-i.hdus.items c.loop-i.i c.index_mut-hdu.result.now _ c.loop-i.invariant.work l c.index_mut-hdu.ensures.value c.emit.ensures.work.hdu c.in_ok-emit.ensures.all_read;
+      work = first_read_more _ c.loop-i.hdus.items c.loop-i.i c.index_mut-hdu.result.now _ c.loop-i.invariant.work l c.index_mut-hdu.ensures.value c.emit.ensures.work.hdu c.emit.ensures.work.pixel_work c.in_ok-emit.ensures.all_read;
     }
 
 pub returns-in_err-emit-clause-work : goal.returns-in_err-emit-clause-work

@@ -1,0 +1,8 @@
+use Rattle.fits_session.proofs.FreshLemmas.{after_all, reads_last}
+use Rattle.fits_session.proofs.laws.accepted_edits_in_order.Goals as goal
+
+pub returns-clause-file : goal.returns-clause-file
+returns-clause-file c = after_all
+
+pub returns-clause-fresh : goal.returns-clause-fresh
+returns-clause-fresh c = reads_last c.an_edited_file_is_a_file.ensures

@@ -1,0 +1,25 @@
+//! The sums of the HDUs of a source, whose data pass by.
+ghost use Rattle.std.specs.Prelude.{◌≡◌, IfOk, IfErr, OnOk};
+ghost use Rattle.fits_card.specs.Intake.{Gives};
+ghost use Rattle.fits_session.specs.Reading.{AreSumsOfFile, ReadStops};
+
+use crate::read_fault::ReadFileFault;
+use crate::walking::read_kept;
+use fits_card::Source;
+use fits_hdu::HduSums;
+use std::alloc::Global;
+
+/// The sums of the HDUs of the file that a source has, which is read as `Session::read` reads it.
+///
+/// No data unit and no tail is kept.
+#[tactic(auto, using(crate::proofs::WalkLemmas::outline_steps))]
+pub fn read_sums<R: Source>(alloc: Global, source: &mut R) -> Result<Vec<HduSums>, ReadFileFault>
+    ensures ok { IfOk result (λ sums. Gives (R.remaining source.old)
+        (AreSumsOfFile sums.items)) }
+    ensures quiet { OnOk result (R.failures source.new ≡ R.failures source.old) }
+    ensures err { IfErr result (ReadStops (R.remaining source.old)
+        (R.failures source.old) (R.failures source.new)) }
+{
+    let (sums, _) = read_kept(alloc, source)?;
+    Ok(sums)
+}
