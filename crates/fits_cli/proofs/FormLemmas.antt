@@ -1,9 +1,8 @@
 -- A line's words, put together and taken apart.
-use Rattle.std.proofs.Common.{◌≡◌, ℕ, ◌≤◌, List, [], ◌∷◌, ◌++◌, length, refl, ap, sym, ◌∙◌, inl, inr, arith, rules, true, false, Bool, Option, None, Some}
-use Rattle.std.specs.Prelude.{◌==◌, ◌&&◌, nat_le, not, codes, unwrap_or, if◌then◌else◌}
+use Rattle.std.proofs.Common.{◌≡◌, ℕ, ◌≤◌, List, [], ◌∷◌, ◌++◌, length, refl, ap, sym, ◌∙◌, inl, inr, rules, true, false, Bool, Option, None, Some}
+use Rattle.std.specs.Prelude.{◌==◌, ◌&&◌, nat_le, unwrap_or, if◌then◌else◌}
 use Rattle.std.specs.List.{list_all, list_any}
-use Rattle.std.specs.Str.{bytes_eq}
-use Rattle.std.proofs.lemmas.Bool.{and_parts, and_from, cases_Bool, leb-true, or_from}
+use Rattle.std.proofs.lemmas.Bool.{and_parts, cases_Bool, leb-true, or_from}
 use Rattle.std.proofs.lemmas.List.{append-nil}
 use Rattle.std.proofs.lemmas.Option.{option_and_then_some}
 use Rattle.fits_card.specs.Card.{card_of_text}
@@ -69,7 +68,7 @@ number_of_word-is word number is =
     rw (digits, some, few) (ap Some (sym is.is))
 
 -- three tests
-three_parts : (a b c : Bool) → (a && b && c) ≡ true → (a ≡ true) × (b ≡ true) × (c ≡ true)
+pub three_parts : (a b c : Bool) → (a && b && c) ≡ true → (a ≡ true) × (b ≡ true) × (c ≡ true)
 three_parts true true true e = (refl, refl, refl)
 three_parts true true false e = absurd (let z : false ≡ true = e in cc)
 three_parts true false true e = absurd (let z : false ≡ true = e in cc)
@@ -77,7 +76,7 @@ three_parts true false false e = absurd (let z : false ≡ true = e in cc)
 three_parts false b c e = absurd (let z : false ≡ true = e in cc)
 
 -- what passes a test is there, and what is there passed it
-tested_some : {X P : Type 0} (test : Bool) (x y : X) → (if test then Some x else None) ≡ Some y → (test ≡ true → x ≡ y → P) → P
+pub tested_some : {X P : Type 0} (test : Bool) (x y : X) → (if test then Some x else None) ≡ Some y → (test ≡ true → x ≡ y → P) → P
 tested_some {X = X} true x y e give = give refl (let z : ◌≡◌ {A = Option X} (Some x) (Some y) = e in cc)
 tested_some {X = X} false x y e give = absurd (let z : ◌≡◌ {A = Option X} None (Some y) = e in cc)
 

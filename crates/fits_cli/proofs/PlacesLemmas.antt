@@ -1,5 +1,5 @@
 -- Places, put together in a line, and what asking for them comes to.
-use Rattle.std.proofs.Common.{◌≡◌, ℕ, ◌+◌, ◌<◌, ◌≤◌, List, [], ◌∷◌, ◌++◌, length, take, get_or, refl, ap, sym, ◌∙◌, append_assoc, arith, Result, Ok, Err}
+use Rattle.std.proofs.Common.{◌≡◌, ℕ, ◌+◌, ◌<◌, ◌≤◌, List, [], ◌∷◌, ◌++◌, length, take, get_or, refl, ap, sym, ◌∙◌, append_assoc, arith, Ok, Err}
 use Rattle.std.specs.Prelude.{codes}
 use Rattle.std.specs.Fmt.{decimal}
 use Rattle.std.proofs.lemmas.List.{append-nil, take_all, take_more}
@@ -7,7 +7,7 @@ use Rattle.std.proofs.lemmas.List.Concat.{flat_map-append}
 use Rattle.fits_session.specs.File.{FileParts}
 use Rattle.fits_session.specs.Query.{positions_in, QueryFails}
 use Rattle.fits_session.specs.declared.refusal.Refusal.{Refusal}
-use Rattle.fits_session.specs.declared.refusal.Refusal.TheVariants.{NoHdu, NoCard, NoKey, BadText, EndCard, Shape, BadName, BadValue, NotImage, TooLarge, Memory}
+use Rattle.fits_session.specs.declared.refusal.Refusal.TheVariants.{NoHdu, NoCard, NoKey, BadText, EndCard, Shape, BadName, BadValue, NotImage, BadRect, WrongCount, Range, PrimaryStays, TooLarge, Memory}
 use Rattle.fits_cli.specs.Answer.{places_line, spaced, outcome_of, OutcomeNeedsMemory, CommandFails}
 use Rattle.fits_cli.specs.declared.command.Command.TheVariants.{Positions}
 
@@ -62,4 +62,8 @@ CommandFails-positions file h name Shape e = no_answer file h name Shape e
 CommandFails-positions file h name BadName e = no_answer file h name BadName e
 CommandFails-positions file h name BadValue e = no_answer file h name BadValue e
 CommandFails-positions file h name NotImage e = no_answer file h name NotImage e
+CommandFails-positions file h name BadRect e = no_answer file h name BadRect e
+CommandFails-positions file h name WrongCount e = no_answer file h name WrongCount e
+CommandFails-positions file h name Range e = no_answer file h name Range e
+CommandFails-positions file h name PrimaryStays e = no_answer file h name PrimaryStays e
 CommandFails-positions file h name TooLarge e = no_answer file h name TooLarge e

@@ -1,10 +1,10 @@
 -- An edit's refusal as its command's.
 use Rattle.std.proofs.Common.{◌≡◌, inl, inr, refl, Err, Some}
 use Rattle.fits_session.specs.File.{FileParts}
-use Rattle.fits_session.specs.Refusal.{refusal_of, EditFails}
+use Rattle.fits_session.specs.Refusal.{refusal_of, EditRefused}
 use Rattle.fits_session.specs.declared.edit.Edit.{Edit}
 use Rattle.fits_session.specs.declared.refusal.Refusal.{Refusal}
-use Rattle.fits_session.specs.declared.refusal.Refusal.TheVariants.{NoHdu, NoCard, NoKey, BadText, EndCard, Shape, BadName, BadValue, NotImage, TooLarge, Memory}
+use Rattle.fits_session.specs.declared.refusal.Refusal.TheVariants.{NoHdu, NoCard, NoKey, BadText, EndCard, Shape, BadName, BadValue, NotImage, BadRect, WrongCount, Range, PrimaryStays, TooLarge, Memory}
 use Rattle.fits_session.proofs.RefusalLemmas.{never_memory}
 use Rattle.fits_cli.specs.Answer.{outcome_of, OutcomeNeedsMemory, CommandFails}
 use Rattle.fits_cli.specs.declared.command.Command.TheVariants as command
@@ -15,7 +15,7 @@ unfolding outcome_of
 refused_edit file edit why e = rw e refl
 
 -- an edit that fails is a command that fails
-pub CommandFails-edit : (file : FileParts) (edit : Edit) (why : Refusal) → EditFails (refusal_of file edit) why → CommandFails file (command.Edit edit) why
+pub CommandFails-edit : (file : FileParts) (edit : Edit) (why : Refusal) → EditRefused edit (refusal_of file edit) why → CommandFails file (command.Edit edit) why
 unfolding OutcomeNeedsMemory
 CommandFails-edit file edit Memory (inl e) = absurd (never_memory file edit e)
 CommandFails-edit file edit Memory (inr p) = p.1
@@ -37,5 +37,13 @@ CommandFails-edit file edit BadValue (inl e) = refused_edit file edit BadValue e
 CommandFails-edit file edit BadValue (inr p) = absurd (let e = p.0 in cc)
 CommandFails-edit file edit NotImage (inl e) = refused_edit file edit NotImage e
 CommandFails-edit file edit NotImage (inr p) = absurd (let e = p.0 in cc)
+CommandFails-edit file edit BadRect (inl e) = refused_edit file edit BadRect e
+CommandFails-edit file edit BadRect (inr p) = absurd (let e = p.0 in cc)
+CommandFails-edit file edit WrongCount (inl e) = refused_edit file edit WrongCount e
+CommandFails-edit file edit WrongCount (inr p) = absurd (let e = p.0 in cc)
+CommandFails-edit file edit Range (inl e) = refused_edit file edit Range e
+CommandFails-edit file edit Range (inr p) = absurd (let e = p.0 in cc)
+CommandFails-edit file edit PrimaryStays (inl e) = refused_edit file edit PrimaryStays e
+CommandFails-edit file edit PrimaryStays (inr p) = absurd (let e = p.0 in cc)
 CommandFails-edit file edit TooLarge (inl e) = refused_edit file edit TooLarge e
 CommandFails-edit file edit TooLarge (inr p) = absurd (let e = p.0 in cc)

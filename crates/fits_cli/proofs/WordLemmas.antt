@@ -58,4 +58,16 @@ room_for_digit number digit i small few d =
     let more : 10 ^ suc i ≤ 10 ^ 18 = pow-le-pow_right {n = 10} (omega arith) {i = suc i} {j = 18} (omega arith) in
     omega (arith, more, pow-suc 10 i)
 
+-- and of 30 digits
+pub room_for_digit_30 : (number digit i : ℕ) → number < 10 ^ i → i < 30 → digit < 10 → number * 10 + digit < 10 ^ 30
+room_for_digit_30 number digit i small few d =
+    let more : 10 ^ suc i ≤ 10 ^ 30 = pow-le-pow_right {n = 10} (omega arith) {i = suc i} {j = 30} (omega arith) in
+    omega (arith, more, pow-suc 10 i)
+
+-- a number of at most 30 digits
+pub below_30_digits : (number i : ℕ) → number < 10 ^ i → i ≤ 30 → number < 10 ^ 30
+below_30_digits number i small few =
+    let more : 10 ^ i ≤ 10 ^ 30 = pow-le-pow_right {n = 10} (omega arith) {i = i} {j = 30} few in
+    omega (arith, more)
+
 pub ruleset digits_steps = (room_for_digit)

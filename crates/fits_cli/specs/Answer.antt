@@ -3,20 +3,22 @@ use Rattle.std.specs.Prelude.{◌≡◌, ◌⊎◌, ℕ, ◌+◌, Bool, false, t
 use Rattle.std.specs.Fmt.{decimal}
 use Rattle.std.specs.List.{flat_map}
 use Rattle.fits_session.specs.Edit.{file_after}
+use Rattle.fits_hdu.specs.declared.verdicts.Verdicts.{Verdicts}
 use Rattle.fits_session.specs.File.{FileParts, offsets_from}
-use Rattle.fits_session.specs.Query.{positions_in, value_in}
+use Rattle.fits_session.specs.Query.{datasum_in, positions_in, rect_in, stats_in, value_in, verdicts_in}
 use Rattle.fits_session.specs.Report.{report_of}
-use Rattle.fits_session.specs.Refusal.{refusal_of, NeedsMemory}
+use Rattle.fits_session.specs.Refusal.{refusal_of, EditNeedsMemory}
 use Rattle.fits_session.specs.declared.offsets.HduOffsets.{HduOffsets}
 use Rattle.fits_session.specs.declared.refusal.Refusal.{Refusal}
-use Rattle.fits_session.specs.declared.refusal.Refusal.TheVariants.{NoHdu, NoCard, NoKey, BadText, EndCard, Shape, BadName, BadValue, NotImage, TooLarge, Memory}
+use Rattle.fits_session.specs.declared.refusal.Refusal.TheVariants.{NoHdu, NoCard, NoKey, BadText, EndCard, Shape, BadName, BadValue, NotImage, BadRect, WrongCount, Range, PrimaryStays, TooLarge, Memory}
 use Rattle.fits_cli.specs.Line.{ReadingNeedsMemory}
+use Rattle.fits_cli.specs.PixelLines.{statistics_line, sums_line, values_line}
 use Rattle.fits_cli.specs.Report.{report_text}
 use Rattle.fits_cli.specs.ValueLine.{value_line}
 use Rattle.fits_cli.specs.declared.line_reading.LineReading.{LineReading}
 use Rattle.fits_cli.specs.declared.line_reading.LineReading.TheVariants.{TooLong, NoCommand, Said}
 use Rattle.fits_cli.specs.declared.command.Command.{Command}
-use Rattle.fits_cli.specs.declared.command.Command.TheVariants.{Nothing, Edit, Offsets, Get, Positions, Report}
+use Rattle.fits_cli.specs.declared.command.Command.TheVariants.{Nothing, Edit, Offsets, Get, Positions, Report, Statistics, Rectangle, Sums}
 use Rattle.fits_cli.specs.declared.level.Level.TheVariants.{All}
 
 -- the offsets of an HDU: where its header begins, its data begin and it ends
@@ -62,6 +64,11 @@ abbrev pub asked : {X : Type 0} → FileParts → (X → List ℕ) → Result X 
 asked file text (Ok answer) = Ok (record { text = text answer; file = file })
 asked file text (Err why) = Err why
 
+-- the sum of a data unit and the verdicts, as they are printed, or the first refusal of the two
+abbrev pub sums_asked : FileParts → Result ℕ Refusal → Result Verdicts Refusal → Result Done Refusal
+sums_asked file (Err why) verdicts = Err why
+sums_asked file (Ok sum) verdicts = asked file (sums_line sum) verdicts
+
 -- what a command comes to: what it prints and the file that it leaves, or its refusal
 unfoldable pub outcome_of : FileParts → Command → Result Done Refusal
 outcome_of file Nothing = Ok (record { text = []; file = file })
@@ -70,15 +77,21 @@ outcome_of file Offsets = Ok (record { text = offset_lines 1 (offsets_from 0 fil
 outcome_of file (Get hdu name) = asked file (λ said. value_line said.0 said.1) (value_in file hdu name)
 outcome_of file (Positions hdu name) = asked file places_line (some_places (positions_in file hdu name))
 outcome_of file Report = Ok (record { text = report_text All (report_of file); file = file })
+outcome_of file (Statistics hdu) = asked file statistics_line (stats_in file hdu)
+outcome_of file (Rectangle hdu lo hi) = asked file values_line (rect_in file hdu lo hi)
+outcome_of file (Sums hdu) = sums_asked file (datasum_in file hdu) (verdicts_in file hdu)
 
 -- memory may run out on the way to this outcome
 unfoldable pub OutcomeNeedsMemory : FileParts → Command → Type 0
 OutcomeNeedsMemory file Nothing = ⊥
-OutcomeNeedsMemory file (Edit edit) = NeedsMemory (refusal_of file edit)
+OutcomeNeedsMemory file (Edit edit) = EditNeedsMemory edit (refusal_of file edit)
 OutcomeNeedsMemory file Offsets = Unit {0}
 OutcomeNeedsMemory file (Get hdu name) = IsOk (value_in file hdu name)
 OutcomeNeedsMemory file (Positions hdu name) = IsOk (positions_in file hdu name)
 OutcomeNeedsMemory file Report = Unit {0}
+OutcomeNeedsMemory file (Statistics hdu) = IsOk (stats_in file hdu)
+OutcomeNeedsMemory file (Rectangle hdu lo hi) = IsOk (rect_in file hdu lo hi)
+OutcomeNeedsMemory file (Sums hdu) = IsOk (datasum_in file hdu)
 
 -- a command may end so: by its refusal, or by memory refused on the way to its outcome
 abbrev pub CommandFails : FileParts → Command → Refusal → Type 0
@@ -96,6 +109,10 @@ refusal_text Shape = codes "refused 6 Shape"
 refusal_text BadName = codes "refused 7 BadName"
 refusal_text BadValue = codes "refused 8 BadValue"
 refusal_text NotImage = codes "refused 9 NotImage"
+refusal_text BadRect = codes "refused 10 BadRect"
+refusal_text WrongCount = codes "refused 11 WrongCount"
+refusal_text Range = codes "refused 12 Range"
+refusal_text PrimaryStays = codes "refused 13 PrimaryStays"
 refusal_text TooLarge = codes "refused 14 TooLarge"
 refusal_text Memory = codes "refused 15 Memory"
 

@@ -6,10 +6,12 @@ pub mod Forms
 pub mod Line
 pub mod Listing
 pub mod Output
+pub mod PixelLines
 pub mod Reply
 pub mod Report
 pub mod Running
 pub mod Script
 pub mod Streams
+pub mod Summing
 pub mod Telling
 pub mod ValueLine

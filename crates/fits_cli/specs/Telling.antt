@@ -1,4 +1,4 @@
--- How a run ends that prints a text of a file, as `list` and `verify` do (own).
+-- How a run ends that prints a text of a file, as `list`, `sum` and `verify` do (own).
 use Rattle.std.specs.Prelude.{◌≡◌, ◌⊎◌, ℕ, ◌+◌, List, Option, Some, None}
 use Rattle.fits_card.specs.Intake.{Tells}
 use Rattle.fits_card.specs.Stream.{AppendsFront}
@@ -11,6 +11,7 @@ use Rattle.fits_cli.specs.Faults.{status_of_fault}
 use Rattle.fits_cli.specs.Listing.{listing}
 use Rattle.fits_cli.specs.Report.{report_text, status_of_report}
 use Rattle.fits_cli.specs.Streams.{SourceState, SinkState, Prints, PrintsFront}
+use Rattle.fits_cli.specs.Summing.{summing}
 use Rattle.fits_cli.specs.declared.fault.Fault.{Fault}
 use Rattle.fits_cli.specs.declared.fault.Fault.TheVariants.{Refused, ScriptTooLong, Memory, ReadFailed, WriteFailed}
 use Rattle.fits_cli.specs.declared.telling.Telling.{Telling}
@@ -19,11 +20,13 @@ use Rattle.fits_cli.specs.declared.telling.Telling.TheVariants as telling
 -- the text of a file
 abbrev pub text_of : Telling → FileParts → List ℕ
 text_of telling.List file = listing file
+text_of telling.Sums file = summing file
 text_of (telling.Report level) file = report_text level (report_of file)
 
 -- the status of a run that has printed it
 abbrev pub status_of_text : Telling → FileParts → ℕ
 status_of_text telling.List file = 0
+status_of_text telling.Sums file = 0
 status_of_text (telling.Report level) file = status_of_report (report_of file)
 
 -- the text is printed and flushed

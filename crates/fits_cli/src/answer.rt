@@ -5,6 +5,7 @@ ghost use Rattle.fits_cli.specs.Answer.{offset_line, offset_lines, offsets_text}
 ghost use Rattle.fits_cli.specs.Answer.{outcome_of, CommandFails};
 
 use crate::command::Command;
+use crate::pixel_answers::{rectangle, statistics, sums};
 use crate::places_line::places_line;
 use crate::report_text::report_text;
 use crate::value_line::value_line;
@@ -48,6 +49,9 @@ pub(crate) fn answer(
             let report = session.report()?;
             Ok(report_text(alloc, &report)?)
         }
+        Command::Statistics { hdu } => statistics(alloc, session, hdu),
+        Command::Rectangle { hdu, lo, hi } => rectangle(alloc, session, hdu, lo, hi),
+        Command::Sums { hdu } => sums(alloc, session, hdu),
     }
 }
 

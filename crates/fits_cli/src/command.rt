@@ -1,12 +1,13 @@
 use fits_card::Name;
-use fits_session::Edit;
+use fits_session::{Corner, Edit};
 
 /// What a line of a script asks for. HDUs and places count from 1.
 #[derive(Debug, Drop)]
 pub enum Command {
     /// An empty line, or a comment.
     Nothing,
-    /// `ins`, `put`, `del`, `mov`, `set` or `unset`: the file changes.
+    /// `ins`, `put`, `del`, `mov`, `set`, `unset`, `fill`, `write`, `new`, `rm` or `stamp`: the file
+    /// changes.
     Edit(Edit),
     /// `off`: where each HDU and its data begin, and where it ends.
     Offsets,
@@ -16,4 +17,10 @@ pub enum Command {
     Positions { hdu: usize, name: Name },
     /// `rep`: what is wrong with the file.
     Report,
+    /// `stat H`: how many pixels are defined, and their least, greatest and sum.
+    Statistics { hdu: usize },
+    /// `rect H RECT`: the values of a rectangle.
+    Rectangle { hdu: usize, lo: Corner, hi: Corner },
+    /// `sum H`: the sum of the data unit, and whether DATASUM and CHECKSUM are right.
+    Sums { hdu: usize },
 }

@@ -16,8 +16,7 @@ use std::alloc::Global;
 /// Reads a file and opens it, answers a script, and saves what the script made of the file.
 ///
 /// The file is read to its end before the script. The answers go to `out`, and are flushed before
-/// the first byte is saved. The file is saved also after refused lines; not where a fault came
-/// before.
+/// the first byte is saved. Refused lines don't keep the file from being saved; a fault before does.
 pub fn run_edit<F: Source, S: Source, P: Sink, O: Sink>(
     alloc: Global,
     file: &mut F,

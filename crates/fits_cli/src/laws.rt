@@ -24,7 +24,7 @@ pub fn one_cut()
         → IsCutInLines text ls x → IsCutInLines text ms y → (ls ≡ ms) × (x ≡ y) }
 {}
 
-/// And it can be cut.
+/// Every script can be cut into lines.
 pub fn a_cut()
     ensures { (text : List ℕ)
         → (lines : List (List ℕ)) × (last : List ℕ) × IsCutInLines text lines last }
@@ -36,7 +36,7 @@ pub fn one_output()
         → IsOutputOf file script o → IsOutputOf file script p → o ≡ p }
 {}
 
-/// And it has one, whatever file and script are.
+/// Every file and script have an output.
 pub fn an_output()
     ensures { (file script : List ℕ) → (output : Output) × IsOutputOf file script output }
 {}

@@ -4,13 +4,19 @@ ghost use Rattle.std.specs.Option.{option_copied};
 ghost use Rattle.fits_cli.specs.Line.{alone, command_of, reading_of, said_by, said_or_none};
 ghost use Rattle.fits_cli.specs.Line.{delete_said, get_said, insert_said, move_said, put_said};
 ghost use Rattle.fits_cli.specs.Line.{positions_said, set_said, unset_said, ReadingNeedsMemory};
+ghost use Rattle.fits_cli.specs.Line.{fill_said, rectangle_said, stamp_said, statistics_said};
+ghost use Rattle.fits_cli.specs.Line.{new_said, remove_said, sums_said, write_said};
 ghost use Rattle.fits_cli.specs.declared.command.Command.{Command};
 
 use crate::command::Command;
+use crate::image_words::new_words;
 use crate::limits::LINE_LIMIT;
 use crate::line_fault::LineFault;
 use crate::line_reading::LineReading;
-use crate::words::{card_words, cut_word, field_words, move_words, name_words, place_words};
+use crate::words::{
+    card_words, cut_word, field_words, fill_words, hdu_word, move_words, name_words, place_words,
+    rectangle_words, write_words,
+};
 use fits_session::Edit;
 use std::alloc::{AllocError, Global};
 
@@ -86,6 +92,22 @@ fn said_by(alloc: Global, verb: &[u8], rest: Option<&[u8]>) -> Result<Option<Com
         Ok(alone(rest, Command::Offsets))
     } else if verb == b"rep".as_slice() {
         Ok(alone(rest, Command::Report))
+    } else if verb == b"fill".as_slice() {
+        fill_said(alloc, rest)
+    } else if verb == b"write".as_slice() {
+        write_said(alloc, rest)
+    } else if verb == b"new".as_slice() {
+        new_said(alloc, rest)
+    } else if verb == b"rm".as_slice() {
+        Ok(remove_said(rest))
+    } else if verb == b"stamp".as_slice() {
+        Ok(stamp_said(rest))
+    } else if verb == b"stat".as_slice() {
+        Ok(statistics_said(rest))
+    } else if verb == b"rect".as_slice() {
+        rectangle_said(alloc, rest)
+    } else if verb == b"sum".as_slice() {
+        Ok(sums_said(rest))
     } else {
         Ok(None)
     }
@@ -163,6 +185,100 @@ fn positions_said(rest: Option<&[u8]>) -> Option<Command>
 {
     let (hdu, name) = name_words(rest)?;
     Some(Command::Positions { hdu, name })
+}
+
+// `fill H RECT V`
+fn fill_said(alloc: Global, rest: Option<&[u8]>) -> Result<Option<Command>, AllocError>
+    ensures ok { IfOk result (λ said. said ≡ fill_said (option_copied rest.entry)) }
+    ensures err { OnErr result
+        (ReadingNeedsMemory (said_or_none (fill_said (option_copied rest.entry)))) }
+{
+    match fill_words(alloc, rest) {
+        Ok(Some((hdu, lo, hi, value))) => Ok(Some(Command::Edit(Edit::Fill {
+            hdu,
+            lo,
+            hi,
+            value,
+        }))),
+        Ok(None) => Ok(None),
+        Err(refused) => Err(refused),
+    }
+}
+
+// `write H RECT V V ..`
+fn write_said(alloc: Global, rest: Option<&[u8]>) -> Result<Option<Command>, AllocError>
+    ensures ok { IfOk result (λ said. said ≡ write_said (option_copied rest.entry)) }
+    ensures err { OnErr result
+        (ReadingNeedsMemory (said_or_none (write_said (option_copied rest.entry)))) }
+{
+    match write_words(alloc, rest) {
+        Ok(Some((hdu, lo, hi, values))) => Ok(Some(Command::Edit(Edit::Write {
+            hdu,
+            lo,
+            hi,
+            values,
+        }))),
+        Ok(None) => Ok(None),
+        Err(refused) => Err(refused),
+    }
+}
+
+// `new H KIND AXES`
+fn new_said(alloc: Global, rest: Option<&[u8]>) -> Result<Option<Command>, AllocError>
+    ensures ok { IfOk result (λ said. said ≡ new_said (option_copied rest.entry)) }
+    ensures err { OnErr result
+        (ReadingNeedsMemory (said_or_none (new_said (option_copied rest.entry)))) }
+{
+    match new_words(alloc, rest) {
+        Ok(Some((at, kind, axes))) => Ok(Some(Command::Edit(Edit::NewImage { at, kind, axes }))),
+        Ok(None) => Ok(None),
+        Err(refused) => Err(refused),
+    }
+}
+
+// `rm H`
+fn remove_said(rest: Option<&[u8]>) -> Option<Command>
+    ensures { result ≡ remove_said (option_copied rest.entry) }
+{
+    let hdu = hdu_word(rest)?;
+    Some(Command::Edit(Edit::RemoveHdu { hdu }))
+}
+
+// `stamp H`
+fn stamp_said(rest: Option<&[u8]>) -> Option<Command>
+    ensures { result ≡ stamp_said (option_copied rest.entry) }
+{
+    let hdu = hdu_word(rest)?;
+    Some(Command::Edit(Edit::Stamp { hdu }))
+}
+
+// `stat H`
+fn statistics_said(rest: Option<&[u8]>) -> Option<Command>
+    ensures { result ≡ statistics_said (option_copied rest.entry) }
+{
+    let hdu = hdu_word(rest)?;
+    Some(Command::Statistics { hdu })
+}
+
+// `rect H RECT`
+fn rectangle_said(alloc: Global, rest: Option<&[u8]>) -> Result<Option<Command>, AllocError>
+    ensures ok { IfOk result (λ said. said ≡ rectangle_said (option_copied rest.entry)) }
+    ensures err { OnErr result
+        (ReadingNeedsMemory (said_or_none (rectangle_said (option_copied rest.entry)))) }
+{
+    match rectangle_words(alloc, rest) {
+        Ok(Some((hdu, lo, hi))) => Ok(Some(Command::Rectangle { hdu, lo, hi })),
+        Ok(None) => Ok(None),
+        Err(refused) => Err(refused),
+    }
+}
+
+// `sum H`
+fn sums_said(rest: Option<&[u8]>) -> Option<Command>
+    ensures { result ≡ sums_said (option_copied rest.entry) }
+{
+    let hdu = hdu_word(rest)?;
+    Some(Command::Sums { hdu })
 }
 
 // The command of a word that stands alone: `off` or `rep`.

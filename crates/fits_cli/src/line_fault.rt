@@ -7,7 +7,8 @@ pub enum LineFault {
     /// It has none of the forms, or is past the limit.
     #[error("not a command")]
     Bad,
-    /// Memory was refused. Only a value that is set asks for any.
+    /// Memory was refused. Only a value that is set, the axes of a new
+    /// image, corners and values of pixels ask for any.
     #[error("out of memory")]
     Memory,
 }

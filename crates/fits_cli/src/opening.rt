@@ -1,7 +1,7 @@
 //! A file, read to its end and opened.
 ghost use Rattle.std.specs.Prelude.{◌≡◌, IfOk, IfErr, OnOk};
 ghost use Rattle.fits_card.specs.Intake.{Gives};
-ghost use Rattle.fits_session.specs.Reading.{IsOutlineOf};
+ghost use Rattle.fits_session.specs.Reading.{AreSumsOfFile, IsOutlineOf};
 ghost use Rattle.fits_session.specs.Report.{IsReportOf};
 ghost use Rattle.fits_session.specs.Session.{file_of};
 ghost use Rattle.fits_cli.specs.Ends.{Opens};
@@ -10,8 +10,8 @@ ghost use Rattle.fits_cli.specs.Streams.{source};
 
 use crate::fault::Fault;
 use fits_card::Source;
-use fits_hdu::Outline;
-use fits_session::{Problem, Session, read_outlines, read_report};
+use fits_hdu::{HduSums, Outline};
+use fits_session::{Problem, Session, read_outlines, read_report, read_sums};
 use std::alloc::Global;
 
 /// Reads a file and opens it.
@@ -40,6 +40,21 @@ pub(crate) fn outline_file<F: Source>(alloc: Global, file: &mut F) -> Result<Vec
 {
     match read_outlines(alloc, file) {
         Ok(outlines) => Ok(outlines),
+        Err(why) => Err(Fault::from(why)),
+    }
+}
+
+/// Reads a file and keeps the sums of its HDUs alone.
+#[tactic(auto, using(crate::proofs::OpeningLemmas::opening_steps))]
+pub(crate) fn sum_file<F: Source>(alloc: Global, file: &mut F) -> Result<Vec<HduSums>, Fault>
+    ensures ok { IfOk result (λ sums. Gives (F.remaining file.old)
+        (AreSumsOfFile sums.items)) }
+    ensures quiet { OnOk result (F.failures file.new ≡ F.failures file.old) }
+    ensures err { IfErr result (OpeningStops (source (F.remaining file.old) (F.failures file.old))
+        (source (F.remaining file.new) (F.failures file.new))) }
+{
+    match read_sums(alloc, file) {
+        Ok(sums) => Ok(sums),
         Err(why) => Err(Fault::from(why)),
     }
 }

@@ -77,6 +77,10 @@ fn refusal_text(why: Refusal) -> &'static str
         Refusal::BadName => "refused 7 BadName",
         Refusal::BadValue => "refused 8 BadValue",
         Refusal::NotImage => "refused 9 NotImage",
+        Refusal::BadRect => "refused 10 BadRect",
+        Refusal::WrongCount => "refused 11 WrongCount",
+        Refusal::Range => "refused 12 Range",
+        Refusal::PrimaryStays => "refused 13 PrimaryStays",
         Refusal::TooLarge => "refused 14 TooLarge",
         Refusal::Memory => "refused 15 Memory",
     }

@@ -8,6 +8,7 @@ use crate::fault::Fault;
 use crate::level::Level;
 use crate::listing::list;
 use crate::printing::flush;
+use crate::summing::sum;
 use crate::verifying::verify;
 use fits_card::{Sink, Source};
 use std::alloc::Global;
@@ -17,6 +18,8 @@ use std::alloc::Global;
 pub enum Telling {
     /// A line for each HDU.
     List,
+    /// The sums of each HDU, and the verdicts on them.
+    Sums,
     /// What is wrong, as a level has it.
     Report(Level),
 }
@@ -88,6 +91,7 @@ fn print_text<F: Source, O: Sink>(
 {
     match telling {
         Telling::List => list(alloc, file, out),
+        Telling::Sums => sum(alloc, file, out),
         Telling::Report(level) => verify(alloc, level, file, out),
     }
 }

@@ -5,17 +5,22 @@ ghost use Rattle.std.specs.List.{list_all};
 ghost use Rattle.std.specs.Option.{option_copied};
 ghost use Rattle.fits_cli.specs.Line.{after_word, card_last, card_words, first_word, move_words};
 ghost use Rattle.fits_cli.specs.Line.{name_first, name_of_text, name_of_word, name_words};
-ghost use Rattle.fits_cli.specs.Line.{field_words, number_first, number_of_word, place_words};
+ghost use Rattle.fits_cli.specs.Line.{field_words, fill_words, hdu_word, is_number, is_rectangle};
+ghost use Rattle.fits_cli.specs.Line.{lower_corner, number_first, number_of_word, place_words};
+ghost use Rattle.fits_cli.specs.Line.{rectangle_first, rectangle_words, upper_corner, write_words};
 ghost use Rattle.fits_value.specs.Number.{value_of};
 ghost use Rattle.fits_value.specs.Spelling.{is_digit};
 
 use crate::cut::split_once;
+use crate::rectangle_words::{corners_of, is_rectangle};
+use crate::value_words::{value_last, values_last};
 use fits_card::{CARD_LEN, Card, Name};
+use fits_session::{Corner, PixelValues};
 use fits_value::{Text, Value, read_field};
 use std::alloc::{AllocError, Global};
 
 /// How many digits a number has at most.
-const DIGITS: usize = 18;
+pub(crate) const DIGITS: usize = 18;
 
 /// How many bytes a keyword name has (FITS Standard 4.0, section 4.1.2.1).
 const NAME_LEN: usize = 8;
@@ -49,10 +54,17 @@ pub(crate) fn number_first(rest: Option<&[u8]>) -> Option<(usize, Option<&[u8]>)
 fn number_of_word(word: &[u8]) -> Option<usize>
     ensures { result ≡ number_of_word word.now }
 {
-    if word.is_empty() || word.len() > DIGITS || !are_digits(word) {
+    if !is_number(word, DIGITS) {
         return None;
     }
     Some(number_of_digits(word))
+}
+
+/// 1 to so many digits.
+pub(crate) fn is_number(word: &[u8], most: usize) -> bool
+    ensures { result ≡ is_number most word.now }
+{
+    are_digits(word) && !word.is_empty() && word.len() <= most
 }
 
 fn are_digits(word: &[u8]) -> bool
@@ -61,8 +73,9 @@ fn are_digits(word: &[u8]) -> bool
     word.iter().all(|byte| matches!(byte, b'0'..=b'9'))
 }
 
+/// The number of at most 18 digits.
 #[tactic(auto, using(crate::proofs::WordLemmas::digits_steps))]
-fn number_of_digits(digits: &[u8]) -> usize
+pub(crate) fn number_of_digits(digits: &[u8]) -> usize
     requires are_digits { IsTrue (list_all is_digit digits.now) }
     requires few { length digits.now ≤ 18 }
     ensures { result ≡ value_of digits.now }
@@ -197,6 +210,98 @@ pub(crate) fn field_words(
     };
     match read_field(alloc, text_of(rest)) {
         Ok(Some((value, comment))) => Ok(Some((hdu, name, value, comment))),
+        Ok(None) => Ok(None),
+        Err(refused) => Err(refused),
+    }
+}
+
+/// `H`
+#[tactic(auto, unfolding(crate::specs::Line::hdu_word, crate::specs::Line::alone))]
+pub(crate) fn hdu_word(rest: Option<&[u8]>) -> Option<usize>
+    ensures { result ≡ hdu_word (option_copied rest.entry) }
+{
+    match number_first(rest) {
+        Some((hdu, None)) => Some(hdu),
+        _ => None,
+    }
+}
+
+// The word of a rectangle, and what follows it.
+#[tactic(auto, unfolding(crate::specs::Line::rectangle_first))]
+fn rectangle_first(rest: Option<&[u8]>) -> Option<(&[u8], Option<&[u8]>)>
+    ensures some { IfSome result (λ cut. IsTrue (is_rectangle cut.0.now)
+        × (rectangle_first (option_copied rest.entry)
+        ≡ Some (lower_corner cut.0.now, upper_corner cut.0.now, option_copied cut.1))) }
+    ensures none { IfNone result (rectangle_first (option_copied rest.entry) ≡ None) }
+{
+    let (word, rest) = cut_word(rest?);
+    if !is_rectangle(word) {
+        return None;
+    }
+    Some((word, rest))
+}
+
+/// `H RECT`
+#[tactic(auto, unfolding(crate::specs::Line::rectangle_words, crate::specs::Line::alone))]
+pub(crate) fn rectangle_words(
+    alloc: Global,
+    rest: Option<&[u8]>,
+) -> Result<Option<(usize, Corner, Corner)>, AllocError>
+    ensures ok { IfOk result (λ words. words ≡ rectangle_words (option_copied rest.entry)) }
+    ensures err { OnErr result (IsSome (rectangle_words (option_copied rest.entry))) }
+{
+    let Some((hdu, rest)) = number_first(rest) else {
+        return Ok(None);
+    };
+    let Some((area, None)) = rectangle_first(rest) else {
+        return Ok(None);
+    };
+    let (lo, hi) = corners_of(alloc, area)?;
+    Ok(Some((hdu, lo, hi)))
+}
+
+/// `H RECT V`
+#[tactic(auto, unfolding(crate::specs::Line::fill_words))]
+pub(crate) fn fill_words(
+    alloc: Global,
+    rest: Option<&[u8]>,
+) -> Result<Option<(usize, Corner, Corner, i128)>, AllocError>
+    ensures ok { IfOk result (λ words. words ≡ fill_words (option_copied rest.entry)) }
+    ensures err { OnErr result (IsSome (fill_words (option_copied rest.entry))) }
+{
+    let Some((hdu, rest)) = number_first(rest) else {
+        return Ok(None);
+    };
+    let Some((area, rest)) = rectangle_first(rest) else {
+        return Ok(None);
+    };
+    let Some(value) = value_last(rest) else {
+        return Ok(None);
+    };
+    let (lo, hi) = corners_of(alloc, area)?;
+    Ok(Some((hdu, lo, hi, value)))
+}
+
+/// `H RECT V V ..`
+#[tactic(auto, unfolding(crate::specs::Line::write_words))]
+pub(crate) fn write_words(
+    alloc: Global,
+    rest: Option<&[u8]>,
+) -> Result<Option<(usize, Corner, Corner, PixelValues)>, AllocError>
+    ensures ok { IfOk result (λ words. words ≡ write_words (option_copied rest.entry)) }
+    ensures err { OnErr result (IsSome (write_words (option_copied rest.entry))) }
+{
+    let Some((hdu, rest)) = number_first(rest) else {
+        return Ok(None);
+    };
+    let Some((area, rest)) = rectangle_first(rest) else {
+        return Ok(None);
+    };
+    match values_last(alloc, rest) {
+        Ok(Some(values)) => {
+            let (lo, hi) = corners_of(alloc, area)?;
+            Ok(Some((hdu, lo, hi, values)))
+        }
         Ok(None) => Ok(None),
         Err(refused) => Err(refused),
     }

@@ -1,0 +1,105 @@
+-- Queries of pixels and sums as their commands.
+use Rattle.std.proofs.Common.{◌≡◌, ℕ, List, Bool, refl, ap, ◌∙◌, Option, None, Some, Result, Ok, Err}
+use Rattle.std.specs.Prelude.{ℤ, ok_or}
+use Rattle.fits_hdu.specs.Hdu.{HduParts}
+use Rattle.fits_hdu.specs.Pixels.{stats_of}
+use Rattle.fits_hdu.specs.declared.pixel_fault.PixelFault.TheVariants as pixel
+use Rattle.fits_hdu.specs.declared.stats.Stats.{Stats}
+use Rattle.fits_rules.specs.Shape.{shape_of}
+use Rattle.fits_rules.specs.declared.array_shape.Shape.{Shape}
+use Rattle.fits_session.specs.Edit.{hdu_of, pixels_made, shaped}
+use Rattle.fits_session.specs.File.{FileParts}
+use Rattle.fits_session.specs.Query.{by_shape, datasum_in, in_hdu, rect_in, stats_in, verdicts_in, QueryFails}
+use Rattle.fits_session.specs.Refusal.{is_primary_hdu}
+use Rattle.fits_session.specs.declared.refusal.Refusal.{Refusal}
+use Rattle.fits_session.specs.declared.refusal.Refusal.TheVariants.{NoHdu, NoCard, NoKey, BadText, EndCard, Shape as OtherShape, BadName, BadValue, NotImage, BadRect, WrongCount, Range, PrimaryStays, TooLarge, Memory}
+use Rattle.fits_cli.specs.Answer.{outcome_of, OutcomeNeedsMemory, CommandFails}
+use Rattle.fits_cli.specs.PixelLines.{values_line}
+use Rattle.fits_cli.specs.declared.command.Command.{Command}
+use Rattle.fits_cli.specs.declared.command.Command.TheVariants as command
+
+-- a refusal other than memory's is the command's
+pub CommandFails-refused : (file : FileParts) (command : Command) (why : Refusal) → (why ≡ Memory → ⊥) → outcome_of file command ≡ Err why → CommandFails file command why
+CommandFails-refused file command Memory other e = absurd (other refl)
+CommandFails-refused file command NoHdu other e = e
+CommandFails-refused file command NoCard other e = e
+CommandFails-refused file command NoKey other e = e
+CommandFails-refused file command BadText other e = e
+CommandFails-refused file command EndCard other e = e
+CommandFails-refused file command OtherShape other e = e
+CommandFails-refused file command BadName other e = e
+CommandFails-refused file command BadValue other e = e
+CommandFails-refused file command NotImage other e = e
+CommandFails-refused file command BadRect other e = e
+CommandFails-refused file command WrongCount other e = e
+CommandFails-refused file command Range other e = e
+CommandFails-refused file command PrimaryStays other e = e
+CommandFails-refused file command TooLarge other e = e
+
+-- statistics that are there, or not
+stats_made : (stats : Option Stats) → pixels_made (ok_or stats pixel.NotImage) ≡ Err Memory → ⊥
+stats_made (Some stats) e = absurd (let z : ◌≡◌ {A = Result Stats Refusal} (Ok stats) (Err Memory) = e in cc)
+stats_made None e = absurd (let z : ◌≡◌ {A = Result Stats Refusal} (Err NotImage) (Err Memory) = e in cc)
+
+-- statistics of a shape, or none, never fail by memory
+stats_shaped : (shape : Result Shape ℕ) (hdu : HduParts) → shaped shape (λ shape. ok_or (stats_of shape hdu) pixel.NotImage) ≡ Err Memory → ⊥
+stats_shaped (Err place) hdu e = absurd (let z : ◌≡◌ {A = Result Stats Refusal} (Err NotImage) (Err Memory) = e in cc)
+stats_shaped (Ok shape) hdu e = stats_made (stats_of shape hdu) e
+
+-- statistics of an HDU, if it is there, never fail by memory
+stats_there : (primary : Bool) (hdu : Option HduParts) → in_hdu (by_shape primary (λ shape hdu. ok_or (stats_of shape hdu) pixel.NotImage)) hdu ≡ Err Memory → ⊥
+stats_there primary None e = absurd (let z : ◌≡◌ {A = Result Stats Refusal} (Err NoHdu) (Err Memory) = e in cc)
+stats_there primary (Some hdu) e = stats_shaped (shape_of primary hdu.header.cards) hdu e
+
+-- statistics of an HDU never fail by memory
+stats_in-memory : (file : FileParts) (h : ℕ) → stats_in file h ≡ Err Memory → ⊥
+stats_in-memory file h e = stats_there (is_primary_hdu h) (hdu_of file h) e
+
+-- asking for statistics fails as the query does
+pub statistics_fails : (file : FileParts) (h : ℕ) (why : Refusal) → stats_in file h ≡ Err why → CommandFails file (command.Statistics h) why
+unfolding outcome_of
+statistics_fails file h why e = CommandFails-refused file (command.Statistics h) why (λ memory. stats_in-memory file h (e ∙ ap Err memory)) (rw e refl)
+
+-- asking for a rectangle fails as the query does
+pub rectangle_fails : (file : FileParts) (h : ℕ) (lo hi : List ℕ) (why : Refusal) → QueryFails (rect_in file h lo hi) why → CommandFails file (command.Rectangle h lo hi) why
+unfolding outcome_of OutcomeNeedsMemory
+rectangle_fails file h lo hi Memory p = p
+rectangle_fails file h lo hi NoHdu e = rw e refl
+rectangle_fails file h lo hi NoCard e = rw e refl
+rectangle_fails file h lo hi NoKey e = rw e refl
+rectangle_fails file h lo hi BadText e = rw e refl
+rectangle_fails file h lo hi EndCard e = rw e refl
+rectangle_fails file h lo hi OtherShape e = rw e refl
+rectangle_fails file h lo hi BadName e = rw e refl
+rectangle_fails file h lo hi BadValue e = rw e refl
+rectangle_fails file h lo hi NotImage e = rw e refl
+rectangle_fails file h lo hi BadRect e = rw e refl
+rectangle_fails file h lo hi WrongCount e = rw e refl
+rectangle_fails file h lo hi Range e = rw e refl
+rectangle_fails file h lo hi PrimaryStays e = rw e refl
+rectangle_fails file h lo hi TooLarge e = rw e refl
+
+-- the same, where the corners that were asked for are the command's
+pub rectangle_of_corners_fails : (file : FileParts) (h : ℕ) (los his lo hi : List ℕ) (why : Refusal) → los ≡ lo → his ≡ hi → QueryFails (rect_in file h los his) why → CommandFails file (command.Rectangle h lo hi) why
+rectangle_of_corners_fails file h los his lo hi why a b p = rw (← a, ← b) (rectangle_fails file h los his why p)
+
+-- a rectangle that was asked for is printed, and the file stays
+pub rectangle_told : (file now : FileParts) (h : ℕ) (los his lo hi line : List ℕ) (values : List ℤ) → los ≡ lo → his ≡ hi → rect_in file h los his ≡ Ok values → line ≡ values_line values → now ≡ file
+    → outcome_of file (command.Rectangle h lo hi) ≡ Ok (record { text = line; file = now })
+unfolding outcome_of
+rectangle_told file now h los his lo hi line values a b found printed stays = rw (← a, ← b, found, printed, stays) refl
+
+-- the sum of an HDU, if it is there, never fails by memory
+there_memory : {X : Type 0} (answer : HduParts → X) (hdu : Option HduParts) → in_hdu (λ hdu. Ok (answer hdu)) hdu ≡ Err Memory → ⊥
+there_memory {X = X} answer None e = absurd (let z : ◌≡◌ {A = Result X Refusal} (Err NoHdu) (Err Memory) = e in cc)
+there_memory {X = X} answer (Some hdu) e = absurd (let z : ◌≡◌ {A = Result X Refusal} (Ok (answer hdu)) (Err Memory) = e in cc)
+
+-- asking for sums fails as the sum of the data unit does
+pub sums_fails : (file : FileParts) (h : ℕ) (why : Refusal) → datasum_in file h ≡ Err why → CommandFails file (command.Sums h) why
+unfolding outcome_of
+sums_fails file h why e = CommandFails-refused file (command.Sums h) why (λ memory. there_memory _ (hdu_of file h) (e ∙ ap Err memory)) (rw e refl)
+
+-- or as the verdicts do
+pub verdicts_fails : (file : FileParts) (h sum : ℕ) (why : Refusal) → datasum_in file h ≡ Ok sum → verdicts_in file h ≡ Err why → CommandFails file (command.Sums h) why
+unfolding outcome_of
+verdicts_fails file h sum why s e = CommandFails-refused file (command.Sums h) why (λ memory. there_memory _ (hdu_of file h) (e ∙ ap Err memory)) (rw (s, e) refl)

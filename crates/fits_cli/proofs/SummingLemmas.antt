@@ -1,0 +1,95 @@
+-- The run of `sum`: its lines as they are printed, from the sums that were found.
+use Rattle.std.proofs.Common.{◌≡◌, ℕ, ◌+◌, ◌<◌, List, [], ◌∷◌, ◌++◌, length, take, drop, get_or, refl, ap, sym, ◌∙◌, append_assoc, arith, Option}
+use Rattle.std.proofs.lemmas.List.{append-nil, take-append-drop, take_more, length-take-le}
+use Rattle.fits_card.specs.Intake.{Gives}
+use Rattle.fits_hdu.specs.Hdu.{HduParts}
+use Rattle.fits_hdu.specs.Sums.{data_sum, verdicts_of}
+use Rattle.fits_hdu.specs.declared.hdu_sums.HduSums.{HduSums}
+use Rattle.fits_session.specs.File.{FileParts}
+use Rattle.fits_session.specs.Reading.{is_summed, AreSumsOfFile, KeepsEach}
+use Rattle.fits_cli.specs.Streams.{source, SinkState, Prints}
+use Rattle.fits_cli.specs.Summing.{summed_from, summed_line, summed_lines, summing}
+use Rattle.fits_cli.specs.Telling.{PrintingStops, TextIsTold, TextStopsBy}
+use Rattle.fits_cli.specs.declared.fault.Fault.{Fault}
+use Rattle.fits_cli.specs.declared.fault.Fault.TheVariants.{Memory}
+use Rattle.fits_cli.specs.declared.telling.Telling.TheVariants as telling
+use Rattle.fits_cli.proofs.OpeningLemmas.{opens_given}
+use Rattle.fits_cli.proofs.StreamLemmas.{Prints-more}
+use Rattle.fits_cli.proofs.TellingLemmas.{TextStopsBy-printing}
+use Rattle.fits_cli.proofs.VerifyingLemmas.{PrintingStops-longer, PrintingStops-more, PrintingStops-none}
+
+-- the lines of HDUs are those of their sums
+lines_same : (n : ℕ) (sums : List HduSums) (us : List HduParts) → KeepsEach is_summed sums us → summed_lines n sums ≡ summed_from n us
+lines_same n [] [] p = refl
+lines_same n [] (u ∷ us) p = absurd p
+lines_same n (it ∷ sums) [] p = absurd p
+lines_same n (it ∷ sums) (u ∷ us) p =
+    ap (λ s. summed_line n s it.verdicts ++ summed_lines (n + 1) sums) p.0.sum
+    ∙ ap (λ v. summed_line n (data_sum u) v ++ summed_lines (n + 1) sums) p.0.right
+    ∙ ap (λ t. summed_line n (data_sum u) (verdicts_of u) ++ t) (lines_same (n + 1) sums us p.1)
+
+-- the lines of a file's sums
+summing-summed : (sums : List HduSums) (file : FileParts) → KeepsEach is_summed sums file.hdus → summed_lines 1 sums ≡ summing file
+unfolding summing
+summing-summed sums file each = lines_same 1 sums file.hdus each
+
+-- lines of some HDUs, and of more
+lines-append : (n : ℕ) (xs ys : List HduSums) → summed_lines n (xs ++ ys) ≡ summed_lines n xs ++ summed_lines (n + length xs) ys
+lines-append n [] ys =
+    let number : n ≡ n + 0 = omega arith in
+    ap (λ m. summed_lines m ys) number
+lines-append n (x ∷ xs) ys =
+    let line : List ℕ = summed_line n x.datasum x.verdicts in
+    let number : n + 1 + length xs ≡ n + length (x ∷ xs) = omega arith in
+    ap (λ t. line ++ t) (lines-append (n + 1) xs ys ∙ ap (λ m. summed_lines (n + 1) xs ++ summed_lines m ys) number)
+    ∙ sym (append_assoc line (summed_lines (n + 1) xs) (summed_lines (n + length (x ∷ xs)) ys))
+
+-- lines of the first HDUs, and of one more
+lines-more : (sums : List HduSums) (i : ℕ) (d : HduSums) → i < length sums → summed_lines 1 (take (i + 1) sums) ≡ summed_lines 1 (take i sums) ++ summed_line (i + 1) (get_or sums i d).datasum (get_or sums i d).verdicts
+lines-more sums i d l =
+    let it : HduSums = get_or sums i d in
+    let number : 1 + length (take i sums) ≡ i + 1 = omega (arith, length-take-le i sums (omega (arith, l))) in
+    ap (summed_lines 1) (take_more sums i d l)
+    ∙ lines-append 1 (take i sums) (it ∷ [])
+    ∙ ap (λ n. summed_lines 1 (take i sums) ++ summed_lines n (it ∷ [])) number
+    ∙ ap (λ t. summed_lines 1 (take i sums) ++ t) (append-nil (summed_line (i + 1) it.datasum it.verdicts))
+
+-- lines of the first HDUs, and of the others
+lines-split : (sums : List HduSums) (i : ℕ) → summed_lines 1 sums ≡ summed_lines 1 (take i sums) ++ summed_lines (1 + length (take i sums)) (drop i sums)
+lines-split sums i = ap (summed_lines 1) (sym (take-append-drop i sums)) ∙ lines-append 1 (take i sums) (drop i sums)
+
+-- one more line
+pub prints_line : (a b c : SinkState) (sums : List HduSums) (i : ℕ) (d : HduSums) → i < length sums → Prints (summed_lines 1 (take i sums)) a b → Prints (summed_line (i + 1) (get_or sums i d).datasum (get_or sums i d).verdicts) b c
+    → Prints (summed_lines 1 (take (i + 1) sums)) a c
+prints_line a b c sums i d l front line =
+    let it : HduSums = get_or sums i d in
+    rw (lines-more sums i d l) (Prints-more a b c (summed_lines 1 (take i sums)) (summed_line (i + 1) it.datasum it.verdicts) front line)
+
+-- the next line stops the text
+pub stops_at_line : (a b c : SinkState) (sums : List HduSums) (i : ℕ) (d : HduSums) (fault : Fault) → i < length sums → Prints (summed_lines 1 (take i sums)) a b → PrintingStops (summed_line (i + 1) (get_or sums i d).datasum (get_or sums i d).verdicts) b c fault
+    → PrintingStops (summed_lines 1 sums) a c fault
+stops_at_line a b c sums i d fault l front stops =
+    let line : List ℕ = summed_line (i + 1) (get_or sums i d).datasum (get_or sums i d).verdicts in
+    let rest : List ℕ = summed_lines (1 + length (take (i + 1) sums)) (drop (i + 1) sums) in
+    let lines : summed_lines 1 sums ≡ (summed_lines 1 (take i sums) ++ line) ++ rest = lines-split sums (i + 1) ∙ ap (λ t. t ++ rest) (lines-more sums i d l) in
+    rw lines (PrintingStops-longer a c (summed_lines 1 (take i sums) ++ line) rest fault (PrintingStops-more a b c (summed_lines 1 (take i sums)) line fault front stops))
+
+-- memory is refused before the next line
+pub stops_before_line : (a b : SinkState) (sums : List HduSums) (i : ℕ) → Prints (summed_lines 1 (take i sums)) a b → PrintingStops (summed_lines 1 sums) a b Memory
+stops_before_line a b sums i front =
+    let rest : List ℕ = summed_lines (1 + length (take i sums)) (drop i sums) in
+    rw (lines-split sums i) (PrintingStops-more a b b (summed_lines 1 (take i sums)) rest Memory front (PrintingStops-none b rest))
+
+-- the sums that were found are told
+pub summed : (left left' : Option (List ℕ)) (f g : ℕ) (out out_after : SinkState) (sums : List HduSums) → Gives left (AreSumsOfFile sums) → g ≡ f → Prints (summed_lines 1 sums) out out_after
+    → TextIsTold telling.Sums (source left f) (source left' g) out out_after 0
+summed left left' f g out out_after sums given quiet printed =
+    let parts : FileParts = given.2.0 in
+    record { parts = parts; opened = opens_given left f parts (given.0, given.1, given.2.1); read = quiet; printed = rw (← summing-summed sums parts given.2.2) printed; status_is = refl }
+
+-- or a prefix of them
+pub TextStopsBy-summing : (left left' : Option (List ℕ)) (f g : ℕ) (out out_after : SinkState) (sums : List HduSums) (fault : Fault) → Gives left (AreSumsOfFile sums) → g ≡ f → PrintingStops (summed_lines 1 sums) out out_after fault
+    → TextStopsBy telling.Sums (source left f) (source left' g) out out_after fault
+TextStopsBy-summing left left' f g out out_after sums fault given quiet stops =
+    let parts : FileParts = given.2.0 in
+    TextStopsBy-printing telling.Sums (source left f) (source left' g) out out_after parts fault (opens_given left f parts (given.0, given.1, given.2.1)) quiet (rw (← summing-summed sums parts given.2.2) stops)

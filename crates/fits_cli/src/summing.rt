@@ -1,0 +1,83 @@
+//! The run of `sum`: the sums of each HDU of a file.
+ghost use Rattle.std.specs.Prelude.{◌≡◌, ◌++◌, IfOk, IfErr, OnOk};
+ghost use Rattle.fits_cli.specs.Streams.{sink, source, Prints};
+ghost use Rattle.fits_cli.specs.Summing.{summed_line, summed_lines};
+ghost use Rattle.fits_cli.specs.Telling.{PrintingStops, TextEndsAs, TextIsTold, TextStopsBy};
+
+use crate::end::End;
+use crate::fault::Fault;
+use crate::opening::sum_file;
+use crate::pixel_lines::verdict_text;
+use crate::printing::print;
+use crate::telling::{Telling, run_telling};
+use fits_card::{Sink, Source};
+use fits_hdu::HduSums;
+use std::alloc::{AllocError, Global};
+
+/// Reads a file, and prints for each of its HDUs the sum of its data unit and the verdicts on
+/// DATASUM and CHECKSUM. No data unit is kept. The status is 0, whatever the verdicts.
+pub fn run_sum<F: Source, O: Sink>(alloc: Global, file: &mut F, out: &mut O) -> End
+    ensures { TextEndsAs Telling.Sums
+        (source (F.remaining file.old) (F.failures file.old))
+        (source (F.remaining file.new) (F.failures file.new))
+        (sink (O.contents out.old) (O.failures out.old) (O.unflushed out.old))
+        (sink (O.contents out.new) (O.failures out.new) (O.unflushed out.new))
+        result.status result.fault }
+{
+    run_telling(alloc, Telling::Sums, file, out)
+}
+
+/// Reads a file, and prints the sums of each of its HDUs. The status is 0, whatever the verdicts.
+pub(crate) fn sum<F: Source, O: Sink>(alloc: Global, file: &mut F, out: &mut O) -> Result<u8, Fault>
+    ensures ok { IfOk result (λ status. TextIsTold Telling.Sums
+        (source (F.remaining file.old) (F.failures file.old))
+        (source (F.remaining file.new) (F.failures file.new))
+        (sink (O.contents out.old) (O.failures out.old) (O.unflushed out.old))
+        (sink (O.contents out.new) (O.failures out.new) (O.unflushed out.new))
+        status) }
+    ensures err { IfErr result (TextStopsBy Telling.Sums
+        (source (F.remaining file.old) (F.failures file.old))
+        (source (F.remaining file.new) (F.failures file.new))
+        (sink (O.contents out.old) (O.failures out.old) (O.unflushed out.old))
+        (sink (O.contents out.new) (O.failures out.new) (O.unflushed out.new))) }
+{
+    let sums = sum_file(alloc, file)?;
+    print_sums(alloc, &sums, out)?;
+    Ok(0)
+}
+
+// Prints the line of each HDU by its sums. Room for one line is taken.
+fn print_sums<O: Sink>(alloc: Global, sums: &[HduSums], out: &mut O) -> Result<(), Fault>
+    ensures ok { OnOk result (Prints (summed_lines 1 sums.now)
+        (sink (O.contents out.old) (O.failures out.old) (O.unflushed out.old))
+        (sink (O.contents out.new) (O.failures out.new) (O.unflushed out.new))) }
+    ensures err { IfErr result (PrintingStops (summed_lines 1 sums.now)
+        (sink (O.contents out.old) (O.failures out.old) (O.unflushed out.old))
+        (sink (O.contents out.new) (O.failures out.new) (O.unflushed out.new))) }
+{
+    let mut line = Vec::new(alloc);
+    for (i, it) in sums.iter().enumerate() {
+        line.clear();
+        push_line(alloc, &mut line, i + 1, *it)?;
+        print(out, &line)?;
+    }
+    Ok(())
+}
+
+// `N DATASUM A B`
+#[tactic(auto, unfolding(crate::specs::Summing::summed_line))]
+fn push_line(
+    alloc: Global,
+    line: &mut Vec<u8>,
+    number: usize,
+    it: HduSums,
+) -> Result<(), AllocError>
+    ensures { OnOk result (line.new.items
+        ≡ line.old.items ++ summed_line number it.datasum it.verdicts) }
+{
+    let sum = it.datasum;
+    let datasum = verdict_text(it.verdicts.datasum);
+    let checksum = verdict_text(it.verdicts.checksum);
+    let text = format!(in alloc; "{number} {sum} {datasum} {checksum}\n")?;
+    line.extend_from_slice(text.as_bytes())
+}
