@@ -10,17 +10,21 @@ pub enum Task<'a> {
     Edit { from: &'a str, to: &'a str },
     /// The HDUs of the file at `from` are listed.
     List { from: &'a str },
+    /// The sums of the HDUs of the file at `from` are printed.
+    Sum { from: &'a str },
     /// What is wrong with the file at `from` is printed, as far as the level has it.
     Verify { from: &'a str, level: Level },
 }
 
 const VERSION: &str = "0.1.0";
 
-const ABOUT: &str = "Edits, lists and verifies FITS files";
+const ABOUT: &str = "Edits, lists, sums and verifies FITS files";
 
 const EDIT: &str = "Edits a file by a script from standard input";
 
 const LIST: &str = "Prints a line for each HDU of a file";
+
+const SUM: &str = "Prints the sums of each HDU of a file, and whether they are right";
 
 const VERIFY: &str = "Prints what is wrong with a file, and counts it";
 
@@ -32,6 +36,7 @@ const STATUSES: &str = "Exit status:
 
 Example:
   fitsed list in.fits
+  fitsed sum in.fits
   fitsed verify in.fits
   printf 'ins 1 4 COMMENT hello\\noff\\n' | fitsed edit in.fits out.fits
 
@@ -44,8 +49,16 @@ const LINES: &str = "Lines of the script, words separated by one space:
   mov H P Q         move the card at place P to place Q
   set H NAME FIELD  give a keyword a value and a comment, as VALUE / COMMENT
   unset H NAME      delete a keyword
+  fill H RECT V     give each pixel of a rectangle the value V
+  write H RECT V .. give the pixels of a rectangle these values
+  new H KIND AXES   put a new image in as HDU H, such as new 2 i16 100,200
+  rm H              take HDU H out
+  stamp H           write DATASUM and CHECKSUM so that both are right
   get H NAME        print the value of a keyword
   pos H NAME        print the places of the cards of a keyword
+  stat H            print how many pixels are defined, their least, greatest and sum
+  rect H RECT       print the values of a rectangle
+  sum H             print the sum of the data unit, and whether both sums are right
   off               print where each HDU begins, its data begin, and it ends
   rep               print what is wrong, and count it
   # text            nothing; so does an empty line
@@ -69,6 +82,10 @@ pub fn command<'a>(alloc: Global) -> Result<Command<'a>, AllocError> {
         .about(LIST)
         .after_help(STATUSES)
         .arg(path(alloc, "IN", "The file to read"))?;
+    let sum = Command::new(alloc, "sum")
+        .about(SUM)
+        .after_help(STATUSES)
+        .arg(path(alloc, "IN", "The file to read"))?;
     let verify = Command::new(alloc, "verify")
         .about(VERIFY)
         .after_help(STATUSES)
@@ -83,6 +100,7 @@ pub fn command<'a>(alloc: Global) -> Result<Command<'a>, AllocError> {
         .disable_help_subcommand(true)
         .subcommand(edit)?
         .subcommand(list)?
+        .subcommand(sum)?
         .subcommand(verify)
 }
 
@@ -120,6 +138,9 @@ pub fn task_of<'a>(matches: &ArgMatches<'a>) -> Option<Task<'a>> {
             to: words.get_str("OUT")?,
         }),
         "list" => Some(Task::List {
+            from: words.get_str("IN")?,
+        }),
+        "sum" => Some(Task::Sum {
             from: words.get_str("IN")?,
         }),
         "verify" => Some(Task::Verify {

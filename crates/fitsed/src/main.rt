@@ -7,7 +7,7 @@ use arguments::{Task, command, task_of};
 use clap::Error;
 use clap::error::ErrorKind;
 use fits_card::Watched;
-use fits_cli::{End, Fault, LazyFile, Level, run_edit, run_list, run_verify};
+use fits_cli::{End, Fault, LazyFile, Level, run_edit, run_list, run_sum, run_verify};
 use std::alloc::AllocError;
 use std::io::BufWriter;
 use std::process::ExitCode;
@@ -32,6 +32,7 @@ fn main(rt: HostRuntime) -> ExitCode {
     let end = match task_of(&matches) {
         Some(Task::Edit { from, to }) => edit(&rt, from, to),
         Some(Task::List { from }) => list(&rt, from),
+        Some(Task::Sum { from }) => sum(&rt, from),
         Some(Task::Verify { from, level }) => verify(&rt, from, level),
         None => return ExitCode::from(2),
     };
@@ -72,6 +73,17 @@ fn list<R: Files + Print + AllocGlobal>(rt: &R, from: &str) -> End {
     run_list(rt.alloc(), &mut Watched::new(file), &mut Watched::new(out))
 }
 
+// Runs `sum` over the file at `from`.
+fn sum<R: Files + Print + AllocGlobal>(rt: &R, from: &str) -> End {
+    let Ok(file) = fs::open(rt, from) else {
+        return End::from(Fault::ReadFailed);
+    };
+    let Ok(out) = BufWriter::new(rt.alloc(), io::writer(rt)) else {
+        return End::from(Fault::Memory);
+    };
+    run_sum(rt.alloc(), &mut Watched::new(file), &mut Watched::new(out))
+}
+
 // Runs `verify` over the file at `from`.
 fn verify<R: Files + Print + AllocGlobal>(rt: &R, from: &str, level: Level) -> End {
     let Ok(file) = fs::open(rt, from) else {
@@ -94,7 +106,7 @@ fn reported<R: Eprint>(rt: &R, fault: Fault) -> u8 {
     fault.status()
 }
 
-// Help goes to standard output and ends with 0, a usage fault to standard error.
+// Help that was asked for is printed with status 0; wrong words are explained on standard error.
 fn usage<R: Print + Eprint>(rt: &R, error: Error) -> u8 {
     if error.kind() == ErrorKind::OutOfMemory {
         return reported(rt, Fault::Memory);
