@@ -3,6 +3,7 @@
 use fits_card::{
     BLOCK_LEN, CARD_LEN, Card, CardList, Cards, Change, HeaderFault, Name, cut_header,
 };
+use fits_hdu::{Hdu, HduFault};
 use std::alloc::{AllocError, Global};
 
 /// An HDU: its cards, END among them, separated by `|`, and how many blocks of data it has.
@@ -101,11 +102,36 @@ pub fn file_of(alloc: Global, file: FileText<'_>) -> Result<Vec<u8>, AllocError>
     Ok(bytes)
 }
 
+/// The bytes of a file whose data are zeros.
+pub fn zeroed_file_of(alloc: Global, file: FileText<'_>) -> Result<Vec<u8>, AllocError> {
+    let (hdus, tail) = file;
+    let mut bytes = Vec::new(alloc);
+    for (cards, blocks) in hdus {
+        add_hdu(&mut bytes, (*cards, 0))?;
+        for _ in 0..*blocks {
+            for _ in 0..BLOCK_LEN {
+                bytes.push(0)?;
+            }
+        }
+    }
+    bytes.extend_from_slice(tail.as_bytes())?;
+    Ok(bytes)
+}
+
 /// The bytes of one HDU.
 pub fn hdu_of(alloc: Global, cards: &str, blocks: usize) -> Result<Vec<u8>, AllocError> {
     let mut bytes = Vec::new(alloc);
     add_hdu(&mut bytes, (cards, blocks))?;
     Ok(bytes)
+}
+
+/// The HDU that bytes begin with, and how many it has. The longest that may be handed in are never
+/// built here.
+pub fn open_hdu(alloc: Global, bytes: &[u8], primary: bool) -> Result<(Hdu, usize), HduFault> {
+    if bytes.len() > 1 << 34 {
+        return Err(HduFault::Memory);
+    }
+    Hdu::open(alloc, bytes, primary)
 }
 
 /// The header of these cards.

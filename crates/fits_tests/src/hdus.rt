@@ -1,6 +1,6 @@
 //! HDUs: which bytes are one, the kind of their pixels, and what their keywords say.
 
-use crate::builders::{hdu_of, name_of};
+use crate::builders::{hdu_of, name_of, open_hdu};
 use crate::values::line_of;
 use fits_hdu::{Hdu, HduFault, KeywordFault, Kind};
 use fits_rules::Class;
@@ -80,7 +80,7 @@ fn an_hdu_has_the_data_that_its_cards_describe(rt: HostRuntime) -> Result<(), Fa
         let mut bytes = hdu_of(rt.alloc(), cards, *blocks)?;
         let wanted = bytes.len();
         bytes.extend_from_slice(b"XTENSION")?;
-        let (hdu, len) = Hdu::open(rt.alloc(), &bytes, cards.starts_with("SIMPLE"))?;
+        let (hdu, len) = open_hdu(rt.alloc(), &bytes, cards.starts_with("SIMPLE"))?;
         assert_eq!(rt; len, wanted, "{cards}");
         assert_eq!(rt; hdu.data_len() / 2880, *blocks, "{cards}");
         assert_eq!(rt; hdu.shape().class, *class, "{cards}");
@@ -144,7 +144,7 @@ const FAULTS: &[(bool, &str, HduFault)] = &[
 fn the_first_fault_of_an_hdu_is_reported(rt: HostRuntime) -> Result<(), Fail> {
     for (primary, cards, fault) in FAULTS {
         let bytes = hdu_of(rt.alloc(), cards, 0)?;
-        let found = Hdu::open(rt.alloc(), &bytes, *primary).err();
+        let found = open_hdu(rt.alloc(), &bytes, *primary).err();
         assert_eq!(rt; found, Some(*fault), "{cards}");
     }
     Ok(())
@@ -246,7 +246,7 @@ fn only_arrays_of_integers_have_a_kind(rt: HostRuntime) -> Result<(), Fail> {
 // The kind of the pixels of an HDU.
 fn kind_of(alloc: Global, cards: &str, blocks: usize) -> Result<Option<Kind>, Fail> {
     let bytes = hdu_of(alloc, cards, blocks)?;
-    let (mut hdu, _) = Hdu::open(alloc, &bytes, cards.starts_with("SIMPLE"))?;
+    let (hdu, _) = open_hdu(alloc, &bytes, cards.starts_with("SIMPLE"))?;
     Ok(hdu.kind())
 }
 
@@ -269,7 +269,7 @@ const KEYWORDS: &[(&str, &str)] = &[
 #[test]
 fn a_keyword_says_what_its_first_card_with_a_value_does(rt: HostRuntime) -> Result<(), Fail> {
     let bytes = hdu_of(rt.alloc(), ASKED, 0)?;
-    let (mut hdu, _) = Hdu::open(rt.alloc(), &bytes, true)?;
+    let (mut hdu, _) = open_hdu(rt.alloc(), &bytes, true)?;
     for (name, wanted) in KEYWORDS {
         let line = keyword_line(rt.alloc(), &mut hdu, name)?;
         assert_eq!(rt; line.as_slice(), wanted.as_bytes(), "{name}");

@@ -173,3 +173,14 @@ fn each_card_has_its_codes(rt: HostRuntime) -> Result<(), Fail> {
     }
     Ok(())
 }
+
+#[test]
+#[tactic(auto, using(fits_header::proofs::TotalLemmas::header_steps))]
+fn a_header_has_the_total_of_its_words(rt: HostRuntime) -> Result<(), Fail> {
+    let header = opened(rt.alloc(), CARDS)?;
+    let is_small = header.len() < 1000;
+    assert!(rt; is_small);
+    // 720 words of spaces have 388062927360, and what isn't a space adds the rest.
+    assert_eq!(rt; header.total(), 400_698_905_827);
+    Ok(())
+}

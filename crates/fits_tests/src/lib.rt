@@ -12,6 +12,8 @@ mod edits;
 #[cfg(test)]
 mod files;
 #[cfg(test)]
+mod hdu_rows;
+#[cfg(test)]
 mod hdus;
 #[cfg(test)]
 mod indexes;
@@ -20,9 +22,13 @@ mod lines;
 #[cfg(test)]
 mod listings;
 #[cfg(test)]
+mod long_scripts;
+#[cfg(test)]
 mod memory;
 #[cfg(test)]
 mod numbers;
+#[cfg(test)]
+mod pixel_rows;
 #[cfg(test)]
 mod planes;
 #[cfg(test)]
@@ -39,6 +45,8 @@ mod runs;
 mod shapes;
 #[cfg(test)]
 mod streams;
+#[cfg(test)]
+mod summings;
 #[cfg(test)]
 mod sums;
 #[cfg(test)]

@@ -6,6 +6,7 @@ use crate::runs::{ALL_SMOOTH, edit};
 use crate::values::line_of;
 use fits_card::Watched;
 use fits_cli::{Command, End, Fault, LineFault, parse_line, run_edit};
+use fits_hdu::Kind;
 use fits_session::Edit;
 use std::alloc::{AllocError, Global};
 use std::io;
@@ -28,11 +29,22 @@ enum Said<'a> {
     Get(usize, &'a str),
     Pos(usize, &'a str),
     Rep,
+    Fill(usize, &'a [u64], &'a [u64], i128),
+    Write(usize, &'a [u64], &'a [u64], &'a [i128]),
+    Stat(usize),
+    Rect(usize, &'a [u64], &'a [u64]),
+    Sum(usize),
+    Stamp(usize),
+    New(usize, Kind, &'a [u64]),
+    Rm(usize),
     /// It is not a command.
     Bad,
 }
 
-use Said::{Bad, Del, Get, Ins, Mov, Nothing, Off, Pos, Put, Rep, Set, Unset};
+use Said::{
+    Bad, Del, Fill, Get, Ins, Mov, New, Nothing, Off, Pos, Put, Rect, Rep, Rm, Set, Stamp, Stat,
+    Sum, Unset, Write,
+};
 
 /// A line, and what it says.
 const LINES: &[(&str, Said<'static>)] = &[
@@ -209,8 +221,126 @@ const LINES: &[(&str, Said<'static>)] = &[
     ("pos 1", Bad),
     ("pos 1 KEY ", Bad),
     ("pos KEY", Bad),
-    // commands to come
-    ("fill 1 1:1 5", Bad),
+    // rectangles and values
+    ("fill 1 1:1 5", Fill(1, &[1], &[1], 5)),
+    (
+        "fill 12 1:2,3:4,0:999999999999999999 -0",
+        Fill(12, &[1, 3, 0], &[2, 4, 999_999_999_999_999_999], 0),
+    ),
+    (
+        "fill 1 1:1 -123456789012345678901234567890",
+        Fill(1, &[1], &[1], -123_456_789_012_345_678_901_234_567_890),
+    ),
+    ("fill 1 1:1 1234567890123456789012345678901", Bad),
+    ("fill 1 1:1 +1", Bad),
+    ("fill 1 1:1 -", Bad),
+    ("fill 1 1:1 --1", Bad),
+    ("fill 1 1:1", Bad),
+    ("fill 1 1:1 ", Bad),
+    ("fill 1 1:1 5 ", Bad),
+    ("fill 1 1:1 5 6", Bad),
+    ("fill 1 1:1  5", Bad),
+    ("fill 1 1: 5", Bad),
+    ("fill 1 :1 5", Bad),
+    ("fill 1 1 5", Bad),
+    ("fill 1 1:1:1 5", Bad),
+    ("fill 1 1:1, 5", Bad),
+    ("fill 1 1:1,,1:1 5", Bad),
+    ("fill 1 -1:1 5", Bad),
+    ("fill 1 1234567890123456789:1 5", Bad),
+    ("fill 99 1:x 5", Bad),
+    ("fill 1 5", Bad),
+    ("fill x 1:1 5", Bad),
+    ("write 1 2:2,1:2 7 8", Write(1, &[2, 1], &[2, 2], &[7, 8])),
+    ("write 1 1:1 -7", Write(1, &[1], &[1], &[-7])),
+    ("write 1 1:1", Bad),
+    ("write 1 1:1 ", Bad),
+    ("write 1 1:1 7  8", Bad),
+    ("write 1 1:1 7 8 ", Bad),
+    ("write 1 1:1 7 x", Bad),
+    ("rect 1 1:2,1:2", Rect(1, &[1, 1], &[2, 2])),
+    ("rect 1", Bad),
+    ("rect 1 1:2 ", Bad),
+    ("rect 1 1:2 3", Bad),
+    ("stat 1", Stat(1)),
+    ("stat", Bad),
+    ("stat 1 ", Bad),
+    ("stat x", Bad),
+    ("sum 1", Sum(1)),
+    ("sum", Bad),
+    ("sum 1 2", Bad),
+    ("stamp 1", Stamp(1)),
+    ("stamp", Bad),
+    ("stamp 1 2", Bad),
+    // new images, and HDUs that go
+    ("new 2 u8 -", New(2, Kind::U8, &[])),
+    ("new 2 i8 0", New(2, Kind::I8, &[0])),
+    ("new 2 i16 1,2", New(2, Kind::I16, &[1, 2])),
+    ("new 2 u16 00,01", New(2, Kind::U16, &[0, 1])),
+    ("new 2 i32 3", New(2, Kind::I32, &[3])),
+    ("new 2 u32 4", New(2, Kind::U32, &[4])),
+    ("new 2 i64 5", New(2, Kind::I64, &[5])),
+    (
+        "new 0 u64 999999999999999999,000000000000000007",
+        New(0, Kind::U64, &[999_999_999_999_999_999, 7]),
+    ),
+    (
+        "new 999999999999999999 u8 -",
+        New(999_999_999_999_999_999, Kind::U8, &[]),
+    ),
+    ("new", Bad),
+    ("new ", Bad),
+    ("new 2", Bad),
+    ("new 2 ", Bad),
+    ("new 2 u8", Bad),
+    ("new 2 u8 ", Bad),
+    ("new 2 u8  -", Bad),
+    ("new 2  u8 -", Bad),
+    ("new  2 u8 -", Bad),
+    ("new 2 u8 - ", Bad),
+    ("new 2 u8 --", Bad),
+    ("new 2 u8 -1", Bad),
+    ("new 2 u8 +1", Bad),
+    ("new 2 u8 -,1", Bad),
+    ("new 2 u8 1,-", Bad),
+    ("new 2 u8 3,", Bad),
+    ("new 2 u8 ,3", Bad),
+    ("new 2 u8 ,", Bad),
+    ("new 2 u8 3,,4", Bad),
+    ("new 2 u8 3, 4", Bad),
+    ("new 2 u8 3 4", Bad),
+    ("new 2 u8 3x4", Bad),
+    ("new 2 u8 3 ", Bad),
+    ("new 2 u8 3:4", Bad),
+    ("new 2 u8 1000000000000000000", Bad),
+    ("new 2 u8 9223372036854775808", Bad),
+    ("new 2 u8 3,0000000000000000001", Bad),
+    ("new 2 U8 -", Bad),
+    ("new 2 8 -", Bad),
+    ("new 2 u -", Bad),
+    ("new 2 u88 -", Bad),
+    ("new 2 u128 -", Bad),
+    ("new 2 f32 -", Bad),
+    ("new 2 -32 3", Bad),
+    ("new x u8 -", Bad),
+    ("new -1 u8 -", Bad),
+    ("new u8 -", Bad),
+    ("new 1000000000000000000 u8 -", Bad),
+    ("new 2 u8 -\r", Bad),
+    ("NEW 2 u8 -", Bad),
+    ("rm 1", Rm(1)),
+    ("rm 0", Rm(0)),
+    ("rm 000000000000000012", Rm(12)),
+    ("rm", Bad),
+    ("rm ", Bad),
+    ("rm 1 ", Bad),
+    ("rm 1 2", Bad),
+    ("rm  1", Bad),
+    ("rm x", Bad),
+    ("rm -1", Bad),
+    ("rm 1000000000000000000", Bad),
+    ("rm 1\r", Bad),
+    ("RM 1", Bad),
     // 80 bytes, and 81
     (
         "ins 1 4 yyyyyyyyyyyyyyyyyyyyyyyyyyyyyyyyyyyyyyyyyyyyyyyyyyyyyyyyyyyyyyyyyyyyyyyyyyyyyyyy",
@@ -256,6 +386,11 @@ fn says(alloc: Global, command: Command, said: Said<'_>) -> Result<bool, AllocEr
             Ok(matches!(said, Pos(h, text) if h == hdu && name_of(text) == name))
         }
         Command::Report => Ok(matches!(said, Rep)),
+        Command::Statistics { hdu } => Ok(matches!(said, Stat(h) if h == hdu)),
+        Command::Rectangle { hdu, lo, hi } => Ok(
+            matches!(said, Rect(h, l, u) if h == hdu && lo.as_slice() == l && hi.as_slice() == u),
+        ),
+        Command::Sums { hdu } => Ok(matches!(said, Sum(h) if h == hdu)),
         Command::Edit(edit) => edits(alloc, edit, said),
     }
 }
@@ -288,6 +423,22 @@ fn edits(alloc: Global, edit: Edit, said: Said<'_>) -> Result<bool, AllocError> 
         Edit::Unset { hdu, name } => {
             Ok(matches!(said, Unset(h, text) if h == hdu && name_of(text) == name))
         }
+        Edit::Fill { hdu, lo, hi, value } => Ok(
+            matches!(said, Fill(h, l, u, v) if h == hdu && lo.as_slice() == l && hi.as_slice() == u && v == value),
+        ),
+        Edit::Write {
+            hdu,
+            lo,
+            hi,
+            values,
+        } => Ok(
+            matches!(said, Write(h, l, u, v) if h == hdu && lo.as_slice() == l && hi.as_slice() == u && v == values.as_slice()),
+        ),
+        Edit::Stamp { hdu } => Ok(matches!(said, Stamp(h) if h == hdu)),
+        Edit::NewImage { at, kind, axes } => Ok(
+            matches!(said, New(h, k, numbers) if h == at && k == kind && axes.as_slice() == numbers),
+        ),
+        Edit::RemoveHdu { hdu } => Ok(matches!(said, Rm(h) if h == hdu)),
     }
 }
 

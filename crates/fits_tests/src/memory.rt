@@ -5,19 +5,20 @@
 
 use crate::builders::{
     COMMENTS, FileText, P0, PIXEL, add_cards, card_of, end_header, file_of, hdu_of, header_of,
-    name_of, repeated,
+    name_of, open_hdu, repeated, zeroed_file_of,
 };
 use crate::hdus::ASKED;
 use crate::planned::{SMOOTH, reader, writer};
+use crate::reports::{A, NAMED_TWICE};
 use crate::runs::{ALL_SMOOTH, Ran, edit, tell};
 use crate::shapes::{ShapeText, check_shape};
-use crate::streams::{LISTED_LINES, REPORTED_LINES};
+use crate::streams::{LISTED_LINES, NAMED_LINES, REPORTED_LINES, SUMMED_LINES};
 use crate::values::line_of;
 use fits_card::{HeaderFault, Name, cut_header};
 use fits_cli::{Command, End, Fault, LineFault, parse_line};
 use fits_hdu::{Hdu, HduFault, KeywordFault};
 use fits_rules::{Class, ShapeFault, shape};
-use fits_session::{Edit, OpenFault, ReadFileFault, Refusal, Session, read_outlines};
+use fits_session::{Edit, OpenFault, ReadFileFault, Refusal, Session, read_outlines, read_sums};
 use fits_value::{Text, Value, long_value, read_field, read_value};
 use std::alloc::{AllocError, Global};
 use std::process::Abort;
@@ -154,7 +155,7 @@ fn refused_memory_at_an_hdu(rt: HostRuntime) {
         return;
     };
     for _ in 0..2 {
-        match Hdu::open(rt.alloc(), &bytes, false) {
+        match open_hdu(rt.alloc(), &bytes, false) {
             Ok((hdu, len)) => {
                 assert_eq!(rt; hdu.data_len(), 2880);
                 assert_eq!(rt; len, 5760);
@@ -169,7 +170,7 @@ fn refused_memory_at_a_keyword(rt: HostRuntime) {
     let Ok(bytes) = hdu_of(rt.alloc(), ASKED, 0) else {
         return;
     };
-    let Ok((mut hdu, _)) = Hdu::open(rt.alloc(), &bytes, true) else {
+    let Ok((mut hdu, _)) = open_hdu(rt.alloc(), &bytes, true) else {
         return;
     };
     for _ in 0..2 {
@@ -193,16 +194,19 @@ fn full_file(alloc: Global, more: &str) -> Result<Vec<u8>, AllocError> {
     Ok(bytes)
 }
 
-// Whether two files give the same answers. Err: the memory for a comparison was refused.
-fn same_answers<R: Abort + AllocGlobal>(
+/// Whether two files give the same answers. Err: the memory for a comparison was refused.
+pub fn same_answers<R: Abort + AllocGlobal>(
     rt: &R,
     one: &mut Session,
     other: &mut Session,
 ) -> Result<(), AllocError> {
     assert_eq!(rt; one.hdus(), other.hdus());
-    for h in 0..4usize {
+    for h in 0..one.hdus().wrapping_add(2) {
         assert_eq!(rt; one.card_count(h), other.card_count(h));
         assert_eq!(rt; one.kind(h), other.kind(h));
+        assert_eq!(rt; one.stats(h), other.stats(h));
+        assert_eq!(rt; one.datasum(h), other.datasum(h));
+        assert_eq!(rt; one.verdicts(h), other.verdicts(h));
         assert_eq!(rt; one.shape(h).is_ok(), other.shape(h).is_ok());
         for name in ["XTENSION", "BITPIX", "KEY", "NEW"] {
             let line = answer(rt.alloc(), one, h, name)?;
@@ -212,6 +216,10 @@ fn same_answers<R: Abort + AllocGlobal>(
         }
         let found = names(one, h)?;
         assert!(rt; found == names(other, h)?);
+        for corner in [[1u64].as_slice(), [1u64, 1].as_slice()] {
+            let found = pixels(one, h, corner)?;
+            assert!(rt; found == pixels(other, h, corner)?);
+        }
     }
     assert!(rt; one.offsets()?.as_slice() == other.offsets()?.as_slice());
     assert!(rt; one.report()?.as_slice() == other.report()?.as_slice());
@@ -241,6 +249,18 @@ fn places(
     name: &str,
 ) -> Result<Result<Vec<usize>, Refusal>, AllocError> {
     match session.positions(h, &name_of(name)) {
+        Err(Refusal::Memory) => Err(AllocError),
+        answer => Ok(answer),
+    }
+}
+
+// The pixel of an HDU at these places.
+fn pixels(
+    session: &mut Session,
+    h: usize,
+    corner: &[u64],
+) -> Result<Result<Vec<i128>, Refusal>, AllocError> {
+    match session.rect(h, corner, corner) {
         Err(Refusal::Memory) => Err(AllocError),
         answer => Ok(answer),
     }
@@ -306,12 +326,18 @@ const EDITS: &[EditText<'static>] = &[
         "A|B|END",
         None,
     ),
+    (
+        "stamp 2",
+        "A|END",
+        "A|CHECKSUM= 'RAF9T2D7R9D7R9D7'|DATASUM = '0       '|END",
+        None,
+    ),
     ("ins 2 2 X", "A|END", "A|END", Some(Refusal::Shape)),
     ("set 2 NAXIS 2", "A|END", "A|END", Some(Refusal::Shape)),
     ("del 2 4", "A|END", "A|END", Some(Refusal::Shape)),
 ];
 
-// A file of two HDUs, the second with these cards behind its mandatory ones, and a tail.
+// A file of two HDUs, the second with these cards after its mandatory ones, and a tail.
 fn edited_file(alloc: Global, cards: &str) -> Result<Vec<u8>, AllocError> {
     let mut bytes = hdu_of(alloc, P0, 0)?;
     add_cards(
@@ -329,23 +355,114 @@ fn check_edit<R: Abort + AllocGlobal>(rt: &R, text: EditText<'_>) -> Result<(), 
     let (line, before, after, refusal) = text;
     let before = edited_file(rt.alloc(), before)?;
     let after = edited_file(rt.alloc(), after)?;
-    let Ok(mut session) = Session::open(rt.alloc(), &before) else {
-        return Err(AllocError);
-    };
-    let Ok(Command::Edit(edit)) = parse_line(rt.alloc(), line.as_bytes()) else {
-        return Err(AllocError);
-    };
+    check_line(rt, line, &before, &after, refusal, true)
+}
+
+// Makes the edit of a line in a file, and tells whether it comes to the one that is wanted or is refused so; memory may
+// run out in it or not. Err: the memory for a comparison was refused.
+fn check_line<R: Abort + AllocGlobal>(
+    rt: &R,
+    line: &str,
+    before: &[u8],
+    after: &[u8],
+    refusal: Option<Refusal>,
+    takes_memory: bool,
+) -> Result<(), AllocError> {
+    let mut session = opened(rt, before)?;
+    let edit = edit_said(rt, line)?;
     let refused = session.edit(edit).err();
     assert!(rt;
-        refused == refusal || refused == Some(Refusal::Memory),
+        refused == refusal || (takes_memory && refused == Some(Refusal::Memory)),
         "{line:?}"
     );
     // nothing else is refused after a refusal
-    let bytes = if refused.is_none() { &after } else { &before };
-    let Ok(mut fresh) = Session::open(rt.alloc(), bytes) else {
-        return Err(AllocError);
-    };
+    let bytes = if refused.is_none() { after } else { before };
+    let mut fresh = opened(rt, bytes)?;
     same_answers(rt, &mut session, &mut fresh)
+}
+
+// A file that opens, if there is memory for it.
+fn opened<R: Abort + AllocGlobal>(rt: &R, bytes: &[u8]) -> Result<Session, AllocError> {
+    match Session::open(rt.alloc(), bytes) {
+        Ok(session) => Ok(session),
+        Err(why) => {
+            assert_eq!(rt; why, OpenFault::Memory);
+            Err(AllocError)
+        }
+    }
+}
+
+// The edit that a line says, if there is memory for it.
+fn edit_said<R: Abort + AllocGlobal>(rt: &R, line: &str) -> Result<Edit, AllocError> {
+    match parse_line(rt.alloc(), line.as_bytes()) {
+        Ok(Command::Edit(edit)) => Ok(edit),
+        said => {
+            assert_eq!(rt; said.err(), Some(LineFault::Memory), "{line:?}");
+            Err(AllocError)
+        }
+    }
+}
+
+/// A new image of four pixels, and one without.
+const NEW_U16: &str =
+    "XTENSION= 'IMAGE   '|BITPIX  =                   16|NAXIS   =                    2|\
+    NAXIS1  =                    2|NAXIS2  =                    2|PCOUNT  =                    0|\
+    GCOUNT  =                    1|BSCALE  =                    1|BZERO   =                32768|END";
+
+const NEW_U8: &str =
+    "XTENSION= 'IMAGE   '|BITPIX  =                    8|NAXIS   =                    0|\
+    PCOUNT  =                    0|GCOUNT  =                    1|END";
+
+/// Two HDUs whose data are zeros, and a tail.
+const TWO: FileText<'static> = (&[(P0, 0), (PIXEL, 1)], "tail");
+
+/// A line that edits the HDUs of a file, the file before and after, the refusal, and whether memory may run out in it.
+type HduEditText<'a> = (&'a str, FileText<'a>, FileText<'a>, Option<Refusal>, bool);
+
+const HDU_EDITS: &[HduEditText<'static>] = &[
+    (
+        "new 2 u16 2,2",
+        TWO,
+        (&[(P0, 0), (NEW_U16, 1), (PIXEL, 1)], "tail"),
+        None,
+        true,
+    ),
+    (
+        "new 3 u8 -",
+        TWO,
+        (&[(P0, 0), (PIXEL, 1), (NEW_U8, 0)], "tail"),
+        None,
+        true,
+    ),
+    (
+        "new 2 u64 999999999999999999",
+        TWO,
+        TWO,
+        Some(Refusal::TooLarge),
+        true,
+    ),
+    ("new 4 u8 2", TWO, TWO, Some(Refusal::NoHdu), false),
+    ("new 1 u8 2", TWO, TWO, Some(Refusal::PrimaryStays), false),
+    // taking an HDU out asks for none
+    ("rm 2", TWO, (&[(P0, 0)], "tail"), None, false),
+    ("rm 3", NAMED_TWICE, (&[(P0, 0), (A, 0)], ""), None, false),
+    ("rm 1", TWO, TWO, Some(Refusal::PrimaryStays), false),
+    ("rm 3", TWO, TWO, Some(Refusal::NoHdu), false),
+];
+
+// Makes an edit of HDUs. Err: the memory for a file or a comparison was refused.
+fn check_hdu_edit<R: Abort + AllocGlobal>(rt: &R, text: HduEditText<'_>) -> Result<(), AllocError> {
+    let (line, before, after, refusal, takes_memory) = text;
+    let before = zeroed_file_of(rt.alloc(), before)?;
+    let after = zeroed_file_of(rt.alloc(), after)?;
+    check_line(rt, line, &before, &after, refusal, takes_memory)
+}
+
+#[test]
+fn refused_memory_at_an_edit_of_hdus(rt: HostRuntime) {
+    for text in HDU_EDITS {
+        let _ = check_hdu_edit(&rt, *text);
+    }
 }
 
 #[test]
@@ -360,6 +477,10 @@ fn refused_memory_at_reading(rt: HostRuntime) {
         }
         match read_outlines(rt.alloc(), &mut reader(&bytes, SMOOTH)) {
             Ok(outlines) => assert_eq!(rt; outlines.len(), 2),
+            Err(why) => assert_eq!(rt; why, ReadFileFault::Open(OpenFault::Memory)),
+        }
+        match read_sums(rt.alloc(), &mut reader(&bytes, SMOOTH)) {
+            Ok(sums) => assert_eq!(rt; sums.len(), 2),
             Err(why) => assert_eq!(rt; why, ReadFileFault::Open(OpenFault::Memory)),
         }
     }
@@ -379,8 +500,19 @@ fn refused_memory_at_a_line(rt: HostRuntime) {
             Ok(command) => assert!(rt; matches!(command, Command::Edit(Edit::Set { .. }))),
             Err(fault) => assert_eq!(rt; fault, LineFault::Memory),
         }
-        // a line without a reading, and one that sets nothing, need none
-        for (line, is_bad) in [("set 1 KEY 'open", true), ("put 1 4 X", false)] {
+        match parse_line(rt.alloc(), b"new 2 u16 3,2") {
+            Ok(command) => assert!(rt; matches!(command, Command::Edit(Edit::NewImage { .. }))),
+            Err(fault) => assert_eq!(rt; fault, LineFault::Memory),
+        }
+        // a line without a reading, and one that holds no text and no axes, need none
+        for (line, is_bad) in [
+            ("set 1 KEY 'open", true),
+            ("put 1 4 X", false),
+            ("rm 2", false),
+            ("new 2 u8 3,", true),
+            ("new 2 f32 3", true),
+            ("new 2 u8 -", false),
+        ] {
             let fault = parse_line(rt.alloc(), line.as_bytes()).err();
             assert_eq!(rt; fault, if is_bad { Some(LineFault::Bad) } else { None });
         }
@@ -497,7 +629,7 @@ fn refused_memory_prints_no_other_value(rt: HostRuntime) {
 
 #[test]
 fn refused_memory_tells_no_other_lines(rt: HostRuntime) {
-    for (told, file, lines, status) in [LISTED_LINES, REPORTED_LINES] {
+    for (told, file, lines, status) in [LISTED_LINES, REPORTED_LINES, NAMED_LINES, SUMMED_LINES] {
         let Ok(file) = file_of(rt.alloc(), file) else {
             return;
         };

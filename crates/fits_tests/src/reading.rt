@@ -2,7 +2,7 @@
 
 use crate::builders::{FileText, P0, PIXEL, file_of};
 use crate::planned::{Plan, SMOOTH, reader};
-use fits_session::{OpenFault, ReadFileFault, Session, read_outlines};
+use fits_session::{OpenFault, ReadFileFault, Session, read_outlines, read_sums};
 use std::process::Abort;
 use std::test::Fail;
 
@@ -43,6 +43,26 @@ fn each_prefix_of_a_file_has_its_fault(rt: HostRuntime) -> Result<(), Fail> {
         for len in *least..=*most {
             let (front, _) = bytes.split_at(len.min(bytes.len()));
             reads_to(&rt, front, SMOOTH, fault.map(ReadFileFault::Open), len);
+        }
+    }
+    Ok(())
+}
+
+#[test]
+fn the_ends_of_prefixes_are_summed_or_refused_alike(rt: HostRuntime) -> Result<(), Fail> {
+    let bytes = file_of(rt.alloc(), FILE)?;
+    for (least, most, fault) in PREFIXES {
+        for len in [*least, *most] {
+            let (front, _) = bytes.split_at(len.min(bytes.len()));
+            for step in [7usize, 2880, 1_000_000] {
+                let plan = Plan { step, failing: 0 };
+                let found = read_sums(rt.alloc(), &mut reader(front, plan)).err();
+                assert_eq!(rt;
+                    found,
+                    fault.map(ReadFileFault::Open),
+                    "{len} bytes by {step}"
+                );
+            }
         }
     }
     Ok(())

@@ -1,8 +1,9 @@
 //! What is wrong with files: the report of a script and of `verify`, expected lines by hand.
 
-use crate::builders::{FileText, P0, PIXEL, THREE_PIXELS, file_of};
+use crate::builders::{FileText, P0, PIXEL, THREE_PIXELS, zeroed_file_of};
 use crate::runs::{ALL_SMOOTH, edit, verify};
 use fits_cli::{End, Level};
+use std::process::Abort;
 use std::test::Fail;
 
 /// A primary array of two pixels of 16 bits.
@@ -16,6 +17,43 @@ const ONE_PIXEL: &str = "SIMPLE  =                    T|BITPIX  =               
 /// An image extension without data, and three things wrong with it as a whole.
 const THREE_WRONG: &str = "XTENSION= 'IMAGE   '|BITPIX  =                    8|\
     NAXIS   =                    0|SIMPLE  =                    T|END     x";
+
+/// Image extensions without data, and what calls them: A, A of version 1, A of a version that is a string, and A of
+/// version 2.
+pub const A: &str =
+    "XTENSION= 'IMAGE   '|BITPIX  =                    8|NAXIS   =                    0|\
+    PCOUNT  =                    0|GCOUNT  =                    1|EXTNAME = 'A       '|END";
+
+const A_1: &str =
+    "XTENSION= 'IMAGE   '|BITPIX  =                    8|NAXIS   =                    0|\
+    PCOUNT  =                    0|GCOUNT  =                    1|EXTNAME = 'A'|\
+    EXTVER  =                    1|END";
+
+const A_TEXT: &str =
+    "XTENSION= 'IMAGE   '|BITPIX  =                    8|NAXIS   =                    0|\
+    PCOUNT  =                    0|GCOUNT  =                    1|EXTVER  = '2       '|EXTNAME = 'A'|END";
+
+const A_2: &str =
+    "XTENSION= 'IMAGE   '|BITPIX  =                    8|NAXIS   =                    0|\
+    PCOUNT  =                    0|GCOUNT  =                    1|EXTNAME = 'A'|EXTVER  = 2|END";
+
+/// Extensions of other types of this name, and of one whose text is spelled without its spaces.
+const OTHER_A: &str =
+    "XTENSION= 'OTHER   '|BITPIX  =                    8|NAXIS   =                    0|\
+    PCOUNT  =                    0|GCOUNT  =                    1|EXTNAME = 'A       '|END";
+
+const FOREIGN_A: &str =
+    "XTENSION= 'FOREIGN '|BITPIX  =                    8|NAXIS   =                    0|\
+    PCOUNT  =                    0|GCOUNT  =                    1|EXTNAME = 'A       '|END";
+
+const SHORT_A: &str =
+    "XTENSION= 'IMAGE'|BITPIX  =                    8|NAXIS   =                    0|\
+    PCOUNT  =                    0|GCOUNT  =                    1|EXTNAME = 'A       '|END";
+
+/// An extension without a name.
+const UNNAMED: &str =
+    "XTENSION= 'IMAGE   '|BITPIX  =                    8|NAXIS   =                    0|\
+    PCOUNT  =                    0|GCOUNT  =                    1|END";
 
 /// Nothing is wrong.
 const CLEAN: &str = "errors 0 warnings 0\n";
@@ -160,10 +198,120 @@ const SCRIPTS: &[(FileText<'static>, &str, &str, u8)] = &[
     ),
 ];
 
+/// Extensions of one name: a file, a script, its answers and its status.
+const NAMES: &[(FileText<'static>, &str, &str, u8)] = &[
+    // a missing EXTVER is 1
+    (
+        NAMED_TWICE,
+        "rep\nset 3 EXTNAME 'B'\nrep\nset 3 EXTNAME 'A'\nrep\nrm 3\nrep",
+        "W25 2 0 two extensions of one type, name and version\nW25 3 0 two extensions of one type, name and version\n\
+         errors 0 warnings 2\nerrors 0 warnings 0\n\
+         W25 2 0 two extensions of one type, name and version\nW25 3 0 two extensions of one type, name and version\n\
+         errors 0 warnings 2\nerrors 0 warnings 0\n",
+        0,
+    ),
+    (
+        NAMED_TWICE,
+        "set 2 EXTVER 2\nrep\nset 3 EXTVER 2\nrep\nunset 2 EXTVER\nunset 3 EXTVER\nrep\nset 2 EXTVER -1\nset 3 EXTVER -1\nrep\n\
+         set 2 EXTVER 0\nunset 3 EXTVER\nrep",
+        "errors 0 warnings 0\n\
+         W25 2 0 two extensions of one type, name and version\nW25 3 0 two extensions of one type, name and version\n\
+         errors 0 warnings 2\n\
+         W25 2 0 two extensions of one type, name and version\nW25 3 0 two extensions of one type, name and version\n\
+         errors 0 warnings 2\n\
+         W25 2 0 two extensions of one type, name and version\nW25 3 0 two extensions of one type, name and version\n\
+         errors 0 warnings 2\nerrors 0 warnings 0\n",
+        0,
+    ),
+    // each of three is told, and what is no integer of 64 bits is version 1
+    (
+        (&[(P0, 0), (A, 0), (A_1, 0), (A_TEXT, 0), (A_2, 0)], ""),
+        "rep\nset 5 EXTVER 9223372036854775808\nset 4 EXTVER\nrm 2\nrep\nset 4 EXTVER 01\nset 3 EXTVER 1.0\nrep",
+        "W25 2 0 two extensions of one type, name and version\nW25 3 0 two extensions of one type, name and version\n\
+         W25 4 0 two extensions of one type, name and version\nE05 4 6 value of the wrong type\n\
+         errors 1 warnings 3\n\
+         W25 2 0 two extensions of one type, name and version\nW25 3 0 two extensions of one type, name and version\n\
+         W04 3 6 undefined value\n\
+         W25 4 0 two extensions of one type, name and version\nerrors 0 warnings 4\n\
+         W25 2 0 two extensions of one type, name and version\nW25 3 0 two extensions of one type, name and version\n\
+         E05 3 6 value of the wrong type\n\
+         W25 4 0 two extensions of one type, name and version\nerrors 1 warnings 3\n",
+        0,
+    ),
+    // without a name that names something there is none
+    (
+        (&[(P0, 0), (UNNAMED, 0), (UNNAMED, 0)], ""),
+        "rep\nset 2 EXTNAME ''\nset 3 EXTNAME ''\nrep\nset 2 EXTNAME ' '\nset 3 EXTNAME '   '\nrep\nset 2 EXTNAME\nset 3 EXTNAME\nrep\n\
+         set 2 EXTNAME 5\nset 3 EXTNAME 5\nrep",
+        "errors 0 warnings 0\nerrors 0 warnings 0\nerrors 0 warnings 0\n\
+         W04 2 6 undefined value\nW04 3 6 undefined value\nerrors 0 warnings 2\n\
+         E05 2 6 value of the wrong type\nE05 3 6 value of the wrong type\nerrors 2 warnings 0\n",
+        0,
+    ),
+    // by type too, and the primary HDU isn't called anything
+    (
+        (&[(P0, 0), (A, 0), (OTHER_A, 0), (FOREIGN_A, 0)], "x"),
+        "set 1 EXTNAME 'A'\nrep\nset 4 XTENSION 'OTHER'\nset 3 XTENSION 'IMAGE'\nrep",
+        "W26 5 0 bytes after the last HDU\nerrors 0 warnings 1\nline 4: refused 6 Shape\n\
+         W25 3 0 two extensions of one type, name and version\nW25 4 0 two extensions of one type, name and version\n\
+         W26 5 0 bytes after the last HDU\nerrors 0 warnings 3\n",
+        1,
+    ),
+    // spaces at the end don't count, any other difference does
+    (
+        (&[(P0, 0), (A, 0), (SHORT_A, 0)], ""),
+        "rep\nset 3 EXTNAME 'A  '\nrep\nset 3 EXTNAME ' A'\nrep\nset 3 EXTNAME 'a'\nrep\nset 3 EXTNAME 'AA'\nrep",
+        "W25 2 0 two extensions of one type, name and version\nW25 3 0 two extensions of one type, name and version\n\
+         E06 3 1 mandatory card not in fixed format\nerrors 1 warnings 2\n\
+         W25 2 0 two extensions of one type, name and version\nW25 3 0 two extensions of one type, name and version\n\
+         E06 3 1 mandatory card not in fixed format\nerrors 1 warnings 2\n\
+         E06 3 1 mandatory card not in fixed format\nerrors 1 warnings 0\n\
+         E06 3 1 mandatory card not in fixed format\nerrors 1 warnings 0\n\
+         E06 3 1 mandatory card not in fixed format\nerrors 1 warnings 0\n",
+        0,
+    ),
+    // the first EXTNAME with a value counts, alone
+    (
+        NAMED_TWICE,
+        "ins 3 6 EXTNAME = 'B'\nrep\nput 3 6 EXTNAME   'B'\nrep\nput 3 6 EXTNAME = 'A&'\nins 3 7 CONTINUE  'B'\nput 2 6 EXTNAME = 'A&'\nrep",
+        "W08 3 7 keyword repeated\nerrors 0 warnings 1\n\
+         W25 2 0 two extensions of one type, name and version\nW25 3 0 two extensions of one type, name and version\n\
+         errors 0 warnings 2\n\
+         W25 2 0 two extensions of one type, name and version\nW10 2 6 ampersand not continued\n\
+         W25 3 0 two extensions of one type, name and version\nW08 3 8 keyword repeated\nerrors 0 warnings 4\n",
+        0,
+    ),
+    // new ones, and those that move; after the sums of an HDU by the number of the code
+    (
+        (&[(P0, 0)], ""),
+        "new 2 u8 -\nnew 2 i16 -\nset 2 EXTNAME 'A'\nset 3 EXTNAME 'A'\nnew 3 u8 -\nrep\nset 4 DATASUM '1'\nrep\nstamp 2\nstamp 4\nrep\nrm 2\nrep",
+        "W25 2 0 two extensions of one type, name and version\nW25 4 0 two extensions of one type, name and version\n\
+         errors 0 warnings 2\n\
+         W25 2 0 two extensions of one type, name and version\nW23 4 0 DATASUM is wrong\n\
+         W25 4 0 two extensions of one type, name and version\nerrors 0 warnings 3\n\
+         W25 2 0 two extensions of one type, name and version\nW25 4 0 two extensions of one type, name and version\n\
+         errors 0 warnings 2\nerrors 0 warnings 0\n",
+        0,
+    ),
+];
+
 #[test]
 fn a_report_follows_the_edits(rt: HostRuntime) -> Result<(), Fail> {
-    for (file, script, answers, status) in SCRIPTS {
-        let file = file_of(rt.alloc(), *file)?;
+    check_scripts(&rt, SCRIPTS)
+}
+
+#[test]
+fn extensions_of_one_name_are_told(rt: HostRuntime) -> Result<(), Fail> {
+    check_scripts(&rt, NAMES)
+}
+
+// The scripts of a table.
+fn check_scripts<R: Abort + AllocGlobal>(
+    rt: &R,
+    scripts: &[(FileText<'_>, &str, &str, u8)],
+) -> Result<(), Fail> {
+    for (file, script, answers, status) in scripts {
+        let file = zeroed_file_of(rt.alloc(), *file)?;
         let ran = edit(rt.alloc(), &file, script.as_bytes(), ALL_SMOOTH)?;
         assert_eq!(rt; ran.printed.as_slice(), answers.as_bytes(), "{script:?}");
         assert_eq!(rt;
@@ -198,6 +346,13 @@ pub const REPORT: &str = "E14 2 0 END card not blank\nE16 2 0 PCOUNT or GCOUNT o
     E18 2 0 SIMPLE or XTENSION in the wrong kind of HDU\n\
     W26 3 0 bytes after the last HDU\nerrors 3 warnings 1\n";
 
+/// A file of two extensions of one name, where a missing EXTVER is 1.
+pub const NAMED_TWICE: FileText<'static> = (&[(P0, 0), (A, 0), (A_1, 0)], "");
+
+/// The report of that file.
+pub const NAMED_REPORT: &str = "W25 2 0 two extensions of one type, name and version\n\
+    W25 3 0 two extensions of one type, name and version\nerrors 0 warnings 2\n";
+
 /// A file, how much of its report is printed, what is, and the status.
 const VERIFIED: &[(FileText<'static>, Level, &str, u8)] = &[
     ((&[(P0, 0), (PIXEL, 1)], ""), Level::All, CLEAN, 0),
@@ -212,6 +367,9 @@ const VERIFIED: &[(FileText<'static>, Level, &str, u8)] = &[
         1,
     ),
     (WRONG, Level::Quiet, "errors 3 warnings 1\n", 1),
+    (NAMED_TWICE, Level::All, NAMED_REPORT, 0),
+    (NAMED_TWICE, Level::Errors, "errors 0 warnings 2\n", 0),
+    (NAMED_TWICE, Level::Quiet, "errors 0 warnings 2\n", 0),
     // warnings alone are no error
     (
         (&[(P0, 0)], "x"),
@@ -226,7 +384,7 @@ const VERIFIED: &[(FileText<'static>, Level, &str, u8)] = &[
 #[test]
 fn a_file_is_verified(rt: HostRuntime) -> Result<(), Fail> {
     for (file, level, text, status) in VERIFIED {
-        let bytes = file_of(rt.alloc(), *file)?;
+        let bytes = zeroed_file_of(rt.alloc(), *file)?;
         let ran = verify(rt.alloc(), *level, &bytes, ALL_SMOOTH)?;
         assert_eq!(rt; ran.printed.as_slice(), text.as_bytes());
         assert_eq!(rt;

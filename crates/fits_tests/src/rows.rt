@@ -79,7 +79,7 @@ const SHORTEST: &[(&str, &str, u8)] = &[
     ("ins 1 1 END", "line 1: refused 5 EndCard\n", 1),
     ("frob", "line 1: not a command\n", 1),
     (
-        "rep\nstat 1\nfrob\n",
+        "rep\nnew 1\nfrob\n",
         "errors 0 warnings 0\nline 2: not a command\nline 3: not a command\n",
         1,
     ),
@@ -787,7 +787,7 @@ fn a_file_that_does_not_open_ends_the_run(rt: HostRuntime) -> Result<(), Fail> {
         let ran = edit(rt.alloc(), front, b"off\nfrob\n", ALL_SMOOTH)?;
         check_closed(&rt, &ran, text)?;
         assert_eq!(rt; ran.script_calls, 0, "{text}");
-        for told in [Told::Listing, Told::Report(Level::Quiet)] {
+        for told in [Told::Listing, Told::Report(Level::Quiet), Told::Sums] {
             check_closed(&rt, &tell(rt.alloc(), told, front, ALL_SMOOTH)?, text)?;
         }
     }

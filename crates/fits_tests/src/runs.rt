@@ -1,7 +1,7 @@
-//! Runs of scripts, listings and reports over memory.
+//! Runs of scripts, listings, reports and sums over memory.
 
 use crate::planned::{Plan, SMOOTH, reader, writer};
-use fits_cli::{End, Level, run_edit, run_list, run_verify};
+use fits_cli::{End, Level, run_edit, run_list, run_sum, run_verify};
 use std::alloc::{AllocError, Global};
 
 /// What each stream of a run does.
@@ -64,6 +64,7 @@ pub fn edit(alloc: Global, file: &[u8], script: &[u8], plans: Plans) -> Result<R
 pub enum Told {
     Listing,
     Report(Level),
+    Sums,
 }
 
 /// A run that prints a text of a file.
@@ -73,6 +74,7 @@ pub fn tell(alloc: Global, told: Told, file: &[u8], plans: Plans) -> Result<Ran,
     let end = match told {
         Told::Listing => run_list(alloc, &mut file, &mut out),
         Told::Report(level) => run_verify(alloc, level, &mut file, &mut out),
+        Told::Sums => run_sum(alloc, &mut file, &mut out),
     };
     let out = out.into_inner();
     Ok(Ran {
@@ -94,4 +96,9 @@ pub fn list(alloc: Global, file: &[u8], plans: Plans) -> Result<Ran, AllocError>
 /// A report of a file.
 pub fn verify(alloc: Global, level: Level, file: &[u8], plans: Plans) -> Result<Ran, AllocError> {
     tell(alloc, Told::Report(level), file, plans)
+}
+
+/// The sums of a file.
+pub fn sum(alloc: Global, file: &[u8], plans: Plans) -> Result<Ran, AllocError> {
+    tell(alloc, Told::Sums, file, plans)
 }

@@ -2,8 +2,9 @@
 
 use crate::builders::{FileText, P0, PIXEL, file_of, hdu_of};
 use crate::planned::Plan;
-use crate::reports::{REPORT, WRONG};
+use crate::reports::{NAMED_REPORT, NAMED_TWICE, REPORT, WRONG};
 use crate::runs::{ALL_SMOOTH, DONE, Plans, Ran, Told, edit, tell};
+use crate::summings::{SUMMED, SUMS};
 use fits_cli::{End, Fault, Level};
 use std::process::Abort;
 use std::test::Fail;
@@ -239,6 +240,10 @@ pub const LISTED_LINES: ToldText = (Told::Listing, LISTED, LISTING, 0);
 
 pub const REPORTED_LINES: ToldText = (Told::Report(Level::All), WRONG, REPORT, 1);
 
+pub const NAMED_LINES: ToldText = (Told::Report(Level::All), NAMED_TWICE, NAMED_REPORT, 0);
+
+pub const SUMMED_LINES: ToldText = (Told::Sums, SUMMED, SUMS, 0);
+
 /// A text of a file, a stream of its run, and how many bytes each call of the stream moves.
 const TOLD_BY: &[(ToldText, Stream, usize)] = &[
     (LISTED_LINES, File, 100),
@@ -248,6 +253,12 @@ const TOLD_BY: &[(ToldText, Stream, usize)] = &[
     (REPORTED_LINES, File, 100),
     (REPORTED_LINES, Answers, 7),
     (REPORTED_LINES, Answers, 4096),
+    (NAMED_LINES, File, 4096),
+    (NAMED_LINES, Answers, 7),
+    (SUMMED_LINES, File, 100),
+    (SUMMED_LINES, File, 4096),
+    (SUMMED_LINES, Answers, 7),
+    (SUMMED_LINES, Answers, 4096),
 ];
 
 // One run where a stream has this plan. It answers whether no call failed.
@@ -301,7 +312,7 @@ fn each_call_of_a_run_that_tells_fails_once(rt: HostRuntime) -> Result<(), Fail>
         }
         assert!(rt; is_done, "{stream:?} {step}");
     }
-    for text in [LISTED_LINES, REPORTED_LINES] {
+    for text in [LISTED_LINES, REPORTED_LINES, NAMED_LINES, SUMMED_LINES] {
         assert!(rt; !is_told(&rt, text, Answers, STUCK)?);
     }
     Ok(())

@@ -1,0 +1,514 @@
+//! HDUs put in and taken out by scripts: what they print, and what is saved.
+
+use crate::builders::{P0, THREE_PIXELS, add_cards, end_header, repeated};
+use crate::long_scripts::edit_of;
+use crate::pixel_rows::{NONE, Pixels, add_pixels};
+use crate::planned::{SMOOTH, reader};
+use crate::rows::check_run;
+use crate::runs::{ALL_SMOOTH, edit};
+use fits_hdu::Kind;
+use fits_rules::Axes;
+use fits_session::{Edit, OpenFault, ReadFileFault, Refusal, Session, read_outlines};
+use std::alloc::{AllocError, Global};
+use std::test::Fail;
+
+/// A file: the cards and the pixels of its HDUs, and the bytes after the last.
+type PixelFile<'a> = (&'a [(&'a str, Pixels<'a>)], &'a str);
+
+/// The bytes of a file.
+fn pixel_file(alloc: Global, file: PixelFile<'_>) -> Result<Vec<u8>, AllocError> {
+    let (hdus, tail) = file;
+    let mut bytes = Vec::new(alloc);
+    for (cards, pixels) in hdus {
+        add_cards(&mut bytes, cards)?;
+        end_header(&mut bytes)?;
+        add_pixels(&mut bytes, *pixels)?;
+    }
+    bytes.extend_from_slice(tail.as_bytes())?;
+    Ok(bytes)
+}
+
+/// New images, by the kind of their pixels.
+const NEW_U16: &str =
+    "XTENSION= 'IMAGE   '|BITPIX  =                   16|NAXIS   =                    1|\
+    NAXIS1  =                    3|PCOUNT  =                    0|GCOUNT  =                    1|\
+    BSCALE  =                    1|BZERO   =                32768|END";
+
+const NEW_U8: &str =
+    "XTENSION= 'IMAGE   '|BITPIX  =                    8|NAXIS   =                    1|\
+    NAXIS1  =                    2|PCOUNT  =                    0|GCOUNT  =                    1|END";
+
+const NEW_I8: &str =
+    "XTENSION= 'IMAGE   '|BITPIX  =                    8|NAXIS   =                    2|\
+    NAXIS1  =                    2|NAXIS2  =                    2|PCOUNT  =                    0|\
+    GCOUNT  =                    1|BSCALE  =                    1|BZERO   =                 -128|END";
+
+const NEW_I64: &str =
+    "XTENSION= 'IMAGE   '|BITPIX  =                   64|NAXIS   =                    1|\
+    NAXIS1  =                    1|PCOUNT  =                    0|GCOUNT  =                    1|END";
+
+const NEW_U32: &str =
+    "XTENSION= 'IMAGE   '|BITPIX  =                   32|NAXIS   =                    1|\
+    NAXIS1  =                    1|PCOUNT  =                    0|GCOUNT  =                    1|\
+    BSCALE  =                    1|BZERO   =           2147483648|END";
+
+const NEW_U64: &str =
+    "XTENSION= 'IMAGE   '|BITPIX  =                   64|NAXIS   =                    1|\
+    NAXIS1  =                    1|PCOUNT  =                    0|GCOUNT  =                    1|\
+    BSCALE  =                    1|BZERO   =  9223372036854775808|END";
+
+const NEW_I16: &str =
+    "XTENSION= 'IMAGE   '|BITPIX  =                   16|NAXIS   =                    3|\
+    NAXIS1  =   999999999999999999|NAXIS2  =                    0|NAXIS3  =   999999999999999999|\
+    PCOUNT  =                    0|GCOUNT  =                    1|END";
+
+const EMPTY_8: &str =
+    "XTENSION= 'IMAGE   '|BITPIX  =                    8|NAXIS   =                    0|\
+    PCOUNT  =                    0|GCOUNT  =                    1|END";
+
+const EMPTY_I8: &str =
+    "XTENSION= 'IMAGE   '|BITPIX  =                    8|NAXIS   =                    0|\
+    PCOUNT  =                    0|GCOUNT  =                    1|BSCALE  =                    1|\
+    BZERO   =                 -128|END";
+
+const EMPTY_I32: &str =
+    "XTENSION= 'IMAGE   '|BITPIX  =                   32|NAXIS   =                    0|\
+    PCOUNT  =                    0|GCOUNT  =                    1|END";
+
+/// A named image of one pixel of 16 bits.
+const NAMED: &str =
+    "XTENSION= 'IMAGE   '|BITPIX  =                   16|NAXIS   =                    1|\
+    NAXIS1  =                    1|PCOUNT  =                    0|GCOUNT  =                    1|\
+    EXTNAME = 'SCI     '|END";
+
+/// A table of two rows of three characters.
+const TABLE: &str =
+    "XTENSION= 'TABLE   '|BITPIX  =                    8|NAXIS   =                    2|\
+    NAXIS1  =                    3|NAXIS2  =                    2|PCOUNT  =                    0|\
+    GCOUNT  =                    1|TFIELDS =                    0|END";
+
+/// A file, a script, its answers, the status, and the file that is saved.
+type Row<'a> = (PixelFile<'a>, &'a str, &'a str, u8, PixelFile<'a>);
+
+const PUT_IN: &[Row<'static>] = &[
+    // each pixel is zero bytes, so that its value is the offset
+    (
+        (&[(P0, NONE)], ""),
+        "new 2 u16 3\noff\nstat 2\nrect 2 1:3\nget 2 BZERO\npos 2 GCOUNT\nsum 2\nrep",
+        "1 0 2880 2880\n2 2880 5760 8640\ndefined 3 blank 0 min 32768 max 32768 sum 98304\n\
+         32768 32768 32768\ninteger 32768\n6\ndatasum 0 verdicts 0 0\nerrors 0 warnings 0\n",
+        0,
+        (&[(P0, NONE), (NEW_U16, (2, &[0, 0, 0], 0))], ""),
+    ),
+    (
+        (&[(P0, NONE)], ""),
+        "new 2 u16 3\nwrite 2 1:3 0 65535 1\nstat 2\nrect 2 1:3\nsum 2\nwrite 2 1:3 0 1\nrm 1\nrect 2 1:3",
+        "defined 3 blank 0 min 0 max 65535 sum 65536\n0 65535 1\ndatasum 98304 verdicts 0 0\n\
+         line 6: refused 11 WrongCount\nline 7: refused 13 PrimaryStays\n0 65535 1\n",
+        1,
+        (
+            &[(P0, NONE), (NEW_U16, (2, &[-32768, 32767, -32767], 0))],
+            "",
+        ),
+    ),
+    // one past the last, and no further
+    (
+        (&[(P0, NONE)], ""),
+        "new 2 u16 3\nnew 4 u8 -\nnew 1 u8 -\nnew 0 u8 -\nnew 3 u8 -\noff\nrm 4\nrm 0\nrm 1",
+        "line 2: refused 1 NoHdu\nline 3: refused 13 PrimaryStays\nline 4: refused 1 NoHdu\n\
+         1 0 2880 2880\n2 2880 5760 8640\n3 8640 11520 11520\n\
+         line 7: refused 1 NoHdu\nline 8: refused 1 NoHdu\nline 9: refused 13 PrimaryStays\n",
+        1,
+        (
+            &[(P0, NONE), (NEW_U16, (2, &[0, 0, 0], 0)), (EMPTY_8, NONE)],
+            "",
+        ),
+    ),
+    // each kind, its cards and what its pixels say
+    (
+        (&[(P0, NONE)], ""),
+        "new 2 u8 2\nnew 3 i8 2,2\nnew 4 i16 999999999999999999,0,999999999999999999\nnew 5 i32 -\nnew 6 u32 1\nnew 7 i64 1\nnew 8 u64 1\n\
+         stat 2\nstat 3\nstat 4\nstat 5\nstat 6\nstat 7\nstat 8\nrep",
+        "defined 2 blank 0 min 0 max 0 sum 0\ndefined 4 blank 0 min -128 max -128 sum -512\n\
+         defined 0 blank 0 min - max - sum 0\nline 11: refused 9 NotImage\n\
+         defined 1 blank 0 min 2147483648 max 2147483648 sum 2147483648\ndefined 1 blank 0 min 0 max 0 sum 0\n\
+         defined 1 blank 0 min 9223372036854775808 max 9223372036854775808 sum 9223372036854775808\n\
+         errors 0 warnings 0\n",
+        1,
+        (
+            &[
+                (P0, NONE),
+                (NEW_U8, (1, &[0, 0], 0)),
+                (NEW_I8, (1, &[0, 0, 0, 0], 0)),
+                (NEW_I16, NONE),
+                (EMPTY_I32, NONE),
+                (NEW_U32, (4, &[0], 0)),
+                (NEW_I64, (8, &[0], 0)),
+                (NEW_U64, (8, &[0], 0)),
+            ],
+            "",
+        ),
+    ),
+    // what comes after moves up, with its pixels and its cards
+    (
+        (&[(P0, NONE), (NAMED, (2, &[7], 0))], ""),
+        "new 2 u8 -\nfill 3 1:1 9\nstat 3\nget 3 EXTNAME\nget 2 EXTNAME\nsum 3\nnew 4 u8 2\nrm 2\nfill 2 1:1 -1\nstat 2\nsum 2\noff",
+        "defined 1 blank 0 min 9 max 9 sum 9\nstring 'SCI'\nline 5: refused 3 NoKey\ndatasum 589824 verdicts 0 0\n\
+         defined 1 blank 0 min -1 max -1 sum -1\ndatasum 4294901760 verdicts 0 0\n\
+         1 0 2880 2880\n2 2880 5760 8640\n3 8640 11520 14400\n",
+        1,
+        (
+            &[
+                (P0, NONE),
+                (NAMED, (2, &[-1], 0)),
+                (NEW_U8, (1, &[0, 0], 0)),
+            ],
+            "",
+        ),
+    ),
+    // a primary array and a table stay as they are
+    (
+        (
+            &[
+                (THREE_PIXELS, (2, &[1, 2, 3], 0)),
+                (TABLE, (1, &[65, 66, 67, 68, 69, 70], 32)),
+            ],
+            "",
+        ),
+        "new 2 u8 2\nrect 1 1:3\nsum 3\nset 3 EXTNAME 'T'\noff",
+        "1 2 3\ndatasum 2257077092 verdicts 0 0\n1 0 2880 5760\n2 5760 8640 11520\n3 11520 14400 17280\n",
+        0,
+        (
+            &[
+                (THREE_PIXELS, (2, &[1, 2, 3], 0)),
+                (NEW_U8, (1, &[0, 0], 0)),
+                (
+                    "XTENSION= 'TABLE   '|BITPIX  =                    8|NAXIS   =                    2|\
+                     NAXIS1  =                    3|NAXIS2  =                    2|PCOUNT  =                    0|\
+                     GCOUNT  =                    1|TFIELDS =                    0|EXTNAME = 'T       '|END",
+                    (1, &[65, 66, 67, 68, 69, 70], 32),
+                ),
+            ],
+            "",
+        ),
+    ),
+    // the new header takes cards as any other, and its fill is made of spaces
+    (
+        (&[(P0, NONE)], ""),
+        "new 2 u8 2\nins 2 7 EXTNAME = 'A'\nset 2 BLANK 0\nstat 2\ndel 2 4\nput 2 5 PCOUNT  = 1\nset 2 BZERO -128\nstat 2\nunset 2 BLANK\nunset 2 BZERO\nrep",
+        "defined 0 blank 2 min - max - sum 0\nline 5: refused 6 Shape\nline 6: refused 6 Shape\n\
+         defined 0 blank 2 min - max - sum 0\nerrors 0 warnings 0\n",
+        1,
+        (
+            &[
+                (P0, NONE),
+                (
+                    "XTENSION= 'IMAGE   '|BITPIX  =                    8|NAXIS   =                    1|\
+                     NAXIS1  =                    2|PCOUNT  =                    0|GCOUNT  =                    1|EXTNAME = 'A'|END",
+                    (1, &[0, 0], 0),
+                ),
+            ],
+            "",
+        ),
+    ),
+];
+
+const TAKEN_OUT: &[Row<'static>] = &[
+    // the bytes after the last HDU stay last
+    (
+        (&[(P0, NONE), (NAMED, (2, &[7], 0))], "trailer"),
+        "new 3 u8 2\nrm 2\noff\nrep\nnew 2 i8 -\noff\nrep",
+        "1 0 2880 2880\n2 2880 5760 8640\nW26 3 0 bytes after the last HDU\nerrors 0 warnings 1\n\
+         1 0 2880 2880\n2 2880 5760 5760\n3 5760 8640 11520\nW26 4 0 bytes after the last HDU\nerrors 0 warnings 1\n",
+        0,
+        (
+            &[(P0, NONE), (EMPTY_I8, NONE), (NEW_U8, (1, &[0, 0], 0))],
+            "trailer",
+        ),
+    ),
+    // also where it is the only extension, and where they begin as an extension would
+    (
+        (&[(P0, NONE), (NAMED, (2, &[7], 0))], "XTENSIO"),
+        "rm 2\noff\nrm 2\nnew 3 u8 -\nget 2 EXTNAME\nstat 2\nfill 2 1:1 0\nsum 2\nstamp 2\npos 2 EXTNAME\nset 2 EXTNAME 'A'\nrep",
+        "1 0 2880 2880\nline 3: refused 1 NoHdu\nline 4: refused 1 NoHdu\nline 5: refused 1 NoHdu\n\
+         line 6: refused 1 NoHdu\nline 7: refused 1 NoHdu\nline 8: refused 1 NoHdu\nline 9: refused 1 NoHdu\n\
+         line 10: refused 1 NoHdu\nline 11: refused 1 NoHdu\n\
+         W26 2 0 bytes after the last HDU\nerrors 0 warnings 1\n",
+        1,
+        (&[(P0, NONE)], "XTENSIO"),
+    ),
+    // any extension goes, and those after it move down
+    (
+        (
+            &[
+                (P0, NONE),
+                (TABLE, (1, &[65, 66, 67, 68, 69, 70], 32)),
+                (NAMED, (2, &[7], 0)),
+                (NEW_U8, (1, &[3, 4], 0)),
+            ],
+            "",
+        ),
+        "rm 2\nrect 2 1:1\nrect 3 1:2\nrm 3\nrm 3\noff\nrm 2\noff",
+        "7\n3 4\nline 5: refused 1 NoHdu\n1 0 2880 2880\n2 2880 5760 8640\n1 0 2880 2880\n",
+        1,
+        (&[(P0, NONE)], ""),
+    ),
+    // what was wrong with it is no longer reported, and what is wrong with the others goes with them
+    (
+        (
+            &[(P0, NONE), (NEW_U8, (1, &[3, 4], 1)), (NAMED, (2, &[7], 2))],
+            "",
+        ),
+        "set 3 DATASUM '1'\nrep\nrm 2\nrep\nnew 2 u8 2\nnew 2 u8 2\nrep\nrm 4\nrep\nrm 2\nrm 2",
+        "E22 2 0 bad data fill\nE22 3 0 bad data fill\nW23 3 0 DATASUM is wrong\nerrors 2 warnings 1\n\
+         E22 2 0 bad data fill\nW23 2 0 DATASUM is wrong\nerrors 1 warnings 1\n\
+         E22 4 0 bad data fill\nW23 4 0 DATASUM is wrong\nerrors 1 warnings 1\nerrors 0 warnings 0\n",
+        0,
+        (&[(P0, NONE)], ""),
+    ),
+    // an HDU that is put in and taken out leaves the file as it was, the fill of its headers too
+    (
+        (
+            &[
+                (
+                    "SIMPLE  =                    T|BITPIX  =                    8|NAXIS   =                    0|END|fill",
+                    NONE,
+                ),
+                (NAMED, (2, &[7], 0)),
+            ],
+            "x",
+        ),
+        "new 2 u64 3,3\nstamp 2\nfill 2 1:3,1:3 18446744073709551615\nrm 2",
+        "",
+        0,
+        (
+            &[
+                (
+                    "SIMPLE  =                    T|BITPIX  =                    8|NAXIS   =                    0|END|fill",
+                    NONE,
+                ),
+                (NAMED, (2, &[7], 0)),
+            ],
+            "x",
+        ),
+    ),
+];
+
+#[test]
+fn images_are_put_in(rt: HostRuntime) -> Result<(), Fail> {
+    for (file, script, answers, status, saved) in PUT_IN {
+        let file = pixel_file(rt.alloc(), *file)?;
+        let saved = pixel_file(rt.alloc(), *saved)?;
+        check_run(&rt, &file, script, answers, *status, &saved)?;
+    }
+    Ok(())
+}
+
+#[test]
+fn extensions_are_taken_out(rt: HostRuntime) -> Result<(), Fail> {
+    for (file, script, answers, status, saved) in TAKEN_OUT {
+        let file = pixel_file(rt.alloc(), *file)?;
+        let saved = pixel_file(rt.alloc(), *saved)?;
+        check_run(&rt, &file, script, answers, *status, &saved)?;
+    }
+    Ok(())
+}
+
+/// A line over the shortest file that is refused, by the first test that fails.
+const REFUSED: &[(&str, &str)] = &[
+    ("new 3 u8 -", "line 1: refused 1 NoHdu\n"),
+    ("new 0 u8 999999999999999999", "line 1: refused 1 NoHdu\n"),
+    ("new 999999999999999999 u8 -", "line 1: refused 1 NoHdu\n"),
+    (
+        "new 1 u8 999999999999999999",
+        "line 1: refused 13 PrimaryStays\n",
+    ),
+    // 2,880,000,000 bytes less the shortest file and a header is the most
+    ("new 2 u8 2879994241", "line 1: refused 14 TooLarge\n"),
+    ("new 2 u16 1439997121", "line 1: refused 14 TooLarge\n"),
+    ("new 2 u8 53667,53667", "line 1: refused 14 TooLarge\n"),
+    ("new 2 i64 359999281", "line 1: refused 14 TooLarge\n"),
+    (
+        "new 2 u8 999999999999999999",
+        "line 1: refused 14 TooLarge\n",
+    ),
+    // products of 2^63, 2^64, and more
+    (
+        "new 2 u8 4294967296,2147483648",
+        "line 1: refused 14 TooLarge\n",
+    ),
+    (
+        "new 2 u8 4294967296,4294967296",
+        "line 1: refused 14 TooLarge\n",
+    ),
+    ("new 2 u64 2305843009213693952", "line 1: not a command\n"),
+    (
+        "new 2 u64 576460752303423488,4",
+        "line 1: refused 14 TooLarge\n",
+    ),
+    (
+        "new 2 u64 576460752303423488,8",
+        "line 1: refused 14 TooLarge\n",
+    ),
+    (
+        "new 2 i32 999999999999999999,999999999999999999,999999999999999999",
+        "line 1: refused 14 TooLarge\n",
+    ),
+    ("new 2 u8 9223372036854775807", "line 1: not a command\n"),
+    ("new 2 u8 9223372036854775808", "line 1: not a command\n"),
+    ("rm 2", "line 1: refused 1 NoHdu\n"),
+    ("rm 0", "line 1: refused 1 NoHdu\n"),
+    ("rm 999999999999999999", "line 1: refused 1 NoHdu\n"),
+    ("rm 1", "line 1: refused 13 PrimaryStays\n"),
+];
+
+#[test]
+fn a_refused_edit_of_hdus_leaves_the_file(rt: HostRuntime) -> Result<(), Fail> {
+    let file = pixel_file(rt.alloc(), (&[(P0, NONE)], ""))?;
+    for (script, answers) in REFUSED {
+        check_run(&rt, &file, script, answers, 1, &file)?;
+    }
+    Ok(())
+}
+
+/// A new image at a place, a first axis, another so many times, and what is printed with the offsets.
+const MANY_AXES: &[(&str, &str, usize, &str)] = &[
+    // 999 axes: 1004 cards and END, in 28 blocks
+    ("2 u8 1", ",1", 998, "1 0 2880 2880\n2 2880 83520 86400\n"),
+    ("2 i64 0", ",0", 998, "1 0 2880 2880\n2 2880 83520 83520\n"),
+    (
+        "2 u8 0",
+        ",999999999999999999",
+        998,
+        "1 0 2880 2880\n2 2880 83520 83520\n",
+    ),
+    (
+        "2 u8 1",
+        ",999999999999999999",
+        998,
+        "line 1: refused 14 TooLarge\n1 0 2880 2880\n",
+    ),
+    // 1,000 axes
+    (
+        "2 u8 1",
+        ",1",
+        999,
+        "line 1: refused 6 Shape\n1 0 2880 2880\n",
+    ),
+    (
+        "2 u8 0",
+        ",999999999999999999",
+        999,
+        "line 1: refused 6 Shape\n1 0 2880 2880\n",
+    ),
+    (
+        "1 u8 1",
+        ",1",
+        999,
+        "line 1: refused 13 PrimaryStays\n1 0 2880 2880\n",
+    ),
+    (
+        "0 u8 1",
+        ",1",
+        999,
+        "line 1: refused 1 NoHdu\n1 0 2880 2880\n",
+    ),
+    (
+        "3 u8 1",
+        ",1",
+        999,
+        "line 1: refused 1 NoHdu\n1 0 2880 2880\n",
+    ),
+];
+
+#[test]
+fn a_new_image_has_999_axes_at_most(rt: HostRuntime) -> Result<(), Fail> {
+    let file = pixel_file(rt.alloc(), (&[(P0, NONE)], ""))?;
+    for (first, more, times, answers) in MANY_AXES {
+        let mut script = Vec::new(rt.alloc());
+        script.extend_from_slice(b"new ")?;
+        script.extend_from_slice(first.as_bytes())?;
+        script.extend_from_slice(&repeated(rt.alloc(), more, *times)?)?;
+        script.extend_from_slice(b"\noff")?;
+        let ran = edit(rt.alloc(), &file, &script, ALL_SMOOTH)?;
+        assert_eq!(rt;
+            ran.printed.as_slice(),
+            answers.as_bytes(),
+            "{first} {more}"
+        );
+        let refused = u8::from(answers.starts_with("line 1: refused"));
+        assert_eq!(rt; ran.end.status, refused, "{first} {more}");
+        let again = edit(rt.alloc(), &ran.saved, b"off", ALL_SMOOTH)?;
+        assert!(rt; ran.printed.ends_with(&again.printed), "{first} {more}");
+    }
+    Ok(())
+}
+
+/// Axes that no line can say, and why a new image can't have them.
+const LONG_AXES: &[(usize, &[u64], Option<Refusal>)] = &[
+    (2, &[9_223_372_036_854_775_808], Some(Refusal::Shape)),
+    (2, &[0, 9_223_372_036_854_775_808], Some(Refusal::Shape)),
+    (2, &[9_223_372_036_854_775_807], Some(Refusal::TooLarge)),
+    (2, &[0, 9_223_372_036_854_775_807], None),
+    (1, &[9_223_372_036_854_775_808], Some(Refusal::PrimaryStays)),
+];
+
+#[test]
+fn an_axis_has_64_bits_at_most(rt: HostRuntime) -> Result<(), Fail> {
+    let file = pixel_file(rt.alloc(), (&[(P0, NONE)], ""))?;
+    for (at, axes, refusal) in LONG_AXES {
+        let mut session = Session::open(rt.alloc(), &file)?;
+        let edit = Edit::NewImage {
+            at: *at,
+            kind: Kind::U8,
+            axes: Axes::new(axes.to_vec(rt.alloc())?),
+        };
+        assert_eq!(rt; session.edit(edit).err(), *refusal, "{at} {axes:?}");
+    }
+    Ok(())
+}
+
+/// Lines over a file of 9,999 HDUs, one after another: why each is refused, and how many HDUs there are then.
+const MANY_HDUS: &[(&str, Option<Refusal>, usize)] = &[
+    ("new 10001 u8 -", Some(Refusal::NoHdu), 9_999),
+    ("new 10000 u8 -", None, 10_000),
+    ("new 10001 u8 -", Some(Refusal::TooLarge), 10_000),
+    ("new 2 u8 -", Some(Refusal::TooLarge), 10_000),
+    ("new 10002 u8 -", Some(Refusal::NoHdu), 10_000),
+    ("new 1 u8 -", Some(Refusal::PrimaryStays), 10_000),
+    ("rm 10001", Some(Refusal::NoHdu), 10_000),
+    ("rm 2", None, 9_999),
+    ("new 2 u8 -", None, 10_000),
+    ("new 2 u8 -", Some(Refusal::TooLarge), 10_000),
+    ("rm 10000", None, 9_999),
+];
+
+// The shortest file and so many image extensions without data.
+fn many_hdus(alloc: Global, count: usize) -> Result<Vec<u8>, AllocError> {
+    let mut bytes = pixel_file(alloc, (&[(P0, NONE)], ""))?;
+    let extension = pixel_file(alloc, (&[(EMPTY_8, NONE)], ""))?;
+    for _ in 0..count {
+        bytes.extend_from_slice(&extension)?;
+    }
+    Ok(bytes)
+}
+
+#[test]
+fn a_file_has_ten_thousand_hdus_at_most(rt: HostRuntime) -> Result<(), Fail> {
+    let file = many_hdus(rt.alloc(), 9_998)?;
+    let mut session = Session::open(rt.alloc(), &file)?;
+    for (line, refusal, hdus) in MANY_HDUS {
+        let edit = edit_of(rt.alloc(), line).ok_or("no edit")?;
+        assert_eq!(rt; session.edit(edit).err(), *refusal, "{line}");
+        assert_eq!(rt; session.hdus(), *hdus, "{line}");
+    }
+    Ok(())
+}
+
+#[test]
+fn a_file_of_more_hdus_does_not_open(rt: HostRuntime) -> Result<(), Fail> {
+    let file = many_hdus(rt.alloc(), 10_000)?;
+    let fault = read_outlines(rt.alloc(), &mut reader(&file, SMOOTH)).err();
+    assert_eq!(rt; fault, Some(ReadFileFault::Open(OpenFault::TooLarge)));
+    Ok(())
+}
