@@ -9,12 +9,12 @@ passed=0
 failed=0
 # expect NAME CONDITION..: the condition is a command
 expect() {
-    name=$1
+    expected=$1
     shift
     if "$@"; then
         passed=$((passed + 1))
     else
-        echo "FAILED: $name"
+        echo "FAILED: $expected"
         failed=$((failed + 1))
     fi
 }
@@ -65,6 +65,46 @@ for report in examples/*/report; do
     expect 'the example mended has no error' status 0 "$program" verify -q "$example/out.fits"
     expect 'and no warning' [ "$(cat "$room/printed")" = 'errors 0 warnings 0' ]
 done
+
+# each example with sums: its in.fits is summed so, and its out.fits is stamped
+for sums in examples/*/sums; do
+    example=$(dirname "$sums")
+    expect "the example $(basename "$example") is summed" status 0 "$program" sum "$example/in.fits"
+    expect "the example $(basename "$example") has its sums" cmp -s "$room/printed" "$sums"
+    expect 'the example stamped is summed' status 0 "$program" sum "$example/out.fits"
+    expect 'and each verdict is 1' [ "$(grep -vc ' 1 1$' "$room/printed")" = 0 ]
+done
+
+# the files that examples/make.sh makes are those that stand there
+mkdir "$room/made"
+expect 'input files are made again' env FITSED="$program" sh examples/make.sh "$room/made"
+for made in "$room"/made/*.fits; do
+    name=$(basename "$made" .fits)
+    expect "the input of $name is made as it stands" cmp -s "$made" "examples/$name/in.fits"
+done
+
+# the loops over folders of docs/GUIDE.md, over the inputs of the examples
+fitsed() { "$program" "$@"; }
+(
+    for example in examples/*/in.fits; do
+        f=$(basename "$(dirname "$example")").fits
+        fitsed sum "$example" | grep -q -- ' -1' && echo "$f"
+    done
+    true
+) >"$room/wrong"
+expect 'one example has wrong sums' [ "$(cat "$room/wrong")" = wrong_sums.fits ]
+fitsed list examples/wrong_sums/in.fits | sed 's/^hdu \([0-9]*\) .*/stamp \1/' |
+    fitsed edit examples/wrong_sums/in.fits "$room/stamped.fits"
+expect 'all HDUs are stamped by a listing' cmp -s "$room/stamped.fits" examples/wrong_sums/out.fits
+cards() { fitsed list "$1" | sed -n "s/^hdu $2 .* cards \([0-9]*\) .*/\1/p"; }
+echo "ins 2 $(($(cards examples/a_line_of_history/in.fits 2) + 1)) HISTORY 2026-11-23 flat field corrected by the archive" |
+    fitsed edit examples/a_line_of_history/in.fits "$room/history.fits"
+expect 'a card comes after the last by a listing' cmp -s "$room/history.fits" examples/a_line_of_history/out.fits
+for example in examples/*/in.fits; do
+    fitsed verify "$example" | sed "\$d; s|^|$example |"
+done >"$room/found"
+expect 'each finding has its file' [ "$(grep -c '^examples/a_file_with_problems/in.fits [EW][0-9][0-9] ' "$room/found")" = 6 ]
+expect 'findings are counted by their codes' [ "$(cut -d' ' -f2 "$room/found" | sort | uniq -c | sed -n 's/ *\([0-9]*\) W24$/\1/p')" = 2 ]
 
 # many files at once, as docs/GUIDE.md has it
 example=examples/a_comment
@@ -147,6 +187,14 @@ expect 'a file with bytes after it has no error' status 0 "$program" verify "$ro
 expect 'but a warning' [ "$(cat "$room/printed")" = "W26 3 0 bytes after the last HDU
 errors 0 warnings 1" ]
 expect 'a full device for a report ends with 3' status 3 verify_to_a_full_device "$room/two.fits"
+sum_to_a_full_device() { "$program" sum "$1" >/dev/full; }
+expect 'sums end with 0' status 0 "$program" sum "$room/two.fits"
+expect 'and have a line for each HDU' [ "$(cat "$room/printed")" = "1 0 0 0
+2 0 0 0" ]
+expect 'a full device for sums ends with 3' status 3 sum_to_a_full_device "$room/two.fits"
+expect 'sums of nothing end with 3' status 3 "$program" sum "$room/nothing"
+expect 'sums without a path end with 2' status 2 "$program" sum
+expect 'sums take no flag' status 2 "$program" sum -q "$room/two.fits"
 expect 'a report of nothing ends with 3' status 3 "$program" verify "$room/nothing"
 expect 'a report without a path ends with 2' status 2 "$program" verify -q
 expect 'another flag ends with 2' status 2 "$program" verify -x "$room/two.fits"
@@ -154,6 +202,9 @@ head -c 8639 "$room/two.fits" >"$room/short.fits"
 expect 'a file without its last byte ends with 2' status 2 list "$room/short.fits"
 expect 'and says why' grep -qx 'fitsed: open refused O4 ShortData hdu 2' "$room/reported"
 expect 'verify ends so too' status 2 "$program" verify "$room/short.fits"
+expect 'sum ends so too' status 2 "$program" sum "$room/short.fits"
+expect 'and prints nothing' [ ! -s "$room/printed" ]
+expect 'and says the same' grep -qx 'fitsed: open refused O4 ShortData hdu 2' "$room/reported"
 # as many HDUs as a file may have, and one more
 primary=$(printf '%-80s%-80s%-80s%-2640s' 'SIMPLE  =                    T' 'BITPIX  =                    8' \
     'NAXIS   =                    0' 'END')
@@ -163,6 +214,12 @@ many() { awk -v p="$primary" -v e="$extension" -v n="$1" 'BEGIN { printf "%s", p
 many 10000 >"$room/most.fits"
 expect 'a file of 10,000 HDUs is listed' status 0 list "$room/most.fits"
 expect 'and has a line for each' [ "$(wc -l <"$room/printed")" = 10000 ]
+expect 'its sums have one too' status 0 "$program" sum "$room/most.fits"
+expect 'the last of the last HDU' [ "$(tail -n 1 "$room/printed")" = '10000 0 0 0' ]
+one_more() { echo 'new 2 u8 -' | "$program" edit "$@"; }
+expect 'one HDU more is refused' status 1 one_more "$room/most.fits" "$room/unsaved.fits"
+expect 'as too large' [ "$(cat "$room/printed")" = 'line 1: refused 14 TooLarge' ]
+rm "$room/unsaved.fits"
 many 10001 >"$room/many.fits"
 expect 'one of 10,001 HDUs ends with 2' status 2 list "$room/many.fits"
 expect 'and is too large' grep -qx 'fitsed: open refused O5 TooLarge' "$room/reported"

@@ -1,6 +1,6 @@
 #!/bin/sh
 # All that has to hold: the gate, refused memory, the program over real files.
-# The last line sums the three counts.
+# What failed is said once more at the end; the last line sums the three counts.
 set -u
 cd "$(dirname "$0")/.."
 room=$(mktemp -d)
@@ -8,7 +8,9 @@ trap 'rm -rf "$room"' EXIT
 for part in 'rt ci' 'sh .ci/refuse.sh' 'sh .ci/stored.sh'; do
     echo "== $part"
     { $part 2>&1 || touch "$room/failed"; } | tee "$room/log"
+    grep -E 'FAILED: |NOT PROVED|NOT REFUSED|BAD EDIT' "$room/log" >>"$room/faults"
     tail -1 "$room/log" >>"$room/counts"
 done
+cat "$room/faults"
 awk '/^[0-9]+ passed, [0-9]+ failed/ { passed += $1; failed += $3; counted += 1 }
      END { if (counted < 3) failed += 1; printf "%d passed, %d failed\n", passed, failed; exit failed > 0 }' "$room/counts" && [ ! -e "$room/failed" ]
