@@ -74,31 +74,37 @@ axis_settable n small = elim (cases_lt n 10) [
   ]
 ]
 
--- names that may have a value
+-- XTENSION may have one
 pub xtension_settable : IsTrue (is_settable (codes "XTENSION"))
 unfolding is_settable is_spelled is_valueless
 xtension_settable = refl
 
+-- BITPIX may have one
 pub bitpix_settable : IsTrue (is_settable (codes "BITPIX  "))
 unfolding is_settable is_spelled is_valueless
 bitpix_settable = refl
 
+-- NAXIS may have one
 pub naxis_settable : IsTrue (is_settable (codes "NAXIS   "))
 unfolding is_settable is_spelled is_valueless
 naxis_settable = refl
 
+-- PCOUNT may have one
 pub pcount_settable : IsTrue (is_settable (codes "PCOUNT  "))
 unfolding is_settable is_spelled is_valueless
 pcount_settable = refl
 
+-- GCOUNT may have one
 pub gcount_settable : IsTrue (is_settable (codes "GCOUNT  "))
 unfolding is_settable is_spelled is_valueless
 gcount_settable = refl
 
+-- BSCALE may have one
 pub bscale_settable : IsTrue (is_settable (codes "BSCALE  "))
 unfolding is_settable is_spelled is_valueless
 bscale_settable = refl
 
+-- BZERO may have one
 pub bzero_settable : IsTrue (is_settable (codes "BZERO   "))
 unfolding is_settable is_spelled is_valueless
 bzero_settable = refl

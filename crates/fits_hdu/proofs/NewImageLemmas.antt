@@ -112,27 +112,32 @@ axis_name_valued n = refl
 pub axis_name_is : (n : ℕ) → n < 1000 → IsValueName (axis_name n)
 axis_name_is n small = record { size = axis_name_size n small; text = axis_name_text n small; valued = axis_name_valued n }
 
--- the other names are too
+-- BITPIX is the name of a card with a value
 bitpix_name : IsValueName (codes "BITPIX  ")
 unfolding is_valueless is_text
 bitpix_name = record { size = refl; text = refl; valued = refl }
 
+-- NAXIS is the name of a card with a value
 naxis_name : IsValueName (codes "NAXIS   ")
 unfolding is_valueless is_text
 naxis_name = record { size = refl; text = refl; valued = refl }
 
+-- PCOUNT is
 pcount_name : IsValueName (codes "PCOUNT  ")
 unfolding is_valueless is_text
 pcount_name = record { size = refl; text = refl; valued = refl }
 
+-- GCOUNT is
 gcount_name : IsValueName (codes "GCOUNT  ")
 unfolding is_valueless is_text
 gcount_name = record { size = refl; text = refl; valued = refl }
 
+-- BSCALE is
 pub bscale_name : IsValueName (codes "BSCALE  ")
 unfolding is_valueless is_text
 bscale_name = record { size = refl; text = refl; valued = refl }
 
+-- BZERO is
 pub bzero_name : IsValueName (codes "BZERO   ")
 unfolding is_valueless is_text
 bzero_name = record { size = refl; text = refl; valued = refl }
@@ -149,6 +154,7 @@ scaling_cards_are : (offset : ℤ) → unsigned_abs offset < 2 ^ 64 → scaling_
 scaling_cards_are offset small =
     rw (number_is_one_card (codes "BSCALE  ") (pos 1) refl (omega arith), number_is_one_card (codes "BZERO   ") offset refl small) refl
 
+-- the cards of the offset of each kind, as a list
 pub offset_cards_are : (kind : Kind) → offset_cards kind ≡ offset_list kind
 offset_cards_are U8 = refl
 offset_cards_are I8 = scaling_cards_are (negsuc 127) (omega arith)
@@ -200,6 +206,7 @@ scaling_inner offset small =
     let zero = number_inner (codes "BZERO   ") offset bzero_name small in
     All-cons IsInnerCard (number_card (codes "BSCALE  ") (pos 1)) (number_card (codes "BZERO   ") offset ∷ []) one (All-cons IsInnerCard (number_card (codes "BZERO   ") offset) [] zero (All-nil IsInnerCard))
 
+-- the cards of the offset of each kind stand before END
 offset_inner : (kind : Kind) → All IsInnerCard (offset_list kind)
 offset_inner U8 = All-nil IsInnerCard
 offset_inner I8 = scaling_inner (negsuc 127) (omega arith)
@@ -240,6 +247,7 @@ offset_count U32 = 2
 offset_count U64 = 2
 offset_count kind = 0
 
+-- how many cards the offset of each kind has
 offset_list_length : (kind : Kind) → length (offset_list kind) ≡ offset_count kind
 offset_list_length U8 = refl
 offset_list_length I8 = refl
@@ -379,27 +387,31 @@ later_lead name kind axes later are =
     ∙ (passed name (codes "NAXIS   ") naxis rest (number_card_is (codes "NAXIS   ") (pos (length axes)) naxis_name (omega (arith, are.few))) later.no_naxis
     ∙ axes_passed name 1 axes (later_list kind) later are))
 
--- as those of these names do
+-- PCOUNT stands after the axes
 pcount_later : IsLater (codes "PCOUNT  ")
 unfolding axis_name
 pcount_later = record { no_xtension = refl; no_bitpix = refl; no_naxis = refl; no_axis = λ n. refl }
 
+-- GCOUNT stands after the axes
 gcount_later : IsLater (codes "GCOUNT  ")
 unfolding axis_name
 gcount_later = record { no_xtension = refl; no_bitpix = refl; no_naxis = refl; no_axis = λ n. refl }
 
+-- BSCALE does
 pub bscale_later : IsLater (codes "BSCALE  ")
 unfolding axis_name
 bscale_later = record { no_xtension = refl; no_bitpix = refl; no_naxis = refl; no_axis = λ n. refl }
 
+-- BZERO does
 pub bzero_later : IsLater (codes "BZERO   ")
 unfolding axis_name
 bzero_later = record { no_xtension = refl; no_bitpix = refl; no_naxis = refl; no_axis = λ n. refl }
 
--- PCOUNT and GCOUNT are cards with a value
+-- PCOUNT is a card with a value
 pub pcount_is : IsValueCard (codes "PCOUNT  ") (number_card (codes "PCOUNT  ") (pos 0))
 pcount_is = number_card_is (codes "PCOUNT  ") (pos 0) pcount_name (omega arith)
 
+-- GCOUNT is a card with a value
 pub gcount_is : IsValueCard (codes "GCOUNT  ") (number_card (codes "GCOUNT  ") (pos 1))
 gcount_is = number_card_is (codes "GCOUNT  ") (pos 1) gcount_name (omega arith)
 

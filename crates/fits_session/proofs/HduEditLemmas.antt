@@ -115,10 +115,11 @@ removed_is_a_file f file (suc (suc i)) hdu p there stays = rw (one_less i) (left
 not_one : (i : ℕ) → (suc (suc i) == 1) ≡ false
 not_one i = search rules
 
--- a number is 1, or isn't
+-- a number that is 1 is said to be
 is_one : (h : ℕ) → h ≡ 1 → (h == 1) ≡ true
 is_one h is = ap (λ k. k == 1) is
 
+-- another number isn't 1
 is_another : (h : ℕ) → (h ≡ 1 → ⊥) → (h == 1) ≡ false
 is_another zero other = refl
 is_another (suc zero) other = absurd (other refl)
@@ -255,10 +256,11 @@ new_count hdus tail h axes hdu p =
     let within : h - 1 ≤ length us = omega (arith, (placed_at (length hdus) h axes p).1, length-hdus_of hdus) in
     omega (arith, length-insert us (h - 1) hdu within, length-hdus_of hdus)
 
--- so many bytes pass the limit, or so many HDUs
+-- so many bytes pass the limit
 too_long : (bytes hdus : ℕ) → FILE_LIMIT < bytes → is_within_limits bytes hdus ≡ false
 too_long bytes hdus l = search rules
 
+-- so many HDUs pass the limit
 too_many : (bytes hdus : ℕ) → HDU_LIMIT < hdus → is_within_limits bytes hdus ≡ false
 too_many bytes hdus l = search rules
 
