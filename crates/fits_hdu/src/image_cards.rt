@@ -7,6 +7,7 @@ ghost use Rattle.fits_hdu.specs.NewImage.{are_axes, axis_cards, image_cards, new
 
 use crate::kind::Kind;
 use fits_card::{BLOCK_LEN, CARD_LEN, Card, CardList, Name, cut_header};
+use fits_rules::axis_name;
 use fits_value::{Text, Value, WriteFault, write_value};
 use std::alloc::{AllocError, Global};
 
@@ -147,31 +148,5 @@ fn push_value(
         // It isn't written, and none of these values is such a one.
         Err(WriteFault::BadValue) => Ok(()),
         Err(WriteFault::Memory) => Err(AllocError),
-    }
-}
-
-// The digit of a number below 10.
-fn digit(number: usize) -> u8
-    requires { number < 10 }
-    ensures { result ≡ 48 + number }
-{
-    b'0' + number as u8
-}
-
-// The name of NAXISn.
-#[tactic(auto, using(fits_rules::proofs::ShapeLemmas::name_steps))]
-fn axis_name(n: usize) -> Name
-    requires { n < 1000 }
-    ensures { result ≡ axis_name n }
-{
-    let ones = digit(n % 10);
-    let tens = digit(n / 10 % 10);
-    let hundreds = digit(n / 100);
-    if n < 10 {
-        Name([b'N', b'A', b'X', b'I', b'S', ones, b' ', b' '])
-    } else if n < 100 {
-        Name([b'N', b'A', b'X', b'I', b'S', tens, ones, b' '])
-    } else {
-        Name([b'N', b'A', b'X', b'I', b'S', hundreds, tens, ones])
     }
 }

@@ -4,6 +4,7 @@
 mod array_shape;
 mod axes;
 mod axis_buffer;
+mod axis_names;
 mod changed;
 mod class;
 mod comparing;
@@ -22,6 +23,7 @@ mod size;
 
 pub use array_shape::Shape;
 pub use axes::Axes;
+pub use axis_names::axis_name;
 pub use class::Class;
 pub use comparing::keeps_shape;
 pub use denoting::{card_denotes, lead_denotes};

@@ -9,6 +9,7 @@ ghost use Rattle.fits_rules.specs.declared.rules.TheConstants.{LARGEST};
 ghost use Rattle.fits_card.specs.CardList.{ReadsUpTo};
 
 use crate::axis_buffer::{AxisBuffer, MOST_AXES};
+use crate::axis_names::axis_name;
 use crate::changed::{card_at, lead_place};
 use crate::class::Class;
 use crate::reads;
@@ -16,32 +17,6 @@ use fits_card::{Card, CardList, Change, Name};
 
 /// The largest axis, PCOUNT and GCOUNT (FITS Standard 4.0, sections 4.4.1.1 and 4.4.1.2).
 pub(crate) const LARGEST: u64 = 9223372036854775807;
-
-// The digit of a number below 10.
-fn digit(number: usize) -> u8
-    requires { number < 10 }
-    ensures { result ≡ 48 + number }
-{
-    b'0' + number as u8
-}
-
-// The name of NAXISn.
-#[tactic(auto, using(crate::proofs::ShapeLemmas::name_steps))]
-fn axis_name(n: usize) -> Name
-    requires { n < 1000 }
-    ensures { result ≡ axis_name n }
-{
-    let ones = digit(n % 10);
-    let tens = digit(n / 10 % 10);
-    let hundreds = digit(n / 100);
-    if n < 10 {
-        Name([b'N', b'A', b'X', b'I', b'S', ones, b' ', b' '])
-    } else if n < 100 {
-        Name([b'N', b'A', b'X', b'I', b'S', tens, ones, b' '])
-    } else {
-        Name([b'N', b'A', b'X', b'I', b'S', hundreds, tens, ones])
-    }
-}
 
 // The card at a place after the change, where it has this name.
 #[tactic(auto, using(crate::proofs::ShapeLemmas::named_steps))]
