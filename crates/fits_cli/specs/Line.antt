@@ -330,7 +330,19 @@ rectangle_said rest = option_map (λ said. Rectangle said.0 said.1 said.2) (rect
 abbrev pub sums_said : Option (List ℕ) → Option Command
 sums_said rest = option_map (λ hdu. Sums hdu) (hdu_word rest)
 
--- what a line says by its first word
+-- what the first word of a line and the rest ask
+unfoldable pub asked_by : List ℕ → Option (List ℕ) → Option Command
+asked_by verb rest =
+    if bytes_eq verb (codes "get") then get_said rest
+    else if bytes_eq verb (codes "pos") then positions_said rest
+    else if bytes_eq verb (codes "off") then alone rest Offsets
+    else if bytes_eq verb (codes "rep") then alone rest Report
+    else if bytes_eq verb (codes "stat") then statistics_said rest
+    else if bytes_eq verb (codes "rect") then rectangle_said rest
+    else if bytes_eq verb (codes "sum") then sums_said rest
+    else None
+
+-- what the first word of a line and the rest say: an edit, or a question
 unfoldable pub said_by : List ℕ → Option (List ℕ) → Option Command
 said_by verb rest =
     if bytes_eq verb (codes "ins") then insert_said rest
@@ -339,19 +351,12 @@ said_by verb rest =
     else if bytes_eq verb (codes "mov") then move_said rest
     else if bytes_eq verb (codes "set") then set_said rest
     else if bytes_eq verb (codes "unset") then unset_said rest
-    else if bytes_eq verb (codes "get") then get_said rest
-    else if bytes_eq verb (codes "pos") then positions_said rest
-    else if bytes_eq verb (codes "off") then alone rest Offsets
-    else if bytes_eq verb (codes "rep") then alone rest Report
     else if bytes_eq verb (codes "fill") then fill_said rest
     else if bytes_eq verb (codes "write") then write_said rest
     else if bytes_eq verb (codes "new") then new_said rest
     else if bytes_eq verb (codes "rm") then remove_said rest
     else if bytes_eq verb (codes "stamp") then stamp_said rest
-    else if bytes_eq verb (codes "stat") then statistics_said rest
-    else if bytes_eq verb (codes "rect") then rectangle_said rest
-    else if bytes_eq verb (codes "sum") then sums_said rest
-    else None
+    else asked_by verb rest
 
 -- what a line says: an empty line and a comment say that nothing is to be done
 unfoldable pub command_of : List ℕ → Option Command

@@ -1,7 +1,7 @@
 //! The lines of a script: which bytes are which command.
 ghost use Rattle.std.specs.Prelude.{◌≡◌, IfOk, IsErrOf, OnErr};
 ghost use Rattle.std.specs.Option.{option_copied};
-ghost use Rattle.fits_cli.specs.Line.{alone, command_of, reading_of, said_by, said_or_none};
+ghost use Rattle.fits_cli.specs.Line.{alone, asked_by, command_of, reading_of, said_by, said_or_none};
 ghost use Rattle.fits_cli.specs.Line.{delete_said, get_said, insert_said, move_said, put_said};
 ghost use Rattle.fits_cli.specs.Line.{positions_said, set_said, unset_said, ReadingNeedsMemory};
 ghost use Rattle.fits_cli.specs.Line.{fill_said, rectangle_said, stamp_said, statistics_said};
@@ -65,7 +65,7 @@ fn command_of(alloc: Global, line: &[u8]) -> Result<Option<Command>, AllocError>
     }
 }
 
-// What a line says by its first word.
+// What a line says by its first word: an edit, or a question.
 #[tactic(auto, unfolding(crate::specs::Line::said_by))]
 fn said_by(alloc: Global, verb: &[u8], rest: Option<&[u8]>) -> Result<Option<Command>, AllocError>
     ensures ok { IfOk result (λ said. said ≡ said_by verb.now (option_copied rest.entry)) }
@@ -84,14 +84,6 @@ fn said_by(alloc: Global, verb: &[u8], rest: Option<&[u8]>) -> Result<Option<Com
         set_said(alloc, rest)
     } else if verb == b"unset".as_slice() {
         Ok(unset_said(rest))
-    } else if verb == b"get".as_slice() {
-        Ok(get_said(rest))
-    } else if verb == b"pos".as_slice() {
-        Ok(positions_said(rest))
-    } else if verb == b"off".as_slice() {
-        Ok(alone(rest, Command::Offsets))
-    } else if verb == b"rep".as_slice() {
-        Ok(alone(rest, Command::Report))
     } else if verb == b"fill".as_slice() {
         fill_said(alloc, rest)
     } else if verb == b"write".as_slice() {
@@ -102,6 +94,26 @@ fn said_by(alloc: Global, verb: &[u8], rest: Option<&[u8]>) -> Result<Option<Com
         Ok(remove_said(rest))
     } else if verb == b"stamp".as_slice() {
         Ok(stamp_said(rest))
+    } else {
+        asked_by(alloc, verb, rest)
+    }
+}
+
+// What a line asks by its first word.
+#[tactic(auto, unfolding(crate::specs::Line::asked_by))]
+fn asked_by(alloc: Global, verb: &[u8], rest: Option<&[u8]>) -> Result<Option<Command>, AllocError>
+    ensures ok { IfOk result (λ said. said ≡ asked_by verb.now (option_copied rest.entry)) }
+    ensures err { OnErr result
+        (ReadingNeedsMemory (said_or_none (asked_by verb.now (option_copied rest.entry)))) }
+{
+    if verb == b"get".as_slice() {
+        Ok(get_said(rest))
+    } else if verb == b"pos".as_slice() {
+        Ok(positions_said(rest))
+    } else if verb == b"off".as_slice() {
+        Ok(alone(rest, Command::Offsets))
+    } else if verb == b"rep".as_slice() {
+        Ok(alone(rest, Command::Report))
     } else if verb == b"stat".as_slice() {
         Ok(statistics_said(rest))
     } else if verb == b"rect".as_slice() {
