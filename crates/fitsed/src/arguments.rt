@@ -8,12 +8,19 @@ use std::alloc::{AllocError, Global};
 pub enum Task<'a> {
     /// The script on standard input edits the file at `from`; the result goes to `to`.
     Edit { from: &'a str, to: &'a str },
-    /// The HDUs of the file at `from` are listed.
-    List { from: &'a str },
-    /// The sums of the HDUs of the file at `from` are printed.
-    Sum { from: &'a str },
-    /// What is wrong with the file at `from` is printed, as far as the level has it.
-    Verify { from: &'a str, level: Level },
+    /// A text of the file at `from` is printed.
+    Tell { from: &'a str, text: Told },
+}
+
+/// A text of a file.
+#[derive(Clone, Copy)]
+pub enum Told {
+    /// Its HDUs, a line each.
+    Listing,
+    /// The sums of its HDUs.
+    Sums,
+    /// What is wrong with it, as far as the level has it.
+    Report(Level),
 }
 
 const VERSION: &str = "0.1.0";
@@ -73,35 +80,47 @@ fitsed(1) says when a line is refused.";
 
 /// The command line.
 pub fn command<'a>(alloc: Global) -> Result<Command<'a>, AllocError> {
-    let edit = Command::new(alloc, "edit")
-        .about(EDIT)
-        .after_help(LINES)
-        .arg(path(alloc, "IN", "The file to read"))?
-        .arg(path(alloc, "OUT", "The file to write; it may be IN"))?;
-    let list = Command::new(alloc, "list")
-        .about(LIST)
-        .after_help(STATUSES)
-        .arg(path(alloc, "IN", "The file to read"))?;
-    let sum = Command::new(alloc, "sum")
-        .about(SUM)
-        .after_help(STATUSES)
-        .arg(path(alloc, "IN", "The file to read"))?;
-    let verify = Command::new(alloc, "verify")
-        .about(VERIFY)
-        .after_help(STATUSES)
-        .arg(flag(alloc, "errors", 'e', "List errors alone"))?
-        .arg(flag(alloc, "quiet", 'q', "List nothing: print the counts alone"))?
-        .arg(path(alloc, "IN", "The file to read"))?;
-    Command::new(alloc, "fitsed")
+    let all = Command::new(alloc, "fitsed")
         .version(VERSION)
         .about(ABOUT)
         .after_help(STATUSES)
         .subcommand_required(true)
-        .disable_help_subcommand(true)
-        .subcommand(edit)?
-        .subcommand(list)?
-        .subcommand(sum)?
-        .subcommand(verify)
+        .disable_help_subcommand(true);
+    let all = and(all, edit(alloc))?;
+    let all = and(all, reading(alloc, "list", LIST, STATUSES))?;
+    let all = and(all, reading(alloc, "sum", SUM, STATUSES))?;
+    and(all, verify(alloc))
+}
+
+// The commands, and one more.
+fn and<'a>(
+    all: Command<'a>,
+    one: Result<Command<'a>, AllocError>,
+) -> Result<Command<'a>, AllocError> {
+    all.subcommand(one?)
+}
+
+fn edit<'a>(alloc: Global) -> Result<Command<'a>, AllocError> {
+    reading(alloc, "edit", EDIT, LINES)?.arg(path(alloc, "OUT", "The file to write; it may be IN"))
+}
+
+fn verify<'a>(alloc: Global) -> Result<Command<'a>, AllocError> {
+    reading(alloc, "verify", VERIFY, STATUSES)?
+        .arg(flag(alloc, "errors", 'e', "List errors alone"))?
+        .arg(flag(alloc, "quiet", 'q', "List nothing: print the counts alone"))
+}
+
+// A command that reads a file.
+fn reading<'a>(
+    alloc: Global,
+    name: &'a str,
+    about: &'a str,
+    help: &'a str,
+) -> Result<Command<'a>, AllocError> {
+    Command::new(alloc, name)
+        .about(about)
+        .after_help(help)
+        .arg(path(alloc, "IN", "The file to read"))
 }
 
 fn path<'a>(alloc: Global, id: &'a str, help: &'a str) -> Arg<'a> {
@@ -132,21 +151,18 @@ fn level_of(words: &ArgMatches<'_>) -> Level {
 /// The task of words that were read.
 pub fn task_of<'a>(matches: &ArgMatches<'a>) -> Option<Task<'a>> {
     let (name, words) = matches.subcommand()?;
-    match name {
-        "edit" => Some(Task::Edit {
-            from: words.get_str("IN")?,
-            to: words.get_str("OUT")?,
-        }),
-        "list" => Some(Task::List {
-            from: words.get_str("IN")?,
-        }),
-        "sum" => Some(Task::Sum {
-            from: words.get_str("IN")?,
-        }),
-        "verify" => Some(Task::Verify {
-            from: words.get_str("IN")?,
-            level: level_of(words),
-        }),
-        _ => None,
-    }
+    let from = words.get_str("IN")?;
+    let text = match name {
+        "edit" => {
+            return Some(Task::Edit {
+                from,
+                to: words.get_str("OUT")?,
+            });
+        }
+        "list" => Told::Listing,
+        "sum" => Told::Sums,
+        "verify" => Told::Report(level_of(words)),
+        _ => return None,
+    };
+    Some(Task::Tell { from, text })
 }

@@ -3,11 +3,11 @@
 
 mod arguments;
 
-use arguments::{Task, command, task_of};
+use arguments::{Task, Told, command, task_of};
 use clap::Error;
 use clap::error::ErrorKind;
 use fits_card::Watched;
-use fits_cli::{End, Fault, LazyFile, Level, run_edit, run_list, run_sum, run_verify};
+use fits_cli::{End, Fault, LazyFile, run_edit, run_list, run_sum, run_verify};
 use std::alloc::AllocError;
 use std::io::BufWriter;
 use std::process::ExitCode;
@@ -31,9 +31,7 @@ fn main(rt: HostRuntime) -> ExitCode {
     };
     let end = match task_of(&matches) {
         Some(Task::Edit { from, to }) => edit(&rt, from, to),
-        Some(Task::List { from }) => list(&rt, from),
-        Some(Task::Sum { from }) => sum(&rt, from),
-        Some(Task::Verify { from, level }) => verify(&rt, from, level),
+        Some(Task::Tell { from, text }) => tell(&rt, from, text),
         None => return ExitCode::from(2),
     };
     if let Some(fault) = end.fault {
@@ -62,42 +60,21 @@ fn edit<R: Files + Input + Print + AllocGlobal>(rt: &R, from: &str, to: &str) ->
     )
 }
 
-// Runs `list` over the file at `from`.
-fn list<R: Files + Print + AllocGlobal>(rt: &R, from: &str) -> End {
+// Runs `list`, `sum` or `verify` over the file at `from`.
+fn tell<R: Files + Print + AllocGlobal>(rt: &R, from: &str, text: Told) -> End {
     let Ok(file) = fs::open(rt, from) else {
         return End::from(Fault::ReadFailed);
     };
     let Ok(out) = BufWriter::new(rt.alloc(), io::writer(rt)) else {
         return End::from(Fault::Memory);
     };
-    run_list(rt.alloc(), &mut Watched::new(file), &mut Watched::new(out))
-}
-
-// Runs `sum` over the file at `from`.
-fn sum<R: Files + Print + AllocGlobal>(rt: &R, from: &str) -> End {
-    let Ok(file) = fs::open(rt, from) else {
-        return End::from(Fault::ReadFailed);
-    };
-    let Ok(out) = BufWriter::new(rt.alloc(), io::writer(rt)) else {
-        return End::from(Fault::Memory);
-    };
-    run_sum(rt.alloc(), &mut Watched::new(file), &mut Watched::new(out))
-}
-
-// Runs `verify` over the file at `from`.
-fn verify<R: Files + Print + AllocGlobal>(rt: &R, from: &str, level: Level) -> End {
-    let Ok(file) = fs::open(rt, from) else {
-        return End::from(Fault::ReadFailed);
-    };
-    let Ok(out) = BufWriter::new(rt.alloc(), io::writer(rt)) else {
-        return End::from(Fault::Memory);
-    };
-    run_verify(
-        rt.alloc(),
-        level,
-        &mut Watched::new(file),
-        &mut Watched::new(out),
-    )
+    let mut file = Watched::new(file);
+    let mut out = Watched::new(out);
+    match text {
+        Told::Listing => run_list(rt.alloc(), &mut file, &mut out),
+        Told::Sums => run_sum(rt.alloc(), &mut file, &mut out),
+        Told::Report(level) => run_verify(rt.alloc(), level, &mut file, &mut out),
+    }
 }
 
 // Reports a fault on standard error, and gives its status.
