@@ -6,6 +6,7 @@ use crate::builders::ChangeText::{Move, Splice};
 use crate::builders::{
     COMMENTS, ChangeText, add_cards, card_of, change_of, end_header, hdu_of, header_of, name_of,
 };
+use crate::checks::{holds, same};
 use crate::planned::{SMOOTH, writer};
 use fits_card::{Card, HeaderFault, cut_header};
 use std::process::Abort;
@@ -39,10 +40,10 @@ const CARDS: &[(&str, &str, bool, bool, bool)] = &[
 fn a_card_has_its_parts(rt: HostRuntime) {
     for (text, name, has_value, is_end, is_text) in CARDS {
         let card = card_of(text);
-        assert_eq!(rt; card.name(), name_of(name), "the name of {text}");
-        assert_eq!(rt; card.has_value(), *has_value, "the value of {text}");
-        assert_eq!(rt; card.is_end(), *is_end, "the end of {text}");
-        assert_eq!(rt; card.is_text(), *is_text, "the bytes of {text}");
+        same!(rt; card.name(), name_of(name), text);
+        same!(rt; card.has_value(), *has_value, text);
+        same!(rt; card.is_end(), *is_end, text);
+        same!(rt; card.is_text(), *is_text, text);
     }
 }
 
@@ -66,8 +67,8 @@ const NAMES: &[(&str, bool, bool)] = &[
 fn a_name_of_capitals_and_digits_is_settable(rt: HostRuntime) {
     for (text, is_spelled, is_settable) in NAMES {
         let name = name_of(text);
-        assert_eq!(rt; name.is_spelled(), *is_spelled, "the spelling of {text}");
-        assert_eq!(rt; name.is_settable(), *is_settable, "the use of {text}");
+        same!(rt; name.is_spelled(), *is_spelled, text);
+        same!(rt; name.is_settable(), *is_settable, text);
     }
 }
 
@@ -97,7 +98,7 @@ fn a_header_ends_with_the_block_of_its_end(rt: HostRuntime) -> Result<(), Fail> 
             Err(HeaderFault::NoEnd) => None,
             Err(HeaderFault::Memory) => Some((0, 0)),
         };
-        assert_eq!(rt; found, *wanted, "{wanted:?}");
+        same!(rt; found, *wanted, wanted);
     }
     Ok(())
 }
@@ -134,17 +135,14 @@ fn check_change<R: Abort + AllocGlobal>(
 ) -> Result<(), Fail> {
     let mut list = header_of(rt.alloc(), before)?;
     let change = change_of(rt.alloc(), text)?;
-    assert!(rt; change.is_in_range(&list), "{before} to {after}");
-    assert!(rt; has_no_end(change.cards()), "{before} to {after}");
+    holds!(rt; change.is_in_range(&list), (before, after));
+    holds!(rt; has_no_end(change.cards()), (before, after));
     list.reserve(change.len_after(&list))?;
     change.apply(&mut list);
     let mut sink = writer(rt.alloc(), SMOOTH)?;
     list.emit(&mut sink)?;
     let wanted = hdu_of(rt.alloc(), after, 0)?;
-    assert!(rt;
-        sink.into_inner().bytes.as_slice() == wanted.as_slice(),
-        "{before} to {after}"
-    );
+    holds!(rt; sink.into_inner().bytes.as_slice() == wanted.as_slice(), (before, after));
     Ok(())
 }
 

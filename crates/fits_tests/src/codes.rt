@@ -1,6 +1,7 @@
 //! What is wrong with cards and headers: expected codes by hand, from the rules' own words.
 
 use crate::builders::{P0, add_cards, end_header, fill_up};
+use crate::checks::same;
 use crate::runs::{ALL_SMOOTH, verify};
 use fits_card::BLOCK_LEN;
 use fits_cli::Level;
@@ -69,12 +70,8 @@ fn check_codes<R: Abort>(
     let ran = verify(alloc, Level::All, &file, ALL_SMOOTH)?;
     let report = std::str::from_utf8(&ran.printed).ok().ok_or("no text")?;
     let codes = codes_in(alloc, report)?;
-    assert_eq!(rt; codes.as_str(), wanted, "{first}{others}");
-    assert_eq!(rt;
-        ran.end.status == 1,
-        wanted.contains('E'),
-        "{first}{others}"
-    );
+    same!(rt; codes.as_str(), wanted, (first, others));
+    same!(rt; ran.end.status == 1, wanted.contains('E'), (first, others));
     Ok(())
 }
 

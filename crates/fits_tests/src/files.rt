@@ -1,6 +1,7 @@
 //! Files: which open, as what, and what they answer.
 
 use crate::builders::{FileText, P0, PIXEL, THREE_PIXELS, file_of, name_of};
+use crate::checks::{holds, same};
 use crate::planned::{SMOOTH, writer};
 use crate::values::line_of;
 use fits_hdu::Kind;
@@ -20,7 +21,7 @@ const LIMITS: &[(u64, u64, bool)] = &[
 #[test]
 fn limits_are_the_last_that_are_kept(rt: HostRuntime) {
     for (bytes, hdus, is_within) in LIMITS {
-        assert_eq!(rt; within(*bytes, *hdus), *is_within);
+        same!(rt; within(*bytes, *hdus), *is_within);
     }
 }
 
@@ -94,12 +95,12 @@ fn a_file_has_its_hdus_and_is_saved_as_it_was(rt: HostRuntime) -> Result<(), Fai
 // Whether a file opens, has these HDUs, and is saved as it was.
 fn opens_as<R: Abort + AllocGlobal>(rt: &R, bytes: &[u8], wanted: Offsets<'_>) -> Result<(), Fail> {
     let mut session = Session::open(rt.alloc(), bytes)?;
-    assert_eq!(rt; session.hdus(), wanted.len());
+    same!(rt; session.hdus(), wanted.len());
     let offsets = session.offsets()?;
     for (found, wanted) in offsets.iter().zip(wanted) {
-        assert_eq!(rt; *found, offsets_of(*wanted));
+        same!(rt; *found, offsets_of(*wanted));
     }
-    assert!(rt; saved(rt.alloc(), &mut session)?.as_slice() == bytes);
+    holds!(rt; saved(rt.alloc(), &mut session)?.as_slice() == bytes);
     Ok(())
 }
 
@@ -192,7 +193,7 @@ fn the_first_fault_of_a_file_is_reported(rt: HostRuntime) -> Result<(), Fail> {
         for len in *least..=*most {
             let (front, _) = bytes.split_at(len.min(bytes.len()));
             let found = Session::open(rt.alloc(), front).err();
-            assert_eq!(rt; found, Some(*fault), "{fault:?} at {len} bytes");
+            same!(rt; found, Some(*fault), (fault, len));
         }
     }
     Ok(())
@@ -242,15 +243,15 @@ fn a_file_describes_each_hdu(rt: HostRuntime) -> Result<(), Fail> {
     let bytes = file_of(rt.alloc(), ASKED)?;
     let mut session = Session::open(rt.alloc(), &bytes)?;
     for (h, class, axes, cards, kind) in HDUS {
-        assert_eq!(rt; session.shape(*h)?.class, *class, "hdu {h}");
-        assert_eq!(rt; session.shape(*h)?.axes.as_slice().len(), *axes, "hdu {h}");
-        assert_eq!(rt; session.card_count(*h), Ok(*cards), "hdu {h}");
-        assert_eq!(rt; session.kind(*h), kind.ok_or(Refusal::NotImage), "hdu {h}");
+        same!(rt; session.shape(*h)?.class, *class, h);
+        same!(rt; session.shape(*h)?.axes.as_slice().len(), *axes, h);
+        same!(rt; session.card_count(*h), Ok(*cards), h);
+        same!(rt; session.kind(*h), kind.ok_or(Refusal::NotImage), h);
     }
     for h in [0usize, 5] {
-        assert!(rt; matches!(session.shape(h), Err(Refusal::NoHdu)));
-        assert_eq!(rt; session.card_count(h), Err(Refusal::NoHdu));
-        assert_eq!(rt; session.kind(h), Err(Refusal::NoHdu));
+        holds!(rt; matches!(session.shape(h), Err(Refusal::NoHdu)));
+        same!(rt; session.card_count(h), Err(Refusal::NoHdu));
+        same!(rt; session.kind(h), Err(Refusal::NoHdu));
     }
     Ok(())
 }
@@ -271,9 +272,9 @@ fn a_keyword_of_an_hdu_says_its_value(rt: HostRuntime) -> Result<(), Fail> {
         match session.value(*h, &name_of(name)) {
             Ok(said) => {
                 let line = line_of(rt.alloc(), &Some(said))?;
-                assert_eq!(rt; Ok(line.as_slice()), wanted.map(str::as_bytes), "{name}");
+                same!(rt; Ok(line.as_slice()), wanted.map(str::as_bytes), name);
             }
-            Err(why) => assert_eq!(rt; Some(why), wanted.err(), "{name}"),
+            Err(why) => same!(rt; Some(why), wanted.err(), name),
         }
     }
     Ok(())

@@ -1,6 +1,7 @@
 //! HDUs put in and taken out by scripts: what they print, and what is saved.
 
 use crate::builders::{P0, THREE_PIXELS, add_cards, end_header, repeated};
+use crate::checks::{holds, same};
 use crate::long_scripts::edit_of;
 use crate::pixel_rows::{NONE, Pixels, add_pixels};
 use crate::planned::{SMOOTH, reader};
@@ -431,15 +432,11 @@ fn a_new_image_has_999_axes_at_most(rt: HostRuntime) -> Result<(), Fail> {
         script.extend_from_slice(&repeated(rt.alloc(), more, *times)?)?;
         script.extend_from_slice(b"\noff")?;
         let ran = edit(rt.alloc(), &file, &script, ALL_SMOOTH)?;
-        assert_eq!(rt;
-            ran.printed.as_slice(),
-            answers.as_bytes(),
-            "{first} {more}"
-        );
+        same!(rt; ran.printed.as_slice(), answers.as_bytes(), (first, more));
         let refused = u8::from(answers.starts_with("line 1: refused"));
-        assert_eq!(rt; ran.end.status, refused, "{first} {more}");
+        same!(rt; ran.end.status, refused, (first, more));
         let again = edit(rt.alloc(), &ran.saved, b"off", ALL_SMOOTH)?;
-        assert!(rt; ran.printed.ends_with(&again.printed), "{first} {more}");
+        holds!(rt; ran.printed.ends_with(&again.printed), (first, more));
     }
     Ok(())
 }
@@ -463,7 +460,7 @@ fn an_axis_has_64_bits_at_most(rt: HostRuntime) -> Result<(), Fail> {
             kind: Kind::U8,
             axes: Axes::new(axes.to_vec(rt.alloc())?),
         };
-        assert_eq!(rt; session.edit(edit).err(), *refusal, "{at} {axes:?}");
+        same!(rt; session.edit(edit).err(), *refusal, (at, axes));
     }
     Ok(())
 }
@@ -499,8 +496,8 @@ fn a_file_has_ten_thousand_hdus_at_most(rt: HostRuntime) -> Result<(), Fail> {
     let mut session = Session::open(rt.alloc(), &file)?;
     for (line, refusal, hdus) in MANY_HDUS {
         let edit = edit_of(rt.alloc(), line).ok_or("no edit")?;
-        assert_eq!(rt; session.edit(edit).err(), *refusal, "{line}");
-        assert_eq!(rt; session.hdus(), *hdus, "{line}");
+        same!(rt; session.edit(edit).err(), *refusal, line);
+        same!(rt; session.hdus(), *hdus, line);
     }
     Ok(())
 }
@@ -509,6 +506,6 @@ fn a_file_has_ten_thousand_hdus_at_most(rt: HostRuntime) -> Result<(), Fail> {
 fn a_file_of_more_hdus_does_not_open(rt: HostRuntime) -> Result<(), Fail> {
     let file = many_hdus(rt.alloc(), 10_000)?;
     let fault = read_outlines(rt.alloc(), &mut reader(&file, SMOOTH)).err();
-    assert_eq!(rt; fault, Some(ReadFileFault::Open(OpenFault::TooLarge)));
+    same!(rt; fault, Some(ReadFileFault::Open(OpenFault::TooLarge)));
     Ok(())
 }

@@ -1,6 +1,7 @@
 //! HDUs: which bytes are one, the kind of their pixels, and what their keywords say.
 
 use crate::builders::{hdu_of, name_of, open_hdu};
+use crate::checks::same;
 use crate::values::line_of;
 use fits_hdu::{Hdu, HduFault, KeywordFault, Kind};
 use fits_rules::Class;
@@ -81,9 +82,9 @@ fn an_hdu_has_the_data_that_its_cards_describe(rt: HostRuntime) -> Result<(), Fa
         let wanted = bytes.len();
         bytes.extend_from_slice(b"XTENSION")?;
         let (hdu, len) = open_hdu(rt.alloc(), &bytes, cards.starts_with("SIMPLE"))?;
-        assert_eq!(rt; len, wanted, "{cards}");
-        assert_eq!(rt; hdu.data_len() / 2880, *blocks, "{cards}");
-        assert_eq!(rt; hdu.shape().class, *class, "{cards}");
+        same!(rt; len, wanted, cards);
+        same!(rt; hdu.data_len() / 2880, *blocks, cards);
+        same!(rt; hdu.shape().class, *class, cards);
     }
     Ok(())
 }
@@ -145,7 +146,7 @@ fn the_first_fault_of_an_hdu_is_reported(rt: HostRuntime) -> Result<(), Fail> {
     for (primary, cards, fault) in FAULTS {
         let bytes = hdu_of(rt.alloc(), cards, 0)?;
         let found = open_hdu(rt.alloc(), &bytes, *primary).err();
-        assert_eq!(rt; found, Some(*fault), "{cards}");
+        same!(rt; found, Some(*fault), cards);
     }
     Ok(())
 }
@@ -195,7 +196,7 @@ fn pixels_are_of_eight_kinds_by_their_bits_and_offset(rt: HostRuntime) -> Result
         ] {
             cards.push_str(text)?;
         }
-        assert_eq!(rt; kind_of(rt.alloc(), &cards, 0)?, Some(*kind), "{cards}");
+        same!(rt; kind_of(rt.alloc(), &cards, 0)?, Some(*kind), cards);
     }
     Ok(())
 }
@@ -238,7 +239,7 @@ const IMAGES: &[(&str, usize, Option<Kind>)] = &[
 #[test]
 fn only_arrays_of_integers_have_a_kind(rt: HostRuntime) -> Result<(), Fail> {
     for (cards, blocks, kind) in IMAGES {
-        assert_eq!(rt; kind_of(rt.alloc(), cards, *blocks)?, *kind, "{cards}");
+        same!(rt; kind_of(rt.alloc(), cards, *blocks)?, *kind, cards);
     }
     Ok(())
 }
@@ -272,7 +273,7 @@ fn a_keyword_says_what_its_first_card_with_a_value_does(rt: HostRuntime) -> Resu
     let (mut hdu, _) = open_hdu(rt.alloc(), &bytes, true)?;
     for (name, wanted) in KEYWORDS {
         let line = keyword_line(rt.alloc(), &mut hdu, name)?;
-        assert_eq!(rt; line.as_slice(), wanted.as_bytes(), "{name}");
+        same!(rt; line.as_slice(), wanted.as_bytes(), name);
     }
     Ok(())
 }

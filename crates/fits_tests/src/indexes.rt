@@ -3,6 +3,7 @@ ghost use Rattle.std.specs.Prelude.{◌≡◌, ◌≤◌, length};
 
 use crate::builders::ChangeText::{self, Move, Splice};
 use crate::builders::{P0, change_of, hdu_of, header_of, name_of};
+use crate::checks::{holds, same};
 use fits_card::Change;
 use fits_codes::Code;
 use fits_header::{Header, KeyIndex};
@@ -51,8 +52,8 @@ fn check_places<R: Abort>(
 ) -> Result<(), Fail> {
     let (name, places, lead) = wanted;
     let found = index.positions(alloc, &name_of(name))?;
-    assert_eq!(rt; found.as_slice(), *places, "{name}");
-    assert_eq!(rt; index.lead(&name_of(name)), *lead, "{name}");
+    same!(rt; found.as_slice(), *places, name);
+    same!(rt; index.lead(&name_of(name)), *lead, name);
     Ok(())
 }
 
@@ -127,11 +128,11 @@ fn a_header_has_each_name_once_ascending(rt: HostRuntime) -> Result<(), Fail> {
         let bytes = hdu_of(rt.alloc(), cards, 0)?;
         let mut session = Session::open(rt.alloc(), &bytes)?;
         let names = session.names(1)?;
-        assert_eq!(rt; names.len(), wanted.len());
+        same!(rt; names.len(), wanted.len());
         for (name, text) in names.iter().zip(wanted.iter()) {
-            assert_eq!(rt; *name, name_of(text));
+            same!(rt; *name, name_of(text));
         }
-        assert_eq!(rt; session.names(2).err(), Some(Refusal::NoHdu));
+        same!(rt; session.names(2).err(), Some(Refusal::NoHdu));
     }
     Ok(())
 }
@@ -163,12 +164,12 @@ fn opened(alloc: Global, cards: &str) -> Result<Header, Fail> {
 #[test]
 fn each_card_has_its_codes(rt: HostRuntime) -> Result<(), Fail> {
     let mut header = opened(rt.alloc(), JUDGED)?;
-    assert_eq!(rt; header.len(), CARD_CODES.len());
+    same!(rt; header.len(), CARD_CODES.len());
     for (index, (is_link, code)) in CARD_CODES.iter().enumerate() {
         if index < header.len() {
-            assert_eq!(rt; header.is_link(index + 1), *is_link, "{index}");
+            same!(rt; header.is_link(index + 1), *is_link, index);
             let codes = header.codes(index + 1);
-            assert_eq!(rt; codes.as_slice().first().copied(), *code, "{index}");
+            same!(rt; codes.as_slice().first().copied(), *code, index);
         }
     }
     Ok(())
@@ -179,8 +180,8 @@ fn each_card_has_its_codes(rt: HostRuntime) -> Result<(), Fail> {
 fn a_header_has_the_total_of_its_words(rt: HostRuntime) -> Result<(), Fail> {
     let header = opened(rt.alloc(), CARDS)?;
     let is_small = header.len() < 1000;
-    assert!(rt; is_small);
+    holds!(rt; is_small);
     // 720 words of spaces have 388062927360, and what isn't a space adds the rest.
-    assert_eq!(rt; header.total(), 400_698_905_827);
+    same!(rt; header.total(), 400_698_905_827);
     Ok(())
 }

@@ -6,6 +6,8 @@ mod builders;
 #[cfg(test)]
 mod cards;
 #[cfg(test)]
+mod checks;
+#[cfg(test)]
 mod codes;
 #[cfg(test)]
 mod edits;

@@ -1,6 +1,7 @@
 //! Lines of scripts: their commands, their lengths, and scripts of any length.
 
 use crate::builders::{P0, card_of, hdu_of, name_of, repeated};
+use crate::checks::{holds, same};
 use crate::planned::{SMOOTH, reader, writer};
 use crate::runs::{ALL_SMOOTH, edit};
 use crate::values::line_of;
@@ -364,10 +365,10 @@ const LINES: &[(&str, Said<'static>)] = &[
 fn a_line_says_one_command_or_none(rt: HostRuntime) -> Result<(), Fail> {
     for (line, said) in LINES {
         match parse_line(rt.alloc(), line.as_bytes()) {
-            Ok(command) => assert!(rt; says(rt.alloc(), command, *said)?, "{line:?}"),
+            Ok(command) => holds!(rt; says(rt.alloc(), command, *said)?, line),
             Err(fault) => {
-                assert_eq!(rt; fault, LineFault::Bad, "{line:?}");
-                assert!(rt; matches!(said, Bad), "{line:?}");
+                same!(rt; fault, LineFault::Bad, line);
+                holds!(rt; matches!(said, Bad), line);
             }
         }
     }
@@ -491,15 +492,12 @@ fn lines_are_counted_and_measured(rt: HostRuntime) -> Result<(), Fail> {
     for (parts, answers, status) in SCRIPTS {
         let script = script_of(rt.alloc(), parts)?;
         let ran = edit(rt.alloc(), &file, &script, ALL_SMOOTH)?;
-        assert_eq!(rt; ran.printed.as_slice(), answers.as_bytes());
-        assert_eq!(rt;
-            ran.end,
-            End {
+        same!(rt; ran.printed.as_slice(), answers.as_bytes());
+        same!(rt; ran.end, End {
                 status: *status,
                 fault: None
-            }
-        );
-        assert!(rt; ran.saved.as_slice() == file.as_slice());
+            });
+        holds!(rt; ran.saved.as_slice() == file.as_slice());
     }
     Ok(())
 }
@@ -644,9 +642,9 @@ fn check_script<R: Abort + AllocGlobal>(
         &mut saved,
         &mut out,
     );
-    assert_eq!(rt; end.fault, fault);
-    assert_eq!(rt; out.into_inner().bytes.as_slice(), answers.as_bytes());
+    same!(rt; end.fault, fault);
+    same!(rt; out.into_inner().bytes.as_slice(), answers.as_bytes());
     let wanted = if fault.is_none() { file.len() } else { 0 };
-    assert_eq!(rt; saved.into_inner().bytes.len(), wanted);
+    same!(rt; saved.into_inner().bytes.len(), wanted);
     Ok(())
 }

@@ -1,6 +1,7 @@
 //! What `list` prints of a file.
 
 use crate::builders::{FileText, P0, PIXEL, file_of};
+use crate::checks::{holds, same};
 use crate::runs::{ALL_SMOOTH, DONE, list};
 use std::test::Fail;
 
@@ -57,8 +58,8 @@ fn a_file_is_listed_by_its_hdus(rt: HostRuntime) -> Result<(), Fail> {
     for (file, lines) in LISTINGS {
         let bytes = file_of(rt.alloc(), *file)?;
         let ran = list(rt.alloc(), &bytes, ALL_SMOOTH)?;
-        assert_eq!(rt; ran.printed.as_slice(), lines.as_bytes());
-        assert_eq!(rt; ran.end, DONE);
+        same!(rt; ran.printed.as_slice(), lines.as_bytes());
+        same!(rt; ran.end, DONE);
     }
     Ok(())
 }
@@ -74,11 +75,8 @@ fn fifty_extensions_are_listed(rt: HostRuntime) -> Result<(), Fail> {
         bytes.extend_from_slice(&extension)?;
     }
     let ran = list(rt.alloc(), &bytes, ALL_SMOOTH)?;
-    assert_eq!(rt; ran.end, DONE);
-    assert!(rt; ran.printed.ends_with(FIFTY_FIRST));
-    assert_eq!(rt;
-        ran.printed.iter().filter(|byte| **byte == b'\n').count(),
-        51
-    );
+    same!(rt; ran.end, DONE);
+    holds!(rt; ran.printed.ends_with(FIFTY_FIRST));
+    same!(rt; ran.printed.iter().filter(|byte| **byte == b'\n').count(), 51);
     Ok(())
 }

@@ -2,6 +2,7 @@
 //! of the present bytes; whether these are right, other tests show.
 
 use crate::builders::{P0, PIXEL, file_of};
+use crate::checks::holds;
 use crate::files::saved;
 use crate::memory::same_answers;
 use fits_cli::{Command, parse_line};
@@ -110,7 +111,7 @@ fn check_script<R: Abort + AllocGlobal>(rt: &R, script: LongScript) -> Result<()
         let mut fresh = Session::open(rt.alloc(), &bytes)?;
         same_answers(rt, &mut session, &mut fresh)?;
     }
-    assert!(rt; least <= made, "{made} of {count} edits");
+    holds!(rt; least <= made, (made, count));
     Ok(())
 }
 

@@ -7,6 +7,7 @@ use crate::builders::{
     COMMENTS, FileText, P0, PIXEL, add_cards, card_of, end_header, file_of, hdu_of, header_of,
     name_of, open_hdu, repeated, zeroed_file_of,
 };
+use crate::checks::{holds, same};
 use crate::hdus::ASKED;
 use crate::planned::{SMOOTH, reader, writer};
 use crate::reports::{A, NAMED_TWICE};
@@ -42,10 +43,10 @@ fn refused_memory_at_a_cut(rt: HostRuntime) {
     for _ in 0..2 {
         match cut_header(rt.alloc(), &bytes) {
             Ok((list, len)) => {
-                assert_eq!(rt; list.len(), 42);
-                assert_eq!(rt; len, 5760);
+                same!(rt; list.len(), 42);
+                same!(rt; len, 5760);
             }
-            Err(fault) => assert_eq!(rt; fault, HeaderFault::Memory),
+            Err(fault) => same!(rt; fault, HeaderFault::Memory),
         }
     }
 }
@@ -62,9 +63,9 @@ fn refused_memory_in_a_store(rt: HostRuntime) -> Result<(), Fail> {
     for room in [1usize, 100, 10_000] {
         let _ = list.reserve(room);
     }
-    assert_eq!(rt; list.len(), 3);
+    same!(rt; list.len(), 3);
     list.emit(&mut sink)?;
-    assert!(rt; sink.into_inner().bytes.as_slice() == bytes.as_slice());
+    holds!(rt; sink.into_inner().bytes.as_slice() == bytes.as_slice());
     Ok(())
 }
 
@@ -85,7 +86,7 @@ fn check_said<R: Abort + AllocGlobal>(
     if let Ok(said) = said
         && let Ok(line) = line_of(rt.alloc(), &said)
     {
-        assert_eq!(rt; line.as_slice(), wanted.as_bytes());
+        same!(rt; line.as_slice(), wanted.as_bytes());
     }
 }
 
@@ -116,7 +117,7 @@ fn refused_memory_at_a_long_string(rt: HostRuntime) {
         return;
     };
     for _ in 0..3 {
-        assert_eq!(rt; header.len(), 3);
+        holds!(rt; header.len() == 3);
         let said = long_value(rt.alloc(), &mut header, 1);
         check_said(&rt, said, "string [onetwothree] / c");
     }
@@ -141,11 +142,11 @@ fn refused_memory_at_a_shape(rt: HostRuntime) {
     for _ in 0..2 {
         match shape(rt.alloc(), &mut good, false) {
             Ok(found) => check_shape(&rt, &found, GOOD_SHAPE, GOOD),
-            Err(fault) => assert_eq!(rt; fault, ShapeFault::Memory),
+            Err(fault) => same!(rt; fault, ShapeFault::Memory),
         }
         // a broken place is found without memory
         let fault = shape(rt.alloc(), &mut broken, false).err();
-        assert_eq!(rt; fault, Some(ShapeFault::Bad(5)));
+        same!(rt; fault, Some(ShapeFault::Bad(5)));
     }
 }
 
@@ -157,10 +158,10 @@ fn refused_memory_at_an_hdu(rt: HostRuntime) {
     for _ in 0..2 {
         match open_hdu(rt.alloc(), &bytes, false) {
             Ok((hdu, len)) => {
-                assert_eq!(rt; hdu.data_len(), 2880);
-                assert_eq!(rt; len, 5760);
+                same!(rt; hdu.data_len(), 2880);
+                same!(rt; len, 5760);
             }
-            Err(fault) => assert_eq!(rt; fault, HduFault::Memory),
+            Err(fault) => same!(rt; fault, HduFault::Memory),
         }
     }
 }
@@ -175,10 +176,10 @@ fn refused_memory_at_a_keyword(rt: HostRuntime) {
     };
     for _ in 0..2 {
         if let Err(fault) = hdu.value(rt.alloc(), &name_of("KEY")) {
-            assert_eq!(rt; fault, KeywordFault::Memory);
+            same!(rt; fault, KeywordFault::Memory);
         }
         let fault = hdu.value(rt.alloc(), &name_of("ABSENT")).err();
-        assert_eq!(rt; fault, Some(KeywordFault::NoKey));
+        same!(rt; fault, Some(KeywordFault::NoKey));
     }
 }
 
@@ -200,31 +201,31 @@ pub fn same_answers<R: Abort + AllocGlobal>(
     one: &mut Session,
     other: &mut Session,
 ) -> Result<(), AllocError> {
-    assert_eq!(rt; one.hdus(), other.hdus());
+    same!(rt; one.hdus(), other.hdus());
     for h in 0..one.hdus().wrapping_add(2) {
-        assert_eq!(rt; one.card_count(h), other.card_count(h));
-        assert_eq!(rt; one.kind(h), other.kind(h));
-        assert_eq!(rt; one.stats(h), other.stats(h));
-        assert_eq!(rt; one.datasum(h), other.datasum(h));
-        assert_eq!(rt; one.verdicts(h), other.verdicts(h));
-        assert_eq!(rt; one.shape(h).is_ok(), other.shape(h).is_ok());
+        same!(rt; one.card_count(h), other.card_count(h));
+        same!(rt; one.kind(h), other.kind(h));
+        same!(rt; one.stats(h), other.stats(h));
+        same!(rt; one.datasum(h), other.datasum(h));
+        same!(rt; one.verdicts(h), other.verdicts(h));
+        same!(rt; one.shape(h).is_ok(), other.shape(h).is_ok());
         for name in ["XTENSION", "BITPIX", "KEY", "NEW"] {
             let line = answer(rt.alloc(), one, h, name)?;
-            assert!(rt; line == answer(rt.alloc(), other, h, name)?);
+            holds!(rt; line == answer(rt.alloc(), other, h, name)?);
             let found = places(one, h, name)?;
-            assert!(rt; found == places(other, h, name)?);
+            holds!(rt; found == places(other, h, name)?);
         }
         let found = names(one, h)?;
-        assert!(rt; found == names(other, h)?);
+        holds!(rt; found == names(other, h)?);
         for corner in [[1u64].as_slice(), [1u64, 1].as_slice()] {
             let found = pixels(one, h, corner)?;
-            assert!(rt; found == pixels(other, h, corner)?);
+            holds!(rt; found == pixels(other, h, corner)?);
         }
     }
-    assert!(rt; one.offsets()?.as_slice() == other.offsets()?.as_slice());
-    assert!(rt; one.report()?.as_slice() == other.report()?.as_slice());
-    assert_eq!(rt; one.counts(), other.counts());
-    assert!(rt; saved(rt.alloc(), one)?.as_slice() == saved(rt.alloc(), other)?.as_slice());
+    holds!(rt; one.offsets()?.as_slice() == other.offsets()?.as_slice());
+    holds!(rt; one.report()?.as_slice() == other.report()?.as_slice());
+    same!(rt; one.counts(), other.counts());
+    holds!(rt; saved(rt.alloc(), one)?.as_slice() == saved(rt.alloc(), other)?.as_slice());
     Ok(())
 }
 
@@ -290,12 +291,12 @@ fn refused_memory_at_opening(rt: HostRuntime) {
     };
     for _ in 0..2 {
         match Session::open(rt.alloc(), &bytes) {
-            Ok(session) => assert_eq!(rt; session.hdus(), 2),
-            Err(why) => assert_eq!(rt; why, OpenFault::Memory),
+            Ok(session) => same!(rt; session.hdus(), 2),
+            Err(why) => same!(rt; why, OpenFault::Memory),
         }
         // what begins otherwise is no file, whatever memory there is
         let why = Session::open(rt.alloc(), b"SIMPLE").err();
-        assert_eq!(rt; why, Some(OpenFault::NotFits));
+        same!(rt; why, Some(OpenFault::NotFits));
     }
 }
 
@@ -371,10 +372,7 @@ fn check_line<R: Abort + AllocGlobal>(
     let mut session = opened(rt, before)?;
     let edit = edit_said(rt, line)?;
     let refused = session.edit(edit).err();
-    assert!(rt;
-        refused == refusal || (takes_memory && refused == Some(Refusal::Memory)),
-        "{line:?}"
-    );
+    holds!(rt; refused == refusal || (takes_memory && refused == Some(Refusal::Memory)), line);
     // nothing else is refused after a refusal
     let bytes = if refused.is_none() { after } else { before };
     let mut fresh = opened(rt, bytes)?;
@@ -386,7 +384,7 @@ fn opened<R: Abort + AllocGlobal>(rt: &R, bytes: &[u8]) -> Result<Session, Alloc
     match Session::open(rt.alloc(), bytes) {
         Ok(session) => Ok(session),
         Err(why) => {
-            assert_eq!(rt; why, OpenFault::Memory);
+            same!(rt; why, OpenFault::Memory);
             Err(AllocError)
         }
     }
@@ -397,7 +395,7 @@ fn edit_said<R: Abort + AllocGlobal>(rt: &R, line: &str) -> Result<Edit, AllocEr
     match parse_line(rt.alloc(), line.as_bytes()) {
         Ok(Command::Edit(edit)) => Ok(edit),
         said => {
-            assert_eq!(rt; said.err(), Some(LineFault::Memory), "{line:?}");
+            same!(rt; said.err(), Some(LineFault::Memory), line);
             Err(AllocError)
         }
     }
@@ -472,16 +470,16 @@ fn refused_memory_at_reading(rt: HostRuntime) {
     };
     for _ in 0..2 {
         match Session::read(rt.alloc(), &mut reader(&bytes, SMOOTH)) {
-            Ok(session) => assert_eq!(rt; session.hdus(), 2),
-            Err(why) => assert_eq!(rt; why, ReadFileFault::Open(OpenFault::Memory)),
+            Ok(session) => same!(rt; session.hdus(), 2),
+            Err(why) => same!(rt; why, ReadFileFault::Open(OpenFault::Memory)),
         }
         match read_outlines(rt.alloc(), &mut reader(&bytes, SMOOTH)) {
-            Ok(outlines) => assert_eq!(rt; outlines.len(), 2),
-            Err(why) => assert_eq!(rt; why, ReadFileFault::Open(OpenFault::Memory)),
+            Ok(outlines) => same!(rt; outlines.len(), 2),
+            Err(why) => same!(rt; why, ReadFileFault::Open(OpenFault::Memory)),
         }
         match read_sums(rt.alloc(), &mut reader(&bytes, SMOOTH)) {
-            Ok(sums) => assert_eq!(rt; sums.len(), 2),
-            Err(why) => assert_eq!(rt; why, ReadFileFault::Open(OpenFault::Memory)),
+            Ok(sums) => same!(rt; sums.len(), 2),
+            Err(why) => same!(rt; why, ReadFileFault::Open(OpenFault::Memory)),
         }
     }
 }
@@ -497,12 +495,12 @@ fn refused_memory_at_an_edit(rt: HostRuntime) {
 fn refused_memory_at_a_line(rt: HostRuntime) {
     for _ in 0..2 {
         match parse_line(rt.alloc(), b"set 1 KEY 'it''s' / c") {
-            Ok(command) => assert!(rt; matches!(command, Command::Edit(Edit::Set { .. }))),
-            Err(fault) => assert_eq!(rt; fault, LineFault::Memory),
+            Ok(command) => holds!(rt; matches!(command, Command::Edit(Edit::Set { .. }))),
+            Err(fault) => same!(rt; fault, LineFault::Memory),
         }
         match parse_line(rt.alloc(), b"new 2 u16 3,2") {
-            Ok(command) => assert!(rt; matches!(command, Command::Edit(Edit::NewImage { .. }))),
-            Err(fault) => assert_eq!(rt; fault, LineFault::Memory),
+            Ok(command) => holds!(rt; matches!(command, Command::Edit(Edit::NewImage { .. }))),
+            Err(fault) => same!(rt; fault, LineFault::Memory),
         }
         // a line without a reading, and one that holds no text and no axes, need none
         for (line, is_bad) in [
@@ -514,7 +512,7 @@ fn refused_memory_at_a_line(rt: HostRuntime) {
             ("new 2 u8 -", false),
         ] {
             let fault = parse_line(rt.alloc(), line.as_bytes()).err();
-            assert_eq!(rt; fault, if is_bad { Some(LineFault::Bad) } else { None });
+            same!(rt; fault, if is_bad { Some(LineFault::Bad) } else { None });
         }
     }
 }
@@ -528,10 +526,10 @@ fn refused_memory_at_a_query(rt: HostRuntime) {
         return;
     };
     if let Err(why) = session.value(2, &name_of("XTENSION")) {
-        assert_eq!(rt; why, Refusal::Memory);
+        same!(rt; why, Refusal::Memory);
     }
     let why = session.value(2, &name_of("ABSENT")).err();
-    assert_eq!(rt; why, Some(Refusal::NoKey));
+    same!(rt; why, Some(Refusal::NoKey));
     let _ = session.offsets();
     if let Ok(mut fresh) = Session::open(rt.alloc(), &bytes) {
         let _ = same_answers(&rt, &mut session, &mut fresh);
@@ -550,26 +548,23 @@ fn refused_memory_at_saving(rt: HostRuntime) {
         return;
     };
     // saving asks for none
-    assert_eq!(rt; session.save(&mut sink), Ok(()));
-    assert!(rt; sink.into_inner().bytes.as_slice() == bytes.as_slice());
+    same!(rt; session.save(&mut sink), Ok(()));
+    holds!(rt; sink.into_inner().bytes.as_slice() == bytes.as_slice());
 }
 
 // Whether a run prints and saves this, or ends out of memory, prints a prefix and saves nothing.
 fn check_ended<R: Abort>(rt: &R, ran: &Ran, answers: &str, status: u8, saved: &[u8]) {
     if ran.end.fault == Some(Fault::Memory) {
-        assert_eq!(rt; ran.end.status, 3);
-        assert!(rt; ran.saved.is_empty());
-        assert!(rt; answers.as_bytes().starts_with(&ran.printed));
+        same!(rt; ran.end.status, 3);
+        holds!(rt; ran.saved.is_empty());
+        holds!(rt; answers.as_bytes().starts_with(&ran.printed));
     } else {
-        assert_eq!(rt;
-            ran.end,
-            End {
+        same!(rt; ran.end, End {
                 status,
                 fault: None
-            }
-        );
-        assert_eq!(rt; ran.printed.as_slice(), answers.as_bytes());
-        assert!(rt; ran.saved.as_slice() == saved);
+            });
+        same!(rt; ran.printed.as_slice(), answers.as_bytes());
+        holds!(rt; ran.saved.as_slice() == saved);
     }
 }
 

@@ -1,6 +1,7 @@
 //! Which numbers texts denote, by hand.
 
 use crate::builders::card_of;
+use crate::checks::{holds, same};
 use fits_rules::{IntegerSaid, integer_said};
 use fits_value::{denotes, integer_of};
 
@@ -78,7 +79,7 @@ const INTEGERS: &[(&str, Option<i64>)] = &[
 #[test]
 fn integers_have_their_numbers(rt: HostRuntime) {
     for (text, number) in INTEGERS {
-        assert_eq!(rt; integer_of(text.as_bytes()), *number, "at {text}");
+        same!(rt; integer_of(text.as_bytes()), *number, text);
     }
 }
 
@@ -196,11 +197,7 @@ const DENOTED: &[(&str, i128, bool)] = &[
 fn numbers_are_denoted_by_digits_and_exponents(rt: HostRuntime) {
     for (words, number, is_denoted) in DENOTED {
         for word in words.split(' ') {
-            assert_eq!(rt;
-                denotes(word.as_bytes(), *number),
-                *is_denoted,
-                "{word} {number}"
-            );
+            same!(rt; denotes(word.as_bytes(), *number), *is_denoted, (word, number));
         }
     }
 }
@@ -211,7 +208,7 @@ const NO_NUMBERS: &[(&str, i128)] = &[("", 0), (" 0", 0), ("0 ", 0), ("3 2", 32)
 #[test]
 fn spaces_are_no_digits(rt: HostRuntime) {
     for (text, number) in NO_NUMBERS {
-        assert!(rt; !denotes(text.as_bytes(), *number), "{text}");
+        holds!(rt; !denotes(text.as_bytes(), *number), text);
     }
 }
 
@@ -232,6 +229,6 @@ const SAID: &[(&str, IntegerSaid)] = &[
 #[test]
 fn a_card_says_an_integer_of_64_bits_or_none(rt: HostRuntime) {
     for (text, said) in SAID {
-        assert_eq!(rt; integer_said(&card_of(text)), *said, "{text}");
+        same!(rt; integer_said(&card_of(text)), *said, text);
     }
 }

@@ -1,6 +1,7 @@
 //! Pixels and sums of files: what scripts print of them, and what is saved.
 
 use crate::builders::{P0, PIXEL, THREE_PIXELS, add_cards, end_header, fill_up, zeroed_file_of};
+use crate::checks::{holds, same};
 use crate::runs::{ALL_SMOOTH, edit};
 use fits_card::BLOCK_LEN;
 use fits_cli::End;
@@ -320,19 +321,12 @@ fn check_rows<R: Abort + AllocGlobal>(rt: &R, rows: &[Row<'_>]) -> Result<(), Fa
         let mut data = Vec::new(rt.alloc());
         add_pixels(&mut data, *after)?;
         let ran = edit(rt.alloc(), &file, script.as_bytes(), ALL_SMOOTH)?;
-        assert_eq!(rt; ran.printed.as_slice(), answers.as_bytes(), "{script:?}");
-        assert_eq!(rt;
-            ran.end,
-            End {
+        same!(rt; ran.printed.as_slice(), answers.as_bytes(), script);
+        same!(rt; ran.end, End {
                 status: *status,
                 fault: None
-            },
-            "{script:?}"
-        );
-        assert!(rt;
-            ran.saved.as_slice().ends_with(data.as_slice()),
-            "{script:?}"
-        );
+            }, script);
+        holds!(rt; ran.saved.as_slice().ends_with(data.as_slice()), script);
     }
     Ok(())
 }
@@ -359,6 +353,6 @@ fn each_hdu_has_its_own_pixels(rt: HostRuntime) -> Result<(), Fail> {
     let ran = edit(rt.alloc(), &file, script.as_bytes(), ALL_SMOOTH)?;
     let answers = "7\n0 0 0\ndatasum 458752 verdicts 1 1\ndatasum 0 verdicts 0 0\n\
         W26 3 0 bytes after the last HDU\nerrors 0 warnings 1\n";
-    assert_eq!(rt; ran.printed.as_slice(), answers.as_bytes());
+    same!(rt; ran.printed.as_slice(), answers.as_bytes());
     Ok(())
 }

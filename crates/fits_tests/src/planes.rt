@@ -3,6 +3,7 @@
 ghost use Rattle.std.specs.Prelude.{◌≡◌, IfSome};
 ghost use Rattle.fits_plane.specs.Rectangle.{product};
 
+use crate::checks::{holds, same};
 use crate::planned::{SMOOTH, writer};
 use fits_plane::{
     Layout, PixelSummary, Plane, Summary, Tree, WordSummary, are_storable, is_rectangle,
@@ -262,7 +263,7 @@ fn layout_of(width: usize, pixels: usize, blank: Option<i64>) -> Layout {
 
 // The plane of bytes that its layout fits.
 fn opened<R: Abort + AllocGlobal>(rt: &R, bytes: &[u8], layout: Layout) -> Result<Plane, Fail> {
-    assert!(rt; layout.fits(bytes));
+    holds!(rt; layout.fits(bytes));
     Ok(Plane::open(rt.alloc(), bytes, layout)?)
 }
 
@@ -271,16 +272,12 @@ fn check<R: Abort + AllocGlobal>(rt: &R, plane: &mut Plane, bytes: &[u8]) -> Res
     let layout = plane.layout();
     let mut sink = writer(rt.alloc(), SMOOTH)?;
     plane.emit(&mut sink)?;
-    assert!(rt; sink.into_inner().bytes.as_slice() == bytes);
-    assert_eq!(rt; plane.byte_len(), bytes.len());
-    assert_eq!(rt;
-        plane.stats(),
-        plain_summary(bytes, layout),
-        "at {layout:?}"
-    );
+    holds!(rt; sink.into_inner().bytes.as_slice() == bytes);
+    same!(rt; plane.byte_len(), bytes.len());
+    same!(rt; plane.stats(), plain_summary(bytes, layout), layout);
     if 0 < layout.pixels {
         let last = layout.pixels - 1;
-        assert_eq!(rt; plane.pixel(last), plain_pixel(bytes, layout.width, last));
+        same!(rt; plane.pixel(last), plain_pixel(bytes, layout.width, last));
     }
     Ok(())
 }
@@ -353,10 +350,10 @@ fn pixels_have_their_statistics(rt: HostRuntime) -> Result<(), Fail> {
                 Blank(blank) => plane.set_blank(*blank),
                 Fill(low, high, stored) => {
                     let axes = [pixels.len() as u64];
-                    assert!(rt; fill(&mut plane, &axes, &[*low], &[*high], *stored));
+                    holds!(rt; fill(&mut plane, &axes, &[*low], &[*high], *stored));
                 }
             }
-            assert_eq!(rt; plane.stats(), summary_of(*said));
+            same!(rt; plane.stats(), summary_of(*said));
         }
     }
     Ok(())
@@ -372,8 +369,8 @@ fn planes_equal_plain_loops(rt: HostRuntime) -> Result<(), Fail> {
         }
         let mut plane = opened(&rt, &bytes, layout)?;
         check(&rt, &mut plane, &bytes)?;
-        assert_eq!(rt; plane.total(), plain_total(&bytes));
-        assert_eq!(rt; plane.fill_ok(), *fill == 0 || layout.used == bytes.len());
+        same!(rt; plane.total(), plain_total(&bytes));
+        same!(rt; plane.fill_ok(), *fill == 0 || layout.used == bytes.len());
     }
     Ok(())
 }
@@ -393,17 +390,14 @@ fn rectangles_equal_plain_loops(rt: HostRuntime) -> Result<(), Fail> {
                 values.push(OFFSET + i128::from(number))?;
             }
         }
-        assert!(rt;
-            write(&mut plane, axes, lo, hi, &values),
-            "at {axes:?} {lo:?} {hi:?}"
-        );
+        holds!(rt; write(&mut plane, axes, lo, hi, &values), (axes, lo, hi));
         check(&rt, &mut plane, &bytes)?;
         for i in 0..pixels {
             if is_inside(axes, lo, hi, i as u64) {
                 plain_put(&mut bytes, *width, i, 7);
             }
         }
-        assert!(rt; fill(&mut plane, axes, lo, hi, 7));
+        holds!(rt; fill(&mut plane, axes, lo, hi, 7));
         check(&rt, &mut plane, &bytes)?;
     }
     Ok(())
@@ -415,10 +409,7 @@ fn what_is_no_rectangle_is_not_written(rt: HostRuntime) -> Result<(), Fail> {
     let bytes = blocks_of(rt.alloc(), layout.used, 1)?;
     let mut plane = opened(&rt, &bytes, layout)?;
     for (axes, lo, hi, stored) in REFUSED {
-        assert!(rt;
-            !fill(&mut plane, axes, lo, hi, *stored),
-            "at {axes:?} {lo:?} {hi:?}"
-        );
+        holds!(rt; !fill(&mut plane, axes, lo, hi, *stored), (axes, lo, hi));
     }
     check(&rt, &mut plane, &bytes)
 }
@@ -431,14 +422,14 @@ fn words(total: u64) -> WordSummary {
 #[test]
 fn trees_join_their_leaves(rt: HostRuntime) -> Result<(), Fail> {
     let nothing: Tree<WordSummary> = Tree::open(rt.alloc(), Vec::new(rt.alloc()))?;
-    assert_eq!(rt; nothing.root(), WordSummary::unit());
+    same!(rt; nothing.root(), WordSummary::unit());
     let leaves = vec![in rt.alloc(); words(1), words(20), words(300)]?;
     let mut tree = Tree::open(rt.alloc(), leaves)?;
-    assert_eq!(rt; tree.root(), words(321));
+    same!(rt; tree.root(), words(321));
     tree.set(1, words(40));
-    assert_eq!(rt; tree.root(), words(341));
+    same!(rt; tree.root(), words(341));
     tree.refresh(|i| words(i as u64));
-    assert_eq!(rt; tree.root(), words(3));
+    same!(rt; tree.root(), words(3));
     Ok(())
 }
 
@@ -446,14 +437,11 @@ fn trees_join_their_leaves(rt: HostRuntime) -> Result<(), Fail> {
 fn refused_memory_at_a_plane(rt: HostRuntime) {
     let bytes = [1; 5760];
     let layout = layout_of(2, 2880, Some(0));
-    assert!(rt; layout.fits(&bytes));
+    holds!(rt; layout.fits(&bytes));
     for _ in 0..2 {
         if let Ok(plane) = Plane::open(rt.alloc(), &bytes, layout) {
-            assert_eq!(rt; plane.total(), 1440 * 0x101_0101);
-            assert_eq!(rt;
-                plane.stats(),
-                summary_of((2880, 0, Some((257, 257)), 2880 * 257))
-            );
+            same!(rt; plane.total(), 1440 * 0x101_0101);
+            same!(rt; plane.stats(), summary_of((2880, 0, Some((257, 257)), 2880 * 257)));
         }
     }
 }

@@ -1,6 +1,7 @@
 //! Files that come from a source: they open as their bytes do, however the source gives them.
 
 use crate::builders::{FileText, P0, PIXEL, file_of};
+use crate::checks::same;
 use crate::planned::{Plan, SMOOTH, reader};
 use fits_session::{OpenFault, ReadFileFault, Session, read_outlines, read_sums};
 use std::process::Abort;
@@ -31,9 +32,9 @@ fn reads_to<R: Abort + AllocGlobal>(
     place: usize,
 ) {
     let kept = Session::read(rt.alloc(), &mut reader(bytes, plan)).err();
-    assert_eq!(rt; kept, fault, "at {place}");
+    same!(rt; kept, fault, place);
     let outlined = read_outlines(rt.alloc(), &mut reader(bytes, plan)).err();
-    assert_eq!(rt; outlined, fault, "at {place}, outlined");
+    same!(rt; outlined, fault, place);
 }
 
 #[test]
@@ -57,11 +58,7 @@ fn the_ends_of_prefixes_are_summed_or_refused_alike(rt: HostRuntime) -> Result<(
             for step in [7usize, 2880, 1_000_000] {
                 let plan = Plan { step, failing: 0 };
                 let found = read_sums(rt.alloc(), &mut reader(front, plan)).err();
-                assert_eq!(rt;
-                    found,
-                    fault.map(ReadFileFault::Open),
-                    "{len} bytes by {step}"
-                );
+                same!(rt; found, fault.map(ReadFileFault::Open), (len, step));
             }
         }
     }
@@ -130,11 +127,7 @@ fn a_failed_call_comes_before_any_fault_of_the_bytes(rt: HostRuntime) -> Result<
         for failing in 1..=calls {
             let plan = Plan { failing, ..SMOOTH };
             let fault = Session::read(rt.alloc(), &mut reader(front, plan)).err();
-            assert_eq!(rt;
-                fault,
-                Some(ReadFileFault::Failed),
-                "{len} bytes, call {failing}"
-            );
+            same!(rt; fault, Some(ReadFileFault::Failed), (len, failing));
         }
     }
     Ok(())

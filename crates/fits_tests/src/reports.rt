@@ -1,6 +1,7 @@
 //! What is wrong with files: the report of a script and of `verify`, expected lines by hand.
 
 use crate::builders::{FileText, P0, PIXEL, THREE_PIXELS, zeroed_file_of};
+use crate::checks::{holds, same};
 use crate::runs::{ALL_SMOOTH, edit, verify};
 use fits_cli::{End, Level};
 use std::process::Abort;
@@ -313,27 +314,16 @@ fn check_scripts<R: Abort + AllocGlobal>(
     for (file, script, answers, status) in scripts {
         let file = zeroed_file_of(rt.alloc(), *file)?;
         let ran = edit(rt.alloc(), &file, script.as_bytes(), ALL_SMOOTH)?;
-        assert_eq!(rt; ran.printed.as_slice(), answers.as_bytes(), "{script:?}");
-        assert_eq!(rt;
-            ran.end,
-            End {
+        same!(rt; ran.printed.as_slice(), answers.as_bytes(), script);
+        same!(rt; ran.end, End {
                 status: *status,
                 fault: None
-            },
-            "{script:?}"
-        );
+            }, script);
         // what was saved has the same report, in a new session and as it passes by
         let fresh = edit(rt.alloc(), &ran.saved, b"rep", ALL_SMOOTH)?;
         let passing = verify(rt.alloc(), Level::All, &ran.saved, ALL_SMOOTH)?;
-        assert!(rt;
-            ran.printed.ends_with(&fresh.printed) || !script.ends_with("rep"),
-            "{script:?}"
-        );
-        assert_eq!(rt;
-            passing.printed.as_slice(),
-            fresh.printed.as_slice(),
-            "{script:?}"
-        );
+        holds!(rt; ran.printed.ends_with(&fresh.printed) || !script.ends_with("rep"), script);
+        same!(rt; passing.printed.as_slice(), fresh.printed.as_slice(), script);
     }
     Ok(())
 }
@@ -386,14 +376,11 @@ fn a_file_is_verified(rt: HostRuntime) -> Result<(), Fail> {
     for (file, level, text, status) in VERIFIED {
         let bytes = zeroed_file_of(rt.alloc(), *file)?;
         let ran = verify(rt.alloc(), *level, &bytes, ALL_SMOOTH)?;
-        assert_eq!(rt; ran.printed.as_slice(), text.as_bytes());
-        assert_eq!(rt;
-            ran.end,
-            End {
+        same!(rt; ran.printed.as_slice(), text.as_bytes());
+        same!(rt; ran.end, End {
                 status: *status,
                 fault: None
-            }
-        );
+            });
     }
     Ok(())
 }

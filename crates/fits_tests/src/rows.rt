@@ -4,6 +4,7 @@ use crate::builders::{
     COMMENTS, FileText, HduText, P0, PIXEL, THREE_PIXELS, add_cards, end_header, file_of, hdu_of,
     repeated,
 };
+use crate::checks::{holds, same};
 use crate::runs::{ALL_SMOOTH, DONE, Ran, Told, edit, tell};
 use fits_cli::{End, Fault, Level};
 use fits_session::OpenFault;
@@ -21,16 +22,12 @@ pub fn check_run<R: Abort + AllocGlobal>(
     saved: &[u8],
 ) -> Result<(), Fail> {
     let ran = edit(rt.alloc(), file, script.as_bytes(), ALL_SMOOTH)?;
-    assert_eq!(rt; ran.printed.as_slice(), answers.as_bytes(), "{script:?}");
-    assert_eq!(rt;
-        ran.end,
-        End {
+    same!(rt; ran.printed.as_slice(), answers.as_bytes(), script);
+    same!(rt; ran.end, End {
             status,
             fault: None
-        },
-        "{script:?}"
-    );
-    assert!(rt; ran.saved.as_slice() == saved, "{script:?}");
+        }, script);
+    holds!(rt; ran.saved.as_slice() == saved, script);
     Ok(())
 }
 
@@ -591,9 +588,9 @@ fn a_thirty_sixth_card_adds_a_block(rt: HostRuntime) -> Result<(), Fail> {
         let saved = joined(rt.alloc(), saved, more)?;
         let script = repeated(rt.alloc(), script, *times)?;
         let ran = edit(rt.alloc(), &file, &script, ALL_SMOOTH)?;
-        assert_eq!(rt; ran.printed.as_slice(), answers.as_bytes());
-        assert_eq!(rt; ran.end, DONE);
-        assert!(rt; ran.saved.as_slice() == saved.as_slice());
+        same!(rt; ran.printed.as_slice(), answers.as_bytes());
+        same!(rt; ran.end, DONE);
+        holds!(rt; ran.saved.as_slice() == saved.as_slice());
     }
     Ok(())
 }
@@ -786,7 +783,7 @@ fn a_file_that_does_not_open_ends_the_run(rt: HostRuntime) -> Result<(), Fail> {
         let (front, _) = bytes.split_at(bytes.len().saturating_sub(*missing));
         let ran = edit(rt.alloc(), front, b"off\nfrob\n", ALL_SMOOTH)?;
         check_closed(&rt, &ran, text)?;
-        assert_eq!(rt; ran.script_calls, 0, "{text}");
+        same!(rt; ran.script_calls, 0, text);
         for told in [Told::Listing, Told::Report(Level::Quiet), Told::Sums] {
             check_closed(&rt, &tell(rt.alloc(), told, front, ALL_SMOOTH)?, text)?;
         }
@@ -797,10 +794,10 @@ fn a_file_that_does_not_open_ends_the_run(rt: HostRuntime) -> Result<(), Fail> {
 // Whether a run printed and saved nothing, and ended by this fault.
 fn check_closed<R: Abort + AllocGlobal>(rt: &R, ran: &Ran, text: &str) -> Result<(), Fail> {
     let fault = ran.end.fault.ok_or("no fault")?;
-    assert_eq!(rt; fault.to_string(rt.alloc())?.as_str(), text);
-    assert_eq!(rt; ran.end.status, 2, "{text}");
-    assert!(rt; ran.printed.is_empty(), "{text}");
-    assert_eq!(rt; ran.save_calls, 0, "{text}");
+    same!(rt; fault.to_string(rt.alloc())?.as_str(), text);
+    same!(rt; ran.end.status, 2, text);
+    holds!(rt; ran.printed.is_empty(), text);
+    same!(rt; ran.save_calls, 0, text);
     Ok(())
 }
 
@@ -845,8 +842,8 @@ const FAULTS: &[(Fault, &str, u8)] = &[
 #[test]
 fn each_fault_has_its_text_and_its_status(rt: HostRuntime) -> Result<(), Fail> {
     for (fault, text, status) in FAULTS {
-        assert_eq!(rt; fault.to_string(rt.alloc())?.as_str(), *text);
-        assert_eq!(rt; fault.status(), *status, "{text}");
+        same!(rt; fault.to_string(rt.alloc())?.as_str(), *text);
+        same!(rt; fault.status(), *status, text);
     }
     Ok(())
 }

@@ -3,6 +3,7 @@
 
 use crate::builders::ChangeText::{Move, Splice};
 use crate::builders::{ChangeText, add_cards, change_of, end_header, fill_up, header_of, name_of};
+use crate::checks::{holds, same};
 use fits_card::cut_header;
 use fits_header::Header;
 use fits_rules::{Axes, Class, Shape, ShapeFault, data_bytes, lead, shape};
@@ -16,11 +17,11 @@ pub type ShapeText<'a> = (Class, i64, &'a [u64], u64, u64);
 /// Whether a shape is the one that is wanted.
 pub fn check_shape<R: Abort>(rt: &R, shape: &Shape, wanted: ShapeText<'_>, cards: &str) {
     let (class, bitpix, axes, pcount, gcount) = wanted;
-    assert_eq!(rt; shape.class, class, "{cards}");
-    assert_eq!(rt; shape.bitpix, bitpix, "{cards}");
-    assert_eq!(rt; shape.axes.as_slice(), axes, "{cards}");
-    assert_eq!(rt; shape.pcount, pcount, "{cards}");
-    assert_eq!(rt; shape.gcount, gcount, "{cards}");
+    same!(rt; shape.class, class, cards);
+    same!(rt; shape.bitpix, bitpix, cards);
+    same!(rt; shape.axes.as_slice(), axes, cards);
+    same!(rt; shape.pcount, pcount, cards);
+    same!(rt; shape.gcount, gcount, cards);
 }
 
 /// The shape that a text describes.
@@ -186,7 +187,7 @@ fn a_header_has_the_shape_of_its_mandatory_cards(rt: HostRuntime) -> Result<(), 
         let mut header = header_of(rt.alloc(), cards)?;
         let found = shape(rt.alloc(), &mut header, cards.starts_with("SIMPLE"))?;
         check_shape(&rt, &found, *wanted, cards);
-        assert_eq!(rt; data_bytes(&found), Some(*size), "{cards}");
+        same!(rt; data_bytes(&found), Some(*size), cards);
     }
     Ok(())
 }
@@ -321,7 +322,7 @@ fn the_first_broken_place_is_reported(rt: HostRuntime) -> Result<(), Fail> {
     for (primary, cards, place) in BROKEN {
         let mut header = header_of(rt.alloc(), cards)?;
         let fault = shape(rt.alloc(), &mut header, *primary).err();
-        assert_eq!(rt; fault, Some(ShapeFault::Bad(*place)), "{cards}");
+        same!(rt; fault, Some(ShapeFault::Bad(*place)), cards);
     }
     Ok(())
 }
@@ -367,9 +368,9 @@ fn a_header_may_have_999_axes(rt: HostRuntime) -> Result<(), Fail> {
         let bytes = many_axes(rt.alloc(), number)?;
         let (mut header, _) = cut_header(rt.alloc(), &bytes)?;
         let found = shape(rt.alloc(), &mut header, true)?;
-        assert_eq!(rt; found.axes.as_slice().len(), 999);
-        assert!(rt; found.axes.as_slice().iter().all(|found| found == axis));
-        assert_eq!(rt; data_bytes(&found), *size);
+        same!(rt; found.axes.as_slice().len(), 999);
+        holds!(rt; found.axes.as_slice().iter().all(|found| found == axis));
+        same!(rt; data_bytes(&found), *size);
     }
     Ok(())
 }
@@ -483,7 +484,7 @@ const SIZES: &[(ShapeText<'static>, Option<u64>)] = &[
 fn sizes_of_64_bits_are_found_and_no_larger_ones(rt: HostRuntime) -> Result<(), Fail> {
     for (row, (text, size)) in SIZES.iter().enumerate() {
         let shape = shape_of(rt.alloc(), *text)?;
-        assert_eq!(rt; data_bytes(&shape), *size, "row {row}");
+        same!(rt; data_bytes(&shape), *size, row);
     }
     Ok(())
 }
@@ -575,7 +576,7 @@ fn keeps(alloc: Global, cards: &str, text: ChangeText<'_>) -> Result<Option<bool
 fn a_change_keeps_the_shape_or_not(rt: HostRuntime) -> Result<(), Fail> {
     for (row, (cards, text, wanted)) in KEPT.iter().enumerate() {
         let found = keeps(rt.alloc(), cards, *text)?;
-        assert_eq!(rt; found, Some(*wanted), "row {row}: {cards}");
+        same!(rt; found, Some(*wanted), (row, cards));
     }
     Ok(())
 }
@@ -593,7 +594,7 @@ fn the_lead_is_the_first_card_with_a_value(rt: HostRuntime) -> Result<(), Fail> 
     let cards = "SIMPLE  = T|KEY|KEY     =|KEY     = 1|COMMENT = 1|END";
     let mut header = header_of(rt.alloc(), cards)?;
     for (name, place) in LEADS {
-        assert_eq!(rt; lead(&mut header, &name_of(name)), *place, "{name}");
+        same!(rt; lead(&mut header, &name_of(name)), *place, name);
     }
     Ok(())
 }

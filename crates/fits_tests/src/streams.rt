@@ -1,6 +1,7 @@
 //! Streams that fail, or that move little: how a run ends, and what was printed and saved before.
 
 use crate::builders::{FileText, P0, PIXEL, file_of, hdu_of};
+use crate::checks::{holds, same};
 use crate::planned::Plan;
 use crate::reports::{NAMED_REPORT, NAMED_TWICE, REPORT, WRONG};
 use crate::runs::{ALL_SMOOTH, DONE, Plans, Ran, Told, edit, tell};
@@ -88,25 +89,21 @@ fn is_smooth<R: Abort + AllocGlobal>(rt: &R, stream: Stream, plan: Plan) -> Resu
     let plans = plans_of(stream, plan);
     let ran = edit(rt.alloc(), &file, SCRIPT.as_bytes(), plans)?;
     let call = plan.failing;
-    assert_eq!(rt;
-        ran.end,
-        end_of(plans, &ran, BAD_LINE),
-        "{stream:?}, call {call}"
-    );
+    same!(rt; ran.end, end_of(plans, &ran, BAD_LINE), (stream, call));
     check_fronts(rt, &ran, &whole, call);
     if 0 < ran.save_calls {
-        assert_eq!(rt; ran.printed.len(), ANSWERS.len(), "{stream:?}, call {call}");
+        same!(rt; ran.printed.len(), ANSWERS.len(), (stream, call));
     }
     if ran.end == BAD_LINE {
-        assert_eq!(rt; ran.saved.len(), whole.len(), "{stream:?}, call {call}");
+        same!(rt; ran.saved.len(), whole.len(), (stream, call));
     }
     Ok(ran.end == BAD_LINE)
 }
 
 // Whether the answers and the saved bytes are fronts of the whole.
 fn check_fronts<R: Abort>(rt: &R, ran: &Ran, whole: &[u8], call: usize) {
-    assert!(rt; ANSWERS.as_bytes().starts_with(&ran.printed), "call {call}");
-    assert!(rt; whole.starts_with(&ran.saved), "call {call}");
+    holds!(rt; ANSWERS.as_bytes().starts_with(&ran.printed), call);
+    holds!(rt; whole.starts_with(&ran.saved), call);
 }
 
 // Each call of a stream fails once, in a run of its own, whatever a call moves.
@@ -127,7 +124,7 @@ fn each_call_fails<R: Abort + AllocGlobal>(
                 break;
             }
         }
-        assert!(rt; is_done, "{stream:?} {step}");
+        holds!(rt; is_done, (stream, step));
     }
     Ok(())
 }
@@ -165,14 +162,14 @@ const STUCK: Plan = Plan {
 
 #[test]
 fn one_byte_a_call_comes_to_the_same(rt: HostRuntime) -> Result<(), Fail> {
-    assert!(rt; is_smooth(&rt, Each, SLOW)?);
+    holds!(rt; is_smooth(&rt, Each, SLOW)?);
     Ok(())
 }
 
 #[test]
 fn a_writer_that_takes_nothing_fails(rt: HostRuntime) -> Result<(), Fail> {
-    assert!(rt; !is_smooth(&rt, Answers, STUCK)?);
-    assert!(rt; !is_smooth(&rt, Saved, STUCK)?);
+    holds!(rt; !is_smooth(&rt, Answers, STUCK)?);
+    holds!(rt; !is_smooth(&rt, Saved, STUCK)?);
     Ok(())
 }
 
@@ -219,9 +216,9 @@ fn what_stands_before_a_fault_is_a_front(rt: HostRuntime) -> Result<(), Fail> {
             SCRIPT.as_bytes(),
             plans_of(*stream, plan),
         )?;
-        assert_eq!(rt; ran.end, ended_by(*fault), "{stream:?} {count}");
-        assert_eq!(rt; ran.printed.len(), *printed, "{stream:?} {count}");
-        assert_eq!(rt; ran.saved.len(), *saved, "{stream:?} {count}");
+        same!(rt; ran.end, ended_by(*fault), (stream, count));
+        same!(rt; ran.printed.len(), *printed, (stream, count));
+        same!(rt; ran.saved.len(), *saved, (stream, count));
         check_fronts(&rt, &ran, &whole, *count);
     }
     Ok(())
@@ -277,21 +274,10 @@ fn is_told<R: Abort + AllocGlobal>(
     let plans = plans_of(stream, plan);
     let ran = tell(rt.alloc(), told, &bytes, plans)?;
     let call = plan.failing;
-    assert_eq!(rt;
-        ran.end,
-        end_of(plans, &ran, whole),
-        "{told:?}, {stream:?}, call {call}"
-    );
-    assert!(rt;
-        lines.as_bytes().starts_with(&ran.printed),
-        "{told:?}, {stream:?}, call {call}"
-    );
+    same!(rt; ran.end, end_of(plans, &ran, whole), (told, stream, call));
+    holds!(rt; lines.as_bytes().starts_with(&ran.printed), (told, stream, call));
     if ran.end == whole {
-        assert_eq!(rt;
-            ran.printed.len(),
-            lines.len(),
-            "{told:?}, {stream:?}, call {call}"
-        );
+        same!(rt; ran.printed.len(), lines.len(), (told, stream, call));
     }
     Ok(ran.end == whole)
 }
@@ -310,10 +296,10 @@ fn each_call_of_a_run_that_tells_fails_once(rt: HostRuntime) -> Result<(), Fail>
                 break;
             }
         }
-        assert!(rt; is_done, "{stream:?} {step}");
+        holds!(rt; is_done, (stream, step));
     }
     for text in [LISTED_LINES, REPORTED_LINES, NAMED_LINES, SUMMED_LINES] {
-        assert!(rt; !is_told(&rt, text, Answers, STUCK)?);
+        holds!(rt; !is_told(&rt, text, Answers, STUCK)?);
     }
     Ok(())
 }

@@ -1,6 +1,7 @@
 //! What `sum` prints of a file: the sum of each data unit, and the verdicts of DATASUM and CHECKSUM.
 
 use crate::builders::{FileText, P0, PIXEL, THREE_PIXELS, file_of};
+use crate::checks::same;
 use crate::runs::{ALL_SMOOTH, DONE, edit, sum};
 use std::test::Fail;
 
@@ -73,8 +74,8 @@ fn a_file_is_summed_as_it_passes_by(rt: HostRuntime) -> Result<(), Fail> {
     for (file, lines) in FILES {
         let bytes = file_of(rt.alloc(), *file)?;
         let ran = sum(rt.alloc(), &bytes, ALL_SMOOTH)?;
-        assert_eq!(rt; ran.printed.as_slice(), lines.as_bytes());
-        assert_eq!(rt; ran.end, DONE);
+        same!(rt; ran.printed.as_slice(), lines.as_bytes());
+        same!(rt; ran.end, DONE);
     }
     Ok(())
 }
@@ -104,9 +105,9 @@ fn what_is_saved_has_the_sums_that_were_stamped(rt: HostRuntime) -> Result<(), F
     for (file, script, lines) in SAVED {
         let bytes = file_of(rt.alloc(), *file)?;
         let saved = edit(rt.alloc(), &bytes, script.as_bytes(), ALL_SMOOTH)?;
-        assert_eq!(rt; saved.end, DONE, "{script:?}");
+        same!(rt; saved.end, DONE, script);
         let ran = sum(rt.alloc(), &saved.saved, ALL_SMOOTH)?;
-        assert_eq!(rt; ran.printed.as_slice(), lines.as_bytes(), "{script:?}");
+        same!(rt; ran.printed.as_slice(), lines.as_bytes(), script);
     }
     Ok(())
 }

@@ -1,5 +1,6 @@
 //! Sums of words, and the texts that they are written as.
 
+use crate::checks::same;
 use fits_sum::{all_are, card_total, datasum_text, encode, fold, total, words_total};
 use std::test::Fail;
 
@@ -15,11 +16,8 @@ const SUMS: &[(u32, &str, &str)] = &[
 #[test]
 fn sums_have_their_texts(rt: HostRuntime) -> Result<(), Fail> {
     for (sum, text, digits) in SUMS {
-        assert_eq!(rt; encode(*sum).as_slice(), text.as_bytes(), "at {sum}");
-        assert_eq!(rt;
-            datasum_text(rt.alloc(), *sum)?.as_slice(),
-            digits.as_bytes()
-        );
+        same!(rt; encode(*sum).as_slice(), text.as_bytes(), sum);
+        same!(rt; datasum_text(rt.alloc(), *sum)?.as_slice(), digits.as_bytes());
     }
     Ok(())
 }
@@ -41,14 +39,14 @@ fn the_words_of_a_block_are_added_up(rt: HostRuntime) {
         if let Some(changed) = block.get_mut(*place) {
             *changed = *other;
         }
-        assert_eq!(rt; total(&block), *wanted);
-        assert_eq!(rt; words_total(&block), *wanted);
-        assert_eq!(rt; fold(*wanted), *sum);
-        assert_eq!(rt; all_are(&block, *byte), byte == other);
+        same!(rt; total(&block), *wanted);
+        same!(rt; words_total(&block), *wanted);
+        same!(rt; fold(*wanted), *sum);
+        same!(rt; all_are(&block, *byte), byte == other);
     }
 }
 
 #[test]
 fn the_words_of_a_card_are_added_up(rt: HostRuntime) {
-    assert_eq!(rt; card_total(&[1; 80]), 20 * 0x101_0101);
+    same!(rt; card_total(&[1; 80]), 20 * 0x101_0101);
 }

@@ -1,6 +1,7 @@
 //! What fields, cards and places of headers say, and where in the card.
 
 use crate::builders::{card_of, card_of_bytes, header_of};
+use crate::checks::{holds, same};
 use fits_card::Card;
 use fits_value::{
     CardString, Reading, Span, Text, Value, ValueKind, card_string, link_count, link_string,
@@ -175,7 +176,7 @@ fn a_field_says_one_value_or_none(rt: HostRuntime) -> Result<(), Fail> {
         let card = field_card(rt.alloc(), field)?;
         let said = read_value(rt.alloc(), &card)?;
         check_line(&rt, &said, wanted)?;
-        assert_eq!(rt; scan_card(&card).is_none(), *wanted == "none", "{field}");
+        same!(rt; scan_card(&card).is_none(), *wanted == "none", field);
     }
     Ok(())
 }
@@ -187,7 +188,7 @@ fn check_line<R: Abort + AllocGlobal>(
     wanted: &str,
 ) -> Result<(), AllocError> {
     let line = line_of(rt.alloc(), said)?;
-    assert_eq!(rt; line.as_slice(), wanted.as_bytes(), "{wanted}");
+    same!(rt; line.as_slice(), wanted.as_bytes(), wanted);
     Ok(())
 }
 
@@ -235,7 +236,7 @@ fn a_scan_finds_the_places_in_the_card(rt: HostRuntime) -> Result<(), Fail> {
             comment: comment.map(span_of),
         };
         let card = field_card(rt.alloc(), field)?;
-        assert_eq!(rt; scan_card(&card), Some(wanted), "{field}");
+        same!(rt; scan_card(&card), Some(wanted), field);
     }
     Ok(())
 }
@@ -318,9 +319,9 @@ const LONG_STRINGS: &[(&str, &str, usize)] = &[
 fn a_long_string_goes_on_over_its_continue_cards(rt: HostRuntime) -> Result<(), Fail> {
     for (cards, wanted, links) in LONG_STRINGS {
         let mut header = header_of(rt.alloc(), cards)?;
-        assert_eq!(rt; header.len(), 3, "{cards}");
-        assert_eq!(rt; link_count(&mut header, 1), *links, "{cards}");
-        assert_eq!(rt; header.len(), 3, "{cards}");
+        holds!(rt; header.len() == 3, cards);
+        same!(rt; link_count(&mut header, 1), *links, cards);
+        holds!(rt; header.len() == 3, cards);
         let said = long_value(rt.alloc(), &mut header, 1)?;
         check_line(&rt, &said, wanted)?;
     }
@@ -356,7 +357,7 @@ fn a_card_says_its_string_without_memory(rt: HostRuntime) {
 // Whether a string is the one that is wanted.
 fn check_string<R: Abort>(rt: &R, found: Option<CardString>, wanted: Option<&str>, text: &str) {
     match found {
-        Some(found) => assert_eq!(rt; Some(found.as_bytes()), wanted.map(str::as_bytes), "{text}"),
-        None => assert!(rt; wanted.is_none(), "{text}"),
+        Some(found) => same!(rt; Some(found.as_bytes()), wanted.map(str::as_bytes), text),
+        None => holds!(rt; wanted.is_none(), text),
     }
 }

@@ -2,6 +2,7 @@
 //! (4.2.1.2).
 
 use crate::builders::{add_cards, name_of};
+use crate::checks::{holds, same};
 use fits_card::Cards;
 use fits_value::{Text, Value, WriteFault, read_field, write_value};
 use std::alloc::{AllocError, Global};
@@ -76,7 +77,7 @@ fn a_value_is_written_to_its_cards(rt: HostRuntime) -> Result<(), Fail> {
         let (value, comment) = read_field(rt.alloc(), field.as_bytes())?.ok_or("no value")?;
         match write(&rt, &value, &comment) {
             Ok(cards) => check_cards(&rt, &cards, wanted.ok_or("cards")?)?,
-            Err(fault) => assert_eq!(rt; (fault, *wanted), (WriteFault::BadValue, None), "{field}"),
+            Err(fault) => same!(rt; (fault, *wanted), (WriteFault::BadValue, None), field),
         }
     }
     Ok(())
@@ -89,7 +90,7 @@ fn write<R: Abort + AllocGlobal>(
     comment: &Option<Text>,
 ) -> Result<Cards, WriteFault> {
     let name = name_of("KEY");
-    assert!(rt; name.is_settable());
+    holds!(rt; name.is_settable());
     write_value(rt.alloc(), &name, value, comment)
 }
 
@@ -105,7 +106,7 @@ fn check_cards<R: Abort + AllocGlobal>(
     for card in cards.as_slice() {
         bytes.extend_from_slice(card.bytes())?;
     }
-    assert!(rt; bytes.as_slice() == texts.as_slice(), "{wanted}");
+    holds!(rt; bytes.as_slice() == texts.as_slice(), wanted);
     Ok(())
 }
 
@@ -137,12 +138,12 @@ fn what_no_field_says_is_not_written(rt: HostRuntime) -> Result<(), Fail> {
     for (text, kind) in UNSAID {
         let value = value_of(rt.alloc(), text, *kind)?;
         let fault = write(&rt, &value, &None).err();
-        assert_eq!(rt; fault, Some(WriteFault::BadValue), "{text}");
+        same!(rt; fault, Some(WriteFault::BadValue), text);
     }
     for text in ["x ", "\t"] {
         let comment = Some(Text::new(text.as_bytes().to_vec(rt.alloc())?));
         let fault = write(&rt, &Value::Undefined, &comment).err();
-        assert_eq!(rt; fault, Some(WriteFault::BadValue), "{text}");
+        same!(rt; fault, Some(WriteFault::BadValue), text);
     }
     Ok(())
 }
@@ -169,7 +170,7 @@ fn refused_memory_at_a_written_value(rt: HostRuntime) -> Result<(), Fail> {
                 let wanted = "KEY     = 'it''s   '           / c";
                 let _ = check_cards(&rt, &cards, wanted);
             }
-            Err(fault) => assert_eq!(rt; fault, WriteFault::Memory),
+            Err(fault) => same!(rt; fault, WriteFault::Memory),
         }
     }
     Ok(())
