@@ -1,6 +1,7 @@
 //! Edits of cards by scripts: what they print, and the cards that are saved.
 
 use crate::builders::{P0, hdu_of};
+use crate::hdu_rows;
 use crate::rows::check_run;
 use std::alloc::{AllocError, Global};
 use std::test::Fail;
@@ -60,8 +61,10 @@ const REFUSED: &[(&str, &str)] = &[
 #[test]
 fn a_refused_edit_leaves_the_file(rt: HostRuntime) -> Result<(), Fail> {
     let file = hdu_of(rt.alloc(), P0, 0)?;
-    for (script, answers) in REFUSED {
-        check_run(&rt, &file, script, answers, 1, &file)?;
+    for rows in [REFUSED, hdu_rows::REFUSED] {
+        for (script, answers) in rows {
+            check_run(&rt, &file, script, answers, 1, &file)?;
+        }
     }
     Ok(())
 }

@@ -3,10 +3,10 @@
 use crate::builders::{P0, card_of, hdu_of, name_of, repeated};
 use crate::checks::{holds, same};
 use crate::planned::{SMOOTH, reader, writer};
-use crate::runs::{ALL_SMOOTH, edit};
+use crate::runs::{ALL_SMOOTH, check_ran, edit};
 use crate::values::line_of;
 use fits_card::Watched;
-use fits_cli::{Command, End, Fault, LineFault, parse_line, run_edit};
+use fits_cli::{Command, Fault, LineFault, parse_line, run_edit};
 use fits_hdu::Kind;
 use fits_session::Edit;
 use std::alloc::{AllocError, Global};
@@ -492,11 +492,7 @@ fn lines_are_counted_and_measured(rt: HostRuntime) -> Result<(), Fail> {
     for (parts, answers, status) in SCRIPTS {
         let script = script_of(rt.alloc(), parts)?;
         let ran = edit(rt.alloc(), &file, &script, ALL_SMOOTH)?;
-        same!(rt; ran.printed.as_slice(), answers.as_bytes());
-        same!(rt; ran.end, End {
-                status: *status,
-                fault: None
-            });
+        check_ran(&rt, &ran, answers, *status, answers);
         holds!(rt; ran.saved.as_slice() == file.as_slice());
     }
     Ok(())

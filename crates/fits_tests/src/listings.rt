@@ -2,7 +2,7 @@
 
 use crate::builders::{FileText, P0, PIXEL, file_of};
 use crate::checks::{holds, same};
-use crate::runs::{ALL_SMOOTH, DONE, list};
+use crate::runs::{ALL_SMOOTH, DONE, check_ran, list};
 use std::test::Fail;
 
 /// A file, and its listing.
@@ -58,8 +58,7 @@ fn a_file_is_listed_by_its_hdus(rt: HostRuntime) -> Result<(), Fail> {
     for (file, lines) in LISTINGS {
         let bytes = file_of(rt.alloc(), *file)?;
         let ran = list(rt.alloc(), &bytes, ALL_SMOOTH)?;
-        same!(rt; ran.printed.as_slice(), lines.as_bytes());
-        same!(rt; ran.end, DONE);
+        check_ran(&rt, &ran, lines, 0, lines);
     }
     Ok(())
 }

@@ -5,6 +5,7 @@ use crate::builders::{P0, PIXEL, file_of};
 use crate::checks::holds;
 use crate::files::saved;
 use crate::memory::same_answers;
+use crate::runs::refusal_of;
 use fits_cli::{Command, parse_line};
 use fits_session::{Edit, Session};
 use std::alloc::{AllocError, Global};
@@ -91,7 +92,7 @@ fn file_with(alloc: Global, extensions: usize) -> Result<Vec<u8>, AllocError> {
 // Makes the edit of a line, if it says one, and answers whether it was made.
 fn is_made(alloc: Global, session: &mut Session, line: &str) -> bool {
     match edit_of(alloc, line) {
-        Some(edit) => session.edit(edit).is_ok(),
+        Some(edit) => refusal_of(session, edit).is_none(),
         None => false,
     }
 }

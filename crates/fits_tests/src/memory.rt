@@ -11,12 +11,12 @@ use crate::checks::{holds, same};
 use crate::hdus::ASKED;
 use crate::planned::{SMOOTH, reader, writer};
 use crate::reports::{A, NAMED_TWICE};
-use crate::runs::{ALL_SMOOTH, Ran, edit, tell};
+use crate::runs::{ALL_SMOOTH, Ran, check_ran, edit, refusal_of, tell};
 use crate::shapes::{ShapeText, check_shape};
 use crate::streams::{LISTED_LINES, NAMED_LINES, REPORTED_LINES, SUMMED_LINES};
 use crate::values::line_of;
 use fits_card::{HeaderFault, Name, cut_header};
-use fits_cli::{Command, End, Fault, LineFault, parse_line};
+use fits_cli::{Command, Fault, LineFault, parse_line};
 use fits_hdu::{Hdu, HduFault, KeywordFault};
 use fits_rules::{Class, ShapeFault, shape};
 use fits_session::{Edit, OpenFault, ReadFileFault, Refusal, Session, read_outlines, read_sums};
@@ -371,7 +371,7 @@ fn check_line<R: Abort + AllocGlobal>(
 ) -> Result<(), AllocError> {
     let mut session = opened(rt, before)?;
     let edit = edit_said(rt, line)?;
-    let refused = session.edit(edit).err();
+    let refused = refusal_of(&mut session, edit);
     holds!(rt; refused == refusal || (takes_memory && refused == Some(Refusal::Memory)), line);
     // nothing else is refused after a refusal
     let bytes = if refused.is_none() { after } else { before };
@@ -559,11 +559,7 @@ fn check_ended<R: Abort>(rt: &R, ran: &Ran, answers: &str, status: u8, saved: &[
         holds!(rt; ran.saved.is_empty());
         holds!(rt; answers.as_bytes().starts_with(&ran.printed));
     } else {
-        same!(rt; ran.end, End {
-                status,
-                fault: None
-            });
-        same!(rt; ran.printed.as_slice(), answers.as_bytes());
+        check_ran(rt, ran, answers, status, answers);
         holds!(rt; ran.saved.as_slice() == saved);
     }
 }

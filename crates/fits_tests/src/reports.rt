@@ -2,8 +2,8 @@
 
 use crate::builders::{FileText, P0, PIXEL, THREE_PIXELS, zeroed_file_of};
 use crate::checks::{holds, same};
-use crate::runs::{ALL_SMOOTH, edit, verify};
-use fits_cli::{End, Level};
+use crate::runs::{ALL_SMOOTH, check_ran, edit, verify};
+use fits_cli::Level;
 use std::process::Abort;
 use std::test::Fail;
 
@@ -298,11 +298,7 @@ const NAMES: &[(FileText<'static>, &str, &str, u8)] = &[
 
 #[test]
 fn a_report_follows_the_edits(rt: HostRuntime) -> Result<(), Fail> {
-    check_scripts(&rt, SCRIPTS)
-}
-
-#[test]
-fn extensions_of_one_name_are_told(rt: HostRuntime) -> Result<(), Fail> {
+    check_scripts(&rt, SCRIPTS)?;
     check_scripts(&rt, NAMES)
 }
 
@@ -314,11 +310,7 @@ fn check_scripts<R: Abort + AllocGlobal>(
     for (file, script, answers, status) in scripts {
         let file = zeroed_file_of(rt.alloc(), *file)?;
         let ran = edit(rt.alloc(), &file, script.as_bytes(), ALL_SMOOTH)?;
-        same!(rt; ran.printed.as_slice(), answers.as_bytes(), script);
-        same!(rt; ran.end, End {
-                status: *status,
-                fault: None
-            }, script);
+        check_ran(rt, &ran, answers, *status, script);
         // what was saved has the same report, in a new session and as it passes by
         let fresh = edit(rt.alloc(), &ran.saved, b"rep", ALL_SMOOTH)?;
         let passing = verify(rt.alloc(), Level::All, &ran.saved, ALL_SMOOTH)?;
@@ -376,11 +368,7 @@ fn a_file_is_verified(rt: HostRuntime) -> Result<(), Fail> {
     for (file, level, text, status) in VERIFIED {
         let bytes = zeroed_file_of(rt.alloc(), *file)?;
         let ran = verify(rt.alloc(), *level, &bytes, ALL_SMOOTH)?;
-        same!(rt; ran.printed.as_slice(), text.as_bytes());
-        same!(rt; ran.end, End {
-                status: *status,
-                fault: None
-            });
+        check_ran(&rt, &ran, text, *status, text);
     }
     Ok(())
 }

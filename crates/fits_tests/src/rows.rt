@@ -5,8 +5,8 @@ use crate::builders::{
     repeated,
 };
 use crate::checks::{holds, same};
-use crate::runs::{ALL_SMOOTH, DONE, Ran, Told, edit, tell};
-use fits_cli::{End, Fault, Level};
+use crate::runs::{ALL_SMOOTH, Ran, Told, check_ran, edit, tell};
+use fits_cli::{Fault, Level};
 use fits_session::OpenFault;
 use std::alloc::{AllocError, Global};
 use std::process::Abort;
@@ -22,11 +22,7 @@ pub fn check_run<R: Abort + AllocGlobal>(
     saved: &[u8],
 ) -> Result<(), Fail> {
     let ran = edit(rt.alloc(), file, script.as_bytes(), ALL_SMOOTH)?;
-    same!(rt; ran.printed.as_slice(), answers.as_bytes(), script);
-    same!(rt; ran.end, End {
-            status,
-            fault: None
-        }, script);
+    check_ran(rt, &ran, answers, status, script);
     holds!(rt; ran.saved.as_slice() == saved, script);
     Ok(())
 }
@@ -588,8 +584,7 @@ fn a_thirty_sixth_card_adds_a_block(rt: HostRuntime) -> Result<(), Fail> {
         let saved = joined(rt.alloc(), saved, more)?;
         let script = repeated(rt.alloc(), script, *times)?;
         let ran = edit(rt.alloc(), &file, &script, ALL_SMOOTH)?;
-        same!(rt; ran.printed.as_slice(), answers.as_bytes());
-        same!(rt; ran.end, DONE);
+        check_ran(&rt, &ran, answers, 0, answers);
         holds!(rt; ran.saved.as_slice() == saved.as_slice());
     }
     Ok(())

@@ -1,8 +1,11 @@
 //! Runs of scripts, listings, reports and sums over memory.
 
+use crate::checks::same;
 use crate::planned::{Plan, SMOOTH, reader, writer};
 use fits_cli::{End, Level, run_edit, run_list, run_sum, run_verify};
+use fits_session::{Edit, Refusal, Session};
 use std::alloc::{AllocError, Global};
+use std::process::Abort;
 
 /// What each stream of a run does.
 #[derive(Clone, Copy)]
@@ -37,6 +40,21 @@ pub struct Ran {
     pub script_calls: usize,
     pub answer_calls: usize,
     pub save_calls: usize,
+}
+
+/// Ends the test where a run of a case prints something else, or ends by a fault or with another status.
+pub fn check_ran<R: Abort>(rt: &R, ran: &Ran, printed: &str, status: u8, case: &str) {
+    let end = End {
+        status,
+        fault: None,
+    };
+    same!(rt; ran.printed.as_slice(), printed.as_bytes(), case);
+    same!(rt; ran.end, end, case);
+}
+
+/// Makes an edit, and answers why it was refused, if it was.
+pub fn refusal_of(session: &mut Session, edit: Edit) -> Option<Refusal> {
+    session.edit(edit).err()
 }
 
 /// A run of a script over a file.

@@ -129,24 +129,20 @@ fn each_call_fails<R: Abort + AllocGlobal>(
     Ok(())
 }
 
-#[test]
-fn each_read_of_the_file_fails_once(rt: HostRuntime) -> Result<(), Fail> {
-    each_call_fails(&rt, File, &[7, 100, 4096])
-}
+/// Each stream of a run, and how many bytes a call of it moves.
+const CALLED: &[(Stream, &[usize])] = &[
+    (File, &[7, 100, 4096]),
+    (Script, &[1, 7, 4096]),
+    (Answers, &[1, 7, 4096]),
+    (Saved, &[7, 100, 4096]),
+];
 
 #[test]
-fn each_read_of_the_script_fails_once(rt: HostRuntime) -> Result<(), Fail> {
-    each_call_fails(&rt, Script, &[1, 7, 4096])
-}
-
-#[test]
-fn each_write_of_answers_fails_once(rt: HostRuntime) -> Result<(), Fail> {
-    each_call_fails(&rt, Answers, &[1, 7, 4096])
-}
-
-#[test]
-fn each_write_of_saved_bytes_fails_once(rt: HostRuntime) -> Result<(), Fail> {
-    each_call_fails(&rt, Saved, &[7, 100, 4096])
+fn each_call_of_a_stream_fails_once(rt: HostRuntime) -> Result<(), Fail> {
+    for (stream, steps) in CALLED {
+        each_call_fails(&rt, *stream, steps)?;
+    }
+    Ok(())
 }
 
 /// One byte a call, and none a call.
@@ -161,13 +157,8 @@ const STUCK: Plan = Plan {
 };
 
 #[test]
-fn one_byte_a_call_comes_to_the_same(rt: HostRuntime) -> Result<(), Fail> {
+fn a_call_may_move_one_byte_but_not_none(rt: HostRuntime) -> Result<(), Fail> {
     holds!(rt; is_smooth(&rt, Each, SLOW)?);
-    Ok(())
-}
-
-#[test]
-fn a_writer_that_takes_nothing_fails(rt: HostRuntime) -> Result<(), Fail> {
     holds!(rt; !is_smooth(&rt, Answers, STUCK)?);
     holds!(rt; !is_smooth(&rt, Saved, STUCK)?);
     Ok(())

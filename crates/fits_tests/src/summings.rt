@@ -2,7 +2,7 @@
 
 use crate::builders::{FileText, P0, PIXEL, THREE_PIXELS, file_of};
 use crate::checks::same;
-use crate::runs::{ALL_SMOOTH, DONE, edit, sum};
+use crate::runs::{ALL_SMOOTH, DONE, check_ran, edit, sum};
 use std::test::Fail;
 
 /// The shortest header with its stamp, as `pixel_rows` has it.
@@ -74,8 +74,7 @@ fn a_file_is_summed_as_it_passes_by(rt: HostRuntime) -> Result<(), Fail> {
     for (file, lines) in FILES {
         let bytes = file_of(rt.alloc(), *file)?;
         let ran = sum(rt.alloc(), &bytes, ALL_SMOOTH)?;
-        same!(rt; ran.printed.as_slice(), lines.as_bytes());
-        same!(rt; ran.end, DONE);
+        check_ran(&rt, &ran, lines, 0, lines);
     }
     Ok(())
 }
@@ -107,7 +106,7 @@ fn what_is_saved_has_the_sums_that_were_stamped(rt: HostRuntime) -> Result<(), F
         let saved = edit(rt.alloc(), &bytes, script.as_bytes(), ALL_SMOOTH)?;
         same!(rt; saved.end, DONE, script);
         let ran = sum(rt.alloc(), &saved.saved, ALL_SMOOTH)?;
-        same!(rt; ran.printed.as_slice(), lines.as_bytes(), script);
+        check_ran(&rt, &ran, lines, 0, script);
     }
     Ok(())
 }
