@@ -6,7 +6,7 @@ ghost use Rattle.fits_cli.specs.Answer.{outcome_of, CommandFails};
 
 use crate::command::Command;
 use crate::pixel_answers::{rectangle, statistics, sums};
-use crate::places_line::places_line;
+use crate::places_line::positions;
 use crate::report_text::report_text;
 use crate::value_line::value_line;
 use fits_session::{HduOffsets, Refusal, Session};
@@ -38,13 +38,7 @@ pub(crate) fn answer(
             let (value, comment) = session.value(hdu, &name)?;
             Ok(value_line(alloc, &value, comment.as_ref())?)
         }
-        Command::Positions { hdu, name } => {
-            let places = session.positions(hdu, &name)?;
-            let Some((first, more)) = places.split_first() else {
-                return Err(Refusal::NoKey);
-            };
-            Ok(places_line(alloc, *first, more)?)
-        }
+        Command::Positions { hdu, name } => positions(alloc, session, hdu, &name),
         Command::Report => {
             let report = session.report()?;
             Ok(report_text(alloc, &report)?)

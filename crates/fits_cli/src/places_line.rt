@@ -1,16 +1,36 @@
 //! The line that tells the places of a keyword.
-ghost use Rattle.std.specs.Prelude.{◌≡◌, ◌∷◌, IfOk};
-ghost use Rattle.fits_cli.specs.Answer.{places_line};
+ghost use Rattle.std.specs.Prelude.{◌≡◌, ◌∷◌, IfOk, IfErr, OnErr, Ok};
+ghost use Rattle.fits_session.specs.Session.{file_of};
+ghost use Rattle.fits_cli.specs.Answer.{outcome_of, places_line, CommandFails};
+ghost use Rattle.fits_cli.specs.declared.command.Command.TheVariants.{Positions};
 
+use fits_card::Name;
+use fits_session::{Refusal, Session};
 use std::alloc::{AllocError, Global};
 
-/// Places, a space between, and a line feed.
-#[tactic(auto, using(crate::proofs::PlacesLemmas::places_steps))]
-pub(crate) fn places_line(
+/// `pos H NAME`
+#[tactic(auto, unfolding(crate::specs::Answer::outcome_of, crate::specs::Answer::OutcomeNeedsMemory))]
+pub(crate) fn positions(
     alloc: Global,
-    first: usize,
-    more: &[usize],
-) -> Result<Vec<u8>, AllocError>
+    session: &mut Session,
+    hdu: usize,
+    name: &Name,
+) -> Result<Vec<u8>, Refusal>
+    ensures ok { IfOk result (λ text. outcome_of (file_of session.old) (Positions hdu name.now)
+        ≡ Ok (record { text = text.items; file = file_of session.new })) }
+    ensures err { IfErr result (CommandFails (file_of session.old) (Positions hdu name.now)) }
+    ensures kept { OnErr result (file_of session.new ≡ file_of session.old) }
+{
+    let places = session.positions(hdu, name)?;
+    let Some((first, more)) = places.split_first() else {
+        return Err(Refusal::NoKey);
+    };
+    Ok(places_line(alloc, *first, more)?)
+}
+
+// Places, a space between, and a line feed.
+#[tactic(auto, using(crate::proofs::PlacesLemmas::places_steps))]
+fn places_line(alloc: Global, first: usize, more: &[usize]) -> Result<Vec<u8>, AllocError>
     ensures { IfOk result (λ line. line.items ≡ places_line (first ∷ more.now)) }
 {
     let mut line = Vec::new(alloc);
