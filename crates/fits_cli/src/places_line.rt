@@ -1,4 +1,4 @@
-//! The line that tells the places of a keyword.
+//! The places of a keyword: what `pos` prints.
 ghost use Rattle.std.specs.Prelude.{◌≡◌, ◌∷◌, IfOk, IfErr, OnErr, Ok};
 ghost use Rattle.fits_session.specs.Session.{file_of};
 ghost use Rattle.fits_cli.specs.Answer.{outcome_of, places_line, CommandFails};
