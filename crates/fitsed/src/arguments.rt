@@ -1,6 +1,6 @@
 //! The words of the command line, as clap reads them.
 use clap::{Arg, ArgAction, ArgMatches, Command};
-use fits_cli::Level;
+use fits_cli::{Level, Telling};
 use std::alloc::{AllocError, Global};
 
 /// What the command line asks for.
@@ -9,18 +9,7 @@ pub enum Task<'a> {
     /// The script on standard input edits the file at `from`; the result goes to `to`.
     Edit { from: &'a str, to: &'a str },
     /// A text of the file at `from` is printed.
-    Tell { from: &'a str, text: Told },
-}
-
-/// A text of a file.
-#[derive(Clone, Copy)]
-pub enum Told {
-    /// Its HDUs, a line each.
-    Listing,
-    /// The sums of its HDUs.
-    Sums,
-    /// What is wrong with it, as far as the level has it.
-    Report(Level),
+    Tell { from: &'a str, telling: Telling },
 }
 
 const VERSION: &str = "0.1.0";
@@ -152,17 +141,17 @@ fn level_of(words: &ArgMatches<'_>) -> Level {
 pub fn task_of<'a>(matches: &ArgMatches<'a>) -> Option<Task<'a>> {
     let (name, words) = matches.subcommand()?;
     let from = words.get_str("IN")?;
-    let text = match name {
+    let telling = match name {
         "edit" => {
             return Some(Task::Edit {
                 from,
                 to: words.get_str("OUT")?,
             });
         }
-        "list" => Told::Listing,
-        "sum" => Told::Sums,
-        "verify" => Told::Report(level_of(words)),
+        "list" => Telling::List,
+        "sum" => Telling::Sums,
+        "verify" => Telling::Report(level_of(words)),
         _ => return None,
     };
-    Some(Task::Tell { from, text })
+    Some(Task::Tell { from, telling })
 }

@@ -3,11 +3,11 @@
 
 mod arguments;
 
-use arguments::{Task, Told, command, task_of};
+use arguments::{Task, command, task_of};
 use clap::Error;
 use clap::error::ErrorKind;
 use fits_card::Watched;
-use fits_cli::{End, Fault, LazyFile, run_edit, run_list, run_sum, run_verify};
+use fits_cli::{End, Fault, LazyFile, Telling, run_edit, run_list, run_sum, run_verify};
 use std::alloc::AllocError;
 use std::io::BufWriter;
 use std::process::ExitCode;
@@ -31,7 +31,7 @@ fn main(rt: HostRuntime) -> ExitCode {
     };
     let end = match task_of(&matches) {
         Some(Task::Edit { from, to }) => edit(&rt, from, to),
-        Some(Task::Tell { from, text }) => tell(&rt, from, text),
+        Some(Task::Tell { from, telling }) => tell(&rt, from, telling),
         None => return ExitCode::from(2),
     };
     if let Some(fault) = end.fault {
@@ -61,7 +61,7 @@ fn edit<R: Files + Input + Print + AllocGlobal>(rt: &R, from: &str, to: &str) ->
 }
 
 // Runs `list`, `sum` or `verify` over the file at `from`.
-fn tell<R: Files + Print + AllocGlobal>(rt: &R, from: &str, text: Told) -> End {
+fn tell<R: Files + Print + AllocGlobal>(rt: &R, from: &str, telling: Telling) -> End {
     let Ok(file) = fs::open(rt, from) else {
         return End::from(Fault::ReadFailed);
     };
@@ -70,10 +70,10 @@ fn tell<R: Files + Print + AllocGlobal>(rt: &R, from: &str, text: Told) -> End {
     };
     let mut file = Watched::new(file);
     let mut out = Watched::new(out);
-    match text {
-        Told::Listing => run_list(rt.alloc(), &mut file, &mut out),
-        Told::Sums => run_sum(rt.alloc(), &mut file, &mut out),
-        Told::Report(level) => run_verify(rt.alloc(), level, &mut file, &mut out),
+    match telling {
+        Telling::List => run_list(rt.alloc(), &mut file, &mut out),
+        Telling::Sums => run_sum(rt.alloc(), &mut file, &mut out),
+        Telling::Report(level) => run_verify(rt.alloc(), level, &mut file, &mut out),
     }
 }
 
