@@ -1,11 +1,14 @@
 #!/bin/sh
-# All that has to hold: the gate, refused memory, the program over real files.
-# What failed is said once more at the end; the last line sums the three counts.
+# All that has to hold: the gate, refused memory, the program over real files and over the tables of cases/.
+# What failed is said once more at the end; the last line sums the four counts.
 set -u
 cd "$(dirname "$0")/.."
+# One check for each processor that has 5 GB of memory. By several jobs a check takes up to half as much work again.
+: "${RT_JOBS:=$(awk -v most="$(nproc)" '/^MemAvailable/ { n = int($2 / 5000000); print n < 1 ? 1 : n < most ? n : most }' /proc/meminfo)}"
+export RT_JOBS
 room=$(mktemp -d)
 trap 'rm -rf "$room"' EXIT
-for part in 'rt ci' 'sh .ci/refuse.sh' 'sh .ci/stored.sh'; do
+for part in 'rt ci' 'sh .ci/refuse.sh' 'sh .ci/stored.sh' 'python3 -B cases/run.py'; do
     echo "== $part"
     { $part 2>&1 || touch "$room/failed"; } | tee "$room/log"
     grep -E 'FAILED: |NOT PROVED|NOT REFUSED|BAD EDIT' "$room/log" >>"$room/faults"
@@ -13,4 +16,4 @@ for part in 'rt ci' 'sh .ci/refuse.sh' 'sh .ci/stored.sh'; do
 done
 cat "$room/faults"
 awk '/^[0-9]+ passed, [0-9]+ failed/ { passed += $1; failed += $3; counted += 1 }
-     END { if (counted < 3) failed += 1; printf "%d passed, %d failed\n", passed, failed; exit failed > 0 }' "$room/counts" && [ ! -e "$room/failed" ]
+     END { if (counted < 4) failed += 1; printf "%d passed, %d failed\n", passed, failed; exit failed > 0 }' "$room/counts" && [ ! -e "$room/failed" ]

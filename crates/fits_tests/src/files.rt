@@ -3,10 +3,11 @@
 use crate::builders::{FileText, P0, PIXEL, THREE_PIXELS, file_of, name_of};
 use crate::checks::{holds, same};
 use crate::planned::{SMOOTH, writer};
+use crate::runs::refusal_of;
 use crate::values::line_of;
 use fits_hdu::Kind;
-use fits_rules::Class;
-use fits_session::{HduOffsets, OpenFault, Refusal, Session, within};
+use fits_rules::{Axes, Class};
+use fits_session::{Edit, HduOffsets, OpenFault, Refusal, Session, within};
 use std::alloc::Global;
 use std::process::Abort;
 use std::test::Fail;
@@ -276,6 +277,30 @@ fn a_keyword_of_an_hdu_says_its_value(rt: HostRuntime) -> Result<(), Fail> {
             }
             Err(why) => same!(rt; Some(why), wanted.err(), name),
         }
+    }
+    Ok(())
+}
+
+/// Axes that no line can say, and why a new image can't have them.
+const LONG_AXES: &[(usize, &[u64], Option<Refusal>)] = &[
+    (2, &[9_223_372_036_854_775_808], Some(Refusal::Shape)),
+    (2, &[0, 9_223_372_036_854_775_808], Some(Refusal::Shape)),
+    (2, &[9_223_372_036_854_775_807], Some(Refusal::TooLarge)),
+    (2, &[0, 9_223_372_036_854_775_807], None),
+    (1, &[9_223_372_036_854_775_808], Some(Refusal::PrimaryStays)),
+];
+
+#[test]
+fn an_axis_has_64_bits_at_most(rt: HostRuntime) -> Result<(), Fail> {
+    let file = file_of(rt.alloc(), (&[(P0, 0)], ""))?;
+    for (at, axes, refusal) in LONG_AXES {
+        let mut session = Session::open(rt.alloc(), &file)?;
+        let edit = Edit::NewImage {
+            at: *at,
+            kind: Kind::U8,
+            axes: Axes::new(axes.to_vec(rt.alloc())?),
+        };
+        same!(rt; refusal_of(&mut session, edit), *refusal, (at, axes));
     }
     Ok(())
 }

@@ -8,13 +8,9 @@ mod cards;
 #[cfg(test)]
 mod checks;
 #[cfg(test)]
-mod codes;
-#[cfg(test)]
-mod edits;
+mod faults;
 #[cfg(test)]
 mod files;
-#[cfg(test)]
-mod hdu_rows;
 #[cfg(test)]
 mod hdus;
 #[cfg(test)]
@@ -22,15 +18,9 @@ mod indexes;
 #[cfg(test)]
 mod lines;
 #[cfg(test)]
-mod listings;
-#[cfg(test)]
-mod long_scripts;
-#[cfg(test)]
 mod memory;
 #[cfg(test)]
 mod numbers;
-#[cfg(test)]
-mod pixel_rows;
 #[cfg(test)]
 mod planes;
 #[cfg(test)]
@@ -38,17 +28,11 @@ mod planned;
 #[cfg(test)]
 mod reading;
 #[cfg(test)]
-mod reports;
-#[cfg(test)]
-mod rows;
-#[cfg(test)]
 mod runs;
 #[cfg(test)]
 mod shapes;
 #[cfg(test)]
 mod streams;
-#[cfg(test)]
-mod summings;
 #[cfg(test)]
 mod sums;
 #[cfg(test)]

@@ -10,10 +10,9 @@ use crate::builders::{
 use crate::checks::{holds, same};
 use crate::hdus::ASKED;
 use crate::planned::{SMOOTH, reader, writer};
-use crate::reports::{A, NAMED_TWICE};
 use crate::runs::{ALL_SMOOTH, Ran, check_ran, edit, refusal_of, tell};
 use crate::shapes::{ShapeText, check_shape};
-use crate::streams::{LISTED_LINES, NAMED_LINES, REPORTED_LINES, SUMMED_LINES};
+use crate::streams::{A, LISTED_LINES, NAMED_LINES, NAMED_TWICE, REPORTED_LINES, SUMMED_LINES};
 use crate::values::line_of;
 use fits_card::{HeaderFault, Name, cut_header};
 use fits_cli::{Command, Fault, LineFault, parse_line};

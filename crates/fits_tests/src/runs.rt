@@ -2,7 +2,7 @@
 
 use crate::checks::same;
 use crate::planned::{Plan, SMOOTH, reader, writer};
-use fits_cli::{End, Level, run_edit, run_list, run_sum, run_verify};
+use fits_cli::{End, Telling, run_edit, run_list, run_sum, run_verify};
 use fits_session::{Edit, Refusal, Session};
 use std::alloc::{AllocError, Global};
 use std::process::Abort;
@@ -77,22 +77,14 @@ pub fn edit(alloc: Global, file: &[u8], script: &[u8], plans: Plans) -> Result<R
     })
 }
 
-/// A text of a file.
-#[derive(Clone, Copy, Debug)]
-pub enum Told {
-    Listing,
-    Report(Level),
-    Sums,
-}
-
 /// A run that prints a text of a file.
-pub fn tell(alloc: Global, told: Told, file: &[u8], plans: Plans) -> Result<Ran, AllocError> {
+pub fn tell(alloc: Global, telling: Telling, file: &[u8], plans: Plans) -> Result<Ran, AllocError> {
     let mut file = reader(file, plans.file);
     let mut out = writer(alloc, plans.answers)?;
-    let end = match told {
-        Told::Listing => run_list(alloc, &mut file, &mut out),
-        Told::Report(level) => run_verify(alloc, level, &mut file, &mut out),
-        Told::Sums => run_sum(alloc, &mut file, &mut out),
+    let end = match telling {
+        Telling::List => run_list(alloc, &mut file, &mut out),
+        Telling::Report(level) => run_verify(alloc, level, &mut file, &mut out),
+        Telling::Sums => run_sum(alloc, &mut file, &mut out),
     };
     let out = out.into_inner();
     Ok(Ran {
@@ -104,19 +96,4 @@ pub fn tell(alloc: Global, told: Told, file: &[u8], plans: Plans) -> Result<Ran,
         printed: out.bytes,
         saved: Vec::new(alloc),
     })
-}
-
-/// A listing of a file.
-pub fn list(alloc: Global, file: &[u8], plans: Plans) -> Result<Ran, AllocError> {
-    tell(alloc, Told::Listing, file, plans)
-}
-
-/// A report of a file.
-pub fn verify(alloc: Global, level: Level, file: &[u8], plans: Plans) -> Result<Ran, AllocError> {
-    tell(alloc, Told::Report(level), file, plans)
-}
-
-/// The sums of a file.
-pub fn sum(alloc: Global, file: &[u8], plans: Plans) -> Result<Ran, AllocError> {
-    tell(alloc, Told::Sums, file, plans)
 }

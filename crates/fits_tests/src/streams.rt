@@ -3,10 +3,8 @@
 use crate::builders::{FileText, P0, PIXEL, file_of, hdu_of};
 use crate::checks::{holds, same};
 use crate::planned::Plan;
-use crate::reports::{NAMED_REPORT, NAMED_TWICE, REPORT, WRONG};
-use crate::runs::{ALL_SMOOTH, DONE, Plans, Ran, Told, edit, tell};
-use crate::summings::{SUMMED, SUMS};
-use fits_cli::{End, Fault, Level};
+use crate::runs::{ALL_SMOOTH, DONE, Plans, Ran, edit, tell};
+use fits_cli::{End, Fault, Level, Telling};
 use std::process::Abort;
 use std::test::Fail;
 
@@ -221,16 +219,55 @@ const LISTED: FileText<'static> = (&[(P0, 0), (PIXEL, 1)], "trailer");
 const LISTING: &str = "hdu 1 PRIMARY bitpix 8 axes - cards 3 at 0 2880 2880\n\
     hdu 2 IMAGE bitpix 16 axes 1 cards 6 at 2880 5760 8640\n";
 
+/// An image extension without data, and three things wrong with it as a whole.
+const THREE_WRONG: &str = "XTENSION= 'IMAGE   '|BITPIX  =                    8|\
+    NAXIS   =                    0|SIMPLE  =                    T|END     x";
+
+/// A file of two HDUs and bytes after them, and what is wrong with it.
+const WRONG: FileText<'static> = (&[(P0, 0), (THREE_WRONG, 0)], "x");
+
+/// The report of that file.
+const REPORT: &str = "E14 2 0 END card not blank\nE16 2 0 PCOUNT or GCOUNT out of place\n\
+    E18 2 0 SIMPLE or XTENSION in the wrong kind of HDU\n\
+    W26 3 0 bytes after the last HDU\nerrors 3 warnings 1\n";
+
+/// Image extensions without data, and what calls them: A, A of version 1, A of a version that is a string, and A of
+/// version 2.
+pub const A: &str =
+    "XTENSION= 'IMAGE   '|BITPIX  =                    8|NAXIS   =                    0|\
+    PCOUNT  =                    0|GCOUNT  =                    1|EXTNAME = 'A       '|END";
+
+const A_1: &str =
+    "XTENSION= 'IMAGE   '|BITPIX  =                    8|NAXIS   =                    0|\
+    PCOUNT  =                    0|GCOUNT  =                    1|EXTNAME = 'A'|\
+    EXTVER  =                    1|END";
+
+/// A file of two extensions of one name, where a missing EXTVER is 1.
+pub const NAMED_TWICE: FileText<'static> = (&[(P0, 0), (A, 0), (A_1, 0)], "");
+
+/// The report of that file.
+const NAMED_REPORT: &str = "W25 2 0 two extensions of one type, name and version\n\
+    W25 3 0 two extensions of one type, name and version\nerrors 0 warnings 2\n";
+
+/// The shortest header with its stamp.
+const STAMPED: &str = "SIMPLE  =                    T|BITPIX  =                    8|\
+    NAXIS   =                    0|CHECKSUM= 'BpFiDoFgBoFgBoFg'|DATASUM = '0       '|END";
+
+/// A file of two HDUs and a tail, and its sums. The words of a block of `file_of` sum to 1867394316.
+const SUMMED: FileText<'static> = (&[(STAMPED, 0), (PIXEL, 1)], "trailer");
+
+const SUMS: &str = "1 0 1 1\n2 1867394316 0 0\n";
+
 /// A text of a file: the file, what is printed of it, and the status.
-pub type ToldText = (Told, FileText<'static>, &'static str, u8);
+pub type ToldText = (Telling, FileText<'static>, &'static str, u8);
 
-pub const LISTED_LINES: ToldText = (Told::Listing, LISTED, LISTING, 0);
+pub const LISTED_LINES: ToldText = (Telling::List, LISTED, LISTING, 0);
 
-pub const REPORTED_LINES: ToldText = (Told::Report(Level::All), WRONG, REPORT, 1);
+pub const REPORTED_LINES: ToldText = (Telling::Report(Level::All), WRONG, REPORT, 1);
 
-pub const NAMED_LINES: ToldText = (Told::Report(Level::All), NAMED_TWICE, NAMED_REPORT, 0);
+pub const NAMED_LINES: ToldText = (Telling::Report(Level::All), NAMED_TWICE, NAMED_REPORT, 0);
 
-pub const SUMMED_LINES: ToldText = (Told::Sums, SUMMED, SUMS, 0);
+pub const SUMMED_LINES: ToldText = (Telling::Sums, SUMMED, SUMS, 0);
 
 /// A text of a file, a stream of its run, and how many bytes each call of the stream moves.
 const TOLD_BY: &[(ToldText, Stream, usize)] = &[
@@ -256,19 +293,19 @@ fn is_told<R: Abort + AllocGlobal>(
     stream: Stream,
     plan: Plan,
 ) -> Result<bool, Fail> {
-    let (told, file, lines, status) = text;
+    let (telling, file, lines, status) = text;
     let whole = End {
         status,
         fault: None,
     };
     let bytes = file_of(rt.alloc(), file)?;
     let plans = plans_of(stream, plan);
-    let ran = tell(rt.alloc(), told, &bytes, plans)?;
+    let ran = tell(rt.alloc(), telling, &bytes, plans)?;
     let call = plan.failing;
-    same!(rt; ran.end, end_of(plans, &ran, whole), (told, stream, call));
-    holds!(rt; lines.as_bytes().starts_with(&ran.printed), (told, stream, call));
+    same!(rt; ran.end, end_of(plans, &ran, whole), (lines, stream, call));
+    holds!(rt; lines.as_bytes().starts_with(&ran.printed), (lines, stream, call));
     if ran.end == whole {
-        same!(rt; ran.printed.len(), lines.len(), (told, stream, call));
+        same!(rt; ran.printed.len(), lines.len(), (lines, stream, call));
     }
     Ok(ran.end == whole)
 }

@@ -1,86 +1,22 @@
-//! What is wrong with cards and headers: expected codes by hand, from the rules' own words.
+"""The codes of cards and headers."""
+from fits import BLOCK_LEN, P0, header
+from program import differences, shown
 
-use crate::builders::{P0, add_cards, end_header, fill_up};
-use crate::checks::same;
-use crate::runs::{ALL_SMOOTH, verify};
-use fits_card::BLOCK_LEN;
-use fits_cli::Level;
-use std::alloc::{AllocError, Global};
-use std::process::Abort;
-use std::test::Fail;
+# The first cards of a primary header.
+PRIMARY = "SIMPLE  =                    T|BITPIX  =                    8|NAXIS   =                    0|"
 
-/// The first cards of a primary header.
-const PRIMARY: &str =
-    "SIMPLE  =                    T|BITPIX  =                    8|NAXIS   =                    0|";
+# The first cards of an image extension.
+IMAGE = "XTENSION= 'IMAGE   '|BITPIX  =                    8|NAXIS   =                    0|"
 
-/// The first cards of an image extension.
-const IMAGE: &str =
-    "XTENSION= 'IMAGE   '|BITPIX  =                    8|NAXIS   =                    0|";
+# A parameter, and so a byte of data.
+ONE_PARAMETER = "PCOUNT  =                    1"
 
-/// A parameter, and so a byte of data.
-const ONE_PARAMETER: &str = "PCOUNT  =                    1";
-
-/// A file with this header, after the shortest primary HDU where it is an extension's.
-fn file_with(alloc: Global, first: &str, others: &str) -> Result<Vec<u8>, AllocError> {
-    let mut bytes = Vec::new(alloc);
-    if first.starts_with("XTENSION") || (first.is_empty() && others.starts_with("XTENSION")) {
-        add_cards(&mut bytes, P0)?;
-        end_header(&mut bytes)?;
-    }
-    add_cards(&mut bytes, first)?;
-    add_cards(&mut bytes, others)?;
-    end_header(&mut bytes)?;
-    if others.contains(ONE_PARAMETER) {
-        bytes.push(0)?;
-        fill_up(&mut bytes, BLOCK_LEN, 0)?;
-    }
-    Ok(bytes)
-}
-
-/// The labels and places of a report's lines, separated by spaces.
-fn codes_in(alloc: Global, report: &str) -> Result<String, AllocError> {
-    let mut codes = String::new(alloc);
-    for line in report.split('\n') {
-        let mut words = line.split(' ');
-        let (Some(label), Some(_), Some(place)) = (words.next(), words.next(), words.next()) else {
-            break;
-        };
-        if label == "errors" {
-            break;
-        }
-        if !codes.is_empty() {
-            codes.push_str(" ")?;
-        }
-        codes.push_str(label)?;
-        codes.push_str(" ")?;
-        codes.push_str(place)?;
-    }
-    Ok(codes)
-}
-
-/// Whether a file with this header is verified with these codes, and is found wrong by errors alone.
-fn check_codes<R: Abort>(
-    rt: &R,
-    alloc: Global,
-    first: &str,
-    others: &str,
-    wanted: &str,
-) -> Result<(), Fail> {
-    let file = file_with(alloc, first, others)?;
-    let ran = verify(alloc, Level::All, &file, ALL_SMOOTH)?;
-    let report = std::str::from_utf8(&ran.printed).ok().ok_or("no text")?;
-    let codes = codes_in(alloc, report)?;
-    same!(rt; codes.as_str(), wanted, (first, others));
-    same!(rt; ran.end.status == 1, wanted.contains('E'), (first, others));
-    Ok(())
-}
-
-/// A card at place 4 of a primary header, and its codes.
-const ALONE: &[(&str, &str)] = &[
-    ("COMMENT \u{7f}|END", "E01 4"),
+# A card at place 4 of a primary header, and its codes.
+ALONE = [
+    ("COMMENT \x7f|END", "E01 4"),
     ("COMMENT ~|END", ""),
-    ("COMMENT \u{1f}|END", "E01 4"),
-    ("KEY     = 1 / \u{7f}|END", "E01 4"),
+    ("COMMENT \x1f|END", "E01 4"),
+    ("KEY     = 1 / \x7f|END", "E01 4"),
     ("key     = 1|END", "E02 4"),
     ("KEY-_9  = 1|END", ""),
     ("KEY 1   = 1|END", "E02 4"),
@@ -89,7 +25,7 @@ const ALONE: &[(&str, &str)] = &[
     ("KEY     = T|END", ""),
     ("KEY     = 1e3|END", "E03 4"),
     ("KEY     = 'abc|END", "E03 4"),
-    ("KEY     = TRUE\u{7f}|END", "E01 4"),
+    ("KEY     = TRUE\x7f|END", "E01 4"),
     ("KEY       TRUE|END", ""),
     ("KEY     =|END", "W04 4"),
     ("KEY     = / a comment|END", "W04 4"),
@@ -136,18 +72,10 @@ const ALONE: &[(&str, &str)] = &[
     ("XTENSION= 'IMAGE   '|END", "E18 0"),
     ("XTENSION|END", "E18 0"),
     ("SIMPLE  = T|END", "E07 4"),
-];
+]
 
-#[test]
-fn a_card_has_its_codes(rt: HostRuntime) -> Result<(), Fail> {
-    for (cards, wanted) in ALONE {
-        check_codes(&rt, rt.alloc(), PRIMARY, cards, wanted)?;
-    }
-    Ok(())
-}
-
-/// Cards from place 4 of a primary header on, and their codes with their places.
-const NEIGHBOURS: &[(&str, &str)] = &[
+# Cards from place 4 of a primary header on, and their codes with their places.
+NEIGHBOURS = [
     ("PCOUNT  = 0|PCOUNT  = 0|END", "W08 5"),
     ("PCOUNT|PCOUNT  = 0|END", ""),
     ("NAXIS1  = 0|NAXIS1  = 0|END", "W08 5"),
@@ -174,18 +102,10 @@ const NEIGHBOURS: &[(&str, &str)] = &[
         "DATE    = 'x'|DATE    = 'x&'|END",
         "E12 4 W08 5 W10 5 E12 5",
     ),
-];
+]
 
-#[test]
-fn a_card_is_judged_among_others(rt: HostRuntime) -> Result<(), Fail> {
-    for (cards, wanted) in NEIGHBOURS {
-        check_codes(&rt, rt.alloc(), PRIMARY, cards, wanted)?;
-    }
-    Ok(())
-}
-
-/// Cards from place 4 of an image extension on, and the codes.
-const EXTENSIONS: &[(&str, &str)] = &[
+# Cards from place 4 of an image extension on, and the codes.
+EXTENSIONS = [
     ("PCOUNT  =                    0|GCOUNT  = 1|END", "E06 5"),
     (
         "PCOUNT  =                    0|GCOUNT  =                    1|PCOUNT  = 0|END",
@@ -225,18 +145,10 @@ const EXTENSIONS: &[(&str, &str)] = &[
         "PCOUNT  =                    0|GCOUNT  =                    1|PCOUNT  = 'a&'|END",
         "E05 6 E07 6 W10 6",
     ),
-];
+]
 
-#[test]
-fn an_extension_has_its_codes(rt: HostRuntime) -> Result<(), Fail> {
-    for (cards, wanted) in EXTENSIONS {
-        check_codes(&rt, rt.alloc(), IMAGE, cards, wanted)?;
-    }
-    Ok(())
-}
-
-/// Whole headers, and their codes. Place 0 is the header as a whole.
-const HEADERS: &[(&str, &str)] = &[
+# Whole headers, and their codes. Place 0 is the header as a whole.
+HEADERS = [
     (
         "SIMPLE  = T|BITPIX  =                    8|NAXIS   =                    0|END",
         "E06 1",
@@ -294,7 +206,7 @@ const HEADERS: &[(&str, &str)] = &[
         "E14 0 E15 0",
     ),
     (
-        "SIMPLE  =                    T\u{7f}|BITPIX  =                    8|NAXIS   =                    0|END",
+        "SIMPLE  =                    T\x7f|BITPIX  =                    8|NAXIS   =                    0|END",
         "E01 1 E06 1",
     ),
     (
@@ -329,18 +241,10 @@ const HEADERS: &[(&str, &str)] = &[
         "XTENSION= 'IMAGE   '|BITPIX  =                    8|NAXIS   =                    0|SIMPLE  =                    T|PCOUNT  =                    1|END     x|x",
         "E14 0 E15 0 E16 0 E17 0 E18 0",
     ),
-];
+]
 
-#[test]
-fn a_header_has_its_codes(rt: HostRuntime) -> Result<(), Fail> {
-    for (cards, wanted) in HEADERS {
-        check_codes(&rt, rt.alloc(), "", cards, wanted)?;
-    }
-    Ok(())
-}
-
-/// BITPIX, BLANK, and the codes of an array with an axis that has both.
-const BLANKS: &[(&str, &str, &str)] = &[
+# BITPIX, BLANK, and the codes of an array with an axis that has both.
+BLANKS = [
     ("BITPIX  =                    8", "BLANK   = -1", "W21 0"),
     ("BITPIX  =                    8", "BLANK   = 0", ""),
     ("BITPIX  =                    8", "BLANK   = 255", ""),
@@ -374,67 +278,67 @@ const BLANKS: &[(&str, &str, &str)] = &[
         "W21 0",
     ),
     ("BITPIX  =                    8", "BLANK   = 7.", "E05 5"),
-];
+]
 
-#[test]
-fn blank_is_a_number_that_the_array_can_hold(rt: HostRuntime) -> Result<(), Fail> {
-    for (bitpix, blank, wanted) in BLANKS {
-        let mut cards = String::new(rt.alloc());
-        cards.push_str("SIMPLE  =                    T|")?;
-        cards.push_str(bitpix)?;
-        cards.push_str("|NAXIS   =                    1|NAXIS1  =                    0|")?;
-        cards.push_str(blank)?;
-        cards.push_str("|END")?;
-        check_codes(&rt, rt.alloc(), "", cards.as_str(), wanted)?;
-    }
-    Ok(())
-}
+# A text, and whether it is a date or isn't judged.
+DATES = [
+    ("2024-02-29T23:59:60.5", True),
+    ("2024-02-30", False),
+    ("29/02/00", False),
+    ("28/02/00", True),
+    ("1900-02-29", False),
+    ("2000-02-29", True),
+    ("0000-02-29", True),
+    ("9999-12-31", True),
+    ("2100-02-29", False),
+    ("2023-02-29", False),
+    ("31/12/99", True),
+    ("31/11/99", False),
+    ("2024-04-31", False),
+    ("2024-13-01", False),
+    ("2024-00-01", False),
+    ("2024-01-00", False),
+    ("2024-1-01", False),
+    ("2024-01-01Z", False),
+    (" 2024-01-01", False),
+    ("2024-01-01T00:00", False),
+    ("2024-01-01T00:00:00", True),
+    ("2024-01-01T24:00:00", False),
+    ("2024-01-01T23:60:00", False),
+    ("2024-01-01T23:59:61", False),
+    ("2024-01-01T00:00:00.", False),
+    ("2024-01-01T00:00:00.5x", False),
+    ("2024-01-01 00:00:00", False),
+    ("x", False),
+    ("", True),
+    (" ", True),
+    ("+12345-01-01", True),
+    ("-0001-01-01", True),
+]
 
-/// A text, and whether it is a date or isn't judged.
-const DATES: &[(&str, bool)] = &[
-    ("2024-02-29T23:59:60.5", true),
-    ("2024-02-30", false),
-    ("29/02/00", false),
-    ("28/02/00", true),
-    ("1900-02-29", false),
-    ("2000-02-29", true),
-    ("0000-02-29", true),
-    ("9999-12-31", true),
-    ("2100-02-29", false),
-    ("2023-02-29", false),
-    ("31/12/99", true),
-    ("31/11/99", false),
-    ("2024-04-31", false),
-    ("2024-13-01", false),
-    ("2024-00-01", false),
-    ("2024-01-00", false),
-    ("2024-1-01", false),
-    ("2024-01-01Z", false),
-    (" 2024-01-01", false),
-    ("2024-01-01T00:00", false),
-    ("2024-01-01T00:00:00", true),
-    ("2024-01-01T24:00:00", false),
-    ("2024-01-01T23:60:00", false),
-    ("2024-01-01T23:59:61", false),
-    ("2024-01-01T00:00:00.", false),
-    ("2024-01-01T00:00:00.5x", false),
-    ("2024-01-01 00:00:00", false),
-    ("x", false),
-    ("", true),
-    (" ", true),
-    ("+12345-01-01", true),
-    ("-0001-01-01", true),
-];
 
-#[test]
-fn a_date_is_a_day_of_the_calendar(rt: HostRuntime) -> Result<(), Fail> {
-    for (text, is_right) in DATES {
-        let mut cards = String::new(rt.alloc());
-        cards.push_str("DATE    = '")?;
-        cards.push_str(text)?;
-        cards.push_str("'|END")?;
-        let wanted = if *is_right { "" } else { "E12 4" };
-        check_codes(&rt, rt.alloc(), PRIMARY, cards.as_str(), wanted)?;
-    }
-    Ok(())
-}
+
+def cases():
+    for first, table in [(PRIMARY, ALONE + NEIGHBOURS), (IMAGE, EXTENSIONS), ("", HEADERS)]:
+        for others, codes in table:
+            yield others, coded, first, others, codes
+    for bitpix, blank, codes in BLANKS:
+        others = f"SIMPLE  =                    T|{bitpix}|NAXIS   =                    1|NAXIS1  =                    0|{blank}|END"
+        yield others, coded, "", others, codes
+    for date, is_right in DATES:
+        others = f"DATE    = '{date}'|END"
+        yield others, coded, PRIMARY, others, "" if is_right else "E12 4"
+
+
+def coded(program, first, others, codes):
+    """Where a header of these cards has other codes, or its file another status."""
+    is_extension = (first or others).startswith("XTENSION")
+    data = bytes(BLOCK_LEN) if ONE_PARAMETER in others else b""
+    front = header(P0) if is_extension else b""
+    texts = [first, others] if first else [others]
+    ran = program.tell(["verify"], front + header(*texts) + data)
+    yield from differences(ran, status=int("E" in codes), reported=b"")
+    words = [line.split(" ") for line in ran.printed.decode().splitlines()]
+    found = " ".join(f"{code} {place}" for code, _, place, *_ in words[:-1])
+    if found != codes:
+        yield f"codes: {shown(found)}, and not {shown(codes)}"

@@ -1,14 +1,11 @@
-//! Edits of cards by scripts: what they print, and the cards that are saved.
+"""Edits of cards beside `ins`, and edits that are refused."""
+import hdu_edits
+from fits import P0, data, header
+from program import edited
 
-use crate::builders::{P0, hdu_of};
-use crate::hdu_rows;
-use crate::rows::check_run;
-use std::alloc::{AllocError, Global};
-use std::test::Fail;
-
-/// A script over the shortest file that changes nothing: its answers.
-const REFUSED: &[(&str, &str)] = &[
-    // the first test that fails
+# A script over the shortest file that changes nothing: its answers.
+REFUSED = [
+    # the first test that fails
     ("put 2 9 X\t", "line 1: refused 1 NoHdu\n"),
     ("put 0 1 X", "line 1: refused 1 NoHdu\n"),
     ("put 1 0 X\t", "line 1: refused 2 NoCard\n"),
@@ -56,23 +53,12 @@ const REFUSED: &[(&str, &str)] = &[
         "set 1 KEY 'ab&'\nget 1 KEY\nfrob\n",
         "line 1: refused 8 BadValue\nline 2: refused 3 NoKey\nline 3: not a command\n",
     ),
-];
+]
 
-#[test]
-fn a_refused_edit_leaves_the_file(rt: HostRuntime) -> Result<(), Fail> {
-    let file = hdu_of(rt.alloc(), P0, 0)?;
-    for rows in [REFUSED, hdu_rows::REFUSED] {
-        for (script, answers) in rows {
-            check_run(&rt, &file, script, answers, 1, &file)?;
-        }
-    }
-    Ok(())
-}
-
-/// The cards of a file and how many blocks of data it has; a script, its answers, the status, and the cards that are
-/// saved.
-const EDITED: &[(&str, usize, &str, &str, u8, &str)] = &[
-    // a value and its comment; without a comment the old one goes
+# The cards of a file and how many blocks of data it has; a script, its answers, the status, and the cards that are
+# saved.
+EDITED = [
+    # a value and its comment; without a comment the old one goes
     (
         "SIMPLE|BITPIX  = 8|NAXIS   = 0|END",
         0,
@@ -97,7 +83,7 @@ const EDITED: &[(&str, usize, &str, &str, u8, &str)] = &[
         1,
         "SIMPLE|BITPIX  = 8|NAXIS   = 0|END",
     ),
-    // a string over cards, its first card replaced and put back
+    # a string over cards, its first card replaced and put back
     (
         "SIMPLE|BITPIX  = 8|NAXIS   = 0|END",
         0,
@@ -114,7 +100,7 @@ const EDITED: &[(&str, usize, &str, &str, u8, &str)] = &[
         0,
         "SIMPLE|BITPIX  = 8|NAXIS   = 0|KEY     = 'aaaaaaaaaaaaaaaaaaaaaaaaaaaaaaaaaaaaaaaaaaaaaaaaaaaaaaaaaaaaaaaaaa&'|CONTINUE  '''bbbbbbbbbbbbbbbbbbbbbbbbbbbbbbbbbbbbbbbbbbbbbbbbbbbbbbbbbbbbbbbbb&'|CONTINUE  'bbbbbbbb'|END",
     ),
-    // a shorter value takes the links of the old one along, and no other CONTINUE card
+    # a shorter value takes the links of the old one along, and no other CONTINUE card
     (
         "SIMPLE|BITPIX  = 8|NAXIS   = 0|KEY     = 'a&'|CONTINUE  'b&'|CONTINUE  'c'|CONTINUE  'd'|X|END",
         0,
@@ -131,7 +117,7 @@ const EDITED: &[(&str, usize, &str, &str, u8, &str)] = &[
         0,
         "SIMPLE|BITPIX  = 8|NAXIS   = 0|CONTINUE  'd'|X|END",
     ),
-    // the mandatory cards may be written anew where they say the same
+    # the mandatory cards may be written anew where they say the same
     (
         "SIMPLE|BITPIX  =                   16|NAXIS   =                    1|NAXIS1  =                    3|END",
         1,
@@ -148,7 +134,7 @@ const EDITED: &[(&str, usize, &str, &str, u8, &str)] = &[
         0,
         "SIMPLE  =                    F|BITPIX  =                    8|NAXIS   =                    0 / c|END",
     ),
-    // cards move, and a new one stands among them
+    # cards move, and a new one stands among them
     (
         P0,
         0,
@@ -157,7 +143,7 @@ const EDITED: &[(&str, usize, &str, &str, u8, &str)] = &[
         1,
         "SIMPLE  =                    F|BITPIX  =                    8|NAXIS   =                    0|COMMENT|ORIGIN  = 'b       '|OBJECT  = 'a       '|END",
     ),
-    // the place is counted when the card is out
+    # the place is counted when the card is out
     (
         "SIMPLE|BITPIX  = 8|NAXIS   = 0|A|B|C|D|END",
         0,
@@ -174,7 +160,7 @@ const EDITED: &[(&str, usize, &str, &str, u8, &str)] = &[
         0,
         "SIMPLE|BITPIX  = 8|NAXIS   = 0|X|C|END",
     ),
-    // cards without a value are none of a keyword, but have places
+    # cards without a value are none of a keyword, but have places
     (
         "SIMPLE|BITPIX  = 8|NAXIS   = 0|KEY       1|KEY     =2|END",
         0,
@@ -183,7 +169,7 @@ const EDITED: &[(&str, usize, &str, &str, u8, &str)] = &[
         1,
         "SIMPLE|BITPIX  = 8|NAXIS   = 0|KEY       1|KEY     =2|END",
     ),
-    // of a repeated keyword the first card is meant
+    # of a repeated keyword the first card is meant
     (
         "SIMPLE|BITPIX  = 8|NAXIS   = 0|KEY     = 1|KEY     = 2|END",
         0,
@@ -192,7 +178,7 @@ const EDITED: &[(&str, usize, &str, &str, u8, &str)] = &[
         0,
         "SIMPLE|BITPIX  = 8|NAXIS   = 0|KEY     = 2|END",
     ),
-    // no edit mends its neighbours: a card in a string parts it, and without the card it is whole again
+    # no edit mends its neighbours: a card in a string parts it, and without the card it is whole again
     (
         "SIMPLE|BITPIX  = 8|NAXIS   = 0|KEY     = 'a&'|CONTINUE  'b'|END",
         0,
@@ -201,7 +187,7 @@ const EDITED: &[(&str, usize, &str, &str, u8, &str)] = &[
         0,
         "SIMPLE|BITPIX  = 8|NAXIS   = 0|KEY     = 'a&'|CONTINUE  'b'|END",
     ),
-    // an edit without effect makes the fill spaces
+    # an edit without effect makes the fill spaces
     (
         "SIMPLE|BITPIX  = 8|NAXIS   = 0|X|END     / the end|fill",
         0,
@@ -210,7 +196,7 @@ const EDITED: &[(&str, usize, &str, &str, u8, &str)] = &[
         0,
         "SIMPLE|BITPIX  = 8|NAXIS   = 0|X|END     / the end",
     ),
-    // GROUPS counts where NAXIS1 is 0, PCOUNT only in random groups
+    # GROUPS counts where NAXIS1 is 0, PCOUNT only in random groups
     (
         "SIMPLE|BITPIX  = 8|NAXIS   = 2|NAXIS1  = 0|NAXIS2  = 0|END",
         0,
@@ -219,40 +205,21 @@ const EDITED: &[(&str, usize, &str, &str, u8, &str)] = &[
         1,
         "SIMPLE|BITPIX  = 8|NAXIS   = 2|NAXIS1  = 0|NAXIS2  = 0|GROUPS  =                    F|PCOUNT  =                    7|END",
     ),
-];
+]
 
-#[test]
-fn edits_change_the_cards_of_a_file(rt: HostRuntime) -> Result<(), Fail> {
-    for (cards, blocks, script, answers, status, saved) in EDITED {
-        let file = hdu_of(rt.alloc(), cards, *blocks)?;
-        let saved = hdu_of(rt.alloc(), saved, *blocks)?;
-        check_run(&rt, &file, script, answers, *status, &saved)?;
-    }
-    Ok(())
-}
+# How many characters the longest string has that is set and asked for.
+LONGEST = 300
 
-/// How many characters the longest string has that is set and asked for.
-const LONGEST: usize = 300;
 
-#[test]
-fn a_string_of_any_length_is_read_back(rt: HostRuntime) -> Result<(), Fail> {
-    let file = hdu_of(rt.alloc(), P0, 0)?;
-    for len in 0..=LONGEST {
-        let text = spelled(rt.alloc(), len)?;
-        let script = format!(in rt.alloc();
-            "set 1 KEY '{text}' \nget 1 KEY\nunset 1 KEY\npos 1 KEY\n"
-        )?;
-        let answers = format!(in rt.alloc(); "string '{text}'\nline 4: refused 3 NoKey\n")?;
-        check_run(&rt, &file, script.as_str(), answers.as_str(), 1, &file)?;
-    }
-    Ok(())
-}
 
-// So many characters, each seventh a quote that stands twice.
-fn spelled(alloc: Global, len: usize) -> Result<String, AllocError> {
-    let mut text = String::new(alloc);
-    for i in 0..len {
-        text.push_str(if i % 7 == 6 { "''" } else { "x" })?;
-    }
-    Ok(text)
-}
+def cases():
+    shortest = header(P0)
+    for script, answers in REFUSED + hdu_edits.REFUSED:
+        yield script, edited, shortest, script, answers, 1, shortest
+    for before, blocks, script, answers, status, after in EDITED:
+        yield script, edited, header(before) + data(blocks), script, answers, status, header(after) + data(blocks)
+    for length in range(LONGEST + 1):
+        text = "".join("''" if place % 7 == 6 else "x" for place in range(length))
+        script = f"set 1 KEY '{text}' \nget 1 KEY\nunset 1 KEY\npos 1 KEY\n"
+        answers = f"string '{text}'\nline 4: refused 3 NoKey\n"
+        yield f"a string of {length} places", edited, shortest, script, answers, 1, shortest

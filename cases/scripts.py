@@ -1,35 +1,10 @@
-//! Scripts over files: what they print, how they end, and what is saved.
+"""Scripts over files: what they print, how they end, and what is saved."""
+from fits import COMMENTS, P0, PIXEL, THREE_PIXELS, file, header
+from program import closed, edited
 
-use crate::builders::{
-    COMMENTS, FileText, HduText, P0, PIXEL, THREE_PIXELS, add_cards, end_header, file_of, hdu_of,
-    repeated,
-};
-use crate::checks::{holds, same};
-use crate::runs::{ALL_SMOOTH, Ran, Told, check_ran, edit, tell};
-use fits_cli::{Fault, Level};
-use fits_session::OpenFault;
-use std::alloc::{AllocError, Global};
-use std::process::Abort;
-use std::test::Fail;
-
-/// Whether a script over a file prints this, ends with this status, and saves this.
-pub fn check_run<R: Abort + AllocGlobal>(
-    rt: &R,
-    file: &[u8],
-    script: &str,
-    answers: &str,
-    status: u8,
-    saved: &[u8],
-) -> Result<(), Fail> {
-    let ran = edit(rt.alloc(), file, script.as_bytes(), ALL_SMOOTH)?;
-    check_ran(rt, &ran, answers, status, script);
-    holds!(rt; ran.saved.as_slice() == saved, script);
-    Ok(())
-}
-
-/// A script over the shortest file, which is saved as it was; its answers, and the status.
-const SHORTEST: &[(&str, &str, u8)] = &[
-    // an insertion is refused by the first test that fails
+# A script over the shortest file, which is saved as it was; its answers, and the status.
+SHORTEST = [
+    # an insertion is refused by the first test that fails
     ("ins 1 5 COMMENT x", "line 1: refused 2 NoCard\n", 1),
     ("ins 1 4 END", "line 1: refused 5 EndCard\n", 1),
     ("ins 1 4 COMMENT\t", "line 1: refused 4 BadText\n", 1),
@@ -67,7 +42,7 @@ const SHORTEST: &[(&str, &str, u8)] = &[
     ("ins 2 9 X\t", "line 1: refused 1 NoHdu\n", 1),
     ("ins 1 5 X\t", "line 1: refused 2 NoCard\n", 1),
     ("ins 1 0 END", "line 1: refused 2 NoCard\n", 1),
-    ("ins 1 4 END     \u{ff}", "line 1: refused 4 BadText\n", 1),
+    ("ins 1 4 END     \xff", "line 1: refused 4 BadText\n", 1),
     ("ins 1 3 X\t", "line 1: refused 4 BadText\n", 1),
     ("ins 1 1 END", "line 1: refused 5 EndCard\n", 1),
     ("frob", "line 1: not a command\n", 1),
@@ -81,20 +56,11 @@ const SHORTEST: &[(&str, &str, u8)] = &[
         "integer 0\nline 2: refused 3 NoKey\nline 3: not a command\ninteger 8\n",
         1,
     ),
-];
+]
 
-#[test]
-fn refused_lines_leave_the_shortest_file(rt: HostRuntime) -> Result<(), Fail> {
-    let file = hdu_of(rt.alloc(), P0, 0)?;
-    for (script, answers, status) in SHORTEST {
-        check_run(&rt, &file, script, answers, *status, &file)?;
-    }
-    Ok(())
-}
-
-/// Cards of a file without data, a script, its answers, the status, and the cards that are saved.
-const CHANGED: &[(&str, &str, &str, u8, &str)] = &[
-    // a card comes before END
+# Cards of a file without data, a script, its answers, the status, and the cards that are saved.
+CHANGED = [
+    # a card comes before END
     (
         P0,
         "ins 1 4 COMMENT hello\noff\n",
@@ -172,7 +138,7 @@ const CHANGED: &[(&str, &str, &str, u8, &str)] = &[
         0,
         "SIMPLE  =                    T|BITPIX  =                    8|NAXIS   =                    0|b|d|a|c|END",
     ),
-    // a refused line leaves the others done
+    # a refused line leaves the others done
     (
         P0,
         "ins 1 4 a\nins 1 4 END\noff\nfrob\nins 1 5 b\n",
@@ -180,7 +146,7 @@ const CHANGED: &[(&str, &str, &str, u8, &str)] = &[
         1,
         "SIMPLE  =                    T|BITPIX  =                    8|NAXIS   =                    0|a|b|END",
     ),
-    // fill and END stay until a card is inserted
+    # fill and END stay until a card is inserted
     (
         "SIMPLE  =                    T|BITPIX  =                    8|NAXIS   =                    0|END     / the end|fill|z",
         "ins 1 4 END\noff\n",
@@ -195,7 +161,7 @@ const CHANGED: &[(&str, &str, &str, u8, &str)] = &[
         0,
         "SIMPLE  =                    T|BITPIX  =                    8|NAXIS   =                    0|X|END     / the end",
     ),
-    // the first card may say anything of SIMPLE
+    # the first card may say anything of SIMPLE
     (
         "SIMPLE  =                    F|BITPIX  =                    8|NAXIS   =                    0|END",
         "off\n",
@@ -217,7 +183,7 @@ const CHANGED: &[(&str, &str, &str, u8, &str)] = &[
         0,
         "SIMPLE  anything\x01|BITPIX  =                    8|NAXIS   =                    0|END",
     ),
-    // mandatory cards may be in free format
+    # mandatory cards may be in free format
     (
         "SIMPLE  =                    T|BITPIX  = 8|NAXIS   =                    0|END",
         "off\n",
@@ -246,7 +212,7 @@ const CHANGED: &[(&str, &str, &str, u8, &str)] = &[
         0,
         "SIMPLE  =                    T|BITPIX  =                  -64|NAXIS   =                    0|END",
     ),
-    // axes of which one is zero need no data
+    # axes of which one is zero need no data
     (
         "SIMPLE|BITPIX  = 64|NAXIS   = 3|NAXIS1  = 4000000000|NAXIS2  = 4000000000|NAXIS3  = 0|END",
         "off",
@@ -254,7 +220,7 @@ const CHANGED: &[(&str, &str, &str, u8, &str)] = &[
         0,
         "SIMPLE|BITPIX  = 64|NAXIS   = 3|NAXIS1  = 4000000000|NAXIS2  = 4000000000|NAXIS3  = 0|END",
     ),
-    // an inserted card says its value
+    # an inserted card says its value
     (
         P0,
         "ins 1 4 KEY     = 1.5D3 / x\nget 1 KEY\n",
@@ -283,7 +249,7 @@ const CHANGED: &[(&str, &str, &str, u8, &str)] = &[
         0,
         "SIMPLE  =                    T|BITPIX  =                    8|NAXIS   =                    0|KEY     = ( 1 ,2.)/|END",
     ),
-    // as CFITSIO writes the first card
+    # as CFITSIO writes the first card
     (
         "SIMPLE  =                    T / file does conform to FITS standard|BITPIX  =                    8|NAXIS   =                    0|END",
         "get 1 SIMPLE",
@@ -291,7 +257,7 @@ const CHANGED: &[(&str, &str, &str, u8, &str)] = &[
         0,
         "SIMPLE  =                    T / file does conform to FITS standard|BITPIX  =                    8|NAXIS   =                    0|END",
     ),
-    // a long string says its last comment
+    # a long string says its last comment
     (
         "SIMPLE|BITPIX  = 8|NAXIS   = 0|KEY     = 'ab&' / first|CONTINUE  'c''d&' / second|CONTINUE  'e  ' / last|CONTINUE  'no link'|BARE    = 'x&' / first|CONTINUE  '&'|CONTINUE  ''|OPEN    = 'x&' / open|COMMENT   'y'|END",
         "get 1 KEY\nget 1 BARE\nget 1 OPEN\n",
@@ -299,7 +265,7 @@ const CHANGED: &[(&str, &str, &str, u8, &str)] = &[
         0,
         "SIMPLE|BITPIX  = 8|NAXIS   = 0|KEY     = 'ab&' / first|CONTINUE  'c''d&' / second|CONTINUE  'e  ' / last|CONTINUE  'no link'|BARE    = 'x&' / first|CONTINUE  '&'|CONTINUE  ''|OPEN    = 'x&' / open|COMMENT   'y'|END",
     ),
-    // the first card that has a value counts
+    # the first card that has a value counts
     (
         "SIMPLE|BITPIX  = 8|NAXIS   = 0|KEY       1|KEY     =2|KEYS    = 3|key     = 4|KEY     = 5 / five|KEY     = 6|BAD     = five|BAD     = 7|END",
         "get 1 KEY\nget 1 BAD\nget 1 KEYS\nget 1 key\n",
@@ -307,36 +273,26 @@ const CHANGED: &[(&str, &str, &str, u8, &str)] = &[
         1,
         "SIMPLE|BITPIX  = 8|NAXIS   = 0|KEY       1|KEY     =2|KEYS    = 3|key     = 4|KEY     = 5 / five|KEY     = 6|BAD     = five|BAD     = 7|END",
     ),
-    // a name may have any bytes but spaces; the second card isn't text
+    # a name may have any bytes but spaces; the second card isn't text
     (
-        "SIMPLE|BITPIX  = 8|NAXIS   = 0|HIERARCH= 5|a/b,c\x7f\u{ff}= 6|=       = 8|#OFF    = 9|END",
-        "get 1 HIERARCH\nget 1 a/b,c\x7f\u{ff}\nget 1 =\nget 1 #OFF\n",
+        "SIMPLE|BITPIX  = 8|NAXIS   = 0|HIERARCH= 5|a/b,c\x7f\xff= 6|=       = 8|#OFF    = 9|END",
+        "get 1 HIERARCH\nget 1 a/b,c\x7f\xff\nget 1 =\nget 1 #OFF\n",
         "integer 5\nline 2: refused 8 BadValue\ninteger 8\ninteger 9\n",
         1,
-        "SIMPLE|BITPIX  = 8|NAXIS   = 0|HIERARCH= 5|a/b,c\x7f\u{ff}= 6|=       = 8|#OFF    = 9|END",
+        "SIMPLE|BITPIX  = 8|NAXIS   = 0|HIERARCH= 5|a/b,c\x7f\xff= 6|=       = 8|#OFF    = 9|END",
     ),
-    // a query is refused by the first test that fails
+    # a query is refused by the first test that fails
     (
-        "SIMPLE|BITPIX  = 8|NAXIS   = 0|COMMENT = 5|BAD     = five|BYTE    = 'x' / \u{80}|NONE|END",
+        "SIMPLE|BITPIX  = 8|NAXIS   = 0|COMMENT = 5|BAD     = five|BYTE    = 'x' / \x80|NONE|END",
         "get 2 BAD\nget 2 NAXIS\nget 2 KEY\nget 0 NAXIS\nget 999999999999999999 NAXIS\nget 1 KEY\nget 1 COMMENT\nget 1 NONE\nget 1 END\nget 1 NAXIS\r\nget 1 BAD\nget 1 BYTE\n",
         "line 1: refused 1 NoHdu\nline 2: refused 1 NoHdu\nline 3: refused 1 NoHdu\nline 4: refused 1 NoHdu\nline 5: refused 1 NoHdu\nline 6: refused 3 NoKey\nline 7: refused 3 NoKey\nline 8: refused 3 NoKey\nline 9: refused 3 NoKey\nline 10: refused 3 NoKey\nline 11: refused 8 BadValue\nline 12: refused 8 BadValue\n",
         1,
-        "SIMPLE|BITPIX  = 8|NAXIS   = 0|COMMENT = 5|BAD     = five|BYTE    = 'x' / \u{80}|NONE|END",
+        "SIMPLE|BITPIX  = 8|NAXIS   = 0|COMMENT = 5|BAD     = five|BYTE    = 'x' / \x80|NONE|END",
     ),
-];
+]
 
-#[test]
-fn scripts_change_the_cards_of_a_file(rt: HostRuntime) -> Result<(), Fail> {
-    for (cards, script, answers, status, saved) in CHANGED {
-        let file = hdu_of(rt.alloc(), cards, 0)?;
-        let saved = hdu_of(rt.alloc(), saved, 0)?;
-        check_run(&rt, &file, script, answers, *status, &saved)?;
-    }
-    Ok(())
-}
-
-/// A card, and what `get` prints of it.
-const VALUES: &[(&str, &str)] = &[
+# A card, and what `get` prints of it.
+VALUES = [
     ("KEY     =  / unknown", "undefined / unknown\n"),
     ("KEY     = /", "undefined /\n"),
     ("KEY     = T", "logical T\n"),
@@ -355,98 +311,85 @@ const VALUES: &[(&str, &str)] = &[
     ("KEY     = 'it''s'", "string 'it''s'\n"),
     ("KEY     = '''' / quote's", "string '''' / quote's\n"),
     ("KEY     = '''a''''b'''", "string '''a''''b'''\n"),
-];
+]
 
-#[test]
-fn each_kind_of_value_has_its_line(rt: HostRuntime) -> Result<(), Fail> {
-    for (card, answer) in VALUES {
-        let mut file = Vec::new(rt.alloc());
-        for text in ["SIMPLE|BITPIX  = 8|NAXIS   = 0", card, "END"] {
-            add_cards(&mut file, text)?;
-        }
-        end_header(&mut file)?;
-        check_run(&rt, &file, "get 1 KEY\n", answer, 0, &file)?;
-    }
-    Ok(())
-}
-
-/// A file, a script, its answers, the status, and the file that is saved.
-const FILES: &[(FileText<'static>, &str, &str, u8, FileText<'static>)] = &[
-    // a shape is kept
+# A file, a script, its answers, the status, and the file that is saved.
+FILES = [
+    # a shape is kept
     (
-        (&[(THREE_PIXELS, 1)], ""),
+        ([(THREE_PIXELS, 1)], ""),
         "ins 1 5 END",
         "line 1: refused 5 EndCard\n",
         1,
-        (&[(THREE_PIXELS, 1)], ""),
+        ([(THREE_PIXELS, 1)], ""),
     ),
     (
-        (&[(THREE_PIXELS, 1)], ""),
+        ([(THREE_PIXELS, 1)], ""),
         "ins 1 4 NAXIS1  =                    4",
         "line 1: refused 6 Shape\n",
         1,
-        (&[(THREE_PIXELS, 1)], ""),
+        ([(THREE_PIXELS, 1)], ""),
     ),
     (
-        (&[(THREE_PIXELS, 1)], ""),
+        ([(THREE_PIXELS, 1)], ""),
         "ins 1 1 SIMPLE  =                    T",
         "line 1: refused 6 Shape\n",
         1,
-        (&[(THREE_PIXELS, 1)], ""),
+        ([(THREE_PIXELS, 1)], ""),
     ),
     (
-        (&[(THREE_PIXELS, 1)], ""),
+        ([(THREE_PIXELS, 1)], ""),
         "ins 1 2 BITPIX  =                   16",
         "line 1: refused 6 Shape\n",
         1,
-        (&[(THREE_PIXELS, 1)], ""),
+        ([(THREE_PIXELS, 1)], ""),
     ),
     (
-        (&[(THREE_PIXELS, 1)], ""),
+        ([(THREE_PIXELS, 1)], ""),
         "ins 1 4 COMMENT",
         "line 1: refused 6 Shape\n",
         1,
-        (&[(THREE_PIXELS, 1)], ""),
+        ([(THREE_PIXELS, 1)], ""),
     ),
     (
-        (&[(THREE_PIXELS, 1)], ""),
+        ([(THREE_PIXELS, 1)], ""),
         "ins 2 4 COMMENT",
         "line 1: refused 1 NoHdu\n",
         1,
-        (&[(THREE_PIXELS, 1)], ""),
+        ([(THREE_PIXELS, 1)], ""),
     ),
-    // the same axis, in free format and before the old one
+    # the same axis, in free format and before the old one
     (
-        (&[(THREE_PIXELS, 1)], ""),
+        ([(THREE_PIXELS, 1)], ""),
         "ins 1 4 NAXIS1  = 3 / again",
         "",
         0,
         (
-            &[(
+            [(
                 "SIMPLE  =                    T|BITPIX  =                   16|NAXIS   =                    1|NAXIS1  = 3 / again|NAXIS1  =                    3|END",
                 1,
             )],
             "",
         ),
     ),
-    // a second axis isn't read, and counts are free in a primary array
+    # a second axis isn't read, and counts are free in a primary array
     (
-        (&[(THREE_PIXELS, 1)], ""),
+        ([(THREE_PIXELS, 1)], ""),
         "ins 1 5 NAXIS1  = 4\nins 1 6 PCOUNT  = 7\nins 1 7 SIMPLE",
         "",
         0,
         (
-            &[(
+            [(
                 "SIMPLE  =                    T|BITPIX  =                   16|NAXIS   =                    1|NAXIS1  =                    3|NAXIS1  = 4|PCOUNT  = 7|SIMPLE|END",
                 1,
             )],
             "",
         ),
     ),
-    // but those of an extension are not
+    # but those of an extension are not
     (
         (
-            &[
+            [
                 (P0, 0),
                 ("XTENSION= 'IMAGE'|BITPIX  = 8|NAXIS   = 0|END", 0),
             ],
@@ -456,21 +399,21 @@ const FILES: &[(FileText<'static>, &str, &str, u8, FileText<'static>)] = &[
         "line 1: refused 6 Shape\nline 2: refused 6 Shape\n",
         1,
         (
-            &[
+            [
                 (P0, 0),
                 ("XTENSION= 'IMAGE'|BITPIX  = 8|NAXIS   = 0|END", 0),
             ],
             "",
         ),
     ),
-    // an insertion goes to its HDU, and the bytes after the last stay
+    # an insertion goes to its HDU, and the bytes after the last stay
     (
-        (&[(P0, 0), (PIXEL, 1)], "trailer"),
+        ([(P0, 0), (PIXEL, 1)], "trailer"),
         "ins 2 7 EXTNAME = 'SCI'\nget 2 EXTNAME\nget 1 EXTNAME\nins 3 1 X\n",
         "string 'SCI'\nline 3: refused 3 NoKey\nline 4: refused 1 NoHdu\n",
         1,
         (
-            &[
+            [
                 (P0, 0),
                 (
                     "XTENSION= 'IMAGE   '|BITPIX  =                   16|NAXIS   =                    1|NAXIS1  =                    1|PCOUNT  =                    0|GCOUNT  =                    1|EXTNAME = 'SCI'|END",
@@ -480,137 +423,102 @@ const FILES: &[(FileText<'static>, &str, &str, u8, FileText<'static>)] = &[
             "trailer",
         ),
     ),
-    // bytes after the last HDU are kept
+    # bytes after the last HDU are kept
     (
-        (&[(P0, 0)], "trailer"),
+        ([(P0, 0)], "trailer"),
         "off\n",
         "1 0 2880 2880\n",
         0,
-        (&[(P0, 0)], "trailer"),
+        ([(P0, 0)], "trailer"),
     ),
     (
-        (&[(P0, 0)], " "),
+        ([(P0, 0)], " "),
         "off\n",
         "1 0 2880 2880\n",
         0,
-        (&[(P0, 0)], " "),
+        ([(P0, 0)], " "),
     ),
     (
-        (&[(P0, 0)], "XTENSIO"),
+        ([(P0, 0)], "XTENSIO"),
         "off\n",
         "1 0 2880 2880\n",
         0,
-        (&[(P0, 0)], "XTENSIO"),
+        ([(P0, 0)], "XTENSIO"),
     ),
     (
-        (&[(P0, 0)], "XTENSIOM"),
+        ([(P0, 0)], "XTENSIOM"),
         "off\n",
         "1 0 2880 2880\n",
         0,
-        (&[(P0, 0)], "XTENSIOM"),
+        ([(P0, 0)], "XTENSIOM"),
     ),
     (
-        (&[(P0, 0), (" ", 0)], ""),
+        ([(P0, 0), (" ", 0)], ""),
         "off\n",
         "1 0 2880 2880\n",
         0,
-        (&[(P0, 0), (" ", 0)], ""),
+        ([(P0, 0), (" ", 0)], ""),
     ),
-];
+]
 
-#[test]
-fn scripts_change_files(rt: HostRuntime) -> Result<(), Fail> {
-    for (file, script, answers, status, saved) in FILES {
-        let file = file_of(rt.alloc(), *file)?;
-        let saved = file_of(rt.alloc(), *saved)?;
-        check_run(&rt, &file, script, answers, *status, &saved)?;
-    }
-    Ok(())
-}
+# The mandatory cards of the shortest file.
+MANDATORY = "SIMPLE  =                    T|BITPIX  =                    8|NAXIS   =                    0"
 
-/// The mandatory cards of the shortest file.
-const MANDATORY: &str =
-    "SIMPLE  =                    T|BITPIX  =                    8|NAXIS   =                    0";
-
-/// The cards of the first HDU, a script and how often it is repeated, its answers, and the cards that are saved; and
-/// the HDUs that follow.
-const GROWN: &[(&[&str], &str, usize, &str, &[&str], &[HduText<'static>])] = &[
+# The cards of the first HDU, a script and how often it is repeated, its answers, and the cards that are saved; and
+# the HDUs that follow.
+GROWN = [
     (
-        &[MANDATORY, "END"],
+        [MANDATORY, "END"],
         "ins 1 4 COMMENT\n",
         32,
         "",
-        &[MANDATORY, COMMENTS, "END"],
-        &[],
+        [MANDATORY, COMMENTS, "END"],
+        [],
     ),
     (
-        &[MANDATORY, "END"],
+        [MANDATORY, "END"],
         "ins 1 4 COMMENT\n",
         33,
         "",
-        &[MANDATORY, COMMENTS, "COMMENT", "END"],
-        &[],
+        [MANDATORY, COMMENTS, "COMMENT", "END"],
+        [],
     ),
     (
-        &[MANDATORY, COMMENTS, "END"],
+        [MANDATORY, COMMENTS, "END"],
         "off\n",
         1,
         "1 0 2880 2880\n",
-        &[MANDATORY, COMMENTS, "END"],
-        &[],
+        [MANDATORY, COMMENTS, "END"],
+        [],
     ),
     (
-        &[MANDATORY, COMMENTS, "X|END"],
+        [MANDATORY, COMMENTS, "X|END"],
         "off\n",
         1,
         "1 0 5760 5760\n",
-        &[MANDATORY, COMMENTS, "X|END"],
-        &[],
+        [MANDATORY, COMMENTS, "X|END"],
+        [],
     ),
     (
-        &[MANDATORY, COMMENTS, "END"],
+        [MANDATORY, COMMENTS, "END"],
         "off\nins 1 36 COMMENT x\noff\n",
         1,
         "1 0 2880 2880\n2 2880 5760 8640\n1 0 5760 5760\n2 5760 8640 11520\n",
-        &[MANDATORY, COMMENTS, "COMMENT x|END"],
-        &[(PIXEL, 1)],
+        [MANDATORY, COMMENTS, "COMMENT x|END"],
+        [(PIXEL, 1)],
     ),
-];
+]
 
-#[test]
-fn a_thirty_sixth_card_adds_a_block(rt: HostRuntime) -> Result<(), Fail> {
-    for (cards, script, times, answers, saved, more) in GROWN {
-        let file = joined(rt.alloc(), cards, more)?;
-        let saved = joined(rt.alloc(), saved, more)?;
-        let script = repeated(rt.alloc(), script, *times)?;
-        let ran = edit(rt.alloc(), &file, &script, ALL_SMOOTH)?;
-        check_ran(&rt, &ran, answers, 0, answers);
-        holds!(rt; ran.saved.as_slice() == saved.as_slice());
-    }
-    Ok(())
-}
-
-// A header of these texts, and more HDUs.
-fn joined(alloc: Global, texts: &[&str], more: &[HduText<'_>]) -> Result<Vec<u8>, AllocError> {
-    let mut bytes = Vec::new(alloc);
-    for text in texts {
-        add_cards(&mut bytes, text)?;
-    }
-    end_header(&mut bytes)?;
-    bytes.extend_from_slice(&file_of(alloc, (more, ""))?)?;
-    Ok(bytes)
-}
-
-/// A file, how many of its bytes are missing at its end, and why it doesn't open.
-const CLOSED: &[(FileText<'static>, usize, &str)] = &[
-    ((&[], ""), 0, "fitsed: open refused O1 NotFits"),
-    ((&[], "SIMPLE "), 0, "fitsed: open refused O1 NotFits"),
-    ((&[], "SIMPLE =  "), 0, "fitsed: open refused O1 NotFits"),
-    ((&[], "simple  = "), 0, "fitsed: open refused O1 NotFits"),
-    ((&[], " SIMPLE  "), 0, "fitsed: open refused O1 NotFits"),
+# A file, how many of its bytes are missing at its end, and why it doesn't open.
+CLOSED = [
+    (([], ""), 0, "fitsed: open refused O1 NotFits"),
+    (([], "SIMPLE "), 0, "fitsed: open refused O1 NotFits"),
+    (([], "SIMPLE =  "), 0, "fitsed: open refused O1 NotFits"),
+    (([], "simple  = "), 0, "fitsed: open refused O1 NotFits"),
+    (([], " SIMPLE  "), 0, "fitsed: open refused O1 NotFits"),
     (
         (
-            &[(
+            [(
                 "SIMPLEX =                    T|BITPIX  =                    8|NAXIS   =                    0|END",
                 0,
             )],
@@ -619,31 +527,31 @@ const CLOSED: &[(FileText<'static>, usize, &str)] = &[
         0,
         "fitsed: open refused O1 NotFits",
     ),
-    ((&[], "SIMPLE  "), 0, "fitsed: open refused O2 NoEnd hdu 1"),
+    (([], "SIMPLE  "), 0, "fitsed: open refused O2 NoEnd hdu 1"),
     (
-        (&[(P0, 0)], ""),
+        ([(P0, 0)], ""),
         2872,
         "fitsed: open refused O2 NoEnd hdu 1",
     ),
     (
-        (&[(P0, 0)], ""),
+        ([(P0, 0)], ""),
         2800,
         "fitsed: open refused O2 NoEnd hdu 1",
     ),
     (
-        (&[(P0, 0)], ""),
+        ([(P0, 0)], ""),
         2640,
         "fitsed: open refused O2 NoEnd hdu 1",
     ),
     (
-        (&[(P0, 0)], ""),
+        ([(P0, 0)], ""),
         2560,
         "fitsed: open refused O2 NoEnd hdu 1",
     ),
-    ((&[(P0, 0)], ""), 1, "fitsed: open refused O2 NoEnd hdu 1"),
+    (([(P0, 0)], ""), 1, "fitsed: open refused O2 NoEnd hdu 1"),
     (
         (
-            &[(
+            [(
                 "SIMPLE  =                    T|BITPIX  =                    8|NAXIS   =                    0|ENDING| END",
                 0,
             )],
@@ -653,18 +561,18 @@ const CLOSED: &[(FileText<'static>, usize, &str)] = &[
         "fitsed: open refused O2 NoEnd hdu 1",
     ),
     (
-        (&[(P0, 0)], "XTENSION"),
+        ([(P0, 0)], "XTENSION"),
         0,
         "fitsed: open refused O2 NoEnd hdu 2",
     ),
     (
-        (&[("SIMPLE  =                    T|END", 0)], ""),
+        ([("SIMPLE  =                    T|END", 0)], ""),
         0,
         "fitsed: open refused O3 BadShape hdu 1 card 2",
     ),
     (
         (
-            &[(
+            [(
                 "SIMPLE  =                    T|NAXIS   =                    0|BITPIX  =                    8|END",
                 0,
             )],
@@ -675,7 +583,7 @@ const CLOSED: &[(FileText<'static>, usize, &str)] = &[
     ),
     (
         (
-            &[(
+            [(
                 "SIMPLE  =                    T|BITPIX  =                   24|NAXIS   =                    0|END",
                 0,
             )],
@@ -686,7 +594,7 @@ const CLOSED: &[(FileText<'static>, usize, &str)] = &[
     ),
     (
         (
-            &[(
+            [(
                 "SIMPLE  =                    T|BITPIX  =                    8|END|NAXIS   =                    0",
                 0,
             )],
@@ -697,7 +605,7 @@ const CLOSED: &[(FileText<'static>, usize, &str)] = &[
     ),
     (
         (
-            &[(
+            [(
                 "SIMPLE  =                    T|BITPIX  =                    8|NAXIS                        0|END",
                 0,
             )],
@@ -708,7 +616,7 @@ const CLOSED: &[(FileText<'static>, usize, &str)] = &[
     ),
     (
         (
-            &[(
+            [(
                 "SIMPLE  =                    T|BITPIX  =                    8|NAXIS   =                   0.|END",
                 0,
             )],
@@ -719,7 +627,7 @@ const CLOSED: &[(FileText<'static>, usize, &str)] = &[
     ),
     (
         (
-            &[(
+            [(
                 "SIMPLE  =                    T|BITPIX  =                    8|NAXIS   =                    1|END",
                 0,
             )],
@@ -730,7 +638,7 @@ const CLOSED: &[(FileText<'static>, usize, &str)] = &[
     ),
     (
         (
-            &[(
+            [(
                 "SIMPLE  =                    T|BITPIX  =                    8|NAXIS   =                    1|NAXIS2  =                    1|END",
                 0,
             )],
@@ -741,7 +649,7 @@ const CLOSED: &[(FileText<'static>, usize, &str)] = &[
     ),
     (
         (
-            &[
+            [
                 (P0, 0),
                 (
                     "XTENSION= 'IMAGE   '|BITPIX  =                    8|NAXIS   =                 1000|END",
@@ -754,13 +662,13 @@ const CLOSED: &[(FileText<'static>, usize, &str)] = &[
         "fitsed: open refused O3 BadShape hdu 2 card 3",
     ),
     (
-        (&[(THREE_PIXELS, 1)], ""),
+        ([(THREE_PIXELS, 1)], ""),
         1,
         "fitsed: open refused O4 ShortData hdu 1",
     ),
     (
         (
-            &[(
+            [(
                 "SIMPLE|BITPIX  = 64|NAXIS   = 3|NAXIS1  = 4000000000|NAXIS2  = 4000000000|NAXIS3  = 1|END",
                 0,
             )],
@@ -769,76 +677,25 @@ const CLOSED: &[(FileText<'static>, usize, &str)] = &[
         0,
         "fitsed: open refused O4 ShortData hdu 1",
     ),
-];
+]
 
-#[test]
-fn a_file_that_does_not_open_ends_the_run(rt: HostRuntime) -> Result<(), Fail> {
-    for (file, missing, text) in CLOSED {
-        let bytes = file_of(rt.alloc(), *file)?;
-        let (front, _) = bytes.split_at(bytes.len().saturating_sub(*missing));
-        let ran = edit(rt.alloc(), front, b"off\nfrob\n", ALL_SMOOTH)?;
-        check_closed(&rt, &ran, text)?;
-        same!(rt; ran.script_calls, 0, text);
-        for told in [Told::Listing, Told::Report(Level::Quiet), Told::Sums] {
-            check_closed(&rt, &tell(rt.alloc(), told, front, ALL_SMOOTH)?, text)?;
-        }
-    }
-    Ok(())
-}
 
-// Whether a run printed and saved nothing, and ended by this fault.
-fn check_closed<R: Abort + AllocGlobal>(rt: &R, ran: &Ran, text: &str) -> Result<(), Fail> {
-    let fault = ran.end.fault.ok_or("no fault")?;
-    same!(rt; fault.to_string(rt.alloc())?.as_str(), text);
-    same!(rt; ran.end.status, 2, text);
-    holds!(rt; ran.printed.is_empty(), text);
-    same!(rt; ran.save_calls, 0, text);
-    Ok(())
-}
 
-/// A fault, its text and its status.
-const FAULTS: &[(Fault, &str, u8)] = &[
-    (
-        Fault::Refused(OpenFault::NotFits),
-        "fitsed: open refused O1 NotFits",
-        2,
-    ),
-    (
-        Fault::Refused(OpenFault::NoEnd { hdu: 1 }),
-        "fitsed: open refused O2 NoEnd hdu 1",
-        2,
-    ),
-    (
-        Fault::Refused(OpenFault::NoEnd { hdu: 10_000 }),
-        "fitsed: open refused O2 NoEnd hdu 10000",
-        2,
-    ),
-    (
-        Fault::Refused(OpenFault::TooLarge),
-        "fitsed: open refused O5 TooLarge",
-        2,
-    ),
-    (
-        Fault::Refused(OpenFault::BadShape { hdu: 2, card: 5 }),
-        "fitsed: open refused O3 BadShape hdu 2 card 5",
-        2,
-    ),
-    (
-        Fault::Refused(OpenFault::ShortData { hdu: 3 }),
-        "fitsed: open refused O4 ShortData hdu 3",
-        2,
-    ),
-    (Fault::ScriptTooLong, "fitsed: script too long", 2),
-    (Fault::Memory, "fitsed: no memory", 3),
-    (Fault::ReadFailed, "fitsed: read failed", 3),
-    (Fault::WriteFailed, "fitsed: write failed", 3),
-];
-
-#[test]
-fn each_fault_has_its_text_and_its_status(rt: HostRuntime) -> Result<(), Fail> {
-    for (fault, text, status) in FAULTS {
-        same!(rt; fault.to_string(rt.alloc())?.as_str(), *text);
-        same!(rt; fault.status(), *status, text);
-    }
-    Ok(())
-}
+def cases():
+    shortest = header(P0)
+    for script, answers, status in SHORTEST:
+        yield script, edited, shortest, script, answers, status, shortest
+    for before, script, answers, status, after in CHANGED:
+        yield script, edited, header(before), script, answers, status, header(after)
+    for card, answer in VALUES:
+        of_card = header("SIMPLE|BITPIX  = 8|NAXIS   = 0", card, "END")
+        yield card, edited, of_card, "get 1 KEY\n", answer, 0, of_card
+    for before, script, answers, status, after in FILES:
+        yield script, edited, file(before), script, answers, status, file(after)
+    for before, script, times, answers, after, more in GROWN:
+        rest = file((more, ""))
+        name = f"{times} times {script}"
+        yield name, edited, header(*before) + rest, script * times, answers, 0, header(*after) + rest
+    for whole, missing, text in CLOSED:
+        bytes_of = file(whole)
+        yield text, closed, bytes_of[: max(len(bytes_of) - missing, 0)], text

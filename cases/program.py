@@ -1,0 +1,89 @@
+"""The program as a case runs it: what it is given, and what it comes to."""
+import contextlib
+import dataclasses
+import os
+import pathlib
+import subprocess
+import tempfile
+
+
+@dataclasses.dataclass(frozen=True)
+class Ran:
+    """What a run came to. There is nothing saved where it made no file."""
+
+    status: int
+    printed: bytes
+    reported: bytes
+    saved: bytes | None
+
+
+class Program:
+    """A built `fitsed`, run over files in a new folder each time."""
+
+    def __init__(self, path):
+        self.path = os.path.abspath(path)
+
+    def edit(self, file, script):
+        """A script over a file, saved to another."""
+        return self.edit_by(file, [script])
+
+    def edit_by(self, file, pieces):
+        """A script that comes in pieces, as far as it is read."""
+        return self._run(["edit", "in.fits", "out.fits"], file, pieces)
+
+    def tell(self, words, file):
+        """A text of a file: these words and the file's name."""
+        return self._run([*words, "in.fits"], file, [])
+
+    def _run(self, words, file, pieces):
+        with tempfile.TemporaryDirectory() as room:
+            path = pathlib.Path(room)
+            (path / "in.fits").write_bytes(file)
+            with open(path / "printed", "wb") as printed, open(path / "reported", "wb") as reported:
+                how = {"cwd": room, "stdin": subprocess.PIPE, "stdout": printed, "stderr": reported}
+                ran = subprocess.Popen([self.path, *words], **how)
+                with contextlib.suppress(BrokenPipeError):
+                    for piece in pieces:
+                        ran.stdin.write(piece)
+                with contextlib.suppress(BrokenPipeError):
+                    ran.stdin.close()
+                status = ran.wait(timeout=60)
+            out = path / "out.fits"
+            texts = [(path / it).read_bytes() for it in ("printed", "reported")]
+            return Ran(status, *texts, out.read_bytes() if out.exists() else None)
+
+
+def differences(ran, **wanted):
+    """Where a run came to something else: a line for each part that is named and not the same."""
+    for part, what in wanted.items():
+        found = getattr(ran, part)
+        if found != what:
+            yield f"{part}: {shown(found)}, and not {shown(what)}"
+
+
+def shown(what):
+    """A value as it is printed, in the length of a line."""
+    text = repr(what)
+    return text if len(text) <= 400 else f"{text[:200]} .. {text[-200:]}"
+
+
+def edited(program, file, script, printed, status, saved):
+    """Where a script over a file doesn't print this, end so, and save this."""
+    ran = program.edit(file, script.encode())
+    return differences(ran, status=status, printed=printed.encode(), reported=b"", saved=saved)
+
+
+def told(program, words, file, printed, status=0):
+    """Where a text of a file isn't this, or doesn't end so."""
+    ran = program.tell(words, file)
+    return differences(ran, status=status, printed=printed.encode(), reported=b"")
+
+
+# What else reads a file from its beginning.
+TELLINGS = [["list"], ["verify", "-q"], ["sum"]]
+
+
+def closed(program, front, text):
+    """Where a file opens, or something else is reported of it, or anything is answered or saved."""
+    for ran in [program.edit(front, b"off\nfrob\n"), *(program.tell(words, front) for words in TELLINGS)]:
+        yield from differences(ran, status=2, printed=b"", reported=f"{text}\n".encode(), saved=None)
