@@ -1,6 +1,6 @@
 """Edits of cards beside `ins`, and edits that are refused."""
 import hdu_edits
-from fits import P0, data, header
+from fits import MANDATORY, P0, data, header
 from program import edited
 
 # A script over the shortest file that changes nothing: its answers.
@@ -207,6 +207,64 @@ EDITED = [
     ),
 ]
 
+# A field that says a value and a comment, and the cards of `KEY` that these are written to, if they can be.
+WRITTEN = [
+    ("", "KEY     ="),
+    ("/ none", "KEY     =                      / none"),
+    ("T / x", "KEY     =                    T / x"),
+    ("F", "KEY     =                    F"),
+    ("5 / c", "KEY     =                    5 / c"),
+    ("5 /", "KEY     =                    5 /"),
+    (
+        "-12345678901234567890",
+        "KEY     = -12345678901234567890",
+    ),
+    (
+        "12345678901234567890/x",
+        "KEY     = 12345678901234567890 /x",
+    ),
+    (
+        "123456789012345678901/x",
+        "KEY     = 123456789012345678901 /x",
+    ),
+    ("-1.5E-3", "KEY     =              -1.5E-3"),
+    ("(1,2.5)", "KEY     =             (1, 2.5)"),
+    ("'a' / x", "KEY     = 'a       '           / x"),
+    ("'12345678'", "KEY     = '12345678'"),
+    ("'it''s'", "KEY     = 'it''s   '"),
+    (
+        "'1234567890123456789' /x",
+        "KEY     = '1234567890123456789' /x",
+    ),
+    ("''", "KEY     = ''"),
+    ("' '", "KEY     = '        '"),
+    ("'a&'", None),
+    (
+        "'aaaaaaaaaaaaaaaaaaaaaaaaaaaaaaaaaaaaaaaaaaaaaaaaaaaaaaaaaaaaaaaaaaaa'",
+        "KEY     = 'aaaaaaaaaaaaaaaaaaaaaaaaaaaaaaaaaaaaaaaaaaaaaaaaaaaaaaaaaaaaaaaaaaaa'",
+    ),
+    (
+        "'aaaaaaaaaaaaaaaaaaaaaaaaaaaaaaaaaaaaaaaaaaaaaaaaaaaaaaaaaaaaaaaaaaaa' /",
+        None,
+    ),
+    (
+        "1234567890123456789012345678901234567890123456789012345678901234567890",
+        "KEY     = 1234567890123456789012345678901234567890123456789012345678901234567890",
+    ),
+    (
+        "12345678901234567890123456789012345678901234567890123456789012345678901",
+        None,
+    ),
+    (
+        "'aaaaaaaaaaaaaaaaaaaaaaaaaaaaaaaaaaaaaaaaaaaaaaaaaaaaaaaaaaaaaaaaaaaaa' / x",
+        "KEY     = 'aaaaaaaaaaaaaaaaaaaaaaaaaaaaaaaaaaaaaaaaaaaaaaaaaaaaaaaaaaaaaaaaaaa&'|CONTINUE  'aa'                 / x",
+    ),
+    (
+        "'aaaaaaaaaaaaaaaaaaaaaaaaaaaaaaaaaaaaaaaaaaaaaaaaaaaaaaaaaaaaaaaaaa''bbbbbbbbbbbbbbbbbbbbbbbbbbbbbbbbbbbbbbbbbbbbbbbbbbbbbbbbbbbbbbbbbbbbbbbbb'",
+        "KEY     = 'aaaaaaaaaaaaaaaaaaaaaaaaaaaaaaaaaaaaaaaaaaaaaaaaaaaaaaaaaaaaaaaaaa&'|CONTINUE  '''bbbbbbbbbbbbbbbbbbbbbbbbbbbbbbbbbbbbbbbbbbbbbbbbbbbbbbbbbbbbbbbbb&'|CONTINUE  'bbbbbbbb'",
+    ),
+]
+
 # How many characters the longest string has that is set and asked for.
 LONGEST = 300
 
@@ -218,6 +276,12 @@ def cases():
         yield script, edited, shortest, script, answers, 1, shortest
     for before, blocks, script, answers, status, after in EDITED:
         yield script, edited, header(before) + data(blocks), script, answers, status, header(after) + data(blocks)
+    for field, after in WRITTEN:
+        script = f"set 1 KEY {field}"
+        if after is None:
+            yield script, edited, shortest, script, "line 1: refused 8 BadValue\n", 1, shortest
+        else:
+            yield script, edited, shortest, script, "", 0, header(MANDATORY, after, "END")
     for length in range(LONGEST + 1):
         text = "".join("''" if place % 7 == 6 else "x" for place in range(length))
         script = f"set 1 KEY '{text}' \nget 1 KEY\nunset 1 KEY\npos 1 KEY\n"

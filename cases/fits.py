@@ -6,8 +6,9 @@ has; a file is its HDUs and the text after the last."""
 CARD_LEN = 80
 BLOCK_LEN = 2880
 
-# A primary header of three cards, and nothing else.
-P0 = "SIMPLE  =                    T|BITPIX  =                    8|NAXIS   =                    0|END"
+# The cards of a primary header without data, and of one that has nothing else.
+MANDATORY = "SIMPLE  =                    T|BITPIX  =                    8|NAXIS   =                    0"
+P0 = f"{MANDATORY}|END"
 
 # An image extension of one pixel of 16 bits.
 PIXEL = (

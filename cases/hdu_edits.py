@@ -403,7 +403,7 @@ def cases():
         for place, (_, why, hdus) in enumerate(MANY_HDUS)
     )
     yield "10,000 HDUs", edited, many_hdus(9_999), script, answers, 1, many_hdus(9_999)
-    yield "10,001 HDUs", closed, many_hdus(10_001), "fitsed: open refused O5 TooLarge"
+    yield "10,001 HDUs", closed, many_hdus(10_001), "O5 TooLarge"
 
 
 def many_hdus(count):

@@ -47,7 +47,10 @@ class Program:
                         ran.stdin.write(piece)
                 with contextlib.suppress(BrokenPipeError):
                     ran.stdin.close()
-                status = ran.wait(timeout=60)
+                try:
+                    status = ran.wait(timeout=60)
+                finally:
+                    ran.kill()
             out = path / "out.fits"
             texts = [(path / it).read_bytes() for it in ("printed", "reported")]
             return Ran(status, *texts, out.read_bytes() if out.exists() else None)
@@ -83,7 +86,7 @@ def told(program, words, file, printed, status=0):
 TELLINGS = [["list"], ["verify", "-q"], ["sum"]]
 
 
-def closed(program, front, text):
-    """Where a file opens, or something else is reported of it, or anything is answered or saved."""
+def closed(program, front, fault):
+    """Where a file opens, or another fault is reported of it, or anything is answered or saved."""
     for ran in [program.edit(front, b"off\nfrob\n"), *(program.tell(words, front) for words in TELLINGS)]:
-        yield from differences(ran, status=2, printed=b"", reported=f"{text}\n".encode(), saved=None)
+        yield from differences(ran, status=2, printed=b"", reported=f"fitsed: open refused {fault}\n".encode(), saved=None)

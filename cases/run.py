@@ -14,13 +14,28 @@ import hdu_edits
 import lines
 import listings
 import long_scripts
+import openings
 import pixel_edits
+import planes
 import program
 import reports
 import scripts
 import sums
 
-TABLES = [scripts, lines, card_edits, pixel_edits, hdu_edits, listings, sums, reports, codes, long_scripts]
+TABLES = [
+    openings,
+    scripts,
+    lines,
+    card_edits,
+    pixel_edits,
+    planes,
+    hdu_edits,
+    listings,
+    sums,
+    reports,
+    codes,
+    long_scripts,
+]
 
 
 def checked(fitsed, row):
@@ -28,7 +43,7 @@ def checked(fitsed, row):
     _, _, check, *of_row = row
     try:
         return list(check(fitsed, *of_row))
-    except (OSError, TypeError, ValueError, subprocess.TimeoutExpired) as error:
+    except (OSError, TypeError, ValueError, LookupError, AttributeError, subprocess.TimeoutExpired) as error:
         return [repr(error)]
 
 

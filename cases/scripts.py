@@ -1,6 +1,6 @@
 """Scripts over files: what they print, how they end, and what is saved."""
-from fits import COMMENTS, P0, PIXEL, THREE_PIXELS, file, header
-from program import closed, edited
+from fits import COMMENTS, MANDATORY, P0, PIXEL, THREE_PIXELS, file, header
+from program import edited
 
 # A script over the shortest file, which is saved as it was; its answers, and the status.
 SHORTEST = [
@@ -461,9 +461,6 @@ FILES = [
     ),
 ]
 
-# The mandatory cards of the shortest file.
-MANDATORY = "SIMPLE  =                    T|BITPIX  =                    8|NAXIS   =                    0"
-
 # The cards of the first HDU, a script and how often it is repeated, its answers, and the cards that are saved; and
 # the HDUs that follow.
 GROWN = [
@@ -509,176 +506,123 @@ GROWN = [
     ),
 ]
 
-# A file, how many of its bytes are missing at its end, and why it doesn't open.
-CLOSED = [
-    (([], ""), 0, "fitsed: open refused O1 NotFits"),
-    (([], "SIMPLE "), 0, "fitsed: open refused O1 NotFits"),
-    (([], "SIMPLE =  "), 0, "fitsed: open refused O1 NotFits"),
-    (([], "simple  = "), 0, "fitsed: open refused O1 NotFits"),
-    (([], " SIMPLE  "), 0, "fitsed: open refused O1 NotFits"),
-    (
-        (
-            [(
-                "SIMPLEX =                    T|BITPIX  =                    8|NAXIS   =                    0|END",
-                0,
-            )],
-            "",
-        ),
-        0,
-        "fitsed: open refused O1 NotFits",
-    ),
-    (([], "SIMPLE  "), 0, "fitsed: open refused O2 NoEnd hdu 1"),
-    (
-        ([(P0, 0)], ""),
-        2872,
-        "fitsed: open refused O2 NoEnd hdu 1",
-    ),
-    (
-        ([(P0, 0)], ""),
-        2800,
-        "fitsed: open refused O2 NoEnd hdu 1",
-    ),
-    (
-        ([(P0, 0)], ""),
-        2640,
-        "fitsed: open refused O2 NoEnd hdu 1",
-    ),
-    (
-        ([(P0, 0)], ""),
-        2560,
-        "fitsed: open refused O2 NoEnd hdu 1",
-    ),
-    (([(P0, 0)], ""), 1, "fitsed: open refused O2 NoEnd hdu 1"),
-    (
-        (
-            [(
-                "SIMPLE  =                    T|BITPIX  =                    8|NAXIS   =                    0|ENDING| END",
-                0,
-            )],
-            "",
-        ),
-        0,
-        "fitsed: open refused O2 NoEnd hdu 1",
-    ),
-    (
-        ([(P0, 0)], "XTENSION"),
-        0,
-        "fitsed: open refused O2 NoEnd hdu 2",
-    ),
-    (
-        ([("SIMPLE  =                    T|END", 0)], ""),
-        0,
-        "fitsed: open refused O3 BadShape hdu 1 card 2",
-    ),
-    (
-        (
-            [(
-                "SIMPLE  =                    T|NAXIS   =                    0|BITPIX  =                    8|END",
-                0,
-            )],
-            "",
-        ),
-        0,
-        "fitsed: open refused O3 BadShape hdu 1 card 2",
-    ),
-    (
-        (
-            [(
-                "SIMPLE  =                    T|BITPIX  =                   24|NAXIS   =                    0|END",
-                0,
-            )],
-            "",
-        ),
-        0,
-        "fitsed: open refused O3 BadShape hdu 1 card 2",
-    ),
-    (
-        (
-            [(
-                "SIMPLE  =                    T|BITPIX  =                    8|END|NAXIS   =                    0",
-                0,
-            )],
-            "",
-        ),
-        0,
-        "fitsed: open refused O3 BadShape hdu 1 card 3",
-    ),
-    (
-        (
-            [(
-                "SIMPLE  =                    T|BITPIX  =                    8|NAXIS                        0|END",
-                0,
-            )],
-            "",
-        ),
-        0,
-        "fitsed: open refused O3 BadShape hdu 1 card 3",
-    ),
-    (
-        (
-            [(
-                "SIMPLE  =                    T|BITPIX  =                    8|NAXIS   =                   0.|END",
-                0,
-            )],
-            "",
-        ),
-        0,
-        "fitsed: open refused O3 BadShape hdu 1 card 3",
-    ),
-    (
-        (
-            [(
-                "SIMPLE  =                    T|BITPIX  =                    8|NAXIS   =                    1|END",
-                0,
-            )],
-            "",
-        ),
-        0,
-        "fitsed: open refused O3 BadShape hdu 1 card 4",
-    ),
-    (
-        (
-            [(
-                "SIMPLE  =                    T|BITPIX  =                    8|NAXIS   =                    1|NAXIS2  =                    1|END",
-                0,
-            )],
-            "",
-        ),
-        0,
-        "fitsed: open refused O3 BadShape hdu 1 card 4",
-    ),
-    (
-        (
-            [
-                (P0, 0),
-                (
-                    "XTENSION= 'IMAGE   '|BITPIX  =                    8|NAXIS   =                 1000|END",
-                    0,
-                ),
-            ],
-            "",
-        ),
-        0,
-        "fitsed: open refused O3 BadShape hdu 2 card 3",
-    ),
-    (
-        ([(THREE_PIXELS, 1)], ""),
-        1,
-        "fitsed: open refused O4 ShortData hdu 1",
-    ),
-    (
-        (
-            [(
-                "SIMPLE|BITPIX  = 64|NAXIS   = 3|NAXIS1  = 4000000000|NAXIS2  = 4000000000|NAXIS3  = 1|END",
-                0,
-            )],
-            "",
-        ),
-        0,
-        "fitsed: open refused O4 ShortData hdu 1",
-    ),
+# What is answered of a field that says nothing.
+NONE = "line 1: refused 8 BadValue\n"
+
+# A field, and what it says.
+FIELDS = [
+    # Strings lose their doubled quotes and trailing spaces.
+    ("'IMAGE   '           / type", "string 'IMAGE' / type\n"),
+    ("''", "string ''\n"),
+    ("' '", "string ' '\n"),
+    ("'        '", "string ' '\n"),
+    ("'  lead'", "string '  lead'\n"),
+    ("'it''s'", "string 'it''s'\n"),
+    ("''''", "string ''''\n"),
+    ("''''''", "string ''''''\n"),
+    ("'a / b' /c ", "string 'a / b' /c\n"),
+    ("'a&'", "string 'a&'\n"),
+    ("    'later'", "string 'later'\n"),
+    ("'x'/", "string 'x' /\n"),
+    ("'open", NONE),
+    ("'", NONE),
+    ("'a'b'", NONE),
+    ("'a' 'b'", NONE),
+    ("'''", NONE),
+    ("\"a\"", NONE),
+    ("'tab\t'", NONE),
+    ("'tilde~' / \x7f", NONE),
+    # Logical values are T or F alone.
+    ("                   T / conforms", "logical T / conforms\n"),
+    ("F", "logical F\n"),
+    ("T/", "logical T /\n"),
+    ("T ", "logical T\n"),
+    ("TRUE", NONE),
+    ("t", NONE),
+    ("TT", NONE),
+    ("T F", NONE),
+    (".T.", NONE),
+    # Integers are digits, with a sign or none.
+    ("                  16 / bits", "integer 16 / bits\n"),
+    ("+8", "integer +8\n"),
+    ("-0", "integer -0\n"),
+    ("008", "integer 008\n"),
+    ("99999999999999999999999", "integer 99999999999999999999999\n"),
+    ("5/6", "integer 5 /6\n"),
+    ("+", NONE),
+    ("- 5", NONE),
+    ("--5", NONE),
+    ("5-", NONE),
+    ("5 6", NONE),
+    ("1,000", NONE),
+    ("0x10", NONE),
+    ("'5", NONE),
+    # Real numbers have a point or an exponent.
+    ("1.5", "real 1.5\n"),
+    ("8.", "real 8.\n"),
+    (".5", "real .5\n"),
+    ("-.5E-3", "real -.5E-3\n"),
+    ("+1.D+10", "real +1.D+10\n"),
+    ("1E3", "real 1E3\n"),
+    ("1D3 / double", "real 1D3 / double\n"),
+    ("0E99999999999999999999", "real 0E99999999999999999999\n"),
+    ("32768.00000000000000001", "real 32768.00000000000000001\n"),
+    ("1e3", NONE),
+    ("1d3", NONE),
+    (".", NONE),
+    ("+.", NONE),
+    (".E5", NONE),
+    ("E5", NONE),
+    ("1E", NONE),
+    ("1E+", NONE),
+    ("1E3.5", NONE),
+    ("1.2.3", NONE),
+    ("1. 5", NONE),
+    ("NaN", NONE),
+    ("INF", NONE),
+    # Complex numbers are two numbers in brackets.
+    ("(1, 2)", "complex (1, 2)\n"),
+    ("(1.5,-2E3) / pair", "complex (1.5, -2E3) / pair\n"),
+    ("(  +1  ,  .5  )", "complex (+1, .5)\n"),
+    ("(0,0)/", "complex (0, 0) /\n"),
+    ("(1)", NONE),
+    ("(1,)", NONE),
+    ("(,1)", NONE),
+    ("(1 2)", NONE),
+    ("(1,2", NONE),
+    ("(1,2,3)", NONE),
+    ("(1,2))", NONE),
+    ("( 1,T )", NONE),
+    ("(1/2,3)", NONE),
+    ("()", NONE),
+    # A field may have no value, and a comment.
+    ("", "undefined\n"),
+    ("     ", "undefined\n"),
+    ("/", "undefined /\n"),
+    ("  / only a comment  ", "undefined / only a comment\n"),
+    ("/ a / b", "undefined / a / b\n"),
+    ("T /   led", "logical T /   led\n"),
+    ("T /   ", "logical T /\n"),
+    ("T x / c", NONE),
+    ("x", NONE),
+    ("\xe9", NONE),
 ]
 
+# A header of keywords, and what one of them says.
+KEYWORDS = (
+    "SIMPLE  = T / conforms|BITPIX  = 8|NAXIS   = 0|KEY       5|"
+    "KEY     = 'one&' / first|CONTINUE  'two&'|CONTINUE  'three' / last|KEY     = 'later'|"
+    "BAD     = 1e3|BAD     = 1|COMMENT = 5|EMPTY   = / nothing|END"
+)
+SAID = [
+    ("SIMPLE", "logical T / conforms\n"),
+    ("KEY", "string 'onetwothree' / last\n"),
+    ("BAD", "line 1: refused 8 BadValue\n"),
+    ("EMPTY", "undefined / nothing\n"),
+    ("COMMENT", "line 1: refused 3 NoKey\n"),
+    ("CONTINUE", "line 1: refused 3 NoKey\n"),
+    ("ABSENT", "line 1: refused 3 NoKey\n"),
+]
 
 
 def cases():
@@ -696,6 +640,9 @@ def cases():
         rest = file((more, ""))
         name = f"{times} times {script}"
         yield name, edited, header(*before) + rest, script * times, answers, 0, header(*after) + rest
-    for whole, missing, text in CLOSED:
-        bytes_of = file(whole)
-        yield text, closed, bytes_of[: max(len(bytes_of) - missing, 0)], text
+    for field, answer in FIELDS:
+        of_field = header(f"{MANDATORY}|KEY     = {field}|END")
+        yield field, edited, of_field, "get 1 KEY", answer, int(answer == NONE), of_field
+    keywords = header(KEYWORDS)
+    for name, answer in SAID:
+        yield name, edited, keywords, f"get 1 {name}", answer, int("refused" in answer), keywords

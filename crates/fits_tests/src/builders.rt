@@ -21,10 +21,6 @@ pub const PIXEL: &str =
     "XTENSION= 'IMAGE   '|BITPIX  =                   16|NAXIS   =                    1|\
     NAXIS1  =                    1|PCOUNT  =                    0|GCOUNT  =                    1|END";
 
-/// A primary array of three pixels of 16 bits.
-pub const THREE_PIXELS: &str = "SIMPLE  =                    T|BITPIX  =                   16|\
-    NAXIS   =                    1|NAXIS1  =                    3|END";
-
 /// Thirty-two cards.
 pub const COMMENTS: &str = "COMMENT|COMMENT|COMMENT|COMMENT|COMMENT|COMMENT|COMMENT|COMMENT|\
     COMMENT|COMMENT|COMMENT|COMMENT|COMMENT|COMMENT|COMMENT|COMMENT|\

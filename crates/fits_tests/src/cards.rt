@@ -8,7 +8,8 @@ use crate::builders::{
 };
 use crate::checks::{holds, same};
 use crate::planned::{SMOOTH, writer};
-use fits_card::{Card, HeaderFault, cut_header};
+use fits_card::{Card, CardList, Change, HeaderFault, cut_header};
+use std::alloc::{AllocError, Global};
 use std::process::Abort;
 use std::test::Fail;
 
@@ -134,16 +135,27 @@ fn check_change<R: Abort + AllocGlobal>(
     after: &str,
 ) -> Result<(), Fail> {
     let mut list = header_of(rt.alloc(), before)?;
-    let change = change_of(rt.alloc(), text)?;
-    holds!(rt; change.is_in_range(&list), (before, after));
-    holds!(rt; has_no_end(change.cards()), (before, after));
-    list.reserve(change.len_after(&list))?;
-    change.apply(&mut list);
-    let mut sink = writer(rt.alloc(), SMOOTH)?;
-    list.emit(&mut sink)?;
+    apply(rt, &mut list, change_of(rt.alloc(), text)?)?;
     let wanted = hdu_of(rt.alloc(), after, 0)?;
-    holds!(rt; sink.into_inner().bytes.as_slice() == wanted.as_slice(), (before, after));
+    let found = emitted(rt.alloc(), &mut list)?;
+    holds!(rt; found.as_slice() == wanted.as_slice(), (before, after));
     Ok(())
+}
+
+// Makes a change that is one of the list.
+fn apply<R: Abort>(rt: &R, list: &mut CardList, change: Change) -> Result<(), AllocError> {
+    holds!(rt; change.is_in_range(list));
+    holds!(rt; has_no_end(change.cards()));
+    list.reserve(change.len_after(list))?;
+    change.apply(list);
+    Ok(())
+}
+
+// The bytes of a header.
+fn emitted(alloc: Global, list: &mut CardList) -> Result<Vec<u8>, Fail> {
+    let mut sink = writer(alloc, SMOOTH)?;
+    list.emit(&mut sink)?;
+    Ok(sink.into_inner().bytes)
 }
 
 // Whether no card is named END.

@@ -1,93 +1,10 @@
-//! HDUs: which bytes are one, the kind of their pixels, and what their keywords say.
+//! HDUs: why bytes are none, and the kind of their pixels.
 
-use crate::builders::{hdu_of, name_of, open_hdu};
+use crate::builders::{hdu_of, open_hdu};
 use crate::checks::same;
-use crate::values::line_of;
-use fits_hdu::{Hdu, HduFault, KeywordFault, Kind};
-use fits_rules::Class;
-use std::alloc::{AllocError, Global};
-use std::process::Abort;
+use fits_hdu::{HduFault, Kind};
+use std::alloc::Global;
 use std::test::Fail;
-
-/// Cards, how many blocks of data follow, and the class of the HDU that has these cards and all these blocks.
-const OPENED: &[(&str, usize, Class)] = &[
-    ("SIMPLE  = T|BITPIX  = 8|NAXIS   = 0|END", 0, Class::Primary),
-    // 2 * 3 = 6 bytes
-    (
-        "SIMPLE  = T|BITPIX  = 16|NAXIS   = 1|NAXIS1  = 3|END",
-        1,
-        Class::Primary,
-    ),
-    // PCOUNT and GCOUNT don't count: 1 * 2880 bytes
-    (
-        "SIMPLE  = T|BITPIX  = 8|NAXIS   = 1|NAXIS1  = 2880|PCOUNT  = 'x'|GCOUNT  = 9|END",
-        1,
-        Class::Primary,
-    ),
-    // the axes' product is 0, however large the others are
-    (
-        "SIMPLE  = T|BITPIX  = 64|NAXIS   = 3|NAXIS1  = 4000000000|NAXIS2  = 4000000000|NAXIS3  = 0|END",
-        0,
-        Class::Primary,
-    ),
-    // random groups: 2 * 2 * (1 + 3) = 16 bytes
-    (
-        "SIMPLE  = T|BITPIX  = 16|NAXIS   = 2|NAXIS1  = 0|NAXIS2  = 3|GROUPS  = T|PCOUNT  = 1|GCOUNT  = 2|END",
-        1,
-        Class::Groups,
-    ),
-    // no axes, and 5 bytes after the array
-    (
-        "XTENSION= 'IMAGE'|BITPIX  = 8|NAXIS   = 0|PCOUNT  = 5|GCOUNT  = 1|END",
-        1,
-        Class::Image,
-    ),
-    // no PCOUNT and no GCOUNT: 4 * (0 + 721) = 2884 bytes
-    (
-        "XTENSION= 'IMAGE   '|BITPIX  = -32|NAXIS   = 1|NAXIS1  = 721|END",
-        2,
-        Class::Image,
-    ),
-    // 10 * 288 = 2880 bytes
-    (
-        "XTENSION= 'TABLE'|BITPIX  = 8|NAXIS   = 2|NAXIS1  = 10|NAXIS2  = 288|END",
-        1,
-        Class::Table,
-    ),
-    // 10 * 288 + 1 = 2881 bytes
-    (
-        "XTENSION= 'BINTABLE'|BITPIX  = 8|NAXIS   = 2|NAXIS1  = 10|NAXIS2  = 288|PCOUNT  = 1|END",
-        2,
-        Class::Other,
-    ),
-    // GCOUNT 0: no bytes
-    (
-        "XTENSION= 'IMAGE'|BITPIX  = 8|NAXIS   = 1|NAXIS1  = 7|PCOUNT  = 9|GCOUNT  = 0|END",
-        0,
-        Class::Image,
-    ),
-    // XTENSION says no string
-    ("XTENSION= T|BITPIX  = 8|NAXIS   = 0|END", 0, Class::Other),
-    (
-        "XTENSION  'IMAGE'|BITPIX  = 8|NAXIS   = 0|END",
-        0,
-        Class::Other,
-    ),
-];
-
-#[test]
-fn an_hdu_has_the_data_that_its_cards_describe(rt: HostRuntime) -> Result<(), Fail> {
-    for (cards, blocks, class) in OPENED {
-        let mut bytes = hdu_of(rt.alloc(), cards, *blocks)?;
-        let wanted = bytes.len();
-        bytes.extend_from_slice(b"XTENSION")?;
-        let (hdu, len) = open_hdu(rt.alloc(), &bytes, cards.starts_with("SIMPLE"))?;
-        same!(rt; len, wanted, cards);
-        same!(rt; hdu.data_len() / 2880, *blocks, cards);
-        same!(rt; hdu.shape().class, *class, cards);
-    }
-    Ok(())
-}
 
 /// Whether the HDU is the primary one, its cards without data, and why they are none.
 const FAULTS: &[(bool, &str, HduFault)] = &[
@@ -249,41 +166,4 @@ fn kind_of(alloc: Global, cards: &str, blocks: usize) -> Result<Option<Kind>, Fa
     let bytes = hdu_of(alloc, cards, blocks)?;
     let (hdu, _) = open_hdu(alloc, &bytes, cards.starts_with("SIMPLE"))?;
     Ok(hdu.kind())
-}
-
-/// The cards that `KEYWORDS` asks.
-pub const ASKED: &str = "SIMPLE  = T / conforms|BITPIX  = 8|NAXIS   = 0|KEY       5|\
-    KEY     = 'one&' / first|CONTINUE  'two&'|CONTINUE  'three' / last|KEY     = 'later'|\
-    BAD     = 1e3|BAD     = 1|COMMENT = 5|EMPTY   = / nothing|END";
-
-/// A name, and what it says.
-const KEYWORDS: &[(&str, &str)] = &[
-    ("SIMPLE", "logical T / conforms"),
-    ("KEY", "string [onetwothree] / last"),
-    ("BAD", "bad value"),
-    ("EMPTY", "undefined / nothing"),
-    ("COMMENT", "no key"),
-    ("CONTINUE", "no key"),
-    ("ABSENT", "no key"),
-];
-
-#[test]
-fn a_keyword_says_what_its_first_card_with_a_value_does(rt: HostRuntime) -> Result<(), Fail> {
-    let bytes = hdu_of(rt.alloc(), ASKED, 0)?;
-    let (mut hdu, _) = open_hdu(rt.alloc(), &bytes, true)?;
-    for (name, wanted) in KEYWORDS {
-        let line = keyword_line(rt.alloc(), &mut hdu, name)?;
-        same!(rt; line.as_slice(), wanted.as_bytes(), name);
-    }
-    Ok(())
-}
-
-// What a keyword says, as a line.
-fn keyword_line(alloc: Global, hdu: &mut Hdu, name: &str) -> Result<Vec<u8>, AllocError> {
-    match hdu.value(alloc, &name_of(name)) {
-        Ok(said) => line_of(alloc, &Some(said)),
-        Err(KeywordFault::NoKey) => b"no key".to_vec(alloc),
-        Err(KeywordFault::BadValue) => b"bad value".to_vec(alloc),
-        Err(KeywordFault::Memory) => Err(AllocError),
-    }
 }

@@ -4,7 +4,7 @@ ghost use Rattle.std.specs.Prelude.{◌≡◌, ◌≤◌, length};
 use crate::builders::ChangeText::{self, Move, Splice};
 use crate::builders::{P0, change_of, hdu_of, header_of, name_of};
 use crate::checks::{holds, same};
-use fits_card::Change;
+use fits_card::{Change, Name};
 use fits_codes::Code;
 use fits_header::{Header, KeyIndex};
 use fits_rules::shape;
@@ -127,14 +127,18 @@ fn a_header_has_each_name_once_ascending(rt: HostRuntime) -> Result<(), Fail> {
     for (cards, wanted) in NAMES {
         let bytes = hdu_of(rt.alloc(), cards, 0)?;
         let mut session = Session::open(rt.alloc(), &bytes)?;
-        let names = session.names(1)?;
-        same!(rt; names.len(), wanted.len());
-        for (name, text) in names.iter().zip(wanted.iter()) {
-            same!(rt; *name, name_of(text));
-        }
-        same!(rt; session.names(2).err(), Some(Refusal::NoHdu));
+        check_names(&rt, &session.names(1)?, wanted);
+        same!(rt; session.names(2).err(), Some(Refusal::NoHdu), cards);
     }
     Ok(())
+}
+
+// Whether these are the names of these texts.
+fn check_names<R: Abort>(rt: &R, names: &[Name], wanted: &[&str]) {
+    same!(rt; names.len(), wanted.len(), wanted);
+    for (name, text) in names.iter().zip(wanted) {
+        same!(rt; *name, name_of(text), wanted);
+    }
 }
 
 /// A header, and of each card whether it is a link and its code, if it has one.

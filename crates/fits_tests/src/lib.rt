@@ -16,8 +16,6 @@ mod hdus;
 #[cfg(test)]
 mod indexes;
 #[cfg(test)]
-mod lines;
-#[cfg(test)]
 mod memory;
 #[cfg(test)]
 mod numbers;

@@ -1,13 +1,11 @@
-//! Data units: their statistics and sums, and rectangles of pixels, by hand and beside plain loops.
+//! Data units: their statistics after each step, and rectangles that are none.
 
 ghost use Rattle.std.specs.Prelude.{◌≡◌, IfSome};
 ghost use Rattle.fits_plane.specs.Rectangle.{product};
 
 use crate::checks::{holds, same};
-use crate::planned::{SMOOTH, writer};
 use fits_plane::{
-    Layout, PixelSummary, Plane, Summary, Tree, WordSummary, are_storable, is_rectangle,
-    is_storable, rectangle_len,
+    Layout, PixelSummary, Plane, Summary, Tree, WordSummary, is_rectangle, is_storable,
 };
 use std::alloc::{AllocError, Global};
 use std::process::Abort;
@@ -117,44 +115,6 @@ const ROWS: &[Row<'static>] = &[
     ),
 ];
 
-/// A pixel's bytes, how many pixels, the number of every 97th, the fill, and BLANK.
-const KINDS: &[(usize, usize, i64, u8, Option<i64>)] = &[
-    (0, 0, 0, 0, None),
-    (1, 0, 0, 0, Some(0)),
-    (1, 1, 255, 0, Some(0)),
-    (1, 2881, 128, 1, Some(128)),
-    (1, 8639, 7, 0, None),
-    (2, 1440, -32768, 0, Some(0)),
-    (2, 2881, 32767, 1, Some(32767)),
-    (4, 1, -1, 0, None),
-    (4, 2159, i64::MIN >> 32, 0, Some(0)),
-    (8, 361, i64::MIN, 0, Some(0)),
-    (8, 1080, HIGH, 1, None),
-];
-
-/// What a written value is more than its stored number.
-const OFFSET: i128 = 9_223_372_036_854_775_808;
-
-/// Pixels of so many bytes, axes, and the corners of a rectangle.
-type Rectangle<'a> = (usize, &'a [u64], &'a [u64], &'a [u64]);
-
-const RECTANGLES: &[Rectangle<'static>] = &[
-    (8, &[400], &[1], &[1]),
-    (8, &[400], &[400], &[400]),
-    (8, &[400], &[360], &[361]),
-    (1, &[2882], &[2880], &[2882]),
-    (8, &[60, 10], &[1, 1], &[60, 10]),
-    (8, &[60, 10], &[60, 10], &[60, 10]),
-    (8, &[60, 10], &[1, 6], &[1, 7]),
-    (2, &[60, 10], &[30, 1], &[30, 10]),
-    (8, &[7, 5, 12], &[7, 5, 12], &[7, 5, 12]),
-    (8, &[7, 5, 12], &[2, 2, 4], &[6, 4, 11]),
-    (4, &[7, 5, 12], &[1, 5, 1], &[7, 5, 12]),
-    (8, &[3, 4, 5, 7], &[1, 1, 1, 1], &[3, 4, 5, 7]),
-    (8, &[3, 4, 5, 7], &[3, 1, 1, 1], &[3, 1, 1, 7]),
-    (4, &[3, 4, 5, 7], &[2, 3, 1, 2], &[3, 4, 5, 6]),
-];
-
 /// Axes, corners and a number of which a plane of 12 pixels of 16 bits takes none.
 const REFUSED: &[(&[u64], &[u64], &[u64], i64)] = &[
     (&[12], &[0], &[1], 1),
@@ -169,64 +129,6 @@ const REFUSED: &[(&[u64], &[u64], &[u64], i64)] = &[
     (&[12], &[1], &[1], -32769),
 ];
 
-// ---- the same by plain loops over bytes
-
-// The number of pixel i, byte by byte.
-fn plain_pixel(bytes: &[u8], width: usize, i: usize) -> i64 {
-    let at = i.saturating_mul(width);
-    let pixel = bytes.get(at..at.saturating_add(width)).unwrap_or(&[]);
-    let is_negative = width > 1 && matches!(pixel.first(), Some(128..=255));
-    let mut number = if is_negative { -1i64 } else { 0 };
-    for byte in pixel {
-        number = number.wrapping_mul(256).wrapping_add(i64::from(*byte));
-    }
-    number
-}
-
-fn plain_summary(bytes: &[u8], layout: Layout) -> PixelSummary {
-    let mut all = PixelSummary::unit();
-    for i in 0..layout.pixels {
-        let number = plain_pixel(bytes, layout.width, i);
-        if layout.blank == Some(number) {
-            all.blank = all.blank.wrapping_add(1);
-        } else {
-            all.defined = all.defined.wrapping_add(1);
-            all.least = match all.least {
-                Some(least) if least <= number => Some(least),
-                _ => Some(number),
-            };
-            all.greatest = match all.greatest {
-                Some(greatest) if number <= greatest => Some(greatest),
-                _ => Some(number),
-            };
-            all.sum = all.sum.wrapping_add(i128::from(number));
-        }
-    }
-    all
-}
-
-fn plain_total(bytes: &[u8]) -> u64 {
-    let mut total = 0u64;
-    for (i, byte) in bytes.iter().enumerate() {
-        let weight = [0x100_0000, 0x1_0000, 0x100, 1][i % 4];
-        total = total.wrapping_add(u64::from(*byte).wrapping_mul(weight));
-    }
-    total
-}
-
-// Does each coordinate of pixel i lie in the rectangle?
-fn is_inside(axes: &[u64], lo: &[u64], hi: &[u64], i: u64) -> bool {
-    let mut rest = i;
-    for (axis, (low, high)) in axes.iter().zip(lo.iter().zip(hi)) {
-        let coordinate = rest.checked_rem(*axis).unwrap_or(0).saturating_add(1);
-        if coordinate < *low || *high < coordinate {
-            return false;
-        }
-        rest = rest.checked_div(*axis).unwrap_or(0);
-    }
-    true
-}
-
 // Writes the number of pixel i, byte by byte.
 fn plain_put(bytes: &mut [u8], width: usize, i: usize, number: i64) {
     let at = i.saturating_mul(width);
@@ -238,8 +140,6 @@ fn plain_put(bytes: &mut [u8], width: usize, i: usize, number: i64) {
         }
     }
 }
-
-// ---- planes
 
 // Whole blocks of one byte.
 fn blocks_of(alloc: Global, used: usize, byte: u8) -> Result<Vec<u8>, AllocError> {
@@ -265,21 +165,6 @@ fn layout_of(width: usize, pixels: usize, blank: Option<i64>) -> Layout {
 fn opened<R: Abort + AllocGlobal>(rt: &R, bytes: &[u8], layout: Layout) -> Result<Plane, Fail> {
     holds!(rt; layout.fits(bytes));
     Ok(Plane::open(rt.alloc(), bytes, layout)?)
-}
-
-// The plane has these bytes, and the statistics of a plain loop.
-fn check<R: Abort + AllocGlobal>(rt: &R, plane: &mut Plane, bytes: &[u8]) -> Result<(), Fail> {
-    let layout = plane.layout();
-    let mut sink = writer(rt.alloc(), SMOOTH)?;
-    plane.emit(&mut sink)?;
-    holds!(rt; sink.into_inner().bytes.as_slice() == bytes);
-    same!(rt; plane.byte_len(), bytes.len());
-    same!(rt; plane.stats(), plain_summary(bytes, layout), layout);
-    if 0 < layout.pixels {
-        let last = layout.pixels - 1;
-        same!(rt; plane.pixel(last), plain_pixel(bytes, layout.width, last));
-    }
-    Ok(())
 }
 
 // How many pixels up to four axes span.
@@ -313,28 +198,6 @@ fn fill(plane: &mut Plane, axes: &[u64], lo: &[u64], hi: &[u64], stored: i64) ->
     false
 }
 
-// Writes a rectangle, where that is possible.
-fn write(plane: &mut Plane, axes: &[u64], lo: &[u64], hi: &[u64], values: &[i128]) -> bool {
-    let layout = plane.layout();
-    let Some(pixels) = span(axes) else {
-        return false;
-    };
-    let is_width = matches!(layout.width, 1 | 2 | 4 | 8);
-    if is_width
-        && pixels == layout.pixels as u64
-        && pixels < 1_000_000
-        && is_rectangle(axes, lo, hi)
-        && rectangle_len(axes, lo, hi) == values.len() as u64
-        && are_storable(layout.width, values, OFFSET)
-    {
-        plane.write_rect(axes, lo, hi, values, OFFSET);
-        return true;
-    }
-    false
-}
-
-// ---- tests
-
 #[test]
 fn pixels_have_their_statistics(rt: HostRuntime) -> Result<(), Fail> {
     for (width, pixels, steps) in ROWS {
@@ -345,62 +208,23 @@ fn pixels_have_their_statistics(rt: HostRuntime) -> Result<(), Fail> {
         }
         let mut plane = opened(&rt, &bytes, layout)?;
         for (step, said) in *steps {
-            match step {
-                Nothing => (),
-                Blank(blank) => plane.set_blank(*blank),
-                Fill(low, high, stored) => {
-                    let axes = [pixels.len() as u64];
-                    holds!(rt; fill(&mut plane, &axes, &[*low], &[*high], *stored));
-                }
-            }
+            take(&rt, &mut plane, *step);
             same!(rt; plane.stats(), summary_of(*said));
         }
     }
     Ok(())
 }
 
-#[test]
-fn planes_equal_plain_loops(rt: HostRuntime) -> Result<(), Fail> {
-    for (width, pixels, number, fill, blank) in KINDS {
-        let layout = layout_of(*width, *pixels, *blank);
-        let mut bytes = blocks_of(rt.alloc(), layout.used, *fill)?;
-        for i in (0..*pixels).step_by(97) {
-            plain_put(&mut bytes, *width, i, *number);
+// Takes a step over pixels in one row.
+fn take<R: Abort>(rt: &R, plane: &mut Plane, step: Step) {
+    match step {
+        Nothing => (),
+        Blank(blank) => plane.set_blank(blank),
+        Fill(low, high, stored) => {
+            let axes = [plane.layout().pixels as u64];
+            holds!(rt; fill(plane, &axes, &[low], &[high], stored), (low, high));
         }
-        let mut plane = opened(&rt, &bytes, layout)?;
-        check(&rt, &mut plane, &bytes)?;
-        same!(rt; plane.total(), plain_total(&bytes));
-        same!(rt; plane.fill_ok(), *fill == 0 || layout.used == bytes.len());
     }
-    Ok(())
-}
-
-#[test]
-fn rectangles_equal_plain_loops(rt: HostRuntime) -> Result<(), Fail> {
-    for (width, axes, lo, hi) in RECTANGLES {
-        let pixels = span(axes).unwrap_or(0) as usize;
-        let layout = layout_of(*width, pixels, Some(7));
-        let mut bytes = blocks_of(rt.alloc(), layout.used, 1)?;
-        let mut plane = opened(&rt, &bytes, layout)?;
-        let mut values = Vec::new(rt.alloc());
-        for i in 0..pixels {
-            if is_inside(axes, lo, hi, i as u64) {
-                let number = (values.len() % 120) as i64;
-                plain_put(&mut bytes, *width, i, number);
-                values.push(OFFSET + i128::from(number))?;
-            }
-        }
-        holds!(rt; write(&mut plane, axes, lo, hi, &values), (axes, lo, hi));
-        check(&rt, &mut plane, &bytes)?;
-        for i in 0..pixels {
-            if is_inside(axes, lo, hi, i as u64) {
-                plain_put(&mut bytes, *width, i, 7);
-            }
-        }
-        holds!(rt; fill(&mut plane, axes, lo, hi, 7));
-        check(&rt, &mut plane, &bytes)?;
-    }
-    Ok(())
 }
 
 #[test]
@@ -411,7 +235,18 @@ fn what_is_no_rectangle_is_not_written(rt: HostRuntime) -> Result<(), Fail> {
     for (axes, lo, hi, stored) in REFUSED {
         holds!(rt; !fill(&mut plane, axes, lo, hi, *stored), (axes, lo, hi));
     }
-    check(&rt, &mut plane, &bytes)
+    same!(rt; plane.stats(), summary_of((12, 0, Some((257, 257)), 12 * 257)));
+    same!(rt; last_pixel(&mut plane), Some(257));
+    Ok(())
+}
+
+// The number of the last pixel, if there is one.
+fn last_pixel(plane: &mut Plane) -> Option<i64> {
+    let count = plane.layout().pixels;
+    if count == 0 {
+        return None;
+    }
+    Some(plane.pixel(count - 1))
 }
 
 // The summary of words with this total.

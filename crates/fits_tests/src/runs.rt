@@ -24,12 +24,6 @@ pub const ALL_SMOOTH: Plans = Plans {
     saved: SMOOTH,
 };
 
-/// The end of a run without a fault and without a refused line.
-pub const DONE: End = End {
-    status: 0,
-    fault: None,
-};
-
 /// What a run came to, and how often it called each stream.
 #[derive(Drop)]
 pub struct Ran {

@@ -5,7 +5,7 @@ use crate::checks::{holds, same};
 use fits_card::Card;
 use fits_value::{
     CardString, Reading, Span, Text, Value, ValueKind, card_string, link_count, link_string,
-    long_value, read_field, read_value, scan_card,
+    long_value, read_value, scan_card,
 };
 use std::alloc::{AllocError, Global};
 use std::process::Abort;
@@ -59,126 +59,11 @@ pub fn line_of(alloc: Global, said: &Option<(Value, Option<Text>)>) -> Result<Ve
     Ok(line)
 }
 
-/// A field, and what it says.
-const FIELDS: &[(&str, &str)] = &[
-    // Strings lose their doubled quotes and trailing spaces.
-    ("'IMAGE   '           / type", "string [IMAGE] / type"),
-    ("''", "string []"),
-    ("' '", "string [ ]"),
-    ("'        '", "string [ ]"),
-    ("'  lead'", "string [  lead]"),
-    ("'it''s'", "string [it's]"),
-    ("''''", "string [']"),
-    ("''''''", "string ['']"),
-    ("'a / b' /c ", "string [a / b] /c"),
-    ("'a&'", "string [a&]"),
-    ("    'later'", "string [later]"),
-    ("'x'/", "string [x] /"),
-    ("'open", "none"),
-    ("'", "none"),
-    ("'a'b'", "none"),
-    ("'a' 'b'", "none"),
-    ("'''", "none"),
-    ("\"a\"", "none"),
-    ("'tab\t'", "none"),
-    ("'tilde~' / \u{7f}", "none"),
-    // Logical values are T or F alone.
-    ("                   T / conforms", "logical T / conforms"),
-    ("F", "logical F"),
-    ("T/", "logical T /"),
-    ("T ", "logical T"),
-    ("TRUE", "none"),
-    ("t", "none"),
-    ("TT", "none"),
-    ("T F", "none"),
-    (".T.", "none"),
-    // Integers are digits, with a sign or none.
-    ("                  16 / bits", "integer [16] / bits"),
-    ("+8", "integer [+8]"),
-    ("-0", "integer [-0]"),
-    ("008", "integer [008]"),
-    (
-        "99999999999999999999999",
-        "integer [99999999999999999999999]",
-    ),
-    ("5/6", "integer [5] /6"),
-    ("+", "none"),
-    ("- 5", "none"),
-    ("--5", "none"),
-    ("5-", "none"),
-    ("5 6", "none"),
-    ("1,000", "none"),
-    ("0x10", "none"),
-    ("'5", "none"),
-    // Real numbers have a point or an exponent.
-    ("1.5", "real [1.5]"),
-    ("8.", "real [8.]"),
-    (".5", "real [.5]"),
-    ("-.5E-3", "real [-.5E-3]"),
-    ("+1.D+10", "real [+1.D+10]"),
-    ("1E3", "real [1E3]"),
-    ("1D3 / double", "real [1D3] / double"),
-    ("0E99999999999999999999", "real [0E99999999999999999999]"),
-    ("32768.00000000000000001", "real [32768.00000000000000001]"),
-    ("1e3", "none"),
-    ("1d3", "none"),
-    (".", "none"),
-    ("+.", "none"),
-    (".E5", "none"),
-    ("E5", "none"),
-    ("1E", "none"),
-    ("1E+", "none"),
-    ("1E3.5", "none"),
-    ("1.2.3", "none"),
-    ("1. 5", "none"),
-    ("NaN", "none"),
-    ("INF", "none"),
-    // Complex numbers are two numbers in brackets.
-    ("(1, 2)", "complex [1] [2]"),
-    ("(1.5,-2E3) / pair", "complex [1.5] [-2E3] / pair"),
-    ("(  +1  ,  .5  )", "complex [+1] [.5]"),
-    ("(0,0)/", "complex [0] [0] /"),
-    ("(1)", "none"),
-    ("(1,)", "none"),
-    ("(,1)", "none"),
-    ("(1 2)", "none"),
-    ("(1,2", "none"),
-    ("(1,2,3)", "none"),
-    ("(1,2))", "none"),
-    ("( 1,T )", "none"),
-    ("(1/2,3)", "none"),
-    ("()", "none"),
-    // A field may have no value, and a comment.
-    ("", "undefined"),
-    ("     ", "undefined"),
-    ("/", "undefined /"),
-    ("  / only a comment  ", "undefined / only a comment"),
-    ("/ a / b", "undefined / a / b"),
-    ("T /   led", "logical T /   led"),
-    ("T /   ", "logical T /"),
-    ("T x / c", "none"),
-    ("x", "none"),
-    ("\u{e9}", "none"),
-];
-
 // The card with a value indicator and this field.
 fn field_card(alloc: Global, field: &str) -> Result<Card, AllocError> {
     let mut bytes = b"KEYWORD = ".to_vec(alloc)?;
     bytes.extend_from_slice(field.as_bytes())?;
     Ok(card_of_bytes(&bytes))
-}
-
-#[test]
-fn a_field_says_one_value_or_none(rt: HostRuntime) -> Result<(), Fail> {
-    for (field, wanted) in FIELDS {
-        let said = read_field(rt.alloc(), field.as_bytes())?;
-        check_line(&rt, &said, wanted)?;
-        let card = field_card(rt.alloc(), field)?;
-        let said = read_value(rt.alloc(), &card)?;
-        check_line(&rt, &said, wanted)?;
-        same!(rt; scan_card(&card).is_none(), *wanted == "none", field);
-    }
-    Ok(())
 }
 
 // Whether this was read.

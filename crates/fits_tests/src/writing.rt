@@ -1,5 +1,4 @@
-//! The cards that a value is written to, by hand from the standard's fixed format (4.2) and its rules for CONTINUE
-//! (4.2.1.2).
+//! Values that no field says, which are written to no card.
 
 use crate::builders::{add_cards, name_of};
 use crate::checks::{holds, same};
@@ -8,80 +7,6 @@ use fits_value::{Text, Value, WriteFault, read_field, write_value};
 use std::alloc::{AllocError, Global};
 use std::process::Abort;
 use std::test::Fail;
-
-/// A field that says a value and a comment, and the cards of `KEY` that these are written to, if they can be.
-const WRITTEN: &[(&str, Option<&str>)] = &[
-    ("", Some("KEY     =")),
-    ("/ none", Some("KEY     =                      / none")),
-    ("T / x", Some("KEY     =                    T / x")),
-    ("F", Some("KEY     =                    F")),
-    ("5 / c", Some("KEY     =                    5 / c")),
-    ("5 /", Some("KEY     =                    5 /")),
-    (
-        "-12345678901234567890",
-        Some("KEY     = -12345678901234567890"),
-    ),
-    (
-        "12345678901234567890/x",
-        Some("KEY     = 12345678901234567890 /x"),
-    ),
-    (
-        "123456789012345678901/x",
-        Some("KEY     = 123456789012345678901 /x"),
-    ),
-    ("-1.5E-3", Some("KEY     =              -1.5E-3")),
-    ("(1,2.5)", Some("KEY     =             (1, 2.5)")),
-    ("'a' / x", Some("KEY     = 'a       '           / x")),
-    ("'12345678'", Some("KEY     = '12345678'")),
-    ("'it''s'", Some("KEY     = 'it''s   '")),
-    (
-        "'1234567890123456789' /x",
-        Some("KEY     = '1234567890123456789' /x"),
-    ),
-    ("''", Some("KEY     = ''")),
-    ("' '", Some("KEY     = '        '")),
-    ("'a&'", None),
-    (
-        "'aaaaaaaaaaaaaaaaaaaaaaaaaaaaaaaaaaaaaaaaaaaaaaaaaaaaaaaaaaaaaaaaaaaa'",
-        Some("KEY     = 'aaaaaaaaaaaaaaaaaaaaaaaaaaaaaaaaaaaaaaaaaaaaaaaaaaaaaaaaaaaaaaaaaaaa'"),
-    ),
-    (
-        "'aaaaaaaaaaaaaaaaaaaaaaaaaaaaaaaaaaaaaaaaaaaaaaaaaaaaaaaaaaaaaaaaaaaa' /",
-        None,
-    ),
-    (
-        "1234567890123456789012345678901234567890123456789012345678901234567890",
-        Some("KEY     = 1234567890123456789012345678901234567890123456789012345678901234567890"),
-    ),
-    (
-        "12345678901234567890123456789012345678901234567890123456789012345678901",
-        None,
-    ),
-    (
-        "'aaaaaaaaaaaaaaaaaaaaaaaaaaaaaaaaaaaaaaaaaaaaaaaaaaaaaaaaaaaaaaaaaaaaa' / x",
-        Some(
-            "KEY     = 'aaaaaaaaaaaaaaaaaaaaaaaaaaaaaaaaaaaaaaaaaaaaaaaaaaaaaaaaaaaaaaaaaaa&'|CONTINUE  'aa'                 / x",
-        ),
-    ),
-    (
-        "'aaaaaaaaaaaaaaaaaaaaaaaaaaaaaaaaaaaaaaaaaaaaaaaaaaaaaaaaaaaaaaaaaa''bbbbbbbbbbbbbbbbbbbbbbbbbbbbbbbbbbbbbbbbbbbbbbbbbbbbbbbbbbbbbbbbbbbbbbbbb'",
-        Some(
-            "KEY     = 'aaaaaaaaaaaaaaaaaaaaaaaaaaaaaaaaaaaaaaaaaaaaaaaaaaaaaaaaaaaaaaaaaa&'|CONTINUE  '''bbbbbbbbbbbbbbbbbbbbbbbbbbbbbbbbbbbbbbbbbbbbbbbbbbbbbbbbbbbbbbbbb&'|CONTINUE  'bbbbbbbb'",
-        ),
-    ),
-];
-
-#[test]
-fn a_value_is_written_to_its_cards(rt: HostRuntime) -> Result<(), Fail> {
-    for (field, wanted) in WRITTEN {
-        let (value, comment) = read_field(rt.alloc(), field.as_bytes())?.ok_or("no value")?;
-        match write(&rt, &value, &comment) {
-            Ok(cards) => check_cards(&rt, &cards, wanted.ok_or("cards")?)?,
-            Err(fault) => same!(rt; (fault, *wanted), (WriteFault::BadValue, None), field),
-        }
-    }
-    Ok(())
-}
 
 // Writes a value of `KEY`.
 fn write<R: Abort + AllocGlobal>(
