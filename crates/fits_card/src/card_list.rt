@@ -197,19 +197,6 @@ impl CardList {
         self.splice(place, 1, &[]);
     }
 
-    /// Puts a card in the place of another.
-    pub fn replace(&mut self, place: usize, card: Card)
-        requires from { 1 ≤ place }
-        requires to { place ≤ length self.old.header.cards }
-        requires not_end { IsEnd card → ⊥ }
-        ensures header { self.new.header
-            ≡ with_cards self.old.header (spliced self.old.header.cards place 1 (card ∷ [])) }
-        ensures room { self.new.room ≡ self.old.room }
-        ensures work { self.new.reads ≡ self.old.reads }
-    {
-        self.splice(place, 1, &[card]);
-    }
-
     /// Takes the card at a place out, and puts it where it has the other place in the result.
     pub fn move_card(&mut self, from: usize, to: usize)
         requires from_first { 1 ≤ from }

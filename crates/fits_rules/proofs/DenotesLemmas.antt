@@ -50,29 +50,6 @@ text_test card text r number z b reads only numeric t e p =
     let q = rw (t, e) at p in
     (λ yes. card_denotes card r number reads numeric (q.0 yes), λ d. q.1 (text_denotes card r number only d).1)
 
--- the lead of a name denotes what its card does
-lead_denotes : (cards : List (List ℕ)) (name card : List ℕ) (number : ℤ) → Some card ≡ lead_card cards name → CardDenotes card number → LeadDenotes cards name number
-lead_denotes cards name card number lead p = record { card = card; lead = sym lead; denotes = p }
-
--- and its card what the lead does
-one_lead : (cards : List (List ℕ)) (name card : List ℕ) (number : ℤ) → Some card ≡ lead_card cards name → LeadDenotes cards name number → CardDenotes card number
-one_lead cards name card number lead p =
-    let some : Option.Some p.card ≡ Some card = sym p.lead ∙ sym lead in
-    let same : p.card ≡ card = cc in
-    rw same at p.denotes
-
--- a test of the lead is one of its card
-pub lead_here : (cards : List (List ℕ)) (name card : List ℕ) (number : ℤ) (b : Bool) → Some card ≡ lead_card cards name → (IsTrue b ↔ CardDenotes card number) → IsTrue b ↔ LeadDenotes cards name number
-lead_here cards name card number b lead p = (λ yes. lead_denotes cards name card number lead (p.0 yes), λ q. p.1 (one_lead cards name card number lead q))
-
--- without a lead none is denoted
-pub lead_nowhere : (cards : List (List ℕ)) (name : List ℕ) (number : ℤ) → None ≡ lead_card cards name → LeadDenotes cards name number → ⊥
-lead_nowhere cards name number none p = let no : Option.None ≡ Some p.card = none ∙ p.lead in cc
-
--- and the test is false
-pub lead_nowhere_is : (cards : List (List ℕ)) (name : List ℕ) (number : ℤ) → None ≡ lead_card cards name → IsTrue false ↔ LeadDenotes cards name number
-lead_nowhere_is cards name number none = (λ no. cc, λ p. absurd (lead_nowhere cards name number none p))
-
 -- a test of what an option holds, where it is true
 holds : {X : Type 0} (test : X → Bool) (o : Option X) → unwrap_or (option_map test o) false ≡ true → (x : X) × (o ≡ Some x) × (test x ≡ true)
 holds test None e = absurd (false≢true e)
@@ -127,5 +104,3 @@ pub card_number_said : (card : List ℕ) (number : ℤ) (b : Bool) → (IsTrue b
 card_number_said card number b e =
     let says = card_number card number in
     both_ways b (card_says_number card number) (λ yes. says.1 (e.0 yes)) (λ yes. e.1 (says.0 yes))
-
-pub ruleset lead_steps = (lead_here, lead_nowhere_is)

@@ -26,7 +26,7 @@ pub use axes::Axes;
 pub use axis_names::axis_name;
 pub use class::Class;
 pub use comparing::keeps_shape;
-pub use denoting::{card_denotes, lead_denotes};
+pub use denoting::card_denotes;
 pub use image::image_bits;
 pub use integers::{IntegerSaid, integer_said};
 pub use laws::{

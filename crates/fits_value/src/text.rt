@@ -28,11 +28,4 @@ impl Text {
     {
         &self.bytes
     }
-
-    pub fn into_bytes(self) -> Vec<u8>
-        ensures { result.items ≡ self }
-    {
-        let Text { bytes } = self;
-        bytes
-    }
 }
