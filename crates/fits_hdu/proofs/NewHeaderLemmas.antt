@@ -10,9 +10,11 @@ use Rattle.fits_rules.specs.Shape.{axis_name, shape_of}
 use Rattle.fits_rules.specs.Size.{data_length}
 use Rattle.fits_rules.specs.declared.array_shape.Shape.{Shape}
 use Rattle.fits_hdu.specs.Hdu.{HduParts, hdu_bytes}
-use Rattle.fits_hdu.specs.NewImage.{are_axes, axis_cards, written_number, image_cards, image_shape, new_header, new_image}
+use Rattle.fits_hdu.specs.NewImage.{are_axes, axis_cards, offset_cards, written, written_number, image_cards, image_shape, new_header, new_image}
 use Rattle.fits_hdu.specs.declared.kind.Kind.{Kind}
 use Rattle.fits_hdu.specs.declared.kind.Kind.TheVariants.{U8, I8, I16, U16, I32, U32, I64, U64}
+use Rattle.fits_hdu.specs.Kind.{width_of}
+use Rattle.fits_value.specs.declared.value.Value.TheVariants.{Str}
 use Rattle.fits_rules.proofs.ShapeLemmas.{name_one, name_two, name_three}
 use Rattle.std.proofs.lemmas.Bool.{cases_lt}
 use Rattle.std.proofs.lemmas.List.{drop_all, drop_more, length-append, length-replicate, replicate-append-replicate, take-replicate, take_all}
@@ -114,6 +116,21 @@ pub few_axes : (axes : List ℕ) → are_axes axes ≡ true → length axes < 10
 few_axes axes may = let are = axes_from axes may in omega (arith, are.few)
 
 pub ruleset card_steps = (xtension_settable, bitpix_settable, naxis_settable, pcount_settable, gcount_settable, bscale_settable, bzero_settable, few_axes, axis_settable)
+
+-- lists that are put on one after another
+in_turn : {X : Type 0} (o a b c d e f g : List X) → ((((((o ++ a) ++ b) ++ c) ++ d) ++ e) ++ f) ++ g ≡ o ++ (a ++ (b ++ (c ++ (d ++ (e ++ (f ++ g))))))
+in_turn o a b c d e f g =
+    append_assoc (((((o ++ a) ++ b) ++ c) ++ d) ++ e) f g
+    ∙ (append_assoc ((((o ++ a) ++ b) ++ c) ++ d) e (f ++ g)
+    ∙ (append_assoc (((o ++ a) ++ b) ++ c) d (e ++ (f ++ g))
+    ∙ (append_assoc ((o ++ a) ++ b) c (d ++ (e ++ (f ++ g)))
+    ∙ (append_assoc (o ++ a) b (c ++ (d ++ (e ++ (f ++ g)))) ∙ append_assoc o a (b ++ (c ++ (d ++ (e ++ (f ++ g)))))))))
+
+-- the cards of a new image are
+pub image_pushed : (kind : Kind) (axes : List ℕ) (old type bitpix naxis named pcount gcount all : List (List ℕ)) → type ≡ old ++ written (codes "XTENSION") (Str (codes "IMAGE")) → bitpix ≡ type ++ written_number (codes "BITPIX  ") (pos (8 * width_of kind)) → naxis ≡ bitpix ++ written_number (codes "NAXIS   ") (pos (length axes))
+    → named ≡ naxis ++ axis_cards 1 axes → pcount ≡ named ++ written_number (codes "PCOUNT  ") (pos 0) → gcount ≡ pcount ++ written_number (codes "GCOUNT  ") (pos 1) → all ≡ gcount ++ offset_cards kind → all ≡ old ++ image_cards kind axes
+unfolding image_cards
+image_pushed kind axes old type bitpix naxis named pcount gcount all a b c d e f g = rw (g, f, e, d, c, b, a) (in_turn old _ _ _ _ _ _ _)
 
 -- one axis more is written
 pub axes_more : (old new start : List (List ℕ)) (axes : List ℕ) (k x : ℕ) → k < length axes → x ≡ get_or axes k x → new ≡ old ++ written_number (axis_name (k + 1)) (pos x) → old ++ axis_cards (k + 1) (drop k axes) ≡ start → new ++ axis_cards (k + 1 + 1) (drop (k + 1) axes) ≡ start

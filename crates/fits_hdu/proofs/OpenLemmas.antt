@@ -1,8 +1,8 @@
 -- Steps of `open`.
-use Rattle.std.proofs.Common.{◌≡◌, ℕ, ◌+◌, ◌≤◌, Bool, List, length, take, drop, refl}
+use Rattle.std.proofs.Common.{◌≡◌, ℕ, ◌+◌, ◌≤◌, Bool, List, length, take, drop, refl, ap, ◌∙◌, arith}
 use Rattle.std.specs.Prelude.{Result, Ok, Err, IsErrOf}
-use Rattle.std.proofs.lemmas.List.{drop-drop}
-use Rattle.fits_card.specs.Header.{Header, IsHeaderOf}
+use Rattle.std.proofs.lemmas.List.{drop-drop, length-append, length-drop, length-take-le}
+use Rattle.fits_card.specs.Header.{Header, IsHeaderOf, header_bytes}
 use Rattle.fits_rules.specs.Shape.{shape_of}
 use Rattle.fits_rules.specs.Size.{data_length}
 use Rattle.fits_rules.specs.declared.array_shape.Shape.{Shape}
@@ -10,7 +10,7 @@ use Rattle.fits_rules.specs.declared.mandatory.ShapeFault.{ShapeFault}
 use Rattle.fits_rules.specs.declared.mandatory.ShapeFault.TheVariants as shape_fault
 use Rattle.fits_rules.proofs.LawLemmas.{shape_primary}
 use Rattle.fits_hdu.specs.Fault.{of_shape}
-use Rattle.fits_hdu.specs.Hdu.{IsHduOf, DataFails}
+use Rattle.fits_hdu.specs.Hdu.{IsHduOf, DataFails, hdu_bytes}
 use Rattle.fits_hdu.proofs.HduLemmas.{hdu_there}
 
 -- cards that break no rule describe a shape
@@ -29,5 +29,15 @@ pub hdu_opened : (primary : Bool) (f rest : List ℕ) (cut header : Header) (uni
     → IsHduOf primary f (record { header = header; data_unit = unit }) (drop (m + n) f)
 hdu_opened primary f rest cut header unit shape m n found same described behind size enough taken =
     rw (same, taken, ← drop-drop n m f, behind, size) (hdu_there primary f cut (drop m f) shape found described (rw (size, behind) at enough))
+
+-- so many bytes it has
+pub opened_length : (header cut : Header) (unit rest : List ℕ) (m n : ℕ) → m ≡ length (header_bytes cut) → header ≡ cut → unit ≡ take n rest → n ≤ length rest → m + n ≡ length (hdu_bytes (record { header = header; data_unit = unit }))
+opened_length header cut unit rest m n head same taken enough =
+    let size : length unit ≡ n = ap length taken ∙ length-take-le n rest enough in
+    omega (arith, length-append (header_bytes header) unit, head, ap (λ h. length (header_bytes h)) same, size)
+
+-- which are there
+pub opened_within : (f rest : List ℕ) (m n : ℕ) → m ≤ length f → rest ≡ drop m f → n ≤ length rest → m + n ≤ length f
+opened_within f rest m n few behind enough = omega (arith, few, enough, ap length behind, length-drop m f)
 
 pub ruleset open_steps = (shape_primary)

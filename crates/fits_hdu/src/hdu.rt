@@ -104,7 +104,6 @@ impl Hdu {
     /// has (FITS Standard 4.0, section 3.1).
     ///
     /// The faults are looked for in the order of `HduFault`. The cards that it reads are counted.
-    #[tactic(auto, using(crate::proofs::OpenLemmas::open_steps))]
     pub fn open(alloc: Global, bytes: &[u8], primary: bool) -> Result<(Hdu, usize), HduFault>
         requires { length bytes.now ≤ 2 ^ 34 }
         ensures found { IfOk result (λ cut. IsHduOf primary bytes.now cut.0.hdu

@@ -1,8 +1,9 @@
 //! The cards of a new image, and its header.
-ghost use Rattle.std.specs.Prelude.{◌≡◌, ◌≤◌, ◌<◌, ◌+◌, ◌++◌, true, length, replicate, IsTrue, IfOk, OnOk};
+ghost use Rattle.std.specs.Prelude.{◌≡◌, ◌≤◌, ◌<◌, ◌+◌, ◌++◌, true, length, replicate, codes, IsTrue, IfOk, OnOk};
 ghost use Rattle.fits_card.specs.Header.{header_bytes};
 ghost use Rattle.fits_card.specs.Name.{is_settable};
 ghost use Rattle.fits_rules.specs.Shape.{axis_name};
+ghost use Rattle.fits_value.specs.declared.value.Value.TheVariants.{Str};
 ghost use Rattle.fits_hdu.specs.NewImage.{are_axes, axis_cards, image_cards, new_header, offset_cards, written, written_number};
 
 use crate::kind::Kind;
@@ -56,26 +57,44 @@ fn push_spaces(bytes: &mut Vec<u8>, count: usize) -> Result<(), AllocError>
 }
 
 // The cards of a new image, in their order.
-#[tactic(auto, using(crate::proofs::NewHeaderLemmas::card_steps), unfolding(crate::specs::NewImage::image_cards))]
 fn image_cards(alloc: Global, kind: Kind, axes: &[u64]) -> Result<Vec<Card>, AllocError>
     requires { are_axes axes.now ≡ true }
     ensures { IfOk result (λ cards. cards.items ≡ image_cards kind axes.now) }
 {
     let mut cards = Vec::new(alloc);
-    let image = Value::Str(Text::new(Vec::from_slice(alloc, b"IMAGE")?));
-    push_value(alloc, &mut cards, &Name(*b"XTENSION"), &image)?;
-    push_number(
-        alloc,
-        &mut cards,
-        &Name(*b"BITPIX  "),
-        8 * kind.width() as i128,
-    )?;
-    push_number(alloc, &mut cards, &Name(*b"NAXIS   "), axes.len() as i128)?;
-    push_axes(alloc, &mut cards, axes)?;
-    push_number(alloc, &mut cards, &Name(*b"PCOUNT  "), 0)?;
-    push_number(alloc, &mut cards, &Name(*b"GCOUNT  "), 1)?;
-    push_offset(alloc, &mut cards, kind)?;
+    push_image(alloc, &mut cards, kind, axes)?;
     Ok(cards)
+}
+
+// They are pushed one after another.
+#[tactic(auto, using(crate::proofs::NewHeaderLemmas::card_steps))]
+fn push_image(
+    alloc: Global,
+    cards: &mut Vec<Card>,
+    kind: Kind,
+    axes: &[u64],
+) -> Result<(), AllocError>
+    requires { are_axes axes.now ≡ true }
+    ensures { OnOk result (cards.new.items ≡ cards.old.items ++ image_cards kind axes.now) }
+{
+    push_type(alloc, cards)?;
+    push_number(alloc, cards, &Name(*b"BITPIX  "), 8 * kind.width() as i128)?;
+    push_number(alloc, cards, &Name(*b"NAXIS   "), axes.len() as i128)?;
+    push_axes(alloc, cards, axes)?;
+    push_number(alloc, cards, &Name(*b"PCOUNT  "), 0)?;
+    push_number(alloc, cards, &Name(*b"GCOUNT  "), 1)?;
+    push_offset(alloc, cards, kind)?;
+    Ok(())
+}
+
+// XTENSION of an image.
+#[tactic(auto, using(crate::proofs::NewHeaderLemmas::xtension_settable))]
+fn push_type(alloc: Global, cards: &mut Vec<Card>) -> Result<(), AllocError>
+    ensures { OnOk result (cards.new.items
+        ≡ cards.old.items ++ written (codes "XTENSION") (Str (codes "IMAGE"))) }
+{
+    let image = Value::Str(Text::new(Vec::from_slice(alloc, b"IMAGE")?));
+    push_value(alloc, cards, &Name(*b"XTENSION"), &image)
 }
 
 /// How many cards a new image has. It takes no memory.

@@ -3,7 +3,7 @@ use Rattle.std.proofs.Common.{◌≡◌, ◌⊎◌, ℕ, ◌+◌, ◌<◌, ◌�
 use Rattle.std.specs.Prelude.{IfSome, nat_eq, not, codes}
 use Rattle.std.specs.Str.{bytes_eq}
 use Rattle.std.specs.List.{starts_with}
-use Rattle.std.proofs.lemmas.Bool.{cases_lt}
+use Rattle.std.proofs.lemmas.Bool.{cases_lt, false≢true}
 use Rattle.std.proofs.lemmas.List.{append-nil, length-append, take_all, take-append-le}
 use Rattle.std.proofs.lemmas.List.Concat.{flat_map-append}
 use Rattle.fits_card.specs.Intake.{Finds, Gives, IsSpent, Takes, TakesAfter, Tells}
@@ -214,8 +214,8 @@ settled_before a b left' f g g' (Open (NoEnd h)) before is p q = ends_before a b
 settled_before a b left' f g g' (Open (BadShape h place)) before is p q = ends_before a b left' f g g' p.0.bytes before p.0.taken p.1 q
 settled_before a b left' f g g' (Open (ShortData h)) before is p q = ends_before a b left' f g g' p.0.bytes before p.0.taken p.1 q
 settled_before a b left' f g g' (Open TooLarge) before is p q = ends_before a b left' f g g' p.0.bytes before p.0.taken p.1 q
-settled_before a b left' f g g' (Open Memory) before is p q = cc
-settled_before a b left' f g g' Failed before is p q = cc
+settled_before a b left' f g g' (Open Memory) before is p q = absurd (false≢true is)
+settled_before a b left' f g g' Failed before is p q = absurd (false≢true is)
 
 -- is one of all where no more is left
 pub settled_here : (a b : Option (List ℕ)) (left' f g g' : ℕ) (fault : ReadFileFault) → is_of_bytes fault ≡ true → WalkStops a b FILE_LIMIT left' f g fault → IfSome b (λ ys. length ys ≤ left') → g' ≡ g → ReadStops a f g' fault
@@ -224,16 +224,16 @@ settled_here a b left' f g g' (Open (NoEnd h)) is p few quiet = (finds_given (λ
 settled_here a b left' f g g' (Open (BadShape h place)) is p few quiet = (finds_given (λ s. HasOpenFault s (BadShape h place)) a b FILE_LIMIT left' p.0 few, quiet ∙ p.1)
 settled_here a b left' f g g' (Open (ShortData h)) is p few quiet = (finds_given (λ s. HasOpenFault s (ShortData h)) a b FILE_LIMIT left' p.0 few, quiet ∙ p.1)
 settled_here a b left' f g g' (Open TooLarge) is p few quiet = (finds_given (λ s. HasOpenFault s TooLarge) a b FILE_LIMIT left' p.0 few, quiet ∙ p.1)
-settled_here a b left' f g g' (Open Memory) is p few quiet = cc
-settled_here a b left' f g g' Failed is p few quiet = cc
+settled_here a b left' f g g' (Open Memory) is p few quiet = absurd (false≢true is)
+settled_here a b left' f g g' Failed is p few quiet = absurd (false≢true is)
 
 -- memory was refused, or a call failed
 pub settled_early : (a b : Option (List ℕ)) (left' f g : ℕ) (fault : ReadFileFault) → is_of_bytes fault ≡ false → WalkStops a b FILE_LIMIT left' f g fault → ReadStops a f g fault
-settled_early a b left' f g (Open NotFits) early p = cc
-settled_early a b left' f g (Open (NoEnd h)) early p = cc
-settled_early a b left' f g (Open (BadShape h place)) early p = cc
-settled_early a b left' f g (Open (ShortData h)) early p = cc
-settled_early a b left' f g (Open TooLarge) early p = cc
+settled_early a b left' f g (Open NotFits) early p = absurd (false≢true (sym early))
+settled_early a b left' f g (Open (NoEnd h)) early p = absurd (false≢true (sym early))
+settled_early a b left' f g (Open (BadShape h place)) early p = absurd (false≢true (sym early))
+settled_early a b left' f g (Open (ShortData h)) early p = absurd (false≢true (sym early))
+settled_early a b left' f g (Open TooLarge) early p = absurd (false≢true (sym early))
 settled_early a b left' f g (Open Memory) early p = p
 settled_early a b left' f g Failed early p = p
 

@@ -1,7 +1,7 @@
 use Rattle.std.proofs.Common.{◌≡◌, ◌*◌, ◌++◌, ◌∙◌, length, arith}
 use Rattle.std.proofs.lemmas.Grind.{common_steps}
-use Rattle.fits_card.specs.HeaderSteps.{HasNoEnd, pieces}
-use Rattle.fits_card.proofs.HeaderReadingLemmas.{blocks_more, inner_ended, inner_more, length-more, stops_short}
+use Rattle.fits_card.specs.HeaderSteps.{HasNoEnd, IsEndPlace, pieces}
+use Rattle.fits_card.proofs.HeaderReadingLemmas.{blocks_ended, blocks_more, inner_ended, inner_more, length-more, stops_short}
 use Rattle.fits_card.proofs.header_reading.read_header.Goals as goal
 
 -- the source ended, or the limit came, within a block
@@ -27,3 +27,14 @@ block-preserved g c =
       short = c.in-Ok.ensures.ends;
       quiet = c.in-Ok.ensures.quiet ∙ c.block.invariant.quiet;
     }
+
+-- the cards before END
+pub ended_list-requires-clause-full : goal.ended_list-requires-clause-full
+ended_list-requires-clause-full g c =
+    let place : IsEndPlace c.block.block.items c.in-Some.count = rw c.deref.ensures.value at c.in-Some.ensures.found in
+    omega (arith, length-more c.block.cards.items _ c.block.block.items _ (rw c.deref-in-Some.ensures.value at c.in_ok-push_cards.ensures), c.block.invariant.full, c.block.invariant.within, place.within)
+
+-- the last block is taken
+pub returns-in-Some-clause-ok : goal.returns-in-Some-clause-ok
+returns-in-Some-clause-ok g c =
+    blocks_ended c.block.cards.items _ c.block.block.items _ _ _ _ _ _ c.in_ok-ended_list.field-0.header c.block.invariant.taken (rw c.deref-in-Some.ensures.value at c.in_ok-push_cards.ensures) c.in_ok-ended_list.ensures.cards (rw c.deref-in-Some-2.ensures.value at c.in_ok-ended_list.ensures.ended)
