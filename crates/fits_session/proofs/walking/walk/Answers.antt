@@ -1,6 +1,6 @@
 use Rattle.std.proofs.Common.{◌∙◌, arith}
 use Rattle.std.proofs.lemmas.Grind.{common_steps}
-use Rattle.fits_session.proofs.WalkLemmas.{stops_at_first, stops_by_hdu, stops_full, walked_more}
+use Rattle.fits_session.proofs.WalkLemmas.{next_more, stops_at_first, stops_by_hdu, stops_full, walked_more}
 use Rattle.fits_session.proofs.walking.walk.Goals as goal
 
 pub returns-then-not-begins_file-clause-err : goal.returns-then-not-begins_file-clause-err
@@ -19,3 +19,17 @@ returns-then-len-eq-HDU_LIMIT-clause-err g c = (
       (grind (arith, common_steps)) (grind (arith, common_steps)),
   c.in-Ok-take.ensures.quiet ∙ c.in-Ok-read_next.ensures.quiet ∙ c.hdu.invariant.quiet,
 )
+
+pub returns-then-not-begins_extension-clause-walked : goal.returns-then-not-begins_extension-clause-walked
+returns-then-not-begins_extension-clause-walked g c =
+    walked_more g.K.Kept.keeps c.hdu.kept.items c.push.new.self.items c.in-Ok-read_next.next c.hdu.first.items c.in-Ok-take.first.items _ _ _ _ _ _ _ _ c.is_empty.result c.hdu.invariant.walked c.in-Ok-read_next.ensures.ok (grind (arith, common_steps)) c.in_ok-push-in-Ok-read_next.ensures.items c.in-Ok-take.ensures.ok
+
+pub hdu-preserved : goal.hdu-preserved
+hdu-preserved g c = record {
+  walked = walked_more g.K.Kept.keeps c.hdu.kept.items c.push.new.self.items c.in-Ok-read_next.next c.hdu.first.items c.in-Ok-take.first.items _ _ _ _ _ _ _ _ c.is_empty.result c.hdu.invariant.walked c.in-Ok-read_next.ensures.ok (grind (arith, common_steps)) c.in_ok-push-in-Ok-read_next.ensures.items c.in-Ok-take.ensures.ok;
+  begins = next_more c.hdu.kept.items c.push.new.self.items c.in-Ok-read_next.next c.in-Ok-take.first.items c.in_ok-push-in-Ok-read_next.ensures.items (grind (arith, common_steps));
+  few = grind (arith, common_steps);
+  within = c.in-Ok-take.ensures.within;
+  short = c.in-Ok-take.ensures.ends;
+  quiet = c.in-Ok-take.ensures.quiet ∙ c.in-Ok-read_next.ensures.quiet ∙ c.hdu.invariant.quiet;
+}
