@@ -5,7 +5,7 @@ use Rattle.fits_hdu.specs.Hdu.{HduParts}
 use Rattle.fits_hdu.specs.Stamp.{with_keyword}
 use Rattle.fits_hdu.specs.Work.{keyword_reads}
 use Rattle.fits_hdu.proofs.StampTextLemmas.{plain_card}
-use Rattle.fits_hdu.proofs.StampingLemmas.{checksum_reads, datasum_one, datasum_reads, stamp_bytes, stamp_most, stamped_by, text_one}
+use Rattle.fits_hdu.proofs.StampingLemmas.{checksum_reads, datasum_one, datasum_reads, stamp_bytes, stamp_most, stamped_by, text_one, zeros_one}
 use Rattle.fits_hdu.proofs.hdu.Hdu.stamp.Goals as goal
 
 pub set_card-requires-2-clause-one : goal.set_card-requires-2-clause-one
@@ -53,3 +53,24 @@ returns-clause-work c =
     (ap (λ (hdu : HduParts). keyword_reads hdu.header.cards (codes "CHECKSUM")) c.reserve.ensures.hdu)
     (datasum_reads old.hdu a.hdu c.new.result zeros first)
     (checksum_reads old.hdu a.hdu b.hdu c.new.result c.new-2.result zeros first sum c.set_card-2.ensures.hdu)
+
+pub set_card-requires-clause-one : goal.set_card-requires-clause-one
+set_card-requires-clause-one c = zeros_one c.new.result (c.new.ensures ∙ (c.in_ok-zeros.ensures ∙ ap (λ (card : List ℕ). card ∷ []) c.sum_card.ensures))
+
+pub set_card-requires-clause-room : goal.set_card-requires-clause-room
+set_card-requires-clause-room c = omega (arith, c.in_ok-reserve.ensures.ok)
+
+pub set_card-requires-2-clause-room : goal.set_card-requires-2-clause-room
+set_card-requires-2-clause-room c = omega (arith, c.in_ok-reserve.ensures.ok, c.set_card.ensures.room)
+
+pub returns-clause-shape : goal.returns-clause-shape
+returns-clause-shape c = c.set_card-3.ensures.shape ∙ (c.set_card-2.ensures.shape ∙ (c.set_card.ensures.shape ∙ c.reserve.ensures.shape))
+
+pub returns-clause-pixel_work : goal.returns-clause-pixel_work
+returns-clause-pixel_work c = c.set_card-3.ensures.pixel_work ∙ (c.set_card-2.ensures.pixel_work ∙ (c.set_card.ensures.pixel_work ∙ c.reserve.ensures.pixel_work))
+
+pub returns-clause-least : goal.returns-clause-least
+returns-clause-least c = omega (arith, c.set_card.ensures.least, c.set_card-2.ensures.least, c.set_card-3.ensures.least, c.reserve.ensures.work)
+
+pub returns-clause-described : goal.returns-clause-described
+returns-clause-described c = c.card_count-described.ensures.described

@@ -1,5 +1,5 @@
-use Rattle.std.proofs.Common.{◌+◌, ap, ◌∙◌}
-use Rattle.fits_session.proofs.OffsetLemmas.{offsets_more, start_more}
+use Rattle.std.proofs.Common.{◌+◌, ap, ◌∙◌, arith}
+use Rattle.fits_session.proofs.OffsetLemmas.{ends_within, offsets_all, offsets_more, start_more}
 use Rattle.fits_session.proofs.session.queries.offsets_of.Goals as goal
 
 pub loop-hdu-preserved : goal.loop-hdu-preserved
@@ -8,3 +8,18 @@ loop-hdu-preserved c = record {
       ∙ offsets_more c.args.hdus.now c.loop-hdu.hdu-index c.loop-hdu.start (c.loop-hdu.start + c.header_len.result) (c.loop-hdu.start + c.header_len.result + c.data_len.result) c.hdu-item.result c.loop-hdu.offsets.items c.loop-hdu-test.true c.hdu-item.is c.loop-hdu.invariant.offsets c.loop-hdu.invariant.start (ap (λ n. c.loop-hdu.start + n) c.header_len.ensures) (ap (λ n. c.loop-hdu.start + c.header_len.result + n) c.data_len.ensures);
   start = start_more c.args.hdus.now c.loop-hdu.hdu-index c.loop-hdu.start (c.loop-hdu.start + c.header_len.result) (c.loop-hdu.start + c.header_len.result + c.data_len.result) c.hdu-item.result c.loop-hdu-test.true c.hdu-item.is c.loop-hdu.invariant.start (ap (λ n. c.loop-hdu.start + n) c.header_len.ensures) (ap (λ n. c.loop-hdu.start + c.header_len.result + n) c.data_len.ensures);
 }
+
+pub overflow_add-data_start : goal.overflow_add-data_start
+overflow_add-data_start c =
+    omega (arith, c.requires, c.header_len.ensures, ends_within c.args.hdus.now c.loop-hdu.hdu-index c.loop-hdu.start c.hdu-item.result c.loop-hdu-test.true c.hdu-item.is c.loop-hdu.invariant.start)
+
+pub overflow_add-hdu_end : goal.overflow_add-hdu_end
+overflow_add-hdu_end c =
+    omega (arith, c.requires, c.header_len.ensures, c.data_len.ensures, ends_within c.args.hdus.now c.loop-hdu.hdu-index c.loop-hdu.start c.hdu-item.result c.loop-hdu-test.true c.hdu-item.is c.loop-hdu.invariant.start)
+
+pub header_len-requires : goal.header_len-requires
+header_len-requires c =
+    omega (arith, c.requires, ends_within c.args.hdus.now c.loop-hdu.hdu-index c.loop-hdu.start c.hdu-item.result c.loop-hdu-test.true c.hdu-item.is c.loop-hdu.invariant.start)
+
+pub returns : goal.returns
+returns c = offsets_all c.args.hdus.now c.loop-hdu.hdu-index c.loop-hdu.offsets.items c.loop-hdu-test.false c.loop-hdu.invariant.offsets
