@@ -19,3 +19,8 @@ returns-in-Err-end-clause-err g c =
     ends_before _ _ _ _ _ _ _ c.in-Err-end.fault
     (session_taken c.in-Ok.walked.0.items c.in-Ok.walked.1.items c.in-Ok-read_tail.tail.items _ _ _ _ _ _ walked c.in-Ok-read_tail.ensures.ok)
     (c.in-Ok-read_tail.ensures.quiet ∙ c.in-Ok.ensures.quiet) c.in-Err-end.ensures.err
+
+pub returns-in-Ok-end-clause-whole : goal.returns-in-Ok-end-clause-whole
+returns-in-Ok-end-clause-whole g c =
+    let walked = rw c.in_ok-intake.ensures at c.in-Ok.ensures.walked in
+    session_whole c.in-Ok.walked.0.items c.in-Ok.walked.1.items c.in-Ok-read_tail.tail.items _ _ _ _ _ walked c.in-Ok-read_tail.ensures.ok c.in-Ok.ensures.some c.in-Ok.ensures.few c.in-Ok-read_tail.ensures.ends
