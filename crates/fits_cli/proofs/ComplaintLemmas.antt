@@ -63,3 +63,11 @@ complaint_end a b c d e f n why word number colon reason failed =
     let rest : List ℕ = why ++ codes "\n" in
     PrintsFront-more a b f (codes "line ") (decimal n ++ (codes ": " ++ rest)) word
     (PrintsFront-more b c f (decimal n) (codes ": " ++ rest) number (PrintsFront-more c d f (codes ": ") rest colon (PrintsFront-more d e f why (codes "\n") reason failed)))
+
+-- all of it is
+pub complaint_whole : (a b c d e f : SinkState) (n : ℕ) (why : List ℕ) → Prints (codes "line ") a b → Prints (decimal n) b c → Prints (codes ": ") c d → Prints why d e
+    → Prints (codes "\n") e f → Prints (complaint n why) a f
+complaint_whole a b c d e f n why word number colon reason last =
+    let rest : List ℕ = why ++ codes "\n" in
+    Prints-more a b f (codes "line ") (decimal n ++ (codes ": " ++ rest)) word
+    (Prints-more b c f (decimal n) (codes ": " ++ rest) number (Prints-more c d f (codes ": ") rest colon (Prints-more d e f why (codes "\n") reason last)))

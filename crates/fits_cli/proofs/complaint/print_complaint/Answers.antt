@@ -1,4 +1,4 @@
-use Rattle.fits_cli.proofs.ComplaintLemmas.{complaint_word, complaint_number, complaint_colon, complaint_why, complaint_end}
+use Rattle.fits_cli.proofs.ComplaintLemmas.{complaint_word, complaint_number, complaint_colon, complaint_why, complaint_end, complaint_whole}
 use Rattle.fits_cli.proofs.ExitLemmas.{print_exit}
 use Rattle.fits_cli.proofs.complaint.print_complaint.Goals as goal
 
@@ -26,3 +26,6 @@ pub returns-in_err-print-4-clause-err : goal.returns-in_err-print-4-clause-err
 returns-in_err-print-4-clause-err g c =
     let failed = c.in_err-print-4.ensures.err in
     print_exit _ _ _ _ _ c.from_residual-in_err-print-4.ensures.1 failed.0 (complaint_end _ _ _ _ _ _ c.args.line c.args.why.now c.in_ok-print.ensures.ok c.in_ok-print_number.ensures.ok c.in_ok-print-2.ensures.ok (rw c.as_bytes.ensures.value at c.in_ok-print-3.ensures.ok) failed.1)
+
+pub returns-clause-ok : goal.returns-clause-ok
+returns-clause-ok g c = complaint_whole _ _ _ _ _ _ c.args.line c.args.why.now c.in_ok-print.ensures.ok c.in_ok-print_number.ensures.ok c.in_ok-print-2.ensures.ok (rw c.as_bytes.ensures.value at c.in_ok-print-3.ensures.ok) c.in_ok-print-4.ensures.ok
