@@ -27,4 +27,4 @@ pub returns-clause-described : goal.returns-clause-described
 returns-clause-described c = rw c.in_ok-hdu.ensures.shape c.in_ok-shape.ensures.ok
 
 pub of-requires-clause-described : goal.of-requires-clause-described
-of-requires-clause-described c = rw (shape_primary c.args.primary _ c.in_ok-shape.shape c.in_ok-shape.ensures.ok) c.in_ok-shape.ensures.ok
+of-requires-clause-described c = rw (c.shape.ensures.work.header, shape_primary c.args.primary _ c.in_ok-shape.shape c.in_ok-shape.ensures.ok) c.in_ok-shape.ensures.ok
