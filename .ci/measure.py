@@ -5,16 +5,18 @@ Processor minutes (user and system) of each check, added up by crate: its proof,
 They are read from /proc five times a second, so that of each check a fifth of a second at most is missing. Nothing else
 should run meanwhile.
 
-Machines count differently for the same work, and one counts more the more it has to do. So the same work is timed
-before and after: fits_card as it was at ANCHOR is proved as many times at once as the gate has checks at once. On the
-machine on which the budget was set that took SECONDS each."""
+Machines count differently for the same work, and one machine counts more when it, or another on the same hardware, has
+more to do. So the same work is timed all the while beside the gate: fits_card as it was at ANCHOR is proved over and
+over. On the machine on which the budget was set that took SECONDS."""
 import collections
 import glob
 import os
-import resource
+import shutil
+import signal
 import subprocess
 import sys
 import tempfile
+import threading
 import time
 
 TOP = os.path.dirname(os.path.dirname(os.path.abspath(__file__)))
@@ -32,13 +34,13 @@ def check_of(words):
     return crate, "tests" if "--test" in words else "edits" if "--incremental" in words else "proof"
 
 
-def look(seconds):
-    """Notes how long each running check has taken so far, by its process."""
+def look(seconds, aside):
+    """Notes how long each running check has taken so far, by its process, but for those in the folder aside."""
     for folder in glob.glob("/proc/[0-9]*"):
         try:
             with open(f"{folder}/cmdline", encoding="utf-8", errors="replace") as it:
                 check = check_of(it.read().split("\0"))
-            if check:
+            if check and not os.readlink(f"{folder}/cwd").startswith(aside):
                 with open(f"{folder}/stat", encoding="utf-8", errors="replace") as it:
                     fields = it.read().rpartition(")")[2].split()
                 # a process is known by its number and its beginning
@@ -47,20 +49,35 @@ def look(seconds):
             pass
 
 
-def anchored(checks):
-    """How many seconds this machine counts for the proof of ANCHOR, where so many are made at once."""
-    with tempfile.TemporaryDirectory() as room:
-        rooms = [f"{room}/{it}" for it in range(checks)]
-        for it in rooms:
-            subprocess.run(["git", "clone", "-q", TOP, it], check=True)
-            subprocess.run(["git", "checkout", "-q", ANCHOR], cwd=it, check=True)
-        before = resource.getrusage(resource.RUSAGE_CHILDREN)
-        words = ["rt", "check", "--jobs", "1"]
-        runs = [subprocess.Popen(words, cwd=f"{it}/crates/fits_card", stdout=sys.stderr) for it in rooms]
-        if any([it.wait() for it in runs]):
+class Anchor(threading.Thread):
+    """Proves fits_card of ANCHOR over and over, and keeps how many seconds of processor each proof took."""
+
+    def __init__(self, room):
+        super().__init__(daemon=True)
+        self.room, self.taken, self.running, self.is_ended = room, [], None, False
+        subprocess.run(["git", "clone", "-q", TOP, room], check=True)
+        subprocess.run(["git", "checkout", "-q", ANCHOR], cwd=room, check=True)
+
+    def run(self):
+        crate = f"{self.room}/crates/fits_card"
+        while not self.is_ended:
+            shutil.rmtree(f"{crate}/out", ignore_errors=True)
+            words = ["rt", "check", "--jobs", "1"]
+            quiet = {"stdout": subprocess.DEVNULL, "stderr": subprocess.DEVNULL}
+            self.running = subprocess.Popen(words, cwd=crate, start_new_session=True, **quiet)
+            _, status, usage = os.wait4(self.running.pid, 0)
+            if status:
+                return
+            self.taken.append(usage.ru_utime + usage.ru_stime)
+
+    def end(self):
+        """Ends it, with the proof that is under way, and answers how many seconds those before it took."""
+        if not self.is_alive():
             sys.exit(f"fits_card of {ANCHOR} isn't proved")
-        after = resource.getrusage(resource.RUSAGE_CHILDREN)
-    return (after.ru_utime + after.ru_stime - before.ru_utime - before.ru_stime) / checks
+        self.is_ended = True
+        os.killpg(self.running.pid, signal.SIGKILL)
+        self.join()
+        return self.taken
 
 
 def lines(crate, part, ending):
@@ -70,17 +87,18 @@ def lines(crate, part, ending):
 
 
 def main():
-    checks = int(os.environ.setdefault("RT_JOBS", "3"))
-    anchors = [anchored(checks)]
+    checks = int(os.environ.setdefault("RT_JOBS", "2"))
     seconds, began = {}, time.time()
     with tempfile.TemporaryDirectory() as room:
+        anchor = Anchor(f"{room}/anchor")
+        anchor.start()
         subprocess.run(["git", "clone", "-q", TOP, f"{room}/fitsed"], check=True)
         with subprocess.Popen(["make", "test"], cwd=f"{room}/fitsed", stdout=sys.stderr) as gate:
             while gate.poll() is None:
-                look(seconds)
+                look(seconds, anchor.room)
                 time.sleep(0.2)
-    took = (time.time() - began) / 60
-    anchors.append(anchored(checks))
+        took = (time.time() - began) / 60
+        taken = anchor.end()
     minutes = collections.Counter()
     for check, taken in seconds.values():
         minutes[check] += taken / 60
@@ -94,9 +112,9 @@ def main():
         print(f"| {crate} | {' | '.join(map(str, sizes))} | {' | '.join(f'{it:.1f}' for it in rows[-1][4:])} |")
     sums = [sum(it) for it in zip(*rows)]
     print(f"| all | {' | '.join(map(str, sums[:4]))} | {' | '.join(f'{it:.1f}' for it in sums[4:])} |")
-    whole, unit = sum(sums[4:]), sum(anchors) / len(anchors) / SECONDS
+    whole, unit = sum(sums[4:]), sum(taken) / len(taken) / SECONDS
     print(f"{whole:.0f} processor minutes in {took:.0f} minutes with {checks} checks at once, status {gate.returncode}")
-    print(f"the anchor took {' and '.join(f'{it:.0f}' for it in anchors)} s: {whole / unit:.0f} of the budget's minutes")
+    print(f"the anchor took {min(taken):.0f} to {max(taken):.0f} s in {len(taken)} proofs: {whole / unit:.0f} of the budget's minutes")
     return gate.returncode
 
 
