@@ -1,5 +1,6 @@
-use Rattle.std.proofs.Common.{◌∙◌, arith}
+use Rattle.std.proofs.Common.{◌∙◌, ap, arith, length}
 use Rattle.std.proofs.lemmas.Grind.{common_steps}
+use Rattle.std.proofs.lemmas.List.{length-append}
 use Rattle.fits_rules.proofs.LawLemmas.{shape_primary}
 use Rattle.fits_hdu.proofs.ReadingLemmas.{hdu_passed, stops_passed}
 use Rattle.fits_hdu.proofs.described.read_past.Goals as goal
@@ -16,3 +17,13 @@ returns-clause-ok g c =
     let head = c.in_ok-head.ensures in
     hdu_passed _ _ _ _ _ _ _ _ c.in-Ok.data_len c.in_ok-head.head.unit_len c.in_ok-head.head.cards.header c.in_ok-head.head.shape head.taken head.whole head.described
     c.in-Ok.ensures.ok c.in-Ok.ensures.count (grind (arith, common_steps)) head.len (shape_primary _ _ _ head.described)
+
+pub returns-clause-described : goal.returns-clause-described
+returns-clause-described g c =
+    let head = c.in_ok-head.ensures in
+    rw (shape_primary _ _ c.in_ok-head.head.shape head.described) head.described
+
+pub returns-clause-small : goal.returns-clause-small
+returns-clause-small g c =
+    let taken = c.in_ok-head.ensures.taken in
+    omega (arith, ap length taken.joined, length-append c.args.first.items taken.more, taken.taken.count, c.requires.room)
