@@ -1,0 +1,13 @@
+use Rattle.std.proofs.Common.{arith}
+use Rattle.std.proofs.lemmas.Grind.{common_steps}
+use Rattle.fits_card.proofs.IntakeLemmas.{skips_more}
+use Rattle.fits_card.proofs.skipping.skip_by_reading.Goals as goal
+
+pub loop-count-preserved : goal.loop-count-preserved
+loop-count-preserved g c = record {
+  wide = grind (arith, common_steps);
+  size = grind (arith, common_steps);
+  within = grind (arith, common_steps);
+  taken = skips_more _ _ _ c.loop-count.count c.in_ok-n.n c.read.new.buffer c.loop-count.invariant.taken c.in_ok-n.ensures.bytes.0 c.in_ok-n.ensures.bound.0;
+  quiet = grind (arith, common_steps);
+}
