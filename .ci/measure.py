@@ -98,7 +98,7 @@ def main():
                 look(seconds, anchor.room)
                 time.sleep(0.2)
         took = (time.time() - began) / 60
-        taken = anchor.end()
+        anchors = anchor.end()
     minutes = collections.Counter()
     for check, taken in seconds.values():
         minutes[check] += taken / 60
@@ -112,9 +112,9 @@ def main():
         print(f"| {crate} | {' | '.join(map(str, sizes))} | {' | '.join(f'{it:.1f}' for it in rows[-1][4:])} |")
     sums = [sum(it) for it in zip(*rows)]
     print(f"| all | {' | '.join(map(str, sums[:4]))} | {' | '.join(f'{it:.1f}' for it in sums[4:])} |")
-    whole, unit = sum(sums[4:]), sum(taken) / len(taken) / SECONDS
+    whole, unit = sum(sums[4:]), sum(anchors) / len(anchors) / SECONDS
     print(f"{whole:.0f} processor minutes in {took:.0f} minutes with {checks} checks at once, status {gate.returncode}")
-    print(f"the anchor took {min(taken):.0f} to {max(taken):.0f} s in {len(taken)} proofs: {whole / unit:.0f} of the budget's minutes")
+    print(f"the anchor took {min(anchors):.0f} to {max(anchors):.0f} s in {len(anchors)} proofs: {whole / unit:.0f} of the budget's minutes")
     return gate.returncode
 
 
