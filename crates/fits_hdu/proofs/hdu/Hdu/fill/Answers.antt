@@ -1,4 +1,4 @@
-use Rattle.std.proofs.Common.{◌≡◌, ◌∙◌, ap, sym, subst, rules, None, Some, true, false, w64, ℤ, ◌-ℤ◌}
+use Rattle.std.proofs.Common.{◌≡◌, ◌∙◌, ap, sym, subst, rules, length, None, Some, true, false, w64, ℤ, ◌-ℤ◌}
 use Rattle.std.specs.Prelude.{Err, Ok}
 use Rattle.std.proofs.lemmas.Int.{to_z-of_z}
 use Rattle.fits_plane.specs.Layout.{block_count}
@@ -12,7 +12,7 @@ use Rattle.fits_hdu.specs.Pixels.{filled}
 use Rattle.fits_hdu.specs.State.{HduState}
 use Rattle.fits_hdu.specs.Work.{IsPatched}
 use Rattle.fits_hdu.specs.declared.pixel_fault.PixelFault.TheVariants.{NotImage, BadRectangle, OutOfRange}
-use Rattle.fits_hdu.proofs.PixelLemmas.{filled-not_image, filled-bad, filled-out, filled-done, kind_width, patched, plane_pixels, plane_width, stored_fits}
+use Rattle.fits_hdu.proofs.PixelLemmas.{filled-not_image, filled-bad, filled-out, filled-done, kind_width, length-rectangle_written, patched, plane_pixels, plane_width, stored_fits}
 use Rattle.fits_hdu.proofs.hdu.Hdu.fill.Goals as goal
 
 pub returns-in_default-clause-err : goal.returns-in_default-clause-err
@@ -87,3 +87,17 @@ fill_rect-requires-clause-all c =
     let some : t.kind ≡ Some c.in-Some.kind = search rules in
     let axes : c.as_slice-axes.result.now ≡ t.header.shape.axes = search rules in
     ap product axes ∙ plane_pixels t.plane.layout t.header.shape t.header.header.cards c.in-Some.kind t.kind c.self.invariant.layout c.self.invariant.kind some
+
+-- the bytes of pixels alone change, and they stay as many
+pub invariant_of-self : goal.invariant_of-self
+invariant_of-self c =
+    let kept = c.self.invariant in
+    record {
+      described = kept.described;
+      size = ap length c.fill_rect.ensures.bytes ∙ (length-rectangle_written _ _ _ _ _ _ ∙ kept.size);
+      layout = c.fill_rect.ensures.layout ∙ kept.layout;
+      codes = kept.codes;
+      kind = kept.kind;
+      sums = kept.sums;
+      name = kept.name;
+    }

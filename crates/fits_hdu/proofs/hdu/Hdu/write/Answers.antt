@@ -7,7 +7,7 @@ use Rattle.fits_hdu.specs.Kind.{offset_of, width_of}
 use Rattle.fits_hdu.specs.Pixels.{written}
 use Rattle.fits_hdu.specs.State.{HduState}
 use Rattle.fits_hdu.specs.declared.pixel_fault.PixelFault.TheVariants.{NotImage, BadRectangle, WrongCount, OutOfRange}
-use Rattle.fits_hdu.proofs.PixelLemmas.{few_places, offset_fits, plane_pixels, plane_width, written-not_image, written-bad, written-count, written-out, written-done}
+use Rattle.fits_hdu.proofs.PixelLemmas.{few_places, length-rectangle_written, offset_fits, plane_pixels, plane_width, written-not_image, written-bad, written-count, written-out, written-done}
 use Rattle.fits_hdu.proofs.hdu.Hdu.write.Goals as goal
 
 pub returns-in_default-clause-err : goal.returns-in_default-clause-err
@@ -98,3 +98,17 @@ write_rect-requires-clause-all c =
     let some : t.kind ≡ Some c.in-Some.kind = search rules in
     let axes : c.as_slice-axes.result.now ≡ t.header.shape.axes = search rules in
     ap product axes ∙ plane_pixels t.plane.layout t.header.shape t.header.header.cards c.in-Some.kind t.kind c.self.invariant.layout c.self.invariant.kind some
+
+-- the bytes of pixels alone change, and they stay as many
+pub invariant_of-self : goal.invariant_of-self
+invariant_of-self c =
+    let kept = c.self.invariant in
+    record {
+      described = kept.described;
+      size = ap length c.write_rect.ensures.bytes ∙ (length-rectangle_written _ _ _ _ _ _ ∙ kept.size);
+      layout = c.write_rect.ensures.layout ∙ kept.layout;
+      codes = kept.codes;
+      kind = kept.kind;
+      sums = kept.sums;
+      name = kept.name;
+    }
