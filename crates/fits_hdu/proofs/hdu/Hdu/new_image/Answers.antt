@@ -1,4 +1,7 @@
-use Rattle.std.proofs.Common.{◌∙◌, List, ℕ, ap}
+use Rattle.std.proofs.Common.{◌∙◌, List, ℕ, ap, arith, length, sym}
+use Rattle.std.proofs.lemmas.List.{length-replicate}
+use Rattle.fits_card.specs.Header.{Header}
+use Rattle.fits_rules.specs.Size.{data_length}
 use Rattle.fits_hdu.specs.NewImage.{image_cards, new_header}
 use Rattle.fits_hdu.proofs.NewHeaderLemmas.{new_described, new_made}
 use Rattle.fits_hdu.proofs.hdu.Hdu.new_image.Goals as goal
@@ -23,3 +26,27 @@ joined-requires-clause-described c =
     let axes = ap (λ (xs : List ℕ). new_header (image_cards c.args.kind xs)) c.as_slice.ensures in
     rw (c.zero_plane.ensures.work.header, c.zero_plane.ensures.work.shape, c.in_ok-header.ensures.header, c.in_ok-header.ensures.shape)
     (new_described c.args.kind c.args.shape c.in_ok-cards.cards.header c.requires.shape c.requires.axes (c.in_ok-cards.ensures.header ∙ axes))
+
+pub joined-requires-clause-size : goal.joined-requires-clause-size
+joined-requires-clause-size c =
+    ap length c.in_ok-plane.ensures.bytes ∙ (length-replicate {A = ℕ} c.in-Ok.len 0 ∙ (c.in-Ok.ensures.ok ∙ ap data_length (sym (c.zero_plane.ensures.work.shape ∙ c.in_ok-header.ensures.shape))))
+
+pub joined-requires-clause-layout : goal.joined-requires-clause-layout
+joined-requires-clause-layout c = rw (c.zero_plane.ensures.work.header, c.zero_plane.ensures.work.shape) c.in_ok-plane.ensures.layout
+
+pub zero_plane-requires-clause-size : goal.zero_plane-requires-clause-size
+zero_plane-requires-clause-size c = c.in-Ok.ensures.ok ∙ ap data_length (sym c.in_ok-header.ensures.shape)
+
+pub zero_plane-requires-clause-small : goal.zero_plane-requires-clause-small
+zero_plane-requires-clause-small c = omega (arith, c.in-Ok.ensures.within)
+
+pub image_header-requires : goal.image_header-requires
+image_header-requires c = record { axes = rw c.as_slice.ensures c.requires.axes }
+
+pub returns-clause-work : goal.returns-clause-work
+returns-clause-work c =
+    let same = c.joined.ensures.header ∙ (c.zero_plane.ensures.work.header ∙ c.in_ok-header.ensures.header) in
+    omega (arith, ap (λ (header : Header). length header.cards) same, c.joined.ensures.work, c.zero_plane.ensures.work.most, c.in_ok-header.ensures.work, c.in_ok-cards.ensures.unread)
+
+pub returns-clause-scans : goal.returns-clause-scans
+returns-clause-scans c = rw (c.joined.ensures.scans, c.joined.ensures.unit, c.in_ok-plane.ensures.bytes) c.in_ok-plane.ensures.scans
