@@ -1,4 +1,5 @@
-use Rattle.std.proofs.Common.{ap, ◌∙◌, arith, codes, decimal, set, List, ℕ, Some, [], ◌∷◌}
+use Rattle.std.proofs.Common.{ap, refl, inl, inr, length, ◌∙◌, arith, codes, decimal, set, List, ℕ, Some, [], ◌∷◌}
+use Rattle.std.proofs.lemmas.Result.{err_from_is_err_and}
 use Rattle.fits_rules.specs.Class.{is_primary}
 use Rattle.fits_sum.specs.ChecksumText.{checksum_text}
 use Rattle.fits_hdu.specs.Hdu.{HduParts}
@@ -74,3 +75,82 @@ returns-clause-least c = omega (arith, c.set_card.ensures.least, c.set_card-2.en
 
 pub returns-clause-described : goal.returns-clause-described
 returns-clause-described c = c.card_count-described.ensures.described
+
+pub set_card-requires-clause-keyword : goal.set_card-requires-clause-keyword
+set_card-requires-clause-keyword c = inr refl
+
+pub set_card-requires-2-clause-keyword : goal.set_card-requires-2-clause-keyword
+set_card-requires-2-clause-keyword c = inl refl
+
+pub set_card-requires-3-clause-keyword : goal.set_card-requires-3-clause-keyword
+set_card-requires-3-clause-keyword c = inr refl
+
+pub sum_card-requires-2 : goal.sum_card-requires-2
+sum_card-requires-2 c = omega (arith, ap length c.deref.ensures.value, c.in_ok-digits.ensures.within)
+
+-- memory was refused, and nothing was changed
+pub returns-in_err-zeros : goal.returns-in_err-zeros
+returns-in_err-zeros c =
+    let failed = err_from_is_err_and c.from_residual.result c.from_residual.ensures.1 in
+    record {
+      ok = rw failed.1 tt;
+      err = rw failed.1 refl;
+      shape = refl;
+      pixel_work = refl;
+      least = omega arith;
+      work = omega arith;
+      described = c.card_count-described.ensures.described;
+    }
+
+pub returns-in_err-digits : goal.returns-in_err-digits
+returns-in_err-digits c =
+    let failed = err_from_is_err_and c.from_residual-in_err-digits.result c.from_residual-in_err-digits.ensures.1 in
+    record {
+      ok = rw failed.1 tt;
+      err = rw failed.1 refl;
+      shape = refl;
+      pixel_work = refl;
+      least = omega arith;
+      work = omega arith;
+      described = c.card_count-described.ensures.described;
+    }
+
+pub returns-in_err-datasum : goal.returns-in_err-datasum
+returns-in_err-datasum c =
+    let failed = err_from_is_err_and c.from_residual-in_err-datasum.result c.from_residual-in_err-datasum.ensures.1 in
+    record {
+      ok = rw failed.1 tt;
+      err = rw failed.1 refl;
+      shape = refl;
+      pixel_work = refl;
+      least = omega arith;
+      work = omega arith;
+      described = c.card_count-described.ensures.described;
+    }
+
+pub returns-in_err-checksum : goal.returns-in_err-checksum
+returns-in_err-checksum c =
+    let failed = err_from_is_err_and c.from_residual-in_err-checksum.result c.from_residual-in_err-checksum.ensures.1 in
+    record {
+      ok = rw failed.1 tt;
+      err = rw failed.1 refl;
+      shape = refl;
+      pixel_work = refl;
+      least = omega arith;
+      work = omega arith;
+      described = c.card_count-described.ensures.described;
+    }
+
+-- no room was reserved, and nothing else was changed
+pub returns-in_err-reserve : goal.returns-in_err-reserve
+returns-in_err-reserve c =
+    let failed = err_from_is_err_and c.from_residual-in_err-reserve.result c.from_residual-in_err-reserve.ensures.1 in
+    record {
+      ok = rw failed.1 tt;
+      err = rw failed.1 c.reserve.ensures.hdu;
+      shape = c.reserve.ensures.shape;
+      pixel_work = c.reserve.ensures.pixel_work;
+      least = omega (arith, c.reserve.ensures.work);
+      work = omega (arith, c.reserve.ensures.work);
+      described = c.card_count-described.ensures.described;
+    }
