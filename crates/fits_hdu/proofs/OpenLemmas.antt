@@ -10,7 +10,9 @@ use Rattle.fits_rules.specs.declared.mandatory.ShapeFault.{ShapeFault}
 use Rattle.fits_rules.specs.declared.mandatory.ShapeFault.TheVariants as shape_fault
 use Rattle.fits_rules.proofs.LawLemmas.{shape_primary}
 use Rattle.fits_hdu.specs.Fault.{of_shape}
-use Rattle.fits_hdu.specs.Hdu.{IsHduOf, DataFails, hdu_bytes}
+use Rattle.fits_hdu.specs.declared.fault.HduFault.{HduFault}
+use Rattle.fits_hdu.specs.declared.fault.HduFault.TheVariants.{NoEnd, BadShape, ShortData, Memory}
+use Rattle.fits_hdu.specs.Hdu.{IsHduOf, DataFails, HduFails, hdu_bytes}
 use Rattle.fits_hdu.proofs.HduLemmas.{hdu_there}
 
 -- cards that break no rule describe a shape
@@ -39,5 +41,12 @@ opened_length header cut unit rest m n head same taken enough =
 -- which are there
 pub opened_within : (f rest : List ℕ) (m n : ℕ) → m ≤ length f → rest ≡ drop m f → n ≤ length rest → m + n ≤ length f
 opened_within f rest m n few behind enough = omega (arith, few, enough, ap length behind, length-drop m f)
+
+-- a header, and why it and the bytes after it make no HDU
+pub fails_after : (primary : Bool) (f rest : List ℕ) (cut : Header) (m : ℕ) (fault : HduFault) → IsHeaderOf f cut (drop m f) → rest ≡ drop m f → DataFails primary cut.cards rest fault → HduFails primary f fault
+fails_after primary f rest cut m NoEnd found behind p = absurd p
+fails_after primary f rest cut m (BadShape place) found behind p = record { header = cut; rest = drop m f; cut = found; broken = p }
+fails_after primary f rest cut m ShortData found behind p = record { header = cut; rest = drop m f; shape = p.0; cut = found; described = p.1; short = rw behind at p.2 }
+fails_after primary f rest cut m Memory found behind p = tt
 
 pub ruleset open_steps = (shape_primary)

@@ -1,6 +1,10 @@
-use Rattle.std.proofs.Common.{◌∙◌, arith}
+use Rattle.std.proofs.Common.{◌+◌, ◌∙◌, ap, arith, length}
+use Rattle.std.specs.Prelude.{Err}
 use Rattle.std.proofs.lemmas.Grind.{common_steps}
-use Rattle.fits_hdu.proofs.ReadingLemmas.{hdu_taken, hdu_whole, stops_near}
+use Rattle.std.proofs.lemmas.Result.{err_from_is_err_and}
+use Rattle.fits_card.specs.Header.{Header}
+use Rattle.fits_rules.proofs.LawLemmas.{shape_primary}
+use Rattle.fits_hdu.proofs.ReadingLemmas.{hdu_taken, hdu_whole, stops_by_unit, stops_near}
 use Rattle.fits_hdu.proofs.hdu.Hdu.read.Goals as goal
 
 -- the source ended within the data unit
@@ -17,3 +21,31 @@ returns-in-Ok-of-clause-taken g c =
 pub returns-in-Ok-of-clause-whole : goal.returns-in-Ok-of-clause-whole
 returns-in-Ok-of-clause-whole g c =
     rw (c.in-Ok-of.ensures.header, c.in-Ok-of.ensures.unit) (hdu_whole _ c.in_ok-cards.field-0.cards.header c.in_ok-cards.field-0.shape _ c.in_ok-cards.ensures.whole c.in_ok-cards.ensures.described (grind (arith, common_steps)))
+
+pub of-requires-clause-described : goal.of-requires-clause-described
+of-requires-clause-described g c = rw (shape_primary c.args.primary _ c.in_ok-cards.field-0.shape c.in_ok-cards.ensures.described) c.in_ok-cards.ensures.described
+
+pub returns-in_err-cards-clause-err : goal.returns-in_err-cards-clause-err
+returns-in_err-cards-clause-err g c =
+    let failed = err_from_is_err_and c.from_residual.result c.from_residual.ensures.1 in
+    rw (failed.1, failed.2) c.in_err-cards.ensures.err
+
+-- the data unit was not taken
+pub returns-in-Err-clause-err : goal.returns-in-Err-clause-err
+returns-in-Err-clause-err g c =
+    let head = c.in_ok-cards.ensures in
+    rw c.from.ensures (stops_by_unit _ _ _ _ _ _ _ _ c.in-Err.fault (λ is. c.in-Err.ensures.memory (ap Err is) ∙ head.quiet) (λ is. c.in-Err.ensures.failed (ap Err is) ∙ ap (λ n. n + 1) head.quiet))
+
+pub returns-in-Ok-of-clause-work : goal.returns-in-Ok-of-clause-work
+returns-in-Ok-of-clause-work g c =
+    omega (arith, c.in-Ok-of.ensures.work, c.in_ok-cards.ensures.work, ap (λ (header : Header). length header.cards) c.in-Ok-of.ensures.header)
+
+pub returns-in-Ok-of-clause-scans : goal.returns-in-Ok-of-clause-scans
+returns-in-Ok-of-clause-scans g c = rw c.in-Ok-of.ensures.unit c.in-Ok-of.ensures.scans
+
+pub returns-in-Ok-of-clause-quiet : goal.returns-in-Ok-of-clause-quiet
+returns-in-Ok-of-clause-quiet g c = c.in-Ok.ensures.quiet ∙ c.in_ok-cards.ensures.quiet
+
+-- memory was refused
+pub returns-in-Err-of-clause-err : goal.returns-in-Err-of-clause-err
+returns-in-Err-of-clause-err g c = c.in-Ok.ensures.quiet ∙ c.in_ok-cards.ensures.quiet
