@@ -1,4 +1,8 @@
+use Rattle.std.proofs.Common.{◌∙◌, ap, arith, length, sym}
+use Rattle.std.proofs.lemmas.List.{length-take-le}
 use Rattle.std.proofs.lemmas.Result.{err_from_is_err_and}
+use Rattle.fits_card.specs.Header.{Header}
+use Rattle.fits_rules.specs.Size.{data_length}
 use Rattle.fits_rules.proofs.LawLemmas.{shape_primary}
 use Rattle.fits_hdu.proofs.OpenLemmas.{shape_fails}
 use Rattle.fits_hdu.proofs.hdu.Hdu.with_data.Goals as goal
@@ -28,3 +32,27 @@ returns-clause-described c = rw c.in_ok-hdu.ensures.shape c.in_ok-shape.ensures.
 
 pub of-requires-clause-described : goal.of-requires-clause-described
 of-requires-clause-described c = rw (c.shape.ensures.work.header, shape_primary c.args.primary _ c.in_ok-shape.shape c.in_ok-shape.ensures.ok) c.in_ok-shape.ensures.ok
+
+pub of-requires-clause-size : goal.of-requires-clause-size
+of-requires-clause-size c = omega (arith, c.in_ok-data_unit.ensures.len, ap length c.split_at.ensures.front, length-take-le c.in_ok-unit_len.unit_len c.args.rest.now c.in_ok-unit_len.ensures.within, c.in_ok-unit_len.ensures.ok)
+
+pub of-requires-clause-small : goal.of-requires-clause-small
+of-requires-clause-small c = omega (arith, c.in_ok-data_unit.ensures.len, ap length c.split_at.ensures.front, length-take-le c.in_ok-unit_len.unit_len c.args.rest.now c.in_ok-unit_len.ensures.within, c.in_ok-unit_len.ensures.within, c.requires)
+
+pub returns-clause-header : goal.returns-clause-header
+returns-clause-header c = c.in_ok-hdu.ensures.header ∙ c.shape.ensures.work.header
+
+pub returns-clause-unit : goal.returns-clause-unit
+returns-clause-unit c = c.in_ok-hdu.ensures.unit ∙ (c.in_ok-data_unit.ensures.items_if_clones_equal (λ x y is. is) ∙ c.split_at.ensures.front)
+
+pub returns-clause-len : goal.returns-clause-len
+returns-clause-len c = c.in_ok-unit_len.ensures.ok ∙ ap data_length (sym c.in_ok-hdu.ensures.shape)
+
+pub returns-clause-within : goal.returns-clause-within
+returns-clause-within c = c.in_ok-unit_len.ensures.within
+
+pub returns-clause-work : goal.returns-clause-work
+returns-clause-work c = omega (arith, c.in_ok-hdu.ensures.work, c.shape.ensures.work.most, ap (λ (header : Header). length header.cards) c.shape.ensures.work.header)
+
+pub returns-clause-scans : goal.returns-clause-scans
+returns-clause-scans c = rw c.in_ok-hdu.ensures.unit c.in_ok-hdu.ensures.scans
