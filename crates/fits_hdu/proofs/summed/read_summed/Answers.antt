@@ -1,7 +1,10 @@
-use Rattle.std.proofs.Common.{◌∙◌, ap, arith, length}
+use Rattle.std.proofs.Common.{◌+◌, ◌∙◌, ap, arith, length}
+use Rattle.std.specs.Prelude.{Err}
 use Rattle.std.proofs.lemmas.List.{length-append}
+use Rattle.std.proofs.lemmas.Result.{err_from_is_err_and}
 use Rattle.fits_rules.proofs.LawLemmas.{shape_primary}
 use Rattle.fits_hdu.proofs.PassingLemmas.{hdu_summed, stops_summed}
+use Rattle.fits_hdu.proofs.ReadingLemmas.{stops_by_unit}
 use Rattle.fits_hdu.proofs.summed.read_summed.Goals as goal
 
 pub returns-in-Ok-Some-clause-ok : goal.returns-in-Ok-Some-clause-ok
@@ -28,3 +31,27 @@ pub returns-in-Ok-Some-clause-small : goal.returns-in-Ok-Some-clause-small
 returns-in-Ok-Some-clause-small g c =
     let taken = c.in_ok-head.ensures.taken in
     omega (arith, ap length taken.joined, length-append c.args.first.items taken.more, taken.taken.count, c.requires.room)
+
+pub returns-in_err-head-clause-err : goal.returns-in_err-head-clause-err
+returns-in_err-head-clause-err g c =
+    let failed = err_from_is_err_and c.from_residual.result c.from_residual.ensures.1 in
+    rw (failed.1, failed.2) c.in_err-head.ensures.err
+
+-- the data unit was not taken
+pub returns-in-Err-clause-err : goal.returns-in-Err-clause-err
+returns-in-Err-clause-err g c =
+    let head = c.in_ok-head.ensures in
+    rw c.from.ensures (stops_by_unit _ _ _ _ _ _ _ _ c.in-Err.fault (λ is. c.in-Err.ensures.memory (ap Err is) ∙ head.quiet) (λ is. c.in-Err.ensures.failed (ap Err is) ∙ ap (λ n. n + 1) head.quiet))
+
+pub returns-in-Ok-Some-clause-quiet : goal.returns-in-Ok-Some-clause-quiet
+returns-in-Ok-Some-clause-quiet g c = c.in-Ok-Some.ensures.quiet ∙ c.in_ok-head.ensures.quiet
+
+pub used_len-used-requires : goal.used_len-used-requires
+used_len-used-requires g c =
+    let head = c.in_ok-head.ensures in
+    omega (arith, head.len, head.room, head.taken.taken.count, c.requires.room)
+
+pub sum_unit-requires-clause-room : goal.sum_unit-requires-clause-room
+sum_unit-requires-clause-room g c =
+    let head = c.in_ok-head.ensures in
+    omega (arith, head.room, head.taken.taken.count, c.requires.room)
