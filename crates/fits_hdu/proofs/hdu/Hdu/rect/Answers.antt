@@ -1,6 +1,7 @@
 use Rattle.std.proofs.Common.{◌≡◌, ◌∙◌, ap, sym, subst, rules, refl, ℤ, List, None, Some, true, false}
 use Rattle.std.specs.Prelude.{Result, Err, Ok, IsOk}
 use Rattle.fits_plane.specs.Rectangle.{lies_within, product, rectangle_values}
+use Rattle.fits_rules.specs.declared.array_shape.Shape.{Shape}
 use Rattle.fits_hdu.specs.Hdu.{HduParts}
 use Rattle.fits_hdu.specs.Kind.{offset_of, width_of}
 use Rattle.fits_hdu.specs.Pixels.{rect_of}
@@ -22,7 +23,7 @@ pub returns-then-not-is_rectangle-clause-err : goal.returns-then-not-is_rectangl
 returns-then-not-is_rectangle-clause-err c =
     let t = c.self.inside in
     let hdu : HduParts = record { header = t.header.header; data_unit = t.plane.bytes } in
-    let some : t.kind ≡ Some c.in-Some.kind = search rules in
+    let some = c.in-Some.is in
     let bad : lies_within t.header.shape.axes c.args.lo.now c.args.hi.now ≡ false = search rules in
     subst (λ (s : HduState). rect_of s.shape c.args.lo.now c.args.hi.now s.hdu ≡ Err BadRectangle) c.self.view_is
     (rect_of-bad t.header.shape hdu c.args.lo.now c.args.hi.now c.in-Some.kind (sym c.self.invariant.kind ∙ some) bad)
@@ -31,7 +32,7 @@ pub returns-in_default-rect-clause-err : goal.returns-in_default-rect-clause-err
 returns-in_default-rect-clause-err c =
     let t = c.self.inside in
     let hdu : HduParts = record { header = t.header.header; data_unit = t.plane.bytes } in
-    let some : t.kind ≡ Some c.in-Some.kind = search rules in
+    let some = c.in-Some.is in
     let within : lies_within t.header.shape.axes c.args.lo.now c.args.hi.now ≡ true = search rules in
     subst (λ (s : HduState). IsOk (rect_of s.shape c.args.lo.now c.args.hi.now s.hdu)) c.self.view_is
     (subst (λ (r : Result (List ℤ) PixelFault). IsOk r) (sym (rect_of-values t.header.shape hdu c.args.lo.now c.args.hi.now c.in-Some.kind (sym c.self.invariant.kind ∙ some) within)) refl)
@@ -40,9 +41,9 @@ pub returns-clause-ok : goal.returns-clause-ok
 returns-clause-ok c =
     let t = c.self.inside in
     let hdu : HduParts = record { header = t.header.header; data_unit = t.plane.bytes } in
-    let some : t.kind ≡ Some c.in-Some.kind = search rules in
+    let some = c.in-Some.is in
     let within : lies_within t.header.shape.axes c.args.lo.now c.args.hi.now ≡ true = search rules in
-    let axes : c.as_slice-axes.result.now ≡ t.header.shape.axes = search rules in
+    let axes = c.as_slice-axes.ensures ∙ ap (λ (shape : Shape). shape.axes) c.shape.ensures.value in
     let width = plane_width t.plane.layout t.header.shape t.header.header.cards c.in-Some.kind t.kind (width_of c.in-Some.kind) c.self.invariant.layout c.self.invariant.described c.self.invariant.kind some refl in
     let values : c.in-Ok.values.items ≡ rectangle_values (width_of c.in-Some.kind) t.plane.bytes t.header.shape.axes c.args.lo.now c.args.hi.now (offset_of c.in-Some.kind) =
     c.in-Ok.ensures.value
@@ -55,6 +56,6 @@ returns-clause-ok c =
 pub rect-requires-clause-all : goal.rect-requires-clause-all
 rect-requires-clause-all c =
     let t = c.self.inside in
-    let some : t.kind ≡ Some c.in-Some.kind = search rules in
-    let axes : c.as_slice-axes.result.now ≡ t.header.shape.axes = search rules in
+    let some = c.in-Some.is in
+    let axes = c.as_slice-axes.ensures ∙ ap (λ (shape : Shape). shape.axes) c.shape.ensures.value in
     ap product axes ∙ plane_pixels t.plane.layout t.header.shape t.header.header.cards c.in-Some.kind t.kind c.self.invariant.layout c.self.invariant.kind some

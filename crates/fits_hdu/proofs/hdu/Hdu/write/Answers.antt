@@ -2,6 +2,7 @@ use Rattle.std.proofs.Common.{◌≡◌, ◌∙◌, ap, sym, subst, rules, List,
 use Rattle.std.specs.Prelude.{Err, Ok, slice_index_or}
 use Rattle.fits_plane.specs.Pixels.{AreStorable, can_store_all}
 use Rattle.fits_plane.specs.Rectangle.{lies_within, product, rectangle_size, rectangle_written}
+use Rattle.fits_rules.specs.declared.array_shape.Shape.{Shape}
 use Rattle.fits_hdu.specs.Hdu.{HduParts}
 use Rattle.fits_hdu.specs.Kind.{offset_of, width_of}
 use Rattle.fits_hdu.specs.Pixels.{written}
@@ -22,7 +23,7 @@ pub returns-then-not-is_rectangle-clause-err : goal.returns-then-not-is_rectangl
 returns-then-not-is_rectangle-clause-err c =
     let t = c.self.inside in
     let hdu : HduParts = record { header = t.header.header; data_unit = t.plane.bytes } in
-    let some : t.kind ≡ Some c.in-Some.kind = search rules in
+    let some = c.in-Some.is in
     let bad : lies_within t.header.shape.axes c.args.lo.now c.args.hi.now ≡ false = search rules in
     subst (λ (s : HduState). written s.shape c.args.lo.now c.args.hi.now c.args.values.now s.hdu ≡ Err BadRectangle) c.self.view_is
     (written-bad t.header.shape hdu c.args.lo.now c.args.hi.now c.args.values.now c.in-Some.kind (sym c.self.invariant.kind ∙ some) bad)
@@ -30,8 +31,8 @@ returns-then-not-is_rectangle-clause-err c =
 pub rectangle_len-requires-clause-small : goal.rectangle_len-requires-clause-small
 rectangle_len-requires-clause-small c =
     let t = c.self.inside in
-    let some : t.kind ≡ Some c.in-Some.kind = search rules in
-    let axes : c.as_slice-axes.result.now ≡ t.header.shape.axes = search rules in
+    let some = c.in-Some.is in
+    let axes = c.as_slice-axes.ensures ∙ ap (λ (shape : Shape). shape.axes) c.shape.ensures.value in
     let is : c.layout-layout.result ≡ t.plane.layout = c.layout-layout.ensures.value in
     few_places c.layout-layout.result t.plane.bytes c.as_slice-axes.result.now c.layout-layout.ensures.fits
     (ap product axes ∙ plane_pixels t.plane.layout t.header.shape t.header.header.cards c.in-Some.kind t.kind c.self.invariant.layout c.self.invariant.kind some ∙ ap (λ l. l.pixels) (sym is))
@@ -40,7 +41,7 @@ pub returns-then-values-rectangle_len-clause-err : goal.returns-then-values-rect
 returns-then-values-rectangle_len-clause-err c =
     let t = c.self.inside in
     let hdu : HduParts = record { header = t.header.header; data_unit = t.plane.bytes } in
-    let some : t.kind ≡ Some c.in-Some.kind = search rules in
+    let some = c.in-Some.is in
     let within : lies_within t.header.shape.axes c.args.lo.now c.args.hi.now ≡ true = search rules in
     let differs : length c.args.values.now ≡ rectangle_size c.args.lo.now c.args.hi.now → ⊥ = search rules in
     subst (λ (s : HduState). written s.shape c.args.lo.now c.args.hi.now c.args.values.now s.hdu ≡ Err WrongCount) c.self.view_is
@@ -50,7 +51,7 @@ pub returns-then-not-are_storable-clause-err : goal.returns-then-not-are_storabl
 returns-then-not-are_storable-clause-err c =
     let t = c.self.inside in
     let hdu : HduParts = record { header = t.header.header; data_unit = t.plane.bytes } in
-    let some : t.kind ≡ Some c.in-Some.kind = search rules in
+    let some = c.in-Some.is in
     let within : lies_within t.header.shape.axes c.args.lo.now c.args.hi.now ≡ true = search rules in
     let count : length c.args.values.now ≡ rectangle_size c.args.lo.now c.args.hi.now = search rules in
     let test : can_store_all c.width.result c.offset.result c.args.values.now ≡ false = search rules in
@@ -64,7 +65,7 @@ pub write_rect-requires-clause-storable : goal.write_rect-requires-clause-storab
 write_rect-requires-clause-storable c =
     let t = c.self.inside in
     let means = c.are_storable.ensures.means in
-    let some : t.kind ≡ Some c.in-Some.kind = search rules in
+    let some = c.in-Some.is in
     let stored : AreStorable c.width.result c.offset.result c.args.values.now = search (rules, means) in
     let width = plane_width t.plane.layout t.header.shape t.header.header.cards c.in-Some.kind t.kind c.width.result c.self.invariant.layout c.self.invariant.described c.self.invariant.kind some c.width.ensures.value in
     let same : c.offset-2.result ≡ c.offset.result = c.offset-2.ensures ∙ sym c.offset.ensures in
@@ -74,7 +75,7 @@ pub returns-clause-ok : goal.returns-clause-ok
 returns-clause-ok c =
     let t = c.self.inside in
     let values : List ℤ = c.args.values.now in
-    let some : t.kind ≡ Some c.in-Some.kind = search rules in
+    let some = c.in-Some.is in
     let within : lies_within t.header.shape.axes c.args.lo.now c.args.hi.now ≡ true = search rules in
     let count : length values ≡ rectangle_size c.args.lo.now c.args.hi.now = search rules in
     let test : can_store_all c.width.result c.offset.result values ≡ true = search rules in
@@ -82,7 +83,7 @@ returns-clause-ok c =
     subst (λ w. can_store_all w (offset_of c.in-Some.kind) values ≡ true) c.width.ensures.value
     (subst (λ o. can_store_all c.width.result o values ≡ true) c.offset.ensures test) in
     let width = plane_width t.plane.layout t.header.shape t.header.header.cards c.in-Some.kind t.kind c.width.result c.self.invariant.layout c.self.invariant.described c.self.invariant.kind some c.width.ensures.value in
-    let axes : c.as_slice-axes.result.now ≡ t.header.shape.axes = search rules in
+    let axes = c.as_slice-axes.ensures ∙ ap (λ (shape : Shape). shape.axes) c.shape.ensures.value in
     let offset = offset_fits c.in-Some.kind c.offset-2.result c.offset-2.ensures ∙ c.offset-2.ensures in
     let put : c.write_rect.new.self.bytes ≡ rectangle_written t.plane.layout.width t.header.shape.axes c.args.lo.now c.args.hi.now (λ rank. slice_index_or values rank (pos 0) -ℤ offset_of c.in-Some.kind) t.plane.bytes =
     c.write_rect.ensures.bytes
@@ -95,8 +96,8 @@ returns-clause-ok c =
 pub write_rect-requires-clause-all : goal.write_rect-requires-clause-all
 write_rect-requires-clause-all c =
     let t = c.self.inside in
-    let some : t.kind ≡ Some c.in-Some.kind = search rules in
-    let axes : c.as_slice-axes.result.now ≡ t.header.shape.axes = search rules in
+    let some = c.in-Some.is in
+    let axes = c.as_slice-axes.ensures ∙ ap (λ (shape : Shape). shape.axes) c.shape.ensures.value in
     ap product axes ∙ plane_pixels t.plane.layout t.header.shape t.header.header.cards c.in-Some.kind t.kind c.self.invariant.layout c.self.invariant.kind some
 
 -- the bytes of pixels alone change, and they stay as many
