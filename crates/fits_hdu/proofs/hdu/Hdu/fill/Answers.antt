@@ -1,4 +1,4 @@
-use Rattle.std.proofs.Common.{◌≡◌, ◌∙◌, ap, sym, subst, rules, length, None, Some, true, false, w64, ℤ, ◌-ℤ◌}
+use Rattle.std.proofs.Common.{◌≡◌, ◌∙◌, ap, sym, subst, rules, length, None, true, false, w64, ℤ, ◌-ℤ◌}
 use Rattle.std.specs.Prelude.{Err, Ok}
 use Rattle.std.proofs.lemmas.Int.{to_z-of_z}
 use Rattle.fits_plane.specs.Layout.{block_count}

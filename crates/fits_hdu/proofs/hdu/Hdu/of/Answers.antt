@@ -1,5 +1,4 @@
 use Rattle.std.proofs.Common.{◌∙◌, ap, arith, length, sym}
-use Rattle.fits_card.specs.Header.{Header}
 use Rattle.fits_rules.specs.Size.{data_length}
 use Rattle.fits_hdu.proofs.hdu.Hdu.of.Goals as goal
 

@@ -1,4 +1,4 @@
-use Rattle.std.proofs.Common.{◌≡◌, ◌∙◌, ap, sym, subst, rules, refl, ℤ, List, None, Some, true, false}
+use Rattle.std.proofs.Common.{◌≡◌, ◌∙◌, ap, sym, subst, rules, refl, ℤ, List, None, true, false}
 use Rattle.std.specs.Prelude.{Result, Err, Ok, IsOk}
 use Rattle.fits_plane.specs.Rectangle.{lies_within, product, rectangle_values}
 use Rattle.fits_rules.specs.declared.array_shape.Shape.{Shape}

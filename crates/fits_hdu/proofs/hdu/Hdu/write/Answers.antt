@@ -1,4 +1,4 @@
-use Rattle.std.proofs.Common.{◌≡◌, ◌∙◌, ap, sym, subst, rules, List, length, None, Some, true, false, ℤ, pos, ◌-ℤ◌}
+use Rattle.std.proofs.Common.{◌≡◌, ◌∙◌, ap, sym, subst, rules, List, length, None, true, false, ℤ, pos, ◌-ℤ◌}
 use Rattle.std.specs.Prelude.{Err, Ok, slice_index_or}
 use Rattle.fits_plane.specs.Pixels.{AreStorable, can_store_all}
 use Rattle.fits_plane.specs.Rectangle.{lies_within, product, rectangle_size, rectangle_written}
