@@ -226,3 +226,9 @@ walk_work axes lo hi per n blocks side row next scanned right v =
 -- joins of some blocks and of some more
 pub joins_more : (some more all d a b c : ℕ) → all ≡ some + more → b ≤ a + some * d → c ≤ b + more * d → c ≤ a + all * d
 joins_more some more all d a b c e p q = let sum : all * d ≡ some * d + more * d = ap (λ m. m * d) e ∙ add-mul some more d in omega (arith, sum, p, q)
+
+-- a row ends within the blocks
+pub stop_room : (first n side per all pixels blocks : ℕ) → 0 < per → n ≡ side → 0 < n → first + side ≤ all → all ≡ pixels → pixels ≤ blocks * per → (first + n - 1) / per + 1 ≤ blocks
+stop_room first n side per all pixels blocks p e some within whole room =
+    let end : (first + n - 1) / per < blocks = (div-lt_iff_lt-mul p).1 (omega (arith, e, some, within, whole, room)) in
+    omega (arith, end)

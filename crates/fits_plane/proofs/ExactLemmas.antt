@@ -14,7 +14,7 @@ small : (x : ℤ) → FitsSigned w64 x → unsigned_abs x ≤ 2 ^ 63
 small x h = omega (arith, ints)
 
 -- a sum is no larger than both parts
-abs_add : (a b : ℤ) → unsigned_abs (a +ℤ b) ≤ unsigned_abs a + unsigned_abs b
+pub abs_add : (a b : ℤ) → unsigned_abs (a +ℤ b) ≤ unsigned_abs a + unsigned_abs b
 abs_add a b = omega (arith, ints)
 
 -- the sum with one number more, or without it where it is blank

@@ -1,7 +1,7 @@
 -- One node of a tree is joined anew.
-use Rattle.std.proofs.Common.{◌≡◌, ◌≢◌, ◌≤◌, ◌<◌, ◌+◌, ◌*◌, ◌/◌, ℕ, List, length, get_or, set, arith, sym, ◌∙◌, ap, subst, inl, inr}
+use Rattle.std.proofs.Common.{◌≡◌, ◌≢◌, ◌≤◌, ◌<◌, ◌+◌, ◌*◌, ◌/◌, ℕ, List, length, get_or, set, drop, arith, sym, ◌∙◌, ap, subst, inl, inr}
 use Rattle.std.proofs.lemmas.Bool.{cases_eq}
-use Rattle.std.proofs.lemmas.List.{length-set, get_or-set_same, get_or-set_other}
+use Rattle.std.proofs.lemmas.List.{length-set, get_or-drop, get_or-set_same, get_or-set_other}
 use Rattle.fits_plane.specs.Summary.{SummaryLaws}
 use Rattle.fits_plane.specs.Tree.{IsJoined}
 
@@ -45,3 +45,9 @@ module _ {S : Type 0} {unit : S} {join : S → S → S} {fits : S → Type 0} (l
         };
         kept = λ k b. let ne : k ≢ p = omega arith in other k ne;
       }
+
+-- a leaf that is not the one written stays a unit
+pub unit_kept : {S : Type 0} (unit : S) (n used i k at : ℕ) (old new : List S) (x : S) → drop n new ≡ set (drop n old) at x → at ≡ i → i < used → used ≤ k → get_or old (n + k) unit ≡ unit → get_or new (n + k) unit ≡ unit
+unit_kept unit n used i k at old new x e same low high h =
+    let ne : k ≢ at = omega (arith, same, low, high) in
+    sym (get_or-drop n new k unit) ∙ ap (λ xs. get_or xs k unit) e ∙ get_or-set_other (drop n old) at k x unit ne ∙ get_or-drop n old k unit ∙ h

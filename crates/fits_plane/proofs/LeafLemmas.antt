@@ -1,7 +1,7 @@
 -- The leaves of a data unit: one block of it, a block that an edit leaves alone, and all blocks together.
 use Rattle.std.proofs.Common.{◌≡◌, ◌≢◌, ◌<◌, ◌≤◌, ℕ, zero, suc, ◌+◌, ◌-◌, ◌*◌, ◌/◌, ◌%◌, ◌^◌, List, [], ◌∷◌, ◌++◌, length, slice_index, get_or, map, min, take, drop, set, refl, arith, sym, ◌∙◌, ap, subst, inl, inr, ◌⊎◌, ℤ, pos, Bool, true, false, cond, Some, None, Option, FitsSigned}
 use Rattle.std.specs.Int.{w64, w128}
-use Rattle.std.proofs.Math.Nat.{div-eq_of_lt-le, mod-eq_of_lt, mul-le-mul_left}
+use Rattle.std.proofs.Math.Nat.{add-mul, div-eq_of_lt-le, mod-eq_of_lt, mul-le-mul_left}
 use Rattle.std.proofs.lemmas.Bool.{cases_lt, false≢true}
 use Rattle.std.proofs.lemmas.Bool.Decides.{nat_tests}
 use Rattle.std.proofs.lemmas.Int.{ints}
@@ -271,3 +271,27 @@ set_next P d xs w k x room h last j b = elim (cases_lt j k) [
       let same : k ≡ j = omega (arith, ge, b) in
       subst (λ m. P m (get_or (set xs (w + k) x) (w + m) d)) same (subst (P k) (sym (get_or-set_same xs (w + k) x d room)) last)
 ]
+
+-- what holds of the values from a place on holds after the next one was written
+pub set_more : {A : Type 0} (P : ℕ → A → Type 0) (d : A) (xs ys : List A) (from k : ℕ) (x : A) → ys ≡ set xs k x → k < length xs → ((j : ℕ) → from ≤ j → j < k → P j (get_or xs j d)) → P k x
+    → (j : ℕ) → from ≤ j → j < k + 1 → P j (get_or ys j d)
+set_more P d xs ys from k x e room h last j low b = elim (cases_lt j k) [
+  | inl lt ↦ let ne : j ≢ k = omega (arith, lt) in subst (P j) (sym (ap (λ zs. get_or zs j d) e ∙ get_or-set_other xs k j x d ne)) (h j low lt)
+  | inr ge ↦
+      let same : k ≡ j = omega (arith, ge, b) in
+      subst (λ m. P m (get_or ys m d)) same (subst (P k) (sym (ap (λ zs. get_or zs k d) e ∙ get_or-set_same xs k x d room)) last)
+]
+
+-- the values outside a range are kept when the next one in it was written
+pub set_beside : {A : Type 0} (d : A) (old xs ys : List A) (from k : ℕ) (x : A) → ys ≡ set xs k x → from ≤ k → ((j : ℕ) → (j < from) ⊎ (k ≤ j) → get_or xs j d ≡ get_or old j d)
+    → (j : ℕ) → (j < from) ⊎ (k + 1 ≤ j) → get_or ys j d ≡ get_or old j d
+set_beside d old xs ys from k x e low h j away =
+    let ne : j ≢ k = elim away [ inl lt ↦ omega (arith, lt, low) | inr ge ↦ omega (arith, ge) ] in
+    ap (λ zs. get_or zs j d) e ∙ get_or-set_other xs k j x d ne ∙ h j (elim away [ inl lt ↦ inl lt | inr ge ↦ inr (omega (arith, ge)) ])
+
+-- joins of one block more
+pub joins_next : (from k d a b c : ℕ) → from ≤ k → b ≤ a + (k - from) * d → c ≤ b + d → c ≤ a + (k + 1 - from) * d
+joins_next from k d a b c low p q =
+    let more : k + 1 - from ≡ k - from + 1 = omega (arith, low) in
+    let sum : (k + 1 - from) * d ≡ (k - from) * d + 1 * d = ap (λ m. m * d) more ∙ add-mul (k - from) 1 d in
+    omega (arith, sum, p, q)

@@ -1,14 +1,15 @@
 -- Statistics of numbers, and of the same numbers each with an offset.
-use Rattle.std.proofs.Common.{◌≡◌, ◌≤◌, ℕ, suc, ◌^◌, List, [], ◌∷◌, length, map, refl, arith, sym, ◌∙◌, ap, Option, Some, None, ℤ, pos, negsuc}
+use Rattle.std.proofs.Common.{◌≡◌, ◌≤◌, ℕ, suc, ◌^◌, List, [], ◌∷◌, length, map, refl, arith, sym, ◌∙◌, ap, subst, Option, Some, None, ℤ, pos, negsuc, FitsSigned, to_z, of_z}
 use Rattle.std.specs.Prelude.{◌+ℤ◌, ◌*ℤ◌, unsigned_abs, not}
-use Rattle.std.specs.Int.{int_min, int_max}
+use Rattle.std.specs.Int.{w128, int_min, int_max}
 use Rattle.std.specs.Option.{option_map}
-use Rattle.std.proofs.lemmas.Int.{ints}
+use Rattle.std.proofs.Math.Nat.{mul-le-mul}
+use Rattle.std.proofs.lemmas.Int.{ints, to_z-of_z, fits_signed_mul, fits_signed_from_abs, unsigned_abs-mul}
 use Rattle.std.proofs.lemmas.List.{length-map}
 use Rattle.fits_plane.specs.declared.value_summary.ValueSummary.{ValueSummary}
 use Rattle.fits_plane.specs.Summary.{lesser, greater}
 use Rattle.fits_plane.specs.Statistics.{is_blank, defined_numbers, sum_of, least_of, greatest_of, AllFit64, statistics, OffsetIsExact}
-use Rattle.fits_plane.proofs.ExactLemmas.{short, sum_bound}
+use Rattle.fits_plane.proofs.ExactLemmas.{abs_add, short, sum_bound}
 
 -- the lesser of two moves with both
 min_moved : (a b o : ℤ) → int_min (a +ℤ o) (b +ℤ o) ≡ int_min a b +ℤ o
@@ -76,3 +77,21 @@ statistics_small blank xs f few = record {
   few = omega (arith, short (λ y. not (is_blank blank y)) xs, few);
   sum = omega (arith, sum_bound blank xs f, few);
 }
+
+-- a sum moved by a count of offsets, as the machine computes it
+pub record Moved (s : ℤ) (n : ℕ) (o : ℤ) : Type 0 where
+  pub product_fits : FitsSigned w128 (to_z w128 n *ℤ to_z w128 (of_z w128 o))
+  pub sum_fits : FitsSigned w128 (to_z w128 (of_z w128 s) +ℤ to_z w128 (of_z w128 (to_z w128 n *ℤ to_z w128 (of_z w128 o))))
+  pub is : to_z w128 (of_z w128 (to_z w128 (of_z w128 s) +ℤ to_z w128 (of_z w128 (to_z w128 n *ℤ to_z w128 (of_z w128 o))))) ≡ s +ℤ pos n *ℤ o
+
+-- by the numbers' bounds
+pub moved : (s : ℤ) (n : ℕ) (o : ℤ) → FitsSigned w128 s → FitsSigned w128 o → n ≤ 2 ^ 62 → unsigned_abs s ≤ 2 ^ 125 → unsigned_abs o ≤ 2 ^ 63 → Moved s n o
+moved s n o f g few sum offset =
+    let count : to_z w128 n ≡ pos n = to_z-of_z w128 (pos n) (omega (arith, ints, few)) in
+    let times : to_z w128 n *ℤ to_z w128 (of_z w128 o) ≡ pos n *ℤ o = ap (λ z. z *ℤ to_z w128 (of_z w128 o)) count ∙ ap (λ z. pos n *ℤ z) (to_z-of_z w128 o g) in
+    let product : FitsSigned w128 (pos n *ℤ o) = fits_signed_mul w128 (pos n) o (2 ^ 62) (2 ^ 63) few offset (omega arith) in
+    let all : to_z w128 (of_z w128 s) +ℤ to_z w128 (of_z w128 (to_z w128 n *ℤ to_z w128 (of_z w128 o))) ≡ s +ℤ pos n *ℤ o
+    = ap (λ z. z +ℤ to_z w128 (of_z w128 (to_z w128 n *ℤ to_z w128 (of_z w128 o)))) (to_z-of_z w128 s f) ∙ ap (λ z. s +ℤ to_z w128 (of_z w128 z)) times ∙ ap (λ z. s +ℤ z) (to_z-of_z w128 (pos n *ℤ o) product) in
+    let small : FitsSigned w128 (s +ℤ pos n *ℤ o) = fits_signed_from_abs w128 (s +ℤ pos n *ℤ o) (omega (arith, abs_add s (pos n *ℤ o), unsigned_abs-mul (pos n) o, mul-le-mul few offset, sum)) in
+    let fits = subst (FitsSigned w128) (sym all) small in
+    record { product_fits = subst (FitsSigned w128) (sym times) product; sum_fits = fits; is = to_z-of_z w128 _ fits ∙ all }

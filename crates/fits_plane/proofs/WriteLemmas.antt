@@ -160,3 +160,15 @@ part_room axes lo hi n count row size r e rows b whole =
     let across : row * n ≡ row * row_size lo hi = ap (λ m. row * m) e in
     let all : row_size lo hi * count ≡ row_size lo hi * row_count lo hi = ap (λ m. row_size lo hi * m) rows in
     omega (arith, split, more, across, all, e, whole)
+
+-- a row's bytes lie in the bytes
+pub row_room : (first part n side all w old new : ℕ) → part ≡ n → n ≡ side → first + side ≤ all → all * w ≤ old → new ≡ old → (first + part) * w ≤ new
+row_room first part n side all w old new e f within h long =
+    let more = mul-le-mul_right w (let short : first + part ≤ all = omega (arith, e, f, within) in short) in
+    omega (arith, more, h, long)
+
+-- a pixel's bytes lie in the bytes
+pub pixel_room : (start x n w old new : ℕ) → x < n → (start + n) * w ≤ old → new ≡ old → (start + x + 1) * w ≤ new
+pixel_room start x n w old new b h long =
+    let more = mul-le-mul_right w (let short : start + x + 1 ≤ start + n = omega (arith, b) in short) in
+    omega (arith, more, h, long)

@@ -1,11 +1,11 @@
-use Rattle.std.proofs.Common.{◌≡◌, ◌≤◌, ◌+◌, ◌-◌, ◌/◌, max, ℕ, List, arith, ap, ◌∙◌, length}
+use Rattle.std.proofs.Common.{◌≡◌, ◌≤◌, ◌+◌, ◌-◌, ◌/◌, max, ◌<◌, ◌*◌, ℕ, List, arith, ap, sym, subst, ◌∙◌, length}
 use Rattle.std.proofs.Math.Nat.{mul-le-mul_left}
-use Rattle.fits_plane.specs.Rectangle.{row_size, row_count}
+use Rattle.fits_plane.specs.Rectangle.{product, row_size, row_count}
 use Rattle.fits_plane.specs.Layout.{block_pixels}
 use Rattle.fits_plane.specs.Leaves.{IsLeaf}
 use Rattle.fits_plane.proofs.RowLemmas.{row_of, rectangle_size-rows}
-use Rattle.fits_plane.proofs.BlockLemmas.{walk_more, walk_all, walk_work, joins_more}
-use Rattle.fits_plane.proofs.LeafLemmas.{block_pixels_some, layout_room}
+use Rattle.fits_plane.proofs.BlockLemmas.{walk_more, walk_all, walk_work, joins_more, stop_room}
+use Rattle.fits_plane.proofs.LeafLemmas.{block_pixels_some, layout_room, layout_small}
 use Rattle.fits_plane.proofs.leaves.refresh_rows.Goals as goal
 
 pub loop-row-preserved : goal.loop-row-preserved
@@ -53,3 +53,22 @@ pub returns-clause-work : goal.returns-clause-work
 returns-clause-work c =
     let w = walk_work _ _ _ _ _ _ _ _ _ _ _ c.loop-row.invariant.walk in
     omega (arith, w, c.loop-row.invariant.more_work)
+
+pub refresh_blocks-requires-clause-within : goal.refresh_blocks-requires-clause-within
+refresh_blocks-requires-clause-within c =
+    let blocks : ℕ = length c.args.tree.now.leaves in
+    let w : ℕ = c.args.layout.width in
+    let some = subst (λ per. 0 < per) (sym c.pixels_per_block-per.ensures) (block_pixels_some w c.requires.width) in
+    let room = subst (λ per. c.args.layout.pixels ≤ blocks * per) (sym c.pixels_per_block-per.ensures) (layout_room c.args.layout c.args.bytes.now blocks c.requires.layout c.requires.whole) in
+    let stop = stop_room c.row_start-first.result c.row_len-side.result (row_size c.args.lo.now c.args.hi.now) c.pixels_per_block-per.result (product c.args.axes.now) c.args.layout.pixels blocks some c.row_len-side.ensures.value c.row_len-side.ensures.some c.row_start-first.ensures.within c.requires.all room in
+    omega (arith, stop, c.loop-row.invariant.long)
+
+pub nonzero_div-first : goal.nonzero_div-first
+nonzero_div-first c = subst (λ per. 0 < per) (sym c.pixels_per_block-per.ensures) (block_pixels_some c.args.layout.width c.requires.width)
+
+pub nonzero_div-stop : goal.nonzero_div-stop
+nonzero_div-stop c = subst (λ per. 0 < per) (sym c.pixels_per_block-per.ensures) (block_pixels_some c.args.layout.width c.requires.width)
+
+pub overflow_add-stop : goal.overflow_add-stop
+overflow_add-stop c =
+    record { fits = omega (arith, c.row_start-first.ensures.within, c.row_len-side.ensures.value, c.requires.all, layout_small c.args.layout c.args.bytes.now c.requires.layout, c.requires.layout.limit) }

@@ -1,8 +1,9 @@
-use Rattle.std.proofs.Common.{rules, FitsSigned, to_z, of_z, ◌∙◌, ℤ, ap, get_or, pos}
+use Rattle.std.proofs.Common.{rules, FitsSigned, to_z, of_z, ◌∙◌, ℤ, ap, get_or, length, pos, subst, sym}
 use Rattle.std.specs.Prelude.{◌-ℤ◌}
 use Rattle.std.specs.Int.{w64, w128}
 use Rattle.std.proofs.lemmas.Int.{to_z-of_z}
-use Rattle.fits_plane.proofs.WriteLemmas.{row_more}
+use Rattle.fits_plane.specs.Pixels.{IsStorable}
+use Rattle.fits_plane.proofs.WriteLemmas.{row_begun, row_more, pixel_room}
 use Rattle.fits_plane.proofs.pixel_writes.write_row.Goals as goal
 
 pub loop-x-preserved : goal.loop-x-preserved
@@ -12,3 +13,19 @@ loop-x-preserved c =
     let f : FitsSigned w128 v = search rules in
     row_more c.args.width c.args.start c.loop-x.x _ _ c.args.bytes.now c.loop-x.bytes c.put_pixel.new.bytes c.loop-x.invariant
     (to_z-of_z w64 c.stored_of.result (record { sfits = c.stored_of.type_inv }) ∙ c.stored_of.ensures ∙ ap (λ x. x -ℤ to_z w128 (of_z w128 c.args.offset)) (to_z-of_z w128 v f)) e.long e.here e.other
+
+-- what is written is a value less the offset
+pub put_pixel-requires-clause-storable : goal.put_pixel-requires-clause-storable
+put_pixel-requires-clause-storable c =
+    let v : ℤ = get_or c.args.values.now c.loop-x.x (pos 0) in
+    let f : FitsSigned w128 v = search rules in
+    subst (IsStorable c.args.width)
+    (ap (λ x. v -ℤ x) (sym (to_z-of_z w128 c.args.offset c.ranges.offset)) ∙ ap (λ x. x -ℤ to_z w128 (of_z w128 c.args.offset)) (sym (to_z-of_z w128 v f)) ∙ sym c.stored_of.ensures ∙ sym (to_z-of_z w64 c.stored_of.result (record { sfits = c.stored_of.type_inv })))
+    (c.requires.storable c.loop-x.x c.loop-x-test.true)
+
+pub put_pixel-requires-clause-within : goal.put_pixel-requires-clause-within
+put_pixel-requires-clause-within c =
+    pixel_room c.args.start c.loop-x.x (length c.args.values.now) c.args.width (length c.args.bytes.now) (length c.loop-x.bytes) c.loop-x-test.true c.requires.within c.loop-x.invariant.long
+
+pub loop-x-init : goal.loop-x-init
+loop-x-init c = row_begun _ _ _ _

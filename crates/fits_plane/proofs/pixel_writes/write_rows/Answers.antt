@@ -4,8 +4,9 @@ use Rattle.std.specs.Int.{w128}
 use Rattle.std.proofs.lemmas.Int.{to_z-of_z}
 use Rattle.fits_plane.specs.Pixels.{IsStorable}
 use Rattle.fits_plane.specs.Rectangle.{IsWritten}
-use Rattle.fits_plane.proofs.WriteLemmas.{rows_more, write_all, part_of, part_room}
+use Rattle.fits_plane.proofs.WriteLemmas.{none_written, rows_more, row_room, write_all, part_of, part_room}
 use Rattle.fits_plane.proofs.RectangleLemmas.{written_is}
+use Rattle.fits_plane.proofs.RowLemmas.{rectangle_size-le-product}
 use Rattle.fits_plane.proofs.pixel_writes.write_rows.Goals as goal
 
 pub slice_bounds-write_row-end : goal.slice_bounds-write_row-end
@@ -46,3 +47,23 @@ returns-clause-written c = all c
 pub returns-clause-value : goal.returns-clause-value
 returns-clause-value c =
     written_is c.args.width c.args.axes.now c.args.lo.now c.args.hi.now (λ k. get_or c.args.values.now k (pos 0) -ℤ c.args.offset) c.args.bytes.now c.loop-row.bytes c.requires.width c.read_bytes.ensures (all c)
+
+pub overflow_mul-at : goal.overflow_mul-at
+overflow_mul-at c =
+    let room = part_room c.args.axes.now c.args.lo.now c.args.hi.now c.row_len-side.result c.rows-row-end.result c.loop-row.row (length c.args.values.now) c.requires.rectangle c.row_len-side.ensures.value c.rows-row-end.ensures c.loop-row-test.true c.requires.count in
+    record { fits = omega (arith, room, c.requires.count, c.requires.small, rectangle_size-le-product _ _ _ c.requires.rectangle) }
+
+pub overflow_add-at : goal.overflow_add-at
+overflow_add-at c =
+    let room = part_room c.args.axes.now c.args.lo.now c.args.hi.now c.row_len-side.result c.rows-row-end.result c.loop-row.row (length c.args.values.now) c.requires.rectangle c.row_len-side.ensures.value c.rows-row-end.ensures c.loop-row-test.true c.requires.count in
+    record { fits = omega (arith, room, c.requires.count, c.requires.small, rectangle_size-le-product _ _ _ c.requires.rectangle) }
+
+pub write_row-requires-clause-within : goal.write_row-requires-clause-within
+write_row-requires-clause-within c =
+    let n : ℕ = c.row_len-side.result in
+    let at : ℕ = c.loop-row.row * n in
+    let room = part_room c.args.axes.now c.args.lo.now c.args.hi.now n c.rows-row-end.result c.loop-row.row (length c.args.values.now) c.requires.rectangle c.row_len-side.ensures.value c.rows-row-end.ensures c.loop-row-test.true c.requires.count in
+    row_room _ _ _ _ _ c.args.width _ _ (part_of c.args.values.now at n room).long c.row_len-side.ensures.value c.row_start-start.ensures.within c.requires.room c.loop-row.invariant.long
+
+pub loop-row-init : goal.loop-row-init
+loop-row-init c = none_written _ _ _ _ _ _ _

@@ -1,5 +1,6 @@
-use Rattle.std.proofs.Common.{◌≡◌, drop, length, arith, ap}
-use Rattle.std.proofs.lemmas.List.{length-take, length-drop}
+use Rattle.std.proofs.Common.{◌≡◌, ◌∙◌, ◌+◌, get_or, drop, length, arith, ap, sym, subst}
+use Rattle.std.proofs.lemmas.List.{with_items_is, length-take, length-drop}
+use Rattle.fits_plane.specs.Tree.{IsTree}
 use Rattle.fits_plane.proofs.PowerLemmas.{least_power}
 use Rattle.fits_plane.proofs.tree.Tree.refresh.Goals as goal
 
@@ -12,3 +13,20 @@ returns-clause-work g c = λ d u.
     let many : t.used ≡ length c.args.self.now.leaves = omega (arith, ap length seen, length-take t.used (drop t.width t.nodes.items), length-drop t.width t.nodes.items, v.tree.long, v.power.enough) in
     let few = least_power v.power.depth t.width t.used d v.power.power v.power.least (omega (arith, many, u)) in
     omega (arith, few, made, c.plant_again.ensures.work)
+
+pub plant_again-requires-clause-tree : goal.plant_again-requires-clause-tree
+plant_again-requires-clause-tree g c =
+    let s = g.S.Summary in
+    subst (IsTree s.empty s.joined s.fits c.self.inside.width) (sym c.as_mut_slice.ensures.value) c.self.invariant.tree
+
+pub invariant_of-self : goal.invariant_of-self
+invariant_of-self g c =
+    let s = g.S.Summary in
+    let t = c.self.inside in
+    let v = c.self.invariant in
+    let same = with_items_is t.nodes c.plant_again.new.nodes (omega (arith, c.plant_again.ensures.tree.long, v.tree.long)) in
+    record {
+      tree = subst (IsTree s.empty s.joined s.fits t.width) (sym same) c.plant_again.ensures.tree;
+      power = v.power;
+      units = λ k low high. ap (λ xs. get_or xs (t.width + k) s.empty) same ∙ c.plant_again.ensures.units k low ∙ ap (λ xs. get_or xs (t.width + k) s.empty) c.as_mut_slice.ensures.value ∙ v.units k low high;
+    }
