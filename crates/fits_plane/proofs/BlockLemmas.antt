@@ -232,3 +232,13 @@ pub stop_room : (first n side per all pixels blocks : ℕ) → 0 < per → n ≡
 stop_room first n side per all pixels blocks p e some within whole room =
     let end : (first + n - 1) / per < blocks = (div-lt_iff_lt-mul p).1 (omega (arith, e, some, within, whole, room)) in
     omega (arith, end)
+
+-- before the first row
+pub walk_begun : (axes lo hi : List ℕ) (per n blocks side scanned : ℕ) (right : ℕ → Type 0) → scanned ≡ 0 → ((k : ℕ) → k < blocks → is_touched axes lo hi per n k ≡ false → right k) → Walk axes lo hi per n blocks side 0 0 scanned right
+walk_begun axes lo hi per n blocks side scanned right none fresh = record {
+  fresh = fresh;
+  below = λ k b. absurd (omega (arith, b));
+  covered = λ i b e small. absurd (omega (arith, small));
+  counted = omega (arith, none);
+  limit = omega arith;
+}

@@ -1,5 +1,5 @@
 -- Pixels of a list of bytes: of a part of it, and after a write.
-use Rattle.std.proofs.Common.{◌≡◌, ◌≤◌, ◌<◌, ◌+◌, ◌-◌, ◌*◌, ◌^◌, ◌%◌, ℕ, zero, suc, Bool, false, ◌==◌, List, [], ◌∷◌, ◌++◌, length, slice_index, get_or, take, drop, refl, arith, sym, ◌∙◌, ap, ℤ, pos, subst, ◌⊎◌, ◌≢◌, inl, inr, cond}
+use Rattle.std.proofs.Common.{◌≡◌, ◌≤◌, ◌<◌, ◌+◌, ◌-◌, ◌*◌, ◌^◌, ◌%◌, ℕ, zero, suc, Bool, false, ◌==◌, List, [], ◌∷◌, ◌++◌, length, slice_index, get_or, take, drop, refl, arith, sym, ◌∙◌, ap, ℤ, FitsSigned, pos, subst, ◌⊎◌, ◌≢◌, inl, inr, cond}
 use Rattle.std.proofs.lemmas.Bool.Decides.{nat_tests}
 use Rattle.std.proofs.lemmas.Bool.{cases_lt}
 use Rattle.std.proofs.lemmas.List.{append-nil, get_or-drop, get_or-take, get_or_append_left, get_or-append_right, length-take, length-drop, length-append}
@@ -191,3 +191,7 @@ written w i z xs rest part h s within r e =
       here = pixel-put w i bits xs _ put ∙ stored_back w z h s;
       other = λ j away. elim away [ inl p ↦ put.before j p | inr p ↦ put.after j (omega (arith, p, long)) ];
     }
+
+-- a number that a pixel can store is a signed one of 64 bits
+pub storable_fits : (w : ℕ) (z : ℤ) → IsWidth w → IsStorable w z → FitsSigned w64 z
+storable_fits w z h = by_width (λ w. IsStorable w z → FitsSigned w64 z) (λ s. omega (arith, ints, s.least, s.greatest)) (λ s. omega (arith, ints, s.least, s.greatest)) (λ s. omega (arith, ints, s.least, s.greatest)) (λ s. omega (arith, ints, s.least, s.greatest)) w h

@@ -37,3 +37,7 @@ module _ {S : Type 0} (unit : S) (fits : S → Type 0) where
         leaves = ap (take used) (drop_at (take n r) (xs ++ back) n front) ∙ take_at xs back used e;
         units = λ j b. get_or-append_right (take n r) (xs ++ back) n (n + j) unit front (omega arith) ∙ (let z : n + j - n ≡ j = omega arith in ap (λ m. get_or (xs ++ back) m unit) z) ∙ past j (omega (arith, e, b));
       }
+
+-- a leaf of two lists with the same leaves
+pub same_leaf : {S : Type 0} (n k : ℕ) (old new : List S) (d : S) → drop n new ≡ drop n old → get_or new (n + k) d ≡ get_or old (n + k) d
+same_leaf n k old new d e = sym (get_or-drop n new k d) ∙ ap (λ xs. get_or xs k d) e ∙ get_or-drop n old k d

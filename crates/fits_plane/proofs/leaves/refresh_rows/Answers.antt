@@ -1,10 +1,10 @@
-use Rattle.std.proofs.Common.{◌≡◌, ◌≤◌, ◌+◌, ◌-◌, ◌/◌, max, ◌<◌, ◌*◌, ℕ, List, arith, ap, sym, subst, ◌∙◌, length}
+use Rattle.std.proofs.Common.{◌≡◌, ◌≤◌, ◌+◌, ◌-◌, ◌/◌, max, ◌<◌, ◌*◌, ℕ, List, refl, arith, ap, sym, subst, ◌∙◌, length}
 use Rattle.std.proofs.Math.Nat.{mul-le-mul_left}
 use Rattle.fits_plane.specs.Rectangle.{product, row_size, row_count}
 use Rattle.fits_plane.specs.Layout.{block_pixels}
 use Rattle.fits_plane.specs.Leaves.{IsLeaf}
 use Rattle.fits_plane.proofs.RowLemmas.{row_of, rectangle_size-rows}
-use Rattle.fits_plane.proofs.BlockLemmas.{walk_more, walk_all, walk_work, joins_more, stop_room}
+use Rattle.fits_plane.proofs.BlockLemmas.{walk_begun, walk_more, walk_all, walk_work, joins_more, stop_room}
 use Rattle.fits_plane.proofs.LeafLemmas.{block_pixels_some, layout_room, layout_small}
 use Rattle.fits_plane.proofs.leaves.refresh_rows.Goals as goal
 
@@ -72,3 +72,21 @@ nonzero_div-stop c = subst (λ per. 0 < per) (sym c.pixels_per_block-per.ensures
 pub overflow_add-stop : goal.overflow_add-stop
 overflow_add-stop c =
     record { fits = omega (arith, c.row_start-first.ensures.within, c.row_len-side.ensures.value, c.requires.all, layout_small c.args.layout c.args.bytes.now c.requires.layout, c.requires.layout.limit) }
+
+pub loop-row-init : goal.loop-row-init
+loop-row-init c = record {
+  long = refl;
+  walk = walk_begun _ _ _ _ _ _ _ _ _ (omega arith) c.requires.fresh;
+  more_work = omega arith;
+  more = omega arith;
+  joins = λ d u. omega arith;
+}
+
+pub row_len-side-requires-clause-small : goal.row_len-side-requires-clause-small
+row_len-side-requires-clause-small c = omega (arith, c.requires.all, layout_small c.args.layout c.args.bytes.now c.requires.layout, c.requires.layout.limit)
+
+pub rows-row-end-requires-clause-small : goal.rows-row-end-requires-clause-small
+rows-row-end-requires-clause-small c = omega (arith, c.requires.all, layout_small c.args.layout c.args.bytes.now c.requires.layout, c.requires.layout.limit)
+
+pub row_start-first-requires-clause-small : goal.row_start-first-requires-clause-small
+row_start-first-requires-clause-small c = omega (arith, c.requires.all, layout_small c.args.layout c.args.bytes.now c.requires.layout, c.requires.layout.limit)

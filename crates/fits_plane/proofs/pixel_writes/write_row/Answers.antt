@@ -4,6 +4,7 @@ use Rattle.std.specs.Int.{w64, w128}
 use Rattle.std.proofs.lemmas.Int.{to_z-of_z}
 use Rattle.fits_plane.specs.Pixels.{IsStorable}
 use Rattle.fits_plane.proofs.WriteLemmas.{row_begun, row_more, pixel_room}
+use Rattle.fits_plane.proofs.PixelLemmas.{storable_fits}
 use Rattle.fits_plane.proofs.pixel_writes.write_row.Goals as goal
 
 pub loop-x-preserved : goal.loop-x-preserved
@@ -29,3 +30,10 @@ put_pixel-requires-clause-within c =
 
 pub loop-x-init : goal.loop-x-init
 loop-x-init c = row_begun _ _ _ _
+
+pub stored_of-requires : goal.stored_of-requires
+stored_of-requires c =
+    let v : ℤ = get_or c.args.values.now c.loop-x.x (pos 0) in
+    let f : FitsSigned w128 v = search rules in
+    subst (FitsSigned w64) (ap (λ x. v -ℤ x) (sym (to_z-of_z w128 c.args.offset c.ranges.offset)) ∙ ap (λ x. x -ℤ to_z w128 (of_z w128 c.args.offset)) (sym (to_z-of_z w128 v f)))
+    (storable_fits c.args.width (v -ℤ c.args.offset) c.requires.width (c.requires.storable c.loop-x.x c.loop-x-test.true))

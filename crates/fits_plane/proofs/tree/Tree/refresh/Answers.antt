@@ -1,5 +1,6 @@
-use Rattle.std.proofs.Common.{◌≡◌, ◌∙◌, ◌+◌, get_or, drop, length, arith, ap, sym, subst}
-use Rattle.std.proofs.lemmas.List.{with_items_is, length-take, length-drop}
+use Rattle.std.proofs.Common.{◌≡◌, ◌<◌, ◌∙◌, ◌+◌, get_or, take, drop, length, arith, ap, sym, subst}
+use Rattle.std.proofs.lemmas.List.{with_items_is, get_or-take, get_or-drop, length-take, length-drop}
+use Rattle.std.proofs.Math.Nat.{one-le-pow}
 use Rattle.fits_plane.specs.Tree.{IsTree}
 use Rattle.fits_plane.proofs.PowerLemmas.{least_power}
 use Rattle.fits_plane.proofs.tree.Tree.refresh.Goals as goal
@@ -30,3 +31,27 @@ invariant_of-self g c =
       power = v.power;
       units = λ k low high. ap (λ xs. get_or xs (t.width + k) s.empty) same ∙ c.plant_again.ensures.units k low ∙ ap (λ xs. get_or xs (t.width + k) s.empty) c.as_mut_slice.ensures.value ∙ v.units k low high;
     }
+
+pub plant_again-requires-clause-some : goal.plant_again-requires-clause-some
+plant_again-requires-clause-some g c =
+    let power = c.self.invariant.power in omega (arith, power.power, one-le-pow power.depth 2 (omega arith))
+
+pub returns-clause-long : goal.returns-clause-long
+returns-clause-long g c =
+    let t = c.self.inside in
+    let new = c.plant_again.new.nodes in
+    let v = c.self.invariant in
+    let same = with_items_is t.nodes new (omega (arith, c.plant_again.ensures.tree.long, v.tree.long)) in
+    ap (λ xs. length (take t.used (drop t.width xs))) same
+    ∙ omega (arith, length-take t.used (drop t.width new), length-drop t.width new, c.plant_again.ensures.tree.long, v.power.enough, ap (λ z. length z.leaves) c.self.view_is, length-take t.used (drop t.width t.nodes.items), length-drop t.width t.nodes.items, v.tree.long)
+
+pub returns-clause-each : goal.returns-clause-each
+returns-clause-each g c = λ i b.
+    let s = g.S.Summary in
+    let t = c.self.inside in
+    let new = c.plant_again.new.nodes in
+    let v = c.self.invariant in
+    let below : i < t.used = omega (arith, b, ap (λ z. length z.leaves) c.self.view_is, length-take t.used (drop t.width t.nodes.items)) in
+    let same = with_items_is t.nodes new (omega (arith, c.plant_again.ensures.tree.long, v.tree.long)) in
+    let here = ap (λ xs. get_or (take t.used (drop t.width xs)) i s.empty) same ∙ get_or-take t.used (drop t.width new) i s.empty below ∙ get_or-drop t.width new i s.empty in
+    rw here (c.plant_again.ensures.asked i below)
