@@ -1,5 +1,5 @@
 -- The strings of single cards, in an array with spaces after them.
-use Rattle.std.proofs.Common.{◌≡◌, ℕ, ◌≤◌, ◌+◌, ◌-◌, true, List, [], ◌∷◌, ◌++◌, length, take, drop, replicate, Option, None, Some, zero, suc, refl, sym, ◌∙◌, ap, arith, length-take-le, take-append-drop}
+use Rattle.std.proofs.Common.{◌≡◌, ℕ, ◌≤◌, ◌+◌, ◌-◌, true, List, [], ◌∷◌, ◌++◌, length, take, drop, replicate, Option, None, Some, zero, suc, refl, sym, ◌∙◌, ap, arith, length-append, length-take-le, take-append-drop}
 use Rattle.std.specs.List.{list_all}
 use Rattle.std.specs.Option.{option_map}
 use Rattle.std.proofs.Math.ListN.{set}
@@ -8,7 +8,7 @@ use Rattle.std.proofs.lemmas.List.{length-drop, drop-drop, drop-set-lt, drop-rep
 use Rattle.std.proofs.lemmas.List.Folds.{list_all-append}
 use Rattle.fits_value.proofs.ReadLemmas.{Said}
 use Rattle.fits_value.proofs.SaysLemmas.{card_reads, with_comment}
-use Rattle.fits_value.specs.Spelling.{is_space, IsSpaces}
+use Rattle.fits_value.specs.Spelling.{is_space, IsSpaces, doubled}
 use Rattle.fits_value.specs.Field.{ReadsAs, part}
 use Rattle.fits_value.specs.Text.{normal_form}
 use Rattle.fits_value.specs.Scan.{undoubled, pair_of}
@@ -76,3 +76,7 @@ reads_other card k spelling comment h other =
 pub silent_string : (card : List ℕ) → card_says card ≡ None → card_string card ≡ None
 unfolding card_string
 silent_string card e = ap (λ (said : Option Said). option_map (λ (link : List ℕ × Option (List ℕ)). link.0) (said_string said)) e
+
+-- a card's string has two quotes
+pub string_quotes : (card spelling : List ℕ) (comment : Option (List ℕ)) → ReadsAs card kind.Str spelling comment → 2 ≤ length spelling
+string_quotes card spelling comment h = let s = h.reads.spelled in omega (arith, ap length s.1, length-append (39 ∷ doubled s.0) (39 ∷ []))

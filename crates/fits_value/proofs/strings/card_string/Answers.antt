@@ -1,6 +1,7 @@
 use Rattle.std.proofs.Common.{◌≡◌, ◌∙◌, List, ℕ, Some, arith, ◌-◌, length, take, drop, sym, ap, subst}
+use Rattle.std.proofs.lemmas.List.{length-take, length-drop}
 use Rattle.std.specs.Option.{option_map}
-use Rattle.fits_value.proofs.CardStringLemmas.{reads_string, reads_other, silent_string}
+use Rattle.fits_value.proofs.CardStringLemmas.{reads_string, reads_other, silent_string, string_quotes}
 use Rattle.fits_value.specs.Field.{ReadsAs, part}
 use Rattle.fits_value.specs.Text.{normal_form}
 use Rattle.fits_value.specs.Scan.{undoubled}
@@ -26,3 +27,25 @@ returns c =
     (c.decoded.ensures
     ∙ ap (λ (n : ℕ). normal_form (undoubled (take n (drop 1 c.part.result.now)))) size
     ∙ ap (λ (x : List ℕ). normal_form (undoubled (inner x))) spelled) ∙ sym (reads_string card spelling comment reads)
+
+-- a string has two quotes
+pub returns-in_default-part : goal.returns-in_default-part
+returns-in_default-part c =
+    let card = c.args.card.now in
+    let spelling = part card c.in-Some.reading.value in
+    let reads = subst (λ (k : ValueKind). ReadsAs card k spelling (option_map (part card) c.in-Some.reading.comment)) c.in-Str.is c.in-Some.ensures.found in
+    let spelled = c.part.ensures ∙ ap (λ (x : List ℕ). part x c.in-Some.reading.value) c.bytes.ensures.value in
+    absurd (omega (arith, string_quotes card spelling _ reads, ap length spelled, c.in_default-part.len_below))
+
+pub part-requires-clause-order : goal.part-requires-clause-order
+part-requires-clause-order c = c.in-Some.ensures.placed.value_order
+
+pub part-requires-clause-within : goal.part-requires-clause-within
+part-requires-clause-within c = omega (arith, c.in-Some.ensures.placed.value_within, ap length c.bytes.ensures.value)
+
+pub decoded-requires : goal.decoded-requires
+decoded-requires c =
+    let text = c.part.result.now in
+    let span = c.in-Some.reading.value in
+    let placed = c.in-Some.ensures.placed in
+    omega (arith, length-take (length text - 1 - 1) (drop 1 text), length-drop 1 text, ap length c.part.ensures, length-take (span.end - span.start) (drop span.start c.bytes.result.now), placed.value_from, placed.value_within, ap length c.bytes.ensures.value, c.bytes.ensures.len)
