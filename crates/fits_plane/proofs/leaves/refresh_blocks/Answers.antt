@@ -4,6 +4,7 @@ use Rattle.fits_plane.specs.Leaves.{leaf_unit, leaf_of}
 use Rattle.fits_plane.proofs.LeafLemmas.{set_more, set_beside, joins_next}
 use Rattle.fits_plane.proofs.leaves.refresh_blocks.Goals as goal
 
+-- one block more is scanned, and its leaf written
 pub loop-k-preserved : goal.loop-k-preserved
 loop-k-preserved c =
     let v = c.loop-k.invariant in

@@ -54,6 +54,7 @@ returns-clause-work c =
     let w = walk_work _ _ _ _ _ _ _ _ _ _ _ c.loop-row.invariant.walk in
     omega (arith, w, c.loop-row.invariant.more_work)
 
+-- a row ends within the blocks
 pub refresh_blocks-requires-clause-within : goal.refresh_blocks-requires-clause-within
 refresh_blocks-requires-clause-within c =
     let blocks : ℕ = length c.args.tree.now.leaves in
@@ -63,16 +64,20 @@ refresh_blocks-requires-clause-within c =
     let stop = stop_room c.row_start-first.result c.row_len-side.result (row_size c.args.lo.now c.args.hi.now) c.pixels_per_block-per.result (product c.args.axes.now) c.args.layout.pixels blocks some c.row_len-side.ensures.value c.row_len-side.ensures.some c.row_start-first.ensures.within c.requires.all room in
     omega (arith, stop, c.loop-row.invariant.long)
 
+-- a block holds a pixel
 pub nonzero_div-first : goal.nonzero_div-first
 nonzero_div-first c = subst (λ per. 0 < per) (sym c.pixels_per_block-per.ensures) (block_pixels_some c.args.layout.width c.requires.width)
 
+-- a block holds a pixel
 pub nonzero_div-stop : goal.nonzero_div-stop
 nonzero_div-stop c = subst (λ per. 0 < per) (sym c.pixels_per_block-per.ensures) (block_pixels_some c.args.layout.width c.requires.width)
 
+-- a row ends within the image
 pub overflow_add-stop : goal.overflow_add-stop
 overflow_add-stop c =
     record { fits = omega (arith, c.row_start-first.ensures.within, c.row_len-side.ensures.value, c.requires.all, layout_small c.args.layout c.args.bytes.now c.requires.layout, c.requires.layout.limit) }
 
+-- no row is walked over yet
 pub loop-row-init : goal.loop-row-init
 loop-row-init c = record {
   long = refl;
@@ -82,11 +87,14 @@ loop-row-init c = record {
   joins = λ d u. omega arith;
 }
 
+-- an image has no more pixels than bytes
 pub row_len-side-requires-clause-small : goal.row_len-side-requires-clause-small
 row_len-side-requires-clause-small c = omega (arith, c.requires.all, layout_small c.args.layout c.args.bytes.now c.requires.layout, c.requires.layout.limit)
 
+-- an image has no more pixels than bytes
 pub rows-row-end-requires-clause-small : goal.rows-row-end-requires-clause-small
 rows-row-end-requires-clause-small c = omega (arith, c.requires.all, layout_small c.args.layout c.args.bytes.now c.requires.layout, c.requires.layout.limit)
 
+-- an image has no more pixels than bytes
 pub row_start-first-requires-clause-small : goal.row_start-first-requires-clause-small
 row_start-first-requires-clause-small c = omega (arith, c.requires.all, layout_small c.args.layout c.args.bytes.now c.requires.layout, c.requires.layout.limit)

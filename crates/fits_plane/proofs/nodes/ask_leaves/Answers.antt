@@ -3,6 +3,7 @@ use Rattle.std.proofs.lemmas.List.{length-set, get_or-set_other}
 use Rattle.fits_plane.proofs.LeafLemmas.{set_next}
 use Rattle.fits_plane.proofs.nodes.ask_leaves.Goals as goal
 
+-- one leaf more is asked, and written
 pub loop-i-preserved : goal.loop-i-preserved
 loop-i-preserved g c =
     let s = g.S.Summary in

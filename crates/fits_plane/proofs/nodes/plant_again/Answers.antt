@@ -12,15 +12,18 @@ join_all-requires-clause-fit g c =
       | inr ge ↦ subst s.fits (sym (c.ask_leaves.ensures.past k (omega (arith, ge, p)))) (c.requires.tree.fit k (omega (arith, q)))
     ]
 
+-- the unused place is as before
 pub join_all-requires-clause-top : goal.join_all-requires-clause-top
 join_all-requires-clause-top g c =
     let s = g.S.Summary in
     subst s.fits (sym (c.ask_leaves.ensures.front 0 (omega (arith, c.requires.some)))) (c.requires.tree.fit 0 (omega (arith, c.requires.some)))
 
+-- the joins leave the leaves alone
 pub returns-clause-asked : goal.returns-clause-asked
 returns-clause-asked g c = λ k b.
     rw (same_leaf c.args.width k c.ask_leaves.new.nodes c.join_all.new.nodes g.S.Summary.empty c.join_all.ensures.leaves) (c.ask_leaves.ensures.asked k b)
 
+-- and what is past them
 pub returns-clause-units : goal.returns-clause-units
 returns-clause-units g c = λ k b.
     same_leaf c.args.width k c.ask_leaves.new.nodes c.join_all.new.nodes g.S.Summary.empty c.join_all.ensures.leaves ∙ c.ask_leaves.ensures.past (c.args.width + k) (omega (arith, b))

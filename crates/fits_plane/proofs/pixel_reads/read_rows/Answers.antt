@@ -1,9 +1,11 @@
-use Rattle.std.proofs.Common.{◌≡◌, ◌≤◌, ◌+◌, ◌*◌, ◌++◌, ◌∙◌, ℕ, ℤ, to_z, of_z, ap, arith, subst}
+use Rattle.std.proofs.Common.{◌≡◌, ◌≤◌, ◌+◌, ◌*◌, ◌++◌, ◌∙◌, ℕ, ℤ, ◌^◌, length, to_z, of_z, ap, arith, refl, subst, sym}
+use Rattle.std.specs.Prelude.{unsigned_abs}
 use Rattle.std.specs.Int.{w128}
 use Rattle.std.proofs.Math.Nat.{mul-le-mul_left}
 use Rattle.std.proofs.lemmas.Int.{to_z-of_z}
 use Rattle.fits_plane.specs.Rectangle.{row_size, row_count, rectangle_size, rectangle_values}
 use Rattle.fits_plane.proofs.ReadLemmas.{rows_read, all_read}
+use Rattle.fits_plane.proofs.WriteLemmas.{row_room}
 use Rattle.fits_plane.proofs.RowLemmas.{rectangle_size-rows}
 use Rattle.fits_plane.proofs.pixel_reads.read_rows.Goals as goal
 
@@ -42,3 +44,12 @@ returns-clause-work c =
     let side : ℕ = row_size c.args.lo.now c.args.hi.now in
     let all : c.loop-row.row * side ≡ rectangle_size c.args.lo.now c.args.hi.now = ap (λ m. m * side) last ∙ omega (arith, rectangle_size-rows c.args.lo.now c.args.hi.now) in
     omega (arith, c.loop-row.invariant.work, all)
+
+-- the bytes have room for the row
+pub read_row-requires-clause-within : goal.read_row-requires-clause-within
+read_row-requires-clause-within c =
+    row_room _ _ _ _ _ c.args.width (length c.args.bytes.now) (length c.args.bytes.now) refl c.row_len-side.ensures.value c.row_start-start.ensures.within c.requires.within refl
+
+-- the offset is small
+pub read_row-requires-clause-offset : goal.read_row-requires-clause-offset
+read_row-requires-clause-offset c = subst (λ z. unsigned_abs z ≤ 2 ^ 64) (sym (to_z-of_z w128 c.args.offset c.ranges.offset)) c.requires.offset

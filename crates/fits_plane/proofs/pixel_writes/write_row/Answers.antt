@@ -24,13 +24,16 @@ put_pixel-requires-clause-storable c =
     (ap (λ x. v -ℤ x) (sym (to_z-of_z w128 c.args.offset c.ranges.offset)) ∙ ap (λ x. x -ℤ to_z w128 (of_z w128 c.args.offset)) (sym (to_z-of_z w128 v f)) ∙ sym c.stored_of.ensures ∙ sym (to_z-of_z w64 c.stored_of.result (record { sfits = c.stored_of.type_inv })))
     (c.requires.storable c.loop-x.x c.loop-x-test.true)
 
+-- the bytes have room for the pixel
 pub put_pixel-requires-clause-within : goal.put_pixel-requires-clause-within
 put_pixel-requires-clause-within c =
     pixel_room c.args.start c.loop-x.x (length c.args.values.now) c.args.width (length c.args.bytes.now) (length c.loop-x.bytes) c.loop-x-test.true c.requires.within c.loop-x.invariant.long
 
+-- no pixel is written yet
 pub loop-x-init : goal.loop-x-init
 loop-x-init c = row_begun _ _ _ _
 
+-- a number that a pixel can store is small
 pub stored_of-requires : goal.stored_of-requires
 stored_of-requires c =
     let v : ℤ = get_or c.args.values.now c.loop-x.x (pos 0) in

@@ -48,16 +48,19 @@ pub returns-clause-value : goal.returns-clause-value
 returns-clause-value c =
     written_is c.args.width c.args.axes.now c.args.lo.now c.args.hi.now (λ k. get_or c.args.values.now k (pos 0) -ℤ c.args.offset) c.args.bytes.now c.loop-row.bytes c.requires.width c.read_bytes.ensures (all c)
 
+-- the values have room for the row
 pub overflow_mul-at : goal.overflow_mul-at
 overflow_mul-at c =
     let room = part_room c.args.axes.now c.args.lo.now c.args.hi.now c.row_len-side.result c.rows-row-end.result c.loop-row.row (length c.args.values.now) c.requires.rectangle c.row_len-side.ensures.value c.rows-row-end.ensures c.loop-row-test.true c.requires.count in
     record { fits = omega (arith, room, c.requires.count, c.requires.small, rectangle_size-le-product _ _ _ c.requires.rectangle) }
 
+-- and for its end
 pub overflow_add-at : goal.overflow_add-at
 overflow_add-at c =
     let room = part_room c.args.axes.now c.args.lo.now c.args.hi.now c.row_len-side.result c.rows-row-end.result c.loop-row.row (length c.args.values.now) c.requires.rectangle c.row_len-side.ensures.value c.rows-row-end.ensures c.loop-row-test.true c.requires.count in
     record { fits = omega (arith, room, c.requires.count, c.requires.small, rectangle_size-le-product _ _ _ c.requires.rectangle) }
 
+-- the bytes have room for the row
 pub write_row-requires-clause-within : goal.write_row-requires-clause-within
 write_row-requires-clause-within c =
     let n : ℕ = c.row_len-side.result in
@@ -65,5 +68,6 @@ write_row-requires-clause-within c =
     let room = part_room c.args.axes.now c.args.lo.now c.args.hi.now n c.rows-row-end.result c.loop-row.row (length c.args.values.now) c.requires.rectangle c.row_len-side.ensures.value c.rows-row-end.ensures c.loop-row-test.true c.requires.count in
     row_room _ _ _ _ _ c.args.width _ _ (part_of c.args.values.now at n room).long c.row_len-side.ensures.value c.row_start-start.ensures.within c.requires.room c.loop-row.invariant.long
 
+-- no row is written yet
 pub loop-row-init : goal.loop-row-init
 loop-row-init c = none_written _ _ _ _ _ _ _

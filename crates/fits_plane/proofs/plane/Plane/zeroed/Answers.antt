@@ -4,14 +4,17 @@ use Rattle.fits_plane.specs.Layout.{IsLayout}
 use Rattle.fits_plane.specs.Leaves.{leaf_unit, leaf_of}
 use Rattle.fits_plane.proofs.plane.Plane.zeroed.Goals as goal
 
+-- the layout is of zeros
 pub zero_leaves-requires-clause-layout : goal.zero_leaves-requires-clause-layout
 zero_leaves-requires-clause-layout c = subst (IsLayout c.args.layout) (sym (c.as_slice.ensures.value ∙ c.in_ok-bytes.ensures)) c.requires.layout
 
+-- the bytes are zeros
 pub zero_leaves-requires-clause-zeros : goal.zero_leaves-requires-clause-zeros
 zero_leaves-requires-clause-zeros c =
     let zeros = c.as_slice.ensures.value ∙ c.in_ok-bytes.ensures in
     zeros ∙ ap (λ n. replicate {A = ℕ} n 0) (sym (ap length zeros ∙ length-replicate {A = ℕ} c.args.len 0))
 
+-- the leaves are those of the bytes
 pub invariant_of-result : goal.invariant_of-result
 invariant_of-result c =
     let leaves = c.in_ok-tree.ensures.leaves in

@@ -1,5 +1,8 @@
-use Rattle.std.proofs.Common.{◌≡◌, drop, length, arith, ap}
-use Rattle.std.proofs.lemmas.List.{length-take, length-drop}
+use Rattle.std.proofs.Common.{◌≡◌, ◌∙◌, ◌+◌, get_or, take, drop, length, arith, ap, sym, subst}
+use Rattle.std.proofs.lemmas.List.{with_items_is, length-take, length-drop}
+use Rattle.fits_plane.specs.Summary.{pixels_joined, PixelFits, words_joined, WordFits, halves_joined, HalvesFit}
+use Rattle.fits_plane.specs.Tree.{IsTree}
+use Rattle.fits_plane.specs.Leaves.{leaf_unit}
 use Rattle.fits_plane.proofs.PowerLemmas.{least_power}
 use Rattle.fits_plane.proofs.rescan.Tree+Leaf.rescan.Goals as goal
 
@@ -12,3 +15,30 @@ returns-clause-joins c = λ d u.
     let many : t.used ≡ length c.args.self.now.leaves = omega (arith, ap length seen, length-take t.used (drop t.width t.nodes.items), length-drop t.width t.nodes.items, v.tree.long, v.power.enough) in
     let few = least_power v.power.depth t.width t.used d v.power.power v.power.least (omega (arith, many, u)) in
     omega (arith, few, made, c.replant.ensures.joins)
+
+-- the nodes are those of the tree
+pub replant-requires-clause-tree : goal.replant-requires-clause-tree
+replant-requires-clause-tree c = subst (IsTree leaf_unit (halves_joined pixels_joined words_joined) (HalvesFit PixelFits WordFits) c.self.inside.width) (sym c.as_mut_slice.ensures.value) c.self.invariant.tree
+
+-- the nodes are a tree still, and the leaves past those in use are as before
+pub invariant_of-self : goal.invariant_of-self
+invariant_of-self c =
+    let t = c.self.inside in
+    let v = c.self.invariant in
+    let many : t.used ≡ length c.args.self.now.leaves = omega (arith, ap (λ z. length z.leaves) c.self.view_is, length-take t.used (drop t.width t.nodes.items), length-drop t.width t.nodes.items, v.tree.long, v.power.enough) in
+    let same = with_items_is t.nodes c.replant.new.nodes (omega (arith, c.replant.ensures.tree.long, v.tree.long)) in
+    record {
+      tree = subst (IsTree leaf_unit (halves_joined pixels_joined words_joined) (HalvesFit PixelFits WordFits) t.width) (sym same) c.replant.ensures.tree;
+      power = v.power;
+      units = λ k low high. ap (λ xs. get_or xs (t.width + k) leaf_unit) same ∙ c.replant.ensures.units k (omega (arith, low, many, c.requires.whole)) ∙ ap (λ xs. get_or xs (t.width + k) leaf_unit) c.as_mut_slice.ensures.value ∙ v.units k low high;
+    }
+
+-- as many leaves are in use
+pub returns-clause-long : goal.returns-clause-long
+returns-clause-long c =
+    let t = c.self.inside in
+    let new = c.replant.new.nodes in
+    let v = c.self.invariant in
+    let same = with_items_is t.nodes new (omega (arith, c.replant.ensures.tree.long, v.tree.long)) in
+    ap (λ xs. length (take t.used (drop t.width xs))) same
+    ∙ omega (arith, length-take t.used (drop t.width new), length-drop t.width new, c.replant.ensures.tree.long, v.power.enough, ap (λ z. length z.leaves) c.self.view_is, length-take t.used (drop t.width t.nodes.items), length-drop t.width t.nodes.items, v.tree.long)

@@ -10,10 +10,12 @@ returns-clause-work g c = λ d u.
     let few = least_power p.depth c.in-Some.width c.len-used.result d p.power p.least (omega (arith, u, c.len-used.ensures)) in
     omega (arith, few, c.plant_tree.ensures.work, c.new-joins.ensures)
 
+-- the leaves fit
 pub plant_tree-requires-clause-fit : goal.plant_tree-requires-clause-fit
 plant_tree-requires-clause-fit g c = λ k b.
     rw (ap (λ xs. get_or xs k g.S.Summary.empty) c.as_slice.ensures.value) (c.requires.fit k (omega (arith, b, ap length c.as_slice.ensures.value)))
 
+-- the nodes are a tree, with units past the leaves
 pub invariant_of-result : goal.invariant_of-result
 invariant_of-result g c =
     let s = g.S.Summary in
@@ -25,6 +27,7 @@ invariant_of-result g c =
       units = λ k low high. ap (λ xs. get_or xs (n + k) s.empty) same ∙ c.plant_tree.ensures.units k (omega (arith, low, c.len-used.ensures, ap length c.as_slice.ensures.value));
     }
 
+-- the leaves stand after the nodes above them
 pub returns-clause-leaves : goal.returns-clause-leaves
 returns-clause-leaves g c =
     let used : ℕ = c.len-used.result in

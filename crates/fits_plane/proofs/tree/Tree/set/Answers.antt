@@ -32,6 +32,7 @@ returns-clause-work g c = λ d u.
     let few = few_joins (c.write_leaf.new.joins.total - t.joins.total) v.power.depth (t.width + c.args.index) t.width t.used d v.power.power (omega (arith, many, c.requires.within, v.power.enough)) c.write_leaf.ensures.few v.power.least (omega (arith, many, u)) in
     omega (arith, few, made, c.write_leaf.ensures.more)
 
+-- the nodes are a tree still, and no leaf past those in use was written
 pub invariant_of-self : goal.invariant_of-self
 invariant_of-self g c =
     let s = g.S.Summary in
@@ -45,11 +46,13 @@ invariant_of-self g c =
       units = λ k low high. ap (λ xs. get_or xs (t.width + k) s.empty) same ∙ unit_kept s.empty t.width t.used c.args.index k (t.width + c.args.index - t.width) t.nodes.items c.write_leaf.new.nodes c.args.value (c.write_leaf.ensures.leaves ∙ ap (λ xs. set (drop t.width xs) (t.width + c.args.index - t.width) c.args.value) c.as_mut_slice.ensures.value) (omega arith) below low (v.units k low high);
     }
 
+-- the nodes are those of the tree
 pub write_leaf-requires-clause-tree : goal.write_leaf-requires-clause-tree
 write_leaf-requires-clause-tree g c =
     let s = g.S.Summary in
     subst (IsTree s.empty s.joined s.fits c.self.inside.width) (sym c.as_mut_slice.ensures.value) c.self.invariant.tree
 
+-- the leaf is one of those in use
 pub write_leaf-requires-clause-high : goal.write_leaf-requires-clause-high
 write_leaf-requires-clause-high g c =
     let t = c.self.inside in
