@@ -71,3 +71,17 @@ write_row-requires-clause-within c =
 -- no row is written yet
 pub loop-row-init : goal.loop-row-init
 loop-row-init c = none_written _ _ _ _ _ _ _
+
+-- the row is one of the rectangle's
+pub row_start-start-requires-clause-within : goal.row_start-start-requires-clause-within
+row_start-start-requires-clause-within c = omega (arith, c.loop-row-test.true, c.rows-row-end.ensures)
+
+-- the row's end is not before its start
+pub slice_bounds-write_row-count : goal.slice_bounds-write_row-count
+slice_bounds-write_row-count c = omega arith
+
+-- the row's start is a place in memory
+pub offset_bounds-values-at : goal.offset_bounds-values-at
+offset_bounds-values-at c =
+    let room = part_room c.args.axes.now c.args.lo.now c.args.hi.now c.row_len-side.result c.rows-row-end.result c.loop-row.row (length c.args.values.now) c.requires.rectangle c.row_len-side.ensures.value c.rows-row-end.ensures c.loop-row-test.true c.requires.count in
+    record { fits = omega (arith, room) }

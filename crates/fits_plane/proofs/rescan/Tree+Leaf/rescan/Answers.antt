@@ -1,5 +1,5 @@
-use Rattle.std.proofs.Common.{◌≡◌, ◌∙◌, ◌+◌, get_or, take, drop, length, arith, ap, sym, subst}
-use Rattle.std.proofs.lemmas.List.{with_items_is, length-take, length-drop}
+use Rattle.std.proofs.Common.{◌≡◌, ◌<◌, ◌∙◌, ◌+◌, get_or, take, drop, length, arith, ap, sym, subst}
+use Rattle.std.proofs.lemmas.List.{with_items_is, get_or-take, get_or-drop, length-take, length-drop}
 use Rattle.fits_plane.specs.Summary.{pixels_joined, PixelFits, words_joined, WordFits, halves_joined, HalvesFit}
 use Rattle.fits_plane.specs.Tree.{IsTree}
 use Rattle.fits_plane.specs.Leaves.{leaf_unit}
@@ -42,3 +42,15 @@ returns-clause-long c =
     let same = with_items_is t.nodes new (omega (arith, c.replant.ensures.tree.long, v.tree.long)) in
     ap (λ xs. length (take t.used (drop t.width xs))) same
     ∙ omega (arith, length-take t.used (drop t.width new), length-drop t.width new, c.replant.ensures.tree.long, v.power.enough, ap (λ z. length z.leaves) c.self.view_is, length-take t.used (drop t.width t.nodes.items), length-drop t.width t.nodes.items, v.tree.long)
+
+-- each leaf is that of its block
+pub returns-clause-right : goal.returns-clause-right
+returns-clause-right c = λ k b.
+    let t = c.self.inside in
+    let new = c.replant.new.nodes in
+    let v = c.self.invariant in
+    let many : t.used ≡ length c.args.self.now.leaves = omega (arith, ap (λ z. length z.leaves) c.self.view_is, length-take t.used (drop t.width t.nodes.items), length-drop t.width t.nodes.items, v.tree.long, v.power.enough) in
+    let same = with_items_is t.nodes new (omega (arith, c.replant.ensures.tree.long, v.tree.long)) in
+    let below : k < t.used = omega (arith, b, ap (λ xs. length (take t.used (drop t.width xs))) same, length-take t.used (drop t.width new)) in
+    ap (λ xs. get_or (take t.used (drop t.width xs)) k leaf_unit) same ∙ get_or-take t.used (drop t.width new) k leaf_unit below ∙ get_or-drop t.width new k leaf_unit
+    ∙ c.replant.ensures.made k (omega (arith, below, many, c.requires.whole))
