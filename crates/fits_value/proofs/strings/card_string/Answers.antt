@@ -37,12 +37,15 @@ returns-in_default-part c =
     let spelled = c.part.ensures ∙ ap (λ (x : List ℕ). part x c.in-Some.reading.value) c.bytes.ensures.value in
     absurd (omega (arith, string_quotes card spelling _ reads, ap length spelled, c.in_default-part.len_below))
 
+-- the value ends where it begins, or later
 pub part-requires-clause-order : goal.part-requires-clause-order
 part-requires-clause-order c = c.in-Some.ensures.placed.value_order
 
+-- the value ends within the card
 pub part-requires-clause-within : goal.part-requires-clause-within
 part-requires-clause-within c = omega (arith, c.in-Some.ensures.placed.value_within, ap length c.bytes.ensures.value)
 
+-- between the quotes stand at most 68 bytes
 pub decoded-requires : goal.decoded-requires
 decoded-requires c =
     let text = c.part.result.now in
