@@ -7,7 +7,7 @@ use Rattle.std.proofs.lemmas.List.Elements.{All-take}
 use Rattle.std.proofs.lemmas.List.FromFn.{length-map-range_with_len, get_or-map-range_with_len, map-range_with_len_more, fill_by_all}
 use Rattle.std.proofs.Math.Seq.{take-add}
 use Rattle.fits_card.specs.Card.{IsEnd, is_end}
-use Rattle.fits_card.specs.Header.{Header, IsInnerCard, IsHeaderOf, HasNoHeader, joined_cards, header_bytes, header_length, fill_length}
+use Rattle.fits_card.specs.Header.{Header, IsHeader, IsInnerCard, IsHeaderOf, HasNoHeader, joined_cards, header_bytes, header_length, fill_length}
 use Rattle.fits_card.specs.HeaderSteps.{IsEndPlace, HasNoEnd, header_at, piece, pieces}
 use Rattle.fits_card.proofs.EmitLemmas.{joined-at}
 use Rattle.fits_card.proofs.HeaderLemmas.{length-joined_cards, length-header_bytes}
@@ -200,5 +200,10 @@ pub ruleset place_steps = (header_there, no_end_no_header, short_no_header)
 pub length-header_at : (f : List ℕ) (n : ℕ) (rest : List ℕ) → IsHeaderOf f (header_at f n) rest → length (header_bytes (header_at f n)) ≡ header_length n
 length-header_at f n rest cut =
     omega (arith, length-header_bytes (header_at f n) cut.whole, cut.whole.fill_size, length-map-range_with_len (piece f) 0 n, ap fill_length (length-map-range_with_len (piece f) 0 n))
+
+-- parts that are those of the header at the front make a header
+pub whole_of_parts : (f : List ℕ) (n : ℕ) (cards : List (List ℕ)) (end fill front rest : List ℕ) → IsHeaderOf f (header_at f n) rest → cards ≡ pieces f n → end ≡ piece f n → fill ≡ front → front ≡ (header_at f n).fill
+    → IsHeader (record { cards = cards; end = end; fill = fill })
+whole_of_parts f n cards end fill front rest cut c e p q = rw (c, e, p, q) cut.whole
 
 pub ruleset cut_steps = (length-header_at)
