@@ -28,12 +28,12 @@ pushed_none start f = sym (append-nil start)
 pub ruleset push_steps = (pushed_none, pushed)
 
 -- cards, END and the fill of a last block are a header
-pub ended_whole : (cards : List (List ℕ)) (block fill : List ℕ) (k n : ℕ) → length block ≡ 2880 → IsEndPlace block k → All IsInnerCard cards → n ≡ length cards → n % 36 ≡ k → fill ≡ drop (80 * (k + 1)) block
-    → IsHeader (record { cards = cards; end = piece block k; fill = fill })
-ended_whole cards block fill k n size place inner count full is = record {
+pub ended_whole : (cards : List (List ℕ)) (block end fill : List ℕ) (k n : ℕ) → length block ≡ 2880 → IsEndPlace block k → All IsInnerCard cards → n ≡ length cards → n % 36 ≡ k → end ≡ piece block k → fill ≡ drop (80 * (k + 1)) block
+    → IsHeader (record { cards = cards; end = end; fill = fill })
+ended_whole cards block end fill k n size place inner count full last is = record {
   cards = inner;
-  end_size = length-piece block k place.within;
-  ends = place.ends;
+  end_size = ap length last ∙ length-piece block k place.within;
+  ends = rw last place.ends;
   fill_size = ap length is ∙ omega (arith, length-drop (80 * (k + 1)) block, size, place.within, fill_length-by_cards (length cards), count, full);
 }
 
