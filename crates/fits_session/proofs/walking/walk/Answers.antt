@@ -1,6 +1,6 @@
 use Rattle.std.proofs.Common.{◌∙◌, arith}
 use Rattle.std.proofs.lemmas.Grind.{common_steps}
-use Rattle.fits_session.proofs.WalkLemmas.{next_more, stops_at_first, stops_by_hdu, stops_full, walked_more}
+use Rattle.fits_session.proofs.WalkLemmas.{next_more, stops_at_first, stops_by_hdu, stops_full, walk_shorter, walked_more}
 use Rattle.fits_session.proofs.walking.walk.Goals as goal
 
 pub returns-then-not-begins_file-clause-err : goal.returns-then-not-begins_file-clause-err
@@ -33,3 +33,7 @@ hdu-preserved g c = record {
   short = c.in-Ok-take.ensures.ends;
   quiet = c.in-Ok-take.ensures.quiet ∙ c.in-Ok-read_next.ensures.quiet ∙ c.hdu.invariant.quiet;
 }
+
+-- less is left with each HDU
+pub hdu-smaller : goal.hdu-smaller
+hdu-smaller g c = walk_shorter (g.K.Kept.keeps c.in-Ok-read_next.next) c.is_empty.result c.hdu.first.items c.in-Ok-take.first.items (g.R.Source.remaining c.hdu.source) (g.R.Source.remaining c.read_next.new.source) (g.R.Source.remaining c.take-in-hdu.new.source) c.hdu.intake c.read_next.new.intake c.take-in-hdu.new.self c.in-Ok-read_next.ensures.ok c.in-Ok-take.ensures.ok
