@@ -1,5 +1,5 @@
 -- Steps of taking bytes up to a limit.
-use Rattle.std.proofs.Common.{◌≡◌, ℕ, ◌+◌, ◌≤◌, List, [], ◌++◌, length, take, refl, ap, sym, ◌∙◌, append_assoc, arith, Option}
+use Rattle.std.proofs.Common.{◌≡◌, ℕ, ◌+◌, ◌≤◌, List, [], ◌++◌, length, take, refl, ap, sym, subst, ◌∙◌, append_assoc, arith, Option}
 use Rattle.std.proofs.lemmas.List.{append-nil, length-append, length-take-le, take-append-le}
 use Rattle.std.proofs.Math.Seq.{take-append-add}
 use Rattle.std.specs.Io.KnownBytes.{Consumes}
@@ -29,6 +29,11 @@ consumes_after_more before a b c bytes piece p q = record {
   joined = ap (λ t. t ++ piece) p.joined ∙ append_assoc before p.more piece;
   gone = Consumes-more a b c p.more piece p.gone q;
 }
+
+-- nothing more is
+pub consumes_after_nothing : (before : List ℕ) (a b c : Option (List ℕ)) (bytes buffer : List ℕ) (n : ℕ) → ConsumesAfter before a b bytes → Consumes b c (take n buffer) → n ≡ 0 → ConsumesAfter before a c bytes
+consumes_after_nothing before a b c bytes buffer n p q none =
+    subst (ConsumesAfter before a c) (ap (λ k. bytes ++ take k buffer) none ∙ append-nil bytes) (consumes_after_more before a b c bytes (take n buffer) p q)
 
 -- bytes were taken, and so many fewer may be taken
 pub takes_here : (a b : Option (List ℕ)) (left left' : ℕ) (bytes : List ℕ) → ConsumesAfter [] a b bytes → left ≡ left' + length bytes → Takes a b left left' bytes
