@@ -1,5 +1,5 @@
 -- Steps of saving: HDU after HDU, then the tail.
-use Rattle.std.proofs.Common.{◌≡◌, ℕ, ◌+◌, ◌<◌, ◌≤◌, List, [], ◌∷◌, ◌++◌, length, take, drop, get_or, set, refl, ap, sym, ◌∙◌, arith, Option, zero, suc, add-one}
+use Rattle.std.proofs.Common.{◌≡◌, ℕ, ◌+◌, ◌<◌, ◌≤◌, List, [], ◌∷◌, ◌++◌, length, take, drop, get_or, set, refl, ap, sym, subst, ◌∙◌, arith, Option, zero, suc, add-one}
 use Rattle.std.specs.Io.KnownBytes.{Appends}
 use Rattle.std.proofs.lemmas.List.{append-nil, take_all, take_more, drop_more, take-append-drop, length-map}
 use Rattle.std.proofs.lemmas.List.Concat.{flat_map-append}
@@ -8,8 +8,8 @@ use Rattle.fits_card.proofs.StreamLemmas.{Appends-none, Appends-more, AppendsFro
 use Rattle.fits_card.proofs.EmitLemmas.{AppendsFront-first}
 use Rattle.fits_hdu.specs.Hdu.{HduParts, hdu_bytes}
 use Rattle.fits_hdu.specs.State.{HduState, PixelWork, ReadsUpTo}
-use Rattle.fits_session.specs.File.{joined_hdus}
-use Rattle.fits_session.specs.Session.{Held, hdus_of, reads_of, works_of, held_as, held_of, once_read, each_read, ReadsOnceAtMost}
+use Rattle.fits_session.specs.File.{joined_hdus, IsFile}
+use Rattle.fits_session.specs.Session.{Held, hdus_of, reads_of, works_of, held_as, held_of, file_of, state_of, once_read, each_read, ReadsOnceAtMost}
 use Rattle.fits_session.proofs.StateLemmas.{get_or-hdus_of, hdus_of-same, length-hdus_of, works_of-same}
 
 -- HDU i of those that are there
@@ -165,5 +165,9 @@ once_at_most held hdus i old new e same l is work = record {
   least = λ j. least_read held hdus i old new e l is work.least j;
   most = λ j. most_read held hdus i old new e l is work.most j;
 }
+
+-- a file of HDUs whose bytes stay is whole still
+pub whole_still : (before after : List HduState) (tail : List ℕ) → hdus_of (held_of after) ≡ hdus_of (held_of before) → IsFile (file_of (state_of before tail)) → IsFile (file_of (state_of after tail))
+whole_still before after tail same whole = subst (λ (us : List HduParts). IsFile (record { hdus = us; tail = tail })) (sym same) whole
 
 pub ruleset save_steps = (Appends-none, AppendsFront-after, AppendsFront-first, AppendsFront-hdu, Appends-more, Appends-hdus, first_read_none)
