@@ -12,7 +12,7 @@ use Rattle.fits_hdu.specs.declared.kind.Kind.{Kind}
 use Rattle.fits_session.specs.declared.edit.Edit.TheVariants.{Insert, Put, Delete, Move, Set, Unset, Fill, Write, NewImage, RemoveHdu, Stamp}
 use Rattle.fits_cli.specs.Cut.{HasNo}
 use Rattle.fits_cli.specs.Forms.{Begins, IsCardForm, IsFieldForm, IsFillForm, IsMoveForm, IsNameForm, IsNewForm, IsNumber, IsPlaceForm, IsRectangleForm, IsWriteForm, Says, before, followed, kind_word}
-use Rattle.fits_cli.specs.Line.{after_word, alone, asked_by, axes_last, card_last, card_words, command_of, field_words, fill_words, first_word, hdu_word, kind_first, move_words, name_first, name_words, new_words, number_first, place_words, rectangle_first, rectangle_words, said_by, value_last, values_last, write_words}
+use Rattle.fits_cli.specs.Line.{after_word, alone, asked_by, axes_last, card_last, card_words, command_of, field_words, fill_words, first_word, hdu_said_by, hdu_word, kind_first, move_words, name_first, name_words, new_words, number_first, place_words, rectangle_first, rectangle_words, said_by, value_last, values_last, write_words}
 use Rattle.fits_cli.specs.declared.command.Command.{Command}
 use Rattle.fits_cli.specs.declared.command.Command.TheVariants.{Nothing, Edit, Offsets, Get, Positions, Report, Statistics, Rectangle, Sums}
 use Rattle.fits_cli.proofs.FormLemmas.{first_word-followed, after_word-followed, followed-after_word, number_first-is, name_first-is, card_last-is, IsCard-is, NumberFirst-is, NameFirst-is, alone-is, followed-nothing}
@@ -254,7 +254,7 @@ command_of-verb byte verb rest bare other =
 
 -- a line that has the form of a command says it
 pub command_of-says : (line : List ℕ) (command : Command) → Says line command → command_of line ≡ Some command
-unfolding command_of said_by asked_by alone first_word after_word
+unfolding command_of said_by hdu_said_by asked_by alone first_word after_word
 command_of-says line Nothing (inl e) = rw e refl
 command_of-says line Nothing (inr comment) = rw comment.1 refl
 command_of-says line (Edit (Insert h p card)) says =
@@ -337,6 +337,22 @@ asked_by-says verb rest command said =
     (λ test e. mapped (λ w. Sums w) (hdu_word rest) command e (λ w is same. rw same (begins verb (codes "sum") rest _ test (hdu_word-says rest w is))))
     (λ not_sum e7. absurd (let z : ◌≡◌ {A = Option Command} None (Some command) = e7 in cc))))))))
 
+-- what a word says of pixels or of a whole HDU, or asks, has the form of that
+hdu_said_by-says : (verb : List ℕ) (rest : Option (List ℕ)) (command : Command) → hdu_said_by verb rest ≡ Some command → Says (verb ++ followed rest) command
+unfolding hdu_said_by
+hdu_said_by-says verb rest command said =
+    said_either (bytes_eq verb (codes "fill")) _ _ command said
+    (λ test e. mapped (λ w. Edit (Fill w.0 w.1 w.2 w.3)) (fill_words rest) command e (λ w is same. rw same (begins verb (codes "fill") rest _ test (fill_words-says rest w is))))
+    (λ not_fill e1. said_either (bytes_eq verb (codes "write")) _ _ command e1
+    (λ test e. mapped (λ w. Edit (Write w.0 w.1 w.2 w.3)) (write_words rest) command e (λ w is same. rw same (begins verb (codes "write") rest _ test (write_words-says rest w is))))
+    (λ not_write e2. said_either (bytes_eq verb (codes "new")) _ _ command e2
+    (λ test e. mapped (λ w. Edit (NewImage w.0 w.1 w.2)) (new_words rest) command e (λ w is same. rw same (begins verb (codes "new") rest _ test (new_words-says rest w is))))
+    (λ not_new e3. said_either (bytes_eq verb (codes "rm")) _ _ command e3
+    (λ test e. mapped (λ w. Edit (RemoveHdu w)) (hdu_word rest) command e (λ w is same. rw same (begins verb (codes "rm") rest _ test (hdu_word-says rest w is))))
+    (λ not_rm e4. said_either (bytes_eq verb (codes "stamp")) _ _ command e4
+    (λ test e. mapped (λ w. Edit (Stamp w)) (hdu_word rest) command e (λ w is same. rw same (begins verb (codes "stamp") rest _ test (hdu_word-says rest w is))))
+    (λ not_stamp e5. asked_by-says verb rest command e5)))))
+
 -- what a word says of a rest has the form of that
 said_by-says : (verb : List ℕ) (rest : Option (List ℕ)) (command : Command) → said_by verb rest ≡ Some command → Says (verb ++ followed rest) command
 unfolding said_by
@@ -353,17 +369,7 @@ said_by-says verb rest command said =
     (λ test e. mapped (λ w. Edit (Set w.0 w.1 w.2 w.3)) (field_words rest) command e (λ w is same. rw same (begins verb (codes "set") rest _ test (field_words-says rest w is))))
     (λ not_set e5. said_either (bytes_eq verb (codes "unset")) _ _ command e5
     (λ test e. mapped (λ w. Edit (Unset w.0 w.1)) (name_words rest) command e (λ w is same. rw same (begins verb (codes "unset") rest _ test (name_words-says rest w is))))
-    (λ not_unset e6. said_either (bytes_eq verb (codes "fill")) _ _ command e6
-    (λ test e. mapped (λ w. Edit (Fill w.0 w.1 w.2 w.3)) (fill_words rest) command e (λ w is same. rw same (begins verb (codes "fill") rest _ test (fill_words-says rest w is))))
-    (λ not_fill e7. said_either (bytes_eq verb (codes "write")) _ _ command e7
-    (λ test e. mapped (λ w. Edit (Write w.0 w.1 w.2 w.3)) (write_words rest) command e (λ w is same. rw same (begins verb (codes "write") rest _ test (write_words-says rest w is))))
-    (λ not_write e8. said_either (bytes_eq verb (codes "new")) _ _ command e8
-    (λ test e. mapped (λ w. Edit (NewImage w.0 w.1 w.2)) (new_words rest) command e (λ w is same. rw same (begins verb (codes "new") rest _ test (new_words-says rest w is))))
-    (λ not_new e9. said_either (bytes_eq verb (codes "rm")) _ _ command e9
-    (λ test e. mapped (λ w. Edit (RemoveHdu w)) (hdu_word rest) command e (λ w is same. rw same (begins verb (codes "rm") rest _ test (hdu_word-says rest w is))))
-    (λ not_rm e10. said_either (bytes_eq verb (codes "stamp")) _ _ command e10
-    (λ test e. mapped (λ w. Edit (Stamp w)) (hdu_word rest) command e (λ w is same. rw same (begins verb (codes "stamp") rest _ test (hdu_word-says rest w is))))
-    (λ not_stamp e11. asked_by-says verb rest command e11)))))))))))
+    (λ not_unset e6. hdu_said_by-says verb rest command e6))))))
 
 -- a line that says a command has its form
 pub Says-command_of : (line : List ℕ) (command : Command) → command_of line ≡ Some command → Says line command

@@ -342,6 +342,16 @@ asked_by verb rest =
     else if bytes_eq verb (codes "sum") then sums_said rest
     else None
 
+-- what the first word of a line and the rest say of pixels or of a whole HDU, or what they ask
+unfoldable pub hdu_said_by : List ℕ → Option (List ℕ) → Option Command
+hdu_said_by verb rest =
+    if bytes_eq verb (codes "fill") then fill_said rest
+    else if bytes_eq verb (codes "write") then write_said rest
+    else if bytes_eq verb (codes "new") then new_said rest
+    else if bytes_eq verb (codes "rm") then remove_said rest
+    else if bytes_eq verb (codes "stamp") then stamp_said rest
+    else asked_by verb rest
+
 -- what the first word of a line and the rest say: an edit, or a question
 unfoldable pub said_by : List ℕ → Option (List ℕ) → Option Command
 said_by verb rest =
@@ -351,12 +361,7 @@ said_by verb rest =
     else if bytes_eq verb (codes "mov") then move_said rest
     else if bytes_eq verb (codes "set") then set_said rest
     else if bytes_eq verb (codes "unset") then unset_said rest
-    else if bytes_eq verb (codes "fill") then fill_said rest
-    else if bytes_eq verb (codes "write") then write_said rest
-    else if bytes_eq verb (codes "new") then new_said rest
-    else if bytes_eq verb (codes "rm") then remove_said rest
-    else if bytes_eq verb (codes "stamp") then stamp_said rest
-    else asked_by verb rest
+    else hdu_said_by verb rest
 
 -- what a line says: an empty line and a comment say that nothing is to be done
 unfoldable pub command_of : List ℕ → Option Command

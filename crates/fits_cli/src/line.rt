@@ -1,7 +1,7 @@
 //! The lines of a script: which bytes are which command.
 ghost use Rattle.std.specs.Prelude.{◌≡◌, IfOk, IsErrOf, OnErr};
 ghost use Rattle.std.specs.Option.{option_copied};
-ghost use Rattle.fits_cli.specs.Line.{alone, asked_by, command_of, reading_of, said_by, said_or_none};
+ghost use Rattle.fits_cli.specs.Line.{alone, asked_by, command_of, hdu_said_by, reading_of, said_by, said_or_none};
 ghost use Rattle.fits_cli.specs.Line.{delete_said, get_said, insert_said, move_said, put_said};
 ghost use Rattle.fits_cli.specs.Line.{positions_said, set_said, unset_said, ReadingNeedsMemory};
 ghost use Rattle.fits_cli.specs.Line.{fill_said, rectangle_said, stamp_said, statistics_said};
@@ -84,7 +84,19 @@ fn said_by(alloc: Global, verb: &[u8], rest: Option<&[u8]>) -> Result<Option<Com
         set_said(alloc, rest)
     } else if verb == b"unset".as_slice() {
         Ok(unset_said(rest))
-    } else if verb == b"fill".as_slice() {
+    } else {
+        hdu_said_by(alloc, verb, rest)
+    }
+}
+
+// What a line says of pixels or of a whole HDU by its first word, or what it asks.
+#[tactic(auto, unfolding(crate::specs::Line::hdu_said_by))]
+fn hdu_said_by(alloc: Global, verb: &[u8], rest: Option<&[u8]>) -> Result<Option<Command>, AllocError>
+    ensures ok { IfOk result (λ said. said ≡ hdu_said_by verb.now (option_copied rest.entry)) }
+    ensures err { OnErr result
+        (ReadingNeedsMemory (said_or_none (hdu_said_by verb.now (option_copied rest.entry)))) }
+{
+    if verb == b"fill".as_slice() {
         fill_said(alloc, rest)
     } else if verb == b"write".as_slice() {
         write_said(alloc, rest)
