@@ -7,6 +7,7 @@ ghost use Rattle.fits_cli.specs.Line.{positions_said, set_said, unset_said, Read
 ghost use Rattle.fits_cli.specs.Line.{fill_said, rectangle_said, stamp_said, statistics_said};
 ghost use Rattle.fits_cli.specs.Line.{new_said, remove_said, sums_said, write_said};
 ghost use Rattle.fits_cli.specs.declared.command.Command.{Command};
+ghost use Rattle.fits_cli.specs.declared.command.Command.TheVariants.{Offsets, Report};
 
 use crate::command::Command;
 use crate::image_words::new_words;
@@ -123,9 +124,9 @@ fn asked_by(alloc: Global, verb: &[u8], rest: Option<&[u8]>) -> Result<Option<Co
     } else if verb == b"pos".as_slice() {
         Ok(positions_said(rest))
     } else if verb == b"off".as_slice() {
-        Ok(alone(rest, Command::Offsets))
+        Ok(offsets_said(rest))
     } else if verb == b"rep".as_slice() {
-        Ok(alone(rest, Command::Report))
+        Ok(report_said(rest))
     } else if verb == b"stat".as_slice() {
         Ok(statistics_said(rest))
     } else if verb == b"rect".as_slice() {
@@ -305,13 +306,24 @@ fn sums_said(rest: Option<&[u8]>) -> Option<Command>
     Some(Command::Sums { hdu })
 }
 
-// The command of a word that stands alone: `off` or `rep`.
+// `off`
 #[tactic(auto, unfolding(crate::specs::Line::alone))]
-fn alone(rest: Option<&[u8]>, command: Command) -> Option<Command>
-    ensures { result ≡ alone (option_copied rest.entry) command }
+fn offsets_said(rest: Option<&[u8]>) -> Option<Command>
+    ensures { result ≡ alone (option_copied rest.entry) Offsets }
 {
     match rest {
-        None => Some(command),
+        None => Some(Command::Offsets),
+        Some(_) => None,
+    }
+}
+
+// `rep`
+#[tactic(auto, unfolding(crate::specs::Line::alone))]
+fn report_said(rest: Option<&[u8]>) -> Option<Command>
+    ensures { result ≡ alone (option_copied rest.entry) Report }
+{
+    match rest {
+        None => Some(Command::Report),
         Some(_) => None,
     }
 }
