@@ -92,7 +92,11 @@ fn said_by(alloc: Global, verb: &[u8], rest: Option<&[u8]>) -> Result<Option<Com
 
 // What a line says of pixels or of a whole HDU by its first word, or what it asks.
 #[tactic(auto, unfolding(crate::specs::Line::hdu_said_by))]
-fn hdu_said_by(alloc: Global, verb: &[u8], rest: Option<&[u8]>) -> Result<Option<Command>, AllocError>
+fn hdu_said_by(
+    alloc: Global,
+    verb: &[u8],
+    rest: Option<&[u8]>,
+) -> Result<Option<Command>, AllocError>
     ensures ok { IfOk result (λ said. said ≡ hdu_said_by verb.now (option_copied rest.entry)) }
     ensures err { OnErr result
         (ReadingNeedsMemory (said_or_none (hdu_said_by verb.now (option_copied rest.entry)))) }

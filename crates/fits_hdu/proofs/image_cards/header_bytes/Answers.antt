@@ -13,6 +13,6 @@ returns c =
 pub loop-k-preserved : goal.loop-k-preserved
 loop-k-preserved c = record {
   joined = c.in_ok-extend_from_slice.ensures.items ∙ (ap (λ bytes. bytes ++ c.card.inside.0) c.loop-k.invariant.joined
-      ∙ sym (joined-more c.args.cards.now c.loop-k.k c.card.inside.0 c.loop-k-test.true 
+      ∙ sym (joined-more c.args.cards.now c.loop-k.k c.card.inside.0 c.loop-k-test.true
       (subst (λ (card : List ℕ). card ≡ get_or c.args.cards.now c.loop-k.k card) (sym c.card.view_is) c.index-cards-k.is)));
 }

@@ -5,7 +5,7 @@ use Rattle.fits_hdu.proofs.image_cards.push_image.Goals as goal
 -- each part is pushed after those before it
 pub returns : goal.returns
 returns c =
-    image_pushed c.args.kind c.args.axes.now c.args.cards.now.items c.push_type.new.cards.items c.push_number.new.cards.items c.push_number-2.new.cards.items c.push_axes.new.cards.items c.push_number-3.new.cards.items c.push_number-4.new.cards.items c.push_offset.new.cards.items 
+    image_pushed c.args.kind c.args.axes.now c.args.cards.now.items c.push_type.new.cards.items c.push_number.new.cards.items c.push_number-2.new.cards.items c.push_axes.new.cards.items c.push_number-3.new.cards.items c.push_number-4.new.cards.items c.push_offset.new.cards.items
     c.in_ok-push_type.ensures (search rules) (search rules) c.in_ok-push_axes.ensures c.in_ok-push_number-3.ensures c.in_ok-push_number-4.ensures c.in_ok-push_offset.ensures
 
 pub push_number-requires : goal.push_number-requires

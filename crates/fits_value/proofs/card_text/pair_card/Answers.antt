@@ -25,15 +25,35 @@ returns-in_err-add-3-clause-none c =
 pub returns-in_err-add-4-clause-none : goal.returns-in_err-add-4-clause-none
 returns-in_err-add-4-clause-none c =
     rw (c.from_residual-in_err-add-4.ensures) (pair_over c.args.lead.now c.args.real.now c.args.imaginary.now c.args.comment.now
-    (omega (arith, c.in_err-add-4.ensures.none, ap length c.empty-spelling.ensures, ap length c.in_ok-add.ensures.some, length-append c.empty-spelling.result (40 ∷ []), ap length c.in_ok-add-2.ensures.some, length-append c.add.new.text c.args.real.now,
-    ap length c.in_ok-add-3.ensures.some, length-append c.add-2.new.text (44 ∷ 32 ∷ []))))
+    (omega (
+      arith,
+      c.in_err-add-4.ensures.none,
+      ap length c.empty-spelling.ensures,
+      ap length c.in_ok-add.ensures.some,
+      length-append c.empty-spelling.result (40 ∷ []),
+      ap length c.in_ok-add-2.ensures.some,
+      length-append c.add.new.text c.args.real.now,
+      ap length c.in_ok-add-3.ensures.some,
+      length-append c.add-2.new.text (44 ∷ 32 ∷ []),
+    )))
 
 -- the closing bracket is too far
 pub returns-in_err-add-5-clause-none : goal.returns-in_err-add-5-clause-none
 returns-in_err-add-5-clause-none c =
     rw (c.from_residual-in_err-add-5.ensures) (pair_over c.args.lead.now c.args.real.now c.args.imaginary.now c.args.comment.now
-    (omega (arith, c.in_err-add-5.ensures.none, ap length c.empty-spelling.ensures, ap length c.in_ok-add.ensures.some, length-append c.empty-spelling.result (40 ∷ []), ap length c.in_ok-add-2.ensures.some, length-append c.add.new.text c.args.real.now,
-    ap length c.in_ok-add-3.ensures.some, length-append c.add-2.new.text (44 ∷ 32 ∷ []), ap length c.in_ok-add-4.ensures.some, length-append c.add-3.new.text c.args.imaginary.now)))
+    (omega (
+      arith,
+      c.in_err-add-5.ensures.none,
+      ap length c.empty-spelling.ensures,
+      ap length c.in_ok-add.ensures.some,
+      length-append c.empty-spelling.result (40 ∷ []),
+      ap length c.in_ok-add-2.ensures.some,
+      length-append c.add.new.text c.args.real.now,
+      ap length c.in_ok-add-3.ensures.some,
+      length-append c.add-2.new.text (44 ∷ 32 ∷ []),
+      ap length c.in_ok-add-4.ensures.some,
+      length-append c.add-3.new.text c.args.imaginary.now,
+    )))
 
 -- what was added is the spelling
 pub returns-clause-some : goal.returns-clause-some
