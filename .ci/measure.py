@@ -7,7 +7,9 @@ should run meanwhile.
 
 Machines count differently for the same work, and one machine counts more when it, or another on the same hardware, has
 more to do. So the same work is timed all the while beside the gate: fits_card as it was at ANCHOR is proved over and
-over. On the machine on which the budget was set that took SECONDS."""
+over. On the machine on which the budget was set that took SECONDS. What the checks took while it was proved once is
+multiplied by SECONDS, and divided by what that proof took: the sum of these are the budget's minutes."""
+import bisect
 import collections
 import glob
 import os
@@ -35,7 +37,8 @@ def check_of(words):
 
 
 def look(seconds, aside):
-    """Notes how long each running check has taken so far, by its process, but for those in the folder aside."""
+    """Notes how long each running check has taken so far, by its process, but for those in the folder aside, and answers
+    how long all have."""
     for folder in glob.glob("/proc/[0-9]*"):
         try:
             with open(f"{folder}/cmdline", encoding="utf-8", errors="replace") as it:
@@ -47,10 +50,12 @@ def look(seconds, aside):
                 seconds[folder, fields[19]] = check, (int(fields[11]) + int(fields[12])) / TICKS
         except OSError:
             pass
+    return sum(taken for _, taken in seconds.values())
 
 
 class Anchor(threading.Thread):
-    """Proves fits_card of ANCHOR over and over, and keeps how many seconds of processor each proof took."""
+    """Proves fits_card of ANCHOR over and over, and keeps when each proof ended, and how many seconds of processor it
+    took."""
 
     def __init__(self, room):
         super().__init__(daemon=True)
@@ -68,16 +73,24 @@ class Anchor(threading.Thread):
             _, status, usage = os.wait4(self.running.pid, 0)
             if status:
                 return
-            self.taken.append(usage.ru_utime + usage.ru_stime)
+            self.taken.append((time.time(), usage.ru_utime + usage.ru_stime))
 
     def end(self):
-        """Ends it, with the proof that is under way, and answers how many seconds those before it took."""
+        """Ends it, with the proof that is under way, and answers when those before it ended, and what they took."""
         if not self.is_alive():
             sys.exit(f"fits_card of {ANCHOR} isn't proved")
         self.is_ended = True
         os.killpg(self.running.pid, signal.SIGKILL)
         self.join()
         return self.taken
+
+
+def of_the_budget(course, anchors):
+    """The budget's seconds of the checks that ran beside these proofs of the anchor. The course says how long all checks
+    had taken, at which times. What follows the last proof counts as if beside it."""
+    times, totals = zip(*course)
+    at = [totals[min(bisect.bisect(times, ended), len(totals) - 1)] for ended, _ in anchors[:-1]]
+    return sum((after - before) * SECONDS / took for before, after, (_, took) in zip([0, *at], [*at, totals[-1]], anchors))
 
 
 def lines(crate, part, ending):
@@ -88,14 +101,14 @@ def lines(crate, part, ending):
 
 def main():
     checks = int(os.environ.setdefault("RT_JOBS", "2"))
-    seconds, began = {}, time.time()
+    seconds, course, began = {}, [], time.time()
     with tempfile.TemporaryDirectory() as room:
         anchor = Anchor(f"{room}/anchor")
         anchor.start()
         subprocess.run(["git", "clone", "-q", TOP, f"{room}/fitsed"], check=True)
         with subprocess.Popen(["make", "test"], cwd=f"{room}/fitsed", stdout=sys.stderr) as gate:
             while gate.poll() is None:
-                look(seconds, anchor.room)
+                course.append((time.time(), look(seconds, anchor.room)))
                 time.sleep(0.2)
         took = (time.time() - began) / 60
         anchors = anchor.end()
@@ -112,9 +125,9 @@ def main():
         print(f"| {crate} | {' | '.join(map(str, sizes))} | {' | '.join(f'{it:.1f}' for it in rows[-1][4:])} |")
     sums = [sum(it) for it in zip(*rows)]
     print(f"| all | {' | '.join(map(str, sums[:4]))} | {' | '.join(f'{it:.1f}' for it in sums[4:])} |")
-    whole, unit = sum(sums[4:]), sum(anchors) / len(anchors) / SECONDS
-    print(f"{whole:.0f} processor minutes in {took:.0f} minutes with {checks} checks at once, status {gate.returncode}")
-    print(f"the anchor took {min(anchors):.0f} to {max(anchors):.0f} s in {len(anchors)} proofs: {whole / unit:.0f} of the budget's minutes")
+    print(f"{sum(sums[4:]):.0f} processor minutes in {took:.0f} minutes with {checks} checks at once, status {gate.returncode}")
+    paces, whole = [it for _, it in anchors], of_the_budget(course, anchors) / 60
+    print(f"the anchor took {min(paces):.0f} to {max(paces):.0f} s in {len(paces)} proofs: {whole:.0f} of the budget's minutes")
     return gate.returncode
 
 

@@ -13,7 +13,7 @@ use Rattle.fits_value.specs.declared.reading.ValueKind.TheVariants as kind
 use Rattle.fits_value.specs.declared.value.Value.{Value}
 use Rattle.fits_value.specs.declared.value.Value.TheVariants.{Undefined, Logical, Integer, Real, Complex, Str}
 use Rattle.fits_rules.specs.Reads as reads
-use Rattle.fits_rules.specs.Reads.{logical_of_value, logical_said, string_said}
+use Rattle.fits_rules.specs.Reads.{logical_of_value, logical_said}
 use Rattle.fits_codes.specs.Alone.{kind_said}
 use Rattle.fits_codes.specs.HeaderCodes.{says_false}
 

@@ -15,8 +15,7 @@ use Rattle.fits_value.specs.declared.value.Value.TheVariants.{Integer, Str}
 use Rattle.fits_hdu.specs.Hdu.{HduParts}
 use Rattle.fits_hdu.specs.Kind.{offset_of, width_of}
 use Rattle.fits_hdu.specs.declared.kind.Kind.{Kind}
-use Rattle.fits_hdu.specs.declared.kind.Kind.TheVariants.{U8, I8, I16, U16, I32, U32, I64, U64}
-use Rattle.fits_hdu.specs.declared.new_image.TheConstants.{MOST_AXES, LARGEST}
+use Rattle.fits_hdu.specs.declared.kind.Kind.TheVariants.{I8, U16, U32, U64}
 
 -- axes that a header may describe: 999 at most, each up to the greatest integer of 64 bits (4.4.1.1; own)
 unfoldable pub are_axes : List ℕ → Bool

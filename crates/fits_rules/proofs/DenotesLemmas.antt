@@ -1,5 +1,5 @@
 -- Cards that denote a number exactly.
-use Rattle.std.proofs.Common.{◌≡◌, ℕ, Bool, true, false, ℤ, List, refl, ap, sym, ◌∙◌, Option, None, Some, unwrap_or}
+use Rattle.std.proofs.Common.{◌≡◌, ℕ, Bool, true, false, ℤ, List, refl, ap, ◌∙◌, Option, None, Some, unwrap_or}
 use Rattle.std.specs.Prelude.{IsTrue, ◌↔◌}
 use Rattle.std.specs.Cmp.{both_ways}
 use Rattle.std.specs.Option.{option_map}

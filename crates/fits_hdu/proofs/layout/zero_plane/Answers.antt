@@ -1,7 +1,6 @@
-use Rattle.std.proofs.Common.{◌≡◌, ◌≤◌, ℕ, length, replicate, ap, arith, sym, subst, ◌∙◌}
+use Rattle.std.proofs.Common.{◌≡◌, ℕ, length, replicate, arith, sym, subst, ◌∙◌}
 use Rattle.std.proofs.lemmas.List.{length-replicate}
 use Rattle.fits_plane.specs.Layout.{IsLayout}
-use Rattle.fits_rules.specs.Size.{data_length}
 use Rattle.fits_hdu.proofs.LayoutLemmas.{layout_fits}
 use Rattle.fits_hdu.proofs.layout.zero_plane.Goals as goal
 

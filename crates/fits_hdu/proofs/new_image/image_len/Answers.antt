@@ -1,4 +1,4 @@
-use Rattle.std.proofs.Common.{ℕ, ap, arith, ◌∙◌}
+use Rattle.std.proofs.Common.{ℕ, arith}
 use Rattle.fits_card.proofs.HeaderLemmas.{fill_length-by_cards}
 use Rattle.fits_hdu.proofs.new_image.image_len.Goals as goal
 
