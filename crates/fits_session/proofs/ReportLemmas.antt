@@ -1,7 +1,7 @@
 -- The report, by what is found of each HDU.
 use Rattle.std.proofs.Common.{◌≡◌, ℕ, ◌+◌, ◌<◌, ◌≤◌, Bool, true, false, List, [], ◌∷◌, ◌++◌, length, map, take, drop, get_or, set, refl, ap, sym, subst, ◌∙◌, append_assoc, arith, rules, All}
 use Rattle.std.specs.Prelude.{nat_le, Ok, Option}
-use Rattle.std.proofs.lemmas.List.{append-nil, length-take-le, set-get_or, take_all, take_more}
+use Rattle.std.proofs.lemmas.List.{append-nil, length-take-le, map-append, set-get_or, take_all, take_more}
 use Rattle.std.proofs.lemmas.List.Elements.{All-head, All-tail}
 use Rattle.fits_rules.specs.Class.{is_primary}
 use Rattle.fits_rules.specs.Shape.{shape_of}
@@ -144,6 +144,13 @@ found_more names found i it l e =
 pub listed_more : (found : List Findings) (i : ℕ) (it : Findings) (repeated : Bool) (before after : List Problem) → i < length found → it ≡ get_or found i it → repeated ≡ is_repeated (found_names found) it.name → before ≡ found_from (found_names found) 1 (take i found)
     → after ≡ before ++ map (in_hdu (i + 1)) (found_at 0 (it.whole ++ name_codes repeated) ++ it.of_cards.items) → after ≡ found_from (found_names found) 1 (take (i + 1) found)
 listed_more found i it repeated before after l e again so_far is = is ∙ (rw (so_far, again) (sym (found_more (found_names found) found i it l e)))
+
+-- one more is listed
+pub mapped_more : {X Y : Type 0} (f : X → Y) (start report new : List Y) (xs : List X) (i : ℕ) (d : X) → report ≡ start ++ map f (take i xs) → new ≡ report ++ f (get_or xs i d) ∷ [] → i < length xs → new ≡ start ++ map f (take (i + 1) xs)
+mapped_more f start report new xs i d before is l =
+    let x = get_or xs i d in
+    is ∙ ap (λ t. t ++ f x ∷ []) before ∙ append_assoc start (map f (take i xs)) (f x ∷ [])
+    ∙ ap (λ t. start ++ t) (sym (ap (map f) (take_more xs i d l) ∙ map-append f (take i xs) (x ∷ [])))
 
 -- what is found of one more of the HDUs under edits
 pub each_found : (hdus old : List HduState) (i : ℕ) (hdu : HduState) (found new : List Findings) (it : Findings) → hdus ≡ old → i < length hdus → hdu ≡ get_or hdus i hdu → KeepsEach is_found found (take i (hdus_of (held_of old))) → is_found it hdu.hdu
