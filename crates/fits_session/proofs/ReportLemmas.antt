@@ -7,6 +7,8 @@ use Rattle.fits_rules.specs.Class.{is_primary}
 use Rattle.fits_rules.specs.Shape.{shape_of}
 use Rattle.fits_rules.specs.declared.array_shape.Shape.{Shape}
 use Rattle.fits_header.specs.Findings.{found_at}
+use Rattle.fits_header.specs.declared.finding.Finding.{Finding}
+use Rattle.fits_codes.specs.declared.code.Code.{Code}
 use Rattle.fits_hdu.specs.ExtensionName.{extension_name, name_codes}
 use Rattle.fits_hdu.specs.Findings.{hdu_findings}
 use Rattle.fits_hdu.specs.Hdu.{HduParts, IsHdu}
@@ -151,6 +153,16 @@ mapped_more f start report new xs i d before is l =
     let x = get_or xs i d in
     is ∙ ap (λ t. t ++ f x ∷ []) before ∙ append_assoc start (map f (take i xs)) (f x ∷ [])
     ∙ ap (λ t. start ++ t) (sym (ap (map f) (take_more xs i d l) ∙ map-append f (take i xs) (x ∷ [])))
+
+-- and one code more
+pub codes_more : (h : ℕ) (start report new : List Problem) (codes : List Code) (i : ℕ) (d : Code) → report ≡ start ++ map (in_hdu h) (found_at 0 (take i codes)) → new ≡ report ++ in_hdu h (record { place = 0; code = get_or codes i d }) ∷ [] → i < length codes
+    → new ≡ start ++ map (in_hdu h) (found_at 0 (take (i + 1) codes))
+codes_more h start report new codes i d before is l =
+    let code = get_or codes i d in
+    let at_0 : Code → Finding = λ it. record { place = 0; code = it } in
+    is ∙ ap (λ t. t ++ in_hdu h (at_0 code) ∷ []) before ∙ append_assoc start (map (in_hdu h) (found_at 0 (take i codes))) (in_hdu h (at_0 code) ∷ [])
+    ∙ ap (λ t. start ++ t) (sym (ap (λ t. map (in_hdu h) (found_at 0 t)) (take_more codes i d l)
+    ∙ (ap (map (in_hdu h)) (map-append at_0 (take i codes) (code ∷ [])) ∙ map-append (in_hdu h) (found_at 0 (take i codes)) (found_at 0 (code ∷ [])))))
 
 -- what is found of one more of the HDUs under edits
 pub each_found : (hdus old : List HduState) (i : ℕ) (hdu : HduState) (found new : List Findings) (it : Findings) → hdus ≡ old → i < length hdus → hdu ≡ get_or hdus i hdu → KeepsEach is_found found (take i (hdus_of (held_of old))) → is_found it hdu.hdu
