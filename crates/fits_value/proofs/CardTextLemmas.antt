@@ -9,6 +9,10 @@ two_parts n m front bytes rest e f =
     let size : n + m ≡ length (front ++ bytes) = rw (sym e, sym f) (sym (length-append front bytes)) in
     ap (λ (k : ℕ). take k (front ++ (bytes ++ rest))) size ∙ (ap (λ (x : List ℕ). take (length (front ++ bytes)) x) (sym (append_assoc front bytes rest)) ∙ take-append_seam (front ++ bytes) rest)
 
+-- how long a text is to which bytes were added
+pub length_added : (front bytes text : List ℕ) → text ≡ front ++ bytes → length text ≡ length front + length bytes
+length_added front bytes text is = ap length is ∙ length-append front bytes
+
 -- the parts of a complex number, added one by one
 pub pair_added : (e a b d f g real imaginary : List ℕ) → e ≡ [] → a ≡ e ++ 40 ∷ [] → b ≡ a ++ real → d ≡ b ++ 44 ∷ 32 ∷ [] → f ≡ d ++ imaginary → g ≡ f ++ 41 ∷ [] → g ≡ 40 ∷ ((real ++ 44 ∷ 32 ∷ imaginary) ++ 41 ∷ [])
 pair_added e a b d f g real imaginary p q r s t u = rw (u, t, s, r, q, p) (ap (λ (x : List ℕ). 40 ∷ (x ++ 41 ∷ [])) (append_assoc real (44 ∷ 32 ∷ []) imaginary))

@@ -1,7 +1,7 @@
-use Rattle.std.proofs.Common.{◌≡◌, ◌∷◌, [], List, ℕ, length, length-append, arith, ap, subst, ◌∙◌}
+use Rattle.std.proofs.Common.{◌≡◌, ◌∷◌, [], List, ℕ, length, arith, ap, subst, ◌∙◌}
 use Rattle.std.specs.Prelude.{IfSome, IfNone, ◌<◌}
 use Rattle.fits_value.specs.Written.{card_of, justified}
-use Rattle.fits_value.proofs.CardTextLemmas.{pair_added, pair_over}
+use Rattle.fits_value.proofs.CardTextLemmas.{length_added, pair_added, pair_over}
 use Rattle.fits_value.proofs.card_text.pair_card.Goals as goal
 
 -- an opening bracket fits
@@ -13,13 +13,13 @@ returns-in_err-add-clause-none c =
 pub returns-in_err-add-2-clause-none : goal.returns-in_err-add-2-clause-none
 returns-in_err-add-2-clause-none c =
     rw (c.from_residual-in_err-add-2.ensures) (pair_over c.args.lead.now c.args.real.now c.args.imaginary.now c.args.comment.now
-    (omega (arith, c.in_err-add-2.ensures.none, ap length c.empty-spelling.ensures, ap length c.in_ok-add.ensures.some, length-append c.empty-spelling.result (40 ∷ []))))
+    (omega (arith, c.in_err-add-2.ensures.none, ap length c.empty-spelling.ensures, length_added c.empty-spelling.result (40 ∷ []) c.add.new.text c.in_ok-add.ensures.some)))
 
 -- the comma is too far
 pub returns-in_err-add-3-clause-none : goal.returns-in_err-add-3-clause-none
 returns-in_err-add-3-clause-none c =
     rw (c.from_residual-in_err-add-3.ensures) (pair_over c.args.lead.now c.args.real.now c.args.imaginary.now c.args.comment.now
-    (omega (arith, c.in_err-add-3.ensures.none, ap length c.empty-spelling.ensures, ap length c.in_ok-add.ensures.some, length-append c.empty-spelling.result (40 ∷ []), ap length c.in_ok-add-2.ensures.some, length-append c.add.new.text c.args.real.now)))
+    (omega (arith, c.in_err-add-3.ensures.none, ap length c.empty-spelling.ensures, length_added c.empty-spelling.result (40 ∷ []) c.add.new.text c.in_ok-add.ensures.some, length_added c.add.new.text c.args.real.now c.add-2.new.text c.in_ok-add-2.ensures.some)))
 
 -- the imaginary part is too long
 pub returns-in_err-add-4-clause-none : goal.returns-in_err-add-4-clause-none
@@ -29,12 +29,9 @@ returns-in_err-add-4-clause-none c =
       arith,
       c.in_err-add-4.ensures.none,
       ap length c.empty-spelling.ensures,
-      ap length c.in_ok-add.ensures.some,
-      length-append c.empty-spelling.result (40 ∷ []),
-      ap length c.in_ok-add-2.ensures.some,
-      length-append c.add.new.text c.args.real.now,
-      ap length c.in_ok-add-3.ensures.some,
-      length-append c.add-2.new.text (44 ∷ 32 ∷ []),
+      length_added c.empty-spelling.result (40 ∷ []) c.add.new.text c.in_ok-add.ensures.some,
+      length_added c.add.new.text c.args.real.now c.add-2.new.text c.in_ok-add-2.ensures.some,
+      length_added c.add-2.new.text (44 ∷ 32 ∷ []) c.add-3.new.text c.in_ok-add-3.ensures.some,
     )))
 
 -- the closing bracket is too far
@@ -45,14 +42,10 @@ returns-in_err-add-5-clause-none c =
       arith,
       c.in_err-add-5.ensures.none,
       ap length c.empty-spelling.ensures,
-      ap length c.in_ok-add.ensures.some,
-      length-append c.empty-spelling.result (40 ∷ []),
-      ap length c.in_ok-add-2.ensures.some,
-      length-append c.add.new.text c.args.real.now,
-      ap length c.in_ok-add-3.ensures.some,
-      length-append c.add-2.new.text (44 ∷ 32 ∷ []),
-      ap length c.in_ok-add-4.ensures.some,
-      length-append c.add-3.new.text c.args.imaginary.now,
+      length_added c.empty-spelling.result (40 ∷ []) c.add.new.text c.in_ok-add.ensures.some,
+      length_added c.add.new.text c.args.real.now c.add-2.new.text c.in_ok-add-2.ensures.some,
+      length_added c.add-2.new.text (44 ∷ 32 ∷ []) c.add-3.new.text c.in_ok-add-3.ensures.some,
+      length_added c.add-3.new.text c.args.imaginary.now c.add-4.new.text c.in_ok-add-4.ensures.some,
     )))
 
 -- what was added is the spelling
