@@ -1,14 +1,15 @@
 #!/usr/bin/env python3
 """Measures what the gate costs: runs it on a fresh clone of HEAD, and prints the table of docs/GATE.md.
 
-Processor time (user and system) of each check, added up by crate: its proof, its tests, and its must-fail edits. It is
-read from /proc five times a second, so that of each check a fifth of a second at most is missing. Nothing else should
-run meanwhile.
+Processor minutes (user and system) of each check, added up by crate: its proof, its tests, and its must-fail edits.
+They are read from /proc five times a second, so that of each check a fifth of a second at most is missing. Nothing else
+should run meanwhile.
 
 Machines count differently for the same work, and one machine counts more when it, or another on the same hardware, has
-more to do. So the same work, the anchor, is timed all the while beside the gate: fits_card as it was at ANCHOR is proved
-over and over. What a check takes while it is proved once is multiplied by SECONDS, and divided by what that proof took:
-these are the budget's minutes. docs/GATE.md says how SECONDS was found."""
+more to do. So the same work is timed all the while beside the gate: fits_card as it was at ANCHOR is proved over and
+over. On the machine on which the budget was set that took SECONDS. What the checks took while it was proved once is
+multiplied by SECONDS, and divided by what that proof took: the sum of these are the budget's minutes."""
+import bisect
 import collections
 import glob
 import os
@@ -24,7 +25,7 @@ TOP = os.path.dirname(os.path.dirname(os.path.abspath(__file__)))
 TICKS = os.sysconf("SC_CLK_TCK")
 KINDS = ("proof", "tests", "edits")
 ANCHOR = "4204e72"
-SECONDS = 97
+SECONDS = 122
 
 
 def check_of(words):
@@ -35,9 +36,9 @@ def check_of(words):
     return crate, "tests" if "--test" in words else "edits" if "--incremental" in words else "proof"
 
 
-def checks(aside):
-    """The checks that are running, but for those in the folder aside: each as what it checks, what tells it from all
-    others, and the seconds that it has taken so far."""
+def look(seconds, aside):
+    """Notes how long each running check has taken so far, by its process, but for those in the folder aside, and answers
+    how long all have."""
     for folder in glob.glob("/proc/[0-9]*"):
         try:
             with open(f"{folder}/cmdline", encoding="utf-8", errors="replace") as it:
@@ -46,13 +47,15 @@ def checks(aside):
                 with open(f"{folder}/stat", encoding="utf-8", errors="replace") as it:
                     fields = it.read().rpartition(")")[2].split()
                 # a process is known by its number and its beginning
-                yield check, (folder, fields[19]), (int(fields[11]) + int(fields[12])) / TICKS
+                seconds[folder, fields[19]] = check, (int(fields[11]) + int(fields[12])) / TICKS
         except OSError:
             pass
+    return sum(taken for _, taken in seconds.values())
 
 
 class Anchor(threading.Thread):
-    """Proves fits_card of ANCHOR over and over, and keeps how many seconds of processor each proof took."""
+    """Proves fits_card of ANCHOR over and over, and keeps when each proof ended, and how many seconds of processor it
+    took."""
 
     def __init__(self, room):
         super().__init__(daemon=True)
@@ -70,10 +73,10 @@ class Anchor(threading.Thread):
             _, status, usage = os.wait4(self.running.pid, 0)
             if status:
                 return
-            self.taken.append(usage.ru_utime + usage.ru_stime)
+            self.taken.append((time.time(), usage.ru_utime + usage.ru_stime))
 
     def end(self):
-        """Ends it, with the proof that is under way, and answers what those before it took."""
+        """Ends it, with the proof that is under way, and answers when those before it ended, and what they took."""
         if not self.is_alive():
             sys.exit(f"fits_card of {ANCHOR} isn't proved")
         self.is_ended = True
@@ -82,22 +85,12 @@ class Anchor(threading.Thread):
         return self.taken
 
 
-def measured(lanes):
-    """Runs the gate, and answers its status, the seconds of each check beside each proof of the anchor, and what these
-    proofs took. What follows the last of them counts as if beside it."""
-    seconds, seen = collections.Counter(), {}
-    with tempfile.TemporaryDirectory() as room:
-        anchor = Anchor(f"{room}/anchor")
-        anchor.start()
-        subprocess.run(["git", "clone", "-q", TOP, f"{room}/fitsed"], check=True)
-        environment = {**os.environ, "RT_JOBS": str(lanes)}
-        with subprocess.Popen(["make", "test"], cwd=f"{room}/fitsed", stdout=sys.stderr, env=environment) as gate:
-            while gate.poll() is None:
-                for check, process, taken in checks(anchor.room):
-                    seconds[check, len(anchor.taken)] += taken - seen.get(process, 0)
-                    seen[process] = taken
-                time.sleep(0.2)
-        return gate.returncode, seconds, anchor.end()
+def of_the_budget(course, anchors):
+    """The budget's seconds of the checks that ran beside these proofs of the anchor. The course says how long all checks
+    had taken, at which times. What follows the last proof counts as if beside it."""
+    times, totals = zip(*course)
+    at = [totals[min(bisect.bisect(times, ended), len(totals) - 1)] for ended, _ in anchors[:-1]]
+    return sum((after - before) * SECONDS / took for before, after, (_, took) in zip([0, *at], [*at, totals[-1]], anchors))
 
 
 def lines(crate, part, ending):
@@ -107,11 +100,21 @@ def lines(crate, part, ending):
 
 
 def main():
-    lanes, began = int(os.environ.get("RT_JOBS", "2")), time.time()
-    status, seconds, anchors = measured(lanes)
+    checks = int(os.environ.setdefault("RT_JOBS", "2"))
+    seconds, course, began = {}, [], time.time()
+    with tempfile.TemporaryDirectory() as room:
+        anchor = Anchor(f"{room}/anchor")
+        anchor.start()
+        subprocess.run(["git", "clone", "-q", TOP, f"{room}/fitsed"], check=True)
+        with subprocess.Popen(["make", "test"], cwd=f"{room}/fitsed", stdout=sys.stderr) as gate:
+            while gate.poll() is None:
+                course.append((time.time(), look(seconds, anchor.room)))
+                time.sleep(0.2)
+        took = (time.time() - began) / 60
+        anchors = anchor.end()
     minutes = collections.Counter()
-    for (check, beside), taken in seconds.items():
-        minutes[check] += taken / 60 * SECONDS / anchors[min(beside, len(anchors) - 1)]
+    for check, taken in seconds.values():
+        minutes[check] += taken / 60
     print("| crate | code | specs | proofs | edits | proof | tests | trying edits |")
     print("|---|---|---|---|---|---|---|---|")
     rows = []
@@ -122,11 +125,10 @@ def main():
         print(f"| {crate} | {' | '.join(map(str, sizes))} | {' | '.join(f'{it:.1f}' for it in rows[-1][4:])} |")
     sums = [sum(it) for it in zip(*rows)]
     print(f"| all | {' | '.join(map(str, sums[:4]))} | {' | '.join(f'{it:.1f}' for it in sums[4:])} |")
-    took = (time.time() - began) / 60
-    print(f"{sum(sums[4:]):.0f} of the budget's minutes, {sum(seconds.values()) / 60:.0f} processor minutes here")
-    print(f"the anchor took {min(anchors):.0f} to {max(anchors):.0f} s in {len(anchors)} proofs")
-    print(f"{took:.0f} minutes by the clock with {lanes} checks at once, status {status}")
-    return status
+    print(f"{sum(sums[4:]):.0f} processor minutes in {took:.0f} minutes with {checks} checks at once, status {gate.returncode}")
+    paces, whole = [it for _, it in anchors], of_the_budget(course, anchors) / 60
+    print(f"the anchor took {min(paces):.0f} to {max(paces):.0f} s in {len(paces)} proofs: {whole:.0f} of the budget's minutes")
+    return gate.returncode
 
 
 if __name__ == "__main__":
