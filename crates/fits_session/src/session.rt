@@ -117,7 +117,9 @@ impl Session {
     pub fn edit(&mut self, edit: Edit) -> Result<(), Refusal>
         ensures edits { EditsTo edit self.old self.new result }
     {
-        match make_edit(self.alloc, &mut self.hdus, self.hdus_len, &self.tail, &edit) {
+        let made = make_edit(self.alloc, &mut self.hdus, self.hdus_len, &self.tail, &edit);
+        drop(edit);
+        match made {
             Ok(len) => {
                 self.hdus_len = len;
                 Ok(())

@@ -76,6 +76,6 @@ pub(crate) fn take_out(
     }
     let hdu = &hdus[i];
     let len = hdu.header_len() + hdu.data_len();
-    let _ = hdus.remove(i);
+    drop(hdus.remove(i));
     Ok(hdus_len - len as u64)
 }

@@ -35,12 +35,9 @@ impl Session {
         ensures work { ReadsOnceAtMost self.old.held self.new.held }
         ensures all_read { OnOk result (self.new.held ≡ each_read self.old.held) }
     {
-        let Ok(()) = write_hdus(&mut self.hdus, sink) else {
+        if write_hdus(&mut self.hdus, sink).is_err() || write_all(sink, &self.tail).is_err() {
             return Err(SaveFault::Device);
-        };
-        let Ok(()) = write_all(sink, &self.tail) else {
-            return Err(SaveFault::Device);
-        };
+        }
         Ok(())
     }
 }

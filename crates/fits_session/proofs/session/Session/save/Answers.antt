@@ -10,15 +10,3 @@ invariant_of-self g c = record {
   whole = whole_still _ c.write_hdus.new.hdus.items _ c.write_hdus.ensures.work.hdus c.self.invariant.whole;
   len = c.self.invariant.len ∙ ap (λ (us : List HduParts). length (joined_hdus us)) (sym c.write_hdus.ensures.work.hdus);
 }
-
-pub invariant_of-self-in_default-write_all : goal.invariant_of-self-in_default-write_all
-invariant_of-self-in_default-write_all g c = record {
-  whole = whole_still _ c.write_hdus.new.hdus.items _ c.write_hdus.ensures.work.hdus c.self.invariant.whole;
-  len = c.self.invariant.len ∙ ap (λ (us : List HduParts). length (joined_hdus us)) (sym c.write_hdus.ensures.work.hdus);
-}
-
-pub invariant_of-self-2 : goal.invariant_of-self-2
-invariant_of-self-2 g c = record {
-  whole = whole_still _ c.write_hdus.new.hdus.items _ c.write_hdus.ensures.work.hdus c.self.invariant.whole;
-  len = c.self.invariant.len ∙ ap (λ (us : List HduParts). length (joined_hdus us)) (sym c.write_hdus.ensures.work.hdus);
-}
