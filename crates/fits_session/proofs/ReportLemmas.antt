@@ -110,16 +110,17 @@ pub trailing_some : (h : ℕ) (tail : List ℕ) → is_followed tail ≡ true �
 trailing_some h [] e = cc
 trailing_some h (byte ∷ bytes) e = refl
 
--- the report where no bytes follow the last HDU
-pub report_alone : (found : List Findings) (bytes : List ℕ) (file : FileParts) → IsFileOf bytes file → KeepsEach is_found found file.hdus → is_followed file.tail ≡ false → found_from (found_names found) 1 found ≡ report_of file
-report_alone found bytes file p each none =
-    sym (append-nil (found_from (found_names found) 1 found)) ∙ ap (λ t. found_from (found_names found) 1 found ++ t) (sym (trailing_none (length found + 1) file.tail none)) ∙ report_found found bytes file p each
+-- a report to which nothing is added where no bytes follow the last HDU
+pub trailing_no : (report : List Problem) (h : ℕ) (tail : List ℕ) → is_followed tail ≡ false → report ≡ report ++ trailing h tail
+trailing_no report h tail none = sym (append-nil report) ∙ ap (λ t. report ++ t) (sym (trailing_none h tail none))
 
--- and where some do
-pub report_followed : (found : List Findings) (bytes : List ℕ) (file : FileParts) → IsFileOf bytes file → KeepsEach is_found found file.hdus → is_followed file.tail ≡ true
-    → found_from (found_names found) 1 found ++ trails (length found + 1) ∷ [] ≡ report_of file
-report_followed found bytes file p each some =
-    ap (λ t. found_from (found_names found) 1 found ++ t) (sym (trailing_some (length found + 1) file.tail some)) ∙ report_found found bytes file p each
+-- and the problem where some do
+pub trailing_yes : (report : List Problem) (h : ℕ) (tail : List ℕ) → is_followed tail ≡ true → report ++ trails h ∷ [] ≡ report ++ trailing h tail
+trailing_yes report h tail some = ap (λ t. report ++ t) (sym (trailing_some h tail some))
+
+-- so the report is what is listed
+pub report_listed : (found : List Findings) (bytes : List ℕ) (file : FileParts) (h : ℕ) (listed report : List Problem) → IsFileOf bytes file → KeepsEach is_found found file.hdus → h ≡ length found + 1 → listed ≡ found_from (found_names found) 1 found → report ≡ listed ++ trailing h file.tail → report ≡ report_of file
+report_listed found bytes file h listed report p each at first all = all ∙ ap (λ t. t ++ trailing h file.tail) first ∙ ap (λ n. found_from (found_names found) 1 found ++ trailing n file.tail) at ∙ report_found found bytes file p each
 
 -- what is found of one HDU
 abbrev pub found_in : List (Option ExtensionName) → ℕ → Findings → List Problem
@@ -179,4 +180,4 @@ hdus_stay hdus old i hdu new same l e stays = ap (set hdus i) (stays ∙ e) ∙ 
 pub all_found : (hdus : List HduState) (i : ℕ) (found : List Findings) → length hdus ≤ i → KeepsEach is_found found (take i (hdus_of (held_of hdus))) → KeepsEach is_found found (hdus_of (held_of hdus))
 all_found hdus i found l each = subst (λ (us : List HduParts). KeepsEach is_found found us) (take_all i (hdus_of (held_of hdus)) (omega (arith, length-hdus_of hdus))) each
 
-pub ruleset report_steps = (report_alone, report_followed)
+pub ruleset trailing_steps = (trailing_no, trailing_yes)

@@ -6,7 +6,7 @@ ghost use Rattle.fits_hdu.specs.ExtensionName.{name_codes};
 ghost use Rattle.fits_session.specs.File.{FileParts, IsFileOf, is_followed};
 ghost use Rattle.fits_session.specs.Reading.{is_found, KeepsEach, ReadStops};
 ghost use Rattle.fits_session.specs.NameTable.{TellsOf};
-ghost use Rattle.fits_session.specs.Report.{found_from, found_names, in_hdu, report_of, IsReportOf};
+ghost use Rattle.fits_session.specs.Report.{found_from, found_names, in_hdu, report_of, trailing, IsReportOf};
 
 use crate::name_table::NameTable;
 use crate::problem::Problem;
@@ -34,7 +34,6 @@ pub fn read_report<R: Source>(alloc: Global, source: &mut R) -> Result<Vec<Probl
 }
 
 /// The report of a file, by what is found of each of its HDUs and whether bytes follow the last.
-#[tactic(auto, using(crate::proofs::ReportLemmas::report_steps))]
 pub(crate) fn report_of(
     alloc: Global,
     found: &[Findings],
@@ -46,14 +45,24 @@ pub(crate) fn report_of(
 {
     let table = NameTable::of(alloc, found)?;
     let mut report = problems(alloc, found, &table)?;
+    push_trailing(&mut report, found.len() + 1, followed)?;
+    Ok(report)
+}
+
+// Lists that bytes follow the last HDU, where any do; they would be HDU h.
+#[tactic(auto, using(crate::proofs::ReportLemmas::trailing_steps))]
+fn push_trailing(report: &mut Vec<Problem>, h: usize, followed: bool) -> Result<(), AllocError>
+    ensures { OnOk result ((tail : List ℕ) → followed ≡ is_followed tail
+        → report.new.items ≡ report.old.items ++ trailing h tail) }
+{
     if followed {
         report.push(Problem {
-            hdu: found.len() + 1,
+            hdu: h,
             place: 0,
             code: Code::TrailingBytes,
         })?;
     }
-    Ok(report)
+    Ok(())
 }
 
 // What is found of HDUs, one after another, by a table of all that they are called.

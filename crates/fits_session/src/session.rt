@@ -13,14 +13,13 @@ mod saving;
 mod stamping;
 
 use crate::edit::Edit;
-use crate::limits::FILE_LIMIT;
 use crate::open_fault::OpenFault;
 use crate::read_fault::ReadFileFault;
 use crate::refusal::Refusal;
 use editing::make_edit;
 use fits_card::Source;
 use fits_hdu::Hdu;
-use opening::open_hdus;
+use opening::{open_hdus, test_start};
 use reading::read_file;
 use std::alloc::Global;
 use std::marker::Model;
@@ -72,12 +71,7 @@ impl Session {
         ensures not_fits { HasOpenFault bytes.now OpenFault.NotFits
             → IsErrOf result OpenFault.NotFits }
     {
-        if bytes.len() as u64 > FILE_LIMIT {
-            return Err(OpenFault::TooLarge);
-        }
-        if !bytes.starts_with(b"SIMPLE  ") {
-            return Err(OpenFault::NotFits);
-        }
+        test_start(bytes)?;
         match open_hdus(alloc, bytes) {
             Ok((hdus, tail)) => Ok(Session {
                 hdus,

@@ -1,14 +1,31 @@
 //! The HDUs of a file, and what follows them.
-ghost use Rattle.std.specs.Prelude.{◌≡◌, ◌≤◌, IfOk, IfErr, length};
+ghost use Rattle.std.specs.Prelude.{◌≡◌, ◌≤◌, ◌<◌, IfOk, IfErr, IsErrOf, OnOk, length};
 ghost use Rattle.fits_session.specs.File.{begins_extension, is_first, IsFileOf};
 ghost use Rattle.fits_session.specs.declared.limits.TheConstants.{FILE_LIMIT};
-ghost use Rattle.fits_session.specs.Opening.{BeginsAsFits, OpenFails, goes_on_after, open_fault_of};
+ghost use Rattle.fits_session.specs.Opening.{BeginsAsFits, HasOpenFault, OpenFails, goes_on_after, open_fault_of};
 ghost use Rattle.fits_session.specs.Session.{file_of, hdus_of, held_of, state_of};
 
-use crate::limits::HDU_LIMIT;
+use crate::limits::{FILE_LIMIT, HDU_LIMIT};
 use crate::open_fault::OpenFault;
 use fits_hdu::{Hdu, HduFault};
 use std::alloc::Global;
+
+/// Tests how long a file is, and then its first bytes.
+pub(crate) fn test_start(bytes: &[u8]) -> Result<(), OpenFault>
+    ensures size { OnOk result (length bytes.now ≤ FILE_LIMIT) }
+    ensures begins { OnOk result (BeginsAsFits bytes.now) }
+    ensures err { IfErr result (OpenFails bytes.now) }
+    ensures too_large { FILE_LIMIT < length bytes.now → IsErrOf result OpenFault.TooLarge }
+    ensures not_fits { HasOpenFault bytes.now OpenFault.NotFits → IsErrOf result OpenFault.NotFits }
+{
+    if bytes.len() as u64 > FILE_LIMIT {
+        return Err(OpenFault::TooLarge);
+    }
+    if !bytes.starts_with(b"SIMPLE  ") {
+        return Err(OpenFault::NotFits);
+    }
+    Ok(())
+}
 
 /// The HDUs of a file that isn't too long and begins as one, and the bytes after the last.
 #[tactic(auto, using(crate::proofs::OpeningLemmas::opening_steps))]

@@ -1,5 +1,5 @@
 //! Writing the file.
-ghost use Rattle.std.specs.Prelude.{◌≡◌, ◌+◌, OnOk, OnErr};
+ghost use Rattle.std.specs.Prelude.{◌≡◌, ◌+◌, IsOk, IsErr, OnOk, OnErr};
 ghost use Rattle.std.specs.Io.KnownBytes.{Appends};
 ghost use Rattle.fits_card.specs.Stream.{AppendsFront};
 ghost use Rattle.fits_session.specs.File.{joined_hdus};
@@ -35,10 +35,19 @@ impl Session {
         ensures work { ReadsOnceAtMost self.old.held self.new.held }
         ensures all_read { OnOk result (self.new.held ≡ each_read self.old.held) }
     {
-        if write_hdus(&mut self.hdus, sink).is_err() || write_all(sink, &self.tail).is_err() {
-            return Err(SaveFault::Device);
-        }
-        Ok(())
+        outcome(write_hdus(&mut self.hdus, sink))?;
+        outcome(write_all(sink, &self.tail))
+    }
+}
+
+// How saving goes on after a write: a failed one is the device's fault.
+fn outcome(written: io::Result<()>) -> Result<(), SaveFault>
+    ensures ok { OnOk result (IsOk written) }
+    ensures err { OnErr result (IsErr written) }
+{
+    match written {
+        Ok(()) => Ok(()),
+        Err(_) => Err(SaveFault::Device),
     }
 }
 
