@@ -1,4 +1,5 @@
 use Rattle.std.proofs.Common.{arith, ap, sym, ◌∙◌}
+use Rattle.std.proofs.lemmas.Grind.{common_steps}
 use Rattle.std.proofs.lemmas.Result.{err_from_is_err_and}
 use Rattle.fits_card.specs.Header.{header_length}
 use Rattle.fits_session.specs.Limits.{size_within}
@@ -20,6 +21,9 @@ pub returns-clause-accepted : goal.returns-clause-accepted
 returns-clause-accepted c =
     accepts c.args.hdu.now c.args.change.now c.args.len c.args.hdus c.in-Some.len (sym c.if-not-keeps_shape.ensures.value)
     (c.in-Some.ensures ∙ ap (λ n. size_within n c.args.hdus) (length_by c.args.hdu.now c.keeps_shape.new.self.hdu c.args.change.now c.args.len c.card_count-cards.result c.count_after.result c.card_count-cards.ensures.value c.count_after.ensures c.keeps_shape.ensures.work.hdu))
+
+pub returns-clause-ok : goal.returns-clause-ok
+returns-clause-ok c = grind (arith, common_steps)
 
 pub returns-clause-len : goal.returns-clause-len
 returns-clause-len c =
