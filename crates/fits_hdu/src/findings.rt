@@ -87,10 +87,11 @@ fn findings_of(alloc: Global, head: Described, sums: UnitSums) -> Result<Finding
     let verdicts = verdicts_by(said, fold(sums.total), whole);
     let whole = with_data_codes(header.judge(), sums.filled, verdicts);
     let name = extension_name(&mut header);
-    let of_cards = header.findings(alloc)?;
+    let of_cards = header.findings(alloc);
+    drop(header);
     Ok(Findings {
         whole,
-        of_cards,
+        of_cards: of_cards?,
         name,
     })
 }
