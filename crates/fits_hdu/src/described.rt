@@ -94,9 +94,11 @@ pub(crate) fn read_past<R: Source>(
 {
     let head = read_described(alloc, intake, source, first, primary)?;
     let Ok(data_len) = intake.skip(source, head.unit_len) else {
+        drop(head);
         return Err(ReadHduFault::Failed);
     };
     if data_len < head.unit_len {
+        drop(head);
         return Err(ReadHduFault::Hdu(HduFault::ShortData));
     }
     Ok(head)

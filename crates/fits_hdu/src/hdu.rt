@@ -175,7 +175,10 @@ impl Hdu {
         ensures scans { IfOk result (λ it. IsScanned (block_count data_unit.items) it.pixel_work) }
     {
         let mut header = Header::open(alloc, cards, shape)?;
-        let plane = plane_of(alloc, &mut header, data_unit)?;
+        let Ok(plane) = plane_of(alloc, &mut header, data_unit) else {
+            drop(header);
+            return Err(AllocError);
+        };
         Ok(Hdu::joined(header, plane))
     }
 

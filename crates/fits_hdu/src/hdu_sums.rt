@@ -75,6 +75,7 @@ fn sums_of(alloc: Global, head: Described, sums: UnitSums) -> Result<HduSums, Al
     let said = sum_keywords(&mut header);
     let datasum = fold(sums.total);
     let whole = whole_sum(header.total(), sums.total);
+    drop(header);
     Ok(HduSums {
         datasum,
         verdicts: verdicts_by(said, datasum, whole),

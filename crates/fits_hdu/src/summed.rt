@@ -56,8 +56,14 @@ pub(crate) fn read_summed<R: Source>(
     let fill = fill_byte(head.shape.class);
     match sum_unit(alloc, intake, source, head.unit_len, used, fill) {
         Ok(Some(sums)) => Ok(Summed { head, sums }),
-        Ok(None) => Err(ReadHduFault::Hdu(HduFault::ShortData)),
-        Err(fault) => Err(ReadHduFault::from(fault)),
+        Ok(None) => {
+            drop(head);
+            Err(ReadHduFault::Hdu(HduFault::ShortData))
+        }
+        Err(fault) => {
+            drop(head);
+            Err(ReadHduFault::from(fault))
+        }
     }
 }
 

@@ -32,12 +32,15 @@ impl Hdu {
         ensures work { IfOk result (λ it. it.reads ≤ open_reads it.hdu.header.cards) }
         ensures scans { IfOk result (λ it. IsMade (block_count it.hdu.data_unit) it.pixel_work) }
     {
-        let cards = image_header(alloc, kind, shape.axes.as_slice())?;
         let Ok(len) = unit_len(&shape, LARGEST_UNIT) else {
             return Err(AllocError);
         };
+        let cards = image_header(alloc, kind, shape.axes.as_slice())?;
         let mut header = Header::open(alloc, cards, shape)?;
-        let plane = zero_plane(alloc, &mut header, len)?;
+        let Ok(plane) = zero_plane(alloc, &mut header, len) else {
+            drop(header);
+            return Err(AllocError);
+        };
         Ok(Hdu::joined(header, plane))
     }
 }

@@ -11,7 +11,7 @@ returns-clause-hdu c =
     let axes = ap (λ (xs : List ℕ). new_header (image_cards c.args.kind xs)) c.as_slice.ensures in
     new_made c.args.kind c.args.shape c.joined.result.hdu c.in-Ok.len c.requires.shape
     (c.joined.ensures.header ∙ (c.zero_plane.ensures.work.header ∙ (c.in_ok-header.ensures.header ∙ (c.in_ok-cards.ensures.header ∙ axes))))
-    (c.joined.ensures.unit ∙ c.in_ok-plane.ensures.bytes) c.in-Ok.ensures.ok
+    (c.joined.ensures.unit ∙ c.in-Ok-zero_plane.ensures.bytes) c.in-Ok.ensures.ok
 
 pub returns-clause-shape : goal.returns-clause-shape
 returns-clause-shape c = c.joined.ensures.shape ∙ (c.zero_plane.ensures.work.shape ∙ c.in_ok-header.ensures.shape)
@@ -29,10 +29,10 @@ joined-requires-clause-described c =
 
 pub joined-requires-clause-size : goal.joined-requires-clause-size
 joined-requires-clause-size c =
-    ap length c.in_ok-plane.ensures.bytes ∙ (length-replicate {A = ℕ} c.in-Ok.len 0 ∙ (c.in-Ok.ensures.ok ∙ ap data_length (sym (c.zero_plane.ensures.work.shape ∙ c.in_ok-header.ensures.shape))))
+    ap length c.in-Ok-zero_plane.ensures.bytes ∙ (length-replicate {A = ℕ} c.in-Ok.len 0 ∙ (c.in-Ok.ensures.ok ∙ ap data_length (sym (c.zero_plane.ensures.work.shape ∙ c.in_ok-header.ensures.shape))))
 
 pub joined-requires-clause-layout : goal.joined-requires-clause-layout
-joined-requires-clause-layout c = rw (c.zero_plane.ensures.work.header, c.zero_plane.ensures.work.shape) c.in_ok-plane.ensures.layout
+joined-requires-clause-layout c = rw (c.zero_plane.ensures.work.header, c.zero_plane.ensures.work.shape) c.in-Ok-zero_plane.ensures.layout
 
 pub zero_plane-requires-clause-size : goal.zero_plane-requires-clause-size
 zero_plane-requires-clause-size c = c.in-Ok.ensures.ok ∙ ap data_length (sym c.in_ok-header.ensures.shape)
@@ -49,4 +49,4 @@ returns-clause-work c =
     omega (arith, ap (λ (header : Header). length header.cards) same, c.joined.ensures.work, c.zero_plane.ensures.work.most, c.in_ok-header.ensures.work, c.in_ok-cards.ensures.unread)
 
 pub returns-clause-scans : goal.returns-clause-scans
-returns-clause-scans c = rw (c.joined.ensures.scans, c.joined.ensures.unit, c.in_ok-plane.ensures.bytes) c.in_ok-plane.ensures.scans
+returns-clause-scans c = rw (c.joined.ensures.scans, c.joined.ensures.unit, c.in-Ok-zero_plane.ensures.bytes) c.in-Ok-zero_plane.ensures.scans

@@ -11,16 +11,16 @@ joined-requires-clause-described c =
     rw (read.header, read.shape, c.in_ok-header.ensures.header, c.in_ok-header.ensures.shape) c.requires.described
 
 pub joined-requires-clause-size : goal.joined-requires-clause-size
-joined-requires-clause-size c = ap length c.in_ok-plane.ensures.bytes ∙ (c.requires.size ∙ ap data_length (sym (c.plane_of.ensures.work.shape ∙ c.in_ok-header.ensures.shape)))
+joined-requires-clause-size c = ap length c.in-Ok.ensures.bytes ∙ (c.requires.size ∙ ap data_length (sym (c.plane_of.ensures.work.shape ∙ c.in_ok-header.ensures.shape)))
 
 pub joined-requires-clause-layout : goal.joined-requires-clause-layout
-joined-requires-clause-layout c = rw (c.plane_of.ensures.work.header, c.plane_of.ensures.work.shape) c.in_ok-plane.ensures.layout
+joined-requires-clause-layout c = rw (c.plane_of.ensures.work.header, c.plane_of.ensures.work.shape) c.in-Ok.ensures.layout
 
 pub returns-clause-header : goal.returns-clause-header
 returns-clause-header c = c.joined.ensures.header ∙ (c.plane_of.ensures.work.header ∙ c.in_ok-header.ensures.header)
 
 pub returns-clause-unit : goal.returns-clause-unit
-returns-clause-unit c = c.joined.ensures.unit ∙ c.in_ok-plane.ensures.bytes
+returns-clause-unit c = c.joined.ensures.unit ∙ c.in-Ok.ensures.bytes
 
 pub returns-clause-shape : goal.returns-clause-shape
 returns-clause-shape c = c.joined.ensures.shape ∙ (c.plane_of.ensures.work.shape ∙ c.in_ok-header.ensures.shape)
@@ -29,4 +29,4 @@ pub returns-clause-work : goal.returns-clause-work
 returns-clause-work c = omega (arith, c.joined.ensures.work, c.plane_of.ensures.work.most, c.in_ok-header.ensures.work)
 
 pub returns-clause-scans : goal.returns-clause-scans
-returns-clause-scans c = rw c.joined.ensures.scans c.in_ok-plane.ensures.scans
+returns-clause-scans c = rw c.joined.ensures.scans c.in-Ok.ensures.scans
