@@ -1,9 +1,9 @@
 use Rattle.std.proofs.Common.{◌+◌, ◌∙◌, ap, arith, length}
-use Rattle.std.specs.Prelude.{Err}
+use Rattle.std.specs.Prelude.{Err, ◌%◌}
 use Rattle.std.proofs.lemmas.List.{length-append}
 use Rattle.std.proofs.lemmas.Result.{err_from_is_err_and}
 use Rattle.fits_rules.proofs.LawLemmas.{shape_primary}
-use Rattle.fits_hdu.proofs.PassingLemmas.{hdu_summed, stops_summed}
+use Rattle.fits_hdu.proofs.PassingLemmas.{hdu_summed, stops_summed, unit_words}
 use Rattle.fits_hdu.proofs.ReadingLemmas.{stops_by_unit}
 use Rattle.fits_hdu.proofs.summed.read_summed.Goals as goal
 
@@ -55,3 +55,6 @@ pub sum_unit-requires-clause-room : goal.sum_unit-requires-clause-room
 sum_unit-requires-clause-room g c =
     let head = c.in_ok-head.ensures in
     omega (arith, head.room, head.taken.taken.count, c.requires.room)
+
+pub sum_unit-requires-clause-words : goal.sum_unit-requires-clause-words
+sum_unit-requires-clause-words g c = ap (λ n. n % 4) c.in_ok-head.ensures.len ∙ unit_words c.in_ok-head.head.shape

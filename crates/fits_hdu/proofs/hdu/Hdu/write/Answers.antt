@@ -1,14 +1,18 @@
 use Rattle.std.proofs.Common.{◌≡◌, ◌∙◌, ap, sym, subst, rules, List, length, None, true, false, ℤ, pos, ◌-ℤ◌}
 use Rattle.std.specs.Prelude.{Err, Ok, slice_index_or}
+use Rattle.fits_plane.specs.Layout.{block_count}
 use Rattle.fits_plane.specs.Pixels.{AreStorable, can_store_all}
 use Rattle.fits_plane.specs.Rectangle.{lies_within, product, rectangle_size, rectangle_written}
+use Rattle.fits_plane.specs.Work.{rectangle_blocks}
 use Rattle.fits_rules.specs.declared.array_shape.Shape.{Shape}
 use Rattle.fits_hdu.specs.Hdu.{HduParts}
 use Rattle.fits_hdu.specs.Kind.{offset_of, width_of}
+use Rattle.fits_hdu.specs.Layout.{layout_of}
 use Rattle.fits_hdu.specs.Pixels.{written}
 use Rattle.fits_hdu.specs.State.{HduState}
+use Rattle.fits_hdu.specs.Work.{IsPatched}
 use Rattle.fits_hdu.specs.declared.pixel_fault.PixelFault.TheVariants.{NotImage, BadRectangle, WrongCount, OutOfRange}
-use Rattle.fits_hdu.proofs.PixelLemmas.{few_places, length-rectangle_written, offset_fits, plane_pixels, plane_width, written-not_image, written-bad, written-count, written-out, written-done}
+use Rattle.fits_hdu.proofs.PixelLemmas.{few_places, length-rectangle_written, offset_fits, patched, plane_pixels, plane_width, written-not_image, written-bad, written-count, written-out, written-done}
 use Rattle.fits_hdu.proofs.hdu.Hdu.write.Goals as goal
 
 pub returns-in_default-clause-err : goal.returns-in_default-clause-err
@@ -92,6 +96,16 @@ returns-clause-ok c =
     subst (λ (s : HduState). written s.shape c.args.lo.now c.args.hi.now values s.hdu ≡ Ok (record { header = t.header.header; data_unit = c.write_rect.new.self.bytes })) c.self.view_is
     (written-done t.header.shape t.header.header t.plane.bytes c.write_rect.new.self.bytes c.args.lo.now c.args.hi.now values c.in-Some.kind t.plane.layout.width
     (sym c.self.invariant.kind ∙ some) within (width ∙ c.width.ensures.value) count can put)
+
+pub returns-clause-work : goal.returns-clause-work
+returns-clause-work c =
+    let t = c.self.inside in
+    let e = c.write_rect.ensures in
+    let axes = c.as_slice-axes.ensures ∙ ap (λ (shape : Shape). shape.axes) c.shape.ensures.value in
+    subst (λ (s : HduState). IsPatched (rectangle_blocks (layout_of s.shape s.hdu.header.cards) s.hdu.data_unit s.shape.axes c.args.lo.now c.args.hi.now)
+    (block_count s.hdu.data_unit) s.pixel_work (record { scans = c.write_rect.new.self.scans; reads = c.write_rect.new.self.reads; joins = c.write_rect.new.self.joins })) c.self.view_is
+    (patched t.plane.layout t.header.shape t.header.header.cards t.plane.bytes c.as_slice-axes.result.now c.args.lo.now c.args.hi.now _ _ c.self.invariant.layout axes
+    e.reads e.more_scans e.scans e.more_joins e.joins)
 
 pub write_rect-requires-clause-all : goal.write_rect-requires-clause-all
 write_rect-requires-clause-all c =

@@ -8,9 +8,8 @@ use Rattle.fits_hdu.proofs.hdu.pixels.stored_number.Goals as goal
 
 pub returns-in-Some-clause-some : goal.returns-in-Some-clause-some
 returns-in-Some-clause-some c =
-    let means = c.is_storable.ensures.means in
-    let stored : IsStorable c.args.width c.in-Some.number = search (rules, means) in
     let wide : FitsSigned w128 c.in-Some.number = search rules in
+    let stored : IsStorable c.args.width c.in-Some.number = subst (λ number. IsStorable c.args.width number) (to_z-of_z w128 c.in-Some.number wide) (c.is_storable.ensures.means.0 c.if-is_storable.true) in
     let is : c.in-Some.number ≡ c.args.value -ℤ c.args.offset = search rules in
     rw (to_z-of_z w128 c.in-Some.number wide, to_z-of_z w64 c.in-Some.number (stored_fits c.args.width c.in-Some.number c.requires stored)) (stored, is)
 
