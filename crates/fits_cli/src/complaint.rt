@@ -23,8 +23,7 @@ pub(crate) fn print_complaint<O: Sink>(out: &mut O, line: u64, why: &str) -> Res
     print_number(out, line)?;
     print(out, b": ")?;
     print(out, why.as_bytes())?;
-    print(out, b"\n")?;
-    Ok(())
+    print(out, b"\n")
 }
 
 // A number in decimal digits.
@@ -37,12 +36,10 @@ fn print_number<O: Sink>(out: &mut O, number: u64) -> Result<(), Fault>
         (sink (O.contents out.new) (O.failures out.new) (O.unflushed out.new))) }
 {
     if number < 10 {
-        print_digit(out, number)?;
-        return Ok(());
+        return print_digit(out, number);
     }
     print_number(out, number / 10)?;
-    print_digit(out, number % 10)?;
-    Ok(())
+    print_digit(out, number % 10)
 }
 
 fn print_digit<O: Sink>(out: &mut O, digit: u64) -> Result<(), Fault>

@@ -6,7 +6,7 @@ ghost use Rattle.fits_cli.specs.Line.{lengths_of_word, new_words};
 ghost use Rattle.fits_value.specs.Number.{value_of};
 
 use crate::cut::split_once;
-use crate::words::{DIGITS, cut_word, is_number, number_first, number_of_digits};
+use crate::words::{DIGITS, cut_word, is_number, is_word, number_first, number_of_digits};
 use fits_hdu::Kind;
 use fits_rules::Axes;
 use std::alloc::{AllocError, Global};
@@ -50,21 +50,21 @@ fn kind_first(rest: Option<&[u8]>) -> Option<(Kind, Option<&[u8]>)>
 fn kind_of_word(word: &[u8]) -> Option<Kind>
     ensures { result ≡ kind_of_word word.now }
 {
-    if word == b"u8".as_slice() {
+    if is_word(word, b"u8") {
         Some(Kind::U8)
-    } else if word == b"i8".as_slice() {
+    } else if is_word(word, b"i8") {
         Some(Kind::I8)
-    } else if word == b"i16".as_slice() {
+    } else if is_word(word, b"i16") {
         Some(Kind::I16)
-    } else if word == b"u16".as_slice() {
+    } else if is_word(word, b"u16") {
         Some(Kind::U16)
-    } else if word == b"i32".as_slice() {
+    } else if is_word(word, b"i32") {
         Some(Kind::I32)
-    } else if word == b"u32".as_slice() {
+    } else if is_word(word, b"u32") {
         Some(Kind::U32)
-    } else if word == b"i64".as_slice() {
+    } else if is_word(word, b"i64") {
         Some(Kind::I64)
-    } else if word == b"u64".as_slice() {
+    } else if is_word(word, b"u64") {
         Some(Kind::U64)
     } else {
         None
@@ -78,7 +78,7 @@ fn axes_of_word(alloc: Global, word: &[u8]) -> Result<Option<Axes>, AllocError>
     ensures ok { IfOk result (λ axes. axes ≡ axes_of_word word.now) }
     ensures err { OnErr result (IsSome (axes_of_word word.now)) }
 {
-    if word == b"-".as_slice() {
+    if is_word(word, b"-") {
         return Ok(Some(Axes::new(Vec::new(alloc))));
     }
     if !are_lengths(word) {

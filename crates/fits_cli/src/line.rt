@@ -15,8 +15,8 @@ use crate::limits::LINE_LIMIT;
 use crate::line_fault::LineFault;
 use crate::line_reading::LineReading;
 use crate::words::{
-    card_words, cut_word, field_words, fill_words, hdu_word, move_words, name_words, place_words,
-    rectangle_words, write_words,
+    card_words, cut_word, field_words, fill_words, hdu_word, is_word, move_words, name_words,
+    place_words, rectangle_words, write_words,
 };
 use fits_session::Edit;
 use std::alloc::{AllocError, Global};
@@ -73,17 +73,17 @@ fn said_by(alloc: Global, verb: &[u8], rest: Option<&[u8]>) -> Result<Option<Com
     ensures err { OnErr result
         (ReadingNeedsMemory (said_or_none (said_by verb.now (option_copied rest.entry)))) }
 {
-    if verb == b"ins".as_slice() {
+    if is_word(verb, b"ins") {
         Ok(insert_said(rest))
-    } else if verb == b"put".as_slice() {
+    } else if is_word(verb, b"put") {
         Ok(put_said(rest))
-    } else if verb == b"del".as_slice() {
+    } else if is_word(verb, b"del") {
         Ok(delete_said(rest))
-    } else if verb == b"mov".as_slice() {
+    } else if is_word(verb, b"mov") {
         Ok(move_said(rest))
-    } else if verb == b"set".as_slice() {
+    } else if is_word(verb, b"set") {
         set_said(alloc, rest)
-    } else if verb == b"unset".as_slice() {
+    } else if is_word(verb, b"unset") {
         Ok(unset_said(rest))
     } else {
         hdu_said_by(alloc, verb, rest)
@@ -101,15 +101,15 @@ fn hdu_said_by(
     ensures err { OnErr result
         (ReadingNeedsMemory (said_or_none (hdu_said_by verb.now (option_copied rest.entry)))) }
 {
-    if verb == b"fill".as_slice() {
+    if is_word(verb, b"fill") {
         fill_said(alloc, rest)
-    } else if verb == b"write".as_slice() {
+    } else if is_word(verb, b"write") {
         write_said(alloc, rest)
-    } else if verb == b"new".as_slice() {
+    } else if is_word(verb, b"new") {
         new_said(alloc, rest)
-    } else if verb == b"rm".as_slice() {
+    } else if is_word(verb, b"rm") {
         Ok(remove_said(rest))
-    } else if verb == b"stamp".as_slice() {
+    } else if is_word(verb, b"stamp") {
         Ok(stamp_said(rest))
     } else {
         asked_by(alloc, verb, rest)
@@ -123,19 +123,19 @@ fn asked_by(alloc: Global, verb: &[u8], rest: Option<&[u8]>) -> Result<Option<Co
     ensures err { OnErr result
         (ReadingNeedsMemory (said_or_none (asked_by verb.now (option_copied rest.entry)))) }
 {
-    if verb == b"get".as_slice() {
+    if is_word(verb, b"get") {
         Ok(get_said(rest))
-    } else if verb == b"pos".as_slice() {
+    } else if is_word(verb, b"pos") {
         Ok(positions_said(rest))
-    } else if verb == b"off".as_slice() {
+    } else if is_word(verb, b"off") {
         Ok(offsets_said(rest))
-    } else if verb == b"rep".as_slice() {
+    } else if is_word(verb, b"rep") {
         Ok(report_said(rest))
-    } else if verb == b"stat".as_slice() {
+    } else if is_word(verb, b"stat") {
         Ok(statistics_said(rest))
-    } else if verb == b"rect".as_slice() {
+    } else if is_word(verb, b"rect") {
         rectangle_said(alloc, rest)
-    } else if verb == b"sum".as_slice() {
+    } else if is_word(verb, b"sum") {
         Ok(sums_said(rest))
     } else {
         Ok(None)

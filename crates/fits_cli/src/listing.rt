@@ -93,8 +93,7 @@ fn push_line(
 {
     push_front(alloc, line, number, shape.class, shape.bitpix)?;
     push_axes(alloc, line, shape.axes.as_slice())?;
-    push_back(alloc, line, cards, at)?;
-    Ok(())
+    push_back(alloc, line, cards, at)
 }
 
 // `hdu N CLASS bitpix B axes `
@@ -132,13 +131,16 @@ fn push_axes(alloc: Global, line: &mut Vec<u8>, axes: &[u64]) -> Result<(), Allo
     ensures { OnOk result (line.new.items ≡ line.old.items ++ axes_text axes.now) }
 {
     match axes {
-        [] => line.push(b'-')?,
+        [] => {
+            line.push(b'-')?;
+            Ok(())
+        }
         [first, more @ ..] => {
-            line.extend_from_slice(format!(in alloc; "{first}")?.as_bytes())?;
-            push_more_axes(alloc, line, more)?;
+            let text = format!(in alloc; "{first}")?;
+            line.extend_from_slice(text.as_bytes())?;
+            push_more_axes(alloc, line, more)
         }
     }
-    Ok(())
 }
 
 // Further axes, each after an x.

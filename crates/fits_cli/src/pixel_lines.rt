@@ -97,7 +97,6 @@ pub(crate) fn values_line(alloc: Global, values: &[i128]) -> Result<Vec<u8>, All
 }
 
 // Further numbers, each after a space.
-
 fn push_more_numbers(alloc: Global, line: &mut Vec<u8>, numbers: &[i128]) -> Result<(), AllocError>
     ensures { OnOk result (line.new.items ≡ line.old.items ++ numbers_spaced numbers.now) }
 {

@@ -1,5 +1,5 @@
 //! A script, answered line by line as it comes.
-ghost use Rattle.std.specs.Prelude.{◌≡◌, ◌<◌, ◌≤◌, ◌+◌, ◌^◌, ◌++◌, length, IfErr, OnOk};
+ghost use Rattle.std.specs.Prelude.{◌≡◌, ◌<◌, ◌≤◌, ◌+◌, ◌^◌, ◌++◌, [], length, IfErr, OnOk};
 ghost use Rattle.std.specs.Prelude.{vec_capacity, vec_len};
 ghost use Rattle.fits_cli.specs.Line.{reading_of};
 ghost use Rattle.fits_cli.specs.Running.{kept_of, AnswersLine, AnswersScript, Continues};
@@ -35,8 +35,7 @@ fn answer_line<O: Sink>(
 {
     let number = runner.line();
     let reply = runner.reply(alloc, line)?;
-    print_reply(out, number, &reply)?;
-    Ok(())
+    print_reply(out, number, &reply)
 }
 
 // Keeps more of a line, as far as it decides what the line comes to.
@@ -132,25 +131,50 @@ pub(crate) fn answer_script<S: Source, O: Sink>(
         (sink (O.contents out.new) (O.failures out.new) (O.unflushed out.new))) }
 {
     let mut buffer = buffer_of(alloc, PIECE_LEN)?;
-    let piece = buffer.as_mut_slice();
     let mut line = Vec::with_capacity(alloc, LINE_ROOM)?;
+    answer_pieces(alloc, runner, script, out, buffer.as_mut_slice(), &mut line)
+}
+
+// Answers a script piece by piece. `piece` and `line` are room for a piece and for a line.
+fn answer_pieces<S: Source, O: Sink>(
+    alloc: Global,
+    runner: &mut Runner,
+    script: &mut S,
+    out: &mut O,
+    piece: &mut [u8],
+    line: &mut Vec<u8>,
+) -> Result<(), Fault>
+    requires first { runner.old.line ≡ 1 }
+    requires wide { 0 < length piece.old }
+    requires empty { line.old.items ≡ [] }
+    requires room { LINE_LIMIT + 1 ≤ vec_capacity line.old }
+    ensures ok { OnOk result (AnswersScript
+        (source (S.remaining script.old) (S.failures script.old))
+        (source (S.remaining script.new) (S.failures script.new)) runner.old runner.new
+        (sink (O.contents out.old) (O.failures out.old) (O.unflushed out.old))
+        (sink (O.contents out.new) (O.failures out.new) (O.unflushed out.new))) }
+    ensures err { IfErr result (ScriptStops
+        (source (S.remaining script.old) (S.failures script.old))
+        (source (S.remaining script.new) (S.failures script.new)) runner.old
+        (sink (O.contents out.old) (O.failures out.old) (O.unflushed out.old))
+        (sink (O.contents out.new) (O.failures out.new) (O.unflushed out.new))) }
+{
     let mut taken = 0usize;
     loop {
         let Ok(n) = script.read(piece) else {
             return Err(Fault::ReadFailed);
         };
         if n == 0 {
-            answer_last_line(alloc, runner, &line, out)?;
-            return Ok(());
+            return answer_last_line(alloc, runner, line, out);
         }
         let room = SCRIPT_LIMIT - taken;
         if n > room {
             let (front, _) = piece.split_at(room);
-            answer_piece(alloc, runner, &mut line, front, out)?;
+            answer_piece(alloc, runner, line, front, out)?;
             return Err(Fault::ScriptTooLong);
         }
         let (front, _) = piece.split_at(n);
-        answer_piece(alloc, runner, &mut line, front, out)?;
+        answer_piece(alloc, runner, line, front, out)?;
         taken += n;
     }
 }

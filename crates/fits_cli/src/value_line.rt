@@ -32,19 +32,11 @@ fn push_value(line: &mut Vec<u8>, value: &Value) -> Result<(), AllocError>
         Value::Undefined => line.extend_from_slice(b"undefined"),
         Value::Logical(true) => line.extend_from_slice(b"logical T"),
         Value::Logical(false) => line.extend_from_slice(b"logical F"),
-        Value::Integer(text) => {
-            line.extend_from_slice(b"integer ")?;
-            line.extend_from_slice(text.as_bytes())
-        }
-        Value::Real(text) => {
-            line.extend_from_slice(b"real ")?;
-            line.extend_from_slice(text.as_bytes())
-        }
+        Value::Integer(text) => push_both(line, b"integer ", text.as_bytes()),
+        Value::Real(text) => push_both(line, b"real ", text.as_bytes()),
         Value::Complex(real, imaginary) => {
-            line.extend_from_slice(b"complex (")?;
-            line.extend_from_slice(real.as_bytes())?;
-            line.extend_from_slice(b", ")?;
-            line.extend_from_slice(imaginary.as_bytes())?;
+            push_both(line, b"complex (", real.as_bytes())?;
+            push_both(line, b", ", imaginary.as_bytes())?;
             line.extend_from_slice(b")")
         }
         Value::Str(text) => {
@@ -53,6 +45,14 @@ fn push_value(line: &mut Vec<u8>, value: &Value) -> Result<(), AllocError>
             line.extend_from_slice(b"'")
         }
     }
+}
+
+// Adds one text and then another.
+fn push_both(line: &mut Vec<u8>, front: &[u8], back: &[u8]) -> Result<(), AllocError>
+    ensures { OnOk result (line.new.items ≡ line.old.items ++ (front.now ++ back.now)) }
+{
+    line.extend_from_slice(front)?;
+    line.extend_from_slice(back)
 }
 
 // Adds characters, with each quote doubled.
@@ -79,6 +79,5 @@ fn push_character(line: &mut Vec<u8>, character: u8) -> Result<(), AllocError>
 fn push_comment(line: &mut Vec<u8>, comment: &Text) -> Result<(), AllocError>
     ensures { OnOk result (line.new.items ≡ line.old.items ++ comment_text (Some comment.now)) }
 {
-    line.extend_from_slice(b" /")?;
-    line.extend_from_slice(comment.as_bytes())
+    push_both(line, b" /", comment.as_bytes())
 }

@@ -73,8 +73,7 @@ fn print_report<O: Sink>(
     }
     line.clear();
     push_closing_line(alloc, &mut line, report)?;
-    print(out, &line)?;
-    Ok(())
+    print(out, &line)
 }
 
 // Prints the line of a problem, where the level lists it. `line` is room for it.
@@ -96,6 +95,5 @@ fn print_problem<O: Sink>(
     if level.lists(it.code) {
         push_problem(alloc, line, it)?;
     }
-    print(out, line.as_slice())?;
-    Ok(())
+    print(out, line.as_slice())
 }

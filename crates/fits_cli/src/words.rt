@@ -3,6 +3,7 @@ ghost use Rattle.std.specs.Prelude.{◌≡◌, ◌≤◌, [], length, unwrap_or,
 ghost use Rattle.std.specs.Prelude.{IfOk, IfSome, IfNone, IsSome, IsTrue, OnErr};
 ghost use Rattle.std.specs.List.{list_all};
 ghost use Rattle.std.specs.Option.{option_copied};
+ghost use Rattle.std.specs.Str.{bytes_eq};
 ghost use Rattle.fits_cli.specs.Line.{after_word, card_last, card_words, first_word, move_words};
 ghost use Rattle.fits_cli.specs.Line.{name_first, name_of_text, name_of_word, name_words};
 ghost use Rattle.fits_cli.specs.Line.{field_words, fill_words, hdu_word, is_number, is_rectangle};
@@ -35,6 +36,13 @@ pub(crate) fn cut_word(text: &[u8]) -> (&[u8], Option<&[u8]>)
         Some((word, rest)) => (word, Some(rest)),
         None => (text, None),
     }
+}
+
+/// Whether a word is this one.
+pub(crate) fn is_word(word: &[u8], this: &[u8]) -> bool
+    ensures { result ≡ bytes_eq word.now this.now }
+{
+    word == this
 }
 
 /// A number, and what follows it.

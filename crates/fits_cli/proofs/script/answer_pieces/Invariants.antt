@@ -4,7 +4,7 @@ use Rattle.std.specs.Prelude.{vec_len, vec_capacity}
 use Rattle.fits_cli.specs.declared.limits.TheConstants.{LINE_LIMIT, SCRIPT_LIMIT}
 use Rattle.fits_cli.specs.Running.{HasCome}
 use Rattle.fits_cli.specs.Streams.{sink}
-use Rattle.fits_cli.proofs.script.answer_script.Given as goal
+use Rattle.fits_cli.proofs.script.answer_pieces.Given as goal
 
 abbrev pub invariant-loop-n : goal.invariant-loop-n
 invariant-loop-n g l = record {

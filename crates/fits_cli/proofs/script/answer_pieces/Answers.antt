@@ -1,11 +1,11 @@
-use Rattle.std.proofs.Common.{◌≡◌, ◌++◌, [], take, length, refl, arith, rules}
+use Rattle.std.proofs.Common.{◌≡◌, ◌++◌, [], take, length, refl, ap, arith, rules}
 use Rattle.std.proofs.lemmas.List.{length-append, length-take-le}
 use Rattle.fits_card.proofs.StreamLemmas.{Consumes-none, Consumes-more}
 use Rattle.fits_cli.specs.Streams.{source}
-use Rattle.fits_cli.proofs.ExitLemmas.{at_exit}
+use Rattle.fits_cli.proofs.ExitLemmas.{at_exit, last_err, last_ok}
 use Rattle.fits_cli.proofs.RunLemmas.{HasCome-none}
 use Rattle.fits_cli.proofs.ScriptLemmas.{ScriptReadFails-after, ScriptStops-piece, ScriptStops-over, ScriptStops-end, AnswersTooLong-over, AnswersScript-end}
-use Rattle.fits_cli.proofs.script.answer_script.Goals as goal
+use Rattle.fits_cli.proofs.script.answer_pieces.Goals as goal
 
 pub loop-n-init : goal.loop-n-init
 loop-n-init g c = record {
@@ -13,11 +13,11 @@ loop-n-init g c = record {
   consumed = Consumes-none (g.S.Source.remaining c.args.script.now);
   counted = refl;
   short = omega arith;
-  has = rw c.in_ok-line.ensures.items (HasCome-none c.args.runner.now _);
-  numbered = omega (arith, c.requires);
-  wide = omega (arith, c.as_mut_slice-piece.ensures.len, c.in_ok-buffer.ensures);
-  room = c.in_ok-line.ensures.capacity;
-  within = omega (arith, c.in_ok-line.ensures.len);
+  has = rw c.requires.empty (HasCome-none c.args.runner.now _);
+  numbered = omega (arith, c.requires.first);
+  wide = c.requires.wide;
+  room = c.requires.room;
+  within = let none : length c.args.line.now.items ≡ 0 = ap length c.requires.empty in omega (arith, none, c.args.line.now.ok.0);
   quiet = refl;
 }
 
@@ -27,25 +27,26 @@ returns-in_default-clause-err g c =
     ScriptReadFails-after _ (source (g.S.Source.remaining c.loop-n.script) (g.S.Source.failures c.loop-n.script)) _ inv.came c.loop-n.line.items c.args.runner.now c.loop-n.runner _ _
     inv.consumed c.in_default.ensures.bytes (omega (arith, inv.counted, inv.short)) (search (arith, inv.quiet, c.in_default.ensures.failed)) inv.has
 
-pub returns-in_err-answer_last_line-clause-err : goal.returns-in_err-answer_last_line-clause-err
-returns-in_err-answer_last_line-clause-err g c =
+pub returns-then-n-eq0-clause-err : goal.returns-then-n-eq0-clause-err
+returns-then-n-eq0-clause-err g c =
     let inv = c.loop-n.invariant in
-    at_exit _ _ _ c.from_residual-in_err-answer_last_line.ensures.1
-    (ScriptStops-end _ (source (g.S.Source.remaining c.loop-n.script) (g.S.Source.failures c.loop-n.script)) _ c.in-Ok.n inv.came c.read.new.buffer c.loop-n.line.items c.args.runner.now c.loop-n.runner _ _ _
-    c.in_err-answer_last_line.field-0.0 inv.consumed c.in-Ok.ensures.bytes.0 c.if-n-eq0.true (c.in-Ok.ensures.bytes.1 c.if-n-eq0.true (search rules)) (omega (arith, inv.counted, inv.short))
-    (search (arith, inv.quiet, c.in-Ok.ensures.failed)) inv.has (rw c.deref.ensures.value at c.in_err-answer_last_line.ensures.err))
+    last_err _ (rw c.deref.ensures.value at c.answer_last_line.ensures.err)
+    (λ why stops. ScriptStops-end _ (source (g.S.Source.remaining c.loop-n.script) (g.S.Source.failures c.loop-n.script)) _ c.in-Ok.n inv.came c.read.new.buffer c.loop-n.line.items c.args.runner.now c.loop-n.runner _ _ _
+    why inv.consumed c.in-Ok.ensures.bytes.0 c.if-n-eq0.true (c.in-Ok.ensures.bytes.1 c.if-n-eq0.true (search rules)) (omega (arith, inv.counted, inv.short))
+    (search (arith, inv.quiet, c.in-Ok.ensures.failed)) inv.has stops)
 
 pub returns-then-n-eq0-clause-ok : goal.returns-then-n-eq0-clause-ok
 returns-then-n-eq0-clause-ok g c =
     let inv = c.loop-n.invariant in
-    AnswersScript-end _ (source (g.S.Source.remaining c.loop-n.script) (g.S.Source.failures c.loop-n.script)) _ c.in-Ok.n inv.came c.read.new.buffer c.loop-n.line.items c.args.runner.now c.loop-n.runner _ _ _ _
+    last_ok _ (rw c.deref.ensures.value at c.answer_last_line.ensures.ok)
+    (λ ends. AnswersScript-end _ (source (g.S.Source.remaining c.loop-n.script) (g.S.Source.failures c.loop-n.script)) _ c.in-Ok.n inv.came c.read.new.buffer c.loop-n.line.items c.args.runner.now c.loop-n.runner _ _ _ _
     inv.consumed c.in-Ok.ensures.bytes.0 c.if-n-eq0.true (c.in-Ok.ensures.bytes.1 c.if-n-eq0.true (search rules)) (omega (arith, inv.counted, inv.short))
-    (search (arith, inv.quiet, c.in-Ok.ensures.failed)) inv.has (rw c.deref.ensures.value at c.in_ok-answer_last_line.ensures.ok)
+    (search (arith, inv.quiet, c.in-Ok.ensures.failed)) inv.has ends)
 
 pub returns-in_err-answer_piece-clause-err : goal.returns-in_err-answer_piece-clause-err
 returns-in_err-answer_piece-clause-err g c =
     let inv = c.loop-n.invariant in
-    at_exit _ _ _ c.from_residual-in_err-answer_piece.ensures.1
+    at_exit _ _ _ c.from_residual.ensures.1
     (ScriptStops-over _ (source (g.S.Source.remaining c.loop-n.script) (g.S.Source.failures c.loop-n.script)) _ c.in-Ok.n inv.came c.read.new.buffer c.loop-n.line.items c.args.runner.now c.loop-n.runner _ _ _
     c.in_err-answer_piece.field-0.0 inv.consumed c.in-Ok.ensures.bytes.0 (omega (arith, inv.counted, inv.short)) (omega (arith, c.if-n-room.true, inv.counted)) (search rules)
     (search (arith, inv.quiet, c.in-Ok.ensures.failed)) inv.has (rw (c.split_at.ensures.front, inv.counted) at c.in_err-answer_piece.ensures.err))
