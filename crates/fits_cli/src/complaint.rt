@@ -36,10 +36,12 @@ fn print_number<O: Sink>(out: &mut O, number: u64) -> Result<(), Fault>
         (sink (O.contents out.new) (O.failures out.new) (O.unflushed out.new))) }
 {
     if number < 10 {
-        return print_digit(out, number);
+        print_digit(out, number)?;
+        return Ok(());
     }
     print_number(out, number / 10)?;
-    print_digit(out, number % 10)
+    print_digit(out, number % 10)?;
+    Ok(())
 }
 
 fn print_digit<O: Sink>(out: &mut O, digit: u64) -> Result<(), Fault>
