@@ -8,6 +8,7 @@ ghost use Rattle.fits_cli.specs.declared.command.Command.TheVariants.{Get, Offse
 use crate::command::Command;
 use crate::pixel_answers::{rectangle, statistics, sums};
 use crate::places_line::positions;
+use crate::pushing::push_text;
 use crate::report_text::report_text;
 use crate::value_line::value_line;
 use fits_card::Name;
@@ -101,7 +102,7 @@ fn push_offset_line(
 ) -> Result<(), AllocError>
     ensures { OnOk result (text.new.items ≡ text.old.items ++ offset_line number at) }
 {
-    text.extend_from_slice(format!(in alloc; "{number} ")?.as_bytes())?;
+    push_text(text, format!(in alloc; "{number} ")?)?;
     push_offsets(alloc, text, at)?;
     text.extend_from_slice(b"\n")
 }
@@ -120,5 +121,5 @@ pub(crate) fn push_offsets(
         hdu_end,
     } = at;
     let numbers = format!(in alloc; "{header_start} {data_start} {hdu_end}")?;
-    text.extend_from_slice(numbers.as_bytes())
+    push_text(text, numbers)
 }

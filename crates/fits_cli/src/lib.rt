@@ -22,6 +22,7 @@ mod pixel_answers;
 mod pixel_lines;
 mod places_line;
 mod printing;
+mod pushing;
 mod rectangle_words;
 mod reply;
 mod report_text;

@@ -10,6 +10,7 @@ use crate::end::End;
 use crate::fault::Fault;
 use crate::opening::outline_file;
 use crate::printing::print;
+use crate::pushing::push_text;
 use crate::telling::{Telling, run_telling};
 use fits_card::{Sink, Source};
 use fits_hdu::Outline;
@@ -108,7 +109,7 @@ fn push_front(
 {
     let class = class_text(class);
     let front = format!(in alloc; "hdu {number} {class} bitpix {bitpix} axes ")?;
-    line.extend_from_slice(front.as_bytes())
+    push_text(line, front)
 }
 
 // ` cards C at HEADER DATA END`
@@ -121,7 +122,7 @@ fn push_back(
     ensures { OnOk result (line.new.items ≡ line.old.items ++ line_back cards at) }
 {
     let front = format!(in alloc; " cards {cards} at ")?;
-    line.extend_from_slice(front.as_bytes())?;
+    push_text(line, front)?;
     push_offsets(alloc, line, at)?;
     line.extend_from_slice(b"\n")
 }
@@ -137,7 +138,7 @@ fn push_axes(alloc: Global, line: &mut Vec<u8>, axes: &[u64]) -> Result<(), Allo
         }
         [first, more @ ..] => {
             let text = format!(in alloc; "{first}")?;
-            line.extend_from_slice(text.as_bytes())?;
+            push_text(line, text)?;
             push_more_axes(alloc, line, more)
         }
     }
@@ -149,7 +150,7 @@ fn push_more_axes(alloc: Global, line: &mut Vec<u8>, axes: &[u64]) -> Result<(),
 {
     for axis in axes {
         let text = format!(in alloc; "x{axis}")?;
-        line.extend_from_slice(text.as_bytes())?;
+        push_text(line, text)?;
     }
     Ok(())
 }

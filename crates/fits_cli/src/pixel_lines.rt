@@ -5,6 +5,7 @@ ghost use Rattle.fits_cli.specs.PixelLines.{counts_text, number_or_hyphen, numbe
 ghost use Rattle.fits_cli.specs.PixelLines.{statistics_line, sums_line, values_line, values_text};
 ghost use Rattle.fits_cli.specs.PixelLines.{verdict_text};
 
+use crate::pushing::push_text;
 use fits_hdu::{Stats, Verdict, Verdicts};
 use std::alloc::{AllocError, Global};
 
@@ -26,7 +27,7 @@ fn push_counts(alloc: Global, line: &mut Vec<u8>, stats: &Stats) -> Result<(), A
     let defined = stats.defined;
     let blank = stats.blank;
     let text = format!(in alloc; "defined {defined} blank {blank}")?;
-    line.extend_from_slice(text.as_bytes())
+    push_text(line, text)
 }
 
 // The least and the greatest value, and the sum of all.
@@ -59,7 +60,7 @@ fn push_number(alloc: Global, line: &mut Vec<u8>, number: i128) -> Result<(), Al
     ensures { OnOk result (line.new.items ≡ line.old.items ++ signed_decimal number) }
 {
     let text = format!(in alloc; "{number}")?;
-    line.extend_from_slice(text.as_bytes())
+    push_text(line, text)
 }
 
 /// `datasum N verdicts A B`: DATASUM's verdict, then CHECKSUM's.

@@ -4,6 +4,7 @@ ghost use Rattle.fits_session.specs.Session.{file_of};
 ghost use Rattle.fits_cli.specs.Answer.{outcome_of, places_line, CommandFails};
 ghost use Rattle.fits_cli.specs.declared.command.Command.TheVariants.{Positions};
 
+use crate::pushing::push_text;
 use fits_card::Name;
 use fits_session::{Refusal, Session};
 use std::alloc::{AllocError, Global};
@@ -34,10 +35,10 @@ fn places_line(alloc: Global, first: usize, more: &[usize]) -> Result<Vec<u8>, A
     ensures { IfOk result (λ line. line.items ≡ places_line (first ∷ more.now)) }
 {
     let mut line = Vec::new(alloc);
-    line.extend_from_slice(format!(in alloc; "{first}")?.as_bytes())?;
+    push_text(&mut line, format!(in alloc; "{first}")?)?;
     for place in more {
         let text = format!(in alloc; " {place}")?;
-        line.extend_from_slice(text.as_bytes())?;
+        push_text(&mut line, text)?;
     }
     line.push(b'\n')?;
     Ok(line)

@@ -4,6 +4,7 @@ ghost use Rattle.fits_cli.specs.Report.{closing_line, counts_line, errors_in, pr
 ghost use Rattle.fits_cli.specs.Report.{report_text, status_of_report};
 
 use crate::level::Level;
+use crate::pushing::push_text;
 use fits_session::Problem;
 use std::alloc::{AllocError, Global};
 
@@ -28,7 +29,7 @@ pub(crate) fn push_problem(alloc: Global, text: &mut Vec<u8>, it: Problem) -> Re
     let label = code.label();
     let what = code.text();
     let line = format!(in alloc; "{label} {hdu} {place} {what}\n")?;
-    text.extend_from_slice(line.as_bytes())
+    push_text(text, line)
 }
 
 /// The closing line: it counts all problems.
@@ -54,7 +55,7 @@ fn push_counts(
     ensures { OnOk result (text.new.items ≡ text.old.items ++ counts_line errors warnings) }
 {
     let line = format!(in alloc; "errors {errors} warnings {warnings}\n")?;
-    text.extend_from_slice(line.as_bytes())
+    push_text(text, line)
 }
 
 /// The status of a run that has printed a report, at whatever level.

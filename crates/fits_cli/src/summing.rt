@@ -9,6 +9,7 @@ use crate::fault::Fault;
 use crate::opening::sum_file;
 use crate::pixel_lines::verdict_text;
 use crate::printing::print;
+use crate::pushing::push_text;
 use crate::telling::{Telling, run_telling};
 use fits_card::{Sink, Source};
 use fits_hdu::HduSums;
@@ -79,5 +80,5 @@ fn push_line(
     let datasum = verdict_text(it.verdicts.datasum);
     let checksum = verdict_text(it.verdicts.checksum);
     let text = format!(in alloc; "{number} {sum} {datasum} {checksum}\n")?;
-    line.extend_from_slice(text.as_bytes())
+    push_text(line, text)
 }

@@ -1,8 +1,7 @@
-use Rattle.std.proofs.Common.{◌∙◌}
 use Rattle.fits_cli.proofs.ListingLemmas.{axes_step}
 use Rattle.fits_cli.proofs.listing.push_more_axes.Goals as goal
 
 pub loop-axis-preserved : goal.loop-axis-preserved
 loop-axis-preserved c =
-    axes_step c.args.line.now.items c.loop-axis.line.items c.extend_from_slice.new.self.items c.as_bytes.result.now c.args.axes.now c.loop-axis.axis-index _ c.loop-axis-test.true c.loop-axis.invariant
-    (c.as_bytes.ensures.value ∙ c.in_ok-text.ensures.ok) c.in_ok-extend_from_slice.ensures.items
+    axes_step c.args.line.now.items c.loop-axis.line.items c.push_text.new.line.items _ c.args.axes.now c.loop-axis.axis-index _ c.loop-axis-test.true c.loop-axis.invariant
+    c.in_ok-text.ensures.ok c.in_ok-push_text.ensures
