@@ -3,7 +3,6 @@ ghost use Rattle.std.specs.Prelude.{◌≡◌, ◌++◌, IfOk, IfErr, OnOk, OnEr
 ghost use Rattle.fits_session.specs.Session.{file_of};
 ghost use Rattle.fits_cli.specs.Answer.{offset_line, offset_lines, offsets_text};
 ghost use Rattle.fits_cli.specs.Answer.{outcome_of, CommandFails};
-ghost use Rattle.fits_cli.specs.declared.command.Command.TheVariants.{Get, Offsets, Report};
 
 use crate::command::Command;
 use crate::pixel_answers::{rectangle, statistics, sums};
@@ -11,7 +10,6 @@ use crate::places_line::positions;
 use crate::pushing::push_text;
 use crate::report_text::report_text;
 use crate::value_line::value_line;
-use fits_card::Name;
 use fits_session::{HduOffsets, Refusal, Session};
 use std::alloc::{AllocError, Global};
 
@@ -33,58 +31,28 @@ pub(crate) fn answer(
             session.edit(edit)?;
             Ok(Vec::new(alloc))
         }
-        Command::Offsets => offsets(alloc, session),
-        Command::Get { hdu, name } => value(alloc, session, hdu, &name),
+        Command::Offsets => {
+            let hdus = session.offsets()?;
+            Ok(offsets(alloc, &hdus)?)
+        }
+        Command::Get { hdu, name } => {
+            let (value, comment) = session.value(hdu, &name)?;
+            Ok(value_line(alloc, &value, comment.as_ref())?)
+        }
         Command::Positions { hdu, name } => positions(alloc, session, hdu, &name),
-        Command::Report => report(alloc, session),
+        Command::Report => {
+            let report = session.report()?;
+            Ok(report_text(alloc, &report)?)
+        }
         Command::Statistics { hdu } => statistics(alloc, session, hdu),
         Command::Rectangle { hdu, lo, hi } => rectangle(alloc, session, hdu, lo, hi),
         Command::Sums { hdu } => sums(alloc, session, hdu),
     }
 }
 
-/// `off`
-#[tactic(auto, unfolding(crate::specs::Answer::outcome_of, crate::specs::Answer::OutcomeNeedsMemory))]
-fn offsets(alloc: Global, session: &mut Session) -> Result<Vec<u8>, Refusal>
-    ensures ok { IfOk result (λ text. outcome_of (file_of session.old) Offsets
-        ≡ Ok (record { text = text.items; file = file_of session.new })) }
-    ensures err { IfErr result (CommandFails (file_of session.old) Offsets) }
-    ensures kept { OnErr result (file_of session.new ≡ file_of session.old) }
-{
-    let hdus = session.offsets()?;
-    Ok(offset_lines(alloc, &hdus)?)
-}
-
-/// `get H NAME`
-#[tactic(auto, unfolding(crate::specs::Answer::outcome_of, crate::specs::Answer::OutcomeNeedsMemory))]
-fn value(alloc: Global, session: &mut Session, hdu: usize, name: &Name) -> Result<Vec<u8>, Refusal>
-    ensures ok { IfOk result (λ text. outcome_of (file_of session.old) (Get hdu name.now)
-        ≡ Ok (record { text = text.items; file = file_of session.new })) }
-    ensures err { IfErr result (CommandFails (file_of session.old) (Get hdu name.now)) }
-    ensures kept { OnErr result (file_of session.new ≡ file_of session.old) }
-{
-    let (value, comment) = session.value(hdu, name)?;
-    let line = value_line(alloc, &value, comment.as_ref());
-    drop(value);
-    drop(comment);
-    Ok(line?)
-}
-
-/// `rep`
-#[tactic(auto, unfolding(crate::specs::Answer::outcome_of, crate::specs::Answer::OutcomeNeedsMemory))]
-fn report(alloc: Global, session: &mut Session) -> Result<Vec<u8>, Refusal>
-    ensures ok { IfOk result (λ text. outcome_of (file_of session.old) Report
-        ≡ Ok (record { text = text.items; file = file_of session.new })) }
-    ensures err { IfErr result (CommandFails (file_of session.old) Report) }
-    ensures kept { OnErr result (file_of session.new ≡ file_of session.old) }
-{
-    let report = session.report()?;
-    Ok(report_text(alloc, &report)?)
-}
-
 // Where each HDU begins, its data begin, and it ends.
 #[tactic(auto, using(crate::proofs::AnswerLemmas::offset_steps))]
-fn offset_lines(alloc: Global, hdus: &[HduOffsets]) -> Result<Vec<u8>, AllocError>
+fn offsets(alloc: Global, hdus: &[HduOffsets]) -> Result<Vec<u8>, AllocError>
     ensures { IfOk result (λ text. text.items ≡ offset_lines 1 hdus.now) }
 {
     let mut text = Vec::new(alloc);
