@@ -66,15 +66,20 @@ const HDUS: &[Described] = &[
 fn a_file_describes_each_hdu(rt: HostRuntime) -> Result<(), Fail> {
     let bytes = file_of(rt.alloc(), ASKED)?;
     let mut session = Session::open(rt.alloc(), &bytes)?;
+    check_file(&rt, &mut session);
+    Ok(())
+}
+
+// Whether a file describes the HDUs of `HDUS`, and none before and after them.
+fn check_file<R: Abort>(rt: &R, session: &mut Session) {
     for row in HDUS {
-        check_hdu(&rt, &mut session, *row);
+        check_hdu(rt, session, *row);
     }
     for h in [0usize, 5] {
         same!(rt; session.shape(h).err(), Some(Refusal::NoHdu), h);
         same!(rt; session.card_count(h), Err(Refusal::NoHdu), h);
         same!(rt; session.kind(h), Err(Refusal::NoHdu), h);
     }
-    Ok(())
 }
 
 // Whether a file describes an HDU so.
@@ -100,12 +105,18 @@ const LONG_AXES: &[(usize, &[u64], Option<Refusal>)] = &[
 #[test]
 fn an_axis_has_64_bits_at_most(rt: HostRuntime) -> Result<(), Fail> {
     let file = file_of(rt.alloc(), (&[(P0, 0)], ""))?;
+    check_axes(&rt, &file)
+}
+
+// Whether a new image is refused its axes, as `LONG_AXES` says.
+fn check_axes<R: Abort + AllocGlobal>(rt: &R, file: &[u8]) -> Result<(), Fail> {
     for (at, axes, refusal) in LONG_AXES {
-        let mut session = Session::open(rt.alloc(), &file)?;
+        let axes_of_image = Axes::new(axes.to_vec(rt.alloc())?);
+        let mut session = Session::open(rt.alloc(), file)?;
         let edit = Edit::NewImage {
             at: *at,
             kind: Kind::U8,
-            axes: Axes::new(axes.to_vec(rt.alloc())?),
+            axes: axes_of_image,
         };
         same!(rt; refusal_of(&mut session, edit), *refusal, (at, axes));
     }

@@ -96,14 +96,25 @@ fn change_index(index: &mut KeyIndex, count: usize, change: &Change)
 #[test]
 fn an_index_stays_that_of_the_changed_cards(rt: HostRuntime) -> Result<(), Fail> {
     for (change, wanted) in CHANGED {
-        let mut header = header_of(rt.alloc(), CARDS)?;
-        let count = header.len();
-        let mut index = KeyIndex::open(rt.alloc(), &mut header)?;
-        index.reserve(2)?;
-        change_index(&mut index, count, &change_of(rt.alloc(), *change)?);
-        check_places(&rt, rt.alloc(), &index, wanted)?;
+        check_changed(&rt, *change, wanted)?;
     }
     Ok(())
+}
+
+// Whether an index answers what is wanted after a change of the cards.
+fn check_changed<R: Abort + AllocGlobal>(
+    rt: &R,
+    change: ChangeText<'_>,
+    wanted: &Places<'_>,
+) -> Result<(), Fail> {
+    let mut header = header_of(rt.alloc(), CARDS)?;
+    let count = header.len();
+    let index = KeyIndex::open(rt.alloc(), &mut header);
+    drop(header);
+    let mut index = index?;
+    index.reserve(2)?;
+    change_index(&mut index, count, &change_of(rt.alloc(), change)?);
+    check_places(rt, rt.alloc(), &index, wanted)
 }
 
 /// The cards of a header, and their names.
@@ -170,13 +181,24 @@ fn each_card_has_its_codes(rt: HostRuntime) -> Result<(), Fail> {
     let mut header = opened(rt.alloc(), JUDGED)?;
     same!(rt; header.len(), CARD_CODES.len());
     for (index, (is_link, code)) in CARD_CODES.iter().enumerate() {
-        if index < header.len() {
-            same!(rt; header.is_link(index + 1), *is_link, index);
-            let codes = header.codes(index + 1);
-            same!(rt; codes.as_slice().first().copied(), *code, index);
-        }
+        check_card(&rt, &mut header, index, *is_link, *code);
     }
     Ok(())
+}
+
+// Whether the card after so many is a link or not, and has this code first, if it has one.
+fn check_card<R: Abort>(
+    rt: &R,
+    header: &mut Header,
+    index: usize,
+    is_link: bool,
+    code: Option<Code>,
+) {
+    if index < header.len() {
+        same!(rt; header.is_link(index + 1), is_link, index);
+        let codes = header.codes(index + 1);
+        same!(rt; codes.as_slice().first().copied(), code, index);
+    }
 }
 
 #[test]

@@ -7,19 +7,20 @@ use crate::builders::{
     COMMENTS, FileText, P0, PIXEL, add_cards, card_of, end_header, file_of, hdu_of, header_of,
     name_of, open_hdu, repeated, zeroed_file_of,
 };
-use crate::checks::{holds, same};
-use crate::planned::{SMOOTH, reader, writer};
+use crate::checks::{check_holds, holds, same};
+use crate::planned::{PlannedWriter, SMOOTH, reader, writer};
 use crate::runs::{ALL_SMOOTH, Ran, check_ran, edit, refusal_of, tell};
 use crate::shapes::{ShapeText, check_shape};
-use crate::streams::{A, LISTED_LINES, NAMED_LINES, NAMED_TWICE, REPORTED_LINES, SUMMED_LINES};
-use crate::values::line_of;
-use fits_card::{HeaderFault, Name, cut_header};
-use fits_cli::{Command, Fault, LineFault, parse_line};
+use crate::streams::{A, NAMED_TWICE, TOLD_BY};
+use crate::values::{line_of, read_line};
+use fits_card::{CardList, HeaderFault, Name, Watched, cut_header};
+use fits_cli::{Command, Fault, LineFault, Telling, parse_line};
 use fits_hdu::{Hdu, HduFault, KeywordFault};
 use fits_rules::{Class, ShapeFault, shape};
 use fits_session::{Edit, OpenFault, ReadFileFault, Refusal, Session, read_outlines, read_sums};
 use fits_value::{Text, Value, long_value, read_field, read_value};
 use std::alloc::{AllocError, Global};
+use std::fmt::Debug;
 use std::process::Abort;
 use std::test::Fail;
 
@@ -51,21 +52,41 @@ fn refused_memory_at_a_cut(rt: HostRuntime) {
 
 #[test]
 fn refused_memory_in_a_store(rt: HostRuntime) -> Result<(), Fail> {
-    let (Ok(bytes), Ok(mut sink), Ok(mut list)) = (
-        hdu_of(rt.alloc(), P0, 0),
-        writer(rt.alloc(), SMOOTH),
-        header_of(rt.alloc(), P0),
-    ) else {
+    let Ok(bytes) = hdu_of(rt.alloc(), P0, 0) else {
         return Ok(());
     };
-    for room in [1usize, 100, 10_000] {
-        let _ = list.reserve(room);
+    check_store(&rt, &bytes)
+}
+
+// Whether a store of these bytes holds them, whatever room it was refused.
+fn check_store<R: Abort + AllocGlobal>(rt: &R, bytes: &[u8]) -> Result<(), Fail> {
+    let Ok(sink) = writer(rt.alloc(), SMOOTH) else {
+        return Ok(());
+    };
+    let Ok(mut list) = header_of(rt.alloc(), P0) else {
+        return Ok(());
+    };
+    for room in ROOMS {
+        let _ = list.reserve(*room);
     }
     same!(rt; list.len(), 3);
+    check_emitted(rt, &mut list, sink, bytes)
+}
+
+// Whether a store writes these bytes.
+fn check_emitted<R: Abort>(
+    rt: &R,
+    list: &mut CardList,
+    mut sink: Watched<PlannedWriter>,
+    bytes: &[u8],
+) -> Result<(), Fail> {
     list.emit(&mut sink)?;
-    holds!(rt; sink.into_inner().bytes.as_slice() == bytes.as_slice());
+    holds!(rt; sink.into_inner().bytes.as_slice() == bytes);
     Ok(())
 }
+
+/// How many cards there is to be room for.
+const ROOMS: &[usize] = &[1, 100, 10_000];
 
 /// Fields that ask for memory, and what they say.
 const FIELDS: &[(&str, &str)] = &[
@@ -81,9 +102,7 @@ fn check_said<R: Abort + AllocGlobal>(
     said: Result<Option<(Value, Option<Text>)>, AllocError>,
     wanted: &str,
 ) {
-    if let Ok(said) = said
-        && let Ok(line) = line_of(rt.alloc(), &said)
-    {
+    if let Ok(line) = read_line(rt.alloc(), said) {
         same!(rt; line.as_slice(), wanted.as_bytes());
     }
 }
@@ -203,21 +222,51 @@ pub fn same_answers<R: Abort + AllocGlobal>(
 ) -> Result<(), AllocError> {
     same!(rt; one.hdus(), other.hdus());
     for h in 0..one.hdus().wrapping_add(2) {
-        same!(rt; one.card_count(h), other.card_count(h), h);
-        same!(rt; one.kind(h), other.kind(h), h);
-        same!(rt; one.stats(h), other.stats(h), h);
-        same!(rt; one.datasum(h), other.datasum(h), h);
-        same!(rt; one.verdicts(h), other.verdicts(h), h);
-        same!(rt; one.shape(h).is_ok(), other.shape(h).is_ok(), h);
+        same_hdus(rt, one, other, h);
         same_keywords(rt, one, other, h)?;
         same_pixels(rt, one, other, h)?;
     }
-    holds!(rt; one.offsets()?.as_slice() == other.offsets()?.as_slice());
-    holds!(rt; one.report()?.as_slice() == other.report()?.as_slice());
+    alike!(rt; one.offsets(), other.offsets(), "the test")?;
+    alike!(rt; one.report(), other.report(), "the test")?;
     same!(rt; one.counts(), other.counts());
-    holds!(rt; saved(rt.alloc(), one)?.as_slice() == saved(rt.alloc(), other)?.as_slice());
-    Ok(())
+    alike!(rt; saved(rt.alloc(), one), saved(rt.alloc(), other), "the test")
 }
+
+// Whether an HDU of both is as long, of one kind, and has the same sums.
+fn same_hdus<R: Abort>(rt: &R, one: &mut Session, other: &mut Session, h: usize) {
+    same!(rt; one.card_count(h), other.card_count(h), h);
+    same!(rt; one.kind(h), other.kind(h), h);
+    same!(rt; one.stats(h), other.stats(h), h);
+    same!(rt; one.datasum(h), other.datasum(h), h);
+    same!(rt; one.verdicts(h), other.verdicts(h), h);
+    same!(rt; one.shape(h).is_ok(), other.shape(h).is_ok(), h);
+}
+
+// Ends the test where two answers differ. Err: the memory for one of them was refused.
+fn check_alike<R: Abort, T: PartialEq + Drop, C: Debug>(
+    rt: &R,
+    found: Result<T, AllocError>,
+    wanted: Result<T, AllocError>,
+    what: &str,
+    case: &C,
+) -> Result<(), AllocError> {
+    match (&found, &wanted) {
+        (Ok(found), Ok(wanted)) => {
+            check_holds(rt, *found == *wanted, what, case);
+            Ok(())
+        }
+        _ => Err(AllocError),
+    }
+}
+
+// `alike!(rt; found, wanted, case)`.
+macro_rules! alike {
+    ($rt:expr; $found:expr, $wanted:expr, $case:expr) => {
+        check_alike($rt, $found, $wanted, stringify!($found == $wanted), &$case)
+    };
+}
+
+use alike;
 
 // Whether an HDU of both has the same names, and four of them say the same at the same places.
 fn same_keywords<R: Abort + AllocGlobal>(
@@ -226,16 +275,15 @@ fn same_keywords<R: Abort + AllocGlobal>(
     other: &mut Session,
     h: usize,
 ) -> Result<(), AllocError> {
-    for name in ["XTENSION", "BITPIX", "KEY", "NEW"] {
-        let line = answer(rt.alloc(), one, h, name)?;
-        holds!(rt; line == answer(rt.alloc(), other, h, name)?, (h, name));
-        let found = places(one, h, name)?;
-        holds!(rt; found == places(other, h, name)?, (h, name));
+    for name in ASKED {
+        alike!(rt; answer(rt.alloc(), one, h, name), answer(rt.alloc(), other, h, name), (h, name))?;
+        alike!(rt; places(one, h, name), places(other, h, name), (h, name))?;
     }
-    let found = names(one, h)?;
-    holds!(rt; found == names(other, h)?, h);
-    Ok(())
+    alike!(rt; names(one, h), names(other, h), h)
 }
+
+/// The keywords that both files are asked for.
+const ASKED: &[&str] = &["XTENSION", "BITPIX", "KEY", "NEW"];
 
 // Whether the first pixel of an HDU of both is the same, in a row and in a plane.
 fn same_pixels<R: Abort>(
@@ -244,12 +292,14 @@ fn same_pixels<R: Abort>(
     other: &mut Session,
     h: usize,
 ) -> Result<(), AllocError> {
-    for corner in [[1u64].as_slice(), [1u64, 1].as_slice()] {
-        let found = pixels(one, h, corner)?;
-        holds!(rt; found == pixels(other, h, corner)?, (h, corner));
+    for corner in CORNERS {
+        alike!(rt; pixels(one, h, corner), pixels(other, h, corner), (h, corner))?;
     }
     Ok(())
 }
+
+/// The first pixel of a row, and of a plane.
+const CORNERS: &[&[u64]] = &[&[1], &[1, 1]];
 
 // What a keyword of an HDU says, as a line.
 fn answer(
@@ -392,13 +442,21 @@ fn check_line<R: Abort + AllocGlobal>(
     takes_memory: bool,
 ) -> Result<(), AllocError> {
     let mut session = opened(rt, before)?;
-    let edit = edit_said(rt, line)?;
-    let refused = refusal_of(&mut session, edit);
+    let refused = refusal_of(&mut session, edit_said(rt, line)?);
     holds!(rt; refused == refusal || (takes_memory && refused == Some(Refusal::Memory)), line);
     // nothing else is refused after a refusal
     let bytes = if refused.is_none() { after } else { before };
+    answers_as(rt, &mut session, bytes)
+}
+
+// Whether a file gives the answers of these bytes. Err: the memory for a comparison was refused.
+fn answers_as<R: Abort + AllocGlobal>(
+    rt: &R,
+    session: &mut Session,
+    bytes: &[u8],
+) -> Result<(), AllocError> {
     let mut fresh = opened(rt, bytes)?;
-    same_answers(rt, &mut session, &mut fresh)
+    same_answers(rt, session, &mut fresh)
 }
 
 // A file that opens, if there is memory for it.
@@ -491,18 +549,25 @@ fn refused_memory_at_reading(rt: HostRuntime) {
         return;
     };
     for _ in 0..2 {
-        match Session::read(rt.alloc(), &mut reader(&bytes, SMOOTH)) {
-            Ok(session) => same!(rt; session.hdus(), 2),
-            Err(why) => same!(rt; why, ReadFileFault::Open(OpenFault::Memory)),
-        }
-        match read_outlines(rt.alloc(), &mut reader(&bytes, SMOOTH)) {
-            Ok(outlines) => same!(rt; outlines.len(), 2),
-            Err(why) => same!(rt; why, ReadFileFault::Open(OpenFault::Memory)),
-        }
-        match read_sums(rt.alloc(), &mut reader(&bytes, SMOOTH)) {
-            Ok(sums) => same!(rt; sums.len(), 2),
-            Err(why) => same!(rt; why, ReadFileFault::Open(OpenFault::Memory)),
-        }
+        check_reading(&rt, &bytes);
+    }
+}
+
+// Whether two HDUs are read of these bytes, in each of three ways.
+fn check_reading<R: Abort + AllocGlobal>(rt: &R, bytes: &[u8]) {
+    let session = Session::read(rt.alloc(), &mut reader(bytes, SMOOTH));
+    check_hdus(rt, session.map(|session| session.hdus()));
+    let outlines = read_outlines(rt.alloc(), &mut reader(bytes, SMOOTH));
+    check_hdus(rt, outlines.map(|outlines| outlines.len()));
+    let sums = read_sums(rt.alloc(), &mut reader(bytes, SMOOTH));
+    check_hdus(rt, sums.map(|sums| sums.len()));
+}
+
+// Whether so many HDUs are two, or there was no memory for them.
+fn check_hdus<R: Abort>(rt: &R, found: Result<usize, ReadFileFault>) {
+    match found {
+        Ok(hdus) => same!(rt; hdus, 2),
+        Err(why) => same!(rt; why, ReadFileFault::Open(OpenFault::Memory)),
     }
 }
 
@@ -545,9 +610,7 @@ fn refused_memory_at_a_query(rt: HostRuntime) {
         return;
     };
     ask(&rt, &mut session);
-    if let Ok(mut fresh) = Session::open(rt.alloc(), &bytes) {
-        let _ = same_answers(&rt, &mut session, &mut fresh);
-    }
+    let _ = answers_as(&rt, &mut session, &bytes);
 }
 
 // Asks for what may want memory, and for a name that isn't there, which wants none.
@@ -643,14 +706,26 @@ fn refused_memory_prints_no_other_value(rt: HostRuntime) {
 
 #[test]
 fn refused_memory_tells_no_other_lines(rt: HostRuntime) {
-    for (told, file, lines, status) in [LISTED_LINES, REPORTED_LINES, NAMED_LINES, SUMMED_LINES] {
+    for (text, _) in TOLD_BY {
+        let (telling, file, lines, status) = *text;
         let Ok(file) = file_of(rt.alloc(), file) else {
             return;
         };
         for _ in 0..2 {
-            if let Ok(ran) = tell(rt.alloc(), told, &file, ALL_SMOOTH) {
-                check_ended(&rt, &ran, lines, status, b"");
-            }
+            check_told(&rt, telling, &file, lines, status);
         }
+    }
+}
+
+// Whether these lines are printed of a file, where there is memory for them.
+fn check_told<R: Abort + AllocGlobal>(
+    rt: &R,
+    telling: Telling,
+    file: &[u8],
+    lines: &str,
+    status: u8,
+) {
+    if let Ok(ran) = tell(rt.alloc(), telling, file, ALL_SMOOTH) {
+        check_ended(rt, &ran, lines, status, b"");
     }
 }

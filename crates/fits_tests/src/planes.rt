@@ -201,18 +201,23 @@ fn fill(plane: &mut Plane, axes: &[u64], lo: &[u64], hi: &[u64], stored: i64) ->
 #[test]
 fn pixels_have_their_statistics(rt: HostRuntime) -> Result<(), Fail> {
     for (width, pixels, steps) in ROWS {
-        let layout = layout_of(*width, pixels.len(), None);
-        let mut bytes = blocks_of(rt.alloc(), layout.used, 0)?;
-        for (i, number) in pixels.iter().enumerate() {
-            plain_put(&mut bytes, *width, i, *number);
-        }
-        let mut plane = opened(&rt, &bytes, layout)?;
+        let mut plane = plane_of(&rt, *width, pixels)?;
         for (step, said) in *steps {
             take(&rt, &mut plane, *step);
             same!(rt; plane.stats(), summary_of(*said));
         }
     }
     Ok(())
+}
+
+// The plane of these pixels, each of so many bytes.
+fn plane_of<R: Abort + AllocGlobal>(rt: &R, width: usize, pixels: &[i64]) -> Result<Plane, Fail> {
+    let layout = layout_of(width, pixels.len(), None);
+    let mut bytes = blocks_of(rt.alloc(), layout.used, 0)?;
+    for (i, number) in pixels.iter().enumerate() {
+        plain_put(&mut bytes, width, i, *number);
+    }
+    opened(rt, &bytes, layout)
 }
 
 // Takes a step over pixels in one row.

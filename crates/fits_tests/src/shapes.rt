@@ -184,12 +184,19 @@ const SHAPES: &[(&str, ShapeText<'static>, u64)] = &[
 #[test]
 fn a_header_has_the_shape_of_its_mandatory_cards(rt: HostRuntime) -> Result<(), Fail> {
     for (cards, wanted, size) in SHAPES {
-        let mut header = header_of(rt.alloc(), cards)?;
-        let found = shape(rt.alloc(), &mut header, cards.starts_with("SIMPLE"))?;
+        let found = found_shape(rt.alloc(), cards)?;
         check_shape(&rt, &found, *wanted, cards);
         same!(rt; data_bytes(&found), Some(*size), cards);
     }
     Ok(())
+}
+
+// The shape that these cards have.
+fn found_shape(alloc: Global, cards: &str) -> Result<Shape, Fail> {
+    let mut header = header_of(alloc, cards)?;
+    let found = shape(alloc, &mut header, cards.starts_with("SIMPLE"));
+    drop(header);
+    Ok(found?)
 }
 
 /// Whether the HDU is the primary one, its cards, and the first place that breaks a rule.
@@ -320,10 +327,21 @@ const BROKEN: &[(bool, &str, usize)] = &[
 #[test]
 fn the_first_broken_place_is_reported(rt: HostRuntime) -> Result<(), Fail> {
     for (primary, cards, place) in BROKEN {
-        let mut header = header_of(rt.alloc(), cards)?;
-        let fault = shape(rt.alloc(), &mut header, *primary).err();
-        same!(rt; fault, Some(ShapeFault::Bad(*place)), cards);
+        check_broken(&rt, *primary, cards, *place)?;
     }
+    Ok(())
+}
+
+// Whether this is the first broken place of these cards.
+fn check_broken<R: Abort + AllocGlobal>(
+    rt: &R,
+    primary: bool,
+    cards: &str,
+    place: usize,
+) -> Result<(), Fail> {
+    let mut header = header_of(rt.alloc(), cards)?;
+    let fault = shape(rt.alloc(), &mut header, primary).err();
+    same!(rt; fault, Some(ShapeFault::Bad(place)), cards);
     Ok(())
 }
 
@@ -366,13 +384,20 @@ fn many_axes(alloc: Global, number: &str) -> Result<Vec<u8>, AllocError> {
 fn a_header_may_have_999_axes(rt: HostRuntime) -> Result<(), Fail> {
     for (number, axis, size) in MANY_AXES {
         let bytes = many_axes(rt.alloc(), number)?;
-        let (mut header, _) = cut_header(rt.alloc(), &bytes)?;
-        let found = shape(rt.alloc(), &mut header, true)?;
+        let found = cut_shape(rt.alloc(), &bytes)?;
         same!(rt; found.axes.as_slice().len(), 999);
         holds!(rt; found.axes.as_slice().iter().all(|found| found == axis));
         same!(rt; data_bytes(&found), *size);
     }
     Ok(())
+}
+
+// The shape of the primary HDU that bytes begin with.
+fn cut_shape(alloc: Global, bytes: &[u8]) -> Result<Shape, Fail> {
+    let (mut header, _) = cut_header(alloc, bytes)?;
+    let found = shape(alloc, &mut header, true);
+    drop(header);
+    Ok(found?)
 }
 
 /// A shape, and how many bytes its data have, where that fits 64 bits.

@@ -5,12 +5,13 @@ use crate::checks::{holds, same};
 use crate::planned::Plan;
 use crate::runs::{ALL_SMOOTH, Plans, Ran, edit, tell};
 use fits_cli::{End, Fault, Level, Telling};
+use std::alloc::{AllocError, Global};
 use std::process::Abort;
 use std::test::Fail;
 
 /// A stream of a run, or each of them.
 #[derive(Clone, Copy, Debug)]
-enum Stream {
+pub enum Stream {
     File,
     Script,
     Answers,
@@ -82,20 +83,29 @@ const BAD_LINE: End = End {
 
 // One run where a stream has this plan. It answers whether no call failed.
 fn is_smooth<R: Abort + AllocGlobal>(rt: &R, stream: Stream, plan: Plan) -> Result<bool, Fail> {
-    let file = hdu_of(rt.alloc(), P0, 0)?;
+    let ran = ran_over_p0(rt.alloc(), plans_of(stream, plan))?;
     let whole = hdu_of(rt.alloc(), SAVED, 0)?;
-    let plans = plans_of(stream, plan);
-    let ran = edit(rt.alloc(), &file, SCRIPT.as_bytes(), plans)?;
+    Ok(is_whole(rt, &ran, &whole, stream, plan))
+}
+
+// A run of the script over the shortest file.
+fn ran_over_p0(alloc: Global, plans: Plans) -> Result<Ran, AllocError> {
+    let file = hdu_of(alloc, P0, 0)?;
+    edit(alloc, &file, SCRIPT.as_bytes(), plans)
+}
+
+// Whether no call of a run failed, which printed and saved what it has to.
+fn is_whole<R: Abort>(rt: &R, ran: &Ran, whole: &[u8], stream: Stream, plan: Plan) -> bool {
     let call = plan.failing;
-    same!(rt; ran.end, end_of(plans, &ran, BAD_LINE), (stream, call));
-    check_fronts(rt, &ran, &whole, call);
+    same!(rt; ran.end, end_of(plans_of(stream, plan), ran, BAD_LINE), (stream, call));
+    check_fronts(rt, ran, whole, call);
     if 0 < ran.save_calls {
         same!(rt; ran.printed.len(), ANSWERS.len(), (stream, call));
     }
     if ran.end == BAD_LINE {
         same!(rt; ran.saved.len(), whole.len(), (stream, call));
     }
-    Ok(ran.end == BAD_LINE)
+    ran.end == BAD_LINE
 }
 
 // Whether the answers and the saved bytes are fronts of the whole.
@@ -192,23 +202,22 @@ const STOPPED: &[(Stream, usize, Fault, usize, usize)] = &[
 
 #[test]
 fn what_stands_before_a_fault_is_a_front(rt: HostRuntime) -> Result<(), Fail> {
-    let file = hdu_of(rt.alloc(), P0, 0)?;
     let whole = hdu_of(rt.alloc(), SAVED, 0)?;
+    check_stops(&rt, &whole)
+}
+
+// Whether each run that a stream stops leaves a front of the whole.
+fn check_stops<R: Abort + AllocGlobal>(rt: &R, whole: &[u8]) -> Result<(), Fail> {
     for (stream, count, fault, printed, saved) in STOPPED {
         let plan = Plan {
             step: 1,
             failing: count.wrapping_add(1),
         };
-        let ran = edit(
-            rt.alloc(),
-            &file,
-            SCRIPT.as_bytes(),
-            plans_of(*stream, plan),
-        )?;
+        let ran = ran_over_p0(rt.alloc(), plans_of(*stream, plan))?;
         same!(rt; ran.end, ended_by(*fault), (stream, count));
         same!(rt; ran.printed.len(), *printed, (stream, count));
         same!(rt; ran.saved.len(), *saved, (stream, count));
-        check_fronts(&rt, &ran, &whole, *count);
+        check_fronts(rt, &ran, whole, *count);
     }
     Ok(())
 }
@@ -261,29 +270,29 @@ const SUMS: &str = "1 0 1 1\n2 1867394316 0 0\n";
 /// A text of a file: the file, what is printed of it, and the status.
 pub type ToldText = (Telling, FileText<'static>, &'static str, u8);
 
-pub const LISTED_LINES: ToldText = (Telling::List, LISTED, LISTING, 0);
+const LISTED_LINES: ToldText = (Telling::List, LISTED, LISTING, 0);
 
-pub const REPORTED_LINES: ToldText = (Telling::Report(Level::All), WRONG, REPORT, 1);
+const REPORTED_LINES: ToldText = (Telling::Report(Level::All), WRONG, REPORT, 1);
 
-pub const NAMED_LINES: ToldText = (Telling::Report(Level::All), NAMED_TWICE, NAMED_REPORT, 0);
+const NAMED_LINES: ToldText = (Telling::Report(Level::All), NAMED_TWICE, NAMED_REPORT, 0);
 
-pub const SUMMED_LINES: ToldText = (Telling::Sums, SUMMED, SUMS, 0);
+const SUMMED_LINES: ToldText = (Telling::Sums, SUMMED, SUMS, 0);
 
-/// A text of a file, a stream of its run, and how many bytes each call of the stream moves.
-const TOLD_BY: &[(ToldText, Stream, usize)] = &[
-    (LISTED_LINES, File, 100),
-    (LISTED_LINES, File, 4096),
-    (LISTED_LINES, Answers, 7),
-    (LISTED_LINES, Answers, 4096),
-    (REPORTED_LINES, File, 100),
-    (REPORTED_LINES, Answers, 7),
-    (REPORTED_LINES, Answers, 4096),
-    (NAMED_LINES, File, 4096),
-    (NAMED_LINES, Answers, 7),
-    (SUMMED_LINES, File, 100),
-    (SUMMED_LINES, File, 4096),
-    (SUMMED_LINES, Answers, 7),
-    (SUMMED_LINES, Answers, 4096),
+/// A text of a file, the streams of its runs, and how many bytes each call of the stream moves.
+pub const TOLD_BY: &[(ToldText, &[(Stream, usize)])] = &[
+    (
+        LISTED_LINES,
+        &[(File, 100), (File, 4096), (Answers, 7), (Answers, 4096)],
+    ),
+    (
+        REPORTED_LINES,
+        &[(File, 100), (Answers, 7), (Answers, 4096)],
+    ),
+    (NAMED_LINES, &[(File, 4096), (Answers, 7)]),
+    (
+        SUMMED_LINES,
+        &[(File, 100), (File, 4096), (Answers, 7), (Answers, 4096)],
+    ),
 ];
 
 // One run where a stream has this plan. It answers whether no call failed.
@@ -300,7 +309,9 @@ fn is_told<R: Abort + AllocGlobal>(
     };
     let bytes = file_of(rt.alloc(), file)?;
     let plans = plans_of(stream, plan);
-    let ran = tell(rt.alloc(), telling, &bytes, plans)?;
+    let ran = tell(rt.alloc(), telling, &bytes, plans);
+    drop(bytes);
+    let ran = ran?;
     let call = plan.failing;
     same!(rt; ran.end, end_of(plans, &ran, whole), (lines, stream, call));
     holds!(rt; lines.as_bytes().starts_with(&ran.printed), (lines, stream, call));
@@ -312,11 +323,11 @@ fn is_told<R: Abort + AllocGlobal>(
 
 #[test]
 fn each_call_of_a_run_that_tells_fails_once(rt: HostRuntime) -> Result<(), Fail> {
-    for (text, stream, step) in TOLD_BY {
-        check_each_call(&rt, *text, *stream, *step)?;
-    }
-    for text in [LISTED_LINES, REPORTED_LINES, NAMED_LINES, SUMMED_LINES] {
-        holds!(rt; !is_told(&rt, text, Answers, STUCK)?);
+    for (text, streams) in TOLD_BY {
+        for (stream, step) in *streams {
+            check_each_call(&rt, *text, *stream, *step)?;
+        }
+        holds!(rt; !is_told(&rt, *text, Answers, STUCK)?);
     }
     Ok(())
 }

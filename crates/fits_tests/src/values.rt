@@ -66,13 +66,21 @@ fn field_card(alloc: Global, field: &str) -> Result<Card, AllocError> {
     Ok(card_of_bytes(&bytes))
 }
 
+/// What a reading came to, as a line.
+pub fn read_line(
+    alloc: Global,
+    said: Result<Option<(Value, Option<Text>)>, AllocError>,
+) -> Result<Vec<u8>, AllocError> {
+    line_of(alloc, &said?)
+}
+
 // Whether this was read.
 fn check_line<R: Abort + AllocGlobal>(
     rt: &R,
-    said: &Option<(Value, Option<Text>)>,
+    said: Result<Option<(Value, Option<Text>)>, AllocError>,
     wanted: &str,
 ) -> Result<(), AllocError> {
-    let line = line_of(rt.alloc(), said)?;
+    let line = read_line(rt.alloc(), said)?;
     same!(rt; line.as_slice(), wanted.as_bytes(), wanted);
     Ok(())
 }
@@ -90,8 +98,7 @@ const CARDS: &[(&str, &str)] = &[
 #[test]
 fn a_card_says_what_its_field_does(rt: HostRuntime) -> Result<(), Fail> {
     for (text, wanted) in CARDS {
-        let said = read_value(rt.alloc(), &card_of(text))?;
-        check_line(&rt, &said, wanted)?;
+        check_line(&rt, read_value(rt.alloc(), &card_of(text)), wanted)?;
     }
     Ok(())
 }
@@ -203,14 +210,25 @@ const LONG_STRINGS: &[(&str, &str, usize)] = &[
 #[test]
 fn a_long_string_goes_on_over_its_continue_cards(rt: HostRuntime) -> Result<(), Fail> {
     for (cards, wanted, links) in LONG_STRINGS {
-        let mut header = header_of(rt.alloc(), cards)?;
-        holds!(rt; header.len() == 3, cards);
-        same!(rt; link_count(&mut header, 1), *links, cards);
-        holds!(rt; header.len() == 3, cards);
-        let said = long_value(rt.alloc(), &mut header, 1)?;
-        check_line(&rt, &said, wanted)?;
+        check_long_string(&rt, cards, wanted, *links)?;
     }
     Ok(())
+}
+
+// Whether the first of three cards says this, over so many others.
+fn check_long_string<R: Abort + AllocGlobal>(
+    rt: &R,
+    cards: &str,
+    wanted: &str,
+    links: usize,
+) -> Result<(), Fail> {
+    let mut header = header_of(rt.alloc(), cards)?;
+    holds!(rt; header.len() == 3, cards);
+    same!(rt; link_count(&mut header, 1), links, cards);
+    holds!(rt; header.len() == 3, cards);
+    let said = long_value(rt.alloc(), &mut header, 1);
+    drop(header);
+    Ok(check_line(rt, said, wanted)?)
 }
 
 /// A card, the string that it says alone, and whether that may continue another.

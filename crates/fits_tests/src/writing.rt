@@ -58,19 +58,26 @@ const UNSAID: &[(&str, Kind)] = &[
     ("&", Str),
 ];
 
+/// Comments that no field has.
+const UNSAID_COMMENTS: &[&str] = &["x ", "\t"];
+
 #[test]
 fn what_no_field_says_is_not_written(rt: HostRuntime) -> Result<(), Fail> {
     for (text, kind) in UNSAID {
         let value = value_of(rt.alloc(), text, *kind)?;
-        let fault = write(&rt, &value, &None).err();
-        same!(rt; fault, Some(WriteFault::BadValue), text);
+        check_unsaid(&rt, &value, &None, text);
     }
-    for text in ["x ", "\t"] {
+    for text in UNSAID_COMMENTS {
         let comment = Some(Text::new(text.as_bytes().to_vec(rt.alloc())?));
-        let fault = write(&rt, &Value::Undefined, &comment).err();
-        same!(rt; fault, Some(WriteFault::BadValue), text);
+        check_unsaid(&rt, &Value::Undefined, &comment, text);
     }
     Ok(())
+}
+
+// Whether a value and its comment aren't written.
+fn check_unsaid<R: Abort + AllocGlobal>(rt: &R, value: &Value, comment: &Option<Text>, text: &str) {
+    let fault = write(rt, value, comment).err();
+    same!(rt; fault, Some(WriteFault::BadValue), text);
 }
 
 // The value of a kind with this text.
