@@ -105,18 +105,12 @@ const LONG_AXES: &[(usize, &[u64], Option<Refusal>)] = &[
 #[test]
 fn an_axis_has_64_bits_at_most(rt: HostRuntime) -> Result<(), Fail> {
     let file = file_of(rt.alloc(), (&[(P0, 0)], ""))?;
-    check_axes(&rt, &file)
-}
-
-// Whether a new image is refused its axes, as `LONG_AXES` says.
-fn check_axes<R: Abort + AllocGlobal>(rt: &R, file: &[u8]) -> Result<(), Fail> {
     for (at, axes, refusal) in LONG_AXES {
-        let axes_of_image = Axes::new(axes.to_vec(rt.alloc())?);
-        let mut session = Session::open(rt.alloc(), file)?;
+        let mut session = Session::open(rt.alloc(), &file)?;
         let edit = Edit::NewImage {
             at: *at,
             kind: Kind::U8,
-            axes: axes_of_image,
+            axes: Axes::new(axes.to_vec(rt.alloc())?),
         };
         same!(rt; refusal_of(&mut session, edit), *refusal, (at, axes));
     }

@@ -494,46 +494,44 @@ const NEW_U8: &str =
 /// Two HDUs whose data are zeros, and a tail.
 const TWO: FileText<'static> = (&[(P0, 0), (PIXEL, 1)], "tail");
 
-/// A line that edits the HDUs of a file, the file before and after, the refusal, and whether memory may run out in it.
-type HduEditText<'a> = (&'a str, FileText<'a>, FileText<'a>, Option<Refusal>, bool);
+/// A line that edits the HDUs of a file, the file before, the one after or the refusal, and whether memory may run out
+/// in it.
+type HduEditText<'a> = (&'a str, FileText<'a>, Result<FileText<'a>, Refusal>, bool);
 
 const HDU_EDITS: &[HduEditText<'static>] = &[
     (
         "new 2 u16 2,2",
         TWO,
-        (&[(P0, 0), (NEW_U16, 1), (PIXEL, 1)], "tail"),
-        None,
+        Ok((&[(P0, 0), (NEW_U16, 1), (PIXEL, 1)], "tail")),
         true,
     ),
     (
         "new 3 u8 -",
         TWO,
-        (&[(P0, 0), (PIXEL, 1), (NEW_U8, 0)], "tail"),
-        None,
+        Ok((&[(P0, 0), (PIXEL, 1), (NEW_U8, 0)], "tail")),
         true,
     ),
     (
         "new 2 u64 999999999999999999",
         TWO,
-        TWO,
-        Some(Refusal::TooLarge),
+        Err(Refusal::TooLarge),
         true,
     ),
-    ("new 4 u8 2", TWO, TWO, Some(Refusal::NoHdu), false),
-    ("new 1 u8 2", TWO, TWO, Some(Refusal::PrimaryStays), false),
+    ("new 4 u8 2", TWO, Err(Refusal::NoHdu), false),
+    ("new 1 u8 2", TWO, Err(Refusal::PrimaryStays), false),
     // taking an HDU out asks for none
-    ("rm 2", TWO, (&[(P0, 0)], "tail"), None, false),
-    ("rm 3", NAMED_TWICE, (&[(P0, 0), (A, 0)], ""), None, false),
-    ("rm 1", TWO, TWO, Some(Refusal::PrimaryStays), false),
-    ("rm 3", TWO, TWO, Some(Refusal::NoHdu), false),
+    ("rm 2", TWO, Ok((&[(P0, 0)], "tail")), false),
+    ("rm 3", NAMED_TWICE, Ok((&[(P0, 0), (A, 0)], "")), false),
+    ("rm 1", TWO, Err(Refusal::PrimaryStays), false),
+    ("rm 3", TWO, Err(Refusal::NoHdu), false),
 ];
 
 // Makes an edit of HDUs. Err: the memory for a file or a comparison was refused.
 fn check_hdu_edit<R: Abort + AllocGlobal>(rt: &R, text: HduEditText<'_>) -> Result<(), AllocError> {
-    let (line, before, after, refusal, takes_memory) = text;
+    let (line, before, wanted, takes_memory) = text;
+    let after = zeroed_file_of(rt.alloc(), wanted.unwrap_or(before))?;
     let before = zeroed_file_of(rt.alloc(), before)?;
-    let after = zeroed_file_of(rt.alloc(), after)?;
-    check_line(rt, line, &before, &after, refusal, takes_memory)
+    check_line(rt, line, &before, &after, wanted.err(), takes_memory)
 }
 
 #[test]

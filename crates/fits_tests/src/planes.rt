@@ -234,15 +234,20 @@ fn take<R: Abort>(rt: &R, plane: &mut Plane, step: Step) {
 
 #[test]
 fn what_is_no_rectangle_is_not_written(rt: HostRuntime) -> Result<(), Fail> {
-    let layout = layout_of(2, 12, None);
-    let bytes = blocks_of(rt.alloc(), layout.used, 1)?;
-    let mut plane = opened(&rt, &bytes, layout)?;
+    let mut plane = filled_plane(&rt, 1)?;
     for (axes, lo, hi, stored) in REFUSED {
         holds!(rt; !fill(&mut plane, axes, lo, hi, *stored), (axes, lo, hi));
     }
     same!(rt; plane.stats(), summary_of((12, 0, Some((257, 257)), 12 * 257)));
     same!(rt; last_pixel(&mut plane), Some(257));
     Ok(())
+}
+
+// A plane of 12 pixels of 16 bits, whose bytes are all this one.
+fn filled_plane<R: Abort + AllocGlobal>(rt: &R, byte: u8) -> Result<Plane, Fail> {
+    let layout = layout_of(2, 12, None);
+    let bytes = blocks_of(rt.alloc(), layout.used, byte)?;
+    opened(rt, &bytes, layout)
 }
 
 // The number of the last pixel, if there is one.

@@ -184,19 +184,12 @@ const SHAPES: &[(&str, ShapeText<'static>, u64)] = &[
 #[test]
 fn a_header_has_the_shape_of_its_mandatory_cards(rt: HostRuntime) -> Result<(), Fail> {
     for (cards, wanted, size) in SHAPES {
-        let found = found_shape(rt.alloc(), cards)?;
+        let mut header = header_of(rt.alloc(), cards)?;
+        let found = shape(rt.alloc(), &mut header, cards.starts_with("SIMPLE"))?;
         check_shape(&rt, &found, *wanted, cards);
         same!(rt; data_bytes(&found), Some(*size), cards);
     }
     Ok(())
-}
-
-// The shape that these cards have.
-fn found_shape(alloc: Global, cards: &str) -> Result<Shape, Fail> {
-    let mut header = header_of(alloc, cards)?;
-    let found = shape(alloc, &mut header, cards.starts_with("SIMPLE"));
-    drop(header);
-    Ok(found?)
 }
 
 /// Whether the HDU is the primary one, its cards, and the first place that breaks a rule.
@@ -327,21 +320,10 @@ const BROKEN: &[(bool, &str, usize)] = &[
 #[test]
 fn the_first_broken_place_is_reported(rt: HostRuntime) -> Result<(), Fail> {
     for (primary, cards, place) in BROKEN {
-        check_broken(&rt, *primary, cards, *place)?;
+        let mut header = header_of(rt.alloc(), cards)?;
+        let fault = shape(rt.alloc(), &mut header, *primary).err();
+        same!(rt; fault, Some(ShapeFault::Bad(*place)), cards);
     }
-    Ok(())
-}
-
-// Whether this is the first broken place of these cards.
-fn check_broken<R: Abort + AllocGlobal>(
-    rt: &R,
-    primary: bool,
-    cards: &str,
-    place: usize,
-) -> Result<(), Fail> {
-    let mut header = header_of(rt.alloc(), cards)?;
-    let fault = shape(rt.alloc(), &mut header, primary).err();
-    same!(rt; fault, Some(ShapeFault::Bad(place)), cards);
     Ok(())
 }
 

@@ -295,6 +295,17 @@ pub const TOLD_BY: &[(ToldText, &[(Stream, usize)])] = &[
     ),
 ];
 
+// A run that prints a text of a file.
+fn told(
+    alloc: Global,
+    telling: Telling,
+    file: FileText<'_>,
+    plans: Plans,
+) -> Result<Ran, AllocError> {
+    let bytes = file_of(alloc, file)?;
+    tell(alloc, telling, &bytes, plans)
+}
+
 // One run where a stream has this plan. It answers whether no call failed.
 fn is_told<R: Abort + AllocGlobal>(
     rt: &R,
@@ -307,11 +318,8 @@ fn is_told<R: Abort + AllocGlobal>(
         status,
         fault: None,
     };
-    let bytes = file_of(rt.alloc(), file)?;
     let plans = plans_of(stream, plan);
-    let ran = tell(rt.alloc(), telling, &bytes, plans);
-    drop(bytes);
-    let ran = ran?;
+    let ran = told(rt.alloc(), telling, file, plans)?;
     let call = plan.failing;
     same!(rt; ran.end, end_of(plans, &ran, whole), (lines, stream, call));
     holds!(rt; lines.as_bytes().starts_with(&ran.printed), (lines, stream, call));

@@ -75,18 +75,21 @@ pub fn command<'a>(alloc: Global) -> Result<Command<'a>, AllocError> {
         .after_help(STATUSES)
         .subcommand_required(true)
         .disable_help_subcommand(true);
-    let all = and(all, edit(alloc))?;
-    let all = and(all, reading(alloc, "list", LIST, STATUSES))?;
-    let all = and(all, reading(alloc, "sum", SUM, STATUSES))?;
+    let all = and(Ok(all), edit(alloc));
+    let all = and(all, reading(alloc, "list", LIST, STATUSES));
+    let all = and(all, reading(alloc, "sum", SUM, STATUSES));
     and(all, verify(alloc))
 }
 
 // The commands, and one more.
 fn and<'a>(
-    all: Command<'a>,
+    all: Result<Command<'a>, AllocError>,
     one: Result<Command<'a>, AllocError>,
 ) -> Result<Command<'a>, AllocError> {
-    all.subcommand(one?)
+    match (all, one) {
+        (Ok(all), Ok(one)) => all.subcommand(one),
+        _ => Err(AllocError),
+    }
 }
 
 fn edit<'a>(alloc: Global) -> Result<Command<'a>, AllocError> {
