@@ -1,3 +1,4 @@
+use Rattle.std.proofs.lemmas.Grind.{common_steps}
 use Rattle.std.proofs.Common.{◌≡◌, ◌<◌, ◌*◌, ◌+◌, ℕ, List, arith, ap, ◌∙◌, drop, take, length, slice_index, w8, Fits}
 use Rattle.std.proofs.lemmas.List.{length-take, length-drop}
 use Rattle.std.proofs.lemmas.Slice.{between_to_end}
@@ -36,3 +37,7 @@ loop-i-preserved c =
 
 pub returns-clause-within : goal.returns-clause-within
 returns-clause-within c = omega (arith, c.columns_total.ensures, c.loop-i.invariant.sum, word_total-le 720 c.args.block.now (omega arith) (λ k l. c.fits-block k))
+
+-- said, so that a body that breaks it is refused at once
+pub returns-clause-value : goal.returns-clause-value
+returns-clause-value c = grind (arith, common_steps)
