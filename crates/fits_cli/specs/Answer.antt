@@ -7,10 +7,10 @@ use Rattle.fits_hdu.specs.declared.verdicts.Verdicts.{Verdicts}
 use Rattle.fits_session.specs.File.{FileParts, offsets_from}
 use Rattle.fits_session.specs.Query.{datasum_in, positions_in, rect_in, stats_in, value_in, verdicts_in}
 use Rattle.fits_session.specs.Report.{report_of}
-use Rattle.fits_session.specs.Refusal.{refusal_of, EditNeedsMemory}
+use Rattle.fits_session.specs.Refusal.{refusal_of, refusal_text, EditNeedsMemory}
 use Rattle.fits_session.specs.declared.offsets.HduOffsets.{HduOffsets}
 use Rattle.fits_session.specs.declared.refusal.Refusal.{Refusal}
-use Rattle.fits_session.specs.declared.refusal.Refusal.TheVariants.{NoHdu, NoCard, NoKey, BadText, EndCard, Shape, BadName, BadValue, NotImage, BadRect, WrongCount, Range, PrimaryStays, TooLarge, Memory}
+use Rattle.fits_session.specs.declared.refusal.Refusal.TheVariants.{NoKey, Memory}
 use Rattle.fits_cli.specs.Line.{ReadingNeedsMemory}
 use Rattle.fits_cli.specs.PixelLines.{statistics_line, sums_line, values_line}
 use Rattle.fits_cli.specs.Report.{report_text}
@@ -97,24 +97,6 @@ OutcomeNeedsMemory file (Sums hdu) = IsOk (datasum_in file hdu)
 abbrev pub CommandFails : FileParts → Command → Refusal → Type 0
 CommandFails file command Memory = OutcomeNeedsMemory file command
 CommandFails file command why = outcome_of file command ≡ Err why
-
--- what a refusal's line says: its number and name
-abbrev pub refusal_text : Refusal → List ℕ
-refusal_text NoHdu = codes "refused 1 NoHdu"
-refusal_text NoCard = codes "refused 2 NoCard"
-refusal_text NoKey = codes "refused 3 NoKey"
-refusal_text BadText = codes "refused 4 BadText"
-refusal_text EndCard = codes "refused 5 EndCard"
-refusal_text Shape = codes "refused 6 Shape"
-refusal_text BadName = codes "refused 7 BadName"
-refusal_text BadValue = codes "refused 8 BadValue"
-refusal_text NotImage = codes "refused 9 NotImage"
-refusal_text BadRect = codes "refused 10 BadRect"
-refusal_text WrongCount = codes "refused 11 WrongCount"
-refusal_text Range = codes "refused 12 Range"
-refusal_text PrimaryStays = codes "refused 13 PrimaryStays"
-refusal_text TooLarge = codes "refused 14 TooLarge"
-refusal_text Memory = codes "refused 15 Memory"
 
 -- a line that says why line `number` wasn't done
 abbrev pub complaint : ℕ → List ℕ → List ℕ

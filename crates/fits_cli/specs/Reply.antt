@@ -5,7 +5,8 @@ use Rattle.std.specs.declared.alloc.Global.{Global}
 use Rattle.std.specs.declared.vec.Vec.{Vec}
 use Rattle.fits_session.specs.declared.refusal.Refusal.{Refusal as SessionRefusal}
 use Rattle.fits_session.specs.declared.refusal.Refusal.TheVariants.{Memory}
-use Rattle.fits_cli.specs.Answer.{complaint, refusal_text}
+use Rattle.fits_session.specs.Refusal.{refusal_text}
+use Rattle.fits_cli.specs.Answer.{complaint}
 use Rattle.fits_cli.specs.declared.reply.Reply.{Reply}
 use Rattle.fits_cli.specs.declared.reply.Reply.TheVariants.{Done, Refused, TooLong, NoCommand}
 

@@ -1,6 +1,5 @@
 //! What a line comes to, and what is printed of it.
 ghost use Rattle.std.specs.Prelude.{◌≡◌, OnOk, IfErr};
-ghost use Rattle.fits_cli.specs.Answer.{refusal_text};
 ghost use Rattle.fits_cli.specs.Faults.{PrintFails};
 ghost use Rattle.fits_cli.specs.Reply.{counts_as_refused, reply_text, settled};
 ghost use Rattle.fits_cli.specs.Streams.{sink, Prints};
@@ -57,31 +56,8 @@ pub(crate) fn print_reply<O: Sink>(out: &mut O, line: u64, reply: &Reply) -> Res
 {
     match reply {
         Reply::Done(text) => print(out, text),
-        Reply::Refused(why) => print_complaint(out, line, refusal_text(*why)),
+        Reply::Refused(why) => print_complaint(out, line, why.text()),
         Reply::TooLong => print_complaint(out, line, "too long"),
         Reply::NoCommand => print_complaint(out, line, "not a command"),
-    }
-}
-
-// What the line of a refusal says: its number and its name.
-fn refusal_text(why: Refusal) -> &'static str
-    ensures { result.now ≡ refusal_text why }
-{
-    match why {
-        Refusal::NoHdu => "refused 1 NoHdu",
-        Refusal::NoCard => "refused 2 NoCard",
-        Refusal::NoKey => "refused 3 NoKey",
-        Refusal::BadText => "refused 4 BadText",
-        Refusal::EndCard => "refused 5 EndCard",
-        Refusal::Shape => "refused 6 Shape",
-        Refusal::BadName => "refused 7 BadName",
-        Refusal::BadValue => "refused 8 BadValue",
-        Refusal::NotImage => "refused 9 NotImage",
-        Refusal::BadRect => "refused 10 BadRect",
-        Refusal::WrongCount => "refused 11 WrongCount",
-        Refusal::Range => "refused 12 Range",
-        Refusal::PrimaryStays => "refused 13 PrimaryStays",
-        Refusal::TooLarge => "refused 14 TooLarge",
-        Refusal::Memory => "refused 15 Memory",
     }
 }

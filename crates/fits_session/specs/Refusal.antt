@@ -1,5 +1,5 @@
 -- When an edit is refused: the first test of its row that fails (own).
-use Rattle.std.specs.Prelude.{◌≡◌, ◌⊎◌, ℕ, ◌+◌, ◌==◌, Bool, not, List, length, Option, Some, None, Result, Ok, Err, IsOk, if◌then◌else◌}
+use Rattle.std.specs.Prelude.{◌≡◌, ◌⊎◌, ℕ, ◌+◌, ◌==◌, Bool, not, List, length, codes, Option, Some, None, Result, Ok, Err, IsOk, if◌then◌else◌}
 use Rattle.fits_card.specs.Change.{cards_after}
 use Rattle.fits_card.specs.declared.change.Change.{Change}
 use Rattle.fits_rules.specs.SameShape.{same_shape}
@@ -15,7 +15,7 @@ use Rattle.fits_hdu.specs.declared.kind.Kind.{Kind}
 use Rattle.fits_session.specs.declared.edit.Edit.{Edit}
 use Rattle.fits_session.specs.declared.edit.Edit.TheVariants.{Fill, Write, NewImage, RemoveHdu, Stamp}
 use Rattle.fits_session.specs.declared.refusal.Refusal.{Refusal}
-use Rattle.fits_session.specs.declared.refusal.Refusal.TheVariants.{NoHdu, BadValue, Shape, PrimaryStays, TooLarge, Memory}
+use Rattle.fits_session.specs.declared.refusal.Refusal.TheVariants.{NoHdu, NoCard, NoKey, BadText, EndCard, Shape, BadName, BadValue, NotImage, BadRect, WrongCount, Range, PrimaryStays, TooLarge, Memory}
 use Rattle.fits_value.specs.declared.write.WriteFault.{WriteFault}
 use Rattle.fits_value.specs.declared.write.WriteFault.TheVariants as write
 
@@ -117,3 +117,21 @@ ChangeFails made why = (made ≡ Err why) ⊎ ((why ≡ Memory) × IsOk made)
 abbrev pub refusal_of_writing : WriteFault → Refusal
 refusal_of_writing write.BadValue = BadValue
 refusal_of_writing write.Memory = Memory
+
+-- how a refusal is printed, with its number
+abbrev pub refusal_text : Refusal → List ℕ
+refusal_text NoHdu = codes "refused 1 NoHdu"
+refusal_text NoCard = codes "refused 2 NoCard"
+refusal_text NoKey = codes "refused 3 NoKey"
+refusal_text BadText = codes "refused 4 BadText"
+refusal_text EndCard = codes "refused 5 EndCard"
+refusal_text Shape = codes "refused 6 Shape"
+refusal_text BadName = codes "refused 7 BadName"
+refusal_text BadValue = codes "refused 8 BadValue"
+refusal_text NotImage = codes "refused 9 NotImage"
+refusal_text BadRect = codes "refused 10 BadRect"
+refusal_text WrongCount = codes "refused 11 WrongCount"
+refusal_text Range = codes "refused 12 Range"
+refusal_text PrimaryStays = codes "refused 13 PrimaryStays"
+refusal_text TooLarge = codes "refused 14 TooLarge"
+refusal_text Memory = codes "refused 15 Memory"

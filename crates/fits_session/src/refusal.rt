@@ -7,54 +7,68 @@ use thiserror::Error;
 ///
 /// After a refusal the file is as before.
 #[derive(Clone, Copy, PartialEq, Eq, Debug, Error)]
+#[error("{}", self.text())]
 pub enum Refusal {
     /// 1: no HDU has this number, nor would a new one.
-    #[error("1 NoHdu")]
     NoHdu,
     /// 2: the place is out of its range.
-    #[error("2 NoCard")]
     NoCard,
     /// 3: no card of this name has a value, or, for its places, there is none.
-    #[error("3 NoKey")]
     NoKey,
     /// 4: a byte of the card isn't a character of text.
-    #[error("4 BadText")]
     BadText,
     /// 5: the card is named END.
-    #[error("5 EndCard")]
     EndCard,
     /// 6: the cards would describe another shape, or none; of a new image: more than 999 axes, or one
     /// past the greatest integer of 64 bits.
-    #[error("6 Shape")]
     Shape,
     /// 7: the name isn't a keyword's, or can't have a value.
-    #[error("7 BadName")]
     BadName,
     /// 8: the value or the comment can't be written, or the first card of this name that has a
     /// value can't be read.
-    #[error("8 BadValue")]
     BadValue,
     /// 9: the HDU is no image of integers.
-    #[error("9 NotImage")]
     NotImage,
     /// 10: the corners don't have a number for each axis, or don't lie in the axes, in order.
-    #[error("10 BadRect")]
     BadRect,
     /// 11: there are more or fewer values than the rectangle has pixels.
-    #[error("11 WrongCount")]
     WrongCount,
     /// 12: a value isn't one that a pixel of this kind can have.
-    #[error("12 Range")]
     Range,
     /// 13: the primary HDU stays where it is.
-    #[error("13 PrimaryStays")]
     PrimaryStays,
     /// 14: the file would pass a limit.
-    #[error("14 TooLarge")]
     TooLarge,
     /// 15: memory was refused.
-    #[error("15 Memory")]
     Memory,
+}
+
+impl Refusal {
+    ghost use Rattle.fits_session.specs.Refusal.{refusal_text};
+    ghost use Rattle.std.specs.Prelude.{◌≡◌};
+
+    /// How it is printed, with its number: `refused 5 EndCard`.
+    pub fn text(self) -> &'static str
+        ensures { result.now ≡ refusal_text self }
+    {
+        match self {
+            Refusal::NoHdu => "refused 1 NoHdu",
+            Refusal::NoCard => "refused 2 NoCard",
+            Refusal::NoKey => "refused 3 NoKey",
+            Refusal::BadText => "refused 4 BadText",
+            Refusal::EndCard => "refused 5 EndCard",
+            Refusal::Shape => "refused 6 Shape",
+            Refusal::BadName => "refused 7 BadName",
+            Refusal::BadValue => "refused 8 BadValue",
+            Refusal::NotImage => "refused 9 NotImage",
+            Refusal::BadRect => "refused 10 BadRect",
+            Refusal::WrongCount => "refused 11 WrongCount",
+            Refusal::Range => "refused 12 Range",
+            Refusal::PrimaryStays => "refused 13 PrimaryStays",
+            Refusal::TooLarge => "refused 14 TooLarge",
+            Refusal::Memory => "refused 15 Memory",
+        }
+    }
 }
 
 impl From<AllocError> for Refusal {
