@@ -1,7 +1,7 @@
 """Edits of cards beside `ins`, and edits that are refused."""
 import hdu_edits
 from fits import MANDATORY, P0, data, header
-from program import edited
+from program import differences, edited
 
 # A script over the shortest file that changes nothing: its answers.
 REFUSED = [
@@ -196,6 +196,89 @@ EDITED = [
         0,
         "SIMPLE|BITPIX  = 8|NAXIS   = 0|X|END     / the end",
     ),
+    # cards go to their places, before the first and after the last
+    (
+        "SIMPLE|BITPIX  = 8|NAXIS   = 0|A|B|C|END",
+        0,
+        "ins 1 4 X",
+        "",
+        0,
+        "SIMPLE|BITPIX  = 8|NAXIS   = 0|X|A|B|C|END",
+    ),
+    (
+        "SIMPLE|BITPIX  = 8|NAXIS   = 0|A|B|C|END",
+        0,
+        "ins 1 7 X\nins 1 8 Y",
+        "",
+        0,
+        "SIMPLE|BITPIX  = 8|NAXIS   = 0|A|B|C|X|Y|END",
+    ),
+    (
+        "SIMPLE|BITPIX  = 8|NAXIS   = 0|A|B|C|END",
+        0,
+        "del 1 5",
+        "",
+        0,
+        "SIMPLE|BITPIX  = 8|NAXIS   = 0|A|C|END",
+    ),
+    # one card comes for two, none for three, and three for one
+    (
+        "SIMPLE|BITPIX  = 8|NAXIS   = 0|A|KEY     = 'a&'|CONTINUE  'b'|END",
+        0,
+        "set 1 KEY 5",
+        "",
+        0,
+        "SIMPLE|BITPIX  = 8|NAXIS   = 0|A|KEY     =                    5|END",
+    ),
+    (
+        "SIMPLE|BITPIX  = 8|NAXIS   = 0|KEY     = 'a&'|CONTINUE  'b&'|CONTINUE  'c'|END",
+        0,
+        "unset 1 KEY",
+        "",
+        0,
+        "SIMPLE|BITPIX  = 8|NAXIS   = 0|END",
+    ),
+    (
+        "SIMPLE|BITPIX  = 8|NAXIS   = 0|A|B|KEY     = 1|END",
+        0,
+        "set 1 KEY 'aaaaaaaaaaaaaaaaaaaaaaaaaaaaaaaaaaaaaaaaaaaaaaaaaaaaaaaaaaaaaaaaaa''bbbbbbbbbbbbbbbbbbbbbbbbbbbbbbbbbbbbbbbbbbbbbbbbbbbbbbbbbbbbbbbbbbbbbbbbb'",
+        "",
+        0,
+        "SIMPLE|BITPIX  = 8|NAXIS   = 0|A|B|KEY     = 'aaaaaaaaaaaaaaaaaaaaaaaaaaaaaaaaaaaaaaaaaaaaaaaaaaaaaaaaaaaaaaaaaa&'|CONTINUE  '''bbbbbbbbbbbbbbbbbbbbbbbbbbbbbbbbbbbbbbbbbbbbbbbbbbbbbbbbbbbbbbbbb&'|CONTINUE  'bbbbbbbb'|END",
+    ),
+    # a card moves forward, back, not at all, and by one place
+    (
+        "SIMPLE|BITPIX  = 8|NAXIS   = 0|A|B|C|END",
+        0,
+        "mov 1 4 6",
+        "",
+        0,
+        "SIMPLE|BITPIX  = 8|NAXIS   = 0|B|C|A|END",
+    ),
+    (
+        "SIMPLE|BITPIX  = 8|NAXIS   = 0|A|B|C|END",
+        0,
+        "mov 1 6 4",
+        "",
+        0,
+        "SIMPLE|BITPIX  = 8|NAXIS   = 0|C|A|B|END",
+    ),
+    (
+        "SIMPLE|BITPIX  = 8|NAXIS   = 0|A|B|C|END",
+        0,
+        "mov 1 5 5",
+        "",
+        0,
+        "SIMPLE|BITPIX  = 8|NAXIS   = 0|A|B|C|END",
+    ),
+    (
+        "SIMPLE|BITPIX  = 8|NAXIS   = 0|A|B|C|D|END",
+        0,
+        "mov 1 5 6",
+        "",
+        0,
+        "SIMPLE|BITPIX  = 8|NAXIS   = 0|A|C|B|D|END",
+    ),
     # GROUPS counts where NAXIS1 is 0, PCOUNT only in random groups
     (
         "SIMPLE|BITPIX  = 8|NAXIS   = 2|NAXIS1  = 0|NAXIS2  = 0|END",
@@ -204,6 +287,36 @@ EDITED = [
         "line 1: refused 6 Shape\n",
         1,
         "SIMPLE|BITPIX  = 8|NAXIS   = 2|NAXIS1  = 0|NAXIS2  = 0|GROUPS  =                    F|PCOUNT  =                    7|END",
+    ),
+]
+
+# A header in which names repeat, and cards that have no value stand among others.
+KEYS = "SIMPLE  = T|BITPIX  = 8|NAXIS   = 0|KEY|COMMENT = 1|KEY     = 1|COMMENT|KEY     = 2|END"
+
+# The cards of a file; a script that asks for a keyword's places and for its value, which its first card with a value
+# says; and its answers.
+PLACES = [
+    (KEYS, "pos 1 KEY\nget 1 KEY", "4 6 8\ninteger 1\n"),
+    (KEYS, "pos 1 COMMENT\nget 1 COMMENT", "5 7\nline 2: refused 3 NoKey\n"),
+    (KEYS, "pos 1 SIMPLE\nget 1 SIMPLE", "1\nlogical T\n"),
+    (KEYS, "pos 1 KEYS\npos 1 key", "line 1: refused 3 NoKey\nline 2: refused 3 NoKey\n"),
+    (KEYS, "ins 1 6 HISTORY\npos 1 KEY\nget 1 KEY", "4 7 9\ninteger 1\n"),
+    (KEYS, "del 1 4\ndel 1 4\ndel 1 4\npos 1 KEY\nget 1 KEY", "5\ninteger 2\n"),
+    (KEYS, "put 1 4 KEY     = 0\nins 1 5 KEY\npos 1 KEY\nget 1 KEY", "4 5 7 9\ninteger 0\n"),
+    (KEYS, "ins 1 9 A       = 1\npos 1 A\nget 1 A", "9\ninteger 1\n"),
+    (KEYS, "mov 1 8 4\npos 1 KEY\nget 1 KEY", "4 5 7\ninteger 2\n"),
+    (KEYS, "mov 1 4 8\npos 1 KEY\nget 1 KEY", "5 7 8\ninteger 1\n"),
+    (KEYS, "mov 1 5 5\npos 1 COMMENT\nget 1 COMMENT", "5 7\nline 3: refused 3 NoKey\n"),
+    # three cards go at once, and two come for one
+    (
+        "SIMPLE  = T|BITPIX  = 8|NAXIS   = 0|KEY     = 'a&'|CONTINUE  'b&'|CONTINUE  'c'|COMMENT|KEY     = 2|END",
+        "unset 1 KEY\npos 1 KEY\nget 1 KEY\npos 1 COMMENT",
+        "5\ninteger 2\n4\n",
+    ),
+    (
+        "SIMPLE  = T|BITPIX  = 8|NAXIS   = 0|KEY     = 1|COMMENT|KEY     = 2|END",
+        f"set 1 KEY '{'a' * 69}'\npos 1 KEY\npos 1 CONTINUE\npos 1 COMMENT",
+        "4 7\n5\n6\n",
     ),
 ]
 
@@ -276,6 +389,8 @@ def cases():
         yield script, edited, shortest, script, answers, 1, shortest
     for before, blocks, script, answers, status, after in EDITED:
         yield script, edited, header(before) + data(blocks), script, answers, status, header(after) + data(blocks)
+    for before, script, answers in PLACES:
+        yield script, answered, header(before), script, answers
     for field, after in WRITTEN:
         script = f"set 1 KEY {field}"
         if after is None:
@@ -287,3 +402,9 @@ def cases():
         script = f"set 1 KEY '{text}' \nget 1 KEY\nunset 1 KEY\npos 1 KEY\n"
         answers = f"string '{text}'\nline 4: refused 3 NoKey\n"
         yield f"a string of {length} places", edited, shortest, script, answers, 1, shortest
+
+
+def answered(program, file, script, answers):
+    """Where a script over a file isn't answered so."""
+    ran = program.edit(file, script.encode())
+    return differences(ran, status=int("refused" in answers), printed=answers.encode(), reported=b"")

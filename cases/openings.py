@@ -225,6 +225,7 @@ CLOSED = [
         0,
         "O2 NoEnd hdu 1",
     ),
+    (([("SIMPLE  = T|BITPIX  = 8|NAXIS   = 0", 0)], ""), 0, "O2 NoEnd hdu 1"),
     (
         ([(P0, 0)], "XTENSION"),
         0,
@@ -344,6 +345,52 @@ CLOSED = [
     ),
 ]
 
+# The cards of an HDU, and the first of its places that breaks a rule.
+BROKEN = [
+    ("SIMPLE  = T|END", 2),
+    ("SIMPLE  = T|BITPIX  = 8|END", 3),
+    ("SIMPLE  = T|BITPIX  = 8|NAXIS   = 2|NAXIS1  = 1|END", 5),
+    ("SIMPLE  = T|BITPIX  = 8|NAXIS   = 999|END", 4),
+    ("SIMPLE  = T|BITPIX  = 9|NAXIS   = 1000|END", 2),
+    ("SIMPLE  = T|BITPIX  = 8|NAXIS   = 2|NAXIS2  = 1|NAXIS1  = 1|END", 4),
+    ("SIMPLE  = T|BITPIX  = 8|NAXIS   = 2|NAXIS1  = 1|COMMENT x|NAXIS2  = 1|END", 5),
+    ("XTENSION= 'IMA&'|CONTINUE  'GE'|BITPIX  = 8|NAXIS   = 0|END", 2),
+    ("SIMPLE  = T|BITPIX  =|CONTINUE  8|NAXIS   = 0|END", 2),
+    ("XTENSION= 'X'|BITPIX  = 8|NAXIS   = 0|GCOUNT  = 1.|PCOUNT  = 1.|END", 5),
+    ("XTENSION= 'X'|BITPIX  = 8|NAXIS   = 0|GCOUNT  = 1.|PCOUNT  = 1|END", 4),
+    ("XTENSION= 'X'|BITPIX  = 8|NAXIS   = 1|PCOUNT  = 1.|END", 4),
+    ("SIMPLE  = T|BITPIX  = 8|NAXIS   = 2|NAXIS1  = 0|NAXIS2  = 1|GROUPS  = T|GCOUNT  = -1|END", 7),
+    ("SIMPLE  = T|BITPIX  = 24|NAXIS   = 0|END", 2),
+    ("SIMPLE  = T|BITPIX  = 0|NAXIS   = 0|END", 2),
+    ("SIMPLE  = T|BITPIX  = -8|NAXIS   = 0|END", 2),
+    ("SIMPLE  = T|BITPIX  = -16|NAXIS   = 0|END", 2),
+    ("SIMPLE  = T|BITPIX  = 128|NAXIS   = 0|END", 2),
+    ("SIMPLE  = T|BITPIX  = 8.|NAXIS   = 0|END", 2),
+    ("SIMPLE  = T|BITPIX  = '8'|NAXIS   = 0|END", 2),
+    ("SIMPLE  = T|BITPIX  = T|NAXIS   = 0|END", 2),
+    ("SIMPLE  = T|BITPIX  =|NAXIS   = 0|END", 2),
+    ("SIMPLE  = T|BITPIX    8|NAXIS   = 0|END", 2),
+    ("SIMPLE  = T|BITPIX  =8|NAXIS   = 0|END", 2),
+    ("SIMPLE  = T|BITPIX  = 18446744073709551624|NAXIS   = 0|END", 2),
+    ("SIMPLE  = T|BITPIX  = 8 8|NAXIS   = 0|END", 2),
+    ("SIMPLE  = T|BITPIX  = 8|NAXIS   = 1000|END", 3),
+    ("SIMPLE  = T|BITPIX  = 8|NAXIS   = -1|END", 3),
+    ("SIMPLE  = T|BITPIX  = 8|NAXIS   = 0.|END", 3),
+    ("SIMPLE  = T|BITPIX  = 8|NAXIS   = 18446744073709551616|END", 3),
+    ("SIMPLE  = T|BITPIX  = 8|NAXIS|END", 3),
+    ("SIMPLE  = T|BITPIX  = 8|NAXIS   = 1|NAXIS1  = -1|END", 4),
+    ("SIMPLE  = T|BITPIX  = 8|NAXIS   = 1|NAXIS1  = 9223372036854775808|END", 4),
+    ("SIMPLE  = T|BITPIX  = 8|NAXIS   = 1|NAXIS1  = 1.0|END", 4),
+    ("SIMPLE  = T|BITPIX  = 8|NAXIS   = 1|NAXIS01 = 1|END", 4),
+    ("SIMPLE  = T|BITPIX  = 8|NAXIS   = 1|NAXIS   = 1|END", 4),
+    ("XTENSION= 'X'|BITPIX  = 8|NAXIS   = 0|COMMENT|PCOUNT  = -1|PCOUNT  = 0|END", 5),
+    ("XTENSION= 'X'|BITPIX  = 8|NAXIS   = 0|COMMENT|PCOUNT  = 9223372036854775808|PCOUNT  = 0|END", 5),
+    ("XTENSION= 'X'|BITPIX  = 8|NAXIS   = 0|COMMENT|PCOUNT  = '0'|PCOUNT  = 0|END", 5),
+    ("XTENSION= 'X'|BITPIX  = 8|NAXIS   = 0|COMMENT|PCOUNT  =|PCOUNT  = 0|END", 5),
+    ("SIMPLE  = T|BITPIX  = 8|NAXIS   = 1|END", 4),
+    ("XTENSION= 'IMAGE'|BITPIX  = 8|NAXIS   = 0|GCOUNT  = -1|PCOUNT  = 'x'|END", 5),
+]
+
 
 def cases():
     for text, offsets in OFFSETS:
@@ -356,6 +403,10 @@ def cases():
     for whole, least, most, fault in FRONTS:
         for length in sorted({*range(least, most, 97), most}):
             yield f"{fault} in {length} bytes", closed, file(whole)[:length], fault
+    for texts, place in BROKEN:
+        before = [] if texts.startswith("SIMPLE") else [(P0, 0)]
+        fault = f"O3 BadShape hdu {len(before) + 1} card {place}"
+        yield texts, closed, file(([*before, (texts, 0)], "")), fault
     front = file(([(P0, 0), (PIXEL, 1)], ""))
     for length in range(2880, 2888):
         yield f"{length} bytes", edited, front[:length], "off", "1 0 2880 2880\n", 0, front[:length]

@@ -1,6 +1,6 @@
 """Pixels: statistics, rectangles and sums under edits."""
 from fits import P0, PIXEL, THREE_PIXELS, file, header, pixels, zeros
-from program import differences
+from program import differences, edited
 
 # No pixels.
 NONE = (1, [], 0)
@@ -41,14 +41,39 @@ TWO_64 = (
     "NAXIS   =                    1|NAXIS1  =                    2|END"
 )
 
+THREE_8 = (
+    "SIMPLE  =                    T|BITPIX  =                    8|"
+    "NAXIS   =                    1|NAXIS1  =                    3|END"
+)
+
 THREE_16 = (
     "SIMPLE  =                    T|BITPIX  =                   16|"
     "NAXIS   =                    1|NAXIS1  =                    3|END"
 )
 
+TWELVE_16 = (
+    "SIMPLE  =                    T|BITPIX  =                   16|"
+    "NAXIS   =                    1|NAXIS1  =                   12|END"
+)
+
+TWELVE_BY_1 = (
+    "SIMPLE  =                    T|BITPIX  =                   16|"
+    "NAXIS   =                    2|NAXIS1  =                   12|NAXIS2  =                    1|END"
+)
+
+FOUR_BY_3 = (
+    "SIMPLE  =                    T|BITPIX  =                   16|"
+    "NAXIS   =                    2|NAXIS1  =                    4|NAXIS2  =                    3|END"
+)
+
 MANY_16 = (
     "SIMPLE  =                    T|BITPIX  =                   16|"
     "NAXIS   =                    1|NAXIS1  =                 1441|END"
+)
+
+EMPTY_64 = (
+    "SIMPLE  =                    T|BITPIX  =                   64|"
+    "NAXIS   =                    1|NAXIS1  =                    0|END"
 )
 
 NO_PIXELS = (
@@ -147,7 +172,62 @@ STATISTICS = [
         0,
         (2, [7, 8], 0),
     ),
+    # a BLANK that no pixel can have names none
+    (
+        TWO_16,
+        (2, [-32768, 32767], 0),
+        "stat 1\nset 1 BLANK 32768\nstat 1\nset 1 BLANK -32768\nstat 1",
+        "defined 2 blank 0 min -32768 max 32767 sum -1\ndefined 2 blank 0 min -32768 max 32767 sum -1\n"
+        "defined 1 blank 1 min 32767 max 32767 sum 32767\n",
+        0,
+        (2, [-32768, 32767], 0),
+    ),
+    (
+        THREE_8,
+        (1, [0, 200, 255], 0),
+        "set 1 BLANK -56\nstat 1\nset 1 BLANK 200\nstat 1\nset 1 BLANK 456\nstat 1",
+        "defined 3 blank 0 min 0 max 255 sum 455\ndefined 2 blank 1 min 0 max 255 sum 255\n"
+        "defined 3 blank 0 min 0 max 255 sum 455\n",
+        0,
+        (1, [0, 200, 255], 0),
+    ),
+    # blank pixels are written over, and others become blank
+    (
+        TWO_64,
+        (8, [MOST, MOST], 0),
+        "stat 1\nset 1 BLANK 9223372036854775807\nstat 1\nfill 1 2:2 -9223372036854775808\nstat 1",
+        "defined 2 blank 0 min 9223372036854775807 max 9223372036854775807 sum 18446744073709551614\n"
+        "defined 0 blank 2 min - max - sum 0\n"
+        "defined 1 blank 1 min -9223372036854775808 max -9223372036854775808 sum -9223372036854775808\n",
+        0,
+        (8, [MOST, LEAST], 0),
+    ),
+    (
+        TWO_16,
+        (2, [7, 8], 0),
+        "set 1 BLANK 7\nstat 1\nset 1 BLANK 8\nstat 1\nfill 1 1:2 8\nstat 1\nunset 1 BLANK\nstat 1",
+        "defined 1 blank 1 min 8 max 8 sum 8\ndefined 1 blank 1 min 7 max 7 sum 7\n"
+        "defined 0 blank 2 min - max - sum 0\ndefined 2 blank 0 min 8 max 8 sum 16\n",
+        0,
+        (2, [8, 8], 0),
+    ),
+    (
+        TWO_32,
+        (4, [-1, 1], 0),
+        "stat 1",
+        "defined 2 blank 0 min -1 max 1 sum 0\n",
+        0,
+        (4, [-1, 1], 0),
+    ),
     # an axis of no pixels, reals
+    (
+        EMPTY_64,
+        NONE,
+        "stat 1\nset 1 BLANK 0\nstat 1",
+        "defined 0 blank 0 min - max - sum 0\ndefined 0 blank 0 min - max - sum 0\n",
+        0,
+        NONE,
+    ),
     (
         NO_PIXELS,
         NONE,
@@ -167,6 +247,9 @@ STATISTICS = [
         (4, [1, 2], 0),
     ),
 ]
+
+# Twelve pixels of 16 bits.
+TWELVE = (2, [257] * 12, 0)
 
 RECTANGLES = [
     (
@@ -198,7 +281,44 @@ RECTANGLES = [
         1,
         (2, [-32768, 32767], 0),
     ),
+    # what is no rectangle of the image, or no number of 16 bits, is not written
+    (
+        TWELVE_16,
+        TWELVE,
+        "fill 1 0:1 1\nfill 1 2:1 1\nfill 1 12:13 1\nfill 1 1:1,1:1 1\nfill 1 1:1 32768\nfill 1 1:1 -32769\n"
+        "stat 1\nrect 1 12:12",
+        "line 1: refused 10 BadRect\nline 2: refused 10 BadRect\nline 3: refused 10 BadRect\n"
+        "line 4: refused 10 BadRect\nline 5: refused 12 Range\nline 6: refused 12 Range\n"
+        "defined 12 blank 0 min 257 max 257 sum 3084\n257\n",
+        1,
+        TWELVE,
+    ),
+    (
+        TWELVE_BY_1,
+        TWELVE,
+        "fill 1 1:1 1\nfill 1 1:1,1:2 1\nstat 1\nrect 1 12:12,1:1",
+        "line 1: refused 10 BadRect\nline 2: refused 10 BadRect\n"
+        "defined 12 blank 0 min 257 max 257 sum 3084\n257\n",
+        1,
+        TWELVE,
+    ),
+    (
+        FOUR_BY_3,
+        TWELVE,
+        "fill 1 1:4,1:4 1\nstat 1\nrect 1 4:4,3:3",
+        "line 1: refused 10 BadRect\ndefined 12 blank 0 min 257 max 257 sum 3084\n257\n",
+        1,
+        TWELVE,
+    ),
     # two blocks
+    (
+        MANY_16,
+        (2, [0] * 1441, 0),
+        "fill 1 1440:1441 7\nfill 1 1:1441 -7\nstat 1",
+        "defined 1441 blank 0 min -7 max -7 sum -10087\n",
+        0,
+        (2, [-7] * 1441, 0),
+    ),
     (
         MANY_16,
         (2, [0] * 1441, 0),
@@ -300,6 +420,52 @@ SUMS = [
 ]
 
 
+# BITPIX, further cards, and the value of a pixel whose bytes are zeros: it tells the kind of the pixels.
+KINDS = [
+    (8, "", 0),
+    (8, "BZERO   = -128|", -128),
+    (8, "BZERO   = 128|", 0),
+    (16, "", 0),
+    (16, "BZERO   = 32768|", 32768),
+    (16, "BZERO   = -32768|", 0),
+    (32, "", 0),
+    (32, "BZERO   = 2147483648|", 2147483648),
+    (32, "BZERO   = 32768|", 0),
+    (64, "", 0),
+    (64, "BZERO   = 9223372036854775808|", 9223372036854775808),
+    # by digits and exponent
+    (16, "BZERO   = 3.2768E4|", 32768),
+    (16, "BZERO   = +032768|", 32768),
+    (16, "BZERO   = 32768.5|", 0),
+    (16, "BZERO   = 32768.00000000000000001|", 0),
+    (16, "BZERO   = '32768'|", 0),
+    (16, "BZERO   = (32768, 0)|", 0),
+    # nothing but 1 is no scale
+    (16, "BZERO   = 32768|BSCALE  = 1.0|", 32768),
+    (16, "BZERO   = 32768|BSCALE  = 2|", 0),
+    (16, "BZERO   = 32768|BSCALE  = / undefined|", 0),
+    (16, "BZERO   = 32768|BSCALE  =2|", 32768),
+    (16, "BSCALE  = 1|", 0),
+    # the first card with a value counts
+    (16, "BZERO   = 0|BZERO   = 32768|", 0),
+    (16, "BZERO   = 32768|BZERO   = 0|", 32768),
+    (16, "BZERO     0|BZERO   = 32768|", 32768),
+]
+
+# What `stat` answers of pixels that have no kind, and of the first two of a block of data as numbers of 16 bits.
+NO_KIND = "line 1: refused 9 NotImage\n"
+FIRST_TWO = "defined 2 blank 0 min 1 max 515 sum 516\n"
+
+# Cards, how many blocks of data follow, and what `stat` answers: only arrays of integers have a kind.
+IMAGES = [
+    ("SIMPLE  = T|BITPIX  = 16|NAXIS   = 0|END", 0, NO_KIND),
+    ("SIMPLE  = T|BITPIX  = -32|NAXIS   = 1|NAXIS1  = 0|END", 0, NO_KIND),
+    ("SIMPLE  = T|BITPIX  = 16|NAXIS   = 2|NAXIS1  = 0|NAXIS2  = 3|GROUPS  = T|END", 1, NO_KIND),
+    ("XTENSION= 'IMAGE'|BITPIX  = 16|NAXIS   = 1|NAXIS1  = 2|END", 1, FIRST_TWO),
+    ("XTENSION= 'IMAGE'|BITPIX  = 16|NAXIS   = 1|NAXIS1  = 2|PCOUNT  = 1|END", 1, NO_KIND),
+    ("XTENSION= 'IMAGE'|BITPIX  = 16|NAXIS   = 1|NAXIS1  = 2|GCOUNT  = 2|END", 1, NO_KIND),
+    ("XTENSION= 'TABLE'|BITPIX  = 8|NAXIS   = 1|NAXIS1  = 2|END", 1, NO_KIND),
+]
 
 # A script over two HDUs with pixels and bytes after them, and its answers.
 TWO_HDUS = ([(THREE_PIXELS, 1), (PIXEL, 1)], "tail")
@@ -313,6 +479,13 @@ ANSWERS = (
 def cases():
     for texts, before, script, answers, status, after in STATISTICS + RECTANGLES + SUMS:
         yield script, saved_with, header(texts) + pixels(*before), script, answers, status, pixels(*after)
+    for bits, more, value in KINDS:
+        of_zeros = header(f"SIMPLE  = T|BITPIX  = {bits}|NAXIS   = 1|NAXIS1  = 1|{more}END") + zeros(1)
+        yield f"{bits} {more}", edited, of_zeros, "rect 1 1:1", f"{value}\n", 0, of_zeros
+    for texts, blocks, answer in IMAGES:
+        before = [] if texts.startswith("SIMPLE") else [(P0, 0)]
+        of_image = file(([*before, (texts, blocks)], ""))
+        yield texts, edited, of_image, f"stat {len(before) + 1}", answer, int(answer == NO_KIND), of_image
     yield "each HDU has its own pixels", saved_with, file(TWO_HDUS, zeros), SCRIPT, ANSWERS, 0, b"tail"
 
 
