@@ -1,16 +1,8 @@
-//! Cards, the header at the front of bytes, and changes of its cards.
-ghost use Rattle.std.specs.Prelude.{All, IsTrue};
-ghost use Rattle.fits_card.specs.Card.{IsEnd};
+//! Cards, and the header at the front of bytes.
 
-use crate::builders::ChangeText::{Move, Splice};
-use crate::builders::{
-    COMMENTS, ChangeText, add_cards, card_of, change_of, end_header, hdu_of, header_of, name_of,
-};
-use crate::checks::{holds, same};
-use crate::planned::{SMOOTH, writer};
-use fits_card::{Card, CardList, Change, HeaderFault, cut_header};
-use std::alloc::{AllocError, Global};
-use std::process::Abort;
+use crate::builders::{COMMENTS, add_cards, card_of, end_header, name_of};
+use crate::checks::same;
+use fits_card::{HeaderFault, cut_header};
 use std::test::Fail;
 
 /// A card, its name, and whether it has a value, ends a header, is text.
@@ -102,65 +94,4 @@ fn a_header_ends_with_the_block_of_its_end(rt: HostRuntime) -> Result<(), Fail> 
         same!(rt; found, *wanted, wanted);
     }
     Ok(())
-}
-
-/// Cards, a change, and the cards after it.
-const CHANGES: &[(&str, ChangeText<'static>, &str)] = &[
-    ("A|B|C|END", Splice(1, 0, "X"), "X|A|B|C|END"),
-    ("A|B|C|END", Splice(4, 0, "X|Y"), "A|B|C|X|Y|END"),
-    ("A|B|C|END", Splice(2, 1, ""), "A|C|END"),
-    ("A|B|C|END", Splice(2, 2, "X"), "A|X|END"),
-    ("A|B|C|END", Splice(1, 3, ""), "END"),
-    ("A|B|C|END", Splice(3, 1, "X|Y|Z"), "A|B|X|Y|Z|END"),
-    ("END", Splice(1, 0, "X"), "X|END"),
-    ("A|B|C|END", Move(1, 3), "B|C|A|END"),
-    ("A|B|C|END", Move(3, 1), "C|A|B|END"),
-    ("A|B|C|END", Move(2, 2), "A|B|C|END"),
-    ("A|B|C|D|END", Move(2, 3), "A|C|B|D|END"),
-];
-
-#[test]
-fn a_change_puts_cards_at_their_places(rt: HostRuntime) -> Result<(), Fail> {
-    for (before, change, after) in CHANGES {
-        check_change(&rt, before, *change, after)?;
-    }
-    Ok(())
-}
-
-// Whether these cards become those by the change.
-fn check_change<R: Abort + AllocGlobal>(
-    rt: &R,
-    before: &str,
-    text: ChangeText<'_>,
-    after: &str,
-) -> Result<(), Fail> {
-    let mut list = header_of(rt.alloc(), before)?;
-    apply(rt, &mut list, change_of(rt.alloc(), text)?)?;
-    let wanted = hdu_of(rt.alloc(), after, 0)?;
-    let found = emitted(rt.alloc(), &mut list)?;
-    holds!(rt; found.as_slice() == wanted.as_slice(), (before, after));
-    Ok(())
-}
-
-// Makes a change that is one of the list.
-fn apply<R: Abort>(rt: &R, list: &mut CardList, change: Change) -> Result<(), AllocError> {
-    holds!(rt; change.is_in_range(list));
-    holds!(rt; has_no_end(change.cards()));
-    list.reserve(change.len_after(list))?;
-    change.apply(list);
-    Ok(())
-}
-
-// The bytes of a header.
-fn emitted(alloc: Global, list: &mut CardList) -> Result<Vec<u8>, Fail> {
-    let mut sink = writer(alloc, SMOOTH)?;
-    list.emit(&mut sink)?;
-    Ok(sink.into_inner().bytes)
-}
-
-// Whether no card is named END.
-fn has_no_end(cards: &[Card]) -> bool
-    ensures { IsTrue result → All (λ card. IsEnd card → ⊥) cards.now }
-{
-    cards.iter().all(|card| !card.is_end())
 }

@@ -1,10 +1,8 @@
-//! What the index of a header's keywords answers, at once and after changes of the cards.
-ghost use Rattle.std.specs.Prelude.{◌≡◌, ◌≤◌, length};
+//! What the index of a header's keywords answers.
 
-use crate::builders::ChangeText::{self, Move, Splice};
-use crate::builders::{P0, change_of, hdu_of, header_of, name_of};
+use crate::builders::{P0, hdu_of, header_of, name_of};
 use crate::checks::{holds, same};
-use fits_card::{Change, Name};
+use fits_card::Name;
 use fits_codes::Code;
 use fits_header::{Header, KeyIndex};
 use fits_rules::shape;
@@ -20,27 +18,12 @@ const CARDS: &str =
 /// A name, the places of its cards, and that of its lead.
 type Places<'a> = (&'a str, &'a [usize], Option<usize>);
 
-/// At once.
 const PLACES: &[Places<'static>] = &[
     ("KEY     ", &[4, 6, 8], Some(6)),
     ("COMMENT ", &[5, 7], None),
     ("SIMPLE  ", &[1], Some(1)),
     ("KEYS    ", &[], None),
     ("key     ", &[], None),
-];
-
-/// A change of the cards, and a name after it.
-const CHANGED: &[(ChangeText<'static>, Places<'static>)] = &[
-    (Splice(6, 0, "HISTORY"), ("KEY     ", &[4, 7, 9], Some(7))),
-    (Splice(4, 3, ""), ("KEY     ", &[5], Some(5))),
-    (
-        Splice(4, 1, "KEY     = 0|KEY"),
-        ("KEY     ", &[4, 5, 7, 9], Some(4)),
-    ),
-    (Splice(9, 0, "A       = 1"), ("A       ", &[9], Some(9))),
-    (Move(8, 4), ("KEY     ", &[4, 5, 7], Some(4))),
-    (Move(4, 8), ("KEY     ", &[5, 7, 8], Some(5))),
-    (Move(5, 5), ("COMMENT ", &[5, 7], None)),
 ];
 
 /// Whether an index answers what is wanted.
@@ -65,56 +48,6 @@ fn a_name_has_the_places_of_its_cards(rt: HostRuntime) -> Result<(), Fail> {
         check_places(&rt, rt.alloc(), &index, wanted)?;
     }
     Ok(())
-}
-
-/// Makes a change of so many cards that an index stands for, if its places are among them.
-fn change_index(index: &mut KeyIndex, count: usize, change: &Change)
-    requires count { length index.old.keys ≡ count }
-    requires room { 2 ≤ index.old.room }
-{
-    match change {
-        Change::Splice {
-            place,
-            removed,
-            cards,
-        } => {
-            let cards = cards.as_slice();
-            if 1 <= *place && *place - 1 <= count && *removed <= count - (*place - 1) {
-                if cards.len() <= 2 {
-                    index.splice(*place, *removed, cards);
-                }
-            }
-        }
-        Change::Move { from, to } => {
-            if 1 <= *from && *from <= count && 1 <= *to && *to <= count {
-                index.move_place(*from, *to);
-            }
-        }
-    }
-}
-
-#[test]
-fn an_index_stays_that_of_the_changed_cards(rt: HostRuntime) -> Result<(), Fail> {
-    for (change, wanted) in CHANGED {
-        check_changed(&rt, *change, wanted)?;
-    }
-    Ok(())
-}
-
-// Whether an index answers what is wanted after a change of the cards.
-fn check_changed<R: Abort + AllocGlobal>(
-    rt: &R,
-    change: ChangeText<'_>,
-    wanted: &Places<'_>,
-) -> Result<(), Fail> {
-    let mut header = header_of(rt.alloc(), CARDS)?;
-    let count = header.len();
-    let index = KeyIndex::open(rt.alloc(), &mut header);
-    drop(header);
-    let mut index = index?;
-    index.reserve(2)?;
-    change_index(&mut index, count, &change_of(rt.alloc(), change)?);
-    check_places(rt, rt.alloc(), &index, wanted)
 }
 
 /// The cards of a header, and their names.
