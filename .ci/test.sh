@@ -8,7 +8,8 @@ cd "$(dirname "$0")/.."
 export RT_JOBS
 room=$(mktemp -d)
 trap 'rm -rf "$room"' EXIT
-for part in 'rt ci' 'sh .ci/refuse.sh' 'sh .ci/stored.sh' 'python3 -B cases/run.py'; do
+# With ANEW all is proved and tried again, whatever an earlier run on this machine kept.
+for part in "rt ci${ANEW:+ --anew}" 'sh .ci/refuse.sh' 'sh .ci/stored.sh' 'python3 -B cases/run.py'; do
     echo "== $part"
     { $part 2>&1 || touch "$room/failed"; } | tee "$room/log"
     grep -E 'FAILED: |NOT PROVED|NOT REFUSED|BAD EDIT' "$room/log" >>"$room/faults"
