@@ -5,13 +5,13 @@
 set -u
 room=$(mktemp -d)
 trap 'rm -rf "$room"' EXIT
-cc -shared -fPIC -O1 -o "$room/refuse.so" "$(dirname "$0")/refuse.c" || exit 2
+cc -shared -fPIC -O1 -o "$room/faults.so" "$(dirname "$0")/../cases/faults.c" || exit 2
 passed=0
 failed=0
 for tests in crates/*/out/*_tests; do
     [ -x "$tests" ] || continue
     for name in $("$tests" --list 2>/dev/null | sed -n 's/: test$//p' | grep refused_memory); do
-        count=$(REFUSE_COUNT=1 LD_PRELOAD="$room/refuse.so" "$tests" "$name" 2>&1 >/dev/null | tail -1)
+        count=$(COUNTED=1 LD_PRELOAD="$room/faults.so" "$tests" "$name" 2>&1 >/dev/null | tail -1)
         bad=0
         case $count in
         '' | 0 | *[!0-9]*)
@@ -22,7 +22,7 @@ for tests in crates/*/out/*_tests; do
         esac
         k=1
         while [ "$k" -le "$count" ]; do
-            if ! REFUSE=$k LD_PRELOAD="$room/refuse.so" timeout 60 "$tests" "$name" >"$room/out" 2>&1; then
+            if ! REFUSE=$k LD_PRELOAD="$room/faults.so" timeout 60 "$tests" "$name" >"$room/out" 2>&1; then
                 echo "FAILED: $name, request $k refused"
                 cat "$room/out"
                 bad=1

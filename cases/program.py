@@ -18,10 +18,14 @@ class Ran:
 
 
 class Program:
-    """A built `fitsed`, run over files in a new folder each time."""
+    """A built `fitsed`, run over files in a new folder each time; with these words in its environment beside our own."""
 
-    def __init__(self, path):
-        self.path = os.path.abspath(path)
+    def __init__(self, path, **environment):
+        self.path, self.environment = os.path.abspath(path), environment
+
+    def under(self, **environment):
+        """The same program, with more words in its environment."""
+        return Program(self.path, **self.environment, **environment)
 
     def edit(self, file, script):
         """A script over a file, saved to another."""
@@ -41,6 +45,7 @@ class Program:
             (path / "in.fits").write_bytes(file)
             with open(path / "printed", "wb") as printed, open(path / "reported", "wb") as reported:
                 how = {"cwd": room, "stdin": subprocess.PIPE, "stdout": printed, "stderr": reported}
+                how["env"] = {**os.environ, **self.environment}
                 ran = subprocess.Popen([self.path, *words], **how)
                 with contextlib.suppress(BrokenPipeError):
                     for piece in pieces:

@@ -10,6 +10,7 @@ import sys
 
 import card_edits
 import codes
+import faults
 import hdu_edits
 import lines
 import listings
@@ -34,6 +35,7 @@ TABLES = [
     sums,
     reports,
     codes,
+    faults,
     long_scripts,
 ]
 

@@ -9,7 +9,7 @@ use std::marker::Model;
 pub const CARD_LEN: usize = 80;
 
 /// A keyword record: one line of a header, whatever its bytes.
-#[derive(Clone, Copy, PartialEq, Eq, Hash, Debug)]
+#[derive(Clone, Copy, PartialEq, Eq, Debug)]
 pub struct Card(pub [u8; 80]);
 
 impl Model for Card {

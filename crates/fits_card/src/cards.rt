@@ -4,7 +4,7 @@ use crate::card::Card;
 use std::marker::Model;
 
 /// Cards, one after another. Contracts see them as a list of cards.
-#[derive(Drop, Debug)]
+#[derive(Drop)]
 pub struct Cards {
     cards: Vec<Card>,
 }

@@ -7,7 +7,7 @@ use crate::card_list::CardList;
 use crate::cards::Cards;
 
 /// A change of a header's cards. Places count from 1.
-#[derive(Drop, Debug)]
+#[derive(Drop)]
 pub enum Change {
     /// From a place on, so many cards go, and these cards come instead.
     Splice {

@@ -12,7 +12,7 @@ use std::alloc::{AllocError, Global};
 use thiserror::Error;
 
 /// Why no header was cut.
-#[derive(Clone, Copy, PartialEq, Eq, Debug, Error)]
+#[derive(Clone, Copy, Debug, Error)]
 pub enum HeaderFault {
     /// There is no END card, or its block isn't whole.
     #[error("the header has no END, or its last block is not whole")]

@@ -6,7 +6,7 @@ ghost use Rattle.fits_card.specs.Name.{is_name_byte};
 use std::marker::Model;
 
 /// A keyword name: bytes 1 to 8 of a card, whatever they are (FITS Standard 4.0, section 4.1.2.1).
-#[derive(Clone, Copy, PartialEq, Eq, PartialOrd, Ord, Hash, Debug)]
+#[derive(Clone, Copy, PartialEq, Eq, PartialOrd, Ord, Debug)]
 pub struct Name(pub [u8; 8]);
 
 impl Model for Name {

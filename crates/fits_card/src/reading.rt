@@ -8,7 +8,7 @@ use thiserror::Error;
 pub const PIECE_LEN: usize = 65_536;
 
 /// Why nothing was taken.
-#[derive(Clone, Copy, PartialEq, Eq, Debug, Error)]
+#[derive(Clone, Copy, Debug, Error)]
 pub enum ReadFault {
     /// Memory was refused.
     #[error("out of memory")]

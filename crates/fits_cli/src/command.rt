@@ -2,7 +2,7 @@ use fits_card::Name;
 use fits_session::{Corner, Edit};
 
 /// What a line of a script asks for. HDUs and places count from 1.
-#[derive(Debug, Drop)]
+#[derive(Drop)]
 pub enum Command {
     /// An empty line, or a comment.
     Nothing,

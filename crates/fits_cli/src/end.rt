@@ -1,7 +1,7 @@
 use crate::fault::Fault;
 
 /// How a run ended.
-#[derive(Clone, Copy, PartialEq, Eq, Debug)]
+#[derive(Clone, Copy)]
 pub struct End {
     /// The program's exit status: 0 done, 1 a line was refused or bad, or a report has an error, else
     /// that of the fault.

@@ -6,7 +6,7 @@ use std::alloc::AllocError;
 use thiserror::Error;
 
 /// What ended a run before its end, as standard error tells it.
-#[derive(Clone, Copy, PartialEq, Eq, Debug, Error)]
+#[derive(Clone, Copy, Debug, Error)]
 pub enum Fault {
     /// The file doesn't open.
     #[error("fitsed: open refused {0}")]

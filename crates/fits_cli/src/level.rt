@@ -1,7 +1,7 @@
 use fits_codes::Code;
 
 /// Which problems of a report are listed. Its closing line counts them all.
-#[derive(Clone, Copy, PartialEq, Eq, Debug)]
+#[derive(Clone, Copy)]
 pub enum Level {
     /// All of them.
     All,

@@ -1,7 +1,7 @@
 use crate::command::Command;
 
 /// What a line of a script comes to.
-#[derive(Debug, Drop)]
+#[derive(Drop)]
 pub enum LineReading {
     /// It is past the limit, whatever it holds.
     TooLong,

@@ -1,7 +1,7 @@
 /// A finding of a report: one of its rules that a card, a header or a file breaks.
 ///
 /// The numbers are those of the printed labels.
-#[derive(Clone, Copy, PartialEq, Eq, Debug)]
+#[derive(Clone, Copy, PartialEq, Eq)]
 pub enum Code {
     /// 4.1.2.3: every byte of a card is a character of text.
     NotText = 1,

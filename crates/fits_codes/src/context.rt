@@ -1,7 +1,7 @@
 use fits_rules::Class;
 
 /// Where a card stands, and what stands round it, as far as the rules ask.
-#[derive(Clone, Copy, PartialEq, Eq, Debug)]
+#[derive(Clone, Copy)]
 pub struct Context {
     /// The class of its HDU.
     pub class: Class,

@@ -6,7 +6,7 @@ use fits_rules::IntegerSaid;
 use fits_value::{ValueKind, scan_card};
 
 /// What a header says as a whole, as far as the rules ask.
-#[derive(Clone, Copy, PartialEq, Eq, Debug)]
+#[derive(Clone, Copy)]
 pub struct HeaderMark {
     /// Whether END has spaces alone after its name (FITS Standard 4.0, section 4.4.1).
     pub end_blank: bool,

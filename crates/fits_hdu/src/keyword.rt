@@ -12,7 +12,7 @@ use std::alloc::{AllocError, Global};
 use thiserror::Error;
 
 /// Why a keyword gave no value.
-#[derive(Clone, Copy, PartialEq, Eq, Debug, Error)]
+#[derive(Clone, Copy, Debug, Error)]
 pub enum KeywordFault {
     /// No card of this name has a value (FITS Standard 4.0, section 4.1.2.2).
     #[error("no card of this name has a value")]

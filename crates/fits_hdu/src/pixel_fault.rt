@@ -1,7 +1,7 @@
 use thiserror::Error;
 
 /// Why pixels aren't read or written: the first test that fails, in this order.
-#[derive(Clone, Copy, PartialEq, Eq, Debug, Error)]
+#[derive(Clone, Copy, Debug, Error)]
 pub enum PixelFault {
     /// The HDU is no image of integers.
     #[error("no image of integers")]

@@ -3,7 +3,7 @@ use fits_card::{ReadFault, ReadHeaderFault};
 use fits_rules::ShapeFault;
 
 /// Why no HDU was read from a source.
-#[derive(Clone, Copy, PartialEq, Eq, Debug)]
+#[derive(Clone, Copy)]
 pub enum ReadHduFault {
     /// The bytes that come next don't begin with one, or memory was refused.
     Hdu(HduFault),

@@ -1,7 +1,7 @@
 use crate::sum_said::SumSaid;
 
 /// What DATASUM and CHECKSUM say.
-#[derive(Clone, Copy, PartialEq, Eq, Debug)]
+#[derive(Clone, Copy)]
 pub(crate) struct SumKeywords {
     pub datasum: SumSaid,
     pub checksum: SumSaid,

@@ -1,5 +1,5 @@
 /// What a keyword says of a sum (FITS Standard 4.0, section 4.4.2.7; own).
-#[derive(Clone, Copy, PartialEq, Eq, Debug)]
+#[derive(Clone, Copy)]
 pub(crate) enum SumSaid {
     /// Nothing: it isn't there, or its value is undefined or of spaces alone.
     Nothing,

@@ -6,7 +6,7 @@ use crate::key::Key;
 use crate::numbers::number_of;
 
 /// A card in the index.
-#[derive(Clone, Copy, PartialEq, Eq, Debug)]
+#[derive(Clone, Copy)]
 pub(crate) struct Entry {
     /// Its name, as a number.
     pub(crate) name: u64,

@@ -3,7 +3,7 @@ ghost use Rattle.std.specs.Prelude.{◌≡◌};
 use fits_card::{Card, Name};
 
 /// What the index of a header keeps of a card.
-#[derive(Clone, Copy, PartialEq, Eq, Debug)]
+#[derive(Clone, Copy)]
 pub struct Key {
     pub name: Name,
     pub has_value: bool,

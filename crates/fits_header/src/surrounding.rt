@@ -1,5 +1,5 @@
 /// What stands round a card of a header, as far as the rules ask.
-#[derive(Clone, Copy, PartialEq, Eq, Debug)]
+#[derive(Clone, Copy)]
 pub(crate) struct Surrounding {
     /// Whether an earlier card has its name.
     pub(crate) name_before: bool,

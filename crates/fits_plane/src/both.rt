@@ -4,7 +4,7 @@ ghost use Rattle.fits_plane.specs.SummaryLaws.{both_laws};
 use crate::summary::Summary;
 
 /// Two summaries of one part, side by side.
-#[derive(Clone, Copy, Debug, PartialEq, Eq)]
+#[derive(Clone, Copy)]
 pub struct Both<A, B> {
     pub first: A,
     pub second: B,

@@ -1,5 +1,5 @@
 /// How the bytes of a data unit are read.
-#[derive(Clone, Copy, Debug, PartialEq, Eq)]
+#[derive(Clone, Copy)]
 pub struct Layout {
     /// How many bytes a pixel has: 1, 2, 4 or 8, or 0 where there are no integer pixels.
     pub width: usize,

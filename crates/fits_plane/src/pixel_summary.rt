@@ -6,7 +6,7 @@ use crate::summary::Summary;
 
 /// How many pixels are defined and how many blank, and the least, the greatest and the sum of the
 /// stored numbers of those defined.
-#[derive(Clone, Copy, Debug, PartialEq, Eq)]
+#[derive(Clone, Copy)]
 pub struct PixelSummary {
     pub defined: u64,
     pub blank: u64,

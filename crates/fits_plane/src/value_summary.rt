@@ -7,7 +7,7 @@ use crate::pixel_summary::PixelSummary;
 
 /// How many pixels are defined and how many blank, and the least, the greatest and the sum of the
 /// values of those defined.
-#[derive(Clone, Copy, Debug, PartialEq, Eq)]
+#[derive(Clone, Copy)]
 pub struct ValueSummary {
     pub defined: u64,
     pub blank: u64,

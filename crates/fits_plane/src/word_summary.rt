@@ -4,7 +4,7 @@ ghost use Rattle.fits_plane.specs.SummaryLaws.{word_laws};
 use crate::summary::Summary;
 
 /// The sum of a part's words.
-#[derive(Clone, Copy, Debug, PartialEq, Eq)]
+#[derive(Clone, Copy)]
 pub struct WordSummary {
     pub total: u64,
 }

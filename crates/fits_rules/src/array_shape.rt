@@ -2,7 +2,7 @@ use crate::axes::Axes;
 use crate::class::Class;
 
 /// What a header's mandatory keywords say of its data (FITS Standard 4.0, section 4.4.1).
-#[derive(Drop, Debug)]
+#[derive(Drop)]
 pub struct Shape {
     pub class: Class,
     /// Bits of a value: 8, 16, 32, 64, and -32 and -64 for floating-point numbers.

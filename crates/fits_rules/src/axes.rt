@@ -3,7 +3,7 @@ ghost use Rattle.std.specs.Prelude.{◌≡◌};
 use std::marker::Model;
 
 /// The axes of an array, NAXIS1 first. Contracts see them as a list of numbers.
-#[derive(Drop, Debug)]
+#[derive(Drop)]
 pub struct Axes {
     axes: Vec<u64>,
 }

@@ -4,7 +4,7 @@ use std::marker::Model;
 
 /// A corner of a rectangle: a place on each axis, from 1, NAXIS1 first. Contracts see it as its
 /// list of numbers.
-#[derive(Drop, Debug)]
+#[derive(Drop)]
 pub struct Corner {
     places: Vec<u64>,
 }

@@ -8,7 +8,7 @@ use fits_rules::Axes;
 use fits_value::{Text, Value};
 
 /// A change of a file. HDUs and places count from 1.
-#[derive(Drop, Debug)]
+#[derive(Drop)]
 pub enum Edit {
     /// The card stands at a place of an HDU, before the one that stood there.
     Insert {

@@ -4,7 +4,7 @@ use std::marker::Model;
 
 /// Values of the pixels of a rectangle, in file order: NAXIS1 varies fastest. Each is a stored
 /// number plus the offset of the image's kind. Contracts see them as their list.
-#[derive(Drop, Debug)]
+#[derive(Drop)]
 pub struct PixelValues {
     values: Vec<i128>,
 }

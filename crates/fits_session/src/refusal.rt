@@ -1,13 +1,14 @@
 use fits_hdu::{KeywordFault, PixelFault};
 use fits_value::WriteFault;
 use std::alloc::{AllocError, AllocFailed};
-use thiserror::Error;
+use std::error::Error;
+use std::fmt;
+use std::fmt::{Display, Formatter, Write};
 
 /// Why an edit wasn't made, or a query has no answer: the first test of its row that failed.
 ///
 /// After a refusal the file is as before.
-#[derive(Clone, Copy, PartialEq, Eq, Debug, Error)]
-#[error("{}", self.text())]
+#[derive(Clone, Copy, PartialEq, Eq, Debug)]
 pub enum Refusal {
     /// 1: no HDU has this number, nor would a new one.
     NoHdu,
@@ -70,6 +71,14 @@ impl Refusal {
         }
     }
 }
+
+impl Display for Refusal {
+    fn fmt<W: Write>(&self, f: &mut Formatter<W>) -> fmt::Result {
+        f.write_str(self.text())
+    }
+}
+
+impl Error for Refusal {}
 
 impl From<AllocError> for Refusal {
     ghost use Rattle.fits_session.specs.declared.refusal.Refusal.TheVariants.{Memory};

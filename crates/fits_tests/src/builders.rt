@@ -166,12 +166,3 @@ fn cards_of(alloc: Global, texts: &str) -> Result<Cards, AllocError> {
     }
     Ok(Cards::new(cards))
 }
-
-/// A text so many times.
-pub fn repeated(alloc: Global, text: &str, times: usize) -> Result<Vec<u8>, AllocError> {
-    let mut bytes = Vec::new(alloc);
-    for _ in 0..times {
-        bytes.extend_from_slice(text.as_bytes())?;
-    }
-    Ok(bytes)
-}

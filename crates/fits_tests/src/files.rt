@@ -2,12 +2,13 @@
 
 use crate::builders::{FileText, P0, file_of};
 use crate::checks::same;
-use crate::planned::{SMOOTH, writer};
-use crate::runs::refusal_of;
+use fits_card::Watched;
 use fits_hdu::Kind;
 use fits_rules::{Axes, Class};
 use fits_session::{Edit, Refusal, Session, within};
-use std::alloc::Global;
+use std::alloc::{AllocError, Global};
+use std::io;
+use std::io::Write;
 use std::process::Abort;
 use std::test::Fail;
 
@@ -25,11 +26,33 @@ fn limits_are_the_last_that_are_kept(rt: HostRuntime) {
     }
 }
 
-/// The bytes that are saved.
-pub fn saved(alloc: Global, session: &mut Session) -> Result<Vec<u8>, Fail> {
-    let mut sink = writer(alloc, SMOOTH)?;
-    session.save(&mut sink)?;
-    Ok(sink.into_inner().bytes)
+/// Makes an edit, and answers why it was refused, if it was.
+pub fn refusal_of(session: &mut Session, edit: Edit) -> Option<Refusal> {
+    session.edit(edit).err()
+}
+
+/// Bytes in memory, as they were written.
+#[derive(Drop)]
+struct Written(Vec<u8>);
+
+impl Write for Written {
+    fn write(&mut self, buf: &[u8]) -> io::Result<usize> {
+        self.0.extend_from_slice(buf)?;
+        Ok(buf.len())
+    }
+
+    fn flush(&mut self) -> io::Result<()> {
+        Ok(())
+    }
+}
+
+/// The bytes that are saved, if there is memory for them.
+pub fn saved(alloc: Global, session: &mut Session) -> Result<Vec<u8>, AllocError> {
+    let mut sink = Watched::new(Written(Vec::new(alloc)));
+    match session.save(&mut sink) {
+        Ok(()) => Ok(sink.into_inner().0),
+        Err(_) => Err(AllocError),
+    }
 }
 
 /// The HDUs that `HDUS` describes: no image, an image, an image of unsigned pixels, none without axes.

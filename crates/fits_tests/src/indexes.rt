@@ -130,7 +130,8 @@ fn check_card<R: Abort>(
     if index < header.len() {
         same!(rt; header.is_link(index + 1), is_link, index);
         let codes = header.codes(index + 1);
-        same!(rt; codes.as_slice().first().copied(), code, index);
+        let found = codes.as_slice().first().map(|code| code.label());
+        same!(rt; found, code.map(Code::label), index);
     }
 }
 

@@ -8,8 +8,6 @@ mod cards;
 #[cfg(test)]
 mod checks;
 #[cfg(test)]
-mod faults;
-#[cfg(test)]
 mod files;
 #[cfg(test)]
 mod hdus;
@@ -26,11 +24,7 @@ mod planned;
 #[cfg(test)]
 mod reading;
 #[cfg(test)]
-mod runs;
-#[cfg(test)]
 mod shapes;
-#[cfg(test)]
-mod streams;
 #[cfg(test)]
 mod sums;
 #[cfg(test)]

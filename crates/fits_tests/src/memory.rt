@@ -4,203 +4,14 @@
 //! all as it was.
 
 use crate::builders::{
-    COMMENTS, FileText, P0, PIXEL, add_cards, card_of, end_header, file_of, hdu_of, header_of,
-    name_of, open_hdu, repeated, zeroed_file_of,
+    COMMENTS, FileText, P0, PIXEL, add_cards, end_header, file_of, hdu_of, name_of, zeroed_file_of,
 };
-use crate::checks::{check_holds, holds, same};
-use crate::planned::{PlannedWriter, SMOOTH, reader, writer};
-use crate::runs::{ALL_SMOOTH, Ran, check_ran, edit, refusal_of, tell};
-use crate::shapes::{ShapeText, check_shape};
-use crate::streams::{A, NAMED_TWICE, TOLD_BY};
-use crate::values::{line_of, read_line};
-use fits_card::{CardList, HeaderFault, Name, Watched, cut_header};
-use fits_cli::{Command, Fault, LineFault, Telling, parse_line};
-use fits_hdu::{Hdu, HduFault, KeywordFault};
-use fits_rules::{Class, ShapeFault, shape};
-use fits_session::{Edit, OpenFault, ReadFileFault, Refusal, Session, read_outlines, read_sums};
-use fits_value::{Text, Value, long_value, read_field, read_value};
+use crate::checks::{holds, same};
+use crate::files::{refusal_of, saved};
+use fits_cli::{Command, LineFault, parse_line};
+use fits_session::{Edit, OpenFault, Refusal, Session};
 use std::alloc::{AllocError, Global};
-use std::fmt::Debug;
 use std::process::Abort;
-use std::test::Fail;
-
-// A header of 42 cards.
-fn long_header(alloc: Global) -> Result<Vec<u8>, AllocError> {
-    let mut bytes = Vec::new(alloc);
-    for text in [COMMENTS, "A|B|C|D|E|F|G|H|I|J|END"] {
-        add_cards(&mut bytes, text)?;
-    }
-    end_header(&mut bytes)?;
-    Ok(bytes)
-}
-
-#[test]
-fn refused_memory_at_a_cut(rt: HostRuntime) {
-    let Ok(bytes) = long_header(rt.alloc()) else {
-        return;
-    };
-    for _ in 0..2 {
-        match cut_header(rt.alloc(), &bytes) {
-            Ok((list, len)) => {
-                same!(rt; list.len(), 42);
-                same!(rt; len, 5760);
-            }
-            Err(fault) => same!(rt; fault, HeaderFault::Memory),
-        }
-    }
-}
-
-#[test]
-fn refused_memory_in_a_store(rt: HostRuntime) -> Result<(), Fail> {
-    let Ok(bytes) = hdu_of(rt.alloc(), P0, 0) else {
-        return Ok(());
-    };
-    check_store(&rt, &bytes)
-}
-
-// Whether a store of these bytes holds them, whatever room it was refused.
-fn check_store<R: Abort + AllocGlobal>(rt: &R, bytes: &[u8]) -> Result<(), Fail> {
-    let Ok(sink) = writer(rt.alloc(), SMOOTH) else {
-        return Ok(());
-    };
-    let Ok(mut list) = header_of(rt.alloc(), P0) else {
-        return Ok(());
-    };
-    for room in ROOMS {
-        let _ = list.reserve(*room);
-    }
-    same!(rt; list.len(), 3);
-    check_emitted(rt, &mut list, sink, bytes)
-}
-
-// Whether a store writes these bytes.
-fn check_emitted<R: Abort>(
-    rt: &R,
-    list: &mut CardList,
-    mut sink: Watched<PlannedWriter>,
-    bytes: &[u8],
-) -> Result<(), Fail> {
-    list.emit(&mut sink)?;
-    holds!(rt; sink.into_inner().bytes.as_slice() == bytes);
-    Ok(())
-}
-
-/// How many cards there is to be room for.
-const ROOMS: &[usize] = &[1, 100, 10_000];
-
-/// Fields that ask for memory, and what they say.
-const FIELDS: &[(&str, &str)] = &[
-    ("'it''s' / c", "string [it's] / c"),
-    ("(1, 2.5) / pair", "complex [1] [2.5] / pair"),
-    ("42 / n", "integer [42] / n"),
-    ("-1.5E3", "real [-1.5E3]"),
-];
-
-// Whether this was said, where there was memory for it.
-fn check_said<R: Abort + AllocGlobal>(
-    rt: &R,
-    said: Result<Option<(Value, Option<Text>)>, AllocError>,
-    wanted: &str,
-) {
-    if let Ok(line) = read_line(rt.alloc(), said) {
-        same!(rt; line.as_slice(), wanted.as_bytes());
-    }
-}
-
-#[test]
-fn refused_memory_at_a_field(rt: HostRuntime) {
-    for (field, wanted) in FIELDS {
-        for _ in 0..2 {
-            check_said(&rt, read_field(rt.alloc(), field.as_bytes()), wanted);
-        }
-    }
-}
-
-/// A card, and what it says.
-const CARD: &str = "KEY     = 'it''s' / c";
-
-#[test]
-fn refused_memory_at_a_card(rt: HostRuntime) {
-    for _ in 0..2 {
-        let said = read_value(rt.alloc(), &card_of(CARD));
-        check_said(&rt, said, "string [it's] / c");
-    }
-}
-
-#[test]
-fn refused_memory_at_a_long_string(rt: HostRuntime) {
-    let cards = "A       = 'one&'|CONTINUE  'two&'|CONTINUE  'three' / c|END";
-    let Ok(mut header) = header_of(rt.alloc(), cards) else {
-        return;
-    };
-    for _ in 0..3 {
-        holds!(rt; header.len() == 3);
-        let said = long_value(rt.alloc(), &mut header, 1);
-        check_said(&rt, said, "string [onetwothree] / c");
-    }
-}
-
-const GOOD: &str =
-    "XTENSION= 'IMAGE'|BITPIX  = 16|NAXIS   = 2|NAXIS1  = 3|NAXIS2  = 4|PCOUNT  = 1|END";
-
-const GOOD_SHAPE: ShapeText<'static> = (Class::Image, 16, &[3, 4], 1, 1);
-
-const BROKEN: &str =
-    "XTENSION= 'IMAGE'|BITPIX  = 16|NAXIS   = 2|NAXIS1  = 3|NAXIS2  = -4|PCOUNT  = 1|END";
-
-#[test]
-fn refused_memory_at_a_shape(rt: HostRuntime) {
-    let (Ok(mut good), Ok(mut broken)) = (
-        header_of(rt.alloc(), GOOD),
-        header_of(rt.alloc(), BROKEN),
-    ) else {
-        return;
-    };
-    for _ in 0..2 {
-        match shape(rt.alloc(), &mut good, false) {
-            Ok(found) => check_shape(&rt, &found, GOOD_SHAPE, GOOD),
-            Err(fault) => same!(rt; fault, ShapeFault::Memory),
-        }
-        // a broken place is found without memory
-        let fault = shape(rt.alloc(), &mut broken, false).err();
-        same!(rt; fault, Some(ShapeFault::Bad(5)));
-    }
-}
-
-#[test]
-fn refused_memory_at_an_hdu(rt: HostRuntime) {
-    let Ok(bytes) = hdu_of(rt.alloc(), PIXEL, 1) else {
-        return;
-    };
-    for _ in 0..2 {
-        let found = open_hdu(rt.alloc(), &bytes, false).map(|(hdu, len)| (hdu.data_len(), len));
-        holds!(rt; matches!(found, Ok((2880, 5760)) | Err(HduFault::Memory)));
-    }
-}
-
-/// A keyword whose value goes on over two cards.
-const KEYED: &str =
-    "SIMPLE|BITPIX  = 8|NAXIS   = 0|KEY     = 'one&'|CONTINUE  'two&'|CONTINUE  'three' / last|END";
-
-#[test]
-fn refused_memory_at_a_keyword(rt: HostRuntime) {
-    let Ok(bytes) = hdu_of(rt.alloc(), KEYED, 0) else {
-        return;
-    };
-    if let Ok((mut hdu, _)) = open_hdu(rt.alloc(), &bytes, true) {
-        check_keyword(&rt, &mut hdu);
-    }
-}
-
-// Whether the keyword of `KEYED` is found, and another isn't, as often as they are asked for.
-fn check_keyword<R: Abort + AllocGlobal>(rt: &R, hdu: &mut Hdu) {
-    for _ in 0..2 {
-        let fault = hdu.value(rt.alloc(), &name_of("KEY")).err();
-        holds!(rt; matches!(fault, None | Some(KeywordFault::Memory)));
-        let fault = hdu.value(rt.alloc(), &name_of("ABSENT")).err();
-        same!(rt; fault, Some(KeywordFault::NoKey));
-    }
-}
 
 /// Two HDUs and a tail; the first has 35 cards.
 fn full_file(alloc: Global, more: &str) -> Result<Vec<u8>, AllocError> {
@@ -214,8 +25,8 @@ fn full_file(alloc: Global, more: &str) -> Result<Vec<u8>, AllocError> {
     Ok(bytes)
 }
 
-/// Whether two files give the same answers. Err: the memory for a comparison was refused.
-pub fn same_answers<R: Abort + AllocGlobal>(
+// Whether two files give the same answers. Err: the memory for a comparison was refused.
+fn same_answers<R: Abort + AllocGlobal>(
     rt: &R,
     one: &mut Session,
     other: &mut Session,
@@ -223,13 +34,16 @@ pub fn same_answers<R: Abort + AllocGlobal>(
     same!(rt; one.hdus(), other.hdus());
     for h in 0..one.hdus().wrapping_add(2) {
         same_hdus(rt, one, other, h);
-        same_keywords(rt, one, other, h)?;
-        same_pixels(rt, one, other, h)?;
     }
-    alike!(rt; one.offsets(), other.offsets(), "the test")?;
-    alike!(rt; one.report(), other.report(), "the test")?;
     same!(rt; one.counts(), other.counts());
-    alike!(rt; saved(rt.alloc(), one), saved(rt.alloc(), other), "the test")
+    let (Ok(offsets), Ok(report)) = (one.offsets(), one.report()) else {
+        return Err(AllocError);
+    };
+    holds!(rt; offsets == other.offsets()?);
+    holds!(rt; report == other.report()?);
+    let bytes = saved(rt.alloc(), one)?;
+    holds!(rt; bytes == saved(rt.alloc(), other)?);
+    Ok(())
 }
 
 // Whether an HDU of both is as long, of one kind, and has the same sums.
@@ -240,120 +54,6 @@ fn same_hdus<R: Abort>(rt: &R, one: &mut Session, other: &mut Session, h: usize)
     same!(rt; one.datasum(h), other.datasum(h), h);
     same!(rt; one.verdicts(h), other.verdicts(h), h);
     same!(rt; one.shape(h).is_ok(), other.shape(h).is_ok(), h);
-}
-
-// Ends the test where two answers differ. Err: the memory for one of them was refused.
-fn check_alike<R: Abort, T: PartialEq + Drop, C: Debug>(
-    rt: &R,
-    found: Result<T, AllocError>,
-    wanted: Result<T, AllocError>,
-    what: &str,
-    case: &C,
-) -> Result<(), AllocError> {
-    match (&found, &wanted) {
-        (Ok(found), Ok(wanted)) => {
-            check_holds(rt, *found == *wanted, what, case);
-            Ok(())
-        }
-        _ => Err(AllocError),
-    }
-}
-
-// `alike!(rt; found, wanted, case)`.
-macro_rules! alike {
-    ($rt:expr; $found:expr, $wanted:expr, $case:expr) => {
-        check_alike($rt, $found, $wanted, stringify!($found == $wanted), &$case)
-    };
-}
-
-use alike;
-
-// Whether an HDU of both has the same names, and four of them say the same at the same places.
-fn same_keywords<R: Abort + AllocGlobal>(
-    rt: &R,
-    one: &mut Session,
-    other: &mut Session,
-    h: usize,
-) -> Result<(), AllocError> {
-    for name in ASKED {
-        alike!(rt; answer(rt.alloc(), one, h, name), answer(rt.alloc(), other, h, name), (h, name))?;
-        alike!(rt; places(one, h, name), places(other, h, name), (h, name))?;
-    }
-    alike!(rt; names(one, h), names(other, h), h)
-}
-
-/// The keywords that both files are asked for.
-const ASKED: &[&str] = &["XTENSION", "BITPIX", "KEY", "NEW"];
-
-// Whether the first pixel of an HDU of both is the same, in a row and in a plane.
-fn same_pixels<R: Abort>(
-    rt: &R,
-    one: &mut Session,
-    other: &mut Session,
-    h: usize,
-) -> Result<(), AllocError> {
-    for corner in CORNERS {
-        alike!(rt; pixels(one, h, corner), pixels(other, h, corner), (h, corner))?;
-    }
-    Ok(())
-}
-
-/// The first pixel of a row, and of a plane.
-const CORNERS: &[&[u64]] = &[&[1], &[1, 1]];
-
-// What a keyword of an HDU says, as a line.
-fn answer(
-    alloc: Global,
-    session: &mut Session,
-    h: usize,
-    name: &str,
-) -> Result<Result<Vec<u8>, Refusal>, AllocError> {
-    match session.value(h, &name_of(name)) {
-        Ok(said) => Ok(Ok(line_of(alloc, &Some(said))?)),
-        Err(Refusal::Memory) => Err(AllocError),
-        Err(why) => Ok(Err(why)),
-    }
-}
-
-// The places of a keyword of an HDU.
-fn places(
-    session: &mut Session,
-    h: usize,
-    name: &str,
-) -> Result<Result<Vec<usize>, Refusal>, AllocError> {
-    match session.positions(h, &name_of(name)) {
-        Err(Refusal::Memory) => Err(AllocError),
-        answer => Ok(answer),
-    }
-}
-
-// The pixel of an HDU at these places.
-fn pixels(
-    session: &mut Session,
-    h: usize,
-    corner: &[u64],
-) -> Result<Result<Vec<i128>, Refusal>, AllocError> {
-    match session.rect(h, corner, corner) {
-        Err(Refusal::Memory) => Err(AllocError),
-        answer => Ok(answer),
-    }
-}
-
-// The names of an HDU's cards.
-fn names(session: &mut Session, h: usize) -> Result<Result<Vec<Name>, Refusal>, AllocError> {
-    match session.names(h) {
-        Err(Refusal::Memory) => Err(AllocError),
-        answer => Ok(answer),
-    }
-}
-
-// The bytes that are saved.
-fn saved(alloc: Global, session: &mut Session) -> Result<Vec<u8>, AllocError> {
-    let mut sink = writer(alloc, SMOOTH)?;
-    match session.save(&mut sink) {
-        Ok(()) => Ok(sink.into_inner().bytes),
-        Err(_) => Err(AllocError),
-    }
 }
 
 #[test]
@@ -494,6 +194,9 @@ const NEW_U8: &str =
 /// Two HDUs whose data are zeros, and a tail.
 const TWO: FileText<'static> = (&[(P0, 0), (PIXEL, 1)], "tail");
 
+/// Three, and nothing after them.
+const THREE: FileText<'static> = (&[(P0, 0), (PIXEL, 1), (NEW_U8, 0)], "");
+
 /// A line that edits the HDUs of a file, the file before, the one after or the refusal, and whether memory may run out
 /// in it.
 type HduEditText<'a> = (&'a str, FileText<'a>, Result<FileText<'a>, Refusal>, bool);
@@ -521,7 +224,7 @@ const HDU_EDITS: &[HduEditText<'static>] = &[
     ("new 1 u8 2", TWO, Err(Refusal::PrimaryStays), false),
     // taking an HDU out asks for none
     ("rm 2", TWO, Ok((&[(P0, 0)], "tail")), false),
-    ("rm 3", NAMED_TWICE, Ok((&[(P0, 0), (A, 0)], "")), false),
+    ("rm 2", THREE, Ok((&[(P0, 0), (NEW_U8, 0)], "")), false),
     ("rm 1", TWO, Err(Refusal::PrimaryStays), false),
     ("rm 3", TWO, Err(Refusal::NoHdu), false),
 ];
@@ -538,34 +241,6 @@ fn check_hdu_edit<R: Abort + AllocGlobal>(rt: &R, text: HduEditText<'_>) -> Resu
 fn refused_memory_at_an_edit_of_hdus(rt: HostRuntime) {
     for text in HDU_EDITS {
         let _ = check_hdu_edit(&rt, *text);
-    }
-}
-
-#[test]
-fn refused_memory_at_reading(rt: HostRuntime) {
-    let Ok(bytes) = full_file(rt.alloc(), "END") else {
-        return;
-    };
-    for _ in 0..2 {
-        check_reading(&rt, &bytes);
-    }
-}
-
-// Whether two HDUs are read of these bytes, in each of three ways.
-fn check_reading<R: Abort + AllocGlobal>(rt: &R, bytes: &[u8]) {
-    let session = Session::read(rt.alloc(), &mut reader(bytes, SMOOTH));
-    check_hdus(rt, session.map(|session| session.hdus()));
-    let outlines = read_outlines(rt.alloc(), &mut reader(bytes, SMOOTH));
-    check_hdus(rt, outlines.map(|outlines| outlines.len()));
-    let sums = read_sums(rt.alloc(), &mut reader(bytes, SMOOTH));
-    check_hdus(rt, sums.map(|sums| sums.len()));
-}
-
-// Whether so many HDUs are two, or there was no memory for them.
-fn check_hdus<R: Abort>(rt: &R, found: Result<usize, ReadFileFault>) {
-    match found {
-        Ok(hdus) => same!(rt; hdus, 2),
-        Err(why) => same!(rt; why, ReadFileFault::Open(OpenFault::Memory)),
     }
 }
 
@@ -618,112 +293,4 @@ fn ask<R: Abort>(rt: &R, session: &mut Session) {
     let why = session.value(2, &name_of("ABSENT")).err();
     same!(rt; why, Some(Refusal::NoKey));
     let _ = session.offsets();
-}
-
-#[test]
-fn refused_memory_at_saving(rt: HostRuntime) {
-    let Ok(bytes) = full_file(rt.alloc(), "END") else {
-        return;
-    };
-    let (Ok(mut session), Ok(mut sink)) = (
-        Session::open(rt.alloc(), &bytes),
-        writer(rt.alloc(), SMOOTH),
-    ) else {
-        return;
-    };
-    // saving asks for none
-    same!(rt; session.save(&mut sink), Ok(()));
-    holds!(rt; sink.into_inner().bytes.as_slice() == bytes.as_slice());
-}
-
-// Whether a run prints and saves this, or ends out of memory, prints a prefix and saves nothing.
-fn check_ended<R: Abort>(rt: &R, ran: &Ran, answers: &str, status: u8, saved: &[u8]) {
-    if ran.end.fault == Some(Fault::Memory) {
-        same!(rt; ran.end.status, 3);
-        holds!(rt; ran.saved.is_empty());
-        holds!(rt; answers.as_bytes().starts_with(&ran.printed));
-    } else {
-        check_ran(rt, ran, answers, status, answers);
-        holds!(rt; ran.saved.as_slice() == saved);
-    }
-}
-
-// A script that makes 36 cards of three, so that the header grows by a block.
-fn growing_script(alloc: Global) -> Result<Vec<u8>, AllocError> {
-    let mut script = repeated(alloc, "ins 1 4 COMMENT\n", 33)?;
-    script.extend_from_slice(b"off\n# the end\noff")?;
-    Ok(script)
-}
-
-// The file that the script leaves.
-fn grown_file(alloc: Global) -> Result<Vec<u8>, AllocError> {
-    let mut bytes = Vec::new(alloc);
-    for text in ["SIMPLE|BITPIX  = 8|NAXIS   = 0", COMMENTS, "COMMENT|END"] {
-        add_cards(&mut bytes, text)?;
-    }
-    end_header(&mut bytes)?;
-    Ok(bytes)
-}
-
-#[test]
-fn refused_memory_in_a_run_saves_nothing(rt: HostRuntime) {
-    let (Ok(file), Ok(script), Ok(saved)) = (
-        hdu_of(rt.alloc(), "SIMPLE|BITPIX  = 8|NAXIS   = 0|END", 0),
-        growing_script(rt.alloc()),
-        grown_file(rt.alloc()),
-    ) else {
-        return;
-    };
-    for _ in 0..2 {
-        if let Ok(ran) = edit(rt.alloc(), &file, &script, ALL_SMOOTH) {
-            check_ended(&rt, &ran, "1 0 5760 5760\n1 0 5760 5760\n", 0, &saved);
-        }
-    }
-}
-
-const SAID: &str = "SIMPLE|BITPIX  = 8|NAXIS   = 0|KEY     = 'ab&' / first|CONTINUE  'c''d&'|\
-    CONTINUE  'e' / last|PAIR    = (1, 2)/|END";
-
-const QUESTIONS: &[u8] = b"get 1 KEY\nget 1 PAIR\nget 1 NONE\nrep\nget 1 KEY";
-
-const ANSWERS: &str = "string 'abc''de' / last\ncomplex (1, 2) /\nline 3: refused 3 NoKey\n\
-    E06 1 1 mandatory card not in fixed format\nE06 1 2 mandatory card not in fixed format\n\
-    E06 1 3 mandatory card not in fixed format\nerrors 3 warnings 0\nstring 'abc''de' / last\n";
-
-#[test]
-fn refused_memory_prints_no_other_value(rt: HostRuntime) {
-    let Ok(file) = hdu_of(rt.alloc(), SAID, 0) else {
-        return;
-    };
-    for _ in 0..2 {
-        if let Ok(ran) = edit(rt.alloc(), &file, QUESTIONS, ALL_SMOOTH) {
-            check_ended(&rt, &ran, ANSWERS, 1, &file);
-        }
-    }
-}
-
-#[test]
-fn refused_memory_tells_no_other_lines(rt: HostRuntime) {
-    for (text, _) in TOLD_BY {
-        let (telling, file, lines, status) = *text;
-        let Ok(file) = file_of(rt.alloc(), file) else {
-            return;
-        };
-        for _ in 0..2 {
-            check_told(&rt, telling, &file, lines, status);
-        }
-    }
-}
-
-// Whether these lines are printed of a file, where there is memory for them.
-fn check_told<R: Abort + AllocGlobal>(
-    rt: &R,
-    telling: Telling,
-    file: &[u8],
-    lines: &str,
-    status: u8,
-) {
-    if let Ok(ran) = tell(rt.alloc(), telling, file, ALL_SMOOTH) {
-        check_ended(rt, &ran, lines, status, b"");
-    }
 }

@@ -1,7 +1,7 @@
 //! Data units: trees over their blocks, and what they say where memory is refused.
 
 use crate::checks::{holds, same};
-use fits_plane::{Layout, PixelSummary, Plane, Summary, Tree, WordSummary};
+use fits_plane::{Layout, PixelSummary, Plane, Tree, WordSummary};
 use std::test::Fail;
 
 // The summary of words with this total.
@@ -9,17 +9,28 @@ fn words(total: u64) -> WordSummary {
     WordSummary { total }
 }
 
+// The counts of a summary's defined and blank pixels, and the least, the greatest and the sum of the defined ones.
+fn numbers(stats: PixelSummary) -> (u64, u64, Option<i64>, Option<i64>, i128) {
+    (
+        stats.defined,
+        stats.blank,
+        stats.least,
+        stats.greatest,
+        stats.sum,
+    )
+}
+
 #[test]
 fn trees_join_their_leaves(rt: HostRuntime) -> Result<(), Fail> {
     let nothing: Tree<WordSummary> = Tree::open(rt.alloc(), Vec::new(rt.alloc()))?;
-    same!(rt; nothing.root(), WordSummary::unit());
+    same!(rt; nothing.root().total, 0);
     let leaves = vec![in rt.alloc(); words(1), words(20), words(300)]?;
     let mut tree = Tree::open(rt.alloc(), leaves)?;
-    same!(rt; tree.root(), words(321));
+    same!(rt; tree.root().total, 321);
     tree.set(1, words(40));
-    same!(rt; tree.root(), words(341));
+    same!(rt; tree.root().total, 341);
     tree.refresh(|i| words(i as u64));
-    same!(rt; tree.root(), words(3));
+    same!(rt; tree.root().total, 3);
     Ok(())
 }
 
@@ -48,18 +59,11 @@ fn refused_memory_at_a_plane(rt: HostRuntime) {
     holds!(rt; NONE.fits(&[]));
     for _ in 0..2 {
         if let Ok(plane) = Plane::open(rt.alloc(), &bytes, PIXELS) {
-            let wanted = PixelSummary {
-                defined: 2880,
-                blank: 0,
-                least: Some(257),
-                greatest: Some(257),
-                sum: 2880 * 257,
-            };
             same!(rt; plane.total(), 1440 * 0x101_0101);
-            same!(rt; plane.stats(), wanted);
+            same!(rt; numbers(plane.stats()), (2880, 0, Some(257), Some(257), 2880 * 257));
         }
         if let Ok(plane) = Plane::open(rt.alloc(), &[], NONE) {
-            same!(rt; plane.stats(), PixelSummary::unit());
+            same!(rt; numbers(plane.stats()), (0, 0, None, None, 0));
         }
     }
 }

@@ -1,11 +1,10 @@
-//! Streams over memory that behave by a plan.
+//! Sources over memory that behave by a plan.
 
 use fits_card::Watched;
-use std::alloc::{AllocError, Global};
 use std::io;
-use std::io::{Error, ErrorKind, Read, Write};
+use std::io::{Error, ErrorKind, Read};
 
-/// What a stream does.
+/// What a source does.
 #[derive(Clone, Copy)]
 pub struct Plan {
     /// How many bytes a call moves at most.
@@ -49,43 +48,4 @@ pub fn reader(bytes: &[u8], plan: Plan) -> Watched<PlannedReader<'_>> {
         plan,
         calls: 0,
     })
-}
-
-/// Bytes in memory, written by a plan. A flush is one of its calls.
-#[derive(Drop)]
-pub struct PlannedWriter {
-    pub bytes: Vec<u8>,
-    plan: Plan,
-    pub calls: usize,
-}
-
-impl Write for PlannedWriter {
-    fn write(&mut self, buf: &[u8]) -> io::Result<usize> {
-        self.calls = self.calls.wrapping_add(1);
-        if self.calls == self.plan.failing {
-            return Err(Error::from(ErrorKind::Interrupted));
-        }
-        let (front, _) = buf.split_at(buf.len().min(self.plan.step));
-        self.bytes.extend_from_slice(front)?;
-        Ok(front.len())
-    }
-
-    fn flush(&mut self) -> io::Result<()> {
-        self.calls = self.calls.wrapping_add(1);
-        if self.calls == self.plan.failing {
-            return Err(Error::from(ErrorKind::Interrupted));
-        }
-        Ok(())
-    }
-}
-
-/// How many bytes a writer has room for at first, so that its own requests for memory come before a run.
-const WRITER_ROOM: usize = 32_768;
-
-pub fn writer(alloc: Global, plan: Plan) -> Result<Watched<PlannedWriter>, AllocError> {
-    Ok(Watched::new(PlannedWriter {
-        bytes: Vec::with_capacity(alloc, WRITER_ROOM)?,
-        plan,
-        calls: 0,
-    }))
 }

@@ -12,10 +12,10 @@ use std::process::Abort;
 use std::test::Fail;
 
 /// A shape: its class, BITPIX, axes, PCOUNT and GCOUNT.
-pub type ShapeText<'a> = (Class, i64, &'a [u64], u64, u64);
+type ShapeText<'a> = (Class, i64, &'a [u64], u64, u64);
 
 /// Whether a shape is the one that is wanted.
-pub fn check_shape<R: Abort>(rt: &R, shape: &Shape, wanted: ShapeText<'_>, cards: &str) {
+fn check_shape<R: Abort>(rt: &R, shape: &Shape, wanted: ShapeText<'_>, cards: &str) {
     let (class, bitpix, axes, pcount, gcount) = wanted;
     same!(rt; shape.class, class, cards);
     same!(rt; shape.bitpix, bitpix, cards);

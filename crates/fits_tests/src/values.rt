@@ -4,8 +4,8 @@ use crate::builders::{card_of, card_of_bytes, header_of};
 use crate::checks::{holds, same};
 use fits_card::Card;
 use fits_value::{
-    CardString, Reading, Span, Text, Value, ValueKind, card_string, link_count, link_string,
-    long_value, read_value, scan_card,
+    CardString, Span, Text, Value, ValueKind, card_string, link_count, link_string, long_value,
+    read_value, scan_card,
 };
 use std::alloc::{AllocError, Global};
 use std::process::Abort;
@@ -45,7 +45,7 @@ fn add_value(line: &mut Vec<u8>, value: &Value) -> Result<(), AllocError> {
 }
 
 /// What was read, as a line: `none`, or a value and ` /` before a comment.
-pub fn line_of(alloc: Global, said: &Option<(Value, Option<Text>)>) -> Result<Vec<u8>, AllocError> {
+fn line_of(alloc: Global, said: &Option<(Value, Option<Text>)>) -> Result<Vec<u8>, AllocError> {
     let mut line = Vec::new(alloc);
     let Some((value, comment)) = said else {
         line.extend_from_slice(b"none")?;
@@ -66,21 +66,13 @@ fn field_card(alloc: Global, field: &str) -> Result<Card, AllocError> {
     Ok(card_of_bytes(&bytes))
 }
 
-/// What a reading came to, as a line.
-pub fn read_line(
-    alloc: Global,
-    said: Result<Option<(Value, Option<Text>)>, AllocError>,
-) -> Result<Vec<u8>, AllocError> {
-    line_of(alloc, &said?)
-}
-
 // Whether this was read.
 fn check_line<R: Abort + AllocGlobal>(
     rt: &R,
     said: Result<Option<(Value, Option<Text>)>, AllocError>,
     wanted: &str,
 ) -> Result<(), AllocError> {
-    let line = read_line(rt.alloc(), said)?;
+    let line = line_of(rt.alloc(), &said?)?;
     same!(rt; line.as_slice(), wanted.as_bytes(), wanted);
     Ok(())
 }
@@ -114,21 +106,16 @@ const SPANS: &[(&str, ValueKind, (usize, usize), Option<(usize, usize)>)] = &[
     ("-7", ValueKind::Integer, (10, 12), None),
 ];
 
-fn span_of(span: (usize, usize)) -> Span {
-    let (start, end) = span;
-    Span { start, end }
+fn places(span: Span) -> (usize, usize) {
+    (span.start, span.end)
 }
 
 #[test]
 fn a_scan_finds_the_places_in_the_card(rt: HostRuntime) -> Result<(), Fail> {
     for (field, kind, value, comment) in SPANS {
-        let wanted = Reading {
-            kind: *kind,
-            value: span_of(*value),
-            comment: comment.map(span_of),
-        };
         let card = field_card(rt.alloc(), field)?;
-        same!(rt; scan_card(&card), Some(wanted), field);
+        let found = scan_card(&card).map(|it| (it.kind, places(it.value), it.comment.map(places)));
+        same!(rt; found, Some((*kind, *value, *comment)), field);
     }
     Ok(())
 }

@@ -15,7 +15,7 @@ pub enum ValueKind {
 }
 
 /// A part of a text: its first byte, and the byte after its last, counted from 0.
-#[derive(Clone, Copy, PartialEq, Eq, Debug)]
+#[derive(Clone, Copy)]
 pub struct Span {
     pub start: usize,
     pub end: usize,
@@ -37,7 +37,7 @@ impl Span {
 /// What a card says, by the places of its bytes in the card.
 ///
 /// The span of a string has its quotes; the span of no value at all is (10, 10).
-#[derive(Clone, Copy, PartialEq, Eq, Debug)]
+#[derive(Clone, Copy)]
 pub struct Reading {
     pub kind: ValueKind,
     pub value: Span,

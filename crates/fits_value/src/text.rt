@@ -3,7 +3,7 @@ ghost use Rattle.std.specs.Prelude.{◌≡◌};
 use std::marker::Model;
 
 /// A text of any length, whatever its bytes. Contracts see it as its list of bytes.
-#[derive(Drop, Debug)]
+#[derive(Drop)]
 pub struct Text {
     bytes: Vec<u8>,
 }

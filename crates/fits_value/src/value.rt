@@ -1,7 +1,7 @@
 use crate::text::Text;
 
 /// A value of a card. Numbers stay as they are written; a string is decoded and in normal form.
-#[derive(Drop, Debug)]
+#[derive(Drop)]
 pub enum Value {
     Undefined,
     Logical(bool),

@@ -1,0 +1,62 @@
+// Faults for a program that this is preloaded into: a request for memory that is refused, or calls of a stream that
+// fail or move little.
+//
+// REFUSE=K refuses the K-th request for memory, counted from 1.
+// STREAM names a stream of `fitsed`: script (reads of descriptor 0), file (reads of any other), answers (writes to
+// descriptor 1), saved (writes to any but 1 and 2), or each. Of its calls STEP=N lets each move N bytes at most,
+// FAIL=K lets the K-th fail, counted from 1, and STOP=K the K-th and each after it.
+// Where COUNTED is set, the number of requests, or of the stream's calls, goes to descriptor 2 at the end.
+#include <errno.h>
+#include <stdlib.h>
+#include <string.h>
+#include <sys/syscall.h>
+#include <unistd.h>
+
+extern void *__libc_malloc(size_t), *__libc_realloc(void *, size_t);
+
+static const char *stream = 0;
+static unsigned long requests = 0, calls = 0, refuse = 0, fail = 0, stop = -1, step = -1;
+
+static unsigned long number(const char *name, unsigned long otherwise) {
+    const char *text = getenv(name);
+    return text ? strtoul(text, 0, 10) : otherwise;
+}
+
+__attribute__((constructor)) static void begin(void) {
+    stream = getenv("STREAM");
+    step = number("STEP", step);
+    fail = number("FAIL", 0);
+    stop = number("STOP", stop);
+    refuse = number("REFUSE", 0);
+    requests = 0;
+}
+
+static int refused(void) { return ++requests == refuse; }
+
+void *malloc(size_t n) { return refused() ? 0 : __libc_malloc(n); }
+void *realloc(void *p, size_t n) { return refused() ? 0 : __libc_realloc(p, n); }
+
+// A call that moves bytes, as the stream lets it.
+static ssize_t moved(long call, const char *of, int fd, void *bytes, size_t n) {
+    if (!stream || !of || (strcmp(stream, of) && strcmp(stream, "each"))) return syscall(call, fd, bytes, n);
+    if (++calls == fail || calls >= stop) {
+        errno = EIO;
+        return -1;
+    }
+    return syscall(call, fd, bytes, n < step ? n : step);
+}
+
+ssize_t read(int fd, void *bytes, size_t n) { return moved(SYS_read, fd == 0 ? "script" : "file", fd, bytes, n); }
+
+ssize_t write(int fd, const void *bytes, size_t n) {
+    return moved(SYS_write, fd == 1 ? "answers" : fd == 2 ? 0 : "saved", fd, (void *)bytes, n);
+}
+
+__attribute__((destructor)) static void end(void) {
+    char text[24];
+    int at = sizeof text;
+    if (!getenv("COUNTED")) return;
+    text[--at] = '\n';
+    for (unsigned long n = stream ? calls : requests; at == 23 || n; n /= 10) text[--at] = '0' + n % 10;
+    write(2, text + at, sizeof text - at);
+}
