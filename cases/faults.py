@@ -145,7 +145,7 @@ def each_fails(program, shim, run, fault, met, row):
             break
         if fault == NO_MEMORY and not any(differences(ran, **wanted)):
             continue
-        for line in fronts(ran, fault, wanted):
+        for line in fronts(ran, fault, wanted, row.get("STREAM")):
             yield f"the fault at {k}: {line}"
     if k == 1:
         yield "it made no request or call"
@@ -157,15 +157,15 @@ def counted(ran):
     return type(ran)(ran.status, ran.printed, b"".join(reported), ran.saved), int(count)
 
 
-def fronts(ran, fault, wanted):
-    """Where a run doesn't end by a fault, or printed or saved what isn't a front of the whole. It saves once all is
-    printed."""
+def fronts(ran, fault, wanted, stream):
+    """Where a run doesn't end by a fault of a stream, or printed or saved what isn't a front of the whole. It saves once
+    all is printed, so that no fault but one of saving leaves anything saved."""
     yield from differences(ran, status=3, reported=fault)
     if not wanted["printed"].startswith(ran.printed):
         yield f"it prints {shown(ran.printed)}"
     if ran.saved is not None:
         yield from differences(ran, printed=wanted["printed"])
-        if fault != WRITE_FAILED or not (wanted["saved"] or b"").startswith(ran.saved):
+        if stream != "saved" or not (wanted["saved"] or b"").startswith(ran.saved):
             yield f"it saves {shown(ran.saved)}"
 
 
@@ -178,7 +178,7 @@ def slow(program, shim, run):
 def stuck(program, shim, run, stream):
     """Where a run doesn't end by a fault of which a stream takes no byte."""
     *of_run, wanted = run
-    return fronts(run_of(program.under(LD_PRELOAD=shim, STREAM=stream, STEP="0"), *of_run), WRITE_FAILED, wanted)
+    return fronts(run_of(program.under(LD_PRELOAD=shim, STREAM=stream, STEP="0"), *of_run), WRITE_FAILED, wanted, stream)
 
 
 def stopped(program, shim, stream, count, printed, saved):
@@ -186,7 +186,7 @@ def stopped(program, shim, stream, count, printed, saved):
     of, script, *wanted = SHORTEST
     row = {"STREAM": stream, "STEP": "1", "STOP": str(count + 1)}
     ran = run_of(program.under(LD_PRELOAD=shim, **row), ["edit"], of, script)
-    yield from fronts(ran, FAULTS[stream], whole(*wanted))
+    yield from fronts(ran, FAULTS[stream], whole(*wanted), stream)
     if (len(ran.printed), len(ran.saved or b"")) != (printed, saved):
         yield f"it prints {len(ran.printed)} bytes and saves {shown(ran.saved)}"
 
