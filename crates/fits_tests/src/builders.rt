@@ -3,7 +3,6 @@
 use fits_card::{
     BLOCK_LEN, CARD_LEN, Card, CardList, Cards, Change, HeaderFault, Name, cut_header,
 };
-use fits_hdu::{Hdu, HduFault};
 use std::alloc::{AllocError, Global};
 
 /// An HDU: its cards, END among them, separated by `|`, and how many blocks of data it has.
@@ -119,15 +118,6 @@ pub fn hdu_of(alloc: Global, cards: &str, blocks: usize) -> Result<Vec<u8>, Allo
     let mut bytes = Vec::new(alloc);
     add_hdu(&mut bytes, (cards, blocks))?;
     Ok(bytes)
-}
-
-/// The HDU that bytes begin with, and how many it has. The longest that may be handed in are never
-/// built here.
-pub fn open_hdu(alloc: Global, bytes: &[u8], primary: bool) -> Result<(Hdu, usize), HduFault> {
-    if bytes.len() > 1 << 34 {
-        return Err(HduFault::Memory);
-    }
-    Hdu::open(alloc, bytes, primary)
 }
 
 /// The header of these cards.

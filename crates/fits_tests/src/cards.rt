@@ -6,62 +6,57 @@ use fits_card::{HeaderFault, cut_header};
 use std::test::Fail;
 
 /// A card, its name, and whether it has a value, ends a header, is text.
-const CARDS: &[(&str, &str, bool, bool, bool)] = &[
+const CARDS: &[(&str, &str, (bool, bool, bool))] = &[
     (
         "SIMPLE  =                    T",
         "SIMPLE",
-        true,
-        false,
-        true,
+        (true, false, true),
     ),
-    ("KEY     =5", "KEY", false, false, true),
-    ("KEY     = ", "KEY", true, false, true),
-    ("COMMENT = 5", "COMMENT", false, false, true),
-    ("HISTORY = 5", "HISTORY", false, false, true),
-    ("CONTINUE= 'x'", "CONTINUE", false, false, true),
-    ("        = 5", "", false, false, true),
-    ("END", "END", false, true, true),
-    ("END     / the end", "END", false, true, true),
-    ("ENDING  = '\x7f'", "ENDING", true, false, false),
-    (" END", " END", false, false, true),
-    ("KEY     = '\x1f'", "KEY", true, false, false),
-    ("KEY     = ' ~'", "KEY", true, false, true),
-    ("KEY     = '\u{e9}'", "KEY", true, false, false),
+    ("KEY     =5", "KEY", (false, false, true)),
+    ("KEY     = ", "KEY", (true, false, true)),
+    ("COMMENT = 5", "COMMENT", (false, false, true)),
+    ("HISTORY = 5", "HISTORY", (false, false, true)),
+    ("CONTINUE= 'x'", "CONTINUE", (false, false, true)),
+    ("        = 5", "", (false, false, true)),
+    ("END", "END", (false, true, true)),
+    ("END     / the end", "END", (false, true, true)),
+    ("ENDING  = '\x7f'", "ENDING", (true, false, false)),
+    (" END", " END", (false, false, true)),
+    ("KEY     = '\x1f'", "KEY", (true, false, false)),
+    ("KEY     = ' ~'", "KEY", (true, false, true)),
+    ("KEY     = '\u{e9}'", "KEY", (true, false, false)),
 ];
 
 #[test]
 fn a_card_has_its_parts(rt: HostRuntime) {
-    for (text, name, has_value, is_end, is_text) in CARDS {
+    for (text, name, parts) in CARDS {
         let card = card_of(text);
         same!(rt; card.name(), name_of(name), text);
-        same!(rt; card.has_value(), *has_value, text);
-        same!(rt; card.is_end(), *is_end, text);
-        same!(rt; card.is_text(), *is_text, text);
+        same!(rt; (card.has_value(), card.is_end(), card.is_text()), *parts, text);
     }
 }
 
 /// A name, whether it is spelled as the standard asks, and whether its card may be given a value.
-const NAMES: &[(&str, bool, bool)] = &[
-    ("KEY", true, true),
-    ("DATE-OBS", true, true),
-    ("A_9", true, true),
-    ("COMMENT", true, false),
-    ("HISTORY", true, false),
-    ("CONTINUE", true, false),
-    ("END", true, false),
-    ("", true, false),
-    ("key", false, false),
-    ("K Y", false, false),
-    (" KEY", false, false),
-    ("K.Y", false, false),
+const NAMES: &[(&str, (bool, bool))] = &[
+    ("KEY", (true, true)),
+    ("DATE-OBS", (true, true)),
+    ("A_9", (true, true)),
+    ("COMMENT", (true, false)),
+    ("HISTORY", (true, false)),
+    ("CONTINUE", (true, false)),
+    ("END", (true, false)),
+    ("", (true, false)),
+    ("key", (false, false)),
+    ("K Y", (false, false)),
+    (" KEY", (false, false)),
+    ("K.Y", (false, false)),
 ];
 
 #[test]
 fn a_name_of_capitals_and_digits_is_settable(rt: HostRuntime) {
-    for (text, is_spelled, is_settable) in NAMES {
+    for (text, wanted) in NAMES {
         let name = name_of(text);
-        same!(rt; name.is_spelled(), *is_spelled, text);
-        same!(rt; name.is_settable(), *is_settable, text);
+        same!(rt; (name.is_spelled(), name.is_settable()), *wanted, text);
     }
 }
 

@@ -10,8 +10,6 @@ mod checks;
 #[cfg(test)]
 mod files;
 #[cfg(test)]
-mod hdus;
-#[cfg(test)]
 mod indexes;
 #[cfg(test)]
 mod memory;
