@@ -1,7 +1,0 @@
--- Said, so that a body that breaks it is refused at once.
-use Rattle.std.proofs.Common.{rules}
-use Rattle.fits_rules.proofs.SizeLemmas.{times_steps}
-use Rattle.fits_rules.proofs.size.times.Goals as goal
-
-pub returns-in-Some : goal.returns-in-Some
-returns-in-Some c = search (rules, times_steps)
