@@ -2,7 +2,7 @@ use Rattle.std.proofs.Common.{rules}
 use Rattle.std.specs.Int.{w64}
 use Rattle.std.specs.Prelude.{FitsSigned}
 use Rattle.std.proofs.lemmas.Int.{to_z-of_z}
-use Rattle.fits_rules.proofs.IntegerLemmas.{number_said, integer_steps}
+use Rattle.fits_rules.proofs.IntegerLemmas.{number_said, large_said}
 use Rattle.fits_rules.proofs.integers.integer_said.Goals as goal
 
 pub returns-in-Some-integer_of : goal.returns-in-Some-integer_of
@@ -12,4 +12,4 @@ returns-in-Some-integer_of c =
 
 -- said, so that a body that breaks it is refused at once
 pub returns-in-None : goal.returns-in-None
-returns-in-None c = search (rules, integer_steps)
+returns-in-None c = large_said c.args.card.now c.in-Some.text.now c.in-Some.ensures.found (search rules) (search rules)
