@@ -11,7 +11,13 @@ pub struct LazyFile<'a, R: Files> {
 }
 
 impl<'a, R: Files> LazyFile<'a, R> {
-    pub fn new(rt: &'a R, path: &'a str) -> LazyFile<'a, R> {
+    ghost use Rattle.std.specs.Prelude.{◌≡◌, None};
+
+    /// The file at a path. Nothing is created yet.
+    pub fn new(rt: &'a R, path: &'a str) -> LazyFile<'a, R>
+        ensures path { result.path.now ≡ path.now }
+        ensures file { result.file ≡ None }
+    {
         LazyFile {
             rt,
             path,
