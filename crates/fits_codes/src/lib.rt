@@ -3,7 +3,6 @@
 
 mod alone;
 mod calendar;
-mod card_total;
 mod code;
 mod code_set;
 mod context;
@@ -16,7 +15,6 @@ mod keywords;
 mod laws;
 mod mark;
 
-pub use card_total::CardTotal;
 pub use code::Code;
 pub use code_set::CodeSet;
 pub use context::Context;

@@ -5,13 +5,12 @@ ghost use Rattle.fits_rules.specs.Reads.{string_said};
 ghost use Rattle.fits_codes.specs.Mark.{mark_of};
 
 use crate::alone::codes_alone;
-use crate::card_total::CardTotal;
 use crate::code_set::CodeSet;
 use crate::fixed::fixed_said;
 use fits_card::{Card, Name};
 use fits_value::{CardString, ValueKind, card_string, link_string};
 
-/// What a card says alone, as far as the rules over several cards ask, and its total.
+/// What a card says alone, as far as the rules over several cards ask.
 ///
 /// The codes of a card are a function of its mark and of where it stands: no card is read again.
 #[derive(Clone, Copy)]
@@ -28,8 +27,6 @@ pub struct Mark {
     pub fixed: Option<ValueKind>,
     /// The codes that it has whatever stands round it.
     pub alone: CodeSet,
-    /// The total of its 20 words (Appendix J).
-    pub total: CardTotal,
 }
 
 /// The mark of a card. It takes no memory.
@@ -47,7 +44,6 @@ pub fn mark_of(card: &Card) -> Mark
         is_open: is_open(string),
         fixed: fixed_said(card),
         alone: codes_alone(card),
-        total: CardTotal::of(card),
     }
 }
 

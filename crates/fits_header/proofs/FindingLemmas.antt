@@ -1,4 +1,4 @@
--- What is found of cards, by their marks and by what stands round them.
+-- What is found of cards, by their notes and by what stands round them.
 use Rattle.std.proofs.Common.{◌≡◌, ℕ, ◌+◌, ◌-◌, ◌<◌, ◌≤◌, Bool, true, false, List, [], ◌∷◌, ◌++◌, length, take, get_or, map, filter, not, ap, sym, ◌∙◌, refl, arith, append_assoc, append-nil, length-append}
 use Rattle.std.specs.List.{flat_map, range_with_len}
 use Rattle.std.proofs.lemmas.List.{length-map, get_or-map, get_or_past, get_or_default, same_lists, map-append, take_more}
@@ -11,10 +11,10 @@ use Rattle.fits_codes.specs.Judged.{judged}
 use Rattle.fits_codes.specs.Mark.{mark_of}
 use Rattle.fits_codes.specs.declared.code.Code.{Code}
 use Rattle.fits_codes.specs.declared.context.Context.{Context}
-use Rattle.fits_codes.specs.declared.mark.Mark.{Mark}
+use Rattle.fits_header.specs.declared.note.Note.{Note}
 use Rattle.fits_header.specs.Findings.{card_of, card_counts, card_findings, codes_at, context_at, counted, counts_by, counts_of, found_at, summed}
 use Rattle.fits_header.specs.Links.{header_links}
-use Rattle.fits_header.specs.Marks.{marks_of}
+use Rattle.fits_header.specs.Notes.{note_of, notes_of}
 use Rattle.fits_header.specs.Surroundings.{surrounding_at, surroundings_of, AreRepeatsMarked}
 use Rattle.fits_header.specs.declared.counts.Counts.{Counts}
 use Rattle.fits_header.specs.declared.finding.Finding.{Finding}
@@ -35,16 +35,16 @@ pub get_or-surroundings : (cards : List (List ℕ)) (place : ℕ) (d : Surroundi
 unfolding surroundings_of
 get_or-surroundings cards place d one within = get_or-map-range_with_len (surrounding_at cards) 1 (length cards) (place - 1) place d (omega arith) (omega arith)
 
--- the mark of a place
-mark_at : (marks : List Mark) (cards : List (List ℕ)) (place : ℕ) (mark : Mark) → marks ≡ marks_of cards → 1 ≤ place → place ≤ length marks → mark ≡ get_or marks (place - 1) mark → mark ≡ mark_of (card_of cards place)
-mark_at marks cards place mark is one within at =
-    at ∙ (ap (λ ms. get_or ms (place - 1) mark) is ∙ get_or-map mark_of cards (place - 1) [] mark (omega (arith, within, ap length is, length-map cards mark_of)))
+-- the note of a place
+note_at : (notes : List Note) (cards : List (List ℕ)) (place : ℕ) (note : Note) → notes ≡ notes_of cards → 1 ≤ place → place ≤ length notes → note ≡ get_or notes (place - 1) note → note ≡ note_of (card_of cards place)
+note_at notes cards place note is one within at =
+    at ∙ (ap (λ ms. get_or ms (place - 1) note) is ∙ get_or-map note_of cards (place - 1) [] note (omega (arith, within, ap length is, length-map cards note_of)))
 
 -- the codes of a place, by its mark and context
-pub codes-judged : (shape : Shape) (marks : List Mark) (cards : List (List ℕ)) (place : ℕ) (mark : Mark) (context : Context) → marks ≡ marks_of cards → 1 ≤ place → place ≤ length marks → mark ≡ get_or marks (place - 1) mark → context ≡ context_at shape cards place
-    → judged mark context ≡ codes_at shape cards place
-codes-judged shape marks cards place mark context is one within at around =
-    ap (λ m. judged m context) (mark_at marks cards place mark is one within at) ∙ ap (judged (mark_of (card_of cards place))) around
+pub codes-judged : (shape : Shape) (notes : List Note) (cards : List (List ℕ)) (place : ℕ) (note : Note) (context : Context) → notes ≡ notes_of cards → 1 ≤ place → place ≤ length notes → note ≡ get_or notes (place - 1) note → context ≡ context_at shape cards place
+    → judged note.mark context ≡ codes_at shape cards place
+codes-judged shape notes cards place note context is one within at around =
+    ap (λ (n : Note). judged n.mark context) (note_at notes cards place note is one within at) ∙ ap (judged (mark_of (card_of cards place))) around
 
 pub ruleset code_steps = (codes-judged)
 

@@ -15,7 +15,7 @@ pub mod HeaderMarkLemmas
 pub mod StandardFacts
 pub mod LinkLemmas
 pub mod HeaderLemmas
-pub mod MarksLemmas
+pub mod NoteLemmas
 pub mod RepeatLemmas
 pub mod SurroundingLemmas
 pub mod MarkedLinkLemmas

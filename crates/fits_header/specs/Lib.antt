@@ -3,8 +3,8 @@ pub mod Index
 pub mod Key
 pub mod KeyIndex
 pub mod Links
-pub mod Marks
 pub mod Names
+pub mod Notes
 pub mod Places
 pub mod Repeats
 pub mod State

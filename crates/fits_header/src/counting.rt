@@ -2,29 +2,30 @@
 ghost use Rattle.std.specs.Prelude.{◌≡◌, ◌≤◌, ◌<◌, ◌+◌, ◌*◌, ◌^◌, ◌++◌, List, ℕ, length};
 ghost use Rattle.fits_codes.specs.declared.code.Code.{Code};
 ghost use Rattle.fits_header.specs.Findings.{card_counts, counted, counts_of};
-ghost use Rattle.fits_header.specs.Marks.{marks_of};
+ghost use Rattle.fits_header.specs.Notes.{notes_of};
 ghost use Rattle.fits_header.specs.Surroundings.{surroundings_of};
 
 use crate::counts::Counts;
 use crate::findings::codes_at;
+use crate::note::Note;
 use crate::surrounding::Surrounding;
-use fits_codes::{Code, Mark};
+use fits_codes::Code;
 use fits_rules::Shape;
 
 /// The errors and warnings of all cards.
-pub(crate) fn count_all(shape: &Shape, marks: &[Mark], surroundings: &[Surrounding]) -> Counts
-    requires size { length surroundings.now ≡ length marks.now }
-    requires few { length marks.now < 2 ^ 59 }
-    ensures value { (cards : List (List ℕ)) → marks.now ≡ marks_of cards
+pub(crate) fn count_all(shape: &Shape, notes: &[Note], surroundings: &[Surrounding]) -> Counts
+    requires size { length surroundings.now ≡ length notes.now }
+    requires few { length notes.now < 2 ^ 59 }
+    ensures value { (cards : List (List ℕ)) → notes.now ≡ notes_of cards
         → surroundings.now ≡ surroundings_of cards → result ≡ card_counts shape.now cards }
-    ensures within { result.errors + result.warnings ≤ 13 * length marks.now }
+    ensures within { result.errors + result.warnings ≤ 13 * length notes.now }
 {
     let mut counts = Counts {
         errors: 0,
         warnings: 0,
     };
-    for index in 0..marks.len() {
-        let codes = codes_at(shape, marks, surroundings, index + 1);
+    for index in 0..notes.len() {
+        let codes = codes_at(shape, notes, surroundings, index + 1);
         counts = count_more(counts, codes.as_slice());
     }
     counts

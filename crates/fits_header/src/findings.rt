@@ -1,13 +1,14 @@
-//! What is found of cards, by their marks and by what stands round them.
+//! What is found of cards, by their notes and by what stands round them.
 ghost use Rattle.std.specs.Prelude.{◌≡◌, ◌≤◌, ◌-◌, ◌++◌, List, ℕ, IfOk, OnOk, false, length, slice_index_or};
 ghost use Rattle.fits_header.specs.Findings.{card_findings, codes_at, context_at, found_at};
 ghost use Rattle.fits_header.specs.Links.{header_links};
-ghost use Rattle.fits_header.specs.Marks.{marks_of};
+ghost use Rattle.fits_header.specs.Notes.{notes_of};
 ghost use Rattle.fits_header.specs.Surroundings.{surroundings_of};
 
 use crate::finding::Finding;
+use crate::note::Note;
 use crate::surrounding::Surrounding;
-use fits_codes::{Code, CodeSet, Context, Mark, judge};
+use fits_codes::{Code, CodeSet, Context, judge};
 use fits_rules::Shape;
 use std::alloc::{AllocError, Global};
 
@@ -15,17 +16,17 @@ use std::alloc::{AllocError, Global};
 pub(crate) fn findings_of(
     alloc: Global,
     shape: &Shape,
-    marks: &[Mark],
+    notes: &[Note],
     surroundings: &[Surrounding],
 ) -> Result<Vec<Finding>, AllocError>
-    requires { length surroundings.now ≡ length marks.now }
-    ensures { (cards : List (List ℕ)) → marks.now ≡ marks_of cards
+    requires { length surroundings.now ≡ length notes.now }
+    ensures { (cards : List (List ℕ)) → notes.now ≡ notes_of cards
         → surroundings.now ≡ surroundings_of cards
         → IfOk result (λ found. found.items ≡ card_findings shape.now cards) }
 {
     let mut found = Vec::new(alloc);
-    for index in 0..marks.len() {
-        let codes = codes_at(shape, marks, surroundings, index + 1);
+    for index in 0..notes.len() {
+        let codes = codes_at(shape, notes, surroundings, index + 1);
         push_found(&mut found, index + 1, codes.as_slice())?;
     }
     Ok(found)
@@ -35,19 +36,19 @@ pub(crate) fn findings_of(
 #[tactic(auto, using(crate::proofs::FindingLemmas::code_steps))]
 pub(crate) fn codes_at(
     shape: &Shape,
-    marks: &[Mark],
+    notes: &[Note],
     surroundings: &[Surrounding],
     place: usize,
 ) -> CodeSet
-    requires size { length surroundings.now ≡ length marks.now }
+    requires size { length surroundings.now ≡ length notes.now }
     requires from { 1 ≤ place }
-    requires to { place ≤ length marks.now }
-    ensures { (cards : List (List ℕ)) → marks.now ≡ marks_of cards
+    requires to { place ≤ length notes.now }
+    ensures { (cards : List (List ℕ)) → notes.now ≡ notes_of cards
         → surroundings.now ≡ surroundings_of cards → result ≡ codes_at shape.now cards place }
 {
-    let mark = marks[place - 1];
+    let note = notes[place - 1];
     let context = context_at(shape, surroundings, place);
-    judge(&mark, &context)
+    judge(&note.mark, &context)
 }
 
 // Where the card at a place stands, and what stands round it.

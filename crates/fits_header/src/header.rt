@@ -9,11 +9,12 @@ use crate::findings::{codes_at, findings_of, is_link};
 use crate::header_marks::header_mark_of;
 use crate::key_index::KeyIndex;
 use crate::leads::{lead_after, leads_after};
-use crate::marks::{change_marks, read_marks, total_in};
+use crate::note::Note;
+use crate::notes::{change_notes, read_notes, total_in};
 use crate::surrounding::Surrounding;
 use crate::survey::{reserve_surroundings, survey};
 use fits_card::{Card, CardList, Change, Name, Sink};
-use fits_codes::{CodeSet, Mark, judge_header_mark};
+use fits_codes::{CodeSet, judge_header_mark};
 use fits_rules::{Shape, ShapeFault, keeps_shape, shape};
 use fits_sum::{card_total, words_total};
 use fits_value::{Text, Value, link_count, long_value};
@@ -28,7 +29,7 @@ pub struct Header {
     cards: CardList,
     shape: Shape,
     index: KeyIndex,
-    marks: Vec<Mark>,
+    notes: Vec<Note>,
     // What stands round each card, or nothing where it wasn't asked for since the last change.
     surroundings: Vec<Surrounding>,
 }
@@ -38,7 +39,7 @@ impl Model for Header {
     ghost use Rattle.fits_rules.specs.Class.{is_primary};
     ghost use Rattle.fits_rules.specs.Shape.{shape_of};
     ghost use Rattle.fits_header.specs.Key.{keys_of};
-    ghost use Rattle.fits_header.specs.Marks.{marks_of};
+    ghost use Rattle.fits_header.specs.Notes.{notes_of};
     ghost use Rattle.fits_header.specs.State.{HeaderState};
     ghost use Rattle.fits_header.specs.Surroundings.{surroundings_of};
 
@@ -54,15 +55,15 @@ impl Model for Header {
     ghost invariant = { λ it. record {
       described : shape_of (is_primary it.shape.class) it.cards.header.cards ≡ Ok it.shape;
       keys : it.index.keys ≡ keys_of it.cards.header.cards;
-      marks : it.marks.items ≡ marks_of it.cards.header.cards;
-      size : vec_len it.marks ≡ length it.cards.header.cards;
+      notes : it.notes.items ≡ notes_of it.cards.header.cards;
+      size : vec_len it.notes ≡ length it.cards.header.cards;
       found : 0 < vec_len it.surroundings
           → it.surroundings.items ≡ surroundings_of it.cards.header.cards;
       whole : 0 < vec_len it.surroundings
           → vec_len it.surroundings ≡ length it.cards.header.cards;
       room_of_index : it.cards.room ≤ it.index.room;
-      room_of_marks : vec_len it.marks + it.cards.room ≤ vec_capacity it.marks;
-      room_of_surroundings : vec_len it.marks + it.cards.room ≤ vec_capacity it.surroundings;
+      room_of_notes : vec_len it.notes + it.cards.room ≤ vec_capacity it.notes;
+      room_of_surroundings : vec_len it.notes + it.cards.room ≤ vec_capacity it.surroundings;
     } };
 }
 
@@ -88,7 +89,7 @@ impl Header {
     ghost use Rattle.fits_sum.specs.Words.{word_total};
 
     /// The header that has these cards, which describe this shape. Each card is read once.
-    #[tactic(auto, using(crate::proofs::MarksLemmas::key_steps))]
+    #[tactic(auto, using(crate::proofs::NoteLemmas::key_steps))]
     pub fn open(alloc: Global, cards: CardList, shape: Shape) -> Result<Header, AllocError>
         requires described { shape_of (is_primary shape.class) cards.header.cards ≡ Ok shape }
         ensures header { IfOk result (λ it. it.header ≡ cards.header) }
@@ -96,17 +97,17 @@ impl Header {
         ensures work { IfOk result (λ it. it.reads ≤ cards.reads + length cards.header.cards) }
     {
         let mut cards = cards;
-        let mut marks = read_marks(alloc, &mut cards)?;
-        let mut index = KeyIndex::of_marks(alloc, &marks)?;
+        let mut notes = read_notes(alloc, &mut cards)?;
+        let mut index = KeyIndex::of_notes(alloc, &notes)?;
         index.reserve(cards.room())?;
-        marks.reserve(cards.room())?;
+        notes.reserve(cards.room())?;
         let mut surroundings = Vec::new(alloc);
-        reserve_surroundings(&mut surroundings, marks.len(), cards.room())?;
+        reserve_surroundings(&mut surroundings, notes.len(), cards.room())?;
         Ok(Header {
             cards,
             shape,
             index,
-            marks,
+            notes,
             surroundings,
         })
     }
@@ -151,7 +152,7 @@ impl Header {
         let _few = self.cards.len();
         let end = card_total(&self.cards.end().0);
         let fill = words_total(self.cards.fill());
-        total_in(&self.marks) + end + fill
+        total_in(&self.notes) + end + fill
     }
 
     /// The card at a place. The read is counted.
@@ -224,8 +225,8 @@ impl Header {
         ensures work { self.new.reads ≡ self.old.reads }
     {
         self.index.reserve(additional)?;
-        self.marks.reserve(additional)?;
-        reserve_surroundings(&mut self.surroundings, self.marks.len(), additional)?;
+        self.notes.reserve(additional)?;
+        reserve_surroundings(&mut self.surroundings, self.notes.len(), additional)?;
         self.cards.reserve(additional)
     }
 
@@ -281,7 +282,7 @@ impl Header {
         ensures work { self.new.reads ≡ self.old.reads }
     {
         change_index(&mut self.index, &self.cards, change);
-        change_marks(&mut self.marks, &self.cards, change);
+        change_notes(&mut self.notes, &self.cards, change);
         self.surroundings.clear();
         change.apply(&mut self.cards);
     }
@@ -301,8 +302,8 @@ impl Header {
             ≡ card_findings self.old.shape self.old.header.cards) }
         ensures same { self.new ≡ self.old }
     {
-        survey(&mut self.surroundings, &self.marks, &self.index);
-        findings_of(alloc, &self.shape, &self.marks, &self.surroundings)
+        survey(&mut self.surroundings, &self.notes, &self.index);
+        findings_of(alloc, &self.shape, &self.notes, &self.surroundings)
     }
 
     /// The codes of the card at a place, by number. It takes no memory, and reads no card.
@@ -312,8 +313,8 @@ impl Header {
         ensures value { result ≡ codes_at self.old.shape self.old.header.cards place }
         ensures same { self.new ≡ self.old }
     {
-        survey(&mut self.surroundings, &self.marks, &self.index);
-        codes_at(&self.shape, &self.marks, &self.surroundings, place)
+        survey(&mut self.surroundings, &self.notes, &self.index);
+        codes_at(&self.shape, &self.notes, &self.surroundings, place)
     }
 
     /// How many errors and warnings are found of its cards. It takes no memory, and reads no card.
@@ -325,8 +326,8 @@ impl Header {
     {
         // So few cards have no more codes than the counts can hold.
         let _few = self.cards.len();
-        survey(&mut self.surroundings, &self.marks, &self.index);
-        count_all(&self.shape, &self.marks, &self.surroundings)
+        survey(&mut self.surroundings, &self.notes, &self.index);
+        count_all(&self.shape, &self.notes, &self.surroundings)
     }
 
     /// Whether the card at a place goes on with a long string. It takes no memory, and reads no
@@ -338,7 +339,7 @@ impl Header {
             ≡ slice_index_or (header_links self.old.header.cards) (place - 1) false }
         ensures same { self.new ≡ self.old }
     {
-        survey(&mut self.surroundings, &self.marks, &self.index);
+        survey(&mut self.surroundings, &self.notes, &self.index);
         is_link(&self.surroundings, place - 1)
     }
 

@@ -8,12 +8,12 @@ use crate::entries::index_of;
 use crate::entry::Entry;
 use crate::key::Key;
 use crate::lookups::{has, lead, lead_within, numbers, positions};
-use crate::marks::keys_in;
+use crate::note::Note;
+use crate::notes::keys_in;
 use crate::numbers::{names_of, number_of};
 use crate::repeats::mark_repeats;
 use crate::surrounding::Surrounding;
 use fits_card::{Card, CardList, Name};
-use fits_codes::Mark;
 use std::alloc::{AllocError, Global};
 use std::marker::Model;
 
@@ -63,7 +63,7 @@ fn keys_of_cards(alloc: Global, cards: &mut CardList) -> Result<Vec<Key>, AllocE
 impl KeyIndex {
     ghost use Rattle.std.specs.Prelude.{◌≡◌, ◌≤◌, ◌<◌, ◌+◌, List, ℕ, IfOk, IsOk, OnOk, OnErr, length};
     ghost use Rattle.fits_card.specs.Change.{moved, spliced};
-    ghost use Rattle.fits_header.specs.Marks.{keys_in};
+    ghost use Rattle.fits_header.specs.Notes.{keys_in};
     ghost use Rattle.fits_header.specs.Names.{header_names};
     ghost use Rattle.std.specs.List.{list_any};
     ghost use Rattle.fits_header.specs.Places.{has_name, keyword_places, lead_place_within};
@@ -84,11 +84,11 @@ impl KeyIndex {
         })
     }
 
-    /// The index of the cards that have these marks.
-    pub(crate) fn of_marks(alloc: Global, marks: &[Mark]) -> Result<KeyIndex, AllocError>
-        ensures { IfOk result (λ index. index.keys ≡ keys_in marks.now) }
+    /// The index of the cards that have these notes.
+    pub(crate) fn of_notes(alloc: Global, notes: &[Note]) -> Result<KeyIndex, AllocError>
+        ensures { IfOk result (λ index. index.keys ≡ keys_in notes.now) }
     {
-        let keys = keys_in(alloc, marks)?;
+        let keys = keys_in(alloc, notes)?;
         let entries = index_of(alloc, &keys)?;
         Ok(KeyIndex {
             keys,

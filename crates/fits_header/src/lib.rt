@@ -1,7 +1,8 @@
-//! What is kept beside the cards of a header: the index of its keywords, the marks of its cards, and
-//! what stands round them.
+//! What is kept beside the cards of a header: the index of its keywords, the marks and totals of its
+//! cards, and what stands round them.
 #![tactic(auto)]
 
+mod card_total;
 mod changing;
 mod counting;
 mod counts;
@@ -17,7 +18,8 @@ mod laws;
 mod leads;
 mod links;
 mod lookups;
-mod marks;
+mod note;
+mod notes;
 mod numbers;
 mod repeats;
 mod seen;

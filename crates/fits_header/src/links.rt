@@ -1,22 +1,22 @@
-//! Which cards go on with a long string, by one pass over their marks (FITS Standard 4.0, section
+//! Which cards go on with a long string, by one pass over their notes (FITS Standard 4.0, section
 //! 4.2.1.2).
 ghost use Rattle.std.specs.Prelude.{◌≡◌, length, map};
-ghost use Rattle.fits_header.specs.Marks.{links_in};
+ghost use Rattle.fits_header.specs.Notes.{links_in};
 ghost use Rattle.fits_header.specs.declared.surrounding.Surrounding.{Surrounding};
 
+use crate::note::Note;
 use crate::surrounding::Surrounding;
-use fits_codes::Mark;
 
 /// Marks the links, and no repeated name.
 #[tactic(auto, using(crate::proofs::MarkedLinkLemmas::link_steps))]
-pub(crate) fn mark_links(marks: &[Mark], surroundings: &mut [Surrounding])
-    requires { length surroundings.old ≡ length marks.now }
+pub(crate) fn mark_links(notes: &[Note], surroundings: &mut [Surrounding])
+    requires { length surroundings.old ≡ length notes.now }
     ensures len { length surroundings.new ≡ length surroundings.old }
-    ensures links { map (λ (s : Surrounding). s.is_link) surroundings.new ≡ links_in marks.now }
+    ensures links { map (λ (s : Surrounding). s.is_link) surroundings.new ≡ links_in notes.now }
 {
     let mut is_open = false;
-    for index in 0..marks.len() {
-        let mark = marks[index];
+    for index in 0..notes.len() {
+        let mark = notes[index].mark;
         let is_link = is_open && mark.continues;
         surroundings[index] = Surrounding {
             name_before: false,

@@ -1,26 +1,26 @@
 //! What stands round the cards, found in two passes and kept until the next change.
 ghost use Rattle.std.specs.Prelude.{◌≡◌, ◌≤◌, ◌<◌, ◌+◌, ◌^◌, List, ℕ, IsOk, OnOk, length, vec_capacity, vec_len};
 ghost use Rattle.fits_header.specs.Key.{keys_of};
-ghost use Rattle.fits_header.specs.Marks.{marks_of};
+ghost use Rattle.fits_header.specs.Notes.{notes_of};
 ghost use Rattle.fits_header.specs.Surroundings.{surroundings_of};
 
 use crate::key_index::KeyIndex;
 use crate::links::mark_links;
+use crate::note::Note;
 use crate::surrounding::Surrounding;
-use fits_codes::Mark;
 use std::alloc::AllocError;
 
 /// Finds what stands round the cards, unless that is there. It reads no card.
 ///
 /// It takes no memory: the room is reserved before.
-pub(crate) fn survey(surroundings: &mut Vec<Surrounding>, marks: &[Mark], index: &KeyIndex)
-    requires size { length index.now.keys ≡ length marks.now }
+pub(crate) fn survey(surroundings: &mut Vec<Surrounding>, notes: &[Note], index: &KeyIndex)
+    requires size { length index.now.keys ≡ length notes.now }
     requires whole { 0 < vec_len surroundings.old
-        → vec_len surroundings.old ≡ length marks.now }
-    requires room { length marks.now ≤ vec_capacity surroundings.old }
-    ensures len { vec_len surroundings.new ≡ length marks.now }
+        → vec_len surroundings.old ≡ length notes.now }
+    requires room { length notes.now ≤ vec_capacity surroundings.old }
+    ensures len { vec_len surroundings.new ≡ length notes.now }
     ensures room { vec_capacity surroundings.old ≤ vec_capacity surroundings.new }
-    ensures found { (cards : List (List ℕ)) → marks.now ≡ marks_of cards
+    ensures found { (cards : List (List ℕ)) → notes.now ≡ notes_of cards
         → index.now.keys ≡ keys_of cards
         → (0 < vec_len surroundings.old → surroundings.old.items ≡ surroundings_of cards)
         → surroundings.new.items ≡ surroundings_of cards }
@@ -33,8 +33,8 @@ pub(crate) fn survey(surroundings: &mut Vec<Surrounding>, marks: &[Mark], index:
         value_before: false,
         is_link: false,
     };
-    let _ = surroundings.resize(marks.len(), unknown);
-    mark_all(surroundings, marks, index);
+    let _ = surroundings.resize(notes.len(), unknown);
+    mark_all(surroundings, notes, index);
 }
 
 /// Makes room for what stands round so many cards, and this many more.
@@ -60,13 +60,13 @@ pub(crate) fn reserve_surroundings(
 }
 
 // Marks what stands round each card.
-fn mark_all(surroundings: &mut [Surrounding], marks: &[Mark], index: &KeyIndex)
-    requires size { length index.now.keys ≡ length marks.now }
-    requires each { length surroundings.old ≡ length marks.now }
+fn mark_all(surroundings: &mut [Surrounding], notes: &[Note], index: &KeyIndex)
+    requires size { length index.now.keys ≡ length notes.now }
+    requires each { length surroundings.old ≡ length notes.now }
     ensures len { length surroundings.new ≡ length surroundings.old }
-    ensures found { (cards : List (List ℕ)) → marks.now ≡ marks_of cards
+    ensures found { (cards : List (List ℕ)) → notes.now ≡ notes_of cards
         → index.now.keys ≡ keys_of cards → surroundings.new ≡ surroundings_of cards }
 {
-    mark_links(marks, surroundings);
+    mark_links(notes, surroundings);
     index.mark_repeats(surroundings);
 }

@@ -7,11 +7,11 @@ pub invariant_of-self : goal.invariant_of-self
 invariant_of-self c = record {
   described = search (rules, kept_steps);
   keys = search (rules, kept_steps);
-  marks = search (rules, kept_steps);
+  notes = search (rules, kept_steps);
   size = search (rules, kept_steps);
   found = grind (arith);
   whole = grind (arith);
   room_of_index = search (rules, kept_steps);
-  room_of_marks = search (rules, kept_steps);
+  room_of_notes = search (rules, kept_steps);
   room_of_surroundings = search (rules, kept_steps);
 }

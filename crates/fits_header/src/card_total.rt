@@ -8,7 +8,7 @@ use std::marker::Model;
 ///
 /// Every one is at most 20 times all ones, so that those of a header's cards can be added.
 #[derive(Clone, Copy)]
-pub struct CardTotal(u64);
+pub(crate) struct CardTotal(u64);
 
 impl Model for CardTotal {
     ghost use Rattle.std.specs.Prelude.{ℕ, ◌≤◌, ◌*◌};
@@ -30,7 +30,7 @@ impl CardTotal {
     }
 
     /// The same as a number.
-    pub fn number(self) -> u64
+    pub(crate) fn number(self) -> u64
         ensures value { result ≡ self }
         ensures within { result ≤ 20 * 4294967295 }
     {
