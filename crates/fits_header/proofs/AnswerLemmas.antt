@@ -1,24 +1,17 @@
 -- What the index of cards answers.
-use Rattle.std.proofs.Common.{◌≡◌, ℕ, suc, ◌+◌, ◌==◌, ◌&&◌, nat_lt, ◌||◌, Bool, true, false, not, cond, List, [], ◌∷◌, length, filter, ap, sym, ◌∙◌, refl, subst, arith, Option, Some, None}
-use Rattle.std.specs.List.{All, list_any, position, position_or_len}
+use Rattle.std.proofs.Common.{◌≡◌, ℕ, suc, ◌+◌, ◌==◌, ◌&&◌, nat_lt, ◌||◌, Bool, true, false, not, cond, List, [], ◌∷◌, length, filter, ap, sym, ◌∙◌, refl, arith, Option, Some, None}
+use Rattle.std.specs.List.{list_any, position, position_or_len}
 use Rattle.std.specs.Option.{option_map}
 use Rattle.std.proofs.lemmas.Bool.Decides.{nat_tests}
-use Rattle.std.proofs.lemmas.List.{length-map, get_or-map}
 use Rattle.std.proofs.lemmas.List.Elements.{All-tail}
 use Rattle.fits_card.specs.Card.{keyword_name, has_value}
 use Rattle.fits_rules.specs.Lead.{is_value_of, lead_place}
 use Rattle.fits_header.specs.declared.entry.Entry.{Entry}
-use Rattle.fits_header.specs.declared.key.Key.{Key}
 use Rattle.fits_header.specs.Index.{is_named, entry_of, entries_from, first_value, places_in, IsIndexOf}
-use Rattle.fits_header.specs.Key.{key_of, keys_of}
-use Rattle.fits_header.specs.Names.{IsName, name_number}
+use Rattle.fits_header.specs.Names.{AreNamed, IsName, name_number}
 use Rattle.fits_header.specs.Places.{has_name, places_from, keyword_places}
 use Rattle.fits_header.proofs.FilterLemmas.{any-same}
 use Rattle.fits_header.proofs.NumberLemmas.{same-number}
-
--- the names of cards are names
-abbrev pub AreNamed : List (List ℕ) → Type 0
-AreNamed cards = All (λ (card : List ℕ). IsName (keyword_name card)) cards
 
 -- the places of entries, with one more or not
 place_step : (b : Bool) (p : ℕ) (e : Entry) (es : List Entry) (ps : List ℕ) → e.place ≡ p → places_in es ≡ ps → places_in (cond b (e ∷ es) es) ≡ cond b (p ∷ ps) ps
@@ -26,23 +19,15 @@ place_step true p e es ps h more = cc
 place_step false p e es ps h more = more
 
 -- the places of a name
-places_are : (p : ℕ) (cards : List (List ℕ)) (name : List ℕ) → AreNamed cards → IsName name → places_in (filter (is_named (name_number name)) (entries_from p (keys_of cards))) ≡ places_from p cards name
+places_are : (p : ℕ) (cards : List (List ℕ)) (name : List ℕ) → AreNamed cards → IsName name → places_in (filter (is_named (name_number name)) (entries_from p cards)) ≡ places_from p cards name
 places_are p [] name named is = refl
 places_are p (card ∷ cards) name named is =
-    place_step (name_number (keyword_name card) == name_number name) p (entry_of (key_of card) p) _ _ refl (places_are (p + 1) cards name (All-tail (λ (card : List ℕ). IsName (keyword_name card)) card cards named) is)
+    place_step (name_number (keyword_name card) == name_number name) p (entry_of card p) _ _ refl (places_are (p + 1) cards name (All-tail (λ (card : List ℕ). IsName (keyword_name card)) card cards named) is)
     ∙ ap (λ b. cond b (p ∷ places_from (p + 1) cards name) (places_from (p + 1) cards name)) (sym (same-number (keyword_name card) name (named 0 card (omega arith)) is))
 
--- the names of keys are those of their cards
-pub are_named : (keys : List Key) (cards : List (List ℕ)) → All (λ (key : Key). IsName key.name) keys → keys ≡ keys_of cards → AreNamed cards
-are_named keys cards named is k d l =
-    let all : All (λ (key : Key). IsName key.name) (keys_of cards) = subst (All (λ (key : Key). IsName key.name)) is named in
-    subst (λ (key : Key). IsName key.name) (get_or-map key_of cards k d (key_of d) l) (all k (key_of d) (omega (arith, length-map cards key_of)))
-
 -- an index answers the places of a name
-pub index-places : (es : List Entry) (keys : List Key) (cards : List (List ℕ)) (name : List ℕ) → IsIndexOf es keys → All (λ (key : Key). IsName key.name) keys → keys ≡ keys_of cards → IsName name
-    → places_in (filter (is_named (name_number name)) es) ≡ keyword_places cards name
-index-places es keys cards name index named is h =
-    ap places_in (index.same (name_number name)) ∙ (ap (λ ks. places_in (filter (is_named (name_number name)) (entries_from 1 ks))) is ∙ places_are 1 cards name (are_named keys cards named is) h)
+pub index-places : (es : List Entry) (cards : List (List ℕ)) (name : List ℕ) → IsIndexOf es cards → IsName name → places_in (filter (is_named (name_number name)) es) ≡ keyword_places cards name
+index-places es cards name index h = ap places_in (index.same (name_number name)) ∙ places_are 1 cards name index.named h
 
 -- where the lead stands
 pos_some : (b : Bool) (k : ℕ) → cond b (Some (1 + k)) None ≡ option_map (λ i. i + 1) (cond b (Some k) None)
@@ -76,31 +61,27 @@ unfolding is_value_of
 value_test card name named is = ap (λ b. b && has_value card) (sym (same-number (keyword_name card) name named is))
 
 -- the first entry with a value is the first card that is the name's
-pub lead_from : (p : ℕ) (cards : List (List ℕ)) (name : List ℕ) → AreNamed cards → IsName name → first_value (filter (is_named (name_number name)) (entries_from p (keys_of cards))) ≡ option_map (λ i. i + p) (position (is_value_of name) cards)
+pub lead_from : (p : ℕ) (cards : List (List ℕ)) (name : List ℕ) → AreNamed cards → IsName name → first_value (filter (is_named (name_number name)) (entries_from p cards)) ≡ option_map (λ i. i + p) (position (is_value_of name) cards)
 lead_from p [] name named is = refl
 lead_from p (card ∷ cards) name named is =
-    lead_step (name_number (keyword_name card) == name_number name) (has_value card) p (entry_of (key_of card) p) (filter (is_named (name_number name)) (entries_from (p + 1) (keys_of cards))) (position (is_value_of name) cards) refl refl
+    lead_step (name_number (keyword_name card) == name_number name) (has_value card) p (entry_of card p) (filter (is_named (name_number name)) (entries_from (p + 1) cards)) (position (is_value_of name) cards) refl refl
     (lead_from (p + 1) cards name (All-tail (λ (card : List ℕ). IsName (keyword_name card)) card cards named) is)
     ∙ (ap (λ b. option_map (λ i. i + p) (cond b (Some 0) (option_map (λ i. i + 1) (position (is_value_of name) cards)))) (value_test card name (named 0 card (omega arith)) is)
     ∙ ap (option_map (λ i. i + p)) (sym (position_cons (is_value_of name) card cards)))
 
 -- an index answers the lead of a name
-pub index-lead : (es : List Entry) (keys : List Key) (cards : List (List ℕ)) (name : List ℕ) → IsIndexOf es keys → All (λ (key : Key). IsName key.name) keys → keys ≡ keys_of cards → IsName name
-    → first_value (filter (is_named (name_number name)) es) ≡ lead_place cards name
+pub index-lead : (es : List Entry) (cards : List (List ℕ)) (name : List ℕ) → IsIndexOf es cards → IsName name → first_value (filter (is_named (name_number name)) es) ≡ lead_place cards name
 unfolding lead_place
-index-lead es keys cards name index named is h =
-    ap first_value (index.same (name_number name)) ∙ (ap (λ ks. first_value (filter (is_named (name_number name)) (entries_from 1 ks))) is ∙ lead_from 1 cards name (are_named keys cards named is) h)
+index-lead es cards name index h = ap first_value (index.same (name_number name)) ∙ lead_from 1 cards name index.named h
 
 -- an entry has a name exactly where a card does
-any_named : (p : ℕ) (cards : List (List ℕ)) (name : List ℕ) → AreNamed cards → IsName name → list_any (is_named (name_number name)) (entries_from p (keys_of cards)) ≡ list_any (has_name name) cards
+any_named : (p : ℕ) (cards : List (List ℕ)) (name : List ℕ) → AreNamed cards → IsName name → list_any (is_named (name_number name)) (entries_from p cards) ≡ list_any (has_name name) cards
 any_named p [] name named is = refl
 any_named p (card ∷ cards) name named is =
     ap (λ b. (name_number (keyword_name card) == name_number name) || b) (any_named (p + 1) cards name (All-tail (λ (card : List ℕ). IsName (keyword_name card)) card cards named) is)
     ∙ ap (λ b. b || list_any (has_name name) cards) (sym (same-number (keyword_name card) name (named 0 card (omega arith)) is))
 
 -- an index answers whether a card has a name
-pub index-has : (es : List Entry) (keys : List Key) (cards : List (List ℕ)) (name : List ℕ) → IsIndexOf es keys → All (λ (key : Key). IsName key.name) keys → keys ≡ keys_of cards → IsName name
-    → list_any (is_named (name_number name)) es ≡ list_any (has_name name) cards
-index-has es keys cards name index named is h =
-    any-same (is_named (name_number name)) es (entries_from 1 keys) (index.same (name_number name))
-    ∙ (ap (λ ks. list_any (is_named (name_number name)) (entries_from 1 ks)) is ∙ any_named 1 cards name (are_named keys cards named is) h)
+pub index-has : (es : List Entry) (cards : List (List ℕ)) (name : List ℕ) → IsIndexOf es cards → IsName name → list_any (is_named (name_number name)) es ≡ list_any (has_name name) cards
+index-has es cards name index h =
+    any-same (is_named (name_number name)) es (entries_from 1 cards) (index.same (name_number name)) ∙ any_named 1 cards name index.named h

@@ -1,17 +1,19 @@
 -- An index through changes of the cards.
-use Rattle.std.proofs.Common.{◌≡◌, ℕ, ◌+◌, ◌-◌, ◌<◌, ◌≤◌, Bool, true, false, cond, List, [], ◌∷◌, ◌++◌, length, take, drop, map, filter, get_or, ap, sym, ◌∙◌, arith, length-append, length-drop}
+use Rattle.std.proofs.Common.{◌≡◌, ℕ, ◌+◌, ◌-◌, ◌<◌, ◌≤◌, Bool, true, false, cond, List, [], ◌∷◌, ◌++◌, length, take, drop, map, filter, get_or, ap, subst, sym, ◌∙◌, arith, length-append, length-drop}
 use Rattle.std.specs.List.{All}
-use Rattle.std.proofs.lemmas.List.{length-take-le, drop_more, length-map, get_or-map}
+use Rattle.std.proofs.lemmas.List.{length-take-le, drop_more}
 use Rattle.std.proofs.lemmas.List.Elements.{All-nil, All-cons, All-tail, All-filter, All-append, All-take, All-drop}
 use Rattle.std.proofs.lemmas.Bool.Decides.{nat_tests}
 use Rattle.fits_card.specs.Change.{spliced, only_item, moved}
 use Rattle.fits_header.specs.declared.entry.Entry.{Entry}
-use Rattle.fits_header.specs.declared.key.Key.{Key}
-use Rattle.fits_header.specs.Index.{is_named, entry_of, entries_from, AreSame, IsIndexOf, stays, shifted, added}
+use Rattle.fits_header.specs.Findings.{card_of}
+use Rattle.fits_card.specs.Card.{keyword_name}
+use Rattle.fits_header.specs.Names.{IsName}
+use Rattle.fits_header.specs.Index.{is_named, entry_of, entries_from, AreSame, IsIndex, IsIndexOf, IsSortedIndex, stays, shifted, added}
 use Rattle.fits_header.proofs.IndexLemmas.{same-added, sorted-shifted}
-use Rattle.fits_header.specs.Key.{key_of, keys_of}
-use Rattle.fits_header.proofs.EntriesLemmas.{same-more, same-done, entries-append, entries-low, entries-high, same-taken, is_low, is_high}
-use Rattle.fits_header.proofs.CountLemmas.{length-two}
+use Rattle.fits_header.proofs.EntriesLemmas.{entries-append, entries-low, entries-high, same-taken, is_low, is_high}
+use Rattle.fits_header.proofs.CountLemmas.{length-index, length-two}
+use Rattle.fits_header.proofs.FilterLemmas.{filter_all}
 
 -- what holds of all with one more holds of all
 kept_all : (P : Entry → Type 0) (b : Bool) (e : Entry) (es : List Entry) → All P (cond b (e ∷ es) es) → All P es
@@ -31,82 +33,22 @@ no_more : (limit n : ℕ) → n < limit + 1 → n ≤ limit
 no_more limit n h = omega arith
 
 -- no place is past the last card
-pub places_within : (es : List Entry) (keys : List Key) → IsIndexOf es keys → All (λ (e : Entry). e.place ≤ length keys) es
-places_within es keys index =
-    all_by_name (λ (e : Entry). e.place ≤ length keys) es (λ name.
-    rw (index.same name) (All-filter (is_named name) (λ (e : Entry). e.place ≤ length keys) (entries_from 1 keys)
-    (λ k d l. no_more (length keys) _ (entries-low 1 (length keys + 1) keys (omega arith) k d l))))
+pub places_within : (es : List Entry) (cards : List (List ℕ)) → IsIndexOf es cards → All (λ (e : Entry). e.place ≤ length cards) es
+places_within es cards index =
+    all_by_name (λ (e : Entry). e.place ≤ length cards) es (λ name.
+    rw (index.same name) (All-filter (is_named name) (λ (e : Entry). e.place ≤ length cards) (entries_from 1 cards)
+    (λ k d l. no_more (length cards) _ (entries-low 1 (length cards + 1) cards (omega arith) k d l))))
+
+-- as many entries as cards: no place is past their number
+pub places_among : (es : List Entry) → IsIndex es → All (λ (e : Entry). e.place ≤ length es) es
+places_among es index = subst (λ n. All (λ (e : Entry). e.place ≤ n) es) (sym (length-index es index.cards index.theirs)) (places_within es index.cards index.theirs)
 
 -- so many entries are left once some went
-pub length-taken : (es : List Entry) (keys : List Key) (place removed coming : ℕ) → 1 ≤ place → place + removed ≤ length keys + 1 → IsIndexOf es keys
-    → length (map (shifted place removed coming) (filter (stays place removed) es)) + removed ≡ length keys
-length-taken es keys place removed coming one fits index =
-    let size = length-two _ 1 (place + coming) (take (place - 1) keys) (drop (place - 1 + removed) keys) (same-taken es keys place removed coming one fits index.same) in
-    omega (arith, size, length-take-le (place - 1) keys (omega arith), length-drop (place - 1 + removed) keys)
-
--- where none come, the rest is the index of the other cards
-pub index-taken : (es : List Entry) (keys : List Key) (place removed : ℕ) → 1 ≤ place → place + removed ≤ length keys + 1 → IsIndexOf es keys
-    → IsIndexOf (map (shifted place removed 0) (filter (stays place removed) es)) (spliced keys place removed [])
-index-taken es keys place removed one fits index =
-    let front = take (place - 1) keys in
-    let rest = drop (place - 1 + removed) keys in
-    let joined : entries_from 1 front ++ entries_from (place + 0) rest ≡ entries_from 1 (front ++ rest) =
-    ap (λ p. entries_from 1 front ++ entries_from p rest) {x = place + 0} {y = 1 + length front} (omega (arith, length-take-le (place - 1) keys (omega arith))) ∙ sym (entries-append 1 front rest) in
-    record {
-      sorted = sorted-shifted es place removed 0 index.sorted;
-      same = λ name. same-taken es keys place removed 0 one fits index.same name ∙ ap (filter (is_named name)) joined;
-    }
-
--- an entry is put into a gap
-pub same-put : (es fs : List Entry) (xs zs : List Key) (key : Key) (place : ℕ) → length xs + 1 ≡ place → fs ≡ added es (entry_of key place)
-    → AreSame es (entries_from 1 xs ++ entries_from (place + 1) zs) → AreSame fs (entries_from 1 (xs ++ key ∷ zs))
-same-put es fs xs zs key place size is same name =
-    let before = entries_from 1 xs in
-    let rest = entries_from (place + 1) zs in
-    let low : All (λ (x : Entry). x.place < place) before = entries-low 1 place xs (omega arith) in
-    let high : All (λ (x : Entry). place ≤ x.place) rest = entries-high (place + 1) place zs (omega arith) in
-    let more = same-added es before rest (entry_of key place) same (λ k d l. is_low place (get_or before k d) (low k d l)) (λ k d l. is_high place (get_or rest k d) (high k d l)) in
-    let joined : before ++ entry_of key place ∷ rest ≡ entries_from 1 (xs ++ key ∷ zs) =
-    sym (entries-append 1 xs (key ∷ zs) ∙ ap (λ p. before ++ (entry_of key p ∷ entries_from (p + 1) zs)) {x = 1 + length xs} {y = place} (omega arith)) in
-    ap (filter (is_named name)) is ∙ (more name ∙ ap (filter (is_named name)) joined)
-
--- the key at a place, as a list
-one_item : (keys : List Key) (place : ℕ) (key : Key) → 1 ≤ place → place ≤ length keys → key ≡ get_or keys (place - 1) key → only_item keys place ≡ key ∷ []
-one_item keys place key one within is =
-    ap (take 1) (drop_more keys (place - 1) key (omega arith)) ∙ ap (λ y. y ∷ []) (sym is)
-
--- the entry that was taken out is put in where it goes
-pub same-moved : (es fs : List Entry) (keys : List Key) (key : Key) (from to : ℕ) → 1 ≤ from → from ≤ length keys → 1 ≤ to → to ≤ length keys → key ≡ get_or keys (from - 1) key
-    → IsIndexOf es (spliced keys from 1 []) → fs ≡ added (map (shifted to 0 1) (filter (stays to 0) es)) (entry_of key to)
-    → AreSame fs (entries_from 1 (moved keys from to))
-same-moved es fs keys key from to one within first last item index is =
-    let others = spliced keys from 1 [] in
-    let size : length others + 1 ≡ length keys = omega (arith, length-append (take (from - 1) keys) (drop (from - 1 + 1) keys), length-take-le (from - 1) keys (omega arith), length-drop (from - 1 + 1) keys) in
-    let gap = same-taken es others to 0 1 first (omega arith) index.same in
-    let put = same-put _ fs (take (to - 1) others) (drop (to - 1 + 0) others) key to (omega (arith, length-take-le (to - 1) others (omega arith))) is gap in
-    λ name. put name ∙ ap (λ ks. filter (is_named name) (entries_from 1 (take (to - 1) others ++ (ks ++ drop (to - 1 + 0) others)))) (sym (one_item keys from key one within item))
-
--- the entry of one more card is put in
-pub cards-more : (es fs : List Entry) (place : ℕ) (xs zs : List Key) (cards : List (List ℕ)) (i : ℕ) (key : Key) (card : List ℕ) (entry : Entry) → length xs + 1 ≡ place → i < length cards
-    → card ≡ get_or cards i card → key ≡ key_of card → entry ≡ entry_of key (place + i) → fs ≡ added es entry
-    → AreSame es (entries_from 1 (xs ++ take i (keys_of cards)) ++ entries_from (place + length cards) zs)
-    → AreSame fs (entries_from 1 (xs ++ take (i + 1) (keys_of cards)) ++ entries_from (place + length cards) zs)
-cards-more es fs place xs zs cards i key card entry size within got own here is same =
-    let n : length (keys_of cards) ≡ length cards = length-map cards key_of in
-    let at : key ≡ get_or (keys_of cards) i key = own ∙ (ap key_of got ∙ sym (get_or-map key_of cards i card key within)) in
-    rw n at (same-more es fs place xs zs (keys_of cards) i key size (omega arith) (is ∙ ap (added es) (here ∙ ap (λ k. entry_of k (place + i)) at)) (rw n same))
-
--- the entries of all cards are put in
-pub cards-done : (es : List Entry) (place : ℕ) (xs zs : List Key) (cards : List (List ℕ)) (i : ℕ) → length xs + 1 ≡ place → length cards ≤ i
-    → AreSame es (entries_from 1 (xs ++ take i (keys_of cards)) ++ entries_from (place + length cards) zs) → AreSame es (entries_from 1 ((xs ++ keys_of cards) ++ zs))
-cards-done es place xs zs cards i size whole same =
-    let n : length (keys_of cards) ≡ length cards = length-map cards key_of in
-    same-done es place xs zs (keys_of cards) i size (omega arith) (rw n same)
-
--- a list without one of its items
-pub length-out : (keys : List Key) (place : ℕ) → 1 ≤ place → place ≤ length keys → length (spliced keys place 1 []) + 1 ≡ length keys
-length-out keys place one within =
-    omega (arith, length-append (take (place - 1) keys) (drop (place - 1 + 1) keys), length-take-le (place - 1) keys (omega arith), length-drop (place - 1 + 1) keys)
+pub length-taken : (es : List Entry) (cards : List (List ℕ)) (place removed coming : ℕ) → 1 ≤ place → place + removed ≤ length cards + 1 → IsIndexOf es cards
+    → length (map (shifted place removed coming) (filter (stays place removed) es)) + removed ≡ length cards
+length-taken es cards place removed coming one fits index =
+    let size = length-two _ 1 (place + coming) (take (place - 1) cards) (drop (place - 1 + removed) cards) (same-taken es cards place removed coming one fits index.same) in
+    omega (arith, size, length-take-le (place - 1) cards (omega arith), length-drop (place - 1 + removed) cards)
 
 -- what holds of items and of those that come holds after a splice
 pub All-spliced : {X : Type 0} (P : X → Type 0) (xs new : List X) (place removed : ℕ) → All P xs → All P new → All P (spliced xs place removed new)
@@ -118,3 +60,77 @@ All-spliced P xs new place removed old come =
 pub All-moved : {X : Type 0} (P : X → Type 0) (xs : List X) (from to : ℕ) → All P xs → All P (moved xs from to)
 All-moved P xs from to old =
     All-spliced P (spliced xs from 1 []) (only_item xs from) to 0 (All-spliced P xs [] from 1 old (All-nil P)) (All-take P 1 (drop (from - 1) xs) (All-drop P (from - 1) xs old))
+
+-- where none come, the rest is the index of the other cards
+pub index-taken : (es : List Entry) (cards : List (List ℕ)) (place removed : ℕ) → 1 ≤ place → place + removed ≤ length cards + 1 → IsIndexOf es cards
+    → IsIndexOf (map (shifted place removed 0) (filter (stays place removed) es)) (spliced cards place removed [])
+index-taken es cards place removed one fits index =
+    let front = take (place - 1) cards in
+    let rest = drop (place - 1 + removed) cards in
+    let joined : entries_from 1 front ++ entries_from (place + 0) rest ≡ entries_from 1 (front ++ rest) =
+    ap (λ p. entries_from 1 front ++ entries_from p rest) {x = place + 0} {y = 1 + length front} (omega (arith, length-take-le (place - 1) cards (omega arith))) ∙ sym (entries-append 1 front rest) in
+    record {
+      sorted = sorted-shifted es place removed 0 index.sorted;
+      same = λ name. same-taken es cards place removed 0 one fits index.same name ∙ ap (filter (is_named name)) joined;
+      named = All-spliced (λ card. IsName (keyword_name card)) cards [] place removed index.named (All-nil (λ (card : List ℕ). IsName (keyword_name card)));
+    }
+
+-- an entry is put into a gap
+pub same-put : (es fs : List Entry) (xs zs : List (List ℕ)) (card : List ℕ) (place : ℕ) → length xs + 1 ≡ place → fs ≡ added es (entry_of card place)
+    → AreSame es (entries_from 1 xs ++ entries_from (place + 1) zs) → AreSame fs (entries_from 1 (xs ++ card ∷ zs))
+same-put es fs xs zs card place size is same name =
+    let before = entries_from 1 xs in
+    let rest = entries_from (place + 1) zs in
+    let low : All (λ (x : Entry). x.place < place) before = entries-low 1 place xs (omega arith) in
+    let high : All (λ (x : Entry). place ≤ x.place) rest = entries-high (place + 1) place zs (omega arith) in
+    let more = same-added es before rest (entry_of card place) same (λ k d l. is_low place (get_or before k d) (low k d l)) (λ k d l. is_high place (get_or rest k d) (high k d l)) in
+    let joined : before ++ entry_of card place ∷ rest ≡ entries_from 1 (xs ++ card ∷ zs) =
+    sym (entries-append 1 xs (card ∷ zs) ∙ ap (λ p. before ++ (entry_of card p ∷ entries_from (p + 1) zs)) {x = 1 + length xs} {y = place} (omega arith)) in
+    ap (filter (is_named name)) is ∙ (more name ∙ ap (filter (is_named name)) joined)
+
+-- the card at a place, as a list
+one_item : (cards : List (List ℕ)) (place : ℕ) → 1 ≤ place → place ≤ length cards → only_item cards place ≡ card_of cards place ∷ []
+one_item cards place one within = ap (take 1) (drop_more cards (place - 1) [] (omega arith))
+
+-- no entry goes where none is taken out
+all_stay : (place : ℕ) (es : List Entry) → filter (stays place 0) es ≡ es
+all_stay place es = filter_all (stays place 0) es (λ k d l. stays_by (get_or es k d))
+  where
+    stays_by : (e : Entry) → stays place 0 e ≡ true
+    stays_by e = grind (arith, nat_tests)
+
+-- entries in order stay so where a gap opens
+pub sorted-gap : (es : List Entry) (place : ℕ) → IsSortedIndex es → IsSortedIndex (map (shifted place 0 1) es)
+sorted-gap es place sorted = subst (λ fs. IsSortedIndex (map (shifted place 0 1) fs)) (all_stay place es) (sorted-shifted es place 0 1 sorted)
+
+-- the entry that was taken out is put in where it goes
+pub same-moved : (es fs : List Entry) (cards : List (List ℕ)) (from to : ℕ) → 1 ≤ from → from ≤ length cards → 1 ≤ to → to ≤ length cards
+    → IsIndexOf es (spliced cards from 1 []) → fs ≡ added (map (shifted to 0 1) es) (entry_of (card_of cards from) to)
+    → AreSame fs (entries_from 1 (moved cards from to))
+same-moved es fs cards from to one within first last index is =
+    let others = spliced cards from 1 [] in
+    let size : length others + 1 ≡ length cards = omega (arith, length-append (take (from - 1) cards) (drop (from - 1 + 1) cards), length-take-le (from - 1) cards (omega arith), length-drop (from - 1 + 1) cards) in
+    let gap : AreSame (map (shifted to 0 1) es) (entries_from 1 (take (to - 1) others) ++ entries_from (to + 1) (drop (to - 1 + 0) others)) =
+    λ name. ap (λ xs. filter (is_named name) (map (shifted to 0 1) xs)) (sym (all_stay to es)) ∙ same-taken es others to 0 1 first (omega arith) index.same name in
+    let put = same-put _ fs (take (to - 1) others) (drop (to - 1 + 0) others) (card_of cards from) to (omega (arith, length-take-le (to - 1) others (omega arith))) is gap in
+    λ name. put name ∙ ap (λ ks. filter (is_named name) (entries_from 1 (take (to - 1) others ++ (ks ++ drop (to - 1 + 0) others)))) (sym (one_item cards from one within))
+
+-- a list without one of its items
+length-out : (cards : List (List ℕ)) (place : ℕ) → 1 ≤ place → place ≤ length cards → length (spliced cards place 1 []) + 1 ≡ length cards
+length-out cards place one within =
+    omega (arith, length-append (take (place - 1) cards) (drop (place - 1 + 1) cards), length-take-le (place - 1) cards (omega arith), length-drop (place - 1 + 1) cards)
+
+-- an index without the entry of a place
+pub index-out : (es fs : List Entry) (cards : List (List ℕ)) (place : ℕ) → 1 ≤ place → place ≤ length es → IsIndexOf es cards → fs ≡ map (shifted place 1 0) (filter (stays place 1) es) → IsIndexOf fs (spliced cards place 1 [])
+index-out es fs cards place one within index is =
+    subst (λ xs. IsIndexOf xs (spliced cards place 1 [])) (sym is) (index-taken es cards place 1 one (omega (arith, length-index es cards index)) index)
+
+-- it has one entry less
+pub length-left : (es fs : List Entry) (place : ℕ) → 1 ≤ place → place ≤ length es → IsIndex es → fs ≡ map (shifted place 1 0) (filter (stays place 1) es) → length fs + 1 ≡ length es
+length-left es fs place one within index is =
+    let size = length-index es index.cards index.theirs in
+    omega (arith, size, length-index fs (spliced index.cards place 1 []) (index-out es fs index.cards place one within index.theirs is), length-out index.cards place one (omega (arith, size)))
+
+-- and is an index
+pub places_left : (es fs : List Entry) (place : ℕ) → 1 ≤ place → place ≤ length es → IsIndex es → fs ≡ map (shifted place 1 0) (filter (stays place 1) es) → All (λ (e : Entry). e.place ≤ length fs) fs
+places_left es fs place one within index is = places_among fs (record { cards = spliced index.cards place 1 []; theirs = index-out es fs index.cards place one within index.theirs is })

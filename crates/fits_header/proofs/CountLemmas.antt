@@ -3,7 +3,6 @@ use Rattle.std.proofs.Common.{◌≡◌, ℕ, suc, ◌+◌, ◌<◌, Bool, true,
 use Rattle.std.proofs.lemmas.Bool.{cases_lt}
 use Rattle.std.proofs.lemmas.Bool.Decides.{nat_tests}
 use Rattle.fits_header.specs.declared.entry.Entry.{Entry}
-use Rattle.fits_header.specs.declared.key.Key.{Key}
 use Rattle.fits_header.specs.Index.{is_named, entries_from, AreSame, IsIndexOf}
 
 -- a list without the first that passes
@@ -75,17 +74,17 @@ length-same (e ∷ es) fs same =
     let first : filter (is_named e.name) fs ≡ e ∷ filter (is_named e.name) es = sym (same e.name) ∙ rw (own e) refl in
     omega (arith, shorter (is_named e.name) fs e (filter (is_named e.name) es) first, length-same es (without (is_named e.name) fs) (less_one e es fs same))
 
--- as many entries as keys
-pub length-entries : (p : ℕ) (keys : List Key) → length (entries_from p keys) ≡ length keys
+-- as many entries as cards
+pub length-entries : (p : ℕ) (cards : List (List ℕ)) → length (entries_from p cards) ≡ length cards
 length-entries p [] = refl
-length-entries p (key ∷ keys) = omega (arith, length-entries (p + 1) keys)
+length-entries p (card ∷ cards) = omega (arith, length-entries (p + 1) cards)
 
 -- an index has an entry for each card
-pub length-index : (es : List Entry) (keys : List Key) → IsIndexOf es keys → length es ≡ length keys
-length-index es keys index = length-same es (entries_from 1 keys) index.same ∙ length-entries 1 keys
+pub length-index : (es : List Entry) (cards : List (List ℕ)) → IsIndexOf es cards → length es ≡ length cards
+length-index es cards index = length-same es (entries_from 1 cards) index.same ∙ length-entries 1 cards
 
 -- two runs of entries
-pub length-two : (es : List Entry) (p q : ℕ) (xs ys : List Key) → AreSame es (entries_from p xs ++ entries_from q ys) → length es ≡ length xs + length ys
+pub length-two : (es : List Entry) (p q : ℕ) (xs ys : List (List ℕ)) → AreSame es (entries_from p xs ++ entries_from q ys) → length es ≡ length xs + length ys
 length-two es p q xs ys same =
     length-same es (entries_from p xs ++ entries_from q ys) same
     ∙ (length-append (entries_from p xs) (entries_from q ys) ∙ omega (arith, length-entries p xs, length-entries q ys))

@@ -14,12 +14,13 @@ use Rattle.fits_codes.specs.declared.context.Context.{Context}
 use Rattle.fits_header.specs.declared.note.Note.{Note}
 use Rattle.fits_header.specs.Findings.{card_of, card_counts, card_findings, codes_at, context_at, counted, counts_by, counts_of, found_at, summed}
 use Rattle.fits_header.specs.Links.{header_links}
-use Rattle.fits_header.specs.Notes.{note_of, notes_of}
+use Rattle.fits_header.specs.Notes.{notes_of}
 use Rattle.fits_header.specs.Surroundings.{surrounding_at, surroundings_of, AreRepeatsMarked}
 use Rattle.fits_header.specs.declared.counts.Counts.{Counts}
 use Rattle.fits_header.specs.declared.finding.Finding.{Finding}
 use Rattle.fits_header.specs.declared.surrounding.Surrounding.{Surrounding}
 use Rattle.fits_header.proofs.MarkedLinkLemmas.{length-links}
+use Rattle.fits_header.proofs.NoteLemmas.{note_there}
 
 -- the links that are marked
 abbrev links_marked : List Surrounding → List Bool
@@ -35,16 +36,11 @@ pub get_or-surroundings : (cards : List (List ℕ)) (place : ℕ) (d : Surroundi
 unfolding surroundings_of
 get_or-surroundings cards place d one within = get_or-map-range_with_len (surrounding_at cards) 1 (length cards) (place - 1) place d (omega arith) (omega arith)
 
--- the note of a place
-note_at : (notes : List Note) (cards : List (List ℕ)) (place : ℕ) (note : Note) → notes ≡ notes_of cards → 1 ≤ place → place ≤ length notes → note ≡ get_or notes (place - 1) note → note ≡ note_of (card_of cards place)
-note_at notes cards place note is one within at =
-    at ∙ (ap (λ ms. get_or ms (place - 1) note) is ∙ get_or-map note_of cards (place - 1) [] note (omega (arith, within, ap length is, length-map cards note_of)))
-
 -- the codes of a place, by its mark and context
 pub codes-judged : (shape : Shape) (notes : List Note) (cards : List (List ℕ)) (place : ℕ) (note : Note) (context : Context) → notes ≡ notes_of cards → 1 ≤ place → place ≤ length notes → note ≡ get_or notes (place - 1) note → context ≡ context_at shape cards place
     → judged note.mark context ≡ codes_at shape cards place
 codes-judged shape notes cards place note context is one within at around =
-    ap (λ (n : Note). judged n.mark context) (note_at notes cards place note is one within at) ∙ ap (judged (mark_of (card_of cards place))) around
+    ap (λ (n : Note). judged n.mark context) (note_there notes cards (place - 1) note is (omega arith) at) ∙ ap (judged (mark_of (card_of cards place))) around
 
 pub ruleset code_steps = (codes-judged)
 

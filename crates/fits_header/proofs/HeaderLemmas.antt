@@ -1,7 +1,7 @@
 -- What is kept beside the cards of a header through changes of the cards.
 use Rattle.std.proofs.Common.{◌≡◌, ◌≤◌, ℕ, ◌+◌, ◌-◌, List, [], ◌++◌, length, take, drop, map, ap, subst, sym, ◌∙◌, refl}
 use Rattle.std.specs.Prelude.{Ok, true}
-use Rattle.std.proofs.lemmas.List.{map-append, take-map, drop-map, length-map}
+use Rattle.std.proofs.lemmas.List.{map-append, take-map, drop-map}
 use Rattle.fits_card.specs.Change.{spliced, moved, only_item, cards_after, IsInRange}
 use Rattle.fits_card.specs.declared.change.Change.{Change}
 use Rattle.fits_card.specs.declared.change.Change.TheVariants.{Splice, Move}
@@ -10,8 +10,10 @@ use Rattle.fits_rules.specs.Class.{is_primary}
 use Rattle.fits_rules.specs.Shape.{shape_of}
 use Rattle.fits_rules.specs.declared.array_shape.Shape.{Shape}
 use Rattle.fits_rules.proofs.SameShapeLemmas.{same_shape-Decides}
-use Rattle.fits_header.specs.Key.{key_of, keys_of}
+use Rattle.fits_header.specs.Index.{IsIndexOf}
 use Rattle.fits_header.specs.State.{still_describes}
+use Rattle.fits_header.specs.declared.entry.Entry.{Entry}
+use Rattle.fits_header.proofs.CountLemmas.{length-index}
 
 -- what a function gives of each is spliced alike
 pub map-spliced : {X Y : Type 0} (f : X → Y) (xs new : List X) (place removed : ℕ) → map f (spliced xs place removed new) ≡ spliced (map f xs) place removed (map f new)
@@ -31,15 +33,15 @@ map-moved f xs from to =
     ∙ (ap (λ ys. spliced ys to 0 (map f (only_item xs from))) (map-spliced f xs [] from 1)
     ∙ ap (spliced (spliced (map f xs) from 1 []) to 0) (only-map f xs from))
 
--- the keys after a splice
-pub keys_after-splice : (cards : List (List ℕ)) (change : Change) (place removed : ℕ) (new : List (List ℕ)) → change ≡ Splice place removed new → keys_of (cards_after cards change) ≡ spliced (keys_of cards) place removed (keys_of new)
+-- the index after a splice
+pub index_after-splice : (es : List Entry) (cards : List (List ℕ)) (change : Change) (place removed : ℕ) (new : List (List ℕ)) → change ≡ Splice place removed new → IsIndexOf es (spliced cards place removed new) → IsIndexOf es (cards_after cards change)
 unfolding cards_after
-keys_after-splice cards change place removed new is = rw is (map-spliced key_of cards new place removed)
+index_after-splice es cards change place removed new is index = rw is index
 
--- the keys after a move
-pub keys_after-move : (cards : List (List ℕ)) (change : Change) (from to : ℕ) → change ≡ Move from to → keys_of (cards_after cards change) ≡ moved (keys_of cards) from to
+-- the index after a move
+pub index_after-move : (es : List Entry) (cards : List (List ℕ)) (change : Change) (from to : ℕ) → change ≡ Move from to → IsIndexOf es (moved cards from to) → IsIndexOf es (cards_after cards change)
 unfolding cards_after
-keys_after-move cards change from to is = rw is (map-moved key_of cards from to)
+index_after-move es cards change from to is index = rw is index
 
 -- how many cards a splice leaves
 pub length_after-splice : (cards : List (List ℕ)) (change : Change) (place removed : ℕ) (new : List (List ℕ)) → change ≡ Splice place removed new → IsInRange cards change → length (cards_after cards change) + removed ≡ length cards + length new
@@ -70,10 +72,6 @@ pub stays_described : (shape : Shape) (after : List (List ℕ)) → still_descri
 unfolding still_describes
 stays_described shape after kept = (same_shape-Decides shape (shape_of (is_primary shape.class) after)).0 kept
 
--- as many keys as cards
-pub length-keys : (cards : List (List ℕ)) → length (keys_of cards) ≡ length cards
-length-keys cards = length-map cards key_of
-
-pub ruleset change_steps = (keys_after-splice, keys_after-move, length_after-splice, length_after-move, range_of-splice, range_of-move, length-keys)
+pub ruleset change_steps = (index_after-splice, index_after-move, length_after-splice, length_after-move, range_of-splice, range_of-move, length-index)
 
 pub ruleset kept_steps = (stays_described)

@@ -3,7 +3,6 @@ pub mod IndexLemmas
 pub mod EntriesLemmas
 pub mod LeadLemmas
 pub mod OpenLemmas
-pub mod KeyLemmas
 pub mod CountLemmas
 pub mod ChangeLemmas
 pub mod NumberLemmas
@@ -16,6 +15,7 @@ pub mod StandardFacts
 pub mod LinkLemmas
 pub mod HeaderLemmas
 pub mod NoteLemmas
+pub mod PlaceLemmas
 pub mod RepeatLemmas
 pub mod SurroundingLemmas
 pub mod MarkedLinkLemmas

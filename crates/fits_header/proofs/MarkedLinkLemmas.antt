@@ -14,20 +14,6 @@ use Rattle.fits_header.specs.declared.surrounding.Surrounding.{Surrounding}
 abbrev links_marked : List Surrounding → List Bool
 links_marked = map (λ (s : Surrounding). s.is_link)
 
--- one more is
-pub links-more : (before next : List Surrounding) (notes : List Note) (i : ℕ) (is_open then_open : Bool) (note : Note) (x : Surrounding) (all : List Bool) → i < length before → i < length notes → note ≡ get_or notes i note
-    → x.is_link ≡ (is_open && note.mark.continues) → then_open ≡ leaves_open x.is_link (strings_in note) → next ≡ set before i x
-    → links_marked (take i before) ++ links_from is_open (map strings_in (drop i notes)) ≡ all → links_marked (take (i + 1) next) ++ links_from then_open (map strings_in (drop (i + 1) notes)) ≡ all
-links-more before next notes i is_open then_open note x all fits within is link then written so_far =
-    let rest = map strings_in (drop (i + 1) notes) in
-    let front : links_marked (take (i + 1) next) ≡ links_marked (take i before) ++ x.is_link ∷ [] =
-    ap (λ xs. links_marked (take (i + 1) xs)) written ∙ (ap links_marked (take_more_set before i x fits) ∙ map-append (λ (s : Surrounding). s.is_link) (take i before) (x ∷ [])) in
-    let behind : links_from is_open (map strings_in (drop i notes)) ≡ x.is_link ∷ links_from then_open rest =
-    ap (λ ms. links_from is_open (map strings_in ms)) (drop_more notes i note within ∙ ap (λ m. m ∷ drop (i + 1) notes) (sym is))
-    ∙ rw (then, link) refl in
-    ap (λ xs. xs ++ links_from then_open rest) front ∙ (append_assoc (links_marked (take i before)) (x.is_link ∷ []) (links_from then_open rest)
-    ∙ (ap (λ xs. links_marked (take i before) ++ xs) (sym behind) ∙ so_far))
-
 -- in the end all are
 pub links-all : (found : List Surrounding) (notes : List Note) (i : ℕ) (is_open : Bool) (all : List Bool) → length found ≡ length notes → length notes ≤ i
     → links_marked (take i found) ++ links_from is_open (map strings_in (drop i notes)) ≡ all → links_marked found ≡ all

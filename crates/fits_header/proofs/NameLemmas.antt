@@ -13,11 +13,8 @@ use Rattle.std.proofs.lemmas.Slice.Eq.{bytes_eq-Decides}
 use Rattle.std.proofs.lemmas.Map.Views.{list_any-from_Contains, Contains-from_any}
 use Rattle.fits_card.specs.Card.{keyword_name}
 use Rattle.fits_header.specs.declared.entry.Entry.{Entry}
-use Rattle.fits_header.specs.declared.key.Key.{Key}
 use Rattle.fits_header.specs.Index.{is_named, entries_from, IsIndexOf}
-use Rattle.fits_header.specs.Key.{keys_of}
-use Rattle.fits_header.specs.Names.{IsName, name_number, is_before, with_name, header_names, AreNamesOf}
-use Rattle.fits_header.proofs.AnswerLemmas.{AreNamed, are_named}
+use Rattle.fits_header.specs.Names.{AreNamed, IsName, name_number, is_before, with_name, header_names, AreNamesOf}
 use Rattle.fits_header.proofs.NumberLemmas.{before-number, same-number, name-bytes, bytes-name, bytes-number, number-fits, earlier}
 
 -- ascending numbers with one more, where it goes, unless it is there
@@ -161,7 +158,7 @@ same_eq : (q n : ℕ) → nat_eq q n ≡ (n == q)
 same_eq q n = grind (arith, nat_tests)
 
 -- a header has a number where an entry of it is there
-has-entries : (q p : ℕ) (cards : List (List ℕ)) → has_number q (numbers_of cards) ≡ is_some q (entries_from p (keys_of cards))
+has-entries : (q p : ℕ) (cards : List (List ℕ)) → has_number q (numbers_of cards) ≡ is_some q (entries_from p cards)
 has-entries q p [] = refl
 has-entries q p (card ∷ cards) =
     has-with q (name_number (keyword_name card)) (numbers_of cards)
@@ -234,15 +231,14 @@ names-numbers (card ∷ cards) named =
     ap (with_name (keyword_name card)) (names-numbers cards others) ∙ map-with (keyword_name card) (numbers_of cards) (named 0 card (omega arith)) (numbers-fit cards others)
 
 -- the names that an index has
-pub index-names : (es : List Entry) (keys : List Key) (cards : List (List ℕ)) → IsIndexOf es keys → All (λ (key : Key). IsName key.name) keys → keys ≡ keys_of cards → IsStrictlyIncreasing (dedup nat_eq (map (λ (e : Entry). e.name) es))
+pub index-names : (es : List Entry) (cards : List (List ℕ)) → IsIndexOf es cards → IsStrictlyIncreasing (dedup nat_eq (map (λ (e : Entry). e.name) es))
     → map (to_be_bytes w64) (dedup nat_eq (map (λ (e : Entry). e.name) es)) ≡ header_names cards
-index-names es keys cards index named is rise =
+index-names es cards index rise =
     let numbers = map (λ (e : Entry). e.name) es in
     let same : (q : ℕ) → has_number q (dedup nat_eq numbers) ≡ has_number q (numbers_of cards) = λ q.
-    has-dedup q numbers ∙ (has-names q es ∙ (sym (some-filter q es) ∙ (ap (is_some q) (index.same q) ∙ (some-filter q (entries_from 1 keys)
-    ∙ (ap (λ ks. is_some q (entries_from 1 ks)) is ∙ sym (has-entries q 1 cards)))))) in
+    has-dedup q numbers ∙ (has-names q es ∙ (sym (some-filter q es) ∙ (ap (is_some q) (index.same q) ∙ (some-filter q (entries_from 1 cards) ∙ sym (has-entries q 1 cards))))) in
     ap (map (to_be_bytes w64)) (rising_same (dedup nat_eq numbers) (numbers_of cards) (AllPairs-from_increasing (dedup nat_eq numbers) rise) (numbers-rise cards) same)
-    ∙ sym (names-numbers cards (are_named keys cards named is))
+    ∙ sym (names-numbers cards index.named)
 
 -- a smaller number has smaller bytes
 before_bytes : (m n : ℕ) → m < 2 ^ 64 → n < 2 ^ 64 → m < n → IsTrue (is_before (to_be_bytes w64 m) (to_be_bytes w64 n))

@@ -1,28 +1,19 @@
 -- Notes of cards.
-use Rattle.std.proofs.Common.{◌≡◌, ℕ, ◌+◌, ◌-◌, ◌<◌, List, [], ◌∷◌, length, get_or, set, ap, sym, ◌∙◌, refl, arith}
+use Rattle.std.proofs.Common.{◌≡◌, ℕ, ◌+◌, ◌-◌, ◌<◌, List, [], length, get_or, set, ap, sym, ◌∙◌, arith}
 use Rattle.std.proofs.lemmas.List.{length-map, get_or-map}
 use Rattle.std.proofs.Math.Seq.{paste}
 use Rattle.fits_card.specs.Change.{spliced, moved, cards_after}
 use Rattle.fits_card.specs.declared.change.Change.{Change}
 use Rattle.fits_card.specs.declared.change.Change.TheVariants.{Splice, Move}
 use Rattle.fits_card.proofs.SpliceLemmas.{paste-spliced, paste-more}
-use Rattle.fits_codes.specs.Mark.{mark_of}
 use Rattle.fits_header.specs.declared.note.Note.{Note}
-use Rattle.fits_header.specs.Key.{key_of, keys_of}
-use Rattle.fits_header.specs.Notes.{keys_in, note_of, notes_of}
+use Rattle.fits_header.specs.Notes.{note_of, notes_of}
 use Rattle.fits_header.proofs.HeaderLemmas.{map-spliced, map-moved, length_after-splice, length_after-move, range_of-splice, range_of-move}
 
--- the keys of cards are in their notes
-pub keys-marked : (cards : List (List ℕ)) → keys_in (notes_of cards) ≡ keys_of cards
-unfolding mark_of
-keys-marked [] = refl
-keys-marked (card ∷ cards) = ap (λ keys. key_of card ∷ keys) (keys-marked cards)
-
--- those that notes give, which are those of cards
-pub keys-of_marked : (notes : List Note) (cards : List (List ℕ)) → notes ≡ notes_of cards → keys_in notes ≡ keys_of cards
-keys-of_marked notes cards is = ap keys_in is ∙ keys-marked cards
-
-pub ruleset key_steps = (keys-of_marked)
+-- the note of a card that is there
+pub note_there : (notes : List Note) (cards : List (List ℕ)) (i : ℕ) (note : Note) → notes ≡ notes_of cards → i < length notes → note ≡ get_or notes i note → note ≡ note_of (get_or cards i [])
+note_there notes cards i note is within at =
+    at ∙ (ap (λ ns. get_or ns i note) is ∙ get_or-map note_of cards i [] note (omega (arith, within, ap length is, length-map cards note_of)))
 
 -- so many notes were written over
 pub notes-spliced : (xs : List Note) (cards : List (List ℕ)) (place n : ℕ) → n ≡ length cards → paste xs (place - 1) (notes_of cards) n ≡ spliced xs place n (notes_of cards)

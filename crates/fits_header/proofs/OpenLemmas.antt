@@ -1,28 +1,40 @@
 -- The index of cards, made by a stable sort.
-use Rattle.std.proofs.Common.{map, ◌≡◌, ℕ, suc, ◌+◌, ◌<◌, ◌≤◌, Bool, true, false, cond, List, [], ◌∷◌, ◌++◌, length, take, get_or, filter, ap, sym, ◌∙◌, refl, arith}
+use Rattle.std.proofs.Common.{map, ◌≡◌, ℕ, suc, ◌+◌, ◌<◌, ◌≤◌, Bool, true, false, cond, List, [], ◌∷◌, ◌++◌, length, take, get_or, filter, ap, subst, sym, ◌∙◌, refl, arith}
 use Rattle.std.specs.List.{AllPairs, All}
 use Rattle.std.specs.List.Sorted.{IsSorted, IsStableByKey, IsNonDecreasingBy, ties}
 use Rattle.std.specs.Ordering.{nat_cmp, is_lt}
 use Rattle.std.proofs.lemmas.Bool.{false≢true}
 use Rattle.std.proofs.lemmas.Bool.Decides.{nat_tests}
-use Rattle.std.proofs.lemmas.List.{length-map, get_or-map, take_more, length-take-le}
-use Rattle.std.proofs.lemmas.List.Elements.{All-nil, All-cons, All-tail, filter_agree}
+use Rattle.std.proofs.lemmas.List.{length-map, get_or-map, take_all, take_more, length-take-le}
+use Rattle.std.proofs.lemmas.List.Elements.{All-nil, All-cons, All-more, All-tail, filter_agree}
 use Rattle.std.proofs.lemmas.List.Kept.{AllPairs-cons, AllPairs-filter}
 use Rattle.fits_header.specs.declared.entry.Entry.{Entry}
-use Rattle.fits_header.specs.declared.key.Key.{Key}
 use Rattle.fits_header.specs.Index.{IsSortedIndex, IsInOrder, is_named, entry_of, entries_from, AreSame}
+use Rattle.fits_header.specs.Names.{AreNamed, IsName}
+use Rattle.fits_card.specs.Card.{keyword_name}
 use Rattle.fits_header.proofs.EntriesLemmas.{entries-append, entries-high}
 
 -- one more
-pub entries_more : (ms : List Key) (i : ℕ) (d : Key) → i < length ms → entries_from 1 (take i ms) ++ entry_of (get_or ms i d) (i + 1) ∷ [] ≡ entries_from 1 (take (i + 1) ms)
+pub entries_more : (ms : List (List ℕ)) (i : ℕ) (d : List ℕ) → i < length ms → entries_from 1 (take i ms) ++ entry_of (get_or ms i d) (i + 1) ∷ [] ≡ entries_from 1 (take (i + 1) ms)
 entries_more ms i d within =
     sym (ap (entries_from 1) (take_more ms i d within)
     ∙ (entries-append 1 (take i ms) (get_or ms i d ∷ [])
     ∙ ap (λ p. entries_from 1 (take i ms) ++ entry_of (get_or ms i d) p ∷ []) {x = 1 + length (take i ms)} {y = i + 1} (omega (arith, length-take-le i ms (omega arith)))))
 
--- the entries of so many keys, with one more
-pub entries_push : (ms : List Key) (es : List Entry) (e : Entry) (i : ℕ) (d : Key) → i < length ms → es ≡ entries_from 1 (take i ms) → e ≡ entry_of (get_or ms i d) (i + 1) → es ++ e ∷ [] ≡ entries_from 1 (take (i + 1) ms)
-entries_push ms es e i d within was is = rw (was, is) (entries_more ms i d within)
+-- the entries of so many cards, with one more
+pub entries_push : (cards : List (List ℕ)) (es : List Entry) (e : Entry) (i : ℕ) (card : List ℕ) → i < length cards → es ≡ entries_from 1 (take i cards) → card ≡ get_or cards i card → e ≡ entry_of card (i + 1)
+    → es ++ e ∷ [] ≡ entries_from 1 (take (i + 1) cards)
+entries_push cards es e i card within was at is = rw (was, is ∙ ap (λ c. entry_of c (i + 1)) at) (entries_more cards i card within)
+
+-- one more name is a name
+pub named_push : (cards : List (List ℕ)) (i : ℕ) (card : List ℕ) → i < length cards → AreNamed (take i cards) → card ≡ get_or cards i card → IsName (keyword_name card) → AreNamed (take (i + 1) cards)
+named_push cards i card within named at own = All-more (λ (c : List ℕ). IsName (keyword_name c)) cards i card within named (subst (λ c. IsName (keyword_name c)) at own)
+
+-- in the end all are
+pub named_all : (cards : List (List ℕ)) (i : ℕ) → length cards ≤ i → AreNamed (take i cards) → AreNamed cards
+named_all cards i done named = subst AreNamed (take_all i cards done) named
+
+pub ruleset open_steps = (entries_push, named_push, named_all)
 
 -- the same name is a tie
 same_name : (name : ℕ) (x y : Entry) → x.name ≡ name → ties (λ a b. is_lt (nat_cmp a.name b.name)) x y ≡ is_named name y
@@ -39,7 +51,7 @@ less : (p q : ℕ) → p + 1 ≤ q → p < q
 less p q h = omega arith
 
 -- the places of entries rise
-pub entries-rise : (p : ℕ) (ms : List Key) → AllPairs (λ (a b : Entry). a.place < b.place) (entries_from p ms)
+pub entries-rise : (p : ℕ) (ms : List (List ℕ)) → AllPairs (λ (a b : Entry). a.place < b.place) (entries_from p ms)
 entries-rise p [] = λ i j d l m. absurd (omega arith)
 entries-rise p (m ∷ ms) =
     AllPairs-cons (λ (a b : Entry). a.place < b.place) (entry_of m p) (entries_from (p + 1) ms) (λ k d l. less p _ (entries-high (p + 1) (p + 1) ms (omega arith) k d l)) (entries-rise (p + 1) ms)
@@ -80,7 +92,7 @@ in_order : (a b : Entry) → a.name ≤ b.name → (a.name ≡ b.name → a.plac
 in_order a b h g = grind (arith, nat_tests)
 
 -- so what a stable sort gives is a sorted index
-pub sorted_from_stable : (es : List Entry) (ms : List Key) → IsNonDecreasingBy (λ (e : Entry). e.name) es → AreSame es (entries_from 1 ms) → IsSortedIndex es
+pub sorted_from_stable : (es : List Entry) (ms : List (List ℕ)) → IsNonDecreasingBy (λ (e : Entry). e.name) es → AreSame es (entries_from 1 ms) → IsSortedIndex es
 sorted_from_stable es ms up same i j d less within =
     in_order (get_or es i d) (get_or es j d) (up i j d (omega arith) within)
     (pairs_by_name es (λ name. rw (same name) (AllPairs-filter (λ (a b : Entry). a.place < b.place) (is_named name) (entries_from 1 ms) (entries-rise 1 ms))) i j d less within)

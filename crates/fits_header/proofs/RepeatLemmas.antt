@@ -4,21 +4,39 @@ use Rattle.std.specs.List.{All, AllPairs, list_any}
 use Rattle.std.proofs.lemmas.Bool.{eqb-true, cases_eq, cases_lt, or_cases, or_right, and_parts}
 use Rattle.std.proofs.lemmas.Bool.Decides.{nat_tests}
 use Rattle.std.proofs.lemmas.List.{get_or-take, get_or-drop, get_or-set_same, get_or-set_other, get_or_default, take_all, length-take-le}
-use Rattle.std.proofs.lemmas.List.Elements.{All-nil, All-cons, All-filter}
-use Rattle.std.proofs.lemmas.List.Folds.{list_any-append, list_any_none, list_any_more, list_any_at}
+use Rattle.std.proofs.lemmas.List.Folds.{list_any-append, list_any_none, list_any_more}
 use Rattle.std.proofs.lemmas.List.Kept.{AllPairs-filter}
-use Rattle.std.proofs.lemmas.Map.Views.{any-filter_same}
 use Rattle.fits_header.specs.declared.entry.Entry.{Entry}
-use Rattle.fits_header.specs.declared.key.Key.{Key}
 use Rattle.fits_header.specs.declared.seen.Seen.{Seen}
 use Rattle.fits_header.specs.declared.surrounding.Surrounding.{Surrounding}
+use Rattle.fits_card.specs.Card.{keyword_name, has_value}
+use Rattle.fits_header.specs.Findings.{card_of}
 use Rattle.fits_header.specs.Index.{IsSortedIndex, IsInOrder, IsIndexOf, is_named, entry_of, entries_from}
 use Rattle.fits_header.specs.Names.{name_number}
-use Rattle.fits_header.specs.Repeats.{has_number, has_number_value, marked_at, marked_by, seen_at, seen_with}
-use Rattle.fits_header.proofs.ChangeLemmas.{all_by_name}
-use Rattle.fits_header.proofs.CountLemmas.{length-entries}
+use Rattle.fits_header.specs.Repeats.{marked_by, seen_at, seen_with}
 use Rattle.fits_header.proofs.EntriesLemmas.{entries-high}
 use Rattle.fits_header.proofs.OpenLemmas.{pairs_by_name, entries-rise}
+use Rattle.fits_header.proofs.PlaceLemmas.{IsOfName, any_of_index, any_place, index-entries, named_own}
+
+-- the card has the name of this number
+abbrev pub has_number : ℕ → List ℕ → Bool
+has_number number card = name_number (keyword_name card) == number
+
+-- it has a value too
+abbrev pub has_number_value : ℕ → List ℕ → Bool
+has_number_value number card = has_number number card && has_value card
+
+-- the number of the name of the card at a place
+abbrev pub number_at : List (List ℕ) → ℕ → ℕ
+number_at cards place = name_number (keyword_name (card_of cards place))
+
+-- what is marked at a place: whether cards before it have its name, and a value
+abbrev pub marked_at : List (List ℕ) → ℕ → Surrounding → Surrounding
+marked_at cards place surrounding = record {
+  name_before = list_any (has_number (number_at cards place)) (take (place - 1) cards);
+  value_before = list_any (has_number_value (number_at cards place)) (take (place - 1) cards);
+  is_link = surrounding.is_link;
+}
 
 -- the entry has this name and a value
 abbrev pub has_named_value : ℕ → Entry → Bool
@@ -28,15 +46,6 @@ has_named_value name entry = (entry.name == name) && entry.has_value
 pub list_any_same : {X : Type 0} (p q : X → Bool) (xs : List X) → All (λ x. p x ≡ q x) xs → list_any p xs ≡ list_any q xs
 list_any_same p q [] h = refl
 list_any_same p q (x ∷ xs) h = rw (h 0 x (omega arith), list_any_same p q xs (λ k d l. h (suc k) d (omega arith))) refl
-
--- a weaker test
-any_weaker : {X : Type 0} (p q : X → Bool) (xs : List X) → ((x : X) → p x ≡ true → q x ≡ true) → list_any p xs ≡ true → list_any q xs ≡ true
-any_weaker p q [] w h = absurd (cc)
-any_weaker p q (x ∷ xs) w h =
-    elim (or_cases (p x) (list_any p xs) h) [
-      | inl here ↦ ap (λ b. b || list_any q xs) (w x here)
-      | inr there ↦ or_right (q x) (list_any q xs) (any_weaker p q xs w there)
-    ]
 
 -- a second test that the first one brings
 with_other : (b c : Bool) → (b ≡ true → c ≡ true) → (b && c) ≡ b
@@ -53,13 +62,9 @@ abbrev pub AreRising : List Entry → Type 0
 AreRising es = AllPairs (λ (a b : Entry). a.name ≡ b.name → a.place < b.place) es
 
 -- those of an index do
-pub index-rises : (es : List Entry) (keys : List Key) → IsIndexOf es keys → AreRising es
-index-rises es keys index =
-    pairs_by_name es (λ name. rw (index.same name) (AllPairs-filter (λ (a b : Entry). a.place < b.place) (is_named name) (entries_from 1 keys) (entries-rise 1 keys)))
-
--- a test of entries of one name
-abbrev IsOfName : ℕ → (Entry → Bool) → Type 0
-IsOfName name t = (x : Entry) → t x ≡ true → x.name ≡ name
+pub index-rises : (es : List Entry) (cards : List (List ℕ)) → IsIndexOf es cards → AreRising es
+index-rises es cards index =
+    pairs_by_name es (λ name. rw (index.same name) (AllPairs-filter (λ (a b : Entry). a.place < b.place) (is_named name) (entries_from 1 cards) (entries-rise 1 cards)))
 
 -- of an entry's name, those before it are those of lower places
 any_before : (t : Entry → Bool) (es : List Entry) (i : ℕ) (d : Entry) → i < length es → IsOfName (get_or es i d).name t → AreRising es
@@ -105,46 +110,33 @@ any_before t es i d within own rising =
         not_lower (get_or es (i + suc k) c) (get_or es i d) (omega (arith, up, ap (λ (x : Entry). x.place) (same_item es i c d within)))
 
 -- of the entries of cards, those of lower places are the first ones
-any_below : (t : Entry → Bool) (u : Key → Bool) → ((key : Key) (p : ℕ) → t (entry_of key p) ≡ u key) → (start n place : ℕ) (keys : List Key) → start + n ≡ place
-    → list_any (λ x. t x && nat_lt x.place place) (entries_from start keys) ≡ list_any u (take n keys)
-any_below t u same start zero place keys h =
-    list_any_none (λ x. t x && nat_lt x.place place) (entries_from start keys)
-    (λ k d l. past (t (get_or (entries_from start keys) k d)) (get_or (entries_from start keys) k d) (omega (arith, entries-high start start keys (omega arith) k d l)))
+any_below : (t : Entry → Bool) (u : List ℕ → Bool) → ((card : List ℕ) (p : ℕ) → t (entry_of card p) ≡ u card) → (start n place : ℕ) (cards : List (List ℕ)) → start + n ≡ place
+    → list_any (λ x. t x && nat_lt x.place place) (entries_from start cards) ≡ list_any u (take n cards)
+any_below t u same start zero place cards h =
+    list_any_none (λ x. t x && nat_lt x.place place) (entries_from start cards)
+    (λ k d l. past (t (get_or (entries_from start cards) k d)) (get_or (entries_from start cards) k d) (omega (arith, entries-high start start cards (omega arith) k d l)))
   where
     past : (b : Bool) (x : Entry) → place ≤ x.place → (b && nat_lt x.place place) ≡ false
     past true x g = grind (arith, nat_tests)
     past false x g = refl
 any_below t u same start (suc n) place [] h = refl
-any_below t u same start (suc n) place (key ∷ keys) h =
+any_below t u same start (suc n) place (card ∷ cards) h =
     let low : nat_lt start place ≡ true = grind (arith, nat_tests) in
-    let here : (t (entry_of key start) && nat_lt start place) ≡ u key = rw low (and_true (t (entry_of key start)) ∙ same key start) in
-    rw (here, any_below t u same (start + 1) n place keys (omega arith)) refl
+    let here : (t (entry_of card start) && nat_lt start place) ≡ u card = rw low (and_true (t (entry_of card start)) ∙ same card start) in
+    rw (here, any_below t u same (start + 1) n place cards (omega arith)) refl
   where
     and_true : (b : Bool) → (b && true) ≡ b
     and_true true = refl
     and_true false = refl
 
--- an index passes a test of one name as the entries of the cards do
-any_of_index : (es : List Entry) (keys : List Key) (name : ℕ) (t : Entry → Bool) → IsIndexOf es keys → IsOfName name t → list_any t es ≡ list_any t (entries_from 1 keys)
-any_of_index es keys name t index own =
-    let named : (x : Entry) → t x ≡ true → is_named name x ≡ true = λ x h. is_own x (own x h) in
-    sym (any-filter_same t (is_named name) true named es) ∙ (ap (list_any t) (index.same name) ∙ any-filter_same t (is_named name) true named (entries_from 1 keys))
-  where
-    is_own : (x : Entry) → x.name ≡ name → is_named name x ≡ true
-    is_own x h = grind (arith, nat_tests)
-
 -- so those before an entry in the index are those before its card
-any_at : (es : List Entry) (keys : List Key) (i : ℕ) (d : Entry) (t : Entry → Bool) (u : Key → Bool) → IsIndexOf es keys → i < length es → 1 ≤ (get_or es i d).place
-    → IsOfName (get_or es i d).name t → ((key : Key) (p : ℕ) → t (entry_of key p) ≡ u key) → list_any t (take i es) ≡ list_any u (take ((get_or es i d).place - 1) keys)
-any_at es keys i d t u index within from own same =
+any_at : (es : List Entry) (cards : List (List ℕ)) (i : ℕ) (d : Entry) (t : Entry → Bool) (u : List ℕ → Bool) → IsIndexOf es cards → i < length es → 1 ≤ (get_or es i d).place
+    → IsOfName (get_or es i d).name t → ((card : List ℕ) (p : ℕ) → t (entry_of card p) ≡ u card) → list_any t (take i es) ≡ list_any u (take ((get_or es i d).place - 1) cards)
+any_at es cards i d t u index within from own same =
     let place = (get_or es i d).place in
-    any_before t es i d within own (index-rises es keys index)
-    ∙ (any_of_index es keys (get_or es i d).name (λ x. t x && nat_lt x.place place) index (λ x h. own x (and_parts (t x) (nat_lt x.place place) h).0)
-    ∙ any_below t u same 1 (place - 1) place keys (omega arith))
-
--- its name
-named_own : (name : ℕ) → IsOfName name (is_named name)
-named_own name x h = grind (arith, nat_tests, h)
+    any_before t es i d within own (index-rises es cards index)
+    ∙ (any_of_index es cards (get_or es i d).name (λ x. t x && nat_lt x.place place) index (λ x h. own x (and_parts (t x) (nat_lt x.place place) h).0)
+    ∙ any_below t u same 1 (place - 1) place cards (omega arith))
 
 -- and its name with a value
 valued_own : (name : ℕ) → IsOfName name (has_named_value name)
@@ -156,10 +148,6 @@ pub record AreSeen (es : List Entry) (i : ℕ) (seen : Seen) : Type 0 where
   pub value : seen.has_value ≡ list_any (has_named_value seen.name) (take i es)
   pub past : (j : ℕ) (d : Entry) → j < i → (get_or es j d).name ≤ seen.name
   pub ahead : (j : ℕ) (d : Entry) → i ≤ j → j < length es → seen.name ≤ (get_or es j d).name
-
--- at first nothing
-pub seen-none : (es : List Entry) → AreSeen es 0 (record { name = 0; has_card = false; has_value = false })
-seen-none es = record { card = refl; value = refl; past = λ j d l. absurd (omega arith); ahead = λ j d l g. omega arith }
 
 -- what was seen of the name of the entry that comes
 pub record IsSeenOf (es : List Entry) (i : ℕ) (name : ℕ) (here : Seen) : Type 0 where
@@ -235,73 +223,24 @@ seen-more es i here e sorted seen within is =
     next : (j : ℕ) (d : Entry) → i + 1 ≤ j → j < length es → e.name ≤ (get_or es j d).name
     next j d l g = rw (item d) (names_in_order (get_or es i d) (get_or es j d) (sorted i j d (omega arith) g))
 
--- the names of the entries of cards are those of their keys
-entries-names : (start : ℕ) (keys : List Key) → All (λ (x : Entry). (key : Key) → key ≡ get_or keys (x.place - start) key → x.name ≡ name_number key.name) (entries_from start keys)
-entries-names start [] = All-nil (λ (x : Entry). (key : Key) → key ≡ get_or [] (x.place - start) key → x.name ≡ name_number key.name)
-entries-names start (first ∷ keys) =
-    All-cons (λ (x : Entry). (key : Key) → key ≡ get_or (first ∷ keys) (x.place - start) key → x.name ≡ name_number key.name) (entry_of first start) (entries_from (start + 1) keys)
-    (λ key h. sym (ap (λ (k : Key). name_number k.name) (h ∙ ap (λ j. get_or (first ∷ keys) j key) {x = start - start} {y = 0} (omega arith))))
-    (λ k d l key h. entries-names (start + 1) keys k d l key (h ∙ further (get_or (entries_from (start + 1) keys) k d) key (entries-high (start + 1) (start + 1) keys (omega arith) k d l)))
-  where
-    further : (x : Entry) (key : Key) → start + 1 ≤ x.place → get_or (first ∷ keys) (x.place - start) key ≡ get_or keys (x.place - (start + 1)) key
-    further x key h = ap (λ j. get_or (first ∷ keys) j key) {x = x.place - start} {y = suc (x.place - (start + 1))} (omega arith)
-
--- those of an index too
-names_of_index : (es : List Entry) (keys : List Key) → IsIndexOf es keys → All (λ (x : Entry). (key : Key) → key ≡ get_or keys (x.place - 1) key → x.name ≡ name_number key.name) es
-names_of_index es keys index =
-    all_by_name (λ (x : Entry). (key : Key) → key ≡ get_or keys (x.place - 1) key → x.name ≡ name_number key.name) es (λ name.
-    rw (index.same name) (All-filter (is_named name) (λ (x : Entry). (key : Key) → key ≡ get_or keys (x.place - 1) key → x.name ≡ name_number key.name) (entries_from 1 keys) (entries-names 1 keys)))
-
--- the places of an index are places
-pub places_of_index : (es : List Entry) (keys : List Key) → IsIndexOf es keys → All (λ (x : Entry). 1 ≤ x.place) es
-places_of_index es keys index =
-    all_by_name (λ (x : Entry). 1 ≤ x.place) es (λ name.
-    rw (index.same name) (All-filter (is_named name) (λ (x : Entry). 1 ≤ x.place) (entries_from 1 keys) (entries-high 1 1 keys (omega arith))))
-
--- the entry of a card
-get_or-entries : (start : ℕ) (keys : List Key) (i : ℕ) (d : Entry) (k : Key) → i < length keys → get_or (entries_from start keys) i d ≡ entry_of (get_or keys i k) (start + i)
-get_or-entries start [] i d k l = absurd (omega arith)
-get_or-entries start (key ∷ keys) zero d k l = ap (entry_of key) {x = start} {y = start + 0} (omega arith)
-get_or-entries start (key ∷ keys) (suc i) d k l = get_or-entries (start + 1) keys i d k (omega arith) ∙ ap (entry_of (get_or keys i k)) {x = start + 1 + i} {y = start + suc i} (omega arith)
-
--- each place has an entry
-pub any_place : (es : List Entry) (keys : List Key) (place : ℕ) → IsIndexOf es keys → 1 ≤ place → place ≤ length keys → list_any (λ (x : Entry). x.place == place) es ≡ true
-any_place es keys place index one within =
-    let none : Key = record { name = []; has_value = false } in
-    let blank : Entry = record { name = 0; place = 0; has_value = false } in
-    let name = name_number (get_or keys (place - 1) none).name in
-    let t : Entry → Bool = λ x. is_named name x && (x.place == place) in
-    let entry = get_or-entries 1 keys (place - 1) blank none (omega arith) in
-    let passes : t (get_or (entries_from 1 keys) (place - 1) blank) ≡ true = rw entry (is_there (get_or keys (place - 1) none)) in
-    any_weaker t (λ x. x.place == place) es (λ x h. (and_parts (is_named name x) (x.place == place) h).1)
-    (any_of_index es keys name t index (λ x h. named_own name x (and_parts (is_named name x) (x.place == place) h).0)
-    ∙ list_any_at t (entries_from 1 keys) (place - 1) blank (omega (arith, length-entries 1 keys)) passes)
-  where
-    is_there : (key : Key) → ((name_number key.name == name_number key.name) && (1 + (place - 1) == place)) ≡ true
-    is_there key = grind (arith, nat_tests)
-
 -- what is marked once so many entries were seen
 pub record AreMarked (es : List Entry) (old new : List Surrounding) (i : ℕ) : Type 0 where
   pub len : length new ≡ length old
   pub links : (k : ℕ) (d : Surrounding) → (get_or new k d).is_link ≡ (get_or old k d).is_link
-  pub marked : (keys : List Key) → IsIndexOf es keys → (place : ℕ) (key : Key) (d : Surrounding) → 1 ≤ place → place ≤ length keys → key ≡ get_or keys (place - 1) key
-      → list_any (λ (x : Entry). x.place == place) (take i es) ≡ true → get_or new (place - 1) d ≡ marked_at keys place (name_number key.name) (get_or old (place - 1) d)
-
--- at first nothing
-pub marked-none : (es : List Entry) (old : List Surrounding) → AreMarked es old old 0
-marked-none es old = record { len = refl; links = λ k d. refl; marked = λ keys index place key d one within is seen. absurd (cc) }
+  pub marked : (cards : List (List ℕ)) → IsIndexOf es cards → (place : ℕ) (d : Surrounding) → 1 ≤ place → place ≤ length cards
+      → list_any (λ (x : Entry). x.place == place) (take i es) ≡ true → get_or new (place - 1) d ≡ marked_at cards place (get_or old (place - 1) d)
 
 -- what is written at an entry's place is right there
-marked-here : (es : List Entry) (keys : List Key) (i : ℕ) (here : Seen) (e : Entry) (key : Key) (x y : Surrounding) → IsIndexOf es keys → IsSeenOf es i e.name here → i < length es → e ≡ get_or es i e → 1 ≤ e.place
-    → key ≡ get_or keys (e.place - 1) key → x.is_link ≡ y.is_link → marked_by here x ≡ marked_at keys e.place (name_number key.name) y
-marked-here es keys i here e key x y index seen within is one key_is same =
-    let name : e.name ≡ name_number key.name = subst (λ (f : Entry). (k : Key) → k ≡ get_or keys (f.place - 1) k → f.name ≡ name_number k.name) (sym is) (names_of_index es keys index i e within) key key_is in
-    let card : here.has_card ≡ list_any (has_number e.name) (take (e.place - 1) keys) =
-    seen.card ∙ subst (λ (f : Entry). list_any (is_named f.name) (take i es) ≡ list_any (has_number f.name) (take (f.place - 1) keys)) (sym is)
-    (any_at es keys i e (is_named (get_or es i e).name) (has_number (get_or es i e).name) index within (subst (λ (f : Entry). 1 ≤ f.place) is one) (named_own (get_or es i e).name) (λ k p. refl)) in
-    let value : here.has_value ≡ list_any (has_number_value e.name) (take (e.place - 1) keys) =
-    seen.value ∙ subst (λ (f : Entry). list_any (has_named_value f.name) (take i es) ≡ list_any (has_number_value f.name) (take (f.place - 1) keys)) (sym is)
-    (any_at es keys i e (has_named_value (get_or es i e).name) (has_number_value (get_or es i e).name) index within (subst (λ (f : Entry). 1 ≤ f.place) is one) (valued_own (get_or es i e).name) (λ k p. refl)) in
+marked-here : (es : List Entry) (cards : List (List ℕ)) (i : ℕ) (here : Seen) (e : Entry) (x y : Surrounding) → IsIndexOf es cards → IsSeenOf es i e.name here → i < length es → e ≡ get_or es i e → 1 ≤ e.place
+    → x.is_link ≡ y.is_link → marked_by here x ≡ marked_at cards e.place y
+marked-here es cards i here e x y index seen within is one same =
+    let name : e.name ≡ number_at cards e.place = ap (λ (f : Entry). f.name) (subst (λ (f : Entry). f ≡ entry_of (card_of cards f.place) f.place) (sym is) (index-entries es cards index i e within)) in
+    let card : here.has_card ≡ list_any (has_number e.name) (take (e.place - 1) cards) =
+    seen.card ∙ subst (λ (f : Entry). list_any (is_named f.name) (take i es) ≡ list_any (has_number f.name) (take (f.place - 1) cards)) (sym is)
+    (any_at es cards i e (is_named (get_or es i e).name) (has_number (get_or es i e).name) index within (subst (λ (f : Entry). 1 ≤ f.place) is one) (named_own (get_or es i e).name) (λ k p. refl)) in
+    let value : here.has_value ≡ list_any (has_number_value e.name) (take (e.place - 1) cards) =
+    seen.value ∙ subst (λ (f : Entry). list_any (has_named_value f.name) (take i es) ≡ list_any (has_number_value f.name) (take (f.place - 1) cards)) (sym is)
+    (any_at es cards i e (has_named_value (get_or es i e).name) (has_number_value (get_or es i e).name) index within (subst (λ (f : Entry). 1 ≤ f.place) is one) (valued_own (get_or es i e).name) (λ k p. refl)) in
     rw (card, value, same, name) refl
 
 -- one more is marked
@@ -313,11 +252,11 @@ marked-more es old new next i here e so_far seen within is one fits written = re
     | inl same ↦ subst (λ j. (get_or next j d).is_link ≡ (get_or old j d).is_link) (sym same) (ap (λ (x : Surrounding). x.is_link) (at_place d) ∙ so_far.links (e.place - 1) d)
     | inr other ↦ ap (λ (x : Surrounding). x.is_link) (elsewhere k d other) ∙ so_far.links k d
   ];
-  marked = λ keys index place key d low high key_is any. elim (cases_eq e.place place) [
-    | inl same ↦ subst (λ p. key ≡ get_or keys (p - 1) key → get_or next (p - 1) d ≡ marked_at keys p (name_number key.name) (get_or old (p - 1) d)) same
-        (λ at. at_place d ∙ marked-here es keys i here e key (get_or new (e.place - 1) d) (get_or old (e.place - 1) d) index seen within is one at (so_far.links (e.place - 1) d)) key_is
+  marked = λ cards index place d low high any. elim (cases_eq e.place place) [
+    | inl same ↦ subst (λ p. get_or next (p - 1) d ≡ marked_at cards p (get_or old (p - 1) d)) same
+        (at_place d ∙ marked-here es cards i here e (get_or new (e.place - 1) d) (get_or old (e.place - 1) d) index seen within is one (so_far.links (e.place - 1) d))
     | inr other ↦ elsewhere (place - 1) d (λ h. other (omega (arith, h)))
-        ∙ so_far.marked keys index place key d low high key_is (before place other any)
+        ∙ so_far.marked cards index place d low high (before place other any)
   ];
 }
   where
@@ -338,10 +277,10 @@ marked-more es old new next i here e so_far seen within is one fits written = re
         same_place h = eqb-true e.place place h
 
 -- in the end each place is
-pub marked-all : (es : List Entry) (old new : List Surrounding) (i : ℕ) (keys : List Key) (place : ℕ) (key : Key) (d : Surrounding) → AreMarked es old new i → length es ≤ i → IsIndexOf es keys → 1 ≤ place → place ≤ length keys → key ≡ get_or keys (place - 1) key
-    → get_or new (place - 1) d ≡ marked_at keys place (name_number key.name) (get_or old (place - 1) d)
-marked-all es old new i keys place key d so_far done index one within is =
-    so_far.marked keys index place key d one within is (ap (list_any (λ (x : Entry). x.place == place)) (take_all i es done) ∙ any_place es keys place index one within)
+pub marked-all : (es : List Entry) (old new : List Surrounding) (i : ℕ) (cards : List (List ℕ)) (place : ℕ) (d : Surrounding) → AreMarked es old new i → length es ≤ i → IsIndexOf es cards → 1 ≤ place → place ≤ length cards
+    → get_or new (place - 1) d ≡ marked_at cards place (get_or old (place - 1) d)
+marked-all es old new i cards place d so_far done index one within =
+    so_far.marked cards index place d one within (ap (list_any (λ (x : Entry). x.place == place)) (take_all i es done) ∙ any_place es cards place index one within)
 
 -- a pass goes on
 pub repeats-more : (es : List Entry) (old new next : List Surrounding) (i : ℕ) (seen here after : Seen) (d : Entry) → IsSortedIndex es → All (λ (x : Entry). 1 ≤ x.place) es → All (λ (x : Entry). x.place ≤ length old) es

@@ -3,35 +3,32 @@ use Rattle.std.proofs.Common.{◌≡◌, ℕ, zero, suc, ◌+◌, ◌-◌, ◌<�
 use Rattle.std.specs.List.{All, position}
 use Rattle.std.specs.Option.{option_map}
 use Rattle.std.proofs.lemmas.Bool.Decides.{nat_tests}
-use Rattle.std.proofs.lemmas.List.{drop-map}
 use Rattle.fits_card.specs.Card.{keyword_name}
 use Rattle.fits_rules.specs.Lead.{is_value_of, lead_place}
 use Rattle.fits_header.specs.declared.entry.Entry.{Entry}
-use Rattle.fits_header.specs.declared.key.Key.{Key}
 use Rattle.fits_header.specs.Index.{entry_of, is_named, entries_from, first_value, from_place, before, IsIndexOf}
-use Rattle.fits_header.specs.Key.{key_of, keys_of}
-use Rattle.fits_header.specs.Names.{IsName, name_number}
+use Rattle.fits_header.specs.Names.{AreNamed, IsName, name_number}
 use Rattle.fits_header.specs.Places.{lead_place_within}
-use Rattle.fits_header.proofs.AnswerLemmas.{AreNamed, are_named, lead_from, position_cons}
+use Rattle.fits_header.proofs.AnswerLemmas.{lead_from, position_cons}
 use Rattle.fits_header.proofs.EntriesLemmas.{entries-low, entries-high, is_low, is_high}
 use Rattle.fits_header.proofs.IndexLemmas.{parted_behind}
 use Rattle.std.proofs.lemmas.List.Elements.{All-drop}
 
 -- entries before a place and from it on
-entries_parted : (p k : ℕ) (keys : List Key) → entries_from p keys ≡ entries_from p (take k keys) ++ entries_from (p + k) (drop k keys)
-entries_parted p zero keys = ap (λ q. entries_from q keys) {x = p} {y = p + 0} (omega arith)
+entries_parted : (p k : ℕ) (cards : List (List ℕ)) → entries_from p cards ≡ entries_from p (take k cards) ++ entries_from (p + k) (drop k cards)
+entries_parted p zero cards = ap (λ q. entries_from q cards) {x = p} {y = p + 0} (omega arith)
 entries_parted p (suc k) [] = refl
-entries_parted p (suc k) (key ∷ keys) =
-    ap (λ es. entry_of key p ∷ es) (entries_parted (p + 1) k keys ∙ ap (λ q. entries_from (p + 1) (take k keys) ++ entries_from q (drop k keys)) {x = p + 1 + k} {y = p + suc k} (omega arith))
+entries_parted p (suc k) (card ∷ cards) =
+    ap (λ es. entry_of card p ∷ es) (entries_parted (p + 1) k cards ∙ ap (λ q. entries_from (p + 1) (take k cards) ++ entries_from q (drop k cards)) {x = p + 1 + k} {y = p + suc k} (omega arith))
 
 -- the entries of a name from a place on are those of the cards from there on
-entries_behind : (es : List Entry) (keys : List Key) (name from : ℕ) → 1 ≤ from → IsIndexOf es keys → filter (is_named name) (from_place name from es) ≡ filter (is_named name) (entries_from from (drop (from - 1) keys))
-entries_behind es keys name from one index =
-    let us = entries_from 1 (take (from - 1) keys) in
-    let vs = entries_from from (drop (from - 1) keys) in
-    let parts : entries_from 1 keys ≡ us ++ vs = entries_parted 1 (from - 1) keys ∙ ap (λ q. us ++ entries_from q (drop (from - 1) keys)) {x = 1 + (from - 1)} {y = from} (omega arith) in
-    let low : All (λ (x : Entry). x.place < from) us = entries-low 1 from (take (from - 1) keys) (omega (arith, length-take (from - 1) keys)) in
-    let high : All (λ (x : Entry). from ≤ x.place) vs = entries-high from from (drop (from - 1) keys) (omega arith) in
+entries_behind : (es : List Entry) (cards : List (List ℕ)) (name from : ℕ) → 1 ≤ from → IsIndexOf es cards → filter (is_named name) (from_place name from es) ≡ filter (is_named name) (entries_from from (drop (from - 1) cards))
+entries_behind es cards name from one index =
+    let us = entries_from 1 (take (from - 1) cards) in
+    let vs = entries_from from (drop (from - 1) cards) in
+    let parts : entries_from 1 cards ≡ us ++ vs = entries_parted 1 (from - 1) cards ∙ ap (λ q. us ++ entries_from q (drop (from - 1) cards)) {x = 1 + (from - 1)} {y = from} (omega arith) in
+    let low : All (λ (x : Entry). x.place < from) us = entries-low 1 from (take (from - 1) cards) (omega (arith, length-take (from - 1) cards)) in
+    let high : All (λ (x : Entry). from ≤ x.place) vs = entries-high from from (drop (from - 1) cards) (omega arith) in
     parted_behind name from es us vs (index.same name ∙ ap (filter (is_named name)) parts) (λ k d l. is_low from (get_or us k d) (low k d l)) (λ k d l. is_high from (get_or vs k d) (high k d l))
 
 -- no place is before place 0
@@ -72,15 +69,12 @@ named_behind : (cards : List (List ℕ)) (n : ℕ) → AreNamed cards → AreNam
 named_behind cards n named = All-drop (λ (card : List ℕ). IsName (keyword_name card)) n cards named
 
 -- an index answers the lead of a name among the cards of a stretch
-pub index-lead_within : (es : List Entry) (keys : List Key) (cards : List (List ℕ)) (name : List ℕ) (from to : ℕ) → IsIndexOf es keys → All (λ (key : Key). IsName key.name) keys → keys ≡ keys_of cards → IsName name → 1 ≤ from
+pub index-lead_within : (es : List Entry) (cards : List (List ℕ)) (name : List ℕ) (from to : ℕ) → IsIndexOf es cards → IsName name → 1 ≤ from
     → before to (first_value (filter (is_named (name_number name)) (from_place (name_number name) from es))) ≡ lead_place_within cards name from to
 unfolding lead_place
-index-lead_within es keys cards name from to index named is h one =
+index-lead_within es cards name from to index h one =
     let behind = drop (from - 1) cards in
-    let entries = entries_behind es keys (name_number name) from one index in
-    let keys_behind : drop (from - 1) keys ≡ keys_of behind = ap (drop (from - 1)) is ∙ drop-map key_of (from - 1) cards in
-    let lead = lead_from from behind name (named_behind cards (from - 1) (are_named keys cards named is)) h in
-    ap (λ es. before to (first_value es)) (entries ∙ ap (λ ks. filter (is_named (name_number name)) (entries_from from ks)) keys_behind)
-    ∙ (ap (before to) lead
+    ap (λ es. before to (first_value es)) (entries_behind es cards (name_number name) from one index)
+    ∙ (ap (before to) (lead_from from behind name (named_behind cards (from - 1) index.named) h)
     ∙ (place_among from to (position (is_value_of name) behind) one
     ∙ ap (λ o. option_map (λ place. place + (from - 1)) (option_map (λ i. i + 1) o)) (sym (position-take (is_value_of name) (to - from) behind))))

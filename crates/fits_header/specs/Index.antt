@@ -1,17 +1,17 @@
 -- Entries of names and places, sorted (own).
 use Rattle.std.specs.Prelude.{◌≡◌, ℕ, ◌+◌, ◌-◌, ◌==◌, ◌&&◌, ◌||◌, nat_lt, nat_le, Bool, false, not, List, [], ◌∷◌, ◌++◌, filter, AllPairs, Option, None, Some, if◌then◌else◌}
-use Rattle.fits_header.specs.Names.{name_number}
+use Rattle.fits_card.specs.Card.{keyword_name, has_value}
+use Rattle.fits_header.specs.Names.{AreNamed, name_number}
 use Rattle.fits_header.specs.declared.entry.Entry.{Entry}
-use Rattle.fits_header.specs.declared.key.Key.{Key}
 
 -- the entry of a card at a place
-abbrev pub entry_of : Key → ℕ → Entry
-entry_of key place = record { name = name_number key.name; place = place; has_value = key.has_value }
+abbrev pub entry_of : List ℕ → ℕ → Entry
+entry_of card place = record { name = name_number (keyword_name card); place = place; has_value = has_value card }
 
 -- the entries of cards, in the order of their places
-abbrev pub entries_from : ℕ → List Key → List Entry
+abbrev pub entries_from : ℕ → List (List ℕ) → List Entry
 entries_from place [] = []
-entries_from place (key ∷ keys) = entry_of key place ∷ entries_from (place + 1) keys
+entries_from place (card ∷ cards) = entry_of card place ∷ entries_from (place + 1) cards
 
 -- the entry has this name
 abbrev pub is_named : ℕ → Entry → Bool
@@ -35,9 +35,15 @@ abbrev pub AreSame : List Entry → List Entry → Type 0
 AreSame es fs = (name : ℕ) → filter (is_named name) es ≡ filter (is_named name) fs
 
 -- the entries are those of the cards, by name and then by place: what a stable sort gives
-pub record IsIndexOf (entries : List Entry) (keys : List Key) : Type 0 where
+pub record IsIndexOf (entries : List Entry) (cards : List (List ℕ)) : Type 0 where
   pub sorted : IsSortedIndex entries
-  pub same : AreSame entries (entries_from 1 keys)
+  pub same : AreSame entries (entries_from 1 cards)
+  pub named : AreNamed cards
+
+-- the entries are those of some cards
+pub record IsIndex (entries : List Entry) : Type 0 where
+  pub cards : List (List ℕ)
+  pub theirs : IsIndexOf entries cards
 
 -- the entries with one more, where it goes
 abbrev pub added : List Entry → Entry → List Entry

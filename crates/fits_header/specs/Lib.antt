@@ -1,6 +1,5 @@
 pub mod Findings
 pub mod Index
-pub mod Key
 pub mod KeyIndex
 pub mod Links
 pub mod Names

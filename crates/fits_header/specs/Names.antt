@@ -11,6 +11,10 @@ pub record IsName (name : List ℕ) : Type 0 where
   pub size : length name ≡ 8
   pub bytes : All (λ byte. byte < 256) name
 
+-- the names of cards are
+abbrev pub AreNamed : List (List ℕ) → Type 0
+AreNamed cards = All (λ (card : List ℕ). IsName (keyword_name card)) cards
+
 -- the number that the bytes of a name write, the first one weighing most (own)
 unfoldable pub name_number : List ℕ → ℕ
 name_number name = from_be_bytes w64 name

@@ -3,7 +3,6 @@ use Rattle.std.specs.Prelude.{ℕ, Bool, false, List, map}
 use Rattle.std.specs.List.{sum_by}
 use Rattle.fits_codes.specs.Mark.{mark_of}
 use Rattle.fits_header.specs.Links.{StringMark, links_from}
-use Rattle.fits_header.specs.declared.key.Key.{Key}
 use Rattle.fits_header.specs.declared.note.Note.{Note}
 use Rattle.fits_sum.specs.Words.{word_total}
 
@@ -14,14 +13,6 @@ note_of card = record { mark = mark_of card; total = word_total card }
 -- the notes of cards
 abbrev pub notes_of : List (List ℕ) → List Note
 notes_of cards = map note_of cards
-
--- the key that a note gives
-abbrev pub key_in : Note → Key
-key_in note = record { name = note.mark.name; has_value = note.mark.has_value }
-
--- those that notes give
-abbrev pub keys_in : List Note → List Key
-keys_in notes = map key_in notes
 
 -- their totals, added up
 abbrev pub total_in : List Note → ℕ

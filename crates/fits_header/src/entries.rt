@@ -1,37 +1,54 @@
 //! Entries of names and places, sorted, under changes of the cards that they stand for.
-ghost use Rattle.std.specs.Prelude.{◌≡◌, ◌≤◌, ◌<◌, ◌+◌, ◌-◌, ◌++◌, ◌^◌, List, All, IfOk, IsTrue, length, map, filter, not, take, drop, vec_len, vec_capacity};
-ghost use Rattle.fits_card.specs.Card.{keyword_name};
-ghost use Rattle.fits_header.specs.Key.{keys_of};
-ghost use Rattle.fits_header.specs.Names.{IsName};
+ghost use Rattle.std.specs.Prelude.{◌≡◌, ◌≤◌, ◌<◌, ◌+◌, ◌-◌, ◌++◌, ◌^◌, ℕ, List, All, IfOk, IsTrue, length, map, filter, not, take, drop, vec_len, vec_capacity};
+ghost use Rattle.fits_card.specs.CardList.{ReadsUpTo};
 ghost use Rattle.fits_header.specs.Index.{AreSame, IsIndexOf, IsSortedIndex, added, comes_before, entries_from, shifted, stays};
-ghost use Rattle.fits_header.specs.declared.key.Key.{Key};
+ghost use Rattle.fits_header.specs.Names.{AreNamed};
+ghost use Rattle.fits_header.specs.Notes.{notes_of};
 
-use crate::entry::{Entry, entry_of, shifted};
-use crate::key::Key;
-use fits_card::Card;
+use crate::entry::{Entry, entry_of, noted_entry, shifted};
+use crate::note::Note;
+use fits_card::{Card, CardList};
 use std::alloc::{AllocError, Global};
 
-/// The index of cards, by a stable sort.
-pub(crate) fn index_of(alloc: Global, keys: &[Key]) -> Result<Vec<Entry>, AllocError>
-    ensures value { IfOk result (λ entries. IsIndexOf entries.items keys.now) }
-    ensures len { IfOk result (λ entries. vec_len entries ≡ length keys.now) }
-    ensures names { IfOk result (λ entries. All (λ key. IsName key.name) keys.now) }
+/// The entries of a store's cards, in the order of their places. Each card is read once.
+#[tactic(auto, using(crate::proofs::OpenLemmas::open_steps))]
+pub(crate) fn read_entries(alloc: Global, cards: &mut CardList) -> Result<Vec<Entry>, AllocError>
+    ensures value { IfOk result (λ entries. entries.items ≡ entries_from 1 cards.old.header.cards) }
+    ensures named { IfOk result (λ _. AreNamed cards.old.header.cards) }
+    ensures work { ReadsUpTo cards.old cards.new (length cards.old.header.cards) }
 {
-    let mut entries = entries_of(alloc, keys)?;
-    entries.sort_by_key(|entry| entry.name)?;
+    let mut entries = Vec::new(alloc);
+    for index in 0..cards.len() {
+        entries.push(entry_of(&cards.card(index + 1), index + 1))?;
+    }
     Ok(entries)
 }
 
-// The entries of cards, in the order of their places.
-fn entries_of(alloc: Global, keys: &[Key]) -> Result<Vec<Entry>, AllocError>
-    ensures value { IfOk result (λ entries. entries.items ≡ entries_from 1 keys.now) }
-    ensures len { IfOk result (λ entries. vec_len entries ≡ length keys.now) }
-    ensures names { IfOk result (λ entries. All (λ key. IsName key.name) keys.now) }
+/// The same by the notes of the cards. No card is read.
+#[tactic(auto, using(crate::proofs::OpenLemmas::open_steps))]
+pub(crate) fn noted_entries(
+    alloc: Global,
+    cards: &CardList,
+    notes: &[Note],
+) -> Result<Vec<Entry>, AllocError>
+    requires { notes.now ≡ notes_of cards.now.header.cards }
+    ensures value { IfOk result (λ entries. entries.items ≡ entries_from 1 cards.now.header.cards) }
+    ensures named { IfOk result (λ _. AreNamed cards.now.header.cards) }
 {
     let mut entries = Vec::new(alloc);
-    for index in 0..keys.len() {
-        entries.push(entry_of(&keys[index], index + 1))?;
+    for index in 0..notes.len() {
+        entries.push(noted_entry(&notes[index], index + 1))?;
     }
+    Ok(entries)
+}
+
+/// The index of cards that have these entries, by a stable sort.
+pub(crate) fn sorted(entries: Vec<Entry>) -> Result<Vec<Entry>, AllocError>
+    ensures { (cards : List (List ℕ)) → entries.items ≡ entries_from 1 cards → AreNamed cards
+        → IfOk result (λ index. IsIndexOf index.items cards) }
+{
+    let mut entries = entries;
+    entries.sort_by_key(|entry| entry.name)?;
     Ok(entries)
 }
 
@@ -48,26 +65,19 @@ pub(crate) fn place_for(entries: &[Entry], name: u64, place: usize) -> usize
     })
 }
 
-/// Takes the entries of places out, and shifts the later ones, for as many as come. No entry has a
-/// place after the last one.
+/// Takes the entries of places out, and shifts the later ones, for as many as come.
 ///
 /// Cards that come after all others leave the entries as they are.
-pub(crate) fn make_way(
-    entries: &mut Vec<Entry>,
-    place: usize,
-    removed: usize,
-    coming: usize,
-    last: usize,
-)
+pub(crate) fn make_way(entries: &mut Vec<Entry>, place: usize, removed: usize, coming: usize)
     requires sorted { IsSortedIndex entries.old.items }
     requires low { All (λ e. e.place + coming < 2 ^ 64 + removed) entries.old.items }
-    requires within { All (λ e. e.place ≤ last) entries.old.items }
+    requires within { All (λ e. e.place ≤ length entries.old.items) entries.old.items }
     ensures items { entries.new.items
         ≡ map (shifted place removed coming) (filter (stays place removed) entries.old.items) }
     ensures sorted { IsSortedIndex entries.new.items }
     ensures room { vec_capacity entries.new ≡ vec_capacity entries.old }
 {
-    if last < place {
+    if entries.len() < place {
         return;
     }
     take_out(entries, place, removed, coming);
@@ -84,6 +94,18 @@ pub(crate) fn take_out(entries: &mut Vec<Entry>, place: usize, removed: usize, c
 {
     entries.retain(|entry| entry.place < place || removed <= entry.place - place);
     shift(entries, place, removed, coming);
+}
+
+/// Shifts the entries of places from one on, for one that comes.
+pub(crate) fn open_gap(entries: &mut Vec<Entry>, place: usize)
+    requires sorted { IsSortedIndex entries.old.items }
+    requires low { All (λ e. e.place + 1 < 2 ^ 64) entries.old.items }
+    ensures items { entries.new.items ≡ map (shifted place 0 1) entries.old.items }
+    ensures sorted { IsSortedIndex entries.new.items }
+    ensures len { vec_len entries.new ≡ vec_len entries.old }
+    ensures room { vec_capacity entries.new ≡ vec_capacity entries.old }
+{
+    shift(entries, place, 0, 1);
 }
 
 // Shifts the entries of places from one on.
@@ -105,14 +127,14 @@ pub(crate) fn add_cards(entries: &mut Vec<Entry>, place: usize, cards: &[Card])
     ensures sorted { IsSortedIndex entries.new.items }
     ensures room { vec_capacity entries.new ≡ vec_capacity entries.old }
     ensures len { vec_len entries.new ≡ vec_len entries.old + length cards.now }
-    ensures names { All (λ card. IsName (keyword_name card)) cards.now }
-    ensures same { (xs zs : List Key) → length xs + 1 ≡ place
+    ensures named { AreNamed cards.now }
+    ensures same { (xs zs : List (List ℕ)) → length xs + 1 ≡ place
         → AreSame entries.old.items
         (entries_from 1 xs ++ entries_from (place + length cards.now) zs)
-        → AreSame entries.new.items (entries_from 1 ((xs ++ keys_of cards.now) ++ zs)) }
+        → AreSame entries.new.items (entries_from 1 ((xs ++ cards.now) ++ zs)) }
 {
     for index in 0..cards.len() {
-        add(entries, entry_of(&Key::of(&cards[index]), place + index));
+        add(entries, entry_of(&cards[index], place + index));
     }
 }
 

@@ -1,6 +1,6 @@
 ghost use Rattle.std.specs.Prelude.{◌≡◌, ◌≤◌, ◌+◌, length};
 ghost use Rattle.fits_card.specs.Change.{cards_after, IsInRange};
-ghost use Rattle.fits_header.specs.Key.{keys_of};
+ghost use Rattle.fits_header.specs.Index.{IsIndexOf};
 
 use crate::counting::count_all;
 use crate::counts::Counts;
@@ -38,7 +38,7 @@ impl Model for Header {
     ghost use Rattle.std.specs.Prelude.{◌≡◌, ◌≤◌, ◌<◌, ◌+◌, Ok, length, vec_capacity, vec_len};
     ghost use Rattle.fits_rules.specs.Class.{is_primary};
     ghost use Rattle.fits_rules.specs.Shape.{shape_of};
-    ghost use Rattle.fits_header.specs.Key.{keys_of};
+    ghost use Rattle.fits_header.specs.Index.{IsIndexOf};
     ghost use Rattle.fits_header.specs.Notes.{notes_of};
     ghost use Rattle.fits_header.specs.State.{HeaderState};
     ghost use Rattle.fits_header.specs.Surroundings.{surroundings_of};
@@ -54,7 +54,7 @@ impl Model for Header {
 
     ghost invariant = { λ it. record {
       described : shape_of (is_primary it.shape.class) it.cards.header.cards ≡ Ok it.shape;
-      keys : it.index.keys ≡ keys_of it.cards.header.cards;
+      index : IsIndexOf it.index.entries it.cards.header.cards;
       notes : it.notes.items ≡ notes_of it.cards.header.cards;
       size : vec_len it.notes ≡ length it.cards.header.cards;
       found : 0 < vec_len it.surroundings
@@ -89,7 +89,6 @@ impl Header {
     ghost use Rattle.fits_sum.specs.Words.{word_total};
 
     /// The header that has these cards, which describe this shape. Each card is read once.
-    #[tactic(auto, using(crate::proofs::NoteLemmas::key_steps))]
     pub fn open(alloc: Global, cards: CardList, shape: Shape) -> Result<Header, AllocError>
         requires described { shape_of (is_primary shape.class) cards.header.cards ≡ Ok shape }
         ensures header { IfOk result (λ it. it.header ≡ cards.header) }
@@ -98,7 +97,7 @@ impl Header {
     {
         let mut cards = cards;
         let mut notes = read_notes(alloc, &mut cards)?;
-        let mut index = KeyIndex::of_notes(alloc, &notes)?;
+        let mut index = KeyIndex::of_notes(alloc, &cards, &notes)?;
         index.reserve(cards.room())?;
         notes.reserve(cards.room())?;
         let mut surroundings = Vec::new(alloc);
@@ -302,7 +301,12 @@ impl Header {
             ≡ card_findings self.old.shape self.old.header.cards) }
         ensures same { self.new ≡ self.old }
     {
-        survey(&mut self.surroundings, &self.notes, &self.index);
+        survey(
+            &mut self.surroundings,
+            &self.cards,
+            &self.notes,
+            &self.index,
+        );
         findings_of(alloc, &self.shape, &self.notes, &self.surroundings)
     }
 
@@ -313,7 +317,12 @@ impl Header {
         ensures value { result ≡ codes_at self.old.shape self.old.header.cards place }
         ensures same { self.new ≡ self.old }
     {
-        survey(&mut self.surroundings, &self.notes, &self.index);
+        survey(
+            &mut self.surroundings,
+            &self.cards,
+            &self.notes,
+            &self.index,
+        );
         codes_at(&self.shape, &self.notes, &self.surroundings, place)
     }
 
@@ -326,7 +335,12 @@ impl Header {
     {
         // So few cards have no more codes than the counts can hold.
         let _few = self.cards.len();
-        survey(&mut self.surroundings, &self.notes, &self.index);
+        survey(
+            &mut self.surroundings,
+            &self.cards,
+            &self.notes,
+            &self.index,
+        );
         count_all(&self.shape, &self.notes, &self.surroundings)
     }
 
@@ -339,7 +353,12 @@ impl Header {
             ≡ slice_index_or (header_links self.old.header.cards) (place - 1) false }
         ensures same { self.new ≡ self.old }
     {
-        survey(&mut self.surroundings, &self.notes, &self.index);
+        survey(
+            &mut self.surroundings,
+            &self.cards,
+            &self.notes,
+            &self.index,
+        );
         is_link(&self.surroundings, place - 1)
     }
 
@@ -368,11 +387,11 @@ impl Header {
 // Makes a change of an index, as of the cards.
 #[tactic(auto, using(crate::proofs::HeaderLemmas::change_steps))]
 fn change_index(index: &mut KeyIndex, cards: &CardList, change: &Change)
-    requires keys { index.old.keys ≡ keys_of cards.now.header.cards }
+    requires index { IsIndexOf index.old.entries cards.now.header.cards }
     requires in_range { IsInRange cards.now.header.cards change.now }
     requires room { length (cards_after cards.now.header.cards change.now)
         ≤ length cards.now.header.cards + index.old.room }
-    ensures keys { index.new.keys ≡ keys_of (cards_after cards.now.header.cards change.now) }
+    ensures index { IsIndexOf index.new.entries (cards_after cards.now.header.cards change.now) }
     ensures room { index.new.room + length (cards_after cards.now.header.cards change.now)
         ≡ index.old.room + length cards.now.header.cards }
 {

@@ -3,7 +3,7 @@ ghost use Rattle.std.specs.Prelude.{◌≡◌, ◌≤◌, ◌+◌, ◌<◌, leng
 ghost use Rattle.fits_card.specs.CardList.{ReadsUpTo};
 ghost use Rattle.fits_rules.specs.Shape.{card_named};
 ghost use Rattle.fits_codes.specs.HeaderCodes.{has_counts_in_place, other_first_name, begins_false, blank_said, header_mark_of};
-ghost use Rattle.fits_header.specs.Key.{keys_of};
+ghost use Rattle.fits_header.specs.Index.{IsIndexOf};
 
 use crate::key_index::KeyIndex;
 use fits_card::{CardList, Name};
@@ -13,7 +13,7 @@ use fits_rules::{Class, IntegerSaid, Shape, integer_said};
 /// The mark of a header that has this index and this shape. It takes no memory.
 #[tactic(auto, unfolding(fits_codes::specs::HeaderCodes::header_mark_of))]
 pub(crate) fn header_mark_of(cards: &mut CardList, index: &KeyIndex, shape: &Shape) -> HeaderMark
-    requires keys { index.now.keys ≡ keys_of cards.old.header.cards }
+    requires index { IsIndexOf index.now.entries cards.old.header.cards }
     requires small { length shape.now.axes < 1000 }
     ensures value { result ≡ header_mark_of cards.old.header shape.now }
     ensures work { ReadsUpTo cards.old cards.new 4 }
@@ -77,7 +77,7 @@ fn begins_false(cards: &mut CardList) -> bool
 // What the first BLANK with a value says.
 #[tactic(auto, using(fits_rules::proofs::LeadCardLemmas::lead_card_steps))]
 fn blank_said(cards: &mut CardList, index: &KeyIndex) -> Option<IntegerSaid>
-    requires { index.now.keys ≡ keys_of cards.old.header.cards }
+    requires index { IsIndexOf index.now.entries cards.old.header.cards }
     ensures value { result ≡ blank_said cards.old.header.cards }
     ensures work { ReadsUpTo cards.old cards.new 1 }
 {

@@ -3,7 +3,7 @@ ghost use Rattle.std.specs.Prelude.{◌≡◌, ◌≤◌, ◌+◌, ◌<◌, ◌^
 ghost use Rattle.fits_card.specs.CardList.{ReadsUpTo};
 ghost use Rattle.fits_card.specs.Change.{cards_after, moved, spliced, IsInRange};
 ghost use Rattle.fits_rules.specs.Lead.{AreLeads, is_value_of, lead_card};
-ghost use Rattle.fits_header.specs.Key.{keys_of};
+ghost use Rattle.fits_header.specs.Index.{IsIndexOf};
 ghost use Rattle.fits_header.specs.Places.{cards_within};
 ghost use Rattle.fits_header.specs.Stretch.{cards_in_turn, stretches_moved};
 ghost use Rattle.fits_header.specs.declared.leads.Stretch.{Stretch};
@@ -27,7 +27,7 @@ pub(crate) fn lead_after(
     change: &Change,
     name: &Name,
 ) -> Option<Card>
-    requires keys { index.now.keys ≡ keys_of cards.old.header.cards }
+    requires index { IsIndexOf index.now.entries cards.old.header.cards }
     requires in_range { IsInRange cards.old.header.cards change.now }
     ensures value { result
         ≡ lead_card (cards_after cards.old.header.cards change.now) name.now }
@@ -45,7 +45,7 @@ pub(crate) fn lead_after(
 
 /// The leads that count for a shape, after a change. It takes no memory.
 pub(crate) fn leads_after(cards: &mut CardList, index: &KeyIndex, change: &Change) -> ShapeLeads
-    requires keys { index.now.keys ≡ keys_of cards.old.header.cards }
+    requires index { IsIndexOf index.now.entries cards.old.header.cards }
     requires in_range { IsInRange cards.old.header.cards change.now }
     ensures value { AreLeads (cards_after cards.old.header.cards change.now) result }
     ensures work { ReadsUpTo cards.old cards.new 3 }
@@ -70,7 +70,7 @@ fn lead_spliced(
     new: &[Card],
     name: &Name,
 ) -> Option<Card>
-    requires keys { index.now.keys ≡ keys_of cards.old.header.cards }
+    requires index { IsIndexOf index.now.entries cards.old.header.cards }
     requires from { 1 ≤ place }
     requires to { place + removed ≤ length cards.old.header.cards + 1 }
     ensures value { result
@@ -101,7 +101,7 @@ fn lead_moved(
     to: usize,
     name: &Name,
 ) -> Option<Card>
-    requires keys { index.now.keys ≡ keys_of cards.old.header.cards }
+    requires index { IsIndexOf index.now.entries cards.old.header.cards }
     requires from_first { 1 ≤ from }
     requires from_last { from ≤ length cards.old.header.cards }
     requires to_first { 1 ≤ to }
@@ -156,7 +156,7 @@ fn lead_in_turn(
     stretches: &[Stretch],
     name: &Name,
 ) -> Option<Card>
-    requires keys { index.now.keys ≡ keys_of cards.old.header.cards }
+    requires index { IsIndexOf index.now.entries cards.old.header.cards }
     requires from { All (λ stretch. 1 ≤ stretch.from) stretches.now }
     ensures value { result
         ≡ lead_card (cards_in_turn cards.old.header.cards stretches.now) name.now }
@@ -178,7 +178,7 @@ fn lead_within(
     stretch: Stretch,
     name: &Name,
 ) -> Option<Card>
-    requires keys { index.now.keys ≡ keys_of cards.old.header.cards }
+    requires index { IsIndexOf index.now.entries cards.old.header.cards }
     requires from { 1 ≤ stretch.from }
     ensures value { result
         ≡ lead_card (cards_within cards.old.header.cards stretch.from stretch.to) name.now }

@@ -12,7 +12,6 @@ mod finding;
 mod findings;
 mod header;
 mod header_marks;
-mod key;
 mod key_index;
 mod laws;
 mod leads;
@@ -29,7 +28,6 @@ mod survey;
 pub use counts::Counts;
 pub use finding::Finding;
 pub use header::Header;
-pub use key::Key;
 pub use key_index::KeyIndex;
 pub use laws::{
     links_are_those_of_chains, names_are_those_of_the_cards, numbers_keep_the_order,

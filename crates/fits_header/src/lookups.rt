@@ -1,9 +1,10 @@
 //! What sorted entries answer.
-ghost use Rattle.std.specs.Prelude.{◌≡◌, ◌≤◌, ◌+◌, All, IfOk, filter, length, map, nat_eq};
+ghost use Rattle.std.specs.Prelude.{◌≡◌, ◌≤◌, ◌+◌, ℕ, List, All, IfOk, filter, length, map, nat_eq};
 ghost use Rattle.std.specs.List.{dedup, list_any};
 ghost use Rattle.std.specs.List.Sorted.{IsStrictlyIncreasing};
 ghost use Rattle.fits_header.specs.declared.entry.Entry.{Entry};
-ghost use Rattle.fits_header.specs.Index.{IsSortedIndex, before, first_value, from_place, is_named, places_in};
+ghost use Rattle.fits_header.specs.Findings.{card_of};
+ghost use Rattle.fits_header.specs.Index.{IsIndex, IsIndexOf, IsSortedIndex, before, entry_of, first_value, from_place, is_named, places_in};
 
 use crate::entries::place_for;
 use crate::entry::Entry;
@@ -66,6 +67,22 @@ pub(crate) fn numbers(alloc: Global, entries: &[Entry]) -> Result<Vec<u64>, Allo
     }
     names.dedup();
     Ok(names)
+}
+
+/// The entry of the card at a place.
+pub(crate) fn entry_at(entries: &[Entry], place: usize) -> Entry
+    requires index { IsIndex entries.now }
+    requires from { 1 ≤ place }
+    requires to { place ≤ length entries.now }
+    ensures { (cards : List (List ℕ)) → IsIndexOf entries.now cards
+        → result ≡ entry_of (card_of cards place) place }
+{
+    for entry in entries {
+        if entry.place == place {
+            return *entry;
+        }
+    }
+    unreachable!()
 }
 
 // The entries from a name's first on.

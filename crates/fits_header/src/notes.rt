@@ -2,9 +2,8 @@
 ghost use Rattle.std.specs.Prelude.{◌≡◌, ◌≤◌, ◌+◌, ◌-◌, ◌*◌, ◌^◌, IfOk, length, vec_len, vec_capacity};
 ghost use Rattle.fits_card.specs.CardList.{ReadsUpTo};
 ghost use Rattle.fits_card.specs.Change.{cards_after, spliced, IsInRange};
-ghost use Rattle.fits_header.specs.Notes.{keys_in, notes_of, total_in};
+ghost use Rattle.fits_header.specs.Notes.{notes_of, total_in};
 
-use crate::key::Key;
 use crate::note::{Note, note_of};
 use fits_card::{Card, CardList, Change, make_room, move_item};
 use std::alloc::{AllocError, Global};
@@ -20,20 +19,6 @@ pub(crate) fn read_notes(alloc: Global, cards: &mut CardList) -> Result<Vec<Note
         notes.push(note_of(&cards.card(index + 1)))?;
     }
     Ok(notes)
-}
-
-/// The keys that notes give.
-pub(crate) fn keys_in(alloc: Global, notes: &[Note]) -> Result<Vec<Key>, AllocError>
-    ensures { IfOk result (λ keys. keys.items ≡ keys_in notes.now) }
-{
-    let mut keys = Vec::new(alloc);
-    for note in notes {
-        keys.push(Key {
-            name: note.mark.name,
-            has_value: note.mark.has_value,
-        })?;
-    }
-    Ok(keys)
 }
 
 /// The totals of notes, added up.

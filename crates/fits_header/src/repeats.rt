@@ -1,9 +1,8 @@
 //! Names that earlier cards have, by one pass over the sorted entries.
-ghost use Rattle.std.specs.Prelude.{◌≡◌, ◌≤◌, ◌<◌, ◌-◌, ℕ, List, All, length, slice_index_or, slice_set};
-ghost use Rattle.fits_header.specs.Index.{IsIndexOf, IsSortedIndex};
-ghost use Rattle.fits_header.specs.Names.{name_number};
-ghost use Rattle.fits_header.specs.Repeats.{marked_at, marked_by};
-ghost use Rattle.fits_header.specs.declared.key.Key.{Key};
+ghost use Rattle.std.specs.Prelude.{◌≡◌, ◌<◌, ℕ, List, length, slice_index_or, slice_set};
+ghost use Rattle.fits_header.specs.Index.{IsIndex, IsIndexOf};
+ghost use Rattle.fits_header.specs.Repeats.{marked_by};
+ghost use Rattle.fits_header.specs.Surroundings.{AreRepeatsMarked};
 ghost use Rattle.fits_header.specs.declared.surrounding.Surrounding.{Surrounding};
 
 use crate::entry::Entry;
@@ -16,15 +15,11 @@ use crate::surrounding::Surrounding;
 /// The entries of a name stand together, by place: what was seen of a name is all that stands
 /// before.
 pub(crate) fn mark_repeats(entries: &[Entry], surroundings: &mut [Surrounding])
-    requires sorted { IsSortedIndex entries.now }
-    requires from { All (λ e. 1 ≤ e.place) entries.now }
-    requires to { All (λ e. e.place ≤ length surroundings.old) entries.now }
+    requires index { IsIndex entries.now }
+    requires size { length surroundings.old ≡ length entries.now }
     ensures len { length surroundings.new ≡ length surroundings.old }
-    ensures marked { (keys : List Key) → IsIndexOf entries.now keys
-        → (place : ℕ) (key : Key) (d : Surrounding) → 1 ≤ place → place ≤ length keys
-        → key ≡ slice_index_or keys (place - 1) key
-        → slice_index_or surroundings.new (place - 1) d ≡ marked_at keys place
-        (name_number key.name) (slice_index_or surroundings.old (place - 1) d) }
+    ensures marked { (cards : List (List ℕ)) → IsIndexOf entries.now cards
+        → AreRepeatsMarked cards surroundings.old surroundings.new }
 {
     let mut seen = Seen {
         name: 0,

@@ -6,7 +6,7 @@ use Rattle.fits_header.proofs.header.Header.apply.Goals as goal
 pub invariant_of-self : goal.invariant_of-self
 invariant_of-self c = record {
   described = search (rules, kept_steps);
-  keys = search (rules, kept_steps);
+  index = search (rules, kept_steps);
   notes = search (rules, kept_steps);
   size = search (rules, kept_steps);
   found = grind (arith);

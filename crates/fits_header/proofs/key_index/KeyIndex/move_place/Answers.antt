@@ -1,16 +1,14 @@
-use Rattle.std.proofs.Common.{arith, subst, sym}
-use Rattle.std.specs.List.{All}
-use Rattle.fits_header.specs.Names.{IsName}
-use Rattle.fits_header.specs.declared.key.Key.{Key}
-use Rattle.fits_header.proofs.ChangeLemmas.{All-moved}
+use Rattle.std.proofs.Common.{◌≡◌, subst}
+use Rattle.fits_card.specs.Change.{moved}
+use Rattle.fits_header.specs.Index.{IsIndexOf}
 use Rattle.fits_header.proofs.key_index.KeyIndex.move_place.Goals as goal
 
 pub invariant_of-self : goal.invariant_of-self
-invariant_of-self c = record {
-  entries = c.move_beside.ensures.index;
-  names = subst (All (λ (key : Key). IsName key.name)) (sym c.move_beside.ensures.keys)
-      (All-moved (λ (key : Key). IsName key.name) c.self.inside.keys.items c.args.from c.args.to c.self.invariant.names);
-  size = c.move_beside.ensures.size;
-  room_of_keys = omega arith;
-  room_of_entries = omega arith;
-}
+invariant_of-self c =
+    let index = c.self.invariant in
+    record { cards = moved index.cards c.args.from c.args.to; theirs = c.move_entry.ensures.index index.cards index.theirs }
+
+pub returns-clause-index : goal.returns-clause-index
+returns-clause-index c cards is =
+    let same : c.args.self.now.entries ≡ c.self.inside.entries.items = cc in
+    c.move_entry.ensures.index cards (subst (λ es. IsIndexOf es cards) same is)

@@ -1,19 +1,14 @@
-use Rattle.std.proofs.Common.{arith, subst, sym}
-use Rattle.std.specs.List.{All}
-use Rattle.std.proofs.lemmas.List.Elements.{All-map}
-use Rattle.fits_header.specs.Key.{key_of, keys_of}
-use Rattle.fits_header.specs.Names.{IsName}
-use Rattle.fits_header.specs.declared.key.Key.{Key}
-use Rattle.fits_header.proofs.ChangeLemmas.{All-spliced}
+use Rattle.std.proofs.Common.{◌≡◌, subst}
+use Rattle.fits_card.specs.Change.{spliced}
+use Rattle.fits_header.specs.Index.{IsIndexOf}
 use Rattle.fits_header.proofs.key_index.KeyIndex.splice.Goals as goal
 
 pub invariant_of-self : goal.invariant_of-self
-invariant_of-self c = record {
-  entries = c.splice_beside.ensures.index;
-  names = subst (All (λ (key : Key). IsName key.name)) (sym c.splice_beside.ensures.keys)
-      (All-spliced (λ (key : Key). IsName key.name) c.self.inside.keys.items (keys_of c.args.cards.now) c.args.place c.args.removed c.self.invariant.names
-      (All-map (λ (key : Key). IsName key.name) key_of c.args.cards.now c.splice_beside.ensures.names));
-  size = c.splice_beside.ensures.size;
-  room_of_keys = omega arith;
-  room_of_entries = omega arith;
-}
+invariant_of-self c =
+    let index = c.self.invariant in
+    record { cards = spliced index.cards c.args.place c.args.removed c.args.cards.now; theirs = c.splice_entries.ensures.index index.cards index.theirs }
+
+pub returns-clause-index : goal.returns-clause-index
+returns-clause-index c old is =
+    let same : c.args.self.now.entries ≡ c.self.inside.entries.items = cc in
+    c.splice_entries.ensures.index old (subst (λ es. IsIndexOf es old) same is)

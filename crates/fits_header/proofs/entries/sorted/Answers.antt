@@ -5,15 +5,16 @@ use Rattle.std.proofs.lemmas.List.Sorted.{answers_always, IsNonDecreasingBy-from
 use Rattle.fits_header.specs.declared.entry.Entry.{Entry}
 use Rattle.fits_header.specs.Index.{AreSame, entries_from}
 use Rattle.fits_header.proofs.OpenLemmas.{same_from_stable, sorted_from_stable}
-use Rattle.fits_header.proofs.entries.index_of.Goals as goal
+use Rattle.fits_header.proofs.entries.sorted.Goals as goal
 
-pub returns-clause-value : goal.returns-clause-value
-returns-clause-value c =
-    let stable : IsStableByKey (λ (e : Entry). e.name) nat_cmp c.in_ok-entries.entries.items c.sort_by_key.new.self.items =
+pub returns : goal.returns
+returns c cards are named =
+    let stable : IsStableByKey (λ (e : Entry). e.name) nat_cmp c.args.entries.items c.sort_by_key.new.self.items =
     c.sort_by_key.ensures.stable (λ (e : Entry). e.name) (answers_always _ _ _ (λ f a r g called. search rules)) in
-    let same : AreSame c.sort_by_key.new.self.items (entries_from 1 c.args.keys.now) =
-    subst (AreSame c.sort_by_key.new.self.items) c.in_ok-entries.ensures.value (same_from_stable _ _ stable) in
+    let same : AreSame c.sort_by_key.new.self.items (entries_from 1 cards) =
+    subst (AreSame c.sort_by_key.new.self.items) are (same_from_stable _ _ stable) in
     record {
       sorted = sorted_from_stable _ _ (IsNonDecreasingBy-from_sort_by_key (λ (e : Entry). e.name) _ c.in_ok-sort_by_key.ensures.sorted (λ a r q k. search rules)) same;
       same = same;
+      named = named;
     }
