@@ -18,13 +18,11 @@ use Rattle.fits_card.proofs.HeaderLemmas.{length-header_bytes}
 use Rattle.fits_rules.specs.Class.{extension_class}
 use Rattle.fits_rules.specs.Lead.{is_value_of, lead_card}
 use Rattle.fits_rules.specs.Reads.{integer_said}
-use Rattle.fits_rules.specs.Shape.{Describes, axis_name, axis_of, bitpix_in, bitpix_of, card_named, count_of, first_card, naxis_of, shape_of, up_to}
-use Rattle.fits_rules.specs.ShapeSteps.{count_by, count_said}
+use Rattle.fits_rules.specs.Shape.{Describes, axis_name, axis_of, bitpix_in, bitpix_of, card_named, class_of, count_of, count_said, first_card, naxis_of, shape_of, up_to}
 use Rattle.fits_rules.specs.Size.{data_length}
 use Rattle.fits_rules.specs.declared.class.Class.TheVariants.{Image}
 use Rattle.fits_rules.proofs.DescribesLemmas.{describes}
-use Rattle.fits_rules.proofs.ShapeLeadLemmas as counts
-use Rattle.fits_rules.proofs.ShapeLemmas.{axis_there, bitpix_there, class_extension, first_named, naxis_there, named_same}
+use Rattle.fits_rules.proofs.ShapeLemmas.{axis_there, bitpix_there, first_named, naxis_there, named_same}
 use Rattle.fits_value.specs.Spelling.{is_digit}
 use Rattle.fits_value.proofs.WrittenLemmas.{narrower, none_text, text_both, text_more, text_spaces}
 use Rattle.fits_hdu.specs.Hdu.{IsHdu, hdu_bytes}
@@ -432,10 +430,15 @@ gcount_lead kind axes are =
     lead_by (codes "GCOUNT  ") kind axes _ gcount_later are (passed (codes "GCOUNT  ") (codes "PCOUNT  ") pcount (gcount ∷ offset_list kind) pcount_is refl ∙ leads_here (codes "GCOUNT  ") gcount (offset_list kind) gcount_is)
 
 -- a count of an image is what its lead says
-lead_counts : (cards : List (List ℕ)) (name card : List ℕ) (default n : ℕ) → lead_card cards name ≡ Some card → integer_said card ≡ Some (pos n) → n ≤ 9223372036854775807 → count_of Image cards name default ≡ Ok n
-unfolding count_by
-lead_counts cards name card default n lead said small =
-    counts.from_lead Image cards name default n (ap (count_said default) lead ∙ (ap (option_and_then (up_to 9223372036854775807)) said ∙ within 9223372036854775807 n small))
+lead_counts : (lead : Option (List ℕ)) (card : List ℕ) (default n : ℕ) → lead ≡ Some card → integer_said card ≡ Some (pos n) → n ≤ 9223372036854775807 → count_of Image lead default ≡ Some n
+unfolding count_of
+lead_counts lead card default n is said small =
+    ap (λ l. count_said l default) is ∙ (ap (option_and_then (up_to 9223372036854775807)) said ∙ within 9223372036854775807 n small)
+
+-- the class is that of an image
+image_class : (axes : List ℕ) (groups : Option (List ℕ)) → class_of false xtension_card axes groups ≡ Image
+unfolding class_of
+image_class axes groups = ap extension_class xtension_card_said
 
 -- the cards describe the image
 pub image_list_describes : (kind : Kind) (axes : List ℕ) → AreAxesFrom 1 axes → Describes false (image_list kind axes) (image_shape kind axes)
@@ -445,9 +448,9 @@ image_list_describes kind axes are = record {
   bitpix = image_bitpix kind axes;
   naxis = image_naxis kind axes are;
   axes = λ n h. image_axis kind axes n are h;
-  class = sym (class_extension (image_list kind axes) xtension_card axes false Image refl (sym (ap extension_class xtension_card_said)));
-  pcount = lead_counts (image_list kind axes) (codes "PCOUNT  ") (number_card (codes "PCOUNT  ") (pos 0)) 0 0 (pcount_lead kind axes are) (number_card_said (codes "PCOUNT  ") (pos 0) pcount_name (omega arith)) (omega arith);
-  gcount = lead_counts (image_list kind axes) (codes "GCOUNT  ") (number_card (codes "GCOUNT  ") (pos 1)) 1 1 (gcount_lead kind axes are) (number_card_said (codes "GCOUNT  ") (pos 1) gcount_name (omega arith)) (omega arith);
+  class = image_class axes (lead_card (image_list kind axes) (codes "GROUPS  "));
+  pcount = lead_counts (lead_card (image_list kind axes) (codes "PCOUNT  ")) (number_card (codes "PCOUNT  ") (pos 0)) 0 0 (pcount_lead kind axes are) (number_card_said (codes "PCOUNT  ") (pos 0) pcount_name (omega arith)) (omega arith);
+  gcount = lead_counts (lead_card (image_list kind axes) (codes "GCOUNT  ")) (number_card (codes "GCOUNT  ") (pos 1)) 1 1 (gcount_lead kind axes are) (number_card_said (codes "GCOUNT  ") (pos 1) gcount_name (omega arith)) (omega arith);
 }
 
 -- so they have its shape

@@ -17,7 +17,7 @@ apply_reads = judge_reads + lead_reads
 
 -- an HDU is opened by so many: its shape is read, then each card for what is kept beside it, and then what a change reads
 abbrev pub open_reads : List (List ℕ) → ℕ
-open_reads cards = 5 * length cards + 7 + apply_reads
+open_reads cards = 4 * length cards + 4 + apply_reads
 
 -- a keyword is read by so many: the cards of its lead's value, and one
 unfoldable pub keyword_reads : List (List ℕ) → List ℕ → ℕ

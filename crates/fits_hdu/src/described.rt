@@ -44,7 +44,7 @@ pub(crate) fn read_described<R: Source>(
     ensures len { IfOk result (λ head. head.unit_len ≡ data_length head.shape) }
     ensures room { IfOk result (λ head. head.unit_len ≤ intake.new) }
     ensures work { IfOk result (λ head. head.cards.reads
-        ≤ 4 * length head.cards.header.cards + 7) }
+        ≤ 3 * length head.cards.header.cards + 4) }
     ensures quiet { OnOk result (R.failures source.new ≡ R.failures source.old) }
     ensures err { IfErr result (HduStops primary first.items
         (R.remaining source.old) (R.remaining source.new) intake.old intake.new

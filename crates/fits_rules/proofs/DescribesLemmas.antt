@@ -1,15 +1,13 @@
 -- What a header says of each part of the shape that it describes.
-use Rattle.std.proofs.Common.{◌≡◌, ℕ, zero, suc, ◌+◌, ◌<◌, ◌≤◌, Bool, true, false, List, [], ◌∷◌, length, take, get_or, codes, Option, None, Some, ok_or, Ok, refl, ap, sym, ◌∙◌, subst, arith}
+use Rattle.std.proofs.Common.{◌≡◌, ℕ, zero, suc, ◌+◌, ◌<◌, ◌≤◌, Bool, List, [], ◌∷◌, length, take, get_or, codes, Option, None, Some, ok_or, Ok, refl, ap, sym, ◌∙◌, subst, arith}
 use Rattle.std.specs.Prelude.{ℤ}
 use Rattle.std.specs.List.{EachIndex, range_with_len, slice_get}
 use Rattle.std.proofs.lemmas.List.{take_more, take_all}
-use Rattle.std.proofs.lemmas.Bool.{false_from_ne_true}
 use Rattle.std.proofs.lemmas.Option.{slice_get-get_or}
+use Rattle.fits_rules.specs.Lead.{lead_card, lead_or_end}
 use Rattle.fits_rules.specs.Shape.{each, ◌>>=◌, first_card, bitpix_of, naxis_of, axis_of, axes_of, class_of, count_of, shape_of, Describes}
-use Rattle.fits_rules.specs.SameShape.{same_shape}
 use Rattle.fits_rules.specs.declared.array_shape.Shape.{Shape}
 use Rattle.fits_rules.proofs.AxesLemmas.{bind_ok, axes_begin, axes_more}
-use Rattle.fits_rules.proofs.SameShapeLemmas.{same_shape-Decides}
 
 -- an option is there where no error stands for it
 pub ok_or_ok : {X : Type 0} (o : Option X) (place : ℕ) (x : X) → ok_or o place ≡ Ok x → o ≡ Some x
@@ -62,8 +60,9 @@ axes_found cards axes there = axes_to cards axes there (length axes) (omega arit
 -- the parts of a shape are what the cards say
 parts_described : (primary : Bool) (cards : List (List ℕ)) (first : List ℕ) (bitpix : ℤ) (naxis : ℕ) (axes : List ℕ) (pcount gcount : ℕ)
     → first_card primary cards ≡ Some first → bitpix_of cards ≡ Some bitpix → naxis_of cards ≡ Some naxis → axes_of cards naxis ≡ Ok axes
-    → count_of (class_of primary cards first axes) cards (codes "PCOUNT  ") 0 ≡ Ok pcount → count_of (class_of primary cards first axes) cards (codes "GCOUNT  ") 1 ≡ Ok gcount
-    → Describes primary cards (record { class = class_of primary cards first axes; bitpix = bitpix; axes = axes; pcount = pcount; gcount = gcount })
+    → (let class = class_of primary first axes (lead_card cards (codes "GROUPS  ")) in
+    count_of class (lead_card cards (codes "PCOUNT  ")) 0 ≡ Some pcount → count_of class (lead_card cards (codes "GCOUNT  ")) 1 ≡ Some gcount
+    → Describes primary cards (record { class = class; bitpix = bitpix; axes = axes; pcount = pcount; gcount = gcount }))
 parts_described primary cards first bitpix naxis axes pcount gcount f b n a p g =
     let are : AreAxes cards axes 1 naxis = axes_are cards naxis axes a in
     record {
@@ -85,25 +84,19 @@ described primary cards shape e =
     let bitpix = bind_ok (ok_or (bitpix_of cards) 2) _ shape first.2 in
     let naxis = bind_ok (ok_or (naxis_of cards) 3) _ shape bitpix.2 in
     let axes = bind_ok (axes_of cards naxis.0) _ shape naxis.2 in
-    let class = class_of primary cards first.0 axes.0 in
-    let pcount = bind_ok (count_of class cards (codes "PCOUNT  ") 0) _ shape axes.2 in
-    let gcount = bind_ok (count_of class cards (codes "GCOUNT  ") 1) _ shape pcount.2 in
+    let class = class_of primary first.0 axes.0 (lead_card cards (codes "GROUPS  ")) in
+    let p = count_of class (lead_card cards (codes "PCOUNT  ")) 0 in
+    let g = count_of class (lead_card cards (codes "GCOUNT  ")) 1 in
+    let pcount = bind_ok (ok_or p (lead_or_end cards (codes "PCOUNT  "))) _ shape axes.2 in
+    let gcount = bind_ok (ok_or g (lead_or_end cards (codes "GCOUNT  "))) _ shape pcount.2 in
     let same : Path Shape (record { class = class; bitpix = bitpix.0; axes = axes.0; pcount = pcount.0; gcount = gcount.0 }) shape = cc in
     subst (Describes primary cards) same
     (parts_described primary cards first.0 bitpix.0 naxis.0 axes.0 pcount.0 gcount.0
-    (ok_or_ok (first_card primary cards) 1 first.0 first.1) (ok_or_ok (bitpix_of cards) 2 bitpix.0 bitpix.1) (ok_or_ok (naxis_of cards) 3 naxis.0 naxis.1) axes.1 pcount.1 gcount.1)
+    (ok_or_ok (first_card primary cards) 1 first.0 first.1) (ok_or_ok (bitpix_of cards) 2 bitpix.0 bitpix.1) (ok_or_ok (naxis_of cards) 3 naxis.0 naxis.1) axes.1
+    (ok_or_ok p (lead_or_end cards (codes "PCOUNT  ")) pcount.0 pcount.1) (ok_or_ok g (lead_or_end cards (codes "GCOUNT  ")) gcount.0 gcount.1))
 
 -- and what a header describes is its shape
 pub describes : (primary : Bool) (cards : List (List ℕ)) (shape : Shape) → Describes primary cards shape → shape_of primary cards ≡ Ok shape
 unfolding shape_of
 describes primary cards shape d =
     rw (d.begins, d.bitpix, d.naxis, axes_found cards shape.axes d.axes, d.class, d.pcount, d.gcount) refl
-
--- a comparison answers so
-pub kept : (primary : Bool) (cards : List (List ℕ)) (shape : Shape) → Describes primary cards shape → same_shape (Ok shape) (shape_of primary cards) ≡ true
-kept primary cards shape d = (same_shape-Decides shape (shape_of primary cards)).1 (describes primary cards shape d)
-
--- and so does another shape, or none
-pub lost : (primary : Bool) (cards : List (List ℕ)) (shape : Shape) → (Describes primary cards shape → ⊥) → same_shape (Ok shape) (shape_of primary cards) ≡ false
-lost primary cards shape other =
-    false_from_ne_true (same_shape (Ok shape) (shape_of primary cards)) (λ same. other (described primary cards shape ((same_shape-Decides shape (shape_of primary cards)).0 same)))

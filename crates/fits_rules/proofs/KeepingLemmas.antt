@@ -1,32 +1,30 @@
 -- Splices that keep a shape.
 use Rattle.std.proofs.Common.{◌≡◌, ℕ, ◌+◌, ◌-◌, ◌<◌, ◌≤◌, Bool, false, cond, List, [], ◌∷◌, ◌++◌, length, get_or, take, drop, codes, Option, None, Some, option_and_then, Ok, inl, inr, refl, ap, sym, ◌∙◌, arith, length-append, take-append-drop}
-use Rattle.std.specs.Prelude.{◌≢◌, ◌&&◌, nat_lt}
-use Rattle.std.specs.List.{All, find, position_or_len, slice_get}
-use Rattle.std.specs.Option.{option_map, option_or}
+use Rattle.std.specs.Prelude.{◌≢◌, ◌&&◌}
+use Rattle.std.specs.List.{All, find, slice_get}
+use Rattle.std.specs.Option.{option_or}
 use Rattle.std.specs.Str.{bytes_eq}
 use Rattle.std.proofs.Math.ListN.{get_or-append}
-use Rattle.std.proofs.lemmas.Bool.{cases_Bool, cond-true, cond-false, false_from_ne_true, ltb-false, cases_lt}
+use Rattle.std.proofs.lemmas.Bool.{cond-false, false_from_ne_true, cases_lt}
 use Rattle.std.proofs.lemmas.List.{drop-drop, length-take}
 use Rattle.std.proofs.lemmas.List.Elements.{All-cons, All-nil, All-head, All-tail}
-use Rattle.std.proofs.lemmas.List.Folds.{find-append, find_at}
-use Rattle.std.proofs.lemmas.Option.{slice_get_past, slice_get-get_or}
+use Rattle.std.proofs.lemmas.List.Folds.{find-append}
+use Rattle.std.proofs.lemmas.Option.{slice_get-get_or}
 use Rattle.std.proofs.lemmas.Slice.Eq.{bytes_eq-Decides}
 use Rattle.fits_card.specs.Card.{keyword_name, has_value}
 use Rattle.fits_card.specs.Change.{spliced}
 use Rattle.fits_card.specs.Header.{card_at}
-use Rattle.fits_rules.specs.Lead.{is_value_of, lead_place, lead_card}
+use Rattle.fits_rules.specs.Lead.{is_value_of, lead_card}
 use Rattle.fits_rules.specs.Reads.{integer_said}
 use Rattle.fits_rules.specs.SameShape.{IsUncounted}
 use Rattle.fits_rules.specs.Shape.{up_to, bitpix_in, if_named, axis_name, card_named, first_card, bitpix_of, naxis_of, axis_of, class_of, count_of, shape_of, Describes}
-use Rattle.fits_rules.specs.ShapeSteps.{class_by, count_by}
 use Rattle.fits_rules.specs.declared.axis_buffer.TheConstants.{MOST_AXES}
 use Rattle.fits_rules.specs.declared.rules.TheConstants.{LARGEST}
-use Rattle.fits_rules.specs.declared.class.Class.{Class}
 use Rattle.fits_rules.specs.declared.array_shape.Shape.{Shape}
 use Rattle.fits_rules.proofs.AxesLemmas.{axis_within}
 use Rattle.fits_rules.proofs.DescribesLemmas.{described, describes}
 use Rattle.fits_rules.proofs.NearLemmas.{naxis_within}
-use Rattle.fits_rules.proofs.ShapeLeadLemmas.{class_of-lead, by_lead, from_lead}
+use Rattle.fits_rules.proofs.LeadCardLemmas.{lead_card-find}
 
 -- what holds of each element, and what follows from it
 weaker : {X : Type 0} (P Q : X → Type 0) (xs : List X) → ((x : X) → P x → Q x) → All P xs → All Q xs
@@ -47,20 +45,6 @@ three_parts xs k removed =
 found_past : {X : Type 0} (p : X → Bool) (before between after : List X) → All (λ x. p x ≡ false) between → find p (before ++ (between ++ after)) ≡ option_or (find p before) (find p after)
 found_past p before between after none =
     find-append p before (between ++ after) ∙ ap (option_or (find p before)) (find-append p between after ∙ ap (λ o. option_or o (find p after)) (find_past p between none))
-
--- the lead is the first card that has the name and a value
-lead_card-find : (cards : List (List ℕ)) (name : List ℕ) → lead_card cards name ≡ find (is_value_of name) cards
-unfolding lead_card lead_place
-lead_card-find cards name =
-    let at = position_or_len (is_value_of name) cards in
-    elim (cases_Bool (nat_lt at (length cards))) [
-      | inl within ↦
-          ap (λ o. option_and_then (card_at cards) (option_map (λ index. index + 1) o)) (cond-true (nat_lt at (length cards)) (Some at) None within)
-          ∙ (ap (slice_get cards) (omega arith) ∙ sym (find_at (is_value_of name) cards))
-      | inr past ↦
-          ap (λ o. option_and_then (card_at cards) (option_map (λ index. index + 1) o)) (cond-false (nat_lt at (length cards)) (Some at) None past)
-          ∙ sym (find_at (is_value_of name) cards ∙ slice_get_past cards at (ltb-false at (length cards) past))
-    ]
 
 -- a card of another name is no lead
 and_false : (a b : Bool) → a ≡ false → (a && b) ≡ false
@@ -121,14 +105,6 @@ axis_same : (after cards : List (List ℕ)) (n : ℕ) → HaveSame after cards (
 unfolding axis_of card_named
 axis_same after cards n same = ap (λ (c : Option (List ℕ)). option_and_then (up_to LARGEST) (option_and_then integer_said (option_and_then (if_named (axis_name n)) c))) same
 
--- two headers with the same lead of GROUPS have the same class
-class_same : (primary : Bool) (after cards : List (List ℕ)) (first axes : List ℕ) → lead_card after (codes "GROUPS  ") ≡ lead_card cards (codes "GROUPS  ") → class_of primary after first axes ≡ class_of primary cards first axes
-class_same primary after cards first axes same = class_of-lead primary after first axes ∙ (ap (class_by primary first axes) same ∙ sym (class_of-lead primary cards first axes))
-
--- two headers with the same lead of a name have the same count
-count_same : (class : Class) (after cards : List (List ℕ)) (name : List ℕ) (default n : ℕ) → lead_card after name ≡ lead_card cards name → count_of class cards name default ≡ Ok n → count_of class after name default ≡ Ok n
-count_same class after cards name default n same e = from_lead class after name default n (ap (λ (lead : Option (List ℕ)). count_by class lead default) same ∙ by_lead class cards name default n e)
-
 -- a shape has the cards of its axes
 described_within : (primary : Bool) (cards : List (List ℕ)) (shape : Shape) → Describes primary cards shape → 3 + length shape.axes ≤ length cards
 described_within primary cards shape d = elim (cases_lt 0 (length shape.axes)) [
@@ -158,9 +134,9 @@ splice_describes primary cards new place removed shape d later taken brought =
       bitpix = bitpix_same after cards (same 2 (omega arith) (omega arith)) ∙ d.bitpix;
       naxis = naxis_same after cards (same 3 (omega arith) (omega arith)) ∙ d.naxis;
       axes = λ n inside. axis_same after cards (n + 1) (same (3 + (n + 1)) (omega arith) (omega arith)) ∙ d.axes n inside;
-      class = class_same primary after cards d.first shape.axes groups ∙ d.class;
-      pcount = count_same shape.class after cards (codes "PCOUNT  ") 0 shape.pcount pcount d.pcount;
-      gcount = count_same shape.class after cards (codes "GCOUNT  ") 1 shape.gcount gcount d.gcount;
+      class = ap (class_of primary d.first shape.axes) groups ∙ d.class;
+      pcount = ap (λ lead. count_of shape.class lead 0) pcount ∙ d.pcount;
+      gcount = ap (λ lead. count_of shape.class lead 1) gcount ∙ d.gcount;
     }
 
 -- and so its shape

@@ -7,16 +7,15 @@ use Rattle.std.proofs.lemmas.Bool.{cases_Bool, cond-true, cond-false, leb-true}
 use Rattle.std.proofs.lemmas.List.Elements.{All-cons, All-nil}
 use Rattle.std.proofs.lemmas.Option.{option_and_then_some, cond_some}
 use Rattle.fits_rules.specs.Class.{is_primary, has_counts, extension_class}
-use Rattle.fits_card.specs.Header.{card_at}
-use Rattle.fits_rules.specs.Lead.{lead_place}
+use Rattle.fits_rules.specs.Lead.{lead_card}
 use Rattle.fits_rules.specs.Reads.{integer_said, string_said}
-use Rattle.fits_rules.specs.Shape.{up_to, is_bitpix, bitpix_in, integer_named, bitpix_of, naxis_of, axis_name, axis_of, has_group_axes, says_groups, class_of, count_at, count_of, shape_of, IsBounded}
+use Rattle.fits_rules.specs.Shape.{up_to, is_bitpix, bitpix_in, integer_named, bitpix_of, naxis_of, axis_name, axis_of, has_group_axes, says_groups, class_of, count_said, count_of, shape_of, IsBounded}
 use Rattle.fits_rules.specs.declared.axis_buffer.TheConstants.{MOST_AXES}
 use Rattle.fits_rules.specs.declared.rules.TheConstants.{LARGEST}
 use Rattle.fits_rules.specs.declared.class.Class.{Class}
 use Rattle.fits_rules.specs.declared.class.Class.TheVariants.{Primary, Groups, Image, Table, Other}
 use Rattle.fits_rules.specs.declared.array_shape.Shape.{Shape}
-use Rattle.fits_rules.proofs.DescribesLemmas.{ok_or_ok, described}
+use Rattle.fits_rules.proofs.DescribesLemmas.{described}
 use Rattle.fits_rules.proofs.NearLemmas.{broken_is_near}
 
 -- a number that was kept is below its limit
@@ -57,19 +56,18 @@ axes_bound cards (axis ∷ axes) first there =
     All-cons (λ (axis : ℕ). axis ≤ LARGEST) axis axes (axis_bound cards (first + 0) axis (there 0 (omega arith)))
     (axes_bound cards axes (first + 1) (λ n within. let same : first + 1 + n ≡ first + suc n = omega arith in ap (axis_of cards) same ∙ there (suc n) (omega arith)))
 
--- a count is below its limit
-counted_bound : (cards : List (List ℕ)) (default n : ℕ) (o : Option ℕ) → default ≤ LARGEST → count_at cards default o ≡ Ok n → n ≤ LARGEST
-counted_bound cards default n None small e = let same : n ≡ default = cc in omega arith
-counted_bound cards default n (Some lead) small e =
-    said_bound LARGEST (option_and_then integer_said (card_at cards lead)) n (ok_or_ok (option_and_then (up_to LARGEST) (option_and_then integer_said (card_at cards lead))) lead n e)
+-- a count that a lead says is below its limit
+counted_bound : (lead : Option (List ℕ)) (default n : ℕ) → default ≤ LARGEST → count_said lead default ≡ Some n → n ≤ LARGEST
+counted_bound None default n small e = let same : n ≡ default = cc in omega arith
+counted_bound (Some card) default n small e = said_bound LARGEST (integer_said card) n e
 
 -- PCOUNT and GCOUNT
-count_bound : (class : Class) (cards : List (List ℕ)) (name : List ℕ) (default n : ℕ) → default ≤ LARGEST → count_of class cards name default ≡ Ok n → n ≤ LARGEST
+count_bound : (class : Class) (lead : Option (List ℕ)) (default n : ℕ) → default ≤ LARGEST → count_of class lead default ≡ Some n → n ≤ LARGEST
 unfolding count_of
-count_bound class cards name default n small e = elim (cases_Bool (has_counts class)) [
-  | inl some ↦ counted_bound cards default n (lead_place cards name) small (sym (cond-true (has_counts class) (count_at cards default (lead_place cards name)) (Ok default) some) ∙ e)
+count_bound class lead default n small e = elim (cases_Bool (has_counts class)) [
+  | inl some ↦ counted_bound lead default n small (sym (cond-true (has_counts class) (count_said lead default) (Some default) some) ∙ e)
   | inr none ↦
-      let d : Ok default ≡ Ok n = sym (cond-false (has_counts class) (count_at cards default (lead_place cards name)) (Ok default) none) ∙ e in
+      let d : Some default ≡ Some n = sym (cond-false (has_counts class) (count_said lead default) (Some default) none) ∙ e in
       let same : n ≡ default = cc in
       omega arith
 ]
@@ -91,10 +89,10 @@ extension_primary None = refl
 extension_primary (Some text) = extension_choice (bytes_eq text (codes "IMAGE")) (bytes_eq text (codes "TABLE"))
 
 -- so the class is of the primary HDU where the HDU is
-class_primary : (primary : Bool) (cards : List (List ℕ)) (first axes : List ℕ) → is_primary (class_of primary cards first axes) ≡ primary
+class_primary : (primary : Bool) (first axes : List ℕ) (groups : Option (List ℕ)) → is_primary (class_of primary first axes groups) ≡ primary
 unfolding class_of
-class_primary true cards first axes = primary_choice (has_group_axes axes && says_groups cards)
-class_primary false cards first axes = extension_primary (string_said first)
+class_primary true first axes groups = primary_choice (has_group_axes axes && says_groups groups)
+class_primary false first axes groups = extension_primary (string_said first)
 
 -- the numbers of a shape are in their ranges
 pub shape_bounded : (primary : Bool) (cards : List (List ℕ)) (shape : Shape) → shape_of primary cards ≡ Ok shape → IsBounded shape
@@ -104,14 +102,14 @@ shape_bounded primary cards shape e =
       bitpix = bitpix_bound cards shape.bitpix d.bitpix;
       count = naxis_bound cards (length shape.axes) d.naxis;
       axes = axes_bound cards shape.axes 1 (λ n within. let same : 1 + n ≡ n + 1 = omega arith in ap (axis_of cards) same ∙ d.axes n within);
-      pcount = count_bound shape.class cards (codes "PCOUNT  ") 0 shape.pcount (omega arith) d.pcount;
-      gcount = count_bound shape.class cards (codes "GCOUNT  ") 1 shape.gcount (omega arith) d.gcount;
+      pcount = count_bound shape.class (lead_card cards (codes "PCOUNT  ")) 0 shape.pcount (omega arith) d.pcount;
+      gcount = count_bound shape.class (lead_card cards (codes "GCOUNT  ")) 1 shape.gcount (omega arith) d.gcount;
     }
 
 -- and its class is that of its HDU
 pub shape_primary : (primary : Bool) (cards : List (List ℕ)) (shape : Shape) → shape_of primary cards ≡ Ok shape → is_primary shape.class ≡ primary
 shape_primary primary cards shape e =
     let d = described primary cards shape e in
-    ap is_primary (sym d.class) ∙ class_primary primary cards d.first shape.axes
+    ap is_primary (sym d.class) ∙ class_primary primary d.first shape.axes (lead_card cards (codes "GROUPS  "))
 
 pub ruleset laws = (broken_is_near, shape_bounded, shape_primary)

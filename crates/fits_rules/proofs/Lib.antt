@@ -1,5 +1,4 @@
 pub mod AxesLemmas
-pub mod CompareLemmas
 pub mod DenotesLemmas
 pub mod DescribesLemmas
 pub mod IntegerLemmas
@@ -11,7 +10,6 @@ pub mod NearLemmas
 pub mod PartLemmas
 pub mod ReadLemmas
 pub mod SameShapeLemmas
-pub mod ShapeLeadLemmas
 pub mod ShapeLemmas
 pub mod SizeLemmas
 pub mod StandardFacts

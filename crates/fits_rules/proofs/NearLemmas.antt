@@ -1,17 +1,13 @@
 -- A broken place is that of a card, or one past the last.
-use Rattle.std.proofs.Common.{◌≡◌, ℕ, zero, suc, ◌+◌, ◌-◌, ◌≤◌, Bool, true, false, List, ◌∷◌, length, codes, Option, None, Some, option_and_then, ok_or, Result, Ok, Err, ◌⊎◌, inl, inr, refl, sym, ◌∙◌, arith}
+use Rattle.std.proofs.Common.{◌≡◌, ℕ, zero, suc, ◌+◌, ◌-◌, ◌≤◌, Bool, true, false, List, ◌∷◌, length, codes, Option, None, Some, unwrap_or, ok_or, Result, Ok, Err, ◌⊎◌, inl, inr, refl, sym, arith}
 use Rattle.std.specs.Prelude.{ℤ}
 use Rattle.std.specs.List.{range_with_len}
-use Rattle.std.proofs.lemmas.Bool.{cases_Bool, cond-true, cond-false}
 use Rattle.std.proofs.lemmas.Option.{slice_get_within, option_and_then_some}
-use Rattle.fits_rules.specs.Class.{has_counts}
 use Rattle.fits_card.specs.Header.{card_at}
-use Rattle.fits_rules.specs.Lead.{lead_place}
+use Rattle.fits_rules.specs.Lead.{lead_card, lead_or_end, lead_place}
 use Rattle.fits_rules.specs.Reads.{integer_said}
-use Rattle.fits_rules.specs.Shape.{each, ◌>>=◌, up_to, bitpix_in, if_named, card_named, integer_named, first_card, bitpix_of, naxis_of, axis_of, axes_of, class_of, count_at, count_of, shape_of}
+use Rattle.fits_rules.specs.Shape.{each, ◌>>=◌, up_to, bitpix_in, if_named, card_named, integer_named, first_card, bitpix_of, naxis_of, axis_of, axes_of, class_of, count_of, shape_of}
 use Rattle.fits_rules.specs.declared.axis_buffer.TheConstants.{MOST_AXES}
-use Rattle.fits_rules.specs.declared.rules.TheConstants.{LARGEST}
-use Rattle.fits_rules.specs.declared.class.Class.{Class}
 use Rattle.fits_rules.proofs.AxesLemmas.{axis_within}
 use Rattle.fits_rules.proofs.DescribesLemmas.{ok_or_ok}
 use Rattle.fits_rules.proofs.LeadCardLemmas.{lead_within}
@@ -77,20 +73,18 @@ axes_near : (cards : List (List ℕ)) (naxis place : ℕ) → 3 ≤ length cards
 unfolding axes_of
 axes_near cards naxis place within e = axes_near_from cards naxis 1 place (omega arith) e
 
--- a lead that says no count
-count_near : (class : Class) (cards : List (List ℕ)) (name : List ℕ) (default place : ℕ) → count_of class cards name default ≡ Err place → IsNear cards place
-unfolding count_of
-count_near class cards name default place e = elim (cases_Bool (has_counts class)) [
-  | inl some ↦ counted (lead_place cards name) refl (sym (cond-true (has_counts class) (count_at cards default (lead_place cards name)) (Ok default) some) ∙ e)
-  | inr none ↦ let d : Ok default ≡ Err place = sym (cond-false (has_counts class) (count_at cards default (lead_place cards name)) (Ok default) none) ∙ e in absurd (cc)
-]
+-- a lead, or the place past the last card
+lead_near : (cards : List (List ℕ)) (name : List ℕ) → IsNear cards (lead_or_end cards name)
+unfolding lead_or_end
+lead_near cards name = near (lead_place cards name) (lead_within cards name)
   where
-    counted : (o : Option ℕ) → o ≡ lead_place cards name → count_at cards default o ≡ Err place → IsNear cards place
-    counted None at is = absurd (cc)
-    counted (Some lead) at is =
-        let same : place ≡ lead = ok_or_err (option_and_then (up_to LARGEST) (option_and_then integer_said (card_at cards lead))) lead place is in
-        let within = lead_within cards name lead (sym at) in
-        (omega arith, omega arith)
+    near : (o : Option ℕ) → ((place : ℕ) → o ≡ Some place → (1 ≤ place) × (place ≤ length cards)) → IsNear cards (unwrap_or o (length cards + 1))
+    near None within = (omega arith, omega arith)
+    near (Some place) within = let here = within place refl in (omega arith, omega arith)
+
+-- a lead that says no count
+count_near : (cards : List (List ℕ)) (name : List ℕ) (o : Option ℕ) (place : ℕ) → ok_or o (lead_or_end cards name) ≡ Err place → IsNear cards place
+count_near cards name o place e = let same : place ≡ lead_or_end cards name = ok_or_err o (lead_or_end cards name) place e in rw same (lead_near cards name)
 
 -- the first rule that is broken, in order
 pub broken_is_near : (primary : Bool) (cards : List (List ℕ)) (place : ℕ) → shape_of primary cards ≡ Err place → IsNear cards place
@@ -109,13 +103,17 @@ broken_is_near primary cards place e = elim (bind_err (ok_or (first_card primary
           let there = naxis_within cards naxis.0 (ok_or_ok (naxis_of cards) 3 naxis.0 naxis.1) in
           elim (bind_err (axes_of cards naxis.0) _ place naxis.2) [
             | inl none ↦ axes_near cards naxis.0 place there none
-            | inr axes ↦ elim (bind_err (count_of (class_of primary cards first.0 axes.0) cards (codes "PCOUNT  ") 0) _ place axes.2) [
-              | inl none ↦ count_near (class_of primary cards first.0 axes.0) cards (codes "PCOUNT  ") 0 place none
-              | inr pcount ↦ elim (bind_err (count_of (class_of primary cards first.0 axes.0) cards (codes "GCOUNT  ") 1) _ place pcount.2) [
-                | inl none ↦ count_near (class_of primary cards first.0 axes.0) cards (codes "GCOUNT  ") 1 place none
-                | inr gcount ↦ absurd (cc)
-              ]
-            ]
+            | inr axes ↦
+                let class = class_of primary first.0 axes.0 (lead_card cards (codes "GROUPS  ")) in
+                let p = count_of class (lead_card cards (codes "PCOUNT  ")) 0 in
+                let g = count_of class (lead_card cards (codes "GCOUNT  ")) 1 in
+                elim (bind_err (ok_or p (lead_or_end cards (codes "PCOUNT  "))) _ place axes.2) [
+                  | inl none ↦ count_near cards (codes "PCOUNT  ") p place none
+                  | inr pcount ↦ elim (bind_err (ok_or g (lead_or_end cards (codes "GCOUNT  "))) _ place pcount.2) [
+                    | inl none ↦ count_near cards (codes "GCOUNT  ") g place none
+                    | inr gcount ↦ absurd (cc)
+                  ]
+                ]
           ]
     ]
   ]

@@ -1,13 +1,19 @@
--- A shape in three parts.
-use Rattle.std.proofs.Common.{◌≡◌, ℕ, Bool, List, codes, None, Some, Ok, Err, refl, sym, ◌∙◌}
-use Rattle.std.specs.Prelude.{ℤ, ok_or, Result}
+-- A shape that is read in two parts: its first three cards, and what stands behind them.
+use Rattle.std.proofs.Common.{◌≡◌, ℕ, Bool, false, List, length, codes, Option, None, Some, ok_or, Result, Ok, Err, refl, ap, sym, ◌∙◌}
+use Rattle.std.specs.Prelude.{ℤ, IsTrue, ◌↔◌, IfOk, IfErr}
+use Rattle.std.proofs.lemmas.Bool.Decides.{same_from_decides}
+use Rattle.fits_rules.specs.Lead.{AreLeads, lead_card, lead_or_end}
+use Rattle.fits_rules.specs.SameShape.{same_shape}
 use Rattle.fits_rules.specs.Shape.{◌>>=◌, first_card, bitpix_of, naxis_of, axes_of, class_of, count_of, shape_of}
-use Rattle.fits_rules.specs.ShapeSteps.{front_of, array_of, counts_of}
+use Rattle.fits_rules.specs.ShapeSteps.{front_of, reading_of, shape_read, IsReadingOf}
 use Rattle.fits_rules.specs.declared.array_shape.Shape.{Shape}
 use Rattle.fits_rules.specs.declared.class.Class.{Class}
 use Rattle.fits_rules.specs.declared.reading.Front.{Front}
-use Rattle.fits_rules.specs.declared.reading.Array.{Array}
-use Rattle.fits_rules.specs.declared.reading.Counts.{Counts}
+use Rattle.fits_rules.specs.declared.shape_leads.ShapeLeads.{ShapeLeads}
+use Rattle.fits_rules.specs.declared.shape_reading.ShapeReading.{ShapeReading}
+use Rattle.fits_rules.proofs.AxesLemmas.{bind_ok}
+use Rattle.fits_rules.proofs.DescribesLemmas.{ok_or_ok, described}
+use Rattle.fits_rules.proofs.SameShapeLemmas.{parts_of, same_shape-Decides}
 
 -- the first three cards, where each is read after the ones before it
 pub no_first : (primary : Bool) (cards : List (List ℕ)) → None ≡ first_card primary cards → Err 1 ≡ front_of primary cards
@@ -34,46 +40,66 @@ front_is primary cards named bits first bitpix naxis same still f b n =
 
 pub ruleset front_steps = (no_first, no_bitpix, no_naxis, front_is)
 
--- the axes and the class
-pub no_axes : (primary : Bool) (cards : List (List ℕ)) (front : Front) (place : ℕ) → Err place ≡ axes_of cards front.naxis → Err place ≡ array_of primary cards front
-unfolding array_of
-no_axes primary cards front place broken = rw (← broken) refl
+-- an axis breaks its rule
+pub no_axes : (primary : Bool) (cards : List (List ℕ)) (leads : ShapeLeads) (front : Front) (place : ℕ) → Err place ≡ axes_of cards front.naxis → Err place ≡ reading_of primary cards leads front
+unfolding reading_of
+no_axes primary cards leads front place broken = rw (← broken) refl
 
 -- the axes keep their rules
-pub array_is : (primary : Bool) (cards later : List (List ℕ)) (front : Front) (axes slice : List ℕ) (class : Class) → later ≡ cards → slice ≡ axes → Ok axes ≡ axes_of cards front.naxis → class ≡ class_of primary later front.first slice
-    → Ok (record { class = class; axes = axes }) ≡ array_of primary cards front
-unfolding array_of
-array_is primary cards later front axes slice class same seen a is = let k = rw (same, seen) at is in rw (← a, k) refl
+pub reading_is : (primary : Bool) (cards : List (List ℕ)) (leads : ShapeLeads) (front : Front) (axes slice : List ℕ) (class : Class) (pcount gcount : Option ℕ)
+    → slice ≡ axes → Ok axes ≡ axes_of cards front.naxis → class ≡ class_of primary front.first slice leads.groups → pcount ≡ count_of class leads.pcount 0 → gcount ≡ count_of class leads.gcount 1
+    → Ok (record { class = class; bitpix = front.bitpix; axes = axes; pcount = pcount; gcount = gcount }) ≡ reading_of primary cards leads front
+unfolding reading_of
+reading_is primary cards leads front axes slice class pcount gcount seen a c p g =
+    let k = rw seen at c in
+    rw (← a, p, g, k) refl
 
-pub ruleset array_steps = (no_axes, array_is)
+pub ruleset reading_steps = (no_axes, reading_is)
 
--- PCOUNT and GCOUNT
-pub no_pcount : (class : Class) (cards : List (List ℕ)) (place : ℕ) → Err place ≡ count_of class cards (codes "PCOUNT  ") 0 → Err place ≡ counts_of class cards
-unfolding counts_of
-no_pcount class cards place broken = rw (← broken) refl
+-- the lead of PCOUNT says no count
+pub no_pcount : (cards : List (List ℕ)) (reading : ShapeReading) → reading.pcount ≡ None → shape_read cards reading ≡ Err (lead_or_end cards (codes "PCOUNT  "))
+unfolding shape_read
+no_pcount cards reading none = rw none refl
 
--- GCOUNT breaks its rule
-pub no_gcount : (class : Class) (cards later : List (List ℕ)) (pcount place : ℕ) → later ≡ cards → Ok pcount ≡ count_of class cards (codes "PCOUNT  ") 0 → Err place ≡ count_of class later (codes "GCOUNT  ") 1 → Err place ≡ counts_of class cards
-unfolding counts_of
-no_gcount class cards later pcount place same p broken = let g = rw same at broken in rw (← p, ← g) refl
+-- that of GCOUNT says none
+pub no_gcount : (cards : List (List ℕ)) (reading : ShapeReading) (pcount : ℕ) → reading.pcount ≡ Some pcount → reading.gcount ≡ None → shape_read cards reading ≡ Err (lead_or_end cards (codes "GCOUNT  "))
+unfolding shape_read
+no_gcount cards reading pcount some none = rw (some, none) refl
 
--- both keep their rules
-pub counts_are : (class : Class) (cards later : List (List ℕ)) (pcount gcount : ℕ) → later ≡ cards → Ok pcount ≡ count_of class cards (codes "PCOUNT  ") 0 → Ok gcount ≡ count_of class later (codes "GCOUNT  ") 1
-    → Ok (record { pcount = pcount; gcount = gcount }) ≡ counts_of class cards
-unfolding counts_of
-counts_are class cards later pcount gcount same p g = let g2 = rw same at g in rw (← p, ← g2) refl
+-- both say one
+pub both_counts : (cards : List (List ℕ)) (reading : ShapeReading) (pcount gcount : ℕ) → reading.pcount ≡ Some pcount → reading.gcount ≡ Some gcount
+    → shape_read cards reading ≡ Ok (record { class = reading.class; bitpix = reading.bitpix; axes = reading.axes; pcount = pcount; gcount = gcount })
+unfolding shape_read
+both_counts cards reading pcount gcount p g = rw (p, g) refl
+
+pub ruleset count_steps = (no_pcount, no_gcount, both_counts)
+
+-- a reading of a shape is that shape
+reading_shape : (cards : List (List ℕ)) (shape : Shape) (reading : ShapeReading) → IsReadingOf shape reading → shape_read cards reading ≡ Ok shape
+reading_shape cards shape reading of =
+    both_counts cards reading shape.pcount shape.gcount of.pcount of.gcount
+    ∙ ap Ok (parts_of reading.class shape.class reading.bitpix shape.bitpix reading.axes shape.axes shape.pcount shape.pcount shape.gcount shape.gcount of.class of.bitpix of.axes refl refl)
+
+-- and a shape that was read is that of its reading
+shape_reading : (cards : List (List ℕ)) (shape : Shape) (reading : ShapeReading) → shape_read cards reading ≡ Ok shape → IsReadingOf shape reading
+unfolding shape_read
+shape_reading cards shape reading e =
+    let pcount = bind_ok (ok_or reading.pcount (lead_or_end cards (codes "PCOUNT  "))) _ shape e in
+    let gcount = bind_ok (ok_or reading.gcount (lead_or_end cards (codes "GCOUNT  "))) _ shape pcount.2 in
+    let same : Path Shape (record { class = reading.class; bitpix = reading.bitpix; axes = reading.axes; pcount = pcount.0; gcount = gcount.0 }) shape = cc in
+    let p = ok_or_ok reading.pcount (lead_or_end cards (codes "PCOUNT  ")) pcount.0 pcount.1 in
+    let g = ok_or_ok reading.gcount (lead_or_end cards (codes "GCOUNT  ")) gcount.0 gcount.1 in
+    record {
+      class = ap (λ (s : Shape). s.class) same;
+      bitpix = ap (λ (s : Shape). s.bitpix) same;
+      axes = ap (λ (s : Shape). s.axes) same;
+      pcount = p ∙ ap (λ (s : Shape). Some s.pcount) same;
+      gcount = g ∙ ap (λ (s : Shape). Some s.gcount) same;
+    }
 
 -- values that follow one another, as parts of one
 abbrev one_front : Result (List ℕ) ℕ → Result ℤ ℕ → Result ℕ ℕ → Result Front ℕ
 one_front f b n = f >>= (λ first. b >>= (λ bitpix. n >>= (λ naxis. Ok (record { first = first; bitpix = bitpix; naxis = naxis }))))
-
--- the class and the axes
-abbrev one_array : Result (List ℕ) ℕ → (List ℕ → Class) → Result Array ℕ
-one_array a class = a >>= (λ axes. Ok (record { class = class axes; axes = axes }))
-
--- PCOUNT and GCOUNT
-abbrev one_count : Result ℕ ℕ → Result ℕ ℕ → Result Counts ℕ
-one_count p g = p >>= (λ pcount. g >>= (λ gcount. Ok (record { pcount = pcount; gcount = gcount })))
 
 -- what follows from them, taken one by one or together
 in_front : {X : Type 0} (f : Result (List ℕ) ℕ) (b : Result ℤ ℕ) (n : Result ℕ ℕ) (next : List ℕ → ℤ → ℕ → Result X ℕ)
@@ -83,61 +109,83 @@ in_front (Ok first) (Err place) n next = refl
 in_front (Ok first) (Ok bitpix) (Err place) next = refl
 in_front (Ok first) (Ok bitpix) (Ok naxis) next = refl
 
--- from the class and the axes
-in_array : {X : Type 0} (a : Result (List ℕ) ℕ) (class : List ℕ → Class) (next : Class → List ℕ → Result X ℕ)
-    → (a >>= (λ axes. next (class axes) axes)) ≡ (one_array a class >>= (λ array. next array.class array.axes))
-in_array (Err place) class next = refl
-in_array (Ok axes) class next = refl
+-- from the axes
+in_axes : (a : Result (List ℕ) ℕ) (reading : List ℕ → ShapeReading) (next : ShapeReading → Result Shape ℕ) → ((a >>= (λ axes. Ok (reading axes))) >>= next) ≡ (a >>= (λ axes. next (reading axes)))
+in_axes (Err place) reading next = refl
+in_axes (Ok axes) reading next = refl
 
--- from PCOUNT and GCOUNT
-in_counts : {X : Type 0} (p g : Result ℕ ℕ) (next : ℕ → ℕ → Result X ℕ)
-    → (p >>= (λ pcount. g >>= (λ gcount. next pcount gcount))) ≡ (one_count p g >>= (λ counts. next counts.pcount counts.gcount))
-in_counts (Err place) g next = refl
-in_counts (Ok pcount) (Err place) next = refl
-in_counts (Ok pcount) (Ok gcount) next = refl
+-- what is left of a shape after its first three cards
+abbrev behind : Bool → List (List ℕ) → List ℕ → ℤ → ℕ → Result Shape ℕ
+behind primary cards first bitpix naxis =
+    axes_of cards naxis >>= (λ axes.
+    let class = class_of primary first axes (lead_card cards (codes "GROUPS  ")) in
+    ok_or (count_of class (lead_card cards (codes "PCOUNT  ")) 0) (lead_or_end cards (codes "PCOUNT  ")) >>= (λ pcount.
+    ok_or (count_of class (lead_card cards (codes "GCOUNT  ")) 1) (lead_or_end cards (codes "GCOUNT  ")) >>= (λ gcount.
+    Ok (record { class = class; bitpix = bitpix; axes = axes; pcount = pcount; gcount = gcount }))))
 
--- what is left of a shape after its class and axes
-abbrev counted : List (List ℕ) → ℤ → Class → List ℕ → Result Shape ℕ
-counted cards bitpix class axes =
-    count_of class cards (codes "PCOUNT  ") 0 >>= (λ pcount. count_of class cards (codes "GCOUNT  ") 1 >>= (λ gcount. Ok (record { class = class; bitpix = bitpix; axes = axes; pcount = pcount; gcount = gcount })))
-
--- and after the first three cards
-abbrev arrayed : Bool → List (List ℕ) → List ℕ → ℤ → ℕ → Result Shape ℕ
-arrayed primary cards first bitpix naxis = axes_of cards naxis >>= (λ axes. counted cards bitpix (class_of primary cards first axes) axes)
-
--- a shape by its parts
-by_front : (primary : Bool) (cards : List (List ℕ)) → shape_of primary cards ≡ (front_of primary cards >>= (λ front. arrayed primary cards front.first front.bitpix front.naxis))
+-- a shape with its first three cards
+by_front : (primary : Bool) (cards : List (List ℕ)) → shape_of primary cards ≡ (front_of primary cards >>= (λ front. behind primary cards front.first front.bitpix front.naxis))
 unfolding shape_of front_of
-by_front primary cards = in_front (ok_or (first_card primary cards) 1) (ok_or (bitpix_of cards) 2) (ok_or (naxis_of cards) 3) (arrayed primary cards)
+by_front primary cards = in_front (ok_or (first_card primary cards) 1) (ok_or (bitpix_of cards) 2) (ok_or (naxis_of cards) 3) (behind primary cards)
 
--- with its first three cards
-by_array : (primary : Bool) (cards : List (List ℕ)) (front : Front) → Ok front ≡ front_of primary cards → shape_of primary cards ≡ (array_of primary cards front >>= (λ array. counted cards front.bitpix array.class array.axes))
-unfolding array_of
-by_array primary cards front f = by_front primary cards ∙ rw (← f) (in_array (axes_of cards front.naxis) (class_of primary cards front.first) (counted cards front.bitpix))
+-- what is left of it is read by the leads
+by_leads : (primary : Bool) (cards : List (List ℕ)) (leads : ShapeLeads) (front : Front) → AreLeads cards leads → behind primary cards front.first front.bitpix front.naxis ≡ (reading_of primary cards leads front >>= shape_read cards)
+unfolding reading_of shape_read
+by_leads primary cards leads front are =
+    rw (are.groups, are.pcount, are.gcount) (sym (in_axes (axes_of cards front.naxis)
+    (λ axes.
+    let class = class_of primary front.first axes (lead_card cards (codes "GROUPS  ")) in
+    record { class = class; bitpix = front.bitpix; axes = axes; pcount = count_of class (lead_card cards (codes "PCOUNT  ")) 0; gcount = count_of class (lead_card cards (codes "GCOUNT  ")) 1 })
+    (shape_read cards)))
 
--- and with its class and axes
-by_counts : (primary : Bool) (cards : List (List ℕ)) (front : Front) (array : Array) → Ok front ≡ front_of primary cards → Ok array ≡ array_of primary cards front
-    → shape_of primary cards ≡ (counts_of array.class cards >>= (λ counts. Ok (record { class = array.class; bitpix = front.bitpix; axes = array.axes; pcount = counts.pcount; gcount = counts.gcount })))
-unfolding counts_of
-by_counts primary cards front array f a =
-    by_array primary cards front f ∙ rw (← a) (in_counts (count_of array.class cards (codes "PCOUNT  ") 0) (count_of array.class cards (codes "GCOUNT  ") 1)
-    (λ pcount gcount. Ok (record { class = array.class; bitpix = front.bitpix; axes = array.axes; pcount = pcount; gcount = gcount })))
+-- the first three cards break a rule
+pub no_front : (primary : Bool) (cards : List (List ℕ)) (place : ℕ) → Err place ≡ front_of primary cards → shape_of primary cards ≡ Err place
+no_front primary cards place broken = by_front primary cards ∙ rw (← broken) refl
 
--- the shape, or the first part that breaks a rule
-pub no_front : (primary : Bool) (cards : List (List ℕ)) (place : ℕ) → Err place ≡ front_of primary cards → Err place ≡ shape_of primary cards
-no_front primary cards place broken = sym (by_front primary cards ∙ rw (← broken) refl)
+-- what was read behind them decides
+pub read_on : (primary : Bool) (cards : List (List ℕ)) (leads : ShapeLeads) (front : Front) (r : Result ShapeReading ℕ) → AreLeads cards leads → Ok front ≡ front_of primary cards → r ≡ reading_of primary cards leads front → shape_of primary cards ≡ (r >>= shape_read cards)
+read_on primary cards leads front r are f is =
+    by_front primary cards ∙ rw (← f) (by_leads primary cards leads front are ∙ ap (λ (x : Result ShapeReading ℕ). x >>= shape_read cards) (sym is))
 
--- an axis breaks its rule
-pub no_array : (primary : Bool) (cards later : List (List ℕ)) (front : Front) (place : ℕ) → later ≡ cards → Ok front ≡ front_of primary cards → Err place ≡ array_of primary later front → Err place ≡ shape_of primary cards
-no_array primary cards later front place same f broken = let a = rw same at broken in sym (by_array primary cards front f ∙ rw (← a) refl)
+-- where it is read to its end
+pub reads_on : (primary : Bool) (cards : List (List ℕ)) (leads : ShapeLeads) (front : Front) (r : Result ShapeReading ℕ) → AreLeads cards leads → Ok front ≡ front_of primary cards → r ≡ reading_of primary cards leads front → IfOk r (λ reading. shape_of primary cards ≡ shape_read cards reading)
+reads_on primary cards leads front (Ok reading) are f is = read_on primary cards leads front (Ok reading) are f is
+reads_on primary cards leads front (Err place) are f is = tt
 
--- a count breaks its rule
-pub no_counts : (primary : Bool) (cards later last : List (List ℕ)) (front : Front) (array : Array) (place : ℕ) → later ≡ cards → last ≡ cards → Ok front ≡ front_of primary cards → Ok array ≡ array_of primary later front → Err place ≡ counts_of array.class last → Err place ≡ shape_of primary cards
-no_counts primary cards later last front array place same still f a broken =
-    let b = rw same at a in let g = rw still at broken in sym (by_counts primary cards front array f b ∙ rw (← g) refl)
+-- and where an axis is broken
+pub stops_on : (primary : Bool) (cards : List (List ℕ)) (leads : ShapeLeads) (front : Front) (r : Result ShapeReading ℕ) → AreLeads cards leads → Ok front ≡ front_of primary cards → r ≡ reading_of primary cards leads front → IfErr r (λ place. shape_of primary cards ≡ Err place)
+stops_on primary cards leads front (Ok reading) are f is = tt
+stops_on primary cards leads front (Err place) are f is = read_on primary cards leads front (Err place) are f is
 
--- no rule is broken
-pub shape_is : (primary : Bool) (cards later last : List (List ℕ)) (front : Front) (array : Array) (counts : Counts) → later ≡ cards → last ≡ cards → Ok front ≡ front_of primary cards → Ok array ≡ array_of primary later front → Ok counts ≡ counts_of array.class last
-    → Ok (record { class = array.class; bitpix = front.bitpix; axes = array.axes; pcount = counts.pcount; gcount = counts.gcount }) ≡ shape_of primary cards
-shape_is primary cards later last front array counts same still f a c =
-    let b = rw same at a in let g = rw still at c in sym (by_counts primary cards front array f b ∙ rw (← g) refl)
+-- NAXIS is among the first three cards
+front_naxis : (primary : Bool) (cards : List (List ℕ)) (front : Front) → Ok front ≡ front_of primary cards → naxis_of cards ≡ Some front.naxis
+unfolding front_of
+front_naxis primary cards front e =
+    let first = bind_ok (ok_or (first_card primary cards) 1) _ front (sym e) in
+    let bitpix = bind_ok (ok_or (bitpix_of cards) 2) _ front first.2 in
+    let naxis = bind_ok (ok_or (naxis_of cards) 3) _ front bitpix.2 in
+    let same : Path Front (record { first = first.0; bitpix = bitpix.0; naxis = naxis.0 }) front = let e : Ok (record { first = first.0; bitpix = bitpix.0; naxis = naxis.0 }) ≡ Ok front = naxis.2 in cc in
+    ok_or_ok (naxis_of cards) 3 naxis.0 naxis.1 ∙ ap (λ (f : Front). Some f.naxis) same
+
+-- a broken rule leaves no shape
+pub broken_differs : (shape : Shape) (described : Result Shape ℕ) (place : ℕ) → described ≡ Err place → false ≡ same_shape (Ok shape) described
+unfolding same_shape
+broken_differs shape described place broken = sym (ap (same_shape (Ok shape)) broken)
+
+-- another number of axes is that of another shape
+pub axes_differ : (primary : Bool) (cards : List (List ℕ)) (front : Front) (shape : Shape) → Ok front ≡ front_of primary cards → (front.naxis ≡ length shape.axes → ⊥) → false ≡ same_shape (Ok shape) (shape_of primary cards)
+axes_differ primary cards front shape f other =
+    same_from_decides false (same_shape (Ok shape) (shape_of primary cards)) (
+      λ no. cc,
+      λ e. absurd (other (let same : Some front.naxis ≡ Some (length shape.axes) = sym (front_naxis primary cards front f) ∙ (described primary cards shape e).naxis in cc)),
+    )
+    (same_shape-Decides shape (shape_of primary cards))
+
+-- a comparison of what was read decides
+pub reading_decides : (cards : List (List ℕ)) (shape : Shape) (reading : ShapeReading) (described : Result Shape ℕ) (r : Bool) → (IsTrue r ↔ IsReadingOf shape reading) → described ≡ shape_read cards reading → r ≡ same_shape (Ok shape) described
+reading_decides cards shape reading described r exact is =
+    same_from_decides r (same_shape (Ok shape) described) (
+      λ yes. is ∙ reading_shape cards shape reading (exact.0 yes),
+      λ e. exact.1 (shape_reading cards shape reading (sym is ∙ e)),
+    )
+    (same_shape-Decides shape described)

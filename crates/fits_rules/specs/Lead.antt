@@ -1,5 +1,5 @@
 -- The lead of a name: the first card of that name that has a value. It alone counts (own).
-use Rattle.std.specs.Prelude.{◌≡◌, ℕ, ◌+◌, Bool, ◌&&◌, List, Option, option_and_then, position, codes}
+use Rattle.std.specs.Prelude.{◌≡◌, ℕ, ◌+◌, Bool, ◌&&◌, List, Option, option_and_then, unwrap_or, length, position, codes}
 use Rattle.std.specs.Option.{option_map}
 use Rattle.std.specs.Str.{bytes_eq}
 use Rattle.fits_card.specs.Card.{keyword_name, has_value}
@@ -17,6 +17,10 @@ lead_place cards name = option_map (λ index. index + 1) (position (is_value_of 
 -- the lead
 unfoldable pub lead_card : List (List ℕ) → List ℕ → Option (List ℕ)
 lead_card cards name = option_and_then (card_at cards) (lead_place cards name)
+
+-- where the lead stands, or one past the last card where there is none
+unfoldable pub lead_or_end : List (List ℕ) → List ℕ → ℕ
+lead_or_end cards name = unwrap_or (lead_place cards name) (length cards + 1)
 
 -- these are the leads that count for a shape wherever they stand (4.4.1.2, 6)
 pub record AreLeads (cards : List (List ℕ)) (leads : ShapeLeads) : Type 0 where

@@ -6,7 +6,7 @@ use Rattle.std.specs.Fmt.{decimal}
 use Rattle.fits_card.specs.Card.{keyword_name}
 use Rattle.fits_rules.specs.Reads.{integer_said, logical_said, string_said}
 use Rattle.fits_card.specs.Header.{card_at}
-use Rattle.fits_rules.specs.Lead.{lead_place, lead_card}
+use Rattle.fits_rules.specs.Lead.{lead_card, lead_or_end}
 use Rattle.fits_rules.specs.Class.{has_counts, extension_class}
 use Rattle.fits_rules.specs.declared.axis_buffer.TheConstants.{MOST_AXES}
 use Rattle.fits_rules.specs.declared.class.Class.{Class}
@@ -83,24 +83,24 @@ abbrev pub has_group_axes : List ℕ → Bool
 has_group_axes (first ∷ second ∷ more) = first == 0
 has_group_axes axes = false
 
--- the value of GROUPS is T (6)
-unfoldable pub says_groups : List (List ℕ) → Bool
-says_groups cards = unwrap_or (option_and_then logical_said (lead_card cards (codes "GROUPS  "))) false
+-- the lead of GROUPS says T (6)
+unfoldable pub says_groups : Option (List ℕ) → Bool
+says_groups lead = unwrap_or (option_and_then logical_said lead) false
 
--- the class: by axes and GROUPS in the primary HDU, by XTENSION in an extension (3.3, 3.4, 6)
-unfoldable pub class_of : Bool → List (List ℕ) → List ℕ → List ℕ → Class
-class_of primary cards first axes =
-    if primary then (if has_group_axes axes && says_groups cards then Groups else Primary)
+-- the class: by axes and the lead of GROUPS in the primary HDU, by XTENSION in an extension (3.3, 3.4, 6)
+unfoldable pub class_of : Bool → List ℕ → List ℕ → Option (List ℕ) → Class
+class_of primary first axes groups =
+    if primary then (if has_group_axes axes && says_groups groups then Groups else Primary)
     else extension_class (string_said first)
 
--- the count that the lead at a place says, or its default without a lead (own); else that place
-abbrev pub count_at : List (List ℕ) → ℕ → Option ℕ → Result ℕ ℕ
-count_at cards default None = Ok default
-count_at cards default (Some place) = ok_or (option_and_then (up_to LARGEST) (option_and_then integer_said (card_at cards place))) place
+-- the count that a lead says, or the default without a lead (own)
+abbrev pub count_said : Option (List ℕ) → ℕ → Option ℕ
+count_said None default = Some default
+count_said (Some lead) default = option_and_then (up_to LARGEST) (integer_said lead)
 
 -- PCOUNT or GCOUNT by its lead, where the class has counts, else the default (4.4.1.2, 6)
-unfoldable pub count_of : Class → List (List ℕ) → List ℕ → ℕ → Result ℕ ℕ
-count_of class cards name default = if has_counts class then count_at cards default (lead_place cards name) else Ok default
+unfoldable pub count_of : Class → Option (List ℕ) → ℕ → Option ℕ
+count_of class lead default = if has_counts class then count_said lead default else Some default
 
 -- the shape, or the first place that breaks a rule: those of the mandatory keywords in order, then PCOUNT's lead, then GCOUNT's.
 -- Where a card is missing all before it are there, so its place is one past the last card's
@@ -110,9 +110,9 @@ shape_of primary cards = do
   bitpix ← ok_or (bitpix_of cards) 2
   naxis ← ok_or (naxis_of cards) 3
   axes ← axes_of cards naxis
-  let class = class_of primary cards first axes
-  pcount ← count_of class cards (codes "PCOUNT  ") 0
-  gcount ← count_of class cards (codes "GCOUNT  ") 1
+  let class = class_of primary first axes (lead_card cards (codes "GROUPS  "))
+  pcount ← ok_or (count_of class (lead_card cards (codes "PCOUNT  ")) 0) (lead_or_end cards (codes "PCOUNT  "))
+  gcount ← ok_or (count_of class (lead_card cards (codes "GCOUNT  ")) 1) (lead_or_end cards (codes "GCOUNT  "))
   Ok (record { class = class; bitpix = bitpix; axes = axes; pcount = pcount; gcount = gcount })
 
 -- a header describes this shape: each part of it is what its keyword says (4.4.1.1, 4.4.1.2, 6, 7)
@@ -122,9 +122,9 @@ pub record Describes (primary : Bool) (cards : List (List ℕ)) (shape : Shape) 
   pub bitpix : bitpix_of cards ≡ Some shape.bitpix
   pub naxis : naxis_of cards ≡ Some (length shape.axes)
   pub axes : EachIndex shape.axes (λ n. axis_of cards (n + 1) ≡ slice_get shape.axes n)
-  pub class : class_of primary cards first shape.axes ≡ shape.class
-  pub pcount : count_of shape.class cards (codes "PCOUNT  ") 0 ≡ Ok shape.pcount
-  pub gcount : count_of shape.class cards (codes "GCOUNT  ") 1 ≡ Ok shape.gcount
+  pub class : class_of primary first shape.axes (lead_card cards (codes "GROUPS  ")) ≡ shape.class
+  pub pcount : count_of shape.class (lead_card cards (codes "PCOUNT  ")) 0 ≡ Some shape.pcount
+  pub gcount : count_of shape.class (lead_card cards (codes "GCOUNT  ")) 1 ≡ Some shape.gcount
 
 -- what each shape has that a header describes (4.4.1.1, 4.4.1.2)
 pub record IsBounded (shape : Shape) : Type 0 where

@@ -1,6 +1,6 @@
 //! The lead of a name: the first card of that name that has a value. It alone counts.
 ghost use Rattle.std.specs.Prelude.{◌≡◌, ◌+◌, length, unwrap_or};
-ghost use Rattle.fits_rules.specs.Lead.{is_value_of, lead_place, lead_card};
+ghost use Rattle.fits_rules.specs.Lead.{is_value_of, lead_place, lead_card, lead_or_end};
 ghost use Rattle.fits_card.specs.CardList.{ReadsUpTo};
 
 use fits_card::{Card, CardList, Name};
@@ -38,4 +38,13 @@ pub fn lead_card(cards: &mut CardList, name: &Name) -> Option<Card>
         Some(place) => Some(cards.card(place)),
         None => None,
     }
+}
+
+/// Where the lead of a name stands, or one past the last card. It takes no memory.
+#[tactic(auto, unfolding(crate::specs::Lead::lead_or_end))]
+pub(crate) fn lead_or_end(cards: &mut CardList, name: &Name) -> usize
+    ensures value { result ≡ lead_or_end cards.old.header.cards name.now }
+    ensures work { ReadsUpTo cards.old cards.new (length cards.old.header.cards) }
+{
+    lead(cards, name).unwrap_or(cards.len() + 1)
 }

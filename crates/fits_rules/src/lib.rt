@@ -7,7 +7,6 @@ mod axis_buffer;
 mod axis_names;
 mod changed;
 mod class;
-mod comparing;
 mod denoting;
 mod image;
 mod integers;
@@ -25,7 +24,6 @@ pub use array_shape::Shape;
 pub use axes::Axes;
 pub use axis_names::axis_name;
 pub use class::Class;
-pub use comparing::keeps_shape;
 pub use denoting::card_denotes;
 pub use image::image_bits;
 pub use integers::{IntegerSaid, integer_said};
@@ -34,6 +32,6 @@ pub use laws::{
     shapes_are_bounded, shapes_are_described, shapes_compare_exactly, which_numbers_cards_denote,
 };
 pub use leads::{lead, lead_card};
-pub use mandatory::{ShapeFault, shape};
+pub use mandatory::{ShapeFault, keeps_shape, shape};
 pub use shape_leads::ShapeLeads;
 pub use size::data_bytes;
