@@ -1,22 +1,23 @@
 -- The pixels of an image of integers: their layout by the kind, and their values.
-use Rattle.std.proofs.Common.{◌≡◌, ◌≤◌, ◌<◌, ℕ, ◌+◌, ◌*◌, ◌/◌, ◌^◌, ◌==◌, Bool, true, false, cond, List, length, inl, inr, refl, ap, sym, ◌∙◌, subst, arith, Option, None, Some, ℤ, pos, negsuc, to_z, of_z}
-use Rattle.std.specs.Prelude.{Result, Ok, Err, IsTrue, ◌-ℤ◌, unsigned_abs, slice_index_or, not, FitsSigned}
-use Rattle.std.specs.Int.{w64, w128}
+use Rattle.std.proofs.Common.{◌≡◌, ◌≤◌, ◌<◌, ℕ, ◌+◌, ◌*◌, ◌/◌, ◌^◌, Bool, true, false, cond, List, length, inl, inr, refl, ap, sym, ◌∙◌, subst, arith, Option, None, Some, ℤ, pos, negsuc, to_z, of_z}
+use Rattle.std.specs.Prelude.{Result, Ok, Err, IsTrue, unsigned_abs, not}
+use Rattle.std.specs.Int.{w128}
 use Rattle.std.proofs.Math.Nat.{mul-le-mul_left}
-use Rattle.std.proofs.lemmas.Bool.{eqb-true, eq-eqb, ne_eqb, or_cases}
-use Rattle.std.proofs.lemmas.Int.{ints, fits_signed_from_abs, to_z-of_z}
+use Rattle.std.proofs.lemmas.Bool.{eqb-true, or_cases}
+use Rattle.std.proofs.lemmas.Int.{fits_signed_from_abs, to_z-of_z}
 use Rattle.std.proofs.lemmas.List.FromFn.{length-map-range_with_len}
 use Rattle.fits_value.proofs.FrontLemmas.{option_map_some}
 use Rattle.fits_card.specs.Header.{Header, IsHeader}
 use Rattle.fits_plane.specs.Layout.{IsLayout, block_count}
-use Rattle.fits_plane.specs.Pixels.{IsWidth, IsStorable, can_store, can_store_all, pixels}
+use Rattle.fits_plane.specs.Paint.{can_store_paint, has_count, painted_number}
+use Rattle.fits_plane.specs.Pixels.{IsWidth, pixels}
 use Rattle.fits_plane.specs.Rectangle.{lies_within, product, rectangle_size, rectangle_values, rectangle_written, byte_written}
 use Rattle.fits_plane.specs.Statistics.{value_statistics}
 use Rattle.fits_plane.specs.Work.{rectangle_blocks}
 use Rattle.fits_plane.specs.declared.layout.Layout.{Layout}
+use Rattle.fits_plane.specs.declared.paint.Paint.{Paint}
 use Rattle.fits_plane.specs.declared.value_summary.ValueSummary.{ValueSummary}
-use Rattle.fits_plane.proofs.PixelLemmas.{by_width, width_range}
-use Rattle.fits_plane.proofs.TestLemmas.{can_store_decides}
+use Rattle.fits_plane.proofs.PixelLemmas.{width_range}
 use Rattle.fits_rules.specs.Class.{is_primary}
 use Rattle.fits_rules.specs.Image.{image_bits, integer_bits}
 use Rattle.fits_rules.specs.Shape.{shape_of, is_bitpix}
@@ -25,7 +26,7 @@ use Rattle.fits_rules.proofs.LawLemmas.{shape_bounded}
 use Rattle.fits_hdu.specs.Hdu.{HduParts, IsHdu}
 use Rattle.fits_hdu.specs.Kind.{kind_in, kind_of, convention, has_offset, offset_of, width_of}
 use Rattle.fits_hdu.specs.Layout.{layout_by, layout_of}
-use Rattle.fits_hdu.specs.Pixels.{filled, filled_by, rect_by, rect_of, stats_of, with_numbers, written, written_by}
+use Rattle.fits_hdu.specs.Pixels.{painted, painted_by, rect_by, rect_of, stats_of, with_numbers}
 use Rattle.fits_hdu.specs.State.{PixelWork}
 use Rattle.fits_hdu.specs.Work.{IsPatched}
 use Rattle.fits_hdu.specs.declared.kind.Kind.{Kind}
@@ -148,13 +149,6 @@ patched layout shape cards bytes axes lo hi old new is same reads more_scans sca
 
 -- ---- numbers that are small, and pixels that are few
 
--- a number that is stored has 64 bits
-pub stored_fits : (width : ℕ) (number : ℤ) → IsWidth width → IsStorable width number → FitsSigned w64 number
-stored_fits width number w s =
-    by_width (λ w. IsStorable w number → FitsSigned w64 number)
-    (λ s. omega (arith, ints, s.least, s.greatest)) (λ s. omega (arith, ints, s.least, s.greatest))
-    (λ s. omega (arith, ints, s.least, s.greatest)) (λ s. omega (arith, ints, s.least, s.greatest)) width w s
-
 -- as many pixels as a data unit has bytes at most
 few_pixels : (layout : Layout) (bytes : List ℕ) → IsLayout layout bytes → layout.pixels ≤ 17179869184
 few_pixels layout bytes fits = elim fits.width [
@@ -196,71 +190,36 @@ pub rect_of-values : (shape : Shape) (hdu : HduParts) (lo hi : List ℕ) (kind :
 unfolding rect_of
 rect_of-values shape hdu lo hi kind e within = rw (e, within) refl
 
--- ---- what is written
+-- ---- what is painted
 
 -- no image
-pub filled-not_image : (shape : Shape) (hdu : HduParts) (lo hi : List ℕ) (value : ℤ) → kind_in shape hdu.header.cards ≡ None → filled shape lo hi value hdu ≡ Err NotImage
-unfolding filled
-filled-not_image shape hdu lo hi value e = ap (λ o. filled_by o shape lo hi value hdu) e
+pub painted-not_image : (shape : Shape) (hdu : HduParts) (lo hi : List ℕ) (paint : Paint) → kind_in shape hdu.header.cards ≡ None → painted shape lo hi paint hdu ≡ Err NotImage
+unfolding painted
+painted-not_image shape hdu lo hi paint e = ap (λ o. painted_by o shape lo hi paint hdu) e
 
 -- a bad rectangle
-pub filled-bad : (shape : Shape) (hdu : HduParts) (lo hi : List ℕ) (value : ℤ) (kind : Kind) → kind_in shape hdu.header.cards ≡ Some kind → lies_within shape.axes lo hi ≡ false → filled shape lo hi value hdu ≡ Err BadRectangle
-unfolding filled
-filled-bad shape hdu lo hi value kind e bad = rw (e, bad) refl
-
--- a test that fails
-not_so : {P : Type 0} (b : Bool) → (IsTrue b → P) → (P → ⊥) → b ≡ false
-not_so true f g = absurd (g (f refl))
-not_so false f g = refl
-
--- a number that isn't stored
-pub filled-out : (shape : Shape) (hdu : HduParts) (lo hi : List ℕ) (value : ℤ) (kind : Kind) → kind_in shape hdu.header.cards ≡ Some kind → lies_within shape.axes lo hi ≡ true → (IsStorable (width_of kind) (value -ℤ offset_of kind) → ⊥) → filled shape lo hi value hdu ≡ Err OutOfRange
-unfolding filled
-filled-out shape hdu lo hi value kind e within none =
-    let out = not_so (can_store (width_of kind) (value -ℤ offset_of kind)) (can_store_decides (width_of kind) (value -ℤ offset_of kind)).0 none in
-    rw (e, within, out) refl
-
--- it is filled
-pub filled-done : (shape : Shape) (header : Header) (old new : List ℕ) (lo hi : List ℕ) (value number : ℤ) (kind : Kind) (width : ℕ) → kind_in shape header.cards ≡ Some kind → lies_within shape.axes lo hi ≡ true → width ≡ width_of kind
-    → IsStorable (width_of kind) number → number ≡ value -ℤ offset_of kind → new ≡ rectangle_written width shape.axes lo hi (λ rank. number) old
-    → filled shape lo hi value (record { header = header; data_unit = old }) ≡ Ok (record { header = header; data_unit = new })
-unfolding filled
-filled-done shape header old new lo hi value number kind width e within w stored is written =
-    let can = (can_store_decides (width_of kind) (value -ℤ offset_of kind)).1 (subst (IsStorable (width_of kind)) is stored) in
-    rw (e, within, can, written, is, w) refl
-
--- no image
-pub written-not_image : (shape : Shape) (hdu : HduParts) (lo hi : List ℕ) (values : List ℤ) → kind_in shape hdu.header.cards ≡ None → written shape lo hi values hdu ≡ Err NotImage
-unfolding written
-written-not_image shape hdu lo hi values e = ap (λ o. written_by o shape lo hi values hdu) e
-
--- a bad rectangle
-pub written-bad : (shape : Shape) (hdu : HduParts) (lo hi : List ℕ) (values : List ℤ) (kind : Kind) → kind_in shape hdu.header.cards ≡ Some kind → lies_within shape.axes lo hi ≡ false → written shape lo hi values hdu ≡ Err BadRectangle
-unfolding written
-written-bad shape hdu lo hi values kind e bad = rw (e, bad) refl
+pub painted-bad : (shape : Shape) (hdu : HduParts) (lo hi : List ℕ) (paint : Paint) (kind : Kind) → kind_in shape hdu.header.cards ≡ Some kind → lies_within shape.axes lo hi ≡ false → painted shape lo hi paint hdu ≡ Err BadRectangle
+unfolding painted
+painted-bad shape hdu lo hi paint kind e bad = rw (e, bad) refl
 
 -- too many values, or too few
-pub written-count : (shape : Shape) (hdu : HduParts) (lo hi : List ℕ) (values : List ℤ) (kind : Kind) → kind_in shape hdu.header.cards ≡ Some kind → lies_within shape.axes lo hi ≡ true → (length values ≡ rectangle_size lo hi → ⊥) → written shape lo hi values hdu ≡ Err WrongCount
-unfolding written
-written-count shape hdu lo hi values kind e within h =
-    rw (e, within, ne_eqb (length values) (rectangle_size lo hi) h) refl
+pub painted-count : (shape : Shape) (hdu : HduParts) (lo hi : List ℕ) (paint : Paint) (kind : Kind) → kind_in shape hdu.header.cards ≡ Some kind → lies_within shape.axes lo hi ≡ true → has_count paint (rectangle_size lo hi) ≡ false → painted shape lo hi paint hdu ≡ Err WrongCount
+unfolding painted
+painted-count shape hdu lo hi paint kind e within wrong = rw (e, within, wrong) refl
 
 -- one that isn't stored
-pub written-out : (shape : Shape) (hdu : HduParts) (lo hi : List ℕ) (values : List ℤ) (kind : Kind) → kind_in shape hdu.header.cards ≡ Some kind → lies_within shape.axes lo hi ≡ true → length values ≡ rectangle_size lo hi → can_store_all (width_of kind) (offset_of kind) values ≡ false → written shape lo hi values hdu ≡ Err OutOfRange
-unfolding written
-written-out shape hdu lo hi values kind e within count out =
-    rw (e, within, eq-eqb (length values) (rectangle_size lo hi) count, out) refl
+pub painted-out : (shape : Shape) (hdu : HduParts) (lo hi : List ℕ) (paint : Paint) (kind : Kind) → kind_in shape hdu.header.cards ≡ Some kind → lies_within shape.axes lo hi ≡ true → has_count paint (rectangle_size lo hi) ≡ true → can_store_paint (width_of kind) (offset_of kind) paint ≡ false → painted shape lo hi paint hdu ≡ Err OutOfRange
+unfolding painted
+painted-out shape hdu lo hi paint kind e within count out = rw (e, within, count, out) refl
 
--- they are written
-pub written-done : (shape : Shape) (header : Header) (old new : List ℕ) (lo hi : List ℕ) (values : List ℤ) (kind : Kind) (width : ℕ) → kind_in shape header.cards ≡ Some kind → lies_within shape.axes lo hi ≡ true → width ≡ width_of kind
-    → length values ≡ rectangle_size lo hi → can_store_all (width_of kind) (offset_of kind) values ≡ true
-    → new ≡ rectangle_written width shape.axes lo hi (λ rank. slice_index_or values rank (pos 0) -ℤ offset_of kind) old
-    → written shape lo hi values (record { header = header; data_unit = old }) ≡ Ok (record { header = header; data_unit = new })
-unfolding written
-written-done shape header old new lo hi values kind width e within w count can put =
-    rw (e, within, eq-eqb (length values) (rectangle_size lo hi) count, can, put, w) refl
+-- it is painted
+pub painted-done : (shape : Shape) (header : Header) (old new : List ℕ) (lo hi : List ℕ) (paint : Paint) (kind : Kind) (width : ℕ) → kind_in shape header.cards ≡ Some kind → lies_within shape.axes lo hi ≡ true → width ≡ width_of kind
+    → has_count paint (rectangle_size lo hi) ≡ true → can_store_paint (width_of kind) (offset_of kind) paint ≡ true → new ≡ rectangle_written width shape.axes lo hi (painted_number paint (offset_of kind)) old
+    → painted shape lo hi paint (record { header = header; data_unit = old }) ≡ Ok (record { header = header; data_unit = new })
+unfolding painted
+painted-done shape header old new lo hi paint kind width e within w count can put = rw (e, within, count, can, put, w) refl
 
--- ---- what is written is an HDU
+-- ---- what is painted is an HDU
 
 -- the header is the same, and the data unit as long
 abbrev pub KeepsSize : HduParts → HduParts → Type 0
@@ -278,22 +237,14 @@ keeps shape kind lo hi number hdu new r is e =
     let same : with_numbers shape kind lo hi number hdu ≡ new = cc in
     subst (λ (h : HduParts). KeepsSize hdu h) same (refl, length-rectangle_written (width_of kind) shape.axes lo hi number hdu.data_unit)
 
--- filled
-keeps_filled : (o : Option Kind) (shape : Shape) (lo hi : List ℕ) (value : ℤ) (hdu new : HduParts) → filled_by o shape lo hi value hdu ≡ Ok new → KeepsSize hdu new
-keeps_filled None shape lo hi value hdu new e = absurd (cc)
-keeps_filled (Some kind) shape lo hi value hdu new e =
+-- painted
+keeps_painted : (o : Option Kind) (shape : Shape) (lo hi : List ℕ) (paint : Paint) (hdu new : HduParts) → painted_by o shape lo hi paint hdu ≡ Ok new → KeepsSize hdu new
+keeps_painted None shape lo hi paint hdu new e = absurd (cc)
+keeps_painted (Some kind) shape lo hi paint hdu new e =
     let within = passed (not (lies_within shape.axes lo hi)) BadRectangle _ new e in
-    let stored = passed (not (can_store (width_of kind) (value -ℤ offset_of kind))) OutOfRange _ new within in
-    keeps shape kind lo hi (λ rank. value -ℤ offset_of kind) hdu new _ refl stored
-
--- written
-keeps_written : (o : Option Kind) (shape : Shape) (lo hi : List ℕ) (values : List ℤ) (hdu new : HduParts) → written_by o shape lo hi values hdu ≡ Ok new → KeepsSize hdu new
-keeps_written None shape lo hi values hdu new e = absurd (cc)
-keeps_written (Some kind) shape lo hi values hdu new e =
-    let within = passed (not (lies_within shape.axes lo hi)) BadRectangle _ new e in
-    let counted = passed (not (length values == rectangle_size lo hi)) WrongCount _ new within in
-    let stored = passed (not (can_store_all (width_of kind) (offset_of kind) values)) OutOfRange _ new counted in
-    keeps shape kind lo hi (λ rank. slice_index_or values rank (pos 0) -ℤ offset_of kind) hdu new _ refl stored
+    let counted = passed (not (has_count paint (rectangle_size lo hi))) WrongCount _ new within in
+    let stored = passed (not (can_store_paint (width_of kind) (offset_of kind) paint)) OutOfRange _ new counted in
+    keeps shape kind lo hi (painted_number paint (offset_of kind)) hdu new _ refl stored
 
 -- so it is an HDU
 kept_whole : (primary : Bool) (hdu new : HduParts) → IsHdu primary hdu → KeepsSize hdu new → IsHdu primary new × (new.header ≡ hdu.header) × (length new.data_unit ≡ length hdu.data_unit)
@@ -308,16 +259,10 @@ kept_whole primary hdu new p k = (
   k.1,
 )
 
--- an HDU that was filled
-pub filled_hdu : (primary : Bool) (shape : Shape) (hdu : HduParts) (lo hi : List ℕ) (value : ℤ) (new : HduParts) → IsHdu primary hdu → shape_of primary hdu.header.cards ≡ Ok shape → filled shape lo hi value hdu ≡ Ok new
+-- an HDU that was painted
+pub painted_hdu : (primary : Bool) (shape : Shape) (hdu : HduParts) (lo hi : List ℕ) (paint : Paint) (new : HduParts) → IsHdu primary hdu → shape_of primary hdu.header.cards ≡ Ok shape → painted shape lo hi paint hdu ≡ Ok new
     → IsHdu primary new × (new.header ≡ hdu.header) × (length new.data_unit ≡ length hdu.data_unit)
-unfolding filled
-filled_hdu primary shape hdu lo hi value new p described e = kept_whole primary hdu new p (keeps_filled (kind_in shape hdu.header.cards) shape lo hi value hdu new e)
-
--- an HDU that was written
-pub written_hdu : (primary : Bool) (shape : Shape) (hdu : HduParts) (lo hi : List ℕ) (values : List ℤ) (new : HduParts) → IsHdu primary hdu → shape_of primary hdu.header.cards ≡ Ok shape → written shape lo hi values hdu ≡ Ok new
-    → IsHdu primary new × (new.header ≡ hdu.header) × (length new.data_unit ≡ length hdu.data_unit)
-unfolding written
-written_hdu primary shape hdu lo hi values new p described e = kept_whole primary hdu new p (keeps_written (kind_in shape hdu.header.cards) shape lo hi values hdu new e)
+unfolding painted
+painted_hdu primary shape hdu lo hi paint new p described e = kept_whole primary hdu new p (keeps_painted (kind_in shape hdu.header.cards) shape lo hi paint hdu new e)
 
 pub ruleset pixel_steps = (layout_width, layout_pixels, kind_width, small_offset, length-rectangle_written)

@@ -1,9 +1,11 @@
 -- The pixels of an integer image, and what may be written to them (FITS Standard 4.0, sections 4.4.2.5 and 5.2; own).
-use Rattle.std.specs.Prelude.{◌≡◌, ℕ, ◌==◌, not, ℤ, pos, ◌+ℤ◌, ◌-ℤ◌, List, length, filter, map, slice_index_or, Option, None, Some, Result, Ok, Err, IsOk, if◌then◌else◌}
+use Rattle.std.specs.Prelude.{◌≡◌, ℕ, not, ℤ, ◌+ℤ◌, List, length, filter, map, Option, None, Some, Result, Ok, Err, IsOk, if◌then◌else◌}
 use Rattle.std.specs.Option.{option_map}
-use Rattle.fits_plane.specs.Pixels.{can_store, can_store_all, pixels}
+use Rattle.fits_plane.specs.Paint.{can_store_paint, has_count, painted_number}
+use Rattle.fits_plane.specs.Pixels.{pixels}
 use Rattle.fits_plane.specs.Rectangle.{lies_within, rectangle_size, rectangle_values, rectangle_written}
 use Rattle.fits_plane.specs.Statistics.{defined_numbers, greatest_of, is_blank, least_of, sum_of}
+use Rattle.fits_plane.specs.declared.paint.Paint.{Paint}
 use Rattle.fits_rules.specs.declared.array_shape.Shape.{Shape}
 use Rattle.fits_hdu.specs.Hdu.{HduParts}
 use Rattle.fits_hdu.specs.Kind.{kind_in, offset_of, width_of}
@@ -56,27 +58,15 @@ abbrev pub RectFails : Result (List ℤ) PixelFault → PixelFault → Type 0
 RectFails answer Memory = IsOk answer
 RectFails answer why = answer ≡ Err why
 
--- a rectangle is filled
-abbrev pub filled_by : Option Kind → Shape → List ℕ → List ℕ → ℤ → HduParts → Result HduParts PixelFault
-filled_by None shape lo hi value hdu = Err NotImage
-filled_by (Some kind) shape lo hi value hdu =
+-- a rectangle is painted
+abbrev pub painted_by : Option Kind → Shape → List ℕ → List ℕ → Paint → HduParts → Result HduParts PixelFault
+painted_by None shape lo hi paint hdu = Err NotImage
+painted_by (Some kind) shape lo hi paint hdu =
     if not (lies_within shape.axes lo hi) then Err BadRectangle
-    else if not (can_store (width_of kind) (value -ℤ offset_of kind)) then Err OutOfRange
-    else Ok (with_numbers shape kind lo hi (λ rank. value -ℤ offset_of kind) hdu)
+    else if not (has_count paint (rectangle_size lo hi)) then Err WrongCount
+    else if not (can_store_paint (width_of kind) (offset_of kind) paint) then Err OutOfRange
+    else Ok (with_numbers shape kind lo hi (painted_number paint (offset_of kind)) hdu)
 
--- an HDU with one value in each pixel of a rectangle, or the first test that fails
-unfoldable pub filled : Shape → List ℕ → List ℕ → ℤ → HduParts → Result HduParts PixelFault
-filled shape lo hi value hdu = filled_by (kind_in shape hdu.header.cards) shape lo hi value hdu
-
--- a rectangle is written
-abbrev pub written_by : Option Kind → Shape → List ℕ → List ℕ → List ℤ → HduParts → Result HduParts PixelFault
-written_by None shape lo hi values hdu = Err NotImage
-written_by (Some kind) shape lo hi values hdu =
-    if not (lies_within shape.axes lo hi) then Err BadRectangle
-    else if not (length values == rectangle_size lo hi) then Err WrongCount
-    else if not (can_store_all (width_of kind) (offset_of kind) values) then Err OutOfRange
-    else Ok (with_numbers shape kind lo hi (λ rank. slice_index_or values rank (pos 0) -ℤ offset_of kind) hdu)
-
--- an HDU with these values in a rectangle, in file order, or the first test that fails
-unfoldable pub written : Shape → List ℕ → List ℕ → List ℤ → HduParts → Result HduParts PixelFault
-written shape lo hi values hdu = written_by (kind_in shape hdu.header.cards) shape lo hi values hdu
+-- an HDU with a rectangle of its pixels painted, or the first test that fails
+unfoldable pub painted : Shape → List ℕ → List ℕ → Paint → HduParts → Result HduParts PixelFault
+painted shape lo hi paint hdu = painted_by (kind_in shape hdu.header.cards) shape lo hi paint hdu

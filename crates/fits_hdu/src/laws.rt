@@ -1,9 +1,10 @@
 //! Laws of the definitions, each the contract of a function that does nothing.
-ghost use Rattle.std.specs.Prelude.{◌≡◌, ◌⊎◌, ◌↔◌, ◌≤◌, ◌+◌, ℕ, ℤ, Bool, true, false, IsTrue, List, length, All, Option, None, Some, Ok, codes, nat_eq};
+ghost use Rattle.std.specs.Prelude.{◌≡◌, ◌⊎◌, ◌↔◌, ◌≤◌, ◌+◌, ℕ, Bool, true, false, IsTrue, List, length, All, Option, None, Some, Ok, codes, nat_eq};
 ghost use Rattle.std.specs.List.{starts_with};
 ghost use Rattle.fits_card.specs.Change.{cards_after, new_cards};
 ghost use Rattle.fits_card.specs.Header.{IsInnerCard};
 ghost use Rattle.fits_card.specs.declared.change.Change.{Change};
+ghost use Rattle.fits_plane.specs.declared.paint.Paint.{Paint};
 ghost use Rattle.fits_rules.specs.Image.{image_bits};
 ghost use Rattle.fits_rules.specs.Shape.{shape_of};
 ghost use Rattle.fits_rules.specs.declared.array_shape.Shape.{Shape};
@@ -16,7 +17,7 @@ ghost use Rattle.fits_hdu.specs.Findings.{AreFindings};
 ghost use Rattle.fits_hdu.specs.Hdu.{HduParts, IsHdu, IsHduOf, HasHduFault, hdu_after};
 ghost use Rattle.fits_hdu.specs.Kind.{IsKind, kind_in};
 ghost use Rattle.fits_hdu.specs.NewImage.{are_axes, image_cards, image_shape, new_image};
-ghost use Rattle.fits_hdu.specs.Pixels.{filled, written};
+ghost use Rattle.fits_hdu.specs.Pixels.{painted};
 ghost use Rattle.fits_hdu.specs.Stamp.{stamped};
 ghost use Rattle.fits_hdu.specs.Sums.{hdu_sum, verdicts_of};
 ghost use Rattle.fits_hdu.specs.declared.verdict.Verdict.TheVariants.{Right};
@@ -94,19 +95,11 @@ pub fn one_list_of_findings()
         × (name ≡ name') }
 {}
 
-/// An HDU whose pixels were filled is one: its header is the same, and its data unit as long.
-pub fn filled_hdus_are_hdus()
-    ensures { (primary : Bool) (shape : Shape) (hdu : HduParts) (lo hi : List ℕ) (value : ℤ)
+/// An HDU whose pixels were painted is one: its header is the same, and its data unit as long.
+pub fn painted_hdus_are_hdus()
+    ensures { (primary : Bool) (shape : Shape) (hdu : HduParts) (lo hi : List ℕ) (paint : Paint)
         (new : HduParts) → IsHdu primary hdu → shape_of primary hdu.header.cards ≡ Ok shape
-        → filled shape lo hi value hdu ≡ Ok new → IsHdu primary new × (new.header ≡ hdu.header)
-        × (length new.data_unit ≡ length hdu.data_unit) }
-{}
-
-/// An HDU whose pixels were written is one: its header is the same, and its data unit as long.
-pub fn written_hdus_are_hdus()
-    ensures { (primary : Bool) (shape : Shape) (hdu : HduParts) (lo hi : List ℕ) (values : List ℤ)
-        (new : HduParts) → IsHdu primary hdu → shape_of primary hdu.header.cards ≡ Ok shape
-        → written shape lo hi values hdu ≡ Ok new → IsHdu primary new × (new.header ≡ hdu.header)
+        → painted shape lo hi paint hdu ≡ Ok new → IsHdu primary new × (new.header ≡ hdu.header)
         × (length new.data_unit ≡ length hdu.data_unit) }
 {}
 

@@ -39,10 +39,10 @@ pub use keyword::KeywordFault;
 pub use keyword_cards::KeywordCards;
 pub use kind::Kind;
 pub use laws::{
-    a_change_leaves_an_hdu, a_stamped_hdu_is_right, an_hdu_or_a_fault, filled_hdus_are_hdus,
-    how_hdus_begin, new_images_are_hdus, no_fault_at_an_hdu, one_hdu, one_hdu_fault, one_kind,
-    one_list_of_findings, stamped_hdus_are_hdus, stamped_hdus_sum_to_all_ones,
-    which_kind_an_image_has, written_hdus_are_hdus,
+    a_change_leaves_an_hdu, a_stamped_hdu_is_right, an_hdu_or_a_fault, how_hdus_begin,
+    new_images_are_hdus, no_fault_at_an_hdu, one_hdu, one_hdu_fault, one_kind,
+    one_list_of_findings, painted_hdus_are_hdus, stamped_hdus_are_hdus,
+    stamped_hdus_sum_to_all_ones, which_kind_an_image_has,
 };
 pub use new_image::{are_axes, image_len, image_shape};
 pub use outline::Outline;

@@ -4,6 +4,7 @@ pub mod ExactLemmas
 pub mod JoinLemmas
 pub mod LaneLemmas
 pub mod LeafLemmas
+pub mod PaintLemmas
 pub mod PixelLemmas
 pub mod PlaceLemmas
 pub mod PlaneLemmas

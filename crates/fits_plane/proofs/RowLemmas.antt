@@ -91,6 +91,15 @@ in_row axes lo hi side row first i r w p q =
       ap (number axes lo hi) (sym e) ∙ number-place axes lo hi k r (w.number_lt x b),
     )
 
+-- a row's pixels are of the rectangle, by what is known of the loop
+pub row_lies : (axes lo hi : List ℕ) (n count row : ℕ) → IsRectangle axes lo hi → n ≡ row_size lo hi → count ≡ row_count lo hi → row < count → row * n + n ≤ rectangle_size lo hi
+row_lies axes lo hi n count row r e rows b =
+    let split = rectangle_size-rows lo hi in
+    let more = mul-le-mul_left (row_size lo hi) b in
+    let across : row * n ≡ row * row_size lo hi = ap (λ m. row * m) e in
+    let all : row_size lo hi * count ≡ row_size lo hi * row_count lo hi = ap (λ m. row_size lo hi * m) rows in
+    omega (arith, split, more, across, all, e)
+
 -- what the first axis gives, where there is one
 pub record FirstAxis (axes lo hi : List ℕ) : Type 0 where
   pub low : 0 < length lo

@@ -4,7 +4,7 @@ use Rattle.std.proofs.lemmas.Bool.{cases_lt, cases_eq}
 use Rattle.std.proofs.lemmas.List.{length-take, length-drop, get_or-take, get_or-drop}
 use Rattle.std.proofs.Math.Nat.{mul-le-mul_right, mul-le-mul_left, le-div_iff_mul-le, div-lt_iff_lt-mul}
 use Rattle.fits_plane.specs.Pixels.{pixel, IsWidth}
-use Rattle.fits_plane.specs.Rectangle.{product, place, rectangle_size, row_size, row_count, IsRectangle, is_inside, IsWritten}
+use Rattle.fits_plane.specs.Rectangle.{product, place, row_size, row_count, IsRectangle, is_inside, IsWritten}
 use Rattle.fits_plane.proofs.PixelLemmas.{pixel-same, width_range}
 use Rattle.fits_plane.proofs.PlaceLemmas.{number, place-number, number-lt-size, rank-number}
 use Rattle.fits_plane.proofs.RowLemmas.{Row, row_of, in_row, rectangle_size-rows}
@@ -151,15 +151,6 @@ part_of values at n h = record {
   long = omega (arith, length-take (at + n - at) (drop at values), length-drop at values);
   is = λ x b. let near : x < at + n - at = omega arith in get_or-take (at + n - at) (drop at values) x (pos 0) near ∙ get_or-drop at values x (pos 0);
 }
-
--- a row's part lies in the values
-pub part_room : (axes lo hi : List ℕ) (n count row size : ℕ) → IsRectangle axes lo hi → n ≡ row_size lo hi → count ≡ row_count lo hi → row < count → size ≡ rectangle_size lo hi → row * n + n ≤ size
-part_room axes lo hi n count row size r e rows b whole =
-    let split = rectangle_size-rows lo hi in
-    let more = mul-le-mul_left (row_size lo hi) b in
-    let across : row * n ≡ row * row_size lo hi = ap (λ m. row * m) e in
-    let all : row_size lo hi * count ≡ row_size lo hi * row_count lo hi = ap (λ m. row_size lo hi * m) rows in
-    omega (arith, split, more, across, all, e, whole)
 
 -- a row's bytes lie in the bytes
 pub row_room : (first part n side all w old new : ℕ) → part ≡ n → n ≡ side → first + side ≤ all → all * w ≤ old → new ≡ old → (first + part) * w ≤ new

@@ -1,5 +1,6 @@
 pub mod Layout
 pub mod Leaves
+pub mod Paint
 pub mod Pixels
 pub mod Plane
 pub mod Rectangle

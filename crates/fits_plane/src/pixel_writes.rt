@@ -1,9 +1,11 @@
-//! Rectangles of pixels, filled and written in the bytes of a data unit.
-ghost use Rattle.std.specs.Prelude.{◌≡◌, ◌≤◌, ◌<◌, ◌*◌, ◌+◌, ◌-ℤ◌, ◌^◌, ◌⊎◌, ℕ, pos, length, slice_index, slice_index_or, FitsSigned};
+//! Rectangles of pixels, painted in the bytes of a data unit.
+ghost use Rattle.std.specs.Prelude.{◌≡◌, ◌≤◌, ◌<◌, ◌*◌, ◌+◌, ◌-ℤ◌, ◌^◌, ◌⊎◌, ℕ, pos, true, length, slice_index, slice_index_or, FitsSigned};
 ghost use Rattle.std.specs.Int.{w64};
+ghost use Rattle.fits_plane.specs.Paint.{has_count, painted_number, HasValues};
 ghost use Rattle.fits_plane.specs.Pixels.{pixel, IsWidth, IsStorable};
 ghost use Rattle.fits_plane.specs.Rectangle.{IsRectangle, IsWritten, product, rectangle_size, rectangle_written};
 
+use crate::paint::Paint;
 use crate::pixels::{put_pixel, read_bytes};
 use crate::rectangle::{row_len, row_start, rows};
 
@@ -47,59 +49,74 @@ fn write_row(bytes: &mut [u8], width: usize, start: usize, values: &[i128], offs
     }
 }
 
-/// Fills a rectangle with a stored number, row by row.
-pub(crate) fn fill_rows(
+/// Paints a run of pixels, the first of which has this rank.
+///
+/// Which paint it is is asked once a row: asked at each pixel, it slows a fill by half and more.
+fn paint_row(
     bytes: &mut [u8],
     width: usize,
-    axes: &[u64],
-    lo: &[u64],
-    hi: &[u64],
-    stored: i64,
+    start: usize,
+    count: usize,
+    paint: &Paint,
+    rank: usize,
+    offset: i128,
 )
     requires width { IsWidth width }
-    requires rectangle { IsRectangle axes.now lo.now hi.now }
-    requires room { product axes.now * width ≤ length bytes.old }
-    requires small { product axes.now < 2 ^ 62 }
-    requires storable { IsStorable width stored }
-    ensures written { IsWritten width axes.now lo.now hi.now (λ k. stored) bytes.old bytes.new }
-    ensures value { bytes.new
-        ≡ rectangle_written width axes.now lo.now hi.now (λ k. stored) bytes.old }
+    requires within { (start + count) * width ≤ length bytes.old }
+    requires some { 0 < count }
+    requires ranks { rank + count < 2 ^ 62 }
+    requires values { HasValues paint.now (rank + count) }
+    requires storable { (x : ℕ) → x < count
+        → IsStorable width (painted_number paint.now offset (rank + x)) }
+    ensures long { length bytes.new ≡ length bytes.old }
+    ensures inside { (x : ℕ) → x < count
+        → pixel width bytes.new (start + x) ≡ painted_number paint.now offset (rank + x) }
+    ensures outside { (j : ℕ) → (j < start * width) ⊎ ((start + count) * width ≤ j)
+        → slice_index bytes.new j ≡ slice_index bytes.old j }
 {
-    let side = row_len(axes, lo, hi) as usize;
-    for row in 0..rows(axes, lo, hi) {
-        let start = row_start(axes, lo, hi, row);
-        fill_row(bytes, width, start, side, stored);
+    match paint {
+        Paint::Fill(value) => fill_row(bytes, width, start, count, stored_of(*value, offset)),
+        Paint::Write(values) => {
+            let part = &values.as_slice()[rank..rank + count];
+            write_row(bytes, width, start, part, offset);
+        }
     }
-    read_bytes(bytes);
 }
 
-/// Writes values less the offset over a rectangle in file order, row by row.
-pub(crate) fn write_rows(
+/// Paints a rectangle, row by row.
+pub(crate) fn paint_rows(
     bytes: &mut [u8],
     width: usize,
     axes: &[u64],
     lo: &[u64],
     hi: &[u64],
-    values: &[i128],
+    paint: &Paint,
     offset: i128,
 )
     requires width { IsWidth width }
     requires rectangle { IsRectangle axes.now lo.now hi.now }
     requires room { product axes.now * width ≤ length bytes.old }
     requires small { product axes.now < 2 ^ 62 }
-    requires count { length values.now ≡ rectangle_size lo.now hi.now }
-    requires storable { (k : ℕ) → k < length values.now
-        → IsStorable width (slice_index_or values.now k (pos 0) -ℤ offset) }
-    ensures written { IsWritten width axes.now lo.now hi.now
-        (λ k. slice_index_or values.now k (pos 0) -ℤ offset) bytes.old bytes.new }
+    requires count { has_count paint.now (rectangle_size lo.now hi.now) ≡ true }
+    requires storable { (k : ℕ) → k < rectangle_size lo.now hi.now
+        → IsStorable width (painted_number paint.now offset k) }
+    ensures written { IsWritten width axes.now lo.now hi.now (painted_number paint.now offset)
+        bytes.old bytes.new }
     ensures value { bytes.new ≡ rectangle_written width axes.now lo.now hi.now
-        (λ k. slice_index_or values.now k (pos 0) -ℤ offset) bytes.old }
+        (painted_number paint.now offset) bytes.old }
 {
     let side = row_len(axes, lo, hi) as usize;
     for row in 0..rows(axes, lo, hi) {
         let start = row_start(axes, lo, hi, row);
-        let at = row as usize * side;
-        write_row(bytes, width, start, &values[at..at + side], offset);
+        paint_row(
+            bytes,
+            width,
+            start,
+            side,
+            paint,
+            row as usize * side,
+            offset,
+        );
     }
     read_bytes(bytes);
 }

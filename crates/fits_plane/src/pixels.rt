@@ -19,7 +19,7 @@ pub fn is_storable(width: usize, number: i128) -> bool
 }
 
 /// Whether they can store a value less the offset.
-fn stores(width: usize, value: i128, offset: i128) -> bool
+pub(crate) fn stores(width: usize, value: i128, offset: i128) -> bool
     requires { IsWidth width }
     ensures { IsTrue result ↔ IsStorable width (value -ℤ offset) }
 {

@@ -2,14 +2,16 @@ ghost use Rattle.std.specs.Prelude.{◌≡◌, replicate, IfOk};
 
 use crate::layout::Layout;
 use crate::leaves::{leaves_of, refresh_rows, root_of, zero_leaves};
+use crate::paint::Paint;
 use crate::pixel_reads::read_rows;
 use crate::pixel_summary::PixelSummary;
-use crate::pixel_writes::{fill_rows, write_rows};
+use crate::pixel_writes::paint_rows;
 use crate::pixels::{pixel_at, read_bytes};
 use crate::rectangle::rectangle_len;
 use crate::scan::Leaf;
 use crate::tree::Tree;
 use crate::value_summary::ValueSummary;
+use crate::values::Values;
 use fits_card::{BLOCK_LEN, Count, Sink, write_all};
 use fits_sum::all_are;
 use std::alloc::{AllocError, Global};
@@ -53,11 +55,12 @@ impl Model for Plane {
 }
 
 impl Plane {
-    ghost use Rattle.std.specs.Prelude.{◌≡◌, ◌≤◌, ◌<◌, ◌*◌, ◌+◌, ◌-ℤ◌, ◌^◌, ◌↔◌, ℕ, pos, drop, length, replicate, slice_index_or, unsigned_abs, All, IsTrue, IfOk, OnOk, OnErr};
+    ghost use Rattle.std.specs.Prelude.{◌≡◌, ◌≤◌, ◌<◌, ◌*◌, ◌+◌, ◌-ℤ◌, ◌^◌, ◌↔◌, ℕ, pos, true, drop, length, replicate, slice_index_or, unsigned_abs, All, IsTrue, IfOk, OnOk, OnErr};
     ghost use Rattle.std.specs.Io.KnownBytes.{Appends};
     ghost use Rattle.fits_card.specs.Stream.{AppendsFront};
     ghost use Rattle.fits_sum.specs.Words.{word_total};
     ghost use Rattle.fits_plane.specs.Statistics.{statistics, value_statistics};
+    ghost use Rattle.fits_plane.specs.Paint.{has_count, painted_number};
     ghost use Rattle.fits_plane.specs.Pixels.{pixel, pixels, IsStorable};
     ghost use Rattle.fits_plane.specs.Rectangle.{IsRectangle, product, rectangle_size, rectangle_values, rectangle_written};
     ghost use Rattle.fits_plane.specs.Layout.{IsLayout, block_count};
@@ -185,6 +188,49 @@ impl Plane {
         all_are(&self.bytes.as_slice()[self.layout.used..], self.layout.fill)
     }
 
+    /// Gives the pixels of a rectangle the values of a paint, each less the offset.
+    pub fn paint_rect(&mut self, axes: &[u64], lo: &[u64], hi: &[u64], paint: &Paint, offset: i128)
+        requires rectangle { IsRectangle axes.now lo.now hi.now }
+        requires all { product axes.now ≡ self.old.layout.pixels }
+        requires count { has_count paint.now (rectangle_size lo.now hi.now) ≡ true }
+        requires storable { (k : ℕ) → k < rectangle_size lo.now hi.now
+            → IsStorable self.old.layout.width (painted_number paint.now offset k) }
+
+        // Each pixel of the rectangle has the number of its rank, every other byte is as before.
+        ensures bytes { self.new.bytes ≡ rectangle_written self.old.layout.width
+            axes.now lo.now hi.now (painted_number paint.now offset) self.old.bytes }
+        ensures layout { self.new.layout ≡ self.old.layout }
+
+        // Each block that holds a byte of it is scanned at most once. It takes no memory.
+        ensures reads { self.new.reads ≡ self.old.reads }
+        ensures more_scans { self.old.scans ≤ self.new.scans }
+        ensures scans { self.new.scans ≤ self.old.scans
+            + rectangle_blocks self.old.layout self.old.bytes axes.now lo.now hi.now }
+        ensures more_joins { self.old.joins ≤ self.new.joins }
+        ensures joins { (d : ℕ) → block_count self.old.bytes ≤ 2 ^ d
+            → self.new.joins ≤ self.old.joins
+            + rectangle_blocks self.old.layout self.old.bytes axes.now lo.now hi.now * d }
+    {
+        paint_rows(
+            self.bytes.as_mut_slice(),
+            self.layout.width,
+            axes,
+            lo,
+            hi,
+            paint,
+            offset,
+        );
+        refresh_rows(
+            &mut self.tree,
+            &mut self.scans,
+            self.bytes.as_slice(),
+            self.layout,
+            axes,
+            lo,
+            hi,
+        );
+    }
+
     /// Fills a rectangle with a stored number.
     pub fn fill_rect(&mut self, axes: &[u64], lo: &[u64], hi: &[u64], stored: i64)
         requires rectangle { IsRectangle axes.now lo.now hi.now }
@@ -206,23 +252,7 @@ impl Plane {
             → self.new.joins ≤ self.old.joins
             + rectangle_blocks self.old.layout self.old.bytes axes.now lo.now hi.now * d }
     {
-        fill_rows(
-            self.bytes.as_mut_slice(),
-            self.layout.width,
-            axes,
-            lo,
-            hi,
-            stored,
-        );
-        refresh_rows(
-            &mut self.tree,
-            &mut self.scans,
-            self.bytes.as_slice(),
-            self.layout,
-            axes,
-            lo,
-            hi,
-        );
+        self.paint_rect(axes, lo, hi, &Paint::Fill(i128::from(stored)), 0);
     }
 
     /// Writes the values of a rectangle in file order, each less the offset.
@@ -256,24 +286,7 @@ impl Plane {
             → self.new.joins ≤ self.old.joins
             + rectangle_blocks self.old.layout self.old.bytes axes.now lo.now hi.now * d }
     {
-        write_rows(
-            self.bytes.as_mut_slice(),
-            self.layout.width,
-            axes,
-            lo,
-            hi,
-            values,
-            offset,
-        );
-        refresh_rows(
-            &mut self.tree,
-            &mut self.scans,
-            self.bytes.as_slice(),
-            self.layout,
-            axes,
-            lo,
-            hi,
-        );
+        self.paint_rect(axes, lo, hi, &Paint::Write(Values::new(values)), offset);
     }
 
     /// The values of a rectangle in file order, each its stored number and the offset.

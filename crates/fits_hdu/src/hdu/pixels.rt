@@ -1,25 +1,9 @@
 //! The pixels of an HDU that is an image of integers.
-ghost use Rattle.std.specs.Prelude.{◌≡◌, ◌-ℤ◌, IfSome, IfNone};
-ghost use Rattle.fits_plane.specs.Pixels.{IsStorable, IsWidth};
-
 use super::Hdu;
 use crate::pixel_fault::PixelFault;
 use crate::stats::Stats;
-use fits_plane::{are_storable, is_rectangle, is_storable, rectangle_len};
+use fits_plane::{Paint, is_rectangle, rectangle_len};
 use std::alloc::Global;
-
-// The number that pixels of so many bytes store for a value, where they can.
-fn stored_number(width: usize, value: i128, offset: i128) -> Option<i64>
-    requires { IsWidth width }
-    ensures some { IfSome result (λ number. IsStorable width number
-        × (number ≡ value -ℤ offset)) }
-    ensures none { IfNone result (IsStorable width (value -ℤ offset) → ⊥) }
-{
-    match value.checked_sub(offset) {
-        Some(number) if is_storable(width, number) => Some(number as i64),
-        _ => None,
-    }
-}
 
 impl Hdu {
     ghost use Rattle.std.specs.Prelude.{◌≡◌, ◌≤◌, ◌+◌, ◌^◌, length, Ok, Err, IsOk, IfOk, IfErr, OnOk, OnErr};
@@ -29,7 +13,7 @@ impl Hdu {
     ghost use Rattle.fits_rules.specs.Class.{is_primary};
     ghost use Rattle.fits_rules.specs.Shape.{shape_of};
     ghost use Rattle.fits_hdu.specs.Layout.{layout_of};
-    ghost use Rattle.fits_hdu.specs.Pixels.{filled, rect_of, stats_of, written, RectFails};
+    ghost use Rattle.fits_hdu.specs.Pixels.{painted, rect_of, stats_of, RectFails};
     ghost use Rattle.fits_hdu.specs.Work.{IsPatched};
 
     /// The statistics of its pixels, where it is an image of integers. It takes no memory, and
@@ -78,48 +62,14 @@ impl Hdu {
         Ok(values)
     }
 
-    /// Gives every pixel of a rectangle this value. Corners count from 1.
+    /// Paints a rectangle of pixels. Corners count from 1.
     ///
     /// It takes no memory. Of the data unit it scans the blocks that hold a byte of the rectangle.
     #[tactic(auto, using(crate::proofs::PixelLemmas::pixel_steps))]
-    pub fn fill(&mut self, lo: &[u64], hi: &[u64], value: i128) -> Result<(), PixelFault>
-        ensures ok { OnOk result (filled self.old.shape lo.now hi.now value self.old.hdu
+    pub fn paint(&mut self, lo: &[u64], hi: &[u64], paint: &Paint) -> Result<(), PixelFault>
+        ensures ok { OnOk result (painted self.old.shape lo.now hi.now paint.now self.old.hdu
             ≡ Ok self.new.hdu) }
-        ensures err { IfErr result (λ why. filled self.old.shape lo.now hi.now value self.old.hdu
-            ≡ Err why) }
-        ensures same { OnErr result (self.new ≡ self.old) }
-        ensures shape { self.new.shape ≡ self.old.shape }
-        ensures room { self.new.room ≡ self.old.room }
-        ensures reads { self.new.reads ≡ self.old.reads }
-        ensures work { OnOk result (IsPatched
-            (rectangle_blocks (layout_of self.old.shape self.old.hdu.header.cards)
-            self.old.hdu.data_unit self.old.shape.axes lo.now hi.now)
-            (block_count self.old.hdu.data_unit) self.old.pixel_work self.new.pixel_work) }
-        ensures described { shape_of (is_primary self.old.shape.class) self.old.hdu.header.cards
-            ≡ Ok self.old.shape }
-    {
-        let Some(kind) = self.kind else {
-            return Err(PixelFault::NotImage);
-        };
-        let axes = self.header.shape().axes.as_slice();
-        if !is_rectangle(axes, lo, hi) {
-            return Err(PixelFault::BadRectangle);
-        }
-        let Some(stored) = stored_number(kind.width(), value, kind.offset()) else {
-            return Err(PixelFault::OutOfRange);
-        };
-        self.plane.fill_rect(axes, lo, hi, stored);
-        Ok(())
-    }
-
-    /// Gives the pixels of a rectangle these values, in file order. Corners count from 1.
-    ///
-    /// It takes no memory. Of the data unit it scans the blocks that hold a byte of the rectangle.
-    #[tactic(auto, using(crate::proofs::PixelLemmas::pixel_steps))]
-    pub fn write(&mut self, lo: &[u64], hi: &[u64], values: &[i128]) -> Result<(), PixelFault>
-        ensures ok { OnOk result (written self.old.shape lo.now hi.now values.now self.old.hdu
-            ≡ Ok self.new.hdu) }
-        ensures err { IfErr result (λ why. written self.old.shape lo.now hi.now values.now
+        ensures err { IfErr result (λ why. painted self.old.shape lo.now hi.now paint.now
             self.old.hdu ≡ Err why) }
         ensures same { OnErr result (self.new ≡ self.old) }
         ensures shape { self.new.shape ≡ self.old.shape }
@@ -141,13 +91,14 @@ impl Hdu {
         }
         // The layout says that the pixels are few.
         let _layout = self.plane.layout();
-        if values.len() as u64 != rectangle_len(axes, lo, hi) {
+        if !paint.has_count(rectangle_len(axes, lo, hi)) {
             return Err(PixelFault::WrongCount);
         }
-        if !are_storable(kind.width(), values, kind.offset()) {
+        let offset = kind.offset();
+        if !paint.is_storable(kind.width(), offset) {
             return Err(PixelFault::OutOfRange);
         }
-        self.plane.write_rect(axes, lo, hi, values, kind.offset());
+        self.plane.paint_rect(axes, lo, hi, paint, offset);
         Ok(())
     }
 }

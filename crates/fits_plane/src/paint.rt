@@ -1,0 +1,40 @@
+ghost use Rattle.std.specs.Prelude.{◌≡◌, ◌<◌, ℕ, true, IsTrue};
+ghost use Rattle.fits_plane.specs.Paint.{can_store_paint, has_count, painted_number};
+ghost use Rattle.fits_plane.specs.Pixels.{IsWidth, IsStorable};
+
+use crate::pixels::{are_storable, stores};
+use crate::values::Values;
+
+/// What the pixels of a rectangle are given.
+#[derive(Drop)]
+pub enum Paint<'a> {
+    /// This value in each.
+    Fill(i128),
+    /// These values, in file order.
+    Write(Values<'a>),
+}
+
+impl<'a> Paint<'a> {
+    /// Whether it has a value for each of so many pixels, and no more.
+    pub fn has_count(&self, size: u64) -> bool
+        ensures { result ≡ has_count self.now size }
+    {
+        match self {
+            Paint::Fill(_) => true,
+            Paint::Write(values) => values.as_slice().len() as u64 == size,
+        }
+    }
+
+    /// Whether pixels of so many bytes can store each of its values less the offset.
+    pub fn is_storable(&self, width: usize, offset: i128) -> bool
+        requires { IsWidth width }
+        ensures value { result ≡ can_store_paint width offset self.now }
+        ensures numbers { IsTrue result → (size : ℕ) → has_count self.now size ≡ true → (k : ℕ)
+            → k < size → IsStorable width (painted_number self.now offset k) }
+    {
+        match self {
+            Paint::Fill(value) => stores(width, *value, offset),
+            Paint::Write(values) => are_storable(width, values.as_slice(), offset),
+        }
+    }
+}
