@@ -15,7 +15,7 @@ use Rattle.fits_hdu.proofs.ShapeLemmas.{one_primary}
 use Rattle.fits_session.specs.File.{FileParts, joined_hdus, offsets_from, IsFileOf}
 use Rattle.fits_session.specs.declared.limits.TheConstants.{FILE_LIMIT}
 use Rattle.fits_session.specs.Reading.{is_outline, IsOutlineOf, KeepsEach}
-use Rattle.fits_session.specs.Refusal.{is_primary_hdu}
+use Rattle.fits_session.specs.Edit.{is_primary_hdu}
 use Rattle.fits_session.specs.declared.offsets.HduOffsets.{HduOffsets}
 use Rattle.fits_cli.specs.Listing.{axes_text, more_axes_text, line_front, line_back, hdu_line, line_of, hdu_lines, listing, outlined_len, outlined_lines, outlined_offsets}
 use Rattle.fits_cli.specs.Faults.{PrintFails}

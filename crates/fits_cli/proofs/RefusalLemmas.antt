@@ -1,7 +1,7 @@
 -- An edit's refusal as its command's.
 use Rattle.std.proofs.Common.{◌≡◌, inl, inr, refl, Err, Some}
 use Rattle.fits_session.specs.File.{FileParts}
-use Rattle.fits_session.specs.Refusal.{refusal_of, EditRefused}
+use Rattle.fits_session.specs.Refusal.{refusal_of, EditNeedsMemory, Fails}
 use Rattle.fits_session.specs.declared.edit.Edit.{Edit}
 use Rattle.fits_session.specs.declared.refusal.Refusal.{Refusal}
 use Rattle.fits_session.specs.declared.refusal.Refusal.TheVariants.{NoHdu, NoCard, NoKey, BadText, EndCard, Shape, BadName, BadValue, NotImage, BadRect, WrongCount, Range, PrimaryStays, TooLarge, Memory}
@@ -15,7 +15,7 @@ unfolding outcome_of
 refused_edit file edit why e = rw e refl
 
 -- an edit that fails is a command that fails
-pub CommandFails-edit : (file : FileParts) (edit : Edit) (why : Refusal) → EditRefused edit (refusal_of file edit) why → CommandFails file (command.Edit edit) why
+pub CommandFails-edit : (file : FileParts) (edit : Edit) (why : Refusal) → Fails (EditNeedsMemory edit) (refusal_of file edit) why → CommandFails file (command.Edit edit) why
 unfolding OutcomeNeedsMemory
 CommandFails-edit file edit Memory (inl e) = absurd (never_memory file edit e)
 CommandFails-edit file edit Memory (inr p) = p.1

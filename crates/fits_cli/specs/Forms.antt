@@ -8,7 +8,14 @@ use Rattle.fits_value.specs.Spelling.{is_digit}
 use Rattle.fits_value.specs.declared.value.Value.{Value}
 use Rattle.fits_hdu.specs.declared.kind.Kind.{Kind}
 use Rattle.fits_hdu.specs.declared.kind.Kind.TheVariants.{U8, I8, I16, U16, I32, U32, I64, U64}
-use Rattle.fits_session.specs.declared.edit.Edit.TheVariants.{Insert, Put, Delete, Move, Set, Unset, Fill, Write, NewImage, RemoveHdu, Stamp}
+use Rattle.fits_session.specs.declared.card_edit.CardEdit.{CardEdit}
+use Rattle.fits_session.specs.declared.card_edit.CardEdit.TheVariants.{Insert, Put, Delete, Move, Set, Unset}
+use Rattle.fits_session.specs.declared.edit.Edit.{Edit as SessionEdit}
+use Rattle.fits_session.specs.declared.edit.Edit.TheVariants.{Hdu, NewImage, RemoveHdu}
+use Rattle.fits_session.specs.declared.hdu_edit.HduEdit.{HduEdit}
+use Rattle.fits_session.specs.declared.hdu_edit.HduEdit.TheVariants.{Cards, Pixels, Stamp}
+use Rattle.fits_session.specs.declared.paint.Paint.{Paint}
+use Rattle.fits_session.specs.declared.paint.Paint.TheVariants.{Fill, Write}
 use Rattle.fits_cli.specs.Cut.{HasNo}
 use Rattle.fits_cli.specs.Line.{name_of_text}
 use Rattle.fits_cli.specs.declared.command.Command.{Command}
@@ -119,116 +126,117 @@ pub record IsCard (text card : List ℕ) : Type 0 where
   pub short : length text ≤ 80
   pub is : card ≡ card_of_text text
 
--- `H P CARD`; CARD may be empty without the space before it
-pub record IsCardForm (h p : ℕ) (card text : List ℕ) : Type 0 where
-  pub hdu : List ℕ
+-- `P CARD`, here and below what follows H; CARD may be empty without the space before it
+pub record IsCardForm (p : ℕ) (card : List ℕ) (text : Option (List ℕ)) : Type 0 where
   pub place : List ℕ
   pub rest : Option (List ℕ)
-  pub is : text ≡ before hdu (place ++ followed rest)
-  pub is_hdu : IsNumber hdu h
+  pub is : text ≡ Some (place ++ followed rest)
   pub is_place : IsNumber place p
   pub is_card : IsCard (unwrap_or rest []) card
 
--- `H P`
-pub record IsPlaceForm (h p : ℕ) (text : List ℕ) : Type 0 where
-  pub hdu : List ℕ
+-- `P`
+pub record IsPlaceForm (p : ℕ) (text : Option (List ℕ)) : Type 0 where
   pub place : List ℕ
-  pub is : text ≡ before hdu place
-  pub is_hdu : IsNumber hdu h
+  pub is : text ≡ Some place
   pub is_place : IsNumber place p
 
--- `H P Q`
-pub record IsMoveForm (h p q : ℕ) (text : List ℕ) : Type 0 where
-  pub hdu : List ℕ
+-- `P Q`
+pub record IsMoveForm (p q : ℕ) (text : Option (List ℕ)) : Type 0 where
   pub from : List ℕ
   pub to : List ℕ
-  pub is : text ≡ before hdu (before from to)
-  pub is_hdu : IsNumber hdu h
+  pub is : text ≡ Some (before from to)
   pub is_from : IsNumber from p
   pub is_to : IsNumber to q
 
--- `H NAME`
-pub record IsNameForm (h : ℕ) (name text : List ℕ) : Type 0 where
-  pub hdu : List ℕ
+-- `NAME`
+pub record IsNameForm (name : List ℕ) (text : Option (List ℕ)) : Type 0 where
   pub word : List ℕ
-  pub is : text ≡ before hdu word
-  pub is_hdu : IsNumber hdu h
+  pub is : text ≡ Some word
   pub is_name : IsName word name
 
--- `H NAME FIELD`: what FIELD says as bytes 11 to 80 of a card would; it may be empty without the space before it
-pub record IsFieldForm (h : ℕ) (name : List ℕ) (value : Value) (comment : Option (List ℕ)) (text : List ℕ) : Type 0 where
-  pub hdu : List ℕ
+-- `NAME FIELD`: what FIELD says as bytes 11 to 80 of a card would; it may be empty without the space before it
+pub record IsFieldForm (name : List ℕ) (value : Value) (comment : Option (List ℕ)) (text : Option (List ℕ)) : Type 0 where
   pub word : List ℕ
   pub rest : Option (List ℕ)
-  pub is : text ≡ before hdu (word ++ followed rest)
-  pub is_hdu : IsNumber hdu h
+  pub is : text ≡ Some (word ++ followed rest)
   pub is_name : IsName word name
   pub says : field_says (unwrap_or rest []) ≡ Some (value, comment)
 
--- `H RECT`
-pub record IsRectangleForm (h : ℕ) (lo hi text : List ℕ) : Type 0 where
-  pub hdu : List ℕ
+-- `RECT`
+pub record IsRectangleForm (lo hi : List ℕ) (text : Option (List ℕ)) : Type 0 where
   pub area : List ℕ
-  pub is : text ≡ before hdu area
-  pub is_hdu : IsNumber hdu h
+  pub is : text ≡ Some area
   pub is_area : IsRectangle area lo hi
 
--- `H RECT V`
-pub record IsFillForm (h : ℕ) (lo hi : List ℕ) (value : ℤ) (text : List ℕ) : Type 0 where
-  pub hdu : List ℕ
-  pub area : List ℕ
-  pub word : List ℕ
-  pub is : text ≡ before hdu (before area word)
-  pub is_hdu : IsNumber hdu h
-  pub is_area : IsRectangle area lo hi
-  pub is_value : IsValue word value
+-- `V`, or `V V ..`
+abbrev pub ArePaint : List ℕ → Paint → Type 0
+ArePaint words (Fill value) = IsValue words value
+ArePaint words (Write values) = IsValues words values
 
--- `H RECT V V ..`
-pub record IsWriteForm (h : ℕ) (lo hi : List ℕ) (values : List ℤ) (text : List ℕ) : Type 0 where
-  pub hdu : List ℕ
+-- `RECT V`, or `RECT V V ..`
+pub record IsPaintForm (lo hi : List ℕ) (paint : Paint) (text : Option (List ℕ)) : Type 0 where
   pub area : List ℕ
   pub words : List ℕ
-  pub is : text ≡ before hdu (before area words)
-  pub is_hdu : IsNumber hdu h
+  pub is : text ≡ Some (before area words)
   pub is_area : IsRectangle area lo hi
-  pub are_values : IsValues words values
+  pub are_paint : ArePaint words paint
 
--- `H KIND AXES`
-pub record IsNewForm (h : ℕ) (kind : Kind) (axes text : List ℕ) : Type 0 where
-  pub hdu : List ℕ
+-- `KIND AXES`
+pub record IsNewForm (kind : Kind) (axes : List ℕ) (text : Option (List ℕ)) : Type 0 where
   pub word : List ℕ
-  pub is : text ≡ before hdu (before (kind_word kind) word)
-  pub is_hdu : IsNumber hdu h
+  pub is : text ≡ Some (before (kind_word kind) word)
   pub are_axes : IsAxes word axes
+
+-- nothing
+abbrev pub IsAlone : Option (List ℕ) → Type 0
+IsAlone text = text ≡ None
 
 -- an empty line, or a comment
 abbrev pub IsNothing : List ℕ → Type 0
 IsNothing line = (line ≡ []) ⊎ ((rest : List ℕ) × (line ≡ codes "#" ++ rest))
 
--- the line is this word and a rest of this form
-pub record Begins (verb : List ℕ) (IsForm : List ℕ → Type 0) (line : List ℕ) : Type 0 where
-  pub rest : List ℕ
-  pub is : line ≡ before verb rest
+-- the line is this word, HDU h, and what follows of this form
+pub record Names (verb : List ℕ) (h : ℕ) (IsForm : Option (List ℕ) → Type 0) (line : List ℕ) : Type 0 where
+  pub hdu : List ℕ
+  pub rest : Option (List ℕ)
+  pub is : line ≡ before verb (hdu ++ followed rest)
+  pub is_hdu : IsNumber hdu h
   pub form : IsForm rest
+
+-- the line says this edit of the cards of HDU h
+abbrev pub CardsSaid : List ℕ → ℕ → CardEdit → Type 0
+CardsSaid line h (Insert p card) = Names (codes "ins") h (IsCardForm p card) line
+CardsSaid line h (Put p card) = Names (codes "put") h (IsCardForm p card) line
+CardsSaid line h (Delete p) = Names (codes "del") h (IsPlaceForm p) line
+CardsSaid line h (Move p q) = Names (codes "mov") h (IsMoveForm p q) line
+CardsSaid line h (Set name value comment) = Names (codes "set") h (IsFieldForm name value comment) line
+CardsSaid line h (Unset name) = Names (codes "unset") h (IsNameForm name) line
+
+-- the word of an edit of pixels
+abbrev pub paint_word : Paint → List ℕ
+paint_word (Fill value) = codes "fill"
+paint_word (Write values) = codes "write"
+
+-- the line says this edit of HDU h
+abbrev pub HduSaid : List ℕ → ℕ → HduEdit → Type 0
+HduSaid line h (Cards edit) = CardsSaid line h edit
+HduSaid line h (Pixels lo hi paint) = Names (paint_word paint) h (IsPaintForm lo hi paint) line
+HduSaid line h Stamp = Names (codes "stamp") h IsAlone line
+
+-- the line says this edit
+abbrev pub EditSaid : List ℕ → SessionEdit → Type 0
+EditSaid line (Hdu h edit) = HduSaid line h edit
+EditSaid line (NewImage h kind axes) = Names (codes "new") h (IsNewForm kind axes) line
+EditSaid line (RemoveHdu h) = Names (codes "rm") h IsAlone line
 
 -- the line says this command
 abbrev pub Says : List ℕ → Command → Type 0
 Says line Nothing = IsNothing line
-Says line (Edit (Insert h p card)) = Begins (codes "ins") (IsCardForm h p card) line
-Says line (Edit (Put h p card)) = Begins (codes "put") (IsCardForm h p card) line
-Says line (Edit (Delete h p)) = Begins (codes "del") (IsPlaceForm h p) line
-Says line (Edit (Move h p q)) = Begins (codes "mov") (IsMoveForm h p q) line
-Says line (Edit (Set h name value comment)) = Begins (codes "set") (IsFieldForm h name value comment) line
-Says line (Edit (Unset h name)) = Begins (codes "unset") (IsNameForm h name) line
-Says line (Edit (Fill h lo hi value)) = Begins (codes "fill") (IsFillForm h lo hi value) line
-Says line (Edit (Write h lo hi values)) = Begins (codes "write") (IsWriteForm h lo hi values) line
-Says line (Edit (NewImage h kind axes)) = Begins (codes "new") (IsNewForm h kind axes) line
-Says line (Edit (RemoveHdu h)) = Begins (codes "rm") (λ rest. IsNumber rest h) line
-Says line (Edit (Stamp h)) = Begins (codes "stamp") (λ rest. IsNumber rest h) line
-Says line (Get h name) = Begins (codes "get") (IsNameForm h name) line
-Says line (Positions h name) = Begins (codes "pos") (IsNameForm h name) line
+Says line (Edit edit) = EditSaid line edit
 Says line Offsets = line ≡ codes "off"
 Says line Report = line ≡ codes "rep"
-Says line (Statistics h) = Begins (codes "stat") (λ rest. IsNumber rest h) line
-Says line (Rectangle h lo hi) = Begins (codes "rect") (IsRectangleForm h lo hi) line
-Says line (Sums h) = Begins (codes "sum") (λ rest. IsNumber rest h) line
+Says line (Get h name) = Names (codes "get") h (IsNameForm name) line
+Says line (Positions h name) = Names (codes "pos") h (IsNameForm name) line
+Says line (Statistics h) = Names (codes "stat") h IsAlone line
+Says line (Rectangle h lo hi) = Names (codes "rect") h (IsRectangleForm lo hi) line
+Says line (Sums h) = Names (codes "sum") h IsAlone line

@@ -10,8 +10,14 @@ use Rattle.fits_value.specs.Spelling.{is_digit, is_space}
 use Rattle.fits_value.specs.declared.value.Value.{Value}
 use Rattle.fits_hdu.specs.declared.kind.Kind.{Kind}
 use Rattle.fits_hdu.specs.declared.kind.Kind.TheVariants.{U8, I8, I16, U16, I32, U32, I64, U64}
+use Rattle.fits_session.specs.declared.card_edit.CardEdit.{CardEdit}
+use Rattle.fits_session.specs.declared.card_edit.CardEdit.TheVariants.{Insert, Put, Delete, Move, Set, Unset}
 use Rattle.fits_session.specs.declared.edit.Edit.{Edit as SessionEdit}
-use Rattle.fits_session.specs.declared.edit.Edit.TheVariants.{Insert, Put, Delete, Move, Set, Unset, Fill, Write, NewImage, RemoveHdu, Stamp}
+use Rattle.fits_session.specs.declared.edit.Edit.TheVariants.{Hdu, NewImage, RemoveHdu}
+use Rattle.fits_session.specs.declared.hdu_edit.HduEdit.{HduEdit}
+use Rattle.fits_session.specs.declared.hdu_edit.HduEdit.TheVariants.{Cards, Pixels, Stamp}
+use Rattle.fits_session.specs.declared.paint.Paint.{Paint}
+use Rattle.fits_session.specs.declared.paint.Paint.TheVariants.{Fill, Write}
 use Rattle.fits_cli.specs.declared.limits.TheConstants.{LINE_LIMIT}
 use Rattle.fits_cli.specs.declared.command.Command.{Command}
 use Rattle.fits_cli.specs.declared.command.Command.TheVariants.{Nothing, Edit, Offsets, Get, Positions, Report, Statistics, Rectangle, Sums}
@@ -191,177 +197,173 @@ unfoldable pub alone : {X : Type 0} → Option (List ℕ) → X → Option X
 alone None said = Some said
 alone (Some text) said = None
 
--- `H P CARD`
-unfoldable pub card_words : Option (List ℕ) → Option (ℕ × ℕ × List ℕ)
+-- `P CARD`
+unfoldable pub card_words : Option (List ℕ) → Option (ℕ × List ℕ)
 card_words rest = do
-  hdu ← number_first rest
-  place ← number_first hdu.1
+  place ← number_first rest
   card ← card_last place.1
-  Some (hdu.0, place.0, card)
+  Some (place.0, card)
 
--- `H P`
-unfoldable pub place_words : Option (List ℕ) → Option (ℕ × ℕ)
-place_words rest = do
-  hdu ← number_first rest
-  place ← number_first hdu.1
-  alone place.1 (hdu.0, place.0)
+-- `P`
+unfoldable pub place_word : Option (List ℕ) → Option ℕ
+place_word rest = do
+  place ← number_first rest
+  alone place.1 place.0
 
--- `H P Q`
-unfoldable pub move_words : Option (List ℕ) → Option (ℕ × ℕ × ℕ)
+-- `P Q`
+unfoldable pub move_words : Option (List ℕ) → Option (ℕ × ℕ)
 move_words rest = do
-  hdu ← number_first rest
-  from ← number_first hdu.1
+  from ← number_first rest
   to ← number_first from.1
-  alone to.1 (hdu.0, from.0, to.0)
+  alone to.1 (from.0, to.0)
 
--- `H NAME`
-unfoldable pub name_words : Option (List ℕ) → Option (ℕ × List ℕ)
-name_words rest = do
-  hdu ← number_first rest
-  name ← name_first hdu.1
-  alone name.1 (hdu.0, name.0)
+-- `NAME`
+unfoldable pub name_word : Option (List ℕ) → Option (List ℕ)
+name_word rest = do
+  name ← name_first rest
+  alone name.1 name.0
 
--- `H NAME FIELD`: what the field says is a value and a comment; it may be empty without the space before it
-unfoldable pub field_words : Option (List ℕ) → Option (ℕ × List ℕ × Value × Option (List ℕ))
+-- `NAME FIELD`: what the field says is a value and a comment; it may be empty without the space before it
+unfoldable pub field_words : Option (List ℕ) → Option (List ℕ × Value × Option (List ℕ))
 field_words rest = do
-  hdu ← number_first rest
-  name ← name_first hdu.1
+  name ← name_first rest
   said ← field_says (unwrap_or name.1 [])
-  Some (hdu.0, name.0, said.0, said.1)
+  Some (name.0, said.0, said.1)
 
--- `H`
-unfoldable pub hdu_word : Option (List ℕ) → Option ℕ
-hdu_word rest = do
-  hdu ← number_first rest
-  alone hdu.1 hdu.0
+-- `RECT`
+unfoldable pub rectangle_word : Option (List ℕ) → Option (List ℕ × List ℕ)
+rectangle_word rest = do
+  area ← rectangle_first rest
+  alone area.2 (area.0, area.1)
 
--- `H RECT`
-unfoldable pub rectangle_words : Option (List ℕ) → Option (ℕ × List ℕ × List ℕ)
-rectangle_words rest = do
-  hdu ← number_first rest
-  area ← rectangle_first hdu.1
-  alone area.2 (hdu.0, area.0, area.1)
-
--- `H RECT V`
-unfoldable pub fill_words : Option (List ℕ) → Option (ℕ × List ℕ × List ℕ × ℤ)
+-- `RECT V`
+unfoldable pub fill_words : Option (List ℕ) → Option (List ℕ × List ℕ × Paint)
 fill_words rest = do
-  hdu ← number_first rest
-  area ← rectangle_first hdu.1
+  area ← rectangle_first rest
   value ← value_last area.2
-  Some (hdu.0, area.0, area.1, value)
+  Some (area.0, area.1, Fill value)
 
--- `H RECT V V ..`
-unfoldable pub write_words : Option (List ℕ) → Option (ℕ × List ℕ × List ℕ × List ℤ)
+-- `RECT V V ..`
+unfoldable pub write_words : Option (List ℕ) → Option (List ℕ × List ℕ × Paint)
 write_words rest = do
-  hdu ← number_first rest
-  area ← rectangle_first hdu.1
+  area ← rectangle_first rest
   values ← values_last area.2
-  Some (hdu.0, area.0, area.1, values)
+  Some (area.0, area.1, Write values)
 
--- `H KIND AXES`
-unfoldable pub new_words : Option (List ℕ) → Option (ℕ × Kind × List ℕ)
+-- `KIND AXES`
+unfoldable pub new_words : Option (List ℕ) → Option (Kind × List ℕ)
 new_words rest = do
-  hdu ← number_first rest
-  kind ← kind_first hdu.1
+  kind ← kind_first rest
   axes ← axes_last kind.1
-  Some (hdu.0, kind.0, axes)
+  Some (kind.0, axes)
 
--- `ins H P CARD`
-abbrev pub insert_said : Option (List ℕ) → Option Command
-insert_said rest = option_map (λ said. Edit (Insert said.0 said.1 said.2)) (card_words rest)
+-- the cards of HDU h are edited
+abbrev pub cards_command : ℕ → CardEdit → Command
+cards_command h edit = Edit (Hdu h (Cards edit))
+
+-- `ins H P CARD`, here and below by H and what follows it
+abbrev pub insert_said : ℕ → Option (List ℕ) → Option Command
+insert_said h rest = option_map (λ said. cards_command h (Insert said.0 said.1)) (card_words rest)
 
 -- `put H P CARD`
-abbrev pub put_said : Option (List ℕ) → Option Command
-put_said rest = option_map (λ said. Edit (Put said.0 said.1 said.2)) (card_words rest)
+abbrev pub put_said : ℕ → Option (List ℕ) → Option Command
+put_said h rest = option_map (λ said. cards_command h (Put said.0 said.1)) (card_words rest)
 
 -- `del H P`
-abbrev pub delete_said : Option (List ℕ) → Option Command
-delete_said rest = option_map (λ said. Edit (Delete said.0 said.1)) (place_words rest)
+abbrev pub delete_said : ℕ → Option (List ℕ) → Option Command
+delete_said h rest = option_map (λ place. cards_command h (Delete place)) (place_word rest)
 
 -- `mov H P Q`
-abbrev pub move_said : Option (List ℕ) → Option Command
-move_said rest = option_map (λ said. Edit (Move said.0 said.1 said.2)) (move_words rest)
+abbrev pub move_said : ℕ → Option (List ℕ) → Option Command
+move_said h rest = option_map (λ said. cards_command h (Move said.0 said.1)) (move_words rest)
 
 -- `set H NAME FIELD`
-abbrev pub set_said : Option (List ℕ) → Option Command
-set_said rest = option_map (λ said. Edit (Set said.0 said.1 said.2 said.3)) (field_words rest)
+abbrev pub set_said : ℕ → Option (List ℕ) → Option Command
+set_said h rest = option_map (λ said. cards_command h (Set said.0 said.1 said.2)) (field_words rest)
 
 -- `unset H NAME`
-abbrev pub unset_said : Option (List ℕ) → Option Command
-unset_said rest = option_map (λ said. Edit (Unset said.0 said.1)) (name_words rest)
+abbrev pub unset_said : ℕ → Option (List ℕ) → Option Command
+unset_said h rest = option_map (λ name. cards_command h (Unset name)) (name_word rest)
 
--- `get H NAME`
-abbrev pub get_said : Option (List ℕ) → Option Command
-get_said rest = option_map (λ said. Get said.0 said.1) (name_words rest)
-
--- `pos H NAME`
-abbrev pub positions_said : Option (List ℕ) → Option Command
-positions_said rest = option_map (λ said. Positions said.0 said.1) (name_words rest)
-
--- `fill H RECT V`
-abbrev pub fill_said : Option (List ℕ) → Option Command
-fill_said rest = option_map (λ said. Edit (Fill said.0 said.1 said.2 said.3)) (fill_words rest)
-
--- `write H RECT V V ..`
-abbrev pub write_said : Option (List ℕ) → Option Command
-write_said rest = option_map (λ said. Edit (Write said.0 said.1 said.2 said.3)) (write_words rest)
+-- `fill H RECT V` or `write H RECT V V ..`
+abbrev pub paint_said : ℕ → Option (List ℕ × List ℕ × Paint) → Option Command
+paint_said h words = option_map (λ said. Edit (Hdu h (Pixels said.0 said.1 said.2))) words
 
 -- `new H KIND AXES`
-abbrev pub new_said : Option (List ℕ) → Option Command
-new_said rest = option_map (λ said. Edit (NewImage said.0 said.1 said.2)) (new_words rest)
+abbrev pub new_said : ℕ → Option (List ℕ) → Option Command
+new_said h rest = option_map (λ said. Edit (NewImage h said.0 said.1)) (new_words rest)
 
 -- `rm H`
-abbrev pub remove_said : Option (List ℕ) → Option Command
-remove_said rest = option_map (λ hdu. Edit (RemoveHdu hdu)) (hdu_word rest)
+abbrev pub remove_said : ℕ → Option (List ℕ) → Option Command
+remove_said h rest = alone rest (Edit (RemoveHdu h))
 
 -- `stamp H`
-abbrev pub stamp_said : Option (List ℕ) → Option Command
-stamp_said rest = option_map (λ hdu. Edit (Stamp hdu)) (hdu_word rest)
+abbrev pub stamp_said : ℕ → Option (List ℕ) → Option Command
+stamp_said h rest = alone rest (Edit (Hdu h Stamp))
+
+-- `get H NAME`
+abbrev pub get_said : ℕ → Option (List ℕ) → Option Command
+get_said h rest = option_map (λ name. Get h name) (name_word rest)
+
+-- `pos H NAME`
+abbrev pub positions_said : ℕ → Option (List ℕ) → Option Command
+positions_said h rest = option_map (λ name. Positions h name) (name_word rest)
 
 -- `stat H`
-abbrev pub statistics_said : Option (List ℕ) → Option Command
-statistics_said rest = option_map (λ hdu. Statistics hdu) (hdu_word rest)
+abbrev pub statistics_said : ℕ → Option (List ℕ) → Option Command
+statistics_said h rest = alone rest (Statistics h)
 
 -- `rect H RECT`
-abbrev pub rectangle_said : Option (List ℕ) → Option Command
-rectangle_said rest = option_map (λ said. Rectangle said.0 said.1 said.2) (rectangle_words rest)
+abbrev pub rectangle_said : ℕ → Option (List ℕ) → Option Command
+rectangle_said h rest = option_map (λ said. Rectangle h said.0 said.1) (rectangle_word rest)
 
 -- `sum H`
-abbrev pub sums_said : Option (List ℕ) → Option Command
-sums_said rest = option_map (λ hdu. Sums hdu) (hdu_word rest)
+abbrev pub sums_said : ℕ → Option (List ℕ) → Option Command
+sums_said h rest = alone rest (Sums h)
 
--- what the first word of a line and the rest ask
-unfoldable pub asked_by : List ℕ → Option (List ℕ) → Option Command
-asked_by verb rest =
-    if bytes_eq verb (codes "get") then get_said rest
-    else if bytes_eq verb (codes "pos") then positions_said rest
-    else if bytes_eq verb (codes "off") then alone rest Offsets
-    else if bytes_eq verb (codes "rep") then alone rest Report
-    else if bytes_eq verb (codes "stat") then statistics_said rest
-    else if bytes_eq verb (codes "rect") then rectangle_said rest
-    else if bytes_eq verb (codes "sum") then sums_said rest
+-- what a line asks of HDU h, by its first word and what follows H
+unfoldable pub asked_by : List ℕ → ℕ → Option (List ℕ) → Option Command
+asked_by verb h rest =
+    if bytes_eq verb (codes "get") then get_said h rest
+    else if bytes_eq verb (codes "pos") then positions_said h rest
+    else if bytes_eq verb (codes "stat") then statistics_said h rest
+    else if bytes_eq verb (codes "rect") then rectangle_said h rest
+    else if bytes_eq verb (codes "sum") then sums_said h rest
     else None
 
--- what the first word of a line and the rest say of pixels or of a whole HDU, or what they ask
-unfoldable pub hdu_said_by : List ℕ → Option (List ℕ) → Option Command
-hdu_said_by verb rest =
-    if bytes_eq verb (codes "fill") then fill_said rest
-    else if bytes_eq verb (codes "write") then write_said rest
-    else if bytes_eq verb (codes "new") then new_said rest
-    else if bytes_eq verb (codes "rm") then remove_said rest
-    else if bytes_eq verb (codes "stamp") then stamp_said rest
-    else asked_by verb rest
+-- what it does to the pixels of HDU h or to the whole, or what it asks
+unfoldable pub hdu_said_by : List ℕ → ℕ → Option (List ℕ) → Option Command
+hdu_said_by verb h rest =
+    if bytes_eq verb (codes "fill") then paint_said h (fill_words rest)
+    else if bytes_eq verb (codes "write") then paint_said h (write_words rest)
+    else if bytes_eq verb (codes "new") then new_said h rest
+    else if bytes_eq verb (codes "rm") then remove_said h rest
+    else if bytes_eq verb (codes "stamp") then stamp_said h rest
+    else asked_by verb h rest
 
--- what the first word of a line and the rest say: an edit, or a question
+-- what it does to the cards of HDU h, or to others
+unfoldable pub cards_said_by : List ℕ → ℕ → Option (List ℕ) → Option Command
+cards_said_by verb h rest =
+    if bytes_eq verb (codes "ins") then insert_said h rest
+    else if bytes_eq verb (codes "put") then put_said h rest
+    else if bytes_eq verb (codes "del") then delete_said h rest
+    else if bytes_eq verb (codes "mov") then move_said h rest
+    else if bytes_eq verb (codes "set") then set_said h rest
+    else if bytes_eq verb (codes "unset") then unset_said h rest
+    else hdu_said_by verb h rest
+
+-- what a line says that names an HDU after its first word
+unfoldable pub named_by : List ℕ → Option (List ℕ) → Option Command
+named_by verb rest = do
+  hdu ← number_first rest
+  cards_said_by verb hdu.0 hdu.1
+
+-- what the first word of a line and the rest say
 unfoldable pub said_by : List ℕ → Option (List ℕ) → Option Command
 said_by verb rest =
-    if bytes_eq verb (codes "ins") then insert_said rest
-    else if bytes_eq verb (codes "put") then put_said rest
-    else if bytes_eq verb (codes "del") then delete_said rest
-    else if bytes_eq verb (codes "mov") then move_said rest
-    else if bytes_eq verb (codes "set") then set_said rest
-    else if bytes_eq verb (codes "unset") then unset_said rest
-    else hdu_said_by verb rest
+    if bytes_eq verb (codes "off") then alone rest Offsets
+    else if bytes_eq verb (codes "rep") then alone rest Report
+    else named_by verb rest
 
 -- what a line says: an empty line and a comment say that nothing is to be done
 unfoldable pub command_of : List ℕ → Option Command
@@ -378,13 +380,22 @@ said_or_none None = NoCommand
 unfoldable pub reading_of : List ℕ → LineReading
 reading_of line = if nat_le (length line) LINE_LIMIT then said_or_none (command_of line) else TooLong
 
--- taking up this edit may need memory: a value that is set is a text of its own; corners, values of pixels and new axes are lists of their own
+-- taking up this edit of cards may need memory: a value that is set is a text of its own
+abbrev pub CardsHoldMemory : CardEdit → Type 0
+CardsHoldMemory (Set name value comment) = Unit {0}
+CardsHoldMemory edit = ⊥
+
+-- and this edit of an HDU: corners and values of pixels are lists of their own
+abbrev pub HduHoldsMemory : HduEdit → Type 0
+HduHoldsMemory (Cards edit) = CardsHoldMemory edit
+HduHoldsMemory (Pixels lo hi paint) = Unit {0}
+HduHoldsMemory Stamp = ⊥
+
+-- and this edit: so are new axes
 abbrev pub EditHoldsMemory : SessionEdit → Type 0
-EditHoldsMemory (Set hdu name value comment) = Unit {0}
-EditHoldsMemory (Fill hdu lo hi value) = Unit {0}
-EditHoldsMemory (Write hdu lo hi values) = Unit {0}
+EditHoldsMemory (Hdu h edit) = HduHoldsMemory edit
 EditHoldsMemory (NewImage at kind axes) = Unit {0}
-EditHoldsMemory edit = ⊥
+EditHoldsMemory (RemoveHdu h) = ⊥
 
 -- taking up this command may need memory: corners are lists of their own
 abbrev pub HoldsMemory : Command → Type 0

@@ -8,7 +8,7 @@ use Rattle.fits_rules.specs.declared.array_shape.Shape.{Shape}
 use Rattle.fits_hdu.specs.Hdu.{HduParts}
 use Rattle.fits_hdu.specs.declared.outline.Outline.{Outline}
 use Rattle.fits_session.specs.File.{FileParts, offsets_from}
-use Rattle.fits_session.specs.Refusal.{is_primary_hdu}
+use Rattle.fits_session.specs.Edit.{is_primary_hdu}
 use Rattle.fits_session.specs.declared.offsets.HduOffsets.{HduOffsets}
 use Rattle.fits_cli.specs.Answer.{offsets_text}
 

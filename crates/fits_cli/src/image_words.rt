@@ -6,28 +6,25 @@ ghost use Rattle.fits_cli.specs.Line.{lengths_of_word, new_words};
 ghost use Rattle.fits_value.specs.Number.{value_of};
 
 use crate::cut::split_once;
-use crate::words::{DIGITS, cut_word, is_number, is_word, number_first, number_of_digits};
+use crate::words::{DIGITS, cut_word, is_number, is_word, number_of_digits};
 use fits_hdu::Kind;
 use fits_rules::Axes;
 use std::alloc::{AllocError, Global};
 
-/// `H KIND AXES`
+/// `KIND AXES`
 #[tactic(auto, unfolding(crate::specs::Line::new_words, crate::specs::Line::axes_last))]
 pub(crate) fn new_words(
     alloc: Global,
     rest: Option<&[u8]>,
-) -> Result<Option<(usize, Kind, Axes)>, AllocError>
+) -> Result<Option<(Kind, Axes)>, AllocError>
     ensures ok { IfOk result (λ words. words ≡ new_words (option_copied rest.entry)) }
     ensures err { OnErr result (IsSome (new_words (option_copied rest.entry))) }
 {
-    let Some((hdu, rest)) = number_first(rest) else {
-        return Ok(None);
-    };
     let Some((kind, Some(word))) = kind_first(rest) else {
         return Ok(None);
     };
     match axes_of_word(alloc, word) {
-        Ok(Some(axes)) => Ok(Some((hdu, kind, axes))),
+        Ok(Some(axes)) => Ok(Some((kind, axes))),
         Ok(None) => Ok(None),
         Err(refused) => Err(refused),
     }

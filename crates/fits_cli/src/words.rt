@@ -4,19 +4,20 @@ ghost use Rattle.std.specs.Prelude.{IfOk, IfSome, IfNone, IsSome, IsTrue, OnErr}
 ghost use Rattle.std.specs.List.{list_all};
 ghost use Rattle.std.specs.Option.{option_copied};
 ghost use Rattle.std.specs.Str.{bytes_eq};
-ghost use Rattle.fits_cli.specs.Line.{after_word, card_last, card_words, first_word, move_words};
-ghost use Rattle.fits_cli.specs.Line.{name_first, name_of_text, name_of_word, name_words};
-ghost use Rattle.fits_cli.specs.Line.{field_words, fill_words, hdu_word, is_number, is_rectangle};
-ghost use Rattle.fits_cli.specs.Line.{lower_corner, number_first, number_of_word, place_words};
-ghost use Rattle.fits_cli.specs.Line.{rectangle_first, rectangle_words, upper_corner, write_words};
+ghost use Rattle.fits_cli.specs.Line.{after_word, alone, card_last, card_words, first_word};
+ghost use Rattle.fits_cli.specs.Line.{move_words, name_first, name_of_text, name_of_word, name_word};
+ghost use Rattle.fits_cli.specs.Line.{field_words, fill_words, is_number, is_rectangle};
+ghost use Rattle.fits_cli.specs.Line.{lower_corner, number_first, number_of_word, place_word};
+ghost use Rattle.fits_cli.specs.Line.{rectangle_first, rectangle_word, upper_corner, write_words};
 ghost use Rattle.fits_value.specs.Number.{value_of};
 ghost use Rattle.fits_value.specs.Spelling.{is_digit};
 
+use crate::command::Command;
 use crate::cut::split_once;
 use crate::rectangle_words::{corners_of, is_rectangle};
 use crate::value_words::{value_last, values_last};
 use fits_card::{CARD_LEN, Card, Name};
-use fits_session::{Corner, PixelValues};
+use fits_session::{Corner, Paint};
 use fits_value::{Text, Value, read_field};
 use std::alloc::{AllocError, Global};
 
@@ -151,86 +152,77 @@ fn card_last(rest: Option<&[u8]>) -> Option<Card>
     Some(Card::padded(text))
 }
 
-/// `H P CARD`
+/// The command that a line says, if nothing follows.
+#[tactic(auto, unfolding(crate::specs::Line::alone))]
+pub(crate) fn alone(rest: Option<&[u8]>, said: Command) -> Option<Command>
+    ensures { result ≡ alone (option_copied rest.entry) said }
+{
+    match rest {
+        None => Some(said),
+        Some(_) => None,
+    }
+}
+
+/// `P CARD`
 #[tactic(auto, unfolding(crate::specs::Line::card_words))]
-pub(crate) fn card_words(rest: Option<&[u8]>) -> Option<(usize, usize, Card)>
+pub(crate) fn card_words(rest: Option<&[u8]>) -> Option<(usize, Card)>
     ensures { result ≡ card_words (option_copied rest.entry) }
 {
-    let (hdu, rest) = number_first(rest)?;
     let (place, rest) = number_first(rest)?;
     let card = card_last(rest)?;
-    Some((hdu, place, card))
+    Some((place, card))
 }
 
-/// `H P`
-#[tactic(auto, unfolding(crate::specs::Line::place_words, crate::specs::Line::alone))]
-pub(crate) fn place_words(rest: Option<&[u8]>) -> Option<(usize, usize)>
-    ensures { result ≡ place_words (option_copied rest.entry) }
+/// `P`
+#[tactic(auto, unfolding(crate::specs::Line::place_word, crate::specs::Line::alone))]
+pub(crate) fn place_word(rest: Option<&[u8]>) -> Option<usize>
+    ensures { result ≡ place_word (option_copied rest.entry) }
 {
-    let (hdu, rest) = number_first(rest)?;
-    let (place, rest) = number_first(rest)?;
-    match rest {
-        None => Some((hdu, place)),
-        Some(_) => None,
-    }
-}
-
-/// `H P Q`
-#[tactic(auto, unfolding(crate::specs::Line::move_words, crate::specs::Line::alone))]
-pub(crate) fn move_words(rest: Option<&[u8]>) -> Option<(usize, usize, usize)>
-    ensures { result ≡ move_words (option_copied rest.entry) }
-{
-    let (hdu, rest) = number_first(rest)?;
-    let (from, rest) = number_first(rest)?;
-    let (to, rest) = number_first(rest)?;
-    match rest {
-        None => Some((hdu, from, to)),
-        Some(_) => None,
-    }
-}
-
-/// `H NAME`
-#[tactic(auto, unfolding(crate::specs::Line::name_words, crate::specs::Line::alone))]
-pub(crate) fn name_words(rest: Option<&[u8]>) -> Option<(usize, Name)>
-    ensures { result ≡ name_words (option_copied rest.entry) }
-{
-    let (hdu, rest) = number_first(rest)?;
-    match name_first(rest) {
-        Some((name, None)) => Some((hdu, name)),
+    match number_first(rest) {
+        Some((place, None)) => Some(place),
         _ => None,
     }
 }
 
-/// `H NAME FIELD`
+/// `P Q`
+#[tactic(auto, unfolding(crate::specs::Line::move_words, crate::specs::Line::alone))]
+pub(crate) fn move_words(rest: Option<&[u8]>) -> Option<(usize, usize)>
+    ensures { result ≡ move_words (option_copied rest.entry) }
+{
+    let (from, rest) = number_first(rest)?;
+    match number_first(rest) {
+        Some((to, None)) => Some((from, to)),
+        _ => None,
+    }
+}
+
+/// `NAME`
+#[tactic(auto, unfolding(crate::specs::Line::name_word, crate::specs::Line::alone))]
+pub(crate) fn name_word(rest: Option<&[u8]>) -> Option<Name>
+    ensures { result ≡ name_word (option_copied rest.entry) }
+{
+    match name_first(rest) {
+        Some((name, None)) => Some(name),
+        _ => None,
+    }
+}
+
+/// `NAME FIELD`
 #[tactic(auto, unfolding(crate::specs::Line::field_words))]
 pub(crate) fn field_words(
     alloc: Global,
     rest: Option<&[u8]>,
-) -> Result<Option<(usize, Name, Value, Option<Text>)>, AllocError>
+) -> Result<Option<(Name, Value, Option<Text>)>, AllocError>
     ensures ok { IfOk result (λ words. words ≡ field_words (option_copied rest.entry)) }
     ensures err { OnErr result (IsSome (field_words (option_copied rest.entry))) }
 {
-    let Some((hdu, rest)) = number_first(rest) else {
-        return Ok(None);
-    };
     let Some((name, rest)) = name_first(rest) else {
         return Ok(None);
     };
     match read_field(alloc, text_of(rest)) {
-        Ok(Some((value, comment))) => Ok(Some((hdu, name, value, comment))),
+        Ok(Some((value, comment))) => Ok(Some((name, value, comment))),
         Ok(None) => Ok(None),
         Err(refused) => Err(refused),
-    }
-}
-
-/// `H`
-#[tactic(auto, unfolding(crate::specs::Line::hdu_word, crate::specs::Line::alone))]
-pub(crate) fn hdu_word(rest: Option<&[u8]>) -> Option<usize>
-    ensures { result ≡ hdu_word (option_copied rest.entry) }
-{
-    match number_first(rest) {
-        Some((hdu, None)) => Some(hdu),
-        _ => None,
     }
 }
 
@@ -249,37 +241,30 @@ fn rectangle_first(rest: Option<&[u8]>) -> Option<(&[u8], Option<&[u8]>)>
     Some((word, rest))
 }
 
-/// `H RECT`
-#[tactic(auto, unfolding(crate::specs::Line::rectangle_words, crate::specs::Line::alone))]
-pub(crate) fn rectangle_words(
+/// `RECT`
+#[tactic(auto, unfolding(crate::specs::Line::rectangle_word, crate::specs::Line::alone))]
+pub(crate) fn rectangle_word(
     alloc: Global,
     rest: Option<&[u8]>,
-) -> Result<Option<(usize, Corner, Corner)>, AllocError>
-    ensures ok { IfOk result (λ words. words ≡ rectangle_words (option_copied rest.entry)) }
-    ensures err { OnErr result (IsSome (rectangle_words (option_copied rest.entry))) }
+) -> Result<Option<(Corner, Corner)>, AllocError>
+    ensures ok { IfOk result (λ words. words ≡ rectangle_word (option_copied rest.entry)) }
+    ensures err { OnErr result (IsSome (rectangle_word (option_copied rest.entry))) }
 {
-    let Some((hdu, rest)) = number_first(rest) else {
-        return Ok(None);
-    };
     let Some((area, None)) = rectangle_first(rest) else {
         return Ok(None);
     };
-    let (lo, hi) = corners_of(alloc, area)?;
-    Ok(Some((hdu, lo, hi)))
+    Ok(Some(corners_of(alloc, area)?))
 }
 
-/// `H RECT V`
+/// `RECT V`
 #[tactic(auto, unfolding(crate::specs::Line::fill_words))]
 pub(crate) fn fill_words(
     alloc: Global,
     rest: Option<&[u8]>,
-) -> Result<Option<(usize, Corner, Corner, i128)>, AllocError>
+) -> Result<Option<(Corner, Corner, Paint)>, AllocError>
     ensures ok { IfOk result (λ words. words ≡ fill_words (option_copied rest.entry)) }
     ensures err { OnErr result (IsSome (fill_words (option_copied rest.entry))) }
 {
-    let Some((hdu, rest)) = number_first(rest) else {
-        return Ok(None);
-    };
     let Some((area, rest)) = rectangle_first(rest) else {
         return Ok(None);
     };
@@ -287,28 +272,25 @@ pub(crate) fn fill_words(
         return Ok(None);
     };
     let (lo, hi) = corners_of(alloc, area)?;
-    Ok(Some((hdu, lo, hi, value)))
+    Ok(Some((lo, hi, Paint::Fill(value))))
 }
 
-/// `H RECT V V ..`
+/// `RECT V V ..`
 #[tactic(auto, unfolding(crate::specs::Line::write_words))]
 pub(crate) fn write_words(
     alloc: Global,
     rest: Option<&[u8]>,
-) -> Result<Option<(usize, Corner, Corner, PixelValues)>, AllocError>
+) -> Result<Option<(Corner, Corner, Paint)>, AllocError>
     ensures ok { IfOk result (λ words. words ≡ write_words (option_copied rest.entry)) }
     ensures err { OnErr result (IsSome (write_words (option_copied rest.entry))) }
 {
-    let Some((hdu, rest)) = number_first(rest) else {
-        return Ok(None);
-    };
     let Some((area, rest)) = rectangle_first(rest) else {
         return Ok(None);
     };
     match values_last(alloc, rest) {
         Ok(Some(values)) => {
             let (lo, hi) = corners_of(alloc, area)?;
-            Ok(Some((hdu, lo, hi, values)))
+            Ok(Some((lo, hi, Paint::Write(values))))
         }
         Ok(None) => Ok(None),
         Err(refused) => Err(refused),

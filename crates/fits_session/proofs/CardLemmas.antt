@@ -5,7 +5,7 @@ use Rattle.std.specs.Prelude.{◌&&◌, Ok, Err}
 use Rattle.fits_card.specs.Change.{new_cards}
 use Rattle.fits_card.specs.Header.{IsInnerCard}
 use Rattle.fits_card.specs.declared.change.Change.TheVariants.{Splice, Move}
-use Rattle.fits_session.specs.Edit.{is_splice_within, is_within, own_refusal, tested}
+use Rattle.fits_session.specs.CardEdit.{is_splice_within, is_within, own_refusal, tested}
 use Rattle.fits_session.specs.declared.refusal.Refusal.TheVariants as refusal
 
 -- the place is the first test

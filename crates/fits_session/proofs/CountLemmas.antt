@@ -16,7 +16,7 @@ use Rattle.fits_hdu.specs.Hdu.{HduParts, hdu_bytes}
 use Rattle.fits_hdu.specs.State.{HduState}
 use Rattle.fits_hdu.specs.declared.extension_name.ExtensionName.{ExtensionName}
 use Rattle.fits_session.specs.File.{is_followed, joined_hdus, IsFile}
-use Rattle.fits_session.specs.Refusal.{is_primary_hdu}
+use Rattle.fits_session.specs.Edit.{is_primary_hdu}
 use Rattle.fits_session.specs.declared.limits.TheConstants.{FILE_LIMIT}
 use Rattle.fits_session.specs.Report.{counts_in, in_hdu, is_repeated, name_in, names_from, report_of, trails, wrong_from, wrong_in}
 use Rattle.fits_session.specs.Session.{file_of, held_of, hdus_of, state_of}

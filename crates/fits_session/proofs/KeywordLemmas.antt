@@ -9,7 +9,7 @@ use Rattle.fits_value.specs.declared.write.WriteFault.{WriteFault}
 use Rattle.fits_value.specs.declared.write.WriteFault.TheVariants as write
 use Rattle.fits_hdu.specs.Keyword.{keyword_cards, replacing}
 use Rattle.fits_hdu.specs.declared.keyword_cards.KeywordCards.{KeywordCards}
-use Rattle.fits_session.specs.Edit.{is_keyword_name, setting, set_of, unset_of}
+use Rattle.fits_session.specs.CardEdit.{is_keyword_name, setting, set_of, unset_of}
 use Rattle.fits_session.specs.Refusal.{ChangeFails, refusal_of_writing}
 use Rattle.fits_session.specs.declared.refusal.Refusal.TheVariants as refusal
 

@@ -8,10 +8,11 @@ use Rattle.fits_hdu.specs.Kind.{kind_in as hdu_kind, IsKind}
 use Rattle.fits_hdu.specs.declared.kind.Kind.{Kind}
 use Rattle.fits_hdu.specs.declared.pixel_fault.PixelFault.{PixelFault}
 use Rattle.fits_hdu.specs.declared.pixel_fault.PixelFault.TheVariants as pixel
-use Rattle.fits_session.specs.Edit.{hdu_of, pixels_made, shaped}
+use Rattle.fits_session.specs.Edit.{hdu_of}
+use Rattle.fits_session.specs.HduEdit.{pixels_made, shaped}
 use Rattle.fits_session.specs.File.{FileParts}
 use Rattle.fits_session.specs.Query.{by_shape, in_hdu, kind_in, IsKindIn}
-use Rattle.fits_session.specs.Refusal.{is_primary_hdu}
+use Rattle.fits_session.specs.Edit.{is_primary_hdu}
 
 -- which kind an image has, as a function
 abbrev pub KindsAreSaid : Type 0

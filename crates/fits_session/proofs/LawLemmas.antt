@@ -1,172 +1,107 @@
 -- Laws of edits.
-use Rattle.std.proofs.Common.{◌≡◌, ℕ, ℤ, ◌≤◌, Bool, true, false, List, length, refl, ap, sym, ◌∙◌, subst, arith, All, Option, None, Some, zero, suc}
-use Rattle.std.specs.Prelude.{Result, Ok, Err}
+use Rattle.std.proofs.Common.{◌≡◌, ℕ, ◌+◌, ◌≤◌, Bool, true, false, List, length, refl, ap, sym, ◌∙◌, subst, arith, All, Option, None, Some, zero, suc}
+use Rattle.std.specs.Prelude.{Result, Ok, Err, if◌then◌else◌}
 use Rattle.std.specs.List.{slice_get}
-use Rattle.std.proofs.lemmas.List.{length-append}
 use Rattle.fits_card.specs.Change.{cards_after, new_cards}
-use Rattle.fits_card.specs.Header.{Header, header_bytes, header_length, IsInnerCard}
+use Rattle.fits_card.specs.Header.{header_length, IsInnerCard}
 use Rattle.fits_card.specs.declared.change.Change.{Change}
 use Rattle.fits_card.proofs.HeaderLemmas.{fill_length-by_cards}
 use Rattle.fits_rules.specs.Shape.{shape_of}
 use Rattle.fits_rules.specs.declared.array_shape.Shape.{Shape}
-use Rattle.fits_hdu.specs.Hdu.{HduParts, hdu_after, hdu_bytes, IsHdu}
-use Rattle.fits_hdu.specs.NewImage.{are_axes, new_image}
-use Rattle.fits_hdu.specs.Pixels.{filled, written}
+use Rattle.fits_hdu.specs.Hdu.{HduParts, hdu_after, hdu_bytes, IsHdu, keeps_shape}
 use Rattle.fits_hdu.specs.Stamp.{stamped}
+use Rattle.fits_hdu.specs.NewImage.{are_axes, new_image}
 use Rattle.fits_hdu.specs.declared.kind.Kind.{Kind}
 use Rattle.fits_hdu.specs.declared.pixel_fault.PixelFault.{PixelFault}
-use Rattle.fits_session.specs.Edit.{changed_at, hdu_of, hdu_named, hdu_edited, fill_of, is_card_edit, made_or, pixels_made, shaped, with_hdu, with_new_hdu, write_of, change_of, file_after, HasSizes}
-use Rattle.fits_session.specs.File.{FileParts, file_bytes, joined_hdus, IsFileOf, IsFile}
+use Rattle.fits_hdu.proofs.NewImageLemmas.{new_is_hdu}
+use Rattle.fits_hdu.proofs.StampingLemmas.{stamped_is_hdu}
+use Rattle.fits_session.specs.CardEdit.{change_of}
+use Rattle.fits_session.specs.Edit.{hdu_edited, hdu_of, is_primary_hdu, file_after, made_or, with_hdu, with_new_hdu, without_hdu, HasSizes}
+use Rattle.fits_session.specs.File.{FileParts, file_bytes, IsFileOf, IsFile}
+use Rattle.fits_session.specs.HduEdit.{hdu_changed, hdu_made, painted_by, pixels_made, shaped, HasHduSizes}
 use Rattle.fits_session.specs.Limits.{is_within_limits}
 use Rattle.fits_session.specs.declared.limits.TheConstants.{FILE_LIMIT, HDU_LIMIT}
-use Rattle.fits_session.specs.Refusal.{is_primary_hdu, change_refusal, new_image_refusal, refusal_in, refusal_made, refusal_of, size_refusal}
+use Rattle.fits_session.specs.Refusal.{made_refusal, new_image_refusal, refusal_in, refusal_of, removal_refusal, size_refusal}
 use Rattle.fits_session.specs.declared.edit.Edit.{Edit}
-use Rattle.fits_session.specs.declared.edit.Edit.TheVariants.{Insert, Put, Delete, Move, Set, Unset, Fill, Write, NewImage, RemoveHdu, Stamp}
+use Rattle.fits_session.specs.declared.edit.Edit.TheVariants.{Hdu, NewImage, RemoveHdu}
+use Rattle.fits_session.specs.declared.hdu_edit.HduEdit.{HduEdit}
+use Rattle.fits_session.specs.declared.hdu_edit.HduEdit.TheVariants.{Cards, Pixels, Stamp}
 use Rattle.fits_session.specs.declared.refusal.Refusal.{Refusal}
-use Rattle.fits_session.proofs.ChangeLemmas.{front_changed, goes_on-changed, hdu_is, joined-changed, length-changed}
-use Rattle.fits_session.proofs.EditLemmas.{IsNamed, card_refusal, named_file, made_inner, file_made, file_kept, kept_limits, length_file, limit_none, passes_all, within_limits}
-use Rattle.fits_session.proofs.HduEditLemmas.{inserted_is_a_file, new_passes, removed_is_a_file}
+use Rattle.fits_session.specs.declared.refusal.Refusal.TheVariants as refusal
+use Rattle.fits_session.proofs.CardEditLemmas.{made_inner}
+use Rattle.fits_session.proofs.ChangeLemmas.{changed_at-same, hdu_is, length-changed}
+use Rattle.fits_session.proofs.EditLemmas.{length_changed, other_kept}
+use Rattle.fits_session.proofs.ListEditLemmas.{inserted_is_a_file, new_passes, removed_is_a_file}
+use Rattle.fits_session.proofs.MakingLemmas.{kept_limits, kept_whole, length_cards, limit_none, within_limits}
+use Rattle.fits_session.proofs.PixelEditLemmas.{painted_hdu}
 
--- a change that is made and accepted leaves a file
-made_accepted : (f : List ℕ) (file : FileParts) (edit : Edit) (i : ℕ) (hdu : HduParts) (made : Result Change Refusal) → HasSizes edit → IsFileOf f file → hdu_named edit ≡ suc i → slice_get file.hdus i ≡ Some hdu → change_of hdu.header.cards edit ≡ made
-    → change_refusal file (suc i) hdu made ≡ None → IsFile (file_after file edit)
-made_accepted f file edit i hdu (Err why) sizes p named there made e = cc
-made_accepted f file edit i hdu (Ok change) sizes p named there made e =
-    let inner = made_inner hdu.header.cards edit change sizes made in
-    let after : FileParts = with_hdu file (suc i) (hdu_after change) in
-    let tests = passes_all (is_primary_hdu (suc i)) hdu.header.cards (cards_after hdu.header.cards change) (size_refusal after) e in
-    subst (λ (g : FileParts). IsFile g) (sym (file_made file edit i hdu change named there made))
-    (file_kept f file i hdu change p there inner tests.0 (limit_none (is_within_limits (length (file_bytes after)) (length after.hdus)) tests.1))
+-- a change that is taken keeps the shape
+taken : (kept : Bool) (hdu made : HduParts) → ◌≡◌ {A = Result HduParts Refusal} (if kept then Ok hdu else Err refusal.Shape) (Ok made) → (kept ≡ true) × (hdu ≡ made)
+taken true hdu made e = (refl, cc)
+taken false hdu made e = cc
 
--- an accepted change of cards leaves a file
-cards_accepted : (f : List ℕ) (file : FileParts) (edit : Edit) (i : ℕ) (hdu : HduParts) → is_card_edit edit ≡ true → HasSizes edit → IsFileOf f file → hdu_named edit ≡ suc i → slice_get file.hdus i ≡ Some hdu → refusal_in file edit (Some hdu) ≡ None → IsFile (file_after file edit)
-cards_accepted f file edit i hdu cards sizes p named there e =
-    made_accepted f file edit i hdu (change_of hdu.header.cards edit) sizes p named there refl
-    (ap (λ h. change_refusal file h hdu (change_of hdu.header.cards edit)) (sym named) ∙ sym (card_refusal file edit hdu cards) ∙ e)
+-- an HDU whose cards were changed is one
+changed_whole : (primary : Bool) (hdu new : HduParts) (made : Result Change Refusal) → IsHdu primary hdu → ((change : Change) → made ≡ Ok change → All IsInnerCard (new_cards change)) → hdu_changed primary hdu made ≡ Ok new → IsHdu primary new
+changed_whole primary hdu new (Err why) whole inner e = cc
+changed_whole primary hdu new (Ok change) whole inner e =
+    let p = taken (keeps_shape primary hdu.header.cards (cards_after hdu.header.cards change)) (hdu_after change hdu) new e in
+    subst (λ (u : HduParts). IsHdu primary u) p.1 (kept_whole primary hdu change whole (inner change refl) p.0)
 
--- a file of an accepted size isn't too long
-pub size_kept : (file : FileParts) (edit : Edit) → IsNamed edit → size_refusal (with_hdu file (hdu_named edit) (hdu_edited edit)) ≡ None → length (file_bytes (file_after file edit)) ≤ FILE_LIMIT
-size_kept file edit named e =
-    let after : FileParts = with_hdu file (hdu_named edit) (hdu_edited edit) in
-    rw (named_file file edit named) (within_limits (length (file_bytes after)) (length after.hdus) (limit_none (is_within_limits (length (file_bytes after)) (length after.hdus)) e)).0
-
--- the file with another HDU at an index is one, where that HDU is one and the file isn't too long
-pub other_kept : (f : List ℕ) (file : FileParts) (i : ℕ) (hdu : HduParts) (change : HduParts → HduParts) → IsFileOf f file → slice_get file.hdus i ≡ Some hdu → IsHdu (is_primary_hdu (suc i)) (change hdu) → length (file_bytes (with_hdu file (suc i) change)) ≤ FILE_LIMIT → IsFile (with_hdu file (suc i) change)
-other_kept f file i hdu change p there whole size = record {
-  front = front_changed f file.hdus file.tail i hdu change p.front there whole;
-  ends = goes_on-changed i change file.hdus file.tail ∙ p.ends;
-  size = size;
-  count = omega (arith, length-changed i change file.hdus, p.count);
-}
-
--- what another HDU at an index leaves is a file, where that HDU is one and the file keeps to the limits
-pub hdu_accepted : (f : List ℕ) (file : FileParts) (edit : Edit) (i : ℕ) (hdu : HduParts) → IsNamed edit → IsFileOf f file → hdu_named edit ≡ suc i → slice_get file.hdus i ≡ Some hdu → IsHdu (is_primary_hdu (suc i)) (hdu_edited edit hdu) → length (file_bytes (file_after file edit)) ≤ FILE_LIMIT → IsFile (file_after file edit)
-hdu_accepted f file edit i hdu stays p named there whole size =
-    let short : length (file_bytes (with_hdu file (suc i) (hdu_edited edit))) ≤ FILE_LIMIT = rw (named_file file edit stays, named) at size in
-    rw (named_file file edit stays, named) (other_kept f file i hdu (hdu_edited edit) p there whole short)
-
--- how many bytes a file has after an edit that leaves the length of its HDU
-length_left : (file : FileParts) (edit : Edit) (i : ℕ) (hdu : HduParts) → IsNamed edit → hdu_named edit ≡ suc i → slice_get file.hdus i ≡ Some hdu → length (hdu_bytes (hdu_edited edit hdu)) ≡ length (hdu_bytes hdu) → length (file_bytes (file_after file edit)) ≡ length (file_bytes file)
-length_left file edit i hdu stays named there same =
-    ap (λ (after : FileParts). length (file_bytes after)) (named_file file edit stays) ∙ ap (λ h. length (file_bytes (with_hdu file h (hdu_edited edit)))) named ∙ omega (
-      arith,
-      length-append (joined_hdus (changed_at i (hdu_edited edit) file.hdus)) file.tail,
-      length-append (joined_hdus file.hdus) file.tail,
-      joined-changed file.hdus i hdu (hdu_edited edit) there,
-      same,
-    )
-
--- an HDU with other pixels is as long
-pub pixels_long : (hdu new : HduParts) → new.header ≡ hdu.header → length new.data_unit ≡ length hdu.data_unit → length (hdu_bytes new) ≡ length (hdu_bytes hdu)
-pixels_long hdu new header unit = omega (arith, length-append (header_bytes new.header) new.data_unit, length-append (header_bytes hdu.header) hdu.data_unit, ap (λ (h : Header). length (header_bytes h)) header, unit)
-
--- an HDU with other pixels is one
-abbrev pub IsPixelChange : Bool → HduParts → HduParts → Type 0
-IsPixelChange primary hdu new = IsHdu primary new × (new.header ≡ hdu.header) × (length new.data_unit ≡ length hdu.data_unit)
-
--- what is made of an HDU by its shape, and accepted, is such a change
-made_of : (primary : Bool) (hdu : HduParts) (described : Result Shape ℕ) (make : Shape → Result HduParts PixelFault) → ((shape : Shape) (new : HduParts) → described ≡ Ok shape → make shape ≡ Ok new → IsPixelChange primary hdu new)
-    → refusal_made (shaped described make) ≡ None → IsPixelChange primary hdu (made_or hdu (shaped described make))
-made_of primary hdu (Err place) make law e = cc
-made_of primary hdu (Ok shape) make law e = done (make shape) refl e
+-- and one that was made by its shape
+shaped_whole : (primary : Bool) (hdu new : HduParts) (said : Result Shape ℕ) (make : Shape → Result HduParts PixelFault) → shape_of primary hdu.header.cards ≡ said → ((shape : Shape) → shape_of primary hdu.header.cards ≡ Ok shape → make shape ≡ Ok new → IsHdu primary new)
+    → shaped said make ≡ Ok new → IsHdu primary new
+shaped_whole primary hdu new (Err place) make is law e = cc
+shaped_whole primary hdu new (Ok shape) make is law e = done (make shape) refl e
   where
-    done : (made : Result HduParts PixelFault) → make shape ≡ made → refusal_made (pixels_made made) ≡ None → IsPixelChange primary hdu (made_or hdu (pixels_made made))
-    done (Ok new) is e = law shape new refl is
-    done (Err why) is e = cc
+    done : (made : Result HduParts PixelFault) → make shape ≡ made → pixels_made made ≡ Ok new → IsHdu primary new
+    done (Err why) at e = cc
+    done (Ok other) at e = let same : other ≡ new = cc in law shape is (at ∙ ap Ok same)
 
--- an accepted edit of pixels leaves a file
-pixels_accepted : (f : List ℕ) (file : FileParts) (edit : Edit) (i : ℕ) (hdu : HduParts) → IsNamed edit → IsFileOf f file → hdu_named edit ≡ suc i → slice_get file.hdus i ≡ Some hdu → IsPixelChange (is_primary_hdu (suc i)) hdu (hdu_edited edit hdu) → IsFile (file_after file edit)
-pixels_accepted f file edit i hdu stays p named there change =
-    hdu_accepted f file edit i hdu stays p named there change.0
-    (omega (arith, length_left file edit i hdu stays named there (pixels_long hdu (hdu_edited edit hdu) change.1 change.2), ap length p.front.joined, p.size))
+-- what an edit makes of an HDU is one
+pub made_whole : (primary : Bool) (edit : HduEdit) (hdu new : HduParts) → HasHduSizes edit → IsHdu primary hdu → hdu_made primary edit hdu ≡ Ok new → IsHdu primary new
+unfolding hdu_made
+made_whole primary (Cards edit) hdu new sizes whole e = changed_whole primary hdu new (change_of hdu.header.cards edit) whole (λ change made. made_inner hdu.header.cards edit change sizes made) e
+made_whole primary (Pixels lo hi paint) hdu new sizes whole e =
+    shaped_whole primary hdu new (shape_of primary hdu.header.cards) (λ shape. painted_by shape lo hi paint hdu) refl (λ shape described made. (painted_hdu primary shape hdu lo hi paint new whole described made).whole) e
+made_whole primary Stamp hdu new sizes whole e = subst (λ (u : HduParts). IsHdu primary u) (let same : stamped hdu ≡ new = cc in same) (stamped_is_hdu primary hdu whole)
 
--- an HDU in which a rectangle was filled is one
-abbrev pub FilledAreHdus : Type 0
-FilledAreHdus = (primary : Bool) (shape : Shape) (hdu : HduParts) (lo hi : List ℕ) (value : ℤ) (new : HduParts) → IsHdu primary hdu → shape_of primary hdu.header.cards ≡ Ok shape → filled shape lo hi value hdu ≡ Ok new → IsPixelChange primary hdu new
-
--- and one in which a rectangle was written
-abbrev pub WrittenAreHdus : Type 0
-WrittenAreHdus = (primary : Bool) (shape : Shape) (hdu : HduParts) (lo hi : List ℕ) (values : List ℤ) (new : HduParts) → IsHdu primary hdu → shape_of primary hdu.header.cards ≡ Ok shape → written shape lo hi values hdu ≡ Ok new → IsPixelChange primary hdu new
-
--- and one that was stamped
-abbrev pub StampedAreHdus : Type 0
-StampedAreHdus = (primary : Bool) (hdu : HduParts) → IsHdu primary hdu → IsHdu primary (stamped hdu) × ((stamped hdu).data_unit ≡ hdu.data_unit)
-
--- by the law's two facts
-pub stamps_law : ((primary : Bool) (hdu : HduParts) → IsHdu primary hdu → IsHdu primary (stamped hdu)) → ((hdu : HduParts) → (stamped hdu).data_unit ≡ hdu.data_unit) → StampedAreHdus
-stamps_law whole same primary hdu p = (whole primary hdu p, same hdu)
-
--- by the HDU, if it is there
-by_hdu : FilledAreHdus → WrittenAreHdus → StampedAreHdus → (f : List ℕ) (file : FileParts) (edit : Edit) (h : ℕ) (o : Option HduParts) → HasSizes edit → IsFileOf f file → hdu_named edit ≡ h → hdu_of file h ≡ o → refusal_in file edit o ≡ None → IsFile (file_after file edit)
-unfolding fill_of write_of change_of file_after
-by_hdu fills writes stamps f file edit h None sizes p named there e = cc
-by_hdu fills writes stamps f file edit zero (Some hdu) sizes p named there e = cc
-by_hdu fills writes stamps f file (Insert h place card) (suc i) (Some hdu) sizes p named there e = cards_accepted f file (Insert h place card) i hdu refl sizes p named there e
-by_hdu fills writes stamps f file (Put h place card) (suc i) (Some hdu) sizes p named there e = cards_accepted f file (Put h place card) i hdu refl sizes p named there e
-by_hdu fills writes stamps f file (Delete h place) (suc i) (Some hdu) sizes p named there e = cards_accepted f file (Delete h place) i hdu refl sizes p named there e
-by_hdu fills writes stamps f file (Move h from to) (suc i) (Some hdu) sizes p named there e = cards_accepted f file (Move h from to) i hdu refl sizes p named there e
-by_hdu fills writes stamps f file (Set h name value comment) (suc i) (Some hdu) sizes p named there e = cards_accepted f file (Set h name value comment) i hdu refl sizes p named there e
-by_hdu fills writes stamps f file (Unset h name) (suc i) (Some hdu) sizes p named there e = cards_accepted f file (Unset h name) i hdu refl sizes p named there e
-by_hdu fills writes stamps f file (Fill h lo hi value) (suc i) (Some hdu) sizes p named there e =
-    let whole : IsHdu (is_primary_hdu h) hdu = rw named (hdu_is f file.hdus file.tail i hdu p.front there) in
-    let change = made_of (is_primary_hdu h) hdu (shape_of (is_primary_hdu h) hdu.header.cards) (λ shape. filled shape lo hi value hdu)
-    (λ shape new described made. fills (is_primary_hdu h) shape hdu lo hi value new whole described made) e in
-    pixels_accepted f file (Fill h lo hi value) i hdu tt p named there (subst (λ (k : ℕ). IsPixelChange (is_primary_hdu k) hdu (hdu_edited (Fill h lo hi value) hdu)) named change)
-by_hdu fills writes stamps f file (Write h lo hi values) (suc i) (Some hdu) sizes p named there e =
-    let whole : IsHdu (is_primary_hdu h) hdu = rw named (hdu_is f file.hdus file.tail i hdu p.front there) in
-    let change = made_of (is_primary_hdu h) hdu (shape_of (is_primary_hdu h) hdu.header.cards) (λ shape. written shape lo hi values hdu)
-    (λ shape new described made. writes (is_primary_hdu h) shape hdu lo hi values new whole described made) e in
-    pixels_accepted f file (Write h lo hi values) i hdu tt p named there (subst (λ (k : ℕ). IsPixelChange (is_primary_hdu k) hdu (hdu_edited (Write h lo hi values) hdu)) named change)
-by_hdu fills writes stamps f file (NewImage at kind axes) (suc i) (Some hdu) sizes p named there e = cc
-by_hdu fills writes stamps f file (RemoveHdu h) (suc i) (Some hdu) sizes p named there e = removed_is_a_file f file h hdu p (ap (hdu_of file) named ∙ there) e
-by_hdu fills writes stamps f file (Stamp h) (suc i) (Some hdu) sizes p named there e =
+-- what is made of an HDU and keeps to the limits leaves a file
+made_kept : (f : List ℕ) (file : FileParts) (edit : HduEdit) (i : ℕ) (hdu : HduParts) (made : Result HduParts Refusal) → HasHduSizes edit → IsFileOf f file → slice_get file.hdus i ≡ Some hdu → hdu_made (is_primary_hdu (suc i)) edit hdu ≡ made → made_refusal file (suc i) made ≡ None
+    → IsFile (with_hdu file (suc i) (hdu_edited (is_primary_hdu (suc i)) edit))
+made_kept f file edit i hdu (Err why) sizes p there is e = cc
+made_kept f file edit i hdu (Ok new) sizes p there is e =
+    let change : HduParts → HduParts = hdu_edited (is_primary_hdu (suc i)) edit in
+    let same : change hdu ≡ new = ap (made_or hdu) is in
     let whole : IsHdu (is_primary_hdu (suc i)) hdu = hdu_is f file.hdus file.tail i hdu p.front there in
-    hdu_accepted f file (Stamp h) i hdu tt p named there (stamps (is_primary_hdu (suc i)) hdu whole).0 (size_kept file (Stamp h) tt e)
+    let left : IsHdu (is_primary_hdu (suc i)) (change hdu) = subst (λ (u : HduParts). IsHdu (is_primary_hdu (suc i)) u) (sym same) (made_whole (is_primary_hdu (suc i)) edit hdu new sizes whole is) in
+    let after : FileParts = with_hdu file (suc i) (λ u. new) in
+    let other : with_hdu file (suc i) change ≡ after = ap (λ (us : List HduParts). let after : FileParts = record { hdus = us; tail = file.tail } in after) (changed_at-same i change (λ u. new) hdu file.hdus there same) in
+    let short = within_limits (length (file_bytes after)) (length after.hdus) (limit_none (is_within_limits (length (file_bytes after)) (length after.hdus)) e) in
+    other_kept f file i hdu change p there left (omega (arith, short.0, ap (λ (g : FileParts). length (file_bytes g)) other))
 
--- a new image is an HDU
-abbrev pub NewImagesAreHdus : Type 0
-NewImagesAreHdus = (kind : Kind) (axes : List ℕ) → are_axes axes ≡ true → IsHdu false (new_image kind axes)
+-- an accepted edit of an HDU leaves a file, if the HDU is there
+hdu_accepted : (f : List ℕ) (file : FileParts) (h : ℕ) (edit : HduEdit) (hdu : Option HduParts) → HasHduSizes edit → IsFileOf f file → hdu_of file h ≡ hdu → refusal_in file h edit hdu ≡ None → IsFile (with_hdu file h (hdu_edited (is_primary_hdu h) edit))
+hdu_accepted f file h edit None sizes p there e = cc
+hdu_accepted f file zero edit (Some hdu) sizes p there e = cc
+hdu_accepted f file (suc i) edit (Some hdu) sizes p there e = made_kept f file edit i hdu (hdu_made (is_primary_hdu (suc i)) edit hdu) sizes p there refl e
 
 -- an accepted new image leaves a file
-image_accepted : NewImagesAreHdus → (f : List ℕ) (file : FileParts) (h : ℕ) (kind : Kind) (axes : List ℕ) → IsFileOf f file → new_image_refusal file h kind axes ≡ None → IsFile (with_new_hdu file h (new_image kind axes))
-image_accepted images f file h kind axes p e =
+image_accepted : (f : List ℕ) (file : FileParts) (h : ℕ) (kind : Kind) (axes : List ℕ) → IsFileOf f file → new_image_refusal file h kind axes ≡ None → IsFile (with_new_hdu file h (new_image kind axes))
+image_accepted f file h kind axes p e =
     let tests = new_passes file h kind axes e in
-    inserted_is_a_file f file h (new_image kind axes) p tests.0 (images kind axes tests.1) tests.2
+    inserted_is_a_file f file h (new_image kind axes) p tests.0 (new_is_hdu kind axes tests.1) tests.2
+
+-- an HDU that may go leaves a file, if it is there
+removal_accepted : (f : List ℕ) (file : FileParts) (h : ℕ) (hdu : Option HduParts) → IsFileOf f file → hdu_of file h ≡ hdu → removal_refusal h hdu ≡ None → IsFile (without_hdu file h)
+removal_accepted f file h None p there e = cc
+removal_accepted f file h (Some hdu) p there e = removed_is_a_file f file h hdu p there e
 
 -- an accepted edit leaves a file
-pub edited : FilledAreHdus → WrittenAreHdus → StampedAreHdus → NewImagesAreHdus → (f : List ℕ) (file : FileParts) (edit : Edit) → HasSizes edit → IsFileOf f file → refusal_of file edit ≡ None → IsFile (file_after file edit)
+pub edited : (f : List ℕ) (file : FileParts) (edit : Edit) → HasSizes edit → IsFileOf f file → refusal_of file edit ≡ None → IsFile (file_after file edit)
 unfolding refusal_of file_after
-edited fills writes stamps images f file (Insert h place card) sizes p e = by_hdu fills writes stamps f file (Insert h place card) h (hdu_of file h) sizes p refl refl e
-edited fills writes stamps images f file (Put h place card) sizes p e = by_hdu fills writes stamps f file (Put h place card) h (hdu_of file h) sizes p refl refl e
-edited fills writes stamps images f file (Delete h place) sizes p e = by_hdu fills writes stamps f file (Delete h place) h (hdu_of file h) sizes p refl refl e
-edited fills writes stamps images f file (Move h from to) sizes p e = by_hdu fills writes stamps f file (Move h from to) h (hdu_of file h) sizes p refl refl e
-edited fills writes stamps images f file (Set h name value comment) sizes p e = by_hdu fills writes stamps f file (Set h name value comment) h (hdu_of file h) sizes p refl refl e
-edited fills writes stamps images f file (Unset h name) sizes p e = by_hdu fills writes stamps f file (Unset h name) h (hdu_of file h) sizes p refl refl e
-edited fills writes stamps images f file (Fill h lo hi value) sizes p e = by_hdu fills writes stamps f file (Fill h lo hi value) h (hdu_of file h) sizes p refl refl e
-edited fills writes stamps images f file (Write h lo hi values) sizes p e = by_hdu fills writes stamps f file (Write h lo hi values) h (hdu_of file h) sizes p refl refl e
-edited fills writes stamps images f file (NewImage at kind axes) sizes p e = image_accepted images f file at kind axes p e
-edited fills writes stamps images f file (RemoveHdu h) sizes p e = by_hdu fills writes stamps f file (RemoveHdu h) h (hdu_of file h) sizes p refl refl e
-edited fills writes stamps images f file (Stamp h) sizes p e = by_hdu fills writes stamps f file (Stamp h) h (hdu_of file h) sizes p refl refl e
+edited f file (Hdu h edit) sizes p e = hdu_accepted f file h edit (hdu_of file h) sizes p refl e
+edited f file (NewImage at kind axes) sizes p e = image_accepted f file at kind axes p e
+edited f file (RemoveHdu h) sizes p e = removal_accepted f file h (hdu_of file h) p refl e
 
 -- a header of no more cards is no longer
 no_longer : (m n : ℕ) → m ≤ n → header_length m ≤ header_length n
@@ -179,6 +114,6 @@ fewer_cards f file (suc i) hdu change p there inner fewer =
     let whole : IsHdu (is_primary_hdu (suc i)) hdu = hdu_is f file.hdus file.tail i hdu p.front there in
     let after : FileParts = with_hdu file (suc i) (hdu_after change) in
     let bytes : length (file_bytes after) ≤ FILE_LIMIT =
-    omega (arith, length_file file i hdu change there whole inner, no_longer (length (cards_after hdu.header.cards change)) (length hdu.header.cards) fewer, ap length p.front.joined, p.size) in
+    omega (arith, length_changed file i hdu (hdu_after change) there, length_cards (is_primary_hdu (suc i)) hdu change whole inner, no_longer (length (cards_after hdu.header.cards change)) (length hdu.header.cards) fewer, ap length p.front.joined, p.size) in
     let hdus : length after.hdus ≤ HDU_LIMIT = omega (arith, length-changed i (hdu_after change) file.hdus, p.count) in
     rw (kept_limits (length (file_bytes after)) (length after.hdus) bytes hdus) refl

@@ -1,3 +1,4 @@
+pub mod CardEditLemmas
 pub mod CardLemmas
 pub mod ChangeLemmas
 pub mod CountLemmas
@@ -5,10 +6,10 @@ pub mod EditLemmas
 pub mod FreshLemmas
 pub mod FileLemmas
 pub mod FrontLemmas
-pub mod HduEditLemmas
 pub mod KeywordLemmas
 pub mod KindLemmas
 pub mod LawLemmas
+pub mod ListEditLemmas
 pub mod MakingLemmas
 pub mod NameLemmas
 pub mod OffsetLemmas
@@ -21,5 +22,6 @@ pub mod RefusalLemmas
 pub mod ReportLemmas
 pub mod SaveLemmas
 pub mod SetLemmas
+pub mod StampEditLemmas
 pub mod StateLemmas
 pub mod WalkLemmas

@@ -1,18 +1,32 @@
--- Steps of a change of one HDU: the shape, the limits, the room.
-use Rattle.std.proofs.Common.{◌≡◌, inl, inr, ℕ, ◌+◌, ◌-◌, ◌*◌, ◌<◌, ◌≤◌, Bool, true, false, length, refl, ◌∙◌, arith, rules, Option, None, Some}
-use Rattle.std.specs.Prelude.{if◌then◌else◌}
+-- What is made of an HDU: its length, the limits, and what it owes.
+use Rattle.std.proofs.Common.{◌≡◌, inl, inr, ℕ, ◌+◌, ◌-◌, ◌*◌, ◌<◌, ◌≤◌, Bool, true, false, List, length, refl, ap, sym, ◌∙◌, subst, arith, rules, All, Option, None, Some, replicate}
+use Rattle.std.specs.Prelude.{Result, Ok, Err, IsOk, IfErr, OnOk, if◌then◌else◌}
 use Rattle.std.proofs.lemmas.List.{length-append}
-use Rattle.fits_card.specs.Change.{cards_after}
-use Rattle.fits_card.specs.Header.{Header, IsHeader, header_bytes, header_length, fill_length}
+use Rattle.fits_card.specs.Change.{cards_after, new_cards}
+use Rattle.fits_card.specs.Header.{Header, IsHeader, IsInnerCard, header_bytes, header_length, fill_length}
 use Rattle.fits_card.specs.declared.change.Change.{Change}
-use Rattle.fits_card.proofs.HeaderLemmas.{fill_length-by_cards, length-header_bytes}
+use Rattle.fits_card.proofs.HeaderLemmas.{fill_length-by_cards, length-header_bytes, whole-with_cards}
+use Rattle.fits_plane.specs.Layout.{block_count}
 use Rattle.fits_rules.specs.Class.{is_primary}
-use Rattle.fits_hdu.specs.Hdu.{HduParts, hdu_bytes, IsHdu, keeps_shape}
-use Rattle.fits_hdu.specs.State.{HduState}
+use Rattle.fits_rules.specs.Shape.{shape_of}
+use Rattle.fits_rules.proofs.SameShapeLemmas.{same_shape-Decides}
+use Rattle.fits_header.specs.Work.{shape_reads}
+use Rattle.fits_hdu.specs.Hdu.{HduParts, hdu_after, hdu_bytes, IsHdu, keeps_shape}
+use Rattle.fits_hdu.specs.Layout.{layout_of}
+use Rattle.fits_hdu.specs.State.{HduState, PixelWork, ReadsUpTo}
+use Rattle.fits_hdu.specs.Work.{apply_reads, FollowsBlank}
+use Rattle.fits_hdu.proofs.ChangeLemmas.{hdu-changed, inner_after}
+use Rattle.fits_session.specs.CardEdit.{change_of}
+use Rattle.fits_session.specs.Edit.{made_or}
+use Rattle.fits_session.specs.HduEdit.{hdu_changed, hdu_made}
 use Rattle.fits_session.specs.Limits.{is_within_limits, size_within}
-use Rattle.fits_session.specs.declared.limits.TheConstants.{FILE_LIMIT}
-use Rattle.fits_session.specs.Refusal.{EditFails, limit_refusal}
-use Rattle.fits_session.specs.Session.{length_after, made_refusal}
+use Rattle.fits_session.specs.declared.limits.TheConstants.{FILE_LIMIT, HDU_LIMIT}
+use Rattle.fits_session.specs.Refusal.{limit_refusal, CardsNeedMemory, ChangeFails, Fails}
+use Rattle.fits_session.specs.Session.{length_with, within_refusal, BlankWork, ChangesTo, HduEditsTo, HduMakes}
+use Rattle.fits_session.specs.Work.{hdu_reads, own_reads}
+use Rattle.fits_session.specs.declared.card_edit.CardEdit.{CardEdit}
+use Rattle.fits_session.specs.declared.hdu_edit.HduEdit.TheVariants.{Cards}
+use Rattle.fits_session.specs.declared.refusal.Refusal.{Refusal}
 use Rattle.fits_session.specs.declared.refusal.Refusal.TheVariants as refusal
 
 -- a header is as long as its number of cards says
@@ -51,40 +65,179 @@ limits_not : (b : Bool) (m : ℕ) → (let o : Option ℕ = None in o) ≡ (if b
 limits_not true m e = cc
 limits_not false m e = refl
 
--- a change that another shape would follow is refused
-pub refuses_shape : (state : HduState) (change : Change) (len hdus : ℕ) → keeps_shape (is_primary state.shape.class) state.hdu.header.cards (cards_after state.hdu.header.cards change) ≡ false → EditFails (made_refusal state change len hdus) refusal.Shape
-refuses_shape state change len hdus kept = inl (rw kept refl)
+-- a size that keeps to the limits isn't refused, and is what was reckoned
+pub fits : (m n hdus : ℕ) → Some n ≡ size_within m hdus → (limit_refusal m hdus ≡ None) × (n ≡ m)
+fits m n hdus some = let p = limits_are (is_within_limits m hdus) m n some in (rw p.0 refl, p.1)
 
--- one that keeps it is left to the limits
-limits_left : (state : HduState) (change : Change) (len hdus : ℕ) → keeps_shape (is_primary state.shape.class) state.hdu.header.cards (cards_after state.hdu.header.cards change) ≡ true
-    → made_refusal state change len hdus ≡ limit_refusal (length_after len state.hdu.header.cards (cards_after state.hdu.header.cards change)) hdus
-limits_left state change len hdus kept = rw kept refl
+-- another is
+pub fits_not : (m hdus : ℕ) → (let o : Option ℕ = None in o) ≡ size_within m hdus → limit_refusal m hdus ≡ Some refusal.TooLarge
+fits_not m hdus none = rw (limits_not (is_within_limits m hdus) m none) refl
 
--- and refused where it passes one
-pub refuses_length : (state : HduState) (change : Change) (len hdus : ℕ) → keeps_shape (is_primary state.shape.class) state.hdu.header.cards (cards_after state.hdu.header.cards change) ≡ true
-    → (let o : Option ℕ = None in o) ≡ size_within (length_after len state.hdu.header.cards (cards_after state.hdu.header.cards change)) hdus → EditFails (made_refusal state change len hdus) refusal.TooLarge
-refuses_length state change len hdus kept none =
-    let past : is_within_limits (length_after len state.hdu.header.cards (cards_after state.hdu.header.cards change)) hdus ≡ false =
-    limits_not (is_within_limits (length_after len state.hdu.header.cards (cards_after state.hdu.header.cards change)) hdus) (length_after len state.hdu.header.cards (cards_after state.hdu.header.cards change)) none in
-    inl (limits_left state change len hdus kept ∙ rw past refl)
+-- what keeps to the limits
+pub within_limits : (bytes hdus : ℕ) → is_within_limits bytes hdus ≡ true → (bytes ≤ FILE_LIMIT) × (hdus ≤ HDU_LIMIT)
+within_limits bytes hdus e = search rules
 
--- and accepted where it passes none
-pub accepts : (state : HduState) (change : Change) (len hdus n : ℕ) → keeps_shape (is_primary state.shape.class) state.hdu.header.cards (cards_after state.hdu.header.cards change) ≡ true
-    → Some n ≡ size_within (length_after len state.hdu.header.cards (cards_after state.hdu.header.cards change)) hdus → made_refusal state change len hdus ≡ None
-accepts state change len hdus n kept some =
-    let m : ℕ = length_after len state.hdu.header.cards (cards_after state.hdu.header.cards change) in
-    limits_left state change len hdus kept ∙ rw (limits_are (is_within_limits m hdus) m n some).0 refl
+-- isn't refused
+pub kept_limits : (bytes hdus : ℕ) → bytes ≤ FILE_LIMIT → hdus ≤ HDU_LIMIT → is_within_limits bytes hdus ≡ true
+kept_limits bytes hdus l m = search rules
 
--- memory may run out then
-pub refuses_memory : (state : HduState) (change : Change) (len hdus n : ℕ) → keeps_shape (is_primary state.shape.class) state.hdu.header.cards (cards_after state.hdu.header.cards change) ≡ true
-    → Some n ≡ size_within (length_after len state.hdu.header.cards (cards_after state.hdu.header.cards change)) hdus → EditFails (made_refusal state change len hdus) refusal.Memory
-refuses_memory state change len hdus n kept some = inr (refl, rw (accepts state change len hdus n kept some) tt)
+-- and what isn't refused keeps to them
+pub limit_none : (b : Bool) → (if b then None else Some refusal.TooLarge) ≡ None → b ≡ true
+limit_none true e = refl
+limit_none false e = cc
 
--- and the file is as long as this
-pub length_is : (m n hdus : ℕ) → Some n ≡ size_within m hdus → n ≡ m
-length_is m n hdus some = (limits_are (is_within_limits m hdus) m n some).1
+-- how many bytes a file has with an HDU of other cards, by their numbers
+pub length_reckoned : (primary : Bool) (hdu made : HduParts) (len before after : ℕ) → IsHdu primary hdu → IsHdu primary made → made.data_unit ≡ hdu.data_unit → length (hdu_bytes hdu) ≤ len → before ≡ length hdu.header.cards → after ≡ length made.header.cards
+    → len - header_length before + header_length after ≡ length_with len hdu made
+length_reckoned primary hdu made len before after whole left unit part b a = omega (
+  arith,
+  part,
+  ap header_length b,
+  ap header_length a,
+  length-append (header_bytes hdu.header) hdu.data_unit,
+  length-append (header_bytes made.header) made.data_unit,
+  ap length unit,
+  header_long hdu.header whole.header,
+  header_long made.header left.header,
+)
 
--- the length is reckoned from the numbers of cards
-pub length_by : (state : HduState) (left : HduParts) (change : Change) (len before after : ℕ) → before ≡ length state.hdu.header.cards → after ≡ length (cards_after left.header.cards change) → left ≡ state.hdu
-    → len - header_length before + header_length after ≡ length_after len state.hdu.header.cards (cards_after state.hdu.header.cards change)
-length_by state left change len before after p q same = rw (p, q, same) refl
+-- how many bytes an HDU has with its cards changed
+pub length_cards : (primary : Bool) (hdu : HduParts) (change : Change) → IsHdu primary hdu → All IsInnerCard (new_cards change) → length (hdu_bytes (hdu_after change hdu)) + header_length (length hdu.header.cards) ≡ length (hdu_bytes hdu) + header_length (length (cards_after hdu.header.cards change))
+length_cards primary hdu change whole inner =
+    let cards : List (List ℕ) = cards_after hdu.header.cards change in
+    let left = whole-with_cards hdu.header cards (replicate (fill_length (length cards)) 32) (length cards) whole.header (inner_after hdu.header.cards change whole.header.cards inner) refl refl in
+    omega (
+      arith,
+      length-append (header_bytes hdu.header) hdu.data_unit,
+      length-append (header_bytes (hdu_after change hdu).header) hdu.data_unit,
+      header_long hdu.header whole.header,
+      header_long (hdu_after change hdu).header left,
+    )
+
+-- what is refused owes this
+pub makes_not : (made : Result HduParts Refusal) (NeedsMemory : Option Refusal → Type 0) (reads : ℕ) (Works : PixelWork → PixelWork → Type 0) (bytes hdus : ℕ) (old new : HduState) (why : Refusal)
+    → IsHdu (is_primary old.shape.class) old.hdu → new.hdu ≡ old.hdu → old.reads ≤ new.reads → new.reads ≤ old.reads + reads → new.pixel_work ≡ old.pixel_work → Works old.pixel_work old.pixel_work → Fails NeedsMemory (within_refusal bytes hdus old.hdu made) why
+    → HduMakes made NeedsMemory reads Works bytes hdus old new (Err why)
+makes_not made NeedsMemory reads Works bytes hdus old new why whole same least most idle none fails = record {
+  whole = whole;
+  left = subst (λ (hdu : HduParts). IsHdu (is_primary old.shape.class) hdu) (sym same) whole;
+  accepted = tt;
+  ok = tt;
+  size = tt;
+  refused = fails;
+  err = same;
+  least = least;
+  most = most;
+  work = subst (λ (work : PixelWork). Works old.pixel_work work) (sym idle) none;
+  idle = idle;
+}
+
+-- a change that keeps the shape makes this
+pub kept_made : (primary : Bool) (hdu : HduParts) (change : Change) → keeps_shape primary hdu.header.cards (cards_after hdu.header.cards change) ≡ true → hdu_changed primary hdu (Ok change) ≡ Ok (hdu_after change hdu)
+kept_made primary hdu change kept = rw kept refl
+
+-- and another nothing
+pub unkept_made : (primary : Bool) (hdu : HduParts) (change : Change) → keeps_shape primary hdu.header.cards (cards_after hdu.header.cards change) ≡ false → hdu_changed primary hdu (Ok change) ≡ Err refusal.Shape
+unkept_made primary hdu change kept = rw kept refl
+
+-- its cards describe the shape that those before do
+kept_shape : (primary : Bool) (hdu : HduParts) (change : Change) (whole : IsHdu primary hdu) → keeps_shape primary hdu.header.cards (cards_after hdu.header.cards change) ≡ true → shape_of primary (cards_after hdu.header.cards change) ≡ Ok whole.shape
+kept_shape primary hdu change whole kept = (same_shape-Decides whole.shape (shape_of primary (cards_after hdu.header.cards change))).0 (rw whole.described at kept)
+
+-- so it leaves an HDU
+pub kept_whole : (primary : Bool) (hdu : HduParts) (change : Change) → IsHdu primary hdu → All IsInnerCard (new_cards change) → keeps_shape primary hdu.header.cards (cards_after hdu.header.cards change) ≡ true → IsHdu primary (hdu_after change hdu)
+kept_whole primary hdu change whole inner kept = hdu-changed primary hdu change whole inner (kept_shape primary hdu change whole kept ∙ sym whole.described)
+
+-- how many bytes a file has with the cards of an HDU changed, by their numbers
+pub change_reckoned : (hdu : HduParts) (primary : Bool) (change : Change) (len before after : ℕ) → IsHdu primary hdu → All IsInnerCard (new_cards change) → keeps_shape primary hdu.header.cards (cards_after hdu.header.cards change) ≡ true → length (hdu_bytes hdu) ≤ len
+    → before ≡ length hdu.header.cards → after ≡ length (cards_after hdu.header.cards change) → len - header_length before + header_length after ≡ length_with len hdu (hdu_after change hdu)
+change_reckoned hdu primary change len before after whole inner kept part b a = length_reckoned primary hdu (hdu_after change hdu) len before after whole (kept_whole primary hdu change whole inner kept) refl part b a
+
+-- what keeps the number that BLANK names works on no block
+blank_none : (primary : Bool) (hdu : HduParts) (made : Result HduParts Refusal) (work : PixelWork) → BlankWork primary hdu made work work
+blank_none primary hdu made work = record { same = λ e. refl; any = inl refl }
+
+-- a change of an HDU that is refused owes this
+pub changes_not : (change : Change) (bytes hdus : ℕ) (old new : HduState) (why : Refusal) → IsHdu (is_primary old.shape.class) old.hdu → new.hdu ≡ old.hdu → old.reads ≤ new.reads → new.reads ≤ old.reads + shape_reads old.shape → new.pixel_work ≡ old.pixel_work
+    → Fails CardsNeedMemory (within_refusal bytes hdus old.hdu (hdu_changed (is_primary old.shape.class) old.hdu (Ok change))) why → ChangesTo change bytes hdus old new (Err why)
+changes_not change bytes hdus old new why whole same least most idle fails =
+    let made : Result HduParts Refusal = hdu_changed (is_primary old.shape.class) old.hdu (Ok change) in
+    makes_not made CardsNeedMemory (shape_reads old.shape + apply_reads) (BlankWork (is_primary old.shape.class) old.hdu made) bytes hdus old new why whole same least (omega (arith, most)) idle
+    (blank_none (is_primary old.shape.class) old.hdu made old.pixel_work) fails
+
+-- one that is made owes this
+pub changes_made : (change : Change) (bytes hdus n : ℕ) (old new : HduState) → IsHdu (is_primary old.shape.class) old.hdu → shape_of (is_primary old.shape.class) old.hdu.header.cards ≡ Ok old.shape → All IsInnerCard (new_cards change)
+    → keeps_shape (is_primary old.shape.class) old.hdu.header.cards (cards_after old.hdu.header.cards change) ≡ true → Some n ≡ size_within (length_with bytes old.hdu (hdu_after change old.hdu)) hdus → new.hdu ≡ hdu_after change old.hdu → old.reads ≤ new.reads → new.reads ≤ old.reads + (shape_reads old.shape + apply_reads)
+    → FollowsBlank (layout_of old.shape old.hdu.header.cards).blank (layout_of old.shape (cards_after old.hdu.header.cards change)).blank (block_count old.hdu.data_unit) old.pixel_work new.pixel_work → ChangesTo change bytes hdus old new (Ok n)
+changes_made change bytes hdus n old new whole described inner kept some is least most follows =
+    let primary : Bool = is_primary old.shape.class in
+    let after : List (List ℕ) = cards_after old.hdu.header.cards change in
+    let made = kept_made primary old.hdu change kept in
+    let there : shape_of primary after ≡ Ok old.shape = (same_shape-Decides old.shape (shape_of primary after)).0 (rw described at kept) in
+    let room = fits (length_with bytes old.hdu (hdu_after change old.hdu)) n hdus some in
+    record {
+      whole = whole;
+      left = subst (λ (hdu : HduParts). IsHdu primary hdu) (sym is) (kept_whole primary old.hdu change whole inner kept);
+      accepted = ap (within_refusal bytes hdus old.hdu) made ∙ room.0;
+      ok = made ∙ ap (λ (hdu : HduParts). let made : Result HduParts Refusal = Ok hdu in made) (sym is);
+      size = room.1 ∙ ap (length_with bytes old.hdu) (sym is);
+      refused = tt;
+      err = tt;
+      least = least;
+      most = most;
+      work = rw (made, described, there) follows;
+      idle = tt;
+    }
+
+-- memory may run out before the size is known
+needs_sized : (b : Bool) → CardsNeedMemory (if b then None else Some refusal.TooLarge)
+needs_sized true = tt
+needs_sized false = tt
+
+-- and before the shape is
+needs_kept : (kept : Bool) (bytes hdus : ℕ) (hdu made : HduParts) → CardsNeedMemory (within_refusal bytes hdus hdu (if kept then Ok made else Err refusal.Shape))
+needs_kept true bytes hdus hdu made = needs_sized (is_within_limits (length_with bytes hdu made) hdus)
+needs_kept false bytes hdus hdu made = tt
+
+-- so it may wherever a change was made
+needs_memory : (primary : Bool) (bytes hdus : ℕ) (hdu : HduParts) (made : Result Change Refusal) → IsOk made → CardsNeedMemory (within_refusal bytes hdus hdu (hdu_changed primary hdu made))
+needs_memory primary bytes hdus hdu (Ok change) p = needs_kept (keeps_shape primary hdu.header.cards (cards_after hdu.header.cards change)) bytes hdus hdu (hdu_after change hdu)
+needs_memory primary bytes hdus hdu (Err why) p = cc
+
+-- an edit of cards whose change isn't made owes this
+pub cards_unmade : (edit : CardEdit) (bytes hdus : ℕ) (old new : HduState) (why : Refusal) → IsHdu (is_primary old.shape.class) old.hdu → ReadsUpTo old new (own_reads old.hdu.header.cards edit) → ChangeFails (change_of old.hdu.header.cards edit) why → HduEditsTo (Cards edit) bytes hdus old new (Err why)
+unfolding hdu_made
+cards_unmade edit bytes hdus old new why whole r fails =
+    let primary : Bool = is_primary old.shape.class in
+    let made : Result HduParts Refusal = hdu_changed primary old.hdu (change_of old.hdu.header.cards edit) in
+    makes_not made CardsNeedMemory (hdu_reads primary (Cards edit) old.hdu) (BlankWork primary old.hdu made) bytes hdus old new why whole r.hdu r.least (omega (arith, r.most)) r.pixel_work (blank_none primary old.hdu made old.pixel_work) (elim fails [
+      | inl e ↦ inl (ap (λ said. within_refusal bytes hdus old.hdu (hdu_changed primary old.hdu said)) e)
+      | inr m ↦ inr (m.0, needs_memory primary bytes hdus old.hdu (change_of old.hdu.header.cards edit) m.1)
+    ])
+
+-- one whose change is made owes what the change does
+pub cards_made : (edit : CardEdit) (change : Change) (bytes hdus : ℕ) (old left new : HduState) (result : Result ℕ Refusal) → shape_of (is_primary old.shape.class) old.hdu.header.cards ≡ Ok old.shape → ReadsUpTo old left (own_reads old.hdu.header.cards edit)
+    → change_of old.hdu.header.cards edit ≡ Ok change → ChangesTo change bytes hdus left new result → HduEditsTo (Cards edit) bytes hdus old new result
+unfolding hdu_made
+cards_made edit change bytes hdus old left new result described r made p =
+    let primary : Bool = is_primary old.shape.class in
+    let there : Result HduParts Refusal = hdu_changed primary old.hdu (Ok change) in
+    let accepted : OnOk result (within_refusal bytes hdus old.hdu there ≡ None) = rw (r.hdu, r.shape) at p.accepted in
+    let ok : OnOk result (there ≡ Ok new.hdu) = rw (r.hdu, r.shape) at p.ok in
+    let refused : IfErr result (Fails CardsNeedMemory (within_refusal bytes hdus old.hdu there)) = rw (r.hdu, r.shape) at p.refused in
+    let most : new.reads ≤ left.reads + (shape_reads old.shape + apply_reads) = rw r.shape at p.most in
+    let reads : hdu_reads primary (Cards edit) old.hdu ≡ own_reads old.hdu.header.cards edit + (shape_reads old.shape + apply_reads) = rw (described, made) refl in
+    let work : BlankWork primary old.hdu there old.pixel_work new.pixel_work = rw (r.hdu, r.shape, r.pixel_work) at p.work in
+    record {
+      whole = rw (r.hdu, r.shape) at p.whole;
+      left = rw r.shape at p.left;
+      accepted = rw made accepted;
+      ok = rw made ok;
+      size = rw r.hdu at p.size;
+      refused = rw made refused;
+      err = rw r.hdu at p.err;
+      least = omega (arith, r.least, p.least);
+      most = omega (arith, r.most, most, reads);
+      work = rw made work;
+      idle = rw r.pixel_work at p.idle;
+    }

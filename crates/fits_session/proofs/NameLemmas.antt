@@ -22,7 +22,7 @@ use Rattle.fits_hdu.proofs.ShapeLemmas.{one_primary}
 use Rattle.fits_session.specs.Edit.{hdu_of}
 use Rattle.fits_session.specs.File.{FileParts, IsFile}
 use Rattle.fits_session.specs.NameTable.{said_of, TellsOf}
-use Rattle.fits_session.specs.Refusal.{is_primary_hdu}
+use Rattle.fits_session.specs.Edit.{is_primary_hdu}
 use Rattle.fits_session.specs.Report.{called_count, found_names, is_called, is_repeated, name_in, names_from, HasNameOfAnother}
 use Rattle.fits_session.specs.Session.{file_of, held_of, hdus_of, state_of}
 use Rattle.fits_session.proofs.OffsetLemmas.{hdus_more}

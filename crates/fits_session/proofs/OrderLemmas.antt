@@ -23,7 +23,7 @@ use Rattle.fits_hdu.specs.Sums.{verdicts_of}
 use Rattle.fits_hdu.specs.Hdu.{HduParts}
 use Rattle.fits_hdu.specs.declared.extension_name.ExtensionName.{ExtensionName}
 use Rattle.fits_session.specs.File.{FileParts}
-use Rattle.fits_session.specs.Refusal.{is_primary_hdu}
+use Rattle.fits_session.specs.Edit.{is_primary_hdu}
 use Rattle.fits_session.specs.Report.{in_hdu, is_repeated, name_in, names_from, report_of, trailing, trails, wrong_from, wrong_in, IsListedBefore}
 use Rattle.fits_session.specs.declared.problem.Problem.{Problem}
 

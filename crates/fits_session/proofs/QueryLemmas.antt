@@ -21,10 +21,11 @@ use Rattle.fits_hdu.specs.Work.{keyword_reads}
 use Rattle.fits_hdu.specs.declared.kind.Kind.{Kind}
 use Rattle.fits_hdu.specs.declared.keyword.KeywordFault.{KeywordFault}
 use Rattle.fits_hdu.specs.declared.keyword.KeywordFault.TheVariants as keyword
-use Rattle.fits_session.specs.Edit.{hdu_of, pixels_made, refusal_of_pixels, shaped}
+use Rattle.fits_session.specs.Edit.{hdu_of}
+use Rattle.fits_session.specs.HduEdit.{pixels_made, refusal_of_pixels, shaped}
 use Rattle.fits_session.specs.File.{IsFile}
 use Rattle.fits_session.specs.Query.{by_shape, card_count_in, datasum_in, kind_in, rect_in, shape_in, some_shape, stats_in, verdicts_in, value_in, positions_in, names_in, in_hdu, or_refused, refusal_of_keyword, QueryFails}
-use Rattle.fits_session.specs.Refusal.{is_primary_hdu}
+use Rattle.fits_session.specs.Edit.{is_primary_hdu}
 use Rattle.fits_session.specs.Session.{file_of, read_more, state_of, Asks, AsksPixels}
 use Rattle.fits_session.specs.Work.{reads_in, value_reads}
 use Rattle.fits_session.specs.declared.refusal.Refusal.{Refusal}

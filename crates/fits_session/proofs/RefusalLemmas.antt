@@ -9,31 +9,37 @@ use Rattle.fits_card.specs.Name.{is_settable}
 use Rattle.fits_card.specs.declared.change.Change.TheVariants.{Splice}
 use Rattle.fits_card.specs.declared.change.Change.TheVariants as change
 use Rattle.fits_value.specs.Written.{write_says}
-use Rattle.fits_rules.specs.SameShape.{same_shape}
 use Rattle.fits_rules.specs.Shape.{shape_of}
 use Rattle.fits_rules.specs.declared.array_shape.Shape.{Shape}
 use Rattle.fits_plane.specs.Pixels.{can_store, can_store_all}
 use Rattle.fits_plane.specs.Rectangle.{lies_within, rectangle_size}
+use Rattle.fits_hdu.specs.Hdu.{HduParts, hdu_after, keeps_shape}
+use Rattle.fits_hdu.specs.Keyword.{keyword_cards, replacing}
 use Rattle.fits_hdu.specs.Kind.{kind_in, offset_of, width_of}
 use Rattle.fits_hdu.specs.NewImage.{are_axes, new_image}
 use Rattle.fits_hdu.specs.Pixels.{filled, filled_by, written, written_by}
 use Rattle.fits_hdu.specs.Stamp.{stamped}
+use Rattle.fits_hdu.specs.declared.keyword_cards.KeywordCards.{KeywordCards}
 use Rattle.fits_hdu.specs.declared.kind.Kind.{Kind}
 use Rattle.fits_hdu.specs.declared.pixel_fault.PixelFault.{PixelFault}
 use Rattle.fits_hdu.specs.declared.pixel_fault.PixelFault.TheVariants as pixel
-use Rattle.fits_hdu.specs.Hdu.{HduParts, hdu_after}
-use Rattle.fits_hdu.specs.Keyword.{keyword_cards, replacing}
-use Rattle.fits_hdu.specs.declared.keyword_cards.KeywordCards.{KeywordCards}
-use Rattle.fits_session.specs.Edit.{change_of, fill_of, is_card_edit, pixels_made, shaped, write_of, hdu_named, hdu_of, is_in_range, is_keyword_name, is_within, own_refusal, set_of, setting, tested, unless, unset_of, unsetting, with_hdu, with_new_hdu}
+use Rattle.fits_session.specs.CardEdit.{change_of, is_in_range, is_keyword_name, is_within, own_refusal, set_of, setting, tested, unless, unset_of, unsetting}
+use Rattle.fits_session.specs.Edit.{hdu_of, is_primary_hdu, with_hdu, with_new_hdu}
 use Rattle.fits_session.specs.File.{FileParts, file_bytes}
+use Rattle.fits_session.specs.HduEdit.{hdu_changed, hdu_made, painted_by, pixels_made, shaped}
 use Rattle.fits_session.specs.Limits.{is_within_limits}
-use Rattle.fits_session.specs.Refusal.{change_refusal, first_refusal, is_primary_hdu, new_image_refusal, refusal_in, refusal_made, refusal_of, size_refusal}
+use Rattle.fits_session.specs.Refusal.{made_refusal, new_image_refusal, refusal_in, refusal_of, removal_refusal, size_refusal}
+use Rattle.fits_session.specs.declared.card_edit.CardEdit.{CardEdit}
+use Rattle.fits_session.specs.declared.card_edit.CardEdit.TheVariants.{Insert, Put, Delete, Move, Set, Unset}
 use Rattle.fits_session.specs.declared.edit.Edit.{Edit}
-use Rattle.fits_session.specs.declared.edit.Edit.TheVariants.{Insert, Put, Delete, Move, Set, Unset, Fill, Write, NewImage, RemoveHdu, Stamp}
+use Rattle.fits_session.specs.declared.edit.Edit.TheVariants.{Hdu, NewImage, RemoveHdu}
+use Rattle.fits_session.specs.declared.hdu_edit.HduEdit.{HduEdit}
+use Rattle.fits_session.specs.declared.hdu_edit.HduEdit.TheVariants.{Cards, Pixels, Stamp}
+use Rattle.fits_session.specs.declared.paint.Paint.{Paint}
+use Rattle.fits_session.specs.declared.paint.Paint.TheVariants.{Fill, Write}
 use Rattle.fits_session.specs.declared.refusal.Refusal.{Refusal}
 use Rattle.fits_session.specs.declared.refusal.Refusal.TheVariants.{NoHdu, NoCard, NoKey, BadText, EndCard, BadName, BadValue, NotImage, BadRect, WrongCount, Range, PrimaryStays, TooLarge, Memory}
 use Rattle.fits_session.specs.declared.refusal.Refusal.TheVariants as refusal
-use Rattle.fits_session.proofs.EditLemmas.{card_refusal}
 
 -- this isn't out of memory
 IsFirm : Option Refusal → Type 0
@@ -44,12 +50,6 @@ firm_choice : (test : Bool) (a b : Option Refusal) → IsFirm a → IsFirm b →
 unfolding IsFirm
 firm_choice true a b p q = p
 firm_choice false a b p q = q
-
--- nor the first of two
-firm_first : (a b : Option Refusal) → IsFirm a → IsFirm b → IsFirm (first_refusal a b)
-unfolding IsFirm
-firm_first None b p q = q
-firm_first (Some why) b p q = p
 
 -- none is firm
 firm_none : IsFirm None
@@ -119,43 +119,58 @@ firm_unsetting None = firm_refused NoKey (λ e. cc)
 firm_unsetting (Some old) = firm_made (Splice old.place old.count [])
 
 -- the change of each edit
-firm_change : (cards : List (List ℕ)) (edit : Edit) → FirmChange (change_of cards edit)
+firm_change : (cards : List (List ℕ)) (edit : CardEdit) → FirmChange (change_of cards edit)
 unfolding change_of set_of unset_of
-firm_change cards (Insert h place card) = firm_tested (length cards) (Splice place 0 (card ∷ []))
-firm_change cards (Put h place card) = firm_tested (length cards) (Splice place 1 (card ∷ []))
-firm_change cards (Delete h place) = firm_tested (length cards) (Splice place 1 [])
-firm_change cards (Move h from to) = firm_tested (length cards) (change.Move from to)
-firm_change cards (Set h name value comment) =
+firm_change cards (Insert place card) = firm_tested (length cards) (Splice place 0 (card ∷ []))
+firm_change cards (Put place card) = firm_tested (length cards) (Splice place 1 (card ∷ []))
+firm_change cards (Delete place) = firm_tested (length cards) (Splice place 1 [])
+firm_change cards (Move from to) = firm_tested (length cards) (change.Move from to)
+firm_change cards (Set name value comment) =
     firm_either (is_settable name) _ (Err BadName) (firm_setting (length cards) (keyword_cards cards name) (write_says name value comment)) (firm_refused BadName (λ e. cc))
-firm_change cards (Unset h name) =
+firm_change cards (Unset name) =
     firm_either (is_keyword_name name) _ (Err BadName) (firm_unsetting (keyword_cards cards name)) (firm_refused BadName (λ e. cc))
-firm_change cards (Fill h lo hi value) = firm_refused NotImage (λ e. cc)
-firm_change cards (Write h lo hi values) = firm_refused NotImage (λ e. cc)
-firm_change cards (NewImage at kind axes) = firm_refused NotImage (λ e. cc)
-firm_change cards (RemoveHdu h) = firm_refused NotImage (λ e. cc)
-firm_change cards (Stamp h) = firm_refused NotImage (λ e. cc)
 
--- the tests of a change
-firm_tests : (file : FileParts) (h : ℕ) (hdu : HduParts) (made : Result Change Refusal) → FirmChange made → IsFirm (change_refusal file h hdu made)
-unfolding IsFirm FirmChange
-firm_tests file h hdu (Err why) firm = λ e. firm (let same : why ≡ Memory = cc in ap Err same)
-firm_tests file h hdu (Ok change) firm =
-    firm_first _ _
-    (firm_choice (same_shape (shape_of (is_primary_hdu h) hdu.header.cards) (shape_of (is_primary_hdu h) (cards_after hdu.header.cards change))) None (Some refusal.Shape) firm_none (firm_some refusal.Shape (λ e. cc)))
-    (firm_choice (is_within_limits (length (file_bytes (with_hdu file h (hdu_after change)))) (length (with_hdu file h (hdu_after change)).hdus)) None (Some TooLarge) firm_none (firm_some TooLarge (λ e. cc)))
+-- nor is what an edit makes of an HDU
+FirmMade : Result HduParts Refusal → Type 0
+FirmMade made = made ≡ Err Memory → ⊥
+
+-- an HDU that is made
+firm_hdu : (hdu : HduParts) → FirmMade (Ok hdu)
+unfolding FirmMade
+firm_hdu hdu e = absurd (cc)
+
+-- one that is refused
+firm_no_hdu : (why : Refusal) → IsOther why → FirmMade (Err why)
+unfolding FirmMade
+firm_no_hdu why other e = other (same why e)
+  where
+    same : (why : Refusal) → ◌≡◌ {A = Result HduParts Refusal} (Err why) (Err Memory) → why ≡ Memory
+    same why e = cc
+
+-- of two neither
+firm_kept : (test : Bool) (a b : Result HduParts Refusal) → FirmMade a → FirmMade b → FirmMade (if test then a else b)
+firm_kept true a b p q = p
+firm_kept false a b p q = q
+
+-- an HDU with its cards changed
+firm_changed : (primary : Bool) (hdu : HduParts) (made : Result Change Refusal) → FirmChange made → FirmMade (hdu_changed primary hdu made)
+unfolding FirmChange
+firm_changed primary hdu (Err why) firm = firm_no_hdu why (λ e. firm (ap Err e))
+firm_changed primary hdu (Ok change) firm =
+    firm_kept (keeps_shape primary hdu.header.cards (cards_after hdu.header.cards change)) (Ok (hdu_after change hdu)) (Err refusal.Shape) (firm_hdu (hdu_after change hdu)) (firm_no_hdu refusal.Shape (λ e. cc))
 
 -- a test of pixels that fails isn't out of memory
 FirmPixels : {X : Type 0} → Result X PixelFault → Type 0
 FirmPixels made = made ≡ Err pixel.Memory → ⊥
 
 -- pixels that are made, and each fault of them that the tests can have
-firm_pixels : {X : Type 0} (made : Result X PixelFault) → FirmPixels made → IsFirm (refusal_made (pixels_made made))
+firm_pixels : (made : Result HduParts PixelFault) → FirmPixels made → FirmMade (pixels_made made)
 unfolding FirmPixels
-firm_pixels (Ok made) firm = firm_none
-firm_pixels (Err pixel.NotImage) firm = firm_some NotImage (λ e. cc)
-firm_pixels (Err pixel.BadRectangle) firm = firm_some BadRect (λ e. cc)
-firm_pixels (Err pixel.WrongCount) firm = firm_some WrongCount (λ e. cc)
-firm_pixels (Err pixel.OutOfRange) firm = firm_some Range (λ e. cc)
+firm_pixels (Ok made) firm = firm_hdu made
+firm_pixels (Err pixel.NotImage) firm = firm_no_hdu NotImage (λ e. cc)
+firm_pixels (Err pixel.BadRectangle) firm = firm_no_hdu BadRect (λ e. cc)
+firm_pixels (Err pixel.WrongCount) firm = firm_no_hdu WrongCount (λ e. cc)
+firm_pixels (Err pixel.OutOfRange) firm = firm_no_hdu Range (λ e. cc)
 firm_pixels (Err pixel.Memory) firm = absurd (firm refl)
 
 -- of two choices neither
@@ -191,34 +206,43 @@ firm_written (Some kind) shape lo hi values hdu =
     (firm_pick (not (length values == rectangle_size lo hi)) (Err pixel.WrongCount) _ (firm_fault _ pixel.WrongCount (λ e. cc))
     (firm_pick (not (can_store_all (width_of kind) (offset_of kind) values)) (Err pixel.OutOfRange) _ (firm_fault _ pixel.OutOfRange (λ e. cc)) (firm_done _)))
 
--- the tests of an edit of pixels
-firm_shaped : {X : Type 0} (described : Result Shape ℕ) (make : Shape → Result X PixelFault) → ((shape : Shape) → FirmPixels (make shape)) → IsFirm (refusal_made (shaped described make))
+-- a rectangle that is painted
+firm_painted : (shape : Shape) (lo hi : List ℕ) (paint : Paint) (hdu : HduParts) → FirmPixels (painted_by shape lo hi paint hdu)
+unfolding filled written
+firm_painted shape lo hi (Fill value) hdu = firm_filled (kind_in shape hdu.header.cards) shape lo hi value hdu
+firm_painted shape lo hi (Write values) hdu = firm_written (kind_in shape hdu.header.cards) shape lo hi values hdu
+
+-- what is made by a shape
+firm_shaped : (said : Result Shape ℕ) (make : Shape → Result HduParts PixelFault) → ((shape : Shape) → FirmPixels (make shape)) → FirmMade (shaped said make)
 firm_shaped (Ok shape) make firm = firm_pixels (make shape) (firm shape)
-firm_shaped (Err place) make firm = firm_some NotImage (λ e. cc)
+firm_shaped (Err place) make firm = firm_no_hdu NotImage (λ e. cc)
+
+-- what each edit makes of an HDU
+firm_made_of : (primary : Bool) (edit : HduEdit) (hdu : HduParts) → FirmMade (hdu_made primary edit hdu)
+unfolding hdu_made
+firm_made_of primary (Cards edit) hdu = firm_changed primary hdu (change_of hdu.header.cards edit) (firm_change hdu.header.cards edit)
+firm_made_of primary (Pixels lo hi paint) hdu = firm_shaped (shape_of primary hdu.header.cards) (λ shape. painted_by shape lo hi paint hdu) (λ shape. firm_painted shape lo hi paint hdu)
+firm_made_of primary Stamp hdu = firm_hdu (stamped hdu)
 
 -- the tests of a file's size
 firm_size : (file : FileParts) → IsFirm (size_refusal file)
 firm_size file = firm_choice (is_within_limits (length (file_bytes file)) (length file.hdus)) None (Some TooLarge) firm_none (firm_some TooLarge (λ e. cc))
 
--- the tests of an edit of cards
-firm_cards : (file : FileParts) (edit : Edit) (hdu : HduParts) → is_card_edit edit ≡ true → IsFirm (refusal_in file edit (Some hdu))
-firm_cards file edit hdu cards = rw (card_refusal file edit hdu cards) (firm_tests file (hdu_named edit) hdu (change_of hdu.header.cards edit) (firm_change hdu.header.cards edit))
+-- the tests of what is made of an HDU
+firm_tests : (file : FileParts) (h : ℕ) (made : Result HduParts Refusal) → FirmMade made → IsFirm (made_refusal file h made)
+unfolding IsFirm FirmMade
+firm_tests file h (Err why) firm = λ e. firm (let same : why ≡ Memory = cc in ap Err same)
+firm_tests file h (Ok made) firm = firm_size (with_hdu file h (λ hdu. made))
 
 -- the tests of an edit, whether its HDU is there or not
-firm_edit : (file : FileParts) (edit : Edit) (hdu : Option HduParts) → IsFirm (refusal_in file edit hdu)
-unfolding fill_of write_of filled written
-firm_edit file edit None = firm_some NoHdu (λ e. cc)
-firm_edit file (Insert h place card) (Some hdu) = firm_cards file (Insert h place card) hdu refl
-firm_edit file (Put h place card) (Some hdu) = firm_cards file (Put h place card) hdu refl
-firm_edit file (Delete h place) (Some hdu) = firm_cards file (Delete h place) hdu refl
-firm_edit file (Move h from to) (Some hdu) = firm_cards file (Move h from to) hdu refl
-firm_edit file (Set h name value comment) (Some hdu) = firm_cards file (Set h name value comment) hdu refl
-firm_edit file (Unset h name) (Some hdu) = firm_cards file (Unset h name) hdu refl
-firm_edit file (Fill h lo hi value) (Some hdu) = firm_shaped (shape_of (is_primary_hdu h) hdu.header.cards) (λ shape. filled shape lo hi value hdu) (λ shape. firm_filled (kind_in shape hdu.header.cards) shape lo hi value hdu)
-firm_edit file (Write h lo hi values) (Some hdu) = firm_shaped (shape_of (is_primary_hdu h) hdu.header.cards) (λ shape. written shape lo hi values hdu) (λ shape. firm_written (kind_in shape hdu.header.cards) shape lo hi values hdu)
-firm_edit file (NewImage at kind axes) (Some hdu) = firm_tests file at hdu (change_of hdu.header.cards (NewImage at kind axes)) (firm_change hdu.header.cards (NewImage at kind axes))
-firm_edit file (RemoveHdu h) (Some hdu) = firm_choice (h == 1) (Some PrimaryStays) None (firm_some PrimaryStays (λ e. cc)) firm_none
-firm_edit file (Stamp h) (Some hdu) = firm_size (with_hdu file h stamped)
+firm_edit : (file : FileParts) (h : ℕ) (edit : HduEdit) (hdu : Option HduParts) → IsFirm (refusal_in file h edit hdu)
+firm_edit file h edit None = firm_some NoHdu (λ e. cc)
+firm_edit file h edit (Some hdu) = firm_tests file h (hdu_made (is_primary_hdu h) edit hdu) (firm_made_of (is_primary_hdu h) edit hdu)
+
+-- the tests of taking an HDU out
+firm_removal : (h : ℕ) (hdu : Option HduParts) → IsFirm (removal_refusal h hdu)
+firm_removal h None = firm_some NoHdu (λ e. cc)
+firm_removal h (Some hdu) = firm_choice (h == 1) (Some PrimaryStays) None (firm_some PrimaryStays (λ e. cc)) firm_none
 
 -- the tests of a new image
 firm_new : (file : FileParts) (h : ℕ) (kind : Kind) (axes : List ℕ) → IsFirm (new_image_refusal file h kind axes)
@@ -231,14 +255,6 @@ firm_new file h kind axes =
 -- no edit of any file is refused for memory
 pub never_memory : (file : FileParts) (edit : Edit) → refusal_of file edit ≡ Some Memory → ⊥
 unfolding IsFirm refusal_of
-never_memory file (Insert h place card) = firm_edit file (Insert h place card) (hdu_of file h)
-never_memory file (Put h place card) = firm_edit file (Put h place card) (hdu_of file h)
-never_memory file (Delete h place) = firm_edit file (Delete h place) (hdu_of file h)
-never_memory file (Move h from to) = firm_edit file (Move h from to) (hdu_of file h)
-never_memory file (Set h name value comment) = firm_edit file (Set h name value comment) (hdu_of file h)
-never_memory file (Unset h name) = firm_edit file (Unset h name) (hdu_of file h)
-never_memory file (Fill h lo hi value) = firm_edit file (Fill h lo hi value) (hdu_of file h)
-never_memory file (Write h lo hi values) = firm_edit file (Write h lo hi values) (hdu_of file h)
+never_memory file (Hdu h edit) = firm_edit file h edit (hdu_of file h)
 never_memory file (NewImage at kind axes) = firm_new file at kind axes
-never_memory file (RemoveHdu h) = firm_edit file (RemoveHdu h) (hdu_of file h)
-never_memory file (Stamp h) = firm_edit file (Stamp h) (hdu_of file h)
+never_memory file (RemoveHdu h) = firm_removal h (hdu_of file h)

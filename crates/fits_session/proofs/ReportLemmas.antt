@@ -18,7 +18,7 @@ use Rattle.fits_hdu.specs.declared.findings.Findings.{Findings}
 use Rattle.fits_hdu.proofs.ShapeLemmas.{one_primary}
 use Rattle.fits_session.specs.File.{FileParts, is_followed, IsFileOf}
 use Rattle.fits_session.specs.Reading.{is_found, KeepsEach}
-use Rattle.fits_session.specs.Refusal.{is_primary_hdu}
+use Rattle.fits_session.specs.Edit.{is_primary_hdu}
 use Rattle.fits_session.specs.Report.{found_from, found_names, in_hdu, is_repeated, name_in, names_from, report_of, trailing, trails, wrong_from, wrong_in}
 use Rattle.fits_session.specs.Session.{held_of, hdus_of}
 use Rattle.fits_session.specs.declared.problem.Problem.{Problem}

@@ -10,10 +10,9 @@ use Rattle.fits_rules.specs.Shape.{shape_of}
 use Rattle.fits_hdu.specs.Hdu.{HduParts, hdu_bytes, IsHdu}
 use Rattle.fits_hdu.specs.State.{HduState, PixelWork, ReadsUpTo}
 use Rattle.fits_hdu.proofs.ShapeLemmas.{one_primary}
-use Rattle.fits_session.specs.Edit.{hdu_of, changed_at, changed_of}
+use Rattle.fits_session.specs.Edit.{hdu_of, changed_at, changed_of, is_primary_hdu}
 use Rattle.fits_session.specs.File.{FileParts, IsFile, file_bytes, joined_hdus}
-use Rattle.fits_session.specs.declared.limits.TheConstants.{FILE_LIMIT}
-use Rattle.fits_session.specs.Refusal.{is_primary_hdu}
+use Rattle.fits_session.specs.declared.limits.TheConstants.{FILE_LIMIT, HDU_LIMIT}
 use Rattle.fits_session.specs.Session.{Held, SessionState, file_of, hdus_of, reads_of, works_of, held_as, held_of, state_of, ReadsOnly, WorksOnly, Asks, IsIndexOf, IsNowhere}
 use Rattle.fits_session.proofs.ChangeLemmas.{hdu_is, part_within}
 
@@ -51,12 +50,12 @@ hdus_of-same hdus i old new l e p = parts_same (λ (one : Held). one.hdu) hdus i
 pub file_of-same : (hdus : List HduState) (tail : List ℕ) (h i : ℕ) (old new : HduState) → IsHduAt hdus h i old → new.hdu ≡ old.hdu → file_of (state_of (set hdus i new) tail) ≡ file_of (state_of hdus tail)
 file_of-same hdus tail h i old new at p = ap (λ (us : List HduParts). let file : FileParts = record { hdus = us; tail = tail } in file) (hdus_of-same hdus i old new at.index.within at.is p)
 
--- a session stays a file where its HDUs stay, and they have as many bytes
-pub stays_file : (hdus : List HduState) (tail : List ℕ) (h i len : ℕ) (old new : HduState) → IsHduAt hdus h i old → new.hdu ≡ old.hdu → IsFile (file_of (state_of hdus tail)) → len ≡ length (joined_hdus (hdus_of (held_of hdus)))
-    → IsFile (file_of (state_of (set hdus i new) tail)) × (len ≡ length (joined_hdus (hdus_of (held_of (set hdus i new)))))
+-- a session stays a file where its HDUs stay, of as many bytes
+pub stays_file : (hdus : List HduState) (tail : List ℕ) (h i len : ℕ) (old new : HduState) → IsHduAt hdus h i old → new.hdu ≡ old.hdu → IsFile (file_of (state_of hdus tail)) → len ≡ length (file_bytes (file_of (state_of hdus tail)))
+    → IsFile (file_of (state_of (set hdus i new) tail)) × (len ≡ length (file_bytes (file_of (state_of (set hdus i new) tail))))
 stays_file hdus tail h i len old new at p file e =
     let same = file_of-same hdus tail h i old new at p in
-    (subst (λ (f : FileParts). IsFile f) (sym same) file, e ∙ ap (λ (f : FileParts). length (joined_hdus f.hdus)) (sym same))
+    (subst (λ (f : FileParts). IsFile f) (sym same) file, e ∙ ap (λ (f : FileParts). length (file_bytes f)) (sym same))
 
 -- there are as many parts as HDUs
 pub length-hdus_of : (hdus : List HduState) → length (hdus_of (held_of hdus)) ≡ length hdus
@@ -110,12 +109,16 @@ described_there hdus tail h i hdu p at described =
     ap (λ b. shape_of b hdu.hdu.header.cards) (sym same) ∙ described
 
 -- it is a part of the file
-pub part_there : (hdus : List HduState) (h i : ℕ) (hdu : HduState) → IsHduAt hdus h i hdu → length (hdu_bytes hdu.hdu) ≤ length (joined_hdus (hdus_of (held_of hdus)))
-part_there hdus h i hdu at = part_within (hdus_of (held_of hdus)) i hdu.hdu (slice_get-hdus_of hdus i hdu at.index.within at.is)
+pub part_there : (hdus : List HduState) (tail : List ℕ) (h i : ℕ) (hdu : HduState) → IsHduAt hdus h i hdu → length (hdu_bytes hdu.hdu) ≤ length (file_bytes (file_of (state_of hdus tail)))
+part_there hdus tail h i hdu at = omega (arith, part_within (hdus_of (held_of hdus)) i hdu.hdu (slice_get-hdus_of hdus i hdu at.index.within at.is), length-append (joined_hdus (hdus_of (held_of hdus))) tail)
 
 -- which is not too long
 pub file_size : (hdus : List HduState) (tail : List ℕ) → IsFile (file_of (state_of hdus tail)) → length (joined_hdus (hdus_of (held_of hdus))) + length tail ≤ FILE_LIMIT
 file_size hdus tail p = omega (arith, p.size, length-append (joined_hdus (hdus_of (held_of hdus))) tail)
+
+-- and keeps to the limits
+pub file_within : (hdus : List HduState) (tail : List ℕ) → IsFile (file_of (state_of hdus tail)) → (length (file_bytes (file_of (state_of hdus tail))) ≤ FILE_LIMIT) × (length hdus ≤ HDU_LIMIT)
+file_within hdus tail p = (p.size, omega (arith, p.count, length-hdus_of hdus))
 
 -- a count of 0 changes nothing
 changed-none : (h : ℕ) (xs : List ℕ) → changed_at h (λ n. n + 0) xs ≡ xs

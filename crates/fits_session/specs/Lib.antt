@@ -1,6 +1,8 @@
+pub mod CardEdit
 pub mod Edit
 pub mod File
 pub mod Fresh
+pub mod HduEdit
 pub mod Limits
 pub mod NameTable
 pub mod Opening

@@ -18,8 +18,9 @@ use Rattle.fits_hdu.specs.declared.verdicts.Verdicts.{Verdicts}
 use Rattle.fits_hdu.specs.declared.keyword.KeywordFault.{KeywordFault}
 use Rattle.fits_hdu.specs.declared.keyword.KeywordFault.TheVariants as keyword
 use Rattle.fits_session.specs.File.{FileParts}
-use Rattle.fits_session.specs.Edit.{hdu_of, shaped}
-use Rattle.fits_session.specs.Refusal.{is_primary_hdu}
+use Rattle.fits_session.specs.Edit.{hdu_of}
+use Rattle.fits_session.specs.HduEdit.{shaped}
+use Rattle.fits_session.specs.Edit.{is_primary_hdu}
 use Rattle.fits_session.specs.declared.refusal.Refusal.{Refusal}
 use Rattle.fits_session.specs.declared.refusal.Refusal.TheVariants.{NoHdu, NoKey, BadValue, Shape as BadShape, Memory}
 

@@ -16,7 +16,7 @@ use Rattle.fits_hdu.specs.declared.extension_name.ExtensionName.{ExtensionName}
 use Rattle.fits_hdu.specs.declared.findings.Findings.{Findings}
 use Rattle.fits_session.specs.Edit.{hdu_of}
 use Rattle.fits_session.specs.File.{FileParts, is_followed, IsFileOf}
-use Rattle.fits_session.specs.Refusal.{is_primary_hdu}
+use Rattle.fits_session.specs.Edit.{is_primary_hdu}
 use Rattle.fits_session.specs.declared.problem.Problem.{Problem}
 
 -- a finding in HDU h

@@ -1,24 +1,26 @@
 -- What a session is to its callers, and what its calls owe.
-use Rattle.std.specs.Prelude.{◌≡◌, ◌⊎◌, ℕ, Bool, ◌+◌, ◌-◌, ◌<◌, ◌≤◌, List, Option, length, get_or, map, Result, Ok, Err, IfErr, OnOk, OnErr, None, Some, ℤ}
+use Rattle.std.specs.Prelude.{◌≡◌, ◌⊎◌, ℕ, Bool, ◌+◌, ◌-◌, ◌<◌, ◌≤◌, List, Option, length, get_or, map, Result, Ok, Err, IfOk, IfErr, OnOk, OnErr, None, Some, ℤ}
 use Rattle.std.specs.List.{insert, remove, slice_get}
-use Rattle.fits_card.specs.Change.{cards_after}
-use Rattle.fits_card.specs.Header.{header_length}
 use Rattle.fits_card.specs.declared.change.Change.{Change}
 use Rattle.fits_rules.specs.Class.{is_primary}
 use Rattle.fits_plane.specs.Layout.{block_count}
 use Rattle.fits_plane.specs.Work.{rectangle_blocks}
 use Rattle.fits_rules.specs.Shape.{shape_of}
 use Rattle.fits_rules.specs.declared.array_shape.Shape.{Shape}
-use Rattle.fits_hdu.specs.Hdu.{HduParts}
+use Rattle.fits_hdu.specs.Hdu.{HduParts, hdu_bytes, IsHdu}
+use Rattle.fits_header.specs.Work.{shape_reads}
 use Rattle.fits_hdu.specs.Layout.{layout_of}
 use Rattle.fits_hdu.specs.State.{HduState, PixelWork}
-use Rattle.fits_hdu.specs.Work.{open_reads, FollowsBlank, IsMade, IsPatched}
-use Rattle.fits_session.specs.Edit.{changed_of, file_after, hdu_edited, hdu_named, hdu_of, is_primary_hdu}
+use Rattle.fits_hdu.specs.Work.{apply_reads, open_reads, FollowsBlank, IsMade, IsPatched}
+use Rattle.fits_session.specs.Edit.{changed_of, file_after, hdu_of, is_primary_hdu, made_or}
 use Rattle.fits_session.specs.File.{FileParts}
-use Rattle.fits_session.specs.Refusal.{first_refusal, limit_refusal, refusal_of, shape_refusal, EditRefused}
-use Rattle.fits_session.specs.Work.{edit_reads}
+use Rattle.fits_session.specs.HduEdit.{hdu_changed, hdu_made}
+use Rattle.fits_session.specs.Refusal.{limit_refusal, refusal_of, CardsNeedMemory, EditNeedsMemory, Fails, HduNeedsMemory}
+use Rattle.fits_session.specs.Work.{edit_reads, hdu_reads}
 use Rattle.fits_session.specs.declared.edit.Edit.{Edit}
-use Rattle.fits_session.specs.declared.edit.Edit.TheVariants.{Fill, Write, NewImage, RemoveHdu}
+use Rattle.fits_session.specs.declared.edit.Edit.TheVariants.{Hdu, NewImage, RemoveHdu}
+use Rattle.fits_session.specs.declared.hdu_edit.HduEdit.{HduEdit}
+use Rattle.fits_session.specs.declared.hdu_edit.HduEdit.TheVariants.{Pixels}
 use Rattle.fits_session.specs.declared.refusal.Refusal.{Refusal}
 
 -- what a session holds of an HDU: its parts, how many of its cards were read so far, and the work on its data unit
@@ -83,20 +85,21 @@ PatchesIn (Ok shape) lo hi hdu =
     IsPatched (rectangle_blocks (layout_of shape hdu.header.cards) hdu.data_unit shape.axes lo hi) (block_count hdu.data_unit)
 PatchesIn (Err place) lo hi hdu = λ old new. new ≡ old
 
--- so much work on the data unit of its HDU an edit is: one of pixels works on their blocks; one of cards on none, or on all where the number
--- that BLANK names changes
-abbrev pub HduWork : Edit → HduParts → PixelWork → PixelWork → Type 0
-HduWork (Fill h lo hi value) hdu = PatchesIn (shape_of (is_primary_hdu h) hdu.header.cards) lo hi hdu
-HduWork (Write h lo hi values) hdu = PatchesIn (shape_of (is_primary_hdu h) hdu.header.cards) lo hi hdu
-HduWork edit hdu =
-    let cards : List (List ℕ) = hdu.header.cards in
-    let after : List (List ℕ) = (hdu_edited edit hdu).header.cards in
-    let primary : Bool = is_primary_hdu (hdu_named edit) in
-    FollowsBlank (blank_of (shape_of primary cards) cards) (blank_of (shape_of primary after) after) (block_count hdu.data_unit)
+-- what is made of an HDU works on no block, or on all where the number that BLANK names changes
+abbrev pub BlankWork : Bool → HduParts → Result HduParts Refusal → PixelWork → PixelWork → Type 0
+BlankWork primary hdu made =
+    let before : List (List ℕ) = hdu.header.cards in
+    let after : List (List ℕ) = (made_or hdu made).header.cards in
+    FollowsBlank (blank_of (shape_of primary before) before) (blank_of (shape_of primary after) after) (block_count hdu.data_unit)
 
--- the same of the HDU that it names
-abbrev pub EditWork : FileParts → Edit → PixelWork → PixelWork → Type 0
-EditWork file edit old new = (hdu : HduParts) → hdu_of file (hdu_named edit) ≡ Some hdu → HduWork edit hdu old new
+-- so much work on its data unit an edit of an HDU is: one of pixels works on their blocks
+abbrev pub HduWork : Bool → HduEdit → HduParts → PixelWork → PixelWork → Type 0
+HduWork primary (Pixels lo hi paint) hdu = PatchesIn (shape_of primary hdu.header.cards) lo hi hdu
+HduWork primary edit hdu = BlankWork primary hdu (hdu_made primary edit hdu)
+
+-- the same of HDU h
+abbrev pub EditWork : FileParts → ℕ → HduEdit → PixelWork → PixelWork → Type 0
+EditWork file h edit old new = (hdu : HduParts) → hdu_of file h ≡ Some hdu → HduWork (is_primary_hdu h) edit hdu old new
 
 -- an HDU with each of its cards read once more
 abbrev pub once_read : Held → Held
@@ -113,10 +116,10 @@ pub record ReadsOnceAtMost (before after : List Held) : Type 0 where
   pub least : (i : ℕ) → get_or (reads_of before) i 0 ≤ get_or (reads_of after) i 0
   pub most : (i : ℕ) → get_or (reads_of after) i 0 ≤ get_or (reads_of (each_read before)) i 0
 
--- work on the HDU that an edit names, and on no other
-pub record NamedWork (edit : Edit) (old new : SessionState) : Type 0 where
-  pub cards : ReadsOnly (hdu_named edit) (edit_reads (file_of old) edit) (reads_of old.held) (reads_of new.held)
-  pub pixels : WorksOnly (hdu_named edit) (EditWork (file_of old) edit) (works_of old.held) (works_of new.held)
+-- an edit of HDU h is work on that HDU, and on no other
+pub record HduWorks (h : ℕ) (edit : HduEdit) (old new : SessionState) : Type 0 where
+  pub cards : ReadsOnly h (edit_reads (file_of old) h edit) (reads_of old.held) (reads_of new.held)
+  pub pixels : WorksOnly h (EditWork (file_of old) h edit) (works_of old.held) (works_of new.held)
 
 -- an HDU was put in that will be HDU h: it was read and scanned as much as one that is opened, and the counts of the others are theirs
 pub record PutsIn (h : ℕ) (before after : List Held) : Type 0 where
@@ -125,20 +128,22 @@ pub record PutsIn (h : ℕ) (before after : List Held) : Type 0 where
   pub reads : one.reads ≤ open_reads one.hdu.header.cards
   pub made : IsMade (block_count one.hdu.data_unit) one.pixel_work
 
--- the work of an edit: of one that is named, or none but that of an HDU that is put in; the counts go with their HDUs
+-- the work of an edit: on its HDU, or none but that of an HDU that is put in; the counts go with their HDUs
 abbrev pub WorksAs : Edit → SessionState → SessionState → Type 0
+WorksAs (Hdu h edit) old new = HduWorks h edit old new
 WorksAs (NewImage at kind axes) old new = (new ≡ old) ⊎ PutsIn at old.held new.held
 WorksAs (RemoveHdu h) old new = (new ≡ old) ⊎ (new.held ≡ remove old.held (h - 1))
-WorksAs edit old new = NamedWork edit old new
 
 -- an edit owes: it is made where none of its tests fails, and then the file is the one after it; else the file is as
--- before, and the refusal is the first test's that fails, or memory's. Cards of the HDU that it names alone are read.
+-- before, and the refusal is the first test's that fails, or memory's. Cards of the HDU that it names alone are read, and a refused edit
+-- works on no block.
 pub record EditsTo {X : Type 0} (edit : Edit) (old new : SessionState) (result : Result X Refusal) : Type 0 where
   pub accepted : OnOk result (refusal_of (file_of old) edit ≡ None)
   pub ok : OnOk result (file_of new ≡ file_after (file_of old) edit)
-  pub refused : IfErr result (EditRefused edit (refusal_of (file_of old) edit))
+  pub refused : IfErr result (Fails (EditNeedsMemory edit) (refusal_of (file_of old) edit))
   pub err : OnErr result (file_of new ≡ file_of old)
   pub work : WorksAs edit old new
+  pub idle : OnErr result (works_of new.held ≡ works_of old.held)
 
 -- a query of HDU h owes: the file stays, and so many of that HDU's cards are read at most
 pub record Asks (h most : ℕ) (old new : SessionState) : Type 0 where
@@ -165,13 +170,39 @@ pub record IsIndexOf (count h i : ℕ) : Type 0 where
 abbrev pub IsNowhere : ℕ → ℕ → Type 0
 IsNowhere count h = (h ≡ 0) ⊎ (count < h)
 
--- how many bytes a file of so many has with other cards in one HDU
-abbrev pub length_after : ℕ → List (List ℕ) → List (List ℕ) → ℕ
-length_after bytes before after = bytes - header_length (length before) + header_length (length after)
+-- how many bytes a file of so many has with another HDU in place of one
+abbrev pub length_with : ℕ → HduParts → HduParts → ℕ
+length_with bytes before after = bytes - length (hdu_bytes before) + length (hdu_bytes after)
 
--- the tests of a change of an HDU under edits that all changes share, in a file of so many bytes and HDUs
-abbrev pub made_refusal : HduState → Change → ℕ → ℕ → Option Refusal
-made_refusal state change bytes hdus =
-    let before : List (List ℕ) = state.hdu.header.cards in
-    let after : List (List ℕ) = cards_after before change in
-    first_refusal (shape_refusal (is_primary state.shape.class) before after) (limit_refusal (length_after bytes before after) hdus)
+-- the tests of an edit of an HDU, by what it makes of it, in a file of so many bytes and HDUs: its own, and then the limits
+abbrev pub within_refusal : ℕ → ℕ → HduParts → Result HduParts Refusal → Option Refusal
+within_refusal bytes hdus hdu (Err why) = Some why
+within_refusal bytes hdus hdu (Ok made) = limit_refusal (length_with bytes hdu made) hdus
+
+-- what is made of an HDU owes, in a file of so many bytes and HDUs: it is made where no test fails, and the answer is how many bytes the
+-- file has then; else the HDU is as before, and the refusal is the first test's that fails, or memory's; a refused one works on no block
+pub record HduMakes (made : Result HduParts Refusal) (NeedsMemory : Option Refusal → Type 0) (reads : ℕ) (Works : PixelWork → PixelWork → Type 0) (bytes hdus : ℕ) (old new : HduState) (result : Result ℕ Refusal) : Type 0 where
+  pub whole : IsHdu (is_primary old.shape.class) old.hdu
+  pub left : IsHdu (is_primary old.shape.class) new.hdu
+  pub accepted : OnOk result (within_refusal bytes hdus old.hdu made ≡ None)
+  pub ok : OnOk result (made ≡ Ok new.hdu)
+  pub size : IfOk result (λ after. after ≡ length_with bytes old.hdu new.hdu)
+  pub refused : IfErr result (Fails NeedsMemory (within_refusal bytes hdus old.hdu made))
+  pub err : OnErr result (new.hdu ≡ old.hdu)
+  pub least : old.reads ≤ new.reads
+  pub most : new.reads ≤ old.reads + reads
+  pub work : Works old.pixel_work new.pixel_work
+  pub idle : OnErr result (new.pixel_work ≡ old.pixel_work)
+
+-- an edit of an HDU owes this
+abbrev pub HduEditsTo : HduEdit → (bytes hdus : ℕ) (old new : HduState) → Result ℕ Refusal → Type 0
+HduEditsTo edit bytes hdus old new =
+    let primary : Bool = is_primary old.shape.class in
+    HduMakes (hdu_made primary edit old.hdu) (HduNeedsMemory edit) (hdu_reads primary edit old.hdu) (HduWork primary edit old.hdu) bytes hdus old new
+
+-- and so does a change of its cards
+abbrev pub ChangesTo : Change → (bytes hdus : ℕ) (old new : HduState) → Result ℕ Refusal → Type 0
+ChangesTo change bytes hdus old new =
+    let primary : Bool = is_primary old.shape.class in
+    let made : Result HduParts Refusal = hdu_changed primary old.hdu (Ok change) in
+    HduMakes made CardsNeedMemory (shape_reads old.shape + apply_reads) (BlankWork primary old.hdu made) bytes hdus old new

@@ -1,23 +1,25 @@
 -- How many cards edits and queries read (own).
-use Rattle.std.specs.Prelude.{ℕ, ◌+◌, List, Option, None, Some, Result, Ok, Err}
+use Rattle.std.specs.Prelude.{ℕ, ◌+◌, Bool, List, Option, None, Some, Result, Ok, Err}
+use Rattle.std.specs.Option.{option_map_or}
 use Rattle.fits_card.specs.declared.change.Change.{Change}
 use Rattle.fits_rules.specs.Shape.{shape_of}
 use Rattle.fits_rules.specs.declared.array_shape.Shape.{Shape}
 use Rattle.fits_header.specs.Work.{shape_reads}
 use Rattle.fits_hdu.specs.Hdu.{HduParts}
 use Rattle.fits_hdu.specs.Work.{apply_reads, keyword_reads, stamp_count_reads, stamp_reads}
-use Rattle.fits_session.specs.Edit.{change_of, hdu_named, hdu_of}
+use Rattle.fits_session.specs.CardEdit.{change_of}
+use Rattle.fits_session.specs.Edit.{hdu_of, is_primary_hdu}
 use Rattle.fits_session.specs.File.{FileParts}
-use Rattle.fits_session.specs.Refusal.{is_primary_hdu}
-use Rattle.fits_session.specs.declared.edit.Edit.{Edit}
-use Rattle.fits_session.specs.declared.edit.Edit.TheVariants.{Set, Unset, Stamp}
+use Rattle.fits_session.specs.declared.card_edit.CardEdit.{CardEdit}
+use Rattle.fits_session.specs.declared.card_edit.CardEdit.TheVariants.{Set, Unset}
+use Rattle.fits_session.specs.declared.hdu_edit.HduEdit.{HduEdit}
+use Rattle.fits_session.specs.declared.hdu_edit.HduEdit.TheVariants.{Cards, Pixels, Stamp}
 use Rattle.fits_session.specs.declared.refusal.Refusal.{Refusal}
 
--- how many cards an edit reads at most to find its change: those of the keyword that it names, and one; a stamp all that it reads
-abbrev pub own_reads : List (List ℕ) → Edit → ℕ
-own_reads cards (Set h name value comment) = keyword_reads cards name
-own_reads cards (Unset h name) = keyword_reads cards name
-own_reads cards (Stamp h) = stamp_count_reads cards + stamp_reads cards
+-- how many cards an edit of cards reads at most to find its change: those of the keyword that it names, and one
+abbrev pub own_reads : List (List ℕ) → CardEdit → ℕ
+own_reads cards (Set name value comment) = keyword_reads cards name
+own_reads cards (Unset name) = keyword_reads cards name
 own_reads cards edit = 0
 
 -- how many cards a change reads at most: those that say whether the shape stays, and those that are read when it is made
@@ -26,14 +28,16 @@ change_reads (Ok shape) (Ok change) = shape_reads shape + apply_reads
 change_reads (Ok shape) (Err why) = 0
 change_reads (Err place) change = 0
 
--- how many cards an edit of an HDU reads at most
-abbrev pub hdu_reads : Option HduParts → Edit → ℕ
-hdu_reads None edit = 0
-hdu_reads (Some hdu) edit = own_reads hdu.header.cards edit + change_reads (shape_of (is_primary_hdu (hdu_named edit)) hdu.header.cards) (change_of hdu.header.cards edit)
+-- how many cards an edit of an HDU reads at most: one of cards to find its change and to make it, one of pixels none
+abbrev pub hdu_reads : Bool → HduEdit → HduParts → ℕ
+hdu_reads primary (Cards edit) hdu =
+    own_reads hdu.header.cards edit + change_reads (shape_of primary hdu.header.cards) (change_of hdu.header.cards edit)
+hdu_reads primary (Pixels lo hi paint) hdu = 0
+hdu_reads primary Stamp hdu = stamp_count_reads hdu.header.cards + stamp_reads hdu.header.cards
 
--- how many cards an edit of a file reads at most
-abbrev pub edit_reads : FileParts → Edit → ℕ
-edit_reads file edit = hdu_reads (hdu_of file (hdu_named edit)) edit
+-- how many cards an edit of HDU h reads at most, none where it isn't there
+abbrev pub edit_reads : FileParts → ℕ → HduEdit → ℕ
+edit_reads file h edit = option_map_or (hdu_reads (is_primary_hdu h) edit) (hdu_of file h) 0
 
 -- how many cards a keyword of an HDU is read by at most, none where the HDU isn't there
 abbrev pub reads_in : Option HduParts → List ℕ → ℕ

@@ -7,7 +7,8 @@ ghost use Rattle.fits_value.specs.declared.value.Value.{Value};
 ghost use Rattle.fits_hdu.specs.Hdu.{HduParts, hdu_after};
 ghost use Rattle.fits_hdu.specs.Keyword.{keyword_value};
 ghost use Rattle.fits_hdu.specs.declared.kind.Kind.{Kind};
-ghost use Rattle.fits_session.specs.Edit.{file_after, hdu_of, set_of, with_hdu, HasSizes};
+ghost use Rattle.fits_session.specs.CardEdit.{set_of};
+ghost use Rattle.fits_session.specs.Edit.{file_after, hdu_of, with_hdu, HasSizes};
 ghost use Rattle.fits_session.specs.File.{FileParts, file_bytes, IsFile, IsFileOf};
 ghost use Rattle.fits_session.specs.Fresh.{Answered, EditsInTurn, file_after_all, fresh, Fresh, ReadsAs};
 ghost use Rattle.fits_session.specs.Opening.{HasOpenFault, IsFileOrNot};
@@ -20,10 +21,7 @@ ghost use Rattle.fits_session.specs.declared.open_fault.OpenFault.{OpenFault};
 ghost use Rattle.fits_session.specs.declared.problem.Problem.{Problem};
 ghost use Rattle.fits_session.specs.declared.refusal.Refusal.TheVariants.{Memory};
 
-use fits_hdu::{
-    filled_hdus_are_hdus, new_images_are_hdus, stamped_hdus_are_hdus, which_kind_an_image_has,
-    written_hdus_are_hdus,
-};
+use fits_hdu::which_kind_an_image_has;
 
 /// Bytes are one file at most.
 pub fn one_file()
@@ -51,12 +49,7 @@ pub fn a_file_or_a_fault()
 pub fn an_edited_file_is_a_file()
     ensures { (bytes : List ℕ) (file : FileParts) (edit : Edit) → HasSizes edit
         → IsFileOf bytes file → refusal_of file edit ≡ None → IsFile (file_after file edit) }
-{
-    filled_hdus_are_hdus();
-    written_hdus_are_hdus();
-    stamped_hdus_are_hdus();
-    new_images_are_hdus();
-}
+{}
 
 /// Edits of a session, one after another, with queries and savings anywhere between: its file is the
 /// one before them with those made that were accepted, in their order, and its present bytes, read

@@ -1,14 +1,17 @@
 //! A FITS file under edits: several HDUs and a tail, opened, changed, asked and saved.
 #![tactic(auto)]
 
+mod card_edit;
 mod corner;
 mod edit;
+mod hdu_edit;
 mod laws;
 mod limits;
 mod name_table;
 mod offsets;
 mod open_fault;
 mod outlines;
+mod paint;
 mod pixel_values;
 mod problem;
 mod read_fault;
@@ -19,8 +22,10 @@ mod session;
 mod summing;
 mod walking;
 
+pub use card_edit::CardEdit;
 pub use corner::Corner;
 pub use edit::Edit;
+pub use hdu_edit::HduEdit;
 pub use laws::{
     a_file_or_a_fault, a_set_keyword_says_its_value, accepted_edits_in_order,
     an_edited_file_is_a_file, fewer_cards_pass_no_limit, no_fault_where_open, no_refusal_is_memory,
@@ -31,6 +36,7 @@ pub use limits::{FILE_LIMIT, HDU_LIMIT, within};
 pub use offsets::HduOffsets;
 pub use open_fault::OpenFault;
 pub use outlines::read_outlines;
+pub use paint::Paint;
 pub use pixel_values::PixelValues;
 pub use problem::Problem;
 pub use read_fault::ReadFileFault;

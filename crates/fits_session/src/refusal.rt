@@ -132,7 +132,7 @@ impl From<WriteFault> for Refusal {
 }
 
 impl From<PixelFault> for Refusal {
-    ghost use Rattle.fits_session.specs.Edit.{refusal_of_pixels};
+    ghost use Rattle.fits_session.specs.HduEdit.{refusal_of_pixels};
     ghost use Rattle.std.specs.Prelude.{◌≡◌};
 
     ghost from_gives = { λ fault why. why ≡ refusal_of_pixels fault };

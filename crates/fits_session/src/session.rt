@@ -1,12 +1,12 @@
 ghost use Rattle.std.specs.Prelude.{◌≡◌};
 
-mod applying;
+mod cards;
 mod changes;
 mod editing;
 mod finding;
-mod hdu_edits;
+mod list_edits;
 pub(crate) mod opening;
-mod pixel_edits;
+mod pixels;
 mod queries;
 mod reading;
 mod saving;
@@ -16,7 +16,6 @@ use crate::edit::Edit;
 use crate::open_fault::OpenFault;
 use crate::read_fault::ReadFileFault;
 use crate::refusal::Refusal;
-use editing::make_edit;
 use fits_card::Source;
 use fits_hdu::Hdu;
 use opening::{open_hdus, test_start};
@@ -31,16 +30,16 @@ use std::marker::Model;
 #[derive(Drop)]
 pub struct Session {
     hdus: Vec<Hdu>,
-    /// How many bytes the HDUs have.
-    hdus_len: u64,
+    /// How many bytes the file has.
+    len: u64,
     tail: Vec<u8>,
     alloc: Global,
 }
 
 impl Model for Session {
     ghost use Rattle.std.specs.Prelude.{◌≡◌, length};
-    ghost use Rattle.fits_session.specs.File.{joined_hdus, IsFile};
-    ghost use Rattle.fits_session.specs.Session.{SessionState, file_of, hdus_of, held_of, state_of};
+    ghost use Rattle.fits_session.specs.File.{file_bytes, IsFile};
+    ghost use Rattle.fits_session.specs.Session.{SessionState, file_of, state_of};
 
     ghost Value = { SessionState };
 
@@ -48,7 +47,8 @@ impl Model for Session {
 
     ghost invariant = { λ session. record {
       whole : IsFile (file_of (state_of session.hdus.items session.tail.items));
-      len : session.hdus_len ≡ length (joined_hdus (hdus_of (held_of session.hdus.items)));
+      len : session.len
+          ≡ length (file_bytes (file_of (state_of session.hdus.items session.tail.items)));
     } };
 }
 
@@ -75,7 +75,7 @@ impl Session {
         match open_hdus(alloc, bytes) {
             Ok((hdus, tail)) => Ok(Session {
                 hdus,
-                hdus_len: (bytes.len() - tail.len()) as u64,
+                len: bytes.len() as u64,
                 tail,
                 alloc,
             }),
@@ -94,10 +94,10 @@ impl Session {
         ensures err { IfErr result (ReadStops (R.remaining source.old)
             (R.failures source.old) (R.failures source.new)) }
     {
-        let (hdus, hdus_len, tail) = read_file(alloc, source)?;
+        let (hdus, len, tail) = read_file(alloc, source)?;
         Ok(Session {
             hdus,
-            hdus_len,
+            len,
             tail,
             alloc,
         })
@@ -111,14 +111,10 @@ impl Session {
     pub fn edit(&mut self, edit: Edit) -> Result<(), Refusal>
         ensures edits { EditsTo edit self.old self.new result }
     {
-        let made = make_edit(self.alloc, &mut self.hdus, self.hdus_len, &self.tail, &edit);
-        drop(edit);
-        match made {
-            Ok(len) => {
-                self.hdus_len = len;
-                Ok(())
-            }
-            Err(why) => Err(why),
+        match &edit {
+            Edit::Hdu { hdu, edit } => self.edit_hdu(*hdu, edit),
+            Edit::NewImage { at, kind, axes } => self.put_image(*at, *kind, axes),
+            Edit::RemoveHdu { hdu } => self.take_out(*hdu),
         }
     }
 }

@@ -2,14 +2,17 @@
 ghost use Rattle.std.specs.Prelude.{◌≡◌, ◌+◌, ◌<◌, ◌^◌, length, All, Ok, IfOk, IfErr, OnOk, None, Some, ◌∷◌, []};
 ghost use Rattle.fits_card.specs.Change.{new_cards};
 ghost use Rattle.fits_card.specs.Header.{IsInnerCard};
+ghost use Rattle.fits_rules.specs.Class.{is_primary};
+ghost use Rattle.fits_rules.specs.Shape.{shape_of};
+ghost use Rattle.fits_hdu.specs.Hdu.{IsHdu};
 ghost use Rattle.fits_hdu.specs.Keyword.{replacing};
 ghost use Rattle.fits_hdu.specs.State.{ReadsUpTo};
 ghost use Rattle.fits_hdu.specs.Work.{keyword_reads};
-ghost use Rattle.fits_session.specs.Edit.{change_of, is_keyword_name, is_splice_within, is_within, own_refusal, set_of, tested, unset_of};
+ghost use Rattle.fits_session.specs.CardEdit.{change_of, is_keyword_name, is_splice_within, is_within, own_refusal, set_of, tested, unset_of};
 ghost use Rattle.fits_session.specs.Refusal.{ChangeFails};
 ghost use Rattle.fits_session.specs.Work.{own_reads};
 
-use crate::edit::Edit;
+use crate::card_edit::CardEdit;
 use crate::refusal::Refusal;
 use fits_card::{Card, Cards, Change, Name};
 use fits_hdu::{Hdu, KeywordCards};
@@ -19,31 +22,28 @@ use std::alloc::{AllocError, Global};
 /// The change that an edit makes of the cards of its HDU, or the first of its own tests that fails.
 ///
 /// Memory is asked for after these tests.
-#[tactic(auto, unfolding(crate::specs::Edit::change_of))]
-pub(crate) fn change_of(alloc: Global, hdu: &mut Hdu, edit: &Edit) -> Result<Change, Refusal>
+#[tactic(auto, unfolding(crate::specs::CardEdit::change_of))]
+pub(super) fn change_of(alloc: Global, hdu: &mut Hdu, edit: &CardEdit) -> Result<Change, Refusal>
     ensures ok { IfOk result (λ change. change_of hdu.old.hdu.header.cards edit.now ≡ Ok change) }
     ensures inner { IfOk result (λ change. All IsInnerCard (new_cards change)) }
     ensures err { IfErr result (ChangeFails (change_of hdu.old.hdu.header.cards edit.now)) }
     ensures work { ReadsUpTo hdu.old hdu.new (own_reads hdu.old.hdu.header.cards edit.now) }
+    ensures whole { IsHdu (is_primary hdu.old.shape.class) hdu.old.hdu }
+    ensures described { shape_of (is_primary hdu.old.shape.class) hdu.old.hdu.header.cards
+        ≡ Ok hdu.old.shape }
 {
     let count = hdu.card_count();
     match edit {
-        Edit::Insert { place, card, .. } => put_card(alloc, count, *place, 0, card),
-        Edit::Put { place, card, .. } => put_card(alloc, count, *place, 1, card),
-        Edit::Delete { place, .. } => delete_card(alloc, count, *place),
-        Edit::Move { from, to, .. } => move_card(count, *from, *to),
-        Edit::Set {
+        CardEdit::Insert { place, card } => put_card(alloc, count, *place, 0, card),
+        CardEdit::Put { place, card } => put_card(alloc, count, *place, 1, card),
+        CardEdit::Delete { place } => delete_card(alloc, count, *place),
+        CardEdit::Move { from, to } => move_card(count, *from, *to),
+        CardEdit::Set {
             name,
             value,
             comment,
-            ..
         } => set_keyword(alloc, hdu, name, value, comment),
-        Edit::Unset { name, .. } => unset_keyword(alloc, hdu, name),
-        Edit::Fill { .. } => Err(Refusal::NotImage),
-        Edit::Write { .. } => Err(Refusal::NotImage),
-        Edit::NewImage { .. } => Err(Refusal::NotImage),
-        Edit::RemoveHdu { .. } => Err(Refusal::NotImage),
-        Edit::Stamp { .. } => Err(Refusal::NotImage),
+        CardEdit::Unset { name } => unset_keyword(alloc, hdu, name),
     }
 }
 

@@ -1,48 +1,52 @@
-//! An edit, by the function of its kind.
-ghost use Rattle.std.specs.Prelude.{◌≡◌, length, IfOk};
-ghost use Rattle.fits_session.specs.File.{joined_hdus, IsFile};
-ghost use Rattle.fits_session.specs.Session.{file_of, held_of, hdus_of, state_of, EditsTo};
+//! Edits of one HDU.
+ghost use Rattle.std.specs.Prelude.{◌≡◌, ◌≤◌, true, length};
+ghost use Rattle.fits_hdu.specs.Hdu.{hdu_bytes};
+ghost use Rattle.fits_session.specs.Limits.{is_within_limits};
+ghost use Rattle.fits_session.specs.Session.{HduEditsTo};
 
-use super::applying::edit_cards;
-use super::hdu_edits::{put_image, take_out};
-use super::pixel_edits::{fill_pixels, write_pixels};
-use super::stamping::stamp_sums;
+use super::Session;
+use super::cards::edit_cards;
+use super::finding::index_of;
+use super::pixels::paint_pixels;
+use super::stamping::stamp;
 use crate::edit::Edit;
+use crate::hdu_edit::HduEdit;
 use crate::refusal::Refusal;
 use fits_hdu::Hdu;
 use std::alloc::Global;
 
-/// Makes an edit, or refuses it, and answers how many bytes the HDUs have then.
-pub(crate) fn make_edit(
+impl Session {
+    ghost use Rattle.fits_session.specs.Session.{EditsTo};
+
+    // Makes an edit of HDU h, or refuses it.
+    pub(super) fn edit_hdu(&mut self, h: usize, edit: &HduEdit) -> Result<(), Refusal>
+        ensures { EditsTo (Edit.Hdu h edit.now) self.old self.new result }
+    {
+        let Some(i) = index_of(&self.hdus, h) else {
+            return Err(Refusal::NoHdu);
+        };
+        let count = self.hdus.len() as u64;
+        self.len = edit_hdu(self.alloc, &mut self.hdus[i], self.len, count, edit)?;
+        Ok(())
+    }
+}
+
+// Makes an edit of an HDU in a file of so many bytes and HDUs, or refuses it, and answers how many
+// bytes the file has then.
+fn edit_hdu(
     alloc: Global,
-    hdus: &mut Vec<Hdu>,
-    hdus_len: u64,
-    tail: &[u8],
-    edit: &Edit,
+    hdu: &mut Hdu,
+    len: u64,
+    hdus: u64,
+    edit: &HduEdit,
 ) -> Result<u64, Refusal>
-    requires file { IsFile (file_of (state_of hdus.old.items tail.now)) }
-    requires len { hdus_len ≡ length (joined_hdus (hdus_of (held_of hdus.old.items))) }
-    ensures edits { EditsTo edit.now (state_of hdus.old.items tail.now)
-        (state_of hdus.new.items tail.now) result }
-    ensures file { IsFile (file_of (state_of hdus.new.items tail.now)) }
-    ensures len { IfOk result (λ len. len
-        ≡ length (joined_hdus (hdus_of (held_of hdus.new.items)))) }
+    requires part { length (hdu_bytes hdu.old.hdu) ≤ len }
+    requires within { is_within_limits len hdus ≡ true }
+    ensures { HduEditsTo edit.now len hdus hdu.old hdu.new result }
 {
     match edit {
-        Edit::Fill { hdu, lo, hi, value } => {
-            fill_pixels(hdus, hdus_len, tail, *hdu, lo, hi, *value)
-        }
-        Edit::Write {
-            hdu,
-            lo,
-            hi,
-            values,
-        } => write_pixels(hdus, hdus_len, tail, *hdu, lo, hi, values),
-        Edit::NewImage { at, kind, axes } => {
-            put_image(alloc, hdus, hdus_len, tail, *at, *kind, axes)
-        }
-        Edit::RemoveHdu { hdu } => take_out(hdus, hdus_len, tail, *hdu),
-        Edit::Stamp { hdu } => stamp_sums(alloc, hdus, hdus_len, tail, *hdu),
-        _ => edit_cards(alloc, hdus, hdus_len, tail, edit),
+        HduEdit::Cards(edit) => edit_cards(alloc, hdu, len, hdus, edit),
+        HduEdit::Pixels { lo, hi, paint } => paint_pixels(hdu, len, hdus, lo, hi, paint),
+        HduEdit::Stamp => stamp(alloc, hdu, len, hdus),
     }
 }

@@ -2,9 +2,9 @@
 ghost use Rattle.std.specs.Prelude.{◌≡◌, ◌+◌, ◌≤◌, ◌<◌, ◌^◌, false, length, IfOk, IfErr, IsErrOf, OnOk};
 ghost use Rattle.fits_card.specs.declared.card_list.TheConstants.{BLOCK_LEN};
 ghost use Rattle.fits_card.specs.Intake.{Gives, IsSpent, TakesAfter};
-ghost use Rattle.fits_session.specs.File.{begins_extension, joined_hdus, IsFile, IsFileOf};
+ghost use Rattle.fits_session.specs.File.{begins_extension, file_bytes, IsFile, IsFileOf};
 ghost use Rattle.fits_session.specs.Reading.{ReadStops};
-ghost use Rattle.fits_session.specs.Session.{file_of, hdus_of, held_of, state_of};
+ghost use Rattle.fits_session.specs.Session.{file_of, state_of};
 
 use crate::limits::FILE_LIMIT;
 use crate::read_fault::ReadFileFault;
@@ -13,7 +13,7 @@ use fits_card::{BLOCK_LEN, Intake, ReadFault, Source};
 use fits_hdu::Hdu;
 use std::alloc::Global;
 
-/// The HDUs of a source, how many bytes they have, and the bytes after the last.
+/// The HDUs of a source, how many bytes the file has, and the bytes after the last HDU.
 #[tactic(auto, using(crate::proofs::WalkLemmas::session_steps))]
 pub(crate) fn read_file<R: Source>(
     alloc: Global,
@@ -24,7 +24,7 @@ pub(crate) fn read_file<R: Source>(
     ensures whole { IfOk result (λ parts. IsFile
         (file_of (state_of parts.0.items parts.2.items))) }
     ensures len { IfOk result (λ parts. parts.1
-        ≡ length (joined_hdus (hdus_of (held_of parts.0.items)))) }
+        ≡ length (file_bytes (file_of (state_of parts.0.items parts.2.items)))) }
     ensures quiet { OnOk result (R.failures source.new ≡ R.failures source.old) }
     ensures err { IfErr result (ReadStops (R.remaining source.old)
         (R.failures source.old) (R.failures source.new)) }
@@ -40,7 +40,10 @@ pub(crate) fn read_file<R: Source>(
         Err(fault) => return Err(ReadFileFault::from(fault)),
     };
     match end(intake, source) {
-        Ok(()) => Ok((hdus, hdus_len, tail)),
+        Ok(()) => {
+            let len = hdus_len + tail.len() as u64;
+            Ok((hdus, len, tail))
+        }
         Err(fault) => Err(fault),
     }
 }

@@ -14,7 +14,7 @@ returns-in_err-values-clause-err c =
 
 pub invariant_of-self-2 : goal.invariant_of-self-2
 invariant_of-self-2 c =
-    let stays = stays_file c.self.inside.hdus.items c.self.inside.tail.items c.args.h c.in-Some.i c.self.inside.hdus_len c.index_mut-hdu.result.now c.rect.new.self
+    let stays = stays_file c.self.inside.hdus.items c.self.inside.tail.items c.args.h c.in-Some.i c.self.inside.len c.index_mut-hdu.result.now c.rect.new.self
     (is_at c.self.inside.hdus.items c.deref.result.now c.args.h c.args.h c.in-Some.i c.index_mut-hdu.result.now c.deref.ensures.value refl c.in-Some.ensures.found c.index_mut-hdu.ensures.value)
     (ap (λ (state : HduState). state.hdu) c.in_ok-values.ensures.work) c.self.invariant.whole c.self.invariant.len in
     record { whole = stays.0; len = stays.1 }

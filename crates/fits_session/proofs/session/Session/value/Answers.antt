@@ -9,7 +9,7 @@ returns-in_default-clause-asks c = asked_none _ _ _
 
 pub invariant_of-self : goal.invariant_of-self
 invariant_of-self c =
-    let stays = stays_file c.self.inside.hdus.items c.self.inside.tail.items c.args.h c.in-Some.i c.self.inside.hdus_len c.index_mut-hdu.result.now c.value.new.self
+    let stays = stays_file c.self.inside.hdus.items c.self.inside.tail.items c.args.h c.in-Some.i c.self.inside.len c.index_mut-hdu.result.now c.value.new.self
     (is_at c.self.inside.hdus.items c.deref.result.now c.args.h c.args.h c.in-Some.i c.index_mut-hdu.result.now c.deref.ensures.value refl c.in-Some.ensures.found c.index_mut-hdu.ensures.value)
     c.value.ensures.work.hdu c.self.invariant.whole c.self.invariant.len in
     record { whole = stays.0; len = stays.1 }
@@ -29,7 +29,7 @@ returns-in_err-said-clause-asks c =
 
 pub invariant_of-self-2 : goal.invariant_of-self-2
 invariant_of-self-2 c =
-    let stays = stays_file c.self.inside.hdus.items c.self.inside.tail.items c.args.h c.in-Some.i c.self.inside.hdus_len c.index_mut-hdu.result.now c.value.new.self
+    let stays = stays_file c.self.inside.hdus.items c.self.inside.tail.items c.args.h c.in-Some.i c.self.inside.len c.index_mut-hdu.result.now c.value.new.self
     (is_at c.self.inside.hdus.items c.deref.result.now c.args.h c.args.h c.in-Some.i c.index_mut-hdu.result.now c.deref.ensures.value refl c.in-Some.ensures.found c.index_mut-hdu.ensures.value)
     c.value.ensures.work.hdu c.self.invariant.whole c.self.invariant.len in
     record { whole = stays.0; len = stays.1 }

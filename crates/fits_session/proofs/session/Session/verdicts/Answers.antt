@@ -1,13 +1,13 @@
 use Rattle.std.proofs.Common.{arith, refl}
 use Rattle.fits_session.proofs.QueryLemmas.{verdicts_there}
-use Rattle.fits_session.proofs.StateLemmas.{is_at, file_size, part_there}
+use Rattle.fits_session.proofs.StateLemmas.{is_at, file_within, part_there}
 use Rattle.fits_session.proofs.session.Session.verdicts.Goals as goal
 
 pub verdicts-requires : goal.verdicts-requires
 verdicts-requires c =
-    let part = part_there c.self.inside.hdus.items c.args.h c.in-Some.i c.index-hdu.result.now
+    let part = part_there c.self.inside.hdus.items c.self.inside.tail.items c.args.h c.in-Some.i c.index-hdu.result.now
     (is_at c.self.inside.hdus.items c.deref.result.now c.args.h c.args.h c.in-Some.i c.index-hdu.result.now c.deref.ensures.value refl c.in-Some.ensures.found c.index-hdu.ensures) in
-    omega (arith, part, file_size c.self.inside.hdus.items c.self.inside.tail.items c.self.invariant.whole)
+    omega (arith, part, (file_within c.self.inside.hdus.items c.self.inside.tail.items c.self.invariant.whole).0)
 
 pub returns : goal.returns
 returns c =

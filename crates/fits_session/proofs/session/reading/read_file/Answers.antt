@@ -1,5 +1,8 @@
-use Rattle.std.proofs.Common.{◌∙◌}
-use Rattle.fits_session.proofs.WalkLemmas.{ends_before, session_given, session_taken, session_whole}
+use Rattle.std.proofs.Common.{arith, ◌∙◌}
+use Rattle.std.proofs.lemmas.List.{length-append}
+use Rattle.fits_session.specs.File.{joined_hdus}
+use Rattle.fits_session.specs.Session.{hdus_of, held_of}
+use Rattle.fits_session.proofs.WalkLemmas.{ends_before, hdus_length, session_given, session_taken, session_whole}
 use Rattle.fits_session.proofs.session.reading.read_file.Goals as goal
 
 pub returns-in-Err-clause-err : goal.returns-in-Err-clause-err
@@ -24,3 +27,11 @@ pub returns-in-Ok-end-clause-whole : goal.returns-in-Ok-end-clause-whole
 returns-in-Ok-end-clause-whole g c =
     let walked = rw c.in_ok-intake.ensures at c.in-Ok.ensures.walked in
     session_whole c.in-Ok.walked.0.items c.in-Ok.walked.1.items c.in-Ok-read_tail.tail.items _ _ _ _ _ walked c.in-Ok-read_tail.ensures.ok c.in-Ok.ensures.some c.in-Ok.ensures.few c.in-Ok-read_tail.ensures.ends
+
+pub returns-in-Ok-end-clause-len : goal.returns-in-Ok-end-clause-len
+returns-in-Ok-end-clause-len g c = omega (
+  arith,
+  c.len.ensures,
+  hdus_length c.in-Ok.walked.0.items c.in-Ok.walked.1.items _ _ _ (rw c.in_ok-intake.ensures at c.in-Ok.ensures.walked),
+  length-append (joined_hdus (hdus_of (held_of c.in-Ok.walked.0.items))) c.in-Ok-read_tail.tail.items,
+)

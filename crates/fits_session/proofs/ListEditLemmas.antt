@@ -11,17 +11,19 @@ use Rattle.fits_hdu.specs.NewImage.{are_axes, new_image}
 use Rattle.fits_hdu.specs.State.{HduState}
 use Rattle.fits_hdu.specs.Work.{open_reads, IsMade}
 use Rattle.fits_hdu.specs.declared.kind.Kind.{Kind}
+use Rattle.fits_hdu.proofs.NewImageLemmas.{new_is_hdu}
 use Rattle.fits_plane.specs.Layout.{block_count}
-use Rattle.fits_session.specs.Edit.{hdu_of, is_within, with_new_hdu, without_hdu, file_after}
+use Rattle.fits_session.specs.CardEdit.{is_within}
+use Rattle.fits_session.specs.Edit.{hdu_of, with_new_hdu, without_hdu, file_after}
 use Rattle.fits_session.specs.File.{FileParts, file_bytes, goes_on, joined_hdus, IsFile, IsFileOf, IsFrontOf}
 use Rattle.fits_session.specs.Limits.{is_within_limits}
 use Rattle.fits_session.specs.declared.limits.TheConstants.{FILE_LIMIT, HDU_LIMIT}
-use Rattle.fits_session.specs.Refusal.{new_image_refusal, primary_refusal, refusal_in, refusal_of, size_refusal, EditRefused, NewNeedsMemory}
+use Rattle.fits_session.specs.Refusal.{new_image_refusal, primary_refusal, refusal_of, removal_refusal, size_refusal, Fails, NewNeedsMemory}
 use Rattle.fits_session.specs.Session.{file_of, held_as, held_of, hdus_of, state_of, Held, EditsTo, IsIndexOf, IsNowhere}
 use Rattle.fits_session.specs.declared.edit.Edit.TheVariants.{NewImage, RemoveHdu}
 use Rattle.fits_session.specs.declared.refusal.Refusal.{Refusal}
 use Rattle.fits_session.specs.declared.refusal.Refusal.TheVariants as refusal
-use Rattle.fits_session.proofs.EditLemmas.{kept_limits, limit_none, within_limits}
+use Rattle.fits_session.proofs.MakingLemmas.{kept_limits, limit_none, within_limits}
 use Rattle.fits_session.proofs.FrontLemmas.{goes_on-some, some_hdus}
 use Rattle.fits_session.proofs.StateLemmas.{IsHduAt, hdu_of-nowhere, hdu_of-there, length-hdus_of, slice_get-hdus_of}
 
@@ -191,17 +193,17 @@ unfolding new_image_refusal
 tests_are hdus tail h kind axes = ap (λ n. tests_of (is_within h (n + 1)) (h == 1) (are_axes axes) (image_sized hdus tail h kind axes)) (length-hdus_of hdus)
 
 -- a new image that is refused owes this
-pub new_refused : (hdus : List HduState) (tail : List ℕ) (h : ℕ) (kind : Kind) (axes : List ℕ) (why : Refusal) → EditRefused (NewImage h kind axes) (new_image_refusal (file_of (state_of hdus tail)) h kind axes) why → EditsTo {X = ℕ} (NewImage h kind axes) (state_of hdus tail) (state_of hdus tail) (Err why)
+pub new_refused : {X : Type 0} (hdus : List HduState) (tail : List ℕ) (h : ℕ) (kind : Kind) (axes : List ℕ) (why : Refusal) → Fails NewNeedsMemory (new_image_refusal (file_of (state_of hdus tail)) h kind axes) why → EditsTo {X = X} (NewImage h kind axes) (state_of hdus tail) (state_of hdus tail) (Err why)
 unfolding refusal_of
-new_refused hdus tail h kind axes why p = record { accepted = tt; ok = tt; refused = p; err = refl; work = inl refl }
+new_refused hdus tail h kind axes why p = record { accepted = tt; ok = tt; refused = p; err = refl; work = inl refl; idle = refl }
 
 -- it has no place
-pub new_nowhere : (hdus : List HduState) (tail : List ℕ) (h : ℕ) (kind : Kind) (axes : List ℕ) → is_within h (length hdus + 1) ≡ false → EditsTo {X = ℕ} (NewImage h kind axes) (state_of hdus tail) (state_of hdus tail) (Err refusal.NoHdu)
+pub new_nowhere : {X : Type 0} (hdus : List HduState) (tail : List ℕ) (h : ℕ) (kind : Kind) (axes : List ℕ) → is_within h (length hdus + 1) ≡ false → EditsTo {X = X} (NewImage h kind axes) (state_of hdus tail) (state_of hdus tail) (Err refusal.NoHdu)
 new_nowhere hdus tail h kind axes outside =
     new_refused hdus tail h kind axes refusal.NoHdu (inl (tests_are hdus tail h kind axes ∙ ap (λ b. tests_of b (h == 1) (are_axes axes) (image_sized hdus tail h kind axes)) outside))
 
 -- it would stand before the primary HDU
-pub new_first : (hdus : List HduState) (tail : List ℕ) (h : ℕ) (kind : Kind) (axes : List ℕ) → is_within h (length hdus + 1) ≡ true → h ≡ 1 → EditsTo {X = ℕ} (NewImage h kind axes) (state_of hdus tail) (state_of hdus tail) (Err refusal.PrimaryStays)
+pub new_first : {X : Type 0} (hdus : List HduState) (tail : List ℕ) (h : ℕ) (kind : Kind) (axes : List ℕ) → is_within h (length hdus + 1) ≡ true → h ≡ 1 → EditsTo {X = X} (NewImage h kind axes) (state_of hdus tail) (state_of hdus tail) (Err refusal.PrimaryStays)
 new_first hdus tail h kind axes within first =
     new_refused hdus tail h kind axes refusal.PrimaryStays (inl (
     tests_are hdus tail h kind axes
@@ -217,7 +219,7 @@ tests_behind hdus tail h kind axes within behind =
     ∙ ap (λ b. tests_of true b (are_axes axes) (image_sized hdus tail h kind axes)) (is_another h behind)
 
 -- its axes are too many, or too large
-pub new_shapeless : (hdus : List HduState) (tail : List ℕ) (h : ℕ) (kind : Kind) (axes : List ℕ) → is_within h (length hdus + 1) ≡ true → (h ≡ 1 → ⊥) → are_axes axes ≡ false → EditsTo {X = ℕ} (NewImage h kind axes) (state_of hdus tail) (state_of hdus tail) (Err refusal.Shape)
+pub new_shapeless : {X : Type 0} (hdus : List HduState) (tail : List ℕ) (h : ℕ) (kind : Kind) (axes : List ℕ) → is_within h (length hdus + 1) ≡ true → (h ≡ 1 → ⊥) → are_axes axes ≡ false → EditsTo {X = X} (NewImage h kind axes) (state_of hdus tail) (state_of hdus tail) (Err refusal.Shape)
 new_shapeless hdus tail h kind axes within behind none =
     new_refused hdus tail h kind axes refusal.Shape (inl (tests_behind hdus tail h kind axes within behind ∙ ap (λ b. tests_of true false b (image_sized hdus tail h kind axes)) none))
 
@@ -226,6 +228,14 @@ pub record IsPlaced (count h : ℕ) (axes : List ℕ) : Type 0 where
   pub within : is_within h (count + 1) ≡ true
   pub behind : h ≡ 1 → ⊥
   pub shaped : are_axes axes ≡ true
+
+-- it has where these tests found so
+pub is_placed : (count n h : ℕ) (axes seen : List ℕ) → count ≡ n → is_within h (n + 1) ≡ true → (h ≡ 1 → ⊥) → seen ≡ axes → are_axes seen ≡ true → IsPlaced count h axes
+is_placed count n h axes seen many within behind same shaped = record {
+  within = ap (λ n. is_within h (n + 1)) many ∙ within;
+  behind = behind;
+  shaped = ap are_axes (sym same) ∙ shaped;
+}
 
 -- what is left to test is the file's size
 pub tests_placed : (hdus : List HduState) (tail : List ℕ) (h : ℕ) (kind : Kind) (axes : List ℕ) → IsPlaced (length hdus) h axes → new_image_refusal (file_of (state_of hdus tail)) h kind axes ≡ image_sized hdus tail h kind axes
@@ -242,10 +252,11 @@ placed_at count (suc zero) axes p = absurd (p.behind refl)
 placed_at count (suc (suc h)) axes p = let r = in_range (suc (suc h)) (count + 1) p.within in (omega arith, omega (arith, r.1))
 
 -- how many bytes the file has with a new HDU
-pub new_length : (hdus : List HduState) (tail : List ℕ) (h : ℕ) (hdu : HduParts) → length (file_bytes (with_new_hdu (file_of (state_of hdus tail)) h hdu)) ≡ length (joined_hdus (hdus_of (held_of hdus))) + length (hdu_bytes hdu) + length tail
+pub new_length : (hdus : List HduState) (tail : List ℕ) (h : ℕ) (hdu : HduParts) → length (file_bytes (with_new_hdu (file_of (state_of hdus tail)) h hdu)) ≡ length (file_bytes (file_of (state_of hdus tail))) + length (hdu_bytes hdu)
 new_length hdus tail h hdu = omega (
   arith,
   length-append (joined_hdus (insert (hdus_of (held_of hdus)) (h - 1) hdu)) tail,
+  length-append (joined_hdus (hdus_of (held_of hdus))) tail,
   joined-insert (hdus_of (held_of hdus)) (h - 1) hdu,
 )
 
@@ -265,8 +276,8 @@ too_many : (bytes hdus : ℕ) → HDU_LIMIT < hdus → is_within_limits bytes hd
 too_many bytes hdus l = search rules
 
 -- so the file with a new image is too large
-pub new_too_large : (hdus : List HduState) (tail : List ℕ) (h : ℕ) (kind : Kind) (axes : List ℕ) → IsPlaced (length hdus) h axes
-    → (HDU_LIMIT ≤ length hdus) ⊎ (FILE_LIMIT < length (joined_hdus (hdus_of (held_of hdus))) + length tail + length (hdu_bytes (new_image kind axes))) → EditsTo {X = ℕ} (NewImage h kind axes) (state_of hdus tail) (state_of hdus tail) (Err refusal.TooLarge)
+pub new_too_large : {X : Type 0} (hdus : List HduState) (tail : List ℕ) (h : ℕ) (kind : Kind) (axes : List ℕ) → IsPlaced (length hdus) h axes
+    → (HDU_LIMIT ≤ length hdus) ⊎ (FILE_LIMIT < length (file_bytes (file_of (state_of hdus tail))) + length (hdu_bytes (new_image kind axes))) → EditsTo {X = X} (NewImage h kind axes) (state_of hdus tail) (state_of hdus tail) (Err refusal.TooLarge)
 new_too_large hdus tail h kind axes p large =
     let after : FileParts = with_new_hdu (file_of (state_of hdus tail)) h (new_image kind axes) in
     let passed : is_within_limits (length (file_bytes after)) (length after.hdus) ≡ false = elim large [
@@ -281,7 +292,7 @@ sized_needs true = tt
 sized_needs false = tt
 
 -- and then it is refused for memory
-pub new_memory : (hdus : List HduState) (tail : List ℕ) (h : ℕ) (kind : Kind) (axes : List ℕ) → IsPlaced (length hdus) h axes → EditsTo {X = ℕ} (NewImage h kind axes) (state_of hdus tail) (state_of hdus tail) (Err refusal.Memory)
+pub new_memory : {X : Type 0} (hdus : List HduState) (tail : List ℕ) (h : ℕ) (kind : Kind) (axes : List ℕ) → IsPlaced (length hdus) h axes → EditsTo {X = X} (NewImage h kind axes) (state_of hdus tail) (state_of hdus tail) (Err refusal.Memory)
 new_memory hdus tail h kind axes p =
     let after : FileParts = with_new_hdu (file_of (state_of hdus tail)) h (new_image kind axes) in
     new_refused hdus tail h kind axes refusal.Memory (inr (
@@ -290,50 +301,50 @@ new_memory hdus tail h kind axes p =
     ))
 
 -- where there is room for one more HDU and its bytes, the size isn't refused
-pub new_fits : (hdus : List HduState) (tail : List ℕ) (h : ℕ) (kind : Kind) (axes : List ℕ) → IsPlaced (length hdus) h axes → length hdus < HDU_LIMIT → length (joined_hdus (hdus_of (held_of hdus))) + length tail + length (hdu_bytes (new_image kind axes)) ≤ FILE_LIMIT → image_sized hdus tail h kind axes ≡ None
+pub new_fits : (hdus : List HduState) (tail : List ℕ) (h : ℕ) (kind : Kind) (axes : List ℕ) → IsPlaced (length hdus) h axes → length hdus < HDU_LIMIT → length (file_bytes (file_of (state_of hdus tail))) + length (hdu_bytes (new_image kind axes)) ≤ FILE_LIMIT → image_sized hdus tail h kind axes ≡ None
 new_fits hdus tail h kind axes p few short =
     let after : FileParts = with_new_hdu (file_of (state_of hdus tail)) h (new_image kind axes) in
     ap (λ b. if b then None else Some refusal.TooLarge)
     (kept_limits (length (file_bytes after)) (length after.hdus) (omega (arith, short, new_length hdus tail h (new_image kind axes))) (omega (arith, few, new_count hdus tail h axes (new_image kind axes) p)))
 
 -- a new image that is put in owes this
-pub new_made : (hdus : List HduState) (tail : List ℕ) (h n : ℕ) (kind : Kind) (axes : List ℕ) (new : HduState) → IsPlaced (length hdus) h axes → image_sized hdus tail h kind axes ≡ None → new.hdu ≡ new_image kind axes → new.reads ≤ open_reads new.hdu.header.cards → IsMade (block_count new.hdu.data_unit) new.pixel_work
-    → EditsTo {X = ℕ} (NewImage h kind axes) (state_of hdus tail) (state_of (insert hdus (h - 1) new) tail) (Ok n)
+pub new_made : {X : Type 0} (hdus : List HduState) (tail : List ℕ) (h : ℕ) (x : X) (kind : Kind) (axes : List ℕ) (new : HduState) → IsPlaced (length hdus) h axes → image_sized hdus tail h kind axes ≡ None → new.hdu ≡ new_image kind axes → new.reads ≤ open_reads new.hdu.header.cards → IsMade (block_count new.hdu.data_unit) new.pixel_work
+    → EditsTo {X = X} (NewImage h kind axes) (state_of hdus tail) (state_of (insert hdus (h - 1) new) tail) (Ok x)
 unfolding refusal_of file_after
-new_made hdus tail h n kind axes new p fits is reads made = record {
+new_made hdus tail h x kind axes new p fits is reads made = record {
   accepted = tests_placed hdus tail h kind axes p ∙ fits;
   ok = file_of-inserted hdus tail h new (new_image kind axes) is;
   refused = tt;
   err = tt;
   work = inr (record { one = held_as new; is = map-inserted held_as hdus (h - 1) new; reads = reads; made = made });
+  idle = tt;
 }
 
 -- it leaves a file
-pub new_left : (hdus : List HduState) (tail : List ℕ) (h : ℕ) (kind : Kind) (axes : List ℕ) (new : HduState) → IsFile (file_of (state_of hdus tail)) → IsPlaced (length hdus) h axes → image_sized hdus tail h kind axes ≡ None → new.hdu ≡ new_image kind axes → IsHdu false (new_image kind axes)
+pub new_left : (hdus : List HduState) (tail : List ℕ) (h : ℕ) (kind : Kind) (axes : List ℕ) (new : HduState) → IsFile (file_of (state_of hdus tail)) → IsPlaced (length hdus) h axes → image_sized hdus tail h kind axes ≡ None → new.hdu ≡ new_image kind axes
     → IsFile (file_of (state_of (insert hdus (h - 1) new) tail))
-new_left hdus tail h kind axes new file p fits is whole =
+new_left hdus tail h kind axes new file p fits is =
     subst (λ (f : FileParts). IsFile f) (sym (file_of-inserted hdus tail h new (new_image kind axes) is))
-    (inserted_is_a_file (file_bytes (file_of (state_of hdus tail))) (file_of (state_of hdus tail)) h (new_image kind axes) file (placed_at (length hdus) h axes p).0 whole fits)
+    (inserted_is_a_file (file_bytes (file_of (state_of hdus tail))) (file_of (state_of hdus tail)) h (new_image kind axes) file (placed_at (length hdus) h axes p).0 (new_is_hdu kind axes p.shaped) fits)
 
--- whose HDUs are so long
-pub new_joined : (hdus : List HduState) (i : ℕ) (hdu : HduParts) (new : HduState) → new.hdu ≡ hdu → length (joined_hdus (hdus_of (held_of (insert hdus i new)))) ≡ length (joined_hdus (hdus_of (held_of hdus))) + length (hdu_bytes hdu)
-new_joined hdus i hdu new is =
-    ap (λ us. length (joined_hdus us)) (hdus_of-inserted hdus i new ∙ ap (insert (hdus_of (held_of hdus)) i) is) ∙ joined-insert (hdus_of (held_of hdus)) i hdu
+-- of so many bytes
+pub new_size : (hdus : List HduState) (tail : List ℕ) (h : ℕ) (hdu : HduParts) (new : HduState) → new.hdu ≡ hdu → length (file_bytes (file_of (state_of (insert hdus (h - 1) new) tail))) ≡ length (file_bytes (file_of (state_of hdus tail))) + length (hdu_bytes hdu)
+new_size hdus tail h hdu new is = ap (λ (f : FileParts). length (file_bytes f)) (file_of-inserted hdus tail h new hdu is) ∙ new_length hdus tail h hdu
 
 -- an HDU that isn't there doesn't go
-pub removes_nowhere : (hdus : List HduState) (tail : List ℕ) (h : ℕ) → IsNowhere (length hdus) h → EditsTo {X = ℕ} (RemoveHdu h) (state_of hdus tail) (state_of hdus tail) (Err refusal.NoHdu)
+pub removes_nowhere : {X : Type 0} (hdus : List HduState) (tail : List ℕ) (h : ℕ) → IsNowhere (length hdus) h → EditsTo {X = X} (RemoveHdu h) (state_of hdus tail) (state_of hdus tail) (Err refusal.NoHdu)
 unfolding refusal_of
-removes_nowhere hdus tail h p = record { accepted = tt; ok = tt; refused = inl (ap (refusal_in (file_of (state_of hdus tail)) (RemoveHdu h)) (hdu_of-nowhere hdus tail h p)); err = refl; work = inl refl }
+removes_nowhere hdus tail h p = record { accepted = tt; ok = tt; refused = inl (ap (removal_refusal h) (hdu_of-nowhere hdus tail h p)); err = refl; work = inl refl; idle = refl }
 
 -- the primary HDU is there
-primary_is_there : (hdus : List HduState) (tail : List ℕ) (h : ℕ) → 0 < length hdus → h ≡ 1 → refusal_in (file_of (state_of hdus tail)) (RemoveHdu h) (hdu_of (file_of (state_of hdus tail)) h) ≡ Some refusal.PrimaryStays
+primary_is_there : (hdus : List HduState) (tail : List ℕ) (h : ℕ) → 0 < length hdus → h ≡ 1 → removal_refusal h (hdu_of (file_of (state_of hdus tail)) h) ≡ Some refusal.PrimaryStays
 primary_is_there [] tail h some is = absurd (omega arith)
-primary_is_there (v ∷ vs) tail h some is = let file : FileParts = file_of (state_of (v ∷ vs) tail) in ap (λ k. refusal_in file (RemoveHdu k) (hdu_of file k)) is
+primary_is_there (v ∷ vs) tail h some is = let file : FileParts = file_of (state_of (v ∷ vs) tail) in ap (λ k. removal_refusal k (hdu_of file k)) is
 
 -- and stays
-pub primary_stays : (hdus : List HduState) (tail : List ℕ) (h i : ℕ) → IsIndexOf (length hdus) h i → i ≡ 0 → EditsTo {X = ℕ} (RemoveHdu h) (state_of hdus tail) (state_of hdus tail) (Err refusal.PrimaryStays)
+pub primary_stays : {X : Type 0} (hdus : List HduState) (tail : List ℕ) (h i : ℕ) → IsIndexOf (length hdus) h i → i ≡ 0 → EditsTo {X = X} (RemoveHdu h) (state_of hdus tail) (state_of hdus tail) (Err refusal.PrimaryStays)
 unfolding refusal_of
-primary_stays hdus tail h i at zero_is = record { accepted = tt; ok = tt; refused = inl (primary_is_there hdus tail h (omega (arith, at.within)) (omega (arith, at.at, zero_is))); err = refl; work = inl refl }
+primary_stays hdus tail h i at zero_is = record { accepted = tt; ok = tt; refused = inl (primary_is_there hdus tail h (omega (arith, at.within)) (omega (arith, at.at, zero_is))); err = refl; work = inl refl; idle = refl }
 
 -- another may go
 goes : (h i : ℕ) → h ≡ i + 1 → 0 < i → primary_refusal h ≡ None
@@ -341,17 +352,18 @@ goes h zero at behind = absurd (omega arith)
 goes h (suc i) at behind = let number : h ≡ suc (suc i) = omega (arith, at) in ap primary_refusal number ∙ ap (λ b. if b then Some refusal.PrimaryStays else None) (not_one i)
 
 -- an HDU that is taken out owes this
-pub removes : (hdus : List HduState) (tail : List ℕ) (h i n : ℕ) (old : HduState) → IsHduAt hdus h i old → 0 < i → EditsTo {X = ℕ} (RemoveHdu h) (state_of hdus tail) (state_of (remove hdus i) tail) (Ok n)
+pub removes : {X : Type 0} (hdus : List HduState) (tail : List ℕ) (h i : ℕ) (x : X) (old : HduState) → IsHduAt hdus h i old → 0 < i → EditsTo {X = X} (RemoveHdu h) (state_of hdus tail) (state_of (remove hdus i) tail) (Ok x)
 unfolding refusal_of file_after
-removes hdus tail h i n old at behind =
+removes hdus tail h i x old at behind =
     let file : FileParts = file_of (state_of hdus tail) in
     let index : i ≡ h - 1 = omega (arith, at.index.at) in
     record {
-      accepted = ap (refusal_in file (RemoveHdu h)) (hdu_of-there hdus tail h i old at) ∙ goes h i at.index.at behind;
+      accepted = ap (removal_refusal h) (hdu_of-there hdus tail h i old at) ∙ goes h i at.index.at behind;
       ok = file_of-left hdus tail h i at.index.at;
       refused = tt;
       err = tt;
       work = inr (map-left held_as hdus i ∙ ap (remove (held_of hdus)) index);
+      idle = tt;
     }
 
 -- it leaves a file
@@ -360,7 +372,12 @@ removed_left hdus tail h i old file at behind =
     subst (λ (f : FileParts). IsFile f) (sym (file_of-left hdus tail h i at.index.at))
     (removed_is_a_file (file_bytes (file_of (state_of hdus tail))) (file_of (state_of hdus tail)) h old.hdu file (hdu_of-there hdus tail h i old at) (goes h i at.index.at behind))
 
--- whose HDUs are so long
-pub removed_joined : (hdus : List HduState) (h i : ℕ) (old : HduState) → IsHduAt hdus h i old → length (joined_hdus (hdus_of (held_of (remove hdus i)))) + length (hdu_bytes old.hdu) ≡ length (joined_hdus (hdus_of (held_of hdus)))
-removed_joined hdus h i old at =
-    ap (λ us. length (joined_hdus us) + length (hdu_bytes old.hdu)) (hdus_of-left hdus i) ∙ joined-remove (hdus_of (held_of hdus)) i old.hdu (slice_get-hdus_of hdus i old at.index.within at.is)
+-- of so many bytes
+pub removed_size : (hdus : List HduState) (tail : List ℕ) (h i : ℕ) (old : HduState) → IsHduAt hdus h i old → length (file_bytes (file_of (state_of (remove hdus i) tail))) + length (hdu_bytes old.hdu) ≡ length (file_bytes (file_of (state_of hdus tail)))
+removed_size hdus tail h i old at = omega (
+  arith,
+  length-append (joined_hdus (hdus_of (held_of (remove hdus i)))) tail,
+  length-append (joined_hdus (hdus_of (held_of hdus))) tail,
+  ap (λ (us : List HduParts). length (joined_hdus us)) (hdus_of-left hdus i),
+  joined-remove (hdus_of (held_of hdus)) i old.hdu (slice_get-hdus_of hdus i old at.index.within at.is),
+)

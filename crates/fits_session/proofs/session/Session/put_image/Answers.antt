@@ -1,0 +1,87 @@
+use Rattle.std.proofs.Common.{◌≡◌, ◌+◌, ◌-◌, inl, inr, length, arith, ap, sym, ◌∙◌, refl}
+use Rattle.std.proofs.lemmas.Result.{err_from_is_err_and}
+use Rattle.fits_hdu.specs.Hdu.{hdu_bytes}
+use Rattle.fits_hdu.specs.NewImage.{are_axes, new_image}
+use Rattle.fits_rules.specs.declared.array_shape.Shape.{Shape}
+use Rattle.fits_session.specs.CardEdit.{is_within}
+use Rattle.fits_session.proofs.ListEditLemmas.{is_placed, new_first, new_fits, new_left, new_made, new_memory, new_nowhere, new_shapeless, new_size, new_too_large}
+use Rattle.fits_session.proofs.StateLemmas.{file_within}
+use Rattle.fits_session.proofs.session.Session.put_image.Goals as goal
+
+pub returns-then-not-is_within : goal.returns-then-not-is_within
+returns-then-not-is_within c =
+    let many : length c.self.inside.hdus.items ≡ c.len.result = omega (arith, c.len.ensures, c.self.inside.hdus.ok.0) in
+    rw (← c.self.view_is) (new_nowhere c.self.inside.hdus.items c.self.inside.tail.items c.args.at c.args.kind c.args.axes.now (ap (λ n. is_within c.args.at (n + 1)) many ∙ sym c.is_within.ensures ∙ c.if-not-is_within.true))
+
+pub returns-then-at-eq1 : goal.returns-then-at-eq1
+returns-then-at-eq1 c =
+    let many : length c.self.inside.hdus.items ≡ c.len.result = omega (arith, c.len.ensures, c.self.inside.hdus.ok.0) in
+    rw (← c.self.view_is) (new_first c.self.inside.hdus.items c.self.inside.tail.items c.args.at c.args.kind c.args.axes.now (ap (λ n. is_within c.args.at (n + 1)) many ∙ sym c.is_within.ensures ∙ c.if-not-is_within.false) c.if-at-eq1.true)
+
+pub returns-then-not-are_axes : goal.returns-then-not-are_axes
+returns-then-not-are_axes c =
+    let many : length c.self.inside.hdus.items ≡ c.len.result = omega (arith, c.len.ensures, c.self.inside.hdus.ok.0) in
+    rw (← c.self.view_is) (new_shapeless c.self.inside.hdus.items c.self.inside.tail.items c.args.at c.args.kind c.args.axes.now (ap (λ n. is_within c.args.at (n + 1)) many ∙ sym c.is_within.ensures ∙ c.if-not-is_within.false) c.if-at-eq1.false (ap are_axes (sym c.as_slice.ensures) ∙ sym c.are_axes.ensures ∙ c.if-not-are_axes.true))
+
+pub returns-then-len-ge-HDU_LIMIT : goal.returns-then-len-ge-HDU_LIMIT
+returns-then-len-ge-HDU_LIMIT c =
+    let many : length c.self.inside.hdus.items ≡ c.len.result = omega (arith, c.len.ensures, c.self.inside.hdus.ok.0) in
+    let placed = is_placed (length c.self.inside.hdus.items) c.len.result c.args.at c.args.axes.now c.as_slice.result.now many (sym c.is_within.ensures ∙ c.if-not-is_within.false) c.if-at-eq1.false c.as_slice.ensures (sym c.are_axes.ensures ∙ c.if-not-are_axes.false) in
+    rw (← c.self.view_is) (new_too_large c.self.inside.hdus.items c.self.inside.tail.items c.args.at c.args.kind c.args.axes.now placed (inl (grind (arith, c.if-len-ge-HDU_LIMIT.true, c.len-2.ensures, c.self.inside.hdus.ok.0))))
+
+pub returns-in_err-shape : goal.returns-in_err-shape
+returns-in_err-shape c =
+    let many : length c.self.inside.hdus.items ≡ c.len.result = omega (arith, c.len.ensures, c.self.inside.hdus.ok.0) in
+    let placed = is_placed (length c.self.inside.hdus.items) c.len.result c.args.at c.args.axes.now c.as_slice.result.now many (sym c.is_within.ensures ∙ c.if-not-is_within.false) c.if-at-eq1.false c.as_slice.ensures (sym c.are_axes.ensures ∙ c.if-not-are_axes.false) in
+    let p = err_from_is_err_and c.from_residual.result c.from_residual.ensures.1 in
+    rw (p.1, p.2, ← c.self.view_is) (new_memory c.self.inside.hdus.items c.self.inside.tail.items c.args.at c.args.kind c.args.axes.now placed)
+
+pub returns-in_err-hdu : goal.returns-in_err-hdu
+returns-in_err-hdu c =
+    let many : length c.self.inside.hdus.items ≡ c.len.result = omega (arith, c.len.ensures, c.self.inside.hdus.ok.0) in
+    let placed = is_placed (length c.self.inside.hdus.items) c.len.result c.args.at c.args.axes.now c.as_slice.result.now many (sym c.is_within.ensures ∙ c.if-not-is_within.false) c.if-at-eq1.false c.as_slice.ensures (sym c.are_axes.ensures ∙ c.if-not-are_axes.false) in
+    let p = err_from_is_err_and c.from_residual-in_err-hdu.result c.from_residual-in_err-hdu.ensures.1 in
+    rw (p.1, p.2, ← c.self.view_is) (new_memory c.self.inside.hdus.items c.self.inside.tail.items c.args.at c.args.kind c.args.axes.now placed)
+
+pub returns-in_err-insert : goal.returns-in_err-insert
+returns-in_err-insert c =
+    let many : length c.self.inside.hdus.items ≡ c.len.result = omega (arith, c.len.ensures, c.self.inside.hdus.ok.0) in
+    let placed = is_placed (length c.self.inside.hdus.items) c.len.result c.args.at c.args.axes.now c.as_slice.result.now many (sym c.is_within.ensures ∙ c.if-not-is_within.false) c.if-at-eq1.false c.as_slice.ensures (sym c.are_axes.ensures ∙ c.if-not-are_axes.false) in
+    let p = err_from_is_err_and c.from_residual-in_err-insert.result c.from_residual-in_err-insert.ensures.1 in
+    rw (p.1, p.2, c.in_err-insert.ensures.items, ← c.self.view_is) (new_memory c.self.inside.hdus.items c.self.inside.tail.items c.args.at c.args.kind c.args.axes.now placed)
+
+pub returns-in_default : goal.returns-in_default
+returns-in_default c =
+    let many : length c.self.inside.hdus.items ≡ c.len.result = omega (arith, c.len.ensures, c.self.inside.hdus.ok.0) in
+    let placed = is_placed (length c.self.inside.hdus.items) c.len.result c.args.at c.args.axes.now c.as_slice.result.now many (sym c.is_within.ensures ∙ c.if-not-is_within.false) c.if-at-eq1.false c.as_slice.ensures (sym c.are_axes.ensures ∙ c.if-not-are_axes.false) in
+    let axes_are : c.in_ok-shape.shape.axes ≡ c.args.axes.now = ap (λ (shape : Shape). shape.axes) c.in_ok-shape.ensures ∙ c.as_slice-2.ensures in
+    let long : length (hdu_bytes (new_image c.args.kind c.in_ok-shape.shape.axes)) ≡ length (hdu_bytes (new_image c.args.kind c.args.axes.now)) = ap (λ axes. length (hdu_bytes (new_image c.args.kind axes))) axes_are in
+    let size = (file_within c.self.inside.hdus.items c.self.inside.tail.items c.self.invariant.whole).0 in
+    rw (← c.self.view_is) (new_too_large c.self.inside.hdus.items c.self.inside.tail.items c.args.at c.args.kind c.args.axes.now placed (inr (omega (arith, size, long, c.self.invariant.len, c.in_default.ensures.too_large refl))))
+
+pub invariant_of-self-2 : goal.invariant_of-self-2
+invariant_of-self-2 c =
+    let many : length c.self.inside.hdus.items ≡ c.len.result = omega (arith, c.len.ensures, c.self.inside.hdus.ok.0) in
+    let placed = is_placed (length c.self.inside.hdus.items) c.len.result c.args.at c.args.axes.now c.as_slice.result.now many (sym c.is_within.ensures ∙ c.if-not-is_within.false) c.if-at-eq1.false c.as_slice.ensures (sym c.are_axes.ensures ∙ c.if-not-are_axes.false) in
+    let axes_are : c.in_ok-shape.shape.axes ≡ c.args.axes.now = ap (λ (shape : Shape). shape.axes) c.in_ok-shape.ensures ∙ c.as_slice-2.ensures in
+    let long : length (hdu_bytes (new_image c.args.kind c.in_ok-shape.shape.axes)) ≡ length (hdu_bytes (new_image c.args.kind c.args.axes.now)) = ap (λ axes. length (hdu_bytes (new_image c.args.kind axes))) axes_are in
+    let size = (file_within c.self.inside.hdus.items c.self.inside.tail.items c.self.invariant.whole).0 in
+    let fits = new_fits c.self.inside.hdus.items c.self.inside.tail.items c.args.at c.args.kind c.args.axes.now placed (grind (arith, c.if-len-ge-HDU_LIMIT.false, c.len-2.ensures, c.self.inside.hdus.ok.0)) (omega (arith, size, long, c.self.invariant.len, c.in-Some.ensures.len, c.in-Some.ensures.within)) in
+    let is = c.in_ok-hdu.ensures.hdu ∙ ap (new_image c.args.kind) axes_are in
+    let left = new_left c.self.inside.hdus.items c.self.inside.tail.items c.args.at c.args.kind c.args.axes.now c.in_ok-hdu.hdu c.self.invariant.whole placed fits is in
+    let more = new_size c.self.inside.hdus.items c.self.inside.tail.items c.args.at (new_image c.args.kind c.args.axes.now) c.in_ok-hdu.hdu is in
+    record {
+      whole = rw c.in_ok-insert.ensures.items left;
+      len = rw c.in_ok-insert.ensures.items (omega (arith, more, long, c.self.invariant.len, c.in-Some.ensures.len));
+    }
+
+pub returns : goal.returns
+returns c =
+    let many : length c.self.inside.hdus.items ≡ c.len.result = omega (arith, c.len.ensures, c.self.inside.hdus.ok.0) in
+    let placed = is_placed (length c.self.inside.hdus.items) c.len.result c.args.at c.args.axes.now c.as_slice.result.now many (sym c.is_within.ensures ∙ c.if-not-is_within.false) c.if-at-eq1.false c.as_slice.ensures (sym c.are_axes.ensures ∙ c.if-not-are_axes.false) in
+    let axes_are : c.in_ok-shape.shape.axes ≡ c.args.axes.now = ap (λ (shape : Shape). shape.axes) c.in_ok-shape.ensures ∙ c.as_slice-2.ensures in
+    let long : length (hdu_bytes (new_image c.args.kind c.in_ok-shape.shape.axes)) ≡ length (hdu_bytes (new_image c.args.kind c.args.axes.now)) = ap (λ axes. length (hdu_bytes (new_image c.args.kind axes))) axes_are in
+    let size = (file_within c.self.inside.hdus.items c.self.inside.tail.items c.self.invariant.whole).0 in
+    let fits = new_fits c.self.inside.hdus.items c.self.inside.tail.items c.args.at c.args.kind c.args.axes.now placed (grind (arith, c.if-len-ge-HDU_LIMIT.false, c.len-2.ensures, c.self.inside.hdus.ok.0)) (omega (arith, size, long, c.self.invariant.len, c.in-Some.ensures.len, c.in-Some.ensures.within)) in
+    let is = c.in_ok-hdu.ensures.hdu ∙ ap (new_image c.args.kind) axes_are in
+    rw (c.in_ok-insert.ensures.items, ← c.self.view_is) (new_made c.self.inside.hdus.items c.self.inside.tail.items c.args.at tt c.args.kind c.args.axes.now c.in_ok-hdu.hdu placed fits is c.in_ok-hdu.ensures.work c.in_ok-hdu.ensures.scans)

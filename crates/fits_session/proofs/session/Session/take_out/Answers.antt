@@ -1,0 +1,55 @@
+use Rattle.std.proofs.Common.{◌<◌, arith, refl}
+use Rattle.std.proofs.lemmas.List.{length-append}
+use Rattle.fits_card.specs.Header.{header_bytes}
+use Rattle.fits_session.proofs.ListEditLemmas.{primary_stays, removed_left, removed_size, removes, removes_nowhere}
+use Rattle.fits_session.proofs.StateLemmas.{file_within, is_at, part_there}
+use Rattle.fits_session.proofs.session.Session.take_out.Goals as goal
+
+pub returns-in_default : goal.returns-in_default
+returns-in_default c = rw (← c.self.view_is) (removes_nowhere c.self.inside.hdus.items c.self.inside.tail.items c.args.h (rw c.deref.ensures.value at c.in_default.ensures.none))
+
+pub returns-then-i-eq0 : goal.returns-then-i-eq0
+returns-then-i-eq0 c = rw (← c.self.view_is) (primary_stays c.self.inside.hdus.items c.self.inside.tail.items c.args.h c.in-Some.i (rw c.deref.ensures.value at c.in-Some.ensures.found) (grind (arith, c.if-i-eq0.true)))
+
+pub header_len-requires : goal.header_len-requires
+header_len-requires c =
+    let hdu = c.remove-hdu.result.hdu in
+    let part = part_there c.self.inside.hdus.items c.self.inside.tail.items c.args.h c.in-Some.i c.remove-hdu.result
+    (is_at c.self.inside.hdus.items c.deref.result.now c.args.h c.args.h c.in-Some.i c.remove-hdu.result c.deref.ensures.value refl c.in-Some.ensures.found c.remove-hdu.ensures.value) in
+    let size = (file_within c.self.inside.hdus.items c.self.inside.tail.items c.self.invariant.whole).0 in
+    omega (arith, part, size, length-append (header_bytes hdu.header) hdu.data_unit)
+
+pub overflow_add-self : goal.overflow_add-self
+overflow_add-self c =
+    let hdu = c.remove-hdu.result.hdu in
+    let part = part_there c.self.inside.hdus.items c.self.inside.tail.items c.args.h c.in-Some.i c.remove-hdu.result
+    (is_at c.self.inside.hdus.items c.deref.result.now c.args.h c.args.h c.in-Some.i c.remove-hdu.result c.deref.ensures.value refl c.in-Some.ensures.found c.remove-hdu.ensures.value) in
+    let size = (file_within c.self.inside.hdus.items c.self.inside.tail.items c.self.invariant.whole).0 in
+    omega (arith, part, size, length-append (header_bytes hdu.header) hdu.data_unit, c.header_len.ensures, c.data_len.ensures)
+
+pub overflow_sub-self : goal.overflow_sub-self
+overflow_sub-self c =
+    let hdu = c.remove-hdu.result.hdu in
+    let part = part_there c.self.inside.hdus.items c.self.inside.tail.items c.args.h c.in-Some.i c.remove-hdu.result
+    (is_at c.self.inside.hdus.items c.deref.result.now c.args.h c.args.h c.in-Some.i c.remove-hdu.result c.deref.ensures.value refl c.in-Some.ensures.found c.remove-hdu.ensures.value) in
+    let size = (file_within c.self.inside.hdus.items c.self.inside.tail.items c.self.invariant.whole).0 in
+    omega (arith, part, c.self.invariant.len, length-append (header_bytes hdu.header) hdu.data_unit, c.header_len.ensures, c.data_len.ensures)
+
+pub invariant_of-self : goal.invariant_of-self
+invariant_of-self c =
+    let hdu = c.remove-hdu.result.hdu in
+    let behind : 0 < c.in-Some.i = grind (arith, c.if-i-eq0.false) in
+    let left = removed_left c.self.inside.hdus.items c.self.inside.tail.items c.args.h c.in-Some.i c.remove-hdu.result c.self.invariant.whole
+    (is_at c.self.inside.hdus.items c.deref.result.now c.args.h c.args.h c.in-Some.i c.remove-hdu.result c.deref.ensures.value refl c.in-Some.ensures.found c.remove-hdu.ensures.value) behind in
+    let less = removed_size c.self.inside.hdus.items c.self.inside.tail.items c.args.h c.in-Some.i c.remove-hdu.result
+    (is_at c.self.inside.hdus.items c.deref.result.now c.args.h c.args.h c.in-Some.i c.remove-hdu.result c.deref.ensures.value refl c.in-Some.ensures.found c.remove-hdu.ensures.value) in
+    record {
+      whole = rw c.remove-hdu.ensures.items left;
+      len = rw c.remove-hdu.ensures.items (omega (arith, less, c.self.invariant.len, length-append (header_bytes hdu.header) hdu.data_unit, c.header_len.ensures, c.data_len.ensures));
+    }
+
+pub returns : goal.returns
+returns c =
+    let behind : 0 < c.in-Some.i = grind (arith, c.if-i-eq0.false) in
+    rw (c.remove-hdu.ensures.items, ← c.self.view_is) (removes c.self.inside.hdus.items c.self.inside.tail.items c.args.h c.in-Some.i tt c.remove-hdu.result
+    (is_at c.self.inside.hdus.items c.deref.result.now c.args.h c.args.h c.in-Some.i c.remove-hdu.result c.deref.ensures.value refl c.in-Some.ensures.found c.remove-hdu.ensures.value) behind)

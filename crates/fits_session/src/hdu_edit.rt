@@ -1,0 +1,21 @@
+use crate::card_edit::CardEdit;
+use crate::corner::Corner;
+use crate::paint::Paint;
+
+/// A change of one HDU.
+#[derive(Drop)]
+pub enum HduEdit {
+    /// Its cards are changed; they describe the shape that they did.
+    Cards(CardEdit),
+    /// The pixels of a rectangle are changed.
+    Pixels {
+        /// The least place on each axis, from 1.
+        lo: Corner,
+        /// The greatest place on each axis, which is in the rectangle too.
+        hi: Corner,
+        paint: Paint,
+    },
+    /// DATASUM and CHECKSUM are made right (FITS Standard 4.0, section 4.4.2.7): each keeps its
+    /// place, or comes after the last card, and loses its comment.
+    Stamp,
+}

@@ -1,0 +1,54 @@
+//! Edits of the list of HDUs: a new image is put in, or an HDU is taken out.
+use super::Session;
+use super::changes::is_within;
+use super::finding::index_of;
+use crate::edit::Edit;
+use crate::limits::{FILE_LIMIT, HDU_LIMIT};
+use crate::refusal::Refusal;
+use fits_hdu::{Hdu, Kind, are_axes, image_len, image_shape};
+use fits_rules::Axes;
+
+impl Session {
+    ghost use Rattle.fits_session.specs.Session.{EditsTo};
+
+    // Puts in a new image as HDU `at`.
+    pub(super) fn put_image(&mut self, at: usize, kind: Kind, axes: &Axes) -> Result<(), Refusal>
+        ensures { EditsTo (Edit.NewImage at kind axes.now) self.old self.new result }
+    {
+        if !is_within(at, self.hdus.len() + 1) {
+            return Err(Refusal::NoHdu);
+        }
+        if at == 1 {
+            return Err(Refusal::PrimaryStays);
+        }
+        if !are_axes(axes.as_slice()) {
+            return Err(Refusal::Shape);
+        }
+        if self.hdus.len() as u64 >= HDU_LIMIT {
+            return Err(Refusal::TooLarge);
+        }
+        let shape = image_shape(self.alloc, kind, axes.as_slice())?;
+        let Some(len) = image_len(kind, &shape, FILE_LIMIT - self.len) else {
+            return Err(Refusal::TooLarge);
+        };
+        let hdu = Hdu::new_image(self.alloc, kind, shape)?;
+        self.hdus.insert(at - 1, hdu)?;
+        self.len += len;
+        Ok(())
+    }
+
+    // Takes HDU h out. It takes no memory.
+    pub(super) fn take_out(&mut self, h: usize) -> Result<(), Refusal>
+        ensures { EditsTo (Edit.RemoveHdu h) self.old self.new result }
+    {
+        let Some(i) = index_of(&self.hdus, h) else {
+            return Err(Refusal::NoHdu);
+        };
+        if i == 0 {
+            return Err(Refusal::PrimaryStays);
+        }
+        let hdu = self.hdus.remove(i);
+        self.len -= (hdu.header_len() + hdu.data_len()) as u64;
+        Ok(())
+    }
+}
