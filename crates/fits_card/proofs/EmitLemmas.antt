@@ -7,7 +7,7 @@ use Rattle.fits_card.specs.Header.{joined_cards}
 use Rattle.fits_card.proofs.StreamLemmas.{Prints-more, Prints-none, PrintsFront-longer, PrintsFront-more}
 
 -- one more card
-joined-more : (cards : List (List ℕ)) (i : ℕ) (card : List ℕ) → i < length cards → card ≡ get_or cards i card → joined_cards (take (i + 1) cards) ≡ joined_cards (take i cards) ++ card
+pub joined-more : (cards : List (List ℕ)) (i : ℕ) (card : List ℕ) → i < length cards → card ≡ get_or cards i card → joined_cards (take (i + 1) cards) ≡ joined_cards (take i cards) ++ card
 joined-more cards i card h e =
     ap joined_cards (take_more cards i card h) ∙ flat_map-append (λ c. c) (take i cards) (get_or cards i card ∷ []) ∙ ap (λ t. joined_cards (take i cards) ++ t) (append-nil (get_or cards i card) ∙ sym e)
 
