@@ -6,10 +6,8 @@ use Rattle.std.specs.List.{starts_with}
 use Rattle.std.proofs.lemmas.Bool.{cases_lt, false≢true}
 use Rattle.std.proofs.lemmas.List.{append-nil, length-append, take_all, take-append-le}
 use Rattle.std.proofs.lemmas.List.Concat.{flat_map-append}
-use Rattle.fits_card.specs.Intake.{supply, Finds, Gives, IsSpent, Supply, Takes, TakesAfter, TakingStops, Tells}
+use Rattle.fits_card.specs.Intake.{supply, Finds, Gives, IsSpent, Supply, Takes, TakesAfter, Tells}
 use Rattle.fits_card.specs.Stream.{SourceState, StaysQuiet}
-use Rattle.fits_card.specs.declared.reading.ReadFault.{ReadFault}
-use Rattle.fits_card.specs.declared.reading.ReadFault.TheVariants as read
 use Rattle.fits_card.proofs.SightLemmas.{finds_begun, finds_given, finds_next, finds_spent, long_given, past_limit, rest_given, takes_after_none, takes_before, takes_more, tells_after, within_limit}
 use Rattle.fits_hdu.specs.Hdu.{HduParts, HasHduFault, IsHdu, hdu_bytes}
 use Rattle.fits_hdu.specs.Reading.{HduStops, TakesHdu}
@@ -21,7 +19,7 @@ use Rattle.fits_hdu.specs.declared.read_fault.ReadHduFault.TheVariants as read_h
 use Rattle.fits_session.specs.File.{FileParts, begins_extension, goes_on, is_first, is_followed, joined_hdus, IsFile, IsFileOf, IsFrontOf}
 use Rattle.fits_session.specs.declared.limits.TheConstants.{FILE_LIMIT, HDU_LIMIT}
 use Rattle.fits_session.specs.Opening.{BeginsAsFits, HasOpenFault, open_fault_of}
-use Rattle.fits_session.specs.Reading.{file_fault_of, is_of_bytes, of_read, IsKeptOf, IsWalkOf, KeepsEach, NextBegins, ReadStops, RestStops, Walked, WalkStops}
+use Rattle.fits_session.specs.Reading.{file_fault_of, is_of_bytes, IsKeptOf, IsWalkOf, KeepsEach, NextBegins, ReadStops, RestStops, Walked, WalkStops}
 use Rattle.fits_session.specs.Session.{file_of, held_of, hdus_of, state_of}
 use Rattle.fits_session.specs.declared.open_fault.OpenFault.TheVariants.{NotFits, NoEnd, BadShape, ShortData, TooLarge, Memory}
 use Rattle.fits_session.specs.declared.read_fault.ReadFileFault.{ReadFileFault}

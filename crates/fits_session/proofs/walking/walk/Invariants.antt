@@ -1,4 +1,4 @@
-use Rattle.std.proofs.Common.{◌≡◌, ◌+◌, ◌<◌, ◌≤◌, length}
+use Rattle.std.proofs.Common.{◌+◌, ◌<◌, ◌≤◌, length}
 use Rattle.std.specs.Prelude.{nat_eq}
 use Rattle.fits_card.specs.Intake.{supply, IsSpent}
 use Rattle.fits_session.specs.declared.limits.TheConstants.{HDU_LIMIT}

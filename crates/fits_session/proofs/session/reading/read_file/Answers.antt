@@ -1,4 +1,3 @@
-use Rattle.std.proofs.Common.{◌∙◌}
 use Rattle.fits_session.proofs.WalkLemmas.{ends_before, session_given, session_taken, session_whole}
 use Rattle.fits_session.proofs.session.reading.read_file.Goals as goal
 

@@ -1,4 +1,4 @@
-use Rattle.std.proofs.Common.{◌<◌, ◌≤◌, length, arith, ◌∙◌}
+use Rattle.std.proofs.Common.{◌<◌, ◌≤◌, length, arith}
 use Rattle.std.proofs.lemmas.Grind.{common_steps}
 use Rattle.fits_session.proofs.SaveLemmas.{Prints-hdu, hdus_kept, first_read_more, all_read, once_at_end, once_at_most}
 use Rattle.fits_session.proofs.session.saving.write_hdus.Goals as goal
