@@ -1,5 +1,5 @@
 -- Steps of reading a header block by block.
-use Rattle.std.proofs.Common.{◌≡◌, ℕ, ◌+◌, ◌*◌, ◌%◌, ◌<◌, ◌≤◌, List, [], ◌∷◌, ◌++◌, length, take, drop, refl, ap, sym, ◌∙◌, append_assoc, subst, arith, All, Option}
+use Rattle.std.proofs.Common.{◌≡◌, ℕ, ◌+◌, ◌*◌, ◌%◌, ◌<◌, ◌≤◌, List, [], ◌∷◌, ◌++◌, length, take, drop, refl, ap, sym, ◌∙◌, append_assoc, subst, arith, All}
 use Rattle.std.proofs.lemmas.List.{append-nil, length-append, length-drop, take_all, take-append-drop}
 use Rattle.std.proofs.lemmas.List.Concat.{flat_map-append}
 use Rattle.std.proofs.lemmas.List.Elements.{All-append, All-nil}
@@ -9,7 +9,7 @@ use Rattle.fits_card.specs.Card.{IsEnd}
 use Rattle.fits_card.specs.Header.{Header, IsHeader, IsInnerCard, HasNoHeader, header_bytes, joined_cards}
 use Rattle.fits_card.specs.HeaderReading.{HeaderStops, of_read}
 use Rattle.fits_card.specs.HeaderSteps.{HasNoEnd, IsEndPlace, piece, pieces}
-use Rattle.fits_card.specs.Intake.{Finds, IsSpent, Takes, TakesAfter}
+use Rattle.fits_card.specs.Intake.{Finds, IsSpent, Supply, Takes, TakesAfter, TakingStops}
 use Rattle.fits_card.specs.declared.reading.ReadFault.{ReadFault}
 use Rattle.fits_card.specs.declared.reading.ReadFault.TheVariants as read
 use Rattle.fits_card.proofs.HeaderLemmas.{fill_length-by_cards, length-joined_cards}
@@ -49,8 +49,8 @@ ended_block block fill k is =
 pub ruleset ending_steps = (ended_whole, ended_block)
 
 -- no block is read yet
-pub blocks_none : (cards : List (List ℕ)) (before : List ℕ) (a : Option (List ℕ)) (left : ℕ) → cards ≡ [] → TakesAfter before a a left left (joined_cards cards ++ before)
-blocks_none cards before a left none = rw none (takes_after_none before a left)
+pub blocks_none : (cards : List (List ℕ)) (before : List ℕ) (a : Supply) → cards ≡ [] → TakesAfter before a a (joined_cards cards ++ before)
+blocks_none cards before a none = rw none (takes_after_none before a)
 
 -- a whole block without END is 36 cards
 block_cards : (block : List ℕ) (n : ℕ) → length block ≡ 80 * n → joined_cards (pieces block n) ≡ block
@@ -66,25 +66,25 @@ pub length-more : (cards new : List (List ℕ)) (block : List ℕ) (n : ℕ) →
 length-more cards new block n is = ap length is ∙ length-append cards (pieces block n) ∙ ap (λ k. length cards + k) (length-map-range_with_len (piece block) 0 n)
 
 -- and then the next block
-pub blocks_more : (cards new : List (List ℕ)) (block next before : List ℕ) (a b c : Option (List ℕ)) (left left' left'' n : ℕ) → TakesAfter before a b left left' (joined_cards cards ++ block) → Takes b c left' left'' next → length block ≡ 80 * n → new ≡ cards ++ pieces block n
-    → TakesAfter before a c left left'' (joined_cards new ++ next)
-blocks_more cards new block next before a b c left left' left'' n p q size is =
+pub blocks_more : (cards new : List (List ℕ)) (block next before : List ℕ) (a b c : Supply) (n : ℕ) → TakesAfter before a b (joined_cards cards ++ block) → Takes b c next → length block ≡ 80 * n → new ≡ cards ++ pieces block n
+    → TakesAfter before a c (joined_cards new ++ next)
+blocks_more cards new block next before a b c n p q size is =
     let all : joined_cards cards ++ block ≡ joined_cards new = sym (ap joined_cards is ∙ flat_map-append (λ card. card) cards (pieces block n) ∙ ap (λ t. joined_cards cards ++ t) (block_cards block n size)) in
-    subst (λ (t : List ℕ). TakesAfter before a c left left'' (t ++ next)) all (takes_after_more before a b c left left' left'' (joined_cards cards ++ block) next p q)
+    subst (λ (t : List ℕ). TakesAfter before a c (t ++ next)) all (takes_after_more before a b c (joined_cards cards ++ block) next p q)
 
 -- cards before the END of a block end no header
 pub inner_ended : (cards new : List (List ℕ)) (block : List ℕ) (n : ℕ) → All IsInnerCard cards → IsEndPlace block n → new ≡ cards ++ pieces block n → All IsInnerCard new
 inner_ended cards new block n inner place is = rw is (All-append IsInnerCard cards (pieces block n) inner (inner-pieces block n (omega (arith, place.within)) place.first))
 
 -- the last block, from its END on
-pub blocks_ended : (cards new : List (List ℕ)) (block before : List ℕ) (a b : Option (List ℕ)) (left left' n : ℕ) (header : Header) → TakesAfter before a b left left' (joined_cards cards ++ block) → new ≡ cards ++ pieces block n → header.cards ≡ new → joined_cards (pieces block n) ++ (header.end ++ header.fill) ≡ block
-    → TakesAfter before a b left left' (header_bytes header)
-blocks_ended cards new block before a b left left' n header p is same ended =
+pub blocks_ended : (cards new : List (List ℕ)) (block before : List ℕ) (a b : Supply) (n : ℕ) (header : Header) → TakesAfter before a b (joined_cards cards ++ block) → new ≡ cards ++ pieces block n → header.cards ≡ new → joined_cards (pieces block n) ++ (header.end ++ header.fill) ≡ block
+    → TakesAfter before a b (header_bytes header)
+blocks_ended cards new block before a b n header p is same ended =
     let all : joined_cards cards ++ block ≡ header_bytes header =
     ap (λ t. joined_cards cards ++ t) (sym ended)
     ∙ sym (append_assoc (joined_cards cards) (joined_cards (pieces block n)) (header.end ++ header.fill))
     ∙ ap (λ t. t ++ (header.end ++ header.fill)) (sym (flat_map-append (λ card. card) cards (pieces block n)) ∙ ap joined_cards (sym (same ∙ is))) in
-    subst (TakesAfter before a b left left') all p
+    subst (TakesAfter before a b) all p
 
 -- cards of whole blocks, and then less than a block, are no header
 no_header_short : (cards : List (List ℕ)) (block : List ℕ) → All IsInnerCard cards → length cards % 36 ≡ 0 → length block < 2880 → HasNoHeader (joined_cards cards ++ block)
@@ -96,15 +96,15 @@ no_header_short cards block inner full short header rest cut =
     (inner n [] before).not_end (subst (λ (card : List ℕ). IsEnd card) (piece-joined_cards cards block n inner before) place.ends)
 
 -- the source ended, or the limit came, within a block
-pub stops_short : (cards : List (List ℕ)) (block before : List ℕ) (a b : Option (List ℕ)) (left left' : ℕ) → TakesAfter before a b left left' (joined_cards cards ++ block) → IsSpent b left' → All IsInnerCard cards → length cards % 36 ≡ 0 → length block < 2880
-    → Finds a b left left' (λ sight. HasNoHeader (before ++ sight))
-stops_short cards block before a b left left' p spent inner full short =
-    finds_after_spent HasNoHeader before a b left left' (joined_cards cards ++ block) p spent (no_header_short cards block inner full short)
+pub stops_short : (cards : List (List ℕ)) (block before : List ℕ) (a b : Supply) → TakesAfter before a b (joined_cards cards ++ block) → IsSpent b → All IsInnerCard cards → length cards % 36 ≡ 0 → length block < 2880
+    → Finds a b (λ sight. HasNoHeader (before ++ sight))
+stops_short cards block before a b p spent inner full short =
+    finds_after_spent HasNoHeader before a b (joined_cards cards ++ block) p spent (no_header_short cards block inner full short)
 
 -- a source's fault
-pub stops_by_read : (before : List ℕ) (a b : Option (List ℕ)) (left left' f g : ℕ) (why : ReadFault) → (why ≡ read.Memory → g ≡ f) → (why ≡ read.Failed → g ≡ f + 1) → HeaderStops before a b left left' f g (of_read why)
-stops_by_read before a b left left' f g read.Memory m q = m refl
-stops_by_read before a b left left' f g read.Failed m q = q refl
+pub stops_by_read : (before : List ℕ) (a b : Supply) (why : ReadFault) → TakingStops a.source b.source why → HeaderStops before a b (of_read why)
+stops_by_read before a b read.Memory p = p
+stops_by_read before a b read.Failed p = p
 
 -- no cards are all inner ones
 pub no_cards : (cards : List (List ℕ)) → cards ≡ [] → All IsInnerCard cards

@@ -1,26 +1,76 @@
 -- What streams do to the bytes that are known of them, and which calls count as failed (own).
-use Rattle.std.specs.Prelude.{◌≡◌, ℕ, ◌≤◌, List, ◌++◌, length, take, nat_lt, ◌==◌, ◌&&◌, if◌then◌else◌, Option, None, Some, Result, Ok, Err}
+use Rattle.std.specs.Prelude.{◌≡◌, ℕ, ◌+◌, ◌≤◌, List, ◌++◌, length, take, nat_lt, ◌==◌, ◌&&◌, if◌then◌else◌, Option, None, Some}
+use Rattle.std.specs.Io.KnownBytes.{Appends, Consumes, Keeps}
 
--- 1 where a read failed, else 0
-abbrev pub read_faults : {E : Type 0} → Result ℕ E → ℕ
-read_faults (Ok count) = 0
-read_faults (Err error) = 1
+-- the bytes that a sink holds, where it tells them, how many of its calls failed, and how many writes there were since its
+-- last flush that succeeded
+pub record SinkState : Type 0 where
+  pub contents : Option (List ℕ)
+  pub failures : ℕ
+  pub unflushed : ℕ
 
--- 1 where a write failed, or took nothing of a piece that isn't empty, else 0
-abbrev pub write_faults : {E : Type 0} → Result ℕ E → List ℕ → ℕ
-write_faults (Ok count) piece = if (count == 0) && nat_lt 0 (length piece) then 1 else 0
-write_faults (Err error) piece = 1
-
--- 1 where a flush failed, else 0
-abbrev pub flush_faults : {T E : Type 0} → Result T E → ℕ
-flush_faults (Ok done) = 0
-flush_faults (Err error) = 1
+-- the bytes that a source has left, where it tells them, and how many of its calls failed
+pub record SourceState : Type 0 where
+  pub remaining : Option (List ℕ)
+  pub failures : ℕ
 
 -- what a sink holds grew by a prefix of these bytes, perhaps by none of them or by all
 abbrev pub AppendsFront : Option (List ℕ) → Option (List ℕ) → List ℕ → Type 0
 AppendsFront None new bytes = Unit {0}
 AppendsFront (Some xs) None bytes = ⊥
 AppendsFront (Some xs) (Some ys) bytes = (n : ℕ) × (n ≤ length bytes) × (ys ≡ xs ++ take n bytes)
+
+-- a sink took all of these bytes, and no call failed
+pub record Prints (text : List ℕ) (old new : SinkState) : Type 0 where
+  pub bytes : Appends old.contents new.contents text
+  pub quiet : new.failures ≡ old.failures
+
+-- a sink took a prefix of these bytes, and then one call failed
+pub record PrintsFront (text : List ℕ) (old new : SinkState) : Type 0 where
+  pub bytes : AppendsFront old.contents new.contents text
+  pub failed : new.failures ≡ old.failures + 1
+
+-- one write took so many bytes of a piece: where it took none of a piece that isn't empty it is a failed call
+pub record Writes (count : ℕ) (piece : List ℕ) (old new : SinkState) : Type 0 where
+  pub bytes : Appends old.contents new.contents (take count piece)
+  pub failed : new.failures ≡ old.failures + (if (count == 0) && nat_lt 0 (length piece) then 1 else 0)
+  pub unflushed : new.unflushed ≡ old.unflushed + 1
+
+-- one write failed, and took nothing
+pub record FailsToWrite (old new : SinkState) : Type 0 where
+  pub bytes : Keeps old.contents new.contents
+  pub failed : new.failures ≡ old.failures + 1
+  pub unflushed : new.unflushed ≡ old.unflushed + 1
+
+-- what a sink took is passed on
+pub record Flushes (old new : SinkState) : Type 0 where
+  pub bytes : Keeps old.contents new.contents
+  pub quiet : new.failures ≡ old.failures
+  pub flushed : new.unflushed ≡ 0
+
+-- it isn't: the call failed
+pub record FailsToFlush (old new : SinkState) : Type 0 where
+  pub bytes : Keeps old.contents new.contents
+  pub failed : new.failures ≡ old.failures + 1
+  pub unflushed : new.unflushed ≡ old.unflushed
+
+-- since then no call of a source failed
+abbrev pub StaysQuiet : SourceState → SourceState → Type 0
+StaysQuiet old new = new.failures ≡ old.failures
+
+-- since then one did
+abbrev pub FailsOnce : SourceState → SourceState → Type 0
+FailsOnce old new = new.failures ≡ old.failures + 1
+
+-- these bytes came from a source, and no call failed
+pub record Reads (bytes : List ℕ) (old new : SourceState) : Type 0 where
+  pub gone : Consumes old.remaining new.remaining bytes
+  pub quiet : StaysQuiet old new
+
+-- one read failed, and nothing came
+pub record FailsToRead (old new : SourceState) : Type 0 where
+  pub bytes : Keeps old.remaining new.remaining
+  pub failed : FailsOnce old new
 
 -- a stream, how many of its calls have failed, and how many writes there were since its last flush that succeeded
 pub record Watch (S : Type 0) : Type 0 where

@@ -1,6 +1,5 @@
 ghost use Rattle.std.specs.Prelude.{◌≡◌, ℕ, ◌+◌, ◌-◌, ◌*◌, ◌^◌, ◌≤◌, ◌<◌, length, OnOk, OnErr, vec_len, vec_capacity, replicate, slice_set, All};
-ghost use Rattle.std.specs.Io.KnownBytes.{Appends};
-ghost use Rattle.fits_card.specs.Stream.{AppendsFront};
+ghost use Rattle.fits_card.specs.Stream.{Prints, PrintsFront};
 ghost use Rattle.fits_card.specs.declared.card.TheConstants.{CARD_LEN};
 ghost use Rattle.fits_card.specs.declared.card_list.TheConstants.{LONGEST_FILL};
 ghost use Rattle.fits_card.specs.Change.{spliced};
@@ -63,8 +62,7 @@ impl Model for CardList {
 
 impl CardList {
     ghost use Rattle.std.specs.Prelude.{◌≡◌, ◌+◌, ◌-◌, ◌*◌, ◌^◌, ◌≤◌, ◌<◌, [], ◌∷◌, length, slice_index_or, All, IsOk, OnOk, OnErr};
-    ghost use Rattle.std.specs.Io.KnownBytes.{Appends};
-    ghost use Rattle.fits_card.specs.Stream.{AppendsFront};
+    ghost use Rattle.fits_card.specs.Stream.{Prints, PrintsFront};
     ghost use Rattle.fits_card.specs.Card.{IsEnd};
     ghost use Rattle.fits_card.specs.declared.card.TheConstants.{CARD_LEN};
     ghost use Rattle.fits_card.specs.CardList.{ReadsUpTo};
@@ -216,15 +214,12 @@ impl CardList {
     /// Writes the cards, END and the fill. Each card's read is counted.
     ///
     /// Where a call fails a prefix was written.
+    #[tactic(auto, using(crate::proofs::EmitLemmas::emit_steps))]
     pub fn emit<W: Sink>(&mut self, sink: &mut W) -> io::Result<()>
-        ensures ok { OnOk result
-            (Appends (W.contents sink.old) (W.contents sink.new) (header_bytes self.old.header)) }
-        ensures err { OnErr result (AppendsFront (W.contents sink.old) (W.contents sink.new)
-            (header_bytes self.old.header)) }
-
-        // It fails exactly where a call did, and ends there.
-        ensures quiet { OnOk result (W.failures sink.new ≡ W.failures sink.old) }
-        ensures failed { OnErr result (W.failures sink.new ≡ W.failures sink.old + 1) }
+        ensures ok { OnOk result (Prints (header_bytes self.old.header)
+            (W.state sink.old) (W.state sink.new)) }
+        ensures err { OnErr result (PrintsFront (header_bytes self.old.header)
+            (W.state sink.old) (W.state sink.new)) }
 
         // The header stays. Each card is read at most once, and once where it succeeds.
         ensures work { ReadsUpTo self.old self.new (length self.old.header.cards) }
@@ -302,13 +297,12 @@ fn make_blank(fill: &mut Vec<u8>, cards: usize)
     let _ = fill.resize(fill_len(cards), b' ');
 }
 
+#[tactic(auto, using(crate::proofs::EmitLemmas::card_steps))]
 fn write_cards<W: Sink>(cards: &[Card], reads: &mut Count, sink: &mut W) -> io::Result<()>
-    ensures ok { OnOk result
-        (Appends (W.contents sink.old) (W.contents sink.new) (joined_cards cards.now)) }
-    ensures err { OnErr result
-        (AppendsFront (W.contents sink.old) (W.contents sink.new) (joined_cards cards.now)) }
-    ensures quiet { OnOk result (W.failures sink.new ≡ W.failures sink.old) }
-    ensures failed { OnErr result (W.failures sink.new ≡ W.failures sink.old + 1) }
+    ensures ok { OnOk result (Prints (joined_cards cards.now)
+        (W.state sink.old) (W.state sink.new)) }
+    ensures err { OnErr result (PrintsFront (joined_cards cards.now)
+        (W.state sink.old) (W.state sink.new)) }
     ensures work { OnOk result (reads.new.total ≡ reads.old.total + length cards.now) }
     ensures least_work { reads.old.total ≤ reads.new.total }
     ensures most_work { reads.new.total ≤ reads.old.total + length cards.now }

@@ -5,7 +5,7 @@ ghost use Rattle.fits_card.specs.declared.card_list.TheConstants.{BLOCK_LEN};
 ghost use Rattle.fits_card.specs.Header.{header_bytes, joined_cards, IsHeader, IsInnerCard};
 ghost use Rattle.fits_card.specs.HeaderReading.{HeaderStops};
 ghost use Rattle.fits_card.specs.HeaderSteps.{pieces, IsEndPlace};
-ghost use Rattle.fits_card.specs.Intake.{IsSpent, TakesAfter};
+ghost use Rattle.fits_card.specs.Intake.{supply, IsSpent, TakesAfter};
 
 use crate::card::{CARD_LEN, Card};
 use crate::card_list::{BLOCK_LEN, CardList};
@@ -69,16 +69,15 @@ pub fn read_header<R: Source>(
     first: Vec<u8>,
 ) -> Result<CardList, ReadHeaderFault>
     requires within { length first.items ≤ BLOCK_LEN }
-    requires short { length first.items < BLOCK_LEN → IsSpent (R.remaining source.old) intake.old }
+    requires short { length first.items < BLOCK_LEN
+        → IsSpent (supply (R.state source.old) intake.old) }
     ensures ok { IfOk result (λ list. TakesAfter first.items
-        (R.remaining source.old) (R.remaining source.new) intake.old intake.new
+        (supply (R.state source.old) intake.old) (supply (R.state source.new) intake.new)
         (header_bytes list.header)) }
     ensures whole { IfOk result (λ list. IsHeader list.header) }
     ensures unread { IfOk result (λ list. list.reads ≡ 0) }
-    ensures quiet { OnOk result (R.failures source.new ≡ R.failures source.old) }
     ensures err { IfErr result (HeaderStops first.items
-        (R.remaining source.old) (R.remaining source.new) intake.old intake.new
-        (R.failures source.old) (R.failures source.new)) }
+        (supply (R.state source.old) intake.old) (supply (R.state source.new) intake.new)) }
 {
     let mut cards = Vec::new(alloc);
     let mut block = first;

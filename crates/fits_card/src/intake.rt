@@ -1,6 +1,7 @@
-ghost use Rattle.std.specs.Prelude.{◌≡◌, ◌+◌, ◌<◌, ◌≤◌, ◌↔◌, length, take, IfOk, IfSome, OnOk, OnErr, IsErrOf, IsTrue};
-ghost use Rattle.std.specs.Io.KnownBytes.{Consumes, IsAtEnd};
-ghost use Rattle.fits_card.specs.Intake.{ConsumesAfter};
+ghost use Rattle.std.specs.Prelude.{◌≡◌, ◌+◌, ◌<◌, ◌≤◌, ◌↔◌, length, take, IfOk, IfErr, IfSome, OnOk, OnErr, IsTrue};
+ghost use Rattle.std.specs.Io.KnownBytes.{IsAtEnd};
+ghost use Rattle.fits_card.specs.Intake.{ReadsAfter, TakingStops};
+ghost use Rattle.fits_card.specs.Stream.{FailsOnce, Reads, StaysQuiet};
 
 use crate::reading::{PIECE_LEN, ReadFault, buffer_of};
 use crate::source::Source;
@@ -28,8 +29,9 @@ impl Model for Intake {
 }
 
 impl Intake {
-    ghost use Rattle.std.specs.Prelude.{◌≡◌, ◌+◌, ◌<◌, ◌≤◌, ◌↔◌, ◌^◌, length, take, IfOk, IfSome, OnOk, OnErr, IsErrOf, IsTrue};
-    ghost use Rattle.fits_card.specs.Intake.{IsSpent, Skips, Takes, TakesAfter};
+    ghost use Rattle.std.specs.Prelude.{◌≡◌, ◌+◌, ◌<◌, ◌≤◌, ◌↔◌, ◌^◌, length, take, IfOk, IfErr, IfSome, OnOk, OnErr, IsTrue};
+    ghost use Rattle.fits_card.specs.Intake.{supply, IsSpent, Skips, Takes, TakesAfter, TakingStops};
+    ghost use Rattle.fits_card.specs.Stream.{FailsOnce, StaysQuiet};
 
     pub fn new(alloc: Global, limit: usize) -> Result<Intake, AllocError>
         ensures { IfOk result (λ intake. intake ≡ limit) }
@@ -55,18 +57,13 @@ impl Intake {
         source: &mut R,
         len: usize,
     ) -> Result<Vec<u8>, ReadFault>
-        ensures ok { IfOk result (λ bytes. Takes (R.remaining source.old) (R.remaining source.new)
-            self.old self.new bytes.items) }
+        ensures ok { IfOk result (λ bytes. Takes
+            (supply (R.state source.old) self.old) (supply (R.state source.new) self.new)
+            bytes.items) }
         ensures within { IfOk result (λ bytes. length bytes.items ≤ len) }
         ensures ends { IfOk result (λ bytes. length bytes.items < len
-            → IsSpent (R.remaining source.new) self.new) }
-
-        // It answers `Failed` only where a call did, and ends there.
-        ensures quiet { OnOk result (R.failures source.new ≡ R.failures source.old) }
-        ensures failed { IsErrOf result ReadFault.Failed
-            → R.failures source.new ≡ R.failures source.old + 1 }
-        ensures memory { IsErrOf result ReadFault.Memory
-            → R.failures source.new ≡ R.failures source.old }
+            → IsSpent (supply (R.state source.new) self.new)) }
+        ensures err { IfErr result (TakingStops (R.state source.old) (R.state source.new)) }
     {
         let most = len.min(self.left);
         let piece = self.piece.as_mut_slice();
@@ -84,13 +81,10 @@ impl Intake {
     ) -> Result<Vec<u8>, ReadFault>
         requires { self.old + length before.items ≤ 2 ^ 34 }
         ensures ok { IfOk result (λ bytes. TakesAfter before.items
-            (R.remaining source.old) (R.remaining source.new) self.old self.new bytes.items) }
-        ensures ends { OnOk result (IsSpent (R.remaining source.new) self.new) }
-        ensures quiet { OnOk result (R.failures source.new ≡ R.failures source.old) }
-        ensures failed { IsErrOf result ReadFault.Failed
-            → R.failures source.new ≡ R.failures source.old + 1 }
-        ensures memory { IsErrOf result ReadFault.Memory
-            → R.failures source.new ≡ R.failures source.old }
+            (supply (R.state source.old) self.old) (supply (R.state source.new) self.new)
+            bytes.items) }
+        ensures ends { OnOk result (IsSpent (supply (R.state source.new) self.new)) }
+        ensures err { IfErr result (TakingStops (R.state source.old) (R.state source.new)) }
     {
         let most = self.left + before.len();
         let bytes = take_after(before, source, self.piece.as_mut_slice(), most)?;
@@ -101,14 +95,12 @@ impl Intake {
     /// Drops the next bytes, so many or as many as there are, and says how many.
     #[tactic(auto, using(crate::proofs::IntakeLemmas::intake_steps))]
     pub fn skip<R: Source>(&mut self, source: &mut R, len: usize) -> io::Result<usize>
-        ensures ok { IfOk result (λ count. Skips (R.remaining source.old) (R.remaining source.new)
-            count) }
+        ensures ok { IfOk result (Skips (R.state source.old) (R.state source.new)) }
         ensures count { IfOk result (λ count. self.old ≡ self.new + count) }
         ensures within { IfOk result (λ count. count ≤ len) }
         ensures ends { IfOk result (λ count. count < len
-            → IsSpent (R.remaining source.new) self.new) }
-        ensures quiet { OnOk result (R.failures source.new ≡ R.failures source.old) }
-        ensures failed { OnErr result (R.failures source.new ≡ R.failures source.old + 1) }
+            → IsSpent (supply (R.state source.new) self.new)) }
+        ensures err { OnErr result (FailsOnce (R.state source.old) (R.state source.new)) }
     {
         let most = len.min(self.left);
         let count = source.skip(self.piece.as_mut_slice(), most)?;
@@ -120,14 +112,14 @@ impl Intake {
     /// no memory.
     #[tactic(auto, using(crate::proofs::IntakeLemmas::filling_steps))]
     pub fn fill<R: Source>(&mut self, source: &mut R, piece: &mut [u8]) -> io::Result<usize>
-        ensures ok { IfOk result (λ count. Takes (R.remaining source.old) (R.remaining source.new)
-            self.old self.new (take count piece.new)) }
+        ensures ok { IfOk result (λ count. Takes
+            (supply (R.state source.old) self.old) (supply (R.state source.new) self.new)
+            (take count piece.new)) }
         ensures within { IfOk result (λ count. count ≤ length piece.new) }
         ensures ends { IfOk result (λ count. count < length piece.new
-            → IsSpent (R.remaining source.new) self.new) }
+            → IsSpent (supply (R.state source.new) self.new)) }
         ensures size { length piece.new ≡ length piece.old }
-        ensures quiet { OnOk result (R.failures source.new ≡ R.failures source.old) }
-        ensures failed { OnErr result (R.failures source.new ≡ R.failures source.old + 1) }
+        ensures err { OnErr result (FailsOnce (R.state source.old) (R.state source.new)) }
     {
         let most = piece.len().min(self.left);
         let (room, _) = piece.split_at_mut(most);
@@ -139,10 +131,10 @@ impl Intake {
     /// Drops what may still be taken, and says whether the source has more than that.
     #[tactic(auto, using(crate::proofs::IntakeLemmas::intake_steps))]
     pub fn overruns<R: Source>(mut self, source: &mut R) -> io::Result<bool>
-        ensures more { IfOk result (λ more. IfSome (R.remaining source.old)
+        ensures more { IfOk result (λ more. IfSome (R.state source.old).remaining
             (λ bytes. IsTrue more ↔ (self < length bytes))) }
-        ensures quiet { OnOk result (R.failures source.new ≡ R.failures source.old) }
-        ensures failed { OnErr result (R.failures source.new ≡ R.failures source.old + 1) }
+        ensures quiet { OnOk result (StaysQuiet (R.state source.old) (R.state source.new)) }
+        ensures err { OnErr result (FailsOnce (R.state source.old) (R.state source.new)) }
     {
         let piece = self.piece.as_mut_slice();
         let count = source.skip(piece, self.left)?;
@@ -157,10 +149,10 @@ impl Intake {
 #[tactic(auto, using(crate::proofs::IntakeLemmas::intake_steps))]
 fn has_more<R: Source>(source: &mut R, piece: &mut [u8]) -> io::Result<bool>
     requires { 0 < length piece.old }
-    ensures ok { IfOk result (λ more. IfSome (R.remaining source.old)
+    ensures ok { IfOk result (λ more. IfSome (R.state source.old).remaining
         (λ bytes. IsTrue more ↔ (0 < length bytes))) }
-    ensures quiet { OnOk result (R.failures source.new ≡ R.failures source.old) }
-    ensures failed { OnErr result (R.failures source.new ≡ R.failures source.old + 1) }
+    ensures quiet { OnOk result (StaysQuiet (R.state source.old) (R.state source.new)) }
+    ensures err { OnErr result (FailsOnce (R.state source.old) (R.state source.new)) }
 {
     let n = source.read(piece)?;
     Ok(n > 0)
@@ -170,14 +162,13 @@ fn has_more<R: Source>(source: &mut R, piece: &mut [u8]) -> io::Result<bool>
 // it has.
 #[tactic(auto, using(crate::proofs::IntakeLemmas::filling_steps))]
 fn fill_from<R: Source>(source: &mut R, piece: &mut [u8]) -> io::Result<usize>
-    ensures ok { IfOk result (λ count. Consumes (R.remaining source.old) (R.remaining source.new)
-        (take count piece.new)) }
+    ensures ok { IfOk result (λ count. Reads (take count piece.new)
+        (R.state source.old) (R.state source.new)) }
     ensures within { IfOk result (λ count. count ≤ length piece.new) }
     ensures ends { IfOk result (λ count. count < length piece.new
-        → IsAtEnd (R.remaining source.new)) }
+        → IsAtEnd (R.state source.new).remaining) }
     ensures size { length piece.new ≡ length piece.old }
-    ensures quiet { OnOk result (R.failures source.new ≡ R.failures source.old) }
-    ensures failed { OnErr result (R.failures source.new ≡ R.failures source.old + 1) }
+    ensures err { OnErr result (FailsOnce (R.state source.old) (R.state source.new)) }
 {
     let mut count = 0;
     while count < piece.len() {
@@ -202,17 +193,13 @@ fn take_after<R: Source>(
 ) -> Result<Vec<u8>, ReadFault>
     requires wide { 0 < length piece.old }
     requires within { length before.items ≤ len }
-    ensures ok { IfOk result (λ bytes. ConsumesAfter before.items
-        (R.remaining source.old) (R.remaining source.new) bytes.items) }
+    ensures ok { IfOk result (λ bytes. ReadsAfter before.items
+        (R.state source.old) (R.state source.new) bytes.items) }
     ensures within { IfOk result (λ bytes. length bytes.items ≤ len) }
     ensures ends { IfOk result (λ bytes. length bytes.items < len
-        → IsAtEnd (R.remaining source.new)) }
+        → IsAtEnd (R.state source.new).remaining) }
     ensures size { length piece.new ≡ length piece.old }
-    ensures quiet { OnOk result (R.failures source.new ≡ R.failures source.old) }
-    ensures failed { IsErrOf result ReadFault.Failed
-        → R.failures source.new ≡ R.failures source.old + 1 }
-    ensures memory { IsErrOf result ReadFault.Memory
-        → R.failures source.new ≡ R.failures source.old }
+    ensures err { IfErr result (TakingStops (R.state source.old) (R.state source.new)) }
 {
     let mut bytes = before;
     while bytes.len() < len {

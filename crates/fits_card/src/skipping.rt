@@ -1,7 +1,8 @@
 //! Bytes of a source that nothing is kept of.
-ghost use Rattle.std.specs.Prelude.{◌≡◌, ◌+◌, ◌<◌, ◌≤◌, length, IfOk, OnOk, OnErr};
+ghost use Rattle.std.specs.Prelude.{◌≡◌, ◌<◌, ◌≤◌, length, IfOk, OnErr};
 ghost use Rattle.std.specs.Io.KnownBytes.{IsAtEnd};
 ghost use Rattle.fits_card.specs.Intake.{Skips};
+ghost use Rattle.fits_card.specs.Stream.{FailsOnce};
 
 use crate::source::Source;
 use std::io;
@@ -14,13 +15,11 @@ pub(crate) fn skip_by_reading<R: Source>(
     len: usize,
 ) -> io::Result<usize>
     requires { 0 < length piece.old }
-    ensures ok { IfOk result (λ count. Skips (R.remaining source.old) (R.remaining source.new)
-        count) }
+    ensures ok { IfOk result (Skips (R.state source.old) (R.state source.new)) }
     ensures within { IfOk result (λ count. count ≤ len) }
-    ensures ends { IfOk result (λ count. count < len → IsAtEnd (R.remaining source.new)) }
+    ensures ends { IfOk result (λ count. count < len → IsAtEnd (R.state source.new).remaining) }
     ensures size { length piece.new ≡ length piece.old }
-    ensures quiet { OnOk result (R.failures source.new ≡ R.failures source.old) }
-    ensures failed { OnErr result (R.failures source.new ≡ R.failures source.old + 1) }
+    ensures err { OnErr result (FailsOnce (R.state source.old) (R.state source.new)) }
 {
     let mut count = 0;
     while count < len {

@@ -1,36 +1,35 @@
-ghost use Rattle.std.specs.Prelude.{◌≡◌, ◌+◌, ◌<◌, ◌≤◌, ℕ, List, Option, length, IfOk, OnOk, OnErr};
+ghost use Rattle.std.specs.Prelude.{◌≡◌, ◌<◌, ◌≤◌, length, take, IfOk, OnErr};
 ghost use Rattle.std.specs.Io.{ReadsAtMost};
-ghost use Rattle.std.specs.Io.KnownBytes.{ReadConsumes, IsAtEnd};
+ghost use Rattle.std.specs.Io.KnownBytes.{IsAtEnd};
 ghost use Rattle.fits_card.specs.Intake.{Skips};
-ghost use Rattle.fits_card.specs.Stream.{read_faults};
+ghost use Rattle.fits_card.specs.Stream.{SourceState, FailsOnce, FailsToRead, Reads};
 
 use crate::skipping::skip_by_reading;
 use std::io;
 
 /// What bytes come from. As std's `Read`, with a count of its failed calls.
 pub trait Source {
-    /// The bytes that it has left, where it tells them.
-    ghost remaining: { Self → Option (List ℕ) };
-
-    /// How many calls have failed.
-    ghost failures: { Self → ℕ };
+    /// What it has left, and its failed calls.
+    ghost state: { Self → SourceState };
 
     /// Fills a prefix of the buffer, and says how many bytes it has. 0 is the end.
     fn read(&mut self, buffer: &mut [u8]) -> io::Result<usize>
         ensures bound { ReadsAtMost result buffer.new }
-        ensures bytes { ReadConsumes (remaining self.old) (remaining self.new) result buffer.new }
-        ensures failed { failures self.new ≡ failures self.old + read_faults result };
+        ensures ok { IfOk result (λ count. Reads (take count buffer.new)
+            (state self.old) (state self.new)) }
+        ensures ends { IfOk result (λ count. count ≡ 0 → 0 < length buffer.new
+            → IsAtEnd (state self.new).remaining) }
+        ensures err { OnErr result (FailsToRead (state self.old) (state self.new)) };
 
     /// Goes past the next bytes, so many or as many as there are, and says how many. The buffer may
     /// be written over.
     final fn skip(&mut self, buffer: &mut [u8], len: usize) -> io::Result<usize>
         requires { 0 < length buffer.old }
-        ensures ok { IfOk result (λ count. Skips (remaining self.old) (remaining self.new) count) }
+        ensures ok { IfOk result (Skips (state self.old) (state self.new)) }
         ensures within { IfOk result (λ count. count ≤ len) }
-        ensures ends { IfOk result (λ count. count < len → IsAtEnd (remaining self.new)) }
+        ensures ends { IfOk result (λ count. count < len → IsAtEnd (state self.new).remaining) }
         ensures size { length buffer.new ≡ length buffer.old }
-        ensures quiet { OnOk result (failures self.new ≡ failures self.old) }
-        ensures failed { OnErr result (failures self.new ≡ failures self.old + 1) }
+        ensures err { OnErr result (FailsOnce (state self.old) (state self.new)) }
     {
         skip_by_reading(self, buffer, len)
     }

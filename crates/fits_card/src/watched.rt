@@ -52,9 +52,7 @@ impl<S> Watched<S> {
 }
 
 impl<R: Read> Source for Watched<R> {
-    ghost remaining = { λ it. R.remaining it.stream };
-
-    ghost failures = { λ it. it.failures };
+    ghost state = { λ it. record { remaining = R.remaining it.stream; failures = it.failures } };
 
     fn read(&mut self, buffer: &mut [u8]) -> io::Result<usize> {
         match self.stream.read(buffer) {
@@ -68,11 +66,11 @@ impl<R: Read> Source for Watched<R> {
 }
 
 impl<W: Write> Sink for Watched<W> {
-    ghost contents = { λ it. W.contents it.stream };
-
-    ghost failures = { λ it. it.failures };
-
-    ghost unflushed = { λ it. it.unflushed };
+    ghost state = { λ it. record {
+      contents = W.contents it.stream;
+      failures = it.failures;
+      unflushed = it.unflushed;
+    } };
 
     fn write(&mut self, piece: &[u8]) -> io::Result<usize> {
         self.unflushed.tick();

@@ -1,7 +1,6 @@
 //! Writing all of a piece.
-ghost use Rattle.std.specs.Prelude.{◌≡◌, ◌+◌, OnOk, OnErr};
-ghost use Rattle.std.specs.Io.KnownBytes.{Appends};
-ghost use Rattle.fits_card.specs.Stream.{AppendsFront};
+ghost use Rattle.std.specs.Prelude.{OnOk, OnErr};
+ghost use Rattle.fits_card.specs.Stream.{Prints, PrintsFront};
 
 use crate::sink::Sink;
 use std::io;
@@ -10,13 +9,8 @@ use std::io::ErrorKind;
 /// Writes all the bytes, in as many calls as it takes. No failed call is tried again.
 #[tactic(auto, using(crate::proofs::StreamLemmas::writing_steps))]
 pub fn write_all<W: Sink>(sink: &mut W, bytes: &[u8]) -> io::Result<()>
-    ensures ok { OnOk result (Appends (W.contents sink.old) (W.contents sink.new) bytes.now) }
-    ensures err { OnErr result
-        (AppendsFront (W.contents sink.old) (W.contents sink.new) bytes.now) }
-
-    // It fails exactly where a call did, and ends there.
-    ensures quiet { OnOk result (W.failures sink.new ≡ W.failures sink.old) }
-    ensures failed { OnErr result (W.failures sink.new ≡ W.failures sink.old + 1) }
+    ensures ok { OnOk result (Prints bytes.now (W.state sink.old) (W.state sink.new)) }
+    ensures err { OnErr result (PrintsFront bytes.now (W.state sink.old) (W.state sink.new)) }
 {
     let mut at = 0;
     while at < bytes.len() {

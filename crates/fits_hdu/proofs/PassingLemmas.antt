@@ -4,7 +4,7 @@ use Rattle.std.specs.Prelude.{Ok, ◌%◌, ◌&&◌}
 use Rattle.std.specs.List.{list_all}
 use Rattle.std.proofs.lemmas.List.{length-append, length-take-le, take_all}
 use Rattle.fits_card.specs.Header.{Header, IsHeader, header_bytes}
-use Rattle.fits_card.specs.Intake.{IsSpent, Takes, TakesAfter}
+use Rattle.fits_card.specs.Intake.{IsSpent, Supply, Takes, TakesAfter}
 use Rattle.fits_card.proofs.HeaderLemmas.{fill_length-by_cards, length-header_bytes}
 use Rattle.fits_card.proofs.SightLemmas.{takes_more, takes_none}
 use Rattle.fits_rules.specs.Class.{is_primary}
@@ -34,10 +34,10 @@ use Rattle.fits_hdu.proofs.ReadingLemmas.{hdu_taken, hdu_whole, stops_by_unit, s
 use Rattle.fits_hdu.proofs.UnitLemmas.{filled-append}
 
 -- nothing is summed yet
-pub summed_none : (used fill : ℕ) (a : Option (List ℕ)) (left : ℕ) (sums : UnitSums) → sums ≡ record { count = 0; total = 0; filled = true } → TakesSummed used fill a a left left sums
-summed_none used fill a left sums is = record {
+pub summed_none : (used fill : ℕ) (a : Supply) (sums : UnitSums) → sums ≡ record { count = 0; total = 0; filled = true } → TakesSummed used fill a a sums
+summed_none used fill a sums is = record {
   bytes = [];
-  taken = takes_none a left;
+  taken = takes_none a;
   summed = record {
     count = ap (λ s. s.count) is;
     total = ap (λ s. s.total) is;
@@ -55,21 +55,21 @@ sums_more used fill bytes room sums sums' p words count total filled = record {
 }
 
 -- a piece more is summed
-pub summed_more : (used fill : ℕ) (a b c : Option (List ℕ)) (left left' left'' n : ℕ) (room : List ℕ) (sums sums' : UnitSums) → TakesSummed used fill a b left left' sums → Takes b c left' left'' (take n room) → length room ≤ n
+pub summed_more : (used fill : ℕ) (a b c : Supply) (n : ℕ) (room : List ℕ) (sums sums' : UnitSums) → TakesSummed used fill a b sums → Takes b c (take n room) → length room ≤ n
     → sums.count % 4 ≡ 0 → sums'.count ≡ sums.count + length room → sums'.total ≡ sums.total + word_total room
-    → sums'.filled ≡ (sums.filled && list_all (nat_eq fill) (drop (used - sums.count) room)) → TakesSummed used fill a c left left'' sums'
-summed_more used fill a b c left left' left'' n room sums sums' p q le words count total filled = record {
+    → sums'.filled ≡ (sums.filled && list_all (nat_eq fill) (drop (used - sums.count) room)) → TakesSummed used fill a c sums'
+summed_more used fill a b c n room sums sums' p q le words count total filled = record {
   bytes = p.bytes ++ room;
-  taken = takes_more a b c left left' left'' p.bytes room p.taken (rw (take_all n room le) at q);
+  taken = takes_more a b c p.bytes room p.taken (rw (take_all n room le) at q);
   summed = sums_more used fill p.bytes room sums sums' p.summed words count total filled;
 }
 
 -- the source ended within a piece
-pub takes_fewer : (used fill : ℕ) (a b c : Option (List ℕ)) (left left' left'' n len : ℕ) (room : List ℕ) (sums : UnitSums) → TakesSummed used fill a b left left' sums → Takes b c left' left'' (take n room) → n < length room → IsSpent c left''
-    → sums.count + length room ≤ len → TakesFewer a c left left'' len
-takes_fewer used fill a b c left left' left'' n len room sums p q short spent le = record {
+pub takes_fewer : (used fill : ℕ) (a b c : Supply) (n len : ℕ) (room : List ℕ) (sums : UnitSums) → TakesSummed used fill a b sums → Takes b c (take n room) → n < length room → IsSpent c
+    → sums.count + length room ≤ len → TakesFewer a c len
+takes_fewer used fill a b c n len room sums p q short spent le = record {
   bytes = p.bytes ++ take n room;
-  taken = takes_more a b c left left' left'' p.bytes (take n room) p.taken q;
+  taken = takes_more a b c p.bytes (take n room) p.taken q;
   short = omega (arith, short, le, p.summed.count, length-append p.bytes (take n room), length-take-le n room (omega (arith, short)));
   spent = spent;
 }
@@ -82,11 +82,11 @@ unfolding data_length
 unit_words shape = omega arith
 
 -- an HDU whose data unit was summed
-pub hdu_summed : (primary : Bool) (before : List ℕ) (a b c : Option (List ℕ)) (left left' left'' len used fill : ℕ) (header : Header) (shape : Shape) (sums : UnitSums) → TakesAfter before a b left left' (header_bytes header) → IsHeader header → shape_of primary header.cards ≡ Ok shape
-    → TakesSummed used fill b c left' left'' sums → sums.count ≡ len → len ≡ data_length shape → used ≡ data_size shape → fill ≡ fill_byte shape.class → is_primary shape.class ≡ primary
-    → TakesHdu (λ hdu. IsSummed hdu header shape sums) primary before a c left left''
+pub hdu_summed : (primary : Bool) (before : List ℕ) (a b c : Supply) (len used fill : ℕ) (header : Header) (shape : Shape) (sums : UnitSums) → TakesAfter before a b (header_bytes header) → IsHeader header → shape_of primary header.cards ≡ Ok shape
+    → TakesSummed used fill b c sums → sums.count ≡ len → len ≡ data_length shape → used ≡ data_size shape → fill ≡ fill_byte shape.class → is_primary shape.class ≡ primary
+    → TakesHdu (λ hdu. IsSummed hdu header shape sums) primary before a c
 unfolding is_filled
-hdu_summed primary before a b c left left' left'' len used fill header shape sums p whole described q count unit data_is fill_is class = record {
+hdu_summed primary before a b c len used fill header shape sums p whole described q count unit data_is fill_is class = record {
   hdu = record { header = header; data_unit = q.bytes };
   kept = record {
     passed = record { same = refl; described = rw class described; unit = q.summed.count };
@@ -94,14 +94,14 @@ hdu_summed primary before a b c left left' left'' len used fill header shape sum
     filled = rw (data_is, fill_is) at q.summed.filled;
   };
   whole = hdu_whole primary header shape q.bytes whole described (sym q.summed.count ∙ (count ∙ unit));
-  taken = hdu_taken before a b c left left' left'' header q.bytes p q.taken;
+  taken = hdu_taken before a b c header q.bytes p q.taken;
 }
 
 -- the data unit that passed by is too short
-pub stops_summed : (primary : Bool) (before : List ℕ) (a b c : Option (List ℕ)) (left left' left'' len f g : ℕ) (header : Header) (shape : Shape) → TakesAfter before a b left left' (header_bytes header) → IsHeader header → shape_of primary header.cards ≡ Ok shape
-    → (q : TakesFewer b c left' left'' len) → len ≡ data_length shape → g ≡ f → HduStops primary before a c left left'' f g (Hdu ShortData)
-stops_summed primary before a b c left left' left'' len f g header shape p whole described q unit r =
-    stops_near primary before a b c left left' left'' f g header shape q.bytes p whole described q.taken q.spent (omega (arith, q.short, unit)) r
+pub stops_summed : (primary : Bool) (before : List ℕ) (a b c : Supply) (len : ℕ) (header : Header) (shape : Shape) → TakesAfter before a b (header_bytes header) → IsHeader header → shape_of primary header.cards ≡ Ok shape
+    → (q : TakesFewer b c len) → len ≡ data_length shape → HduStops primary before a c (Hdu ShortData)
+stops_summed primary before a b c len header shape p whole described q unit =
+    stops_near primary before a b c header shape q.bytes p whole described q.taken q.spent (omega (arith, q.short, unit))
 
 pub ruleset summed_steps = (shape_primary, unit_words, hdu_summed, stops_summed, stops_by_unit)
 
@@ -146,10 +146,10 @@ summed_findings primary codes found name header shape sums hdu is cards called w
 }
 
 -- they are kept of it
-pub findings_summed : (primary : Bool) (before : List ℕ) (a b : Option (List ℕ)) (left left' : ℕ) (codes : List Code) (found : List Finding) (name : Option ExtensionName) (header : Header) (shape : Shape) (sums : UnitSums)
-    → TakesHdu (λ hdu. IsSummed hdu header shape sums) primary before a b left left' → codes ≡ codes_by shape header sums → found ≡ card_findings shape header.cards → name ≡ extension_name (is_primary shape.class) header.cards
-    → TakesHdu (AreFindings codes found name) primary before a b left left'
-findings_summed primary before a b left left' codes found name header shape sums p is cards called = record {
+pub findings_summed : (primary : Bool) (before : List ℕ) (a b : Supply) (codes : List Code) (found : List Finding) (name : Option ExtensionName) (header : Header) (shape : Shape) (sums : UnitSums)
+    → TakesHdu (λ hdu. IsSummed hdu header shape sums) primary before a b → codes ≡ codes_by shape header sums → found ≡ card_findings shape header.cards → name ≡ extension_name (is_primary shape.class) header.cards
+    → TakesHdu (AreFindings codes found name) primary before a b
+findings_summed primary before a b codes found name header shape sums p is cards called = record {
   hdu = p.hdu;
   kept = summed_findings primary codes found name header shape sums p.hdu is cards called p.whole p.kept;
   whole = p.whole;
@@ -157,10 +157,10 @@ findings_summed primary before a b left left' codes found name header shape sums
 }
 
 -- and so are its sum and its verdicts
-pub sums_summed : (primary : Bool) (before : List ℕ) (a b : Option (List ℕ)) (left left' : ℕ) (datasum : ℕ) (verdicts : Verdicts) (header : Header) (shape : Shape) (sums : UnitSums) → TakesHdu (λ hdu. IsSummed hdu header shape sums) primary before a b left left'
-    → datasum ≡ ones_complement sums.total → verdicts ≡ verdicts_of_sums header sums → TakesHdu (AreSumsOf datasum verdicts) primary before a b left left'
+pub sums_summed : (primary : Bool) (before : List ℕ) (a b : Supply) (datasum : ℕ) (verdicts : Verdicts) (header : Header) (shape : Shape) (sums : UnitSums) → TakesHdu (λ hdu. IsSummed hdu header shape sums) primary before a b
+    → datasum ≡ ones_complement sums.total → verdicts ≡ verdicts_of_sums header sums → TakesHdu (AreSumsOf datasum verdicts) primary before a b
 unfolding data_sum
-sums_summed primary before a b left left' datasum verdicts header shape sums p is are = record {
+sums_summed primary before a b datasum verdicts header shape sums p is are = record {
   hdu = p.hdu;
   kept = record { sum = is ∙ ap ones_complement p.kept.total; right = are ∙ summed_verdicts primary header shape sums p.hdu p.whole p.kept };
   whole = p.whole;

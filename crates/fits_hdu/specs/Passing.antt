@@ -1,8 +1,8 @@
 -- What is summed of a data unit that passes by, of which no more than a piece is held at once (own).
-use Rattle.std.specs.Prelude.{◌≡◌, ℕ, ◌+◌, ◌<◌, nat_eq, drop, List, ◌++◌, length, Option}
+use Rattle.std.specs.Prelude.{◌≡◌, ℕ, ◌+◌, ◌<◌, nat_eq, drop, List, ◌++◌, length}
 use Rattle.std.specs.List.{list_all}
 use Rattle.fits_card.specs.Header.{Header, header_bytes}
-use Rattle.fits_card.specs.Intake.{IsSpent, Takes}
+use Rattle.fits_card.specs.Intake.{IsSpent, Supply, Takes}
 use Rattle.fits_rules.specs.declared.array_shape.Shape.{Shape}
 use Rattle.fits_sum.specs.OnesComplement.{ones_complement}
 use Rattle.fits_sum.specs.Words.{word_total}
@@ -22,17 +22,17 @@ pub record AreSums (used fill : ℕ) (bytes : List ℕ) (sums : UnitSums) : Type
   pub filled : sums.filled ≡ list_all (nat_eq fill) (drop used bytes)
 
 -- bytes were taken, and these are their sums
-pub record TakesSummed (used fill : ℕ) (old new : Option (List ℕ)) (left left' : ℕ) (sums : UnitSums) : Type 0 where
+pub record TakesSummed (used fill : ℕ) (old new : Supply) (sums : UnitSums) : Type 0 where
   pub bytes : List ℕ
-  pub taken : Takes old new left left' bytes
+  pub taken : Takes old new bytes
   pub summed : AreSums used fill bytes sums
 
 -- fewer bytes than these were taken, and no more are left
-pub record TakesFewer (old new : Option (List ℕ)) (left left' : ℕ) (len : ℕ) : Type 0 where
+pub record TakesFewer (old new : Supply) (len : ℕ) : Type 0 where
   pub bytes : List ℕ
-  pub taken : Takes old new left left' bytes
+  pub taken : Takes old new bytes
   pub short : length bytes < len
-  pub spent : IsSpent new left'
+  pub spent : IsSpent new
 
 -- of an HDU that passed by its header is known, the shape that its cards describe, the total of its data unit, and whether the data fill is what it should be
 pub record IsSummed (hdu : HduParts) (header : Header) (shape : Shape) (sums : UnitSums) : Type 0 where

@@ -1,7 +1,8 @@
 -- How an HDU is read from a source, whatever is kept of it (own).
-use Rattle.std.specs.Prelude.{◌≡◌, ℕ, ◌+◌, Bool, List, ◌++◌, length, Ok, Option}
+use Rattle.std.specs.Prelude.{◌≡◌, ℕ, Bool, List, ◌++◌, length, Ok}
 use Rattle.fits_card.specs.Header.{Header, header_bytes}
-use Rattle.fits_card.specs.Intake.{Finds, TakesAfter}
+use Rattle.fits_card.specs.Intake.{Supply, Finds, TakesAfter}
+use Rattle.fits_card.specs.Stream.{FailsOnce, StaysQuiet}
 use Rattle.fits_card.specs.declared.header_reading.ReadHeaderFault.{ReadHeaderFault}
 use Rattle.fits_card.specs.declared.header_reading.ReadHeaderFault.TheVariants as header
 use Rattle.fits_card.specs.declared.reading.ReadFault.{ReadFault}
@@ -33,18 +34,17 @@ of_read read.Memory = Hdu Memory
 of_read read.Failed = Failed
 
 -- after bytes that had been taken before no HDU comes, for this fault; or memory was refused; or a call failed
-abbrev pub HduStops : Bool → List ℕ → Option (List ℕ) → Option (List ℕ) → ℕ → ℕ → ℕ → ℕ → ReadHduFault → Type 0
-HduStops primary before old new left left' failures failures' (Hdu Memory) = failures' ≡ failures
-HduStops primary before old new left left' failures failures' (Hdu fault) =
-    Finds old new left left' (λ sight. HasHduFault primary (before ++ sight) fault) × (failures' ≡ failures)
-HduStops primary before old new left left' failures failures' Failed = failures' ≡ failures + 1
+abbrev pub HduStops : Bool → List ℕ → Supply → Supply → ReadHduFault → Type 0
+HduStops primary before old new (Hdu Memory) = StaysQuiet old.source new.source
+HduStops primary before old new (Hdu fault) = Finds old new (λ sight. HasHduFault primary (before ++ sight) fault)
+HduStops primary before old new Failed = FailsOnce old.source new.source
 
 -- an HDU was taken, whose first bytes had been taken before, and of it something is kept
-pub record TakesHdu (keeps : HduParts → Type 0) (primary : Bool) (before : List ℕ) (old new : Option (List ℕ)) (left left' : ℕ) : Type 0 where
+pub record TakesHdu (keeps : HduParts → Type 0) (primary : Bool) (before : List ℕ) (old new : Supply) : Type 0 where
   pub hdu : HduParts
   pub kept : keeps hdu
   pub whole : IsHdu primary hdu
-  pub taken : TakesAfter before old new left left' (hdu_bytes hdu)
+  pub taken : TakesAfter before old new (hdu_bytes hdu)
 
 -- of an HDU that passed by its header is known, the shape that its cards describe, and how long its data unit was
 pub record IsPassed (hdu : HduParts) (header : Header) (shape : Shape) (unit_len : ℕ) : Type 0 where

@@ -2,7 +2,7 @@
 ghost use Rattle.std.specs.Prelude.{◌≡◌, ◌+◌, ◌*◌, ◌^◌, ◌<◌, ◌≤◌, length, Ok, IfOk, IfErr, OnOk};
 ghost use Rattle.fits_card.specs.declared.card_list.TheConstants.{BLOCK_LEN};
 ghost use Rattle.fits_card.specs.Header.{header_bytes, IsHeader};
-ghost use Rattle.fits_card.specs.Intake.{IsSpent, TakesAfter};
+ghost use Rattle.fits_card.specs.Intake.{supply, IsSpent, TakesAfter};
 ghost use Rattle.fits_rules.specs.Shape.{shape_of};
 ghost use Rattle.fits_rules.specs.Size.{data_length};
 ghost use Rattle.fits_rules.specs.Class.{is_primary};
@@ -34,9 +34,10 @@ pub(crate) fn read_described<R: Source>(
     primary: bool,
 ) -> Result<Described, ReadHduFault>
     requires within { length first.items ≤ BLOCK_LEN }
-    requires short { length first.items < BLOCK_LEN → IsSpent (R.remaining source.old) intake.old }
+    requires short { length first.items < BLOCK_LEN
+        → IsSpent (supply (R.state source.old) intake.old) }
     ensures taken { IfOk result (λ head. TakesAfter first.items
-        (R.remaining source.old) (R.remaining source.new) intake.old intake.new
+        (supply (R.state source.old) intake.old) (supply (R.state source.new) intake.new)
         (header_bytes head.cards.header)) }
     ensures whole { IfOk result (λ head. IsHeader head.cards.header) }
     ensures described { IfOk result (λ head. shape_of primary head.cards.header.cards
@@ -45,10 +46,8 @@ pub(crate) fn read_described<R: Source>(
     ensures room { IfOk result (λ head. head.unit_len ≤ intake.new) }
     ensures work { IfOk result (λ head. head.cards.reads
         ≤ 3 * length head.cards.header.cards + 4) }
-    ensures quiet { OnOk result (R.failures source.new ≡ R.failures source.old) }
     ensures err { IfErr result (HduStops primary first.items
-        (R.remaining source.old) (R.remaining source.new) intake.old intake.new
-        (R.failures source.old) (R.failures source.new)) }
+        (supply (R.state source.old) intake.old) (supply (R.state source.new) intake.new)) }
 {
     let mut cards = match read_header(alloc, intake, source, first) {
         Ok(cards) => cards,
@@ -78,19 +77,17 @@ pub(crate) fn read_past<R: Source>(
     primary: bool,
 ) -> Result<Described, ReadHduFault>
     requires within { length first.items ≤ BLOCK_LEN }
-    requires short { length first.items < BLOCK_LEN → IsSpent (R.remaining source.old) intake.old }
+    requires short { length first.items < BLOCK_LEN
+        → IsSpent (supply (R.state source.old) intake.old) }
     requires room { intake.old + length first.items ≤ 2 ^ 34 }
     ensures ok { IfOk result (λ head. TakesHdu
-        (λ hdu. IsPassed hdu head.cards.header head.shape head.unit_len)
-        primary first.items (R.remaining source.old) (R.remaining source.new)
-        intake.old intake.new) }
+        (λ hdu. IsPassed hdu head.cards.header head.shape head.unit_len) primary first.items
+        (supply (R.state source.old) intake.old) (supply (R.state source.new) intake.new)) }
     ensures described { IfOk result (λ head. shape_of (is_primary head.shape.class)
         head.cards.header.cards ≡ Ok head.shape) }
     ensures small { IfOk result (λ head. length (header_bytes head.cards.header) ≤ 2 ^ 34) }
-    ensures quiet { OnOk result (R.failures source.new ≡ R.failures source.old) }
     ensures err { IfErr result (HduStops primary first.items
-        (R.remaining source.old) (R.remaining source.new) intake.old intake.new
-        (R.failures source.old) (R.failures source.new)) }
+        (supply (R.state source.old) intake.old) (supply (R.state source.new) intake.new)) }
 {
     let head = read_described(alloc, intake, source, first, primary)?;
     let Ok(data_len) = intake.skip(source, head.unit_len) else {

@@ -34,7 +34,7 @@ pub struct Findings {
 impl Findings {
     ghost use Rattle.std.specs.Prelude.{◌≡◌, ◌+◌, ◌<◌, ◌≤◌, ◌^◌, length, IfOk, IfErr, OnOk};
     ghost use Rattle.fits_card.specs.declared.card_list.TheConstants.{BLOCK_LEN};
-    ghost use Rattle.fits_card.specs.Intake.{IsSpent};
+    ghost use Rattle.fits_card.specs.Intake.{supply, IsSpent};
     ghost use Rattle.fits_hdu.specs.Findings.{AreFindings};
     ghost use Rattle.fits_hdu.specs.Reading.{HduStops, TakesHdu};
 
@@ -49,15 +49,13 @@ impl Findings {
     ) -> Result<Findings, ReadHduFault>
         requires within { length first.items ≤ BLOCK_LEN }
         requires short { length first.items < BLOCK_LEN
-            → IsSpent (R.remaining source.old) intake.old }
+            → IsSpent (supply (R.state source.old) intake.old) }
         requires room { intake.old + length first.items ≤ 2 ^ 34 }
         ensures ok { IfOk result (λ it. TakesHdu (AreFindings it.whole it.of_cards.items it.name)
-            primary first.items (R.remaining source.old) (R.remaining source.new)
-            intake.old intake.new) }
-        ensures quiet { OnOk result (R.failures source.new ≡ R.failures source.old) }
+            primary first.items
+            (supply (R.state source.old) intake.old) (supply (R.state source.new) intake.new)) }
         ensures err { IfErr result (HduStops primary first.items
-            (R.remaining source.old) (R.remaining source.new) intake.old intake.new
-            (R.failures source.old) (R.failures source.new)) }
+            (supply (R.state source.old) intake.old) (supply (R.state source.new) intake.new)) }
     {
         let Summed { head, sums } = read_summed(alloc, intake, source, first, primary)?;
         match findings_of(alloc, head, sums) {

@@ -78,13 +78,12 @@ impl Model for Hdu {
 
 impl Hdu {
     ghost use Rattle.std.specs.Prelude.{◌≡◌, ◌+◌, ◌^◌, ◌≤◌, ◌<◌, true, length, take, drop, All, Ok, IsOk, IfOk, IfErr, IsErrOf, OnOk, OnErr, IsTrue};
-    ghost use Rattle.std.specs.Io.KnownBytes.{Appends};
     ghost use Rattle.fits_card.specs.Card.{IsEnd};
     ghost use Rattle.fits_card.specs.Change.{cards_after, new_cards, IsInRange};
     ghost use Rattle.fits_card.specs.declared.card_list.TheConstants.{BLOCK_LEN};
     ghost use Rattle.fits_card.specs.Header.{HasNoHeader, header_bytes};
-    ghost use Rattle.fits_card.specs.Intake.{IsSpent, TakesAfter};
-    ghost use Rattle.fits_card.specs.Stream.{AppendsFront};
+    ghost use Rattle.fits_card.specs.Intake.{supply, IsSpent, TakesAfter};
+    ghost use Rattle.fits_card.specs.Stream.{Prints, PrintsFront};
     ghost use Rattle.fits_header.specs.Names.{header_names};
     ghost use Rattle.fits_header.specs.Places.{keyword_places};
     ghost use Rattle.fits_header.specs.Work.{shape_reads};
@@ -223,19 +222,17 @@ impl Hdu {
     ) -> Result<Hdu, ReadHduFault>
         requires within { length first.items ≤ BLOCK_LEN }
         requires short { length first.items < BLOCK_LEN
-            → IsSpent (R.remaining source.old) intake.old }
+            → IsSpent (supply (R.state source.old) intake.old) }
         requires room { intake.old + length first.items ≤ 2 ^ 34 }
         ensures taken { IfOk result (λ hdu. TakesAfter first.items
-            (R.remaining source.old) (R.remaining source.new) intake.old intake.new
+            (supply (R.state source.old) intake.old) (supply (R.state source.new) intake.new)
             (hdu_bytes hdu.hdu)) }
         ensures whole { IfOk result (λ hdu. IsHdu primary hdu.hdu) }
         ensures work { IfOk result (λ hdu. hdu.reads ≤ open_reads hdu.hdu.header.cards) }
         ensures scans { IfOk result (λ hdu. IsScanned (block_count hdu.hdu.data_unit)
             hdu.pixel_work) }
-        ensures quiet { OnOk result (R.failures source.new ≡ R.failures source.old) }
         ensures err { IfErr result (HduStops primary first.items
-            (R.remaining source.old) (R.remaining source.new) intake.old intake.new
-            (R.failures source.old) (R.failures source.new)) }
+            (supply (R.state source.old) intake.old) (supply (R.state source.new) intake.new)) }
     {
         let Described {
             cards,
@@ -421,14 +418,10 @@ impl Hdu {
     /// Where a call fails a prefix was written.
     #[tactic(auto, using(crate::proofs::EmitLemmas::emit_steps))]
     pub fn emit<W: Sink>(&mut self, sink: &mut W) -> io::Result<()>
-        ensures ok { OnOk result (Appends (W.contents sink.old) (W.contents sink.new)
-            (hdu_bytes self.old.hdu)) }
-        ensures err { OnErr result (AppendsFront (W.contents sink.old) (W.contents sink.new)
-            (hdu_bytes self.old.hdu)) }
-
-        // It fails exactly where a call did.
-        ensures quiet { OnOk result (W.failures sink.new ≡ W.failures sink.old) }
-        ensures failed { OnErr result (W.failures sink.new ≡ W.failures sink.old + 1) }
+        ensures ok { OnOk result (Prints (hdu_bytes self.old.hdu)
+            (W.state sink.old) (W.state sink.new)) }
+        ensures err { OnErr result (PrintsFront (hdu_bytes self.old.hdu)
+            (W.state sink.old) (W.state sink.new)) }
 
         // The HDU stays, and each card is read once at most.
         ensures work { ReadsUpTo self.old self.new (length self.old.hdu.header.cards) }

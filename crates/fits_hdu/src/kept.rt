@@ -1,6 +1,6 @@
 ghost use Rattle.std.specs.Prelude.{◌≡◌, ◌+◌, ◌<◌, ◌≤◌, ◌^◌, length, IfOk, IfErr, OnOk};
 ghost use Rattle.fits_card.specs.declared.card_list.TheConstants.{BLOCK_LEN};
-ghost use Rattle.fits_card.specs.Intake.{IsSpent};
+ghost use Rattle.fits_card.specs.Intake.{supply, IsSpent};
 ghost use Rattle.fits_hdu.specs.Hdu.{HduParts};
 ghost use Rattle.fits_hdu.specs.Reading.{HduStops, TakesHdu};
 
@@ -27,14 +27,12 @@ pub trait Kept {
     ) -> Result<Self, ReadHduFault>
         requires within { length first.items ≤ BLOCK_LEN }
         requires short { length first.items < BLOCK_LEN
-            → IsSpent (R.remaining source.old) intake.old }
+            → IsSpent (supply (R.state source.old) intake.old) }
         requires room { intake.old + length first.items ≤ 2 ^ 34 }
         ensures ok { IfOk result (λ kept. TakesHdu (keeps kept) primary first.items
-            (R.remaining source.old) (R.remaining source.new) intake.old intake.new) }
-        ensures quiet { OnOk result (R.failures source.new ≡ R.failures source.old) }
+            (supply (R.state source.old) intake.old) (supply (R.state source.new) intake.new)) }
         ensures err { IfErr result (HduStops primary first.items
-            (R.remaining source.old) (R.remaining source.new) intake.old intake.new
-            (R.failures source.old) (R.failures source.new)) };
+            (supply (R.state source.old) intake.old) (supply (R.state source.new) intake.new)) };
 }
 
 /// All of it is kept.

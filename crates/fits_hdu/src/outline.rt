@@ -21,7 +21,7 @@ pub struct Outline {
 impl Outline {
     ghost use Rattle.std.specs.Prelude.{◌≡◌, ◌+◌, ◌<◌, ◌≤◌, ◌^◌, length, IfOk, IfErr, OnOk};
     ghost use Rattle.fits_card.specs.declared.card_list.TheConstants.{BLOCK_LEN};
-    ghost use Rattle.fits_card.specs.Intake.{IsSpent};
+    ghost use Rattle.fits_card.specs.Intake.{supply, IsSpent};
     ghost use Rattle.fits_hdu.specs.Reading.{HduStops, IsOutlined, TakesHdu};
 
     /// The outline of the HDU that comes next in a source, as `Hdu::read`. Its data unit is
@@ -36,16 +36,14 @@ impl Outline {
     ) -> Result<Outline, ReadHduFault>
         requires within { length first.items ≤ BLOCK_LEN }
         requires short { length first.items < BLOCK_LEN
-            → IsSpent (R.remaining source.old) intake.old }
+            → IsSpent (supply (R.state source.old) intake.old) }
         requires room { intake.old + length first.items ≤ 2 ^ 34 }
         ensures ok { IfOk result (λ it. TakesHdu
             (λ hdu. IsOutlined hdu it.card_count it.shape it.header_len it.data_len)
-            primary first.items (R.remaining source.old) (R.remaining source.new)
-            intake.old intake.new) }
-        ensures quiet { OnOk result (R.failures source.new ≡ R.failures source.old) }
+            primary first.items
+            (supply (R.state source.old) intake.old) (supply (R.state source.new) intake.new)) }
         ensures err { IfErr result (HduStops primary first.items
-            (R.remaining source.old) (R.remaining source.new) intake.old intake.new
-            (R.failures source.old) (R.failures source.new)) }
+            (supply (R.state source.old) intake.old) (supply (R.state source.new) intake.new)) }
     {
         let Described {
             cards,

@@ -2,7 +2,8 @@
 ghost use Rattle.std.specs.Prelude.{◌≡◌, ◌+◌, ◌%◌, ◌^◌, ◌<◌, ◌≤◌, length, Ok, IfOk, IfErr, IfSome, IfNone, IsErrOf, OnOk, OnErr};
 ghost use Rattle.fits_card.specs.declared.card_list.TheConstants.{BLOCK_LEN};
 ghost use Rattle.fits_card.specs.Header.{header_bytes};
-ghost use Rattle.fits_card.specs.Intake.{IsSpent};
+ghost use Rattle.fits_card.specs.Intake.{supply, IsSpent, TakingStops};
+ghost use Rattle.fits_card.specs.Stream.{FailsOnce};
 ghost use Rattle.fits_rules.specs.Class.{is_primary};
 ghost use Rattle.fits_rules.specs.Shape.{shape_of};
 ghost use Rattle.fits_rules.specs.Size.{data_length, data_size};
@@ -37,19 +38,17 @@ pub(crate) fn read_summed<R: Source>(
     primary: bool,
 ) -> Result<Summed, ReadHduFault>
     requires within { length first.items ≤ BLOCK_LEN }
-    requires short { length first.items < BLOCK_LEN → IsSpent (R.remaining source.old) intake.old }
+    requires short { length first.items < BLOCK_LEN
+        → IsSpent (supply (R.state source.old) intake.old) }
     requires room { intake.old + length first.items ≤ 2 ^ 34 }
     ensures ok { IfOk result (λ it. TakesHdu
-        (λ hdu. IsSummed hdu it.head.cards.header it.head.shape it.sums)
-        primary first.items (R.remaining source.old) (R.remaining source.new)
-        intake.old intake.new) }
+        (λ hdu. IsSummed hdu it.head.cards.header it.head.shape it.sums) primary first.items
+        (supply (R.state source.old) intake.old) (supply (R.state source.new) intake.new)) }
     ensures described { IfOk result (λ it. shape_of (is_primary it.head.shape.class)
         it.head.cards.header.cards ≡ Ok it.head.shape) }
     ensures small { IfOk result (λ it. length (header_bytes it.head.cards.header) ≤ 2 ^ 34) }
-    ensures quiet { OnOk result (R.failures source.new ≡ R.failures source.old) }
     ensures err { IfErr result (HduStops primary first.items
-        (R.remaining source.old) (R.remaining source.new) intake.old intake.new
-        (R.failures source.old) (R.failures source.new)) }
+        (supply (R.state source.old) intake.old) (supply (R.state source.new) intake.new)) }
 {
     let head = read_described(alloc, intake, source, first, primary)?;
     let used = used_len(&head.shape);
@@ -89,15 +88,11 @@ fn sum_unit<R: Source>(
     requires words { len % 4 ≡ 0 }
     requires room { len ≤ 2 ^ 34 }
     ensures ok { IfOk result (λ it. IfSome it (TakesSummed used fill
-        (R.remaining source.old) (R.remaining source.new) intake.old intake.new)) }
+        (supply (R.state source.old) intake.old) (supply (R.state source.new) intake.new))) }
     ensures count { IfOk result (λ it. IfSome it (λ sums. sums.count ≡ len)) }
     ensures short { IfOk result (λ it. IfNone it (TakesFewer
-        (R.remaining source.old) (R.remaining source.new) intake.old intake.new len)) }
-    ensures quiet { OnOk result (R.failures source.new ≡ R.failures source.old) }
-    ensures failed { IsErrOf result ReadFault.Failed
-        → R.failures source.new ≡ R.failures source.old + 1 }
-    ensures memory { IsErrOf result ReadFault.Memory
-        → R.failures source.new ≡ R.failures source.old }
+        (supply (R.state source.old) intake.old) (supply (R.state source.new) intake.new) len)) }
+    ensures err { IfErr result (TakingStops (R.state source.old) (R.state source.new)) }
 {
     let mut piece = buffer_of(alloc, PIECE_LEN)?;
     match sum_next(intake, source, piece.as_mut_slice(), len, used, fill) {
@@ -121,12 +116,11 @@ fn sum_next<R: Source>(
     requires words { len % 4 ≡ 0 }
     requires room { len ≤ 2 ^ 34 }
     ensures ok { IfOk result (λ it. IfSome it (TakesSummed used fill
-        (R.remaining source.old) (R.remaining source.new) intake.old intake.new)) }
+        (supply (R.state source.old) intake.old) (supply (R.state source.new) intake.new))) }
     ensures count { IfOk result (λ it. IfSome it (λ sums. sums.count ≡ len)) }
     ensures short { IfOk result (λ it. IfNone it (TakesFewer
-        (R.remaining source.old) (R.remaining source.new) intake.old intake.new len)) }
-    ensures quiet { OnOk result (R.failures source.new ≡ R.failures source.old) }
-    ensures failed { OnErr result (R.failures source.new ≡ R.failures source.old + 1) }
+        (supply (R.state source.old) intake.old) (supply (R.state source.new) intake.new) len)) }
+    ensures err { OnErr result (FailsOnce (R.state source.old) (R.state source.new)) }
 {
     let mut sums = UnitSums::none();
     while sums.count < len {

@@ -69,11 +69,10 @@ impl Model for Header {
 
 impl Header {
     ghost use Rattle.std.specs.Prelude.{◌≡◌, ◌≤◌, ◌<◌, ◌+◌, ◌-◌, ◌*◌, ◌/◌, ◌^◌, List, ℕ, Ok, IsOk, IfOk, IfErr, OnOk, OnErr, IsTrue, None, false, length, slice_index_or, All};
-    ghost use Rattle.std.specs.Io.KnownBytes.{Appends};
     ghost use Rattle.fits_card.specs.Card.{IsEnd};
     ghost use Rattle.fits_card.specs.Change.{cards_after, new_cards, IsInRange};
     ghost use Rattle.fits_card.specs.Header.{IsHeader, header_bytes, with_cards};
-    ghost use Rattle.fits_card.specs.Stream.{AppendsFront};
+    ghost use Rattle.fits_card.specs.Stream.{Prints, PrintsFront};
     ghost use Rattle.fits_card.specs.declared.card.TheConstants.{CARD_LEN};
     ghost use Rattle.fits_value.specs.Says.{chain_length, link_count, long_says};
     ghost use Rattle.fits_rules.specs.Class.{is_primary};
@@ -366,14 +365,10 @@ impl Header {
     ///
     /// Where a call fails a prefix was written.
     pub fn emit<W: Sink>(&mut self, sink: &mut W) -> io::Result<()>
-        ensures ok { OnOk result
-            (Appends (W.contents sink.old) (W.contents sink.new) (header_bytes self.old.header)) }
-        ensures err { OnErr result (AppendsFront (W.contents sink.old) (W.contents sink.new)
-            (header_bytes self.old.header)) }
-
-        // It fails exactly where a call did.
-        ensures quiet { OnOk result (W.failures sink.new ≡ W.failures sink.old) }
-        ensures failed { OnErr result (W.failures sink.new ≡ W.failures sink.old + 1) }
+        ensures ok { OnOk result (Prints (header_bytes self.old.header)
+            (W.state sink.old) (W.state sink.new)) }
+        ensures err { OnErr result (PrintsFront (header_bytes self.old.header)
+            (W.state sink.old) (W.state sink.new)) }
 
         // The header stays, and each card is read once at most.
         ensures work { ReadsUpTo self.old self.new (length self.old.header.cards) }

@@ -56,8 +56,7 @@ impl Model for Plane {
 
 impl Plane {
     ghost use Rattle.std.specs.Prelude.{◌≡◌, ◌≤◌, ◌<◌, ◌*◌, ◌+◌, ◌-ℤ◌, ◌^◌, ◌↔◌, ℕ, pos, true, drop, length, replicate, slice_index_or, unsigned_abs, All, IsTrue, IfOk, OnOk, OnErr};
-    ghost use Rattle.std.specs.Io.KnownBytes.{Appends};
-    ghost use Rattle.fits_card.specs.Stream.{AppendsFront};
+    ghost use Rattle.fits_card.specs.Stream.{Prints, PrintsFront};
     ghost use Rattle.fits_sum.specs.Words.{word_total};
     ghost use Rattle.fits_plane.specs.Statistics.{statistics, value_statistics};
     ghost use Rattle.fits_plane.specs.Paint.{has_count, painted_number};
@@ -342,14 +341,9 @@ impl Plane {
 
     /// Writes its bytes, or a prefix of them where a call failed.
     pub fn emit<W: Sink>(&self, sink: &mut W) -> io::Result<()>
-        ensures ok { OnOk result
-            (Appends (W.contents sink.old) (W.contents sink.new) self.now.bytes) }
-        ensures err { OnErr result
-            (AppendsFront (W.contents sink.old) (W.contents sink.new) self.now.bytes) }
-
-        // It fails exactly where a call did.
-        ensures quiet { OnOk result (W.failures sink.new ≡ W.failures sink.old) }
-        ensures failed { OnErr result (W.failures sink.new ≡ W.failures sink.old + 1) }
+        ensures ok { OnOk result (Prints self.now.bytes (W.state sink.old) (W.state sink.new)) }
+        ensures err { OnErr result (PrintsFront self.now.bytes
+            (W.state sink.old) (W.state sink.new)) }
     {
         write_all(sink, self.bytes.as_slice())
     }

@@ -14,11 +14,13 @@ use Rattle.fits_hdu.specs.NewImage.{are_axes, new_image}
 use Rattle.fits_hdu.specs.declared.kind.Kind.{Kind}
 use Rattle.fits_hdu.specs.declared.pixel_fault.PixelFault.{PixelFault}
 use Rattle.fits_hdu.proofs.NewImageLemmas.{new_is_hdu}
+use Rattle.fits_hdu.specs.Pixels.{painted}
+use Rattle.fits_hdu.proofs.PixelLemmas.{painted_hdu}
 use Rattle.fits_hdu.proofs.StampingLemmas.{stamped_is_hdu}
 use Rattle.fits_session.specs.CardEdit.{change_of}
 use Rattle.fits_session.specs.Edit.{hdu_edited, hdu_of, is_primary_hdu, file_after, made_or, with_hdu, with_new_hdu, without_hdu, HasSizes}
 use Rattle.fits_session.specs.File.{FileParts, file_bytes, IsFileOf, IsFile}
-use Rattle.fits_session.specs.HduEdit.{hdu_changed, hdu_made, painted_by, pixels_made, shaped, HasHduSizes}
+use Rattle.fits_session.specs.HduEdit.{hdu_changed, hdu_made, pixels_made, plane_paint, shaped, HasHduSizes}
 use Rattle.fits_session.specs.Limits.{is_within_limits}
 use Rattle.fits_session.specs.declared.limits.TheConstants.{FILE_LIMIT, HDU_LIMIT}
 use Rattle.fits_session.specs.Refusal.{made_refusal, new_image_refusal, refusal_in, refusal_of, removal_refusal, size_refusal}
@@ -33,7 +35,6 @@ use Rattle.fits_session.proofs.ChangeLemmas.{changed_at-same, hdu_is, length-cha
 use Rattle.fits_session.proofs.EditLemmas.{length_changed, other_kept}
 use Rattle.fits_session.proofs.ListEditLemmas.{inserted_is_a_file, new_passes, removed_is_a_file}
 use Rattle.fits_session.proofs.MakingLemmas.{kept_limits, kept_whole, length_cards, limit_none, within_limits}
-use Rattle.fits_session.proofs.PixelEditLemmas.{painted_hdu}
 
 -- a change that is taken keeps the shape
 taken : (kept : Bool) (hdu made : HduParts) → ◌≡◌ {A = Result HduParts Refusal} (if kept then Ok hdu else Err refusal.Shape) (Ok made) → (kept ≡ true) × (hdu ≡ made)
@@ -62,7 +63,7 @@ pub made_whole : (primary : Bool) (edit : HduEdit) (hdu new : HduParts) → HasH
 unfolding hdu_made
 made_whole primary (Cards edit) hdu new sizes whole e = changed_whole primary hdu new (change_of hdu.header.cards edit) whole (λ change made. made_inner hdu.header.cards edit change sizes made) e
 made_whole primary (Pixels lo hi paint) hdu new sizes whole e =
-    shaped_whole primary hdu new (shape_of primary hdu.header.cards) (λ shape. painted_by shape lo hi paint hdu) refl (λ shape described made. (painted_hdu primary shape hdu lo hi paint new whole described made).whole) e
+    shaped_whole primary hdu new (shape_of primary hdu.header.cards) (λ shape. painted shape lo hi (plane_paint paint) hdu) refl (λ shape described made. (painted_hdu primary shape hdu lo hi (plane_paint paint) new whole described made).0) e
 made_whole primary Stamp hdu new sizes whole e = subst (λ (u : HduParts). IsHdu primary u) (let same : stamped hdu ≡ new = cc in same) (stamped_is_hdu primary hdu whole)
 
 -- what is made of an HDU and keeps to the limits leaves a file

@@ -13,39 +13,24 @@ use Rattle.fits_hdu.specs.Layout.{layout_of}
 use Rattle.fits_hdu.specs.State.{HduState, PixelWork}
 use Rattle.fits_hdu.specs.Work.{IsPatched}
 use Rattle.fits_hdu.specs.declared.pixel_fault.PixelFault.{PixelFault}
-use Rattle.fits_hdu.proofs.PixelLemmas.{filled_hdu, written_hdu}
-use Rattle.fits_session.specs.HduEdit.{hdu_made, hdu_painted, painted_by, pixels_made, refusal_of_pixels, shaped}
+use Rattle.fits_hdu.specs.Pixels.{painted}
+use Rattle.fits_hdu.proofs.PixelLemmas.{painted_hdu}
+use Rattle.fits_session.specs.HduEdit.{hdu_made, hdu_painted, pixels_made, plane_paint, refusal_of_pixels, shaped}
 use Rattle.fits_session.specs.Limits.{is_within_limits}
 use Rattle.fits_session.specs.Refusal.{limit_refusal, HduNeedsMemory}
 use Rattle.fits_session.specs.Session.{length_with, within_refusal, HduEditsTo, HduWork, PatchesIn}
 use Rattle.fits_session.specs.declared.hdu_edit.HduEdit.TheVariants.{Pixels}
 use Rattle.fits_session.specs.declared.paint.Paint.{Paint}
-use Rattle.fits_session.specs.declared.paint.Paint.TheVariants.{Fill, Write}
 use Rattle.fits_session.specs.declared.refusal.Refusal.{Refusal}
 use Rattle.fits_session.proofs.MakingLemmas.{makes_not}
 
--- an HDU with other pixels is one, and as long
-pub record IsPixelChange (primary : Bool) (hdu new : HduParts) : Type 0 where
-  pub whole : IsHdu primary new
-  pub header : new.header ≡ hdu.header
-  pub unit : length new.data_unit ≡ length hdu.data_unit
-
--- an HDU with a rectangle painted is such a change
-pub painted_hdu : (primary : Bool) (shape : Shape) (hdu : HduParts) (lo hi : List ℕ) (paint : Paint) (new : HduParts) → IsHdu primary hdu → shape_of primary hdu.header.cards ≡ Ok shape → painted_by shape lo hi paint hdu ≡ Ok new → IsPixelChange primary hdu new
-painted_hdu primary shape hdu lo hi (Fill value) new whole described made =
-    let p = filled_hdu primary shape hdu lo hi value new whole described made in
-    record { whole = p.0; header = p.1; unit = p.2 }
-painted_hdu primary shape hdu lo hi (Write values) new whole described made =
-    let p = written_hdu primary shape hdu lo hi values new whole described made in
-    record { whole = p.0; header = p.1; unit = p.2 }
-
--- it has as many bytes
-pub pixels_long : (primary : Bool) (hdu new : HduParts) → IsPixelChange primary hdu new → length (hdu_bytes new) ≡ length (hdu_bytes hdu)
-pixels_long primary hdu new p = omega (arith, length-append (header_bytes new.header) new.data_unit, length-append (header_bytes hdu.header) hdu.data_unit, ap (λ (h : Header). length (header_bytes h)) p.header, p.unit)
+-- an HDU with a rectangle painted has as many bytes
+pub pixels_long : (hdu new : HduParts) → new.header ≡ hdu.header → length new.data_unit ≡ length hdu.data_unit → length (hdu_bytes new) ≡ length (hdu_bytes hdu)
+pixels_long hdu new header unit = omega (arith, length-append (header_bytes new.header) new.data_unit, length-append (header_bytes hdu.header) hdu.data_unit, ap (λ (h : Header). length (header_bytes h)) header, unit)
 
 -- what an edit of pixels makes of an HDU, by its shape
-made_by : (primary : Bool) (shape : Shape) (hdu : HduParts) (lo hi : List ℕ) (paint : Paint) (made : Result HduParts PixelFault) → shape_of primary hdu.header.cards ≡ Ok shape → painted_by shape lo hi paint hdu ≡ made → hdu_painted primary lo hi paint hdu ≡ pixels_made made
-made_by primary shape hdu lo hi paint made described is = ap (λ said. shaped said (λ shape. painted_by shape lo hi paint hdu)) described ∙ ap pixels_made is
+made_by : (primary : Bool) (shape : Shape) (hdu : HduParts) (lo hi : List ℕ) (paint : Paint) (made : Result HduParts PixelFault) → shape_of primary hdu.header.cards ≡ Ok shape → painted shape lo hi (plane_paint paint) hdu ≡ made → hdu_painted primary lo hi paint hdu ≡ pixels_made made
+made_by primary shape hdu lo hi paint made described is = ap (λ said. shaped said (λ shape. painted shape lo hi (plane_paint paint) hdu)) described ∙ ap pixels_made is
 
 -- the blocks of a rectangle that are worked on
 patches_by : (said : Result Shape ℕ) (shape : Shape) (lo hi : List ℕ) (hdu : HduParts) (old new : PixelWork) → said ≡ Ok shape → IsPatched (rectangle_blocks (layout_of shape hdu.header.cards) hdu.data_unit shape.axes lo hi) (block_count hdu.data_unit) old new → PatchesIn said lo hi hdu old new
@@ -64,7 +49,7 @@ patches_none (Err place) lo hi hdu work = refl
 
 -- an edit of pixels that is refused owes this
 pub paints_not : (lo hi : List ℕ) (paint : Paint) (bytes hdus : ℕ) (old new : HduState) (why : PixelFault) → IsHdu (is_primary old.shape.class) old.hdu → shape_of (is_primary old.shape.class) old.hdu.header.cards ≡ Ok old.shape
-    → painted_by old.shape lo hi paint old.hdu ≡ Err why → new ≡ old → HduEditsTo (Pixels lo hi paint) bytes hdus old new (Err (refusal_of_pixels why))
+    → painted old.shape lo hi (plane_paint paint) old.hdu ≡ Err why → new ≡ old → HduEditsTo (Pixels lo hi paint) bytes hdus old new (Err (refusal_of_pixels why))
 unfolding hdu_made
 paints_not lo hi paint bytes hdus old new why whole described is same =
     let primary : Bool = is_primary old.shape.class in
@@ -76,17 +61,17 @@ paints_not lo hi paint bytes hdus old new why whole described is same =
 
 -- one that is made owes this
 pub paints : (lo hi : List ℕ) (paint : Paint) (bytes hdus : ℕ) (old new : HduState) → IsHdu (is_primary old.shape.class) old.hdu → shape_of (is_primary old.shape.class) old.hdu.header.cards ≡ Ok old.shape → length (hdu_bytes old.hdu) ≤ bytes → is_within_limits bytes hdus ≡ true
-    → painted_by old.shape lo hi paint old.hdu ≡ Ok new.hdu → new.reads ≡ old.reads → IsPatched (rectangle_blocks (layout_of old.shape old.hdu.header.cards) old.hdu.data_unit old.shape.axes lo hi) (block_count old.hdu.data_unit) old.pixel_work new.pixel_work
+    → painted old.shape lo hi (plane_paint paint) old.hdu ≡ Ok new.hdu → new.reads ≡ old.reads → IsPatched (rectangle_blocks (layout_of old.shape old.hdu.header.cards) old.hdu.data_unit old.shape.axes lo hi) (block_count old.hdu.data_unit) old.pixel_work new.pixel_work
     → HduEditsTo (Pixels lo hi paint) bytes hdus old new (Ok bytes)
 unfolding hdu_made
 paints lo hi paint bytes hdus old new whole described part within is reads patched =
     let primary : Bool = is_primary old.shape.class in
-    let change = painted_hdu primary old.shape old.hdu lo hi paint new.hdu whole described is in
+    let change = painted_hdu primary old.shape old.hdu lo hi (plane_paint paint) new.hdu whole described is in
     let made : hdu_painted primary lo hi paint old.hdu ≡ Ok new.hdu = made_by primary old.shape old.hdu lo hi paint (Ok new.hdu) described is in
-    let long : bytes ≡ length_with bytes old.hdu new.hdu = omega (arith, part, pixels_long primary old.hdu new.hdu change) in
+    let long : bytes ≡ length_with bytes old.hdu new.hdu = omega (arith, part, pixels_long old.hdu new.hdu change.1 change.2) in
     record {
       whole = whole;
-      left = change.whole;
+      left = change.0;
       accepted = ap (within_refusal bytes hdus old.hdu) made ∙ ap (λ n. limit_refusal n hdus) (sym long) ∙ rw within refl;
       ok = made;
       size = long;

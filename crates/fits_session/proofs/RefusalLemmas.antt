@@ -9,15 +9,16 @@ use Rattle.fits_card.specs.Name.{is_settable}
 use Rattle.fits_card.specs.declared.change.Change.TheVariants.{Splice}
 use Rattle.fits_card.specs.declared.change.Change.TheVariants as change
 use Rattle.fits_value.specs.Written.{write_says}
+use Rattle.fits_plane.specs.declared.paint.Paint.{Paint as PlanePaint}
 use Rattle.fits_rules.specs.Shape.{shape_of}
 use Rattle.fits_rules.specs.declared.array_shape.Shape.{Shape}
-use Rattle.fits_plane.specs.Pixels.{can_store, can_store_all}
+use Rattle.fits_plane.specs.Paint.{can_store_paint, has_count}
 use Rattle.fits_plane.specs.Rectangle.{lies_within, rectangle_size}
 use Rattle.fits_hdu.specs.Hdu.{HduParts, hdu_after, keeps_shape}
 use Rattle.fits_hdu.specs.Keyword.{keyword_cards, replacing}
 use Rattle.fits_hdu.specs.Kind.{kind_in, offset_of, width_of}
 use Rattle.fits_hdu.specs.NewImage.{are_axes, new_image}
-use Rattle.fits_hdu.specs.Pixels.{filled, filled_by, written, written_by}
+use Rattle.fits_hdu.specs.Pixels.{painted, painted_by}
 use Rattle.fits_hdu.specs.Stamp.{stamped}
 use Rattle.fits_hdu.specs.declared.keyword_cards.KeywordCards.{KeywordCards}
 use Rattle.fits_hdu.specs.declared.kind.Kind.{Kind}
@@ -26,7 +27,7 @@ use Rattle.fits_hdu.specs.declared.pixel_fault.PixelFault.TheVariants as pixel
 use Rattle.fits_session.specs.CardEdit.{change_of, is_in_range, is_keyword_name, is_within, own_refusal, set_of, setting, tested, unless, unset_of, unsetting}
 use Rattle.fits_session.specs.Edit.{hdu_of, is_primary_hdu, with_hdu, with_new_hdu}
 use Rattle.fits_session.specs.File.{FileParts, file_bytes}
-use Rattle.fits_session.specs.HduEdit.{hdu_changed, hdu_made, painted_by, pixels_made, shaped}
+use Rattle.fits_session.specs.HduEdit.{hdu_changed, hdu_made, pixels_made, plane_paint, shaped}
 use Rattle.fits_session.specs.Limits.{is_within_limits}
 use Rattle.fits_session.specs.Refusal.{made_refusal, new_image_refusal, refusal_in, refusal_of, removal_refusal, size_refusal}
 use Rattle.fits_session.specs.declared.card_edit.CardEdit.{CardEdit}
@@ -35,8 +36,6 @@ use Rattle.fits_session.specs.declared.edit.Edit.{Edit}
 use Rattle.fits_session.specs.declared.edit.Edit.TheVariants.{Hdu, NewImage, RemoveHdu}
 use Rattle.fits_session.specs.declared.hdu_edit.HduEdit.{HduEdit}
 use Rattle.fits_session.specs.declared.hdu_edit.HduEdit.TheVariants.{Cards, Pixels, Stamp}
-use Rattle.fits_session.specs.declared.paint.Paint.{Paint}
-use Rattle.fits_session.specs.declared.paint.Paint.TheVariants.{Fill, Write}
 use Rattle.fits_session.specs.declared.refusal.Refusal.{Refusal}
 use Rattle.fits_session.specs.declared.refusal.Refusal.TheVariants.{NoHdu, NoCard, NoKey, BadText, EndCard, BadName, BadValue, NotImage, BadRect, WrongCount, Range, PrimaryStays, TooLarge, Memory}
 use Rattle.fits_session.specs.declared.refusal.Refusal.TheVariants as refusal
@@ -191,26 +190,18 @@ firm_done : {X : Type 0} (made : X) → FirmPixels (Ok made)
 unfolding FirmPixels
 firm_done made e = absurd (cc)
 
--- the tests of a rectangle that is filled
-firm_filled : (kind : Option Kind) (shape : Shape) (lo hi : List ℕ) (value : ℤ) (hdu : HduParts) → FirmPixels (filled_by kind shape lo hi value hdu)
-firm_filled None shape lo hi value hdu = firm_fault _ pixel.NotImage (λ e. cc)
-firm_filled (Some kind) shape lo hi value hdu =
+-- the tests of a rectangle that is painted
+firm_tested_paint : (kind : Option Kind) (shape : Shape) (lo hi : List ℕ) (paint : PlanePaint) (hdu : HduParts) → FirmPixels (painted_by kind shape lo hi paint hdu)
+firm_tested_paint None shape lo hi paint hdu = firm_fault _ pixel.NotImage (λ e. cc)
+firm_tested_paint (Some kind) shape lo hi paint hdu =
     firm_pick (not (lies_within shape.axes lo hi)) (Err pixel.BadRectangle) _ (firm_fault _ pixel.BadRectangle (λ e. cc))
-    (firm_pick (not (can_store (width_of kind) (value -ℤ offset_of kind))) (Err pixel.OutOfRange) _ (firm_fault _ pixel.OutOfRange (λ e. cc)) (firm_done _))
-
--- and of one that is written
-firm_written : (kind : Option Kind) (shape : Shape) (lo hi : List ℕ) (values : List ℤ) (hdu : HduParts) → FirmPixels (written_by kind shape lo hi values hdu)
-firm_written None shape lo hi values hdu = firm_fault _ pixel.NotImage (λ e. cc)
-firm_written (Some kind) shape lo hi values hdu =
-    firm_pick (not (lies_within shape.axes lo hi)) (Err pixel.BadRectangle) _ (firm_fault _ pixel.BadRectangle (λ e. cc))
-    (firm_pick (not (length values == rectangle_size lo hi)) (Err pixel.WrongCount) _ (firm_fault _ pixel.WrongCount (λ e. cc))
-    (firm_pick (not (can_store_all (width_of kind) (offset_of kind) values)) (Err pixel.OutOfRange) _ (firm_fault _ pixel.OutOfRange (λ e. cc)) (firm_done _)))
+    (firm_pick (not (has_count paint (rectangle_size lo hi))) (Err pixel.WrongCount) _ (firm_fault _ pixel.WrongCount (λ e. cc))
+    (firm_pick (not (can_store_paint (width_of kind) (offset_of kind) paint)) (Err pixel.OutOfRange) _ (firm_fault _ pixel.OutOfRange (λ e. cc)) (firm_done _)))
 
 -- a rectangle that is painted
-firm_painted : (shape : Shape) (lo hi : List ℕ) (paint : Paint) (hdu : HduParts) → FirmPixels (painted_by shape lo hi paint hdu)
-unfolding filled written
-firm_painted shape lo hi (Fill value) hdu = firm_filled (kind_in shape hdu.header.cards) shape lo hi value hdu
-firm_painted shape lo hi (Write values) hdu = firm_written (kind_in shape hdu.header.cards) shape lo hi values hdu
+firm_painted : (shape : Shape) (lo hi : List ℕ) (paint : PlanePaint) (hdu : HduParts) → FirmPixels (painted shape lo hi paint hdu)
+unfolding painted
+firm_painted shape lo hi paint hdu = firm_tested_paint (kind_in shape hdu.header.cards) shape lo hi paint hdu
 
 -- what is made by a shape
 firm_shaped : (said : Result Shape ℕ) (make : Shape → Result HduParts PixelFault) → ((shape : Shape) → FirmPixels (make shape)) → FirmMade (shaped said make)
@@ -221,7 +212,7 @@ firm_shaped (Err place) make firm = firm_no_hdu NotImage (λ e. cc)
 firm_made_of : (primary : Bool) (edit : HduEdit) (hdu : HduParts) → FirmMade (hdu_made primary edit hdu)
 unfolding hdu_made
 firm_made_of primary (Cards edit) hdu = firm_changed primary hdu (change_of hdu.header.cards edit) (firm_change hdu.header.cards edit)
-firm_made_of primary (Pixels lo hi paint) hdu = firm_shaped (shape_of primary hdu.header.cards) (λ shape. painted_by shape lo hi paint hdu) (λ shape. firm_painted shape lo hi paint hdu)
+firm_made_of primary (Pixels lo hi paint) hdu = firm_shaped (shape_of primary hdu.header.cards) (λ shape. painted shape lo hi (plane_paint paint) hdu) (λ shape. firm_painted shape lo hi (plane_paint paint) hdu)
 firm_made_of primary Stamp hdu = firm_hdu (stamped hdu)
 
 -- the tests of a file's size

@@ -1,11 +1,9 @@
 -- Steps of saving: HDU after HDU, then the tail.
-use Rattle.std.proofs.Common.{◌≡◌, ℕ, ◌+◌, ◌<◌, ◌≤◌, List, [], ◌∷◌, ◌++◌, length, take, drop, get_or, set, refl, ap, sym, subst, ◌∙◌, arith, Option, zero, suc, add-one}
-use Rattle.std.specs.Io.KnownBytes.{Appends}
+use Rattle.std.proofs.Common.{◌≡◌, ℕ, ◌+◌, ◌<◌, ◌≤◌, List, [], ◌∷◌, ◌++◌, length, take, drop, get_or, set, refl, ap, sym, subst, ◌∙◌, arith, zero, suc, add-one}
 use Rattle.std.proofs.lemmas.List.{append-nil, take_all, take_more, drop_more, take-append-drop, length-map}
 use Rattle.std.proofs.lemmas.List.Concat.{flat_map-append}
-use Rattle.fits_card.specs.Stream.{AppendsFront}
-use Rattle.fits_card.proofs.StreamLemmas.{Appends-none, Appends-more, AppendsFront-more}
-use Rattle.fits_card.proofs.EmitLemmas.{AppendsFront-first}
+use Rattle.fits_card.specs.Stream.{SinkState, Prints, PrintsFront}
+use Rattle.fits_card.proofs.StreamLemmas.{Prints-none, Prints-more, PrintsFront-longer, PrintsFront-more}
 use Rattle.fits_hdu.specs.Hdu.{HduParts, hdu_bytes}
 use Rattle.fits_hdu.specs.State.{HduState, PixelWork, ReadsUpTo}
 use Rattle.fits_session.specs.File.{joined_hdus, IsFile}
@@ -22,29 +20,29 @@ within : (hdus : List HduState) (us : List HduParts) (i : ℕ) → hdus_of (held
 within hdus us i same l = omega (arith, ap length same, length-hdus_of hdus)
 
 -- one more HDU
-pub Appends-hdu : (a b c : Option (List ℕ)) (hdus : List HduState) (us : List HduParts) (i : ℕ) (hdu : HduState) → hdus_of (held_of hdus) ≡ us → i < length hdus → hdu ≡ get_or hdus i hdu → Appends a b (joined_hdus (take i us)) → Appends b c (hdu_bytes hdu.hdu) → Appends a c (joined_hdus (take (i + 1) us))
-Appends-hdu a b c hdus us i hdu same l e p q =
+pub Prints-hdu : (a b c : SinkState) (hdus : List HduState) (us : List HduParts) (i : ℕ) (hdu : HduState) → hdus_of (held_of hdus) ≡ us → i < length hdus → hdu ≡ get_or hdus i hdu → Prints (joined_hdus (take i us)) a b → Prints (hdu_bytes hdu.hdu) b c → Prints (joined_hdus (take (i + 1) us)) a c
+Prints-hdu a b c hdus us i hdu same l e p q =
     let more : joined_hdus (take (i + 1) us) ≡ joined_hdus (take i us) ++ hdu_bytes hdu.hdu =
     ap joined_hdus (take_more us i hdu.hdu (within hdus us i same l)) ∙ flat_map-append hdu_bytes (take i us) (get_or us i hdu.hdu ∷ [])
     ∙ ap (λ t. joined_hdus (take i us) ++ t) (append-nil (hdu_bytes (get_or us i hdu.hdu)) ∙ ap hdu_bytes (hdu_here hdus us i hdu same l e)) in
-    rw more (Appends-more a b c _ _ p q)
+    rw more (Prints-more a b c _ _ p q)
 
 -- a prefix of it
-pub AppendsFront-hdu : (a b c : Option (List ℕ)) (hdus : List HduState) (us : List HduParts) (i : ℕ) (hdu : HduState) → hdus_of (held_of hdus) ≡ us → i < length hdus → hdu ≡ get_or hdus i hdu → Appends a b (joined_hdus (take i us)) → AppendsFront b c (hdu_bytes hdu.hdu) → AppendsFront a c (joined_hdus us)
-AppendsFront-hdu a b c hdus us i hdu same l e p q =
+pub PrintsFront-hdu : (a b c : SinkState) (hdus : List HduState) (us : List HduParts) (i : ℕ) (hdu : HduState) → hdus_of (held_of hdus) ≡ us → i < length hdus → hdu ≡ get_or hdus i hdu → Prints (joined_hdus (take i us)) a b → PrintsFront (hdu_bytes hdu.hdu) b c → PrintsFront (joined_hdus us) a c
+PrintsFront-hdu a b c hdus us i hdu same l e p q =
     let rest : List HduParts = drop (i + 1) us in
     let split : joined_hdus us ≡ joined_hdus (take i us) ++ (hdu_bytes hdu.hdu ++ joined_hdus rest) =
     ap joined_hdus (sym (take-append-drop i us)) ∙ flat_map-append hdu_bytes (take i us) (drop i us)
     ∙ ap (λ t. joined_hdus (take i us) ++ t) (ap joined_hdus (drop_more us i hdu.hdu (within hdus us i same l)) ∙ ap (λ u. hdu_bytes u ++ joined_hdus rest) (hdu_here hdus us i hdu same l e)) in
-    rw split (AppendsFront-more a b c _ (hdu_bytes hdu.hdu) (joined_hdus rest) p q)
+    rw split (PrintsFront-more a b c _ (hdu_bytes hdu.hdu ++ joined_hdus rest) p (PrintsFront-longer b c (hdu_bytes hdu.hdu) (joined_hdus rest) q))
+
+-- none of them yet
+pub Prints-no_hdus : (a : SinkState) (us : List HduParts) → Prints (joined_hdus (take 0 us)) a a
+Prints-no_hdus a us = Prints-none a
 
 -- all of them
-pub Appends-hdus : (a b : Option (List ℕ)) (us : List HduParts) (i : ℕ) → length us ≤ i → Appends a b (joined_hdus (take i us)) → Appends a b (joined_hdus us)
-Appends-hdus a b us i l p = rw (take_all i us l) at p
-
--- a prefix of what follows them
-pub AppendsFront-after : (a b c : Option (List ℕ)) (bs cs : List ℕ) → Appends a b bs → AppendsFront b c cs → AppendsFront a c (bs ++ cs)
-AppendsFront-after a b c bs cs p q = let whole : AppendsFront a c (bs ++ (cs ++ [])) = AppendsFront-more a b c bs cs [] p q in rw (append-nil cs) at whole
+pub Prints-hdus : (a b : SinkState) (us : List HduParts) (i : ℕ) → length us ≤ i → Prints (joined_hdus (take i us)) a b → Prints (joined_hdus us) a b
+Prints-hdus a b us i l p = rw (take_all i us l) at p
 
 -- the HDUs stay
 pub hdus_kept : (hdus : List HduState) (us : List HduParts) (i : ℕ) (old new : HduState) → hdus_of (held_of hdus) ≡ us → i < length hdus → old ≡ get_or hdus i old → new.hdu ≡ old.hdu → hdus_of (held_of (set hdus i new)) ≡ us
@@ -170,4 +168,4 @@ once_at_most held hdus i old new e same l is work = record {
 pub whole_still : (before after : List HduState) (tail : List ℕ) → hdus_of (held_of after) ≡ hdus_of (held_of before) → IsFile (file_of (state_of before tail)) → IsFile (file_of (state_of after tail))
 whole_still before after tail same whole = subst (λ (us : List HduParts). IsFile (record { hdus = us; tail = tail })) (sym same) whole
 
-pub ruleset save_steps = (Appends-none, AppendsFront-after, AppendsFront-first, AppendsFront-hdu, Appends-more, Appends-hdus, first_read_none)
+pub ruleset save_steps = (Prints-no_hdus, Prints-more, Prints-hdus, PrintsFront-hdu, PrintsFront-longer, PrintsFront-more, first_read_none)

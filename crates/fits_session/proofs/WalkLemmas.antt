@@ -1,14 +1,13 @@
 -- Steps of a walk over the HDUs of a source.
-use Rattle.std.proofs.Common.{◌≡◌, ◌⊎◌, ℕ, ◌+◌, ◌<◌, ◌≤◌, Bool, true, false, List, [], ◌∷◌, ◌++◌, length, take, refl, subst, ap, sym, ◌∙◌, append_assoc, arith, rules, inl, inr, Option}
+use Rattle.std.proofs.Common.{◌≡◌, ◌⊎◌, ℕ, ◌+◌, ◌<◌, ◌≤◌, Bool, true, false, List, [], ◌∷◌, ◌++◌, length, take, refl, subst, ap, sym, ◌∙◌, append_assoc, arith, rules, inl, inr}
 use Rattle.std.specs.Prelude.{IfSome, nat_eq, not, codes}
 use Rattle.std.specs.Str.{bytes_eq}
 use Rattle.std.specs.List.{starts_with}
 use Rattle.std.proofs.lemmas.Bool.{cases_lt, false≢true}
 use Rattle.std.proofs.lemmas.List.{append-nil, length-append, take_all, take-append-le}
 use Rattle.std.proofs.lemmas.List.Concat.{flat_map-append}
-use Rattle.fits_card.specs.Intake.{Finds, Gives, IsSpent, Takes, TakesAfter, Tells}
-use Rattle.fits_card.specs.declared.reading.ReadFault.{ReadFault}
-use Rattle.fits_card.specs.declared.reading.ReadFault.TheVariants as read
+use Rattle.fits_card.specs.Intake.{supply, Finds, Gives, IsSpent, Supply, Takes, TakesAfter, Tells}
+use Rattle.fits_card.specs.Stream.{SourceState, StaysQuiet}
 use Rattle.fits_card.proofs.SightLemmas.{finds_begun, finds_given, finds_next, finds_spent, long_given, past_limit, rest_given, takes_after_none, takes_before, takes_more, tells_after, within_limit}
 use Rattle.fits_hdu.specs.Hdu.{HduParts, HasHduFault, IsHdu, hdu_bytes}
 use Rattle.fits_hdu.specs.Reading.{HduStops, TakesHdu}
@@ -20,7 +19,7 @@ use Rattle.fits_hdu.specs.declared.read_fault.ReadHduFault.TheVariants as read_h
 use Rattle.fits_session.specs.File.{FileParts, begins_extension, goes_on, is_first, is_followed, joined_hdus, IsFile, IsFileOf, IsFrontOf}
 use Rattle.fits_session.specs.declared.limits.TheConstants.{FILE_LIMIT, HDU_LIMIT}
 use Rattle.fits_session.specs.Opening.{BeginsAsFits, HasOpenFault, open_fault_of}
-use Rattle.fits_session.specs.Reading.{file_fault_of, is_of_bytes, of_read, IsKeptOf, IsWalkOf, KeepsEach, NextBegins, ReadStops, RestStops, Walked, WalkStops}
+use Rattle.fits_session.specs.Reading.{file_fault_of, is_of_bytes, IsKeptOf, IsWalkOf, KeepsEach, NextBegins, ReadStops, RestStops, Walked, WalkStops}
 use Rattle.fits_session.specs.Session.{file_of, held_of, hdus_of, state_of}
 use Rattle.fits_session.specs.declared.open_fault.OpenFault.TheVariants.{NotFits, NoEnd, BadShape, ShortData, TooLarge, Memory}
 use Rattle.fits_session.specs.declared.read_fault.ReadFileFault.{ReadFileFault}
@@ -95,25 +94,25 @@ first_of keeps (l ∷ ls) [] p = absurd p
 first_of keeps (l ∷ ls) (v ∷ vs) p = not_zero (length (l ∷ ls)) (omega arith)
 
 -- no HDU is walked yet
-pub walked_none : {K : Type 0} (keeps : K → HduParts → Type 0) (ks : List K) (first : List ℕ) (a b : Option (List ℕ)) (left left' : ℕ) → ks ≡ [] → Takes a b left left' first → Walked keeps ks first a b left left'
-walked_none keeps ks first a b left left' none p = rw none (record { hdus = []; each = tt; front = front_none []; taken = p })
+pub walked_none : {K : Type 0} (keeps : K → HduParts → Type 0) (ks : List K) (first : List ℕ) (a b : Supply) → ks ≡ [] → Takes a b first → Walked keeps ks first a b
+walked_none keeps ks first a b none p = rw none (record { hdus = []; each = tt; front = front_none []; taken = p })
 
 -- one more is, and the first block of what follows it is taken
-pub walked_more : {K : Type 0} (keeps : K → HduParts → Type 0) (ks new : List K) (k : K) (first next : List ℕ) (a b c d : Option (List ℕ)) (left left' left'' last : ℕ) (primary : Bool) → Walked keeps ks first a b left left'
-    → TakesHdu (keeps k) primary first b c left' left'' → primary ≡ nat_eq (length ks) 0 → new ≡ ks ++ k ∷ [] → Takes c d left'' last next → Walked keeps new next a d left last
-walked_more keeps ks new k first next a b c d left left' left'' last primary p q at is r =
+pub walked_more : {K : Type 0} (keeps : K → HduParts → Type 0) (ks new : List K) (k : K) (first next : List ℕ) (a b c d : Supply) (primary : Bool) → Walked keeps ks first a b
+    → TakesHdu (keeps k) primary first b c → primary ≡ nat_eq (length ks) 0 → new ≡ ks ++ k ∷ [] → Takes c d next → Walked keeps new next a d
+walked_more keeps ks new k first next a b c d primary p q at is r =
     let whole : IsHdu (is_first p.hdus) q.hdu = subst (λ (b' : Bool). IsHdu b' q.hdu) (at ∙ first_of keeps ks p.hdus p.each) q.whole in
-    let taken : Takes a c left left'' (joined_hdus p.hdus ++ hdu_bytes q.hdu) = takes_before a b c left left' left'' (joined_hdus p.hdus) first (hdu_bytes q.hdu) p.taken q.taken in
+    let taken : Takes a c (joined_hdus p.hdus ++ hdu_bytes q.hdu) = takes_before a b c (joined_hdus p.hdus) first (hdu_bytes q.hdu) p.taken q.taken in
     rw is (record {
       hdus = p.hdus ++ q.hdu ∷ [];
       each = each_push keeps ks p.hdus k q.hdu p.each q.kept;
       front = front_next p.hdus q.hdu p.front whole;
-      taken = rw (joined_push p.hdus q.hdu) (takes_more a c d left left'' last (joined_hdus p.hdus ++ hdu_bytes q.hdu) next taken r);
+      taken = rw (joined_push p.hdus q.hdu) (takes_more a c d (joined_hdus p.hdus ++ hdu_bytes q.hdu) next taken r);
     })
 
 -- less is left to walk over
-pub walk_shorter : (keeps : HduParts → Type 0) (primary : Bool) (first next : List ℕ) (b c d : Option (List ℕ)) (left left' last : ℕ) → TakesHdu keeps primary first b c left left' → Takes c d left' last next → last + length next < left + length first
-walk_shorter keeps primary first next b c d left left' last q r =
+pub walk_shorter : (keeps : HduParts → Type 0) (primary : Bool) (first next : List ℕ) (b c d : Supply) → TakesHdu keeps primary first b c → Takes c d next → d.left + length next < b.left + length first
+walk_shorter keeps primary first next b c d q r =
     omega (arith, hdu_long primary q.hdu q.whole, ap length q.taken.joined, length-append first q.taken.more, q.taken.taken.count, r.count)
 
 -- how the next one begins
@@ -141,101 +140,100 @@ fails_at us first s fault size front begins few fails =
     (fault_here file us (first ++ s) fault (omega (arith, size, ap length same)) on.1 (front_rest us (first ++ s) front) on.0 few fails)
 
 -- a fault of the next HDU is the file's
-stops_at : (us : List HduParts) (first : List ℕ) (a b c : Option (List ℕ)) (left left' left'' : ℕ) (fault : HduFault) → left ≤ FILE_LIMIT → Takes a b left left' (joined_hdus us ++ first) → IsFrontOf (joined_hdus us) us [] → NextBegins (is_first us) first → length us < HDU_LIMIT
-    → Finds b c left' left'' (λ s. HasHduFault (is_first us) (first ++ s) fault) → Finds a c left left'' (λ bytes. HasOpenFault bytes (open_fault_of fault (length us + 1)))
-stops_at us first a b c left left' left'' fault limit p front begins few f =
-    finds_next (λ s. HasHduFault (is_first us) (first ++ s) fault) (λ bytes. HasOpenFault bytes (open_fault_of fault (length us + 1))) a b c left left' left'' (joined_hdus us ++ first) p f
+stops_at : (us : List HduParts) (first : List ℕ) (a b c : Supply) (fault : HduFault) → a.left ≤ FILE_LIMIT → Takes a b (joined_hdus us ++ first) → IsFrontOf (joined_hdus us) us [] → NextBegins (is_first us) first → length us < HDU_LIMIT
+    → Finds b c (λ s. HasHduFault (is_first us) (first ++ s) fault) → Finds a c (λ bytes. HasOpenFault bytes (open_fault_of fault (length us + 1)))
+stops_at us first a b c fault limit p front begins few f =
+    finds_next (λ s. HasHduFault (is_first us) (first ++ s) fault) (λ bytes. HasOpenFault bytes (open_fault_of fault (length us + 1))) a b c (joined_hdus us ++ first) p f
     (λ s le fails. fails_at us first s fault (omega (arith, limit, p.count, le, length-append (joined_hdus us ++ first) s)) front begins few fails)
 
 -- so is whatever ended its reading
-walk_stops : (us : List HduParts) (first : List ℕ) (a b c : Option (List ℕ)) (left left' left'' f g g' : ℕ) (fault : ReadHduFault) → left ≤ FILE_LIMIT → Takes a b left left' (joined_hdus us ++ first) → IsFrontOf (joined_hdus us) us [] → NextBegins (is_first us) first → length us < HDU_LIMIT
-    → g ≡ f → HduStops (is_first us) first b c left' left'' g g' fault → WalkStops a c left left'' f g' (file_fault_of fault (length us + 1))
-walk_stops us first a b c left left' left'' f g g' (read_hdu.Hdu hdu_fault.NoEnd) limit p front begins few quiet stops = (stops_at us first a b c left left' left'' hdu_fault.NoEnd limit p front begins few stops.0, stops.1 ∙ quiet)
-walk_stops us first a b c left left' left'' f g g' (read_hdu.Hdu (hdu_fault.BadShape place)) limit p front begins few quiet stops = (stops_at us first a b c left left' left'' (hdu_fault.BadShape place) limit p front begins few stops.0, stops.1 ∙ quiet)
-walk_stops us first a b c left left' left'' f g g' (read_hdu.Hdu hdu_fault.ShortData) limit p front begins few quiet stops = (stops_at us first a b c left left' left'' hdu_fault.ShortData limit p front begins few stops.0, stops.1 ∙ quiet)
-walk_stops us first a b c left left' left'' f g g' (read_hdu.Hdu hdu_fault.Memory) limit p front begins few quiet stops = stops ∙ quiet
-walk_stops us first a b c left left' left'' f g g' read_hdu.Failed limit p front begins few quiet stops = omega (arith, stops, quiet)
+walk_stops : (us : List HduParts) (first : List ℕ) (a b c : Supply) (fault : ReadHduFault) → a.left ≤ FILE_LIMIT → Takes a b (joined_hdus us ++ first) → IsFrontOf (joined_hdus us) us [] → NextBegins (is_first us) first → length us < HDU_LIMIT
+    → HduStops (is_first us) first b c fault → WalkStops a c (file_fault_of fault (length us + 1))
+walk_stops us first a b c (read_hdu.Hdu hdu_fault.NoEnd) limit p front begins few stops = stops_at us first a b c hdu_fault.NoEnd limit p front begins few stops
+walk_stops us first a b c (read_hdu.Hdu (hdu_fault.BadShape place)) limit p front begins few stops = stops_at us first a b c (hdu_fault.BadShape place) limit p front begins few stops
+walk_stops us first a b c (read_hdu.Hdu hdu_fault.ShortData) limit p front begins few stops = stops_at us first a b c hdu_fault.ShortData limit p front begins few stops
+walk_stops us first a b c (read_hdu.Hdu hdu_fault.Memory) limit p front begins few stops = stops ∙ p.read.quiet
+walk_stops us first a b c read_hdu.Failed limit p front begins few stops = omega (arith, stops, p.read.quiet)
 
 -- so the walk stops
-pub stops_by_hdu : {K : Type 0} (keeps : K → HduParts → Type 0) (ks : List K) (first : List ℕ) (a b c : Option (List ℕ)) (left left' left'' f g g' h : ℕ) (primary : Bool) (fault : ReadHduFault) → left ≤ FILE_LIMIT → Walked keeps ks first a b left left' → NextBegins (nat_eq (length ks) 0) first → length ks < HDU_LIMIT
-    → primary ≡ nat_eq (length ks) 0 → h ≡ length ks + 1 → g ≡ f → HduStops primary first b c left' left'' g g' fault → WalkStops a c left left'' f g' (file_fault_of fault h)
-stops_by_hdu keeps ks first a b c left left' left'' f g g' h primary fault limit p begins few at is quiet stops =
+pub stops_by_hdu : {K : Type 0} (keeps : K → HduParts → Type 0) (ks : List K) (first : List ℕ) (a b c : Supply) (h : ℕ) (primary : Bool) (fault : ReadHduFault) → a.left ≤ FILE_LIMIT → Walked keeps ks first a b → NextBegins (nat_eq (length ks) 0) first → length ks < HDU_LIMIT
+    → primary ≡ nat_eq (length ks) 0 → h ≡ length ks + 1 → HduStops primary first b c fault → WalkStops a c (file_fault_of fault h)
+stops_by_hdu keeps ks first a b c h primary fault limit p begins few at is stops =
     let count : length ks ≡ length p.hdus = each_length keeps ks p.hdus p.each in
     let place : h ≡ length p.hdus + 1 = omega (arith, is, count) in
     let same_first : nat_eq (length ks) 0 ≡ is_first p.hdus = first_of keeps ks p.hdus p.each in
-    rw place (walk_stops p.hdus first a b c left left' left'' f g g' fault limit p.taken p.front (subst (λ (b' : Bool). NextBegins b' first) same_first begins) (omega (arith, few, count)) quiet
-    (subst (λ (b' : Bool). HduStops b' first b c left' left'' g g' fault) (at ∙ same_first) stops))
+    rw place (walk_stops p.hdus first a b c fault limit p.taken p.front (subst (λ (b' : Bool). NextBegins b' first) same_first begins) (omega (arith, few, count))
+    (subst (λ (b' : Bool). HduStops b' first b c fault) (at ∙ same_first) stops))
 
 -- the bytes don't begin as a file does
-not_fits_begun : (first : List ℕ) (a b : Option (List ℕ)) (left left' : ℕ) → left ≤ FILE_LIMIT → Takes a b left left' first → starts_with nat_eq first (codes "SIMPLE  ") ≡ false → 8 ≤ length first → Finds a b left left' (λ bytes. HasOpenFault bytes NotFits)
-not_fits_begun first a b left left' limit p e many =
-    finds_begun (λ bytes. HasOpenFault bytes NotFits) a b left left' first p
+not_fits_begun : (first : List ℕ) (a b : Supply) → a.left ≤ FILE_LIMIT → Takes a b first → starts_with nat_eq first (codes "SIMPLE  ") ≡ false → 8 ≤ length first → Finds a b (λ bytes. HasOpenFault bytes NotFits)
+not_fits_begun first a b limit p e many =
+    finds_begun (λ bytes. HasOpenFault bytes NotFits) a b first p
     (λ s le. (omega (arith, limit, p.count, le, length-append first s), λ begins. let no : true ≡ false = sym begins ∙ begins_same (codes "SIMPLE  ") first s 8 (inr many) ∙ e in cc))
 
 -- bytes that don't begin as a file, and no more of them
-not_fits_spent : (first : List ℕ) (a b : Option (List ℕ)) (left left' : ℕ) → left ≤ FILE_LIMIT → Takes a b left left' first → starts_with nat_eq first (codes "SIMPLE  ") ≡ false → IsSpent b left' → Finds a b left left' (λ bytes. HasOpenFault bytes NotFits)
-not_fits_spent first a b left left' limit p e spent =
-    finds_spent (λ bytes. HasOpenFault bytes NotFits) a b left left' first p spent (omega (arith, limit, p.count), λ begins. let no : true ≡ false = sym begins ∙ e in cc)
+not_fits_spent : (first : List ℕ) (a b : Supply) → a.left ≤ FILE_LIMIT → Takes a b first → starts_with nat_eq first (codes "SIMPLE  ") ≡ false → IsSpent b → Finds a b (λ bytes. HasOpenFault bytes NotFits)
+not_fits_spent first a b limit p e spent =
+    finds_spent (λ bytes. HasOpenFault bytes NotFits) a b first p spent (omega (arith, limit, p.count), λ begins. let no : true ≡ false = sym begins ∙ e in cc)
 
 -- a file that doesn't begin as one stops the walk
-pub stops_at_first : (first : List ℕ) (a b : Option (List ℕ)) (left left' : ℕ) → left ≤ FILE_LIMIT → Takes a b left left' first → (length first < 2880 → IsSpent b left') → starts_with nat_eq first (codes "SIMPLE  ") ≡ false → Finds a b left left' (λ bytes. HasOpenFault bytes NotFits)
-stops_at_first first a b left left' limit p short e =
-    elim (cases_lt (length first) 2880) [ inl few ↦ not_fits_spent first a b left left' limit p e (short few) | inr many ↦ not_fits_begun first a b left left' limit p e (omega (arith, many)) ]
+pub stops_at_first : (first : List ℕ) (a b : Supply) → a.left ≤ FILE_LIMIT → Takes a b first → (length first < 2880 → IsSpent b) → starts_with nat_eq first (codes "SIMPLE  ") ≡ false → Finds a b (λ bytes. HasOpenFault bytes NotFits)
+stops_at_first first a b limit p short e =
+    elim (cases_lt (length first) 2880) [ inl few ↦ not_fits_spent first a b limit p e (short few) | inr many ↦ not_fits_begun first a b limit p e (omega (arith, many)) ]
 
 -- an extension begins after as many HDUs as a file may have
-pub stops_full : {K : Type 0} (keeps : K → HduParts → Type 0) (ks : List K) (first : List ℕ) (a b : Option (List ℕ)) (left left' : ℕ) → Walked keeps ks first a b left left' → length ks ≡ HDU_LIMIT → begins_extension first ≡ true → Finds a b left left' (λ bytes. HasOpenFault bytes TooLarge)
-stops_full keeps ks first a b left left' p all e =
-    finds_begun (λ bytes. HasOpenFault bytes TooLarge) a b left left' (joined_hdus p.hdus ++ first) p.taken
+pub stops_full : {K : Type 0} (keeps : K → HduParts → Type 0) (ks : List K) (first : List ℕ) (a b : Supply) → Walked keeps ks first a b → length ks ≡ HDU_LIMIT → begins_extension first ≡ true → Finds a b (λ bytes. HasOpenFault bytes TooLarge)
+stops_full keeps ks first a b p all e =
+    finds_begun (λ bytes. HasOpenFault bytes TooLarge) a b (joined_hdus p.hdus ++ first) p.taken
     (λ s le. subst (λ (t : List ℕ). HasOpenFault t TooLarge) (sym (append_assoc (joined_hdus p.hdus) first s))
     (inr (record { before = p.hdus; rest = first ++ s; front = front_rest p.hdus (first ++ s) p.front; all = omega (arith, all, each_length keeps ks p.hdus p.each); more = extension_more first s e })))
 
--- a source's fault
-pub stops_by_read : (a b : Option (List ℕ)) (left left' f g : ℕ) (fault : ReadFault) → (fault ≡ read.Memory → g ≡ f) → (fault ≡ read.Failed → g ≡ f + 1) → WalkStops a b left left' f g (of_read fault)
-stops_by_read a b left left' f g read.Memory m q = m refl
-stops_by_read a b left left' f g read.Failed m q = q refl
-
-pub ruleset walk_steps = (walked_none, walked_more, walk_shorter, next_first, next_more, stops_at_first, stops_by_read)
+pub ruleset walk_steps = (walked_none, walked_more, walk_shorter, next_first, next_more, stops_at_first)
 
 -- what is left is more than may be taken, or a call failed: so of all
-pub ends_before : (a b : Option (List ℕ)) (left' f g g' : ℕ) (bytes : List ℕ) (before : ReadFileFault) → Takes a b FILE_LIMIT left' bytes → g ≡ f → RestStops b left' g g' before → ReadStops a f g' before
-ends_before a b left' f g g' bytes (Open NotFits) p quiet stops = absurd stops
-ends_before a b left' f g g' bytes (Open (NoEnd h)) p quiet stops = absurd stops
-ends_before a b left' f g g' bytes (Open (BadShape h place)) p quiet stops = absurd stops
-ends_before a b left' f g g' bytes (Open (ShortData h)) p quiet stops = absurd stops
-ends_before a b left' f g g' bytes (Open TooLarge) p quiet stops =
-    let all = long_given a b FILE_LIMIT left' bytes p stops.0 in ((all.0, all.1, inl all.2), stops.1 ∙ quiet)
-ends_before a b left' f g g' bytes (Open Memory) p quiet stops = absurd stops
-ends_before a b left' f g g' bytes Failed p quiet stops = omega (arith, stops, quiet)
+pub ends_before : (a : SourceState) (b : Supply) (c : SourceState) (bytes : List ℕ) (before : ReadFileFault) → Takes (supply a FILE_LIMIT) b bytes → RestStops b c before → ReadStops a c before
+ends_before a b c bytes (Open NotFits) p stops = absurd stops
+ends_before a b c bytes (Open (NoEnd h)) p stops = absurd stops
+ends_before a b c bytes (Open (BadShape h place)) p stops = absurd stops
+ends_before a b c bytes (Open (ShortData h)) p stops = absurd stops
+ends_before a b c bytes (Open TooLarge) p stops =
+    let all = long_given (supply a FILE_LIMIT) b bytes p stops.0 in ((all.0, all.1, inl all.2), stops.1 ∙ p.read.quiet)
+ends_before a b c bytes (Open Memory) p stops = absurd stops
+ends_before a b c bytes Failed p stops = omega (arith, stops, p.read.quiet)
 
 -- a fault of what was taken
-pub settled_before : (a b : Option (List ℕ)) (left' f g g' : ℕ) (fault before : ReadFileFault) → is_of_bytes fault ≡ true → WalkStops a b FILE_LIMIT left' f g fault → RestStops b left' g g' before → ReadStops a f g' before
-settled_before a b left' f g g' (Open NotFits) before is p q = ends_before a b left' f g g' p.0.bytes before p.0.taken p.1 q
-settled_before a b left' f g g' (Open (NoEnd h)) before is p q = ends_before a b left' f g g' p.0.bytes before p.0.taken p.1 q
-settled_before a b left' f g g' (Open (BadShape h place)) before is p q = ends_before a b left' f g g' p.0.bytes before p.0.taken p.1 q
-settled_before a b left' f g g' (Open (ShortData h)) before is p q = ends_before a b left' f g g' p.0.bytes before p.0.taken p.1 q
-settled_before a b left' f g g' (Open TooLarge) before is p q = ends_before a b left' f g g' p.0.bytes before p.0.taken p.1 q
-settled_before a b left' f g g' (Open Memory) before is p q = absurd (false≢true is)
-settled_before a b left' f g g' Failed before is p q = absurd (false≢true is)
+pub settled_before : (a : SourceState) (b : Supply) (c : SourceState) (fault before : ReadFileFault) → is_of_bytes fault ≡ true → WalkStops (supply a FILE_LIMIT) b fault → RestStops b c before → ReadStops a c before
+settled_before a b c (Open NotFits) before is p q = ends_before a b c p.bytes before p.taken q
+settled_before a b c (Open (NoEnd h)) before is p q = ends_before a b c p.bytes before p.taken q
+settled_before a b c (Open (BadShape h place)) before is p q = ends_before a b c p.bytes before p.taken q
+settled_before a b c (Open (ShortData h)) before is p q = ends_before a b c p.bytes before p.taken q
+settled_before a b c (Open TooLarge) before is p q = ends_before a b c p.bytes before p.taken q
+settled_before a b c (Open Memory) before is p q = absurd (false≢true is)
+settled_before a b c Failed before is p q = absurd (false≢true is)
 
--- is one of all where no more is left
-pub settled_here : (a b : Option (List ℕ)) (left' f g g' : ℕ) (fault : ReadFileFault) → is_of_bytes fault ≡ true → WalkStops a b FILE_LIMIT left' f g fault → IfSome b (λ ys. length ys ≤ left') → g' ≡ g → ReadStops a f g' fault
-settled_here a b left' f g g' (Open NotFits) is p few quiet = (finds_given (λ s. HasOpenFault s NotFits) a b FILE_LIMIT left' p.0 few, quiet ∙ p.1)
-settled_here a b left' f g g' (Open (NoEnd h)) is p few quiet = (finds_given (λ s. HasOpenFault s (NoEnd h)) a b FILE_LIMIT left' p.0 few, quiet ∙ p.1)
-settled_here a b left' f g g' (Open (BadShape h place)) is p few quiet = (finds_given (λ s. HasOpenFault s (BadShape h place)) a b FILE_LIMIT left' p.0 few, quiet ∙ p.1)
-settled_here a b left' f g g' (Open (ShortData h)) is p few quiet = (finds_given (λ s. HasOpenFault s (ShortData h)) a b FILE_LIMIT left' p.0 few, quiet ∙ p.1)
-settled_here a b left' f g g' (Open TooLarge) is p few quiet = (finds_given (λ s. HasOpenFault s TooLarge) a b FILE_LIMIT left' p.0 few, quiet ∙ p.1)
-settled_here a b left' f g g' (Open Memory) is p few quiet = absurd (false≢true is)
-settled_here a b left' f g g' Failed is p few quiet = absurd (false≢true is)
+-- what was found of what was taken is so of all where no more is left
+finds_all : (P : List ℕ → Type 0) (a : SourceState) (b : Supply) (c : SourceState) → Finds (supply a FILE_LIMIT) b P → IfSome b.source.remaining (λ ys. length ys ≤ b.left) → StaysQuiet b.source c → Gives a P × StaysQuiet a c
+finds_all P a b c p few quiet = (finds_given P (supply a FILE_LIMIT) b p few, quiet ∙ p.taken.read.quiet)
+
+-- so is a fault
+pub settled_here : (a : SourceState) (b : Supply) (c : SourceState) (fault : ReadFileFault) → is_of_bytes fault ≡ true → WalkStops (supply a FILE_LIMIT) b fault → IfSome b.source.remaining (λ ys. length ys ≤ b.left) → StaysQuiet b.source c → ReadStops a c fault
+settled_here a b c (Open NotFits) is p few quiet = finds_all (λ s. HasOpenFault s NotFits) a b c p few quiet
+settled_here a b c (Open (NoEnd h)) is p few quiet = finds_all (λ s. HasOpenFault s (NoEnd h)) a b c p few quiet
+settled_here a b c (Open (BadShape h place)) is p few quiet = finds_all (λ s. HasOpenFault s (BadShape h place)) a b c p few quiet
+settled_here a b c (Open (ShortData h)) is p few quiet = finds_all (λ s. HasOpenFault s (ShortData h)) a b c p few quiet
+settled_here a b c (Open TooLarge) is p few quiet = finds_all (λ s. HasOpenFault s TooLarge) a b c p few quiet
+settled_here a b c (Open Memory) is p few quiet = absurd (false≢true is)
+settled_here a b c Failed is p few quiet = absurd (false≢true is)
 
 -- memory was refused, or a call failed
-pub settled_early : (a b : Option (List ℕ)) (left' f g : ℕ) (fault : ReadFileFault) → is_of_bytes fault ≡ false → WalkStops a b FILE_LIMIT left' f g fault → ReadStops a f g fault
-settled_early a b left' f g (Open NotFits) early p = absurd (false≢true (sym early))
-settled_early a b left' f g (Open (NoEnd h)) early p = absurd (false≢true (sym early))
-settled_early a b left' f g (Open (BadShape h place)) early p = absurd (false≢true (sym early))
-settled_early a b left' f g (Open (ShortData h)) early p = absurd (false≢true (sym early))
-settled_early a b left' f g (Open TooLarge) early p = absurd (false≢true (sym early))
-settled_early a b left' f g (Open Memory) early p = p
-settled_early a b left' f g Failed early p = p
+pub settled_early : (a b : SourceState) (left : ℕ) (fault : ReadFileFault) → is_of_bytes fault ≡ false → WalkStops (supply a FILE_LIMIT) (supply b left) fault → ReadStops a b fault
+settled_early a b left (Open NotFits) early p = absurd (false≢true (sym early))
+settled_early a b left (Open (NoEnd h)) early p = absurd (false≢true (sym early))
+settled_early a b left (Open (BadShape h place)) early p = absurd (false≢true (sym early))
+settled_early a b left (Open (ShortData h)) early p = absurd (false≢true (sym early))
+settled_early a b left (Open TooLarge) early p = absurd (false≢true (sym early))
+settled_early a b left (Open Memory) early p = p
+settled_early a b left Failed early p = p
 
 -- HDUs and what follows them are a file
 pub file_walked : {K : Type 0} (keeps : K → HduParts → Type 0) (ks : List K) (us : List HduParts) (tail : List ℕ) → KeepsEach keeps ks us → IsFrontOf (joined_hdus us) us [] → 0 < length ks → length ks ≤ HDU_LIMIT → begins_extension tail ≡ false → length (joined_hdus us ++ tail) ≤ FILE_LIMIT
@@ -245,8 +243,8 @@ file_walked keeps ks us tail each front some few ends size =
     record { front = front_rest us tail front; ends = goes_on-some us tail (omega (arith, some, count)) ∙ ends; size = size; count = omega (arith, few, count) }
 
 -- the first block of what follows the last HDU, and what is left, begin no extension
-rest_ends : (first s : List ℕ) (b : Option (List ℕ)) (left' : ℕ) → begins_extension first ≡ false → (length first < 2880 → IsSpent b left') → (IsSpent b left' → s ≡ []) → begins_extension (first ++ s) ≡ false
-rest_ends first s b left' ends short none =
+rest_ends : (first s : List ℕ) (b : Supply) → begins_extension first ≡ false → (length first < 2880 → IsSpent b) → (IsSpent b → s ≡ []) → begins_extension (first ++ s) ≡ false
+rest_ends first s b ends short none =
     elim (cases_lt (length first) 2880) [
       | inl few ↦ extension_same first s (inl (none (short few))) ∙ ends
       | inr many ↦ extension_same first s (inr (omega (arith, many))) ∙ ends
@@ -262,31 +260,31 @@ pub followed_seen : (bytes : List ℕ) (none : Bool) → none ≡ nat_eq (length
 followed_seen bytes none is = ap not is ∙ followed bytes
 
 -- bytes follow the last HDU where the first block of what follows has any
-followed_by : (first s : List ℕ) (b : Option (List ℕ)) (left' : ℕ) → (length first < 2880 → IsSpent b left') → (IsSpent b left' → s ≡ []) → not (nat_eq (length first) 0) ≡ is_followed (first ++ s)
-followed_by [] s b left' short none = rw (none (short (omega arith))) refl
-followed_by (byte ∷ bytes) s b left' short none = followed (byte ∷ bytes)
+followed_by : (first s : List ℕ) (b : Supply) → (length first < 2880 → IsSpent b) → (IsSpent b → s ≡ []) → not (nat_eq (length first) 0) ≡ is_followed (first ++ s)
+followed_by [] s b short none = rw (none (short (omega arith))) refl
+followed_by (byte ∷ bytes) s b short none = followed (byte ∷ bytes)
 
 -- all of the source is a file
-pub kept_given : {K : Type 0} (keeps : K → HduParts → Type 0) (ks : List K) (first : List ℕ) (none : Bool) (a b : Option (List ℕ)) (left' : ℕ) → Walked keeps ks first a b FILE_LIMIT left' → none ≡ nat_eq (length first) 0 → 0 < length ks → length ks ≤ HDU_LIMIT → begins_extension first ≡ false → (length first < 2880 → IsSpent b left') → IfSome b (λ ys. length ys ≤ left')
+pub kept_given : {K : Type 0} (keeps : K → HduParts → Type 0) (ks : List K) (first : List ℕ) (none : Bool) (a : SourceState) (b : Supply) → Walked keeps ks first (supply a FILE_LIMIT) b → none ≡ nat_eq (length first) 0 → 0 < length ks → length ks ≤ HDU_LIMIT → begins_extension first ≡ false → (length first < 2880 → IsSpent b) → IfSome b.source.remaining (λ ys. length ys ≤ b.left)
     → Gives a (IsWalkOf keeps ks (not none))
-kept_given keeps ks first none a b left' p is some few ends short rest =
-    let s = rest_given b left' rest in
+kept_given keeps ks first none a b p is some few ends short rest =
+    let s = rest_given b rest in
     let same : (joined_hdus p.hdus ++ first) ++ s.0 ≡ joined_hdus p.hdus ++ (first ++ s.0) = append_assoc (joined_hdus p.hdus) first s.0 in
     let size : length (joined_hdus p.hdus ++ (first ++ s.0)) ≤ FILE_LIMIT = omega (arith, p.taken.count, s.2.0, ap length (sym same), length-append (joined_hdus p.hdus ++ first) s.0) in
     let file : FileParts = record { hdus = p.hdus; tail = first ++ s.0 } in (
       joined_hdus p.hdus ++ (first ++ s.0),
-      subst (λ (t : List ℕ). Tells a t) same (tells_after a b FILE_LIMIT left' (joined_hdus p.hdus ++ first) s.0 p.taken s.1),
-      (file, file_walked keeps ks p.hdus (first ++ s.0) p.each p.front some few (rest_ends first s.0 b left' ends short s.2.1) size, p.each, ap not is ∙ followed_by first s.0 b left' short s.2.1),
+      subst (λ (t : List ℕ). Tells a t) same (tells_after (supply a FILE_LIMIT) b (joined_hdus p.hdus ++ first) s.0 p.taken s.1),
+      (file, file_walked keeps ks p.hdus (first ++ s.0) p.each p.front some few (rest_ends first s.0 b ends short s.2.1) size, p.each, ap not is ∙ followed_by first s.0 b short s.2.1),
     )
 
 -- a walk whose source has more than may be taken, or fails
-pub kept_before : {K : Type 0} (keeps : K → HduParts → Type 0) (ks : List K) (first : List ℕ) (a b : Option (List ℕ)) (left' f g g' : ℕ) (before : ReadFileFault) → Walked keeps ks first a b FILE_LIMIT left' → g ≡ f → RestStops b left' g g' before → ReadStops a f g' before
-kept_before keeps ks first a b left' f g g' before p quiet q = ends_before a b left' f g g' (joined_hdus p.hdus ++ first) before p.taken quiet q
+pub kept_before : {K : Type 0} (keeps : K → HduParts → Type 0) (ks : List K) (first : List ℕ) (a : SourceState) (b : Supply) (c : SourceState) (before : ReadFileFault) → Walked keeps ks first (supply a FILE_LIMIT) b → RestStops b c before → ReadStops a c before
+kept_before keeps ks first a b c before p q = ends_before a b c (joined_hdus p.hdus ++ first) before p.taken q
 
 pub ruleset kept_steps = (kept_given, kept_before)
 
 -- what is kept of a file, whatever follows
-pub kept_alone : {K : Type 0} (keeps : K → HduParts → Type 0) (ks : List K) (followed : Bool) (a : Option (List ℕ)) → Gives a (IsWalkOf keeps ks followed) → Gives a (IsKeptOf keeps ks)
+pub kept_alone : {K : Type 0} (keeps : K → HduParts → Type 0) (ks : List K) (followed : Bool) (a : SourceState) → Gives a (IsWalkOf keeps ks followed) → Gives a (IsKeptOf keeps ks)
 kept_alone keeps ks followed a p = (p.0, p.1, (p.2.0, p.2.1, p.2.2))
 
 pub ruleset outline_steps = (kept_alone)
@@ -303,40 +301,35 @@ each_is (hdu ∷ hdus) [] p = absurd p
 each_is (hdu ∷ hdus) (u ∷ us) p = rw (p.0, each_is hdus us p.1) refl
 
 -- they and the tail were taken
-pub session_taken : (hdus : List HduState) (first tail : List ℕ) (a b c : Option (List ℕ)) (left left' left'' : ℕ) → Walked (λ (it : HduState) hdu. it.hdu ≡ hdu) hdus first a b left left' → TakesAfter first b c left' left'' tail
-    → Takes a c left left'' (joined_hdus (hdus_of (held_of hdus)) ++ tail)
-session_taken hdus first tail a b c left left' left'' p q = rw (each_is hdus p.hdus p.each) (takes_before a b c left left' left'' (joined_hdus p.hdus) first tail p.taken q)
+pub session_taken : (hdus : List HduState) (first tail : List ℕ) (a b c : Supply) → Walked (λ (it : HduState) hdu. it.hdu ≡ hdu) hdus first a b → TakesAfter first b c tail
+    → Takes a c (joined_hdus (hdus_of (held_of hdus)) ++ tail)
+session_taken hdus first tail a b c p q = rw (each_is hdus p.hdus p.each) (takes_before a b c (joined_hdus p.hdus) first tail p.taken q)
 
 -- and are a file
-pub session_whole : (hdus : List HduState) (first tail : List ℕ) (a b c : Option (List ℕ)) (left' left'' : ℕ) → Walked (λ (it : HduState) hdu. it.hdu ≡ hdu) hdus first a b FILE_LIMIT left' → TakesAfter first b c left' left'' tail → 0 < length hdus → length hdus ≤ HDU_LIMIT → begins_extension tail ≡ false
+pub session_whole : (hdus : List HduState) (first tail : List ℕ) (a : SourceState) (b c : Supply) → Walked (λ (it : HduState) hdu. it.hdu ≡ hdu) hdus first (supply a FILE_LIMIT) b → TakesAfter first b c tail → 0 < length hdus → length hdus ≤ HDU_LIMIT → begins_extension tail ≡ false
     → IsFile (file_of (state_of hdus tail))
-session_whole hdus first tail a b c left' left'' p q some few ends =
-    let taken : Takes a c FILE_LIMIT left'' (joined_hdus p.hdus ++ tail) = takes_before a b c FILE_LIMIT left' left'' (joined_hdus p.hdus) first tail p.taken q in
+session_whole hdus first tail a b c p q some few ends =
+    let taken : Takes (supply a FILE_LIMIT) c (joined_hdus p.hdus ++ tail) = takes_before (supply a FILE_LIMIT) b c (joined_hdus p.hdus) first tail p.taken q in
     rw (each_is hdus p.hdus p.each) (file_walked (λ (it : HduState) hdu. it.hdu ≡ hdu) hdus p.hdus tail p.each p.front some few ends (omega (arith, taken.count)))
 
 -- of which nothing is left
-pub session_given : (hdus : List HduState) (tail : List ℕ) (a c : Option (List ℕ)) (left'' : ℕ) → Takes a c FILE_LIMIT left'' (joined_hdus (hdus_of (held_of hdus)) ++ tail) → IsSpent c left'' → IfSome c (λ ys. length ys ≤ left'') → IsFile (file_of (state_of hdus tail))
+pub session_given : (hdus : List HduState) (tail : List ℕ) (a : SourceState) (c : Supply) → Takes (supply a FILE_LIMIT) c (joined_hdus (hdus_of (held_of hdus)) ++ tail) → IsSpent c → IfSome c.source.remaining (λ ys. length ys ≤ c.left) → IsFile (file_of (state_of hdus tail))
     → Gives a (λ bytes. IsFileOf bytes (file_of (state_of hdus tail)))
-session_given hdus tail a c left'' taken spent few file =
+session_given hdus tail a c taken spent few file =
     let bytes : List ℕ = joined_hdus (hdus_of (held_of hdus)) ++ tail in
-    let s = rest_given c left'' few in
-    let told : Tells a (bytes ++ s.0) = tells_after a c FILE_LIMIT left'' bytes s.0 taken s.1 in
+    let s = rest_given c few in
+    let told : Tells a (bytes ++ s.0) = tells_after (supply a FILE_LIMIT) c bytes s.0 taken s.1 in
     (bytes, subst (λ (t : List ℕ). Tells a t) (ap (λ t. bytes ++ t) (s.2.1 spent) ∙ append-nil bytes) told, file)
 
 -- how many bytes the HDUs have
-pub hdus_length : (hdus : List HduState) (first : List ℕ) (a b : Option (List ℕ)) (left' : ℕ) → Walked (λ (it : HduState) hdu. it.hdu ≡ hdu) hdus first a b FILE_LIMIT left' → FILE_LIMIT ≡ left' + (length (joined_hdus (hdus_of (held_of hdus))) + length first)
-hdus_length hdus first a b left' p =
-    rw (each_is hdus p.hdus p.each) (p.taken.count ∙ ap (λ n. left' + n) (length-append (joined_hdus p.hdus) first))
+pub hdus_length : (hdus : List HduState) (first : List ℕ) (a : SourceState) (b : Supply) → Walked (λ (it : HduState) hdu. it.hdu ≡ hdu) hdus first (supply a FILE_LIMIT) b → FILE_LIMIT ≡ b.left + (length (joined_hdus (hdus_of (held_of hdus))) + length first)
+hdus_length hdus first a b p =
+    rw (each_is hdus p.hdus p.each) (p.taken.count ∙ ap (λ n. b.left + n) (length-append (joined_hdus p.hdus) first))
 
 -- the tail that was read begins no extension
-pub tail_ends : (first tail : List ℕ) (a b : Option (List ℕ)) (left left' : ℕ) → TakesAfter first a b left left' tail → 2880 ≤ length first → begins_extension tail ≡ begins_extension first
-tail_ends first tail a b left left' p many = ap begins_extension p.joined ∙ extension_same first p.more (inr (omega (arith, many)))
-
--- memory for it was refused, or a call failed
-pub reads_by_read : (a : Option (List ℕ)) (f g : ℕ) (fault : ReadFault) → (fault ≡ read.Memory → g ≡ f) → (fault ≡ read.Failed → g ≡ f + 1) → ReadStops a f g (of_read fault)
-reads_by_read a f g read.Memory m q = m refl
-reads_by_read a f g read.Failed m q = q refl
+pub tail_ends : (first tail : List ℕ) (a b : Supply) → TakesAfter first a b tail → 2880 ≤ length first → begins_extension tail ≡ begins_extension first
+tail_ends first tail a b p many = ap begins_extension p.joined ∙ extension_same first p.more (inr (omega (arith, many)))
 
 pub ruleset tail_steps = (takes_after_none, tail_ends)
 
-pub ruleset session_steps = (hdus_length, session_taken, session_whole, session_given, reads_by_read, ends_before)
+pub ruleset session_steps = (hdus_length, session_taken, session_whole, session_given, ends_before)

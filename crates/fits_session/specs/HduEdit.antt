@@ -2,10 +2,12 @@
 use Rattle.std.specs.Prelude.{ℕ, ℤ, Bool, List, Result, Ok, Err, if◌then◌else◌}
 use Rattle.fits_card.specs.Change.{cards_after}
 use Rattle.fits_card.specs.declared.change.Change.{Change}
+use Rattle.fits_plane.specs.declared.paint.Paint.{Paint as PlanePaint}
+use Rattle.fits_plane.specs.declared.paint.Paint.TheVariants as plane
 use Rattle.fits_rules.specs.Shape.{shape_of}
 use Rattle.fits_rules.specs.declared.array_shape.Shape.{Shape}
 use Rattle.fits_hdu.specs.Hdu.{HduParts, hdu_after, keeps_shape}
-use Rattle.fits_hdu.specs.Pixels.{filled, written}
+use Rattle.fits_hdu.specs.Pixels.{painted}
 use Rattle.fits_hdu.specs.Stamp.{stamped}
 use Rattle.fits_hdu.specs.declared.pixel_fault.PixelFault.{PixelFault}
 use Rattle.fits_hdu.specs.declared.pixel_fault.PixelFault.TheVariants as pixel
@@ -41,14 +43,14 @@ abbrev pub shaped : {X : Type 0} → Result Shape ℕ → (Shape → Result X Pi
 shaped (Ok shape) make = pixels_made (make shape)
 shaped (Err place) make = Err refusal.NotImage
 
--- an HDU with the pixels of a rectangle painted, by its shape
-abbrev pub painted_by : Shape → List ℕ → List ℕ → Paint → HduParts → Result HduParts PixelFault
-painted_by shape lo hi (Fill value) hdu = filled shape lo hi value hdu
-painted_by shape lo hi (Write values) hdu = written shape lo hi values hdu
+-- what a plane is given
+abbrev pub plane_paint : Paint → PlanePaint
+plane_paint (Fill value) = plane.Fill value
+plane_paint (Write values) = plane.Write values
 
 -- an HDU with the pixels of a rectangle painted, or why not
 abbrev pub hdu_painted : Bool → List ℕ → List ℕ → Paint → HduParts → Result HduParts Refusal
-hdu_painted primary lo hi paint hdu = shaped (shape_of primary hdu.header.cards) (λ shape. painted_by shape lo hi paint hdu)
+hdu_painted primary lo hi paint hdu = shaped (shape_of primary hdu.header.cards) (λ shape. painted shape lo hi (plane_paint paint) hdu)
 
 -- what an edit makes of an HDU, the primary one or an extension, or the first of its own tests that fails
 unfoldable pub hdu_made : Bool → HduEdit → HduParts → Result HduParts Refusal

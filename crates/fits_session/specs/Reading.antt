@@ -1,7 +1,8 @@
 -- How a file is read from a source, whatever is kept of its HDUs (own).
-use Rattle.std.specs.Prelude.{◌≡◌, ℕ, ◌+◌, ◌<◌, Bool, true, false, List, [], ◌∷◌, ◌++◌, length, nat_eq, codes, Option, IfSome}
+use Rattle.std.specs.Prelude.{◌≡◌, ℕ, ◌<◌, Bool, true, false, List, [], ◌∷◌, ◌++◌, length, nat_eq, codes, IfSome}
 use Rattle.std.specs.List.{starts_with}
-use Rattle.fits_card.specs.Intake.{Finds, Gives, Takes}
+use Rattle.fits_card.specs.Intake.{Supply, Finds, Gives, Takes}
+use Rattle.fits_card.specs.Stream.{SourceState, FailsOnce, StaysQuiet}
 use Rattle.fits_card.specs.declared.reading.ReadFault.{ReadFault}
 use Rattle.fits_card.specs.declared.reading.ReadFault.TheVariants as read
 use Rattle.fits_hdu.specs.Findings.{AreFindings}
@@ -30,22 +31,22 @@ file_fault_of (hdu.Hdu fault) h = Open (open_fault_of fault h)
 file_fault_of hdu.Failed h = Failed
 
 -- the bytes that may be taken don't open, for this fault; or memory was refused; or a call failed
-abbrev pub WalkStops : Option (List ℕ) → Option (List ℕ) → ℕ → ℕ → ℕ → ℕ → ReadFileFault → Type 0
-WalkStops old new left left' failures failures' (Open Memory) = failures' ≡ failures
-WalkStops old new left left' failures failures' (Open fault) = Finds old new left left' (λ bytes. HasOpenFault bytes fault) × (failures' ≡ failures)
-WalkStops old new left left' failures failures' Failed = failures' ≡ failures + 1
+abbrev pub WalkStops : Supply → Supply → ReadFileFault → Type 0
+WalkStops old new (Open Memory) = StaysQuiet old.source new.source
+WalkStops old new (Open fault) = Finds old new (λ bytes. HasOpenFault bytes fault)
+WalkStops old new Failed = FailsOnce old.source new.source
 
 -- all the bytes of a source don't open, for this fault; or memory was refused; or a call failed
-abbrev pub ReadStops : Option (List ℕ) → ℕ → ℕ → ReadFileFault → Type 0
-ReadStops old failures failures' (Open Memory) = failures' ≡ failures
-ReadStops old failures failures' (Open fault) = Gives old (λ bytes. HasOpenFault bytes fault) × (failures' ≡ failures)
-ReadStops old failures failures' Failed = failures' ≡ failures + 1
+abbrev pub ReadStops : SourceState → SourceState → ReadFileFault → Type 0
+ReadStops old new (Open Memory) = StaysQuiet old new
+ReadStops old new (Open fault) = Gives old (λ bytes. HasOpenFault bytes fault) × StaysQuiet old new
+ReadStops old new Failed = FailsOnce old new
 
 -- more is left than may be taken; or a call failed
-abbrev pub RestStops : Option (List ℕ) → ℕ → ℕ → ℕ → ReadFileFault → Type 0
-RestStops old left failures failures' (Open TooLarge) = IfSome old (λ bytes. left < length bytes) × (failures' ≡ failures)
-RestStops old left failures failures' (Open fault) = ⊥
-RestStops old left failures failures' Failed = failures' ≡ failures + 1
+abbrev pub RestStops : Supply → SourceState → ReadFileFault → Type 0
+RestStops old new (Open TooLarge) = IfSome old.source.remaining (λ bytes. old.left < length bytes) × StaysQuiet old.source new
+RestStops old new (Open fault) = ⊥
+RestStops old new Failed = FailsOnce old.source new
 
 -- the bytes are at fault, and not memory or a call
 abbrev pub is_of_bytes : ReadFileFault → Bool
@@ -61,11 +62,11 @@ KeepsEach keeps (k ∷ ks) [] = ⊥
 KeepsEach keeps (k ∷ ks) (u ∷ us) = keeps k u × KeepsEach keeps ks us
 
 -- HDUs were taken, of which this is kept, and the first block of what follows them
-pub record Walked {K : Type 0} (keeps : K → HduParts → Type 0) (kept : List K) (first : List ℕ) (old new : Option (List ℕ)) (left left' : ℕ) : Type 0 where
+pub record Walked {K : Type 0} (keeps : K → HduParts → Type 0) (kept : List K) (first : List ℕ) (old new : Supply) : Type 0 where
   pub hdus : List HduParts
   pub each : KeepsEach keeps kept hdus
   pub front : IsFrontOf (joined_hdus hdus) hdus []
-  pub taken : Takes old new left left' (joined_hdus hdus ++ first)
+  pub taken : Takes old new (joined_hdus hdus ++ first)
 
 -- the bytes are a file, of whose HDUs this is kept
 abbrev pub IsKeptOf : {K : Type 0} → (K → HduParts → Type 0) → List K → List ℕ → Type 0

@@ -1,6 +1,7 @@
 //! The HDUs of a source without their cards and data.
-ghost use Rattle.std.specs.Prelude.{◌≡◌, IfOk, IfErr, OnOk};
+ghost use Rattle.std.specs.Prelude.{IfOk, IfErr, OnOk};
 ghost use Rattle.fits_card.specs.Intake.{Gives};
+ghost use Rattle.fits_card.specs.Stream.{StaysQuiet};
 ghost use Rattle.fits_session.specs.Reading.{IsOutlineOf, ReadStops};
 
 use crate::read_fault::ReadFileFault;
@@ -18,11 +19,9 @@ pub fn read_outlines<R: Source>(
     alloc: Global,
     source: &mut R,
 ) -> Result<Vec<Outline>, ReadFileFault>
-    ensures ok { IfOk result (λ outlines. Gives (R.remaining source.old)
-        (IsOutlineOf outlines.items)) }
-    ensures quiet { OnOk result (R.failures source.new ≡ R.failures source.old) }
-    ensures err { IfErr result (ReadStops (R.remaining source.old)
-        (R.failures source.old) (R.failures source.new)) }
+    ensures ok { IfOk result (λ outlines. Gives (R.state source.old) (IsOutlineOf outlines.items)) }
+    ensures quiet { OnOk result (StaysQuiet (R.state source.old) (R.state source.new)) }
+    ensures err { IfErr result (ReadStops (R.state source.old) (R.state source.new)) }
 {
     let (outlines, _) = read_kept(alloc, source)?;
     Ok(outlines)

@@ -1,6 +1,7 @@
 //! The report of a file.
 ghost use Rattle.std.specs.Prelude.{◌≡◌, ◌++◌, ◌+◌, length, map, List, ℕ, IfOk, IfErr, OnOk};
 ghost use Rattle.fits_card.specs.Intake.{Gives};
+ghost use Rattle.fits_card.specs.Stream.{StaysQuiet};
 ghost use Rattle.fits_header.specs.Findings.{found_at};
 ghost use Rattle.fits_hdu.specs.ExtensionName.{name_codes};
 ghost use Rattle.fits_session.specs.File.{FileParts, IsFileOf, is_followed};
@@ -22,11 +23,9 @@ use std::alloc::{AllocError, Global};
 ///
 /// No data unit and no tail is kept.
 pub fn read_report<R: Source>(alloc: Global, source: &mut R) -> Result<Vec<Problem>, ReadFileFault>
-    ensures ok { IfOk result (λ report. Gives (R.remaining source.old)
-        (IsReportOf report.items)) }
-    ensures quiet { OnOk result (R.failures source.new ≡ R.failures source.old) }
-    ensures err { IfErr result (ReadStops (R.remaining source.old)
-        (R.failures source.old) (R.failures source.new)) }
+    ensures ok { IfOk result (λ report. Gives (R.state source.old) (IsReportOf report.items)) }
+    ensures quiet { OnOk result (StaysQuiet (R.state source.old) (R.state source.new)) }
+    ensures err { IfErr result (ReadStops (R.state source.old) (R.state source.new)) }
 {
     let (found, followed) = read_kept::<Findings, R>(alloc, source)?;
     let report = report_of(alloc, &found, followed)?;

@@ -55,6 +55,7 @@ impl Model for Session {
 impl Session {
     ghost use Rattle.std.specs.Prelude.{◌≡◌, ◌<◌, length, IfOk, IfErr, IsErrOf, OnOk};
     ghost use Rattle.fits_card.specs.Intake.{Gives};
+    ghost use Rattle.fits_card.specs.Stream.{StaysQuiet};
     ghost use Rattle.fits_session.specs.File.{IsFileOf};
     ghost use Rattle.fits_session.specs.declared.limits.TheConstants.{FILE_LIMIT};
     ghost use Rattle.fits_session.specs.Opening.{HasOpenFault, OpenFails};
@@ -88,11 +89,10 @@ impl Session {
     /// The source is read to its end, or past the limit of a file. That it is too long comes before
     /// all else, then a failed call, then a fault of its bytes. `Memory` may stand anywhere.
     pub fn read<R: Source>(alloc: Global, source: &mut R) -> Result<Session, ReadFileFault>
-        ensures ok { IfOk result (λ session. Gives (R.remaining source.old)
+        ensures ok { IfOk result (λ session. Gives (R.state source.old)
             (λ bytes. IsFileOf bytes (file_of session))) }
-        ensures quiet { OnOk result (R.failures source.new ≡ R.failures source.old) }
-        ensures err { IfErr result (ReadStops (R.remaining source.old)
-            (R.failures source.old) (R.failures source.new)) }
+        ensures quiet { OnOk result (StaysQuiet (R.state source.old) (R.state source.new)) }
+        ensures err { IfErr result (ReadStops (R.state source.old) (R.state source.new)) }
     {
         let (hdus, len, tail) = read_file(alloc, source)?;
         Ok(Session {

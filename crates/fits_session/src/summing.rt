@@ -1,6 +1,7 @@
 //! The sums of the HDUs of a source, whose data pass by.
-ghost use Rattle.std.specs.Prelude.{◌≡◌, IfOk, IfErr, OnOk};
+ghost use Rattle.std.specs.Prelude.{IfOk, IfErr, OnOk};
 ghost use Rattle.fits_card.specs.Intake.{Gives};
+ghost use Rattle.fits_card.specs.Stream.{StaysQuiet};
 ghost use Rattle.fits_session.specs.Reading.{AreSumsOfFile, ReadStops};
 
 use crate::read_fault::ReadFileFault;
@@ -14,11 +15,9 @@ use std::alloc::Global;
 /// No data unit and no tail is kept.
 #[tactic(auto, using(crate::proofs::WalkLemmas::outline_steps))]
 pub fn read_sums<R: Source>(alloc: Global, source: &mut R) -> Result<Vec<HduSums>, ReadFileFault>
-    ensures ok { IfOk result (λ sums. Gives (R.remaining source.old)
-        (AreSumsOfFile sums.items)) }
-    ensures quiet { OnOk result (R.failures source.new ≡ R.failures source.old) }
-    ensures err { IfErr result (ReadStops (R.remaining source.old)
-        (R.failures source.old) (R.failures source.new)) }
+    ensures ok { IfOk result (λ sums. Gives (R.state source.old) (AreSumsOfFile sums.items)) }
+    ensures quiet { OnOk result (StaysQuiet (R.state source.old) (R.state source.new)) }
+    ensures err { IfErr result (ReadStops (R.state source.old) (R.state source.new)) }
 {
     let (sums, _) = read_kept(alloc, source)?;
     Ok(sums)

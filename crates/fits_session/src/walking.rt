@@ -1,8 +1,9 @@
 //! A walk over the HDUs of a source, whatever is kept of them.
-ghost use Rattle.std.specs.Prelude.{◌≡◌, ◌+◌, ◌≤◌, ◌<◌, false, length, codes, nat_eq, ℕ, List, Option, IfOk, IfErr, IfSome, OnOk};
+ghost use Rattle.std.specs.Prelude.{◌≡◌, ◌≤◌, ◌<◌, false, length, codes, nat_eq, IfOk, IfErr, IfSome, OnOk};
 ghost use Rattle.std.specs.List.{starts_with};
 ghost use Rattle.fits_card.specs.declared.card_list.TheConstants.{BLOCK_LEN};
-ghost use Rattle.fits_card.specs.Intake.{Gives, IsSpent};
+ghost use Rattle.fits_card.specs.Intake.{supply, Gives, IsSpent};
+ghost use Rattle.fits_card.specs.Stream.{SourceState, StaysQuiet};
 ghost use Rattle.fits_session.specs.File.{begins_extension};
 ghost use Rattle.fits_session.specs.declared.limits.TheConstants.{FILE_LIMIT, HDU_LIMIT};
 ghost use Rattle.fits_session.specs.Reading.{file_fault_of, is_of_bytes, IsWalkOf, ReadStops, RestStops, Walked, WalkStops};
@@ -24,17 +25,15 @@ pub(crate) fn walk<K: Kept + Drop, R: Source>(
 ) -> Result<(Vec<K>, Vec<u8>), ReadFileFault>
     requires { intake.old ≤ FILE_LIMIT }
     ensures walked { IfOk result (λ parts. Walked K.keeps parts.0.items parts.1.items
-        (R.remaining source.old) (R.remaining source.new) intake.old intake.new) }
+        (supply (R.state source.old) intake.old) (supply (R.state source.new) intake.new)) }
     ensures some { IfOk result (λ parts. 0 < length parts.0.items) }
     ensures few { IfOk result (λ parts. length parts.0.items ≤ HDU_LIMIT) }
     ensures ends { IfOk result (λ parts. begins_extension parts.1.items ≡ false) }
     ensures within { IfOk result (λ parts. length parts.1.items ≤ BLOCK_LEN) }
     ensures short { IfOk result (λ parts. length parts.1.items < BLOCK_LEN
-        → IsSpent (R.remaining source.new) intake.new) }
-    ensures quiet { OnOk result (R.failures source.new ≡ R.failures source.old) }
+        → IsSpent (supply (R.state source.new) intake.new)) }
     ensures err { IfErr result (WalkStops
-        (R.remaining source.old) (R.remaining source.new) intake.old intake.new
-        (R.failures source.old) (R.failures source.new)) }
+        (supply (R.state source.old) intake.old) (supply (R.state source.new) intake.new)) }
 {
     let mut kept = Vec::new(alloc);
     let mut first = match intake.take(alloc, source, BLOCK_LEN) {
@@ -69,11 +68,10 @@ pub(crate) fn read_kept<K: Kept + Drop, R: Source>(
     alloc: Global,
     source: &mut R,
 ) -> Result<(Vec<K>, bool), ReadFileFault>
-    ensures ok { IfOk result (λ walk. Gives (R.remaining source.old)
+    ensures ok { IfOk result (λ walk. Gives (R.state source.old)
         (IsWalkOf K.keeps walk.0.items walk.1)) }
-    ensures quiet { OnOk result (R.failures source.new ≡ R.failures source.old) }
-    ensures err { IfErr result (ReadStops (R.remaining source.old)
-        (R.failures source.old) (R.failures source.new)) }
+    ensures quiet { OnOk result (StaysQuiet (R.state source.old) (R.state source.new)) }
+    ensures err { IfErr result (ReadStops (R.state source.old) (R.state source.new)) }
 {
     let mut intake = Intake::new(alloc, FILE_LIMIT as usize)?;
     match walk(alloc, &mut intake, source) {
@@ -88,10 +86,11 @@ pub(crate) fn read_kept<K: Kept + Drop, R: Source>(
 /// Goes past what may still be taken. A source that has more is too large.
 #[tactic(auto, using(crate::proofs::WalkLemmas::end_steps))]
 pub(crate) fn end<R: Source>(intake: Intake, source: &mut R) -> Result<(), ReadFileFault>
-    ensures ok { OnOk result (IfSome (R.remaining source.old) (λ bytes. length bytes ≤ intake)) }
-    ensures quiet { OnOk result (R.failures source.new ≡ R.failures source.old) }
-    ensures err { IfErr result (RestStops (R.remaining source.old) intake
-        (R.failures source.old) (R.failures source.new)) }
+    ensures ok { OnOk result (IfSome (R.state source.old).remaining
+        (λ bytes. length bytes ≤ intake)) }
+    ensures quiet { OnOk result (StaysQuiet (R.state source.old) (R.state source.new)) }
+    ensures err { IfErr result (RestStops (supply (R.state source.old) intake)
+        (R.state source.new)) }
 {
     match intake.overruns(source) {
         Ok(true) => Err(ReadFileFault::Open(OpenFault::TooLarge)),
@@ -108,10 +107,9 @@ pub(crate) fn settled<R: Source>(
     source: &mut R,
     fault: ReadFileFault,
 ) -> ReadFileFault
-    ensures { (old : Option (List ℕ)) (failures : ℕ)
-        → WalkStops old (R.remaining source.old) FILE_LIMIT intake
-        failures (R.failures source.old) fault
-        → ReadStops old failures (R.failures source.new) result }
+    ensures { (first : SourceState)
+        → WalkStops (supply first FILE_LIMIT) (supply (R.state source.old) intake) fault
+        → ReadStops first (R.state source.new) result }
 {
     if !is_of_bytes(fault) {
         return fault;

@@ -1,7 +1,8 @@
 //! The HDUs of a source, and what follows them.
 ghost use Rattle.std.specs.Prelude.{◌≡◌, ◌+◌, ◌≤◌, ◌<◌, ◌^◌, false, length, IfOk, IfErr, IsErrOf, OnOk};
 ghost use Rattle.fits_card.specs.declared.card_list.TheConstants.{BLOCK_LEN};
-ghost use Rattle.fits_card.specs.Intake.{Gives, IsSpent, TakesAfter};
+ghost use Rattle.fits_card.specs.Intake.{supply, Gives, IsSpent, TakesAfter, TakingStops};
+ghost use Rattle.fits_card.specs.Stream.{StaysQuiet};
 ghost use Rattle.fits_session.specs.File.{begins_extension, file_bytes, IsFile, IsFileOf};
 ghost use Rattle.fits_session.specs.Reading.{ReadStops};
 ghost use Rattle.fits_session.specs.Session.{file_of, state_of};
@@ -19,15 +20,14 @@ pub(crate) fn read_file<R: Source>(
     alloc: Global,
     source: &mut R,
 ) -> Result<(Vec<Hdu>, u64, Vec<u8>), ReadFileFault>
-    ensures ok { IfOk result (λ parts. Gives (R.remaining source.old)
-        (λ bytes. IsFileOf bytes (file_of (state_of parts.0.items parts.2.items)))) }
+    ensures ok { IfOk result (λ parts. Gives (R.state source.old) (λ bytes. IsFileOf bytes
+        (file_of (state_of parts.0.items parts.2.items)))) }
     ensures whole { IfOk result (λ parts. IsFile
         (file_of (state_of parts.0.items parts.2.items))) }
     ensures len { IfOk result (λ parts. parts.1
         ≡ length (file_bytes (file_of (state_of parts.0.items parts.2.items)))) }
-    ensures quiet { OnOk result (R.failures source.new ≡ R.failures source.old) }
-    ensures err { IfErr result (ReadStops (R.remaining source.old)
-        (R.failures source.old) (R.failures source.new)) }
+    ensures quiet { OnOk result (StaysQuiet (R.state source.old) (R.state source.new)) }
+    ensures err { IfErr result (ReadStops (R.state source.old) (R.state source.new)) }
 {
     let mut intake = Intake::new(alloc, FILE_LIMIT as usize)?;
     let (hdus, first) = match walk(alloc, &mut intake, source) {
@@ -56,17 +56,15 @@ fn read_tail<R: Source>(
     first: Vec<u8>,
 ) -> Result<Vec<u8>, ReadFault>
     requires room { intake.old + length first.items ≤ 2 ^ 34 }
-    requires short { length first.items < BLOCK_LEN → IsSpent (R.remaining source.old) intake.old }
+    requires short { length first.items < BLOCK_LEN
+        → IsSpent (supply (R.state source.old) intake.old) }
     requires ends { begins_extension first.items ≡ false }
     ensures ok { IfOk result (λ tail. TakesAfter first.items
-        (R.remaining source.old) (R.remaining source.new) intake.old intake.new tail.items) }
+        (supply (R.state source.old) intake.old) (supply (R.state source.new) intake.new)
+        tail.items) }
     ensures ends { IfOk result (λ tail. begins_extension tail.items ≡ false) }
-    ensures spent { OnOk result (IsSpent (R.remaining source.new) intake.new) }
-    ensures quiet { OnOk result (R.failures source.new ≡ R.failures source.old) }
-    ensures failed { IsErrOf result ReadFault.Failed
-        → R.failures source.new ≡ R.failures source.old + 1 }
-    ensures memory { IsErrOf result ReadFault.Memory
-        → R.failures source.new ≡ R.failures source.old }
+    ensures spent { OnOk result (IsSpent (supply (R.state source.new) intake.new)) }
+    ensures err { IfErr result (TakingStops (R.state source.old) (R.state source.new)) }
 {
     if first.len() < BLOCK_LEN {
         return Ok(first);

@@ -1,7 +1,6 @@
 //! Writing the file.
 ghost use Rattle.std.specs.Prelude.{◌≡◌, ◌+◌, IsOk, IsErr, OnOk, OnErr};
-ghost use Rattle.std.specs.Io.KnownBytes.{Appends};
-ghost use Rattle.fits_card.specs.Stream.{AppendsFront};
+ghost use Rattle.fits_card.specs.Stream.{Prints, PrintsFront};
 ghost use Rattle.fits_session.specs.File.{joined_hdus};
 ghost use Rattle.fits_session.specs.Session.{hdus_of, held_of, each_read, ReadsOnceAtMost};
 
@@ -13,22 +12,17 @@ use std::io;
 
 impl Session {
     ghost use Rattle.std.specs.Prelude.{◌≡◌, ◌+◌, OnOk, OnErr};
-    ghost use Rattle.std.specs.Io.KnownBytes.{Appends};
-    ghost use Rattle.fits_card.specs.Stream.{AppendsFront};
+    ghost use Rattle.fits_card.specs.Stream.{Prints, PrintsFront};
     ghost use Rattle.fits_session.specs.File.{file_bytes};
     ghost use Rattle.fits_session.specs.Session.{file_of, each_read, ReadsOnceAtMost};
 
     /// Writes the file. Where a call fails a prefix was written. It takes no memory.
     #[tactic(auto, using(crate::proofs::SaveLemmas::save_steps))]
     pub fn save<W: Sink>(&mut self, sink: &mut W) -> Result<(), SaveFault>
-        ensures ok { OnOk result (Appends (W.contents sink.old) (W.contents sink.new) (file_bytes
-            (file_of self.old))) }
-        ensures err { OnErr result (AppendsFront (W.contents sink.old) (W.contents sink.new)
-            (file_bytes (file_of self.old))) }
-
-        // It fails exactly where a call did.
-        ensures quiet { OnOk result (W.failures sink.new ≡ W.failures sink.old) }
-        ensures failed { OnErr result (W.failures sink.new ≡ W.failures sink.old + 1) }
+        ensures ok { OnOk result (Prints (file_bytes (file_of self.old))
+            (W.state sink.old) (W.state sink.new)) }
+        ensures err { OnErr result (PrintsFront (file_bytes (file_of self.old))
+            (W.state sink.old) (W.state sink.new)) }
 
         // The file stays, and each card is read once at most.
         ensures file { file_of self.new ≡ file_of self.old }
@@ -54,12 +48,10 @@ fn outcome(written: io::Result<()>) -> Result<(), SaveFault>
 // Writes HDUs, one after another. Where a call fails a prefix was written.
 #[tactic(auto, using(crate::proofs::SaveLemmas::save_steps))]
 fn write_hdus<W: Sink>(hdus: &mut Vec<Hdu>, sink: &mut W) -> io::Result<()>
-    ensures ok { OnOk result (Appends (W.contents sink.old) (W.contents sink.new) (joined_hdus
-        (hdus_of (held_of hdus.old.items)))) }
-    ensures err { OnErr result (AppendsFront (W.contents sink.old) (W.contents sink.new)
-        (joined_hdus (hdus_of (held_of hdus.old.items)))) }
-    ensures quiet { OnOk result (W.failures sink.new ≡ W.failures sink.old) }
-    ensures failed { OnErr result (W.failures sink.new ≡ W.failures sink.old + 1) }
+    ensures ok { OnOk result (Prints (joined_hdus (hdus_of (held_of hdus.old.items)))
+        (W.state sink.old) (W.state sink.new)) }
+    ensures err { OnErr result (PrintsFront (joined_hdus (hdus_of (held_of hdus.old.items)))
+        (W.state sink.old) (W.state sink.new)) }
     ensures work { ReadsOnceAtMost (held_of hdus.old.items) (held_of hdus.new.items) }
     ensures all_read { OnOk result (held_of hdus.new.items ≡ each_read (held_of hdus.old.items)) }
 {

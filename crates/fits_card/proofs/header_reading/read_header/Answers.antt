@@ -8,7 +8,7 @@ use Rattle.fits_card.proofs.header_reading.read_header.Goals as goal
 -- the source ended, or the limit came, within a block
 pub returns-then-len-lt-BLOCK_LEN-clause-err : goal.returns-then-len-lt-BLOCK_LEN-clause-err
 returns-then-len-lt-BLOCK_LEN-clause-err g c =
-    (stops_short c.block.cards.items c.block.block.items _ _ _ _ _ c.block.invariant.taken (c.block.invariant.short (grind (arith, common_steps))) c.block.invariant.inner c.block.invariant.full (grind (arith, common_steps)), c.block.invariant.quiet)
+    stops_short c.block.cards.items c.block.block.items _ _ _ c.block.invariant.taken (c.block.invariant.short (grind (arith, common_steps))) c.block.invariant.inner c.block.invariant.full (grind (arith, common_steps))
 
 pub ended_list-requires-clause-inner : goal.ended_list-requires-clause-inner
 ended_list-requires-clause-inner g c =
@@ -23,12 +23,11 @@ block-preserved g c =
     let none : HasNoEnd c.block.block.items = subst HasNoEnd c.deref.ensures.value c.in_default.ensures.none in
     let new : c.push_cards-in-block.new.cards.items ≡ c.block.cards.items ++ pieces c.block.block.items 36 = c.in_ok-push_cards-2.ensures ∙ ap (λ block. c.block.cards.items ++ pieces block 36) c.deref-in-block.ensures.value in
     record {
-      taken = blocks_more c.block.cards.items _ c.block.block.items _ _ _ _ _ _ _ _ 36 c.block.invariant.taken c.in-Ok.ensures.ok size new;
+      taken = blocks_more c.block.cards.items _ c.block.block.items _ _ _ _ _ 36 c.block.invariant.taken c.in-Ok.ensures.ok size new;
       inner = inner_more c.block.cards.items _ c.block.block.items 36 c.block.invariant.inner (omega (arith, size)) none new;
       full = omega (arith, length-more c.block.cards.items _ c.block.block.items 36 new, c.block.invariant.full);
       within = c.in-Ok.ensures.within;
       short = c.in-Ok.ensures.ends;
-      quiet = c.in-Ok.ensures.quiet ∙ c.block.invariant.quiet;
     }
 
 -- the cards before END
@@ -42,7 +41,7 @@ pub returns-in-Some-clause-ok : goal.returns-in-Some-clause-ok
 returns-in-Some-clause-ok g c =
     let header = c.in_ok-ended_list.field-0.header in
     let count = c.in-Some.count in
-    blocks_ended c.block.cards.items _ c.block.block.items _ _ _ _ _ count header c.block.invariant.taken
+    blocks_ended c.block.cards.items _ c.block.block.items _ _ _ count header c.block.invariant.taken
     (c.in_ok-push_cards.ensures ∙ ap (λ block. c.block.cards.items ++ pieces block count) c.deref-in-Some.ensures.value)
     c.in_ok-ended_list.ensures.cards
     (subst (λ block. joined_cards (pieces block count) ++ (header.end ++ header.fill) ≡ block) c.deref-in-Some-2.ensures.value c.in_ok-ended_list.ensures.ended)

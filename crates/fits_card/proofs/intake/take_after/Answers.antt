@@ -1,6 +1,6 @@
 use Rattle.std.proofs.Common.{arith}
 use Rattle.std.proofs.lemmas.Grind.{common_steps}
-use Rattle.fits_card.proofs.IntakeLemmas.{consumes_after_more, consumes_after_nothing}
+use Rattle.fits_card.proofs.IntakeLemmas.{reads_after_more, reads_after_nothing}
 use Rattle.fits_card.proofs.intake.take_after.Goals as goal
 
 pub loop-bytes-preserved : goal.loop-bytes-preserved
@@ -8,13 +8,12 @@ loop-bytes-preserved g c = record {
   wide = grind (arith, common_steps);
   size = grind (arith, common_steps);
   within = grind (arith, common_steps);
-  taken = rw c.in_ok-extend_from_slice.ensures.items (consumes_after_more _ _ _ _ _ _ c.loop-bytes.invariant.taken c.in-Ok.ensures.bytes.0);
-  quiet = grind (arith, common_steps);
+  read = rw c.in_ok-extend_from_slice.ensures.items (reads_after_more _ _ _ _ _ _ c.loop-bytes.invariant.read c.in-Ok.ensures.ok);
 }
 
 -- the source ended
 pub returns-then-n-eq0-clause-ok : goal.returns-then-n-eq0-clause-ok
-returns-then-n-eq0-clause-ok g c = consumes_after_nothing _ _ _ _ _ _ _ c.loop-bytes.invariant.taken c.in-Ok.ensures.bytes.0 c.if-n-eq0.true
+returns-then-n-eq0-clause-ok g c = reads_after_nothing _ _ _ _ _ _ _ c.loop-bytes.invariant.read c.in-Ok.ensures.ok c.if-n-eq0.true
 
 pub returns-then-n-eq0-clause-ends : goal.returns-then-n-eq0-clause-ends
-returns-then-n-eq0-clause-ends g c less = c.in-Ok.ensures.bytes.1 c.if-n-eq0.true (grind (arith, common_steps))
+returns-then-n-eq0-clause-ends g c less = c.in-Ok.ensures.ends c.if-n-eq0.true (grind (arith, common_steps))

@@ -1,5 +1,5 @@
 use Rattle.std.proofs.Common.{◌≡◌, ◌≤◌, ◌-◌, ◌<◌, length}
-use Rattle.fits_card.specs.Intake.{ConsumesAfter}
+use Rattle.fits_card.specs.Intake.{ReadsAfter}
 use Rattle.fits_card.proofs.intake.take_after.Given as goal
 
 abbrev pub invariant-loop-bytes : goal.invariant-loop-bytes
@@ -7,8 +7,7 @@ invariant-loop-bytes g l = record {
   wide : 0 < length l.piece;
   size : length l.piece ≡ length l.fn.piece;
   within : length l.bytes.items ≤ l.len;
-  taken : ConsumesAfter l.fn.before.items (g.R.Source.remaining l.fn.source) (g.R.Source.remaining l.source) l.bytes.items;
-  quiet : g.R.Source.failures l.source ≡ g.R.Source.failures l.fn.source;
+  read : ReadsAfter l.fn.before.items (g.R.Source.state l.fn.source) (g.R.Source.state l.source) l.bytes.items;
 }
 
 abbrev pub decreases-loop-bytes : goal.decreases-loop-bytes

@@ -7,8 +7,7 @@ invariant-loop-count g l = record {
   wide : 0 < length l.piece;
   size : length l.piece ≡ length l.fn.piece;
   within : l.count ≤ l.len;
-  taken : Skips (g.R.Source.remaining l.fn.source) (g.R.Source.remaining l.source) l.count;
-  quiet : g.R.Source.failures l.source ≡ g.R.Source.failures l.fn.source;
+  skipped : Skips (g.R.Source.state l.fn.source) (g.R.Source.state l.source) l.count;
 }
 
 abbrev pub decreases-loop-count : goal.decreases-loop-count

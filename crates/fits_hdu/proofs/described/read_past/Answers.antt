@@ -1,4 +1,4 @@
-use Rattle.std.proofs.Common.{◌∙◌, ap, arith, length}
+use Rattle.std.proofs.Common.{ap, arith, length}
 use Rattle.std.proofs.lemmas.Grind.{common_steps}
 use Rattle.std.proofs.lemmas.List.{length-append}
 use Rattle.fits_rules.proofs.LawLemmas.{shape_primary}
@@ -9,13 +9,13 @@ use Rattle.fits_hdu.proofs.described.read_past.Goals as goal
 pub returns-then-data_len-head-clause-err : goal.returns-then-data_len-head-clause-err
 returns-then-data_len-head-clause-err g c =
     let head = c.in_ok-head.ensures in
-    stops_passed _ _ _ _ _ _ _ _ c.in-Ok.data_len _ _ c.in_ok-head.head.cards.header c.in_ok-head.head.shape head.taken head.whole head.described
-    c.in-Ok.ensures.ok c.in-Ok.ensures.count (c.in-Ok.ensures.ends (grind (arith, common_steps))) (grind (arith, common_steps)) (c.in-Ok.ensures.quiet ∙ head.quiet)
+    stops_passed _ _ _ _ _ c.in-Ok.data_len c.in_ok-head.head.cards.header c.in_ok-head.head.shape head.taken head.whole head.described
+    c.in-Ok.ensures.ok c.in-Ok.ensures.count (c.in-Ok.ensures.ends (grind (arith, common_steps))) (grind (arith, common_steps))
 
 pub returns-clause-ok : goal.returns-clause-ok
 returns-clause-ok g c =
     let head = c.in_ok-head.ensures in
-    hdu_passed _ _ _ _ _ _ _ _ c.in-Ok.data_len c.in_ok-head.head.unit_len c.in_ok-head.head.cards.header c.in_ok-head.head.shape head.taken head.whole head.described
+    hdu_passed _ _ _ _ _ c.in-Ok.data_len c.in_ok-head.head.unit_len c.in_ok-head.head.cards.header c.in_ok-head.head.shape head.taken head.whole head.described
     c.in-Ok.ensures.ok c.in-Ok.ensures.count (grind (arith, common_steps)) head.len (shape_primary _ _ _ head.described)
 
 pub returns-clause-described : goal.returns-clause-described

@@ -1,5 +1,5 @@
-use Rattle.std.proofs.Common.{◌+◌, ◌∙◌, ap, arith, length}
-use Rattle.std.specs.Prelude.{Err, ◌%◌}
+use Rattle.std.proofs.Common.{◌∙◌, ap, arith, length}
+use Rattle.std.specs.Prelude.{◌%◌}
 use Rattle.std.proofs.lemmas.List.{length-append}
 use Rattle.std.proofs.lemmas.Result.{err_from_is_err_and}
 use Rattle.fits_rules.proofs.LawLemmas.{shape_primary}
@@ -11,7 +11,7 @@ pub returns-in-Ok-Some-clause-ok : goal.returns-in-Ok-Some-clause-ok
 returns-in-Ok-Some-clause-ok g c =
     let head = c.in_ok-head.ensures in
     let unit = c.in-Ok-Some.ensures in
-    hdu_summed _ _ _ _ _ _ _ _ c.in_ok-head.head.unit_len c.used_len-used.result c.fill_byte-fill.result c.in_ok-head.head.cards.header c.in_ok-head.head.shape c.in-Ok-Some.sums head.taken head.whole head.described
+    hdu_summed _ _ _ _ _ c.in_ok-head.head.unit_len c.used_len-used.result c.fill_byte-fill.result c.in_ok-head.head.cards.header c.in_ok-head.head.shape c.in-Ok-Some.sums head.taken head.whole head.described
     (rw c.in-Ok-Some.field-0-is at unit.ok) (rw c.in-Ok-Some.field-0-is at unit.count) head.len c.used_len-used.ensures c.fill_byte-fill.ensures (shape_primary _ _ _ head.described)
 
 -- the source ended within the data unit
@@ -19,8 +19,8 @@ pub returns-in-Ok-None-clause-err : goal.returns-in-Ok-None-clause-err
 returns-in-Ok-None-clause-err g c =
     let head = c.in_ok-head.ensures in
     let unit = c.in-Ok-None.ensures in
-    stops_summed _ _ _ _ _ _ _ _ c.in_ok-head.head.unit_len _ _ c.in_ok-head.head.cards.header c.in_ok-head.head.shape head.taken head.whole head.described
-    (rw c.in-Ok-None.field-0-is at unit.short) head.len (unit.quiet ∙ head.quiet)
+    stops_summed _ _ _ _ _ c.in_ok-head.head.unit_len c.in_ok-head.head.cards.header c.in_ok-head.head.shape head.taken head.whole head.described
+    (rw c.in-Ok-None.field-0-is at unit.short) head.len
 
 pub returns-in-Ok-Some-clause-described : goal.returns-in-Ok-Some-clause-described
 returns-in-Ok-Some-clause-described g c =
@@ -40,11 +40,7 @@ returns-in_err-head-clause-err g c =
 -- the data unit was not taken
 pub returns-in-Err-clause-err : goal.returns-in-Err-clause-err
 returns-in-Err-clause-err g c =
-    let head = c.in_ok-head.ensures in
-    rw c.from.ensures (stops_by_unit _ _ _ _ _ _ _ _ c.in-Err.fault (λ is. c.in-Err.ensures.memory (ap Err is) ∙ head.quiet) (λ is. c.in-Err.ensures.failed (ap Err is) ∙ ap (λ n. n + 1) head.quiet))
-
-pub returns-in-Ok-Some-clause-quiet : goal.returns-in-Ok-Some-clause-quiet
-returns-in-Ok-Some-clause-quiet g c = c.in-Ok-Some.ensures.quiet ∙ c.in_ok-head.ensures.quiet
+    rw c.from.ensures (stops_by_unit _ _ _ _ _ _ c.in-Err.fault c.in_ok-head.ensures.taken c.in-Err.ensures.err)
 
 pub used_len-used-requires : goal.used_len-used-requires
 used_len-used-requires g c =

@@ -1,4 +1,5 @@
 use Rattle.std.proofs.Common.{◌≡◌, ◌≤◌, ◌<◌, ◌-◌, ◌*◌, ◌/◌, ◌%◌, length}
+use Rattle.fits_card.specs.Intake.{supply}
 use Rattle.fits_hdu.specs.Passing.{TakesSummed}
 use Rattle.fits_hdu.proofs.summed.sum_next.Given as goal
 
@@ -9,8 +10,7 @@ invariant-loop-sums g l = record {
   within : l.sums.count ≤ l.len;
   words : l.sums.count % 4 ≡ 0;
   bounded : l.sums.total ≤ 4294967295 * (l.sums.count / 4);
-  taken : TakesSummed l.used l.fill (g.R.Source.remaining l.fn.source) (g.R.Source.remaining l.source) l.fn.intake l.intake l.sums;
-  quiet : g.R.Source.failures l.source ≡ g.R.Source.failures l.fn.source;
+  taken : TakesSummed l.used l.fill (supply (g.R.Source.state l.fn.source) l.fn.intake) (supply (g.R.Source.state l.source) l.intake) l.sums;
 }
 
 abbrev pub decreases-loop-sums : goal.decreases-loop-sums

@@ -8,6 +8,3 @@ returns-in-Ok-clause-count g c = c.in-Ok.ensures.count
 
 pub returns-in-Ok-clause-short : goal.returns-in-Ok-clause-short
 returns-in-Ok-clause-short g c = c.in-Ok.ensures.short
-
-pub returns-in-Ok-clause-quiet : goal.returns-in-Ok-clause-quiet
-returns-in-Ok-clause-quiet g c = c.in-Ok.ensures.quiet

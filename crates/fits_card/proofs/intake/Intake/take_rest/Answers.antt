@@ -4,4 +4,4 @@ use Rattle.fits_card.proofs.IntakeLemmas.{takes_after_here}
 use Rattle.fits_card.proofs.intake.Intake.take_rest.Goals as goal
 
 pub returns-clause-ok : goal.returns-clause-ok
-returns-clause-ok g c = takes_after_here _ _ _ _ _ _ c.in_ok-bytes.ensures.ok (grind (arith, common_steps))
+returns-clause-ok g c = takes_after_here _ _ _ _ c.in_ok-bytes.ensures.ok (grind (arith, common_steps))

@@ -2,5 +2,5 @@
 use Rattle.std.proofs.Common.{rules}
 use Rattle.fits_card.proofs.watched.WatchedSink.flush.Goals as goal
 
-pub returns-in-Ok-clause-flushed : goal.returns-in-Ok-clause-flushed
-returns-in-Ok-clause-flushed g c = search rules
+pub returns-in-Ok-clause-ok : goal.returns-in-Ok-clause-ok
+returns-in-Ok-clause-ok g c = search rules

@@ -1,5 +1,4 @@
-use Rattle.std.proofs.Common.{◌+◌, ◌∙◌, ap, arith, length}
-use Rattle.std.specs.Prelude.{Err}
+use Rattle.std.proofs.Common.{◌∙◌, ap, arith, length}
 use Rattle.std.proofs.lemmas.Grind.{common_steps}
 use Rattle.std.proofs.lemmas.Result.{err_from_is_err_and}
 use Rattle.fits_card.specs.Header.{Header}
@@ -11,12 +10,12 @@ use Rattle.fits_hdu.proofs.hdu.Hdu.read.Goals as goal
 pub returns-then-len-unit_len-clause-err : goal.returns-then-len-unit_len-clause-err
 returns-then-len-unit_len-clause-err g c =
     let head = c.in_ok-cards.ensures in
-    stops_near _ _ _ _ _ _ _ _ _ _ c.in_ok-cards.field-0.cards.header c.in_ok-cards.field-0.shape c.in-Ok.data_unit.items head.taken head.whole head.described
-    c.in-Ok.ensures.ok (c.in-Ok.ensures.ends (grind (arith, common_steps))) (grind (arith, common_steps)) (c.in-Ok.ensures.quiet ∙ head.quiet)
+    stops_near _ _ _ _ _ c.in_ok-cards.field-0.cards.header c.in_ok-cards.field-0.shape c.in-Ok.data_unit.items head.taken head.whole head.described
+    c.in-Ok.ensures.ok (c.in-Ok.ensures.ends (grind (arith, common_steps))) (grind (arith, common_steps))
 
 pub returns-in-Ok-of-clause-taken : goal.returns-in-Ok-of-clause-taken
 returns-in-Ok-of-clause-taken g c =
-    rw (c.in-Ok-of.ensures.header, c.in-Ok-of.ensures.unit) (hdu_taken _ _ _ _ _ _ _ c.in_ok-cards.field-0.cards.header _ c.in_ok-cards.ensures.taken c.in-Ok.ensures.ok)
+    rw (c.in-Ok-of.ensures.header, c.in-Ok-of.ensures.unit) (hdu_taken _ _ _ _ c.in_ok-cards.field-0.cards.header _ c.in_ok-cards.ensures.taken c.in-Ok.ensures.ok)
 
 pub returns-in-Ok-of-clause-whole : goal.returns-in-Ok-of-clause-whole
 returns-in-Ok-of-clause-whole g c =
@@ -33,8 +32,7 @@ returns-in_err-cards-clause-err g c =
 -- the data unit was not taken
 pub returns-in-Err-clause-err : goal.returns-in-Err-clause-err
 returns-in-Err-clause-err g c =
-    let head = c.in_ok-cards.ensures in
-    rw c.from.ensures (stops_by_unit _ _ _ _ _ _ _ _ c.in-Err.fault (λ is. c.in-Err.ensures.memory (ap Err is) ∙ head.quiet) (λ is. c.in-Err.ensures.failed (ap Err is) ∙ ap (λ n. n + 1) head.quiet))
+    rw c.from.ensures (stops_by_unit _ _ _ _ _ _ c.in-Err.fault c.in_ok-cards.ensures.taken c.in-Err.ensures.err)
 
 pub returns-in-Ok-of-clause-work : goal.returns-in-Ok-of-clause-work
 returns-in-Ok-of-clause-work g c =
@@ -43,9 +41,6 @@ returns-in-Ok-of-clause-work g c =
 pub returns-in-Ok-of-clause-scans : goal.returns-in-Ok-of-clause-scans
 returns-in-Ok-of-clause-scans g c = rw c.in-Ok-of.ensures.unit c.in-Ok-of.ensures.scans
 
-pub returns-in-Ok-of-clause-quiet : goal.returns-in-Ok-of-clause-quiet
-returns-in-Ok-of-clause-quiet g c = c.in-Ok.ensures.quiet ∙ c.in_ok-cards.ensures.quiet
-
 -- memory was refused
 pub returns-in-Err-of-clause-err : goal.returns-in-Err-of-clause-err
-returns-in-Err-of-clause-err g c = c.in-Ok.ensures.quiet ∙ c.in_ok-cards.ensures.quiet
+returns-in-Err-of-clause-err g c = c.in-Ok.ensures.ok.read.quiet ∙ c.in_ok-cards.ensures.taken.taken.read.quiet

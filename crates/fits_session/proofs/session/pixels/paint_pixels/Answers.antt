@@ -2,11 +2,12 @@ use Rattle.std.proofs.lemmas.Result.{err_from_is_err_and}
 use Rattle.fits_session.proofs.PixelEditLemmas.{paints, paints_not}
 use Rattle.fits_session.proofs.session.pixels.paint_pixels.Goals as goal
 
-pub returns-in_err-paint_rectangle : goal.returns-in_err-paint_rectangle
-returns-in_err-paint_rectangle c =
+pub returns-in_err-paint : goal.returns-in_err-paint
+returns-in_err-paint c =
     let p = err_from_is_err_and c.from_residual.result c.from_residual.ensures.1 in
-    rw (p.1, p.2) (paints_not c.args.lo.now c.args.hi.now c.args.paint.now c.args.len c.args.hdus c.args.hdu.now c.paint_rectangle.new.hdu c.in_err-paint_rectangle.field-0.0 c.card_count-whole.ensures.whole c.paint_rectangle.ensures.described c.in_err-paint_rectangle.ensures.err c.in_err-paint_rectangle.ensures.same)
+    rw (p.1, p.2) (paints_not c.args.lo.now c.args.hi.now c.args.paint.now c.args.len c.args.hdus c.args.hdu.now c.paint.new.self c.in_err-paint.field-0.0 c.card_count-whole.ensures.whole c.paint.ensures.described (rw (c.as_slice.ensures, c.as_slice-2.ensures, c.lent.ensures) at c.in_err-paint.ensures.err) c.in_err-paint.ensures.same)
 
 pub returns : goal.returns
 returns c =
-    paints c.args.lo.now c.args.hi.now c.args.paint.now c.args.len c.args.hdus c.args.hdu.now c.paint_rectangle.new.hdu c.card_count-whole.ensures.whole c.paint_rectangle.ensures.described c.requires.part c.requires.within c.in_ok-paint_rectangle.ensures.ok c.paint_rectangle.ensures.reads c.in_ok-paint_rectangle.ensures.work
+    paints c.args.lo.now c.args.hi.now c.args.paint.now c.args.len c.args.hdus c.args.hdu.now c.paint.new.self c.card_count-whole.ensures.whole c.paint.ensures.described c.requires.part c.requires.within (rw (c.as_slice.ensures, c.as_slice-2.ensures, c.lent.ensures) at c.in_ok-paint.ensures.ok) c.paint.ensures.reads
+    (rw (c.as_slice.ensures, c.as_slice-2.ensures) at c.in_ok-paint.ensures.work)
