@@ -19,7 +19,7 @@ use Rattle.fits_session.specs.File.{is_followed, joined_hdus, IsFile}
 use Rattle.fits_session.specs.Edit.{is_primary_hdu}
 use Rattle.fits_session.specs.declared.limits.TheConstants.{FILE_LIMIT}
 use Rattle.fits_session.specs.Report.{counts_in, in_hdu, is_repeated, name_in, names_from, report_of, trails, wrong_from, wrong_in}
-use Rattle.fits_session.specs.Session.{file_of, held_of, hdus_of, state_of}
+use Rattle.fits_session.specs.Session.{file_of, hdus_of, state_of}
 use Rattle.fits_session.specs.declared.problem.Problem.{Problem}
 use Rattle.fits_session.proofs.OffsetLemmas.{ends_within, hdus_more, start_more}
 use Rattle.fits_session.proofs.ReportLemmas.{trailing_none, trailing_some}
@@ -63,74 +63,74 @@ counts_push names us u h shape repeated number described again =
 
 -- the same of HDUs under edits
 one_more : (names : List (Option ExtensionName)) (hdus : List HduState) (tail : List ℕ) (i : ℕ) (hdu : HduState) (repeated : Bool) → IsFile (file_of (state_of hdus tail)) → i < length hdus → hdu ≡ get_or hdus i hdu → shape_of (is_primary hdu.shape.class) hdu.hdu.header.cards ≡ Ok hdu.shape
-    → repeated ≡ is_repeated names (name_in (i + 1) hdu.hdu) → counts_in (wrong_from names 1 (take (i + 1) (hdus_of (held_of hdus)))) ≡ summed (counts_in (wrong_from names 1 (take i (hdus_of (held_of hdus))))) (hdu_counts hdu.shape hdu.hdu repeated)
+    → repeated ≡ is_repeated names (name_in (i + 1) hdu.hdu) → counts_in (wrong_from names 1 (take (i + 1) (hdus_of hdus))) ≡ summed (counts_in (wrong_from names 1 (take i (hdus_of hdus)))) (hdu_counts hdu.shape hdu.hdu repeated)
 one_more names hdus tail i hdu repeated file l e described again =
     let at : IsHduAt hdus (i + 1) i hdu = record { index = record { at = refl; within = l }; is = e } in
-    let number : 1 + length (take i (hdus_of (held_of hdus))) ≡ i + 1 = omega (arith, length-take-le i (hdus_of (held_of hdus)) (omega (arith, l, length-hdus_of hdus))) in
+    let number : 1 + length (take i (hdus_of hdus)) ≡ i + 1 = omega (arith, length-take-le i (hdus_of hdus) (omega (arith, l, length-hdus_of hdus))) in
     ap (λ us. counts_in (wrong_from names 1 us)) (hdus_more hdus i hdu l e)
-    ∙ counts_push names (take i (hdus_of (held_of hdus))) hdu.hdu (i + 1) hdu.shape repeated number (described_there hdus tail (i + 1) i hdu file at described) again
+    ∙ counts_push names (take i (hdus_of hdus)) hdu.hdu (i + 1) hdu.shape repeated number (described_there hdus tail (i + 1) i hdu file at described) again
 
 -- so one more HDU is counted
 pub counts_more : (hdus old seen : List HduState) (tail : List ℕ) (i : ℕ) (hdu : HduState) (repeated : Bool) (now here next : Counts) → hdus ≡ old → IsFile (file_of (state_of old tail)) → i < length hdus → hdu ≡ get_or hdus i hdu
-    → shape_of (is_primary hdu.shape.class) hdu.hdu.header.cards ≡ Ok hdu.shape → seen ≡ hdus → (IsFile (file_of (state_of seen tail)) → hdu ≡ get_or seen i hdu → repeated ≡ is_repeated (names_from 1 (hdus_of (held_of seen))) (name_in (i + 1) hdu.hdu))
-    → now ≡ counts_in (wrong_from (names_from 1 (hdus_of (held_of old))) 1 (take i (hdus_of (held_of old)))) → here ≡ hdu_counts hdu.shape hdu.hdu repeated → next ≡ summed now here
-    → next ≡ counts_in (wrong_from (names_from 1 (hdus_of (held_of old))) 1 (take (i + 1) (hdus_of (held_of old))))
+    → shape_of (is_primary hdu.shape.class) hdu.hdu.header.cards ≡ Ok hdu.shape → seen ≡ hdus → (IsFile (file_of (state_of seen tail)) → hdu ≡ get_or seen i hdu → repeated ≡ is_repeated (names_from 1 (hdus_of seen)) (name_in (i + 1) hdu.hdu))
+    → now ≡ counts_in (wrong_from (names_from 1 (hdus_of old)) 1 (take i (hdus_of old))) → here ≡ hdu_counts hdu.shape hdu.hdu repeated → next ≡ summed now here
+    → next ≡ counts_in (wrong_from (names_from 1 (hdus_of old)) 1 (take (i + 1) (hdus_of old)))
 counts_more hdus old seen tail i hdu repeated now here next same file l e described see again so_far found is =
     let all : seen ≡ old = see ∙ same in
-    let named : repeated ≡ is_repeated (names_from 1 (hdus_of (held_of old))) (name_in (i + 1) hdu.hdu) = rw all at (again (rw all file) (rw see e)) in
-    is ∙ (rw (so_far, found) (sym (one_more (names_from 1 (hdus_of (held_of old))) old tail i hdu repeated file (rw same at l) (rw same at e) described named)))
+    let named : repeated ≡ is_repeated (names_from 1 (hdus_of old)) (name_in (i + 1) hdu.hdu) = rw all at (again (rw all file) (rw see e)) in
+    is ∙ (rw (so_far, found) (sym (one_more (names_from 1 (hdus_of old)) old tail i hdu repeated file (rw same at l) (rw same at e) described named)))
 
 -- each code has a byte of its own
 pub within_more : (hdus old : List HduState) (i : ℕ) (hdu : HduState) (now here next : Counts) → hdus ≡ old → i < length hdus → hdu ≡ get_or hdus i hdu
-    → now.errors + now.warnings ≤ length (joined_hdus (take i (hdus_of (held_of old)))) → here.errors + here.warnings ≤ length (hdu_bytes hdu.hdu) → next ≡ summed now here
-    → next.errors + next.warnings ≤ length (joined_hdus (take (i + 1) (hdus_of (held_of old))))
+    → now.errors + now.warnings ≤ length (joined_hdus (take i (hdus_of old))) → here.errors + here.warnings ≤ length (hdu_bytes hdu.hdu) → next ≡ summed now here
+    → next.errors + next.warnings ≤ length (joined_hdus (take (i + 1) (hdus_of old)))
 within_more hdus old i hdu now here next same l e so_far few is =
-    let start : ℕ = length (joined_hdus (take i (hdus_of (held_of old)))) in
+    let start : ℕ = length (joined_hdus (take i (hdus_of old))) in
     let unit : ℕ = start + length (header_bytes hdu.hdu.header) in
     let ends = start_more old i start unit (unit + length hdu.hdu.data_unit) hdu (rw same at l) (rw same at e) refl refl refl in
     omega (arith, so_far, few, ends, length-append (header_bytes hdu.hdu.header) hdu.hdu.data_unit, ap (λ (c : Counts). c.errors) is, ap (λ (c : Counts). c.warnings) is)
 
 -- so the counts are small
 pub counts_small : (hdus old : List HduState) (tail : List ℕ) (i : ℕ) (hdu : HduState) (now here : Counts) → hdus ≡ old → IsFile (file_of (state_of old tail)) → i < length hdus → hdu ≡ get_or hdus i hdu
-    → now.errors + now.warnings ≤ length (joined_hdus (take i (hdus_of (held_of old)))) → here.errors + here.warnings ≤ length (hdu_bytes hdu.hdu)
+    → now.errors + now.warnings ≤ length (joined_hdus (take i (hdus_of old))) → here.errors + here.warnings ≤ length (hdu_bytes hdu.hdu)
     → now.errors + now.warnings + (here.errors + here.warnings) < 2 ^ 34
 counts_small hdus old tail i hdu now here same file l e so_far few =
-    omega (arith, so_far, few, length-append (header_bytes hdu.hdu.header) hdu.hdu.data_unit, ends_within old i (length (joined_hdus (take i (hdus_of (held_of old))))) hdu (rw same at l) (rw same at e) refl, file_size old tail file)
+    omega (arith, so_far, few, length-append (header_bytes hdu.hdu.header) hdu.hdu.data_unit, ends_within old i (length (joined_hdus (take i (hdus_of old)))) hdu (rw same at l) (rw same at e) refl, file_size old tail file)
 
 -- one of HDUs that aren't too long isn't
-pub hdu_within : (hdus old : List HduState) (i : ℕ) (hdu : HduState) → hdus ≡ old → length (joined_hdus (hdus_of (held_of old))) ≤ FILE_LIMIT → i < length hdus → hdu ≡ get_or hdus i hdu → length (hdu_bytes hdu.hdu) ≤ 2 ^ 34
+pub hdu_within : (hdus old : List HduState) (i : ℕ) (hdu : HduState) → hdus ≡ old → length (joined_hdus (hdus_of old)) ≤ FILE_LIMIT → i < length hdus → hdu ≡ get_or hdus i hdu → length (hdu_bytes hdu.hdu) ≤ 2 ^ 34
 hdu_within hdus old i hdu same size l e =
-    omega (arith, size, length-append (header_bytes hdu.hdu.header) hdu.hdu.data_unit, ends_within old i (length (joined_hdus (take i (hdus_of (held_of old))))) hdu (rw same at l) (rw same at e) refl)
+    omega (arith, size, length-append (header_bytes hdu.hdu.header) hdu.hdu.data_unit, ends_within old i (length (joined_hdus (take i (hdus_of old)))) hdu (rw same at l) (rw same at e) refl)
 
 -- an HDU of a file isn't too long
 pub hdu_small : (hdus old : List HduState) (tail : List ℕ) (i : ℕ) (hdu : HduState) → hdus ≡ old → IsFile (file_of (state_of old tail)) → i < length hdus → hdu ≡ get_or hdus i hdu → length (hdu_bytes hdu.hdu) ≤ 2 ^ 34
 hdu_small hdus old tail i hdu same file l e =
-    omega (arith, length-append (header_bytes hdu.hdu.header) hdu.hdu.data_unit, ends_within old i (length (joined_hdus (take i (hdus_of (held_of old))))) hdu (rw same at l) (rw same at e) refl, file_size old tail file)
+    omega (arith, length-append (header_bytes hdu.hdu.header) hdu.hdu.data_unit, ends_within old i (length (joined_hdus (take i (hdus_of old)))) hdu (rw same at l) (rw same at e) refl, file_size old tail file)
 
 -- those of all HDUs
-all_counted : (names : List (Option ExtensionName)) (hdus : List HduState) (i : ℕ) → length hdus ≤ i → counts_in (wrong_from names 1 (take i (hdus_of (held_of hdus)))) ≡ counts_in (wrong_from names 1 (hdus_of (held_of hdus)))
-all_counted names hdus i l = ap (λ us. counts_in (wrong_from names 1 us)) (take_all i (hdus_of (held_of hdus)) (omega (arith, l, length-hdus_of hdus)))
+all_counted : (names : List (Option ExtensionName)) (hdus : List HduState) (i : ℕ) → length hdus ≤ i → counts_in (wrong_from names 1 (take i (hdus_of hdus))) ≡ counts_in (wrong_from names 1 (hdus_of hdus))
+all_counted names hdus i l = ap (λ us. counts_in (wrong_from names 1 us)) (take_all i (hdus_of hdus) (omega (arith, l, length-hdus_of hdus)))
 
 -- all of them are small
-pub all_small : (hdus : List HduState) (tail : List ℕ) (i : ℕ) (now : Counts) → IsFile (file_of (state_of hdus tail)) → length hdus ≤ i → now.errors + now.warnings ≤ length (joined_hdus (take i (hdus_of (held_of hdus)))) → now.errors + now.warnings < 2 ^ 34
+pub all_small : (hdus : List HduState) (tail : List ℕ) (i : ℕ) (now : Counts) → IsFile (file_of (state_of hdus tail)) → length hdus ≤ i → now.errors + now.warnings ≤ length (joined_hdus (take i (hdus_of hdus))) → now.errors + now.warnings < 2 ^ 34
 all_small hdus tail i now file l so_far =
-    omega (arith, so_far, ap (λ us. length (joined_hdus us)) (take_all i (hdus_of (held_of hdus)) (omega (arith, l, length-hdus_of hdus))), file_size hdus tail file)
+    omega (arith, so_far, ap (λ us. length (joined_hdus us)) (take_all i (hdus_of hdus) (omega (arith, l, length-hdus_of hdus))), file_size hdus tail file)
 
 -- the counts of the report where no bytes follow the last HDU
-pub counts_alone : (hdus : List HduState) (tail : List ℕ) (i : ℕ) (now : Counts) → length hdus ≤ i → now ≡ counts_in (wrong_from (names_from 1 (hdus_of (held_of hdus))) 1 (take i (hdus_of (held_of hdus)))) → is_followed tail ≡ false → now ≡ counts_in (report_of (file_of (state_of hdus tail)))
+pub counts_alone : (hdus : List HduState) (tail : List ℕ) (i : ℕ) (now : Counts) → length hdus ≤ i → now ≡ counts_in (wrong_from (names_from 1 (hdus_of hdus)) 1 (take i (hdus_of hdus))) → is_followed tail ≡ false → now ≡ counts_in (report_of (file_of (state_of hdus tail)))
 unfolding report_of
 counts_alone hdus tail i now l so_far none =
-    let names : List (Option ExtensionName) = names_from 1 (hdus_of (held_of hdus)) in
+    let names : List (Option ExtensionName) = names_from 1 (hdus_of hdus) in
     so_far ∙ all_counted names hdus i l
-    ∙ ap counts_in (sym (append-nil (wrong_from names 1 (hdus_of (held_of hdus)))) ∙ ap (λ t. wrong_from names 1 (hdus_of (held_of hdus)) ++ t) (sym (trailing_none (length (hdus_of (held_of hdus)) + 1) tail none)))
+    ∙ ap counts_in (sym (append-nil (wrong_from names 1 (hdus_of hdus))) ∙ ap (λ t. wrong_from names 1 (hdus_of hdus) ++ t) (sym (trailing_none (length (hdus_of hdus) + 1) tail none)))
 
 -- and where some do
-pub counts_followed : (hdus : List HduState) (tail : List ℕ) (i : ℕ) (now more next : Counts) → length hdus ≤ i → now ≡ counts_in (wrong_from (names_from 1 (hdus_of (held_of hdus))) 1 (take i (hdus_of (held_of hdus)))) → is_followed tail ≡ true → more ≡ counts_of (TrailingBytes ∷ []) → next ≡ summed now more
+pub counts_followed : (hdus : List HduState) (tail : List ℕ) (i : ℕ) (now more next : Counts) → length hdus ≤ i → now ≡ counts_in (wrong_from (names_from 1 (hdus_of hdus)) 1 (take i (hdus_of hdus))) → is_followed tail ≡ true → more ≡ counts_of (TrailingBytes ∷ []) → next ≡ summed now more
     → next ≡ counts_in (report_of (file_of (state_of hdus tail)))
 unfolding report_of
 counts_followed hdus tail i now more next l so_far some one is =
-    let names : List (Option ExtensionName) = names_from 1 (hdus_of (held_of hdus)) in
-    let h : ℕ = length (hdus_of (held_of hdus)) + 1 in
+    let names : List (Option ExtensionName) = names_from 1 (hdus_of hdus) in
+    let h : ℕ = length (hdus_of hdus) + 1 in
     is ∙ (rw (so_far, one) (ap (λ (c : Counts). summed c (counts_of (TrailingBytes ∷ []))) (all_counted names hdus i l)))
-    ∙ sym (counts_in-append (wrong_from names 1 (hdus_of (held_of hdus))) (trails h ∷ []))
-    ∙ ap (λ t. counts_in (wrong_from names 1 (hdus_of (held_of hdus)) ++ t)) (sym (trailing_some h tail some))
+    ∙ sym (counts_in-append (wrong_from names 1 (hdus_of hdus)) (trails h ∷ []))
+    ∙ ap (λ t. counts_in (wrong_from names 1 (hdus_of hdus) ++ t)) (sym (trailing_some h tail some))

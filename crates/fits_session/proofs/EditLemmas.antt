@@ -12,7 +12,7 @@ use Rattle.fits_session.specs.File.{FileParts, file_bytes, joined_hdus, IsFile, 
 use Rattle.fits_session.specs.HduEdit.{hdu_made}
 use Rattle.fits_session.specs.Limits.{is_within_limits}
 use Rattle.fits_session.specs.Refusal.{limit_refusal, made_refusal, refusal_in, refusal_of, Fails, HduNeedsMemory}
-use Rattle.fits_session.specs.Session.{file_of, hdus_of, held_of, state_of, length_with, within_refusal, EditsTo, EditWork, HduEditsTo, HduWork, HduWorks, IsNowhere}
+use Rattle.fits_session.specs.Session.{file_of, hdus_of, state_of, length_with, within_refusal, EditsTo, EditWork, HduEditsTo, HduWork, HduWorks, IsNowhere}
 use Rattle.fits_session.specs.Work.{edit_reads, hdu_reads}
 use Rattle.fits_session.specs.declared.edit.Edit.TheVariants.{Hdu}
 use Rattle.fits_session.specs.declared.hdu_edit.HduEdit.{HduEdit}
@@ -68,7 +68,7 @@ module _ (hdus : List HduState) (tail : List ℕ) (h i : ℕ) (edit : HduEdit) (
   named : h ≡ suc i
   named = p.at.index.at ∙ add-one i
 
-  there : slice_get (hdus_of (held_of hdus)) i ≡ Some old.hdu
+  there : slice_get (hdus_of hdus) i ≡ Some old.hdu
   there = slice_get-hdus_of hdus i old p.at.index.within p.at.is
 
   found : hdu_of (file_of (state_of hdus tail)) h ≡ Some old.hdu
@@ -88,7 +88,7 @@ module _ (hdus : List HduState) (tail : List ℕ) (h i : ℕ) (edit : HduEdit) (
   count_made : (made : HduParts) → length (with_hdu (file_of (state_of hdus tail)) h (λ hdu. made)).hdus ≡ count
   count_made made =
       let change : HduParts → HduParts = λ hdu. made in
-      ap (λ k. length (changed_of k change (hdus_of (held_of hdus)))) named ∙ length-changed i change (hdus_of (held_of hdus)) ∙ length-hdus_of hdus ∙ sym p.number
+      ap (λ k. length (changed_of k change (hdus_of hdus))) named ∙ length-changed i change (hdus_of hdus) ∙ length-hdus_of hdus ∙ sym p.number
 
   -- the tests of what is made of it
   tests_made : (made : Result HduParts Refusal) → made_refusal (file_of (state_of hdus tail)) h made ≡ within_refusal bytes count old.hdu made
@@ -133,7 +133,7 @@ module _ (hdus : List HduState) (tail : List ℕ) (h i : ℕ) (edit : HduEdit) (
   file_made made =
       let change : HduParts → HduParts = hdu_edited (is_primary_hdu h) edit in
       ap (λ (us : List HduParts). let file : FileParts = record { hdus = us; tail = tail } in file)
-      (hdus_of-changed hdus h i old new change p.at (sym (ap (made_or old.hdu) (is_made ∙ made))) ∙ ap (λ k. changed_of k change (hdus_of (held_of hdus))) (sym named))
+      (hdus_of-changed hdus h i old new change p.at (sym (ap (made_or old.hdu) (is_made ∙ made))) ∙ ap (λ k. changed_of k change (hdus_of hdus)) (sym named))
 
 -- an edit that is made owes this
 pub edits_made : {X : Type 0} (hdus : List HduState) (tail : List ℕ) (h i : ℕ) (edit : HduEdit) (bytes count n : ℕ) (old new : HduState) (x : X) → IsEdited hdus tail h i edit bytes count old new (Ok n) → EditsTo {X = X} (Hdu h edit) (state_of hdus tail) (state_of (set hdus i new) tail) (Ok x)

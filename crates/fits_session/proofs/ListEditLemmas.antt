@@ -19,7 +19,7 @@ use Rattle.fits_session.specs.File.{FileParts, file_bytes, goes_on, joined_hdus,
 use Rattle.fits_session.specs.Limits.{is_within_limits}
 use Rattle.fits_session.specs.declared.limits.TheConstants.{FILE_LIMIT, HDU_LIMIT}
 use Rattle.fits_session.specs.Refusal.{new_image_refusal, primary_refusal, refusal_of, removal_refusal, size_refusal, Fails, NewNeedsMemory}
-use Rattle.fits_session.specs.Session.{file_of, held_as, held_of, hdus_of, state_of, Held, EditsTo, IsIndexOf, IsNowhere}
+use Rattle.fits_session.specs.Session.{file_of, hdus_of, state_of, EditsTo, IsIndexOf, IsNowhere}
 use Rattle.fits_session.specs.declared.edit.Edit.TheVariants.{NewImage, RemoveHdu}
 use Rattle.fits_session.specs.declared.refusal.Refusal.{Refusal}
 use Rattle.fits_session.specs.declared.refusal.Refusal.TheVariants as refusal
@@ -161,23 +161,23 @@ map-left f (y ∷ ys) zero = refl
 map-left f (y ∷ ys) (suc i) = ap (λ zs. f y ∷ zs) (map-left f ys i)
 
 -- the parts of HDUs with one put in
-hdus_of-inserted : (hdus : List HduState) (i : ℕ) (new : HduState) → hdus_of (held_of (insert hdus i new)) ≡ insert (hdus_of (held_of hdus)) i new.hdu
-hdus_of-inserted hdus i new = ap hdus_of (map-inserted held_as hdus i new) ∙ map-inserted (λ (one : Held). one.hdu) (held_of hdus) i (held_as new)
+hdus_of-inserted : (hdus : List HduState) (i : ℕ) (new : HduState) → hdus_of (insert hdus i new) ≡ insert (hdus_of hdus) i new.hdu
+hdus_of-inserted hdus i new = map-inserted (λ (one : HduState). one.hdu) hdus i new
 
 -- and of those that are left
-hdus_of-left : (hdus : List HduState) (i : ℕ) → hdus_of (held_of (remove hdus i)) ≡ remove (hdus_of (held_of hdus)) i
-hdus_of-left hdus i = ap hdus_of (map-left held_as hdus i) ∙ map-left (λ (one : Held). one.hdu) (held_of hdus) i
+hdus_of-left : (hdus : List HduState) (i : ℕ) → hdus_of (remove hdus i) ≡ remove (hdus_of hdus) i
+hdus_of-left hdus i = map-left (λ (one : HduState). one.hdu) hdus i
 
 -- the file with a new HDU
 file_of-inserted : (hdus : List HduState) (tail : List ℕ) (h : ℕ) (new : HduState) (hdu : HduParts) → new.hdu ≡ hdu → file_of (state_of (insert hdus (h - 1) new) tail) ≡ with_new_hdu (file_of (state_of hdus tail)) h hdu
 file_of-inserted hdus tail h new hdu is =
-    ap (λ (us : List HduParts). let file : FileParts = record { hdus = us; tail = tail } in file) (hdus_of-inserted hdus (h - 1) new ∙ ap (insert (hdus_of (held_of hdus)) (h - 1)) is)
+    ap (λ (us : List HduParts). let file : FileParts = record { hdus = us; tail = tail } in file) (hdus_of-inserted hdus (h - 1) new ∙ ap (insert (hdus_of hdus) (h - 1)) is)
 
 -- and without one
 file_of-left : (hdus : List HduState) (tail : List ℕ) (h i : ℕ) → h ≡ i + 1 → file_of (state_of (remove hdus i) tail) ≡ without_hdu (file_of (state_of hdus tail)) h
 file_of-left hdus tail h i at =
     let index : i ≡ h - 1 = omega (arith, at) in
-    ap (λ (us : List HduParts). let file : FileParts = record { hdus = us; tail = tail } in file) (hdus_of-left hdus i ∙ ap (remove (hdus_of (held_of hdus))) index)
+    ap (λ (us : List HduParts). let file : FileParts = record { hdus = us; tail = tail } in file) (hdus_of-left hdus i ∙ ap (remove (hdus_of hdus)) index)
 
 -- the tests of a new image, by what each finds
 abbrev tests_of : Bool → Bool → Bool → Option Refusal → Option Refusal
@@ -255,15 +255,15 @@ placed_at count (suc (suc h)) axes p = let r = in_range (suc (suc h)) (count + 1
 pub new_length : (hdus : List HduState) (tail : List ℕ) (h : ℕ) (hdu : HduParts) → length (file_bytes (with_new_hdu (file_of (state_of hdus tail)) h hdu)) ≡ length (file_bytes (file_of (state_of hdus tail))) + length (hdu_bytes hdu)
 new_length hdus tail h hdu = omega (
   arith,
-  length-append (joined_hdus (insert (hdus_of (held_of hdus)) (h - 1) hdu)) tail,
-  length-append (joined_hdus (hdus_of (held_of hdus))) tail,
-  joined-insert (hdus_of (held_of hdus)) (h - 1) hdu,
+  length-append (joined_hdus (insert (hdus_of hdus) (h - 1) hdu)) tail,
+  length-append (joined_hdus (hdus_of hdus)) tail,
+  joined-insert (hdus_of hdus) (h - 1) hdu,
 )
 
 -- and how many HDUs
 pub new_count : (hdus : List HduState) (tail : List ℕ) (h : ℕ) (axes : List ℕ) (hdu : HduParts) → IsPlaced (length hdus) h axes → length (with_new_hdu (file_of (state_of hdus tail)) h hdu).hdus ≡ length hdus + 1
 new_count hdus tail h axes hdu p =
-    let us : List HduParts = hdus_of (held_of hdus) in
+    let us : List HduParts = hdus_of hdus in
     let within : h - 1 ≤ length us = omega (arith, (placed_at (length hdus) h axes p).1, length-hdus_of hdus) in
     omega (arith, length-insert us (h - 1) hdu within, length-hdus_of hdus)
 
@@ -316,7 +316,7 @@ new_made hdus tail h x kind axes new p fits is reads made = record {
   ok = file_of-inserted hdus tail h new (new_image kind axes) is;
   refused = tt;
   err = tt;
-  work = inr (record { one = held_as new; is = map-inserted held_as hdus (h - 1) new; reads = reads; made = made });
+  work = inr (record { one = new; is = refl; reads = reads; made = made });
   idle = tt;
 }
 
@@ -362,7 +362,7 @@ removes hdus tail h i x old at behind =
       ok = file_of-left hdus tail h i at.index.at;
       refused = tt;
       err = tt;
-      work = inr (map-left held_as hdus i ∙ ap (remove (held_of hdus)) index);
+      work = inr (ap (remove hdus) index);
       idle = tt;
     }
 
@@ -376,8 +376,8 @@ removed_left hdus tail h i old file at behind =
 pub removed_size : (hdus : List HduState) (tail : List ℕ) (h i : ℕ) (old : HduState) → IsHduAt hdus h i old → length (file_bytes (file_of (state_of (remove hdus i) tail))) + length (hdu_bytes old.hdu) ≡ length (file_bytes (file_of (state_of hdus tail)))
 removed_size hdus tail h i old at = omega (
   arith,
-  length-append (joined_hdus (hdus_of (held_of (remove hdus i)))) tail,
-  length-append (joined_hdus (hdus_of (held_of hdus))) tail,
+  length-append (joined_hdus (hdus_of (remove hdus i))) tail,
+  length-append (joined_hdus (hdus_of hdus)) tail,
   ap (λ (us : List HduParts). length (joined_hdus us)) (hdus_of-left hdus i),
-  joined-remove (hdus_of (held_of hdus)) i old.hdu (slice_get-hdus_of hdus i old at.index.within at.is),
+  joined-remove (hdus_of hdus) i old.hdu (slice_get-hdus_of hdus i old at.index.within at.is),
 )

@@ -24,7 +24,7 @@ use Rattle.fits_session.specs.File.{FileParts, IsFile}
 use Rattle.fits_session.specs.NameTable.{said_of, TellsOf}
 use Rattle.fits_session.specs.Edit.{is_primary_hdu}
 use Rattle.fits_session.specs.Report.{called_count, found_names, is_called, is_repeated, name_in, names_from, HasNameOfAnother}
-use Rattle.fits_session.specs.Session.{file_of, held_of, hdus_of, state_of}
+use Rattle.fits_session.specs.Session.{file_of, hdus_of, state_of}
 use Rattle.fits_session.proofs.OffsetLemmas.{hdus_more}
 use Rattle.fits_session.proofs.StateLemmas.{length-hdus_of, whole_there}
 
@@ -373,29 +373,29 @@ named_there hdus tail i hdu file l e described =
     ap (λ b. extension_name b hdu.hdu.header.cards) (one_primary (is_primary hdu.shape.class) (is_primary_hdu (i + 1)) hdu.hdu.header.cards hdu.shape there.shape described there.described)
 
 -- what one more of them is called
-named_more : (hdus : List HduState) (i : ℕ) (hdu : HduState) → i < length hdus → hdu ≡ get_or hdus i hdu → names_from 1 (take (i + 1) (hdus_of (held_of hdus))) ≡ names_from 1 (take i (hdus_of (held_of hdus))) ++ name_in (i + 1) hdu.hdu ∷ []
+named_more : (hdus : List HduState) (i : ℕ) (hdu : HduState) → i < length hdus → hdu ≡ get_or hdus i hdu → names_from 1 (take (i + 1) (hdus_of hdus)) ≡ names_from 1 (take i (hdus_of hdus)) ++ name_in (i + 1) hdu.hdu ∷ []
 named_more hdus i hdu l e =
-    let us : List HduParts = hdus_of (held_of hdus) in
+    let us : List HduParts = hdus_of hdus in
     let number : 1 + length (take i us) ≡ i + 1 = omega (arith, length-take-le i us (omega (arith, l, length-hdus_of hdus))) in
     ap (names_from 1) (hdus_more hdus i hdu l e) ∙ names_from-append 1 (take i us) (hdu.hdu ∷ []) ∙ ap (λ n. names_from 1 (take i us) ++ name_in n hdu.hdu ∷ []) number
 
 -- how many are called so, with one HDU more that is
 pub counted_more : (hdus : List HduState) (tail : List ℕ) (i count : ℕ) (hdu : HduState) (name other : ExtensionName) → IsFile (file_of (state_of hdus tail)) → i < length hdus → hdu ≡ get_or hdus i hdu → shape_of (is_primary hdu.shape.class) hdu.hdu.header.cards ≡ Ok hdu.shape
-    → Some other ≡ extension_name (is_primary hdu.shape.class) hdu.hdu.header.cards → is_same_name name other ≡ true → count ≡ called_count name (names_from 1 (take i (hdus_of (held_of hdus)))) → count + 1 ≡ called_count name (names_from 1 (take (i + 1) (hdus_of (held_of hdus))))
+    → Some other ≡ extension_name (is_primary hdu.shape.class) hdu.hdu.header.cards → is_same_name name other ≡ true → count ≡ called_count name (names_from 1 (take i (hdus_of hdus))) → count + 1 ≡ called_count name (names_from 1 (take (i + 1) (hdus_of hdus)))
 counted_more hdus tail i count hdu name other file l e described named same so_far =
     let is : is_called name (name_in (i + 1) hdu.hdu) ≡ true = ap (is_called name) (sym (named ∙ named_there hdus tail i hdu file l e described)) ∙ same in
-    omega (arith, so_far, count_pushed name (names_from 1 (take i (hdus_of (held_of hdus)))) (name_in (i + 1) hdu.hdu) is, ap (called_count name) (named_more hdus i hdu l e))
+    omega (arith, so_far, count_pushed name (names_from 1 (take i (hdus_of hdus))) (name_in (i + 1) hdu.hdu) is, ap (called_count name) (named_more hdus i hdu l e))
 
 -- that isn't
 pub counted_other : (hdus : List HduState) (tail : List ℕ) (i count : ℕ) (hdu : HduState) (name : ExtensionName) (said : Option ExtensionName) → IsFile (file_of (state_of hdus tail)) → i < length hdus → hdu ≡ get_or hdus i hdu → shape_of (is_primary hdu.shape.class) hdu.hdu.header.cards ≡ Ok hdu.shape
-    → said ≡ extension_name (is_primary hdu.shape.class) hdu.hdu.header.cards → is_called name said ≡ false → count ≡ called_count name (names_from 1 (take i (hdus_of (held_of hdus)))) → count ≡ called_count name (names_from 1 (take (i + 1) (hdus_of (held_of hdus))))
+    → said ≡ extension_name (is_primary hdu.shape.class) hdu.hdu.header.cards → is_called name said ≡ false → count ≡ called_count name (names_from 1 (take i (hdus_of hdus))) → count ≡ called_count name (names_from 1 (take (i + 1) (hdus_of hdus)))
 counted_other hdus tail i count hdu name said file l e described named not so_far =
     let is : is_called name (name_in (i + 1) hdu.hdu) ≡ false = ap (is_called name) (sym (named ∙ named_there hdus tail i hdu file l e described)) ∙ not in
-    so_far ∙ sym (count_kept name (names_from 1 (take i (hdus_of (held_of hdus)))) (name_in (i + 1) hdu.hdu) is) ∙ sym (ap (called_count name) (named_more hdus i hdu l e))
+    so_far ∙ sym (count_kept name (names_from 1 (take i (hdus_of hdus))) (name_in (i + 1) hdu.hdu) is) ∙ sym (ap (called_count name) (named_more hdus i hdu l e))
 
 -- of all of them
-pub counted_all : (hdus : List HduState) (i : ℕ) (name : ExtensionName) → length hdus ≤ i → called_count name (names_from 1 (take i (hdus_of (held_of hdus)))) ≡ called_count name (names_from 1 (hdus_of (held_of hdus)))
-counted_all hdus i name l = ap (λ us. called_count name (names_from 1 us)) (take_all i (hdus_of (held_of hdus)) (omega (arith, l, length-hdus_of hdus)))
+pub counted_all : (hdus : List HduState) (i : ℕ) (name : ExtensionName) → length hdus ≤ i → called_count name (names_from 1 (take i (hdus_of hdus))) ≡ called_count name (names_from 1 (hdus_of hdus))
+counted_all hdus i name l = ap (λ us. called_count name (names_from 1 us)) (take_all i (hdus_of hdus) (omega (arith, l, length-hdus_of hdus)))
 
 -- one HDU stands at an index
 one_there : (hdus : List HduState) (i : ℕ) (hdu seen : HduState) → i < length hdus → hdu ≡ get_or hdus i hdu → seen ≡ get_or hdus i seen → seen ≡ hdu
@@ -411,12 +411,12 @@ called_there hdus tail i hdu seen said file l e f described named =
 
 -- its name is repeated where two have it
 pub repeated_there : (hdus : List HduState) (tail : List ℕ) (i : ℕ) (hdu seen : HduState) (name : ExtensionName) (count : ℕ) → IsFile (file_of (state_of hdus tail)) → i < length hdus → hdu ≡ get_or hdus i hdu → seen ≡ get_or hdus i seen → shape_of (is_primary seen.shape.class) seen.hdu.header.cards ≡ Ok seen.shape
-    → Some name ≡ extension_name (is_primary seen.shape.class) seen.hdu.header.cards → count ≡ called_count name (names_from 1 (hdus_of (held_of hdus))) → nat_le 2 count ≡ is_repeated (names_from 1 (hdus_of (held_of hdus))) (name_in (i + 1) hdu.hdu)
+    → Some name ≡ extension_name (is_primary seen.shape.class) seen.hdu.header.cards → count ≡ called_count name (names_from 1 (hdus_of hdus)) → nat_le 2 count ≡ is_repeated (names_from 1 (hdus_of hdus)) (name_in (i + 1) hdu.hdu)
 repeated_there hdus tail i hdu seen name count file l e f described named is =
-    count_repeated (names_from 1 (hdus_of (held_of hdus))) name count is ∙ ap (is_repeated (names_from 1 (hdus_of (held_of hdus)))) (called_there hdus tail i hdu seen (Some name) file l e f described named)
+    count_repeated (names_from 1 (hdus_of hdus)) name count is ∙ ap (is_repeated (names_from 1 (hdus_of hdus))) (called_there hdus tail i hdu seen (Some name) file l e f described named)
 
 -- and isn't where it has none
 pub unrepeated_there : (hdus : List HduState) (tail : List ℕ) (i : ℕ) (hdu seen : HduState) → IsFile (file_of (state_of hdus tail)) → i < length hdus → hdu ≡ get_or hdus i hdu → seen ≡ get_or hdus i seen → shape_of (is_primary seen.shape.class) seen.hdu.header.cards ≡ Ok seen.shape
-    → None ≡ extension_name (is_primary seen.shape.class) seen.hdu.header.cards → false ≡ is_repeated (names_from 1 (hdus_of (held_of hdus))) (name_in (i + 1) hdu.hdu)
+    → None ≡ extension_name (is_primary seen.shape.class) seen.hdu.header.cards → false ≡ is_repeated (names_from 1 (hdus_of hdus)) (name_in (i + 1) hdu.hdu)
 unrepeated_there hdus tail i hdu seen file l e f described named =
-    none_repeated (names_from 1 (hdus_of (held_of hdus))) ∙ ap (is_repeated (names_from 1 (hdus_of (held_of hdus)))) (called_there hdus tail i hdu seen None file l e f described named)
+    none_repeated (names_from 1 (hdus_of hdus)) ∙ ap (is_repeated (names_from 1 (hdus_of hdus))) (called_there hdus tail i hdu seen None file l e f described named)

@@ -20,7 +20,7 @@ use Rattle.fits_session.specs.File.{FileParts, is_followed, IsFileOf}
 use Rattle.fits_session.specs.Reading.{is_found, KeepsEach}
 use Rattle.fits_session.specs.Edit.{is_primary_hdu}
 use Rattle.fits_session.specs.Report.{found_from, found_names, in_hdu, is_repeated, name_in, names_from, report_of, trailing, trails, wrong_from, wrong_in}
-use Rattle.fits_session.specs.Session.{held_of, hdus_of}
+use Rattle.fits_session.specs.Session.{hdus_of}
 use Rattle.fits_session.specs.declared.problem.Problem.{Problem}
 use Rattle.fits_session.proofs.OffsetLemmas.{hdus_more}
 use Rattle.fits_session.proofs.StateLemmas.{length-hdus_of}
@@ -166,18 +166,18 @@ codes_more h start report new codes i d before is l =
     ∙ (ap (map (in_hdu h)) (map-append at_0 (take i codes) (code ∷ [])) ∙ map-append (in_hdu h) (found_at 0 (take i codes)) (found_at 0 (code ∷ [])))))
 
 -- what is found of one more of the HDUs under edits
-pub each_found : (hdus old : List HduState) (i : ℕ) (hdu : HduState) (found new : List Findings) (it : Findings) → hdus ≡ old → i < length hdus → hdu ≡ get_or hdus i hdu → KeepsEach is_found found (take i (hdus_of (held_of old))) → is_found it hdu.hdu
-    → new ≡ found ++ it ∷ [] → KeepsEach is_found new (take (i + 1) (hdus_of (held_of old)))
+pub each_found : (hdus old : List HduState) (i : ℕ) (hdu : HduState) (found new : List Findings) (it : Findings) → hdus ≡ old → i < length hdus → hdu ≡ get_or hdus i hdu → KeepsEach is_found found (take i (hdus_of old)) → is_found it hdu.hdu
+    → new ≡ found ++ it ∷ [] → KeepsEach is_found new (take (i + 1) (hdus_of old))
 each_found hdus old i hdu found new it same l e each here is =
-    let more : take (i + 1) (hdus_of (held_of old)) ≡ take i (hdus_of (held_of old)) ++ hdu.hdu ∷ [] = subst (λ (us : List HduState). take (i + 1) (hdus_of (held_of us)) ≡ take i (hdus_of (held_of us)) ++ hdu.hdu ∷ []) same (hdus_more hdus i hdu l e) in
-    rw (is, more) (each_push is_found found (take i (hdus_of (held_of old))) it hdu.hdu each here)
+    let more : take (i + 1) (hdus_of old) ≡ take i (hdus_of old) ++ hdu.hdu ∷ [] = subst (λ (us : List HduState). take (i + 1) (hdus_of us) ≡ take i (hdus_of us) ++ hdu.hdu ∷ []) same (hdus_more hdus i hdu l e) in
+    rw (is, more) (each_push is_found found (take i (hdus_of old)) it hdu.hdu each here)
 
 -- HDUs stay where the one written stays
 pub hdus_stay : (hdus old : List HduState) (i : ℕ) (hdu new : HduState) → hdus ≡ old → i < length hdus → hdu ≡ get_or hdus i hdu → new ≡ hdu → set hdus i new ≡ old
 hdus_stay hdus old i hdu new same l e stays = ap (set hdus i) (stays ∙ e) ∙ set-get_or hdus i hdu ∙ same
 
 -- of all of them
-pub all_found : (hdus : List HduState) (i : ℕ) (found : List Findings) → length hdus ≤ i → KeepsEach is_found found (take i (hdus_of (held_of hdus))) → KeepsEach is_found found (hdus_of (held_of hdus))
-all_found hdus i found l each = subst (λ (us : List HduParts). KeepsEach is_found found us) (take_all i (hdus_of (held_of hdus)) (omega (arith, length-hdus_of hdus))) each
+pub all_found : (hdus : List HduState) (i : ℕ) (found : List Findings) → length hdus ≤ i → KeepsEach is_found found (take i (hdus_of hdus)) → KeepsEach is_found found (hdus_of hdus)
+all_found hdus i found l each = subst (λ (us : List HduParts). KeepsEach is_found found us) (take_all i (hdus_of hdus) (omega (arith, length-hdus_of hdus))) each
 
 pub ruleset trailing_steps = (trailing_no, trailing_yes)

@@ -7,20 +7,20 @@ use Rattle.fits_card.proofs.StreamLemmas.{Prints-none, Prints-more, PrintsFront-
 use Rattle.fits_hdu.specs.Hdu.{HduParts, hdu_bytes}
 use Rattle.fits_hdu.specs.State.{HduState, PixelWork, ReadsUpTo}
 use Rattle.fits_session.specs.File.{joined_hdus, IsFile}
-use Rattle.fits_session.specs.Session.{Held, hdus_of, reads_of, works_of, held_as, held_of, file_of, state_of, once_read, each_read, ReadsOnceAtMost}
+use Rattle.fits_session.specs.Session.{hdus_of, reads_of, works_of, file_of, state_of, once_read, each_read, ReadsOnceAtMost}
 use Rattle.fits_session.proofs.StateLemmas.{get_or-hdus_of, hdus_of-same, length-hdus_of, works_of-same}
 
 -- HDU i of those that are there
-hdu_here : (hdus : List HduState) (us : List HduParts) (i : ℕ) (hdu : HduState) → hdus_of (held_of hdus) ≡ us → i < length hdus → hdu ≡ get_or hdus i hdu → get_or us i hdu.hdu ≡ hdu.hdu
+hdu_here : (hdus : List HduState) (us : List HduParts) (i : ℕ) (hdu : HduState) → hdus_of hdus ≡ us → i < length hdus → hdu ≡ get_or hdus i hdu → get_or us i hdu.hdu ≡ hdu.hdu
 hdu_here hdus us i hdu same l e =
     ap (λ (t : List HduParts). get_or t i hdu.hdu) (sym same) ∙ get_or-hdus_of hdus i hdu l e
 
 -- their number
-within : (hdus : List HduState) (us : List HduParts) (i : ℕ) → hdus_of (held_of hdus) ≡ us → i < length hdus → i < length us
+within : (hdus : List HduState) (us : List HduParts) (i : ℕ) → hdus_of hdus ≡ us → i < length hdus → i < length us
 within hdus us i same l = omega (arith, ap length same, length-hdus_of hdus)
 
 -- one more HDU
-pub Prints-hdu : (a b c : SinkState) (hdus : List HduState) (us : List HduParts) (i : ℕ) (hdu : HduState) → hdus_of (held_of hdus) ≡ us → i < length hdus → hdu ≡ get_or hdus i hdu → Prints (joined_hdus (take i us)) a b → Prints (hdu_bytes hdu.hdu) b c → Prints (joined_hdus (take (i + 1) us)) a c
+pub Prints-hdu : (a b c : SinkState) (hdus : List HduState) (us : List HduParts) (i : ℕ) (hdu : HduState) → hdus_of hdus ≡ us → i < length hdus → hdu ≡ get_or hdus i hdu → Prints (joined_hdus (take i us)) a b → Prints (hdu_bytes hdu.hdu) b c → Prints (joined_hdus (take (i + 1) us)) a c
 Prints-hdu a b c hdus us i hdu same l e p q =
     let more : joined_hdus (take (i + 1) us) ≡ joined_hdus (take i us) ++ hdu_bytes hdu.hdu =
     ap joined_hdus (take_more us i hdu.hdu (within hdus us i same l)) ∙ flat_map-append hdu_bytes (take i us) (get_or us i hdu.hdu ∷ [])
@@ -28,7 +28,7 @@ Prints-hdu a b c hdus us i hdu same l e p q =
     rw more (Prints-more a b c _ _ p q)
 
 -- a prefix of it
-pub PrintsFront-hdu : (a b c : SinkState) (hdus : List HduState) (us : List HduParts) (i : ℕ) (hdu : HduState) → hdus_of (held_of hdus) ≡ us → i < length hdus → hdu ≡ get_or hdus i hdu → Prints (joined_hdus (take i us)) a b → PrintsFront (hdu_bytes hdu.hdu) b c → PrintsFront (joined_hdus us) a c
+pub PrintsFront-hdu : (a b c : SinkState) (hdus : List HduState) (us : List HduParts) (i : ℕ) (hdu : HduState) → hdus_of hdus ≡ us → i < length hdus → hdu ≡ get_or hdus i hdu → Prints (joined_hdus (take i us)) a b → PrintsFront (hdu_bytes hdu.hdu) b c → PrintsFront (joined_hdus us) a c
 PrintsFront-hdu a b c hdus us i hdu same l e p q =
     let rest : List HduParts = drop (i + 1) us in
     let split : joined_hdus us ≡ joined_hdus (take i us) ++ (hdu_bytes hdu.hdu ++ joined_hdus rest) =
@@ -45,127 +45,133 @@ pub Prints-hdus : (a b : SinkState) (us : List HduParts) (i : ℕ) → length us
 Prints-hdus a b us i l p = rw (take_all i us l) at p
 
 -- the HDUs stay
-pub hdus_kept : (hdus : List HduState) (us : List HduParts) (i : ℕ) (old new : HduState) → hdus_of (held_of hdus) ≡ us → i < length hdus → old ≡ get_or hdus i old → new.hdu ≡ old.hdu → hdus_of (held_of (set hdus i new)) ≡ us
+pub hdus_kept : (hdus : List HduState) (us : List HduParts) (i : ℕ) (old new : HduState) → hdus_of hdus ≡ us → i < length hdus → old ≡ get_or hdus i old → new.hdu ≡ old.hdu → hdus_of (set hdus i new) ≡ us
 hdus_kept hdus us i old new same l e p = hdus_of-same hdus i old new l e p ∙ same
 
 -- the same HDUs, with the cards of the first so many read once more
-abbrev pub first_read : ℕ → List Held → List Held
-first_read zero held = held
+abbrev pub first_read : ℕ → List HduState → List HduState
+first_read zero before = before
 first_read (suc i) [] = []
-first_read (suc i) (one ∷ held) = once_read one ∷ first_read i held
+first_read (suc i) (one ∷ before) = once_read one ∷ first_read i before
 
 -- none of them yet
-pub first_read_none : (held : List Held) → held ≡ first_read 0 held
-first_read_none held = refl
+pub first_read_none : (before : List HduState) → before ≡ first_read 0 before
+first_read_none before = refl
+
+-- two states of the same parts are one
+state_is : (a b : HduState) → a.hdu ≡ b.hdu → a.shape ≡ b.shape → a.reads ≡ b.reads → a.room ≡ b.room → a.pixel_work ≡ b.pixel_work → a ≡ b
+state_is a b p q r s t =
+    let same : (let state : HduState = record { hdu = a.hdu; shape = a.shape; reads = a.reads; room = a.room; pixel_work = a.pixel_work } in state) ≡ b = rw (p, q, r, s, t) refl in
+    same
 
 -- an HDU whose cards all were read
-read_as : (one : Held) (hdu new : HduState) → held_as hdu ≡ one → new.hdu ≡ hdu.hdu → new.pixel_work ≡ hdu.pixel_work → new.reads ≡ hdu.reads + length hdu.hdu.header.cards → held_as new ≡ once_read one
-read_as one hdu new e same idle more = rw (← e) (rw (same, idle, more) refl)
+read_as : (one hdu new : HduState) (most : ℕ) → hdu ≡ one → ReadsUpTo hdu new most → new.reads ≡ hdu.reads + length hdu.hdu.header.cards → new ≡ once_read one
+read_as one hdu new most e r more = state_is new (once_read hdu) r.hdu r.shape more r.room r.pixel_work ∙ ap once_read e
 
 -- one more HDU was read
-read_next : (held : List Held) (hdus : List HduState) (i : ℕ) (old new : HduState) → held_of hdus ≡ first_read i held → i < length hdus → old ≡ get_or hdus i old → new.hdu ≡ old.hdu → new.pixel_work ≡ old.pixel_work → new.reads ≡ old.reads + length old.hdu.header.cards → held_of (set hdus i new) ≡ first_read (suc i) held
-read_next held [] i old new e l is same idle more = absurd (omega arith)
-read_next [] (hdu ∷ hdus) zero old new e l is same idle more = absurd (cc)
-read_next [] (hdu ∷ hdus) (suc i) old new e l is same idle more = absurd (cc)
-read_next (one ∷ held) (hdu ∷ hdus) zero old new e l is same idle more =
-    let head : held_as hdu ≡ one = cc in
-    let tail : held_of hdus ≡ held = cc in
-    let at : held_as new ≡ once_read one = read_as one hdu new head (rw is at same) (rw is at idle) (rw is at more) in
+read_next : (before hdus : List HduState) (i : ℕ) (old new : HduState) (most : ℕ) → hdus ≡ first_read i before → i < length hdus → old ≡ get_or hdus i old → ReadsUpTo old new most → new.reads ≡ old.reads + length old.hdu.header.cards → set hdus i new ≡ first_read (suc i) before
+read_next before [] i old new most e l is r more = absurd (omega arith)
+read_next [] (hdu ∷ hdus) zero old new most e l is r more = absurd (cc)
+read_next [] (hdu ∷ hdus) (suc i) old new most e l is r more = absurd (cc)
+read_next (one ∷ before) (hdu ∷ hdus) zero old new most e l is r more =
+    let head : hdu ≡ one = cc in
+    let tail : hdus ≡ before = cc in
+    let at : new ≡ once_read one = read_as one hdu new most head (subst (λ (state : HduState). ReadsUpTo state new most) is r) (rw is at more) in
     cc
-read_next (one ∷ held) (hdu ∷ hdus) (suc i) old new e l is same idle more =
-    let head : held_as hdu ≡ once_read one = cc in
-    let tail : held_of hdus ≡ first_read i held = cc in
-    let next : held_of (set hdus i new) ≡ first_read (suc i) held = read_next held hdus i old new tail (omega arith) is same idle more in
+read_next (one ∷ before) (hdu ∷ hdus) (suc i) old new most e l is r more =
+    let head : hdu ≡ once_read one = cc in
+    let tail : hdus ≡ first_read i before = cc in
+    let next : set hdus i new ≡ first_read (suc i) before = read_next before hdus i old new most tail (omega arith) is r more in
     cc
 
 -- the same in the loop's words
-pub first_read_more : (held : List Held) (hdus : List HduState) (i : ℕ) (old new : HduState) → held_of hdus ≡ first_read i held → i < length hdus → old ≡ get_or hdus i old → new.hdu ≡ old.hdu → new.pixel_work ≡ old.pixel_work → new.reads ≡ old.reads + length old.hdu.header.cards → held_of (set hdus i new) ≡ first_read (i + 1) held
-first_read_more held hdus i old new e l is same idle more = rw (add-one i) (read_next held hdus i old new e l is same idle more)
+pub first_read_more : (before hdus : List HduState) (i : ℕ) (old new : HduState) (most : ℕ) → hdus ≡ first_read i before → i < length hdus → old ≡ get_or hdus i old → ReadsUpTo old new most → new.reads ≡ old.reads + length old.hdu.header.cards → set hdus i new ≡ first_read (i + 1) before
+first_read_more before hdus i old new most e l is r more = rw (add-one i) (read_next before hdus i old new most e l is r more)
 
 -- in the end all were read
-first_read_all : (held : List Held) (i : ℕ) → length held ≤ i → first_read i held ≡ each_read held
+first_read_all : (before : List HduState) (i : ℕ) → length before ≤ i → first_read i before ≡ each_read before
 first_read_all [] zero l = refl
 first_read_all [] (suc i) l = refl
-first_read_all (one ∷ held) zero l = absurd (omega arith)
-first_read_all (one ∷ held) (suc i) l = ap (λ (more : List Held). once_read one ∷ more) (first_read_all held i (omega arith))
+first_read_all (one ∷ before) zero l = absurd (omega arith)
+first_read_all (one ∷ before) (suc i) l = ap (λ (more : List HduState). once_read one ∷ more) (first_read_all before i (omega arith))
 
 -- also those under edits
-pub all_read : (before hdus : List HduState) (i : ℕ) → held_of hdus ≡ first_read i (held_of before) → length hdus ≡ length before → length hdus ≤ i → held_of hdus ≡ each_read (held_of before)
-all_read before hdus i e same l = e ∙ first_read_all (held_of before) i (omega (arith, length-map before held_as))
+pub all_read : (before hdus : List HduState) (i : ℕ) → hdus ≡ first_read i before → length hdus ≡ length before → length hdus ≤ i → hdus ≡ each_read before
+all_read before hdus i e same l = e ∙ first_read_all before i (omega arith)
 
 -- a read of each card is no fall
-read_grows : (held : List Held) (j : ℕ) → get_or (reads_of held) j 0 ≤ get_or (reads_of (each_read held)) j 0
+read_grows : (before : List HduState) (j : ℕ) → get_or (reads_of before) j 0 ≤ get_or (reads_of (each_read before)) j 0
 read_grows [] j = omega arith
-read_grows (one ∷ held) zero = omega arith
-read_grows (one ∷ held) (suc j) = read_grows held j
+read_grows (one ∷ before) zero = omega arith
+read_grows (one ∷ before) (suc j) = read_grows before j
 
 -- nor are the HDUs others
-read_same : (held : List Held) → hdus_of (each_read held) ≡ hdus_of held
+read_same : (before : List HduState) → hdus_of (each_read before) ≡ hdus_of before
 read_same [] = refl
-read_same (one ∷ held) = ap (λ (us : List HduParts). one.hdu ∷ us) (read_same held)
+read_same (one ∷ before) = ap (λ (us : List HduParts). one.hdu ∷ us) (read_same before)
 
 -- nor is the work on their data units
-work_same : (held : List Held) → works_of (each_read held) ≡ works_of held
+work_same : (before : List HduState) → works_of (each_read before) ≡ works_of before
 work_same [] = refl
-work_same (one ∷ held) = ap (λ (works : List PixelWork). one.pixel_work ∷ works) (work_same held)
+work_same (one ∷ before) = ap (λ (works : List PixelWork). one.pixel_work ∷ works) (work_same before)
 
 -- so each card was read once at most
-pub once_at_end : (held after : List Held) → after ≡ each_read held → ReadsOnceAtMost held after
-once_at_end held after e = rw e (record { hdus = read_same held; pixel_work = work_same held; least = λ j. read_grows held j; most = λ j. omega arith })
+pub once_at_end : (before after : List HduState) → after ≡ each_read before → ReadsOnceAtMost before after
+once_at_end before after e = rw e (record { hdus = read_same before; pixel_work = work_same before; least = λ j. read_grows before j; most = λ j. omega arith })
 
 -- no count falls where one HDU is being read
-least_read : (held : List Held) (hdus : List HduState) (i : ℕ) (old new : HduState) → held_of hdus ≡ first_read i held → i < length hdus → old ≡ get_or hdus i old → old.reads ≤ new.reads → (j : ℕ) → get_or (reads_of held) j 0 ≤ get_or (reads_of (held_of (set hdus i new))) j 0
-least_read held [] i old new e l is le j = absurd (omega arith)
+least_read : (before hdus : List HduState) (i : ℕ) (old new : HduState) → hdus ≡ first_read i before → i < length hdus → old ≡ get_or hdus i old → old.reads ≤ new.reads → (j : ℕ) → get_or (reads_of before) j 0 ≤ get_or (reads_of (set hdus i new)) j 0
+least_read before [] i old new e l is le j = absurd (omega arith)
 least_read [] (hdu ∷ hdus) zero old new e l is le j = absurd (cc)
 least_read [] (hdu ∷ hdus) (suc i) old new e l is le j = absurd (cc)
-least_read (one ∷ held) (hdu ∷ hdus) zero old new e l is le zero =
-    let head : held_as hdu ≡ one = cc in
-    omega (arith, ap (λ (one : Held). one.reads) head, ap (λ (state : HduState). state.reads) is)
-least_read (one ∷ held) (hdu ∷ hdus) zero old new e l is le (suc j) =
-    let tail : held_of hdus ≡ held = cc in
-    omega (arith, ap (λ (held : List Held). get_or (reads_of held) j 0) tail)
-least_read (one ∷ held) (hdu ∷ hdus) (suc i) old new e l is le zero =
-    let head : held_as hdu ≡ once_read one = cc in
-    omega (arith, ap (λ (one : Held). one.reads) head)
-least_read (one ∷ held) (hdu ∷ hdus) (suc i) old new e l is le (suc j) =
-    let tail : held_of hdus ≡ first_read i held = cc in
-    least_read held hdus i old new tail (omega arith) is le j
+least_read (one ∷ before) (hdu ∷ hdus) zero old new e l is le zero =
+    let head : hdu ≡ one = cc in
+    omega (arith, ap (λ (one : HduState). one.reads) head, ap (λ (state : HduState). state.reads) is)
+least_read (one ∷ before) (hdu ∷ hdus) zero old new e l is le (suc j) =
+    let tail : hdus ≡ before = cc in
+    omega (arith, ap (λ (before : List HduState). get_or (reads_of before) j 0) tail)
+least_read (one ∷ before) (hdu ∷ hdus) (suc i) old new e l is le zero =
+    let head : hdu ≡ once_read one = cc in
+    omega (arith, ap (λ (one : HduState). one.reads) head)
+least_read (one ∷ before) (hdu ∷ hdus) (suc i) old new e l is le (suc j) =
+    let tail : hdus ≡ first_read i before = cc in
+    least_read before hdus i old new tail (omega arith) is le j
 
 -- and none grows past one read of each card
-most_read : (held : List Held) (hdus : List HduState) (i : ℕ) (old new : HduState) → held_of hdus ≡ first_read i held → i < length hdus → old ≡ get_or hdus i old → new.reads ≤ old.reads + length old.hdu.header.cards → (j : ℕ) → get_or (reads_of (held_of (set hdus i new))) j 0 ≤ get_or (reads_of (each_read held)) j 0
-most_read held [] i old new e l is le j = absurd (omega arith)
+most_read : (before hdus : List HduState) (i : ℕ) (old new : HduState) → hdus ≡ first_read i before → i < length hdus → old ≡ get_or hdus i old → new.reads ≤ old.reads + length old.hdu.header.cards → (j : ℕ) → get_or (reads_of (set hdus i new)) j 0 ≤ get_or (reads_of (each_read before)) j 0
+most_read before [] i old new e l is le j = absurd (omega arith)
 most_read [] (hdu ∷ hdus) zero old new e l is le j = absurd (cc)
 most_read [] (hdu ∷ hdus) (suc i) old new e l is le j = absurd (cc)
-most_read (one ∷ held) (hdu ∷ hdus) zero old new e l is le zero =
-    let head : held_as hdu ≡ one = cc in
-    omega (arith, ap (λ (one : Held). one.reads + length one.hdu.header.cards) head, ap (λ (state : HduState). state.reads + length state.hdu.header.cards) is)
-most_read (one ∷ held) (hdu ∷ hdus) zero old new e l is le (suc j) =
-    let tail : held_of hdus ≡ held = cc in
-    omega (arith, ap (λ (held : List Held). get_or (reads_of held) j 0) tail, read_grows held j)
-most_read (one ∷ held) (hdu ∷ hdus) (suc i) old new e l is le zero =
-    let head : held_as hdu ≡ once_read one = cc in
-    omega (arith, ap (λ (one : Held). one.reads) head)
-most_read (one ∷ held) (hdu ∷ hdus) (suc i) old new e l is le (suc j) =
-    let tail : held_of hdus ≡ first_read i held = cc in
-    most_read held hdus i old new tail (omega arith) is le j
+most_read (one ∷ before) (hdu ∷ hdus) zero old new e l is le zero =
+    let head : hdu ≡ one = cc in
+    omega (arith, ap (λ (one : HduState). one.reads + length one.hdu.header.cards) head, ap (λ (state : HduState). state.reads + length state.hdu.header.cards) is)
+most_read (one ∷ before) (hdu ∷ hdus) zero old new e l is le (suc j) =
+    let tail : hdus ≡ before = cc in
+    omega (arith, ap (λ (before : List HduState). get_or (reads_of before) j 0) tail, read_grows before j)
+most_read (one ∷ before) (hdu ∷ hdus) (suc i) old new e l is le zero =
+    let head : hdu ≡ once_read one = cc in
+    omega (arith, ap (λ (one : HduState). one.reads) head)
+most_read (one ∷ before) (hdu ∷ hdus) (suc i) old new e l is le (suc j) =
+    let tail : hdus ≡ first_read i before = cc in
+    most_read before hdus i old new tail (omega arith) is le j
 
 -- the reads of cards of the first so many leave the work on their data units
-first_work : (i : ℕ) (held : List Held) → works_of (first_read i held) ≡ works_of held
-first_work zero held = refl
+first_work : (i : ℕ) (before : List HduState) → works_of (first_read i before) ≡ works_of before
+first_work zero before = refl
 first_work (suc i) [] = refl
-first_work (suc i) (one ∷ held) = ap (λ (works : List PixelWork). one.pixel_work ∷ works) (first_work i held)
+first_work (suc i) (one ∷ before) = ap (λ (works : List PixelWork). one.pixel_work ∷ works) (first_work i before)
 
 -- so each card is read once at most, also where a call fails
-pub once_at_most : (held : List Held) (hdus : List HduState) (i : ℕ) (old new : HduState) → held_of hdus ≡ first_read i held → hdus_of (held_of hdus) ≡ hdus_of held → i < length hdus → old ≡ get_or hdus i old → ReadsUpTo old new (length old.hdu.header.cards) → ReadsOnceAtMost held (held_of (set hdus i new))
-once_at_most held hdus i old new e same l is work = record {
+pub once_at_most : (before hdus : List HduState) (i : ℕ) (old new : HduState) → hdus ≡ first_read i before → hdus_of hdus ≡ hdus_of before → i < length hdus → old ≡ get_or hdus i old → ReadsUpTo old new (length old.hdu.header.cards) → ReadsOnceAtMost before (set hdus i new)
+once_at_most before hdus i old new e same l is work = record {
   hdus = hdus_of-same hdus i old new l is work.hdu ∙ same;
-  pixel_work = works_of-same hdus i old new l is work.pixel_work ∙ ap works_of e ∙ first_work i held;
-  least = λ j. least_read held hdus i old new e l is work.least j;
-  most = λ j. most_read held hdus i old new e l is work.most j;
+  pixel_work = works_of-same hdus i old new l is work.pixel_work ∙ ap works_of e ∙ first_work i before;
+  least = λ j. least_read before hdus i old new e l is work.least j;
+  most = λ j. most_read before hdus i old new e l is work.most j;
 }
 
 -- a file of HDUs whose bytes stay is whole still
-pub whole_still : (before after : List HduState) (tail : List ℕ) → hdus_of (held_of after) ≡ hdus_of (held_of before) → IsFile (file_of (state_of before tail)) → IsFile (file_of (state_of after tail))
+pub whole_still : (before after : List HduState) (tail : List ℕ) → hdus_of after ≡ hdus_of before → IsFile (file_of (state_of before tail)) → IsFile (file_of (state_of after tail))
 whole_still before after tail same whole = subst (λ (us : List HduParts). IsFile (record { hdus = us; tail = tail })) (sym same) whole
 
 pub ruleset save_steps = (Prints-no_hdus, Prints-more, Prints-hdus, PrintsFront-hdu, PrintsFront-longer, PrintsFront-more, first_read_none)

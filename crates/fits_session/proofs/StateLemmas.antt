@@ -13,7 +13,7 @@ use Rattle.fits_hdu.proofs.ShapeLemmas.{one_primary}
 use Rattle.fits_session.specs.Edit.{hdu_of, changed_at, changed_of, is_primary_hdu}
 use Rattle.fits_session.specs.File.{FileParts, IsFile, file_bytes, joined_hdus}
 use Rattle.fits_session.specs.declared.limits.TheConstants.{FILE_LIMIT, HDU_LIMIT}
-use Rattle.fits_session.specs.Session.{Held, SessionState, file_of, hdus_of, reads_of, works_of, held_as, held_of, state_of, ReadsOnly, WorksOnly, Asks, IsIndexOf, IsNowhere}
+use Rattle.fits_session.specs.Session.{SessionState, file_of, hdus_of, reads_of, works_of, state_of, ReadsOnly, WorksOnly, Asks, IsIndexOf, IsNowhere}
 use Rattle.fits_session.proofs.ChangeLemmas.{hdu_is, part_within}
 
 -- HDU h of those under edits
@@ -26,25 +26,25 @@ pub is_at : (hdus seen : List HduState) (h k i : ℕ) (hdu : HduState) → seen 
 is_at hdus seen h k i hdu same named index is = record { index = rw (same, named) at index; is = is }
 
 -- the list that a write leaves, seen through a part of its elements
-parts_changed : {X : Type 0} (part : Held → X) (change : X → X) (hdus : List HduState) (i : ℕ) (old new : HduState) → i < length hdus → old ≡ get_or hdus i old → part (held_as new) ≡ change (part (held_as old))
-    → map part (held_of (set hdus i new)) ≡ changed_at i change (map part (held_of hdus))
+parts_changed : {X : Type 0} (part : HduState → X) (change : X → X) (hdus : List HduState) (i : ℕ) (old new : HduState) → i < length hdus → old ≡ get_or hdus i old → part new ≡ change (part old)
+    → map part (set hdus i new) ≡ changed_at i change (map part hdus)
 parts_changed part change [] i old new l e p = absurd (omega arith)
-parts_changed part change (hdu ∷ hdus) zero old new l e p = ap (λ x. x ∷ map part (held_of hdus)) (p ∙ ap (λ (state : HduState). change (part (held_as state))) e)
-parts_changed part change (hdu ∷ hdus) (suc i) old new l e p = ap (λ xs. part (held_as hdu) ∷ xs) (parts_changed part change hdus i old new (omega arith) e p)
+parts_changed part change (hdu ∷ hdus) zero old new l e p = ap (λ x. x ∷ map part hdus) (p ∙ ap (λ (state : HduState). change (part state)) e)
+parts_changed part change (hdu ∷ hdus) (suc i) old new l e p = ap (λ xs. part hdu ∷ xs) (parts_changed part change hdus i old new (omega arith) e p)
 
 -- the same where the part stays
-parts_same : {X : Type 0} (part : Held → X) (hdus : List HduState) (i : ℕ) (old new : HduState) → i < length hdus → old ≡ get_or hdus i old → part (held_as new) ≡ part (held_as old) → map part (held_of (set hdus i new)) ≡ map part (held_of hdus)
+parts_same : {X : Type 0} (part : HduState → X) (hdus : List HduState) (i : ℕ) (old new : HduState) → i < length hdus → old ≡ get_or hdus i old → part new ≡ part old → map part (set hdus i new) ≡ map part hdus
 parts_same part [] i old new l e p = absurd (omega arith)
-parts_same part (hdu ∷ hdus) zero old new l e p = ap (λ x. x ∷ map part (held_of hdus)) (p ∙ ap (λ (state : HduState). part (held_as state)) e)
-parts_same part (hdu ∷ hdus) (suc i) old new l e p = ap (λ xs. part (held_as hdu) ∷ xs) (parts_same part hdus i old new (omega arith) e p)
+parts_same part (hdu ∷ hdus) zero old new l e p = ap (λ x. x ∷ map part hdus) (p ∙ ap (λ (state : HduState). part state) e)
+parts_same part (hdu ∷ hdus) (suc i) old new l e p = ap (λ xs. part hdu ∷ xs) (parts_same part hdus i old new (omega arith) e p)
 
 -- the HDUs with one changed
-pub hdus_of-changed : (hdus : List HduState) (h i : ℕ) (old new : HduState) (change : HduParts → HduParts) → IsHduAt hdus h i old → new.hdu ≡ change old.hdu → hdus_of (held_of (set hdus i new)) ≡ changed_at i change (hdus_of (held_of hdus))
-hdus_of-changed hdus h i old new change at p = parts_changed (λ (one : Held). one.hdu) change hdus i old new at.index.within at.is p
+pub hdus_of-changed : (hdus : List HduState) (h i : ℕ) (old new : HduState) (change : HduParts → HduParts) → IsHduAt hdus h i old → new.hdu ≡ change old.hdu → hdus_of (set hdus i new) ≡ changed_at i change (hdus_of hdus)
+hdus_of-changed hdus h i old new change at p = parts_changed (λ (one : HduState). one.hdu) change hdus i old new at.index.within at.is p
 
 -- the HDUs stay where the one written stays
-pub hdus_of-same : (hdus : List HduState) (i : ℕ) (old new : HduState) → i < length hdus → old ≡ get_or hdus i old → new.hdu ≡ old.hdu → hdus_of (held_of (set hdus i new)) ≡ hdus_of (held_of hdus)
-hdus_of-same hdus i old new l e p = parts_same (λ (one : Held). one.hdu) hdus i old new l e p
+pub hdus_of-same : (hdus : List HduState) (i : ℕ) (old new : HduState) → i < length hdus → old ≡ get_or hdus i old → new.hdu ≡ old.hdu → hdus_of (set hdus i new) ≡ hdus_of hdus
+hdus_of-same hdus i old new l e p = parts_same (λ (one : HduState). one.hdu) hdus i old new l e p
 
 -- and so does the file
 pub file_of-same : (hdus : List HduState) (tail : List ℕ) (h i : ℕ) (old new : HduState) → IsHduAt hdus h i old → new.hdu ≡ old.hdu → file_of (state_of (set hdus i new) tail) ≡ file_of (state_of hdus tail)
@@ -58,18 +58,18 @@ stays_file hdus tail h i len old new at p file e =
     (subst (λ (f : FileParts). IsFile f) (sym same) file, e ∙ ap (λ (f : FileParts). length (file_bytes f)) (sym same))
 
 -- there are as many parts as HDUs
-pub length-hdus_of : (hdus : List HduState) → length (hdus_of (held_of hdus)) ≡ length hdus
-length-hdus_of hdus = length-map (held_of hdus) (λ (one : Held). one.hdu) ∙ length-map hdus held_as
+pub length-hdus_of : (hdus : List HduState) → length (hdus_of hdus) ≡ length hdus
+length-hdus_of hdus = length-map hdus (λ (one : HduState). one.hdu)
 
 -- and as many counts
-pub length-reads_of : (hdus : List HduState) → length (reads_of (held_of hdus)) ≡ length hdus
-length-reads_of hdus = length-map (held_of hdus) (λ (one : Held). one.reads) ∙ length-map hdus held_as
+pub length-reads_of : (hdus : List HduState) → length (reads_of hdus) ≡ length hdus
+length-reads_of hdus = length-map hdus (λ (one : HduState). one.reads)
 
 -- the parts of an HDU at an index
-pub slice_get-hdus_of : (hdus : List HduState) (i : ℕ) (hdu : HduState) → i < length hdus → hdu ≡ get_or hdus i hdu → slice_get (hdus_of (held_of hdus)) i ≡ Some hdu.hdu
+pub slice_get-hdus_of : (hdus : List HduState) (i : ℕ) (hdu : HduState) → i < length hdus → hdu ≡ get_or hdus i hdu → slice_get (hdus_of hdus) i ≡ Some hdu.hdu
 slice_get-hdus_of hdus i hdu l e =
-    slice_get-map (λ (one : Held). one.hdu) (held_of hdus) i
-    ∙ ap (option_map (λ (one : Held). one.hdu)) (slice_get-map held_as hdus i ∙ ap (option_map held_as) (slice_get_read hdus (length hdus) i hdu refl l e))
+    slice_get-map (λ (one : HduState). one.hdu) hdus i
+    ∙ ap (option_map (λ (one : HduState). one.hdu)) (slice_get_read hdus (length hdus) i hdu refl l e)
 
 -- HDU h
 pub hdu_of-there : (hdus : List HduState) (tail : List ℕ) (h i : ℕ) (hdu : HduState) → IsHduAt hdus h i hdu → hdu_of (file_of (state_of hdus tail)) h ≡ Some hdu.hdu
@@ -93,7 +93,7 @@ hdu_of-nowhere hdus tail h p = elim p [ inl zero_is ↦ ap (hdu_of (file_of (sta
 -- HDU h of a file is one
 pub whole_there : (hdus : List HduState) (tail : List ℕ) (h i : ℕ) (hdu : HduState) → IsFile (file_of (state_of hdus tail)) → IsHduAt hdus h i hdu → IsHdu (is_primary_hdu h) hdu.hdu
 whole_there hdus tail h i hdu p at =
-    subst (λ (k : ℕ). IsHdu (is_primary_hdu k) hdu.hdu) (sym (at.index.at ∙ add-one i)) (hdu_is (file_bytes (file_of (state_of hdus tail))) (hdus_of (held_of hdus)) tail i hdu.hdu p.front (slice_get-hdus_of hdus i hdu at.index.within at.is))
+    subst (λ (k : ℕ). IsHdu (is_primary_hdu k) hdu.hdu) (sym (at.index.at ∙ add-one i)) (hdu_is (file_bytes (file_of (state_of hdus tail))) (hdus_of hdus) tail i hdu.hdu p.front (slice_get-hdus_of hdus i hdu at.index.within at.is))
 
 -- its class says whether it is the primary one
 pub primary_there : (hdus : List HduState) (tail : List ℕ) (h i : ℕ) (hdu : HduState) → IsFile (file_of (state_of hdus tail)) → IsHduAt hdus h i hdu → IsHdu (is_primary hdu.shape.class) hdu.hdu → is_primary hdu.shape.class ≡ is_primary_hdu h
@@ -110,11 +110,11 @@ described_there hdus tail h i hdu p at described =
 
 -- it is a part of the file
 pub part_there : (hdus : List HduState) (tail : List ℕ) (h i : ℕ) (hdu : HduState) → IsHduAt hdus h i hdu → length (hdu_bytes hdu.hdu) ≤ length (file_bytes (file_of (state_of hdus tail)))
-part_there hdus tail h i hdu at = omega (arith, part_within (hdus_of (held_of hdus)) i hdu.hdu (slice_get-hdus_of hdus i hdu at.index.within at.is), length-append (joined_hdus (hdus_of (held_of hdus))) tail)
+part_there hdus tail h i hdu at = omega (arith, part_within (hdus_of hdus) i hdu.hdu (slice_get-hdus_of hdus i hdu at.index.within at.is), length-append (joined_hdus (hdus_of hdus)) tail)
 
 -- which is not too long
-pub file_size : (hdus : List HduState) (tail : List ℕ) → IsFile (file_of (state_of hdus tail)) → length (joined_hdus (hdus_of (held_of hdus))) + length tail ≤ FILE_LIMIT
-file_size hdus tail p = omega (arith, p.size, length-append (joined_hdus (hdus_of (held_of hdus))) tail)
+pub file_size : (hdus : List HduState) (tail : List ℕ) → IsFile (file_of (state_of hdus tail)) → length (joined_hdus (hdus_of hdus)) + length tail ≤ FILE_LIMIT
+file_size hdus tail p = omega (arith, p.size, length-append (joined_hdus (hdus_of hdus)) tail)
 
 -- and keeps to the limits
 pub file_within : (hdus : List HduState) (tail : List ℕ) → IsFile (file_of (state_of hdus tail)) → (length (file_bytes (file_of (state_of hdus tail))) ≤ FILE_LIMIT) × (length hdus ≤ HDU_LIMIT)
@@ -132,44 +132,44 @@ reads_none zero most reads = record { count = 0; few = omega arith; is = refl }
 reads_none (suc h) most reads = record { count = 0; few = omega arith; is = sym (changed-none h reads) }
 
 -- cards of HDU h alone were read
-pub reads_more : (hdus : List HduState) (h i most : ℕ) (old new : HduState) → IsHduAt hdus h i old → old.reads ≤ new.reads → new.reads ≤ old.reads + most → ReadsOnly h most (reads_of (held_of hdus)) (reads_of (held_of (set hdus i new)))
+pub reads_more : (hdus : List HduState) (h i most : ℕ) (old new : HduState) → IsHduAt hdus h i old → old.reads ≤ new.reads → new.reads ≤ old.reads + most → ReadsOnly h most (reads_of hdus) (reads_of (set hdus i new))
 reads_more hdus h i most old new at least few =
     let count : ℕ = new.reads - old.reads in
-    let is : reads_of (held_of (set hdus i new)) ≡ changed_at i (λ n. n + count) (reads_of (held_of hdus)) = parts_changed (λ (one : Held). one.reads) (λ n. n + count) hdus i old new at.index.within at.is (omega arith) in
-    record { count = count; few = omega arith; is = is ∙ ap (λ k. changed_of k (λ n. n + count) (reads_of (held_of hdus))) (sym (at.index.at ∙ add-one i)) }
+    let is : reads_of (set hdus i new) ≡ changed_at i (λ n. n + count) (reads_of hdus) = parts_changed (λ (one : HduState). one.reads) (λ n. n + count) hdus i old new at.index.within at.is (omega arith) in
+    record { count = count; few = omega arith; is = is ∙ ap (λ k. changed_of k (λ n. n + count) (reads_of hdus)) (sym (at.index.at ∙ add-one i)) }
 
 -- there are as many works as HDUs
-length-works_of : (hdus : List HduState) → length (works_of (held_of hdus)) ≡ length hdus
-length-works_of hdus = length-map (held_of hdus) (λ (one : Held). one.pixel_work) ∙ length-map hdus held_as
+length-works_of : (hdus : List HduState) → length (works_of hdus) ≡ length hdus
+length-works_of hdus = length-map hdus (λ (one : HduState). one.pixel_work)
 
 -- the work on the HDU at an index
-slice_get-works_of : (hdus : List HduState) (i : ℕ) (hdu : HduState) → i < length hdus → hdu ≡ get_or hdus i hdu → slice_get (works_of (held_of hdus)) i ≡ Some hdu.pixel_work
+slice_get-works_of : (hdus : List HduState) (i : ℕ) (hdu : HduState) → i < length hdus → hdu ≡ get_or hdus i hdu → slice_get (works_of hdus) i ≡ Some hdu.pixel_work
 slice_get-works_of hdus i hdu l e =
-    slice_get-map (λ (one : Held). one.pixel_work) (held_of hdus) i
-    ∙ ap (option_map (λ (one : Held). one.pixel_work)) (slice_get-map held_as hdus i ∙ ap (option_map held_as) (slice_get_read hdus (length hdus) i hdu refl l e))
+    slice_get-map (λ (one : HduState). one.pixel_work) hdus i
+    ∙ ap (option_map (λ (one : HduState). one.pixel_work)) (slice_get_read hdus (length hdus) i hdu refl l e)
 
 -- where HDU h stays as it was worked on, all do
-pub works_of-same : (hdus : List HduState) (i : ℕ) (old new : HduState) → i < length hdus → old ≡ get_or hdus i old → new.pixel_work ≡ old.pixel_work → works_of (held_of (set hdus i new)) ≡ works_of (held_of hdus)
-works_of-same hdus i old new l e p = parts_same (λ (one : Held). one.pixel_work) hdus i old new l e p
+pub works_of-same : (hdus : List HduState) (i : ℕ) (old new : HduState) → i < length hdus → old ≡ get_or hdus i old → new.pixel_work ≡ old.pixel_work → works_of (set hdus i new) ≡ works_of hdus
+works_of-same hdus i old new l e p = parts_same (λ (one : HduState). one.pixel_work) hdus i old new l e p
 
 -- where no card of it was read, none of any was
-pub reads_of-same : (hdus : List HduState) (i : ℕ) (old new : HduState) → i < length hdus → old ≡ get_or hdus i old → new.reads ≡ old.reads → reads_of (held_of (set hdus i new)) ≡ reads_of (held_of hdus)
-reads_of-same hdus i old new l e p = parts_same (λ (one : Held). one.reads) hdus i old new l e p
+pub reads_of-same : (hdus : List HduState) (i : ℕ) (old new : HduState) → i < length hdus → old ≡ get_or hdus i old → new.reads ≡ old.reads → reads_of (set hdus i new) ≡ reads_of hdus
+reads_of-same hdus i old new l e p = parts_same (λ (one : HduState). one.reads) hdus i old new l e p
 
 -- HDU h alone was worked on
-pub works_changed : (hdus : List HduState) (h i : ℕ) (old new : HduState) (change : PixelWork → PixelWork) → IsHduAt hdus h i old → new.pixel_work ≡ change old.pixel_work → works_of (held_of (set hdus i new)) ≡ changed_of h change (works_of (held_of hdus))
+pub works_changed : (hdus : List HduState) (h i : ℕ) (old new : HduState) (change : PixelWork → PixelWork) → IsHduAt hdus h i old → new.pixel_work ≡ change old.pixel_work → works_of (set hdus i new) ≡ changed_of h change (works_of hdus)
 works_changed hdus h i old new change at p =
-    parts_changed (λ (one : Held). one.pixel_work) change hdus i old new at.index.within at.is p
-    ∙ ap (λ k. changed_of k change (works_of (held_of hdus))) (sym (at.index.at ∙ add-one i))
+    parts_changed (λ (one : HduState). one.pixel_work) change hdus i old new at.index.within at.is p
+    ∙ ap (λ k. changed_of k change (works_of hdus)) (sym (at.index.at ∙ add-one i))
 
 -- and so much
-pub works_there : (hdus : List HduState) (h i : ℕ) (Much : PixelWork → PixelWork → Type 0) (old new : HduState) → IsHduAt hdus h i old → Much old.pixel_work new.pixel_work → WorksOnly h Much (works_of (held_of hdus)) (works_of (held_of (set hdus i new)))
+pub works_there : (hdus : List HduState) (h i : ℕ) (Much : PixelWork → PixelWork → Type 0) (old new : HduState) → IsHduAt hdus h i old → Much old.pixel_work new.pixel_work → WorksOnly h Much (works_of hdus) (works_of (set hdus i new))
 works_there hdus h i Much old new at p = record {
   now = new.pixel_work;
   is = works_changed hdus h i old new (λ work. new.pixel_work) at refl;
   much = λ k work number there.
       let index : k ≡ i = omega (arith, number, at.index.at) in
-      let both : Option.Some work ≡ Some old.pixel_work = sym there ∙ ap (slice_get (works_of (held_of hdus))) index ∙ slice_get-works_of hdus i old at.index.within at.is in
+      let both : Option.Some work ≡ Some old.pixel_work = sym there ∙ ap (slice_get (works_of hdus)) index ∙ slice_get-works_of hdus i old at.index.within at.is in
       let same : work ≡ old.pixel_work = cc in
       subst (λ (w : PixelWork). Much w new.pixel_work) (sym same) p;
 }
@@ -186,15 +186,15 @@ changed_of-nowhere zero change xs p = refl
 changed_of-nowhere (suc h) change xs p = elim p [ inl none ↦ absurd (omega (arith, none)) | inr past ↦ changed_at-past h change xs (omega (arith, past)) ]
 
 -- and it isn't worked on
-pub works_nowhere : (hdus : List HduState) (h : ℕ) (Much : PixelWork → PixelWork → Type 0) → IsNowhere (length hdus) h → WorksOnly h Much (works_of (held_of hdus)) (works_of (held_of hdus))
+pub works_nowhere : (hdus : List HduState) (h : ℕ) (Much : PixelWork → PixelWork → Type 0) → IsNowhere (length hdus) h → WorksOnly h Much (works_of hdus) (works_of hdus)
 works_nowhere hdus h Much p =
     let idle : PixelWork = record { scans = 0; reads = 0; joins = 0 } in
-    let nowhere : IsNowhere (length (works_of (held_of hdus))) h = rw (length-works_of hdus) p in
+    let nowhere : IsNowhere (length (works_of hdus)) h = rw (length-works_of hdus) p in
     record {
       now = idle;
-      is = sym (changed_of-nowhere h (λ work. idle) (works_of (held_of hdus)) nowhere);
+      is = sym (changed_of-nowhere h (λ work. idle) (works_of hdus) nowhere);
       much = λ k work number there.
-          let within : k < length hdus = omega (arith, slice_get_within (works_of (held_of hdus)) k work there, length-works_of hdus) in
+          let within : k < length hdus = omega (arith, slice_get_within (works_of hdus) k work there, length-works_of hdus) in
           absurd (elim p [ inl none ↦ omega (arith, number, none) | inr past ↦ omega (arith, number, past, within) ]);
     }
 
@@ -208,15 +208,15 @@ asked hdus tail h i most old new at p = record {
 
 -- a query read none
 pub asked_none : (h most : ℕ) (session : SessionState) → Asks h most session session
-asked_none h most session = record { file = refl; work = reads_none h most (reads_of session.held); pixel_work = refl }
+asked_none h most session = record { file = refl; work = reads_none h most (reads_of session.hdus); pixel_work = refl }
 
 -- one more HDU
-pub hdus_of-push : (hdus : List HduState) (hdu : HduState) → hdus_of (held_of (hdus ++ hdu ∷ [])) ≡ hdus_of (held_of hdus) ++ hdu.hdu ∷ []
+pub hdus_of-push : (hdus : List HduState) (hdu : HduState) → hdus_of (hdus ++ hdu ∷ []) ≡ hdus_of hdus ++ hdu.hdu ∷ []
 hdus_of-push [] hdu = refl
 hdus_of-push (first ∷ hdus) hdu = ap (λ us. first.hdu ∷ us) (hdus_of-push hdus hdu)
 
 -- the HDU at an index
-pub get_or-hdus_of : (hdus : List HduState) (i : ℕ) (hdu : HduState) → i < length hdus → hdu ≡ get_or hdus i hdu → get_or (hdus_of (held_of hdus)) i hdu.hdu ≡ hdu.hdu
-get_or-hdus_of hdus i hdu l e = get_or_from_slice_get (hdus_of (held_of hdus)) i hdu.hdu hdu.hdu (slice_get-hdus_of hdus i hdu l e)
+pub get_or-hdus_of : (hdus : List HduState) (i : ℕ) (hdu : HduState) → i < length hdus → hdu ≡ get_or hdus i hdu → get_or (hdus_of hdus) i hdu.hdu ≡ hdu.hdu
+get_or-hdus_of hdus i hdu l e = get_or_from_slice_get (hdus_of hdus) i hdu.hdu hdu.hdu (slice_get-hdus_of hdus i hdu l e)
 
 pub ruleset count_steps = (length-hdus_of)

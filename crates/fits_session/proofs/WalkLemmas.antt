@@ -20,7 +20,7 @@ use Rattle.fits_session.specs.File.{FileParts, begins_extension, goes_on, is_fir
 use Rattle.fits_session.specs.declared.limits.TheConstants.{FILE_LIMIT, HDU_LIMIT}
 use Rattle.fits_session.specs.Opening.{BeginsAsFits, HasOpenFault, open_fault_of}
 use Rattle.fits_session.specs.Reading.{file_fault_of, is_of_bytes, IsKeptOf, IsWalkOf, KeepsEach, NextBegins, ReadStops, RestStops, Walked, WalkStops}
-use Rattle.fits_session.specs.Session.{file_of, held_of, hdus_of, state_of}
+use Rattle.fits_session.specs.Session.{file_of, hdus_of, state_of}
 use Rattle.fits_session.specs.declared.open_fault.OpenFault.TheVariants.{NotFits, NoEnd, BadShape, ShortData, TooLarge, Memory}
 use Rattle.fits_session.specs.declared.read_fault.ReadFileFault.{ReadFileFault}
 use Rattle.fits_session.specs.declared.read_fault.ReadFileFault.TheVariants.{Open, Failed}
@@ -294,7 +294,7 @@ pub ruleset end_steps = (within_limit, past_limit)
 pub ruleset settled_steps = (settled_before, settled_here, settled_early)
 
 -- the HDUs that are kept whole are those of the file
-each_is : (hdus : List HduState) (us : List HduParts) → KeepsEach (λ (it : HduState) hdu. it.hdu ≡ hdu) hdus us → hdus_of (held_of hdus) ≡ us
+each_is : (hdus : List HduState) (us : List HduParts) → KeepsEach (λ (it : HduState) hdu. it.hdu ≡ hdu) hdus us → hdus_of hdus ≡ us
 each_is [] [] p = refl
 each_is [] (u ∷ us) p = absurd p
 each_is (hdu ∷ hdus) [] p = absurd p
@@ -302,7 +302,7 @@ each_is (hdu ∷ hdus) (u ∷ us) p = rw (p.0, each_is hdus us p.1) refl
 
 -- they and the tail were taken
 pub session_taken : (hdus : List HduState) (first tail : List ℕ) (a b c : Supply) → Walked (λ (it : HduState) hdu. it.hdu ≡ hdu) hdus first a b → TakesAfter first b c tail
-    → Takes a c (joined_hdus (hdus_of (held_of hdus)) ++ tail)
+    → Takes a c (joined_hdus (hdus_of hdus) ++ tail)
 session_taken hdus first tail a b c p q = rw (each_is hdus p.hdus p.each) (takes_before a b c (joined_hdus p.hdus) first tail p.taken q)
 
 -- and are a file
@@ -313,16 +313,16 @@ session_whole hdus first tail a b c p q some few ends =
     rw (each_is hdus p.hdus p.each) (file_walked (λ (it : HduState) hdu. it.hdu ≡ hdu) hdus p.hdus tail p.each p.front some few ends (omega (arith, taken.count)))
 
 -- of which nothing is left
-pub session_given : (hdus : List HduState) (tail : List ℕ) (a : SourceState) (c : Supply) → Takes (supply a FILE_LIMIT) c (joined_hdus (hdus_of (held_of hdus)) ++ tail) → IsSpent c → IfSome c.source.remaining (λ ys. length ys ≤ c.left) → IsFile (file_of (state_of hdus tail))
+pub session_given : (hdus : List HduState) (tail : List ℕ) (a : SourceState) (c : Supply) → Takes (supply a FILE_LIMIT) c (joined_hdus (hdus_of hdus) ++ tail) → IsSpent c → IfSome c.source.remaining (λ ys. length ys ≤ c.left) → IsFile (file_of (state_of hdus tail))
     → Gives a (λ bytes. IsFileOf bytes (file_of (state_of hdus tail)))
 session_given hdus tail a c taken spent few file =
-    let bytes : List ℕ = joined_hdus (hdus_of (held_of hdus)) ++ tail in
+    let bytes : List ℕ = joined_hdus (hdus_of hdus) ++ tail in
     let s = rest_given c few in
     let told : Tells a (bytes ++ s.0) = tells_after (supply a FILE_LIMIT) c bytes s.0 taken s.1 in
     (bytes, subst (λ (t : List ℕ). Tells a t) (ap (λ t. bytes ++ t) (s.2.1 spent) ∙ append-nil bytes) told, file)
 
 -- how many bytes the HDUs have
-pub hdus_length : (hdus : List HduState) (first : List ℕ) (a : SourceState) (b : Supply) → Walked (λ (it : HduState) hdu. it.hdu ≡ hdu) hdus first (supply a FILE_LIMIT) b → FILE_LIMIT ≡ b.left + (length (joined_hdus (hdus_of (held_of hdus))) + length first)
+pub hdus_length : (hdus : List HduState) (first : List ℕ) (a : SourceState) (b : Supply) → Walked (λ (it : HduState) hdu. it.hdu ≡ hdu) hdus first (supply a FILE_LIMIT) b → FILE_LIMIT ≡ b.left + (length (joined_hdus (hdus_of hdus)) + length first)
 hdus_length hdus first a b p =
     rw (each_is hdus p.hdus p.each) (p.taken.count ∙ ap (λ n. b.left + n) (length-append (joined_hdus p.hdus) first))
 

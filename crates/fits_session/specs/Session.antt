@@ -23,44 +23,30 @@ use Rattle.fits_session.specs.declared.hdu_edit.HduEdit.{HduEdit}
 use Rattle.fits_session.specs.declared.hdu_edit.HduEdit.TheVariants.{Pixels}
 use Rattle.fits_session.specs.declared.refusal.Refusal.{Refusal}
 
--- what a session holds of an HDU: its parts, how many of its cards were read so far, and the work on its data unit
-pub record Held : Type 0 where
-  pub hdu : HduParts
-  pub reads : ℕ
-  pub pixel_work : PixelWork
-
--- HDU after HDU, and the bytes that trail them
+-- HDUs under edits, and the bytes that trail them
 pub record SessionState : Type 0 where
-  pub held : List Held
+  pub hdus : List HduState
   pub tail : List ℕ
 
--- the parts of what is held
-abbrev pub hdus_of : List Held → List HduParts
-hdus_of held = map (λ one. one.hdu) held
+-- the parts of each HDU
+abbrev pub hdus_of : List HduState → List HduParts
+hdus_of hdus = map (λ (one : HduState). one.hdu) hdus
 
 -- the cards read of each
-abbrev pub reads_of : List Held → List ℕ
-reads_of held = map (λ one. one.reads) held
+abbrev pub reads_of : List HduState → List ℕ
+reads_of hdus = map (λ (one : HduState). one.reads) hdus
 
 -- the work on the data unit of each
-abbrev pub works_of : List Held → List PixelWork
-works_of held = map (λ one. one.pixel_work) held
+abbrev pub works_of : List HduState → List PixelWork
+works_of hdus = map (λ (one : HduState). one.pixel_work) hdus
 
 -- the file that a session is
 abbrev pub file_of : SessionState → FileParts
-file_of session = record { hdus = hdus_of session.held; tail = session.tail }
-
--- an HDU under edits, as it is held
-abbrev pub held_as : HduState → Held
-held_as state = record { hdu = state.hdu; reads = state.reads; pixel_work = state.pixel_work }
-
--- HDUs under edits, as they are held
-abbrev pub held_of : List HduState → List Held
-held_of hdus = map held_as hdus
+file_of session = record { hdus = hdus_of session.hdus; tail = session.tail }
 
 -- HDUs under edits and a tail
 abbrev pub state_of : List HduState → List ℕ → SessionState
-state_of hdus tail = record { held = held_of hdus; tail = tail }
+state_of hdus tail = record { hdus = hdus; tail = tail }
 
 -- cards of HDU h alone were read, and so many at most
 pub record ReadsOnly (h most : ℕ) (before after : List ℕ) : Type 0 where
@@ -102,15 +88,15 @@ abbrev pub EditWork : FileParts → ℕ → HduEdit → PixelWork → PixelWork 
 EditWork file h edit old new = (hdu : HduParts) → hdu_of file h ≡ Some hdu → HduWork (is_primary_hdu h) edit hdu old new
 
 -- an HDU with each of its cards read once more
-abbrev pub once_read : Held → Held
+abbrev pub once_read : HduState → HduState
 once_read one = record one { reads = one.reads + length one.hdu.header.cards }
 
 -- the same of each
-abbrev pub each_read : List Held → List Held
-each_read held = map once_read held
+abbrev pub each_read : List HduState → List HduState
+each_read hdus = map once_read hdus
 
 -- the HDUs stay, no count falls, no card was read more than once, and no data unit was worked on
-pub record ReadsOnceAtMost (before after : List Held) : Type 0 where
+pub record ReadsOnceAtMost (before after : List HduState) : Type 0 where
   pub hdus : hdus_of after ≡ hdus_of before
   pub pixel_work : works_of after ≡ works_of before
   pub least : (i : ℕ) → get_or (reads_of before) i 0 ≤ get_or (reads_of after) i 0
@@ -118,12 +104,12 @@ pub record ReadsOnceAtMost (before after : List Held) : Type 0 where
 
 -- an edit of HDU h is work on that HDU, and on no other
 pub record HduWorks (h : ℕ) (edit : HduEdit) (old new : SessionState) : Type 0 where
-  pub cards : ReadsOnly h (edit_reads (file_of old) h edit) (reads_of old.held) (reads_of new.held)
-  pub pixels : WorksOnly h (EditWork (file_of old) h edit) (works_of old.held) (works_of new.held)
+  pub cards : ReadsOnly h (edit_reads (file_of old) h edit) (reads_of old.hdus) (reads_of new.hdus)
+  pub pixels : WorksOnly h (EditWork (file_of old) h edit) (works_of old.hdus) (works_of new.hdus)
 
 -- an HDU was put in that will be HDU h: it was read and scanned as much as one that is opened, and the counts of the others are theirs
-pub record PutsIn (h : ℕ) (before after : List Held) : Type 0 where
-  pub one : Held
+pub record PutsIn (h : ℕ) (before after : List HduState) : Type 0 where
+  pub one : HduState
   pub is : after ≡ insert before (h - 1) one
   pub reads : one.reads ≤ open_reads one.hdu.header.cards
   pub made : IsMade (block_count one.hdu.data_unit) one.pixel_work
@@ -131,8 +117,8 @@ pub record PutsIn (h : ℕ) (before after : List Held) : Type 0 where
 -- the work of an edit: on its HDU, or none but that of an HDU that is put in; the counts go with their HDUs
 abbrev pub WorksAs : Edit → SessionState → SessionState → Type 0
 WorksAs (Hdu h edit) old new = HduWorks h edit old new
-WorksAs (NewImage at kind axes) old new = (new ≡ old) ⊎ PutsIn at old.held new.held
-WorksAs (RemoveHdu h) old new = (new ≡ old) ⊎ (new.held ≡ remove old.held (h - 1))
+WorksAs (NewImage at kind axes) old new = (new ≡ old) ⊎ PutsIn at old.hdus new.hdus
+WorksAs (RemoveHdu h) old new = (new ≡ old) ⊎ (new.hdus ≡ remove old.hdus (h - 1))
 
 -- an edit owes: it is made where none of its tests fails, and then the file is the one after it; else the file is as
 -- before, and the refusal is the first test's that fails, or memory's. Cards of the HDU that it names alone are read, and a refused edit
@@ -143,13 +129,13 @@ pub record EditsTo {X : Type 0} (edit : Edit) (old new : SessionState) (result :
   pub refused : IfErr result (Fails (EditNeedsMemory edit) (refusal_of (file_of old) edit))
   pub err : OnErr result (file_of new ≡ file_of old)
   pub work : WorksAs edit old new
-  pub idle : OnErr result (works_of new.held ≡ works_of old.held)
+  pub idle : OnErr result (works_of new.hdus ≡ works_of old.hdus)
 
 -- a query of HDU h owes: the file stays, and so many of that HDU's cards are read at most
 pub record Asks (h most : ℕ) (old new : SessionState) : Type 0 where
   pub file : file_of new ≡ file_of old
-  pub work : ReadsOnly h most (reads_of old.held) (reads_of new.held)
-  pub pixel_work : works_of new.held ≡ works_of old.held
+  pub work : ReadsOnly h most (reads_of old.hdus) (reads_of new.hdus)
+  pub pixel_work : works_of new.hdus ≡ works_of old.hdus
 
 -- so many pixels of an HDU were read more
 abbrev pub read_more : ℕ → PixelWork → PixelWork
@@ -158,8 +144,8 @@ read_more count work = record work { reads = work.reads + count }
 -- a query of pixels of HDU h owes: the file stays, no card is read, and so many of that HDU's pixels are read
 pub record AsksPixels (h count : ℕ) (old new : SessionState) : Type 0 where
   pub file : file_of new ≡ file_of old
-  pub work : reads_of new.held ≡ reads_of old.held
-  pub pixel_work : works_of new.held ≡ changed_of h (read_more count) (works_of old.held)
+  pub work : reads_of new.hdus ≡ reads_of old.hdus
+  pub pixel_work : works_of new.hdus ≡ changed_of h (read_more count) (works_of old.hdus)
 
 -- HDU h of so many stands at index i, from 0
 pub record IsIndexOf (count h i : ℕ) : Type 0 where

@@ -3,7 +3,7 @@ ghost use Rattle.std.specs.Prelude.{◌≡◌, ◌≤◌, ◌<◌, IfOk, IfErr, 
 ghost use Rattle.fits_session.specs.File.{begins_extension, is_first, IsFileOf};
 ghost use Rattle.fits_session.specs.declared.limits.TheConstants.{FILE_LIMIT};
 ghost use Rattle.fits_session.specs.Opening.{BeginsAsFits, HasOpenFault, OpenFails, goes_on_after, open_fault_of};
-ghost use Rattle.fits_session.specs.Session.{file_of, hdus_of, held_of, state_of};
+ghost use Rattle.fits_session.specs.Session.{file_of, hdus_of, state_of};
 
 use crate::limits::{FILE_LIMIT, HDU_LIMIT};
 use crate::open_fault::OpenFault;
@@ -57,7 +57,7 @@ pub(crate) fn open_hdus(alloc: Global, bytes: &[u8]) -> Result<(Vec<Hdu>, Vec<u8
 // Whether no HDU stands before the next one.
 #[tactic(auto, using(crate::proofs::OpeningLemmas::opening_steps))]
 fn is_first(hdus: &[Hdu]) -> bool
-    ensures { result ≡ is_first (hdus_of (held_of hdus.now)) }
+    ensures { result ≡ is_first (hdus_of hdus.now) }
 {
     hdus.is_empty()
 }

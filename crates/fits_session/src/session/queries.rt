@@ -5,7 +5,7 @@ ghost use Rattle.fits_session.specs.File.{joined_hdus, offsets_from, IsFile};
 ghost use Rattle.fits_session.specs.declared.limits.TheConstants.{FILE_LIMIT};
 ghost use Rattle.fits_session.specs.Reading.{is_found, KeepsEach};
 ghost use Rattle.fits_session.specs.Report.{called_count, counts_in, is_repeated, name_in, names_from, report_of};
-ghost use Rattle.fits_session.specs.Session.{file_of, held_of, hdus_of, state_of};
+ghost use Rattle.fits_session.specs.Session.{file_of, hdus_of, state_of};
 
 use super::Session;
 use super::finding::index_of;
@@ -202,9 +202,9 @@ impl Session {
 
 // What is found of HDUs, one after another.
 fn findings_of(alloc: Global, hdus: &mut Vec<Hdu>) -> Result<Vec<Findings>, AllocError>
-    requires { length (joined_hdus (hdus_of (held_of hdus.old.items))) ≤ FILE_LIMIT }
+    requires { length (joined_hdus (hdus_of hdus.old.items)) ≤ FILE_LIMIT }
     ensures found { IfOk result (λ found. KeepsEach is_found found.items
-        (hdus_of (held_of hdus.old.items))) }
+        (hdus_of hdus.old.items)) }
     ensures same { hdus.new.items ≡ hdus.old.items }
 {
     let mut found = Vec::new(alloc);
@@ -240,7 +240,7 @@ fn is_repeated(hdus: &[Hdu], i: usize) -> bool
     requires within { i < length hdus.now }
     ensures { (tail : List ℕ) (hdu : HduState) → IsFile (file_of (state_of hdus.now tail))
         → hdu ≡ get_or hdus.now i hdu
-        → result ≡ is_repeated (names_from 1 (hdus_of (held_of hdus.now))) (name_in (i + 1) hdu.hdu) }
+        → result ≡ is_repeated (names_from 1 (hdus_of hdus.now)) (name_in (i + 1) hdu.hdu) }
 {
     match hdus[i].extension_name() {
         Some(name) => called_count(hdus, &name) >= 2,
@@ -251,7 +251,7 @@ fn is_repeated(hdus: &[Hdu], i: usize) -> bool
 // How many HDUs are called so.
 fn called_count(hdus: &[Hdu], name: &ExtensionName) -> usize
     ensures { (tail : List ℕ) → IsFile (file_of (state_of hdus.now tail))
-        → result ≡ called_count name.now (names_from 1 (hdus_of (held_of hdus.now))) }
+        → result ≡ called_count name.now (names_from 1 (hdus_of hdus.now)) }
 {
     let mut count = 0;
     for hdu in hdus {
@@ -267,8 +267,8 @@ fn called_count(hdus: &[Hdu], name: &ExtensionName) -> usize
 // Where HDUs stand, of which the first begins at 0.
 #[tactic(auto, using(crate::proofs::OffsetLemmas::offset_steps))]
 fn offsets_of(alloc: Global, hdus: &[Hdu]) -> Result<Vec<HduOffsets>, AllocError>
-    requires { length (joined_hdus (hdus_of (held_of hdus.now))) ≤ FILE_LIMIT }
-    ensures { IfOk result (λ offsets. offsets.items ≡ offsets_from 0 (hdus_of (held_of hdus.now))) }
+    requires { length (joined_hdus (hdus_of hdus.now)) ≤ FILE_LIMIT }
+    ensures { IfOk result (λ offsets. offsets.items ≡ offsets_from 0 (hdus_of hdus.now)) }
 {
     let mut offsets = Vec::with_capacity(alloc, hdus.len())?;
     let mut start = 0;

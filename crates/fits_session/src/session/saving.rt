@@ -2,7 +2,7 @@
 ghost use Rattle.std.specs.Prelude.{◌≡◌, ◌+◌, IsOk, IsErr, OnOk, OnErr};
 ghost use Rattle.fits_card.specs.Stream.{Prints, PrintsFront};
 ghost use Rattle.fits_session.specs.File.{joined_hdus};
-ghost use Rattle.fits_session.specs.Session.{hdus_of, held_of, each_read, ReadsOnceAtMost};
+ghost use Rattle.fits_session.specs.Session.{hdus_of, each_read, ReadsOnceAtMost};
 
 use super::Session;
 use crate::save_fault::SaveFault;
@@ -26,8 +26,8 @@ impl Session {
 
         // The file stays, and each card is read once at most.
         ensures file { file_of self.new ≡ file_of self.old }
-        ensures work { ReadsOnceAtMost self.old.held self.new.held }
-        ensures all_read { OnOk result (self.new.held ≡ each_read self.old.held) }
+        ensures work { ReadsOnceAtMost self.old.hdus self.new.hdus }
+        ensures all_read { OnOk result (self.new.hdus ≡ each_read self.old.hdus) }
     {
         outcome(write_hdus(&mut self.hdus, sink))?;
         outcome(write_all(sink, &self.tail))
@@ -48,12 +48,12 @@ fn outcome(written: io::Result<()>) -> Result<(), SaveFault>
 // Writes HDUs, one after another. Where a call fails a prefix was written.
 #[tactic(auto, using(crate::proofs::SaveLemmas::save_steps))]
 fn write_hdus<W: Sink>(hdus: &mut Vec<Hdu>, sink: &mut W) -> io::Result<()>
-    ensures ok { OnOk result (Prints (joined_hdus (hdus_of (held_of hdus.old.items)))
+    ensures ok { OnOk result (Prints (joined_hdus (hdus_of hdus.old.items))
         (W.state sink.old) (W.state sink.new)) }
-    ensures err { OnErr result (PrintsFront (joined_hdus (hdus_of (held_of hdus.old.items)))
+    ensures err { OnErr result (PrintsFront (joined_hdus (hdus_of hdus.old.items))
         (W.state sink.old) (W.state sink.new)) }
-    ensures work { ReadsOnceAtMost (held_of hdus.old.items) (held_of hdus.new.items) }
-    ensures all_read { OnOk result (held_of hdus.new.items ≡ each_read (held_of hdus.old.items)) }
+    ensures work { ReadsOnceAtMost hdus.old.items hdus.new.items }
+    ensures all_read { OnOk result (hdus.new.items ≡ each_read hdus.old.items) }
 {
     for i in 0..hdus.len() {
         let hdu = &mut hdus[i];

@@ -1,7 +1,7 @@
 use Rattle.std.proofs.Common.{arith, ◌∙◌}
 use Rattle.std.proofs.lemmas.List.{length-append}
 use Rattle.fits_session.specs.File.{joined_hdus}
-use Rattle.fits_session.specs.Session.{hdus_of, held_of}
+use Rattle.fits_session.specs.Session.{hdus_of}
 use Rattle.fits_session.proofs.WalkLemmas.{ends_before, hdus_length, session_given, session_taken, session_whole}
 use Rattle.fits_session.proofs.session.reading.read_file.Goals as goal
 
@@ -33,5 +33,5 @@ returns-in-Ok-end-clause-len g c = omega (
   arith,
   c.len.ensures,
   hdus_length c.in-Ok.walked.0.items c.in-Ok.walked.1.items _ _ (rw c.in_ok-intake.ensures at c.in-Ok.ensures.walked),
-  length-append (joined_hdus (hdus_of (held_of c.in-Ok.walked.0.items))) c.in-Ok-read_tail.tail.items,
+  length-append (joined_hdus (hdus_of c.in-Ok.walked.0.items)) c.in-Ok-read_tail.tail.items,
 )

@@ -10,7 +10,7 @@ loop-i-preserved g c =
       printed = Prints-hdu _ _ _ c.loop-i.hdus.items _ c.loop-i.i c.index_mut-hdu.result.now c.loop-i.invariant.same l c.index_mut-hdu.ensures.value c.loop-i.invariant.printed c.in_ok-emit.ensures.ok;
       same = hdus_kept c.loop-i.hdus.items _ c.loop-i.i c.index_mut-hdu.result.now _ c.loop-i.invariant.same l c.index_mut-hdu.ensures.value c.emit.ensures.work.hdu;
       count = grind (arith, common_steps);
-      work = first_read_more _ c.loop-i.hdus.items c.loop-i.i c.index_mut-hdu.result.now _ c.loop-i.invariant.work l c.index_mut-hdu.ensures.value c.emit.ensures.work.hdu c.emit.ensures.work.pixel_work c.in_ok-emit.ensures.all_read;
+      work = first_read_more _ c.loop-i.hdus.items c.loop-i.i c.index_mut-hdu.result.now _ _ c.loop-i.invariant.work l c.index_mut-hdu.ensures.value c.emit.ensures.work c.in_ok-emit.ensures.all_read;
     }
 
 pub returns-in_err-emit-clause-work : goal.returns-in_err-emit-clause-work
