@@ -224,11 +224,7 @@ fn move_said(hdu: usize, rest: Option<&[u8]>) -> Option<Command>
 }
 
 // `set H NAME FIELD`
-fn set_said(
-    alloc: Global,
-    hdu: usize,
-    rest: Option<&[u8]>,
-) -> Result<Option<Command>, AllocError>
+fn set_said(alloc: Global, hdu: usize, rest: Option<&[u8]>) -> Result<Option<Command>, AllocError>
     ensures ok { IfOk result (λ said. said ≡ set_said hdu (option_copied rest.entry)) }
     ensures err { OnErr result
         (ReadingNeedsMemory (said_or_none (set_said hdu (option_copied rest.entry)))) }
@@ -261,11 +257,7 @@ fn paint_said(hdu: usize, words: Option<(Corner, Corner, Paint)>) -> Option<Comm
 }
 
 // `new H KIND AXES`
-fn new_said(
-    alloc: Global,
-    hdu: usize,
-    rest: Option<&[u8]>,
-) -> Result<Option<Command>, AllocError>
+fn new_said(alloc: Global, hdu: usize, rest: Option<&[u8]>) -> Result<Option<Command>, AllocError>
     ensures ok { IfOk result (λ said. said ≡ new_said hdu (option_copied rest.entry)) }
     ensures err { OnErr result
         (ReadingNeedsMemory (said_or_none (new_said hdu (option_copied rest.entry)))) }
