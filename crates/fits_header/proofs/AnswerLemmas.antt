@@ -85,3 +85,5 @@ any_named p (card ∷ cards) name named is =
 pub index-has : (es : List Entry) (cards : List (List ℕ)) (name : List ℕ) → IsIndexOf es cards → IsName name → list_any (is_named (name_number name)) es ≡ list_any (has_name name) cards
 index-has es cards name index h =
     any-same (is_named (name_number name)) es (entries_from 1 cards) (index.same (name_number name)) ∙ any_named 1 cards name index.named h
+
+pub ruleset answer_steps = (index-places, index-lead, index-has)

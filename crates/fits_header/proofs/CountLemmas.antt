@@ -83,6 +83,8 @@ length-entries p (card ∷ cards) = omega (arith, length-entries (p + 1) cards)
 pub length-index : (es : List Entry) (cards : List (List ℕ)) → IsIndexOf es cards → length es ≡ length cards
 length-index es cards index = length-same es (entries_from 1 cards) index.same ∙ length-entries 1 cards
 
+pub ruleset index_steps = (length-index)
+
 -- two runs of entries
 pub length-two : (es : List Entry) (p q : ℕ) (xs ys : List (List ℕ)) → AreSame es (entries_from p xs ++ entries_from q ys) → length es ≡ length xs + length ys
 length-two es p q xs ys same =

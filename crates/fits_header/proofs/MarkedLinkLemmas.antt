@@ -1,6 +1,6 @@
 -- Links, by the notes of cards.
-use Rattle.std.proofs.Common.{◌≡◌, ℕ, suc, ◌+◌, ◌<◌, ◌≤◌, ◌&&◌, Bool, true, false, Option, List, [], ◌∷◌, ◌++◌, length, take, drop, get_or, set, map, ap, sym, ◌∙◌, refl, arith, append_assoc, append-nil}
-use Rattle.std.proofs.lemmas.List.{length-map, map-append, take_more_set, take_all, drop_more, drop_all}
+use Rattle.std.proofs.Common.{◌≡◌, ℕ, suc, ◌≤◌, ◌&&◌, Bool, true, false, Option, List, [], ◌∷◌, ◌++◌, length, take, drop, map, ap, sym, ◌∙◌, refl, arith, append-nil}
+use Rattle.std.proofs.lemmas.List.{length-map, take_all, drop_all}
 use Rattle.fits_card.specs.Card.{has_value}
 use Rattle.fits_value.specs.Says.{card_string}
 use Rattle.fits_rules.specs.Reads.{string_said}

@@ -240,6 +240,8 @@ index-names es cards index rise =
     ap (map (to_be_bytes w64)) (rising_same (dedup nat_eq numbers) (numbers_of cards) (AllPairs-from_increasing (dedup nat_eq numbers) rise) (numbers-rise cards) same)
     ∙ sym (names-numbers cards index.named)
 
+pub ruleset name_steps = (index-names)
+
 -- a smaller number has smaller bytes
 before_bytes : (m n : ℕ) → m < 2 ^ 64 → n < 2 ^ 64 → m < n → IsTrue (is_before (to_be_bytes w64 m) (to_be_bytes w64 n))
 before_bytes m n low high less = (earlier (to_be_bytes w64 m) (to_be_bytes w64 n) (bytes-name m) (bytes-name n)).1 (rw (bytes-number m low, bytes-number n high) less)

@@ -78,3 +78,5 @@ index-lead_within es cards name from to index h one =
     ∙ (ap (before to) (lead_from from behind name (named_behind cards (from - 1) index.named) h)
     ∙ (place_among from to (position (is_value_of name) behind) one
     ∙ ap (λ o. option_map (λ place. place + (from - 1)) (option_map (λ i. i + 1) o)) (sym (position-take (is_value_of name) (to - from) behind))))
+
+pub ruleset within_steps = (index-lead_within)

@@ -295,37 +295,30 @@ impl Header {
     }
 
     /// What is found of its cards: by place, and at each by number. No card is read.
+    #[tactic(auto, using(crate::proofs::CountLemmas::index_steps))]
     pub fn findings(&mut self, alloc: Global) -> Result<Vec<Finding>, AllocError>
         ensures found { IfOk result (λ found. found.items
             ≡ card_findings self.old.shape self.old.header.cards) }
         ensures same { self.new ≡ self.old }
     {
-        survey(
-            &mut self.surroundings,
-            &self.cards,
-            &self.notes,
-            &self.index,
-        );
+        survey(&mut self.surroundings, &self.notes, &self.index);
         findings_of(alloc, &self.shape, &self.notes, &self.surroundings)
     }
 
     /// The codes of the card at a place, by number. It takes no memory, and reads no card.
+    #[tactic(auto, using(crate::proofs::CountLemmas::index_steps))]
     pub fn codes(&mut self, place: usize) -> CodeSet
         requires from { 1 ≤ place }
         requires to { place ≤ length self.old.header.cards }
         ensures value { result ≡ codes_at self.old.shape self.old.header.cards place }
         ensures same { self.new ≡ self.old }
     {
-        survey(
-            &mut self.surroundings,
-            &self.cards,
-            &self.notes,
-            &self.index,
-        );
+        survey(&mut self.surroundings, &self.notes, &self.index);
         codes_at(&self.shape, &self.notes, &self.surroundings, place)
     }
 
     /// How many errors and warnings are found of its cards. It takes no memory, and reads no card.
+    #[tactic(auto, using(crate::proofs::CountLemmas::index_steps))]
     pub fn counts(&mut self) -> Counts
         requires { length (header_bytes self.old.header) ≤ 2 ^ 34 }
         ensures value { result ≡ card_counts self.old.shape self.old.header.cards }
@@ -334,17 +327,13 @@ impl Header {
     {
         // So few cards have no more codes than the counts can hold.
         let _few = self.cards.len();
-        survey(
-            &mut self.surroundings,
-            &self.cards,
-            &self.notes,
-            &self.index,
-        );
+        survey(&mut self.surroundings, &self.notes, &self.index);
         count_all(&self.shape, &self.notes, &self.surroundings)
     }
 
     /// Whether the card at a place goes on with a long string. It takes no memory, and reads no
     /// card.
+    #[tactic(auto, using(crate::proofs::CountLemmas::index_steps))]
     pub fn is_link(&mut self, place: usize) -> bool
         requires from { 1 ≤ place }
         requires to { place ≤ length self.old.header.cards }
@@ -352,12 +341,7 @@ impl Header {
             ≡ slice_index_or (header_links self.old.header.cards) (place - 1) false }
         ensures same { self.new ≡ self.old }
     {
-        survey(
-            &mut self.surroundings,
-            &self.cards,
-            &self.notes,
-            &self.index,
-        );
+        survey(&mut self.surroundings, &self.notes, &self.index);
         is_link(&self.surroundings, place - 1)
     }
 

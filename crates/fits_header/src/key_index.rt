@@ -76,6 +76,7 @@ impl KeyIndex {
     }
 
     /// The places of the cards of a name, ascending.
+    #[tactic(auto, using(crate::proofs::AnswerLemmas::answer_steps))]
     pub fn positions(&self, alloc: Global, name: &Name) -> Result<Vec<usize>, AllocError>
         ensures { (cards : List (List ℕ)) → IsIndexOf self.now.entries cards
             → IfOk result (λ places. places.items ≡ keyword_places cards name.now) }
@@ -84,6 +85,7 @@ impl KeyIndex {
     }
 
     /// Where the lead of a name stands. It takes no memory, and reads no card.
+    #[tactic(auto, using(crate::proofs::AnswerLemmas::answer_steps))]
     pub fn lead(&self, name: &Name) -> Option<usize>
         ensures { (cards : List (List ℕ)) → IsIndexOf self.now.entries cards
             → result ≡ lead_place cards name.now }
@@ -93,6 +95,7 @@ impl KeyIndex {
 
     /// Where the lead of a name stands among the cards from a place on and before another. It takes
     /// no memory, and reads no card.
+    #[tactic(auto, using(crate::proofs::StretchLemmas::within_steps))]
     pub fn lead_within(&self, name: &Name, from: usize, to: usize) -> Option<usize>
         requires { 1 ≤ from }
         ensures { (cards : List (List ℕ)) → IsIndexOf self.now.entries cards
@@ -102,6 +105,7 @@ impl KeyIndex {
     }
 
     /// Whether a card has a name. It takes no memory, and reads no card.
+    #[tactic(auto, using(crate::proofs::AnswerLemmas::answer_steps))]
     pub fn has(&self, name: &Name) -> bool
         ensures { (cards : List (List ℕ)) → IsIndexOf self.now.entries cards
             → result ≡ list_any (has_name name.now) cards }
@@ -110,6 +114,7 @@ impl KeyIndex {
     }
 
     /// The names of the cards, each once, ascending.
+    #[tactic(auto, using(crate::proofs::NameLemmas::name_steps))]
     pub fn names(&self, alloc: Global) -> Result<Vec<Name>, AllocError>
         ensures { (cards : List (List ℕ)) → IsIndexOf self.now.entries cards
             → IfOk result (λ names. names.items ≡ header_names cards) }
