@@ -317,7 +317,6 @@ DATES = [
 ]
 
 
-
 def cases():
     for first, table in [(PRIMARY, ALONE + NEIGHBOURS), (IMAGE, EXTENSIONS), ("", HEADERS)]:
         for others, codes in table:

@@ -2,7 +2,7 @@
 from fits import P0, PIXEL, THREE_PIXELS, file
 from program import differences, told
 
-# The shortest header with its stamp, as `pixel_rows` has it.
+# The shortest header with its stamp, as a stamped file has it.
 STAMPED = (
     "SIMPLE  =                    T|BITPIX  =                    8|"
     "NAXIS   =                    0|CHECKSUM= 'BpFiDoFgBoFgBoFg'|DATASUM = '0       '|END"
@@ -33,7 +33,7 @@ NO_SUM = (
     "CHECKSUM= 'x       '|END"
 )
 
-# A file of two HDUs and a tail, and its sums. The words of a block of `file_of` sum to 1867394316.
+# A file of two HDUs and a tail, and its sums. The words of its data block sum to 1867394316.
 SUMMED = ([(STAMPED, 0), (PIXEL, 1)], "trailer")
 
 SUMS = "1 0 1 1\n2 1867394316 0 0\n"
@@ -93,7 +93,6 @@ SAVED = [
         "1 0 0 0\n2 0 0 0\n3 4294901760 -1 -1\n",
     ),
 ]
-
 
 
 def cases():

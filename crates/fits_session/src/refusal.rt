@@ -5,7 +5,7 @@ use std::error::Error;
 use std::fmt;
 use std::fmt::{Display, Formatter, Write};
 
-/// Why an edit wasn't made, or a query has no answer: the first test of its row that failed.
+/// Why an edit was not made, or a query has no answer: the first test that failed.
 ///
 /// After a refusal the file is as before.
 #[derive(Clone, Copy, PartialEq, Eq, Debug)]
