@@ -1,5 +1,5 @@
 -- Laws of edits.
-use Rattle.std.proofs.Common.{◌≡◌, ℕ, ℤ, ◌≤◌, Bool, true, false, List, length, refl, ap, sym, ◌∙◌, subst, arith, All, Option, None, Some, zero, suc}
+use Rattle.std.proofs.Common.{◌≡◌, ℕ, ◌≤◌, Bool, true, false, List, length, refl, ap, sym, ◌∙◌, subst, arith, All, Option, None, Some, zero, suc}
 use Rattle.std.specs.Prelude.{Result, Ok, Err}
 use Rattle.std.specs.List.{slice_get}
 use Rattle.std.proofs.lemmas.List.{length-append}
@@ -11,11 +11,13 @@ use Rattle.fits_rules.specs.Shape.{shape_of}
 use Rattle.fits_rules.specs.declared.array_shape.Shape.{Shape}
 use Rattle.fits_hdu.specs.Hdu.{HduParts, hdu_after, hdu_bytes, IsHdu}
 use Rattle.fits_hdu.specs.NewImage.{are_axes, new_image}
-use Rattle.fits_hdu.specs.Pixels.{filled, written}
+use Rattle.fits_hdu.specs.Pixels.{painted}
 use Rattle.fits_hdu.specs.Stamp.{stamped}
 use Rattle.fits_hdu.specs.declared.kind.Kind.{Kind}
 use Rattle.fits_hdu.specs.declared.pixel_fault.PixelFault.{PixelFault}
-use Rattle.fits_session.specs.Edit.{changed_at, hdu_of, hdu_named, hdu_edited, fill_of, is_card_edit, made_or, pixels_made, shaped, with_hdu, with_new_hdu, write_of, change_of, file_after, HasSizes}
+use Rattle.fits_plane.specs.declared.paint.Paint.{Paint}
+use Rattle.fits_plane.specs.declared.paint.Paint.TheVariants as paint
+use Rattle.fits_session.specs.Edit.{changed_at, hdu_of, hdu_named, hdu_edited, is_card_edit, made_or, paint_of, pixels_made, shaped, with_hdu, with_new_hdu, change_of, file_after, HasSizes}
 use Rattle.fits_session.specs.File.{FileParts, file_bytes, joined_hdus, IsFileOf, IsFile}
 use Rattle.fits_session.specs.Limits.{is_within_limits}
 use Rattle.fits_session.specs.declared.limits.TheConstants.{FILE_LIMIT, HDU_LIMIT}
@@ -100,13 +102,9 @@ pixels_accepted f file edit i hdu stays p named there change =
     hdu_accepted f file edit i hdu stays p named there change.0
     (omega (arith, length_left file edit i hdu stays named there (pixels_long hdu (hdu_edited edit hdu) change.1 change.2), ap length p.front.joined, p.size))
 
--- an HDU in which a rectangle was filled is one
-abbrev pub FilledAreHdus : Type 0
-FilledAreHdus = (primary : Bool) (shape : Shape) (hdu : HduParts) (lo hi : List ℕ) (value : ℤ) (new : HduParts) → IsHdu primary hdu → shape_of primary hdu.header.cards ≡ Ok shape → filled shape lo hi value hdu ≡ Ok new → IsPixelChange primary hdu new
-
--- and one in which a rectangle was written
-abbrev pub WrittenAreHdus : Type 0
-WrittenAreHdus = (primary : Bool) (shape : Shape) (hdu : HduParts) (lo hi : List ℕ) (values : List ℤ) (new : HduParts) → IsHdu primary hdu → shape_of primary hdu.header.cards ≡ Ok shape → written shape lo hi values hdu ≡ Ok new → IsPixelChange primary hdu new
+-- an HDU in which a rectangle was painted is one
+abbrev pub PaintedAreHdus : Type 0
+PaintedAreHdus = (primary : Bool) (shape : Shape) (hdu : HduParts) (lo hi : List ℕ) (paint : Paint) (new : HduParts) → IsHdu primary hdu → shape_of primary hdu.header.cards ≡ Ok shape → painted shape lo hi paint hdu ≡ Ok new → IsPixelChange primary hdu new
 
 -- and one that was stamped
 abbrev pub StampedAreHdus : Type 0
@@ -117,29 +115,29 @@ pub stamps_law : ((primary : Bool) (hdu : HduParts) → IsHdu primary hdu → Is
 stamps_law whole same primary hdu p = (whole primary hdu p, same hdu)
 
 -- by the HDU, if it is there
-by_hdu : FilledAreHdus → WrittenAreHdus → StampedAreHdus → (f : List ℕ) (file : FileParts) (edit : Edit) (h : ℕ) (o : Option HduParts) → HasSizes edit → IsFileOf f file → hdu_named edit ≡ h → hdu_of file h ≡ o → refusal_in file edit o ≡ None → IsFile (file_after file edit)
-unfolding fill_of write_of change_of file_after
-by_hdu fills writes stamps f file edit h None sizes p named there e = cc
-by_hdu fills writes stamps f file edit zero (Some hdu) sizes p named there e = cc
-by_hdu fills writes stamps f file (Insert h place card) (suc i) (Some hdu) sizes p named there e = cards_accepted f file (Insert h place card) i hdu refl sizes p named there e
-by_hdu fills writes stamps f file (Put h place card) (suc i) (Some hdu) sizes p named there e = cards_accepted f file (Put h place card) i hdu refl sizes p named there e
-by_hdu fills writes stamps f file (Delete h place) (suc i) (Some hdu) sizes p named there e = cards_accepted f file (Delete h place) i hdu refl sizes p named there e
-by_hdu fills writes stamps f file (Move h from to) (suc i) (Some hdu) sizes p named there e = cards_accepted f file (Move h from to) i hdu refl sizes p named there e
-by_hdu fills writes stamps f file (Set h name value comment) (suc i) (Some hdu) sizes p named there e = cards_accepted f file (Set h name value comment) i hdu refl sizes p named there e
-by_hdu fills writes stamps f file (Unset h name) (suc i) (Some hdu) sizes p named there e = cards_accepted f file (Unset h name) i hdu refl sizes p named there e
-by_hdu fills writes stamps f file (Fill h lo hi value) (suc i) (Some hdu) sizes p named there e =
+by_hdu : PaintedAreHdus → StampedAreHdus → (f : List ℕ) (file : FileParts) (edit : Edit) (h : ℕ) (o : Option HduParts) → HasSizes edit → IsFileOf f file → hdu_named edit ≡ h → hdu_of file h ≡ o → refusal_in file edit o ≡ None → IsFile (file_after file edit)
+unfolding paint_of change_of file_after
+by_hdu paints stamps f file edit h None sizes p named there e = cc
+by_hdu paints stamps f file edit zero (Some hdu) sizes p named there e = cc
+by_hdu paints stamps f file (Insert h place card) (suc i) (Some hdu) sizes p named there e = cards_accepted f file (Insert h place card) i hdu refl sizes p named there e
+by_hdu paints stamps f file (Put h place card) (suc i) (Some hdu) sizes p named there e = cards_accepted f file (Put h place card) i hdu refl sizes p named there e
+by_hdu paints stamps f file (Delete h place) (suc i) (Some hdu) sizes p named there e = cards_accepted f file (Delete h place) i hdu refl sizes p named there e
+by_hdu paints stamps f file (Move h from to) (suc i) (Some hdu) sizes p named there e = cards_accepted f file (Move h from to) i hdu refl sizes p named there e
+by_hdu paints stamps f file (Set h name value comment) (suc i) (Some hdu) sizes p named there e = cards_accepted f file (Set h name value comment) i hdu refl sizes p named there e
+by_hdu paints stamps f file (Unset h name) (suc i) (Some hdu) sizes p named there e = cards_accepted f file (Unset h name) i hdu refl sizes p named there e
+by_hdu paints stamps f file (Fill h lo hi value) (suc i) (Some hdu) sizes p named there e =
     let whole : IsHdu (is_primary_hdu h) hdu = rw named (hdu_is f file.hdus file.tail i hdu p.front there) in
-    let change = made_of (is_primary_hdu h) hdu (shape_of (is_primary_hdu h) hdu.header.cards) (λ shape. filled shape lo hi value hdu)
-    (λ shape new described made. fills (is_primary_hdu h) shape hdu lo hi value new whole described made) e in
+    let change = made_of (is_primary_hdu h) hdu (shape_of (is_primary_hdu h) hdu.header.cards) (λ shape. painted shape lo hi (paint.Fill value) hdu)
+    (λ shape new described made. paints (is_primary_hdu h) shape hdu lo hi (paint.Fill value) new whole described made) e in
     pixels_accepted f file (Fill h lo hi value) i hdu tt p named there (subst (λ (k : ℕ). IsPixelChange (is_primary_hdu k) hdu (hdu_edited (Fill h lo hi value) hdu)) named change)
-by_hdu fills writes stamps f file (Write h lo hi values) (suc i) (Some hdu) sizes p named there e =
+by_hdu paints stamps f file (Write h lo hi values) (suc i) (Some hdu) sizes p named there e =
     let whole : IsHdu (is_primary_hdu h) hdu = rw named (hdu_is f file.hdus file.tail i hdu p.front there) in
-    let change = made_of (is_primary_hdu h) hdu (shape_of (is_primary_hdu h) hdu.header.cards) (λ shape. written shape lo hi values hdu)
-    (λ shape new described made. writes (is_primary_hdu h) shape hdu lo hi values new whole described made) e in
+    let change = made_of (is_primary_hdu h) hdu (shape_of (is_primary_hdu h) hdu.header.cards) (λ shape. painted shape lo hi (paint.Write values) hdu)
+    (λ shape new described made. paints (is_primary_hdu h) shape hdu lo hi (paint.Write values) new whole described made) e in
     pixels_accepted f file (Write h lo hi values) i hdu tt p named there (subst (λ (k : ℕ). IsPixelChange (is_primary_hdu k) hdu (hdu_edited (Write h lo hi values) hdu)) named change)
-by_hdu fills writes stamps f file (NewImage at kind axes) (suc i) (Some hdu) sizes p named there e = cc
-by_hdu fills writes stamps f file (RemoveHdu h) (suc i) (Some hdu) sizes p named there e = removed_is_a_file f file h hdu p (ap (hdu_of file) named ∙ there) e
-by_hdu fills writes stamps f file (Stamp h) (suc i) (Some hdu) sizes p named there e =
+by_hdu paints stamps f file (NewImage at kind axes) (suc i) (Some hdu) sizes p named there e = cc
+by_hdu paints stamps f file (RemoveHdu h) (suc i) (Some hdu) sizes p named there e = removed_is_a_file f file h hdu p (ap (hdu_of file) named ∙ there) e
+by_hdu paints stamps f file (Stamp h) (suc i) (Some hdu) sizes p named there e =
     let whole : IsHdu (is_primary_hdu (suc i)) hdu = hdu_is f file.hdus file.tail i hdu p.front there in
     hdu_accepted f file (Stamp h) i hdu tt p named there (stamps (is_primary_hdu (suc i)) hdu whole).0 (size_kept file (Stamp h) tt e)
 
@@ -154,19 +152,19 @@ image_accepted images f file h kind axes p e =
     inserted_is_a_file f file h (new_image kind axes) p tests.0 (images kind axes tests.1) tests.2
 
 -- an accepted edit leaves a file
-pub edited : FilledAreHdus → WrittenAreHdus → StampedAreHdus → NewImagesAreHdus → (f : List ℕ) (file : FileParts) (edit : Edit) → HasSizes edit → IsFileOf f file → refusal_of file edit ≡ None → IsFile (file_after file edit)
+pub edited : PaintedAreHdus → StampedAreHdus → NewImagesAreHdus → (f : List ℕ) (file : FileParts) (edit : Edit) → HasSizes edit → IsFileOf f file → refusal_of file edit ≡ None → IsFile (file_after file edit)
 unfolding refusal_of file_after
-edited fills writes stamps images f file (Insert h place card) sizes p e = by_hdu fills writes stamps f file (Insert h place card) h (hdu_of file h) sizes p refl refl e
-edited fills writes stamps images f file (Put h place card) sizes p e = by_hdu fills writes stamps f file (Put h place card) h (hdu_of file h) sizes p refl refl e
-edited fills writes stamps images f file (Delete h place) sizes p e = by_hdu fills writes stamps f file (Delete h place) h (hdu_of file h) sizes p refl refl e
-edited fills writes stamps images f file (Move h from to) sizes p e = by_hdu fills writes stamps f file (Move h from to) h (hdu_of file h) sizes p refl refl e
-edited fills writes stamps images f file (Set h name value comment) sizes p e = by_hdu fills writes stamps f file (Set h name value comment) h (hdu_of file h) sizes p refl refl e
-edited fills writes stamps images f file (Unset h name) sizes p e = by_hdu fills writes stamps f file (Unset h name) h (hdu_of file h) sizes p refl refl e
-edited fills writes stamps images f file (Fill h lo hi value) sizes p e = by_hdu fills writes stamps f file (Fill h lo hi value) h (hdu_of file h) sizes p refl refl e
-edited fills writes stamps images f file (Write h lo hi values) sizes p e = by_hdu fills writes stamps f file (Write h lo hi values) h (hdu_of file h) sizes p refl refl e
-edited fills writes stamps images f file (NewImage at kind axes) sizes p e = image_accepted images f file at kind axes p e
-edited fills writes stamps images f file (RemoveHdu h) sizes p e = by_hdu fills writes stamps f file (RemoveHdu h) h (hdu_of file h) sizes p refl refl e
-edited fills writes stamps images f file (Stamp h) sizes p e = by_hdu fills writes stamps f file (Stamp h) h (hdu_of file h) sizes p refl refl e
+edited paints stamps images f file (Insert h place card) sizes p e = by_hdu paints stamps f file (Insert h place card) h (hdu_of file h) sizes p refl refl e
+edited paints stamps images f file (Put h place card) sizes p e = by_hdu paints stamps f file (Put h place card) h (hdu_of file h) sizes p refl refl e
+edited paints stamps images f file (Delete h place) sizes p e = by_hdu paints stamps f file (Delete h place) h (hdu_of file h) sizes p refl refl e
+edited paints stamps images f file (Move h from to) sizes p e = by_hdu paints stamps f file (Move h from to) h (hdu_of file h) sizes p refl refl e
+edited paints stamps images f file (Set h name value comment) sizes p e = by_hdu paints stamps f file (Set h name value comment) h (hdu_of file h) sizes p refl refl e
+edited paints stamps images f file (Unset h name) sizes p e = by_hdu paints stamps f file (Unset h name) h (hdu_of file h) sizes p refl refl e
+edited paints stamps images f file (Fill h lo hi value) sizes p e = by_hdu paints stamps f file (Fill h lo hi value) h (hdu_of file h) sizes p refl refl e
+edited paints stamps images f file (Write h lo hi values) sizes p e = by_hdu paints stamps f file (Write h lo hi values) h (hdu_of file h) sizes p refl refl e
+edited paints stamps images f file (NewImage at kind axes) sizes p e = image_accepted images f file at kind axes p e
+edited paints stamps images f file (RemoveHdu h) sizes p e = by_hdu paints stamps f file (RemoveHdu h) h (hdu_of file h) sizes p refl refl e
+edited paints stamps images f file (Stamp h) sizes p e = by_hdu paints stamps f file (Stamp h) h (hdu_of file h) sizes p refl refl e
 
 -- a header of no more cards is no longer
 no_longer : (m n : ℕ) → m ≤ n → header_length m ≤ header_length n

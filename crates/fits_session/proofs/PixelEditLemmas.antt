@@ -9,12 +9,14 @@ use Rattle.fits_rules.specs.Class.{is_primary}
 use Rattle.fits_rules.specs.Shape.{shape_of}
 use Rattle.fits_hdu.specs.Hdu.{HduParts, hdu_bytes, IsHdu}
 use Rattle.fits_hdu.specs.Layout.{layout_of}
-use Rattle.fits_hdu.specs.Pixels.{filled, written}
+use Rattle.fits_hdu.specs.Pixels.{painted}
 use Rattle.fits_hdu.specs.Stamp.{stamped}
 use Rattle.fits_hdu.specs.State.{HduState, PixelWork}
 use Rattle.fits_hdu.specs.Work.{stamp_count_reads, stamp_reads, IsPatched}
 use Rattle.fits_hdu.specs.declared.pixel_fault.PixelFault.{PixelFault}
-use Rattle.fits_session.specs.Edit.{changed_of, file_after, fill_of, hdu_edited, hdu_named, made_or, pixels_made, refusal_of_pixels, shaped, with_hdu, write_of}
+use Rattle.fits_plane.specs.declared.paint.Paint.{Paint}
+use Rattle.fits_plane.specs.declared.paint.Paint.TheVariants as paint
+use Rattle.fits_session.specs.Edit.{changed_of, file_after, hdu_edited, hdu_named, made_or, paint_of, pixels_made, refusal_of_pixels, shaped, with_hdu}
 use Rattle.fits_session.specs.File.{FileParts, file_bytes, joined_hdus, IsFile}
 use Rattle.fits_session.specs.Refusal.{is_primary_hdu, limit_refusal, refusal_in, refusal_made, size_refusal, StampFails}
 use Rattle.fits_session.specs.Session.{file_of, held_of, hdus_of, length_after, state_of, EditsTo, EditWork, HduWork, PatchesIn}
@@ -24,7 +26,7 @@ use Rattle.fits_session.specs.declared.edit.Edit.TheVariants.{Fill, Write, Stamp
 use Rattle.fits_session.specs.declared.refusal.Refusal.{Refusal}
 use Rattle.fits_session.proofs.ChangeLemmas.{joined-changed, length-changed}
 use Rattle.fits_session.proofs.EditLemmas.{IsNamed, edit_works, edits_not, named_file, named_work, refusal_there, works_none}
-use Rattle.fits_session.proofs.LawLemmas.{hdu_accepted, other_kept, pixels_long, size_kept, FilledAreHdus, IsPixelChange, StampedAreHdus, WrittenAreHdus}
+use Rattle.fits_session.proofs.LawLemmas.{hdu_accepted, other_kept, pixels_long, size_kept, IsPixelChange, PaintedAreHdus, StampedAreHdus}
 use Rattle.fits_session.proofs.MakingLemmas.{header_long}
 use Rattle.fits_session.proofs.StateLemmas.{IsHduAt, described_there, hdu_of-there, hdus_of-changed, length-hdus_of, part_there, reads_more, slice_get-hdus_of, whole_there, works_there}
 
@@ -52,15 +54,10 @@ edits_done hdus tail edit i n old new named at is least most works none =
       });
     }
 
--- what a fill makes of HDU h
-fill_there : (hdus : List HduState) (tail : List ℕ) (h i : ℕ) (hdu : HduState) (lo hi : List ℕ) (value : ℤ) → IsFile (file_of (state_of hdus tail)) → IsHduAt hdus h i hdu → shape_of (is_primary hdu.shape.class) hdu.hdu.header.cards ≡ Ok hdu.shape → fill_of (is_primary_hdu h) lo hi value hdu.hdu ≡ pixels_made (filled hdu.shape lo hi value hdu.hdu)
-unfolding fill_of
-fill_there hdus tail h i hdu lo hi value p at described = ap (λ said. shaped said (λ shape. filled shape lo hi value hdu.hdu)) (described_there hdus tail h i hdu p at described)
-
--- and a write
-write_there : (hdus : List HduState) (tail : List ℕ) (h i : ℕ) (hdu : HduState) (lo hi : List ℕ) (values : List ℤ) → IsFile (file_of (state_of hdus tail)) → IsHduAt hdus h i hdu → shape_of (is_primary hdu.shape.class) hdu.hdu.header.cards ≡ Ok hdu.shape → write_of (is_primary_hdu h) lo hi values hdu.hdu ≡ pixels_made (written hdu.shape lo hi values hdu.hdu)
-unfolding write_of
-write_there hdus tail h i hdu lo hi values p at described = ap (λ said. shaped said (λ shape. written shape lo hi values hdu.hdu)) (described_there hdus tail h i hdu p at described)
+-- what a paint makes of HDU h
+paint_there : (hdus : List HduState) (tail : List ℕ) (h i : ℕ) (hdu : HduState) (lo hi : List ℕ) (paint : Paint) → IsFile (file_of (state_of hdus tail)) → IsHduAt hdus h i hdu → shape_of (is_primary hdu.shape.class) hdu.hdu.header.cards ≡ Ok hdu.shape → paint_of (is_primary_hdu h) lo hi paint hdu.hdu ≡ pixels_made (painted hdu.shape lo hi paint hdu.hdu)
+unfolding paint_of
+paint_there hdus tail h i hdu lo hi paint p at described = ap (λ said. shaped said (λ shape. painted shape lo hi paint hdu.hdu)) (described_there hdus tail h i hdu p at described)
 
 -- the blocks of a rectangle that are worked on
 patches_there : (hdus : List HduState) (tail : List ℕ) (h i : ℕ) (old : HduState) (new : PixelWork) (lo hi : List ℕ) → IsFile (file_of (state_of hdus tail)) → IsHduAt hdus h i old → shape_of (is_primary old.shape.class) old.hdu.header.cards ≡ Ok old.shape
@@ -69,35 +66,35 @@ patches_there hdus tail h i old new lo hi p at described patched = rw (described
 
 -- a fill that is made owes this
 pub fills : (hdus : List HduState) (tail : List ℕ) (h i n : ℕ) (lo hi : List ℕ) (value : ℤ) (old new : HduState) → IsFile (file_of (state_of hdus tail)) → IsHduAt hdus h i old → shape_of (is_primary old.shape.class) old.hdu.header.cards ≡ Ok old.shape
-    → filled old.shape lo hi value old.hdu ≡ Ok new.hdu → new.reads ≡ old.reads → IsPatched (rectangle_blocks (layout_of old.shape old.hdu.header.cards) old.hdu.data_unit old.shape.axes lo hi) (block_count old.hdu.data_unit) old.pixel_work new.pixel_work
+    → painted old.shape lo hi (paint.Fill value) old.hdu ≡ Ok new.hdu → new.reads ≡ old.reads → IsPatched (rectangle_blocks (layout_of old.shape old.hdu.header.cards) old.hdu.data_unit old.shape.axes lo hi) (block_count old.hdu.data_unit) old.pixel_work new.pixel_work
     → EditsTo {X = ℕ} (Fill h lo hi value) (state_of hdus tail) (state_of (set hdus i new) tail) (Ok n)
 fills hdus tail h i n lo hi value old new p at described made reads patched =
-    let is : fill_of (is_primary_hdu h) lo hi value old.hdu ≡ Ok new.hdu = fill_there hdus tail h i old lo hi value p at described ∙ ap pixels_made made in
+    let is : paint_of (is_primary_hdu h) lo hi (paint.Fill value) old.hdu ≡ Ok new.hdu = paint_there hdus tail h i old lo hi (paint.Fill value) p at described ∙ ap pixels_made made in
     edits_done hdus tail (Fill h lo hi value) i n old new tt at (sym (ap (made_or old.hdu) is)) (omega (arith, reads)) (omega (arith, reads))
     (patches_there hdus tail h i old new.pixel_work lo hi p at described patched) (ap refusal_made is)
 
 -- and one that is refused this
 pub fills_not : (hdus : List HduState) (tail : List ℕ) (h i : ℕ) (lo hi : List ℕ) (value : ℤ) (old new : HduState) (why : PixelFault) → IsFile (file_of (state_of hdus tail)) → IsHduAt hdus h i old → shape_of (is_primary old.shape.class) old.hdu.header.cards ≡ Ok old.shape
-    → filled old.shape lo hi value old.hdu ≡ Err why → new ≡ old → EditsTo {X = ℕ} (Fill h lo hi value) (state_of hdus tail) (state_of (set hdus i new) tail) (Err (refusal_of_pixels why))
+    → painted old.shape lo hi (paint.Fill value) old.hdu ≡ Err why → new ≡ old → EditsTo {X = ℕ} (Fill h lo hi value) (state_of hdus tail) (state_of (set hdus i new) tail) (Err (refusal_of_pixels why))
 fills_not hdus tail h i lo hi value old new why p at described made same =
-    let is : fill_of (is_primary_hdu h) lo hi value old.hdu ≡ Err (refusal_of_pixels why) = fill_there hdus tail h i old lo hi value p at described ∙ ap pixels_made made in
+    let is : paint_of (is_primary_hdu h) lo hi (paint.Fill value) old.hdu ≡ Err (refusal_of_pixels why) = paint_there hdus tail h i old lo hi (paint.Fill value) p at described ∙ ap pixels_made made in
     let reads : new.reads ≡ old.reads = ap (λ (state : HduState). state.reads) same in
     edits_not hdus tail (Fill h lo hi value) i old new (refusal_of_pixels why) tt at (ap (λ (state : HduState). state.hdu) same) (omega (arith, reads)) (omega (arith, reads)) (ap (λ (state : HduState). state.pixel_work) same) (inl (ap refusal_made is))
 
 -- a write that is made owes this
 pub writes : (hdus : List HduState) (tail : List ℕ) (h i n : ℕ) (lo hi : List ℕ) (values : List ℤ) (old new : HduState) → IsFile (file_of (state_of hdus tail)) → IsHduAt hdus h i old → shape_of (is_primary old.shape.class) old.hdu.header.cards ≡ Ok old.shape
-    → written old.shape lo hi values old.hdu ≡ Ok new.hdu → new.reads ≡ old.reads → IsPatched (rectangle_blocks (layout_of old.shape old.hdu.header.cards) old.hdu.data_unit old.shape.axes lo hi) (block_count old.hdu.data_unit) old.pixel_work new.pixel_work
+    → painted old.shape lo hi (paint.Write values) old.hdu ≡ Ok new.hdu → new.reads ≡ old.reads → IsPatched (rectangle_blocks (layout_of old.shape old.hdu.header.cards) old.hdu.data_unit old.shape.axes lo hi) (block_count old.hdu.data_unit) old.pixel_work new.pixel_work
     → EditsTo {X = ℕ} (Write h lo hi values) (state_of hdus tail) (state_of (set hdus i new) tail) (Ok n)
 writes hdus tail h i n lo hi values old new p at described made reads patched =
-    let is : write_of (is_primary_hdu h) lo hi values old.hdu ≡ Ok new.hdu = write_there hdus tail h i old lo hi values p at described ∙ ap pixels_made made in
+    let is : paint_of (is_primary_hdu h) lo hi (paint.Write values) old.hdu ≡ Ok new.hdu = paint_there hdus tail h i old lo hi (paint.Write values) p at described ∙ ap pixels_made made in
     edits_done hdus tail (Write h lo hi values) i n old new tt at (sym (ap (made_or old.hdu) is)) (omega (arith, reads)) (omega (arith, reads))
     (patches_there hdus tail h i old new.pixel_work lo hi p at described patched) (ap refusal_made is)
 
 -- and one that is refused this
 pub writes_not : (hdus : List HduState) (tail : List ℕ) (h i : ℕ) (lo hi : List ℕ) (values : List ℤ) (old new : HduState) (why : PixelFault) → IsFile (file_of (state_of hdus tail)) → IsHduAt hdus h i old → shape_of (is_primary old.shape.class) old.hdu.header.cards ≡ Ok old.shape
-    → written old.shape lo hi values old.hdu ≡ Err why → new ≡ old → EditsTo {X = ℕ} (Write h lo hi values) (state_of hdus tail) (state_of (set hdus i new) tail) (Err (refusal_of_pixels why))
+    → painted old.shape lo hi (paint.Write values) old.hdu ≡ Err why → new ≡ old → EditsTo {X = ℕ} (Write h lo hi values) (state_of hdus tail) (state_of (set hdus i new) tail) (Err (refusal_of_pixels why))
 writes_not hdus tail h i lo hi values old new why p at described made same =
-    let is : write_of (is_primary_hdu h) lo hi values old.hdu ≡ Err (refusal_of_pixels why) = write_there hdus tail h i old lo hi values p at described ∙ ap pixels_made made in
+    let is : paint_of (is_primary_hdu h) lo hi (paint.Write values) old.hdu ≡ Err (refusal_of_pixels why) = paint_there hdus tail h i old lo hi (paint.Write values) p at described ∙ ap pixels_made made in
     let reads : new.reads ≡ old.reads = ap (λ (state : HduState). state.reads) same in
     edits_not hdus tail (Write h lo hi values) i old new (refusal_of_pixels why) tt at (ap (λ (state : HduState). state.hdu) same) (omega (arith, reads)) (omega (arith, reads)) (ap (λ (state : HduState). state.pixel_work) same) (inl (ap refusal_made is))
 
@@ -117,17 +114,11 @@ pixels_left hdus tail h i len old new p at change size =
       omega (arith, size, joined, long, ap (λ (us : List HduParts). length (joined_hdus us)) is),
     )
 
--- a fill is a change of pixels
-pub fill_changes : (law : FilledAreHdus) (hdus : List HduState) (tail : List ℕ) (h i : ℕ) (lo hi : List ℕ) (value : ℤ) (old new : HduState) → IsFile (file_of (state_of hdus tail)) → IsHduAt hdus h i old → shape_of (is_primary old.shape.class) old.hdu.header.cards ≡ Ok old.shape
-    → filled old.shape lo hi value old.hdu ≡ Ok new.hdu → IsPixelChange (is_primary_hdu h) old.hdu new.hdu
-fill_changes law hdus tail h i lo hi value old new p at described made =
-    law (is_primary_hdu h) old.shape old.hdu lo hi value new.hdu (whole_there hdus tail h i old p at) (described_there hdus tail h i old p at described) made
-
--- and so is a write
-pub write_changes : (law : WrittenAreHdus) (hdus : List HduState) (tail : List ℕ) (h i : ℕ) (lo hi : List ℕ) (values : List ℤ) (old new : HduState) → IsFile (file_of (state_of hdus tail)) → IsHduAt hdus h i old → shape_of (is_primary old.shape.class) old.hdu.header.cards ≡ Ok old.shape
-    → written old.shape lo hi values old.hdu ≡ Ok new.hdu → IsPixelChange (is_primary_hdu h) old.hdu new.hdu
-write_changes law hdus tail h i lo hi values old new p at described made =
-    law (is_primary_hdu h) old.shape old.hdu lo hi values new.hdu (whole_there hdus tail h i old p at) (described_there hdus tail h i old p at described) made
+-- a paint is a change of pixels
+pub paint_changes : (law : PaintedAreHdus) (hdus : List HduState) (tail : List ℕ) (h i : ℕ) (lo hi : List ℕ) (paint : Paint) (old new : HduState) → IsFile (file_of (state_of hdus tail)) → IsHduAt hdus h i old → shape_of (is_primary old.shape.class) old.hdu.header.cards ≡ Ok old.shape
+    → painted old.shape lo hi paint old.hdu ≡ Ok new.hdu → IsPixelChange (is_primary_hdu h) old.hdu new.hdu
+paint_changes law hdus tail h i lo hi paint old new p at described made =
+    law (is_primary_hdu h) old.shape old.hdu lo hi paint new.hdu (whole_there hdus tail h i old p at) (described_there hdus tail h i old p at described) made
 
 -- how many bytes a file has where HDU h is stamped
 length_stamped : (law : StampedAreHdus) (hdus : List HduState) (tail : List ℕ) (h i len : ℕ) (old : HduState) → IsFile (file_of (state_of hdus tail)) → IsHduAt hdus h i old → len ≡ length (joined_hdus (hdus_of (held_of hdus))) + length tail

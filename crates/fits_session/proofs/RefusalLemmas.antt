@@ -1,6 +1,6 @@
 -- No test refuses an edit for memory.
-use Rattle.std.proofs.Common.{◌≡◌, ℕ, ◌+◌, ℤ, refl, ap, [], ◌∷◌, length, Bool, true, false, List, Option, None, Some}
-use Rattle.std.specs.Prelude.{◌==◌, ◌-ℤ◌, if◌then◌else◌, not, Result, Ok, Err}
+use Rattle.std.proofs.Common.{◌≡◌, ℕ, ◌+◌, refl, ap, [], ◌∷◌, length, Bool, true, false, List, Option, None, Some}
+use Rattle.std.specs.Prelude.{◌==◌, if◌then◌else◌, not, Result, Ok, Err}
 use Rattle.std.specs.List.{list_all, list_any}
 use Rattle.fits_card.specs.Card.{is_text, is_end}
 use Rattle.fits_card.specs.Change.{cards_after, new_cards}
@@ -12,11 +12,11 @@ use Rattle.fits_value.specs.Written.{write_says}
 use Rattle.fits_rules.specs.SameShape.{same_shape}
 use Rattle.fits_rules.specs.Shape.{shape_of}
 use Rattle.fits_rules.specs.declared.array_shape.Shape.{Shape}
-use Rattle.fits_plane.specs.Pixels.{can_store, can_store_all}
+use Rattle.fits_plane.specs.Paint.{can_store_paint, has_count}
 use Rattle.fits_plane.specs.Rectangle.{lies_within, rectangle_size}
 use Rattle.fits_hdu.specs.Kind.{kind_in, offset_of, width_of}
 use Rattle.fits_hdu.specs.NewImage.{are_axes, new_image}
-use Rattle.fits_hdu.specs.Pixels.{filled, filled_by, written, written_by}
+use Rattle.fits_hdu.specs.Pixels.{painted, painted_by}
 use Rattle.fits_hdu.specs.Stamp.{stamped}
 use Rattle.fits_hdu.specs.declared.kind.Kind.{Kind}
 use Rattle.fits_hdu.specs.declared.pixel_fault.PixelFault.{PixelFault}
@@ -24,7 +24,9 @@ use Rattle.fits_hdu.specs.declared.pixel_fault.PixelFault.TheVariants as pixel
 use Rattle.fits_hdu.specs.Hdu.{HduParts, hdu_after}
 use Rattle.fits_hdu.specs.Keyword.{keyword_cards, replacing}
 use Rattle.fits_hdu.specs.declared.keyword_cards.KeywordCards.{KeywordCards}
-use Rattle.fits_session.specs.Edit.{change_of, fill_of, is_card_edit, pixels_made, shaped, write_of, hdu_named, hdu_of, is_in_range, is_keyword_name, is_within, own_refusal, set_of, setting, tested, unless, unset_of, unsetting, with_hdu, with_new_hdu}
+use Rattle.fits_plane.specs.declared.paint.Paint.{Paint}
+use Rattle.fits_plane.specs.declared.paint.Paint.TheVariants as paint
+use Rattle.fits_session.specs.Edit.{change_of, is_card_edit, paint_of, pixels_made, shaped, hdu_named, hdu_of, is_in_range, is_keyword_name, is_within, own_refusal, set_of, setting, tested, unless, unset_of, unsetting, with_hdu, with_new_hdu}
 use Rattle.fits_session.specs.File.{FileParts, file_bytes}
 use Rattle.fits_session.specs.Limits.{is_within_limits}
 use Rattle.fits_session.specs.Refusal.{change_refusal, first_refusal, is_primary_hdu, new_image_refusal, refusal_in, refusal_made, refusal_of, size_refusal}
@@ -176,20 +178,13 @@ firm_done : {X : Type 0} (made : X) → FirmPixels (Ok made)
 unfolding FirmPixels
 firm_done made e = absurd (cc)
 
--- the tests of a rectangle that is filled
-firm_filled : (kind : Option Kind) (shape : Shape) (lo hi : List ℕ) (value : ℤ) (hdu : HduParts) → FirmPixels (filled_by kind shape lo hi value hdu)
-firm_filled None shape lo hi value hdu = firm_fault _ pixel.NotImage (λ e. cc)
-firm_filled (Some kind) shape lo hi value hdu =
+-- the tests of a rectangle that is painted
+firm_painted : (kind : Option Kind) (shape : Shape) (lo hi : List ℕ) (paint : Paint) (hdu : HduParts) → FirmPixels (painted_by kind shape lo hi paint hdu)
+firm_painted None shape lo hi paint hdu = firm_fault _ pixel.NotImage (λ e. cc)
+firm_painted (Some kind) shape lo hi paint hdu =
     firm_pick (not (lies_within shape.axes lo hi)) (Err pixel.BadRectangle) _ (firm_fault _ pixel.BadRectangle (λ e. cc))
-    (firm_pick (not (can_store (width_of kind) (value -ℤ offset_of kind))) (Err pixel.OutOfRange) _ (firm_fault _ pixel.OutOfRange (λ e. cc)) (firm_done _))
-
--- and of one that is written
-firm_written : (kind : Option Kind) (shape : Shape) (lo hi : List ℕ) (values : List ℤ) (hdu : HduParts) → FirmPixels (written_by kind shape lo hi values hdu)
-firm_written None shape lo hi values hdu = firm_fault _ pixel.NotImage (λ e. cc)
-firm_written (Some kind) shape lo hi values hdu =
-    firm_pick (not (lies_within shape.axes lo hi)) (Err pixel.BadRectangle) _ (firm_fault _ pixel.BadRectangle (λ e. cc))
-    (firm_pick (not (length values == rectangle_size lo hi)) (Err pixel.WrongCount) _ (firm_fault _ pixel.WrongCount (λ e. cc))
-    (firm_pick (not (can_store_all (width_of kind) (offset_of kind) values)) (Err pixel.OutOfRange) _ (firm_fault _ pixel.OutOfRange (λ e. cc)) (firm_done _)))
+    (firm_pick (not (has_count paint (rectangle_size lo hi))) (Err pixel.WrongCount) _ (firm_fault _ pixel.WrongCount (λ e. cc))
+    (firm_pick (not (can_store_paint (width_of kind) (offset_of kind) paint)) (Err pixel.OutOfRange) _ (firm_fault _ pixel.OutOfRange (λ e. cc)) (firm_done _)))
 
 -- the tests of an edit of pixels
 firm_shaped : {X : Type 0} (described : Result Shape ℕ) (make : Shape → Result X PixelFault) → ((shape : Shape) → FirmPixels (make shape)) → IsFirm (refusal_made (shaped described make))
@@ -206,7 +201,7 @@ firm_cards file edit hdu cards = rw (card_refusal file edit hdu cards) (firm_tes
 
 -- the tests of an edit, whether its HDU is there or not
 firm_edit : (file : FileParts) (edit : Edit) (hdu : Option HduParts) → IsFirm (refusal_in file edit hdu)
-unfolding fill_of write_of filled written
+unfolding paint_of painted
 firm_edit file edit None = firm_some NoHdu (λ e. cc)
 firm_edit file (Insert h place card) (Some hdu) = firm_cards file (Insert h place card) hdu refl
 firm_edit file (Put h place card) (Some hdu) = firm_cards file (Put h place card) hdu refl
@@ -214,8 +209,8 @@ firm_edit file (Delete h place) (Some hdu) = firm_cards file (Delete h place) hd
 firm_edit file (Move h from to) (Some hdu) = firm_cards file (Move h from to) hdu refl
 firm_edit file (Set h name value comment) (Some hdu) = firm_cards file (Set h name value comment) hdu refl
 firm_edit file (Unset h name) (Some hdu) = firm_cards file (Unset h name) hdu refl
-firm_edit file (Fill h lo hi value) (Some hdu) = firm_shaped (shape_of (is_primary_hdu h) hdu.header.cards) (λ shape. filled shape lo hi value hdu) (λ shape. firm_filled (kind_in shape hdu.header.cards) shape lo hi value hdu)
-firm_edit file (Write h lo hi values) (Some hdu) = firm_shaped (shape_of (is_primary_hdu h) hdu.header.cards) (λ shape. written shape lo hi values hdu) (λ shape. firm_written (kind_in shape hdu.header.cards) shape lo hi values hdu)
+firm_edit file (Fill h lo hi value) (Some hdu) = firm_shaped (shape_of (is_primary_hdu h) hdu.header.cards) (λ shape. painted shape lo hi (paint.Fill value) hdu) (λ shape. firm_painted (kind_in shape hdu.header.cards) shape lo hi (paint.Fill value) hdu)
+firm_edit file (Write h lo hi values) (Some hdu) = firm_shaped (shape_of (is_primary_hdu h) hdu.header.cards) (λ shape. painted shape lo hi (paint.Write values) hdu) (λ shape. firm_painted (kind_in shape hdu.header.cards) shape lo hi (paint.Write values) hdu)
 firm_edit file (NewImage at kind axes) (Some hdu) = firm_tests file at hdu (change_of hdu.header.cards (NewImage at kind axes)) (firm_change hdu.header.cards (NewImage at kind axes))
 firm_edit file (RemoveHdu h) (Some hdu) = firm_choice (h == 1) (Some PrimaryStays) None (firm_some PrimaryStays (λ e. cc)) firm_none
 firm_edit file (Stamp h) (Some hdu) = firm_size (with_hdu file h stamped)

@@ -1,5 +1,5 @@
 -- Edits: the change that each makes of the cards of its HDU, and the file after it (own).
-use Rattle.std.specs.Prelude.{◌≡◌, ℕ, ◌+◌, ◌-◌, ◌&&◌, Bool, true, false, not, nat_le, ℤ, List, [], ◌∷◌, length, Option, None, Some, Result, Ok, Err, zero, suc, if◌then◌else◌}
+use Rattle.std.specs.Prelude.{◌≡◌, ℕ, ◌+◌, ◌-◌, ◌&&◌, Bool, true, false, not, nat_le, List, [], ◌∷◌, length, Option, None, Some, Result, Ok, Err, zero, suc, if◌then◌else◌}
 use Rattle.std.specs.List.{slice_get, insert, list_all, list_any, remove}
 use Rattle.std.specs.Str.{bytes_eq}
 use Rattle.fits_card.specs.Card.{is_text, is_end}
@@ -7,6 +7,8 @@ use Rattle.fits_card.specs.Change.{new_cards}
 use Rattle.fits_card.specs.Name.{blank_name, is_settable, is_spelled}
 use Rattle.fits_card.specs.declared.change.Change.{Change}
 use Rattle.fits_card.specs.declared.change.Change.TheVariants as change
+use Rattle.fits_plane.specs.declared.paint.Paint.{Paint}
+use Rattle.fits_plane.specs.declared.paint.Paint.TheVariants as paint
 use Rattle.fits_rules.specs.Shape.{shape_of}
 use Rattle.fits_rules.specs.declared.array_shape.Shape.{Shape}
 use Rattle.fits_value.specs.Written.{write_says}
@@ -14,7 +16,7 @@ use Rattle.fits_value.specs.declared.value.Value.{Value}
 use Rattle.fits_hdu.specs.Hdu.{HduParts, hdu_after}
 use Rattle.fits_hdu.specs.Keyword.{keyword_cards, replacing}
 use Rattle.fits_hdu.specs.NewImage.{new_image}
-use Rattle.fits_hdu.specs.Pixels.{filled, written}
+use Rattle.fits_hdu.specs.Pixels.{painted}
 use Rattle.fits_hdu.specs.Stamp.{stamped}
 use Rattle.fits_hdu.specs.declared.pixel_fault.PixelFault.{PixelFault}
 use Rattle.fits_hdu.specs.declared.pixel_fault.PixelFault.TheVariants as pixel
@@ -139,13 +141,9 @@ abbrev pub shaped : {X : Type 0} → Result Shape ℕ → (Shape → Result X Pi
 shaped (Ok shape) make = pixels_made (make shape)
 shaped (Err place) make = Err NotImage
 
--- an HDU with one value in each pixel of a rectangle, or why not
-unfoldable pub fill_of : Bool → List ℕ → List ℕ → ℤ → HduParts → Result HduParts Refusal
-fill_of primary lo hi value hdu = shaped (shape_of primary hdu.header.cards) (λ shape. filled shape lo hi value hdu)
-
--- an HDU with these values in a rectangle, or why not
-unfoldable pub write_of : Bool → List ℕ → List ℕ → List ℤ → HduParts → Result HduParts Refusal
-write_of primary lo hi values hdu = shaped (shape_of primary hdu.header.cards) (λ shape. written shape lo hi values hdu)
+-- an HDU with a rectangle of its pixels painted, or why not
+unfoldable pub paint_of : Bool → List ℕ → List ℕ → Paint → HduParts → Result HduParts Refusal
+paint_of primary lo hi paint hdu = shaped (shape_of primary hdu.header.cards) (λ shape. painted shape lo hi paint hdu)
 
 -- the HDU that an edit names; a new one is named by the number that it will have
 abbrev pub hdu_named : Edit → ℕ
@@ -173,8 +171,8 @@ made_or hdu (Err why) = hdu
 
 -- an HDU after an edit
 abbrev pub hdu_edited : Edit → HduParts → HduParts
-hdu_edited (Fill h lo hi value) hdu = made_or hdu (fill_of (is_primary_hdu h) lo hi value hdu)
-hdu_edited (Write h lo hi values) hdu = made_or hdu (write_of (is_primary_hdu h) lo hi values hdu)
+hdu_edited (Fill h lo hi value) hdu = made_or hdu (paint_of (is_primary_hdu h) lo hi (paint.Fill value) hdu)
+hdu_edited (Write h lo hi values) hdu = made_or hdu (paint_of (is_primary_hdu h) lo hi (paint.Write values) hdu)
 hdu_edited (Stamp h) hdu = stamped hdu
 hdu_edited edit hdu = hdu_changed (change_of hdu.header.cards edit) hdu
 

@@ -9,8 +9,9 @@ use Rattle.fits_hdu.specs.NewImage.{are_axes, new_image}
 use Rattle.fits_hdu.specs.Stamp.{stamped}
 use Rattle.fits_session.specs.File.{FileParts, file_bytes}
 use Rattle.fits_session.specs.Limits.{is_within_limits}
+use Rattle.fits_plane.specs.declared.paint.Paint.TheVariants as paint
 pub use Rattle.fits_session.specs.Edit.{is_primary_hdu}
-use Rattle.fits_session.specs.Edit.{hdu_of, hdu_named, change_of, fill_of, is_within, with_hdu, with_new_hdu, write_of}
+use Rattle.fits_session.specs.Edit.{hdu_of, hdu_named, change_of, is_within, paint_of, with_hdu, with_new_hdu}
 use Rattle.fits_hdu.specs.declared.kind.Kind.{Kind}
 use Rattle.fits_session.specs.declared.edit.Edit.{Edit}
 use Rattle.fits_session.specs.declared.edit.Edit.TheVariants.{Fill, Write, NewImage, RemoveHdu, Stamp}
@@ -63,8 +64,8 @@ new_image_refusal file h kind axes =
 -- the tests of an edit of an HDU, if it is there
 abbrev pub refusal_in : FileParts → Edit → Option HduParts → Option Refusal
 refusal_in file edit None = Some NoHdu
-refusal_in file (Fill h lo hi value) (Some hdu) = refusal_made (fill_of (is_primary_hdu h) lo hi value hdu)
-refusal_in file (Write h lo hi values) (Some hdu) = refusal_made (write_of (is_primary_hdu h) lo hi values hdu)
+refusal_in file (Fill h lo hi value) (Some hdu) = refusal_made (paint_of (is_primary_hdu h) lo hi (paint.Fill value) hdu)
+refusal_in file (Write h lo hi values) (Some hdu) = refusal_made (paint_of (is_primary_hdu h) lo hi (paint.Write values) hdu)
 refusal_in file (RemoveHdu h) (Some hdu) = primary_refusal h
 refusal_in file (Stamp h) (Some hdu) = size_refusal (with_hdu file h stamped)
 refusal_in file edit (Some hdu) = change_refusal file (hdu_named edit) hdu (change_of hdu.header.cards edit)

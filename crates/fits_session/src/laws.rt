@@ -21,8 +21,7 @@ ghost use Rattle.fits_session.specs.declared.problem.Problem.{Problem};
 ghost use Rattle.fits_session.specs.declared.refusal.Refusal.TheVariants.{Memory};
 
 use fits_hdu::{
-    filled_hdus_are_hdus, new_images_are_hdus, stamped_hdus_are_hdus, which_kind_an_image_has,
-    written_hdus_are_hdus,
+    new_images_are_hdus, painted_hdus_are_hdus, stamped_hdus_are_hdus, which_kind_an_image_has,
 };
 
 /// Bytes are one file at most.
@@ -52,8 +51,7 @@ pub fn an_edited_file_is_a_file()
     ensures { (bytes : List ℕ) (file : FileParts) (edit : Edit) → HasSizes edit
         → IsFileOf bytes file → refusal_of file edit ≡ None → IsFile (file_after file edit) }
 {
-    filled_hdus_are_hdus();
-    written_hdus_are_hdus();
+    painted_hdus_are_hdus();
     stamped_hdus_are_hdus();
     new_images_are_hdus();
 }

@@ -8,7 +8,8 @@ use crate::corner::Corner;
 use crate::edit::Edit;
 use crate::pixel_values::PixelValues;
 use crate::refusal::Refusal;
-use fits_hdu::{Hdu, filled_hdus_are_hdus, written_hdus_are_hdus};
+use fits_hdu::{Hdu, painted_hdus_are_hdus};
+use fits_plane::{Paint, Values};
 
 /// Gives every pixel of a rectangle of HDU h this value, and answers how many bytes the HDUs have:
 /// as many as before. The bytes after the last HDU stay.
@@ -33,8 +34,8 @@ pub(crate) fn fill_pixels(
         return Err(Refusal::NoHdu);
     };
     let hdu = &mut hdus[i];
-    hdu.fill(lo.as_slice(), hi.as_slice(), value)?;
-    filled_hdus_are_hdus();
+    hdu.paint(lo.as_slice(), hi.as_slice(), &Paint::Fill(value))?;
+    painted_hdus_are_hdus();
     Ok(hdus_len)
 }
 
@@ -61,7 +62,8 @@ pub(crate) fn write_pixels(
         return Err(Refusal::NoHdu);
     };
     let hdu = &mut hdus[i];
-    hdu.write(lo.as_slice(), hi.as_slice(), values.as_slice())?;
-    written_hdus_are_hdus();
+    let paint = Paint::Write(Values::new(values.as_slice()));
+    hdu.paint(lo.as_slice(), hi.as_slice(), &paint)?;
+    painted_hdus_are_hdus();
     Ok(hdus_len)
 }

@@ -2,38 +2,38 @@ use Rattle.std.proofs.Common.{refl}
 use Rattle.std.proofs.lemmas.Result.{err_from_is_err_and}
 use Rattle.fits_session.specs.declared.edit.Edit.TheVariants.{Write}
 use Rattle.fits_session.proofs.EditLemmas.{edits_nowhere}
-use Rattle.fits_session.proofs.PixelEditLemmas.{write_changes, writes, writes_not, pixels_left}
+use Rattle.fits_session.proofs.PixelEditLemmas.{paint_changes, writes, writes_not, pixels_left}
 use Rattle.fits_session.proofs.StateLemmas.{is_at}
 use Rattle.fits_session.proofs.session.pixel_edits.write_pixels.Goals as goal
 
 pub returns-in_default-clause-edits : goal.returns-in_default-clause-edits
 returns-in_default-clause-edits c = edits_nowhere c.args.hdus.now.items c.args.tail.now (Write c.args.h c.args.lo.now c.args.hi.now c.args.values.now) tt (rw c.deref.ensures.value at c.in_default.ensures.none)
 
-pub returns-in_err-write-clause-edits : goal.returns-in_err-write-clause-edits
-returns-in_err-write-clause-edits c =
+pub returns-in_err-paint-clause-edits : goal.returns-in_err-paint-clause-edits
+returns-in_err-paint-clause-edits c =
     let p = err_from_is_err_and c.from_residual.result c.from_residual.ensures.1 in
-    rw (p.1, p.2) (writes_not c.args.hdus.now.items c.args.tail.now c.args.h c.in-Some.i c.args.lo.now c.args.hi.now c.args.values.now c.index_mut-hdu.result.now c.write.new.self c.in_err-write.field-0.0 c.requires.file
+    rw (p.1, p.2) (writes_not c.args.hdus.now.items c.args.tail.now c.args.h c.in-Some.i c.args.lo.now c.args.hi.now c.args.values.now c.index_mut-hdu.result.now c.paint.new.self c.in_err-paint.field-0.0 c.requires.file
     (is_at c.args.hdus.now.items c.deref.result.now c.args.h c.args.h c.in-Some.i c.index_mut-hdu.result.now c.deref.ensures.value refl c.in-Some.ensures.found c.index_mut-hdu.ensures.value)
-    c.write.ensures.described (rw (c.as_slice.ensures, c.as_slice-2.ensures, c.as_slice-3.ensures) at c.in_err-write.ensures.err) c.in_err-write.ensures.same)
+    c.paint.ensures.described (rw (c.as_slice-2.ensures, c.as_slice-3.ensures, c.new.ensures, c.as_slice.ensures) at c.in_err-paint.ensures.err) c.in_err-paint.ensures.same)
 
 pub returns-clause-edits : goal.returns-clause-edits
 returns-clause-edits c =
-    writes c.args.hdus.now.items c.args.tail.now c.args.h c.in-Some.i c.args.hdus_len c.args.lo.now c.args.hi.now c.args.values.now c.index_mut-hdu.result.now c.write.new.self c.requires.file
+    writes c.args.hdus.now.items c.args.tail.now c.args.h c.in-Some.i c.args.hdus_len c.args.lo.now c.args.hi.now c.args.values.now c.index_mut-hdu.result.now c.paint.new.self c.requires.file
     (is_at c.args.hdus.now.items c.deref.result.now c.args.h c.args.h c.in-Some.i c.index_mut-hdu.result.now c.deref.ensures.value refl c.in-Some.ensures.found c.index_mut-hdu.ensures.value)
-    c.write.ensures.described (rw (c.as_slice.ensures, c.as_slice-2.ensures, c.as_slice-3.ensures) at c.in_ok-write.ensures.ok) c.write.ensures.reads (rw (c.as_slice.ensures, c.as_slice-2.ensures) at c.in_ok-write.ensures.work)
+    c.paint.ensures.described (rw (c.as_slice-2.ensures, c.as_slice-3.ensures, c.new.ensures, c.as_slice.ensures) at c.in_ok-paint.ensures.ok) c.paint.ensures.reads (rw (c.as_slice-2.ensures, c.as_slice-3.ensures) at c.in_ok-paint.ensures.work)
 
 pub returns-clause-file : goal.returns-clause-file
-returns-clause-file c = (pixels_left c.args.hdus.now.items c.args.tail.now c.args.h c.in-Some.i c.args.hdus_len c.index_mut-hdu.result.now c.write.new.self c.requires.file
+returns-clause-file c = (pixels_left c.args.hdus.now.items c.args.tail.now c.args.h c.in-Some.i c.args.hdus_len c.index_mut-hdu.result.now c.paint.new.self c.requires.file
     (is_at c.args.hdus.now.items c.deref.result.now c.args.h c.args.h c.in-Some.i c.index_mut-hdu.result.now c.deref.ensures.value refl c.in-Some.ensures.found c.index_mut-hdu.ensures.value)
-    (write_changes c.written_hdus_are_hdus.ensures c.args.hdus.now.items c.args.tail.now c.args.h c.in-Some.i _ _ _ c.index_mut-hdu.result.now c.write.new.self c.requires.file
+    (paint_changes c.painted_hdus_are_hdus.ensures c.args.hdus.now.items c.args.tail.now c.args.h c.in-Some.i _ _ _ c.index_mut-hdu.result.now c.paint.new.self c.requires.file
     (is_at c.args.hdus.now.items c.deref.result.now c.args.h c.args.h c.in-Some.i c.index_mut-hdu.result.now c.deref.ensures.value refl c.in-Some.ensures.found c.index_mut-hdu.ensures.value)
-    c.write.ensures.described c.in_ok-write.ensures.ok)
+    c.paint.ensures.described c.in_ok-paint.ensures.ok)
     c.requires.len).0
 
 pub returns-clause-len : goal.returns-clause-len
-returns-clause-len c = (pixels_left c.args.hdus.now.items c.args.tail.now c.args.h c.in-Some.i c.args.hdus_len c.index_mut-hdu.result.now c.write.new.self c.requires.file
+returns-clause-len c = (pixels_left c.args.hdus.now.items c.args.tail.now c.args.h c.in-Some.i c.args.hdus_len c.index_mut-hdu.result.now c.paint.new.self c.requires.file
     (is_at c.args.hdus.now.items c.deref.result.now c.args.h c.args.h c.in-Some.i c.index_mut-hdu.result.now c.deref.ensures.value refl c.in-Some.ensures.found c.index_mut-hdu.ensures.value)
-    (write_changes c.written_hdus_are_hdus.ensures c.args.hdus.now.items c.args.tail.now c.args.h c.in-Some.i _ _ _ c.index_mut-hdu.result.now c.write.new.self c.requires.file
+    (paint_changes c.painted_hdus_are_hdus.ensures c.args.hdus.now.items c.args.tail.now c.args.h c.in-Some.i _ _ _ c.index_mut-hdu.result.now c.paint.new.self c.requires.file
     (is_at c.args.hdus.now.items c.deref.result.now c.args.h c.args.h c.in-Some.i c.index_mut-hdu.result.now c.deref.ensures.value refl c.in-Some.ensures.found c.index_mut-hdu.ensures.value)
-    c.write.ensures.described c.in_ok-write.ensures.ok)
+    c.paint.ensures.described c.in_ok-paint.ensures.ok)
     c.requires.len).1
