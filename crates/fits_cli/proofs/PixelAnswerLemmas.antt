@@ -4,7 +4,7 @@ use Rattle.std.specs.Prelude.{ℤ, ok_or}
 use Rattle.fits_hdu.specs.Hdu.{HduParts}
 use Rattle.fits_hdu.specs.Pixels.{stats_of}
 use Rattle.fits_hdu.specs.declared.pixel_fault.PixelFault.TheVariants as pixel
-use Rattle.fits_hdu.specs.declared.stats.Stats.{Stats}
+use Rattle.fits_hdu.specs.Pixels.{Stats}
 use Rattle.fits_rules.specs.Shape.{shape_of}
 use Rattle.fits_rules.specs.declared.array_shape.Shape.{Shape}
 use Rattle.fits_session.specs.Edit.{hdu_of, is_primary_hdu}

@@ -2,7 +2,7 @@
 use Rattle.std.specs.Prelude.{ℕ, ℤ, List, [], ◌∷◌, ◌++◌, codes, Option, None, Some}
 use Rattle.std.specs.Fmt.{decimal, signed_decimal}
 use Rattle.std.specs.List.{flat_map}
-use Rattle.fits_hdu.specs.declared.stats.Stats.{Stats}
+use Rattle.fits_hdu.specs.Pixels.{Stats}
 use Rattle.fits_hdu.specs.declared.verdict.Verdict.{Verdict}
 use Rattle.fits_hdu.specs.declared.verdict.Verdict.TheVariants.{Right, Missing, Wrong}
 use Rattle.fits_hdu.specs.declared.verdicts.Verdicts.{Verdicts}

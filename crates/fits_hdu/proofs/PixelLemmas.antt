@@ -165,7 +165,7 @@ few_places layout bytes axes fits all = omega (arith, all, few_pixels layout byt
 -- the statistics of an image
 pub stats_of-image : (shape : Shape) (hdu : HduParts) (kind : Kind) (layout : Layout) (values : ValueSummary) → kind_in shape hdu.header.cards ≡ Some kind → layout ≡ layout_of shape hdu.header.cards
     → values ≡ value_statistics (offset_of kind) layout.blank (pixels layout.width hdu.data_unit 0 layout.pixels)
-    → Some (record { defined = values.defined; blank = values.blank; least = values.least; greatest = values.greatest; sum = values.sum }) ≡ stats_of shape hdu
+    → Some values ≡ stats_of shape hdu
 unfolding stats_of
 stats_of-image shape hdu kind layout values e is found = rw (e, found, is) refl
 

@@ -1,11 +1,12 @@
 -- The pixels of an integer image, and what may be written to them (FITS Standard 4.0, sections 4.4.2.5 and 5.2; own).
-use Rattle.std.specs.Prelude.{◌≡◌, ℕ, not, ℤ, ◌+ℤ◌, List, length, filter, map, Option, None, Some, Result, Ok, Err, IsOk, if◌then◌else◌}
+use Rattle.std.specs.Prelude.{◌≡◌, ℕ, not, ℤ, List, Option, None, Some, Result, Ok, Err, IsOk, if◌then◌else◌}
 use Rattle.std.specs.Option.{option_map}
 use Rattle.fits_plane.specs.Paint.{can_store_paint, has_count, painted_number}
 use Rattle.fits_plane.specs.Pixels.{pixels}
 use Rattle.fits_plane.specs.Rectangle.{lies_within, rectangle_size, rectangle_values, rectangle_written}
-use Rattle.fits_plane.specs.Statistics.{defined_numbers, greatest_of, is_blank, least_of, sum_of}
+use Rattle.fits_plane.specs.Statistics.{value_statistics}
 use Rattle.fits_plane.specs.declared.paint.Paint.{Paint}
+pub use Rattle.fits_plane.specs.declared.value_summary.ValueSummary.{ValueSummary as Stats}
 use Rattle.fits_rules.specs.declared.array_shape.Shape.{Shape}
 use Rattle.fits_hdu.specs.Hdu.{HduParts}
 use Rattle.fits_hdu.specs.Kind.{kind_in, offset_of, width_of}
@@ -13,30 +14,15 @@ use Rattle.fits_hdu.specs.Layout.{layout_of}
 use Rattle.fits_hdu.specs.declared.kind.Kind.{Kind}
 use Rattle.fits_hdu.specs.declared.pixel_fault.PixelFault.{PixelFault}
 use Rattle.fits_hdu.specs.declared.pixel_fault.PixelFault.TheVariants.{NotImage, BadRectangle, WrongCount, OutOfRange, Memory}
-use Rattle.fits_hdu.specs.declared.stats.Stats.{Stats}
 
 -- the stored numbers of the pixels, in order
 abbrev pub stored_numbers : Shape → HduParts → List ℤ
 stored_numbers shape hdu = let layout = layout_of shape hdu.header.cards in pixels layout.width hdu.data_unit 0 layout.pixels
 
--- the values of the pixels that BLANK doesn't name: stored numbers plus the offset (4.4.2.5)
-abbrev pub defined_values : Option ℤ → ℤ → List ℤ → List ℤ
-defined_values blank offset numbers = map (λ number. number +ℤ offset) (defined_numbers blank numbers)
-
--- how many pixels are defined and blank, and the least, the greatest and the sum of the values of those defined
-abbrev pub stats_by : Option ℤ → ℤ → List ℤ → Stats
-stats_by blank offset numbers = let values = defined_values blank offset numbers in record {
-  defined = length values;
-  blank = length (filter (is_blank blank) numbers);
-  least = least_of values;
-  greatest = greatest_of values;
-  sum = sum_of values;
-}
-
--- the statistics of an image of integers
+-- the statistics of an image of integers: of its values, stored numbers plus the offset (4.4.2.5)
 unfoldable pub stats_of : Shape → HduParts → Option Stats
 stats_of shape hdu =
-    option_map (λ kind. stats_by (layout_of shape hdu.header.cards).blank (offset_of kind) (stored_numbers shape hdu)) (kind_in shape hdu.header.cards)
+    option_map (λ kind. value_statistics (offset_of kind) (layout_of shape hdu.header.cards).blank (stored_numbers shape hdu)) (kind_in shape hdu.header.cards)
 
 -- a number for each pixel of a rectangle, by its rank, in place of those that stood there
 abbrev pub with_numbers : Shape → Kind → List ℕ → List ℕ → (ℕ → ℤ) → HduParts → HduParts

@@ -5,14 +5,18 @@ ghost use Rattle.fits_plane.specs.Statistics.{summary_with};
 
 use crate::pixel_summary::PixelSummary;
 
-/// How many pixels are defined and how many blank, and the least, the greatest and the sum of the
-/// values of those defined.
-#[derive(Clone, Copy)]
+/// The statistics of pixel values (FITS Standard 4.0, sections 4.4.2.5 and 5.2.5).
+#[derive(Clone, Copy, PartialEq, Eq, Debug)]
 pub struct ValueSummary {
+    /// How many pixels aren't blank.
     pub defined: u64,
+    /// How many have the stored number that BLANK says.
     pub blank: u64,
+    /// The least value of those defined.
     pub least: Option<i128>,
+    /// The greatest.
     pub greatest: Option<i128>,
+    /// The sum of all.
     pub sum: i128,
 }
 

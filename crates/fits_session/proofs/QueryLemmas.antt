@@ -14,7 +14,7 @@ use Rattle.fits_hdu.specs.Pixels.{rect_of, stats_of, RectFails}
 use Rattle.fits_hdu.specs.Sums.{data_sum, verdicts_of}
 use Rattle.fits_hdu.specs.declared.pixel_fault.PixelFault.{PixelFault}
 use Rattle.fits_hdu.specs.declared.pixel_fault.PixelFault.TheVariants as pixel
-use Rattle.fits_hdu.specs.declared.stats.Stats.{Stats}
+use Rattle.fits_hdu.specs.Pixels.{Stats}
 use Rattle.fits_hdu.specs.declared.verdicts.Verdicts.{Verdicts}
 use Rattle.fits_hdu.specs.State.{HduState, ReadsUpTo}
 use Rattle.fits_hdu.specs.Work.{keyword_reads}

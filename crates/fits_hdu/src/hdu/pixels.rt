@@ -1,8 +1,7 @@
 //! The pixels of an HDU that is an image of integers.
 use super::Hdu;
 use crate::pixel_fault::PixelFault;
-use crate::stats::Stats;
-use fits_plane::{Paint, is_rectangle, rectangle_len};
+use fits_plane::{Paint, ValueSummary, is_rectangle, rectangle_len};
 use std::alloc::Global;
 
 impl Hdu {
@@ -19,18 +18,11 @@ impl Hdu {
     /// The statistics of its pixels, where it is an image of integers. It takes no memory, and
     /// reads no card and no pixel.
     #[tactic(auto, using(crate::proofs::PixelLemmas::pixel_steps))]
-    pub fn stats(&self) -> Option<Stats>
+    pub fn stats(&self) -> Option<ValueSummary>
         ensures { result ≡ stats_of self.now.shape self.now.hdu }
     {
         let kind = self.kind?;
-        let values = self.plane.value_stats(kind.offset());
-        Some(Stats {
-            defined: values.defined,
-            blank: values.blank,
-            least: values.least,
-            greatest: values.greatest,
-            sum: values.sum,
-        })
+        Some(self.plane.value_stats(kind.offset()))
     }
 
     /// The values of a rectangle of pixels, in file order. Corners count from 1, and each pixel is

@@ -1,6 +1,4 @@
-use Rattle.std.proofs.Common.{◌≡◌, ◌∙◌, ap, sym, subst, rules, None, Some, FitsSigned}
-use Rattle.std.specs.Int.{w128}
-use Rattle.std.proofs.lemmas.Int.{to_z-of_z}
+use Rattle.std.proofs.Common.{◌≡◌, ◌∙◌, ap, sym, subst, rules, None, Some}
 use Rattle.fits_plane.specs.Pixels.{pixels}
 use Rattle.fits_plane.specs.Statistics.{value_statistics}
 use Rattle.fits_plane.specs.declared.value_summary.ValueSummary.{ValueSummary}
@@ -23,12 +21,10 @@ pub returns : goal.returns
 returns c =
     let t = c.self.inside in
     let hdu : HduParts = record { header = t.header.header; data_unit = t.plane.bytes } in
-    let values : ValueSummary = c.value_stats-values.result in
+    let values : ValueSummary = c.value_stats.result in
     let some : t.kind ≡ Some c.in_ok-kind.kind = search rules in
-    let fits : FitsSigned w128 values.sum = search rules in
     let found : values ≡ value_statistics (offset_of c.in_ok-kind.kind) t.plane.layout.blank (pixels t.plane.layout.width t.plane.bytes 0 t.plane.layout.pixels) =
-    c.value_stats-values.ensures
+    c.value_stats.ensures
     ∙ ap (λ o. value_statistics o t.plane.layout.blank (pixels t.plane.layout.width t.plane.bytes 0 t.plane.layout.pixels)) (offset_fits c.in_ok-kind.kind c.offset.result c.offset.ensures ∙ c.offset.ensures) in
-    rw (to_z-of_z w128 values.sum fits)
-    (subst (λ (s : HduState). Some (record { defined = values.defined; blank = values.blank; least = values.least; greatest = values.greatest; sum = values.sum }) ≡ stats_of s.shape s.hdu) c.self.view_is
-    (stats_of-image t.header.shape hdu c.in_ok-kind.kind t.plane.layout values (sym c.self.invariant.kind ∙ some) c.self.invariant.layout found))
+    subst (λ (s : HduState). Some values ≡ stats_of s.shape s.hdu) c.self.view_is
+    (stats_of-image t.header.shape hdu c.in_ok-kind.kind t.plane.layout values (sym c.self.invariant.kind ∙ some) c.self.invariant.layout found)
