@@ -79,6 +79,10 @@ PrintsFront-unflushed a b c text p q = record {
   failed = omega (arith, p.quiet, q.failed);
 }
 
+pub ruleset printing_steps = (Prints-more, PrintsFront-longer, PrintsFront-more)
+
+pub ruleset flush_steps = (Prints-flushed, PrintsFront-unflushed)
+
 -- nothing of a text is written yet
 pub Prints-begun : (a : SinkState) (text : List ℕ) → Prints (take 0 text) a a
 Prints-begun a text = Prints-none a

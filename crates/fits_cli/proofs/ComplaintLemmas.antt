@@ -4,8 +4,8 @@ use Rattle.std.specs.Prelude.{codes}
 use Rattle.std.specs.Fmt.{decimal}
 use Rattle.std.proofs.lemmas.Fmt.{decimal_digit, decimal_step}
 use Rattle.fits_cli.specs.Answer.{complaint}
-use Rattle.fits_cli.specs.Streams.{SinkState, Prints, PrintsFront}
-use Rattle.fits_cli.proofs.StreamLemmas.{Prints-more, PrintsFront-more, PrintsFront-longer}
+use Rattle.fits_card.specs.Stream.{SinkState, Prints, PrintsFront}
+use Rattle.fits_card.proofs.StreamLemmas.{Prints-more, PrintsFront-more, PrintsFront-longer}
 
 -- one digit
 pub Prints-digit : (a b : SinkState) (n : ℕ) → n < 10 → Prints ((48 + n) ∷ []) a b → Prints (decimal n) a b

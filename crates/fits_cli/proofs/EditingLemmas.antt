@@ -1,40 +1,45 @@
 -- A whole run of `edit`, from the bytes that were read to its end.
 use Rattle.std.proofs.Common.{◌≡◌, ◌⊎◌, ℕ, ◌<◌, ◌≤◌, List, [], ◌∷◌, ◌++◌, length, refl, ap, sym, subst, ◌∙◌, inl, inr, rules, arith, true, false, Result, Ok, Err, Option, None, Some}
-use Rattle.std.specs.Prelude.{nat_le, if◌then◌else◌}
-use Rattle.std.specs.Result.{OnOk, IfErr}
+use Rattle.std.specs.Prelude.{nat_le, if◌then◌else◌, IfSome}
+use Rattle.std.specs.Result.{OnOk, IfErr, IsErrAnd}
+use Rattle.std.proofs.lemmas.Result.{err_from_is_err_and}
 use Rattle.std.specs.Io.KnownBytes.{Appends, Consumes, IsAtEnd}
 use Rattle.fits_card.specs.Intake.{Tells}
+use Rattle.fits_card.specs.Stream.{SourceState, SinkState, FailsToFlush, Flushes, Prints, PrintsFront, Reads, StaysQuiet}
 use Rattle.fits_card.proofs.StreamLemmas.{Consumes-none}
 use Rattle.std.proofs.lemmas.List.{append-nil, take_all}
 use Rattle.fits_session.specs.File.{FileParts, file_bytes}
 use Rattle.fits_cli.specs.Answer.{Standing, at_first_line}
-use Rattle.fits_cli.specs.Ends.{Streams, Opens, HasLines, Succeeds, AnswersFail, StopsBy}
+use Rattle.fits_cli.specs.Ends.{RunState, EndsBy, FlushesOrFails, Opens, HasLines, Succeeds, AnswersFail, StopsBy}
 use Rattle.fits_cli.specs.Faults.{PrintFails}
 use Rattle.fits_cli.specs.declared.limits.TheConstants.{SCRIPT_LIMIT}
 use Rattle.fits_cli.specs.Output.{Output, answers, standing_after, status_of, output_unopened, output_of_lines, output_too_long, IsOutputOf}
 use Rattle.fits_cli.specs.Running.{OpeningStops, AnswersScript, AnswersTooLong, NeedsMemoryAt, ScriptReadFails, ScriptWriteFails, ScriptStops, FlushesThen, FlushesAnswers}
 use Rattle.fits_cli.specs.Script.{script_lines}
-use Rattle.fits_cli.specs.Streams.{SourceState, SinkState, Prints, PrintsFront, Flushes, FailsToFlush, FlushesOrFails}
 use Rattle.fits_cli.specs.declared.fault.Fault.{Fault}
 use Rattle.fits_cli.specs.declared.fault.Fault.TheVariants.{Refused, ScriptTooLong, Memory, ReadFailed, WriteFailed}
 use Rattle.fits_cli.proofs.LinesLemmas.{IsCutInLines-none}
 use Rattle.fits_cli.proofs.RunLemmas.{answers-append, answers-none}
-use Rattle.fits_cli.proofs.StreamLemmas.{Appends-kept, Prints-none, Prints-flushed, PrintsFront-unflushed, PrintsFront-longer}
+use Rattle.fits_card.proofs.StreamLemmas.{Appends-kept, Prints-none, Prints-flushed, PrintsFront-unflushed, PrintsFront-longer}
 
 -- bytes that a source had
-some_bytes : (left : Option (List ℕ)) → (bytes : List ℕ) × Tells left bytes
-some_bytes None = ([], tt)
-some_bytes (Some xs) = (xs, refl)
+some_known : (left : Option (List ℕ)) → (bytes : List ℕ) × IfSome left (λ xs. xs ≡ bytes)
+some_known None = ([], tt)
+some_known (Some xs) = (xs, refl)
+
+-- bytes that it tells
+some_bytes : (source : SourceState) → (bytes : List ℕ) × Tells source bytes
+some_bytes source = some_known source.remaining
 
 -- a sink that wasn't touched
 Prints-same : (a b : SinkState) → b ≡ a → Prints [] a b
 Prints-same a b same = subst (λ (s : SinkState). Prints [] a s) (sym same) (Prints-none a)
 
 -- a file that doesn't open: no other stream is touched
-pub StopsBy-opening : (old new : Streams) (fault : Fault) → new.script ≡ old.script → new.printed ≡ old.printed → new.saved ≡ old.saved → OpeningStops old.file new.file fault → StopsBy old new fault
+pub StopsBy-opening : (old new : RunState) (fault : Fault) → new.script ≡ old.script → new.printed ≡ old.printed → new.saved ≡ old.saved → OpeningStops old.file new.file fault → StopsBy old new fault
 StopsBy-opening old new (Refused why) script printed saved stops = record {
   run =
-      let other = some_bytes old.script.left in
+      let other = some_bytes old.script in
       record {
         file = stops.0.0;
         script = other.0;
@@ -82,22 +87,26 @@ output_whole old new file parts now held holds opened done = inr (record {
 })
 
 -- a script that was read to its end
-script_told : (a b : Option (List ℕ)) (bytes : List ℕ) → Consumes a b bytes → IsAtEnd b → Tells a bytes
-script_told None b bytes read ended = tt
-script_told (Some xs) None bytes read ended = absurd read
-script_told (Some xs) (Some ys) bytes read ended = read ∙ ap (λ t. bytes ++ t) ended ∙ append-nil bytes
+known_told : (a b : Option (List ℕ)) (bytes : List ℕ) → Consumes a b bytes → IsAtEnd b → IfSome a (λ xs. xs ≡ bytes)
+known_told None b bytes read ended = tt
+known_told (Some xs) None bytes read ended = absurd read
+known_told (Some xs) (Some ys) bytes read ended = read ∙ ap (λ t. bytes ++ t) ended ∙ append-nil bytes
+
+-- so all that it had is told
+script_told : (a b : SourceState) (bytes : List ℕ) → Reads bytes a b → IsAtEnd b.remaining → Tells a bytes
+script_told a b bytes read ended = known_told a.remaining b.remaining bytes read.gone ended
 
 -- all its lines
 all_lines : (old new : SourceState) (before now : Standing) (held holds : SinkState) (done : AnswersScript old new before now held holds) → HasLines old new (script_lines done.lines done.last)
 all_lines old new before now held holds done = record {
   whole = done.lines;
   last = done.last;
-  reached = record { came = done.script; read = done.read; cut = rw (take_all SCRIPT_LIMIT done.script done.short) done.cut };
+  reached = record { came = done.script; read = done.read.gone; cut = rw (take_all SCRIPT_LIMIT done.script done.short) done.cut };
   are = inr (done.ended, done.short, refl);
 }
 
 -- the answers to some lines can't be flushed
-AnswersFail-flush : (old new : Streams) (mid : SinkState) (parts : FileParts) (lines others all : List (List ℕ)) → new.file.failures ≡ old.file.failures → new.script.failures ≡ old.script.failures → new.saved ≡ old.saved
+AnswersFail-flush : (old new : RunState) (mid : SinkState) (parts : FileParts) (lines others all : List (List ℕ)) → StaysQuiet old.file new.file → StaysQuiet old.script new.script → new.saved ≡ old.saved
     → Opens old.file parts → HasLines old.script new.script all → all ≡ lines ++ others → Prints (answers (at_first_line parts) lines) old.printed mid → FailsToFlush mid new.printed → AnswersFail old new
 AnswersFail-flush old new mid parts lines others all of_file of_script saved opened has split printed failed = record {
   read = record { of_file = of_file; of_script = of_script };
@@ -126,18 +135,18 @@ abbrev Ended : Result (Unit {0}) Fault → Fault → SinkState → SinkState →
 Ended result why mid out = ((result ≡ Err why) × Flushes mid out) ⊎ ((result ≡ Err WriteFailed) × FailsToFlush mid out)
 
 -- a run whose script was answered whole, and whose answers aren't flushed
-StopsBy-done : (old new : Streams) (mid : SinkState) (result : Result (Unit {0}) Fault) (fault : Fault) (parts : FileParts) (now : Standing) → result ≡ Err fault
-    → Opens old.file parts → new.file.failures ≡ old.file.failures → new.saved ≡ old.saved
+StopsBy-done : (old new : RunState) (mid : SinkState) (result : Result (Unit {0}) Fault) (fault : Fault) (parts : FileParts) (now : Standing) → result ≡ Err fault
+    → Opens old.file parts → StaysQuiet old.file new.file → new.saved ≡ old.saved
     → AnswersScript old.script new.script (at_first_line parts) now old.printed mid → (result ≡ Err WriteFailed) × FailsToFlush mid new.printed → StopsBy old new fault
 StopsBy-done old new mid result fault parts now is opened of_file saved done flush =
     let lines : List (List ℕ) = script_lines done.lines done.last in
     subst (λ (f : Fault). StopsBy old new f) (same_fault result WriteFailed fault flush.0 is)
-    (inl (AnswersFail-flush old new mid parts lines [] lines of_file done.quiet saved opened
+    (inl (AnswersFail-flush old new mid parts lines [] lines of_file done.read.quiet saved opened
     (all_lines old.script new.script (at_first_line parts) now old.printed mid done) (sym (append-nil lines)) done.answered.printed flush.1))
 
 -- a run whose script is too long
-StopsBy-too_long : (old new : Streams) (mid : SinkState) (result : Result (Unit {0}) Fault) (fault : Fault) (parts : FileParts) → result ≡ Err fault
-    → Opens old.file parts → new.file.failures ≡ old.file.failures → new.saved ≡ old.saved
+StopsBy-too_long : (old new : RunState) (mid : SinkState) (result : Result (Unit {0}) Fault) (fault : Fault) (parts : FileParts) → result ≡ Err fault
+    → Opens old.file parts → StaysQuiet old.file new.file → new.saved ≡ old.saved
     → AnswersTooLong old.script new.script (at_first_line parts) old.printed mid → Ended result ScriptTooLong mid new.printed → StopsBy old new fault
 StopsBy-too_long old new mid result fault parts is opened of_file saved long (inl flush) =
     subst (λ (f : Fault). StopsBy old new f) (same_fault result ScriptTooLong fault flush.0 is)
@@ -179,13 +188,13 @@ no_lines : (old new : SourceState) → new ≡ old → HasLines old new []
 no_lines old new same = record {
   whole = [];
   last = [];
-  reached = record { came = []; read = subst (λ (s : SourceState). Consumes old.left s.left []) (sym same) (Consumes-none old.left); cut = IsCutInLines-none };
+  reached = record { came = []; read = subst (λ (s : SourceState). Consumes old.remaining s.remaining []) (sym same) (Consumes-none old.remaining); cut = IsCutInLines-none };
   are = inl refl;
 }
 
 -- a run whose script needs memory that is refused
-StopsBy-memory : (old new : Streams) (mid : SinkState) (result : Result (Unit {0}) Fault) (fault : Fault) (parts : FileParts) → result ≡ Err fault
-    → Opens old.file parts → new.file.failures ≡ old.file.failures → new.saved ≡ old.saved → new.script.failures ≡ old.script.failures
+StopsBy-memory : (old new : RunState) (mid : SinkState) (result : Result (Unit {0}) Fault) (fault : Fault) (parts : FileParts) → result ≡ Err fault
+    → Opens old.file parts → StaysQuiet old.file new.file → new.saved ≡ old.saved → StaysQuiet old.script new.script
     → (new.script ≡ old.script × mid ≡ old.printed) ⊎ ((lines : List (List ℕ)) × HasLines old.script new.script lines × NeedsMemoryAt lines (at_first_line parts) old.printed mid)
     → Ended result Memory mid new.printed → StopsBy old new fault
 StopsBy-memory old new mid result fault parts is opened of_file saved of_script (inl none) (inl flush) =
@@ -223,13 +232,13 @@ StopsBy-memory old new mid result fault parts is opened of_file saved of_script 
     (inl (AnswersFail-flush old new mid parts at.done (at.line ∷ at.others) some.0 of_file of_script saved opened some.1 at.split at.printed flush.1))
 
 -- how the answers stand after a failed read, flushed or not
-flushed_or_not : (a b c : SinkState) (text : List ℕ) → Prints text a b → Flushes b c ⊎ FailsToFlush b c → Appends a.holds c.holds text × FlushesOrFails a c
+flushed_or_not : (a b c : SinkState) (text : List ℕ) → Prints text a b → Flushes b c ⊎ FailsToFlush b c → Appends a.contents c.contents text × FlushesOrFails a c
 flushed_or_not a b c text printed (inl flush) = let whole = Prints-flushed a b c text printed flush in (whole.bytes, inl (whole.quiet, flush.flushed))
-flushed_or_not a b c text printed (inr failed) = (Appends-kept a.holds b.holds c.holds text printed.bytes failed.bytes, inr (omega (arith, printed.quiet, failed.failed)))
+flushed_or_not a b c text printed (inr failed) = (Appends-kept a.contents b.contents c.contents text printed.bytes failed.bytes, inr (omega (arith, printed.quiet, failed.failed)))
 
 -- a run whose script can't be read
-StopsBy-read : (old new : Streams) (mid : SinkState) (result : Result (Unit {0}) Fault) (fault : Fault) (parts : FileParts) → result ≡ Err fault
-    → Opens old.file parts → new.file.failures ≡ old.file.failures → new.saved ≡ old.saved
+StopsBy-read : (old new : RunState) (mid : SinkState) (result : Result (Unit {0}) Fault) (fault : Fault) (parts : FileParts) → result ≡ Err fault
+    → Opens old.file parts → StaysQuiet old.file new.file → new.saved ≡ old.saved
     → ScriptReadFails old.script new.script (at_first_line parts) old.printed mid → (result ≡ Err ReadFailed) × (Flushes mid new.printed ⊎ FailsToFlush mid new.printed) → StopsBy old new fault
 StopsBy-read old new mid result fault parts is opened of_file saved fails flush =
     let out = flushed_or_not old.printed mid new.printed (answers (at_first_line parts) fails.lines) fails.printed flush.1 in
@@ -249,8 +258,8 @@ StopsBy-read old new mid result fault parts is opened of_file saved fails flush 
     }))
 
 -- a run whose answers can't be written
-StopsBy-write : (old new : Streams) (mid : SinkState) (result : Result (Unit {0}) Fault) (fault : Fault) (parts : FileParts) → result ≡ Err fault
-    → Opens old.file parts → new.file.failures ≡ old.file.failures → new.saved ≡ old.saved
+StopsBy-write : (old new : RunState) (mid : SinkState) (result : Result (Unit {0}) Fault) (fault : Fault) (parts : FileParts) → result ≡ Err fault
+    → Opens old.file parts → StaysQuiet old.file new.file → new.saved ≡ old.saved
     → ScriptWriteFails old.script new.script (at_first_line parts) old.printed mid → (result ≡ Err WriteFailed) × (new.printed ≡ mid) → StopsBy old new fault
 StopsBy-write old new mid result fault parts is opened of_file saved fails flush =
     subst (λ (f : Fault). StopsBy old new f) (same_fault result WriteFailed fault flush.0 is)
@@ -270,8 +279,8 @@ flush_fails result done fault mid out is (inl flush) = absurd (no_fault result d
 flush_fails result done fault mid out is (inr flush) = flush
 
 -- a run that ends after its script, before saving
-pub StopsBy-script : (old new : Streams) (mid : SinkState) (answered result : Result (Unit {0}) Fault) (fault : Fault) (parts : FileParts) (now : Standing) → result ≡ Err fault
-    → Opens old.file parts → new.file.failures ≡ old.file.failures → new.saved ≡ old.saved
+pub StopsBy-script : (old new : RunState) (mid : SinkState) (answered result : Result (Unit {0}) Fault) (fault : Fault) (parts : FileParts) (now : Standing) → result ≡ Err fault
+    → Opens old.file parts → StaysQuiet old.file new.file → new.saved ≡ old.saved
     → OnOk answered (AnswersScript old.script new.script (at_first_line parts) now old.printed mid)
     → IfErr answered (ScriptStops old.script new.script (at_first_line parts) old.printed mid)
     → FlushesAnswers answered result mid new.printed → StopsBy old new fault
@@ -282,6 +291,10 @@ StopsBy-script old new mid (Err ScriptTooLong) result fault parts now is opened 
 StopsBy-script old new mid (Err Memory) result fault parts now is opened of_file saved ok err flush = StopsBy-memory old new mid result fault parts is opened of_file saved err.quiet err.at flush
 StopsBy-script old new mid (Err ReadFailed) result fault parts now is opened of_file saved ok err flush = StopsBy-read old new mid result fault parts is opened of_file saved err flush
 StopsBy-script old new mid (Err WriteFailed) result fault parts now is opened of_file saved ok err flush = StopsBy-write old new mid result fault parts is opened of_file saved err flush
+
+-- a fault that is passed on ends a run
+pub ends_exit : (old new : RunState) (result : Result ℕ Fault) (why : Fault) → IsErrAnd result (λ e. e ≡ why) → StopsBy old new why → EndsBy old new result
+ends_exit old new result why is stops = let exit = err_from_is_err_and result is in rw (exit.1, exit.2) stops
 
 -- a script that was answered whole, and its answers flushed
 pub record IsFlushed (old new : SourceState) (parts : FileParts) (now : Standing) (held holds : SinkState) : Type 0 where
@@ -309,19 +322,19 @@ left_file : (parts : FileParts) (now : Standing) (lines : List (List ℕ)) → n
 left_file parts now lines left = ap (λ (s : Standing). file_bytes s.file) left
 
 -- a run whose file can't be saved
-pub StopsBy-saving : (old new : Streams) (fault : Fault) (parts : FileParts) (now : Standing) → Opens old.file parts → new.file.failures ≡ old.file.failures
+pub StopsBy-saving : (old new : RunState) (fault : Fault) (parts : FileParts) (now : Standing) → Opens old.file parts → StaysQuiet old.file new.file
     → IsFlushed old.script new.script parts now old.printed new.printed → PrintFails (file_bytes now.file) old.saved new.saved fault → StopsBy old new fault
 StopsBy-saving old new fault parts now opened of_file flushed fails =
     let done = flushed.script in
     let lines : List (List ℕ) = script_lines done.lines done.last in
     subst (λ (f : Fault). StopsBy old new f) (sym fails.0)
     (inr (record {
-      read = record { of_file = of_file; of_script = done.quiet };
+      read = record { of_file = of_file; of_script = done.read.quiet };
       file = opened.bytes;
       script = done.script;
       output = output_of_lines parts lines;
       told_file = opened.told;
-      told_script = script_told old.script.left new.script.left done.script done.read done.ended;
+      told_script = script_told old.script new.script done.script done.read done.ended;
       is = output_whole old.script new.script old.file parts now old.printed flushed.mid opened done;
       whole = refl;
       printed = Prints-flushed old.printed flushed.mid new.printed (answers (at_first_line parts) lines) done.answered.printed flushed.flush;
@@ -330,9 +343,9 @@ StopsBy-saving old new fault parts now opened of_file flushed fails =
     }))
 
 -- a run to its end
-pub Succeeds-saved : (old new : Streams) (parts : FileParts) (now : Standing) → Opens old.file parts → new.file.failures ≡ old.file.failures
+pub Succeeds-saved : (old new : RunState) (parts : FileParts) (now : Standing) → Opens old.file parts → StaysQuiet old.file new.file
     → IsFlushed old.script new.script parts now old.printed new.printed → Prints (file_bytes now.file) old.saved new.saved → new.saved.unflushed ≡ 0
-    → Succeeds old new (if now.any_refused then 1 else 0)
+    → Succeeds old new (status_of now)
 Succeeds-saved old new parts now opened of_file flushed saved flush =
     let done = flushed.script in
     let lines : List (List ℕ) = script_lines done.lines done.last in
@@ -342,13 +355,13 @@ Succeeds-saved old new parts now opened of_file flushed saved flush =
         script = done.script;
         output = output_of_lines parts lines;
         told_file = opened.told;
-        told_script = script_told old.script.left new.script.left done.script done.read done.ended;
+        told_script = script_told old.script new.script done.script done.read done.ended;
         is = output_whole old.script new.script old.file parts now old.printed flushed.mid opened done;
         printed = Prints-flushed old.printed flushed.mid new.printed (answers (at_first_line parts) lines) done.answered.printed flushed.flush;
         saved = subst (λ (t : List ℕ). Prints t old.saved new.saved) (left_file parts now lines done.answered.left) saved;
         status_is = ap status_of done.answered.left;
         fault_is = refl;
-        read = record { of_file = of_file; of_script = done.quiet };
+        read = record { of_file = of_file; of_script = done.read.quiet };
       };
       printed = flushed.flush.flushed;
       saved = flush;

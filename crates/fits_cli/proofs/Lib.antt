@@ -21,7 +21,6 @@ pub mod ReportLemmas
 pub mod RunLemmas
 pub mod SaidLemmas
 pub mod ScriptLemmas
-pub mod StreamLemmas
 pub mod SummingLemmas
 pub mod TellingLemmas
 pub mod ValueLineLemmas

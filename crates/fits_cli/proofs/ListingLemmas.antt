@@ -19,11 +19,11 @@ use Rattle.fits_session.specs.Edit.{is_primary_hdu}
 use Rattle.fits_session.specs.declared.offsets.HduOffsets.{HduOffsets}
 use Rattle.fits_cli.specs.Listing.{axes_text, more_axes_text, line_front, line_back, hdu_line, line_of, hdu_lines, listing, outlined_len, outlined_lines, outlined_offsets}
 use Rattle.fits_cli.specs.Faults.{PrintFails}
-use Rattle.fits_cli.specs.Streams.{SinkState, Prints, PrintsFront}
+use Rattle.fits_card.specs.Stream.{SourceState, SinkState, Prints, PrintsFront}
 use Rattle.fits_cli.specs.Telling.{PrintingStops}
 use Rattle.fits_cli.specs.declared.fault.Fault.{Fault}
 use Rattle.fits_cli.specs.declared.fault.Fault.TheVariants.{Memory}
-use Rattle.fits_cli.proofs.StreamLemmas.{Prints-more, PrintsFront-more, PrintsFront-longer, AppendsFront-longer, AppendsFront-whole}
+use Rattle.fits_card.proofs.StreamLemmas.{Prints-more, PrintsFront-more, PrintsFront-longer, AppendsFront-longer, AppendsFront-whole}
 
 -- the line of an HDU is that of its outline
 line_same : (number start : ℕ) (primary : Bool) (it : Outline) (u : HduParts) → is_primary_hdu number ≡ primary → IsHdu primary u → is_outline it u
@@ -80,8 +80,8 @@ outlined_len-kept (it ∷ outlines) (u ∷ us) p =
     omega (arith, p.0.header, p.0.unit, outlined_len-kept outlines us p.1, length-append (hdu_bytes u) (joined_hdus us), length-append (header_bytes u.header) u.data_unit)
 
 -- they keep to the limit
-pub outlined_within : (left : Option (List ℕ)) (outlines : List Outline) → Gives left (IsOutlineOf outlines) → outlined_len outlines ≤ FILE_LIMIT
-outlined_within left outlines p =
+pub outlined_within : (file : SourceState) (outlines : List Outline) → Gives file (IsOutlineOf outlines) → outlined_len outlines ≤ FILE_LIMIT
+outlined_within file outlines p =
     let file : FileParts = p.2.0 in
     omega (arith, outlined_len-kept outlines file.hdus p.2.2, p.2.1.size, ap length p.2.1.front.joined, length-append (joined_hdus file.hdus) file.tail)
 
@@ -143,7 +143,7 @@ rest_lines outlines i = (
 pub PrintingStops-lines : (a b : SinkState) (outlines : List Outline) (i : ℕ) → Prints (outlined_lines 1 0 (take i outlines)) a b → PrintingStops (outlined_lines 1 0 outlines) a b Memory
 PrintingStops-lines a b outlines i p =
     let rest = rest_lines outlines i in
-    (rw rest.1 (AppendsFront-longer a.holds b.holds (outlined_lines 1 0 (take i outlines)) rest.0 (AppendsFront-whole a.holds b.holds (outlined_lines 1 0 (take i outlines)) p.bytes)), p.quiet)
+    (rw rest.1 (AppendsFront-longer a.contents b.contents (outlined_lines 1 0 (take i outlines)) rest.0 (AppendsFront-whole a.contents b.contents (outlined_lines 1 0 (take i outlines)) p.bytes)), p.quiet)
 
 -- and so are they with a prefix of one more
 pub PrintingStops-line : (a b c : SinkState) (outlines : List Outline) (i start : ℕ) (it : Outline) (line : List ℕ) (fault : Fault) → i < length outlines → it ≡ get_or outlines i it → start ≡ outlined_len (take i outlines) → line ≡ hdu_line (i + 1) it.card_count (outlined_offsets start it) it.shape

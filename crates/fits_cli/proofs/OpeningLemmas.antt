@@ -1,6 +1,6 @@
 -- A source's bytes that are a file, or aren't.
-use Rattle.std.proofs.Common.{ℕ, List, Option}
 use Rattle.fits_card.specs.Intake.{Gives}
+use Rattle.fits_card.specs.Stream.{SourceState}
 use Rattle.fits_session.specs.File.{FileParts, IsFileOf}
 use Rattle.fits_session.specs.Reading.{ReadStops}
 use Rattle.fits_session.specs.declared.open_fault.OpenFault.TheVariants.{NotFits, NoEnd, BadShape, ShortData, TooLarge, Memory}
@@ -9,20 +9,19 @@ use Rattle.fits_session.specs.declared.read_fault.ReadFileFault.TheVariants.{Ope
 use Rattle.fits_cli.specs.Ends.{Opens}
 use Rattle.fits_cli.specs.Faults.{fault_of_file}
 use Rattle.fits_cli.specs.Running.{OpeningStops}
-use Rattle.fits_cli.specs.Streams.{source}
 
 -- a file that opens
-pub opens_given : (left : Option (List ℕ)) (failures : ℕ) (parts : FileParts) → Gives left (λ bytes. IsFileOf bytes parts) → Opens (source left failures) parts
-opens_given left failures parts p = record { bytes = p.0; told = p.1; opens = p.2 }
+pub opens_given : (file : SourceState) (parts : FileParts) → Gives file (λ bytes. IsFileOf bytes parts) → Opens file parts
+opens_given file parts p = record { bytes = p.0; told = p.1; opens = p.2 }
 
 -- a file that doesn't
-pub opening_stops : (left left' : Option (List ℕ)) (f g : ℕ) (why : ReadFileFault) → ReadStops left f g why → OpeningStops (source left f) (source left' g) (fault_of_file why)
-opening_stops left left' f g (Open NotFits) p = p
-opening_stops left left' f g (Open (NoEnd hdu)) p = p
-opening_stops left left' f g (Open (BadShape hdu place)) p = p
-opening_stops left left' f g (Open (ShortData hdu)) p = p
-opening_stops left left' f g (Open TooLarge) p = p
-opening_stops left left' f g (Open Memory) p = p
-opening_stops left left' f g Failed p = p
+pub opening_stops : (old new : SourceState) (why : ReadFileFault) → ReadStops old new why → OpeningStops old new (fault_of_file why)
+opening_stops old new (Open NotFits) p = p
+opening_stops old new (Open (NoEnd hdu)) p = p
+opening_stops old new (Open (BadShape hdu place)) p = p
+opening_stops old new (Open (ShortData hdu)) p = p
+opening_stops old new (Open TooLarge) p = p
+opening_stops old new (Open Memory) p = p
+opening_stops old new Failed p = p
 
 pub ruleset opening_steps = (opens_given, opening_stops)

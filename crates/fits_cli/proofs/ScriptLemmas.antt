@@ -2,15 +2,15 @@
 use Rattle.std.proofs.Common.{◌≡◌, ℕ, ◌+◌, ◌-◌, ◌<◌, ◌≤◌, List, [], ◌++◌, length, take, refl, ap, sym, ◌∙◌, arith, inl, inr, Option, None, Some}
 use Rattle.std.proofs.lemmas.List.{append-nil, take_all, take-append-le, take-take, length-append, length-take-le}
 use Rattle.std.proofs.Math.Seq.{take-append-add}
+use Rattle.std.specs.Prelude.{IfSome}
 use Rattle.std.specs.Io.KnownBytes.{Consumes, IsAtEnd, Keeps}
-use Rattle.fits_card.specs.Intake.{Tells}
-use Rattle.fits_card.proofs.StreamLemmas.{Consumes-more}
+use Rattle.fits_card.proofs.StreamLemmas.{Reads-more}
 use Rattle.fits_cli.specs.Answer.{Standing}
 use Rattle.fits_cli.specs.Ends.{CameTo, HasLines}
 use Rattle.fits_cli.specs.declared.limits.TheConstants.{SCRIPT_LIMIT}
 use Rattle.fits_cli.specs.Running.{HasCome, HasStopped, Continues, PieceStops, LinesStop, EndsScript, EndStops, AnswersScript, AnswersTooLong, ScriptStops, ScriptReadFails}
 use Rattle.fits_cli.specs.Script.{IsCutInLines, script_lines}
-use Rattle.fits_cli.specs.Streams.{SourceState, SinkState}
+use Rattle.fits_card.specs.Stream.{SourceState, SinkState, FailsToRead, Reads}
 use Rattle.fits_cli.specs.declared.fault.Fault.{Fault}
 use Rattle.fits_cli.specs.declared.fault.Fault.TheVariants.{Refused, ScriptTooLong, Memory, ReadFailed, WriteFailed}
 
@@ -19,7 +19,7 @@ within_limit : (limit : ℕ) (bytes : List ℕ) → length bytes ≤ limit → t
 within_limit limit bytes short = take_all limit bytes short
 
 -- what came within the limit, cut into lines
-came_within : (old new : SourceState) (came last : List ℕ) (lines : List (List ℕ)) → Consumes old.left new.left came → length came ≤ SCRIPT_LIMIT → IsCutInLines came lines last → CameTo old new lines last
+came_within : (old new : SourceState) (came last : List ℕ) (lines : List (List ℕ)) → Consumes old.remaining new.remaining came → length came ≤ SCRIPT_LIMIT → IsCutInLines came lines last → CameTo old new lines last
 came_within old new came last lines read short cut = record { came = came; read = read; cut = rw (within_limit SCRIPT_LIMIT came short) cut }
 
 -- what a failed read leaves
@@ -31,14 +31,14 @@ kept_bytes (Some xs) (Some ys) (Some zs) came p q = p ∙ ap (λ t. came ++ t) (
 
 -- a read fails after these bytes came
 pub ScriptReadFails-after : (old mid new : SourceState) (came kept : List ℕ) (before now : Standing) (held holds : SinkState)
-    → Consumes old.left mid.left came → Keeps mid.left new.left → length came ≤ SCRIPT_LIMIT → new.failures ≡ old.failures + 1
+    → Reads came old mid → FailsToRead mid new → length came ≤ SCRIPT_LIMIT
     → HasCome came kept before now held holds → ScriptReadFails old new before held holds
 unfolding came_within
-ScriptReadFails-after old mid new came kept before now held holds read keeps short failed come = record {
-  failed = failed;
+ScriptReadFails-after old mid new came kept before now held holds read failed short come = record {
+  failed = omega (arith, read.quiet, failed.failed);
   lines = come.lines;
   last = come.last;
-  reached = came_within old new came come.last come.lines (kept_bytes old.left mid.left new.left came read keeps) short come.cut;
+  reached = came_within old new came come.last come.lines (kept_bytes old.remaining mid.remaining new.remaining came read.gone failed.bytes) short come.cut;
   short = short;
   printed = come.answered.printed;
 }
@@ -54,20 +54,20 @@ ScriptStops-lines old new lines before held holds WriteFailed has quiet stops = 
 
 -- lines that came aren't all answered
 ScriptStops-came : (old new : SourceState) (came text : List ℕ) (before : Standing) (held holds : SinkState) (fault : Fault)
-    → Consumes old.left new.left came → take SCRIPT_LIMIT came ≡ text → new.failures ≡ old.failures
+    → Reads came old new → take SCRIPT_LIMIT came ≡ text
     → HasStopped text before held holds fault → ScriptStops old new before held holds fault
-ScriptStops-came old new came text before held holds fault read within quiet stopped =
+ScriptStops-came old new came text before held holds fault read within stopped =
     ScriptStops-lines old new stopped.lines before held holds fault
-    (record { whole = stopped.lines; last = stopped.last; reached = record { came = came; read = read; cut = rw within stopped.cut }; are = inl refl })
-    quiet stopped.stops
+    (record { whole = stopped.lines; last = stopped.last; reached = record { came = came; read = read.gone; cut = rw within stopped.cut }; are = inl refl })
+    read.quiet stopped.stops
 
 -- a piece within the limit isn't answered
 pub ScriptStops-piece : (old mid new : SourceState) (came piece kept : List ℕ) (before now : Standing) (held holds more : SinkState) (fault : Fault)
-    → Consumes old.left mid.left came → Consumes mid.left new.left piece → length came + length piece ≤ SCRIPT_LIMIT → new.failures ≡ old.failures
+    → Reads came old mid → Reads piece mid new → length came + length piece ≤ SCRIPT_LIMIT
     → HasCome came kept before now held holds → PieceStops piece kept now holds more fault → ScriptStops old new before held more fault
-ScriptStops-piece old mid new came piece kept before now held holds more fault read next short quiet come stops =
-    ScriptStops-came old new (came ++ piece) (came ++ piece) before held more fault (Consumes-more old.left mid.left new.left came piece read next)
-    (within_limit SCRIPT_LIMIT (came ++ piece) (omega (arith, short, length-append came piece))) quiet (stops came before held come)
+ScriptStops-piece old mid new came piece kept before now held holds more fault read next short come stops =
+    ScriptStops-came old new (came ++ piece) (came ++ piece) before held more fault (Reads-more old mid new came piece read next)
+    (within_limit SCRIPT_LIMIT (came ++ piece) (omega (arith, short, length-append came piece))) (stops came before held come)
 
 -- what came as far as the limit, where it goes past it
 over_limit : (limit n : ℕ) (came buffer : List ℕ) → length came ≤ limit → limit - length came ≤ n → n ≤ length buffer
@@ -78,15 +78,15 @@ over_limit limit n came buffer short over within =
 
 -- a piece that goes past the limit isn't answered as far as it
 pub ScriptStops-over : (old mid new : SourceState) (n : ℕ) (came buffer kept : List ℕ) (before now : Standing) (held holds more : SinkState) (fault : Fault)
-    → Consumes old.left mid.left came → Consumes mid.left new.left (take n buffer) → length came ≤ SCRIPT_LIMIT → SCRIPT_LIMIT - length came < n → n ≤ length buffer
-    → new.failures ≡ old.failures → HasCome came kept before now held holds
+    → Reads came old mid → Reads (take n buffer) mid new → length came ≤ SCRIPT_LIMIT → SCRIPT_LIMIT - length came < n → n ≤ length buffer
+    → HasCome came kept before now held holds
     → PieceStops (take (SCRIPT_LIMIT - length came) buffer) kept now holds more fault → ScriptStops old new before held more fault
-ScriptStops-over old mid new n came buffer kept before now held holds more fault read next short over within quiet come stops =
+ScriptStops-over old mid new n came buffer kept before now held holds more fault read next short over within come stops =
     ScriptStops-came old new (came ++ take n buffer) (came ++ take (SCRIPT_LIMIT - length came) buffer) before held more fault
-    (Consumes-more old.left mid.left new.left came (take n buffer) read next) (over_limit SCRIPT_LIMIT n came buffer short (omega (arith, over)) within) quiet (stops came before held come)
+    (Reads-more old mid new came (take n buffer) read next) (over_limit SCRIPT_LIMIT n came buffer short (omega (arith, over)) within) (stops came before held come)
 
 -- the bytes that a source had, of which these came first
-source_bytes : (a b : Option (List ℕ)) (came : List ℕ) → Consumes a b came → (bytes : List ℕ) × (rest : List ℕ) × Tells a bytes × (bytes ≡ came ++ rest)
+source_bytes : (a b : Option (List ℕ)) (came : List ℕ) → Consumes a b came → (bytes : List ℕ) × (rest : List ℕ) × IfSome a (λ left. left ≡ bytes) × (bytes ≡ came ++ rest)
 source_bytes None b came read = (came, [], tt, sym (append-nil came))
 source_bytes (Some xs) None came read = absurd read
 source_bytes (Some xs) (Some ys) came read = (xs, ys, refl, read)
@@ -97,13 +97,13 @@ take_longer limit came rest within = take-append-le limit came rest within
 
 -- a script that goes past its limit
 pub AnswersTooLong-over : (old mid new : SourceState) (n : ℕ) (came buffer kept kept_now : List ℕ) (before now next : Standing) (held holds more : SinkState)
-    → Consumes old.left mid.left came → Consumes mid.left new.left (take n buffer) → length came ≤ SCRIPT_LIMIT → SCRIPT_LIMIT - length came < n → n ≤ length buffer
-    → new.failures ≡ old.failures → HasCome came kept before now held holds
+    → Reads came old mid → Reads (take n buffer) mid new → length came ≤ SCRIPT_LIMIT → SCRIPT_LIMIT - length came < n → n ≤ length buffer
+    → HasCome came kept before now held holds
     → Continues (take (SCRIPT_LIMIT - length came) buffer) kept kept_now now next holds more → AnswersTooLong old new before held more
-AnswersTooLong-over old mid new n came buffer kept kept_now before now next held holds more read after short over within quiet come continues =
+AnswersTooLong-over old mid new n came buffer kept kept_now before now next held holds more read after short over within come continues =
     let all : List ℕ = came ++ take n buffer in
-    let read_all : Consumes old.left new.left all = Consumes-more old.left mid.left new.left came (take n buffer) read after in
-    let script = source_bytes old.left new.left all read_all in
+    let read_all : Reads all old new = Reads-more old mid new came (take n buffer) read after in
+    let script = source_bytes old.remaining new.remaining all read_all.gone in
     let size : length all ≡ length came + n = length-append came (take n buffer) ∙ ap (λ k. length came + k) (length-take-le n buffer within) in
     let front : take SCRIPT_LIMIT all ≡ came ++ take (SCRIPT_LIMIT - length came) buffer = over_limit SCRIPT_LIMIT n came buffer short (omega (arith, over)) within in
     let answered = continues came before held come in
@@ -113,29 +113,28 @@ AnswersTooLong-over old mid new n came buffer kept kept_now before now next held
       last = answered.last;
       told = script.2;
       long = omega (arith, size, ap length script.3, length-append all script.1, over, short);
-      quiet = quiet;
-      reached = record { came = all; read = read_all; cut = rw front answered.cut };
+      quiet = read_all.quiet;
+      reached = record { came = all; read = read_all.gone; cut = rw front answered.cut };
       cut = rw (script.3, take_longer SCRIPT_LIMIT all script.1 (omega (arith, size, over, short)), front) answered.cut;
       printed = answered.answered.printed;
     }
 
 -- nothing more is read
-read_at_end : (a b c : Option (List ℕ)) (n : ℕ) (came buffer : List ℕ) → Consumes a b came → Consumes b c (take n buffer) → n ≡ 0 → Consumes a c came
+read_at_end : (a b c : SourceState) (n : ℕ) (came buffer : List ℕ) → Reads came a b → Reads (take n buffer) b c → n ≡ 0 → Reads came a c
 read_at_end a b c n came buffer read none zero =
     let nothing : take n buffer ≡ [] = ap (λ k. take k buffer) zero in
-    rw (← append-nil came) (Consumes-more a b c came [] read (rw nothing at none))
+    rw (← append-nil came) (Reads-more a b c came [] read (rw nothing at none))
 
 -- the whole script is answered
 pub AnswersScript-end : (old mid new : SourceState) (n : ℕ) (came buffer kept : List ℕ) (before now next : Standing) (held holds more : SinkState)
-    → Consumes old.left mid.left came → Consumes mid.left new.left (take n buffer) → n ≡ 0 → IsAtEnd new.left → length came ≤ SCRIPT_LIMIT → new.failures ≡ old.failures
+    → Reads came old mid → Reads (take n buffer) mid new → n ≡ 0 → IsAtEnd new.remaining → length came ≤ SCRIPT_LIMIT
     → HasCome came kept before now held holds → EndsScript kept now next holds more → AnswersScript old new before next held more
-AnswersScript-end old mid new n came buffer kept before now next held holds more read none zero ended short quiet come ends = record {
+AnswersScript-end old mid new n came buffer kept before now next held holds more read none zero ended short come ends = record {
   script = came;
   lines = come.lines;
   last = come.last;
-  read = read_at_end old.left mid.left new.left n came buffer read none zero;
+  read = read_at_end old mid new n came buffer read none zero;
   ended = ended;
-  quiet = quiet;
   short = short;
   cut = come.cut;
   answered = ends come.lines come.last before held come.kept_is come.answered;
@@ -143,15 +142,16 @@ AnswersScript-end old mid new n came buffer kept before now next held holds more
 
 -- its last line isn't answered
 pub ScriptStops-end : (old mid new : SourceState) (n : ℕ) (came buffer kept : List ℕ) (before now : Standing) (held holds more : SinkState) (fault : Fault)
-    → Consumes old.left mid.left came → Consumes mid.left new.left (take n buffer) → n ≡ 0 → IsAtEnd new.left → length came ≤ SCRIPT_LIMIT → new.failures ≡ old.failures
+    → Reads came old mid → Reads (take n buffer) mid new → n ≡ 0 → IsAtEnd new.remaining → length came ≤ SCRIPT_LIMIT
     → HasCome came kept before now held holds → EndStops kept now holds more fault → ScriptStops old new before held more fault
 unfolding came_within
-ScriptStops-end old mid new n came buffer kept before now held holds more fault read none zero ended short quiet come stops =
+ScriptStops-end old mid new n came buffer kept before now held holds more fault read none zero ended short come stops =
+    let whole : Reads came old new = read_at_end old mid new n came buffer read none zero in
     ScriptStops-lines old new (script_lines come.lines come.last) before held more fault
     (record {
       whole = come.lines;
       last = come.last;
-      reached = came_within old new came come.last come.lines (read_at_end old.left mid.left new.left n came buffer read none zero) short come.cut;
+      reached = came_within old new came come.last come.lines whole.gone short come.cut;
       are = inr (ended, short, refl);
     })
-    quiet (stops come.lines come.last before held come.kept_is come.answered)
+    whole.quiet (stops come.lines come.last before held come.kept_is come.answered)

@@ -7,14 +7,14 @@ use Rattle.fits_hdu.specs.Sums.{data_sum, verdicts_of}
 use Rattle.fits_hdu.specs.declared.hdu_sums.HduSums.{HduSums}
 use Rattle.fits_session.specs.File.{FileParts}
 use Rattle.fits_session.specs.Reading.{is_summed, AreSumsOfFile, KeepsEach}
-use Rattle.fits_cli.specs.Streams.{source, SinkState, Prints}
+use Rattle.fits_card.specs.Stream.{SourceState, SinkState, Prints, StaysQuiet}
 use Rattle.fits_cli.specs.Summing.{summed_from, summed_line, summed_lines, summing}
 use Rattle.fits_cli.specs.Telling.{PrintingStops, TextIsTold, TextStopsBy}
 use Rattle.fits_cli.specs.declared.fault.Fault.{Fault}
 use Rattle.fits_cli.specs.declared.fault.Fault.TheVariants.{Memory}
 use Rattle.fits_cli.specs.declared.telling.Telling.TheVariants as telling
 use Rattle.fits_cli.proofs.OpeningLemmas.{opens_given}
-use Rattle.fits_cli.proofs.StreamLemmas.{Prints-more}
+use Rattle.fits_card.proofs.StreamLemmas.{Prints-more}
 use Rattle.fits_cli.proofs.TellingLemmas.{TextStopsBy-printing}
 use Rattle.fits_cli.proofs.VerifyingLemmas.{PrintingStops-longer, PrintingStops-more, PrintingStops-none}
 
@@ -81,15 +81,15 @@ stops_before_line a b sums i front =
     rw (lines-split sums i) (PrintingStops-more a b b (summed_lines 1 (take i sums)) rest Memory front (PrintingStops-none b rest))
 
 -- the sums that were found are told
-pub summed : (left left' : Option (List ℕ)) (f g : ℕ) (out out_after : SinkState) (sums : List HduSums) → Gives left (AreSumsOfFile sums) → g ≡ f → Prints (summed_lines 1 sums) out out_after
-    → TextIsTold telling.Sums (source left f) (source left' g) out out_after 0
-summed left left' f g out out_after sums given quiet printed =
+pub summed : (file file_after : SourceState) (out out_after : SinkState) (sums : List HduSums) → Gives file (AreSumsOfFile sums) → StaysQuiet file file_after → Prints (summed_lines 1 sums) out out_after
+    → TextIsTold telling.Sums file file_after out out_after 0
+summed file file_after out out_after sums given quiet printed =
     let parts : FileParts = given.2.0 in
-    record { parts = parts; opened = opens_given left f parts (given.0, given.1, given.2.1); read = quiet; printed = rw (← summing-summed sums parts given.2.2) printed; status_is = refl }
+    record { parts = parts; opened = opens_given file parts (given.0, given.1, given.2.1); read = quiet; printed = rw (← summing-summed sums parts given.2.2) printed; status_is = refl }
 
 -- or a prefix of them
-pub TextStopsBy-summing : (left left' : Option (List ℕ)) (f g : ℕ) (out out_after : SinkState) (sums : List HduSums) (fault : Fault) → Gives left (AreSumsOfFile sums) → g ≡ f → PrintingStops (summed_lines 1 sums) out out_after fault
-    → TextStopsBy telling.Sums (source left f) (source left' g) out out_after fault
-TextStopsBy-summing left left' f g out out_after sums fault given quiet stops =
+pub TextStopsBy-summing : (file file_after : SourceState) (out out_after : SinkState) (sums : List HduSums) (fault : Fault) → Gives file (AreSumsOfFile sums) → StaysQuiet file file_after → PrintingStops (summed_lines 1 sums) out out_after fault
+    → TextStopsBy telling.Sums file file_after out out_after fault
+TextStopsBy-summing file file_after out out_after sums fault given quiet stops =
     let parts : FileParts = given.2.0 in
-    TextStopsBy-printing telling.Sums (source left f) (source left' g) out out_after parts fault (opens_given left f parts (given.0, given.1, given.2.1)) quiet (rw (← summing-summed sums parts given.2.2) stops)
+    TextStopsBy-printing telling.Sums file file_after out out_after parts fault (opens_given file parts (given.0, given.1, given.2.1)) quiet (rw (← summing-summed sums parts given.2.2) stops)

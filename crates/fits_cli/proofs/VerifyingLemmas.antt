@@ -8,7 +8,7 @@ use Rattle.fits_session.specs.Report.{IsReportOf}
 use Rattle.fits_session.specs.declared.problem.Problem.{Problem}
 use Rattle.fits_cli.specs.Faults.{PrintFails}
 use Rattle.fits_cli.specs.Report.{closing_line, listed_line, problem_lines, report_text, status_of_report}
-use Rattle.fits_cli.specs.Streams.{source, SinkState, Prints}
+use Rattle.fits_card.specs.Stream.{SourceState, SinkState, Prints, StaysQuiet}
 use Rattle.fits_cli.specs.Telling.{PrintingStops, TextIsTold, TextStopsBy}
 use Rattle.fits_cli.specs.declared.fault.Fault.{Fault}
 use Rattle.fits_cli.specs.declared.fault.Fault.TheVariants.{Refused, ScriptTooLong, Memory, ReadFailed, WriteFailed}
@@ -16,12 +16,12 @@ use Rattle.fits_cli.specs.declared.level.Level.{Level}
 use Rattle.fits_cli.specs.declared.telling.Telling.TheVariants as telling
 use Rattle.fits_cli.proofs.OpeningLemmas.{opens_given}
 use Rattle.fits_cli.proofs.ReportLemmas.{lines-more, lines-split}
-use Rattle.fits_cli.proofs.StreamLemmas.{Prints-more, PrintsFront-more, PrintsFront-longer, AppendsFront-after, AppendsFront-longer, AppendsFront-whole}
+use Rattle.fits_card.proofs.StreamLemmas.{Prints-more, PrintsFront-more, PrintsFront-longer, AppendsFront-more, AppendsFront-longer, AppendsFront-whole}
 use Rattle.fits_cli.proofs.TellingLemmas.{TextStopsBy-printing}
 
 -- a text of which nothing is printed, for want of memory
 pub PrintingStops-none : (a : SinkState) (text : List ℕ) → PrintingStops text a a Memory
-PrintingStops-none a text = (AppendsFront-longer a.holds a.holds [] text (AppendsFront-whole a.holds a.holds [] (Appends-none a.holds)), refl)
+PrintingStops-none a text = (AppendsFront-longer a.contents a.contents [] text (AppendsFront-whole a.contents a.contents [] (Appends-none a.contents)), refl)
 
 -- a text that a failed write stops
 pub PrintingStops-print : (a b : SinkState) (text : List ℕ) (fault : Fault) → PrintFails text a b fault → PrintingStops text a b fault
@@ -31,7 +31,7 @@ PrintingStops-print a b text fault failed = subst (λ (f : Fault). PrintingStops
 pub PrintingStops-longer : (a b : SinkState) (xs ys : List ℕ) (fault : Fault) → PrintingStops xs a b fault → PrintingStops (xs ++ ys) a b fault
 PrintingStops-longer a b xs ys (Refused why) stops = absurd stops
 PrintingStops-longer a b xs ys ScriptTooLong stops = absurd stops
-PrintingStops-longer a b xs ys Memory stops = (AppendsFront-longer a.holds b.holds xs ys stops.0, stops.1)
+PrintingStops-longer a b xs ys Memory stops = (AppendsFront-longer a.contents b.contents xs ys stops.0, stops.1)
 PrintingStops-longer a b xs ys ReadFailed stops = absurd stops
 PrintingStops-longer a b xs ys WriteFailed stops = PrintsFront-longer a b xs ys stops
 
@@ -39,7 +39,7 @@ PrintingStops-longer a b xs ys WriteFailed stops = PrintsFront-longer a b xs ys 
 pub PrintingStops-more : (a b c : SinkState) (xs ys : List ℕ) (fault : Fault) → Prints xs a b → PrintingStops ys b c fault → PrintingStops (xs ++ ys) a c fault
 PrintingStops-more a b c xs ys (Refused why) front stops = absurd stops
 PrintingStops-more a b c xs ys ScriptTooLong front stops = absurd stops
-PrintingStops-more a b c xs ys Memory front stops = (AppendsFront-after a.holds b.holds c.holds xs ys front.bytes stops.0, stops.1 ∙ front.quiet)
+PrintingStops-more a b c xs ys Memory front stops = (AppendsFront-more a.contents b.contents c.contents xs ys front.bytes stops.0, stops.1 ∙ front.quiet)
 PrintingStops-more a b c xs ys ReadFailed front stops = absurd stops
 PrintingStops-more a b c xs ys WriteFailed front stops = PrintsFront-more a b c xs ys front stops
 
@@ -75,15 +75,15 @@ prints_line a b c level report i d l front line =
     rw (lines-more level report i d l) (Prints-more a b c (problem_lines level (take i report)) (listed_line level (get_or report i d)) front line)
 
 -- the report of problems that were found
-pub reported : (left left' : Option (List ℕ)) (f g : ℕ) (out out_after : SinkState) (level : Level) (report : List Problem) → Gives left (IsReportOf report) → g ≡ f → Prints (report_text level report) out out_after
-    → TextIsTold (telling.Report level) (source left f) (source left' g) out out_after (status_of_report report)
-reported left left' f g out out_after level report given quiet printed =
+pub reported : (file file_after : SourceState) (out out_after : SinkState) (level : Level) (report : List Problem) → Gives file (IsReportOf report) → StaysQuiet file file_after → Prints (report_text level report) out out_after
+    → TextIsTold (telling.Report level) file file_after out out_after (status_of_report report)
+reported file file_after out out_after level report given quiet printed =
     let parts : FileParts = given.2.file in
-    record { parts = parts; opened = opens_given left f parts (given.0, given.1, given.2.opened); read = quiet; printed = rw (← given.2.all) printed; status_is = ap status_of_report given.2.all }
+    record { parts = parts; opened = opens_given file parts (given.0, given.1, given.2.opened); read = quiet; printed = rw (← given.2.all) printed; status_is = ap status_of_report given.2.all }
 
 -- or a prefix of it
-pub TextStopsBy-report : (left left' : Option (List ℕ)) (f g : ℕ) (out out_after : SinkState) (level : Level) (report : List Problem) (fault : Fault) → Gives left (IsReportOf report) → g ≡ f → PrintingStops (report_text level report) out out_after fault
-    → TextStopsBy (telling.Report level) (source left f) (source left' g) out out_after fault
-TextStopsBy-report left left' f g out out_after level report fault given quiet stops =
+pub TextStopsBy-report : (file file_after : SourceState) (out out_after : SinkState) (level : Level) (report : List Problem) (fault : Fault) → Gives file (IsReportOf report) → StaysQuiet file file_after → PrintingStops (report_text level report) out out_after fault
+    → TextStopsBy (telling.Report level) file file_after out out_after fault
+TextStopsBy-report file file_after out out_after level report fault given quiet stops =
     let parts : FileParts = given.2.file in
-    TextStopsBy-printing (telling.Report level) (source left f) (source left' g) out out_after parts fault (opens_given left f parts (given.0, given.1, given.2.opened)) quiet (rw (← given.2.all) stops)
+    TextStopsBy-printing (telling.Report level) file file_after out out_after parts fault (opens_given file parts (given.0, given.1, given.2.opened)) quiet (rw (← given.2.all) stops)

@@ -1,7 +1,8 @@
 -- How a run of `edit` ends: what was printed and saved, and what stood before a fault (own).
-use Rattle.std.specs.Prelude.{◌≡◌, ◌⊎◌, ℕ, ◌+◌, ◌≤◌, List, [], ◌∷◌, ◌++◌, length, take, Option, Some, None}
+use Rattle.std.specs.Prelude.{◌≡◌, ◌⊎◌, ℕ, ◌+◌, ◌≤◌, List, [], ◌∷◌, ◌++◌, length, take, Option, Some, None, Result, Ok, Err, MatchOption}
 use Rattle.std.specs.Io.KnownBytes.{Appends, Consumes, IsAtEnd}
 use Rattle.fits_card.specs.Intake.{Tells}
+use Rattle.fits_card.specs.Stream.{SourceState, SinkState, FailsOnce, Prints, PrintsFront, StaysQuiet}
 use Rattle.fits_session.specs.File.{FileParts, IsFileOf}
 use Rattle.fits_cli.specs.Answer.{at_first_line, LineNeedsMemory}
 use Rattle.fits_cli.specs.Faults.{status_of_fault}
@@ -9,36 +10,36 @@ use Rattle.fits_cli.specs.declared.limits.TheConstants.{SCRIPT_LIMIT}
 use Rattle.fits_cli.specs.Line.{reading_of}
 use Rattle.fits_cli.specs.Output.{answers, standing_after, Output, IsOutputOf}
 use Rattle.fits_cli.specs.Script.{IsCutInLines, script_lines}
-use Rattle.fits_cli.specs.Streams.{SourceState, SinkState, Prints, PrintsFront, FlushesOrFails}
+use Rattle.fits_cli.specs.declared.end.End.{End}
 use Rattle.fits_cli.specs.declared.fault.Fault.{Fault}
 use Rattle.fits_cli.specs.declared.fault.Fault.TheVariants.{Refused, ScriptTooLong, Memory, ReadFailed, WriteFailed}
 
 -- the four streams of a run
-pub record Streams : Type 0 where
+pub record RunState : Type 0 where
   pub file : SourceState
   pub script : SourceState
   pub printed : SinkState
   pub saved : SinkState
 
 -- four streams
-abbrev pub streams : SourceState → SourceState → SinkState → SinkState → Streams
-streams file script printed saved = record { file = file; script = script; printed = printed; saved = saved }
+abbrev pub run : SourceState → SourceState → SinkState → SinkState → RunState
+run file script printed saved = record { file = file; script = script; printed = printed; saved = saved }
 
 -- both sources were read without a failed call
-pub record ReadsWell (old new : Streams) : Type 0 where
-  pub of_file : new.file.failures ≡ old.file.failures
-  pub of_script : new.script.failures ≡ old.script.failures
+pub record ReadsWell (old new : RunState) : Type 0 where
+  pub of_file : StaysQuiet old.file new.file
+  pub of_script : StaysQuiet old.script new.script
 
 -- the file's bytes are these parts
 pub record Opens (old : SourceState) (parts : FileParts) : Type 0 where
   pub bytes : List ℕ
-  pub told : Tells old.left bytes
+  pub told : Tells old bytes
   pub opens : IsFileOf bytes parts
 
 -- what was read of a script, as far as its limit, and the whole lines of that
 pub record CameTo (old new : SourceState) (lines : List (List ℕ)) (last : List ℕ) : Type 0 where
   pub came : List ℕ
-  pub read : Consumes old.left new.left came
+  pub read : Consumes old.remaining new.remaining came
   pub cut : IsCutInLines (take SCRIPT_LIMIT came) lines last
 
 -- the lines that may have been answered: the whole ones, and the last piece too where the script ended with it
@@ -46,15 +47,15 @@ pub record HasLines (old new : SourceState) (lines : List (List ℕ)) : Type 0 w
   pub whole : List (List ℕ)
   pub last : List ℕ
   pub reached : CameTo old new whole last
-  pub are : (lines ≡ whole) ⊎ (IsAtEnd new.left × (length reached.came ≤ SCRIPT_LIMIT) × (lines ≡ script_lines whole last))
+  pub are : (lines ≡ whole) ⊎ (IsAtEnd new.remaining × (length reached.came ≤ SCRIPT_LIMIT) × (lines ≡ script_lines whole last))
 
 -- a run with the output of its file and its script
-pub record IsRun (old new : Streams) (status : ℕ) (fault : Option Fault) : Type 0 where
+pub record IsRun (old new : RunState) (status : ℕ) (fault : Option Fault) : Type 0 where
   pub file : List ℕ
   pub script : List ℕ
   pub output : Output
-  pub told_file : Tells old.file.left file
-  pub told_script : Tells old.script.left script
+  pub told_file : Tells old.file file
+  pub told_script : Tells old.script script
   pub is : IsOutputOf file script output
   pub printed : Prints output.text old.printed new.printed
   pub saved : Prints output.saved old.saved new.saved
@@ -63,26 +64,26 @@ pub record IsRun (old new : Streams) (status : ℕ) (fault : Option Fault) : Typ
   pub read : ReadsWell old new
 
 -- a run to its end: what it wrote is flushed
-pub record Succeeds (old new : Streams) (status : ℕ) : Type 0 where
+pub record Succeeds (old new : RunState) (status : ℕ) : Type 0 where
   pub run : IsRun old new status None
   pub printed : new.printed.unflushed ≡ 0
   pub saved : new.saved.unflushed ≡ 0
 
 -- the file doesn't open: no other stream was touched
-pub record IsRefused (old new : Streams) (fault : Fault) : Type 0 where
+pub record IsRefused (old new : RunState) (fault : Fault) : Type 0 where
   pub run : IsRun old new 2 (Some fault)
   pub script : new.script ≡ old.script
   pub printed : new.printed ≡ old.printed
   pub saved : new.saved ≡ old.saved
 
 -- the script is too long: the answers are flushed, and nothing is saved
-pub record IsTooLong (old new : Streams) : Type 0 where
+pub record IsTooLong (old new : RunState) : Type 0 where
   pub run : IsRun old new 2 (Some ScriptTooLong)
   pub printed : new.printed.unflushed ≡ 0
   pub saved : new.saved ≡ old.saved
 
 -- memory was refused at a line that may need it: the answers to the lines before it are flushed
-pub record StopsAtLine (old new : Streams) : Type 0 where
+pub record StopsAtLine (old new : RunState) : Type 0 where
   pub parts : FileParts
   pub lines : List (List ℕ)
   pub line : List ℕ
@@ -94,35 +95,40 @@ pub record StopsAtLine (old new : Streams) : Type 0 where
   pub flushed : new.printed.unflushed ≡ 0
 
 -- memory was refused: on the way to the first line, so that nothing is printed, or at a line; nothing is saved
-pub record IsOutOfMemory (old new : Streams) : Type 0 where
+pub record IsOutOfMemory (old new : RunState) : Type 0 where
   pub read : ReadsWell old new
   pub printed : (new.script ≡ old.script × Prints [] old.printed new.printed) ⊎ StopsAtLine old new
   pub saved : new.saved ≡ old.saved
 
 -- a read of the file failed: no other stream was touched
-pub record FileFails (old new : Streams) : Type 0 where
-  pub failed : new.file.failures ≡ old.file.failures + 1
+pub record FileFails (old new : RunState) : Type 0 where
+  pub failed : FailsOnce old.file new.file
   pub script : new.script ≡ old.script
   pub printed : new.printed ≡ old.printed
   pub saved : new.saved ≡ old.saved
 
+-- at the end either nothing failed and all is passed on, or a call failed
+abbrev pub FlushesOrFails : SinkState → SinkState → Type 0
+FlushesOrFails old new =
+    ((new.failures ≡ old.failures) × (new.unflushed ≡ 0)) ⊎ (new.failures ≡ old.failures + 1)
+
 -- a read of the script failed: the whole lines that came before are answered, and nothing is saved;
 -- the answers are flushed, unless that call fails too
-pub record ScriptFails (old new : Streams) : Type 0 where
-  pub of_file : new.file.failures ≡ old.file.failures
-  pub failed : new.script.failures ≡ old.script.failures + 1
+pub record ScriptFails (old new : RunState) : Type 0 where
+  pub of_file : StaysQuiet old.file new.file
+  pub failed : FailsOnce old.script new.script
   pub parts : FileParts
   pub lines : List (List ℕ)
   pub last : List ℕ
   pub opened : Opens old.file parts
   pub reached : CameTo old.script new.script lines last
   pub short : length reached.came ≤ SCRIPT_LIMIT
-  pub printed : Appends old.printed.holds new.printed.holds (answers (at_first_line parts) lines)
+  pub printed : Appends old.printed.contents new.printed.contents (answers (at_first_line parts) lines)
   pub flushed : FlushesOrFails old.printed new.printed
   pub saved : new.saved ≡ old.saved
 
 -- a write of answers failed: a prefix of the answers stands, and nothing is saved
-pub record AnswersFail (old new : Streams) : Type 0 where
+pub record AnswersFail (old new : RunState) : Type 0 where
   pub read : ReadsWell old new
   pub parts : FileParts
   pub lines : List (List ℕ)
@@ -132,13 +138,13 @@ pub record AnswersFail (old new : Streams) : Type 0 where
   pub saved : new.saved ≡ old.saved
 
 -- a write of the saved file failed: all answers are flushed, and a prefix of the file stands
-pub record SavingFails (old new : Streams) : Type 0 where
+pub record SavingFails (old new : RunState) : Type 0 where
   pub read : ReadsWell old new
   pub file : List ℕ
   pub script : List ℕ
   pub output : Output
-  pub told_file : Tells old.file.left file
-  pub told_script : Tells old.script.left script
+  pub told_file : Tells old.file file
+  pub told_script : Tells old.script script
   pub is : IsOutputOf file script output
   pub whole : output.fault ≡ None
   pub printed : Prints output.text old.printed new.printed
@@ -146,14 +152,19 @@ pub record SavingFails (old new : Streams) : Type 0 where
   pub saved : PrintsFront output.saved old.saved new.saved
 
 -- what stands before a fault that ends a run
-abbrev pub StopsBy : Streams → Streams → Fault → Type 0
+abbrev pub StopsBy : RunState → RunState → Fault → Type 0
 StopsBy old new (Refused why) = IsRefused old new (Refused why)
 StopsBy old new ScriptTooLong = IsTooLong old new
 StopsBy old new Memory = IsOutOfMemory old new
 StopsBy old new ReadFailed = FileFails old new ⊎ ScriptFails old new
 StopsBy old new WriteFailed = AnswersFail old new ⊎ SavingFails old new
 
--- how a run ends: with its output, or by a fault and the fault's status
-abbrev pub EndsAs : Streams → Streams → ℕ → Option Fault → Type 0
-EndsAs old new status None = Succeeds old new status
-EndsAs old new status (Some fault) = StopsBy old new fault × (status ≡ status_of_fault fault)
+-- how a run ends: with its output and its status, or by a fault
+abbrev pub EndsBy : RunState → RunState → Result ℕ Fault → Type 0
+EndsBy old new (Ok status) = Succeeds old new status
+EndsBy old new (Err fault) = StopsBy old new fault
+
+-- the same as it is answered: a fault has its status
+abbrev pub EndsAs : RunState → RunState → End → Type 0
+EndsAs old new end =
+    MatchOption end.fault (Succeeds old new end.status) (λ fault. StopsBy old new fault × (end.status ≡ status_of_fault fault))

@@ -11,7 +11,6 @@ pub mod Reply
 pub mod Report
 pub mod Running
 pub mod Script
-pub mod Streams
 pub mod Summing
 pub mod Telling
 pub mod ValueLine

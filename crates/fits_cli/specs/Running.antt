@@ -1,14 +1,14 @@
 -- What private functions of a run keep to: how far a script has come.
 use Rattle.std.specs.Prelude.{◌≡◌, ◌⊎◌, ℕ, ◌+◌, ◌<◌, ◌≤◌, List, ◌∷◌, ◌++◌, length, take, Result, Ok, Err}
-use Rattle.std.specs.Io.KnownBytes.{Consumes, IsAtEnd}
-use Rattle.fits_card.specs.Intake.{Tells}
+use Rattle.std.specs.Io.KnownBytes.{IsAtEnd}
+use Rattle.fits_card.specs.Intake.{Gives, Tells}
 use Rattle.fits_cli.specs.Answer.{Standing, line_answer, line_left, LineNeedsMemory}
 use Rattle.fits_cli.specs.Ends.{CameTo, HasLines}
 use Rattle.fits_cli.specs.declared.limits.TheConstants.{LINE_LIMIT, SCRIPT_LIMIT}
 use Rattle.fits_cli.specs.Line.{reading_of}
 use Rattle.fits_cli.specs.Output.{answers, standing_after}
 use Rattle.fits_cli.specs.Script.{IsCutInLines, script_lines}
-use Rattle.fits_cli.specs.Streams.{SourceState, SinkState, Prints, PrintsFront, Flushes, FailsToFlush}
+use Rattle.fits_card.specs.Stream.{SourceState, SinkState, FailsOnce, FailsToFlush, Flushes, Prints, PrintsFront, Reads, StaysQuiet}
 use Rattle.fits_session.specs.Opening.{HasOpenFault}
 use Rattle.fits_cli.specs.declared.fault.Fault.{Fault}
 use Rattle.fits_cli.specs.declared.fault.Fault.TheVariants.{Refused, ScriptTooLong, Memory, ReadFailed, WriteFailed}
@@ -16,10 +16,10 @@ use Rattle.fits_cli.specs.declared.fault.Fault.TheVariants.{Refused, ScriptTooLo
 -- why a file wasn't opened: its bytes don't open, memory was refused, or a read failed
 abbrev pub OpeningStops : SourceState → SourceState → Fault → Type 0
 OpeningStops old new (Refused why) =
-    ((bytes : List ℕ) × Tells old.left bytes × HasOpenFault bytes why) × (new.failures ≡ old.failures)
+    Gives old (λ bytes. HasOpenFault bytes why) × StaysQuiet old new
 OpeningStops old new ScriptTooLong = ⊥
-OpeningStops old new Memory = new.failures ≡ old.failures
-OpeningStops old new ReadFailed = new.failures ≡ old.failures + 1
+OpeningStops old new Memory = StaysQuiet old new
+OpeningStops old new ReadFailed = FailsOnce old new
 OpeningStops old new WriteFailed = ⊥
 
 -- one line is answered, and things stand as after it
@@ -105,9 +105,8 @@ pub record AnswersScript (old new : SourceState) (before now : Standing) (held h
   pub script : List ℕ
   pub lines : List (List ℕ)
   pub last : List ℕ
-  pub read : Consumes old.left new.left script
-  pub ended : IsAtEnd new.left
-  pub quiet : new.failures ≡ old.failures
+  pub read : Reads script old new
+  pub ended : IsAtEnd new.remaining
   pub short : length script ≤ SCRIPT_LIMIT
   pub cut : IsCutInLines script lines last
   pub answered : AnswersLines (script_lines lines last) before now held holds
@@ -117,22 +116,22 @@ pub record AnswersTooLong (old new : SourceState) (before : Standing) (held hold
   pub script : List ℕ
   pub lines : List (List ℕ)
   pub last : List ℕ
-  pub told : Tells old.left script
+  pub told : Tells old script
   pub long : SCRIPT_LIMIT < length script
-  pub quiet : new.failures ≡ old.failures
+  pub quiet : StaysQuiet old new
   pub reached : CameTo old new lines last
   pub cut : IsCutInLines (take SCRIPT_LIMIT script) lines last
   pub printed : Prints (answers before lines) held holds
 
 -- memory was refused: on the way to the first line, or at a line
 pub record ScriptNeedsMemory (old new : SourceState) (before : Standing) (held holds : SinkState) : Type 0 where
-  pub quiet : new.failures ≡ old.failures
+  pub quiet : StaysQuiet old new
   pub at : (new ≡ old × holds ≡ held)
       ⊎ ((lines : List (List ℕ)) × HasLines old new lines × NeedsMemoryAt lines before held holds)
 
 -- a read failed: the whole lines that came before are answered
 pub record ScriptReadFails (old new : SourceState) (before : Standing) (held holds : SinkState) : Type 0 where
-  pub failed : new.failures ≡ old.failures + 1
+  pub failed : FailsOnce old new
   pub lines : List (List ℕ)
   pub last : List ℕ
   pub reached : CameTo old new lines last
@@ -141,7 +140,7 @@ pub record ScriptReadFails (old new : SourceState) (before : Standing) (held hol
 
 -- a write failed: a prefix of the answers stands
 pub record ScriptWriteFails (old new : SourceState) (before : Standing) (held holds : SinkState) : Type 0 where
-  pub quiet : new.failures ≡ old.failures
+  pub quiet : StaysQuiet old new
   pub lines : List (List ℕ)
   pub reached : HasLines old new lines
   pub printed : PrintsFront (answers before lines) held holds

@@ -1,7 +1,7 @@
 -- How a run ends that prints a text of a file, as `list`, `sum` and `verify` do (own).
-use Rattle.std.specs.Prelude.{◌≡◌, ◌⊎◌, ℕ, ◌+◌, List, Option, Some, None}
+use Rattle.std.specs.Prelude.{◌≡◌, ◌⊎◌, ℕ, ◌+◌, List, MatchOption}
 use Rattle.fits_card.specs.Intake.{Tells}
-use Rattle.fits_card.specs.Stream.{AppendsFront}
+use Rattle.fits_card.specs.Stream.{AppendsFront, SourceState, SinkState, FailsOnce, Prints, PrintsFront, StaysQuiet}
 use Rattle.fits_session.specs.File.{FileParts}
 use Rattle.fits_session.specs.Opening.{HasOpenFault}
 use Rattle.fits_session.specs.Report.{report_of}
@@ -10,8 +10,8 @@ use Rattle.fits_cli.specs.Ends.{Opens}
 use Rattle.fits_cli.specs.Faults.{status_of_fault}
 use Rattle.fits_cli.specs.Listing.{listing}
 use Rattle.fits_cli.specs.Report.{report_text, status_of_report}
-use Rattle.fits_cli.specs.Streams.{SourceState, SinkState, Prints, PrintsFront}
 use Rattle.fits_cli.specs.Summing.{summing}
+use Rattle.fits_cli.specs.declared.end.End.{End}
 use Rattle.fits_cli.specs.declared.fault.Fault.{Fault}
 use Rattle.fits_cli.specs.declared.fault.Fault.TheVariants.{Refused, ScriptTooLong, Memory, ReadFailed, WriteFailed}
 use Rattle.fits_cli.specs.declared.telling.Telling.{Telling}
@@ -33,7 +33,7 @@ status_of_text (telling.Report level) file = status_of_report (report_of file)
 pub record TextIsPrinted (kind : Telling) (file file_after : SourceState) (out out_after : SinkState) (status : ℕ) : Type 0 where
   pub parts : FileParts
   pub opened : Opens file parts
-  pub read : file_after.failures ≡ file.failures
+  pub read : StaysQuiet file file_after
   pub printed : Prints (text_of kind parts) out out_after
   pub flushed : out_after.unflushed ≡ 0
   pub status_is : status ≡ status_of_text kind parts
@@ -42,42 +42,42 @@ pub record TextIsPrinted (kind : Telling) (file file_after : SourceState) (out o
 pub record TextIsTold (kind : Telling) (file file_after : SourceState) (out out_after : SinkState) (status : ℕ) : Type 0 where
   pub parts : FileParts
   pub opened : Opens file parts
-  pub read : file_after.failures ≡ file.failures
+  pub read : StaysQuiet file file_after
   pub printed : Prints (text_of kind parts) out out_after
   pub status_is : status ≡ status_of_text kind parts
 
 -- the file doesn't open: nothing is printed
 pub record TextIsRefused (file file_after : SourceState) (out out_after : SinkState) (why : OpenFault) : Type 0 where
   pub bytes : List ℕ
-  pub told : Tells file.left bytes
+  pub told : Tells file bytes
   pub fails : HasOpenFault bytes why
-  pub read : file_after.failures ≡ file.failures
+  pub read : StaysQuiet file file_after
   pub printed : out_after ≡ out
 
 -- memory was refused: before the text, so that nothing is printed, or within it
 pub record TextIsOutOfMemory (kind : Telling) (file file_after : SourceState) (out out_after : SinkState) : Type 0 where
-  pub read : file_after.failures ≡ file.failures
+  pub read : StaysQuiet file file_after
   pub quiet : out_after.failures ≡ out.failures
   pub printed : (out_after ≡ out)
-      ⊎ ((parts : FileParts) × Opens file parts × AppendsFront out.holds out_after.holds (text_of kind parts))
+      ⊎ ((parts : FileParts) × Opens file parts × AppendsFront out.contents out_after.contents (text_of kind parts))
 
 -- a read failed: nothing is printed
 pub record TextFileFails (file file_after : SourceState) (out out_after : SinkState) : Type 0 where
-  pub failed : file_after.failures ≡ file.failures + 1
+  pub failed : FailsOnce file file_after
   pub printed : out_after ≡ out
 
 -- a write failed: a prefix of the text stands
 pub record TextFails (kind : Telling) (file file_after : SourceState) (out out_after : SinkState) : Type 0 where
   pub parts : FileParts
   pub opened : Opens file parts
-  pub read : file_after.failures ≡ file.failures
+  pub read : StaysQuiet file file_after
   pub printed : PrintsFront (text_of kind parts) out out_after
 
 -- a text isn't printed to its end: memory was refused, or a write failed; a prefix of it stands
 abbrev pub PrintingStops : List ℕ → SinkState → SinkState → Fault → Type 0
 PrintingStops text out out_after (Refused why) = ⊥
 PrintingStops text out out_after ScriptTooLong = ⊥
-PrintingStops text out out_after Memory = AppendsFront out.holds out_after.holds text × (out_after.failures ≡ out.failures)
+PrintingStops text out out_after Memory = AppendsFront out.contents out_after.contents text × (out_after.failures ≡ out.failures)
 PrintingStops text out out_after ReadFailed = ⊥
 PrintingStops text out out_after WriteFailed = PrintsFront text out out_after
 
@@ -90,7 +90,7 @@ TextStopsBy kind file file_after out out_after ReadFailed = TextFileFails file f
 TextStopsBy kind file file_after out out_after WriteFailed = TextFails kind file file_after out out_after
 
 -- how a run ends: with its text, or by a fault and the fault's status
-abbrev pub TextEndsAs : Telling → SourceState → SourceState → SinkState → SinkState → ℕ → Option Fault → Type 0
-TextEndsAs kind file file_after out out_after status None = TextIsPrinted kind file file_after out out_after status
-TextEndsAs kind file file_after out out_after status (Some fault) =
-    TextStopsBy kind file file_after out out_after fault × (status ≡ status_of_fault fault)
+abbrev pub TextEndsAs : Telling → SourceState → SourceState → SinkState → SinkState → End → Type 0
+TextEndsAs kind file file_after out out_after end =
+    MatchOption end.fault (TextIsPrinted kind file file_after out out_after end.status)
+    (λ fault. TextStopsBy kind file file_after out out_after fault × (end.status ≡ status_of_fault fault))

@@ -1,23 +1,20 @@
 //! Lines that say why a line of a script wasn't done. Printing them takes no memory.
 ghost use Rattle.std.specs.Prelude.{◌<◌, ◌+◌, [], ◌∷◌, OnOk, IfErr};
 ghost use Rattle.std.specs.Fmt.{decimal};
+ghost use Rattle.fits_card.specs.Stream.{Prints};
 ghost use Rattle.fits_cli.specs.Answer.{complaint};
 ghost use Rattle.fits_cli.specs.Faults.{PrintFails};
-ghost use Rattle.fits_cli.specs.Streams.{sink, Prints};
 
 use crate::fault::Fault;
 use crate::printing::print;
 use fits_card::Sink;
 
 /// `line N: WHY`
-#[tactic(auto, using(crate::proofs::StreamLemmas::text_steps))]
+#[tactic(auto, using(fits_card::proofs::StreamLemmas::printing_steps))]
 pub(crate) fn print_complaint<O: Sink>(out: &mut O, line: u64, why: &str) -> Result<(), Fault>
-    ensures ok { OnOk result (Prints (complaint line why.now)
-        (sink (O.contents out.old) (O.failures out.old) (O.unflushed out.old))
-        (sink (O.contents out.new) (O.failures out.new) (O.unflushed out.new))) }
+    ensures ok { OnOk result (Prints (complaint line why.now) (O.state out.old) (O.state out.new)) }
     ensures err { IfErr result (PrintFails (complaint line why.now)
-        (sink (O.contents out.old) (O.failures out.old) (O.unflushed out.old))
-        (sink (O.contents out.new) (O.failures out.new) (O.unflushed out.new))) }
+        (O.state out.old) (O.state out.new)) }
 {
     print(out, b"line ")?;
     print_number(out, line)?;
@@ -28,12 +25,8 @@ pub(crate) fn print_complaint<O: Sink>(out: &mut O, line: u64, why: &str) -> Res
 
 // A number in decimal digits.
 fn print_number<O: Sink>(out: &mut O, number: u64) -> Result<(), Fault>
-    ensures ok { OnOk result (Prints (decimal number)
-        (sink (O.contents out.old) (O.failures out.old) (O.unflushed out.old))
-        (sink (O.contents out.new) (O.failures out.new) (O.unflushed out.new))) }
-    ensures err { IfErr result (PrintFails (decimal number)
-        (sink (O.contents out.old) (O.failures out.old) (O.unflushed out.old))
-        (sink (O.contents out.new) (O.failures out.new) (O.unflushed out.new))) }
+    ensures ok { OnOk result (Prints (decimal number) (O.state out.old) (O.state out.new)) }
+    ensures err { IfErr result (PrintFails (decimal number) (O.state out.old) (O.state out.new)) }
 {
     if number < 10 {
         print_digit(out, number)?;
@@ -46,12 +39,9 @@ fn print_number<O: Sink>(out: &mut O, number: u64) -> Result<(), Fault>
 
 fn print_digit<O: Sink>(out: &mut O, digit: u64) -> Result<(), Fault>
     requires { digit < 10 }
-    ensures ok { OnOk result (Prints ((48 + digit) ∷ [])
-        (sink (O.contents out.old) (O.failures out.old) (O.unflushed out.old))
-        (sink (O.contents out.new) (O.failures out.new) (O.unflushed out.new))) }
+    ensures ok { OnOk result (Prints ((48 + digit) ∷ []) (O.state out.old) (O.state out.new)) }
     ensures err { IfErr result (PrintFails ((48 + digit) ∷ [])
-        (sink (O.contents out.old) (O.failures out.old) (O.unflushed out.old))
-        (sink (O.contents out.new) (O.failures out.new) (O.unflushed out.new))) }
+        (O.state out.old) (O.state out.new)) }
 {
     print(out, &[b'0' + digit as u8])
 }

@@ -1,8 +1,6 @@
 //! The run of `edit`: a file, a script, answers, and the file saved.
-ghost use Rattle.std.specs.Prelude.{◌≡◌, IfOk, IfErr, None, if◌then◌else◌};
-ghost use Rattle.fits_cli.specs.Ends.{streams, EndsAs, StopsBy, Succeeds};
+ghost use Rattle.fits_cli.specs.Ends.{run, EndsAs, EndsBy};
 ghost use Rattle.fits_cli.specs.Running.{FlushesAnswers};
-ghost use Rattle.fits_cli.specs.Streams.{sink, source};
 
 use crate::end::End;
 use crate::fault::Fault;
@@ -25,65 +23,42 @@ pub fn run_edit<F: Source, S: Source, P: Sink, O: Sink>(
     out: &mut O,
 ) -> End
     ensures { EndsAs
-        (streams (source (F.remaining file.old) (F.failures file.old))
-        (source (S.remaining script.old) (S.failures script.old))
-        (sink (O.contents out.old) (O.failures out.old) (O.unflushed out.old))
-        (sink (P.contents saved.old) (P.failures saved.old) (P.unflushed saved.old)))
-        (streams (source (F.remaining file.new) (F.failures file.new))
-        (source (S.remaining script.new) (S.failures script.new))
-        (sink (O.contents out.new) (O.failures out.new) (O.unflushed out.new))
-        (sink (P.contents saved.new) (P.failures saved.new) (P.unflushed saved.new)))
-        result.status result.fault }
+        (run (F.state file.old) (S.state script.old) (O.state out.old) (P.state saved.old))
+        (run (F.state file.new) (S.state script.new) (O.state out.new) (P.state saved.new))
+        result }
 {
     match edit(alloc, file, script, saved, out) {
-        Ok(any_refused) => End {
-            status: if any_refused { 1 } else { 0 },
+        Ok(status) => End {
+            status,
             fault: None,
         },
         Err(fault) => End::from(fault),
     }
 }
 
-// The run as a result: whether a line was refused or bad, or the fault that ended it.
+// The run as a result: its status, or the fault that ended it.
 fn edit<F: Source, S: Source, P: Sink, O: Sink>(
     alloc: Global,
     file: &mut F,
     script: &mut S,
     saved: &mut P,
     out: &mut O,
-) -> Result<bool, Fault>
-    ensures ok { IfOk result (λ any_refused. Succeeds
-        (streams (source (F.remaining file.old) (F.failures file.old))
-        (source (S.remaining script.old) (S.failures script.old))
-        (sink (O.contents out.old) (O.failures out.old) (O.unflushed out.old))
-        (sink (P.contents saved.old) (P.failures saved.old) (P.unflushed saved.old)))
-        (streams (source (F.remaining file.new) (F.failures file.new))
-        (source (S.remaining script.new) (S.failures script.new))
-        (sink (O.contents out.new) (O.failures out.new) (O.unflushed out.new))
-        (sink (P.contents saved.new) (P.failures saved.new) (P.unflushed saved.new)))
-        (if any_refused then 1 else 0)) }
-    ensures err { IfErr result (StopsBy
-        (streams (source (F.remaining file.old) (F.failures file.old))
-        (source (S.remaining script.old) (S.failures script.old))
-        (sink (O.contents out.old) (O.failures out.old) (O.unflushed out.old))
-        (sink (P.contents saved.old) (P.failures saved.old) (P.unflushed saved.old)))
-        (streams (source (F.remaining file.new) (F.failures file.new))
-        (source (S.remaining script.new) (S.failures script.new))
-        (sink (O.contents out.new) (O.failures out.new) (O.unflushed out.new))
-        (sink (P.contents saved.new) (P.failures saved.new) (P.unflushed saved.new)))) }
+) -> Result<u8, Fault>
+    ensures { EndsBy
+        (run (F.state file.old) (S.state script.old) (O.state out.old) (P.state saved.old))
+        (run (F.state file.new) (S.state script.new) (O.state out.new) (P.state saved.new))
+        result }
 {
     let mut runner = Runner::new(open_file(alloc, file)?);
     let answered = answer_script(alloc, &mut runner, script, out);
     flush_answers(answered, out)?;
     runner.save(saved)?;
-    Ok(runner.any_refused())
+    Ok(runner.status())
 }
 
 // Flushes the answers to a script, which are of use whatever ended it.
 fn flush_answers<O: Sink>(answered: Result<(), Fault>, out: &mut O) -> Result<(), Fault>
-    ensures { FlushesAnswers answered result
-        (sink (O.contents out.old) (O.failures out.old) (O.unflushed out.old))
-        (sink (O.contents out.new) (O.failures out.new) (O.unflushed out.new)) }
+    ensures { FlushesAnswers answered result (O.state out.old) (O.state out.new) }
 {
     match answered {
         // A sink that failed is left alone.

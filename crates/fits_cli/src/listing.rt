@@ -1,8 +1,8 @@
 //! The run of `list`: a line for each HDU of a file.
 ghost use Rattle.std.specs.Prelude.{◌≡◌, ◌++◌, ◌≤◌, ◌+◌, IfOk, IfErr, OnOk};
+ghost use Rattle.fits_card.specs.Stream.{Prints};
 ghost use Rattle.fits_session.specs.declared.limits.TheConstants.{FILE_LIMIT};
 ghost use Rattle.fits_cli.specs.Listing.{axes_text, class_text, hdu_line, line_back, line_front, more_axes_text, outlined_len, outlined_lines};
-ghost use Rattle.fits_cli.specs.Streams.{sink, source, Prints};
 ghost use Rattle.fits_cli.specs.Telling.{PrintingStops, TextEndsAs, TextIsTold, TextStopsBy};
 
 use crate::answer::push_offsets;
@@ -20,12 +20,8 @@ use std::alloc::{AllocError, Global};
 
 /// Reads a file, and prints a line for each of its HDUs. No data unit is kept.
 pub fn run_list<F: Source, O: Sink>(alloc: Global, file: &mut F, out: &mut O) -> End
-    ensures { TextEndsAs Telling.List
-        (source (F.remaining file.old) (F.failures file.old))
-        (source (F.remaining file.new) (F.failures file.new))
-        (sink (O.contents out.old) (O.failures out.old) (O.unflushed out.old))
-        (sink (O.contents out.new) (O.failures out.new) (O.unflushed out.new))
-        result.status result.fault }
+    ensures { TextEndsAs Telling.List (F.state file.old) (F.state file.new)
+        (O.state out.old) (O.state out.new) result }
 {
     run_telling(alloc, Telling::List, file, out)
 }
@@ -37,16 +33,9 @@ pub(crate) fn list<F: Source, O: Sink>(
     out: &mut O,
 ) -> Result<u8, Fault>
     ensures ok { IfOk result (λ status. TextIsTold Telling.List
-        (source (F.remaining file.old) (F.failures file.old))
-        (source (F.remaining file.new) (F.failures file.new))
-        (sink (O.contents out.old) (O.failures out.old) (O.unflushed out.old))
-        (sink (O.contents out.new) (O.failures out.new) (O.unflushed out.new))
-        status) }
-    ensures err { IfErr result (TextStopsBy Telling.List
-        (source (F.remaining file.old) (F.failures file.old))
-        (source (F.remaining file.new) (F.failures file.new))
-        (sink (O.contents out.old) (O.failures out.old) (O.unflushed out.old))
-        (sink (O.contents out.new) (O.failures out.new) (O.unflushed out.new))) }
+        (F.state file.old) (F.state file.new) (O.state out.old) (O.state out.new) status) }
+    ensures err { IfErr result (TextStopsBy Telling.List (F.state file.old) (F.state file.new)
+        (O.state out.old) (O.state out.new)) }
 {
     let outlines = outline_file(alloc, file)?;
     print_outlines(alloc, &outlines, out)?;
@@ -57,11 +46,9 @@ pub(crate) fn list<F: Source, O: Sink>(
 fn print_outlines<O: Sink>(alloc: Global, outlines: &[Outline], out: &mut O) -> Result<(), Fault>
     requires { outlined_len outlines.now ≤ FILE_LIMIT }
     ensures ok { OnOk result (Prints (outlined_lines 1 0 outlines.now)
-        (sink (O.contents out.old) (O.failures out.old) (O.unflushed out.old))
-        (sink (O.contents out.new) (O.failures out.new) (O.unflushed out.new))) }
+        (O.state out.old) (O.state out.new)) }
     ensures err { IfErr result (PrintingStops (outlined_lines 1 0 outlines.now)
-        (sink (O.contents out.old) (O.failures out.old) (O.unflushed out.old))
-        (sink (O.contents out.new) (O.failures out.new) (O.unflushed out.new))) }
+        (O.state out.old) (O.state out.new)) }
 {
     let mut line = Vec::new(alloc);
     let mut start = 0u64;

@@ -1,8 +1,8 @@
 //! What a line comes to, and what is printed of it.
 ghost use Rattle.std.specs.Prelude.{◌≡◌, OnOk, IfErr};
+ghost use Rattle.fits_card.specs.Stream.{Prints};
 ghost use Rattle.fits_cli.specs.Faults.{PrintFails};
 ghost use Rattle.fits_cli.specs.Reply.{counts_as_refused, reply_text, settled};
-ghost use Rattle.fits_cli.specs.Streams.{sink, Prints};
 
 use crate::complaint::print_complaint;
 use crate::fault::Fault;
@@ -48,11 +48,9 @@ pub(crate) fn counts_as_refused(reply: &Reply) -> bool
 /// Prints what a line comes to. It takes no memory.
 pub(crate) fn print_reply<O: Sink>(out: &mut O, line: u64, reply: &Reply) -> Result<(), Fault>
     ensures ok { OnOk result (Prints (reply_text line reply.now)
-        (sink (O.contents out.old) (O.failures out.old) (O.unflushed out.old))
-        (sink (O.contents out.new) (O.failures out.new) (O.unflushed out.new))) }
+        (O.state out.old) (O.state out.new)) }
     ensures err { IfErr result (PrintFails (reply_text line reply.now)
-        (sink (O.contents out.old) (O.failures out.old) (O.unflushed out.old))
-        (sink (O.contents out.new) (O.failures out.new) (O.unflushed out.new))) }
+        (O.state out.old) (O.state out.new)) }
 {
     match reply {
         Reply::Done(text) => print(out, text),

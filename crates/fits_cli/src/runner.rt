@@ -34,10 +34,11 @@ impl Model for Runner {
 
 impl Runner {
     ghost use Rattle.std.specs.Prelude.{◌≡◌, ◌+◌, ◌^◌, ◌<◌, ◌||◌, IfOk, IfErr, OnOk, OnErr};
+    ghost use Rattle.fits_card.specs.Stream.{Prints};
     ghost use Rattle.fits_cli.specs.Answer.{at_first_line, line_answer, line_left, LineNeedsMemory};
     ghost use Rattle.fits_cli.specs.Line.{reading_of};
+    ghost use Rattle.fits_cli.specs.Output.{status_of};
     ghost use Rattle.fits_cli.specs.Reply.{counts_as_refused, reply_text};
-    ghost use Rattle.fits_cli.specs.Streams.{sink, Prints};
     ghost use Rattle.fits_cli.specs.Faults.{PrintFails};
     ghost use Rattle.fits_session.specs.File.{file_bytes};
     ghost use Rattle.fits_session.specs.Session.{file_of};
@@ -60,11 +61,11 @@ impl Runner {
         self.line
     }
 
-    /// Whether a line so far was refused or bad.
-    pub(crate) fn any_refused(&self) -> bool
-        ensures { result ≡ self.now.any_refused }
+    /// The status of a run whose script ended here: 1 where a line was refused or bad, else 0.
+    pub(crate) fn status(&self) -> u8
+        ensures { result ≡ status_of self.now }
     {
-        self.any_refused
+        if self.any_refused { 1 } else { 0 }
     }
 
     /// Does what a line says, and goes on to the next one.
@@ -104,15 +105,13 @@ impl Runner {
     }
 
     /// Saves the file, and flushes it.
-    #[tactic(auto, using(crate::proofs::StreamLemmas::flush_steps))]
+    #[tactic(auto, using(fits_card::proofs::StreamLemmas::flush_steps))]
     pub(crate) fn save<P: Sink>(&mut self, saved: &mut P) -> Result<(), Fault>
         ensures ok { OnOk result (Prints (file_bytes self.old.file)
-            (sink (P.contents saved.old) (P.failures saved.old) (P.unflushed saved.old))
-            (sink (P.contents saved.new) (P.failures saved.new) (P.unflushed saved.new))) }
+            (P.state saved.old) (P.state saved.new)) }
         ensures err { IfErr result (PrintFails (file_bytes self.old.file)
-            (sink (P.contents saved.old) (P.failures saved.old) (P.unflushed saved.old))
-            (sink (P.contents saved.new) (P.failures saved.new) (P.unflushed saved.new))) }
-        ensures flushed { OnOk result (P.unflushed saved.new ≡ 0) }
+            (P.state saved.old) (P.state saved.new)) }
+        ensures flushed { OnOk result ((P.state saved.new).unflushed ≡ 0) }
         ensures left { self.new ≡ self.old }
     {
         let Ok(()) = self.session.save(saved) else {

@@ -4,7 +4,6 @@ ghost use Rattle.std.specs.Prelude.{vec_capacity, vec_len};
 ghost use Rattle.fits_cli.specs.Line.{reading_of};
 ghost use Rattle.fits_cli.specs.Running.{kept_of, AnswersLine, AnswersScript, Continues};
 ghost use Rattle.fits_cli.specs.Running.{EndsScript, EndStops, LineStops, PieceStops, ScriptStops};
-ghost use Rattle.fits_cli.specs.Streams.{sink, source};
 
 use crate::cut::split_once;
 use crate::fault::Fault;
@@ -26,11 +25,8 @@ fn answer_line<O: Sink>(
 ) -> Result<(), Fault>
     requires { runner.old.line + 1 < 2 ^ 64 }
     ensures ok { OnOk result (AnswersLine line.now runner.old runner.new
-        (sink (O.contents out.old) (O.failures out.old) (O.unflushed out.old))
-        (sink (O.contents out.new) (O.failures out.new) (O.unflushed out.new))) }
-    ensures err { IfErr result (LineStops line.now runner.old
-        (sink (O.contents out.old) (O.failures out.old) (O.unflushed out.old))
-        (sink (O.contents out.new) (O.failures out.new) (O.unflushed out.new))) }
+        (O.state out.old) (O.state out.new)) }
+    ensures err { IfErr result (LineStops line.now runner.old (O.state out.old) (O.state out.new)) }
     ensures line { OnOk result (runner.new.line ≡ runner.old.line + 1) }
 {
     let number = runner.line();
@@ -65,13 +61,10 @@ fn answer_piece<O: Sink>(
     requires numbers { runner.old.line + length piece.now + 1 < 2 ^ 64 }
     requires room { LINE_LIMIT + 1 ≤ vec_capacity line.old }
     requires within { vec_len line.old ≤ LINE_LIMIT + 1 }
-    ensures ok { OnOk result (Continues piece.now line.old.items line.new.items
-        runner.old runner.new
-        (sink (O.contents out.old) (O.failures out.old) (O.unflushed out.old))
-        (sink (O.contents out.new) (O.failures out.new) (O.unflushed out.new))) }
+    ensures ok { OnOk result (Continues piece.now line.old.items line.new.items runner.old
+        runner.new (O.state out.old) (O.state out.new)) }
     ensures err { IfErr result (PieceStops piece.now line.old.items runner.old
-        (sink (O.contents out.old) (O.failures out.old) (O.unflushed out.old))
-        (sink (O.contents out.new) (O.failures out.new) (O.unflushed out.new))) }
+        (O.state out.old) (O.state out.new)) }
     ensures line { OnOk result (runner.new.line ≤ runner.old.line + length piece.now) }
     ensures room { OnOk result (LINE_LIMIT + 1 ≤ vec_capacity line.new) }
     ensures within { OnOk result (vec_len line.new ≤ LINE_LIMIT + 1) }
@@ -98,11 +91,8 @@ fn answer_last_line<O: Sink>(
 ) -> Result<(), Fault>
     requires { runner.old.line + 1 < 2 ^ 64 }
     ensures ok { OnOk result (EndsScript line.now runner.old runner.new
-        (sink (O.contents out.old) (O.failures out.old) (O.unflushed out.old))
-        (sink (O.contents out.new) (O.failures out.new) (O.unflushed out.new))) }
-    ensures err { IfErr result (EndStops line.now runner.old
-        (sink (O.contents out.old) (O.failures out.old) (O.unflushed out.old))
-        (sink (O.contents out.new) (O.failures out.new) (O.unflushed out.new))) }
+        (O.state out.old) (O.state out.new)) }
+    ensures err { IfErr result (EndStops line.now runner.old (O.state out.old) (O.state out.new)) }
 {
     if line.is_empty() {
         return Ok(());
@@ -119,16 +109,10 @@ pub(crate) fn answer_script<S: Source, O: Sink>(
     out: &mut O,
 ) -> Result<(), Fault>
     requires { runner.old.line ≡ 1 }
-    ensures ok { OnOk result (AnswersScript
-        (source (S.remaining script.old) (S.failures script.old))
-        (source (S.remaining script.new) (S.failures script.new)) runner.old runner.new
-        (sink (O.contents out.old) (O.failures out.old) (O.unflushed out.old))
-        (sink (O.contents out.new) (O.failures out.new) (O.unflushed out.new))) }
-    ensures err { IfErr result (ScriptStops
-        (source (S.remaining script.old) (S.failures script.old))
-        (source (S.remaining script.new) (S.failures script.new)) runner.old
-        (sink (O.contents out.old) (O.failures out.old) (O.unflushed out.old))
-        (sink (O.contents out.new) (O.failures out.new) (O.unflushed out.new))) }
+    ensures ok { OnOk result (AnswersScript (S.state script.old) (S.state script.new) runner.old
+        runner.new (O.state out.old) (O.state out.new)) }
+    ensures err { IfErr result (ScriptStops (S.state script.old) (S.state script.new) runner.old
+        (O.state out.old) (O.state out.new)) }
 {
     let mut buffer = buffer_of(alloc, PIECE_LEN)?;
     let mut line = Vec::with_capacity(alloc, LINE_ROOM)?;
@@ -148,16 +132,10 @@ fn answer_pieces<S: Source, O: Sink>(
     requires wide { 0 < length piece.old }
     requires empty { line.old.items ≡ [] }
     requires room { LINE_LIMIT + 1 ≤ vec_capacity line.old }
-    ensures ok { OnOk result (AnswersScript
-        (source (S.remaining script.old) (S.failures script.old))
-        (source (S.remaining script.new) (S.failures script.new)) runner.old runner.new
-        (sink (O.contents out.old) (O.failures out.old) (O.unflushed out.old))
-        (sink (O.contents out.new) (O.failures out.new) (O.unflushed out.new))) }
-    ensures err { IfErr result (ScriptStops
-        (source (S.remaining script.old) (S.failures script.old))
-        (source (S.remaining script.new) (S.failures script.new)) runner.old
-        (sink (O.contents out.old) (O.failures out.old) (O.unflushed out.old))
-        (sink (O.contents out.new) (O.failures out.new) (O.unflushed out.new))) }
+    ensures ok { OnOk result (AnswersScript (S.state script.old) (S.state script.new) runner.old
+        runner.new (O.state out.old) (O.state out.new)) }
+    ensures err { IfErr result (ScriptStops (S.state script.old) (S.state script.new) runner.old
+        (O.state out.old) (O.state out.new)) }
 {
     let mut taken = 0usize;
     loop {

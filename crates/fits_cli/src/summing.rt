@@ -1,6 +1,6 @@
 //! The run of `sum`: the sums of each HDU of a file.
 ghost use Rattle.std.specs.Prelude.{◌≡◌, ◌++◌, IfOk, IfErr, OnOk};
-ghost use Rattle.fits_cli.specs.Streams.{sink, source, Prints};
+ghost use Rattle.fits_card.specs.Stream.{Prints};
 ghost use Rattle.fits_cli.specs.Summing.{summed_line, summed_lines};
 ghost use Rattle.fits_cli.specs.Telling.{PrintingStops, TextEndsAs, TextIsTold, TextStopsBy};
 
@@ -18,12 +18,8 @@ use std::alloc::{AllocError, Global};
 /// Reads a file, and prints for each of its HDUs the sum of its data unit and the verdicts on
 /// DATASUM and CHECKSUM. No data unit is kept. The status is 0, whatever the verdicts.
 pub fn run_sum<F: Source, O: Sink>(alloc: Global, file: &mut F, out: &mut O) -> End
-    ensures { TextEndsAs Telling.Sums
-        (source (F.remaining file.old) (F.failures file.old))
-        (source (F.remaining file.new) (F.failures file.new))
-        (sink (O.contents out.old) (O.failures out.old) (O.unflushed out.old))
-        (sink (O.contents out.new) (O.failures out.new) (O.unflushed out.new))
-        result.status result.fault }
+    ensures { TextEndsAs Telling.Sums (F.state file.old) (F.state file.new)
+        (O.state out.old) (O.state out.new) result }
 {
     run_telling(alloc, Telling::Sums, file, out)
 }
@@ -31,16 +27,9 @@ pub fn run_sum<F: Source, O: Sink>(alloc: Global, file: &mut F, out: &mut O) -> 
 /// Reads a file, and prints the sums of each of its HDUs. The status is 0, whatever the verdicts.
 pub(crate) fn sum<F: Source, O: Sink>(alloc: Global, file: &mut F, out: &mut O) -> Result<u8, Fault>
     ensures ok { IfOk result (λ status. TextIsTold Telling.Sums
-        (source (F.remaining file.old) (F.failures file.old))
-        (source (F.remaining file.new) (F.failures file.new))
-        (sink (O.contents out.old) (O.failures out.old) (O.unflushed out.old))
-        (sink (O.contents out.new) (O.failures out.new) (O.unflushed out.new))
-        status) }
-    ensures err { IfErr result (TextStopsBy Telling.Sums
-        (source (F.remaining file.old) (F.failures file.old))
-        (source (F.remaining file.new) (F.failures file.new))
-        (sink (O.contents out.old) (O.failures out.old) (O.unflushed out.old))
-        (sink (O.contents out.new) (O.failures out.new) (O.unflushed out.new))) }
+        (F.state file.old) (F.state file.new) (O.state out.old) (O.state out.new) status) }
+    ensures err { IfErr result (TextStopsBy Telling.Sums (F.state file.old) (F.state file.new)
+        (O.state out.old) (O.state out.new)) }
 {
     let sums = sum_file(alloc, file)?;
     print_sums(alloc, &sums, out)?;
@@ -50,11 +39,9 @@ pub(crate) fn sum<F: Source, O: Sink>(alloc: Global, file: &mut F, out: &mut O) 
 // Prints the line of each HDU by its sums. Room for one line is taken.
 fn print_sums<O: Sink>(alloc: Global, sums: &[HduSums], out: &mut O) -> Result<(), Fault>
     ensures ok { OnOk result (Prints (summed_lines 1 sums.now)
-        (sink (O.contents out.old) (O.failures out.old) (O.unflushed out.old))
-        (sink (O.contents out.new) (O.failures out.new) (O.unflushed out.new))) }
+        (O.state out.old) (O.state out.new)) }
     ensures err { IfErr result (PrintingStops (summed_lines 1 sums.now)
-        (sink (O.contents out.old) (O.failures out.old) (O.unflushed out.old))
-        (sink (O.contents out.new) (O.failures out.new) (O.unflushed out.new))) }
+        (O.state out.old) (O.state out.new)) }
 {
     let mut line = Vec::new(alloc);
     for (i, it) in sums.iter().enumerate() {

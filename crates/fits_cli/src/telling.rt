@@ -1,6 +1,5 @@
 //! A run that prints a text of a file.
 ghost use Rattle.std.specs.Prelude.{IfOk, IfErr};
-ghost use Rattle.fits_cli.specs.Streams.{sink, source};
 ghost use Rattle.fits_cli.specs.Telling.{TextEndsAs, TextIsPrinted, TextIsTold, TextStopsBy};
 
 use crate::end::End;
@@ -31,12 +30,8 @@ pub(crate) fn run_telling<F: Source, O: Sink>(
     file: &mut F,
     out: &mut O,
 ) -> End
-    ensures { TextEndsAs telling
-        (source (F.remaining file.old) (F.failures file.old))
-        (source (F.remaining file.new) (F.failures file.new))
-        (sink (O.contents out.old) (O.failures out.old) (O.unflushed out.old))
-        (sink (O.contents out.new) (O.failures out.new) (O.unflushed out.new))
-        result.status result.fault }
+    ensures { TextEndsAs telling (F.state file.old) (F.state file.new)
+        (O.state out.old) (O.state out.new) result }
 {
     match tell(alloc, telling, file, out) {
         Ok(status) => End {
@@ -54,16 +49,10 @@ fn tell<F: Source, O: Sink>(
     file: &mut F,
     out: &mut O,
 ) -> Result<u8, Fault>
-    ensures ok { IfOk result (TextIsPrinted telling
-        (source (F.remaining file.old) (F.failures file.old))
-        (source (F.remaining file.new) (F.failures file.new))
-        (sink (O.contents out.old) (O.failures out.old) (O.unflushed out.old))
-        (sink (O.contents out.new) (O.failures out.new) (O.unflushed out.new))) }
-    ensures err { IfErr result (TextStopsBy telling
-        (source (F.remaining file.old) (F.failures file.old))
-        (source (F.remaining file.new) (F.failures file.new))
-        (sink (O.contents out.old) (O.failures out.old) (O.unflushed out.old))
-        (sink (O.contents out.new) (O.failures out.new) (O.unflushed out.new))) }
+    ensures ok { IfOk result (TextIsPrinted telling (F.state file.old) (F.state file.new)
+        (O.state out.old) (O.state out.new)) }
+    ensures err { IfErr result (TextStopsBy telling (F.state file.old) (F.state file.new)
+        (O.state out.old) (O.state out.new)) }
 {
     let status = print_text(alloc, telling, file, out)?;
     flush(out)?;
@@ -77,17 +66,10 @@ fn print_text<F: Source, O: Sink>(
     file: &mut F,
     out: &mut O,
 ) -> Result<u8, Fault>
-    ensures ok { IfOk result (λ status. TextIsTold telling
-        (source (F.remaining file.old) (F.failures file.old))
-        (source (F.remaining file.new) (F.failures file.new))
-        (sink (O.contents out.old) (O.failures out.old) (O.unflushed out.old))
-        (sink (O.contents out.new) (O.failures out.new) (O.unflushed out.new))
-        status) }
-    ensures err { IfErr result (TextStopsBy telling
-        (source (F.remaining file.old) (F.failures file.old))
-        (source (F.remaining file.new) (F.failures file.new))
-        (sink (O.contents out.old) (O.failures out.old) (O.unflushed out.old))
-        (sink (O.contents out.new) (O.failures out.new) (O.unflushed out.new))) }
+    ensures ok { IfOk result (λ status. TextIsTold telling (F.state file.old) (F.state file.new)
+        (O.state out.old) (O.state out.new) status) }
+    ensures err { IfErr result (TextStopsBy telling (F.state file.old) (F.state file.new)
+        (O.state out.old) (O.state out.new)) }
 {
     match telling {
         Telling::List => list(alloc, file, out),

@@ -1,7 +1,7 @@
 //! The run of `verify`: the report of a file.
 ghost use Rattle.std.specs.Prelude.{IfOk, IfErr, OnOk};
+ghost use Rattle.fits_card.specs.Stream.{Prints};
 ghost use Rattle.fits_cli.specs.Report.{listed_line, problem_lines, report_text};
-ghost use Rattle.fits_cli.specs.Streams.{sink, source, Prints};
 ghost use Rattle.fits_cli.specs.Telling.{PrintingStops, TextEndsAs, TextIsTold, TextStopsBy};
 
 use crate::end::End;
@@ -19,12 +19,8 @@ use std::alloc::Global;
 ///
 /// The status is 1 where an error is found, at whatever level.
 pub fn run_verify<F: Source, O: Sink>(alloc: Global, level: Level, file: &mut F, out: &mut O) -> End
-    ensures { TextEndsAs (Telling.Report level)
-        (source (F.remaining file.old) (F.failures file.old))
-        (source (F.remaining file.new) (F.failures file.new))
-        (sink (O.contents out.old) (O.failures out.old) (O.unflushed out.old))
-        (sink (O.contents out.new) (O.failures out.new) (O.unflushed out.new))
-        result.status result.fault }
+    ensures { TextEndsAs (Telling.Report level) (F.state file.old) (F.state file.new)
+        (O.state out.old) (O.state out.new) result }
 {
     run_telling(alloc, Telling::Report(level), file, out)
 }
@@ -37,16 +33,9 @@ pub(crate) fn verify<F: Source, O: Sink>(
     out: &mut O,
 ) -> Result<u8, Fault>
     ensures ok { IfOk result (λ status. TextIsTold (Telling.Report level)
-        (source (F.remaining file.old) (F.failures file.old))
-        (source (F.remaining file.new) (F.failures file.new))
-        (sink (O.contents out.old) (O.failures out.old) (O.unflushed out.old))
-        (sink (O.contents out.new) (O.failures out.new) (O.unflushed out.new))
-        status) }
+        (F.state file.old) (F.state file.new) (O.state out.old) (O.state out.new) status) }
     ensures err { IfErr result (TextStopsBy (Telling.Report level)
-        (source (F.remaining file.old) (F.failures file.old))
-        (source (F.remaining file.new) (F.failures file.new))
-        (sink (O.contents out.old) (O.failures out.old) (O.unflushed out.old))
-        (sink (O.contents out.new) (O.failures out.new) (O.unflushed out.new))) }
+        (F.state file.old) (F.state file.new) (O.state out.old) (O.state out.new)) }
 {
     let report = report_file(alloc, file)?;
     print_report(alloc, level, &report, out)?;
@@ -61,11 +50,9 @@ fn print_report<O: Sink>(
     out: &mut O,
 ) -> Result<(), Fault>
     ensures ok { OnOk result (Prints (report_text level report.now)
-        (sink (O.contents out.old) (O.failures out.old) (O.unflushed out.old))
-        (sink (O.contents out.new) (O.failures out.new) (O.unflushed out.new))) }
+        (O.state out.old) (O.state out.new)) }
     ensures err { IfErr result (PrintingStops (report_text level report.now)
-        (sink (O.contents out.old) (O.failures out.old) (O.unflushed out.old))
-        (sink (O.contents out.new) (O.failures out.new) (O.unflushed out.new))) }
+        (O.state out.old) (O.state out.new)) }
 {
     let mut line = Vec::new(alloc);
     for it in report {
@@ -84,12 +71,9 @@ fn print_problem<O: Sink>(
     line: &mut Vec<u8>,
     out: &mut O,
 ) -> Result<(), Fault>
-    ensures ok { OnOk result (Prints (listed_line level it)
-        (sink (O.contents out.old) (O.failures out.old) (O.unflushed out.old))
-        (sink (O.contents out.new) (O.failures out.new) (O.unflushed out.new))) }
+    ensures ok { OnOk result (Prints (listed_line level it) (O.state out.old) (O.state out.new)) }
     ensures err { IfErr result (PrintingStops (listed_line level it)
-        (sink (O.contents out.old) (O.failures out.old) (O.unflushed out.old))
-        (sink (O.contents out.new) (O.failures out.new) (O.unflushed out.new))) }
+        (O.state out.old) (O.state out.new)) }
 {
     line.clear();
     if level.lists(it.code) {

@@ -416,7 +416,7 @@ impl Hdu {
     /// Writes the header and then the data unit. Each card's read is counted.
     ///
     /// Where a call fails a prefix was written.
-    #[tactic(auto, using(crate::proofs::EmitLemmas::emit_steps))]
+    #[tactic(auto, using(fits_card::proofs::StreamLemmas::printing_steps))]
     pub fn emit<W: Sink>(&mut self, sink: &mut W) -> io::Result<()>
         ensures ok { OnOk result (Prints (hdu_bytes self.old.hdu)
             (W.state sink.old) (W.state sink.new)) }

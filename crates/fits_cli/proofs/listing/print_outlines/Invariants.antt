@@ -1,10 +1,10 @@
 use Rattle.std.proofs.Common.{◌≡◌, take}
 use Rattle.fits_cli.specs.Listing.{outlined_len, outlined_lines}
-use Rattle.fits_cli.specs.Streams.{sink, Prints}
+use Rattle.fits_card.specs.Stream.{Prints}
 use Rattle.fits_cli.proofs.listing.print_outlines.Given as goal
 
 abbrev pub invariant-loop-i : goal.invariant-loop-i
 invariant-loop-i g l = record {
   start : l.start ≡ outlined_len (take l.i l.outlines);
-  printed : Prints (outlined_lines 1 0 (take l.i l.outlines)) (sink (g.O.Sink.contents l.fn.out) (g.O.Sink.failures l.fn.out) (g.O.Sink.unflushed l.fn.out)) (sink (g.O.Sink.contents l.out) (g.O.Sink.failures l.out) (g.O.Sink.unflushed l.out));
+  printed : Prints (outlined_lines 1 0 (take l.i l.outlines)) (g.O.Sink.state l.fn.out) (g.O.Sink.state l.out);
 }

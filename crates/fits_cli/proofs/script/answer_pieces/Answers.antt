@@ -1,7 +1,6 @@
 use Rattle.std.proofs.Common.{◌≡◌, ◌++◌, [], take, length, refl, ap, arith, rules}
 use Rattle.std.proofs.lemmas.List.{length-append, length-take-le}
-use Rattle.fits_card.proofs.StreamLemmas.{Consumes-none, Consumes-more}
-use Rattle.fits_cli.specs.Streams.{source}
+use Rattle.fits_card.proofs.StreamLemmas.{Reads-none, Reads-more}
 use Rattle.fits_cli.proofs.ExitLemmas.{at_exit, last_err, last_ok}
 use Rattle.fits_cli.proofs.RunLemmas.{HasCome-none}
 use Rattle.fits_cli.proofs.ScriptLemmas.{ScriptReadFails-after, ScriptStops-piece, ScriptStops-over, ScriptStops-end, AnswersTooLong-over, AnswersScript-end}
@@ -10,7 +9,7 @@ use Rattle.fits_cli.proofs.script.answer_pieces.Goals as goal
 pub loop-n-init : goal.loop-n-init
 loop-n-init g c = record {
   came = [];
-  consumed = Consumes-none (g.S.Source.remaining c.args.script.now);
+  read = Reads-none (g.S.Source.state c.args.script.now);
   counted = refl;
   short = omega arith;
   has = rw c.requires.empty (HasCome-none c.args.runner.now _);
@@ -18,61 +17,60 @@ loop-n-init g c = record {
   wide = c.requires.wide;
   room = c.requires.room;
   within = let none : length c.args.line.now.items ≡ 0 = ap length c.requires.empty in omega (arith, none, c.args.line.now.ok.0);
-  quiet = refl;
 }
 
 pub returns-in_default-clause-err : goal.returns-in_default-clause-err
 returns-in_default-clause-err g c =
     let inv = c.loop-n.invariant in
-    ScriptReadFails-after _ (source (g.S.Source.remaining c.loop-n.script) (g.S.Source.failures c.loop-n.script)) _ inv.came c.loop-n.line.items c.args.runner.now c.loop-n.runner _ _
-    inv.consumed c.in_default.ensures.bytes (omega (arith, inv.counted, inv.short)) (search (arith, inv.quiet, c.in_default.ensures.failed)) inv.has
+    ScriptReadFails-after _ (g.S.Source.state c.loop-n.script) _ inv.came c.loop-n.line.items c.args.runner.now c.loop-n.runner _ _
+    inv.read c.in_default.ensures.err (omega (arith, inv.counted, inv.short)) inv.has
 
 pub returns-then-n-eq0-clause-err : goal.returns-then-n-eq0-clause-err
 returns-then-n-eq0-clause-err g c =
     let inv = c.loop-n.invariant in
     last_err _ (rw c.deref.ensures.value at c.answer_last_line.ensures.err)
-    (λ why stops. ScriptStops-end _ (source (g.S.Source.remaining c.loop-n.script) (g.S.Source.failures c.loop-n.script)) _ c.in-Ok.n inv.came c.read.new.buffer c.loop-n.line.items c.args.runner.now c.loop-n.runner _ _ _
-    why inv.consumed c.in-Ok.ensures.bytes.0 c.if-n-eq0.true (c.in-Ok.ensures.bytes.1 c.if-n-eq0.true (search rules)) (omega (arith, inv.counted, inv.short))
-    (search (arith, inv.quiet, c.in-Ok.ensures.failed)) inv.has stops)
+    (λ why stops. ScriptStops-end _ (g.S.Source.state c.loop-n.script) _ c.in-Ok.n inv.came c.read.new.buffer c.loop-n.line.items c.args.runner.now c.loop-n.runner _ _ _
+    why inv.read c.in-Ok.ensures.ok c.if-n-eq0.true (c.in-Ok.ensures.ends c.if-n-eq0.true (search rules)) (omega (arith, inv.counted, inv.short))
+    inv.has stops)
 
 pub returns-then-n-eq0-clause-ok : goal.returns-then-n-eq0-clause-ok
 returns-then-n-eq0-clause-ok g c =
     let inv = c.loop-n.invariant in
     last_ok _ (rw c.deref.ensures.value at c.answer_last_line.ensures.ok)
-    (λ ends. AnswersScript-end _ (source (g.S.Source.remaining c.loop-n.script) (g.S.Source.failures c.loop-n.script)) _ c.in-Ok.n inv.came c.read.new.buffer c.loop-n.line.items c.args.runner.now c.loop-n.runner _ _ _ _
-    inv.consumed c.in-Ok.ensures.bytes.0 c.if-n-eq0.true (c.in-Ok.ensures.bytes.1 c.if-n-eq0.true (search rules)) (omega (arith, inv.counted, inv.short))
-    (search (arith, inv.quiet, c.in-Ok.ensures.failed)) inv.has ends)
+    (λ ends. AnswersScript-end _ (g.S.Source.state c.loop-n.script) _ c.in-Ok.n inv.came c.read.new.buffer c.loop-n.line.items c.args.runner.now c.loop-n.runner _ _ _ _
+    inv.read c.in-Ok.ensures.ok c.if-n-eq0.true (c.in-Ok.ensures.ends c.if-n-eq0.true (search rules)) (omega (arith, inv.counted, inv.short))
+    inv.has ends)
 
 pub returns-in_err-answer_piece-clause-err : goal.returns-in_err-answer_piece-clause-err
 returns-in_err-answer_piece-clause-err g c =
     let inv = c.loop-n.invariant in
     at_exit _ _ _ c.from_residual.ensures.1
-    (ScriptStops-over _ (source (g.S.Source.remaining c.loop-n.script) (g.S.Source.failures c.loop-n.script)) _ c.in-Ok.n inv.came c.read.new.buffer c.loop-n.line.items c.args.runner.now c.loop-n.runner _ _ _
-    c.in_err-answer_piece.field-0.0 inv.consumed c.in-Ok.ensures.bytes.0 (omega (arith, inv.counted, inv.short)) (omega (arith, c.if-n-room.true, inv.counted)) (search rules)
-    (search (arith, inv.quiet, c.in-Ok.ensures.failed)) inv.has (rw (c.split_at.ensures.front, inv.counted) at c.in_err-answer_piece.ensures.err))
+    (ScriptStops-over _ (g.S.Source.state c.loop-n.script) _ c.in-Ok.n inv.came c.read.new.buffer c.loop-n.line.items c.args.runner.now c.loop-n.runner _ _ _
+    c.in_err-answer_piece.field-0.0 inv.read c.in-Ok.ensures.ok (omega (arith, inv.counted, inv.short)) (omega (arith, c.if-n-room.true, inv.counted)) (search rules)
+    inv.has (rw (c.split_at.ensures.front, inv.counted) at c.in_err-answer_piece.ensures.err))
 
 pub returns-then-n-room-clause-err : goal.returns-then-n-room-clause-err
 returns-then-n-room-clause-err g c =
     let inv = c.loop-n.invariant in
-    AnswersTooLong-over _ (source (g.S.Source.remaining c.loop-n.script) (g.S.Source.failures c.loop-n.script)) _ c.in-Ok.n inv.came c.read.new.buffer c.loop-n.line.items c.answer_piece.new.line.items
-    c.args.runner.now c.loop-n.runner c.answer_piece.new.runner _ _ _ inv.consumed c.in-Ok.ensures.bytes.0 (omega (arith, inv.counted, inv.short)) (omega (arith, c.if-n-room.true, inv.counted)) (search rules)
-    (search (arith, inv.quiet, c.in-Ok.ensures.failed)) inv.has (rw (c.split_at.ensures.front, inv.counted) at c.in_ok-answer_piece.ensures.ok)
+    AnswersTooLong-over _ (g.S.Source.state c.loop-n.script) _ c.in-Ok.n inv.came c.read.new.buffer c.loop-n.line.items c.answer_piece.new.line.items
+    c.args.runner.now c.loop-n.runner c.answer_piece.new.runner _ _ _ inv.read c.in-Ok.ensures.ok (omega (arith, inv.counted, inv.short)) (omega (arith, c.if-n-room.true, inv.counted)) (search rules)
+    inv.has (rw (c.split_at.ensures.front, inv.counted) at c.in_ok-answer_piece.ensures.ok)
 
 pub returns-in_err-answer_piece-2-clause-err : goal.returns-in_err-answer_piece-2-clause-err
 returns-in_err-answer_piece-2-clause-err g c =
     let inv = c.loop-n.invariant in
     let size : length (take c.in-Ok.n c.read.new.buffer) ≡ c.in-Ok.n = length-take-le c.in-Ok.n c.read.new.buffer (search rules) in
     at_exit _ _ _ c.from_residual-in_err-answer_piece-2.ensures.1
-    (ScriptStops-piece _ (source (g.S.Source.remaining c.loop-n.script) (g.S.Source.failures c.loop-n.script)) _ inv.came (take c.in-Ok.n c.read.new.buffer) c.loop-n.line.items c.args.runner.now c.loop-n.runner _ _ _
-    c.in_err-answer_piece-2.field-0.0 inv.consumed c.in-Ok.ensures.bytes.0 (omega (arith, c.if-n-room.false, inv.counted, inv.short, size))
-    (search (arith, inv.quiet, c.in-Ok.ensures.failed)) inv.has (rw c.split_at-in-loop-n.ensures.front at c.in_err-answer_piece-2.ensures.err))
+    (ScriptStops-piece _ (g.S.Source.state c.loop-n.script) _ inv.came (take c.in-Ok.n c.read.new.buffer) c.loop-n.line.items c.args.runner.now c.loop-n.runner _ _ _
+    c.in_err-answer_piece-2.field-0.0 inv.read c.in-Ok.ensures.ok (omega (arith, c.if-n-room.false, inv.counted, inv.short, size))
+    inv.has (rw c.split_at-in-loop-n.ensures.front at c.in_err-answer_piece-2.ensures.err))
 
 pub loop-n-preserved : goal.loop-n-preserved
 loop-n-preserved g c =
     let inv = c.loop-n.invariant in
     record {
       came = inv.came ++ take c.in-Ok.n c.read.new.buffer;
-      consumed = Consumes-more _ _ _ _ _ inv.consumed c.in-Ok.ensures.bytes.0;
+      read = Reads-more _ _ _ _ _ inv.read c.in-Ok.ensures.ok;
       counted = omega (arith, inv.counted, length-append inv.came (take c.in-Ok.n c.read.new.buffer), length-take-le c.in-Ok.n c.read.new.buffer (search rules));
       short = omega (arith, c.if-n-room.false, inv.short);
       has = (rw c.split_at-in-loop-n.ensures.front at c.in_ok-answer_piece-2.ensures.ok) inv.came c.args.runner.now _ inv.has;
@@ -80,5 +78,4 @@ loop-n-preserved g c =
       wide = omega (arith, inv.wide, c.read.auto.buffer);
       room = c.in_ok-answer_piece-2.ensures.room;
       within = c.in_ok-answer_piece-2.ensures.within;
-      quiet = search (arith, inv.quiet, c.in-Ok.ensures.failed);
     }
