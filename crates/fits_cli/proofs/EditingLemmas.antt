@@ -4,17 +4,23 @@ use Rattle.std.specs.Prelude.{nat_le, if◌then◌else◌, IfSome}
 use Rattle.std.specs.Result.{OnOk, IfErr, IsErrAnd}
 use Rattle.std.proofs.lemmas.Result.{err_from_is_err_and}
 use Rattle.std.specs.Io.KnownBytes.{Appends, Consumes, IsAtEnd}
-use Rattle.fits_card.specs.Intake.{Tells}
+use Rattle.fits_card.specs.Intake.{Gives, Tells}
 use Rattle.fits_card.specs.Stream.{SourceState, SinkState, FailsToFlush, Flushes, Prints, PrintsFront, Reads, StaysQuiet}
 use Rattle.fits_card.proofs.StreamLemmas.{Consumes-none}
 use Rattle.std.proofs.lemmas.List.{append-nil, take_all}
 use Rattle.fits_session.specs.File.{FileParts, file_bytes}
+use Rattle.fits_session.specs.Opening.{HasOpenFault}
+use Rattle.fits_session.specs.Reading.{ReadStops}
+use Rattle.fits_session.specs.declared.open_fault.OpenFault.{OpenFault}
+use Rattle.fits_session.specs.declared.open_fault.OpenFault.TheVariants.{NotFits, NoEnd, BadShape, ShortData, TooLarge, Memory as OpenMemory}
+use Rattle.fits_session.specs.declared.read_fault.ReadFileFault.{ReadFileFault}
+use Rattle.fits_session.specs.declared.read_fault.ReadFileFault.TheVariants.{Open, Failed}
 use Rattle.fits_cli.specs.Answer.{Standing, at_first_line}
-use Rattle.fits_cli.specs.Ends.{RunState, EndsBy, FlushesOrFails, Opens, HasLines, Succeeds, AnswersFail, StopsBy}
-use Rattle.fits_cli.specs.Faults.{PrintFails}
+use Rattle.fits_cli.specs.Ends.{RunState, EndsBy, FlushesOrFails, Opens, HasLines, IsRefused, Succeeds, AnswersFail, StopsBy}
+use Rattle.fits_cli.specs.Faults.{fault_of_file, PrintFails}
 use Rattle.fits_cli.specs.declared.limits.TheConstants.{SCRIPT_LIMIT}
 use Rattle.fits_cli.specs.Output.{Output, answers, standing_after, status_of, output_unopened, output_of_lines, output_too_long, IsOutputOf}
-use Rattle.fits_cli.specs.Running.{OpeningStops, AnswersScript, AnswersTooLong, NeedsMemoryAt, ScriptReadFails, ScriptWriteFails, ScriptStops, FlushesThen, FlushesAnswers}
+use Rattle.fits_cli.specs.Running.{AnswersScript, AnswersTooLong, NeedsMemoryAt, ScriptReadFails, ScriptWriteFails, ScriptStops, FlushesThen, FlushesAnswers}
 use Rattle.fits_cli.specs.Script.{script_lines}
 use Rattle.fits_cli.specs.declared.fault.Fault.{Fault}
 use Rattle.fits_cli.specs.declared.fault.Fault.TheVariants.{Refused, ScriptTooLong, Memory, ReadFailed, WriteFailed}
@@ -35,9 +41,9 @@ some_bytes source = some_known source.remaining
 Prints-same : (a b : SinkState) → b ≡ a → Prints [] a b
 Prints-same a b same = subst (λ (s : SinkState). Prints [] a s) (sym same) (Prints-none a)
 
--- a file that doesn't open: no other stream is touched
-pub StopsBy-opening : (old new : RunState) (fault : Fault) → new.script ≡ old.script → new.printed ≡ old.printed → new.saved ≡ old.saved → OpeningStops old.file new.file fault → StopsBy old new fault
-StopsBy-opening old new (Refused why) script printed saved stops = record {
+-- a file whose bytes don't open: no other stream is touched
+IsRefused-opening : (old new : RunState) (why : OpenFault) → new.script ≡ old.script → new.printed ≡ old.printed → new.saved ≡ old.saved → Gives old.file (λ bytes. HasOpenFault bytes why) × StaysQuiet old.file new.file → IsRefused old new (Refused why)
+IsRefused-opening old new why script printed saved stops = record {
   run =
       let other = some_bytes old.script in
       record {
@@ -57,14 +63,20 @@ StopsBy-opening old new (Refused why) script printed saved stops = record {
   printed = printed;
   saved = saved;
 }
-StopsBy-opening old new ScriptTooLong script printed saved stops = absurd stops
-StopsBy-opening old new Memory script printed saved stops = record {
+
+-- a file that isn't read
+pub StopsBy-opening : (old new : RunState) (why : ReadFileFault) → new.script ≡ old.script → new.printed ≡ old.printed → new.saved ≡ old.saved → ReadStops old.file new.file why → StopsBy old new (fault_of_file why)
+StopsBy-opening old new (Open NotFits) script printed saved stops = IsRefused-opening old new NotFits script printed saved stops
+StopsBy-opening old new (Open (NoEnd hdu)) script printed saved stops = IsRefused-opening old new (NoEnd hdu) script printed saved stops
+StopsBy-opening old new (Open (BadShape hdu place)) script printed saved stops = IsRefused-opening old new (BadShape hdu place) script printed saved stops
+StopsBy-opening old new (Open (ShortData hdu)) script printed saved stops = IsRefused-opening old new (ShortData hdu) script printed saved stops
+StopsBy-opening old new (Open TooLarge) script printed saved stops = IsRefused-opening old new TooLarge script printed saved stops
+StopsBy-opening old new (Open OpenMemory) script printed saved stops = record {
   read = record { of_file = stops; of_script = ap (λ (s : SourceState). s.failures) script };
   printed = inl (script, Prints-same old.printed new.printed printed);
   saved = saved;
 }
-StopsBy-opening old new ReadFailed script printed saved stops = inl (record { failed = stops; script = script; printed = printed; saved = saved })
-StopsBy-opening old new WriteFailed script printed saved stops = absurd stops
+StopsBy-opening old new Failed script printed saved stops = inl (record { failed = stops; script = script; printed = printed; saved = saved })
 
 -- what comes within a limit
 choice-within : (n limit : ℕ) (a b : Output) → n ≤ limit → a ≡ (if nat_le n limit then a else b)
@@ -76,12 +88,12 @@ choice-over n limit a b over = let test : nat_le n limit ≡ false = search rule
 
 -- the output of a script that is answered whole
 output_whole : (old new : SourceState) (file : SourceState) (parts : FileParts) (now : Standing) (held holds : SinkState) (opened : Opens file parts) (done : AnswersScript old new (at_first_line parts) now held holds)
-    → IsOutputOf opened.bytes done.script (output_of_lines parts (script_lines done.lines done.last))
+    → IsOutputOf opened.0 done.script (output_of_lines parts (script_lines done.lines done.last))
 output_whole old new file parts now held holds opened done = inr (record {
   parts = parts;
   lines = done.lines;
   last = done.last;
-  opens = opened.opens;
+  opens = opened.2;
   cut = rw (take_all SCRIPT_LIMIT done.script done.short) done.cut;
   is = choice-within (length done.script) SCRIPT_LIMIT (output_of_lines parts (script_lines done.lines done.last)) (output_too_long parts done.lines) done.short;
 })
@@ -152,16 +164,16 @@ StopsBy-too_long old new mid result fault parts is opened of_file saved long (in
     subst (λ (f : Fault). StopsBy old new f) (same_fault result ScriptTooLong fault flush.0 is)
     (record {
       run = record {
-        file = opened.bytes;
+        file = opened.0;
         script = long.script;
         output = output_too_long parts long.lines;
-        told_file = opened.told;
+        told_file = opened.1;
         told_script = long.told;
         is = inr (record {
           parts = parts;
           lines = long.lines;
           last = long.last;
-          opens = opened.opens;
+          opens = opened.2;
           cut = long.cut;
           is = choice-over (length long.script) SCRIPT_LIMIT (output_of_lines parts (script_lines long.lines long.last)) (output_too_long parts long.lines) long.long;
         });
@@ -330,10 +342,10 @@ StopsBy-saving old new fault parts now opened of_file flushed fails =
     subst (λ (f : Fault). StopsBy old new f) (sym fails.0)
     (inr (record {
       read = record { of_file = of_file; of_script = done.read.quiet };
-      file = opened.bytes;
+      file = opened.0;
       script = done.script;
       output = output_of_lines parts lines;
-      told_file = opened.told;
+      told_file = opened.1;
       told_script = script_told old.script new.script done.script done.read done.ended;
       is = output_whole old.script new.script old.file parts now old.printed flushed.mid opened done;
       whole = refl;
@@ -351,10 +363,10 @@ Succeeds-saved old new parts now opened of_file flushed saved flush =
     let lines : List (List ℕ) = script_lines done.lines done.last in
     record {
       run = record {
-        file = opened.bytes;
+        file = opened.0;
         script = done.script;
         output = output_of_lines parts lines;
-        told_file = opened.told;
+        told_file = opened.1;
         told_script = script_told old.script new.script done.script done.read done.ended;
         is = output_whole old.script new.script old.file parts now old.printed flushed.mid opened done;
         printed = Prints-flushed old.printed flushed.mid new.printed (answers (at_first_line parts) lines) done.answered.printed flushed.flush;

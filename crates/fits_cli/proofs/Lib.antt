@@ -7,7 +7,6 @@ pub mod FormLemmas
 pub mod ImageFormLemmas
 pub mod LinesLemmas
 pub mod ListingLemmas
-pub mod OpeningLemmas
 pub mod OutputLemmas
 pub mod PartsLemmas
 pub mod PixelAnswerLemmas

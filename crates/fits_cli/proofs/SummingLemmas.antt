@@ -1,5 +1,5 @@
 -- The run of `sum`: its lines as they are printed, from the sums that were found.
-use Rattle.std.proofs.Common.{◌≡◌, ℕ, ◌+◌, ◌<◌, List, [], ◌∷◌, ◌++◌, length, take, drop, get_or, refl, ap, sym, ◌∙◌, append_assoc, arith, Option}
+use Rattle.std.proofs.Common.{◌≡◌, ℕ, ◌+◌, ◌<◌, List, [], ◌∷◌, ◌++◌, length, take, drop, get_or, refl, ap, sym, ◌∙◌, append_assoc, arith}
 use Rattle.std.proofs.lemmas.List.{append-nil, take-append-drop, take_more, length-take-le}
 use Rattle.fits_card.specs.Intake.{Gives}
 use Rattle.fits_hdu.specs.Hdu.{HduParts}
@@ -13,7 +13,6 @@ use Rattle.fits_cli.specs.Telling.{PrintingStops, TextIsTold, TextStopsBy}
 use Rattle.fits_cli.specs.declared.fault.Fault.{Fault}
 use Rattle.fits_cli.specs.declared.fault.Fault.TheVariants.{Memory}
 use Rattle.fits_cli.specs.declared.telling.Telling.TheVariants as telling
-use Rattle.fits_cli.proofs.OpeningLemmas.{opens_given}
 use Rattle.fits_card.proofs.StreamLemmas.{Prints-more}
 use Rattle.fits_cli.proofs.TellingLemmas.{TextStopsBy-printing}
 use Rattle.fits_cli.proofs.VerifyingLemmas.{PrintingStops-longer, PrintingStops-more, PrintingStops-none}
@@ -85,11 +84,11 @@ pub summed : (file file_after : SourceState) (out out_after : SinkState) (sums :
     → TextIsTold telling.Sums file file_after out out_after 0
 summed file file_after out out_after sums given quiet printed =
     let parts : FileParts = given.2.0 in
-    record { parts = parts; opened = opens_given file parts (given.0, given.1, given.2.1); read = quiet; printed = rw (← summing-summed sums parts given.2.2) printed; status_is = refl }
+    record { parts = parts; opened = (given.0, given.1, given.2.1); read = quiet; printed = rw (← summing-summed sums parts given.2.2) printed; status_is = refl }
 
 -- or a prefix of them
 pub TextStopsBy-summing : (file file_after : SourceState) (out out_after : SinkState) (sums : List HduSums) (fault : Fault) → Gives file (AreSumsOfFile sums) → StaysQuiet file file_after → PrintingStops (summed_lines 1 sums) out out_after fault
     → TextStopsBy telling.Sums file file_after out out_after fault
 TextStopsBy-summing file file_after out out_after sums fault given quiet stops =
     let parts : FileParts = given.2.0 in
-    TextStopsBy-printing telling.Sums file file_after out out_after parts fault (opens_given file parts (given.0, given.1, given.2.1)) quiet (rw (← summing-summed sums parts given.2.2) stops)
+    TextStopsBy-printing telling.Sums file file_after out out_after parts fault (given.0, given.1, given.2.1) quiet (rw (← summing-summed sums parts given.2.2) stops)

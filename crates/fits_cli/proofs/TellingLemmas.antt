@@ -1,5 +1,5 @@
 -- A run that prints a text of a file, from the bytes that were read to its end.
-use Rattle.std.proofs.Common.{◌≡◌, ℕ, List, refl, sym, subst, inl, inr}
+use Rattle.std.proofs.Common.{◌≡◌, ℕ, List, refl, sym, subst, inr}
 use Rattle.fits_card.specs.Intake.{Gives}
 use Rattle.fits_hdu.specs.declared.outline.Outline.{Outline}
 use Rattle.fits_session.specs.File.{FileParts}
@@ -7,7 +7,6 @@ use Rattle.fits_session.specs.Reading.{IsOutlineOf}
 use Rattle.fits_cli.specs.Ends.{Opens}
 use Rattle.fits_cli.specs.Faults.{FlushFails}
 use Rattle.fits_cli.specs.Listing.{outlined_lines}
-use Rattle.fits_cli.specs.Running.{OpeningStops}
 use Rattle.fits_card.specs.Stream.{SourceState, SinkState, Flushes, Prints, StaysQuiet}
 use Rattle.fits_cli.specs.Telling.{text_of, PrintingStops, TextIsPrinted, TextIsTold, TextStopsBy}
 use Rattle.fits_cli.specs.declared.fault.Fault.{Fault}
@@ -15,16 +14,7 @@ use Rattle.fits_cli.specs.declared.fault.Fault.TheVariants.{Refused, ScriptTooLo
 use Rattle.fits_cli.specs.declared.telling.Telling.{Telling}
 use Rattle.fits_cli.specs.declared.telling.Telling.TheVariants as telling
 use Rattle.fits_cli.proofs.ListingLemmas.{listing-outlined}
-use Rattle.fits_cli.proofs.OpeningLemmas.{opens_given}
 use Rattle.fits_card.proofs.StreamLemmas.{Prints-flushed, PrintsFront-unflushed}
-
--- a file that doesn't open: nothing is printed
-pub TextStopsBy-opening : (kind : Telling) (file file_after : SourceState) (out : SinkState) (fault : Fault) → OpeningStops file file_after fault → TextStopsBy kind file file_after out out fault
-TextStopsBy-opening kind file file_after out (Refused why) stops = record { bytes = stops.0.0; told = stops.0.1; fails = stops.0.2; read = stops.1; printed = refl }
-TextStopsBy-opening kind file file_after out ScriptTooLong stops = absurd stops
-TextStopsBy-opening kind file file_after out Memory stops = record { read = stops; quiet = refl; printed = inl refl }
-TextStopsBy-opening kind file file_after out ReadFailed stops = record { failed = stops; printed = refl }
-TextStopsBy-opening kind file file_after out WriteFailed stops = absurd stops
 
 -- a text that isn't printed to its end
 pub TextStopsBy-printing : (kind : Telling) (file file_after : SourceState) (out out_after : SinkState) (parts : FileParts) (fault : Fault) → Opens file parts → file_after.failures ≡ file.failures
@@ -56,11 +46,11 @@ TextIsPrinted-flushed kind file file_after out mid out_after status told flush =
 pub listed : (file file_after : SourceState) (out out_after : SinkState) (outlines : List Outline) → Gives file (IsOutlineOf outlines) → StaysQuiet file file_after → Prints (outlined_lines 1 0 outlines) out out_after → TextIsTold telling.List file file_after out out_after 0
 listed file file_after out out_after outlines given quiet printed =
     let parts : FileParts = given.2.0 in
-    record { parts = parts; opened = opens_given file parts (given.0, given.1, given.2.1); read = quiet; printed = rw (← listing-outlined outlines given.0 parts given.2.1 given.2.2) printed; status_is = refl }
+    record { parts = parts; opened = (given.0, given.1, given.2.1); read = quiet; printed = rw (← listing-outlined outlines given.0 parts given.2.1 given.2.2) printed; status_is = refl }
 
 -- or a prefix of it
 pub TextStopsBy-listing : (file file_after : SourceState) (out out_after : SinkState) (outlines : List Outline) (fault : Fault) → Gives file (IsOutlineOf outlines) → StaysQuiet file file_after → PrintingStops (outlined_lines 1 0 outlines) out out_after fault → TextStopsBy telling.List file file_after out out_after fault
 TextStopsBy-listing file file_after out out_after outlines fault given quiet stops =
     let parts : FileParts = given.2.0 in
-    TextStopsBy-printing telling.List file file_after out out_after parts fault (opens_given file parts (given.0, given.1, given.2.1)) quiet
+    TextStopsBy-printing telling.List file file_after out out_after parts fault (given.0, given.1, given.2.1) quiet
     (rw (← listing-outlined outlines given.0 parts given.2.1 given.2.2) stops)

@@ -1,5 +1,5 @@
 -- The run of `verify`: its lines as they are printed, from the problems that were found.
-use Rattle.std.proofs.Common.{◌≡◌, ℕ, ◌+◌, ◌<◌, ◌≤◌, List, [], ◌++◌, length, take, drop, get_or, refl, ap, sym, subst, ◌∙◌, Option}
+use Rattle.std.proofs.Common.{◌≡◌, ℕ, ◌+◌, ◌<◌, ◌≤◌, List, [], ◌++◌, length, take, drop, get_or, refl, ap, sym, subst, ◌∙◌}
 use Rattle.std.proofs.lemmas.List.{take_all}
 use Rattle.fits_card.specs.Intake.{Gives}
 use Rattle.fits_card.proofs.StreamLemmas.{Appends-none}
@@ -14,7 +14,6 @@ use Rattle.fits_cli.specs.declared.fault.Fault.{Fault}
 use Rattle.fits_cli.specs.declared.fault.Fault.TheVariants.{Refused, ScriptTooLong, Memory, ReadFailed, WriteFailed}
 use Rattle.fits_cli.specs.declared.level.Level.{Level}
 use Rattle.fits_cli.specs.declared.telling.Telling.TheVariants as telling
-use Rattle.fits_cli.proofs.OpeningLemmas.{opens_given}
 use Rattle.fits_cli.proofs.ReportLemmas.{lines-more, lines-split}
 use Rattle.fits_card.proofs.StreamLemmas.{Prints-more, PrintsFront-more, PrintsFront-longer, AppendsFront-more, AppendsFront-longer, AppendsFront-whole}
 use Rattle.fits_cli.proofs.TellingLemmas.{TextStopsBy-printing}
@@ -79,11 +78,11 @@ pub reported : (file file_after : SourceState) (out out_after : SinkState) (leve
     → TextIsTold (telling.Report level) file file_after out out_after (status_of_report report)
 reported file file_after out out_after level report given quiet printed =
     let parts : FileParts = given.2.file in
-    record { parts = parts; opened = opens_given file parts (given.0, given.1, given.2.opened); read = quiet; printed = rw (← given.2.all) printed; status_is = ap status_of_report given.2.all }
+    record { parts = parts; opened = (given.0, given.1, given.2.opened); read = quiet; printed = rw (← given.2.all) printed; status_is = ap status_of_report given.2.all }
 
 -- or a prefix of it
 pub TextStopsBy-report : (file file_after : SourceState) (out out_after : SinkState) (level : Level) (report : List Problem) (fault : Fault) → Gives file (IsReportOf report) → StaysQuiet file file_after → PrintingStops (report_text level report) out out_after fault
     → TextStopsBy (telling.Report level) file file_after out out_after fault
 TextStopsBy-report file file_after out out_after level report fault given quiet stops =
     let parts : FileParts = given.2.file in
-    TextStopsBy-printing (telling.Report level) file file_after out out_after parts fault (opens_given file parts (given.0, given.1, given.2.opened)) quiet (rw (← given.2.all) stops)
+    TextStopsBy-printing (telling.Report level) file file_after out out_after parts fault (given.0, given.1, given.2.opened) quiet (rw (← given.2.all) stops)

@@ -1,7 +1,7 @@
 -- How a run of `edit` ends: what was printed and saved, and what stood before a fault (own).
 use Rattle.std.specs.Prelude.{◌≡◌, ◌⊎◌, ℕ, ◌+◌, ◌≤◌, List, [], ◌∷◌, ◌++◌, length, take, Option, Some, None, Result, Ok, Err, MatchOption}
 use Rattle.std.specs.Io.KnownBytes.{Appends, Consumes, IsAtEnd}
-use Rattle.fits_card.specs.Intake.{Tells}
+use Rattle.fits_card.specs.Intake.{Gives, Tells}
 use Rattle.fits_card.specs.Stream.{SourceState, SinkState, FailsOnce, Prints, PrintsFront, StaysQuiet}
 use Rattle.fits_session.specs.File.{FileParts, IsFileOf}
 use Rattle.fits_cli.specs.Answer.{at_first_line, LineNeedsMemory}
@@ -31,10 +31,8 @@ pub record ReadsWell (old new : RunState) : Type 0 where
   pub of_script : StaysQuiet old.script new.script
 
 -- the file's bytes are these parts
-pub record Opens (old : SourceState) (parts : FileParts) : Type 0 where
-  pub bytes : List ℕ
-  pub told : Tells old bytes
-  pub opens : IsFileOf bytes parts
+abbrev pub Opens : SourceState → FileParts → Type 0
+Opens old parts = Gives old (λ bytes. IsFileOf bytes parts)
 
 -- what was read of a script, as far as its limit, and the whole lines of that
 pub record CameTo (old new : SourceState) (lines : List (List ℕ)) (last : List ℕ) : Type 0 where

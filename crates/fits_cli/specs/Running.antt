@@ -1,7 +1,7 @@
 -- What private functions of a run keep to: how far a script has come.
 use Rattle.std.specs.Prelude.{◌≡◌, ◌⊎◌, ℕ, ◌+◌, ◌<◌, ◌≤◌, List, ◌∷◌, ◌++◌, length, take, Result, Ok, Err}
 use Rattle.std.specs.Io.KnownBytes.{IsAtEnd}
-use Rattle.fits_card.specs.Intake.{Gives, Tells}
+use Rattle.fits_card.specs.Intake.{Tells}
 use Rattle.fits_cli.specs.Answer.{Standing, line_answer, line_left, LineNeedsMemory}
 use Rattle.fits_cli.specs.Ends.{CameTo, HasLines}
 use Rattle.fits_cli.specs.declared.limits.TheConstants.{LINE_LIMIT, SCRIPT_LIMIT}
@@ -9,18 +9,8 @@ use Rattle.fits_cli.specs.Line.{reading_of}
 use Rattle.fits_cli.specs.Output.{answers, standing_after}
 use Rattle.fits_cli.specs.Script.{IsCutInLines, script_lines}
 use Rattle.fits_card.specs.Stream.{SourceState, SinkState, FailsOnce, FailsToFlush, Flushes, Prints, PrintsFront, Reads, StaysQuiet}
-use Rattle.fits_session.specs.Opening.{HasOpenFault}
 use Rattle.fits_cli.specs.declared.fault.Fault.{Fault}
 use Rattle.fits_cli.specs.declared.fault.Fault.TheVariants.{Refused, ScriptTooLong, Memory, ReadFailed, WriteFailed}
-
--- why a file wasn't opened: its bytes don't open, memory was refused, or a read failed
-abbrev pub OpeningStops : SourceState → SourceState → Fault → Type 0
-OpeningStops old new (Refused why) =
-    Gives old (λ bytes. HasOpenFault bytes why) × StaysQuiet old new
-OpeningStops old new ScriptTooLong = ⊥
-OpeningStops old new Memory = StaysQuiet old new
-OpeningStops old new ReadFailed = FailsOnce old new
-OpeningStops old new WriteFailed = ⊥
 
 -- one line is answered, and things stand as after it
 pub record AnswersLine (line : List ℕ) (before now : Standing) (held holds : SinkState) : Type 0 where

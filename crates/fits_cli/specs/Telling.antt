@@ -1,6 +1,6 @@
 -- How a run ends that prints a text of a file, as `list`, `sum` and `verify` do (own).
-use Rattle.std.specs.Prelude.{◌≡◌, ◌⊎◌, ℕ, ◌+◌, List, MatchOption}
-use Rattle.fits_card.specs.Intake.{Tells}
+use Rattle.std.specs.Prelude.{◌≡◌, ◌⊎◌, ℕ, List, MatchOption}
+use Rattle.fits_card.specs.Intake.{Gives}
 use Rattle.fits_card.specs.Stream.{AppendsFront, SourceState, SinkState, FailsOnce, Prints, PrintsFront, StaysQuiet}
 use Rattle.fits_session.specs.File.{FileParts}
 use Rattle.fits_session.specs.Opening.{HasOpenFault}
@@ -48,9 +48,7 @@ pub record TextIsTold (kind : Telling) (file file_after : SourceState) (out out_
 
 -- the file doesn't open: nothing is printed
 pub record TextIsRefused (file file_after : SourceState) (out out_after : SinkState) (why : OpenFault) : Type 0 where
-  pub bytes : List ℕ
-  pub told : Tells file bytes
-  pub fails : HasOpenFault bytes why
+  pub fails : Gives file (λ bytes. HasOpenFault bytes why)
   pub read : StaysQuiet file file_after
   pub printed : out_after ≡ out
 

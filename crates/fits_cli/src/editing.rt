@@ -4,11 +4,11 @@ ghost use Rattle.fits_cli.specs.Running.{FlushesAnswers};
 
 use crate::end::End;
 use crate::fault::Fault;
-use crate::opening::open_file;
 use crate::printing::flush;
 use crate::runner::Runner;
 use crate::script::answer_script;
 use fits_card::{Sink, Source};
+use fits_session::Session;
 use std::alloc::Global;
 
 /// Reads a file and opens it, answers a script, and saves what the script made of the file.
@@ -49,7 +49,7 @@ fn edit<F: Source, S: Source, P: Sink, O: Sink>(
         (run (F.state file.new) (S.state script.new) (O.state out.new) (P.state saved.new))
         result }
 {
-    let mut runner = Runner::new(open_file(alloc, file)?);
+    let mut runner = Runner::new(Session::read(alloc, file)?);
     let answered = answer_script(alloc, &mut runner, script, out);
     flush_answers(answered, out)?;
     runner.save(saved)?;

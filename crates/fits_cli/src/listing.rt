@@ -8,14 +8,13 @@ ghost use Rattle.fits_cli.specs.Telling.{PrintingStops, TextEndsAs, TextIsTold, 
 use crate::answer::push_offsets;
 use crate::end::End;
 use crate::fault::Fault;
-use crate::opening::outline_file;
 use crate::printing::print;
 use crate::pushing::push_text;
 use crate::telling::{Telling, run_telling};
 use fits_card::{Sink, Source};
 use fits_hdu::Outline;
 use fits_rules::{Class, Shape};
-use fits_session::HduOffsets;
+use fits_session::{HduOffsets, read_outlines};
 use std::alloc::{AllocError, Global};
 
 /// Reads a file, and prints a line for each of its HDUs. No data unit is kept.
@@ -37,7 +36,7 @@ pub(crate) fn list<F: Source, O: Sink>(
     ensures err { IfErr result (TextStopsBy Telling.List (F.state file.old) (F.state file.new)
         (O.state out.old) (O.state out.new)) }
 {
-    let outlines = outline_file(alloc, file)?;
+    let outlines = read_outlines(alloc, file)?;
     print_outlines(alloc, &outlines, out)?;
     Ok(0)
 }

@@ -6,13 +6,13 @@ ghost use Rattle.fits_cli.specs.Telling.{PrintingStops, TextEndsAs, TextIsTold, 
 
 use crate::end::End;
 use crate::fault::Fault;
-use crate::opening::sum_file;
 use crate::pixel_lines::verdict_text;
 use crate::printing::print;
 use crate::pushing::push_text;
 use crate::telling::{Telling, run_telling};
 use fits_card::{Sink, Source};
 use fits_hdu::HduSums;
+use fits_session::read_sums;
 use std::alloc::{AllocError, Global};
 
 /// Reads a file, and prints for each of its HDUs the sum of its data unit and the verdicts on
@@ -31,7 +31,7 @@ pub(crate) fn sum<F: Source, O: Sink>(alloc: Global, file: &mut F, out: &mut O) 
     ensures err { IfErr result (TextStopsBy Telling.Sums (F.state file.old) (F.state file.new)
         (O.state out.old) (O.state out.new)) }
 {
-    let sums = sum_file(alloc, file)?;
+    let sums = read_sums(alloc, file)?;
     print_sums(alloc, &sums, out)?;
     Ok(0)
 }

@@ -24,7 +24,7 @@ pub enum Telling {
 }
 
 /// Reads a file, opens it, and prints a text of it.
-pub(crate) fn run_telling<F: Source, O: Sink>(
+pub fn run_telling<F: Source, O: Sink>(
     alloc: Global,
     telling: Telling,
     file: &mut F,

@@ -7,12 +7,11 @@ ghost use Rattle.fits_cli.specs.Telling.{PrintingStops, TextEndsAs, TextIsTold, 
 use crate::end::End;
 use crate::fault::Fault;
 use crate::level::Level;
-use crate::opening::report_file;
 use crate::printing::print;
 use crate::report_text::{push_closing_line, push_problem, status_of_report};
 use crate::telling::{Telling, run_telling};
 use fits_card::{Sink, Source};
-use fits_session::Problem;
+use fits_session::{Problem, read_report};
 use std::alloc::Global;
 
 /// Reads a file, and prints what is wrong with it. No data unit is kept.
@@ -37,7 +36,7 @@ pub(crate) fn verify<F: Source, O: Sink>(
     ensures err { IfErr result (TextStopsBy (Telling.Report level)
         (F.state file.old) (F.state file.new) (O.state out.old) (O.state out.new)) }
 {
-    let report = report_file(alloc, file)?;
+    let report = read_report(alloc, file)?;
     print_report(alloc, level, &report, out)?;
     Ok(status_of_report(&report))
 }

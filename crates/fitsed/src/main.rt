@@ -7,7 +7,7 @@ use arguments::{Task, command, task_of};
 use clap::Error;
 use clap::error::ErrorKind;
 use fits_card::Watched;
-use fits_cli::{End, Fault, LazyFile, Telling, run_edit, run_list, run_sum, run_verify};
+use fits_cli::{End, Fault, LazyFile, Telling, run_edit, run_telling};
 use std::alloc::AllocError;
 use std::io::BufWriter;
 use std::process::ExitCode;
@@ -68,13 +68,12 @@ fn tell<R: Files + Print + AllocGlobal>(rt: &R, from: &str, telling: Telling) ->
     let Ok(out) = BufWriter::new(rt.alloc(), io::writer(rt)) else {
         return End::from(Fault::Memory);
     };
-    let mut file = Watched::new(file);
-    let mut out = Watched::new(out);
-    match telling {
-        Telling::List => run_list(rt.alloc(), &mut file, &mut out),
-        Telling::Sums => run_sum(rt.alloc(), &mut file, &mut out),
-        Telling::Report(level) => run_verify(rt.alloc(), level, &mut file, &mut out),
-    }
+    run_telling(
+        rt.alloc(),
+        telling,
+        &mut Watched::new(file),
+        &mut Watched::new(out),
+    )
 }
 
 // Reports a fault on standard error, and gives its status.
