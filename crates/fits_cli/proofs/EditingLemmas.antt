@@ -191,10 +191,6 @@ StopsBy-too_long old new mid result fault parts is opened of_file saved long (in
     (inl (AnswersFail-flush old new mid parts long.lines [] long.lines of_file long.quiet saved opened
     (record { whole = long.lines; last = long.last; reached = long.reached; are = inl refl }) (sym (append-nil long.lines)) long.printed flush.1))
 
--- nothing is printed, and that can't be flushed
-unprinted : (a b c : SinkState) → b ≡ a → FailsToFlush b c → PrintsFront [] a c
-unprinted a b c same failed = PrintsFront-unflushed a b c [] (Prints-same a b same) failed
-
 -- before the first line
 no_lines : (old new : SourceState) → new ≡ old → HasLines old new []
 no_lines old new same = record {

@@ -1,6 +1,6 @@
 -- Queries of pixels and sums as their commands.
 use Rattle.std.proofs.Common.{◌≡◌, ℕ, List, Bool, refl, ap, ◌∙◌, Option, None, Some, Result, Ok, Err}
-use Rattle.std.specs.Prelude.{ℤ, ok_or}
+use Rattle.std.specs.Prelude.{ok_or}
 use Rattle.fits_hdu.specs.Hdu.{HduParts}
 use Rattle.fits_hdu.specs.Pixels.{stats_of}
 use Rattle.fits_hdu.specs.declared.pixel_fault.PixelFault.TheVariants as pixel
@@ -14,7 +14,6 @@ use Rattle.fits_session.specs.Query.{by_shape, datasum_in, in_hdu, rect_in, stat
 use Rattle.fits_session.specs.declared.refusal.Refusal.{Refusal}
 use Rattle.fits_session.specs.declared.refusal.Refusal.TheVariants.{NoHdu, NoCard, NoKey, BadText, EndCard, Shape as OtherShape, BadName, BadValue, NotImage, BadRect, WrongCount, Range, PrimaryStays, TooLarge, Memory}
 use Rattle.fits_cli.specs.Answer.{outcome_of, OutcomeNeedsMemory, CommandFails}
-use Rattle.fits_cli.specs.PixelLines.{values_line}
 use Rattle.fits_cli.specs.declared.command.Command.{Command}
 use Rattle.fits_cli.specs.declared.command.Command.TheVariants as command
 
@@ -82,12 +81,6 @@ rectangle_fails file h lo hi TooLarge e = rw e refl
 -- the same, where the corners that were asked for are the command's
 pub rectangle_of_corners_fails : (file : FileParts) (h : ℕ) (los his lo hi : List ℕ) (why : Refusal) → los ≡ lo → his ≡ hi → QueryFails (rect_in file h los his) why → CommandFails file (command.Rectangle h lo hi) why
 rectangle_of_corners_fails file h los his lo hi why a b p = rw (← a, ← b) (rectangle_fails file h los his why p)
-
--- a rectangle that was asked for is printed, and the file stays
-pub rectangle_told : (file now : FileParts) (h : ℕ) (los his lo hi line : List ℕ) (values : List ℤ) → los ≡ lo → his ≡ hi → rect_in file h los his ≡ Ok values → line ≡ values_line values → now ≡ file
-    → outcome_of file (command.Rectangle h lo hi) ≡ Ok (record { text = line; file = now })
-unfolding outcome_of
-rectangle_told file now h los his lo hi line values a b found printed stays = rw (← a, ← b, found, printed, stays) refl
 
 -- the sum of an HDU, if it is there, never fails by memory
 there_memory : {X : Type 0} (answer : HduParts → X) (hdu : Option HduParts) → in_hdu (λ hdu. Ok (answer hdu)) hdu ≡ Err Memory → ⊥

@@ -1,6 +1,6 @@
 -- The kind of an image.
 use Rattle.std.proofs.Common.{◌≡◌, inl, inr, ℕ, true, ℤ, pos, List, refl, sym, ap, ◌∙◌, Option, None, Some}
-use Rattle.std.specs.Prelude.{IsTrue, ◌↔◌, is_none, codes, IfSome, IfNone}
+use Rattle.std.specs.Prelude.{IsTrue, ◌↔◌, is_none, codes}
 use Rattle.std.specs.Cmp.{both_ways}
 use Rattle.std.specs.Option.{option_map}
 use Rattle.std.proofs.lemmas.Bool.{false≢true, and_parts, and_from, or_cases, or_left, or_right}
@@ -70,15 +70,3 @@ pub one_kind : (shape : Shape) (cards : List (List ℕ)) (k j : Kind) → IsKind
 one_kind shape cards k j p q =
     let some : Option.Some k ≡ Some j = sym ((kind_is shape cards k).0 p) ∙ (kind_is shape cards j).0 q in
     (cc)
-
--- the kind that was found
-pub kind_found : (shape : Shape) (cards : List (List ℕ)) (o : Option Kind) → o ≡ kind_in shape cards → IfSome o (IsKind shape cards)
-kind_found shape cards None e = tt
-kind_found shape cards (Some kind) e = (kind_is shape cards kind).1 (sym e)
-
--- or there is no image
-pub kind_missing : (shape : Shape) (cards : List (List ℕ)) (o : Option Kind) → o ≡ kind_in shape cards → IfNone o (image_bits shape ≡ None)
-kind_missing shape cards None e = (kind_is_none shape cards).0 (sym e)
-kind_missing shape cards (Some kind) e = tt
-
-pub ruleset kind_steps = (kind_found, kind_missing)

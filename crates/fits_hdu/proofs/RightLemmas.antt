@@ -89,5 +89,3 @@ stamped_sum primary hdu p =
     ap hdu_sum (sym is)
     ∙ (ap (λ (fill : List ℕ). ones_complement (word_total ((joined_cards c.header.cards ++ (b.header.end ++ fill)) ++ b.data_unit))) fill
     ∙ (ap (λ cards. ones_complement (word_total ((joined_cards cards ++ end) ++ b.data_unit))) w.is ∙ sums))
-
-pub ruleset right_steps = (text_sums, stamped_sum)

@@ -398,5 +398,3 @@ lead_card_is cards name = elim (leads name cards) [
       let w = s.1 in
       ap (option_and_then (card_at cards)) (place_there name cards s.0 w) ∙ (got cards s.0 w.card w.others w.parts ∙ sym (ap (option_map (λ (f : From). f.0)) w.found))
 ]
-
-pub ruleset setting_steps = (set_is)

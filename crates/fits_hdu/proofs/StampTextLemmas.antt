@@ -209,5 +209,3 @@ plain_valued name text size valued =
 -- its text goes on nowhere
 pub plain_ends : (text : List ℕ) → IsPlain text → ends_in_ampersand text ≡ false
 plain_ends text p = false_from_ne_true (ends_in_ampersand text) (λ e. plain_closed text p (ampersand_told text e))
-
-pub ruleset text_steps = (plain_written, zeros_plain, text_plain, decimal_plain, plain_string, plain_valued, plain_ends, plain_named)

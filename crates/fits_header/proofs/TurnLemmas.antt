@@ -120,10 +120,6 @@ turn-end cards ss i name o rest end = sym (no_lead name) ∙ (ap (λ ss. lead_ca
 
 pub ruleset turn_steps = (turn-end)
 
--- the cards before a splice
-before_splice : (cards : List (List ℕ)) (place : ℕ) → cards_within cards 1 place ≡ take (place - 1) cards
-before_splice cards place = refl
-
 -- all cards from a place on
 to_end : (cards : List (List ℕ)) (from k : ℕ) → from ≡ k + 1 → cards_within cards from (length cards + 1) ≡ drop k cards
 to_end cards from k is =

@@ -1,24 +1,15 @@
 -- What the pixels of a rectangle are given.
 use Rattle.std.proofs.Common.{◌≡◌, ◌<◌, ◌≤◌, ◌+◌, ◌-◌, ◌∙◌, ◌-ℤ◌, ℕ, ℤ, pos, true, List, length, get_or, take, drop, ap, arith, subst, sym}
 use Rattle.std.proofs.lemmas.Bool.{eqb-true}
-use Rattle.fits_plane.specs.Paint.{painted_number, has_count, can_store_paint, HasValues}
-use Rattle.fits_plane.specs.Pixels.{IsStorable}
+use Rattle.fits_plane.specs.Paint.{painted_number, has_count, HasValues}
 use Rattle.fits_plane.specs.declared.paint.Paint.{Paint}
 use Rattle.fits_plane.specs.declared.paint.Paint.TheVariants.{Fill, Write}
-use Rattle.fits_plane.proofs.TestLemmas.{can_store_decides, can_store_all_decides}
 use Rattle.fits_plane.proofs.WriteLemmas.{Part, part_of}
 
 -- where there is a value for each of some pixels, there is one for each of fewer
 pub has_values : (paint : Paint) (size count : ℕ) → has_count paint size ≡ true → count ≤ size → HasValues paint count
 has_values (Fill value) size count e h = tt
 has_values (Write values) size count e h = let long : length values ≡ size = eqb-true _ _ e in omega (arith, h, long)
-
--- what pixels can store, each of them can
-pub stores_each : (width : ℕ) (offset : ℤ) (paint : Paint) (size : ℕ) → can_store_paint width offset paint ≡ true → has_count paint size ≡ true → (k : ℕ) → k < size → IsStorable width (painted_number paint offset k)
-stores_each width offset (Fill value) size can e k b = (can_store_decides width (value -ℤ offset)).0 can
-stores_each width offset (Write values) size can e k b =
-    let long : length values ≡ size = eqb-true _ _ e in
-    (can_store_all_decides width offset values).0 can k (omega (arith, b, long))
 
 -- the values of a row are a part of those written
 pub written_part : (paint : Paint) (values slice : List ℤ) (at n : ℕ) → paint ≡ Write values → slice ≡ values → HasValues paint (at + n) → Part slice at n (take (at + n - at) (drop at slice))

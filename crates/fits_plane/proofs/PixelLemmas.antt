@@ -1,7 +1,6 @@
 -- Pixels of a list of bytes: of a part of it, and after a write.
-use Rattle.std.proofs.Common.{◌≡◌, ◌≤◌, ◌<◌, ◌+◌, ◌-◌, ◌*◌, ◌^◌, ◌%◌, ℕ, zero, suc, Bool, false, ◌==◌, List, [], ◌∷◌, ◌++◌, length, slice_index, get_or, take, drop, refl, arith, sym, ◌∙◌, ap, ℤ, FitsSigned, pos, subst, ◌⊎◌, ◌≢◌, inl, inr, cond}
+use Rattle.std.proofs.Common.{◌≡◌, ◌≤◌, ◌<◌, ◌+◌, ◌-◌, ◌*◌, ◌^◌, ◌%◌, ℕ, zero, suc, Bool, false, ◌==◌, List, [], ◌∷◌, ◌++◌, length, slice_index, take, drop, refl, arith, sym, ◌∙◌, ap, ℤ, FitsSigned, pos, subst, ◌⊎◌, ◌≢◌, inl, inr, cond}
 use Rattle.std.proofs.lemmas.Bool.Decides.{nat_tests}
-use Rattle.std.proofs.lemmas.Bool.{cases_lt}
 use Rattle.std.proofs.lemmas.List.{append-nil, get_or-drop, get_or-take, get_or_append_left, get_or-append_right, length-take, length-drop, length-append}
 use Rattle.std.proofs.Math.Nat.{mul-le-mul_right}
 use borrow.Rule.Slice.PartMut.{put_mid, post_of}
@@ -62,12 +61,6 @@ pub length-pixels : (w a n : ℕ) (xs : List ℕ) → length (pixels w xs a n) �
 length-pixels w a zero xs = refl
 length-pixels w a (suc n) xs = ap suc (length-pixels w (a + 1) n xs)
 
--- the pixel at a place of the list
-pub get_or-pixels : (w a n i : ℕ) (d : ℤ) (xs : List ℕ) → i < n → get_or (pixels w xs a n) i d ≡ pixel w xs (a + i)
-get_or-pixels w a zero i d xs h = absurd (omega arith)
-get_or-pixels w a (suc n) zero d xs h = let e : a + 0 ≡ a = omega arith in ap (pixel w xs) (sym e)
-get_or-pixels w a (suc n) (suc i) d xs h = let e : a + suc i ≡ a + 1 + i = omega arith in get_or-pixels w (a + 1) n i d xs (omega arith) ∙ ap (pixel w xs) (sym e)
-
 -- the pixels of a part of the bytes, which begins at a pixel
 pub pixels-part : (w p size n at : ℕ) (xs : List ℕ) → at ≡ p * w → n * w ≤ size → pixels w (take size (drop at xs)) 0 n ≡ pixels w xs p n
 pixels-part w p size n at xs e h = pixels-same w 0 p n (take size (drop at xs)) xs (λ x b.
@@ -115,15 +108,6 @@ pixel-put w i bits old new h =
     let long = length-bytes_high_first w bits in
     ap (stored_number w) (big_from-same (i * w) 0 w new (big_bytes w bits) (λ k b. let z : k ≡ 0 + k = omega arith in h.inside k (omega (arith, long)) ∙ ap (slice_index (big_bytes w bits)) z)
     ∙ (let e = append-nil (big_bytes w bits) in ap (big_from 0 w) (sym e)) ∙ big_from-bytes w bits [])
-
--- each other pixel is as before
-pub pixel-put_other : (w i j bits : ℕ) (old new : List ℕ) → IsPut (i * w) (big_bytes w bits) old new → j ≢ i → pixel w new j ≡ pixel w old j
-pixel-put_other w i j bits old new h ne =
-    let long = length-bytes_high_first w bits in
-    pixel-same w j j new old (λ k b. elim (cases_lt j i) [
-      | inl lt ↦ let more = mul-le-mul_right w lt in h.before (j * w + k) (omega (arith, more))
-      | inr ge ↦ let gt : i + 1 ≤ j = omega (arith, ge, ne) in let more = mul-le-mul_right w gt in h.after (j * w + k) (omega (arith, more, long))
-    ])
 
 -- at other widths than 1 the number is signed
 pub stored_wide : (w bits : ℕ) → w ≢ 1 → stored_number w bits ≡ twos_complement w bits

@@ -39,12 +39,6 @@ rectangle_size-le-product (a ∷ axs) (l ∷ ls) (h ∷ hs) r =
     omega (arith, rest, more)
 rectangle_size-le-product _ _ _ r = elim r [ ]
 
--- a row is no longer than the rectangle is large
-pub row_size-le-size : (axs ls hs : List ℕ) → IsRectangle axs ls hs → row_size ls hs ≤ rectangle_size ls hs
-row_size-le-size [] [] [] r = omega arith
-row_size-le-size (a ∷ axs) (l ∷ ls) (h ∷ hs) r = let more = mul-le-mul_left (h + 1 - l) (rectangle_size_some axs ls hs r.3) in omega (arith, more)
-row_size-le-size _ _ _ r = elim r [ ]
-
 -- the rectangle's size by its rows
 pub rows_are : (axs ls hs : List ℕ) → IsRectangle axs ls hs → rectangle_size ls hs / row_size ls hs ≡ row_count ls hs
 rows_are axs ls hs r = ap (λ m. m / row_size ls hs) (rectangle_size-rows ls hs) ∙ mul-div_cancel_left (row_count ls hs) (row_size_some axs ls hs r)

@@ -29,10 +29,6 @@ pub record Scanned (b : Option ℤ) (top bottom low high sum : ℤ) (blanks : �
   pub total : sum +ℤ sum_of (defined_numbers b rest) ≡ sum_of (defined_numbers b all)
   pub counted : blanks + length (filter (is_blank b) rest) ≡ length (filter (is_blank b) all)
 
--- before the first number
-pub scanned_start : (b : Option ℤ) (top bottom : ℤ) (all : List ℤ) → Scanned b top bottom top bottom (pos 0) 0 all all
-scanned_start b top bottom all = record { least = refl; greatest = refl; total = omega (arith, ints); counted = omega arith }
-
 -- a number more that is defined
 pub scanned_defined : {b : Option ℤ} {top bottom low high sum : ℤ} {blanks : ℕ} {x : ℤ} {rest all : List ℤ} → is_blank b x ≡ false
     → Scanned b top bottom low high sum blanks (x ∷ rest) all → Scanned b top bottom (int_min low x) (int_max high x) (sum +ℤ x) blanks rest all

@@ -71,14 +71,6 @@ turn axes lo hi i start stride left whole target h r w s f =
 pub room_whole : (a l h : ℕ) (axs ls hs : List ℕ) (start stride left whole target : ℕ) → Turn a l h axs ls hs start stride left whole target → 1 ≤ stride → a ≤ whole
 room_whole a l h axs ls hs start stride left whole target t p = let more = mul-le-mul_left a p in omega (arith, t.stride_fits, more)
 
--- past the last axis nothing is left
-pub turn_end : (axes lo hi : List ℕ) (i left : ℕ) → length axes ≤ i → place (drop i axes) (drop i lo) (drop i hi) left ≡ 0
-turn_end axes lo hi i left h = nothing (drop i axes) (drop i lo) (drop i hi) left (omega (arith, length-drop i axes))
-  where
-    nothing : (axs ls hs : List ℕ) (left : ℕ) → length axs ≡ 0 → place axs ls hs left ≡ 0
-    nothing [] ls hs left e = refl
-    nothing (a ∷ axs) ls hs left e = absurd (omega arith)
-
 -- what one axis with its corners gives to the size
 pub record Side (l h : ℕ) (axs ls hs : List ℕ) (size all : ℕ) : Type 0 where
   pub side : l ≤ h + 1

@@ -51,10 +51,6 @@ pub record RowsWritten (w : ℕ) (axes lo hi : List ℕ) (side row : ℕ) (value
   pub done : (i : ℕ) → i < product axes → is_inside axes lo hi i ≡ true → number axes lo hi i < row * side → pixel w new i ≡ value (number axes lo hi i)
   pub outside : (j : ℕ) → ((i : ℕ) → i < product axes → is_inside axes lo hi i ≡ true → number axes lo hi i < row * side → i ≢ j / w) → slice_index new j ≡ slice_index old j
 
--- before the first row
-pub none_written : (w : ℕ) (axes lo hi : List ℕ) (side : ℕ) (value : ℕ → ℤ) (old : List ℕ) → RowsWritten w axes lo hi side 0 value old old
-none_written w axes lo hi side value old = record { long = refl; done = λ i b e small. absurd (omega (arith, small)); outside = λ j h. refl }
-
 -- a pixel past the bytes that were written is as before
 pub pixel_away : (w first side i : ℕ) (cur new : List ℕ) → ((j : ℕ) → (j < first * w) ⊎ ((first + side) * w ≤ j) → slice_index new j ≡ slice_index cur j)
     → (i < first) ⊎ (first + side ≤ i) → pixel w new i ≡ pixel w cur i

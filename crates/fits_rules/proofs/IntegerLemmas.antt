@@ -119,10 +119,6 @@ pub ruleset bitpix_steps = (bitpix_here, bitpix_other, bitpix_nothing, bitpix_la
 limit_fits : (limit n : ℕ) → limit ≤ 9223372036854775807 → leb n limit ≡ true → has_64_bits (pos n) ≡ true
 limit_fits limit n small holds = let within = leb-true n limit holds in grind (arith, nat_tests)
 
--- a number up to a limit, where it is said
-pub number_here : (limit n : ℕ) (o : Option ℤ) → n ≤ limit → Number (pos n) ≡ in_64_bits o → Some n ≡ option_and_then (up_to limit) o
-number_here limit n o within e = sym (ap (option_and_then (up_to limit)) (number_is o (pos n) e) ∙ cond-true (leb n limit) (Some n) None (grind (arith, nat_tests)))
-
 -- where none is
 pub number_nothing : (limit : ℕ) (o : Option ℤ) → Nothing ≡ in_64_bits o → None ≡ option_and_then (up_to limit) o
 number_nothing limit o e = sym (ap (option_and_then (up_to limit)) (nothing_is o e))

@@ -111,11 +111,6 @@ hdu_small hdus old tail i hdu same file l e =
 all_counted : (names : List (Option ExtensionName)) (hdus : List HduState) (i : ℕ) → length hdus ≤ i → counts_in (wrong_from names 1 (take i (hdus_of hdus))) ≡ counts_in (wrong_from names 1 (hdus_of hdus))
 all_counted names hdus i l = ap (λ us. counts_in (wrong_from names 1 us)) (take_all i (hdus_of hdus) (omega (arith, l, length-hdus_of hdus)))
 
--- all of them are small
-pub all_small : (hdus : List HduState) (tail : List ℕ) (i : ℕ) (now : Counts) → IsFile (file_of (state_of hdus tail)) → length hdus ≤ i → now.errors + now.warnings ≤ length (joined_hdus (take i (hdus_of hdus))) → now.errors + now.warnings < 2 ^ 34
-all_small hdus tail i now file l so_far =
-    omega (arith, so_far, ap (λ us. length (joined_hdus us)) (take_all i (hdus_of hdus) (omega (arith, l, length-hdus_of hdus))), file_size hdus tail file)
-
 -- the counts of the report where no bytes follow the last HDU
 pub counts_alone : (hdus : List HduState) (tail : List ℕ) (i : ℕ) (now : Counts) → length hdus ≤ i → now ≡ counts_in (wrong_from (names_from 1 (hdus_of hdus)) 1 (take i (hdus_of hdus))) → is_followed tail ≡ false → now ≡ counts_in (report_of (file_of (state_of hdus tail)))
 unfolding report_of

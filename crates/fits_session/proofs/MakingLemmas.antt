@@ -136,10 +136,6 @@ makes_not made NeedsMemory reads Works bytes hdus old new why whole same least m
 pub kept_made : (primary : Bool) (hdu : HduParts) (change : Change) → keeps_shape primary hdu.header.cards (cards_after hdu.header.cards change) ≡ true → hdu_changed primary hdu (Ok change) ≡ Ok (hdu_after change hdu)
 kept_made primary hdu change kept = rw kept refl
 
--- and another nothing
-pub unkept_made : (primary : Bool) (hdu : HduParts) (change : Change) → keeps_shape primary hdu.header.cards (cards_after hdu.header.cards change) ≡ false → hdu_changed primary hdu (Ok change) ≡ Err refusal.Shape
-unkept_made primary hdu change kept = rw kept refl
-
 -- its cards describe the shape that those before do
 kept_shape : (primary : Bool) (hdu : HduParts) (change : Change) (whole : IsHdu primary hdu) → keeps_shape primary hdu.header.cards (cards_after hdu.header.cards change) ≡ true → shape_of primary (cards_after hdu.header.cards change) ≡ Ok whole.shape
 kept_shape primary hdu change whole kept = (same_shape-Decides whole.shape (shape_of primary (cards_after hdu.header.cards change))).0 (rw whole.described at kept)

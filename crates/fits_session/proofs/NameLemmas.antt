@@ -1,15 +1,13 @@
 -- What HDUs are called, and which of them are called the same.
 use Rattle.std.proofs.Common.{◌≡◌, ◌⊎◌, ℕ, ◌+◌, ◌<◌, ◌≤◌, Bool, true, false, cond, true≢false, is_some, List, [], ◌∷◌, ◌++◌, length, take, get_or, refl, ap, sym, subst, ◌∙◌, arith, inl, inr, Option, None, Some, zero, suc}
 use Rattle.std.specs.Prelude.{nat_le, ◌&&◌, Ok}
-use Rattle.std.specs.Bool.{Decides}
 use Rattle.std.specs.List.{filter, slice_get}
-use Rattle.std.specs.Map.{lookup}
 use Rattle.std.specs.Ordering.{int_eq}
 use Rattle.std.specs.Str.{bytes_eq}
 use Rattle.std.proofs.lemmas.Bool.Decides.{Decides-int_eq}
 use Rattle.std.proofs.lemmas.Slice.Eq.{bytes_eq-Decides}
 use Rattle.std.proofs.lemmas.Option.{slice_get_read}
-use Rattle.std.proofs.lemmas.List.{length-take-le, map-append, take_all, take_more}
+use Rattle.std.proofs.lemmas.List.{length-take-le, map-append, take_more}
 use Rattle.indexmap.specs.IndexMap.{get, IndexMap, Updates}
 use Rattle.fits_rules.specs.Class.{is_primary}
 use Rattle.fits_rules.specs.Shape.{shape_of}
@@ -47,10 +45,6 @@ same_name name other p =
 pub name_itself : (name : ExtensionName) → is_same_name name name ≡ true
 name_itself name =
     rw ((Decides-int_eq name.extver name.extver).1 refl, (bytes_eq-Decides name.xtension name.xtension).1 refl, (bytes_eq-Decides name.extname name.extname).1 refl) refl
-
--- so it is told whether they are equal
-pub name_Decides : (name other : ExtensionName) → Decides (is_same_name name other) (name ≡ other)
-name_Decides name other = (same_name name other, λ e. ap (is_same_name name) (sym e) ∙ name_itself name)
 
 -- one more, if the first is
 count_called : (name : ExtensionName) (first : Option ExtensionName) (names : List (Option ExtensionName)) → is_called name first ≡ true → called_count name (first ∷ names) ≡ suc (called_count name names)
@@ -253,25 +247,11 @@ count_pushed name names last is = omega (arith, called_count-append name names (
 pub count_kept : (name : ExtensionName) (names : List (Option ExtensionName)) (last : Option ExtensionName) → is_called name last ≡ false → called_count name (names ++ last ∷ []) ≡ called_count name names
 count_kept name names last is = omega (arith, called_count-append name names (last ∷ []), count_other name last [] is)
 
--- no more are called so than there are
-pub count_within : (name : ExtensionName) (names : List (Option ExtensionName)) → called_count name names ≤ length names
-count_within name [] = omega arith
-count_within name (first ∷ names) =
-    let more = count_within name names in
-    elim (first_or name first) [
-      | inl is ↦ omega (arith, more, count_called name first names is)
-      | inr not ↦ omega (arith, more, count_other name first names not)
-    ]
-
 -- what a table says of a name that one more has
 said_more : (count : ℕ) → said_of (suc count) ≡ Some (is_some (said_of count))
 said_more zero = refl
 said_more (suc zero) = refl
 said_more (suc (suc count)) = refl
-
--- an empty table tells of no names
-pub table_none : {S : Type 0} (table : IndexMap ExtensionName Bool S) → table.entries ≡ [] → TellsOf [] table
-table_none table none name = ap (λ es. lookup (is_same_name name) es) none
 
 -- a name is another, or it isn't
 same_or : (name other : ExtensionName) → (is_same_name name other ≡ true) ⊎ (is_same_name name other ≡ false)
@@ -360,11 +340,6 @@ names_from-append h (u ∷ us) vs =
     let number : h + 1 + length us ≡ h + length (u ∷ us) = omega arith in
     ap (λ names. name_in h u ∷ names) (names_from-append (h + 1) us vs ∙ ap (λ n. names_from (h + 1) us ++ names_from n vs) number)
 
--- there are as many names as HDUs
-length-names_from : (h : ℕ) (us : List HduParts) → length (names_from h us) ≡ length us
-length-names_from h [] = refl
-length-names_from h (u ∷ us) = ap suc (length-names_from (h + 1) us)
-
 -- what an HDU under edits is called
 pub named_there : (hdus : List HduState) (tail : List ℕ) (i : ℕ) (hdu : HduState) → IsFile (file_of (state_of hdus tail)) → i < length hdus → hdu ≡ get_or hdus i hdu → shape_of (is_primary hdu.shape.class) hdu.hdu.header.cards ≡ Ok hdu.shape
     → extension_name (is_primary hdu.shape.class) hdu.hdu.header.cards ≡ name_in (i + 1) hdu.hdu
@@ -392,10 +367,6 @@ pub counted_other : (hdus : List HduState) (tail : List ℕ) (i count : ℕ) (hd
 counted_other hdus tail i count hdu name said file l e described named not so_far =
     let is : is_called name (name_in (i + 1) hdu.hdu) ≡ false = ap (is_called name) (sym (named ∙ named_there hdus tail i hdu file l e described)) ∙ not in
     so_far ∙ sym (count_kept name (names_from 1 (take i (hdus_of hdus))) (name_in (i + 1) hdu.hdu) is) ∙ sym (ap (called_count name) (named_more hdus i hdu l e))
-
--- of all of them
-pub counted_all : (hdus : List HduState) (i : ℕ) (name : ExtensionName) → length hdus ≤ i → called_count name (names_from 1 (take i (hdus_of hdus))) ≡ called_count name (names_from 1 (hdus_of hdus))
-counted_all hdus i name l = ap (λ us. called_count name (names_from 1 us)) (take_all i (hdus_of hdus) (omega (arith, l, length-hdus_of hdus)))
 
 -- one HDU stands at an index
 one_there : (hdus : List HduState) (i : ℕ) (hdu seen : HduState) → i < length hdus → hdu ≡ get_or hdus i hdu → seen ≡ get_or hdus i seen → seen ≡ hdu

@@ -30,7 +30,6 @@ use Rattle.fits_session.specs.Session.{file_of, read_more, state_of, Asks, AsksP
 use Rattle.fits_session.specs.Work.{reads_in, value_reads}
 use Rattle.fits_session.specs.declared.refusal.Refusal.{Refusal}
 use Rattle.fits_session.specs.declared.refusal.Refusal.TheVariants as refusal
-use Rattle.fits_session.proofs.ReportLemmas.{hdus_stay}
 use Rattle.fits_session.proofs.StateLemmas.{IsHduAt, hdu_of-there, described_there, asked, file_of-same, reads_of-same, works_changed}
 
 -- how many cards HDU h has
@@ -146,10 +145,6 @@ rect_asks hdus tail h i count old new at is = record {
   work = reads_of-same hdus i old new at.index.within at.is (ap (λ (state : HduState). state.reads) is);
   pixel_work = works_changed hdus h i old new (read_more count) at (ap (λ (state : HduState). state.pixel_work) is);
 }
-
--- a query that leaves its HDU leaves the session
-pub session_stays : (hdus : List HduState) (tail : List ℕ) (h i : ℕ) (old new : HduState) → IsHduAt hdus h i old → new ≡ old → state_of (set hdus i new) tail ≡ state_of hdus tail
-session_stays hdus tail h i old new at is = ap (λ (us : List HduState). state_of us tail) (hdus_stay hdus hdus i old new refl at.index.within at.is is)
 
 -- the places of a name
 pub places_there : (hdus : List HduState) (tail : List ℕ) (h i : ℕ) (hdu : HduState) (name places : List ℕ) → IsHduAt hdus h i hdu → places ≡ keyword_places hdu.hdu.header.cards name → positions_in (file_of (state_of hdus tail)) h name ≡ Ok places

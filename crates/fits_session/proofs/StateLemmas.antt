@@ -61,10 +61,6 @@ stays_file hdus tail h i len old new at p file e =
 pub length-hdus_of : (hdus : List HduState) → length (hdus_of hdus) ≡ length hdus
 length-hdus_of hdus = length-map hdus (λ (one : HduState). one.hdu)
 
--- and as many counts
-pub length-reads_of : (hdus : List HduState) → length (reads_of hdus) ≡ length hdus
-length-reads_of hdus = length-map hdus (λ (one : HduState). one.reads)
-
 -- the parts of an HDU at an index
 pub slice_get-hdus_of : (hdus : List HduState) (i : ℕ) (hdu : HduState) → i < length hdus → hdu ≡ get_or hdus i hdu → slice_get (hdus_of hdus) i ≡ Some hdu.hdu
 slice_get-hdus_of hdus i hdu l e =

@@ -17,34 +17,10 @@ use Rattle.fits_value.specs.Chaining.{next_link, JoinsTo}
 abbrev pub Link : Type 0
 Link = List ℕ × Option (List ℕ)
 
--- where a text ends in no ampersand, nothing is joined to it
-joined-closed : (text : List ℕ) (comment : Option (List ℕ)) (links : List Link) → ends_in_ampersand text ≡ false → joined text comment links ≡ (text, comment)
-joined-closed text comment [] e = refl
-joined-closed text comment (link ∷ links) e = cond-false (ends_in_ampersand text) _ _ e
-
--- and it goes on in no link
-links_after-closed : (text : List ℕ) (links : List Link) → ends_in_ampersand text ≡ false → links_after text links ≡ 0
-links_after-closed text [] e = refl
-links_after-closed text (link ∷ links) e = cond-false (ends_in_ampersand text) _ _ e
-
 -- what is known of the cards that a text is before, where no link continues it
 pub record Ends (text : List ℕ) (comment : Option (List ℕ)) (cards : List (List ℕ)) : Type 0 where
   pub whole : joined text comment (links_of cards) ≡ (text, comment)
   pub links : links_after text (links_of cards) ≡ 0
-
--- nothing is joined to a text that no link continues
-pub next_none : (text : List ℕ) (comment : Option (List ℕ)) (cards : List (List ℕ)) → next_link text cards ≡ None → Ends text comment cards
-next_none text comment [] e = record { whole = refl; links = refl }
-next_none text comment (card ∷ cards) e = elim (chosen (ends_in_ampersand text) (link_says card) None None e) [
-  | inl w ↦ record {
-    whole = ap (λ (o : Option Link). joined text comment (link_before o (links_of cards))) w.1;
-    links = ap (λ (o : Option Link). links_after text (link_before o (links_of cards))) w.1;
-  }
-  | inr w ↦ record {
-    whole = joined-closed text comment (links_of (card ∷ cards)) w.0;
-    links = links_after-closed text (links_of (card ∷ cards)) w.0;
-  }
-]
 
 -- what is known of the cards that a text is before, where a link continues it
 record GoesOn (text : List ℕ) (comment : Option (List ℕ)) (link : Link) (cards rest : List (List ℕ)) : Type 0 where

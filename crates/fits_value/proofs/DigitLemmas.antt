@@ -65,12 +65,6 @@ drop_digits zero ds a = a
 drop_digits (suc n) [] a = a
 drop_digits (suc n) (d ∷ ds) a = drop_digits n ds (and_parts (is_digit d) _ a).1
 
--- what is taken of digits is digits
-pub take_digits : (n : ℕ) (ds : List ℕ) → IsDigits ds → IsTrue (list_all is_digit (take n ds))
-take_digits zero ds a = refl
-take_digits (suc n) [] a = a
-take_digits (suc n) (d ∷ ds) a = let b = and_parts (is_digit d) _ a in and_from _ _ b.0 (take_digits n ds b.1)
-
 -- a number has one quotient and rest
 pub unique : (a m p v : ℕ) → v < p → a * p + v ≡ m * p → (a ≡ m) × (v ≡ 0)
 unique a m p v lt e = elim (cases_order a m) [

@@ -301,16 +301,6 @@ one_denoted text m n v w =
     let e : v.size ≡ w.size = cancel v.size w.size (length v.back + lowered v.power) (sym v.exact ∙ s.1) in
     v.value ∙ (ap (λ (z : ℕ). signed v.negative z) e ∙ sym s.0)
 
--- a power that lowers raises nothing
-pub raised-minus : (n : ℕ) → raised (signed true n) ≡ 0
-raised-minus zero = refl
-raised-minus (suc n) = refl
-
--- by its digits
-pub lowered-minus : (n : ℕ) → lowered (signed true n) ≡ n
-lowered-minus zero = refl
-lowered-minus (suc n) = refl
-
 -- exactness of 0
 pub exact_zero : (front back : List ℕ) (power : ℤ) (number : ℕ) → number ≡ 0 → (value_of (front ++ back) ≡ 0) ↔ IsExactly front back power number
 exact_zero front back power number z = zero_times (value_of (front ++ back)) (raised power) (length back + lowered power) number z

@@ -1,7 +1,7 @@
 -- The pieces of a long string.
-use Rattle.std.proofs.Common.{◌≡◌, ◌⊎◌, ℕ, zero, suc, ◌<◌, ◌≤◌, ◌+◌, ◌-◌, false, cond, eqb, leb, List, [], ◌∷◌, ◌++◌, length, take, drop, replicate, get_or, Option, None, refl, sym, ◌∙◌, ap, arith, inl, inr, append_assoc, length-append}
+use Rattle.std.proofs.Common.{◌≡◌, ◌⊎◌, ℕ, zero, suc, ◌<◌, ◌≤◌, ◌+◌, ◌-◌, cond, eqb, leb, List, [], ◌∷◌, ◌++◌, length, take, drop, replicate, get_or, Option, None, refl, sym, ◌∙◌, ap, arith, inl, inr, append_assoc, length-append}
 use Rattle.std.proofs.lemmas.List.{take-append-drop, length-take-le, length-drop, length-replicate, drop_more, drop_all}
-use Rattle.std.proofs.lemmas.Bool.{cases_Bool, cond-true, cond-false, cond_both, leb-true, leb-false, eq-eqb}
+use Rattle.std.proofs.lemmas.Bool.{cases_Bool, cond-true, cond-false, cond_both, leb-true, leb-false}
 use Rattle.fits_card.specs.Card.{card_of_text}
 use Rattle.fits_value.proofs.QuoteLemmas.{doubled-other, doubled-quote}
 use Rattle.fits_value.specs.Spelling.{doubled}
@@ -140,22 +140,6 @@ open_size text =
 pub card_size : (text : List ℕ) → length text ≤ 80 → length (card_of_text text) ≡ 80
 card_size text h = omega (arith, length-append text (replicate (80 - length text) 32), length-replicate {A = ℕ} (80 - length text) 32)
 
--- and more where it has more
-pub card_longer : (text : List ℕ) → 80 < length text → 80 < length (card_of_text text)
-card_longer text h = omega (arith, length-append text (replicate (80 - length text) 32))
-
--- the loop's step over a quote
-pub double_quote : (s v whole : List ℕ) (i : ℕ) → i < length s → get_or s i 0 ≡ 39 → v ++ doubled (drop i s) ≡ whole → (v ++ 39 ∷ 39 ∷ []) ++ doubled (drop (i + 1) s) ≡ whole
-double_quote s v whole i h e inv =
-    let cut : doubled (drop i s) ≡ 39 ∷ 39 ∷ doubled (drop (i + 1) s) = ap doubled (drop_more s i 0 h) ∙ doubled-quote (get_or s i 0) (drop (i + 1) s) (eq-eqb (get_or s i 0) 39 e) in
-    append_assoc v (39 ∷ 39 ∷ []) (doubled (drop (i + 1) s)) ∙ (ap (λ (x : List ℕ). v ++ x) (sym cut) ∙ inv)
-
--- the loop's step over another character
-pub double_other : (s v whole : List ℕ) (i : ℕ) → i < length s → eqb (get_or s i 0) 39 ≡ false → v ++ doubled (drop i s) ≡ whole → (v ++ get_or s i 0 ∷ []) ++ doubled (drop (i + 1) s) ≡ whole
-double_other s v whole i h e inv =
-    let cut : doubled (drop i s) ≡ get_or s i 0 ∷ doubled (drop (i + 1) s) = ap doubled (drop_more s i 0 h) ∙ doubled-other (get_or s i 0) (drop (i + 1) s) e in
-    append_assoc v (get_or s i 0 ∷ []) (doubled (drop (i + 1) s)) ∙ (ap (λ (x : List ℕ). v ++ x) (sym cut) ∙ inv)
-
 -- a step that does not fit
 pub double_over : (s v w : List ℕ) (i room n : ℕ) → i < length s → n ≤ width (get_or s i 0) → v ++ doubled (drop i s) ≡ w ++ doubled s → room < length v + n → room < length w + length (doubled s)
 double_over s v w i room n h wide inv over =
@@ -173,13 +157,6 @@ quoted_parts s t = ap (λ (x : List ℕ). 39 ∷ (x ++ 39 ∷ [])) (doubled_appe
 -- and its size
 pub quoted_length : (s t : List ℕ) → length (quoted (s ++ t)) ≡ 2 + (length (doubled s) + length (doubled t))
 quoted_length s t = omega (arith, quoted_size (s ++ t), ap length (doubled_append s t), length-append (doubled s) (doubled t))
-
--- the loop's step over a character that fits
-pub fit_more : (s : List ℕ) (i room w whole : ℕ) → i < length s → w ≡ width (get_or s i 0) → w ≤ room → i + fitting room (drop i s) ≡ whole → i + 1 + fitting (room - w) (drop (i + 1) s) ≡ whole
-fit_more s i room w whole h e f inv =
-    let cut : fitting room (drop i s) ≡ suc (fitting (room - width (get_or s i 0)) (drop (i + 1) s)) = ap (fitting room) (drop_more s i 0 h) ∙ fitting_next room (get_or s i 0) (drop (i + 1) s) (omega (arith, e, f)) in
-    let same : fitting (room - w) (drop (i + 1) s) ≡ fitting (room - width (get_or s i 0)) (drop (i + 1) s) = ap (λ (n : ℕ). fitting (room - n) (drop (i + 1) s)) e in
-    omega (arith, cut, same, inv)
 
 -- one that does not fit ends the piece
 pub fit_stop : (s : List ℕ) (i room w whole : ℕ) → i < length s → w ≡ width (get_or s i 0) → room < w → i + fitting room (drop i s) ≡ whole → i ≡ whole
@@ -214,8 +191,3 @@ pub piece_step : (lead rest : List ℕ) (comment : Option (List ℕ)) (cards who
     → (cards ++ card_of lead (quoted (take (fitting 67 rest) rest ++ 38 ∷ [])) None ∷ []) ++ cards_of_string continue_lead (length (drop (fitting 67 rest) rest)) (drop (fitting 67 rest) rest) comment ≡ whole
 piece_step lead rest comment cards whole h inv =
     append_assoc cards (card_of lead (quoted (take (fitting 67 rest) rest ++ 38 ∷ [])) None ∷ []) _ ∙ (ap (λ (x : List (List ℕ)). cards ++ x) (sym (string_more lead rest comment h)) ∙ inv)
-
--- and over the last one
-pub piece_last : (lead rest : List ℕ) (comment : Option (List ℕ)) (cards whole : List (List ℕ)) → length (doubled rest) ≤ 68 → cards ++ cards_of_string lead (length rest) rest comment ≡ whole
-    → cards ++ card_of lead (quoted rest) comment ∷ [] ≡ whole
-piece_last lead rest comment cards whole h inv = ap (λ (x : List (List ℕ)). cards ++ x) (sym (string_end lead rest comment h)) ∙ inv

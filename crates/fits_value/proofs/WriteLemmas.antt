@@ -59,27 +59,6 @@ fit_step lead rest back comment k left whole size e f h i inv =
     let others : List (List ℕ) = cards_of_string continue_lead (length after) after comment in
     rw (f, e) (sym (first_fits (card_of lead (quoted (take (fitting 67 rest) rest ++ 38 ∷ [])) None) others (piece_size lead rest size)) ∙ (sym cut ∙ inv))
 
--- the last piece fits with its comment
-pub last_fits : (lead rest card : List ℕ) (comment : Option (List ℕ)) (left : ℕ) (whole : Bool) → left ≤ 68 → left ≡ length (doubled rest) → all_fit (cards_of_string lead (length rest) rest comment) ≡ whole
-    → card ≡ card_of lead (quoted (rest ++ [])) comment → length card ≡ 80 → whole ≡ true
-last_fits lead rest card comment left whole h i inv is size =
-    let cut = string_end lead rest comment (omega (arith, h, i)) in
-    let same : card ≡ card_of lead (quoted rest) comment = is ∙ ap (λ (x : List ℕ). card_of lead (quoted x) comment) (append-nil rest) in
-    sym inv ∙ (ap all_fit cut ∙ one_fits (card_of lead (quoted rest) comment) (ap length (sym same) ∙ size))
-
--- or it doesn't
-pub last_unfit : (lead rest : List ℕ) (comment : Option (List ℕ)) (left : ℕ) (whole : Bool) → left ≤ 68 → left ≡ length (doubled rest) → all_fit (cards_of_string lead (length rest) rest comment) ≡ whole
-    → 80 < length (card_of lead (quoted (rest ++ [])) comment) → whole ≡ false
-last_unfit lead rest comment left whole h i inv long =
-    let cut = string_end lead rest comment (omega (arith, h, i)) in
-    sym inv ∙ too_long [] [] (cards_of_string lead (length rest) rest comment) (card_of lead (quoted rest) comment) (sym cut) (subst (λ (x : List ℕ). 80 < length (card_of lead (quoted x) comment)) (append-nil rest) long)
-
--- and is one card
-pub last_count : (lead rest : List ℕ) (comment : Option (List ℕ)) (count left total : ℕ) → left ≤ 68 → left ≡ length (doubled rest) → count + length (cards_of_string lead (length rest) rest comment) ≡ 1 + total → count ≡ total
-last_count lead rest comment count left total h i inv =
-    let cut = ap length (string_end lead rest comment (omega (arith, h, i))) in
-    omega (arith, cut, inv)
-
 -- a piece is too long
 pub piece_long : (lead rest front : List ℕ) (comment : Option (List ℕ)) (cards whole : List (List ℕ)) (k left : ℕ) → k ≡ fitting 67 rest → front ≡ take k rest → 68 < left → left ≡ length (doubled rest)
     → cards ++ cards_of_string lead (length rest) rest comment ≡ whole → 80 < length (card_of lead (quoted (front ++ 38 ∷ [])) None) → all_fit whole ≡ false
