@@ -3,14 +3,11 @@
 
 Processor minutes (user and system) of each check, added up by crate: its proof, its tests, and its must-fail edits.
 They are read from /proc five times a second, so that of each check a fifth of a second at most is missing. All is proved
-and tried again, whatever an earlier run on the machine kept. Nothing else should run meanwhile.
-
-Machines count differently for the same work. So the same work is timed before the gate and after it: the proof of
-fits_card as it was at ANCHOR. On the machine on which the budget was set that took SECONDS."""
+and tried again, whatever an earlier run on the machine kept. Nothing else should run meanwhile: machines count differently
+for the same work, and one machine counts more when it has more to do."""
 import collections
 import glob
 import os
-import shutil
 import subprocess
 import sys
 import tempfile
@@ -19,8 +16,6 @@ import time
 TOP = os.path.dirname(os.path.dirname(os.path.abspath(__file__)))
 TICKS = os.sysconf("SC_CLK_TCK")
 KINDS = ("proof", "tests", "edits")
-ANCHOR = "4204e72"
-SECONDS = 122
 
 
 def check_of(words):
@@ -46,25 +41,6 @@ def look(seconds):
             pass
 
 
-def clone(room, commit):
-    subprocess.run(["git", "clone", "-q", TOP, room], check=True)
-    subprocess.run(["git", "checkout", "-q", commit], cwd=room, check=True)
-
-
-def anchor(room):
-    """How many seconds of processor the proof of fits_card takes there, from nothing, by as many jobs as rt chooses."""
-    crate = f"{room}/crates/fits_card"
-    shutil.rmtree(f"{crate}/out", ignore_errors=True)
-    # where this folder stands, rt doesn't begin with what was proved in another checkout
-    os.makedirs(f"{crate}/out/incremental")
-    quiet = {"stdout": subprocess.DEVNULL, "stderr": subprocess.DEVNULL}
-    proof = subprocess.Popen(["rt", "check"], cwd=crate, **quiet)
-    _, status, usage = os.wait4(proof.pid, 0)
-    if status:
-        sys.exit(f"fits_card of {ANCHOR} isn't proved")
-    return usage.ru_utime + usage.ru_stime
-
-
 def lines(crate, part, ending):
     """How many lines the files of a part of a crate have."""
     files = glob.glob(f"{TOP}/crates/{crate}/{part}/**/*.{ending}", recursive=True)
@@ -75,9 +51,7 @@ def main():
     checks = int(os.environ.setdefault("RT_JOBS", "2"))
     seconds = {}
     with tempfile.TemporaryDirectory() as room:
-        clone(f"{room}/anchor", ANCHOR)
-        clone(f"{room}/fitsed", "HEAD")
-        before = anchor(f"{room}/anchor")
+        subprocess.run(["git", "clone", "-q", TOP, f"{room}/fitsed"], check=True)
         began = time.time()
         again = {**os.environ, "ANEW": "1"}
         with subprocess.Popen(["make", "test"], cwd=f"{room}/fitsed", env=again, stdout=sys.stderr) as gate:
@@ -85,7 +59,6 @@ def main():
                 look(seconds)
                 time.sleep(0.2)
         took = (time.time() - began) / 60
-        after = anchor(f"{room}/anchor")
     minutes = collections.Counter()
     for check, taken in seconds.values():
         minutes[check] += taken / 60
@@ -100,7 +73,6 @@ def main():
     sums = [sum(it) for it in zip(*rows)]
     print(f"| all | {' | '.join(map(str, sums[:4]))} | {' | '.join(f'{it:.1f}' for it in sums[4:])} |")
     print(f"{sum(sums[4:]):.0f} processor minutes in {took:.0f} minutes with {checks} checks at once, status {gate.returncode}")
-    print(f"the anchor took {before:.0f} s before and {after:.0f} s after; {SECONDS} where the budget was set")
     return gate.returncode
 
 
