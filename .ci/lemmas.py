@@ -1,8 +1,8 @@
-"""Names each lemma that nothing uses: no other lemma, answer, contract or ruleset that is itself used.
+"""Names each lemma that no line of specs, proofs or code names, but for imports and its own lines.
 
-Only imports and its own lines may name a lemma that is printed here. Pages called ...Facts.antt hold worked rows of
-the standard, which are there to be proved and not to be used. The last line counts the lemmas that are used, and
-those that aren't.
+It goes by words: a lemma stays unseen where another crate uses the same word, or where two unused ones name each
+other. Pages called ...Facts.antt hold worked rows of the standard, which are there to be proved and not to be used. The
+last line counts the lemmas that are named, and those that aren't.
 """
 
 import pathlib
