@@ -9,6 +9,7 @@ use crate::card::{CARD_LEN, Card};
 use crate::count::Count;
 use crate::sink::Sink;
 use crate::splicing::{make_room, move_item};
+use crate::text::are_spaces;
 use crate::writing::write_all;
 use std::alloc::AllocError;
 use std::io;
@@ -106,14 +107,14 @@ impl CardList {
         ensures { result ≡ is_end_blank self.now.header }
     {
         let (_, rest) = self.end.0.split_at(8);
-        rest.iter().all(|byte| *byte == b' ')
+        are_spaces(rest)
     }
 
     /// Whether the fill is spaces (FITS Standard 4.0, section 3.3.1).
     pub fn fill_blank(&self) -> bool
         ensures { result ≡ is_fill_blank self.now.header }
     {
-        self.fill.iter().all(|byte| *byte == b' ')
+        are_spaces(&self.fill)
     }
 
     /// The card at a place. The read is counted.

@@ -22,11 +22,18 @@ impl Model for Name {
 impl Name {
     ghost use Rattle.fits_card.specs.Name.{end_name, blank_name, is_valueless, is_spelled, is_settable};
 
+    /// Whether the name is this one.
+    pub fn is(&self, text: &[u8; 8]) -> bool
+        ensures { result ≡ bytes_eq self.now text.now }
+    {
+        are_same(&self.0, text)
+    }
+
     /// The name of the card that ends a header.
     pub fn is_end(&self) -> bool
         ensures { result ≡ bytes_eq self.now end_name }
     {
-        self.0 == *b"END     "
+        self.is(b"END     ")
     }
 
     /// Whether no card of this name has a value: commentary, CONTINUE and END.
@@ -34,9 +41,9 @@ impl Name {
     pub fn is_valueless(&self) -> bool
         ensures { result ≡ is_valueless self.now }
     {
-        self.0 == *b"COMMENT "
-            || self.0 == *b"HISTORY "
-            || self.0 == *b"CONTINUE"
+        self.is(b"COMMENT ")
+            || self.is(b"HISTORY ")
+            || self.is(b"CONTINUE")
             || self.is_end()
             || self.is_blank()
     }
@@ -45,7 +52,7 @@ impl Name {
     pub fn is_blank(&self) -> bool
         ensures { result ≡ bytes_eq self.now blank_name }
     {
-        self.0 == *b"        "
+        self.is(b"        ")
     }
 
     /// Whether the name is spelled as the standard asks: capital letters, digits, hyphens and
@@ -78,4 +85,11 @@ fn spelled_len(text: &[u8]) -> usize
         }
     }
     text.len()
+}
+
+// Whether two names have the same bytes, compared as one number each.
+fn are_same(name: &[u8; 8], other: &[u8; 8]) -> bool
+    ensures { result ≡ bytes_eq name.now other.now }
+{
+    u64::from_be_bytes(*name) == u64::from_be_bytes(*other)
 }
