@@ -18,6 +18,7 @@ pub mod NumberFrontLemmas
 pub mod NumberLemmas
 pub mod NumberSaysLemmas
 pub mod NumberScanLemmas
+pub mod OpenLemmas
 pub mod PairLemmas
 pub mod PartLemmas
 pub mod PieceLemmas
@@ -25,6 +26,7 @@ pub mod PlaceLemmas
 pub mod QuoteLemmas
 pub mod ReadBackLemmas
 pub mod ReadLemmas
+pub mod RunLemmas
 pub mod SayLemmas
 pub mod SaysLemmas
 pub mod SeparatorLemmas

@@ -1,8 +1,11 @@
 -- Quotes: the closing quote of a string, and its characters with each quote doubled.
-use Rattle.std.proofs.Common.{◌≡◌, ℕ, ◌<◌, ◌≤◌, ◌+◌, Bool, true, false, eqb, List, [], ◌∷◌, ◌++◌, length, drop, get_or, Option, None, Some, refl, sym, ◌∙◌, ap, arith, inl, inr, append_assoc}
+use Rattle.std.proofs.Common.{◌≡◌, ℕ, ◌<◌, ◌≤◌, ◌+◌, Bool, true, false, not, eqb, suc, List, [], ◌∷◌, ◌++◌, length, drop, get_or, Option, None, Some, refl, sym, ◌∙◌, ap, subst, arith, inl, inr, append_assoc}
+use Rattle.std.specs.List.{prefix_len}
 use Rattle.std.specs.Option.{option_map}
-use Rattle.std.proofs.lemmas.List.{at_drop_more, drop_more, drop_all, append-nil}
-use Rattle.std.proofs.lemmas.Bool.{cases_Bool, cond-true, cond-false, eqb-true, eq-eqb}
+use Rattle.std.proofs.lemmas.List.{drop_more, drop_all, drop-drop, get_or-drop, append-nil}
+use Rattle.std.proofs.lemmas.List.Sums.{prefix_len_stops}
+use Rattle.std.proofs.Math.ListN.{length-drop}
+use Rattle.std.proofs.lemmas.Bool.{cases_Bool, cases_lt, cond-true, cond-false, eqb-true, eq-eqb, not-false}
 use Rattle.fits_value.specs.Spelling.{doubled}
 use Rattle.fits_value.specs.Scan.{closing_of, undoubled}
 use Rattle.fits_value.proofs.FrontLemmas.{chosen, option_map_some, Stops}
@@ -93,10 +96,6 @@ fuse : (o : Option ℕ) (i j : ℕ) → option_map (λ (n : ℕ). n + i) (option
 fuse None i j = refl
 fuse (Some n) i j = ap Some (omega arith)
 
--- the loop's step over a character
-pub over_other : (t : List ℕ) (i : ℕ) → i < length t → eqb (get_or t i 0) 39 ≡ false → closing_of t ≡ option_map (λ (n : ℕ). n + i) (closing_of (drop i t)) → closing_of t ≡ option_map (λ (n : ℕ). n + (i + 1)) (closing_of (drop (i + 1) t))
-over_other t i h e inv = inv ∙ ap (λ (o : Option ℕ). option_map (λ (n : ℕ). n + i) o) (at_drop_more closing_of t i 0 h ∙ closing-other _ _ e) ∙ fuse _ i 1
-
 -- the loop's step over a doubled quote
 pub over_pair : (t : List ℕ) (i : ℕ) → i + 1 < length t → get_or t i 0 ≡ 39 → get_or t (i + 1) 0 ≡ 39 → closing_of t ≡ option_map (λ (n : ℕ). n + i) (closing_of (drop i t)) → closing_of t ≡ option_map (λ (n : ℕ). n + (i + 2)) (closing_of (drop (i + 2) t))
 over_pair t i h e f inv =
@@ -106,6 +105,67 @@ over_pair t i h e f inv =
     let both : drop i t ≡ get_or t i 0 ∷ get_or t (i + 1) 0 ∷ drop (i + 2) t = first ∙ ap (λ (x : List ℕ). get_or t i 0 ∷ x) (second ∙ ap (λ (n : ℕ). get_or t (i + 1) 0 ∷ drop n t) two) in
     let step : closing_of (drop i t) ≡ option_map (λ (n : ℕ). n + 2) (closing_of (drop (i + 2) t)) = ap closing_of both ∙ closing-pair (get_or t i 0) (get_or t (i + 1) 0) (drop (i + 2) t) (eq-eqb _ 39 e) (eq-eqb _ 39 f) in
     inv ∙ ap (λ (o : Option ℕ). option_map (λ (n : ℕ). n + i) o) step ∙ fuse _ i 2
+
+-- how many bytes stand before the first quote
+abbrev pub gap : List ℕ → ℕ
+gap s = prefix_len (λ b. not (eqb b 39)) s
+
+-- a place that doesn't move
+unmoved : (o : Option ℕ) → o ≡ option_map (λ (n : ℕ). n + 0) o
+unmoved None = refl
+unmoved (Some n) = ap Some (omega arith)
+
+-- bytes that are no quotes are passed over
+closing-gap : (s : List ℕ) → closing_of s ≡ option_map (λ (n : ℕ). n + gap s) (closing_of (drop (gap s) s))
+closing-gap [] = refl
+closing-gap (b ∷ s) = elim (cases_Bool (eqb b 39)) [
+  | inl e ↦
+      let none : gap (b ∷ s) ≡ 0 = cond-false (not (eqb b 39)) _ _ (ap not e) in
+      unmoved (closing_of (b ∷ s)) ∙ sym (ap (λ (g : ℕ). option_map (λ (n : ℕ). n + g) (closing_of (drop g (b ∷ s)))) none)
+  | inr e ↦
+      let one : gap (b ∷ s) ≡ suc (gap s) = cond-true (not (eqb b 39)) _ _ (ap not e) ∙ omega arith in
+      let more : 1 + gap s ≡ suc (gap s) = omega arith in
+      closing-other b s e
+      ∙ (ap (λ (o : Option ℕ). option_map (λ (n : ℕ). n + 1) o) (closing-gap s)
+      ∙ (fuse (closing_of (drop (gap s) s)) 1 (gap s)
+      ∙ (ap (λ (g : ℕ). option_map (λ (n : ℕ). n + g) (closing_of (drop (gap s) s))) more
+      ∙ sym (ap (λ (g : ℕ). option_map (λ (n : ℕ). n + g) (closing_of (drop g (b ∷ s)))) one))))
+]
+
+-- the loop's step over bytes that are no quotes
+pub over_gap : (t : List ℕ) (i g : ℕ) → g ≡ gap (drop i t) → closing_of t ≡ option_map (λ (n : ℕ). n + i) (closing_of (drop i t)) → closing_of t ≡ option_map (λ (n : ℕ). n + (i + g)) (closing_of (drop (i + g) t))
+over_gap t i g e inv =
+    let there : drop g (drop i t) ≡ drop (i + g) t = drop-drop g i t in
+    inv
+    ∙ (ap (λ (o : Option ℕ). option_map (λ (n : ℕ). n + i) o) (closing-gap (drop i t))
+    ∙ (fuse (closing_of (drop (gap (drop i t)) (drop i t))) i (gap (drop i t))
+    ∙ (ap (λ (k : ℕ). option_map (λ (n : ℕ). n + (i + k)) (closing_of (drop k (drop i t)))) (sym e)
+    ∙ ap (λ (x : List ℕ). option_map (λ (n : ℕ). n + (i + g)) (closing_of x)) there)))
+
+-- a quote stands after them
+pub quote_at : (t : List ℕ) (i g : ℕ) → g ≡ gap (drop i t) → i + g < length t → get_or t (i + g) 0 ≡ 39
+quote_at t i g e within =
+    let few : gap (drop i t) < length (drop i t) = omega (arith, length-drop i t) in
+    let stops = prefix_len_stops (λ b. not (eqb b 39)) (drop i t) 0 few in
+    let there = ap (λ (k : ℕ). get_or (drop i t) k 0) e ∙ refl in
+    sym (get_or-drop i t g 0) ∙ (there ∙ eqb-true _ 39 (not-false _ stops))
+
+-- where nothing follows them, no quote closes
+pub none_closes : (t : List ℕ) (j : ℕ) → length t ≤ j → closing_of t ≡ option_map (λ (n : ℕ). n + j) (closing_of (drop j t)) → closing_of t ≡ None
+none_closes t j end inv = inv ∙ ap (λ (x : List ℕ). option_map (λ (n : ℕ). n + j) (closing_of x)) (drop_all j t end)
+
+-- a quote that no quote follows closes
+pub quote_closes : (t : List ℕ) (j : ℕ) → j < length t → get_or t j 0 ≡ 39 → (j + 1 < length t → eqb (get_or t (j + 1) 0) 39 ≡ false) → closing_of t ≡ option_map (λ (n : ℕ). n + j) (closing_of (drop j t)) → closing_of t ≡ Some j
+quote_closes t j within here next inv =
+    let cut : drop j t ≡ get_or t j 0 ∷ drop (j + 1) t = drop_more t j 0 within in
+    let closed = ap closing_of cut ∙ closing-last (get_or t j 0) (drop (j + 1) t) (eq-eqb _ 39 here) (stops_at t (j + 1) next) in
+    inv ∙ (ap (λ (o : Option ℕ). option_map (λ (n : ℕ). n + j) o) closed ∙ ap Some (omega arith))
+  where
+    stops_at : (t : List ℕ) (k : ℕ) → (k < length t → eqb (get_or t k 0) 39 ≡ false) → Stops is_quote (drop k t)
+    stops_at t k next = elim (cases_lt k (length t)) [
+      | inl more ↦ subst (λ (x : List ℕ). Stops is_quote x) (sym (drop_more t k 0 more)) (next more)
+      | inr end ↦ subst (λ (x : List ℕ). Stops is_quote x) (sym (drop_all k t end)) tt
+    ]
 
 -- a byte that is no quote is a character
 pub undoubled-other : (b : ℕ) (s : List ℕ) → eqb b 39 ≡ false → undoubled (b ∷ s) ≡ b ∷ undoubled s
@@ -128,7 +188,6 @@ undoubled-doubled (c ∷ cs) = elim (cases_Bool (eqb c 39)) [
       ap undoubled d ∙ (undoubled-other c (doubled cs) e ∙ ap (λ (x : List ℕ). c ∷ x) (undoubled-doubled cs))
 ]
 
--- the loop's step over a character
 pub decode_one : (t v : List ℕ) (i : ℕ) → i < length t → (eqb (get_or t i 0) 39 ≡ false) → v ++ undoubled (drop i t) ≡ undoubled t → (v ++ get_or t i 0 ∷ []) ++ undoubled (drop (i + 1) t) ≡ undoubled t
 decode_one t v i h e inv =
     let cut : undoubled (drop i t) ≡ get_or t i 0 ∷ undoubled (drop (i + 1) t) = ap undoubled (drop_more t i 0 h) ∙ undoubled-other (get_or t i 0) (drop (i + 1) t) e in

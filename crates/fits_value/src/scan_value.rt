@@ -4,6 +4,7 @@ ghost use Rattle.fits_value.specs.Scan.{closing_of, front_value};
 
 use crate::decimal::scan_number;
 use crate::reading::ValueKind;
+use crate::runs::gap_len;
 use crate::scan_complex::scan_pair;
 
 // The place of the quote that closes a string, whose opening quote stands before the text.
@@ -13,13 +14,15 @@ fn closing_place(text: &[u8]) -> Option<usize>
 {
     let mut place = 0;
     while place < text.len() {
-        if text[place] != b'\'' {
-            place += 1;
-        } else if place + 1 < text.len() && text[place + 1] == b'\'' {
-            place += 2;
-        } else {
-            return Some(place);
+        let (_, rest) = text.split_at(place);
+        let quote = place + gap_len(rest, b'\'');
+        if quote == text.len() {
+            return None;
         }
+        if quote + 1 == text.len() || text[quote + 1] != b'\'' {
+            return Some(quote);
+        }
+        place = quote + 2;
     }
     None
 }

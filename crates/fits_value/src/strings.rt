@@ -1,14 +1,16 @@
 //! The strings of single cards, without memory (FITS Standard 4.0, section 4.2.1).
 ghost use Rattle.std.specs.Prelude.{◌≡◌, ◌≤◌, length, take, drop, IfSome};
-ghost use Rattle.fits_value.specs.Spelling.{IsSpaces};
+ghost use Rattle.fits_value.specs.Spelling.{IsSpaces, Spells};
 ghost use Rattle.fits_value.specs.Text.{normal_form};
 ghost use Rattle.fits_value.specs.Scan.{undoubled};
 ghost use Rattle.fits_value.specs.declared.strings.TheConstants.{MOST_CHARACTERS};
-ghost use Rattle.fits_value.specs.Says.{inner, is_continue, card_string, link_string};
+ghost use Rattle.fits_value.specs.Says.{inner, is_continue, card_string, ends_in_ampersand, link_string};
+ghost use Rattle.fits_value.specs.declared.reading.ValueKind.TheVariants as kind;
 
 use crate::characters::normal_len;
 use crate::reading::ValueKind;
 use crate::scan::scan_card;
+use crate::spaces::trimmed_len;
 use fits_card::Card;
 use std::marker::Model;
 
@@ -110,12 +112,12 @@ pub fn card_string(card: &Card) -> Option<CardString>
     Some(decoded(quoted))
 }
 
-// Whether the card is named CONTINUE and has spaces in bytes 9 and 10.
+/// Whether the card is named CONTINUE and has spaces in bytes 9 and 10.
 #[tactic(auto, unfolding(crate::specs::Says::is_continue))]
-fn is_continue(card: &Card) -> bool
+pub fn is_continue(card: &Card) -> bool
     ensures { result ≡ is_continue card.now }
 {
-    card.name().0 == *b"CONTINUE" && card.0[8] == b' ' && card.0[9] == b' '
+    card.name().is(b"CONTINUE") && card.0[8] == b' ' && card.0[9] == b' '
 }
 
 /// The string of a proper CONTINUE card. It takes no memory.
@@ -128,4 +130,17 @@ pub fn link_string(card: &Card) -> Option<CardString>
     } else {
         None
     }
+}
+
+/// Whether a string that is spelled so ends in an ampersand: it may be continued (FITS Standard 4.0,
+/// section 4.2.1.2).
+pub fn is_open_string(spelling: &[u8]) -> bool
+    requires { Spells kind.Str spelling.now }
+    ensures { result ≡ ends_in_ampersand (normal_form (undoubled (inner spelling.now))) }
+{
+    let [_, quoted @ .., _] = spelling else {
+        return false;
+    };
+    let (text, _) = quoted.split_at(trimmed_len(quoted));
+    text.ends_with(b"&")
 }

@@ -1,0 +1,9 @@
+use Rattle.std.proofs.Common.{◌==◌, ◌*◌}
+use Rattle.fits_value.proofs.RunLemmas.{GoesOn}
+use Rattle.fits_value.proofs.runs.run_len.Given as goal
+
+abbrev pub invariant-loop-i : goal.invariant-loop-i
+invariant-loop-i l = GoesOn (λ b. b == l.byte) l.text (16 * l.i)
+
+abbrev pub invariant-loop-j : goal.invariant-loop-j
+invariant-loop-j l = GoesOn (λ b. b == l.byte) l.text l.j
