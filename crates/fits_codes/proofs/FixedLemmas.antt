@@ -3,7 +3,7 @@ use Rattle.std.proofs.Common.{◌≡◌, ℕ, ◌+◌, ◌-◌, ◌≤◌, Bool,
 use Rattle.std.specs.List.{prefix_len}
 use Rattle.std.specs.Option.{option_map, option_map_or}
 use Rattle.std.proofs.lemmas.List.{drop-drop}
-use Rattle.std.proofs.lemmas.Bool.{cond-true, cond-false, cases_Bool, and_parts, eqb-true}
+use Rattle.std.proofs.lemmas.Bool.{cases_Bool, and_parts, eqb-true}
 use Rattle.std.proofs.lemmas.Bool.Decides.{nat_tests}
 use Rattle.fits_card.specs.Card.{has_value}
 use Rattle.fits_value.specs.Characters.{is_space, IsSpaces}
@@ -132,25 +132,15 @@ unfolding fixed_said
 fixed-no_field card fails = sym (ap (option_and_then (fixed_type (field card))) (said-no_field card fails))
 
 -- nor is what can't be read
-pub fixed-unread : (card : List ℕ) → has_value card ≡ true → card_says card ≡ None → None ≡ fixed_said card
+pub fixed-unread : (card : List ℕ) → card_says card ≡ None → None ≡ fixed_said card
 unfolding fixed_said
-fixed-unread card holds silent = sym (ap (option_and_then (fixed_type (field card))) (said-unread card holds silent))
+fixed-unread card silent = sym (ap (option_and_then (fixed_type (field card))) (said-unread card silent))
 
 -- what is read is where its places are
-fixed-read : (card : List ℕ) (r : Reading) → has_value card ≡ true → ReadsAs card r.kind (part card r.value) (option_map (part card) r.comment) → IsPlacedIn card 10 r
+pub fixed-read : (card : List ℕ) (r : Reading) → has_value card ≡ true → ReadsAs card r.kind (part card r.value) (option_map (part card) r.comment) → IsPlacedIn card 10 r
     → fixed_said card ≡ cond (span_fixed r.kind r.value) (Some r.kind) None
 unfolding fixed_said
 fixed-read card r holds read placed =
     ap (option_and_then (fixed_type (field card))) (said-read card r.kind (part card r.value) (option_map (part card) r.comment) holds read)
     ∙ fixed_by_kind (field card) r.kind (part card r.value) (option_map (part card) r.comment) r.value read.reads
     (λ some. stands card r.kind r.value some read.reads.spelled placed.value_from placed.value_order placed.value_within placed.value_after)
-
--- it is
-pub fixed-yes : (card : List ℕ) (r : Reading) → has_value card ≡ true → ReadsAs card r.kind (part card r.value) (option_map (part card) r.comment) → IsPlacedIn card 10 r
-    → span_fixed r.kind r.value ≡ true → Some r.kind ≡ fixed_said card
-fixed-yes card r holds read placed stood = sym (fixed-read card r holds read placed ∙ cond-true (span_fixed r.kind r.value) (Some r.kind) None stood)
-
--- it isn't
-pub fixed-no : (card : List ℕ) (r : Reading) → has_value card ≡ true → ReadsAs card r.kind (part card r.value) (option_map (part card) r.comment) → IsPlacedIn card 10 r
-    → span_fixed r.kind r.value ≡ false → None ≡ fixed_said card
-fixed-no card r holds read placed stood = sym (fixed-read card r holds read placed ∙ cond-false (span_fixed r.kind r.value) (Some r.kind) None stood)

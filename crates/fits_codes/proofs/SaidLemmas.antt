@@ -1,7 +1,7 @@
 -- What a card that has a value says: its type, its date, its F.
-use Rattle.std.proofs.Common.{◌≡◌, ℕ, true, false, not, List, Option, None, Some, option_and_then, refl, ap, sym, ◌∙◌}
+use Rattle.std.proofs.Common.{◌≡◌, ℕ, true, false, not, List, Option, None, Some, option_and_then, inl, inr, refl, ap, sym, ◌∙◌}
 use Rattle.std.specs.Option.{option_map, option_map_or}
-use Rattle.std.proofs.lemmas.Bool.{cond-true, cond-false}
+use Rattle.std.proofs.lemmas.Bool.{cases_Bool, cond-true, cond-false}
 use Rattle.fits_card.specs.Card.{has_value}
 use Rattle.fits_value.specs.Field.{ReadsAs}
 use Rattle.fits_value.specs.Spelling.{Spells}
@@ -23,9 +23,12 @@ unfolding reads.value_said
 said-no_field card fails = cond-false (has_value card) _ _ fails
 
 -- nor does one that can't be read
-pub said-unread : (card : List ℕ) → has_value card ≡ true → card_says card ≡ None → reads.value_said card ≡ None
+pub said-unread : (card : List ℕ) → card_says card ≡ None → reads.value_said card ≡ None
 unfolding reads.value_said
-said-unread card holds silent = cond-true (has_value card) _ _ holds ∙ ap (option_map (λ said. said.0)) silent
+said-unread card silent = elim (cases_Bool (has_value card)) [
+  | inl holds ↦ cond-true (has_value card) _ _ holds ∙ ap (option_map (λ said. said.0)) silent
+  | inr fails ↦ cond-false (has_value card) _ _ fails
+]
 
 -- a value without the comment that was put beside it
 first_of_map : (o : Option Value) (comment : Option (List ℕ)) → option_map (λ (said : Value × Option (List ℕ)). said.0) (option_map (with_comment comment) o) ≡ o
@@ -59,9 +62,9 @@ unfolding kind_said
 kind-no_field card fails = sym (ap (option_map kind_of) (said-no_field card fails))
 
 -- nor of a value that can't be read
-pub kind-unread : (card : List ℕ) → has_value card ≡ true → card_says card ≡ None → None ≡ kind_said card
+pub kind-unread : (card : List ℕ) → card_says card ≡ None → None ≡ kind_said card
 unfolding kind_said
-kind-unread card holds silent = sym (ap (option_map kind_of) (said-unread card holds silent))
+kind-unread card silent = sym (ap (option_map kind_of) (said-unread card silent))
 
 -- the type that is read is said
 pub kind-read : (card : List ℕ) (k : ValueKind) (spelling : List ℕ) (comment : Option (List ℕ)) → has_value card ≡ true → ReadsAs card k spelling comment → Some k ≡ kind_said card

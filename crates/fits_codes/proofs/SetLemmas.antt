@@ -1,5 +1,5 @@
 -- The codes of a set, in an array with a filler after them, and one by one.
-use Rattle.std.proofs.Common.{◌≡◌, ℕ, ◌+◌, ◌-◌, ◌<◌, ◌≤◌, Bool, true, false, List, [], ◌∷◌, ◌++◌, length, take, drop, get_or, replicate, sym, ◌∙◌, ap, arith, length-append, length-take-le, take-append-drop}
+use Rattle.std.proofs.Common.{◌≡◌, ℕ, ◌+◌, ◌-◌, ◌<◌, ◌≤◌, Bool, true, false, cond, List, [], ◌∷◌, ◌++◌, length, take, drop, get_or, replicate, refl, sym, ◌∙◌, ap, arith, length-append, length-take-le, take-append-drop, append_assoc}
 use Rattle.std.specs.List.{filter}
 use Rattle.std.proofs.Math.ListN.{set}
 use Rattle.std.proofs.Math.Seq.{drop-append_seam}
@@ -51,3 +51,16 @@ few-yes {X = X} i x old new few more = omega (arith, ap (λ (ys : List X). lengt
 -- also where none came
 pub few-no : {X : Type 0} (i : ℕ) (old new : List X) → length old ≤ i → new ≡ old → length new ≤ i + 1
 few-no {X = X} i old new few same = omega (arith, ap (λ (ys : List X). length ys) same)
+
+-- what is found of one element stands before what is found of the others
+found_first : {X : Type 0} (p : X → Bool) (x : X) (xs : List X) → cond (p x) (x ∷ []) [] ++ filter p xs ≡ filter p (x ∷ xs)
+found_first {X = X} p x xs = go (p x) where
+  go : (b : Bool) → cond b (x ∷ []) [] ++ filter p xs ≡ cond b (x ∷ filter p xs) (filter p xs)
+  go true = refl
+  go false = refl
+
+-- one more that was tried, with what will be found of the others
+pub tried : {X : Type 0} (p : X → Bool) (x : X) (xs old new : List X) (holds : Bool) → new ≡ old ++ cond holds (x ∷ []) [] → holds ≡ p x → new ++ filter p xs ≡ old ++ filter p (x ∷ xs)
+tried {X = X} p x xs old new holds more same =
+    ap (λ (ys : List X). ys ++ filter p xs) (more ∙ ap (λ (b : Bool). old ++ cond b (x ∷ []) []) same)
+    ∙ (append_assoc old (cond (p x) (x ∷ []) []) (filter p xs) ∙ ap (λ (ys : List X). old ++ ys) (found_first p x xs))

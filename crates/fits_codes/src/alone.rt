@@ -1,39 +1,14 @@
 //! What is wrong with a card alone, whatever stands round it.
 ghost use Rattle.std.specs.Prelude.{◌≡◌, false};
 ghost use Rattle.std.specs.Option.{option_map_or};
-ghost use Rattle.fits_codes.specs.Alone.{kind_said, is_undefined, has_undefined_value, disagree, has_wrong_type, lacks_space, is_bad_date, has_bad_date, has_alone, codes_alone};
+ghost use Rattle.fits_codes.specs.Alone.{kind_said, has_unreadable_value, is_undefined, has_wrong_type, lacks_space, has_bad_date, has_deprecated_keyword, codes_alone};
 
 use crate::code::Code;
 use crate::code_set::CodeSet;
 use crate::dates::{is_date, is_judged};
 use crate::keywords::{COMMENTARY, DATE, DEPRECATED, is_one_of, keyword_type, suits};
 use fits_card::Card;
-use fits_value::{ValueKind, card_string, scan_card};
-
-/// The codes that a card alone can have, by number.
-const ALONE: [Code; 8] = [
-    Code::NotText,
-    Code::BadName,
-    Code::UnreadableValue,
-    Code::UndefinedValue,
-    Code::WrongType,
-    Code::NoSpaceAfterEquals,
-    Code::BadDate,
-    Code::DeprecatedKeyword,
-];
-
-/// The type of the value that a card says.
-fn kind_said(card: &Card) -> Option<ValueKind>
-    ensures { result ≡ kind_said card.now }
-{
-    if !card.has_value() {
-        return None;
-    }
-    let Some(reading) = scan_card(card) else {
-        return None;
-    };
-    Some(reading.kind)
-}
+use fits_value::{ValueKind, card_string};
 
 // Whether the value is there, and none at all.
 fn is_undefined(kind: Option<ValueKind>) -> bool
@@ -45,13 +20,25 @@ fn is_undefined(kind: Option<ValueKind>) -> bool
     }
 }
 
-// Whether both types are there, and the second may not stand for the first.
-fn disagree(wanted: Option<ValueKind>, kind: Option<ValueKind>) -> bool
-    ensures { result ≡ disagree wanted kind }
+// Whether the card has a value field, and no value of any type that can be read.
+fn has_unreadable_value(card: &Card, kind: Option<ValueKind>) -> bool
+    requires { kind ≡ kind_said card.now }
+    ensures { result ≡ has_unreadable_value card.now }
 {
-    match (wanted, kind) {
-        (Some(wanted), Some(kind)) => !suits(wanted, kind),
-        _ => false,
+    kind.is_none() && card.has_value() && card.is_text()
+}
+
+// Whether the value is there, and has another type than the standard gives the keyword.
+fn has_wrong_type(card: &Card, kind: Option<ValueKind>) -> bool
+    requires { kind ≡ kind_said card.now }
+    ensures { result ≡ has_wrong_type card.now }
+{
+    let Some(kind) = kind else {
+        return false;
+    };
+    match keyword_type(&card.name()) {
+        Some(wanted) => !suits(wanted, kind),
+        None => false,
     }
 }
 
@@ -76,36 +63,27 @@ fn has_bad_date(card: &Card) -> bool
     }
 }
 
-// Whether the card, whose value has this type, has what the code names.
-#[tactic(auto, unfolding(crate::specs::Alone::has_alone))]
-fn has_alone(card: &Card, kind: Option<ValueKind>, code: Code) -> bool
-    requires { kind ≡ kind_said card.now }
-    ensures { result ≡ has_alone card.now code }
+// Whether the keyword is deprecated, and has a value.
+fn has_deprecated_keyword(card: &Card) -> bool
+    ensures { result ≡ has_deprecated_keyword card.now }
 {
-    match code {
-        Code::NotText => !card.is_text(),
-        Code::BadName => !card.name().is_spelled(),
-        Code::UnreadableValue => card.has_value() && card.is_text() && kind.is_none(),
-        Code::UndefinedValue => is_undefined(kind),
-        Code::WrongType => disagree(keyword_type(&card.name()), kind),
-        Code::NoSpaceAfterEquals => lacks_space(card),
-        Code::BadDate => has_bad_date(card),
-        Code::DeprecatedKeyword => is_one_of(&DEPRECATED, &card.name()) && card.has_value(),
-        _ => false,
-    }
+    is_one_of(&DEPRECATED, &card.name()) && card.has_value()
 }
 
-/// The codes that a card has alone.
+/// The codes that a card alone has, whose value has this type.
 #[tactic(auto, unfolding(crate::specs::Alone::codes_alone))]
-pub(crate) fn codes_alone(card: &Card) -> CodeSet
+pub(crate) fn codes_alone(card: &Card, kind: Option<ValueKind>) -> CodeSet
+    requires { kind ≡ kind_said card.now }
     ensures { result ≡ codes_alone card.now }
 {
-    let kind = kind_said(card);
     let mut found = CodeSet::new();
-    for code in ALONE {
-        if has_alone(card, kind, code) {
-            found.push(code);
-        }
-    }
+    found.push_where(Code::NotText, !card.is_text());
+    found.push_where(Code::BadName, !card.name().is_spelled());
+    found.push_where(Code::UnreadableValue, has_unreadable_value(card, kind));
+    found.push_where(Code::UndefinedValue, is_undefined(kind));
+    found.push_where(Code::WrongType, has_wrong_type(card, kind));
+    found.push_where(Code::NoSpaceAfterEquals, lacks_space(card));
+    found.push_where(Code::BadDate, has_bad_date(card));
+    found.push_where(Code::DeprecatedKeyword, has_deprecated_keyword(card));
     found
 }

@@ -1,4 +1,4 @@
-ghost use Rattle.std.specs.Prelude.{◌≡◌, ◌<◌, ◌≤◌, [], ◌∷◌, ◌++◌, length};
+ghost use Rattle.std.specs.Prelude.{◌≡◌, ◌<◌, ◌≤◌, ◌+◌, [], ◌∷◌, ◌++◌, length, if◌then◌else◌};
 
 use crate::code::Code;
 use std::marker::Model;
@@ -61,6 +61,17 @@ impl CodeSet {
     {
         self.codes[self.len as usize] = code;
         self.len += 1;
+    }
+
+    /// Puts a code after the others, where it holds.
+    pub(crate) fn push_where(&mut self, code: Code, holds: bool)
+        requires { length self.old < 13 }
+        ensures value { self.new ≡ self.old ++ (if holds then code ∷ [] else []) }
+        ensures few { length self.new ≤ length self.old + 1 }
+    {
+        if holds {
+            self.push(code);
+        }
     }
 
     /// The codes, by number.

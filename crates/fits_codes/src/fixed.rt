@@ -1,9 +1,8 @@
 //! Values in fixed format (FITS Standard 4.0, sections 4.2.1.1, 4.2.2 and 4.2.3).
-ghost use Rattle.std.specs.Prelude.{◌≡◌};
-ghost use Rattle.fits_codes.specs.Fixed.{fixed_said, is_fixed_as, span_fixed};
+ghost use Rattle.std.specs.Prelude.{◌≡◌, Some, None, if◌then◌else◌};
+ghost use Rattle.fits_codes.specs.Fixed.{is_fixed_as, span_fixed};
 
-use fits_card::Card;
-use fits_value::{Reading, ValueKind, scan_card};
+use fits_value::{Reading, ValueKind};
 
 // Whether the value stands where fixed format asks.
 fn stands_fixed(reading: &Reading) -> bool
@@ -16,17 +15,12 @@ fn stands_fixed(reading: &Reading) -> bool
     }
 }
 
-/// The type of the value that a card has in fixed format.
-pub(crate) fn fixed_said(card: &Card) -> Option<ValueKind>
-    ensures { result ≡ fixed_said card.now }
+/// The type of a value that is read, where it stands in fixed format.
+pub(crate) fn fixed_by(reading: &Reading) -> Option<ValueKind>
+    ensures { result ≡ if span_fixed reading.now.kind reading.now.value
+        then Some reading.now.kind else None }
 {
-    if !card.has_value() {
-        return None;
-    }
-    let Some(reading) = scan_card(card) else {
-        return None;
-    };
-    if stands_fixed(&reading) {
+    if stands_fixed(reading) {
         Some(reading.kind)
     } else {
         None

@@ -1,6 +1,6 @@
 //! The codes of a card, by its mark and by what stands round it.
 ghost use Rattle.std.specs.Prelude.{◌≡◌};
-ghost use Rattle.fits_codes.specs.Judged.{says_shape, is_not_fixed, has_mandatory_name, has_code, judged};
+ghost use Rattle.fits_codes.specs.Judged.{says_shape, is_not_fixed, has_mandatory_name, repeats_mandatory, repeats_keyword, is_stray, is_left_open, judged};
 
 use crate::code::Code;
 use crate::code_set::CodeSet;
@@ -8,23 +8,6 @@ use crate::context::Context;
 use crate::fixed::is_fixed_as;
 use crate::keywords::{COUNT, is_mandatory, is_one_of, mandatory_type};
 use crate::mark::Mark;
-
-/// The codes that a card can have, by number.
-const CARD_CODES: [Code; 13] = [
-    Code::NotText,
-    Code::BadName,
-    Code::UnreadableValue,
-    Code::UndefinedValue,
-    Code::WrongType,
-    Code::NotFixedFormat,
-    Code::MandatoryRepeated,
-    Code::KeywordRepeated,
-    Code::StrayContinue,
-    Code::AmpersandNotContinued,
-    Code::NoSpaceAfterEquals,
-    Code::BadDate,
-    Code::DeprecatedKeyword,
-];
 
 // Whether the card says a number or a type of the shape.
 fn says_shape(mark: &Mark, context: &Context) -> bool
@@ -52,23 +35,32 @@ fn has_mandatory_name(mark: &Mark, context: &Context) -> bool
     is_mandatory(context.class, context.axes, &mark.name)
 }
 
-// Whether the card has what the code names.
-#[tactic(auto, unfolding(crate::specs::Judged::has_code))]
-fn has_code(mark: &Mark, context: &Context, code: Code) -> bool
-    ensures { result ≡ has_code mark.now context.now code }
+// Whether it does, and an earlier card has the same name.
+fn repeats_mandatory(mark: &Mark, context: &Context) -> bool
+    ensures { result ≡ repeats_mandatory mark.now context.now }
 {
-    match code {
-        Code::NotFixedFormat => is_not_fixed(mark, context),
-        Code::MandatoryRepeated => context.name_before && has_mandatory_name(mark, context),
-        Code::KeywordRepeated => {
-            context.value_before && mark.has_value && !has_mandatory_name(mark, context)
-        }
-        Code::StrayContinue => mark.name.0 == *b"CONTINUE" && !context.is_link,
-        Code::AmpersandNotContinued => {
-            (mark.begins || context.is_link) && mark.is_open && !context.next_is_link
-        }
-        _ => mark.alone.contains(code),
-    }
+    context.name_before && has_mandatory_name(mark, context)
+}
+
+// Whether it has another keyword and a value, where an earlier card had both.
+fn repeats_keyword(mark: &Mark, context: &Context) -> bool
+    ensures { result ≡ repeats_keyword mark.now context.now }
+{
+    context.value_before && mark.has_value && !has_mandatory_name(mark, context)
+}
+
+// Whether it is named CONTINUE, and continues no string.
+fn is_stray(mark: &Mark, context: &Context) -> bool
+    ensures { result ≡ is_stray mark.now context.now }
+{
+    mark.name.is(b"CONTINUE") && !context.is_link
+}
+
+// Whether it is a piece of a string that ends in an ampersand, and isn't continued.
+fn is_left_open(mark: &Mark, context: &Context) -> bool
+    ensures { result ≡ is_left_open mark.now context.now }
+{
+    (mark.begins || context.is_link) && mark.is_open && !context.next_is_link
 }
 
 /// The codes of a card: exactly those whose fact holds. It takes no memory.
@@ -76,11 +68,26 @@ fn has_code(mark: &Mark, context: &Context, code: Code) -> bool
 pub fn judge(mark: &Mark, context: &Context) -> CodeSet
     ensures { result ≡ judged mark.now context.now }
 {
+    let alone = &mark.alone;
     let mut found = CodeSet::new();
-    for code in CARD_CODES {
-        if has_code(mark, context, code) {
-            found.push(code);
-        }
-    }
+    found.push_where(Code::NotText, alone.contains(Code::NotText));
+    found.push_where(Code::BadName, alone.contains(Code::BadName));
+    found.push_where(Code::UnreadableValue, alone.contains(Code::UnreadableValue));
+    found.push_where(Code::UndefinedValue, alone.contains(Code::UndefinedValue));
+    found.push_where(Code::WrongType, alone.contains(Code::WrongType));
+    found.push_where(Code::NotFixedFormat, is_not_fixed(mark, context));
+    found.push_where(Code::MandatoryRepeated, repeats_mandatory(mark, context));
+    found.push_where(Code::KeywordRepeated, repeats_keyword(mark, context));
+    found.push_where(Code::StrayContinue, is_stray(mark, context));
+    found.push_where(Code::AmpersandNotContinued, is_left_open(mark, context));
+    found.push_where(
+        Code::NoSpaceAfterEquals,
+        alone.contains(Code::NoSpaceAfterEquals),
+    );
+    found.push_where(Code::BadDate, alone.contains(Code::BadDate));
+    found.push_where(
+        Code::DeprecatedKeyword,
+        alone.contains(Code::DeprecatedKeyword),
+    );
     found
 }

@@ -73,7 +73,7 @@ pub(crate) const COUNT: [[u8; 8]; 2] = [*b"PCOUNT  ", *b"GCOUNT  "];
 pub(crate) fn is_one_of(names: &[[u8; 8]], name: &Name) -> bool
     ensures { result ≡ is_one_of names.now name.now }
 {
-    names.iter().any(|other| name.0 == *other)
+    names.iter().any(|other| name.is(other))
 }
 
 // How many digits a text begins with.
@@ -112,8 +112,11 @@ fn axis_number(name: &Name) -> Option<u32>
     ensures { result ≡ axis_number name.now }
 {
     let (root, rest) = name.0.split_at(5);
+    if root != b"NAXIS".as_slice() {
+        return None;
+    }
     let (digits, spaces) = rest.split_at(digits_len(rest));
-    if root == b"NAXIS".as_slice() && is_count(digits) && are_spaces(spaces) {
+    if is_count(digits) && are_spaces(spaces) {
         Some(number_of(digits))
     } else {
         None

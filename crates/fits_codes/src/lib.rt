@@ -14,6 +14,7 @@ mod judging;
 mod keywords;
 mod laws;
 mod mark;
+mod said;
 
 pub use code::Code;
 pub use code_set::CodeSet;

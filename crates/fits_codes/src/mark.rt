@@ -1,14 +1,13 @@
-ghost use Rattle.std.specs.Prelude.{◌≡◌, false, is_some};
-ghost use Rattle.std.specs.Option.{option_map_or};
-ghost use Rattle.fits_value.specs.Says.{card_string, ends_in_ampersand};
+ghost use Rattle.std.specs.Prelude.{◌≡◌, is_some};
+ghost use Rattle.fits_value.specs.Says.{card_string, link_string};
 ghost use Rattle.fits_rules.specs.Reads.{string_said};
 ghost use Rattle.fits_codes.specs.Mark.{mark_of};
 
 use crate::alone::codes_alone;
 use crate::code_set::CodeSet;
-use crate::fixed::fixed_said;
+use crate::said::Said;
 use fits_card::{Card, Name};
-use fits_value::{CardString, ValueKind, card_string, link_string};
+use fits_value::{ValueKind, is_continue};
 
 /// What a card says alone, as far as the rules over several cards ask.
 ///
@@ -34,17 +33,25 @@ pub struct Mark {
 pub fn mark_of(card: &Card) -> Mark
     ensures { result ≡ mark_of card.now }
 {
-    let string = card_string(card);
-    let says_string = string.is_some();
+    let said = Said::of(card);
     Mark {
         name: card.name(),
         has_value: card.has_value(),
-        continues: link_string(card).is_some(),
-        begins: begins(card, says_string),
-        is_open: is_open(string),
-        fixed: fixed_said(card),
-        alone: codes_alone(card),
+        continues: continues(card, said.is_string),
+        begins: begins(card, said.is_string),
+        is_open: said.is_open,
+        fixed: said.fixed,
+        alone: codes_alone(card, said.kind),
     }
+}
+
+// Whether a card that says a string or none is a proper CONTINUE card.
+#[tactic(auto, unfolding(fits_value::specs::Says::link_string))]
+fn continues(card: &Card, says_string: bool) -> bool
+    requires { says_string ≡ is_some (card_string card.now) }
+    ensures { result ≡ is_some (link_string card.now) }
+{
+    is_continue(card) && says_string
 }
 
 // Whether a card that says a string or none has a value that is one.
@@ -53,14 +60,4 @@ fn begins(card: &Card, says_string: bool) -> bool
     ensures { result ≡ is_some (string_said card.now) }
 {
     card.has_value() && says_string
-}
-
-// Whether a string is there, and ends in an ampersand.
-fn is_open(string: Option<CardString>) -> bool
-    ensures { result ≡ option_map_or ends_in_ampersand string false }
-{
-    let Some(text) = string else {
-        return false;
-    };
-    matches!(text.as_bytes(), [.., b'&'])
 }

@@ -33,8 +33,8 @@ pub sum-no_field : (card : List ℕ) → has_value card ≡ false → Other ≡ 
 sum-no_field card fails = sym (ap sum_of_value (said-no_field card fails))
 
 -- nor does one that can't be read
-pub sum-unread : (card : List ℕ) → has_value card ≡ true → card_says card ≡ None → Other ≡ sum_of_value (value_said card)
-sum-unread card holds silent = sym (ap sum_of_value (said-unread card holds silent))
+pub sum-unread : (card : List ℕ) → card_says card ≡ None → Other ≡ sum_of_value (value_said card)
+sum-unread card silent = sym (ap sum_of_value (said-unread card silent))
 
 -- what is said of a sum
 abbrev sum_said : Option (Value × Option (List ℕ)) → SumSaid

@@ -10,7 +10,7 @@ pub returns-then-not-has_value : goal.returns-then-not-has_value
 returns-then-not-has_value c = false-silent c.args.card.now (said-no_field c.args.card.now (cc))
 
 pub returns-in_default : goal.returns-in_default
-returns-in_default c = false-silent c.args.card.now (said-unread c.args.card.now (cc) c.in_default.ensures.none)
+returns-in_default c = false-silent c.args.card.now (said-unread c.args.card.now c.in_default.ensures.none)
 
 pub returns-in_default-kind : goal.returns-in_default-kind
 returns-in_default-kind c = false-other c.args.card.now c.in-Some.reading.kind _ _ (cc) c.in-Some.ensures.found c.in_default-kind.not-Logical
