@@ -1,11 +1,11 @@
 -- A shape that is read in two parts: its first three cards, and what stands behind them.
 use Rattle.std.proofs.Common.{◌≡◌, ℕ, Bool, false, List, length, codes, Option, None, Some, ok_or, Result, Ok, Err, refl, ap, sym, ◌∙◌}
-use Rattle.std.specs.Prelude.{ℤ, IsTrue, ◌↔◌, IfOk, IfErr}
+use Rattle.std.specs.Prelude.{ℤ, IsTrue, ◌↔◌, IfOk, IfErr, OnOk}
 use Rattle.std.proofs.lemmas.Bool.Decides.{same_from_decides}
 use Rattle.fits_rules.specs.Lead.{AreLeads, lead_card, lead_or_end}
 use Rattle.fits_rules.specs.SameShape.{same_shape}
 use Rattle.fits_rules.specs.Shape.{◌>>=◌, first_card, bitpix_of, naxis_of, axes_of, class_of, count_of, shape_of}
-use Rattle.fits_rules.specs.ShapeSteps.{front_of, reading_of, shape_read, IsReadingOf}
+use Rattle.fits_rules.specs.ShapeSteps.{front_of, reading_of, shape_read, written, IsReadingOf}
 use Rattle.fits_rules.specs.declared.array_shape.Shape.{Shape}
 use Rattle.fits_rules.specs.declared.class.Class.{Class}
 use Rattle.fits_rules.specs.declared.reading.Front.{Front}
@@ -156,6 +156,16 @@ reads_on primary cards leads front (Err place) are f is = tt
 pub stops_on : (primary : Bool) (cards : List (List ℕ)) (leads : ShapeLeads) (front : Front) (r : Result ShapeReading ℕ) → AreLeads cards leads → Ok front ≡ front_of primary cards → r ≡ reading_of primary cards leads front → IfErr r (λ place. shape_of primary cards ≡ Err place)
 stops_on primary cards leads front (Ok reading) are f is = tt
 stops_on primary cards leads front (Err place) are f is = read_on primary cards leads front (Err place) are f is
+
+-- what holds of what was written
+pub written_ok : (r : Result Unit ℕ) (reading : ShapeReading) (P : ShapeReading → Type 0) → IfOk (written r reading) P → OnOk r (P reading)
+written_ok (Ok done) reading P holds = holds
+written_ok (Err place) reading P holds = tt
+
+-- and of the place that broke its rule
+pub written_err : (r : Result Unit ℕ) (reading : ShapeReading) (P : ℕ → Type 0) → IfErr (written r reading) P → IfErr r P
+written_err (Ok done) reading P holds = tt
+written_err (Err place) reading P holds = holds
 
 -- NAXIS is among the first three cards
 front_naxis : (primary : Bool) (cards : List (List ℕ)) (front : Front) → Ok front ≡ front_of primary cards → naxis_of cards ≡ Some front.naxis

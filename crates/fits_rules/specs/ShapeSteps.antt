@@ -1,5 +1,5 @@
 -- A shape on the way to it: private contracts alone name these (own).
-use Rattle.std.specs.Prelude.{◌≡◌, ℕ, Bool, List, codes, Option, None, Some, ok_or, Result, Ok}
+use Rattle.std.specs.Prelude.{◌≡◌, ℕ, Bool, List, codes, Option, None, Some, ok_or, Result, Ok, Err}
 use Rattle.std.specs.Borrow.{Bor}
 use Rattle.fits_card.specs.Change.{cards_after, IsInRange}
 use Rattle.fits_card.specs.declared.change.Change.{Change}
@@ -19,6 +19,11 @@ cards_left cards (Some change) = cards_after cards change.now
 abbrev pub CanLeave : List (List ℕ) → Option (Bor Change) → Type 0
 CanLeave cards None = Unit
 CanLeave cards (Some change) = IsInRange cards change.now
+
+-- what was written where nothing broke its rule, or the place that did
+abbrev pub written : {X : Type 0} → Result Unit ℕ → X → Result X ℕ
+written (Ok done) value = Ok value
+written (Err place) value = Err place
 
 -- the first three cards, or the first of them that breaks its rule
 unfoldable pub front_of : Bool → List (List ℕ) → Result Front ℕ

@@ -1,6 +1,6 @@
 //! The shape that a header's mandatory keywords describe (FITS Standard 4.0, sections 4.4.1.1,
 //! 4.4.1.2 and 6).
-ghost use Rattle.std.specs.Prelude.{◌≡◌, ◌+◌, ◌*◌, ℕ, length, IfOk, IfErr, IsErrOf, Ok, Err};
+ghost use Rattle.std.specs.Prelude.{◌≡◌, ◌+◌, ◌*◌, ℕ, [], length, IfOk, IfErr, OnOk, IsErrOf, Ok, Err};
 ghost use Rattle.fits_card.specs.CardList.{ReadsUpTo};
 ghost use Rattle.fits_card.specs.Change.{cards_after, IsInRange};
 ghost use Rattle.fits_rules.specs.Class.{is_primary};
@@ -57,22 +57,25 @@ pub fn shape(alloc: Global, cards: &mut CardList, primary: bool) -> Result<Shape
 
     ensures work { ReadsUpTo cards.old cards.new (3 * length cards.old.header.cards + 4) }
 {
-    match read_header(cards, primary) {
-        Ok(reading) => to_shape(alloc, cards, &reading),
+    // It has room for many axes: it is made once, and filled where it stands.
+    let mut reading = ShapeReading::new();
+    match read_header(cards, primary, &mut reading) {
+        Ok(()) => to_shape(alloc, cards, &reading),
         Err(place) => Err(ShapeFault::Bad(place)),
     }
 }
 
 // The shape of a header as it is, or the first broken place before its counts.
-fn read_header(cards: &mut CardList, primary: bool) -> Result<ShapeReading, usize>
-    ensures ok { IfOk result (λ reading. shape_of primary cards.old.header.cards
-        ≡ shape_read cards.old.header.cards reading) }
+fn read_header(cards: &mut CardList, primary: bool, reading: &mut ShapeReading) -> Result<(), usize>
+    requires empty { reading.old.axes ≡ [] }
+    ensures ok { OnOk result (shape_of primary cards.old.header.cards
+        ≡ shape_read cards.old.header.cards reading.new) }
     ensures err { IfErr result (λ place. shape_of primary cards.old.header.cards ≡ Err place) }
     ensures work { ReadsUpTo cards.old cards.new (2 * length cards.old.header.cards + 4) }
 {
     let leads = ShapeLeads::find(cards);
     let front = read_front(cards, None, primary)?;
-    read_shape(cards, None, primary, &front, &leads)
+    read_shape(cards, None, primary, &front, &leads, reading)
 }
 
 // The shape that was read, where the leads say its counts.
@@ -122,8 +125,9 @@ pub fn keeps_shape(cards: &mut CardList, shape: &Shape, change: &Change, leads: 
     if front.naxis != shape.axes.as_slice().len() as u64 {
         return false;
     }
-    match read_shape(cards, Some(change), primary, &front, leads) {
-        Ok(reading) => is_shape(&reading, shape),
+    let mut reading = ShapeReading::new();
+    match read_shape(cards, Some(change), primary, &front, leads, &mut reading) {
+        Ok(()) => is_shape(&reading, shape),
         Err(_) => false,
     }
 }

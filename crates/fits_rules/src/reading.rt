@@ -1,10 +1,10 @@
 //! The shape that a header describes, read without memory: of its cards as they are, or as a change
 //! would leave them.
-ghost use Rattle.std.specs.Prelude.{◌≡◌, ◌+◌, ◌<◌, length, min, IfOk};
+ghost use Rattle.std.specs.Prelude.{◌≡◌, ◌+◌, ◌<◌, [], length, min, IfOk};
 ghost use Rattle.fits_card.specs.CardList.{ReadsUpTo};
-ghost use Rattle.fits_rules.specs.ShapeSteps.{cards_left, front_of, reading_of, CanLeave};
+ghost use Rattle.fits_rules.specs.ShapeSteps.{cards_left, front_of, reading_of, written, CanLeave};
 
-use crate::rules::{axes, bitpix, class, count, first_card, naxis};
+use crate::rules::{bitpix, class, count, first_card, naxis, read_axes};
 use crate::shape_leads::ShapeLeads;
 use crate::shape_reading::ShapeReading;
 use fits_card::{Card, CardList, Change};
@@ -53,22 +53,27 @@ pub(crate) fn read_shape(
     primary: bool,
     front: &Front,
     leads: &ShapeLeads,
-) -> Result<ShapeReading, usize>
+    reading: &mut ShapeReading,
+) -> Result<(), usize>
     requires in_range { CanLeave cards.old.header.cards change }
     requires small { front.now.naxis < 1000 }
-    ensures value { result ≡
+    requires empty { reading.old.axes ≡ [] }
+    ensures value { written result reading.new ≡
         reading_of primary (cards_left cards.old.header.cards change.entry) leads.now front.now }
     ensures work { ReadsUpTo cards.old cards.new
         (min front.now.naxis
         (length (cards_left cards.old.header.cards change.entry) + 1)) }
 {
-    let axes = axes(cards, change, front.naxis as usize)?;
-    let class = class(primary, &front.first, axes.as_slice(), &leads.groups);
-    Ok(ShapeReading {
-        class,
-        bitpix: front.bitpix,
-        axes,
-        pcount: count(class, &leads.pcount, 0),
-        gcount: count(class, &leads.gcount, 1),
-    })
+    read_axes(cards, change, front.naxis as usize, &mut reading.axes)?;
+    let class = class(
+        primary,
+        &front.first,
+        reading.axes.as_slice(),
+        &leads.groups,
+    );
+    reading.class = class;
+    reading.bitpix = front.bitpix;
+    reading.pcount = count(class, &leads.pcount, 0);
+    reading.gcount = count(class, &leads.gcount, 1);
+    Ok(())
 }

@@ -1,9 +1,9 @@
 //! The rules of the mandatory keywords, one by one (FITS Standard 4.0, sections 4.4.1.1, 4.4.1.2
 //! and 6).
-ghost use Rattle.std.specs.Prelude.{◌≡◌, ◌≤◌, ◌+◌, ◌<◌, length, min, IfSome};
+ghost use Rattle.std.specs.Prelude.{◌≡◌, ◌≤◌, ◌+◌, ◌<◌, [], length, min, IfSome};
 ghost use Rattle.fits_card.specs.CardList.{ReadsUpTo};
 ghost use Rattle.fits_rules.specs.Shape.{axis_name, card_named, first_card, bitpix_of, naxis_of, axis_of, axes_of, has_group_axes, says_groups, class_of, count_of};
-ghost use Rattle.fits_rules.specs.ShapeSteps.{cards_left, CanLeave};
+ghost use Rattle.fits_rules.specs.ShapeSteps.{cards_left, written, CanLeave};
 ghost use Rattle.fits_rules.specs.declared.rules.TheConstants.{LARGEST};
 
 use crate::axis_buffer::{AxisBuffer, MOST_AXES};
@@ -99,27 +99,30 @@ pub(crate) fn axis(cards: &mut CardList, change: Option<&Change>, n: usize) -> O
     }
 }
 
-/// NAXIS1 and the further axes, or the place of the first that breaks its rule (4.4.1.1).
+/// NAXIS1 and the further axes into an empty buffer, or the place of the first that breaks its rule
+/// (4.4.1.1).
 #[tactic(auto, using(crate::proofs::AxesLemmas::axes_steps))]
-pub(crate) fn axes(
+pub(crate) fn read_axes(
     cards: &mut CardList,
     change: Option<&Change>,
     naxis: usize,
-) -> Result<AxisBuffer, usize>
+    axes: &mut AxisBuffer,
+) -> Result<(), usize>
     requires in_range { CanLeave cards.old.header.cards change }
     requires small { naxis < 1000 }
-    ensures value { result ≡ axes_of (cards_left cards.old.header.cards change.entry) naxis }
+    requires empty { axes.old ≡ [] }
+    ensures value { written result axes.new
+        ≡ axes_of (cards_left cards.old.header.cards change.entry) naxis }
     ensures work { ReadsUpTo cards.old cards.new
         (min naxis (length (cards_left cards.old.header.cards change.entry) + 1)) }
 {
-    let mut axes = AxisBuffer::new();
     for i in 0..naxis {
         let Some(number) = axis(cards, change, i + 1) else {
             return Err(4 + i);
         };
         axes.push(number);
     }
-    Ok(axes)
+    Ok(())
 }
 
 // Whether two axes or more are there, and the first is 0 (6).

@@ -1,4 +1,4 @@
-ghost use Rattle.std.specs.Prelude.{◌↔◌, IsTrue};
+ghost use Rattle.std.specs.Prelude.{◌≡◌, ◌↔◌, [], IsTrue};
 ghost use Rattle.fits_rules.specs.ShapeSteps.{IsReadingOf};
 
 use crate::array_shape::Shape;
@@ -13,6 +13,21 @@ pub(crate) struct ShapeReading {
     pub(crate) axes: AxisBuffer,
     pub(crate) pcount: Option<u64>,
     pub(crate) gcount: Option<u64>,
+}
+
+impl ShapeReading {
+    /// Room for a reading, with no axes in it yet.
+    pub(crate) fn new() -> ShapeReading
+        ensures { result.axes ≡ [] }
+    {
+        ShapeReading {
+            class: Class::Other,
+            bitpix: 0,
+            axes: AxisBuffer::new(),
+            pcount: None,
+            gcount: None,
+        }
+    }
 }
 
 /// Whether a reading is that of a shape.

@@ -18,7 +18,7 @@ returns-in-Ok-read_shape-clause-value c =
     let front = rw c.is_primary-primary.ensures at c.in-Ok.ensures.value in
     let one = reads_header _ _ _ (Some c.args.change) c.read_front.ensures.work in
     let read = rw (c.is_primary-primary.ensures, one) at c.in-Ok-read_shape.ensures.value in
-    reading_decides _ c.args.shape.now c.in-Ok-read_shape.reading _ _ c.is_shape.ensures (read_on _ _ c.args.leads.now c.in-Ok.front _ c.requires.leads front read)
+    reading_decides _ c.args.shape.now c.read_shape.new.reading _ _ c.is_shape.ensures (read_on _ _ c.args.leads.now c.in-Ok.front _ c.requires.leads front read)
 
 pub returns-in-Err-clause-value : goal.returns-in-Err-clause-value
 returns-in-Err-clause-value c =

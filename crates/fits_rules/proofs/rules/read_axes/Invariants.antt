@@ -2,7 +2,7 @@ use Rattle.std.proofs.Common.{◌≡◌, ◌≤◌, length, Ok}
 use Rattle.fits_rules.specs.Shape.{axes_of}
 use Rattle.fits_rules.specs.ShapeSteps.{cards_left}
 use Rattle.fits_card.specs.CardList.{ReadsUpTo}
-use Rattle.fits_rules.proofs.rules.axes.Given as goal
+use Rattle.fits_rules.proofs.rules.read_axes.Given as goal
 
 abbrev pub invariant-loop-i : goal.invariant-loop-i
 invariant-loop-i l = record {

@@ -3,7 +3,7 @@ use Rattle.fits_rules.specs.Shape.{axis_of}
 use Rattle.fits_rules.specs.ShapeSteps.{cards_left}
 use Rattle.fits_rules.proofs.ShapeLemmas.{reads_header, reads_both}
 use Rattle.fits_rules.proofs.AxesLemmas.{axes_more, axis_within}
-use Rattle.fits_rules.proofs.rules.axes.Goals as goal
+use Rattle.fits_rules.proofs.rules.read_axes.Goals as goal
 
 pub loop-i-preserved : goal.loop-i-preserved
 loop-i-preserved c =
