@@ -93,11 +93,12 @@ one_item : (cards : List (List ℕ)) (place : ℕ) → 1 ≤ place → place ≤
 one_item cards place one within = ap (take 1) (drop_more cards (place - 1) [] (omega arith))
 
 -- no entry goes where none is taken out
-all_stay : (place : ℕ) (es : List Entry) → filter (stays place 0) es ≡ es
-all_stay place es = filter_all (stays place 0) es (λ k d l. stays_by (get_or es k d))
-  where
-    stays_by : (e : Entry) → stays place 0 e ≡ true
-    stays_by e = grind (arith, nat_tests)
+pub one_stays : (place : ℕ) (e : Entry) → stays place 0 e ≡ true
+one_stays place e = grind (arith, nat_tests)
+
+-- nor any of them
+pub all_stay : (place : ℕ) (es : List Entry) → filter (stays place 0) es ≡ es
+all_stay place es = filter_all (stays place 0) es (λ k d l. one_stays place (get_or es k d))
 
 -- entries in order stay so where a gap opens
 pub sorted-gap : (es : List Entry) (place : ℕ) → IsSortedIndex es → IsSortedIndex (map (shifted place 0 1) es)

@@ -108,7 +108,7 @@ entries-taken place removed coming xs ys zs h g =
     ∙ rw (shifted_low place removed coming 1 xs (omega arith), shifted_high place removed coming (place + removed) (place + coming) zs (omega arith) (omega arith) (omega arith)) refl))
 
 -- a part of a list, and the two round it
-parts_of : {X : Type 0} (all : List X) (place removed : ℕ) → all ≡ take (place - 1) all ++ (take removed (drop (place - 1) all) ++ drop (place - 1 + removed) all)
+pub parts_of : {X : Type 0} (all : List X) (place removed : ℕ) → all ≡ take (place - 1) all ++ (take removed (drop (place - 1) all) ++ drop (place - 1 + removed) all)
 parts_of all place removed =
     sym (take-append-drop (place - 1) all)
     ∙ ap (λ ys. take (place - 1) all ++ ys) (sym (take-append-drop removed (drop (place - 1) all)) ∙ ap (λ ys. take removed (drop (place - 1) all) ++ ys) (drop-drop removed (place - 1) all))

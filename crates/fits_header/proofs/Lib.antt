@@ -3,8 +3,10 @@ pub mod IndexLemmas
 pub mod EntriesLemmas
 pub mod LeadLemmas
 pub mod OpenLemmas
+pub mod PackLemmas
 pub mod CountLemmas
 pub mod ChangeLemmas
+pub mod KeyLemmas
 pub mod NumberLemmas
 pub mod AnswerLemmas
 pub mod NameLemmas

@@ -1,5 +1,5 @@
 -- Entries of names and places, sorted (own).
-use Rattle.std.specs.Prelude.{◌≡◌, ℕ, ◌+◌, ◌-◌, ◌==◌, ◌&&◌, ◌||◌, nat_lt, nat_le, Bool, false, not, List, [], ◌∷◌, ◌++◌, filter, AllPairs, Option, None, Some, if◌then◌else◌}
+use Rattle.std.specs.Prelude.{◌≡◌, ℕ, ◌+◌, ◌-◌, ◌==◌, ◌&&◌, ◌||◌, nat_lt, nat_le, Bool, false, not, List, [], ◌∷◌, ◌++◌, map, filter, AllPairs, Option, None, Some, if◌then◌else◌}
 use Rattle.fits_card.specs.Card.{keyword_name, has_value}
 use Rattle.fits_header.specs.Names.{AreNamed, name_number}
 use Rattle.fits_header.specs.declared.entry.Entry.{Entry}
@@ -12,6 +12,11 @@ entry_of card place = record { name = name_number (keyword_name card); place = p
 abbrev pub entries_from : ℕ → List (List ℕ) → List Entry
 entries_from place [] = []
 entries_from place (card ∷ cards) = entry_of card place ∷ entries_from (place + 1) cards
+
+-- cards of the same names, which have values alike: their entries are the same
+pub record HaveSameKeys (cards others : List (List ℕ)) : Type 0 where
+  pub names : map keyword_name cards ≡ map keyword_name others
+  pub values : map has_value cards ≡ map has_value others
 
 -- the entry has this name
 abbrev pub is_named : ℕ → Entry → Bool

@@ -1,11 +1,11 @@
 //! Entries of names and places, sorted, under changes of the cards that they stand for.
-ghost use Rattle.std.specs.Prelude.{◌≡◌, ◌≤◌, ◌<◌, ◌+◌, ◌-◌, ◌++◌, ◌^◌, ℕ, List, All, IfOk, IsTrue, length, map, filter, not, take, drop, vec_len, vec_capacity};
+ghost use Rattle.std.specs.Prelude.{◌≡◌, ◌≤◌, ◌<◌, ◌+◌, ◌-◌, ◌++◌, ◌^◌, ℕ, List, All, IfOk, length, map, filter, not, take, drop, vec_len, vec_capacity};
 ghost use Rattle.fits_card.specs.CardList.{ReadsUpTo};
 ghost use Rattle.fits_header.specs.Index.{AreSame, IsIndexOf, IsSortedIndex, added, comes_before, entries_from, shifted, stays};
 ghost use Rattle.fits_header.specs.Names.{AreNamed};
 ghost use Rattle.fits_header.specs.Notes.{notes_of};
 
-use crate::entry::{Entry, entry_of, noted_entry, shifted};
+use crate::entry::{Entry, entry_of, noted_entry, shifted, stays};
 use crate::note::Note;
 use fits_card::{Card, CardList};
 use std::alloc::{AllocError, Global};
@@ -17,7 +17,7 @@ pub(crate) fn read_entries(alloc: Global, cards: &mut CardList) -> Result<Vec<En
     ensures named { IfOk result (λ _. AreNamed cards.old.header.cards) }
     ensures work { ReadsUpTo cards.old cards.new (length cards.old.header.cards) }
 {
-    let mut entries = Vec::new(alloc);
+    let mut entries = Vec::with_capacity(alloc, cards.len())?;
     for index in 0..cards.len() {
         entries.push(entry_of(&cards.card(index + 1), index + 1))?;
     }
@@ -35,7 +35,7 @@ pub(crate) fn noted_entries(
     ensures value { IfOk result (λ entries. entries.items ≡ entries_from 1 cards.now.header.cards) }
     ensures named { IfOk result (λ _. AreNamed cards.now.header.cards) }
 {
-    let mut entries = Vec::new(alloc);
+    let mut entries = Vec::with_capacity(alloc, notes.len())?;
     for index in 0..notes.len() {
         entries.push(noted_entry(&notes[index], index + 1))?;
     }
@@ -92,8 +92,30 @@ pub(crate) fn take_out(entries: &mut Vec<Entry>, place: usize, removed: usize, c
     ensures sorted { IsSortedIndex entries.new.items }
     ensures room { vec_capacity entries.new ≡ vec_capacity entries.old }
 {
-    entries.retain(|entry| entry.place < place || removed <= entry.place - place);
-    shift(entries, place, removed, coming);
+    if removed == 0 {
+        shift(entries, place, coming);
+        return;
+    }
+    let kept = pack(entries, place, removed, coming);
+    entries.truncate(kept);
+}
+
+// Packs what stays at the front, shifted, and says how many that are.
+fn pack(entries: &mut [Entry], place: usize, removed: usize, coming: usize) -> usize
+    requires low { All (λ e. e.place + coming < 2 ^ 64 + removed) entries.old }
+    ensures kept { take result entries.new
+        ≡ map (shifted place removed coming) (filter (stays place removed) entries.old) }
+    ensures len { length entries.new ≡ length entries.old }
+    ensures within { result ≤ length entries.old }
+{
+    let mut kept = 0;
+    for index in 0..entries.len() {
+        let entry = entries[index];
+        // It is written whether it stays or not: what doesn't is written over.
+        entries[kept] = shifted(entry, place, removed, coming);
+        kept += stays(entry, place, removed) as usize;
+    }
+    kept
 }
 
 /// Shifts the entries of places from one on, for one that comes.
@@ -105,17 +127,16 @@ pub(crate) fn open_gap(entries: &mut Vec<Entry>, place: usize)
     ensures len { vec_len entries.new ≡ vec_len entries.old }
     ensures room { vec_capacity entries.new ≡ vec_capacity entries.old }
 {
-    shift(entries, place, 0, 1);
+    shift(entries, place, 1);
 }
 
-// Shifts the entries of places from one on.
-fn shift(entries: &mut [Entry], place: usize, removed: usize, coming: usize)
-    requires stay { All (λ e. IsTrue (stays place removed e)) entries.old }
-    requires low { All (λ e. e.place + coming < 2 ^ 64 + removed) entries.old }
-    ensures { entries.new ≡ map (shifted place removed coming) entries.old }
+// Shifts the entries of places from one on, for as many as come.
+fn shift(entries: &mut [Entry], place: usize, coming: usize)
+    requires { All (λ e. e.place + coming < 2 ^ 64) entries.old }
+    ensures { entries.new ≡ map (shifted place 0 coming) entries.old }
 {
     for index in 0..entries.len() {
-        entries[index] = shifted(entries[index], place, removed, coming);
+        entries[index] = shifted(entries[index], place, 0, coming);
     }
 }
 

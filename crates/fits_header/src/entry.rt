@@ -42,17 +42,31 @@ pub(crate) fn noted_entry(note: &Note, place: usize) -> Entry
     }
 }
 
-// The entry once cards before it went and came.
-pub(crate) fn shifted(entry: Entry, place: usize, removed: usize, coming: usize) -> Entry
-    requires stays { IsTrue (stays place removed entry) }
-    requires low { entry.place + coming < 2 ^ 64 + removed }
-    ensures { result ≡ shifted place removed coming entry }
+/// Whether the entry is of none of the places that go.
+pub(crate) fn stays(entry: Entry, place: usize, removed: usize) -> bool
+    ensures { result ≡ stays place removed entry }
 {
-    if entry.place < place {
-        return entry;
-    }
+    entry.place < place || removed <= entry.place - place
+}
+
+/// The entry once cards before it went and came, where it stays itself.
+pub(crate) fn shifted(entry: Entry, place: usize, removed: usize, coming: usize) -> Entry
+    requires low { entry.place + coming < 2 ^ 64 + removed }
+    ensures { IsTrue (stays place removed entry) → result ≡ shifted place removed coming entry }
+{
     Entry {
-        place: entry.place - removed + coming,
+        place: place_after(entry.place, place, removed, coming),
         ..entry
     }
+}
+
+// Where a card stands once others before it went and came.
+fn place_after(here: usize, place: usize, removed: usize, coming: usize) -> usize
+    requires { here + coming < 2 ^ 64 + removed }
+    ensures before { here < place → result ≡ here }
+    ensures behind { place + removed ≤ here → result ≡ here - removed + coming }
+{
+    // A card that goes has no place then: whatever comes of it is written over.
+    let moved = here.wrapping_sub(removed).wrapping_add(coming);
+    if here < place { here } else { moved }
 }

@@ -1,12 +1,9 @@
-ghost use Rattle.std.specs.Prelude.{◌≡◌, ◌≤◌, ◌+◌, length};
-ghost use Rattle.fits_card.specs.Change.{cards_after, IsInRange};
-ghost use Rattle.fits_header.specs.Index.{IsIndexOf};
-
 use crate::counting::count_all;
 use crate::counts::Counts;
 use crate::finding::Finding;
 use crate::findings::{codes_at, findings_of, is_link};
 use crate::header_marks::header_mark_of;
+use crate::indexing::change_index;
 use crate::key_index::KeyIndex;
 use crate::leads::{lead_after, leads_after};
 use crate::note::Note;
@@ -279,7 +276,7 @@ impl Header {
             ≡ self.old.room + length self.old.header.cards }
         ensures work { self.new.reads ≡ self.old.reads }
     {
-        change_index(&mut self.index, &self.cards, change);
+        change_index(&mut self.index, &self.cards, &self.notes, change);
         change_notes(&mut self.notes, &self.cards, change);
         self.surroundings.clear();
         change.apply(&mut self.cards);
@@ -360,26 +357,5 @@ impl Header {
             (self.new.reads ≡ self.old.reads + length self.old.header.cards) }
     {
         self.cards.emit(sink)
-    }
-}
-
-// Makes a change of an index, as of the cards.
-#[tactic(auto, using(crate::proofs::HeaderLemmas::change_steps))]
-fn change_index(index: &mut KeyIndex, cards: &CardList, change: &Change)
-    requires index { IsIndexOf index.old.entries cards.now.header.cards }
-    requires in_range { IsInRange cards.now.header.cards change.now }
-    requires room { length (cards_after cards.now.header.cards change.now)
-        ≤ length cards.now.header.cards + index.old.room }
-    ensures index { IsIndexOf index.new.entries (cards_after cards.now.header.cards change.now) }
-    ensures room { index.new.room + length (cards_after cards.now.header.cards change.now)
-        ≡ index.old.room + length cards.now.header.cards }
-{
-    match change {
-        Change::Splice {
-            place,
-            removed,
-            cards: new,
-        } => index.splice(*place, *removed, new.as_slice()),
-        Change::Move { from, to } => index.move_place(*from, *to),
     }
 }

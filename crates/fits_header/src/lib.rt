@@ -12,6 +12,7 @@ mod finding;
 mod findings;
 mod header;
 mod header_marks;
+mod indexing;
 mod key_index;
 mod laws;
 mod leads;
@@ -20,6 +21,7 @@ mod lookups;
 mod note;
 mod notes;
 mod numbers;
+mod passing_total;
 mod repeats;
 mod seen;
 mod surrounding;
@@ -33,3 +35,4 @@ pub use laws::{
     links_are_those_of_chains, names_are_those_of_the_cards, numbers_keep_the_order,
     numbers_tell_names_apart,
 };
+pub use passing_total::header_total;

@@ -14,7 +14,7 @@ pub(crate) fn read_notes(alloc: Global, cards: &mut CardList) -> Result<Vec<Note
     ensures len { IfOk result (λ notes. vec_len notes ≡ length cards.old.header.cards) }
     ensures work { ReadsUpTo cards.old cards.new (length cards.old.header.cards) }
 {
-    let mut notes = Vec::new(alloc);
+    let mut notes = Vec::with_capacity(alloc, cards.len())?;
     for index in 0..cards.len() {
         notes.push(note_of(&cards.card(index + 1)))?;
     }
@@ -68,9 +68,17 @@ fn splice_notes(notes: &mut Vec<Note>, place: usize, removed: usize, cards: &[Ca
     ensures len { vec_len notes.new + removed ≡ vec_len notes.old + length cards.now }
     ensures room { vec_capacity notes.old ≤ vec_capacity notes.new }
 {
-    let filler = note_of(&Card([b' '; 80]));
+    let filler = any_note(notes);
     make_room(notes, place, removed, cards.len(), filler);
     write_notes(notes, place, cards);
+}
+
+// A note to be written over: one that is there, so that no card need be looked at for it.
+fn any_note(notes: &[Note]) -> Note {
+    match notes.first() {
+        Some(note) => *note,
+        None => note_of(&Card([b' '; 80])),
+    }
 }
 
 // Writes the notes of cards over others, from a place on.

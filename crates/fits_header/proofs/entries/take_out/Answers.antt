@@ -1,27 +1,29 @@
-use Rattle.std.proofs.Common.{rules, subst, sym, ap, ◌∙◌, ◌≡◌, map, filter, length, ◌+◌, ◌<◌}
-use Rattle.std.proofs.lemmas.Fn.{filter_same}
+use Rattle.std.proofs.Common.{◌≡◌, ◌∙◌, List, ap, sym, subst, length, map, filter, take}
 use Rattle.std.proofs.lemmas.List.{length-map}
-use Rattle.std.proofs.lemmas.List.Elements.{All-filter, filter_passes}
 use Rattle.fits_header.specs.declared.entry.Entry.{Entry}
-use Rattle.fits_header.specs.Index.{IsSortedIndex, stays, shifted}
+use Rattle.fits_header.specs.Index.{IsSortedIndex, shifted, stays}
+use Rattle.fits_header.proofs.ChangeLemmas.{all_stay}
 use Rattle.fits_header.proofs.IndexLemmas.{sorted-shifted, all_written}
 use Rattle.fits_header.proofs.entries.take_out.Goals as goal
 
-pub shift-requires-clause-stay : goal.shift-requires-clause-stay
-shift-requires-clause-stay c =
-    let kept : c.retain.new.self.items ≡ filter (stays c.args.place c.args.removed) c.args.entries.now.items = filter_same _ _ _ (λ x b f' k. search rules) _ _ c.retain.ensures.filtered in
-    rw (c.deref_mut.ensures.value, kept) (filter_passes (stays c.args.place c.args.removed) c.args.entries.now.items)
+pub returns-then-removed-eq0-clause-items : goal.returns-then-removed-eq0-clause-items
+returns-then-removed-eq0-clause-items c =
+    let old = c.args.entries.now.items in
+    let moved = map (shifted c.args.place 0 c.args.coming) in
+    let all : moved old ≡ moved (filter (stays c.args.place 0) old) = ap moved (sym (all_stay c.args.place old)) in
+    let none = ap (λ n. map (shifted c.args.place n c.args.coming) (filter (stays c.args.place n) old)) {x = 0} {y = c.args.removed} (sym c.if-removed-eq0.true) in
+    all_written _ _ _ (ap length c.shift.ensures ∙ (length-map c.deref_mut.result.now (shifted c.args.place 0 c.args.coming) ∙ c.deref_mut.ensures.len))
+    ∙ (c.shift.ensures ∙ (ap moved c.deref_mut.ensures.value ∙ (all ∙ none)))
 
-pub shift-requires-clause-low : goal.shift-requires-clause-low
-shift-requires-clause-low c =
-    let kept : c.retain.new.self.items ≡ filter (stays c.args.place c.args.removed) c.args.entries.now.items = filter_same _ _ _ (λ x b f' k. search rules) _ _ c.retain.ensures.filtered in
-    rw (c.deref_mut.ensures.value, kept) (All-filter (stays c.args.place c.args.removed) (λ (e : Entry). e.place + c.args.coming < 18446744073709551616 + c.args.removed) c.args.entries.now.items c.requires.low)
+pub returns-then-removed-eq0-clause-sorted : goal.returns-then-removed-eq0-clause-sorted
+returns-then-removed-eq0-clause-sorted c = subst IsSortedIndex (sym (returns-then-removed-eq0-clause-items c)) (sorted-shifted c.args.entries.now.items c.args.place c.args.removed c.args.coming c.requires.sorted)
 
 pub returns-clause-items : goal.returns-clause-items
 returns-clause-items c =
-    let kept : c.retain.new.self.items ≡ filter (stays c.args.place c.args.removed) c.args.entries.now.items = filter_same _ _ _ (λ x b f' k. search rules) _ _ c.retain.ensures.filtered in
-    let new = c.shift.ensures ∙ ap (map (shifted c.args.place c.args.removed c.args.coming)) (c.deref_mut.ensures.value ∙ kept) in
-    all_written _ _ _ (ap length c.shift.ensures ∙ (length-map c.deref_mut.result.now (shifted c.args.place c.args.removed c.args.coming) ∙ c.deref_mut.ensures.len)) ∙ new
+    let stay = λ (es : List Entry). map (shifted c.args.place c.args.removed c.args.coming) (filter (stays c.args.place c.args.removed) es) in
+    c.truncate.ensures.items
+    ∙ (ap (take c.pack-kept.result) (all_written _ _ _ (c.pack-kept.ensures.len ∙ c.deref_mut-2.ensures.len))
+    ∙ (c.pack-kept.ensures.kept ∙ ap stay c.deref_mut-2.ensures.value))
 
 pub returns-clause-sorted : goal.returns-clause-sorted
 returns-clause-sorted c = subst IsSortedIndex (sym (returns-clause-items c)) (sorted-shifted c.args.entries.now.items c.args.place c.args.removed c.args.coming c.requires.sorted)
