@@ -1,21 +1,18 @@
-ghost use Rattle.std.specs.Prelude.{◌≡◌, ◌≤◌, ◌^◌, length, Ok, IfOk};
+ghost use Rattle.std.specs.Prelude.{◌≡◌, ◌≤◌, ◌^◌, length};
 ghost use Rattle.fits_card.specs.Header.{header_bytes};
-ghost use Rattle.fits_rules.specs.Class.{is_primary};
-ghost use Rattle.fits_rules.specs.Shape.{shape_of};
 ghost use Rattle.fits_sum.specs.OnesComplement.{ones_complement};
 ghost use Rattle.fits_hdu.specs.Passing.{verdicts_of_sums};
 
 use crate::described::Described;
-use crate::fault::HduFault;
 use crate::read_fault::ReadHduFault;
 use crate::summed::{Summed, read_summed};
-use crate::sums::{sum_keywords, verdicts_by, whole_sum};
+use crate::sums::{sum_keywords_in, verdicts_by, whole_sum};
 use crate::unit_sums::UnitSums;
 use crate::verdicts::Verdicts;
 use fits_card::{Intake, Source};
-use fits_header::Header;
+use fits_header::header_total;
 use fits_sum::fold;
-use std::alloc::{AllocError, Global};
+use std::alloc::Global;
 
 /// The sums of an HDU: what is told of it where it passes by.
 #[derive(Clone, Copy)]
@@ -53,29 +50,23 @@ impl HduSums {
             (supply (R.state source.old) intake.old) (supply (R.state source.new) intake.new)) }
     {
         let Summed { head, sums } = read_summed(alloc, intake, source, first, primary)?;
-        match sums_of(alloc, head, sums) {
-            Ok(found) => Ok(found),
-            Err(_) => Err(ReadHduFault::Hdu(HduFault::Memory)),
-        }
+        Ok(sums_of(head, sums))
     }
 }
 
-// The sums of an HDU with this header and these sums of its data unit.
-fn sums_of(alloc: Global, head: Described, sums: UnitSums) -> Result<HduSums, AllocError>
-    requires described { shape_of (is_primary head.shape.class) head.cards.header.cards
-        ≡ Ok head.shape }
-    requires small { length (header_bytes head.cards.header) ≤ 2 ^ 34 }
-    ensures sum { IfOk result (λ it. it.datasum ≡ ones_complement sums.total) }
-    ensures verdicts { IfOk result (λ it. it.verdicts ≡ verdicts_of_sums head.cards.header sums) }
+// The sums of an HDU with this header and these sums of its data unit. It takes no memory: of the
+// cards nothing is kept.
+fn sums_of(head: Described, sums: UnitSums) -> HduSums
+    requires { length (header_bytes head.cards.header) ≤ 2 ^ 34 }
+    ensures sum { result.datasum ≡ ones_complement sums.total }
+    ensures verdicts { result.verdicts ≡ verdicts_of_sums head.cards.header sums }
 {
-    let Described { cards, shape, .. } = head;
-    let mut header = Header::open(alloc, cards, shape)?;
-    let said = sum_keywords(&mut header);
+    let Described { mut cards, .. } = head;
+    let said = sum_keywords_in(&mut cards);
     let datasum = fold(sums.total);
-    let whole = whole_sum(header.total(), sums.total);
-    drop(header);
-    Ok(HduSums {
+    let whole = whole_sum(header_total(&mut cards), sums.total);
+    HduSums {
         datasum,
         verdicts: verdicts_by(said, datasum, whole),
-    })
+    }
 }

@@ -94,7 +94,8 @@ fn sum_unit<R: Source>(
         (supply (R.state source.old) intake.old) (supply (R.state source.new) intake.new) len)) }
     ensures err { IfErr result (TakingStops (R.state source.old) (R.state source.new)) }
 {
-    let mut piece = buffer_of(alloc, PIECE_LEN)?;
+    // A short unit needs no more room than it has bytes, and an empty one room for a word.
+    let mut piece = buffer_of(alloc, len.clamp(4, PIECE_LEN))?;
     match sum_next(intake, source, piece.as_mut_slice(), len, used, fill) {
         Ok(sums) => Ok(sums),
         Err(_) => Err(ReadFault::Failed),

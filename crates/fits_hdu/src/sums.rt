@@ -13,7 +13,7 @@ use crate::sum_keywords::SumKeywords;
 use crate::sum_said::SumSaid;
 use crate::verdict::Verdict;
 use crate::verdicts::Verdicts;
-use fits_card::{Card, Name};
+use fits_card::{Card, CardList, Name};
 use fits_header::Header;
 use fits_sum::fold;
 use fits_value::{ValueKind, card_string, scan_card};
@@ -30,6 +30,20 @@ pub(crate) fn sum_keywords(header: &mut Header) -> SumKeywords
 {
     let datasum = lead_card(header, &DATASUM);
     let checksum = lead_card(header, &CHECKSUM);
+    SumKeywords {
+        datasum: sum_of_lead(datasum),
+        checksum: sum_of_lead(checksum),
+    }
+}
+
+/// The same of the cards of a header, of which each is read twice at most.
+#[tactic(auto, unfolding(crate::specs::Sums::sum_keywords))]
+pub(crate) fn sum_keywords_in(cards: &mut CardList) -> SumKeywords
+    ensures value { result ≡ sum_keywords cards.old.header.cards }
+    ensures header { cards.new.header ≡ cards.old.header }
+{
+    let datasum = fits_rules::lead_card(cards, &DATASUM);
+    let checksum = fits_rules::lead_card(cards, &CHECKSUM);
     SumKeywords {
         datasum: sum_of_lead(datasum),
         checksum: sum_of_lead(checksum),
