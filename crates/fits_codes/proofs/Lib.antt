@@ -3,6 +3,7 @@ pub mod DateLemmas
 pub mod FixedLemmas
 pub mod LawLemmas
 pub mod MarkLemmas
+pub mod PlainLemmas
 pub mod SaidLemmas
 pub mod SetLemmas
 pub mod StandardFacts

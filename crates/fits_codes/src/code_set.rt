@@ -1,4 +1,4 @@
-ghost use Rattle.std.specs.Prelude.{◌≡◌, ◌<◌, ◌≤◌, ◌+◌, [], ◌∷◌, ◌++◌, length, if◌then◌else◌};
+ghost use Rattle.std.specs.Prelude.{◌≡◌, ◌<◌, ◌≤◌, ◌+◌, [], ◌∷◌, ◌++◌, length, if◌then◌else◌, IsTrue};
 
 use crate::code::Code;
 use std::marker::Model;
@@ -72,6 +72,13 @@ impl CodeSet {
         if holds {
             self.push(code);
         }
+    }
+
+    /// Whether it has none.
+    pub(crate) fn is_empty(&self) -> bool
+        ensures { IsTrue result → self.now ≡ [] }
+    {
+        self.len == 0
     }
 
     /// The codes, by number.

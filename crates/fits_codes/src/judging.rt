@@ -1,5 +1,5 @@
 //! The codes of a card, by its mark and by what stands round it.
-ghost use Rattle.std.specs.Prelude.{◌≡◌};
+ghost use Rattle.std.specs.Prelude.{◌≡◌, [], IsTrue};
 ghost use Rattle.fits_codes.specs.Judged.{says_shape, is_not_fixed, has_mandatory_name, repeats_mandatory, repeats_keyword, is_stray, is_left_open, judged};
 
 use crate::code::Code;
@@ -63,9 +63,32 @@ fn is_left_open(mark: &Mark, context: &Context) -> bool
     (mark.begins || context.is_link) && mark.is_open && !context.next_is_link
 }
 
+// Whether it is as most cards are, of which nothing is found.
+#[tactic(auto, using(crate::proofs::PlainLemmas::plain), unfolding(crate::specs::Judged::judged))]
+fn is_plain(mark: &Mark, context: &Context) -> bool
+    ensures { IsTrue result → judged mark.now context.now ≡ [] }
+{
+    mark.alone.is_empty()
+        && !context.name_before
+        && !context.value_before
+        && !mark.is_open
+        && !mark.name.is(b"CONTINUE")
+        && !says_shape(mark, context)
+}
+
 /// The codes of a card: exactly those whose fact holds. It takes no memory.
-#[tactic(auto, unfolding(crate::specs::Judged::judged))]
 pub fn judge(mark: &Mark, context: &Context) -> CodeSet
+    ensures { result ≡ judged mark.now context.now }
+{
+    if is_plain(mark, context) {
+        return CodeSet::new();
+    }
+    judge_each(mark, context)
+}
+
+// The same, fact by fact.
+#[tactic(auto, unfolding(crate::specs::Judged::judged))]
+fn judge_each(mark: &Mark, context: &Context) -> CodeSet
     ensures { result ≡ judged mark.now context.now }
 {
     let alone = &mark.alone;

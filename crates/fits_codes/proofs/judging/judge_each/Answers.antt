@@ -5,7 +5,7 @@ use Rattle.fits_codes.specs.Judged.{has_code, card_codes, judged}
 use Rattle.fits_codes.specs.declared.code.Code.{Code}
 use Rattle.fits_codes.specs.declared.code.Code.TheVariants.{NotText, BadName, UnreadableValue, UndefinedValue, WrongType, NotFixedFormat, MandatoryRepeated, KeywordRepeated, StrayContinue, AmpersandNotContinued, NoSpaceAfterEquals, BadDate, DeprecatedKeyword}
 use Rattle.fits_codes.proofs.SetLemmas.{tried}
-use Rattle.fits_codes.proofs.judging.judge.Goals as goal
+use Rattle.fits_codes.proofs.judging.judge_each.Goals as goal
 
 pub returns : goal.returns
 unfolding has_code judged
