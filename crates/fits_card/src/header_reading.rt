@@ -103,6 +103,7 @@ fn push_cards(cards: &mut Vec<Card>, block: &[u8], count: usize) -> Result<(), A
     requires { CARD_LEN * count ≤ length block.now }
     ensures { OnOk result (cards.new.items ≡ cards.old.items ++ pieces block.now count) }
 {
+    cards.reserve(count)?;
     for k in 0..count {
         cards.push(card_at(block, k))?;
     }
