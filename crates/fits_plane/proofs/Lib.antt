@@ -1,3 +1,4 @@
+pub mod ApartLemmas
 pub mod BlockLemmas
 pub mod CornerLemmas
 pub mod ExactLemmas

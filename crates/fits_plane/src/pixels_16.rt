@@ -1,12 +1,13 @@
 //! The statistics of a block of 16-bit pixels.
 //!
-//! The pass holds numbers of the pixel's own type, a sum and a count no wider than a block needs.
-ghost use Rattle.std.specs.Prelude.{◌≡◌, ◌≤◌, ◌*◌, ◌+◌, length, Some, None};
+//! A pass holds numbers of the pixel's own type, a sum and a count no wider than a block needs. Where
+//! a number is blank, a second pass adds up all pixels, and what is blank is taken off at the end.
+ghost use Rattle.std.specs.Prelude.{◌≡◌, ◌≤◌, ◌*◌, ◌+◌, length, Some, None, unsigned_abs};
 ghost use Rattle.fits_plane.specs.Pixels.{pixel, pixels};
-ghost use Rattle.fits_plane.specs.Statistics.{statistics};
+ghost use Rattle.fits_plane.specs.Statistics.{statistics, sum_of};
 
 use crate::pixel_summary::PixelSummary;
-use crate::scan_end::found;
+use crate::scan_end::{found, found_beside};
 use byteorder::{BigEndian, ByteOrder};
 
 /// Stored pixel i.
@@ -41,6 +42,20 @@ fn scan_defined(block: &[u8], held: usize) -> PixelSummary
     )
 }
 
+/// The sum of the first pixels, whether they are blank or not.
+fn total_of(block: &[u8], held: usize) -> i32
+    requires within { held * 2 ≤ length block.now }
+    requires short { length block.now ≤ 2880 }
+    ensures value { result ≡ sum_of (pixels 2 block.now 0 held) }
+    ensures within { unsigned_abs result ≤ 32768 * held }
+{
+    let mut total = 0i32;
+    for i in 0..held {
+        total += i32::from(read(block, i));
+    }
+    total
+}
+
 /// The statistics of the first pixels, where one number is blank.
 fn scan_blank(block: &[u8], held: usize, blank: i16) -> PixelSummary
     requires within { held * 2 ≤ length block.now }
@@ -49,8 +64,7 @@ fn scan_blank(block: &[u8], held: usize, blank: i16) -> PixelSummary
 {
     let mut least = i16::MAX;
     let mut greatest = i16::MIN;
-    let mut sum = 0i32;
-    let mut blanks = 0u32;
+    let mut blanks = 0u16;
     for i in 0..held {
         let x = read(block, i);
         if x == blank {
@@ -58,16 +72,16 @@ fn scan_blank(block: &[u8], held: usize, blank: i16) -> PixelSummary
         } else {
             least = least.min(x);
             greatest = greatest.max(x);
-            sum += i32::from(x);
         }
     }
-    let defined = (held - blanks as usize) as u64;
-    found(
-        defined,
-        blanks as u64,
+    let total = total_of(block, held);
+    found_beside(
+        held,
+        u64::from(blanks),
         i64::from(least),
         i64::from(greatest),
-        i128::from(sum),
+        i128::from(total),
+        i64::from(blank),
     )
 }
 

@@ -1,12 +1,13 @@
 //! The statistics of a block of 32-bit pixels.
 //!
-//! The pass holds numbers of the pixel's own type, a sum and a count no wider than a block needs.
-ghost use Rattle.std.specs.Prelude.{◌≡◌, ◌≤◌, ◌*◌, ◌+◌, length, Some, None};
+//! A pass holds numbers of the pixel's own type, a sum and a count no wider than a block needs. Where
+//! a number is blank, a second pass adds up all pixels, and what is blank is taken off at the end.
+ghost use Rattle.std.specs.Prelude.{◌≡◌, ◌≤◌, ◌*◌, ◌+◌, length, Some, None, unsigned_abs};
 ghost use Rattle.fits_plane.specs.Pixels.{pixel, pixels};
-ghost use Rattle.fits_plane.specs.Statistics.{statistics};
+ghost use Rattle.fits_plane.specs.Statistics.{statistics, sum_of};
 
 use crate::pixel_summary::PixelSummary;
-use crate::scan_end::found;
+use crate::scan_end::{found, found_beside};
 use byteorder::{BigEndian, ByteOrder};
 
 /// Stored pixel i.
@@ -41,6 +42,20 @@ fn scan_defined(block: &[u8], held: usize) -> PixelSummary
     )
 }
 
+/// The sum of the first pixels, whether they are blank or not.
+fn total_of(block: &[u8], held: usize) -> i64
+    requires within { held * 4 ≤ length block.now }
+    requires short { length block.now ≤ 2880 }
+    ensures value { result ≡ sum_of (pixels 4 block.now 0 held) }
+    ensures within { unsigned_abs result ≤ 2147483648 * held }
+{
+    let mut total = 0i64;
+    for i in 0..held {
+        total += i64::from(read(block, i));
+    }
+    total
+}
+
 /// The statistics of the first pixels, where one number is blank.
 fn scan_blank(block: &[u8], held: usize, blank: i32) -> PixelSummary
     requires within { held * 4 ≤ length block.now }
@@ -49,7 +64,6 @@ fn scan_blank(block: &[u8], held: usize, blank: i32) -> PixelSummary
 {
     let mut least = i32::MAX;
     let mut greatest = i32::MIN;
-    let mut sum = 0i64;
     let mut blanks = 0u32;
     for i in 0..held {
         let x = read(block, i);
@@ -58,16 +72,16 @@ fn scan_blank(block: &[u8], held: usize, blank: i32) -> PixelSummary
         } else {
             least = least.min(x);
             greatest = greatest.max(x);
-            sum += i64::from(x);
         }
     }
-    let defined = (held - blanks as usize) as u64;
-    found(
-        defined,
-        blanks as u64,
+    let total = total_of(block, held);
+    found_beside(
+        held,
+        u64::from(blanks),
         i64::from(least),
         i64::from(greatest),
-        i128::from(sum),
+        i128::from(total),
+        i64::from(blank),
     )
 }
 
