@@ -11,7 +11,7 @@ use crate::scan_end::{found, found_beside};
 use byteorder::{BigEndian, ByteOrder};
 
 /// Stored pixel i.
-fn read(block: &[u8], i: usize) -> i32
+pub(crate) fn read(block: &[u8], i: usize) -> i32
     requires within { (i + 1) * 4 ≤ length block.now }
     ensures { result ≡ pixel 4 block.now i }
 {
