@@ -1,12 +1,12 @@
 -- A scan that adds up all numbers apart, and takes the blank ones off at the end.
-use Rattle.std.proofs.Common.{◌≡◌, ◌≢◌, ◌+◌, ℕ, suc, Bool, true, false, cond, not, List, [], ◌∷◌, length, refl, arith, sym, ◌∙◌, ap, Option, Some}
+use Rattle.std.proofs.Common.{◌≡◌, ◌≢◌, ◌+◌, ℕ, suc, Bool, true, false, cond, not, List, [], ◌∷◌, length, refl, arith, sym, ◌∙◌, ap, Option, Some, None}
 use Rattle.std.specs.Prelude.{filter, ℤ, pos, ◌+ℤ◌, ◌-ℤ◌, ◌*ℤ◌}
 use Rattle.std.specs.Int.{int_min, int_max}
 use Rattle.std.proofs.lemmas.Int.{ints}
 use Rattle.fits_plane.specs.Statistics.{is_blank, defined_numbers, sum_of, statistics}
 use Rattle.fits_plane.specs.Pixels.{pixel, pixels}
 use Rattle.fits_plane.specs.Scan.{found_summary}
-use Rattle.fits_plane.proofs.ScanLemmas.{Scanned, AllBetween, scanned_skip, scanned_use, scanned_result, pixels-step}
+use Rattle.fits_plane.proofs.ScanLemmas.{Scanned, AllBetween, scanned_skip, scanned_use, scanned_turn, scanned_result, pixels-step}
 use Rattle.fits_plane.proofs.ValueLemmas.{times_more, times_none}
 
 -- what a scan without a sum has found so far: with some sum it has scanned
@@ -32,6 +32,12 @@ pub ranged_use : {b x : ℤ} {top bottom low high low' high' : ℤ} {blanks blan
     → Ranged (Some b) top bottom low high blanks (pixels w xs i n) all → low' ≡ int_min low x → high' ≡ int_max high x → blanks' ≡ blanks
     → Ranged (Some b) top bottom low' high' blanks' (pixels w xs j m) all
 ranged_use {x = x} w i n j m xs e f here other s p q t = record { sum = s.sum +ℤ x; scanned = scanned_use w i n j m xs e f here other s.scanned p q refl t }
+
+-- a turn where none is blank
+pub ranged_turn : {top bottom low high low' high' : ℤ} {blanks : ℕ} (w i n j m : ℕ) (xs : List ℕ) {all : List ℤ} → n ≡ suc m → j ≡ i + 1
+    → Ranged None top bottom low high blanks (pixels w xs i n) all → low' ≡ int_min low (pixel w xs i) → high' ≡ int_max high (pixel w xs i)
+    → Ranged None top bottom low' high' blanks (pixels w xs j m) all
+ranged_turn w i n j m xs e f s p q = record { sum = s.sum +ℤ pixel w xs i; scanned = scanned_turn w i n j m xs e f refl s.scanned p q refl }
 
 -- a turn of a sum
 pub sum_turn : (w i n j m : ℕ) (xs : List ℕ) (sum sum' all : ℤ) → n ≡ suc m → j ≡ i + 1 → sum +ℤ sum_of (pixels w xs i n) ≡ all → sum' ≡ sum +ℤ pixel w xs i → sum' +ℤ sum_of (pixels w xs j m) ≡ all
@@ -63,3 +69,15 @@ ranged_result b b' top bottom low high low' high' total defined blanks blanks' a
     let sum = ap (λ z. total +ℤ pos blanks' *ℤ (pos 0 -ℤ z)) v in
     let whole : total +ℤ pos blanks' *ℤ (pos 0 -ℤ b') ≡ s.sum = omega (arith, ints, s.scanned.total, u, off, sum) in
     rw (sym t) at (scanned_result (Some b) top bottom low high s.sum low' high' _ defined blanks all s.scanned range (omega (arith, n, t)) p q whole)
+
+-- where none is blank, all are defined
+all_defined : (xs : List ℤ) → defined_numbers None xs ≡ xs
+all_defined [] = refl
+all_defined (x ∷ xs) = ap (λ l. x ∷ l) (all_defined xs)
+
+-- the same where none is blank
+pub ranged_defined : (top bottom low high low' high' sum : ℤ) (defined : ℕ) (all : List ℤ) → Ranged None top bottom low high 0 [] all → AllBetween bottom top all → defined + 0 ≡ length all
+    → low' ≡ low → high' ≡ high → sum ≡ sum_of all → found_summary defined 0 low' high' sum ≡ statistics None all
+ranged_defined top bottom low high low' high' sum defined all s range n p q t =
+    let whole : sum ≡ s.sum = omega (arith, ints, s.scanned.total, t, ap sum_of (all_defined all)) in
+    scanned_result None top bottom low high s.sum low' high' sum defined 0 all s.scanned range n p q whole
