@@ -1,7 +1,7 @@
 #!/bin/sh
 # Proves, builds and runs bench/pixels.program over these crates, and bench/pixels.c at -O2 and -O3 beside it.
 # It works on a copy, /tmp/fitsed_bench, since the gate reads every program of the repository; in the copy the scan of a
-# block's pixels is public, so that it is measured alone too.
+# block is public, so that it is measured alone too.
 set -eu
 cd "$(dirname "$0")/.."
 room=${1:-/tmp/fitsed_bench}
@@ -9,7 +9,7 @@ rm -rf "$room"/crates/*/src "$room"/crates/*/specs "$room"/crates/*/proofs
 mkdir -p "$room/crates/bench/src"
 cp -a crates/fits_card crates/fits_sum crates/fits_plane "$room/crates/"
 sed -i 's/^mod scan;/pub mod scan;/' "$room/crates/fits_plane/src/lib.rt"
-sed -i 's/^fn scan_pixels/pub fn scan_pixels/' "$room/crates/fits_plane/src/scan.rt"
+sed -i 's/^fn scan_part/pub fn scan_part/' "$room/crates/fits_plane/src/scan.rt"
 grep -E '^(fits_card|fits_sum|fits_plane):' crates.txt >"$room/crates.txt"
 echo 'bench: fits_card fits_sum fits_plane' >>"$room/crates.txt"
 cp bench/pixels.program "$room/crates/bench/src/main.rt"

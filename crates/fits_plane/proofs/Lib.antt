@@ -1,6 +1,8 @@
+pub mod ApartLemmas
 pub mod BlockLemmas
 pub mod CornerLemmas
 pub mod ExactLemmas
+pub mod HalfLemmas
 pub mod JoinLemmas
 pub mod LaneLemmas
 pub mod LeafLemmas

@@ -1,5 +1,5 @@
 -- Pixels of a list of bytes: of a part of it, and after a write.
-use Rattle.std.proofs.Common.{◌≡◌, ◌≤◌, ◌<◌, ◌+◌, ◌-◌, ◌*◌, ◌^◌, ◌%◌, ℕ, zero, suc, Bool, false, ◌==◌, List, [], ◌∷◌, ◌++◌, length, slice_index, take, drop, refl, arith, sym, ◌∙◌, ap, ℤ, FitsSigned, pos, subst, ◌⊎◌, ◌≢◌, inl, inr, cond}
+use Rattle.std.proofs.Common.{◌≡◌, ◌≤◌, ◌<◌, ◌+◌, ◌-◌, ◌*◌, ◌^◌, ◌%◌, ℕ, zero, suc, List, [], ◌∷◌, ◌++◌, length, slice_index, take, drop, refl, arith, sym, ◌∙◌, ap, ℤ, FitsSigned, pos, subst, ◌⊎◌, inl, inr}
 use Rattle.std.proofs.lemmas.Bool.Decides.{nat_tests}
 use Rattle.std.proofs.lemmas.List.{append-nil, get_or-drop, get_or-take, get_or_append_left, get_or-append_right, length-take, length-drop, length-append}
 use Rattle.std.proofs.Math.Nat.{mul-le-mul_right}
@@ -108,13 +108,6 @@ pixel-put w i bits old new h =
     let long = length-bytes_high_first w bits in
     ap (stored_number w) (big_from-same (i * w) 0 w new (big_bytes w bits) (λ k b. let z : k ≡ 0 + k = omega arith in h.inside k (omega (arith, long)) ∙ ap (slice_index (big_bytes w bits)) z)
     ∙ (let e = append-nil (big_bytes w bits) in ap (big_from 0 w) (sym e)) ∙ big_from-bytes w bits [])
-
--- at other widths than 1 the number is signed
-pub stored_wide : (w bits : ℕ) → w ≢ 1 → stored_number w bits ≡ twos_complement w bits
-stored_wide w bits h = cond_false (w == 1) (pos bits) (twos_complement w bits) (let z : (w == 1) ≡ false = grind (arith, nat_tests) in z)
-  where
-    cond_false : (b : Bool) (x y : ℤ) → b ≡ false → cond b x y ≡ y
-    cond_false b x y e = rw e refl
 
 -- ---- a number that is stored and read back
 

@@ -40,12 +40,12 @@ greatest_moved o [] = refl
 greatest_moved o (d ∷ ds) = sym (greater_moved o d (greatest_of ds)) ∙ ap (greater (Some (d +ℤ o))) (greatest_moved o ds)
 
 -- once more
-times_more : (n : ℕ) (o : ℤ) → pos (suc n) *ℤ o ≡ o +ℤ pos n *ℤ o
+pub times_more : (n : ℕ) (o : ℤ) → pos (suc n) *ℤ o ≡ o +ℤ pos n *ℤ o
 times_more n (pos m) = grind (arith, ints)
 times_more n (negsuc m) = grind (arith, ints)
 
 -- none at all
-times_none : (o : ℤ) → pos 0 *ℤ o ≡ pos 0
+pub times_none : (o : ℤ) → pos 0 *ℤ o ≡ pos 0
 times_none (pos m) = grind (arith, ints)
 times_none (negsuc m) = grind (arith, ints)
 

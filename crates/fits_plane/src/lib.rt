@@ -2,6 +2,7 @@
 #![tactic(auto)]
 
 mod both;
+mod halves;
 pub mod laws;
 mod layout;
 mod leaves;

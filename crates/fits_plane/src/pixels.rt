@@ -2,6 +2,7 @@
 ghost use Rattle.std.specs.Prelude.{◌≡◌, ◌≤◌, ◌<◌, ◌*◌, ◌+◌, ◌-ℤ◌, ◌⊎◌, ◌↔◌, ℕ, pos, IsTrue, length, slice_index, slice_index_or};
 ghost use Rattle.fits_plane.specs.Pixels.{pixel, IsWidth, IsStorable, can_store, AreStorable, can_store_all};
 
+use crate::{pixels_8, pixels_16, pixels_32, pixels_64};
 use byteorder::{BigEndian, ByteOrder};
 
 /// Whether pixels of so many bytes can store a number.
@@ -49,11 +50,11 @@ pub(crate) fn pixel_at(bytes: &[u8], width: usize, i: usize) -> i64
     requires within { (i + 1) * width ≤ length bytes.now }
     ensures { result ≡ pixel width bytes.now i }
 {
-    let at = i * width;
-    if width == 1 {
-        i64::from(bytes[at])
-    } else {
-        BigEndian::read_int(&bytes[at..], width)
+    match width {
+        1 => i64::from(pixels_8::read(bytes, i)),
+        2 => i64::from(pixels_16::read(bytes, i)),
+        4 => i64::from(pixels_32::read(bytes, i)),
+        _ => pixels_64::read(bytes, i),
     }
 }
 

@@ -1,16 +1,17 @@
 //! The statistics of a block of 64-bit pixels.
 //!
-//! The pass holds numbers of the pixel's own type, and a count no wider than a block needs.
-ghost use Rattle.std.specs.Prelude.{◌≡◌, ◌≤◌, ◌*◌, ◌+◌, length, Some, None};
+//! A pass holds numbers of the pixel's own type, and a sum no wider than a block needs. Where a number
+//! is blank, a second pass adds up all pixels, and what is blank is taken off at the end.
+ghost use Rattle.std.specs.Prelude.{◌≡◌, ◌≤◌, ◌*◌, ◌+◌, length, Some, None, unsigned_abs};
 ghost use Rattle.fits_plane.specs.Pixels.{pixel, pixels};
-ghost use Rattle.fits_plane.specs.Statistics.{statistics};
+ghost use Rattle.fits_plane.specs.Statistics.{statistics, sum_of};
 
 use crate::pixel_summary::PixelSummary;
-use crate::scan_end::found;
+use crate::scan_end::{found, found_beside};
 use byteorder::{BigEndian, ByteOrder};
 
 /// Stored pixel i.
-fn read(block: &[u8], i: usize) -> i64
+pub(crate) fn read(block: &[u8], i: usize) -> i64
     requires within { (i + 1) * 8 ≤ length block.now }
     ensures { result ≡ pixel 8 block.now i }
 {
@@ -35,6 +36,20 @@ fn scan_defined(block: &[u8], held: usize) -> PixelSummary
     found(held as u64, 0, least, greatest, sum)
 }
 
+/// The sum of the first pixels, whether they are blank or not.
+fn total_of(block: &[u8], held: usize) -> i128
+    requires within { held * 8 ≤ length block.now }
+    requires short { length block.now ≤ 2880 }
+    ensures value { result ≡ sum_of (pixels 8 block.now 0 held) }
+    ensures within { unsigned_abs result ≤ 9223372036854775808 * held }
+{
+    let mut total = 0i128;
+    for i in 0..held {
+        total += i128::from(read(block, i));
+    }
+    total
+}
+
 /// The statistics of the first pixels, where one number is blank.
 fn scan_blank(block: &[u8], held: usize, blank: i64) -> PixelSummary
     requires within { held * 8 ≤ length block.now }
@@ -43,8 +58,7 @@ fn scan_blank(block: &[u8], held: usize, blank: i64) -> PixelSummary
 {
     let mut least = i64::MAX;
     let mut greatest = i64::MIN;
-    let mut sum = 0i128;
-    let mut blanks = 0u32;
+    let mut blanks = 0u64;
     for i in 0..held {
         let x = read(block, i);
         if x == blank {
@@ -52,11 +66,10 @@ fn scan_blank(block: &[u8], held: usize, blank: i64) -> PixelSummary
         } else {
             least = least.min(x);
             greatest = greatest.max(x);
-            sum += i128::from(x);
         }
     }
-    let defined = (held - blanks as usize) as u64;
-    found(defined, blanks as u64, least, greatest, sum)
+    let total = total_of(block, held);
+    found_beside(held, blanks, least, greatest, total, blank)
 }
 
 /// The statistics of the first pixels.

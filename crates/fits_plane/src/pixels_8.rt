@@ -14,7 +14,7 @@ use crate::summary::Summary;
 use std::simd::prelude::*;
 
 /// Stored pixel i.
-fn read(block: &[u8], i: usize) -> u8
+pub(crate) fn read(block: &[u8], i: usize) -> u8
     requires within { (i + 1) * 1 ≤ length block.now }
     ensures { pos result ≡ pixel 1 block.now i }
 {

@@ -1,36 +1,68 @@
 //! The summary of one block, by one visit to it.
-ghost use Rattle.std.specs.Prelude.{◌≡◌, ◌≤◌, ◌*◌, ◌+◌, ◌⊎◌, length};
+ghost use Rattle.std.specs.Prelude.{◌≡◌, ◌≤◌, ◌*◌, ◌+◌, ◌/◌, ◌%◌, ◌⊎◌, length};
+ghost use Rattle.fits_sum.specs.Words.{word_total};
 ghost use Rattle.fits_plane.specs.Pixels.{pixels, IsWidth};
 ghost use Rattle.fits_plane.specs.Statistics.{statistics};
 ghost use Rattle.fits_plane.specs.Layout.{IsLayout, block_pixels};
 ghost use Rattle.fits_plane.specs.Leaves.{leaf_of};
+ghost use Rattle.fits_plane.specs.Scan.{unsigned_total};
 
 use crate::both::Both;
+use crate::halves::{Halves, halves_of};
 use crate::layout::Layout;
 use crate::pixel_summary::PixelSummary;
 use crate::summary::Summary;
 use crate::word_summary::WordSummary;
 use crate::{pixels_8, pixels_16, pixels_32, pixels_64};
 use fits_card::{BLOCK_LEN, Count};
-use fits_sum::words_total;
 
 /// What is kept of a block: its statistics, and the total of its words.
 pub(crate) type Leaf = Both<PixelSummary, WordSummary>;
 
 /// The statistics of the first pixels of a block.
-fn scan_pixels(block: &[u8], width: usize, held: usize, blank: Option<i64>) -> PixelSummary
+fn scan_pixels(
+    block: &[u8],
+    width: usize,
+    held: usize,
+    blank: Option<i64>,
+    halves: Halves,
+) -> PixelSummary
     requires width { (width ≡ 0) ⊎ IsWidth width }
     requires no_pixels { width ≡ 0 → held ≡ 0 }
     requires within { held * width ≤ length block.now }
     requires short { length block.now ≤ 2880 }
+    requires fours { 65536 * halves.high + halves.low
+        ≡ unsigned_total 4 block.now 0 (length block.now / 4) }
+    requires twos { halves.high + halves.low ≡ unsigned_total 2 block.now 0 (length block.now / 2) }
+    requires high { halves.high ≤ 47185200 }
+    requires low { halves.low ≤ 47185200 }
     ensures { result ≡ statistics blank (pixels width block.now 0 held) }
 {
     match width {
         1 => pixels_8::scan(block, held, blank),
-        2 => pixels_16::scan(block, held, blank),
-        4 => pixels_32::scan(block, held, blank),
+        2 => pixels_16::scan(block, held, blank, halves.high + halves.low),
+        4 => pixels_32::scan(block, held, blank, halves.total()),
         8 => pixels_64::scan(block, held, blank),
         _ => PixelSummary::unit(),
+    }
+}
+
+/// What is kept of a block that has so many pixels.
+fn scan_part(block: &[u8], width: usize, held: usize, blank: Option<i64>) -> Leaf
+    requires width { (width ≡ 0) ⊎ IsWidth width }
+    requires no_pixels { width ≡ 0 → held ≡ 0 }
+    requires within { held * width ≤ length block.now }
+    requires whole { length block.now % 4 ≡ 0 }
+    requires short { length block.now ≤ 2880 }
+    ensures first { result.first ≡ statistics blank (pixels width block.now 0 held) }
+    ensures second { result.second.total ≡ word_total block.now }
+{
+    let halves = halves_of(block);
+    Both {
+        first: scan_pixels(block, width, held, blank, halves),
+        second: WordSummary {
+            total: halves.total(),
+        },
     }
 }
 
@@ -53,10 +85,5 @@ pub(crate) fn scan_block(bytes: &[u8], layout: Layout, k: usize, scans: &mut Cou
     let block = &bytes[at..at + BLOCK_LEN];
     let per = pixels_per_block(layout.width);
     let held = layout.pixels.saturating_sub(k * per).min(per);
-    Both {
-        first: scan_pixels(block, layout.width, held, layout.blank),
-        second: WordSummary {
-            total: words_total(block),
-        },
-    }
+    scan_part(block, layout.width, held, layout.blank)
 }

@@ -50,7 +50,7 @@ fn value_of(stored: Option<i64>, offset: i128) -> Option<i128>
 }
 
 /// The sum of so many numbers, each with an offset.
-fn sum_with(sum: i128, count: u64, offset: i128) -> i128
+pub(crate) fn sum_with(sum: i128, count: u64, offset: i128) -> i128
     requires few { count ≤ 2 ^ 62 }
     requires sum { unsigned_abs sum ≤ 2 ^ 125 }
     requires offset { unsigned_abs offset ≤ 2 ^ 63 }

@@ -19,4 +19,4 @@ returns-clause-leaf c =
     let start : k * c.pixels_per_block-per.result ≡ k * block_pixels w = ap (λ m. k * m) c.pixels_per_block-per.ensures in
     let many : c.min-held.result ≡ held (block_pixels w) n k = omega (arith, c.min-held.ensures, c.saturating_sub.ensures, c.pixels_per_block-per.ensures, start) in
     let here = ap (pixels w (take (at + 2880 - at) (drop at xs)) 0) many ∙ block_part w n k at (at + 2880 - at) xs c.requires.layout.width c.requires.layout.no_pixels refl whole in
-    same_both _ _ _ _ (c.scan_pixels.ensures ∙ ap (statistics c.args.layout.blank) here) (word_leaf _ _ (c.words_total.ensures.value ∙ ap (λ m. word_total (take m (drop at xs))) whole))
+    same_both _ _ _ _ (c.scan_part.ensures.first ∙ ap (statistics c.args.layout.blank) here) (word_leaf _ _ (c.scan_part.ensures.second ∙ ap (λ m. word_total (take m (drop at xs))) whole))

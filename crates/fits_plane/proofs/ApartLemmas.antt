@@ -1,0 +1,83 @@
+-- A scan that adds up all numbers apart, and takes the blank ones off at the end.
+use Rattle.std.proofs.Common.{◌≡◌, ◌≢◌, ◌+◌, ℕ, suc, Bool, true, false, cond, not, List, [], ◌∷◌, length, refl, arith, sym, ◌∙◌, ap, Option, Some, None}
+use Rattle.std.specs.Prelude.{filter, ℤ, pos, ◌+ℤ◌, ◌-ℤ◌, ◌*ℤ◌}
+use Rattle.std.specs.Int.{int_min, int_max}
+use Rattle.std.proofs.lemmas.Int.{ints}
+use Rattle.fits_plane.specs.Statistics.{is_blank, defined_numbers, sum_of, statistics}
+use Rattle.fits_plane.specs.Pixels.{pixel, pixels}
+use Rattle.fits_plane.specs.Scan.{found_summary}
+use Rattle.fits_plane.proofs.ScanLemmas.{Scanned, AllBetween, scanned_skip, scanned_use, scanned_turn, scanned_result, pixels-step}
+use Rattle.fits_plane.proofs.ValueLemmas.{times_more, times_none}
+
+-- what a scan without a sum has found so far: with some sum it has scanned
+pub record Ranged (b : Option ℤ) (top bottom low high : ℤ) (blanks : ℕ) (rest all : List ℤ) : Type 0 where
+  pub sum : ℤ
+  pub scanned : Scanned b top bottom low high sum blanks rest all
+
+-- before the first number
+pub ranged_none : (b : Option ℤ) (top bottom low high : ℤ) (blanks : ℕ) (rest all : List ℤ) → low ≡ top → high ≡ bottom → blanks ≡ 0 → rest ≡ all → Ranged b top bottom low high blanks rest all
+ranged_none b top bottom low high blanks rest all e f g h = rw (e, f, g, h) (record {
+  sum = pos 0;
+  scanned = record { least = refl; greatest = refl; total = omega (arith, ints); counted = omega arith };
+})
+
+-- a turn that finds a blank number
+pub ranged_skip : {b x : ℤ} {top bottom low high low' high' : ℤ} {blanks blanks' : ℕ} (w i n j m : ℕ) (xs : List ℕ) {all : List ℤ} → n ≡ suc m → j ≡ i + 1 → x ≡ pixel w xs i → x ≡ b
+    → Ranged (Some b) top bottom low high blanks (pixels w xs i n) all → low' ≡ low → high' ≡ high → blanks' ≡ blanks + 1
+    → Ranged (Some b) top bottom low' high' blanks' (pixels w xs j m) all
+ranged_skip w i n j m xs e f here same s p q t = record { sum = s.sum; scanned = scanned_skip w i n j m xs e f here same s.scanned p q refl t }
+
+-- a turn that finds a defined number
+pub ranged_use : {b x : ℤ} {top bottom low high low' high' : ℤ} {blanks blanks' : ℕ} (w i n j m : ℕ) (xs : List ℕ) {all : List ℤ} → n ≡ suc m → j ≡ i + 1 → x ≡ pixel w xs i → x ≢ b
+    → Ranged (Some b) top bottom low high blanks (pixels w xs i n) all → low' ≡ int_min low x → high' ≡ int_max high x → blanks' ≡ blanks
+    → Ranged (Some b) top bottom low' high' blanks' (pixels w xs j m) all
+ranged_use {x = x} w i n j m xs e f here other s p q t = record { sum = s.sum +ℤ x; scanned = scanned_use w i n j m xs e f here other s.scanned p q refl t }
+
+-- a turn where none is blank
+pub ranged_turn : {top bottom low high low' high' : ℤ} {blanks : ℕ} (w i n j m : ℕ) (xs : List ℕ) {all : List ℤ} → n ≡ suc m → j ≡ i + 1
+    → Ranged None top bottom low high blanks (pixels w xs i n) all → low' ≡ int_min low (pixel w xs i) → high' ≡ int_max high (pixel w xs i)
+    → Ranged None top bottom low' high' blanks (pixels w xs j m) all
+ranged_turn w i n j m xs e f s p q = record { sum = s.sum +ℤ pixel w xs i; scanned = scanned_turn w i n j m xs e f refl s.scanned p q refl }
+
+-- a turn of a sum
+pub sum_turn : (w i n j m : ℕ) (xs : List ℕ) (sum sum' all : ℤ) → n ≡ suc m → j ≡ i + 1 → sum +ℤ sum_of (pixels w xs i n) ≡ all → sum' ≡ sum +ℤ pixel w xs i → sum' +ℤ sum_of (pixels w xs j m) ≡ all
+sum_turn w i n j m xs sum sum' all e f s p =
+    let s' = rw (pixels-step w xs i n j m e f) at s in
+    omega (arith, ints, s', p)
+
+-- a number that is blank is BLANK's
+is_blank_is : (b x : ℤ) → is_blank (Some b) x ≡ true → x ≡ b
+is_blank_is b x e = grind (arith, ints)
+
+-- one number more
+off_case : (t : Bool) (b x s : ℤ) (bs ds : List ℤ) → (t ≡ true → x ≡ b) → s +ℤ pos (length bs) *ℤ (pos 0 -ℤ b) ≡ sum_of ds
+    → x +ℤ s +ℤ pos (length (cond t (x ∷ bs) bs)) *ℤ (pos 0 -ℤ b) ≡ sum_of (cond (not t) (x ∷ ds) ds)
+off_case true b x s bs ds same ih = omega (arith, ints, same refl, times_more (length bs) (pos 0 -ℤ b), ih)
+off_case false b x s bs ds same ih = omega (arith, ints, ih)
+
+-- the sum of all numbers, the blank ones taken off
+blanks_off : (b : ℤ) (xs : List ℤ) → sum_of xs +ℤ pos (length (filter (is_blank (Some b)) xs)) *ℤ (pos 0 -ℤ b) ≡ sum_of (defined_numbers (Some b) xs)
+blanks_off b [] = omega (arith, ints, times_none (pos 0 -ℤ b))
+blanks_off b (x ∷ xs) = off_case (is_blank (Some b) x) b x (sum_of xs) (filter (is_blank (Some b)) xs) (defined_numbers (Some b) xs) (is_blank_is b x) (blanks_off b xs)
+
+-- at the end the numbers found and the total are the statistics
+pub ranged_result : (b b' : ℤ) (top bottom low high low' high' total : ℤ) (defined blanks blanks' : ℕ) (all : List ℤ) → Ranged (Some b) top bottom low high blanks [] all → AllBetween bottom top all → defined + blanks' ≡ length all
+    → low' ≡ low → high' ≡ high → blanks' ≡ blanks → total ≡ sum_of all → b' ≡ b → found_summary defined blanks' low' high' (total +ℤ pos blanks' *ℤ (pos 0 -ℤ b')) ≡ statistics (Some b) all
+ranged_result b b' top bottom low high low' high' total defined blanks blanks' all s range n p q t u v =
+    let count : blanks' ≡ length (filter (is_blank (Some b)) all) = omega (arith, s.scanned.counted, t) in
+    let off = ap (λ k. sum_of all +ℤ pos k *ℤ (pos 0 -ℤ b)) count ∙ blanks_off b all in
+    let sum = ap (λ z. total +ℤ pos blanks' *ℤ (pos 0 -ℤ z)) v in
+    let whole : total +ℤ pos blanks' *ℤ (pos 0 -ℤ b') ≡ s.sum = omega (arith, ints, s.scanned.total, u, off, sum) in
+    rw (sym t) at (scanned_result (Some b) top bottom low high s.sum low' high' _ defined blanks all s.scanned range (omega (arith, n, t)) p q whole)
+
+-- where none is blank, all are defined
+all_defined : (xs : List ℤ) → defined_numbers None xs ≡ xs
+all_defined [] = refl
+all_defined (x ∷ xs) = ap (λ l. x ∷ l) (all_defined xs)
+
+-- the same where none is blank
+pub ranged_defined : (top bottom low high low' high' sum : ℤ) (defined : ℕ) (all : List ℤ) → Ranged None top bottom low high 0 [] all → AllBetween bottom top all → defined + 0 ≡ length all
+    → low' ≡ low → high' ≡ high → sum ≡ sum_of all → found_summary defined 0 low' high' sum ≡ statistics None all
+ranged_defined top bottom low high low' high' sum defined all s range n p q t =
+    let whole : sum ≡ s.sum = omega (arith, ints, s.scanned.total, t, ap sum_of (all_defined all)) in
+    scanned_result None top bottom low high s.sum low' high' sum defined 0 all s.scanned range n p q whole

@@ -1,0 +1,94 @@
+-- Totals of pixels without their signs, by halves of words.
+use Rattle.std.proofs.Common.{◌≡◌, ◌<◌, ◌+◌, ◌*◌, ◌/◌, ◌%◌, ◌≤◌, ℕ, zero, suc, Bool, true, false, cond, List, refl, arith, ◌∙◌, ap, slice_index, drop}
+use Rattle.std.specs.Prelude.{ℤ, pos, ◌+ℤ◌, int_lt}
+use Rattle.std.proofs.lemmas.Int.{ints}
+use Rattle.std.proofs.lemmas.Bool.Decides.{nat_tests}
+use mir.Val.{bool_byte}
+use Rattle.byteorder.specs.Endian.{big_from, twos_complement}
+use Rattle.byteorder.specs.Numbers.{big_from-lt}
+use Rattle.fits_plane.specs.Statistics.{sum_of}
+use Rattle.fits_plane.specs.Pixels.{pixel, pixels}
+use Rattle.fits_plane.specs.Scan.{negative_count, unsigned_total}
+use Rattle.fits_plane.proofs.PixelLemmas.{big_from-drop}
+use Rattle.fits_plane.proofs.ScanLemmas.{pixels-step}
+
+-- ---- a sign counts once
+
+-- at two bytes
+sign_16 : (u : ℕ) → u < 65536 → pos u ≡ twos_complement 2 u +ℤ pos (65536 * cond (int_lt (twos_complement 2 u) (pos 0)) 1 0)
+sign_16 u h = grind (arith, ints, nat_tests)
+
+-- at four bytes
+sign_32 : (u : ℕ) → u < 4294967296 → pos u ≡ twos_complement 4 u +ℤ pos (4294967296 * cond (int_lt (twos_complement 4 u) (pos 0)) 1 0)
+sign_32 u h = grind (arith, ints, nat_tests)
+
+-- the total of pixels of two bytes
+pub total_16 : (xs : List ℕ) (i n : ℕ) → ((k : ℕ) → slice_index xs k < 256) → pos (unsigned_total 2 xs i n) ≡ sum_of (pixels 2 xs i n) +ℤ pos (65536 * negative_count (pixels 2 xs i n))
+total_16 xs i zero h = omega (arith, ints)
+total_16 xs i (suc n) h = omega (arith, ints, sign_16 (big_from (i * 2) 2 xs) (big_from-lt (i * 2) 2 xs h), total_16 xs (i + 1) n h)
+
+-- the total of pixels of four bytes
+pub total_32 : (xs : List ℕ) (i n : ℕ) → ((k : ℕ) → slice_index xs k < 256) → pos (unsigned_total 4 xs i n) ≡ sum_of (pixels 4 xs i n) +ℤ pos (4294967296 * negative_count (pixels 4 xs i n))
+total_32 xs i zero h = omega (arith, ints)
+total_32 xs i (suc n) h =
+    let low = big_from-lt (i * 4) 4 xs h in
+    omega (arith, ints, sign_32 (big_from (i * 4) 4 xs) (omega (arith, low)), total_32 xs (i + 1) n h)
+
+-- a test as a number
+test_is : (t : Bool) → bool_byte t ≡ cond t 1 0
+test_is true = refl
+test_is false = refl
+
+-- it is at most 1
+pub test_le : (t : Bool) (s : ℕ) → s ≡ bool_byte t → s ≤ 1
+test_le true s e = omega (arith, e)
+test_le false s e = omega (arith, e)
+
+-- a turn of a count of signs
+pub negatives_turn : (w i n j m : ℕ) (xs : List ℕ) (k s all : ℕ) (x y : ℤ) → n ≡ suc m → j ≡ i + 1 → x ≡ pixel w xs i → y ≡ x → k + negative_count (pixels w xs i n) ≡ all
+    → s ≡ bool_byte (int_lt y (pos 0)) → k + s + negative_count (pixels w xs j m) ≡ all
+negatives_turn w i n j m xs k s all x y e f here same h p =
+    let h' = rw (pixels-step w xs i n j m e f) at h in
+    let p' = rw (same ∙ here) at (p ∙ test_is (int_lt y (pos 0))) in
+    omega (arith, h', p')
+
+-- ---- a word has two halves
+
+-- a word by its halves
+word_halves : (a : ℕ) (xs : List ℕ) → big_from a 4 xs ≡ big_from a 2 xs * 65536 + big_from (suc (suc a)) 2 xs
+word_halves a xs = omega arith
+
+-- a turn by fours
+pub fours_turn : (xs : List ℕ) (i n j m s s' all : ℕ) → n ≡ suc m → j ≡ i + 1 → s + unsigned_total 4 xs i n ≡ all → s' ≡ s + big_from (4 * i) 4 xs → s' + unsigned_total 4 xs j m ≡ all
+fours_turn xs i n j m s s' all e f h p =
+    let at : i * 4 ≡ 4 * i = omega arith in
+    let h' = rw (e, at) at h in
+    rw f (omega (arith, h', p))
+
+-- what the halves of a word add to a total by twos
+pub record Halved (xs : List ℕ) (i word : ℕ) : Type 0 where
+  pub is : word ≡ big_from (4 * i) 4 xs
+  pub high : word / 65536 ≡ big_from (2 * i * 2) 2 xs
+  pub low : word % 65536 ≡ big_from ((2 * i + 1) * 2) 2 xs
+
+-- they do
+pub halved : (xs : List ℕ) (i word : ℕ) → ((k : ℕ) → slice_index xs k < 256) → word ≡ big_from 0 4 (drop (4 * i) xs) → Halved xs i word
+halved xs i word h e =
+    let z : 4 * i + 0 ≡ 4 * i = omega arith in
+    let is = e ∙ big_from-drop (4 * i) 0 4 xs ∙ ap (λ k. big_from k 4 xs) z in
+    let split = word_halves (4 * i) xs in
+    let first : 4 * i ≡ 2 * i * 2 = omega arith in
+    let second : suc (suc (4 * i)) ≡ (2 * i + 1) * 2 = omega arith in
+    let small = big_from-lt (suc (suc (4 * i))) 2 xs h in
+    record {
+      is = is;
+      high = (let q : word / 65536 ≡ big_from (4 * i) 2 xs = omega (arith, is, split, small) in q) ∙ ap (λ k. big_from k 2 xs) first;
+      low = (let r : word % 65536 ≡ big_from (suc (suc (4 * i))) 2 xs = omega (arith, is, split, small) in r) ∙ ap (λ k. big_from k 2 xs) second;
+    }
+
+-- a turn by twos
+pub twos_turn : (xs : List ℕ) (i n j m s s' all : ℕ) → n ≡ suc (suc m) → j ≡ i + 1 + 1 → s + unsigned_total 2 xs i n ≡ all → s' ≡ s + big_from (i * 2) 2 xs + big_from ((i + 1) * 2) 2 xs
+    → s' + unsigned_total 2 xs j m ≡ all
+twos_turn xs i n j m s s' all e f h p =
+    let h' = rw e at h in
+    rw f (omega (arith, h', p))
