@@ -173,19 +173,20 @@ more_axes-more axes i axis l e =
     ∙ ap (λ t. more_axes_text (take i axes) ++ t) (ap (λ t. codes "x" ++ t) (append-nil (decimal axis)))
 
 -- one more axis is added
-pub axes_step : (start line new text axes : List ℕ) (i d : ℕ) → i < length axes → line ≡ start ++ more_axes_text (take i axes) → text ≡ codes "x" ++ decimal (get_or axes i d) → new ≡ line ++ text
+pub axes_step : (start line new axes : List ℕ) (i d : ℕ) → i < length axes → line ≡ start ++ more_axes_text (take i axes) → new ≡ line ++ (codes "x" ++ decimal (get_or axes i d))
     → new ≡ start ++ more_axes_text (take (i + 1) axes)
-axes_step start line new text axes i d l before is added =
+axes_step start line new axes i d l before added =
+    let text : List ℕ = codes "x" ++ decimal (get_or axes i d) in
     added ∙ ap (λ t. t ++ text) before ∙ append_assoc start (more_axes_text (take i axes)) text
-    ∙ ap (λ t. start ++ (more_axes_text (take i axes) ++ t)) is ∙ ap (λ t. start ++ t) (sym (more_axes-more axes i (get_or axes i d) l (sym (get_or_default axes i (get_or axes i d) d l))))
+    ∙ ap (λ t. start ++ t) (sym (more_axes-more axes i (get_or axes i d) l (sym (get_or_default axes i (get_or axes i d) d l))))
 
 -- the first axis and the further ones
-pub axes_whole : (start mid new text axes : List ℕ) (d : ℕ) → 1 ≤ length axes → text ≡ decimal (get_or axes 0 d) → mid ≡ start ++ text → new ≡ mid ++ more_axes_text (take (length axes - 1) (drop 1 axes)) → new ≡ start ++ axes_text axes
-axes_whole start mid new text [] d l is a b = absurd (omega arith)
-axes_whole start mid new text (axis ∷ axes) d l is a b =
+pub axes_whole : (start mid new axes : List ℕ) (d : ℕ) → 1 ≤ length axes → mid ≡ start ++ decimal (get_or axes 0 d) → new ≡ mid ++ more_axes_text (take (length axes - 1) (drop 1 axes)) → new ≡ start ++ axes_text axes
+axes_whole start mid new [] d l a b = absurd (omega arith)
+axes_whole start mid new (axis ∷ axes) d l a b =
     let size : length (axis ∷ axes) - 1 ≡ length axes = omega arith in
     b ∙ ap (λ n. mid ++ more_axes_text (take n axes)) size ∙ ap (λ t. mid ++ more_axes_text t) (take_all (length axes) axes (omega arith))
-    ∙ ap (λ t. t ++ more_axes_text axes) (a ∙ ap (λ t. start ++ t) is) ∙ append_assoc start (decimal axis) (more_axes_text axes)
+    ∙ ap (λ t. t ++ more_axes_text axes) a ∙ append_assoc start (decimal axis) (more_axes_text axes)
 
 -- what stands before the axes, the axes, and what stands behind them
 pub line_whole : (start a b new : List ℕ) (number cards : ℕ) (at : HduOffsets) (shape : Shape) → a ≡ start ++ line_front number shape.class shape.bitpix → b ≡ a ++ axes_text shape.axes → new ≡ b ++ line_back cards at

@@ -14,9 +14,8 @@ numbers_spaced-more numbers i d l =
     ∙ ap (λ t. numbers_spaced (take i numbers) ++ t) (append-nil number)
 
 -- one more number is added
-pub numbers_step : (start line spaced new : List ℕ) (numbers : List ℤ) (i : ℕ) (d : ℤ) → i < length numbers → line ≡ start ++ numbers_spaced (take i numbers) → spaced ≡ line ++ 32 ∷ []
-    → new ≡ spaced ++ signed_decimal (get_or numbers i d) → new ≡ start ++ numbers_spaced (take (i + 1) numbers)
-numbers_step start line spaced new numbers i d l before space added =
-    let number : List ℕ = signed_decimal (get_or numbers i d) in
-    added ∙ ap (λ t. t ++ number) (space ∙ ap (λ t. t ++ 32 ∷ []) before) ∙ append_assoc (start ++ numbers_spaced (take i numbers)) (32 ∷ []) number
-    ∙ append_assoc start (numbers_spaced (take i numbers)) (32 ∷ number) ∙ ap (λ t. start ++ t) (sym (numbers_spaced-more numbers i d l))
+pub numbers_step : (start line new : List ℕ) (numbers : List ℤ) (i : ℕ) (d : ℤ) → i < length numbers → line ≡ start ++ numbers_spaced (take i numbers)
+    → new ≡ line ++ (codes " " ++ signed_decimal (get_or numbers i d)) → new ≡ start ++ numbers_spaced (take (i + 1) numbers)
+numbers_step start line new numbers i d l before added =
+    let number : List ℕ = codes " " ++ signed_decimal (get_or numbers i d) in
+    added ∙ ap (λ t. t ++ number) before ∙ append_assoc start (numbers_spaced (take i numbers)) number ∙ ap (λ t. start ++ t) (sym (numbers_spaced-more numbers i d l))

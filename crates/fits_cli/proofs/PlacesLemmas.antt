@@ -18,11 +18,11 @@ spaced-more places i d l =
     ∙ ap (λ t. spaced (take i places) ++ t) (append-nil place)
 
 -- one more place is added
-pub places_step : (first : ℕ) (line new text more : List ℕ) (i d : ℕ) → i < length more → line ≡ decimal first ++ spaced (take i more) → text ≡ codes " " ++ decimal (get_or more i d) → new ≡ line ++ text
+pub places_step : (first : ℕ) (line new more : List ℕ) (i d : ℕ) → i < length more → line ≡ decimal first ++ spaced (take i more) → new ≡ line ++ (codes " " ++ decimal (get_or more i d))
     → new ≡ decimal first ++ spaced (take (i + 1) more)
-places_step first line new text more i d l before is added =
-    added ∙ ap (λ t. t ++ text) before ∙ append_assoc (decimal first) (spaced (take i more)) text
-    ∙ ap (λ t. decimal first ++ (spaced (take i more) ++ t)) is ∙ ap (λ t. decimal first ++ t) (sym (spaced-more more i d l))
+places_step first line new more i d l before added =
+    let text : List ℕ = codes " " ++ decimal (get_or more i d) in
+    added ∙ ap (λ t. t ++ text) before ∙ append_assoc (decimal first) (spaced (take i more)) text ∙ ap (λ t. decimal first ++ t) (sym (spaced-more more i d l))
 
 -- all places, and the line feed
 pub places_line-whole : (first i : ℕ) (line new more : List ℕ) → length more ≤ i → line ≡ decimal first ++ spaced (take i more) → new ≡ line ++ 10 ∷ [] → new ≡ places_line (first ∷ more)

@@ -122,10 +122,6 @@ still_values text rest word more false before none e tested passes = absurd (let
 still_values text rest word more true before none e tested passes =
     sym (are_values-more rest word more none e ∙ ap (λ t. t && are_values more) (sym tested)) ∙ before
 
--- the values of a text
-pub are_values-parts : (text word rest : List ℕ) → HasNo 32 word → text ≡ word ++ 32 ∷ rest → IsTrue (are_values text) → IsTrue (is_value word) × IsTrue (are_values rest)
-are_values-parts text word rest none e is = and_parts (is_value word) (are_values rest) (sym (are_values-more text word rest none e) ∙ is)
-
 -- a length that is none makes lengths of none
 pub not_lengths : (word rest first more : List ℕ) (is : Bool) → are_lengths rest ≡ are_lengths word → HasNo 44 first → rest ≡ first ++ 44 ∷ more → is ≡ is_number 18 first → is ≡ false → false ≡ are_lengths word
 not_lengths word rest first more true before none e tested fails = absurd (let z : true ≡ false = fails in cc)

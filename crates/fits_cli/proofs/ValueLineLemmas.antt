@@ -1,21 +1,29 @@
--- Characters with each quote doubled, one after another.
-use Rattle.std.proofs.Common.{◌≡◌, ℕ, ◌+◌, ◌<◌, List, [], ◌∷◌, ◌++◌, length, take, get_or, refl, ap, ◌∙◌, sym, append_assoc, Bool, true, false}
-use Rattle.std.specs.Prelude.{if◌then◌else◌, ◌==◌}
-use Rattle.std.proofs.lemmas.List.{take_more}
+-- Characters with each quote doubled, one quote after another.
+use Rattle.std.proofs.Common.{◌≡◌, ℕ, List, [], ◌∷◌, ◌++◌, refl, ap, ◌∙◌, sym, append_assoc}
+use Rattle.std.specs.Prelude.{◌==◌}
+use Rattle.std.specs.List.{list_any}
+use Rattle.std.proofs.lemmas.Bool.{or_parts}
 use Rattle.fits_value.specs.Spelling.{doubled}
+use Rattle.fits_cli.specs.Cut.{HasNo}
 
--- characters after one that is a quote, or isn't, and more after them
-either : (quote : Bool) (c : ℕ) (xs ys zs : List ℕ) → zs ≡ xs ++ ys → (if quote then 39 ∷ 39 ∷ zs else c ∷ zs) ≡ (if quote then 39 ∷ 39 ∷ xs else c ∷ xs) ++ ys
-either true c xs ys zs e = ap (λ t. 39 ∷ 39 ∷ t) e
-either false c xs ys zs e = ap (λ t. c ∷ t) e
+-- a text without a quote stays
+pub doubled-none : (text : List ℕ) → HasNo 39 text → doubled text ≡ text
+doubled-none [] none = refl
+doubled-none (c ∷ cs) none =
+    let parts = or_parts (c == 39) (list_any (λ x. x == 39) cs) none in
+    rw parts.0 (ap (λ t. c ∷ t) (doubled-none cs parts.1))
 
--- a text and another, with each quote doubled
-pub doubled-append : (xs ys : List ℕ) → doubled (xs ++ ys) ≡ doubled xs ++ doubled ys
-doubled-append [] ys = refl
-doubled-append (c ∷ cs) ys = either (c == 39) c (doubled cs) (doubled ys) (doubled (cs ++ ys)) (doubled-append cs ys)
+-- a text as far as its first quote
+doubled-first : (front more : List ℕ) → HasNo 39 front → doubled (front ++ 39 ∷ more) ≡ front ++ 39 ∷ 39 ∷ doubled more
+doubled-first [] more none = refl
+doubled-first (c ∷ cs) more none =
+    let parts = or_parts (c == 39) (list_any (λ x. x == 39) cs) none in
+    rw parts.0 (ap (λ t. c ∷ t) (doubled-first cs more parts.1))
 
--- one more character
-pub doubled-more : (front line more text : List ℕ) (i : ℕ) → i < length text → line ≡ front ++ doubled (take i text) → more ≡ line ++ doubled (get_or text i 0 ∷ []) → more ≡ front ++ doubled (take (i + 1) text)
-doubled-more front line more text i h so_far e =
-    let one : doubled (take (i + 1) text) ≡ doubled (take i text) ++ doubled (get_or text i 0 ∷ []) = ap doubled (take_more text i 0 h) ∙ doubled-append (take i text) (get_or text i 0 ∷ []) in
-    e ∙ ap (λ t. t ++ doubled (get_or text i 0 ∷ [])) so_far ∙ append_assoc front (doubled (take i text)) (doubled (get_or text i 0 ∷ [])) ∙ ap (λ t. front ++ t) (sym one)
+-- what stands before a quote is added, and the quote twice
+pub doubled-step : (whole line rest front more new : List ℕ) → line ++ doubled rest ≡ whole → HasNo 39 front → rest ≡ front ++ 39 ∷ more → new ≡ line ++ (front ++ 39 ∷ 39 ∷ []) → new ++ doubled more ≡ whole
+doubled-step whole line rest front more new so_far none cut added =
+    ap (λ t. t ++ doubled more) added ∙ append_assoc line (front ++ 39 ∷ 39 ∷ []) (doubled more)
+    ∙ ap (λ t. line ++ t) (append_assoc front (39 ∷ 39 ∷ []) (doubled more) ∙ sym (ap doubled cut ∙ doubled-first front more none)) ∙ so_far
+
+pub ruleset doubled_steps = (doubled-none)

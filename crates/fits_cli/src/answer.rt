@@ -7,7 +7,7 @@ ghost use Rattle.fits_cli.specs.Answer.{outcome_of, CommandFails};
 use crate::command::Command;
 use crate::pixel_answers::{rectangle, statistics, sums};
 use crate::places_line::positions;
-use crate::pushing::push_text;
+use crate::pushing::push_number;
 use crate::report_text::report_text;
 use crate::value_line::value_line;
 use fits_session::{HduOffsets, Refusal, Session};
@@ -57,37 +57,25 @@ fn offsets(alloc: Global, hdus: &[HduOffsets]) -> Result<Vec<u8>, AllocError>
 {
     let mut text = Vec::new(alloc);
     for (i, at) in hdus.iter().enumerate() {
-        push_offset_line(alloc, &mut text, i + 1, *at)?;
+        push_offset_line(&mut text, i + 1, *at)?;
     }
     Ok(text)
 }
 
-fn push_offset_line(
-    alloc: Global,
-    text: &mut Vec<u8>,
-    number: usize,
-    at: HduOffsets,
-) -> Result<(), AllocError>
+fn push_offset_line(text: &mut Vec<u8>, number: usize, at: HduOffsets) -> Result<(), AllocError>
     ensures { OnOk result (text.new.items ≡ text.old.items ++ offset_line number at) }
 {
-    push_text(text, format!(in alloc; "{number} ")?)?;
-    push_offsets(alloc, text, at)?;
+    push_number(text, b"", number as u64)?;
+    text.extend_from_slice(b" ")?;
+    push_offsets(text, at)?;
     text.extend_from_slice(b"\n")
 }
 
 /// Where an HDU begins, its data begin, and it ends.
-pub(crate) fn push_offsets(
-    alloc: Global,
-    text: &mut Vec<u8>,
-    at: HduOffsets,
-) -> Result<(), AllocError>
+pub(crate) fn push_offsets(text: &mut Vec<u8>, at: HduOffsets) -> Result<(), AllocError>
     ensures { OnOk result (text.new.items ≡ text.old.items ++ offsets_text at) }
 {
-    let HduOffsets {
-        header_start,
-        data_start,
-        hdu_end,
-    } = at;
-    let numbers = format!(in alloc; "{header_start} {data_start} {hdu_end}")?;
-    push_text(text, numbers)
+    push_number(text, b"", at.header_start)?;
+    push_number(text, b" ", at.data_start)?;
+    push_number(text, b" ", at.hdu_end)
 }

@@ -2,6 +2,8 @@
 ghost use Rattle.std.specs.Prelude.{◌≡◌, ◌∷◌, ◌++◌, IfNone, IfSome};
 ghost use Rattle.fits_cli.specs.Cut.{HasNo};
 
+use memchr::memchr;
+
 /// What stands before the first such byte, and what follows it.
 pub(crate) fn split_once(text: &[u8], separator: u8) -> Option<(&[u8], &[u8])>
     ensures some { IfSome result (λ cut. HasNo separator cut.0.now
@@ -16,4 +18,18 @@ pub(crate) fn split_once(text: &[u8], separator: u8) -> Option<(&[u8], &[u8])>
         }
     }
     None
+}
+
+/// The same, of a text in which the byte is likely to stand far from the front.
+pub(crate) fn split_far(text: &[u8], separator: u8) -> Option<(&[u8], &[u8])>
+    ensures some { IfSome result (λ cut. HasNo separator cut.0.now
+        × (text.now ≡ cut.0.now ++ separator ∷ cut.1.now)) }
+    ensures none { IfNone result (HasNo separator text.now) }
+{
+    let Some(at) = memchr(separator, text) else {
+        return None;
+    };
+    let (front, rest) = text.split_at(at);
+    let (_, rest) = rest.split_at(1);
+    Some((front, rest))
 }

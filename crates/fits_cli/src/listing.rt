@@ -9,7 +9,7 @@ use crate::answer::push_offsets;
 use crate::end::End;
 use crate::fault::Fault;
 use crate::printing::print;
-use crate::pushing::push_text;
+use crate::pushing::{push_both, push_number, push_signed};
 use crate::telling::{Telling, run_telling};
 use fits_card::{Sink, Source};
 use fits_hdu::Outline;
@@ -59,7 +59,7 @@ fn print_outlines<O: Sink>(alloc: Global, outlines: &[Outline], out: &mut O) -> 
             hdu_end: data_start + it.data_len as u64,
         };
         line.clear();
-        push_line(alloc, &mut line, i + 1, it.card_count, at, &it.shape)?;
+        push_line(&mut line, i + 1, it.card_count, at, &it.shape)?;
         print(out, &line)?;
         start = at.hdu_end;
     }
@@ -69,7 +69,6 @@ fn print_outlines<O: Sink>(alloc: Global, outlines: &[Outline], out: &mut O) -> 
 // `hdu N CLASS bitpix B axes A cards C at HEADER DATA END`
 #[tactic(auto, using(crate::proofs::ListingLemmas::whole_steps))]
 fn push_line(
-    alloc: Global,
     line: &mut Vec<u8>,
     number: usize,
     cards: usize,
@@ -78,14 +77,13 @@ fn push_line(
 ) -> Result<(), AllocError>
     ensures { OnOk result (line.new.items ≡ line.old.items ++ hdu_line number cards at shape.now) }
 {
-    push_front(alloc, line, number, shape.class, shape.bitpix)?;
-    push_axes(alloc, line, shape.axes.as_slice())?;
-    push_back(alloc, line, cards, at)
+    push_front(line, number, shape.class, shape.bitpix)?;
+    push_axes(line, shape.axes.as_slice())?;
+    push_back(line, cards, at)
 }
 
 // `hdu N CLASS bitpix B axes `
 fn push_front(
-    alloc: Global,
     line: &mut Vec<u8>,
     number: usize,
     class: Class,
@@ -93,28 +91,24 @@ fn push_front(
 ) -> Result<(), AllocError>
     ensures { OnOk result (line.new.items ≡ line.old.items ++ line_front number class bitpix) }
 {
-    let class = class_text(class);
-    let front = format!(in alloc; "hdu {number} {class} bitpix {bitpix} axes ")?;
-    push_text(line, front)
+    push_number(line, b"hdu ", number as u64)?;
+    push_both(line, b" ", class_text(class).as_bytes())?;
+    push_signed(line, b" bitpix ", bitpix as i128)?;
+    line.extend_from_slice(b" axes ")
 }
 
 // ` cards C at HEADER DATA END`
-fn push_back(
-    alloc: Global,
-    line: &mut Vec<u8>,
-    cards: usize,
-    at: HduOffsets,
-) -> Result<(), AllocError>
+fn push_back(line: &mut Vec<u8>, cards: usize, at: HduOffsets) -> Result<(), AllocError>
     ensures { OnOk result (line.new.items ≡ line.old.items ++ line_back cards at) }
 {
-    let front = format!(in alloc; " cards {cards} at ")?;
-    push_text(line, front)?;
-    push_offsets(alloc, line, at)?;
+    push_number(line, b" cards ", cards as u64)?;
+    line.extend_from_slice(b" at ")?;
+    push_offsets(line, at)?;
     line.extend_from_slice(b"\n")
 }
 
 // Axes, separated by x, or - for none.
-fn push_axes(alloc: Global, line: &mut Vec<u8>, axes: &[u64]) -> Result<(), AllocError>
+fn push_axes(line: &mut Vec<u8>, axes: &[u64]) -> Result<(), AllocError>
     ensures { OnOk result (line.new.items ≡ line.old.items ++ axes_text axes.now) }
 {
     match axes {
@@ -123,20 +117,18 @@ fn push_axes(alloc: Global, line: &mut Vec<u8>, axes: &[u64]) -> Result<(), Allo
             Ok(())
         }
         [first, more @ ..] => {
-            let text = format!(in alloc; "{first}")?;
-            push_text(line, text)?;
-            push_more_axes(alloc, line, more)
+            push_number(line, b"", *first)?;
+            push_more_axes(line, more)
         }
     }
 }
 
 // Further axes, each after an x.
-fn push_more_axes(alloc: Global, line: &mut Vec<u8>, axes: &[u64]) -> Result<(), AllocError>
+fn push_more_axes(line: &mut Vec<u8>, axes: &[u64]) -> Result<(), AllocError>
     ensures { OnOk result (line.new.items ≡ line.old.items ++ more_axes_text axes.now) }
 {
     for axis in axes {
-        let text = format!(in alloc; "x{axis}")?;
-        push_text(line, text)?;
+        push_number(line, b"x", *axis)?;
     }
     Ok(())
 }

@@ -1,80 +1,87 @@
 //! The lines that tell statistics, sums and the values of a rectangle.
-ghost use Rattle.std.specs.Prelude.{◌≡◌, ◌++◌, IfOk, OnOk};
-ghost use Rattle.std.specs.Fmt.{signed_decimal};
+ghost use Rattle.std.specs.Prelude.{◌≡◌, ◌++◌, codes, IfOk, OnOk};
 ghost use Rattle.fits_cli.specs.PixelLines.{counts_text, number_or_hyphen, numbers_spaced};
 ghost use Rattle.fits_cli.specs.PixelLines.{statistics_line, sums_line, values_line, values_text};
 ghost use Rattle.fits_cli.specs.PixelLines.{verdict_text};
 
-use crate::pushing::push_text;
+use crate::pushing::{push_both, push_number, push_signed};
 use fits_hdu::{Stats, Verdict, Verdicts};
 use std::alloc::{AllocError, Global};
+
+/// Room for a line of statistics or sums.
+const LINE_ROOM: usize = 192;
+
+/// Room for a value and the space after it, as most need.
+const VALUE_ROOM: usize = 8;
 
 /// `defined D blank B min X max Y sum S`
 pub(crate) fn statistics_line(alloc: Global, stats: &Stats) -> Result<Vec<u8>, AllocError>
     ensures { IfOk result (λ line. line.items ≡ statistics_line stats.now) }
 {
-    let mut line = Vec::new(alloc);
-    push_counts(alloc, &mut line, stats)?;
-    push_values(alloc, &mut line, stats)?;
+    let mut line = Vec::with_capacity(alloc, LINE_ROOM)?;
+    push_counts(&mut line, stats)?;
+    push_values(&mut line, stats)?;
     line.push(b'\n')?;
     Ok(line)
 }
 
 // How many pixels are defined and blank.
-fn push_counts(alloc: Global, line: &mut Vec<u8>, stats: &Stats) -> Result<(), AllocError>
+fn push_counts(line: &mut Vec<u8>, stats: &Stats) -> Result<(), AllocError>
     ensures { OnOk result (line.new.items ≡ line.old.items ++ counts_text stats.now) }
 {
-    let defined = stats.defined;
-    let blank = stats.blank;
-    let text = format!(in alloc; "defined {defined} blank {blank}")?;
-    push_text(line, text)
+    push_number(line, b"defined ", stats.defined as u64)?;
+    push_number(line, b" blank ", stats.blank as u64)
 }
 
 // The least and the greatest value, and the sum of all.
-fn push_values(alloc: Global, line: &mut Vec<u8>, stats: &Stats) -> Result<(), AllocError>
+fn push_values(line: &mut Vec<u8>, stats: &Stats) -> Result<(), AllocError>
     ensures { OnOk result (line.new.items ≡ line.old.items ++ values_text stats.now) }
 {
-    line.extend_from_slice(b" min ")?;
-    push_number_or_hyphen(alloc, line, stats.least)?;
-    line.extend_from_slice(b" max ")?;
-    push_number_or_hyphen(alloc, line, stats.greatest)?;
-    line.extend_from_slice(b" sum ")?;
-    push_number(alloc, line, stats.sum)
+    push_number_or_hyphen(line, b" min ", stats.least)?;
+    push_number_or_hyphen(line, b" max ", stats.greatest)?;
+    push_signed(line, b" sum ", stats.sum)
 }
 
-// A number, or a hyphen where there is none.
+// A text, and a number after it, or a hyphen where there is none.
 fn push_number_or_hyphen(
-    alloc: Global,
     line: &mut Vec<u8>,
+    text: &[u8],
     number: Option<i128>,
 ) -> Result<(), AllocError>
-    ensures { OnOk result (line.new.items ≡ line.old.items ++ number_or_hyphen number) }
+    ensures { OnOk result (line.new.items ≡ line.old.items ++ (text.now ++ number_or_hyphen number)) }
 {
     match number {
-        Some(number) => push_number(alloc, line, number),
-        None => line.extend_from_slice(b"-"),
+        Some(number) => push_signed(line, text, number),
+        None => push_both(line, text, b"-"),
     }
-}
-
-fn push_number(alloc: Global, line: &mut Vec<u8>, number: i128) -> Result<(), AllocError>
-    ensures { OnOk result (line.new.items ≡ line.old.items ++ signed_decimal number) }
-{
-    let text = format!(in alloc; "{number}")?;
-    push_text(line, text)
 }
 
 /// `datasum N verdicts A B`: DATASUM's verdict, then CHECKSUM's.
 pub(crate) fn sums_line(alloc: Global, sum: u32, verdicts: Verdicts) -> Result<Vec<u8>, AllocError>
     ensures { IfOk result (λ line. line.items ≡ sums_line sum verdicts) }
 {
-    let datasum = verdict_text(verdicts.datasum);
-    let checksum = verdict_text(verdicts.checksum);
-    let line = format!(in alloc; "datasum {sum} verdicts {datasum} {checksum}\n")?;
-    Vec::from_slice(alloc, line.as_bytes())
+    let mut line = Vec::with_capacity(alloc, LINE_ROOM)?;
+    push_number(&mut line, b"datasum ", sum as u64)?;
+    line.extend_from_slice(b" verdicts ")?;
+    push_verdicts(&mut line, verdicts.datasum, verdicts.checksum)?;
+    Ok(line)
 }
 
-/// A verdict as a number.
-pub(crate) fn verdict_text(verdict: Verdict) -> &'static str
+/// Two verdicts, a space between, and a line feed.
+pub(crate) fn push_verdicts(
+    line: &mut Vec<u8>,
+    first: Verdict,
+    second: Verdict,
+) -> Result<(), AllocError>
+    ensures { OnOk result (line.new.items ≡ line.old.items
+        ++ (verdict_text first ++ (codes " " ++ (verdict_text second ++ codes "\n")))) }
+{
+    push_both(line, verdict_text(first).as_bytes(), b" ")?;
+    push_both(line, verdict_text(second).as_bytes(), b"\n")
+}
+
+// A verdict as a number.
+fn verdict_text(verdict: Verdict) -> &'static str
     ensures { result.now ≡ verdict_text verdict }
 {
     match verdict {
@@ -88,22 +95,21 @@ pub(crate) fn verdict_text(verdict: Verdict) -> &'static str
 pub(crate) fn values_line(alloc: Global, values: &[i128]) -> Result<Vec<u8>, AllocError>
     ensures { IfOk result (λ line. line.items ≡ values_line values.now) }
 {
-    let mut line = Vec::new(alloc);
+    let mut line = Vec::with_capacity(alloc, values.len().saturating_mul(VALUE_ROOM))?;
     if let [first, more @ ..] = values {
-        push_number(alloc, &mut line, *first)?;
-        push_more_numbers(alloc, &mut line, more)?;
+        push_signed(&mut line, b"", *first)?;
+        push_more_numbers(&mut line, more)?;
     }
     line.push(b'\n')?;
     Ok(line)
 }
 
 // Further numbers, each after a space.
-fn push_more_numbers(alloc: Global, line: &mut Vec<u8>, numbers: &[i128]) -> Result<(), AllocError>
+fn push_more_numbers(line: &mut Vec<u8>, numbers: &[i128]) -> Result<(), AllocError>
     ensures { OnOk result (line.new.items ≡ line.old.items ++ numbers_spaced numbers.now) }
 {
     for number in numbers {
-        line.push(b' ')?;
-        push_number(alloc, line, *number)?;
+        push_signed(line, b" ", *number)?;
     }
     Ok(())
 }

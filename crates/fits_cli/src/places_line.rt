@@ -4,7 +4,7 @@ ghost use Rattle.fits_session.specs.Session.{file_of};
 ghost use Rattle.fits_cli.specs.Answer.{outcome_of, places_line, CommandFails};
 ghost use Rattle.fits_cli.specs.declared.command.Command.TheVariants.{Positions};
 
-use crate::pushing::push_text;
+use crate::pushing::push_number;
 use fits_card::Name;
 use fits_session::{Refusal, Session};
 use std::alloc::{AllocError, Global};
@@ -35,10 +35,9 @@ fn places_line(alloc: Global, first: usize, more: &[usize]) -> Result<Vec<u8>, A
     ensures { IfOk result (λ line. line.items ≡ places_line (first ∷ more.now)) }
 {
     let mut line = Vec::new(alloc);
-    push_text(&mut line, format!(in alloc; "{first}")?)?;
+    push_number(&mut line, b"", first as u64)?;
     for place in more {
-        let text = format!(in alloc; " {place}")?;
-        push_text(&mut line, text)?;
+        push_number(&mut line, b" ", *place as u64)?;
     }
     line.push(b'\n')?;
     Ok(line)

@@ -4,7 +4,7 @@ ghost use Rattle.fits_cli.specs.Report.{closing_line, counts_line, errors_in, pr
 ghost use Rattle.fits_cli.specs.Report.{report_text, status_of_report};
 
 use crate::level::Level;
-use crate::pushing::push_text;
+use crate::pushing::{push_both, push_number};
 use fits_session::Problem;
 use std::alloc::{AllocError, Global};
 
@@ -14,48 +14,41 @@ pub(crate) fn report_text(alloc: Global, report: &[Problem]) -> Result<Vec<u8>, 
 {
     let mut text = Vec::new(alloc);
     for it in report {
-        push_problem(alloc, &mut text, *it)?;
+        push_problem(&mut text, *it)?;
     }
-    push_closing_line(alloc, &mut text, report)?;
+    push_closing_line(&mut text, report)?;
     Ok(text)
 }
 
 /// `CODE HDU PLACE TEXT`
 #[tactic(auto, unfolding(crate::specs::Report::problem_line))]
-pub(crate) fn push_problem(alloc: Global, text: &mut Vec<u8>, it: Problem) -> Result<(), AllocError>
+pub(crate) fn push_problem(text: &mut Vec<u8>, it: Problem) -> Result<(), AllocError>
     ensures { OnOk result (text.new.items ≡ text.old.items ++ problem_line it) }
 {
     let Problem { hdu, place, code } = it;
-    let label = code.label();
-    let what = code.text();
-    let line = format!(in alloc; "{label} {hdu} {place} {what}\n")?;
-    push_text(text, line)
+    text.extend_from_slice(code.label().as_bytes())?;
+    push_number(text, b" ", hdu as u64)?;
+    push_number(text, b" ", place as u64)?;
+    text.extend_from_slice(b" ")?;
+    push_both(text, code.text().as_bytes(), b"\n")
 }
 
 /// The closing line: it counts all problems.
-pub(crate) fn push_closing_line(
-    alloc: Global,
-    text: &mut Vec<u8>,
-    report: &[Problem],
-) -> Result<(), AllocError>
+pub(crate) fn push_closing_line(text: &mut Vec<u8>, report: &[Problem]) -> Result<(), AllocError>
     ensures { OnOk result (text.new.items ≡ text.old.items ++ closing_line report.now) }
 {
     let errors = count_errors(report);
-    push_counts(alloc, text, errors, report.len() - errors)
+    push_counts(text, errors, report.len() - errors)
 }
 
 // `errors N warnings M`
 #[tactic(auto, unfolding(crate::specs::Report::counts_line))]
-fn push_counts(
-    alloc: Global,
-    text: &mut Vec<u8>,
-    errors: usize,
-    warnings: usize,
-) -> Result<(), AllocError>
+fn push_counts(text: &mut Vec<u8>, errors: usize, warnings: usize) -> Result<(), AllocError>
     ensures { OnOk result (text.new.items ≡ text.old.items ++ counts_line errors warnings) }
 {
-    let line = format!(in alloc; "errors {errors} warnings {warnings}\n")?;
-    push_text(text, line)
+    push_number(text, b"errors ", errors as u64)?;
+    push_number(text, b" warnings ", warnings as u64)?;
+    text.extend_from_slice(b"\n")
 }
 
 /// The status of a run that has printed a report, at whatever level.

@@ -5,7 +5,7 @@ ghost use Rattle.fits_cli.specs.Line.{reading_of};
 ghost use Rattle.fits_cli.specs.Running.{kept_of, AnswersLine, AnswersScript, Continues};
 ghost use Rattle.fits_cli.specs.Running.{EndsScript, EndStops, LineStops, PieceStops, ScriptStops};
 
-use crate::cut::split_once;
+use crate::cut::split_far;
 use crate::fault::Fault;
 use crate::limits::{LINE_LIMIT, SCRIPT_LIMIT};
 use crate::reply::print_reply;
@@ -71,7 +71,7 @@ fn answer_piece<O: Sink>(
 {
     let mut rest = piece;
     loop {
-        let Some((front, next)) = split_once(rest, b'\n') else {
+        let Some((front, next)) = split_far(rest, b'\n') else {
             keep(line, rest);
             return Ok(());
         };

@@ -6,9 +6,9 @@ ghost use Rattle.fits_cli.specs.Telling.{PrintingStops, TextEndsAs, TextIsTold, 
 
 use crate::end::End;
 use crate::fault::Fault;
-use crate::pixel_lines::verdict_text;
+use crate::pixel_lines::push_verdicts;
 use crate::printing::print;
-use crate::pushing::push_text;
+use crate::pushing::push_number;
 use crate::telling::{Telling, run_telling};
 use fits_card::{Sink, Source};
 use fits_hdu::HduSums;
@@ -46,7 +46,7 @@ fn print_sums<O: Sink>(alloc: Global, sums: &[HduSums], out: &mut O) -> Result<(
     let mut line = Vec::new(alloc);
     for (i, it) in sums.iter().enumerate() {
         line.clear();
-        push_line(alloc, &mut line, i + 1, *it)?;
+        push_line(&mut line, i + 1, *it)?;
         print(out, &line)?;
     }
     Ok(())
@@ -54,18 +54,12 @@ fn print_sums<O: Sink>(alloc: Global, sums: &[HduSums], out: &mut O) -> Result<(
 
 // `N DATASUM A B`
 #[tactic(auto, unfolding(crate::specs::Summing::summed_line))]
-fn push_line(
-    alloc: Global,
-    line: &mut Vec<u8>,
-    number: usize,
-    it: HduSums,
-) -> Result<(), AllocError>
+fn push_line(line: &mut Vec<u8>, number: usize, it: HduSums) -> Result<(), AllocError>
     ensures { OnOk result (line.new.items
         ≡ line.old.items ++ summed_line number it.datasum it.verdicts) }
 {
-    let sum = it.datasum;
-    let datasum = verdict_text(it.verdicts.datasum);
-    let checksum = verdict_text(it.verdicts.checksum);
-    let text = format!(in alloc; "{number} {sum} {datasum} {checksum}\n")?;
-    push_text(line, text)
+    push_number(line, b"", number as u64)?;
+    push_number(line, b" ", it.datasum as u64)?;
+    line.extend_from_slice(b" ")?;
+    push_verdicts(line, it.verdicts.datasum, it.verdicts.checksum)
 }

@@ -1,11 +1,16 @@
 //! The line that tells a value and its comment.
-ghost use Rattle.std.specs.Prelude.{◌≡◌, [], ◌∷◌, ◌++◌, IfOk, OnOk};
+ghost use Rattle.std.specs.Prelude.{◌≡◌, ◌++◌, IfOk, OnOk};
 ghost use Rattle.std.specs.Option.{option_copied};
 ghost use Rattle.fits_cli.specs.ValueLine.{comment_text, value_line, value_text};
 ghost use Rattle.fits_value.specs.Spelling.{doubled};
 
+use crate::cut::split_far;
+use crate::pushing::push_both;
 use fits_value::{Text, Value};
 use std::alloc::{AllocError, Global};
+
+/// Room for the line of a value as most are.
+const LINE_ROOM: usize = 128;
 
 /// The type and the text of a value, its comment, and a line feed.
 pub(crate) fn value_line(
@@ -16,7 +21,7 @@ pub(crate) fn value_line(
     ensures { IfOk result (λ line. line.items
         ≡ value_line value.now (option_copied comment.entry)) }
 {
-    let mut line = Vec::new(alloc);
+    let mut line = Vec::with_capacity(alloc, LINE_ROOM)?;
     push_value(&mut line, value)?;
     if let Some(comment) = comment {
         push_comment(&mut line, comment)?;
@@ -47,33 +52,17 @@ fn push_value(line: &mut Vec<u8>, value: &Value) -> Result<(), AllocError>
     }
 }
 
-// Adds one text and then another.
-fn push_both(line: &mut Vec<u8>, front: &[u8], back: &[u8]) -> Result<(), AllocError>
-    ensures { OnOk result (line.new.items ≡ line.old.items ++ (front.now ++ back.now)) }
-{
-    line.extend_from_slice(front)?;
-    line.extend_from_slice(back)
-}
-
 // Adds characters, with each quote doubled.
+#[tactic(auto, using(crate::proofs::ValueLineLemmas::doubled_steps))]
 fn push_doubled(line: &mut Vec<u8>, text: &[u8]) -> Result<(), AllocError>
     ensures { OnOk result (line.new.items ≡ line.old.items ++ doubled text.now) }
 {
-    for character in text {
-        push_character(line, *character)?;
+    let mut rest = text;
+    'quotes: while let Some((front, more)) = split_far(rest, b'\'') {
+        push_both(line, front, b"''")?;
+        rest = more;
     }
-    Ok(())
-}
-
-// Adds a character, and a quote twice.
-fn push_character(line: &mut Vec<u8>, character: u8) -> Result<(), AllocError>
-    ensures { OnOk result (line.new.items ≡ line.old.items ++ doubled (character ∷ [])) }
-{
-    if character == b'\'' {
-        line.push(b'\'')?;
-    }
-    line.push(character)?;
-    Ok(())
+    line.extend_from_slice(rest)
 }
 
 fn push_comment(line: &mut Vec<u8>, comment: &Text) -> Result<(), AllocError>

@@ -55,16 +55,15 @@ fn print_report<O: Sink>(
 {
     let mut line = Vec::new(alloc);
     for it in report {
-        print_problem(alloc, level, *it, &mut line, out)?;
+        print_problem(level, *it, &mut line, out)?;
     }
     line.clear();
-    push_closing_line(alloc, &mut line, report)?;
+    push_closing_line(&mut line, report)?;
     print(out, &line)
 }
 
 // Prints the line of a problem, where the level lists it. `line` is room for it.
 fn print_problem<O: Sink>(
-    alloc: Global,
     level: Level,
     it: Problem,
     line: &mut Vec<u8>,
@@ -76,7 +75,7 @@ fn print_problem<O: Sink>(
 {
     line.clear();
     if level.lists(it.code) {
-        push_problem(alloc, line, it)?;
+        push_problem(line, it)?;
     }
     print(out, line.as_slice())
 }

@@ -1,5 +1,5 @@
 //! The words of a line: the first one, what each may be, and those that several lines have.
-ghost use Rattle.std.specs.Prelude.{◌≡◌, ◌≤◌, [], length, unwrap_or, None, Some};
+ghost use Rattle.std.specs.Prelude.{◌≡◌, ◌≤◌, false, [], length, unwrap_or, None, Some};
 ghost use Rattle.std.specs.Prelude.{IfOk, IfSome, IfNone, IsSome, IsTrue, OnErr};
 ghost use Rattle.std.specs.List.{list_all};
 ghost use Rattle.std.specs.Option.{option_copied};
@@ -58,15 +58,32 @@ pub(crate) fn number_first(rest: Option<&[u8]>) -> Option<(usize, Option<&[u8]>)
     Some((number, rest))
 }
 
-// The number of 1 to 18 digits.
+/// The number of 1 to 18 digits.
 #[tactic(auto, unfolding(crate::specs::Line::number_of_word))]
-fn number_of_word(word: &[u8]) -> Option<usize>
+pub(crate) fn number_of_word(word: &[u8]) -> Option<usize>
     ensures { result ≡ number_of_word word.now }
 {
-    if !is_number(word, DIGITS) {
+    if word.is_empty() || word.len() > DIGITS {
         return None;
     }
-    Some(number_of_digits(word))
+    read_digits(word)
+}
+
+// The number of at most 18 digits, unless another byte stands among them.
+fn read_digits(digits: &[u8]) -> Option<usize>
+    requires { length digits.now ≤ 18 }
+    ensures some { IfSome result (λ number. IsTrue (list_all is_digit digits.now)
+        × (number ≡ value_of digits.now)) }
+    ensures none { IfNone result (list_all is_digit digits.now ≡ false) }
+{
+    let mut number = 0usize;
+    for byte in digits {
+        if *byte < b'0' || *byte > b'9' {
+            return None;
+        }
+        number = number * 10 + (*byte - b'0') as usize;
+    }
+    Some(number)
 }
 
 /// 1 to so many digits.

@@ -3,5 +3,4 @@ use Rattle.fits_cli.proofs.listing.push_more_axes.Goals as goal
 
 pub loop-axis-preserved : goal.loop-axis-preserved
 loop-axis-preserved c =
-    axes_step c.args.line.now.items c.loop-axis.line.items c.push_text.new.line.items _ c.args.axes.now c.loop-axis.axis-index _ c.loop-axis-test.true c.loop-axis.invariant
-    c.in_ok-text.ensures.ok c.in_ok-push_text.ensures
+    axes_step c.args.line.now.items c.loop-axis.line.items c.push_number.new.line.items c.args.axes.now c.loop-axis.axis-index _ c.loop-axis-test.true c.loop-axis.invariant c.in_ok-push_number.ensures

@@ -1,4 +1,5 @@
 use Rattle.std.proofs.Common.{◌++◌, ◌∙◌, ℤ, ap, get_or, pos, rules, FitsSigned}
+use Rattle.std.specs.Prelude.{codes}
 use Rattle.std.specs.Fmt.{signed_decimal}
 use Rattle.std.specs.Int.{w128}
 use Rattle.std.proofs.lemmas.Int.{to_z-of_z}
@@ -9,5 +10,5 @@ pub loop-number-preserved : goal.loop-number-preserved
 loop-number-preserved c =
     let number : ℤ = get_or c.args.numbers.now c.loop-number.number-index (pos 0) in
     let fits : FitsSigned w128 number = search rules in
-    numbers_step c.args.line.now.items c.loop-number.line.items c.push.new.self.items c.push_number.new.line.items c.args.numbers.now c.loop-number.number-index (pos 0) c.loop-number-test.true
-    c.loop-number.invariant c.in_ok-push.ensures.items (c.in_ok-push_number.ensures ∙ ap (λ n. c.push.new.self.items ++ signed_decimal n) (to_z-of_z w128 number fits))
+    numbers_step c.args.line.now.items c.loop-number.line.items c.push_signed.new.line.items c.args.numbers.now c.loop-number.number-index (pos 0) c.loop-number-test.true
+    c.loop-number.invariant (c.in_ok-push_signed.ensures ∙ ap (λ n. c.loop-number.line.items ++ (codes " " ++ signed_decimal n)) (to_z-of_z w128 number fits))

@@ -1,7 +1,6 @@
-use Rattle.fits_cli.proofs.ValueLineLemmas.{doubled-more}
+use Rattle.fits_cli.proofs.ValueLineLemmas.{doubled-step}
 use Rattle.fits_cli.proofs.value_line.push_doubled.Goals as goal
 
-pub loop-character-preserved : goal.loop-character-preserved
-loop-character-preserved c =
-    doubled-more c.args.line.now.items c.loop-character.line.items c.push_character.new.line.items c.args.text.now c.loop-character.character-index c.loop-character-test.true c.loop-character.invariant
-    c.in_ok-push_character.ensures
+pub quotes-preserved : goal.quotes-preserved
+quotes-preserved c =
+    doubled-step _ c.quotes.line.items c.quotes.rest.now c.in-Some.front.now c.in-Some.more.now c.push_both.new.line.items c.quotes.invariant c.in-Some.ensures.some.0 c.in-Some.ensures.some.1 c.in_ok-push_both.ensures

@@ -1,6 +1,9 @@
-use Rattle.std.proofs.Common.{◌≡◌, ◌++◌, take}
+use Rattle.std.proofs.Common.{◌≡◌, ◌++◌, length}
 use Rattle.fits_value.specs.Spelling.{doubled}
 use Rattle.fits_cli.proofs.value_line.push_doubled.Given as goal
 
-abbrev pub invariant-loop-character : goal.invariant-loop-character
-invariant-loop-character l = l.line.items ≡ l.fn.line.items ++ doubled (take l.character-index l.text)
+abbrev pub invariant-quotes : goal.invariant-quotes
+invariant-quotes l = l.line.items ++ doubled l.rest ≡ l.fn.line.items ++ doubled l.text
+
+abbrev pub decreases-quotes : goal.decreases-quotes
+decreases-quotes l = length l.rest

@@ -1,11 +1,10 @@
 use Rattle.std.proofs.Common.{◌≡◌, ◌++◌, length}
-use Rattle.std.specs.Prelude.{IsTrue}
 use Rattle.fits_cli.specs.Line.{are_values, values_of_text}
-use Rattle.fits_cli.proofs.value_words.values_of_text.Given as goal
+use Rattle.fits_cli.proofs.value_words.read_values.Given as goal
 
 abbrev pub invariant-words : goal.invariant-words
 invariant-words l = record {
-  are : IsTrue (are_values l.rest);
+  are : are_values l.rest ≡ are_values l.text;
   so_far : values_of_text l.text ≡ l.values.items ++ values_of_text l.rest;
 }
 
