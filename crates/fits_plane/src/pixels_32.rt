@@ -93,13 +93,13 @@ fn scan_blank(block: &[u8], held: usize, blank: i32, total: u64) -> PixelSummary
     let mut blanks = 0u32;
     for i in 0..held {
         let x = read(block, i);
-        negatives += u32::from(x < 0);
         if x == blank {
             blanks += 1;
         } else {
             least = least.min(x);
             greatest = greatest.max(x);
         }
+        negatives += u32::from(x < 0);
     }
     let total = total_of(block, held, negatives, total);
     found_beside(

@@ -87,13 +87,13 @@ fn scan_blank(block: &[u8], held: usize, blank: i64, total: u128) -> PixelSummar
     let mut blanks = 0u64;
     for i in 0..held {
         let x = read(block, i);
-        negatives += u64::from(x < 0);
         if x == blank {
             blanks += 1;
         } else {
             least = least.min(x);
             greatest = greatest.max(x);
         }
+        negatives += u64::from(x < 0);
     }
     let total = total_of(block, held, negatives, total);
     found_beside(held, blanks, least, greatest, total, blank)
