@@ -1,11 +1,12 @@
 -- A scan that adds up all numbers apart, and takes the blank ones off at the end.
-use Rattle.std.proofs.Common.{◌≡◌, ◌≢◌, ◌+◌, ℕ, suc, Bool, true, false, cond, not, List, [], ◌∷◌, length, refl, arith, sym, ◌∙◌, ap, Option, Some, None}
-use Rattle.std.specs.Prelude.{filter, ℤ, pos, ◌+ℤ◌, ◌-ℤ◌, ◌*ℤ◌}
+use Rattle.std.proofs.Common.{◌<◌, ◌≤◌, zero, inl, inr, ◌≡◌, ◌≢◌, ◌+◌, ℕ, suc, Bool, true, false, cond, not, List, [], ◌∷◌, length, refl, arith, sym, ◌∙◌, ap, Option, Some, None}
+use Rattle.std.specs.Prelude.{int_lt, ◌≤ℤ◌, filter, ℤ, pos, ◌+ℤ◌, ◌-ℤ◌, ◌*ℤ◌}
 use Rattle.std.specs.Int.{int_min, int_max}
-use Rattle.std.proofs.lemmas.Int.{ints}
+use Rattle.std.proofs.lemmas.Int.{ints, clamps}
+use Rattle.std.proofs.lemmas.Bool.{cases_eq}
 use Rattle.fits_plane.specs.Statistics.{is_blank, defined_numbers, sum_of, statistics}
 use Rattle.fits_plane.specs.Pixels.{pixel, pixels}
-use Rattle.fits_plane.specs.Scan.{found_summary}
+use Rattle.fits_plane.specs.Scan.{found_summary, negative_count}
 use Rattle.fits_plane.proofs.ScanLemmas.{Scanned, AllBetween, scanned_skip, scanned_use, scanned_turn, scanned_result, pixels-step}
 use Rattle.fits_plane.proofs.ValueLemmas.{times_more, times_none}
 
@@ -81,3 +82,66 @@ pub ranged_defined : (top bottom low high low' high' sum : ℤ) (defined : ℕ) 
 ranged_defined top bottom low high low' high' sum defined all s range n p q t =
     let whole : sum ≡ s.sum = omega (arith, ints, s.scanned.total, t, ap sum_of (all_defined all)) in
     scanned_result None top bottom low high s.sum low' high' sum defined 0 all s.scanned range n p q whole
+
+-- ---- pixels that are blank before the first that is not
+
+-- what is found of them
+pub ranged_lead : (w : ℕ) (b top bottom : ℤ) (xs : List ℕ) (f m n : ℕ) → ((k : ℕ) → k < f → pixel w xs k ≡ b) → f + m ≡ n
+    → Ranged (Some b) top bottom top bottom f (pixels w xs f m) (pixels w xs 0 n)
+ranged_lead w b top bottom xs zero m n h e = ranged_none (Some b) top bottom top bottom 0 _ _ refl refl refl (ap (pixels w xs 0) (let z : m ≡ n = omega (arith, e) in z))
+ranged_lead w b top bottom xs (suc f) m n h e =
+    ranged_skip w f (suc m) (suc f) m xs refl (omega arith) refl (h f (omega arith)) (ranged_lead w b top bottom xs f (suc m) n (λ k l. h k (omega (arith, l))) (omega (arith, e))) refl refl (omega arith)
+
+-- one more that is negative, if one is
+lead_case : (t : Bool) (f : ℕ) → cond t f 0 + cond t 1 0 ≡ cond t (suc f) 0
+lead_case true f = omega arith
+lead_case false f = refl
+
+-- how many of them are negative
+pub negatives_lead : (w : ℕ) (b : ℤ) (xs : List ℕ) (f m n : ℕ) → ((k : ℕ) → k < f → pixel w xs k ≡ b) → f + m ≡ n
+    → cond (int_lt b (pos 0)) f 0 + negative_count (pixels w xs f m) ≡ negative_count (pixels w xs 0 n)
+negatives_lead w b xs zero m n h e = none (int_lt b (pos 0)) (negative_count (pixels w xs 0 m)) ∙ ap (λ k. negative_count (pixels w xs 0 k)) (let z : m ≡ n = omega (arith, e) in z)
+  where
+    none : (t : Bool) (k : ℕ) → cond t zero zero + k ≡ k
+    none true k = omega arith
+    none false k = omega arith
+negatives_lead w b xs (suc f) m n h e =
+    let ih = negatives_lead w b xs f (suc m) n (λ k l. h k (omega (arith, l))) (omega (arith, e)) in
+    let sign = ap {B = ℕ} (λ z. cond (int_lt z (pos 0)) 1 0) (h f (omega arith)) in
+    let next : f + 1 ≡ suc f = omega arith in
+    let rest = ap (λ k. negative_count (pixels w xs k m)) next in
+    omega (arith, ih, sign, rest, lead_case (int_lt b (pos 0)) f)
+
+-- a blank pixel comes after the first that is not
+pub past_first : (w f i n : ℕ) (xs : List ℕ) (b : ℤ) → (f < n → pixel w xs f ≢ b) → f ≤ i → i < n → pixel w xs i ≡ b → f < i
+past_first w f i n xs b stops le lt e = elim (cases_eq f i) [
+  | inl same ↦ absurd (stops (omega (arith, le, lt)) (ap (pixel w xs) same ∙ e))
+  | inr other ↦ omega (arith, le, other)
+]
+
+-- a number between the least and the greatest moves neither
+pub least_stays : (low fill : ℤ) → low ≤ℤ fill → int_min low fill ≡ low
+least_stays low fill h = omega (arith, ints, clamps, h)
+
+-- the same of the greatest
+pub greatest_stays : (high fill : ℤ) → fill ≤ℤ high → int_max high fill ≡ high
+greatest_stays high fill h = omega (arith, ints, clamps, h)
+
+-- no more are negative than there are
+pub lead_le : (t : Bool) (f r : ℕ) → r ≡ cond t f 0 → r ≤ f
+lead_le true f r e = omega (arith, e)
+lead_le false f r e = omega (arith, e)
+
+-- the least is at most the first number that is not blank, once that is used
+pub least_bound : (f i : ℕ) (low fill x : ℤ) → f ≤ i → (f < i → low ≤ℤ fill) → (f ≡ i → x ≡ fill) → int_min low x ≤ℤ fill
+least_bound f i low fill x h under here = elim (cases_eq f i) [
+  | inl e ↦ omega (arith, ints, clamps, here e)
+  | inr other ↦ omega (arith, ints, clamps, under (omega (arith, h, other)))
+]
+
+-- and the greatest at least
+pub greatest_bound : (f i : ℕ) (high fill x : ℤ) → f ≤ i → (f < i → fill ≤ℤ high) → (f ≡ i → x ≡ fill) → fill ≤ℤ int_max high x
+greatest_bound f i high fill x h over here = elim (cases_eq f i) [
+  | inl e ↦ omega (arith, ints, clamps, here e)
+  | inr other ↦ omega (arith, ints, clamps, over (omega (arith, h, other)))
+]

@@ -1,5 +1,5 @@
 -- Totals of pixels without their signs, by halves of words.
-use Rattle.std.proofs.Common.{◌≡◌, ◌<◌, ◌+◌, ◌*◌, ◌/◌, ◌%◌, ◌≤◌, ℕ, zero, suc, Bool, true, false, cond, List, refl, arith, ◌∙◌, ap, slice_index, drop}
+use Rattle.std.proofs.Common.{◌≡◌, ◌<◌, ◌+◌, ◌*◌, ◌/◌, ◌%◌, ◌≤◌, ℕ, zero, suc, Bool, true, false, cond, List, refl, arith, sym, ◌∙◌, ap, slice_index, drop}
 use Rattle.std.specs.Prelude.{ℤ, pos, ◌+ℤ◌, int_lt}
 use Rattle.std.proofs.lemmas.Int.{ints}
 use Rattle.std.proofs.lemmas.Bool.Decides.{nat_tests}
@@ -92,3 +92,47 @@ pub twos_turn : (xs : List ℕ) (i n j m s s' all : ℕ) → n ≡ suc (suc m) �
 twos_turn xs i n j m s s' all e f h p =
     let h' = rw e at h in
     rw f (omega (arith, h', p))
+
+-- ---- 64 bits
+
+-- at eight bytes
+sign_64 : (u : ℕ) → u < 18446744073709551616 → pos u ≡ twos_complement 8 u +ℤ pos (18446744073709551616 * cond (int_lt (twos_complement 8 u) (pos 0)) 1 0)
+sign_64 u h = grind (arith, ints, nat_tests)
+
+-- the total of pixels of eight bytes
+pub total_64 : (xs : List ℕ) (i n : ℕ) → ((k : ℕ) → slice_index xs k < 256) → pos (unsigned_total 8 xs i n) ≡ sum_of (pixels 8 xs i n) +ℤ pos (18446744073709551616 * negative_count (pixels 8 xs i n))
+total_64 xs i zero h = omega (arith, ints)
+total_64 xs i (suc n) h =
+    let low = big_from-lt (i * 8) 8 xs h in
+    omega (arith, ints, sign_64 (big_from (i * 8) 8 xs) (omega (arith, low)), total_64 xs (i + 1) n h)
+
+-- a turn by eights
+pub eights_turn : (xs : List ℕ) (i n j m s s' all : ℕ) → n ≡ suc m → j ≡ i + 1 → s + unsigned_total 8 xs i n ≡ all → s' ≡ s + big_from (8 * i) 8 xs → s' + unsigned_total 8 xs j m ≡ all
+eights_turn xs i n j m s s' all e f h p =
+    let at : i * 8 ≡ 8 * i = omega arith in
+    let h' = rw (e, at) at h in
+    rw f (omega (arith, h', p))
+
+-- a number of eight bytes by its halves
+long_words : (a : ℕ) (xs : List ℕ) → big_from a 8 xs ≡ big_from a 4 xs * 4294967296 + big_from (suc (suc (suc (suc a)))) 4 xs
+long_words a xs = omega arith
+
+-- the words of a number of 64 bits
+pub record LongHalved (xs : List ℕ) (i long : ℕ) : Type 0 where
+  pub is : long ≡ big_from (8 * i) 8 xs
+  pub high : long / 4294967296 ≡ big_from 0 4 (drop (8 * i) xs)
+  pub low : long % 4294967296 ≡ big_from 0 4 (drop (8 * i + 4) xs)
+
+-- they are its halves
+pub long_halved : (xs : List ℕ) (i long : ℕ) → ((k : ℕ) → slice_index xs k < 256) → long ≡ big_from 0 8 (drop (8 * i) xs) → LongHalved xs i long
+long_halved xs i long h e =
+    let z : 8 * i + 0 ≡ 8 * i = omega arith in
+    let is = e ∙ big_from-drop (8 * i) 0 8 xs ∙ ap (λ k. big_from k 8 xs) z in
+    let split = long_words (8 * i) xs in
+    let second : suc (suc (suc (suc (8 * i)))) ≡ 8 * i + 4 + 0 = omega arith in
+    let small = big_from-lt (suc (suc (suc (suc (8 * i))))) 4 xs h in
+    record {
+      is = is;
+      high = (let q : long / 4294967296 ≡ big_from (8 * i) 4 xs = omega (arith, is, split, small) in q) ∙ sym (big_from-drop (8 * i) 0 4 xs ∙ ap (λ k. big_from k 4 xs) z);
+      low = (let r : long % 4294967296 ≡ big_from (suc (suc (suc (suc (8 * i))))) 4 xs = omega (arith, is, split, small) in r) ∙ ap (λ k. big_from k 4 xs) second ∙ sym (big_from-drop (8 * i + 4) 0 4 xs);
+    }

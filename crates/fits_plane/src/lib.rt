@@ -6,6 +6,7 @@ mod halves;
 pub mod laws;
 mod layout;
 mod leaves;
+mod long_halves;
 mod nodes;
 mod paint;
 mod pixel_reads;

@@ -2,7 +2,7 @@
 //!
 //! A pass holds numbers of the pixel's own type, and counts no wider than a block needs. The sum of
 //! all pixels comes from their total without signs, and what is blank is taken off it at the end.
-ghost use Rattle.std.specs.Prelude.{◌≡◌, ◌≤◌, ◌*◌, ◌+◌, ◌/◌, length, Some, None, unsigned_abs};
+ghost use Rattle.std.specs.Prelude.{◌≡◌, ◌≢◌, ◌≤◌, ◌<◌, ℕ, pos, int_lt, if◌then◌else◌, ◌*◌, ◌+◌, ◌/◌, length, Some, None, unsigned_abs};
 ghost use Rattle.fits_plane.specs.Pixels.{pixel, pixels};
 ghost use Rattle.fits_plane.specs.Statistics.{statistics, sum_of};
 ghost use Rattle.fits_plane.specs.Scan.{negative_count, unsigned_total};
@@ -79,6 +79,36 @@ fn scan_defined(block: &[u8], held: usize, total: u64) -> PixelSummary
     )
 }
 
+/// How many pixels are blank before the first that is not.
+fn leading_blanks(block: &[u8], held: usize, blank: i32) -> usize
+    requires within { held * 4 ≤ length block.now }
+    ensures within { result ≤ held }
+    ensures blank { (k : ℕ) → k < result → pixel 4 block.now k ≡ blank }
+    ensures stops { result < held → pixel 4 block.now result ≢ blank }
+{
+    for i in 0..held {
+        if read(block, i) != blank {
+            return i;
+        }
+    }
+    held
+}
+
+/// Stored pixel i, or 0 where there is none.
+fn pixel_or_zero(block: &[u8], held: usize, i: usize) -> i32
+    requires within { held * 4 ≤ length block.now }
+    ensures { i < held → result ≡ pixel 4 block.now i }
+{
+    if i < held { read(block, i) } else { 0 }
+}
+
+/// How many of so many blank pixels are negative.
+fn negative_blanks(blank: i32, count: u32) -> u32
+    ensures { result ≡ (if int_lt blank (pos 0) then count else 0) }
+{
+    if blank < 0 { count } else { 0 }
+}
+
 /// The statistics of the first pixels, where one number is blank.
 fn scan_blank(block: &[u8], held: usize, blank: i32, total: u64) -> PixelSummary
     requires within { held * 4 ≤ length block.now }
@@ -87,19 +117,23 @@ fn scan_blank(block: &[u8], held: usize, blank: i32, total: u64) -> PixelSummary
     requires small { total ≤ 3092376453120 }
     ensures { result ≡ statistics (Some blank) (pixels 4 block.now 0 held) }
 {
+    let first = leading_blanks(block, held, blank);
+    // A blank pixel counts as the first that is not, which moves neither the least nor the greatest.
+    let fill = pixel_or_zero(block, held, first);
     let mut least = i32::MAX;
     let mut greatest = i32::MIN;
-    let mut negatives = 0u32;
-    let mut blanks = 0u32;
-    for i in 0..held {
+    let mut blanks = first as u32;
+    let mut negatives = negative_blanks(blank, blanks);
+    for i in first..held {
         let x = read(block, i);
-        negatives += u32::from(x < 0);
+        let mut used = x;
         if x == blank {
+            used = fill;
             blanks += 1;
-        } else {
-            least = least.min(x);
-            greatest = greatest.max(x);
         }
+        least = least.min(used);
+        greatest = greatest.max(used);
+        negatives += u32::from(x < 0);
     }
     let total = total_of(block, held, negatives, total);
     found_beside(

@@ -1,10 +1,11 @@
 //! The statistics of a block of 64-bit pixels.
 //!
-//! A pass holds numbers of the pixel's own type, and a sum no wider than a block needs. Where a number
-//! is blank, a second pass adds up all pixels, and what is blank is taken off at the end.
-ghost use Rattle.std.specs.Prelude.{◌≡◌, ◌≤◌, ◌*◌, ◌+◌, length, Some, None, unsigned_abs};
+//! A pass holds numbers of the pixel's own type, and counts as wide. The sum of all pixels comes from
+//! their total without signs, and what is blank is taken off it at the end.
+ghost use Rattle.std.specs.Prelude.{◌≡◌, ◌≢◌, ◌≤◌, ◌<◌, ℕ, pos, int_lt, if◌then◌else◌, ◌*◌, ◌+◌, ◌/◌, length, Some, None, unsigned_abs};
 ghost use Rattle.fits_plane.specs.Pixels.{pixel, pixels};
 ghost use Rattle.fits_plane.specs.Statistics.{statistics, sum_of};
+ghost use Rattle.fits_plane.specs.Scan.{negative_count, unsigned_total};
 
 use crate::pixel_summary::PixelSummary;
 use crate::scan_end::{found, found_beside};
@@ -18,26 +19,8 @@ pub(crate) fn read(block: &[u8], i: usize) -> i64
     BigEndian::read_i64(&block[8 * i..])
 }
 
-/// The statistics of the first pixels, where none is blank.
-fn scan_defined(block: &[u8], held: usize) -> PixelSummary
-    requires within { held * 8 ≤ length block.now }
-    requires short { length block.now ≤ 2880 }
-    ensures { result ≡ statistics None (pixels 8 block.now 0 held) }
-{
-    let mut least = i64::MAX;
-    let mut greatest = i64::MIN;
-    let mut sum = 0i128;
-    for i in 0..held {
-        let x = read(block, i);
-        least = least.min(x);
-        greatest = greatest.max(x);
-        sum += i128::from(x);
-    }
-    found(held as u64, 0, least, greatest, sum)
-}
-
-/// The sum of the first pixels, whether they are blank or not.
-fn total_of(block: &[u8], held: usize) -> i128
+/// The sum of the first pixels, one by one.
+fn added(block: &[u8], held: usize) -> i128
     requires within { held * 8 ≤ length block.now }
     requires short { length block.now ≤ 2880 }
     ensures value { result ≡ sum_of (pixels 8 block.now 0 held) }
@@ -50,36 +33,116 @@ fn total_of(block: &[u8], held: usize) -> i128
     total
 }
 
-/// The statistics of the first pixels, where one number is blank.
-fn scan_blank(block: &[u8], held: usize, blank: i64) -> PixelSummary
+/// The sum of the first pixels, so many of which are negative. In a full block it follows from the
+/// total without signs.
+fn total_of(block: &[u8], held: usize, negatives: u64, total: u128) -> i128
     requires within { held * 8 ≤ length block.now }
     requires short { length block.now ≤ 2880 }
-    ensures { result ≡ statistics (Some blank) (pixels 8 block.now 0 held) }
+    requires few { negatives ≤ held }
+    requires negatives { negatives ≡ negative_count (pixels 8 block.now 0 held) }
+    requires total { total ≡ unsigned_total 8 block.now 0 (length block.now / 8) }
+    requires small { total ≤ 6640827866535438581760 }
+    ensures value { result ≡ sum_of (pixels 8 block.now 0 held) }
+    ensures within { unsigned_abs result ≤ 6640827866535438581760 }
+{
+    if held * 8 < block.len() {
+        added(block, held)
+    } else {
+        total as i128 - i128::from(negatives) * 18_446_744_073_709_551_616
+    }
+}
+
+/// The statistics of the first pixels, where none is blank.
+fn scan_defined(block: &[u8], held: usize, total: u128) -> PixelSummary
+    requires within { held * 8 ≤ length block.now }
+    requires short { length block.now ≤ 2880 }
+    requires total { total ≡ unsigned_total 8 block.now 0 (length block.now / 8) }
+    requires small { total ≤ 6640827866535438581760 }
+    ensures { result ≡ statistics None (pixels 8 block.now 0 held) }
 {
     let mut least = i64::MAX;
     let mut greatest = i64::MIN;
-    let mut blanks = 0u64;
+    let mut negatives = 0u64;
     for i in 0..held {
         let x = read(block, i);
-        if x == blank {
-            blanks += 1;
-        } else {
-            least = least.min(x);
-            greatest = greatest.max(x);
+        least = least.min(x);
+        greatest = greatest.max(x);
+        negatives += u64::from(x < 0);
+    }
+    let sum = total_of(block, held, negatives, total);
+    found(held as u64, 0, least, greatest, sum)
+}
+
+/// How many pixels are blank before the first that is not.
+fn leading_blanks(block: &[u8], held: usize, blank: i64) -> usize
+    requires within { held * 8 ≤ length block.now }
+    ensures within { result ≤ held }
+    ensures blank { (k : ℕ) → k < result → pixel 8 block.now k ≡ blank }
+    ensures stops { result < held → pixel 8 block.now result ≢ blank }
+{
+    for i in 0..held {
+        if read(block, i) != blank {
+            return i;
         }
     }
-    let total = total_of(block, held);
+    held
+}
+
+/// Stored pixel i, or 0 where there is none.
+fn pixel_or_zero(block: &[u8], held: usize, i: usize) -> i64
+    requires within { held * 8 ≤ length block.now }
+    ensures { i < held → result ≡ pixel 8 block.now i }
+{
+    if i < held { read(block, i) } else { 0 }
+}
+
+/// How many of so many blank pixels are negative.
+fn negative_blanks(blank: i64, count: u64) -> u64
+    ensures { result ≡ (if int_lt blank (pos 0) then count else 0) }
+{
+    if blank < 0 { count } else { 0 }
+}
+
+/// The statistics of the first pixels, where one number is blank.
+fn scan_blank(block: &[u8], held: usize, blank: i64, total: u128) -> PixelSummary
+    requires within { held * 8 ≤ length block.now }
+    requires short { length block.now ≤ 2880 }
+    requires total { total ≡ unsigned_total 8 block.now 0 (length block.now / 8) }
+    requires small { total ≤ 6640827866535438581760 }
+    ensures { result ≡ statistics (Some blank) (pixels 8 block.now 0 held) }
+{
+    let first = leading_blanks(block, held, blank);
+    // A blank pixel counts as the first that is not, which moves neither the least nor the greatest.
+    let fill = pixel_or_zero(block, held, first);
+    let mut least = i64::MAX;
+    let mut greatest = i64::MIN;
+    let mut blanks = first as u64;
+    let mut negatives = negative_blanks(blank, blanks);
+    for i in first..held {
+        let x = read(block, i);
+        let mut used = x;
+        if x == blank {
+            used = fill;
+            blanks += 1;
+        }
+        least = least.min(used);
+        greatest = greatest.max(used);
+        negatives += u64::from(x < 0);
+    }
+    let total = total_of(block, held, negatives, total);
     found_beside(held, blanks, least, greatest, total, blank)
 }
 
 /// The statistics of the first pixels.
-pub(crate) fn scan(block: &[u8], held: usize, blank: Option<i64>) -> PixelSummary
+pub(crate) fn scan(block: &[u8], held: usize, blank: Option<i64>, total: u128) -> PixelSummary
     requires within { held * 8 ≤ length block.now }
     requires short { length block.now ≤ 2880 }
+    requires total { total ≡ unsigned_total 8 block.now 0 (length block.now / 8) }
+    requires small { total ≤ 6640827866535438581760 }
     ensures { result ≡ statistics blank (pixels 8 block.now 0 held) }
 {
     match blank {
-        None => scan_defined(block, held),
-        Some(number) => scan_blank(block, held, number),
+        None => scan_defined(block, held, total),
+        Some(number) => scan_blank(block, held, number, total),
     }
 }

@@ -1,5 +1,5 @@
 //! The summary of one block, by one visit to it.
-ghost use Rattle.std.specs.Prelude.{◌≡◌, ◌≤◌, ◌*◌, ◌+◌, ◌/◌, ◌%◌, ◌⊎◌, length};
+ghost use Rattle.std.specs.Prelude.{◌≡◌, ◌≤◌, ◌<◌, ◌*◌, ◌+◌, ◌/◌, ◌%◌, ◌⊎◌, length};
 ghost use Rattle.fits_sum.specs.Words.{word_total};
 ghost use Rattle.fits_plane.specs.Pixels.{pixels, IsWidth};
 ghost use Rattle.fits_plane.specs.Statistics.{statistics};
@@ -10,6 +10,7 @@ ghost use Rattle.fits_plane.specs.Scan.{unsigned_total};
 use crate::both::Both;
 use crate::halves::{Halves, halves_of};
 use crate::layout::Layout;
+use crate::long_halves::long_halves_of;
 use crate::pixel_summary::PixelSummary;
 use crate::summary::Summary;
 use crate::word_summary::WordSummary;
@@ -28,6 +29,7 @@ fn scan_pixels(
     halves: Halves,
 ) -> PixelSummary
     requires width { (width ≡ 0) ⊎ IsWidth width }
+    requires narrow { width < 8 }
     requires no_pixels { width ≡ 0 → held ≡ 0 }
     requires within { held * width ≤ length block.now }
     requires short { length block.now ≤ 2880 }
@@ -42,17 +44,17 @@ fn scan_pixels(
         1 => pixels_8::scan(block, held, blank),
         2 => pixels_16::scan(block, held, blank, halves.high + halves.low),
         4 => pixels_32::scan(block, held, blank, halves.total()),
-        8 => pixels_64::scan(block, held, blank),
         _ => PixelSummary::unit(),
     }
 }
 
-/// What is kept of a block that has so many pixels.
-fn scan_part(block: &[u8], width: usize, held: usize, blank: Option<i64>) -> Leaf
+/// What is kept of a block of pixels that are at most as wide as a word.
+fn scan_words(block: &[u8], width: usize, held: usize, blank: Option<i64>) -> Leaf
     requires width { (width ≡ 0) ⊎ IsWidth width }
+    requires narrow { width < 8 }
     requires no_pixels { width ≡ 0 → held ≡ 0 }
     requires within { held * width ≤ length block.now }
-    requires whole { length block.now % 4 ≡ 0 }
+    requires whole { length block.now % 8 ≡ 0 }
     requires short { length block.now ≤ 2880 }
     ensures first { result.first ≡ statistics blank (pixels width block.now 0 held) }
     ensures second { result.second.total ≡ word_total block.now }
@@ -63,6 +65,40 @@ fn scan_part(block: &[u8], width: usize, held: usize, blank: Option<i64>) -> Lea
         second: WordSummary {
             total: halves.total(),
         },
+    }
+}
+
+/// What is kept of a block of pixels of 64 bits.
+fn scan_longs(block: &[u8], held: usize, blank: Option<i64>) -> Leaf
+    requires within { held * 8 ≤ length block.now }
+    requires whole { length block.now % 8 ≡ 0 }
+    requires short { length block.now ≤ 2880 }
+    ensures first { result.first ≡ statistics blank (pixels 8 block.now 0 held) }
+    ensures second { result.second.total ≡ word_total block.now }
+{
+    let halves = long_halves_of(block);
+    Both {
+        first: pixels_64::scan(block, held, blank, halves.total()),
+        second: WordSummary {
+            total: halves.high + halves.low,
+        },
+    }
+}
+
+/// What is kept of a block that has so many pixels.
+fn scan_part(block: &[u8], width: usize, held: usize, blank: Option<i64>) -> Leaf
+    requires width { (width ≡ 0) ⊎ IsWidth width }
+    requires no_pixels { width ≡ 0 → held ≡ 0 }
+    requires within { held * width ≤ length block.now }
+    requires whole { length block.now % 8 ≡ 0 }
+    requires short { length block.now ≤ 2880 }
+    ensures first { result.first ≡ statistics blank (pixels width block.now 0 held) }
+    ensures second { result.second.total ≡ word_total block.now }
+{
+    if width == 8 {
+        scan_longs(block, held, blank)
+    } else {
+        scan_words(block, width, held, blank)
     }
 }
 

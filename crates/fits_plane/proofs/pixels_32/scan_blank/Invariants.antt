@@ -1,5 +1,5 @@
-use Rattle.std.proofs.Common.{◌≡◌, ◌≤◌, ◌+◌, ◌-◌, Some}
-use Rattle.std.specs.Prelude.{pos, negsuc}
+use Rattle.std.proofs.Common.{◌≡◌, ◌≤◌, ◌<◌, ◌+◌, ◌-◌, Some}
+use Rattle.std.specs.Prelude.{pos, negsuc, ◌≤ℤ◌}
 use Rattle.fits_plane.specs.Pixels.{pixels}
 use Rattle.fits_plane.specs.Scan.{negative_count}
 use Rattle.fits_plane.proofs.ApartLemmas.{Ranged}
@@ -11,4 +11,7 @@ invariant-loop-i l = record {
   few : l.blanks ≤ l.i;
   negatives : l.negatives + negative_count (pixels 4 l.block l.i (l.held - l.i)) ≡ negative_count (pixels 4 l.block 0 l.held);
   few_negatives : l.negatives ≤ l.i;
+  from : l.first ≤ l.i;
+  low : l.first < l.i → l.least ≤ℤ l.fill;
+  high : l.first < l.i → l.fill ≤ℤ l.greatest;
 }

@@ -1,29 +1,50 @@
-use Rattle.std.proofs.Common.{◌≡◌, ◌+◌, ◌-◌, ◌∙◌, ℕ, ℤ, None, List, to_z, of_z, arith, refl, ap}
+use Rattle.std.proofs.Common.{◌≡◌, ◌+◌, ◌-◌, ◌∙◌, ℕ, ℤ, List, to_z, of_z, arith, refl, ap}
 use Rattle.std.specs.Int.{w64, int_min, int_max}
 use Rattle.std.proofs.lemmas.Int.{to_z-of_z, ints}
 use Rattle.fits_plane.specs.Pixels.{pixels, pixel}
+use Rattle.fits_plane.specs.Scan.{negative_count}
 use Rattle.fits_plane.proofs.PixelLemmas.{length-pixels}
-use Rattle.fits_plane.proofs.ScanLemmas.{scanned_turn, scanned_result, range_64}
+use Rattle.fits_plane.proofs.ScanLemmas.{range_64}
+use Rattle.fits_plane.proofs.HalfLemmas.{negatives_turn, test_le}
+use Rattle.fits_plane.proofs.ApartLemmas.{ranged_none, ranged_turn, ranged_defined}
 use Rattle.fits_plane.proofs.pixels_64.scan_defined.Goals as goal
+
+pub loop-i-init : goal.loop-i-init
+loop-i-init c =
+    let all : c.args.held - 0 ≡ c.args.held = omega arith in
+    record {
+      ranged = ranged_none _ _ _ _ _ _ _ _ (omega (arith, ints)) (omega (arith, ints)) refl (ap (pixels 8 c.args.block.now 0) all);
+      negatives = omega (arith, ap (λ k. negative_count (pixels 8 c.args.block.now 0 k)) all);
+      few_negatives = omega arith;
+    }
 
 pub loop-i-preserved : goal.loop-i-preserved
 loop-i-preserved c =
     let xs : List ℕ = c.args.block.now in
     let i : ℕ = c.loop-i.i in
-    let here : to_z w64 (of_z w64 c.read-x.result) ≡ pixel 8 xs i = to_z-of_z w64 c.read-x.result (record { sfits = c.read-x.type_inv }) ∙ c.read-x.ensures in
+    let same : to_z w64 (of_z w64 c.read-x.result) ≡ c.read-x.result = to_z-of_z w64 c.read-x.result (record { sfits = c.read-x.type_inv }) in
+    let here : to_z w64 (of_z w64 c.read-x.result) ≡ pixel 8 xs i = same ∙ c.read-x.ensures in
+    let one = test_le _ _ c.from-negatives.ensures in
     record {
-      scanned = scanned_turn 8 i (c.args.held - i) (i + 1) (c.args.held - (i + 1)) xs (omega arith) refl refl c.loop-i.invariant.scanned
+      ranged = ranged_turn 8 i (c.args.held - i) (i + 1) (c.args.held - (i + 1)) xs (omega arith) refl c.loop-i.invariant.ranged
           (to_z-of_z w64 c.min-least.result (record { sfits = c.min-least.type_inv }) ∙ c.min-least.ensures.value ∙ ap (int_min (to_z w64 c.loop-i.least-bits)) here)
-          (to_z-of_z w64 c.max-greatest.result (record { sfits = c.max-greatest.type_inv }) ∙ c.max-greatest.ensures.value ∙ ap (int_max (to_z w64 c.loop-i.greatest-bits)) here)
-          (omega (arith, ints, here, c.loop-i.invariant.bound, c.requires));
-      bound = omega (arith, ints, c.loop-i.invariant.bound, c.requires);
+          (to_z-of_z w64 c.max-greatest.result (record { sfits = c.max-greatest.type_inv }) ∙ c.max-greatest.ensures.value ∙ ap (int_max (to_z w64 c.loop-i.greatest-bits)) here);
+      negatives = negatives_turn 8 i (c.args.held - i) (i + 1) (c.args.held - (i + 1)) xs c.loop-i.negatives _ _ c.read-x.result _ (omega arith) refl c.read-x.ensures same c.loop-i.invariant.negatives c.from-negatives.ensures;
+      few_negatives = omega (arith, c.loop-i.invariant.few_negatives, one);
     }
+
+-- all signs were counted
+pub total_of-sum-requires-clause-negatives : goal.total_of-sum-requires-clause-negatives
+total_of-sum-requires-clause-negatives c =
+    let none : c.args.held - c.loop-i.i ≡ 0 = omega arith in
+    let s = rw none at c.loop-i.invariant.negatives in
+    omega (arith, s)
 
 pub returns : goal.returns
 returns c =
     let xs : List ℕ = c.args.block.now in
     let none : c.args.held - c.loop-i.i ≡ 0 = omega arith in
     let all : List ℤ = pixels 8 xs 0 c.args.held in
-    let s = rw none at c.loop-i.invariant.scanned in
-    c.found.ensures ∙ scanned_result None _ _ _ _ _ _ _ _ _ _ all s (range_64 xs 0 c.args.held (λ k. let f = c.type_inv.block k in omega (arith, f))) (omega (arith, length-pixels 8 0 c.args.held xs))
-    (omega (arith, ints)) (omega (arith, ints)) (omega (arith, ints))
+    let s = rw none at c.loop-i.invariant.ranged in
+    c.found.ensures ∙ ranged_defined _ _ _ _ _ _ _ _ all s (range_64 xs 0 c.args.held (λ k. let f = c.type_inv.block k in omega (arith, f))) (omega (arith, length-pixels 8 0 c.args.held xs))
+    (omega (arith, ints)) (omega (arith, ints)) (omega (arith, ints, c.total_of-sum.ensures.value))
