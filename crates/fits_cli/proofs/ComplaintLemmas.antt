@@ -1,34 +1,10 @@
--- A number, and the line of a complaint, put together from what was printed.
-use Rattle.std.proofs.Common.{ℕ, ◌+◌, ◌/◌, ◌%◌, ◌<◌, ◌≤◌, ◌^◌, List, [], ◌∷◌, ◌++◌}
+-- The line of a complaint, put together from what was printed.
+use Rattle.std.proofs.Common.{ℕ, List, ◌++◌}
 use Rattle.std.specs.Prelude.{codes}
 use Rattle.std.specs.Fmt.{decimal}
-use Rattle.std.proofs.lemmas.Fmt.{decimal_digit, decimal_step}
 use Rattle.fits_cli.specs.Answer.{complaint}
 use Rattle.fits_card.specs.Stream.{SinkState, Prints, PrintsFront}
 use Rattle.fits_card.proofs.StreamLemmas.{Prints-more, PrintsFront-more, PrintsFront-longer}
-
--- one digit
-pub Prints-digit : (a b : SinkState) (n : ℕ) → n < 10 → Prints ((48 + n) ∷ []) a b → Prints (decimal n) a b
-Prints-digit a b n few p = rw (decimal_digit n few) p
-
--- the digits before the last, and the last
-pub Prints-number : (a b c : SinkState) (n : ℕ) → 10 ≤ n → n < 2 ^ 64
-    → Prints (decimal (n / 10)) a b → Prints ((48 + n % 10) ∷ []) b c → Prints (decimal n) a c
-Prints-number a b c n many wide p q = rw (decimal_step n many wide) (Prints-more a b c (decimal (n / 10)) ((48 + n % 10) ∷ []) p q)
-
--- not the one digit
-pub PrintsFront-digit : (a b : SinkState) (n : ℕ) → n < 10 → PrintsFront ((48 + n) ∷ []) a b → PrintsFront (decimal n) a b
-PrintsFront-digit a b n few p = rw (decimal_digit n few) p
-
--- a prefix of the digits before the last
-pub PrintsFront-number : (a b : SinkState) (n : ℕ) → 10 ≤ n → n < 2 ^ 64
-    → PrintsFront (decimal (n / 10)) a b → PrintsFront (decimal n) a b
-PrintsFront-number a b n many wide p = rw (decimal_step n many wide) (PrintsFront-longer a b (decimal (n / 10)) ((48 + n % 10) ∷ []) p)
-
--- the digits before the last, and not the last
-pub PrintsFront-last : (a b c : SinkState) (n : ℕ) → 10 ≤ n → n < 2 ^ 64
-    → Prints (decimal (n / 10)) a b → PrintsFront ((48 + n % 10) ∷ []) b c → PrintsFront (decimal n) a c
-PrintsFront-last a b c n many wide p q = rw (decimal_step n many wide) (PrintsFront-more a b c (decimal (n / 10)) ((48 + n % 10) ∷ []) p q)
 
 -- a complaint isn't printed whole: not its first word
 pub complaint_word : (a b : SinkState) (n : ℕ) (why : List ℕ) → PrintsFront (codes "line ") a b → PrintsFront (complaint n why) a b

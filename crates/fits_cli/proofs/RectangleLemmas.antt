@@ -1,10 +1,10 @@
 -- Rectangles, axes and values, one part after another.
-use Rattle.std.proofs.Common.{◌≡◌, ℕ, List, [], ◌∷◌, ◌++◌, refl, ap, sym, ◌∙◌, append_assoc, true, false, Bool}
+use Rattle.std.proofs.Common.{◌≡◌, ℕ, List, [], ◌∷◌, ◌++◌, refl, ap, sym, ◌∙◌, append_assoc, inl, inr, true, false, Bool, None, Some}
 use Rattle.std.specs.Prelude.{◌&&◌, IsTrue}
-use Rattle.std.proofs.lemmas.Bool.{and_parts}
+use Rattle.std.proofs.lemmas.Bool.{and_parts, cases_Bool}
 use Rattle.fits_value.specs.Number.{value_of}
 use Rattle.fits_cli.specs.Cut.{HasNo}
-use Rattle.fits_cli.specs.Line.{after_colon, are_lengths, are_values, before_colon, is_axis, is_number, is_rectangle, is_value, lengths_of_word, lower_corner, upper_corner, value_of_word, values_of_text}
+use Rattle.fits_cli.specs.Line.{after_colon, after_word, are_lengths, are_values, before_colon, fill_words, first_word, is_axis, is_number, is_rectangle, is_value, lengths_of_word, lower_corner, rectangle_first, upper_corner, value_last, value_of_word, values_of_text}
 use Rattle.fits_cli.proofs.PartsLemmas.{parts-none, parts-cut}
 
 -- one test of a list
@@ -21,10 +21,6 @@ is_rectangle-one word none = rw (parts-none 44 word none) (alone-true (is_axis w
 pub is_rectangle-more : (word axis rest : List ℕ) → HasNo 44 axis → word ≡ axis ++ 44 ∷ rest → is_rectangle word ≡ (is_axis axis && is_rectangle rest)
 unfolding is_rectangle
 is_rectangle-more word axis rest none e = rw (e, parts-cut 44 axis rest none) refl
-
--- the axes of a rectangle
-pub is_rectangle-parts : (word axis rest : List ℕ) → HasNo 44 axis → word ≡ axis ++ 44 ∷ rest → IsTrue (is_rectangle word) → IsTrue (is_axis axis) × IsTrue (is_rectangle rest)
-is_rectangle-parts word axis rest none e is = and_parts (is_axis axis) (is_rectangle rest) (sym (is_rectangle-more word axis rest none e) ∙ is)
 
 -- the lower corner of one axis
 pub lower_corner-one : (word : List ℕ) → HasNo 44 word → lower_corner word ≡ value_of (before_colon word) ∷ []
@@ -142,3 +138,11 @@ are_lengths-parts word first rest none e is = and_parts (is_number 18 first) (ar
 pub next_taken : {X : Type 0} (all before left new more : List X) (x : X) → all ≡ before ++ left → left ≡ x ∷ more → new ≡ before ++ x ∷ [] → all ≡ new ++ more
 next_taken all before left new more x whole next added =
     whole ∙ ap (λ t. before ++ t) next ∙ sym (append_assoc before (x ∷ []) more) ∙ ap (λ t. t ++ more) (sym added)
+
+-- a line of a rectangle and a value has no value
+pub fill_words-none : (text : List ℕ) → value_last (after_word text) ≡ None → fill_words (Some text) ≡ None
+unfolding fill_words rectangle_first
+fill_words-none text e =
+    elim (cases_Bool (is_rectangle (first_word text))) [ inl is ↦ rw (is, e) refl | inr other ↦ rw other refl ]
+
+pub ruleset paint_steps = (fill_words-none)

@@ -1,5 +1,5 @@
 //! Lines that say why a line of a script wasn't done. Printing them takes no memory.
-ghost use Rattle.std.specs.Prelude.{◌<◌, ◌+◌, [], ◌∷◌, OnOk, IfErr};
+ghost use Rattle.std.specs.Prelude.{OnOk, IfErr};
 ghost use Rattle.std.specs.Fmt.{decimal};
 ghost use Rattle.fits_card.specs.Stream.{Prints};
 ghost use Rattle.fits_cli.specs.Answer.{complaint};
@@ -8,6 +8,7 @@ ghost use Rattle.fits_cli.specs.Faults.{PrintFails};
 use crate::fault::Fault;
 use crate::printing::print;
 use fits_card::Sink;
+use itoa::Buffer;
 
 /// `line N: WHY`
 #[tactic(auto, using(fits_card::proofs::StreamLemmas::printing_steps))]
@@ -28,20 +29,6 @@ fn print_number<O: Sink>(out: &mut O, number: u64) -> Result<(), Fault>
     ensures ok { OnOk result (Prints (decimal number) (O.state out.old) (O.state out.new)) }
     ensures err { IfErr result (PrintFails (decimal number) (O.state out.old) (O.state out.new)) }
 {
-    if number < 10 {
-        print_digit(out, number)?;
-        return Ok(());
-    }
-    print_number(out, number / 10)?;
-    print_digit(out, number % 10)?;
-    Ok(())
-}
-
-fn print_digit<O: Sink>(out: &mut O, digit: u64) -> Result<(), Fault>
-    requires { digit < 10 }
-    ensures ok { OnOk result (Prints ((48 + digit) ∷ []) (O.state out.old) (O.state out.new)) }
-    ensures err { IfErr result (PrintFails ((48 + digit) ∷ [])
-        (O.state out.old) (O.state out.new)) }
-{
-    print(out, &[b'0' + digit as u8])
+    let mut digits = Buffer::new();
+    print(out, digits.format(number).as_bytes())
 }

@@ -243,23 +243,8 @@ pub(crate) fn field_words(
     }
 }
 
-// The word of a rectangle, and what follows it.
-#[tactic(auto, unfolding(crate::specs::Line::rectangle_first))]
-fn rectangle_first(rest: Option<&[u8]>) -> Option<(&[u8], Option<&[u8]>)>
-    ensures some { IfSome result (λ cut. IsTrue (is_rectangle cut.0.now)
-        × (rectangle_first (option_copied rest.entry)
-        ≡ Some (lower_corner cut.0.now, upper_corner cut.0.now, option_copied cut.1))) }
-    ensures none { IfNone result (rectangle_first (option_copied rest.entry) ≡ None) }
-{
-    let (word, rest) = cut_word(rest?);
-    if !is_rectangle(word) {
-        return None;
-    }
-    Some((word, rest))
-}
-
 /// `RECT`
-#[tactic(auto, unfolding(crate::specs::Line::rectangle_word, crate::specs::Line::alone))]
+#[tactic(auto, unfolding(crate::specs::Line::rectangle_word, crate::specs::Line::rectangle_first, crate::specs::Line::alone))]
 pub(crate) fn rectangle_word(
     alloc: Global,
     rest: Option<&[u8]>,
@@ -267,14 +252,17 @@ pub(crate) fn rectangle_word(
     ensures ok { IfOk result (λ words. words ≡ rectangle_word (option_copied rest.entry)) }
     ensures err { OnErr result (IsSome (rectangle_word (option_copied rest.entry))) }
 {
-    let Some((area, None)) = rectangle_first(rest) else {
+    let Some(text) = rest else {
         return Ok(None);
     };
-    Ok(Some(corners_of(alloc, area)?))
+    match cut_word(text) {
+        (area, None) => corners_of(alloc, area),
+        (_, Some(_)) => Ok(None),
+    }
 }
 
 /// `RECT V`
-#[tactic(auto, unfolding(crate::specs::Line::fill_words))]
+#[tactic(auto, using(crate::proofs::RectangleLemmas::paint_steps), unfolding(crate::specs::Line::fill_words, crate::specs::Line::rectangle_first))]
 pub(crate) fn fill_words(
     alloc: Global,
     rest: Option<&[u8]>,
@@ -282,18 +270,22 @@ pub(crate) fn fill_words(
     ensures ok { IfOk result (λ words. words ≡ fill_words (option_copied rest.entry)) }
     ensures err { OnErr result (IsSome (fill_words (option_copied rest.entry))) }
 {
-    let Some((area, rest)) = rectangle_first(rest) else {
+    let Some(text) = rest else {
         return Ok(None);
     };
+    let (area, rest) = cut_word(text);
     let Some(value) = value_last(rest) else {
         return Ok(None);
     };
-    let (lo, hi) = corners_of(alloc, area)?;
-    Ok(Some((lo, hi, Paint::Fill(value))))
+    match corners_of(alloc, area) {
+        Ok(Some((lo, hi))) => Ok(Some((lo, hi, Paint::Fill(value)))),
+        Ok(None) => Ok(None),
+        Err(refused) => Err(refused),
+    }
 }
 
 /// `RECT V V ..`
-#[tactic(auto, unfolding(crate::specs::Line::write_words))]
+#[tactic(auto, unfolding(crate::specs::Line::write_words, crate::specs::Line::rectangle_first))]
 pub(crate) fn write_words(
     alloc: Global,
     rest: Option<&[u8]>,
@@ -301,14 +293,18 @@ pub(crate) fn write_words(
     ensures ok { IfOk result (λ words. words ≡ write_words (option_copied rest.entry)) }
     ensures err { OnErr result (IsSome (write_words (option_copied rest.entry))) }
 {
-    let Some((area, rest)) = rectangle_first(rest) else {
+    let Some(text) = rest else {
         return Ok(None);
     };
-    match values_last(alloc, rest) {
-        Ok(Some(values)) => {
-            let (lo, hi) = corners_of(alloc, area)?;
-            Ok(Some((lo, hi, Paint::Write(values))))
-        }
+    let (area, rest) = cut_word(text);
+    if !is_rectangle(area) {
+        return Ok(None);
+    }
+    let Some(values) = values_last(alloc, rest)? else {
+        return Ok(None);
+    };
+    match corners_of(alloc, area) {
+        Ok(Some((lo, hi))) => Ok(Some((lo, hi, Paint::Write(values)))),
         Ok(None) => Ok(None),
         Err(refused) => Err(refused),
     }
