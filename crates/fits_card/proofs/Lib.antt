@@ -4,6 +4,8 @@ pub mod EmitLemmas
 pub mod HeaderLemmas
 pub mod HeaderReadingLemmas
 pub mod IntakeLemmas
+pub mod OrderLemmas
 pub mod SightLemmas
+pub mod SlottedLemmas
 pub mod SpliceLemmas
 pub mod StreamLemmas

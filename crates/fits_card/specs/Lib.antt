@@ -6,4 +6,5 @@ pub mod HeaderReading
 pub mod HeaderSteps
 pub mod Intake
 pub mod Name
+pub mod Order
 pub mod Stream

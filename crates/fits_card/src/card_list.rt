@@ -1,17 +1,16 @@
-ghost use Rattle.std.specs.Prelude.{◌≡◌, ℕ, ◌+◌, ◌-◌, ◌*◌, ◌^◌, ◌≤◌, ◌<◌, length, OnOk, OnErr, vec_len, vec_capacity, replicate, slice_set, All};
-ghost use Rattle.fits_card.specs.Stream.{Prints, PrintsFront};
+ghost use Rattle.std.specs.Prelude.{◌≡◌, ◌*◌, ◌^◌, ◌≤◌, vec_capacity, replicate};
 ghost use Rattle.fits_card.specs.declared.card.TheConstants.{CARD_LEN};
 ghost use Rattle.fits_card.specs.declared.card_list.TheConstants.{LONGEST_FILL};
-ghost use Rattle.fits_card.specs.Change.{spliced};
-ghost use Rattle.fits_card.specs.Header.{joined_cards, fill_length, header_length};
+ghost use Rattle.fits_card.specs.Header.{fill_length, header_length};
 
 use crate::card::{CARD_LEN, Card};
 use crate::count::Count;
+use crate::order::Order;
 use crate::sink::Sink;
-use crate::splicing::{make_room, move_item};
+use crate::slotted_cards::{card_in, move_in, splice_cards, write_cards};
 use crate::text::are_spaces;
 use crate::writing::write_all;
-use std::alloc::AllocError;
+use std::alloc::{AllocError, Global};
 use std::io;
 use std::marker::Model;
 
@@ -27,7 +26,9 @@ pub(crate) const LONGEST_FILL: usize = 2800;
 /// far, and how many more cards have reserved room.
 #[derive(Drop)]
 pub struct CardList {
+    // In the slots of the order.
     pub(crate) cards: Vec<Card>,
+    pub(crate) order: Order,
     pub(crate) end: Card,
     // It has room for the longest fill, so that no edit asks for memory here.
     pub(crate) fill: Vec<u8>,
@@ -37,24 +38,31 @@ pub struct CardList {
 }
 
 impl Model for CardList {
-    ghost use Rattle.std.specs.Prelude.{◌+◌, ◌≤◌, vec_capacity, vec_len};
+    ghost use Rattle.std.specs.Prelude.{◌≡◌, ◌+◌, ◌≤◌, [], length, vec_capacity, vec_len};
     ghost use Rattle.fits_card.specs.declared.card_list.TheConstants.{LONGEST_FILL};
     ghost use Rattle.fits_card.specs.CardList.{CardStore};
     ghost use Rattle.fits_card.specs.Header.{IsHeader};
+    ghost use Rattle.fits_card.specs.Order.{items_at};
 
     ghost Value = { CardStore };
 
     ghost view = { λ list. record {
-      header = record { cards = list.cards.items; end = list.end; fill = list.fill.items };
+      header = record {
+        cards = items_at [] list.cards.items list.order.slots;
+        end = list.end;
+        fill = list.fill.items;
+      };
       reads = list.reads.total;
       room = list.room;
     } };
 
     ghost invariant = { λ list. record {
-      card_room : vec_len list.cards + list.room ≤ vec_capacity list.cards;
+      slots : list.order.count ≡ vec_len list.cards;
+      card_room : length list.order.slots + list.room ≤ vec_capacity list.cards;
+      slot_room : length list.order.slots + list.room ≤ list.order.room;
       fill_room : LONGEST_FILL ≤ vec_capacity list.fill;
       whole : IsHeader (record {
-        cards = list.cards.items;
+        cards = items_at [] list.cards.items list.order.slots;
         end = list.end;
         fill = list.fill.items;
       });
@@ -62,13 +70,39 @@ impl Model for CardList {
 }
 
 impl CardList {
-    ghost use Rattle.std.specs.Prelude.{◌≡◌, ◌+◌, ◌-◌, ◌*◌, ◌^◌, ◌≤◌, ◌<◌, [], ◌∷◌, length, slice_index_or, All, IsOk, OnOk, OnErr};
+    ghost use Rattle.std.specs.Prelude.{◌≡◌, ◌+◌, ◌-◌, ◌*◌, ◌^◌, ◌≤◌, ◌<◌, [], ◌∷◌, length, slice_index_or, vec_capacity, All, IfOk, IsOk, OnOk, OnErr};
+    ghost use Rattle.fits_card.specs.declared.card_list.TheConstants.{LONGEST_FILL};
     ghost use Rattle.fits_card.specs.Stream.{Prints, PrintsFront};
     ghost use Rattle.fits_card.specs.Card.{IsEnd};
     ghost use Rattle.fits_card.specs.declared.card.TheConstants.{CARD_LEN};
     ghost use Rattle.fits_card.specs.CardList.{ReadsUpTo};
     ghost use Rattle.fits_card.specs.Change.{spliced, moved};
     ghost use Rattle.fits_card.specs.Header.{IsHeader, header_bytes, with_cards, is_end_blank, is_fill_blank};
+
+    // The header of these cards, with END and a fill that has room.
+    #[tactic(auto, using(crate::proofs::SlottedLemmas::place_steps))]
+    pub(crate) fn of(
+        alloc: Global,
+        cards: Vec<Card>,
+        end: Card,
+        fill: Vec<u8>,
+    ) -> Result<CardList, AllocError>
+        requires whole { IsHeader (record { cards = cards.items; end = end; fill = fill.items }) }
+        requires room { LONGEST_FILL ≤ vec_capacity fill }
+        ensures header { IfOk result (λ list. list.header
+            ≡ record { cards = cards.items; end = end; fill = fill.items }) }
+        ensures unread { IfOk result (λ list. list.reads ≡ 0) }
+    {
+        let order = Order::of(alloc, cards.len())?;
+        Ok(CardList {
+            cards,
+            order,
+            end,
+            fill,
+            reads: Count::new(),
+            room: 0,
+        })
+    }
 
     /// How many cards it has, END not counted.
     #[allow(clippy::len_without_is_empty)]
@@ -78,7 +112,7 @@ impl CardList {
         ensures within { CARD_LEN * (result + 1) ≤ length (header_bytes self.now.header) }
         ensures few { result < 2 ^ 63 }
     {
-        self.cards.len()
+        self.order.len()
     }
 
     /// How many bytes its cards, END and the fill have.
@@ -86,7 +120,7 @@ impl CardList {
         requires { length (header_bytes self.now.header) ≤ 2 ^ 34 }
         ensures { result ≡ length (header_bytes self.now.header) }
     {
-        CARD_LEN * (self.cards.len() + 1) + self.fill.len()
+        CARD_LEN * (self.order.len() + 1) + self.fill.len()
     }
 
     pub fn end(&self) -> &Card
@@ -125,7 +159,7 @@ impl CardList {
         ensures work { self.new ≡ record self.old { reads = self.old.reads + 1 } }
     {
         self.reads.tick();
-        self.cards[place - 1]
+        *card_in(&self.cards, &self.order, place - 1)
     }
 
     /// How many more cards have reserved room.
@@ -145,7 +179,9 @@ impl CardList {
         ensures no_more { self.old.room < self.new.room → self.new.room ≡ additional }
         ensures work { self.new.reads ≡ self.old.reads }
     {
-        self.cards.reserve(additional)?;
+        self.order.reserve(additional)?;
+        let free = self.order.count() - self.order.len();
+        self.cards.reserve(additional.saturating_sub(free))?;
         self.room = self.room.max(additional);
         Ok(())
     }
@@ -165,9 +201,9 @@ impl CardList {
         ensures room { self.new.room + length cards.now ≡ self.old.room + removed }
         ensures work { self.new.reads ≡ self.old.reads }
     {
-        splice_cards(&mut self.cards, place, removed, cards);
+        splice_cards(&mut self.cards, &mut self.order, place, removed, cards);
         self.room = self.room + removed - cards.len();
-        make_blank(&mut self.fill, self.cards.len());
+        make_blank(&mut self.fill, self.order.len());
     }
 
     /// Puts a card at a place, before the one that stands there.
@@ -208,8 +244,8 @@ impl CardList {
         ensures room { self.new.room ≡ self.old.room }
         ensures work { self.new.reads ≡ self.old.reads }
     {
-        move_item(&mut self.cards, from, to);
-        make_blank(&mut self.fill, self.cards.len());
+        move_in(self.cards.as_slice(), &mut self.order, from, to);
+        make_blank(&mut self.fill, self.order.len());
     }
 
     /// Writes the cards, END and the fill. Each card's read is counted.
@@ -227,7 +263,7 @@ impl CardList {
         ensures reads { OnOk result
             (self.new.reads ≡ self.old.reads + length self.old.header.cards) }
     {
-        write_cards(&self.cards, &mut self.reads, sink)?;
+        write_cards(&self.cards, &self.order, &mut self.reads, sink)?;
         write_all(sink, self.end.bytes())?;
         write_all(sink, &self.fill)?;
         Ok(())
@@ -251,43 +287,6 @@ pub(crate) fn fill_len(cards: usize) -> usize
     CARD_LEN * (35 - cards % 36)
 }
 
-// From a place on, so many cards go, and these stand there instead.
-fn splice_cards(cards: &mut Vec<Card>, place: usize, removed: usize, new: &[Card])
-    requires from { 1 ≤ place }
-    requires to { place + removed ≤ vec_len cards.old + 1 }
-    requires room { vec_len cards.old + length new.now ≤ vec_capacity cards.old + removed }
-    ensures cards { cards.new.items ≡ spliced cards.old.items place removed new.now }
-    ensures len { vec_len cards.new + removed ≡ vec_len cards.old + length new.now }
-    ensures room { vec_capacity cards.old ≤ vec_capacity cards.new }
-    ensures sizes { All (λ card. length card ≡ CARD_LEN) new.now }
-{
-    make_room(cards, place, removed, new.len(), Card::padded(b""));
-    write_over(cards, place, new);
-}
-
-// Writes cards over others, from a place on.
-#[tactic(auto, using(crate::proofs::SpliceLemmas::write_steps))]
-fn write_over(cards: &mut [Card], place: usize, new: &[Card])
-    requires from { 1 ≤ place }
-    requires to { place + length new.now ≤ length cards.old + 1 }
-    ensures cards { cards.new ≡ spliced cards.old place (length new.now) new.now }
-    ensures len { length cards.new ≡ length cards.old }
-    ensures sizes { All (λ card. length card ≡ CARD_LEN) new.now }
-{
-    for index in 0..new.len() {
-        write_card(cards, place - 1 + index, new[index]);
-    }
-}
-
-// Writes a card over another.
-fn write_card(cards: &mut [Card], index: usize, card: Card)
-    requires { index < length cards.old }
-    ensures cards { cards.new ≡ slice_set cards.old index card }
-    ensures size { length card ≡ CARD_LEN }
-{
-    cards[index] = card;
-}
-
 // The spaces that follow END after so many cards.
 fn make_blank(fill: &mut Vec<u8>, cards: usize)
     requires { LONGEST_FILL ≤ vec_capacity fill.old }
@@ -296,21 +295,4 @@ fn make_blank(fill: &mut Vec<u8>, cards: usize)
 {
     fill.clear();
     let _ = fill.resize(fill_len(cards), b' ');
-}
-
-#[tactic(auto, using(crate::proofs::EmitLemmas::card_steps))]
-fn write_cards<W: Sink>(cards: &[Card], reads: &mut Count, sink: &mut W) -> io::Result<()>
-    ensures ok { OnOk result (Prints (joined_cards cards.now)
-        (W.state sink.old) (W.state sink.new)) }
-    ensures err { OnErr result (PrintsFront (joined_cards cards.now)
-        (W.state sink.old) (W.state sink.new)) }
-    ensures work { OnOk result (reads.new.total ≡ reads.old.total + length cards.now) }
-    ensures least_work { reads.old.total ≤ reads.new.total }
-    ensures most_work { reads.new.total ≤ reads.old.total + length cards.now }
-{
-    for card in cards {
-        reads.tick();
-        write_all(sink, card.bytes())?;
-    }
-    Ok(())
 }

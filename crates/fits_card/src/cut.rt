@@ -7,7 +7,6 @@ ghost use Rattle.fits_card.specs.HeaderSteps.{header_at, piece, pieces, IsEndPla
 
 use crate::card::{CARD_LEN, Card};
 use crate::card_list::{CardList, LONGEST_FILL, fill_len};
-use crate::count::Count;
 use std::alloc::{AllocError, Global};
 use thiserror::Error;
 
@@ -48,13 +47,9 @@ pub fn cut_header(alloc: Global, bytes: &[u8]) -> Result<(CardList, usize), Head
     let Some(front) = front_of(bytes) else {
         return Err(HeaderFault::NoEnd);
     };
-    let header = CardList {
-        cards: cards_of(alloc, bytes, front.count)?,
-        end: card_at(bytes, front.count),
-        fill: fill_of(alloc, front.fill)?,
-        reads: Count::new(),
-        room: 0,
-    };
+    let cards = cards_of(alloc, bytes, front.count)?;
+    let fill = fill_of(alloc, front.fill)?;
+    let header = CardList::of(alloc, cards, card_at(bytes, front.count), fill)?;
     Ok((header, front.cards.len() + front.fill.len()))
 }
 

@@ -9,7 +9,6 @@ ghost use Rattle.fits_card.specs.Intake.{supply, IsSpent, TakesAfter};
 
 use crate::card::{CARD_LEN, Card};
 use crate::card_list::{BLOCK_LEN, CardList};
-use crate::count::Count;
 use crate::cut::{card_at, end_place, fill_of};
 use crate::intake::Intake;
 use crate::reading::ReadFault;
@@ -129,11 +128,6 @@ fn ended_list(
     ensures unread { IfOk result (λ list. list.reads ≡ 0) }
 {
     let (_, fill) = block.split_at(CARD_LEN * (count + 1));
-    Ok(CardList {
-        cards,
-        end: card_at(block, count),
-        fill: fill_of(alloc, fill)?,
-        reads: Count::new(),
-        room: 0,
-    })
+    let fill = fill_of(alloc, fill)?;
+    CardList::of(alloc, cards, card_at(block, count), fill)
 }
