@@ -3,7 +3,10 @@ use Rattle.std.proofs.Common.{◌≡◌, ℕ, ◌+◌, ◌<◌, ◌≤◌, Bool,
 use Rattle.std.proofs.Math.ListN.{set}
 use Rattle.std.proofs.lemmas.Bool.{cond-true, cond-false}
 use Rattle.std.proofs.lemmas.List.{append-nil, take-set, take_more_set, drop-set-lt, get_or-drop, map-append, drop-drop}
-use Rattle.std.proofs.lemmas.List.Elements.{filter_more}
+use Rattle.std.proofs.lemmas.List.{take-append-drop}
+use Rattle.std.proofs.lemmas.List.Elements.{filter_more, filter-append}
+use Rattle.fits_header.specs.declared.entry.Entry.{Entry}
+use Rattle.fits_header.specs.Index.{shifted, stays}
 
 -- where the rests are the same, so are their first elements
 pub same_next : {X : Type 0} (xs ys : List X) (i : ℕ) (d : X) → drop i xs ≡ drop i ys → get_or xs i d ≡ get_or ys i d
@@ -35,3 +38,15 @@ packed-no {X = X} p f old new kept i d moved within packed goes =
 pub packed_rest : {X : Type 0} (old new : List X) (kept i : ℕ) (moved : X) → kept ≤ i → drop i new ≡ drop i old → drop (i + 1) (set new kept moved) ≡ drop (i + 1) old
 packed_rest {X = X} old new kept i moved few rest =
     drop-set-lt (i + 1) new kept moved (omega arith) ∙ (sym (drop-drop 1 i new) ∙ (ap (drop 1) rest ∙ drop-drop 1 i old))
+
+-- what stays of the first ones and of the others
+pub stay_apart : (place removed coming first : ℕ) (es : List Entry)
+    → map (shifted place removed coming) (filter (stays place removed) es) ≡ map (shifted place removed coming) (filter (stays place removed) (take first es)) ++ map (shifted place removed coming) (filter (stays place removed) (drop first es))
+stay_apart place removed coming first es =
+    ap (λ (xs : List Entry). map (shifted place removed coming) (filter (stays place removed) xs)) (sym (take-append-drop first es))
+    ∙ (ap (map (shifted place removed coming)) (filter-append (stays place removed) (take first es) (drop first es))
+    ∙ map-append (shifted place removed coming) (filter (stays place removed) (take first es)) (filter (stays place removed) (drop first es)))
+
+-- two parts that are the same are the same together
+pub parts_same : {X : Type 0} {xs us ys vs : List X} → xs ≡ us → ys ≡ vs → xs ++ ys ≡ us ++ vs
+parts_same {X = X} {us = us} {ys = ys} e f = ap (λ (zs : List X). zs ++ ys) e ∙ ap (λ (zs : List X). us ++ zs) f

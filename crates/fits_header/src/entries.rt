@@ -5,7 +5,7 @@ ghost use Rattle.fits_header.specs.Index.{AreSame, IsIndexOf, IsSortedIndex, add
 ghost use Rattle.fits_header.specs.Names.{AreNamed};
 ghost use Rattle.fits_header.specs.Notes.{notes_of};
 
-use crate::entry::{Entry, entry_of, noted_entry, shifted, stays};
+use crate::entry::{Entry, entry_of, move_on, noted_entry, shifted, stays};
 use crate::note::Note;
 use fits_card::{Card, CardList};
 use std::alloc::{AllocError, Global};
@@ -96,8 +96,46 @@ pub(crate) fn take_out(entries: &mut Vec<Entry>, place: usize, removed: usize, c
         shift(entries, place, coming);
         return;
     }
-    let kept = pack(entries, place, removed, coming);
+    let first = shift_front(entries, place, removed, coming);
+    let kept = pack_from(entries, first, place, removed, coming);
     entries.truncate(kept);
+}
+
+// Shifts the entries up to the first of those that go, and says where that is. They stay where they
+// are, so that their places alone are written.
+fn shift_front(entries: &mut [Entry], place: usize, removed: usize, coming: usize) -> usize
+    requires low { All (λ e. e.place + coming < 2 ^ 64 + removed) entries.old }
+    ensures within { result ≤ length entries.old }
+    ensures len { length entries.new ≡ length entries.old }
+    ensures front { take result entries.new
+        ≡ map (shifted place removed coming) (filter (stays place removed) (take result entries.old)) }
+    ensures rest { drop result entries.new ≡ drop result entries.old }
+{
+    let mut index = 0;
+    while index < entries.len() && stays(entries[index], place, removed) {
+        move_on(&mut entries[index], place, removed, coming);
+        index += 1;
+    }
+    index
+}
+
+// Packs the entries from one on behind those before it, and says how many there are then.
+fn pack_from(
+    entries: &mut Vec<Entry>,
+    first: usize,
+    place: usize,
+    removed: usize,
+    coming: usize,
+) -> usize
+    requires within { first ≤ vec_len entries.old }
+    requires low { All (λ e. e.place + coming < 2 ^ 64 + removed) (drop first entries.old.items) }
+    ensures kept { take result entries.new.items ≡ take first entries.old.items
+        ++ map (shifted place removed coming) (filter (stays place removed) (drop first entries.old.items)) }
+    ensures within { result ≤ vec_len entries.new }
+    ensures room { vec_capacity entries.new ≡ vec_capacity entries.old }
+{
+    let (_, rest) = entries.split_at_mut(first);
+    first + pack(rest, place, removed, coming)
 }
 
 // Packs what stays at the front, shifted, and says how many that are.
@@ -136,7 +174,7 @@ fn shift(entries: &mut [Entry], place: usize, coming: usize)
     ensures { entries.new ≡ map (shifted place 0 coming) entries.old }
 {
     for index in 0..entries.len() {
-        entries[index] = shifted(entries[index], place, 0, coming);
+        move_on(&mut entries[index], place, 0, coming);
     }
 }
 

@@ -60,6 +60,16 @@ pub(crate) fn shifted(entry: Entry, place: usize, removed: usize, coming: usize)
     }
 }
 
+/// Makes an entry what it is once cards before it went and came, where it stays itself: its place
+/// alone is written.
+pub(crate) fn move_on(entry: &mut Entry, place: usize, removed: usize, coming: usize)
+    requires low { entry.old.place + coming < 2 ^ 64 + removed }
+    ensures { IsTrue (stays place removed entry.old)
+        → entry.new ≡ shifted place removed coming entry.old }
+{
+    entry.place = place_after(entry.place, place, removed, coming);
+}
+
 // Where a card stands once others before it went and came.
 fn place_after(here: usize, place: usize, removed: usize, coming: usize) -> usize
     requires { here + coming < 2 ^ 64 + removed }

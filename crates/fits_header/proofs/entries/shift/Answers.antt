@@ -10,7 +10,7 @@ use Rattle.fits_header.proofs.entries.shift.Goals as goal
 pub loop-index-preserved : goal.loop-index-preserved
 loop-index-preserved c =
     let d : Entry = record { name = 0; place = 0; has_value = false } in
-    let is = c.shifted.ensures (one_stays c.args.place (get_or c.loop-index.entries c.loop-index.index d)) in
+    let is = c.move_on.ensures (one_stays c.args.place (get_or c.loop-index.entries c.loop-index.index d)) in
     let i = c.loop-index.index in
     let new = c.loop-index.entries in
     let x = get_or new i d in

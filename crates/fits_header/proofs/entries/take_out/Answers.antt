@@ -1,9 +1,10 @@
-use Rattle.std.proofs.Common.{◌≡◌, ◌∙◌, List, ap, sym, subst, length, map, filter, take}
+use Rattle.std.proofs.Common.{◌≡◌, ◌∙◌, List, ap, sym, subst, length, map, filter, take, drop}
 use Rattle.std.proofs.lemmas.List.{length-map}
 use Rattle.fits_header.specs.declared.entry.Entry.{Entry}
 use Rattle.fits_header.specs.Index.{IsSortedIndex, shifted, stays}
 use Rattle.fits_header.proofs.ChangeLemmas.{all_stay}
 use Rattle.fits_header.proofs.IndexLemmas.{sorted-shifted, all_written}
+use Rattle.fits_header.proofs.PackLemmas.{parts_same, stay_apart}
 use Rattle.fits_header.proofs.entries.take_out.Goals as goal
 
 pub returns-then-removed-eq0-clause-items : goal.returns-then-removed-eq0-clause-items
@@ -20,10 +21,15 @@ returns-then-removed-eq0-clause-sorted c = subst IsSortedIndex (sym (returns-the
 
 pub returns-clause-items : goal.returns-clause-items
 returns-clause-items c =
+    let old = c.args.entries.now.items in
+    let first = c.shift_front-first.result in
     let stay = λ (es : List Entry). map (shifted c.args.place c.args.removed c.args.coming) (filter (stays c.args.place c.args.removed) es) in
+    let written = all_written _ _ _ (c.shift_front-first.ensures.len ∙ c.deref_mut-2.ensures.len) in
+    let front = ap (take first) written ∙ (c.shift_front-first.ensures.front ∙ ap (λ (es : List Entry). stay (take first es)) c.deref_mut-2.ensures.value) in
+    let rest = ap (drop first) written ∙ (c.shift_front-first.ensures.rest ∙ ap (drop first) c.deref_mut-2.ensures.value) in
     c.truncate.ensures.items
-    ∙ (ap (take c.pack-kept.result) (all_written _ _ _ (c.pack-kept.ensures.len ∙ c.deref_mut-2.ensures.len))
-    ∙ (c.pack-kept.ensures.kept ∙ ap stay c.deref_mut-2.ensures.value))
+    ∙ (c.pack_from-kept.ensures.kept
+    ∙ (parts_same front (ap stay rest) ∙ sym (stay_apart c.args.place c.args.removed c.args.coming first old)))
 
 pub returns-clause-sorted : goal.returns-clause-sorted
 returns-clause-sorted c = subst IsSortedIndex (sym (returns-clause-items c)) (sorted-shifted c.args.entries.now.items c.args.place c.args.removed c.args.coming c.requires.sorted)
