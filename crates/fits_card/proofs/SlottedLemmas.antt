@@ -52,6 +52,7 @@ apart_before slots i k before within once same =
     let behind : get_or (drop k slots) 0 0 ≡ s = (get_or-drop k slots 0 0 ∙ ap (λ (n : ℕ). get_or slots n 0) zero_more) in
     omega (arith, once s, times_parts s k slots, found_once s (take k slots) i (omega (arith, length-take-le k slots (omega arith))) front, found_once s (drop k slots) 0 (omega (arith, length-drop k slots)) behind)
 
+-- whichever of them comes first
 apart : (slots : List ℕ) (i k : ℕ) → i < length slots → k < length slots → i ≢ k → ((s : ℕ) → times s slots ≤ 1) → get_or slots i 0 ≢ get_or slots k 0
 apart slots i k within inside other once = go (cases_lt i k) where
   go : (i < k) ⊎ (k ≤ i) → get_or slots i 0 ≢ get_or slots k 0

@@ -1,6 +1,6 @@
 ghost use Rattle.std.specs.Prelude.{◌≡◌, ◌≤◌, ◌<◌, ◌+◌, ◌-◌, [], ◌∷◌, ◌++◌, length, max, take, drop, vec_len, vec_capacity};
 ghost use Rattle.std.specs.List.{range_with_len};
-ghost use Rattle.fits_card.specs.Order.{AreSlots};
+ghost use Rattle.fits_card.specs.Order.{AreSlots, turned};
 
 use std::alloc::{AllocError, Global};
 use std::marker::Model;
@@ -10,7 +10,7 @@ use std::marker::Model;
 /// An item that comes or goes moves slots alone. Contracts see the slots in use, how many slots
 /// there are, and how many items have room.
 #[derive(Drop)]
-pub struct Order {
+pub(crate) struct Order {
     slots: Vec<usize>,
     used: usize,
 }
@@ -41,7 +41,7 @@ impl Order {
 
     /// So many slots, each in use and in its place.
     #[tactic(auto, using(crate::proofs::OrderLemmas::made_steps))]
-    pub fn of(alloc: Global, count: usize) -> Result<Order, AllocError>
+    pub(crate) fn of(alloc: Global, count: usize) -> Result<Order, AllocError>
         ensures slots { IfOk result (λ order. order.slots ≡ range_with_len 0 count) }
         ensures len { IfOk result (λ order. length order.slots ≡ count) }
         ensures count { IfOk result (λ order. order.count ≡ count) }
@@ -56,7 +56,7 @@ impl Order {
 
     /// How many items stand in it.
     #[tactic(auto, using(crate::proofs::OrderLemmas::front_steps))]
-    pub fn len(&self) -> usize
+    pub(crate) fn len(&self) -> usize
         ensures value { result ≡ length self.now.slots }
         ensures slots { AreSlots self.now.slots self.now.count }
         ensures within { result ≤ self.now.count }
@@ -65,7 +65,7 @@ impl Order {
     }
 
     /// How many slots there are.
-    pub fn count(&self) -> usize
+    pub(crate) fn count(&self) -> usize
         ensures { result ≡ self.now.count }
     {
         self.slots.len()
@@ -73,7 +73,7 @@ impl Order {
 
     /// The slot of an item.
     #[tactic(auto, using(crate::proofs::OrderLemmas::front_steps))]
-    pub fn slot(&self, index: usize) -> usize
+    pub(crate) fn slot(&self, index: usize) -> usize
         requires { index < length self.now.slots }
         ensures value { result ≡ slice_index self.now.slots index }
         ensures below { result < self.now.count }
@@ -83,7 +83,7 @@ impl Order {
     }
 
     /// Makes room for this many more items. It fails only where room was missing.
-    pub fn reserve(&mut self, additional: usize) -> Result<(), AllocError>
+    pub(crate) fn reserve(&mut self, additional: usize) -> Result<(), AllocError>
         ensures ok { OnOk result (length self.old.slots + additional ≤ self.new.room) }
         ensures err { OnErr result (self.old.room < length self.old.slots + additional) }
         ensures slots { self.new.slots ≡ self.old.slots }
@@ -98,7 +98,7 @@ impl Order {
     /// told by `slot`.
     ///
     /// It takes no memory: the room is reserved before.
-    pub fn splice(&mut self, place: usize, removed: usize, coming: usize)
+    pub(crate) fn splice(&mut self, place: usize, removed: usize, coming: usize)
         requires from { 1 ≤ place }
         requires to { place + removed ≤ length self.old.slots + 1 }
         requires room { length self.old.slots + coming ≤ self.old.room + removed }
@@ -116,7 +116,7 @@ impl Order {
     }
 
     /// The item at a place is taken out, and put where it has the other place in the result.
-    pub fn move_slot(&mut self, from: usize, to: usize)
+    pub(crate) fn move_slot(&mut self, from: usize, to: usize)
         requires from_first { 1 ≤ from }
         requires from_last { from ≤ length self.old.slots }
         requires to_first { 1 ≤ to }
@@ -173,9 +173,8 @@ fn send_last(slots: &mut Vec<usize>, from: usize, count: usize)
 // Brings so many slots from the end.
 fn bring_last(slots: &mut Vec<usize>, from: usize, count: usize)
     requires { from + count ≤ vec_len slots.old }
-    ensures items { slots.new.items ≡ take from slots.old.items
-        ++ (drop (vec_len slots.old - from - count) (drop from slots.old.items)
-        ++ take (vec_len slots.old - from - count) (drop from slots.old.items)) }
+    ensures items { slots.new.items
+        ≡ turned slots.old.items from (vec_len slots.old - from - count) }
     ensures len { vec_len slots.new ≡ vec_len slots.old }
     ensures room { vec_capacity slots.new ≡ vec_capacity slots.old }
 {

@@ -8,7 +8,7 @@ use crate::order::Order;
 ///
 /// No item is moved, and no memory is asked for.
 #[tactic(auto, using(crate::proofs::SlottedLemmas::room_steps))]
-pub fn make_slots<T: Copy>(
+pub(crate) fn make_slots<T: Copy>(
     items: &mut Vec<T>,
     order: &mut Order,
     place: usize,

@@ -18,6 +18,7 @@ abbrev open_after : Bool → List ℕ → Bool
 open_after before [] = before
 open_after before (b ∷ s) = open_after (cond (eqb b 32) before (eqb b 38)) s
 
+-- bytes that follow others are read after them
 open_after-append : (before : Bool) (s t : List ℕ) → open_after before (s ++ t) ≡ open_after (open_after before s) t
 open_after-append before [] t = refl
 open_after-append before (b ∷ s) t = open_after-append (cond (eqb b 32) before (eqb b 38)) s t
