@@ -7,7 +7,7 @@ use Rattle.std.proofs.lemmas.List.{drop-drop, drop-take, take-take, take-append-
 use Rattle.std.proofs.Math.Seq.{take-append-add}
 use Rattle.std.proofs.lemmas.List.Elements.{All-append, All-take, All-drop, All-tail}
 use Rattle.fits_card.specs.Change.{moved}
-use Rattle.fits_card.specs.Order.{AreSlots, times}
+use Rattle.fits_card.specs.Order.{AreSlots, times, turned}
 
 -- how many times a slot stands in two lists
 times_both : (s : ℕ) (xs ys : List ℕ) → times s (xs ++ ys) ≡ times s xs + times s ys
@@ -47,28 +47,49 @@ more_slots xs n slots =
       once = λ s. omega (arith, times_both s xs (n ∷ []), once_more s n 0 xs (eqb s n) refl slots);
     }
 
--- where the rest changes places
-pub swapped_slots : (xs : List ℕ) (f c n : ℕ) → AreSlots xs n → AreSlots (take f xs ++ (drop (f + c) xs ++ take c (drop f xs))) n
-swapped_slots xs f c n slots =
-    let below = slots.below in
+-- where the rest changes places, each stands as often
+same_times : (s : ℕ) (xs : List ℕ) (f c : ℕ) → times s (turned xs f c) ≡ times s xs
+same_times s xs f c = omega (
+  arith,
+  times_parts s f xs,
+  times_parts s c (drop f xs),
+  times_both s (take f xs) (drop c (drop f xs) ++ take c (drop f xs)),
+  times_both s (drop c (drop f xs)) (take c (drop f xs)),
+)
+
+-- and they are still below the same number
+still_below : (xs : List ℕ) (f c n : ℕ) → All (λ x. x < n) xs → All (λ x. x < n) (turned xs f c)
+still_below xs f c n below =
     let rest = All-drop (λ x. x < n) f xs below in
+    All-append (λ x. x < n) (take f xs) _ (All-take (λ x. x < n) f xs below)
+    (All-append (λ x. x < n) (drop c (drop f xs)) _ (All-drop (λ x. x < n) c (drop f xs) rest) (All-take (λ x. x < n) c (drop f xs) rest))
+
+-- so they are slots, where some before an end change places, and the others stay
+pub turned_slots : (xs : List ℕ) (end f c n : ℕ) → AreSlots xs n → AreSlots (turned (take end xs) f c ++ drop end xs) n
+turned_slots xs end f c n slots =
+    let front = take end xs in
     record {
-      below = All-append (λ x. x < n) (take f xs) _ (All-take (λ x. x < n) f xs below)
-          (All-append (λ x. x < n) (drop (f + c) xs) _ (All-drop (λ x. x < n) (f + c) xs below) (All-take (λ x. x < n) c (drop f xs) rest));
-      once = λ s. omega (
-        arith,
-        slots.once s,
-        times_parts s f xs,
-        times_parts s c (drop f xs),
-        ap (λ (ys : List ℕ). times s ys) (drop-drop c f xs),
-        times_both s (take f xs) (drop (f + c) xs ++ take c (drop f xs)),
-        times_both s (drop (f + c) xs) (take c (drop f xs)),
-      );
+      below = All-append (λ x. x < n) (turned front f c) _ (still_below front f c n (All-take (λ x. x < n) end xs slots.below)) (All-drop (λ x. x < n) end xs slots.below);
+      once = λ s. omega (arith, slots.once s, times_parts s end xs, same_times s front f c, times_both s (turned front f c) (drop end xs));
     }
 
--- the same where the others are told as the rest of the rest
-pub swapped_rest : (xs : List ℕ) (f c n : ℕ) → AreSlots xs n → AreSlots (take f xs ++ (drop c (drop f xs) ++ take c (drop f xs))) n
-swapped_rest xs f c n slots = rw (drop-drop c f xs) (swapped_slots xs f c n slots)
+-- there are as many
+pub turned_size : (xs : List ℕ) (f c : ℕ) → f ≤ length xs → length (turned xs f c) ≡ length xs
+turned_size xs f c low = omega (
+  arith,
+  length-take-le f xs low,
+  length-drop f xs,
+  length-append (take f xs) (drop c (drop f xs) ++ take c (drop f xs)),
+  length-append (drop c (drop f xs)) (take c (drop f xs)),
+  ap (λ (ys : List ℕ). length ys) (take-append-drop c (drop f xs)),
+  length-append (take c (drop f xs)) (drop c (drop f xs)),
+)
+
+-- of those before an end, only they tell which stand first
+pub front_told : (xs : List ℕ) (end f c n : ℕ) → end ≤ length xs → f ≤ end → n ≤ end → take n (turned (take end xs) f c ++ drop end xs) ≡ take n (turned (take end xs) f c)
+front_told xs end f c n within low few =
+    let size = length-take-le end xs within in
+    take-append-le n (turned (take end xs) f c) (drop end xs) (omega (arith, size, turned_size (take end xs) f c (omega (arith, size))))
 
 -- what stands in front stays there, where more come behind all
 pub front_stays : (xs ys : List ℕ) (n used : ℕ) → used ≤ n → take n ys ≡ xs → take used ys ≡ take used xs
@@ -112,6 +133,16 @@ gone xs f c used fits within =
     ∙ (ap (λ (ys : List ℕ). take f xs ++ ys) (take-append-le k (drop (f + c) xs) (take c (drop f xs)) few ∙ sym (rest_of_front xs (f + c) used k (omega arith)))
     ∙ ap (λ (ys : List ℕ). ys ++ drop (f + c) (take used xs)) (sym (front_of_front xs f used (omega arith)))))
 
+-- and so where the free ones stay behind them
+pub gone_in_use : (xs : List ℕ) (f c used : ℕ) → f + c ≤ used → used ≤ length xs
+    → take (used - c) (turned (take used xs) f c ++ drop used xs) ≡ take f (take used xs) ++ drop (f + c) (take used xs)
+gone_in_use xs f c used fits within =
+    let front = take used xs in
+    let same : take used front ≡ front = take-take used used xs (omega arith) in
+    front_told xs used f c (used - c) within (omega arith) (omega arith)
+    ∙ (ap (λ (ys : List ℕ). take (used - c) (take f front ++ (ys ++ take c (drop f front)))) (drop-drop c f front)
+    ∙ (gone front f c used fits (omega (arith, length-take-le used xs within)) ∙ ap (λ (ys : List ℕ). take f ys ++ drop (f + c) ys) same))
+
 -- the slots in use behind a place, where some came there from behind all others
 pub came-after : (xs : List ℕ) (f c used m : ℕ) → f ≤ used → used + c ≤ length xs → m ≡ length xs - f - c
     → drop (f + c) (take (used + c) (take f xs ++ (drop m (drop f xs) ++ take m (drop f xs)))) ≡ drop f (take used xs)
@@ -126,6 +157,17 @@ came-after xs f c used m low fits is =
   where
     drop_take_more : (ys : List ℕ) → drop (f + c) (take (used + c) ys) ≡ take (used - f) (drop (f + c) ys)
     drop_take_more ys = rest_of_front ys (f + c) (used + c) (used - f) (omega arith)
+
+-- and so where the free ones stay behind them
+pub came_in_use : (xs : List ℕ) (f c used end : ℕ) → f ≤ used → end ≡ used + c → end ≤ length xs
+    → drop (f + c) (take end (turned (take end xs) f (end - f - c) ++ drop end xs)) ≡ drop f (take used xs)
+came_in_use xs f c used end low is within =
+    let front = take end xs in
+    let size = length-take-le end xs within in
+    ap (drop (f + c)) (front_told xs end f (end - f - c) end within (omega arith) (omega arith)
+    ∙ ap (λ (n : ℕ). take n (turned front f (end - f - c))) is)
+    ∙ (came-after front f c used (end - f - c) low (omega (arith, size)) (omega (arith, size))
+    ∙ ap (drop f) (take-take used end xs (omega arith)))
 
 -- the first of three parts, of which all of the first two
 first_parts : (front one xs : List ℕ) (used k : ℕ) → used ≡ length front + (length one + k) → take used (front ++ (one ++ xs)) ≡ front ++ (one ++ take k xs)
@@ -188,6 +230,21 @@ module _ (xs : List ℕ) (f t used : ℕ) (first : f < used) (high : t < used) (
           let to_here : t + 1 - 1 ≡ t = omega arith in
           let none_more : t + 0 ≡ t = omega arith in
           rw (from_here, to_here, none_more, same_one, ← left_in_use, front_of_front sent t (used - 1) (omega arith), rest_in_use) refl
+
+-- and so where the free ones stay behind them
+pub moved_in_use : (xs ys : List ℕ) (f t used : ℕ) → f < used → t < used → used ≤ length xs → ys ≡ turned (take used xs) f 1 ++ drop used xs
+    → take used (turned (take used ys) t (used - t - 1) ++ drop used ys) ≡ moved (take used xs) (f + 1) (t + 1)
+moved_in_use xs ys f t used first high within is =
+    let front = take used xs in
+    let size = length-take-le used xs within in
+    let turned_once : turned front f 1 ≡ take f front ++ (drop (f + 1) front ++ take 1 (drop f front)) = ap (λ (zs : List ℕ). take f front ++ (zs ++ take 1 (drop f front))) (drop-drop 1 f front) in
+    let there : take used ys ≡ take f front ++ (drop (f + 1) front ++ take 1 (drop f front))
+    = ap (take used) is ∙ (take_at (turned front f 1) (drop used xs) used (turned_size front f 1 (omega (arith, size)) ∙ size) ∙ turned_once) in
+    let many : used ≤ length ys = omega (arith, ap (λ (zs : List ℕ). length zs) is, length-append (turned front f 1) (drop used xs), turned_size front f 1 (omega (arith, size)), size) in
+    front_told ys used t (used - t - 1) used many (omega arith) (omega arith)
+    ∙ (ap (λ (zs : List ℕ). take used (turned zs t (used - t - 1))) there
+    ∙ (moved_on front f t used first high (omega (arith, size)) (used - t - 1) (omega (arith, size))
+    ∙ ap (λ (zs : List ℕ). moved zs (f + 1) (t + 1)) (take-take used used xs (omega arith))))
 
 pub ruleset made_steps = (more_slots, one_further)
 

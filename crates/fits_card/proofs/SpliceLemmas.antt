@@ -1,6 +1,6 @@
 -- Items of a list replaced by others.
-use Rattle.std.proofs.Common.{◌≡◌, ℕ, ◌+◌, ◌-◌, ◌<◌, ◌≤◌, List, [], ◌∷◌, ◌++◌, length, get_or, take, drop, ap, sym, ◌∙◌, refl, set, suc, append_assoc, arith, length-append, length-drop}
-use Rattle.std.proofs.lemmas.List.{take-append-le, length-take-le, drop-append-le, take_at, drop_at, drop_more, take-take}
+use Rattle.std.proofs.Common.{◌≡◌, ℕ, ◌+◌, ◌-◌, ◌<◌, ◌≤◌, List, [], ◌∷◌, ◌++◌, length, get_or, take, drop, ap, sym, ◌∙◌, refl, set, suc, append_assoc, append-nil, arith, length-append, length-drop}
+use Rattle.std.proofs.lemmas.List.{take-append-le, length-take-le, drop-append-le, take_at, drop_at, drop_all, drop_more, take-take}
 use Rattle.std.proofs.lemmas.List.Edits.{paste_all, paste_more}
 use Rattle.std.proofs.Math.Seq.{paste}
 use Rattle.std.specs.Prelude.{insert, remove}
@@ -16,34 +16,48 @@ out-moved xs from count n m h fits k =
 
 pub ruleset out_steps = (out-moved)
 
--- items put at the end, and brought from there
-pub in-brought : {X : Type 0} (xs new : List X) (from n : ℕ) → from ≤ length xs → n ≡ length xs - from → take from (xs ++ new) ++ (drop n (drop from (xs ++ new)) ++ take n (drop from (xs ++ new))) ≡ take from xs ++ (new ++ drop from xs)
-in-brought xs new from n fits h =
-    let size : length (drop from xs) ≡ n = omega (arith, length-drop from xs) in
-    rw (take-append-le from xs new fits, drop-append-le from xs new fits, drop_at (drop from xs) new n size, take_at (drop from xs) new n size) refl
+-- the rest of a list moved on over what was put behind it
+module _ {X : Type 0} (xs new : List X) (from count n : ℕ) (low : from ≤ length xs) (is : count ≡ length new) where
+  abbrev pub all : List X
+  all = xs ++ new
 
-pub ruleset in_steps = (in-brought)
+  parts : paste all (from + count) (drop from all) n ≡ take (from + count) all ++ (take n (drop from all) ++ drop (from + count + n) all)
+  parts = append_assoc (take (from + count) all) (take n (drop from all)) (drop (from + count + n) all)
 
--- items taken out of a list, and others put in there
-abbrev remade : {X : Type 0} → List X → ℕ → ℕ → List X → List X
-remade xs at gone added = take at (take at xs ++ drop (at + gone) xs) ++ (added ++ drop at (take at xs ++ drop (at + gone) xs))
+  size : length (take (from + count) all) ≡ from + count
+  size = length-take-le (from + count) all (omega (arith, length-append xs new))
 
--- what stands before them stays
-pub remade-before : {X : Type 0} (xs added : List X) (from at gone : ℕ) → from ≤ at → at + gone ≤ length xs → take from (remade xs at gone added) ≡ take from xs
-remade-before {X = X} xs added from at gone low fits =
-    let left : List X = take at xs ++ drop (at + gone) xs in
-    let size : length (take at xs) ≡ at = length-take-le at xs (omega arith) in
-    rw (take_at (take at xs) (drop (at + gone) xs) at size) (take-append-le from (take at xs) (added ++ drop at left) (omega arith) ∙ take-take from at xs low)
+  -- what stands before it stays
+  pub moved-on-before : take from (paste all (from + count) (drop from all) n) ≡ take from xs
+  moved-on-before =
+      ap (take from) parts
+      ∙ (take-append-le from (take (from + count) all) (take n (drop from all) ++ drop (from + count + n) all) (omega (arith, size))
+      ∙ (take-take from (from + count) all (omega arith) ∙ take-append-le from xs new low))
+
+  -- and it is what follows the room
+  pub moved-on-after : n ≡ length xs - from → drop (from + count) (paste all (from + count) (drop from all) n) ≡ drop from xs
+  moved-on-after many =
+      let rest : length (drop from xs) ≡ n = omega (arith, length-drop from xs) in
+      ap (drop (from + count)) parts
+      ∙ (drop_at (take (from + count) all) (take n (drop from all) ++ drop (from + count + n) all) (from + count) size
+      ∙ rw (drop_all (from + count + n) all (omega (arith, length-append xs new)), drop-append-le from xs new low, take_at (drop from xs) new n rest) (append-nil (drop from xs)))
+
+pub ruleset in_steps = (moved-on-before, moved-on-after)
+
+-- the list without those that went
+abbrev left-over : {X : Type 0} → List X → ℕ → ℕ → List X
+left-over xs at gone = take at xs ++ drop (at + gone) xs
+
+-- what stands before them stays, also where others were put in
+pub remade-before : {X : Type 0} (xs ys : List X) (low at gone : ℕ) → low ≤ at → at + gone ≤ length xs → take at ys ≡ take at (left-over xs at gone) → take low ys ≡ take low xs
+remade-before xs ys low at gone before fits same =
+    sym (take-take low at ys before)
+    ∙ (ap (take low) (same ∙ take_at (take at xs) (drop (at + gone) xs) at (length-take-le at xs (omega arith))) ∙ take-take low at xs before)
 
 -- and so does what follows them
-pub remade-after : {X : Type 0} (xs added : List X) (end at gone : ℕ) → at + gone ≤ length xs → end ≡ at + length added → drop end (remade xs at gone added) ≡ drop (at + gone) xs
-remade-after {X = X} xs added end at gone fits h =
-    let size : length (take at xs) ≡ at = length-take-le at xs (omega arith) in
-    let front : length (take at xs ++ added) ≡ end = omega (arith, length-append (take at xs) added) in
-    rw (take_at (take at xs) (drop (at + gone) xs) at size, drop_at (take at xs) (drop (at + gone) xs) at size, ← append_assoc (take at xs) added (drop (at + gone) xs))
-    (drop_at (take at xs ++ added) (drop (at + gone) xs) end front)
-
-pub ruleset room_steps = (remade-before, remade-after)
+pub remade-after : {X : Type 0} (xs ys : List X) (end at gone added : ℕ) → at + gone ≤ length xs → end ≡ at + added → drop (at + added) ys ≡ drop at (left-over xs at gone) → drop end ys ≡ drop (at + gone) xs
+remade-after xs ys end at gone added fits is same =
+    ap (λ (n : ℕ). drop n ys) is ∙ (same ∙ drop_at (take at xs) (drop (at + gone) xs) at (length-take-le at xs (omega arith)))
 
 -- the item at a place, as a list
 one_item : {X : Type 0} (xs : List X) (place : ℕ) (x : X) → 1 ≤ place → place ≤ length xs → x ≡ get_or xs (place - 1) x → only_item xs place ≡ x ∷ []

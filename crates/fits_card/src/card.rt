@@ -2,7 +2,7 @@ ghost use Rattle.std.specs.Prelude.{◌≡◌, ◌≤◌, length};
 ghost use Rattle.fits_card.specs.declared.card.TheConstants.{CARD_LEN};
 
 use crate::name::Name;
-use crate::text::is_text;
+use crate::text::are_characters;
 use std::marker::Model;
 
 /// How many bytes a card has (FITS Standard 4.0, section 4.1.1).
@@ -71,6 +71,6 @@ impl Card {
         ensures value { result ≡ is_text self.now }
         ensures size { length self.now ≡ CARD_LEN }
     {
-        is_text(&self.0)
+        are_characters(&self.0)
     }
 }

@@ -126,8 +126,9 @@ impl Order {
         ensures count { self.new.count ≡ self.old.count }
         ensures room { self.new.room ≡ self.old.room }
     {
-        send_last(&mut self.slots, from - 1, 1);
-        bring_last(&mut self.slots, to - 1, 1);
+        let used = self.used;
+        send_last(&mut self.slots, from - 1, used, 1);
+        bring_last(&mut self.slots, to - 1, used, 1);
     }
 
     // So many items go.
@@ -138,7 +139,8 @@ impl Order {
         ensures count { self.new.count ≡ self.old.count }
         ensures room { self.new.room ≡ self.old.room }
     {
-        send_last(&mut self.slots, from, count);
+        let used = self.used;
+        send_last(&mut self.slots, from, used, count);
         self.used -= count;
     }
 
@@ -152,33 +154,38 @@ impl Order {
         ensures count { self.new.count ≡ max self.old.count (length self.new.slots) }
         ensures room { self.old.room ≤ self.new.room }
     {
-        grow(&mut self.slots, self.used + count);
-        bring_last(&mut self.slots, from, count);
-        self.used += count;
+        let used = self.used + count;
+        grow(&mut self.slots, used);
+        bring_last(&mut self.slots, from, used, count);
+        self.used = used;
     }
 }
 
-// Brings what follows so many slots before them.
-fn send_last(slots: &mut Vec<usize>, from: usize, count: usize)
-    requires { from + count ≤ vec_len slots.old }
-    ensures items { slots.new.items ≡ take from slots.old.items
-        ++ (drop (from + count) slots.old.items ++ take count (drop from slots.old.items)) }
+// Brings what follows so many slots before them, up to an end: the free slots behind it stay.
+fn send_last(slots: &mut Vec<usize>, from: usize, end: usize, count: usize)
+    requires from { from + count ≤ end }
+    requires end { end ≤ vec_len slots.old }
+    ensures items { slots.new.items
+        ≡ turned (take end slots.old.items) from count ++ drop end slots.old.items }
     ensures len { vec_len slots.new ≡ vec_len slots.old }
     ensures room { vec_capacity slots.new ≡ vec_capacity slots.old }
 {
-    let (_, rest) = slots.split_at_mut(from);
+    let (used, _) = slots.split_at_mut(end);
+    let (_, rest) = used.split_at_mut(from);
     rest.rotate_left(count);
 }
 
-// Brings so many slots from the end.
-fn bring_last(slots: &mut Vec<usize>, from: usize, count: usize)
-    requires { from + count ≤ vec_len slots.old }
+// Brings so many slots from before an end: the free slots behind it stay.
+fn bring_last(slots: &mut Vec<usize>, from: usize, end: usize, count: usize)
+    requires from { from + count ≤ end }
+    requires end { end ≤ vec_len slots.old }
     ensures items { slots.new.items
-        ≡ turned slots.old.items from (vec_len slots.old - from - count) }
+        ≡ turned (take end slots.old.items) from (end - from - count) ++ drop end slots.old.items }
     ensures len { vec_len slots.new ≡ vec_len slots.old }
     ensures room { vec_capacity slots.new ≡ vec_capacity slots.old }
 {
-    let (_, rest) = slots.split_at_mut(from);
+    let (used, _) = slots.split_at_mut(end);
+    let (_, rest) = used.split_at_mut(from);
     rest.rotate_right(count);
 }
 

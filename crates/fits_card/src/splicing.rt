@@ -1,11 +1,10 @@
 //! Room made among the items of a vector, and an item moved, in reserved room.
-ghost use Rattle.std.specs.Prelude.{◌≡◌, ◌≤◌, ◌+◌, ◌-◌, ◌++◌, length, take, drop, replicate, vec_len, vec_capacity};
+ghost use Rattle.std.specs.Prelude.{◌≡◌, ◌≤◌, ◌+◌, ◌-◌, ◌++◌, take, drop, vec_len, vec_capacity};
 ghost use Rattle.fits_card.specs.Change.{moved};
 
 /// From a place on, so many items go, and so many stand there instead, whatever they are.
 ///
 /// What follows them is moved once, and no memory is asked for.
-#[tactic(auto, using(crate::proofs::SpliceLemmas::room_steps))]
 pub fn make_room<T: Copy>(
     items: &mut Vec<T>,
     place: usize,
@@ -55,27 +54,17 @@ fn take_out<T: Copy>(items: &mut Vec<T>, from: usize, count: usize)
     items.truncate(items.len() - count);
 }
 
-// Puts items in, in reserved room.
+// Makes room for items, in reserved room. What stands there then is to be written over.
 #[tactic(auto, using(crate::proofs::SpliceLemmas::in_steps))]
 fn put_in<T: Copy>(items: &mut Vec<T>, from: usize, count: usize, filler: T)
     requires from { from ≤ vec_len items.old }
     requires room { vec_len items.old + count ≤ vec_capacity items.old }
-    ensures items { items.new.items
-        ≡ take from items.old.items ++ (replicate count filler ++ drop from items.old.items) }
+    ensures before { take from items.new.items ≡ take from items.old.items }
+    ensures after { drop (from + count) items.new.items ≡ drop from items.old.items }
     ensures len { vec_len items.new ≡ vec_len items.old + count }
     ensures room { vec_capacity items.old ≤ vec_capacity items.new }
 {
-    let _ = items.resize(items.len() + count, filler);
-    bring_back(items, from, count);
-}
-
-// Brings so many items from the end.
-fn bring_back<T>(items: &mut [T], from: usize, count: usize)
-    requires { from + count ≤ length items.old }
-    ensures { items.new ≡ take from items.old
-        ++ (drop (length items.old - from - count) (drop from items.old)
-        ++ take (length items.old - from - count) (drop from items.old)) }
-{
-    let (_, rest) = items.split_at_mut(from);
-    rest.rotate_right(count);
+    let len = items.len();
+    let _ = items.resize(len + count, filler);
+    items.copy_within(from..len, from + count);
 }

@@ -1,22 +1,37 @@
 //! Which bytes are characters of text.
 ghost use Rattle.std.specs.Prelude.{◌≡◌, nat_eq};
 ghost use Rattle.std.specs.List.{list_all};
-ghost use Rattle.fits_card.specs.Card.{is_text};
+ghost use Rattle.fits_card.specs.Card.{is_text, is_text_byte};
+
+// Whether a byte is a character of text.
+fn is_character(byte: u8) -> bool
+    ensures { result ≡ is_text_byte byte }
+{
+    matches!(byte, b' '..=b'~')
+}
 
 /// Whether every byte is a character of text, from a space to a tilde.
 #[tactic(auto, unfolding(crate::specs::Card::is_text))]
 pub fn is_text(text: &[u8]) -> bool
     ensures { result ≡ is_text text.now }
 {
-    // It doesn't stop at the first other byte, so that many are looked at side by side.
+    text.iter().all(|byte| is_character(*byte))
+}
+
+/// The same of a card's bytes: it doesn't stop at the first other one, so that many are looked at
+/// side by side.
+#[tactic(auto, unfolding(crate::specs::Card::is_text))]
+pub(crate) fn are_characters(bytes: &[u8; 80]) -> bool
+    ensures { result ≡ is_text bytes.now }
+{
     let mut all = true;
-    for byte in text {
-        all &= matches!(byte, b' '..=b'~');
+    for byte in bytes {
+        all &= is_character(*byte);
     }
     all
 }
 
-/// Whether every byte is a space.
+/// Whether every byte is a space, of the few after END or in a fill.
 pub(crate) fn are_spaces(text: &[u8]) -> bool
     ensures { result ≡ list_all (nat_eq 32) text.now }
 {
