@@ -1,5 +1,6 @@
--- Slots in the order of the items that stand in them (own).
-use Rattle.std.specs.Prelude.{ℕ, ◌+◌, ◌≤◌, ◌<◌, ◌==◌, List, [], ◌∷◌, ◌++◌, take, drop, map, All, slice_index_or, if◌then◌else◌}
+-- Items that stand in the slots of an order (own).
+use Rattle.std.specs.Prelude.{ℕ, ◌+◌, ◌≤◌, ◌<◌, ◌==◌, List, [], ◌∷◌, ◌++◌, take, drop, All, if◌then◌else◌}
+use Rattle.std.specs.List.{flat_map}
 
 -- how many times a slot stands among others
 abbrev pub times : ℕ → List ℕ → ℕ
@@ -18,9 +19,14 @@ pub record OrderState : Type 0 where
   pub room : ℕ
 
 -- the items in these slots, in their order
-abbrev pub items_at : {X : Type 0} → X → List X → List ℕ → List X
-items_at any items slots = map (λ slot. slice_index_or items slot any) slots
+abbrev pub items_at : {X : Type 0} → List X → List ℕ → List X
+items_at items slots = flat_map (λ slot. take 1 (drop slot items)) slots
 
 -- the slots from a place on, of which the first so many went behind the others
 abbrev pub turned : List ℕ → ℕ → ℕ → List ℕ
 turned slots from count = take from slots ++ (drop count (drop from slots) ++ take count (drop from slots))
+
+-- what callers see of items in an order: the items, and how many more have reserved room
+pub record SlottedState (X : Type 0) : Type 0 where
+  pub items : List X
+  pub room : ℕ

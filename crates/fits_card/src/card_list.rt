@@ -5,9 +5,9 @@ ghost use Rattle.fits_card.specs.Header.{fill_length, header_length};
 
 use crate::card::{CARD_LEN, Card};
 use crate::count::Count;
-use crate::order::Order;
 use crate::sink::Sink;
-use crate::slotted_cards::{card_in, move_in, splice_cards, write_cards};
+use crate::slotted::Slotted;
+use crate::slotted_cards::{splice_cards, write_cards};
 use crate::text::are_spaces;
 use crate::writing::write_all;
 use std::alloc::{AllocError, Global};
@@ -26,9 +26,7 @@ pub(crate) const LONGEST_FILL: usize = 2800;
 /// far, and how many more cards have reserved room.
 #[derive(Drop)]
 pub struct CardList {
-    // In the slots of the order.
-    pub(crate) cards: Vec<Card>,
-    pub(crate) order: Order,
+    pub(crate) cards: Slotted<Card>,
     pub(crate) end: Card,
     // It has room for the longest fill, so that no edit asks for memory here.
     pub(crate) fill: Vec<u8>,
@@ -38,31 +36,24 @@ pub struct CardList {
 }
 
 impl Model for CardList {
-    ghost use Rattle.std.specs.Prelude.{◌≡◌, ◌+◌, ◌≤◌, [], length, vec_capacity, vec_len};
+    ghost use Rattle.std.specs.Prelude.{◌≤◌, vec_capacity};
     ghost use Rattle.fits_card.specs.declared.card_list.TheConstants.{LONGEST_FILL};
     ghost use Rattle.fits_card.specs.CardList.{CardStore};
     ghost use Rattle.fits_card.specs.Header.{IsHeader};
-    ghost use Rattle.fits_card.specs.Order.{items_at};
 
     ghost Value = { CardStore };
 
     ghost view = { λ list. record {
-      header = record {
-        cards = items_at [] list.cards.items list.order.slots;
-        end = list.end;
-        fill = list.fill.items;
-      };
+      header = record { cards = list.cards.items; end = list.end; fill = list.fill.items };
       reads = list.reads.total;
       room = list.room;
     } };
 
     ghost invariant = { λ list. record {
-      slots : list.order.count ≡ vec_len list.cards;
-      card_room : length list.order.slots + list.room ≤ vec_capacity list.cards;
-      slot_room : length list.order.slots + list.room ≤ list.order.room;
+      card_room : list.room ≤ list.cards.room;
       fill_room : LONGEST_FILL ≤ vec_capacity list.fill;
       whole : IsHeader (record {
-        cards = items_at [] list.cards.items list.order.slots;
+        cards = list.cards.items;
         end = list.end;
         fill = list.fill.items;
       });
@@ -80,7 +71,6 @@ impl CardList {
     ghost use Rattle.fits_card.specs.Header.{IsHeader, header_bytes, with_cards, is_end_blank, is_fill_blank};
 
     // The header of these cards, with END and a fill that has room.
-    #[tactic(auto, using(crate::proofs::SlottedLemmas::place_steps))]
     pub(crate) fn of(
         alloc: Global,
         cards: Vec<Card>,
@@ -93,10 +83,8 @@ impl CardList {
             ≡ record { cards = cards.items; end = end; fill = fill.items }) }
         ensures unread { IfOk result (λ list. list.reads ≡ 0) }
     {
-        let order = Order::of(alloc, cards.len())?;
         Ok(CardList {
-            cards,
-            order,
+            cards: Slotted::of(alloc, cards)?,
             end,
             fill,
             reads: Count::new(),
@@ -112,7 +100,7 @@ impl CardList {
         ensures within { CARD_LEN * (result + 1) ≤ length (header_bytes self.now.header) }
         ensures few { result < 2 ^ 63 }
     {
-        self.order.len()
+        self.cards.len()
     }
 
     /// How many bytes its cards, END and the fill have.
@@ -120,7 +108,7 @@ impl CardList {
         requires { length (header_bytes self.now.header) ≤ 2 ^ 34 }
         ensures { result ≡ length (header_bytes self.now.header) }
     {
-        CARD_LEN * (self.order.len() + 1) + self.fill.len()
+        CARD_LEN * (self.cards.len() + 1) + self.fill.len()
     }
 
     pub fn end(&self) -> &Card
@@ -159,7 +147,7 @@ impl CardList {
         ensures work { self.new ≡ record self.old { reads = self.old.reads + 1 } }
     {
         self.reads.tick();
-        *card_in(&self.cards, &self.order, place - 1)
+        *self.cards.at(place - 1)
     }
 
     /// How many more cards have reserved room.
@@ -179,9 +167,7 @@ impl CardList {
         ensures no_more { self.old.room < self.new.room → self.new.room ≡ additional }
         ensures work { self.new.reads ≡ self.old.reads }
     {
-        self.order.reserve(additional)?;
-        let free = self.order.count() - self.order.len();
-        self.cards.reserve(additional.saturating_sub(free))?;
+        self.cards.reserve(additional)?;
         self.room = self.room.max(additional);
         Ok(())
     }
@@ -201,9 +187,10 @@ impl CardList {
         ensures room { self.new.room + length cards.now ≡ self.old.room + removed }
         ensures work { self.new.reads ≡ self.old.reads }
     {
-        splice_cards(&mut self.cards, &mut self.order, place, removed, cards);
+        let _few = self.cards.len();
+        splice_cards(&mut self.cards, place, removed, cards);
         self.room = self.room + removed - cards.len();
-        make_blank(&mut self.fill, self.order.len());
+        make_blank(&mut self.fill, self.cards.len());
     }
 
     /// Puts a card at a place, before the one that stands there.
@@ -244,8 +231,8 @@ impl CardList {
         ensures room { self.new.room ≡ self.old.room }
         ensures work { self.new.reads ≡ self.old.reads }
     {
-        move_in(self.cards.as_slice(), &mut self.order, from, to);
-        make_blank(&mut self.fill, self.order.len());
+        self.cards.move_item(from, to);
+        make_blank(&mut self.fill, self.cards.len());
     }
 
     /// Writes the cards, END and the fill. Each card's read is counted.
@@ -263,7 +250,7 @@ impl CardList {
         ensures reads { OnOk result
             (self.new.reads ≡ self.old.reads + length self.old.header.cards) }
     {
-        write_cards(&self.cards, &self.order, &mut self.reads, sink)?;
+        write_cards(&self.cards, &mut self.reads, sink)?;
         write_all(sink, self.end.bytes())?;
         write_all(sink, &self.fill)?;
         Ok(())

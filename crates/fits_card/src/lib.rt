@@ -36,6 +36,7 @@ pub use laws::{a_header_or_none, one_header};
 pub use name::Name;
 pub use reading::{PIECE_LEN, ReadFault, buffer_of};
 pub use sink::Sink;
+pub use slotted::Slotted;
 pub use source::Source;
 pub use splicing::{make_room, move_item};
 pub use text::is_text;

@@ -34,7 +34,7 @@ impl Model for Order {
 }
 
 impl Order {
-    ghost use Rattle.std.specs.Prelude.{◌≡◌, ◌≤◌, ◌<◌, ◌+◌, ◌-◌, ◌++◌, length, max, take, drop, IfOk, OnOk, OnErr, slice_index};
+    ghost use Rattle.std.specs.Prelude.{◌≡◌, ◌≤◌, ◌<◌, ◌+◌, ◌-◌, ◌^◌, ◌++◌, length, max, take, drop, IfOk, OnOk, OnErr, slice_index};
     ghost use Rattle.std.specs.List.{range_with_len};
     ghost use Rattle.fits_card.specs.Change.{moved};
     ghost use Rattle.fits_card.specs.Order.{AreSlots};
@@ -43,6 +43,7 @@ impl Order {
     #[tactic(auto, using(crate::proofs::OrderLemmas::made_steps))]
     pub(crate) fn of(alloc: Global, count: usize) -> Result<Order, AllocError>
         ensures slots { IfOk result (λ order. order.slots ≡ range_with_len 0 count) }
+        ensures each { IfOk result (λ order. AreSlots order.slots order.count) }
         ensures len { IfOk result (λ order. length order.slots ≡ count) }
         ensures count { IfOk result (λ order. order.count ≡ count) }
         ensures room { IfOk result (λ order. count ≤ order.room) }
@@ -55,11 +56,10 @@ impl Order {
     }
 
     /// How many items stand in it.
-    #[tactic(auto, using(crate::proofs::OrderLemmas::front_steps))]
     pub(crate) fn len(&self) -> usize
         ensures value { result ≡ length self.now.slots }
-        ensures slots { AreSlots self.now.slots self.now.count }
         ensures within { result ≤ self.now.count }
+        ensures few { self.now.room < 2 ^ 63 }
     {
         self.used
     }
@@ -72,12 +72,9 @@ impl Order {
     }
 
     /// The slot of an item.
-    #[tactic(auto, using(crate::proofs::OrderLemmas::front_steps))]
     pub(crate) fn slot(&self, index: usize) -> usize
         requires { index < length self.now.slots }
-        ensures value { result ≡ slice_index self.now.slots index }
-        ensures below { result < self.now.count }
-        ensures slots { AreSlots self.now.slots self.now.count }
+        ensures { result ≡ slice_index self.now.slots index }
     {
         self.slots[index]
     }
@@ -106,6 +103,7 @@ impl Order {
         ensures after { drop (place - 1 + coming) self.new.slots
             ≡ drop (place - 1 + removed) self.old.slots }
         ensures len { length self.new.slots + removed ≡ length self.old.slots + coming }
+        ensures each { AreSlots self.new.slots self.new.count }
         ensures count { self.new.count ≡ max self.old.count (length self.new.slots) }
         ensures room { self.old.room ≤ self.new.room }
     {
@@ -122,6 +120,7 @@ impl Order {
         requires to_first { 1 ≤ to }
         requires to_last { to ≤ length self.old.slots }
         ensures slots { self.new.slots ≡ moved self.old.slots from to }
+        ensures each { AreSlots self.new.slots self.new.count }
         ensures len { length self.new.slots ≡ length self.old.slots }
         ensures count { self.new.count ≡ self.old.count }
         ensures room { self.new.room ≡ self.old.room }
@@ -151,6 +150,7 @@ impl Order {
         ensures before { take from self.new.slots ≡ take from self.old.slots }
         ensures after { drop (from + count) self.new.slots ≡ drop from self.old.slots }
         ensures len { length self.new.slots ≡ length self.old.slots + count }
+        ensures each { AreSlots self.new.slots self.new.count }
         ensures count { self.new.count ≡ max self.old.count (length self.new.slots) }
         ensures room { self.old.room ≤ self.new.room }
     {

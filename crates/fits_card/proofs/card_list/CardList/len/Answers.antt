@@ -1,7 +1,6 @@
-use Rattle.std.proofs.Common.{[], arith}
+use Rattle.std.proofs.Common.{arith}
 use Rattle.fits_card.proofs.HeaderLemmas.{length-header_bytes}
-use Rattle.fits_card.proofs.SlottedLemmas.{items_count}
 use Rattle.fits_card.proofs.card_list.CardList.len.Goals as goal
 
 pub returns-clause-within : goal.returns-clause-within
-returns-clause-within c = rw (← c.self.view_is) (omega (arith, length-header_bytes _ c.self.invariant.whole, items_count [] c.self.inside.cards.items c.self.inside.order.slots))
+returns-clause-within c = rw (← c.self.view_is) (omega (arith, length-header_bytes _ c.self.invariant.whole))

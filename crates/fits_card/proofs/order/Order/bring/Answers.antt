@@ -1,5 +1,5 @@
 use Rattle.std.proofs.Common.{◌≤◌, ◌+◌, ◌∙◌, ap, drop, refl, arith, length, length-take-le}
-use Rattle.fits_card.proofs.OrderLemmas.{came_in_use, front_stays, turned_slots}
+use Rattle.fits_card.proofs.OrderLemmas.{came_in_use, front_slots, front_stays, turned_slots}
 use Rattle.fits_card.proofs.order.Order.bring.Goals as goal
 
 pub invariant_of-self : goal.invariant_of-self
@@ -17,3 +17,6 @@ returns-clause-after c =
     rw (c.bring_last.ensures.items, ← c.self.view_is)
     (came_in_use c.grow.new.slots.items c.args.from c.args.count used (used + c.args.count) low refl many
     ∙ ap (drop c.args.from) (front_stays c.self.inside.slots.items c.grow.new.slots.items _ used c.self.invariant.within c.grow.ensures.front))
+
+pub returns-clause-each : goal.returns-clause-each
+returns-clause-each c = front_slots c.bring_last.new.slots.items (c.self.inside.used + c.args.count) _ (invariant_of-self c).slots

@@ -1,6 +1,6 @@
 use Rattle.std.proofs.Common.{◌≡◌, ◌≤◌, ◌<◌, ◌+◌, ◌-◌, ◌∙◌, ℕ, ap, take, arith, length, length-take-le}
 use Rattle.fits_card.specs.Change.{moved}
-use Rattle.fits_card.proofs.OrderLemmas.{moved_in_use, turned_slots}
+use Rattle.fits_card.proofs.OrderLemmas.{front_slots, moved_in_use, turned_slots}
 use Rattle.fits_card.proofs.order.Order.move_slot.Goals as goal
 
 pub invariant_of-self : goal.invariant_of-self
@@ -24,3 +24,6 @@ returns-clause-slots c =
     (moved_in_use c.self.inside.slots.items c.send_last.new.slots.items (c.args.from - 1) (c.args.to - 1) used first high within c.send_last.ensures.items
     ∙ (ap (λ (place : ℕ). moved (take used c.self.inside.slots.items) place (c.args.to - 1 + 1)) from
     ∙ ap (λ (place : ℕ). moved (take used c.self.inside.slots.items) c.args.from place) to))
+
+pub returns-clause-each : goal.returns-clause-each
+returns-clause-each c = front_slots c.bring_last.new.slots.items c.self.inside.used _ (invariant_of-self c).slots
