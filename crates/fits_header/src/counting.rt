@@ -9,16 +9,21 @@ use crate::counts::Counts;
 use crate::findings::codes_at;
 use crate::note::Note;
 use crate::surrounding::Surrounding;
+use fits_card::Slotted;
 use fits_codes::Code;
 use fits_rules::Shape;
 
 /// The errors and warnings of all cards.
-pub(crate) fn count_all(shape: &Shape, notes: &[Note], surroundings: &[Surrounding]) -> Counts
-    requires size { length surroundings.now ≡ length notes.now }
-    requires few { length notes.now < 2 ^ 59 }
-    ensures value { (cards : List (List ℕ)) → notes.now ≡ notes_of cards
+pub(crate) fn count_all(
+    shape: &Shape,
+    notes: &Slotted<Note>,
+    surroundings: &[Surrounding],
+) -> Counts
+    requires size { length surroundings.now ≡ length notes.now.items }
+    requires few { length notes.now.items < 2 ^ 59 }
+    ensures value { (cards : List (List ℕ)) → notes.now.items ≡ notes_of cards
         → surroundings.now ≡ surroundings_of cards → result ≡ card_counts shape.now cards }
-    ensures within { result.errors + result.warnings ≤ 13 * length notes.now }
+    ensures within { result.errors + result.warnings ≤ 13 * length notes.now.items }
 {
     let mut counts = Counts {
         errors: 0,

@@ -7,7 +7,7 @@ ghost use Rattle.fits_header.specs.Notes.{notes_of};
 
 use crate::entry::{Entry, entry_of, move_on, noted_entry, shifted, stays};
 use crate::note::Note;
-use fits_card::{Card, CardList};
+use fits_card::{Card, CardList, Slotted};
 use std::alloc::{AllocError, Global};
 
 /// The entries of a store's cards, in the order of their places. Each card is read once.
@@ -29,15 +29,15 @@ pub(crate) fn read_entries(alloc: Global, cards: &mut CardList) -> Result<Vec<En
 pub(crate) fn noted_entries(
     alloc: Global,
     cards: &CardList,
-    notes: &[Note],
+    notes: &Slotted<Note>,
 ) -> Result<Vec<Entry>, AllocError>
-    requires { notes.now ≡ notes_of cards.now.header.cards }
+    requires { notes.now.items ≡ notes_of cards.now.header.cards }
     ensures value { IfOk result (λ entries. entries.items ≡ entries_from 1 cards.now.header.cards) }
     ensures named { IfOk result (λ _. AreNamed cards.now.header.cards) }
 {
     let mut entries = Vec::with_capacity(alloc, notes.len())?;
     for index in 0..notes.len() {
-        entries.push(noted_entry(&notes[index], index + 1))?;
+        entries.push(noted_entry(notes.at(index), index + 1))?;
     }
     Ok(entries)
 }

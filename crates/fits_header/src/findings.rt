@@ -8,6 +8,7 @@ ghost use Rattle.fits_header.specs.Surroundings.{surroundings_of};
 use crate::finding::Finding;
 use crate::note::Note;
 use crate::surrounding::Surrounding;
+use fits_card::Slotted;
 use fits_codes::{Code, CodeSet, Context, judge};
 use fits_rules::Shape;
 use std::alloc::{AllocError, Global};
@@ -16,11 +17,11 @@ use std::alloc::{AllocError, Global};
 pub(crate) fn findings_of(
     alloc: Global,
     shape: &Shape,
-    notes: &[Note],
+    notes: &Slotted<Note>,
     surroundings: &[Surrounding],
 ) -> Result<Vec<Finding>, AllocError>
-    requires { length surroundings.now ≡ length notes.now }
-    ensures { (cards : List (List ℕ)) → notes.now ≡ notes_of cards
+    requires { length surroundings.now ≡ length notes.now.items }
+    ensures { (cards : List (List ℕ)) → notes.now.items ≡ notes_of cards
         → surroundings.now ≡ surroundings_of cards
         → IfOk result (λ found. found.items ≡ card_findings shape.now cards) }
 {
@@ -36,17 +37,17 @@ pub(crate) fn findings_of(
 #[tactic(auto, using(crate::proofs::FindingLemmas::code_steps))]
 pub(crate) fn codes_at(
     shape: &Shape,
-    notes: &[Note],
+    notes: &Slotted<Note>,
     surroundings: &[Surrounding],
     place: usize,
 ) -> CodeSet
-    requires size { length surroundings.now ≡ length notes.now }
+    requires size { length surroundings.now ≡ length notes.now.items }
     requires from { 1 ≤ place }
-    requires to { place ≤ length notes.now }
-    ensures { (cards : List (List ℕ)) → notes.now ≡ notes_of cards
+    requires to { place ≤ length notes.now.items }
+    ensures { (cards : List (List ℕ)) → notes.now.items ≡ notes_of cards
         → surroundings.now ≡ surroundings_of cards → result ≡ codes_at shape.now cards place }
 {
-    let note = notes[place - 1];
+    let note = notes.at(place - 1);
     let context = context_at(shape, surroundings, place);
     judge(&note.mark, &context)
 }

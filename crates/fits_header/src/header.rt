@@ -10,7 +10,7 @@ use crate::note::Note;
 use crate::notes::{change_notes, read_notes, total_in};
 use crate::surrounding::Surrounding;
 use crate::survey::{reserve_surroundings, survey};
-use fits_card::{Card, CardList, Change, Name, Sink};
+use fits_card::{Card, CardList, Change, Name, Sink, Slotted};
 use fits_codes::{CodeSet, judge_header_mark};
 use fits_rules::{Shape, ShapeFault, keeps_shape, shape};
 use fits_sum::{card_total, words_total};
@@ -26,7 +26,7 @@ pub struct Header {
     cards: CardList,
     shape: Shape,
     index: KeyIndex,
-    notes: Vec<Note>,
+    notes: Slotted<Note>,
     // What stands round each card, or nothing where it wasn't asked for since the last change.
     surroundings: Vec<Surrounding>,
 }
@@ -53,14 +53,15 @@ impl Model for Header {
       described : shape_of (is_primary it.shape.class) it.cards.header.cards ≡ Ok it.shape;
       index : IsIndexOf it.index.entries it.cards.header.cards;
       notes : it.notes.items ≡ notes_of it.cards.header.cards;
-      size : vec_len it.notes ≡ length it.cards.header.cards;
+      size : length it.notes.items ≡ length it.cards.header.cards;
       found : 0 < vec_len it.surroundings
           → it.surroundings.items ≡ surroundings_of it.cards.header.cards;
       whole : 0 < vec_len it.surroundings
           → vec_len it.surroundings ≡ length it.cards.header.cards;
       room_of_index : it.cards.room ≤ it.index.room;
-      room_of_notes : vec_len it.notes + it.cards.room ≤ vec_capacity it.notes;
-      room_of_surroundings : vec_len it.notes + it.cards.room ≤ vec_capacity it.surroundings;
+      room_of_notes : it.cards.room ≤ it.notes.room;
+      room_of_surroundings : length it.cards.header.cards + it.cards.room
+          ≤ vec_capacity it.surroundings;
     } };
 }
 

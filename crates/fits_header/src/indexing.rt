@@ -1,5 +1,5 @@
 //! The index of a header through changes of its cards.
-ghost use Rattle.std.specs.Prelude.{◌≡◌, ◌≤◌, ◌+◌, IsTrue, List, ℕ, length};
+ghost use Rattle.std.specs.Prelude.{◌≡◌, ◌≤◌, ◌+◌, ◌-◌, IsTrue, List, ℕ, length, take, drop};
 ghost use Rattle.fits_card.specs.Card.{keyword_name, has_value};
 ghost use Rattle.fits_card.specs.Change.{cards_after, spliced, IsInRange};
 ghost use Rattle.fits_header.specs.Index.{HaveSameKeys, IsIndexOf};
@@ -7,13 +7,18 @@ ghost use Rattle.fits_header.specs.Notes.{notes_of};
 
 use crate::key_index::KeyIndex;
 use crate::note::Note;
-use fits_card::{Card, CardList, Change};
+use fits_card::{Card, CardList, Change, Slotted};
 
 /// Makes a change of an index, as of the cards. No card of the store is read.
 #[tactic(auto, using(crate::proofs::HeaderLemmas::change_steps))]
-pub(crate) fn change_index(index: &mut KeyIndex, cards: &CardList, notes: &[Note], change: &Change)
+pub(crate) fn change_index(
+    index: &mut KeyIndex,
+    cards: &CardList,
+    notes: &Slotted<Note>,
+    change: &Change,
+)
     requires index { IsIndexOf index.old.entries cards.now.header.cards }
-    requires notes { notes.now ≡ notes_of cards.now.header.cards }
+    requires notes { notes.now.items ≡ notes_of cards.now.header.cards }
     requires in_range { IsInRange cards.now.header.cards change.now }
     requires room { length (cards_after cards.now.header.cards change.now)
         ≤ length cards.now.header.cards + index.old.room }
@@ -32,36 +37,40 @@ pub(crate) fn change_index(index: &mut KeyIndex, cards: &CardList, notes: &[Note
 }
 
 // From a place on, so many cards go, and these stand there instead.
-fn splice_index(index: &mut KeyIndex, notes: &[Note], place: usize, removed: usize, new: &[Card])
+fn splice_index(
+    index: &mut KeyIndex,
+    notes: &Slotted<Note>,
+    place: usize,
+    removed: usize,
+    new: &[Card],
+)
     requires from { 1 ≤ place }
     requires to { place + removed ≤ length index.old.entries + 1 }
-    requires size { length notes.now ≡ length index.old.entries }
+    requires size { length notes.now.items ≡ length index.old.entries }
     requires room { length new.now ≤ index.old.room + removed }
-    ensures index { (old : List (List ℕ)) → notes.now ≡ notes_of old
+    ensures index { (old : List (List ℕ)) → notes.now.items ≡ notes_of old
         → IsIndexOf index.old.entries old
         → IsIndexOf index.new.entries (spliced old place removed new.now) }
     ensures room { index.new.room + length new.now ≡ index.old.room + removed }
 {
     // Cards in place of others of the same names leave the index as it is.
-    let start = place - 1;
-    if have_same_keys(&notes[start..start + removed], new) {
+    if removed == new.len() && have_same_keys(notes, place, new) {
         return;
     }
     index.splice(place, removed, new);
 }
 
-// Whether the cards have the names of those whose notes these are, each in its turn, and a value
-// exactly where that one has.
-fn have_same_keys(notes: &[Note], cards: &[Card]) -> bool
-    ensures same { IsTrue result → (old : List (List ℕ)) → notes.now ≡ notes_of old
-        → HaveSameKeys old cards.now }
-    ensures size { IsTrue result → length cards.now ≡ length notes.now }
+// Whether the cards have the names of those whose notes stand from a place on, each in its turn, and
+// a value exactly where that one has.
+fn have_same_keys(notes: &Slotted<Note>, place: usize, cards: &[Card]) -> bool
+    requires from { 1 ≤ place }
+    requires to { place + length cards.now ≤ length notes.now.items + 1 }
+    ensures { IsTrue result → (old : List (List ℕ)) → notes.now.items ≡ notes_of old
+        → HaveSameKeys (take (length cards.now) (drop (place - 1) old)) cards.now }
 {
-    if notes.len() != cards.len() {
-        return false;
-    }
+    let _few = notes.len();
     for index in 0..cards.len() {
-        if !has_same_key(&notes[index], &cards[index]) {
+        if !has_same_key(notes.at(place - 1 + index), &cards[index]) {
             return false;
         }
     }

@@ -8,7 +8,7 @@ use crate::note::Note;
 use crate::numbers::{names_of, number_of};
 use crate::repeats::mark_repeats;
 use crate::surrounding::Surrounding;
-use fits_card::{Card, CardList, Name};
+use fits_card::{Card, CardList, Name, Slotted};
 use std::alloc::{AllocError, Global};
 use std::marker::Model;
 
@@ -64,9 +64,9 @@ impl KeyIndex {
     pub(crate) fn of_notes(
         alloc: Global,
         cards: &CardList,
-        notes: &[Note],
+        notes: &Slotted<Note>,
     ) -> Result<KeyIndex, AllocError>
-        requires { notes.now ≡ notes_of cards.now.header.cards }
+        requires { notes.now.items ≡ notes_of cards.now.header.cards }
         ensures { IfOk result (λ index. IsIndexOf index.entries cards.now.header.cards) }
     {
         let entries = noted_entries(alloc, cards, notes)?;

@@ -6,17 +6,18 @@ ghost use Rattle.fits_header.specs.declared.surrounding.Surrounding.{Surrounding
 
 use crate::note::Note;
 use crate::surrounding::Surrounding;
+use fits_card::Slotted;
 
 /// Marks the links, and no repeated name.
 #[tactic(auto, using(crate::proofs::MarkedLinkLemmas::link_steps))]
-pub(crate) fn mark_links(notes: &[Note], surroundings: &mut [Surrounding])
-    requires { length surroundings.old ≡ length notes.now }
+pub(crate) fn mark_links(notes: &Slotted<Note>, surroundings: &mut [Surrounding])
+    requires { length surroundings.old ≡ length notes.now.items }
     ensures len { length surroundings.new ≡ length surroundings.old }
-    ensures links { map (λ (s : Surrounding). s.is_link) surroundings.new ≡ links_in notes.now }
+    ensures links { map (λ (s : Surrounding). s.is_link) surroundings.new ≡ links_in notes.now.items }
 {
     let mut is_open = false;
     for index in 0..notes.len() {
-        let mark = notes[index].mark;
+        let mark = notes.at(index).mark;
         let is_link = is_open && mark.continues;
         surroundings[index] = Surrounding {
             name_before: false,

@@ -8,19 +8,20 @@ use crate::key_index::KeyIndex;
 use crate::links::mark_links;
 use crate::note::Note;
 use crate::surrounding::Surrounding;
+use fits_card::Slotted;
 use std::alloc::AllocError;
 
 /// Finds what stands round the cards, unless that is there. It reads no card.
 ///
 /// It takes no memory: the room is reserved before.
-pub(crate) fn survey(surroundings: &mut Vec<Surrounding>, notes: &[Note], index: &KeyIndex)
-    requires size { length index.now.entries ≡ length notes.now }
+pub(crate) fn survey(surroundings: &mut Vec<Surrounding>, notes: &Slotted<Note>, index: &KeyIndex)
+    requires size { length index.now.entries ≡ length notes.now.items }
     requires whole { 0 < vec_len surroundings.old
-        → vec_len surroundings.old ≡ length notes.now }
-    requires room { length notes.now ≤ vec_capacity surroundings.old }
-    ensures len { vec_len surroundings.new ≡ length notes.now }
+        → vec_len surroundings.old ≡ length notes.now.items }
+    requires room { length notes.now.items ≤ vec_capacity surroundings.old }
+    ensures len { vec_len surroundings.new ≡ length notes.now.items }
     ensures room { vec_capacity surroundings.old ≤ vec_capacity surroundings.new }
-    ensures found { (cards : List (List ℕ)) → notes.now ≡ notes_of cards
+    ensures found { (cards : List (List ℕ)) → notes.now.items ≡ notes_of cards
         → IsIndexOf index.now.entries cards
         → (0 < vec_len surroundings.old → surroundings.old.items ≡ surroundings_of cards)
         → surroundings.new.items ≡ surroundings_of cards }
@@ -60,11 +61,11 @@ pub(crate) fn reserve_surroundings(
 }
 
 // Marks what stands round each card.
-fn mark_all(surroundings: &mut [Surrounding], notes: &[Note], index: &KeyIndex)
-    requires size { length index.now.entries ≡ length notes.now }
-    requires each { length surroundings.old ≡ length notes.now }
+fn mark_all(surroundings: &mut [Surrounding], notes: &Slotted<Note>, index: &KeyIndex)
+    requires size { length index.now.entries ≡ length notes.now.items }
+    requires each { length surroundings.old ≡ length notes.now.items }
     ensures len { length surroundings.new ≡ length surroundings.old }
-    ensures found { (cards : List (List ℕ)) → notes.now ≡ notes_of cards
+    ensures found { (cards : List (List ℕ)) → notes.now.items ≡ notes_of cards
         → IsIndexOf index.now.entries cards → surroundings.new ≡ surroundings_of cards }
 {
     mark_links(notes, surroundings);

@@ -7,7 +7,7 @@ use Rattle.fits_header.proofs.counting.count_all.Given as goal
 
 abbrev pub invariant-loop-index : goal.invariant-loop-index
 invariant-loop-index l = record {
-  value : (cards : List (List ℕ)) → l.notes ≡ notes_of cards → l.surroundings ≡ surroundings_of cards
+  value : (cards : List (List ℕ)) → l.notes.items ≡ notes_of cards → l.surroundings ≡ surroundings_of cards
       → l.counts ≡ counts_of (flat_map (codes_at l.shape cards) (range_with_len 1 l.index));
   few : l.counts.errors + l.counts.warnings ≤ 13 * l.index;
 }

@@ -10,8 +10,8 @@ loop-index-preserved c =
     let cards = c.args.cards.now.header.cards in
     let i = c.loop-index.index in
     let card = get_or cards i [] in
-    let size : length c.args.notes.now ≡ length cards = ap length c.requires ∙ length-map cards note_of in
-    let is = note_there c.args.notes.now cards i c.index-notes-index.result c.requires c.loop-index-test.true c.index-notes-index.is in
+    let size : length c.args.notes.now.items ≡ length cards = ap length c.requires ∙ length-map cards note_of in
+    let is = note_there c.args.notes.now.items cards i c.at.result.now c.requires (omega arith) c.at.ensures in
     let at : card ≡ get_or cards i card = get_or_default cards i [] card (omega (arith, size)) in
     record {
       value = c.in_ok-push.ensures.items ∙ entries_push cards c.loop-index.entries.items _ i card (omega (arith, size)) c.loop-index.invariant.value at (c.noted_entry.ensures.value card is);

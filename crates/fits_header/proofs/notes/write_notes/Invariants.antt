@@ -5,6 +5,7 @@ use Rattle.fits_header.proofs.notes.write_notes.Given as goal
 
 abbrev pub invariant-loop-index : goal.invariant-loop-index
 invariant-loop-index l = record {
-  notes : l.notes ≡ paste l.fn.notes (l.place - 1) (notes_of l.cards) l.index;
-  len : length l.notes ≡ length l.fn.notes;
+  notes : l.notes.items ≡ paste l.fn.notes.items (l.place - 1) (notes_of l.cards) l.index;
+  len : length l.notes.items ≡ length l.fn.notes.items;
+  room : l.notes.room ≡ l.fn.notes.room;
 }

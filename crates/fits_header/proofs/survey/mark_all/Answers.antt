@@ -10,4 +10,4 @@ returns-clause-found c cards is index =
     surroundings-found cards c.mark_links.new.surroundings c.mark_repeats.new.surroundings
     (omega (arith, c.mark_repeats.ensures.len, c.mark_links.ensures.len, c.requires.each, ap length is, length-map cards note_of))
     (omega (arith, c.mark_links.ensures.len, c.requires.each, ap length is, length-map cards note_of))
-    (c.mark_links.ensures.links ∙ links-of_notes c.args.notes.now cards is) (c.mark_repeats.ensures.marked cards index)
+    (c.mark_links.ensures.links ∙ links-of_notes c.args.notes.now.items cards is) (c.mark_repeats.ensures.marked cards index)
