@@ -7,18 +7,13 @@ ghost use Rattle.fits_header.specs.Surroundings.{surroundings_of};
 
 use crate::counts::Counts;
 use crate::findings::codes_at;
-use crate::note::Note;
+use crate::notes::Notes;
 use crate::surrounding::Surrounding;
-use fits_card::Slotted;
 use fits_codes::Code;
 use fits_rules::Shape;
 
 /// The errors and warnings of all cards.
-pub(crate) fn count_all(
-    shape: &Shape,
-    notes: &Slotted<Note>,
-    surroundings: &[Surrounding],
-) -> Counts
+pub(crate) fn count_all(shape: &Shape, notes: &Notes, surroundings: &[Surrounding]) -> Counts
     requires size { length surroundings.now ≡ length notes.now.items }
     requires few { length notes.now.items < 2 ^ 59 }
     ensures value { (cards : List (List ℕ)) → notes.now.items ≡ notes_of cards

@@ -6,8 +6,8 @@ ghost use Rattle.fits_header.specs.Names.{AreNamed};
 ghost use Rattle.fits_header.specs.Notes.{notes_of};
 
 use crate::entry::{Entry, entry_of, move_on, noted_entry, shifted, stays};
-use crate::note::Note;
-use fits_card::{Card, CardList, Slotted};
+use crate::notes::Notes;
+use fits_card::{Card, CardList};
 use std::alloc::{AllocError, Global};
 
 /// The entries of a store's cards, in the order of their places. Each card is read once.
@@ -29,7 +29,7 @@ pub(crate) fn read_entries(alloc: Global, cards: &mut CardList) -> Result<Vec<En
 pub(crate) fn noted_entries(
     alloc: Global,
     cards: &CardList,
-    notes: &Slotted<Note>,
+    notes: &Notes,
 ) -> Result<Vec<Entry>, AllocError>
     requires { notes.now.items ≡ notes_of cards.now.header.cards }
     ensures value { IfOk result (λ entries. entries.items ≡ entries_from 1 cards.now.header.cards) }

@@ -6,9 +6,8 @@ ghost use Rattle.fits_header.specs.Notes.{notes_of};
 ghost use Rattle.fits_header.specs.Surroundings.{surroundings_of};
 
 use crate::finding::Finding;
-use crate::note::Note;
+use crate::notes::Notes;
 use crate::surrounding::Surrounding;
-use fits_card::Slotted;
 use fits_codes::{Code, CodeSet, Context, judge};
 use fits_rules::Shape;
 use std::alloc::{AllocError, Global};
@@ -17,7 +16,7 @@ use std::alloc::{AllocError, Global};
 pub(crate) fn findings_of(
     alloc: Global,
     shape: &Shape,
-    notes: &Slotted<Note>,
+    notes: &Notes,
     surroundings: &[Surrounding],
 ) -> Result<Vec<Finding>, AllocError>
     requires { length surroundings.now ≡ length notes.now.items }
@@ -37,7 +36,7 @@ pub(crate) fn findings_of(
 #[tactic(auto, using(crate::proofs::FindingLemmas::code_steps))]
 pub(crate) fn codes_at(
     shape: &Shape,
-    notes: &Slotted<Note>,
+    notes: &Notes,
     surroundings: &[Surrounding],
     place: usize,
 ) -> CodeSet

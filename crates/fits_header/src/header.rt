@@ -6,11 +6,10 @@ use crate::header_marks::header_mark_of;
 use crate::indexing::change_index;
 use crate::key_index::KeyIndex;
 use crate::leads::{lead_after, leads_after};
-use crate::note::Note;
-use crate::notes::{change_notes, read_notes, total_in};
+use crate::notes::Notes;
 use crate::surrounding::Surrounding;
 use crate::survey::{reserve_surroundings, survey};
-use fits_card::{Card, CardList, Change, Name, Sink, Slotted};
+use fits_card::{Card, CardList, Change, Name, Sink};
 use fits_codes::{CodeSet, judge_header_mark};
 use fits_rules::{Shape, ShapeFault, keeps_shape, shape};
 use fits_sum::{card_total, words_total};
@@ -26,7 +25,7 @@ pub struct Header {
     cards: CardList,
     shape: Shape,
     index: KeyIndex,
-    notes: Slotted<Note>,
+    notes: Notes,
     // What stands round each card, or nothing where it wasn't asked for since the last change.
     surroundings: Vec<Surrounding>,
 }
@@ -93,7 +92,7 @@ impl Header {
         ensures work { IfOk result (λ it. it.reads ≤ cards.reads + length cards.header.cards) }
     {
         let mut cards = cards;
-        let mut notes = read_notes(alloc, &mut cards)?;
+        let mut notes = Notes::read(alloc, &mut cards)?;
         let mut index = KeyIndex::of_notes(alloc, &cards, &notes)?;
         index.reserve(cards.room())?;
         notes.reserve(cards.room())?;
@@ -148,7 +147,7 @@ impl Header {
         let _few = self.cards.len();
         let end = card_total(&self.cards.end().0);
         let fill = words_total(self.cards.fill());
-        total_in(&self.notes) + end + fill
+        self.notes.total() + end + fill
     }
 
     /// The card at a place. The read is counted.
@@ -278,7 +277,7 @@ impl Header {
         ensures work { self.new.reads ≡ self.old.reads }
     {
         change_index(&mut self.index, &self.cards, &self.notes, change);
-        change_notes(&mut self.notes, &self.cards, change);
+        self.notes.change(&self.cards, change);
         self.surroundings.clear();
         change.apply(&mut self.cards);
     }

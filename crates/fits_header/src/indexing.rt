@@ -7,16 +7,12 @@ ghost use Rattle.fits_header.specs.Notes.{notes_of};
 
 use crate::key_index::KeyIndex;
 use crate::note::Note;
-use fits_card::{Card, CardList, Change, Slotted};
+use crate::notes::Notes;
+use fits_card::{Card, CardList, Change};
 
 /// Makes a change of an index, as of the cards. No card of the store is read.
 #[tactic(auto, using(crate::proofs::HeaderLemmas::change_steps))]
-pub(crate) fn change_index(
-    index: &mut KeyIndex,
-    cards: &CardList,
-    notes: &Slotted<Note>,
-    change: &Change,
-)
+pub(crate) fn change_index(index: &mut KeyIndex, cards: &CardList, notes: &Notes, change: &Change)
     requires index { IsIndexOf index.old.entries cards.now.header.cards }
     requires notes { notes.now.items ≡ notes_of cards.now.header.cards }
     requires in_range { IsInRange cards.now.header.cards change.now }
@@ -37,13 +33,7 @@ pub(crate) fn change_index(
 }
 
 // From a place on, so many cards go, and these stand there instead.
-fn splice_index(
-    index: &mut KeyIndex,
-    notes: &Slotted<Note>,
-    place: usize,
-    removed: usize,
-    new: &[Card],
-)
+fn splice_index(index: &mut KeyIndex, notes: &Notes, place: usize, removed: usize, new: &[Card])
     requires from { 1 ≤ place }
     requires to { place + removed ≤ length index.old.entries + 1 }
     requires size { length notes.now.items ≡ length index.old.entries }
@@ -62,7 +52,7 @@ fn splice_index(
 
 // Whether the cards have the names of those whose notes stand from a place on, each in its turn, and
 // a value exactly where that one has.
-fn have_same_keys(notes: &Slotted<Note>, place: usize, cards: &[Card]) -> bool
+fn have_same_keys(notes: &Notes, place: usize, cards: &[Card]) -> bool
     requires from { 1 ≤ place }
     requires to { place + length cards.now ≤ length notes.now.items + 1 }
     ensures { IsTrue result → (old : List (List ℕ)) → notes.now.items ≡ notes_of old

@@ -4,11 +4,11 @@ use crate::changing::{move_entry, splice_entries};
 use crate::entries::{noted_entries, read_entries, sorted};
 use crate::entry::Entry;
 use crate::lookups::{has, lead, lead_within, numbers, positions};
-use crate::note::Note;
+use crate::notes::Notes;
 use crate::numbers::{names_of, number_of};
 use crate::repeats::mark_repeats;
 use crate::surrounding::Surrounding;
-use fits_card::{Card, CardList, Name, Slotted};
+use fits_card::{Card, CardList, Name};
 use std::alloc::{AllocError, Global};
 use std::marker::Model;
 
@@ -64,7 +64,7 @@ impl KeyIndex {
     pub(crate) fn of_notes(
         alloc: Global,
         cards: &CardList,
-        notes: &Slotted<Note>,
+        notes: &Notes,
     ) -> Result<KeyIndex, AllocError>
         requires { notes.now.items ≡ notes_of cards.now.header.cards }
         ensures { IfOk result (λ index. IsIndexOf index.entries cards.now.header.cards) }

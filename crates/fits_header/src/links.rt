@@ -4,13 +4,12 @@ ghost use Rattle.std.specs.Prelude.{◌≡◌, length, map};
 ghost use Rattle.fits_header.specs.Notes.{links_in};
 ghost use Rattle.fits_header.specs.declared.surrounding.Surrounding.{Surrounding};
 
-use crate::note::Note;
+use crate::notes::Notes;
 use crate::surrounding::Surrounding;
-use fits_card::Slotted;
 
 /// Marks the links, and no repeated name.
 #[tactic(auto, using(crate::proofs::MarkedLinkLemmas::link_steps))]
-pub(crate) fn mark_links(notes: &Slotted<Note>, surroundings: &mut [Surrounding])
+pub(crate) fn mark_links(notes: &Notes, surroundings: &mut [Surrounding])
     requires { length surroundings.old ≡ length notes.now.items }
     ensures len { length surroundings.new ≡ length surroundings.old }
     ensures links { map (λ (s : Surrounding). s.is_link) surroundings.new ≡ links_in notes.now.items }

@@ -6,15 +6,14 @@ ghost use Rattle.fits_header.specs.Surroundings.{surroundings_of};
 
 use crate::key_index::KeyIndex;
 use crate::links::mark_links;
-use crate::note::Note;
+use crate::notes::Notes;
 use crate::surrounding::Surrounding;
-use fits_card::Slotted;
 use std::alloc::AllocError;
 
 /// Finds what stands round the cards, unless that is there. It reads no card.
 ///
 /// It takes no memory: the room is reserved before.
-pub(crate) fn survey(surroundings: &mut Vec<Surrounding>, notes: &Slotted<Note>, index: &KeyIndex)
+pub(crate) fn survey(surroundings: &mut Vec<Surrounding>, notes: &Notes, index: &KeyIndex)
     requires size { length index.now.entries ≡ length notes.now.items }
     requires whole { 0 < vec_len surroundings.old
         → vec_len surroundings.old ≡ length notes.now.items }
@@ -61,7 +60,7 @@ pub(crate) fn reserve_surroundings(
 }
 
 // Marks what stands round each card.
-fn mark_all(surroundings: &mut [Surrounding], notes: &Slotted<Note>, index: &KeyIndex)
+fn mark_all(surroundings: &mut [Surrounding], notes: &Notes, index: &KeyIndex)
     requires size { length index.now.entries ≡ length notes.now.items }
     requires each { length surroundings.old ≡ length notes.now.items }
     ensures len { length surroundings.new ≡ length surroundings.old }
