@@ -11,8 +11,8 @@ use std::alloc::{AllocError, Global};
 /// Room for a line of statistics or sums.
 const LINE_ROOM: usize = 192;
 
-/// Room for a value and the space after it, as most need.
-const VALUE_ROOM: usize = 8;
+/// Room for a value and what follows it: twice what the shortest has, which a line that grows may end with.
+const VALUE_ROOM: usize = 4;
 
 /// `defined D blank B min X max Y sum S`
 pub(crate) fn statistics_line(alloc: Global, stats: &Stats) -> Result<Vec<u8>, AllocError>

@@ -1,15 +1,39 @@
 -- The index through changes.
-use Rattle.std.proofs.Common.{◌≡◌, ℕ, suc, ◌<◌, nat_lt, true, false, not, List, [], ◌∷◌, ◌++◌, length, take, drop, get_or, map, filter, ap, sym, ◌∙◌, refl, append-nil, subst, arith, ◌⊎◌, inl, inr}
+use Rattle.std.proofs.Common.{◌≡◌, ℕ, suc, ◌+◌, ◌-◌, ◌<◌, ◌≤◌, nat_lt, set, length-append, length-drop, true, false, not, List, [], ◌∷◌, ◌++◌, length, take, drop, get_or, map, filter, ap, sym, ◌∙◌, refl, append-nil, subst, arith, ◌⊎◌, inl, inr}
 use Rattle.std.specs.List.{All}
+use Rattle.std.specs.Prelude.{insert}
+use Rattle.std.proofs.Math.Seq.{length-paste, paste, set_split}
+use Rattle.fits_card.proofs.SpliceLemmas.{moved-on-before, moved-on-after}
 use Rattle.std.specs.List.Sorted.{IsPartitionedBy}
 use Rattle.std.proofs.lemmas.Bool.{cases_lt}
 use Rattle.std.proofs.lemmas.Bool.Decides.{nat_tests}
 use Rattle.std.proofs.lemmas.List.Elements.{All-cons, All-tail, All-map, filter-append, filter_passes}
 use Rattle.std.proofs.lemmas.List.Kept.{AllPairs-cons, AllPairs-filter}
-use Rattle.std.proofs.lemmas.List.{take-append-le, take_all}
+use Rattle.std.proofs.lemmas.List.{drop_all, take-append-le, take_all}
 use Rattle.fits_header.specs.declared.entry.Entry.{Entry}
 use Rattle.fits_header.specs.Index.{IsSortedIndex, IsInOrder, comes_before, added, is_named, shifted, stays, AreSame}
 use Rattle.fits_header.proofs.FilterLemmas.{filter_all, filter_none, filter-filter, filter-map, filter_same_on, AllPairs-append}
+
+-- the rest of a list moved on by one, and another item put there
+moved-there : {X : Type 0} (xs : List X) (x : X) (at n : ℕ) → at ≤ length xs → n ≡ length xs - at → set (paste (xs ++ x ∷ []) (at + 1) (drop at (xs ++ x ∷ [])) n) at x ≡ insert xs at x
+moved-there {X = X} xs x at n low is =
+    let all = xs ++ x ∷ [] in
+    let ys = paste all (at + 1) (drop at all) n in
+    let next : suc at ≡ at + 1 = omega arith in
+    let size = length-paste all (at + 1) (drop at all) n (omega (arith, length-append xs (x ∷ []))) (omega (arith, length-append xs (x ∷ []), length-drop at all)) in
+    set_split ys at x (omega (arith, size, length-append xs (x ∷ [])))
+    ∙ (ap (λ (us : List X). us ++ x ∷ drop (suc at) ys) (moved-on-before xs (x ∷ []) at 1 n low refl)
+    ∙ ap (λ (us : List X). take at xs ++ x ∷ us) (ap (λ (k : ℕ). drop k ys) next ∙ moved-on-after xs (x ∷ []) at 1 n low refl is))
+
+-- the same where it was put behind them first
+pub put-there : {X : Type 0} (xs : List X) (x : X) (at len n : ℕ) → at ≤ length xs → len ≡ length xs → n ≡ length xs - at → set (paste (insert xs len x) (at + 1) (drop at (insert xs len x)) n) at x ≡ insert xs at x
+put-there {X = X} xs x at len n low size is =
+    let front : take len xs ≡ xs = take_all len xs (omega (arith, size)) in
+    let behind : drop len xs ≡ [] = drop_all len xs (omega (arith, size)) in
+    let last : insert xs len x ≡ xs ++ x ∷ [] = ap (λ (us : List X). us ++ x ∷ drop len xs) front ∙ ap (λ (us : List X). xs ++ x ∷ us) behind in
+    ap (λ (all : List X). set (paste all (at + 1) (drop at all) n) at x) last ∙ moved-there xs x at n low is
+
+pub ruleset put_steps = (put-there)
 
 -- what comes before something comes before all that is no earlier
 before-in_order : (n p : ℕ) (a b : Entry) → IsInOrder a b → comes_before n p b ≡ true → comes_before n p a ≡ true

@@ -1,5 +1,5 @@
 //! Entries of names and places, sorted, under changes of the cards that they stand for.
-ghost use Rattle.std.specs.Prelude.{◌≡◌, ◌≤◌, ◌<◌, ◌+◌, ◌-◌, ◌++◌, ◌^◌, ℕ, List, All, IfOk, length, map, filter, not, take, drop, vec_len, vec_capacity};
+ghost use Rattle.std.specs.Prelude.{◌≡◌, ◌≤◌, ◌<◌, ◌+◌, ◌-◌, ◌++◌, ◌^◌, ℕ, List, All, IfOk, insert, length, map, filter, not, take, drop, vec_len, vec_capacity};
 ghost use Rattle.fits_card.specs.CardList.{ReadsUpTo};
 ghost use Rattle.fits_header.specs.Index.{AreSame, IsIndexOf, IsSortedIndex, added, comes_before, entries_from, shifted, stays};
 ghost use Rattle.fits_header.specs.Names.{AreNamed};
@@ -207,5 +207,20 @@ pub(crate) fn add(entries: &mut Vec<Entry>, entry: Entry)
     ensures len { vec_len entries.new ≡ vec_len entries.old + 1 }
 {
     let at = place_for(entries, entry.name, entry.place);
-    let _ = entries.insert(at, entry);
+    put_in(entries, at, entry);
+}
+
+// Puts an entry in at an index, in reserved room. What follows is moved by one copy.
+#[tactic(auto, using(crate::proofs::IndexLemmas::put_steps))]
+fn put_in(entries: &mut Vec<Entry>, at: usize, entry: Entry)
+    requires within { at ≤ vec_len entries.old }
+    requires room { vec_len entries.old < vec_capacity entries.old }
+    ensures items { entries.new.items ≡ insert entries.old.items at entry }
+    ensures len { vec_len entries.new ≡ vec_len entries.old + 1 }
+    ensures room { vec_capacity entries.new ≡ vec_capacity entries.old }
+{
+    let len = entries.len();
+    let _ = entries.insert(len, entry);
+    entries.copy_within(at..len, at + 1);
+    entries[at] = entry;
 }
