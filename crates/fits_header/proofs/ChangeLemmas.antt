@@ -1,7 +1,7 @@
 -- An index through changes of the cards.
 use Rattle.std.proofs.Common.{◌≡◌, ℕ, ◌+◌, ◌-◌, ◌<◌, ◌≤◌, Bool, true, false, cond, List, [], ◌∷◌, ◌++◌, length, take, drop, map, filter, get_or, ap, subst, sym, ◌∙◌, arith, length-append, length-drop}
 use Rattle.std.specs.List.{All}
-use Rattle.std.proofs.lemmas.List.{length-take-le, drop_more}
+use Rattle.std.proofs.lemmas.List.{length-map, length-take-le, drop_more}
 use Rattle.std.proofs.lemmas.List.Elements.{All-nil, All-cons, All-tail, All-filter, All-append, All-take, All-drop}
 use Rattle.std.proofs.lemmas.Bool.Decides.{nat_tests}
 use Rattle.fits_card.specs.Change.{spliced, only_item, moved}
@@ -49,6 +49,13 @@ pub length-taken : (es : List Entry) (cards : List (List ℕ)) (place removed co
 length-taken es cards place removed coming one fits index =
     let size = length-two _ 1 (place + coming) (take (place - 1) cards) (drop (place - 1 + removed) cards) (same-taken es cards place removed coming one fits index.same) in
     omega (arith, size, length-take-le (place - 1) cards (omega arith), length-drop (place - 1 + removed) cards)
+
+-- only one entry has a place
+pub one_goes : (es : List Entry) (place : ℕ) → 1 ≤ place → place ≤ length es → IsIndex es → length (filter (stays place 1) es) + 1 ≡ length es
+one_goes es place first last index =
+    let cards = index.cards in
+    let size = length-index es cards index.theirs in
+    omega (arith, size, length-map (filter (stays place 1) es) (shifted place 1 0), length-taken es cards place 1 0 first (omega (arith, size, last)) index.theirs)
 
 -- what holds of items and of those that come holds after a splice
 pub All-spliced : {X : Type 0} (P : X → Type 0) (xs new : List X) (place removed : ℕ) → All P xs → All P new → All P (spliced xs place removed new)

@@ -4,9 +4,12 @@ use Rattle.fits_header.specs.Findings.{card_of}
 use Rattle.fits_header.specs.Index.{IsIndexOf, added, entry_of, shifted}
 use Rattle.fits_header.specs.Names.{IsName}
 use Rattle.fits_header.specs.declared.entry.Entry.{Entry}
-use Rattle.fits_header.proofs.ChangeLemmas.{All-moved, index-out, length-left, places_among, places_left, same-moved}
+use Rattle.fits_header.proofs.ChangeLemmas.{All-moved, index-out, length-left, one_goes, places_among, places_left, same-moved}
 use Rattle.fits_header.proofs.CountLemmas.{length-index}
 use Rattle.fits_header.proofs.changing.move_entry.Goals as goal
+
+pub take_out-requires-clause-one : goal.take_out-requires-clause-one
+take_out-requires-clause-one c is = omega (arith, one_goes c.args.entries.now.items c.args.from c.requires.from_first (omega arith) c.requires.index, c.args.entries.now.ok)
 
 pub take_out-requires-clause-low : goal.take_out-requires-clause-low
 take_out-requires-clause-low c k d l = omega (arith, places_among c.args.entries.now.items c.requires.index k d l)

@@ -3,10 +3,13 @@ use Rattle.std.proofs.lemmas.List.{length-take-le}
 use Rattle.fits_card.specs.Card.{keyword_name}
 use Rattle.fits_header.specs.Index.{AreSame, entries_from, is_named}
 use Rattle.fits_header.specs.Names.{IsName}
-use Rattle.fits_header.proofs.ChangeLemmas.{All-spliced, length-taken, places_among}
+use Rattle.fits_header.proofs.ChangeLemmas.{All-spliced, length-taken, one_goes, places_among}
 use Rattle.fits_header.proofs.CountLemmas.{length-index}
 use Rattle.fits_header.proofs.EntriesLemmas.{same-taken}
 use Rattle.fits_header.proofs.changing.splice_entries.Goals as goal
+
+pub make_way-requires-clause-one : goal.make_way-requires-clause-one
+make_way-requires-clause-one c is = omega (arith, one_goes c.args.entries.now.items c.args.place c.requires.from (omega (arith, c.requires.to, is)) c.requires.index, c.args.entries.now.ok)
 
 pub make_way-requires-clause-low : goal.make_way-requires-clause-low
 make_way-requires-clause-low c k d l = omega (arith, places_among c.args.entries.now.items c.requires.index k d l)
