@@ -59,7 +59,7 @@ impl From<ReadFault> for ReadHeaderFault {
 /// 3.3.1).
 ///
 /// Block after block is taken, as far as the first that has an END. Memory is asked for as cards
-/// come, and for cards alone.
+/// come, and for them alone.
 #[tactic(auto, using(crate::proofs::HeaderReadingLemmas::header_steps))]
 pub fn read_header<R: Source>(
     alloc: Global,

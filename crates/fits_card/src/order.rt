@@ -161,7 +161,7 @@ impl Order {
     }
 }
 
-// Brings what follows so many slots before them, up to an end: the free slots behind it stay.
+// Of the slots before an end, so many from a place on go behind the others. Those behind it stay.
 fn send_last(slots: &mut Vec<usize>, from: usize, end: usize, count: usize)
     requires from { from + count ≤ end }
     requires end { end ≤ vec_len slots.old }
@@ -175,7 +175,7 @@ fn send_last(slots: &mut Vec<usize>, from: usize, end: usize, count: usize)
     rest.rotate_left(count);
 }
 
-// Brings so many slots from before an end: the free slots behind it stay.
+// Of the slots before an end, the last so many come to a place. Those behind it stay.
 fn bring_last(slots: &mut Vec<usize>, from: usize, end: usize, count: usize)
     requires from { from + count ≤ end }
     requires end { end ≤ vec_len slots.old }

@@ -64,6 +64,9 @@ fn put_in<T: Copy>(items: &mut Vec<T>, from: usize, count: usize, filler: T)
     ensures len { vec_len items.new ≡ vec_len items.old + count }
     ensures room { vec_capacity items.old ≤ vec_capacity items.new }
 {
+    if count == 0 {
+        return;
+    }
     let len = items.len();
     let _ = items.resize(len + count, filler);
     items.copy_within(from..len, from + count);

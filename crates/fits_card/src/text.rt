@@ -15,7 +15,7 @@ fn is_character(byte: u8) -> bool
 pub fn is_text(text: &[u8]) -> bool
     ensures { result ≡ is_text text.now }
 {
-    text.iter().all(|byte| is_character(*byte))
+    text.iter().all(|byte| matches!(byte, b' '..=b'~'))
 }
 
 /// The same of a card's bytes: it doesn't stop at the first other one, so that many are looked at

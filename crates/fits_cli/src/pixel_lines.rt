@@ -9,16 +9,16 @@ use fits_hdu::{Stats, Verdict, Verdicts};
 use std::alloc::{AllocError, Global};
 
 /// Room for a line of statistics or sums.
-const LINE_ROOM: usize = 192;
+const SUMMARY_ROOM: usize = 192;
 
-/// Room for a value and what follows it: twice what the shortest has, which a line that grows may end with.
-const VALUE_ROOM: usize = 4;
+/// Room for the shortest value and what follows it.
+const VALUE_ROOM: usize = 2;
 
 /// `defined D blank B min X max Y sum S`
 pub(crate) fn statistics_line(alloc: Global, stats: &Stats) -> Result<Vec<u8>, AllocError>
     ensures { IfOk result (λ line. line.items ≡ statistics_line stats.now) }
 {
-    let mut line = Vec::with_capacity(alloc, LINE_ROOM)?;
+    let mut line = Vec::with_capacity(alloc, SUMMARY_ROOM)?;
     push_counts(&mut line, stats)?;
     push_values(&mut line, stats)?;
     line.push(b'\n')?;
@@ -60,7 +60,7 @@ fn push_number_or_hyphen(
 pub(crate) fn sums_line(alloc: Global, sum: u32, verdicts: Verdicts) -> Result<Vec<u8>, AllocError>
     ensures { IfOk result (λ line. line.items ≡ sums_line sum verdicts) }
 {
-    let mut line = Vec::with_capacity(alloc, LINE_ROOM)?;
+    let mut line = Vec::with_capacity(alloc, SUMMARY_ROOM)?;
     push_number(&mut line, b"datasum ", sum as u64)?;
     line.extend_from_slice(b" verdicts ")?;
     push_verdicts(&mut line, verdicts.datasum, verdicts.checksum)?;

@@ -9,9 +9,6 @@ use crate::words::{DIGITS, is_number, number_of_word};
 use fits_session::Corner;
 use std::alloc::{AllocError, Global};
 
-/// Room for the axes of a rectangle at first.
-const AXES_ROOM: usize = 4;
-
 /// The corners of a rectangle, unless a word is none. It is read once: where memory runs out on the
 /// way, the word is looked at again, since one that is none needs no memory.
 pub(crate) fn corners_of(alloc: Global, word: &[u8]) -> Result<Option<(Corner, Corner)>, AllocError>
@@ -45,8 +42,8 @@ fn read_corners(alloc: Global, word: &[u8]) -> Result<Option<(Corner, Corner)>, 
         ≡ upper_corner word.now)) }
     ensures none { IfOk result (λ read. IfNone read (is_rectangle word.now ≡ false)) }
 {
-    let mut lo = Vec::with_capacity(alloc, AXES_ROOM)?;
-    let mut hi = Vec::with_capacity(alloc, AXES_ROOM)?;
+    let mut lo = Vec::new(alloc);
+    let mut hi = Vec::new(alloc);
     let mut rest = word;
     'axes: while let Some((axis, more)) = split_once(rest, b',') {
         let Some((lower, upper)) = read_axis(axis) else {

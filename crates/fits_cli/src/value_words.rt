@@ -17,9 +17,6 @@ use std::alloc::{AllocError, Global};
 /// How many digits a value has at most.
 const VALUE_DIGITS: usize = 30;
 
-/// Room for the values of a line at first.
-const VALUES_ROOM: usize = 64;
-
 /// The value that ends a line.
 #[tactic(auto, unfolding(crate::specs::Line::value_last))]
 pub(crate) fn value_last(rest: Option<&[u8]>) -> Option<i128>
@@ -60,7 +57,7 @@ fn read_values(alloc: Global, text: &[u8]) -> Result<Option<PixelValues>, AllocE
         × (values ≡ values_of_text text.now))) }
     ensures none { IfOk result (λ read. IfNone read (are_values text.now ≡ false)) }
 {
-    let mut values = Vec::with_capacity(alloc, VALUES_ROOM)?;
+    let mut values = Vec::new(alloc);
     let mut rest = text;
     'words: while let Some((word, more)) = split_once(rest, b' ') {
         let Some(value) = read_value(word) else {

@@ -1,5 +1,5 @@
 //! What DATASUM and CHECKSUM say, and whether it is so.
-ghost use Rattle.std.specs.Prelude.{◌≡◌, ◌≤◌, ◌+◌, length};
+ghost use Rattle.std.specs.Prelude.{◌≡◌, ◌≤◌, ◌+◌, ◌*◌, length};
 ghost use Rattle.std.specs.List.{list_all, prefix_len};
 ghost use Rattle.fits_header.specs.State.{ReadsUpTo};
 ghost use Rattle.fits_rules.specs.Reads.{value_said};
@@ -36,11 +36,12 @@ pub(crate) fn sum_keywords(header: &mut Header) -> SumKeywords
     }
 }
 
-/// The same of the cards of a header, of which each is read twice at most.
+/// The same of the cards of a header, by two searches among them.
 #[tactic(auto, unfolding(crate::specs::Sums::sum_keywords))]
 pub(crate) fn sum_keywords_in(cards: &mut CardList) -> SumKeywords
     ensures value { result ≡ sum_keywords cards.old.header.cards }
     ensures header { cards.new.header ≡ cards.old.header }
+    ensures work { cards.new.reads ≤ cards.old.reads + 2 * (length cards.old.header.cards + 1) }
 {
     let datasum = fits_rules::lead_card(cards, &DATASUM);
     let checksum = fits_rules::lead_card(cards, &CHECKSUM);

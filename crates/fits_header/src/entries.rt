@@ -104,7 +104,7 @@ pub(crate) fn take_out(entries: &mut Vec<Entry>, place: usize, removed: usize, c
     }
 }
 
-// Takes the only entry of a place out, and shifts the later ones, for as many as come.
+// The same of one place, which one entry has.
 fn take_one(entries: &mut Vec<Entry>, place: usize, coming: usize)
     requires one { length (filter (stays place 1) entries.old.items) + 1 ≡ vec_len entries.old }
     requires low { All (λ e. e.place + coming < 2 ^ 64 + 1) entries.old.items }
@@ -148,7 +148,7 @@ fn remove_at(entries: &mut Vec<Entry>, at: usize, place: usize)
     entries.truncate(entries.len() - 1);
 }
 
-// Takes the entries of places out, and shifts the later ones, for as many as come.
+// The same of any places.
 fn take_several(entries: &mut Vec<Entry>, place: usize, removed: usize, coming: usize)
     requires { All (λ e. e.place + coming < 2 ^ 64 + removed) entries.old.items }
     ensures items { entries.new.items

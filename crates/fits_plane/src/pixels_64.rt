@@ -1,7 +1,8 @@
 //! The statistics of a block of 64-bit pixels.
 //!
-//! A pass holds numbers of the pixel's own type, and counts as wide. The sum of all pixels comes from
-//! their total without signs, and what is blank is taken off it at the end.
+//! A pass holds numbers of the pixel's own type, and counts as wide. The sum of the pixels of a full
+//! block comes from their total without signs; those of a block that is filled in part are added up
+//! by themselves. What is blank is taken off at the end.
 ghost use Rattle.std.specs.Prelude.{◌≡◌, ◌≢◌, ◌≤◌, ◌<◌, ℕ, pos, int_lt, if◌then◌else◌, ◌*◌, ◌+◌, ◌/◌, length, Some, None, unsigned_abs};
 ghost use Rattle.fits_plane.specs.Pixels.{pixel, pixels};
 ghost use Rattle.fits_plane.specs.Statistics.{statistics, sum_of};
