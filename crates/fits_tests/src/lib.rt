@@ -22,6 +22,8 @@ mod planned;
 #[cfg(test)]
 mod reading;
 #[cfg(test)]
+mod rows;
+#[cfg(test)]
 mod shapes;
 #[cfg(test)]
 mod sums;
