@@ -73,11 +73,7 @@ fn letters_go_and_others_come(rt: HostRuntime) -> Result<(), Fail> {
     Ok(())
 }
 
-fn check_move<R: Abort>(
-    rt: &R,
-    alloc: Global,
-    case: &(usize, usize, &[u8]),
-) -> Result<(), Fail> {
+fn check_move<R: Abort>(rt: &R, alloc: Global, case: &(usize, usize, &[u8])) -> Result<(), Fail> {
     let (from, to, wanted) = *case;
     let mut letters = row(alloc, LETTERS)?;
     let mut slots = Slotted::of(alloc, row(alloc, LETTERS)?)?;
