@@ -37,6 +37,7 @@ total_in-few [] small = omega arith
 total_in-few (note ∷ notes) small =
     omega (arith, small 0 note (omega arith), total_in-few notes (All-tail IsSmall note notes small), sum_by-cons (λ (note : Note). note.total) note notes)
 
+-- those of two lists, added up
 total_in-both : (xs ys : List Note) → total_in (xs ++ ys) ≡ total_in xs + total_in ys
 total_in-both xs ys = sum_by-append (λ (note : Note). note.total) xs ys
 
