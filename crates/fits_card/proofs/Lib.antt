@@ -1,6 +1,7 @@
 pub mod ChangeLemmas
 pub mod CutLemmas
 pub mod EmitLemmas
+pub mod FillLemmas
 pub mod HeaderLemmas
 pub mod HeaderReadingLemmas
 pub mod IntakeLemmas

@@ -1,6 +1,7 @@
 pub mod Card
 pub mod CardList
 pub mod Change
+pub mod Fill
 pub mod Header
 pub mod HeaderReading
 pub mod HeaderSteps

@@ -1,10 +1,10 @@
-ghost use Rattle.std.specs.Prelude.{◌≡◌, ◌*◌, ◌^◌, ◌≤◌, vec_capacity, replicate};
+ghost use Rattle.std.specs.Prelude.{◌≡◌, ◌*◌, ◌^◌, ◌≤◌};
 ghost use Rattle.fits_card.specs.declared.card.TheConstants.{CARD_LEN};
-ghost use Rattle.fits_card.specs.declared.card_list.TheConstants.{LONGEST_FILL};
-ghost use Rattle.fits_card.specs.Header.{fill_length, header_length};
+ghost use Rattle.fits_card.specs.Header.{header_length};
 
 use crate::card::{CARD_LEN, Card};
 use crate::count::Count;
+use crate::fill::{Fill, fill_len};
 use crate::sink::Sink;
 use crate::slotted::Slotted;
 use crate::slotted_cards::{splice_cards, write_cards};
@@ -17,9 +17,6 @@ use std::marker::Model;
 /// How many bytes a FITS block has (FITS Standard 4.0, section 3.1).
 pub const BLOCK_LEN: usize = 2880;
 
-/// The longest fill: the block of an END that stands first in it, without END.
-pub(crate) const LONGEST_FILL: usize = 2800;
-
 /// A header that takes edits: its cards, its END card and the fill of its last block.
 ///
 /// Places count from 1 and don't count END. Contracts see the header, how many cards were read so
@@ -28,41 +25,39 @@ pub(crate) const LONGEST_FILL: usize = 2800;
 pub struct CardList {
     pub(crate) cards: Slotted<Card>,
     pub(crate) end: Card,
-    // It has room for the longest fill, so that no edit asks for memory here.
-    pub(crate) fill: Vec<u8>,
+    pub(crate) fill: Fill,
     pub(crate) reads: Count,
     // How many more cards have reserved room.
     pub(crate) room: usize,
 }
 
 impl Model for CardList {
-    ghost use Rattle.std.specs.Prelude.{◌≤◌, vec_capacity};
-    ghost use Rattle.fits_card.specs.declared.card_list.TheConstants.{LONGEST_FILL};
+    ghost use Rattle.std.specs.Prelude.{◌≤◌};
     ghost use Rattle.fits_card.specs.CardList.{CardStore};
+    ghost use Rattle.fits_card.specs.Fill.{fill_bytes};
     ghost use Rattle.fits_card.specs.Header.{IsHeader};
 
     ghost Value = { CardStore };
 
     ghost view = { λ list. record {
-      header = record { cards = list.cards.items; end = list.end; fill = list.fill.items };
+      header = record { cards = list.cards.items; end = list.end; fill = fill_bytes list.fill };
       reads = list.reads.total;
       room = list.room;
     } };
 
     ghost invariant = { λ list. record {
       card_room : list.room ≤ list.cards.room;
-      fill_room : LONGEST_FILL ≤ vec_capacity list.fill;
       whole : IsHeader (record {
         cards = list.cards.items;
         end = list.end;
-        fill = list.fill.items;
+        fill = fill_bytes list.fill;
       });
     } };
 }
 
 impl CardList {
     ghost use Rattle.std.specs.Prelude.{◌≡◌, ◌+◌, ◌-◌, ◌*◌, ◌^◌, ◌≤◌, ◌<◌, [], ◌∷◌, length, slice_index_or, vec_capacity, All, IfOk, IsOk, OnOk, OnErr};
-    ghost use Rattle.fits_card.specs.declared.card_list.TheConstants.{LONGEST_FILL};
+    ghost use Rattle.fits_card.specs.Fill.{fill_bytes};
     ghost use Rattle.fits_card.specs.Stream.{Prints, PrintsFront};
     ghost use Rattle.fits_card.specs.Card.{IsEnd};
     ghost use Rattle.fits_card.specs.declared.card.TheConstants.{CARD_LEN};
@@ -70,17 +65,16 @@ impl CardList {
     ghost use Rattle.fits_card.specs.Change.{spliced, moved};
     ghost use Rattle.fits_card.specs.Header.{IsHeader, header_bytes, with_cards, is_end_blank, is_fill_blank};
 
-    // The header of these cards, with END and a fill that has room.
+    // The header of these cards, with END and its fill.
     pub(crate) fn of(
         alloc: Global,
         cards: Vec<Card>,
         end: Card,
-        fill: Vec<u8>,
+        fill: Fill,
     ) -> Result<CardList, AllocError>
-        requires whole { IsHeader (record { cards = cards.items; end = end; fill = fill.items }) }
-        requires room { LONGEST_FILL ≤ vec_capacity fill }
+        requires { IsHeader (record { cards = cards.items; end = end; fill = fill_bytes fill }) }
         ensures header { IfOk result (λ list. list.header
-            ≡ record { cards = cards.items; end = end; fill = fill.items }) }
+            ≡ record { cards = cards.items; end = end; fill = fill_bytes fill }) }
         ensures unread { IfOk result (λ list. list.reads ≡ 0) }
     {
         Ok(CardList {
@@ -121,7 +115,7 @@ impl CardList {
     pub fn fill(&self) -> &[u8]
         ensures { result.now ≡ self.now.header.fill }
     {
-        &self.fill
+        self.fill.bytes()
     }
 
     /// Whether END has spaces alone after its name (FITS Standard 4.0, section 4.4.1).
@@ -136,7 +130,7 @@ impl CardList {
     pub fn fill_blank(&self) -> bool
         ensures { result ≡ is_fill_blank self.now.header }
     {
-        are_spaces(&self.fill)
+        self.fill.is_blank()
     }
 
     /// The card at a place. The read is counted.
@@ -190,7 +184,7 @@ impl CardList {
         let _few = self.cards.len();
         splice_cards(&mut self.cards, place, removed, cards);
         self.room = self.room + removed - cards.len();
-        make_blank(&mut self.fill, self.cards.len());
+        self.fill = Fill::blank(self.cards.len());
     }
 
     /// Puts a card at a place, before the one that stands there.
@@ -232,7 +226,7 @@ impl CardList {
         ensures work { self.new.reads ≡ self.old.reads }
     {
         self.cards.move_item(from, to);
-        make_blank(&mut self.fill, self.cards.len());
+        self.fill = Fill::blank(self.cards.len());
     }
 
     /// Writes the cards, END and the fill. Each card's read is counted.
@@ -252,7 +246,7 @@ impl CardList {
     {
         write_cards(&self.cards, &mut self.reads, sink)?;
         write_all(sink, self.end.bytes())?;
-        write_all(sink, &self.fill)?;
+        write_all(sink, self.fill.bytes())?;
         Ok(())
     }
 }
@@ -263,23 +257,4 @@ pub fn header_len(cards: usize) -> usize
     ensures { result ≡ header_length cards }
 {
     CARD_LEN * (cards + 1) + fill_len(cards)
-}
-
-/// How many bytes of fill follow END after so many cards.
-#[tactic(auto, using(crate::proofs::HeaderLemmas::fill_steps))]
-pub(crate) fn fill_len(cards: usize) -> usize
-    ensures value { result ≡ fill_length cards }
-    ensures within { result ≤ LONGEST_FILL }
-{
-    CARD_LEN * (35 - cards % 36)
-}
-
-// The spaces that follow END after so many cards.
-fn make_blank(fill: &mut Vec<u8>, cards: usize)
-    requires { LONGEST_FILL ≤ vec_capacity fill.old }
-    ensures spaces { fill.new.items ≡ replicate (fill_length cards) 32 }
-    ensures room { LONGEST_FILL ≤ vec_capacity fill.new }
-{
-    fill.clear();
-    let _ = fill.resize(fill_len(cards), b' ');
 }

@@ -1,12 +1,12 @@
 //! The header at the front of bytes.
 ghost use Rattle.std.specs.Prelude.{◌≡◌, ◌+◌, ◌*◌, ◌≤◌, ◌↔◌, length, drop, IfOk, IfSome, IfNone, IsErrOf, IsTrue, vec_capacity};
 ghost use Rattle.fits_card.specs.declared.card.TheConstants.{CARD_LEN};
-ghost use Rattle.fits_card.specs.declared.card_list.TheConstants.{LONGEST_FILL};
 ghost use Rattle.fits_card.specs.Header.{header_bytes, header_length, IsHeaderOf, HasNoHeader};
 ghost use Rattle.fits_card.specs.HeaderSteps.{header_at, piece, pieces, IsEndPlace, HasNoEnd};
 
 use crate::card::{CARD_LEN, Card};
-use crate::card_list::{CardList, LONGEST_FILL, fill_len};
+use crate::card_list::CardList;
+use crate::fill::{Fill, fill_len};
 use std::alloc::{AllocError, Global};
 use thiserror::Error;
 
@@ -48,7 +48,7 @@ pub fn cut_header(alloc: Global, bytes: &[u8]) -> Result<(CardList, usize), Head
         return Err(HeaderFault::NoEnd);
     };
     let cards = cards_of(alloc, bytes, front.count)?;
-    let fill = fill_of(alloc, front.fill)?;
+    let fill = Fill::of(alloc, front.fill)?;
     let header = CardList::of(alloc, cards, card_at(bytes, front.count), fill)?;
     Ok((header, front.cards.len() + front.fill.len()))
 }
@@ -121,14 +121,4 @@ fn cards_of(alloc: Global, bytes: &[u8], count: usize) -> Result<Vec<Card>, Allo
         cards.push(card_at(bytes, k))?;
     }
     Ok(cards)
-}
-
-// The bytes of a fill, with room for the longest.
-pub(crate) fn fill_of(alloc: Global, bytes: &[u8]) -> Result<Vec<u8>, AllocError>
-    ensures bytes { IfOk result (λ fill. fill.items ≡ bytes.now) }
-    ensures room { IfOk result (λ fill. LONGEST_FILL ≤ vec_capacity fill) }
-{
-    let mut fill = Vec::with_capacity(alloc, LONGEST_FILL)?;
-    fill.extend_from_slice(bytes)?;
-    Ok(fill)
 }

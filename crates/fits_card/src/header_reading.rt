@@ -9,7 +9,8 @@ ghost use Rattle.fits_card.specs.Intake.{supply, IsSpent, TakesAfter};
 
 use crate::card::{CARD_LEN, Card};
 use crate::card_list::{BLOCK_LEN, CardList};
-use crate::cut::{card_at, end_place, fill_of};
+use crate::cut::{card_at, end_place};
+use crate::fill::Fill;
 use crate::intake::Intake;
 use crate::reading::ReadFault;
 use crate::source::Source;
@@ -128,6 +129,6 @@ fn ended_list(
     ensures unread { IfOk result (λ list. list.reads ≡ 0) }
 {
     let (_, fill) = block.split_at(CARD_LEN * (count + 1));
-    let fill = fill_of(alloc, fill)?;
+    let fill = Fill::of(alloc, fill)?;
     CardList::of(alloc, cards, card_at(block, count), fill)
 }

@@ -2,6 +2,7 @@ ghost use Rattle.std.specs.Prelude.{◌≡◌, ◌≤◌, ◌<◌, ◌+◌, ◌-
 ghost use Rattle.std.specs.List.{range_with_len};
 ghost use Rattle.fits_card.specs.Order.{AreSlots, turned};
 
+use crate::room::reserve_room;
 use std::alloc::{AllocError, Global};
 use std::marker::Model;
 
@@ -88,7 +89,7 @@ impl Order {
         ensures room { self.old.room ≤ self.new.room }
     {
         let free = self.slots.len() - self.used;
-        self.slots.reserve(additional.saturating_sub(free))
+        reserve_room(&mut self.slots, additional.saturating_sub(free))
     }
 
     /// From a place on, so many items go, and so many stand there instead: which slots they have is

@@ -1,6 +1,7 @@
 ghost use Rattle.std.specs.Prelude.{◌≡◌, ◌≤◌, ◌+◌, ◌-◌, ◌++◌, replicate, vec_len, vec_capacity};
 
 use crate::order::Order;
+use crate::room::reserve_room;
 use std::alloc::{AllocError, Global};
 use std::marker::Model;
 
@@ -79,7 +80,7 @@ impl<T: Copy> Slotted<T> {
     {
         self.order.reserve(additional)?;
         let free = self.order.count() - self.order.len();
-        self.items.reserve(additional.saturating_sub(free))
+        reserve_room(&mut self.items, additional.saturating_sub(free))
     }
 
     /// From a place on, so many items go, and so many stand there instead, whatever they are.

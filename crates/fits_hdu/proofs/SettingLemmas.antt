@@ -15,7 +15,7 @@ use Rattle.fits_card.specs.Change.{cards_after, spliced}
 use Rattle.fits_card.specs.Header.{card_at}
 use Rattle.fits_value.specs.Says.{card_says, card_string, ends_in_ampersand, first_chain_length, is_continue, link_before, link_count, chain_length, link_says, links_after, links_of, said_string, string_cards}
 use Rattle.fits_rules.specs.Lead.{is_value_of, lead_card, lead_place}
-use Rattle.fits_hdu.specs.Keyword.{keyword_cards, replacing}
+use Rattle.fits_hdu.specs.Keyword.{keyword_cards, own_count, replacing}
 use Rattle.fits_hdu.specs.Work.{keyword_reads}
 use Rattle.fits_hdu.specs.declared.keyword_cards.KeywordCards.{KeywordCards}
 use Rattle.fits_hdu.proofs.KeywordLemmas.{keyword_at, keyword_nowhere, keyword_within, lead_reads}
@@ -375,11 +375,7 @@ reads_by_chain cards name = elim (leads name cards) [
       lead_reads cards name (s.0 + 1) (sym (place_there name cards s.0 w)) ∙ (ap (λ n. n + 1) (chain_there cards s.0 (w.card ∷ w.others) w.parts) ∙ sym (ap (λ from. option_map_or (λ n. n + 1) (chain_from from) 0) w.found))
 ]
 
--- how many cards of a keyword there are
-abbrev pub own_count : List (List ℕ) → List ℕ → ℕ
-own_count cards name = option_map_or (λ (at : KeywordCards). at.count) (keyword_cards cards name) 0
-
--- the same by its chain
+-- how many cards a keyword has, by its chain
 pub count_by_chain : (cards : List (List ℕ)) (name : List ℕ) → own_count cards name ≡ option_map_or (λ n. 1 + (n - 1)) (chain_from (from_lead name cards)) 0
 count_by_chain cards name = elim (leads name cards) [
   | inl w ↦ ap (λ at. option_map_or (λ (at : KeywordCards). at.count) at 0) (keyword_nowhere cards name (sym (place_nowhere name cards w))) ∙ sym (ap (λ from. option_map_or (λ n. 1 + (n - 1)) (chain_from from) 0) w.none)

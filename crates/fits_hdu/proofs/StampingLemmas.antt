@@ -18,7 +18,7 @@ use Rattle.fits_hdu.proofs.ChangeLemmas.{hdu-changed}
 use Rattle.fits_codes.specs.HeaderCodes.{blank_said}
 use Rattle.fits_rules.specs.Class.{is_primary}
 use Rattle.fits_rules.specs.Image.{image_bits}
-use Rattle.fits_rules.specs.Lead.{lead_card}
+use Rattle.fits_rules.specs.Lead.{lead_card, lead_place}
 use Rattle.fits_rules.specs.Reads.{in_64_bits, integer_said}
 use Rattle.fits_rules.specs.Shape.{shape_of}
 use Rattle.fits_rules.specs.declared.array_shape.Shape.{Shape}
@@ -29,7 +29,7 @@ use Rattle.fits_sum.specs.Words.{word_total}
 use Rattle.fits_sum.proofs.SumLemmas.{ones_complement-add}
 use Rattle.fits_sum.proofs.WordLemmas.{totals_add}
 use Rattle.fits_hdu.specs.Hdu.{HduParts, IsHdu, hdu_after, hdu_bytes, keeps_shape}
-use Rattle.fits_hdu.specs.Keyword.{keyword_cards, replacing}
+use Rattle.fits_hdu.specs.Keyword.{keyword_cards, own_count, replacing}
 use Rattle.fits_hdu.specs.Layout.{blank_number, layout_by, layout_of}
 use Rattle.fits_hdu.specs.Stamp.{IsOneCard, IsSumName, stamped, with_datasum, with_keyword, with_string}
 use Rattle.fits_hdu.specs.State.{HduState, PixelWork, ReadsUpTo}
@@ -37,7 +37,7 @@ use Rattle.fits_hdu.specs.Sums.{data_sum, hdu_sum}
 use Rattle.fits_hdu.specs.Work.{FollowsBlank, apply_reads, keyword_reads, stamp_count_reads, stamp_reads}
 use Rattle.fits_hdu.specs.declared.keyword_cards.KeywordCards.{KeywordCards}
 use Rattle.fits_hdu.proofs.KeywordLemmas.{keyword_within}
-use Rattle.fits_hdu.proofs.SettingLemmas.{IsKept, IsSet, chain_alone, chain_from, count_by_chain, from_lead, lead_card_is, own_count, reads_by_chain, set_is, set_keeps, set_leads}
+use Rattle.fits_hdu.proofs.SettingLemmas.{IsKept, IsSet, chain_alone, chain_from, count_by_chain, from_lead, lead_card_is, reads_by_chain, set_is, set_keeps, set_leads}
 use Rattle.fits_hdu.proofs.StampLemmas.{IsLow, set_keeps_shape}
 use Rattle.fits_hdu.proofs.StampTextLemmas.{IsPlain, decimal_plain, plain_card, plain_ends, plain_named, plain_size, plain_string, plain_valued, plain_written, text_plain, zeros_plain}
 
@@ -86,8 +86,26 @@ pub set_length : (cards : List (List ℕ)) (name card : List ℕ) → length (se
 set_length cards name card = replacing_length cards name (card ∷ []) (keyword_cards cards name) refl
 
 -- so there is room
-pub set_room : (cards : List (List ℕ)) (name : List ℕ) (new : List (List ℕ)) (old : Option KeywordCards) (change : Change) (count room : ℕ) → count ≡ length cards → old ≡ keyword_cards cards name → change ≡ replacing count old new → IsOneCard name new → 1 ≤ room → length (cards_after cards change) ≤ length cards + room
-set_room cards name new old change count room n e f one some = let size = ap length one.is in rw (f, n) (omega (arith, replacing_length cards name new old (sym e), size, some))
+pub set_room : (cards : List (List ℕ)) (name : List ℕ) (new : List (List ℕ)) (old : Option KeywordCards) (change : Change) (count room : ℕ) → count ≡ length cards → old ≡ keyword_cards cards name → change ≡ replacing count old new → IsOneCard name new → 1 ≤ room + own_count cards name → length (cards_after cards change) ≤ length cards + room
+set_room cards name new old change count room n e f one some = let size = ap length one.is in rw (f, n) (omega (arith, replacing_length cards name new old (sym e), size, some, ap (λ at. option_map_or (λ (at : KeywordCards). at.count) at 0) e))
+
+-- and so much is left of it
+pub set_left : (cards : List (List ℕ)) (name : List ℕ) (new : List (List ℕ)) (old : Option KeywordCards) (change : Change) (count room room' : ℕ) (cards' : List (List ℕ)) → count ≡ length cards → old ≡ keyword_cards cards name → change ≡ replacing count old new → IsOneCard name new
+    → cards' ≡ cards_after cards change → room' + length cards' ≡ room + length cards → room' + 1 ≡ room + own_count cards name
+set_left cards name new old change count room room' cards' n e f one is left =
+    let size = ap length one.is in
+    let now : cards' ≡ set_cards cards name new = rw (← n, ← e, ← f) is in
+    omega (arith, replacing_length cards name new (keyword_cards cards name) refl, size, left, ap length now)
+
+-- where there is no lead none has to go
+pub none_own : (cards : List (List ℕ)) (name : List ℕ) → lead_place cards name ≡ None → own_count cards name ≡ 0
+unfolding keyword_cards
+none_own cards name e = rw e refl
+
+-- where there is one, a card goes at least
+pub some_own : (cards : List (List ℕ)) (name : List ℕ) (place : ℕ) → lead_place cards name ≡ Some place → 1 ≤ own_count cards name
+unfolding keyword_cards
+some_own cards name place e = rw e (omega arith)
 
 -- the cards with one instead of a keyword's
 pub set_one : (cards : List (List ℕ)) (name : List ℕ) (new : List (List ℕ)) → (one : IsOneCard name new) → IsSet name cards (set_cards cards name new) one.card
@@ -134,7 +152,7 @@ set_scans cards name new old change count blocks shape shape' cards' work work' 
     let now : cards' ≡ set_cards cards name new = rw (← n, ← e, ← f) is in
     follows.same (rw (now, same) (blank_layout (image_bits shape) shape cards (set_cards cards name new) (ap (option_map (λ card. in_64_bits (integer_said card))) (sym (blank_kept cards name new low one)))))
 
-pub ruleset set_steps = (set_in_range, set_not_end, set_room, set_kept, set_hdu, set_scans)
+pub ruleset set_steps = (set_in_range, set_not_end, set_kept, set_hdu, set_scans)
 
 -- a sum has 32 bits
 sum_small : (total : ℕ) → ones_complement total < 2 ^ 32
@@ -246,6 +264,23 @@ checksum_reads hdu a b first second p q r s =
     ∙ (reads_by_chain (set_cards a.header.cards (codes "DATASUM ") second) (codes "CHECKSUM")
     ∙ ap (λ chain. option_map_or (λ n. n + 1) chain 0) (kept.chain ∙ (ap (λ (h : HduParts). chain_from (from_lead (codes "CHECKSUM") h.header.cards)) q ∙ plain_chain hdu.header.cards (codes "CHECKSUM") zeros first (inr refl) zeros_plain p)))
 
+-- DATASUM has as many cards after CHECKSUM was set
+pub datasum_count : (hdu a : HduParts) (first : List (List ℕ)) → first ≡ plain_card (codes "CHECKSUM") zeros ∷ [] → a ≡ with_keyword (codes "CHECKSUM") (Some first) hdu → own_count a.header.cards (codes "DATASUM ") ≡ own_count hdu.header.cards (codes "DATASUM ")
+datasum_count hdu a first p q =
+    let kept = other_kept hdu.header.cards (codes "CHECKSUM") (codes "DATASUM ") first (inr refl) (inl refl) datasum_other (zeros_one first p) in
+    ap (λ (h : HduParts). own_count h.header.cards (codes "DATASUM ")) q
+    ∙ (count_by_chain (set_cards hdu.header.cards (codes "CHECKSUM") first) (codes "DATASUM ")
+    ∙ (ap (λ chain. option_map_or (λ n. 1 + (n - 1)) chain 0) kept.chain ∙ sym (count_by_chain hdu.header.cards (codes "DATASUM "))))
+
+-- and CHECKSUM has one after both were
+pub checksum_count : (hdu a b : HduParts) (first second : List (List ℕ)) → first ≡ plain_card (codes "CHECKSUM") zeros ∷ [] → a ≡ with_keyword (codes "CHECKSUM") (Some first) hdu
+    → second ≡ plain_card (codes "DATASUM ") (decimal (data_sum hdu)) ∷ [] → b ≡ with_keyword (codes "DATASUM ") (Some second) a → own_count b.header.cards (codes "CHECKSUM") ≡ 1
+checksum_count hdu a b first second p q r s =
+    let kept = other_kept a.header.cards (codes "DATASUM ") (codes "CHECKSUM") second (inl refl) (inr refl) (λ e. datasum_other (sym e)) (datasum_one hdu second r) in
+    ap (λ (h : HduParts). own_count h.header.cards (codes "CHECKSUM")) s
+    ∙ (count_by_chain (set_cards a.header.cards (codes "DATASUM ") second) (codes "CHECKSUM")
+    ∙ ap (λ chain. option_map_or (λ n. 1 + (n - 1)) chain 0) (kept.chain ∙ (ap (λ (h : HduParts). chain_from (from_lead (codes "CHECKSUM") h.header.cards)) q ∙ plain_chain hdu.header.cards (codes "CHECKSUM") zeros first (inr refl) zeros_plain p)))
+
 -- so many cards are read in all
 pub stamp_most : (cards : List (List ℕ)) (m a b n x y z : ℕ) → a ≤ m + x + apply_reads → b ≤ a + y + apply_reads → n ≤ b + z + apply_reads → x ≡ keyword_reads cards (codes "CHECKSUM") → y ≡ keyword_reads cards (codes "DATASUM ") → z ≡ 2 → n ≤ m + stamp_reads cards
 unfolding stamp_reads stamp_count_reads
@@ -337,12 +372,8 @@ stamp_count hdu =
     let third : List (List ℕ) = text ∷ [] in
     let c = with_keyword (codes "CHECKSUM") (Some third) b in
     let is : c ≡ stamped hdu = stamped_by hdu a b c first second third refl refl refl refl refl refl in
-    let kept = other_kept hdu.header.cards (codes "CHECKSUM") (codes "DATASUM ") first (inr refl) (inl refl) datasum_other (zeros_one first refl) in
-    let same : own_count a.header.cards (codes "DATASUM ") ≡ own_count hdu.header.cards (codes "DATASUM ") =
-    count_by_chain a.header.cards (codes "DATASUM ") ∙ (ap (λ chain. option_map_or (λ n. 1 + (n - 1)) chain 0) kept.chain ∙ sym (count_by_chain hdu.header.cards (codes "DATASUM "))) in
-    let later = other_kept a.header.cards (codes "DATASUM ") (codes "CHECKSUM") second (inl refl) (inr refl) (λ e. datasum_other (sym e)) (datasum_one hdu second refl) in
-    let one : own_count b.header.cards (codes "CHECKSUM") ≡ 1 =
-    count_by_chain b.header.cards (codes "CHECKSUM") ∙ ap (λ chain. option_map_or (λ n. 1 + (n - 1)) chain 0) (later.chain ∙ plain_chain hdu.header.cards (codes "CHECKSUM") zeros first (inr refl) zeros_plain refl) in
+    let same = datasum_count hdu a first refl refl in
+    let one = checksum_count hdu a b first second refl refl refl refl in
     omega (arith, set_length hdu.header.cards (codes "CHECKSUM") zero, set_length a.header.cards (codes "DATASUM ") sum, set_length b.header.cards (codes "CHECKSUM") text, same, one, ap (λ (h : HduParts). length h.header.cards) is)
 
 -- so their number is had by both keywords' cards

@@ -1,6 +1,6 @@
 -- What a keyword says in an HDU, and which cards say it (FITS Standard 4.0, sections 4.1.2 and 4.2.1.2).
 use Rattle.std.specs.Prelude.{◌≡◌, ℕ, ◌+◌, List, Option, None, Some, ok_or, Result, Err, IsOk}
-use Rattle.std.specs.Option.{option_map}
+use Rattle.std.specs.Option.{option_map, option_map_or}
 use Rattle.fits_card.specs.declared.change.Change.{Change}
 use Rattle.fits_card.specs.declared.change.Change.TheVariants.{Splice}
 use Rattle.fits_value.specs.Says.{link_count, long_says}
@@ -31,6 +31,10 @@ with_links cards place = record { place = place; count = 1 + link_count cards pl
 -- where the cards of a keyword stand, if it has a lead (own)
 unfoldable pub keyword_cards : List (List ℕ) → List ℕ → Option KeywordCards
 keyword_cards cards name = option_map (with_links cards) (lead_place cards name)
+
+-- how many cards a keyword has
+abbrev pub own_count : List (List ℕ) → List ℕ → ℕ
+own_count cards name = option_map_or (λ (at : KeywordCards). at.count) (keyword_cards cards name) 0
 
 -- new cards instead of a keyword's among so many; where it has no lead they go after the last
 abbrev pub replacing : ℕ → Option KeywordCards → List (List ℕ) → Change

@@ -1,5 +1,7 @@
 -- The total of a header's words, by the notes of its cards.
-use Rattle.std.proofs.Common.{◌≡◌, ℕ, ◌+◌, ◌-◌, ◌*◌, ◌<◌, ◌≤◌, List, [], ◌∷◌, ◌++◌, All, length, take, drop, get_or, refl, ap, sym, subst, ◌∙◌, arith, suc}
+use Rattle.std.proofs.Common.{◌≡◌, ℕ, ◌+◌, ◌-◌, ◌*◌, ◌/◌, ◌<◌, ◌≤◌, true, nat_eq, List, [], ◌∷◌, ◌++◌, All, length, take, drop, get_or, refl, ap, sym, subst, ◌∙◌, arith, suc}
+use Rattle.std.specs.List.{list_all}
+use Rattle.std.proofs.lemmas.Bool.{and_parts, eqb-true}
 use Rattle.std.proofs.lemmas.List.{drop_at, length-map, length-take-le, take_at, take_more}
 use Rattle.std.proofs.lemmas.List.Elements.{All-append, All-cons, All-nil, All-tail}
 use Rattle.std.proofs.lemmas.List.Sums.{sum_by-append, sum_by-cons, sum_by_push, sum_by-take-drop, sum_by-take-le}
@@ -12,6 +14,19 @@ use Rattle.fits_sum.specs.Words.{word_total}
 use Rattle.fits_sum.proofs.WordLemmas.{word_total-append}
 use Rattle.fits_header.proofs.ChangeLemmas.{All-spliced}
 use Rattle.fits_header.proofs.EntriesLemmas.{parts_of}
+
+-- words of spaces, added up
+pub spaces_total : (bytes : List ℕ) → list_all (nat_eq 32) bytes ≡ true → word_total bytes ≡ 538976288 * (length bytes / 4)
+spaces_total [] all = refl
+spaces_total (a ∷ []) all = refl
+spaces_total (a ∷ b ∷ []) all = refl
+spaces_total (a ∷ b ∷ c ∷ []) all = refl
+spaces_total (a ∷ b ∷ c ∷ d ∷ rest) all =
+    let one = and_parts (nat_eq 32 a) (list_all (nat_eq 32) (b ∷ c ∷ d ∷ rest)) all in
+    let two = and_parts (nat_eq 32 b) (list_all (nat_eq 32) (c ∷ d ∷ rest)) one.1 in
+    let three = and_parts (nat_eq 32 c) (list_all (nat_eq 32) (d ∷ rest)) two.1 in
+    let four = and_parts (nat_eq 32 d) (list_all (nat_eq 32) rest) three.1 in
+    omega (arith, eqb-true 32 a one.0, eqb-true 32 b two.0, eqb-true 32 c three.0, eqb-true 32 d four.0, spaces_total rest four.1)
 
 -- one more note counts
 pub total_in-more : (notes : List Note) (i : ℕ) (note : Note) → i < length notes → note ≡ get_or notes i note → total_in (take (i + 1) notes) ≡ total_in (take i notes) + note.total

@@ -1,5 +1,6 @@
 use crate::counting::count_all;
 use crate::counts::Counts;
+use crate::fill_total::fill_total;
 use crate::finding::Finding;
 use crate::findings::{codes_at, findings_of, is_link};
 use crate::header_marks::header_mark_of;
@@ -12,7 +13,7 @@ use crate::survey::{reserve_surroundings, survey};
 use fits_card::{Card, CardList, Change, Name, Sink};
 use fits_codes::{CodeSet, judge_header_mark};
 use fits_rules::{Shape, ShapeFault, keeps_shape, shape};
-use fits_sum::{card_total, words_total};
+use fits_sum::card_total;
 use fits_value::{Text, Value, link_count, long_value};
 use std::alloc::{AllocError, Global};
 use std::io;
@@ -146,8 +147,7 @@ impl Header {
         // So few cards have a total that 64 bits hold.
         let _few = self.cards.len();
         let end = card_total(&self.cards.end().0);
-        let fill = words_total(self.cards.fill());
-        self.notes.total() + end + fill
+        self.notes.total() + end + fill_total(&self.cards)
     }
 
     /// The card at a place. The read is counted.

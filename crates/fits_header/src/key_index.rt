@@ -8,7 +8,7 @@ use crate::notes::Notes;
 use crate::numbers::{names_of, number_of};
 use crate::repeats::mark_repeats;
 use crate::surrounding::Surrounding;
-use fits_card::{Card, CardList, Name};
+use fits_card::{Card, CardList, Name, reserve_room};
 use std::alloc::{AllocError, Global};
 use std::marker::Model;
 
@@ -142,7 +142,7 @@ impl KeyIndex {
         ensures entries { self.new.entries ≡ self.old.entries }
         ensures room { self.old.room ≤ self.new.room }
     {
-        self.entries.reserve(additional)
+        reserve_room(&mut self.entries, additional)
     }
 
     /// From a place on, so many cards go, and these stand there instead. No card of the store is

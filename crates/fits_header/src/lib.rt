@@ -8,6 +8,7 @@ mod counting;
 mod counts;
 mod entries;
 mod entry;
+mod fill_total;
 mod finding;
 mod findings;
 mod header;

@@ -8,6 +8,7 @@ use crate::key_index::KeyIndex;
 use crate::links::mark_links;
 use crate::notes::Notes;
 use crate::surrounding::Surrounding;
+use fits_card::reserve_room;
 use std::alloc::AllocError;
 
 /// Finds what stands round the cards, unless that is there. It reads no card.
@@ -54,9 +55,9 @@ pub(crate) fn reserve_surroundings(
     ensures room { vec_capacity surroundings.old ≤ vec_capacity surroundings.new }
 {
     if surroundings.is_empty() {
-        return surroundings.reserve(count + additional);
+        return reserve_room(surroundings, count + additional);
     }
-    surroundings.reserve(additional)
+    reserve_room(surroundings, additional)
 }
 
 // Marks what stands round each card.

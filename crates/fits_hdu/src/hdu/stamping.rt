@@ -17,10 +17,11 @@ const DATASUM: Name = Name(*b"DATASUM ");
 const CHECKSUM: Name = Name(*b"CHECKSUM");
 
 impl Hdu {
-    ghost use Rattle.std.specs.Prelude.{◌≡◌, ◌≤◌, ◌+◌, ◌^◌, length, Ok, Some, OnOk, OnErr};
+    ghost use Rattle.std.specs.Prelude.{◌≡◌, ◌≤◌, ◌+◌, ◌-◌, ◌^◌, length, Ok, Some, OnOk, OnErr};
     ghost use Rattle.fits_rules.specs.Class.{is_primary};
     ghost use Rattle.fits_rules.specs.Shape.{shape_of};
     ghost use Rattle.fits_hdu.specs.Hdu.{hdu_bytes};
+    ghost use Rattle.fits_hdu.specs.Keyword.{own_count};
     ghost use Rattle.fits_hdu.specs.Stamp.{stamped, with_keyword, IsOneCard, IsSumName};
     ghost use Rattle.fits_hdu.specs.State.{ReadsUpTo};
     ghost use Rattle.fits_hdu.specs.Sums.{hdu_sum};
@@ -61,8 +62,7 @@ impl Hdu {
         let digits = datasum_text(alloc, self.datasum())?;
         let datasum = one_card(alloc, sum_card(&DATASUM, &digits))?;
         let mut checksum = one_card(alloc, sum_card(&CHECKSUM, &[b'0'; 16]))?;
-        // Each of the three changes asks for room for one card.
-        self.reserve(3)?;
+        self.reserve(self.missing(&CHECKSUM) + self.missing(&DATASUM))?;
         self.set_card(&CHECKSUM, Cards::new(zeros));
         self.set_card(&DATASUM, Cards::new(datasum));
         checksum[0] = sum_card(&CHECKSUM, &encode(self.sum()));
@@ -81,15 +81,26 @@ impl Hdu {
         fold(u64::from(header) + u64::from(self.datasum()))
     }
 
+    // How many cards come where a keyword is set to one.
+    fn missing(&self, name: &Name) -> usize
+        ensures { result ≡ 1 - own_count self.now.hdu.header.cards name.now }
+    {
+        match self.header.lead(name) {
+            Some(_) => 0,
+            None => 1,
+        }
+    }
+
     // Sets one of the two keywords to one card. It takes no memory, and scans no block.
     #[tactic(auto, using(crate::proofs::StampingLemmas::set_steps))]
     fn set_card(&mut self, name: &Name, new: Cards)
         requires keyword { IsSumName name.now }
         requires one { IsOneCard name.now new }
-        requires room { 1 ≤ self.old.room }
+        requires room { 1 ≤ self.old.room + own_count self.old.hdu.header.cards name.now }
         ensures hdu { self.new.hdu ≡ with_keyword name.now (Some new) self.old.hdu }
         ensures shape { self.new.shape ≡ self.old.shape }
-        ensures room { self.old.room ≤ self.new.room + 1 }
+        ensures room { self.new.room + 1
+            ≡ self.old.room + own_count self.old.hdu.header.cards name.now }
         ensures pixel_work { self.new.pixel_work ≡ self.old.pixel_work }
         ensures least { self.old.reads ≤ self.new.reads }
         ensures work { self.new.reads

@@ -3,10 +3,11 @@ use Rattle.std.proofs.lemmas.Result.{err_from_is_err_and}
 use Rattle.fits_rules.specs.Class.{is_primary}
 use Rattle.fits_sum.specs.ChecksumText.{checksum_text}
 use Rattle.fits_hdu.specs.Hdu.{HduParts}
+use Rattle.fits_hdu.specs.Keyword.{own_count}
 use Rattle.fits_hdu.specs.Stamp.{with_keyword}
 use Rattle.fits_hdu.specs.Work.{keyword_reads}
 use Rattle.fits_hdu.proofs.StampTextLemmas.{plain_card}
-use Rattle.fits_hdu.proofs.StampingLemmas.{checksum_reads, datasum_one, datasum_reads, stamp_bytes, stamp_most, stamped_by, text_one, zeros_one}
+use Rattle.fits_hdu.proofs.StampingLemmas.{checksum_count, checksum_reads, datasum_count, datasum_one, datasum_reads, stamp_bytes, stamp_most, stamped_by, text_one, zeros_one}
 use Rattle.fits_hdu.proofs.hdu.Hdu.stamp.Goals as goal
 
 pub set_card-requires-2-clause-one : goal.set_card-requires-2-clause-one
@@ -26,7 +27,12 @@ pub set_card-requires-3-clause-one : goal.set_card-requires-3-clause-one
 set_card-requires-3-clause-one c = text_one c.set_card-2.new.self.hdu c.new-3.result (c.new-3.ensures ∙ (ap (λ cards. set cards 0 c.sum_card-4.result) c.in_ok-checksum.ensures ∙ ap (λ (card : List ℕ). card ∷ []) (c.sum_card-4.ensures ∙ ap (plain_card (codes "CHECKSUM")) (c.encode.ensures ∙ ap checksum_text c.sum.ensures))))
 
 pub set_card-requires-3-clause-room : goal.set_card-requires-3-clause-room
-set_card-requires-3-clause-room c = omega (arith, c.in_ok-reserve.ensures.ok, c.set_card.ensures.room, c.set_card-2.ensures.room)
+set_card-requires-3-clause-room c =
+    let zeros = c.new.ensures ∙ (c.in_ok-zeros.ensures ∙ ap (λ (card : List ℕ). card ∷ []) c.sum_card.ensures) in
+    let digits = c.deref.ensures.value ∙ (c.in_ok-digits.ensures.ok ∙ ap decimal c.datasum.ensures) in
+    let sum = c.new-2.ensures ∙ (c.in_ok-datasum.ensures ∙ ap (λ (card : List ℕ). card ∷ []) (c.sum_card-2.ensures ∙ ap (plain_card (codes "DATASUM ")) digits)) in
+    let first = c.set_card.ensures.hdu ∙ ap (λ (hdu : HduParts). with_keyword (codes "CHECKSUM") (Some c.new.result) hdu) c.reserve.ensures.hdu in
+    omega (arith, checksum_count c.args.self.now.hdu c.set_card.new.self.hdu c.set_card-2.new.self.hdu c.new.result c.new-2.result zeros first sum c.set_card-2.ensures.hdu)
 
 pub returns-clause-ok : goal.returns-clause-ok
 returns-clause-ok c =
@@ -59,10 +65,16 @@ pub set_card-requires-clause-one : goal.set_card-requires-clause-one
 set_card-requires-clause-one c = zeros_one c.new.result (c.new.ensures ∙ (c.in_ok-zeros.ensures ∙ ap (λ (card : List ℕ). card ∷ []) c.sum_card.ensures))
 
 pub set_card-requires-clause-room : goal.set_card-requires-clause-room
-set_card-requires-clause-room c = omega (arith, c.in_ok-reserve.ensures.ok)
+set_card-requires-clause-room c =
+    let same = ap (λ (hdu : HduParts). own_count hdu.header.cards (codes "CHECKSUM")) c.reserve.ensures.hdu in
+    omega (arith, c.in_ok-reserve.ensures.ok, c.missing.ensures, same)
 
 pub set_card-requires-2-clause-room : goal.set_card-requires-2-clause-room
-set_card-requires-2-clause-room c = omega (arith, c.in_ok-reserve.ensures.ok, c.set_card.ensures.room)
+set_card-requires-2-clause-room c =
+    let zeros = c.new.ensures ∙ (c.in_ok-zeros.ensures ∙ ap (λ (card : List ℕ). card ∷ []) c.sum_card.ensures) in
+    let first = c.set_card.ensures.hdu ∙ ap (λ (hdu : HduParts). with_keyword (codes "CHECKSUM") (Some c.new.result) hdu) c.reserve.ensures.hdu in
+    let same = ap (λ (hdu : HduParts). own_count hdu.header.cards (codes "CHECKSUM")) c.reserve.ensures.hdu in
+    omega (arith, c.in_ok-reserve.ensures.ok, c.missing.ensures, c.missing-2.ensures, same, c.set_card.ensures.room, datasum_count c.args.self.now.hdu c.set_card.new.self.hdu c.new.result zeros first)
 
 pub returns-clause-shape : goal.returns-clause-shape
 returns-clause-shape c = c.set_card-3.ensures.shape ∙ (c.set_card-2.ensures.shape ∙ (c.set_card.ensures.shape ∙ c.reserve.ensures.shape))
