@@ -1,19 +1,21 @@
 -- An index through changes of the cards.
-use Rattle.std.proofs.Common.{◌≡◌, ℕ, ◌+◌, ◌-◌, ◌<◌, ◌≤◌, Bool, true, false, cond, List, [], ◌∷◌, ◌++◌, length, take, drop, map, filter, get_or, ap, subst, sym, ◌∙◌, arith, length-append, length-drop}
+use Rattle.std.proofs.Common.{◌≡◌, ℕ, ◌+◌, ◌-◌, ◌<◌, ◌≤◌, Bool, true, false, cond, List, [], ◌∷◌, ◌++◌, length, take, drop, map, filter, get_or, ap, subst, sym, ◌∙◌, append_assoc, arith, length-append, length-drop}
 use Rattle.std.specs.List.{All}
 use Rattle.std.proofs.lemmas.List.{length-map, length-take-le, drop_more}
 use Rattle.std.proofs.lemmas.List.Elements.{All-nil, All-cons, All-tail, All-filter, All-append, All-take, All-drop}
 use Rattle.std.proofs.lemmas.Bool.Decides.{nat_tests}
+use Rattle.std.proofs.lemmas.Simd.{map-map}
 use Rattle.fits_card.specs.Change.{spliced, only_item, moved}
 use Rattle.fits_header.specs.declared.entry.Entry.{Entry}
 use Rattle.fits_header.specs.Findings.{card_of}
 use Rattle.fits_card.specs.Card.{keyword_name}
-use Rattle.fits_header.specs.Names.{IsName}
-use Rattle.fits_header.specs.Index.{is_named, entry_of, entries_from, AreSame, IsIndex, IsIndexOf, IsSortedIndex, stays, shifted, added}
+use Rattle.fits_header.specs.Names.{AreNamed, IsName}
+use Rattle.fits_header.specs.Index.{is_named, entry_of, entries_from, AreSame, IsIndex, IsIndexOf, IsSortedIndex, stays, shifted, turned, added}
 use Rattle.fits_header.proofs.IndexLemmas.{same-added, sorted-shifted}
 use Rattle.fits_header.proofs.EntriesLemmas.{entries-append, entries-low, entries-high, same-taken, is_low, is_high}
 use Rattle.fits_header.proofs.CountLemmas.{length-index, length-two}
 use Rattle.fits_header.proofs.FilterLemmas.{filter_all}
+use Rattle.fits_header.proofs.ShiftLemmas.{pass_written}
 
 -- what holds of all with one more holds of all
 kept_all : (P : Entry → Type 0) (b : Bool) (e : Entry) (es : List Entry) → All P (cond b (e ∷ es) es) → All P es
@@ -107,6 +109,10 @@ one_stays place e = grind (arith, nat_tests)
 pub all_stay : (place : ℕ) (es : List Entry) → filter (stays place 0) es ≡ es
 all_stay place es = filter_all (stays place 0) es (λ k d l. one_stays place (get_or es k d))
 
+-- so a gap that opens is all that is made of them
+pub none_goes : (place removed coming : ℕ) (es : List Entry) → removed ≡ 0 → map (shifted place 0 coming) es ≡ map (shifted place removed coming) (filter (stays place removed) es)
+none_goes place removed coming es none = rw none (ap (map (shifted place 0 coming)) (sym (all_stay place es)))
+
 -- entries in order stay so where a gap opens
 pub sorted-gap : (es : List Entry) (place : ℕ) → IsSortedIndex es → IsSortedIndex (map (shifted place 0 1) es)
 sorted-gap es place sorted = subst (λ fs. IsSortedIndex (map (shifted place 0 1) fs)) (all_stay place es) (sorted-shifted es place 0 1 sorted)
@@ -123,22 +129,49 @@ same-moved es fs cards from to one within first last index is =
     let put = same-put _ fs (take (to - 1) others) (drop (to - 1 + 0) others) (card_of cards from) to (omega (arith, length-take-le (to - 1) others (omega arith))) is gap in
     λ name. put name ∙ ap (λ ks. filter (is_named name) (entries_from 1 (take (to - 1) others ++ (ks ++ drop (to - 1 + 0) others)))) (sym (one_item cards from one within))
 
--- a list without one of its items
-length-out : (cards : List (List ℕ)) (place : ℕ) → 1 ≤ place → place ≤ length cards → length (spliced cards place 1 []) + 1 ≡ length cards
-length-out cards place one within =
-    omega (arith, length-append (take (place - 1) cards) (drop (place - 1 + 1) cards), length-take-le (place - 1) cards (omega arith), length-drop (place - 1 + 1) cards)
-
 -- an index without the entry of a place
 pub index-out : (es fs : List Entry) (cards : List (List ℕ)) (place : ℕ) → 1 ≤ place → place ≤ length es → IsIndexOf es cards → fs ≡ map (shifted place 1 0) (filter (stays place 1) es) → IsIndexOf fs (spliced cards place 1 [])
 index-out es fs cards place one within index is =
     subst (λ xs. IsIndexOf xs (spliced cards place 1 [])) (sym is) (index-taken es cards place 1 one (omega (arith, length-index es cards index)) index)
 
--- it has one entry less
-pub length-left : (es fs : List Entry) (place : ℕ) → 1 ≤ place → place ≤ length es → IsIndex es → fs ≡ map (shifted place 1 0) (filter (stays place 1) es) → length fs + 1 ≡ length es
-length-left es fs place one within index is =
-    let size = length-index es index.cards index.theirs in
-    omega (arith, size, length-index fs (spliced index.cards place 1 []) (index-out es fs index.cards place one within index.theirs is), length-out index.cards place one (omega (arith, size)))
+-- what is left once some went, and as many come
+abbrev pub left_by : ℕ → ℕ → ℕ → List Entry → List Entry
+left_by place removed coming es = map (shifted place removed coming) (filter (stays place removed) es)
 
--- and is an index
-pub places_left : (es fs : List Entry) (place : ℕ) → 1 ≤ place → place ≤ length es → IsIndex es → fs ≡ map (shifted place 1 0) (filter (stays place 1) es) → All (λ (e : Entry). e.place ≤ length fs) fs
-places_left es fs place one within index is = places_among fs (record { cards = spliced index.cards place 1 []; theirs = index-out es fs index.cards place one within index.theirs is })
+-- it is in order
+pub left-sorted : (es fs : List Entry) (place removed coming : ℕ) → IsIndex es → fs ≡ left_by place removed coming es → IsSortedIndex fs
+left-sorted es fs place removed coming index is = subst IsSortedIndex (sym is) (sorted-shifted es place removed coming index.theirs.sorted)
+
+-- and so many entries fewer
+pub left-length : (es fs : List Entry) (place removed coming : ℕ) → IsIndex es → 1 ≤ place → place + removed ≤ length es + 1 → fs ≡ left_by place removed coming es → length fs + removed ≡ length es
+left-length es fs place removed coming index one fits is =
+    let size = length-index es index.cards index.theirs in
+    omega (arith, ap length is, size, length-taken es index.cards place removed coming one (omega (arith, size)) index.theirs)
+
+-- with the entries of those that come it is the index of the cards as they are then
+pub index-spliced : (es fs gs : List Entry) (old new : List (List ℕ)) (place removed : ℕ) → IsIndexOf es old → 1 ≤ place → place + removed ≤ length es + 1 → fs ≡ left_by place removed (length new) es → IsSortedIndex gs → AreNamed new
+    → ((xs zs : List (List ℕ)) → length xs + 1 ≡ place → AreSame fs (entries_from 1 xs ++ entries_from (place + length new) zs) → AreSame gs (entries_from 1 ((xs ++ new) ++ zs)))
+    → IsIndexOf gs (spliced old place removed new)
+index-spliced es fs gs old new place removed index one fits is sorted named put =
+    let front = take (place - 1) old in
+    let rest = drop (place - 1 + removed) old in
+    let size = length-index es old index in
+    let kept = same-taken es old place removed (length new) one (omega (arith, size)) index.same in
+    let all = put front rest (omega (arith, size, length-take-le (place - 1) old (omega (arith, size)))) (λ name. ap (filter (is_named name)) is ∙ kept name) in
+    record {
+      sorted = sorted;
+      same = λ name. all name ∙ ap (λ cards. filter (is_named name) (entries_from 1 cards)) (append_assoc front new rest);
+      named = All-spliced (λ card. IsName (keyword_name card)) old new place removed index.named named;
+    }
+
+-- no place is past the last card where one of them is out
+pub places_out : (es out seen : List Entry) (place : ℕ) → IsIndex es → out ≡ filter (stays place 1) es → seen ≡ out → All (λ (e : Entry). e.place ≤ length es) seen
+places_out es out seen place index gone same = subst (All (λ (e : Entry). e.place ≤ length es)) (sym (same ∙ gone)) (All-filter (stays place 1) (λ (e : Entry). e.place ≤ length es) es (places_among es index))
+
+-- where one is out, a pass over the others writes them all
+pub out_written : (f : Entry → Entry) (es out seen new : List Entry) (place n : ℕ) → out ≡ filter (stays place 1) es → n ≡ length out → seen ≡ out → new ≡ map f seen → take n (new ++ drop (length new) out) ≡ map f (filter (stays place 1) es)
+out_written f es out seen new place n gone size same is = pass_written f out seen new n size same is ∙ ap (map f) gone
+
+-- where a card moves, that is one shift after another
+pub turned-out : (es : List Entry) (from to : ℕ) → map (turned from to) (filter (stays from 1) es) ≡ map (shifted to 0 1) (left_by from 1 0 es)
+turned-out es from to = sym (map-map (shifted to 0 1) (shifted from 1 0) (filter (stays from 1) es))

@@ -7,7 +7,7 @@ use Rattle.fits_card.specs.Change.{spliced}
 use Rattle.fits_codes.specs.Mark.{mark_of}
 use Rattle.fits_header.specs.Index.{HaveSameKeys, IsIndexOf, entry_of, entries_from, is_named}
 use Rattle.fits_header.specs.Names.{AreNamed, IsName, name_number}
-use Rattle.fits_header.specs.Notes.{notes_of}
+use Rattle.fits_header.specs.Notes.{note_of, notes_of}
 use Rattle.fits_header.specs.declared.note.Note.{Note}
 use Rattle.fits_header.specs.declared.entry.Entry.{Entry}
 use Rattle.fits_header.proofs.ChangeLemmas.{All-spliced}
@@ -27,6 +27,11 @@ alike-more {Z = Z} f g xs ys i d e fits reach before here =
     ap (map f) (take_more xs i d (omega arith)) ∙ (map-append f (take i xs) (get_or xs i d ∷ [])
     ∙ (ap (λ (zs : List Z). zs ++ f (get_or xs i d) ∷ []) before ∙ (ap (λ (z : Z). map g (take i ys) ++ z ∷ []) here
     ∙ sym (ap (map g) (take_more ys i e (omega arith)) ∙ map-append g (take i ys) (get_or ys i e ∷ [])))))
+
+-- a card's own name is in its note
+pub name_noted : (card : List ℕ) → name_in (note_of card) ≡ keyword_name card
+unfolding mark_of
+name_noted card = refl
 
 -- the names in the notes of cards are theirs
 pub names_in-notes : (cards : List (List ℕ)) → map name_in (notes_of cards) ≡ map keyword_name cards

@@ -4,6 +4,7 @@ pub mod EntriesLemmas
 pub mod LeadLemmas
 pub mod OpenLemmas
 pub mod PackLemmas
+pub mod ShiftLemmas
 pub mod CountLemmas
 pub mod ChangeLemmas
 pub mod KeyLemmas
@@ -18,6 +19,7 @@ pub mod LinkLemmas
 pub mod HeaderLemmas
 pub mod NoteLemmas
 pub mod PlaceLemmas
+pub mod FoundLemmas
 pub mod RepeatLemmas
 pub mod SurroundingLemmas
 pub mod MarkedLinkLemmas

@@ -1,12 +1,10 @@
 -- Elements of a list packed at its front, those that stay, one by one.
-use Rattle.std.proofs.Common.{◌≡◌, ℕ, ◌+◌, ◌<◌, ◌≤◌, ◌⊎◌, inl, inr, Bool, true, false, not, List, [], ◌∷◌, ◌++◌, All, length, length-append, length-drop, take, drop, get_or, map, filter, ap, sym, refl, ◌∙◌, arith}
+use Rattle.std.proofs.Common.{◌≡◌, ℕ, ◌+◌, ◌<◌, ◌≤◌, Bool, true, false, List, [], ◌∷◌, ◌++◌, length, take, drop, get_or, map, filter, ap, sym, ◌∙◌, arith}
 use Rattle.std.proofs.Math.ListN.{set}
-use Rattle.std.proofs.lemmas.Bool.{cases_lt, cond-true, cond-false}
-use Rattle.std.proofs.lemmas.Bool.Decides.{nat_tests}
-use Rattle.std.proofs.lemmas.List.{append-nil, drop_at, length-map, length-take-le, take-set, take_more_set, drop-set-lt, get_or-drop, map-append, drop-drop}
-use Rattle.std.proofs.lemmas.List.{drop_more, take-append-drop, take_all}
-use Rattle.std.proofs.lemmas.List.Elements.{All-tail, filter_more, filter-append}
-use Rattle.std.proofs.lemmas.List.Filters.{length-filter_both}
+use Rattle.std.proofs.lemmas.Bool.{cond-true, cond-false}
+use Rattle.std.proofs.lemmas.List.{append-nil, take-set, take_more_set, drop-set-lt, get_or-drop, map-append, drop-drop}
+use Rattle.std.proofs.lemmas.List.{take-append-drop}
+use Rattle.std.proofs.lemmas.List.Elements.{filter_more, filter-append}
 use Rattle.fits_header.specs.declared.entry.Entry.{Entry}
 use Rattle.fits_header.specs.Index.{shifted, stays}
 
@@ -15,11 +13,6 @@ pub same_next : {X : Type 0} (xs ys : List X) (i : ℕ) (d : X) → drop i xs �
 same_next {X = X} xs ys i d e =
     let at : i + 0 ≡ i = omega arith in
     ap (λ (k : ℕ). get_or xs k d) (sym at) ∙ (sym (get_or-drop i xs 0 d) ∙ (ap (λ (zs : List X). get_or zs 0 d) e ∙ (get_or-drop i ys 0 d ∙ ap (λ (k : ℕ). get_or ys k d) at)))
-
--- where the first ones were mapped, the next is as it was
-pub mapped_next : {X : Type 0} (f : X → X) (old new : List X) (i : ℕ) (d : X) → i < length old → new ≡ map f (take i old) ++ drop i old → get_or new i d ≡ get_or old i d
-mapped_next f old new i d within is =
-    same_next new old i d (ap (drop i) is ∙ drop_at (map f (take i old)) (drop i old) i (length-map (take i old) f ∙ length-take-le i old (omega arith)))
 
 -- one more that stays
 pub packed-yes : {X : Type 0} (p : X → Bool) (f : X → X) (old new : List X) (kept i : ℕ) (d moved : X) → kept ≤ i → i < length old → length new ≡ length old → take kept new ≡ map f (filter p (take i old))
@@ -57,50 +50,3 @@ stay_apart place removed coming first es =
 -- two parts that are the same are the same together
 pub parts_same : {X : Type 0} {xs us ys vs : List X} → xs ≡ us → ys ≡ vs → xs ++ ys ≡ us ++ vs
 parts_same {X = X} {us = us} {ys = ys} e f = ap (λ (zs : List X). zs ++ ys) e ∙ ap (λ (zs : List X). us ++ zs) f
-
--- where as many pass a test as there are, all do
-all_kept : {X : Type 0} (p : X → Bool) (xs : List X) → length (filter p xs) ≡ length xs → filter p xs ≡ xs
-all_kept p [] same = refl
-all_kept {X = X} p (x ∷ xs) same = go (λ size. all_kept p xs size) (p x) refl where
-  go : (length (filter p xs) ≡ length xs → filter p xs ≡ xs) → (b : Bool) → p x ≡ b → filter p (x ∷ xs) ≡ x ∷ xs
-  go rest true passes =
-      let kept : filter p (x ∷ xs) ≡ x ∷ filter p xs = cond-true (p x) (x ∷ filter p xs) (filter p xs) passes in
-      kept ∙ ap (λ (ys : List X). x ∷ ys) (rest (omega (arith, ap (λ (ys : List X). length ys) kept, same)))
-  go rest false fails =
-      let left : filter p (x ∷ xs) ≡ filter p xs = cond-false (p x) (x ∷ filter p xs) (filter p xs) fails in
-      absurd (omega (arith, ap (λ (ys : List X). length ys) left, same, length-filter_both p (λ x. not (p x)) (λ x. refl) xs))
-
--- an entry that stays where as many come as go is as it was
-same_entry : (place : ℕ) (e : Entry) → stays place 1 e ≡ true → shifted place 1 1 e ≡ e
-same_entry place e stay = ap (λ (n : ℕ). record { name = e.name; place = n; has_value = e.has_value }) (grind (arith, nat_tests))
-
--- where one only goes, it is the first that does: all others stay
-pub one_out : (place at : ℕ) (es : List Entry) (d : Entry) → at < length es → filter (stays place 1) (take at es) ≡ take at es → stays place 1 (get_or es at d) ≡ false → length (filter (stays place 1) es) + 1 ≡ length es
-    → take at es ++ drop (at + 1) es ≡ filter (stays place 1) es
-one_out place at es d within front goes one =
-    let p = stays place 1 in
-    let rest = drop (at + 1) es in
-    let parts : filter p es ≡ take at es ++ filter p rest =
-    ap (filter p) (sym (take-append-drop at es))
-    ∙ (filter-append p (take at es) (drop at es)
-    ∙ (ap (λ (xs : List Entry). xs ++ filter p (drop at es)) front
-    ∙ ap (λ (xs : List Entry). take at es ++ xs) (ap (filter p) (drop_more es at d within) ∙ cond-false (p (get_or es at d)) (get_or es at d ∷ filter p rest) (filter p rest) goes))) in
-    let size : length (filter p rest) ≡ length rest =
-    omega (arith, ap length parts, length-append (take at es) (filter p rest), length-take-le at es (omega arith), length-drop (at + 1) es, one) in
-    ap (λ (xs : List Entry). take at es ++ xs) (sym (all_kept p rest size)) ∙ sym parts
-
--- it is there
-pub one_there : (place at : ℕ) (es : List Entry) → filter (stays place 1) (take at es) ≡ take at es → length (filter (stays place 1) es) + 1 ≡ length es → at < length es
-one_there place at es front one = go (cases_lt at (length es)) where
-  go : (at < length es) ⊎ (length es ≤ at) → at < length es
-  go (inl within) = within
-  go (inr past) =
-      let all = take_all at es past in
-      absurd (omega (arith, ap (λ (xs : List Entry). length (filter (stays place 1) xs)) all, ap length front, ap length all, one))
-
--- entries that stay where as many come as go are as they were
-pub shifted_same : (place : ℕ) (es : List Entry) → All (λ e. stays place 1 e ≡ true) es → map (shifted place 1 1) es ≡ es
-shifted_same place [] stay = refl
-shifted_same place (e ∷ es) stay =
-    let here : stays place 1 e ≡ true = stay 0 e (omega arith) in
-    ap (λ (x : Entry). x ∷ map (shifted place 1 1) es) (same_entry place e here) ∙ ap (λ (xs : List Entry). e ∷ xs) (shifted_same place es (All-tail (λ (x : Entry). stays place 1 x ≡ true) e es stay))

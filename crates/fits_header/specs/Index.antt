@@ -1,5 +1,5 @@
 -- Entries of names and places, sorted (own).
-use Rattle.std.specs.Prelude.{◌≡◌, ℕ, ◌+◌, ◌-◌, ◌==◌, ◌&&◌, ◌||◌, nat_lt, nat_le, Bool, false, not, List, [], ◌∷◌, ◌++◌, map, filter, AllPairs, Option, None, Some, if◌then◌else◌}
+use Rattle.std.specs.Prelude.{◌≡◌, ℕ, ◌+◌, ◌-◌, ◌==◌, ◌&&◌, ◌||◌, nat_lt, nat_le, Bool, false, not, List, [], ◌∷◌, ◌++◌, map, filter, All, AllPairs, Option, None, Some, if◌then◌else◌}
 use Rattle.fits_card.specs.Card.{keyword_name, has_value}
 use Rattle.fits_header.specs.Names.{AreNamed, name_number}
 use Rattle.fits_header.specs.declared.entry.Entry.{Entry}
@@ -67,6 +67,14 @@ shifted place removed coming entry = record {
   place = if nat_lt entry.place place then entry.place else (entry.place - removed) + coming;
   has_value = entry.has_value;
 }
+
+-- the entry once the card at one place went to another
+abbrev pub turned : ℕ → ℕ → Entry → Entry
+turned from to entry = shifted to 0 1 (shifted from 1 0 entry)
+
+-- an entry of the place has this name
+abbrev pub IsNameAt : List Entry → ℕ → ℕ → Type 0
+IsNameAt entries place name = All (λ (e : Entry). e.place ≡ place → e.name ≡ name) entries
 
 -- the place of the first that has a value
 abbrev pub first_value : List Entry → Option ℕ

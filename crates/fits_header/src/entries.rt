@@ -1,13 +1,15 @@
 //! Entries of names and places, sorted, under changes of the cards that they stand for.
-ghost use Rattle.std.specs.Prelude.{◌≡◌, ◌≤◌, ◌<◌, ◌+◌, ◌-◌, ◌++◌, ◌^◌, ℕ, List, All, IfOk, IsTrue, false, insert, length, map, filter, not, take, drop, slice_index_or, vec_len, vec_capacity};
+ghost use Rattle.std.specs.Prelude.{◌≡◌, ◌≤◌, ◌<◌, ◌+◌, ◌-◌, ◌++◌, ◌^◌, ℕ, List, All, IfOk, insert, length, map, filter, not, take, drop, slice_index_or, vec_len, vec_capacity};
 ghost use Rattle.fits_card.specs.CardList.{ReadsUpTo};
-ghost use Rattle.fits_header.specs.Index.{AreSame, IsIndexOf, IsSortedIndex, added, comes_before, entries_from, shifted, stays};
+ghost use Rattle.fits_header.specs.Findings.{card_of};
+ghost use Rattle.fits_header.specs.Index.{AreSame, IsIndex, IsIndexOf, IsNameAt, IsSortedIndex, added, comes_before, entries_from, entry_of, shifted, stays};
 ghost use Rattle.fits_header.specs.Names.{AreNamed};
 ghost use Rattle.fits_header.specs.Notes.{notes_of};
 ghost use Rattle.fits_header.specs.declared.entry.Entry.{Entry};
 
-use crate::entry::{Entry, entry_of, move_on, noted_entry, shifted, stays};
+use crate::entry::{Entry, entry_of, move_on, noted_entry, stays};
 use crate::notes::Notes;
+use crate::shifts::open_gap;
 use fits_card::{Card, CardList};
 use std::alloc::{AllocError, Global};
 
@@ -67,88 +69,24 @@ pub(crate) fn place_for(entries: &[Entry], name: u64, place: usize) -> usize
 }
 
 /// Takes the entries of places out, and shifts the later ones, for as many as come.
-///
-/// Cards that come after all others leave the entries as they are.
 pub(crate) fn make_way(entries: &mut Vec<Entry>, place: usize, removed: usize, coming: usize)
-    requires sorted { IsSortedIndex entries.old.items }
-    requires one { removed ≡ 1
-        → length (filter (stays place 1) entries.old.items) + 1 ≡ vec_len entries.old }
     requires low { All (λ e. e.place + coming < 2 ^ 64 + removed) entries.old.items }
     requires within { All (λ e. e.place ≤ length entries.old.items) entries.old.items }
     ensures items { entries.new.items
         ≡ map (shifted place removed coming) (filter (stays place removed) entries.old.items) }
-    ensures sorted { IsSortedIndex entries.new.items }
     ensures room { vec_capacity entries.new ≡ vec_capacity entries.old }
 {
+    // Cards that come after all others leave the entries as they are.
     if entries.len() < place {
         return;
     }
-    take_out(entries, place, removed, coming);
-}
-
-/// Takes the entries of places out, and shifts the later ones, for as many as come.
-pub(crate) fn take_out(entries: &mut Vec<Entry>, place: usize, removed: usize, coming: usize)
-    requires sorted { IsSortedIndex entries.old.items }
-    requires one { removed ≡ 1
-        → length (filter (stays place 1) entries.old.items) + 1 ≡ vec_len entries.old }
-    requires low { All (λ e. e.place + coming < 2 ^ 64 + removed) entries.old.items }
-    ensures items { entries.new.items
-        ≡ map (shifted place removed coming) (filter (stays place removed) entries.old.items) }
-    ensures sorted { IsSortedIndex entries.new.items }
-    ensures room { vec_capacity entries.new ≡ vec_capacity entries.old }
-{
     match removed {
-        0 => shift_all(entries, place, removed, coming),
-        1 => take_one(entries, place, coming),
+        0 => open_gap(entries, place, coming),
         _ => take_several(entries, place, removed, coming),
     }
 }
 
-// The same of one place, which one entry has.
-fn take_one(entries: &mut Vec<Entry>, place: usize, coming: usize)
-    requires one { length (filter (stays place 1) entries.old.items) + 1 ≡ vec_len entries.old }
-    requires low { All (λ e. e.place + coming < 2 ^ 64 + 1) entries.old.items }
-    ensures items { entries.new.items
-        ≡ map (shifted place 1 coming) (filter (stays place 1) entries.old.items) }
-    ensures room { vec_capacity entries.new ≡ vec_capacity entries.old }
-{
-    remove_at(entries, index_of(entries, place), place);
-    // One card in place of another leaves all others where they are.
-    if coming != 1 {
-        shift_all(entries, place, 1, coming);
-    }
-}
-
-// How many entries there are before the first of a place.
-fn index_of(entries: &[Entry], place: usize) -> usize
-    ensures front { filter (stays place 1) (take result entries.now) ≡ take result entries.now }
-    ensures within { result ≤ length entries.now }
-    ensures there { (d : Entry) → result < length entries.now
-        → stays place 1 (slice_index_or entries.now result d) ≡ false }
-{
-    for index in 0..entries.len() {
-        if !stays(entries[index], place, 1) {
-            return index;
-        }
-    }
-    entries.len()
-}
-
-// Takes the only entry of a place out, which stands at an index. What follows is moved by one copy.
-fn remove_at(entries: &mut Vec<Entry>, at: usize, place: usize)
-    requires one { length (filter (stays place 1) entries.old.items) + 1 ≡ vec_len entries.old }
-    requires front { filter (stays place 1) (take at entries.old.items) ≡ take at entries.old.items }
-    requires within { at ≤ vec_len entries.old }
-    requires there { (d : Entry) → at < vec_len entries.old
-        → stays place 1 (slice_index_or entries.old.items at d) ≡ false }
-    ensures items { entries.new.items ≡ filter (stays place 1) entries.old.items }
-    ensures room { vec_capacity entries.new ≡ vec_capacity entries.old }
-{
-    entries.copy_within(at + 1.., at);
-    entries.truncate(entries.len() - 1);
-}
-
-// The same of any places.
+// The same where some go.
 fn take_several(entries: &mut Vec<Entry>, place: usize, removed: usize, coming: usize)
     requires { All (λ e. e.place + coming < 2 ^ 64 + removed) entries.old.items }
     ensures items { entries.new.items
@@ -208,45 +146,29 @@ fn pack(entries: &mut [Entry], place: usize, removed: usize, coming: usize) -> u
     let mut kept = 0;
     for index in 0..entries.len() {
         let entry = entries[index];
+        let mut moved = entry;
+        move_on(&mut moved, place, removed, coming);
         // It is written whether it stays or not: what doesn't is written over.
-        entries[kept] = shifted(entry, place, removed, coming);
+        entries[kept] = moved;
         kept += stays(entry, place, removed) as usize;
     }
     kept
 }
 
-/// Shifts the entries of places from one on, for one that comes.
-pub(crate) fn open_gap(entries: &mut Vec<Entry>, place: usize)
-    requires sorted { IsSortedIndex entries.old.items }
-    requires low { All (λ e. e.place + 1 < 2 ^ 64) entries.old.items }
-    ensures items { entries.new.items ≡ map (shifted place 0 1) entries.old.items }
-    ensures sorted { IsSortedIndex entries.new.items }
-    ensures len { vec_len entries.new ≡ vec_len entries.old }
+/// Takes the entry of a place out, whose name is known, so that it is found by its order. The others
+/// keep their places.
+pub(crate) fn take_named(entries: &mut Vec<Entry>, place: usize, name: u64) -> Entry
+    requires index { IsIndex entries.old.items }
+    requires from { 1 ≤ place }
+    requires to { place ≤ vec_len entries.old }
+    requires name { IsNameAt entries.old.items place name }
+    ensures items { entries.new.items ≡ filter (stays place 1) entries.old.items }
+    ensures value { (cards : List (List ℕ)) → IsIndexOf entries.old.items cards
+        → result ≡ entry_of (card_of cards place) place }
     ensures room { vec_capacity entries.new ≡ vec_capacity entries.old }
 {
-    shift_all(entries, place, 0, 1);
-}
-
-// Shifts the entries of places from one on, none of which goes.
-fn shift_all(entries: &mut Vec<Entry>, place: usize, removed: usize, coming: usize)
-    requires stay { All (λ e. IsTrue (stays place removed e)) entries.old.items }
-    requires low { All (λ e. e.place + coming < 2 ^ 64 + removed) entries.old.items }
-    ensures items { entries.new.items ≡ map (shifted place removed coming) entries.old.items }
-    ensures len { vec_len entries.new ≡ vec_len entries.old }
-    ensures room { vec_capacity entries.new ≡ vec_capacity entries.old }
-{
-    shift(entries, place, removed, coming);
-}
-
-// The same of entries in a row.
-fn shift(entries: &mut [Entry], place: usize, removed: usize, coming: usize)
-    requires stay { All (λ e. IsTrue (stays place removed e)) entries.old }
-    requires low { All (λ e. e.place + coming < 2 ^ 64 + removed) entries.old }
-    ensures { entries.new ≡ map (shifted place removed coming) entries.old }
-{
-    for index in 0..entries.len() {
-        move_on(&mut entries[index], place, removed, coming);
-    }
+    let at = place_for(entries, name, place);
+    entries.remove(at)
 }
 
 /// Puts the entries of cards from a place on where they go, in reserved room.

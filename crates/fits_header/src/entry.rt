@@ -1,7 +1,7 @@
 ghost use Rattle.std.specs.Prelude.{◌≡◌, ◌+◌, ◌-◌, ◌<◌, ◌≤◌, ◌^◌, IsTrue, List, ℕ};
 ghost use Rattle.fits_card.specs.Card.{keyword_name};
 ghost use Rattle.fits_header.specs.Names.{IsName};
-ghost use Rattle.fits_header.specs.Index.{entry_of, shifted, stays};
+ghost use Rattle.fits_header.specs.Index.{entry_of, shifted, stays, turned};
 ghost use Rattle.fits_header.specs.Notes.{note_of};
 
 use crate::note::Note;
@@ -49,17 +49,6 @@ pub(crate) fn stays(entry: Entry, place: usize, removed: usize) -> bool
     entry.place < place || removed <= entry.place - place
 }
 
-/// The entry once cards before it went and came, where it stays itself.
-pub(crate) fn shifted(entry: Entry, place: usize, removed: usize, coming: usize) -> Entry
-    requires low { entry.place + coming < 2 ^ 64 + removed }
-    ensures { IsTrue (stays place removed entry) → result ≡ shifted place removed coming entry }
-{
-    Entry {
-        place: place_after(entry.place, place, removed, coming),
-        ..entry
-    }
-}
-
 /// Makes an entry what it is once cards before it went and came, where it stays itself: its place
 /// alone is written.
 pub(crate) fn move_on(entry: &mut Entry, place: usize, removed: usize, coming: usize)
@@ -67,16 +56,44 @@ pub(crate) fn move_on(entry: &mut Entry, place: usize, removed: usize, coming: u
     ensures { IsTrue (stays place removed entry.old)
         → entry.new ≡ shifted place removed coming entry.old }
 {
-    entry.place = place_after(entry.place, place, removed, coming);
-}
-
-// Where a card stands once others before it went and came.
-fn place_after(here: usize, place: usize, removed: usize, coming: usize) -> usize
-    requires { here + coming < 2 ^ 64 + removed }
-    ensures before { here < place → result ≡ here }
-    ensures behind { place + removed ≤ here → result ≡ here - removed + coming }
-{
+    let here = entry.place;
     // A card that goes has no place then: whatever comes of it is written over.
     let moved = here.wrapping_sub(removed).wrapping_add(coming);
-    if here < place { here } else { moved }
+    entry.place = if here < place { here } else { moved };
+}
+
+/// The same where one card came: from its place on each moves on by one.
+pub(crate) fn step_on(entry: &mut Entry, place: usize)
+    requires low { entry.old.place + 1 < 2 ^ 64 }
+    ensures { entry.new ≡ shifted place 0 1 entry.old }
+{
+    entry.place += (place <= entry.place) as usize;
+}
+
+/// The same where one card went: from its place on each moves back by one.
+pub(crate) fn step_back(entry: &mut Entry, place: usize)
+    requires { 1 ≤ place }
+    ensures { entry.new ≡ shifted place 1 0 entry.old }
+{
+    entry.place -= (place <= entry.place) as usize;
+}
+
+/// The same where the card at a place went to one that isn't before: up to there each moves back by
+/// one.
+pub(crate) fn turn_back(entry: &mut Entry, from: usize, to: usize)
+    requires first { 1 ≤ from }
+    requires order { from ≤ to }
+    ensures { entry.new ≡ turned from to entry.old }
+{
+    let behind = entry.place.wrapping_sub(from);
+    entry.place -= (behind <= to - from) as usize;
+}
+
+/// The same where it went to an earlier one: from there on, up to where it was, each moves on by one.
+pub(crate) fn turn_on(entry: &mut Entry, from: usize, to: usize)
+    requires { to < from }
+    ensures { entry.new ≡ turned from to entry.old }
+{
+    let behind = entry.place.wrapping_sub(to);
+    entry.place += (behind < from - to) as usize;
 }

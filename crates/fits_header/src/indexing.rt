@@ -1,14 +1,15 @@
 //! The index of a header through changes of its cards.
 ghost use Rattle.std.specs.Prelude.{◌≡◌, ◌≤◌, ◌+◌, ◌-◌, IsTrue, List, ℕ, length, take, drop};
 ghost use Rattle.fits_card.specs.Card.{keyword_name, has_value};
-ghost use Rattle.fits_card.specs.Change.{cards_after, spliced, IsInRange};
+ghost use Rattle.fits_card.specs.Change.{cards_after, IsInRange};
+ghost use Rattle.fits_header.specs.Findings.{card_of};
 ghost use Rattle.fits_header.specs.Index.{HaveSameKeys, IsIndexOf};
 ghost use Rattle.fits_header.specs.Notes.{notes_of};
 
 use crate::key_index::KeyIndex;
 use crate::note::Note;
 use crate::notes::Notes;
-use fits_card::{Card, CardList, Change};
+use fits_card::{Card, CardList, Change, Name};
 
 /// Makes a change of an index, as of the cards. No card of the store is read.
 #[tactic(auto, using(crate::proofs::HeaderLemmas::change_steps))]
@@ -27,31 +28,45 @@ pub(crate) fn change_index(index: &mut KeyIndex, cards: &CardList, notes: &Notes
             place,
             removed,
             cards: new,
-        } => splice_index(index, notes, *place, *removed, new.as_slice()),
-        Change::Move { from, to } => index.move_place(*from, *to),
+        } => {
+            let new = new.as_slice();
+            // Cards in place of others of the same names leave the index as it is.
+            if keep_keys(notes, *place, *removed, new) {
+                return;
+            }
+            if *removed == 1 {
+                index.replace(*place, name_at(notes, *place), new);
+                return;
+            }
+            index.splice(*place, *removed, new);
+        }
+        Change::Move { from, to } => index.move_named(*from, *to, name_at(notes, *from)),
     }
 }
 
-// From a place on, so many cards go, and these stand there instead.
-fn splice_index(index: &mut KeyIndex, notes: &Notes, place: usize, removed: usize, new: &[Card])
+// The name of the card at a place, by its note.
+fn name_at(notes: &Notes, place: usize) -> &Name
     requires from { 1 ≤ place }
-    requires to { place + removed ≤ length index.old.entries + 1 }
-    requires size { length notes.now.items ≡ length index.old.entries }
-    requires room { length new.now ≤ index.old.room + removed }
-    ensures index { (old : List (List ℕ)) → notes.now.items ≡ notes_of old
-        → IsIndexOf index.old.entries old
-        → IsIndexOf index.new.entries (spliced old place removed new.now) }
-    ensures room { index.new.room + length new.now ≡ index.old.room + removed }
+    requires to { place ≤ length notes.now.items }
+    ensures { (cards : List (List ℕ)) → notes.now.items ≡ notes_of cards
+        → result.now ≡ keyword_name (card_of cards place) }
 {
-    // Cards in place of others of the same names leave the index as it is.
-    if removed == new.len() && have_same_keys(notes, place, new) {
-        return;
-    }
-    index.splice(place, removed, new);
+    &notes.at(place - 1).mark.name
 }
 
-// Whether the cards have the names of those whose notes stand from a place on, each in its turn, and
-// a value exactly where that one has.
+// Whether cards in place of so many others keep the keys: as many, of the names of those, each in its
+// turn, and with a value exactly where that one has.
+fn keep_keys(notes: &Notes, place: usize, removed: usize, cards: &[Card]) -> bool
+    requires from { 1 ≤ place }
+    requires to { place + removed ≤ length notes.now.items + 1 }
+    ensures len { IsTrue result → removed ≡ length cards.now }
+    ensures keys { IsTrue result → (old : List (List ℕ)) → notes.now.items ≡ notes_of old
+        → HaveSameKeys (take removed (drop (place - 1) old)) cards.now }
+{
+    removed == cards.len() && have_same_keys(notes, place, cards)
+}
+
+// The same of as many.
 fn have_same_keys(notes: &Notes, place: usize, cards: &[Card]) -> bool
     requires from { 1 ≤ place }
     requires to { place + length cards.now ≤ length notes.now.items + 1 }

@@ -1,12 +1,14 @@
-ghost use Rattle.std.specs.Prelude.{◌≡◌, ◌≤◌, ◌+◌, IfOk, length};
+ghost use Rattle.std.specs.Prelude.{◌≡◌, ◌≤◌, List, ℕ, vec_len, vec_capacity};
+ghost use Rattle.fits_card.specs.Change.{moved};
+ghost use Rattle.fits_header.specs.Index.{IsIndex, IsIndexOf, IsNameAt};
 
-use crate::changing::{move_entry, splice_entries};
-use crate::entries::{noted_entries, read_entries, sorted};
+use crate::entries::{add, add_cards, make_way, noted_entries, read_entries, sorted, take_named};
 use crate::entry::Entry;
-use crate::lookups::{has, lead, lead_within, numbers, positions};
+use crate::lookups::{entry_at, has, lead, lead_within, numbers, positions};
 use crate::notes::Notes;
 use crate::numbers::{names_of, number_of};
 use crate::repeats::mark_repeats;
+use crate::shifts::{close_gap, turn};
 use crate::surrounding::Surrounding;
 use fits_card::{Card, CardList, Name, reserve_room};
 use std::alloc::{AllocError, Global};
@@ -41,8 +43,8 @@ impl KeyIndex {
     ghost use Rattle.std.specs.Prelude.{◌≡◌, ◌≤◌, ◌<◌, ◌+◌, List, ℕ, IfOk, IsOk, OnOk, OnErr, length};
     ghost use Rattle.fits_card.specs.CardList.{ReadsUpTo};
     ghost use Rattle.fits_card.specs.Change.{moved, spliced};
-    ghost use Rattle.fits_header.specs.Index.{IsIndexOf};
-    ghost use Rattle.fits_header.specs.Names.{header_names};
+    ghost use Rattle.fits_header.specs.Index.{IsIndexOf, IsNameAt};
+    ghost use Rattle.fits_header.specs.Names.{header_names, name_number};
     ghost use Rattle.fits_header.specs.Notes.{notes_of};
     ghost use Rattle.std.specs.List.{list_any};
     ghost use Rattle.fits_header.specs.Places.{has_name, keyword_places, lead_place_within};
@@ -157,7 +159,23 @@ impl KeyIndex {
             → IsIndexOf self.new.entries (spliced old place removed cards.now) }
         ensures room { self.new.room + length cards.now ≡ self.old.room + removed }
     {
-        splice_entries(&mut self.entries, place, removed, cards);
+        make_way(&mut self.entries, place, removed, cards.len());
+        add_cards(&mut self.entries, place, cards);
+    }
+
+    /// The same where one card goes, whose name is known, so that its entry need not be sought.
+    pub(crate) fn replace(&mut self, place: usize, name: &Name, cards: &[Card])
+        requires from { 1 ≤ place }
+        requires to { place ≤ length self.old.entries }
+        requires name { IsNameAt self.old.entries place (name_number name.now) }
+        requires room { length cards.now ≤ self.old.room + 1 }
+        ensures index { (old : List (List ℕ)) → IsIndexOf self.old.entries old
+            → IsIndexOf self.new.entries (spliced old place 1 cards.now) }
+        ensures room { self.new.room + length cards.now ≡ self.old.room + 1 }
+    {
+        take_named(&mut self.entries, place, number_of(name));
+        close_gap(&mut self.entries, place, cards.len());
+        add_cards(&mut self.entries, place, cards);
     }
 
     /// The card at a place is taken out, and put where it has the other place in the result. No
@@ -171,6 +189,40 @@ impl KeyIndex {
             → IsIndexOf self.new.entries (moved cards from to) }
         ensures room { self.new.room ≡ self.old.room }
     {
-        move_entry(&mut self.entries, from, to);
+        let name = entry_at(&self.entries, from).name;
+        move_entry(&mut self.entries, from, to, name);
     }
+
+    /// The same of a card whose name is known, so that its entry need not be sought.
+    pub(crate) fn move_named(&mut self, from: usize, to: usize, name: &Name)
+        requires from_first { 1 ≤ from }
+        requires from_last { from ≤ length self.old.entries }
+        requires to_first { 1 ≤ to }
+        requires to_last { to ≤ length self.old.entries }
+        requires name { IsNameAt self.old.entries from (name_number name.now) }
+        ensures index { (cards : List (List ℕ)) → IsIndexOf self.old.entries cards
+            → IsIndexOf self.new.entries (moved cards from to) }
+        ensures room { self.new.room ≡ self.old.room }
+    {
+        move_entry(&mut self.entries, from, to, number_of(name));
+    }
+}
+
+// The card at a place, whose name is known, is taken out, and put where it has the other place in the
+// result. Only the places between the two change.
+fn move_entry(entries: &mut Vec<Entry>, from: usize, to: usize, name: u64)
+    requires index { IsIndex entries.old.items }
+    requires from_first { 1 ≤ from }
+    requires from_last { from ≤ vec_len entries.old }
+    requires to_first { 1 ≤ to }
+    requires to_last { to ≤ vec_len entries.old }
+    requires name { IsNameAt entries.old.items from name }
+    ensures index { (cards : List (List ℕ)) → IsIndexOf entries.old.items cards
+        → IsIndexOf entries.new.items (moved cards from to) }
+    ensures len { vec_len entries.new ≡ vec_len entries.old }
+    ensures room { vec_capacity entries.new ≡ vec_capacity entries.old }
+{
+    let entry = take_named(entries, from, name);
+    turn(entries, from, to);
+    add(entries, Entry { place: to, ..entry });
 }

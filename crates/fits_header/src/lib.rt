@@ -3,7 +3,6 @@
 #![tactic(auto)]
 
 mod card_total;
-mod changing;
 mod counting;
 mod counts;
 mod entries;
@@ -25,6 +24,7 @@ mod numbers;
 mod passing_total;
 mod repeats;
 mod seen;
+mod shifts;
 mod surrounding;
 mod survey;
 

@@ -1,6 +1,0 @@
-use Rattle.std.proofs.Common.{◌≡◌, ◌++◌, map, take, drop}
-use Rattle.fits_header.specs.Index.{shifted}
-use Rattle.fits_header.proofs.entries.shift.Given as goal
-
-abbrev pub invariant-loop-index : goal.invariant-loop-index
-invariant-loop-index l = l.entries ≡ map (shifted l.place l.removed l.coming) (take l.index l.fn.entries) ++ drop l.index l.fn.entries
