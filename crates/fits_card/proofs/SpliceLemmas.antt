@@ -1,10 +1,9 @@
 -- Items of a list replaced by others.
-use Rattle.std.proofs.Common.{◌≡◌, ℕ, ◌+◌, ◌-◌, ◌<◌, ◌≤◌, List, [], ◌∷◌, ◌++◌, length, get_or, take, drop, ap, sym, ◌∙◌, refl, set, suc, append_assoc, append-nil, arith, length-append, length-drop}
-use Rattle.std.proofs.lemmas.List.{take-append-le, length-take-le, drop-append-le, take_at, drop_at, drop_all, drop_more, take-take}
+use Rattle.std.proofs.Common.{◌≡◌, ℕ, ◌+◌, ◌-◌, ◌<◌, ◌≤◌, List, ◌++◌, length, get_or, take, drop, ap, sym, ◌∙◌, set, append_assoc, append-nil, arith, length-append, length-drop}
+use Rattle.std.proofs.lemmas.List.{take-append-le, length-take-le, drop-append-le, take_at, drop_at, drop_all, take-take}
 use Rattle.std.proofs.lemmas.List.Edits.{paste_all, paste_more}
 use Rattle.std.proofs.Math.Seq.{paste}
-use Rattle.std.specs.Prelude.{insert, remove}
-use Rattle.fits_card.specs.Change.{only_item, spliced, moved}
+use Rattle.fits_card.specs.Change.{spliced}
 
 -- the rest of a list moved over some of its items, and its end cut off
 pub out-moved : {X : Type 0} (xs : List X) (from count n m : ℕ) → n ≡ length xs - count → from + count ≤ length xs → m ≡ length xs - (from + count) → take n (paste xs from (drop (from + count) xs) m) ≡ take from xs ++ drop (from + count) xs
@@ -13,8 +12,6 @@ out-moved xs from count n m h fits k =
     let size : m ≡ length rest = omega (arith, length-drop (from + count) xs) in
     ap (take n) (paste_all xs from rest m size ∙ sym (append_assoc (take from xs) rest (drop (from + m) xs)))
     ∙ take_at (take from xs ++ rest) (drop (from + m) xs) n (omega (arith, length-append (take from xs) rest, length-take-le from xs (omega arith), length-drop (from + count) xs))
-
-pub ruleset out_steps = (out-moved)
 
 -- the rest of a list moved on over what was put behind it
 module _ {X : Type 0} (xs new : List X) (from count n : ℕ) (low : from ≤ length xs) (is : count ≡ length new) where
@@ -42,37 +39,6 @@ module _ {X : Type 0} (xs new : List X) (from count n : ℕ) (low : from ≤ len
       ∙ (drop_at (take (from + count) all) (take n (drop from all) ++ drop (from + count + n) all) (from + count) size
       ∙ rw (drop_all (from + count + n) all (omega (arith, length-append xs new)), drop-append-le from xs new low, take_at (drop from xs) new n rest) (append-nil (drop from xs)))
 
-pub ruleset in_steps = (moved-on-before, moved-on-after)
-
--- the list without those that went
-abbrev left-over : {X : Type 0} → List X → ℕ → ℕ → List X
-left-over xs at gone = take at xs ++ drop (at + gone) xs
-
--- what stands before them stays, also where others were put in
-pub remade-before : {X : Type 0} (xs ys : List X) (low at gone : ℕ) → low ≤ at → at + gone ≤ length xs → take at ys ≡ take at (left-over xs at gone) → take low ys ≡ take low xs
-remade-before xs ys low at gone before fits same =
-    sym (take-take low at ys before)
-    ∙ (ap (take low) (same ∙ take_at (take at xs) (drop (at + gone) xs) at (length-take-le at xs (omega arith))) ∙ take-take low at xs before)
-
--- and so does what follows them
-pub remade-after : {X : Type 0} (xs ys : List X) (end at gone added : ℕ) → at + gone ≤ length xs → end ≡ at + added → drop (at + added) ys ≡ drop at (left-over xs at gone) → drop end ys ≡ drop (at + gone) xs
-remade-after xs ys end at gone added fits is same =
-    ap (λ (n : ℕ). drop n ys) is ∙ (same ∙ drop_at (take at xs) (drop (at + gone) xs) at (length-take-le at xs (omega arith)))
-
--- the item at a place, as a list
-one_item : {X : Type 0} (xs : List X) (place : ℕ) (x : X) → 1 ≤ place → place ≤ length xs → x ≡ get_or xs (place - 1) x → only_item xs place ≡ x ∷ []
-one_item xs place x one within is =
-    ap (take 1) (drop_more xs (place - 1) x (omega arith)) ∙ ap (λ y. y ∷ []) (sym is)
-
--- an item that was taken out is put in
-pub moved-put : {X : Type 0} (xs : List X) (from to : ℕ) (x : X) → 1 ≤ from → from ≤ length xs → x ≡ get_or xs (from - 1) x → insert (remove xs (from - 1)) (to - 1) x ≡ moved xs from to
-moved-put xs from to x one within is =
-    let next : suc (from - 1) ≡ from - 1 + 1 = omega arith in
-    let same : to - 1 + 0 ≡ to - 1 = omega arith in
-    rw (next, same, one_item xs from x one within is) refl
-
-pub ruleset move_steps = (moved-put)
-
 -- so many items were written over
 pub paste-spliced : {X : Type 0} (xs new : List X) (place n : ℕ) → n ≡ length new → paste xs (place - 1) new n ≡ spliced xs place n new
 paste-spliced xs new place n h = paste_all xs (place - 1) new n h
@@ -80,5 +46,3 @@ paste-spliced xs new place n h = paste_all xs (place - 1) new n h
 -- one more item is written over
 pub paste-more : {X : Type 0} (xs ys new : List X) (from i : ℕ) (x : X) → ys ≡ paste xs from new i → from + i < length xs → i < length new → x ≡ get_or new i x → set ys (from + i) x ≡ paste xs from new (i + 1)
 paste-more xs ys new from i x h fits within is = rw h (ap (set (paste xs from new i) (from + i)) is ∙ paste_more xs from new i x fits within)
-
-pub ruleset write_steps = (paste-spliced, paste-more)

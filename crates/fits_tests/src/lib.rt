@@ -22,9 +22,9 @@ mod planned;
 #[cfg(test)]
 mod reading;
 #[cfg(test)]
-mod rows;
-#[cfg(test)]
 mod shapes;
+#[cfg(test)]
+mod slots;
 #[cfg(test)]
 mod sums;
 #[cfg(test)]

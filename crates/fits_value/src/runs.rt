@@ -64,6 +64,10 @@ pub(crate) fn gap_len(text: &[u8], byte: u8) -> usize
     ensures value { result ≡ prefix_len (λ b. not (b == byte)) text.now }
     ensures within { result ≤ length text.now }
 {
+    // In a row of quotes the next one stands at once.
+    if text.first() == Some(&byte) {
+        return 0;
+    }
     let whole = text.len() / LANES;
     for i in 0..whole {
         let gap = gap_at(text, LANES * i, byte);

@@ -1,7 +1,7 @@
-//! Items in a row and items in slots, under the same changes.
+//! Items in slots, under changes.
 
 use crate::checks::{holds, same};
-use fits_card::{Slotted, make_room, move_item};
+use fits_card::Slotted;
 use std::alloc::{AllocError, Global};
 use std::process::Abort;
 use std::test::Fail;
@@ -29,13 +29,13 @@ const MOVES: &[(usize, usize, &[u8])] = &[
     (3, 3, b"abcdef"),
 ];
 
-fn row(alloc: Global, letters: &[u8]) -> Result<Vec<u8>, AllocError> {
-    let mut row = Vec::new(alloc);
-    row.extend_from_slice(letters)?;
-    Ok(row)
+fn letters_in_slots(alloc: Global) -> Result<Slotted<u8>, AllocError> {
+    let mut letters = Vec::new(alloc);
+    letters.extend_from_slice(LETTERS)?;
+    Slotted::of(alloc, letters)
 }
 
-/// Whether the letters in slots are those of a row.
+/// Whether the letters in slots are these.
 fn check_slots<R: Abort>(rt: &R, slots: &Slotted<u8>, wanted: &[u8]) {
     same!(rt; slots.len(), wanted.len(), wanted);
     for index in 0..wanted.len() {
@@ -46,21 +46,16 @@ fn check_slots<R: Abort>(rt: &R, slots: &Slotted<u8>, wanted: &[u8]) {
 
 fn check_splice<R: Abort>(rt: &R, alloc: Global, case: &Splice<'_>) -> Result<(), Fail> {
     let (place, removed, coming, wanted) = *case;
-    let mut letters = row(alloc, LETTERS)?;
-    let mut slots = Slotted::of(alloc, row(alloc, LETTERS)?)?;
-    letters.reserve(coming.len())?;
+    let mut slots = letters_in_slots(alloc)?;
     slots.reserve(coming.len())?;
     holds!(rt; 1 <= place && place <= 7 && removed <= 7 - place, case);
-    holds!(rt; letters.len() == 6 && slots.len() == 6, case);
-    make_room(&mut letters, place, removed, coming.len(), b'.');
+    holds!(rt; slots.len() == 6, case);
     slots.make_room(place, removed, coming.len(), b'.');
     for index in 0..coming.len() {
         let at = place - 1 + index;
-        holds!(rt; at < letters.len() && at < slots.len(), case);
-        letters[at] = coming[index];
+        holds!(rt; at < slots.len(), case);
         slots.set(at, coming[index]);
     }
-    same!(rt; letters.as_slice(), wanted, case);
     check_slots(rt, &slots, wanted);
     Ok(())
 }
@@ -75,13 +70,10 @@ fn letters_go_and_others_come(rt: HostRuntime) -> Result<(), Fail> {
 
 fn check_move<R: Abort>(rt: &R, alloc: Global, case: &(usize, usize, &[u8])) -> Result<(), Fail> {
     let (from, to, wanted) = *case;
-    let mut letters = row(alloc, LETTERS)?;
-    let mut slots = Slotted::of(alloc, row(alloc, LETTERS)?)?;
-    holds!(rt; 1 <= from && from <= letters.len() && from <= slots.len(), case);
-    holds!(rt; 1 <= to && to <= letters.len() && to <= slots.len(), case);
-    move_item(&mut letters, from, to);
+    let mut slots = letters_in_slots(alloc)?;
+    holds!(rt; 1 <= from && from <= slots.len(), case);
+    holds!(rt; 1 <= to && to <= slots.len(), case);
     slots.move_item(from, to);
-    same!(rt; letters.as_slice(), wanted, case);
     check_slots(rt, &slots, wanted);
     Ok(())
 }
