@@ -20,12 +20,17 @@ pub(crate) fn split_once(text: &[u8], separator: u8) -> Option<(&[u8], &[u8])>
     None
 }
 
-/// The same, of a text in which the byte is likely to stand far from the front.
+/// The same, of a text in which the byte is likely to stand far from the front, where it isn't the
+/// first.
 pub(crate) fn split_far(text: &[u8], separator: u8) -> Option<(&[u8], &[u8])>
     ensures some { IfSome result (λ cut. HasNo separator cut.0.now
         × (text.now ≡ cut.0.now ++ separator ∷ cut.1.now)) }
     ensures none { IfNone result (HasNo separator text.now) }
 {
+    match text {
+        [first, rest @ ..] if *first == separator => return Some((b"", rest)),
+        _ => {}
+    }
     let Some(at) = memchr(separator, text) else {
         return None;
     };

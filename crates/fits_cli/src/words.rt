@@ -90,7 +90,7 @@ fn read_digits(digits: &[u8]) -> Option<usize>
 pub(crate) fn is_number(word: &[u8], most: usize) -> bool
     ensures { result ≡ is_number most word.now }
 {
-    are_digits(word) && !word.is_empty() && word.len() <= most
+    !word.is_empty() && word.len() <= most && are_digits(word)
 }
 
 fn are_digits(word: &[u8]) -> bool

@@ -1,8 +1,8 @@
 use Rattle.fits_cli.proofs.CutLemmas.{HasNo-all, HasNo-before, cut_there}
 use Rattle.fits_cli.proofs.cut.split_far.Goals as goal
 
-pub returns-in_default-clause-none : goal.returns-in_default-clause-none
-returns-in_default-clause-none c = HasNo-all c.args.separator c.args.text.now c.in_default.ensures
+pub returns-in_default-memchr-clause-none : goal.returns-in_default-memchr-clause-none
+returns-in_default-memchr-clause-none c = HasNo-all c.args.separator c.args.text.now c.in_default-memchr.ensures
 
 pub returns-clause-some : goal.returns-clause-some
 returns-clause-some c =
