@@ -7,6 +7,7 @@ pub mod JoinLemmas
 pub mod LaneLemmas
 pub mod LeafLemmas
 pub mod PaintLemmas
+pub mod PathLemmas
 pub mod PixelLemmas
 pub mod PlaceLemmas
 pub mod PlaneLemmas

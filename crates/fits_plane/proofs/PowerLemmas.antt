@@ -1,7 +1,13 @@
 -- A place that is halved, beside a power of two that is doubled.
-use Rattle.std.proofs.Common.{◌≡◌, ◌≤◌, ◌*◌, ◌/◌, ◌^◌, ℕ, suc, ◌<◌, arith, ap, sym, inl, inr, ◌∙◌}
-use Rattle.std.proofs.lemmas.Bool.{cases_lt}
+use Rattle.std.proofs.Common.{◌≡◌, ◌≤◌, ◌*◌, ◌/◌, ◌^◌, ℕ, zero, suc, ◌<◌, arith, ap, sym, inl, inr, ◌∙◌}
+use Rattle.std.proofs.lemmas.Bool.{cases_eq, cases_lt}
+use Rattle.std.proofs.lemmas.Bool.Decides.{nat_tests}
+use Rattle.fits_plane.specs.Tree.{most_above}
 use Rattle.std.proofs.Math.Nat.{pow-suc, mul-le-mul_left, pow-le-pow_right}
+
+-- a power that a place is multiplied by is no more than the product
+pub power_alone : (k place leaf : ℕ) → 1 ≤ place → 2 ^ k * place ≤ leaf → 2 ^ k ≤ leaf
+power_alone k place leaf some h = let more = mul-le-mul_left (2 ^ k) some in omega (arith, more, h)
 
 -- half the place, twice the power
 pub halves : (k m place leaf : ℕ) → m ≡ suc k → 2 ^ k * place ≤ leaf → 2 ^ m * (place / 2) ≤ leaf
@@ -26,12 +32,26 @@ doubled used n m d p least small e = (
   ],
 )
 
--- a walk from below the leaves' end makes few joins
-pub few_joins : (k depth at n used d : ℕ) → n ≡ 2 ^ depth → at < 2 * n → 2 ^ k ≤ at → ((e : ℕ) → used ≤ 2 ^ e → depth ≤ e) → used ≤ 2 ^ d → k ≤ d
-few_joins k depth at n used d p b h least u = elim (cases_lt d k) [
-  | inl lt ↦ let up = pow_up k (suc depth) (omega (arith, lt, least d u)) in let two = pow-suc 2 depth in absurd (omega (arith, up, h, b, p, two))
-  | inr ge ↦ ge
+-- the root has nothing above it
+above_root : (k d place : ℕ) → place ≡ 1 → 2 ^ k ≤ place → k ≤ most_above d place
+above_root zero d place e h = omega arith
+above_root (suc k) d place e h = let up = pow_up (suc k) 1 (omega arith) in absurd (omega (arith, e, h, up))
+
+-- a path from below the leaves' end is short
+pub few_above : (k n d place : ℕ) → n ≤ 2 ^ d → place < 2 * n → 2 ^ k ≤ place → k ≤ most_above d place
+few_above k n d place u b h = elim (cases_eq place 1) [
+  | inl root ↦ above_root k d place root h
+  | inr ne ↦
+      let short : k ≤ d = elim (cases_lt d k) [
+        | inl lt ↦ let up = pow_up k (suc d) (omega (arith, lt)) in let two = pow-suc 2 d in absurd (omega (arith, up, h, b, u, two))
+        | inr ge ↦ ge
+      ] in
+      grind (arith, nat_tests)
 ]
+
+-- no more stand above any place
+pub most_above_le : (d place : ℕ) → most_above d place ≤ d
+most_above_le d place = grind (arith, nat_tests)
 
 -- the least power is no more than any that is enough
 pub least_power : (depth n used d : ℕ) → n ≡ 2 ^ depth → ((e : ℕ) → used ≤ 2 ^ e → depth ≤ e) → used ≤ 2 ^ d → n ≤ 2 ^ d

@@ -15,7 +15,7 @@ pub(crate) struct Halves {
 
 impl Halves {
     /// The total of the words.
-    pub(crate) fn total(self) -> u64
+    pub(crate) fn word_total(self) -> u64
         ensures { result ≡ 65536 * self.high + self.low }
     {
         u64::from(self.high) * 65536 + u64::from(self.low)
@@ -30,8 +30,8 @@ pub(crate) fn halves_of(block: &[u8]) -> Halves
     ensures fours { 65536 * result.high + result.low
         ≡ unsigned_total 4 block.now 0 (length block.now / 4) }
     ensures twos { result.high + result.low ≡ unsigned_total 2 block.now 0 (length block.now / 2) }
-    ensures high { result.high ≤ 47185200 }
-    ensures low { result.low ≤ 47185200 }
+    ensures high { result.high ≤ 720 * 65535 }
+    ensures low { result.low ≤ 720 * 65535 }
 {
     let mut high = 0u32;
     let mut low = 0u32;

@@ -1,6 +1,6 @@
 //! The 64-bit numbers of a block, added up by halves: the total of the words, and that of all pixels
 //! of 64 bits, by one pass.
-ghost use Rattle.std.specs.Prelude.{◌≡◌, ◌≤◌, ◌*◌, ◌+◌, ◌/◌, ◌%◌, length};
+ghost use Rattle.std.specs.Prelude.{◌≡◌, ◌≤◌, ◌*◌, ◌+◌, ◌-◌, ◌/◌, ◌%◌, ◌^◌, length};
 ghost use Rattle.fits_sum.specs.Words.{word_total};
 ghost use Rattle.fits_plane.specs.Scan.{unsigned_total};
 
@@ -15,7 +15,7 @@ pub(crate) struct LongHalves {
 
 impl LongHalves {
     /// The total of the numbers.
-    pub(crate) fn total(self) -> u128
+    pub(crate) fn long_total(self) -> u128
         ensures { result ≡ 4294967296 * self.high + self.low }
     {
         u128::from(self.high) * 4_294_967_296 + u128::from(self.low)
@@ -29,8 +29,8 @@ pub(crate) fn long_halves_of(block: &[u8]) -> LongHalves
     ensures words { result.high + result.low ≡ word_total block.now }
     ensures eights { 4294967296 * result.high + result.low
         ≡ unsigned_total 8 block.now 0 (length block.now / 8) }
-    ensures high { result.high ≤ 1546188226200 }
-    ensures low { result.low ≤ 1546188226200 }
+    ensures high { result.high ≤ 360 * (2 ^ 32 - 1) }
+    ensures low { result.low ≤ 360 * (2 ^ 32 - 1) }
 {
     let mut high = 0u64;
     let mut low = 0u64;

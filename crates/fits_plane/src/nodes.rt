@@ -1,6 +1,6 @@
 //! The nodes of a tree, in a list: leaves are written, and the nodes above them joined.
-ghost use Rattle.std.specs.Prelude.{◌≡◌, ◌≤◌, ◌<◌, ◌*◌, ◌+◌, ◌-◌, ◌^◌, ℕ, drop, take, length, slice_set, slice_index_or, IfOk, IfSome, replicate};
-ghost use Rattle.fits_plane.specs.Tree.{IsTree, IsLeastPower};
+ghost use Rattle.std.specs.Prelude.{◌≡◌, ◌≤◌, ◌<◌, ◌*◌, ◌+◌, ◌-◌, ◌^◌, ◌⊎◌, ℕ, drop, take, length, slice_set, slice_index_or, IfOk, IfSome, replicate};
+ghost use Rattle.fits_plane.specs.Tree.{IsTree, IsTreeBut, IsLeastPower, most_above, nodes_left};
 
 use crate::summary::Summary;
 use fits_card::Count;
@@ -40,29 +40,82 @@ fn join_at<S: Summary>(nodes: &mut [S], place: usize, joins: &mut Count)
     nodes[place] = nodes[2 * place].join(nodes[2 * place + 1]);
 }
 
-/// Writes a leaf, and joins each node above it anew.
+/// Joins the nodes above one place anew, up to where its path meets that of another.
+pub(crate) fn climb<S: Summary>(
+    nodes: &mut [S],
+    width: usize,
+    from: usize,
+    to: usize,
+    joins: &mut Count,
+)
+    requires tree { IsTreeBut S.empty S.joined S.fits width from nodes.old }
+    requires some { 1 ≤ to }
+    requires within { to < 2 * width }
+    ensures tree { IsTreeBut S.empty S.joined S.fits width to nodes.new }
+    ensures leaves { drop width nodes.new ≡ drop width nodes.old }
+    ensures more { joins.old.total ≤ joins.new.total }
+    ensures few { (d : ℕ) → width ≤ 2 ^ d → joins.new.total ≤ joins.old.total + most_above d from }
+    ensures left { (h : ℕ) → width ≡ 2 ^ h → width ≤ from → from ≤ to → joins.new.total
+        + nodes_left h (from - width) ≤ joins.old.total + nodes_left h (to - width) }
+{
+    let mut place = from;
+    let mut other = to;
+    while place > 1 {
+        place /= 2;
+        other /= 2;
+        if place == other {
+            return;
+        }
+        join_at(nodes, place, joins);
+    }
+}
+
+/// Writes a leaf after another, whose path is joined anew up to where the two meet. Its place is
+/// returned: the nodes above it are yet to be joined.
 pub(crate) fn write_leaf<S: Summary>(
     nodes: &mut [S],
     width: usize,
-    at: usize,
+    last: usize,
+    index: usize,
+    value: S,
+    joins: &mut Count,
+) -> usize
+    requires tree { IsTreeBut S.empty S.joined S.fits width last nodes.old }
+    requires leaf { (last ≡ 1) ⊎ (width ≤ last) }
+    requires within { index < width }
+    requires fits { S.fits value }
+    ensures place { result ≡ width + index }
+    ensures tree { IsTreeBut S.empty S.joined S.fits width result nodes.new }
+    ensures leaves { drop width nodes.new ≡ slice_set (drop width nodes.old) index value }
+    ensures more { joins.old.total ≤ joins.new.total }
+    ensures few { (d : ℕ) → width ≤ 2 ^ d → joins.new.total ≤ joins.old.total + most_above d last }
+    ensures left { (h : ℕ) → width ≡ 2 ^ h → last ≤ result → joins.new.total
+        + nodes_left h (last - width) ≤ joins.old.total + nodes_left h index }
+{
+    let at = width + index;
+    climb(nodes, width, last, at, joins);
+    nodes[at] = value;
+    at
+}
+
+/// Writes a leaf, and joins each node above it anew.
+pub(crate) fn set_leaf<S: Summary>(
+    nodes: &mut [S],
+    width: usize,
+    index: usize,
     value: S,
     joins: &mut Count,
 )
     requires tree { IsTree S.empty S.joined S.fits width nodes.old }
+    requires within { index < width }
     requires fits { S.fits value }
-    requires low { width ≤ at }
-    requires high { at < 2 * width }
     ensures tree { IsTree S.empty S.joined S.fits width nodes.new }
-    ensures leaves { drop width nodes.new ≡ slice_set (drop width nodes.old) (at - width) value }
+    ensures leaves { drop width nodes.new ≡ slice_set (drop width nodes.old) index value }
     ensures more { joins.old.total ≤ joins.new.total }
-    ensures few { 2 ^ (joins.new.total - joins.old.total) ≤ at }
+    ensures few { (d : ℕ) → width ≤ 2 ^ d → joins.new.total ≤ joins.old.total + d }
 {
-    nodes[at] = value;
-    let mut place = at;
-    while place > 1 {
-        place /= 2;
-        join_at(nodes, place, joins);
-    }
+    let at = write_leaf(nodes, width, 1, index, value, joins);
+    climb(nodes, width, at, 1, joins);
 }
 
 /// Joins each node of a tree anew, from the leaves up.

@@ -42,9 +42,9 @@ fn total_of(block: &[u8], held: usize, negatives: u16, total: u32) -> i32
     requires few { negatives ≤ held }
     requires negatives { negatives ≡ negative_count (pixels 2 block.now 0 held) }
     requires total { total ≡ unsigned_total 2 block.now 0 (length block.now / 2) }
-    requires small { total ≤ 94371840 }
+    requires small { total ≤ 1440 * 65536 }
     ensures value { result ≡ sum_of (pixels 2 block.now 0 held) }
-    ensures within { unsigned_abs result ≤ 94371840 }
+    ensures within { unsigned_abs result ≤ 1440 * 65536 }
 {
     if held * 2 < block.len() {
         added(block, held)
@@ -58,7 +58,7 @@ fn scan_defined(block: &[u8], held: usize, total: u32) -> PixelSummary
     requires within { held * 2 ≤ length block.now }
     requires short { length block.now ≤ 2880 }
     requires total { total ≡ unsigned_total 2 block.now 0 (length block.now / 2) }
-    requires small { total ≤ 94371840 }
+    requires small { total ≤ 1440 * 65536 }
     ensures { result ≡ statistics None (pixels 2 block.now 0 held) }
 {
     let mut least = i16::MAX;
@@ -115,7 +115,7 @@ fn scan_blank(block: &[u8], held: usize, blank: i16, total: u32) -> PixelSummary
     requires within { held * 2 ≤ length block.now }
     requires short { length block.now ≤ 2880 }
     requires total { total ≡ unsigned_total 2 block.now 0 (length block.now / 2) }
-    requires small { total ≤ 94371840 }
+    requires small { total ≤ 1440 * 65536 }
     ensures { result ≡ statistics (Some blank) (pixels 2 block.now 0 held) }
 {
     let first = leading_blanks(block, held, blank);
@@ -152,7 +152,7 @@ pub(crate) fn scan(block: &[u8], held: usize, blank: Option<i64>, total: u32) ->
     requires within { held * 2 ≤ length block.now }
     requires short { length block.now ≤ 2880 }
     requires total { total ≡ unsigned_total 2 block.now 0 (length block.now / 2) }
-    requires small { total ≤ 94371840 }
+    requires small { total ≤ 1440 * 65536 }
     ensures { result ≡ statistics blank (pixels 2 block.now 0 held) }
 {
     if let Some(number) = blank {

@@ -3,7 +3,7 @@
 //! A pass holds numbers of the pixel's own type, and counts no wider than a block needs. The sum of
 //! the pixels of a full block comes from their total without signs; those of a block that is filled
 //! in part are added up by themselves. What is blank is taken off at the end.
-ghost use Rattle.std.specs.Prelude.{◌≡◌, ◌≢◌, ◌≤◌, ◌<◌, ℕ, pos, int_lt, if◌then◌else◌, ◌*◌, ◌+◌, ◌/◌, length, Some, None, unsigned_abs};
+ghost use Rattle.std.specs.Prelude.{◌≡◌, ◌≢◌, ◌≤◌, ◌<◌, ℕ, pos, int_lt, if◌then◌else◌, ◌*◌, ◌+◌, ◌/◌, ◌^◌, length, Some, None, unsigned_abs};
 ghost use Rattle.fits_plane.specs.Pixels.{pixel, pixels};
 ghost use Rattle.fits_plane.specs.Statistics.{statistics, sum_of};
 ghost use Rattle.fits_plane.specs.Scan.{negative_count, unsigned_total};
@@ -42,9 +42,9 @@ fn total_of(block: &[u8], held: usize, negatives: u32, total: u64) -> i64
     requires few { negatives ≤ held }
     requires negatives { negatives ≡ negative_count (pixels 4 block.now 0 held) }
     requires total { total ≡ unsigned_total 4 block.now 0 (length block.now / 4) }
-    requires small { total ≤ 3092376453120 }
+    requires small { total ≤ 720 * 2 ^ 32 }
     ensures value { result ≡ sum_of (pixels 4 block.now 0 held) }
-    ensures within { unsigned_abs result ≤ 3092376453120 }
+    ensures within { unsigned_abs result ≤ 720 * 2 ^ 32 }
 {
     if held * 4 < block.len() {
         added(block, held)
@@ -58,7 +58,7 @@ fn scan_defined(block: &[u8], held: usize, total: u64) -> PixelSummary
     requires within { held * 4 ≤ length block.now }
     requires short { length block.now ≤ 2880 }
     requires total { total ≡ unsigned_total 4 block.now 0 (length block.now / 4) }
-    requires small { total ≤ 3092376453120 }
+    requires small { total ≤ 720 * 2 ^ 32 }
     ensures { result ≡ statistics None (pixels 4 block.now 0 held) }
 {
     let mut least = i32::MAX;
@@ -115,7 +115,7 @@ fn scan_blank(block: &[u8], held: usize, blank: i32, total: u64) -> PixelSummary
     requires within { held * 4 ≤ length block.now }
     requires short { length block.now ≤ 2880 }
     requires total { total ≡ unsigned_total 4 block.now 0 (length block.now / 4) }
-    requires small { total ≤ 3092376453120 }
+    requires small { total ≤ 720 * 2 ^ 32 }
     ensures { result ≡ statistics (Some blank) (pixels 4 block.now 0 held) }
 {
     let first = leading_blanks(block, held, blank);
@@ -152,7 +152,7 @@ pub(crate) fn scan(block: &[u8], held: usize, blank: Option<i64>, total: u64) ->
     requires within { held * 4 ≤ length block.now }
     requires short { length block.now ≤ 2880 }
     requires total { total ≡ unsigned_total 4 block.now 0 (length block.now / 4) }
-    requires small { total ≤ 3092376453120 }
+    requires small { total ≤ 720 * 2 ^ 32 }
     ensures { result ≡ statistics blank (pixels 4 block.now 0 held) }
 {
     if let Some(number) = blank {

@@ -3,7 +3,7 @@
 //! A pass holds numbers of the pixel's own type, and counts as wide. The sum of the pixels of a full
 //! block comes from their total without signs; those of a block that is filled in part are added up
 //! by themselves. What is blank is taken off at the end.
-ghost use Rattle.std.specs.Prelude.{◌≡◌, ◌≢◌, ◌≤◌, ◌<◌, ℕ, pos, int_lt, if◌then◌else◌, ◌*◌, ◌+◌, ◌/◌, length, Some, None, unsigned_abs};
+ghost use Rattle.std.specs.Prelude.{◌≡◌, ◌≢◌, ◌≤◌, ◌<◌, ℕ, pos, int_lt, if◌then◌else◌, ◌*◌, ◌+◌, ◌/◌, ◌^◌, length, Some, None, unsigned_abs};
 ghost use Rattle.fits_plane.specs.Pixels.{pixel, pixels};
 ghost use Rattle.fits_plane.specs.Statistics.{statistics, sum_of};
 ghost use Rattle.fits_plane.specs.Scan.{negative_count, unsigned_total};
@@ -42,9 +42,9 @@ fn total_of(block: &[u8], held: usize, negatives: u64, total: u128) -> i128
     requires few { negatives ≤ held }
     requires negatives { negatives ≡ negative_count (pixels 8 block.now 0 held) }
     requires total { total ≡ unsigned_total 8 block.now 0 (length block.now / 8) }
-    requires small { total ≤ 6640827866535438581760 }
+    requires small { total ≤ 360 * 2 ^ 64 }
     ensures value { result ≡ sum_of (pixels 8 block.now 0 held) }
-    ensures within { unsigned_abs result ≤ 6640827866535438581760 }
+    ensures within { unsigned_abs result ≤ 360 * 2 ^ 64 }
 {
     if held * 8 < block.len() {
         added(block, held)
@@ -58,7 +58,7 @@ fn scan_defined(block: &[u8], held: usize, total: u128) -> PixelSummary
     requires within { held * 8 ≤ length block.now }
     requires short { length block.now ≤ 2880 }
     requires total { total ≡ unsigned_total 8 block.now 0 (length block.now / 8) }
-    requires small { total ≤ 6640827866535438581760 }
+    requires small { total ≤ 360 * 2 ^ 64 }
     ensures { result ≡ statistics None (pixels 8 block.now 0 held) }
 {
     let mut least = i64::MAX;
@@ -109,7 +109,7 @@ fn scan_blank(block: &[u8], held: usize, blank: i64, total: u128) -> PixelSummar
     requires within { held * 8 ≤ length block.now }
     requires short { length block.now ≤ 2880 }
     requires total { total ≡ unsigned_total 8 block.now 0 (length block.now / 8) }
-    requires small { total ≤ 6640827866535438581760 }
+    requires small { total ≤ 360 * 2 ^ 64 }
     ensures { result ≡ statistics (Some blank) (pixels 8 block.now 0 held) }
 {
     let first = leading_blanks(block, held, blank);
@@ -139,7 +139,7 @@ pub(crate) fn scan(block: &[u8], held: usize, blank: Option<i64>, total: u128) -
     requires within { held * 8 ≤ length block.now }
     requires short { length block.now ≤ 2880 }
     requires total { total ≡ unsigned_total 8 block.now 0 (length block.now / 8) }
-    requires small { total ≤ 6640827866535438581760 }
+    requires small { total ≤ 360 * 2 ^ 64 }
     ensures { result ≡ statistics blank (pixels 8 block.now 0 held) }
 {
     match blank {

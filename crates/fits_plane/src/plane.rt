@@ -1,7 +1,7 @@
 ghost use Rattle.std.specs.Prelude.{◌≡◌, replicate, IfOk};
 
 use crate::layout::Layout;
-use crate::leaves::{leaves_of, refresh_rows, root_of, zero_leaves};
+use crate::leaves::{leaves_of, root_of, zero_leaves};
 use crate::paint::Paint;
 use crate::pixel_reads::read_rows;
 use crate::pixel_summary::PixelSummary;
@@ -200,7 +200,8 @@ impl Plane {
             axes.now lo.now hi.now (painted_number paint.now offset) self.old.bytes }
         ensures layout { self.new.layout ≡ self.old.layout }
 
-        // Each block that holds a byte of it is scanned at most once. It takes no memory.
+        // Each block that holds a byte of it is scanned at most once, with no more joins than there
+        // are nodes. It takes no memory.
         ensures reads { self.new.reads ≡ self.old.reads }
         ensures more_scans { self.old.scans ≤ self.new.scans }
         ensures scans { self.new.scans ≤ self.old.scans
@@ -209,6 +210,8 @@ impl Plane {
         ensures joins { (d : ℕ) → block_count self.old.bytes ≤ 2 ^ d
             → self.new.joins ≤ self.old.joins
             + rectangle_blocks self.old.layout self.old.bytes axes.now lo.now hi.now * d }
+        ensures most { (d : ℕ) → block_count self.old.bytes ≤ 2 ^ d
+            → self.new.joins ≤ self.old.joins + 2 ^ d }
     {
         paint_rows(
             self.bytes.as_mut_slice(),
@@ -219,14 +222,13 @@ impl Plane {
             paint,
             offset,
         );
-        refresh_rows(
-            &mut self.tree,
-            &mut self.scans,
+        self.tree.refresh_rectangle(
             self.bytes.as_slice(),
             self.layout,
             axes,
             lo,
             hi,
+            &mut self.scans,
         );
     }
 
@@ -241,7 +243,8 @@ impl Plane {
             axes.now lo.now hi.now (λ k. stored) self.old.bytes }
         ensures layout { self.new.layout ≡ self.old.layout }
 
-        // Each block that holds a byte of it is scanned at most once. It takes no memory.
+        // Each block that holds a byte of it is scanned at most once, with no more joins than there
+        // are nodes. It takes no memory.
         ensures reads { self.new.reads ≡ self.old.reads }
         ensures more_scans { self.old.scans ≤ self.new.scans }
         ensures scans { self.new.scans ≤ self.old.scans
@@ -250,6 +253,8 @@ impl Plane {
         ensures joins { (d : ℕ) → block_count self.old.bytes ≤ 2 ^ d
             → self.new.joins ≤ self.old.joins
             + rectangle_blocks self.old.layout self.old.bytes axes.now lo.now hi.now * d }
+        ensures most { (d : ℕ) → block_count self.old.bytes ≤ 2 ^ d
+            → self.new.joins ≤ self.old.joins + 2 ^ d }
     {
         self.paint_rect(axes, lo, hi, &Paint::Fill(i128::from(stored)), 0);
     }
@@ -275,7 +280,8 @@ impl Plane {
             self.old.bytes }
         ensures layout { self.new.layout ≡ self.old.layout }
 
-        // Each block that holds a byte of it is scanned at most once. It takes no memory.
+        // Each block that holds a byte of it is scanned at most once, with no more joins than there
+        // are nodes. It takes no memory.
         ensures reads { self.new.reads ≡ self.old.reads }
         ensures more_scans { self.old.scans ≤ self.new.scans }
         ensures scans { self.new.scans ≤ self.old.scans
@@ -284,6 +290,8 @@ impl Plane {
         ensures joins { (d : ℕ) → block_count self.old.bytes ≤ 2 ^ d
             → self.new.joins ≤ self.old.joins
             + rectangle_blocks self.old.layout self.old.bytes axes.now lo.now hi.now * d }
+        ensures most { (d : ℕ) → block_count self.old.bytes ≤ 2 ^ d
+            → self.new.joins ≤ self.old.joins + 2 ^ d }
     {
         self.paint_rect(axes, lo, hi, &Paint::Write(Values::new(values)), offset);
     }

@@ -1,9 +1,8 @@
 //! All blocks of a data unit, scanned anew.
 ghost use Rattle.std.specs.Prelude.{◌≡◌, ◌≤◌, ◌<◌, ◌*◌, ◌+◌, ◌^◌, ℕ, length, slice_index_or};
-ghost use Rattle.fits_plane.specs.Summary.{pixels_joined, PixelFits, words_joined, WordFits, halves_joined, HalvesFit};
-ghost use Rattle.fits_plane.specs.Tree.{IsTree};
+ghost use Rattle.fits_plane.specs.Summary.{PixelFits, WordFits, HalvesFit};
 ghost use Rattle.fits_plane.specs.Layout.{IsLayout, block_count};
-ghost use Rattle.fits_plane.specs.Leaves.{leaf_unit, leaf_of, AreLeaves};
+ghost use Rattle.fits_plane.specs.Leaves.{leaf_unit, leaf_of, AreLeaves, IsBlockTree};
 
 use crate::layout::Layout;
 use crate::nodes::join_all;
@@ -42,12 +41,10 @@ fn replant(
     joins: &mut Count,
 )
     requires layout { IsLayout layout bytes.now }
-    requires tree { IsTree leaf_unit (halves_joined pixels_joined words_joined)
-        (HalvesFit PixelFits WordFits) width nodes.old }
+    requires tree { IsBlockTree width nodes.old }
     requires some { 1 ≤ width }
     requires within { block_count bytes.now ≤ width }
-    ensures tree { IsTree leaf_unit (halves_joined pixels_joined words_joined)
-        (HalvesFit PixelFits WordFits) width nodes.new }
+    ensures tree { IsBlockTree width nodes.new }
     ensures made { (k : ℕ) → k < block_count bytes.now
         → slice_index_or nodes.new (width + k) leaf_unit ≡ leaf_of layout bytes.now k }
     ensures units { (k : ℕ) → block_count bytes.now ≤ k

@@ -36,14 +36,14 @@ fn scan_pixels(
     requires fours { 65536 * halves.high + halves.low
         ≡ unsigned_total 4 block.now 0 (length block.now / 4) }
     requires twos { halves.high + halves.low ≡ unsigned_total 2 block.now 0 (length block.now / 2) }
-    requires high { halves.high ≤ 47185200 }
-    requires low { halves.low ≤ 47185200 }
+    requires high { halves.high ≤ 720 * 65535 }
+    requires low { halves.low ≤ 720 * 65535 }
     ensures { result ≡ statistics blank (pixels width block.now 0 held) }
 {
     match width {
         1 => pixels_8::scan(block, held, blank),
         2 => pixels_16::scan(block, held, blank, halves.high + halves.low),
-        4 => pixels_32::scan(block, held, blank, halves.total()),
+        4 => pixels_32::scan(block, held, blank, halves.word_total()),
         _ => PixelSummary::unit(),
     }
 }
@@ -63,7 +63,7 @@ fn scan_words(block: &[u8], width: usize, held: usize, blank: Option<i64>) -> Le
     Both {
         first: scan_pixels(block, width, held, blank, halves),
         second: WordSummary {
-            total: halves.total(),
+            total: halves.word_total(),
         },
     }
 }
@@ -78,7 +78,7 @@ fn scan_longs(block: &[u8], held: usize, blank: Option<i64>) -> Leaf
 {
     let halves = long_halves_of(block);
     Both {
-        first: pixels_64::scan(block, held, blank, halves.total()),
+        first: pixels_64::scan(block, held, blank, halves.long_total()),
         second: WordSummary {
             total: halves.high + halves.low,
         },

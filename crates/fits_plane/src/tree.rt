@@ -1,7 +1,7 @@
 ghost use Rattle.std.specs.Prelude.{◌≡◌, ◌≤◌, ◌<◌, ◌*◌, ◌+◌, ◌^◌, ℕ, length, slice_set, slice_index_or, IfOk};
 ghost use Rattle.fits_plane.specs.Summary.{all_joined};
 
-use crate::nodes::{plant_again, plant_tree, power_from, units_of, write_leaf};
+use crate::nodes::{plant_again, plant_tree, power_from, set_leaf, units_of};
 use crate::summary::Summary;
 use fits_card::Count;
 use std::alloc::{AllocError, Global};
@@ -78,11 +78,10 @@ impl<S: Summary> Tree<S> {
         ensures work { (d : ℕ) → length self.old.leaves ≤ 2 ^ d
             → self.new.joins ≤ self.old.joins + d }
     {
-        let at = self.width + index;
-        write_leaf(
+        set_leaf(
             self.nodes.as_mut_slice(),
             self.width,
-            at,
+            index,
             value,
             &mut self.joins,
         );

@@ -1,24 +1,33 @@
-use Rattle.std.proofs.Common.{◌≡◌, ◌∙◌, length, arith, ap}
-use Rattle.std.proofs.lemmas.List.{length-set}
+use Rattle.std.proofs.Common.{◌≡◌, ◌<◌, ◌+◌, ◌-◌, ℕ, drop, ap, arith, inr}
+use Rattle.std.proofs.lemmas.List.{length-drop}
+use Rattle.fits_plane.specs.Tree.{most_above, nodes_left}
 use Rattle.fits_plane.specs.Leaves.{leaf_unit, leaf_of}
 use Rattle.fits_plane.proofs.LeafLemmas.{set_more, set_beside, joins_next}
+use Rattle.fits_plane.proofs.PowerLemmas.{most_above_le}
 use Rattle.fits_plane.proofs.leaves.refresh_blocks.Goals as goal
 
 -- one block more is scanned, and its leaf written
 pub loop-k-preserved : goal.loop-k-preserved
 loop-k-preserved c =
     let v = c.loop-k.invariant in
-    let old = c.loop-k.tree.leaves in
-    let new = c.set.new.self.leaves in
+    let n : ℕ = c.args.width in
+    let old = drop n c.loop-k.nodes in
+    let new = drop n c.write_leaf-place.new.nodes in
     let leaf = c.scan_block-leaf.result in
-    let e = c.set.ensures in
+    let e = c.write_leaf-place.ensures in
+    let room : c.loop-k.k < n = omega (arith, c.loop-k-test.true, c.requires.blocks, c.requires.within) in
     record {
-      long = ap length e.leaves ∙ length-set old c.loop-k.k leaf ∙ v.long;
-      made = set_more (λ j x. x ≡ leaf_of c.args.layout c.args.bytes.now j) leaf_unit old new c.args.from c.loop-k.k leaf e.leaves (omega (arith, v.long, c.loop-k-test.true, c.requires.within)) v.made c.scan_block-leaf.ensures.leaf;
-      kept = set_beside leaf_unit c.args.tree.now.leaves old new c.args.from c.loop-k.k leaf e.leaves v.low v.kept;
+      tree = e.tree;
+      made = set_more (λ j x. x ≡ leaf_of c.args.layout c.args.bytes.now j) leaf_unit old new c.args.from c.loop-k.k leaf e.leaves (omega (arith, length-drop n c.loop-k.nodes, v.tree.long, room)) v.made c.scan_block-leaf.ensures.leaf;
+      kept = set_beside leaf_unit (drop n c.args.nodes.now) old new c.args.from c.loop-k.k leaf e.leaves v.low v.kept;
       work = omega (arith, c.scan_block-leaf.ensures.work, v.work, v.low);
       more = omega (arith, e.more, v.more);
+      leaf = inr (omega (arith, e.place));
+      order = λ o. omega (arith, e.place);
+      high = omega (arith, e.place, c.loop-k-test.true);
       low = omega (arith, v.low);
       limit = omega (arith, c.loop-k-test.true);
-      joins = λ d u. joins_next c.args.from c.loop-k.k d c.args.tree.now.joins c.loop-k.tree.joins c.set.new.self.joins v.low (v.joins d u) (e.work d (omega (arith, u, v.long)));
+      few = λ d u. joins_next c.args.from c.loop-k.k d (c.args.joins.now.total + most_above d c.args.last) (c.loop-k.joins.total + most_above d c.loop-k.place) (c.write_leaf-place.new.joins.total + most_above d c.write_leaf-place.result) v.low (v.few d u)
+          (omega (arith, e.few d u, most_above_le d c.write_leaf-place.result));
+      left = λ h p o. let at : c.write_leaf-place.result - n ≡ c.loop-k.k = omega (arith, e.place) in omega (arith, e.left h p (omega (arith, e.place, v.order o)), v.left h p o, ap (nodes_left h) at);
     }

@@ -1,11 +1,15 @@
-use Rattle.std.proofs.Common.{◌≡◌, ◌≤◌, ◌+◌, ◌-◌, ◌/◌, max, ◌<◌, ◌*◌, ℕ, List, refl, arith, ap, sym, subst, ◌∙◌, length}
+use Rattle.std.proofs.Common.{◌≡◌, ◌≤◌, ◌+◌, ◌-◌, ◌/◌, max, ◌<◌, ◌*◌, ℕ, List, drop, get_or, refl, arith, ap, inl, inr, sym, subst, ◌∙◌}
 use Rattle.std.proofs.Math.Nat.{mul-le-mul_left}
 use Rattle.fits_plane.specs.Rectangle.{product, row_size, row_count}
-use Rattle.fits_plane.specs.Layout.{block_pixels}
-use Rattle.fits_plane.specs.Leaves.{IsLeaf}
+use Rattle.fits_plane.specs.Layout.{block_count, block_pixels}
+use Rattle.fits_plane.specs.Tree.{most_above}
+use Rattle.fits_plane.specs.Leaves.{leaf_unit, IsLeaf}
 use Rattle.fits_plane.proofs.RowLemmas.{row_of, rectangle_size-rows}
 use Rattle.fits_plane.proofs.BlockLemmas.{walk_begun, walk_more, walk_all, walk_work, joins_more, stop_room}
+use Rattle.fits_plane.proofs.JoinLemmas.{tree_begun, tree_done}
 use Rattle.fits_plane.proofs.LeafLemmas.{block_pixels_some, layout_room, layout_small}
+use Rattle.fits_plane.proofs.PathLemmas.{all_left}
+use Rattle.fits_plane.proofs.PowerLemmas.{most_above_le}
 use Rattle.fits_plane.proofs.leaves.refresh_rows.Goals as goal
 
 pub loop-row-preserved : goal.loop-row-preserved
@@ -14,26 +18,33 @@ loop-row-preserved c =
     let lo : List ℕ = c.args.lo.now in
     let hi : List ℕ = c.args.hi.now in
     let per : ℕ = block_pixels c.args.layout.width in
-    let blocks : ℕ = length c.args.tree.now.leaves in
+    let n : ℕ = c.args.width in
+    let blocks : ℕ = block_count c.args.bytes.now in
     let first : ℕ = c.row_start-first.result in
     let some = block_pixels_some c.args.layout.width c.requires.width in
-    let room = layout_room c.args.layout c.args.bytes.now blocks c.requires.layout c.requires.whole in
+    let room = layout_room c.args.layout c.args.bytes.now blocks c.requires.layout (omega (arith, c.requires.layout.whole)) in
     let w = row_of axes lo hi c.loop-row.row first c.requires.rectangle (omega (arith, c.loop-row-test.true, c.rows-row-end.ensures)) c.row_start-first.ensures.value in
     let v = c.loop-row.invariant in
-    let e = c.refresh_blocks.ensures in
+    let e = c.refresh_blocks-last.ensures in
     let stop : ℕ = (first + c.row_len-side.result - 1) / c.pixels_per_block-per.result + 1 in
     let start_is = c.max-start.ensures ∙ ap (λ p. max (first / p) c.loop-row.next) c.pixels_per_block-per.ensures in
     let stop_is : stop ≡ (first + row_size lo hi - 1) / per + 1
     = ap (λ p. (first + c.row_len-side.result - 1) / p + 1) c.pixels_per_block-per.ensures ∙ ap (λ s. (first + s - 1) / per + 1) c.row_len-side.ensures.value in
-    let more : c.refresh_blocks.new.scans.total - c.args.scans.now.total ≡ (c.loop-row.scans.total - c.args.scans.now.total) + (stop - c.max-start.result) = omega (arith, e.work, v.more_work) in
+    let more : c.refresh_blocks-last.new.scans.total - c.args.scans.now.total ≡ (c.loop-row.scans.total - c.args.scans.now.total) + (stop - c.max-start.result) = omega (arith, e.work, v.more_work) in
+    let walk = walk_more axes lo hi (row_size lo hi) per c.args.layout.pixels blocks c.loop-row.row first c.loop-row.next c.max-start.result stop c.max-next.result _ _
+    (IsLeaf c.args.layout c.args.bytes.now (drop n c.loop-row.nodes)) (IsLeaf c.args.layout c.args.bytes.now (drop n c.refresh_blocks-last.new.nodes))
+    c.requires.rectangle c.requires.all some room w v.walk start_is stop_is c.max-next.ensures more e.made (λ k away r. e.kept k away ∙ r) in
     record {
-      long = e.long ∙ v.long;
-      walk = walk_more axes lo hi (row_size lo hi) per c.args.layout.pixels blocks c.loop-row.row first c.loop-row.next c.max-start.result stop c.max-next.result _ _
-          (IsLeaf c.args.layout c.args.bytes.now c.loop-row.tree.leaves) (IsLeaf c.args.layout c.args.bytes.now c.refresh_blocks.new.tree.leaves)
-          c.requires.rectangle c.requires.all some room w v.walk start_is stop_is c.max-next.ensures more e.made (λ k away r. e.kept k away ∙ r);
+      tree = e.tree;
+      leaf = e.leaf;
+      order = omega (arith, e.order, v.order, c.max-next.ensures);
+      walk = walk;
+      units = λ k b. e.kept k (inr (omega (arith, b, walk.limit, c.max-next.ensures))) ∙ v.units k b;
       more_work = omega (arith, e.work, v.more_work);
       more = omega (arith, e.more, v.more);
-      joins = λ d u. joins_more (c.loop-row.scans.total - c.args.scans.now.total) (stop - c.max-start.result) _ d c.args.tree.now.joins c.loop-row.tree.joins c.refresh_blocks.new.tree.joins more (v.joins d u) (e.joins d (omega (arith, u, v.long)));
+      few = λ d u. joins_more (c.loop-row.scans.total - c.args.scans.now.total) (stop - c.max-start.result) _ d c.args.joins.now.total (c.loop-row.joins.total + most_above d c.loop-row.last) (c.refresh_blocks-last.new.joins.total + most_above d c.refresh_blocks-last.result)
+          more (v.few d u) (e.few d u);
+      most = λ h p. omega (arith, v.most h p, e.left h p (omega (arith, v.order, c.max-start.ensures)));
     }
 
 pub returns-clause-right : goal.returns-clause-right
@@ -41,13 +52,30 @@ returns-clause-right c =
     let axes : List ℕ = c.args.axes.now in
     let lo : List ℕ = c.args.lo.now in
     let hi : List ℕ = c.args.hi.now in
-    let blocks : ℕ = length c.args.tree.now.leaves in
+    let blocks : ℕ = block_count c.args.bytes.now in
     let v = c.loop-row.invariant in
     let some = block_pixels_some c.args.layout.width c.requires.width in
     let done : row_count lo hi ≤ c.loop-row.row = omega (arith, c.loop-row-test.false, c.rows-row-end.ensures) in
     let all = mul-le-mul_left (row_size lo hi) done in
-    λ k b. walk_all axes lo hi (row_size lo hi) (block_pixels c.args.layout.width) c.args.layout.pixels blocks c.loop-row.row c.loop-row.next _ _ c.requires.rectangle c.requires.all some v.walk
-    (omega (arith, all, rectangle_size-rows lo hi)) k (omega (arith, b, v.long))
+    λ k b. ap (λ ls. get_or ls k leaf_unit) c.climb.ensures.leaves ∙ walk_all axes lo hi (row_size lo hi) (block_pixels c.args.layout.width) c.args.layout.pixels blocks c.loop-row.row c.loop-row.next _ _ c.requires.rectangle c.requires.all some v.walk
+    (omega (arith, all, rectangle_size-rows lo hi)) k b
+
+-- the last leaf's path is joined up to the root
+pub returns-clause-tree : goal.returns-clause-tree
+returns-clause-tree c = tree_done c.args.width c.climb.new.nodes c.climb.ensures.tree
+
+pub returns-clause-units : goal.returns-clause-units
+returns-clause-units c = λ k b. ap (λ ls. get_or ls k leaf_unit) c.climb.ensures.leaves ∙ c.loop-row.invariant.units k b
+
+pub returns-clause-few : goal.returns-clause-few
+returns-clause-few c = λ d u. omega (arith, c.climb.ensures.few d u, c.loop-row.invariant.few d u)
+
+-- all nodes that were joined stand left of the last path, or on it
+pub returns-clause-most : goal.returns-clause-most
+returns-clause-most c = λ h e.
+    let n : ℕ = c.args.width in
+    let all = all_left h (c.loop-row.last - n) (omega (arith, e, c.loop-row.invariant.tree.within)) in
+    omega (arith, e, all, c.loop-row.invariant.most h e, c.climb.ensures.few h (omega (arith, e)), most_above_le h c.loop-row.last)
 
 pub returns-clause-work : goal.returns-clause-work
 returns-clause-work c =
@@ -55,14 +83,13 @@ returns-clause-work c =
     omega (arith, w, c.loop-row.invariant.more_work)
 
 -- a row ends within the blocks
-pub refresh_blocks-requires-clause-within : goal.refresh_blocks-requires-clause-within
-refresh_blocks-requires-clause-within c =
-    let blocks : ℕ = length c.args.tree.now.leaves in
+pub refresh_blocks-last-requires-clause-blocks : goal.refresh_blocks-last-requires-clause-blocks
+refresh_blocks-last-requires-clause-blocks c =
+    let blocks : ℕ = block_count c.args.bytes.now in
     let w : ℕ = c.args.layout.width in
     let some = subst (λ per. 0 < per) (sym c.pixels_per_block-per.ensures) (block_pixels_some w c.requires.width) in
-    let room = subst (λ per. c.args.layout.pixels ≤ blocks * per) (sym c.pixels_per_block-per.ensures) (layout_room c.args.layout c.args.bytes.now blocks c.requires.layout c.requires.whole) in
-    let stop = stop_room c.row_start-first.result c.row_len-side.result (row_size c.args.lo.now c.args.hi.now) c.pixels_per_block-per.result (product c.args.axes.now) c.args.layout.pixels blocks some c.row_len-side.ensures.value c.row_len-side.ensures.some c.row_start-first.ensures.within c.requires.all room in
-    omega (arith, stop, c.loop-row.invariant.long)
+    let room = subst (λ per. c.args.layout.pixels ≤ blocks * per) (sym c.pixels_per_block-per.ensures) (layout_room c.args.layout c.args.bytes.now blocks c.requires.layout (omega (arith, c.requires.layout.whole))) in
+    stop_room c.row_start-first.result c.row_len-side.result (row_size c.args.lo.now c.args.hi.now) c.pixels_per_block-per.result (product c.args.axes.now) c.args.layout.pixels blocks some c.row_len-side.ensures.value c.row_len-side.ensures.some c.row_start-first.ensures.within c.requires.all room
 
 -- a block holds a pixel
 pub nonzero_div-first : goal.nonzero_div-first
@@ -80,11 +107,15 @@ overflow_add-stop c =
 -- no row is walked over yet
 pub loop-row-init : goal.loop-row-init
 loop-row-init c = record {
-  long = refl;
+  tree = tree_begun c.args.width c.args.nodes.now c.requires.some c.requires.tree;
   walk = walk_begun _ _ _ _ _ _ _ _ _ (omega arith) c.requires.fresh;
+  units = λ k b. refl;
   more_work = omega arith;
   more = omega arith;
-  joins = λ d u. omega arith;
+  leaf = inl refl;
+  order = omega (arith, c.requires.some);
+  few = λ d u. omega arith;
+  most = λ h p. omega arith;
 }
 
 -- an image has no more pixels than bytes

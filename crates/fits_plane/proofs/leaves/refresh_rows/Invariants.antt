@@ -1,15 +1,20 @@
-use Rattle.std.proofs.Common.{◌≡◌, ◌≤◌, ◌+◌, ◌-◌, ◌*◌, ◌^◌, ℕ, length}
+use Rattle.std.proofs.Common.{◌≡◌, ◌≤◌, ◌+◌, ◌-◌, ◌*◌, ◌^◌, ◌⊎◌, ℕ, drop, get_or}
 use Rattle.fits_plane.specs.Rectangle.{row_size}
-use Rattle.fits_plane.specs.Layout.{block_pixels}
-use Rattle.fits_plane.specs.Leaves.{IsLeaf}
+use Rattle.fits_plane.specs.Layout.{block_count, block_pixels}
+use Rattle.fits_plane.specs.Tree.{most_above, nodes_left}
+use Rattle.fits_plane.specs.Leaves.{leaf_unit, IsLeaf, IsBlockTreeBut}
 use Rattle.fits_plane.proofs.BlockLemmas.{Walk}
 use Rattle.fits_plane.proofs.leaves.refresh_rows.Given as goal
 
 abbrev pub invariant-loop-row : goal.invariant-loop-row
 invariant-loop-row l = record {
-  long : length l.tree.leaves ≡ length l.fn.tree.leaves;
-  walk : Walk l.axes l.lo l.hi (block_pixels l.layout.width) l.layout.pixels (length l.fn.tree.leaves) (row_size l.lo l.hi) l.row l.next (l.scans.total - l.fn.scans.total) (IsLeaf l.layout l.bytes l.tree.leaves);
-  more_work : l.fn.scans.total ≤ l.scans.total;
-  more : l.fn.tree.joins ≤ l.tree.joins;
-  joins : (d : ℕ) → length l.fn.tree.leaves ≤ 2 ^ d → l.tree.joins ≤ l.fn.tree.joins + (l.scans.total - l.fn.scans.total) * d;
+  tree : IsBlockTreeBut l.width l.last l.nodes;
+  leaf : (l.last ≡ 1) ⊎ (l.width ≤ l.last);
+  order : l.last ≤ l.width + l.next;
+  walk : Walk l.axes l.lo l.hi (block_pixels l.layout.width) l.layout.pixels (block_count l.bytes) (row_size l.lo l.hi) l.row l.next (l.scans.total - l.initial.scans.total) (IsLeaf l.layout l.bytes (drop l.width l.nodes));
+  units : (k : ℕ) → block_count l.bytes ≤ k → get_or (drop l.width l.nodes) k leaf_unit ≡ get_or (drop l.width l.initial.nodes) k leaf_unit;
+  more_work : l.initial.scans.total ≤ l.scans.total;
+  more : l.initial.joins.total ≤ l.joins.total;
+  few : (d : ℕ) → l.width ≤ 2 ^ d → l.joins.total + most_above d l.last ≤ l.initial.joins.total + (l.scans.total - l.initial.scans.total) * d;
+  most : (h : ℕ) → l.width ≡ 2 ^ h → l.joins.total ≤ l.initial.joins.total + nodes_left h (l.last - l.width);
 }

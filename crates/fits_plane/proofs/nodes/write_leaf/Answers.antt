@@ -1,33 +1,28 @@
-use Rattle.std.proofs.Common.{◌≡◌, ◌+◌, ◌/◌, ◌-◌, drop, set, ℕ, suc, arith, ap, sym, ◌∙◌}
-use Rattle.std.proofs.lemmas.List.{ext_get_or, get_or-drop, length-drop, length-set, drop-set-add}
-use Rattle.fits_plane.proofs.JoinLemmas.{tree_step}
-use Rattle.fits_plane.proofs.PowerLemmas.{halves}
+use Rattle.std.proofs.Common.{◌≡◌, ◌+◌, ◌-◌, ◌∙◌, ℕ, set, ap, refl, arith, inl, inr}
+use Rattle.std.proofs.lemmas.List.{drop-set-add}
+use Rattle.fits_plane.specs.Tree.{most_above, nodes_left}
+use Rattle.fits_plane.proofs.JoinLemmas.{leaf_written}
+use Rattle.fits_plane.proofs.PathLemmas.{nodes_left-zero}
 use Rattle.fits_plane.proofs.nodes.write_leaf.Goals as goal
 
-pub returns-clause-leaves : goal.returns-clause-leaves
-returns-clause-leaves g c =
-    let s = g.S.Summary in
-    let n : ℕ = c.args.width in
-    let old = c.args.nodes.now in
-    let new = c.loop-place.nodes in
-    let wrote = set old c.args.at c.args.value in
-    let same = ext_get_or s.empty (drop n new) (drop n wrote)
-    (omega (arith, length-drop n new, length-drop n wrote, length-set old c.args.at c.args.value, c.loop-place.invariant.tree.long, c.requires.tree.long))
-    (λ k h. get_or-drop n new k s.empty ∙ c.loop-place.invariant.leaves_kept (n + k) (omega arith) ∙ sym (get_or-drop n wrote k s.empty)) in
-    let place : c.args.at ≡ n + (c.args.at - n) = omega arith in
-    same ∙ ap (λ i. drop n (set old i c.args.value)) place ∙ drop-set-add n old (c.args.at - n) c.args.value
+pub returns-clause-tree : goal.returns-clause-tree
+returns-clause-tree g c =
+    leaf_written c.args.width (c.args.width + c.args.index) c.climb.new.nodes _ c.args.value (omega (arith, c.requires.within)) (omega arith) (omega (arith, c.requires.within)) c.requires.fits refl c.climb.ensures.tree
 
-pub loop-place-preserved : goal.loop-place-preserved
-loop-place-preserved g c =
-    let s = g.S.Summary in
-    let v = c.loop-place.invariant in
-    let one : c.join_at.new.joins.total - c.args.joins.now.total ≡ suc (c.loop-place.joins.total - c.args.joins.now.total) = omega (arith, v.more, c.join_at.ensures.counted) in
-    let t = tree_step s.laws c.args.width c.loop-place.nodes (c.loop-place.place / 2) c.join_at.new.nodes (omega arith) (omega (arith, v.high)) v.tree c.join_at.ensures.after in
-    record {
-      low = omega arith;
-      high = omega (arith, v.high);
-      tree = t.tree;
-      leaves_kept = λ k b. t.kept k (omega (arith, b, v.high)) ∙ v.leaves_kept k b;
-      more = omega (arith, v.more, c.join_at.ensures.counted);
-      few = halves (c.loop-place.joins.total - c.args.joins.now.total) _ c.loop-place.place c.args.at one v.few;
-    }
+pub returns-clause-leaves : goal.returns-clause-leaves
+returns-clause-leaves g c = drop-set-add c.args.width c.climb.new.nodes c.args.index c.args.value ∙ ap (λ xs. set xs c.args.index c.args.value) c.climb.ensures.leaves
+
+-- from the root on no node is joined, and nothing stands left of the first path
+pub returns-clause-left : goal.returns-clause-left
+returns-clause-left g c = λ h e order.
+    let n : ℕ = c.args.width in
+    let at : n + c.args.index - n ≡ c.args.index = omega arith in
+    let here = ap (nodes_left h) at in
+    elim c.requires.leaf [
+      | inl root ↦
+          let none = nodes_left-zero h (c.args.last - n) (omega (arith, root, c.requires.within)) in
+          let few = c.climb.ensures.few h (omega (arith, e)) in
+          let top = ap (most_above h) root in
+          omega (arith, none, few, top)
+      | inr low ↦ omega (arith, c.climb.ensures.left h e low order, here)
+    ]

@@ -16,12 +16,12 @@ pub paint_rows-requires-clause-width : goal.paint_rows-requires-clause-width
 paint_rows-requires-clause-width c =
     layout_width c.self.inside.layout _ c.args.axes.now c.args.lo.now c.args.hi.now c.self.invariant.layout c.requires.rectangle (c.requires.all ∙ sym (ap (λ z. z.layout.pixels) c.self.view_is))
 
-pub refresh_rows-requires-clause-width : goal.refresh_rows-requires-clause-width
-refresh_rows-requires-clause-width c =
+pub refresh_rectangle-requires-clause-width : goal.refresh_rectangle-requires-clause-width
+refresh_rectangle-requires-clause-width c =
     layout_width c.self.inside.layout _ c.args.axes.now c.args.lo.now c.args.hi.now c.self.invariant.layout c.requires.rectangle (c.requires.all ∙ sym (ap (λ z. z.layout.pixels) c.self.view_is))
 
-pub refresh_rows-requires-clause-fresh : goal.refresh_rows-requires-clause-fresh
-refresh_rows-requires-clause-fresh c = λ k b e.
+pub refresh_rectangle-requires-clause-fresh : goal.refresh_rectangle-requires-clause-fresh
+refresh_rectangle-requires-clause-fresh c = λ k b e.
     let t = c.self.inside in
     let axes : List ℕ = c.args.axes.now in
     let lo : List ℕ = c.args.lo.now in
@@ -38,9 +38,9 @@ invariant_of-self c =
     let same = with_items_is t.bytes c.paint_rows.new.bytes (omega (arith, c.paint_rows.ensures.written.long, c.as_mut_slice.ensures.len)) in
     let long = ap length same ∙ c.paint_rows.ensures.written.long ∙ ap length c.as_mut_slice.ensures.value in
     record {
-      whole = omega (arith, long, c.self.invariant.whole, c.refresh_rows.ensures.long);
+      whole = omega (arith, long, c.self.invariant.whole, c.refresh_rectangle.ensures.long);
       layout = layout_stays t.layout t.bytes.items _ c.self.invariant.layout long;
-      leaves = subst (λ ys. AreLeaves t.layout ys c.refresh_rows.new.tree.leaves) c.as_slice.ensures.value c.refresh_rows.ensures.right;
+      leaves = subst (λ ys. AreLeaves t.layout ys c.refresh_rectangle.new.self.leaves) c.as_slice.ensures.value c.refresh_rectangle.ensures.right;
     }
 
 pub returns-clause-bytes : goal.returns-clause-bytes
@@ -64,8 +64,13 @@ returns-clause-joins c = λ d u.
     let blocks : length t.tree.leaves ≡ block_count c.args.self.now.bytes = omega (arith, c.self.invariant.whole, ap (λ z. length z.bytes) c.self.view_is) in
     let many : touched_blocks axes lo hi (block_pixels t.layout.width) t.layout.pixels (length t.tree.leaves) ≡ rectangle_blocks c.args.self.now.layout c.args.self.now.bytes axes lo hi
     = ap (touched_blocks axes lo hi (block_pixels t.layout.width) t.layout.pixels) blocks ∙ ap (λ z. touched_blocks axes lo hi (block_pixels z.layout.width) z.layout.pixels (block_count c.args.self.now.bytes)) c.self.view_is in
-    let e = c.refresh_rows.ensures in
-    let few : c.refresh_rows.new.scans.total - t.scans.total ≤ rectangle_blocks c.args.self.now.layout c.args.self.now.bytes axes lo hi = omega (arith, e.work, many) in
+    let e = c.refresh_rectangle.ensures in
+    let few : c.refresh_rectangle.new.scans.total - t.scans.total ≤ rectangle_blocks c.args.self.now.layout c.args.self.now.bytes axes lo hi = omega (arith, e.work, many) in
     let up = mul-le-mul_right d few in
     let j = e.joins d (omega (arith, u, blocks)) in
     omega (arith, up, j, ap (λ z. z.joins) c.self.view_is)
+
+pub returns-clause-most : goal.returns-clause-most
+returns-clause-most c = λ d u.
+    let blocks : length c.self.inside.tree.leaves ≡ block_count c.args.self.now.bytes = omega (arith, c.self.invariant.whole, ap (λ z. length z.bytes) c.self.view_is) in
+    omega (arith, c.refresh_rectangle.ensures.most d (omega (arith, u, blocks)), ap (λ z. z.joins) c.self.view_is)

@@ -1,8 +1,6 @@
 use Rattle.std.proofs.Common.{◌≡◌, ◌<◌, ◌∙◌, ◌+◌, get_or, take, drop, length, arith, ap, sym, subst}
 use Rattle.std.proofs.lemmas.List.{with_items_is, get_or-take, get_or-drop, length-take, length-drop}
-use Rattle.fits_plane.specs.Summary.{pixels_joined, PixelFits, words_joined, WordFits, halves_joined, HalvesFit}
-use Rattle.fits_plane.specs.Tree.{IsTree}
-use Rattle.fits_plane.specs.Leaves.{leaf_unit}
+use Rattle.fits_plane.specs.Leaves.{leaf_unit, IsBlockTree}
 use Rattle.fits_plane.proofs.PowerLemmas.{least_power}
 use Rattle.fits_plane.proofs.rescan.Tree+Leaf.rescan.Goals as goal
 
@@ -18,7 +16,7 @@ returns-clause-joins c = λ d u.
 
 -- the nodes are those of the tree
 pub replant-requires-clause-tree : goal.replant-requires-clause-tree
-replant-requires-clause-tree c = subst (IsTree leaf_unit (halves_joined pixels_joined words_joined) (HalvesFit PixelFits WordFits) c.self.inside.width) (sym c.as_mut_slice.ensures.value) c.self.invariant.tree
+replant-requires-clause-tree c = subst (IsBlockTree c.self.inside.width) (sym c.as_mut_slice.ensures.value) c.self.invariant.tree
 
 -- the nodes are a tree still, and the leaves past those in use are as before
 pub invariant_of-self : goal.invariant_of-self
@@ -28,7 +26,7 @@ invariant_of-self c =
     let many : t.used ≡ length c.args.self.now.leaves = omega (arith, ap (λ z. length z.leaves) c.self.view_is, length-take t.used (drop t.width t.nodes.items), length-drop t.width t.nodes.items, v.tree.long, v.power.enough) in
     let same = with_items_is t.nodes c.replant.new.nodes (omega (arith, c.replant.ensures.tree.long, v.tree.long)) in
     record {
-      tree = subst (IsTree leaf_unit (halves_joined pixels_joined words_joined) (HalvesFit PixelFits WordFits) t.width) (sym same) c.replant.ensures.tree;
+      tree = subst (IsBlockTree t.width) (sym same) c.replant.ensures.tree;
       power = v.power;
       units = λ k low high. ap (λ xs. get_or xs (t.width + k) leaf_unit) same ∙ c.replant.ensures.units k (omega (arith, low, many, c.requires.whole)) ∙ ap (λ xs. get_or xs (t.width + k) leaf_unit) c.as_mut_slice.ensures.value ∙ v.units k low high;
     }
