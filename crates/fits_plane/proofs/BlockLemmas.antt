@@ -72,7 +72,7 @@ count-all p a (suc n) h =
 -- ---- blocks
 
 -- a later pixel lies in no earlier block
-div-grows : (per i j : ℕ) → 0 < per → i ≤ j → i / per ≤ j / per
+pub div-grows : (per i j : ℕ) → 0 < per → i ≤ j → i / per ≤ j / per
 div-grows per i j p h = (le-div_iff_mul-le p).1 (omega (arith, div-mul-le_self i per, h))
 
 -- a pixel lies before the block after its own

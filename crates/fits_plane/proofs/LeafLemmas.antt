@@ -168,7 +168,7 @@ statistics-append blank ps qs f g h a b c =
     ∙ ap (all_joined pixel_unit pixels_joined) (sym (map-append (number_summary blank) ps qs)) ∙ joined_is_exact blank (ps ++ qs) h c
 
 -- the pixels after a whole block begin with the next block
-next : (w p m rest q : ℕ) (xs : List ℕ) → (rest ≡ 0) ⊎ (p + m ≡ q) → pixels w xs (p + m) rest ≡ pixels w xs q rest
+pub next : (w p m rest q : ℕ) (xs : List ℕ) → (rest ≡ 0) ⊎ (p + m ≡ q) → pixels w xs (p + m) rest ≡ pixels w xs q rest
 next w p m rest q xs h = elim h [ inl e ↦ rw e refl | inr e ↦ ap (λ k. pixels w xs k rest) e ]
 
 -- the leaves of the blocks from block a on

@@ -1,12 +1,15 @@
 pub mod ApartLemmas
+pub mod ApartRowLemmas
 pub mod BlockLemmas
 pub mod CornerLemmas
 pub mod ExactLemmas
+pub mod ExchangeLemmas
 pub mod HalfLemmas
 pub mod JoinLemmas
 pub mod LaneLemmas
 pub mod LeafLemmas
 pub mod PaintLemmas
+pub mod PartLemmas
 pub mod PathLemmas
 pub mod PixelLemmas
 pub mod PlaceLemmas
@@ -18,6 +21,7 @@ pub mod RectangleLemmas
 pub mod RowLemmas
 pub mod RunLemmas
 pub mod ScanLemmas
+pub mod ShortRowLemmas
 pub mod TestLemmas
 pub mod TreeLemmas
 pub mod TurnLemmas

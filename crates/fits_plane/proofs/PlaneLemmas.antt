@@ -1,8 +1,8 @@
 -- A data unit that is edited: its layout stays, and so do the leaves of blocks that were left alone.
-use Rattle.std.proofs.Common.{◌≡◌, ℕ, ◌%◌, List, length, arith, ◌∙◌, ap, subst, inl, inr, ℤ}
+use Rattle.std.proofs.Common.{◌≡◌, ℕ, ◌%◌, List, length, arith, ◌∙◌, ap, inl, inr}
 use Rattle.fits_plane.specs.declared.layout.Layout.{Layout}
 use Rattle.fits_plane.specs.Pixels.{IsWidth}
-use Rattle.fits_plane.specs.Rectangle.{product, IsRectangle, IsWritten}
+use Rattle.fits_plane.specs.Rectangle.{product, IsRectangle}
 use Rattle.fits_plane.specs.Layout.{IsLayout}
 use Rattle.fits_plane.proofs.RowLemmas.{product_some}
 
@@ -23,8 +23,3 @@ layout_stays layout xs ys h e = record {
   whole = ap (λ n. n % 2880) e ∙ h.whole;
   limit = omega (arith, h.limit, e);
 }
-
--- what was written, by other names
-pub written_as : (w v : ℕ) (axes lo hi : List ℕ) (number : ℕ → ℤ) (old old' new new' : List ℕ) → w ≡ v → old ≡ old' → new ≡ new' → IsWritten w axes lo hi number old new → IsWritten v axes lo hi number old' new'
-written_as w v axes lo hi number old old' new new' d e f h =
-    subst (λ ys. IsWritten v axes lo hi number old' ys) f (subst (λ xs. IsWritten v axes lo hi number xs new) e (subst (λ k. IsWritten k axes lo hi number old new) d h))

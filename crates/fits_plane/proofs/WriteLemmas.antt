@@ -5,15 +5,10 @@ use Rattle.std.proofs.lemmas.List.{length-take, length-drop, get_or-take, get_or
 use Rattle.std.proofs.Math.Nat.{mul-le-mul_right, mul-le-mul_left, le-div_iff_mul-le, div-lt_iff_lt-mul}
 use Rattle.fits_plane.specs.Pixels.{pixel, IsWidth}
 use Rattle.fits_plane.specs.Rectangle.{product, place, row_size, row_count, IsRectangle, is_inside, IsWritten}
+use Rattle.fits_plane.specs.ShortRows.{RowWritten}
 use Rattle.fits_plane.proofs.PixelLemmas.{pixel-same, width_range}
 use Rattle.fits_plane.proofs.PlaceLemmas.{number, place-number, number-lt-size, rank-number}
 use Rattle.fits_plane.proofs.RowLemmas.{Row, row_of, in_row, rectangle_size-rows}
-
--- the first x pixels of a row are written
-pub record RowWritten (w start x : ℕ) (value : ℕ → ℤ) (old new : List ℕ) : Type 0 where
-  pub long : length new ≡ length old
-  pub inside : (y : ℕ) → y < x → pixel w new (start + y) ≡ value y
-  pub outside : (j : ℕ) → (j < start * w) ⊎ ((start + x) * w ≤ j) → slice_index new j ≡ slice_index old j
 
 -- before the first pixel
 pub row_begun : (w start : ℕ) (value : ℕ → ℤ) (old : List ℕ) → RowWritten w start 0 value old old
@@ -50,6 +45,10 @@ pub record RowsWritten (w : ℕ) (axes lo hi : List ℕ) (side row : ℕ) (value
   pub long : length new ≡ length old
   pub done : (i : ℕ) → i < product axes → is_inside axes lo hi i ≡ true → number axes lo hi i < row * side → pixel w new i ≡ value (number axes lo hi i)
   pub outside : (j : ℕ) → ((i : ℕ) → i < product axes → is_inside axes lo hi i ≡ true → number axes lo hi i < row * side → i ≢ j / w) → slice_index new j ≡ slice_index old j
+
+-- before the first row
+pub rows_begun : (w : ℕ) (axes lo hi : List ℕ) (side : ℕ) (value : ℕ → ℤ) (old : List ℕ) → RowsWritten w axes lo hi side 0 value old old
+rows_begun w axes lo hi side value old = record { long = refl; done = λ i b e none. absurd (omega (arith, none)); outside = λ j away. refl }
 
 -- a pixel past the bytes that were written is as before
 pub pixel_away : (w first side i : ℕ) (cur new : List ℕ) → ((j : ℕ) → (j < first * w) ⊎ ((first + side) * w ≤ j) → slice_index new j ≡ slice_index cur j)

@@ -1,10 +1,13 @@
+pub mod Exchange
 pub mod Layout
 pub mod Leaves
 pub mod Paint
+pub mod Parts
 pub mod Pixels
 pub mod Plane
 pub mod Rectangle
 pub mod Scan
+pub mod ShortRows
 pub mod Statistics
 pub mod Summary
 pub mod SummaryLaws

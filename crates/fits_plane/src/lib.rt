@@ -2,6 +2,7 @@
 #![tactic(auto)]
 
 mod both;
+mod exchange;
 mod halves;
 pub mod laws;
 mod layout;
@@ -9,6 +10,8 @@ mod leaves;
 mod long_halves;
 mod nodes;
 mod paint;
+mod painting;
+mod parts;
 mod pixel_reads;
 mod pixel_summary;
 mod pixel_writes;
@@ -22,6 +25,7 @@ mod rectangle;
 mod rescan;
 mod scan;
 mod scan_end;
+mod short_rows;
 mod summary;
 mod tree;
 mod value_summary;

@@ -52,7 +52,7 @@ fn write_row(bytes: &mut [u8], width: usize, start: usize, values: &[i128], offs
 /// Paints a run of pixels, the first of which has this rank.
 ///
 /// Which paint it is is asked once a row: asked at each pixel, it slows a fill by half and more.
-fn paint_row(
+pub(crate) fn paint_row(
     bytes: &mut [u8],
     width: usize,
     start: usize,

@@ -3,9 +3,9 @@ ghost use Rattle.std.specs.Prelude.{◌≡◌, replicate, IfOk};
 use crate::layout::Layout;
 use crate::leaves::{leaves_of, root_of, zero_leaves};
 use crate::paint::Paint;
+use crate::painting::paint_rectangle;
 use crate::pixel_reads::read_rows;
 use crate::pixel_summary::PixelSummary;
-use crate::pixel_writes::paint_rows;
 use crate::pixels::{pixel_at, read_bytes};
 use crate::rectangle::rectangle_len;
 use crate::scan::Leaf;
@@ -200,8 +200,7 @@ impl Plane {
             axes.now lo.now hi.now (painted_number paint.now offset) self.old.bytes }
         ensures layout { self.new.layout ≡ self.old.layout }
 
-        // Each block that holds a byte of it is scanned at most once, with no more joins than there
-        // are nodes. It takes no memory.
+        // Each block that holds a byte of it is scanned at most once. It takes no memory.
         ensures reads { self.new.reads ≡ self.old.reads }
         ensures more_scans { self.old.scans ≤ self.new.scans }
         ensures scans { self.new.scans ≤ self.old.scans
@@ -210,25 +209,17 @@ impl Plane {
         ensures joins { (d : ℕ) → block_count self.old.bytes ≤ 2 ^ d
             → self.new.joins ≤ self.old.joins
             + rectangle_blocks self.old.layout self.old.bytes axes.now lo.now hi.now * d }
-        ensures most { (d : ℕ) → block_count self.old.bytes ≤ 2 ^ d
-            → self.new.joins ≤ self.old.joins + 2 ^ d }
     {
-        paint_rows(
+        paint_rectangle(
+            &mut self.tree,
+            &mut self.scans,
             self.bytes.as_mut_slice(),
-            self.layout.width,
+            self.layout,
             axes,
             lo,
             hi,
             paint,
             offset,
-        );
-        self.tree.refresh_rectangle(
-            self.bytes.as_slice(),
-            self.layout,
-            axes,
-            lo,
-            hi,
-            &mut self.scans,
         );
     }
 
@@ -243,8 +234,7 @@ impl Plane {
             axes.now lo.now hi.now (λ k. stored) self.old.bytes }
         ensures layout { self.new.layout ≡ self.old.layout }
 
-        // Each block that holds a byte of it is scanned at most once, with no more joins than there
-        // are nodes. It takes no memory.
+        // Each block that holds a byte of it is scanned at most once. It takes no memory.
         ensures reads { self.new.reads ≡ self.old.reads }
         ensures more_scans { self.old.scans ≤ self.new.scans }
         ensures scans { self.new.scans ≤ self.old.scans
@@ -253,8 +243,6 @@ impl Plane {
         ensures joins { (d : ℕ) → block_count self.old.bytes ≤ 2 ^ d
             → self.new.joins ≤ self.old.joins
             + rectangle_blocks self.old.layout self.old.bytes axes.now lo.now hi.now * d }
-        ensures most { (d : ℕ) → block_count self.old.bytes ≤ 2 ^ d
-            → self.new.joins ≤ self.old.joins + 2 ^ d }
     {
         self.paint_rect(axes, lo, hi, &Paint::Fill(i128::from(stored)), 0);
     }
@@ -280,8 +268,7 @@ impl Plane {
             self.old.bytes }
         ensures layout { self.new.layout ≡ self.old.layout }
 
-        // Each block that holds a byte of it is scanned at most once, with no more joins than there
-        // are nodes. It takes no memory.
+        // Each block that holds a byte of it is scanned at most once. It takes no memory.
         ensures reads { self.new.reads ≡ self.old.reads }
         ensures more_scans { self.old.scans ≤ self.new.scans }
         ensures scans { self.new.scans ≤ self.old.scans
@@ -290,8 +277,6 @@ impl Plane {
         ensures joins { (d : ℕ) → block_count self.old.bytes ≤ 2 ^ d
             → self.new.joins ≤ self.old.joins
             + rectangle_blocks self.old.layout self.old.bytes axes.now lo.now hi.now * d }
-        ensures most { (d : ℕ) → block_count self.old.bytes ≤ 2 ^ d
-            → self.new.joins ≤ self.old.joins + 2 ^ d }
     {
         self.paint_rect(axes, lo, hi, &Paint::Write(Values::new(values)), offset);
     }

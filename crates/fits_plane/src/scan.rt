@@ -86,7 +86,7 @@ fn scan_longs(block: &[u8], held: usize, blank: Option<i64>) -> Leaf
 }
 
 /// What is kept of a block that has so many pixels.
-fn scan_part(block: &[u8], width: usize, held: usize, blank: Option<i64>) -> Leaf
+pub(crate) fn scan_part(block: &[u8], width: usize, held: usize, blank: Option<i64>) -> Leaf
     requires width { (width ≡ 0) ⊎ IsWidth width }
     requires no_pixels { width ≡ 0 → held ≡ 0 }
     requires within { held * width ≤ length block.now }

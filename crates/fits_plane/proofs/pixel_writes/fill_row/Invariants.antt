@@ -1,4 +1,4 @@
-use Rattle.fits_plane.proofs.WriteLemmas.{RowWritten}
+use Rattle.fits_plane.specs.ShortRows.{RowWritten}
 use Rattle.fits_plane.proofs.pixel_writes.fill_row.Given as goal
 
 abbrev pub invariant-loop-x : goal.invariant-loop-x

@@ -1,6 +1,6 @@
 use Rattle.std.proofs.Common.{get_or, pos}
 use Rattle.std.specs.Prelude.{◌-ℤ◌}
-use Rattle.fits_plane.proofs.WriteLemmas.{RowWritten}
+use Rattle.fits_plane.specs.ShortRows.{RowWritten}
 use Rattle.fits_plane.proofs.pixel_writes.write_row.Given as goal
 
 abbrev pub invariant-loop-x : goal.invariant-loop-x

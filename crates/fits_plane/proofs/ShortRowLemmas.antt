@@ -1,0 +1,131 @@
+-- A row that is painted in the blocks that hold it.
+use Rattle.std.proofs.Common.{◌≡◌, ◌<◌, ◌≤◌, ℕ, ◌+◌, ◌-◌, ◌*◌, ◌/◌, ◌%◌, ℤ, List, length, get_or, set, slice_index, min, arith, sym, ◌∙◌, ap, subst, inl, inr, ◌⊎◌}
+use Rattle.std.proofs.Math.Nat.{mul-le-mul_right, div-mul-le_self, div-lt_iff_lt-mul, div-eq_of_lt-le}
+use Rattle.std.proofs.lemmas.Bool.{cases_lt, cases_eq}
+use Rattle.std.proofs.lemmas.List.{get_or-set_same, get_or-set_other, length-set}
+use Rattle.fits_plane.specs.declared.pixel_summary.PixelSummary.{PixelSummary}
+use Rattle.fits_plane.specs.declared.word_summary.WordSummary.{WordSummary}
+use Rattle.fits_plane.specs.declared.both.Both.{Both}
+use Rattle.fits_plane.specs.declared.layout.Layout.{Layout}
+use Rattle.fits_plane.specs.declared.paint.Paint.{Paint}
+use Rattle.fits_plane.specs.declared.paint.Paint.TheVariants.{Fill, Write}
+use Rattle.fits_plane.specs.Paint.{painted_number, HasValues}
+use Rattle.fits_plane.specs.Pixels.{pixel, IsWidth, IsStorable}
+use Rattle.fits_plane.specs.Layout.{block_pixels}
+use Rattle.fits_plane.specs.Leaves.{leaf_unit, leaf_of}
+use Rattle.fits_plane.specs.ShortRows.{IsKept, CanPaint, RowWritten}
+use Rattle.fits_plane.proofs.PixelLemmas.{by_width}
+use Rattle.fits_plane.proofs.PlaneLemmas.{layout_stays}
+use Rattle.fits_plane.proofs.LeafLemmas.{block_pixels_some}
+use Rattle.fits_plane.proofs.PartLemmas.{leaf-same}
+use Rattle.fits_plane.proofs.WriteLemmas.{pixel_away}
+
+-- ---- a run of pixels of one block
+
+-- the groups that hold the run lie in the block, which is one of the data unit's
+pub record Groups (w k start count blocks : ℕ) (from to : ℕ) : Type 0 where
+  pub low : 360 * k ≤ from
+  pub order : from ≤ to
+  pub high : to ≤ 360 * k + 360
+  pub block : k < blocks
+  pub front : 8 * from ≤ start * w
+  pub back : (start + count) * w ≤ 8 * to
+  pub first : 2880 * k ≤ start * w
+  pub last : (start + count) * w ≤ 2880 * k + 2880
+
+-- by the width
+pub groups_of : (w k start count pixels blocks : ℕ) → IsWidth w → 0 < count → k * block_pixels w ≤ start → start + count ≤ (k + 1) * block_pixels w → start + count ≤ pixels → pixels * w ≤ 2880 * blocks
+    → Groups w k start count blocks (start * w / 8) ((start + count) * w / 8 + min 1 ((start + count) * w % 8))
+groups_of w k start count pixels blocks h = by_width (λ w. 0 < count → k * block_pixels w ≤ start → start + count ≤ (k + 1) * block_pixels w → start + count ≤ pixels → pixels * w ≤ 2880 * blocks
+    → Groups w k start count blocks (start * w / 8) ((start + count) * w / 8 + min 1 ((start + count) * w % 8)))
+    (λ s a b c d. record { low = omega (arith, a); order = omega (arith, s); high = omega (arith, b); block = omega (arith, s, a, c, d); front = omega arith; back = omega arith; first = omega (arith, a); last = omega (arith, b) })
+    (λ s a b c d. record { low = omega (arith, a); order = omega (arith, s); high = omega (arith, b); block = omega (arith, s, a, c, d); front = omega arith; back = omega arith; first = omega (arith, a); last = omega (arith, b) })
+    (λ s a b c d. record { low = omega (arith, a); order = omega (arith, s); high = omega (arith, b); block = omega (arith, s, a, c, d); front = omega arith; back = omega arith; first = omega (arith, a); last = omega (arith, b) })
+    (λ s a b c d. record { low = omega (arith, a); order = omega (arith, s); high = omega (arith, b); block = omega (arith, s, a, c, d); front = omega arith; back = omega arith; first = omega (arith, a); last = omega (arith, b) })
+    w h
+
+-- what is kept once one block changed, and its leaf was made anew
+pub kept_after : (layout : Layout) (k : ℕ) (old new : List ℕ) (leaves leaves' : List (Both PixelSummary WordSummary)) (leaf : Both PixelSummary WordSummary) → IsWidth layout.width → IsKept layout old leaves
+    → length new ≡ length old → ((j : ℕ) → (j < 2880 * k) ⊎ (2880 * k + 2880 ≤ j) → slice_index new j ≡ slice_index old j) → leaves' ≡ set leaves k leaf → k < length leaves → leaf ≡ leaf_of layout new k
+    → IsKept layout new leaves'
+kept_after layout k old new leaves leaves' leaf w h long byte e room made = record {
+  fits = layout_stays layout old new h.fits long;
+  whole = omega (arith, long, h.whole, ap length e, length-set leaves k leaf);
+  right = λ j b. ap (λ xs. get_or xs j leaf_unit) e ∙ elim (cases_eq j k) [
+    | inl same ↦ ap (λ i. get_or (set leaves k leaf) i leaf_unit) same ∙ get_or-set_same leaves k leaf leaf_unit room ∙ made ∙ ap (leaf_of layout new) (sym same)
+    | inr other ↦
+        get_or-set_other leaves k j leaf leaf_unit other ∙ h.right j (omega (arith, b, ap length e, length-set leaves k leaf))
+        ∙ sym (leaf-same layout j old new w long (λ i x y. byte i (elim (cases_lt j k) [ inl lt ↦ inl (omega (arith, y, lt)) | inr ge ↦ inr (omega (arith, x, ge, other)) ])))
+  ];
+}
+
+-- ---- a row in two runs
+
+-- a row is written once both of its runs are
+pub row_joined : (w start count here next rest rank : ℕ) (number : ℕ → ℤ) (old mid new : List ℕ) → here ≤ count → start + here ≡ next → rest ≡ count - here → RowWritten w start here (λ x. number (rank + x)) old mid
+    → RowWritten w next rest (λ x. number (rank + here + x)) mid new → RowWritten w start count (λ x. number (rank + x)) old new
+row_joined w start count here next rest rank number old mid new few at more f g = record {
+  long = g.long ∙ f.long;
+  inside = λ y b. elim (cases_lt y here) [
+    | inl lt ↦ pixel_away w next rest (start + y) mid new g.outside (inl (omega (arith, lt, at))) ∙ f.inside y lt
+    | inr ge ↦
+        let there : next + (y - here) ≡ start + y = omega (arith, ge, at) in
+        let own : rank + here + (y - here) ≡ rank + y = omega (arith, ge) in
+        ap (pixel w new) (sym there) ∙ g.inside (y - here) (omega (arith, b, ge, more)) ∙ ap number own
+  ];
+  outside = λ j away. elim away [
+    | inl p ↦ let up = mul-le-mul_right w (let wide : start ≤ next = omega (arith, at) in wide) in g.outside j (inl (omega (arith, p, up))) ∙ f.outside j (inl p)
+    | inr p ↦
+        let all : start + count ≡ next + rest = omega (arith, few, at, more) in
+        let far : (next + rest) * w ≤ j = subst (λ i. i * w ≤ j) all p in
+        let up = mul-le-mul_right w (let wide : start + here ≤ next + rest = omega (arith, at) in wide) in
+        g.outside j (inr far) ∙ f.outside j (inr (omega (arith, far, up)))
+  ];
+}
+
+-- with a value for each of some pixels there is one for each of fewer
+has_less : (paint : Paint) (m n : ℕ) → n ≤ m → HasValues paint m → HasValues paint n
+has_less (Fill value) m n l h = tt
+has_less (Write values) m n l h = omega (arith, l, h)
+
+-- what can be painted can be painted in part
+pub can_paint : (w : ℕ) (paint : Paint) (offset : ℤ) (rank count a n : ℕ) → CanPaint w paint offset rank count → a + n ≤ count → CanPaint w paint offset (rank + a) n
+can_paint w paint offset rank count a n h room = record {
+  ranks = omega (arith, h.ranks, room);
+  values = has_less paint (rank + count) (rank + a + n) (omega (arith, room)) h.values;
+  storable = λ x b. let e : rank + (a + x) ≡ rank + a + x = omega arith in subst (λ i. IsStorable w (painted_number paint offset i)) e (h.storable (a + x) (omega (arith, b, room)));
+}
+
+-- and its first pixels by themselves
+pub can_paint_first : (w : ℕ) (paint : Paint) (offset : ℤ) (rank count n : ℕ) → CanPaint w paint offset rank count → n ≤ count → CanPaint w paint offset rank n
+can_paint_first w paint offset rank count n h room = let e : rank + 0 ≡ rank = omega arith in subst (λ r. CanPaint w paint offset r n) e (can_paint w paint offset rank count 0 n h (omega (arith, room)))
+
+-- a row of two blocks, so much of which lies in the first
+pub record InTwo (per p start count here : ℕ) : Type 0 where
+  pub less : here < count
+  pub cut : start + here ≡ (start / p + 1) * p
+  pub blocks : (start + count - 1) / per + 1 - start / per ≡ 2
+
+-- a row of one block
+pub record InOne (per start count here : ℕ) : Type 0 where
+  pub all : here ≡ count
+  pub blocks : (start + count - 1) / per + 1 - start / per ≡ 1
+
+-- a row that is no longer than a block lies in one or two
+pub row_blocks : (w p start count here : ℕ) → IsWidth w → p ≡ block_pixels w → 0 < count → count ≤ block_pixels w → here ≡ min count ((start / p + 1) * p - start)
+    → InOne (block_pixels w) start count here ⊎ InTwo (block_pixels w) p start count here
+row_blocks w p start count here h e any short first =
+    let per : ℕ = block_pixels w in
+    let some = block_pixels_some w h in
+    let k : ℕ = start / per in
+    let low : k * per ≤ start = div-mul-le_self start per in
+    let high : start < (k + 1) * per = (div-lt_iff_lt-mul some).0 (omega arith) in
+    let end : (start / p + 1) * p ≡ (k + 1) * per = ap (λ q. (start / q + 1) * q) e in
+    elim (cases_lt here count) [
+      | inl lt ↦
+          let last : (start + count - 1) / per ≡ k + 1 = div-eq_of_lt-le per (omega (arith, first, end, lt)) (omega (arith, high, low, short, any)) in
+          inr (record { less = lt; cut = omega (arith, first, end, lt, high); blocks = omega (arith, last) })
+      | inr ge ↦
+          let last : (start + count - 1) / per ≡ k = div-eq_of_lt-le per (omega (arith, low, any)) (omega (arith, first, end, ge, any)) in
+          inl (record { all = omega (arith, first, ge); blocks = omega (arith, last) })
+    ]

@@ -1,0 +1,56 @@
+use Rattle.std.proofs.Common.{◌≡◌, ◌*◌, ◌+◌, ◌-◌, ◌/◌, ℕ, arith, inl, inr, refl, subst, to_z, of_z}
+use Rattle.std.specs.Int.{w128}
+use Rattle.std.proofs.lemmas.Int.{to_z-of_z}
+use Rattle.fits_plane.specs.Paint.{painted_number}
+use Rattle.fits_plane.specs.ShortRows.{RowWritten}
+use Rattle.fits_plane.proofs.ShortRowLemmas.{row_joined, can_paint, can_paint_first, row_blocks}
+use Rattle.fits_plane.proofs.short_rows.paint_short_row.Goals as goal
+
+-- the first block's pixels
+pub paint_part-requires-clause-paint : goal.paint_part-requires-clause-paint
+paint_part-requires-clause-paint c =
+    rw (to_z-of_z w128 c.args.offset c.ranges.offset) (can_paint_first c.args.layout.width c.args.paint.now c.args.offset c.args.rank c.args.count c.min-here.result c.requires.paint (omega (arith, c.min-here.ensures)))
+
+-- and the second's
+pub paint_part-requires-then-here-count-clause-paint : goal.paint_part-requires-then-here-count-clause-paint
+paint_part-requires-then-here-count-clause-paint c =
+    rw (to_z-of_z w128 c.args.offset c.ranges.offset)
+    (can_paint c.args.layout.width c.args.paint.now c.args.offset c.args.rank c.args.count c.min-here.result (c.args.count - c.min-here.result) c.requires.paint (omega (arith, c.if-here-count.true)))
+
+pub returns-then-here-count-clause-scans : goal.returns-then-here-count-clause-scans
+returns-then-here-count-clause-scans c =
+    let first = c.paint_part.ensures.scans in
+    let second = c.paint_part-then-here-count.ensures.scans in
+    elim (row_blocks c.args.layout.width c.pixels_per_block-per.result c.args.start c.args.count c.min-here.result c.requires.width c.pixels_per_block-per.ensures c.requires.some c.requires.short c.min-here.ensures) [
+      | inl one ↦ absurd (omega (arith, one.all, c.if-here-count.true))
+      | inr two ↦ omega (arith, two.blocks, first, second)
+    ]
+
+pub returns-else-here-count-clause-scans : goal.returns-else-here-count-clause-scans
+returns-else-here-count-clause-scans c =
+    let first = c.paint_part.ensures.scans in
+    elim (row_blocks c.args.layout.width c.pixels_per_block-per.result c.args.start c.args.count c.min-here.result c.requires.width c.pixels_per_block-per.ensures c.requires.some c.requires.short c.min-here.ensures) [
+      | inl one ↦ omega (arith, one.blocks, first)
+      | inr two ↦ absurd (omega (arith, two.less, c.if-here-count.false))
+    ]
+
+-- both runs are the row
+pub returns-then-here-count-clause-written : goal.returns-then-here-count-clause-written
+returns-then-here-count-clause-written c =
+    let per : ℕ = c.pixels_per_block-per.result in
+    let here : ℕ = c.min-here.result in
+    let next : ℕ = (c.args.start / per + 1) * per in
+    let cut : c.args.start + here ≡ next = elim (row_blocks c.args.layout.width c.pixels_per_block-per.result c.args.start c.args.count c.min-here.result c.requires.width c.pixels_per_block-per.ensures c.requires.some c.requires.short c.min-here.ensures) [
+      | inl one ↦ absurd (omega (arith, one.all, c.if-here-count.true))
+      | inr two ↦ two.cut
+    ] in
+    subst (λ z. RowWritten c.args.layout.width c.args.start c.args.count (λ x. painted_number c.args.paint.now z (c.args.rank + x)) c.args.bytes.now c.paint_part-then-here-count.new.bytes) (to_z-of_z w128 c.args.offset c.ranges.offset)
+    (row_joined c.args.layout.width c.args.start c.args.count here next (c.args.count - here) c.args.rank (painted_number c.args.paint.now (to_z w128 (of_z w128 c.args.offset))) c.args.bytes.now c.paint_part.new.bytes c.paint_part-then-here-count.new.bytes
+    (omega (arith, c.if-here-count.true)) cut refl c.paint_part.ensures.written c.paint_part-then-here-count.ensures.written)
+
+-- the one run is the row
+pub returns-else-here-count-clause-written : goal.returns-else-here-count-clause-written
+returns-else-here-count-clause-written c =
+    let all : c.min-here.result ≡ c.args.count = omega (arith, c.min-here.ensures, c.if-here-count.false) in
+    subst (λ z. RowWritten c.args.layout.width c.args.start c.args.count (λ x. painted_number c.args.paint.now z (c.args.rank + x)) c.args.bytes.now c.paint_part.new.bytes) (to_z-of_z w128 c.args.offset c.ranges.offset)
+    (subst (λ n. RowWritten c.args.layout.width c.args.start n (λ x. painted_number c.args.paint.now (to_z w128 (of_z w128 c.args.offset)) (c.args.rank + x)) c.args.bytes.now c.paint_part.new.bytes) all c.paint_part.ensures.written)

@@ -1,0 +1,29 @@
+-- A data unit that is painted run by run, with what is kept of its blocks (own).
+use Rattle.std.specs.Prelude.{◌≡◌, ◌≤◌, ◌<◌, ◌⊎◌, ℕ, ◌+◌, ◌*◌, ◌^◌, ℤ, List, length, slice_index}
+use Rattle.fits_plane.specs.declared.pixel_summary.PixelSummary.{PixelSummary}
+use Rattle.fits_plane.specs.declared.word_summary.WordSummary.{WordSummary}
+use Rattle.fits_plane.specs.declared.both.Both.{Both}
+use Rattle.fits_plane.specs.declared.layout.Layout.{Layout}
+use Rattle.fits_plane.specs.declared.paint.Paint.{Paint}
+use Rattle.fits_plane.specs.Layout.{IsLayout}
+use Rattle.fits_plane.specs.Leaves.{AreLeaves}
+use Rattle.fits_plane.specs.Paint.{painted_number, HasValues}
+use Rattle.fits_plane.specs.Pixels.{pixel, IsStorable}
+
+-- the leaves are those of the bytes, which the layout fits
+pub record IsKept (layout : Layout) (bytes : List ℕ) (leaves : List (Both PixelSummary WordSummary)) : Type 0 where
+  pub fits : IsLayout layout bytes
+  pub whole : length bytes ≡ 2880 * length leaves
+  pub right : AreLeaves layout bytes leaves
+
+-- the paint has a number for each of so many pixels from a rank on, and such pixels can store it
+pub record CanPaint (width : ℕ) (paint : Paint) (offset : ℤ) (rank count : ℕ) : Type 0 where
+  pub ranks : rank + count < 2 ^ 62
+  pub values : HasValues paint (rank + count)
+  pub storable : (x : ℕ) → x < count → IsStorable width (painted_number paint offset (rank + x))
+
+-- the first x pixels of a row are written, and every other byte is as before
+pub record RowWritten (w start x : ℕ) (value : ℕ → ℤ) (old new : List ℕ) : Type 0 where
+  pub long : length new ≡ length old
+  pub inside : (y : ℕ) → y < x → pixel w new (start + y) ≡ value y
+  pub outside : (j : ℕ) → (j < start * w) ⊎ ((start + x) * w ≤ j) → slice_index new j ≡ slice_index old j
