@@ -36,7 +36,7 @@ pub use intake::Intake;
 pub use laws::{a_header_or_none, one_header};
 pub use name::Name;
 pub use reading::{PIECE_LEN, ReadFault, buffer_of};
-pub use room::reserve_room;
+pub use room::{reserve_room, room_for};
 pub use sink::Sink;
 pub use slotted::Slotted;
 pub use source::Source;

@@ -2,7 +2,7 @@ ghost use Rattle.std.specs.Prelude.{◌≡◌, ◌≤◌, ◌<◌, ◌+◌, ◌-
 ghost use Rattle.std.specs.List.{range_with_len};
 ghost use Rattle.fits_card.specs.Order.{AreSlots, turned};
 
-use crate::room::reserve_room;
+use crate::room::{reserve_room, room_for};
 use std::alloc::{AllocError, Global};
 use std::marker::Model;
 
@@ -49,7 +49,7 @@ impl Order {
         ensures count { IfOk result (λ order. order.count ≡ count) }
         ensures room { IfOk result (λ order. count ≤ order.room) }
     {
-        let mut slots = Vec::with_capacity(alloc, count)?;
+        let mut slots = Vec::with_capacity(alloc, room_for(count))?;
         for slot in 0..count {
             slots.push(slot)?;
         }

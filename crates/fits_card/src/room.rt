@@ -3,6 +3,14 @@ ghost use Rattle.std.specs.Prelude.{◌≡◌, ◌≤◌, ◌<◌, ◌+◌, ◌/
 
 use std::alloc::AllocError;
 
+/// How many items a list is opened with room for that has so many: an eighth more may come.
+pub fn room_for(count: usize) -> usize
+    ensures least { count ≤ result }
+    ensures most { result ≤ count + count / 8 }
+{
+    count.saturating_add(count / 8)
+}
+
 /// Makes room for this many more items, where it is missing, and for an eighth of what there is
 /// then: many that come one by one move the list a few times, and a list that one comes to takes
 /// little more than it has.

@@ -10,7 +10,7 @@ ghost use Rattle.fits_header.specs.declared.entry.Entry.{Entry};
 use crate::entry::{Entry, entry_of, move_on, noted_entry, stays};
 use crate::notes::Notes;
 use crate::shifts::open_gap;
-use fits_card::{Card, CardList};
+use fits_card::{Card, CardList, room_for};
 use std::alloc::{AllocError, Global};
 
 /// The entries of a store's cards, in the order of their places. Each card is read once.
@@ -38,7 +38,7 @@ pub(crate) fn noted_entries(
     ensures value { IfOk result (λ entries. entries.items ≡ entries_from 1 cards.now.header.cards) }
     ensures named { IfOk result (λ _. AreNamed cards.now.header.cards) }
 {
-    let mut entries = Vec::with_capacity(alloc, notes.len())?;
+    let mut entries = Vec::with_capacity(alloc, room_for(notes.len()))?;
     for index in 0..notes.len() {
         entries.push(noted_entry(notes.at(index), index + 1))?;
     }

@@ -4,7 +4,7 @@ ghost use Rattle.fits_card.specs.Change.{spliced};
 ghost use Rattle.fits_header.specs.Notes.{notes_of, total_in};
 
 use crate::note::{Note, note_of};
-use fits_card::{Card, CardList, Change, Slotted};
+use fits_card::{Card, CardList, Change, Slotted, room_for};
 use std::alloc::{AllocError, Global};
 use std::marker::Model;
 
@@ -146,7 +146,7 @@ fn read_notes(alloc: Global, cards: &mut CardList) -> Result<Vec<Note>, AllocErr
     ensures len { IfOk result (λ notes. vec_len notes ≡ length cards.old.header.cards) }
     ensures work { ReadsUpTo cards.old cards.new (length cards.old.header.cards) }
 {
-    let mut notes = Vec::with_capacity(alloc, cards.len())?;
+    let mut notes = Vec::with_capacity(alloc, room_for(cards.len()))?;
     for index in 0..cards.len() {
         notes.push(note_of(&cards.card(index + 1)))?;
     }
