@@ -22,6 +22,5 @@ def run_of(top, crate, words, under=()):
     """Runs a crate's program in bench/, perhaps under another one. A last word <FILE names its standard input there."""
     folder = os.path.join(top, "bench")
     if words and words[-1].startswith("<"):
-        with open(os.path.join(folder, words[-1][1:]), "rb") as stdin:
-            return Run([*under, program(top, crate), *words[:-1]], folder, stdin)
+        return Run([*under, program(top, crate), *words[:-1]], folder, os.path.join(folder, words[-1][1:]))
     return Run([*under, program(top, crate), *words], folder)

@@ -22,6 +22,7 @@ use noise::Noise;
 use planes::{change_large_images, mask_pixels};
 use runs::Outcome;
 use std::alloc::Global;
+use std::process::ExitCode;
 use std::{env, io};
 
 // Does a job, so many rounds of it.
@@ -50,16 +51,16 @@ fn run(alloc: Global, words: &[String]) -> io::Result<Option<Outcome>> {
     job(alloc, name, rounds as usize, &mut Noise::new(seed))
 }
 
-fn main(rt: HostRuntime) -> io::Result<()> {
+fn main(rt: HostRuntime) -> io::Result<ExitCode> {
     let mut words: Vec<String> = env::args(&rt)?.collect(rt.alloc())?;
     if !words.is_empty() {
         words.remove(0);
     }
-    match run(rt.alloc(), &words)? {
-        Some(outcome) => {
-            let (runs, bytes, digest) = (outcome.runs, outcome.bytes, outcome.digest);
-            println!(rt; "{runs} runs, {bytes} bytes, digest {digest:016x}")
-        }
-        None => println!(rt; "usage: fits_bench JOB ROUNDS SEED"),
-    }
+    let Some(outcome) = run(rt.alloc(), &words)? else {
+        eprintln!(rt; "usage: fits_bench JOB ROUNDS SEED")?;
+        return Ok(ExitCode::from(2));
+    };
+    let (runs, bytes, digest) = (outcome.runs, outcome.bytes, outcome.digest);
+    println!(rt; "{runs} runs, {bytes} bytes, digest {digest:016x}")?;
+    Ok(ExitCode::SUCCESS)
 }
