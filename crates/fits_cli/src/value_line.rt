@@ -61,6 +61,10 @@ fn push_doubled(line: &mut Vec<u8>, text: &[u8]) -> Result<(), AllocError>
     'quotes: while let Some((front, more)) = split_far(rest, b'\'') {
         push_both(line, front, b"''")?;
         rest = more;
+        'row: while let [b'\'', after @ ..] = rest {
+            line.extend_from_slice(b"''")?;
+            rest = after;
+        }
     }
     line.extend_from_slice(rest)
 }
