@@ -5,8 +5,9 @@ ghost use Rattle.fits_card.specs.Header.{header_bytes};
 ghost use Rattle.fits_header.specs.Notes.{notes_of, total_in};
 ghost use Rattle.fits_sum.specs.Words.{word_total};
 
+use crate::fill_total::fill_total;
 use fits_card::CardList;
-use fits_sum::{card_total, words_total};
+use fits_sum::card_total;
 
 /// The total of a header's words, with END and the fill (FITS Standard 4.0, Appendix J). Each card is
 /// read once, and it takes no memory.
@@ -21,8 +22,7 @@ pub fn header_total(cards: &mut CardList) -> u64
     let _few = cards.len();
     let total = cards_total(cards);
     let end = card_total(&cards.end().0);
-    let fill = words_total(cards.fill());
-    total + end + fill
+    total + end + fill_total(cards)
 }
 
 // The totals of the cards, added up.
