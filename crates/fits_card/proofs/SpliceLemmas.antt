@@ -5,15 +5,7 @@ use Rattle.std.proofs.lemmas.List.Edits.{paste_all, paste_more}
 use Rattle.std.proofs.Math.Seq.{paste}
 use Rattle.fits_card.specs.Change.{spliced}
 
--- the rest of a list moved over some of its items, and its end cut off
-pub out-moved : {X : Type 0} (xs : List X) (from count n m : ℕ) → n ≡ length xs - count → from + count ≤ length xs → m ≡ length xs - (from + count) → take n (paste xs from (drop (from + count) xs) m) ≡ take from xs ++ drop (from + count) xs
-out-moved xs from count n m h fits k =
-    let rest = drop (from + count) xs in
-    let size : m ≡ length rest = omega (arith, length-drop (from + count) xs) in
-    ap (take n) (paste_all xs from rest m size ∙ sym (append_assoc (take from xs) rest (drop (from + m) xs)))
-    ∙ take_at (take from xs ++ rest) (drop (from + m) xs) n (omega (arith, length-append (take from xs) rest, length-take-le from xs (omega arith), length-drop (from + count) xs))
-
--- the rest of a list moved on over what was put behind it
+-- the rest of a list, moved on over what was put behind it
 module _ {X : Type 0} (xs new : List X) (from count n : ℕ) (low : from ≤ length xs) (is : count ≡ length new) where
   abbrev pub all : List X
   all = xs ++ new

@@ -34,7 +34,7 @@ pub record Groups (w k start count blocks : ℕ) (from to : ℕ) : Type 0 where
   pub last : (start + count) * w ≤ 2880 * k + 2880
 
 -- by the width
-pub groups_of : (w k start count pixels blocks : ℕ) → IsWidth w → 0 < count → k * block_pixels w ≤ start → start + count ≤ (k + 1) * block_pixels w → start + count ≤ pixels → pixels * w ≤ 2880 * blocks
+groups_of : (w k start count pixels blocks : ℕ) → IsWidth w → 0 < count → k * block_pixels w ≤ start → start + count ≤ (k + 1) * block_pixels w → start + count ≤ pixels → pixels * w ≤ 2880 * blocks
     → Groups w k start count blocks (start * w / 8) ((start + count) * w / 8 + min 1 ((start + count) * w % 8))
 groups_of w k start count pixels blocks h = by_width (λ w. 0 < count → k * block_pixels w ≤ start → start + count ≤ (k + 1) * block_pixels w → start + count ≤ pixels → pixels * w ≤ 2880 * blocks
     → Groups w k start count blocks (start * w / 8) ((start + count) * w / 8 + min 1 ((start + count) * w % 8)))
@@ -43,6 +43,13 @@ groups_of w k start count pixels blocks h = by_width (λ w. 0 < count → k * bl
     (λ s a b c d. record { low = omega (arith, a); order = omega (arith, s); high = omega (arith, b); block = omega (arith, s, a, c, d); front = omega arith; back = omega arith; first = omega (arith, a); last = omega (arith, b) })
     (λ s a b c d. record { low = omega (arith, a); order = omega (arith, s); high = omega (arith, b); block = omega (arith, s, a, c, d); front = omega arith; back = omega arith; first = omega (arith, a); last = omega (arith, b) })
     w h
+
+-- by what is kept
+pub part_groups : (layout : Layout) (xs : List ℕ) (leaves : List (Both PixelSummary WordSummary)) (k start count to : ℕ) → IsKept layout xs leaves → IsWidth layout.width → 0 < count
+    → k * block_pixels layout.width ≤ start → start + count ≤ (k + 1) * block_pixels layout.width → start + count ≤ layout.pixels
+    → to ≡ (start + count) * layout.width / 8 + min 1 ((start + count) * layout.width % 8) → Groups layout.width k start count (length leaves) (start * layout.width / 8) to
+part_groups layout xs leaves k start count to h w some low high within e = subst (Groups layout.width k start count (length leaves) (start * layout.width / 8)) (sym e)
+    (groups_of layout.width k start count layout.pixels (length leaves) w some low high within (omega (arith, h.fits.room, h.fits.used, h.whole)))
 
 -- what is kept once one block changed, and its leaf was made anew
 pub kept_after : (layout : Layout) (k : ℕ) (old new : List ℕ) (leaves leaves' : List (Both PixelSummary WordSummary)) (leaf : Both PixelSummary WordSummary) → IsWidth layout.width → IsKept layout old leaves

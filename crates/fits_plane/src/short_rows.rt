@@ -58,6 +58,7 @@ fn paint_part(
         → tree.new.joins ≤ tree.old.joins + d }
 {
     read_bytes(bytes);
+    // The groups of eight bytes that hold the pixels, and perhaps others beside them.
     let from = start * layout.width / 8;
     let to = ((start + count) * layout.width).div_ceil(8);
     let all = tree.leaf(k);

@@ -1,10 +1,60 @@
-use Rattle.std.proofs.Common.{◌*◌, ◌+◌, ◌/◌, ◌∙◌, ℕ, arith, ap, inl, inr, length}
+use Rattle.std.proofs.Common.{◌*◌, ◌+◌, ◌/◌, ◌∙◌, arith, ap, inl, inr}
 use Rattle.std.specs.Int.{w128}
 use Rattle.std.proofs.lemmas.Int.{to_z-of_z}
 use Rattle.fits_plane.specs.Paint.{painted_number}
 use Rattle.fits_plane.specs.Parts.{AreGroupsChanged}
-use Rattle.fits_plane.proofs.ShortRowLemmas.{groups_of, kept_after}
+use Rattle.fits_plane.proofs.ShortRowLemmas.{part_groups, kept_after}
 use Rattle.fits_plane.proofs.short_rows.paint_part.Goals as goal
+
+-- the block is one of the data unit's
+pub leaf-all-requires : goal.leaf-all-requires
+leaf-all-requires c =
+    let r = c.requires in
+    let g = part_groups c.args.layout c.args.bytes.now c.args.tree.now.leaves c.args.k c.args.start c.args.count c.div_ceil-to.result r.kept r.width r.some r.low r.high r.within c.div_ceil-to.ensures in
+    g.block
+
+-- the row's groups lie in the block
+pub scan_groups-gone-requires-clause-order : goal.scan_groups-gone-requires-clause-order
+scan_groups-gone-requires-clause-order c =
+    let r = c.requires in
+    let g = part_groups c.args.layout c.args.bytes.now c.args.tree.now.leaves c.args.k c.args.start c.args.count c.div_ceil-to.result r.kept r.width r.some r.low r.high r.within c.div_ceil-to.ensures in
+    g.order
+
+pub scan_groups-gone-requires-clause-within : goal.scan_groups-gone-requires-clause-within
+scan_groups-gone-requires-clause-within c =
+    let r = c.requires in
+    let g = part_groups c.args.layout c.args.bytes.now c.args.tree.now.leaves c.args.k c.args.start c.args.count c.div_ceil-to.result r.kept r.width r.some r.low r.high r.within c.div_ceil-to.ensures in
+    omega (arith, g.high, g.block, r.kept.whole)
+
+pub scan_groups-gone-requires-clause-short : goal.scan_groups-gone-requires-clause-short
+scan_groups-gone-requires-clause-short c =
+    let r = c.requires in
+    let g = part_groups c.args.layout c.args.bytes.now c.args.tree.now.leaves c.args.k c.args.start c.args.count c.div_ceil-to.result r.kept r.width r.some r.low r.high r.within c.div_ceil-to.ensures in
+    omega (arith, g.low, g.high)
+
+pub leaf_after-leaf-requires-clause-block : goal.leaf_after-leaf-requires-clause-block
+leaf_after-leaf-requires-clause-block c =
+    let r = c.requires in
+    let g = part_groups c.args.layout c.args.bytes.now c.args.tree.now.leaves c.args.k c.args.start c.args.count c.div_ceil-to.result r.kept r.width r.some r.low r.high r.within c.div_ceil-to.ensures in
+    omega (arith, g.block, r.kept.whole, c.paint_row.ensures.long)
+
+pub leaf_after-leaf-requires-clause-low : goal.leaf_after-leaf-requires-clause-low
+leaf_after-leaf-requires-clause-low c =
+    let r = c.requires in
+    let g = part_groups c.args.layout c.args.bytes.now c.args.tree.now.leaves c.args.k c.args.start c.args.count c.div_ceil-to.result r.kept r.width r.some r.low r.high r.within c.div_ceil-to.ensures in
+    g.low
+
+pub leaf_after-leaf-requires-clause-high : goal.leaf_after-leaf-requires-clause-high
+leaf_after-leaf-requires-clause-high c =
+    let r = c.requires in
+    let g = part_groups c.args.layout c.args.bytes.now c.args.tree.now.leaves c.args.k c.args.start c.args.count c.div_ceil-to.result r.kept r.width r.some r.low r.high r.within c.div_ceil-to.ensures in
+    g.high
+
+pub set-requires-clause-within : goal.set-requires-clause-within
+set-requires-clause-within c =
+    let r = c.requires in
+    let g = part_groups c.args.layout c.args.bytes.now c.args.tree.now.leaves c.args.k c.args.start c.args.count c.div_ceil-to.result r.kept r.width r.some r.low r.high r.within c.div_ceil-to.ensures in
+    g.block
 
 -- the row's numbers, by the offset as the code has it
 pub paint_row-requires-clause-storable : goal.paint_row-requires-clause-storable
@@ -22,11 +72,10 @@ pub returns-clause-kept : goal.returns-clause-kept
 returns-clause-kept c =
     let r = c.requires in
     let e = c.paint_row.ensures in
-    let blocks : ℕ = length c.args.tree.now.leaves in
-    let g = groups_of c.args.layout.width c.args.k c.args.start c.args.count c.args.layout.pixels blocks r.width r.some r.low r.high r.within (omega (arith, r.kept.fits.room, r.kept.fits.used, r.kept.whole)) in
+    let g = part_groups c.args.layout c.args.bytes.now c.args.tree.now.leaves c.args.k c.args.start c.args.count c.div_ceil-to.result r.kept r.width r.some r.low r.high r.within c.div_ceil-to.ensures in
     let changed : AreGroupsChanged (c.args.start * c.args.layout.width / 8) c.div_ceil-to.result c.args.bytes.now c.paint_row.new.bytes = record {
       long = e.long;
-      outside = λ j away. e.outside j (elim away [ inl p ↦ inl (omega (arith, p, g.front)) | inr p ↦ inr (omega (arith, p, g.back, c.div_ceil-to.ensures)) ]);
+      outside = λ j away. e.outside j (elim away [ inl p ↦ inl (omega (arith, p, g.front)) | inr p ↦ inr (omega (arith, p, g.back)) ]);
     } in
     kept_after c.args.layout c.args.k c.args.bytes.now c.paint_row.new.bytes c.args.tree.now.leaves c.set.new.self.leaves c.leaf_after-leaf.result r.width r.kept e.long
     (λ j away. e.outside j (elim away [ inl p ↦ inl (omega (arith, p, g.first)) | inr p ↦ inr (omega (arith, p, g.last)) ])) c.set.ensures.leaves g.block

@@ -1,4 +1,4 @@
-use Rattle.std.proofs.Common.{◌≡◌, ◌*◌, ◌+◌, ◌-◌, ◌/◌, ℕ, arith, inl, inr, refl, subst, to_z, of_z}
+use Rattle.std.proofs.Common.{◌≡◌, ◌*◌, ◌+◌, ◌-◌, ◌/◌, ℕ, arith, inl, inr, refl, rules, subst, to_z, of_z}
 use Rattle.std.specs.Int.{w128}
 use Rattle.std.proofs.lemmas.Int.{to_z-of_z}
 use Rattle.fits_plane.specs.Paint.{painted_number}
@@ -16,6 +16,10 @@ pub paint_part-requires-then-here-count-clause-paint : goal.paint_part-requires-
 paint_part-requires-then-here-count-clause-paint c =
     rw (to_z-of_z w128 c.args.offset c.ranges.offset)
     (can_paint c.args.layout.width c.args.paint.now c.args.offset c.args.rank c.args.count c.min-here.result (c.args.count - c.min-here.result) c.requires.paint (omega (arith, c.if-here-count.true)))
+
+-- Said, so that a body that breaks it is refused at once.
+pub paint_part-requires-then-here-count-clause-high : goal.paint_part-requires-then-here-count-clause-high
+paint_part-requires-then-here-count-clause-high c = search rules
 
 pub returns-then-here-count-clause-scans : goal.returns-then-here-count-clause-scans
 returns-then-here-count-clause-scans c =
