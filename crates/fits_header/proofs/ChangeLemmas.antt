@@ -143,13 +143,15 @@ pub left-sorted : (es fs : List Entry) (place removed coming : ℕ) → IsIndex 
 left-sorted es fs place removed coming index is = subst IsSortedIndex (sym is) (sorted-shifted es place removed coming index.theirs.sorted)
 
 -- and so many entries fewer
-pub left-length : (es fs : List Entry) (place removed coming : ℕ) → IsIndex es → 1 ≤ place → place + removed ≤ length es + 1 → fs ≡ left_by place removed coming es → length fs + removed ≡ length es
+pub left-length : (es fs : List Entry) (place removed coming : ℕ) → IsIndex es → 1 ≤ place → place + removed ≤ length es + 1 → fs ≡ left_by place removed coming es
+    → length fs + removed ≡ length es
 left-length es fs place removed coming index one fits is =
     let size = length-index es index.cards index.theirs in
     omega (arith, ap length is, size, length-taken es index.cards place removed coming one (omega (arith, size)) index.theirs)
 
 -- with the entries of those that come it is the index of the cards as they are then
-pub index-spliced : (es fs gs : List Entry) (old new : List (List ℕ)) (place removed : ℕ) → IsIndexOf es old → 1 ≤ place → place + removed ≤ length es + 1 → fs ≡ left_by place removed (length new) es → IsSortedIndex gs → AreNamed new
+pub index-spliced : (es fs gs : List Entry) (old new : List (List ℕ)) (place removed : ℕ) → IsIndexOf es old → 1 ≤ place → place + removed ≤ length es + 1
+    → fs ≡ left_by place removed (length new) es → IsSortedIndex gs → AreNamed new
     → ((xs zs : List (List ℕ)) → length xs + 1 ≡ place → AreSame fs (entries_from 1 xs ++ entries_from (place + length new) zs) → AreSame gs (entries_from 1 ((xs ++ new) ++ zs)))
     → IsIndexOf gs (spliced old place removed new)
 index-spliced es fs gs old new place removed index one fits is sorted named put =
@@ -165,11 +167,13 @@ index-spliced es fs gs old new place removed index one fits is sorted named put 
     }
 
 -- no place is past the last card where one of them is out
-pub places_out : (es out seen : List Entry) (place : ℕ) → IsIndex es → out ≡ filter (stays place 1) es → seen ≡ out → All (λ (e : Entry). e.place ≤ length es) seen
+pub places_out : (es out seen : List Entry) (place : ℕ) → IsIndex es → out ≡ filter (stays place 1) es → seen ≡ out
+    → All (λ (e : Entry). e.place ≤ length es) seen
 places_out es out seen place index gone same = subst (All (λ (e : Entry). e.place ≤ length es)) (sym (same ∙ gone)) (All-filter (stays place 1) (λ (e : Entry). e.place ≤ length es) es (places_among es index))
 
 -- where one is out, a pass over the others writes them all
-pub out_written : (f : Entry → Entry) (es out seen new : List Entry) (place n : ℕ) → out ≡ filter (stays place 1) es → n ≡ length out → seen ≡ out → new ≡ map f seen → take n (new ++ drop (length new) out) ≡ map f (filter (stays place 1) es)
+pub out_written : (f : Entry → Entry) (es out seen new : List Entry) (place n : ℕ) → out ≡ filter (stays place 1) es → n ≡ length out → seen ≡ out → new ≡ map f seen
+    → take n (new ++ drop (length new) out) ≡ map f (filter (stays place 1) es)
 out_written f es out seen new place n gone size same is = pass_written f out seen new n size same is ∙ ap (map f) gone
 
 -- where a card moves, that is one shift after another

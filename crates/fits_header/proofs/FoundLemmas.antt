@@ -79,7 +79,8 @@ all_kept {X = X} p (x ∷ xs) same = go (λ size. all_kept p xs size) (p x) refl
       absurd (omega (arith, ap (λ (ys : List X). length ys) left, same, length-filter_both p (λ x. not (p x)) (λ x. refl) xs))
 
 -- where one only goes, it is the first that does: all others stay
-one_out : (place at : ℕ) (es : List Entry) (d : Entry) → at < length es → filter (stays place 1) (take at es) ≡ take at es → stays place 1 (get_or es at d) ≡ false → length (filter (stays place 1) es) + 1 ≡ length es
+one_out : (place at : ℕ) (es : List Entry) (d : Entry) → at < length es → filter (stays place 1) (take at es) ≡ take at es → stays place 1 (get_or es at d) ≡ false
+    → length (filter (stays place 1) es) + 1 ≡ length es
     → remove es at ≡ filter (stays place 1) es
 one_out place at es d within front goes one =
     let p = stays place 1 in

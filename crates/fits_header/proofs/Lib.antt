@@ -3,6 +3,7 @@ pub mod IndexLemmas
 pub mod EntriesLemmas
 pub mod LeadLemmas
 pub mod OpenLemmas
+pub mod PackLemmas
 pub mod ShiftLemmas
 pub mod CountLemmas
 pub mod ChangeLemmas

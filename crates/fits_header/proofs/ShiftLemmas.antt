@@ -1,15 +1,11 @@
 -- Entries after a pass that shifts them.
-use Rattle.std.proofs.Common.{◌≡◌, ℕ, ◌+◌, ◌-◌, ◌<◌, ◌≤◌, List, [], ◌∷◌, ◌++◌, length, length-append, length-drop, take, drop, get_or, map, filter, ap, sym, refl, subst, ◌∙◌, Bool, true, false, cond, arith}
+use Rattle.std.proofs.Common.{◌≡◌, ℕ, ◌+◌, ◌-◌, ◌<◌, ◌≤◌, List, [], ◌∷◌, ◌++◌, length, length-append, length-drop, take, drop, get_or, map, ap, sym, refl, ◌∙◌, arith}
 use Rattle.std.proofs.Math.ListN.{set}
-use Rattle.std.specs.List.{All}
-use Rattle.std.specs.List.Retain.{RetainsInTurn}
-use Rattle.std.proofs.lemmas.Bool.{cond-true, cond-false}
-use Rattle.std.proofs.lemmas.List.Elements.{All-tail}
 use Rattle.std.proofs.lemmas.Bool.Decides.{nat_tests}
 use Rattle.std.proofs.lemmas.List.{get_or_default, length-map, length-take-le}
 use Rattle.std.proofs.lemmas.List.Edits.{map_over_more}
 use Rattle.fits_header.specs.declared.entry.Entry.{Entry}
-use Rattle.fits_header.specs.Index.{shifted, stays}
+use Rattle.fits_header.specs.Index.{shifted}
 use Rattle.fits_header.proofs.IndexLemmas.{all_written}
 
 -- one more is mapped
@@ -48,22 +44,3 @@ one_less_comes place coming (e ∷ es) first some =
     ap (λ (x : Entry). x ∷ map (shifted place 0 (coming - 1)) es) (one_less place coming e first some) ∙ ap (λ (xs : List Entry). shifted place 1 coming e ∷ xs) (one_less_comes place coming es first some)
 
 pub ruleset gap_steps = (none_come, one_less_comes)
-
--- one more of those that stay, shifted
-kept_next : (place removed coming : ℕ) (b : Bool) (x y : Entry) (xs zs : List Entry) → b ≡ stays place removed x → (b ≡ true → y ≡ shifted place removed coming x) → zs ≡ map (shifted place removed coming) (filter (stays place removed) xs)
-    → cond b (y ∷ zs) zs ≡ map (shifted place removed coming) (filter (stays place removed) (x ∷ xs))
-kept_next place removed coming true x y xs zs stay is rest =
-    ap (λ (e : Entry). e ∷ zs) (is refl) ∙ (ap (λ (es : List Entry). shifted place removed coming x ∷ es) rest
-    ∙ ap (map (shifted place removed coming)) (sym (cond-true (stays place removed x) (x ∷ filter (stays place removed) xs) (filter (stays place removed) xs) (sym stay))))
-kept_next place removed coming false x y xs zs stay is rest =
-    rest ∙ ap (map (shifted place removed coming)) (sym (cond-false (stays place removed x) (x ∷ filter (stays place removed) xs) (filter (stays place removed) xs) (sym stay)))
-
--- so it is of all that a pass keeps
-pub kept_shifted : {S : Type 0} (R : S → Entry → Bool → S → Entry → Type 0) (place removed coming : ℕ) (f : S)
-    → ((x : Entry) (b : Bool) (g : S) (y : Entry) → R f x b g y → (b ≡ stays place removed x) × (x.place + coming < 18446744073709551616 + removed → b ≡ true → y ≡ shifted place removed coming x) × (g ≡ f))
-    → (xs ys : List Entry) → All (λ (e : Entry). e.place + coming < 18446744073709551616 + removed) xs → RetainsInTurn R f xs ys → ys ≡ map (shifted place removed coming) (filter (stays place removed) xs)
-kept_shifted R place removed coming f says [] ys low turn = turn
-kept_shifted R place removed coming f says (x ∷ xs) ys low turn =
-    let said = says x turn.0 turn.1 turn.2 turn.3 in
-    let rest = kept_shifted R place removed coming f says xs turn.4 (All-tail (λ (e : Entry). e.place + coming < 18446744073709551616 + removed) x xs low) (subst (λ g. RetainsInTurn R g xs turn.4) said.2 turn.5) in
-    turn.6 ∙ kept_next place removed coming turn.0 x turn.2 xs turn.4 said.0 (said.1 (low 0 x (omega arith))) rest

@@ -7,7 +7,7 @@ ghost use Rattle.fits_header.specs.Names.{AreNamed};
 ghost use Rattle.fits_header.specs.Notes.{notes_of};
 ghost use Rattle.fits_header.specs.declared.entry.Entry.{Entry};
 
-use crate::entry::{Entry, entry_of, keep, noted_entry};
+use crate::entry::{Entry, entry_of, move_on, noted_entry, stays};
 use crate::notes::Notes;
 use crate::shifts::open_gap;
 use fits_card::{Card, CardList, room_for};
@@ -82,8 +82,77 @@ pub(crate) fn make_way(entries: &mut Vec<Entry>, place: usize, removed: usize, c
     }
     match removed {
         0 => open_gap(entries, place, coming),
-        _ => entries.retain_mut(|entry| keep(entry, place, removed, coming)),
+        _ => take_several(entries, place, removed, coming),
     }
+}
+
+// The same where some go.
+fn take_several(entries: &mut Vec<Entry>, place: usize, removed: usize, coming: usize)
+    requires { All (λ e. e.place + coming < 2 ^ 64 + removed) entries.old.items }
+    ensures items { entries.new.items
+        ≡ map (shifted place removed coming) (filter (stays place removed) entries.old.items) }
+    ensures room { vec_capacity entries.new ≡ vec_capacity entries.old }
+{
+    let first = shift_front(entries, place, removed, coming);
+    let kept = pack_from(entries, first, place, removed, coming);
+    entries.truncate(kept);
+}
+
+// Shifts the entries up to the first of those that go, and says where that is. They stay where they
+// are, so that their places alone are written.
+fn shift_front(entries: &mut [Entry], place: usize, removed: usize, coming: usize) -> usize
+    requires low { All (λ e. e.place + coming < 2 ^ 64 + removed) entries.old }
+    ensures within { result ≤ length entries.old }
+    ensures len { length entries.new ≡ length entries.old }
+    ensures front { take result entries.new
+        ≡ map (shifted place removed coming) (filter (stays place removed) (take result entries.old)) }
+    ensures rest { drop result entries.new ≡ drop result entries.old }
+{
+    let mut index = 0;
+    while index < entries.len() && stays(entries[index], place, removed) {
+        move_on(&mut entries[index], place, removed, coming);
+        index += 1;
+    }
+    index
+}
+
+// Packs the entries from one on behind those before it, and says how many there are then.
+fn pack_from(
+    entries: &mut Vec<Entry>,
+    first: usize,
+    place: usize,
+    removed: usize,
+    coming: usize,
+) -> usize
+    requires within { first ≤ vec_len entries.old }
+    requires low { All (λ e. e.place + coming < 2 ^ 64 + removed) (drop first entries.old.items) }
+    ensures kept { take result entries.new.items ≡ take first entries.old.items
+        ++ map (shifted place removed coming) (filter (stays place removed) (drop first entries.old.items)) }
+    ensures within { result ≤ vec_len entries.new }
+    ensures room { vec_capacity entries.new ≡ vec_capacity entries.old }
+{
+    let (_, rest) = entries.split_at_mut(first);
+    first + pack(rest, place, removed, coming)
+}
+
+// Packs what stays at the front, shifted, and says how many that are.
+fn pack(entries: &mut [Entry], place: usize, removed: usize, coming: usize) -> usize
+    requires low { All (λ e. e.place + coming < 2 ^ 64 + removed) entries.old }
+    ensures kept { take result entries.new
+        ≡ map (shifted place removed coming) (filter (stays place removed) entries.old) }
+    ensures len { length entries.new ≡ length entries.old }
+    ensures within { result ≤ length entries.old }
+{
+    let mut kept = 0;
+    for index in 0..entries.len() {
+        let entry = entries[index];
+        let mut moved = entry;
+        move_on(&mut moved, place, removed, coming);
+        // It is written whether it stays or not: what doesn't is written over.
+        entries[kept] = moved;
+        kept += stays(entry, place, removed) as usize;
+    }
+    kept
 }
 
 /// Takes the entry of a place out, whose name is known, so that it is found by its order. The others

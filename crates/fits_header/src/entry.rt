@@ -42,38 +42,35 @@ pub(crate) fn noted_entry(note: &Note, place: usize) -> Entry
     }
 }
 
-/// Makes an entry what it is once cards went and others came instead, and says whether it is of none
-/// of those that went.
-pub(crate) fn keep(entry: &mut Entry, place: usize, removed: usize, coming: usize) -> bool
-    ensures stays { result ≡ stays place removed entry.old }
-    ensures value { entry.old.place + coming < 2 ^ 64 + removed → IsTrue result
+/// Whether the entry is of none of the places that go.
+pub(crate) fn stays(entry: Entry, place: usize, removed: usize) -> bool
+    ensures { result ≡ stays place removed entry }
+{
+    entry.place < place || removed <= entry.place - place
+}
+
+/// Makes an entry what it is once cards before it went and came, where it stays itself: its place
+/// alone is written.
+pub(crate) fn move_on(entry: &mut Entry, place: usize, removed: usize, coming: usize)
+    requires low { entry.old.place + coming < 2 ^ 64 + removed }
+    ensures { IsTrue (stays place removed entry.old)
         → entry.new ≡ shifted place removed coming entry.old }
 {
     let here = entry.place;
-    // A card that goes has no place then: nothing is said of what comes of it.
+    // A card that goes has no place then: whatever comes of it is written over.
     let moved = here.wrapping_sub(removed).wrapping_add(coming);
     entry.place = if here < place { here } else { moved };
-    here < place || removed <= here - place
 }
 
-/// Makes an entry what it is once cards came: from their place on each moves on by as many.
-pub(crate) fn move_on(entry: &mut Entry, place: usize, coming: usize)
-    requires { entry.old.place + coming < 2 ^ 64 }
-    ensures { entry.new ≡ shifted place 0 coming entry.old }
-{
-    let here = entry.place;
-    entry.place = if here < place { here } else { here + coming };
-}
-
-/// The same where one card came.
+/// The same where one card came: from its place on each moves on by one.
 pub(crate) fn step_on(entry: &mut Entry, place: usize)
-    requires { entry.old.place + 1 < 2 ^ 64 }
+    requires low { entry.old.place + 1 < 2 ^ 64 }
     ensures { entry.new ≡ shifted place 0 1 entry.old }
 {
     entry.place += (place <= entry.place) as usize;
 }
 
-/// The same where one card went: behind it each moves back by one.
+/// The same where one card went: from its place on each moves back by one.
 pub(crate) fn step_back(entry: &mut Entry, place: usize)
     requires { 1 ≤ place }
     ensures { entry.new ≡ shifted place 1 0 entry.old }

@@ -50,7 +50,7 @@ fn shift_all(entries: &mut [Entry], place: usize, coming: usize)
     ensures { entries.new ≡ map (shifted place 0 coming) entries.old }
 {
     for index in 0..entries.len() {
-        move_on(&mut entries[index], place, coming);
+        move_on(&mut entries[index], place, 0, coming);
     }
 }
 

@@ -1,8 +1,8 @@
-use Rattle.std.proofs.Common.{◌∙◌, arith, rules}
+use Rattle.std.proofs.Common.{◌∙◌, arith}
 use Rattle.fits_header.specs.Index.{shifted}
 use Rattle.fits_header.proofs.ChangeLemmas.{none_goes}
 use Rattle.fits_header.proofs.EntriesLemmas.{way-free}
-use Rattle.fits_header.proofs.ShiftLemmas.{kept_shifted, pass_written}
+use Rattle.fits_header.proofs.ShiftLemmas.{pass_written}
 use Rattle.fits_header.proofs.entries.make_way.Goals as goal
 
 pub returns-then-len-place-clause-items : goal.returns-then-len-place-clause-items
@@ -12,6 +12,3 @@ pub returns-in-0-clause-items : goal.returns-in-0-clause-items
 returns-in-0-clause-items c =
     pass_written (shifted c.args.place 0 c.args.coming) c.args.entries.now.items c.deref_mut.result.now _ _ (omega (arith, c.args.entries.now.ok)) c.deref_mut.ensures.value c.open_gap.ensures
     ∙ none_goes c.args.place c.args.removed c.args.coming c.args.entries.now.items c.in-0.is
-
-pub returns-in_default-clause-items : goal.returns-in_default-clause-items
-returns-in_default-clause-items c = kept_shifted _ c.args.place c.args.removed c.args.coming _ (λ x b g y k. search rules) c.args.entries.now.items c.retain_mut.new.self.items c.requires.low c.retain_mut.ensures.filtered

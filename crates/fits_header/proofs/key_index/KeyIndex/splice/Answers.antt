@@ -20,7 +20,8 @@ pub add_cards-requires-clause-room : goal.add_cards-requires-clause-room
 add_cards-requires-clause-room c =
     let seen : c.args.self.now.entries ≡ c.self.inside.entries.items = cc in
     let room : c.args.self.now.room ≡ vec_capacity c.self.inside.entries - vec_len c.self.inside.entries = ap (λ (s : KeyStore). s.room) (sym c.self.view_is) in
-    let left = left-length c.self.inside.entries.items c.make_way.new.entries.items c.args.place c.args.removed (length c.args.cards.now) c.self.invariant c.requires.from (omega (arith, ap length seen, c.requires.to)) c.make_way.ensures.items in
+    let left = left-length c.self.inside.entries.items c.make_way.new.entries.items c.args.place c.args.removed (length c.args.cards.now) c.self.invariant
+    c.requires.from (omega (arith, ap length seen, c.requires.to)) c.make_way.ensures.items in
     omega (arith, left, room, c.requires.room, c.make_way.ensures.room, c.self.inside.entries.ok, c.make_way.new.entries.ok)
 
 pub invariant_of-self : goal.invariant_of-self
@@ -43,5 +44,6 @@ pub returns-clause-room : goal.returns-clause-room
 returns-clause-room c =
     let seen : c.args.self.now.entries ≡ c.self.inside.entries.items = cc in
     let room : c.args.self.now.room ≡ vec_capacity c.self.inside.entries - vec_len c.self.inside.entries = ap (λ (s : KeyStore). s.room) (sym c.self.view_is) in
-    let left = left-length c.self.inside.entries.items c.make_way.new.entries.items c.args.place c.args.removed (length c.args.cards.now) c.self.invariant c.requires.from (omega (arith, ap length seen, c.requires.to)) c.make_way.ensures.items in
+    let left = left-length c.self.inside.entries.items c.make_way.new.entries.items c.args.place c.args.removed (length c.args.cards.now) c.self.invariant
+    c.requires.from (omega (arith, ap length seen, c.requires.to)) c.make_way.ensures.items in
     omega (arith, left, room, c.requires.room, c.make_way.ensures.room, c.add_cards.ensures.room, c.add_cards.ensures.len, c.self.inside.entries.ok, c.make_way.new.entries.ok)
