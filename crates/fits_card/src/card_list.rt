@@ -5,6 +5,7 @@ ghost use Rattle.fits_card.specs.Header.{header_length};
 use crate::card::{CARD_LEN, Card};
 use crate::count::Count;
 use crate::fill::{Fill, fill_len};
+use crate::room::room_for;
 use crate::sink::Sink;
 use crate::slotted::Slotted;
 use crate::slotted_cards::{splice_cards, write_cards};
@@ -77,6 +78,8 @@ impl CardList {
             ≡ record { cards = cards.items; end = end; fill = fill_bytes fill }) }
         ensures unread { IfOk result (λ list. list.reads ≡ 0) }
     {
+        let mut cards = cards;
+        cards.shrink_to(room_for(cards.len()));
         Ok(CardList {
             cards: Slotted::of(alloc, cards)?,
             end,

@@ -3,12 +3,13 @@ ghost use Rattle.std.specs.Prelude.{◌≡◌, ◌≤◌, ◌<◌, ◌+◌, ◌/
 
 use std::alloc::AllocError;
 
-/// How many items a list is opened with room for that has so many: an eighth more may come.
+/// How many items a list that has so many is opened with room for: an eighth more may come, but no
+/// more than eight.
 pub fn room_for(count: usize) -> usize
     ensures least { count ≤ result }
-    ensures most { result ≤ count + count / 8 }
+    ensures most { result ≤ count + 8 }
 {
-    count.saturating_add(count / 8)
+    count.saturating_add((count / 8).min(8))
 }
 
 /// Makes room for this many more items, where it is missing, and for an eighth of what there is
