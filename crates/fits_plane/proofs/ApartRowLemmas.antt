@@ -39,6 +39,14 @@ row_grows (a ∷ axs) (l ∷ ls) (h ∷ hs) row r some b =
     omega (arith, first, second, more)
 row_grows _ _ _ row r some b = elim r [ ]
 
+-- and past the blocks of that one
+pub row_past : (axes lo hi : List ℕ) (per row first : ℕ) → IsRectangle axes lo hi → 0 < per → per + row_size lo hi ≤ slice_index axes 0 → row + 1 < row_count lo hi → first ≡ place axes lo hi (row * row_size lo hi)
+    → (first + row_size lo hi - 1) / per + 1 ≤ place axes lo hi ((row + 1) * row_size lo hi) / per
+row_past axes lo hi per row first r some far b at =
+    let side : ℕ = row_size lo hi in
+    let gap = row_grows axes lo hi row r (omega (arith, far, some)) b in
+    (le-div_iff_mul-le some).1 (omega (arith, div-mul-le_self (first + side - 1) per, gap, at, far, row_size_some axes lo hi r))
+
 -- the rows below `row` are walked over, and the next begins past their blocks
 pub record ApartWalk (axes lo hi : List ℕ) (per n blocks side row scanned : ℕ) : Type 0 where
   pub next : ℕ
@@ -69,7 +77,7 @@ apart_more axes lo hi per n blocks row first scanned scanned' r whole some room 
       ahead = λ c.
           let second : ℕ = place axes lo hi ((row + 1) * side) in
           let gap = row_grows axes lo hi row r (omega (arith, far, some)) c in
-          let past : stop ≤ second / per = (le-div_iff_mul-le some).1 (omega (arith, div-mul-le_self (first + side - 1) per, gap, at, far, row_size_some axes lo hi r)) in
+          let past = row_past axes lo hi per row first r some far c at in
           let same = div-grows per first second some (omega (arith, gap, at)) in
           omega (arith, past, before, same);
     }

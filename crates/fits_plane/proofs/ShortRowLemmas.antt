@@ -1,8 +1,8 @@
 -- A row that is painted in the blocks that hold it.
-use Rattle.std.proofs.Common.{◌≡◌, ◌<◌, ◌≤◌, ℕ, ◌+◌, ◌-◌, ◌*◌, ◌/◌, ◌%◌, ℤ, List, length, get_or, set, slice_index, min, arith, sym, ◌∙◌, ap, subst, inl, inr, ◌⊎◌}
+use Rattle.std.proofs.Common.{◌≡◌, ◌≢◌, ◌<◌, ◌≤◌, ℕ, ◌+◌, ◌-◌, ◌*◌, ◌/◌, ◌%◌, ℤ, List, length, get_or, set, take, drop, slice_index, min, refl, arith, sym, ◌∙◌, ap, subst, inl, inr, ◌⊎◌}
 use Rattle.std.proofs.Math.Nat.{mul-le-mul_right, div-mul-le_self, div-lt_iff_lt-mul, div-eq_of_lt-le}
 use Rattle.std.proofs.lemmas.Bool.{cases_lt, cases_eq}
-use Rattle.std.proofs.lemmas.List.{get_or-set_same, get_or-set_other, length-set}
+use Rattle.std.proofs.lemmas.List.{get_or-set_same, get_or-set_other, get_or-drop, get_or-take, get_or_past, length-drop, length-take}
 use Rattle.fits_plane.specs.declared.pixel_summary.PixelSummary.{PixelSummary}
 use Rattle.fits_plane.specs.declared.word_summary.WordSummary.{WordSummary}
 use Rattle.fits_plane.specs.declared.both.Both.{Both}
@@ -11,13 +11,15 @@ use Rattle.fits_plane.specs.declared.paint.Paint.{Paint}
 use Rattle.fits_plane.specs.declared.paint.Paint.TheVariants.{Fill, Write}
 use Rattle.fits_plane.specs.Paint.{painted_number, HasValues}
 use Rattle.fits_plane.specs.Pixels.{pixel, IsWidth, IsStorable}
-use Rattle.fits_plane.specs.Layout.{block_pixels}
-use Rattle.fits_plane.specs.Leaves.{leaf_unit, leaf_of}
-use Rattle.fits_plane.specs.ShortRows.{IsKept, CanPaint, RowWritten}
+use Rattle.fits_plane.specs.Layout.{IsLayout, block_count, block_pixels}
+use Rattle.fits_plane.specs.Leaves.{leaf_unit, leaf_of, IsBlockTree, IsBlockTreeBut}
+use Rattle.fits_plane.specs.ShortRows.{IsKept, IsKeptBut, CanPaint, RowWritten}
 use Rattle.fits_plane.proofs.PixelLemmas.{by_width}
 use Rattle.fits_plane.proofs.PlaneLemmas.{layout_stays}
+use Rattle.fits_plane.proofs.JoinLemmas.{tree_begun}
 use Rattle.fits_plane.proofs.LeafLemmas.{block_pixels_some}
 use Rattle.fits_plane.proofs.PartLemmas.{leaf-same}
+use Rattle.fits_plane.proofs.TreeLemmas.{leaves_used}
 use Rattle.fits_plane.proofs.WriteLemmas.{pixel_away}
 
 -- ---- a run of pixels of one block
@@ -44,27 +46,77 @@ groups_of w k start count pixels blocks h = by_width (λ w. 0 < count → k * bl
     (λ s a b c d. record { low = omega (arith, a); order = omega (arith, s); high = omega (arith, b); block = omega (arith, s, a, c, d); front = omega arith; back = omega arith; first = omega (arith, a); last = omega (arith, b) })
     w h
 
--- by what is kept
-pub part_groups : (layout : Layout) (xs : List ℕ) (leaves : List (Both PixelSummary WordSummary)) (k start count to : ℕ) → IsKept layout xs leaves → IsWidth layout.width → 0 < count
+-- by the layout
+pub part_groups : (layout : Layout) (xs : List ℕ) (k start count to : ℕ) → IsLayout layout xs → IsWidth layout.width → 0 < count
     → k * block_pixels layout.width ≤ start → start + count ≤ (k + 1) * block_pixels layout.width → start + count ≤ layout.pixels
-    → to ≡ (start + count) * layout.width / 8 + min 1 ((start + count) * layout.width % 8) → Groups layout.width k start count (length leaves) (start * layout.width / 8) to
-part_groups layout xs leaves k start count to h w some low high within e = subst (Groups layout.width k start count (length leaves) (start * layout.width / 8)) (sym e)
-    (groups_of layout.width k start count layout.pixels (length leaves) w some low high within (omega (arith, h.fits.room, h.fits.used, h.whole)))
+    → to ≡ (start + count) * layout.width / 8 + min 1 ((start + count) * layout.width % 8) → Groups layout.width k start count (block_count xs) (start * layout.width / 8) to
+part_groups layout xs k start count to h w some low high within e = subst (Groups layout.width k start count (block_count xs) (start * layout.width / 8)) (sym e)
+    (groups_of layout.width k start count layout.pixels (block_count xs) w some low high within (omega (arith, h.room, h.used, h.whole)))
 
 -- what is kept once one block changed, and its leaf was made anew
-pub kept_after : (layout : Layout) (k : ℕ) (old new : List ℕ) (leaves leaves' : List (Both PixelSummary WordSummary)) (leaf : Both PixelSummary WordSummary) → IsWidth layout.width → IsKept layout old leaves
-    → length new ≡ length old → ((j : ℕ) → (j < 2880 * k) ⊎ (2880 * k + 2880 ≤ j) → slice_index new j ≡ slice_index old j) → leaves' ≡ set leaves k leaf → k < length leaves → leaf ≡ leaf_of layout new k
-    → IsKept layout new leaves'
-kept_after layout k old new leaves leaves' leaf w h long byte e room made = record {
-  fits = layout_stays layout old new h.fits long;
-  whole = omega (arith, long, h.whole, ap length e, length-set leaves k leaf);
-  right = λ j b. ap (λ xs. get_or xs j leaf_unit) e ∙ elim (cases_eq j k) [
-    | inl same ↦ ap (λ i. get_or (set leaves k leaf) i leaf_unit) same ∙ get_or-set_same leaves k leaf leaf_unit room ∙ made ∙ ap (leaf_of layout new) (sym same)
-    | inr other ↦
-        get_or-set_other leaves k j leaf leaf_unit other ∙ h.right j (omega (arith, b, ap length e, length-set leaves k leaf))
-        ∙ sym (leaf-same layout j old new w long (λ i x y. byte i (elim (cases_lt j k) [ inl lt ↦ inl (omega (arith, y, lt)) | inr ge ↦ inr (omega (arith, x, ge, other)) ])))
-  ];
+pub kept_after : (layout : Layout) (k n last place : ℕ) (old new : List ℕ) (nodes nodes' : List (Both PixelSummary WordSummary)) (leaf : Both PixelSummary WordSummary)
+    → IsWidth layout.width → IsKeptBut layout old n last nodes → length new ≡ length old → ((j : ℕ) → (j < 2880 * k) ⊎ (2880 * k + 2880 ≤ j) → slice_index new j ≡ slice_index old j)
+    → place ≡ n + k → IsBlockTreeBut n place nodes' → drop n nodes' ≡ set (drop n nodes) k leaf → k < block_count old → leaf ≡ leaf_of layout new k → IsKeptBut layout new n place nodes'
+kept_after layout k n last place old new nodes nodes' leaf w h long byte at t e room made =
+    let blocks : block_count new ≡ block_count old = ap (λ m. m / 2880) long in
+    let wide : k < length (drop n nodes) = omega (arith, length-drop n nodes, h.tree.long, h.within, room) in
+    let other : (j : ℕ) → j ≢ k → get_or (drop n nodes') j leaf_unit ≡ get_or (drop n nodes) j leaf_unit
+    = λ j ne. ap (λ xs. get_or xs j leaf_unit) e ∙ get_or-set_other (drop n nodes) k j leaf leaf_unit ne in
+    record {
+      fits = layout_stays layout old new h.fits long;
+      within = omega (arith, blocks, h.within);
+      leaf = inr (omega (arith, at));
+      tree = t;
+      right = λ j b. elim (cases_eq j k) [
+        | inl same ↦
+            ap (λ xs. get_or xs j leaf_unit) e ∙ ap (λ i. get_or (set (drop n nodes) k leaf) i leaf_unit) same ∙ get_or-set_same (drop n nodes) k leaf leaf_unit wide ∙ made
+            ∙ ap (leaf_of layout new) (sym same)
+        | inr ne ↦
+            other j ne ∙ h.right j (omega (arith, b, blocks))
+            ∙ sym (leaf-same layout j old new w long (λ i x y. byte i (elim (cases_lt j k) [ inl lt ↦ inl (omega (arith, y, lt)) | inr ge ↦ inr (omega (arith, x, ge, ne)) ])))
+      ];
+      units = λ j b. let ne : j ≢ k = omega (arith, b, blocks, room) in other j ne ∙ h.units j (omega (arith, b, blocks));
+    }
+
+-- what is kept of a tree whose nodes are all joined
+pub kept_open : (layout : Layout) (bytes : List ℕ) (n used : ℕ) (nodes leaves : List (Both PixelSummary WordSummary)) → 1 ≤ n → used ≤ n → IsBlockTree n nodes
+    → ((k : ℕ) → used ≤ k → k < n → get_or nodes (n + k) leaf_unit ≡ leaf_unit) → take used (drop n nodes) ≡ leaves → IsKept layout bytes leaves → IsKeptBut layout bytes n 1 nodes
+kept_open layout bytes n used nodes leaves some room t units e h =
+    let many = leaves_used n used nodes leaves t.long room e in
+    record {
+      fits = h.fits;
+      within = omega (arith, h.whole, many, room);
+      leaf = inl refl;
+      tree = tree_begun n nodes some t;
+      right = λ k b. sym (get_or-take used (drop n nodes) k leaf_unit (omega (arith, b, h.whole, many))) ∙ ap (λ ls. get_or ls k leaf_unit) e ∙ h.right k (omega (arith, b, h.whole));
+      units = λ k b. elim (cases_lt k n) [
+        | inl lt ↦ get_or-drop n nodes k leaf_unit ∙ units k (omega (arith, b, h.whole, many)) lt
+        | inr ge ↦ get_or_past (drop n nodes) k leaf_unit (omega (arith, length-drop n nodes, t.long, ge))
+      ];
+    }
+
+-- the last path is joined
+pub kept_done : (layout : Layout) (bytes : List ℕ) (n last : ℕ) (nodes nodes' : List (Both PixelSummary WordSummary)) → IsKeptBut layout bytes n last nodes
+    → IsBlockTreeBut n 1 nodes' → drop n nodes' ≡ drop n nodes → IsKeptBut layout bytes n 1 nodes'
+kept_done layout bytes n last nodes nodes' h t e = record {
+  fits = h.fits;
+  within = h.within;
+  leaf = inl refl;
+  tree = t;
+  right = λ k b. ap (λ ls. get_or ls k leaf_unit) e ∙ h.right k b;
+  units = λ k b. ap (λ ls. get_or ls k leaf_unit) e ∙ h.units k b;
 }
+
+-- and its first leaves are those of the bytes
+pub kept_closed : (layout : Layout) (bytes : List ℕ) (n used : ℕ) (nodes : List (Both PixelSummary WordSummary)) → used ≡ block_count bytes
+    → IsKeptBut layout bytes n 1 nodes → IsKept layout bytes (take used (drop n nodes))
+kept_closed layout bytes n used nodes e h =
+    let many : length (take used (drop n nodes)) ≡ used = omega (arith, length-take used (drop n nodes), length-drop n nodes, h.tree.long, h.within, e) in
+    record {
+      fits = h.fits;
+      whole = omega (arith, many, e, h.fits.whole);
+      right = λ k b. get_or-take used (drop n nodes) k leaf_unit (omega (arith, b, many)) ∙ h.right k (omega (arith, b, many, e));
+    }
 
 -- ---- a row in two runs
 

@@ -7,6 +7,10 @@ use Rattle.std.specs.Prelude.{replicate}
 use Rattle.fits_plane.specs.Summary.{SummaryLaws, all_joined}
 use Rattle.fits_plane.specs.Tree.{IsTree}
 
+-- as many leaves are in use as a tree is seen to have
+pub leaves_used : {S : Type 0} (n used : ℕ) (nodes leaves : List S) → length nodes ≡ 2 * n → used ≤ n → take used (drop n nodes) ≡ leaves → used ≡ length leaves
+leaves_used n used nodes leaves long room e = omega (arith, ap length e, length-take used (drop n nodes), length-drop n nodes, long, room)
+
 -- products with twice a number
 products : (i m w : ℕ) → w ≡ m * 2 → (i * w ≡ 2 * i * m) × ((i + 1) * w ≡ 2 * i * m + 2 * m) × ((2 * i + 1) * m ≡ 2 * i * m + m) × ((2 * i + 1 + 1) * m ≡ 2 * i * m + 2 * m)
 products i m w e = rw e (omega arith, omega arith, omega arith, omega arith)

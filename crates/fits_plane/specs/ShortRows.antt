@@ -1,12 +1,12 @@
 -- A data unit that is painted run by run, with what is kept of its blocks (own).
-use Rattle.std.specs.Prelude.{◌≡◌, ◌≤◌, ◌<◌, ◌⊎◌, ℕ, ◌+◌, ◌*◌, ◌^◌, ℤ, List, length, slice_index}
+use Rattle.std.specs.Prelude.{◌≡◌, ◌≤◌, ◌<◌, ◌⊎◌, ℕ, ◌+◌, ◌*◌, ◌^◌, ℤ, List, drop, get_or, length, slice_index}
 use Rattle.fits_plane.specs.declared.pixel_summary.PixelSummary.{PixelSummary}
 use Rattle.fits_plane.specs.declared.word_summary.WordSummary.{WordSummary}
 use Rattle.fits_plane.specs.declared.both.Both.{Both}
 use Rattle.fits_plane.specs.declared.layout.Layout.{Layout}
 use Rattle.fits_plane.specs.declared.paint.Paint.{Paint}
-use Rattle.fits_plane.specs.Layout.{IsLayout}
-use Rattle.fits_plane.specs.Leaves.{AreLeaves}
+use Rattle.fits_plane.specs.Layout.{IsLayout, block_count}
+use Rattle.fits_plane.specs.Leaves.{leaf_unit, AreLeaves, IsLeaf, IsBlockTreeBut}
 use Rattle.fits_plane.specs.Paint.{painted_number, HasValues}
 use Rattle.fits_plane.specs.Pixels.{pixel, IsStorable}
 
@@ -15,6 +15,15 @@ pub record IsKept (layout : Layout) (bytes : List ℕ) (leaves : List (Both Pixe
   pub fits : IsLayout layout bytes
   pub whole : length bytes ≡ 2880 * length leaves
   pub right : AreLeaves layout bytes leaves
+
+-- a tree of n leaves, but that the nodes above one place, a leaf's or the root, are yet to be joined; the first leaves are those of the bytes, which the layout fits, and the others are units
+pub record IsKeptBut (layout : Layout) (bytes : List ℕ) (n place : ℕ) (nodes : List (Both PixelSummary WordSummary)) : Type 0 where
+  pub fits : IsLayout layout bytes
+  pub within : block_count bytes ≤ n
+  pub leaf : (place ≡ 1) ⊎ (n ≤ place)
+  pub tree : IsBlockTreeBut n place nodes
+  pub right : (k : ℕ) → k < block_count bytes → IsLeaf layout bytes (drop n nodes) k
+  pub units : (k : ℕ) → block_count bytes ≤ k → get_or (drop n nodes) k leaf_unit ≡ leaf_unit
 
 -- the paint has a number for each of so many pixels from a rank on, and such pixels can store it
 pub record CanPaint (width : ℕ) (paint : Paint) (offset : ℤ) (rank count : ℕ) : Type 0 where

@@ -12,7 +12,6 @@ use crate::paint::Paint;
 use crate::pixel_writes::paint_rows;
 use crate::rectangle::row_len;
 use crate::scan::{Leaf, pixels_per_block};
-use crate::short_rows::paint_short_rows;
 use crate::tree::Tree;
 use fits_card::Count;
 
@@ -59,6 +58,8 @@ fn paint_and_scan(
     ensures more { tree.old.joins ≤ tree.new.joins }
     ensures joins { (d : ℕ) → length tree.old.leaves ≤ 2 ^ d → tree.new.joins
         ≤ tree.old.joins + (scans.new.total - scans.old.total) * d }
+    ensures most { (d : ℕ) → length tree.old.leaves ≤ 2 ^ d
+        → tree.new.joins ≤ tree.old.joins + 2 ^ d }
 {
     paint_rows(bytes, layout.width, axes, lo, hi, paint, offset);
     tree.refresh_rectangle(bytes, layout, axes, lo, hi, scans);
@@ -94,11 +95,13 @@ pub(crate) fn paint_rectangle(
     ensures more { tree.old.joins ≤ tree.new.joins }
     ensures joins { (d : ℕ) → length tree.old.leaves ≤ 2 ^ d → tree.new.joins
         ≤ tree.old.joins + (scans.new.total - scans.old.total) * d }
+    ensures most { (d : ℕ) → length tree.old.leaves ≤ 2 ^ d
+        → tree.new.joins ≤ tree.old.joins + 2 ^ d }
 {
     let per = pixels_per_block(layout.width);
     let side = row_len(axes, lo, hi) as usize;
     if are_apart(axes, per, side) {
-        paint_short_rows(tree, scans, bytes, layout, axes, lo, hi, paint, offset);
+        tree.paint_short_rows(scans, bytes, layout, axes, lo, hi, paint, offset);
     } else {
         paint_and_scan(tree, scans, bytes, layout, axes, lo, hi, paint, offset);
     }

@@ -200,7 +200,8 @@ impl Plane {
             axes.now lo.now hi.now (painted_number paint.now offset) self.old.bytes }
         ensures layout { self.new.layout ≡ self.old.layout }
 
-        // Each block that holds a byte of it is scanned at most once. It takes no memory.
+        // Each block that holds a byte of it is scanned at most once, with no more joins than there
+        // are nodes. It takes no memory.
         ensures reads { self.new.reads ≡ self.old.reads }
         ensures more_scans { self.old.scans ≤ self.new.scans }
         ensures scans { self.new.scans ≤ self.old.scans
@@ -209,6 +210,8 @@ impl Plane {
         ensures joins { (d : ℕ) → block_count self.old.bytes ≤ 2 ^ d
             → self.new.joins ≤ self.old.joins
             + rectangle_blocks self.old.layout self.old.bytes axes.now lo.now hi.now * d }
+        ensures most { (d : ℕ) → block_count self.old.bytes ≤ 2 ^ d
+            → self.new.joins ≤ self.old.joins + 2 ^ d }
     {
         paint_rectangle(
             &mut self.tree,
@@ -234,7 +237,8 @@ impl Plane {
             axes.now lo.now hi.now (λ k. stored) self.old.bytes }
         ensures layout { self.new.layout ≡ self.old.layout }
 
-        // Each block that holds a byte of it is scanned at most once. It takes no memory.
+        // Each block that holds a byte of it is scanned at most once, with no more joins than there
+        // are nodes. It takes no memory.
         ensures reads { self.new.reads ≡ self.old.reads }
         ensures more_scans { self.old.scans ≤ self.new.scans }
         ensures scans { self.new.scans ≤ self.old.scans
@@ -243,6 +247,8 @@ impl Plane {
         ensures joins { (d : ℕ) → block_count self.old.bytes ≤ 2 ^ d
             → self.new.joins ≤ self.old.joins
             + rectangle_blocks self.old.layout self.old.bytes axes.now lo.now hi.now * d }
+        ensures most { (d : ℕ) → block_count self.old.bytes ≤ 2 ^ d
+            → self.new.joins ≤ self.old.joins + 2 ^ d }
     {
         self.paint_rect(axes, lo, hi, &Paint::Fill(i128::from(stored)), 0);
     }
@@ -268,7 +274,8 @@ impl Plane {
             self.old.bytes }
         ensures layout { self.new.layout ≡ self.old.layout }
 
-        // Each block that holds a byte of it is scanned at most once. It takes no memory.
+        // Each block that holds a byte of it is scanned at most once, with no more joins than there
+        // are nodes. It takes no memory.
         ensures reads { self.new.reads ≡ self.old.reads }
         ensures more_scans { self.old.scans ≤ self.new.scans }
         ensures scans { self.new.scans ≤ self.old.scans
@@ -277,6 +284,8 @@ impl Plane {
         ensures joins { (d : ℕ) → block_count self.old.bytes ≤ 2 ^ d
             → self.new.joins ≤ self.old.joins
             + rectangle_blocks self.old.layout self.old.bytes axes.now lo.now hi.now * d }
+        ensures most { (d : ℕ) → block_count self.old.bytes ≤ 2 ^ d
+            → self.new.joins ≤ self.old.joins + 2 ^ d }
     {
         self.paint_rect(axes, lo, hi, &Paint::Write(Values::new(values)), offset);
     }

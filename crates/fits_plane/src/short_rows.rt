@@ -1,38 +1,41 @@
 //! Short rows of a rectangle, painted one by one: what is kept of a row's blocks is made anew from
 //! what the row changed.
-ghost use Rattle.std.specs.Prelude.{◌≡◌, ◌≤◌, ◌<◌, ◌*◌, ◌+◌, ◌-◌, ◌/◌, ◌^◌, ℕ, true, length, slice_index, slice_index_or, IsTrue};
+ghost use Rattle.std.specs.Prelude.{◌≡◌, ◌≤◌, ◌<◌, ◌*◌, ◌+◌, ◌-◌, ◌/◌, ◌^◌, ℕ, true, drop, length, slice_index, slice_index_or};
 ghost use Rattle.fits_plane.specs.Paint.{has_count, painted_number};
 ghost use Rattle.fits_plane.specs.Pixels.{IsWidth, IsStorable};
 ghost use Rattle.fits_plane.specs.Rectangle.{IsRectangle, product, rectangle_size, rectangle_written, row_size};
-ghost use Rattle.fits_plane.specs.Layout.{block_pixels};
+ghost use Rattle.fits_plane.specs.Layout.{block_count, block_pixels};
+ghost use Rattle.fits_plane.specs.Leaves.{leaf_unit};
+ghost use Rattle.fits_plane.specs.Tree.{most_above, nodes_left};
 ghost use Rattle.fits_plane.specs.Work.{touched_blocks};
-ghost use Rattle.fits_plane.specs.ShortRows.{IsKept, CanPaint, RowWritten};
+ghost use Rattle.fits_plane.specs.ShortRows.{IsKept, IsKeptBut, CanPaint, RowWritten};
 
 use crate::layout::Layout;
+use crate::nodes::{climb, write_leaf};
 use crate::paint::Paint;
 use crate::parts::{leaf_after, scan_groups};
 use crate::pixel_writes::paint_row;
 use crate::pixels::read_bytes;
 use crate::rectangle::{row_len, row_start, rows};
 use crate::scan::{Leaf, pixels_per_block};
-use crate::summary::Summary;
 use crate::tree::Tree;
 use fits_card::Count;
 
-impl<S: Summary> Tree<S> {
-    /// One leaf.
-    fn leaf(&self, index: usize) -> S
-        requires { index < length self.now.leaves }
-        ensures { result ≡ slice_index_or self.now.leaves index S.empty }
-    {
-        self.nodes[self.width + index]
-    }
+/// The leaf of block k.
+fn leaf_at(nodes: &[Leaf], width: usize, k: usize) -> Leaf
+    requires long { length nodes.now ≡ 2 * width }
+    requires within { k < width }
+    ensures { result ≡ slice_index_or (drop width nodes.now) k leaf_unit }
+{
+    nodes[width + k]
 }
 
-/// Paints pixels of block k, and makes its leaf anew.
+/// Paints pixels of block k, and makes its leaf anew, after another leaf was written. Its place is
+/// returned: the nodes above it are yet to be joined.
 fn paint_part(
-    tree: &mut Tree<Leaf>,
-    scans: &mut Count,
+    nodes: &mut [Leaf],
+    width: usize,
+    last: usize,
     bytes: &mut [u8],
     layout: Layout,
     k: usize,
@@ -41,37 +44,43 @@ fn paint_part(
     paint: &Paint,
     rank: usize,
     offset: i128,
-)
-    requires kept { IsKept layout bytes.old tree.old.leaves }
+    scans: &mut Count,
+    joins: &mut Count,
+) -> usize
+    requires kept { IsKeptBut layout bytes.old width last nodes.old }
     requires width { IsWidth layout.width }
     requires some { 0 < count }
     requires low { k * block_pixels layout.width ≤ start }
     requires high { start + count ≤ (k + 1) * block_pixels layout.width }
     requires within { start + count ≤ layout.pixels }
     requires paint { CanPaint layout.width paint.now offset rank count }
+    ensures place { result ≡ width + k }
     ensures written { RowWritten layout.width start count
         (λ x. painted_number paint.now offset (rank + x)) bytes.old bytes.new }
-    ensures kept { IsKept layout bytes.new tree.new.leaves }
+    ensures kept { IsKeptBut layout bytes.new width result nodes.new }
     ensures scans { scans.new.total ≡ scans.old.total + 1 }
-    ensures more { tree.old.joins ≤ tree.new.joins }
-    ensures joins { (d : ℕ) → length tree.old.leaves ≤ 2 ^ d
-        → tree.new.joins ≤ tree.old.joins + d }
+    ensures more { joins.old.total ≤ joins.new.total }
+    ensures few { (d : ℕ) → width ≤ 2 ^ d → joins.new.total ≤ joins.old.total + most_above d last }
+    ensures left { (h : ℕ) → width ≡ 2 ^ h → last ≤ result → joins.new.total
+        + nodes_left h (last - width) ≤ joins.old.total + nodes_left h k }
 {
     read_bytes(bytes);
     // The groups of eight bytes that hold the pixels, and perhaps others beside them.
     let from = start * layout.width / 8;
     let to = ((start + count) * layout.width).div_ceil(8);
-    let all = tree.leaf(k);
+    let all = leaf_at(nodes, width, k);
     let gone = scan_groups(bytes, layout, from, to);
     paint_row(bytes, layout.width, start, count, paint, rank, offset);
     let leaf = leaf_after(bytes, layout, k, from, to, all, gone, scans);
-    tree.set(k, leaf);
+    write_leaf(nodes, width, last, k, leaf, joins)
 }
 
-/// Paints a row that is no longer than a block, so that it has pixels of two blocks at most.
+/// Paints a row that is no longer than a block, so that it has pixels of two blocks at most. The
+/// place of the last one's leaf is returned: the nodes above it are yet to be joined.
 fn paint_short_row(
-    tree: &mut Tree<Leaf>,
-    scans: &mut Count,
+    nodes: &mut [Leaf],
+    width: usize,
+    last: usize,
     bytes: &mut [u8],
     layout: Layout,
     start: usize,
@@ -79,34 +88,41 @@ fn paint_short_row(
     paint: &Paint,
     rank: usize,
     offset: i128,
-)
-    requires kept { IsKept layout bytes.old tree.old.leaves }
+    scans: &mut Count,
+    joins: &mut Count,
+) -> usize
+    requires kept { IsKeptBut layout bytes.old width last nodes.old }
     requires width { IsWidth layout.width }
     requires some { 0 < count }
     requires short { count ≤ block_pixels layout.width }
     requires within { start + count ≤ layout.pixels }
     requires paint { CanPaint layout.width paint.now offset rank count }
+    ensures place { result ≡ width + (start + count - 1) / block_pixels layout.width }
     ensures written { RowWritten layout.width start count
         (λ x. painted_number paint.now offset (rank + x)) bytes.old bytes.new }
-    ensures kept { IsKept layout bytes.new tree.new.leaves }
+    ensures kept { IsKeptBut layout bytes.new width result nodes.new }
     ensures scans { scans.new.total ≡ scans.old.total + ((start + count - 1)
         / block_pixels layout.width + 1 - start / block_pixels layout.width) }
-    ensures more { tree.old.joins ≤ tree.new.joins }
-    ensures joins { (d : ℕ) → length tree.old.leaves ≤ 2 ^ d → tree.new.joins
-        ≤ tree.old.joins + (scans.new.total - scans.old.total) * d }
+    ensures more { joins.old.total ≤ joins.new.total }
+    ensures few { (d : ℕ) → width ≤ 2 ^ d → joins.new.total + most_above d result
+        ≤ joins.old.total + most_above d last + (scans.new.total - scans.old.total) * d }
+    ensures left { (h : ℕ) → width ≡ 2 ^ h → last ≤ width + start / block_pixels layout.width
+        → joins.new.total + nodes_left h (last - width)
+        ≤ joins.old.total + nodes_left h (result - width) }
 {
     let per = pixels_per_block(layout.width);
     let k = start / per;
     let next = (k + 1) * per;
     let here = count.min(next - start);
-    paint_part(
-        tree, scans, bytes, layout, k, start, here, paint, rank, offset,
+    let place = paint_part(
+        nodes, width, last, bytes, layout, k, start, here, paint, rank, offset, scans, joins,
     );
     if here < count {
         let rest = count - here;
         paint_part(
-            tree,
-            scans,
+            nodes,
+            width,
+            place,
             bytes,
             layout,
             k + 1,
@@ -115,14 +131,18 @@ fn paint_short_row(
             paint,
             rank + here,
             offset,
-        );
+            scans,
+            joins,
+        )
+    } else {
+        place
     }
 }
 
-/// Paints a rectangle row by row, where no block has pixels of two rows.
-pub(crate) fn paint_short_rows(
-    tree: &mut Tree<Leaf>,
-    scans: &mut Count,
+/// Paints a rectangle row by row, where no block has pixels of two rows, into the leaves of a tree.
+fn paint_rows_apart(
+    nodes: &mut [Leaf],
+    width: usize,
     bytes: &mut [u8],
     layout: Layout,
     axes: &[u64],
@@ -130,8 +150,10 @@ pub(crate) fn paint_short_rows(
     hi: &[u64],
     paint: &Paint,
     offset: i128,
+    scans: &mut Count,
+    joins: &mut Count,
 )
-    requires kept { IsKept layout bytes.old tree.old.leaves }
+    requires kept { IsKeptBut layout bytes.old width 1 nodes.old }
     requires width { IsWidth layout.width }
     requires rectangle { IsRectangle axes.now lo.now hi.now }
     requires all { product axes.now ≡ layout.pixels }
@@ -143,20 +165,80 @@ pub(crate) fn paint_short_rows(
     ensures long { length bytes.new ≡ length bytes.old }
     ensures value { bytes.new ≡ rectangle_written layout.width axes.now lo.now hi.now
         (painted_number paint.now offset) bytes.old }
-    ensures kept { IsKept layout bytes.new tree.new.leaves }
+    ensures kept { IsKeptBut layout bytes.new width 1 nodes.new }
     ensures more_scans { scans.old.total ≤ scans.new.total }
     ensures scans { scans.new.total ≤ scans.old.total
         + touched_blocks axes.now lo.now hi.now (block_pixels layout.width) layout.pixels
-        (length tree.old.leaves) }
-    ensures more { tree.old.joins ≤ tree.new.joins }
-    ensures joins { (d : ℕ) → length tree.old.leaves ≤ 2 ^ d → tree.new.joins
-        ≤ tree.old.joins + (scans.new.total - scans.old.total) * d }
+        (block_count bytes.old) }
+    ensures more { joins.old.total ≤ joins.new.total }
+    ensures few { (d : ℕ) → width ≤ 2 ^ d → joins.new.total
+        ≤ joins.old.total + (scans.new.total - scans.old.total) * d }
+    ensures most { (h : ℕ) → width ≡ 2 ^ h → joins.new.total + 1 ≤ joins.old.total + width }
 {
     let side = row_len(axes, lo, hi) as usize;
+    // No leaf is written yet, and above the root nothing is to be joined.
+    let mut last = 1usize;
     for row in 0..rows(axes, lo, hi) {
         let start = row_start(axes, lo, hi, row);
         let rank = row as usize * side;
-        paint_short_row(tree, scans, bytes, layout, start, side, paint, rank, offset);
+        last = paint_short_row(
+            nodes, width, last, bytes, layout, start, side, paint, rank, offset, scans, joins,
+        );
     }
+    climb(nodes, width, last, 1, joins);
     read_bytes(bytes);
+}
+
+impl Tree<Leaf> {
+    /// Paints a rectangle row by row, where no block has pixels of two rows. The nodes above a leaf
+    /// are joined up to where its path meets the next one's.
+    pub(crate) fn paint_short_rows(
+        &mut self,
+        scans: &mut Count,
+        bytes: &mut [u8],
+        layout: Layout,
+        axes: &[u64],
+        lo: &[u64],
+        hi: &[u64],
+        paint: &Paint,
+        offset: i128,
+    )
+        requires kept { IsKept layout bytes.old self.old.leaves }
+        requires width { IsWidth layout.width }
+        requires rectangle { IsRectangle axes.now lo.now hi.now }
+        requires all { product axes.now ≡ layout.pixels }
+        requires count { has_count paint.now (rectangle_size lo.now hi.now) ≡ true }
+        requires storable { (k : ℕ) → k < rectangle_size lo.now hi.now
+            → IsStorable layout.width (painted_number paint.now offset k) }
+        requires short { row_size lo.now hi.now ≤ block_pixels layout.width }
+        requires apart { block_pixels layout.width + row_size lo.now hi.now
+            ≤ slice_index axes.now 0 }
+        ensures long { length bytes.new ≡ length bytes.old }
+        ensures value { bytes.new ≡ rectangle_written layout.width axes.now lo.now hi.now
+            (painted_number paint.now offset) bytes.old }
+        ensures kept { IsKept layout bytes.new self.new.leaves }
+        ensures more_scans { scans.old.total ≤ scans.new.total }
+        ensures scans { scans.new.total ≤ scans.old.total
+            + touched_blocks axes.now lo.now hi.now (block_pixels layout.width) layout.pixels
+            (length self.old.leaves) }
+        ensures more { self.old.joins ≤ self.new.joins }
+        ensures joins { (d : ℕ) → length self.old.leaves ≤ 2 ^ d → self.new.joins
+            ≤ self.old.joins + (scans.new.total - scans.old.total) * d }
+        ensures most { (d : ℕ) → length self.old.leaves ≤ 2 ^ d
+            → self.new.joins ≤ self.old.joins + 2 ^ d }
+    {
+        paint_rows_apart(
+            self.nodes.as_mut_slice(),
+            self.width,
+            bytes,
+            layout,
+            axes,
+            lo,
+            hi,
+            paint,
+            offset,
+            scans,
+            &mut self.joins,
+        );
+    }
 }

@@ -3,6 +3,7 @@ use Rattle.std.proofs.lemmas.List.{with_items_is, get_or-take, get_or-drop, leng
 use Rattle.fits_plane.specs.Layout.{block_count}
 use Rattle.fits_plane.specs.Leaves.{leaf_unit, IsBlockTree}
 use Rattle.fits_plane.proofs.PowerLemmas.{least_power}
+use Rattle.fits_plane.proofs.TreeLemmas.{leaves_used}
 use Rattle.fits_plane.proofs.leaves.Tree+Leaf.refresh_rectangle.Goals as goal
 
 -- the nodes are those of the tree
@@ -20,7 +21,7 @@ pub refresh_rows-requires-clause-fresh : goal.refresh_rows-requires-clause-fresh
 refresh_rows-requires-clause-fresh c = λ k b e.
     let t = c.self.inside in
     let v = c.self.invariant in
-    let many : t.used ≡ length c.args.self.now.leaves = omega (arith, ap (λ z. length z.leaves) c.self.view_is, length-take t.used (drop t.width t.nodes.items), length-drop t.width t.nodes.items, v.tree.long, v.power.enough) in
+    let many = leaves_used t.width t.used t.nodes.items c.args.self.now.leaves v.tree.long v.power.enough (ap (λ z. z.leaves) c.self.view_is) in
     let below : k < t.used = omega (arith, b, many, c.requires.whole) in
     ap (λ xs. get_or (drop t.width xs) k leaf_unit) c.as_mut_slice.ensures.value ∙ sym (get_or-take t.used (drop t.width t.nodes.items) k leaf_unit below)
     ∙ ap (λ z. get_or z.leaves k leaf_unit) c.self.view_is ∙ c.requires.fresh k (omega (arith, below, many)) e
@@ -31,7 +32,7 @@ invariant_of-self c =
     let t = c.self.inside in
     let v = c.self.invariant in
     let new = c.refresh_rows.new.nodes in
-    let many : t.used ≡ length c.args.self.now.leaves = omega (arith, ap (λ z. length z.leaves) c.self.view_is, length-take t.used (drop t.width t.nodes.items), length-drop t.width t.nodes.items, v.tree.long, v.power.enough) in
+    let many = leaves_used t.width t.used t.nodes.items c.args.self.now.leaves v.tree.long v.power.enough (ap (λ z. z.leaves) c.self.view_is) in
     let same = with_items_is t.nodes new (omega (arith, c.refresh_rows.ensures.tree.long, v.tree.long)) in
     record {
       tree = subst (IsBlockTree t.width) (sym same) c.refresh_rows.ensures.tree;
@@ -56,7 +57,7 @@ returns-clause-right c = λ k b.
     let t = c.self.inside in
     let new = c.refresh_rows.new.nodes in
     let v = c.self.invariant in
-    let many : t.used ≡ length c.args.self.now.leaves = omega (arith, ap (λ z. length z.leaves) c.self.view_is, length-take t.used (drop t.width t.nodes.items), length-drop t.width t.nodes.items, v.tree.long, v.power.enough) in
+    let many = leaves_used t.width t.used t.nodes.items c.args.self.now.leaves v.tree.long v.power.enough (ap (λ z. z.leaves) c.self.view_is) in
     let same = with_items_is t.nodes new (omega (arith, c.refresh_rows.ensures.tree.long, v.tree.long)) in
     let below : k < t.used = omega (arith, b, ap (λ xs. length (take t.used (drop t.width xs))) same, length-take t.used (drop t.width new)) in
     ap (λ xs. get_or (take t.used (drop t.width xs)) k leaf_unit) same ∙ get_or-take t.used (drop t.width new) k leaf_unit below
@@ -73,7 +74,7 @@ returns-clause-joins c = λ d u.
     let t = c.self.inside in
     let made = ap (λ z. z.joins) c.self.view_is in
     let v = c.self.invariant in
-    let many : t.used ≡ length c.args.self.now.leaves = omega (arith, ap (λ z. length z.leaves) c.self.view_is, length-take t.used (drop t.width t.nodes.items), length-drop t.width t.nodes.items, v.tree.long, v.power.enough) in
+    let many = leaves_used t.width t.used t.nodes.items c.args.self.now.leaves v.tree.long v.power.enough (ap (λ z. z.leaves) c.self.view_is) in
     let few = least_power v.power.depth t.width t.used d v.power.power v.power.least (omega (arith, many, u)) in
     omega (arith, made, c.refresh_rows.ensures.few d few)
 
@@ -82,6 +83,6 @@ returns-clause-most c = λ d u.
     let t = c.self.inside in
     let made = ap (λ z. z.joins) c.self.view_is in
     let v = c.self.invariant in
-    let many : t.used ≡ length c.args.self.now.leaves = omega (arith, ap (λ z. length z.leaves) c.self.view_is, length-take t.used (drop t.width t.nodes.items), length-drop t.width t.nodes.items, v.tree.long, v.power.enough) in
+    let many = leaves_used t.width t.used t.nodes.items c.args.self.now.leaves v.tree.long v.power.enough (ap (λ z. z.leaves) c.self.view_is) in
     let few = least_power v.power.depth t.width t.used d v.power.power v.power.least (omega (arith, many, u)) in
     omega (arith, made, few, c.refresh_rows.ensures.most v.power.depth v.power.power)

@@ -53,3 +53,8 @@ returns-clause-joins c = λ d u.
     let up = mul-le-mul_right d few in
     let j = e.joins d (omega (arith, u, blocks)) in
     omega (arith, up, j, ap (λ z. z.joins) c.self.view_is)
+
+pub returns-clause-most : goal.returns-clause-most
+returns-clause-most c = λ d u.
+    let blocks : length c.self.inside.tree.leaves ≡ block_count c.args.self.now.bytes = omega (arith, c.self.invariant.whole, ap (λ z. length z.bytes) c.self.view_is) in
+    omega (arith, c.paint_rectangle.ensures.most d (omega (arith, u, blocks)), ap (λ z. z.joins) c.self.view_is)

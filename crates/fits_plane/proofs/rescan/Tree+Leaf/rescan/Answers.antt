@@ -1,7 +1,8 @@
-use Rattle.std.proofs.Common.{◌≡◌, ◌<◌, ◌∙◌, ◌+◌, get_or, take, drop, length, arith, ap, sym, subst}
+use Rattle.std.proofs.Common.{◌<◌, ◌∙◌, ◌+◌, get_or, take, drop, length, arith, ap, sym, subst}
 use Rattle.std.proofs.lemmas.List.{with_items_is, get_or-take, get_or-drop, length-take, length-drop}
 use Rattle.fits_plane.specs.Leaves.{leaf_unit, IsBlockTree}
 use Rattle.fits_plane.proofs.PowerLemmas.{least_power}
+use Rattle.fits_plane.proofs.TreeLemmas.{leaves_used}
 use Rattle.fits_plane.proofs.rescan.Tree+Leaf.rescan.Goals as goal
 
 pub returns-clause-joins : goal.returns-clause-joins
@@ -10,7 +11,7 @@ returns-clause-joins c = λ d u.
     let seen = ap (λ z. z.leaves) c.self.view_is in
     let made = ap (λ z. z.joins) c.self.view_is in
     let v = c.self.invariant in
-    let many : t.used ≡ length c.args.self.now.leaves = omega (arith, ap length seen, length-take t.used (drop t.width t.nodes.items), length-drop t.width t.nodes.items, v.tree.long, v.power.enough) in
+    let many = leaves_used t.width t.used t.nodes.items c.args.self.now.leaves v.tree.long v.power.enough seen in
     let few = least_power v.power.depth t.width t.used d v.power.power v.power.least (omega (arith, many, u)) in
     omega (arith, few, made, c.replant.ensures.joins)
 
@@ -23,7 +24,7 @@ pub invariant_of-self : goal.invariant_of-self
 invariant_of-self c =
     let t = c.self.inside in
     let v = c.self.invariant in
-    let many : t.used ≡ length c.args.self.now.leaves = omega (arith, ap (λ z. length z.leaves) c.self.view_is, length-take t.used (drop t.width t.nodes.items), length-drop t.width t.nodes.items, v.tree.long, v.power.enough) in
+    let many = leaves_used t.width t.used t.nodes.items c.args.self.now.leaves v.tree.long v.power.enough (ap (λ z. z.leaves) c.self.view_is) in
     let same = with_items_is t.nodes c.replant.new.nodes (omega (arith, c.replant.ensures.tree.long, v.tree.long)) in
     record {
       tree = subst (IsBlockTree t.width) (sym same) c.replant.ensures.tree;
@@ -47,7 +48,7 @@ returns-clause-right c = λ k b.
     let t = c.self.inside in
     let new = c.replant.new.nodes in
     let v = c.self.invariant in
-    let many : t.used ≡ length c.args.self.now.leaves = omega (arith, ap (λ z. length z.leaves) c.self.view_is, length-take t.used (drop t.width t.nodes.items), length-drop t.width t.nodes.items, v.tree.long, v.power.enough) in
+    let many = leaves_used t.width t.used t.nodes.items c.args.self.now.leaves v.tree.long v.power.enough (ap (λ z. z.leaves) c.self.view_is) in
     let same = with_items_is t.nodes new (omega (arith, c.replant.ensures.tree.long, v.tree.long)) in
     let below : k < t.used = omega (arith, b, ap (λ xs. length (take t.used (drop t.width xs))) same, length-take t.used (drop t.width new)) in
     ap (λ xs. get_or (take t.used (drop t.width xs)) k leaf_unit) same ∙ get_or-take t.used (drop t.width new) k leaf_unit below ∙ get_or-drop t.width new k leaf_unit

@@ -1,8 +1,9 @@
-use Rattle.std.proofs.Common.{◌≡◌, ◌<◌, ◌∙◌, ◌+◌, get_or, take, drop, length, arith, ap, sym, subst}
+use Rattle.std.proofs.Common.{◌<◌, ◌∙◌, ◌+◌, get_or, take, drop, length, arith, ap, sym, subst}
 use Rattle.std.proofs.lemmas.List.{with_items_is, get_or-take, get_or-drop, length-take, length-drop}
 use Rattle.std.proofs.Math.Nat.{one-le-pow}
 use Rattle.fits_plane.specs.Tree.{IsTree}
 use Rattle.fits_plane.proofs.PowerLemmas.{least_power}
+use Rattle.fits_plane.proofs.TreeLemmas.{leaves_used}
 use Rattle.fits_plane.proofs.tree.Tree.refresh.Goals as goal
 
 pub returns-clause-work : goal.returns-clause-work
@@ -11,7 +12,7 @@ returns-clause-work g c = λ d u.
     let seen = ap (λ z. z.leaves) c.self.view_is in
     let made = ap (λ z. z.joins) c.self.view_is in
     let v = c.self.invariant in
-    let many : t.used ≡ length c.args.self.now.leaves = omega (arith, ap length seen, length-take t.used (drop t.width t.nodes.items), length-drop t.width t.nodes.items, v.tree.long, v.power.enough) in
+    let many = leaves_used t.width t.used t.nodes.items c.args.self.now.leaves v.tree.long v.power.enough seen in
     let few = least_power v.power.depth t.width t.used d v.power.power v.power.least (omega (arith, many, u)) in
     omega (arith, few, made, c.plant_again.ensures.work)
 

@@ -1,9 +1,10 @@
-use Rattle.std.proofs.Common.{◌≡◌, ◌∙◌, ◌<◌, ◌+◌, ℕ, take, drop, set, length, get_or, arith, ap, sym, subst}
-use Rattle.std.proofs.lemmas.List.{with_items_is, length-take, length-drop}
+use Rattle.std.proofs.Common.{◌∙◌, ◌<◌, ◌+◌, ℕ, take, drop, set, length, get_or, arith, ap, sym, subst}
+use Rattle.std.proofs.lemmas.List.{with_items_is, length-take}
 use Rattle.std.proofs.Math.Seq.{take-set-lt}
 use Rattle.fits_plane.specs.Tree.{IsTree}
 use Rattle.fits_plane.proofs.PowerLemmas.{least_power}
 use Rattle.fits_plane.proofs.JoinLemmas.{unit_kept}
+use Rattle.fits_plane.proofs.TreeLemmas.{leaves_used}
 use Rattle.fits_plane.proofs.tree.Tree.set.Goals as goal
 
 pub returns-clause-leaves : goal.returns-clause-leaves
@@ -26,7 +27,7 @@ returns-clause-work g c = λ d u.
     let seen = ap (λ z. z.leaves) c.self.view_is in
     let made = ap (λ z. z.joins) c.self.view_is in
     let v = c.self.invariant in
-    let many : t.used ≡ length c.args.self.now.leaves = omega (arith, ap length seen, length-take t.used (drop t.width t.nodes.items), length-drop t.width t.nodes.items, v.tree.long, v.power.enough) in
+    let many = leaves_used t.width t.used t.nodes.items c.args.self.now.leaves v.tree.long v.power.enough seen in
     let few = least_power v.power.depth t.width t.used d v.power.power v.power.least (omega (arith, many, u)) in
     omega (arith, made, c.set_leaf.ensures.few d few)
 
