@@ -1,3 +1,4 @@
+pub mod CardTotal
 pub mod Findings
 pub mod Index
 pub mod KeyIndex

@@ -10,7 +10,7 @@ use crate::leads::{lead_after, leads_after};
 use crate::notes::Notes;
 use crate::surrounding::Surrounding;
 use crate::survey::{reserve_surroundings, survey};
-use fits_card::{Card, CardList, Change, Name, Sink};
+use fits_card::{Card, CardList, Change, Name, Sink, room_for};
 use fits_codes::{CodeSet, judge_header_mark};
 use fits_rules::{Shape, ShapeFault, keeps_shape, shape};
 use fits_sum::card_total;
@@ -97,7 +97,7 @@ impl Header {
         let mut index = KeyIndex::of_notes(alloc, &cards, &notes)?;
         index.reserve(cards.room())?;
         notes.reserve(cards.room())?;
-        let mut surroundings = Vec::new(alloc);
+        let mut surroundings = Vec::with_capacity(alloc, room_for(notes.len()))?;
         reserve_surroundings(&mut surroundings, notes.len(), cards.room())?;
         Ok(Header {
             cards,
