@@ -18,6 +18,9 @@ use std::marker::Model;
 /// How many bytes a FITS block has (FITS Standard 4.0, section 3.1).
 pub const BLOCK_LEN: usize = 2880;
 
+/// Up to so many cards a header keeps no more room than it was opened with room for.
+const FEW_CARDS: usize = 4096;
+
 /// A header that takes edits: its cards, its END card and the fill of its last block.
 ///
 /// Places count from 1 and don't count END. Contracts see the header, how many cards were read so
@@ -78,10 +81,8 @@ impl CardList {
             ≡ record { cards = cards.items; end = end; fill = fill_bytes fill }) }
         ensures unread { IfOk result (λ list. list.reads ≡ 0) }
     {
-        let mut cards = cards;
-        cards.shrink_to(room_for(cards.len()));
         Ok(CardList {
-            cards: Slotted::of(alloc, cards)?,
+            cards: Slotted::of(alloc, close_fitting(cards))?,
             end,
             fill,
             reads: Count::new(),
@@ -252,6 +253,18 @@ impl CardList {
         write_all(sink, self.fill.bytes())?;
         Ok(())
     }
+}
+
+// The same cards, in little more room than they need where they are few. Of a long list the room that
+// nothing was written to takes no memory, and saves a move.
+fn close_fitting(cards: Vec<Card>) -> Vec<Card>
+    ensures { result.items ≡ cards.items }
+{
+    let mut cards = cards;
+    if cards.len() <= FEW_CARDS {
+        cards.shrink_to(room_for(cards.len()));
+    }
+    cards
 }
 
 /// How many bytes a header of so many cards has.

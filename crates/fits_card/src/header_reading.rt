@@ -13,7 +13,7 @@ use crate::cut::{card_at, end_place};
 use crate::fill::Fill;
 use crate::intake::Intake;
 use crate::reading::ReadFault;
-use crate::room::reserve_room;
+use crate::room::room_for;
 use crate::source::Source;
 use std::alloc::{AllocError, Global};
 use thiserror::Error;
@@ -104,7 +104,7 @@ fn push_cards(cards: &mut Vec<Card>, block: &[u8], count: usize) -> Result<(), A
     requires { CARD_LEN * count ≤ length block.now }
     ensures { OnOk result (cards.new.items ≡ cards.old.items ++ pieces block.now count) }
 {
-    reserve_room(cards, count)?;
+    cards.reserve(room_for(count))?;
     for k in 0..count {
         cards.push(card_at(block, k))?;
     }
