@@ -55,6 +55,7 @@ walked_step h from to place other before now next (suc left) some apart e high o
       few = omega (arith, few, e, apart, order);
     }
 
+-- the same, by the levels that the walk says are left
 pub walked_more : (h from to place other before now next : ℕ) → 1 < place → place / 2 ≢ other / 2 → next ≡ now + 1 → Walked h from to place other before now → Walked h from to (place / 2) (other / 2) before next
 walked_more h from to place other before now next some apart e w = walked_step h from to place other before now next w.left some apart e w.high w.order w.few
 
