@@ -1,5 +1,5 @@
 -- Where the header cut falls, and that it can fall nowhere else.
-use Rattle.std.proofs.Common.{◌≡◌, ◌⊎◌, ℕ, ◌+◌, ◌*◌, ◌/◌, ◌<◌, ◌≤◌, Bool, true, false, List, [], ◌∷◌, ◌++◌, length, take, drop, get_or, refl, ap, sym, ◌∙◌, append_assoc, inl, inr, arith, All, zero, suc}
+use Rattle.std.proofs.Common.{◌≡◌, ◌⊎◌, ℕ, ◌+◌, ◌*◌, ◌/◌, ◌<◌, ◌≤◌, Bool, true, false, List, [], ◌∷◌, ◌++◌, length, take, drop, get_or, refl, ap, sym, subst, ◌∙◌, append_assoc, inl, inr, arith, All, zero, suc}
 use Rattle.std.proofs.lemmas.Bool.{cases_lt}
 use Rattle.std.proofs.lemmas.List.{append-nil, length-append, length-take-le, length-drop, take_at, drop_at, get_or_default, take-append-drop}
 use Rattle.std.proofs.lemmas.List.Concat.{flat_map-append}
@@ -8,15 +8,15 @@ use Rattle.std.proofs.lemmas.List.FromFn.{length-map-range_with_len, get_or-map-
 use Rattle.std.proofs.Math.Seq.{take-add}
 use Rattle.fits_card.specs.Card.{IsEnd, is_end}
 use Rattle.fits_card.specs.Header.{Header, IsHeader, IsInnerCard, IsHeaderOf, HasNoHeader, joined_cards, header_bytes, header_length, fill_length}
-use Rattle.fits_card.specs.HeaderSteps.{IsEndPlace, HasNoEnd, header_at, piece, pieces}
+use Rattle.fits_card.specs.HeaderSteps.{HasHeader, HasNoEnd, IsEndPlace, header_at, piece, pieces}
+use Rattle.fits_card.specs.Intake.{Finds, Supply, Takes}
 use Rattle.fits_card.proofs.EmitLemmas.{joined-at}
 use Rattle.fits_card.proofs.HeaderLemmas.{length-joined_cards, length-header_bytes}
+use Rattle.fits_card.proofs.SightLemmas.{finds_ahead, takes_ahead}
 
 -- one more piece
 pub pieces-more : (f : List ℕ) (k : ℕ) (cards : List (List ℕ)) (card : List ℕ) → cards ≡ pieces f k → card ≡ piece f k → cards ++ card ∷ [] ≡ pieces f (k + 1)
 pieces-more f k cards card c e = rw (c, e) (sym (map-range_with_len_more (piece f) 0 k k (omega arith)))
-
-pub ruleset pieces_steps = (pieces-more)
 
 -- the first pieces, one after another
 pub joined-pieces : (f : List ℕ) (k : ℕ) → joined_cards (pieces f k) ≡ take (80 * k) f
@@ -194,16 +194,30 @@ header_or_none f =
       | inr none ↦ inr (no_end_no_header f none)
     ]
 
-pub ruleset place_steps = (header_there, no_end_no_header, short_no_header)
-
 -- the length of the header at the front
 pub length-header_at : (f : List ℕ) (n : ℕ) (rest : List ℕ) → IsHeaderOf f (header_at f n) rest → length (header_bytes (header_at f n)) ≡ header_length n
 length-header_at f n rest cut =
     omega (arith, length-header_bytes (header_at f n) cut.whole, cut.whole.fill_size, length-map-range_with_len (piece f) 0 n, ap fill_length (length-map-range_with_len (piece f) 0 n))
 
--- parts that are those of the header at the front make a header
-pub whole_of_parts : (f : List ℕ) (n : ℕ) (cards : List (List ℕ)) (end fill front rest : List ℕ) → IsHeaderOf f (header_at f n) rest → cards ≡ pieces f n → end ≡ piece f n → fill ≡ front → front ≡ (header_at f n).fill
-    → IsHeader (record { cards = cards; end = end; fill = fill })
-whole_of_parts f n cards end fill front rest cut c e p q = rw (c, e, p, q) cut.whole
+-- a header stands where the first END is, if its block is whole
+pub header_begins : (f : List ℕ) (n fill len : ℕ) → IsEndPlace f n → fill ≡ fill_length n → len ≡ 80 * (n + 1) + fill → len ≤ length f → HasHeader f len
+header_begins f n fill len at_end is all le =
+    let same : len ≡ header_length n = omega (arith, all, is) in
+    let there : IsHeaderOf f (header_at f n) (drop (header_length n) f) = header_there f n at_end (omega (arith, length-drop (80 * (n + 1)) f, is, all, le)) in
+    rw same (record { header = header_at f n; cut = there; size = sym (length-header_at f n (drop (header_length n) f) there); within = omega (arith, le, same) })
 
-pub ruleset cut_steps = (length-header_at)
+-- none does where it isn't
+pub header_broken : (f : List ℕ) (n fill len : ℕ) → IsEndPlace f n → fill ≡ fill_length n → len ≡ 80 * (n + 1) + fill → length f < len → HasNoHeader f
+header_broken f n fill len at_end is all more = short_no_header f n at_end (omega (arith, length-drop (80 * (n + 1)) f, at_end.within, is, all, more))
+
+-- a header that was taken of bytes, and how many bytes it has
+pub cut_taken : (f : List ℕ) (a b : Supply) (len : ℕ) (header : Header) → a.ahead ≡ f → a.left ≡ 0 → Takes a b (header_bytes header) → IsHeader header → HasHeader f len
+    → IsHeaderOf f header (drop len f) × (len ≡ length (header_bytes header))
+cut_taken f a b len header are none p whole has =
+    let joined : f ≡ header_bytes header ++ b.ahead = sym are ∙ takes_ahead a b (header_bytes header) none p in
+    let same = one_header f header has.header b.ahead (drop len f) (record { whole = whole; joined = joined }) has.cut in
+    (rw (sym same.1) (record { whole = whole; joined = joined }), has.size ∙ ap (λ (h : Header). length (header_bytes h)) (sym same.0))
+
+-- there is one, so that none isn't found
+pub cut_found : (f : List ℕ) (a b : Supply) (len : ℕ) → a.ahead ≡ f → a.left ≡ 0 → HasHeader f len → Finds a b HasNoHeader → ⊥
+cut_found f a b len are none has stops = subst HasNoHeader are (finds_ahead HasNoHeader a b none stops) has.header (drop len f) has.cut

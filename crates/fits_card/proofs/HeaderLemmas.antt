@@ -2,7 +2,8 @@
 use Rattle.std.proofs.Common.{◌≡◌, ℕ, ◌+◌, ◌-◌, ◌*◌, ◌%◌, List, [], ◌∷◌, ◌++◌, length, take, drop, replicate, refl, ap, ◌∙◌, arith, All, suc}
 use Rattle.std.proofs.lemmas.List.{length-append, length-replicate}
 use Rattle.std.proofs.lemmas.List.Elements.{All-append, All-take, All-drop}
-use Rattle.fits_card.specs.Card.{IsEnd}
+use Rattle.std.specs.Prelude.{codes}
+use Rattle.fits_card.specs.Card.{IsEnd, card_of_text, is_end}
 use Rattle.fits_card.specs.Change.{spliced, moved, only_item}
 use Rattle.fits_card.specs.Header.{Header, IsHeader, IsInnerCard, joined_cards, header_bytes, fill_length}
 
@@ -57,3 +58,21 @@ pub whole-moved : (header : Header) (cards : List (List ℕ)) (from to n : ℕ) 
     → IsHeader (record { cards = cards; end = header.end; fill = fill })
 whole-moved header cards from to n fill whole are count is =
     whole-with_cards header cards fill n whole (rw are (inner-moved header.cards from to whole.cards)) count is
+
+-- END without more has the length of a card
+end_length : length (card_of_text (codes "END")) ≡ 80
+end_length = refl
+
+-- and ends a header
+end_ends : IsEnd (card_of_text (codes "END"))
+unfolding is_end
+end_ends = refl
+
+-- cards that don't end a header, END and spaces are one
+pub new_whole : (cards : List (List ℕ)) (end fill : List ℕ) (n : ℕ) → All IsInnerCard cards → end ≡ card_of_text (codes "END") → n ≡ length cards → fill ≡ replicate (fill_length n) 32 → IsHeader (record { cards = cards; end = end; fill = fill })
+new_whole cards end fill n inner is count spaces = record {
+  cards = inner;
+  end_size = ap length is ∙ end_length;
+  ends = rw is end_ends;
+  fill_size = ap length spaces ∙ (length-replicate {A = ℕ} (fill_length n) 32 ∙ ap fill_length count);
+}

@@ -1,20 +1,17 @@
 -- Steps of reading a header block by block.
 use Rattle.std.proofs.Common.{◌≡◌, ℕ, ◌+◌, ◌*◌, ◌%◌, ◌<◌, ◌≤◌, List, [], ◌∷◌, ◌++◌, length, take, drop, refl, ap, sym, ◌∙◌, append_assoc, subst, arith, All}
-use Rattle.std.proofs.lemmas.List.{append-nil, length-append, length-drop, take_all, take-append-drop}
+use Rattle.std.proofs.lemmas.List.{append-nil, length-append, length-drop, length-take-le, take_all, take-append-drop}
 use Rattle.std.proofs.lemmas.List.Concat.{flat_map-append}
 use Rattle.std.proofs.lemmas.List.Elements.{All-append, All-nil}
 use Rattle.std.proofs.lemmas.List.FromFn.{length-map-range_with_len}
 use Rattle.std.proofs.Math.Seq.{take-add}
 use Rattle.fits_card.specs.Card.{IsEnd}
 use Rattle.fits_card.specs.Header.{Header, IsHeader, IsInnerCard, HasNoHeader, header_bytes, joined_cards}
-use Rattle.fits_card.specs.HeaderReading.{HeaderStops, of_read}
 use Rattle.fits_card.specs.HeaderSteps.{HasNoEnd, IsEndPlace, piece, pieces}
-use Rattle.fits_card.specs.Intake.{Finds, IsSpent, Supply, Takes, TakesAfter, TakingStops}
-use Rattle.fits_card.specs.declared.reading.ReadFault.{ReadFault}
-use Rattle.fits_card.specs.declared.reading.ReadFault.TheVariants as read
+use Rattle.fits_card.specs.Intake.{Finds, IsSpent, Supply, Takes}
 use Rattle.fits_card.proofs.HeaderLemmas.{fill_length-by_cards, length-joined_cards}
 use Rattle.fits_card.proofs.CutLemmas.{header-end_place, inner-pieces, joined-pieces, length-spread, pieces-more, piece-joined_cards, length-piece}
-use Rattle.fits_card.proofs.SightLemmas.{finds_after_spent, takes_after_more, takes_after_none}
+use Rattle.fits_card.proofs.SightLemmas.{finds_spent, takes_and_holds, takes_more, takes_none}
 
 -- one more card of a block, after others
 pub pushed : (start cards next : List (List ℕ)) (card : List ℕ) (f : List ℕ) (k : ℕ) → cards ≡ start ++ pieces f k → next ≡ cards ++ card ∷ [] → card ≡ piece f k → next ≡ start ++ pieces f (k + 1)
@@ -49,8 +46,8 @@ ended_block block fill k is =
 pub ruleset ending_steps = (ended_whole, ended_block)
 
 -- no block is read yet
-pub blocks_none : (cards : List (List ℕ)) (before : List ℕ) (a : Supply) → cards ≡ [] → TakesAfter before a a (joined_cards cards ++ before)
-blocks_none cards before a none = rw none (takes_after_none before a)
+pub blocks_none : (cards : List (List ℕ)) (a : Supply) → cards ≡ [] → Takes a a (joined_cards cards)
+blocks_none cards a none = rw none (takes_none a)
 
 -- a whole block without END is 36 cards
 block_cards : (block : List ℕ) (n : ℕ) → length block ≡ 80 * n → joined_cards (pieces block n) ≡ block
@@ -65,26 +62,27 @@ inner_more cards new block n inner size none is =
 pub length-more : (cards new : List (List ℕ)) (block : List ℕ) (n : ℕ) → new ≡ cards ++ pieces block n → length new ≡ length cards + n
 length-more cards new block n is = ap length is ∙ length-append cards (pieces block n) ∙ ap (λ k. length cards + k) (length-map-range_with_len (piece block) 0 n)
 
--- and then the next block
-pub blocks_more : (cards new : List (List ℕ)) (block next before : List ℕ) (a b c : Supply) (n : ℕ) → TakesAfter before a b (joined_cards cards ++ block) → Takes b c next → length block ≡ 80 * n → new ≡ cards ++ pieces block n
-    → TakesAfter before a c (joined_cards new ++ next)
-blocks_more cards new block next before a b c n p q size is =
-    let all : joined_cards cards ++ block ≡ joined_cards new = sym (ap joined_cards is ∙ flat_map-append (λ card. card) cards (pieces block n) ∙ ap (λ t. joined_cards cards ++ t) (block_cards block n size)) in
-    subst (λ (t : List ℕ). TakesAfter before a c (t ++ next)) all (takes_after_more before a b c (joined_cards cards ++ block) next p q)
+-- the next block is held, and its cards are taken
+pub blocks_more : (cards new : List (List ℕ)) (a b c d : Supply) (n : ℕ) → Takes a b (joined_cards cards) → Takes b c [] → Takes c d (take (80 * n) c.ahead) → 80 * n ≤ length c.ahead → new ≡ cards ++ pieces (take (80 * n) c.ahead) n → Takes a d (joined_cards new)
+blocks_more cards new a b c d n p q r size is =
+    let block : List ℕ = take (80 * n) c.ahead in
+    let all : joined_cards cards ++ block ≡ joined_cards new =
+    sym (ap joined_cards is ∙ flat_map-append (λ card. card) cards (pieces block n) ∙ ap (λ t. joined_cards cards ++ t) (block_cards block n (length-take-le (80 * n) c.ahead size))) in
+    subst (Takes a d) all (takes_more a c d (joined_cards cards) block (takes_and_holds a b c (joined_cards cards) p q) r)
 
 -- cards before the END of a block end no header
 pub inner_ended : (cards new : List (List ℕ)) (block : List ℕ) (n : ℕ) → All IsInnerCard cards → IsEndPlace block n → new ≡ cards ++ pieces block n → All IsInnerCard new
 inner_ended cards new block n inner place is = rw is (All-append IsInnerCard cards (pieces block n) inner (inner-pieces block n (omega (arith, place.within)) place.first))
 
 -- the last block, from its END on
-pub blocks_ended : (cards new : List (List ℕ)) (block before : List ℕ) (a b : Supply) (n : ℕ) (header : Header) → TakesAfter before a b (joined_cards cards ++ block) → new ≡ cards ++ pieces block n → header.cards ≡ new → joined_cards (pieces block n) ++ (header.end ++ header.fill) ≡ block
-    → TakesAfter before a b (header_bytes header)
-blocks_ended cards new block before a b n header p is same ended =
+pub blocks_ended : (cards new : List (List ℕ)) (a b c d : Supply) (block : List ℕ) (n : ℕ) (header : Header) → Takes a b (joined_cards cards) → Takes b c [] → Takes c d block → new ≡ cards ++ pieces block n → header.cards ≡ new
+    → joined_cards (pieces block n) ++ (header.end ++ header.fill) ≡ block → Takes a d (header_bytes header)
+blocks_ended cards new a b c d block n header p q r is same ended =
     let all : joined_cards cards ++ block ≡ header_bytes header =
     ap (λ t. joined_cards cards ++ t) (sym ended)
     ∙ sym (append_assoc (joined_cards cards) (joined_cards (pieces block n)) (header.end ++ header.fill))
     ∙ ap (λ t. t ++ (header.end ++ header.fill)) (sym (flat_map-append (λ card. card) cards (pieces block n)) ∙ ap joined_cards (sym (same ∙ is))) in
-    subst (TakesAfter before a b) all p
+    subst (Takes a d) all (takes_more a c d (joined_cards cards) block (takes_and_holds a b c (joined_cards cards) p q) r)
 
 -- cards of whole blocks, and then less than a block, are no header
 no_header_short : (cards : List (List ℕ)) (block : List ℕ) → All IsInnerCard cards → length cards % 36 ≡ 0 → length block < 2880 → HasNoHeader (joined_cards cards ++ block)
@@ -96,18 +94,12 @@ no_header_short cards block inner full short header rest cut =
     (inner n [] before).not_end (subst (λ (card : List ℕ). IsEnd card) (piece-joined_cards cards block n inner before) place.ends)
 
 -- the source ended, or the limit came, within a block
-pub stops_short : (cards : List (List ℕ)) (block before : List ℕ) (a b : Supply) → TakesAfter before a b (joined_cards cards ++ block) → IsSpent b → All IsInnerCard cards → length cards % 36 ≡ 0 → length block < 2880
-    → Finds a b (λ sight. HasNoHeader (before ++ sight))
-stops_short cards block before a b p spent inner full short =
-    finds_after_spent HasNoHeader before a b (joined_cards cards ++ block) p spent (no_header_short cards block inner full short)
-
--- a source's fault
-pub stops_by_read : (before : List ℕ) (a b : Supply) (why : ReadFault) → TakingStops a.source b.source why → HeaderStops before a b (of_read why)
-stops_by_read before a b read.Memory p = p
-stops_by_read before a b read.Failed p = p
+pub stops_short : (cards : List (List ℕ)) (a b c : Supply) → Takes a b (joined_cards cards) → Takes b c [] → IsSpent c → All IsInnerCard cards → length cards % 36 ≡ 0 → length c.ahead < 2880 → Finds a c HasNoHeader
+stops_short cards a b c p q spent inner full short =
+    finds_spent HasNoHeader a c (joined_cards cards) (takes_and_holds a b c (joined_cards cards) p q) spent (no_header_short cards c.ahead inner full short)
 
 -- no cards are all inner ones
 pub no_cards : (cards : List (List ℕ)) → cards ≡ [] → All IsInnerCard cards
 no_cards cards none = rw none (All-nil IsInnerCard)
 
-pub ruleset header_steps = (blocks_none, no_cards, inner_more, length-more, blocks_more, inner_ended, blocks_ended, stops_short, stops_by_read)
+pub ruleset header_steps = (blocks_none, no_cards, inner_more, length-more, inner_ended)

@@ -1,8 +1,9 @@
 -- Steps of taking bytes up to a limit.
-use Rattle.std.proofs.Common.{◌≡◌, ℕ, ◌+◌, ◌≤◌, List, [], ◌++◌, length, take, refl, ap, sym, subst, ◌∙◌, append_assoc, arith}
-use Rattle.std.proofs.lemmas.List.{append-nil, length-append, length-take-le, take-append-le}
+use Rattle.std.proofs.Common.{◌≡◌, ◌⊎◌, ℕ, ◌+◌, ◌<◌, ◌≤◌, List, [], ◌++◌, length, take, drop, refl, ap, sym, subst, ◌∙◌, append_assoc, arith, inl, inr}
+use Rattle.std.proofs.lemmas.Bool.{cases_lt}
+use Rattle.std.proofs.lemmas.List.{append-nil, length-append, length-take-le, take-append-drop, take-append-le}
 use Rattle.std.proofs.Math.Seq.{take-append-add}
-use Rattle.fits_card.specs.Intake.{Supply, Takes, TakesAfter, Skips, ReadsAfter}
+use Rattle.fits_card.specs.Intake.{Supply, Passes, ReadsAfter, Skips, Takes}
 use Rattle.fits_card.specs.Stream.{SourceState, Reads}
 use Rattle.fits_card.proofs.StreamLemmas.{Reads-none, Reads-more}
 
@@ -35,19 +36,57 @@ pub reads_after_nothing : (before : List ℕ) (a b c : SourceState) (bytes buffe
 reads_after_nothing before a b c bytes buffer n p q none =
     subst (ReadsAfter before a c) (ap (λ k. bytes ++ take k buffer) none ∙ append-nil bytes) (reads_after_more before a b c bytes (take n buffer) p q)
 
--- bytes were taken, and so many fewer may be taken
-pub takes_here : (old new : Supply) (bytes : List ℕ) → ReadsAfter [] old.source new.source bytes → old.left ≡ new.left + length bytes → Takes old new bytes
-takes_here old new bytes p e = record { read = rw p.joined p.read; count = e }
+pub ruleset taking_steps = (Reads-none, Reads-more, skips_none, skips_more, reads_after_none, reads_after_more)
 
--- bytes taken after others, by the count of all
-pub takes_after_here : (before : List ℕ) (old new : Supply) (bytes : List ℕ) → ReadsAfter before old.source new.source bytes → old.left + length before ≡ new.left + length bytes → TakesAfter before old new bytes
-takes_after_here before old new bytes p e = record {
+-- what was ahead was taken, and bytes that followed it
+pub takes_here : (old new : Supply) (bytes : List ℕ) → ReadsAfter old.ahead old.source new.source bytes → new.ahead ≡ [] → old.left + length old.ahead ≡ new.left + length bytes → Takes old new bytes
+takes_here old new bytes p none e = record {
   more = p.more;
-  joined = p.joined;
-  taken = record { read = p.read; count = omega (arith, e, ap length p.joined, length-append before p.more) };
+  joined = sym p.joined ∙ (sym (append-nil bytes) ∙ ap (λ t. bytes ++ t) (sym none));
+  drawn = record { read = p.read; count = omega (arith, e, ap length p.joined, length-append old.ahead p.more) };
 }
 
-pub ruleset intake_steps = (Reads-none, Reads-more, skips_none, skips_more, reads_after_none, reads_after_more, takes_here, takes_after_here)
+-- so many of the bytes ahead were taken
+pub takes_passed : (old new : Supply) (n : ℕ) → old.source ≡ new.source → new.ahead ≡ drop n old.ahead → new.left ≡ old.left → Takes old new (take n old.ahead)
+takes_passed old new n same rest left = record {
+  more = [];
+  joined = append-nil old.ahead ∙ (sym (take-append-drop n old.ahead) ∙ ap (λ t. take n old.ahead ++ t) (sym rest));
+  drawn = record { read = subst (λ (s : SourceState). Reads [] old.source s) same (Reads-none old.source); count = omega (arith, left) };
+}
+
+-- what was ahead was dropped, and bytes that followed it
+pub passes_here : (old new : Supply) (count total : ℕ) → (p : Skips old.source new.source count) → new.ahead ≡ [] → old.left ≡ new.left + count → total ≡ length old.ahead + count → Passes old new total
+passes_here old new count total p none e is = record {
+  bytes = old.ahead ++ p.bytes;
+  taken = record {
+    more = p.bytes;
+    joined = sym (append-nil (old.ahead ++ p.bytes)) ∙ ap (λ t. (old.ahead ++ p.bytes) ++ t) (sym none);
+    drawn = record { read = p.read; count = omega (arith, e, p.size) };
+  };
+  size = omega (arith, is, length-append old.ahead p.bytes, p.size);
+}
+
+-- so many of the bytes ahead were dropped
+pub passes_ahead : (old new : Supply) (n : ℕ) → old.source ≡ new.source → new.ahead ≡ drop n old.ahead → new.left ≡ old.left → n ≤ length old.ahead → Passes old new n
+passes_ahead old new n same rest left le = record {
+  bytes = take n old.ahead;
+  taken = takes_passed old new n same rest left;
+  size = length-take-le n old.ahead le;
+}
+
+-- bytes are held after those ahead
+pub takes_held : (old new : Supply) → ReadsAfter old.ahead old.source new.source new.ahead → old.left + length old.ahead ≡ new.left + length new.ahead → Takes old new []
+takes_held old new p e = record {
+  more = p.more;
+  joined = sym p.joined;
+  drawn = record { read = p.read; count = omega (arith, e, ap length p.joined, length-append old.ahead p.more) };
+}
+
+-- less came than there is need of: the source ended, or no more may be taken
+pub held_short : (P : Type 0) (n most need left left' : ℕ) → (most < need → left ≤ most) → (n < most → P) → left ≡ left' + n → n < need → (left' ≡ 0) ⊎ P
+held_short P n most need left left' m f e short = elim (cases_lt n most) [ inl l ↦ inr (f l) | inr le ↦ inl (omega arith) ]
+
+pub ruleset intake_steps = (Reads-none, skips_none)
 
 -- nothing of a piece is filled
 pub filled_none : (a : SourceState) (piece : List ℕ) → Reads (take 0 piece) a a
@@ -60,10 +99,13 @@ filled_more a b c piece front room m n p is size q =
     let all : take (m + n) (front ++ room) ≡ front ++ take n room = ap (λ k. take (k + n) (front ++ room)) (sym size) ∙ take-append-add front room n in
     rw all (Reads-more a b c front (take n room) begun q)
 
--- bytes that are taken by filling the front of a piece
-pub takes_filled : (old new : Supply) (count : ℕ) (front rest : List ℕ) → Reads (take count front) old.source new.source → count ≤ length front → old.left ≡ new.left + count → Takes old new (take count (front ++ rest))
-takes_filled old new count front rest p le e =
-    let same : take count (front ++ rest) ≡ take count front = take-append-le count front rest le in
-    rw same (record { read = p; count = omega (arith, e, length-take-le count front le) })
+-- room is filled after its first bytes
+pub filled_after : (a b : SourceState) (piece front room room' rest : List ℕ) (m n : ℕ) → front ≡ take m piece → length front ≡ m → Reads (take n room) a b → n ≤ length room → room' ≡ room ++ rest → ReadsAfter (take m piece) a b (take (m + n) (front ++ room'))
+filled_after a b piece front room room' rest m n is size p le more = record {
+  more = take n room;
+  joined = ap (λ t. take (m + n) (front ++ t)) more ∙ (ap (λ k. take (k + n) (front ++ (room ++ rest))) (sym size) ∙ (take-append-add front (room ++ rest) n
+  ∙ (ap (λ t. front ++ t) (take-append-le n room rest le) ∙ ap (λ t. t ++ take n room) is)));
+  read = p;
+}
 
-pub ruleset filling_steps = (filled_none, filled_more, takes_filled)
+pub ruleset filling_steps = (filled_none, filled_more, filled_after)

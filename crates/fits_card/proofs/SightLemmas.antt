@@ -5,41 +5,36 @@ use Rattle.std.specs.Io.KnownBytes.{Consumes, IsAtEnd}
 use Rattle.std.proofs.lemmas.Bool.{cases_lt}
 use Rattle.std.proofs.lemmas.List.{append-nil, length-append, length-replicate, length-take-le, take_all}
 use Rattle.std.proofs.Math.Seq.{take-append-add}
-use Rattle.fits_card.specs.Intake.{Finds, IsInSight, IsSpent, Skips, Supply, Takes, TakesAfter, Gives, Tells}
+use Rattle.fits_card.specs.Intake.{supply, Draws, Finds, Gives, GivesAll, IntakeState, IsInSight, IsLimited, IsSpent, Supply, Takes, Tells, TellsAll}
+use Rattle.fits_card.specs.Stream.{SourceState}
 use Rattle.fits_card.proofs.StreamLemmas.{Reads-none, Reads-more}
 
 -- nothing is taken
 pub takes_none : (a : Supply) → Takes a a []
-takes_none a = record { read = Reads-none a.source; count = omega arith }
+takes_none a = record { more = []; joined = append-nil a.ahead; drawn = record { read = Reads-none a.source; count = omega arith } }
 
--- bytes are taken, then others
-pub takes_more : (a b c : Supply) (bs cs : List ℕ) → Takes a b bs → Takes b c cs → Takes a c (bs ++ cs)
-takes_more a b c bs cs p q = record {
+-- bytes came, and then others
+draws_more : (a b c : Supply) (bs cs : List ℕ) → Draws a b bs → Draws b c cs → Draws a c (bs ++ cs)
+draws_more a b c bs cs p q = record {
   read = Reads-more a.source b.source c.source bs cs p.read q.read;
   count = omega (arith, p.count, q.count, length-append bs cs);
 }
 
--- bytes that were skipped were taken
-pub takes_skipped : (a b : Supply) (count : ℕ) (p : Skips a.source b.source count) → a.left ≡ b.left + count → Takes a b p.bytes
-takes_skipped a b count p e = record { read = p.read; count = omega (arith, e, p.size) }
-
--- all were taken before
-pub takes_after_none : (before : List ℕ) (a : Supply) → TakesAfter before a a before
-takes_after_none before a = record { more = []; joined = sym (append-nil before); taken = takes_none a }
-
--- and then others
-pub takes_after_more : (before : List ℕ) (a b c : Supply) (bs cs : List ℕ) → TakesAfter before a b bs → Takes b c cs → TakesAfter before a c (bs ++ cs)
-takes_after_more before a b c bs cs p q = record {
-  more = p.more ++ cs;
-  joined = ap (λ t. t ++ cs) p.joined ∙ append_assoc before p.more cs;
-  taken = takes_more a b c p.more cs p.taken q;
+-- bytes are taken, then others
+pub takes_more : (a b c : Supply) (bs cs : List ℕ) → Takes a b bs → Takes b c cs → Takes a c (bs ++ cs)
+takes_more a b c bs cs p q = record {
+  more = p.more ++ q.more;
+  joined = sym (append_assoc a.ahead p.more q.more) ∙ (ap (λ t. t ++ q.more) p.joined ∙ (append_assoc bs b.ahead q.more ∙ (ap (λ t. bs ++ t) q.joined ∙ sym (append_assoc bs cs c.ahead))));
+  drawn = draws_more a b c p.more q.more p.drawn q.drawn;
 }
 
--- what had been taken before was taken
-pub takes_before : (a b c : Supply) (start before bytes : List ℕ) → Takes a b (start ++ before) → TakesAfter before b c bytes → Takes a c (start ++ bytes)
-takes_before a b c start before bytes p q =
-    let all : (start ++ before) ++ q.more ≡ start ++ bytes = append_assoc start before q.more ∙ ap (λ t. start ++ t) (sym q.joined) in
-    subst (Takes a c) all (takes_more a b c (start ++ before) q.more p q.taken)
+-- bytes are taken, and then some are held ahead
+pub takes_and_holds : (a b c : Supply) (bs : List ℕ) → Takes a b bs → Takes b c [] → Takes a c bs
+takes_and_holds a b c bs p q = subst (Takes a c) (append-nil bs) (takes_more a b c bs [] p q)
+
+-- so many fewer may be taken
+pub takes_fewer : (a b : Supply) (bs : List ℕ) → Takes a b bs → length a.ahead + a.left ≡ length b.ahead + b.left + length bs
+takes_fewer a b bs p = omega (arith, p.drawn.count, ap length p.joined, length-append a.ahead p.more, length-append bs b.ahead)
 
 -- no more is in sight than may be taken
 length-take-within : (n : ℕ) (xs : List ℕ) → length (take n xs) ≤ n
@@ -73,9 +68,13 @@ known_after (Some xs) (Some ys) left left' bytes s p e q =
     ap (λ t. take left t) p ∙ ap (λ n. take n (bytes ++ ys)) count ∙ take-append-add bytes ys left' in
     sym (all ∙ ap (λ t. bytes ++ t) (sym q))
 
--- what was taken, and what is in sight after it, was in sight
-sight_after : (a b : Supply) (bytes s : List ℕ) → Takes a b bytes → IsInSight b s → IsInSight a (bytes ++ s)
+-- what came, and what is in sight after it, was in sight
+sight_after : (a b : Supply) (bytes s : List ℕ) → Draws a b bytes → IsInSight b s → IsInSight a (bytes ++ s)
 sight_after a b bytes s p q = known_after a.source.remaining b.source.remaining a.left b.left bytes s p.read.gone p.count q
+
+-- what was taken, what is ahead and what is in sight after it, was ahead and in sight
+ahead_after : (a b : Supply) (bytes s : List ℕ) → (p : Takes a b bytes) → a.ahead ++ (p.more ++ s) ≡ bytes ++ (b.ahead ++ s)
+ahead_after a b bytes s p = sym (append_assoc a.ahead p.more s) ∙ (ap (λ t. t ++ s) p.joined ∙ append_assoc bytes b.ahead s)
 
 -- nothing is in sight of what is spent
 known_spent : (a : Option (List ℕ)) (left : ℕ) → (left ≡ 0) ⊎ IsAtEnd a → InSight a left []
@@ -86,45 +85,40 @@ known_spent (Some xs) left p =
       | inr end ↦ sym (ap (take left) end ∙ take_all left [] (omega arith))
     ]
 
--- bytes that begin what is in sight have a fact, whatever follows them
-pub finds_begun : (P : List ℕ → Type 0) (a b : Supply) (bytes : List ℕ) → Takes a b bytes → ((s : List ℕ) → length s ≤ b.left → P (bytes ++ s)) → Finds a b P
+-- bytes that begin what is ahead and in sight have a fact, whatever follows them
+pub finds_begun : (P : List ℕ → Type 0) (a b : Supply) (bytes : List ℕ) → Takes a b bytes → ((s : List ℕ) → length s ≤ b.left → P (bytes ++ (b.ahead ++ s))) → Finds a b P
 finds_begun P a b bytes p q =
     let s = known_there b.source.remaining b.left in
-    record { sight = bytes ++ s.0; in_sight = sight_after a b bytes s.0 p s.1; is = q s.0 (sight_within b s.0 s.1); bytes = bytes; taken = p }
+    record {
+      sight = p.more ++ s.0;
+      in_sight = sight_after a b p.more s.0 p.drawn s.1;
+      is = subst P (sym (ahead_after a b bytes s.0 p)) (q s.0 (sight_within b s.0 s.1));
+      bytes = bytes;
+      taken = p;
+    }
 
 -- or they are all
-pub finds_spent : (P : List ℕ → Type 0) (a b : Supply) (bytes : List ℕ) → Takes a b bytes → IsSpent b → P bytes → Finds a b P
+pub finds_spent : (P : List ℕ → Type 0) (a b : Supply) (bytes : List ℕ) → Takes a b bytes → IsSpent b → P (bytes ++ b.ahead) → Finds a b P
 finds_spent P a b bytes p spent q = record {
-  sight = bytes;
-  in_sight = subst (IsInSight a) (append-nil bytes) (sight_after a b bytes [] p (known_spent b.source.remaining b.left spent));
-  is = q;
+  sight = p.more;
+  in_sight = subst (IsInSight a) (append-nil p.more) (sight_after a b p.more [] p.drawn (known_spent b.source.remaining b.left spent));
+  is = subst P (sym p.joined) q;
   bytes = bytes;
   taken = p;
 }
 
 -- or what follows them was found
-pub finds_next : (P Q : List ℕ → Type 0) (a b c : Supply) (bytes : List ℕ) → Takes a b bytes → Finds b c P → ((s : List ℕ) → length s ≤ b.left → P s → Q (bytes ++ s)) → Finds a c Q
+pub finds_next : (P Q : List ℕ → Type 0) (a b c : Supply) (bytes : List ℕ) → Takes a b bytes → Finds b c P → ((s : List ℕ) → length s ≤ b.left → P (b.ahead ++ s) → Q (bytes ++ (b.ahead ++ s))) → Finds a c Q
 finds_next P Q a b c bytes p f q = record {
-  sight = bytes ++ f.sight;
-  in_sight = sight_after a b bytes f.sight p f.in_sight;
-  is = q f.sight (sight_within b f.sight f.in_sight) f.is;
+  sight = p.more ++ f.sight;
+  in_sight = sight_after a b p.more f.sight p.drawn f.in_sight;
+  is = subst Q (sym (ahead_after a b bytes f.sight p)) (q f.sight (sight_within b f.sight f.in_sight) f.is);
   bytes = bytes ++ f.bytes;
   taken = takes_more a b c bytes f.bytes p f.taken;
 }
 
--- the same of what was in sight after bytes that had been taken before
-pub finds_after_begun : (P : List ℕ → Type 0) (before : List ℕ) (a b : Supply) (bytes : List ℕ) → TakesAfter before a b bytes → ((s : List ℕ) → length s ≤ b.left → P (bytes ++ s)) → Finds a b (λ s. P (before ++ s))
-finds_after_begun P before a b bytes p q =
-    finds_begun (λ s. P (before ++ s)) a b p.more p.taken
-    (λ s le. subst P (ap (λ t. t ++ s) p.joined ∙ append_assoc before p.more s) (q s le))
-
--- a fact of bytes after which nothing is left is one of all in sight
-pub finds_after_spent : (P : List ℕ → Type 0) (before : List ℕ) (a b : Supply) (bytes : List ℕ) → TakesAfter before a b bytes → IsSpent b → P bytes → Finds a b (λ s. P (before ++ s))
-finds_after_spent P before a b bytes p spent q =
-    finds_spent (λ s. P (before ++ s)) a b p.more p.taken spent (subst P p.joined q)
-
 -- no bytes
-no_bytes : (xs : List ℕ) → length xs ≤ 0 → xs ≡ []
+pub no_bytes : (xs : List ℕ) → length xs ≤ 0 → xs ≡ []
 no_bytes [] le = refl
 no_bytes (x ∷ xs) le = absurd (omega arith)
 
@@ -136,9 +130,28 @@ known_given (Some xs) (Some ys) left left' bytes s f p e few =
     let all : take left xs ≡ xs = take_all left xs (omega (arith, e, ap length p, length-append bytes ys, few)) in
     sym (f ∙ all)
 
--- no more is left than may be taken: what was in sight is all
-pub finds_given : (P : List ℕ → Type 0) (a b : Supply) → Finds a b P → IfSome b.source.remaining (λ ys. length ys ≤ b.left) → Gives a.source P
-finds_given P a b f few = (f.sight, known_given a.source.remaining b.source.remaining a.left b.left f.bytes f.sight f.in_sight f.taken.read.gone f.taken.count few, f.is)
+-- what is left, with what is ahead of it
+known_ahead : (a : Option (List ℕ)) (ahead s : List ℕ) → IfSome a (λ xs. xs ≡ s) → IfSome a (λ xs. ahead ++ xs ≡ ahead ++ s)
+known_ahead None ahead s p = tt
+known_ahead (Some xs) ahead s p = ap (λ t. ahead ++ t) p
+
+-- no more is left than may be taken: what was ahead and in sight is all
+pub finds_given : (P : List ℕ → Type 0) (a b : Supply) → Finds a b P → IfSome b.source.remaining (λ ys. length ys ≤ b.left) → GivesAll a P
+finds_given P a b f few =
+    let told = known_given a.source.remaining b.source.remaining a.left b.left f.taken.more f.sight f.in_sight f.taken.drawn.read.gone f.taken.drawn.count few in
+    (a.ahead ++ f.sight, known_ahead a.source.remaining a.ahead f.sight told, f.is)
+
+-- no more may be taken than what is ahead: what was found is so of that
+pub finds_ahead : (P : List ℕ → Type 0) (a b : Supply) → a.left ≡ 0 → Finds a b P → P a.ahead
+finds_ahead P a b none f =
+    let few : length f.sight ≤ 0 = omega (arith, none, sight_within a f.sight f.in_sight) in
+    subst P (ap (λ t. a.ahead ++ t) (no_bytes f.sight few) ∙ append-nil a.ahead) f.is
+
+-- and what was taken begins it
+pub takes_ahead : (a b : Supply) (bytes : List ℕ) → a.left ≡ 0 → Takes a b bytes → a.ahead ≡ bytes ++ b.ahead
+takes_ahead a b bytes none p =
+    let few : length p.more ≤ 0 = omega (arith, none, p.drawn.count) in
+    sym (append-nil a.ahead) ∙ (ap (λ t. a.ahead ++ t) (sym (no_bytes p.more few)) ∙ p.joined)
 
 -- what is left, which is nothing where the source is spent
 known_rest : (a : Option (List ℕ)) (left : ℕ) → IfSome a (λ xs. length xs ≤ left) → (s : List ℕ) × IfSome a (λ xs. xs ≡ s) × ((length s ≤ left) × ((left ≡ 0) ⊎ IsAtEnd a → s ≡ []))
@@ -155,19 +168,39 @@ known_tells None b bytes s p q = tt
 known_tells (Some xs) None bytes s p q = absurd p
 known_tells (Some xs) (Some ys) bytes s p q = p ∙ ap (λ t. bytes ++ t) q
 
--- what was taken, and what is left, is all
-pub tells_after : (a b : Supply) (bytes s : List ℕ) → Takes a b bytes → Tells b.source s → Tells a.source (bytes ++ s)
-tells_after a b bytes s p q = known_tells a.source.remaining b.source.remaining bytes s p.read.gone q
+-- what was taken, what is ahead and what is left, is all
+pub tells_after : (a b : Supply) (bytes s : List ℕ) → Takes a b bytes → Tells b.source s → TellsAll a (bytes ++ (b.ahead ++ s))
+tells_after a b bytes s p q =
+    subst (TellsAll a) (ahead_after a b bytes s p) (known_ahead a.source.remaining a.ahead (p.more ++ s) (known_tells a.source.remaining b.source.remaining p.more s p.drawn.read.gone q))
 
--- more is left than may be taken
-known_long : (a b : Option (List ℕ)) (left left' : ℕ) (bytes : List ℕ) → Consumes a b bytes → left ≡ left' + length bytes → IfSome b (λ ys. left' < length ys) → (all : List ℕ) × IfSome a (λ xs. xs ≡ all) × (left < length all)
-known_long None b left left' bytes p e more = (replicate (left + 1) 0, tt, omega (arith, length-replicate {A = ℕ} (left + 1) 0))
-known_long (Some xs) None left left' bytes p e more = absurd p
-known_long (Some xs) (Some ys) left left' bytes p e more = (xs, refl, omega (arith, e, ap length p, length-append bytes ys, more))
+-- more is left than may be taken, and that is more than a limit
+known_long : (a b : Option (List ℕ)) (left left' limit : ℕ) (ahead bytes : List ℕ) → Consumes a b bytes → left ≡ left' + length bytes → IfSome a (λ xs. left < length xs → limit < length ahead + length xs) → IfSome b (λ ys. left' < length ys)
+    → (all : List ℕ) × IfSome a (λ xs. ahead ++ xs ≡ all) × (limit < length all)
+known_long None b left left' limit ahead bytes p e far more = (replicate (limit + 1) 0, tt, omega (arith, length-replicate {A = ℕ} (limit + 1) 0))
+known_long (Some xs) None left left' limit ahead bytes p e far more = absurd p
+known_long (Some xs) (Some ys) left left' limit ahead bytes p e far more =
+    (ahead ++ xs, refl, omega (arith, far (omega (arith, e, ap length p, length-append bytes ys, more)), length-append ahead xs))
 
--- more is left than may be taken: all are more than might be
-pub long_given : (a b : Supply) (bytes : List ℕ) → Takes a b bytes → IfSome b.source.remaining (λ ys. b.left < length ys) → Gives a.source (λ all. a.left < length all)
-long_given a b bytes p more = known_long a.source.remaining b.source.remaining a.left b.left bytes p.read.gone p.count more
+-- so all are more than the limit
+pub long_given : (limit : ℕ) (a b : Supply) (bytes : List ℕ) → Takes a b bytes → IsLimited limit a → IfSome b.source.remaining (λ ys. b.left < length ys) → GivesAll a (λ all. limit < length all)
+long_given limit a b bytes p far more = known_long a.source.remaining b.source.remaining a.left b.left limit a.ahead p.more p.drawn.read.gone p.drawn.count far more
+
+-- more than may be taken of a source is more than the limit
+known_limited : (a : Option (List ℕ)) (limit : ℕ) → IfSome a (λ xs. limit < length xs → limit < 0 + length xs)
+known_limited None limit = tt
+known_limited (Some xs) limit = λ more. omega (arith, more)
+
+-- of which none is ahead
+pub limited_source : (limit : ℕ) (source : SourceState) (i : IntakeState) → i ≡ record { ahead = []; left = limit } → IsLimited limit (supply source i)
+limited_source limit source i is = rw is (known_limited source.remaining limit)
+
+-- nothing is left
+known_empty : (a : Option (List ℕ)) (left limit : ℕ) (ahead : List ℕ) → a ≡ Some [] → IfSome a (λ xs. left < length xs → limit < length ahead + length xs)
+known_empty a left limit ahead none = rw none (λ more. absurd (omega (arith, more)))
+
+-- so what is ahead is all
+pub limited_empty : (limit : ℕ) (a : Supply) → a.source.remaining ≡ Some [] → IsLimited limit a
+limited_empty limit a none = known_empty a.source.remaining a.left limit a.ahead none
 
 -- what overruns is more than may be taken, and nothing else is
 pub within_limit : (a : Option (List ℕ)) (left : ℕ) → IfSome a (λ xs. IsTrue false ↔ (left < length xs)) → IfSome a (λ xs. length xs ≤ left)

@@ -1,5 +1,5 @@
 -- Items of a list replaced by others.
-use Rattle.std.proofs.Common.{◌≡◌, ℕ, ◌+◌, ◌-◌, ◌<◌, ◌≤◌, List, ◌++◌, length, get_or, take, drop, ap, sym, ◌∙◌, set, append_assoc, append-nil, arith, length-append, length-drop}
+use Rattle.std.proofs.Common.{◌≡◌, ℕ, ◌+◌, ◌-◌, ◌<◌, ◌≤◌, List, ◌++◌, length, get_or, take, drop, ap, ◌∙◌, set, append_assoc, append-nil, arith, length-append, length-drop}
 use Rattle.std.proofs.lemmas.List.{take-append-le, length-take-le, drop-append-le, take_at, drop_at, drop_all, take-take}
 use Rattle.std.proofs.lemmas.List.Edits.{paste_all, paste_more}
 use Rattle.std.proofs.Math.Seq.{paste}

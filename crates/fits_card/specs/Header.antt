@@ -1,7 +1,7 @@
 -- A header: cards, the END card and the fill of its last block (FITS Standard 4.0, sections 3.1, 3.3.1 and 4.4.1).
-use Rattle.std.specs.Prelude.{◌≡◌, ℕ, ◌+◌, ◌-◌, ◌*◌, ◌%◌, Bool, nat_eq, drop, List, ◌++◌, length, replicate, All, Option, slice_get}
+use Rattle.std.specs.Prelude.{◌≡◌, ℕ, ◌+◌, ◌-◌, ◌*◌, ◌%◌, Bool, nat_eq, drop, List, ◌++◌, length, replicate, codes, All, Option, slice_get}
 use Rattle.std.specs.List.{flat_map, list_all}
-use Rattle.fits_card.specs.Card.{IsEnd}
+use Rattle.fits_card.specs.Card.{IsEnd, card_of_text}
 
 -- the parts of a header: its cards, each a list of bytes, then END, then the fill
 pub record Header : Type 0 where
@@ -65,3 +65,7 @@ is_end_blank header = list_all (nat_eq 32) (drop 8 header.end)
 -- the fill is spaces (3.3.1)
 abbrev pub is_fill_blank : Header → Bool
 is_fill_blank header = list_all (nat_eq 32) header.fill
+
+-- the header of these cards: END without more, and spaces to the end of its block (3.3.1)
+abbrev pub new_header : List (List ℕ) → Header
+new_header cards = record { cards = cards; end = card_of_text (codes "END"); fill = replicate (fill_length (length cards)) 32 }

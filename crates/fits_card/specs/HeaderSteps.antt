@@ -1,8 +1,8 @@
 -- How a header is found by pieces of 80 bytes: private contracts alone name it (own).
-use Rattle.std.specs.Prelude.{ℕ, ◌+◌, ◌*◌, ◌<◌, ◌≤◌, List, length, map, take, drop}
+use Rattle.std.specs.Prelude.{◌≡◌, ℕ, ◌+◌, ◌*◌, ◌<◌, ◌≤◌, List, length, map, take, drop}
 use Rattle.std.specs.List.{range_with_len}
 use Rattle.fits_card.specs.Card.{IsEnd}
-use Rattle.fits_card.specs.Header.{Header, fill_length}
+use Rattle.fits_card.specs.Header.{Header, fill_length, header_bytes, IsHeaderOf}
 
 -- piece k of 80 bytes, from 0
 abbrev pub piece : List ℕ → ℕ → List ℕ
@@ -29,3 +29,10 @@ pub record IsEndPlace (bytes : List ℕ) (k : ℕ) : Type 0 where
 -- no piece of 80 bytes ends a header
 abbrev pub HasNoEnd : List ℕ → Type 0
 HasNoEnd bytes = (j : ℕ) → 80 * (j + 1) ≤ length bytes → IsEnd (piece bytes j) → ⊥
+
+-- a header of so many bytes stands at the front
+pub record HasHeader (bytes : List ℕ) (len : ℕ) : Type 0 where
+  pub header : Header
+  pub cut : IsHeaderOf bytes header (drop len bytes)
+  pub size : len ≡ length (header_bytes header)
+  pub within : len ≤ length bytes

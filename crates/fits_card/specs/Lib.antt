@@ -1,3 +1,4 @@
+pub mod Ahead
 pub mod Card
 pub mod CardList
 pub mod Change

@@ -67,7 +67,19 @@ impl CardList {
     ghost use Rattle.fits_card.specs.declared.card.TheConstants.{CARD_LEN};
     ghost use Rattle.fits_card.specs.CardList.{ReadsUpTo};
     ghost use Rattle.fits_card.specs.Change.{spliced, moved};
-    ghost use Rattle.fits_card.specs.Header.{IsHeader, header_bytes, with_cards, is_end_blank, is_fill_blank};
+    ghost use Rattle.fits_card.specs.Header.{IsHeader, IsInnerCard, header_bytes, new_header, with_cards, is_end_blank, is_fill_blank};
+
+    /// The header of these cards: END without more, and spaces to the end of its block (FITS
+    /// Standard 4.0, section 3.3.1).
+    #[tactic(auto, using(crate::proofs::HeaderLemmas::new_whole))]
+    pub fn new(alloc: Global, cards: Vec<Card>) -> Result<CardList, AllocError>
+        requires { All IsInnerCard cards.items }
+        ensures header { IfOk result (λ list. list.header ≡ new_header cards.items) }
+        ensures unread { IfOk result (λ list. list.reads ≡ 0) }
+    {
+        let fill = Fill::blank(cards.len());
+        CardList::of(alloc, cards, Card::padded(b"END"), fill)
+    }
 
     // The header of these cards, with END and its fill.
     pub(crate) fn of(

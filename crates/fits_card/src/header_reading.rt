@@ -5,14 +5,13 @@ ghost use Rattle.fits_card.specs.declared.card_list.TheConstants.{BLOCK_LEN};
 ghost use Rattle.fits_card.specs.Header.{header_bytes, joined_cards, IsHeader, IsInnerCard};
 ghost use Rattle.fits_card.specs.HeaderReading.{HeaderStops};
 ghost use Rattle.fits_card.specs.HeaderSteps.{pieces, IsEndPlace};
-ghost use Rattle.fits_card.specs.Intake.{supply, IsSpent, TakesAfter};
+ghost use Rattle.fits_card.specs.Intake.{supply, Takes};
 
 use crate::card::{CARD_LEN, Card};
 use crate::card_list::{BLOCK_LEN, CardList};
 use crate::cut::{card_at, end_place};
 use crate::fill::Fill;
 use crate::intake::Intake;
-use crate::reading::ReadFault;
 use crate::room::room_for;
 use crate::source::Source;
 use std::alloc::{AllocError, Global};
@@ -43,22 +42,7 @@ impl From<AllocError> for ReadHeaderFault {
     }
 }
 
-impl From<ReadFault> for ReadHeaderFault {
-    ghost use Rattle.fits_card.specs.HeaderReading.{of_read};
-    ghost use Rattle.std.specs.Prelude.{◌≡◌};
-
-    ghost from_gives = { λ step fault. fault ≡ of_read step };
-
-    fn from(fault: ReadFault) -> ReadHeaderFault {
-        match fault {
-            ReadFault::Memory => ReadHeaderFault::Memory,
-            ReadFault::Failed => ReadHeaderFault::Failed,
-        }
-    }
-}
-
-/// The header that comes next, whose first block had been taken before (FITS Standard 4.0, section
-/// 3.3.1).
+/// The header that comes next (FITS Standard 4.0, section 3.3.1).
 ///
 /// Block after block is taken, as far as the first that has an END. Memory is asked for as cards
 /// come, and for them alone.
@@ -67,34 +51,33 @@ pub fn read_header<R: Source>(
     alloc: Global,
     intake: &mut Intake,
     source: &mut R,
-    first: Vec<u8>,
 ) -> Result<CardList, ReadHeaderFault>
-    requires within { length first.items ≤ BLOCK_LEN }
-    requires short { length first.items < BLOCK_LEN
-        → IsSpent (supply (R.state source.old) intake.old) }
-    ensures ok { IfOk result (λ list. TakesAfter first.items
+    ensures ok { IfOk result (λ list. Takes
         (supply (R.state source.old) intake.old) (supply (R.state source.new) intake.new)
         (header_bytes list.header)) }
     ensures whole { IfOk result (λ list. IsHeader list.header) }
     ensures unread { IfOk result (λ list. list.reads ≡ 0) }
-    ensures err { IfErr result (HeaderStops first.items
+    ensures err { IfErr result (HeaderStops
         (supply (R.state source.old) intake.old) (supply (R.state source.new) intake.new)) }
 {
     let mut cards = Vec::new(alloc);
-    let mut block = first;
     'block: loop {
-        if block.len() < BLOCK_LEN {
+        let Ok(()) = intake.hold(source, BLOCK_LEN) else {
+            return Err(ReadHeaderFault::Failed);
+        };
+        let ahead = intake.ahead();
+        if ahead.len() < BLOCK_LEN {
             return Err(ReadHeaderFault::NoEnd);
         }
-        if let Some(count) = end_place(&block) {
-            push_cards(&mut cards, &block, count)?;
-            return Ok(ended_list(alloc, cards, &block, count)?);
+        let (block, _) = ahead.split_at(BLOCK_LEN);
+        if let Some(count) = end_place(block) {
+            push_cards(&mut cards, block, count)?;
+            let list = ended_list(alloc, cards, block, count)?;
+            intake.pass(BLOCK_LEN);
+            return Ok(list);
         }
-        push_cards(&mut cards, &block, BLOCK_LEN / CARD_LEN)?;
-        block = match intake.take(alloc, source, BLOCK_LEN) {
-            Ok(next) => next,
-            Err(fault) => return Err(ReadHeaderFault::from(fault)),
-        };
+        push_cards(&mut cards, block, BLOCK_LEN / CARD_LEN)?;
+        intake.pass(BLOCK_LEN);
     }
 }
 

@@ -2,6 +2,7 @@
 //! them.
 #![tactic(auto)]
 
+mod ahead;
 mod card;
 mod card_list;
 mod cards;
@@ -14,10 +15,12 @@ mod intake;
 mod laws;
 mod name;
 mod order;
+mod piece;
 mod reading;
 mod room;
 mod sink;
 mod skipping;
+mod slice_source;
 mod slotted;
 mod slotted_cards;
 mod source;
@@ -30,7 +33,7 @@ pub use card_list::{BLOCK_LEN, CardList, header_len};
 pub use cards::Cards;
 pub use change::Change;
 pub use count::Count;
-pub use cut::{HeaderFault, cut_header};
+pub use cut::{HeaderFault, cut_header, has_header};
 pub use header_reading::{ReadHeaderFault, read_header};
 pub use intake::Intake;
 pub use laws::{a_header_or_none, one_header};

@@ -1,33 +1,23 @@
 -- The header of a new image, as it is made.
-use Rattle.std.proofs.Common.{◌≡◌, ℕ, ◌+◌, ◌*◌, ◌/◌, ◌%◌, ◌<◌, ◌≤◌, inl, inr, true, false, List, [], ◌∷◌, ◌++◌, length, get_or, take, drop, replicate, codes, refl, ap, sym, ◌∙◌, subst, arith, append_assoc, append-nil}
+use Rattle.std.proofs.Common.{◌≡◌, ℕ, ◌+◌, ◌*◌, ◌/◌, ◌%◌, ◌<◌, ◌≤◌, inl, inr, true, false, List, [], ◌∷◌, ◌++◌, length, get_or, drop, replicate, codes, refl, ap, sym, ◌∙◌, subst, arith, append_assoc, append-nil, All}
 use Rattle.std.specs.Prelude.{IsTrue, Ok, pos}
-use Rattle.fits_card.specs.Header.{Header, IsHeaderOf, fill_length, header_bytes, header_length, joined_cards}
+use Rattle.fits_card.specs.Header.{Header, IsInnerCard, header_bytes, header_length, new_header}
 use Rattle.fits_card.specs.Name.{is_name_byte, is_settable, is_spelled, is_valueless}
-use Rattle.fits_card.proofs.CutLemmas.{one_header}
 use Rattle.fits_card.proofs.HeaderLemmas.{length-header_bytes}
 use Rattle.fits_rules.specs.Class.{is_primary}
 use Rattle.fits_rules.specs.Shape.{axis_name, shape_of}
 use Rattle.fits_rules.specs.Size.{data_length}
 use Rattle.fits_rules.specs.declared.array_shape.Shape.{Shape}
 use Rattle.fits_hdu.specs.Hdu.{HduParts, hdu_bytes}
-use Rattle.fits_hdu.specs.NewImage.{are_axes, axis_cards, offset_cards, written, written_number, image_cards, image_shape, new_header, new_image}
+use Rattle.fits_hdu.specs.NewImage.{are_axes, axis_cards, offset_cards, written, written_number, image_cards, image_shape, new_image}
 use Rattle.fits_hdu.specs.declared.kind.Kind.{Kind}
 use Rattle.fits_hdu.specs.declared.kind.Kind.TheVariants.{U8, I8, I16, U16, I32, U32, I64, U64}
 use Rattle.fits_hdu.specs.Kind.{width_of}
 use Rattle.fits_value.specs.declared.value.Value.TheVariants.{Str}
 use Rattle.fits_rules.proofs.ShapeLemmas.{name_one, name_two, name_three}
 use Rattle.std.proofs.lemmas.Bool.{cases_lt}
-use Rattle.std.proofs.lemmas.List.{drop_all, drop_more, length-append, length-replicate, replicate-append-replicate, take-replicate, take_all}
-use Rattle.fits_card.proofs.EmitLemmas.{joined-more}
+use Rattle.std.proofs.lemmas.List.{drop_all, drop_more, length-append, length-replicate}
 use Rattle.fits_hdu.proofs.NewImageLemmas.{offset_count, count_of_cards, described, new_is_hdu, axes_from}
-
--- the bytes of its header are cut to it
-pub header_cut : (kind : Kind) (axes bytes rest : List ℕ) (cut : Header) → are_axes axes ≡ true → bytes ≡ header_bytes (new_header (image_cards kind axes)) → IsHeaderOf bytes cut rest → cut ≡ new_header (image_cards kind axes)
-unfolding new_image
-header_cut kind axes bytes rest cut may is found =
-    let whole = new_is_hdu kind axes may in
-    let there : IsHeaderOf bytes (new_header (image_cards kind axes)) [] = record { whole = whole.header; joined = is ∙ sym (append-nil _) } in
-    (one_header bytes cut (new_header (image_cards kind axes)) rest [] found there).0
 
 -- an offset has two cards at most
 pub offset_few : (kind : Kind) → offset_count kind ≤ 2
@@ -44,7 +34,10 @@ offset_few U64 = omega arith
 pub few_cards : (kind : Kind) (axes : List ℕ) → are_axes axes ≡ true → length (image_cards kind axes) ≤ 2000
 few_cards kind axes may = let are = axes_from axes may in omega (arith, count_of_cards kind axes may, offset_few kind, are.few)
 
-pub ruleset header_steps = (header_cut, few_cards)
+-- its cards don't end a header
+pub image_inner : (kind : Kind) (axes : List ℕ) (cards : List (List ℕ)) → are_axes axes ≡ true → cards ≡ image_cards kind axes → All IsInnerCard cards
+unfolding new_image
+image_inner kind axes cards may is = let whole = new_is_hdu kind axes may in rw is whole.header.cards
 
 -- a digit may stand in a name
 digit_named : (d : ℕ) → d < 10 → is_name_byte (48 + d) ≡ true
@@ -145,21 +138,6 @@ pub axes_done : (old start : List (List ℕ)) (axes : List ℕ) (k : ℕ) → le
 axes_done old start axes k h all = sym (append-nil old) ∙ (ap (λ xs. old ++ axis_cards (k + 1) xs) (sym (drop_all k axes h)) ∙ all)
 
 pub ruleset axes_steps = (axes_more, axes_done, axis_settable)
-
--- spaces
-pub spaces_are : (n : ℕ) → n ≤ 3000 → take {A = ℕ} n (replicate {A = ℕ} 3000 32) ≡ replicate {A = ℕ} n 32
-spaces_are n h = take-replicate {X = ℕ} n 3000 32 h
-
--- the cards, END and spaces
-pub header_made : (cards : List (List ℕ)) (front ended bytes : List ℕ) (k fill : ℕ) → length cards ≤ k → front ≡ joined_cards (take k cards) → ended ≡ front ++ codes "END" → fill ≡ fill_length (length cards) → bytes ≡ ended ++ replicate (77 + fill) 32 → bytes ≡ header_bytes (new_header cards)
-header_made cards front ended bytes k fill all joined e f b =
-    let spread : replicate (77 + fill) 32 ≡ replicate 77 32 ++ replicate (fill_length (length cards)) 32 = sym (replicate-append-replicate 77 fill 32) ∙ ap (λ n. replicate 77 32 ++ replicate n 32) f in
-    let cut : front ≡ joined_cards cards = joined ∙ ap joined_cards (take_all k cards all) in
-    b ∙ (ap (λ xs. xs ++ replicate (77 + fill) 32) (e ∙ ap (λ xs. xs ++ codes "END") cut)
-    ∙ (append_assoc (joined_cards cards) (codes "END") (replicate (77 + fill) 32)
-    ∙ ap (λ xs. joined_cards cards ++ (codes "END" ++ xs)) spread))
-
-pub ruleset byte_steps = (header_made, joined-more)
 
 -- few axes have few cards
 pub ruleset count_steps = (count_of_cards, few_axes, few_cards)

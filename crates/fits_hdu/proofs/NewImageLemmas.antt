@@ -12,7 +12,7 @@ use Rattle.std.proofs.lemmas.List.{length-replicate}
 use Rattle.std.proofs.lemmas.List.Elements.{All-append, All-cons, All-nil}
 use Rattle.std.proofs.lemmas.Slice.Eq.{bytes_eq-Decides}
 use Rattle.fits_card.specs.Card.{IsEnd, IsText, card_of_text, has_value, is_end, is_text, is_text_byte, keyword_name}
-use Rattle.fits_card.specs.Header.{Header, IsHeader, IsInnerCard, card_at, fill_length, header_bytes, header_length}
+use Rattle.fits_card.specs.Header.{Header, IsHeader, IsInnerCard, card_at, fill_length, header_bytes, header_length, new_header}
 use Rattle.fits_card.specs.Name.{is_valueless}
 use Rattle.fits_card.proofs.HeaderLemmas.{length-header_bytes}
 use Rattle.fits_rules.specs.Class.{extension_class}
@@ -27,7 +27,7 @@ use Rattle.fits_value.specs.Spelling.{is_digit}
 use Rattle.fits_value.proofs.WrittenLemmas.{narrower, none_text, text_both, text_more, text_spaces}
 use Rattle.fits_hdu.specs.Hdu.{IsHdu, hdu_bytes}
 use Rattle.fits_hdu.specs.Kind.{offset_of, width_of}
-use Rattle.fits_hdu.specs.NewImage.{are_axes, axis_cards, image_cards, image_shape, new_header, new_image, offset_cards, scaling_cards}
+use Rattle.fits_hdu.specs.NewImage.{are_axes, axis_cards, image_cards, image_shape, new_image, offset_cards, scaling_cards}
 use Rattle.fits_hdu.specs.declared.kind.Kind.{Kind}
 use Rattle.fits_hdu.specs.declared.kind.Kind.TheVariants.{U8, I8, I16, U16, I32, U32, I64, U64}
 use Rattle.fits_hdu.proofs.SettingLemmas.{From, from_lead, lead_card_is}

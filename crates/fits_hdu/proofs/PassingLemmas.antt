@@ -1,12 +1,12 @@
 -- Steps of an HDU that passes by, and is summed.
-use Rattle.std.proofs.Common.{◌≡◌, ℕ, ◌+◌, ◌-◌, ◌<◌, ◌≤◌, Bool, true, nat_eq, List, [], ◌++◌, length, take, drop, drop_of_length-le, refl, ap, sym, ◌∙◌, arith, Option}
+use Rattle.std.proofs.Common.{◌≡◌, ℕ, ◌+◌, ◌-◌, ◌<◌, ◌≤◌, Bool, true, nat_eq, List, [], ◌++◌, length, drop, drop_of_length-le, refl, ap, sym, ◌∙◌, arith, Option}
 use Rattle.std.specs.Prelude.{Ok, ◌%◌, ◌&&◌}
 use Rattle.std.specs.List.{list_all}
-use Rattle.std.proofs.lemmas.List.{length-append, length-take-le, take_all}
+use Rattle.std.proofs.lemmas.List.{length-append}
 use Rattle.fits_card.specs.Header.{Header, IsHeader, header_bytes}
-use Rattle.fits_card.specs.Intake.{IsSpent, Supply, Takes, TakesAfter}
+use Rattle.fits_card.specs.Intake.{IsSpent, Supply, Takes}
 use Rattle.fits_card.proofs.HeaderLemmas.{fill_length-by_cards, length-header_bytes}
-use Rattle.fits_card.proofs.SightLemmas.{takes_more, takes_none}
+use Rattle.fits_card.proofs.SightLemmas.{takes_and_holds, takes_more, takes_none}
 use Rattle.fits_rules.specs.Class.{is_primary}
 use Rattle.fits_rules.specs.Shape.{shape_of}
 use Rattle.fits_rules.specs.Size.{data_length, data_size}
@@ -30,7 +30,7 @@ use Rattle.fits_hdu.specs.declared.fault.HduFault.TheVariants.{ShortData}
 use Rattle.fits_hdu.specs.declared.read_fault.ReadHduFault.TheVariants.{Hdu}
 use Rattle.fits_hdu.specs.declared.unit_sums.UnitSums.{UnitSums}
 use Rattle.fits_hdu.specs.declared.verdicts.Verdicts.{Verdicts}
-use Rattle.fits_hdu.proofs.ReadingLemmas.{hdu_taken, hdu_whole, stops_by_unit, stops_near}
+use Rattle.fits_hdu.proofs.ReadingLemmas.{hdu_taken, hdu_whole, stops_near}
 use Rattle.fits_hdu.proofs.UnitLemmas.{filled-append}
 
 -- nothing is summed yet
@@ -54,27 +54,24 @@ sums_more used fill bytes room sums sums' p words count total filled = record {
   filled = filled ∙ (rw (p.filled, p.count) (sym (filled-append fill used bytes room)));
 }
 
--- a piece more is summed
-pub summed_more : (used fill : ℕ) (a b c : Supply) (n : ℕ) (room : List ℕ) (sums sums' : UnitSums) → TakesSummed used fill a b sums → Takes b c (take n room) → length room ≤ n
+-- a piece more is held, summed and passed
+pub summed_more : (used fill : ℕ) (a b c d : Supply) (room : List ℕ) (sums sums' : UnitSums) → TakesSummed used fill a b sums → Takes b c [] → Takes c d room
     → sums.count % 4 ≡ 0 → sums'.count ≡ sums.count + length room → sums'.total ≡ sums.total + word_total room
-    → sums'.filled ≡ (sums.filled && list_all (nat_eq fill) (drop (used - sums.count) room)) → TakesSummed used fill a c sums'
-summed_more used fill a b c n room sums sums' p q le words count total filled = record {
+    → sums'.filled ≡ (sums.filled && list_all (nat_eq fill) (drop (used - sums.count) room)) → TakesSummed used fill a d sums'
+summed_more used fill a b c d room sums sums' p h q words count total filled = record {
   bytes = p.bytes ++ room;
-  taken = takes_more a b c p.bytes room p.taken (rw (take_all n room le) at q);
+  taken = takes_more a c d p.bytes room (takes_and_holds a b c p.bytes p.taken h) q;
   summed = sums_more used fill p.bytes room sums sums' p.summed words count total filled;
 }
 
 -- the source ended within a piece
-pub takes_fewer : (used fill : ℕ) (a b c : Supply) (n len : ℕ) (room : List ℕ) (sums : UnitSums) → TakesSummed used fill a b sums → Takes b c (take n room) → n < length room → IsSpent c
-    → sums.count + length room ≤ len → TakesFewer a c len
-takes_fewer used fill a b c n len room sums p q short spent le = record {
-  bytes = p.bytes ++ take n room;
-  taken = takes_more a b c p.bytes (take n room) p.taken q;
-  short = omega (arith, short, le, p.summed.count, length-append p.bytes (take n room), length-take-le n room (omega (arith, short)));
+pub sums_fewer : (used fill : ℕ) (a b c : Supply) (most len : ℕ) (sums : UnitSums) → TakesSummed used fill a b sums → Takes b c [] → IsSpent c → length c.ahead < most → sums.count + most ≤ len → TakesFewer a c len
+sums_fewer used fill a b c most len sums p h spent short le = record {
+  bytes = p.bytes;
+  taken = takes_and_holds a b c p.bytes p.taken h;
+  short = omega (arith, short, le, p.summed.count);
   spent = spent;
 }
-
-pub ruleset summing_steps = (summed_none, summed_more, takes_fewer)
 
 -- a data unit is of whole words
 pub unit_words : (shape : Shape) → data_length shape % 4 ≡ 0
@@ -82,11 +79,11 @@ unfolding data_length
 unit_words shape = omega arith
 
 -- an HDU whose data unit was summed
-pub hdu_summed : (primary : Bool) (before : List ℕ) (a b c : Supply) (len used fill : ℕ) (header : Header) (shape : Shape) (sums : UnitSums) → TakesAfter before a b (header_bytes header) → IsHeader header → shape_of primary header.cards ≡ Ok shape
+pub hdu_summed : (primary : Bool) (a b c : Supply) (len used fill : ℕ) (header : Header) (shape : Shape) (sums : UnitSums) → Takes a b (header_bytes header) → IsHeader header → shape_of primary header.cards ≡ Ok shape
     → TakesSummed used fill b c sums → sums.count ≡ len → len ≡ data_length shape → used ≡ data_size shape → fill ≡ fill_byte shape.class → is_primary shape.class ≡ primary
-    → TakesHdu (λ hdu. IsSummed hdu header shape sums) primary before a c
+    → TakesHdu (λ hdu. IsSummed hdu header shape sums) primary a c
 unfolding is_filled
-hdu_summed primary before a b c len used fill header shape sums p whole described q count unit data_is fill_is class = record {
+hdu_summed primary a b c len used fill header shape sums p whole described q count unit data_is fill_is class = record {
   hdu = record { header = header; data_unit = q.bytes };
   kept = record {
     passed = record { same = refl; described = rw class described; unit = q.summed.count };
@@ -94,16 +91,16 @@ hdu_summed primary before a b c len used fill header shape sums p whole describe
     filled = rw (data_is, fill_is) at q.summed.filled;
   };
   whole = hdu_whole primary header shape q.bytes whole described (sym q.summed.count ∙ (count ∙ unit));
-  taken = hdu_taken before a b c header q.bytes p q.taken;
+  taken = hdu_taken a b c header q.bytes p q.taken;
 }
 
 -- the data unit that passed by is too short
-pub stops_summed : (primary : Bool) (before : List ℕ) (a b c : Supply) (len : ℕ) (header : Header) (shape : Shape) → TakesAfter before a b (header_bytes header) → IsHeader header → shape_of primary header.cards ≡ Ok shape
-    → (q : TakesFewer b c len) → len ≡ data_length shape → HduStops primary before a c (Hdu ShortData)
-stops_summed primary before a b c len header shape p whole described q unit =
-    stops_near primary before a b c header shape q.bytes p whole described q.taken q.spent (omega (arith, q.short, unit))
+pub stops_summed : (primary : Bool) (a b c : Supply) (len : ℕ) (header : Header) (shape : Shape) → Takes a b (header_bytes header) → IsHeader header → shape_of primary header.cards ≡ Ok shape
+    → (q : TakesFewer b c len) → len ≡ data_length shape → HduStops primary a c (Hdu ShortData)
+stops_summed primary a b c len header shape p whole described q unit =
+    stops_near primary a b c header shape q.bytes p whole described q.taken q.spent (omega (arith, q.short, unit))
 
-pub ruleset summed_steps = (shape_primary, unit_words, hdu_summed, stops_summed, stops_by_unit)
+pub ruleset summed_steps = (shape_primary, unit_words, hdu_summed, stops_summed)
 
 -- an HDU's header is of whole words
 header_words : (header : Header) → IsHeader header → length (header_bytes header) % 4 ≡ 0
@@ -146,10 +143,10 @@ summed_findings primary codes found name header shape sums hdu is cards called w
 }
 
 -- they are kept of it
-pub findings_summed : (primary : Bool) (before : List ℕ) (a b : Supply) (codes : List Code) (found : List Finding) (name : Option ExtensionName) (header : Header) (shape : Shape) (sums : UnitSums)
-    → TakesHdu (λ hdu. IsSummed hdu header shape sums) primary before a b → codes ≡ codes_by shape header sums → found ≡ card_findings shape header.cards → name ≡ extension_name (is_primary shape.class) header.cards
-    → TakesHdu (AreFindings codes found name) primary before a b
-findings_summed primary before a b codes found name header shape sums p is cards called = record {
+pub findings_summed : (primary : Bool) (a b : Supply) (codes : List Code) (found : List Finding) (name : Option ExtensionName) (header : Header) (shape : Shape) (sums : UnitSums)
+    → TakesHdu (λ hdu. IsSummed hdu header shape sums) primary a b → codes ≡ codes_by shape header sums → found ≡ card_findings shape header.cards → name ≡ extension_name (is_primary shape.class) header.cards
+    → TakesHdu (AreFindings codes found name) primary a b
+findings_summed primary a b codes found name header shape sums p is cards called = record {
   hdu = p.hdu;
   kept = summed_findings primary codes found name header shape sums p.hdu is cards called p.whole p.kept;
   whole = p.whole;
@@ -157,10 +154,10 @@ findings_summed primary before a b codes found name header shape sums p is cards
 }
 
 -- and so are its sum and its verdicts
-pub sums_summed : (primary : Bool) (before : List ℕ) (a b : Supply) (datasum : ℕ) (verdicts : Verdicts) (header : Header) (shape : Shape) (sums : UnitSums) → TakesHdu (λ hdu. IsSummed hdu header shape sums) primary before a b
-    → datasum ≡ ones_complement sums.total → verdicts ≡ verdicts_of_sums header sums → TakesHdu (AreSumsOf datasum verdicts) primary before a b
+pub sums_summed : (primary : Bool) (a b : Supply) (datasum : ℕ) (verdicts : Verdicts) (header : Header) (shape : Shape) (sums : UnitSums) → TakesHdu (λ hdu. IsSummed hdu header shape sums) primary a b
+    → datasum ≡ ones_complement sums.total → verdicts ≡ verdicts_of_sums header sums → TakesHdu (AreSumsOf datasum verdicts) primary a b
 unfolding data_sum
-sums_summed primary before a b datasum verdicts header shape sums p is are = record {
+sums_summed primary a b datasum verdicts header shape sums p is are = record {
   hdu = p.hdu;
   kept = record { sum = is ∙ ap ones_complement p.kept.total; right = are ∙ summed_verdicts primary header shape sums p.hdu p.whole p.kept };
   whole = p.whole;

@@ -54,14 +54,6 @@ HasHduFault primary bytes (BadShape place) = BreaksShape primary bytes place
 HasHduFault primary bytes ShortData = LacksData primary bytes
 HasHduFault primary bytes Memory = ⊥
 
--- the cards of a header that was cut and the bytes after it make no HDU: a bad shape, or too few data;
--- memory is asked for only where the cards describe a shape
-abbrev pub DataFails : Bool → List (List ℕ) → List ℕ → HduFault → Type 0
-DataFails primary cards rest NoEnd = ⊥
-DataFails primary cards rest (BadShape place) = shape_of primary cards ≡ Err place
-DataFails primary cards rest ShortData = (shape : Shape) × (shape_of primary cards ≡ Ok shape) × (length rest < data_length shape)
-DataFails primary cards rest Memory = (shape : Shape) × (shape_of primary cards ≡ Ok shape)
-
 -- opening an HDU may end so: by its fault, or out of memory
 abbrev pub HduFails : Bool → List ℕ → HduFault → Type 0
 HduFails primary bytes Memory = Unit {0}

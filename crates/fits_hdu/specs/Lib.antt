@@ -1,5 +1,4 @@
 pub mod ExtensionName
-pub mod Fault
 pub mod Findings
 pub mod Hdu
 pub mod Keyword

@@ -3,8 +3,7 @@
 use Rattle.std.specs.Prelude.{ℕ, ◌+◌, ◌*◌, ◌&&◌, Bool, nat_le, ℤ, pos, List, [], ◌∷◌, ◌++◌, length, replicate, codes, None, unwrap_or}
 use Rattle.std.specs.Fmt.{signed_decimal}
 use Rattle.std.specs.List.{list_all}
-use Rattle.fits_card.specs.Card.{card_of_text}
-use Rattle.fits_card.specs.Header.{Header, fill_length}
+use Rattle.fits_card.specs.Header.{new_header}
 use Rattle.fits_rules.specs.Shape.{axis_name}
 use Rattle.fits_rules.specs.Size.{data_length}
 use Rattle.fits_rules.specs.declared.array_shape.Shape.{Shape}
@@ -60,10 +59,6 @@ image_cards kind axes =
     ++ (written_number (codes "PCOUNT  ") (pos 0)
     ++ (written_number (codes "GCOUNT  ") (pos 1)
     ++ offset_cards kind)))))
-
--- the header of so many cards: END without more, and spaces to the end of the block (3.3.1)
-abbrev pub new_header : List (List ℕ) → Header
-new_header cards = record { cards = cards; end = card_of_text (codes "END"); fill = replicate (fill_length (length cards)) 32 }
 
 -- a new image: each byte of its data unit is zero
 unfoldable pub new_image : Kind → List ℕ → HduParts

@@ -27,11 +27,11 @@ pub record TakesSummed (used fill : ℕ) (old new : Supply) (sums : UnitSums) : 
   pub taken : Takes old new bytes
   pub summed : AreSums used fill bytes sums
 
--- fewer bytes than these were taken, and no more are left
+-- bytes were taken, and with those ahead, after which nothing comes, they are fewer than these
 pub record TakesFewer (old new : Supply) (len : ℕ) : Type 0 where
   pub bytes : List ℕ
   pub taken : Takes old new bytes
-  pub short : length bytes < len
+  pub short : length bytes + length new.ahead < len
   pub spent : IsSpent new
 
 -- of an HDU that passed by its header is known, the shape that its cards describe, the total of its data unit, and whether the data fill is what it should be

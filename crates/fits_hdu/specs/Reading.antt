@@ -1,7 +1,7 @@
 -- How an HDU is read from a source, whatever is kept of it (own).
-use Rattle.std.specs.Prelude.{◌≡◌, ℕ, Bool, List, ◌++◌, length, Ok}
+use Rattle.std.specs.Prelude.{◌≡◌, ℕ, Bool, length, Ok}
 use Rattle.fits_card.specs.Header.{Header, header_bytes}
-use Rattle.fits_card.specs.Intake.{Supply, Finds, TakesAfter}
+use Rattle.fits_card.specs.Intake.{Supply, Finds, Takes}
 use Rattle.fits_card.specs.Stream.{FailsOnce, StaysQuiet}
 use Rattle.fits_card.specs.declared.header_reading.ReadHeaderFault.{ReadHeaderFault}
 use Rattle.fits_card.specs.declared.header_reading.ReadHeaderFault.TheVariants as header
@@ -33,18 +33,18 @@ abbrev pub of_read : ReadFault → ReadHduFault
 of_read read.Memory = Hdu Memory
 of_read read.Failed = Failed
 
--- after bytes that had been taken before no HDU comes, for this fault; or memory was refused; or a call failed
-abbrev pub HduStops : Bool → List ℕ → Supply → Supply → ReadHduFault → Type 0
-HduStops primary before old new (Hdu Memory) = StaysQuiet old.source new.source
-HduStops primary before old new (Hdu fault) = Finds old new (λ sight. HasHduFault primary (before ++ sight) fault)
-HduStops primary before old new Failed = FailsOnce old.source new.source
+-- no HDU comes, for this fault; or memory was refused; or a call failed
+abbrev pub HduStops : Bool → Supply → Supply → ReadHduFault → Type 0
+HduStops primary old new (Hdu Memory) = StaysQuiet old.source new.source
+HduStops primary old new (Hdu fault) = Finds old new (λ bytes. HasHduFault primary bytes fault)
+HduStops primary old new Failed = FailsOnce old.source new.source
 
--- an HDU was taken, whose first bytes had been taken before, and of it something is kept
-pub record TakesHdu (keeps : HduParts → Type 0) (primary : Bool) (before : List ℕ) (old new : Supply) : Type 0 where
+-- an HDU was taken, and of it something is kept
+pub record TakesHdu (keeps : HduParts → Type 0) (primary : Bool) (old new : Supply) : Type 0 where
   pub hdu : HduParts
   pub kept : keeps hdu
   pub whole : IsHdu primary hdu
-  pub taken : TakesAfter before old new (hdu_bytes hdu)
+  pub taken : Takes old new (hdu_bytes hdu)
 
 -- of an HDU that passed by its header is known, the shape that its cards describe, and how long its data unit was
 pub record IsPassed (hdu : HduParts) (header : Header) (shape : Shape) (unit_len : ℕ) : Type 0 where

@@ -1,8 +1,7 @@
 //! The header of the HDU that comes next in a source, and what it says of its data unit.
 ghost use Rattle.std.specs.Prelude.{◌≡◌, ◌+◌, ◌*◌, ◌^◌, ◌<◌, ◌≤◌, length, Ok, IfOk, IfErr, OnOk};
-ghost use Rattle.fits_card.specs.declared.card_list.TheConstants.{BLOCK_LEN};
 ghost use Rattle.fits_card.specs.Header.{header_bytes, IsHeader};
-ghost use Rattle.fits_card.specs.Intake.{supply, IsSpent, TakesAfter};
+ghost use Rattle.fits_card.specs.Intake.{supply, Takes};
 ghost use Rattle.fits_rules.specs.Shape.{shape_of};
 ghost use Rattle.fits_rules.specs.Size.{data_length};
 ghost use Rattle.fits_rules.specs.Class.{is_primary};
@@ -23,33 +22,30 @@ pub(crate) struct Described {
     pub unit_len: usize,
 }
 
-/// The header that comes next, whose first block had been taken before, where its data unit may be
+/// The header that comes next, where its data unit may be
 /// taken after it.
 #[tactic(auto, using(crate::proofs::ReadingLemmas::described_steps))]
 pub(crate) fn read_described<R: Source>(
     alloc: Global,
     intake: &mut Intake,
     source: &mut R,
-    first: Vec<u8>,
     primary: bool,
 ) -> Result<Described, ReadHduFault>
-    requires within { length first.items ≤ BLOCK_LEN }
-    requires short { length first.items < BLOCK_LEN
-        → IsSpent (supply (R.state source.old) intake.old) }
-    ensures taken { IfOk result (λ head. TakesAfter first.items
+    ensures taken { IfOk result (λ head. Takes
         (supply (R.state source.old) intake.old) (supply (R.state source.new) intake.new)
         (header_bytes head.cards.header)) }
     ensures whole { IfOk result (λ head. IsHeader head.cards.header) }
     ensures described { IfOk result (λ head. shape_of primary head.cards.header.cards
         ≡ Ok head.shape) }
     ensures len { IfOk result (λ head. head.unit_len ≡ data_length head.shape) }
-    ensures room { IfOk result (λ head. head.unit_len ≤ intake.new) }
+    ensures room { IfOk result (λ head. head.unit_len
+        ≤ length intake.new.ahead + intake.new.left) }
     ensures work { IfOk result (λ head. head.cards.reads
         ≤ 3 * length head.cards.header.cards + 4) }
-    ensures err { IfErr result (HduStops primary first.items
+    ensures err { IfErr result (HduStops primary
         (supply (R.state source.old) intake.old) (supply (R.state source.new) intake.new)) }
 {
-    let mut cards = match read_header(alloc, intake, source, first) {
+    let mut cards = match read_header(alloc, intake, source) {
         Ok(cards) => cards,
         Err(fault) => return Err(ReadHduFault::from(fault)),
     };
@@ -73,23 +69,19 @@ pub(crate) fn read_past<R: Source>(
     alloc: Global,
     intake: &mut Intake,
     source: &mut R,
-    first: Vec<u8>,
     primary: bool,
 ) -> Result<Described, ReadHduFault>
-    requires within { length first.items ≤ BLOCK_LEN }
-    requires short { length first.items < BLOCK_LEN
-        → IsSpent (supply (R.state source.old) intake.old) }
-    requires room { intake.old + length first.items ≤ 2 ^ 34 }
+    requires { length intake.old.ahead + intake.old.left ≤ 2 ^ 34 }
     ensures ok { IfOk result (λ head. TakesHdu
-        (λ hdu. IsPassed hdu head.cards.header head.shape head.unit_len) primary first.items
+        (λ hdu. IsPassed hdu head.cards.header head.shape head.unit_len) primary
         (supply (R.state source.old) intake.old) (supply (R.state source.new) intake.new)) }
     ensures described { IfOk result (λ head. shape_of (is_primary head.shape.class)
         head.cards.header.cards ≡ Ok head.shape) }
     ensures small { IfOk result (λ head. length (header_bytes head.cards.header) ≤ 2 ^ 34) }
-    ensures err { IfErr result (HduStops primary first.items
+    ensures err { IfErr result (HduStops primary
         (supply (R.state source.old) intake.old) (supply (R.state source.new) intake.new)) }
 {
-    let head = read_described(alloc, intake, source, first, primary)?;
+    let head = read_described(alloc, intake, source, primary)?;
     let Ok(data_len) = intake.skip(source, head.unit_len) else {
         drop(head);
         return Err(ReadHduFault::Failed);

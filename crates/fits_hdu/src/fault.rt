@@ -1,7 +1,5 @@
 //! Why no HDU was opened.
 
-use fits_card::HeaderFault;
-use fits_rules::ShapeFault;
 use std::alloc::AllocError;
 use thiserror::Error;
 
@@ -31,33 +29,5 @@ impl From<AllocError> for HduFault {
 
     fn from(_: AllocError) -> HduFault {
         HduFault::Memory
-    }
-}
-
-impl From<HeaderFault> for HduFault {
-    ghost use Rattle.fits_hdu.specs.Fault.{of_header};
-    ghost use Rattle.std.specs.Prelude.{◌≡◌};
-
-    ghost from_gives = { λ step fault. fault ≡ of_header step };
-
-    fn from(fault: HeaderFault) -> HduFault {
-        match fault {
-            HeaderFault::NoEnd => HduFault::NoEnd,
-            HeaderFault::Memory => HduFault::Memory,
-        }
-    }
-}
-
-impl From<ShapeFault> for HduFault {
-    ghost use Rattle.fits_hdu.specs.Fault.{of_shape};
-    ghost use Rattle.std.specs.Prelude.{◌≡◌};
-
-    ghost from_gives = { λ step fault. fault ≡ of_shape step };
-
-    fn from(fault: ShapeFault) -> HduFault {
-        match fault {
-            ShapeFault::Bad(place) => HduFault::BadShape(place),
-            ShapeFault::Memory => HduFault::Memory,
-        }
     }
 }

@@ -33,8 +33,7 @@ pub struct Findings {
 
 impl Findings {
     ghost use Rattle.std.specs.Prelude.{◌≡◌, ◌+◌, ◌<◌, ◌≤◌, ◌^◌, length, IfOk, IfErr, OnOk};
-    ghost use Rattle.fits_card.specs.declared.card_list.TheConstants.{BLOCK_LEN};
-    ghost use Rattle.fits_card.specs.Intake.{supply, IsSpent};
+    ghost use Rattle.fits_card.specs.Intake.{supply};
     ghost use Rattle.fits_hdu.specs.Findings.{AreFindings};
     ghost use Rattle.fits_hdu.specs.Reading.{HduStops, TakesHdu};
 
@@ -44,20 +43,16 @@ impl Findings {
         alloc: Global,
         intake: &mut Intake,
         source: &mut R,
-        first: Vec<u8>,
         primary: bool,
     ) -> Result<Findings, ReadHduFault>
-        requires within { length first.items ≤ BLOCK_LEN }
-        requires short { length first.items < BLOCK_LEN
-            → IsSpent (supply (R.state source.old) intake.old) }
-        requires room { intake.old + length first.items ≤ 2 ^ 34 }
+        requires { length intake.old.ahead + intake.old.left ≤ 2 ^ 34 }
         ensures ok { IfOk result (λ it. TakesHdu (AreFindings it.whole it.of_cards.items it.name)
-            primary first.items
+            primary
             (supply (R.state source.old) intake.old) (supply (R.state source.new) intake.new)) }
-        ensures err { IfErr result (HduStops primary first.items
+        ensures err { IfErr result (HduStops primary
             (supply (R.state source.old) intake.old) (supply (R.state source.new) intake.new)) }
     {
-        let Summed { head, sums } = read_summed(alloc, intake, source, first, primary)?;
+        let Summed { head, sums } = read_summed(alloc, intake, source, primary)?;
         match findings_of(alloc, head, sums) {
             Ok(found) => Ok(found),
             Err(_) => Err(ReadHduFault::Hdu(HduFault::Memory)),

@@ -5,7 +5,6 @@ mod pixels;
 mod reporting;
 mod stamping;
 
-use crate::data_unit::unit_len;
 use crate::described::{Described, read_described};
 use crate::extension_name::{ExtensionName, extension_name};
 use crate::fault::HduFault;
@@ -16,11 +15,11 @@ use crate::layout::{follow_blank, plane_of};
 use crate::read_fault::ReadHduFault;
 use crate::sum_keywords::SumKeywords;
 use crate::sums::sum_keywords;
-use fits_card::{CardList, Change, Intake, Name, Sink, Source, cut_header};
+use fits_card::{CardList, Change, Intake, Name, Sink, Source, has_header};
 use fits_codes::CodeSet;
 use fits_header::Header;
 use fits_plane::Plane;
-use fits_rules::{Shape, shape};
+use fits_rules::Shape;
 use fits_value::{Text, Value};
 use std::alloc::{AllocError, Global};
 use std::io;
@@ -80,9 +79,8 @@ impl Hdu {
     ghost use Rattle.std.specs.Prelude.{◌≡◌, ◌+◌, ◌^◌, ◌≤◌, ◌<◌, true, length, take, drop, All, Ok, IsOk, IfOk, IfErr, IsErrOf, OnOk, OnErr, IsTrue};
     ghost use Rattle.fits_card.specs.Card.{IsEnd};
     ghost use Rattle.fits_card.specs.Change.{cards_after, new_cards, IsInRange};
-    ghost use Rattle.fits_card.specs.declared.card_list.TheConstants.{BLOCK_LEN};
     ghost use Rattle.fits_card.specs.Header.{HasNoHeader, header_bytes};
-    ghost use Rattle.fits_card.specs.Intake.{supply, IsSpent, TakesAfter};
+    ghost use Rattle.fits_card.specs.Intake.{supply, Takes};
     ghost use Rattle.fits_card.specs.Stream.{Prints, PrintsFront};
     ghost use Rattle.fits_header.specs.Names.{header_names};
     ghost use Rattle.fits_header.specs.Places.{keyword_places};
@@ -97,7 +95,7 @@ impl Hdu {
     ghost use Rattle.fits_hdu.specs.Reading.{HduStops};
     ghost use Rattle.fits_hdu.specs.State.{ReadsUpTo};
     ghost use Rattle.fits_hdu.specs.Work.{apply_reads, keyword_reads, open_reads, plane_work, FollowsBlank, IsScanned};
-    ghost use Rattle.fits_hdu.specs.Hdu.{IsHdu, IsHduOf, DataFails, HduFails, hdu_bytes, hdu_after, keeps_shape};
+    ghost use Rattle.fits_hdu.specs.Hdu.{IsHdu, IsHduOf, HduFails, hdu_bytes, hdu_after, keeps_shape};
 
     /// The HDU that these bytes begin with, the primary one or an extension, and how many bytes it
     /// has (FITS Standard 4.0, section 3.1).
@@ -120,40 +118,17 @@ impl Hdu {
         ensures fault { IfErr result (HduFails primary bytes.now) }
         ensures no_end { HasNoHeader bytes.now → IsErrOf result HduFault.NoEnd }
     {
-        let (cards, header_len) = cut_header(alloc, bytes)?;
-        let (_, rest) = bytes.split_at(header_len);
-        let (hdu, unit_len) = Hdu::with_data(alloc, cards, rest, primary)?;
-        Ok((hdu, header_len + unit_len))
-    }
-
-    // The HDU of a header and of the data unit that begins these bytes, and how many bytes the unit
-    // has.
-    #[tactic(auto, using(crate::proofs::OpenLemmas::open_steps))]
-    fn with_data(
-        alloc: Global,
-        mut cards: CardList,
-        rest: &[u8],
-        primary: bool,
-    ) -> Result<(Hdu, usize), HduFault>
-        requires { length rest.now ≤ 2 ^ 34 }
-        ensures header { IfOk result (λ cut. cut.0.hdu.header ≡ cards.header) }
-        ensures described { IfOk result (λ cut. shape_of primary cards.header.cards
-            ≡ Ok cut.0.shape) }
-        ensures unit { IfOk result (λ cut. cut.0.hdu.data_unit ≡ take cut.1 rest.now) }
-        ensures len { IfOk result (λ cut. cut.1 ≡ data_length cut.0.shape) }
-        ensures within { IfOk result (λ cut. cut.1 ≤ length rest.now) }
-        ensures work { IfOk result (λ cut. cut.0.reads
-            ≤ cards.reads + open_reads cards.header.cards) }
-        ensures scans { IfOk result (λ cut. IsScanned (block_count cut.0.hdu.data_unit)
-            cut.0.pixel_work) }
-        ensures fault { IfErr result (DataFails primary cards.header.cards rest.now) }
-    {
-        let shape = shape(alloc, &mut cards, primary)?;
-        let unit_len = unit_len(&shape, rest.len())?;
-        let (unit, _) = rest.split_at(unit_len);
-        let data_unit = unit.to_vec(alloc)?;
-        let hdu = Hdu::of(alloc, cards, shape, data_unit)?;
-        Ok((hdu, unit_len))
+        if !has_header(bytes) {
+            return Err(HduFault::NoEnd);
+        }
+        let mut intake = Intake::of(bytes);
+        let mut none: &[u8] = &[];
+        match Hdu::read(alloc, &mut intake, &mut none, primary) {
+            Ok(hdu) => Ok((hdu, bytes.len() - intake.left())),
+            Err(ReadHduFault::Hdu(fault)) => Err(fault),
+            // Nothing is read, and no bytes fail.
+            Err(ReadHduFault::Failed) => unreachable!(),
+        }
     }
 
     // The HDU of these cards, which describe this shape, and of a data unit that is as long.
@@ -207,7 +182,7 @@ impl Hdu {
         }
     }
 
-    /// The HDU that comes next in a source, whose first block had been taken before. Its data unit
+    /// The HDU that comes next in a source. Its data unit
     /// is read into its place.
     ///
     /// A data unit longer than what may still be taken isn't begun, and memory is asked for as its
@@ -217,28 +192,26 @@ impl Hdu {
         alloc: Global,
         intake: &mut Intake,
         source: &mut R,
-        first: Vec<u8>,
         primary: bool,
     ) -> Result<Hdu, ReadHduFault>
-        requires within { length first.items ≤ BLOCK_LEN }
-        requires short { length first.items < BLOCK_LEN
-            → IsSpent (supply (R.state source.old) intake.old) }
-        requires room { intake.old + length first.items ≤ 2 ^ 34 }
-        ensures taken { IfOk result (λ hdu. TakesAfter first.items
+        requires { length intake.old.ahead + intake.old.left ≤ 2 ^ 34 }
+        ensures taken { IfOk result (λ hdu. Takes
             (supply (R.state source.old) intake.old) (supply (R.state source.new) intake.new)
             (hdu_bytes hdu.hdu)) }
         ensures whole { IfOk result (λ hdu. IsHdu primary hdu.hdu) }
+        ensures described { IfOk result (λ hdu. shape_of primary hdu.hdu.header.cards
+            ≡ Ok hdu.shape) }
         ensures work { IfOk result (λ hdu. hdu.reads ≤ open_reads hdu.hdu.header.cards) }
         ensures scans { IfOk result (λ hdu. IsScanned (block_count hdu.hdu.data_unit)
             hdu.pixel_work) }
-        ensures err { IfErr result (HduStops primary first.items
+        ensures err { IfErr result (HduStops primary
             (supply (R.state source.old) intake.old) (supply (R.state source.new) intake.new)) }
     {
         let Described {
             cards,
             shape,
             unit_len,
-        } = read_described(alloc, intake, source, first, primary)?;
+        } = read_described(alloc, intake, source, primary)?;
         let data_unit = match intake.take(alloc, source, unit_len) {
             Ok(data_unit) => data_unit,
             Err(fault) => return Err(ReadHduFault::from(fault)),

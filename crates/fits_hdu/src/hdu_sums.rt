@@ -25,8 +25,7 @@ pub struct HduSums {
 
 impl HduSums {
     ghost use Rattle.std.specs.Prelude.{◌≡◌, ◌+◌, ◌<◌, ◌≤◌, ◌^◌, length, IfOk, IfErr, OnOk};
-    ghost use Rattle.fits_card.specs.declared.card_list.TheConstants.{BLOCK_LEN};
-    ghost use Rattle.fits_card.specs.Intake.{supply, IsSpent};
+    ghost use Rattle.fits_card.specs.Intake.{supply};
     ghost use Rattle.fits_hdu.specs.Reading.{HduStops, TakesHdu};
     ghost use Rattle.fits_hdu.specs.Sums.{AreSumsOf};
 
@@ -36,20 +35,16 @@ impl HduSums {
         alloc: Global,
         intake: &mut Intake,
         source: &mut R,
-        first: Vec<u8>,
         primary: bool,
     ) -> Result<HduSums, ReadHduFault>
-        requires within { length first.items ≤ BLOCK_LEN }
-        requires short { length first.items < BLOCK_LEN
-            → IsSpent (supply (R.state source.old) intake.old) }
-        requires room { intake.old + length first.items ≤ 2 ^ 34 }
+        requires { length intake.old.ahead + intake.old.left ≤ 2 ^ 34 }
         ensures ok { IfOk result (λ it. TakesHdu (AreSumsOf it.datasum it.verdicts)
-            primary first.items
+            primary
             (supply (R.state source.old) intake.old) (supply (R.state source.new) intake.new)) }
-        ensures err { IfErr result (HduStops primary first.items
+        ensures err { IfErr result (HduStops primary
             (supply (R.state source.old) intake.old) (supply (R.state source.new) intake.new)) }
     {
-        let Summed { head, sums } = read_summed(alloc, intake, source, first, primary)?;
+        let Summed { head, sums } = read_summed(alloc, intake, source, primary)?;
         Ok(sums_of(head, sums))
     }
 }

@@ -1,19 +1,18 @@
 //! The cards of a new image, and its header.
 ghost use Rattle.std.specs.Prelude.{◌≡◌, ◌≤◌, ◌<◌, ◌+◌, ◌++◌, true, length, replicate, codes, IsTrue, IfOk, OnOk};
-ghost use Rattle.fits_card.specs.Header.{header_bytes};
+ghost use Rattle.fits_card.specs.Header.{new_header};
 ghost use Rattle.fits_card.specs.Name.{is_settable};
 ghost use Rattle.fits_rules.specs.Shape.{axis_name};
 ghost use Rattle.fits_value.specs.declared.value.Value.TheVariants.{Str};
-ghost use Rattle.fits_hdu.specs.NewImage.{are_axes, axis_cards, image_cards, new_header, offset_cards, written, written_number};
+ghost use Rattle.fits_hdu.specs.NewImage.{are_axes, axis_cards, image_cards, offset_cards, written, written_number};
 
 use crate::kind::Kind;
-use fits_card::{BLOCK_LEN, CARD_LEN, Card, CardList, Name, cut_header};
+use fits_card::{Card, CardList, Name};
 use fits_rules::axis_name;
 use fits_value::{Text, Value, WriteFault, write_value};
 use std::alloc::{AllocError, Global};
 
 /// The header of a new image of this kind and with these axes.
-#[tactic(auto, using(crate::proofs::NewHeaderLemmas::header_steps))]
 pub(crate) fn image_header(alloc: Global, kind: Kind, axes: &[u64]) -> Result<CardList, AllocError>
     requires axes { are_axes axes.now ≡ true }
     ensures header { IfOk result (λ cards. cards.header
@@ -21,39 +20,7 @@ pub(crate) fn image_header(alloc: Global, kind: Kind, axes: &[u64]) -> Result<Ca
     ensures unread { IfOk result (λ cards. cards.reads ≡ 0) }
 {
     let cards = image_cards(alloc, kind, axes)?;
-    let bytes = header_bytes(alloc, cards.as_slice())?;
-    match cut_header(alloc, bytes.as_slice()) {
-        Ok((cards, _)) => Ok(cards),
-        Err(_) => Err(AllocError),
-    }
-}
-
-// The bytes of a header of these cards.
-#[tactic(auto, using(crate::proofs::NewHeaderLemmas::byte_steps), unfolding(fits_card::specs::Header::fill_length))]
-fn header_bytes(alloc: Global, cards: &[Card]) -> Result<Vec<u8>, AllocError>
-    requires { length cards.now ≤ 2000 }
-    ensures { IfOk result (λ bytes. bytes.items ≡ header_bytes (new_header cards.now)) }
-{
-    let size = CARD_LEN * (cards.len() + 1);
-    let fill = (BLOCK_LEN - size % BLOCK_LEN) % BLOCK_LEN;
-    let mut bytes = Vec::with_capacity(alloc, size + fill)?;
-    for k in 0..cards.len() {
-        let card = cards[k];
-        bytes.extend_from_slice(&card.0)?;
-    }
-    bytes.extend_from_slice(b"END")?;
-    push_spaces(&mut bytes, 77 + fill)?;
-    Ok(bytes)
-}
-
-// So many spaces more.
-#[tactic(auto, using(crate::proofs::NewHeaderLemmas::spaces_are))]
-fn push_spaces(bytes: &mut Vec<u8>, count: usize) -> Result<(), AllocError>
-    requires { count ≤ 3000 }
-    ensures { OnOk result (bytes.new.items ≡ bytes.old.items ++ replicate count 32) }
-{
-    let spaces = [b' '; 3000];
-    bytes.extend_from_slice(&spaces[..count])
+    CardList::new(alloc, cards)
 }
 
 // The cards of a new image, in their order.

@@ -1,6 +1,5 @@
 ghost use Rattle.std.specs.Prelude.{◌≡◌, ◌+◌, ◌<◌, ◌≤◌, ◌^◌, length, IfOk, IfErr, OnOk};
-ghost use Rattle.fits_card.specs.declared.card_list.TheConstants.{BLOCK_LEN};
-ghost use Rattle.fits_card.specs.Intake.{supply, IsSpent};
+ghost use Rattle.fits_card.specs.Intake.{supply};
 ghost use Rattle.fits_hdu.specs.Hdu.{HduParts};
 ghost use Rattle.fits_hdu.specs.Reading.{HduStops, TakesHdu};
 
@@ -17,21 +16,17 @@ pub trait Kept {
     /// This is kept of the HDU.
     ghost keeps: { Self → HduParts → Type 0 };
 
-    /// Reads the HDU that comes next in a source, whose first block had been taken before.
+    /// Reads the HDU that comes next in a source.
     fn read_next<R: Source>(
         alloc: Global,
         intake: &mut Intake,
         source: &mut R,
-        first: Vec<u8>,
         primary: bool,
     ) -> Result<Self, ReadHduFault>
-        requires within { length first.items ≤ BLOCK_LEN }
-        requires short { length first.items < BLOCK_LEN
-            → IsSpent (supply (R.state source.old) intake.old) }
-        requires room { intake.old + length first.items ≤ 2 ^ 34 }
-        ensures ok { IfOk result (λ kept. TakesHdu (keeps kept) primary first.items
+        requires { length intake.old.ahead + intake.old.left ≤ 2 ^ 34 }
+        ensures ok { IfOk result (λ kept. TakesHdu (keeps kept) primary
             (supply (R.state source.old) intake.old) (supply (R.state source.new) intake.new)) }
-        ensures err { IfErr result (HduStops primary first.items
+        ensures err { IfErr result (HduStops primary
             (supply (R.state source.old) intake.old) (supply (R.state source.new) intake.new)) };
 }
 
@@ -45,10 +40,9 @@ impl Kept for Hdu {
         alloc: Global,
         intake: &mut Intake,
         source: &mut R,
-        first: Vec<u8>,
         primary: bool,
     ) -> Result<Hdu, ReadHduFault> {
-        Hdu::read(alloc, intake, source, first, primary)
+        Hdu::read(alloc, intake, source, primary)
     }
 }
 
@@ -61,10 +55,9 @@ impl Kept for Outline {
         alloc: Global,
         intake: &mut Intake,
         source: &mut R,
-        first: Vec<u8>,
         primary: bool,
     ) -> Result<Outline, ReadHduFault> {
-        Outline::read(alloc, intake, source, first, primary)
+        Outline::read(alloc, intake, source, primary)
     }
 }
 
@@ -77,10 +70,9 @@ impl Kept for Findings {
         alloc: Global,
         intake: &mut Intake,
         source: &mut R,
-        first: Vec<u8>,
         primary: bool,
     ) -> Result<Findings, ReadHduFault> {
-        Findings::read(alloc, intake, source, first, primary)
+        Findings::read(alloc, intake, source, primary)
     }
 }
 
@@ -93,9 +85,8 @@ impl Kept for HduSums {
         alloc: Global,
         intake: &mut Intake,
         source: &mut R,
-        first: Vec<u8>,
         primary: bool,
     ) -> Result<HduSums, ReadHduFault> {
-        HduSums::read(alloc, intake, source, first, primary)
+        HduSums::read(alloc, intake, source, primary)
     }
 }

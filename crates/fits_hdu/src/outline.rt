@@ -20,8 +20,7 @@ pub struct Outline {
 
 impl Outline {
     ghost use Rattle.std.specs.Prelude.{◌≡◌, ◌+◌, ◌<◌, ◌≤◌, ◌^◌, length, IfOk, IfErr, OnOk};
-    ghost use Rattle.fits_card.specs.declared.card_list.TheConstants.{BLOCK_LEN};
-    ghost use Rattle.fits_card.specs.Intake.{supply, IsSpent};
+    ghost use Rattle.fits_card.specs.Intake.{supply};
     ghost use Rattle.fits_hdu.specs.Reading.{HduStops, IsOutlined, TakesHdu};
 
     /// The outline of the HDU that comes next in a source, as `Hdu::read`. Its data unit is
@@ -31,25 +30,21 @@ impl Outline {
         alloc: Global,
         intake: &mut Intake,
         source: &mut R,
-        first: Vec<u8>,
         primary: bool,
     ) -> Result<Outline, ReadHduFault>
-        requires within { length first.items ≤ BLOCK_LEN }
-        requires short { length first.items < BLOCK_LEN
-            → IsSpent (supply (R.state source.old) intake.old) }
-        requires room { intake.old + length first.items ≤ 2 ^ 34 }
+        requires { length intake.old.ahead + intake.old.left ≤ 2 ^ 34 }
         ensures ok { IfOk result (λ it. TakesHdu
             (λ hdu. IsOutlined hdu it.card_count it.shape it.header_len it.data_len)
-            primary first.items
+            primary
             (supply (R.state source.old) intake.old) (supply (R.state source.new) intake.new)) }
-        ensures err { IfErr result (HduStops primary first.items
+        ensures err { IfErr result (HduStops primary
             (supply (R.state source.old) intake.old) (supply (R.state source.new) intake.new)) }
     {
         let Described {
             cards,
             shape,
             unit_len,
-        } = read_past(alloc, intake, source, first, primary)?;
+        } = read_past(alloc, intake, source, primary)?;
         Ok(Outline {
             card_count: cards.len(),
             shape,

@@ -13,7 +13,6 @@ pub mod ListEditLemmas
 pub mod MakingLemmas
 pub mod NameLemmas
 pub mod OffsetLemmas
-pub mod OpeningLemmas
 pub mod OrderLemmas
 pub mod PixelEditLemmas
 pub mod ProblemLemmas

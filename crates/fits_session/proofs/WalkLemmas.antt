@@ -1,14 +1,14 @@
 -- Steps of a walk over the HDUs of a source.
-use Rattle.std.proofs.Common.{◌≡◌, ◌⊎◌, ℕ, ◌+◌, ◌<◌, ◌≤◌, Bool, true, false, List, [], ◌∷◌, ◌++◌, length, take, refl, subst, ap, sym, ◌∙◌, append_assoc, arith, rules, inl, inr}
+use Rattle.std.proofs.Common.{◌≡◌, ◌⊎◌, ℕ, ◌+◌, ◌<◌, ◌≤◌, Bool, true, false, List, [], ◌∷◌, ◌++◌, length, take, refl, subst, ap, sym, ◌∙◌, arith, rules, inl, inr, Option, Some}
 use Rattle.std.specs.Prelude.{IfSome, nat_eq, not, codes}
 use Rattle.std.specs.Str.{bytes_eq}
 use Rattle.std.specs.List.{starts_with}
 use Rattle.std.proofs.lemmas.Bool.{cases_lt, false≢true}
 use Rattle.std.proofs.lemmas.List.{append-nil, length-append, take_all, take-append-le}
 use Rattle.std.proofs.lemmas.List.Concat.{flat_map-append}
-use Rattle.fits_card.specs.Intake.{supply, Finds, Gives, IsSpent, Supply, Takes, TakesAfter, Tells}
-use Rattle.fits_card.specs.Stream.{SourceState, StaysQuiet}
-use Rattle.fits_card.proofs.SightLemmas.{finds_begun, finds_given, finds_next, finds_spent, long_given, past_limit, rest_given, takes_after_none, takes_before, takes_more, tells_after, within_limit}
+use Rattle.fits_card.specs.Intake.{supply, Finds, Gives, GivesAll, IntakeState, IsLimited, IsOver, IsSpent, Supply, Takes, TellsAll}
+use Rattle.fits_card.specs.Stream.{FailsOnce, SourceState, StaysQuiet}
+use Rattle.fits_card.proofs.SightLemmas.{finds_begun, finds_given, finds_next, finds_spent, long_given, no_bytes, past_limit, rest_given, takes_and_holds, takes_fewer, takes_more, tells_after, within_limit}
 use Rattle.fits_hdu.specs.Hdu.{HduParts, HasHduFault, IsHdu, hdu_bytes}
 use Rattle.fits_hdu.specs.Reading.{HduStops, TakesHdu}
 use Rattle.fits_hdu.specs.State.{HduState}
@@ -18,8 +18,9 @@ use Rattle.fits_hdu.specs.declared.read_fault.ReadHduFault.{ReadHduFault}
 use Rattle.fits_hdu.specs.declared.read_fault.ReadHduFault.TheVariants as read_hdu
 use Rattle.fits_session.specs.File.{FileParts, begins_extension, goes_on, is_first, is_followed, joined_hdus, IsFile, IsFileOf, IsFrontOf}
 use Rattle.fits_session.specs.declared.limits.TheConstants.{FILE_LIMIT, HDU_LIMIT}
-use Rattle.fits_session.specs.Opening.{BeginsAsFits, HasOpenFault, open_fault_of}
-use Rattle.fits_session.specs.Reading.{file_fault_of, is_of_bytes, IsKeptOf, IsWalkOf, KeepsEach, NextBegins, ReadStops, RestStops, Walked, WalkStops}
+use Rattle.fits_session.specs.Opening.{BeginsAsFits, HasOpenFault, OpenFails, open_fault_of}
+use Rattle.fits_session.specs.declared.open_fault.OpenFault.{OpenFault}
+use Rattle.fits_session.specs.Reading.{file_fault_of, is_of_bytes, IsKeptOf, IsWalkOf, KeepsEach, NextBegins, ReadStops, RestStops, SupplyStops, Walked, WalkStops}
 use Rattle.fits_session.specs.Session.{file_of, hdus_of, state_of}
 use Rattle.fits_session.specs.declared.open_fault.OpenFault.TheVariants.{NotFits, NoEnd, BadShape, ShortData, TooLarge, Memory}
 use Rattle.fits_session.specs.declared.read_fault.ReadFileFault.{ReadFileFault}
@@ -94,26 +95,25 @@ first_of keeps (l ∷ ls) [] p = absurd p
 first_of keeps (l ∷ ls) (v ∷ vs) p = not_zero (length (l ∷ ls)) (omega arith)
 
 -- no HDU is walked yet
-pub walked_none : {K : Type 0} (keeps : K → HduParts → Type 0) (ks : List K) (first : List ℕ) (a b : Supply) → ks ≡ [] → Takes a b first → Walked keeps ks first a b
-walked_none keeps ks first a b none p = rw none (record { hdus = []; each = tt; front = front_none []; taken = p })
+pub walked_none : {K : Type 0} (keeps : K → HduParts → Type 0) (ks : List K) (a b : Supply) → ks ≡ [] → Takes a b [] → Walked keeps ks a b
+walked_none keeps ks a b none p = rw none (record { hdus = []; each = tt; front = front_none []; taken = p })
 
--- one more is, and the first block of what follows it is taken
-pub walked_more : {K : Type 0} (keeps : K → HduParts → Type 0) (ks new : List K) (k : K) (first next : List ℕ) (a b c d : Supply) (primary : Bool) → Walked keeps ks first a b
-    → TakesHdu (keeps k) primary first b c → primary ≡ nat_eq (length ks) 0 → new ≡ ks ++ k ∷ [] → Takes c d next → Walked keeps new next a d
-walked_more keeps ks new k first next a b c d primary p q at is r =
+-- one more is, and the first block of what follows it is held
+pub walked_more : {K : Type 0} (keeps : K → HduParts → Type 0) (ks new : List K) (k : K) (a b c d : Supply) (primary : Bool) → Walked keeps ks a b
+    → TakesHdu (keeps k) primary b c → primary ≡ nat_eq (length ks) 0 → new ≡ ks ++ k ∷ [] → Takes c d [] → Walked keeps new a d
+walked_more keeps ks new k a b c d primary p q at is r =
     let whole : IsHdu (is_first p.hdus) q.hdu = subst (λ (b' : Bool). IsHdu b' q.hdu) (at ∙ first_of keeps ks p.hdus p.each) q.whole in
-    let taken : Takes a c (joined_hdus p.hdus ++ hdu_bytes q.hdu) = takes_before a b c (joined_hdus p.hdus) first (hdu_bytes q.hdu) p.taken q.taken in
+    let taken : Takes a c (joined_hdus p.hdus ++ hdu_bytes q.hdu) = takes_more a b c (joined_hdus p.hdus) (hdu_bytes q.hdu) p.taken q.taken in
     rw is (record {
       hdus = p.hdus ++ q.hdu ∷ [];
       each = each_push keeps ks p.hdus k q.hdu p.each q.kept;
       front = front_next p.hdus q.hdu p.front whole;
-      taken = rw (joined_push p.hdus q.hdu) (takes_more a c d (joined_hdus p.hdus ++ hdu_bytes q.hdu) next taken r);
+      taken = rw (joined_push p.hdus q.hdu) (takes_and_holds a c d (joined_hdus p.hdus ++ hdu_bytes q.hdu) taken r);
     })
 
 -- less is left to walk over
-pub walk_shorter : (keeps : HduParts → Type 0) (primary : Bool) (first next : List ℕ) (b c d : Supply) → TakesHdu keeps primary first b c → Takes c d next → d.left + length next < b.left + length first
-walk_shorter keeps primary first next b c d q r =
-    omega (arith, hdu_long primary q.hdu q.whole, ap length q.taken.joined, length-append first q.taken.more, q.taken.taken.count, r.count)
+pub walk_shorter : (keeps : HduParts → Type 0) (primary : Bool) (b c d : Supply) → TakesHdu keeps primary b c → Takes c d [] → length d.ahead + d.left < length b.ahead + b.left
+walk_shorter keeps primary b c d q r = omega (arith, hdu_long primary q.hdu q.whole, takes_fewer b c (hdu_bytes q.hdu) q.taken, takes_fewer c d [] r)
 
 -- how the next one begins
 pub next_first : {K : Type 0} (ks : List K) (first : List ℕ) → ks ≡ [] → starts_with nat_eq first (codes "SIMPLE  ") ≡ true → NextBegins (nat_eq (length ks) 0) first
@@ -130,93 +130,97 @@ next_on (u ∷ us) first s begins p =
     (extension_more first s begins, front_begins (joined_hdus (u ∷ us) ++ (first ++ s)) (u ∷ us) (first ++ s) (front_rest (u ∷ us) (first ++ s) p) (omega arith))
 
 -- a fault of the next HDU is one of all that may be taken
-fails_at : (us : List HduParts) (first s : List ℕ) (fault : HduFault) → length ((joined_hdus us ++ first) ++ s) ≤ FILE_LIMIT → IsFrontOf (joined_hdus us) us [] → NextBegins (is_first us) first → length us < HDU_LIMIT
-    → HasHduFault (is_first us) (first ++ s) fault → HasOpenFault ((joined_hdus us ++ first) ++ s) (open_fault_of fault (length us + 1))
+fails_at : (us : List HduParts) (first s : List ℕ) (fault : HduFault) → length (joined_hdus us ++ (first ++ s)) ≤ FILE_LIMIT → IsFrontOf (joined_hdus us) us [] → NextBegins (is_first us) first → length us < HDU_LIMIT
+    → HasHduFault (is_first us) (first ++ s) fault → HasOpenFault (joined_hdus us ++ (first ++ s)) (open_fault_of fault (length us + 1))
 fails_at us first s fault size front begins few fails =
-    let file : List ℕ = joined_hdus us ++ (first ++ s) in
     let on = next_on us first s begins front in
-    let same : (joined_hdus us ++ first) ++ s ≡ file = append_assoc (joined_hdus us) first s in
-    subst (λ (t : List ℕ). HasOpenFault t (open_fault_of fault (length us + 1))) (sym same)
-    (fault_here file us (first ++ s) fault (omega (arith, size, ap length same)) on.1 (front_rest us (first ++ s) front) on.0 few fails)
+    fault_here (joined_hdus us ++ (first ++ s)) us (first ++ s) fault size on.1 (front_rest us (first ++ s) front) on.0 few fails
+
+-- no more bytes are ahead and in sight than may be taken
+few_after : (a b : Supply) (bytes s : List ℕ) → Takes a b bytes → length a.ahead + a.left ≤ FILE_LIMIT → length s ≤ b.left → length (bytes ++ (b.ahead ++ s)) ≤ FILE_LIMIT
+few_after a b bytes s p limit le = omega (arith, limit, takes_fewer a b bytes p, le, length-append bytes (b.ahead ++ s), length-append b.ahead s)
 
 -- a fault of the next HDU is the file's
-stops_at : (us : List HduParts) (first : List ℕ) (a b c : Supply) (fault : HduFault) → a.left ≤ FILE_LIMIT → Takes a b (joined_hdus us ++ first) → IsFrontOf (joined_hdus us) us [] → NextBegins (is_first us) first → length us < HDU_LIMIT
-    → Finds b c (λ s. HasHduFault (is_first us) (first ++ s) fault) → Finds a c (λ bytes. HasOpenFault bytes (open_fault_of fault (length us + 1)))
-stops_at us first a b c fault limit p front begins few f =
-    finds_next (λ s. HasHduFault (is_first us) (first ++ s) fault) (λ bytes. HasOpenFault bytes (open_fault_of fault (length us + 1))) a b c (joined_hdus us ++ first) p f
-    (λ s le fails. fails_at us first s fault (omega (arith, limit, p.count, le, length-append (joined_hdus us ++ first) s)) front begins few fails)
+stops_at : (us : List HduParts) (a b c : Supply) (fault : HduFault) → length a.ahead + a.left ≤ FILE_LIMIT → Takes a b (joined_hdus us) → IsFrontOf (joined_hdus us) us [] → NextBegins (is_first us) b.ahead → length us < HDU_LIMIT
+    → Finds b c (λ s. HasHduFault (is_first us) s fault) → Finds a c (λ bytes. HasOpenFault bytes (open_fault_of fault (length us + 1)))
+stops_at us a b c fault limit p front begins few f =
+    finds_next (λ s. HasHduFault (is_first us) s fault) (λ bytes. HasOpenFault bytes (open_fault_of fault (length us + 1))) a b c (joined_hdus us) p f
+    (λ s le fails. fails_at us b.ahead s fault (few_after a b (joined_hdus us) s p limit le) front begins few fails)
 
 -- so is whatever ended its reading
-walk_stops : (us : List HduParts) (first : List ℕ) (a b c : Supply) (fault : ReadHduFault) → a.left ≤ FILE_LIMIT → Takes a b (joined_hdus us ++ first) → IsFrontOf (joined_hdus us) us [] → NextBegins (is_first us) first → length us < HDU_LIMIT
-    → HduStops (is_first us) first b c fault → WalkStops a c (file_fault_of fault (length us + 1))
-walk_stops us first a b c (read_hdu.Hdu hdu_fault.NoEnd) limit p front begins few stops = stops_at us first a b c hdu_fault.NoEnd limit p front begins few stops
-walk_stops us first a b c (read_hdu.Hdu (hdu_fault.BadShape place)) limit p front begins few stops = stops_at us first a b c (hdu_fault.BadShape place) limit p front begins few stops
-walk_stops us first a b c (read_hdu.Hdu hdu_fault.ShortData) limit p front begins few stops = stops_at us first a b c hdu_fault.ShortData limit p front begins few stops
-walk_stops us first a b c (read_hdu.Hdu hdu_fault.Memory) limit p front begins few stops = stops ∙ p.read.quiet
-walk_stops us first a b c read_hdu.Failed limit p front begins few stops = omega (arith, stops, p.read.quiet)
+walk_stops : (us : List HduParts) (a b c : Supply) (fault : ReadHduFault) → length a.ahead + a.left ≤ FILE_LIMIT → Takes a b (joined_hdus us) → IsFrontOf (joined_hdus us) us [] → NextBegins (is_first us) b.ahead → length us < HDU_LIMIT
+    → HduStops (is_first us) b c fault → WalkStops a c (file_fault_of fault (length us + 1))
+walk_stops us a b c (read_hdu.Hdu hdu_fault.NoEnd) limit p front begins few stops = stops_at us a b c hdu_fault.NoEnd limit p front begins few stops
+walk_stops us a b c (read_hdu.Hdu (hdu_fault.BadShape place)) limit p front begins few stops = stops_at us a b c (hdu_fault.BadShape place) limit p front begins few stops
+walk_stops us a b c (read_hdu.Hdu hdu_fault.ShortData) limit p front begins few stops = stops_at us a b c hdu_fault.ShortData limit p front begins few stops
+walk_stops us a b c (read_hdu.Hdu hdu_fault.Memory) limit p front begins few stops = stops ∙ p.drawn.read.quiet
+walk_stops us a b c read_hdu.Failed limit p front begins few stops = omega (arith, stops, p.drawn.read.quiet)
 
 -- so the walk stops
-pub stops_by_hdu : {K : Type 0} (keeps : K → HduParts → Type 0) (ks : List K) (first : List ℕ) (a b c : Supply) (h : ℕ) (primary : Bool) (fault : ReadHduFault) → a.left ≤ FILE_LIMIT → Walked keeps ks first a b → NextBegins (nat_eq (length ks) 0) first → length ks < HDU_LIMIT
-    → primary ≡ nat_eq (length ks) 0 → h ≡ length ks + 1 → HduStops primary first b c fault → WalkStops a c (file_fault_of fault h)
-stops_by_hdu keeps ks first a b c h primary fault limit p begins few at is stops =
+pub stops_by_hdu : {K : Type 0} (keeps : K → HduParts → Type 0) (ks : List K) (a b c : Supply) (h : ℕ) (primary : Bool) (fault : ReadHduFault) → length a.ahead + a.left ≤ FILE_LIMIT → Walked keeps ks a b → NextBegins (nat_eq (length ks) 0) b.ahead → length ks < HDU_LIMIT
+    → primary ≡ nat_eq (length ks) 0 → h ≡ length ks + 1 → HduStops primary b c fault → WalkStops a c (file_fault_of fault h)
+stops_by_hdu keeps ks a b c h primary fault limit p begins few at is stops =
     let count : length ks ≡ length p.hdus = each_length keeps ks p.hdus p.each in
     let place : h ≡ length p.hdus + 1 = omega (arith, is, count) in
     let same_first : nat_eq (length ks) 0 ≡ is_first p.hdus = first_of keeps ks p.hdus p.each in
-    rw place (walk_stops p.hdus first a b c fault limit p.taken p.front (subst (λ (b' : Bool). NextBegins b' first) same_first begins) (omega (arith, few, count))
-    (subst (λ (b' : Bool). HduStops b' first b c fault) (at ∙ same_first) stops))
+    rw place (walk_stops p.hdus a b c fault limit p.taken p.front (subst (λ (b' : Bool). NextBegins b' b.ahead) same_first begins) (omega (arith, few, count))
+    (subst (λ (b' : Bool). HduStops b' b c fault) (at ∙ same_first) stops))
+
+-- a call of the source failed after HDUs
+pub walk_failed : {K : Type 0} (keeps : K → HduParts → Type 0) (ks : List K) (a b : Supply) (c : SourceState) → Walked keeps ks a b → FailsOnce b.source c → FailsOnce a.source c
+walk_failed keeps ks a b c p failed = omega (arith, failed, p.taken.drawn.read.quiet)
 
 -- the bytes don't begin as a file does
-not_fits_begun : (first : List ℕ) (a b : Supply) → a.left ≤ FILE_LIMIT → Takes a b first → starts_with nat_eq first (codes "SIMPLE  ") ≡ false → 8 ≤ length first → Finds a b (λ bytes. HasOpenFault bytes NotFits)
-not_fits_begun first a b limit p e many =
-    finds_begun (λ bytes. HasOpenFault bytes NotFits) a b first p
-    (λ s le. (omega (arith, limit, p.count, le, length-append first s), λ begins. let no : true ≡ false = sym begins ∙ begins_same (codes "SIMPLE  ") first s 8 (inr many) ∙ e in cc))
+not_fits_begun : (a b : Supply) → length a.ahead + a.left ≤ FILE_LIMIT → Takes a b [] → starts_with nat_eq b.ahead (codes "SIMPLE  ") ≡ false → 8 ≤ length b.ahead → Finds a b (λ bytes. HasOpenFault bytes NotFits)
+not_fits_begun a b limit p e many =
+    finds_begun (λ bytes. HasOpenFault bytes NotFits) a b [] p
+    (λ s le. (few_after a b [] s p limit le, λ begins. let no : true ≡ false = sym begins ∙ begins_same (codes "SIMPLE  ") b.ahead s 8 (inr many) ∙ e in cc))
 
 -- bytes that don't begin as a file, and no more of them
-not_fits_spent : (first : List ℕ) (a b : Supply) → a.left ≤ FILE_LIMIT → Takes a b first → starts_with nat_eq first (codes "SIMPLE  ") ≡ false → IsSpent b → Finds a b (λ bytes. HasOpenFault bytes NotFits)
-not_fits_spent first a b limit p e spent =
-    finds_spent (λ bytes. HasOpenFault bytes NotFits) a b first p spent (omega (arith, limit, p.count), λ begins. let no : true ≡ false = sym begins ∙ e in cc)
+not_fits_spent : (a b : Supply) → length a.ahead + a.left ≤ FILE_LIMIT → Takes a b [] → starts_with nat_eq b.ahead (codes "SIMPLE  ") ≡ false → IsSpent b → Finds a b (λ bytes. HasOpenFault bytes NotFits)
+not_fits_spent a b limit p e spent =
+    finds_spent (λ bytes. HasOpenFault bytes NotFits) a b [] p spent (omega (arith, limit, takes_fewer a b [] p), λ begins. let no : true ≡ false = sym begins ∙ e in cc)
 
 -- a file that doesn't begin as one stops the walk
-pub stops_at_first : (first : List ℕ) (a b : Supply) → a.left ≤ FILE_LIMIT → Takes a b first → (length first < 2880 → IsSpent b) → starts_with nat_eq first (codes "SIMPLE  ") ≡ false → Finds a b (λ bytes. HasOpenFault bytes NotFits)
-stops_at_first first a b limit p short e =
-    elim (cases_lt (length first) 2880) [ inl few ↦ not_fits_spent first a b limit p e (short few) | inr many ↦ not_fits_begun first a b limit p e (omega (arith, many)) ]
+pub stops_at_first : (a b : Supply) → length a.ahead + a.left ≤ FILE_LIMIT → Takes a b [] → (length b.ahead < 2880 → IsSpent b) → starts_with nat_eq b.ahead (codes "SIMPLE  ") ≡ false → Finds a b (λ bytes. HasOpenFault bytes NotFits)
+stops_at_first a b limit p short e =
+    elim (cases_lt (length b.ahead) 2880) [ inl few ↦ not_fits_spent a b limit p e (short few) | inr many ↦ not_fits_begun a b limit p e (omega (arith, many)) ]
 
 -- an extension begins after as many HDUs as a file may have
-pub stops_full : {K : Type 0} (keeps : K → HduParts → Type 0) (ks : List K) (first : List ℕ) (a b : Supply) → Walked keeps ks first a b → length ks ≡ HDU_LIMIT → begins_extension first ≡ true → Finds a b (λ bytes. HasOpenFault bytes TooLarge)
-stops_full keeps ks first a b p all e =
-    finds_begun (λ bytes. HasOpenFault bytes TooLarge) a b (joined_hdus p.hdus ++ first) p.taken
-    (λ s le. subst (λ (t : List ℕ). HasOpenFault t TooLarge) (sym (append_assoc (joined_hdus p.hdus) first s))
-    (inr (record { before = p.hdus; rest = first ++ s; front = front_rest p.hdus (first ++ s) p.front; all = omega (arith, all, each_length keeps ks p.hdus p.each); more = extension_more first s e })))
+pub stops_full : {K : Type 0} (keeps : K → HduParts → Type 0) (ks : List K) (a b : Supply) → Walked keeps ks a b → length ks ≡ HDU_LIMIT → begins_extension b.ahead ≡ true → Finds a b (λ bytes. HasOpenFault bytes TooLarge)
+stops_full keeps ks a b p all e =
+    finds_begun (λ bytes. HasOpenFault bytes TooLarge) a b (joined_hdus p.hdus) p.taken
+    (λ s le. inr (record { before = p.hdus; rest = b.ahead ++ s; front = front_rest p.hdus (b.ahead ++ s) p.front; all = omega (arith, all, each_length keeps ks p.hdus p.each); more = extension_more b.ahead s e }))
 
-pub ruleset walk_steps = (walked_none, walked_more, walk_shorter, next_first, next_more, stops_at_first)
+pub ruleset walk_steps = (walked_none, walked_more, walk_shorter, next_first, next_more, walk_failed)
 
 -- what is left is more than may be taken, or a call failed: so of all
-pub ends_before : (a : SourceState) (b : Supply) (c : SourceState) (bytes : List ℕ) (before : ReadFileFault) → Takes (supply a FILE_LIMIT) b bytes → RestStops b c before → ReadStops a c before
-ends_before a b c bytes (Open NotFits) p stops = absurd stops
-ends_before a b c bytes (Open (NoEnd h)) p stops = absurd stops
-ends_before a b c bytes (Open (BadShape h place)) p stops = absurd stops
-ends_before a b c bytes (Open (ShortData h)) p stops = absurd stops
-ends_before a b c bytes (Open TooLarge) p stops =
-    let all = long_given (supply a FILE_LIMIT) b bytes p stops.0 in ((all.0, all.1, inl all.2), stops.1 ∙ p.read.quiet)
-ends_before a b c bytes (Open Memory) p stops = absurd stops
-ends_before a b c bytes Failed p stops = omega (arith, stops, p.read.quiet)
+pub ends_before : (a b : Supply) (c : SourceState) (bytes : List ℕ) (before : ReadFileFault) → IsLimited FILE_LIMIT a → Takes a b bytes → RestStops b c before → SupplyStops a c before
+ends_before a b c bytes (Open NotFits) far p stops = absurd stops
+ends_before a b c bytes (Open (NoEnd h)) far p stops = absurd stops
+ends_before a b c bytes (Open (BadShape h place)) far p stops = absurd stops
+ends_before a b c bytes (Open (ShortData h)) far p stops = absurd stops
+ends_before a b c bytes (Open TooLarge) far p stops =
+    let all = long_given FILE_LIMIT a b bytes p far stops.0 in ((all.0, all.1, inl all.2), stops.1 ∙ p.drawn.read.quiet)
+ends_before a b c bytes (Open Memory) far p stops = absurd stops
+ends_before a b c bytes Failed far p stops = omega (arith, stops, p.drawn.read.quiet)
 
 -- a fault of what was taken
-pub settled_before : (a : SourceState) (b : Supply) (c : SourceState) (fault before : ReadFileFault) → is_of_bytes fault ≡ true → WalkStops (supply a FILE_LIMIT) b fault → RestStops b c before → ReadStops a c before
-settled_before a b c (Open NotFits) before is p q = ends_before a b c p.bytes before p.taken q
-settled_before a b c (Open (NoEnd h)) before is p q = ends_before a b c p.bytes before p.taken q
-settled_before a b c (Open (BadShape h place)) before is p q = ends_before a b c p.bytes before p.taken q
-settled_before a b c (Open (ShortData h)) before is p q = ends_before a b c p.bytes before p.taken q
-settled_before a b c (Open TooLarge) before is p q = ends_before a b c p.bytes before p.taken q
-settled_before a b c (Open Memory) before is p q = absurd (false≢true is)
-settled_before a b c Failed before is p q = absurd (false≢true is)
+pub settled_before : (a b : Supply) (c : SourceState) (fault before : ReadFileFault) → is_of_bytes fault ≡ true → IsLimited FILE_LIMIT a → WalkStops a b fault → RestStops b c before → SupplyStops a c before
+settled_before a b c (Open NotFits) before is far p q = ends_before a b c p.bytes before far p.taken q
+settled_before a b c (Open (NoEnd h)) before is far p q = ends_before a b c p.bytes before far p.taken q
+settled_before a b c (Open (BadShape h place)) before is far p q = ends_before a b c p.bytes before far p.taken q
+settled_before a b c (Open (ShortData h)) before is far p q = ends_before a b c p.bytes before far p.taken q
+settled_before a b c (Open TooLarge) before is far p q = ends_before a b c p.bytes before far p.taken q
+settled_before a b c (Open Memory) before is far p q = absurd (false≢true is)
+settled_before a b c Failed before is far p q = absurd (false≢true is)
 
 -- what was found of what was taken is so of all where no more is left
-finds_all : (P : List ℕ → Type 0) (a : SourceState) (b : Supply) (c : SourceState) → Finds (supply a FILE_LIMIT) b P → IfSome b.source.remaining (λ ys. length ys ≤ b.left) → StaysQuiet b.source c → Gives a P × StaysQuiet a c
-finds_all P a b c p few quiet = (finds_given P (supply a FILE_LIMIT) b p few, quiet ∙ p.taken.read.quiet)
+finds_all : (P : List ℕ → Type 0) (a b : Supply) (c : SourceState) → Finds a b P → IfSome b.source.remaining (λ ys. length ys ≤ b.left) → StaysQuiet b.source c → GivesAll a P × StaysQuiet a.source c
+finds_all P a b c p few quiet = (finds_given P a b p few, quiet ∙ p.taken.drawn.read.quiet)
 
 -- so is a fault
-pub settled_here : (a : SourceState) (b : Supply) (c : SourceState) (fault : ReadFileFault) → is_of_bytes fault ≡ true → WalkStops (supply a FILE_LIMIT) b fault → IfSome b.source.remaining (λ ys. length ys ≤ b.left) → StaysQuiet b.source c → ReadStops a c fault
+pub settled_here : (a b : Supply) (c : SourceState) (fault : ReadFileFault) → is_of_bytes fault ≡ true → WalkStops a b fault → IfSome b.source.remaining (λ ys. length ys ≤ b.left) → StaysQuiet b.source c → SupplyStops a c fault
 settled_here a b c (Open NotFits) is p few quiet = finds_all (λ s. HasOpenFault s NotFits) a b c p few quiet
 settled_here a b c (Open (NoEnd h)) is p few quiet = finds_all (λ s. HasOpenFault s (NoEnd h)) a b c p few quiet
 settled_here a b c (Open (BadShape h place)) is p few quiet = finds_all (λ s. HasOpenFault s (BadShape h place)) a b c p few quiet
@@ -226,14 +230,47 @@ settled_here a b c (Open Memory) is p few quiet = absurd (false≢true is)
 settled_here a b c Failed is p few quiet = absurd (false≢true is)
 
 -- memory was refused, or a call failed
-pub settled_early : (a b : SourceState) (left : ℕ) (fault : ReadFileFault) → is_of_bytes fault ≡ false → WalkStops (supply a FILE_LIMIT) (supply b left) fault → ReadStops a b fault
-settled_early a b left (Open NotFits) early p = absurd (false≢true (sym early))
-settled_early a b left (Open (NoEnd h)) early p = absurd (false≢true (sym early))
-settled_early a b left (Open (BadShape h place)) early p = absurd (false≢true (sym early))
-settled_early a b left (Open (ShortData h)) early p = absurd (false≢true (sym early))
-settled_early a b left (Open TooLarge) early p = absurd (false≢true (sym early))
-settled_early a b left (Open Memory) early p = p
-settled_early a b left Failed early p = p
+pub settled_early : (a b : Supply) (fault : ReadFileFault) → is_of_bytes fault ≡ false → WalkStops a b fault → SupplyStops a b.source fault
+settled_early a b (Open NotFits) early p = absurd (false≢true (sym early))
+settled_early a b (Open (NoEnd h)) early p = absurd (false≢true (sym early))
+settled_early a b (Open (BadShape h place)) early p = absurd (false≢true (sym early))
+settled_early a b (Open (ShortData h)) early p = absurd (false≢true (sym early))
+settled_early a b (Open TooLarge) early p = absurd (false≢true (sym early))
+settled_early a b (Open Memory) early p = p
+settled_early a b Failed early p = p
+
+-- none of a source is ahead: what was found of all is so of what it has
+source_stops : (a c : SourceState) (fault : ReadFileFault) → SupplyStops (record { ahead = []; source = a; left = FILE_LIMIT }) c fault → ReadStops a c fault
+source_stops a c (Open NotFits) p = p
+source_stops a c (Open (NoEnd h)) p = p
+source_stops a c (Open (BadShape h place)) p = p
+source_stops a c (Open (ShortData h)) p = p
+source_stops a c (Open TooLarge) p = p
+source_stops a c (Open Memory) p = p
+source_stops a c Failed p = p
+
+-- so of an intake that begins
+pub read_stops : (a c : SourceState) (i : IntakeState) (fault : ReadFileFault) → i ≡ record { ahead = []; left = FILE_LIMIT } → SupplyStops (supply a i) c fault → ReadStops a c fault
+read_stops a c i fault is p = source_stops a c fault (subst (λ (j : IntakeState). SupplyStops (supply a j) c fault) is p)
+
+-- and what all of them are
+pub read_given : (P : List ℕ → Type 0) (a : SourceState) (i : IntakeState) → i ≡ record { ahead = []; left = FILE_LIMIT } → GivesAll (supply a i) P → Gives a P
+read_given P a i is p = subst (λ (j : IntakeState). GivesAll (supply a j) P) is p
+
+-- all bytes were ahead: what is so of all is so of them
+pub open_given : (P : List ℕ → Type 0) (f : List ℕ) (a : Supply) → a.ahead ≡ f → a.source.remaining ≡ Some [] → GivesAll a P → P f
+open_given P f a are none p =
+    let told : a.ahead ++ [] ≡ p.0 = subst (λ (left : Option (List ℕ)). IfSome left (λ xs. a.ahead ++ xs ≡ p.0)) none p.1 in
+    subst P (sym told ∙ (append-nil a.ahead ∙ are)) p.2
+
+-- so of a fault
+pub open_stops : (f : List ℕ) (a : Supply) (c : SourceState) (fault : OpenFault) → a.ahead ≡ f → a.source.remaining ≡ Some [] → SupplyStops a c (Open fault) → OpenFails f fault
+open_stops f a c NotFits are none p = open_given (λ s. HasOpenFault s NotFits) f a are none p.0
+open_stops f a c (NoEnd h) are none p = open_given (λ s. HasOpenFault s (NoEnd h)) f a are none p.0
+open_stops f a c (BadShape h place) are none p = open_given (λ s. HasOpenFault s (BadShape h place)) f a are none p.0
+open_stops f a c (ShortData h) are none p = open_given (λ s. HasOpenFault s (ShortData h)) f a are none p.0
+open_stops f a c TooLarge are none p = open_given (λ s. HasOpenFault s TooLarge) f a are none p.0
+open_stops f a c Memory are none p = tt
 
 -- HDUs and what follows them are a file
 pub file_walked : {K : Type 0} (keeps : K → HduParts → Type 0) (ks : List K) (us : List HduParts) (tail : List ℕ) → KeepsEach keeps ks us → IsFrontOf (joined_hdus us) us [] → 0 < length ks → length ks ≤ HDU_LIMIT → begins_extension tail ≡ false → length (joined_hdus us ++ tail) ≤ FILE_LIMIT
@@ -265,23 +302,20 @@ followed_by [] s b short none = rw (none (short (omega arith))) refl
 followed_by (byte ∷ bytes) s b short none = followed (byte ∷ bytes)
 
 -- all of the source is a file
-pub kept_given : {K : Type 0} (keeps : K → HduParts → Type 0) (ks : List K) (first : List ℕ) (none : Bool) (a : SourceState) (b : Supply) → Walked keeps ks first (supply a FILE_LIMIT) b → none ≡ nat_eq (length first) 0 → 0 < length ks → length ks ≤ HDU_LIMIT → begins_extension first ≡ false → (length first < 2880 → IsSpent b) → IfSome b.source.remaining (λ ys. length ys ≤ b.left)
-    → Gives a (IsWalkOf keeps ks (not none))
-kept_given keeps ks first none a b p is some few ends short rest =
+pub kept_given : {K : Type 0} (keeps : K → HduParts → Type 0) (ks : List K) (none : Bool) (a b : Supply) → Walked keeps ks a b → length a.ahead + a.left ≤ FILE_LIMIT → none ≡ nat_eq (length b.ahead) 0 → 0 < length ks → length ks ≤ HDU_LIMIT → begins_extension b.ahead ≡ false
+    → (length b.ahead < 2880 → IsSpent b) → IfSome b.source.remaining (λ ys. length ys ≤ b.left) → GivesAll a (IsWalkOf keeps ks (not none))
+kept_given keeps ks none a b p limit is some few ends short rest =
     let s = rest_given b rest in
-    let same : (joined_hdus p.hdus ++ first) ++ s.0 ≡ joined_hdus p.hdus ++ (first ++ s.0) = append_assoc (joined_hdus p.hdus) first s.0 in
-    let size : length (joined_hdus p.hdus ++ (first ++ s.0)) ≤ FILE_LIMIT = omega (arith, p.taken.count, s.2.0, ap length (sym same), length-append (joined_hdus p.hdus ++ first) s.0) in
-    let file : FileParts = record { hdus = p.hdus; tail = first ++ s.0 } in (
-      joined_hdus p.hdus ++ (first ++ s.0),
-      subst (λ (t : List ℕ). Tells a t) same (tells_after (supply a FILE_LIMIT) b (joined_hdus p.hdus ++ first) s.0 p.taken s.1),
-      (file, file_walked keeps ks p.hdus (first ++ s.0) p.each p.front some few (rest_ends first s.0 b ends short s.2.1) size, p.each, ap not is ∙ followed_by first s.0 b short s.2.1),
+    let tail : List ℕ = b.ahead ++ s.0 in
+    let file : FileParts = record { hdus = p.hdus; tail = tail } in (
+      joined_hdus p.hdus ++ tail,
+      tells_after a b (joined_hdus p.hdus) s.0 p.taken s.1,
+      (file, file_walked keeps ks p.hdus tail p.each p.front some few (rest_ends b.ahead s.0 b ends short s.2.1) (few_after a b (joined_hdus p.hdus) s.0 p.taken limit s.2.0), p.each, ap not is ∙ followed_by b.ahead s.0 b short s.2.1),
     )
 
 -- a walk whose source has more than may be taken, or fails
-pub kept_before : {K : Type 0} (keeps : K → HduParts → Type 0) (ks : List K) (first : List ℕ) (a : SourceState) (b : Supply) (c : SourceState) (before : ReadFileFault) → Walked keeps ks first (supply a FILE_LIMIT) b → RestStops b c before → ReadStops a c before
-kept_before keeps ks first a b c before p q = ends_before a b c (joined_hdus p.hdus ++ first) before p.taken q
-
-pub ruleset kept_steps = (kept_given, kept_before)
+pub kept_before : {K : Type 0} (keeps : K → HduParts → Type 0) (ks : List K) (a b : Supply) (c : SourceState) (before : ReadFileFault) → IsLimited FILE_LIMIT a → Walked keeps ks a b → RestStops b c before → SupplyStops a c before
+kept_before keeps ks a b c before far p q = ends_before a b c (joined_hdus p.hdus) before far p.taken q
 
 -- what is kept of a file, whatever follows
 pub kept_alone : {K : Type 0} (keeps : K → HduParts → Type 0) (ks : List K) (followed : Bool) (a : SourceState) → Gives a (IsWalkOf keeps ks followed) → Gives a (IsKeptOf keeps ks)
@@ -301,35 +335,43 @@ each_is (hdu ∷ hdus) [] p = absurd p
 each_is (hdu ∷ hdus) (u ∷ us) p = rw (p.0, each_is hdus us p.1) refl
 
 -- they and the tail were taken
-pub session_taken : (hdus : List HduState) (first tail : List ℕ) (a b c : Supply) → Walked (λ (it : HduState) hdu. it.hdu ≡ hdu) hdus first a b → TakesAfter first b c tail
-    → Takes a c (joined_hdus (hdus_of hdus) ++ tail)
-session_taken hdus first tail a b c p q = rw (each_is hdus p.hdus p.each) (takes_before a b c (joined_hdus p.hdus) first tail p.taken q)
+pub session_taken : (hdus : List HduState) (tail : List ℕ) (a b c : Supply) → Walked (λ (it : HduState) hdu. it.hdu ≡ hdu) hdus a b → Takes b c tail → Takes a c (joined_hdus (hdus_of hdus) ++ tail)
+session_taken hdus tail a b c p q = rw (each_is hdus p.hdus p.each) (takes_more a b c (joined_hdus p.hdus) tail p.taken q)
 
 -- and are a file
-pub session_whole : (hdus : List HduState) (first tail : List ℕ) (a : SourceState) (b c : Supply) → Walked (λ (it : HduState) hdu. it.hdu ≡ hdu) hdus first (supply a FILE_LIMIT) b → TakesAfter first b c tail → 0 < length hdus → length hdus ≤ HDU_LIMIT → begins_extension tail ≡ false
+pub session_whole : (hdus : List HduState) (tail : List ℕ) (a b c : Supply) → length a.ahead + a.left ≤ FILE_LIMIT → Walked (λ (it : HduState) hdu. it.hdu ≡ hdu) hdus a b → Takes b c tail → 0 < length hdus → length hdus ≤ HDU_LIMIT → begins_extension tail ≡ false
     → IsFile (file_of (state_of hdus tail))
-session_whole hdus first tail a b c p q some few ends =
-    let taken : Takes (supply a FILE_LIMIT) c (joined_hdus p.hdus ++ tail) = takes_before (supply a FILE_LIMIT) b c (joined_hdus p.hdus) first tail p.taken q in
-    rw (each_is hdus p.hdus p.each) (file_walked (λ (it : HduState) hdu. it.hdu ≡ hdu) hdus p.hdus tail p.each p.front some few ends (omega (arith, taken.count)))
+session_whole hdus tail a b c limit p q some few ends =
+    let taken : Takes a c (joined_hdus p.hdus ++ tail) = takes_more a b c (joined_hdus p.hdus) tail p.taken q in
+    rw (each_is hdus p.hdus p.each) (file_walked (λ (it : HduState) hdu. it.hdu ≡ hdu) hdus p.hdus tail p.each p.front some few ends (omega (arith, limit, takes_fewer a c (joined_hdus p.hdus ++ tail) taken)))
 
 -- of which nothing is left
-pub session_given : (hdus : List HduState) (tail : List ℕ) (a : SourceState) (c : Supply) → Takes (supply a FILE_LIMIT) c (joined_hdus (hdus_of hdus) ++ tail) → IsSpent c → IfSome c.source.remaining (λ ys. length ys ≤ c.left) → IsFile (file_of (state_of hdus tail))
-    → Gives a (λ bytes. IsFileOf bytes (file_of (state_of hdus tail)))
-session_given hdus tail a c taken spent few file =
+pub session_given : (hdus : List HduState) (tail : List ℕ) (a c : Supply) → Takes a c (joined_hdus (hdus_of hdus) ++ tail) → IsOver c → IfSome c.source.remaining (λ ys. length ys ≤ c.left) → IsFile (file_of (state_of hdus tail))
+    → GivesAll a (λ bytes. IsFileOf bytes (file_of (state_of hdus tail)))
+session_given hdus tail a c taken over few file =
     let bytes : List ℕ = joined_hdus (hdus_of hdus) ++ tail in
     let s = rest_given c few in
-    let told : Tells a (bytes ++ s.0) = tells_after (supply a FILE_LIMIT) c bytes s.0 taken s.1 in
-    (bytes, subst (λ (t : List ℕ). Tells a t) (ap (λ t. bytes ++ t) (s.2.1 spent) ∙ append-nil bytes) told, file)
+    let told : TellsAll a (bytes ++ (c.ahead ++ s.0)) = tells_after a c bytes s.0 taken s.1 in
+    let none : c.ahead ++ s.0 ≡ [] = ap (λ t. t ++ s.0) over.none ∙ s.2.1 over.spent in
+    (bytes, subst (TellsAll a) (ap (λ t. bytes ++ t) none ∙ append-nil bytes) told, file)
 
 -- how many bytes the HDUs have
-pub hdus_length : (hdus : List HduState) (first : List ℕ) (a : SourceState) (b : Supply) → Walked (λ (it : HduState) hdu. it.hdu ≡ hdu) hdus first (supply a FILE_LIMIT) b → FILE_LIMIT ≡ b.left + (length (joined_hdus (hdus_of hdus)) + length first)
-hdus_length hdus first a b p =
-    rw (each_is hdus p.hdus p.each) (p.taken.count ∙ ap (λ n. b.left + n) (length-append (joined_hdus p.hdus) first))
+pub hdus_length : (hdus : List HduState) (a b : Supply) → Walked (λ (it : HduState) hdu. it.hdu ≡ hdu) hdus a b → length a.ahead + a.left ≡ length b.ahead + b.left + length (joined_hdus (hdus_of hdus))
+hdus_length hdus a b p = rw (each_is hdus p.hdus p.each) (takes_fewer a b (joined_hdus p.hdus) p.taken)
 
 -- the tail that was read begins no extension
-pub tail_ends : (first tail : List ℕ) (a b : Supply) → TakesAfter first a b tail → 2880 ≤ length first → begins_extension tail ≡ begins_extension first
-tail_ends first tail a b p many = ap begins_extension p.joined ∙ extension_same first p.more (inr (omega (arith, many)))
+pub tail_ends : (tail : List ℕ) (a b : Supply) → Takes a b tail → b.ahead ≡ [] → 2880 ≤ length a.ahead → begins_extension tail ≡ begins_extension a.ahead
+tail_ends tail a b p none many =
+    let all : a.ahead ++ p.more ≡ tail = p.joined ∙ (ap (λ t. tail ++ t) none ∙ append-nil tail) in
+    ap begins_extension (sym all) ∙ extension_same a.ahead p.more (inr (omega (arith, many)))
 
-pub ruleset tail_steps = (takes_after_none, tail_ends)
+-- as many bytes were taken as might be
+pub all_taken : (tail : List ℕ) (a b : Supply) → Takes a b tail → length a.ahead + a.left ≤ length tail → IsOver b
+all_taken tail a b p all =
+    let count = takes_fewer a b tail p in
+    record { none = no_bytes b.ahead (omega (arith, count, all)); spent = inl (omega (arith, count, all)) }
 
-pub ruleset session_steps = (hdus_length, session_taken, session_whole, session_given, ends_before)
+-- so all were, or no more comes
+pub taken_over : (tail : List ℕ) (a b : Supply) (left : ℕ) → Takes a b tail → left ≡ length a.ahead + a.left → (length tail < left → IsOver b) → IsOver b
+taken_over tail a b left p is short =
+    elim (cases_lt (length tail) left) [ inl less ↦ short less | inr all ↦ all_taken tail a b p (omega (arith, is, all)) ]

@@ -1,5 +1,5 @@
 -- Which files open, and why others don't (own; FITS Standard 4.0, sections 3.1 and 4.4.1).
-use Rattle.std.specs.Prelude.{◌≡◌, ◌⊎◌, ℕ, ◌+◌, ◌<◌, ◌≤◌, ◌==◌, Bool, true, false, IsTrue, List, length, codes, nat_eq, Result, Ok, Err, if◌then◌else◌}
+use Rattle.std.specs.Prelude.{◌≡◌, ◌⊎◌, ℕ, ◌+◌, ◌<◌, ◌≤◌, true, IsTrue, List, length, codes, nat_eq}
 use Rattle.std.specs.List.{starts_with}
 use Rattle.fits_hdu.specs.Hdu.{HduParts, HasHduFault}
 use Rattle.fits_hdu.specs.declared.fault.HduFault.{HduFault}
@@ -61,7 +61,3 @@ open_fault_of hdu_fault.Memory h = Memory
 -- the bytes are a file, or have a fault
 abbrev pub IsFileOrNot : List ℕ → Type 0
 IsFileOrNot bytes = ((file : FileParts) × IsFileOf bytes file) ⊎ ((fault : OpenFault) × HasOpenFault bytes fault)
-
--- another HDU follows so many: an extension that begins, unless there are as many as a file may have
-abbrev pub goes_on_after : List ℕ → ℕ → Result Bool OpenFault
-goes_on_after rest hdus = if begins_extension rest then (if hdus == HDU_LIMIT then Err TooLarge else Ok true) else Ok false

@@ -1,7 +1,7 @@
 -- How a file is read from a source, whatever is kept of its HDUs (own).
-use Rattle.std.specs.Prelude.{◌≡◌, ℕ, ◌<◌, Bool, true, false, List, [], ◌∷◌, ◌++◌, length, nat_eq, codes, IfSome}
+use Rattle.std.specs.Prelude.{◌≡◌, ℕ, ◌<◌, Bool, true, false, List, [], ◌∷◌, length, nat_eq, codes, IfSome}
 use Rattle.std.specs.List.{starts_with}
-use Rattle.fits_card.specs.Intake.{Supply, Finds, Gives, Takes}
+use Rattle.fits_card.specs.Intake.{Supply, Finds, Gives, GivesAll, Takes}
 use Rattle.fits_card.specs.Stream.{SourceState, FailsOnce, StaysQuiet}
 use Rattle.fits_card.specs.declared.reading.ReadFault.{ReadFault}
 use Rattle.fits_card.specs.declared.reading.ReadFault.TheVariants as read
@@ -42,6 +42,12 @@ ReadStops old new (Open Memory) = StaysQuiet old new
 ReadStops old new (Open fault) = Gives old (λ bytes. HasOpenFault bytes fault) × StaysQuiet old new
 ReadStops old new Failed = FailsOnce old new
 
+-- all the bytes of an intake and its source don't open, for this fault; or memory was refused; or a call failed
+abbrev pub SupplyStops : Supply → SourceState → ReadFileFault → Type 0
+SupplyStops old new (Open Memory) = StaysQuiet old.source new
+SupplyStops old new (Open fault) = GivesAll old (λ bytes. HasOpenFault bytes fault) × StaysQuiet old.source new
+SupplyStops old new Failed = FailsOnce old.source new
+
 -- more is left than may be taken; or a call failed
 abbrev pub RestStops : Supply → SourceState → ReadFileFault → Type 0
 RestStops old new (Open TooLarge) = IfSome old.source.remaining (λ bytes. old.left < length bytes) × StaysQuiet old.source new
@@ -61,12 +67,12 @@ KeepsEach keeps [] (u ∷ us) = ⊥
 KeepsEach keeps (k ∷ ks) [] = ⊥
 KeepsEach keeps (k ∷ ks) (u ∷ us) = keeps k u × KeepsEach keeps ks us
 
--- HDUs were taken, of which this is kept, and the first block of what follows them
-pub record Walked {K : Type 0} (keeps : K → HduParts → Type 0) (kept : List K) (first : List ℕ) (old new : Supply) : Type 0 where
+-- HDUs were taken, of which this is kept
+pub record Walked {K : Type 0} (keeps : K → HduParts → Type 0) (kept : List K) (old new : Supply) : Type 0 where
   pub hdus : List HduParts
   pub each : KeepsEach keeps kept hdus
   pub front : IsFrontOf (joined_hdus hdus) hdus []
-  pub taken : Takes old new (joined_hdus hdus ++ first)
+  pub taken : Takes old new (joined_hdus hdus)
 
 -- the bytes are a file, of whose HDUs this is kept
 abbrev pub IsKeptOf : {K : Type 0} → (K → HduParts → Type 0) → List K → List ℕ → Type 0

@@ -5,7 +5,7 @@ mod changes;
 mod editing;
 mod finding;
 mod list_edits;
-pub(crate) mod opening;
+mod opening;
 mod pixels;
 mod queries;
 mod reading;
@@ -13,12 +13,13 @@ mod saving;
 mod stamping;
 
 use crate::edit::Edit;
+use crate::limits::FILE_LIMIT;
 use crate::open_fault::OpenFault;
 use crate::read_fault::ReadFileFault;
 use crate::refusal::Refusal;
-use fits_card::Source;
+use fits_card::{Intake, Source};
 use fits_hdu::Hdu;
-use opening::{open_hdus, test_start};
+use opening::test_start;
 use reading::read_file;
 use std::alloc::Global;
 use std::marker::Model;
@@ -73,14 +74,17 @@ impl Session {
             → IsErrOf result OpenFault.NotFits }
     {
         test_start(bytes)?;
-        match open_hdus(alloc, bytes) {
-            Ok((hdus, tail)) => Ok(Session {
+        let mut none: &[u8] = &[];
+        match read_file(alloc, Intake::of(bytes), &mut none) {
+            Ok((hdus, len, tail)) => Ok(Session {
                 hdus,
-                len: bytes.len() as u64,
+                len,
                 tail,
                 alloc,
             }),
-            Err(fault) => Err(fault),
+            Err(ReadFileFault::Open(fault)) => Err(fault),
+            // Nothing is read, and no bytes fail.
+            Err(ReadFileFault::Failed) => unreachable!(),
         }
     }
 
@@ -94,13 +98,16 @@ impl Session {
         ensures quiet { OnOk result (StaysQuiet (R.state source.old) (R.state source.new)) }
         ensures err { IfErr result (ReadStops (R.state source.old) (R.state source.new)) }
     {
-        let (hdus, len, tail) = read_file(alloc, source)?;
-        Ok(Session {
-            hdus,
-            len,
-            tail,
-            alloc,
-        })
+        let intake = Intake::new(alloc, FILE_LIMIT as usize)?;
+        match read_file(alloc, intake, source) {
+            Ok((hdus, len, tail)) => Ok(Session {
+                hdus,
+                len,
+                tail,
+                alloc,
+            }),
+            Err(fault) => Err(fault),
+        }
     }
 
     /// Makes an edit, or refuses it by the first test that fails.

@@ -1,59 +1,57 @@
 //! A walk over the HDUs of a source, whatever is kept of them.
-ghost use Rattle.std.specs.Prelude.{◌≡◌, ◌≤◌, ◌<◌, false, length, codes, nat_eq, IfOk, IfErr, IfSome, OnOk};
+ghost use Rattle.std.specs.Prelude.{◌≡◌, ◌+◌, ◌≤◌, ◌<◌, false, length, codes, nat_eq, IfOk, IfErr, IfSome, OnOk};
 ghost use Rattle.std.specs.List.{starts_with};
 ghost use Rattle.fits_card.specs.declared.card_list.TheConstants.{BLOCK_LEN};
-ghost use Rattle.fits_card.specs.Intake.{supply, Gives, IsSpent};
-ghost use Rattle.fits_card.specs.Stream.{SourceState, StaysQuiet};
+ghost use Rattle.fits_card.specs.Intake.{supply, Gives, IsLimited, IsSpent, Supply};
+ghost use Rattle.fits_card.specs.Stream.{StaysQuiet};
 ghost use Rattle.fits_session.specs.File.{begins_extension};
 ghost use Rattle.fits_session.specs.declared.limits.TheConstants.{FILE_LIMIT, HDU_LIMIT};
-ghost use Rattle.fits_session.specs.Reading.{file_fault_of, is_of_bytes, IsWalkOf, ReadStops, RestStops, Walked, WalkStops};
+ghost use Rattle.fits_session.specs.Opening.{open_fault_of};
+ghost use Rattle.fits_session.specs.Reading.{file_fault_of, is_of_bytes, IsWalkOf, ReadStops, RestStops, SupplyStops, Walked, WalkStops};
 
 use crate::limits::{FILE_LIMIT, HDU_LIMIT};
 use crate::open_fault::OpenFault;
 use crate::read_fault::ReadFileFault;
-use crate::session::opening::{begins_extension, open_fault};
 use fits_card::{BLOCK_LEN, Intake, Source};
-use fits_hdu::{Kept, ReadHduFault};
+use fits_hdu::{HduFault, Kept, ReadHduFault};
 use std::alloc::Global;
 
-/// What is kept of the HDUs of what may be taken of a source, and the first block after the last.
+/// What is kept of the HDUs of what may be taken of a source. Then the block after the last lies
+/// ahead, if there is one.
 #[tactic(auto, using(crate::proofs::WalkLemmas::walk_steps))]
 pub(crate) fn walk<K: Kept + Drop, R: Source>(
     alloc: Global,
     intake: &mut Intake,
     source: &mut R,
-) -> Result<(Vec<K>, Vec<u8>), ReadFileFault>
-    requires { intake.old ≤ FILE_LIMIT }
-    ensures walked { IfOk result (λ parts. Walked K.keeps parts.0.items parts.1.items
+) -> Result<Vec<K>, ReadFileFault>
+    requires { length intake.old.ahead + intake.old.left ≤ FILE_LIMIT }
+    ensures walked { IfOk result (λ kept. Walked K.keeps kept.items
         (supply (R.state source.old) intake.old) (supply (R.state source.new) intake.new)) }
-    ensures some { IfOk result (λ parts. 0 < length parts.0.items) }
-    ensures few { IfOk result (λ parts. length parts.0.items ≤ HDU_LIMIT) }
-    ensures ends { IfOk result (λ parts. begins_extension parts.1.items ≡ false) }
-    ensures within { IfOk result (λ parts. length parts.1.items ≤ BLOCK_LEN) }
-    ensures short { IfOk result (λ parts. length parts.1.items < BLOCK_LEN
+    ensures some { IfOk result (λ kept. 0 < length kept.items) }
+    ensures few { IfOk result (λ kept. length kept.items ≤ HDU_LIMIT) }
+    ensures ends { OnOk result (begins_extension intake.new.ahead ≡ false) }
+    ensures short { OnOk result (length intake.new.ahead < BLOCK_LEN
         → IsSpent (supply (R.state source.new) intake.new)) }
     ensures err { IfErr result (WalkStops
         (supply (R.state source.old) intake.old) (supply (R.state source.new) intake.new)) }
 {
     let mut kept = Vec::new(alloc);
-    let mut first = match intake.take(alloc, source, BLOCK_LEN) {
-        Ok(first) => first,
-        Err(fault) => return Err(ReadFileFault::from(fault)),
+    let Ok(()) = intake.hold(source, BLOCK_LEN) else {
+        return Err(ReadFileFault::Failed);
     };
-    if !begins_file(&first) {
+    if !begins_file(intake.ahead()) {
         return Err(ReadFileFault::Open(OpenFault::NotFits));
     }
     'hdu: loop {
-        match K::read_next(alloc, intake, source, first, kept.is_empty()) {
+        match K::read_next(alloc, intake, source, kept.is_empty()) {
             Ok(next) => kept.push(next)?,
             Err(fault) => return Err(file_fault(fault, kept.len() + 1)),
         }
-        first = match intake.take(alloc, source, BLOCK_LEN) {
-            Ok(first) => first,
-            Err(fault) => return Err(ReadFileFault::from(fault)),
+        let Ok(()) = intake.hold(source, BLOCK_LEN) else {
+            return Err(ReadFileFault::Failed);
         };
-        if !begins_extension(&first) {
-            return Ok((kept, first));
+        if !begins_extension(intake.ahead()) {
+            return Ok(kept);
         }
         if kept.len() as u64 == HDU_LIMIT {
             return Err(ReadFileFault::Open(OpenFault::TooLarge));
@@ -63,7 +61,6 @@ pub(crate) fn walk<K: Kept + Drop, R: Source>(
 
 /// What is kept of the HDUs of a source, and whether bytes follow the last. It is read to its end,
 /// or past the limit of a file.
-#[tactic(auto, using(crate::proofs::WalkLemmas::kept_steps))]
 pub(crate) fn read_kept<K: Kept + Drop, R: Source>(
     alloc: Global,
     source: &mut R,
@@ -75,10 +72,13 @@ pub(crate) fn read_kept<K: Kept + Drop, R: Source>(
 {
     let mut intake = Intake::new(alloc, FILE_LIMIT as usize)?;
     match walk(alloc, &mut intake, source) {
-        Ok((kept, first)) => match end(intake, source) {
-            Ok(()) => Ok((kept, !first.is_empty())),
-            Err(fault) => Err(fault),
-        },
+        Ok(kept) => {
+            let followed = !intake.ahead().is_empty();
+            match end(intake, source) {
+                Ok(()) => Ok((kept, followed)),
+                Err(fault) => Err(fault),
+            }
+        }
         Err(fault) => Err(settled(intake, source, fault)),
     }
 }
@@ -87,9 +87,9 @@ pub(crate) fn read_kept<K: Kept + Drop, R: Source>(
 #[tactic(auto, using(crate::proofs::WalkLemmas::end_steps))]
 pub(crate) fn end<R: Source>(intake: Intake, source: &mut R) -> Result<(), ReadFileFault>
     ensures ok { OnOk result (IfSome (R.state source.old).remaining
-        (λ bytes. length bytes ≤ intake)) }
+        (λ bytes. length bytes ≤ intake.entry.left)) }
     ensures quiet { OnOk result (StaysQuiet (R.state source.old) (R.state source.new)) }
-    ensures err { IfErr result (RestStops (supply (R.state source.old) intake)
+    ensures err { IfErr result (RestStops (supply (R.state source.old) intake.entry)
         (R.state source.new)) }
 {
     match intake.overruns(source) {
@@ -107,9 +107,9 @@ pub(crate) fn settled<R: Source>(
     source: &mut R,
     fault: ReadFileFault,
 ) -> ReadFileFault
-    ensures { (first : SourceState)
-        → WalkStops (supply first FILE_LIMIT) (supply (R.state source.old) intake) fault
-        → ReadStops first (R.state source.new) result }
+    ensures { (first : Supply) → IsLimited FILE_LIMIT first
+        → WalkStops first (supply (R.state source.old) intake.entry) fault
+        → SupplyStops first (R.state source.new) result }
 {
     if !is_of_bytes(fault) {
         return fault;
@@ -138,6 +138,14 @@ fn begins_file(bytes: &[u8]) -> bool
     bytes.starts_with(b"SIMPLE  ")
 }
 
+// Whether an extension begins here.
+#[tactic(auto, unfolding(crate::specs::File::begins_extension))]
+fn begins_extension(bytes: &[u8]) -> bool
+    ensures { result ≡ begins_extension bytes.now }
+{
+    bytes.starts_with(b"XTENSION")
+}
+
 // The fault of HDU h as the file's.
 fn file_fault(fault: ReadHduFault, h: usize) -> ReadFileFault
     ensures { result ≡ file_fault_of fault h }
@@ -145,5 +153,17 @@ fn file_fault(fault: ReadHduFault, h: usize) -> ReadFileFault
     match fault {
         ReadHduFault::Hdu(fault) => ReadFileFault::Open(open_fault(fault, h)),
         ReadHduFault::Failed => ReadFileFault::Failed,
+    }
+}
+
+// The same of a fault of its bytes.
+fn open_fault(fault: HduFault, h: usize) -> OpenFault
+    ensures { result ≡ open_fault_of fault h }
+{
+    match fault {
+        HduFault::NoEnd => OpenFault::NoEnd { hdu: h },
+        HduFault::BadShape(card) => OpenFault::BadShape { hdu: h, card },
+        HduFault::ShortData => OpenFault::ShortData { hdu: h },
+        HduFault::Memory => OpenFault::Memory,
     }
 }

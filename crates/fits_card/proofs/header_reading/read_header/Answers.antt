@@ -1,47 +1,45 @@
-use Rattle.std.proofs.Common.{◌≡◌, ◌*◌, ◌++◌, ◌∙◌, length, ap, subst, arith}
-use Rattle.std.proofs.lemmas.Grind.{common_steps}
-use Rattle.fits_card.specs.Header.{joined_cards}
-use Rattle.fits_card.specs.HeaderSteps.{HasNoEnd, IsEndPlace, pieces}
+use Rattle.std.proofs.Common.{◌≡◌, ◌*◌, ◌<◌, ◌≤◌, ◌++◌, ◌∙◌, length, take, refl, ap, subst, arith}
+use Rattle.std.proofs.lemmas.List.{length-drop, length-take-le}
+use Rattle.fits_card.specs.HeaderSteps.{pieces}
 use Rattle.fits_card.proofs.HeaderReadingLemmas.{blocks_ended, blocks_more, inner_ended, inner_more, length-more, stops_short}
+use Rattle.fits_card.proofs.IntakeLemmas.{takes_passed}
+use Rattle.fits_card.proofs.SightLemmas.{takes_fewer}
 use Rattle.fits_card.proofs.header_reading.read_header.Goals as goal
 
 -- the source ended, or the limit came, within a block
-pub returns-then-len-lt-BLOCK_LEN-clause-err : goal.returns-then-len-lt-BLOCK_LEN-clause-err
-returns-then-len-lt-BLOCK_LEN-clause-err g c =
-    stops_short c.block.cards.items c.block.block.items _ _ _ c.block.invariant.taken (c.block.invariant.short (grind (arith, common_steps))) c.block.invariant.inner c.block.invariant.full (grind (arith, common_steps))
-
-pub ended_list-requires-clause-inner : goal.ended_list-requires-clause-inner
-ended_list-requires-clause-inner g c =
-    inner_ended c.block.cards.items _ c.block.block.items _ c.block.invariant.inner
-    (subst (λ block. IsEndPlace block c.in-Some.count) c.deref.ensures.value c.in-Some.ensures.found)
-    (c.in_ok-push_cards.ensures ∙ ap (λ block. c.block.cards.items ++ pieces block c.in-Some.count) c.deref-in-Some.ensures.value)
-
--- a whole block without END
-pub block-preserved : goal.block-preserved
-block-preserved g c =
-    let size : length c.block.block.items ≡ 80 * 36 = grind (arith, common_steps) in
-    let none : HasNoEnd c.block.block.items = subst HasNoEnd c.deref.ensures.value c.in_default.ensures.none in
-    let new : c.push_cards-in-block.new.cards.items ≡ c.block.cards.items ++ pieces c.block.block.items 36 = c.in_ok-push_cards-2.ensures ∙ ap (λ block. c.block.cards.items ++ pieces block 36) c.deref-in-block.ensures.value in
-    record {
-      taken = blocks_more c.block.cards.items _ c.block.block.items _ _ _ _ _ 36 c.block.invariant.taken c.in-Ok.ensures.ok size new;
-      inner = inner_more c.block.cards.items _ c.block.block.items 36 c.block.invariant.inner (omega (arith, size)) none new;
-      full = omega (arith, length-more c.block.cards.items _ c.block.block.items 36 new, c.block.invariant.full);
-      within = c.in-Ok.ensures.within;
-      short = c.in-Ok.ensures.ends;
-    }
+pub returns-then-ahead-lt-BLOCK_LEN-clause-err : goal.returns-then-ahead-lt-BLOCK_LEN-clause-err
+returns-then-ahead-lt-BLOCK_LEN-clause-err g c =
+    let short : length c.hold.new.self.ahead < 2880 = omega (arith, ap length c.ahead-ahead.ensures) in
+    stops_short c.block.cards.items _ _ _ c.block.invariant.taken c.in-Ok.ensures.ok (c.in-Ok.ensures.ends short) c.block.invariant.inner c.block.invariant.full short
 
 -- the cards before END
-pub ended_list-requires-clause-full : goal.ended_list-requires-clause-full
-ended_list-requires-clause-full g c =
-    let place : IsEndPlace c.block.block.items c.in-Some.count = subst (λ block. IsEndPlace block c.in-Some.count) c.deref.ensures.value c.in-Some.ensures.found in
-    omega (arith, length-more c.block.cards.items _ c.block.block.items c.in-Some.count (c.in_ok-push_cards.ensures ∙ ap (λ block. c.block.cards.items ++ pieces block c.in-Some.count) c.deref-in-Some.ensures.value), c.block.invariant.full, c.block.invariant.within, place.within)
+pub ended_list-requires-clause-inner : goal.ended_list-requires-clause-inner
+ended_list-requires-clause-inner g c = inner_ended c.block.cards.items _ c.split_at.result.0.now _ c.block.invariant.inner c.in-Some.ensures.found c.in_ok-push_cards.ensures
 
 -- the last block is taken
 pub returns-in-Some-clause-ok : goal.returns-in-Some-clause-ok
 returns-in-Some-clause-ok g c =
-    let header = c.in_ok-ended_list.field-0.header in
-    let count = c.in-Some.count in
-    blocks_ended c.block.cards.items _ c.block.block.items _ _ _ count header c.block.invariant.taken
-    (c.in_ok-push_cards.ensures ∙ ap (λ block. c.block.cards.items ++ pieces block count) c.deref-in-Some.ensures.value)
-    c.in_ok-ended_list.ensures.cards
-    (subst (λ block. joined_cards (pieces block count) ++ (header.end ++ header.fill) ≡ block) c.deref-in-Some-2.ensures.value c.in_ok-ended_list.ensures.ended)
+    let block : c.split_at.result.0.now ≡ take 2880 c.hold.new.self.ahead = c.split_at.ensures.front ∙ ap (take 2880) c.ahead-ahead.ensures in
+    blocks_ended c.block.cards.items _ _ _ _ _ c.split_at.result.0.now c.in-Some.count c.in_ok-list.list.header c.block.invariant.taken c.in-Ok.ensures.ok
+    (rw block (takes_passed _ _ 2880 refl c.pass.ensures.ahead c.pass.ensures.left)) c.in_ok-push_cards.ensures c.in_ok-list.ensures.cards c.in_ok-list.ensures.ended
+
+pub pass-requires-in-block : goal.pass-requires-in-block
+pass-requires-in-block g c = omega (arith, ap length c.ahead-ahead.ensures)
+
+-- a block is taken each time
+pub block-smaller : goal.block-smaller
+block-smaller g c =
+    omega (arith, takes_fewer _ _ _ c.in-Ok.ensures.ok, ap length c.ahead-ahead.ensures, ap length c.pass-in-block.ensures.ahead, length-drop 2880 c.hold.new.self.ahead, c.pass-in-block.ensures.left)
+
+-- a whole block without END
+pub block-preserved : goal.block-preserved
+block-preserved g c =
+    let long : 80 * 36 ≤ length c.hold.new.self.ahead = omega (arith, ap length c.ahead-ahead.ensures) in
+    let block : c.split_at.result.0.now ≡ take 2880 c.hold.new.self.ahead = c.split_at.ensures.front ∙ ap (take 2880) c.ahead-ahead.ensures in
+    let size : length c.split_at.result.0.now ≡ 80 * 36 = ap length block ∙ length-take-le 2880 c.hold.new.self.ahead long in
+    record {
+      taken = blocks_more c.block.cards.items _ _ _ _ _ 36 c.block.invariant.taken c.in-Ok.ensures.ok (takes_passed _ _ 2880 refl c.pass-in-block.ensures.ahead c.pass-in-block.ensures.left) long
+      (subst (λ b. c.push_cards-in-block.new.cards.items ≡ c.block.cards.items ++ pieces b 36) block c.in_ok-push_cards-2.ensures);
+      inner = inner_more c.block.cards.items _ c.split_at.result.0.now 36 c.block.invariant.inner (omega (arith, size)) c.in_default-end_place.ensures.none c.in_ok-push_cards-2.ensures;
+      full = omega (arith, length-more c.block.cards.items _ c.split_at.result.0.now 36 c.in_ok-push_cards-2.ensures, c.block.invariant.full);
+    }

@@ -1,16 +1,14 @@
-use Rattle.std.proofs.Common.{◌≡◌, ◌+◌, ◌%◌, ◌<◌, ◌≤◌, ◌++◌, All, length}
+use Rattle.std.proofs.Common.{◌≡◌, ◌+◌, ◌%◌, All, length}
 use Rattle.fits_card.specs.Header.{IsInnerCard, joined_cards}
-use Rattle.fits_card.specs.Intake.{supply, IsSpent, TakesAfter}
+use Rattle.fits_card.specs.Intake.{supply, Takes}
 use Rattle.fits_card.proofs.header_reading.read_header.Given as goal
 
 abbrev pub invariant-block : goal.invariant-block
 invariant-block g l = record {
-  taken : TakesAfter l.fn.first.items (supply (g.R.Source.state l.fn.source) l.fn.intake) (supply (g.R.Source.state l.source) l.intake) (joined_cards l.cards.items ++ l.block.items);
+  taken : Takes (supply (g.R.Source.state l.fn.source) l.fn.intake) (supply (g.R.Source.state l.source) l.intake) (joined_cards l.cards.items);
   inner : All IsInnerCard l.cards.items;
   full : length l.cards.items % 36 ≡ 0;
-  within : length l.block.items ≤ 2880;
-  short : length l.block.items < 2880 → IsSpent (supply (g.R.Source.state l.source) l.intake);
 }
 
 abbrev pub decreases-block : goal.decreases-block
-decreases-block g l = l.intake + length l.block.items
+decreases-block g l = length l.intake.ahead + l.intake.left

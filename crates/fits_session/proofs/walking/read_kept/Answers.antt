@@ -1,11 +1,24 @@
-use Rattle.std.proofs.Common.{arith}
+use Rattle.std.proofs.Common.{◌+◌, length, ap, arith}
 use Rattle.std.proofs.lemmas.Grind.{common_steps}
-use Rattle.fits_session.proofs.WalkLemmas.{kept_given}
+use Rattle.fits_card.specs.Intake.{IntakeState, supply}
+use Rattle.fits_card.proofs.SightLemmas.{limited_source}
+use Rattle.fits_session.specs.declared.limits.TheConstants.{FILE_LIMIT}
+use Rattle.fits_session.specs.Reading.{IsWalkOf}
+use Rattle.fits_session.proofs.WalkLemmas.{kept_before, kept_given, read_given, read_stops}
 use Rattle.fits_session.proofs.walking.read_kept.Goals as goal
 
 pub returns-in-Ok-end-clause-ok : goal.returns-in-Ok-end-clause-ok
 returns-in-Ok-end-clause-ok g c =
-    kept_given g.K.Kept.keeps c.in-Ok.kept.items c.in-Ok.first.items c.is_empty.result _ _ (rw c.in_ok-intake.ensures at c.in-Ok.ensures.walked) (grind (arith, common_steps)) c.in-Ok.ensures.some c.in-Ok.ensures.few c.in-Ok.ensures.ends c.in-Ok.ensures.short c.in-Ok-end.ensures.ok
+    read_given (IsWalkOf g.K.Kept.keeps c.in-Ok.kept.items _) (g.R.Source.state c.args.source.now) c.in_ok-intake.intake c.in_ok-intake.ensures
+    (kept_given g.K.Kept.keeps c.in-Ok.kept.items c.is_empty-followed.result _ _ c.in-Ok.ensures.walked (omega (arith, ap (λ (i : IntakeState). length i.ahead + i.left) c.in_ok-intake.ensures)) (grind (arith, common_steps))
+    c.in-Ok.ensures.some c.in-Ok.ensures.few c.in-Ok.ensures.ends c.in-Ok.ensures.short c.in-Ok-end.ensures.ok)
+
+pub returns-in-Err-end-clause-err : goal.returns-in-Err-end-clause-err
+returns-in-Err-end-clause-err g c =
+    read_stops (g.R.Source.state c.args.source.now) (g.R.Source.state c.end.new.source) c.in_ok-intake.intake c.in-Err-end.fault c.in_ok-intake.ensures
+    (kept_before g.K.Kept.keeps c.in-Ok.kept.items _ _ (g.R.Source.state c.end.new.source) c.in-Err-end.fault (limited_source FILE_LIMIT (g.R.Source.state c.args.source.now) c.in_ok-intake.intake c.in_ok-intake.ensures) c.in-Ok.ensures.walked c.in-Err-end.ensures.err)
 
 pub returns-in-Err-clause-err : goal.returns-in-Err-clause-err
-returns-in-Err-clause-err g c = c.settled.ensures _ (rw c.in_ok-intake.ensures at c.in-Err.ensures.err)
+returns-in-Err-clause-err g c =
+    read_stops (g.R.Source.state c.args.source.now) (g.R.Source.state c.settled.new.source) c.in_ok-intake.intake c.settled.result c.in_ok-intake.ensures
+    (c.settled.ensures (supply (g.R.Source.state c.args.source.now) c.in_ok-intake.intake) (limited_source FILE_LIMIT (g.R.Source.state c.args.source.now) c.in_ok-intake.intake c.in_ok-intake.ensures) c.in-Err.ensures.err)

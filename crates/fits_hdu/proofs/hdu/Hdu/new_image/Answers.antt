@@ -1,8 +1,8 @@
 use Rattle.std.proofs.Common.{◌∙◌, List, ℕ, ap, arith, length, sym}
 use Rattle.std.proofs.lemmas.List.{length-replicate}
-use Rattle.fits_card.specs.Header.{Header}
+use Rattle.fits_card.specs.Header.{Header, new_header}
 use Rattle.fits_rules.specs.Size.{data_length}
-use Rattle.fits_hdu.specs.NewImage.{image_cards, new_header}
+use Rattle.fits_hdu.specs.NewImage.{image_cards}
 use Rattle.fits_hdu.proofs.NewHeaderLemmas.{new_described, new_made}
 use Rattle.fits_hdu.proofs.hdu.Hdu.new_image.Goals as goal
 

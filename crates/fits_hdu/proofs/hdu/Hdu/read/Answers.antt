@@ -2,20 +2,21 @@ use Rattle.std.proofs.Common.{◌∙◌, ap, arith, length}
 use Rattle.std.proofs.lemmas.Grind.{common_steps}
 use Rattle.std.proofs.lemmas.Result.{err_from_is_err_and}
 use Rattle.fits_card.specs.Header.{Header}
+use Rattle.fits_card.proofs.SightLemmas.{takes_fewer}
 use Rattle.fits_rules.proofs.LawLemmas.{shape_primary}
-use Rattle.fits_hdu.proofs.ReadingLemmas.{hdu_taken, hdu_whole, stops_by_unit, stops_near}
+use Rattle.fits_hdu.proofs.ReadingLemmas.{hdu_taken, hdu_whole, stops_by_unit, stops_over}
 use Rattle.fits_hdu.proofs.hdu.Hdu.read.Goals as goal
 
 -- the source ended within the data unit
 pub returns-then-len-unit_len-clause-err : goal.returns-then-len-unit_len-clause-err
 returns-then-len-unit_len-clause-err g c =
     let head = c.in_ok-cards.ensures in
-    stops_near _ _ _ _ _ c.in_ok-cards.field-0.cards.header c.in_ok-cards.field-0.shape c.in-Ok.data_unit.items head.taken head.whole head.described
+    stops_over _ _ _ _ c.in_ok-cards.field-0.cards.header c.in_ok-cards.field-0.shape c.in-Ok.data_unit.items head.taken head.whole head.described
     c.in-Ok.ensures.ok (c.in-Ok.ensures.ends (grind (arith, common_steps))) (grind (arith, common_steps))
 
 pub returns-in-Ok-of-clause-taken : goal.returns-in-Ok-of-clause-taken
 returns-in-Ok-of-clause-taken g c =
-    rw (c.in-Ok-of.ensures.header, c.in-Ok-of.ensures.unit) (hdu_taken _ _ _ _ c.in_ok-cards.field-0.cards.header _ c.in_ok-cards.ensures.taken c.in-Ok.ensures.ok)
+    rw (c.in-Ok-of.ensures.header, c.in-Ok-of.ensures.unit) (hdu_taken _ _ _ c.in_ok-cards.field-0.cards.header _ c.in_ok-cards.ensures.taken c.in-Ok.ensures.ok)
 
 pub returns-in-Ok-of-clause-whole : goal.returns-in-Ok-of-clause-whole
 returns-in-Ok-of-clause-whole g c =
@@ -32,7 +33,7 @@ returns-in_err-cards-clause-err g c =
 -- the data unit was not taken
 pub returns-in-Err-clause-err : goal.returns-in-Err-clause-err
 returns-in-Err-clause-err g c =
-    rw c.from.ensures (stops_by_unit _ _ _ _ _ _ c.in-Err.fault c.in_ok-cards.ensures.taken c.in-Err.ensures.err)
+    rw c.from.ensures (stops_by_unit _ _ _ _ _ c.in-Err.fault c.in_ok-cards.ensures.taken c.in-Err.ensures.err)
 
 pub returns-in-Ok-of-clause-work : goal.returns-in-Ok-of-clause-work
 returns-in-Ok-of-clause-work g c =
@@ -43,4 +44,7 @@ returns-in-Ok-of-clause-scans g c = rw c.in-Ok-of.ensures.unit c.in-Ok-of.ensure
 
 -- memory was refused
 pub returns-in-Err-of-clause-err : goal.returns-in-Err-of-clause-err
-returns-in-Err-of-clause-err g c = c.in-Ok.ensures.ok.read.quiet ∙ c.in_ok-cards.ensures.taken.taken.read.quiet
+returns-in-Err-of-clause-err g c = c.in-Ok.ensures.ok.drawn.read.quiet ∙ c.in_ok-cards.ensures.taken.drawn.read.quiet
+
+pub of-requires-clause-small : goal.of-requires-clause-small
+of-requires-clause-small g c = omega (arith, c.in-Ok.ensures.within, c.in_ok-cards.ensures.room, takes_fewer _ _ _ c.in_ok-cards.ensures.taken, c.requires)
