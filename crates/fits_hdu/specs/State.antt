@@ -1,7 +1,10 @@
 -- What an HDU under edits is to its callers.
 use Rattle.std.specs.Prelude.{◌≡◌, ℕ, ◌+◌, ◌≤◌}
 use Rattle.fits_rules.specs.declared.array_shape.Shape.{Shape}
+use Rattle.fits_header.specs.State.{HeaderState}
+use Rattle.fits_plane.specs.Plane.{PlaneState}
 use Rattle.fits_hdu.specs.Hdu.{HduParts}
+use Rattle.fits_hdu.specs.Layout.{layout_of}
 
 -- how many blocks of a data unit were scanned, pixels read and nodes of its tree joined so far
 pub record PixelWork : Type 0 where
@@ -17,6 +20,20 @@ pub record HduState : Type 0 where
   pub reads : ℕ
   pub room : ℕ
   pub pixel_work : PixelWork
+
+-- its header
+abbrev pub header_of : HduState → HeaderState
+header_of hdu = record { header = hdu.hdu.header; shape = hdu.shape; reads = hdu.reads; room = hdu.room }
+
+-- its data unit, read as its cards say
+abbrev pub plane_of : HduState → PlaneState
+plane_of hdu = record {
+  bytes = hdu.hdu.data_unit;
+  layout = layout_of hdu.shape hdu.hdu.header.cards;
+  scans = hdu.pixel_work.scans;
+  reads = hdu.pixel_work.reads;
+  joins = hdu.pixel_work.joins;
+}
 
 -- so many of its cards were read at most, and nothing else changed
 pub record ReadsUpTo (old new : HduState) (count : ℕ) : Type 0 where

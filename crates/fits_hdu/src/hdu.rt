@@ -82,8 +82,6 @@ impl Hdu {
     ghost use Rattle.fits_card.specs.Header.{HasNoHeader, header_bytes};
     ghost use Rattle.fits_card.specs.Intake.{supply, Takes};
     ghost use Rattle.fits_card.specs.Stream.{Prints, PrintsFront};
-    ghost use Rattle.fits_header.specs.Names.{header_names};
-    ghost use Rattle.fits_header.specs.Places.{keyword_places};
     ghost use Rattle.fits_header.specs.Work.{shape_reads};
     ghost use Rattle.fits_plane.specs.Layout.{block_count};
     ghost use Rattle.fits_rules.specs.Class.{is_primary};
@@ -93,7 +91,7 @@ impl Hdu {
     ghost use Rattle.fits_hdu.specs.Kind.{kind_in};
     ghost use Rattle.fits_hdu.specs.Layout.{layout_of};
     ghost use Rattle.fits_hdu.specs.Reading.{HduStops};
-    ghost use Rattle.fits_hdu.specs.State.{ReadsUpTo};
+    ghost use Rattle.fits_hdu.specs.State.{header_of, plane_of, ReadsUpTo};
     ghost use Rattle.fits_hdu.specs.Work.{apply_reads, keyword_reads, open_reads, plane_work, FollowsBlank, IsScanned};
     ghost use Rattle.fits_hdu.specs.Hdu.{IsHdu, IsHduOf, HduFails, hdu_bytes, hdu_after, keeps_shape};
 
@@ -245,19 +243,18 @@ impl Hdu {
         self.header.len()
     }
 
-    /// How many bytes its header has, with END and the fill.
-    pub fn header_len(&self) -> usize
-        requires { length (header_bytes self.now.hdu.header) ≤ 2 ^ 34 }
-        ensures { result ≡ length (header_bytes self.now.hdu.header) }
+    /// Its header.
+    pub fn header(&self) -> &Header
+        ensures { result.now ≡ header_of self.now }
     {
-        self.header.byte_len()
+        &self.header
     }
 
-    /// How many bytes its data unit has, with the fill of its last block.
-    pub fn data_len(&self) -> usize
-        ensures { result ≡ length self.now.hdu.data_unit }
+    /// Its data unit, read as its cards say.
+    pub fn plane(&self) -> &Plane
+        ensures { result.now ≡ plane_of self.now }
     {
-        self.plane.byte_len()
+        &self.plane
     }
 
     /// Makes room for this many more cards. It fails only where room was missing.
@@ -314,21 +311,6 @@ impl Hdu {
         keyword_cards(&mut self.header, name)
     }
 
-    /// The places of the cards of a name, ascending. No card is read.
-    pub fn positions(&self, alloc: Global, name: &Name) -> Result<Vec<usize>, AllocError>
-        ensures { IfOk result (λ places. places.items
-            ≡ keyword_places self.now.hdu.header.cards name.now) }
-    {
-        self.header.positions(alloc, name)
-    }
-
-    /// The names of its cards, each once, ascending by bytes. No card is read.
-    pub fn names(&self, alloc: Global) -> Result<Vec<Name>, AllocError>
-        ensures { IfOk result (λ names. names.items ≡ header_names self.now.hdu.header.cards) }
-    {
-        self.header.names(alloc)
-    }
-
     /// Whether its cards after a change would describe the same shape. The cards that it reads are
     /// counted.
     ///
@@ -342,14 +324,6 @@ impl Hdu {
         ensures work { ReadsUpTo self.old self.new (shape_reads self.old.shape) }
     {
         self.header.keeps_shape(change)
-    }
-
-    /// How many cards its header has after a change.
-    pub fn count_after(&self, change: &Change) -> usize
-        requires { IsInRange self.now.hdu.header.cards change.now }
-        ensures { result ≡ length (cards_after self.now.hdu.header.cards change.now) }
-    {
-        self.header.count_after(change)
     }
 
     /// Makes a change of its cards. END stays, and the header's fill is spaces.

@@ -43,7 +43,7 @@ fn make_change(hdu: &mut Hdu, change: &Change, len: u64, hdus: u64) -> Result<u6
     ensures { ChangesTo change.now len hdus hdu.old hdu.new result }
 {
     let before = hdu.card_count();
-    let after = hdu.count_after(change);
+    let after = hdu.header().count_after(change);
     if !hdu.keeps_shape(change) {
         return Err(Refusal::Shape);
     }

@@ -48,7 +48,9 @@ impl Session {
             return Err(Refusal::PrimaryStays);
         }
         let hdu = self.hdus.remove(i);
-        self.len -= (hdu.header_len() + hdu.data_len()) as u64;
+        let header_len = hdu.header().byte_len();
+        let data_len = hdu.plane().byte_len();
+        self.len -= (header_len + data_len) as u64;
         Ok(())
     }
 }

@@ -157,7 +157,7 @@ impl Session {
             return Err(Refusal::NoHdu);
         };
         let hdu = &self.hdus[i];
-        let places = hdu.positions(self.alloc, name)?;
+        let places = hdu.header().positions(self.alloc, name)?;
         Ok(places)
     }
 
@@ -171,7 +171,7 @@ impl Session {
             return Err(Refusal::NoHdu);
         };
         let hdu = &self.hdus[i];
-        let names = hdu.names(self.alloc)?;
+        let names = hdu.header().names(self.alloc)?;
         Ok(names)
     }
 
@@ -273,8 +273,10 @@ fn offsets_of(alloc: Global, hdus: &[Hdu]) -> Result<Vec<HduOffsets>, AllocError
     let mut offsets = Vec::with_capacity(alloc, hdus.len())?;
     let mut start = 0;
     for hdu in hdus {
-        let data_start = start + hdu.header_len() as u64;
-        let hdu_end = data_start + hdu.data_len() as u64;
+        let header_len = hdu.header().byte_len();
+        let data_len = hdu.plane().byte_len();
+        let data_start = start + header_len as u64;
+        let hdu_end = data_start + data_len as u64;
         offsets.push(HduOffsets {
             header_start: start,
             data_start,

@@ -1,5 +1,7 @@
-use Rattle.std.proofs.Common.{refl}
+use Rattle.std.proofs.Common.{ap, refl, ◌∙◌}
 use Rattle.std.proofs.lemmas.Result.{err_from_is_err_and}
+use Rattle.fits_header.specs.Names.{header_names}
+use Rattle.fits_header.specs.State.{HeaderState}
 use Rattle.fits_session.proofs.QueryLemmas.{names_there, no_names}
 use Rattle.fits_session.proofs.StateLemmas.{is_at}
 use Rattle.fits_session.proofs.session.Session.names.Goals as goal
@@ -14,4 +16,4 @@ pub returns-clause-ok : goal.returns-clause-ok
 returns-clause-ok c =
     rw (← c.self.view_is) (names_there c.self.inside.hdus.items c.self.inside.tail.items c.args.h c.in-Some.i c.index-hdu.result.now c.in_ok-names.names.items
     (is_at c.self.inside.hdus.items c.deref.result.now c.args.h c.args.h c.in-Some.i c.index-hdu.result.now c.deref.ensures.value refl c.in-Some.ensures.found c.index-hdu.ensures)
-    c.in_ok-names.ensures)
+    (c.in_ok-names.ensures ∙ ap (λ (h : HeaderState). header_names h.header.cards) c.header.ensures))

@@ -1,5 +1,7 @@
-use Rattle.std.proofs.Common.{refl}
+use Rattle.std.proofs.Common.{ap, refl, ◌∙◌}
 use Rattle.std.proofs.lemmas.Result.{err_from_is_err_and}
+use Rattle.fits_header.specs.Places.{keyword_places}
+use Rattle.fits_header.specs.State.{HeaderState}
 use Rattle.fits_session.proofs.QueryLemmas.{places_there, no_places}
 use Rattle.fits_session.proofs.StateLemmas.{is_at}
 use Rattle.fits_session.proofs.session.Session.positions.Goals as goal
@@ -14,4 +16,4 @@ pub returns-clause-ok : goal.returns-clause-ok
 returns-clause-ok c =
     rw (← c.self.view_is) (places_there c.self.inside.hdus.items c.self.inside.tail.items c.args.h c.in-Some.i c.index-hdu.result.now c.args.name.now c.in_ok-places.places.items
     (is_at c.self.inside.hdus.items c.deref.result.now c.args.h c.args.h c.in-Some.i c.index-hdu.result.now c.deref.ensures.value refl c.in-Some.ensures.found c.index-hdu.ensures)
-    c.in_ok-places.ensures)
+    (c.in_ok-places.ensures ∙ ap (λ (h : HeaderState). keyword_places h.header.cards c.args.name.now) c.header.ensures))

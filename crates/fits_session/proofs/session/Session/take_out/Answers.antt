@@ -1,6 +1,8 @@
-use Rattle.std.proofs.Common.{◌<◌, arith, refl}
+use Rattle.std.proofs.Common.{◌<◌, ap, arith, length, refl}
 use Rattle.std.proofs.lemmas.List.{length-append}
 use Rattle.fits_card.specs.Header.{header_bytes}
+use Rattle.fits_header.specs.State.{HeaderState}
+use Rattle.fits_plane.specs.Plane.{PlaneState}
 use Rattle.fits_session.proofs.ListEditLemmas.{primary_stays, removed_left, removed_size, removes, removes_nowhere}
 use Rattle.fits_session.proofs.StateLemmas.{file_within, is_at, part_there}
 use Rattle.fits_session.proofs.session.Session.take_out.Goals as goal
@@ -11,13 +13,13 @@ returns-in_default c = rw (← c.self.view_is) (removes_nowhere c.self.inside.hd
 pub returns-then-i-eq0 : goal.returns-then-i-eq0
 returns-then-i-eq0 c = rw (← c.self.view_is) (primary_stays c.self.inside.hdus.items c.self.inside.tail.items c.args.h c.in-Some.i (rw c.deref.ensures.value at c.in-Some.ensures.found) (grind (arith, c.if-i-eq0.true)))
 
-pub header_len-requires : goal.header_len-requires
-header_len-requires c =
+pub byte_len-header_len-requires : goal.byte_len-header_len-requires
+byte_len-header_len-requires c =
     let hdu = c.remove-hdu.result.hdu in
     let part = part_there c.self.inside.hdus.items c.self.inside.tail.items c.args.h c.in-Some.i c.remove-hdu.result
     (is_at c.self.inside.hdus.items c.deref.result.now c.args.h c.args.h c.in-Some.i c.remove-hdu.result c.deref.ensures.value refl c.in-Some.ensures.found c.remove-hdu.ensures.value) in
     let size = (file_within c.self.inside.hdus.items c.self.inside.tail.items c.self.invariant.whole).0 in
-    omega (arith, part, size, length-append (header_bytes hdu.header) hdu.data_unit)
+    omega (arith, part, size, length-append (header_bytes hdu.header) hdu.data_unit, ap (λ (h : HeaderState). length (header_bytes h.header)) c.header.ensures)
 
 pub overflow_add-self : goal.overflow_add-self
 overflow_add-self c =
@@ -25,7 +27,7 @@ overflow_add-self c =
     let part = part_there c.self.inside.hdus.items c.self.inside.tail.items c.args.h c.in-Some.i c.remove-hdu.result
     (is_at c.self.inside.hdus.items c.deref.result.now c.args.h c.args.h c.in-Some.i c.remove-hdu.result c.deref.ensures.value refl c.in-Some.ensures.found c.remove-hdu.ensures.value) in
     let size = (file_within c.self.inside.hdus.items c.self.inside.tail.items c.self.invariant.whole).0 in
-    omega (arith, part, size, length-append (header_bytes hdu.header) hdu.data_unit, c.header_len.ensures, c.data_len.ensures)
+    omega (arith, part, size, length-append (header_bytes hdu.header) hdu.data_unit, c.byte_len-header_len.ensures, ap (λ (h : HeaderState). length (header_bytes h.header)) c.header.ensures, c.byte_len-data_len.ensures, ap (λ (p : PlaneState). length p.bytes) c.plane.ensures)
 
 pub overflow_sub-self : goal.overflow_sub-self
 overflow_sub-self c =
@@ -33,7 +35,7 @@ overflow_sub-self c =
     let part = part_there c.self.inside.hdus.items c.self.inside.tail.items c.args.h c.in-Some.i c.remove-hdu.result
     (is_at c.self.inside.hdus.items c.deref.result.now c.args.h c.args.h c.in-Some.i c.remove-hdu.result c.deref.ensures.value refl c.in-Some.ensures.found c.remove-hdu.ensures.value) in
     let size = (file_within c.self.inside.hdus.items c.self.inside.tail.items c.self.invariant.whole).0 in
-    omega (arith, part, c.self.invariant.len, length-append (header_bytes hdu.header) hdu.data_unit, c.header_len.ensures, c.data_len.ensures)
+    omega (arith, part, c.self.invariant.len, length-append (header_bytes hdu.header) hdu.data_unit, c.byte_len-header_len.ensures, ap (λ (h : HeaderState). length (header_bytes h.header)) c.header.ensures, c.byte_len-data_len.ensures, ap (λ (p : PlaneState). length p.bytes) c.plane.ensures)
 
 pub invariant_of-self : goal.invariant_of-self
 invariant_of-self c =
@@ -45,7 +47,7 @@ invariant_of-self c =
     (is_at c.self.inside.hdus.items c.deref.result.now c.args.h c.args.h c.in-Some.i c.remove-hdu.result c.deref.ensures.value refl c.in-Some.ensures.found c.remove-hdu.ensures.value) in
     record {
       whole = rw c.remove-hdu.ensures.items left;
-      len = rw c.remove-hdu.ensures.items (omega (arith, less, c.self.invariant.len, length-append (header_bytes hdu.header) hdu.data_unit, c.header_len.ensures, c.data_len.ensures));
+      len = rw c.remove-hdu.ensures.items (omega (arith, less, c.self.invariant.len, length-append (header_bytes hdu.header) hdu.data_unit, c.byte_len-header_len.ensures, ap (λ (h : HeaderState). length (header_bytes h.header)) c.header.ensures, c.byte_len-data_len.ensures, ap (λ (p : PlaneState). length p.bytes) c.plane.ensures));
     }
 
 pub returns : goal.returns
