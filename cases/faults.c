@@ -2,7 +2,7 @@
 // fail or move little.
 //
 // REFUSE=K refuses the K-th request for memory, counted from 1.
-// STREAM names a stream of `fitsed`: script (reads of descriptor 0), file (reads of any other), answers (writes to
+// STREAM names a stream of `fitsed`: script (reads of descriptor 0), file (reads of any other, also at a place), answers (writes to
 // descriptor 1), saved (writes to any but 1 and 2), or each. Of its calls STEP=N lets each move N bytes at most,
 // FAIL=K lets the K-th fail, counted from 1, and STOP=K the K-th and each after it.
 // Where COUNTED is set, the number of requests, or of the stream's calls, goes to descriptor 2 at the end.
@@ -36,20 +36,22 @@ static int refused(void) { return ++requests == refuse; }
 void *malloc(size_t n) { return refused() ? 0 : __libc_malloc(n); }
 void *realloc(void *p, size_t n) { return refused() ? 0 : __libc_realloc(p, n); }
 
-// A call that moves bytes, as the stream lets it.
-static ssize_t moved(long call, const char *of, int fd, void *bytes, size_t n) {
-    if (!stream || !of || (strcmp(stream, of) && strcmp(stream, "each"))) return syscall(call, fd, bytes, n);
+// A call that moves bytes, as the stream lets it. `at` is its place, where it has one.
+static ssize_t moved(long call, const char *of, int fd, void *bytes, size_t n, off_t at) {
+    if (!stream || !of || (strcmp(stream, of) && strcmp(stream, "each"))) return syscall(call, fd, bytes, n, at);
     if (++calls == fail || calls >= stop) {
         errno = EIO;
         return -1;
     }
-    return syscall(call, fd, bytes, n < step ? n : step);
+    return syscall(call, fd, bytes, n < step ? n : step, at);
 }
 
-ssize_t read(int fd, void *bytes, size_t n) { return moved(SYS_read, fd == 0 ? "script" : "file", fd, bytes, n); }
+ssize_t read(int fd, void *bytes, size_t n) { return moved(SYS_read, fd == 0 ? "script" : "file", fd, bytes, n, 0); }
+
+ssize_t pread(int fd, void *bytes, size_t n, off_t at) { return moved(SYS_pread64, "file", fd, bytes, n, at); }
 
 ssize_t write(int fd, const void *bytes, size_t n) {
-    return moved(SYS_write, fd == 1 ? "answers" : fd == 2 ? 0 : "saved", fd, (void *)bytes, n);
+    return moved(SYS_write, fd == 1 ? "answers" : fd == 2 ? 0 : "saved", fd, (void *)bytes, n, 0);
 }
 
 __attribute__((destructor)) static void end(void) {

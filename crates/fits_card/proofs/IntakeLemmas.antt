@@ -4,20 +4,17 @@ use Rattle.std.proofs.lemmas.Bool.{cases_lt}
 use Rattle.std.proofs.lemmas.List.{append-nil, length-append, length-take-le, take-append-drop, take-append-le}
 use Rattle.std.proofs.Math.Seq.{take-append-add}
 use Rattle.fits_card.specs.Intake.{Supply, Passes, ReadsAfter, Skips, Takes}
+use Rattle.fits_card.specs.Stored.{GoesPast}
 use Rattle.fits_card.specs.Stream.{SourceState, Reads}
 use Rattle.fits_card.proofs.StreamLemmas.{Reads-none, Reads-more}
+
+-- bytes that are gone, with no failed call, were skipped
+pub skips_gone : (a b : SourceState) (n : ℕ) → GoesPast a.remaining b.remaining n → b.failures ≡ a.failures → Skips a b n
+skips_gone a b n p quiet = record { bytes = p.bytes; read = record { gone = p.gone; quiet = quiet }; size = p.size }
 
 -- nothing is skipped
 pub skips_none : (a : SourceState) → Skips a a 0
 skips_none a = record { bytes = []; read = Reads-none a; size = refl }
-
--- bytes are skipped, then others
-pub skips_more : (a b c : SourceState) (m n : ℕ) (buffer : List ℕ) → Skips a b m → Reads (take n buffer) b c → n ≤ length buffer → Skips a c (m + n)
-skips_more a b c m n buffer p q le = record {
-  bytes = p.bytes ++ take n buffer;
-  read = Reads-more a b c p.bytes (take n buffer) p.read q;
-  size = omega (arith, length-append p.bytes (take n buffer), p.size, length-take-le n buffer le);
-}
 
 -- nothing more comes yet
 pub reads_after_none : (a : SourceState) (before : List ℕ) → ReadsAfter before a a before
@@ -36,7 +33,7 @@ pub reads_after_nothing : (before : List ℕ) (a b c : SourceState) (bytes buffe
 reads_after_nothing before a b c bytes buffer n p q none =
     subst (ReadsAfter before a c) (ap (λ k. bytes ++ take k buffer) none ∙ append-nil bytes) (reads_after_more before a b c bytes (take n buffer) p q)
 
-pub ruleset taking_steps = (Reads-none, Reads-more, skips_none, skips_more, reads_after_none, reads_after_more)
+pub ruleset taking_steps = (Reads-none, Reads-more, reads_after_none, reads_after_more)
 
 -- what was ahead was taken, and bytes that followed it
 pub takes_here : (old new : Supply) (bytes : List ℕ) → ReadsAfter old.ahead old.source new.source bytes → new.ahead ≡ [] → old.left + length old.ahead ≡ new.left + length bytes → Takes old new bytes

@@ -9,4 +9,5 @@ pub mod OrderLemmas
 pub mod SightLemmas
 pub mod SlottedLemmas
 pub mod SpliceLemmas
+pub mod StoredLemmas
 pub mod StreamLemmas

@@ -9,4 +9,5 @@ pub mod HeaderSteps
 pub mod Intake
 pub mod Name
 pub mod Order
+pub mod Stored
 pub mod Stream

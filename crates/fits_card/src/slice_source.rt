@@ -11,4 +11,11 @@ impl Source for &[u8] {
     fn read(&mut self, buffer: &mut [u8]) -> io::Result<usize> {
         Read::read(self, buffer)
     }
+
+    fn skip(&mut self, _buffer: &mut [u8], len: usize) -> io::Result<usize> {
+        let count = len.min(self.len());
+        let (_, rest) = self.split_at(count);
+        *self = rest;
+        Ok(count)
+    }
 }

@@ -4,7 +4,6 @@ ghost use Rattle.std.specs.Io.KnownBytes.{IsAtEnd};
 ghost use Rattle.fits_card.specs.Intake.{Skips};
 ghost use Rattle.fits_card.specs.Stream.{SourceState, FailsOnce, FailsToRead, Reads};
 
-use crate::skipping::skip_by_reading;
 use std::io;
 
 /// What bytes come from. As std's `Read`, with a count of its failed calls.
@@ -23,14 +22,11 @@ pub trait Source {
 
     /// Goes past the next bytes, so many or as many as there are, and says how many. The buffer may
     /// be written over.
-    final fn skip(&mut self, buffer: &mut [u8], len: usize) -> io::Result<usize>
+    fn skip(&mut self, buffer: &mut [u8], len: usize) -> io::Result<usize>
         requires { 0 < length buffer.old }
         ensures ok { IfOk result (Skips (state self.old) (state self.new)) }
         ensures within { IfOk result (λ count. count ≤ len) }
         ensures ends { IfOk result (λ count. count < len → IsAtEnd (state self.new).remaining) }
         ensures size { length buffer.new ≡ length buffer.old }
-        ensures err { OnErr result (FailsOnce (state self.old) (state self.new)) }
-    {
-        skip_by_reading(self, buffer, len)
-    }
+        ensures err { OnErr result (FailsOnce (state self.old) (state self.new)) };
 }

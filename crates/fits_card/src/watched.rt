@@ -2,6 +2,7 @@ ghost use Rattle.std.specs.Prelude.{◌≡◌};
 
 use crate::count::Count;
 use crate::sink::Sink;
+use crate::skipping::skip_by_reading;
 use crate::source::Source;
 use std::io;
 use std::io::{Read, Write};
@@ -57,6 +58,17 @@ impl<R: Read> Source for Watched<R> {
     fn read(&mut self, buffer: &mut [u8]) -> io::Result<usize> {
         match self.stream.read(buffer) {
             Ok(n) => Ok(n),
+            Err(error) => {
+                self.failed.tick();
+                Err(error)
+            }
+        }
+    }
+
+    #[tactic(auto, using(crate::proofs::IntakeLemmas::skips_gone))]
+    fn skip(&mut self, buffer: &mut [u8], len: usize) -> io::Result<usize> {
+        match skip_by_reading(&mut self.stream, buffer, len) {
+            Ok(count) => Ok(count),
             Err(error) => {
                 self.failed.tick();
                 Err(error)

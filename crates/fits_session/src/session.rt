@@ -90,7 +90,7 @@ impl Session {
 
     /// Reads the file that a source has, each data unit into its place, and opens it.
     ///
-    /// The source is read to its end, or past the limit of a file. That it is too long comes before
+    /// The source is gone through to its end, or past the limit of a file. That it is too long comes before
     /// all else, then a failed call, then a fault of its bytes. `Memory` may stand anywhere.
     pub fn read<R: Source>(alloc: Global, source: &mut R) -> Result<Session, ReadFileFault>
         ensures ok { IfOk result (λ session. Gives (R.state source.old)

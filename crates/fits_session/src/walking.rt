@@ -59,8 +59,8 @@ pub(crate) fn walk<K: Kept + Drop, R: Source>(
     }
 }
 
-/// What is kept of the HDUs of a source, and whether bytes follow the last. It is read to its end,
-/// or past the limit of a file.
+/// What is kept of the HDUs of a source, and whether bytes follow the last. It is gone
+/// through to its end, or past the limit of a file.
 pub(crate) fn read_kept<K: Kept + Drop, R: Source>(
     alloc: Global,
     source: &mut R,

@@ -1,6 +1,7 @@
 //! Sources over memory that behave by a plan.
+ghost use Rattle.std.specs.Prelude.{None, Some};
 
-use fits_card::Watched;
+use fits_card::{FileSource, Stored, Watched};
 use std::io;
 use std::io::{Error, ErrorKind, Read};
 
@@ -48,4 +49,40 @@ pub fn reader(bytes: &[u8], plan: Plan) -> Watched<PlannedReader<'_>> {
         plan,
         calls: 0,
     })
+}
+
+/// Bytes in memory that have places, of which so many are known to be there.
+#[derive(Drop)]
+pub struct StoredBytes<'a> {
+    bytes: &'a [u8],
+    known: usize,
+}
+
+impl Stored for StoredBytes<'_> {
+    ghost bytes = { λ it. Some it.bytes.now };
+
+    fn known_len(&self) -> u64 {
+        self.known.min(self.bytes.len()) as u64
+    }
+
+    fn read_from(&self, buffer: &mut [u8], place: u64) -> io::Result<usize> {
+        let start = (place as usize).min(self.bytes.len());
+        let (_, rest) = self.bytes.split_at(start);
+        let count = buffer.len().min(rest.len());
+        let (piece, _) = rest.split_at(count);
+        let (front, _) = buffer.split_at_mut(count);
+        front.copy_from_slice(piece);
+        Ok(count)
+    }
+}
+
+/// It isn't read as a stream.
+impl Read for StoredBytes<'_> {
+    fn read(&mut self, _buf: &mut [u8]) -> io::Result<usize> {
+        Ok(0)
+    }
+}
+
+pub fn stored(bytes: &[u8], known: usize) -> FileSource<StoredBytes<'_>> {
+    FileSource::stored(StoredBytes { bytes, known })
 }

@@ -2,7 +2,7 @@
 
 use crate::builders::{FileText, P0, PIXEL, file_of};
 use crate::checks::same;
-use crate::planned::{Plan, SMOOTH, reader};
+use crate::planned::{Plan, SMOOTH, reader, stored};
 use fits_session::{OpenFault, ReadFileFault, Session, read_outlines, read_sums};
 use std::process::Abort;
 use std::test::Fail;
@@ -59,6 +59,21 @@ fn the_ends_of_prefixes_are_summed_or_refused_alike(rt: HostRuntime) -> Result<(
                 let plan = Plan { step, failing: 0 };
                 let found = read_sums(rt.alloc(), &mut reader(front, plan)).err();
                 same!(rt; found, fault.map(ReadFileFault::Open), (len, step));
+            }
+        }
+    }
+    Ok(())
+}
+
+#[test]
+fn data_are_gone_past_as_they_are_read(rt: HostRuntime) -> Result<(), Fail> {
+    let bytes = file_of(rt.alloc(), FILE)?;
+    for (least, most, fault) in PREFIXES {
+        for len in [*least, *most] {
+            let (front, _) = bytes.split_at(len.min(bytes.len()));
+            for known in [0usize, len / 2, len] {
+                let found = read_outlines(rt.alloc(), &mut stored(front, known)).err();
+                same!(rt; found, fault.map(ReadFileFault::Open), (len, known));
             }
         }
     }

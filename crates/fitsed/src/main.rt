@@ -6,9 +6,10 @@ mod arguments;
 use arguments::{Task, command, task_of};
 use clap::Error;
 use clap::error::ErrorKind;
-use fits_card::Watched;
+use fits_card::{FileSource, Watched};
 use fits_cli::{End, Fault, LazyFile, Telling, run_edit, run_telling};
 use std::alloc::AllocError;
+use std::fs::File;
 use std::io::BufWriter;
 use std::process::ExitCode;
 use std::rt::Files;
@@ -41,7 +42,7 @@ fn main(rt: HostRuntime) -> ExitCode {
 }
 
 // Runs `edit` over the file at `from` and standard input.
-fn edit<R: Files + Input + Print + AllocGlobal>(rt: &R, from: &str, to: &str) -> End {
+fn edit<R: Files<File = File> + Input + Print + AllocGlobal>(rt: &R, from: &str, to: &str) -> End {
     let Ok(file) = fs::open(rt, from) else {
         return End::from(Fault::ReadFailed);
     };
@@ -53,7 +54,7 @@ fn edit<R: Files + Input + Print + AllocGlobal>(rt: &R, from: &str, to: &str) ->
     };
     run_edit(
         rt.alloc(),
-        &mut Watched::new(file),
+        &mut source_of(file),
         &mut Watched::new(rt.reader()),
         &mut Watched::new(saved),
         &mut Watched::new(out),
@@ -61,7 +62,7 @@ fn edit<R: Files + Input + Print + AllocGlobal>(rt: &R, from: &str, to: &str) ->
 }
 
 // Runs `list`, `sum` or `verify` over the file at `from`.
-fn tell<R: Files + Print + AllocGlobal>(rt: &R, from: &str, telling: Telling) -> End {
+fn tell<R: Files<File = File> + Print + AllocGlobal>(rt: &R, from: &str, telling: Telling) -> End {
     let Ok(file) = fs::open(rt, from) else {
         return End::from(Fault::ReadFailed);
     };
@@ -71,9 +72,17 @@ fn tell<R: Files + Print + AllocGlobal>(rt: &R, from: &str, telling: Telling) ->
     run_telling(
         rt.alloc(),
         telling,
-        &mut Watched::new(file),
+        &mut source_of(file),
         &mut Watched::new(out),
     )
+}
+
+// A file to read: a regular one has places, so that its bytes can be gone past unread.
+fn source_of(file: File) -> FileSource<File> {
+    match file.metadata() {
+        Ok(about) if about.is_file() => FileSource::stored(file),
+        _ => FileSource::stream(file),
+    }
 }
 
 // Reports a fault on standard error, and gives its status.

@@ -1,6 +1,6 @@
 use Rattle.std.proofs.Common.{arith}
 use Rattle.std.proofs.lemmas.Grind.{common_steps}
-use Rattle.fits_card.proofs.IntakeLemmas.{skips_more}
+use Rattle.fits_card.proofs.StoredLemmas.{past_read}
 use Rattle.fits_card.proofs.skipping.skip_by_reading.Goals as goal
 
 pub loop-count-preserved : goal.loop-count-preserved
@@ -8,9 +8,9 @@ loop-count-preserved g c = record {
   wide = grind (arith, common_steps);
   size = grind (arith, common_steps);
   within = grind (arith, common_steps);
-  skipped = skips_more _ _ _ c.loop-count.count c.in_ok-n.n c.read.new.buffer c.loop-count.invariant.skipped c.in_ok-n.ensures.ok c.in_ok-n.ensures.bound.0;
+  gone = past_read _ _ _ c.loop-count.count c.in_ok-n.n c.read.new.buf c.loop-count.invariant.gone c.in_ok-n.ensures.bytes.0 c.in_ok-n.ensures.bound.0;
 }
 
 -- the source ended
 pub returns-then-n-eq0-clause-ends : goal.returns-then-n-eq0-clause-ends
-returns-then-n-eq0-clause-ends g c less = c.in_ok-n.ensures.ends c.if-n-eq0.true (grind (arith, common_steps))
+returns-then-n-eq0-clause-ends g c less = c.in_ok-n.ensures.bytes.1 c.if-n-eq0.true (grind (arith, common_steps))

@@ -1,5 +1,5 @@
 use Rattle.std.proofs.Common.{◌≡◌, ◌≤◌, ◌-◌, ◌<◌, length}
-use Rattle.fits_card.specs.Intake.{Skips}
+use Rattle.fits_card.specs.Stored.{GoesPast}
 use Rattle.fits_card.proofs.skipping.skip_by_reading.Given as goal
 
 abbrev pub invariant-loop-count : goal.invariant-loop-count
@@ -7,7 +7,7 @@ invariant-loop-count g l = record {
   wide : 0 < length l.piece;
   size : length l.piece ≡ length l.fn.piece;
   within : l.count ≤ l.len;
-  skipped : Skips (g.R.Source.state l.fn.source) (g.R.Source.state l.source) l.count;
+  gone : GoesPast (g.R.Read.remaining l.fn.reader) (g.R.Read.remaining l.reader) l.count;
 }
 
 abbrev pub decreases-loop-count : goal.decreases-loop-count
