@@ -1,6 +1,7 @@
-ghost use Rattle.std.specs.Prelude.{◌≡◌};
+ghost use Rattle.std.specs.Prelude.{◌≡◌, [], ◌∷◌, IfOk};
 
 use crate::card::Card;
+use std::alloc::{AllocError, Global};
 use std::marker::Model;
 
 /// Cards, one after another. Contracts see them as a list of cards.
@@ -22,6 +23,15 @@ impl Cards {
         ensures { result ≡ cards.items }
     {
         Cards { cards }
+    }
+
+    /// A single card.
+    pub fn one(alloc: Global, card: Card) -> Result<Cards, AllocError>
+        ensures { IfOk result (λ cards. cards ≡ card ∷ []) }
+    {
+        let mut cards = Vec::with_capacity(alloc, 1)?;
+        cards.push(card)?;
+        Ok(Cards { cards })
     }
 
     pub fn as_slice(&self) -> &[Card]

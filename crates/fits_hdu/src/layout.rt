@@ -48,8 +48,8 @@ pub(crate) fn layout_of(header: &mut Header) -> Layout
     }
 }
 
-// How many bytes stand before the fill.
-fn used_bytes(shape: &Shape) -> usize
+/// How many bytes of its data unit stand before the fill.
+pub(crate) fn used_bytes(shape: &Shape) -> usize
     requires { data_size shape.now ≤ 2 ^ 34 }
     ensures { result ≡ data_size shape.now }
 {

@@ -36,7 +36,7 @@ pub use hdu::Hdu;
 pub use hdu_sums::HduSums;
 pub use kept::Kept;
 pub use keyword::KeywordFault;
-pub use keyword_cards::KeywordCards;
+pub use keyword_cards::{KeywordCards, replacement};
 pub use kind::Kind;
 pub use laws::{
     a_change_leaves_an_hdu, a_stamped_hdu_is_right, an_hdu_or_a_fault, how_hdus_begin,

@@ -5,17 +5,17 @@ ghost use Rattle.fits_card.specs.Intake.{supply};
 ghost use Rattle.fits_card.specs.Stream.{FailsOnce};
 ghost use Rattle.fits_rules.specs.Class.{is_primary};
 ghost use Rattle.fits_rules.specs.Shape.{shape_of};
-ghost use Rattle.fits_rules.specs.Size.{data_length, data_size};
+ghost use Rattle.fits_rules.specs.Size.{data_length};
 ghost use Rattle.fits_hdu.specs.Passing.{IsSummed, TakesFewer, TakesSummed};
 ghost use Rattle.fits_hdu.specs.Reading.{HduStops, TakesHdu};
 
 use crate::described::{Described, read_described};
 use crate::fault::HduFault;
-use crate::layout::fill_byte;
+use crate::layout::{fill_byte, used_bytes};
 use crate::read_fault::ReadHduFault;
 use crate::unit_sums::UnitSums;
 use fits_card::{Intake, PIECE_LEN, Source};
-use fits_rules::{Shape, data_bytes};
+use fits_rules::Shape;
 use std::alloc::Global;
 use std::io;
 
@@ -46,7 +46,7 @@ pub(crate) fn read_summed<R: Source>(
         (supply (R.state source.old) intake.old) (supply (R.state source.new) intake.new)) }
 {
     let head = read_described(alloc, intake, source, primary)?;
-    let used = used_len(&head.shape);
+    let used = used_bytes(&head.shape);
     let fill = fill_byte(head.shape.class);
     match sum_unit(intake, source, head.unit_len, used, fill) {
         Ok(Some(sums)) => Ok(Summed { head, sums }),
@@ -59,15 +59,6 @@ pub(crate) fn read_summed<R: Source>(
             Err(ReadHduFault::Failed)
         }
     }
-}
-
-// How many bytes of the data unit are data.
-#[tactic(auto, unfolding(fits_rules::specs::Size::data_length))]
-fn used_len(shape: &Shape) -> usize
-    requires { data_length shape.now ≤ 2 ^ 34 }
-    ensures { result ≡ data_size shape.now }
-{
-    data_bytes(shape).unwrap_or(0) as usize
 }
 
 // The sums of so many bytes that come next, of which the first are data and the others fill. It is

@@ -18,9 +18,9 @@ use fits_header::Header;
 use fits_sum::fold;
 use fits_value::{ValueKind, card_string, scan_card};
 
-const DATASUM: Name = Name(*b"DATASUM ");
+pub(crate) const DATASUM: Name = Name(*b"DATASUM ");
 
-const CHECKSUM: Name = Name(*b"CHECKSUM");
+pub(crate) const CHECKSUM: Name = Name(*b"CHECKSUM");
 
 /// What the leads of DATASUM and CHECKSUM say. It takes no memory.
 #[tactic(auto, unfolding(crate::specs::Sums::sum_keywords))]

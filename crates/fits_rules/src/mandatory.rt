@@ -59,14 +59,18 @@ pub fn shape(alloc: Global, cards: &mut CardList, primary: bool) -> Result<Shape
 {
     // It has room for many axes: it is made once, and filled where it stands.
     let mut reading = ShapeReading::new();
-    match read_header(cards, primary, &mut reading) {
+    match read_mandatory(cards, primary, &mut reading) {
         Ok(()) => to_shape(alloc, cards, &reading),
         Err(place) => Err(ShapeFault::Bad(place)),
     }
 }
 
 // The shape of a header as it is, or the first broken place before its counts.
-fn read_header(cards: &mut CardList, primary: bool, reading: &mut ShapeReading) -> Result<(), usize>
+fn read_mandatory(
+    cards: &mut CardList,
+    primary: bool,
+    reading: &mut ShapeReading,
+) -> Result<(), usize>
     requires empty { reading.old.axes ≡ [] }
     ensures ok { OnOk result (shape_of primary cards.old.header.cards
         ≡ shape_read cards.old.header.cards reading.new) }

@@ -148,15 +148,6 @@ fn push(cards: &mut Vec<Card>, card: Card) -> Result<(), AllocError>
     Ok(())
 }
 
-// The one card of a value.
-fn one_card(alloc: Global, card: Card) -> Result<Cards, AllocError>
-    ensures { IfOk result (λ cards. cards ≡ card ∷ []) }
-{
-    let mut cards = Vec::with_capacity(alloc, 1)?;
-    push(&mut cards, card)?;
-    Ok(Cards::new(cards))
-}
-
 // How many cards a string takes that goes over cards, where its comment fits the last one.
 fn card_count(lead: [u8; 10], characters: &[u8], comment: &Option<Text>) -> Option<usize>
     requires { length lead ≡ 10 }
@@ -252,7 +243,7 @@ fn written(
         return Ok(Cards::new(cards));
     }
     let card = value_card(&lead, value, comment).ok_or(WriteFault::BadValue)?;
-    Ok(one_card(alloc, card)?)
+    Ok(Cards::one(alloc, card)?)
 }
 
 /// Writes a value and a comment to cards of a name that may have one: in fixed format, and a

@@ -7,14 +7,11 @@ ghost use Rattle.fits_hdu.specs.Keyword.{replacing};
 ghost use Rattle.fits_hdu.specs.declared.keyword_cards.KeywordCards.{KeywordCards};
 
 use super::Hdu;
-use crate::keyword_cards::KeywordCards;
+use crate::keyword_cards::{KeywordCards, replacement};
+use crate::sums::{CHECKSUM, DATASUM};
 use fits_card::{Card, Cards, Change, Name};
 use fits_sum::{datasum_text, encode, fold};
 use std::alloc::{AllocError, Global};
-
-const DATASUM: Name = Name(*b"DATASUM ");
-
-const CHECKSUM: Name = Name(*b"CHECKSUM");
 
 impl Hdu {
     ghost use Rattle.std.specs.Prelude.{◌≡◌, ◌≤◌, ◌+◌, ◌-◌, ◌^◌, length, Ok, Some, OnOk, OnErr};
@@ -156,25 +153,4 @@ fn fill_len(len: usize) -> usize
     ensures { result ≡ 8 - len }
 {
     if len < 8 { 8 - len } else { 0 }
-}
-
-// New cards instead of a keyword's; where it has none they go after the last of so many cards.
-#[tactic(auto, unfolding(fits_card::specs::Change::new_cards))]
-fn replacement(count: usize, old: Option<KeywordCards>, cards: Cards) -> Change
-    requires { count < 2 ^ 63 }
-    ensures value { result ≡ replacing count old cards }
-    ensures cards { new_cards result ≡ cards }
-{
-    match old {
-        Some(old) => Change::Splice {
-            place: old.place,
-            removed: old.count,
-            cards,
-        },
-        None => Change::Splice {
-            place: count + 1,
-            removed: 0,
-            cards,
-        },
-    }
 }

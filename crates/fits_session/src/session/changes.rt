@@ -5,7 +5,6 @@ ghost use Rattle.fits_card.specs.Header.{IsInnerCard};
 ghost use Rattle.fits_rules.specs.Class.{is_primary};
 ghost use Rattle.fits_rules.specs.Shape.{shape_of};
 ghost use Rattle.fits_hdu.specs.Hdu.{IsHdu};
-ghost use Rattle.fits_hdu.specs.Keyword.{replacing};
 ghost use Rattle.fits_hdu.specs.State.{ReadsUpTo};
 ghost use Rattle.fits_hdu.specs.Work.{keyword_reads};
 ghost use Rattle.fits_session.specs.CardEdit.{change_of, is_keyword_name, is_splice_within, is_within, own_refusal, set_of, tested, unset_of};
@@ -15,7 +14,7 @@ ghost use Rattle.fits_session.specs.Work.{own_reads};
 use crate::card_edit::CardEdit;
 use crate::refusal::Refusal;
 use fits_card::{Card, Cards, Change, Name};
-use fits_hdu::{Hdu, KeywordCards};
+use fits_hdu::{Hdu, replacement};
 use fits_value::{Text, Value, write_value};
 use std::alloc::{AllocError, Global};
 
@@ -62,21 +61,12 @@ fn put_card(
         (card.now ∷ [])))) }
 {
     test_card(count, place, removed, card)?;
-    let cards = one_card(alloc, card)?;
+    let cards = Cards::one(alloc, *card)?;
     Ok(Change::Splice {
         place,
         removed,
         cards,
     })
-}
-
-// A card as cards.
-fn one_card(alloc: Global, card: &Card) -> Result<Cards, AllocError>
-    ensures { IfOk result (λ cards. cards ≡ card.now ∷ []) }
-{
-    let mut cards = Vec::with_capacity(alloc, 1)?;
-    cards.push(*card)?;
-    Ok(Cards::new(cards))
 }
 
 // Tests a card that comes to a place among so many others, instead of so many from there on.
@@ -172,27 +162,6 @@ fn set_keyword(
     let cards = write_value(alloc, name, value, comment)?;
     let old = hdu.keyword_cards(name);
     Ok(replacement(hdu.card_count(), old, cards))
-}
-
-// New cards instead of a keyword's; where it has none they go after the last of so many cards.
-#[tactic(auto, unfolding(fits_card::specs::Change::new_cards))]
-fn replacement(count: usize, old: Option<KeywordCards>, cards: Cards) -> Change
-    requires { count < 2 ^ 63 }
-    ensures value { result ≡ replacing count old cards }
-    ensures cards { new_cards result ≡ cards }
-{
-    match old {
-        Some(old) => Change::Splice {
-            place: old.place,
-            removed: old.count,
-            cards,
-        },
-        None => Change::Splice {
-            place: count + 1,
-            removed: 0,
-            cards,
-        },
-    }
 }
 
 // A keyword's cards go.

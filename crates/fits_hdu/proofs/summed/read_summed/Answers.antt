@@ -3,6 +3,7 @@ use Rattle.std.specs.Prelude.{◌%◌}
 use Rattle.fits_card.proofs.SightLemmas.{takes_fewer}
 use Rattle.std.proofs.lemmas.Result.{err_from_is_err_and}
 use Rattle.fits_rules.proofs.LawLemmas.{shape_primary}
+use Rattle.fits_hdu.proofs.LayoutLemmas.{data_within}
 use Rattle.fits_hdu.proofs.PassingLemmas.{hdu_summed, stops_summed, unit_words}
 use Rattle.fits_hdu.proofs.summed.read_summed.Goals as goal
 
@@ -10,8 +11,8 @@ pub returns-in-Ok-Some-clause-ok : goal.returns-in-Ok-Some-clause-ok
 returns-in-Ok-Some-clause-ok g c =
     let head = c.in_ok-head.ensures in
     let unit = c.in-Ok-Some.ensures in
-    hdu_summed _ _ _ _ c.in_ok-head.head.unit_len c.used_len-used.result c.fill_byte-fill.result c.in_ok-head.head.cards.header c.in_ok-head.head.shape c.in-Ok-Some.sums head.taken head.whole head.described
-    (rw c.in-Ok-Some.field-0-is at unit.ok) (rw c.in-Ok-Some.field-0-is at unit.count) head.len c.used_len-used.ensures c.fill_byte-fill.ensures (shape_primary _ _ _ head.described)
+    hdu_summed _ _ _ _ c.in_ok-head.head.unit_len c.used_bytes-used.result c.fill_byte-fill.result c.in_ok-head.head.cards.header c.in_ok-head.head.shape c.in-Ok-Some.sums head.taken head.whole head.described
+    (rw c.in-Ok-Some.field-0-is at unit.ok) (rw c.in-Ok-Some.field-0-is at unit.count) head.len c.used_bytes-used.ensures c.fill_byte-fill.ensures (shape_primary _ _ _ head.described)
 
 -- the source ended within the data unit
 pub returns-in-Ok-None-clause-err : goal.returns-in-Ok-None-clause-err
@@ -38,10 +39,10 @@ returns-in_err-head-clause-err g c =
 pub returns-in-Err-clause-err : goal.returns-in-Err-clause-err
 returns-in-Err-clause-err g c = omega (arith, c.in-Err.ensures.err, c.in_ok-head.ensures.taken.drawn.read.quiet)
 
-pub used_len-used-requires : goal.used_len-used-requires
-used_len-used-requires g c =
+pub used_bytes-used-requires : goal.used_bytes-used-requires
+used_bytes-used-requires g c =
     let head = c.in_ok-head.ensures in
-    omega (arith, head.len, head.room, takes_fewer _ _ _ head.taken, c.requires)
+    data_within c.in_ok-head.head.shape c.in_ok-head.head.unit_len head.len (omega (arith, head.room, takes_fewer _ _ _ head.taken, c.requires))
 
 pub sum_unit-requires-clause-room : goal.sum_unit-requires-clause-room
 sum_unit-requires-clause-room g c =

@@ -5,7 +5,7 @@ use Rattle.fits_rules.specs.Shape.{shape_of}
 use Rattle.fits_rules.specs.ShapeSteps.{shape_read, written}
 use Rattle.fits_rules.specs.declared.shape_reading.ShapeReading.{ShapeReading}
 use Rattle.fits_rules.proofs.PartLemmas.{no_front, reads_on, stops_on, written_ok, written_err}
-use Rattle.fits_rules.proofs.mandatory.read_header.Goals as goal
+use Rattle.fits_rules.proofs.mandatory.read_mandatory.Goals as goal
 
 pub returns-in_err-front-clause-err : goal.returns-in_err-front-clause-err
 returns-in_err-front-clause-err c =
