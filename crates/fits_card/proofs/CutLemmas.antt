@@ -9,10 +9,10 @@ use Rattle.std.proofs.Math.Seq.{take-add}
 use Rattle.fits_card.specs.Card.{IsEnd, is_end}
 use Rattle.fits_card.specs.Header.{Header, IsHeader, IsInnerCard, IsHeaderOf, HasNoHeader, joined_cards, header_bytes, header_length, fill_length}
 use Rattle.fits_card.specs.HeaderSteps.{HasHeader, HasNoEnd, IsEndPlace, header_at, piece, pieces}
-use Rattle.fits_card.specs.Intake.{Finds, Supply, Takes}
+use Rattle.fits_stream.specs.Intake.{Finds, Supply, Takes}
 use Rattle.fits_card.proofs.EmitLemmas.{joined-at}
 use Rattle.fits_card.proofs.HeaderLemmas.{length-joined_cards, length-header_bytes}
-use Rattle.fits_card.proofs.SightLemmas.{finds_ahead, takes_ahead}
+use Rattle.fits_stream.proofs.SightLemmas.{finds_ahead, takes_ahead}
 
 -- one more piece
 pub pieces-more : (f : List ℕ) (k : ℕ) (cards : List (List ℕ)) (card : List ℕ) → cards ≡ pieces f k → card ≡ piece f k → cards ++ card ∷ [] ≡ pieces f (k + 1)

@@ -2,9 +2,9 @@
 use Rattle.std.proofs.Common.{◌≡◌, ℕ, ◌+◌, ◌<◌, ◌≤◌, List, [], ◌∷◌, ◌++◌, length, take, drop, get_or, ap, sym, ◌∙◌}
 use Rattle.std.proofs.lemmas.List.{append-nil, take_all, take_more, drop_more, take-append-drop}
 use Rattle.std.proofs.lemmas.List.Concat.{flat_map-append}
-use Rattle.fits_card.specs.Stream.{SinkState, Prints, PrintsFront}
+use Rattle.fits_stream.specs.Stream.{SinkState, Prints, PrintsFront}
 use Rattle.fits_card.specs.Header.{joined_cards}
-use Rattle.fits_card.proofs.StreamLemmas.{Prints-more, Prints-none, PrintsFront-longer, PrintsFront-more}
+use Rattle.fits_stream.proofs.StreamLemmas.{Prints-more, Prints-none, PrintsFront-longer, PrintsFront-more}
 
 -- one more card
 pub joined-more : (cards : List (List ℕ)) (i : ℕ) (card : List ℕ) → i < length cards → card ≡ get_or cards i card → joined_cards (take (i + 1) cards) ≡ joined_cards (take i cards) ++ card

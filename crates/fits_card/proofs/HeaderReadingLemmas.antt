@@ -8,10 +8,10 @@ use Rattle.std.proofs.Math.Seq.{take-add}
 use Rattle.fits_card.specs.Card.{IsEnd}
 use Rattle.fits_card.specs.Header.{Header, IsHeader, IsInnerCard, HasNoHeader, header_bytes, joined_cards}
 use Rattle.fits_card.specs.HeaderSteps.{HasNoEnd, IsEndPlace, piece, pieces}
-use Rattle.fits_card.specs.Intake.{Finds, IsSpent, Supply, Takes}
+use Rattle.fits_stream.specs.Intake.{Finds, IsSpent, Supply, Takes}
 use Rattle.fits_card.proofs.HeaderLemmas.{fill_length-by_cards, length-joined_cards}
 use Rattle.fits_card.proofs.CutLemmas.{header-end_place, inner-pieces, joined-pieces, length-spread, pieces-more, piece-joined_cards, length-piece}
-use Rattle.fits_card.proofs.SightLemmas.{finds_spent, takes_and_holds, takes_more, takes_none}
+use Rattle.fits_stream.proofs.SightLemmas.{finds_spent, takes_and_holds, takes_more, takes_none}
 
 -- one more card of a block, after others
 pub pushed : (start cards next : List (List ℕ)) (card : List ℕ) (f : List ℕ) (k : ℕ) → cards ≡ start ++ pieces f k → next ≡ cards ++ card ∷ [] → card ≡ piece f k → next ≡ start ++ pieces f (k + 1)

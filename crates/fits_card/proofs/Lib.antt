@@ -4,10 +4,6 @@ pub mod EmitLemmas
 pub mod FillLemmas
 pub mod HeaderLemmas
 pub mod HeaderReadingLemmas
-pub mod IntakeLemmas
 pub mod OrderLemmas
-pub mod SightLemmas
 pub mod SlottedLemmas
 pub mod SpliceLemmas
-pub mod StoredLemmas
-pub mod StreamLemmas

@@ -1,7 +1,7 @@
 -- How reading a header from a source may end (own).
 use Rattle.fits_card.specs.Header.{HasNoHeader}
-use Rattle.fits_card.specs.Intake.{Supply, Finds}
-use Rattle.fits_card.specs.Stream.{FailsOnce, StaysQuiet}
+use Rattle.fits_stream.specs.Intake.{Supply, Finds}
+use Rattle.fits_stream.specs.Stream.{FailsOnce, StaysQuiet}
 use Rattle.fits_card.specs.declared.header_reading.ReadHeaderFault.{ReadHeaderFault}
 use Rattle.fits_card.specs.declared.header_reading.ReadHeaderFault.TheVariants.{NoEnd, Memory, Failed}
 

@@ -1,4 +1,3 @@
-pub mod Ahead
 pub mod Card
 pub mod CardList
 pub mod Change
@@ -6,8 +5,5 @@ pub mod Fill
 pub mod Header
 pub mod HeaderReading
 pub mod HeaderSteps
-pub mod Intake
 pub mod Name
 pub mod Order
-pub mod Stored
-pub mod Stream

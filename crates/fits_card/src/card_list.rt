@@ -3,14 +3,12 @@ ghost use Rattle.fits_card.specs.declared.card.TheConstants.{CARD_LEN};
 ghost use Rattle.fits_card.specs.Header.{header_length};
 
 use crate::card::{CARD_LEN, Card};
-use crate::count::Count;
 use crate::fill::{Fill, fill_len};
 use crate::room::room_for;
-use crate::sink::Sink;
 use crate::slotted::Slotted;
 use crate::slotted_cards::{splice_cards, write_cards};
 use crate::text::are_spaces;
-use crate::writing::write_all;
+use fits_stream::{Count, Sink, write_all};
 use std::alloc::{AllocError, Global};
 use std::io;
 use std::marker::Model;
@@ -62,7 +60,7 @@ impl Model for CardList {
 impl CardList {
     ghost use Rattle.std.specs.Prelude.{◌≡◌, ◌+◌, ◌-◌, ◌*◌, ◌^◌, ◌≤◌, ◌<◌, [], ◌∷◌, length, slice_index_or, vec_capacity, All, IfOk, IsOk, OnOk, OnErr};
     ghost use Rattle.fits_card.specs.Fill.{fill_bytes};
-    ghost use Rattle.fits_card.specs.Stream.{Prints, PrintsFront};
+    ghost use Rattle.fits_stream.specs.Stream.{Prints, PrintsFront};
     ghost use Rattle.fits_card.specs.Card.{IsEnd};
     ghost use Rattle.fits_card.specs.declared.card.TheConstants.{CARD_LEN};
     ghost use Rattle.fits_card.specs.CardList.{ReadsUpTo};

@@ -8,7 +8,7 @@ use crate::card::{CARD_LEN, Card};
 use crate::card_list::CardList;
 use crate::fill::fill_len;
 use crate::header_reading::{ReadHeaderFault, read_header};
-use crate::intake::Intake;
+use fits_stream::Intake;
 use std::alloc::{AllocError, Global};
 use thiserror::Error;
 

@@ -5,15 +5,14 @@ ghost use Rattle.fits_card.specs.declared.card_list.TheConstants.{BLOCK_LEN};
 ghost use Rattle.fits_card.specs.Header.{header_bytes, joined_cards, IsHeader, IsInnerCard};
 ghost use Rattle.fits_card.specs.HeaderReading.{HeaderStops};
 ghost use Rattle.fits_card.specs.HeaderSteps.{pieces, IsEndPlace};
-ghost use Rattle.fits_card.specs.Intake.{supply, Takes};
+ghost use Rattle.fits_stream.specs.Intake.{supply, Takes};
 
 use crate::card::{CARD_LEN, Card};
 use crate::card_list::{BLOCK_LEN, CardList};
 use crate::cut::{card_at, end_place};
 use crate::fill::Fill;
-use crate::intake::Intake;
 use crate::room::room_for;
-use crate::source::Source;
+use fits_stream::{Intake, Source};
 use std::alloc::{AllocError, Global};
 use thiserror::Error;
 

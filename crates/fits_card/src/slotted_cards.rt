@@ -3,13 +3,11 @@ ghost use Rattle.std.specs.Prelude.{◌≡◌, ◌≤◌, ◌<◌, ◌+◌, leng
 ghost use Rattle.fits_card.specs.declared.card.TheConstants.{CARD_LEN};
 ghost use Rattle.fits_card.specs.Change.{spliced};
 ghost use Rattle.fits_card.specs.Header.{joined_cards};
-ghost use Rattle.fits_card.specs.Stream.{Prints, PrintsFront};
+ghost use Rattle.fits_stream.specs.Stream.{Prints, PrintsFront};
 
 use crate::card::Card;
-use crate::count::Count;
-use crate::sink::Sink;
 use crate::slotted::Slotted;
-use crate::writing::write_all;
+use fits_stream::{Count, Sink, write_all};
 use std::io;
 
 /// From a place on, so many cards go, and these stand there instead.

@@ -3,8 +3,8 @@ use Rattle.std.proofs.Common.{ℕ, List, ◌++◌}
 use Rattle.std.specs.Prelude.{codes}
 use Rattle.std.specs.Fmt.{decimal}
 use Rattle.fits_cli.specs.Answer.{complaint}
-use Rattle.fits_card.specs.Stream.{SinkState, Prints, PrintsFront}
-use Rattle.fits_card.proofs.StreamLemmas.{Prints-more, PrintsFront-more, PrintsFront-longer}
+use Rattle.fits_stream.specs.Stream.{SinkState, Prints, PrintsFront}
+use Rattle.fits_stream.proofs.StreamLemmas.{Prints-more, PrintsFront-more, PrintsFront-longer}
 
 -- a complaint isn't printed whole: not its first word
 pub complaint_word : (a b : SinkState) (n : ℕ) (why : List ℕ) → PrintsFront (codes "line ") a b → PrintsFront (complaint n why) a b

@@ -4,9 +4,9 @@ use Rattle.std.specs.Prelude.{nat_le, if◌then◌else◌, IfSome}
 use Rattle.std.specs.Result.{OnOk, IfErr, IsErrAnd}
 use Rattle.std.proofs.lemmas.Result.{err_from_is_err_and}
 use Rattle.std.specs.Io.KnownBytes.{Appends, Consumes, IsAtEnd}
-use Rattle.fits_card.specs.Intake.{Gives, Tells}
-use Rattle.fits_card.specs.Stream.{SourceState, SinkState, FailsToFlush, Flushes, Prints, PrintsFront, Reads, StaysQuiet}
-use Rattle.fits_card.proofs.StreamLemmas.{Consumes-none}
+use Rattle.fits_stream.specs.Intake.{Gives, Tells}
+use Rattle.fits_stream.specs.Stream.{SourceState, SinkState, FailsToFlush, Flushes, Prints, PrintsFront, Reads, StaysQuiet}
+use Rattle.fits_stream.proofs.StreamLemmas.{Consumes-none}
 use Rattle.std.proofs.lemmas.List.{append-nil, take_all}
 use Rattle.fits_session.specs.File.{FileParts, file_bytes}
 use Rattle.fits_session.specs.Opening.{HasOpenFault}
@@ -26,7 +26,7 @@ use Rattle.fits_cli.specs.declared.fault.Fault.{Fault}
 use Rattle.fits_cli.specs.declared.fault.Fault.TheVariants.{Refused, ScriptTooLong, Memory, ReadFailed, WriteFailed}
 use Rattle.fits_cli.proofs.LinesLemmas.{IsCutInLines-none}
 use Rattle.fits_cli.proofs.RunLemmas.{answers-append, answers-none}
-use Rattle.fits_card.proofs.StreamLemmas.{Appends-kept, Prints-none, Prints-flushed, PrintsFront-unflushed, PrintsFront-longer}
+use Rattle.fits_stream.proofs.StreamLemmas.{Appends-kept, Prints-none, Prints-flushed, PrintsFront-unflushed, PrintsFront-longer}
 
 -- bytes that a source had
 some_known : (left : Option (List ℕ)) → (bytes : List ℕ) × IfSome left (λ xs. xs ≡ bytes)

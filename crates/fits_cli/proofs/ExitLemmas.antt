@@ -3,7 +3,7 @@ use Rattle.std.proofs.Common.{◌≡◌, ℕ, List, Result, Ok, Err}
 use Rattle.std.specs.Result.{IfErr, IsErrAnd, OnOk}
 use Rattle.std.proofs.lemmas.Result.{err_from_is_err_and}
 use Rattle.fits_cli.specs.Faults.{PrintFails}
-use Rattle.fits_card.specs.Stream.{SinkState, PrintsFront}
+use Rattle.fits_stream.specs.Stream.{SinkState, PrintsFront}
 use Rattle.fits_cli.specs.declared.fault.Fault.{Fault}
 use Rattle.fits_cli.specs.declared.fault.Fault.TheVariants.{WriteFailed}
 

@@ -5,7 +5,7 @@ use Rattle.std.specs.Fmt.{decimal}
 use Rattle.std.proofs.lemmas.List.{append-nil, get_or_default, length-append, take_all, take-append-drop, take_more, length-take-le}
 use Rattle.std.proofs.lemmas.List.Elements.{All-head, All-tail}
 use Rattle.fits_card.specs.Header.{header_bytes}
-use Rattle.fits_card.specs.Intake.{Gives}
+use Rattle.fits_stream.specs.Intake.{Gives}
 use Rattle.fits_rules.specs.Class.{is_primary}
 use Rattle.fits_rules.specs.Shape.{shape_of}
 use Rattle.fits_rules.specs.declared.array_shape.Shape.{Shape}
@@ -19,11 +19,11 @@ use Rattle.fits_session.specs.Edit.{is_primary_hdu}
 use Rattle.fits_session.specs.declared.offsets.HduOffsets.{HduOffsets}
 use Rattle.fits_cli.specs.Listing.{axes_text, more_axes_text, line_front, line_back, hdu_line, line_of, hdu_lines, listing, outlined_len, outlined_lines, outlined_offsets}
 use Rattle.fits_cli.specs.Faults.{PrintFails}
-use Rattle.fits_card.specs.Stream.{SourceState, SinkState, Prints, PrintsFront}
+use Rattle.fits_stream.specs.Stream.{SourceState, SinkState, Prints, PrintsFront}
 use Rattle.fits_cli.specs.Telling.{PrintingStops}
 use Rattle.fits_cli.specs.declared.fault.Fault.{Fault}
 use Rattle.fits_cli.specs.declared.fault.Fault.TheVariants.{Memory}
-use Rattle.fits_card.proofs.StreamLemmas.{Prints-more, PrintsFront-more, PrintsFront-longer, AppendsFront-longer, AppendsFront-whole}
+use Rattle.fits_stream.proofs.StreamLemmas.{Prints-more, PrintsFront-more, PrintsFront-longer, AppendsFront-longer, AppendsFront-whole}
 
 -- the line of an HDU is that of its outline
 line_same : (number start : ℕ) (primary : Bool) (it : Outline) (u : HduParts) → is_primary_hdu number ≡ primary → IsHdu primary u → is_outline it u

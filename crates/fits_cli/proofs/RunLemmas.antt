@@ -8,12 +8,12 @@ use Rattle.fits_cli.specs.Line.{reading_of}
 use Rattle.fits_cli.specs.Output.{answers, standing_after}
 use Rattle.fits_cli.specs.Running.{AnswersLine, AnswersLines, LineStops, LinesStop, HasCome, HasStopped, Continues, PieceStops, EndsScript, EndStops, kept_of}
 use Rattle.fits_cli.specs.Script.{HasNoLineFeed, script_lines}
-use Rattle.fits_card.specs.Stream.{SinkState}
+use Rattle.fits_stream.specs.Stream.{SinkState}
 use Rattle.fits_cli.specs.declared.fault.Fault.{Fault}
 use Rattle.fits_cli.specs.declared.fault.Fault.TheVariants.{Refused, ScriptTooLong, Memory, ReadFailed, WriteFailed}
 use Rattle.fits_cli.proofs.LinesLemmas.{IsCutInLines-none, IsCutInLines-open, IsCutInLines-line, IsCutInLines-append, a_cut}
 use Rattle.fits_cli.proofs.ReadingLemmas.{reading_of-kept_of}
-use Rattle.fits_card.proofs.StreamLemmas.{Prints-none, Prints-more, PrintsFront-more, PrintsFront-longer}
+use Rattle.fits_stream.proofs.StreamLemmas.{Prints-none, Prints-more, PrintsFront-more, PrintsFront-longer}
 
 -- answers to lines, and to more lines
 pub answers-append : (s : Standing) (xs ys : List (List ℕ)) → answers s (xs ++ ys) ≡ answers s xs ++ answers (standing_after s xs) ys

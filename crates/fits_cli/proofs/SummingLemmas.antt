@@ -1,19 +1,19 @@
 -- The run of `sum`: its lines as they are printed, from the sums that were found.
 use Rattle.std.proofs.Common.{◌≡◌, ℕ, ◌+◌, ◌<◌, List, [], ◌∷◌, ◌++◌, length, take, drop, get_or, refl, ap, sym, ◌∙◌, append_assoc, arith}
 use Rattle.std.proofs.lemmas.List.{append-nil, take-append-drop, take_more, length-take-le}
-use Rattle.fits_card.specs.Intake.{Gives}
+use Rattle.fits_stream.specs.Intake.{Gives}
 use Rattle.fits_hdu.specs.Hdu.{HduParts}
 use Rattle.fits_hdu.specs.Sums.{data_sum, verdicts_of}
 use Rattle.fits_hdu.specs.declared.hdu_sums.HduSums.{HduSums}
 use Rattle.fits_session.specs.File.{FileParts}
 use Rattle.fits_session.specs.Reading.{is_summed, AreSumsOfFile, KeepsEach}
-use Rattle.fits_card.specs.Stream.{SourceState, SinkState, Prints, StaysQuiet}
+use Rattle.fits_stream.specs.Stream.{SourceState, SinkState, Prints, StaysQuiet}
 use Rattle.fits_cli.specs.Summing.{summed_from, summed_line, summed_lines, summing}
 use Rattle.fits_cli.specs.Telling.{PrintingStops, TextIsTold, TextStopsBy}
 use Rattle.fits_cli.specs.declared.fault.Fault.{Fault}
 use Rattle.fits_cli.specs.declared.fault.Fault.TheVariants.{Memory}
 use Rattle.fits_cli.specs.declared.telling.Telling.TheVariants as telling
-use Rattle.fits_card.proofs.StreamLemmas.{Prints-more}
+use Rattle.fits_stream.proofs.StreamLemmas.{Prints-more}
 use Rattle.fits_cli.proofs.TellingLemmas.{TextStopsBy-printing}
 use Rattle.fits_cli.proofs.VerifyingLemmas.{PrintingStops-longer, PrintingStops-more, PrintingStops-none}
 

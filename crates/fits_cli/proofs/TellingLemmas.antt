@@ -1,20 +1,20 @@
 -- A run that prints a text of a file, from the bytes that were read to its end.
 use Rattle.std.proofs.Common.{◌≡◌, ℕ, List, refl, sym, subst, inr}
-use Rattle.fits_card.specs.Intake.{Gives}
+use Rattle.fits_stream.specs.Intake.{Gives}
 use Rattle.fits_hdu.specs.declared.outline.Outline.{Outline}
 use Rattle.fits_session.specs.File.{FileParts}
 use Rattle.fits_session.specs.Reading.{IsOutlineOf}
 use Rattle.fits_cli.specs.Ends.{Opens}
 use Rattle.fits_cli.specs.Faults.{FlushFails}
 use Rattle.fits_cli.specs.Listing.{outlined_lines}
-use Rattle.fits_card.specs.Stream.{SourceState, SinkState, Flushes, Prints, StaysQuiet}
+use Rattle.fits_stream.specs.Stream.{SourceState, SinkState, Flushes, Prints, StaysQuiet}
 use Rattle.fits_cli.specs.Telling.{text_of, PrintingStops, TextIsPrinted, TextIsTold, TextStopsBy}
 use Rattle.fits_cli.specs.declared.fault.Fault.{Fault}
 use Rattle.fits_cli.specs.declared.fault.Fault.TheVariants.{Refused, ScriptTooLong, Memory, ReadFailed, WriteFailed}
 use Rattle.fits_cli.specs.declared.telling.Telling.{Telling}
 use Rattle.fits_cli.specs.declared.telling.Telling.TheVariants as telling
 use Rattle.fits_cli.proofs.ListingLemmas.{listing-outlined}
-use Rattle.fits_card.proofs.StreamLemmas.{Prints-flushed, PrintsFront-unflushed}
+use Rattle.fits_stream.proofs.StreamLemmas.{Prints-flushed, PrintsFront-unflushed}
 
 -- a text that isn't printed to its end
 pub TextStopsBy-printing : (kind : Telling) (file file_after : SourceState) (out out_after : SinkState) (parts : FileParts) (fault : Fault) → Opens file parts → file_after.failures ≡ file.failures

@@ -1,21 +1,21 @@
 -- The run of `verify`: its lines as they are printed, from the problems that were found.
 use Rattle.std.proofs.Common.{◌≡◌, ℕ, ◌+◌, ◌<◌, ◌≤◌, List, [], ◌++◌, length, take, drop, get_or, refl, ap, sym, subst, ◌∙◌}
 use Rattle.std.proofs.lemmas.List.{take_all}
-use Rattle.fits_card.specs.Intake.{Gives}
-use Rattle.fits_card.proofs.StreamLemmas.{Appends-none}
+use Rattle.fits_stream.specs.Intake.{Gives}
+use Rattle.fits_stream.proofs.StreamLemmas.{Appends-none}
 use Rattle.fits_session.specs.File.{FileParts}
 use Rattle.fits_session.specs.Report.{IsReportOf}
 use Rattle.fits_session.specs.declared.problem.Problem.{Problem}
 use Rattle.fits_cli.specs.Faults.{PrintFails}
 use Rattle.fits_cli.specs.Report.{closing_line, listed_line, problem_lines, report_text, status_of_report}
-use Rattle.fits_card.specs.Stream.{SourceState, SinkState, Prints, StaysQuiet}
+use Rattle.fits_stream.specs.Stream.{SourceState, SinkState, Prints, StaysQuiet}
 use Rattle.fits_cli.specs.Telling.{PrintingStops, TextIsTold, TextStopsBy}
 use Rattle.fits_cli.specs.declared.fault.Fault.{Fault}
 use Rattle.fits_cli.specs.declared.fault.Fault.TheVariants.{Refused, ScriptTooLong, Memory, ReadFailed, WriteFailed}
 use Rattle.fits_cli.specs.declared.level.Level.{Level}
 use Rattle.fits_cli.specs.declared.telling.Telling.TheVariants as telling
 use Rattle.fits_cli.proofs.ReportLemmas.{lines-more, lines-split}
-use Rattle.fits_card.proofs.StreamLemmas.{Prints-more, PrintsFront-more, PrintsFront-longer, AppendsFront-more, AppendsFront-longer, AppendsFront-whole}
+use Rattle.fits_stream.proofs.StreamLemmas.{Prints-more, PrintsFront-more, PrintsFront-longer, AppendsFront-more, AppendsFront-longer, AppendsFront-whole}
 use Rattle.fits_cli.proofs.TellingLemmas.{TextStopsBy-printing}
 
 -- a text of which nothing is printed, for want of memory

@@ -1,8 +1,8 @@
 -- How a run of `edit` ends: what was printed and saved, and what stood before a fault (own).
 use Rattle.std.specs.Prelude.{◌≡◌, ◌⊎◌, ℕ, ◌+◌, ◌≤◌, List, [], ◌∷◌, ◌++◌, length, take, Option, Some, None, Result, Ok, Err, MatchOption}
 use Rattle.std.specs.Io.KnownBytes.{Appends, Consumes, IsAtEnd}
-use Rattle.fits_card.specs.Intake.{Gives, Tells}
-use Rattle.fits_card.specs.Stream.{SourceState, SinkState, FailsOnce, Prints, PrintsFront, StaysQuiet}
+use Rattle.fits_stream.specs.Intake.{Gives, Tells}
+use Rattle.fits_stream.specs.Stream.{SourceState, SinkState, FailsOnce, Prints, PrintsFront, StaysQuiet}
 use Rattle.fits_session.specs.File.{FileParts, IsFileOf}
 use Rattle.fits_cli.specs.Answer.{at_first_line, LineNeedsMemory}
 use Rattle.fits_cli.specs.Faults.{status_of_fault}

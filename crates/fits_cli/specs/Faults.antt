@@ -4,9 +4,9 @@ use Rattle.fits_session.specs.declared.open_fault.OpenFault.{OpenFault}
 use Rattle.fits_session.specs.declared.open_fault.OpenFault.TheVariants.{NotFits, NoEnd, BadShape, ShortData, TooLarge, Memory as OpenMemory}
 use Rattle.fits_session.specs.declared.read_fault.ReadFileFault.{ReadFileFault}
 use Rattle.fits_session.specs.declared.read_fault.ReadFileFault.TheVariants as read_file
-use Rattle.fits_card.specs.declared.reading.ReadFault.{ReadFault}
-use Rattle.fits_card.specs.declared.reading.ReadFault.TheVariants as read_fault
-use Rattle.fits_card.specs.Stream.{SinkState, PrintsFront, FailsToFlush}
+use Rattle.fits_stream.specs.declared.reading.ReadFault.{ReadFault}
+use Rattle.fits_stream.specs.declared.reading.ReadFault.TheVariants as read_fault
+use Rattle.fits_stream.specs.Stream.{SinkState, PrintsFront, FailsToFlush}
 use Rattle.fits_cli.specs.declared.fault.Fault.{Fault}
 use Rattle.fits_cli.specs.declared.fault.Fault.TheVariants.{Refused, ScriptTooLong, Memory, ReadFailed, WriteFailed}
 

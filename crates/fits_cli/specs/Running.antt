@@ -1,14 +1,14 @@
 -- What private functions of a run keep to: how far a script has come.
 use Rattle.std.specs.Prelude.{◌≡◌, ◌⊎◌, ℕ, ◌+◌, ◌<◌, ◌≤◌, List, ◌∷◌, ◌++◌, length, take, Result, Ok, Err}
 use Rattle.std.specs.Io.KnownBytes.{IsAtEnd}
-use Rattle.fits_card.specs.Intake.{Tells}
+use Rattle.fits_stream.specs.Intake.{Tells}
 use Rattle.fits_cli.specs.Answer.{Standing, line_answer, line_left, LineNeedsMemory}
 use Rattle.fits_cli.specs.Ends.{CameTo, HasLines}
 use Rattle.fits_cli.specs.declared.limits.TheConstants.{LINE_LIMIT, SCRIPT_LIMIT}
 use Rattle.fits_cli.specs.Line.{reading_of}
 use Rattle.fits_cli.specs.Output.{answers, standing_after}
 use Rattle.fits_cli.specs.Script.{IsCutInLines, script_lines}
-use Rattle.fits_card.specs.Stream.{SourceState, SinkState, FailsOnce, FailsToFlush, Flushes, Prints, PrintsFront, Reads, StaysQuiet}
+use Rattle.fits_stream.specs.Stream.{SourceState, SinkState, FailsOnce, FailsToFlush, Flushes, Prints, PrintsFront, Reads, StaysQuiet}
 use Rattle.fits_cli.specs.declared.fault.Fault.{Fault}
 use Rattle.fits_cli.specs.declared.fault.Fault.TheVariants.{Refused, ScriptTooLong, Memory, ReadFailed, WriteFailed}
 

@@ -1,7 +1,7 @@
 -- How a run ends that prints a text of a file, as `list`, `sum` and `verify` do (own).
 use Rattle.std.specs.Prelude.{◌≡◌, ◌⊎◌, ℕ, List, MatchOption}
-use Rattle.fits_card.specs.Intake.{Gives}
-use Rattle.fits_card.specs.Stream.{AppendsFront, SourceState, SinkState, FailsOnce, Prints, PrintsFront, StaysQuiet}
+use Rattle.fits_stream.specs.Intake.{Gives}
+use Rattle.fits_stream.specs.Stream.{AppendsFront, SourceState, SinkState, FailsOnce, Prints, PrintsFront, StaysQuiet}
 use Rattle.fits_session.specs.File.{FileParts}
 use Rattle.fits_session.specs.Opening.{HasOpenFault}
 use Rattle.fits_session.specs.Report.{report_of}

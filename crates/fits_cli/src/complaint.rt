@@ -1,17 +1,17 @@
 //! Lines that say why a line of a script wasn't done. Printing them takes no memory.
 ghost use Rattle.std.specs.Prelude.{OnOk, IfErr};
 ghost use Rattle.std.specs.Fmt.{decimal};
-ghost use Rattle.fits_card.specs.Stream.{Prints};
+ghost use Rattle.fits_stream.specs.Stream.{Prints};
 ghost use Rattle.fits_cli.specs.Answer.{complaint};
 ghost use Rattle.fits_cli.specs.Faults.{PrintFails};
 
 use crate::fault::Fault;
 use crate::printing::print;
-use fits_card::Sink;
+use fits_stream::Sink;
 use itoa::Buffer;
 
 /// `line N: WHY`
-#[tactic(auto, using(fits_card::proofs::StreamLemmas::printing_steps))]
+#[tactic(auto, using(fits_stream::proofs::StreamLemmas::printing_steps))]
 pub(crate) fn print_complaint<O: Sink>(out: &mut O, line: u64, why: &str) -> Result<(), Fault>
     ensures ok { OnOk result (Prints (complaint line why.now) (O.state out.old) (O.state out.new)) }
     ensures err { IfErr result (PrintFails (complaint line why.now)

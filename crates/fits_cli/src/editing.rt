@@ -7,8 +7,8 @@ use crate::fault::Fault;
 use crate::printing::flush;
 use crate::runner::Runner;
 use crate::script::answer_script;
-use fits_card::{Sink, Source};
 use fits_session::Session;
+use fits_stream::{Sink, Source};
 use std::alloc::Global;
 
 /// Reads a file and opens it, answers a script, and saves what the script made of the file.

@@ -1,7 +1,7 @@
 ghost use Rattle.std.specs.Prelude.{◌≡◌};
 
-use fits_card::ReadFault;
 use fits_session::{OpenFault, ReadFileFault};
+use fits_stream::ReadFault;
 use std::alloc::AllocError;
 use thiserror::Error;
 

@@ -1,6 +1,6 @@
 //! The run of `list`: a line for each HDU of a file.
 ghost use Rattle.std.specs.Prelude.{◌≡◌, ◌++◌, ◌≤◌, ◌+◌, IfOk, IfErr, OnOk};
-ghost use Rattle.fits_card.specs.Stream.{Prints};
+ghost use Rattle.fits_stream.specs.Stream.{Prints};
 ghost use Rattle.fits_session.specs.declared.limits.TheConstants.{FILE_LIMIT};
 ghost use Rattle.fits_cli.specs.Listing.{axes_text, class_text, hdu_line, line_back, line_front, more_axes_text, outlined_len, outlined_lines};
 ghost use Rattle.fits_cli.specs.Telling.{PrintingStops, TextEndsAs, TextIsTold, TextStopsBy};
@@ -11,10 +11,10 @@ use crate::fault::Fault;
 use crate::printing::print;
 use crate::pushing::{push_both, push_number, push_signed};
 use crate::telling::{Telling, run_telling};
-use fits_card::{Sink, Source};
 use fits_hdu::Outline;
 use fits_rules::{Class, Shape};
 use fits_session::{HduOffsets, read_outlines};
+use fits_stream::{Sink, Source};
 use std::alloc::{AllocError, Global};
 
 /// Reads a file, and prints a line for each of its HDUs. No data unit is kept.

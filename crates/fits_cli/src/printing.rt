@@ -1,10 +1,10 @@
 //! Writing and flushing, where a call that fails ends the run.
 ghost use Rattle.std.specs.Prelude.{OnOk, IfErr};
-ghost use Rattle.fits_card.specs.Stream.{Flushes, Prints};
+ghost use Rattle.fits_stream.specs.Stream.{Flushes, Prints};
 ghost use Rattle.fits_cli.specs.Faults.{FlushFails, PrintFails};
 
 use crate::fault::Fault;
-use fits_card::{Sink, write_all};
+use fits_stream::{Sink, write_all};
 
 /// Writes a text.
 pub(crate) fn print<O: Sink>(out: &mut O, text: &[u8]) -> Result<(), Fault>

@@ -1,14 +1,14 @@
 //! What a line comes to, and what is printed of it.
 ghost use Rattle.std.specs.Prelude.{◌≡◌, OnOk, IfErr};
-ghost use Rattle.fits_card.specs.Stream.{Prints};
+ghost use Rattle.fits_stream.specs.Stream.{Prints};
 ghost use Rattle.fits_cli.specs.Faults.{PrintFails};
 ghost use Rattle.fits_cli.specs.Reply.{counts_as_refused, reply_text, settled};
 
 use crate::complaint::print_complaint;
 use crate::fault::Fault;
 use crate::printing::print;
-use fits_card::Sink;
 use fits_session::Refusal;
+use fits_stream::Sink;
 use std::alloc::AllocError;
 
 /// What a line comes to.

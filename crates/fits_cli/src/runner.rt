@@ -4,8 +4,8 @@ use crate::line::read_line;
 use crate::line_reading::LineReading;
 use crate::printing::flush;
 use crate::reply::{Reply, counts_as_refused, settled};
-use fits_card::Sink;
 use fits_session::Session;
+use fits_stream::Sink;
 use std::alloc::{AllocError, Global};
 use std::marker::Model;
 
@@ -34,7 +34,7 @@ impl Model for Runner {
 
 impl Runner {
     ghost use Rattle.std.specs.Prelude.{◌≡◌, ◌+◌, ◌^◌, ◌<◌, ◌||◌, IfOk, IfErr, OnOk, OnErr};
-    ghost use Rattle.fits_card.specs.Stream.{Prints};
+    ghost use Rattle.fits_stream.specs.Stream.{Prints};
     ghost use Rattle.fits_cli.specs.Answer.{at_first_line, line_answer, line_left, LineNeedsMemory};
     ghost use Rattle.fits_cli.specs.Line.{reading_of};
     ghost use Rattle.fits_cli.specs.Output.{status_of};
@@ -105,7 +105,7 @@ impl Runner {
     }
 
     /// Saves the file, and flushes it.
-    #[tactic(auto, using(fits_card::proofs::StreamLemmas::flush_steps))]
+    #[tactic(auto, using(fits_stream::proofs::StreamLemmas::flush_steps))]
     pub(crate) fn save<P: Sink>(&mut self, saved: &mut P) -> Result<(), Fault>
         ensures ok { OnOk result (Prints (file_bytes self.old.file)
             (P.state saved.old) (P.state saved.new)) }

@@ -10,7 +10,7 @@ use crate::fault::Fault;
 use crate::limits::{LINE_LIMIT, SCRIPT_LIMIT};
 use crate::reply::print_reply;
 use crate::runner::Runner;
-use fits_card::{PIECE_LEN, Sink, Source, buffer_of};
+use fits_stream::{PIECE_LEN, Sink, Source, buffer_of};
 use std::alloc::Global;
 
 /// How many bytes of a line are kept until it ends. More aren't needed: it is too long.

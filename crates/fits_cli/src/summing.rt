@@ -1,6 +1,6 @@
 //! The run of `sum`: the sums of each HDU of a file.
 ghost use Rattle.std.specs.Prelude.{◌≡◌, ◌++◌, IfOk, IfErr, OnOk};
-ghost use Rattle.fits_card.specs.Stream.{Prints};
+ghost use Rattle.fits_stream.specs.Stream.{Prints};
 ghost use Rattle.fits_cli.specs.Summing.{summed_line, summed_lines};
 ghost use Rattle.fits_cli.specs.Telling.{PrintingStops, TextEndsAs, TextIsTold, TextStopsBy};
 
@@ -10,9 +10,9 @@ use crate::pixel_lines::push_verdicts;
 use crate::printing::print;
 use crate::pushing::push_number;
 use crate::telling::{Telling, run_telling};
-use fits_card::{Sink, Source};
 use fits_hdu::HduSums;
 use fits_session::read_sums;
+use fits_stream::{Sink, Source};
 use std::alloc::{AllocError, Global};
 
 /// Reads a file, and prints for each of its HDUs the sum of its data unit and the verdicts on

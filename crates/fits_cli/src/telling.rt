@@ -9,7 +9,7 @@ use crate::listing::list;
 use crate::printing::flush;
 use crate::summing::sum;
 use crate::verifying::verify;
-use fits_card::{Sink, Source};
+use fits_stream::{Sink, Source};
 use std::alloc::Global;
 
 /// Which text of a file a run prints.

@@ -1,6 +1,6 @@
 //! The run of `verify`: the report of a file.
 ghost use Rattle.std.specs.Prelude.{IfOk, IfErr, OnOk};
-ghost use Rattle.fits_card.specs.Stream.{Prints};
+ghost use Rattle.fits_stream.specs.Stream.{Prints};
 ghost use Rattle.fits_cli.specs.Report.{listed_line, problem_lines, report_text};
 ghost use Rattle.fits_cli.specs.Telling.{PrintingStops, TextEndsAs, TextIsTold, TextStopsBy};
 
@@ -10,8 +10,8 @@ use crate::level::Level;
 use crate::printing::print;
 use crate::report_text::{push_closing_line, push_problem, status_of_report};
 use crate::telling::{Telling, run_telling};
-use fits_card::{Sink, Source};
 use fits_session::{Problem, read_report};
+use fits_stream::{Sink, Source};
 use std::alloc::Global;
 
 /// Reads a file, and prints what is wrong with it. No data unit is kept.

@@ -4,9 +4,9 @@ use Rattle.std.specs.Prelude.{Ok, ◌%◌, ◌&&◌}
 use Rattle.std.specs.List.{list_all}
 use Rattle.std.proofs.lemmas.List.{length-append}
 use Rattle.fits_card.specs.Header.{Header, IsHeader, header_bytes}
-use Rattle.fits_card.specs.Intake.{IsSpent, Supply, Takes}
+use Rattle.fits_stream.specs.Intake.{IsSpent, Supply, Takes}
 use Rattle.fits_card.proofs.HeaderLemmas.{fill_length-by_cards, length-header_bytes}
-use Rattle.fits_card.proofs.SightLemmas.{takes_and_holds, takes_more, takes_none}
+use Rattle.fits_stream.proofs.SightLemmas.{takes_and_holds, takes_more, takes_none}
 use Rattle.fits_rules.specs.Class.{is_primary}
 use Rattle.fits_rules.specs.Shape.{shape_of}
 use Rattle.fits_rules.specs.Size.{data_length, data_size}

@@ -4,12 +4,12 @@ use Rattle.std.proofs.lemmas.List.{length-append}
 use Rattle.std.specs.Prelude.{Ok, Err, IsErrOf}
 use Rattle.fits_card.specs.Header.{Header, IsHeader, header_bytes}
 use Rattle.fits_card.specs.HeaderReading.{HeaderStops}
-use Rattle.fits_card.specs.Intake.{IsOver, IsSpent, Passes, Supply, Takes, TakingStops}
+use Rattle.fits_stream.specs.Intake.{IsOver, IsSpent, Passes, Supply, Takes, TakingStops}
 use Rattle.fits_card.specs.declared.header_reading.ReadHeaderFault.{ReadHeaderFault}
 use Rattle.fits_card.specs.declared.header_reading.ReadHeaderFault.TheVariants as header_fault
-use Rattle.fits_card.specs.declared.reading.ReadFault.{ReadFault}
-use Rattle.fits_card.specs.declared.reading.ReadFault.TheVariants as read_fault
-use Rattle.fits_card.proofs.SightLemmas.{finds_begun, finds_spent, takes_more}
+use Rattle.fits_stream.specs.declared.reading.ReadFault.{ReadFault}
+use Rattle.fits_stream.specs.declared.reading.ReadFault.TheVariants as read_fault
+use Rattle.fits_stream.proofs.SightLemmas.{finds_begun, finds_spent, takes_more}
 use Rattle.fits_rules.specs.Class.{is_primary}
 use Rattle.fits_rules.specs.Shape.{shape_of}
 use Rattle.fits_rules.specs.Size.{data_length}

@@ -2,7 +2,7 @@
 use Rattle.std.specs.Prelude.{◌≡◌, ℕ, ◌+◌, ◌<◌, nat_eq, drop, List, ◌++◌, length}
 use Rattle.std.specs.List.{list_all}
 use Rattle.fits_card.specs.Header.{Header, header_bytes}
-use Rattle.fits_card.specs.Intake.{IsSpent, Supply, Takes}
+use Rattle.fits_stream.specs.Intake.{IsSpent, Supply, Takes}
 use Rattle.fits_rules.specs.declared.array_shape.Shape.{Shape}
 use Rattle.fits_sum.specs.OnesComplement.{ones_complement}
 use Rattle.fits_sum.specs.Words.{word_total}

@@ -1,12 +1,12 @@
 -- How an HDU is read from a source, whatever is kept of it (own).
 use Rattle.std.specs.Prelude.{◌≡◌, ℕ, Bool, length, Ok}
 use Rattle.fits_card.specs.Header.{Header, header_bytes}
-use Rattle.fits_card.specs.Intake.{Supply, Finds, Takes}
-use Rattle.fits_card.specs.Stream.{FailsOnce, StaysQuiet}
+use Rattle.fits_stream.specs.Intake.{Supply, Finds, Takes}
+use Rattle.fits_stream.specs.Stream.{FailsOnce, StaysQuiet}
 use Rattle.fits_card.specs.declared.header_reading.ReadHeaderFault.{ReadHeaderFault}
 use Rattle.fits_card.specs.declared.header_reading.ReadHeaderFault.TheVariants as header
-use Rattle.fits_card.specs.declared.reading.ReadFault.{ReadFault}
-use Rattle.fits_card.specs.declared.reading.ReadFault.TheVariants as read
+use Rattle.fits_stream.specs.declared.reading.ReadFault.{ReadFault}
+use Rattle.fits_stream.specs.declared.reading.ReadFault.TheVariants as read
 use Rattle.fits_rules.specs.Class.{is_primary}
 use Rattle.fits_rules.specs.Shape.{shape_of}
 use Rattle.fits_rules.specs.declared.array_shape.Shape.{Shape}

@@ -1,7 +1,7 @@
 //! The header of the HDU that comes next in a source, and what it says of its data unit.
 ghost use Rattle.std.specs.Prelude.{◌≡◌, ◌+◌, ◌*◌, ◌^◌, ◌<◌, ◌≤◌, length, Ok, IfOk, IfErr, OnOk};
 ghost use Rattle.fits_card.specs.Header.{header_bytes, IsHeader};
-ghost use Rattle.fits_card.specs.Intake.{supply, Takes};
+ghost use Rattle.fits_stream.specs.Intake.{supply, Takes};
 ghost use Rattle.fits_rules.specs.Shape.{shape_of};
 ghost use Rattle.fits_rules.specs.Size.{data_length};
 ghost use Rattle.fits_rules.specs.Class.{is_primary};
@@ -10,8 +10,9 @@ ghost use Rattle.fits_hdu.specs.Reading.{HduStops, IsPassed, TakesHdu};
 use crate::data_unit::unit_len;
 use crate::fault::HduFault;
 use crate::read_fault::ReadHduFault;
-use fits_card::{CardList, Intake, Source, read_header};
+use fits_card::{CardList, read_header};
 use fits_rules::{Shape, shape};
+use fits_stream::{Intake, Source};
 use std::alloc::Global;
 
 /// A header, the shape that its cards describe, and how long its data unit is with the fill.

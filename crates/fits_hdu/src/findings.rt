@@ -14,9 +14,9 @@ use crate::read_fault::ReadHduFault;
 use crate::summed::{Summed, read_summed};
 use crate::sums::{sum_keywords, verdicts_by, whole_sum};
 use crate::unit_sums::UnitSums;
-use fits_card::{Intake, Source};
 use fits_codes::CodeSet;
 use fits_header::{Finding, Header};
+use fits_stream::{Intake, Source};
 use fits_sum::fold;
 use std::alloc::{AllocError, Global};
 
@@ -33,7 +33,7 @@ pub struct Findings {
 
 impl Findings {
     ghost use Rattle.std.specs.Prelude.{◌≡◌, ◌+◌, ◌<◌, ◌≤◌, ◌^◌, length, IfOk, IfErr, OnOk};
-    ghost use Rattle.fits_card.specs.Intake.{supply};
+    ghost use Rattle.fits_stream.specs.Intake.{supply};
     ghost use Rattle.fits_hdu.specs.Findings.{AreFindings};
     ghost use Rattle.fits_hdu.specs.Reading.{HduStops, TakesHdu};
 

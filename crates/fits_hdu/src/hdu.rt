@@ -15,11 +15,12 @@ use crate::layout::{follow_blank, plane_of};
 use crate::read_fault::ReadHduFault;
 use crate::sum_keywords::SumKeywords;
 use crate::sums::sum_keywords;
-use fits_card::{CardList, Change, Intake, Name, Sink, Source, has_header};
+use fits_card::{CardList, Change, Name, has_header};
 use fits_codes::CodeSet;
 use fits_header::Header;
 use fits_plane::Plane;
 use fits_rules::Shape;
+use fits_stream::{Intake, Sink, Source};
 use fits_value::{Text, Value};
 use std::alloc::{AllocError, Global};
 use std::io;
@@ -80,8 +81,8 @@ impl Hdu {
     ghost use Rattle.fits_card.specs.Card.{IsEnd};
     ghost use Rattle.fits_card.specs.Change.{cards_after, new_cards, IsInRange};
     ghost use Rattle.fits_card.specs.Header.{HasNoHeader, header_bytes};
-    ghost use Rattle.fits_card.specs.Intake.{supply, Takes};
-    ghost use Rattle.fits_card.specs.Stream.{Prints, PrintsFront};
+    ghost use Rattle.fits_stream.specs.Intake.{supply, Takes};
+    ghost use Rattle.fits_stream.specs.Stream.{Prints, PrintsFront};
     ghost use Rattle.fits_header.specs.Work.{shape_reads};
     ghost use Rattle.fits_plane.specs.Layout.{block_count};
     ghost use Rattle.fits_rules.specs.Class.{is_primary};
@@ -363,7 +364,7 @@ impl Hdu {
     /// Writes the header and then the data unit. Each card's read is counted.
     ///
     /// Where a call fails a prefix was written.
-    #[tactic(auto, using(fits_card::proofs::StreamLemmas::printing_steps))]
+    #[tactic(auto, using(fits_stream::proofs::StreamLemmas::printing_steps))]
     pub fn emit<W: Sink>(&mut self, sink: &mut W) -> io::Result<()>
         ensures ok { OnOk result (Prints (hdu_bytes self.old.hdu)
             (W.state sink.old) (W.state sink.new)) }

@@ -9,8 +9,8 @@ use crate::summed::{Summed, read_summed};
 use crate::sums::{sum_keywords_in, verdicts_by, whole_sum};
 use crate::unit_sums::UnitSums;
 use crate::verdicts::Verdicts;
-use fits_card::{Intake, Source};
 use fits_header::header_total;
+use fits_stream::{Intake, Source};
 use fits_sum::fold;
 use std::alloc::Global;
 
@@ -25,7 +25,7 @@ pub struct HduSums {
 
 impl HduSums {
     ghost use Rattle.std.specs.Prelude.{◌≡◌, ◌+◌, ◌<◌, ◌≤◌, ◌^◌, length, IfOk, IfErr, OnOk};
-    ghost use Rattle.fits_card.specs.Intake.{supply};
+    ghost use Rattle.fits_stream.specs.Intake.{supply};
     ghost use Rattle.fits_hdu.specs.Reading.{HduStops, TakesHdu};
     ghost use Rattle.fits_hdu.specs.Sums.{AreSumsOf};
 

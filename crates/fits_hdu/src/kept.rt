@@ -1,5 +1,5 @@
 ghost use Rattle.std.specs.Prelude.{◌≡◌, ◌+◌, ◌<◌, ◌≤◌, ◌^◌, length, IfOk, IfErr, OnOk};
-ghost use Rattle.fits_card.specs.Intake.{supply};
+ghost use Rattle.fits_stream.specs.Intake.{supply};
 ghost use Rattle.fits_hdu.specs.Hdu.{HduParts};
 ghost use Rattle.fits_hdu.specs.Reading.{HduStops, TakesHdu};
 
@@ -8,7 +8,7 @@ use crate::hdu::Hdu;
 use crate::hdu_sums::HduSums;
 use crate::outline::Outline;
 use crate::read_fault::ReadHduFault;
-use fits_card::{Intake, Source};
+use fits_stream::{Intake, Source};
 use std::alloc::Global;
 
 /// What is kept of an HDU that was read.

@@ -2,8 +2,8 @@ ghost use Rattle.std.specs.Prelude.{◌≡◌};
 
 use crate::described::{Described, read_past};
 use crate::read_fault::ReadHduFault;
-use fits_card::{Intake, Source};
 use fits_rules::Shape;
+use fits_stream::{Intake, Source};
 use std::alloc::Global;
 
 /// An HDU without its cards and data: what is told of it where it stands in a file.
@@ -20,7 +20,7 @@ pub struct Outline {
 
 impl Outline {
     ghost use Rattle.std.specs.Prelude.{◌≡◌, ◌+◌, ◌<◌, ◌≤◌, ◌^◌, length, IfOk, IfErr, OnOk};
-    ghost use Rattle.fits_card.specs.Intake.{supply};
+    ghost use Rattle.fits_stream.specs.Intake.{supply};
     ghost use Rattle.fits_hdu.specs.Reading.{HduStops, IsOutlined, TakesHdu};
 
     /// The outline of the HDU that comes next in a source, as `Hdu::read`. Its data unit is

@@ -1,6 +1,7 @@
 use crate::fault::HduFault;
-use fits_card::{ReadFault, ReadHeaderFault};
+use fits_card::ReadHeaderFault;
 use fits_rules::ShapeFault;
+use fits_stream::ReadFault;
 
 /// Why no HDU was read from a source.
 #[derive(Clone, Copy)]

@@ -1,8 +1,8 @@
 //! An HDU that passes by, and the sums of its data unit.
 ghost use Rattle.std.specs.Prelude.{◌≡◌, ◌+◌, ◌%◌, ◌^◌, ◌<◌, ◌≤◌, length, Ok, IfOk, IfErr, IfSome, IfNone, IsErrOf, OnOk, OnErr};
 ghost use Rattle.fits_card.specs.Header.{header_bytes};
-ghost use Rattle.fits_card.specs.Intake.{supply};
-ghost use Rattle.fits_card.specs.Stream.{FailsOnce};
+ghost use Rattle.fits_stream.specs.Intake.{supply};
+ghost use Rattle.fits_stream.specs.Stream.{FailsOnce};
 ghost use Rattle.fits_rules.specs.Class.{is_primary};
 ghost use Rattle.fits_rules.specs.Shape.{shape_of};
 ghost use Rattle.fits_rules.specs.Size.{data_length};
@@ -14,8 +14,8 @@ use crate::fault::HduFault;
 use crate::layout::{fill_byte, used_bytes};
 use crate::read_fault::ReadHduFault;
 use crate::unit_sums::UnitSums;
-use fits_card::{Intake, PIECE_LEN, Source};
 use fits_rules::Shape;
+use fits_stream::{Intake, PIECE_LEN, Source};
 use std::alloc::Global;
 use std::io;
 

@@ -15,7 +15,7 @@ use crate::nodes::{climb, write_leaf};
 use crate::rectangle::{row_len, row_start, rows};
 use crate::scan::{Leaf, pixels_per_block, scan_block};
 use crate::tree::Tree;
-use fits_card::Count;
+use fits_stream::Count;
 use std::alloc::{AllocError, Global};
 
 /// The summaries of all blocks.

@@ -3,7 +3,7 @@ ghost use Rattle.std.specs.Prelude.{◌≡◌, ◌≤◌, ◌<◌, ◌*◌, ◌+
 ghost use Rattle.fits_plane.specs.Tree.{IsTree, IsTreeBut, IsLeastPower, most_above, nodes_left};
 
 use crate::summary::Summary;
-use fits_card::Count;
+use fits_stream::Count;
 use std::alloc::{AllocError, Global};
 
 /// The least power of two that is not below a number.

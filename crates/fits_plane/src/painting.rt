@@ -13,7 +13,7 @@ use crate::pixel_writes::paint_rows;
 use crate::rectangle::row_len;
 use crate::scan::{Leaf, pixels_per_block};
 use crate::tree::Tree;
-use fits_card::Count;
+use fits_stream::Count;
 
 /// Whether each row is an eighth of a block at most, and no block has pixels of two rows.
 ///

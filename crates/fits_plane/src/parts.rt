@@ -9,7 +9,7 @@ use crate::exchange::exchanged;
 use crate::layout::Layout;
 use crate::pixels::read_bytes;
 use crate::scan::{Leaf, scan_block, scan_part};
-use fits_card::Count;
+use fits_stream::Count;
 
 /// Scans a part of a block, by groups of eight bytes.
 pub(crate) fn scan_groups(bytes: &[u8], layout: Layout, from: usize, to: usize) -> Leaf

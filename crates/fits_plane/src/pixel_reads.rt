@@ -6,7 +6,7 @@ ghost use Rattle.fits_plane.specs.Rectangle.{IsRectangle, product, rectangle_siz
 
 use crate::pixels::pixel_at;
 use crate::rectangle::{row_len, row_start, rows};
-use fits_card::Count;
+use fits_stream::Count;
 
 /// The value of a stored number.
 fn value_of(stored: i64, offset: i128) -> i128

@@ -12,7 +12,8 @@ use crate::scan::Leaf;
 use crate::tree::Tree;
 use crate::value_summary::ValueSummary;
 use crate::values::Values;
-use fits_card::{BLOCK_LEN, Count, Sink, write_all};
+use fits_card::BLOCK_LEN;
+use fits_stream::{Count, Sink, write_all};
 use fits_sum::all_are;
 use std::alloc::{AllocError, Global};
 use std::io;
@@ -56,7 +57,7 @@ impl Model for Plane {
 
 impl Plane {
     ghost use Rattle.std.specs.Prelude.{◌≡◌, ◌≤◌, ◌<◌, ◌*◌, ◌+◌, ◌-ℤ◌, ◌^◌, ◌↔◌, ℕ, pos, true, drop, length, replicate, slice_index_or, unsigned_abs, All, IsTrue, IfOk, OnOk, OnErr};
-    ghost use Rattle.fits_card.specs.Stream.{Prints, PrintsFront};
+    ghost use Rattle.fits_stream.specs.Stream.{Prints, PrintsFront};
     ghost use Rattle.fits_sum.specs.Words.{word_total};
     ghost use Rattle.fits_plane.specs.Statistics.{statistics, value_statistics};
     ghost use Rattle.fits_plane.specs.Paint.{has_count, painted_number};

@@ -8,7 +8,8 @@ use crate::layout::Layout;
 use crate::nodes::join_all;
 use crate::scan::{Leaf, scan_block};
 use crate::tree::Tree;
-use fits_card::{BLOCK_LEN, Count};
+use fits_card::BLOCK_LEN;
+use fits_stream::Count;
 
 /// Scans each block into its leaf.
 fn scan_leaves(nodes: &mut [Leaf], width: usize, bytes: &[u8], layout: Layout, scans: &mut Count)

@@ -15,7 +15,8 @@ use crate::pixel_summary::PixelSummary;
 use crate::summary::Summary;
 use crate::word_summary::WordSummary;
 use crate::{pixels_8, pixels_16, pixels_32, pixels_64};
-use fits_card::{BLOCK_LEN, Count};
+use fits_card::BLOCK_LEN;
+use fits_stream::Count;
 
 /// What is kept of a block: its statistics, and the total of its words.
 pub(crate) type Leaf = Both<PixelSummary, WordSummary>;

@@ -19,7 +19,7 @@ use crate::pixels::read_bytes;
 use crate::rectangle::{row_len, row_start, rows};
 use crate::scan::{Leaf, pixels_per_block};
 use crate::tree::Tree;
-use fits_card::Count;
+use fits_stream::Count;
 
 /// The leaf of block k.
 fn leaf_at(nodes: &[Leaf], width: usize, k: usize) -> Leaf

@@ -3,7 +3,7 @@ ghost use Rattle.fits_plane.specs.Summary.{all_joined};
 
 use crate::nodes::{plant_again, plant_tree, power_from, set_leaf, units_of};
 use crate::summary::Summary;
-use fits_card::Count;
+use fits_stream::Count;
 use std::alloc::{AllocError, Global};
 use std::marker::Model;
 

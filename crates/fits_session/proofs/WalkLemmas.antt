@@ -6,9 +6,9 @@ use Rattle.std.specs.List.{starts_with}
 use Rattle.std.proofs.lemmas.Bool.{cases_lt, false≢true}
 use Rattle.std.proofs.lemmas.List.{append-nil, length-append, take_all, take-append-le}
 use Rattle.std.proofs.lemmas.List.Concat.{flat_map-append}
-use Rattle.fits_card.specs.Intake.{supply, Finds, Gives, GivesAll, IntakeState, IsLimited, IsOver, IsSpent, Supply, Takes, TellsAll}
-use Rattle.fits_card.specs.Stream.{FailsOnce, SourceState, StaysQuiet}
-use Rattle.fits_card.proofs.SightLemmas.{finds_begun, finds_given, finds_next, finds_spent, long_given, no_bytes, past_limit, rest_given, takes_and_holds, takes_fewer, takes_more, tells_after, within_limit}
+use Rattle.fits_stream.specs.Intake.{supply, Finds, Gives, GivesAll, IntakeState, IsLimited, IsOver, IsSpent, Supply, Takes, TellsAll}
+use Rattle.fits_stream.specs.Stream.{FailsOnce, SourceState, StaysQuiet}
+use Rattle.fits_stream.proofs.SightLemmas.{finds_begun, finds_given, finds_next, finds_spent, long_given, no_bytes, past_limit, rest_given, takes_and_holds, takes_fewer, takes_more, tells_after, within_limit}
 use Rattle.fits_hdu.specs.Hdu.{HduParts, HasHduFault, IsHdu, hdu_bytes}
 use Rattle.fits_hdu.specs.Reading.{HduStops, TakesHdu}
 use Rattle.fits_hdu.specs.State.{HduState}

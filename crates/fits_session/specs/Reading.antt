@@ -1,10 +1,10 @@
 -- How a file is read from a source, whatever is kept of its HDUs (own).
 use Rattle.std.specs.Prelude.{◌≡◌, ℕ, ◌<◌, Bool, true, false, List, [], ◌∷◌, length, nat_eq, codes, IfSome}
 use Rattle.std.specs.List.{starts_with}
-use Rattle.fits_card.specs.Intake.{Supply, Finds, Gives, GivesAll, Takes}
-use Rattle.fits_card.specs.Stream.{SourceState, FailsOnce, StaysQuiet}
-use Rattle.fits_card.specs.declared.reading.ReadFault.{ReadFault}
-use Rattle.fits_card.specs.declared.reading.ReadFault.TheVariants as read
+use Rattle.fits_stream.specs.Intake.{Supply, Finds, Gives, GivesAll, Takes}
+use Rattle.fits_stream.specs.Stream.{SourceState, FailsOnce, StaysQuiet}
+use Rattle.fits_stream.specs.declared.reading.ReadFault.{ReadFault}
+use Rattle.fits_stream.specs.declared.reading.ReadFault.TheVariants as read
 use Rattle.fits_hdu.specs.Findings.{AreFindings}
 use Rattle.fits_hdu.specs.Hdu.{HduParts}
 use Rattle.fits_hdu.specs.Reading.{IsOutlined}

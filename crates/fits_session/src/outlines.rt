@@ -1,13 +1,13 @@
 //! The HDUs of a source without their cards and data.
 ghost use Rattle.std.specs.Prelude.{IfOk, IfErr, OnOk};
-ghost use Rattle.fits_card.specs.Intake.{Gives};
-ghost use Rattle.fits_card.specs.Stream.{StaysQuiet};
+ghost use Rattle.fits_stream.specs.Intake.{Gives};
+ghost use Rattle.fits_stream.specs.Stream.{StaysQuiet};
 ghost use Rattle.fits_session.specs.Reading.{IsOutlineOf, ReadStops};
 
 use crate::read_fault::ReadFileFault;
 use crate::walking::read_kept;
-use fits_card::Source;
 use fits_hdu::Outline;
+use fits_stream::Source;
 use std::alloc::Global;
 
 /// The outlines of the HDUs of the file that a source has, which is read as `Session::read` reads

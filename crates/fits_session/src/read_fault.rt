@@ -1,5 +1,5 @@
 use crate::open_fault::OpenFault;
-use fits_card::ReadFault;
+use fits_stream::ReadFault;
 use std::alloc::{AllocError, AllocFailed};
 
 /// Why no file was read from a source.

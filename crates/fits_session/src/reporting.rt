@@ -1,7 +1,7 @@
 //! The report of a file.
 ghost use Rattle.std.specs.Prelude.{◌≡◌, ◌++◌, ◌+◌, length, map, List, ℕ, IfOk, IfErr, OnOk};
-ghost use Rattle.fits_card.specs.Intake.{Gives};
-ghost use Rattle.fits_card.specs.Stream.{StaysQuiet};
+ghost use Rattle.fits_stream.specs.Intake.{Gives};
+ghost use Rattle.fits_stream.specs.Stream.{StaysQuiet};
 ghost use Rattle.fits_header.specs.Findings.{found_at};
 ghost use Rattle.fits_hdu.specs.ExtensionName.{name_codes};
 ghost use Rattle.fits_session.specs.File.{FileParts, IsFileOf, is_followed};
@@ -13,10 +13,10 @@ use crate::name_table::NameTable;
 use crate::problem::Problem;
 use crate::read_fault::ReadFileFault;
 use crate::walking::read_kept;
-use fits_card::Source;
 use fits_codes::Code;
 use fits_hdu::Findings;
 use fits_header::Finding;
+use fits_stream::Source;
 use std::alloc::{AllocError, Global};
 
 /// The report of the file that a source has, which is read as `Session::read` reads it.

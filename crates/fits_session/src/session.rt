@@ -17,8 +17,8 @@ use crate::limits::FILE_LIMIT;
 use crate::open_fault::OpenFault;
 use crate::read_fault::ReadFileFault;
 use crate::refusal::Refusal;
-use fits_card::{Intake, Source};
 use fits_hdu::Hdu;
+use fits_stream::{Intake, Source};
 use opening::test_start;
 use reading::read_file;
 use std::alloc::Global;
@@ -55,8 +55,8 @@ impl Model for Session {
 
 impl Session {
     ghost use Rattle.std.specs.Prelude.{◌≡◌, ◌<◌, length, IfOk, IfErr, IsErrOf, OnOk};
-    ghost use Rattle.fits_card.specs.Intake.{Gives};
-    ghost use Rattle.fits_card.specs.Stream.{StaysQuiet};
+    ghost use Rattle.fits_stream.specs.Intake.{Gives};
+    ghost use Rattle.fits_stream.specs.Stream.{StaysQuiet};
     ghost use Rattle.fits_session.specs.File.{IsFileOf};
     ghost use Rattle.fits_session.specs.declared.limits.TheConstants.{FILE_LIMIT};
     ghost use Rattle.fits_session.specs.Opening.{HasOpenFault, OpenFails};

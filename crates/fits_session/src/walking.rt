@@ -2,8 +2,8 @@
 ghost use Rattle.std.specs.Prelude.{◌≡◌, ◌+◌, ◌≤◌, ◌<◌, false, length, codes, nat_eq, IfOk, IfErr, IfSome, OnOk};
 ghost use Rattle.std.specs.List.{starts_with};
 ghost use Rattle.fits_card.specs.declared.card_list.TheConstants.{BLOCK_LEN};
-ghost use Rattle.fits_card.specs.Intake.{supply, Gives, IsLimited, IsSpent, Supply};
-ghost use Rattle.fits_card.specs.Stream.{StaysQuiet};
+ghost use Rattle.fits_stream.specs.Intake.{supply, Gives, IsLimited, IsSpent, Supply};
+ghost use Rattle.fits_stream.specs.Stream.{StaysQuiet};
 ghost use Rattle.fits_session.specs.File.{begins_extension};
 ghost use Rattle.fits_session.specs.declared.limits.TheConstants.{FILE_LIMIT, HDU_LIMIT};
 ghost use Rattle.fits_session.specs.Opening.{open_fault_of};
@@ -12,8 +12,9 @@ ghost use Rattle.fits_session.specs.Reading.{file_fault_of, is_of_bytes, IsWalkO
 use crate::limits::{FILE_LIMIT, HDU_LIMIT};
 use crate::open_fault::OpenFault;
 use crate::read_fault::ReadFileFault;
-use fits_card::{BLOCK_LEN, Intake, Source};
+use fits_card::BLOCK_LEN;
 use fits_hdu::{HduFault, Kept, ReadHduFault};
+use fits_stream::{Intake, Source};
 use std::alloc::Global;
 
 /// What is kept of the HDUs of what may be taken of a source. Then the block after the last lies

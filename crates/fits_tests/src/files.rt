@@ -2,10 +2,10 @@
 
 use crate::builders::{FileText, P0, file_of};
 use crate::checks::same;
-use fits_card::Watched;
 use fits_hdu::Kind;
 use fits_rules::{Axes, Class};
 use fits_session::{Edit, Refusal, Session, within};
+use fits_stream::Watched;
 use std::alloc::{AllocError, Global};
 use std::io;
 use std::io::Write;

@@ -1,7 +1,7 @@
 //! Sources over memory that behave by a plan.
 ghost use Rattle.std.specs.Prelude.{None, Some};
 
-use fits_card::{FileSource, Stored, Watched};
+use fits_stream::{FileSource, Stored, Watched};
 use std::io;
 use std::io::{Error, ErrorKind, Read};
 

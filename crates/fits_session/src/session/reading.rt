@@ -1,8 +1,8 @@
 //! The HDUs of a source, and what follows them.
 ghost use Rattle.std.specs.Prelude.{◌≡◌, ◌+◌, ◌≤◌, ◌<◌, false, length, IfOk, IfErr, OnOk};
 ghost use Rattle.fits_card.specs.declared.card_list.TheConstants.{BLOCK_LEN};
-ghost use Rattle.fits_card.specs.Intake.{supply, GivesAll, IsLimited, IsOver, IsSpent, Takes, TakingStops};
-ghost use Rattle.fits_card.specs.Stream.{StaysQuiet};
+ghost use Rattle.fits_stream.specs.Intake.{supply, GivesAll, IsLimited, IsOver, IsSpent, Takes, TakingStops};
+ghost use Rattle.fits_stream.specs.Stream.{StaysQuiet};
 ghost use Rattle.fits_session.specs.File.{begins_extension, file_bytes, IsFile, IsFileOf};
 ghost use Rattle.fits_session.specs.declared.limits.TheConstants.{FILE_LIMIT};
 ghost use Rattle.fits_session.specs.Reading.{SupplyStops};
@@ -10,8 +10,9 @@ ghost use Rattle.fits_session.specs.Session.{file_of, state_of};
 
 use crate::read_fault::ReadFileFault;
 use crate::walking::{end, settled, walk};
-use fits_card::{BLOCK_LEN, Intake, ReadFault, Source};
+use fits_card::BLOCK_LEN;
 use fits_hdu::Hdu;
+use fits_stream::{Intake, ReadFault, Source};
 use std::alloc::Global;
 
 /// The HDUs of what may be taken of a source, how many bytes the file has, and the bytes after the

@@ -1,18 +1,18 @@
 //! Writing the file.
 ghost use Rattle.std.specs.Prelude.{◌≡◌, ◌+◌, IsOk, IsErr, OnOk, OnErr};
-ghost use Rattle.fits_card.specs.Stream.{Prints, PrintsFront};
+ghost use Rattle.fits_stream.specs.Stream.{Prints, PrintsFront};
 ghost use Rattle.fits_session.specs.File.{joined_hdus};
 ghost use Rattle.fits_session.specs.Session.{hdus_of, each_read, ReadsOnceAtMost};
 
 use super::Session;
 use crate::save_fault::SaveFault;
-use fits_card::{Sink, write_all};
 use fits_hdu::Hdu;
+use fits_stream::{Sink, write_all};
 use std::io;
 
 impl Session {
     ghost use Rattle.std.specs.Prelude.{◌≡◌, ◌+◌, OnOk, OnErr};
-    ghost use Rattle.fits_card.specs.Stream.{Prints, PrintsFront};
+    ghost use Rattle.fits_stream.specs.Stream.{Prints, PrintsFront};
     ghost use Rattle.fits_session.specs.File.{file_bytes};
     ghost use Rattle.fits_session.specs.Session.{file_of, each_read, ReadsOnceAtMost};
 

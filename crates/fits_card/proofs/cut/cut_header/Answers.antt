@@ -1,5 +1,5 @@
 use Rattle.std.proofs.Common.{ap}
-use Rattle.fits_card.specs.Intake.{IntakeState}
+use Rattle.fits_stream.specs.Intake.{IntakeState}
 use Rattle.fits_card.proofs.CutLemmas.{cut_taken}
 use Rattle.fits_card.proofs.cut.cut_header.Goals as goal
 

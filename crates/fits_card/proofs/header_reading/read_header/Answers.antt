@@ -2,8 +2,8 @@ use Rattle.std.proofs.Common.{◌≡◌, ◌*◌, ◌<◌, ◌≤◌, ◌++◌, 
 use Rattle.std.proofs.lemmas.List.{length-drop, length-take-le}
 use Rattle.fits_card.specs.HeaderSteps.{pieces}
 use Rattle.fits_card.proofs.HeaderReadingLemmas.{blocks_ended, blocks_more, inner_ended, inner_more, length-more, stops_short}
-use Rattle.fits_card.proofs.IntakeLemmas.{takes_passed}
-use Rattle.fits_card.proofs.SightLemmas.{takes_fewer}
+use Rattle.fits_stream.proofs.IntakeLemmas.{takes_passed}
+use Rattle.fits_stream.proofs.SightLemmas.{takes_fewer}
 use Rattle.fits_card.proofs.header_reading.read_header.Goals as goal
 
 -- the source ended, or the limit came, within a block
@@ -39,7 +39,7 @@ block-preserved g c =
     let size : length c.split_at.result.0.now ≡ 80 * 36 = ap length block ∙ length-take-le 2880 c.hold.new.self.ahead long in
     record {
       taken = blocks_more c.block.cards.items _ _ _ _ _ 36 c.block.invariant.taken c.in-Ok.ensures.ok (takes_passed _ _ 2880 refl c.pass-in-block.ensures.ahead c.pass-in-block.ensures.left) long
-      (subst (λ b. c.push_cards-in-block.new.cards.items ≡ c.block.cards.items ++ pieces b 36) block c.in_ok-push_cards-2.ensures);
+          (subst (λ b. c.push_cards-in-block.new.cards.items ≡ c.block.cards.items ++ pieces b 36) block c.in_ok-push_cards-2.ensures);
       inner = inner_more c.block.cards.items _ c.split_at.result.0.now 36 c.block.invariant.inner (omega (arith, size)) c.in_default-end_place.ensures.none c.in_ok-push_cards-2.ensures;
       full = omega (arith, length-more c.block.cards.items _ c.split_at.result.0.now 36 c.in_ok-push_cards-2.ensures, c.block.invariant.full);
     }

@@ -1,6 +1,6 @@
 use Rattle.std.proofs.Common.{◌≡◌, ◌+◌, ◌%◌, All, length}
 use Rattle.fits_card.specs.Header.{IsInnerCard, joined_cards}
-use Rattle.fits_card.specs.Intake.{supply, Takes}
+use Rattle.fits_stream.specs.Intake.{supply, Takes}
 use Rattle.fits_card.proofs.header_reading.read_header.Given as goal
 
 abbrev pub invariant-block : goal.invariant-block

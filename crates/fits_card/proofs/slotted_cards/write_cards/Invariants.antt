@@ -1,6 +1,6 @@
 use Rattle.std.proofs.Common.{◌≡◌, ◌+◌, take}
 use Rattle.fits_card.specs.Header.{joined_cards}
-use Rattle.fits_card.specs.Stream.{Prints}
+use Rattle.fits_stream.specs.Stream.{Prints}
 use Rattle.fits_card.proofs.slotted_cards.write_cards.Given as goal
 
 abbrev pub invariant-loop-index : goal.invariant-loop-index

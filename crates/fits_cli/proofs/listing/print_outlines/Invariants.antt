@@ -1,6 +1,6 @@
 use Rattle.std.proofs.Common.{◌≡◌, take}
 use Rattle.fits_cli.specs.Listing.{outlined_len, outlined_lines}
-use Rattle.fits_card.specs.Stream.{Prints}
+use Rattle.fits_stream.specs.Stream.{Prints}
 use Rattle.fits_cli.proofs.listing.print_outlines.Given as goal
 
 abbrev pub invariant-loop-i : goal.invariant-loop-i

@@ -1,6 +1,6 @@
 use Rattle.std.proofs.Common.{◌≡◌, ◌++◌, [], take, length, refl, ap, arith, rules}
 use Rattle.std.proofs.lemmas.List.{length-append, length-take-le}
-use Rattle.fits_card.proofs.StreamLemmas.{Reads-none, Reads-more}
+use Rattle.fits_stream.proofs.StreamLemmas.{Reads-none, Reads-more}
 use Rattle.fits_cli.proofs.ExitLemmas.{at_exit, last_err, last_ok}
 use Rattle.fits_cli.proofs.RunLemmas.{HasCome-none}
 use Rattle.fits_cli.proofs.ScriptLemmas.{ScriptReadFails-after, ScriptStops-piece, ScriptStops-over, ScriptStops-end, AnswersTooLong-over, AnswersScript-end}

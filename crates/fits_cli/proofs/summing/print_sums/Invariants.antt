@@ -1,5 +1,5 @@
 use Rattle.std.proofs.Common.{take}
-use Rattle.fits_card.specs.Stream.{Prints}
+use Rattle.fits_stream.specs.Stream.{Prints}
 use Rattle.fits_cli.specs.Summing.{summed_lines}
 use Rattle.fits_cli.proofs.summing.print_sums.Given as goal
 

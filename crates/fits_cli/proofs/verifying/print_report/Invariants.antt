@@ -1,6 +1,6 @@
 use Rattle.std.proofs.Common.{take}
 use Rattle.fits_cli.specs.Report.{problem_lines}
-use Rattle.fits_card.specs.Stream.{Prints}
+use Rattle.fits_stream.specs.Stream.{Prints}
 use Rattle.fits_cli.proofs.verifying.print_report.Given as goal
 
 abbrev pub invariant-loop-it : goal.invariant-loop-it

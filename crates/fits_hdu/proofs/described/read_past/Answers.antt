@@ -1,6 +1,6 @@
 use Rattle.std.proofs.Common.{arith}
 use Rattle.std.proofs.lemmas.Grind.{common_steps}
-use Rattle.fits_card.proofs.SightLemmas.{takes_fewer}
+use Rattle.fits_stream.proofs.SightLemmas.{takes_fewer}
 use Rattle.fits_rules.proofs.LawLemmas.{shape_primary}
 use Rattle.fits_hdu.proofs.ReadingLemmas.{hdu_passed, stops_passed}
 use Rattle.fits_hdu.proofs.described.read_past.Goals as goal

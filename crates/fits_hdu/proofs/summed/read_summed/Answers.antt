@@ -1,6 +1,6 @@
 use Rattle.std.proofs.Common.{◌∙◌, ap, arith}
 use Rattle.std.specs.Prelude.{◌%◌}
-use Rattle.fits_card.proofs.SightLemmas.{takes_fewer}
+use Rattle.fits_stream.proofs.SightLemmas.{takes_fewer}
 use Rattle.std.proofs.lemmas.Result.{err_from_is_err_and}
 use Rattle.fits_rules.proofs.LawLemmas.{shape_primary}
 use Rattle.fits_hdu.proofs.LayoutLemmas.{data_within}

@@ -1,6 +1,6 @@
 use Rattle.std.proofs.Common.{◌≡◌, ◌<◌, ◌∙◌, length, take, refl, ap, arith}
 use Rattle.std.proofs.lemmas.Grind.{common_steps}
-use Rattle.fits_card.proofs.IntakeLemmas.{takes_passed}
+use Rattle.fits_stream.proofs.IntakeLemmas.{takes_passed}
 use Rattle.fits_hdu.proofs.PassingLemmas.{summed_more, summed_none, sums_fewer}
 use Rattle.fits_hdu.proofs.summed.sum_unit.Goals as goal
 
@@ -21,7 +21,7 @@ loop-sums-preserved g c =
       words = grind (arith, common_steps);
       bounded = c.and-sums.ensures.bounded;
       taken = summed_more c.args.used c.args.fill _ _ _ _ piece c.loop-sums.sums c.and-sums.result c.loop-sums.invariant.taken c.in_ok-hold.ensures.ok (rw is (takes_passed _ _ most refl c.pass.ensures.ahead c.pass.ensures.left))
-      c.loop-sums.invariant.words c.and-sums.ensures.count c.and-sums.ensures.total c.and-sums.ensures.filled;
+          c.loop-sums.invariant.words c.and-sums.ensures.count c.and-sums.ensures.total c.and-sums.ensures.filled;
     }
 
 -- no byte is summed yet

@@ -1,5 +1,5 @@
 use Rattle.std.proofs.Common.{◌≡◌, ◌≤◌, ◌-◌, ◌*◌, ◌/◌, ◌%◌}
-use Rattle.fits_card.specs.Intake.{supply}
+use Rattle.fits_stream.specs.Intake.{supply}
 use Rattle.fits_hdu.specs.Passing.{TakesSummed}
 use Rattle.fits_hdu.proofs.summed.sum_unit.Given as goal
 

@@ -1,7 +1,7 @@
 use Rattle.std.proofs.Common.{◌+◌, length, ap, arith}
 use Rattle.std.proofs.lemmas.Grind.{common_steps}
-use Rattle.fits_card.specs.Intake.{IntakeState, supply}
-use Rattle.fits_card.proofs.SightLemmas.{limited_source}
+use Rattle.fits_stream.specs.Intake.{IntakeState, supply}
+use Rattle.fits_stream.proofs.SightLemmas.{limited_source}
 use Rattle.fits_session.specs.declared.limits.TheConstants.{FILE_LIMIT}
 use Rattle.fits_session.specs.Reading.{IsWalkOf}
 use Rattle.fits_session.proofs.WalkLemmas.{kept_before, kept_given, read_given, read_stops}

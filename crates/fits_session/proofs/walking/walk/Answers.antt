@@ -1,6 +1,6 @@
 use Rattle.std.proofs.Common.{arith}
 use Rattle.std.proofs.lemmas.Grind.{common_steps}
-use Rattle.fits_card.proofs.SightLemmas.{takes_fewer}
+use Rattle.fits_stream.proofs.SightLemmas.{takes_fewer}
 use Rattle.fits_session.proofs.WalkLemmas.{stops_at_first, stops_by_hdu, stops_full, walk_shorter, walked_more}
 use Rattle.fits_session.proofs.walking.walk.Goals as goal
 

@@ -1,6 +1,6 @@
 use Rattle.std.proofs.Common.{◌+◌, ◌<◌, length}
 use Rattle.std.specs.Prelude.{nat_eq}
-use Rattle.fits_card.specs.Intake.{supply}
+use Rattle.fits_stream.specs.Intake.{supply}
 use Rattle.fits_session.specs.declared.limits.TheConstants.{HDU_LIMIT}
 use Rattle.fits_session.specs.Reading.{NextBegins, Walked}
 use Rattle.fits_session.proofs.walking.walk.Given as goal

@@ -1,5 +1,5 @@
 use Rattle.std.proofs.Common.{ap, refl}
-use Rattle.fits_card.specs.Intake.{IntakeState}
+use Rattle.fits_stream.specs.Intake.{IntakeState}
 use Rattle.fits_rules.proofs.LawLemmas.{shape_primary}
 use Rattle.fits_hdu.proofs.OpenLemmas.{hdu_opened}
 use Rattle.fits_hdu.proofs.hdu.Hdu.open.Goals as goal

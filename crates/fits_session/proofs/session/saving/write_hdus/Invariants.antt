@@ -1,5 +1,5 @@
 use Rattle.std.proofs.Common.{◌≡◌, take, length}
-use Rattle.fits_card.specs.Stream.{Prints}
+use Rattle.fits_stream.specs.Stream.{Prints}
 use Rattle.fits_session.specs.File.{joined_hdus}
 use Rattle.fits_session.specs.Session.{hdus_of}
 use Rattle.fits_session.proofs.SaveLemmas.{first_read}

@@ -1,0 +1,4 @@
+pub mod IntakeLemmas
+pub mod SightLemmas
+pub mod StoredLemmas
+pub mod StreamLemmas

@@ -1,0 +1,14 @@
+use Rattle.std.proofs.Common.{◌≡◌, ◌≤◌, ◌-◌, ◌<◌, length}
+use Rattle.fits_stream.specs.Stored.{GoesPast}
+use Rattle.fits_stream.proofs.skipping.skip_by_reading.Given as goal
+
+abbrev pub invariant-loop-count : goal.invariant-loop-count
+invariant-loop-count g l = record {
+  wide : 0 < length l.piece;
+  size : length l.piece ≡ length l.fn.piece;
+  within : l.count ≤ l.len;
+  gone : GoesPast (g.R.Read.remaining l.fn.reader) (g.R.Read.remaining l.reader) l.count;
+}
+
+abbrev pub decreases-loop-count : goal.decreases-loop-count
+decreases-loop-count g l = l.len - l.count

@@ -1,0 +1,4 @@
+pub mod Ahead
+pub mod Intake
+pub mod Stored
+pub mod Stream

@@ -1,0 +1,26 @@
+//! Streams that count their failed calls, and how the bytes of one are taken.
+#![tactic(auto)]
+
+mod ahead;
+mod count;
+mod file_source;
+mod intake;
+mod piece;
+mod reading;
+mod sink;
+mod skipping;
+mod slice_source;
+mod source;
+mod stored;
+mod watched;
+mod writing;
+
+pub use count::Count;
+pub use file_source::FileSource;
+pub use intake::Intake;
+pub use reading::{PIECE_LEN, ReadFault, buffer_of};
+pub use sink::Sink;
+pub use source::Source;
+pub use stored::Stored;
+pub use watched::Watched;
+pub use writing::write_all;

@@ -1,0 +1,115 @@
+ghost use Rattle.std.specs.Prelude.{◌≡◌};
+
+use crate::count::Count;
+use crate::sink::Sink;
+use crate::skipping::skip_by_reading;
+use crate::source::Source;
+use std::io;
+use std::io::{Read, Write};
+use std::marker::Model;
+
+/// A reader or a writer of std, with a count of its failed calls, and of its writes since the last
+/// flush that succeeded.
+///
+/// Every kind of error is a failed call. That no call is tried again, and that a flush reaches the
+/// writer below is tested: std's `Write` doesn't say what has arrived.
+#[derive(Drop)]
+pub struct Watched<S> {
+    stream: S,
+    failed: Count,
+    unflushed: Count,
+}
+
+impl<S> Model for Watched<S> {
+    ghost use Rattle.fits_stream.specs.Stream.{Watch};
+
+    ghost Value = { Watch S };
+
+    ghost view = { λ it. record {
+      stream = it.stream;
+      failures = it.failed.total;
+      unflushed = it.unflushed.total;
+    } };
+}
+
+impl<S> Watched<S> {
+    pub fn new(stream: S) -> Watched<S>
+        ensures { result ≡ record { stream = stream; failures = 0; unflushed = 0 } }
+    {
+        Watched {
+            stream,
+            failed: Count::new(),
+            unflushed: Count::new(),
+        }
+    }
+
+    /// The reader or writer again.
+    pub fn into_inner(self) -> S
+        ensures { result ≡ self.stream }
+    {
+        let Watched { stream, .. } = self;
+        stream
+    }
+}
+
+impl<R: Read> Source for Watched<R> {
+    ghost state = { λ it. record { remaining = R.remaining it.stream; failures = it.failures } };
+
+    fn read(&mut self, buffer: &mut [u8]) -> io::Result<usize> {
+        match self.stream.read(buffer) {
+            Ok(n) => Ok(n),
+            Err(error) => {
+                self.failed.tick();
+                Err(error)
+            }
+        }
+    }
+
+    #[tactic(auto, using(crate::proofs::IntakeLemmas::skips_gone))]
+    fn skip(&mut self, buffer: &mut [u8], len: usize) -> io::Result<usize> {
+        match skip_by_reading(&mut self.stream, buffer, len) {
+            Ok(count) => Ok(count),
+            Err(error) => {
+                self.failed.tick();
+                Err(error)
+            }
+        }
+    }
+}
+
+impl<W: Write> Sink for Watched<W> {
+    ghost state = { λ it. record {
+      contents = W.contents it.stream;
+      failures = it.failures;
+      unflushed = it.unflushed;
+    } };
+
+    fn write(&mut self, piece: &[u8]) -> io::Result<usize> {
+        self.unflushed.tick();
+        match self.stream.write(piece) {
+            Ok(n) => {
+                if n == 0 && !piece.is_empty() {
+                    self.failed.tick();
+                }
+                Ok(n)
+            }
+            Err(error) => {
+                self.failed.tick();
+                Err(error)
+            }
+        }
+    }
+
+    fn flush(&mut self) -> io::Result<()> {
+        match self.stream.flush() {
+            Ok(()) => {
+                self.unflushed = Count::new();
+                Ok(())
+            }
+            Err(error) => {
+                self.failed.tick();
+                Err(error)
+            }
+        }
+    }
+}
