@@ -15,7 +15,7 @@ use Rattle.fits_plane.specs.Rectangle.{lies_within, product, rectangle_size, rec
 use Rattle.fits_plane.specs.Statistics.{value_statistics}
 use Rattle.fits_plane.specs.Work.{rectangle_blocks}
 use Rattle.fits_plane.specs.declared.layout.Layout.{Layout}
-use Rattle.fits_plane.specs.declared.paint.Paint.{Paint}
+use Rattle.fits_plane.specs.declared.lent_paint.LentPaint.{LentPaint}
 use Rattle.fits_plane.specs.declared.value_summary.ValueSummary.{ValueSummary}
 use Rattle.fits_plane.proofs.PixelLemmas.{width_range}
 use Rattle.fits_rules.specs.Class.{is_primary}
@@ -193,27 +193,27 @@ rect_of-values shape hdu lo hi kind e within = rw (e, within) refl
 -- ---- what is painted
 
 -- no image
-pub painted-not_image : (shape : Shape) (hdu : HduParts) (lo hi : List ℕ) (paint : Paint) → kind_in shape hdu.header.cards ≡ None → painted shape lo hi paint hdu ≡ Err NotImage
+pub painted-not_image : (shape : Shape) (hdu : HduParts) (lo hi : List ℕ) (paint : LentPaint) → kind_in shape hdu.header.cards ≡ None → painted shape lo hi paint hdu ≡ Err NotImage
 unfolding painted
 painted-not_image shape hdu lo hi paint e = ap (λ o. painted_by o shape lo hi paint hdu) e
 
 -- a bad rectangle
-pub painted-bad : (shape : Shape) (hdu : HduParts) (lo hi : List ℕ) (paint : Paint) (kind : Kind) → kind_in shape hdu.header.cards ≡ Some kind → lies_within shape.axes lo hi ≡ false → painted shape lo hi paint hdu ≡ Err BadRectangle
+pub painted-bad : (shape : Shape) (hdu : HduParts) (lo hi : List ℕ) (paint : LentPaint) (kind : Kind) → kind_in shape hdu.header.cards ≡ Some kind → lies_within shape.axes lo hi ≡ false → painted shape lo hi paint hdu ≡ Err BadRectangle
 unfolding painted
 painted-bad shape hdu lo hi paint kind e bad = rw (e, bad) refl
 
 -- too many values, or too few
-pub painted-count : (shape : Shape) (hdu : HduParts) (lo hi : List ℕ) (paint : Paint) (kind : Kind) → kind_in shape hdu.header.cards ≡ Some kind → lies_within shape.axes lo hi ≡ true → has_count paint (rectangle_size lo hi) ≡ false → painted shape lo hi paint hdu ≡ Err WrongCount
+pub painted-count : (shape : Shape) (hdu : HduParts) (lo hi : List ℕ) (paint : LentPaint) (kind : Kind) → kind_in shape hdu.header.cards ≡ Some kind → lies_within shape.axes lo hi ≡ true → has_count paint (rectangle_size lo hi) ≡ false → painted shape lo hi paint hdu ≡ Err WrongCount
 unfolding painted
 painted-count shape hdu lo hi paint kind e within wrong = rw (e, within, wrong) refl
 
 -- one that isn't stored
-pub painted-out : (shape : Shape) (hdu : HduParts) (lo hi : List ℕ) (paint : Paint) (kind : Kind) → kind_in shape hdu.header.cards ≡ Some kind → lies_within shape.axes lo hi ≡ true → has_count paint (rectangle_size lo hi) ≡ true → can_store_paint (width_of kind) (offset_of kind) paint ≡ false → painted shape lo hi paint hdu ≡ Err OutOfRange
+pub painted-out : (shape : Shape) (hdu : HduParts) (lo hi : List ℕ) (paint : LentPaint) (kind : Kind) → kind_in shape hdu.header.cards ≡ Some kind → lies_within shape.axes lo hi ≡ true → has_count paint (rectangle_size lo hi) ≡ true → can_store_paint (width_of kind) (offset_of kind) paint ≡ false → painted shape lo hi paint hdu ≡ Err OutOfRange
 unfolding painted
 painted-out shape hdu lo hi paint kind e within count out = rw (e, within, count, out) refl
 
 -- it is painted
-pub painted-done : (shape : Shape) (header : Header) (old new : List ℕ) (lo hi : List ℕ) (paint : Paint) (kind : Kind) (width : ℕ) → kind_in shape header.cards ≡ Some kind → lies_within shape.axes lo hi ≡ true → width ≡ width_of kind
+pub painted-done : (shape : Shape) (header : Header) (old new : List ℕ) (lo hi : List ℕ) (paint : LentPaint) (kind : Kind) (width : ℕ) → kind_in shape header.cards ≡ Some kind → lies_within shape.axes lo hi ≡ true → width ≡ width_of kind
     → has_count paint (rectangle_size lo hi) ≡ true → can_store_paint (width_of kind) (offset_of kind) paint ≡ true → new ≡ rectangle_written width shape.axes lo hi (painted_number paint (offset_of kind)) old
     → painted shape lo hi paint (record { header = header; data_unit = old }) ≡ Ok (record { header = header; data_unit = new })
 unfolding painted
@@ -238,7 +238,7 @@ keeps shape kind lo hi number hdu new r is e =
     subst (λ (h : HduParts). KeepsSize hdu h) same (refl, length-rectangle_written (width_of kind) shape.axes lo hi number hdu.data_unit)
 
 -- painted
-keeps_painted : (o : Option Kind) (shape : Shape) (lo hi : List ℕ) (paint : Paint) (hdu new : HduParts) → painted_by o shape lo hi paint hdu ≡ Ok new → KeepsSize hdu new
+keeps_painted : (o : Option Kind) (shape : Shape) (lo hi : List ℕ) (paint : LentPaint) (hdu new : HduParts) → painted_by o shape lo hi paint hdu ≡ Ok new → KeepsSize hdu new
 keeps_painted None shape lo hi paint hdu new e = absurd (cc)
 keeps_painted (Some kind) shape lo hi paint hdu new e =
     let within = passed (not (lies_within shape.axes lo hi)) BadRectangle _ new e in
@@ -260,7 +260,7 @@ kept_whole primary hdu new p k = (
 )
 
 -- an HDU that was painted
-pub painted_hdu : (primary : Bool) (shape : Shape) (hdu : HduParts) (lo hi : List ℕ) (paint : Paint) (new : HduParts) → IsHdu primary hdu → shape_of primary hdu.header.cards ≡ Ok shape → painted shape lo hi paint hdu ≡ Ok new
+pub painted_hdu : (primary : Bool) (shape : Shape) (hdu : HduParts) (lo hi : List ℕ) (paint : LentPaint) (new : HduParts) → IsHdu primary hdu → shape_of primary hdu.header.cards ≡ Ok shape → painted shape lo hi paint hdu ≡ Ok new
     → IsHdu primary new × (new.header ≡ hdu.header) × (length new.data_unit ≡ length hdu.data_unit)
 unfolding painted
 painted_hdu primary shape hdu lo hi paint new p described e = kept_whole primary hdu new p (keeps_painted (kind_in shape hdu.header.cards) shape lo hi paint hdu new e)

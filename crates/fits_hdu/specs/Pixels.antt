@@ -5,7 +5,7 @@ use Rattle.fits_plane.specs.Paint.{can_store_paint, has_count, painted_number}
 use Rattle.fits_plane.specs.Pixels.{pixels}
 use Rattle.fits_plane.specs.Rectangle.{lies_within, rectangle_size, rectangle_values, rectangle_written}
 use Rattle.fits_plane.specs.Statistics.{value_statistics}
-use Rattle.fits_plane.specs.declared.paint.Paint.{Paint}
+use Rattle.fits_plane.specs.declared.lent_paint.LentPaint.{LentPaint}
 pub use Rattle.fits_plane.specs.declared.value_summary.ValueSummary.{ValueSummary as Stats}
 use Rattle.fits_rules.specs.declared.array_shape.Shape.{Shape}
 use Rattle.fits_hdu.specs.Hdu.{HduParts}
@@ -45,7 +45,7 @@ RectFails answer Memory = IsOk answer
 RectFails answer why = answer ≡ Err why
 
 -- a rectangle is painted
-abbrev pub painted_by : Option Kind → Shape → List ℕ → List ℕ → Paint → HduParts → Result HduParts PixelFault
+abbrev pub painted_by : Option Kind → Shape → List ℕ → List ℕ → LentPaint → HduParts → Result HduParts PixelFault
 painted_by None shape lo hi paint hdu = Err NotImage
 painted_by (Some kind) shape lo hi paint hdu =
     if not (lies_within shape.axes lo hi) then Err BadRectangle
@@ -54,5 +54,5 @@ painted_by (Some kind) shape lo hi paint hdu =
     else Ok (with_numbers shape kind lo hi (painted_number paint (offset_of kind)) hdu)
 
 -- an HDU with a rectangle of its pixels painted, or the first test that fails
-unfoldable pub painted : Shape → List ℕ → List ℕ → Paint → HduParts → Result HduParts PixelFault
+unfoldable pub painted : Shape → List ℕ → List ℕ → LentPaint → HduParts → Result HduParts PixelFault
 painted shape lo hi paint hdu = painted_by (kind_in shape hdu.header.cards) shape lo hi paint hdu

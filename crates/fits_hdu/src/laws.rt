@@ -4,7 +4,7 @@ ghost use Rattle.std.specs.List.{starts_with};
 ghost use Rattle.fits_card.specs.Change.{cards_after, new_cards};
 ghost use Rattle.fits_card.specs.Header.{IsInnerCard};
 ghost use Rattle.fits_card.specs.declared.change.Change.{Change};
-ghost use Rattle.fits_plane.specs.declared.paint.Paint.{Paint};
+ghost use Rattle.fits_plane.specs.declared.lent_paint.LentPaint.{LentPaint};
 ghost use Rattle.fits_rules.specs.Image.{image_bits};
 ghost use Rattle.fits_rules.specs.Shape.{shape_of};
 ghost use Rattle.fits_rules.specs.declared.array_shape.Shape.{Shape};
@@ -97,7 +97,7 @@ pub fn one_list_of_findings()
 
 /// An HDU whose pixels were painted is one: its header is the same, and its data unit as long.
 pub fn painted_hdus_are_hdus()
-    ensures { (primary : Bool) (shape : Shape) (hdu : HduParts) (lo hi : List ℕ) (paint : Paint)
+    ensures { (primary : Bool) (shape : Shape) (hdu : HduParts) (lo hi : List ℕ) (paint : LentPaint)
         (new : HduParts) → IsHdu primary hdu → shape_of primary hdu.header.cards ≡ Ok shape
         → painted shape lo hi paint hdu ≡ Ok new → IsHdu primary new × (new.header ≡ hdu.header)
         × (length new.data_unit ≡ length hdu.data_unit) }

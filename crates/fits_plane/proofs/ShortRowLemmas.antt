@@ -7,8 +7,8 @@ use Rattle.fits_plane.specs.declared.pixel_summary.PixelSummary.{PixelSummary}
 use Rattle.fits_plane.specs.declared.word_summary.WordSummary.{WordSummary}
 use Rattle.fits_plane.specs.declared.both.Both.{Both}
 use Rattle.fits_plane.specs.declared.layout.Layout.{Layout}
-use Rattle.fits_plane.specs.declared.paint.Paint.{Paint}
-use Rattle.fits_plane.specs.declared.paint.Paint.TheVariants.{Fill, Write}
+use Rattle.fits_plane.specs.declared.lent_paint.LentPaint.{LentPaint}
+use Rattle.fits_plane.specs.declared.lent_paint.LentPaint.TheVariants.{Fill, Write}
 use Rattle.fits_plane.specs.Paint.{painted_number, HasValues}
 use Rattle.fits_plane.specs.Pixels.{pixel, IsWidth, IsStorable}
 use Rattle.fits_plane.specs.Layout.{IsLayout, block_count, block_pixels}
@@ -143,12 +143,12 @@ row_joined w start count here next rest rank number old mid new few at more f g 
 }
 
 -- with a value for each of some pixels there is one for each of fewer
-has_less : (paint : Paint) (m n : ℕ) → n ≤ m → HasValues paint m → HasValues paint n
+has_less : (paint : LentPaint) (m n : ℕ) → n ≤ m → HasValues paint m → HasValues paint n
 has_less (Fill value) m n l h = tt
 has_less (Write values) m n l h = omega (arith, l, h)
 
 -- what can be painted can be painted in part
-pub can_paint : (w : ℕ) (paint : Paint) (offset : ℤ) (rank count a n : ℕ) → CanPaint w paint offset rank count → a + n ≤ count → CanPaint w paint offset (rank + a) n
+pub can_paint : (w : ℕ) (paint : LentPaint) (offset : ℤ) (rank count a n : ℕ) → CanPaint w paint offset rank count → a + n ≤ count → CanPaint w paint offset (rank + a) n
 can_paint w paint offset rank count a n h room = record {
   ranks = omega (arith, h.ranks, room);
   values = has_less paint (rank + count) (rank + a + n) (omega (arith, room)) h.values;
@@ -156,7 +156,7 @@ can_paint w paint offset rank count a n h room = record {
 }
 
 -- and its first pixels by themselves
-pub can_paint_first : (w : ℕ) (paint : Paint) (offset : ℤ) (rank count n : ℕ) → CanPaint w paint offset rank count → n ≤ count → CanPaint w paint offset rank n
+pub can_paint_first : (w : ℕ) (paint : LentPaint) (offset : ℤ) (rank count n : ℕ) → CanPaint w paint offset rank count → n ≤ count → CanPaint w paint offset rank n
 can_paint_first w paint offset rank count n h room = let e : rank + 0 ≡ rank = omega arith in subst (λ r. CanPaint w paint offset r n) e (can_paint w paint offset rank count 0 n h (omega (arith, room)))
 
 -- a row of two blocks, so much of which lies in the first

@@ -4,7 +4,7 @@ use Rattle.fits_plane.specs.declared.pixel_summary.PixelSummary.{PixelSummary}
 use Rattle.fits_plane.specs.declared.word_summary.WordSummary.{WordSummary}
 use Rattle.fits_plane.specs.declared.both.Both.{Both}
 use Rattle.fits_plane.specs.declared.layout.Layout.{Layout}
-use Rattle.fits_plane.specs.declared.paint.Paint.{Paint}
+use Rattle.fits_plane.specs.declared.lent_paint.LentPaint.{LentPaint}
 use Rattle.fits_plane.specs.Layout.{IsLayout, block_count}
 use Rattle.fits_plane.specs.Leaves.{leaf_unit, AreLeaves, IsLeaf, IsBlockTreeBut}
 use Rattle.fits_plane.specs.Paint.{painted_number, HasValues}
@@ -26,7 +26,7 @@ pub record IsKeptBut (layout : Layout) (bytes : List ℕ) (n place : ℕ) (nodes
   pub units : (k : ℕ) → block_count bytes ≤ k → get_or (drop n nodes) k leaf_unit ≡ leaf_unit
 
 -- the paint has a number for each of so many pixels from a rank on, and such pixels can store it
-pub record CanPaint (width : ℕ) (paint : Paint) (offset : ℤ) (rank count : ℕ) : Type 0 where
+pub record CanPaint (width : ℕ) (paint : LentPaint) (offset : ℤ) (rank count : ℕ) : Type 0 where
   pub ranks : rank + count < 2 ^ 62
   pub values : HasValues paint (rank + count)
   pub storable : (x : ℕ) → x < count → IsStorable width (painted_number paint offset (rank + x))

@@ -8,7 +8,7 @@ ghost use Rattle.fits_plane.specs.Work.{touched_blocks};
 ghost use Rattle.fits_plane.specs.ShortRows.{IsKept};
 
 use crate::layout::Layout;
-use crate::paint::Paint;
+use crate::lent_paint::LentPaint;
 use crate::pixel_writes::paint_rows;
 use crate::rectangle::row_len;
 use crate::scan::{Leaf, pixels_per_block};
@@ -37,7 +37,7 @@ fn paint_and_scan(
     axes: &[u64],
     lo: &[u64],
     hi: &[u64],
-    paint: &Paint,
+    paint: &LentPaint,
     offset: i128,
 )
     requires kept { IsKept layout bytes.old tree.old.leaves }
@@ -74,7 +74,7 @@ pub(crate) fn paint_rectangle(
     axes: &[u64],
     lo: &[u64],
     hi: &[u64],
-    paint: &Paint,
+    paint: &LentPaint,
     offset: i128,
 )
     requires kept { IsKept layout bytes.old tree.old.leaves }

@@ -5,7 +5,7 @@ ghost use Rattle.fits_plane.specs.Paint.{has_count, painted_number, HasValues};
 ghost use Rattle.fits_plane.specs.Pixels.{pixel, IsWidth, IsStorable};
 ghost use Rattle.fits_plane.specs.Rectangle.{IsRectangle, IsWritten, product, rectangle_size, rectangle_written};
 
-use crate::paint::Paint;
+use crate::lent_paint::LentPaint;
 use crate::pixels::{put_pixel, read_bytes};
 use crate::rectangle::{row_len, row_start, rows};
 
@@ -57,7 +57,7 @@ pub(crate) fn paint_row(
     width: usize,
     start: usize,
     count: usize,
-    paint: &Paint,
+    paint: &LentPaint,
     rank: usize,
     offset: i128,
 )
@@ -75,8 +75,8 @@ pub(crate) fn paint_row(
         → slice_index bytes.new j ≡ slice_index bytes.old j }
 {
     match paint {
-        Paint::Fill(value) => fill_row(bytes, width, start, count, stored_of(*value, offset)),
-        Paint::Write(values) => {
+        LentPaint::Fill(value) => fill_row(bytes, width, start, count, stored_of(*value, offset)),
+        LentPaint::Write(values) => {
             let part = &values.as_slice()[rank..rank + count];
             write_row(bytes, width, start, part, offset);
         }
@@ -90,7 +90,7 @@ pub(crate) fn paint_rows(
     axes: &[u64],
     lo: &[u64],
     hi: &[u64],
-    paint: &Paint,
+    paint: &LentPaint,
     offset: i128,
 )
     requires width { IsWidth width }

@@ -2,7 +2,7 @@ ghost use Rattle.std.specs.Prelude.{◌≡◌, replicate, IfOk};
 
 use crate::layout::Layout;
 use crate::leaves::{leaves_of, root_of, zero_leaves};
-use crate::paint::Paint;
+use crate::lent_paint::LentPaint;
 use crate::painting::paint_rectangle;
 use crate::pixel_reads::read_rows;
 use crate::pixel_summary::PixelSummary;
@@ -64,7 +64,7 @@ impl Plane {
     ghost use Rattle.fits_plane.specs.Pixels.{pixel, pixels, IsStorable};
     ghost use Rattle.fits_plane.specs.Rectangle.{IsRectangle, product, rectangle_size, rectangle_values, rectangle_written};
     ghost use Rattle.fits_plane.specs.Layout.{IsLayout, block_count};
-    ghost use Rattle.fits_plane.specs.Work.{rectangle_blocks};
+    ghost use Rattle.fits_plane.specs.Plane.{IsPainted};
 
     /// The data unit of a copy of these bytes.
     pub fn open(alloc: Global, bytes: &[u8], layout: Layout) -> Result<Plane, AllocError>
@@ -188,31 +188,22 @@ impl Plane {
         all_are(&self.bytes.as_slice()[self.layout.used..], self.layout.fill)
     }
 
-    /// Gives the pixels of a rectangle the values of a paint, each less the offset.
-    pub fn paint_rect(&mut self, axes: &[u64], lo: &[u64], hi: &[u64], paint: &Paint, offset: i128)
+    /// Gives the pixels of a rectangle the values of a paint, each less the offset. It takes no memory.
+    pub fn paint_rect(
+        &mut self,
+        axes: &[u64],
+        lo: &[u64],
+        hi: &[u64],
+        paint: &LentPaint,
+        offset: i128,
+    )
         requires rectangle { IsRectangle axes.now lo.now hi.now }
         requires all { product axes.now ≡ self.old.layout.pixels }
         requires count { has_count paint.now (rectangle_size lo.now hi.now) ≡ true }
         requires storable { (k : ℕ) → k < rectangle_size lo.now hi.now
             → IsStorable self.old.layout.width (painted_number paint.now offset k) }
-
-        // Each pixel of the rectangle has the number of its rank, every other byte is as before.
-        ensures bytes { self.new.bytes ≡ rectangle_written self.old.layout.width
-            axes.now lo.now hi.now (painted_number paint.now offset) self.old.bytes }
-        ensures layout { self.new.layout ≡ self.old.layout }
-
-        // Each block that holds a byte of it is scanned at most once, with no more joins than there
-        // are nodes. It takes no memory.
-        ensures reads { self.new.reads ≡ self.old.reads }
-        ensures more_scans { self.old.scans ≤ self.new.scans }
-        ensures scans { self.new.scans ≤ self.old.scans
-            + rectangle_blocks self.old.layout self.old.bytes axes.now lo.now hi.now }
-        ensures more_joins { self.old.joins ≤ self.new.joins }
-        ensures joins { (d : ℕ) → block_count self.old.bytes ≤ 2 ^ d
-            → self.new.joins ≤ self.old.joins
-            + rectangle_blocks self.old.layout self.old.bytes axes.now lo.now hi.now * d }
-        ensures most { (d : ℕ) → block_count self.old.bytes ≤ 2 ^ d
-            → self.new.joins ≤ self.old.joins + 2 ^ d }
+        ensures { IsPainted axes.now lo.now hi.now (painted_number paint.now offset)
+            self.old self.new }
     {
         paint_rectangle(
             &mut self.tree,
@@ -227,34 +218,17 @@ impl Plane {
         );
     }
 
-    /// Fills a rectangle with a stored number.
+    /// Fills a rectangle with a stored number. It takes no memory.
     pub fn fill_rect(&mut self, axes: &[u64], lo: &[u64], hi: &[u64], stored: i64)
         requires rectangle { IsRectangle axes.now lo.now hi.now }
         requires all { product axes.now ≡ self.old.layout.pixels }
         requires storable { IsStorable self.old.layout.width stored }
-
-        // Each pixel of the rectangle has the number, every other byte is as before.
-        ensures bytes { self.new.bytes ≡ rectangle_written self.old.layout.width
-            axes.now lo.now hi.now (λ k. stored) self.old.bytes }
-        ensures layout { self.new.layout ≡ self.old.layout }
-
-        // Each block that holds a byte of it is scanned at most once, with no more joins than there
-        // are nodes. It takes no memory.
-        ensures reads { self.new.reads ≡ self.old.reads }
-        ensures more_scans { self.old.scans ≤ self.new.scans }
-        ensures scans { self.new.scans ≤ self.old.scans
-            + rectangle_blocks self.old.layout self.old.bytes axes.now lo.now hi.now }
-        ensures more_joins { self.old.joins ≤ self.new.joins }
-        ensures joins { (d : ℕ) → block_count self.old.bytes ≤ 2 ^ d
-            → self.new.joins ≤ self.old.joins
-            + rectangle_blocks self.old.layout self.old.bytes axes.now lo.now hi.now * d }
-        ensures most { (d : ℕ) → block_count self.old.bytes ≤ 2 ^ d
-            → self.new.joins ≤ self.old.joins + 2 ^ d }
+        ensures { IsPainted axes.now lo.now hi.now (λ k. stored) self.old self.new }
     {
-        self.paint_rect(axes, lo, hi, &Paint::Fill(i128::from(stored)), 0);
+        self.paint_rect(axes, lo, hi, &LentPaint::Fill(i128::from(stored)), 0);
     }
 
-    /// Writes the values of a rectangle in file order, each less the offset.
+    /// Writes the values of a rectangle in file order, each less the offset. It takes no memory.
     pub fn write_rect(
         &mut self,
         axes: &[u64],
@@ -268,27 +242,10 @@ impl Plane {
         requires count { length values.now ≡ rectangle_size lo.now hi.now }
         requires storable { (k : ℕ) → k < length values.now
             → IsStorable self.old.layout.width (slice_index_or values.now k (pos 0) -ℤ offset) }
-
-        // Each pixel of the rectangle has the value of its rank, every other byte is as before.
-        ensures bytes { self.new.bytes ≡ rectangle_written self.old.layout.width
-            axes.now lo.now hi.now (λ k. slice_index_or values.now k (pos 0) -ℤ offset)
-            self.old.bytes }
-        ensures layout { self.new.layout ≡ self.old.layout }
-
-        // Each block that holds a byte of it is scanned at most once, with no more joins than there
-        // are nodes. It takes no memory.
-        ensures reads { self.new.reads ≡ self.old.reads }
-        ensures more_scans { self.old.scans ≤ self.new.scans }
-        ensures scans { self.new.scans ≤ self.old.scans
-            + rectangle_blocks self.old.layout self.old.bytes axes.now lo.now hi.now }
-        ensures more_joins { self.old.joins ≤ self.new.joins }
-        ensures joins { (d : ℕ) → block_count self.old.bytes ≤ 2 ^ d
-            → self.new.joins ≤ self.old.joins
-            + rectangle_blocks self.old.layout self.old.bytes axes.now lo.now hi.now * d }
-        ensures most { (d : ℕ) → block_count self.old.bytes ≤ 2 ^ d
-            → self.new.joins ≤ self.old.joins + 2 ^ d }
+        ensures { IsPainted axes.now lo.now hi.now
+            (λ k. slice_index_or values.now k (pos 0) -ℤ offset) self.old self.new }
     {
-        self.paint_rect(axes, lo, hi, &Paint::Write(Values::new(values)), offset);
+        self.paint_rect(axes, lo, hi, &LentPaint::Write(Values::new(values)), offset);
     }
 
     /// The values of a rectangle in file order, each its stored number and the offset.

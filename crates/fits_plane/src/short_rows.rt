@@ -11,8 +11,8 @@ ghost use Rattle.fits_plane.specs.Work.{touched_blocks};
 ghost use Rattle.fits_plane.specs.ShortRows.{IsKept, IsKeptBut, CanPaint, RowWritten};
 
 use crate::layout::Layout;
+use crate::lent_paint::LentPaint;
 use crate::nodes::{climb, write_leaf};
-use crate::paint::Paint;
 use crate::parts::{leaf_after, scan_groups};
 use crate::pixel_writes::paint_row;
 use crate::pixels::read_bytes;
@@ -41,7 +41,7 @@ fn paint_part(
     k: usize,
     start: usize,
     count: usize,
-    paint: &Paint,
+    paint: &LentPaint,
     rank: usize,
     offset: i128,
     scans: &mut Count,
@@ -85,7 +85,7 @@ fn paint_short_row(
     layout: Layout,
     start: usize,
     count: usize,
-    paint: &Paint,
+    paint: &LentPaint,
     rank: usize,
     offset: i128,
     scans: &mut Count,
@@ -148,7 +148,7 @@ fn paint_rows_apart(
     axes: &[u64],
     lo: &[u64],
     hi: &[u64],
-    paint: &Paint,
+    paint: &LentPaint,
     offset: i128,
     scans: &mut Count,
     joins: &mut Count,
@@ -200,7 +200,7 @@ impl Tree<Leaf> {
         axes: &[u64],
         lo: &[u64],
         hi: &[u64],
-        paint: &Paint,
+        paint: &LentPaint,
         offset: i128,
     )
         requires kept { IsKept layout bytes.old self.old.leaves }

@@ -9,7 +9,7 @@ use Rattle.fits_card.specs.Name.{is_settable}
 use Rattle.fits_card.specs.declared.change.Change.TheVariants.{Splice}
 use Rattle.fits_card.specs.declared.change.Change.TheVariants as change
 use Rattle.fits_value.specs.Written.{write_says}
-use Rattle.fits_plane.specs.declared.paint.Paint.{Paint as PlanePaint}
+use Rattle.fits_plane.specs.declared.lent_paint.LentPaint.{LentPaint}
 use Rattle.fits_rules.specs.Shape.{shape_of}
 use Rattle.fits_rules.specs.declared.array_shape.Shape.{Shape}
 use Rattle.fits_plane.specs.Paint.{can_store_paint, has_count}
@@ -191,7 +191,7 @@ unfolding FirmPixels
 firm_done made e = absurd (cc)
 
 -- the tests of a rectangle that is painted
-firm_tested_paint : (kind : Option Kind) (shape : Shape) (lo hi : List ℕ) (paint : PlanePaint) (hdu : HduParts) → FirmPixels (painted_by kind shape lo hi paint hdu)
+firm_tested_paint : (kind : Option Kind) (shape : Shape) (lo hi : List ℕ) (paint : LentPaint) (hdu : HduParts) → FirmPixels (painted_by kind shape lo hi paint hdu)
 firm_tested_paint None shape lo hi paint hdu = firm_fault _ pixel.NotImage (λ e. cc)
 firm_tested_paint (Some kind) shape lo hi paint hdu =
     firm_pick (not (lies_within shape.axes lo hi)) (Err pixel.BadRectangle) _ (firm_fault _ pixel.BadRectangle (λ e. cc))
@@ -199,7 +199,7 @@ firm_tested_paint (Some kind) shape lo hi paint hdu =
     (firm_pick (not (can_store_paint (width_of kind) (offset_of kind) paint)) (Err pixel.OutOfRange) _ (firm_fault _ pixel.OutOfRange (λ e. cc)) (firm_done _)))
 
 -- a rectangle that is painted
-firm_painted : (shape : Shape) (lo hi : List ℕ) (paint : PlanePaint) (hdu : HduParts) → FirmPixels (painted shape lo hi paint hdu)
+firm_painted : (shape : Shape) (lo hi : List ℕ) (paint : LentPaint) (hdu : HduParts) → FirmPixels (painted shape lo hi paint hdu)
 unfolding painted
 firm_painted shape lo hi paint hdu = firm_tested_paint (kind_in shape hdu.header.cards) shape lo hi paint hdu
 

@@ -2,8 +2,8 @@
 use Rattle.std.specs.Prelude.{ℕ, Bool, List, Result, Ok, Err, if◌then◌else◌}
 use Rattle.fits_card.specs.Change.{cards_after}
 use Rattle.fits_card.specs.declared.change.Change.{Change}
-use Rattle.fits_plane.specs.declared.paint.Paint.{Paint as PlanePaint}
-use Rattle.fits_plane.specs.declared.paint.Paint.TheVariants as plane
+use Rattle.fits_plane.specs.declared.lent_paint.LentPaint.{LentPaint}
+use Rattle.fits_plane.specs.declared.lent_paint.LentPaint.TheVariants as plane
 use Rattle.fits_rules.specs.Shape.{shape_of}
 use Rattle.fits_rules.specs.declared.array_shape.Shape.{Shape}
 use Rattle.fits_hdu.specs.Hdu.{HduParts, hdu_after, keeps_shape}
@@ -44,7 +44,7 @@ shaped (Ok shape) make = pixels_made (make shape)
 shaped (Err place) make = Err refusal.NotImage
 
 -- what a plane is given
-abbrev pub plane_paint : Paint → PlanePaint
+abbrev pub plane_paint : Paint → LentPaint
 plane_paint (Fill value) = plane.Fill value
 plane_paint (Write values) = plane.Write values
 

@@ -1,5 +1,5 @@
 use crate::pixel_values::PixelValues;
-use fits_plane::Values;
+use fits_plane::{LentPaint, Values};
 
 /// What the pixels of a rectangle are given. A value is a stored number plus the offset of the
 /// image's kind.
@@ -16,12 +16,12 @@ impl Paint {
     ghost use Rattle.fits_session.specs.HduEdit.{plane_paint};
 
     // The same, lent to a plane.
-    pub(crate) fn lent(&self) -> fits_plane::Paint<'_>
+    pub(crate) fn lent(&self) -> LentPaint<'_>
         ensures { result ≡ plane_paint self.now }
     {
         match self {
-            Paint::Fill(value) => fits_plane::Paint::Fill(*value),
-            Paint::Write(values) => fits_plane::Paint::Write(Values::new(values.as_slice())),
+            Paint::Fill(value) => LentPaint::Fill(*value),
+            Paint::Write(values) => LentPaint::Write(Values::new(values.as_slice())),
         }
     }
 }

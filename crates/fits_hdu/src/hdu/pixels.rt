@@ -1,7 +1,7 @@
 //! The pixels of an HDU that is an image of integers.
 use super::Hdu;
 use crate::pixel_fault::PixelFault;
-use fits_plane::{Paint, ValueSummary, is_rectangle, rectangle_len};
+use fits_plane::{LentPaint, ValueSummary, is_rectangle, rectangle_len};
 use std::alloc::Global;
 
 impl Hdu {
@@ -58,7 +58,7 @@ impl Hdu {
     ///
     /// It takes no memory. Of the data unit it scans the blocks that hold a byte of the rectangle.
     #[tactic(auto, using(crate::proofs::PixelLemmas::pixel_steps))]
-    pub fn paint(&mut self, lo: &[u64], hi: &[u64], paint: &Paint) -> Result<(), PixelFault>
+    pub fn paint(&mut self, lo: &[u64], hi: &[u64], paint: &LentPaint) -> Result<(), PixelFault>
         ensures ok { OnOk result (painted self.old.shape lo.now hi.now paint.now self.old.hdu
             ≡ Ok self.new.hdu) }
         ensures err { IfErr result (λ why. painted self.old.shape lo.now hi.now paint.now

@@ -27,34 +27,33 @@ invariant_of-self c =
     let kept = subst (λ xs. IsKept t.layout xs c.paint_rectangle.new.tree.leaves) (sym same) c.paint_rectangle.ensures.kept in
     record { whole = kept.whole; layout = kept.fits; leaves = kept.right }
 
-pub returns-clause-bytes : goal.returns-clause-bytes
-returns-clause-bytes c =
+pub returns : goal.returns
+returns c =
     let t = c.self.inside in
     let axes : List ℕ = c.args.axes.now in
     let lo : List ℕ = c.args.lo.now in
     let hi : List ℕ = c.args.hi.now in
+    let number = painted_number c.args.paint.now c.args.offset in
     let old : c.as_mut_slice.result.now ≡ c.args.self.now.bytes = c.as_mut_slice.ensures.value ∙ ap (λ z. z.bytes) c.self.view_is in
     let new = with_items_is t.bytes c.paint_rectangle.new.bytes (omega (arith, c.paint_rectangle.ensures.long, c.as_mut_slice.ensures.len)) in
     let written = c.paint_rectangle.ensures.value ∙ ap (λ z. rectangle_written t.layout.width axes lo hi (painted_number c.args.paint.now z) c.as_mut_slice.result.now) (to_z-of_z w128 c.args.offset c.ranges.offset) in
-    new ∙ written ∙ ap (rectangle_written t.layout.width axes lo hi (painted_number c.args.paint.now c.args.offset)) old
-    ∙ ap (λ z. rectangle_written z.layout.width axes lo hi (painted_number c.args.paint.now c.args.offset) c.args.self.now.bytes) c.self.view_is
-
-pub returns-clause-joins : goal.returns-clause-joins
-returns-clause-joins c = λ d u.
-    let t = c.self.inside in
-    let axes : List ℕ = c.args.axes.now in
-    let lo : List ℕ = c.args.lo.now in
-    let hi : List ℕ = c.args.hi.now in
     let blocks : length t.tree.leaves ≡ block_count c.args.self.now.bytes = omega (arith, c.self.invariant.whole, ap (λ z. length z.bytes) c.self.view_is) in
     let many : touched_blocks axes lo hi (block_pixels t.layout.width) t.layout.pixels (length t.tree.leaves) ≡ rectangle_blocks c.args.self.now.layout c.args.self.now.bytes axes lo hi
     = ap (touched_blocks axes lo hi (block_pixels t.layout.width) t.layout.pixels) blocks ∙ ap (λ z. touched_blocks axes lo hi (block_pixels z.layout.width) z.layout.pixels (block_count c.args.self.now.bytes)) c.self.view_is in
     let e = c.paint_rectangle.ensures in
-    let few : c.paint_rectangle.new.scans.total - t.scans.total ≤ rectangle_blocks c.args.self.now.layout c.args.self.now.bytes axes lo hi = omega (arith, e.scans, many) in
-    let up = mul-le-mul_right d few in
-    let j = e.joins d (omega (arith, u, blocks)) in
-    omega (arith, up, j, ap (λ z. z.joins) c.self.view_is)
-
-pub returns-clause-most : goal.returns-clause-most
-returns-clause-most c = λ d u.
-    let blocks : length c.self.inside.tree.leaves ≡ block_count c.args.self.now.bytes = omega (arith, c.self.invariant.whole, ap (λ z. length z.bytes) c.self.view_is) in
-    omega (arith, c.paint_rectangle.ensures.most d (omega (arith, u, blocks)), ap (λ z. z.joins) c.self.view_is)
+    let scans = ap (λ z. z.scans) c.self.view_is in
+    let joins = ap (λ z. z.joins) c.self.view_is in
+    record {
+      bytes = new ∙ written ∙ ap (rectangle_written t.layout.width axes lo hi number) old ∙ ap (λ z. rectangle_written z.layout.width axes lo hi number c.args.self.now.bytes) c.self.view_is;
+      layout = ap (λ z. z.layout) c.self.view_is;
+      reads = ap (λ z. z.reads) c.self.view_is;
+      more_scans = omega (arith, e.more_scans, scans);
+      scans = omega (arith, e.scans, many, scans);
+      more_joins = omega (arith, e.more, joins);
+      joins = λ d u.
+          let few : c.paint_rectangle.new.scans.total - t.scans.total ≤ rectangle_blocks c.args.self.now.layout c.args.self.now.bytes axes lo hi = omega (arith, e.scans, many) in
+          let up = mul-le-mul_right d few in
+          let j = e.joins d (omega (arith, u, blocks)) in
+          omega (arith, up, j, joins);
+      most = λ d u. omega (arith, e.most d (omega (arith, u, blocks)), joins);
+    }

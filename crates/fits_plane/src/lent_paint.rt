@@ -7,21 +7,21 @@ use crate::values::Values;
 
 /// What the pixels of a rectangle are given.
 #[derive(Drop)]
-pub enum Paint<'a> {
+pub enum LentPaint<'a> {
     /// This value in each.
     Fill(i128),
     /// These values, in file order.
     Write(Values<'a>),
 }
 
-impl<'a> Paint<'a> {
+impl<'a> LentPaint<'a> {
     /// Whether it has a value for each of so many pixels, and no more.
     pub fn has_count(&self, size: u64) -> bool
         ensures { result ≡ has_count self.now size }
     {
         match self {
-            Paint::Fill(_) => true,
-            Paint::Write(values) => values.as_slice().len() as u64 == size,
+            LentPaint::Fill(_) => true,
+            LentPaint::Write(values) => values.as_slice().len() as u64 == size,
         }
     }
 
@@ -33,8 +33,8 @@ impl<'a> Paint<'a> {
             → k < size → IsStorable width (painted_number self.now offset k) }
     {
         match self {
-            Paint::Fill(value) => stores(width, *value, offset),
-            Paint::Write(values) => are_storable(width, values.as_slice(), offset),
+            LentPaint::Fill(value) => stores(width, *value, offset),
+            LentPaint::Write(values) => are_storable(width, values.as_slice(), offset),
         }
     }
 }

@@ -3,7 +3,7 @@ use Rattle.std.specs.Prelude.{◌-ℤ◌}
 use Rattle.fits_plane.specs.Paint.{can_store_paint}
 use Rattle.fits_plane.specs.Pixels.{IsStorable}
 use Rattle.fits_plane.proofs.TestLemmas.{same_test, can_store_decides}
-use Rattle.fits_plane.proofs.paint.Paint.is_storable.Goals as goal
+use Rattle.fits_plane.proofs.lent_paint.LentPaint.is_storable.Goals as goal
 
 -- one value
 pub returns-in-Fill-clause-value : goal.returns-in-Fill-clause-value
