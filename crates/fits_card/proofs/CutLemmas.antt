@@ -217,7 +217,3 @@ cut_taken f a b len header are none p whole has =
     let joined : f ≡ header_bytes header ++ b.ahead = sym are ∙ takes_ahead a b (header_bytes header) none p in
     let same = one_header f header has.header b.ahead (drop len f) (record { whole = whole; joined = joined }) has.cut in
     (rw (sym same.1) (record { whole = whole; joined = joined }), has.size ∙ ap (λ (h : Header). length (header_bytes h)) (sym same.0))
-
--- there is one, so that none isn't found
-pub cut_found : (f : List ℕ) (a b : Supply) (len : ℕ) → a.ahead ≡ f → a.left ≡ 0 → HasHeader f len → Finds a b HasNoHeader → ⊥
-cut_found f a b len are none has stops = subst HasNoHeader are (finds_ahead HasNoHeader a b none stops) has.header (drop len f) has.cut

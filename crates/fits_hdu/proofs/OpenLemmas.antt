@@ -17,14 +17,3 @@ hdu_opened primary f a b hdu left len are none p whole is all =
     let size : len ≡ length (hdu_bytes hdu) = omega (arith, is, all, ap length joined, length-append (hdu_bytes hdu) b.ahead, none, p.drawn.count) in
     let behind : drop len f ≡ b.ahead = ap (drop len) joined ∙ drop_at (hdu_bytes hdu) b.ahead len (sym size) in
     (rw behind (record { whole = whole; joined = joined }), size, omega (arith, all))
-
--- what was found of them
-found_of : (P : List ℕ → Type 0) (f : List ℕ) (a b : Supply) → a.ahead ≡ f → a.left ≡ 0 → Finds a b P → P f
-found_of P f a b are none found = subst P are (finds_ahead P a b none found)
-
--- why no HDU was taken of them
-pub open_fails : (primary : Bool) (f : List ℕ) (a b : Supply) (fault : HduFault) → a.ahead ≡ f → a.left ≡ 0 → HduStops primary a b (Hdu fault) → HduFails primary f fault
-open_fails primary f a b NoEnd are none p = found_of (λ bytes. HasHduFault primary bytes NoEnd) f a b are none p
-open_fails primary f a b (BadShape place) are none p = found_of (λ bytes. HasHduFault primary bytes (BadShape place)) f a b are none p
-open_fails primary f a b ShortData are none p = found_of (λ bytes. HasHduFault primary bytes ShortData) f a b are none p
-open_fails primary f a b Memory are none p = tt

@@ -206,11 +206,6 @@ asked hdus tail h i most old new at p = record {
 pub asked_none : (h most : ℕ) (session : SessionState) → Asks h most session session
 asked_none h most session = record { file = refl; work = reads_none h most (reads_of session.hdus); pixel_work = refl }
 
--- one more HDU
-pub hdus_of-push : (hdus : List HduState) (hdu : HduState) → hdus_of (hdus ++ hdu ∷ []) ≡ hdus_of hdus ++ hdu.hdu ∷ []
-hdus_of-push [] hdu = refl
-hdus_of-push (first ∷ hdus) hdu = ap (λ us. first.hdu ∷ us) (hdus_of-push hdus hdu)
-
 -- the HDU at an index
 pub get_or-hdus_of : (hdus : List HduState) (i : ℕ) (hdu : HduState) → i < length hdus → hdu ≡ get_or hdus i hdu → get_or (hdus_of hdus) i hdu.hdu ≡ hdu.hdu
 get_or-hdus_of hdus i hdu l e = get_or_from_slice_get (hdus_of hdus) i hdu.hdu hdu.hdu (slice_get-hdus_of hdus i hdu l e)

@@ -257,21 +257,6 @@ read_stops a c i fault is p = source_stops a c fault (subst (λ (j : IntakeState
 pub read_given : (P : List ℕ → Type 0) (a : SourceState) (i : IntakeState) → i ≡ record { ahead = []; left = FILE_LIMIT } → GivesAll (supply a i) P → Gives a P
 read_given P a i is p = subst (λ (j : IntakeState). GivesAll (supply a j) P) is p
 
--- all bytes were ahead: what is so of all is so of them
-pub open_given : (P : List ℕ → Type 0) (f : List ℕ) (a : Supply) → a.ahead ≡ f → a.source.remaining ≡ Some [] → GivesAll a P → P f
-open_given P f a are none p =
-    let told : a.ahead ++ [] ≡ p.0 = subst (λ (left : Option (List ℕ)). IfSome left (λ xs. a.ahead ++ xs ≡ p.0)) none p.1 in
-    subst P (sym told ∙ (append-nil a.ahead ∙ are)) p.2
-
--- so of a fault
-pub open_stops : (f : List ℕ) (a : Supply) (c : SourceState) (fault : OpenFault) → a.ahead ≡ f → a.source.remaining ≡ Some [] → SupplyStops a c (Open fault) → OpenFails f fault
-open_stops f a c NotFits are none p = open_given (λ s. HasOpenFault s NotFits) f a are none p.0
-open_stops f a c (NoEnd h) are none p = open_given (λ s. HasOpenFault s (NoEnd h)) f a are none p.0
-open_stops f a c (BadShape h place) are none p = open_given (λ s. HasOpenFault s (BadShape h place)) f a are none p.0
-open_stops f a c (ShortData h) are none p = open_given (λ s. HasOpenFault s (ShortData h)) f a are none p.0
-open_stops f a c TooLarge are none p = open_given (λ s. HasOpenFault s TooLarge) f a are none p.0
-open_stops f a c Memory are none p = tt
-
 -- HDUs and what follows them are a file
 pub file_walked : {K : Type 0} (keeps : K → HduParts → Type 0) (ks : List K) (us : List HduParts) (tail : List ℕ) → KeepsEach keeps ks us → IsFrontOf (joined_hdus us) us [] → 0 < length ks → length ks ≤ HDU_LIMIT → begins_extension tail ≡ false → length (joined_hdus us ++ tail) ≤ FILE_LIMIT
     → IsFileOf (joined_hdus us ++ tail) (record { hdus = us; tail = tail })

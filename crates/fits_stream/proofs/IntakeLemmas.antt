@@ -35,14 +35,6 @@ reads_after_nothing before a b c bytes buffer n p q none =
 
 pub ruleset taking_steps = (Reads-none, Reads-more, reads_after_none, reads_after_more)
 
--- what was ahead was taken, and bytes that followed it
-pub takes_here : (old new : Supply) (bytes : List ℕ) → ReadsAfter old.ahead old.source new.source bytes → new.ahead ≡ [] → old.left + length old.ahead ≡ new.left + length bytes → Takes old new bytes
-takes_here old new bytes p none e = record {
-  more = p.more;
-  joined = sym p.joined ∙ (sym (append-nil bytes) ∙ ap (λ t. bytes ++ t) (sym none));
-  drawn = record { read = p.read; count = omega (arith, e, ap length p.joined, length-append old.ahead p.more) };
-}
-
 -- so many of the bytes ahead were taken
 pub takes_passed : (old new : Supply) (n : ℕ) → old.source ≡ new.source → new.ahead ≡ drop n old.ahead → new.left ≡ old.left → Takes old new (take n old.ahead)
 takes_passed old new n same rest left = record {
@@ -70,18 +62,6 @@ passes_ahead old new n same rest left le = record {
   taken = takes_passed old new n same rest left;
   size = length-take-le n old.ahead le;
 }
-
--- bytes are held after those ahead
-pub takes_held : (old new : Supply) → ReadsAfter old.ahead old.source new.source new.ahead → old.left + length old.ahead ≡ new.left + length new.ahead → Takes old new []
-takes_held old new p e = record {
-  more = p.more;
-  joined = sym p.joined;
-  drawn = record { read = p.read; count = omega (arith, e, ap length p.joined, length-append old.ahead p.more) };
-}
-
--- less came than there is need of: the source ended, or no more may be taken
-pub held_short : (P : Type 0) (n most need left left' : ℕ) → (most < need → left ≤ most) → (n < most → P) → left ≡ left' + n → n < need → (left' ≡ 0) ⊎ P
-held_short P n most need left left' m f e short = elim (cases_lt n most) [ inl l ↦ inr (f l) | inr le ↦ inl (omega arith) ]
 
 pub ruleset intake_steps = (Reads-none, skips_none)
 

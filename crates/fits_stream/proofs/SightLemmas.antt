@@ -141,12 +141,6 @@ finds_given P a b f few =
     let told = known_given a.source.remaining b.source.remaining a.left b.left f.taken.more f.sight f.in_sight f.taken.drawn.read.gone f.taken.drawn.count few in
     (a.ahead ++ f.sight, known_ahead a.source.remaining a.ahead f.sight told, f.is)
 
--- no more may be taken than what is ahead: what was found is so of that
-pub finds_ahead : (P : List ℕ → Type 0) (a b : Supply) → a.left ≡ 0 → Finds a b P → P a.ahead
-finds_ahead P a b none f =
-    let few : length f.sight ≤ 0 = omega (arith, none, sight_within a f.sight f.in_sight) in
-    subst P (ap (λ t. a.ahead ++ t) (no_bytes f.sight few) ∙ append-nil a.ahead) f.is
-
 -- and what was taken begins it
 pub takes_ahead : (a b : Supply) (bytes : List ℕ) → a.left ≡ 0 → Takes a b bytes → a.ahead ≡ bytes ++ b.ahead
 takes_ahead a b bytes none p =
@@ -193,14 +187,6 @@ known_limited (Some xs) limit = λ more. omega (arith, more)
 -- of which none is ahead
 pub limited_source : (limit : ℕ) (source : SourceState) (i : IntakeState) → i ≡ record { ahead = []; left = limit } → IsLimited limit (supply source i)
 limited_source limit source i is = rw is (known_limited source.remaining limit)
-
--- nothing is left
-known_empty : (a : Option (List ℕ)) (left limit : ℕ) (ahead : List ℕ) → a ≡ Some [] → IfSome a (λ xs. left < length xs → limit < length ahead + length xs)
-known_empty a left limit ahead none = rw none (λ more. absurd (omega (arith, more)))
-
--- so what is ahead is all
-pub limited_empty : (limit : ℕ) (a : Supply) → a.source.remaining ≡ Some [] → IsLimited limit a
-limited_empty limit a none = known_empty a.source.remaining a.left limit a.ahead none
 
 -- what overruns is more than may be taken, and nothing else is
 pub within_limit : (a : Option (List ℕ)) (left : ℕ) → IfSome a (λ xs. IsTrue false ↔ (left < length xs)) → IfSome a (λ xs. length xs ≤ left)
