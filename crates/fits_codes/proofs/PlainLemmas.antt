@@ -1,21 +1,20 @@
 -- Cards of which nothing is found.
-use Rattle.std.proofs.Common.{◌≡◌, Bool, true, false, not, List, [], ◌∷◌, refl, ◌∙◌, ap, codes}
+use Rattle.std.proofs.Common.{◌≡◌, Bool, true, false, List, [], ◌∷◌, refl, ◌∙◌, ap, codes}
 use Rattle.std.specs.Prelude.{◌&&◌, ◌||◌}
 use Rattle.std.specs.List.{filter}
 use Rattle.std.specs.Str.{bytes_eq}
 use Rattle.std.proofs.lemmas.Bool.{cond-false}
-use Rattle.fits_codes.specs.Judged.{says_shape, has_code, has_mandatory_name, judged}
+use Rattle.fits_codes.specs.Judged.{card_codes, says_shape, has_code, judged}
 use Rattle.fits_codes.specs.Code.{is_among}
-use Rattle.fits_codes.specs.Fixed.{is_fixed_as}
-use Rattle.fits_codes.specs.Keywords.{mandatory_type}
 use Rattle.fits_codes.specs.declared.code.Code.{Code}
-use Rattle.fits_codes.specs.declared.code.Code.TheVariants.{NotText, BadName, UnreadableValue, UndefinedValue, WrongType, NotFixedFormat, MandatoryRepeated, KeywordRepeated, StrayContinue, AmpersandNotContinued, NoSpaceAfterEquals, BadDate, DeprecatedKeyword}
+use Rattle.fits_codes.specs.declared.code.Code.TheVariants.{NotFixedFormat, MandatoryRepeated, KeywordRepeated, StrayContinue, AmpersandNotContinued}
 use Rattle.fits_codes.specs.declared.context.Context.{Context}
 use Rattle.fits_codes.specs.declared.mark.Mark.{Mark}
 
--- the first fails, and none of the others passes
-passed : {X : Type 0} (p : X → Bool) (x : X) (xs : List X) → p x ≡ false → filter p xs ≡ [] → filter p (x ∷ xs) ≡ []
-passed p x xs fails others = cond-false (p x) (x ∷ filter p xs) (filter p xs) fails ∙ others
+-- where each fails, none passes
+none_pass : {X : Type 0} (p : X → Bool) → ((x : X) → p x ≡ false) → (xs : List X) → filter p xs ≡ []
+none_pass p fails [] = refl
+none_pass p fails (x ∷ xs) = cond-false (p x) (x ∷ filter p xs) (filter p xs) (fails x) ∙ none_pass p fails xs
 
 -- what fails does so whatever stands behind it
 and_false : (a b : Bool) → a ≡ false → (a && b) ≡ false
@@ -27,22 +26,18 @@ false_and true b fails = fails
 false_and false b fails = refl
 
 -- no fact holds of such a card
+unsaid : (mark : Mark) (context : Context) → mark.alone ≡ [] → context.name_before ≡ false → context.value_before ≡ false → mark.is_open ≡ false
+    → bytes_eq mark.name (codes "CONTINUE") ≡ false → says_shape mark context ≡ false → (code : Code) → has_code mark context code ≡ false
+unfolding has_code is_among
+unsaid mark context nothing first no_value closed named apart NotFixedFormat = and_false (says_shape mark context) _ apart
+unsaid mark context nothing first no_value closed named apart MandatoryRepeated = and_false context.name_before _ first
+unsaid mark context nothing first no_value closed named apart KeywordRepeated = and_false (context.value_before && mark.has_value) _ (and_false context.value_before mark.has_value no_value)
+unsaid mark context nothing first no_value closed named apart StrayContinue = and_false (bytes_eq mark.name (codes "CONTINUE")) _ named
+unsaid mark context nothing first no_value closed named apart AmpersandNotContinued = and_false ((mark.begins || context.is_link) && mark.is_open) _ (false_and (mark.begins || context.is_link) mark.is_open closed)
+unsaid mark context nothing first no_value closed named apart code = ap (λ (found : List Code). is_among found code) nothing
+
+-- so it has no code
 pub plain : (mark : Mark) (context : Context) → mark.alone ≡ [] → context.name_before ≡ false → context.value_before ≡ false → mark.is_open ≡ false
     → bytes_eq mark.name (codes "CONTINUE") ≡ false → says_shape mark context ≡ false → judged mark context ≡ []
-unfolding has_code judged is_among
-plain mark context nothing first no_value closed named apart =
-    let has = has_code mark context in
-    let unsaid : (code : Code) → is_among mark.alone code ≡ false = λ code. ap (λ (found : List Code). is_among found code) nothing in
-    passed has NotText (BadName ∷ UnreadableValue ∷ UndefinedValue ∷ WrongType ∷ NotFixedFormat ∷ MandatoryRepeated ∷ KeywordRepeated ∷ StrayContinue ∷ AmpersandNotContinued ∷ NoSpaceAfterEquals ∷ BadDate ∷ DeprecatedKeyword ∷ []) (unsaid NotText)
-    (passed has BadName (UnreadableValue ∷ UndefinedValue ∷ WrongType ∷ NotFixedFormat ∷ MandatoryRepeated ∷ KeywordRepeated ∷ StrayContinue ∷ AmpersandNotContinued ∷ NoSpaceAfterEquals ∷ BadDate ∷ DeprecatedKeyword ∷ []) (unsaid BadName)
-    (passed has UnreadableValue (UndefinedValue ∷ WrongType ∷ NotFixedFormat ∷ MandatoryRepeated ∷ KeywordRepeated ∷ StrayContinue ∷ AmpersandNotContinued ∷ NoSpaceAfterEquals ∷ BadDate ∷ DeprecatedKeyword ∷ []) (unsaid UnreadableValue)
-    (passed has UndefinedValue (WrongType ∷ NotFixedFormat ∷ MandatoryRepeated ∷ KeywordRepeated ∷ StrayContinue ∷ AmpersandNotContinued ∷ NoSpaceAfterEquals ∷ BadDate ∷ DeprecatedKeyword ∷ []) (unsaid UndefinedValue)
-    (passed has WrongType (NotFixedFormat ∷ MandatoryRepeated ∷ KeywordRepeated ∷ StrayContinue ∷ AmpersandNotContinued ∷ NoSpaceAfterEquals ∷ BadDate ∷ DeprecatedKeyword ∷ []) (unsaid WrongType)
-    (passed has NotFixedFormat (MandatoryRepeated ∷ KeywordRepeated ∷ StrayContinue ∷ AmpersandNotContinued ∷ NoSpaceAfterEquals ∷ BadDate ∷ DeprecatedKeyword ∷ []) (and_false (says_shape mark context) (not (is_fixed_as (mandatory_type context.class context.place) mark.fixed)) apart)
-    (passed has MandatoryRepeated (KeywordRepeated ∷ StrayContinue ∷ AmpersandNotContinued ∷ NoSpaceAfterEquals ∷ BadDate ∷ DeprecatedKeyword ∷ []) (and_false context.name_before (has_mandatory_name mark context) first)
-    (passed has KeywordRepeated (StrayContinue ∷ AmpersandNotContinued ∷ NoSpaceAfterEquals ∷ BadDate ∷ DeprecatedKeyword ∷ []) (and_false (context.value_before && mark.has_value) (not (has_mandatory_name mark context)) (and_false context.value_before mark.has_value no_value))
-    (passed has StrayContinue (AmpersandNotContinued ∷ NoSpaceAfterEquals ∷ BadDate ∷ DeprecatedKeyword ∷ []) (and_false (bytes_eq mark.name (codes "CONTINUE")) (not context.is_link) named)
-    (passed has AmpersandNotContinued (NoSpaceAfterEquals ∷ BadDate ∷ DeprecatedKeyword ∷ []) (and_false ((mark.begins || context.is_link) && mark.is_open) (not context.next_is_link) (false_and (mark.begins || context.is_link) mark.is_open closed))
-    (passed has NoSpaceAfterEquals (BadDate ∷ DeprecatedKeyword ∷ []) (unsaid NoSpaceAfterEquals)
-    (passed has BadDate (DeprecatedKeyword ∷ []) (unsaid BadDate)
-    (passed has DeprecatedKeyword [] (unsaid DeprecatedKeyword) refl))))))))))))
+unfolding judged
+plain mark context nothing first no_value closed named apart = none_pass (has_code mark context) (unsaid mark context nothing first no_value closed named apart) card_codes

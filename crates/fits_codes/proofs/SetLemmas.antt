@@ -1,10 +1,10 @@
 -- The codes of a set, in an array with a filler after them, and one by one.
-use Rattle.std.proofs.Common.{◌≡◌, ℕ, ◌+◌, ◌-◌, ◌<◌, ◌≤◌, Bool, true, false, cond, List, [], ◌∷◌, ◌++◌, length, take, drop, get_or, replicate, refl, sym, ◌∙◌, ap, arith, length-append, length-take-le, take-append-drop, append_assoc}
+use Rattle.std.proofs.Common.{◌≡◌, ℕ, ◌+◌, ◌-◌, ◌<◌, ◌≤◌, Bool, true, false, cond, List, [], ◌∷◌, ◌++◌, length, take, drop, get_or, replicate, reverse, sym, ◌∙◌, ap, arith, length-append, length-take-le, take-append-drop}
 use Rattle.std.specs.List.{filter}
 use Rattle.std.proofs.Math.ListN.{set}
 use Rattle.std.proofs.Math.Seq.{drop-append_seam}
-use Rattle.std.proofs.lemmas.List.{drop-drop, drop-set-lt, drop-replicate, length-replicate, append-nil}
-use Rattle.std.proofs.lemmas.List.Elements.{filter_more}
+use Rattle.std.proofs.lemmas.List.{reverse-append, reverse-reverse, drop-drop, drop-set-lt, drop-replicate, length-replicate, append-nil}
+use Rattle.std.proofs.lemmas.List.Elements.{filter_more, filter-append}
 use Rattle.std.proofs.lemmas.Bool.{cond-true, cond-false}
 
 -- the rest of an array that is filled up
@@ -52,15 +52,25 @@ few-yes {X = X} i x old new few more = omega (arith, ap (λ (ys : List X). lengt
 pub few-no : {X : Type 0} (i : ℕ) (old new : List X) → length old ≤ i → new ≡ old → length new ≤ i + 1
 few-no {X = X} i old new few same = omega (arith, ap (λ (ys : List X). length ys) same)
 
--- what is found of one element stands before what is found of the others
-found_first : {X : Type 0} (p : X → Bool) (x : X) (xs : List X) → cond (p x) (x ∷ []) [] ++ filter p xs ≡ filter p (x ∷ xs)
-found_first {X = X} p x xs = go (p x) where
-  go : (b : Bool) → cond b (x ∷ []) [] ++ filter p xs ≡ cond b (x ∷ filter p xs) (filter p xs)
-  go true = refl
-  go false = refl
+-- what is found of elements that were tried in turn, the last of them first
+pub Found : {X : Type 0} → (X → Bool) → List X → List X → Type 0
+Found p tried found = found ≡ filter p (reverse tried)
 
--- one more that was tried, with what will be found of the others
-pub tried : {X : Type 0} (p : X → Bool) (x : X) (xs old new : List X) (holds : Bool) → new ≡ old ++ cond holds (x ∷ []) [] → holds ≡ p x → new ++ filter p xs ≡ old ++ filter p (x ∷ xs)
-tried {X = X} p x xs old new holds more same =
-    ap (λ (ys : List X). ys ++ filter p xs) (more ∙ ap (λ (b : Bool). old ++ cond b (x ∷ []) []) same)
-    ∙ (append_assoc old (cond (p x) (x ∷ []) []) (filter p xs) ∙ ap (λ (ys : List X). old ++ ys) (found_first p x xs))
+-- of none, nothing is found
+pub found-none : {X : Type 0} (p : X → Bool) (found : List X) → found ≡ [] → Found p [] found
+unfolding Found
+found-none p found none = none
+
+-- one more is found where it passes
+pub found-more : {X : Type 0} (p : X → Bool) (x : X) (tried old new : List X) (holds : Bool) → new ≡ old ++ cond holds (x ∷ []) [] → holds ≡ p x → Found p tried old → Found p (x ∷ tried) new
+unfolding Found
+found-more {X = X} p x tried old new holds more same before =
+    more
+    ∙ (ap (λ (b : Bool). old ++ cond b (x ∷ []) []) same
+    ∙ (ap (λ (ys : List X). ys ++ cond (p x) (x ∷ []) []) before
+    ∙ sym (ap (λ (ys : List X). filter p ys) (reverse-append (x ∷ []) tried) ∙ filter-append p (reverse tried) (x ∷ []))))
+
+-- what is found of all is what passes
+pub found-all : {X : Type 0} (p : X → Bool) (all found : List X) → Found p (reverse all) found → found ≡ filter p all
+unfolding Found
+found-all {X = X} p all found before = before ∙ ap (λ (ys : List X). filter p ys) (reverse-reverse all)

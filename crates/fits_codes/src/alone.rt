@@ -71,7 +71,6 @@ fn has_deprecated_keyword(card: &Card) -> bool
 }
 
 /// The codes that a card alone has, whose value has this type.
-#[tactic(auto, unfolding(crate::specs::Alone::codes_alone))]
 pub(crate) fn codes_alone(card: &Card, kind: Option<ValueKind>) -> CodeSet
     requires { kind ≡ kind_said card.now }
     ensures { result ≡ codes_alone card.now }

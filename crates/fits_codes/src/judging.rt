@@ -87,7 +87,6 @@ pub fn judge(mark: &Mark, context: &Context) -> CodeSet
 }
 
 // The same, fact by fact.
-#[tactic(auto, unfolding(crate::specs::Judged::judged))]
 fn judge_each(mark: &Mark, context: &Context) -> CodeSet
     ensures { result ≡ judged mark.now context.now }
 {
