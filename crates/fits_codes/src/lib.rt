@@ -17,7 +17,7 @@ mod mark;
 mod said;
 
 pub use code::Code;
-pub use code_set::CodeSet;
+pub use code_set::{CodeSet, MOST_CODES};
 pub use context::Context;
 pub use header_mark::{HeaderMark, says_false};
 pub use header_rules::judge_header_mark;
