@@ -1,6 +1,7 @@
 //! How many errors and warnings are found of cards.
 ghost use Rattle.std.specs.Prelude.{◌≡◌, ◌≤◌, ◌<◌, ◌+◌, ◌*◌, ◌^◌, ◌++◌, List, ℕ, length};
 ghost use Rattle.fits_codes.specs.declared.code.Code.{Code};
+ghost use Rattle.fits_codes.specs.declared.code_set.TheConstants.{MOST_CODES};
 ghost use Rattle.fits_header.specs.Findings.{card_counts, counted, counts_of};
 ghost use Rattle.fits_header.specs.Notes.{notes_of};
 ghost use Rattle.fits_header.specs.Surroundings.{surroundings_of};
@@ -18,7 +19,7 @@ pub(crate) fn count_all(shape: &Shape, notes: &Notes, surroundings: &[Surroundin
     requires few { length notes.now.items < 2 ^ 59 }
     ensures value { (cards : List (List ℕ)) → notes.now.items ≡ notes_of cards
         → surroundings.now ≡ surroundings_of cards → result ≡ card_counts shape.now cards }
-    ensures within { result.errors + result.warnings ≤ 13 * length notes.now.items }
+    ensures within { result.errors + result.warnings ≤ MOST_CODES * length notes.now.items }
 {
     let mut counts = Counts {
         errors: 0,

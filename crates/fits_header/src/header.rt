@@ -74,6 +74,7 @@ impl Header {
     ghost use Rattle.fits_stream.specs.Stream.{Prints, PrintsFront};
     ghost use Rattle.fits_card.specs.declared.card.TheConstants.{CARD_LEN};
     ghost use Rattle.fits_value.specs.Says.{chain_length, link_count, long_says};
+    ghost use Rattle.fits_codes.specs.declared.code_set.TheConstants.{MOST_CODES};
     ghost use Rattle.fits_rules.specs.Class.{is_primary};
     ghost use Rattle.fits_rules.specs.Lead.{lead_card, lead_place};
     ghost use Rattle.fits_rules.specs.Shape.{shape_of};
@@ -320,7 +321,7 @@ impl Header {
     pub fn counts(&mut self) -> Counts
         requires { length (header_bytes self.old.header) ≤ 2 ^ 34 }
         ensures value { result ≡ card_counts self.old.shape self.old.header.cards }
-        ensures within { result.errors + result.warnings ≤ 13 * length self.old.header.cards }
+        ensures within { result.errors + result.warnings ≤ MOST_CODES * length self.old.header.cards }
         ensures same { self.new ≡ self.old }
     {
         // So few cards have no more codes than the counts can hold.
