@@ -1,5 +1,5 @@
 -- The codes of a report, each by its meaning: a number, a label and a text (own).
-use Rattle.std.specs.Prelude.{ℕ, ◌==◌, Bool, true, false, List, codes}
+use Rattle.std.specs.Prelude.{ℕ, ◌+◌, ◌/◌, ◌%◌, ◌==◌, Bool, true, false, List, [], ◌∷◌, ◌++◌, codes, if◌then◌else◌}
 use Rattle.std.specs.List.{list_any}
 use Rattle.fits_codes.specs.declared.code.Code.{Code}
 use Rattle.fits_codes.specs.declared.code.Code.TheVariants.{NotText, BadName, UnreadableValue, UndefinedValue, WrongType, NotFixedFormat, MandatoryRepeated, KeywordRepeated, StrayContinue, AmpersandNotContinued, NoSpaceAfterEquals, BadDate, DeprecatedKeyword, EndNotBlank, FillNotSpaces, CountsOutOfPlace, ImageCountsNotPlain, WrongKindOfHdu, SimpleIsFalse, BlankWithReals, BlankOutOfRange, BadDataFill, WrongDatasum, WrongChecksum, DuplicateExtension, TrailingBytes}
@@ -33,34 +33,29 @@ number WrongChecksum = 24
 number DuplicateExtension = 25
 number TrailingBytes = 26
 
+-- the code is an error; the others are warnings
+abbrev pub is_error : Code → Bool
+is_error UndefinedValue = false
+is_error KeywordRepeated = false
+is_error StrayContinue = false
+is_error AmpersandNotContinued = false
+is_error NoSpaceAfterEquals = false
+is_error DeprecatedKeyword = false
+is_error SimpleIsFalse = false
+is_error BlankOutOfRange = false
+is_error WrongDatasum = false
+is_error WrongChecksum = false
+is_error DuplicateExtension = false
+is_error TrailingBytes = false
+is_error code = true
+
+-- a number below a hundred in two digits
+abbrev pub two_digits : ℕ → List ℕ
+two_digits count = (48 + count / 10) ∷ (48 + count % 10) ∷ []
+
 -- how a report prints a code: E and its number for an error, W for a warning
 abbrev pub label : Code → List ℕ
-label NotText = codes "E01"
-label BadName = codes "E02"
-label UnreadableValue = codes "E03"
-label UndefinedValue = codes "W04"
-label WrongType = codes "E05"
-label NotFixedFormat = codes "E06"
-label MandatoryRepeated = codes "E07"
-label KeywordRepeated = codes "W08"
-label StrayContinue = codes "W09"
-label AmpersandNotContinued = codes "W10"
-label NoSpaceAfterEquals = codes "W11"
-label BadDate = codes "E12"
-label DeprecatedKeyword = codes "W13"
-label EndNotBlank = codes "E14"
-label FillNotSpaces = codes "E15"
-label CountsOutOfPlace = codes "E16"
-label ImageCountsNotPlain = codes "E17"
-label WrongKindOfHdu = codes "E18"
-label SimpleIsFalse = codes "W19"
-label BlankWithReals = codes "E20"
-label BlankOutOfRange = codes "W21"
-label BadDataFill = codes "E22"
-label WrongDatasum = codes "W23"
-label WrongChecksum = codes "W24"
-label DuplicateExtension = codes "W25"
-label TrailingBytes = codes "W26"
+label code = (if is_error code then codes "E" else codes "W") ++ two_digits (number code)
 
 -- what a report says of a code
 abbrev pub text : Code → List ℕ
@@ -90,22 +85,6 @@ text WrongDatasum = codes "DATASUM is wrong"
 text WrongChecksum = codes "CHECKSUM is wrong"
 text DuplicateExtension = codes "two extensions of one type, name and version"
 text TrailingBytes = codes "bytes after the last HDU"
-
--- the code is an error; the others are warnings
-abbrev pub is_error : Code → Bool
-is_error UndefinedValue = false
-is_error KeywordRepeated = false
-is_error StrayContinue = false
-is_error AmpersandNotContinued = false
-is_error NoSpaceAfterEquals = false
-is_error DeprecatedKeyword = false
-is_error SimpleIsFalse = false
-is_error BlankOutOfRange = false
-is_error WrongDatasum = false
-is_error WrongChecksum = false
-is_error DuplicateExtension = false
-is_error TrailingBytes = false
-is_error code = true
 
 -- the code is among these
 unfoldable pub is_among : List Code → Code → Bool
