@@ -1,11 +1,10 @@
 -- The codes of a set, in an array with a filler after them, and one by one.
-use Rattle.std.proofs.Common.{◌≡◌, ℕ, ◌+◌, ◌-◌, ◌<◌, ◌≤◌, Bool, true, false, cond, List, [], ◌∷◌, ◌++◌, length, take, drop, get_or, replicate, reverse, sym, ◌∙◌, ap, arith, length-append, length-take-le, take-append-drop}
+use Rattle.std.proofs.Common.{◌≡◌, ℕ, ◌+◌, ◌-◌, ◌<◌, ◌≤◌, Bool, cond, List, [], ◌∷◌, ◌++◌, length, take, drop, replicate, reverse, sym, ◌∙◌, ap, arith, length-append, length-take-le, take-append-drop}
 use Rattle.std.specs.List.{filter}
 use Rattle.std.proofs.Math.ListN.{set}
 use Rattle.std.proofs.Math.Seq.{drop-append_seam}
-use Rattle.std.proofs.lemmas.List.{reverse-append, reverse-reverse, drop-drop, drop-set-lt, drop-replicate, length-replicate, append-nil}
-use Rattle.std.proofs.lemmas.List.Elements.{filter_more, filter-append}
-use Rattle.std.proofs.lemmas.Bool.{cond-true, cond-false}
+use Rattle.std.proofs.lemmas.List.{reverse-append, reverse-reverse, drop-drop, drop-set-lt, drop-replicate, length-replicate}
+use Rattle.std.proofs.lemmas.List.Elements.{filter-append}
 
 -- the rest of an array that is filled up
 filler : {X : Type 0} (codes : List X) (fill : X) (n m : ℕ) → n < m → length codes ≡ m → take n codes ++ replicate (m - n) fill ≡ codes → drop n codes ≡ replicate (m - n) fill
@@ -28,29 +27,6 @@ pushed {X = X} codes fill x n m below size padded =
     drop-set-lt (n + 1) codes n x (omega arith)
     ∙ (sym (drop-drop 1 n codes) ∙ (ap (drop 1) (filler codes fill n m below size padded) ∙ (drop-replicate 1 (m - n) fill ∙ ap (λ (k : ℕ). replicate k fill) (omega arith)))) in
     ap (λ (xs : List X). take (n + 1) (set codes n x) ++ xs) (sym rest) ∙ take-append-drop (n + 1) (set codes n x)
-
--- one more that holds
-pub found-yes : {X : Type 0} (p : X → Bool) (xs : List X) (i : ℕ) (d : X) (old new : List X) → i < length xs → old ≡ filter p (take i xs) → p (get_or xs i d) ≡ true → new ≡ old ++ get_or xs i d ∷ []
-    → new ≡ filter p (take (i + 1) xs)
-found-yes {X = X} p xs i d old new within before holds more =
-    more
-    ∙ (ap (λ (ys : List X). ys ++ get_or xs i d ∷ []) before
-    ∙ sym (filter_more p xs i d within ∙ ap (λ (ys : List X). filter p (take i xs) ++ ys) (cond-true (p (get_or xs i d)) (get_or xs i d ∷ []) [] holds)))
-
--- one more that fails
-pub found-no : {X : Type 0} (p : X → Bool) (xs : List X) (i : ℕ) (d : X) (old new : List X) → i < length xs → old ≡ filter p (take i xs) → p (get_or xs i d) ≡ false → new ≡ old
-    → new ≡ filter p (take (i + 1) xs)
-found-no {X = X} p xs i d old new within before fails same =
-    same
-    ∙ (before ∙ sym (filter_more p xs i d within ∙ (ap (λ (ys : List X). filter p (take i xs) ++ ys) (cond-false (p (get_or xs i d)) (get_or xs i d ∷ []) [] fails) ∙ append-nil (filter p (take i xs)))))
-
--- they are no more than were tried
-pub few-yes : {X : Type 0} (i : ℕ) (x : X) (old new : List X) → length old ≤ i → new ≡ old ++ x ∷ [] → length new ≤ i + 1
-few-yes {X = X} i x old new few more = omega (arith, ap (λ (ys : List X). length ys) more, length-append old (x ∷ []))
-
--- also where none came
-pub few-no : {X : Type 0} (i : ℕ) (old new : List X) → length old ≤ i → new ≡ old → length new ≤ i + 1
-few-no {X = X} i old new few same = omega (arith, ap (λ (ys : List X). length ys) same)
 
 -- what is found of elements that were tried in turn, the last of them first
 pub Found : {X : Type 0} → (X → Bool) → List X → List X → Type 0

@@ -1,29 +1,38 @@
 //! The codes of a header as a whole.
 ghost use Rattle.std.specs.Prelude.{◌≡◌};
-ghost use Rattle.fits_codes.specs.HeaderCodes.{has_image_counts, is_stored, is_out_of_range, is_outside, has_header_code, header_judged};
+ghost use Rattle.fits_codes.specs.HeaderCodes.{has_counts_elsewhere, has_image_counts, is_simple_false, has_blank_with_reals, is_stored, is_out_of_range, is_outside, header_judged};
 
 use crate::code::Code;
 use crate::code_set::CodeSet;
 use crate::header_mark::HeaderMark;
 use fits_rules::{Class, IntegerSaid, Shape, image_bits};
 
-/// The codes that a header as a whole can have, by number.
-const HEADER_CODES: [Code; 8] = [
-    Code::EndNotBlank,
-    Code::FillNotSpaces,
-    Code::CountsOutOfPlace,
-    Code::ImageCountsNotPlain,
-    Code::WrongKindOfHdu,
-    Code::SimpleIsFalse,
-    Code::BlankWithReals,
-    Code::BlankOutOfRange,
-];
+// Whether PCOUNT and GCOUNT of an extension don't follow its axes.
+fn has_counts_elsewhere(mark: &HeaderMark, shape: &Shape) -> bool
+    ensures { result ≡ has_counts_elsewhere mark.now shape.now }
+{
+    !shape.class.is_primary() && !mark.counts_in_place
+}
 
 // Whether an IMAGE extension has other counts than 0 and 1.
 fn has_image_counts(class: Class, pcount: u64, gcount: u64) -> bool
     ensures { result ≡ has_image_counts class pcount gcount }
 {
     matches!(class, Class::Image) && !(pcount == 0 && gcount == 1)
+}
+
+// Whether the primary HDU says that the file doesn't conform.
+fn is_simple_false(mark: &HeaderMark, shape: &Shape) -> bool
+    ensures { result ≡ is_simple_false mark.now shape.now }
+{
+    shape.class.is_primary() && mark.begins_false
+}
+
+// Whether BLANK has a value, and the pixels are reals.
+fn has_blank_with_reals(mark: &HeaderMark, shape: &Shape) -> bool
+    ensures { result ≡ has_blank_with_reals mark.now shape.now }
+{
+    shape.bitpix < 0 && mark.blank.is_some()
 }
 
 // Whether an array of integers of so many bits can hold the number.
@@ -59,35 +68,23 @@ fn is_outside(bits: Option<u64>, said: Option<IntegerSaid>) -> bool
     }
 }
 
-// Whether the header has what the code names.
-#[tactic(auto, unfolding(crate::specs::HeaderCodes::has_header_code))]
-fn has_header_code(mark: &HeaderMark, shape: &Shape, code: Code) -> bool
-    ensures { result ≡ has_header_code mark.now shape.now code }
-{
-    match code {
-        Code::EndNotBlank => !mark.end_blank,
-        Code::FillNotSpaces => !mark.fill_blank,
-        Code::CountsOutOfPlace => !shape.class.is_primary() && !mark.counts_in_place,
-        Code::ImageCountsNotPlain => has_image_counts(shape.class, shape.pcount, shape.gcount),
-        Code::WrongKindOfHdu => mark.has_other_first,
-        Code::SimpleIsFalse => shape.class.is_primary() && mark.begins_false,
-        Code::BlankWithReals => shape.bitpix < 0 && mark.blank.is_some(),
-        Code::BlankOutOfRange => is_outside(image_bits(shape), mark.blank),
-        _ => false,
-    }
-}
-
 /// The codes of a header by its mark: exactly those whose fact holds. It takes no memory and reads
 /// no card.
-#[tactic(auto, unfolding(crate::specs::HeaderCodes::header_judged))]
 pub fn judge_header_mark(mark: &HeaderMark, shape: &Shape) -> CodeSet
     ensures { result ≡ header_judged mark.now shape.now }
 {
+    let has_counts = has_image_counts(shape.class, shape.pcount, shape.gcount);
     let mut found = CodeSet::new();
-    for code in HEADER_CODES {
-        if has_header_code(mark, shape, code) {
-            found.push(code);
-        }
-    }
+    found.push_where(Code::EndNotBlank, !mark.end_blank);
+    found.push_where(Code::FillNotSpaces, !mark.fill_blank);
+    found.push_where(Code::CountsOutOfPlace, has_counts_elsewhere(mark, shape));
+    found.push_where(Code::ImageCountsNotPlain, has_counts);
+    found.push_where(Code::WrongKindOfHdu, mark.has_other_first);
+    found.push_where(Code::SimpleIsFalse, is_simple_false(mark, shape));
+    found.push_where(Code::BlankWithReals, has_blank_with_reals(mark, shape));
+    found.push_where(
+        Code::BlankOutOfRange,
+        is_outside(image_bits(shape), mark.blank),
+    );
     found
 }
