@@ -26,18 +26,18 @@ false_and true b fails = fails
 false_and false b fails = refl
 
 -- no fact holds of such a card
-unsaid : (mark : Mark) (context : Context) → mark.alone ≡ [] → context.name_before ≡ false → context.value_before ≡ false → mark.is_open ≡ false
+unsaid : (mark : Mark) (context : Context) → mark.alone ≡ [] → context.around.name_before ≡ false → context.around.value_before ≡ false → mark.is_open ≡ false
     → bytes_eq mark.name (codes "CONTINUE") ≡ false → says_shape mark context ≡ false → (code : Code) → has_code mark context code ≡ false
 unfolding has_code is_among
 unsaid mark context nothing first no_value closed named apart NotFixedFormat = and_false (says_shape mark context) _ apart
-unsaid mark context nothing first no_value closed named apart MandatoryRepeated = and_false context.name_before _ first
-unsaid mark context nothing first no_value closed named apart KeywordRepeated = and_false (context.value_before && mark.has_value) _ (and_false context.value_before mark.has_value no_value)
+unsaid mark context nothing first no_value closed named apart MandatoryRepeated = and_false context.around.name_before _ first
+unsaid mark context nothing first no_value closed named apart KeywordRepeated = and_false (context.around.value_before && mark.has_value) _ (and_false context.around.value_before mark.has_value no_value)
 unsaid mark context nothing first no_value closed named apart StrayContinue = and_false (bytes_eq mark.name (codes "CONTINUE")) _ named
-unsaid mark context nothing first no_value closed named apart AmpersandNotContinued = and_false ((mark.begins || context.is_link) && mark.is_open) _ (false_and (mark.begins || context.is_link) mark.is_open closed)
+unsaid mark context nothing first no_value closed named apart AmpersandNotContinued = and_false ((mark.begins || context.around.is_link) && mark.is_open) _ (false_and (mark.begins || context.around.is_link) mark.is_open closed)
 unsaid mark context nothing first no_value closed named apart code = ap (λ (found : List Code). is_among found code) nothing
 
 -- so it has no code
-pub plain : (mark : Mark) (context : Context) → mark.alone ≡ [] → context.name_before ≡ false → context.value_before ≡ false → mark.is_open ≡ false
+pub plain : (mark : Mark) (context : Context) → mark.alone ≡ [] → context.around.name_before ≡ false → context.around.value_before ≡ false → mark.is_open ≡ false
     → bytes_eq mark.name (codes "CONTINUE") ≡ false → says_shape mark context ≡ false → judged mark context ≡ []
 unfolding judged
 plain mark context nothing first no_value closed named apart = none_pass (has_code mark context) (unsaid mark context nothing first no_value closed named apart) card_codes

@@ -16,7 +16,7 @@ use Rattle.fits_codes.specs.declared.mark.Mark.{Mark}
 abbrev pub says_shape : Mark → Context → Bool
 says_shape mark context =
     nat_le context.place (3 + context.axes)
-    || (not (is_primary context.class) && is_one_of count_keywords mark.name && mark.has_value && not context.value_before)
+    || (not (is_primary context.class) && is_one_of count_keywords mark.name && mark.has_value && not context.around.value_before)
 
 -- E06: such a card has no value of its type in fixed format (4.4.1.1, 4.4.1.2)
 abbrev pub is_not_fixed : Mark → Context → Bool
@@ -28,19 +28,19 @@ has_mandatory_name mark context = is_mandatory context.class context.axes mark.n
 
 -- E07: a mandatory keyword stands on an earlier card too, with a value or without (4.4.1)
 abbrev pub repeats_mandatory : Mark → Context → Bool
-repeats_mandatory mark context = context.name_before && has_mandatory_name mark context
+repeats_mandatory mark context = context.around.name_before && has_mandatory_name mark context
 
 -- W08: another keyword has a value, and had one on an earlier card (4.4.2)
 abbrev pub repeats_keyword : Mark → Context → Bool
-repeats_keyword mark context = context.value_before && mark.has_value && not (has_mandatory_name mark context)
+repeats_keyword mark context = context.around.value_before && mark.has_value && not (has_mandatory_name mark context)
 
 -- W09: a card is named CONTINUE and continues no string (4.2.1.2)
 abbrev pub is_stray : Mark → Context → Bool
-is_stray mark context = bytes_eq mark.name (codes "CONTINUE") && not context.is_link
+is_stray mark context = bytes_eq mark.name (codes "CONTINUE") && not context.around.is_link
 
 -- W10: a piece of a string ends in an ampersand, and the next card doesn't continue it (4.2.1.2)
 abbrev pub is_left_open : Mark → Context → Bool
-is_left_open mark context = (mark.begins || context.is_link) && mark.is_open && not context.next_is_link
+is_left_open mark context = (mark.begins || context.around.is_link) && mark.is_open && not context.next_is_link
 
 -- the card has what a code names
 unfoldable pub has_code : Mark → Context → Code → Bool

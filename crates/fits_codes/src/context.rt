@@ -1,3 +1,4 @@
+use crate::surrounding::Surrounding;
 use fits_rules::Class;
 
 /// Where a card stands, and what stands round it, as far as the rules ask.
@@ -9,12 +10,8 @@ pub struct Context {
     pub axes: usize,
     /// The card's place, from 1.
     pub place: usize,
-    /// Whether an earlier card has its name.
-    pub name_before: bool,
-    /// Whether an earlier card has its name and a value.
-    pub value_before: bool,
-    /// Whether it continues the string of the card before it.
-    pub is_link: bool,
+    /// What stands round it in its header.
+    pub around: Surrounding,
     /// Whether the next card continues its string.
     pub next_is_link: bool,
 }

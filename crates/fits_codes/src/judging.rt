@@ -17,7 +17,7 @@ fn says_shape(mark: &Mark, context: &Context) -> bool
         || (!context.class.is_primary()
             && is_one_of(&COUNT, &mark.name)
             && mark.has_value
-            && !context.value_before)
+            && !context.around.value_before)
 }
 
 // Whether it says so without a value of its type in fixed format.
@@ -39,28 +39,28 @@ fn has_mandatory_name(mark: &Mark, context: &Context) -> bool
 fn repeats_mandatory(mark: &Mark, context: &Context) -> bool
     ensures { result ≡ repeats_mandatory mark.now context.now }
 {
-    context.name_before && has_mandatory_name(mark, context)
+    context.around.name_before && has_mandatory_name(mark, context)
 }
 
 // Whether it has another keyword and a value, where an earlier card had both.
 fn repeats_keyword(mark: &Mark, context: &Context) -> bool
     ensures { result ≡ repeats_keyword mark.now context.now }
 {
-    context.value_before && mark.has_value && !has_mandatory_name(mark, context)
+    context.around.value_before && mark.has_value && !has_mandatory_name(mark, context)
 }
 
 // Whether it is named CONTINUE, and continues no string.
 fn is_stray(mark: &Mark, context: &Context) -> bool
     ensures { result ≡ is_stray mark.now context.now }
 {
-    mark.name.is(b"CONTINUE") && !context.is_link
+    mark.name.is(b"CONTINUE") && !context.around.is_link
 }
 
 // Whether it is a piece of a string that ends in an ampersand, and isn't continued.
 fn is_left_open(mark: &Mark, context: &Context) -> bool
     ensures { result ≡ is_left_open mark.now context.now }
 {
-    (mark.begins || context.is_link) && mark.is_open && !context.next_is_link
+    (mark.begins || context.around.is_link) && mark.is_open && !context.next_is_link
 }
 
 // Whether it is as most cards are, of which nothing is found.
@@ -69,8 +69,8 @@ fn is_plain(mark: &Mark, context: &Context) -> bool
     ensures { IsTrue result → judged mark.now context.now ≡ [] }
 {
     mark.alone.is_empty()
-        && !context.name_before
-        && !context.value_before
+        && !context.around.name_before
+        && !context.around.value_before
         && !mark.is_open
         && !mark.name.is(b"CONTINUE")
         && !says_shape(mark, context)

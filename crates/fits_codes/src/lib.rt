@@ -15,6 +15,7 @@ mod keywords;
 mod laws;
 mod mark;
 mod said;
+mod surrounding;
 
 pub use code::Code;
 pub use code_set::{CodeSet, MOST_CODES};
@@ -27,3 +28,4 @@ pub use laws::{
     each_code_of_a_header_is_found,
 };
 pub use mark::{Mark, mark_of};
+pub use surrounding::Surrounding;

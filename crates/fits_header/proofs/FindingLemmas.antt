@@ -11,6 +11,7 @@ use Rattle.fits_codes.specs.Judged.{judged}
 use Rattle.fits_codes.specs.Mark.{mark_of}
 use Rattle.fits_codes.specs.declared.code.Code.{Code}
 use Rattle.fits_codes.specs.declared.context.Context.{Context}
+use Rattle.fits_codes.specs.declared.surrounding.Surrounding.{Surrounding}
 use Rattle.fits_header.specs.declared.note.Note.{Note}
 use Rattle.fits_header.specs.Findings.{card_of, card_counts, card_findings, codes_at, context_at, counted, counts_by, counts_of, found_at, summed}
 use Rattle.fits_header.specs.Links.{header_links}
@@ -18,7 +19,6 @@ use Rattle.fits_header.specs.Notes.{notes_of}
 use Rattle.fits_header.specs.Surroundings.{surrounding_at, surroundings_of, AreRepeatsMarked}
 use Rattle.fits_header.specs.declared.counts.Counts.{Counts}
 use Rattle.fits_header.specs.declared.finding.Finding.{Finding}
-use Rattle.fits_header.specs.declared.surrounding.Surrounding.{Surrounding}
 use Rattle.fits_header.proofs.MarkedLinkLemmas.{length-links}
 use Rattle.fits_header.proofs.NoteLemmas.{note_there}
 
@@ -110,9 +110,7 @@ found_context shape place axes next around = record {
   class = shape.class;
   axes = axes;
   place = place;
-  name_before = around.name_before;
-  value_before = around.value_before;
-  is_link = around.is_link;
+  around = around;
   next_is_link = next;
 }
 

@@ -5,10 +5,10 @@ use Rattle.fits_card.specs.Card.{has_value}
 use Rattle.fits_value.specs.Says.{card_string}
 use Rattle.fits_rules.specs.Reads.{string_said}
 use Rattle.fits_codes.specs.Mark.{mark_of}
+use Rattle.fits_codes.specs.declared.surrounding.Surrounding.{Surrounding}
 use Rattle.fits_header.specs.declared.note.Note.{Note}
 use Rattle.fits_header.specs.Links.{StringMark, string_mark, leaves_open, links_from, header_links}
 use Rattle.fits_header.specs.Notes.{note_of, notes_of, strings_in, links_in}
-use Rattle.fits_header.specs.declared.surrounding.Surrounding.{Surrounding}
 
 -- the links that are marked
 abbrev links_marked : List Surrounding → List Bool

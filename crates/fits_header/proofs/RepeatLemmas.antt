@@ -6,9 +6,9 @@ use Rattle.std.proofs.lemmas.Bool.Decides.{nat_tests}
 use Rattle.std.proofs.lemmas.List.{get_or-take, get_or-drop, get_or-set_same, get_or-set_other, get_or_default, take_all, length-take-le}
 use Rattle.std.proofs.lemmas.List.Folds.{list_any-append, list_any_none, list_any_more}
 use Rattle.std.proofs.lemmas.List.Kept.{AllPairs-filter}
+use Rattle.fits_codes.specs.declared.surrounding.Surrounding.{Surrounding}
 use Rattle.fits_header.specs.declared.entry.Entry.{Entry}
 use Rattle.fits_header.specs.declared.seen.Seen.{Seen}
-use Rattle.fits_header.specs.declared.surrounding.Surrounding.{Surrounding}
 use Rattle.fits_card.specs.Card.{keyword_name, has_value}
 use Rattle.fits_header.specs.Findings.{card_of}
 use Rattle.fits_header.specs.Index.{IsSortedIndex, IsInOrder, IsIndexOf, is_named, entry_of, entries_from}

@@ -4,8 +4,8 @@ use Rattle.std.specs.List.{All, list_any}
 use Rattle.std.proofs.lemmas.List.Elements.{All-take}
 use Rattle.fits_card.specs.Card.{keyword_name}
 use Rattle.fits_rules.specs.Lead.{is_value_of}
+use Rattle.fits_codes.specs.declared.surrounding.Surrounding.{Surrounding}
 use Rattle.fits_header.specs.declared.entry.Entry.{Entry}
-use Rattle.fits_header.specs.declared.surrounding.Surrounding.{Surrounding}
 use Rattle.fits_header.specs.Findings.{card_of}
 use Rattle.fits_header.specs.Index.{IsIndexOf}
 use Rattle.fits_header.specs.Names.{AreNamed, IsName, name_number}

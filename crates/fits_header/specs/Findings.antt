@@ -1,9 +1,7 @@
 -- What is found of a header: the codes of its cards, by what stands round them, and those of the header as a whole (own).
-use Rattle.std.specs.Prelude.{ℕ, ◌+◌, ◌-◌, false, not, List, [], length, map, filter, take, slice_index_or, if◌then◌else◌}
-use Rattle.std.specs.List.{flat_map, list_any, range_with_len}
-use Rattle.fits_card.specs.Card.{keyword_name}
+use Rattle.std.specs.Prelude.{ℕ, ◌+◌, false, not, List, length, map, filter, slice_index_or, if◌then◌else◌}
+use Rattle.std.specs.List.{flat_map, range_with_len}
 use Rattle.fits_card.specs.Header.{Header}
-use Rattle.fits_rules.specs.Lead.{is_value_of}
 use Rattle.fits_rules.specs.declared.array_shape.Shape.{Shape}
 use Rattle.fits_codes.specs.Code.{is_error}
 use Rattle.fits_codes.specs.HeaderCodes.{header_judged, header_mark_of}
@@ -12,23 +10,18 @@ use Rattle.fits_codes.specs.Mark.{mark_of}
 use Rattle.fits_codes.specs.declared.code.Code.{Code}
 use Rattle.fits_codes.specs.declared.context.Context.{Context}
 use Rattle.fits_header.specs.Links.{header_links}
-use Rattle.fits_header.specs.Places.{has_name}
+use Rattle.fits_header.specs.Surroundings.{surrounding_at}
+pub use Rattle.fits_header.specs.Places.{card_of}
 use Rattle.fits_header.specs.declared.counts.Counts.{Counts}
 use Rattle.fits_header.specs.declared.finding.Finding.{Finding}
 
--- the card at a place, counted from 1
-abbrev pub card_of : List (List ℕ) → ℕ → List ℕ
-card_of cards place = slice_index_or cards (place - 1) []
-
--- what stands round the card at a place: the cards before it that have its name, the links
+-- where the card at a place stands: its shape, what stands round it, whether the next card is a link
 abbrev pub context_at : Shape → List (List ℕ) → ℕ → Context
 context_at shape cards place = record {
   class = shape.class;
   axes = length shape.axes;
   place = place;
-  name_before = list_any (has_name (keyword_name (card_of cards place))) (take (place - 1) cards);
-  value_before = list_any (is_value_of (keyword_name (card_of cards place))) (take (place - 1) cards);
-  is_link = slice_index_or (header_links cards) (place - 1) false;
+  around = surrounding_at cards place;
   next_is_link = slice_index_or (header_links cards) place false;
 }
 

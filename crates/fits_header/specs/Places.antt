@@ -1,9 +1,13 @@
 -- The places of a keyword.
-use Rattle.std.specs.Prelude.{ℕ, ◌+◌, ◌-◌, Bool, List, [], ◌∷◌, take, drop, Option, if◌then◌else◌}
+use Rattle.std.specs.Prelude.{ℕ, ◌+◌, ◌-◌, Bool, List, [], ◌∷◌, take, drop, slice_index_or, Option, if◌then◌else◌}
 use Rattle.std.specs.Option.{option_map}
 use Rattle.std.specs.Str.{bytes_eq}
 use Rattle.fits_card.specs.Card.{keyword_name}
 use Rattle.fits_rules.specs.Lead.{lead_place}
+
+-- the card at a place, counted from 1
+abbrev pub card_of : List (List ℕ) → ℕ → List ℕ
+card_of cards place = slice_index_or cards (place - 1) []
 
 -- the card has this name (4.1.2.1)
 abbrev pub has_name : List ℕ → List ℕ → Bool

@@ -1,8 +1,8 @@
 -- Names that earlier cards have, as a pass over the sorted entries finds them (own).
 use Rattle.std.specs.Prelude.{◌==◌, ◌||◌, true, false, if◌then◌else◌}
+use Rattle.fits_codes.specs.declared.surrounding.Surrounding.{Surrounding}
 use Rattle.fits_header.specs.declared.entry.Entry.{Entry}
 use Rattle.fits_header.specs.declared.seen.Seen.{Seen}
-use Rattle.fits_header.specs.declared.surrounding.Surrounding.{Surrounding}
 
 -- what was seen of an entry's name, before it
 abbrev pub seen_at : Seen → Entry → Seen

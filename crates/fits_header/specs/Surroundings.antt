@@ -3,10 +3,9 @@ use Rattle.std.specs.Prelude.{◌≡◌, ◌≤◌, ℕ, ◌-◌, false, List, l
 use Rattle.std.specs.List.{list_any, range_with_len}
 use Rattle.fits_card.specs.Card.{keyword_name}
 use Rattle.fits_rules.specs.Lead.{is_value_of}
-use Rattle.fits_header.specs.Findings.{card_of}
+use Rattle.fits_codes.specs.declared.surrounding.Surrounding.{Surrounding}
 use Rattle.fits_header.specs.Links.{header_links}
-use Rattle.fits_header.specs.Places.{has_name}
-use Rattle.fits_header.specs.declared.surrounding.Surrounding.{Surrounding}
+use Rattle.fits_header.specs.Places.{card_of, has_name}
 
 -- what stands round the card at a place: the cards before it that have its name, and whether it is a link
 abbrev pub surrounding_at : List (List ℕ) → ℕ → Surrounding

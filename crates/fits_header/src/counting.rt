@@ -9,8 +9,7 @@ ghost use Rattle.fits_header.specs.Surroundings.{surroundings_of};
 use crate::counts::Counts;
 use crate::findings::codes_at;
 use crate::notes::Notes;
-use crate::surrounding::Surrounding;
-use fits_codes::Code;
+use fits_codes::{Code, Surrounding};
 use fits_rules::Shape;
 
 /// The errors and warnings of all cards.

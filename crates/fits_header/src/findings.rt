@@ -7,8 +7,7 @@ ghost use Rattle.fits_header.specs.Surroundings.{surroundings_of};
 
 use crate::finding::Finding;
 use crate::notes::Notes;
-use crate::surrounding::Surrounding;
-use fits_codes::{Code, CodeSet, Context, judge};
+use fits_codes::{Code, CodeSet, Context, Surrounding, judge};
 use fits_rules::Shape;
 use std::alloc::{AllocError, Global};
 
@@ -64,9 +63,7 @@ fn context_at(shape: &Shape, surroundings: &[Surrounding], place: usize) -> Cont
         class: shape.class,
         axes: shape.axes.as_slice().len(),
         place,
-        name_before: around.name_before,
-        value_before: around.value_before,
-        is_link: around.is_link,
+        around,
         next_is_link,
     }
 }

@@ -9,8 +9,8 @@ use crate::notes::Notes;
 use crate::numbers::{names_of, number_of};
 use crate::repeats::mark_repeats;
 use crate::shifts::{close_gap, turn};
-use crate::surrounding::Surrounding;
 use fits_card::{Card, CardList, Name, reserve_room};
+use fits_codes::Surrounding;
 use std::alloc::{AllocError, Global};
 use std::marker::Model;
 

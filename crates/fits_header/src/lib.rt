@@ -25,7 +25,6 @@ mod passing_total;
 mod repeats;
 mod seen;
 mod shifts;
-mod surrounding;
 mod survey;
 
 pub use counts::Counts;

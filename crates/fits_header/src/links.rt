@@ -1,11 +1,11 @@
 //! Which cards go on with a long string, by one pass over their notes (FITS Standard 4.0, section
 //! 4.2.1.2).
 ghost use Rattle.std.specs.Prelude.{◌≡◌, length, map};
+ghost use Rattle.fits_codes.specs.declared.surrounding.Surrounding.{Surrounding};
 ghost use Rattle.fits_header.specs.Notes.{links_in};
-ghost use Rattle.fits_header.specs.declared.surrounding.Surrounding.{Surrounding};
 
 use crate::notes::Notes;
-use crate::surrounding::Surrounding;
+use fits_codes::Surrounding;
 
 /// Marks the links, and no repeated name.
 #[tactic(auto, using(crate::proofs::MarkedLinkLemmas::link_steps))]

@@ -1,13 +1,13 @@
 //! Names that earlier cards have, by one pass over the sorted entries.
 ghost use Rattle.std.specs.Prelude.{◌≡◌, ◌<◌, ℕ, List, length, slice_index_or, slice_set};
+ghost use Rattle.fits_codes.specs.declared.surrounding.Surrounding.{Surrounding};
 ghost use Rattle.fits_header.specs.Index.{IsIndex, IsIndexOf};
 ghost use Rattle.fits_header.specs.Repeats.{marked_by};
 ghost use Rattle.fits_header.specs.Surroundings.{AreRepeatsMarked};
-ghost use Rattle.fits_header.specs.declared.surrounding.Surrounding.{Surrounding};
 
 use crate::entry::Entry;
 use crate::seen::{Seen, seen_at, seen_with};
-use crate::surrounding::Surrounding;
+use fits_codes::Surrounding;
 
 /// Marks at the place of each entry whether an earlier card has its name, and whether one has a
 /// value too.

@@ -7,8 +7,8 @@ ghost use Rattle.fits_header.specs.Surroundings.{surroundings_of};
 use crate::key_index::KeyIndex;
 use crate::links::mark_links;
 use crate::notes::Notes;
-use crate::surrounding::Surrounding;
 use fits_card::reserve_room;
+use fits_codes::Surrounding;
 use std::alloc::AllocError;
 
 /// Finds what stands round the cards, unless that is there. It reads no card.

@@ -1,7 +1,7 @@
 use Rattle.std.proofs.Common.{◌≡◌, ◌++◌, length, map, take, drop}
+use Rattle.fits_codes.specs.declared.surrounding.Surrounding.{Surrounding}
 use Rattle.fits_header.specs.Links.{links_from}
 use Rattle.fits_header.specs.Notes.{links_in, strings_in}
-use Rattle.fits_header.specs.declared.surrounding.Surrounding.{Surrounding}
 use Rattle.fits_header.proofs.links.mark_links.Given as goal
 
 abbrev pub invariant-loop-index : goal.invariant-loop-index

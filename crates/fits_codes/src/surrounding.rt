@@ -1,10 +1,10 @@
 /// What stands round a card of a header, as far as the rules ask.
 #[derive(Clone, Copy)]
-pub(crate) struct Surrounding {
+pub struct Surrounding {
     /// Whether an earlier card has its name.
-    pub(crate) name_before: bool,
+    pub name_before: bool,
     /// Whether an earlier card has its name and a value.
-    pub(crate) value_before: bool,
+    pub value_before: bool,
     /// Whether it continues the string of the card before it.
-    pub(crate) is_link: bool,
+    pub is_link: bool,
 }
