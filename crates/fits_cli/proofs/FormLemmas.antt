@@ -80,6 +80,12 @@ pub tested_some : {X P : Type 0} (test : Bool) (x y : X) → (if test then Some 
 tested_some {X = X} true x y e give = give refl (let z : ◌≡◌ {A = Option X} (Some x) (Some y) = e in cc)
 tested_some {X = X} false x y e give = absurd (let z : ◌≡◌ {A = Option X} None (Some y) = e in cc)
 
+-- one of two things is there
+pub either_some : {X P : Type 0} (test : Bool) (a b : Option X) (x : X) → (if test then a else b) ≡ Some x
+    → (test ≡ true → a ≡ Some x → P) → (test ≡ false → b ≡ Some x → P) → P
+either_some true a b x e first next = first refl e
+either_some false a b x e first next = next refl e
+
 -- a word with a number is one
 pub IsNumber-is : (word : List ℕ) (number : ℕ) → number_of_word word ≡ Some number → IsNumber word number
 unfolding number_of_word

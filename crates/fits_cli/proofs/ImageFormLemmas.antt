@@ -1,6 +1,6 @@
 -- The words of a new image, put together and taken apart.
-use Rattle.std.proofs.Common.{◌≡◌, ℕ, List, [], ◌∷◌, ◌++◌, refl, ap, sym, ◌∙◌, inl, inr, true, false, Bool, Option, None, Some}
-use Rattle.std.specs.Prelude.{codes, map, if◌then◌else◌}
+use Rattle.std.proofs.Common.{◌≡◌, ℕ, List, [], ◌∷◌, ◌++◌, refl, ap, sym, ◌∙◌, inl, inr, true, false, Option, None, Some}
+use Rattle.std.specs.Prelude.{codes, map}
 use Rattle.std.specs.List.{list_all}
 use Rattle.std.specs.Str.{bytes_eq}
 use Rattle.std.proofs.lemmas.Bool.{and_parts, and_from, cases_Bool}
@@ -12,14 +12,8 @@ use Rattle.fits_hdu.specs.declared.kind.Kind.TheVariants.{U8, I8, I16, U16, I32,
 use Rattle.fits_cli.specs.Cut.{HasNo}
 use Rattle.fits_cli.specs.Forms.{followed, kind_word, AreNumbers, IsAxes, IsLengths}
 use Rattle.fits_cli.specs.Line.{after_word, are_lengths, axes_last, axes_of_word, comma_parts, first_word, is_number, kind_first, kind_of_word, lengths_of_word}
-use Rattle.fits_cli.proofs.FormLemmas.{first_word-followed, after_word-followed, followed-after_word, tested_some}
+use Rattle.fits_cli.proofs.FormLemmas.{first_word-followed, after_word-followed, either_some, followed-after_word, tested_some}
 use Rattle.fits_cli.proofs.PixelFormLemmas.{digit-between, digits_without, is_number-of, is_number-parts, joined-parts, parts-joined, some_parts, EachHasNo}
-
--- one of two things is there
-either_some : {X P : Type 0} (test : Bool) (a b : Option X) (x : X) → (if test then a else b) ≡ Some x
-    → (test ≡ true → a ≡ Some x → P) → (test ≡ false → b ≡ Some x → P) → P
-either_some true a b x e first next = first refl e
-either_some false a b x e first next = next refl e
 
 -- the kind of a kind's word
 kind_of_word-is : (kind : Kind) → kind_of_word (kind_word kind) ≡ Some kind

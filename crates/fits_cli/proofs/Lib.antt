@@ -23,5 +23,6 @@ pub mod ScriptLemmas
 pub mod SummingLemmas
 pub mod TellingLemmas
 pub mod ValueLineLemmas
+pub mod VerbLemmas
 pub mod VerifyingLemmas
 pub mod WordLemmas

@@ -1,11 +1,9 @@
 -- A line says a command exactly where it has its form.
-use Rattle.std.proofs.Common.{◌≡◌, ℕ, List, [], ◌∷◌, ◌++◌, refl, ap, sym, ◌∙◌, inl, inr, rules, true, false, Bool, Option, None, Some}
-use Rattle.std.specs.Prelude.{◌==◌, ℤ, codes, unwrap_or, if◌then◌else◌}
+use Rattle.std.proofs.Common.{◌≡◌, ℕ, List, [], ◌∷◌, ◌++◌, refl, ap, sym, ◌∙◌, inl, inr, rules, false, Option, None, Some}
+use Rattle.std.specs.Prelude.{◌==◌, ℤ, codes, unwrap_or}
 use Rattle.std.specs.Option.{option_map}
-use Rattle.std.specs.Str.{bytes_eq}
 use Rattle.std.proofs.lemmas.List.{append-nil}
 use Rattle.std.proofs.lemmas.Option.{option_and_then_some}
-use Rattle.std.proofs.lemmas.Slice.Eq.{bytes_eq-Decides}
 use Rattle.fits_value.specs.Says.{field_says}
 use Rattle.fits_value.specs.declared.value.Value.{Value}
 use Rattle.fits_hdu.specs.declared.kind.Kind.{Kind}
@@ -15,13 +13,17 @@ use Rattle.fits_session.specs.declared.hdu_edit.HduEdit.TheVariants.{Cards, Pixe
 use Rattle.fits_session.specs.declared.paint.Paint.{Paint}
 use Rattle.fits_session.specs.declared.paint.Paint.TheVariants.{Fill, Write}
 use Rattle.fits_cli.specs.Cut.{HasNo}
-use Rattle.fits_cli.specs.Forms.{IsAlone, IsCardForm, IsFieldForm, IsMoveForm, IsNameForm, IsNewForm, IsNumber, IsPaintForm, IsPlaceForm, IsRectangleForm, Names, Says, before, followed, kind_word}
-use Rattle.fits_cli.specs.Line.{after_word, alone, asked_by, axes_last, card_last, card_words, cards_command, cards_said_by, command_of, field_words, fill_words, first_word, hdu_said_by, kind_first, move_words, name_first, name_word, named_by, new_words, number_first, place_word, rectangle_first, rectangle_word, said_by, value_last, values_last, write_words}
+use Rattle.fits_cli.specs.Forms.{IsAlone, IsCardForm, IsFieldForm, IsMoveForm, IsNameForm, IsNewForm, IsNumber, IsPaintForm, IsPlaceForm, IsRectangleForm, Names, Says, followed, kind_word, paint_word}
+use Rattle.fits_cli.specs.Line.{◌>>=◌, after_word, alone, axes_last, card_last, card_words, cards_command, command_of, field_words, fill_words, first_word, kind_first, move_words, name_first, name_word, new_words, number_first, place_word, rectangle_first, rectangle_word, said_by, said_of, value_last, values_last, verb_of, words_said, write_words}
+use Rattle.fits_cli.specs.Line.{delete_said, get_said, insert_said, move_said, new_said, paint_said, positions_said, put_said, rectangle_said, set_said, unset_said}
 use Rattle.fits_cli.specs.declared.command.Command.{Command}
 use Rattle.fits_cli.specs.declared.command.Command.TheVariants.{Nothing, Edit, Offsets, Get, Positions, Report, Statistics, Rectangle, Sums}
-use Rattle.fits_cli.proofs.FormLemmas.{first_word-followed, after_word-followed, followed-after_word, number_first-is, name_first-is, card_last-is, IsCard-is, NumberFirst-is, NameFirst-is, alone-is, followed-nothing}
+use Rattle.fits_cli.specs.declared.verb.Verb.{Verb}
+use Rattle.fits_cli.specs.declared.verb.Verb.TheVariants as verb
+use Rattle.fits_cli.proofs.FormLemmas.{first_word-followed, after_word-followed, either_some, followed-after_word, number_first-is, name_first-is, card_last-is, IsCard-is, NumberFirst-is, NameFirst-is, alone-is, followed-nothing}
 use Rattle.fits_cli.proofs.ImageFormLemmas.{axes_last-is, axes_last-says, kind_first-is, kind_first-says}
 use Rattle.fits_cli.proofs.PixelFormLemmas.{rectangle_first-is, RectangleFirst-is, value_last-is, value_last-says, values_last-is, values_last-says}
+use Rattle.fits_cli.proofs.VerbLemmas.{verb_of-says, verb_word}
 
 -- `P CARD`, where it is written so
 card_words-is : (p : ℕ) (card : List ℕ) (rest : Option (List ℕ)) → IsCardForm p card rest → card_words rest ≡ Some (p, card)
@@ -173,168 +175,124 @@ alone-says : (rest : Option (List ℕ)) (command : Command) → IsAlone rest →
 unfolding alone
 alone-says rest command is = rw is refl
 
--- a line of this word and a rest is what the word says of the rest, unless it is a comment
-command_of-verb : (byte : ℕ) (verb rest : List ℕ) → HasNo 32 (byte ∷ verb) → (byte == 35) ≡ false → command_of (before (byte ∷ verb) rest) ≡ said_by (byte ∷ verb) (Some rest)
-unfolding command_of
-command_of-verb byte verb rest bare other =
-    rw (other, first_word-followed (byte ∷ verb) (Some rest) bare, after_word-followed (byte ∷ verb) (Some rest) bare) refl
+-- a line of a verb and a rest is what the verb says of the rest
+verb_said : (v : Verb) (byte : ℕ) (bytes : List ℕ) (rest : Option (List ℕ)) → HasNo 32 (byte ∷ bytes) → (byte == 35) ≡ false → verb_of (byte ∷ bytes) ≡ Some v → command_of ((byte ∷ bytes) ++ followed rest) ≡ said_by v rest
+unfolding command_of words_said
+verb_said v byte bytes rest bare other is =
+    rw (other, first_word-followed (byte ∷ bytes) rest bare, is, after_word-followed (byte ∷ bytes) rest bare) refl
 
--- a line of this word, HDU h and what follows is what the word says of HDU h
-named-is : (byte : ℕ) (word : List ℕ) (h : ℕ) (IsForm : Option (List ℕ) → Type 0) (line : List ℕ) (says : Names (byte ∷ word) h IsForm line) → HasNo 32 (byte ∷ word) → (byte == 35) ≡ false → bytes_eq (byte ∷ word) (codes "off") ≡ false → bytes_eq (byte ∷ word) (codes "rep") ≡ false
-    → command_of line ≡ cards_said_by (byte ∷ word) h says.rest
-unfolding said_by named_by
-named-is byte word h IsForm line says bare other not_off not_rep =
-    ap command_of says.is ∙ command_of-verb byte word (says.hdu ++ followed says.rest) bare other ∙ rw (not_off, not_rep, number_first-is says.hdu says.rest h says.is_hdu) refl
+-- a line of a verb, HDU h and what follows is what the verb says of HDU h
+named-is : (v : Verb) (byte : ℕ) (bytes : List ℕ) (h : ℕ) (IsForm : Option (List ℕ) → Type 0) (line : List ℕ) (says : Names (byte ∷ bytes) h IsForm line) → HasNo 32 (byte ∷ bytes) → (byte == 35) ≡ false → verb_of (byte ∷ bytes) ≡ Some v
+    → ((rest : Option (List ℕ)) → said_by v rest ≡ (number_first rest >>= (λ hdu. said_of v hdu.0 hdu.1))) → command_of line ≡ said_of v h says.rest
+named-is v byte bytes h IsForm line says bare other is of_hdu =
+    ap command_of says.is ∙ verb_said v byte bytes (Some (says.hdu ++ followed says.rest)) bare other is ∙ of_hdu (Some (says.hdu ++ followed says.rest)) ∙ rw (number_first-is says.hdu says.rest h says.is_hdu) refl
 
 -- a line that has the form of a command says it
 pub command_of-says : (line : List ℕ) (command : Command) → Says line command → command_of line ≡ Some command
-unfolding command_of said_by cards_said_by hdu_said_by asked_by alone first_word after_word
+unfolding command_of words_said verb_of said_by said_of alone first_word after_word
 command_of-says line Nothing (inl e) = rw e refl
 command_of-says line Nothing (inr comment) = rw comment.1 refl
-command_of-says line (Edit (Hdu h (Cards (Insert p card)))) says = named-is 105 (codes "ns") h _ line says refl refl refl refl ∙ ap (option_map (λ said. cards_command h (Insert said.0 said.1))) (card_words-is p card says.rest says.form)
-command_of-says line (Edit (Hdu h (Cards (Put p card)))) says = named-is 112 (codes "ut") h _ line says refl refl refl refl ∙ ap (option_map (λ said. cards_command h (Put said.0 said.1))) (card_words-is p card says.rest says.form)
-command_of-says line (Edit (Hdu h (Cards (Delete p)))) says = named-is 100 (codes "el") h _ line says refl refl refl refl ∙ ap (option_map (λ place. cards_command h (Delete place))) (place_word-is p says.rest says.form)
-command_of-says line (Edit (Hdu h (Cards (Move p q)))) says = named-is 109 (codes "ov") h _ line says refl refl refl refl ∙ ap (option_map (λ said. cards_command h (Move said.0 said.1))) (move_words-is p q says.rest says.form)
-command_of-says line (Edit (Hdu h (Cards (Set name value comment)))) says =
-    named-is 115 (codes "et") h _ line says refl refl refl refl ∙ ap (option_map (λ said. cards_command h (Set said.0 said.1 said.2))) (field_words-is name value comment says.rest says.form)
-command_of-says line (Edit (Hdu h (Cards (Unset name)))) says = named-is 117 (codes "nset") h _ line says refl refl refl refl ∙ ap (option_map (λ name. cards_command h (Unset name))) (name_word-is name says.rest says.form)
-command_of-says line (Edit (Hdu h (Pixels lo hi (Fill value)))) says =
-    named-is 102 (codes "ill") h _ line says refl refl refl refl ∙ ap (option_map (λ said. Edit (Hdu h (Pixels said.0 said.1 said.2)))) (fill_words-is lo hi value says.rest says.form)
-command_of-says line (Edit (Hdu h (Pixels lo hi (Write values)))) says =
-    named-is 119 (codes "rite") h _ line says refl refl refl refl ∙ ap (option_map (λ said. Edit (Hdu h (Pixels said.0 said.1 said.2)))) (write_words-is lo hi values says.rest says.form)
-command_of-says line (Edit (Hdu h Stamp)) says = named-is 115 (codes "tamp") h _ line says refl refl refl refl ∙ alone-says says.rest (Edit (Hdu h Stamp)) says.form
-command_of-says line (Edit (NewImage h kind axes)) says = named-is 110 (codes "ew") h _ line says refl refl refl refl ∙ ap (option_map (λ said. Edit (NewImage h said.0 said.1))) (new_words-is kind axes says.rest says.form)
-command_of-says line (Edit (RemoveHdu h)) says = named-is 114 (codes "m") h _ line says refl refl refl refl ∙ alone-says says.rest (Edit (RemoveHdu h)) says.form
-command_of-says line (Get h name) says = named-is 103 (codes "et") h _ line says refl refl refl refl ∙ ap (option_map (λ name. Get h name)) (name_word-is name says.rest says.form)
-command_of-says line (Positions h name) says = named-is 112 (codes "os") h _ line says refl refl refl refl ∙ ap (option_map (λ name. Positions h name)) (name_word-is name says.rest says.form)
+command_of-says line (Edit (Hdu h (Cards (Insert p card)))) says = named-is verb.Insert _ _ h _ line says refl refl refl (λ rest. refl) ∙ ap (insert_said h) (card_words-is p card says.rest says.form)
+command_of-says line (Edit (Hdu h (Cards (Put p card)))) says = named-is verb.Put _ _ h _ line says refl refl refl (λ rest. refl) ∙ ap (put_said h) (card_words-is p card says.rest says.form)
+command_of-says line (Edit (Hdu h (Cards (Delete p)))) says = named-is verb.Delete _ _ h _ line says refl refl refl (λ rest. refl) ∙ ap (delete_said h) (place_word-is p says.rest says.form)
+command_of-says line (Edit (Hdu h (Cards (Move p q)))) says = named-is verb.Move _ _ h _ line says refl refl refl (λ rest. refl) ∙ ap (move_said h) (move_words-is p q says.rest says.form)
+command_of-says line (Edit (Hdu h (Cards (Set name value comment)))) says = named-is verb.Set _ _ h _ line says refl refl refl (λ rest. refl) ∙ ap (set_said h) (field_words-is name value comment says.rest says.form)
+command_of-says line (Edit (Hdu h (Cards (Unset name)))) says = named-is verb.Unset _ _ h _ line says refl refl refl (λ rest. refl) ∙ ap (unset_said h) (name_word-is name says.rest says.form)
+command_of-says line (Edit (Hdu h (Pixels lo hi (Fill value)))) says = named-is verb.Fill _ _ h _ line says refl refl refl (λ rest. refl) ∙ ap (paint_said h) (fill_words-is lo hi value says.rest says.form)
+command_of-says line (Edit (Hdu h (Pixels lo hi (Write values)))) says = named-is verb.Write _ _ h _ line says refl refl refl (λ rest. refl) ∙ ap (paint_said h) (write_words-is lo hi values says.rest says.form)
+command_of-says line (Edit (Hdu h Stamp)) says = named-is verb.Stamp _ _ h _ line says refl refl refl (λ rest. refl) ∙ alone-says says.rest (Edit (Hdu h Stamp)) says.form
+command_of-says line (Edit (NewImage h kind axes)) says = named-is verb.New _ _ h _ line says refl refl refl (λ rest. refl) ∙ ap (new_said h) (new_words-is kind axes says.rest says.form)
+command_of-says line (Edit (RemoveHdu h)) says = named-is verb.Remove _ _ h _ line says refl refl refl (λ rest. refl) ∙ alone-says says.rest (Edit (RemoveHdu h)) says.form
+command_of-says line (Get h name) says = named-is verb.Get _ _ h _ line says refl refl refl (λ rest. refl) ∙ ap (get_said h) (name_word-is name says.rest says.form)
+command_of-says line (Positions h name) says = named-is verb.Positions _ _ h _ line says refl refl refl (λ rest. refl) ∙ ap (positions_said h) (name_word-is name says.rest says.form)
 command_of-says line Offsets says = rw says refl
 command_of-says line Report says = rw says refl
-command_of-says line (Statistics h) says = named-is 115 (codes "tat") h _ line says refl refl refl refl ∙ alone-says says.rest (Statistics h) says.form
-command_of-says line (Rectangle h lo hi) says = named-is 114 (codes "ect") h _ line says refl refl refl refl ∙ ap (option_map (λ said. Rectangle h said.0 said.1)) (rectangle_word-is lo hi says.rest says.form)
-command_of-says line (Sums h) says = named-is 115 (codes "um") h _ line says refl refl refl refl ∙ alone-says says.rest (Sums h) says.form
-
--- one of two things is said
-said_either : {P : Type 0} (test : Bool) (a b : Option Command) (command : Command) → (if test then a else b) ≡ Some command
-    → (test ≡ true → a ≡ Some command → P) → (test ≡ false → b ≡ Some command → P) → P
-said_either true a b command e first next = first refl e
-said_either false a b command e first next = next refl e
+command_of-says line (Statistics h) says = named-is verb.Statistics _ _ h _ line says refl refl refl (λ rest. refl) ∙ alone-says says.rest (Statistics h) says.form
+command_of-says line (Rectangle h lo hi) says = named-is verb.Rectangle _ _ h _ line says refl refl refl (λ rest. refl) ∙ ap (rectangle_said h) (rectangle_word-is lo hi says.rest says.form)
+command_of-says line (Sums h) says = named-is verb.Sums _ _ h _ line says refl refl refl (λ rest. refl) ∙ alone-says says.rest (Sums h) says.form
 
 -- what words come to
-mapped : {X P : Type 0} (f : X → Command) (words : Option X) (command : Command) → option_map f words ≡ Some command → ((x : X) → words ≡ Some x → command ≡ f x → P) → P
+mapped : {X P : Type 0} (f : X → Command) (words : Option X) (command : Command) → option_map f words ≡ Some command → ((x : X) → words ≡ Some x → f x ≡ command → P) → P
 mapped f None command e give = absurd (let z : ◌≡◌ {A = Option Command} None (Some command) = e in cc)
 mapped f (Some x) command e give = give x refl (let z : ◌≡◌ {A = Option Command} (Some (f x)) (Some command) = e in cc)
 
 -- a line that is a word alone
-lone : (verb word : List ℕ) (rest : Option (List ℕ)) → bytes_eq verb word ≡ true → rest ≡ None → verb ++ followed rest ≡ word
-lone verb word rest test none = ap (λ v. v ++ followed rest) ((bytes_eq-Decides verb word).0 test) ∙ rw none (append-nil word)
+lone : (word : List ℕ) (rest : Option (List ℕ)) → rest ≡ None → word ++ followed rest ≡ word
+lone word rest none = rw none (append-nil word)
 
--- HDU h was read of what follows the first word
-record IsHduRead (h : ℕ) (text : Option (List ℕ)) (rest : Option (List ℕ)) : Type 0 where
-  pub hdu : List ℕ
-  pub is : text ≡ Some (hdu ++ followed rest)
-  pub is_hdu : IsNumber hdu h
+-- what names HDU h, where a form of what follows it is so
+abbrev NamesIn : List ℕ → ℕ → Option (List ℕ) → List ℕ → Type 1
+NamesIn word h more line = (IsForm : Option (List ℕ) → Type 0) → IsForm more → Names word h IsForm line
 
--- a line that is this word, HDU h and what follows of a form
-names : (verb word : List ℕ) (h : ℕ) (text rest : Option (List ℕ)) (IsForm : Option (List ℕ) → Type 0) → IsHduRead h text rest → bytes_eq verb word ≡ true → IsForm rest → Names word h IsForm (verb ++ followed text)
-names verb word h text rest IsForm read test form = record {
-  hdu = read.hdu;
-  rest = rest;
-  is = ap (λ v. v ++ followed text) ((bytes_eq-Decides verb word).0 test) ∙ ap (λ r. word ++ followed r) read.is;
-  is_hdu = read.is_hdu;
-  form = form;
-}
+-- a line of a word, an HDU and words of which a command is made
+of_words : {W : Type 0} (word : List ℕ) (rest : Option (List ℕ)) (words : Option (List ℕ) → Option W) (made : ℕ → W → Command) (command : Command) → (number_first rest >>= (λ hdu. option_map (made hdu.0) (words hdu.1))) ≡ Some command
+    → ((h : ℕ) (w : W) (more : Option (List ℕ)) → words more ≡ Some w → NamesIn word h more (word ++ followed rest) → Says (word ++ followed rest) (made h w)) → Says (word ++ followed rest) command
+of_words word rest words made command e form =
+    option_and_then_some _ (number_first rest) command e (λ hdu is_hdu e1.
+    mapped (made hdu.0) (words hdu.1) command e1 (λ w is same.
+    let h = NumberFirst-is rest hdu is_hdu in
+    rw (sym same) (form hdu.0 w hdu.1 is (λ IsForm so. record { hdu = h.word; rest = hdu.1; is = ap (λ r. word ++ followed r) h.is; is_hdu = h.is_number; form = so }))))
 
--- what a word asks of HDU h has the form of that
-asked_by-says : (verb : List ℕ) (h : ℕ) (text rest : Option (List ℕ)) (command : Command) → IsHduRead h text rest → asked_by verb h rest ≡ Some command → Says (verb ++ followed text) command
-unfolding asked_by
-asked_by-says verb h text rest command read said =
-    said_either (bytes_eq verb (codes "get")) _ _ command said
-    (λ test e. mapped (λ w. Get h w) (name_word rest) command e (λ w is same. rw same (names verb (codes "get") h text rest _ read test (name_word-says rest w is))))
-    (λ not_get e1. said_either (bytes_eq verb (codes "pos")) _ _ command e1
-    (λ test e. mapped (λ w. Positions h w) (name_word rest) command e (λ w is same. rw same (names verb (codes "pos") h text rest _ read test (name_word-says rest w is))))
-    (λ not_pos e2. said_either (bytes_eq verb (codes "stat")) _ _ command e2
-    (λ test e. let last = alone-is rest (Statistics h) command e in rw (sym last.1) (names verb (codes "stat") h text rest _ read test last.0))
-    (λ not_stat e3. said_either (bytes_eq verb (codes "rect")) _ _ command e3
-    (λ test e. mapped (λ w. Rectangle h w.0 w.1) (rectangle_word rest) command e (λ w is same. rw same (names verb (codes "rect") h text rest _ read test (rectangle_word-says rest w is))))
-    (λ not_rect e4. said_either (bytes_eq verb (codes "sum")) _ _ command e4
-    (λ test e. let last = alone-is rest (Sums h) command e in rw (sym last.1) (names verb (codes "sum") h text rest _ read test last.0))
-    (λ not_sum e5. absurd (let z : ◌≡◌ {A = Option Command} None (Some command) = e5 in cc))))))
+-- a line of a word and an HDU, of which a command is made
+of_hdu : (word : List ℕ) (rest : Option (List ℕ)) (made : ℕ → Command) (command : Command) → (number_first rest >>= (λ hdu. alone hdu.1 (made hdu.0))) ≡ Some command
+    → ((h : ℕ) → Names word h IsAlone (word ++ followed rest) → Says (word ++ followed rest) (made h)) → Says (word ++ followed rest) command
+of_hdu word rest made command e form =
+    option_and_then_some _ (number_first rest) command e (λ hdu is_hdu e1.
+    let last = alone-is hdu.1 (made hdu.0) command e1 in
+    let h = NumberFirst-is rest hdu is_hdu in
+    rw (sym last.1) (form hdu.0 (record { hdu = h.word; rest = hdu.1; is = ap (λ r. word ++ followed r) h.is; is_hdu = h.is_number; form = last.0 })))
 
 -- words of a rectangle that is filled come to a fill
-filled : (verb : List ℕ) (h : ℕ) (text rest : Option (List ℕ)) (words : List ℕ × List ℕ × Paint) → IsHduRead h text rest → bytes_eq verb (codes "fill") ≡ true → fill_words rest ≡ Some words → Says (verb ++ followed text) (Edit (Hdu h (Pixels words.0 words.1 words.2)))
+fill_words-word : (rest : Option (List ℕ)) (words : List ℕ × List ℕ × Paint) → fill_words rest ≡ Some words → paint_word words.2 ≡ codes "fill"
 unfolding fill_words
-filled verb h text rest words read test e =
-    let form = fill_words-says rest words e in
+fill_words-word rest words e =
     option_and_then_some _ (rectangle_first rest) words e (λ area is_area e1.
     option_and_then_some _ (value_last area.2) words e1 (λ value is_value e2.
-    let same : ◌≡◌ {A = List ℕ × List ℕ × Paint} words (area.0, area.1, Fill value) = cc in
-    rw same (names verb (codes "fill") h text rest _ read test (rw same at form))))
+    let same : ◌≡◌ {A = List ℕ × List ℕ × Paint} words (area.0, area.1, Fill value) = cc in rw same refl))
 
 -- and of one that is written to a write
-written : (verb : List ℕ) (h : ℕ) (text rest : Option (List ℕ)) (words : List ℕ × List ℕ × Paint) → IsHduRead h text rest → bytes_eq verb (codes "write") ≡ true → write_words rest ≡ Some words → Says (verb ++ followed text) (Edit (Hdu h (Pixels words.0 words.1 words.2)))
+write_words-word : (rest : Option (List ℕ)) (words : List ℕ × List ℕ × Paint) → write_words rest ≡ Some words → paint_word words.2 ≡ codes "write"
 unfolding write_words
-written verb h text rest words read test e =
-    let form = write_words-says rest words e in
+write_words-word rest words e =
     option_and_then_some _ (rectangle_first rest) words e (λ area is_area e1.
     option_and_then_some _ (values_last area.2) words e1 (λ values are_values e2.
-    let same : ◌≡◌ {A = List ℕ × List ℕ × Paint} words (area.0, area.1, Write values) = cc in
-    rw same (names verb (codes "write") h text rest _ read test (rw same at form))))
+    let same : ◌≡◌ {A = List ℕ × List ℕ × Paint} words (area.0, area.1, Write values) = cc in rw same refl))
 
--- what a word does to the pixels of HDU h or to the whole, or asks, has the form of that
-hdu_said_by-says : (verb : List ℕ) (h : ℕ) (text rest : Option (List ℕ)) (command : Command) → IsHduRead h text rest → hdu_said_by verb h rest ≡ Some command → Says (verb ++ followed text) command
-unfolding hdu_said_by
-hdu_said_by-says verb h text rest command read said =
-    said_either (bytes_eq verb (codes "fill")) _ _ command said
-    (λ test e. mapped (λ w. Edit (Hdu h (Pixels w.0 w.1 w.2))) (fill_words rest) command e (λ w is same. rw same (filled verb h text rest w read test is)))
-    (λ not_fill e1. said_either (bytes_eq verb (codes "write")) _ _ command e1
-    (λ test e. mapped (λ w. Edit (Hdu h (Pixels w.0 w.1 w.2))) (write_words rest) command e (λ w is same. rw same (written verb h text rest w read test is)))
-    (λ not_write e2. said_either (bytes_eq verb (codes "new")) _ _ command e2
-    (λ test e. mapped (λ w. Edit (NewImage h w.0 w.1)) (new_words rest) command e (λ w is same. rw same (names verb (codes "new") h text rest _ read test (new_words-says rest w is))))
-    (λ not_new e3. said_either (bytes_eq verb (codes "rm")) _ _ command e3
-    (λ test e. let last = alone-is rest (Edit (RemoveHdu h)) command e in rw (sym last.1) (names verb (codes "rm") h text rest _ read test last.0))
-    (λ not_rm e4. said_either (bytes_eq verb (codes "stamp")) _ _ command e4
-    (λ test e. let last = alone-is rest (Edit (Hdu h Stamp)) command e in rw (sym last.1) (names verb (codes "stamp") h text rest _ read test last.0))
-    (λ not_stamp e5. asked_by-says verb h text rest command read e5)))))
+-- what a verb and a rest say has the form of that
+said_by-says : (v : Verb) (rest : Option (List ℕ)) (command : Command) → said_by v rest ≡ Some command → Says (verb_word v ++ followed rest) command
+unfolding said_by said_of
+said_by-says verb.Insert rest command e = of_words (codes "ins") rest card_words (λ h w. cards_command h (Insert w.0 w.1)) command e (λ h w more is names. names _ (card_words-says more w is))
+said_by-says verb.Put rest command e = of_words (codes "put") rest card_words (λ h w. cards_command h (Put w.0 w.1)) command e (λ h w more is names. names _ (card_words-says more w is))
+said_by-says verb.Delete rest command e = of_words (codes "del") rest place_word (λ h w. cards_command h (Delete w)) command e (λ h w more is names. names _ (place_word-says more w is))
+said_by-says verb.Move rest command e = of_words (codes "mov") rest move_words (λ h w. cards_command h (Move w.0 w.1)) command e (λ h w more is names. names _ (move_words-says more w is))
+said_by-says verb.Set rest command e = of_words (codes "set") rest field_words (λ h w. cards_command h (Set w.0 w.1 w.2)) command e (λ h w more is names. names _ (field_words-says more w is))
+said_by-says verb.Unset rest command e = of_words (codes "unset") rest name_word (λ h w. cards_command h (Unset w)) command e (λ h w more is names. names _ (name_word-says more w is))
+said_by-says verb.Fill rest command e = of_words (codes "fill") rest fill_words (λ h w. Edit (Hdu h (Pixels w.0 w.1 w.2))) command e (λ h w more is names. rw (fill_words-word more w is) (names _ (fill_words-says more w is)))
+said_by-says verb.Write rest command e = of_words (codes "write") rest write_words (λ h w. Edit (Hdu h (Pixels w.0 w.1 w.2))) command e (λ h w more is names. rw (write_words-word more w is) (names _ (write_words-says more w is)))
+said_by-says verb.New rest command e = of_words (codes "new") rest new_words (λ h w. Edit (NewImage h w.0 w.1)) command e (λ h w more is names. names _ (new_words-says more w is))
+said_by-says verb.Remove rest command e = of_hdu (codes "rm") rest (λ h. Edit (RemoveHdu h)) command e (λ h names. names)
+said_by-says verb.Stamp rest command e = of_hdu (codes "stamp") rest (λ h. Edit (Hdu h Stamp)) command e (λ h names. names)
+said_by-says verb.Get rest command e = of_words (codes "get") rest name_word (λ h w. Get h w) command e (λ h w more is names. names _ (name_word-says more w is))
+said_by-says verb.Positions rest command e = of_words (codes "pos") rest name_word (λ h w. Positions h w) command e (λ h w more is names. names _ (name_word-says more w is))
+said_by-says verb.Statistics rest command e = of_hdu (codes "stat") rest (λ h. Statistics h) command e (λ h names. names)
+said_by-says verb.Rectangle rest command e = of_words (codes "rect") rest rectangle_word (λ h w. Rectangle h w.0 w.1) command e (λ h w more is names. names _ (rectangle_word-says more w is))
+said_by-says verb.Sums rest command e = of_hdu (codes "sum") rest (λ h. Sums h) command e (λ h names. names)
+said_by-says verb.Offsets rest command e = let last = alone-is rest Offsets command e in rw (sym last.1) (lone (codes "off") rest last.0)
+said_by-says verb.Report rest command e = let last = alone-is rest Report command e in rw (sym last.1) (lone (codes "rep") rest last.0)
 
--- what a word does to the cards of HDU h, or to others, has the form of that
-cards_said_by-says : (verb : List ℕ) (h : ℕ) (text rest : Option (List ℕ)) (command : Command) → IsHduRead h text rest → cards_said_by verb h rest ≡ Some command → Says (verb ++ followed text) command
-unfolding cards_said_by
-cards_said_by-says verb h text rest command read said =
-    said_either (bytes_eq verb (codes "ins")) _ _ command said
-    (λ test e. mapped (λ w. cards_command h (Insert w.0 w.1)) (card_words rest) command e (λ w is same. rw same (names verb (codes "ins") h text rest _ read test (card_words-says rest w is))))
-    (λ not_ins e1. said_either (bytes_eq verb (codes "put")) _ _ command e1
-    (λ test e. mapped (λ w. cards_command h (Put w.0 w.1)) (card_words rest) command e (λ w is same. rw same (names verb (codes "put") h text rest _ read test (card_words-says rest w is))))
-    (λ not_put e2. said_either (bytes_eq verb (codes "del")) _ _ command e2
-    (λ test e. mapped (λ w. cards_command h (Delete w)) (place_word rest) command e (λ w is same. rw same (names verb (codes "del") h text rest _ read test (place_word-says rest w is))))
-    (λ not_del e3. said_either (bytes_eq verb (codes "mov")) _ _ command e3
-    (λ test e. mapped (λ w. cards_command h (Move w.0 w.1)) (move_words rest) command e (λ w is same. rw same (names verb (codes "mov") h text rest _ read test (move_words-says rest w is))))
-    (λ not_mov e4. said_either (bytes_eq verb (codes "set")) _ _ command e4
-    (λ test e. mapped (λ w. cards_command h (Set w.0 w.1 w.2)) (field_words rest) command e (λ w is same. rw same (names verb (codes "set") h text rest _ read test (field_words-says rest w is))))
-    (λ not_set e5. said_either (bytes_eq verb (codes "unset")) _ _ command e5
-    (λ test e. mapped (λ w. cards_command h (Unset w)) (name_word rest) command e (λ w is same. rw same (names verb (codes "unset") h text rest _ read test (name_word-says rest w is))))
-    (λ not_unset e6. hdu_said_by-says verb h text rest command read e6))))))
-
--- what a word says of a rest has the form of that
-said_by-says : (verb : List ℕ) (rest : Option (List ℕ)) (command : Command) → said_by verb rest ≡ Some command → Says (verb ++ followed rest) command
-unfolding said_by named_by
-said_by-says verb rest command said =
-    said_either (bytes_eq verb (codes "off")) _ _ command said
-    (λ test e.
-    let last = alone-is rest Offsets command e in
-    rw (sym last.1) (lone verb (codes "off") rest test last.0))
-    (λ not_off e1. said_either (bytes_eq verb (codes "rep")) _ _ command e1
-    (λ test e.
-    let last = alone-is rest Report command e in
-    rw (sym last.1) (lone verb (codes "rep") rest test last.0))
-    (λ not_rep e2. option_and_then_some _ (number_first rest) command e2 (λ hdu is_hdu e3.
-    let h = NumberFirst-is rest hdu is_hdu in
-    cards_said_by-says verb hdu.0 rest hdu.1 command (record { hdu = h.word; is = h.is; is_hdu = h.is_number }) e3)))
+-- what a line says by its first word has the form of that
+words_said-says : (line : List ℕ) (command : Command) → words_said line ≡ Some command → Says line command
+unfolding words_said
+words_said-says line command e =
+    option_and_then_some _ (verb_of (first_word line)) command e (λ v is said.
+    let whole : line ≡ verb_word v ++ followed (after_word line) = followed-after_word line ∙ ap (λ word. word ++ followed (after_word line)) (verb_of-says (first_word line) v is) in
+    rw whole (said_by-says v (after_word line) command said))
 
 -- a line that says a command has its form
 pub Says-command_of : (line : List ℕ) (command : Command) → command_of line ≡ Some command → Says line command
 unfolding command_of
 Says-command_of [] command e = let same : command ≡ Nothing = let z : ◌≡◌ {A = Option Command} (Some Nothing) (Some command) = e in cc in rw same (inl refl)
 Says-command_of (byte ∷ bytes) command e =
-    said_either (byte == 35) (Some Nothing) _ command e
+    either_some (byte == 35) (Some Nothing) _ command e
     (λ hash z. let same : command ≡ Nothing = cc in let byte_is : byte ≡ 35 = search rules in rw same (inr (bytes, ap (λ b. b ∷ bytes) byte_is)))
-    (λ other said. rw (followed-after_word (byte ∷ bytes)) (said_by-says (first_word (byte ∷ bytes)) (after_word (byte ∷ bytes)) command said))
+    (λ other said. words_said-says (byte ∷ bytes) command said)

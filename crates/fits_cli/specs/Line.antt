@@ -23,6 +23,8 @@ use Rattle.fits_cli.specs.declared.command.Command.{Command}
 use Rattle.fits_cli.specs.declared.command.Command.TheVariants.{Nothing, Edit, Offsets, Get, Positions, Report, Statistics, Rectangle, Sums}
 use Rattle.fits_cli.specs.declared.line_reading.LineReading.{LineReading}
 use Rattle.fits_cli.specs.declared.line_reading.LineReading.TheVariants.{TooLong, NoCommand, Said}
+use Rattle.fits_cli.specs.declared.verb.Verb.{Verb}
+use Rattle.fits_cli.specs.declared.verb.Verb.TheVariants as verb
 
 -- the first word of a text: its bytes before the first space, or all of them
 unfoldable pub first_word : List ℕ → List ℕ
@@ -261,115 +263,112 @@ new_words rest = do
 abbrev pub cards_command : ℕ → CardEdit → Command
 cards_command h edit = Edit (Hdu h (Cards edit))
 
--- `ins H P CARD`, here and below by H and what follows it
-abbrev pub insert_said : ℕ → Option (List ℕ) → Option Command
-insert_said h rest = option_map (λ said. cards_command h (Insert said.0 said.1)) (card_words rest)
+-- `ins H P CARD`, here and below by H and the words that follow it
+abbrev pub insert_said : ℕ → Option (ℕ × List ℕ) → Option Command
+insert_said h words = option_map (λ said. cards_command h (Insert said.0 said.1)) words
 
 -- `put H P CARD`
-abbrev pub put_said : ℕ → Option (List ℕ) → Option Command
-put_said h rest = option_map (λ said. cards_command h (Put said.0 said.1)) (card_words rest)
+abbrev pub put_said : ℕ → Option (ℕ × List ℕ) → Option Command
+put_said h words = option_map (λ said. cards_command h (Put said.0 said.1)) words
 
 -- `del H P`
-abbrev pub delete_said : ℕ → Option (List ℕ) → Option Command
-delete_said h rest = option_map (λ place. cards_command h (Delete place)) (place_word rest)
+abbrev pub delete_said : ℕ → Option ℕ → Option Command
+delete_said h word = option_map (λ place. cards_command h (Delete place)) word
 
 -- `mov H P Q`
-abbrev pub move_said : ℕ → Option (List ℕ) → Option Command
-move_said h rest = option_map (λ said. cards_command h (Move said.0 said.1)) (move_words rest)
+abbrev pub move_said : ℕ → Option (ℕ × ℕ) → Option Command
+move_said h words = option_map (λ said. cards_command h (Move said.0 said.1)) words
 
 -- `set H NAME FIELD`
-abbrev pub set_said : ℕ → Option (List ℕ) → Option Command
-set_said h rest = option_map (λ said. cards_command h (Set said.0 said.1 said.2)) (field_words rest)
+abbrev pub set_said : ℕ → Option (List ℕ × Value × Option (List ℕ)) → Option Command
+set_said h words = option_map (λ said. cards_command h (Set said.0 said.1 said.2)) words
 
 -- `unset H NAME`
 abbrev pub unset_said : ℕ → Option (List ℕ) → Option Command
-unset_said h rest = option_map (λ name. cards_command h (Unset name)) (name_word rest)
+unset_said h word = option_map (λ name. cards_command h (Unset name)) word
 
 -- `fill H RECT V` or `write H RECT V V ..`
 abbrev pub paint_said : ℕ → Option (List ℕ × List ℕ × Paint) → Option Command
 paint_said h words = option_map (λ said. Edit (Hdu h (Pixels said.0 said.1 said.2))) words
 
 -- `new H KIND AXES`
-abbrev pub new_said : ℕ → Option (List ℕ) → Option Command
-new_said h rest = option_map (λ said. Edit (NewImage h said.0 said.1)) (new_words rest)
-
--- `rm H`
-abbrev pub remove_said : ℕ → Option (List ℕ) → Option Command
-remove_said h rest = alone rest (Edit (RemoveHdu h))
-
--- `stamp H`
-abbrev pub stamp_said : ℕ → Option (List ℕ) → Option Command
-stamp_said h rest = alone rest (Edit (Hdu h Stamp))
+abbrev pub new_said : ℕ → Option (Kind × List ℕ) → Option Command
+new_said h words = option_map (λ said. Edit (NewImage h said.0 said.1)) words
 
 -- `get H NAME`
 abbrev pub get_said : ℕ → Option (List ℕ) → Option Command
-get_said h rest = option_map (λ name. Get h name) (name_word rest)
+get_said h word = option_map (λ name. Get h name) word
 
 -- `pos H NAME`
 abbrev pub positions_said : ℕ → Option (List ℕ) → Option Command
-positions_said h rest = option_map (λ name. Positions h name) (name_word rest)
-
--- `stat H`
-abbrev pub statistics_said : ℕ → Option (List ℕ) → Option Command
-statistics_said h rest = alone rest (Statistics h)
+positions_said h word = option_map (λ name. Positions h name) word
 
 -- `rect H RECT`
-abbrev pub rectangle_said : ℕ → Option (List ℕ) → Option Command
-rectangle_said h rest = option_map (λ said. Rectangle h said.0 said.1) (rectangle_word rest)
+abbrev pub rectangle_said : ℕ → Option (List ℕ × List ℕ) → Option Command
+rectangle_said h word = option_map (λ said. Rectangle h said.0 said.1) word
 
--- `sum H`
-abbrev pub sums_said : ℕ → Option (List ℕ) → Option Command
-sums_said h rest = alone rest (Sums h)
-
--- what a line asks of HDU h, by its first word and what follows H
-unfoldable pub asked_by : List ℕ → ℕ → Option (List ℕ) → Option Command
-asked_by verb h rest =
-    if bytes_eq verb (codes "get") then get_said h rest
-    else if bytes_eq verb (codes "pos") then positions_said h rest
-    else if bytes_eq verb (codes "stat") then statistics_said h rest
-    else if bytes_eq verb (codes "rect") then rectangle_said h rest
-    else if bytes_eq verb (codes "sum") then sums_said h rest
+-- the verb that a word is
+unfoldable pub verb_of : List ℕ → Option Verb
+verb_of word =
+    if bytes_eq word (codes "ins") then Some verb.Insert
+    else if bytes_eq word (codes "put") then Some verb.Put
+    else if bytes_eq word (codes "del") then Some verb.Delete
+    else if bytes_eq word (codes "mov") then Some verb.Move
+    else if bytes_eq word (codes "set") then Some verb.Set
+    else if bytes_eq word (codes "unset") then Some verb.Unset
+    else if bytes_eq word (codes "fill") then Some verb.Fill
+    else if bytes_eq word (codes "write") then Some verb.Write
+    else if bytes_eq word (codes "new") then Some verb.New
+    else if bytes_eq word (codes "rm") then Some verb.Remove
+    else if bytes_eq word (codes "stamp") then Some verb.Stamp
+    else if bytes_eq word (codes "get") then Some verb.Get
+    else if bytes_eq word (codes "pos") then Some verb.Positions
+    else if bytes_eq word (codes "stat") then Some verb.Statistics
+    else if bytes_eq word (codes "rect") then Some verb.Rectangle
+    else if bytes_eq word (codes "sum") then Some verb.Sums
+    else if bytes_eq word (codes "off") then Some verb.Offsets
+    else if bytes_eq word (codes "rep") then Some verb.Report
     else None
 
--- what it does to the pixels of HDU h or to the whole, or what it asks
-unfoldable pub hdu_said_by : List ℕ → ℕ → Option (List ℕ) → Option Command
-hdu_said_by verb h rest =
-    if bytes_eq verb (codes "fill") then paint_said h (fill_words rest)
-    else if bytes_eq verb (codes "write") then paint_said h (write_words rest)
-    else if bytes_eq verb (codes "new") then new_said h rest
-    else if bytes_eq verb (codes "rm") then remove_said h rest
-    else if bytes_eq verb (codes "stamp") then stamp_said h rest
-    else asked_by verb h rest
+-- what a verb says of HDU h, by what follows h; the two that name no HDU say nothing of one
+unfoldable pub said_of : Verb → ℕ → Option (List ℕ) → Option Command
+said_of verb.Insert h rest = insert_said h (card_words rest)
+said_of verb.Put h rest = put_said h (card_words rest)
+said_of verb.Delete h rest = delete_said h (place_word rest)
+said_of verb.Move h rest = move_said h (move_words rest)
+said_of verb.Set h rest = set_said h (field_words rest)
+said_of verb.Unset h rest = unset_said h (name_word rest)
+said_of verb.Fill h rest = paint_said h (fill_words rest)
+said_of verb.Write h rest = paint_said h (write_words rest)
+said_of verb.New h rest = new_said h (new_words rest)
+said_of verb.Remove h rest = alone rest (Edit (RemoveHdu h))
+said_of verb.Stamp h rest = alone rest (Edit (Hdu h Stamp))
+said_of verb.Get h rest = get_said h (name_word rest)
+said_of verb.Positions h rest = positions_said h (name_word rest)
+said_of verb.Statistics h rest = alone rest (Statistics h)
+said_of verb.Rectangle h rest = rectangle_said h (rectangle_word rest)
+said_of verb.Sums h rest = alone rest (Sums h)
+said_of verb.Offsets h rest = None
+said_of verb.Report h rest = None
 
--- what it does to the cards of HDU h, or to others
-unfoldable pub cards_said_by : List ℕ → ℕ → Option (List ℕ) → Option Command
-cards_said_by verb h rest =
-    if bytes_eq verb (codes "ins") then insert_said h rest
-    else if bytes_eq verb (codes "put") then put_said h rest
-    else if bytes_eq verb (codes "del") then delete_said h rest
-    else if bytes_eq verb (codes "mov") then move_said h rest
-    else if bytes_eq verb (codes "set") then set_said h rest
-    else if bytes_eq verb (codes "unset") then unset_said h rest
-    else hdu_said_by verb h rest
-
--- what a line says that names an HDU after its first word
-unfoldable pub named_by : List ℕ → Option (List ℕ) → Option Command
-named_by verb rest = do
+-- what a verb and the rest of the line say: most verbs name an HDU first
+unfoldable pub said_by : Verb → Option (List ℕ) → Option Command
+said_by verb.Offsets rest = alone rest Offsets
+said_by verb.Report rest = alone rest Report
+said_by verb rest = do
   hdu ← number_first rest
-  cards_said_by verb hdu.0 hdu.1
+  said_of verb hdu.0 hdu.1
 
--- what the first word of a line and the rest say
-unfoldable pub said_by : List ℕ → Option (List ℕ) → Option Command
-said_by verb rest =
-    if bytes_eq verb (codes "off") then alone rest Offsets
-    else if bytes_eq verb (codes "rep") then alone rest Report
-    else named_by verb rest
+-- what a line that is neither empty nor a comment says by its first word
+unfoldable pub words_said : List ℕ → Option Command
+words_said line = do
+  verb ← verb_of (first_word line)
+  said_by verb (after_word line)
 
 -- what a line says: an empty line and a comment say that nothing is to be done
 unfoldable pub command_of : List ℕ → Option Command
 command_of [] = Some Nothing
-command_of (byte ∷ bytes) =
-    if byte == 35 then Some Nothing else said_by (first_word (byte ∷ bytes)) (after_word (byte ∷ bytes))
+command_of (byte ∷ bytes) = if byte == 35 then Some Nothing else words_said (byte ∷ bytes)
 
 -- a line within the limit says a command, or none
 abbrev pub said_or_none : Option Command → LineReading

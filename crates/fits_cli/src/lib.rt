@@ -31,6 +31,7 @@ mod summing;
 mod telling;
 mod value_line;
 mod value_words;
+mod verb;
 mod verifying;
 mod words;
 

@@ -1,11 +1,10 @@
 //! The lines of a script: which bytes are which command.
 ghost use Rattle.std.specs.Prelude.{◌≡◌, IfOk, IsErrOf, OnErr};
 ghost use Rattle.std.specs.Option.{option_copied};
-ghost use Rattle.fits_cli.specs.Line.{alone, asked_by, cards_command, cards_said_by, command_of};
-ghost use Rattle.fits_cli.specs.Line.{hdu_said_by, named_by, paint_said, reading_of, said_by};
-ghost use Rattle.fits_cli.specs.Line.{delete_said, get_said, insert_said, move_said, new_said, put_said};
-ghost use Rattle.fits_cli.specs.Line.{positions_said, rectangle_said, said_or_none, set_said, unset_said};
-ghost use Rattle.fits_cli.specs.Line.{ReadingNeedsMemory};
+ghost use Rattle.fits_cli.specs.Line.{cards_command, command_of, reading_of, said_by, said_of};
+ghost use Rattle.fits_cli.specs.Line.{said_or_none, words_said, ReadingNeedsMemory};
+ghost use Rattle.fits_cli.specs.Line.{delete_said, get_said, insert_said, move_said, new_said, paint_said};
+ghost use Rattle.fits_cli.specs.Line.{positions_said, put_said, rectangle_said, set_said, unset_said};
 ghost use Rattle.fits_cli.specs.declared.command.Command.{Command};
 
 use crate::command::Command;
@@ -13,11 +12,16 @@ use crate::image_words::new_words;
 use crate::limits::LINE_LIMIT;
 use crate::line_fault::LineFault;
 use crate::line_reading::LineReading;
+use crate::verb::{Verb, verb_of};
 use crate::words::{
-    alone, card_words, cut_word, field_words, fill_words, is_word, move_words, name_word,
-    number_first, place_word, rectangle_word, write_words,
+    alone, card_words, cut_word, field_words, fill_words, move_words, name_word, number_first,
+    place_word, rectangle_word, write_words,
 };
+use fits_card::{Card, Name};
+use fits_hdu::Kind;
+use fits_rules::Axes;
 use fits_session::{CardEdit, Corner, Edit, HduEdit, Paint};
+use fits_value::{Text, Value};
 use std::alloc::{AllocError, Global};
 
 /// The command that a line says, without its line feed.
@@ -58,123 +62,71 @@ fn command_of(alloc: Global, line: &[u8]) -> Result<Option<Command>, AllocError>
 {
     match line {
         [] | [b'#', ..] => Ok(Some(Command::Nothing)),
-        _ => {
-            let (verb, rest) = cut_word(line);
-            said_by(alloc, verb, rest)
-        }
+        _ => words_said(alloc, line),
     }
 }
 
-// What a line says by its first word: a question of the file, or something of one HDU.
+// What a line says by its first word.
+#[tactic(auto, unfolding(crate::specs::Line::words_said))]
+fn words_said(alloc: Global, line: &[u8]) -> Result<Option<Command>, AllocError>
+    ensures ok { IfOk result (λ said. said ≡ words_said line.now) }
+    ensures err { OnErr result (ReadingNeedsMemory (said_or_none (words_said line.now))) }
+{
+    let (word, rest) = cut_word(line);
+    match verb_of(word) {
+        Some(verb) => said_by(alloc, verb, rest),
+        None => Ok(None),
+    }
+}
+
+// What a verb and the rest of the line say: most verbs name an HDU first.
 #[tactic(auto, unfolding(crate::specs::Line::said_by))]
-fn said_by(alloc: Global, verb: &[u8], rest: Option<&[u8]>) -> Result<Option<Command>, AllocError>
-    ensures ok { IfOk result (λ said. said ≡ said_by verb.now (option_copied rest.entry)) }
+fn said_by(alloc: Global, verb: Verb, rest: Option<&[u8]>) -> Result<Option<Command>, AllocError>
+    ensures ok { IfOk result (λ said. said ≡ said_by verb (option_copied rest.entry)) }
     ensures err { OnErr result
-        (ReadingNeedsMemory (said_or_none (said_by verb.now (option_copied rest.entry)))) }
+        (ReadingNeedsMemory (said_or_none (said_by verb (option_copied rest.entry)))) }
 {
-    if is_word(verb, b"off") {
-        Ok(alone(rest, Command::Offsets))
-    } else if is_word(verb, b"rep") {
-        Ok(alone(rest, Command::Report))
-    } else {
-        named_by(alloc, verb, rest)
+    match verb {
+        Verb::Offsets => Ok(alone(rest, Command::Offsets)),
+        Verb::Report => Ok(alone(rest, Command::Report)),
+        _ => match number_first(rest) {
+            Some((hdu, rest)) => said_of(alloc, verb, hdu, rest),
+            None => Ok(None),
+        },
     }
 }
 
-// What a line says of the HDU that it names after its first word.
-#[tactic(auto, unfolding(crate::specs::Line::named_by))]
-fn named_by(alloc: Global, verb: &[u8], rest: Option<&[u8]>) -> Result<Option<Command>, AllocError>
-    ensures ok { IfOk result (λ said. said ≡ named_by verb.now (option_copied rest.entry)) }
-    ensures err { OnErr result
-        (ReadingNeedsMemory (said_or_none (named_by verb.now (option_copied rest.entry)))) }
-{
-    let Some((hdu, rest)) = number_first(rest) else {
-        return Ok(None);
-    };
-    cards_said_by(alloc, verb, hdu, rest)
-}
-
-// What it does to the cards of the HDU, or to others.
-#[tactic(auto, unfolding(crate::specs::Line::cards_said_by))]
-fn cards_said_by(
+// What a verb says of an HDU, by what follows the HDU's number.
+#[tactic(auto, unfolding(crate::specs::Line::said_of))]
+fn said_of(
     alloc: Global,
-    verb: &[u8],
+    verb: Verb,
     hdu: usize,
     rest: Option<&[u8]>,
 ) -> Result<Option<Command>, AllocError>
-    ensures ok { IfOk result (λ said. said ≡ cards_said_by verb.now hdu (option_copied rest.entry)) }
+    ensures ok { IfOk result (λ said. said ≡ said_of verb hdu (option_copied rest.entry)) }
     ensures err { OnErr result
-        (ReadingNeedsMemory (said_or_none (cards_said_by verb.now hdu (option_copied rest.entry)))) }
+        (ReadingNeedsMemory (said_or_none (said_of verb hdu (option_copied rest.entry)))) }
 {
-    if is_word(verb, b"ins") {
-        Ok(insert_said(hdu, rest))
-    } else if is_word(verb, b"put") {
-        Ok(put_said(hdu, rest))
-    } else if is_word(verb, b"del") {
-        Ok(delete_said(hdu, rest))
-    } else if is_word(verb, b"mov") {
-        Ok(move_said(hdu, rest))
-    } else if is_word(verb, b"set") {
-        set_said(alloc, hdu, rest)
-    } else if is_word(verb, b"unset") {
-        Ok(unset_said(hdu, rest))
-    } else {
-        hdu_said_by(alloc, verb, hdu, rest)
-    }
-}
-
-// What it does to the pixels of the HDU or to the whole, or what it asks.
-#[tactic(auto, unfolding(crate::specs::Line::hdu_said_by))]
-fn hdu_said_by(
-    alloc: Global,
-    verb: &[u8],
-    hdu: usize,
-    rest: Option<&[u8]>,
-) -> Result<Option<Command>, AllocError>
-    ensures ok { IfOk result (λ said. said ≡ hdu_said_by verb.now hdu (option_copied rest.entry)) }
-    ensures err { OnErr result
-        (ReadingNeedsMemory (said_or_none (hdu_said_by verb.now hdu (option_copied rest.entry)))) }
-{
-    if is_word(verb, b"fill") {
-        Ok(paint_said(hdu, fill_words(alloc, rest)?))
-    } else if is_word(verb, b"write") {
-        Ok(paint_said(hdu, write_words(alloc, rest)?))
-    } else if is_word(verb, b"new") {
-        new_said(alloc, hdu, rest)
-    } else if is_word(verb, b"rm") {
-        Ok(alone(rest, Command::Edit(Edit::RemoveHdu { hdu })))
-    } else if is_word(verb, b"stamp") {
-        Ok(alone(rest, hdu_command(hdu, HduEdit::Stamp)))
-    } else {
-        asked_by(alloc, verb, hdu, rest)
-    }
-}
-
-// What it asks of the HDU.
-#[tactic(auto, unfolding(crate::specs::Line::asked_by))]
-fn asked_by(
-    alloc: Global,
-    verb: &[u8],
-    hdu: usize,
-    rest: Option<&[u8]>,
-) -> Result<Option<Command>, AllocError>
-    ensures ok { IfOk result (λ said. said ≡ asked_by verb.now hdu (option_copied rest.entry)) }
-    ensures err { OnErr result
-        (ReadingNeedsMemory (said_or_none (asked_by verb.now hdu (option_copied rest.entry)))) }
-{
-    if is_word(verb, b"get") {
-        Ok(get_said(hdu, rest))
-    } else if is_word(verb, b"pos") {
-        Ok(positions_said(hdu, rest))
-    } else if is_word(verb, b"stat") {
-        Ok(alone(rest, Command::Statistics { hdu }))
-    } else if is_word(verb, b"rect") {
-        rectangle_said(alloc, hdu, rest)
-    } else if is_word(verb, b"sum") {
-        Ok(alone(rest, Command::Sums { hdu }))
-    } else {
-        Ok(None)
-    }
+    Ok(match verb {
+        Verb::Insert => insert_said(hdu, card_words(rest)),
+        Verb::Put => put_said(hdu, card_words(rest)),
+        Verb::Delete => delete_said(hdu, place_word(rest)),
+        Verb::Move => move_said(hdu, move_words(rest)),
+        Verb::Set => set_said(hdu, field_words(alloc, rest)?),
+        Verb::Unset => unset_said(hdu, name_word(rest)),
+        Verb::Fill => paint_said(hdu, fill_words(alloc, rest)?),
+        Verb::Write => paint_said(hdu, write_words(alloc, rest)?),
+        Verb::New => new_said(hdu, new_words(alloc, rest)?),
+        Verb::Remove => alone(rest, Command::Edit(Edit::RemoveHdu { hdu })),
+        Verb::Stamp => alone(rest, hdu_command(hdu, HduEdit::Stamp)),
+        Verb::Get => get_said(hdu, name_word(rest)),
+        Verb::Positions => positions_said(hdu, name_word(rest)),
+        Verb::Statistics => alone(rest, Command::Statistics { hdu }),
+        Verb::Rectangle => rectangle_said(hdu, rectangle_word(alloc, rest)?),
+        Verb::Sums => alone(rest, Command::Sums { hdu }),
+        Verb::Offsets | Verb::Report => None,
+    })
 }
 
 // An edit of an HDU.
@@ -191,60 +143,56 @@ fn cards_command(hdu: usize, edit: CardEdit) -> Command
     hdu_command(hdu, HduEdit::Cards(edit))
 }
 
-// `ins H P CARD`, here and below by H and what follows it.
-fn insert_said(hdu: usize, rest: Option<&[u8]>) -> Option<Command>
-    ensures { result ≡ insert_said hdu (option_copied rest.entry) }
+// `ins H P CARD`, here and below by H and the words that follow it.
+fn insert_said(hdu: usize, words: Option<(usize, Card)>) -> Option<Command>
+    ensures { result ≡ insert_said hdu words }
 {
-    let (place, card) = card_words(rest)?;
+    let (place, card) = words?;
     Some(cards_command(hdu, CardEdit::Insert { place, card }))
 }
 
 // `put H P CARD`
-fn put_said(hdu: usize, rest: Option<&[u8]>) -> Option<Command>
-    ensures { result ≡ put_said hdu (option_copied rest.entry) }
+fn put_said(hdu: usize, words: Option<(usize, Card)>) -> Option<Command>
+    ensures { result ≡ put_said hdu words }
 {
-    let (place, card) = card_words(rest)?;
+    let (place, card) = words?;
     Some(cards_command(hdu, CardEdit::Put { place, card }))
 }
 
 // `del H P`
-fn delete_said(hdu: usize, rest: Option<&[u8]>) -> Option<Command>
-    ensures { result ≡ delete_said hdu (option_copied rest.entry) }
+fn delete_said(hdu: usize, word: Option<usize>) -> Option<Command>
+    ensures { result ≡ delete_said hdu word }
 {
-    let place = place_word(rest)?;
+    let place = word?;
     Some(cards_command(hdu, CardEdit::Delete { place }))
 }
 
 // `mov H P Q`
-fn move_said(hdu: usize, rest: Option<&[u8]>) -> Option<Command>
-    ensures { result ≡ move_said hdu (option_copied rest.entry) }
+fn move_said(hdu: usize, words: Option<(usize, usize)>) -> Option<Command>
+    ensures { result ≡ move_said hdu words }
 {
-    let (from, to) = move_words(rest)?;
+    let (from, to) = words?;
     Some(cards_command(hdu, CardEdit::Move { from, to }))
 }
 
 // `set H NAME FIELD`
-fn set_said(alloc: Global, hdu: usize, rest: Option<&[u8]>) -> Result<Option<Command>, AllocError>
-    ensures ok { IfOk result (λ said. said ≡ set_said hdu (option_copied rest.entry)) }
-    ensures err { OnErr result
-        (ReadingNeedsMemory (said_or_none (set_said hdu (option_copied rest.entry)))) }
+fn set_said(hdu: usize, words: Option<(Name, Value, Option<Text>)>) -> Option<Command>
+    ensures { result ≡ set_said hdu words }
 {
-    let Some((name, value, comment)) = field_words(alloc, rest)? else {
-        return Ok(None);
-    };
+    let (name, value, comment) = words?;
     let edit = CardEdit::Set {
         name,
         value,
         comment,
     };
-    Ok(Some(cards_command(hdu, edit)))
+    Some(cards_command(hdu, edit))
 }
 
 // `unset H NAME`
-fn unset_said(hdu: usize, rest: Option<&[u8]>) -> Option<Command>
-    ensures { result ≡ unset_said hdu (option_copied rest.entry) }
+fn unset_said(hdu: usize, word: Option<Name>) -> Option<Command>
+    ensures { result ≡ unset_said hdu word }
 {
-    let name = name_word(rest)?;
+    let name = word?;
     Some(cards_command(hdu, CardEdit::Unset { name }))
 }
 
@@ -257,49 +205,37 @@ fn paint_said(hdu: usize, words: Option<(Corner, Corner, Paint)>) -> Option<Comm
 }
 
 // `new H KIND AXES`
-fn new_said(alloc: Global, hdu: usize, rest: Option<&[u8]>) -> Result<Option<Command>, AllocError>
-    ensures ok { IfOk result (λ said. said ≡ new_said hdu (option_copied rest.entry)) }
-    ensures err { OnErr result
-        (ReadingNeedsMemory (said_or_none (new_said hdu (option_copied rest.entry)))) }
+fn new_said(hdu: usize, words: Option<(Kind, Axes)>) -> Option<Command>
+    ensures { result ≡ new_said hdu words }
 {
-    let Some((kind, axes)) = new_words(alloc, rest)? else {
-        return Ok(None);
-    };
-    Ok(Some(Command::Edit(Edit::NewImage {
+    let (kind, axes) = words?;
+    Some(Command::Edit(Edit::NewImage {
         at: hdu,
         kind,
         axes,
-    })))
+    }))
 }
 
 // `get H NAME`
-fn get_said(hdu: usize, rest: Option<&[u8]>) -> Option<Command>
-    ensures { result ≡ get_said hdu (option_copied rest.entry) }
+fn get_said(hdu: usize, word: Option<Name>) -> Option<Command>
+    ensures { result ≡ get_said hdu word }
 {
-    let name = name_word(rest)?;
+    let name = word?;
     Some(Command::Get { hdu, name })
 }
 
 // `pos H NAME`
-fn positions_said(hdu: usize, rest: Option<&[u8]>) -> Option<Command>
-    ensures { result ≡ positions_said hdu (option_copied rest.entry) }
+fn positions_said(hdu: usize, word: Option<Name>) -> Option<Command>
+    ensures { result ≡ positions_said hdu word }
 {
-    let name = name_word(rest)?;
+    let name = word?;
     Some(Command::Positions { hdu, name })
 }
 
 // `rect H RECT`
-fn rectangle_said(
-    alloc: Global,
-    hdu: usize,
-    rest: Option<&[u8]>,
-) -> Result<Option<Command>, AllocError>
-    ensures ok { IfOk result (λ said. said ≡ rectangle_said hdu (option_copied rest.entry)) }
-    ensures err { OnErr result
-        (ReadingNeedsMemory (said_or_none (rectangle_said hdu (option_copied rest.entry)))) }
+fn rectangle_said(hdu: usize, word: Option<(Corner, Corner)>) -> Option<Command>
+    ensures { result ≡ rectangle_said hdu word }
 {
-    let Some((lo, hi)) = rectangle_word(alloc, rest)? else {
-        return Ok(None);
-    };
-    Ok(Some(Command::Rectangle { hdu, lo, hi }))
+    let (lo, hi) = word?;
+    Some(Command::Rectangle { hdu, lo, hi })
 }
