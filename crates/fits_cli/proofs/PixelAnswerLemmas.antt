@@ -12,28 +12,10 @@ use Rattle.fits_session.specs.HduEdit.{pixels_made, shaped}
 use Rattle.fits_session.specs.File.{FileParts}
 use Rattle.fits_session.specs.Query.{by_shape, datasum_in, in_hdu, rect_in, stats_in, verdicts_in, QueryFails}
 use Rattle.fits_session.specs.declared.refusal.Refusal.{Refusal}
-use Rattle.fits_session.specs.declared.refusal.Refusal.TheVariants.{NoHdu, NoCard, NoKey, BadText, EndCard, Shape as OtherShape, BadName, BadValue, NotImage, BadRect, WrongCount, Range, PrimaryStays, TooLarge, Memory}
+use Rattle.fits_session.specs.declared.refusal.Refusal.TheVariants.{NoHdu, NotImage, Memory}
 use Rattle.fits_cli.specs.Answer.{outcome_of, OutcomeNeedsMemory, CommandFails}
-use Rattle.fits_cli.specs.declared.command.Command.{Command}
 use Rattle.fits_cli.specs.declared.command.Command.TheVariants as command
-
--- a refusal other than memory's is the command's
-pub CommandFails-refused : (file : FileParts) (command : Command) (why : Refusal) → (why ≡ Memory → ⊥) → outcome_of file command ≡ Err why → CommandFails file command why
-CommandFails-refused file command Memory other e = absurd (other refl)
-CommandFails-refused file command NoHdu other e = e
-CommandFails-refused file command NoCard other e = e
-CommandFails-refused file command NoKey other e = e
-CommandFails-refused file command BadText other e = e
-CommandFails-refused file command EndCard other e = e
-CommandFails-refused file command OtherShape other e = e
-CommandFails-refused file command BadName other e = e
-CommandFails-refused file command BadValue other e = e
-CommandFails-refused file command NotImage other e = e
-CommandFails-refused file command BadRect other e = e
-CommandFails-refused file command WrongCount other e = e
-CommandFails-refused file command Range other e = e
-CommandFails-refused file command PrimaryStays other e = e
-CommandFails-refused file command TooLarge other e = e
+use Rattle.fits_cli.proofs.RefusalLemmas.{CommandFails-query, CommandFails-refused}
 
 -- statistics that are there, or not
 stats_made : (stats : Option Stats) → pixels_made (ok_or stats pixel.NotImage) ≡ Err Memory → ⊥
@@ -62,21 +44,7 @@ statistics_fails file h why e = CommandFails-refused file (command.Statistics h)
 -- asking for a rectangle fails as the query does
 pub rectangle_fails : (file : FileParts) (h : ℕ) (lo hi : List ℕ) (why : Refusal) → QueryFails (rect_in file h lo hi) why → CommandFails file (command.Rectangle h lo hi) why
 unfolding outcome_of OutcomeNeedsMemory
-rectangle_fails file h lo hi Memory p = p
-rectangle_fails file h lo hi NoHdu e = rw e refl
-rectangle_fails file h lo hi NoCard e = rw e refl
-rectangle_fails file h lo hi NoKey e = rw e refl
-rectangle_fails file h lo hi BadText e = rw e refl
-rectangle_fails file h lo hi EndCard e = rw e refl
-rectangle_fails file h lo hi OtherShape e = rw e refl
-rectangle_fails file h lo hi BadName e = rw e refl
-rectangle_fails file h lo hi BadValue e = rw e refl
-rectangle_fails file h lo hi NotImage e = rw e refl
-rectangle_fails file h lo hi BadRect e = rw e refl
-rectangle_fails file h lo hi WrongCount e = rw e refl
-rectangle_fails file h lo hi Range e = rw e refl
-rectangle_fails file h lo hi PrimaryStays e = rw e refl
-rectangle_fails file h lo hi TooLarge e = rw e refl
+rectangle_fails file h lo hi why fails = CommandFails-query file (command.Rectangle h lo hi) (rect_in file h lo hi) why fails (λ needs. needs) (λ e. rw e refl)
 
 -- the same, where the corners that were asked for are the command's
 pub rectangle_of_corners_fails : (file : FileParts) (h : ℕ) (los his lo hi : List ℕ) (why : Refusal) → los ≡ lo → his ≡ hi → QueryFails (rect_in file h los his) why → CommandFails file (command.Rectangle h lo hi) why

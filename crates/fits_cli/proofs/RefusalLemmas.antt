@@ -1,13 +1,52 @@
--- An edit's refusal as its command's.
-use Rattle.std.proofs.Common.{◌≡◌, inl, inr, refl, Err, Some}
+-- What an edit's or a query's refusal makes of its command.
+use Rattle.std.proofs.Common.{◌≡◌, ap, ◌∙◌, inl, inr, refl, Result, Err, Some}
+use Rattle.std.specs.Prelude.{IsOk}
 use Rattle.fits_session.specs.File.{FileParts}
+use Rattle.fits_session.specs.Query.{QueryFails}
 use Rattle.fits_session.specs.Refusal.{refusal_of, EditNeedsMemory, Fails}
 use Rattle.fits_session.specs.declared.edit.Edit.{Edit}
 use Rattle.fits_session.specs.declared.refusal.Refusal.{Refusal}
-use Rattle.fits_session.specs.declared.refusal.Refusal.TheVariants.{NoHdu, NoCard, NoKey, BadText, EndCard, Shape, BadName, BadValue, NotImage, BadRect, WrongCount, Range, PrimaryStays, TooLarge, Memory}
+use Rattle.fits_session.specs.declared.refusal.Refusal.TheVariants.{NoHdu, NoCard, NoKey, BadText, EndCard, Shape as OtherShape, BadName, BadValue, NotImage, BadRect, WrongCount, Range, PrimaryStays, TooLarge, Memory}
 use Rattle.fits_session.proofs.RefusalLemmas.{never_memory}
 use Rattle.fits_cli.specs.Answer.{outcome_of, OutcomeNeedsMemory, CommandFails}
+use Rattle.fits_cli.specs.declared.command.Command.{Command}
 use Rattle.fits_cli.specs.declared.command.Command.TheVariants as command
+
+-- a command fails by memory where that may run out, and by another refusal where that is its outcome
+pub CommandFails-by : (file : FileParts) (command : Command) (why : Refusal) → (why ≡ Memory → OutcomeNeedsMemory file command) → ((why ≡ Memory → ⊥) → outcome_of file command ≡ Err why) → CommandFails file command why
+CommandFails-by file command Memory memory refused = memory refl
+CommandFails-by file command NoHdu memory refused = refused (λ e. cc)
+CommandFails-by file command NoCard memory refused = refused (λ e. cc)
+CommandFails-by file command NoKey memory refused = refused (λ e. cc)
+CommandFails-by file command BadText memory refused = refused (λ e. cc)
+CommandFails-by file command EndCard memory refused = refused (λ e. cc)
+CommandFails-by file command OtherShape memory refused = refused (λ e. cc)
+CommandFails-by file command BadName memory refused = refused (λ e. cc)
+CommandFails-by file command BadValue memory refused = refused (λ e. cc)
+CommandFails-by file command NotImage memory refused = refused (λ e. cc)
+CommandFails-by file command BadRect memory refused = refused (λ e. cc)
+CommandFails-by file command WrongCount memory refused = refused (λ e. cc)
+CommandFails-by file command Range memory refused = refused (λ e. cc)
+CommandFails-by file command PrimaryStays memory refused = refused (λ e. cc)
+CommandFails-by file command TooLarge memory refused = refused (λ e. cc)
+
+-- a query that fails, and not by memory, has that refusal
+QueryFails-refused : {X : Type 0} (answer : Result X Refusal) (why : Refusal) → QueryFails answer why → (why ≡ Memory → ⊥) → answer ≡ Err why
+QueryFails-refused answer Memory fails other = absurd (other refl)
+QueryFails-refused answer NoHdu fails other = fails
+QueryFails-refused answer NoCard fails other = fails
+QueryFails-refused answer NoKey fails other = fails
+QueryFails-refused answer BadText fails other = fails
+QueryFails-refused answer EndCard fails other = fails
+QueryFails-refused answer OtherShape fails other = fails
+QueryFails-refused answer BadName fails other = fails
+QueryFails-refused answer BadValue fails other = fails
+QueryFails-refused answer NotImage fails other = fails
+QueryFails-refused answer BadRect fails other = fails
+QueryFails-refused answer WrongCount fails other = fails
+QueryFails-refused answer Range fails other = fails
+QueryFails-refused answer PrimaryStays fails other = fails
+QueryFails-refused answer TooLarge fails other = fails
 
 -- a refused edit is a refused command
 refused_edit : (file : FileParts) (edit : Edit) (why : Refusal) → refusal_of file edit ≡ Some why → outcome_of file (command.Edit edit) ≡ Err why
@@ -17,33 +56,15 @@ refused_edit file edit why e = rw e refl
 -- an edit that fails is a command that fails
 pub CommandFails-edit : (file : FileParts) (edit : Edit) (why : Refusal) → Fails (EditNeedsMemory edit) (refusal_of file edit) why → CommandFails file (command.Edit edit) why
 unfolding OutcomeNeedsMemory
-CommandFails-edit file edit Memory (inl e) = absurd (never_memory file edit e)
-CommandFails-edit file edit Memory (inr p) = p.1
-CommandFails-edit file edit NoHdu (inl e) = refused_edit file edit NoHdu e
-CommandFails-edit file edit NoHdu (inr p) = absurd (let e = p.0 in cc)
-CommandFails-edit file edit NoCard (inl e) = refused_edit file edit NoCard e
-CommandFails-edit file edit NoCard (inr p) = absurd (let e = p.0 in cc)
-CommandFails-edit file edit NoKey (inl e) = refused_edit file edit NoKey e
-CommandFails-edit file edit NoKey (inr p) = absurd (let e = p.0 in cc)
-CommandFails-edit file edit BadText (inl e) = refused_edit file edit BadText e
-CommandFails-edit file edit BadText (inr p) = absurd (let e = p.0 in cc)
-CommandFails-edit file edit EndCard (inl e) = refused_edit file edit EndCard e
-CommandFails-edit file edit EndCard (inr p) = absurd (let e = p.0 in cc)
-CommandFails-edit file edit Shape (inl e) = refused_edit file edit Shape e
-CommandFails-edit file edit Shape (inr p) = absurd (let e = p.0 in cc)
-CommandFails-edit file edit BadName (inl e) = refused_edit file edit BadName e
-CommandFails-edit file edit BadName (inr p) = absurd (let e = p.0 in cc)
-CommandFails-edit file edit BadValue (inl e) = refused_edit file edit BadValue e
-CommandFails-edit file edit BadValue (inr p) = absurd (let e = p.0 in cc)
-CommandFails-edit file edit NotImage (inl e) = refused_edit file edit NotImage e
-CommandFails-edit file edit NotImage (inr p) = absurd (let e = p.0 in cc)
-CommandFails-edit file edit BadRect (inl e) = refused_edit file edit BadRect e
-CommandFails-edit file edit BadRect (inr p) = absurd (let e = p.0 in cc)
-CommandFails-edit file edit WrongCount (inl e) = refused_edit file edit WrongCount e
-CommandFails-edit file edit WrongCount (inr p) = absurd (let e = p.0 in cc)
-CommandFails-edit file edit Range (inl e) = refused_edit file edit Range e
-CommandFails-edit file edit Range (inr p) = absurd (let e = p.0 in cc)
-CommandFails-edit file edit PrimaryStays (inl e) = refused_edit file edit PrimaryStays e
-CommandFails-edit file edit PrimaryStays (inr p) = absurd (let e = p.0 in cc)
-CommandFails-edit file edit TooLarge (inl e) = refused_edit file edit TooLarge e
-CommandFails-edit file edit TooLarge (inr p) = absurd (let e = p.0 in cc)
+CommandFails-edit file edit why (inl e) = CommandFails-by file (command.Edit edit) why (λ memory. absurd (never_memory file edit (e ∙ ap Some memory))) (λ other. refused_edit file edit why e)
+CommandFails-edit file edit why (inr p) = CommandFails-by file (command.Edit edit) why (λ memory. p.1) (λ other. absurd (other p.0))
+
+-- a query that fails is a command that fails
+pub CommandFails-query : {X : Type 0} (file : FileParts) (command : Command) (answer : Result X Refusal) (why : Refusal) → QueryFails answer why → (IsOk answer → OutcomeNeedsMemory file command) → (answer ≡ Err why → outcome_of file command ≡ Err why)
+    → CommandFails file command why
+CommandFails-query file command answer why fails needs refused =
+    CommandFails-by file command why (λ memory. needs (rw memory at fails)) (λ other. refused (QueryFails-refused answer why fails other))
+
+-- and so is one that fails without any need of memory
+pub CommandFails-refused : (file : FileParts) (command : Command) (why : Refusal) → (why ≡ Memory → ⊥) → outcome_of file command ≡ Err why → CommandFails file command why
+CommandFails-refused file command why firm e = CommandFails-by file command why (λ memory. absurd (firm memory)) (λ other. e)
