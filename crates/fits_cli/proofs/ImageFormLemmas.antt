@@ -1,19 +1,20 @@
 -- The words of a new image, put together and taken apart.
-use Rattle.std.proofs.Common.{◌≡◌, ℕ, List, [], ◌∷◌, ◌++◌, refl, ap, sym, ◌∙◌, inl, inr, true, false, Option, None, Some}
-use Rattle.std.specs.Prelude.{codes, map}
-use Rattle.std.specs.List.{list_all}
+use Rattle.std.proofs.Common.{◌≡◌, ℕ, List, [], ◌∷◌, ◌++◌, refl, ap, sym, ◌∙◌, inl, inr, true, Option, None, Some}
+use Rattle.std.specs.Prelude.{◌==◌, codes}
+use Rattle.std.specs.List.{slice_split}
 use Rattle.std.specs.Str.{bytes_eq}
-use Rattle.std.proofs.lemmas.Bool.{and_parts, and_from, cases_Bool}
+use Rattle.std.proofs.lemmas.Bool.{cases_Bool}
 use Rattle.std.proofs.lemmas.Option.{option_and_then_some}
 use Rattle.std.proofs.lemmas.Slice.Eq.{bytes_eq-Decides}
-use Rattle.fits_value.specs.Number.{value_of}
 use Rattle.fits_hdu.specs.declared.kind.Kind.{Kind}
 use Rattle.fits_hdu.specs.declared.kind.Kind.TheVariants.{U8, I8, I16, U16, I32, U32, I64, U64}
 use Rattle.fits_cli.specs.Cut.{HasNo}
 use Rattle.fits_cli.specs.Forms.{followed, kind_word, AreNumbers, IsAxes, IsLengths}
-use Rattle.fits_cli.specs.Line.{after_word, are_lengths, axes_last, axes_of_word, comma_parts, first_word, is_number, kind_first, kind_of_word, lengths_of_word}
-use Rattle.fits_cli.proofs.FormLemmas.{first_word-followed, after_word-followed, either_some, followed-after_word, tested_some}
-use Rattle.fits_cli.proofs.PixelFormLemmas.{digit-between, digits_without, is_number-of, is_number-parts, joined-parts, parts-joined, some_parts, EachHasNo}
+use Rattle.fits_cli.specs.Line.{after_word, axes_last, axes_of_word, each_read, first_word, kind_first, kind_of_word, list_of_text, number_of_word}
+use Rattle.fits_cli.proofs.FormLemmas.{first_word-followed, after_word-followed, either_some, followed-after_word, number_of_word-is, IsNumber-is}
+use Rattle.fits_cli.proofs.ListLemmas.{each_read-none, each_read-some, list_of_text-joined}
+use Rattle.fits_cli.proofs.PartsLemmas.{joined-parts, some_parts, EachHasNo}
+use Rattle.fits_cli.proofs.PixelFormLemmas.{digit-between, digits_without}
 
 -- the kind of a kind's word
 kind_of_word-is : (kind : Kind) → kind_of_word (kind_word kind) ≡ Some kind
@@ -74,50 +75,30 @@ kind_first-says (Some text) cut e =
     let same : ◌≡◌ {A = Kind × Option (List ℕ)} cut (kind, after_word text) = cc in
     rw same (ap Some (followed-after_word text ∙ ap (λ w. w ++ followed (after_word text)) (kind_of_word-says (first_word text) kind is))))
 
--- what lengths pass and say
-record LengthsTested (words : List (List ℕ)) (numbers : List ℕ) : Type 0 where
-  pub are : list_all (is_number 18) words ≡ true
-  pub numbers_are : map value_of words ≡ numbers
-  pub no_comma : EachHasNo 44 words
+-- words that are lengths read as their numbers
+lengths_read : (words : List (List ℕ)) (numbers : List ℕ) → AreNumbers words numbers → (each_read number_of_word words ≡ Some numbers) × EachHasNo 44 words
+unfolding each_read
+lengths_read [] [] are = (refl, tt)
+lengths_read [] (n ∷ numbers) are = absurd are
+lengths_read (word ∷ words) [] are = absurd are
+lengths_read (word ∷ words) (n ∷ numbers) are =
+    let others = lengths_read words numbers are.1 in
+    (rw (number_of_word-is word n are.0, others.0) refl, (digits_without 44 word (λ b d. (digit-between b d).1) are.0.digits, others.1))
 
--- words that are lengths
-lengths_tested : (words : List (List ℕ)) (numbers : List ℕ) → AreNumbers words numbers → LengthsTested words numbers
-lengths_tested [] [] are = record { are = refl; numbers_are = refl; no_comma = tt }
-lengths_tested [] (n ∷ numbers) are = absurd are
-lengths_tested (word ∷ words) [] are = absurd are
-lengths_tested (word ∷ words) (n ∷ numbers) are =
-    let first = are.0 in
-    let rest = lengths_tested words numbers are.1 in
-    record {
-      are = and_from (is_number 18 word) (list_all (is_number 18) words) (is_number-of 18 word first.digits first.some first.few) rest.are;
-      numbers_are = ap (λ m. m ∷ map value_of words) (sym first.is) ∙ ap (λ t. n ∷ t) rest.numbers_are;
-      no_comma = (digits_without 44 word (λ b d. (digit-between b d).1) first.digits, rest.no_comma);
-    }
+-- words that read as lengths are
+AreNumbers-are : (words : List (List ℕ)) (numbers : List ℕ) → each_read number_of_word words ≡ Some numbers → AreNumbers words numbers
+AreNumbers-are [] numbers e = rw (sym (each_read-none number_of_word numbers e)) tt
+AreNumbers-are (word ∷ words) numbers e = each_read-some number_of_word word words numbers e (λ number others is are same. rw (sym same) (IsNumber-is word number is, AreNumbers-are words others are))
 
--- words that pass the test
-AreNumbers-are : (words : List (List ℕ)) → list_all (is_number 18) words ≡ true → AreNumbers words (map value_of words)
-AreNumbers-are [] all = tt
-AreNumbers-are (word ∷ words) all =
-    let parts = and_parts (is_number 18 word) (list_all (is_number 18) words) all in
-    let number = is_number-parts 18 word parts.0 in
-    (record { digits = number.0; some = number.1; few = number.2; is = refl }, AreNumbers-are words parts.1)
-
--- what a text that is lengths passes and says
-record TextTested (text axes : List ℕ) : Type 0 where
-  pub are : are_lengths text ≡ true
-  pub lengths_are : lengths_of_word text ≡ axes
-
--- a text that is lengths
-text_tested : (text axes : List ℕ) → IsLengths text axes → TextTested text axes
-unfolding are_lengths lengths_of_word
-text_tested text axes is =
-    let tested = lengths_tested is.words axes is.are_numbers in
-    let parts : comma_parts text ≡ is.words = ap comma_parts is.is ∙ parts-joined 44 is.words is.some tested.no_comma in
-    record { are = rw parts tested.are; lengths_are = rw parts tested.numbers_are }
+-- what a text that is lengths reads as
+lengths_of_text : (text axes : List ℕ) → IsLengths text axes → list_of_text number_of_word 44 text ≡ Some axes
+lengths_of_text text axes is =
+    let read = lengths_read is.words axes is.are_numbers in
+    list_of_text-joined number_of_word 44 text is.words axes is.is is.some read.1 read.0
 
 -- a hyphen is no length
-not_hyphen : are_lengths (codes "-") ≡ false
-unfolding are_lengths
+not_hyphen : list_of_text number_of_word 44 (codes "-") ≡ None
+unfolding list_of_text each_read number_of_word
 not_hyphen = refl
 
 -- the axes of a word that is some
@@ -125,20 +106,19 @@ axes_of_word-is : (text axes : List ℕ) → IsAxes text axes → axes_of_word t
 unfolding axes_of_word
 axes_of_word-is text axes (inl none) = rw (none.0, none.1) refl
 axes_of_word-is text axes (inr is) =
-    let tested = text_tested text axes is in
+    let read = lengths_of_text text axes is in
     elim (cases_Bool (bytes_eq text (codes "-"))) [
-      | inl hyphen ↦ absurd (let z : true ≡ false = sym tested.are ∙ ap are_lengths ((bytes_eq-Decides text (codes "-")).0 hyphen) ∙ not_hyphen in cc)
-      | inr other ↦ rw (other, tested.are, tested.lengths_are) refl
+      | inl hyphen ↦ absurd (let z : ◌≡◌ {A = Option (List ℕ)} (Some axes) None = sym read ∙ ap (list_of_text number_of_word 44) ((bytes_eq-Decides text (codes "-")).0 hyphen) ∙ not_hyphen in cc)
+      | inr other ↦ rw (other, read) refl
     ]
 
 -- a word with axes is some
 IsAxes-is : (text axes : List ℕ) → axes_of_word text ≡ Some axes → IsAxes text axes
-unfolding axes_of_word are_lengths lengths_of_word
+unfolding axes_of_word list_of_text
 IsAxes-is text axes e =
     either_some (bytes_eq text (codes "-")) _ _ axes e
     (λ hyphen none. inl ((bytes_eq-Decides text (codes "-")).0 hyphen, let z : ◌≡◌ {A = Option (List ℕ)} (Some []) (Some axes) = none in cc))
-    (λ other some. tested_some (are_lengths text) (lengths_of_word text) axes some (λ all same.
-    inr (rw (sym same) (record { words = comma_parts text; is = joined-parts 44 text; some = some_parts 44 text; are_numbers = AreNumbers-are (comma_parts text) all }))))
+    (λ other read. let words : List (List ℕ) = slice_split (λ b. b == 44) text in inr (record { words = words; is = joined-parts 44 text; some = some_parts 44 text; are_numbers = AreNumbers-are words axes read }))
 
 -- axes end a line, where they are written there
 pub axes_last-is : (text axes : List ℕ) → IsAxes text axes → axes_last (Some text) ≡ Some axes

@@ -6,6 +6,7 @@ pub mod ExitLemmas
 pub mod FormLemmas
 pub mod ImageFormLemmas
 pub mod LinesLemmas
+pub mod ListLemmas
 pub mod ListingLemmas
 pub mod OutputLemmas
 pub mod PartsLemmas

@@ -75,6 +75,18 @@ name_first rest = do
 unfoldable pub card_last : Option (List ℕ) → Option (List ℕ)
 card_last rest = let text = unwrap_or rest [] in if nat_le (length text) 80 then Some (card_of_text text) else None
 
+-- what each text reads as, if each does
+unfoldable pub each_read : {X : Type 0} → (List ℕ → Option X) → List (List ℕ) → Option (List X)
+each_read reads [] = Some []
+each_read reads (text ∷ texts) = do
+  item ← reads text
+  items ← each_read reads texts
+  Some (item ∷ items)
+
+-- what the parts of a text between such bytes read as
+unfoldable pub list_of_text : {X : Type 0} → (List ℕ → Option X) → ℕ → List ℕ → Option (List X)
+list_of_text reads separator text = each_read reads (slice_split (λ byte. byte == separator) text)
+
 -- what stands before the first colon, or all where there is none
 unfoldable pub before_colon : List ℕ → List ℕ
 before_colon [] = []
@@ -85,31 +97,25 @@ unfoldable pub after_colon : List ℕ → List ℕ
 after_colon [] = []
 after_colon (byte ∷ bytes) = if byte == 58 then bytes else after_colon bytes
 
--- `lo:hi`, two numbers of 1 to 18 digits
-unfoldable pub is_axis : List ℕ → Bool
-is_axis text = is_number 18 (before_colon text) && is_number 18 (after_colon text)
+-- `lo:hi`, two numbers
+unfoldable pub axis_of_word : List ℕ → Option (ℕ × ℕ)
+axis_of_word text = do
+  lower ← number_of_word (before_colon text)
+  upper ← number_of_word (after_colon text)
+  Some (lower, upper)
 
--- the parts of a text between commas
-abbrev pub comma_parts : List ℕ → List (List ℕ)
-comma_parts text = slice_split (λ byte. byte == 44) text
-
--- the numbers before the colons of a rectangle
-unfoldable pub lower_corner : List ℕ → List ℕ
-lower_corner word = map (λ axis. value_of (before_colon axis)) (comma_parts word)
-
--- and those after them
-unfoldable pub upper_corner : List ℕ → List ℕ
-upper_corner word = map (λ axis. value_of (after_colon axis)) (comma_parts word)
-
--- a rectangle is `lo:hi` for each axis, joined by commas
-unfoldable pub is_rectangle : List ℕ → Bool
-is_rectangle word = list_all is_axis (comma_parts word)
+-- the corners of a rectangle, which is `lo:hi` for each axis, joined by commas
+unfoldable pub corners_of_word : List ℕ → Option (List ℕ × List ℕ)
+corners_of_word word = do
+  axes ← list_of_text axis_of_word 44 word
+  Some (map (λ axis. axis.0) axes, map (λ axis. axis.1) axes)
 
 -- the corners of a rectangle, and what follows it
 unfoldable pub rectangle_first : Option (List ℕ) → Option (List ℕ × List ℕ × Option (List ℕ))
 rectangle_first rest = do
   text ← rest
-  let word = first_word text in if is_rectangle word then Some (lower_corner word, upper_corner word, after_word text) else None
+  corners ← corners_of_word (first_word text)
+  Some (corners.0, corners.1, after_word text)
 
 -- the kind of pixels that a word names
 unfoldable pub kind_of_word : List ℕ → Option Kind
@@ -131,20 +137,9 @@ kind_first rest = do
   kind ← kind_of_word (first_word text)
   Some (kind, after_word text)
 
--- numbers of 1 to 18 digits, joined by commas
-unfoldable pub are_lengths : List ℕ → Bool
-are_lengths word = list_all (is_number 18) (comma_parts word)
-
--- those numbers
-unfoldable pub lengths_of_word : List ℕ → List ℕ
-lengths_of_word word = map value_of (comma_parts word)
-
--- the length of each axis, or `-` where there is no axis
+-- the length of each axis, joined by commas, or `-` where there is no axis
 unfoldable pub axes_of_word : List ℕ → Option (List ℕ)
-axes_of_word word =
-    if bytes_eq word (codes "-") then Some []
-    else if are_lengths word then Some (lengths_of_word word)
-    else None
+axes_of_word word = if bytes_eq word (codes "-") then Some [] else list_of_text number_of_word 44 word
 
 -- the axes that end a line
 unfoldable pub axes_last : Option (List ℕ) → Option (List ℕ)
@@ -162,37 +157,22 @@ abbrev pub without_minus : List ℕ → List ℕ
 without_minus [] = []
 without_minus (byte ∷ bytes) = if byte == 45 then bytes else byte ∷ bytes
 
--- a value is an optional minus sign and 1 to 30 digits
-unfoldable pub is_value : List ℕ → Bool
-is_value word = is_number 30 (without_minus word)
-
--- its number
-unfoldable pub value_of_word : List ℕ → ℤ
-value_of_word word = signed (is_negative word) (value_of (without_minus word))
+-- the number of a value, which is an optional minus sign and 1 to 30 digits
+unfoldable pub value_of_word : List ℕ → Option ℤ
+value_of_word word =
+    let size = without_minus word in if is_number 30 size then Some (signed (is_negative word) (value_of size)) else None
 
 -- the value that ends a line
 unfoldable pub value_last : Option (List ℕ) → Option ℤ
 value_last rest = do
   text ← rest
-  if is_value text then Some (value_of_word text) else None
+  value_of_word text
 
--- the parts of a text between spaces
-abbrev pub space_parts : List ℕ → List (List ℕ)
-space_parts text = slice_split (λ byte. byte == 32) text
-
--- values, a space between
-unfoldable pub are_values : List ℕ → Bool
-are_values text = list_all is_value (space_parts text)
-
--- their numbers
-unfoldable pub values_of_text : List ℕ → List ℤ
-values_of_text text = map value_of_word (space_parts text)
-
--- the values that end a line, one at least
+-- the values that end a line, one at least, a space between
 unfoldable pub values_last : Option (List ℕ) → Option (List ℤ)
 values_last rest = do
   text ← rest
-  if are_values text then Some (values_of_text text) else None
+  list_of_text value_of_word 32 text
 
 -- nothing follows, so that this is all
 unfoldable pub alone : {X : Type 0} → Option (List ℕ) → X → Option X

@@ -1,12 +1,11 @@
 //! The words of a new image: the kind of its pixels, and its axes.
-ghost use Rattle.std.specs.Prelude.{◌≡◌, IfOk, IfSome, IfNone, IsSome, IsTrue, None, OnErr, Some};
+ghost use Rattle.std.specs.Prelude.{◌≡◌, IfOk, IfSome, IfNone, IsSome, None, OnErr, Some};
 ghost use Rattle.std.specs.Option.{option_copied};
-ghost use Rattle.fits_cli.specs.Line.{are_lengths, axes_of_word, is_number, kind_first, kind_of_word};
-ghost use Rattle.fits_cli.specs.Line.{lengths_of_word, new_words};
-ghost use Rattle.fits_value.specs.Number.{value_of};
+ghost use Rattle.fits_cli.specs.Line.{axes_of_word, kind_first, kind_of_word, new_words};
+ghost use Rattle.fits_cli.specs.Line.{number_of_word};
 
-use crate::cut::split_once;
-use crate::words::{DIGITS, cut_word, is_number, is_word, number_of_digits};
+use crate::part::{Part, read_list};
+use crate::words::{cut_word, is_word, number_of_word};
 use fits_hdu::Kind;
 use fits_rules::Axes;
 use std::alloc::{AllocError, Global};
@@ -68,8 +67,7 @@ fn kind_of_word(word: &[u8]) -> Option<Kind>
     }
 }
 
-// The length of each axis, or `-` where there is no axis. Before memory is asked for, the whole
-// word is looked at.
+// The length of each axis, or `-` where there is no axis.
 #[tactic(auto, unfolding(crate::specs::Line::axes_of_word))]
 fn axes_of_word(alloc: Global, word: &[u8]) -> Result<Option<Axes>, AllocError>
     ensures ok { IfOk result (λ axes. axes ≡ axes_of_word word.now) }
@@ -78,48 +76,19 @@ fn axes_of_word(alloc: Global, word: &[u8]) -> Result<Option<Axes>, AllocError>
     if is_word(word, b"-") {
         return Ok(Some(Axes::new(Vec::new(alloc))));
     }
-    if !are_lengths(word) {
-        return Ok(None);
+    match read_list(alloc, word, b',') {
+        Ok(Some(lengths)) => Ok(Some(Axes::new(lengths))),
+        Ok(None) => Ok(None),
+        Err(refused) => Err(refused),
     }
-    let lengths = lengths_of_word(alloc, word)?;
-    Ok(Some(Axes::new(lengths)))
 }
 
-// Whether a word is numbers, joined by commas.
-#[tactic(auto, using(crate::proofs::RectangleLemmas::lengths_steps))]
-fn are_lengths(word: &[u8]) -> bool
-    ensures { result ≡ are_lengths word.now }
-{
-    let mut rest = word;
-    'axes: while let Some((length, more)) = split_once(rest, b',') {
-        if !is_number(length, DIGITS) {
-            return false;
-        }
-        rest = more;
-    }
-    is_number(rest, DIGITS)
-}
+// The length of an axis.
+impl Part for u64 {
+    ghost reads = { number_of_word };
 
-// Those numbers.
-#[tactic(auto, using(crate::proofs::RectangleLemmas::length_steps))]
-fn lengths_of_word(alloc: Global, word: &[u8]) -> Result<Vec<u64>, AllocError>
-    requires { IsTrue (are_lengths word.now) }
-    ensures { IfOk result (λ lengths. lengths.items ≡ lengths_of_word word.now) }
-{
-    let mut lengths = Vec::new(alloc);
-    let mut rest = word;
-    'axes: while let Some((length, more)) = split_once(rest, b',') {
-        lengths.push(length_of(length))?;
-        rest = more;
+    fn read(text: &[u8]) -> Option<u64> {
+        let length = number_of_word(text)?;
+        Some(length as u64)
     }
-    lengths.push(length_of(rest))?;
-    Ok(lengths)
-}
-
-// The number of 1 to 18 digits.
-fn length_of(word: &[u8]) -> u64
-    requires { IsTrue (is_number 18 word.now) }
-    ensures { result ≡ value_of word.now }
-{
-    number_of_digits(word) as u64
 }

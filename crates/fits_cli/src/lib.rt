@@ -17,6 +17,7 @@ mod line;
 mod line_fault;
 mod line_reading;
 mod listing;
+mod part;
 mod pixel_answers;
 mod pixel_lines;
 mod places_line;

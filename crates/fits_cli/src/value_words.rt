@@ -3,19 +3,26 @@ ghost use Rattle.std.specs.Prelude.{◌≡◌, ◌<◌, ◌≤◌, ◌^◌, fals
 ghost use Rattle.std.specs.Prelude.{IfOk, IfSome, IfNone, IsSome, IsTrue, OnErr};
 ghost use Rattle.std.specs.List.{list_all};
 ghost use Rattle.std.specs.Option.{option_copied};
-ghost use Rattle.fits_cli.specs.Line.{are_values, is_negative, is_number, is_value};
-ghost use Rattle.fits_cli.specs.Line.{value_last, value_of_word, values_last};
-ghost use Rattle.fits_cli.specs.Line.{values_of_text, without_minus};
+ghost use Rattle.fits_cli.specs.Line.{is_negative, is_number, value_last, value_of_word};
+ghost use Rattle.fits_cli.specs.Line.{values_last, without_minus};
 ghost use Rattle.fits_value.specs.Number.{value_of};
 ghost use Rattle.fits_value.specs.Spelling.{is_digit};
 
-use crate::cut::split_once;
-use crate::words::{DIGITS, is_number, number_of_word};
+use crate::part::{Part, read_list};
+use crate::words::{DIGITS, number_of_word};
 use fits_session::PixelValues;
 use std::alloc::{AllocError, Global};
 
 /// How many digits a value has at most.
 const VALUE_DIGITS: usize = 30;
+
+impl Part for i128 {
+    ghost reads = { value_of_word };
+
+    fn read(text: &[u8]) -> Option<i128> {
+        read_value(text)
+    }
+}
 
 /// The value that ends a line.
 #[tactic(auto, unfolding(crate::specs::Line::value_last))]
@@ -25,8 +32,7 @@ pub(crate) fn value_last(rest: Option<&[u8]>) -> Option<i128>
     read_value(rest?)
 }
 
-/// The values that end a line. They are read once: where memory runs out on the way, the line is
-/// looked at again, since one that has no values needs none.
+/// The values that end a line.
 #[tactic(auto, unfolding(crate::specs::Line::values_last))]
 pub(crate) fn values_last(
     alloc: Global,
@@ -38,51 +44,32 @@ pub(crate) fn values_last(
     let Some(text) = rest else {
         return Ok(None);
     };
-    match read_values(alloc, text) {
-        Ok(values) => Ok(values),
-        Err(refused) => {
-            if are_values(text) {
-                Err(refused)
-            } else {
-                Ok(None)
-            }
-        }
+    match read_list(alloc, text, b' ') {
+        Ok(Some(values)) => Ok(Some(PixelValues::new(values))),
+        Ok(None) => Ok(None),
+        Err(refused) => Err(refused),
     }
-}
-
-// The values of a text, a space between, unless it has another word.
-#[tactic(auto, using(crate::proofs::RectangleLemmas::number_steps))]
-fn read_values(alloc: Global, text: &[u8]) -> Result<Option<PixelValues>, AllocError>
-    ensures some { IfOk result (λ read. IfSome read (λ values. IsTrue (are_values text.now)
-        × (values ≡ values_of_text text.now))) }
-    ensures none { IfOk result (λ read. IfNone read (are_values text.now ≡ false)) }
-{
-    let mut values = Vec::new(alloc);
-    let mut rest = text;
-    'words: while let Some((word, more)) = split_once(rest, b' ') {
-        let Some(value) = read_value(word) else {
-            return Ok(None);
-        };
-        values.push(value)?;
-        rest = more;
-    }
-    let Some(value) = read_value(rest) else {
-        return Ok(None);
-    };
-    values.push(value)?;
-    Ok(Some(PixelValues::new(values)))
 }
 
 // The number of a value, unless the word is none.
-#[tactic(auto, unfolding(crate::specs::Line::is_value, crate::specs::Line::value_of_word))]
+#[tactic(auto, unfolding(crate::specs::Line::value_of_word))]
 fn read_value(word: &[u8]) -> Option<i128>
-    ensures some { IfSome result (λ value. IsTrue (is_value word.now)
-        × (value ≡ value_of_word word.now)) }
-    ensures none { IfNone result (is_value word.now ≡ false) }
+    ensures { result ≡ value_of_word word.now }
 {
     let (is_negative, size) = cut_sign(word);
     let size = size_of_word(size)? as i128;
     Some(if is_negative { -size } else { size })
+}
+
+// Whether a minus sign comes first, and what follows it.
+fn cut_sign(word: &[u8]) -> (bool, &[u8])
+    ensures sign { result.0 ≡ is_negative word.now }
+    ensures size { result.1.now ≡ without_minus word.now }
+{
+    match word {
+        [b'-', size @ ..] => (true, size),
+        _ => (false, word),
+    }
 }
 
 // The number of 1 to 30 digits. Most have few.
@@ -99,58 +86,26 @@ fn size_of_word(word: &[u8]) -> Option<u128>
             None => None,
         };
     }
-    if !is_number(word, VALUE_DIGITS) {
+    if word.len() > VALUE_DIGITS {
         return None;
     }
-    Some(size_of_digits(word))
+    read_size(word)
 }
 
-// Whether a text is values, a space between.
-#[tactic(auto, using(crate::proofs::RectangleLemmas::values_steps))]
-fn are_values(text: &[u8]) -> bool
-    ensures { result ≡ are_values text.now }
+// The number of at most 30 digits, unless another byte stands among them.
+fn read_size(digits: &[u8]) -> Option<u128>
+    requires { length digits.now ≤ 30 }
+    ensures some { IfSome result (λ size. IsTrue (list_all is_digit digits.now)
+        × (size ≡ value_of digits.now)) }
+    ensures none { IfNone result (list_all is_digit digits.now ≡ false) }
+    ensures small { IfSome result (λ size. size < 10 ^ 30) }
 {
-    let mut rest = text;
-    'words: while let Some((word, more)) = split_once(rest, b' ') {
-        if !is_value(word) {
-            return false;
+    let mut size = 0u128;
+    for byte in digits {
+        if *byte < b'0' || *byte > b'9' {
+            return None;
         }
-        rest = more;
+        size = size * 10 + (*byte - b'0') as u128;
     }
-    is_value(rest)
-}
-
-// Whether a word is a value.
-#[tactic(auto, unfolding(crate::specs::Line::is_value))]
-fn is_value(word: &[u8]) -> bool
-    ensures { result ≡ is_value word.now }
-{
-    let (_, size) = cut_sign(word);
-    is_number(size, VALUE_DIGITS)
-}
-
-// Whether a minus sign comes first, and what follows it.
-fn cut_sign(word: &[u8]) -> (bool, &[u8])
-    ensures sign { result.0 ≡ is_negative word.now }
-    ensures size { result.1.now ≡ without_minus word.now }
-{
-    match word {
-        [b'-', size @ ..] => (true, size),
-        _ => (false, word),
-    }
-}
-
-// The number of at most 30 digits.
-#[tactic(auto, using(crate::proofs::WordLemmas::digits_steps))]
-fn size_of_digits(digits: &[u8]) -> u128
-    requires are_digits { IsTrue (list_all is_digit digits.now) }
-    requires few { length digits.now ≤ 30 }
-    ensures value { result ≡ value_of digits.now }
-    ensures small { result < 10 ^ 30 }
-{
-    let mut number = 0u128;
-    for digit in digits {
-        number = number * 10 + (*digit - b'0') as u128;
-    }
-    number
+    Some(size)
 }

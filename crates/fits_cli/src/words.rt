@@ -6,9 +6,8 @@ ghost use Rattle.std.specs.Option.{option_copied};
 ghost use Rattle.std.specs.Str.{bytes_eq};
 ghost use Rattle.fits_cli.specs.Line.{after_word, alone, card_last, card_words, first_word};
 ghost use Rattle.fits_cli.specs.Line.{move_words, name_first, name_of_text, name_of_word, name_word};
-ghost use Rattle.fits_cli.specs.Line.{field_words, fill_words, is_number, is_rectangle};
-ghost use Rattle.fits_cli.specs.Line.{lower_corner, number_first, number_of_word, place_word};
-ghost use Rattle.fits_cli.specs.Line.{rectangle_first, rectangle_word, upper_corner, write_words};
+ghost use Rattle.fits_cli.specs.Line.{field_words, fill_words, number_first, number_of_word};
+ghost use Rattle.fits_cli.specs.Line.{place_word, rectangle_word, write_words};
 ghost use Rattle.fits_value.specs.Number.{value_of};
 ghost use Rattle.fits_value.specs.Spelling.{is_digit};
 
@@ -84,33 +83,6 @@ fn read_digits(digits: &[u8]) -> Option<usize>
         number = number * 10 + (*byte - b'0') as usize;
     }
     Some(number)
-}
-
-/// 1 to so many digits.
-pub(crate) fn is_number(word: &[u8], most: usize) -> bool
-    ensures { result ≡ is_number most word.now }
-{
-    !word.is_empty() && word.len() <= most && are_digits(word)
-}
-
-fn are_digits(word: &[u8]) -> bool
-    ensures { result ≡ list_all is_digit word.now }
-{
-    word.iter().all(|byte| matches!(byte, b'0'..=b'9'))
-}
-
-/// The number of at most 18 digits.
-#[tactic(auto, using(crate::proofs::WordLemmas::digits_steps))]
-pub(crate) fn number_of_digits(digits: &[u8]) -> usize
-    requires are_digits { IsTrue (list_all is_digit digits.now) }
-    requires few { length digits.now ≤ 18 }
-    ensures { result ≡ value_of digits.now }
-{
-    let mut number = 0usize;
-    for digit in digits {
-        number = number * 10 + (*digit - b'0') as usize;
-    }
-    number
 }
 
 /// A keyword name, and what follows it.
@@ -285,7 +257,7 @@ pub(crate) fn fill_words(
 }
 
 /// `RECT V V ..`
-#[tactic(auto, unfolding(crate::specs::Line::write_words, crate::specs::Line::rectangle_first))]
+#[tactic(auto, using(crate::proofs::RectangleLemmas::paint_steps), unfolding(crate::specs::Line::write_words, crate::specs::Line::rectangle_first))]
 pub(crate) fn write_words(
     alloc: Global,
     rest: Option<&[u8]>,
