@@ -22,9 +22,7 @@ impl Session {
     pub(super) fn edit_hdu(&mut self, h: usize, edit: &HduEdit) -> Result<(), Refusal>
         ensures { EditsTo (Edit.Hdu h edit.now) self.old self.new result }
     {
-        let Some(i) = index_of(&self.hdus, h) else {
-            return Err(Refusal::NoHdu);
-        };
+        let i = index_of(&self.hdus, h)?;
         let count = self.hdus.len() as u64;
         self.len = edit_hdu(self.alloc, &mut self.hdus[i], self.len, count, edit)?;
         Ok(())

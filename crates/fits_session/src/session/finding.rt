@@ -1,17 +1,19 @@
 //! Where HDU h stands among HDUs.
-ghost use Rattle.std.specs.Prelude.{◌≡◌, length, IfSome, IfNone};
+ghost use Rattle.std.specs.Prelude.{◌≡◌, length, IfOk, IfErr, OnErr};
 ghost use Rattle.fits_session.specs.Session.{IsIndexOf, IsNowhere};
 
+use crate::refusal::Refusal;
 use fits_hdu::Hdu;
 
-/// The index of HDU h, if there is one.
-pub(crate) fn index_of(hdus: &[Hdu], h: usize) -> Option<usize>
-    ensures found { IfSome result (λ i. IsIndexOf (length hdus.now) h i) }
-    ensures none { IfNone result (IsNowhere (length hdus.now) h) }
+/// The index of HDU h. Refusal 1.
+pub(crate) fn index_of(hdus: &[Hdu], h: usize) -> Result<usize, Refusal>
+    ensures found { IfOk result (λ i. IsIndexOf (length hdus.now) h i) }
+    ensures none { OnErr result (IsNowhere (length hdus.now) h) }
+    ensures why { IfErr result (λ why. why ≡ Refusal.NoHdu) }
 {
     if 1 <= h && h <= hdus.len() {
-        Some(h - 1)
+        Ok(h - 1)
     } else {
-        None
+        Err(Refusal::NoHdu)
     }
 }

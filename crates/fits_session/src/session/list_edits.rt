@@ -41,9 +41,7 @@ impl Session {
     pub(super) fn take_out(&mut self, h: usize) -> Result<(), Refusal>
         ensures { EditsTo (Edit.RemoveHdu h) self.old self.new result }
     {
-        let Some(i) = index_of(&self.hdus, h) else {
-            return Err(Refusal::NoHdu);
-        };
+        let i = index_of(&self.hdus, h)?;
         if i == 0 {
             return Err(Refusal::PrimaryStays);
         }

@@ -43,9 +43,7 @@ impl Session {
     pub fn card_count(&self, h: usize) -> Result<usize, Refusal>
         ensures { result ≡ card_count_in (file_of self.now) h }
     {
-        let Some(i) = index_of(&self.hdus, h) else {
-            return Err(Refusal::NoHdu);
-        };
+        let i = index_of(&self.hdus, h)?;
         let hdu = &self.hdus[i];
         Ok(hdu.card_count())
     }
@@ -55,9 +53,7 @@ impl Session {
         ensures ok { IfOk result (λ shape. shape_in (file_of self.now) h ≡ Ok shape.now) }
         ensures err { IfErr result (λ why. shape_in (file_of self.now) h ≡ Err why) }
     {
-        let Some(i) = index_of(&self.hdus, h) else {
-            return Err(Refusal::NoHdu);
-        };
+        let i = index_of(&self.hdus, h)?;
         let hdu = &self.hdus[i];
         Ok(hdu.shape())
     }
@@ -66,9 +62,7 @@ impl Session {
     pub fn kind(&self, h: usize) -> Result<Kind, Refusal>
         ensures { result ≡ kind_in (file_of self.now) h }
     {
-        let Some(i) = index_of(&self.hdus, h) else {
-            return Err(Refusal::NoHdu);
-        };
+        let i = index_of(&self.hdus, h)?;
         let hdu = &self.hdus[i];
         hdu.kind().ok_or(Refusal::NotImage)
     }
@@ -78,9 +72,7 @@ impl Session {
     pub fn stats(&self, h: usize) -> Result<Stats, Refusal>
         ensures { result ≡ stats_in (file_of self.now) h }
     {
-        let Some(i) = index_of(&self.hdus, h) else {
-            return Err(Refusal::NoHdu);
-        };
+        let i = index_of(&self.hdus, h)?;
         let hdu = &self.hdus[i];
         // Its cards describe this shape.
         let _shape = hdu.shape();
@@ -92,9 +84,7 @@ impl Session {
     pub fn datasum(&self, h: usize) -> Result<u32, Refusal>
         ensures { result ≡ datasum_in (file_of self.now) h }
     {
-        let Some(i) = index_of(&self.hdus, h) else {
-            return Err(Refusal::NoHdu);
-        };
+        let i = index_of(&self.hdus, h)?;
         let hdu = &self.hdus[i];
         Ok(hdu.datasum())
     }
@@ -104,9 +94,7 @@ impl Session {
     pub fn verdicts(&self, h: usize) -> Result<Verdicts, Refusal>
         ensures { result ≡ verdicts_in (file_of self.now) h }
     {
-        let Some(i) = index_of(&self.hdus, h) else {
-            return Err(Refusal::NoHdu);
-        };
+        let i = index_of(&self.hdus, h)?;
         let hdu = &self.hdus[i];
         Ok(hdu.verdicts())
     }
@@ -121,9 +109,7 @@ impl Session {
             self.old self.new) }
         ensures same { OnErr result (self.new ≡ self.old) }
     {
-        let Some(i) = index_of(&self.hdus, h) else {
-            return Err(Refusal::NoHdu);
-        };
+        let i = index_of(&self.hdus, h)?;
         let hdu = &mut self.hdus[i];
         // Its cards describe this shape.
         let _shape = hdu.shape();
@@ -138,9 +124,7 @@ impl Session {
         ensures err { IfErr result (QueryFails (value_in (file_of self.old) h name.now)) }
         ensures asks { Asks h (value_reads (file_of self.old) h name.now) self.old self.new }
     {
-        let Some(i) = index_of(&self.hdus, h) else {
-            return Err(Refusal::NoHdu);
-        };
+        let i = index_of(&self.hdus, h)?;
         let hdu = &mut self.hdus[i];
         let said = hdu.value(self.alloc, name)?;
         Ok(said)
@@ -153,9 +137,7 @@ impl Session {
             ≡ Ok places.items) }
         ensures err { IfErr result (QueryFails (positions_in (file_of self.now) h name.now)) }
     {
-        let Some(i) = index_of(&self.hdus, h) else {
-            return Err(Refusal::NoHdu);
-        };
+        let i = index_of(&self.hdus, h)?;
         let hdu = &self.hdus[i];
         let places = hdu.header().positions(self.alloc, name)?;
         Ok(places)
@@ -167,9 +149,7 @@ impl Session {
         ensures ok { IfOk result (λ names. names_in (file_of self.now) h ≡ Ok names.items) }
         ensures err { IfErr result (QueryFails (names_in (file_of self.now) h)) }
     {
-        let Some(i) = index_of(&self.hdus, h) else {
-            return Err(Refusal::NoHdu);
-        };
+        let i = index_of(&self.hdus, h)?;
         let hdu = &self.hdus[i];
         let names = hdu.header().names(self.alloc)?;
         Ok(names)

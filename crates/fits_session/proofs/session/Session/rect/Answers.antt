@@ -7,26 +7,26 @@ use Rattle.fits_session.proofs.session.Session.rect.Goals as goal
 
 pub returns-in_err-values-clause-err : goal.returns-in_err-values-clause-err
 returns-in_err-values-clause-err c =
-    let p = err_from_is_err_and c.from_residual.result c.from_residual.ensures.1 in
-    rw (p.1, p.2, ← c.self.view_is) (rect_fails c.self.inside.hdus.items c.self.inside.tail.items c.args.h c.in-Some.i c.index_mut-hdu.result.now c.args.lo.now c.args.hi.now c.in_err-values.field-0.0 c.self.invariant.whole
-    (is_at c.self.inside.hdus.items c.deref.result.now c.args.h c.args.h c.in-Some.i c.index_mut-hdu.result.now c.deref.ensures.value refl c.in-Some.ensures.found c.index_mut-hdu.ensures.value)
+    let p = err_from_is_err_and c.from_residual-in_err-values.result c.from_residual-in_err-values.ensures.1 in
+    rw (p.1, p.2, ← c.self.view_is) (rect_fails c.self.inside.hdus.items c.self.inside.tail.items c.args.h c.in_ok-i.i c.index_mut-hdu.result.now c.args.lo.now c.args.hi.now c.in_err-values.field-0.0 c.self.invariant.whole
+    (is_at c.self.inside.hdus.items c.deref.result.now c.args.h c.args.h c.in_ok-i.i c.index_mut-hdu.result.now c.deref.ensures.value refl c.in_ok-i.ensures.found c.index_mut-hdu.ensures.value)
     c.shape-shape.ensures.described c.in_err-values.ensures.err)
 
 pub invariant_of-self-2 : goal.invariant_of-self-2
 invariant_of-self-2 c =
-    let stays = stays_file c.self.inside.hdus.items c.self.inside.tail.items c.args.h c.in-Some.i c.self.inside.len c.index_mut-hdu.result.now c.rect.new.self
-    (is_at c.self.inside.hdus.items c.deref.result.now c.args.h c.args.h c.in-Some.i c.index_mut-hdu.result.now c.deref.ensures.value refl c.in-Some.ensures.found c.index_mut-hdu.ensures.value)
+    let stays = stays_file c.self.inside.hdus.items c.self.inside.tail.items c.args.h c.in_ok-i.i c.self.inside.len c.index_mut-hdu.result.now c.rect.new.self
+    (is_at c.self.inside.hdus.items c.deref.result.now c.args.h c.args.h c.in_ok-i.i c.index_mut-hdu.result.now c.deref.ensures.value refl c.in_ok-i.ensures.found c.index_mut-hdu.ensures.value)
     (ap (λ (state : HduState). state.hdu) c.in_ok-values.ensures.work) c.self.invariant.whole c.self.invariant.len in
     record { whole = stays.0; len = stays.1 }
 
 pub returns-clause-ok : goal.returns-clause-ok
 returns-clause-ok c =
-    rw (← c.self.view_is) (rect_ok c.self.inside.hdus.items c.self.inside.tail.items c.args.h c.in-Some.i c.index_mut-hdu.result.now c.args.lo.now c.args.hi.now c.in_ok-values.values.items c.self.invariant.whole
-    (is_at c.self.inside.hdus.items c.deref.result.now c.args.h c.args.h c.in-Some.i c.index_mut-hdu.result.now c.deref.ensures.value refl c.in-Some.ensures.found c.index_mut-hdu.ensures.value)
+    rw (← c.self.view_is) (rect_ok c.self.inside.hdus.items c.self.inside.tail.items c.args.h c.in_ok-i.i c.index_mut-hdu.result.now c.args.lo.now c.args.hi.now c.in_ok-values.values.items c.self.invariant.whole
+    (is_at c.self.inside.hdus.items c.deref.result.now c.args.h c.args.h c.in_ok-i.i c.index_mut-hdu.result.now c.deref.ensures.value refl c.in_ok-i.ensures.found c.index_mut-hdu.ensures.value)
     c.shape-shape.ensures.described c.in_ok-values.ensures.ok)
 
 pub returns-clause-asks : goal.returns-clause-asks
 returns-clause-asks c =
-    rw (← c.self.view_is) (rect_asks c.self.inside.hdus.items c.self.inside.tail.items c.args.h c.in-Some.i _ c.index_mut-hdu.result.now c.rect.new.self
-    (is_at c.self.inside.hdus.items c.deref.result.now c.args.h c.args.h c.in-Some.i c.index_mut-hdu.result.now c.deref.ensures.value refl c.in-Some.ensures.found c.index_mut-hdu.ensures.value)
+    rw (← c.self.view_is) (rect_asks c.self.inside.hdus.items c.self.inside.tail.items c.args.h c.in_ok-i.i _ c.index_mut-hdu.result.now c.rect.new.self
+    (is_at c.self.inside.hdus.items c.deref.result.now c.args.h c.args.h c.in_ok-i.i c.index_mut-hdu.result.now c.deref.ensures.value refl c.in_ok-i.ensures.found c.index_mut-hdu.ensures.value)
     c.in_ok-values.ensures.work)

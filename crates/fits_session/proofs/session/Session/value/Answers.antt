@@ -4,44 +4,44 @@ use Rattle.fits_session.proofs.QueryLemmas.{value_ok, value_fails, value_asks}
 use Rattle.fits_session.proofs.StateLemmas.{is_at, stays_file, asked_none}
 use Rattle.fits_session.proofs.session.Session.value.Goals as goal
 
-pub returns-in_default-clause-asks : goal.returns-in_default-clause-asks
-returns-in_default-clause-asks c = asked_none _ _ _
+pub returns-in_err-i-clause-asks : goal.returns-in_err-i-clause-asks
+returns-in_err-i-clause-asks c = asked_none _ _ _
 
 pub invariant_of-self : goal.invariant_of-self
 invariant_of-self c =
-    let stays = stays_file c.self.inside.hdus.items c.self.inside.tail.items c.args.h c.in-Some.i c.self.inside.len c.index_mut-hdu.result.now c.value.new.self
-    (is_at c.self.inside.hdus.items c.deref.result.now c.args.h c.args.h c.in-Some.i c.index_mut-hdu.result.now c.deref.ensures.value refl c.in-Some.ensures.found c.index_mut-hdu.ensures.value)
+    let stays = stays_file c.self.inside.hdus.items c.self.inside.tail.items c.args.h c.in_ok-i.i c.self.inside.len c.index_mut-hdu.result.now c.value.new.self
+    (is_at c.self.inside.hdus.items c.deref.result.now c.args.h c.args.h c.in_ok-i.i c.index_mut-hdu.result.now c.deref.ensures.value refl c.in_ok-i.ensures.found c.index_mut-hdu.ensures.value)
     c.value.ensures.work.hdu c.self.invariant.whole c.self.invariant.len in
     record { whole = stays.0; len = stays.1 }
 
 pub returns-in_err-said-clause-err : goal.returns-in_err-said-clause-err
 returns-in_err-said-clause-err c =
-    let p = err_from_is_err_and c.from_residual.result c.from_residual.ensures.1 in
-    rw (p.1, p.2, ← c.self.view_is) (value_fails c.self.inside.hdus.items c.self.inside.tail.items c.args.h c.in-Some.i c.index_mut-hdu.result.now c.args.name.now c.in_err-said.field-0.0
-    (is_at c.self.inside.hdus.items c.deref.result.now c.args.h c.args.h c.in-Some.i c.index_mut-hdu.result.now c.deref.ensures.value refl c.in-Some.ensures.found c.index_mut-hdu.ensures.value)
+    let p = err_from_is_err_and c.from_residual-in_err-said.result c.from_residual-in_err-said.ensures.1 in
+    rw (p.1, p.2, ← c.self.view_is) (value_fails c.self.inside.hdus.items c.self.inside.tail.items c.args.h c.in_ok-i.i c.index_mut-hdu.result.now c.args.name.now c.in_err-said.field-0.0
+    (is_at c.self.inside.hdus.items c.deref.result.now c.args.h c.args.h c.in_ok-i.i c.index_mut-hdu.result.now c.deref.ensures.value refl c.in_ok-i.ensures.found c.index_mut-hdu.ensures.value)
     c.in_err-said.ensures.err)
 
 pub returns-in_err-said-clause-asks : goal.returns-in_err-said-clause-asks
 returns-in_err-said-clause-asks c =
-    rw (← c.self.view_is) (value_asks c.self.inside.hdus.items c.self.inside.tail.items c.args.h c.in-Some.i c.index_mut-hdu.result.now c.value.new.self c.args.name.now
-    (is_at c.self.inside.hdus.items c.deref.result.now c.args.h c.args.h c.in-Some.i c.index_mut-hdu.result.now c.deref.ensures.value refl c.in-Some.ensures.found c.index_mut-hdu.ensures.value)
+    rw (← c.self.view_is) (value_asks c.self.inside.hdus.items c.self.inside.tail.items c.args.h c.in_ok-i.i c.index_mut-hdu.result.now c.value.new.self c.args.name.now
+    (is_at c.self.inside.hdus.items c.deref.result.now c.args.h c.args.h c.in_ok-i.i c.index_mut-hdu.result.now c.deref.ensures.value refl c.in_ok-i.ensures.found c.index_mut-hdu.ensures.value)
     c.value.ensures.work)
 
 pub invariant_of-self-2 : goal.invariant_of-self-2
 invariant_of-self-2 c =
-    let stays = stays_file c.self.inside.hdus.items c.self.inside.tail.items c.args.h c.in-Some.i c.self.inside.len c.index_mut-hdu.result.now c.value.new.self
-    (is_at c.self.inside.hdus.items c.deref.result.now c.args.h c.args.h c.in-Some.i c.index_mut-hdu.result.now c.deref.ensures.value refl c.in-Some.ensures.found c.index_mut-hdu.ensures.value)
+    let stays = stays_file c.self.inside.hdus.items c.self.inside.tail.items c.args.h c.in_ok-i.i c.self.inside.len c.index_mut-hdu.result.now c.value.new.self
+    (is_at c.self.inside.hdus.items c.deref.result.now c.args.h c.args.h c.in_ok-i.i c.index_mut-hdu.result.now c.deref.ensures.value refl c.in_ok-i.ensures.found c.index_mut-hdu.ensures.value)
     c.value.ensures.work.hdu c.self.invariant.whole c.self.invariant.len in
     record { whole = stays.0; len = stays.1 }
 
 pub returns-clause-ok : goal.returns-clause-ok
 returns-clause-ok c =
-    rw (← c.self.view_is) (value_ok c.self.inside.hdus.items c.self.inside.tail.items c.args.h c.in-Some.i c.index_mut-hdu.result.now c.args.name.now c.in_ok-said.said
-    (is_at c.self.inside.hdus.items c.deref.result.now c.args.h c.args.h c.in-Some.i c.index_mut-hdu.result.now c.deref.ensures.value refl c.in-Some.ensures.found c.index_mut-hdu.ensures.value)
+    rw (← c.self.view_is) (value_ok c.self.inside.hdus.items c.self.inside.tail.items c.args.h c.in_ok-i.i c.index_mut-hdu.result.now c.args.name.now c.in_ok-said.said
+    (is_at c.self.inside.hdus.items c.deref.result.now c.args.h c.args.h c.in_ok-i.i c.index_mut-hdu.result.now c.deref.ensures.value refl c.in_ok-i.ensures.found c.index_mut-hdu.ensures.value)
     c.in_ok-said.ensures.ok)
 
 pub returns-clause-asks : goal.returns-clause-asks
 returns-clause-asks c =
-    rw (← c.self.view_is) (value_asks c.self.inside.hdus.items c.self.inside.tail.items c.args.h c.in-Some.i c.index_mut-hdu.result.now c.value.new.self c.args.name.now
-    (is_at c.self.inside.hdus.items c.deref.result.now c.args.h c.args.h c.in-Some.i c.index_mut-hdu.result.now c.deref.ensures.value refl c.in-Some.ensures.found c.index_mut-hdu.ensures.value)
+    rw (← c.self.view_is) (value_asks c.self.inside.hdus.items c.self.inside.tail.items c.args.h c.in_ok-i.i c.index_mut-hdu.result.now c.value.new.self c.args.name.now
+    (is_at c.self.inside.hdus.items c.deref.result.now c.args.h c.args.h c.in_ok-i.i c.index_mut-hdu.result.now c.deref.ensures.value refl c.in_ok-i.ensures.found c.index_mut-hdu.ensures.value)
     c.value.ensures.work)
