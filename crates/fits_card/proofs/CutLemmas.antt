@@ -12,7 +12,7 @@ use Rattle.fits_card.specs.HeaderSteps.{HasHeader, HasNoEnd, IsEndPlace, header_
 use Rattle.fits_stream.specs.Intake.{Finds, Supply, Takes}
 use Rattle.fits_card.proofs.EmitLemmas.{joined-at}
 use Rattle.fits_card.proofs.HeaderLemmas.{length-joined_cards, length-header_bytes}
-use Rattle.fits_stream.proofs.SightLemmas.{finds_ahead, takes_ahead}
+use Rattle.fits_stream.proofs.SightLemmas.{takes_ahead}
 
 -- one more piece
 pub pieces-more : (f : List ℕ) (k : ℕ) (cards : List (List ℕ)) (card : List ℕ) → cards ≡ pieces f k → card ≡ piece f k → cards ++ card ∷ [] ≡ pieces f (k + 1)

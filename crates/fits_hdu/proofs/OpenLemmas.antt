@@ -2,7 +2,7 @@
 use Rattle.std.proofs.Common.{◌≡◌, ℕ, ◌+◌, ◌-◌, ◌≤◌, ◌++◌, Bool, List, length, drop, ap, sym, subst, ◌∙◌, arith}
 use Rattle.std.proofs.lemmas.List.{drop_at, length-append}
 use Rattle.fits_stream.specs.Intake.{Finds, Supply, Takes}
-use Rattle.fits_stream.proofs.SightLemmas.{finds_ahead, takes_ahead}
+use Rattle.fits_stream.proofs.SightLemmas.{takes_ahead}
 use Rattle.fits_hdu.specs.Hdu.{HasHduFault, HduFails, HduParts, IsHdu, IsHduOf, hdu_bytes}
 use Rattle.fits_hdu.specs.Reading.{HduStops}
 use Rattle.fits_hdu.specs.declared.fault.HduFault.{HduFault}
