@@ -4,4 +4,4 @@ use Rattle.fits_codes.proofs.header_rules.judge_header_mark.Goals as goal
 
 pub returns : goal.returns
 unfolding has_header_code header_judged
-returns c = found-all (has_header_code c.args.mark.now c.args.shape.now) header_codes _ (search (found-none, found-more, c.is_outside.ensures, c.image_bits.ensures) depth 20 fits 100000)
+returns c = found-all (has_header_code c.args.mark.now c.args.shape.now) header_codes _ (search (found-none, found-more, c.is_outside.ensures, c.image_bits.ensures) depth 40 fits 100000)

@@ -4,4 +4,4 @@ use Rattle.fits_codes.proofs.judging.judge_each.Goals as goal
 
 pub returns : goal.returns
 unfolding has_code judged
-returns c = found-all (has_code c.args.mark.now c.args.context.now) card_codes _ (search (found-none, found-more) depth 20 fits 100000)
+returns c = found-all (has_code c.args.mark.now c.args.context.now) card_codes _ (search (found-none, found-more) depth 40 fits 100000)
