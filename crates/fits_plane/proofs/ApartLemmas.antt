@@ -1,13 +1,13 @@
 -- A scan that adds up all numbers apart, and takes the blank ones off at the end.
-use Rattle.std.proofs.Common.{◌<◌, ◌≤◌, zero, inl, inr, ◌≡◌, ◌≢◌, ◌+◌, ℕ, suc, Bool, true, false, cond, not, List, [], ◌∷◌, length, refl, arith, sym, ◌∙◌, ap, Option, Some, None}
+use Rattle.std.proofs.Common.{◌<◌, ◌≤◌, zero, inl, inr, ◌≡◌, ◌≢◌, ◌+◌, ℕ, suc, Bool, true, false, cond, not, List, [], ◌∷◌, length, refl, arith, ◌∙◌, ap, Option, Some, None}
 use Rattle.std.specs.Prelude.{int_lt, ◌≤ℤ◌, filter, ℤ, pos, ◌+ℤ◌, ◌-ℤ◌, ◌*ℤ◌}
 use Rattle.std.specs.Int.{int_min, int_max}
 use Rattle.std.proofs.lemmas.Int.{ints, clamps}
 use Rattle.std.proofs.lemmas.Bool.{cases_eq}
-use Rattle.fits_plane.specs.Statistics.{is_blank, defined_numbers, sum_of, statistics}
+use Rattle.fits_plane.specs.Statistics.{is_blank, defined_numbers, sum_of}
 use Rattle.fits_plane.specs.Pixels.{pixel, pixels}
-use Rattle.fits_plane.specs.Scan.{found_summary, negative_count}
-use Rattle.fits_plane.proofs.ScanLemmas.{Scanned, AllBetween, scanned_skip, scanned_use, scanned_turn, scanned_result, pixels-step}
+use Rattle.fits_plane.specs.Scan.{negative_count}
+use Rattle.fits_plane.proofs.ScanLemmas.{Scanned, scanned_skip, scanned_use, scanned_turn, pixels-step}
 use Rattle.fits_plane.proofs.ValueLemmas.{times_more, times_none}
 
 -- what a scan without a sum has found so far: with some sum it has scanned
@@ -57,31 +57,14 @@ off_case true b x s bs ds same ih = omega (arith, ints, same refl, times_more (l
 off_case false b x s bs ds same ih = omega (arith, ints, ih)
 
 -- the sum of all numbers, the blank ones taken off
-blanks_off : (b : ℤ) (xs : List ℤ) → sum_of xs +ℤ pos (length (filter (is_blank (Some b)) xs)) *ℤ (pos 0 -ℤ b) ≡ sum_of (defined_numbers (Some b) xs)
+pub blanks_off : (b : ℤ) (xs : List ℤ) → sum_of xs +ℤ pos (length (filter (is_blank (Some b)) xs)) *ℤ (pos 0 -ℤ b) ≡ sum_of (defined_numbers (Some b) xs)
 blanks_off b [] = omega (arith, ints, times_none (pos 0 -ℤ b))
 blanks_off b (x ∷ xs) = off_case (is_blank (Some b) x) b x (sum_of xs) (filter (is_blank (Some b)) xs) (defined_numbers (Some b) xs) (is_blank_is b x) (blanks_off b xs)
 
--- at the end the numbers found and the total are the statistics
-pub ranged_result : (b b' : ℤ) (top bottom low high low' high' total : ℤ) (defined blanks blanks' : ℕ) (all : List ℤ) → Ranged (Some b) top bottom low high blanks [] all → AllBetween bottom top all → defined + blanks' ≡ length all
-    → low' ≡ low → high' ≡ high → blanks' ≡ blanks → total ≡ sum_of all → b' ≡ b → found_summary defined blanks' low' high' (total +ℤ pos blanks' *ℤ (pos 0 -ℤ b')) ≡ statistics (Some b) all
-ranged_result b b' top bottom low high low' high' total defined blanks blanks' all s range n p q t u v =
-    let count : blanks' ≡ length (filter (is_blank (Some b)) all) = omega (arith, s.scanned.counted, t) in
-    let off = ap (λ k. sum_of all +ℤ pos k *ℤ (pos 0 -ℤ b)) count ∙ blanks_off b all in
-    let sum = ap (λ z. total +ℤ pos blanks' *ℤ (pos 0 -ℤ z)) v in
-    let whole : total +ℤ pos blanks' *ℤ (pos 0 -ℤ b') ≡ s.sum = omega (arith, ints, s.scanned.total, u, off, sum) in
-    rw (sym t) at (scanned_result (Some b) top bottom low high s.sum low' high' _ defined blanks all s.scanned range (omega (arith, n, t)) p q whole)
-
 -- where none is blank, all are defined
-all_defined : (xs : List ℤ) → defined_numbers None xs ≡ xs
+pub all_defined : (xs : List ℤ) → defined_numbers None xs ≡ xs
 all_defined [] = refl
 all_defined (x ∷ xs) = ap (λ l. x ∷ l) (all_defined xs)
-
--- the same where none is blank
-pub ranged_defined : (top bottom low high low' high' sum : ℤ) (defined : ℕ) (all : List ℤ) → Ranged None top bottom low high 0 [] all → AllBetween bottom top all → defined + 0 ≡ length all
-    → low' ≡ low → high' ≡ high → sum ≡ sum_of all → found_summary defined 0 low' high' sum ≡ statistics None all
-ranged_defined top bottom low high low' high' sum defined all s range n p q t =
-    let whole : sum ≡ s.sum = omega (arith, ints, s.scanned.total, t, ap sum_of (all_defined all)) in
-    scanned_result None top bottom low high s.sum low' high' sum defined 0 all s.scanned range n p q whole
 
 -- ---- pixels that are blank before the first that is not
 

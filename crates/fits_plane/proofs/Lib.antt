@@ -22,6 +22,7 @@ pub mod RowLemmas
 pub mod RunLemmas
 pub mod ScanLemmas
 pub mod ShortRowLemmas
+pub mod SignedLemmas
 pub mod TestLemmas
 pub mod TreeLemmas
 pub mod TurnLemmas

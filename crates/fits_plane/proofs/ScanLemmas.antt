@@ -1,6 +1,6 @@
 -- A scan of stored_number numbers, with plain numbers for the least and the greatest.
 use Rattle.std.proofs.Common.{◌≡◌, ◌≢◌, ◌<◌, ◌+◌, ◌*◌, ◌^◌, ℕ, zero, suc, Bool, true, false, cond, not, ◌==◌, List, [], ◌∷◌, length, slice_index, refl, arith, sym, ◌∙◌, ap, Option, Some, None}
-use Rattle.std.specs.Prelude.{FitsSigned, min, max, filter, ℤ, pos, negsuc, ◌+ℤ◌, ◌≤ℤ◌}
+use Rattle.std.specs.Prelude.{min, max, filter, ℤ, pos, negsuc, ◌+ℤ◌, ◌≤ℤ◌}
 use Rattle.std.specs.Int.{FitsUnsignedBits, cast_signed, int_min, int_max, w16, w32, w64}
 use Rattle.std.proofs.lemmas.Int.{ints, clamps}
 use Rattle.std.proofs.lemmas.Bool.Decides.{nat_tests}
@@ -88,12 +88,12 @@ some_found : (n : ℕ) (y : Option ℤ) → cond (suc n == 0) None y ≡ y
 some_found n y = let z : (suc n == 0) ≡ false = grind (arith, nat_tests) in rw z refl
 
 -- the least found is the least
-least_found : (bottom top : ℤ) (ds : List ℤ) → AllBetween bottom top ds → cond (length ds == 0) None (Some (low_from top ds)) ≡ least_of ds
+pub least_found : (bottom top : ℤ) (ds : List ℤ) → AllBetween bottom top ds → cond (length ds == 0) None (Some (low_from top ds)) ≡ least_of ds
 least_found bottom top [] h = refl
 least_found bottom top (x ∷ xs) h = some_found (length xs) _ ∙ low_is top (x ∷ xs) ∙ sym (lesser_assoc (Some top) (Some x) (least_of xs)) ∙ ap (λ z. lesser (Some z) (least_of xs)) (under_top top x h.1)
 
 -- the greatest found is the greatest
-greatest_found : (bottom top : ℤ) (ds : List ℤ) → AllBetween bottom top ds → cond (length ds == 0) None (Some (high_from bottom ds)) ≡ greatest_of ds
+pub greatest_found : (bottom top : ℤ) (ds : List ℤ) → AllBetween bottom top ds → cond (length ds == 0) None (Some (high_from bottom ds)) ≡ greatest_of ds
 greatest_found bottom top [] h = refl
 greatest_found bottom top (x ∷ xs) h = some_found (length xs) _ ∙ high_is bottom (x ∷ xs) ∙ sym (greater_assoc (Some bottom) (Some x) (greatest_of xs)) ∙ ap (λ z. greater (Some z) (greatest_of xs)) (over_bottom bottom x h.0)
 
@@ -103,7 +103,7 @@ keep_case true bottom top x ds p q h = h
 keep_case false bottom top x ds p q h = (p, q, h)
 
 -- the defined numbers lie in the range too
-defined_between : (b : Option ℤ) (bottom top : ℤ) (xs : List ℤ) → AllBetween bottom top xs → AllBetween bottom top (defined_numbers b xs)
+pub defined_between : (b : Option ℤ) (bottom top : ℤ) (xs : List ℤ) → AllBetween bottom top xs → AllBetween bottom top (defined_numbers b xs)
 defined_between b bottom top [] h = tt
 defined_between b bottom top (x ∷ xs) h = keep_case (is_blank b x) bottom top x (defined_numbers b xs) h.0 h.1 (defined_between b bottom top xs h.2)
 
@@ -113,7 +113,7 @@ count_case true x ds bs n e = omega (arith, e)
 count_case false x ds bs n e = omega (arith, e)
 
 -- defined and blank numbers are all numbers
-counts : (b : Option ℤ) (xs : List ℤ) → length (defined_numbers b xs) + length (filter (is_blank b) xs) ≡ length xs
+pub counts : (b : Option ℤ) (xs : List ℤ) → length (defined_numbers b xs) + length (filter (is_blank b) xs) ≡ length xs
 counts b [] = refl
 counts b (x ∷ xs) = count_case (is_blank b x) x (defined_numbers b xs) (filter (is_blank b) xs) (length xs) (counts b xs)
 
@@ -260,14 +260,6 @@ pub blank_outside : (b bottom top : ℤ) (xs : List ℤ) → AllBetween bottom t
 blank_outside b bottom top xs h far =
     let n = no_blank b bottom top xs h far in
     same_pixels _ _ _ _ _ _ _ _ _ _ (ap length n.defined) (ap length n.blank) (ap least_of n.defined) (ap greatest_of n.defined) (ap sum_of n.defined)
-
--- what tells that a number isn't one of a narrower type
-pub not_16 : (b : ℤ) → (FitsSigned w16 b → ⊥) → negsuc 32767 ≤ℤ b → b ≤ℤ pos 32767 → ⊥
-not_16 b n h k = n (omega (arith, ints, h, k))
-
--- the same at 32 bits
-pub not_32 : (b : ℤ) → (FitsSigned w32 b → ⊥) → negsuc 2147483647 ≤ℤ b → b ≤ℤ pos 2147483647 → ⊥
-not_32 b n h k = n (omega (arith, ints, h, k))
 
 -- ---- numbers without a sign
 

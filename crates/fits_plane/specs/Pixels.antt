@@ -8,6 +8,10 @@ use Rattle.byteorder.specs.Endian.{big_from, big_bytes, low_bytes, twos_compleme
 abbrev pub IsWidth : ℕ → Type 0
 IsWidth width = (width ≡ 1) ⊎ ((width ≡ 2) ⊎ ((width ≡ 4) ⊎ (width ≡ 8)))
 
+-- how many bytes one has that can be negative
+abbrev pub IsSigned : ℕ → Type 0
+IsSigned width = (width ≡ 2) ⊎ ((width ≡ 4) ⊎ (width ≡ 8))
+
 -- the number that a pixel's bits stand for: unsigned at one byte, else two's complement
 abbrev pub stored_number : ℕ → ℕ → ℤ
 stored_number width bits = if width == 1 then pos bits else twos_complement width bits

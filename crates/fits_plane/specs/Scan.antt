@@ -1,7 +1,10 @@
 -- What one pass over the pixels of a block finds.
-use Rattle.std.specs.Prelude.{ℕ, zero, suc, ◌+◌, ◌*◌, ◌==◌, ℤ, pos, int_lt, Some, None, List, [], ◌∷◌, min, max, if◌then◌else◌}
+use Rattle.std.specs.Prelude.{◌≡◌, ℕ, zero, suc, ◌+◌, ◌*◌, ◌==◌, ℤ, pos, int_lt, Option, Some, None, List, [], ◌∷◌, length, filter, min, max, if◌then◌else◌}
 use Rattle.byteorder.specs.Endian.{big_from}
+use Rattle.fits_plane.specs.declared.extremes.Extremes.{Extremes}
 use Rattle.fits_plane.specs.declared.pixel_summary.PixelSummary.{PixelSummary}
+use Rattle.fits_plane.specs.Pixels.{can_store}
+use Rattle.fits_plane.specs.Statistics.{is_blank, defined_numbers, least_of, greatest_of}
 
 -- the numbers found: no least or greatest where no pixel is defined
 abbrev pub found_summary : ℕ → ℕ → ℤ → ℤ → ℤ → PixelSummary
@@ -32,3 +35,16 @@ negative_count (x ∷ xs) = (if int_lt x (pos 0) then 1 else 0) + negative_count
 abbrev pub unsigned_total : ℕ → List ℕ → ℕ → ℕ → ℕ
 unsigned_total width bytes i zero = 0
 unsigned_total width bytes i (suc n) = big_from (i * width) width bytes + unsigned_total width bytes (i + 1) n
+
+-- the number that BLANK names, where pixels of so many bytes can store it
+abbrev pub storable_blank : ℕ → Option ℤ → Option ℤ
+storable_blank width None = None
+storable_blank width (Some b) = if can_store width b then Some b else None
+
+-- what a pass over the numbers finds: the least and the greatest of those defined, where one is, how
+-- many are negative, and how many blank
+pub record AreExtremes (blank : Option ℤ) (xs : List ℤ) (e : Extremes) : Type 0 where
+  pub least : (if length (defined_numbers blank xs) == 0 then None else Some e.least) ≡ least_of (defined_numbers blank xs)
+  pub greatest : (if length (defined_numbers blank xs) == 0 then None else Some e.greatest) ≡ greatest_of (defined_numbers blank xs)
+  pub negatives : e.negatives ≡ negative_count xs
+  pub blanks : e.blanks ≡ length (filter (is_blank blank) xs)

@@ -3,6 +3,7 @@
 
 mod both;
 mod exchange;
+mod extremes;
 mod halves;
 pub mod laws;
 mod layout;
@@ -26,6 +27,7 @@ mod rescan;
 mod scan;
 mod scan_end;
 mod short_rows;
+mod signed;
 mod summary;
 mod tree;
 mod value_summary;

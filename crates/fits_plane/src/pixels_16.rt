@@ -1,15 +1,10 @@
-//! The statistics of a block of 16-bit pixels.
-//!
-//! A pass holds numbers of the pixel's own type, and counts no wider than a block needs. The sum of
-//! the pixels of a full block comes from their total without signs; those of a block that is filled
-//! in part are added up by themselves. What is blank is taken off at the end.
-ghost use Rattle.std.specs.Prelude.{◌≡◌, ◌≢◌, ◌≤◌, ◌<◌, ℕ, pos, int_lt, if◌then◌else◌, ◌*◌, ◌+◌, ◌/◌, length, Some, None, unsigned_abs};
+//! What is found of a block of 16-bit pixels by one pass, which holds numbers of the pixel's own type,
+//! and counts no wider than a block needs.
+ghost use Rattle.std.specs.Prelude.{◌≡◌, ◌≢◌, ◌≤◌, ◌<◌, ℕ, pos, int_lt, if◌then◌else◌, ◌*◌, ◌+◌, length, Some, None};
 ghost use Rattle.fits_plane.specs.Pixels.{pixel, pixels};
-ghost use Rattle.fits_plane.specs.Statistics.{statistics, sum_of};
-ghost use Rattle.fits_plane.specs.Scan.{negative_count, unsigned_total};
+ghost use Rattle.fits_plane.specs.Scan.{AreExtremes};
 
-use crate::pixel_summary::PixelSummary;
-use crate::scan_end::{found, found_beside};
+use crate::extremes::Extremes;
 use byteorder::{BigEndian, ByteOrder};
 
 /// Stored pixel i.
@@ -20,46 +15,11 @@ pub(crate) fn read(block: &[u8], i: usize) -> i16
     BigEndian::read_i16(&block[2 * i..])
 }
 
-/// The sum of the first pixels, one by one.
-fn added(block: &[u8], held: usize) -> i32
+/// What is found where none is blank.
+pub(crate) fn defined(block: &[u8], held: usize) -> Extremes
     requires within { held * 2 ≤ length block.now }
     requires short { length block.now ≤ 2880 }
-    ensures value { result ≡ sum_of (pixels 2 block.now 0 held) }
-    ensures within { unsigned_abs result ≤ 32768 * held }
-{
-    let mut total = 0i32;
-    for i in 0..held {
-        total += i32::from(read(block, i));
-    }
-    total
-}
-
-/// The sum of the first pixels, so many of which are negative. In a full block it follows from the
-/// total without signs.
-fn total_of(block: &[u8], held: usize, negatives: u16, total: u32) -> i32
-    requires within { held * 2 ≤ length block.now }
-    requires short { length block.now ≤ 2880 }
-    requires few { negatives ≤ held }
-    requires negatives { negatives ≡ negative_count (pixels 2 block.now 0 held) }
-    requires total { total ≡ unsigned_total 2 block.now 0 (length block.now / 2) }
-    requires small { total ≤ 1440 * 65536 }
-    ensures value { result ≡ sum_of (pixels 2 block.now 0 held) }
-    ensures within { unsigned_abs result ≤ 1440 * 65536 }
-{
-    if held * 2 < block.len() {
-        added(block, held)
-    } else {
-        total as i32 - i32::from(negatives) * 65_536
-    }
-}
-
-/// The statistics of the first pixels, where none is blank.
-fn scan_defined(block: &[u8], held: usize, total: u32) -> PixelSummary
-    requires within { held * 2 ≤ length block.now }
-    requires short { length block.now ≤ 2880 }
-    requires total { total ≡ unsigned_total 2 block.now 0 (length block.now / 2) }
-    requires small { total ≤ 1440 * 65536 }
-    ensures { result ≡ statistics None (pixels 2 block.now 0 held) }
+    ensures { AreExtremes None (pixels 2 block.now 0 held) result }
 {
     let mut least = i16::MAX;
     let mut greatest = i16::MIN;
@@ -70,14 +30,12 @@ fn scan_defined(block: &[u8], held: usize, total: u32) -> PixelSummary
         greatest = greatest.max(x);
         negatives += u16::from(x < 0);
     }
-    let sum = total_of(block, held, negatives, total);
-    found(
-        held as u64,
-        0,
-        i64::from(least),
-        i64::from(greatest),
-        i128::from(sum),
-    )
+    Extremes {
+        least: i64::from(least),
+        greatest: i64::from(greatest),
+        negatives: u64::from(negatives),
+        blanks: 0,
+    }
 }
 
 /// How many pixels are blank before the first that is not.
@@ -110,13 +68,11 @@ fn negative_blanks(blank: i16, count: u16) -> u16
     if blank < 0 { count } else { 0 }
 }
 
-/// The statistics of the first pixels, where one number is blank.
-fn scan_blank(block: &[u8], held: usize, blank: i16, total: u32) -> PixelSummary
+/// What is found where one number is blank.
+pub(crate) fn beside(block: &[u8], held: usize, blank: i16) -> Extremes
     requires within { held * 2 ≤ length block.now }
     requires short { length block.now ≤ 2880 }
-    requires total { total ≡ unsigned_total 2 block.now 0 (length block.now / 2) }
-    requires small { total ≤ 1440 * 65536 }
-    ensures { result ≡ statistics (Some blank) (pixels 2 block.now 0 held) }
+    ensures { AreExtremes (Some blank) (pixels 2 block.now 0 held) result }
 {
     let first = leading_blanks(block, held, blank);
     // A blank pixel counts as the first that is not, which moves neither the least nor the greatest.
@@ -136,29 +92,10 @@ fn scan_blank(block: &[u8], held: usize, blank: i16, total: u32) -> PixelSummary
         greatest = greatest.max(used);
         negatives += u16::from(x < 0);
     }
-    let total = total_of(block, held, negatives, total);
-    found_beside(
-        held,
-        u64::from(blanks),
-        i64::from(least),
-        i64::from(greatest),
-        i128::from(total),
-        i64::from(blank),
-    )
-}
-
-/// The statistics of the first pixels. A BLANK outside the pixels' range marks none.
-pub(crate) fn scan(block: &[u8], held: usize, blank: Option<i64>, total: u32) -> PixelSummary
-    requires within { held * 2 ≤ length block.now }
-    requires short { length block.now ≤ 2880 }
-    requires total { total ≡ unsigned_total 2 block.now 0 (length block.now / 2) }
-    requires small { total ≤ 1440 * 65536 }
-    ensures { result ≡ statistics blank (pixels 2 block.now 0 held) }
-{
-    if let Some(number) = blank {
-        if let Ok(number) = i16::try_from(number) {
-            return scan_blank(block, held, number, total);
-        }
+    Extremes {
+        least: i64::from(least),
+        greatest: i64::from(greatest),
+        negatives: u64::from(negatives),
+        blanks: u64::from(blanks),
     }
-    scan_defined(block, held, total)
 }

@@ -1,15 +1,10 @@
-//! The statistics of a block of 32-bit pixels.
-//!
-//! A pass holds numbers of the pixel's own type, and counts no wider than a block needs. The sum of
-//! the pixels of a full block comes from their total without signs; those of a block that is filled
-//! in part are added up by themselves. What is blank is taken off at the end.
-ghost use Rattle.std.specs.Prelude.{◌≡◌, ◌≢◌, ◌≤◌, ◌<◌, ℕ, pos, int_lt, if◌then◌else◌, ◌*◌, ◌+◌, ◌/◌, ◌^◌, length, Some, None, unsigned_abs};
+//! What is found of a block of 32-bit pixels by one pass, which holds numbers of the pixel's own type,
+//! and counts no wider than a block needs.
+ghost use Rattle.std.specs.Prelude.{◌≡◌, ◌≢◌, ◌≤◌, ◌<◌, ℕ, pos, int_lt, if◌then◌else◌, ◌*◌, ◌+◌, length, Some, None};
 ghost use Rattle.fits_plane.specs.Pixels.{pixel, pixels};
-ghost use Rattle.fits_plane.specs.Statistics.{statistics, sum_of};
-ghost use Rattle.fits_plane.specs.Scan.{negative_count, unsigned_total};
+ghost use Rattle.fits_plane.specs.Scan.{AreExtremes};
 
-use crate::pixel_summary::PixelSummary;
-use crate::scan_end::{found, found_beside};
+use crate::extremes::Extremes;
 use byteorder::{BigEndian, ByteOrder};
 
 /// Stored pixel i.
@@ -20,46 +15,11 @@ pub(crate) fn read(block: &[u8], i: usize) -> i32
     BigEndian::read_i32(&block[4 * i..])
 }
 
-/// The sum of the first pixels, one by one.
-fn added(block: &[u8], held: usize) -> i64
+/// What is found where none is blank.
+pub(crate) fn defined(block: &[u8], held: usize) -> Extremes
     requires within { held * 4 ≤ length block.now }
     requires short { length block.now ≤ 2880 }
-    ensures value { result ≡ sum_of (pixels 4 block.now 0 held) }
-    ensures within { unsigned_abs result ≤ 2147483648 * held }
-{
-    let mut total = 0i64;
-    for i in 0..held {
-        total += i64::from(read(block, i));
-    }
-    total
-}
-
-/// The sum of the first pixels, so many of which are negative. In a full block it follows from the
-/// total without signs.
-fn total_of(block: &[u8], held: usize, negatives: u32, total: u64) -> i64
-    requires within { held * 4 ≤ length block.now }
-    requires short { length block.now ≤ 2880 }
-    requires few { negatives ≤ held }
-    requires negatives { negatives ≡ negative_count (pixels 4 block.now 0 held) }
-    requires total { total ≡ unsigned_total 4 block.now 0 (length block.now / 4) }
-    requires small { total ≤ 720 * 2 ^ 32 }
-    ensures value { result ≡ sum_of (pixels 4 block.now 0 held) }
-    ensures within { unsigned_abs result ≤ 720 * 2 ^ 32 }
-{
-    if held * 4 < block.len() {
-        added(block, held)
-    } else {
-        total as i64 - i64::from(negatives) * 4_294_967_296
-    }
-}
-
-/// The statistics of the first pixels, where none is blank.
-fn scan_defined(block: &[u8], held: usize, total: u64) -> PixelSummary
-    requires within { held * 4 ≤ length block.now }
-    requires short { length block.now ≤ 2880 }
-    requires total { total ≡ unsigned_total 4 block.now 0 (length block.now / 4) }
-    requires small { total ≤ 720 * 2 ^ 32 }
-    ensures { result ≡ statistics None (pixels 4 block.now 0 held) }
+    ensures { AreExtremes None (pixels 4 block.now 0 held) result }
 {
     let mut least = i32::MAX;
     let mut greatest = i32::MIN;
@@ -70,14 +30,12 @@ fn scan_defined(block: &[u8], held: usize, total: u64) -> PixelSummary
         greatest = greatest.max(x);
         negatives += u32::from(x < 0);
     }
-    let sum = total_of(block, held, negatives, total);
-    found(
-        held as u64,
-        0,
-        i64::from(least),
-        i64::from(greatest),
-        i128::from(sum),
-    )
+    Extremes {
+        least: i64::from(least),
+        greatest: i64::from(greatest),
+        negatives: u64::from(negatives),
+        blanks: 0,
+    }
 }
 
 /// How many pixels are blank before the first that is not.
@@ -110,13 +68,11 @@ fn negative_blanks(blank: i32, count: u32) -> u32
     if blank < 0 { count } else { 0 }
 }
 
-/// The statistics of the first pixels, where one number is blank.
-fn scan_blank(block: &[u8], held: usize, blank: i32, total: u64) -> PixelSummary
+/// What is found where one number is blank.
+pub(crate) fn beside(block: &[u8], held: usize, blank: i32) -> Extremes
     requires within { held * 4 ≤ length block.now }
     requires short { length block.now ≤ 2880 }
-    requires total { total ≡ unsigned_total 4 block.now 0 (length block.now / 4) }
-    requires small { total ≤ 720 * 2 ^ 32 }
-    ensures { result ≡ statistics (Some blank) (pixels 4 block.now 0 held) }
+    ensures { AreExtremes (Some blank) (pixels 4 block.now 0 held) result }
 {
     let first = leading_blanks(block, held, blank);
     // A blank pixel counts as the first that is not, which moves neither the least nor the greatest.
@@ -136,29 +92,10 @@ fn scan_blank(block: &[u8], held: usize, blank: i32, total: u64) -> PixelSummary
         greatest = greatest.max(used);
         negatives += u32::from(x < 0);
     }
-    let total = total_of(block, held, negatives, total);
-    found_beside(
-        held,
-        u64::from(blanks),
-        i64::from(least),
-        i64::from(greatest),
-        i128::from(total),
-        i64::from(blank),
-    )
-}
-
-/// The statistics of the first pixels. A BLANK outside the pixels' range marks none.
-pub(crate) fn scan(block: &[u8], held: usize, blank: Option<i64>, total: u64) -> PixelSummary
-    requires within { held * 4 ≤ length block.now }
-    requires short { length block.now ≤ 2880 }
-    requires total { total ≡ unsigned_total 4 block.now 0 (length block.now / 4) }
-    requires small { total ≤ 720 * 2 ^ 32 }
-    ensures { result ≡ statistics blank (pixels 4 block.now 0 held) }
-{
-    if let Some(number) = blank {
-        if let Ok(number) = i32::try_from(number) {
-            return scan_blank(block, held, number, total);
-        }
+    Extremes {
+        least: i64::from(least),
+        greatest: i64::from(greatest),
+        negatives: u64::from(negatives),
+        blanks: u64::from(blanks),
     }
-    scan_defined(block, held, total)
 }

@@ -1,15 +1,10 @@
-//! The statistics of a block of 64-bit pixels.
-//!
-//! A pass holds numbers of the pixel's own type, and counts as wide. The sum of the pixels of a full
-//! block comes from their total without signs; those of a block that is filled in part are added up
-//! by themselves. What is blank is taken off at the end.
-ghost use Rattle.std.specs.Prelude.{◌≡◌, ◌≢◌, ◌≤◌, ◌<◌, ℕ, pos, int_lt, if◌then◌else◌, ◌*◌, ◌+◌, ◌/◌, ◌^◌, length, Some, None, unsigned_abs};
+//! What is found of a block of 64-bit pixels by one pass, which holds numbers of the pixel's own type,
+//! and counts as wide.
+ghost use Rattle.std.specs.Prelude.{◌≡◌, ◌≢◌, ◌≤◌, ◌<◌, ℕ, pos, int_lt, if◌then◌else◌, ◌*◌, ◌+◌, length, Some, None};
 ghost use Rattle.fits_plane.specs.Pixels.{pixel, pixels};
-ghost use Rattle.fits_plane.specs.Statistics.{statistics, sum_of};
-ghost use Rattle.fits_plane.specs.Scan.{negative_count, unsigned_total};
+ghost use Rattle.fits_plane.specs.Scan.{AreExtremes};
 
-use crate::pixel_summary::PixelSummary;
-use crate::scan_end::{found, found_beside};
+use crate::extremes::Extremes;
 use byteorder::{BigEndian, ByteOrder};
 
 /// Stored pixel i.
@@ -20,46 +15,11 @@ pub(crate) fn read(block: &[u8], i: usize) -> i64
     BigEndian::read_i64(&block[8 * i..])
 }
 
-/// The sum of the first pixels, one by one.
-fn added(block: &[u8], held: usize) -> i128
+/// What is found where none is blank.
+pub(crate) fn defined(block: &[u8], held: usize) -> Extremes
     requires within { held * 8 ≤ length block.now }
     requires short { length block.now ≤ 2880 }
-    ensures value { result ≡ sum_of (pixels 8 block.now 0 held) }
-    ensures within { unsigned_abs result ≤ 9223372036854775808 * held }
-{
-    let mut total = 0i128;
-    for i in 0..held {
-        total += i128::from(read(block, i));
-    }
-    total
-}
-
-/// The sum of the first pixels, so many of which are negative. In a full block it follows from the
-/// total without signs.
-fn total_of(block: &[u8], held: usize, negatives: u64, total: u128) -> i128
-    requires within { held * 8 ≤ length block.now }
-    requires short { length block.now ≤ 2880 }
-    requires few { negatives ≤ held }
-    requires negatives { negatives ≡ negative_count (pixels 8 block.now 0 held) }
-    requires total { total ≡ unsigned_total 8 block.now 0 (length block.now / 8) }
-    requires small { total ≤ 360 * 2 ^ 64 }
-    ensures value { result ≡ sum_of (pixels 8 block.now 0 held) }
-    ensures within { unsigned_abs result ≤ 360 * 2 ^ 64 }
-{
-    if held * 8 < block.len() {
-        added(block, held)
-    } else {
-        total as i128 - i128::from(negatives) * 18_446_744_073_709_551_616
-    }
-}
-
-/// The statistics of the first pixels, where none is blank.
-fn scan_defined(block: &[u8], held: usize, total: u128) -> PixelSummary
-    requires within { held * 8 ≤ length block.now }
-    requires short { length block.now ≤ 2880 }
-    requires total { total ≡ unsigned_total 8 block.now 0 (length block.now / 8) }
-    requires small { total ≤ 360 * 2 ^ 64 }
-    ensures { result ≡ statistics None (pixels 8 block.now 0 held) }
+    ensures { AreExtremes None (pixels 8 block.now 0 held) result }
 {
     let mut least = i64::MAX;
     let mut greatest = i64::MIN;
@@ -70,8 +30,12 @@ fn scan_defined(block: &[u8], held: usize, total: u128) -> PixelSummary
         greatest = greatest.max(x);
         negatives += u64::from(x < 0);
     }
-    let sum = total_of(block, held, negatives, total);
-    found(held as u64, 0, least, greatest, sum)
+    Extremes {
+        least,
+        greatest,
+        negatives,
+        blanks: 0,
+    }
 }
 
 /// How many pixels are blank before the first that is not.
@@ -104,13 +68,11 @@ fn negative_blanks(blank: i64, count: u64) -> u64
     if blank < 0 { count } else { 0 }
 }
 
-/// The statistics of the first pixels, where one number is blank.
-fn scan_blank(block: &[u8], held: usize, blank: i64, total: u128) -> PixelSummary
+/// What is found where one number is blank.
+pub(crate) fn beside(block: &[u8], held: usize, blank: i64) -> Extremes
     requires within { held * 8 ≤ length block.now }
     requires short { length block.now ≤ 2880 }
-    requires total { total ≡ unsigned_total 8 block.now 0 (length block.now / 8) }
-    requires small { total ≤ 360 * 2 ^ 64 }
-    ensures { result ≡ statistics (Some blank) (pixels 8 block.now 0 held) }
+    ensures { AreExtremes (Some blank) (pixels 8 block.now 0 held) result }
 {
     let first = leading_blanks(block, held, blank);
     // A blank pixel counts as the first that is not, which moves neither the least nor the greatest.
@@ -130,20 +92,10 @@ fn scan_blank(block: &[u8], held: usize, blank: i64, total: u128) -> PixelSummar
         greatest = greatest.max(used);
         negatives += u64::from(x < 0);
     }
-    let total = total_of(block, held, negatives, total);
-    found_beside(held, blanks, least, greatest, total, blank)
-}
-
-/// The statistics of the first pixels.
-pub(crate) fn scan(block: &[u8], held: usize, blank: Option<i64>, total: u128) -> PixelSummary
-    requires within { held * 8 ≤ length block.now }
-    requires short { length block.now ≤ 2880 }
-    requires total { total ≡ unsigned_total 8 block.now 0 (length block.now / 8) }
-    requires small { total ≤ 360 * 2 ^ 64 }
-    ensures { result ≡ statistics blank (pixels 8 block.now 0 held) }
-{
-    match blank {
-        None => scan_defined(block, held, total),
-        Some(number) => scan_blank(block, held, number, total),
+    Extremes {
+        least,
+        greatest,
+        negatives,
+        blanks,
     }
 }

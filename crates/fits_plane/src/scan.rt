@@ -14,7 +14,7 @@ use crate::long_halves::long_halves_of;
 use crate::pixel_summary::PixelSummary;
 use crate::summary::Summary;
 use crate::word_summary::WordSummary;
-use crate::{pixels_8, pixels_16, pixels_32, pixels_64};
+use crate::{pixels_8, signed};
 use fits_card::BLOCK_LEN;
 use fits_stream::Count;
 
@@ -43,8 +43,8 @@ fn scan_pixels(
 {
     match width {
         1 => pixels_8::scan(block, held, blank),
-        2 => pixels_16::scan(block, held, blank, halves.high + halves.low),
-        4 => pixels_32::scan(block, held, blank, halves.word_total()),
+        2 => signed::scan(block, 2, held, blank, u128::from(halves.high + halves.low)),
+        4 => signed::scan(block, 4, held, blank, u128::from(halves.word_total())),
         _ => PixelSummary::unit(),
     }
 }
@@ -79,7 +79,7 @@ fn scan_longs(block: &[u8], held: usize, blank: Option<i64>) -> Leaf
 {
     let halves = long_halves_of(block);
     Both {
-        first: pixels_64::scan(block, held, blank, halves.long_total()),
+        first: signed::scan(block, 8, held, blank, halves.long_total()),
         second: WordSummary {
             total: halves.high + halves.low,
         },

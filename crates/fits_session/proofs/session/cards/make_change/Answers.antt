@@ -1,11 +1,6 @@
-<<<<<<< ours
-use Rattle.std.proofs.Common.{Bool, inl, ap, sym, ◌∙◌, arith, length}
+use Rattle.std.proofs.Common.{Bool, true, ◌≡◌, inl, ap, sym, ◌∙◌, arith, length}
 use Rattle.fits_card.specs.Change.{cards_after}
 use Rattle.fits_header.specs.State.{HeaderState}
-=======
-use Rattle.std.proofs.Common.{Bool, true, ◌≡◌, inl, ap, sym, ◌∙◌, arith}
-use Rattle.fits_card.specs.Change.{cards_after}
->>>>>>> theirs
 use Rattle.fits_card.specs.Header.{header_length}
 use Rattle.fits_rules.specs.Class.{is_primary}
 use Rattle.fits_hdu.specs.Hdu.{hdu_after}
