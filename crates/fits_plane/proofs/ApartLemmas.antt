@@ -115,6 +115,11 @@ pub lead_le : (t : Bool) (f r : ℕ) → r ≡ cond t f 0 → r ≤ f
 lead_le true f r e = omega (arith, e)
 lead_le false f r e = omega (arith, e)
 
+-- their count as a number
+pub lead_number : (t : Bool) (f : ℕ) (z r : ℤ) → z ≡ pos f → r ≡ cond t z (pos 0) → r ≡ pos (cond t f 0)
+lead_number true f z r e h = h ∙ e
+lead_number false f z r e h = h
+
 -- the least is at most the first number that is not blank, once that is used
 pub least_bound : (f i : ℕ) (low fill x : ℤ) → f ≤ i → (f < i → low ≤ℤ fill) → (f ≡ i → x ≡ fill) → int_min low x ≤ℤ fill
 least_bound f i low fill x h under here = elim (cases_eq f i) [

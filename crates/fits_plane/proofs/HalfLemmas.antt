@@ -1,9 +1,8 @@
 -- Totals of pixels without their signs, by halves of words.
-use Rattle.std.proofs.Common.{◌≡◌, ◌<◌, ◌+◌, ◌*◌, ◌/◌, ◌%◌, ◌≤◌, ℕ, zero, suc, Bool, true, false, cond, List, refl, arith, sym, ◌∙◌, ap, slice_index, drop}
+use Rattle.std.proofs.Common.{◌≡◌, ◌<◌, ◌+◌, ◌*◌, ◌/◌, ◌%◌, ◌≤◌, ℕ, zero, suc, Bool, true, false, cond, List, arith, sym, ◌∙◌, ap, slice_index, drop}
 use Rattle.std.specs.Prelude.{ℤ, pos, ◌+ℤ◌, int_lt}
 use Rattle.std.proofs.lemmas.Int.{ints}
 use Rattle.std.proofs.lemmas.Bool.Decides.{nat_tests}
-use mir.Val.{bool_byte}
 use Rattle.byteorder.specs.Endian.{big_from, twos_complement}
 use Rattle.byteorder.specs.Numbers.{big_from-lt}
 use Rattle.fits_plane.specs.Statistics.{sum_of}
@@ -34,23 +33,18 @@ total_32 xs i (suc n) h =
     let low = big_from-lt (i * 4) 4 xs h in
     omega (arith, ints, sign_32 (big_from (i * 4) 4 xs) (omega (arith, low)), total_32 xs (i + 1) n h)
 
--- a test as a number
-test_is : (t : Bool) → bool_byte t ≡ cond t 1 0
-test_is true = refl
-test_is false = refl
-
--- it is at most 1
-pub test_le : (t : Bool) (s : ℕ) → s ≡ bool_byte t → s ≤ 1
-test_le true s e = omega (arith, e)
-test_le false s e = omega (arith, e)
+-- a test counts as one at most
+pub test_le : (t : Bool) → cond t 1 0 ≤ 1
+test_le true = omega arith
+test_le false = omega arith
 
 -- a turn of a count of signs
-pub negatives_turn : (w i n j m : ℕ) (xs : List ℕ) (k s all : ℕ) (x y : ℤ) → n ≡ suc m → j ≡ i + 1 → x ≡ pixel w xs i → y ≡ x → k + negative_count (pixels w xs i n) ≡ all
-    → s ≡ bool_byte (int_lt y (pos 0)) → k + s + negative_count (pixels w xs j m) ≡ all
-negatives_turn w i n j m xs k s all x y e f here same h p =
+pub negatives_turn : (w i n j m : ℕ) (xs : List ℕ) (k k' x : ℤ) (t : Bool) (all : ℕ) → n ≡ suc m → j ≡ i + 1 → x ≡ pixel w xs i → k +ℤ pos (negative_count (pixels w xs i n)) ≡ pos all
+    → t ≡ int_lt x (pos 0) → k' ≡ k +ℤ pos (cond t 1 0) → k' +ℤ pos (negative_count (pixels w xs j m)) ≡ pos all
+negatives_turn w i n j m xs k k' x t all e f here h sign p =
     let h' = rw (pixels-step w xs i n j m e f) at h in
-    let p' = rw (same ∙ here) at (p ∙ test_is (int_lt y (pos 0))) in
-    omega (arith, h', p')
+    let p' = rw (sign ∙ ap (λ z. int_lt z (pos 0)) here) at p in
+    omega (arith, ints, h', p')
 
 -- ---- a word has two halves
 

@@ -1,10 +1,11 @@
 -- Pixels that have a sign: what a pass finds of them, with their sum, is their statistics.
 use Rattle.std.proofs.Common.{◌≡◌, ◌≤◌, ◌<◌, ◌+◌, ◌*◌, ◌/◌, ◌^◌, ◌==◌, ℕ, suc, Bool, true, false, cond, inl, inr, List, [], ◌∷◌, length, slice_index, refl, arith, sym, ◌∙◌, ap, Option, Some, None}
 use Rattle.std.specs.Prelude.{filter, int_lt, ℤ, pos, ◌+ℤ◌, ◌-ℤ◌, ◌*ℤ◌}
+use Rattle.std.proofs.lemmas.Int.{ints}
 use Rattle.fits_plane.specs.declared.extremes.Extremes.{Extremes}
 use Rattle.fits_plane.specs.SummaryLaws.{same_pixels}
 use Rattle.fits_plane.specs.Statistics.{is_blank, defined_numbers, sum_of, statistics}
-use Rattle.fits_plane.specs.Pixels.{pixels, IsSigned, can_store, least_stored, greatest_stored}
+use Rattle.fits_plane.specs.Pixels.{pixels, IsSigned, IsStorable, can_store, least_stored, greatest_stored}
 use Rattle.fits_plane.specs.Scan.{AreExtremes, found_summary, negative_count, storable_blank, unsigned_total}
 use Rattle.fits_plane.proofs.ApartLemmas.{Ranged, all_defined, blanks_off}
 use Rattle.fits_plane.proofs.HalfLemmas.{total_16, total_32, total_64}
@@ -48,6 +49,10 @@ few_negatives (x ∷ xs) = one_more (int_lt x (pos 0)) (few_negatives xs)
     one_more : {m n : ℕ} (t : Bool) → m ≤ n → cond t 1 0 + m ≤ suc n
     one_more true h = omega (arith, h)
     one_more false h = omega (arith, h)
+
+-- a pixel can store a count of them
+pub count_storable : (w n : ℕ) → IsSigned w → n ≤ 1440 → IsStorable w (pos n)
+count_storable w n s h = by_sign (λ w. IsStorable w (pos n)) (record { least = omega (arith, ints); greatest = omega (arith, ints, h) }) (record { least = omega (arith, ints); greatest = omega (arith, ints, h) }) (record { least = omega (arith, ints); greatest = omega (arith, ints, h) }) w s
 
 -- ---- BLANK
 

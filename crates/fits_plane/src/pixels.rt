@@ -2,7 +2,8 @@
 ghost use Rattle.std.specs.Prelude.{◌≡◌, ◌≤◌, ◌<◌, ◌*◌, ◌+◌, ◌-ℤ◌, ◌⊎◌, ◌↔◌, ℕ, pos, IsTrue, length, slice_index, slice_index_or};
 ghost use Rattle.fits_plane.specs.Pixels.{pixel, IsWidth, IsStorable, can_store, AreStorable, can_store_all};
 
-use crate::{pixels_8, pixels_16, pixels_32, pixels_64};
+use crate::pixels_8;
+use crate::signed_pixel::SignedPixel;
 use byteorder::{BigEndian, ByteOrder};
 
 /// Whether pixels of so many bytes can store a number.
@@ -52,9 +53,9 @@ pub(crate) fn pixel_at(bytes: &[u8], width: usize, i: usize) -> i64
 {
     match width {
         1 => i64::from(pixels_8::read(bytes, i)),
-        2 => i64::from(pixels_16::read(bytes, i)),
-        4 => i64::from(pixels_32::read(bytes, i)),
-        _ => pixels_64::read(bytes, i),
+        2 => i64::from(i16::read(bytes, i)),
+        4 => i64::from(i32::read(bytes, i)),
+        _ => i64::read(bytes, i),
     }
 }
 

@@ -1,101 +1,52 @@
-//! What is found of a block of 32-bit pixels by one pass, which holds numbers of the pixel's own type,
-//! and counts no wider than a block needs.
-ghost use Rattle.std.specs.Prelude.{◌≡◌, ◌≢◌, ◌≤◌, ◌<◌, ℕ, pos, int_lt, if◌then◌else◌, ◌*◌, ◌+◌, length, Some, None};
-ghost use Rattle.fits_plane.specs.Pixels.{pixel, pixels};
-ghost use Rattle.fits_plane.specs.Scan.{AreExtremes};
+ghost use Rattle.std.proofs.Common.{refl, inl, inr};
 
-use crate::extremes::Extremes;
+use crate::signed_pixel::SignedPixel;
 use byteorder::{BigEndian, ByteOrder};
 
-/// Stored pixel i.
-pub(crate) fn read(block: &[u8], i: usize) -> i32
-    requires within { (i + 1) * 4 ≤ length block.now }
-    ensures { result ≡ pixel 4 block.now i }
-{
-    BigEndian::read_i32(&block[4 * i..])
-}
+impl SignedPixel for i32 {
+    ghost width = { 4 };
 
-/// What is found where none is blank.
-pub(crate) fn defined(block: &[u8], held: usize) -> Extremes
-    requires within { held * 4 ≤ length block.now }
-    requires short { length block.now ≤ 2880 }
-    ensures { AreExtremes None (pixels 4 block.now 0 held) result }
-{
-    let mut least = i32::MAX;
-    let mut greatest = i32::MIN;
-    let mut negatives = 0u32;
-    for i in 0..held {
-        let x = read(block, i);
-        least = least.min(x);
-        greatest = greatest.max(x);
-        negatives += u32::from(x < 0);
-    }
-    Extremes {
-        least: i64::from(least),
-        greatest: i64::from(greatest),
-        negatives: u64::from(negatives),
-        blanks: 0,
-    }
-}
+    ghost number = { λ x. x };
 
-/// How many pixels are blank before the first that is not.
-fn leading_blanks(block: &[u8], held: usize, blank: i32) -> usize
-    requires within { held * 4 ≤ length block.now }
-    ensures within { result ≤ held }
-    ensures blank { (k : ℕ) → k < result → pixel 4 block.now k ≡ blank }
-    ensures stops { result < held → pixel 4 block.now result ≢ blank }
-{
-    for i in 0..held {
-        if read(block, i) != blank {
-            return i;
-        }
+    fn read(block: &[u8], i: usize) -> i32 {
+        BigEndian::read_i32(&block[4 * i..])
     }
-    held
-}
 
-/// Stored pixel i, or 0 where there is none.
-fn pixel_or_zero(block: &[u8], held: usize, i: usize) -> i32
-    requires within { held * 4 ≤ length block.now }
-    ensures { i < held → result ≡ pixel 4 block.now i }
-{
-    if i < held { read(block, i) } else { 0 }
-}
-
-/// How many of so many blank pixels are negative.
-fn negative_blanks(blank: i32, count: u32) -> u32
-    ensures { result ≡ (if int_lt blank (pos 0) then count else 0) }
-{
-    if blank < 0 { count } else { 0 }
-}
-
-/// What is found where one number is blank.
-pub(crate) fn beside(block: &[u8], held: usize, blank: i32) -> Extremes
-    requires within { held * 4 ≤ length block.now }
-    requires short { length block.now ≤ 2880 }
-    ensures { AreExtremes (Some blank) (pixels 4 block.now 0 held) result }
-{
-    let first = leading_blanks(block, held, blank);
-    // A blank pixel counts as the first that is not, which moves neither the least nor the greatest.
-    let fill = pixel_or_zero(block, held, first);
-    let mut least = i32::MAX;
-    let mut greatest = i32::MIN;
-    let mut blanks = first as u32;
-    let mut negatives = negative_blanks(blank, blanks);
-    for i in first..held {
-        let x = read(block, i);
-        let mut used = x;
-        if x == blank {
-            used = fill;
-            blanks += 1;
-        }
-        least = least.min(used);
-        greatest = greatest.max(used);
-        negatives += u32::from(x < 0);
+    fn of(stored: i64) -> i32 {
+        stored as i32
     }
-    Extremes {
-        least: i64::from(least),
-        greatest: i64::from(greatest),
-        negatives: u64::from(negatives),
-        blanks: u64::from(blanks),
+
+    fn wide(self) -> i64 {
+        i64::from(self)
     }
+
+    fn top() -> i32 {
+        i32::MAX
+    }
+
+    fn bottom() -> i32 {
+        i32::MIN
+    }
+
+    fn lesser(self, other: i32) -> i32 {
+        self.min(other)
+    }
+
+    fn greater(self, other: i32) -> i32 {
+        self.max(other)
+    }
+
+    fn is(self, other: i32) -> bool {
+        self == other
+    }
+
+    fn is_negative(self) -> bool {
+        self < 0
+    }
+
+    fn with(self, test: bool) -> i32 {
+        self + i32::from(test)
+    }
+
+    ghost signed = { inr (inl refl) };
 }

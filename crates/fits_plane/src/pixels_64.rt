@@ -1,101 +1,52 @@
-//! What is found of a block of 64-bit pixels by one pass, which holds numbers of the pixel's own type,
-//! and counts as wide.
-ghost use Rattle.std.specs.Prelude.{◌≡◌, ◌≢◌, ◌≤◌, ◌<◌, ℕ, pos, int_lt, if◌then◌else◌, ◌*◌, ◌+◌, length, Some, None};
-ghost use Rattle.fits_plane.specs.Pixels.{pixel, pixels};
-ghost use Rattle.fits_plane.specs.Scan.{AreExtremes};
+ghost use Rattle.std.proofs.Common.{refl, inl, inr};
 
-use crate::extremes::Extremes;
+use crate::signed_pixel::SignedPixel;
 use byteorder::{BigEndian, ByteOrder};
 
-/// Stored pixel i.
-pub(crate) fn read(block: &[u8], i: usize) -> i64
-    requires within { (i + 1) * 8 ≤ length block.now }
-    ensures { result ≡ pixel 8 block.now i }
-{
-    BigEndian::read_i64(&block[8 * i..])
-}
+impl SignedPixel for i64 {
+    ghost width = { 8 };
 
-/// What is found where none is blank.
-pub(crate) fn defined(block: &[u8], held: usize) -> Extremes
-    requires within { held * 8 ≤ length block.now }
-    requires short { length block.now ≤ 2880 }
-    ensures { AreExtremes None (pixels 8 block.now 0 held) result }
-{
-    let mut least = i64::MAX;
-    let mut greatest = i64::MIN;
-    let mut negatives = 0u64;
-    for i in 0..held {
-        let x = read(block, i);
-        least = least.min(x);
-        greatest = greatest.max(x);
-        negatives += u64::from(x < 0);
-    }
-    Extremes {
-        least,
-        greatest,
-        negatives,
-        blanks: 0,
-    }
-}
+    ghost number = { λ x. x };
 
-/// How many pixels are blank before the first that is not.
-fn leading_blanks(block: &[u8], held: usize, blank: i64) -> usize
-    requires within { held * 8 ≤ length block.now }
-    ensures within { result ≤ held }
-    ensures blank { (k : ℕ) → k < result → pixel 8 block.now k ≡ blank }
-    ensures stops { result < held → pixel 8 block.now result ≢ blank }
-{
-    for i in 0..held {
-        if read(block, i) != blank {
-            return i;
-        }
+    fn read(block: &[u8], i: usize) -> i64 {
+        BigEndian::read_i64(&block[8 * i..])
     }
-    held
-}
 
-/// Stored pixel i, or 0 where there is none.
-fn pixel_or_zero(block: &[u8], held: usize, i: usize) -> i64
-    requires within { held * 8 ≤ length block.now }
-    ensures { i < held → result ≡ pixel 8 block.now i }
-{
-    if i < held { read(block, i) } else { 0 }
-}
-
-/// How many of so many blank pixels are negative.
-fn negative_blanks(blank: i64, count: u64) -> u64
-    ensures { result ≡ (if int_lt blank (pos 0) then count else 0) }
-{
-    if blank < 0 { count } else { 0 }
-}
-
-/// What is found where one number is blank.
-pub(crate) fn beside(block: &[u8], held: usize, blank: i64) -> Extremes
-    requires within { held * 8 ≤ length block.now }
-    requires short { length block.now ≤ 2880 }
-    ensures { AreExtremes (Some blank) (pixels 8 block.now 0 held) result }
-{
-    let first = leading_blanks(block, held, blank);
-    // A blank pixel counts as the first that is not, which moves neither the least nor the greatest.
-    let fill = pixel_or_zero(block, held, first);
-    let mut least = i64::MAX;
-    let mut greatest = i64::MIN;
-    let mut blanks = first as u64;
-    let mut negatives = negative_blanks(blank, blanks);
-    for i in first..held {
-        let x = read(block, i);
-        let mut used = x;
-        if x == blank {
-            used = fill;
-            blanks += 1;
-        }
-        least = least.min(used);
-        greatest = greatest.max(used);
-        negatives += u64::from(x < 0);
+    fn of(stored: i64) -> i64 {
+        stored
     }
-    Extremes {
-        least,
-        greatest,
-        negatives,
-        blanks,
+
+    fn wide(self) -> i64 {
+        self
     }
+
+    fn top() -> i64 {
+        i64::MAX
+    }
+
+    fn bottom() -> i64 {
+        i64::MIN
+    }
+
+    fn lesser(self, other: i64) -> i64 {
+        self.min(other)
+    }
+
+    fn greater(self, other: i64) -> i64 {
+        self.max(other)
+    }
+
+    fn is(self, other: i64) -> bool {
+        self == other
+    }
+
+    fn is_negative(self) -> bool {
+        self < 0
+    }
+
+    fn with(self, test: bool) -> i64 {
+        self + i64::from(test)
+    }
+
+    ghost signed = { inr (inr refl) };
 }

@@ -9,10 +9,10 @@ ghost use Rattle.fits_plane.specs.Statistics.{statistics, sum_of};
 ghost use Rattle.fits_plane.specs.Scan.{AreExtremes, negative_count, storable_blank, unsigned_total};
 
 use crate::extremes::Extremes;
+use crate::passes;
 use crate::pixel_summary::PixelSummary;
 use crate::pixels::{is_storable, pixel_at};
 use crate::scan_end::{found, found_beside};
-use crate::{pixels_16, pixels_32, pixels_64};
 
 /// What a pass finds where no pixel is blank.
 fn defined(block: &[u8], width: usize, held: usize) -> Extremes
@@ -22,9 +22,9 @@ fn defined(block: &[u8], width: usize, held: usize) -> Extremes
     ensures { AreExtremes None (pixels width block.now 0 held) result }
 {
     match width {
-        2 => pixels_16::defined(block, held),
-        4 => pixels_32::defined(block, held),
-        _ => pixels_64::defined(block, held),
+        2 => passes::defined::<i16>(block, held),
+        4 => passes::defined::<i32>(block, held),
+        _ => passes::defined::<i64>(block, held),
     }
 }
 
@@ -37,9 +37,9 @@ fn beside(block: &[u8], width: usize, held: usize, blank: i64) -> Extremes
     ensures { AreExtremes (Some blank) (pixels width block.now 0 held) result }
 {
     match width {
-        2 => pixels_16::beside(block, held, blank as i16),
-        4 => pixels_32::beside(block, held, blank as i32),
-        _ => pixels_64::beside(block, held, blank),
+        2 => passes::beside::<i16>(block, held, blank),
+        4 => passes::beside::<i32>(block, held, blank),
+        _ => passes::beside::<i64>(block, held, blank),
     }
 }
 

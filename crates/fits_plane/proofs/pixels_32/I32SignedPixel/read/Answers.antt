@@ -6,7 +6,7 @@ use Rattle.byteorder.specs.Endian.{big_from}
 use Rattle.byteorder.specs.Numbers.{big_from-lt}
 use Rattle.fits_plane.proofs.PixelLemmas.{big_from-drop}
 use Rattle.fits_plane.proofs.ScanLemmas.{signed_32}
-use Rattle.fits_plane.proofs.pixels_32.read.Goals as goal
+use Rattle.fits_plane.proofs.pixels_32.I32SignedPixel.read.Goals as goal
 
 pub returns : goal.returns
 returns c =

@@ -1,0 +1,101 @@
+//! What is found of a block of pixels that have a sign, by one pass over them.
+//!
+//! A pass holds numbers of the pixel's own type, its counts too.
+ghost use Rattle.std.specs.Prelude.{◌≡◌, ◌≢◌, ◌≤◌, ◌<◌, ◌*◌, ℕ, pos, int_lt, if◌then◌else◌, length, Some, None};
+ghost use Rattle.fits_plane.specs.Pixels.{pixel, pixels, IsStorable};
+ghost use Rattle.fits_plane.specs.Scan.{AreExtremes};
+
+use crate::extremes::Extremes;
+use crate::signed_pixel::SignedPixel;
+
+/// What is found where no pixel is blank.
+pub(crate) fn defined<P: SignedPixel>(block: &[u8], held: usize) -> Extremes
+    requires within { held * P.width ≤ length block.now }
+    requires short { length block.now ≤ 2880 }
+    ensures { AreExtremes None (pixels P.width block.now 0 held) result }
+{
+    let mut least = P::top();
+    let mut greatest = P::bottom();
+    let mut negatives = P::of(0);
+    for i in 0..held {
+        let x = P::read(block, i);
+        least = least.lesser(x);
+        greatest = greatest.greater(x);
+        negatives = negatives.with(x.is_negative());
+    }
+    Extremes {
+        least: least.wide(),
+        greatest: greatest.wide(),
+        negatives: negatives.wide() as u64,
+        blanks: 0,
+    }
+}
+
+/// How many pixels are blank before the first that is not.
+fn leading_blanks<P: SignedPixel>(block: &[u8], held: usize, blank: P) -> usize
+    requires within { held * P.width ≤ length block.now }
+    ensures within { result ≤ held }
+    ensures blank { (k : ℕ) → k < result → pixel P.width block.now k ≡ P.number blank }
+    ensures stops { result < held → pixel P.width block.now result ≢ P.number blank }
+{
+    for i in 0..held {
+        if !P::read(block, i).is(blank) {
+            return i;
+        }
+    }
+    held
+}
+
+/// Stored pixel i, or some number where there is none.
+fn pixel_or_top<P: SignedPixel>(block: &[u8], held: usize, i: usize) -> P
+    requires within { held * P.width ≤ length block.now }
+    ensures { i < held → P.number result ≡ pixel P.width block.now i }
+{
+    if i < held {
+        P::read(block, i)
+    } else {
+        P::top()
+    }
+}
+
+/// How many of so many blank pixels are negative.
+fn negative_blanks<P: SignedPixel>(blank: P, count: P) -> P
+    ensures { P.number result
+        ≡ (if int_lt (P.number blank) (pos 0) then P.number count else pos 0) }
+{
+    if blank.is_negative() { count } else { P::of(0) }
+}
+
+/// What is found where one number is blank.
+pub(crate) fn beside<P: SignedPixel>(block: &[u8], held: usize, blank: i64) -> Extremes
+    requires within { held * P.width ≤ length block.now }
+    requires short { length block.now ≤ 2880 }
+    requires storable { IsStorable P.width blank }
+    ensures { AreExtremes (Some blank) (pixels P.width block.now 0 held) result }
+{
+    let named = P::of(blank);
+    let first = leading_blanks(block, held, named);
+    // A blank pixel counts as the first that is not, which moves neither the least nor the greatest.
+    let fill = pixel_or_top(block, held, first);
+    let mut least = P::top();
+    let mut greatest = P::bottom();
+    let mut blanks = P::of(first as i64);
+    let mut negatives = negative_blanks(named, blanks);
+    for i in first..held {
+        let x = P::read(block, i);
+        let mut used = x;
+        if x.is(named) {
+            used = fill;
+            blanks = blanks.with(true);
+        }
+        least = least.lesser(used);
+        greatest = greatest.greater(used);
+        negatives = negatives.with(x.is_negative());
+    }
+    Extremes {
+        least: least.wide(),
+        greatest: greatest.wide(),
+        negatives: negatives.wide() as u64,
+        blanks: blanks.wide() as u64,
+    }
+}
