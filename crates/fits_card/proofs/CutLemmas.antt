@@ -1,5 +1,5 @@
 -- Where the header cut falls, and that it can fall nowhere else.
-use Rattle.std.proofs.Common.{◌≡◌, ◌⊎◌, ℕ, ◌+◌, ◌*◌, ◌/◌, ◌<◌, ◌≤◌, Bool, true, false, List, [], ◌∷◌, ◌++◌, length, take, drop, get_or, refl, ap, sym, subst, ◌∙◌, append_assoc, inl, inr, arith, All, zero, suc}
+use Rattle.std.proofs.Common.{◌≡◌, ◌⊎◌, ℕ, ◌+◌, ◌*◌, ◌/◌, ◌<◌, ◌≤◌, Bool, true, false, List, [], ◌∷◌, ◌++◌, length, take, drop, get_or, refl, ap, sym, ◌∙◌, append_assoc, inl, inr, arith, All, zero, suc}
 use Rattle.std.proofs.lemmas.Bool.{cases_lt}
 use Rattle.std.proofs.lemmas.List.{append-nil, length-append, length-take-le, length-drop, take_at, drop_at, get_or_default, take-append-drop}
 use Rattle.std.proofs.lemmas.List.Concat.{flat_map-append}
@@ -9,7 +9,7 @@ use Rattle.std.proofs.Math.Seq.{take-add}
 use Rattle.fits_card.specs.Card.{IsEnd, is_end}
 use Rattle.fits_card.specs.Header.{Header, IsHeader, IsInnerCard, IsHeaderOf, HasNoHeader, joined_cards, header_bytes, header_length, fill_length}
 use Rattle.fits_card.specs.HeaderSteps.{HasHeader, HasNoEnd, IsEndPlace, header_at, piece, pieces}
-use Rattle.fits_stream.specs.Intake.{Finds, Supply, Takes}
+use Rattle.fits_stream.specs.Intake.{Supply, Takes}
 use Rattle.fits_card.proofs.EmitLemmas.{joined-at}
 use Rattle.fits_card.proofs.HeaderLemmas.{length-joined_cards, length-header_bytes}
 use Rattle.fits_stream.proofs.SightLemmas.{takes_ahead}
