@@ -1,7 +1,8 @@
 -- A line says a command exactly where it has its form.
-use Rattle.std.proofs.Common.{◌≡◌, ℕ, List, [], ◌∷◌, ◌++◌, refl, ap, sym, ◌∙◌, inl, inr, rules, false, Option, None, Some}
+use Rattle.std.proofs.Common.{◌≡◌, ℕ, List, [], ◌∷◌, ◌++◌, refl, ap, sym, ◌∙◌, inl, inr, rules, false, Option, None, Some, Result, Ok, Err}
 use Rattle.std.specs.Prelude.{◌==◌, ℤ, codes, unwrap_or}
-use Rattle.std.specs.Option.{option_map}
+use Rattle.std.specs.Option.{ok_or, option_map}
+use Rattle.std.specs.Result.{result_ok}
 use Rattle.std.proofs.lemmas.List.{append-nil}
 use Rattle.std.proofs.lemmas.Option.{option_and_then_some}
 use Rattle.fits_value.specs.Says.{field_says}
@@ -14,12 +15,14 @@ use Rattle.fits_session.specs.declared.paint.Paint.{Paint}
 use Rattle.fits_session.specs.declared.paint.Paint.TheVariants.{Fill, Write}
 use Rattle.fits_cli.specs.Cut.{HasNo}
 use Rattle.fits_cli.specs.Forms.{IsAlone, IsCardForm, IsFieldForm, IsMoveForm, IsNameForm, IsNewForm, IsNumber, IsPaintForm, IsPlaceForm, IsRectangleForm, Names, Says, followed, kind_word, paint_word}
-use Rattle.fits_cli.specs.Line.{◌>>=◌, after_word, alone, axes_last, card_last, card_words, cards_command, command_of, field_words, fill_words, first_word, kind_first, move_words, name_first, name_word, new_words, number_first, place_word, rectangle_first, rectangle_word, said_by, said_of, value_last, values_last, verb_of, words_said, write_words}
+use Rattle.fits_cli.specs.Line.{after_word, alone, axes_last, card_last, card_words, cards_command, command_of, field_words, fill_words, first_word, hdu_said, kind_first, move_words, name_first, name_word, new_words, number_first, place_word, rectangle_first, rectangle_word, said_by, said_of, value_last, values_last, verb_of, verb_said, words_said, write_words}
 use Rattle.fits_cli.specs.Line.{delete_said, get_said, insert_said, move_said, new_said, paint_said, positions_said, put_said, rectangle_said, set_said, unset_said}
 use Rattle.fits_cli.specs.declared.command.Command.{Command}
 use Rattle.fits_cli.specs.declared.command.Command.TheVariants.{Nothing, Edit, Offsets, Get, Positions, Report, Statistics, Rectangle, Sums}
 use Rattle.fits_cli.specs.declared.verb.Verb.{Verb}
 use Rattle.fits_cli.specs.declared.verb.Verb.TheVariants as verb
+use Rattle.fits_cli.specs.declared.word_fault.WordFault.{WordFault}
+use Rattle.fits_cli.specs.declared.word_fault.WordFault.TheVariants.{NoHdu, OtherWords}
 use Rattle.fits_cli.proofs.FormLemmas.{first_word-followed, after_word-followed, either_some, followed-after_word, number_first-is, name_first-is, card_last-is, IsCard-is, NumberFirst-is, NameFirst-is, alone-is, followed-nothing}
 use Rattle.fits_cli.proofs.ImageFormLemmas.{axes_last-is, axes_last-says, kind_first-is, kind_first-says}
 use Rattle.fits_cli.proofs.PixelFormLemmas.{rectangle_first-is, RectangleFirst-is, value_last-is, value_last-says, values_last-is, values_last-says}
@@ -175,21 +178,32 @@ alone-says : (rest : Option (List ℕ)) (command : Command) → IsAlone rest →
 unfolding alone
 alone-says rest command is = rw is refl
 
+-- what is said, however the fault is called
+ok_or-said : (said : Option Command) (fault : WordFault) → result_ok (ok_or said fault) ≡ said
+ok_or-said None fault = refl
+ok_or-said (Some command) fault = refl
+
+-- a command is said where no fault is
+said-ok_or : (said : Option Command) (fault : WordFault) (command : Command) → ok_or said fault ≡ Ok command → said ≡ Some command
+said-ok_or said fault command e = sym (ok_or-said said fault) ∙ ap result_ok e
+
 -- a line of a verb and a rest is what the verb says of the rest
-verb_said : (v : Verb) (byte : ℕ) (bytes : List ℕ) (rest : Option (List ℕ)) → HasNo 32 (byte ∷ bytes) → (byte == 35) ≡ false → verb_of (byte ∷ bytes) ≡ Some v → command_of ((byte ∷ bytes) ++ followed rest) ≡ said_by v rest
-unfolding command_of words_said
-verb_said v byte bytes rest bare other is =
+line_of_verb : (v : Verb) (byte : ℕ) (bytes : List ℕ) (rest : Option (List ℕ)) → HasNo 32 (byte ∷ bytes) → (byte == 35) ≡ false → verb_of (byte ∷ bytes) ≡ Some v → command_of ((byte ∷ bytes) ++ followed rest) ≡ result_ok (said_by v rest)
+unfolding command_of words_said verb_said
+line_of_verb v byte bytes rest bare other is =
     rw (other, first_word-followed (byte ∷ bytes) rest bare, is, after_word-followed (byte ∷ bytes) rest bare) refl
 
 -- a line of a verb, HDU h and what follows is what the verb says of HDU h
 named-is : (v : Verb) (byte : ℕ) (bytes : List ℕ) (h : ℕ) (IsForm : Option (List ℕ) → Type 0) (line : List ℕ) (says : Names (byte ∷ bytes) h IsForm line) → HasNo 32 (byte ∷ bytes) → (byte == 35) ≡ false → verb_of (byte ∷ bytes) ≡ Some v
-    → ((rest : Option (List ℕ)) → said_by v rest ≡ (number_first rest >>= (λ hdu. said_of v hdu.0 hdu.1))) → command_of line ≡ said_of v h says.rest
+    → ((rest : Option (List ℕ)) → said_by v rest ≡ hdu_said v (number_first rest)) → command_of line ≡ said_of v h says.rest
+unfolding hdu_said
 named-is v byte bytes h IsForm line says bare other is of_hdu =
-    ap command_of says.is ∙ verb_said v byte bytes (Some (says.hdu ++ followed says.rest)) bare other is ∙ of_hdu (Some (says.hdu ++ followed says.rest)) ∙ rw (number_first-is says.hdu says.rest h says.is_hdu) refl
+    let rest : Option (List ℕ) = Some (says.hdu ++ followed says.rest) in
+    ap command_of says.is ∙ line_of_verb v byte bytes rest bare other is ∙ ap result_ok (of_hdu rest ∙ ap (hdu_said v) (number_first-is says.hdu says.rest h says.is_hdu)) ∙ ok_or-said (said_of v h says.rest) OtherWords
 
 -- a line that has the form of a command says it
 pub command_of-says : (line : List ℕ) (command : Command) → Says line command → command_of line ≡ Some command
-unfolding command_of words_said verb_of said_by said_of alone first_word after_word
+unfolding command_of words_said verb_said verb_of said_by said_of alone first_word after_word
 command_of-says line Nothing (inl e) = rw e refl
 command_of-says line Nothing (inr comment) = rw comment.1 refl
 command_of-says line (Edit (Hdu h (Cards (Insert p card)))) says = named-is verb.Insert _ _ h _ line says refl refl refl (λ rest. refl) ∙ ap (insert_said h) (card_words-is p card says.rest says.form)
@@ -224,23 +238,29 @@ lone word rest none = rw none (append-nil word)
 abbrev NamesIn : List ℕ → ℕ → Option (List ℕ) → List ℕ → Type 1
 NamesIn word h more line = (IsForm : Option (List ℕ) → Type 0) → IsForm more → Names word h IsForm line
 
--- a line of a word, an HDU and words of which a command is made
-of_words : {W : Type 0} (word : List ℕ) (rest : Option (List ℕ)) (words : Option (List ℕ) → Option W) (made : ℕ → W → Command) (command : Command) → (number_first rest >>= (λ hdu. option_map (made hdu.0) (words hdu.1))) ≡ Some command
-    → ((h : ℕ) (w : W) (more : Option (List ℕ)) → words more ≡ Some w → NamesIn word h more (word ++ followed rest) → Says (word ++ followed rest) (made h w)) → Says (word ++ followed rest) command
-of_words word rest words made command e form =
-    option_and_then_some _ (number_first rest) command e (λ hdu is_hdu e1.
-    mapped (made hdu.0) (words hdu.1) command e1 (λ w is same.
-    let h = NumberFirst-is rest hdu is_hdu in
-    rw (sym same) (form hdu.0 w hdu.1 is (λ IsForm so. record { hdu = h.word; rest = hdu.1; is = ap (λ r. word ++ followed r) h.is; is_hdu = h.is_number; form = so }))))
+-- what a verb says of an HDU that was read
+hdu_read : {P : Type 0} (v : Verb) (hdu : Option (ℕ × Option (List ℕ))) (command : Command) → hdu_said v hdu ≡ Ok command → ((cut : ℕ × Option (List ℕ)) → hdu ≡ Some cut → said_of v cut.0 cut.1 ≡ Some command → P) → P
+unfolding hdu_said
+hdu_read v None command e give = absurd (let z : ◌≡◌ {A = Result Command WordFault} (Err NoHdu) (Ok command) = e in cc)
+hdu_read v (Some cut) command e give = give cut refl (said-ok_or (said_of v cut.0 cut.1) OtherWords command e)
 
--- a line of a word and an HDU, of which a command is made
-of_hdu : (word : List ℕ) (rest : Option (List ℕ)) (made : ℕ → Command) (command : Command) → (number_first rest >>= (λ hdu. alone hdu.1 (made hdu.0))) ≡ Some command
-    → ((h : ℕ) → Names word h IsAlone (word ++ followed rest) → Says (word ++ followed rest) (made h)) → Says (word ++ followed rest) command
-of_hdu word rest made command e form =
-    option_and_then_some _ (number_first rest) command e (λ hdu is_hdu e1.
-    let last = alone-is hdu.1 (made hdu.0) command e1 in
+-- a line of a verb, an HDU and words of which a command is made
+of_words : {W : Type 0} (v : Verb) (rest : Option (List ℕ)) (words : Option (List ℕ) → Option W) (made : ℕ → W → Command) (command : Command) → hdu_said v (number_first rest) ≡ Ok command → ((h : ℕ) (more : Option (List ℕ)) → said_of v h more ≡ option_map (made h) (words more))
+    → ((h : ℕ) (w : W) (more : Option (List ℕ)) → words more ≡ Some w → NamesIn (verb_word v) h more (verb_word v ++ followed rest) → Says (verb_word v ++ followed rest) (made h w)) → Says (verb_word v ++ followed rest) command
+of_words v rest words made command e makes form =
+    hdu_read v (number_first rest) command e (λ hdu is_hdu e1.
+    mapped (made hdu.0) (words hdu.1) command (sym (makes hdu.0 hdu.1) ∙ e1) (λ w is same.
     let h = NumberFirst-is rest hdu is_hdu in
-    rw (sym last.1) (form hdu.0 (record { hdu = h.word; rest = hdu.1; is = ap (λ r. word ++ followed r) h.is; is_hdu = h.is_number; form = last.0 })))
+    rw (sym same) (form hdu.0 w hdu.1 is (λ IsForm so. record { hdu = h.word; rest = hdu.1; is = ap (λ r. verb_word v ++ followed r) h.is; is_hdu = h.is_number; form = so }))))
+
+-- a line of a verb and an HDU, of which a command is made
+of_hdu : (v : Verb) (rest : Option (List ℕ)) (made : ℕ → Command) (command : Command) → hdu_said v (number_first rest) ≡ Ok command → ((h : ℕ) (more : Option (List ℕ)) → said_of v h more ≡ alone more (made h))
+    → ((h : ℕ) → Names (verb_word v) h IsAlone (verb_word v ++ followed rest) → Says (verb_word v ++ followed rest) (made h)) → Says (verb_word v ++ followed rest) command
+of_hdu v rest made command e makes form =
+    hdu_read v (number_first rest) command e (λ hdu is_hdu e1.
+    let last = alone-is hdu.1 (made hdu.0) command (sym (makes hdu.0 hdu.1) ∙ e1) in
+    let h = NumberFirst-is rest hdu is_hdu in
+    rw (sym last.1) (form hdu.0 (record { hdu = h.word; rest = hdu.1; is = ap (λ r. verb_word v ++ followed r) h.is; is_hdu = h.is_number; form = last.0 })))
 
 -- words of a rectangle that is filled come to a fill
 fill_words-word : (rest : Option (List ℕ)) (words : List ℕ × List ℕ × Paint) → fill_words rest ≡ Some words → paint_word words.2 ≡ codes "fill"
@@ -259,32 +279,42 @@ write_words-word rest words e =
     let same : ◌≡◌ {A = List ℕ × List ℕ × Paint} words (area.0, area.1, Write values) = cc in rw same refl))
 
 -- what a verb and a rest say has the form of that
-said_by-says : (v : Verb) (rest : Option (List ℕ)) (command : Command) → said_by v rest ≡ Some command → Says (verb_word v ++ followed rest) command
+said_by-says : (v : Verb) (rest : Option (List ℕ)) (command : Command) → said_by v rest ≡ Ok command → Says (verb_word v ++ followed rest) command
 unfolding said_by said_of
-said_by-says verb.Insert rest command e = of_words (codes "ins") rest card_words (λ h w. cards_command h (Insert w.0 w.1)) command e (λ h w more is names. names _ (card_words-says more w is))
-said_by-says verb.Put rest command e = of_words (codes "put") rest card_words (λ h w. cards_command h (Put w.0 w.1)) command e (λ h w more is names. names _ (card_words-says more w is))
-said_by-says verb.Delete rest command e = of_words (codes "del") rest place_word (λ h w. cards_command h (Delete w)) command e (λ h w more is names. names _ (place_word-says more w is))
-said_by-says verb.Move rest command e = of_words (codes "mov") rest move_words (λ h w. cards_command h (Move w.0 w.1)) command e (λ h w more is names. names _ (move_words-says more w is))
-said_by-says verb.Set rest command e = of_words (codes "set") rest field_words (λ h w. cards_command h (Set w.0 w.1 w.2)) command e (λ h w more is names. names _ (field_words-says more w is))
-said_by-says verb.Unset rest command e = of_words (codes "unset") rest name_word (λ h w. cards_command h (Unset w)) command e (λ h w more is names. names _ (name_word-says more w is))
-said_by-says verb.Fill rest command e = of_words (codes "fill") rest fill_words (λ h w. Edit (Hdu h (Pixels w.0 w.1 w.2))) command e (λ h w more is names. rw (fill_words-word more w is) (names _ (fill_words-says more w is)))
-said_by-says verb.Write rest command e = of_words (codes "write") rest write_words (λ h w. Edit (Hdu h (Pixels w.0 w.1 w.2))) command e (λ h w more is names. rw (write_words-word more w is) (names _ (write_words-says more w is)))
-said_by-says verb.New rest command e = of_words (codes "new") rest new_words (λ h w. Edit (NewImage h w.0 w.1)) command e (λ h w more is names. names _ (new_words-says more w is))
-said_by-says verb.Remove rest command e = of_hdu (codes "rm") rest (λ h. Edit (RemoveHdu h)) command e (λ h names. names)
-said_by-says verb.Stamp rest command e = of_hdu (codes "stamp") rest (λ h. Edit (Hdu h Stamp)) command e (λ h names. names)
-said_by-says verb.Get rest command e = of_words (codes "get") rest name_word (λ h w. Get h w) command e (λ h w more is names. names _ (name_word-says more w is))
-said_by-says verb.Positions rest command e = of_words (codes "pos") rest name_word (λ h w. Positions h w) command e (λ h w more is names. names _ (name_word-says more w is))
-said_by-says verb.Statistics rest command e = of_hdu (codes "stat") rest (λ h. Statistics h) command e (λ h names. names)
-said_by-says verb.Rectangle rest command e = of_words (codes "rect") rest rectangle_word (λ h w. Rectangle h w.0 w.1) command e (λ h w more is names. names _ (rectangle_word-says more w is))
-said_by-says verb.Sums rest command e = of_hdu (codes "sum") rest (λ h. Sums h) command e (λ h names. names)
-said_by-says verb.Offsets rest command e = let last = alone-is rest Offsets command e in rw (sym last.1) (lone (codes "off") rest last.0)
-said_by-says verb.Report rest command e = let last = alone-is rest Report command e in rw (sym last.1) (lone (codes "rep") rest last.0)
+said_by-says verb.Insert rest command e = of_words verb.Insert rest card_words (λ h w. cards_command h (Insert w.0 w.1)) command e (λ h more. refl) (λ h w more is names. names _ (card_words-says more w is))
+said_by-says verb.Put rest command e = of_words verb.Put rest card_words (λ h w. cards_command h (Put w.0 w.1)) command e (λ h more. refl) (λ h w more is names. names _ (card_words-says more w is))
+said_by-says verb.Delete rest command e = of_words verb.Delete rest place_word (λ h w. cards_command h (Delete w)) command e (λ h more. refl) (λ h w more is names. names _ (place_word-says more w is))
+said_by-says verb.Move rest command e = of_words verb.Move rest move_words (λ h w. cards_command h (Move w.0 w.1)) command e (λ h more. refl) (λ h w more is names. names _ (move_words-says more w is))
+said_by-says verb.Set rest command e = of_words verb.Set rest field_words (λ h w. cards_command h (Set w.0 w.1 w.2)) command e (λ h more. refl) (λ h w more is names. names _ (field_words-says more w is))
+said_by-says verb.Unset rest command e = of_words verb.Unset rest name_word (λ h w. cards_command h (Unset w)) command e (λ h more. refl) (λ h w more is names. names _ (name_word-says more w is))
+said_by-says verb.Fill rest command e = of_words verb.Fill rest fill_words (λ h w. Edit (Hdu h (Pixels w.0 w.1 w.2))) command e (λ h more. refl) (λ h w more is names. rw (fill_words-word more w is) (names _ (fill_words-says more w is)))
+said_by-says verb.Write rest command e = of_words verb.Write rest write_words (λ h w. Edit (Hdu h (Pixels w.0 w.1 w.2))) command e (λ h more. refl) (λ h w more is names. rw (write_words-word more w is) (names _ (write_words-says more w is)))
+said_by-says verb.New rest command e = of_words verb.New rest new_words (λ h w. Edit (NewImage h w.0 w.1)) command e (λ h more. refl) (λ h w more is names. names _ (new_words-says more w is))
+said_by-says verb.Remove rest command e = of_hdu verb.Remove rest (λ h. Edit (RemoveHdu h)) command e (λ h more. refl) (λ h names. names)
+said_by-says verb.Stamp rest command e = of_hdu verb.Stamp rest (λ h. Edit (Hdu h Stamp)) command e (λ h more. refl) (λ h names. names)
+said_by-says verb.Get rest command e = of_words verb.Get rest name_word (λ h w. Get h w) command e (λ h more. refl) (λ h w more is names. names _ (name_word-says more w is))
+said_by-says verb.Positions rest command e = of_words verb.Positions rest name_word (λ h w. Positions h w) command e (λ h more. refl) (λ h w more is names. names _ (name_word-says more w is))
+said_by-says verb.Statistics rest command e = of_hdu verb.Statistics rest (λ h. Statistics h) command e (λ h more. refl) (λ h names. names)
+said_by-says verb.Rectangle rest command e = of_words verb.Rectangle rest rectangle_word (λ h w. Rectangle h w.0 w.1) command e (λ h more. refl) (λ h w more is names. names _ (rectangle_word-says more w is))
+said_by-says verb.Sums rest command e = of_hdu verb.Sums rest (λ h. Sums h) command e (λ h more. refl) (λ h names. names)
+said_by-says verb.Offsets rest command e = let last = alone-is rest Offsets command (said-ok_or _ OtherWords command e) in rw (sym last.1) (lone (codes "off") rest last.0)
+said_by-says verb.Report rest command e = let last = alone-is rest Report command (said-ok_or _ OtherWords command e) in rw (sym last.1) (lone (codes "rep") rest last.0)
 
--- what a line says by its first word has the form of that
-words_said-says : (line : List ℕ) (command : Command) → words_said line ≡ Some command → Says line command
+-- what is said by a verb that was read
+verb_read : {P : Type 0} (v : Option Verb) (rest : Option (List ℕ)) (command : Command) → result_ok (verb_said v rest) ≡ Some command → ((verb : Verb) → v ≡ Some verb → said_by verb rest ≡ Ok command → P) → P
+unfolding verb_said
+verb_read None rest command e give = absurd (let z : ◌≡◌ {A = Option Command} None (Some command) = e in cc)
+verb_read (Some verb) rest command e give = give verb refl (was_ok (said_by verb rest) command e)
+  where
+    was_ok : (said : Result Command WordFault) (command : Command) → result_ok said ≡ Some command → said ≡ Ok command
+    was_ok (Ok other) command e = let same : other ≡ command = cc in ap Ok same
+    was_ok (Err fault) command e = absurd (let z : ◌≡◌ {A = Option Command} None (Some command) = e in cc)
+
+-- what a line says by its words has the form of that
+words_said-says : (line : List ℕ) (command : Command) → result_ok (words_said line) ≡ Some command → Says line command
 unfolding words_said
 words_said-says line command e =
-    option_and_then_some _ (verb_of (first_word line)) command e (λ v is said.
+    verb_read (verb_of (first_word line)) (after_word line) command e (λ v is said.
     let whole : line ≡ verb_word v ++ followed (after_word line) = followed-after_word line ∙ ap (λ word. word ++ followed (after_word line)) (verb_of-says (first_word line) v is) in
     rw whole (said_by-says v (after_word line) command said))
 

@@ -1,7 +1,8 @@
 -- The lines of a script: which bytes are which command (own).
-use Rattle.std.specs.Prelude.{ℕ, ◌-◌, ◌&&◌, ◌==◌, Bool, false, nat_le, ℤ, List, [], ◌∷◌, ◌++◌, length, map, replicate, codes, Option, None, Some, option_and_then, unwrap_or, if◌then◌else◌}
+use Rattle.std.specs.Prelude.{ℕ, ◌-◌, ◌&&◌, ◌==◌, Bool, false, nat_le, ℤ, List, [], ◌∷◌, ◌++◌, length, map, replicate, codes, Option, None, Some, Result, Err, option_and_then, unwrap_or, if◌then◌else◌}
 use Rattle.std.specs.List.{list_all, slice_split}
-use Rattle.std.specs.Option.{option_map}
+use Rattle.std.specs.Option.{ok_or, option_map}
+use Rattle.std.specs.Result.{result_ok}
 use Rattle.std.specs.Str.{bytes_eq}
 use Rattle.fits_card.specs.Card.{card_of_text}
 use Rattle.fits_value.specs.Number.{signed, value_of}
@@ -25,6 +26,8 @@ use Rattle.fits_cli.specs.declared.line_reading.LineReading.{LineReading}
 use Rattle.fits_cli.specs.declared.line_reading.LineReading.TheVariants.{TooLong, NoCommand, Said}
 use Rattle.fits_cli.specs.declared.verb.Verb.{Verb}
 use Rattle.fits_cli.specs.declared.verb.Verb.TheVariants as verb
+use Rattle.fits_cli.specs.declared.word_fault.WordFault.{WordFault}
+use Rattle.fits_cli.specs.declared.word_fault.WordFault.TheVariants.{NoVerb, NoHdu, OtherWords}
 
 -- the first word of a text: its bytes before the first space, or all of them
 unfoldable pub first_word : List ℕ → List ℕ
@@ -331,24 +334,30 @@ said_of verb.Sums h rest = alone rest (Sums h)
 said_of verb.Offsets h rest = None
 said_of verb.Report h rest = None
 
--- what a verb and the rest of the line say: most verbs name an HDU first
-unfoldable pub said_by : Verb → Option (List ℕ) → Option Command
-said_by verb.Offsets rest = alone rest Offsets
-said_by verb.Report rest = alone rest Report
-said_by verb rest = do
-  hdu ← number_first rest
-  said_of verb hdu.0 hdu.1
+-- what a verb says of the HDU that comes next, and of what follows
+unfoldable pub hdu_said : Verb → Option (ℕ × Option (List ℕ)) → Result Command WordFault
+hdu_said verb None = Err NoHdu
+hdu_said verb (Some hdu) = ok_or (said_of verb hdu.0 hdu.1) OtherWords
 
--- what a line that is neither empty nor a comment says by its first word
-unfoldable pub words_said : List ℕ → Option Command
-words_said line = do
-  verb ← verb_of (first_word line)
-  said_by verb (after_word line)
+-- what a verb and the rest of the line say: most verbs name an HDU first
+unfoldable pub said_by : Verb → Option (List ℕ) → Result Command WordFault
+said_by verb.Offsets rest = ok_or (alone rest Offsets) OtherWords
+said_by verb.Report rest = ok_or (alone rest Report) OtherWords
+said_by verb rest = hdu_said verb (number_first rest)
+
+-- what the first word, if it is a verb, and the rest of the line say
+unfoldable pub verb_said : Option Verb → Option (List ℕ) → Result Command WordFault
+verb_said None rest = Err NoVerb
+verb_said (Some verb) rest = said_by verb rest
+
+-- what the words of a line say
+unfoldable pub words_said : List ℕ → Result Command WordFault
+words_said line = verb_said (verb_of (first_word line)) (after_word line)
 
 -- what a line says: an empty line and a comment say that nothing is to be done
 unfoldable pub command_of : List ℕ → Option Command
 command_of [] = Some Nothing
-command_of (byte ∷ bytes) = if byte == 35 then Some Nothing else words_said (byte ∷ bytes)
+command_of (byte ∷ bytes) = if byte == 35 then Some Nothing else result_ok (words_said (byte ∷ bytes))
 
 -- a line within the limit says a command, or none
 abbrev pub said_or_none : Option Command → LineReading

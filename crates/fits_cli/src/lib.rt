@@ -34,6 +34,7 @@ mod value_line;
 mod value_words;
 mod verb;
 mod verifying;
+mod word_fault;
 mod words;
 
 pub use command::Command;

@@ -1,6 +1,7 @@
 //! The lines of a script: which bytes are which command.
 ghost use Rattle.std.specs.Prelude.{◌≡◌, IfOk, IsErrOf, OnErr};
 ghost use Rattle.std.specs.Option.{option_copied};
+ghost use Rattle.std.specs.Result.{result_ok};
 ghost use Rattle.fits_cli.specs.Line.{cards_command, command_of, reading_of, said_by, said_of};
 ghost use Rattle.fits_cli.specs.Line.{said_or_none, words_said, ReadingNeedsMemory};
 ghost use Rattle.fits_cli.specs.Line.{delete_said, get_said, insert_said, move_said, new_said, paint_said};
@@ -13,6 +14,7 @@ use crate::limits::LINE_LIMIT;
 use crate::line_fault::LineFault;
 use crate::line_reading::LineReading;
 use crate::verb::{Verb, verb_of};
+use crate::word_fault::WordFault;
 use crate::words::{
     alone, card_words, cut_word, field_words, fill_words, move_words, name_word, number_first,
     place_word, rectangle_word, write_words,
@@ -62,38 +64,45 @@ fn command_of(alloc: Global, line: &[u8]) -> Result<Option<Command>, AllocError>
 {
     match line {
         [] | [b'#', ..] => Ok(Some(Command::Nothing)),
-        _ => words_said(alloc, line),
+        _ => Ok(words_said(alloc, line)?.ok()),
     }
 }
 
-// What a line says by its first word.
-#[tactic(auto, unfolding(crate::specs::Line::words_said))]
-fn words_said(alloc: Global, line: &[u8]) -> Result<Option<Command>, AllocError>
+// What the words of a line say, or why they say nothing.
+#[tactic(auto, unfolding(crate::specs::Line::words_said, crate::specs::Line::verb_said))]
+fn words_said(alloc: Global, line: &[u8]) -> Result<Result<Command, WordFault>, AllocError>
     ensures ok { IfOk result (λ said. said ≡ words_said line.now) }
-    ensures err { OnErr result (ReadingNeedsMemory (said_or_none (words_said line.now))) }
+    ensures err { OnErr result (ReadingNeedsMemory (said_or_none (result_ok (words_said line.now)))) }
 {
     let (word, rest) = cut_word(line);
     match verb_of(word) {
         Some(verb) => said_by(alloc, verb, rest),
-        None => Ok(None),
+        None => Ok(Err(WordFault::NoVerb)),
     }
 }
 
 // What a verb and the rest of the line say: most verbs name an HDU first.
-#[tactic(auto, unfolding(crate::specs::Line::said_by))]
-fn said_by(alloc: Global, verb: Verb, rest: Option<&[u8]>) -> Result<Option<Command>, AllocError>
+#[tactic(auto, unfolding(crate::specs::Line::said_by, crate::specs::Line::hdu_said))]
+fn said_by(
+    alloc: Global,
+    verb: Verb,
+    rest: Option<&[u8]>,
+) -> Result<Result<Command, WordFault>, AllocError>
     ensures ok { IfOk result (λ said. said ≡ said_by verb (option_copied rest.entry)) }
     ensures err { OnErr result
-        (ReadingNeedsMemory (said_or_none (said_by verb (option_copied rest.entry)))) }
+        (ReadingNeedsMemory (said_or_none (result_ok (said_by verb (option_copied rest.entry))))) }
 {
-    match verb {
-        Verb::Offsets => Ok(alone(rest, Command::Offsets)),
-        Verb::Report => Ok(alone(rest, Command::Report)),
-        _ => match number_first(rest) {
-            Some((hdu, rest)) => said_of(alloc, verb, hdu, rest),
-            None => Ok(None),
-        },
-    }
+    let said = match verb {
+        Verb::Offsets => alone(rest, Command::Offsets),
+        Verb::Report => alone(rest, Command::Report),
+        _ => {
+            let Some((hdu, rest)) = number_first(rest) else {
+                return Ok(Err(WordFault::NoHdu));
+            };
+            said_of(alloc, verb, hdu, rest)?
+        }
+    };
+    Ok(said.ok_or(WordFault::OtherWords))
 }
 
 // What a verb says of an HDU, by what follows the HDU's number.
