@@ -75,6 +75,13 @@ ranged_lead w b top bottom xs zero m n h e = ranged_none (Some b) top bottom top
 ranged_lead w b top bottom xs (suc f) m n h e =
     ranged_skip w f (suc m) (suc f) m xs refl (omega arith) refl (h f (omega arith)) (ranged_lead w b top bottom xs f (suc m) n (λ k l. h k (omega (arith, l))) (omega (arith, e))) refl refl (omega arith)
 
+-- one more of them
+pub lead_more : (w i : ℕ) (b : ℤ) (xs : List ℕ) → ((k : ℕ) → k < i → pixel w xs k ≡ b) → pixel w xs i ≡ b → (k : ℕ) → k < i + 1 → pixel w xs k ≡ b
+lead_more w i b xs h e k l = elim (cases_eq k i) [
+  | inl same ↦ ap (pixel w xs) same ∙ e
+  | inr other ↦ h k (omega (arith, l, other))
+]
+
 -- one more that is negative, if one is
 lead_case : (t : Bool) (f : ℕ) → cond t f 0 + cond t 1 0 ≡ cond t (suc f) 0
 lead_case true f = omega arith
@@ -114,11 +121,6 @@ greatest_stays high fill h = omega (arith, ints, clamps, h)
 pub lead_le : (t : Bool) (f r : ℕ) → r ≡ cond t f 0 → r ≤ f
 lead_le true f r e = omega (arith, e)
 lead_le false f r e = omega (arith, e)
-
--- their count as a number
-pub lead_number : (t : Bool) (f : ℕ) (z r : ℤ) → z ≡ pos f → r ≡ cond t z (pos 0) → r ≡ pos (cond t f 0)
-lead_number true f z r e h = h ∙ e
-lead_number false f z r e h = h
 
 -- the least is at most the first number that is not blank, once that is used
 pub least_bound : (f i : ℕ) (low fill x : ℤ) → f ≤ i → (f < i → low ≤ℤ fill) → (f ≡ i → x ≡ fill) → int_min low x ≤ℤ fill

@@ -1,37 +1,15 @@
 -- Totals of pixels without their signs, by halves of words.
-use Rattle.std.proofs.Common.{◌≡◌, ◌<◌, ◌+◌, ◌*◌, ◌/◌, ◌%◌, ◌≤◌, ℕ, zero, suc, Bool, true, false, cond, List, arith, sym, ◌∙◌, ap, slice_index, drop}
+use Rattle.std.proofs.Common.{◌≡◌, ◌<◌, ◌+◌, ◌*◌, ◌/◌, ◌%◌, ◌≤◌, ℕ, suc, Bool, true, false, cond, List, arith, sym, ◌∙◌, ap, slice_index, drop}
 use Rattle.std.specs.Prelude.{ℤ, pos, ◌+ℤ◌, int_lt}
 use Rattle.std.proofs.lemmas.Int.{ints}
-use Rattle.std.proofs.lemmas.Bool.Decides.{nat_tests}
-use Rattle.byteorder.specs.Endian.{big_from, twos_complement}
+use Rattle.byteorder.specs.Endian.{big_from}
 use Rattle.byteorder.specs.Numbers.{big_from-lt}
-use Rattle.fits_plane.specs.Statistics.{sum_of}
 use Rattle.fits_plane.specs.Pixels.{pixel, pixels}
 use Rattle.fits_plane.specs.Scan.{negative_count, unsigned_total}
 use Rattle.fits_plane.proofs.PixelLemmas.{big_from-drop}
 use Rattle.fits_plane.proofs.ScanLemmas.{pixels-step}
 
--- ---- a sign counts once
-
--- at two bytes
-sign_16 : (u : ℕ) → u < 65536 → pos u ≡ twos_complement 2 u +ℤ pos (65536 * cond (int_lt (twos_complement 2 u) (pos 0)) 1 0)
-sign_16 u h = grind (arith, ints, nat_tests)
-
--- at four bytes
-sign_32 : (u : ℕ) → u < 4294967296 → pos u ≡ twos_complement 4 u +ℤ pos (4294967296 * cond (int_lt (twos_complement 4 u) (pos 0)) 1 0)
-sign_32 u h = grind (arith, ints, nat_tests)
-
--- the total of pixels of two bytes
-pub total_16 : (xs : List ℕ) (i n : ℕ) → ((k : ℕ) → slice_index xs k < 256) → pos (unsigned_total 2 xs i n) ≡ sum_of (pixels 2 xs i n) +ℤ pos (65536 * negative_count (pixels 2 xs i n))
-total_16 xs i zero h = omega (arith, ints)
-total_16 xs i (suc n) h = omega (arith, ints, sign_16 (big_from (i * 2) 2 xs) (big_from-lt (i * 2) 2 xs h), total_16 xs (i + 1) n h)
-
--- the total of pixels of four bytes
-pub total_32 : (xs : List ℕ) (i n : ℕ) → ((k : ℕ) → slice_index xs k < 256) → pos (unsigned_total 4 xs i n) ≡ sum_of (pixels 4 xs i n) +ℤ pos (4294967296 * negative_count (pixels 4 xs i n))
-total_32 xs i zero h = omega (arith, ints)
-total_32 xs i (suc n) h =
-    let low = big_from-lt (i * 4) 4 xs h in
-    omega (arith, ints, sign_32 (big_from (i * 4) 4 xs) (omega (arith, low)), total_32 xs (i + 1) n h)
+-- ---- signs
 
 -- a test counts as one at most
 pub test_le : (t : Bool) → cond t 1 0 ≤ 1
@@ -88,17 +66,6 @@ twos_turn xs i n j m s s' all e f h p =
     rw f (omega (arith, h', p))
 
 -- ---- 64 bits
-
--- at eight bytes
-sign_64 : (u : ℕ) → u < 18446744073709551616 → pos u ≡ twos_complement 8 u +ℤ pos (18446744073709551616 * cond (int_lt (twos_complement 8 u) (pos 0)) 1 0)
-sign_64 u h = grind (arith, ints, nat_tests)
-
--- the total of pixels of eight bytes
-pub total_64 : (xs : List ℕ) (i n : ℕ) → ((k : ℕ) → slice_index xs k < 256) → pos (unsigned_total 8 xs i n) ≡ sum_of (pixels 8 xs i n) +ℤ pos (18446744073709551616 * negative_count (pixels 8 xs i n))
-total_64 xs i zero h = omega (arith, ints)
-total_64 xs i (suc n) h =
-    let low = big_from-lt (i * 8) 8 xs h in
-    omega (arith, ints, sign_64 (big_from (i * 8) 8 xs) (omega (arith, low)), total_64 xs (i + 1) n h)
 
 -- a turn by eights
 pub eights_turn : (xs : List ℕ) (i n j m s s' all : ℕ) → n ≡ suc m → j ≡ i + 1 → s + unsigned_total 8 xs i n ≡ all → s' ≡ s + big_from (8 * i) 8 xs → s' + unsigned_total 8 xs j m ≡ all

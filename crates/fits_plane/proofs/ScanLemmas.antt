@@ -149,15 +149,6 @@ signed_32 n h = grind (arith, ints, nat_tests)
 pub signed_64 : (n : ℕ) → n < 2 ^ 64 → cast_signed w64 n ≡ twos_complement 8 n
 signed_64 n h = grind (arith, ints, nat_tests)
 
--- the range of two bytes
-between_16 : (n : ℕ) → n < 65536 → (negsuc 32767 ≤ℤ twos_complement 2 n) × (twos_complement 2 n ≤ℤ pos 32767)
-between_16 n h = (grind (arith, ints, nat_tests), grind (arith, ints, nat_tests))
-
--- pixels of 16 bits lie in their range
-pub range_16 : (xs : List ℕ) (a n : ℕ) → ((k : ℕ) → slice_index xs k < 256) → AllBetween (negsuc 32767) (pos 32767) (pixels 2 xs a n)
-range_16 xs a zero h = tt
-range_16 xs a (suc n) h = let b = between_16 (big_from (a * 2) 2 xs) (big_from-lt (a * 2) 2 xs h) in (b.0, b.1, range_16 xs (a + 1) n h)
-
 -- a turn of a scan: what is left has a pixel first, and the numbers moved as they should
 pub scanned_turn : {b : Option ℤ} {top bottom low high sum low' high' sum' : ℤ} {blanks : ℕ} (w i n j m : ℕ) (xs : List ℕ) {all : List ℤ} → n ≡ suc m → j ≡ i + 1 → is_blank b (pixel w xs i) ≡ false
     → Scanned b top bottom low high sum blanks (pixels w xs i n) all → low' ≡ int_min low (pixel w xs i) → high' ≡ int_max high (pixel w xs i) → sum' ≡ sum +ℤ pixel w xs i
@@ -195,28 +186,6 @@ pub scanned_use : {b x : ℤ} {top bottom low high sum low' high' sum' : ℤ} {b
     → Scanned (Some b) top bottom low' high' sum' blanks' (pixels w xs j m) all
 scanned_use {b} {x} {sum = sum} w i n j m xs e f here other s p q r t =
     rw t (scanned_turn w i n j m xs e f (is_blank_other b (pixel w xs i) (λ z. other (here ∙ z))) s (p ∙ ap (int_min _) here) (q ∙ ap (int_max _) here) (r ∙ ap (λ z. sum +ℤ z) here))
-
--- ---- 32 bits
-
--- the range of four bytes
-between_32 : (n : ℕ) → n < 2 ^ 32 → (negsuc 2147483647 ≤ℤ twos_complement 4 n) × (twos_complement 4 n ≤ℤ pos 2147483647)
-between_32 n h = (grind (arith, ints, nat_tests), grind (arith, ints, nat_tests))
-
--- pixels of 32 bits lie in their range
-pub range_32 : (xs : List ℕ) (a n : ℕ) → ((k : ℕ) → slice_index xs k < 256) → AllBetween (negsuc 2147483647) (pos 2147483647) (pixels 4 xs a n)
-range_32 xs a zero h = tt
-range_32 xs a (suc n) h = let low = big_from-lt (a * 4) 4 xs h in let b = between_32 (big_from (a * 4) 4 xs) (omega (arith, low)) in (b.0, b.1, range_32 xs (a + 1) n h)
-
--- ---- 64 bits
-
--- the range of eight bytes
-between_64 : (n : ℕ) → n < 2 ^ 64 → (negsuc 9223372036854775807 ≤ℤ twos_complement 8 n) × (twos_complement 8 n ≤ℤ pos 9223372036854775807)
-between_64 n h = (grind (arith, ints, nat_tests), grind (arith, ints, nat_tests))
-
--- pixels of 64 bits lie in their range
-pub range_64 : (xs : List ℕ) (a n : ℕ) → ((k : ℕ) → slice_index xs k < 256) → AllBetween (negsuc 9223372036854775807) (pos 9223372036854775807) (pixels 8 xs a n)
-range_64 xs a zero h = tt
-range_64 xs a (suc n) h = let low = big_from-lt (a * 8) 8 xs h in let b = between_64 (big_from (a * 8) 8 xs) (omega (arith, low)) in (b.0, b.1, range_64 xs (a + 1) n h)
 
 -- ---- 8 bits
 

@@ -14,14 +14,15 @@ pub(crate) fn defined<P: SignedPixel>(block: &[u8], held: usize) -> Extremes
     requires short { length block.now ≤ 2880 }
     ensures { AreExtremes None (pixels P.width block.now 0 held) result }
 {
-    let mut least = P::top();
-    let mut greatest = P::bottom();
-    let mut negatives = P::of(0);
+    let mut least = P::nearest(i64::MAX);
+    let mut greatest = P::nearest(i64::MIN);
+    let zero = P::nearest(0);
+    let mut negatives = zero;
     for i in 0..held {
         let x = P::read(block, i);
-        least = least.lesser(x);
-        greatest = greatest.greater(x);
-        negatives = negatives.with(x.is_negative());
+        least = least.min(x);
+        greatest = greatest.max(x);
+        negatives = negatives.with(x < zero);
     }
     Extremes {
         least: least.wide(),
@@ -39,31 +40,31 @@ fn leading_blanks<P: SignedPixel>(block: &[u8], held: usize, blank: P) -> usize
     ensures stops { result < held → pixel P.width block.now result ≢ P.number blank }
 {
     for i in 0..held {
-        if !P::read(block, i).is(blank) {
+        if P::read(block, i) != blank {
             return i;
         }
     }
     held
 }
 
-/// Stored pixel i, or some number where there is none.
-fn pixel_or_top<P: SignedPixel>(block: &[u8], held: usize, i: usize) -> P
+/// Stored pixel i, or 0 where there is none.
+fn pixel_or_zero<P: SignedPixel>(block: &[u8], held: usize, i: usize) -> P
     requires within { held * P.width ≤ length block.now }
     ensures { i < held → P.number result ≡ pixel P.width block.now i }
 {
     if i < held {
         P::read(block, i)
     } else {
-        P::top()
+        P::nearest(0)
     }
 }
 
 /// How many of so many blank pixels are negative.
-fn negative_blanks<P: SignedPixel>(blank: P, count: P) -> P
-    ensures { P.number result
-        ≡ (if int_lt (P.number blank) (pos 0) then P.number count else pos 0) }
+fn negative_blanks(blank: i64, count: usize) -> i64
+    requires few { count ≤ 1440 }
+    ensures { result ≡ pos (if int_lt blank (pos 0) then count else 0) }
 {
-    if blank.is_negative() { count } else { P::of(0) }
+    if blank < 0 { count as i64 } else { 0 }
 }
 
 /// What is found where one number is blank.
@@ -73,24 +74,25 @@ pub(crate) fn beside<P: SignedPixel>(block: &[u8], held: usize, blank: i64) -> E
     requires storable { IsStorable P.width blank }
     ensures { AreExtremes (Some blank) (pixels P.width block.now 0 held) result }
 {
-    let named = P::of(blank);
+    let zero = P::nearest(0);
+    let named = P::nearest(blank);
     let first = leading_blanks(block, held, named);
     // A blank pixel counts as the first that is not, which moves neither the least nor the greatest.
-    let fill = pixel_or_top(block, held, first);
-    let mut least = P::top();
-    let mut greatest = P::bottom();
-    let mut blanks = P::of(first as i64);
-    let mut negatives = negative_blanks(named, blanks);
+    let fill = pixel_or_zero(block, held, first);
+    let mut least = P::nearest(i64::MAX);
+    let mut greatest = P::nearest(i64::MIN);
+    let mut blanks = P::nearest(first as i64);
+    let mut negatives = P::nearest(negative_blanks(blank, first));
     for i in first..held {
         let x = P::read(block, i);
         let mut used = x;
-        if x.is(named) {
+        if x == named {
             used = fill;
             blanks = blanks.with(true);
         }
-        least = least.lesser(used);
-        greatest = greatest.greater(used);
-        negatives = negatives.with(x.is_negative());
+        least = least.min(used);
+        greatest = greatest.max(used);
+        negatives = negatives.with(x < zero);
     }
     Extremes {
         least: least.wide(),

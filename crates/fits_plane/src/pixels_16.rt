@@ -12,36 +12,12 @@ impl SignedPixel for i16 {
         BigEndian::read_i16(&block[2 * i..])
     }
 
-    fn of(stored: i64) -> i16 {
-        stored as i16
+    fn nearest(stored: i64) -> i16 {
+        stored.min(i64::from(i16::MAX)).max(i64::from(i16::MIN)) as i16
     }
 
     fn wide(self) -> i64 {
         i64::from(self)
-    }
-
-    fn top() -> i16 {
-        i16::MAX
-    }
-
-    fn bottom() -> i16 {
-        i16::MIN
-    }
-
-    fn lesser(self, other: i16) -> i16 {
-        self.min(other)
-    }
-
-    fn greater(self, other: i16) -> i16 {
-        self.max(other)
-    }
-
-    fn is(self, other: i16) -> bool {
-        self == other
-    }
-
-    fn is_negative(self) -> bool {
-        self < 0
     }
 
     fn with(self, test: bool) -> i16 {
@@ -49,4 +25,6 @@ impl SignedPixel for i16 {
     }
 
     ghost signed = { inl refl };
+
+    ghost order = { λ x y. refl };
 }

@@ -12,36 +12,12 @@ impl SignedPixel for i32 {
         BigEndian::read_i32(&block[4 * i..])
     }
 
-    fn of(stored: i64) -> i32 {
-        stored as i32
+    fn nearest(stored: i64) -> i32 {
+        stored.min(i64::from(i32::MAX)).max(i64::from(i32::MIN)) as i32
     }
 
     fn wide(self) -> i64 {
         i64::from(self)
-    }
-
-    fn top() -> i32 {
-        i32::MAX
-    }
-
-    fn bottom() -> i32 {
-        i32::MIN
-    }
-
-    fn lesser(self, other: i32) -> i32 {
-        self.min(other)
-    }
-
-    fn greater(self, other: i32) -> i32 {
-        self.max(other)
-    }
-
-    fn is(self, other: i32) -> bool {
-        self == other
-    }
-
-    fn is_negative(self) -> bool {
-        self < 0
     }
 
     fn with(self, test: bool) -> i32 {
@@ -49,4 +25,6 @@ impl SignedPixel for i32 {
     }
 
     ghost signed = { inr (inl refl) };
+
+    ghost order = { λ x y. refl };
 }

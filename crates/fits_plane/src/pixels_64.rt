@@ -12,7 +12,7 @@ impl SignedPixel for i64 {
         BigEndian::read_i64(&block[8 * i..])
     }
 
-    fn of(stored: i64) -> i64 {
+    fn nearest(stored: i64) -> i64 {
         stored
     }
 
@@ -20,33 +20,11 @@ impl SignedPixel for i64 {
         self
     }
 
-    fn top() -> i64 {
-        i64::MAX
-    }
-
-    fn bottom() -> i64 {
-        i64::MIN
-    }
-
-    fn lesser(self, other: i64) -> i64 {
-        self.min(other)
-    }
-
-    fn greater(self, other: i64) -> i64 {
-        self.max(other)
-    }
-
-    fn is(self, other: i64) -> bool {
-        self == other
-    }
-
-    fn is_negative(self) -> bool {
-        self < 0
-    }
-
     fn with(self, test: bool) -> i64 {
         self + i64::from(test)
     }
 
     ghost signed = { inr (inr refl) };
+
+    ghost order = { λ x y. refl };
 }
