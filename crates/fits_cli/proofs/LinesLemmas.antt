@@ -7,7 +7,7 @@ use Rattle.std.proofs.lemmas.List.{append-nil}
 use Rattle.std.proofs.lemmas.List.Concat.{flat_map-append}
 use Rattle.std.proofs.lemmas.List.Elements.{All-append, All-cons, All-nil, All-head, All-tail}
 use Rattle.std.proofs.lemmas.List.Folds.{list_any-append}
-use Rattle.fits_cli.specs.Cut.{HasNo}
+use Rattle.fits_script.specs.Cut.{HasNo}
 use Rattle.fits_cli.specs.Script.{HasNoLineFeed, ended_lines, IsCutInLines}
 
 -- two texts without a byte, joined

@@ -14,7 +14,7 @@ use Rattle.fits_session.specs.Query.{by_shape, datasum_in, in_hdu, rect_in, stat
 use Rattle.fits_session.specs.declared.refusal.Refusal.{Refusal}
 use Rattle.fits_session.specs.declared.refusal.Refusal.TheVariants.{NoHdu, NotImage, Memory}
 use Rattle.fits_cli.specs.Answer.{outcome_of, OutcomeNeedsMemory, CommandFails}
-use Rattle.fits_cli.specs.declared.command.Command.TheVariants as command
+use Rattle.fits_script.specs.declared.command.Command.TheVariants as command
 use Rattle.fits_cli.proofs.RefusalLemmas.{CommandFails-query, CommandFails-refused}
 
 -- statistics that are there, or not

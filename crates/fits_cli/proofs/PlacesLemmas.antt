@@ -8,7 +8,7 @@ use Rattle.fits_session.specs.File.{FileParts}
 use Rattle.fits_session.specs.Query.{positions_in}
 use Rattle.fits_session.specs.declared.refusal.Refusal.TheVariants.{NoKey}
 use Rattle.fits_cli.specs.Answer.{places_line, spaced, outcome_of}
-use Rattle.fits_cli.specs.declared.command.Command.TheVariants.{Positions}
+use Rattle.fits_script.specs.declared.command.Command.TheVariants.{Positions}
 
 -- places, and one more
 spaced-more : (places : List ℕ) (i d : ℕ) → i < length places → spaced (take (i + 1) places) ≡ spaced (take i places) ++ (codes " " ++ decimal (get_or places i d))

@@ -4,8 +4,8 @@ use Rattle.std.specs.Prelude.{nat_le, min}
 use Rattle.std.proofs.Math.Seq.{take-append-add}
 use Rattle.std.proofs.lemmas.Bool.{cases_lt}
 use Rattle.std.proofs.lemmas.List.{take_all, take_min, length-take-le}
-use Rattle.fits_cli.specs.declared.limits.TheConstants.{LINE_LIMIT}
-use Rattle.fits_cli.specs.Line.{reading_of}
+use Rattle.fits_script.specs.declared.limits.TheConstants.{LINE_LIMIT}
+use Rattle.fits_script.specs.Line.{reading_of}
 use Rattle.fits_cli.specs.Running.{kept_of}
 
 -- a line within the limit is kept whole

@@ -9,8 +9,8 @@ use Rattle.fits_session.specs.declared.refusal.Refusal.{Refusal}
 use Rattle.fits_session.specs.declared.refusal.Refusal.TheVariants.{NoHdu, NoCard, NoKey, BadText, EndCard, Shape as OtherShape, BadName, BadValue, NotImage, BadRect, WrongCount, Range, PrimaryStays, TooLarge, Memory}
 use Rattle.fits_session.proofs.RefusalLemmas.{never_memory}
 use Rattle.fits_cli.specs.Answer.{outcome_of, OutcomeNeedsMemory, CommandFails}
-use Rattle.fits_cli.specs.declared.command.Command.{Command}
-use Rattle.fits_cli.specs.declared.command.Command.TheVariants as command
+use Rattle.fits_script.specs.declared.command.Command.{Command}
+use Rattle.fits_script.specs.declared.command.Command.TheVariants as command
 
 -- a command fails by memory where that may run out, and by another refusal where that is its outcome
 pub CommandFails-by : (file : FileParts) (command : Command) (why : Refusal) → (why ≡ Memory → OutcomeNeedsMemory file command) → ((why ≡ Memory → ⊥) → outcome_of file command ≡ Err why) → CommandFails file command why

@@ -3,8 +3,8 @@ use Rattle.std.proofs.Common.{◌≡◌, ℕ, zero, suc, ◌+◌, ◌<◌, List,
 use Rattle.std.proofs.lemmas.Bool.{cases_lt}
 use Rattle.std.proofs.lemmas.List.{append-nil, take_all, take-append-le, length-take-le}
 use Rattle.fits_cli.specs.Answer.{Standing, line_answer, line_left}
-use Rattle.fits_cli.specs.declared.limits.TheConstants.{LINE_LIMIT}
-use Rattle.fits_cli.specs.Line.{reading_of}
+use Rattle.fits_script.specs.declared.limits.TheConstants.{LINE_LIMIT}
+use Rattle.fits_script.specs.Line.{reading_of}
 use Rattle.fits_cli.specs.Output.{answers, standing_after}
 use Rattle.fits_cli.specs.Running.{AnswersLine, AnswersLines, LineStops, LinesStop, HasCome, HasStopped, Continues, PieceStops, EndsScript, EndStops, kept_of}
 use Rattle.fits_cli.specs.Script.{HasNoLineFeed, script_lines}

@@ -4,7 +4,7 @@ use Rattle.std.specs.Prelude.{◌==◌}
 use Rattle.std.specs.List.{list_any}
 use Rattle.std.proofs.lemmas.Bool.{or_parts}
 use Rattle.fits_value.specs.Spelling.{doubled}
-use Rattle.fits_cli.specs.Cut.{HasNo}
+use Rattle.fits_script.specs.Cut.{HasNo}
 
 -- a text without a quote stays
 pub doubled-none : (text : List ℕ) → HasNo 39 text → doubled text ≡ text

@@ -11,14 +11,14 @@ use Rattle.fits_session.specs.Refusal.{refusal_of, refusal_text, EditNeedsMemory
 use Rattle.fits_session.specs.declared.offsets.HduOffsets.{HduOffsets}
 use Rattle.fits_session.specs.declared.refusal.Refusal.{Refusal}
 use Rattle.fits_session.specs.declared.refusal.Refusal.TheVariants.{NoKey, Memory}
-use Rattle.fits_cli.specs.Line.{ReadingNeedsMemory}
+use Rattle.fits_script.specs.Line.{ReadingNeedsMemory}
 use Rattle.fits_cli.specs.PixelLines.{statistics_line, sums_line, values_line}
 use Rattle.fits_cli.specs.Report.{report_text}
 use Rattle.fits_cli.specs.ValueLine.{value_line}
-use Rattle.fits_cli.specs.declared.line_reading.LineReading.{LineReading}
-use Rattle.fits_cli.specs.declared.line_reading.LineReading.TheVariants.{TooLong, NoCommand, Said}
-use Rattle.fits_cli.specs.declared.command.Command.{Command}
-use Rattle.fits_cli.specs.declared.command.Command.TheVariants.{Nothing, Edit, Offsets, Get, Positions, Report, Statistics, Rectangle, Sums}
+use Rattle.fits_script.specs.declared.line_reading.LineReading.{LineReading}
+use Rattle.fits_script.specs.declared.line_reading.LineReading.TheVariants.{TooLong, NoCommand, Said}
+use Rattle.fits_script.specs.declared.command.Command.{Command}
+use Rattle.fits_script.specs.declared.command.Command.TheVariants.{Nothing, Edit, Offsets, Get, Positions, Report, Statistics, Rectangle, Sums}
 use Rattle.fits_cli.specs.declared.level.Level.TheVariants.{All}
 
 -- the offsets of an HDU: where its header begins, its data begin and it ends

@@ -7,7 +7,7 @@ use Rattle.fits_session.specs.File.{FileParts, IsFileOf}
 use Rattle.fits_cli.specs.Answer.{at_first_line, LineNeedsMemory}
 use Rattle.fits_cli.specs.Faults.{status_of_fault}
 use Rattle.fits_cli.specs.declared.limits.TheConstants.{SCRIPT_LIMIT}
-use Rattle.fits_cli.specs.Line.{reading_of}
+use Rattle.fits_script.specs.Line.{reading_of}
 use Rattle.fits_cli.specs.Output.{answers, standing_after, Output, IsOutputOf}
 use Rattle.fits_cli.specs.Script.{IsCutInLines, script_lines}
 use Rattle.fits_cli.specs.declared.end.End.{End}

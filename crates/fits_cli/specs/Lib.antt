@@ -1,9 +1,6 @@
 pub mod Answer
-pub mod Cut
 pub mod Ends
 pub mod Faults
-pub mod Forms
-pub mod Line
 pub mod Listing
 pub mod Output
 pub mod PixelLines

@@ -4,7 +4,7 @@ use Rattle.fits_session.specs.File.{FileParts, file_bytes, IsFileOf}
 use Rattle.fits_session.specs.Opening.{HasOpenFault}
 use Rattle.fits_session.specs.declared.open_fault.OpenFault.{OpenFault}
 use Rattle.fits_cli.specs.declared.limits.TheConstants.{SCRIPT_LIMIT}
-use Rattle.fits_cli.specs.Line.{reading_of}
+use Rattle.fits_script.specs.Line.{reading_of}
 use Rattle.fits_cli.specs.Script.{IsCutInLines, script_lines}
 use Rattle.fits_cli.specs.Answer.{Standing, at_first_line, line_answer, line_left}
 use Rattle.fits_cli.specs.declared.fault.Fault.{Fault}

@@ -4,8 +4,9 @@ use Rattle.std.specs.Io.KnownBytes.{IsAtEnd}
 use Rattle.fits_stream.specs.Intake.{Tells}
 use Rattle.fits_cli.specs.Answer.{Standing, line_answer, line_left, LineNeedsMemory}
 use Rattle.fits_cli.specs.Ends.{CameTo, HasLines}
-use Rattle.fits_cli.specs.declared.limits.TheConstants.{LINE_LIMIT, SCRIPT_LIMIT}
-use Rattle.fits_cli.specs.Line.{reading_of}
+use Rattle.fits_script.specs.declared.limits.TheConstants.{LINE_LIMIT}
+use Rattle.fits_cli.specs.declared.limits.TheConstants.{SCRIPT_LIMIT}
+use Rattle.fits_script.specs.Line.{reading_of}
 use Rattle.fits_cli.specs.Output.{answers, standing_after}
 use Rattle.fits_cli.specs.Script.{IsCutInLines, script_lines}
 use Rattle.fits_stream.specs.Stream.{SourceState, SinkState, FailsOnce, FailsToFlush, Flushes, Prints, PrintsFront, Reads, StaysQuiet}

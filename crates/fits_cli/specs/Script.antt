@@ -1,7 +1,7 @@
 -- A script, cut at its line feeds (own).
 use Rattle.std.specs.Prelude.{◌≡◌, ℕ, List, [], ◌∷◌, ◌++◌, All}
 use Rattle.std.specs.List.{flat_map}
-use Rattle.fits_cli.specs.Cut.{HasNo}
+use Rattle.fits_script.specs.Cut.{HasNo}
 
 -- no line feed is in the text
 abbrev pub HasNoLineFeed : List ℕ → Type 0

@@ -4,12 +4,12 @@ ghost use Rattle.fits_session.specs.Session.{file_of};
 ghost use Rattle.fits_cli.specs.Answer.{offset_line, offset_lines, offsets_text};
 ghost use Rattle.fits_cli.specs.Answer.{outcome_of, CommandFails};
 
-use crate::command::Command;
 use crate::pixel_answers::{rectangle, statistics, sums};
 use crate::places_line::positions;
 use crate::pushing::push_number;
 use crate::report_text::report_text;
 use crate::value_line::value_line;
+use fits_script::Command;
 use fits_session::{HduOffsets, Refusal, Session};
 use std::alloc::{AllocError, Global};
 

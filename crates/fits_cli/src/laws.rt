@@ -1,9 +1,9 @@
 //! Laws of the definitions, each the contract of a function that does nothing.
 ghost use Rattle.std.specs.Prelude.{◌≡◌, ◌↔◌, ◌+◌, ℕ, List, Some, take};
-ghost use Rattle.fits_cli.specs.Forms.{Says};
-ghost use Rattle.fits_cli.specs.declared.command.Command.{Command};
-ghost use Rattle.fits_cli.specs.declared.limits.TheConstants.{LINE_LIMIT};
-ghost use Rattle.fits_cli.specs.Line.{command_of, reading_of};
+ghost use Rattle.fits_script.specs.Forms.{Says};
+ghost use Rattle.fits_script.specs.declared.command.Command.{Command};
+ghost use Rattle.fits_script.specs.declared.limits.TheConstants.{LINE_LIMIT};
+ghost use Rattle.fits_script.specs.Line.{command_of, reading_of};
 ghost use Rattle.fits_cli.specs.Output.{Output, IsOutputOf};
 ghost use Rattle.fits_cli.specs.Script.{IsCutInLines};
 

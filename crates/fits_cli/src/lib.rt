@@ -2,28 +2,20 @@
 #![tactic(auto)]
 
 mod answer;
-mod command;
 mod complaint;
-mod cut;
 mod editing;
 mod end;
 mod fault;
-mod image_words;
 mod laws;
 mod lazy_file;
 mod level;
 mod limits;
-mod line;
-mod line_fault;
-mod line_reading;
 mod listing;
-mod part;
 mod pixel_answers;
 mod pixel_lines;
 mod places_line;
 mod printing;
 mod pushing;
-mod rectangle_words;
 mod reply;
 mod report_text;
 mod runner;
@@ -31,24 +23,18 @@ mod script;
 mod summing;
 mod telling;
 mod value_line;
-mod value_words;
-mod verb;
 mod verifying;
-mod word_fault;
-mod words;
 
-pub use command::Command;
 pub use editing::run_edit;
 pub use end::End;
 pub use fault::Fault;
 pub use laws::{a_cut, an_output, one_cut, one_output, reading_of_a_front, what_a_line_says};
 pub use lazy_file::LazyFile;
 pub use level::Level;
-pub use limits::{LINE_LIMIT, SCRIPT_LIMIT};
-pub use line::{parse_line, read_line};
-pub use line_fault::LineFault;
-pub use line_reading::LineReading;
+pub use limits::SCRIPT_LIMIT;
 pub use listing::run_list;
 pub use summing::run_sum;
 pub use telling::{Telling, run_telling};
 pub use verifying::run_verify;
+// The lines of a script are named here too.
+pub use fits_script::{Command, LINE_LIMIT, LineFault, LineReading, parse_line, read_line};

@@ -2,7 +2,7 @@
 ghost use Rattle.std.specs.Prelude.{◌≡◌, IfOk, IfErr, OnErr, Ok};
 ghost use Rattle.fits_session.specs.Session.{file_of};
 ghost use Rattle.fits_cli.specs.Answer.{outcome_of, CommandFails};
-ghost use Rattle.fits_cli.specs.declared.command.Command.TheVariants.{Rectangle, Statistics, Sums};
+ghost use Rattle.fits_script.specs.declared.command.Command.TheVariants.{Rectangle, Statistics, Sums};
 
 use crate::pixel_lines::{statistics_line, sums_line, values_line};
 use fits_session::{Corner, Refusal, Session};

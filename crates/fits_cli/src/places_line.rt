@@ -2,7 +2,7 @@
 ghost use Rattle.std.specs.Prelude.{◌≡◌, ◌∷◌, IfOk, IfErr, OnErr, Ok};
 ghost use Rattle.fits_session.specs.Session.{file_of};
 ghost use Rattle.fits_cli.specs.Answer.{outcome_of, places_line, CommandFails};
-ghost use Rattle.fits_cli.specs.declared.command.Command.TheVariants.{Positions};
+ghost use Rattle.fits_script.specs.declared.command.Command.TheVariants.{Positions};
 
 use crate::pushing::push_number;
 use fits_card::Name;

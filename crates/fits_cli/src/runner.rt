@@ -1,9 +1,8 @@
 use crate::answer::answer;
 use crate::fault::Fault;
-use crate::line::read_line;
-use crate::line_reading::LineReading;
 use crate::printing::flush;
 use crate::reply::{Reply, counts_as_refused, settled};
+use fits_script::{LineReading, read_line};
 use fits_session::Session;
 use fits_stream::Sink;
 use std::alloc::{AllocError, Global};
@@ -36,7 +35,7 @@ impl Runner {
     ghost use Rattle.std.specs.Prelude.{◌≡◌, ◌+◌, ◌^◌, ◌<◌, ◌||◌, IfOk, IfErr, OnOk, OnErr};
     ghost use Rattle.fits_stream.specs.Stream.{Prints};
     ghost use Rattle.fits_cli.specs.Answer.{at_first_line, line_answer, line_left, LineNeedsMemory};
-    ghost use Rattle.fits_cli.specs.Line.{reading_of};
+    ghost use Rattle.fits_script.specs.Line.{reading_of};
     ghost use Rattle.fits_cli.specs.Output.{status_of};
     ghost use Rattle.fits_cli.specs.Reply.{counts_as_refused, reply_text};
     ghost use Rattle.fits_cli.specs.Faults.{PrintFails};

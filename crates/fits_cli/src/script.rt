@@ -1,15 +1,15 @@
 //! A script, answered line by line as it comes.
 ghost use Rattle.std.specs.Prelude.{◌≡◌, ◌<◌, ◌≤◌, ◌+◌, ◌^◌, ◌++◌, [], length, IfErr, OnOk};
 ghost use Rattle.std.specs.Prelude.{vec_capacity, vec_len};
-ghost use Rattle.fits_cli.specs.Line.{reading_of};
+ghost use Rattle.fits_script.specs.Line.{reading_of};
 ghost use Rattle.fits_cli.specs.Running.{kept_of, AnswersLine, AnswersScript, Continues};
 ghost use Rattle.fits_cli.specs.Running.{EndsScript, EndStops, LineStops, PieceStops, ScriptStops};
 
-use crate::cut::split_far;
 use crate::fault::Fault;
-use crate::limits::{LINE_LIMIT, SCRIPT_LIMIT};
+use crate::limits::SCRIPT_LIMIT;
 use crate::reply::print_reply;
 use crate::runner::Runner;
+use fits_script::{LINE_LIMIT, split_far};
 use fits_stream::{PIECE_LEN, Sink, Source, buffer_of};
 use std::alloc::Global;
 

@@ -1,4 +1,4 @@
-use Rattle.fits_cli.proofs.SaidLemmas.{command_of-says, Says-command_of}
+use Rattle.fits_script.proofs.SaidLemmas.{command_of-says, Says-command_of}
 use Rattle.fits_cli.proofs.laws.what_a_line_says.Goals as goal
 
 pub returns : goal.returns

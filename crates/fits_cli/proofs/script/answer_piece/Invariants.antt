@@ -1,6 +1,6 @@
 use Rattle.std.proofs.Common.{◌≡◌, ◌≤◌, ◌+◌, ◌++◌, ℕ, List, length}
 use Rattle.std.specs.Prelude.{vec_len, vec_capacity}
-use Rattle.fits_cli.specs.declared.limits.TheConstants.{LINE_LIMIT}
+use Rattle.fits_script.specs.declared.limits.TheConstants.{LINE_LIMIT}
 use Rattle.fits_cli.specs.Running.{Continues}
 use Rattle.fits_cli.proofs.script.answer_piece.Given as goal
 

@@ -1,7 +1,8 @@
 use Rattle.std.proofs.Common.{◌≡◌, ◌<◌, ◌≤◌, ◌+◌, ◌-◌, List, ℕ, length}
 use Rattle.std.specs.Prelude.{vec_len, vec_capacity}
 use Rattle.fits_stream.specs.Stream.{Reads}
-use Rattle.fits_cli.specs.declared.limits.TheConstants.{LINE_LIMIT, SCRIPT_LIMIT}
+use Rattle.fits_script.specs.declared.limits.TheConstants.{LINE_LIMIT}
+use Rattle.fits_cli.specs.declared.limits.TheConstants.{SCRIPT_LIMIT}
 use Rattle.fits_cli.specs.Running.{HasCome}
 use Rattle.fits_cli.proofs.script.answer_pieces.Given as goal
 

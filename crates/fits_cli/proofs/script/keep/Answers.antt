@@ -1,6 +1,6 @@
 use Rattle.std.proofs.Common.{◌≡◌, ◌∙◌, refl, ap, arith, rules, length, ◌≤◌, ◌-◌, ◌+◌, ◌++◌}
 use Rattle.std.specs.Prelude.{min}
-use Rattle.fits_cli.specs.declared.limits.TheConstants.{LINE_LIMIT}
+use Rattle.fits_script.specs.declared.limits.TheConstants.{LINE_LIMIT}
 use Rattle.fits_cli.proofs.ReadingLemmas.{kept_more}
 use Rattle.fits_cli.proofs.script.keep.Goals as goal
 

@@ -1,0 +1,10 @@
+pub mod CutLemmas
+pub mod FormLemmas
+pub mod ImageFormLemmas
+pub mod ListLemmas
+pub mod PartsLemmas
+pub mod PixelFormLemmas
+pub mod RectangleLemmas
+pub mod SaidLemmas
+pub mod VerbLemmas
+pub mod WordLemmas

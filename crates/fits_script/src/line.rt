@@ -1,0 +1,250 @@
+//! The lines of a script: which bytes are which command.
+ghost use Rattle.std.specs.Prelude.{◌≡◌, IfOk, IsErrOf, OnErr};
+ghost use Rattle.std.specs.Option.{option_copied};
+ghost use Rattle.std.specs.Result.{result_ok};
+ghost use Rattle.fits_script.specs.Line.{cards_command, command_of, reading_of, said_by, said_of};
+ghost use Rattle.fits_script.specs.Line.{said_or_none, words_said, ReadingNeedsMemory};
+ghost use Rattle.fits_script.specs.Line.{delete_said, get_said, insert_said, move_said, new_said, paint_said};
+ghost use Rattle.fits_script.specs.Line.{positions_said, put_said, rectangle_said, set_said, unset_said};
+ghost use Rattle.fits_script.specs.declared.command.Command.{Command};
+
+use crate::command::Command;
+use crate::image_words::new_words;
+use crate::limits::LINE_LIMIT;
+use crate::line_fault::LineFault;
+use crate::line_reading::LineReading;
+use crate::verb::{Verb, verb_of};
+use crate::word_fault::WordFault;
+use crate::words::{
+    alone, card_words, cut_word, field_words, fill_words, move_words, name_word, number_first,
+    place_word, rectangle_word, write_words,
+};
+use fits_card::{Card, Name};
+use fits_hdu::Kind;
+use fits_rules::Axes;
+use fits_session::{CardEdit, Corner, Edit, HduEdit, Paint};
+use fits_value::{Text, Value};
+use std::alloc::{AllocError, Global};
+
+/// The command that a line says, without its line feed.
+pub fn parse_line(alloc: Global, line: &[u8]) -> Result<Command, LineFault>
+    ensures ok { IfOk result (λ command. reading_of line.now ≡ LineReading.Said command) }
+    ensures bad { IsErrOf result LineFault.Bad
+        → (command : Command) → reading_of line.now ≡ LineReading.Said command → ⊥ }
+    ensures memory { IsErrOf result LineFault.Memory → ReadingNeedsMemory (reading_of line.now) }
+{
+    match read_line(alloc, line) {
+        Ok(LineReading::Said(command)) => Ok(command),
+        Ok(LineReading::TooLong | LineReading::NoCommand) => Err(LineFault::Bad),
+        Err(refused) => Err(LineFault::from(refused)),
+    }
+}
+
+/// What a line comes to, without its line feed.
+#[tactic(auto, unfolding(crate::specs::Line::reading_of))]
+pub fn read_line(alloc: Global, line: &[u8]) -> Result<LineReading, AllocError>
+    ensures ok { IfOk result (λ reading. reading ≡ reading_of line.now) }
+    ensures err { OnErr result (ReadingNeedsMemory (reading_of line.now)) }
+{
+    if line.len() > LINE_LIMIT {
+        return Ok(LineReading::TooLong);
+    }
+    match command_of(alloc, line) {
+        Ok(Some(command)) => Ok(LineReading::Said(command)),
+        Ok(None) => Ok(LineReading::NoCommand),
+        Err(refused) => Err(refused),
+    }
+}
+
+// What a line within the limit says.
+#[tactic(auto, unfolding(crate::specs::Line::command_of))]
+fn command_of(alloc: Global, line: &[u8]) -> Result<Option<Command>, AllocError>
+    ensures ok { IfOk result (λ said. said ≡ command_of line.now) }
+    ensures err { OnErr result (ReadingNeedsMemory (said_or_none (command_of line.now))) }
+{
+    match line {
+        [] | [b'#', ..] => Ok(Some(Command::Nothing)),
+        _ => Ok(words_said(alloc, line)?.ok()),
+    }
+}
+
+// What the words of a line say, or why they say nothing.
+#[tactic(auto, unfolding(crate::specs::Line::words_said, crate::specs::Line::verb_said))]
+fn words_said(alloc: Global, line: &[u8]) -> Result<Result<Command, WordFault>, AllocError>
+    ensures ok { IfOk result (λ said. said ≡ words_said line.now) }
+    ensures err { OnErr result (ReadingNeedsMemory (said_or_none (result_ok (words_said line.now)))) }
+{
+    let (word, rest) = cut_word(line);
+    match verb_of(word) {
+        Some(verb) => said_by(alloc, verb, rest),
+        None => Ok(Err(WordFault::NoVerb)),
+    }
+}
+
+// What a verb and the rest of the line say: most verbs name an HDU first.
+#[tactic(auto, unfolding(crate::specs::Line::said_by, crate::specs::Line::hdu_said))]
+fn said_by(
+    alloc: Global,
+    verb: Verb,
+    rest: Option<&[u8]>,
+) -> Result<Result<Command, WordFault>, AllocError>
+    ensures ok { IfOk result (λ said. said ≡ said_by verb (option_copied rest.entry)) }
+    ensures err { OnErr result
+        (ReadingNeedsMemory (said_or_none (result_ok (said_by verb (option_copied rest.entry))))) }
+{
+    let said = match verb {
+        Verb::Offsets => alone(rest, Command::Offsets),
+        Verb::Report => alone(rest, Command::Report),
+        _ => {
+            let Some((hdu, rest)) = number_first(rest) else {
+                return Ok(Err(WordFault::NoHdu));
+            };
+            said_of(alloc, verb, hdu, rest)?
+        }
+    };
+    Ok(said.ok_or(WordFault::OtherWords))
+}
+
+// What a verb says of an HDU, by what follows the HDU's number.
+#[tactic(auto, unfolding(crate::specs::Line::said_of))]
+fn said_of(
+    alloc: Global,
+    verb: Verb,
+    hdu: usize,
+    rest: Option<&[u8]>,
+) -> Result<Option<Command>, AllocError>
+    ensures ok { IfOk result (λ said. said ≡ said_of verb hdu (option_copied rest.entry)) }
+    ensures err { OnErr result
+        (ReadingNeedsMemory (said_or_none (said_of verb hdu (option_copied rest.entry)))) }
+{
+    Ok(match verb {
+        Verb::Insert => insert_said(hdu, card_words(rest)),
+        Verb::Put => put_said(hdu, card_words(rest)),
+        Verb::Delete => delete_said(hdu, place_word(rest)),
+        Verb::Move => move_said(hdu, move_words(rest)),
+        Verb::Set => set_said(hdu, field_words(alloc, rest)?),
+        Verb::Unset => unset_said(hdu, name_word(rest)),
+        Verb::Fill => paint_said(hdu, fill_words(alloc, rest)?),
+        Verb::Write => paint_said(hdu, write_words(alloc, rest)?),
+        Verb::New => new_said(hdu, new_words(alloc, rest)?),
+        Verb::Remove => alone(rest, Command::Edit(Edit::RemoveHdu { hdu })),
+        Verb::Stamp => alone(rest, hdu_command(hdu, HduEdit::Stamp)),
+        Verb::Get => get_said(hdu, name_word(rest)),
+        Verb::Positions => positions_said(hdu, name_word(rest)),
+        Verb::Statistics => alone(rest, Command::Statistics { hdu }),
+        Verb::Rectangle => rectangle_said(hdu, rectangle_word(alloc, rest)?),
+        Verb::Sums => alone(rest, Command::Sums { hdu }),
+        Verb::Offsets | Verb::Report => None,
+    })
+}
+
+// An edit of an HDU.
+fn hdu_command(hdu: usize, edit: HduEdit) -> Command
+    ensures { result ≡ Command.Edit (Edit.Hdu hdu edit) }
+{
+    Command::Edit(Edit::Hdu { hdu, edit })
+}
+
+// An edit of its cards.
+fn cards_command(hdu: usize, edit: CardEdit) -> Command
+    ensures { result ≡ cards_command hdu edit }
+{
+    hdu_command(hdu, HduEdit::Cards(edit))
+}
+
+// `ins H P CARD`, here and below by H and the words that follow it.
+fn insert_said(hdu: usize, words: Option<(usize, Card)>) -> Option<Command>
+    ensures { result ≡ insert_said hdu words }
+{
+    let (place, card) = words?;
+    Some(cards_command(hdu, CardEdit::Insert { place, card }))
+}
+
+// `put H P CARD`
+fn put_said(hdu: usize, words: Option<(usize, Card)>) -> Option<Command>
+    ensures { result ≡ put_said hdu words }
+{
+    let (place, card) = words?;
+    Some(cards_command(hdu, CardEdit::Put { place, card }))
+}
+
+// `del H P`
+fn delete_said(hdu: usize, word: Option<usize>) -> Option<Command>
+    ensures { result ≡ delete_said hdu word }
+{
+    let place = word?;
+    Some(cards_command(hdu, CardEdit::Delete { place }))
+}
+
+// `mov H P Q`
+fn move_said(hdu: usize, words: Option<(usize, usize)>) -> Option<Command>
+    ensures { result ≡ move_said hdu words }
+{
+    let (from, to) = words?;
+    Some(cards_command(hdu, CardEdit::Move { from, to }))
+}
+
+// `set H NAME FIELD`
+fn set_said(hdu: usize, words: Option<(Name, Value, Option<Text>)>) -> Option<Command>
+    ensures { result ≡ set_said hdu words }
+{
+    let (name, value, comment) = words?;
+    let edit = CardEdit::Set {
+        name,
+        value,
+        comment,
+    };
+    Some(cards_command(hdu, edit))
+}
+
+// `unset H NAME`
+fn unset_said(hdu: usize, word: Option<Name>) -> Option<Command>
+    ensures { result ≡ unset_said hdu word }
+{
+    let name = word?;
+    Some(cards_command(hdu, CardEdit::Unset { name }))
+}
+
+// `fill H RECT V` or `write H RECT V V ..`
+fn paint_said(hdu: usize, words: Option<(Corner, Corner, Paint)>) -> Option<Command>
+    ensures { result ≡ paint_said hdu words }
+{
+    let (lo, hi, paint) = words?;
+    Some(hdu_command(hdu, HduEdit::Pixels { lo, hi, paint }))
+}
+
+// `new H KIND AXES`
+fn new_said(hdu: usize, words: Option<(Kind, Axes)>) -> Option<Command>
+    ensures { result ≡ new_said hdu words }
+{
+    let (kind, axes) = words?;
+    Some(Command::Edit(Edit::NewImage {
+        at: hdu,
+        kind,
+        axes,
+    }))
+}
+
+// `get H NAME`
+fn get_said(hdu: usize, word: Option<Name>) -> Option<Command>
+    ensures { result ≡ get_said hdu word }
+{
+    let name = word?;
+    Some(Command::Get { hdu, name })
+}
+
+// `pos H NAME`
+fn positions_said(hdu: usize, word: Option<Name>) -> Option<Command>
+    ensures { result ≡ positions_said hdu word }
+{
+    let name = word?;
+    Some(Command::Positions { hdu, name })
+}
+
+// `rect H RECT`
+fn rectangle_said(hdu: usize, word: Option<(Corner, Corner)>) -> Option<Command>
+    ensures { result ≡ rectangle_said hdu word }
+{
+    let (lo, hi) = word?;
+    Some(Command::Rectangle { hdu, lo, hi })
+}
