@@ -16,7 +16,7 @@ pub(crate) struct LongHalves {
 impl LongHalves {
     /// The total of the numbers.
     pub(crate) fn long_total(self) -> u128
-        ensures { result ≡ 4294967296 * self.high + self.low }
+        ensures { result ≡ 2 ^ 32 * self.high + self.low }
     {
         u128::from(self.high) * 4_294_967_296 + u128::from(self.low)
     }
@@ -27,7 +27,7 @@ pub(crate) fn long_halves_of(block: &[u8]) -> LongHalves
     requires whole { length block.now % 8 ≡ 0 }
     requires short { length block.now ≤ 2880 }
     ensures words { result.high + result.low ≡ word_total block.now }
-    ensures eights { 4294967296 * result.high + result.low
+    ensures eights { 2 ^ 32 * result.high + result.low
         ≡ unsigned_total 8 block.now 0 (length block.now / 8) }
     ensures high { result.high ≤ 360 * (2 ^ 32 - 1) }
     ensures low { result.low ≤ 360 * (2 ^ 32 - 1) }
