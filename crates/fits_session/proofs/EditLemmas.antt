@@ -1,12 +1,12 @@
 -- An edit of HDU h of a session owes what it owes of that HDU.
-use Rattle.std.proofs.Common.{◌≡◌, inl, ℕ, ◌+◌, ◌-◌, ◌≤◌, Bool, true, List, length, set, refl, ap, sym, ◌∙◌, subst, arith, Option, None, Some, suc, add-one}
+use Rattle.std.proofs.Common.{◌≡◌, inl, ℕ, ◌+◌, ◌≤◌, List, length, set, refl, ap, sym, ◌∙◌, subst, arith, Option, None, Some, suc, add-one}
 use Rattle.std.specs.Prelude.{Result, Ok, Err}
 use Rattle.std.specs.List.{slice_get}
 use Rattle.std.specs.Option.{option_map_or}
 use Rattle.std.proofs.lemmas.List.{length-append}
 use Rattle.fits_rules.specs.Class.{is_primary}
 use Rattle.fits_hdu.specs.Hdu.{HduParts, hdu_bytes, IsHdu}
-use Rattle.fits_hdu.specs.State.{HduState, PixelWork}
+use Rattle.fits_hdu.specs.State.{HduState}
 use Rattle.fits_session.specs.Edit.{changed_at, changed_of, file_after, hdu_edited, hdu_of, is_primary_hdu, made_or, with_hdu}
 use Rattle.fits_session.specs.File.{FileParts, file_bytes, joined_hdus, IsFile, IsFileOf}
 use Rattle.fits_session.specs.HduEdit.{hdu_made}
@@ -20,7 +20,7 @@ use Rattle.fits_session.specs.declared.limits.TheConstants.{FILE_LIMIT}
 use Rattle.fits_session.specs.declared.refusal.Refusal.{Refusal}
 use Rattle.fits_session.specs.declared.refusal.Refusal.TheVariants as refusal
 use Rattle.fits_session.proofs.ChangeLemmas.{front_changed, goes_on-changed, joined-changed, length-changed}
-use Rattle.fits_session.proofs.MakingLemmas.{kept_limits, limit_none, within_limits}
+use Rattle.fits_session.proofs.MakingLemmas.{limit_none, within_limits}
 use Rattle.fits_session.proofs.StateLemmas.{IsHduAt, file_of-same, hdu_of-nowhere, hdu_of-there, hdus_of-changed, length-hdus_of, part_there, primary_there, reads_more, reads_none, slice_get-hdus_of, works_nowhere, works_of-same, works_there}
 
 -- the file with another HDU at an index is one, where that HDU is one and the file isn't too long

@@ -1,5 +1,5 @@
 -- Laws of edits.
-use Rattle.std.proofs.Common.{◌≡◌, ℕ, ◌+◌, ◌≤◌, Bool, true, false, List, length, refl, ap, sym, ◌∙◌, subst, arith, All, Option, None, Some, zero, suc}
+use Rattle.std.proofs.Common.{◌≡◌, ℕ, ◌≤◌, Bool, true, false, List, length, refl, ap, sym, ◌∙◌, subst, arith, All, Option, None, Some, zero, suc}
 use Rattle.std.specs.Prelude.{Result, Ok, Err, if◌then◌else◌}
 use Rattle.std.specs.List.{slice_get}
 use Rattle.fits_card.specs.Change.{cards_after, new_cards}
@@ -8,9 +8,9 @@ use Rattle.fits_card.specs.declared.change.Change.{Change}
 use Rattle.fits_card.proofs.HeaderLemmas.{fill_length-by_cards}
 use Rattle.fits_rules.specs.Shape.{shape_of}
 use Rattle.fits_rules.specs.declared.array_shape.Shape.{Shape}
-use Rattle.fits_hdu.specs.Hdu.{HduParts, hdu_after, hdu_bytes, IsHdu, keeps_shape}
+use Rattle.fits_hdu.specs.Hdu.{HduParts, hdu_after, IsHdu, keeps_shape}
 use Rattle.fits_hdu.specs.Stamp.{stamped}
-use Rattle.fits_hdu.specs.NewImage.{are_axes, new_image}
+use Rattle.fits_hdu.specs.NewImage.{new_image}
 use Rattle.fits_hdu.specs.declared.kind.Kind.{Kind}
 use Rattle.fits_hdu.specs.declared.pixel_fault.PixelFault.{PixelFault}
 use Rattle.fits_hdu.proofs.NewImageLemmas.{new_is_hdu}

@@ -17,7 +17,6 @@ use Rattle.fits_hdu.specs.State.{HduState, PixelWork, ReadsUpTo}
 use Rattle.fits_hdu.specs.Work.{apply_reads, FollowsBlank}
 use Rattle.fits_hdu.proofs.ChangeLemmas.{hdu-changed, inner_after}
 use Rattle.fits_session.specs.CardEdit.{change_of}
-use Rattle.fits_session.specs.Edit.{made_or}
 use Rattle.fits_session.specs.HduEdit.{hdu_changed, hdu_made}
 use Rattle.fits_session.specs.Limits.{is_within_limits, size_within}
 use Rattle.fits_session.specs.declared.limits.TheConstants.{FILE_LIMIT, HDU_LIMIT}

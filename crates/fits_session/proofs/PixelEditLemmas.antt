@@ -1,5 +1,5 @@
 -- Edits of pixels: what they make of an HDU, and owe.
-use Rattle.std.proofs.Common.{◌≡◌, inl, ℕ, ◌+◌, ◌≤◌, Bool, true, List, length, refl, ap, sym, ◌∙◌, arith, Some}
+use Rattle.std.proofs.Common.{◌≡◌, inl, ℕ, ◌≤◌, Bool, true, List, length, refl, ap, sym, ◌∙◌, arith}
 use Rattle.std.specs.Prelude.{Result, Ok, Err}
 use Rattle.std.proofs.lemmas.List.{length-append}
 use Rattle.fits_card.specs.Header.{Header, header_bytes}
@@ -21,7 +21,6 @@ use Rattle.fits_session.specs.Refusal.{limit_refusal, HduNeedsMemory}
 use Rattle.fits_session.specs.Session.{length_with, within_refusal, HduEditsTo, HduWork, PatchesIn}
 use Rattle.fits_session.specs.declared.hdu_edit.HduEdit.TheVariants.{Pixels}
 use Rattle.fits_session.specs.declared.paint.Paint.{Paint}
-use Rattle.fits_session.specs.declared.refusal.Refusal.{Refusal}
 use Rattle.fits_session.proofs.MakingLemmas.{makes_not}
 
 -- an HDU with a rectangle painted has as many bytes

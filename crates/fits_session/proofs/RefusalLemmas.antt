@@ -1,6 +1,6 @@
 -- No test refuses an edit for memory.
-use Rattle.std.proofs.Common.{◌≡◌, ℕ, ◌+◌, ℤ, refl, ap, [], ◌∷◌, length, Bool, true, false, List, Option, None, Some}
-use Rattle.std.specs.Prelude.{◌==◌, ◌-ℤ◌, if◌then◌else◌, not, Result, Ok, Err}
+use Rattle.std.proofs.Common.{◌≡◌, ℕ, ◌+◌, refl, ap, [], ◌∷◌, length, Bool, true, false, List, Option, None, Some}
+use Rattle.std.specs.Prelude.{◌==◌, if◌then◌else◌, not, Result, Ok, Err}
 use Rattle.std.specs.List.{list_all, list_any}
 use Rattle.fits_card.specs.Card.{is_text, is_end}
 use Rattle.fits_card.specs.Change.{cards_after, new_cards}

@@ -1,6 +1,6 @@
 -- Steps of saving: HDU after HDU, then the tail.
 use Rattle.std.proofs.Common.{◌≡◌, ℕ, ◌+◌, ◌<◌, ◌≤◌, List, [], ◌∷◌, ◌++◌, length, take, drop, get_or, set, refl, ap, sym, subst, ◌∙◌, arith, zero, suc, add-one}
-use Rattle.std.proofs.lemmas.List.{append-nil, take_all, take_more, drop_more, take-append-drop, length-map}
+use Rattle.std.proofs.lemmas.List.{append-nil, take_all, take_more, drop_more, take-append-drop}
 use Rattle.std.proofs.lemmas.List.Concat.{flat_map-append}
 use Rattle.fits_stream.specs.Stream.{SinkState, Prints, PrintsFront}
 use Rattle.fits_stream.proofs.StreamLemmas.{Prints-none, Prints-more, PrintsFront-longer, PrintsFront-more}

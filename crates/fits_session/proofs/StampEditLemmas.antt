@@ -1,11 +1,11 @@
 -- Stamps: what they owe.
-use Rattle.std.proofs.Common.{◌≡◌, inl, inr, ℕ, ◌+◌, ◌-◌, ◌≤◌, Bool, length, refl, ap, sym, ◌∙◌, subst, arith, Option, None, Some}
+use Rattle.std.proofs.Common.{◌≡◌, inl, ℕ, ◌+◌, ◌-◌, ◌≤◌, Bool, length, refl, ap, sym, ◌∙◌, subst, None, Some}
 use Rattle.std.specs.Prelude.{Result, Ok, Err}
 use Rattle.fits_card.specs.Header.{header_length}
 use Rattle.fits_rules.specs.Class.{is_primary}
 use Rattle.fits_hdu.specs.Hdu.{HduParts, hdu_bytes, IsHdu}
 use Rattle.fits_hdu.specs.Stamp.{stamped}
-use Rattle.fits_hdu.specs.State.{HduState, PixelWork}
+use Rattle.fits_hdu.specs.State.{HduState}
 use Rattle.fits_hdu.specs.Work.{stamp_count_reads, stamp_reads}
 use Rattle.fits_hdu.proofs.StampingLemmas.{stamped_is_hdu, stamped_unit}
 use Rattle.fits_session.specs.HduEdit.{hdu_made}

@@ -1,5 +1,5 @@
 -- HDUs under edits, as a session holds them.
-use Rattle.std.proofs.Common.{◌≡◌, inl, inr, ℕ, ◌+◌, ◌-◌, ◌<◌, ◌≤◌, List, [], ◌∷◌, ◌++◌, length, map, get_or, set, refl, ap, sym, ◌∙◌, subst, arith, Option, None, Some, zero, suc, add-one}
+use Rattle.std.proofs.Common.{◌≡◌, inl, inr, ℕ, ◌+◌, ◌-◌, ◌<◌, ◌≤◌, List, [], ◌∷◌, length, map, get_or, set, refl, ap, sym, ◌∙◌, subst, arith, Option, None, Some, zero, suc, add-one}
 use Rattle.std.specs.Prelude.{Ok}
 use Rattle.std.specs.List.{slice_get}
 use Rattle.std.specs.Option.{option_map}

@@ -1,5 +1,5 @@
 -- Steps of a walk over the HDUs of a source.
-use Rattle.std.proofs.Common.{◌≡◌, ◌⊎◌, ℕ, ◌+◌, ◌<◌, ◌≤◌, Bool, true, false, List, [], ◌∷◌, ◌++◌, length, take, refl, subst, ap, sym, ◌∙◌, arith, rules, inl, inr, Option, Some}
+use Rattle.std.proofs.Common.{◌≡◌, ◌⊎◌, ℕ, ◌+◌, ◌<◌, ◌≤◌, Bool, true, false, List, [], ◌∷◌, ◌++◌, length, take, refl, subst, ap, sym, ◌∙◌, arith, rules, inl, inr}
 use Rattle.std.specs.Prelude.{IfSome, nat_eq, not, codes}
 use Rattle.std.specs.Str.{bytes_eq}
 use Rattle.std.specs.List.{starts_with}
@@ -18,8 +18,7 @@ use Rattle.fits_hdu.specs.declared.read_fault.ReadHduFault.{ReadHduFault}
 use Rattle.fits_hdu.specs.declared.read_fault.ReadHduFault.TheVariants as read_hdu
 use Rattle.fits_session.specs.File.{FileParts, begins_extension, goes_on, is_first, is_followed, joined_hdus, IsFile, IsFileOf, IsFrontOf}
 use Rattle.fits_session.specs.declared.limits.TheConstants.{FILE_LIMIT, HDU_LIMIT}
-use Rattle.fits_session.specs.Opening.{BeginsAsFits, HasOpenFault, OpenFails, open_fault_of}
-use Rattle.fits_session.specs.declared.open_fault.OpenFault.{OpenFault}
+use Rattle.fits_session.specs.Opening.{BeginsAsFits, HasOpenFault, open_fault_of}
 use Rattle.fits_session.specs.Reading.{file_fault_of, is_of_bytes, IsKeptOf, IsWalkOf, KeepsEach, NextBegins, ReadStops, RestStops, SupplyStops, Walked, WalkStops}
 use Rattle.fits_session.specs.Session.{file_of, hdus_of, state_of}
 use Rattle.fits_session.specs.declared.open_fault.OpenFault.TheVariants.{NotFits, NoEnd, BadShape, ShortData, TooLarge, Memory}

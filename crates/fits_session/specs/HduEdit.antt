@@ -1,5 +1,5 @@
 -- Edits of one HDU: what each makes of it (own).
-use Rattle.std.specs.Prelude.{ℕ, ℤ, Bool, List, Result, Ok, Err, if◌then◌else◌}
+use Rattle.std.specs.Prelude.{ℕ, Bool, List, Result, Ok, Err, if◌then◌else◌}
 use Rattle.fits_card.specs.Change.{cards_after}
 use Rattle.fits_card.specs.declared.change.Change.{Change}
 use Rattle.fits_plane.specs.declared.lent_paint.LentPaint.{LentPaint}

@@ -1,4 +1,4 @@
-use Rattle.std.proofs.Common.{Bool, true, ◌≡◌, inl, ap, sym, ◌∙◌, arith, length}
+use Rattle.std.proofs.Common.{Bool, inl, ap, sym, ◌∙◌, arith, length}
 use Rattle.fits_card.specs.Change.{cards_after}
 use Rattle.fits_header.specs.State.{HeaderState}
 use Rattle.fits_card.specs.Header.{header_length}

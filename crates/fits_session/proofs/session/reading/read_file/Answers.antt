@@ -1,4 +1,4 @@
-use Rattle.std.proofs.Common.{arith, ◌∙◌}
+use Rattle.std.proofs.Common.{arith}
 use Rattle.std.proofs.lemmas.List.{length-append}
 use Rattle.fits_session.specs.File.{joined_hdus}
 use Rattle.fits_session.specs.Session.{hdus_of}
