@@ -1,6 +1,8 @@
 //! Cards, headers and files, built of texts.
 
-use fits_card::{BLOCK_LEN, CARD_LEN, Card, CardList, Cards, Change, HeaderFault, Name, cut_header};
+use fits_card::{
+    BLOCK_LEN, CARD_LEN, Card, CardList, Cards, Change, HeaderFault, Name, cut_header,
+};
 use std::alloc::{AllocError, Global};
 
 /// An HDU: its cards, END among them, separated by `|`, and how many blocks of data it has.
