@@ -16,7 +16,6 @@ use Rattle.fits_session.specs.declared.paint.Paint.TheVariants.{Fill, Write}
 use Rattle.fits_script.specs.Cut.{HasNo}
 use Rattle.fits_script.specs.Forms.{IsAlone, IsCardForm, IsFieldForm, IsMoveForm, IsNameForm, IsNewForm, IsNumber, IsPaintForm, IsPlaceForm, IsRectangleForm, Names, Says, followed, kind_word, paint_word}
 use Rattle.fits_script.specs.Line.{after_word, alone, axes_last, card_last, card_words, cards_command, command_of, field_words, fill_words, first_word, hdu_said, kind_first, move_words, name_first, name_word, new_words, number_first, place_word, rectangle_first, rectangle_word, said_by, said_of, value_last, values_last, verb_of, verb_said, words_said, write_words}
-use Rattle.fits_script.specs.Line.{delete_said, get_said, insert_said, move_said, new_said, paint_said, positions_said, put_said, rectangle_said, set_said, unset_said}
 use Rattle.fits_script.specs.declared.command.Command.{Command}
 use Rattle.fits_script.specs.declared.command.Command.TheVariants.{Nothing, Edit, Offsets, Get, Positions, Report, Statistics, Rectangle, Sums}
 use Rattle.fits_script.specs.declared.verb.Verb.{Verb}
@@ -206,23 +205,23 @@ pub command_of-says : (line : List ℕ) (command : Command) → Says line comman
 unfolding command_of words_said verb_said verb_of said_by said_of alone first_word after_word
 command_of-says line Nothing (inl e) = rw e refl
 command_of-says line Nothing (inr comment) = rw comment.1 refl
-command_of-says line (Edit (Hdu h (Cards (Insert p card)))) says = named-is verb.Insert _ _ h _ line says refl refl refl (λ rest. refl) ∙ ap (insert_said h) (card_words-is p card says.rest says.form)
-command_of-says line (Edit (Hdu h (Cards (Put p card)))) says = named-is verb.Put _ _ h _ line says refl refl refl (λ rest. refl) ∙ ap (put_said h) (card_words-is p card says.rest says.form)
-command_of-says line (Edit (Hdu h (Cards (Delete p)))) says = named-is verb.Delete _ _ h _ line says refl refl refl (λ rest. refl) ∙ ap (delete_said h) (place_word-is p says.rest says.form)
-command_of-says line (Edit (Hdu h (Cards (Move p q)))) says = named-is verb.Move _ _ h _ line says refl refl refl (λ rest. refl) ∙ ap (move_said h) (move_words-is p q says.rest says.form)
-command_of-says line (Edit (Hdu h (Cards (Set name value comment)))) says = named-is verb.Set _ _ h _ line says refl refl refl (λ rest. refl) ∙ ap (set_said h) (field_words-is name value comment says.rest says.form)
-command_of-says line (Edit (Hdu h (Cards (Unset name)))) says = named-is verb.Unset _ _ h _ line says refl refl refl (λ rest. refl) ∙ ap (unset_said h) (name_word-is name says.rest says.form)
-command_of-says line (Edit (Hdu h (Pixels lo hi (Fill value)))) says = named-is verb.Fill _ _ h _ line says refl refl refl (λ rest. refl) ∙ ap (paint_said h) (fill_words-is lo hi value says.rest says.form)
-command_of-says line (Edit (Hdu h (Pixels lo hi (Write values)))) says = named-is verb.Write _ _ h _ line says refl refl refl (λ rest. refl) ∙ ap (paint_said h) (write_words-is lo hi values says.rest says.form)
+command_of-says line (Edit (Hdu h (Cards (Insert p card)))) says = named-is verb.Insert _ _ h _ line says refl refl refl (λ rest. refl) ∙ ap (option_map (λ w. cards_command h (Insert w.0 w.1))) (card_words-is p card says.rest says.form)
+command_of-says line (Edit (Hdu h (Cards (Put p card)))) says = named-is verb.Put _ _ h _ line says refl refl refl (λ rest. refl) ∙ ap (option_map (λ w. cards_command h (Put w.0 w.1))) (card_words-is p card says.rest says.form)
+command_of-says line (Edit (Hdu h (Cards (Delete p)))) says = named-is verb.Delete _ _ h _ line says refl refl refl (λ rest. refl) ∙ ap (option_map (λ place. cards_command h (Delete place))) (place_word-is p says.rest says.form)
+command_of-says line (Edit (Hdu h (Cards (Move p q)))) says = named-is verb.Move _ _ h _ line says refl refl refl (λ rest. refl) ∙ ap (option_map (λ w. cards_command h (Move w.0 w.1))) (move_words-is p q says.rest says.form)
+command_of-says line (Edit (Hdu h (Cards (Set name value comment)))) says = named-is verb.Set _ _ h _ line says refl refl refl (λ rest. refl) ∙ ap (option_map (λ w. cards_command h (Set w.0 w.1 w.2))) (field_words-is name value comment says.rest says.form)
+command_of-says line (Edit (Hdu h (Cards (Unset name)))) says = named-is verb.Unset _ _ h _ line says refl refl refl (λ rest. refl) ∙ ap (option_map (λ name. cards_command h (Unset name))) (name_word-is name says.rest says.form)
+command_of-says line (Edit (Hdu h (Pixels lo hi (Fill value)))) says = named-is verb.Fill _ _ h _ line says refl refl refl (λ rest. refl) ∙ ap (option_map (λ w. Edit (Hdu h (Pixels w.0 w.1 w.2)))) (fill_words-is lo hi value says.rest says.form)
+command_of-says line (Edit (Hdu h (Pixels lo hi (Write values)))) says = named-is verb.Write _ _ h _ line says refl refl refl (λ rest. refl) ∙ ap (option_map (λ w. Edit (Hdu h (Pixels w.0 w.1 w.2)))) (write_words-is lo hi values says.rest says.form)
 command_of-says line (Edit (Hdu h Stamp)) says = named-is verb.Stamp _ _ h _ line says refl refl refl (λ rest. refl) ∙ alone-says says.rest (Edit (Hdu h Stamp)) says.form
-command_of-says line (Edit (NewImage h kind axes)) says = named-is verb.New _ _ h _ line says refl refl refl (λ rest. refl) ∙ ap (new_said h) (new_words-is kind axes says.rest says.form)
+command_of-says line (Edit (NewImage h kind axes)) says = named-is verb.New _ _ h _ line says refl refl refl (λ rest. refl) ∙ ap (option_map (λ w. Edit (NewImage h w.0 w.1))) (new_words-is kind axes says.rest says.form)
 command_of-says line (Edit (RemoveHdu h)) says = named-is verb.Remove _ _ h _ line says refl refl refl (λ rest. refl) ∙ alone-says says.rest (Edit (RemoveHdu h)) says.form
-command_of-says line (Get h name) says = named-is verb.Get _ _ h _ line says refl refl refl (λ rest. refl) ∙ ap (get_said h) (name_word-is name says.rest says.form)
-command_of-says line (Positions h name) says = named-is verb.Positions _ _ h _ line says refl refl refl (λ rest. refl) ∙ ap (positions_said h) (name_word-is name says.rest says.form)
+command_of-says line (Get h name) says = named-is verb.Get _ _ h _ line says refl refl refl (λ rest. refl) ∙ ap (option_map (λ name. Get h name)) (name_word-is name says.rest says.form)
+command_of-says line (Positions h name) says = named-is verb.Positions _ _ h _ line says refl refl refl (λ rest. refl) ∙ ap (option_map (λ name. Positions h name)) (name_word-is name says.rest says.form)
 command_of-says line Offsets says = rw says refl
 command_of-says line Report says = rw says refl
 command_of-says line (Statistics h) says = named-is verb.Statistics _ _ h _ line says refl refl refl (λ rest. refl) ∙ alone-says says.rest (Statistics h) says.form
-command_of-says line (Rectangle h lo hi) says = named-is verb.Rectangle _ _ h _ line says refl refl refl (λ rest. refl) ∙ ap (rectangle_said h) (rectangle_word-is lo hi says.rest says.form)
+command_of-says line (Rectangle h lo hi) says = named-is verb.Rectangle _ _ h _ line says refl refl refl (λ rest. refl) ∙ ap (option_map (λ w. Rectangle h w.0 w.1)) (rectangle_word-is lo hi says.rest says.form)
 command_of-says line (Sums h) says = named-is verb.Sums _ _ h _ line says refl refl refl (λ rest. refl) ∙ alone-says says.rest (Sums h) says.form
 
 -- what words come to

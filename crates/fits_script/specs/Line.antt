@@ -246,50 +246,6 @@ new_words rest = do
 abbrev pub cards_command : ℕ → CardEdit → Command
 cards_command h edit = Edit (Hdu h (Cards edit))
 
--- `ins H P CARD`, here and below by H and the words that follow it
-abbrev pub insert_said : ℕ → Option (ℕ × List ℕ) → Option Command
-insert_said h words = option_map (λ said. cards_command h (Insert said.0 said.1)) words
-
--- `put H P CARD`
-abbrev pub put_said : ℕ → Option (ℕ × List ℕ) → Option Command
-put_said h words = option_map (λ said. cards_command h (Put said.0 said.1)) words
-
--- `del H P`
-abbrev pub delete_said : ℕ → Option ℕ → Option Command
-delete_said h word = option_map (λ place. cards_command h (Delete place)) word
-
--- `mov H P Q`
-abbrev pub move_said : ℕ → Option (ℕ × ℕ) → Option Command
-move_said h words = option_map (λ said. cards_command h (Move said.0 said.1)) words
-
--- `set H NAME FIELD`
-abbrev pub set_said : ℕ → Option (List ℕ × Value × Option (List ℕ)) → Option Command
-set_said h words = option_map (λ said. cards_command h (Set said.0 said.1 said.2)) words
-
--- `unset H NAME`
-abbrev pub unset_said : ℕ → Option (List ℕ) → Option Command
-unset_said h word = option_map (λ name. cards_command h (Unset name)) word
-
--- `fill H RECT V` or `write H RECT V V ..`
-abbrev pub paint_said : ℕ → Option (List ℕ × List ℕ × Paint) → Option Command
-paint_said h words = option_map (λ said. Edit (Hdu h (Pixels said.0 said.1 said.2))) words
-
--- `new H KIND AXES`
-abbrev pub new_said : ℕ → Option (Kind × List ℕ) → Option Command
-new_said h words = option_map (λ said. Edit (NewImage h said.0 said.1)) words
-
--- `get H NAME`
-abbrev pub get_said : ℕ → Option (List ℕ) → Option Command
-get_said h word = option_map (λ name. Get h name) word
-
--- `pos H NAME`
-abbrev pub positions_said : ℕ → Option (List ℕ) → Option Command
-positions_said h word = option_map (λ name. Positions h name) word
-
--- `rect H RECT`
-abbrev pub rectangle_said : ℕ → Option (List ℕ × List ℕ) → Option Command
-rectangle_said h word = option_map (λ said. Rectangle h said.0 said.1) word
-
 -- the verb that a word is
 unfoldable pub verb_of : List ℕ → Option Verb
 verb_of word =
@@ -315,21 +271,21 @@ verb_of word =
 
 -- what a verb says of HDU h, by what follows h; the two that name no HDU say nothing of one
 unfoldable pub said_of : Verb → ℕ → Option (List ℕ) → Option Command
-said_of verb.Insert h rest = insert_said h (card_words rest)
-said_of verb.Put h rest = put_said h (card_words rest)
-said_of verb.Delete h rest = delete_said h (place_word rest)
-said_of verb.Move h rest = move_said h (move_words rest)
-said_of verb.Set h rest = set_said h (field_words rest)
-said_of verb.Unset h rest = unset_said h (name_word rest)
-said_of verb.Fill h rest = paint_said h (fill_words rest)
-said_of verb.Write h rest = paint_said h (write_words rest)
-said_of verb.New h rest = new_said h (new_words rest)
+said_of verb.Insert h rest = option_map (λ w. cards_command h (Insert w.0 w.1)) (card_words rest)
+said_of verb.Put h rest = option_map (λ w. cards_command h (Put w.0 w.1)) (card_words rest)
+said_of verb.Delete h rest = option_map (λ place. cards_command h (Delete place)) (place_word rest)
+said_of verb.Move h rest = option_map (λ w. cards_command h (Move w.0 w.1)) (move_words rest)
+said_of verb.Set h rest = option_map (λ w. cards_command h (Set w.0 w.1 w.2)) (field_words rest)
+said_of verb.Unset h rest = option_map (λ name. cards_command h (Unset name)) (name_word rest)
+said_of verb.Fill h rest = option_map (λ w. Edit (Hdu h (Pixels w.0 w.1 w.2))) (fill_words rest)
+said_of verb.Write h rest = option_map (λ w. Edit (Hdu h (Pixels w.0 w.1 w.2))) (write_words rest)
+said_of verb.New h rest = option_map (λ w. Edit (NewImage h w.0 w.1)) (new_words rest)
 said_of verb.Remove h rest = alone rest (Edit (RemoveHdu h))
 said_of verb.Stamp h rest = alone rest (Edit (Hdu h Stamp))
-said_of verb.Get h rest = get_said h (name_word rest)
-said_of verb.Positions h rest = positions_said h (name_word rest)
+said_of verb.Get h rest = option_map (λ name. Get h name) (name_word rest)
+said_of verb.Positions h rest = option_map (λ name. Positions h name) (name_word rest)
 said_of verb.Statistics h rest = alone rest (Statistics h)
-said_of verb.Rectangle h rest = rectangle_said h (rectangle_word rest)
+said_of verb.Rectangle h rest = option_map (λ w. Rectangle h w.0 w.1) (rectangle_word rest)
 said_of verb.Sums h rest = alone rest (Sums h)
 said_of verb.Offsets h rest = None
 said_of verb.Report h rest = None

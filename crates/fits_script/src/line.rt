@@ -4,8 +4,6 @@ ghost use Rattle.std.specs.Option.{option_copied};
 ghost use Rattle.std.specs.Result.{result_ok};
 ghost use Rattle.fits_script.specs.Line.{cards_command, command_of, reading_of, said_by, said_of};
 ghost use Rattle.fits_script.specs.Line.{said_or_none, words_said, ReadingNeedsMemory};
-ghost use Rattle.fits_script.specs.Line.{delete_said, get_said, insert_said, move_said, new_said, paint_said};
-ghost use Rattle.fits_script.specs.Line.{positions_said, put_said, rectangle_said, set_said, unset_said};
 ghost use Rattle.fits_script.specs.declared.command.Command.{Command};
 
 use crate::command::Command;
@@ -19,11 +17,7 @@ use crate::words::{
     alone, card_words, cut_word, field_words, fill_words, move_words, name_word, number_first,
     place_word, rectangle_word, write_words,
 };
-use fits_card::{Card, Name};
-use fits_hdu::Kind;
-use fits_rules::Axes;
-use fits_session::{CardEdit, Corner, Edit, HduEdit, Paint};
-use fits_value::{Text, Value};
+use fits_session::{CardEdit, Edit, HduEdit};
 use std::alloc::{AllocError, Global};
 
 /// The command that a line says, without its line feed.
@@ -118,21 +112,54 @@ fn said_of(
         (ReadingNeedsMemory (said_or_none (said_of verb hdu (option_copied rest.entry)))) }
 {
     Ok(match verb {
-        Verb::Insert => insert_said(hdu, card_words(rest)),
-        Verb::Put => put_said(hdu, card_words(rest)),
-        Verb::Delete => delete_said(hdu, place_word(rest)),
-        Verb::Move => move_said(hdu, move_words(rest)),
-        Verb::Set => set_said(hdu, field_words(alloc, rest)?),
-        Verb::Unset => unset_said(hdu, name_word(rest)),
-        Verb::Fill => paint_said(hdu, fill_words(alloc, rest)?),
-        Verb::Write => paint_said(hdu, write_words(alloc, rest)?),
-        Verb::New => new_said(hdu, new_words(alloc, rest)?),
+        Verb::Insert => card_words(rest).map(|(place, card)| cards_command(
+            hdu,
+            CardEdit::Insert { place, card },
+        )),
+        Verb::Put => card_words(rest).map(|(place, card)| cards_command(
+            hdu,
+            CardEdit::Put { place, card },
+        )),
+        Verb::Delete => place_word(rest).map(|place| cards_command(
+            hdu,
+            CardEdit::Delete { place },
+        )),
+        Verb::Move => move_words(rest).map(|(from, to)| cards_command(
+            hdu,
+            CardEdit::Move { from, to },
+        )),
+        Verb::Set => field_words(alloc, rest)?.map(|(name, value, comment)| cards_command(
+            hdu,
+            CardEdit::Set {
+                name,
+                value,
+                comment,
+            },
+        )),
+        Verb::Unset => name_word(rest).map(|name| cards_command(hdu, CardEdit::Unset { name })),
+        Verb::Fill => fill_words(alloc, rest)?.map(|(lo, hi, paint)| hdu_command(
+            hdu,
+            HduEdit::Pixels { lo, hi, paint },
+        )),
+        Verb::Write => write_words(alloc, rest)?.map(|(lo, hi, paint)| hdu_command(
+            hdu,
+            HduEdit::Pixels { lo, hi, paint },
+        )),
+        Verb::New => new_words(alloc, rest)?.map(|(kind, axes)| Command::Edit(Edit::NewImage {
+            at: hdu,
+            kind,
+            axes,
+        })),
         Verb::Remove => alone(rest, Command::Edit(Edit::RemoveHdu { hdu })),
         Verb::Stamp => alone(rest, hdu_command(hdu, HduEdit::Stamp)),
-        Verb::Get => get_said(hdu, name_word(rest)),
-        Verb::Positions => positions_said(hdu, name_word(rest)),
+        Verb::Get => name_word(rest).map(|name| Command::Get { hdu, name }),
+        Verb::Positions => name_word(rest).map(|name| Command::Positions { hdu, name }),
         Verb::Statistics => alone(rest, Command::Statistics { hdu }),
-        Verb::Rectangle => rectangle_said(hdu, rectangle_word(alloc, rest)?),
+        Verb::Rectangle => rectangle_word(alloc, rest)?.map(|(lo, hi)| Command::Rectangle {
+            hdu,
+            lo,
+            hi,
+        }),
         Verb::Sums => alone(rest, Command::Sums { hdu }),
         Verb::Offsets | Verb::Report => None,
     })
@@ -150,101 +177,4 @@ fn cards_command(hdu: usize, edit: CardEdit) -> Command
     ensures { result ≡ cards_command hdu edit }
 {
     hdu_command(hdu, HduEdit::Cards(edit))
-}
-
-// `ins H P CARD`, here and below by H and the words that follow it.
-fn insert_said(hdu: usize, words: Option<(usize, Card)>) -> Option<Command>
-    ensures { result ≡ insert_said hdu words }
-{
-    let (place, card) = words?;
-    Some(cards_command(hdu, CardEdit::Insert { place, card }))
-}
-
-// `put H P CARD`
-fn put_said(hdu: usize, words: Option<(usize, Card)>) -> Option<Command>
-    ensures { result ≡ put_said hdu words }
-{
-    let (place, card) = words?;
-    Some(cards_command(hdu, CardEdit::Put { place, card }))
-}
-
-// `del H P`
-fn delete_said(hdu: usize, word: Option<usize>) -> Option<Command>
-    ensures { result ≡ delete_said hdu word }
-{
-    let place = word?;
-    Some(cards_command(hdu, CardEdit::Delete { place }))
-}
-
-// `mov H P Q`
-fn move_said(hdu: usize, words: Option<(usize, usize)>) -> Option<Command>
-    ensures { result ≡ move_said hdu words }
-{
-    let (from, to) = words?;
-    Some(cards_command(hdu, CardEdit::Move { from, to }))
-}
-
-// `set H NAME FIELD`
-fn set_said(hdu: usize, words: Option<(Name, Value, Option<Text>)>) -> Option<Command>
-    ensures { result ≡ set_said hdu words }
-{
-    let (name, value, comment) = words?;
-    let edit = CardEdit::Set {
-        name,
-        value,
-        comment,
-    };
-    Some(cards_command(hdu, edit))
-}
-
-// `unset H NAME`
-fn unset_said(hdu: usize, word: Option<Name>) -> Option<Command>
-    ensures { result ≡ unset_said hdu word }
-{
-    let name = word?;
-    Some(cards_command(hdu, CardEdit::Unset { name }))
-}
-
-// `fill H RECT V` or `write H RECT V V ..`
-fn paint_said(hdu: usize, words: Option<(Corner, Corner, Paint)>) -> Option<Command>
-    ensures { result ≡ paint_said hdu words }
-{
-    let (lo, hi, paint) = words?;
-    Some(hdu_command(hdu, HduEdit::Pixels { lo, hi, paint }))
-}
-
-// `new H KIND AXES`
-fn new_said(hdu: usize, words: Option<(Kind, Axes)>) -> Option<Command>
-    ensures { result ≡ new_said hdu words }
-{
-    let (kind, axes) = words?;
-    Some(Command::Edit(Edit::NewImage {
-        at: hdu,
-        kind,
-        axes,
-    }))
-}
-
-// `get H NAME`
-fn get_said(hdu: usize, word: Option<Name>) -> Option<Command>
-    ensures { result ≡ get_said hdu word }
-{
-    let name = word?;
-    Some(Command::Get { hdu, name })
-}
-
-// `pos H NAME`
-fn positions_said(hdu: usize, word: Option<Name>) -> Option<Command>
-    ensures { result ≡ positions_said hdu word }
-{
-    let name = word?;
-    Some(Command::Positions { hdu, name })
-}
-
-// `rect H RECT`
-fn rectangle_said(hdu: usize, word: Option<(Corner, Corner)>) -> Option<Command>
-    ensures { result ≡ rectangle_said hdu word }
-{
-    let (lo, hi) = word?;
-    Some(Command::Rectangle { hdu, lo, hi })
 }
