@@ -16,6 +16,7 @@ pub mod StampLemmas
 pub mod StampTextLemmas
 pub mod StampingLemmas
 pub mod StandardFacts
+pub mod StateLemmas
 pub mod UnitLemmas
 pub mod VerdictLemmas
 pub mod SumFacts

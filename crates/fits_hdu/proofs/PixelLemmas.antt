@@ -27,8 +27,7 @@ use Rattle.fits_hdu.specs.Hdu.{HduParts, IsHdu}
 use Rattle.fits_hdu.specs.Kind.{kind_in, kind_of, convention, has_offset, offset_of, width_of}
 use Rattle.fits_hdu.specs.Layout.{layout_by, layout_of}
 use Rattle.fits_hdu.specs.Pixels.{painted, painted_by, rect_by, rect_of, stats_of, with_numbers}
-use Rattle.fits_hdu.specs.State.{PixelWork}
-use Rattle.fits_hdu.specs.Work.{IsPatched}
+use Rattle.fits_hdu.specs.Work.{IsPatched, PixelWork}
 use Rattle.fits_hdu.specs.declared.kind.Kind.{Kind}
 use Rattle.fits_hdu.specs.declared.kind.Kind.TheVariants.{U8, I8, I16, U16, I32, U32, I64, U64}
 use Rattle.fits_hdu.specs.declared.pixel_fault.PixelFault.{PixelFault}

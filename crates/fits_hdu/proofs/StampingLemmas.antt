@@ -9,7 +9,7 @@ use Rattle.std.proofs.lemmas.List.Elements.{All-cons, All-nil}
 use Rattle.std.proofs.lemmas.Slice.Eq.{bytes_eq-Decides}
 use Rattle.fits_card.specs.Card.{IsEnd, IsText, is_end, is_text, keyword_name}
 use Rattle.fits_card.specs.Change.{IsInRange, cards_after, new_cards}
-use Rattle.fits_card.specs.Header.{IsInnerCard, header_bytes}
+use Rattle.fits_card.specs.Header.{Header, IsInnerCard, header_bytes}
 use Rattle.fits_card.specs.Name.{end_name, is_valueless}
 use Rattle.fits_card.specs.declared.change.Change.{Change}
 use Rattle.fits_card.proofs.ChangeLemmas.{length-spliced}
@@ -32,9 +32,9 @@ use Rattle.fits_hdu.specs.Hdu.{HduParts, IsHdu, hdu_after, hdu_bytes, keeps_shap
 use Rattle.fits_hdu.specs.Keyword.{keyword_cards, own_count, replacing}
 use Rattle.fits_hdu.specs.Layout.{blank_number, layout_by, layout_of}
 use Rattle.fits_hdu.specs.Stamp.{IsOneCard, IsSumName, stamped, with_datasum, with_keyword, with_string}
-use Rattle.fits_hdu.specs.State.{HduState, PixelWork, ReadsUpTo}
+use Rattle.fits_hdu.specs.State.{HduState, ReadsUpTo}
 use Rattle.fits_hdu.specs.Sums.{data_sum, hdu_sum}
-use Rattle.fits_hdu.specs.Work.{FollowsBlank, apply_reads, keyword_reads, stamp_count_reads, stamp_reads}
+use Rattle.fits_hdu.specs.Work.{FollowsBlank, PixelWork, apply_reads, keyword_reads, stamp_count_reads, stamp_reads}
 use Rattle.fits_hdu.specs.declared.keyword_cards.KeywordCards.{KeywordCards}
 use Rattle.fits_hdu.proofs.KeywordLemmas.{keyword_within}
 use Rattle.fits_hdu.proofs.SettingLemmas.{IsKept, IsSet, chain_alone, chain_from, count_by_chain, from_lead, lead_card_is, reads_by_chain, set_is, set_keeps, set_leads}
@@ -382,17 +382,19 @@ pub stamp_counted : (hdu : HduParts) (x y n : ℕ) → x ≡ own_count hdu.heade
 stamp_counted hdu x y n p q r = let count = stamp_count hdu in (omega (arith, count, p, q, r), omega (arith, count, p, q, r), omega (arith, count, p, q, r))
 
 -- both keywords are looked for
-pub count_reads : (a b c : HduState) → ReadsUpTo a b (keyword_reads a.hdu.header.cards (codes "CHECKSUM")) → ReadsUpTo b c (keyword_reads b.hdu.header.cards (codes "DATASUM ")) → ReadsUpTo a c (stamp_count_reads a.hdu.header.cards)
+pub count_reads : (a b c : HduState) → ReadsUpTo a b (keyword_reads a.header.header.cards (codes "CHECKSUM")) → ReadsUpTo b c (keyword_reads b.header.header.cards (codes "DATASUM ")) → ReadsUpTo a c (stamp_count_reads a.header.header.cards)
 unfolding stamp_count_reads
 count_reads a b c p q =
-    let same : keyword_reads b.hdu.header.cards (codes "DATASUM ") ≡ keyword_reads a.hdu.header.cards (codes "DATASUM ") = ap (λ (hdu : HduParts). keyword_reads hdu.header.cards (codes "DATASUM ")) p.hdu in
+    let same : keyword_reads b.header.header.cards (codes "DATASUM ") ≡ keyword_reads a.header.header.cards (codes "DATASUM ") = ap (λ (header : Header). keyword_reads header.cards (codes "DATASUM ")) p.header.header in
     record {
-      hdu = q.hdu ∙ p.hdu;
-      shape = q.shape ∙ p.shape;
-      room = q.room ∙ p.room;
-      pixel_work = q.pixel_work ∙ p.pixel_work;
-      least = omega (arith, p.least, q.least);
-      most = omega (arith, p.most, q.most, same);
+      header = record {
+        header = q.header.header ∙ p.header.header;
+        shape = q.header.shape ∙ p.header.shape;
+        room = q.header.room ∙ p.header.room;
+        least = omega (arith, p.header.least, q.header.least);
+        most = omega (arith, p.header.most, q.header.most, same);
+      };
+      plane = q.plane ∙ p.plane;
     }
 
 -- two more at most

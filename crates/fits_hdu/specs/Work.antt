@@ -5,7 +5,6 @@ use Rattle.fits_value.specs.Says.{chain_length}
 use Rattle.fits_rules.specs.Lead.{lead_place}
 use Rattle.fits_header.specs.Work.{judge_reads}
 use Rattle.fits_plane.specs.Plane.{PlaneState}
-use Rattle.fits_hdu.specs.State.{PixelWork}
 
 -- what is read after a change of the cards: the leads of BZERO, BSCALE, BLANK, DATASUM, CHECKSUM, EXTNAME and EXTVER, and place 1
 abbrev pub lead_reads : ℕ
@@ -30,6 +29,12 @@ stamp_count_reads cards = keyword_reads cards (codes "CHECKSUM") + keyword_reads
 -- a stamp reads so many: both keywords, and then what three changes read
 unfoldable pub stamp_reads : List (List ℕ) → ℕ
 stamp_reads cards = stamp_count_reads cards + 3 * apply_reads + 2
+
+-- how many blocks of a data unit were scanned, pixels read and nodes of its tree joined so far
+pub record PixelWork : Type 0 where
+  pub scans : ℕ
+  pub reads : ℕ
+  pub joins : ℕ
 
 -- the work on a data unit so far
 abbrev pub plane_work : PlaneState → PixelWork

@@ -56,13 +56,7 @@ impl Model for Hdu {
 
     ghost Value = { HduState };
 
-    ghost view = { λ it. record {
-      hdu = record { header = it.header.header; data_unit = it.plane.bytes };
-      shape = it.header.shape;
-      reads = it.header.reads;
-      room = it.header.room;
-      pixel_work = record { scans = it.plane.scans; reads = it.plane.reads; joins = it.plane.joins };
-    } };
+    ghost view = { λ it. record { header = it.header; plane = it.plane } };
 
     ghost invariant = { λ it. record {
       described : shape_of (is_primary it.header.shape.class) it.header.header.cards
@@ -92,7 +86,7 @@ impl Hdu {
     ghost use Rattle.fits_hdu.specs.Kind.{kind_in};
     ghost use Rattle.fits_hdu.specs.Layout.{layout_of};
     ghost use Rattle.fits_hdu.specs.Reading.{HduStops};
-    ghost use Rattle.fits_hdu.specs.State.{header_of, plane_of, ReadsUpTo};
+    ghost use Rattle.fits_hdu.specs.State.{parts_of, ReadsUpTo};
     ghost use Rattle.fits_hdu.specs.Work.{apply_reads, keyword_reads, open_reads, plane_work, FollowsBlank, IsScanned};
     ghost use Rattle.fits_hdu.specs.Hdu.{IsHdu, IsHduOf, HduFails, hdu_bytes, hdu_after, keeps_shape};
 
@@ -102,16 +96,16 @@ impl Hdu {
     /// The faults are looked for in the order of `HduFault`. The cards that it reads are counted.
     pub fn open(alloc: Global, bytes: &[u8], primary: bool) -> Result<(Hdu, usize), HduFault>
         requires { length bytes.now ≤ 2 ^ 34 }
-        ensures found { IfOk result (λ cut. IsHduOf primary bytes.now cut.0.hdu
+        ensures found { IfOk result (λ cut. IsHduOf primary bytes.now (parts_of cut.0)
             (drop cut.1 bytes.now)) }
-        ensures described { IfOk result (λ cut. shape_of primary cut.0.hdu.header.cards
-            ≡ Ok cut.0.shape) }
-        ensures class { IfOk result (λ cut. is_primary cut.0.shape.class ≡ primary) }
-        ensures len { IfOk result (λ cut. cut.1 ≡ length (hdu_bytes cut.0.hdu)) }
+        ensures described { IfOk result (λ cut. shape_of primary cut.0.header.header.cards
+            ≡ Ok cut.0.header.shape) }
+        ensures class { IfOk result (λ cut. is_primary cut.0.header.shape.class ≡ primary) }
+        ensures len { IfOk result (λ cut. cut.1 ≡ length (hdu_bytes (parts_of cut.0))) }
         ensures within { IfOk result (λ cut. cut.1 ≤ length bytes.now) }
-        ensures work { IfOk result (λ cut. cut.0.reads ≤ open_reads cut.0.hdu.header.cards) }
-        ensures scans { IfOk result (λ cut. IsScanned (block_count cut.0.hdu.data_unit)
-            cut.0.pixel_work) }
+        ensures work { IfOk result (λ cut. cut.0.header.reads ≤ open_reads cut.0.header.header.cards) }
+        ensures scans { IfOk result (λ cut. IsScanned (block_count cut.0.plane.bytes)
+            (plane_work cut.0.plane)) }
 
         // Whether there is a header is found before any memory is asked for.
         ensures fault { IfErr result (HduFails primary bytes.now) }
@@ -140,12 +134,12 @@ impl Hdu {
         requires described { shape_of (is_primary shape.class) cards.header.cards ≡ Ok shape }
         requires size { length data_unit.items ≡ data_length shape }
         requires small { length data_unit.items ≤ 2 ^ 34 }
-        ensures header { IfOk result (λ it. it.hdu.header ≡ cards.header) }
-        ensures unit { IfOk result (λ it. it.hdu.data_unit ≡ data_unit.items) }
-        ensures shape { IfOk result (λ it. it.shape ≡ shape) }
-        ensures work { IfOk result (λ it. it.reads
+        ensures header { IfOk result (λ it. it.header.header ≡ cards.header) }
+        ensures unit { IfOk result (λ it. it.plane.bytes ≡ data_unit.items) }
+        ensures shape { IfOk result (λ it. it.header.shape ≡ shape) }
+        ensures work { IfOk result (λ it. it.header.reads
             ≤ cards.reads + length cards.header.cards + apply_reads) }
-        ensures scans { IfOk result (λ it. IsScanned (block_count data_unit.items) it.pixel_work) }
+        ensures scans { IfOk result (λ it. IsScanned (block_count data_unit.items) (plane_work it.plane)) }
     {
         let mut header = Header::open(alloc, cards, shape)?;
         let Ok(plane) = plane_of(alloc, &mut header, data_unit) else {
@@ -161,11 +155,11 @@ impl Hdu {
             ≡ Ok header.shape }
         requires size { length plane.bytes ≡ data_length header.shape }
         requires layout { plane.layout ≡ layout_of header.shape header.header.cards }
-        ensures header { result.hdu.header ≡ header.header }
-        ensures unit { result.hdu.data_unit ≡ plane.bytes }
-        ensures shape { result.shape ≡ header.shape }
-        ensures work { result.reads + 1 ≤ header.reads + apply_reads }
-        ensures scans { result.pixel_work ≡ plane_work plane }
+        ensures header { result.header.header ≡ header.header }
+        ensures unit { result.plane.bytes ≡ plane.bytes }
+        ensures shape { result.header.shape ≡ header.shape }
+        ensures work { result.header.reads + 1 ≤ header.reads + apply_reads }
+        ensures scans { plane_work result.plane ≡ plane_work plane }
     {
         let codes = header.judge();
         let kind = image_kind(&mut header);
@@ -196,13 +190,13 @@ impl Hdu {
         requires { length intake.old.ahead + intake.old.left ≤ 2 ^ 34 }
         ensures taken { IfOk result (λ hdu. Takes
             (supply (R.state source.old) intake.old) (supply (R.state source.new) intake.new)
-            (hdu_bytes hdu.hdu)) }
-        ensures whole { IfOk result (λ hdu. IsHdu primary hdu.hdu) }
-        ensures described { IfOk result (λ hdu. shape_of primary hdu.hdu.header.cards
-            ≡ Ok hdu.shape) }
-        ensures work { IfOk result (λ hdu. hdu.reads ≤ open_reads hdu.hdu.header.cards) }
-        ensures scans { IfOk result (λ hdu. IsScanned (block_count hdu.hdu.data_unit)
-            hdu.pixel_work) }
+            (hdu_bytes (parts_of hdu))) }
+        ensures whole { IfOk result (λ hdu. IsHdu primary (parts_of hdu)) }
+        ensures described { IfOk result (λ hdu. shape_of primary hdu.header.header.cards
+            ≡ Ok hdu.header.shape) }
+        ensures work { IfOk result (λ hdu. hdu.header.reads ≤ open_reads hdu.header.header.cards) }
+        ensures scans { IfOk result (λ hdu. IsScanned (block_count hdu.plane.bytes)
+            (plane_work hdu.plane)) }
         ensures err { IfErr result (HduStops primary
             (supply (R.state source.old) intake.old) (supply (R.state source.new) intake.new)) }
     {
@@ -226,19 +220,19 @@ impl Hdu {
 
     /// The shape that its cards describe.
     pub fn shape(&self) -> &Shape
-        ensures value { result.now ≡ self.now.shape }
-        ensures described { shape_of (is_primary self.now.shape.class) self.now.hdu.header.cards
-            ≡ Ok self.now.shape }
+        ensures value { result.now ≡ self.now.header.shape }
+        ensures described { shape_of (is_primary self.now.header.shape.class) self.now.header.header.cards
+            ≡ Ok self.now.header.shape }
     {
         self.header.shape()
     }
 
     /// How many cards its header has, END not counted.
     pub fn card_count(&self) -> usize
-        ensures value { result ≡ length self.now.hdu.header.cards }
-        ensures whole { IsHdu (is_primary self.now.shape.class) self.now.hdu }
-        ensures described { shape_of (is_primary self.now.shape.class) self.now.hdu.header.cards
-            ≡ Ok self.now.shape }
+        ensures value { result ≡ length self.now.header.header.cards }
+        ensures whole { IsHdu (is_primary self.now.header.shape.class) (parts_of self.now) }
+        ensures described { shape_of (is_primary self.now.header.shape.class) self.now.header.header.cards
+            ≡ Ok self.now.header.shape }
         ensures few { result < 2 ^ 63 }
     {
         self.header.len()
@@ -246,28 +240,30 @@ impl Hdu {
 
     /// Its header.
     pub fn header(&self) -> &Header
-        ensures { result.now ≡ header_of self.now }
+        ensures { result.now ≡ self.now.header }
     {
         &self.header
     }
 
     /// Its data unit, read as its cards say.
     pub fn plane(&self) -> &Plane
-        ensures { result.now ≡ plane_of self.now }
+        ensures value { result.now ≡ self.now.plane }
+        ensures layout { result.now.layout
+            ≡ layout_of self.now.header.shape self.now.header.header.cards }
     {
         &self.plane
     }
 
     /// Makes room for this many more cards. It fails only where room was missing.
     pub fn reserve(&mut self, additional: usize) -> Result<(), AllocError>
-        ensures ok { OnOk result (additional ≤ self.new.room) }
-        ensures err { OnErr result (self.new.room ≡ self.old.room) }
-        ensures succeeds { additional ≤ self.old.room → IsOk result }
-        ensures hdu { self.new.hdu ≡ self.old.hdu }
-        ensures shape { self.new.shape ≡ self.old.shape }
-        ensures room { self.old.room ≤ self.new.room }
-        ensures work { self.new.reads ≡ self.old.reads }
-        ensures pixel_work { self.new.pixel_work ≡ self.old.pixel_work }
+        ensures ok { OnOk result (additional ≤ self.new.header.room) }
+        ensures err { OnErr result (self.new.header.room ≡ self.old.header.room) }
+        ensures succeeds { additional ≤ self.old.header.room → IsOk result }
+        ensures hdu { parts_of self.new ≡ parts_of self.old }
+        ensures shape { self.new.header.shape ≡ self.old.header.shape }
+        ensures room { self.old.header.room ≤ self.new.header.room }
+        ensures work { self.new.header.reads ≡ self.old.header.reads }
+        ensures rest { self.new ≡ record self.old { header = self.new.header } }
     {
         self.header.reserve(additional)
     }
@@ -275,9 +271,9 @@ impl Hdu {
     /// The kind of its pixels, where it is an image of integers (FITS Standard 4.0, sections
     /// 4.4.2.5 and 5.2.5). It takes no memory, and reads no card.
     pub fn kind(&self) -> Option<Kind>
-        ensures value { result ≡ kind_in self.now.shape self.now.hdu.header.cards }
-        ensures described { shape_of (is_primary self.now.shape.class) self.now.hdu.header.cards
-            ≡ Ok self.now.shape }
+        ensures value { result ≡ kind_in self.now.header.shape self.now.header.header.cards }
+        ensures described { shape_of (is_primary self.now.header.shape.class) self.now.header.header.cards
+            ≡ Ok self.now.header.shape }
     {
         self.kind
     }
@@ -290,11 +286,11 @@ impl Hdu {
         alloc: Global,
         name: &Name,
     ) -> Result<(Value, Option<Text>), KeywordFault>
-        ensures ok { IfOk result (λ said. keyword_value self.old.hdu.header.cards name.now
+        ensures ok { IfOk result (λ said. keyword_value self.old.header.header.cards name.now
             ≡ Ok said) }
-        ensures err { IfErr result (KeywordFails self.old.hdu.header.cards name.now) }
+        ensures err { IfErr result (KeywordFails self.old.header.header.cards name.now) }
         ensures work { ReadsUpTo self.old self.new
-            (keyword_reads self.old.hdu.header.cards name.now) }
+            (keyword_reads self.old.header.header.cards name.now) }
     {
         keyword_value(alloc, &mut self.header, name)
     }
@@ -305,9 +301,9 @@ impl Hdu {
     ///
     /// It takes no memory.
     pub fn keyword_cards(&mut self, name: &Name) -> Option<KeywordCards>
-        ensures value { result ≡ keyword_cards self.old.hdu.header.cards name.now }
+        ensures value { result ≡ keyword_cards self.old.header.header.cards name.now }
         ensures work { ReadsUpTo self.old self.new
-            (keyword_reads self.old.hdu.header.cards name.now) }
+            (keyword_reads self.old.header.header.cards name.now) }
     {
         keyword_cards(&mut self.header, name)
     }
@@ -318,11 +314,11 @@ impl Hdu {
     /// It takes no memory.
     #[tactic(auto, using(crate::proofs::ChangeLemmas::kept_steps))]
     pub fn keeps_shape(&mut self, change: &Change) -> bool
-        requires { IsInRange self.old.hdu.header.cards change.now }
+        requires { IsInRange self.old.header.header.cards change.now }
         ensures value { result ≡ keeps_shape
-            (is_primary self.old.shape.class) self.old.hdu.header.cards
-            (cards_after self.old.hdu.header.cards change.now) }
-        ensures work { ReadsUpTo self.old self.new (shape_reads self.old.shape) }
+            (is_primary self.old.header.shape.class) self.old.header.header.cards
+            (cards_after self.old.header.header.cards change.now) }
+        ensures work { ReadsUpTo self.old self.new (shape_reads self.old.header.shape) }
     {
         self.header.keeps_shape(change)
     }
@@ -334,24 +330,24 @@ impl Hdu {
     /// those that say how pixels are read, what the sums are and what it is called.
     #[tactic(auto, using(crate::proofs::ChangeLemmas::kept_steps))]
     pub fn apply(&mut self, change: &Change)
-        requires in_range { IsInRange self.old.hdu.header.cards change.now }
+        requires in_range { IsInRange self.old.header.header.cards change.now }
         requires not_end { All (λ card. IsEnd card → ⊥) (new_cards change.now) }
-        requires room { length (cards_after self.old.hdu.header.cards change.now)
-            ≤ length self.old.hdu.header.cards + self.old.room }
+        requires room { length (cards_after self.old.header.header.cards change.now)
+            ≤ length self.old.header.header.cards + self.old.header.room }
         requires kept { IsTrue (keeps_shape
-            (is_primary self.old.shape.class) self.old.hdu.header.cards
-            (cards_after self.old.hdu.header.cards change.now)) }
-        ensures hdu { self.new.hdu ≡ hdu_after change.now self.old.hdu }
-        ensures shape { self.new.shape ≡ self.old.shape }
-        ensures room { self.new.room + length self.new.hdu.header.cards
-            ≡ self.old.room + length self.old.hdu.header.cards }
-        ensures work { self.new.reads ≤ self.old.reads + apply_reads }
-        ensures least { self.old.reads ≤ self.new.reads }
+            (is_primary self.old.header.shape.class) self.old.header.header.cards
+            (cards_after self.old.header.header.cards change.now)) }
+        ensures hdu { parts_of self.new ≡ hdu_after change.now (parts_of self.old) }
+        ensures shape { self.new.header.shape ≡ self.old.header.shape }
+        ensures room { self.new.header.room + length self.new.header.header.cards
+            ≡ self.old.header.room + length self.old.header.header.cards }
+        ensures work { self.new.header.reads ≤ self.old.header.reads + apply_reads }
+        ensures least { self.old.header.reads ≤ self.new.header.reads }
 
         // The data unit is scanned again where the number that BLANK says changes.
-        ensures scans { FollowsBlank (layout_of self.old.shape self.old.hdu.header.cards).blank
-            (layout_of self.new.shape self.new.hdu.header.cards).blank
-            (block_count self.old.hdu.data_unit) self.old.pixel_work self.new.pixel_work }
+        ensures scans { FollowsBlank (layout_of self.old.header.shape self.old.header.header.cards).blank
+            (layout_of self.new.header.shape self.new.header.header.cards).blank
+            (block_count self.old.plane.bytes) (plane_work self.old.plane) (plane_work self.new.plane) }
     {
         self.header.apply(change);
         self.codes = self.header.judge();
@@ -366,15 +362,15 @@ impl Hdu {
     /// Where a call fails a prefix was written.
     #[tactic(auto, using(fits_stream::proofs::StreamLemmas::printing_steps))]
     pub fn emit<W: Sink>(&mut self, sink: &mut W) -> io::Result<()>
-        ensures ok { OnOk result (Prints (hdu_bytes self.old.hdu)
+        ensures ok { OnOk result (Prints (hdu_bytes (parts_of self.old))
             (W.state sink.old) (W.state sink.new)) }
-        ensures err { OnErr result (PrintsFront (hdu_bytes self.old.hdu)
+        ensures err { OnErr result (PrintsFront (hdu_bytes (parts_of self.old))
             (W.state sink.old) (W.state sink.new)) }
 
         // The HDU stays, and each card is read once at most.
-        ensures work { ReadsUpTo self.old self.new (length self.old.hdu.header.cards) }
-        ensures all_read { OnOk result (self.new.reads
-            ≡ self.old.reads + length self.old.hdu.header.cards) }
+        ensures work { ReadsUpTo self.old self.new (length self.old.header.header.cards) }
+        ensures all_read { OnOk result (self.new.header.reads
+            ≡ self.old.header.reads + length self.old.header.header.cards) }
     {
         self.header.emit(sink)?;
         self.plane.emit(sink)

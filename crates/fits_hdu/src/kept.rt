@@ -2,6 +2,7 @@ ghost use Rattle.std.specs.Prelude.{◌≡◌, ◌+◌, ◌<◌, ◌≤◌, ◌^
 ghost use Rattle.fits_stream.specs.Intake.{supply};
 ghost use Rattle.fits_hdu.specs.Hdu.{HduParts};
 ghost use Rattle.fits_hdu.specs.Reading.{HduStops, TakesHdu};
+ghost use Rattle.fits_hdu.specs.State.{parts_of};
 
 use crate::findings::Findings;
 use crate::hdu::Hdu;
@@ -34,7 +35,7 @@ pub trait Kept {
 impl Kept for Hdu {
     ghost use Rattle.std.specs.Prelude.{◌≡◌};
 
-    ghost keeps = { λ it hdu. it.hdu ≡ hdu };
+    ghost keeps = { λ it hdu. parts_of it ≡ hdu };
 
     fn read_next<R: Source>(
         alloc: Global,

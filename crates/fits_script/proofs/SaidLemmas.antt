@@ -15,7 +15,7 @@ use Rattle.fits_session.specs.declared.paint.Paint.{Paint}
 use Rattle.fits_session.specs.declared.paint.Paint.TheVariants.{Fill, Write}
 use Rattle.fits_script.specs.Cut.{HasNo}
 use Rattle.fits_script.specs.Forms.{IsAlone, IsCardForm, IsFieldForm, IsMoveForm, IsNameForm, IsNewForm, IsNumber, IsPaintForm, IsPlaceForm, IsRectangleForm, Names, Says, followed, kind_word, paint_word}
-use Rattle.fits_script.specs.Line.{after_word, alone, axes_last, card_last, card_words, cards_command, command_of, field_words, fill_words, first_word, hdu_said, kind_first, move_words, name_first, name_word, new_words, number_first, place_word, rectangle_first, rectangle_word, said_by, said_of, value_last, values_last, verb_of, verb_said, words_said, write_words}
+use Rattle.fits_script.specs.Line.{after_word, alone, axes_last, card_last, card_words, cards_command, command_of, field_words, fill_words, first_word, hdu_said, kind_first, move_words, name_first, name_word, new_words, number_first, place_word, rectangle_first, rectangle_word, said_by, said_of, value_last, values_last, verb_of, verb_said, verb_word, words_said, write_words}
 use Rattle.fits_script.specs.declared.command.Command.{Command}
 use Rattle.fits_script.specs.declared.command.Command.TheVariants.{Nothing, Edit, Offsets, Get, Positions, Report, Statistics, Rectangle, Sums}
 use Rattle.fits_script.specs.declared.verb.Verb.{Verb}
@@ -25,7 +25,7 @@ use Rattle.fits_script.specs.declared.word_fault.WordFault.TheVariants.{NoHdu, O
 use Rattle.fits_script.proofs.FormLemmas.{first_word-followed, after_word-followed, either_some, followed-after_word, number_first-is, name_first-is, card_last-is, IsCard-is, NumberFirst-is, NameFirst-is, alone-is, followed-nothing}
 use Rattle.fits_script.proofs.ImageFormLemmas.{axes_last-is, axes_last-says, kind_first-is, kind_first-says}
 use Rattle.fits_script.proofs.PixelFormLemmas.{rectangle_first-is, RectangleFirst-is, value_last-is, value_last-says, values_last-is, values_last-says}
-use Rattle.fits_script.proofs.VerbLemmas.{verb_of-says, verb_word}
+use Rattle.fits_script.proofs.VerbLemmas.{verb_of-says}
 
 -- `P CARD`, where it is written so
 card_words-is : (p : ℕ) (card : List ℕ) (rest : Option (List ℕ)) → IsCardForm p card rest → card_words rest ≡ Some (p, card)

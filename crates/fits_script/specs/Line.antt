@@ -1,6 +1,6 @@
 -- The lines of a script: which bytes are which command (own).
 use Rattle.std.specs.Prelude.{ℕ, ◌-◌, ◌&&◌, ◌==◌, Bool, false, nat_le, ℤ, List, [], ◌∷◌, ◌++◌, length, map, replicate, codes, Option, None, Some, Result, Err, option_and_then, unwrap_or, if◌then◌else◌}
-use Rattle.std.specs.List.{list_all, slice_split}
+use Rattle.std.specs.List.{find, list_all, slice_split}
 use Rattle.std.specs.Option.{ok_or, option_map}
 use Rattle.std.specs.Result.{result_ok}
 use Rattle.std.specs.Str.{bytes_eq}
@@ -24,6 +24,7 @@ use Rattle.fits_script.specs.declared.command.Command.{Command}
 use Rattle.fits_script.specs.declared.command.Command.TheVariants.{Nothing, Edit, Offsets, Get, Positions, Report, Statistics, Rectangle, Sums}
 use Rattle.fits_script.specs.declared.line_reading.LineReading.{LineReading}
 use Rattle.fits_script.specs.declared.line_reading.LineReading.TheVariants.{TooLong, NoCommand, Said}
+use Rattle.fits_script.specs.declared.verb.TheConstants.{VERBS}
 use Rattle.fits_script.specs.declared.verb.Verb.{Verb}
 use Rattle.fits_script.specs.declared.verb.Verb.TheVariants as verb
 use Rattle.fits_script.specs.declared.word_fault.WordFault.{WordFault}
@@ -246,28 +247,30 @@ new_words rest = do
 abbrev pub cards_command : ℕ → CardEdit → Command
 cards_command h edit = Edit (Hdu h (Cards edit))
 
+-- the word of a verb
+abbrev pub verb_word : Verb → List ℕ
+verb_word verb.Insert = codes "ins"
+verb_word verb.Put = codes "put"
+verb_word verb.Delete = codes "del"
+verb_word verb.Move = codes "mov"
+verb_word verb.Set = codes "set"
+verb_word verb.Unset = codes "unset"
+verb_word verb.Fill = codes "fill"
+verb_word verb.Write = codes "write"
+verb_word verb.New = codes "new"
+verb_word verb.Remove = codes "rm"
+verb_word verb.Stamp = codes "stamp"
+verb_word verb.Get = codes "get"
+verb_word verb.Positions = codes "pos"
+verb_word verb.Statistics = codes "stat"
+verb_word verb.Rectangle = codes "rect"
+verb_word verb.Sums = codes "sum"
+verb_word verb.Offsets = codes "off"
+verb_word verb.Report = codes "rep"
+
 -- the verb that a word is
 unfoldable pub verb_of : List ℕ → Option Verb
-verb_of word =
-    if bytes_eq word (codes "ins") then Some verb.Insert
-    else if bytes_eq word (codes "put") then Some verb.Put
-    else if bytes_eq word (codes "del") then Some verb.Delete
-    else if bytes_eq word (codes "mov") then Some verb.Move
-    else if bytes_eq word (codes "set") then Some verb.Set
-    else if bytes_eq word (codes "unset") then Some verb.Unset
-    else if bytes_eq word (codes "fill") then Some verb.Fill
-    else if bytes_eq word (codes "write") then Some verb.Write
-    else if bytes_eq word (codes "new") then Some verb.New
-    else if bytes_eq word (codes "rm") then Some verb.Remove
-    else if bytes_eq word (codes "stamp") then Some verb.Stamp
-    else if bytes_eq word (codes "get") then Some verb.Get
-    else if bytes_eq word (codes "pos") then Some verb.Positions
-    else if bytes_eq word (codes "stat") then Some verb.Statistics
-    else if bytes_eq word (codes "rect") then Some verb.Rectangle
-    else if bytes_eq word (codes "sum") then Some verb.Sums
-    else if bytes_eq word (codes "off") then Some verb.Offsets
-    else if bytes_eq word (codes "rep") then Some verb.Report
-    else None
+verb_of word = find (λ verb. bytes_eq word (verb_word verb)) VERBS
 
 -- what a verb says of HDU h, by what follows h; the two that name no HDU say nothing of one
 unfoldable pub said_of : Verb → ℕ → Option (List ℕ) → Option Command
@@ -332,8 +335,8 @@ CardsHoldMemory edit = ⊥
 -- and this edit of an HDU: corners and values of pixels are lists of their own
 abbrev pub HduHoldsMemory : HduEdit → Type 0
 HduHoldsMemory (Cards edit) = CardsHoldMemory edit
-HduHoldsMemory (Pixels lo hi paint) = Unit {0}
 HduHoldsMemory Stamp = ⊥
+HduHoldsMemory edit = Unit {0}
 
 -- and this edit: so are new axes
 abbrev pub EditHoldsMemory : SessionEdit → Type 0
@@ -343,15 +346,9 @@ EditHoldsMemory (RemoveHdu h) = ⊥
 
 -- taking up this command may need memory: corners are lists of their own
 abbrev pub HoldsMemory : Command → Type 0
-HoldsMemory Nothing = ⊥
 HoldsMemory (Edit edit) = EditHoldsMemory edit
-HoldsMemory Offsets = ⊥
-HoldsMemory (Get hdu name) = ⊥
-HoldsMemory (Positions hdu name) = ⊥
-HoldsMemory Report = ⊥
-HoldsMemory (Statistics hdu) = ⊥
 HoldsMemory (Rectangle hdu lo hi) = Unit {0}
-HoldsMemory (Sums hdu) = ⊥
+HoldsMemory command = ⊥
 
 -- reading a line may need memory: one that says no command needs none
 abbrev pub ReadingNeedsMemory : LineReading → Type 0

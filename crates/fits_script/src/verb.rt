@@ -1,5 +1,6 @@
+//! The verbs of a script's lines.
 ghost use Rattle.std.specs.Prelude.{◌≡◌};
-ghost use Rattle.fits_script.specs.Line.{verb_of};
+ghost use Rattle.fits_script.specs.Line.{verb_of, verb_word};
 
 use crate::words::is_word;
 
@@ -26,48 +27,58 @@ pub(crate) enum Verb {
     Report,
 }
 
+/// All verbs.
+const VERBS: [Verb; 18] = [
+    Verb::Insert,
+    Verb::Put,
+    Verb::Delete,
+    Verb::Move,
+    Verb::Set,
+    Verb::Unset,
+    Verb::Fill,
+    Verb::Write,
+    Verb::New,
+    Verb::Remove,
+    Verb::Stamp,
+    Verb::Get,
+    Verb::Positions,
+    Verb::Statistics,
+    Verb::Rectangle,
+    Verb::Sums,
+    Verb::Offsets,
+    Verb::Report,
+];
+
 /// The verb that a word is.
 #[tactic(auto, unfolding(crate::specs::Line::verb_of))]
 pub(crate) fn verb_of(word: &[u8]) -> Option<Verb>
     ensures { result ≡ verb_of word.now }
 {
-    if is_word(word, b"ins") {
-        Some(Verb::Insert)
-    } else if is_word(word, b"put") {
-        Some(Verb::Put)
-    } else if is_word(word, b"del") {
-        Some(Verb::Delete)
-    } else if is_word(word, b"mov") {
-        Some(Verb::Move)
-    } else if is_word(word, b"set") {
-        Some(Verb::Set)
-    } else if is_word(word, b"unset") {
-        Some(Verb::Unset)
-    } else if is_word(word, b"fill") {
-        Some(Verb::Fill)
-    } else if is_word(word, b"write") {
-        Some(Verb::Write)
-    } else if is_word(word, b"new") {
-        Some(Verb::New)
-    } else if is_word(word, b"rm") {
-        Some(Verb::Remove)
-    } else if is_word(word, b"stamp") {
-        Some(Verb::Stamp)
-    } else if is_word(word, b"get") {
-        Some(Verb::Get)
-    } else if is_word(word, b"pos") {
-        Some(Verb::Positions)
-    } else if is_word(word, b"stat") {
-        Some(Verb::Statistics)
-    } else if is_word(word, b"rect") {
-        Some(Verb::Rectangle)
-    } else if is_word(word, b"sum") {
-        Some(Verb::Sums)
-    } else if is_word(word, b"off") {
-        Some(Verb::Offsets)
-    } else if is_word(word, b"rep") {
-        Some(Verb::Report)
-    } else {
-        None
+    VERBS.iter().copied().find(|verb| is_word(word, word_of(*verb)))
+}
+
+// The word of a verb.
+fn word_of(verb: Verb) -> &'static [u8]
+    ensures { result.now ≡ verb_word verb }
+{
+    match verb {
+        Verb::Insert => b"ins",
+        Verb::Put => b"put",
+        Verb::Delete => b"del",
+        Verb::Move => b"mov",
+        Verb::Set => b"set",
+        Verb::Unset => b"unset",
+        Verb::Fill => b"fill",
+        Verb::Write => b"write",
+        Verb::New => b"new",
+        Verb::Remove => b"rm",
+        Verb::Stamp => b"stamp",
+        Verb::Get => b"get",
+        Verb::Positions => b"pos",
+        Verb::Statistics => b"stat",
+        Verb::Rectangle => b"rect",
+        Verb::Sums => b"sum",
+        Verb::Offsets => b"off",
+        Verb::Report => b"rep",
     }
 }

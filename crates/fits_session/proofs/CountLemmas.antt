@@ -13,7 +13,7 @@ use Rattle.fits_header.specs.declared.finding.Finding.{Finding}
 use Rattle.fits_header.proofs.FindingLemmas.{counts-append}
 use Rattle.fits_hdu.specs.Findings.{hdu_counts, hdu_findings}
 use Rattle.fits_hdu.specs.Hdu.{HduParts, hdu_bytes}
-use Rattle.fits_hdu.specs.State.{HduState}
+use Rattle.fits_hdu.specs.State.{HduState, parts_of}
 use Rattle.fits_hdu.specs.declared.extension_name.ExtensionName.{ExtensionName}
 use Rattle.fits_session.specs.File.{is_followed, joined_hdus, IsFile}
 use Rattle.fits_session.specs.Edit.{is_primary_hdu}
@@ -62,50 +62,50 @@ counts_push names us u h shape repeated number described again =
     ∙ ap (λ (c : Counts). summed (counts_in (wrong_from names 1 us)) c) (ap counts_of (codes-in_hdu h (hdu_findings shape u repeated)))
 
 -- the same of HDUs under edits
-one_more : (names : List (Option ExtensionName)) (hdus : List HduState) (tail : List ℕ) (i : ℕ) (hdu : HduState) (repeated : Bool) → IsFile (file_of (state_of hdus tail)) → i < length hdus → hdu ≡ get_or hdus i hdu → shape_of (is_primary hdu.shape.class) hdu.hdu.header.cards ≡ Ok hdu.shape
-    → repeated ≡ is_repeated names (name_in (i + 1) hdu.hdu) → counts_in (wrong_from names 1 (take (i + 1) (hdus_of hdus))) ≡ summed (counts_in (wrong_from names 1 (take i (hdus_of hdus)))) (hdu_counts hdu.shape hdu.hdu repeated)
+one_more : (names : List (Option ExtensionName)) (hdus : List HduState) (tail : List ℕ) (i : ℕ) (hdu : HduState) (repeated : Bool) → IsFile (file_of (state_of hdus tail)) → i < length hdus → hdu ≡ get_or hdus i hdu → shape_of (is_primary hdu.header.shape.class) hdu.header.header.cards ≡ Ok hdu.header.shape
+    → repeated ≡ is_repeated names (name_in (i + 1) (parts_of hdu)) → counts_in (wrong_from names 1 (take (i + 1) (hdus_of hdus))) ≡ summed (counts_in (wrong_from names 1 (take i (hdus_of hdus)))) (hdu_counts hdu.header.shape (parts_of hdu) repeated)
 one_more names hdus tail i hdu repeated file l e described again =
     let at : IsHduAt hdus (i + 1) i hdu = record { index = record { at = refl; within = l }; is = e } in
     let number : 1 + length (take i (hdus_of hdus)) ≡ i + 1 = omega (arith, length-take-le i (hdus_of hdus) (omega (arith, l, length-hdus_of hdus))) in
     ap (λ us. counts_in (wrong_from names 1 us)) (hdus_more hdus i hdu l e)
-    ∙ counts_push names (take i (hdus_of hdus)) hdu.hdu (i + 1) hdu.shape repeated number (described_there hdus tail (i + 1) i hdu file at described) again
+    ∙ counts_push names (take i (hdus_of hdus)) (parts_of hdu) (i + 1) hdu.header.shape repeated number (described_there hdus tail (i + 1) i hdu file at described) again
 
 -- so one more HDU is counted
 pub counts_more : (hdus old seen : List HduState) (tail : List ℕ) (i : ℕ) (hdu : HduState) (repeated : Bool) (now here next : Counts) → hdus ≡ old → IsFile (file_of (state_of old tail)) → i < length hdus → hdu ≡ get_or hdus i hdu
-    → shape_of (is_primary hdu.shape.class) hdu.hdu.header.cards ≡ Ok hdu.shape → seen ≡ hdus → (IsFile (file_of (state_of seen tail)) → hdu ≡ get_or seen i hdu → repeated ≡ is_repeated (names_from 1 (hdus_of seen)) (name_in (i + 1) hdu.hdu))
-    → now ≡ counts_in (wrong_from (names_from 1 (hdus_of old)) 1 (take i (hdus_of old))) → here ≡ hdu_counts hdu.shape hdu.hdu repeated → next ≡ summed now here
+    → shape_of (is_primary hdu.header.shape.class) hdu.header.header.cards ≡ Ok hdu.header.shape → seen ≡ hdus → (IsFile (file_of (state_of seen tail)) → hdu ≡ get_or seen i hdu → repeated ≡ is_repeated (names_from 1 (hdus_of seen)) (name_in (i + 1) (parts_of hdu)))
+    → now ≡ counts_in (wrong_from (names_from 1 (hdus_of old)) 1 (take i (hdus_of old))) → here ≡ hdu_counts hdu.header.shape (parts_of hdu) repeated → next ≡ summed now here
     → next ≡ counts_in (wrong_from (names_from 1 (hdus_of old)) 1 (take (i + 1) (hdus_of old)))
 counts_more hdus old seen tail i hdu repeated now here next same file l e described see again so_far found is =
     let all : seen ≡ old = see ∙ same in
-    let named : repeated ≡ is_repeated (names_from 1 (hdus_of old)) (name_in (i + 1) hdu.hdu) = rw all at (again (rw all file) (rw see e)) in
+    let named : repeated ≡ is_repeated (names_from 1 (hdus_of old)) (name_in (i + 1) (parts_of hdu)) = rw all at (again (rw all file) (rw see e)) in
     is ∙ (rw (so_far, found) (sym (one_more (names_from 1 (hdus_of old)) old tail i hdu repeated file (rw same at l) (rw same at e) described named)))
 
 -- each code has a byte of its own
 pub within_more : (hdus old : List HduState) (i : ℕ) (hdu : HduState) (now here next : Counts) → hdus ≡ old → i < length hdus → hdu ≡ get_or hdus i hdu
-    → now.errors + now.warnings ≤ length (joined_hdus (take i (hdus_of old))) → here.errors + here.warnings ≤ length (hdu_bytes hdu.hdu) → next ≡ summed now here
+    → now.errors + now.warnings ≤ length (joined_hdus (take i (hdus_of old))) → here.errors + here.warnings ≤ length (hdu_bytes (parts_of hdu)) → next ≡ summed now here
     → next.errors + next.warnings ≤ length (joined_hdus (take (i + 1) (hdus_of old)))
 within_more hdus old i hdu now here next same l e so_far few is =
     let start : ℕ = length (joined_hdus (take i (hdus_of old))) in
-    let unit : ℕ = start + length (header_bytes hdu.hdu.header) in
-    let ends = start_more old i start unit (unit + length hdu.hdu.data_unit) hdu (rw same at l) (rw same at e) refl refl refl in
-    omega (arith, so_far, few, ends, length-append (header_bytes hdu.hdu.header) hdu.hdu.data_unit, ap (λ (c : Counts). c.errors) is, ap (λ (c : Counts). c.warnings) is)
+    let unit : ℕ = start + length (header_bytes hdu.header.header) in
+    let ends = start_more old i start unit (unit + length hdu.plane.bytes) hdu (rw same at l) (rw same at e) refl refl refl in
+    omega (arith, so_far, few, ends, length-append (header_bytes hdu.header.header) hdu.plane.bytes, ap (λ (c : Counts). c.errors) is, ap (λ (c : Counts). c.warnings) is)
 
 -- so the counts are small
 pub counts_small : (hdus old : List HduState) (tail : List ℕ) (i : ℕ) (hdu : HduState) (now here : Counts) → hdus ≡ old → IsFile (file_of (state_of old tail)) → i < length hdus → hdu ≡ get_or hdus i hdu
-    → now.errors + now.warnings ≤ length (joined_hdus (take i (hdus_of old))) → here.errors + here.warnings ≤ length (hdu_bytes hdu.hdu)
+    → now.errors + now.warnings ≤ length (joined_hdus (take i (hdus_of old))) → here.errors + here.warnings ≤ length (hdu_bytes (parts_of hdu))
     → now.errors + now.warnings + (here.errors + here.warnings) < 2 ^ 34
 counts_small hdus old tail i hdu now here same file l e so_far few =
-    omega (arith, so_far, few, length-append (header_bytes hdu.hdu.header) hdu.hdu.data_unit, ends_within old i (length (joined_hdus (take i (hdus_of old)))) hdu (rw same at l) (rw same at e) refl, file_size old tail file)
+    omega (arith, so_far, few, length-append (header_bytes hdu.header.header) hdu.plane.bytes, ends_within old i (length (joined_hdus (take i (hdus_of old)))) hdu (rw same at l) (rw same at e) refl, file_size old tail file)
 
 -- one of HDUs that aren't too long isn't
-pub hdu_within : (hdus old : List HduState) (i : ℕ) (hdu : HduState) → hdus ≡ old → length (joined_hdus (hdus_of old)) ≤ FILE_LIMIT → i < length hdus → hdu ≡ get_or hdus i hdu → length (hdu_bytes hdu.hdu) ≤ 2 ^ 34
+pub hdu_within : (hdus old : List HduState) (i : ℕ) (hdu : HduState) → hdus ≡ old → length (joined_hdus (hdus_of old)) ≤ FILE_LIMIT → i < length hdus → hdu ≡ get_or hdus i hdu → length (hdu_bytes (parts_of hdu)) ≤ 2 ^ 34
 hdu_within hdus old i hdu same size l e =
-    omega (arith, size, length-append (header_bytes hdu.hdu.header) hdu.hdu.data_unit, ends_within old i (length (joined_hdus (take i (hdus_of old)))) hdu (rw same at l) (rw same at e) refl)
+    omega (arith, size, length-append (header_bytes hdu.header.header) hdu.plane.bytes, ends_within old i (length (joined_hdus (take i (hdus_of old)))) hdu (rw same at l) (rw same at e) refl)
 
 -- an HDU of a file isn't too long
-pub hdu_small : (hdus old : List HduState) (tail : List ℕ) (i : ℕ) (hdu : HduState) → hdus ≡ old → IsFile (file_of (state_of old tail)) → i < length hdus → hdu ≡ get_or hdus i hdu → length (hdu_bytes hdu.hdu) ≤ 2 ^ 34
+pub hdu_small : (hdus old : List HduState) (tail : List ℕ) (i : ℕ) (hdu : HduState) → hdus ≡ old → IsFile (file_of (state_of old tail)) → i < length hdus → hdu ≡ get_or hdus i hdu → length (hdu_bytes (parts_of hdu)) ≤ 2 ^ 34
 hdu_small hdus old tail i hdu same file l e =
-    omega (arith, length-append (header_bytes hdu.hdu.header) hdu.hdu.data_unit, ends_within old i (length (joined_hdus (take i (hdus_of old)))) hdu (rw same at l) (rw same at e) refl, file_size old tail file)
+    omega (arith, length-append (header_bytes hdu.header.header) hdu.plane.bytes, ends_within old i (length (joined_hdus (take i (hdus_of old)))) hdu (rw same at l) (rw same at e) refl, file_size old tail file)
 
 -- those of all HDUs
 all_counted : (names : List (Option ExtensionName)) (hdus : List HduState) (i : ℕ) → length hdus ≤ i → counts_in (wrong_from names 1 (take i (hdus_of hdus))) ≡ counts_in (wrong_from names 1 (hdus_of hdus))

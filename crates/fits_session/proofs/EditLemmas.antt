@@ -6,7 +6,8 @@ use Rattle.std.specs.Option.{option_map_or}
 use Rattle.std.proofs.lemmas.List.{length-append}
 use Rattle.fits_rules.specs.Class.{is_primary}
 use Rattle.fits_hdu.specs.Hdu.{HduParts, hdu_bytes, IsHdu}
-use Rattle.fits_hdu.specs.State.{HduState}
+use Rattle.fits_hdu.specs.State.{HduState, parts_of}
+use Rattle.fits_hdu.specs.Work.{plane_work}
 use Rattle.fits_session.specs.Edit.{changed_at, changed_of, file_after, hdu_edited, hdu_of, is_primary_hdu, made_or, with_hdu}
 use Rattle.fits_session.specs.File.{FileParts, file_bytes, joined_hdus, IsFile, IsFileOf}
 use Rattle.fits_session.specs.HduEdit.{hdu_made}
@@ -68,21 +69,21 @@ module _ (hdus : List HduState) (tail : List ℕ) (h i : ℕ) (edit : HduEdit) (
   named : h ≡ suc i
   named = p.at.index.at ∙ add-one i
 
-  there : slice_get (hdus_of hdus) i ≡ Some old.hdu
+  there : slice_get (hdus_of hdus) i ≡ Some (parts_of old)
   there = slice_get-hdus_of hdus i old p.at.index.within p.at.is
 
-  found : hdu_of (file_of (state_of hdus tail)) h ≡ Some old.hdu
+  found : hdu_of (file_of (state_of hdus tail)) h ≡ Some (parts_of old)
   found = hdu_of-there hdus tail h i old p.at
 
-  primary : is_primary old.shape.class ≡ is_primary_hdu h
+  primary : is_primary old.header.shape.class ≡ is_primary_hdu h
   primary = primary_there hdus tail h i old p.file p.at p.edits.whole
 
   -- how many bytes the file has with another HDU in this one's place
-  length_made : (made : HduParts) → length (file_bytes (with_hdu (file_of (state_of hdus tail)) h (λ hdu. made))) ≡ length_with bytes old.hdu made
+  length_made : (made : HduParts) → length (file_bytes (with_hdu (file_of (state_of hdus tail)) h (λ hdu. made))) ≡ length_with bytes (parts_of old) made
   length_made made =
       let file : FileParts = file_of (state_of hdus tail) in
       ap (λ k. length (file_bytes (with_hdu file k (λ hdu. made)))) named
-      ∙ omega (arith, p.size, length_changed file i old.hdu (λ hdu. made) there, part_there hdus tail h i old p.at)
+      ∙ omega (arith, p.size, length_changed file i (parts_of old) (λ hdu. made) there, part_there hdus tail h i old p.at)
 
   -- and how many HDUs
   count_made : (made : HduParts) → length (with_hdu (file_of (state_of hdus tail)) h (λ hdu. made)).hdus ≡ count
@@ -91,34 +92,34 @@ module _ (hdus : List HduState) (tail : List ℕ) (h i : ℕ) (edit : HduEdit) (
       ap (λ k. length (changed_of k change (hdus_of hdus))) named ∙ length-changed i change (hdus_of hdus) ∙ length-hdus_of hdus ∙ sym p.number
 
   -- the tests of what is made of it
-  tests_made : (made : Result HduParts Refusal) → made_refusal (file_of (state_of hdus tail)) h made ≡ within_refusal bytes count old.hdu made
+  tests_made : (made : Result HduParts Refusal) → made_refusal (file_of (state_of hdus tail)) h made ≡ within_refusal bytes count (parts_of old) made
   tests_made (Err why) = refl
   tests_made (Ok made) =
-      ap (λ n. limit_refusal n (length (with_hdu (file_of (state_of hdus tail)) h (λ hdu. made)).hdus)) (length_made made) ∙ ap (limit_refusal (length_with bytes old.hdu made)) (count_made made)
+      ap (λ n. limit_refusal n (length (with_hdu (file_of (state_of hdus tail)) h (λ hdu. made)).hdus)) (length_made made) ∙ ap (limit_refusal (length_with bytes (parts_of old) made)) (count_made made)
 
   -- what the edit makes of it
-  is_made : hdu_made (is_primary_hdu h) edit old.hdu ≡ hdu_made (is_primary old.shape.class) edit old.hdu
-  is_made = ap (λ b. hdu_made b edit old.hdu) (sym primary)
+  is_made : hdu_made (is_primary_hdu h) edit (parts_of old) ≡ hdu_made (is_primary old.header.shape.class) edit (parts_of old)
+  is_made = ap (λ b. hdu_made b edit (parts_of old)) (sym primary)
 
   -- the tests of the edit are those of the HDU
-  tests_are : refusal_of (file_of (state_of hdus tail)) (Hdu h edit) ≡ within_refusal bytes count old.hdu (hdu_made (is_primary old.shape.class) edit old.hdu)
+  tests_are : refusal_of (file_of (state_of hdus tail)) (Hdu h edit) ≡ within_refusal bytes count (parts_of old) (hdu_made (is_primary old.header.shape.class) edit (parts_of old))
   unfolding refusal_of
-  tests_are = ap (refusal_in (file_of (state_of hdus tail)) h edit) found ∙ tests_made (hdu_made (is_primary_hdu h) edit old.hdu) ∙ ap (within_refusal bytes count old.hdu) is_made
+  tests_are = ap (refusal_in (file_of (state_of hdus tail)) h edit) found ∙ tests_made (hdu_made (is_primary_hdu h) edit (parts_of old)) ∙ ap (within_refusal bytes count (parts_of old)) is_made
 
   -- so many cards of it were read at most
-  reads_are : edit_reads (file_of (state_of hdus tail)) h edit ≡ hdu_reads (is_primary old.shape.class) edit old.hdu
-  reads_are = ap (λ (hdu : Option HduParts). option_map_or (hdu_reads (is_primary_hdu h) edit) hdu 0) found ∙ ap (λ b. hdu_reads b edit old.hdu) (sym primary)
+  reads_are : edit_reads (file_of (state_of hdus tail)) h edit ≡ hdu_reads (is_primary old.header.shape.class) edit (parts_of old)
+  reads_are = ap (λ (hdu : Option HduParts). option_map_or (hdu_reads (is_primary_hdu h) edit) hdu 0) found ∙ ap (λ b. hdu_reads b edit (parts_of old)) (sym primary)
 
   -- and so it was worked on
-  work_is : EditWork (file_of (state_of hdus tail)) h edit old.pixel_work new.pixel_work
+  work_is : EditWork (file_of (state_of hdus tail)) h edit (plane_work old.plane) (plane_work new.plane)
   work_is hdu at =
-      let both : Option.Some hdu ≡ Some old.hdu = sym at ∙ found in
-      let same : hdu ≡ old.hdu = cc in
-      subst (λ (u : HduParts). HduWork (is_primary_hdu h) edit u old.pixel_work new.pixel_work) (sym same) (subst (λ b. HduWork b edit old.hdu old.pixel_work new.pixel_work) primary p.edits.work)
+      let both : Option.Some hdu ≡ Some (parts_of old) = sym at ∙ found in
+      let same : hdu ≡ (parts_of old) = cc in
+      subst (λ (u : HduParts). HduWork (is_primary_hdu h) edit u (plane_work old.plane) (plane_work new.plane)) (sym same) (subst (λ b. HduWork b edit (parts_of old) (plane_work old.plane) (plane_work new.plane)) primary p.edits.work)
 
   -- the file with the HDU that was left
-  file_left : file_of (state_of (set hdus i new) tail) ≡ with_hdu (file_of (state_of hdus tail)) (suc i) (λ hdu. new.hdu)
-  file_left = ap (λ (us : List HduParts). let file : FileParts = record { hdus = us; tail = tail } in file) (hdus_of-changed hdus h i old new (λ hdu. new.hdu) p.at refl)
+  file_left : file_of (state_of (set hdus i new) tail) ≡ with_hdu (file_of (state_of hdus tail)) (suc i) (λ hdu. (parts_of new))
+  file_left = ap (λ (us : List HduParts). let file : FileParts = record { hdus = us; tail = tail } in file) (hdus_of-changed hdus h i old new (λ hdu. (parts_of new)) p.at refl)
 
   -- no other HDU was read or worked on
   works : HduWorks h edit (state_of hdus tail) (state_of (set hdus i new) tail)
@@ -128,12 +129,12 @@ module _ (hdus : List HduState) (tail : List ℕ) (h i : ℕ) (edit : HduEdit) (
   }
 
   -- the file after the edit, where it was made
-  file_made : hdu_made (is_primary old.shape.class) edit old.hdu ≡ Ok new.hdu → file_of (state_of (set hdus i new) tail) ≡ file_after (file_of (state_of hdus tail)) (Hdu h edit)
+  file_made : hdu_made (is_primary old.header.shape.class) edit (parts_of old) ≡ Ok (parts_of new) → file_of (state_of (set hdus i new) tail) ≡ file_after (file_of (state_of hdus tail)) (Hdu h edit)
   unfolding file_after
   file_made made =
       let change : HduParts → HduParts = hdu_edited (is_primary_hdu h) edit in
       ap (λ (us : List HduParts). let file : FileParts = record { hdus = us; tail = tail } in file)
-      (hdus_of-changed hdus h i old new change p.at (sym (ap (made_or old.hdu) (is_made ∙ made))) ∙ ap (λ k. changed_of k change (hdus_of hdus)) (sym named))
+      (hdus_of-changed hdus h i old new change p.at (sym (ap (made_or (parts_of old)) (is_made ∙ made))) ∙ ap (λ k. changed_of k change (hdus_of hdus)) (sym named))
 
 -- an edit that is made owes this
 pub edits_made : {X : Type 0} (hdus : List HduState) (tail : List ℕ) (h i : ℕ) (edit : HduEdit) (bytes count n : ℕ) (old new : HduState) (x : X) → IsEdited hdus tail h i edit bytes count old new (Ok n) → EditsTo {X = X} (Hdu h edit) (state_of hdus tail) (state_of (set hdus i new) tail) (Ok x)
@@ -150,16 +151,16 @@ edits_made hdus tail h i edit bytes count n old new x p = record {
 pub file_made_is : (hdus : List HduState) (tail : List ℕ) (h i : ℕ) (edit : HduEdit) (bytes count n : ℕ) (old new : HduState) → IsEdited hdus tail h i edit bytes count old new (Ok n) → IsFile (file_of (state_of (set hdus i new) tail)) × (n ≡ length (file_bytes (file_of (state_of (set hdus i new) tail))))
 file_made_is hdus tail h i edit bytes count n old new p =
     let file : FileParts = file_of (state_of hdus tail) in
-    let change : HduParts → HduParts = λ hdu. new.hdu in
+    let change : HduParts → HduParts = λ hdu. (parts_of new) in
     let left = file_left hdus tail h i edit bytes count old new (Ok n) p in
     let is : h ≡ suc i = named hdus tail h i edit bytes count old new (Ok n) p in
     let at = there hdus tail h i edit bytes count old new (Ok n) p in
-    let size : length (file_bytes (with_hdu file (suc i) change)) ≡ length_with bytes old.hdu new.hdu = ap (λ k. length (file_bytes (with_hdu file k change))) (sym is) ∙ length_made hdus tail h i edit bytes count old new (Ok n) p new.hdu in
-    let whole : IsHdu (is_primary_hdu (suc i)) new.hdu =
-    subst (λ b. IsHdu b new.hdu) (primary hdus tail h i edit bytes count old new (Ok n) p ∙ ap is_primary_hdu is) p.edits.left in
-    let accepted : limit_refusal (length_with bytes old.hdu new.hdu) count ≡ None = sym (ap (within_refusal bytes count old.hdu) p.edits.ok) ∙ p.edits.accepted in
-    let short = within_limits (length_with bytes old.hdu new.hdu) count (limit_none (is_within_limits (length_with bytes old.hdu new.hdu) count) accepted) in (
-      subst (λ (f : FileParts). IsFile f) (sym left) (other_kept (file_bytes file) file i old.hdu change p.file at whole (omega (arith, size, short.0))),
+    let size : length (file_bytes (with_hdu file (suc i) change)) ≡ length_with bytes (parts_of old) (parts_of new) = ap (λ k. length (file_bytes (with_hdu file k change))) (sym is) ∙ length_made hdus tail h i edit bytes count old new (Ok n) p (parts_of new) in
+    let whole : IsHdu (is_primary_hdu (suc i)) (parts_of new) =
+    subst (λ b. IsHdu b (parts_of new)) (primary hdus tail h i edit bytes count old new (Ok n) p ∙ ap is_primary_hdu is) p.edits.left in
+    let accepted : limit_refusal (length_with bytes (parts_of old) (parts_of new)) count ≡ None = sym (ap (within_refusal bytes count (parts_of old)) p.edits.ok) ∙ p.edits.accepted in
+    let short = within_limits (length_with bytes (parts_of old) (parts_of new)) count (limit_none (is_within_limits (length_with bytes (parts_of old) (parts_of new)) count) accepted) in (
+      subst (λ (f : FileParts). IsFile f) (sym left) (other_kept (file_bytes file) file i (parts_of old) change p.file at whole (omega (arith, size, short.0))),
       p.edits.size ∙ sym size ∙ ap (λ (f : FileParts). length (file_bytes f)) (sym left),
     )
 

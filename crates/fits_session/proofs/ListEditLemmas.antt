@@ -8,8 +8,8 @@ use Rattle.std.proofs.lemmas.List.Elements.{All-append, All-cons, All-drop, All-
 use Rattle.std.proofs.lemmas.Option.{slice_get_within}
 use Rattle.fits_hdu.specs.Hdu.{HduParts, hdu_bytes, IsHdu}
 use Rattle.fits_hdu.specs.NewImage.{are_axes, new_image}
-use Rattle.fits_hdu.specs.State.{HduState}
-use Rattle.fits_hdu.specs.Work.{open_reads, IsMade}
+use Rattle.fits_hdu.specs.State.{HduState, parts_of}
+use Rattle.fits_hdu.specs.Work.{open_reads, plane_work, IsMade}
 use Rattle.fits_hdu.specs.declared.kind.Kind.{Kind}
 use Rattle.fits_hdu.proofs.NewImageLemmas.{new_is_hdu}
 use Rattle.fits_plane.specs.Layout.{block_count}
@@ -161,15 +161,15 @@ map-left f (y ∷ ys) zero = refl
 map-left f (y ∷ ys) (suc i) = ap (λ zs. f y ∷ zs) (map-left f ys i)
 
 -- the parts of HDUs with one put in
-hdus_of-inserted : (hdus : List HduState) (i : ℕ) (new : HduState) → hdus_of (insert hdus i new) ≡ insert (hdus_of hdus) i new.hdu
-hdus_of-inserted hdus i new = map-inserted (λ (one : HduState). one.hdu) hdus i new
+hdus_of-inserted : (hdus : List HduState) (i : ℕ) (new : HduState) → hdus_of (insert hdus i new) ≡ insert (hdus_of hdus) i (parts_of new)
+hdus_of-inserted hdus i new = map-inserted parts_of hdus i new
 
 -- and of those that are left
 hdus_of-left : (hdus : List HduState) (i : ℕ) → hdus_of (remove hdus i) ≡ remove (hdus_of hdus) i
-hdus_of-left hdus i = map-left (λ (one : HduState). one.hdu) hdus i
+hdus_of-left hdus i = map-left parts_of hdus i
 
 -- the file with a new HDU
-file_of-inserted : (hdus : List HduState) (tail : List ℕ) (h : ℕ) (new : HduState) (hdu : HduParts) → new.hdu ≡ hdu → file_of (state_of (insert hdus (h - 1) new) tail) ≡ with_new_hdu (file_of (state_of hdus tail)) h hdu
+file_of-inserted : (hdus : List HduState) (tail : List ℕ) (h : ℕ) (new : HduState) (hdu : HduParts) → parts_of new ≡ hdu → file_of (state_of (insert hdus (h - 1) new) tail) ≡ with_new_hdu (file_of (state_of hdus tail)) h hdu
 file_of-inserted hdus tail h new hdu is =
     ap (λ (us : List HduParts). let file : FileParts = record { hdus = us; tail = tail } in file) (hdus_of-inserted hdus (h - 1) new ∙ ap (insert (hdus_of hdus) (h - 1)) is)
 
@@ -308,7 +308,7 @@ new_fits hdus tail h kind axes p few short =
     (kept_limits (length (file_bytes after)) (length after.hdus) (omega (arith, short, new_length hdus tail h (new_image kind axes))) (omega (arith, few, new_count hdus tail h axes (new_image kind axes) p)))
 
 -- a new image that is put in owes this
-pub new_made : {X : Type 0} (hdus : List HduState) (tail : List ℕ) (h : ℕ) (x : X) (kind : Kind) (axes : List ℕ) (new : HduState) → IsPlaced (length hdus) h axes → image_sized hdus tail h kind axes ≡ None → new.hdu ≡ new_image kind axes → new.reads ≤ open_reads new.hdu.header.cards → IsMade (block_count new.hdu.data_unit) new.pixel_work
+pub new_made : {X : Type 0} (hdus : List HduState) (tail : List ℕ) (h : ℕ) (x : X) (kind : Kind) (axes : List ℕ) (new : HduState) → IsPlaced (length hdus) h axes → image_sized hdus tail h kind axes ≡ None → parts_of new ≡ new_image kind axes → new.header.reads ≤ open_reads new.header.header.cards → IsMade (block_count new.plane.bytes) (plane_work new.plane)
     → EditsTo {X = X} (NewImage h kind axes) (state_of hdus tail) (state_of (insert hdus (h - 1) new) tail) (Ok x)
 unfolding refusal_of file_after
 new_made hdus tail h x kind axes new p fits is reads made = record {
@@ -321,14 +321,14 @@ new_made hdus tail h x kind axes new p fits is reads made = record {
 }
 
 -- it leaves a file
-pub new_left : (hdus : List HduState) (tail : List ℕ) (h : ℕ) (kind : Kind) (axes : List ℕ) (new : HduState) → IsFile (file_of (state_of hdus tail)) → IsPlaced (length hdus) h axes → image_sized hdus tail h kind axes ≡ None → new.hdu ≡ new_image kind axes
+pub new_left : (hdus : List HduState) (tail : List ℕ) (h : ℕ) (kind : Kind) (axes : List ℕ) (new : HduState) → IsFile (file_of (state_of hdus tail)) → IsPlaced (length hdus) h axes → image_sized hdus tail h kind axes ≡ None → parts_of new ≡ new_image kind axes
     → IsFile (file_of (state_of (insert hdus (h - 1) new) tail))
 new_left hdus tail h kind axes new file p fits is =
     subst (λ (f : FileParts). IsFile f) (sym (file_of-inserted hdus tail h new (new_image kind axes) is))
     (inserted_is_a_file (file_bytes (file_of (state_of hdus tail))) (file_of (state_of hdus tail)) h (new_image kind axes) file (placed_at (length hdus) h axes p).0 (new_is_hdu kind axes p.shaped) fits)
 
 -- of so many bytes
-pub new_size : (hdus : List HduState) (tail : List ℕ) (h : ℕ) (hdu : HduParts) (new : HduState) → new.hdu ≡ hdu → length (file_bytes (file_of (state_of (insert hdus (h - 1) new) tail))) ≡ length (file_bytes (file_of (state_of hdus tail))) + length (hdu_bytes hdu)
+pub new_size : (hdus : List HduState) (tail : List ℕ) (h : ℕ) (hdu : HduParts) (new : HduState) → parts_of new ≡ hdu → length (file_bytes (file_of (state_of (insert hdus (h - 1) new) tail))) ≡ length (file_bytes (file_of (state_of hdus tail))) + length (hdu_bytes hdu)
 new_size hdus tail h hdu new is = ap (λ (f : FileParts). length (file_bytes f)) (file_of-inserted hdus tail h new hdu is) ∙ new_length hdus tail h hdu
 
 -- an HDU that isn't there doesn't go
@@ -370,14 +370,14 @@ removes hdus tail h i x old at behind =
 pub removed_left : (hdus : List HduState) (tail : List ℕ) (h i : ℕ) (old : HduState) → IsFile (file_of (state_of hdus tail)) → IsHduAt hdus h i old → 0 < i → IsFile (file_of (state_of (remove hdus i) tail))
 removed_left hdus tail h i old file at behind =
     subst (λ (f : FileParts). IsFile f) (sym (file_of-left hdus tail h i at.index.at))
-    (removed_is_a_file (file_bytes (file_of (state_of hdus tail))) (file_of (state_of hdus tail)) h old.hdu file (hdu_of-there hdus tail h i old at) (goes h i at.index.at behind))
+    (removed_is_a_file (file_bytes (file_of (state_of hdus tail))) (file_of (state_of hdus tail)) h (parts_of old) file (hdu_of-there hdus tail h i old at) (goes h i at.index.at behind))
 
 -- of so many bytes
-pub removed_size : (hdus : List HduState) (tail : List ℕ) (h i : ℕ) (old : HduState) → IsHduAt hdus h i old → length (file_bytes (file_of (state_of (remove hdus i) tail))) + length (hdu_bytes old.hdu) ≡ length (file_bytes (file_of (state_of hdus tail)))
+pub removed_size : (hdus : List HduState) (tail : List ℕ) (h i : ℕ) (old : HduState) → IsHduAt hdus h i old → length (file_bytes (file_of (state_of (remove hdus i) tail))) + length (hdu_bytes (parts_of old)) ≡ length (file_bytes (file_of (state_of hdus tail)))
 removed_size hdus tail h i old at = omega (
   arith,
   length-append (joined_hdus (hdus_of (remove hdus i))) tail,
   length-append (joined_hdus (hdus_of hdus)) tail,
   ap (λ (us : List HduParts). length (joined_hdus us)) (hdus_of-left hdus i),
-  joined-remove (hdus_of hdus) i old.hdu (slice_get-hdus_of hdus i old at.index.within at.is),
+  joined-remove (hdus_of hdus) i (parts_of old) (slice_get-hdus_of hdus i old at.index.within at.is),
 )

@@ -13,8 +13,9 @@ use Rattle.fits_rules.proofs.SameShapeLemmas.{same_shape-Decides}
 use Rattle.fits_header.specs.Work.{shape_reads}
 use Rattle.fits_hdu.specs.Hdu.{HduParts, hdu_after, hdu_bytes, IsHdu, keeps_shape}
 use Rattle.fits_hdu.specs.Layout.{layout_of}
-use Rattle.fits_hdu.specs.State.{HduState, PixelWork, ReadsUpTo}
-use Rattle.fits_hdu.specs.Work.{apply_reads, FollowsBlank}
+use Rattle.fits_hdu.specs.State.{HduState, ReadsUpTo, parts_of}
+use Rattle.fits_hdu.specs.Work.{FollowsBlank, PixelWork, apply_reads, plane_work}
+use Rattle.fits_hdu.proofs.StateLemmas.{parts_read}
 use Rattle.fits_hdu.proofs.ChangeLemmas.{hdu-changed, inner_after}
 use Rattle.fits_session.specs.CardEdit.{change_of}
 use Rattle.fits_session.specs.HduEdit.{hdu_changed, hdu_made}
@@ -115,11 +116,11 @@ length_cards primary hdu change whole inner =
 
 -- what is refused owes this
 pub makes_not : (made : Result HduParts Refusal) (NeedsMemory : Option Refusal → Type 0) (reads : ℕ) (Works : PixelWork → PixelWork → Type 0) (bytes hdus : ℕ) (old new : HduState) (why : Refusal)
-    → IsHdu (is_primary old.shape.class) old.hdu → new.hdu ≡ old.hdu → old.reads ≤ new.reads → new.reads ≤ old.reads + reads → new.pixel_work ≡ old.pixel_work → Works old.pixel_work old.pixel_work → Fails NeedsMemory (within_refusal bytes hdus old.hdu made) why
+    → IsHdu (is_primary old.header.shape.class) (parts_of old) → parts_of new ≡ parts_of old → old.header.reads ≤ new.header.reads → new.header.reads ≤ old.header.reads + reads → plane_work new.plane ≡ plane_work old.plane → Works (plane_work old.plane) (plane_work old.plane) → Fails NeedsMemory (within_refusal bytes hdus (parts_of old) made) why
     → HduMakes made NeedsMemory reads Works bytes hdus old new (Err why)
 makes_not made NeedsMemory reads Works bytes hdus old new why whole same least most idle none fails = record {
   whole = whole;
-  left = subst (λ (hdu : HduParts). IsHdu (is_primary old.shape.class) hdu) (sym same) whole;
+  left = subst (λ (hdu : HduParts). IsHdu (is_primary old.header.shape.class) hdu) (sym same) whole;
   accepted = tt;
   ok = tt;
   size = tt;
@@ -127,7 +128,7 @@ makes_not made NeedsMemory reads Works bytes hdus old new why whole same least m
   err = same;
   least = least;
   most = most;
-  work = subst (λ (work : PixelWork). Works old.pixel_work work) (sym idle) none;
+  work = subst (λ (work : PixelWork). Works (plane_work old.plane) work) (sym idle) none;
   idle = idle;
 }
 
@@ -153,29 +154,29 @@ blank_none : (primary : Bool) (hdu : HduParts) (made : Result HduParts Refusal) 
 blank_none primary hdu made work = record { same = λ e. refl; any = inl refl }
 
 -- a change of an HDU that is refused owes this
-pub changes_not : (change : Change) (bytes hdus : ℕ) (old new : HduState) (why : Refusal) → IsHdu (is_primary old.shape.class) old.hdu → new.hdu ≡ old.hdu → old.reads ≤ new.reads → new.reads ≤ old.reads + shape_reads old.shape → new.pixel_work ≡ old.pixel_work
-    → Fails CardsNeedMemory (within_refusal bytes hdus old.hdu (hdu_changed (is_primary old.shape.class) old.hdu (Ok change))) why → ChangesTo change bytes hdus old new (Err why)
+pub changes_not : (change : Change) (bytes hdus : ℕ) (old new : HduState) (why : Refusal) → IsHdu (is_primary old.header.shape.class) (parts_of old) → parts_of new ≡ parts_of old → old.header.reads ≤ new.header.reads → new.header.reads ≤ old.header.reads + shape_reads old.header.shape → plane_work new.plane ≡ plane_work old.plane
+    → Fails CardsNeedMemory (within_refusal bytes hdus (parts_of old) (hdu_changed (is_primary old.header.shape.class) (parts_of old) (Ok change))) why → ChangesTo change bytes hdus old new (Err why)
 changes_not change bytes hdus old new why whole same least most idle fails =
-    let made : Result HduParts Refusal = hdu_changed (is_primary old.shape.class) old.hdu (Ok change) in
-    makes_not made CardsNeedMemory (shape_reads old.shape + apply_reads) (BlankWork (is_primary old.shape.class) old.hdu made) bytes hdus old new why whole same least (omega (arith, most)) idle
-    (blank_none (is_primary old.shape.class) old.hdu made old.pixel_work) fails
+    let made : Result HduParts Refusal = hdu_changed (is_primary old.header.shape.class) (parts_of old) (Ok change) in
+    makes_not made CardsNeedMemory (shape_reads old.header.shape + apply_reads) (BlankWork (is_primary old.header.shape.class) (parts_of old) made) bytes hdus old new why whole same least (omega (arith, most)) idle
+    (blank_none (is_primary old.header.shape.class) (parts_of old) made (plane_work old.plane)) fails
 
 -- one that is made owes this
-pub changes_made : (change : Change) (bytes hdus n : ℕ) (old new : HduState) → IsHdu (is_primary old.shape.class) old.hdu → shape_of (is_primary old.shape.class) old.hdu.header.cards ≡ Ok old.shape → All IsInnerCard (new_cards change)
-    → keeps_shape (is_primary old.shape.class) old.hdu.header.cards (cards_after old.hdu.header.cards change) ≡ true → Some n ≡ size_within (length_with bytes old.hdu (hdu_after change old.hdu)) hdus → new.hdu ≡ hdu_after change old.hdu → old.reads ≤ new.reads → new.reads ≤ old.reads + (shape_reads old.shape + apply_reads)
-    → FollowsBlank (layout_of old.shape old.hdu.header.cards).blank (layout_of old.shape (cards_after old.hdu.header.cards change)).blank (block_count old.hdu.data_unit) old.pixel_work new.pixel_work → ChangesTo change bytes hdus old new (Ok n)
+pub changes_made : (change : Change) (bytes hdus n : ℕ) (old new : HduState) → IsHdu (is_primary old.header.shape.class) (parts_of old) → shape_of (is_primary old.header.shape.class) old.header.header.cards ≡ Ok old.header.shape → All IsInnerCard (new_cards change)
+    → keeps_shape (is_primary old.header.shape.class) old.header.header.cards (cards_after old.header.header.cards change) ≡ true → Some n ≡ size_within (length_with bytes (parts_of old) (hdu_after change (parts_of old))) hdus → parts_of new ≡ hdu_after change (parts_of old) → old.header.reads ≤ new.header.reads → new.header.reads ≤ old.header.reads + (shape_reads old.header.shape + apply_reads)
+    → FollowsBlank (layout_of old.header.shape old.header.header.cards).blank (layout_of old.header.shape (cards_after old.header.header.cards change)).blank (block_count old.plane.bytes) (plane_work old.plane) (plane_work new.plane) → ChangesTo change bytes hdus old new (Ok n)
 changes_made change bytes hdus n old new whole described inner kept some is least most follows =
-    let primary : Bool = is_primary old.shape.class in
-    let after : List (List ℕ) = cards_after old.hdu.header.cards change in
-    let made = kept_made primary old.hdu change kept in
-    let there : shape_of primary after ≡ Ok old.shape = (same_shape-Decides old.shape (shape_of primary after)).0 (rw described at kept) in
-    let room = fits (length_with bytes old.hdu (hdu_after change old.hdu)) n hdus some in
+    let primary : Bool = is_primary old.header.shape.class in
+    let after : List (List ℕ) = cards_after old.header.header.cards change in
+    let made = kept_made primary (parts_of old) change kept in
+    let there : shape_of primary after ≡ Ok old.header.shape = (same_shape-Decides old.header.shape (shape_of primary after)).0 (rw described at kept) in
+    let room = fits (length_with bytes (parts_of old) (hdu_after change (parts_of old))) n hdus some in
     record {
       whole = whole;
-      left = subst (λ (hdu : HduParts). IsHdu primary hdu) (sym is) (kept_whole primary old.hdu change whole inner kept);
-      accepted = ap (within_refusal bytes hdus old.hdu) made ∙ room.0;
+      left = subst (λ (hdu : HduParts). IsHdu primary hdu) (sym is) (kept_whole primary (parts_of old) change whole inner kept);
+      accepted = ap (within_refusal bytes hdus (parts_of old)) made ∙ room.0;
       ok = made ∙ ap (λ (hdu : HduParts). let made : Result HduParts Refusal = Ok hdu in made) (sym is);
-      size = room.1 ∙ ap (length_with bytes old.hdu) (sym is);
+      size = room.1 ∙ ap (length_with bytes (parts_of old)) (sym is);
       refused = tt;
       err = tt;
       least = least;
@@ -200,39 +201,39 @@ needs_memory primary bytes hdus hdu (Ok change) p = needs_kept (keeps_shape prim
 needs_memory primary bytes hdus hdu (Err why) p = cc
 
 -- an edit of cards whose change isn't made owes this
-pub cards_unmade : (edit : CardEdit) (bytes hdus : ℕ) (old new : HduState) (why : Refusal) → IsHdu (is_primary old.shape.class) old.hdu → ReadsUpTo old new (own_reads old.hdu.header.cards edit) → ChangeFails (change_of old.hdu.header.cards edit) why → HduEditsTo (Cards edit) bytes hdus old new (Err why)
+pub cards_unmade : (edit : CardEdit) (bytes hdus : ℕ) (old new : HduState) (why : Refusal) → IsHdu (is_primary old.header.shape.class) (parts_of old) → ReadsUpTo old new (own_reads old.header.header.cards edit) → ChangeFails (change_of old.header.header.cards edit) why → HduEditsTo (Cards edit) bytes hdus old new (Err why)
 unfolding hdu_made
 cards_unmade edit bytes hdus old new why whole r fails =
-    let primary : Bool = is_primary old.shape.class in
-    let made : Result HduParts Refusal = hdu_changed primary old.hdu (change_of old.hdu.header.cards edit) in
-    makes_not made CardsNeedMemory (hdu_reads primary (Cards edit) old.hdu) (BlankWork primary old.hdu made) bytes hdus old new why whole r.hdu r.least (omega (arith, r.most)) r.pixel_work (blank_none primary old.hdu made old.pixel_work) (elim fails [
-      | inl e ↦ inl (ap (λ said. within_refusal bytes hdus old.hdu (hdu_changed primary old.hdu said)) e)
-      | inr m ↦ inr (m.0, needs_memory primary bytes hdus old.hdu (change_of old.hdu.header.cards edit) m.1)
+    let primary : Bool = is_primary old.header.shape.class in
+    let made : Result HduParts Refusal = hdu_changed primary (parts_of old) (change_of old.header.header.cards edit) in
+    makes_not made CardsNeedMemory (hdu_reads primary (Cards edit) (parts_of old)) (BlankWork primary (parts_of old) made) bytes hdus old new why whole (parts_read old new _ r) r.header.least (omega (arith, r.header.most)) (ap plane_work r.plane) (blank_none primary (parts_of old) made (plane_work old.plane)) (elim fails [
+      | inl e ↦ inl (ap (λ said. within_refusal bytes hdus (parts_of old) (hdu_changed primary (parts_of old) said)) e)
+      | inr m ↦ inr (m.0, needs_memory primary bytes hdus (parts_of old) (change_of old.header.header.cards edit) m.1)
     ])
 
 -- one whose change is made owes what the change does
-pub cards_made : (edit : CardEdit) (change : Change) (bytes hdus : ℕ) (old left new : HduState) (result : Result ℕ Refusal) → shape_of (is_primary old.shape.class) old.hdu.header.cards ≡ Ok old.shape → ReadsUpTo old left (own_reads old.hdu.header.cards edit)
-    → change_of old.hdu.header.cards edit ≡ Ok change → ChangesTo change bytes hdus left new result → HduEditsTo (Cards edit) bytes hdus old new result
+pub cards_made : (edit : CardEdit) (change : Change) (bytes hdus : ℕ) (old left new : HduState) (result : Result ℕ Refusal) → shape_of (is_primary old.header.shape.class) old.header.header.cards ≡ Ok old.header.shape → ReadsUpTo old left (own_reads old.header.header.cards edit)
+    → change_of old.header.header.cards edit ≡ Ok change → ChangesTo change bytes hdus left new result → HduEditsTo (Cards edit) bytes hdus old new result
 unfolding hdu_made
 cards_made edit change bytes hdus old left new result described r made p =
-    let primary : Bool = is_primary old.shape.class in
-    let there : Result HduParts Refusal = hdu_changed primary old.hdu (Ok change) in
-    let accepted : OnOk result (within_refusal bytes hdus old.hdu there ≡ None) = rw (r.hdu, r.shape) at p.accepted in
-    let ok : OnOk result (there ≡ Ok new.hdu) = rw (r.hdu, r.shape) at p.ok in
-    let refused : IfErr result (Fails CardsNeedMemory (within_refusal bytes hdus old.hdu there)) = rw (r.hdu, r.shape) at p.refused in
-    let most : new.reads ≤ left.reads + (shape_reads old.shape + apply_reads) = rw r.shape at p.most in
-    let reads : hdu_reads primary (Cards edit) old.hdu ≡ own_reads old.hdu.header.cards edit + (shape_reads old.shape + apply_reads) = rw (described, made) refl in
-    let work : BlankWork primary old.hdu there old.pixel_work new.pixel_work = rw (r.hdu, r.shape, r.pixel_work) at p.work in
+    let primary : Bool = is_primary old.header.shape.class in
+    let there : Result HduParts Refusal = hdu_changed primary (parts_of old) (Ok change) in
+    let accepted : OnOk result (within_refusal bytes hdus (parts_of old) there ≡ None) = rw (r.header.header, r.plane, r.header.shape) at p.accepted in
+    let ok : OnOk result (there ≡ Ok (parts_of new)) = rw (r.header.header, r.plane, r.header.shape) at p.ok in
+    let refused : IfErr result (Fails CardsNeedMemory (within_refusal bytes hdus (parts_of old) there)) = rw (r.header.header, r.plane, r.header.shape) at p.refused in
+    let most : new.header.reads ≤ left.header.reads + (shape_reads old.header.shape + apply_reads) = rw r.header.shape at p.most in
+    let reads : hdu_reads primary (Cards edit) (parts_of old) ≡ own_reads old.header.header.cards edit + (shape_reads old.header.shape + apply_reads) = rw (described, made) refl in
+    let work : BlankWork primary (parts_of old) there (plane_work old.plane) (plane_work new.plane) = rw (r.header.header, r.plane, r.header.shape) at p.work in
     record {
-      whole = rw (r.hdu, r.shape) at p.whole;
-      left = rw r.shape at p.left;
+      whole = rw (r.header.header, r.plane, r.header.shape) at p.whole;
+      left = rw r.header.shape at p.left;
       accepted = rw made accepted;
       ok = rw made ok;
-      size = rw r.hdu at p.size;
+      size = rw (r.header.header, r.plane) at p.size;
       refused = rw made refused;
-      err = rw r.hdu at p.err;
-      least = omega (arith, r.least, p.least);
-      most = omega (arith, r.most, most, reads);
+      err = rw (r.header.header, r.plane) at p.err;
+      least = omega (arith, r.header.least, p.least);
+      most = omega (arith, r.header.most, most, reads);
       work = rw made work;
-      idle = rw r.pixel_work at p.idle;
+      idle = rw r.plane at p.idle;
     }

@@ -15,7 +15,7 @@ use Rattle.fits_hdu.specs.ExtensionName.{extension_name, is_same_name}
 use Rattle.fits_hdu.specs.Hdu.{HduParts}
 use Rattle.fits_hdu.specs.declared.extension_name.ExtensionName.{ExtensionName}
 use Rattle.fits_hdu.specs.declared.findings.Findings.{Findings}
-use Rattle.fits_hdu.specs.State.{HduState}
+use Rattle.fits_hdu.specs.State.{HduState, parts_of}
 use Rattle.fits_hdu.proofs.ShapeLemmas.{one_primary}
 use Rattle.fits_session.specs.Edit.{hdu_of}
 use Rattle.fits_session.specs.File.{FileParts, IsFile}
@@ -341,32 +341,32 @@ names_from-append h (u ∷ us) vs =
     ap (λ names. name_in h u ∷ names) (names_from-append (h + 1) us vs ∙ ap (λ n. names_from (h + 1) us ++ names_from n vs) number)
 
 -- what an HDU under edits is called
-pub named_there : (hdus : List HduState) (tail : List ℕ) (i : ℕ) (hdu : HduState) → IsFile (file_of (state_of hdus tail)) → i < length hdus → hdu ≡ get_or hdus i hdu → shape_of (is_primary hdu.shape.class) hdu.hdu.header.cards ≡ Ok hdu.shape
-    → extension_name (is_primary hdu.shape.class) hdu.hdu.header.cards ≡ name_in (i + 1) hdu.hdu
+pub named_there : (hdus : List HduState) (tail : List ℕ) (i : ℕ) (hdu : HduState) → IsFile (file_of (state_of hdus tail)) → i < length hdus → hdu ≡ get_or hdus i hdu → shape_of (is_primary hdu.header.shape.class) hdu.header.header.cards ≡ Ok hdu.header.shape
+    → extension_name (is_primary hdu.header.shape.class) hdu.header.header.cards ≡ name_in (i + 1) (parts_of hdu)
 named_there hdus tail i hdu file l e described =
     let there = whole_there hdus tail (i + 1) i hdu file (record { index = record { at = refl; within = l }; is = e }) in
-    ap (λ b. extension_name b hdu.hdu.header.cards) (one_primary (is_primary hdu.shape.class) (is_primary_hdu (i + 1)) hdu.hdu.header.cards hdu.shape there.shape described there.described)
+    ap (λ b. extension_name b hdu.header.header.cards) (one_primary (is_primary hdu.header.shape.class) (is_primary_hdu (i + 1)) hdu.header.header.cards hdu.header.shape there.shape described there.described)
 
 -- what one more of them is called
-named_more : (hdus : List HduState) (i : ℕ) (hdu : HduState) → i < length hdus → hdu ≡ get_or hdus i hdu → names_from 1 (take (i + 1) (hdus_of hdus)) ≡ names_from 1 (take i (hdus_of hdus)) ++ name_in (i + 1) hdu.hdu ∷ []
+named_more : (hdus : List HduState) (i : ℕ) (hdu : HduState) → i < length hdus → hdu ≡ get_or hdus i hdu → names_from 1 (take (i + 1) (hdus_of hdus)) ≡ names_from 1 (take i (hdus_of hdus)) ++ name_in (i + 1) (parts_of hdu) ∷ []
 named_more hdus i hdu l e =
     let us : List HduParts = hdus_of hdus in
     let number : 1 + length (take i us) ≡ i + 1 = omega (arith, length-take-le i us (omega (arith, l, length-hdus_of hdus))) in
-    ap (names_from 1) (hdus_more hdus i hdu l e) ∙ names_from-append 1 (take i us) (hdu.hdu ∷ []) ∙ ap (λ n. names_from 1 (take i us) ++ name_in n hdu.hdu ∷ []) number
+    ap (names_from 1) (hdus_more hdus i hdu l e) ∙ names_from-append 1 (take i us) ((parts_of hdu) ∷ []) ∙ ap (λ n. names_from 1 (take i us) ++ name_in n (parts_of hdu) ∷ []) number
 
 -- how many are called so, with one HDU more that is
-pub counted_more : (hdus : List HduState) (tail : List ℕ) (i count : ℕ) (hdu : HduState) (name other : ExtensionName) → IsFile (file_of (state_of hdus tail)) → i < length hdus → hdu ≡ get_or hdus i hdu → shape_of (is_primary hdu.shape.class) hdu.hdu.header.cards ≡ Ok hdu.shape
-    → Some other ≡ extension_name (is_primary hdu.shape.class) hdu.hdu.header.cards → is_same_name name other ≡ true → count ≡ called_count name (names_from 1 (take i (hdus_of hdus))) → count + 1 ≡ called_count name (names_from 1 (take (i + 1) (hdus_of hdus)))
+pub counted_more : (hdus : List HduState) (tail : List ℕ) (i count : ℕ) (hdu : HduState) (name other : ExtensionName) → IsFile (file_of (state_of hdus tail)) → i < length hdus → hdu ≡ get_or hdus i hdu → shape_of (is_primary hdu.header.shape.class) hdu.header.header.cards ≡ Ok hdu.header.shape
+    → Some other ≡ extension_name (is_primary hdu.header.shape.class) hdu.header.header.cards → is_same_name name other ≡ true → count ≡ called_count name (names_from 1 (take i (hdus_of hdus))) → count + 1 ≡ called_count name (names_from 1 (take (i + 1) (hdus_of hdus)))
 counted_more hdus tail i count hdu name other file l e described named same so_far =
-    let is : is_called name (name_in (i + 1) hdu.hdu) ≡ true = ap (is_called name) (sym (named ∙ named_there hdus tail i hdu file l e described)) ∙ same in
-    omega (arith, so_far, count_pushed name (names_from 1 (take i (hdus_of hdus))) (name_in (i + 1) hdu.hdu) is, ap (called_count name) (named_more hdus i hdu l e))
+    let is : is_called name (name_in (i + 1) (parts_of hdu)) ≡ true = ap (is_called name) (sym (named ∙ named_there hdus tail i hdu file l e described)) ∙ same in
+    omega (arith, so_far, count_pushed name (names_from 1 (take i (hdus_of hdus))) (name_in (i + 1) (parts_of hdu)) is, ap (called_count name) (named_more hdus i hdu l e))
 
 -- that isn't
-pub counted_other : (hdus : List HduState) (tail : List ℕ) (i count : ℕ) (hdu : HduState) (name : ExtensionName) (said : Option ExtensionName) → IsFile (file_of (state_of hdus tail)) → i < length hdus → hdu ≡ get_or hdus i hdu → shape_of (is_primary hdu.shape.class) hdu.hdu.header.cards ≡ Ok hdu.shape
-    → said ≡ extension_name (is_primary hdu.shape.class) hdu.hdu.header.cards → is_called name said ≡ false → count ≡ called_count name (names_from 1 (take i (hdus_of hdus))) → count ≡ called_count name (names_from 1 (take (i + 1) (hdus_of hdus)))
+pub counted_other : (hdus : List HduState) (tail : List ℕ) (i count : ℕ) (hdu : HduState) (name : ExtensionName) (said : Option ExtensionName) → IsFile (file_of (state_of hdus tail)) → i < length hdus → hdu ≡ get_or hdus i hdu → shape_of (is_primary hdu.header.shape.class) hdu.header.header.cards ≡ Ok hdu.header.shape
+    → said ≡ extension_name (is_primary hdu.header.shape.class) hdu.header.header.cards → is_called name said ≡ false → count ≡ called_count name (names_from 1 (take i (hdus_of hdus))) → count ≡ called_count name (names_from 1 (take (i + 1) (hdus_of hdus)))
 counted_other hdus tail i count hdu name said file l e described named not so_far =
-    let is : is_called name (name_in (i + 1) hdu.hdu) ≡ false = ap (is_called name) (sym (named ∙ named_there hdus tail i hdu file l e described)) ∙ not in
-    so_far ∙ sym (count_kept name (names_from 1 (take i (hdus_of hdus))) (name_in (i + 1) hdu.hdu) is) ∙ sym (ap (called_count name) (named_more hdus i hdu l e))
+    let is : is_called name (name_in (i + 1) (parts_of hdu)) ≡ false = ap (is_called name) (sym (named ∙ named_there hdus tail i hdu file l e described)) ∙ not in
+    so_far ∙ sym (count_kept name (names_from 1 (take i (hdus_of hdus))) (name_in (i + 1) (parts_of hdu)) is) ∙ sym (ap (called_count name) (named_more hdus i hdu l e))
 
 -- one HDU stands at an index
 one_there : (hdus : List HduState) (i : ℕ) (hdu seen : HduState) → i < length hdus → hdu ≡ get_or hdus i hdu → seen ≡ get_or hdus i seen → seen ≡ hdu
@@ -375,19 +375,19 @@ one_there hdus i hdu seen l e f =
     cc
 
 -- what it is called
-called_there : (hdus : List HduState) (tail : List ℕ) (i : ℕ) (hdu seen : HduState) (said : Option ExtensionName) → IsFile (file_of (state_of hdus tail)) → i < length hdus → hdu ≡ get_or hdus i hdu → seen ≡ get_or hdus i seen → shape_of (is_primary seen.shape.class) seen.hdu.header.cards ≡ Ok seen.shape
-    → said ≡ extension_name (is_primary seen.shape.class) seen.hdu.header.cards → said ≡ name_in (i + 1) hdu.hdu
+called_there : (hdus : List HduState) (tail : List ℕ) (i : ℕ) (hdu seen : HduState) (said : Option ExtensionName) → IsFile (file_of (state_of hdus tail)) → i < length hdus → hdu ≡ get_or hdus i hdu → seen ≡ get_or hdus i seen → shape_of (is_primary seen.header.shape.class) seen.header.header.cards ≡ Ok seen.header.shape
+    → said ≡ extension_name (is_primary seen.header.shape.class) seen.header.header.cards → said ≡ name_in (i + 1) (parts_of hdu)
 called_there hdus tail i hdu seen said file l e f described named =
-    named ∙ named_there hdus tail i seen file l f described ∙ ap (λ (it : HduState). name_in (i + 1) it.hdu) (one_there hdus i hdu seen l e f)
+    named ∙ named_there hdus tail i seen file l f described ∙ ap (λ (it : HduState). name_in (i + 1) (parts_of it)) (one_there hdus i hdu seen l e f)
 
 -- its name is repeated where two have it
-pub repeated_there : (hdus : List HduState) (tail : List ℕ) (i : ℕ) (hdu seen : HduState) (name : ExtensionName) (count : ℕ) → IsFile (file_of (state_of hdus tail)) → i < length hdus → hdu ≡ get_or hdus i hdu → seen ≡ get_or hdus i seen → shape_of (is_primary seen.shape.class) seen.hdu.header.cards ≡ Ok seen.shape
-    → Some name ≡ extension_name (is_primary seen.shape.class) seen.hdu.header.cards → count ≡ called_count name (names_from 1 (hdus_of hdus)) → nat_le 2 count ≡ is_repeated (names_from 1 (hdus_of hdus)) (name_in (i + 1) hdu.hdu)
+pub repeated_there : (hdus : List HduState) (tail : List ℕ) (i : ℕ) (hdu seen : HduState) (name : ExtensionName) (count : ℕ) → IsFile (file_of (state_of hdus tail)) → i < length hdus → hdu ≡ get_or hdus i hdu → seen ≡ get_or hdus i seen → shape_of (is_primary seen.header.shape.class) seen.header.header.cards ≡ Ok seen.header.shape
+    → Some name ≡ extension_name (is_primary seen.header.shape.class) seen.header.header.cards → count ≡ called_count name (names_from 1 (hdus_of hdus)) → nat_le 2 count ≡ is_repeated (names_from 1 (hdus_of hdus)) (name_in (i + 1) (parts_of hdu))
 repeated_there hdus tail i hdu seen name count file l e f described named is =
     count_repeated (names_from 1 (hdus_of hdus)) name count is ∙ ap (is_repeated (names_from 1 (hdus_of hdus))) (called_there hdus tail i hdu seen (Some name) file l e f described named)
 
 -- and isn't where it has none
-pub unrepeated_there : (hdus : List HduState) (tail : List ℕ) (i : ℕ) (hdu seen : HduState) → IsFile (file_of (state_of hdus tail)) → i < length hdus → hdu ≡ get_or hdus i hdu → seen ≡ get_or hdus i seen → shape_of (is_primary seen.shape.class) seen.hdu.header.cards ≡ Ok seen.shape
-    → None ≡ extension_name (is_primary seen.shape.class) seen.hdu.header.cards → false ≡ is_repeated (names_from 1 (hdus_of hdus)) (name_in (i + 1) hdu.hdu)
+pub unrepeated_there : (hdus : List HduState) (tail : List ℕ) (i : ℕ) (hdu seen : HduState) → IsFile (file_of (state_of hdus tail)) → i < length hdus → hdu ≡ get_or hdus i hdu → seen ≡ get_or hdus i seen → shape_of (is_primary seen.header.shape.class) seen.header.header.cards ≡ Ok seen.header.shape
+    → None ≡ extension_name (is_primary seen.header.shape.class) seen.header.header.cards → false ≡ is_repeated (names_from 1 (hdus_of hdus)) (name_in (i + 1) (parts_of hdu))
 unrepeated_there hdus tail i hdu seen file l e f described named =
     none_repeated (names_from 1 (hdus_of hdus)) ∙ ap (is_repeated (names_from 1 (hdus_of hdus))) (called_there hdus tail i hdu seen None file l e f described named)

@@ -10,8 +10,8 @@ use Rattle.fits_rules.specs.Shape.{shape_of}
 use Rattle.fits_rules.specs.declared.array_shape.Shape.{Shape}
 use Rattle.fits_hdu.specs.Hdu.{HduParts, hdu_bytes, IsHdu}
 use Rattle.fits_hdu.specs.Layout.{layout_of}
-use Rattle.fits_hdu.specs.State.{HduState, PixelWork}
-use Rattle.fits_hdu.specs.Work.{IsPatched}
+use Rattle.fits_hdu.specs.State.{HduState, parts_of}
+use Rattle.fits_hdu.specs.Work.{IsPatched, PixelWork, plane_work}
 use Rattle.fits_hdu.specs.declared.pixel_fault.PixelFault.{PixelFault}
 use Rattle.fits_hdu.specs.Pixels.{painted}
 use Rattle.fits_hdu.proofs.PixelLemmas.{painted_hdu}
@@ -47,37 +47,37 @@ patches_none (Ok shape) lo hi hdu work = record {
 patches_none (Err place) lo hi hdu work = refl
 
 -- an edit of pixels that is refused owes this
-pub paints_not : (lo hi : List ℕ) (paint : Paint) (bytes hdus : ℕ) (old new : HduState) (why : PixelFault) → IsHdu (is_primary old.shape.class) old.hdu → shape_of (is_primary old.shape.class) old.hdu.header.cards ≡ Ok old.shape
-    → painted old.shape lo hi (plane_paint paint) old.hdu ≡ Err why → new ≡ old → HduEditsTo (Pixels lo hi paint) bytes hdus old new (Err (refusal_of_pixels why))
+pub paints_not : (lo hi : List ℕ) (paint : Paint) (bytes hdus : ℕ) (old new : HduState) (why : PixelFault) → IsHdu (is_primary old.header.shape.class) (parts_of old) → shape_of (is_primary old.header.shape.class) old.header.header.cards ≡ Ok old.header.shape
+    → painted old.header.shape lo hi (plane_paint paint) (parts_of old) ≡ Err why → new ≡ old → HduEditsTo (Pixels lo hi paint) bytes hdus old new (Err (refusal_of_pixels why))
 unfolding hdu_made
 paints_not lo hi paint bytes hdus old new why whole described is same =
-    let primary : Bool = is_primary old.shape.class in
-    let reads : new.reads ≡ old.reads = ap (λ (state : HduState). state.reads) same in
-    makes_not (hdu_painted primary lo hi paint old.hdu) (HduNeedsMemory (Pixels lo hi paint)) 0 (HduWork primary (Pixels lo hi paint) old.hdu) bytes hdus old new (refusal_of_pixels why) whole (ap (λ (state : HduState). state.hdu) same) (omega (arith, reads)) (omega (arith, reads))
-    (ap (λ (state : HduState). state.pixel_work) same)
-    (patches_none (shape_of primary old.hdu.header.cards) lo hi old.hdu old.pixel_work)
-    (inl (ap (within_refusal bytes hdus old.hdu) (made_by primary old.shape old.hdu lo hi paint (Err why) described is)))
+    let primary : Bool = is_primary old.header.shape.class in
+    let reads : new.header.reads ≡ old.header.reads = ap (λ (state : HduState). state.header.reads) same in
+    makes_not (hdu_painted primary lo hi paint (parts_of old)) (HduNeedsMemory (Pixels lo hi paint)) 0 (HduWork primary (Pixels lo hi paint) (parts_of old)) bytes hdus old new (refusal_of_pixels why) whole (ap parts_of same) (omega (arith, reads)) (omega (arith, reads))
+    (ap (λ (state : HduState). plane_work state.plane) same)
+    (patches_none (shape_of primary old.header.header.cards) lo hi (parts_of old) (plane_work old.plane))
+    (inl (ap (within_refusal bytes hdus (parts_of old)) (made_by primary old.header.shape (parts_of old) lo hi paint (Err why) described is)))
 
 -- one that is made owes this
-pub paints : (lo hi : List ℕ) (paint : Paint) (bytes hdus : ℕ) (old new : HduState) → IsHdu (is_primary old.shape.class) old.hdu → shape_of (is_primary old.shape.class) old.hdu.header.cards ≡ Ok old.shape → length (hdu_bytes old.hdu) ≤ bytes → is_within_limits bytes hdus ≡ true
-    → painted old.shape lo hi (plane_paint paint) old.hdu ≡ Ok new.hdu → new.reads ≡ old.reads → IsPatched (rectangle_blocks (layout_of old.shape old.hdu.header.cards) old.hdu.data_unit old.shape.axes lo hi) (block_count old.hdu.data_unit) old.pixel_work new.pixel_work
+pub paints : (lo hi : List ℕ) (paint : Paint) (bytes hdus : ℕ) (old new : HduState) → IsHdu (is_primary old.header.shape.class) (parts_of old) → shape_of (is_primary old.header.shape.class) old.header.header.cards ≡ Ok old.header.shape → length (hdu_bytes (parts_of old)) ≤ bytes → is_within_limits bytes hdus ≡ true
+    → painted old.header.shape lo hi (plane_paint paint) (parts_of old) ≡ Ok (parts_of new) → new.header.reads ≡ old.header.reads → IsPatched (rectangle_blocks (layout_of old.header.shape old.header.header.cards) old.plane.bytes old.header.shape.axes lo hi) (block_count old.plane.bytes) (plane_work old.plane) (plane_work new.plane)
     → HduEditsTo (Pixels lo hi paint) bytes hdus old new (Ok bytes)
 unfolding hdu_made
 paints lo hi paint bytes hdus old new whole described part within is reads patched =
-    let primary : Bool = is_primary old.shape.class in
-    let change = painted_hdu primary old.shape old.hdu lo hi (plane_paint paint) new.hdu whole described is in
-    let made : hdu_painted primary lo hi paint old.hdu ≡ Ok new.hdu = made_by primary old.shape old.hdu lo hi paint (Ok new.hdu) described is in
-    let long : bytes ≡ length_with bytes old.hdu new.hdu = omega (arith, part, pixels_long old.hdu new.hdu change.1 change.2) in
+    let primary : Bool = is_primary old.header.shape.class in
+    let change = painted_hdu primary old.header.shape (parts_of old) lo hi (plane_paint paint) (parts_of new) whole described is in
+    let made : hdu_painted primary lo hi paint (parts_of old) ≡ Ok (parts_of new) = made_by primary old.header.shape (parts_of old) lo hi paint (Ok (parts_of new)) described is in
+    let long : bytes ≡ length_with bytes (parts_of old) (parts_of new) = omega (arith, part, pixels_long (parts_of old) (parts_of new) change.1 change.2) in
     record {
       whole = whole;
       left = change.0;
-      accepted = ap (within_refusal bytes hdus old.hdu) made ∙ ap (λ n. limit_refusal n hdus) (sym long) ∙ rw within refl;
+      accepted = ap (within_refusal bytes hdus (parts_of old)) made ∙ ap (λ n. limit_refusal n hdus) (sym long) ∙ rw within refl;
       ok = made;
       size = long;
       refused = tt;
       err = tt;
       least = omega (arith, reads);
       most = omega (arith, reads);
-      work = patches_by (shape_of primary old.hdu.header.cards) old.shape lo hi old.hdu old.pixel_work new.pixel_work described patched;
+      work = patches_by (shape_of primary old.header.header.cards) old.header.shape lo hi (parts_of old) (plane_work old.plane) (plane_work new.plane) described patched;
       idle = tt;
     }

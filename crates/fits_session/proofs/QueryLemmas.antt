@@ -1,5 +1,5 @@
 -- Steps of queries.
-use Rattle.std.proofs.Common.{◌≡◌, ℕ, List, length, set, refl, ap, sym, ◌∙◌, subst, ℤ, Option, None, Some}
+use Rattle.std.proofs.Common.{◌≡◌, ◌+◌, ℕ, List, length, set, refl, ap, sym, ◌∙◌, subst, ℤ, Option, None, Some}
 use Rattle.std.specs.Prelude.{ok_or, Result, Ok, Err, IsOk}
 use Rattle.fits_value.specs.declared.value.Value.{Value}
 use Rattle.fits_header.specs.Names.{header_names}
@@ -16,8 +16,8 @@ use Rattle.fits_hdu.specs.declared.pixel_fault.PixelFault.{PixelFault}
 use Rattle.fits_hdu.specs.declared.pixel_fault.PixelFault.TheVariants as pixel
 use Rattle.fits_hdu.specs.Pixels.{Stats}
 use Rattle.fits_hdu.specs.declared.verdicts.Verdicts.{Verdicts}
-use Rattle.fits_hdu.specs.State.{HduState, ReadsUpTo}
-use Rattle.fits_hdu.specs.Work.{keyword_reads}
+use Rattle.fits_hdu.specs.State.{HduState, ReadsUpTo, parts_of}
+use Rattle.fits_hdu.specs.Work.{keyword_reads, plane_work}
 use Rattle.fits_hdu.specs.declared.kind.Kind.{Kind}
 use Rattle.fits_hdu.specs.declared.keyword.KeywordFault.{KeywordFault}
 use Rattle.fits_hdu.specs.declared.keyword.KeywordFault.TheVariants as keyword
@@ -33,26 +33,26 @@ use Rattle.fits_session.specs.declared.refusal.Refusal.TheVariants as refusal
 use Rattle.fits_session.proofs.StateLemmas.{IsHduAt, hdu_of-there, described_there, asked, file_of-same, reads_of-same, works_changed}
 
 -- how many cards HDU h has
-pub count_there : (hdus : List HduState) (tail : List ℕ) (h i n : ℕ) (hdu : HduState) → IsHduAt hdus h i hdu → n ≡ length hdu.hdu.header.cards → Path (Result ℕ Refusal) (Ok n) (card_count_in (file_of (state_of hdus tail)) h)
+pub count_there : (hdus : List HduState) (tail : List ℕ) (h i n : ℕ) (hdu : HduState) → IsHduAt hdus h i hdu → n ≡ length hdu.header.header.cards → Path (Result ℕ Refusal) (Ok n) (card_count_in (file_of (state_of hdus tail)) h)
 count_there hdus tail h i n hdu at count = ap Ok count ∙ sym (ap (in_hdu (λ (u : HduParts). Ok (length u.header.cards))) (hdu_of-there hdus tail h i hdu at))
 
 -- its shape
-pub shape_there : (hdus : List HduState) (tail : List ℕ) (h i : ℕ) (hdu : HduState) (shape : Shape) → IsFile (file_of (state_of hdus tail)) → IsHduAt hdus h i hdu → shape_of (is_primary hdu.shape.class) hdu.hdu.header.cards ≡ Ok hdu.shape → shape ≡ hdu.shape
+pub shape_there : (hdus : List HduState) (tail : List ℕ) (h i : ℕ) (hdu : HduState) (shape : Shape) → IsFile (file_of (state_of hdus tail)) → IsHduAt hdus h i hdu → shape_of (is_primary hdu.header.shape.class) hdu.header.header.cards ≡ Ok hdu.header.shape → shape ≡ hdu.header.shape
     → shape_in (file_of (state_of hdus tail)) h ≡ Ok shape
 shape_there hdus tail h i hdu shape p at described is =
     ap (in_hdu (λ (u : HduParts). some_shape (shape_of (is_primary_hdu h) u.header.cards))) (hdu_of-there hdus tail h i hdu at)
     ∙ ap some_shape (described_there hdus tail h i hdu p at described ∙ ap Ok (sym is))
 
 -- what a keyword of HDU h says
-value_there : (hdus : List HduState) (tail : List ℕ) (h i : ℕ) (hdu : HduState) (name : List ℕ) → IsHduAt hdus h i hdu → value_in (file_of (state_of hdus tail)) h name ≡ or_refused (keyword_value hdu.hdu.header.cards name)
+value_there : (hdus : List HduState) (tail : List ℕ) (h i : ℕ) (hdu : HduState) (name : List ℕ) → IsHduAt hdus h i hdu → value_in (file_of (state_of hdus tail)) h name ≡ or_refused (keyword_value hdu.header.header.cards name)
 value_there hdus tail h i hdu name at = ap (in_hdu (λ (u : HduParts). or_refused (keyword_value u.header.cards name))) (hdu_of-there hdus tail h i hdu at)
 
 -- a value
-pub value_ok : (hdus : List HduState) (tail : List ℕ) (h i : ℕ) (hdu : HduState) (name : List ℕ) (said : Value × Option (List ℕ)) → IsHduAt hdus h i hdu → keyword_value hdu.hdu.header.cards name ≡ Ok said → value_in (file_of (state_of hdus tail)) h name ≡ Ok said
+pub value_ok : (hdus : List HduState) (tail : List ℕ) (h i : ℕ) (hdu : HduState) (name : List ℕ) (said : Value × Option (List ℕ)) → IsHduAt hdus h i hdu → keyword_value hdu.header.header.cards name ≡ Ok said → value_in (file_of (state_of hdus tail)) h name ≡ Ok said
 value_ok hdus tail h i hdu name said at says = value_there hdus tail h i hdu name at ∙ ap or_refused says
 
 -- or a fault
-value_err : (hdus : List HduState) (tail : List ℕ) (h i : ℕ) (hdu : HduState) (name : List ℕ) (why : KeywordFault) → IsHduAt hdus h i hdu → keyword_value hdu.hdu.header.cards name ≡ Err why → value_in (file_of (state_of hdus tail)) h name ≡ Err (refusal_of_keyword why)
+value_err : (hdus : List HduState) (tail : List ℕ) (h i : ℕ) (hdu : HduState) (name : List ℕ) (why : KeywordFault) → IsHduAt hdus h i hdu → keyword_value hdu.header.header.cards name ≡ Err why → value_in (file_of (state_of hdus tail)) h name ≡ Err (refusal_of_keyword why)
 value_err hdus tail h i hdu name why at says = value_there hdus tail h i hdu name at ∙ ap or_refused says
 
 -- out of memory only where there is a value
@@ -61,21 +61,21 @@ says_something (Ok said) p = refl
 says_something (Err why) p = cc
 
 -- so a keyword's fault is the query's
-pub value_fails : (hdus : List HduState) (tail : List ℕ) (h i : ℕ) (hdu : HduState) (name : List ℕ) (why : KeywordFault) → IsHduAt hdus h i hdu → KeywordFails hdu.hdu.header.cards name why → QueryFails (value_in (file_of (state_of hdus tail)) h name) (refusal_of_keyword why)
+pub value_fails : (hdus : List HduState) (tail : List ℕ) (h i : ℕ) (hdu : HduState) (name : List ℕ) (why : KeywordFault) → IsHduAt hdus h i hdu → KeywordFails hdu.header.header.cards name why → QueryFails (value_in (file_of (state_of hdus tail)) h name) (refusal_of_keyword why)
 value_fails hdus tail h i hdu name keyword.NoKey at p = value_err hdus tail h i hdu name keyword.NoKey at p
 value_fails hdus tail h i hdu name keyword.BadValue at p = value_err hdus tail h i hdu name keyword.BadValue at p
-value_fails hdus tail h i hdu name keyword.Memory at p = rw (value_there hdus tail h i hdu name at) (says_something (keyword_value hdu.hdu.header.cards name) p)
+value_fails hdus tail h i hdu name keyword.Memory at p = rw (value_there hdus tail h i hdu name at) (says_something (keyword_value hdu.header.header.cards name) p)
 
 -- what a query that HDU h answers says
-answer_there : {X : Type 0} (answer : HduParts → Result X Refusal) (hdus : List HduState) (tail : List ℕ) (h i : ℕ) (hdu : HduState) → IsHduAt hdus h i hdu → in_hdu answer (hdu_of (file_of (state_of hdus tail)) h) ≡ answer hdu.hdu
+answer_there : {X : Type 0} (answer : HduParts → Result X Refusal) (hdus : List HduState) (tail : List ℕ) (h i : ℕ) (hdu : HduState) → IsHduAt hdus h i hdu → in_hdu answer (hdu_of (file_of (state_of hdus tail)) h) ≡ answer (parts_of hdu)
 answer_there answer hdus tail h i hdu at = ap (in_hdu answer) (hdu_of-there hdus tail h i hdu at)
 
 -- what it answers by the shape that its cards describe
-shaped_there : {X : Type 0} (answer : Shape → HduParts → Result X PixelFault) (hdus : List HduState) (tail : List ℕ) (h i : ℕ) (hdu : HduState) → IsFile (file_of (state_of hdus tail)) → IsHduAt hdus h i hdu → shape_of (is_primary hdu.shape.class) hdu.hdu.header.cards ≡ Ok hdu.shape
-    → in_hdu (by_shape (is_primary_hdu h) answer) (hdu_of (file_of (state_of hdus tail)) h) ≡ pixels_made (answer hdu.shape hdu.hdu)
+shaped_there : {X : Type 0} (answer : Shape → HduParts → Result X PixelFault) (hdus : List HduState) (tail : List ℕ) (h i : ℕ) (hdu : HduState) → IsFile (file_of (state_of hdus tail)) → IsHduAt hdus h i hdu → shape_of (is_primary hdu.header.shape.class) hdu.header.header.cards ≡ Ok hdu.header.shape
+    → in_hdu (by_shape (is_primary_hdu h) answer) (hdu_of (file_of (state_of hdus tail)) h) ≡ pixels_made (answer hdu.header.shape (parts_of hdu))
 shaped_there answer hdus tail h i hdu p at described =
     answer_there (by_shape (is_primary_hdu h) answer) hdus tail h i hdu at
-    ∙ ap (λ said. shaped said (λ shape. answer shape hdu.hdu)) (described_there hdus tail h i hdu p at described)
+    ∙ ap (λ said. shaped said (λ shape. answer shape (parts_of hdu))) (described_there hdus tail h i hdu p at described)
 
 -- an answer of an image, or that it is none
 image_or : {X : Type 0} (answer : Option X) → pixels_made (ok_or answer pixel.NotImage) ≡ ok_or answer refusal.NotImage
@@ -83,36 +83,36 @@ image_or None = refl
 image_or (Some answer) = refl
 
 -- what HDU h answers where it is an image
-image_there : {X : Type 0} (answer : Shape → HduParts → Option X) (hdus : List HduState) (tail : List ℕ) (h i : ℕ) (hdu : HduState) (found : Option X) → IsFile (file_of (state_of hdus tail)) → IsHduAt hdus h i hdu → shape_of (is_primary hdu.shape.class) hdu.hdu.header.cards ≡ Ok hdu.shape → found ≡ answer hdu.shape hdu.hdu
+image_there : {X : Type 0} (answer : Shape → HduParts → Option X) (hdus : List HduState) (tail : List ℕ) (h i : ℕ) (hdu : HduState) (found : Option X) → IsFile (file_of (state_of hdus tail)) → IsHduAt hdus h i hdu → shape_of (is_primary hdu.header.shape.class) hdu.header.header.cards ≡ Ok hdu.header.shape → found ≡ answer hdu.header.shape (parts_of hdu)
     → ok_or found refusal.NotImage ≡ in_hdu (by_shape (is_primary_hdu h) (λ shape it. ok_or (answer shape it) pixel.NotImage)) (hdu_of (file_of (state_of hdus tail)) h)
 image_there answer hdus tail h i hdu found p at described is =
     ap (λ one. ok_or one refusal.NotImage) is
-    ∙ sym (shaped_there (λ shape it. ok_or (answer shape it) pixel.NotImage) hdus tail h i hdu p at described ∙ image_or (answer hdu.shape hdu.hdu))
+    ∙ sym (shaped_there (λ shape it. ok_or (answer shape it) pixel.NotImage) hdus tail h i hdu p at described ∙ image_or (answer hdu.header.shape (parts_of hdu)))
 
 -- its kind
-pub kind_there : (hdus : List HduState) (tail : List ℕ) (h i : ℕ) (hdu : HduState) (kind : Option Kind) → IsFile (file_of (state_of hdus tail)) → IsHduAt hdus h i hdu → shape_of (is_primary hdu.shape.class) hdu.hdu.header.cards ≡ Ok hdu.shape → kind ≡ hdu_kind hdu.shape hdu.hdu.header.cards
+pub kind_there : (hdus : List HduState) (tail : List ℕ) (h i : ℕ) (hdu : HduState) (kind : Option Kind) → IsFile (file_of (state_of hdus tail)) → IsHduAt hdus h i hdu → shape_of (is_primary hdu.header.shape.class) hdu.header.header.cards ≡ Ok hdu.header.shape → kind ≡ hdu_kind hdu.header.shape hdu.header.header.cards
     → ok_or kind refusal.NotImage ≡ kind_in (file_of (state_of hdus tail)) h
 kind_there hdus tail h i hdu kind p at described is = image_there (λ shape it. hdu_kind shape it.header.cards) hdus tail h i hdu kind p at described is
 
 -- its statistics
-pub stats_there : (hdus : List HduState) (tail : List ℕ) (h i : ℕ) (hdu : HduState) (stats : Option Stats) → IsFile (file_of (state_of hdus tail)) → IsHduAt hdus h i hdu → shape_of (is_primary hdu.shape.class) hdu.hdu.header.cards ≡ Ok hdu.shape → stats ≡ stats_of hdu.shape hdu.hdu
+pub stats_there : (hdus : List HduState) (tail : List ℕ) (h i : ℕ) (hdu : HduState) (stats : Option Stats) → IsFile (file_of (state_of hdus tail)) → IsHduAt hdus h i hdu → shape_of (is_primary hdu.header.shape.class) hdu.header.header.cards ≡ Ok hdu.header.shape → stats ≡ stats_of hdu.header.shape (parts_of hdu)
     → ok_or stats refusal.NotImage ≡ stats_in (file_of (state_of hdus tail)) h
 stats_there hdus tail h i hdu stats p at described is = image_there stats_of hdus tail h i hdu stats p at described is
 
 -- its sum
-pub datasum_there : (hdus : List HduState) (tail : List ℕ) (h i n : ℕ) (hdu : HduState) → IsHduAt hdus h i hdu → n ≡ data_sum hdu.hdu → Path (Result ℕ Refusal) (Ok n) (datasum_in (file_of (state_of hdus tail)) h)
+pub datasum_there : (hdus : List HduState) (tail : List ℕ) (h i n : ℕ) (hdu : HduState) → IsHduAt hdus h i hdu → n ≡ data_sum (parts_of hdu) → Path (Result ℕ Refusal) (Ok n) (datasum_in (file_of (state_of hdus tail)) h)
 datasum_there hdus tail h i n hdu at is = ap Ok is ∙ sym (answer_there (λ (u : HduParts). Ok (data_sum u)) hdus tail h i hdu at)
 
 -- its verdicts
-pub verdicts_there : (hdus : List HduState) (tail : List ℕ) (h i : ℕ) (hdu : HduState) (verdicts : Verdicts) → IsHduAt hdus h i hdu → verdicts ≡ verdicts_of hdu.hdu → Path (Result Verdicts Refusal) (Ok verdicts) (verdicts_in (file_of (state_of hdus tail)) h)
+pub verdicts_there : (hdus : List HduState) (tail : List ℕ) (h i : ℕ) (hdu : HduState) (verdicts : Verdicts) → IsHduAt hdus h i hdu → verdicts ≡ verdicts_of (parts_of hdu) → Path (Result Verdicts Refusal) (Ok verdicts) (verdicts_in (file_of (state_of hdus tail)) h)
 verdicts_there hdus tail h i hdu verdicts at is = ap Ok is ∙ sym (answer_there (λ (u : HduParts). Ok (verdicts_of u)) hdus tail h i hdu at)
 
 -- the values of a rectangle of it
-rect_there : (hdus : List HduState) (tail : List ℕ) (h i : ℕ) (hdu : HduState) (lo hi : List ℕ) → IsFile (file_of (state_of hdus tail)) → IsHduAt hdus h i hdu → shape_of (is_primary hdu.shape.class) hdu.hdu.header.cards ≡ Ok hdu.shape → rect_in (file_of (state_of hdus tail)) h lo hi ≡ pixels_made (rect_of hdu.shape lo hi hdu.hdu)
+rect_there : (hdus : List HduState) (tail : List ℕ) (h i : ℕ) (hdu : HduState) (lo hi : List ℕ) → IsFile (file_of (state_of hdus tail)) → IsHduAt hdus h i hdu → shape_of (is_primary hdu.header.shape.class) hdu.header.header.cards ≡ Ok hdu.header.shape → rect_in (file_of (state_of hdus tail)) h lo hi ≡ pixels_made (rect_of hdu.header.shape lo hi (parts_of hdu))
 rect_there hdus tail h i hdu lo hi p at described = shaped_there (λ shape it. rect_of shape lo hi it) hdus tail h i hdu p at described
 
 -- are these
-pub rect_ok : (hdus : List HduState) (tail : List ℕ) (h i : ℕ) (hdu : HduState) (lo hi : List ℕ) (values : List ℤ) → IsFile (file_of (state_of hdus tail)) → IsHduAt hdus h i hdu → shape_of (is_primary hdu.shape.class) hdu.hdu.header.cards ≡ Ok hdu.shape → rect_of hdu.shape lo hi hdu.hdu ≡ Ok values
+pub rect_ok : (hdus : List HduState) (tail : List ℕ) (h i : ℕ) (hdu : HduState) (lo hi : List ℕ) (values : List ℤ) → IsFile (file_of (state_of hdus tail)) → IsHduAt hdus h i hdu → shape_of (is_primary hdu.header.shape.class) hdu.header.header.cards ≡ Ok hdu.header.shape → rect_of hdu.header.shape lo hi (parts_of hdu) ≡ Ok values
     → rect_in (file_of (state_of hdus tail)) h lo hi ≡ Ok values
 rect_ok hdus tail h i hdu lo hi values p at described is = rect_there hdus tail h i hdu lo hi p at described ∙ ap pixels_made is
 
@@ -130,40 +130,40 @@ rect_fault answer pixel.OutOfRange p = ap pixels_made p
 rect_fault answer pixel.Memory p = rect_something answer p
 
 -- of HDU h
-pub rect_fails : (hdus : List HduState) (tail : List ℕ) (h i : ℕ) (hdu : HduState) (lo hi : List ℕ) (why : PixelFault) → IsFile (file_of (state_of hdus tail)) → IsHduAt hdus h i hdu → shape_of (is_primary hdu.shape.class) hdu.hdu.header.cards ≡ Ok hdu.shape → RectFails (rect_of hdu.shape lo hi hdu.hdu) why
+pub rect_fails : (hdus : List HduState) (tail : List ℕ) (h i : ℕ) (hdu : HduState) (lo hi : List ℕ) (why : PixelFault) → IsFile (file_of (state_of hdus tail)) → IsHduAt hdus h i hdu → shape_of (is_primary hdu.header.shape.class) hdu.header.header.cards ≡ Ok hdu.header.shape → RectFails (rect_of hdu.header.shape lo hi (parts_of hdu)) why
     → QueryFails (rect_in (file_of (state_of hdus tail)) h lo hi) (refusal_of_pixels why)
-rect_fails hdus tail h i hdu lo hi why p at described fails = rw (rect_there hdus tail h i hdu lo hi p at described) (rect_fault (rect_of hdu.shape lo hi hdu.hdu) why fails)
+rect_fails hdus tail h i hdu lo hi why p at described fails = rw (rect_there hdus tail h i hdu lo hi p at described) (rect_fault (rect_of hdu.header.shape lo hi (parts_of hdu)) why fails)
 
 -- an HDU of which so many pixels were read
 abbrev pub pixels_read : ℕ → HduState → HduState
-pixels_read count state = record state { pixel_work = read_more count state.pixel_work }
+pixels_read count state = record state { plane = record state.plane { reads = state.plane.reads + count } }
 
 -- what the query of a rectangle reads
 pub rect_asks : (hdus : List HduState) (tail : List ℕ) (h i count : ℕ) (old new : HduState) → IsHduAt hdus h i old → new ≡ pixels_read count old → AsksPixels h count (state_of hdus tail) (state_of (set hdus i new) tail)
 rect_asks hdus tail h i count old new at is = record {
-  file = file_of-same hdus tail h i old new at (ap (λ (state : HduState). state.hdu) is);
-  work = reads_of-same hdus i old new at.index.within at.is (ap (λ (state : HduState). state.reads) is);
-  pixel_work = works_changed hdus h i old new (read_more count) at (ap (λ (state : HduState). state.pixel_work) is);
+  file = file_of-same hdus tail h i old new at (ap parts_of is);
+  work = reads_of-same hdus i old new at.index.within at.is (ap (λ (state : HduState). state.header.reads) is);
+  pixel_work = works_changed hdus h i old new (read_more count) at (ap (λ (state : HduState). plane_work state.plane) is);
 }
 
 -- the places of a name
-pub places_there : (hdus : List HduState) (tail : List ℕ) (h i : ℕ) (hdu : HduState) (name places : List ℕ) → IsHduAt hdus h i hdu → places ≡ keyword_places hdu.hdu.header.cards name → positions_in (file_of (state_of hdus tail)) h name ≡ Ok places
+pub places_there : (hdus : List HduState) (tail : List ℕ) (h i : ℕ) (hdu : HduState) (name places : List ℕ) → IsHduAt hdus h i hdu → places ≡ keyword_places hdu.header.header.cards name → positions_in (file_of (state_of hdus tail)) h name ≡ Ok places
 places_there hdus tail h i hdu name places at is = answer_there (λ (u : HduParts). Ok (keyword_places u.header.cards name)) hdus tail h i hdu at ∙ ap Ok (sym is)
 
 -- they are refused for memory alone
 pub no_places : (hdus : List HduState) (tail : List ℕ) (h i : ℕ) (hdu : HduState) (name : List ℕ) → IsHduAt hdus h i hdu → QueryFails (positions_in (file_of (state_of hdus tail)) h name) refusal.Memory
-no_places hdus tail h i hdu name at = rw (places_there hdus tail h i hdu name (keyword_places hdu.hdu.header.cards name) at refl) refl
+no_places hdus tail h i hdu name at = rw (places_there hdus tail h i hdu name (keyword_places hdu.header.header.cards name) at refl) refl
 
 -- the names of a header
-pub names_there : (hdus : List HduState) (tail : List ℕ) (h i : ℕ) (hdu : HduState) (names : List (List ℕ)) → IsHduAt hdus h i hdu → names ≡ header_names hdu.hdu.header.cards → names_in (file_of (state_of hdus tail)) h ≡ Ok names
+pub names_there : (hdus : List HduState) (tail : List ℕ) (h i : ℕ) (hdu : HduState) (names : List (List ℕ)) → IsHduAt hdus h i hdu → names ≡ header_names hdu.header.header.cards → names_in (file_of (state_of hdus tail)) h ≡ Ok names
 names_there hdus tail h i hdu names at is = answer_there (λ (u : HduParts). Ok (header_names u.header.cards)) hdus tail h i hdu at ∙ ap Ok (sym is)
 
 -- they are refused for memory alone
 pub no_names : (hdus : List HduState) (tail : List ℕ) (h i : ℕ) (hdu : HduState) → IsHduAt hdus h i hdu → QueryFails (names_in (file_of (state_of hdus tail)) h) refusal.Memory
-no_names hdus tail h i hdu at = rw (names_there hdus tail h i hdu (header_names hdu.hdu.header.cards) at refl) refl
+no_names hdus tail h i hdu at = rw (names_there hdus tail h i hdu (header_names hdu.header.header.cards) at refl) refl
 
 -- what the query of a value reads
-pub value_asks : (hdus : List HduState) (tail : List ℕ) (h i : ℕ) (old new : HduState) (name : List ℕ) → IsHduAt hdus h i old → ReadsUpTo old new (keyword_reads old.hdu.header.cards name)
+pub value_asks : (hdus : List HduState) (tail : List ℕ) (h i : ℕ) (old new : HduState) (name : List ℕ) → IsHduAt hdus h i old → ReadsUpTo old new (keyword_reads old.header.header.cards name)
     → Asks h (value_reads (file_of (state_of hdus tail)) h name) (state_of hdus tail) (state_of (set hdus i new) tail)
 value_asks hdus tail h i old new name at r =
     asked hdus tail h i (value_reads (file_of (state_of hdus tail)) h name) old new at (subst (λ (o : Option HduParts). ReadsUpTo old new (reads_in o name)) (sym (hdu_of-there hdus tail h i old at)) r)

@@ -12,7 +12,7 @@ use Rattle.fits_codes.specs.declared.code.Code.{Code}
 use Rattle.fits_hdu.specs.ExtensionName.{extension_name, name_codes}
 use Rattle.fits_hdu.specs.Findings.{hdu_findings}
 use Rattle.fits_hdu.specs.Hdu.{HduParts, IsHdu}
-use Rattle.fits_hdu.specs.State.{HduState}
+use Rattle.fits_hdu.specs.State.{HduState, parts_of}
 use Rattle.fits_hdu.specs.declared.extension_name.ExtensionName.{ExtensionName}
 use Rattle.fits_hdu.specs.declared.findings.Findings.{Findings}
 use Rattle.fits_hdu.proofs.ShapeLemmas.{one_primary}
@@ -166,11 +166,11 @@ codes_more h start report new codes i d before is l =
     ∙ (ap (map (in_hdu h)) (map-append at_0 (take i codes) (code ∷ [])) ∙ map-append (in_hdu h) (found_at 0 (take i codes)) (found_at 0 (code ∷ [])))))
 
 -- what is found of one more of the HDUs under edits
-pub each_found : (hdus old : List HduState) (i : ℕ) (hdu : HduState) (found new : List Findings) (it : Findings) → hdus ≡ old → i < length hdus → hdu ≡ get_or hdus i hdu → KeepsEach is_found found (take i (hdus_of old)) → is_found it hdu.hdu
+pub each_found : (hdus old : List HduState) (i : ℕ) (hdu : HduState) (found new : List Findings) (it : Findings) → hdus ≡ old → i < length hdus → hdu ≡ get_or hdus i hdu → KeepsEach is_found found (take i (hdus_of old)) → is_found it (parts_of hdu)
     → new ≡ found ++ it ∷ [] → KeepsEach is_found new (take (i + 1) (hdus_of old))
 each_found hdus old i hdu found new it same l e each here is =
-    let more : take (i + 1) (hdus_of old) ≡ take i (hdus_of old) ++ hdu.hdu ∷ [] = subst (λ (us : List HduState). take (i + 1) (hdus_of us) ≡ take i (hdus_of us) ++ hdu.hdu ∷ []) same (hdus_more hdus i hdu l e) in
-    rw (is, more) (each_push is_found found (take i (hdus_of old)) it hdu.hdu each here)
+    let more : take (i + 1) (hdus_of old) ≡ take i (hdus_of old) ++ (parts_of hdu) ∷ [] = subst (λ (us : List HduState). take (i + 1) (hdus_of us) ≡ take i (hdus_of us) ++ (parts_of hdu) ∷ []) same (hdus_more hdus i hdu l e) in
+    rw (is, more) (each_push is_found found (take i (hdus_of old)) it (parts_of hdu) each here)
 
 -- HDUs stay where the one written stays
 pub hdus_stay : (hdus old : List HduState) (i : ℕ) (hdu new : HduState) → hdus ≡ old → i < length hdus → hdu ≡ get_or hdus i hdu → new ≡ hdu → set hdus i new ≡ old

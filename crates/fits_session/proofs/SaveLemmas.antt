@@ -4,37 +4,40 @@ use Rattle.std.proofs.lemmas.List.{append-nil, take_all, take_more, drop_more, t
 use Rattle.std.proofs.lemmas.List.Concat.{flat_map-append}
 use Rattle.fits_stream.specs.Stream.{SinkState, Prints, PrintsFront}
 use Rattle.fits_stream.proofs.StreamLemmas.{Prints-none, Prints-more, PrintsFront-longer, PrintsFront-more}
+use Rattle.fits_header.specs.State.{HeaderState}
 use Rattle.fits_hdu.specs.Hdu.{HduParts, hdu_bytes}
-use Rattle.fits_hdu.specs.State.{HduState, PixelWork, ReadsUpTo}
+use Rattle.fits_hdu.specs.State.{HduState, ReadsUpTo, parts_of}
+use Rattle.fits_hdu.specs.Work.{PixelWork, plane_work}
+use Rattle.fits_hdu.proofs.StateLemmas.{parts_read}
 use Rattle.fits_session.specs.File.{joined_hdus, IsFile}
 use Rattle.fits_session.specs.Session.{hdus_of, reads_of, works_of, file_of, state_of, once_read, each_read, ReadsOnceAtMost}
 use Rattle.fits_session.proofs.StateLemmas.{get_or-hdus_of, hdus_of-same, length-hdus_of, works_of-same}
 
 -- HDU i of those that are there
-hdu_here : (hdus : List HduState) (us : List HduParts) (i : ℕ) (hdu : HduState) → hdus_of hdus ≡ us → i < length hdus → hdu ≡ get_or hdus i hdu → get_or us i hdu.hdu ≡ hdu.hdu
+hdu_here : (hdus : List HduState) (us : List HduParts) (i : ℕ) (hdu : HduState) → hdus_of hdus ≡ us → i < length hdus → hdu ≡ get_or hdus i hdu → get_or us i (parts_of hdu) ≡ parts_of hdu
 hdu_here hdus us i hdu same l e =
-    ap (λ (t : List HduParts). get_or t i hdu.hdu) (sym same) ∙ get_or-hdus_of hdus i hdu l e
+    ap (λ (t : List HduParts). get_or t i (parts_of hdu)) (sym same) ∙ get_or-hdus_of hdus i hdu l e
 
 -- their number
 within : (hdus : List HduState) (us : List HduParts) (i : ℕ) → hdus_of hdus ≡ us → i < length hdus → i < length us
 within hdus us i same l = omega (arith, ap length same, length-hdus_of hdus)
 
 -- one more HDU
-pub Prints-hdu : (a b c : SinkState) (hdus : List HduState) (us : List HduParts) (i : ℕ) (hdu : HduState) → hdus_of hdus ≡ us → i < length hdus → hdu ≡ get_or hdus i hdu → Prints (joined_hdus (take i us)) a b → Prints (hdu_bytes hdu.hdu) b c → Prints (joined_hdus (take (i + 1) us)) a c
+pub Prints-hdu : (a b c : SinkState) (hdus : List HduState) (us : List HduParts) (i : ℕ) (hdu : HduState) → hdus_of hdus ≡ us → i < length hdus → hdu ≡ get_or hdus i hdu → Prints (joined_hdus (take i us)) a b → Prints (hdu_bytes (parts_of hdu)) b c → Prints (joined_hdus (take (i + 1) us)) a c
 Prints-hdu a b c hdus us i hdu same l e p q =
-    let more : joined_hdus (take (i + 1) us) ≡ joined_hdus (take i us) ++ hdu_bytes hdu.hdu =
-    ap joined_hdus (take_more us i hdu.hdu (within hdus us i same l)) ∙ flat_map-append hdu_bytes (take i us) (get_or us i hdu.hdu ∷ [])
-    ∙ ap (λ t. joined_hdus (take i us) ++ t) (append-nil (hdu_bytes (get_or us i hdu.hdu)) ∙ ap hdu_bytes (hdu_here hdus us i hdu same l e)) in
+    let more : joined_hdus (take (i + 1) us) ≡ joined_hdus (take i us) ++ hdu_bytes (parts_of hdu) =
+    ap joined_hdus (take_more us i (parts_of hdu) (within hdus us i same l)) ∙ flat_map-append hdu_bytes (take i us) (get_or us i (parts_of hdu) ∷ [])
+    ∙ ap (λ t. joined_hdus (take i us) ++ t) (append-nil (hdu_bytes (get_or us i (parts_of hdu))) ∙ ap hdu_bytes (hdu_here hdus us i hdu same l e)) in
     rw more (Prints-more a b c _ _ p q)
 
 -- a prefix of it
-pub PrintsFront-hdu : (a b c : SinkState) (hdus : List HduState) (us : List HduParts) (i : ℕ) (hdu : HduState) → hdus_of hdus ≡ us → i < length hdus → hdu ≡ get_or hdus i hdu → Prints (joined_hdus (take i us)) a b → PrintsFront (hdu_bytes hdu.hdu) b c → PrintsFront (joined_hdus us) a c
+pub PrintsFront-hdu : (a b c : SinkState) (hdus : List HduState) (us : List HduParts) (i : ℕ) (hdu : HduState) → hdus_of hdus ≡ us → i < length hdus → hdu ≡ get_or hdus i hdu → Prints (joined_hdus (take i us)) a b → PrintsFront (hdu_bytes (parts_of hdu)) b c → PrintsFront (joined_hdus us) a c
 PrintsFront-hdu a b c hdus us i hdu same l e p q =
     let rest : List HduParts = drop (i + 1) us in
-    let split : joined_hdus us ≡ joined_hdus (take i us) ++ (hdu_bytes hdu.hdu ++ joined_hdus rest) =
+    let split : joined_hdus us ≡ joined_hdus (take i us) ++ (hdu_bytes (parts_of hdu) ++ joined_hdus rest) =
     ap joined_hdus (sym (take-append-drop i us)) ∙ flat_map-append hdu_bytes (take i us) (drop i us)
-    ∙ ap (λ t. joined_hdus (take i us) ++ t) (ap joined_hdus (drop_more us i hdu.hdu (within hdus us i same l)) ∙ ap (λ u. hdu_bytes u ++ joined_hdus rest) (hdu_here hdus us i hdu same l e)) in
-    rw split (PrintsFront-more a b c _ (hdu_bytes hdu.hdu ++ joined_hdus rest) p (PrintsFront-longer b c (hdu_bytes hdu.hdu) (joined_hdus rest) q))
+    ∙ ap (λ t. joined_hdus (take i us) ++ t) (ap joined_hdus (drop_more us i (parts_of hdu) (within hdus us i same l)) ∙ ap (λ u. hdu_bytes u ++ joined_hdus rest) (hdu_here hdus us i hdu same l e)) in
+    rw split (PrintsFront-more a b c _ (hdu_bytes (parts_of hdu) ++ joined_hdus rest) p (PrintsFront-longer b c (hdu_bytes (parts_of hdu)) (joined_hdus rest) q))
 
 -- none of them yet
 pub Prints-no_hdus : (a : SinkState) (us : List HduParts) → Prints (joined_hdus (take 0 us)) a a
@@ -45,7 +48,7 @@ pub Prints-hdus : (a b : SinkState) (us : List HduParts) (i : ℕ) → length us
 Prints-hdus a b us i l p = rw (take_all i us l) at p
 
 -- the HDUs stay
-pub hdus_kept : (hdus : List HduState) (us : List HduParts) (i : ℕ) (old new : HduState) → hdus_of hdus ≡ us → i < length hdus → old ≡ get_or hdus i old → new.hdu ≡ old.hdu → hdus_of (set hdus i new) ≡ us
+pub hdus_kept : (hdus : List HduState) (us : List HduParts) (i : ℕ) (old new : HduState) → hdus_of hdus ≡ us → i < length hdus → old ≡ get_or hdus i old → parts_of new ≡ parts_of old → hdus_of (set hdus i new) ≡ us
 hdus_kept hdus us i old new same l e p = hdus_of-same hdus i old new l e p ∙ same
 
 -- the same HDUs, with the cards of the first so many read once more
@@ -59,17 +62,18 @@ pub first_read_none : (before : List HduState) → before ≡ first_read 0 befor
 first_read_none before = refl
 
 -- two states of the same parts are one
-state_is : (a b : HduState) → a.hdu ≡ b.hdu → a.shape ≡ b.shape → a.reads ≡ b.reads → a.room ≡ b.room → a.pixel_work ≡ b.pixel_work → a ≡ b
+state_is : (a b : HduState) → a.header.header ≡ b.header.header → a.header.shape ≡ b.header.shape → a.header.reads ≡ b.header.reads → a.header.room ≡ b.header.room → a.plane ≡ b.plane → a ≡ b
 state_is a b p q r s t =
-    let same : (let state : HduState = record { hdu = a.hdu; shape = a.shape; reads = a.reads; room = a.room; pixel_work = a.pixel_work } in state) ≡ b = rw (p, q, r, s, t) refl in
+    let header : HeaderState = record { header = a.header.header; shape = a.header.shape; reads = a.header.reads; room = a.header.room } in
+    let same : (let state : HduState = record { header = header; plane = a.plane } in state) ≡ b = rw (p, q, r, s, t) refl in
     same
 
 -- an HDU whose cards all were read
-read_as : (one hdu new : HduState) (most : ℕ) → hdu ≡ one → ReadsUpTo hdu new most → new.reads ≡ hdu.reads + length hdu.hdu.header.cards → new ≡ once_read one
-read_as one hdu new most e r more = state_is new (once_read hdu) r.hdu r.shape more r.room r.pixel_work ∙ ap once_read e
+read_as : (one hdu new : HduState) (most : ℕ) → hdu ≡ one → ReadsUpTo hdu new most → new.header.reads ≡ hdu.header.reads + length hdu.header.header.cards → new ≡ once_read one
+read_as one hdu new most e r more = state_is new (once_read hdu) r.header.header r.header.shape more r.header.room r.plane ∙ ap once_read e
 
 -- one more HDU was read
-read_next : (before hdus : List HduState) (i : ℕ) (old new : HduState) (most : ℕ) → hdus ≡ first_read i before → i < length hdus → old ≡ get_or hdus i old → ReadsUpTo old new most → new.reads ≡ old.reads + length old.hdu.header.cards → set hdus i new ≡ first_read (suc i) before
+read_next : (before hdus : List HduState) (i : ℕ) (old new : HduState) (most : ℕ) → hdus ≡ first_read i before → i < length hdus → old ≡ get_or hdus i old → ReadsUpTo old new most → new.header.reads ≡ old.header.reads + length old.header.header.cards → set hdus i new ≡ first_read (suc i) before
 read_next before [] i old new most e l is r more = absurd (omega arith)
 read_next [] (hdu ∷ hdus) zero old new most e l is r more = absurd (cc)
 read_next [] (hdu ∷ hdus) (suc i) old new most e l is r more = absurd (cc)
@@ -85,7 +89,7 @@ read_next (one ∷ before) (hdu ∷ hdus) (suc i) old new most e l is r more =
     cc
 
 -- the same in the loop's words
-pub first_read_more : (before hdus : List HduState) (i : ℕ) (old new : HduState) (most : ℕ) → hdus ≡ first_read i before → i < length hdus → old ≡ get_or hdus i old → ReadsUpTo old new most → new.reads ≡ old.reads + length old.hdu.header.cards → set hdus i new ≡ first_read (i + 1) before
+pub first_read_more : (before hdus : List HduState) (i : ℕ) (old new : HduState) (most : ℕ) → hdus ≡ first_read i before → i < length hdus → old ≡ get_or hdus i old → ReadsUpTo old new most → new.header.reads ≡ old.header.reads + length old.header.header.cards → set hdus i new ≡ first_read (i + 1) before
 first_read_more before hdus i old new most e l is r more = rw (add-one i) (read_next before hdus i old new most e l is r more)
 
 -- in the end all were read
@@ -108,49 +112,49 @@ read_grows (one ∷ before) (suc j) = read_grows before j
 -- nor are the HDUs others
 read_same : (before : List HduState) → hdus_of (each_read before) ≡ hdus_of before
 read_same [] = refl
-read_same (one ∷ before) = ap (λ (us : List HduParts). one.hdu ∷ us) (read_same before)
+read_same (one ∷ before) = ap (λ (us : List HduParts). parts_of one ∷ us) (read_same before)
 
 -- nor is the work on their data units
 work_same : (before : List HduState) → works_of (each_read before) ≡ works_of before
 work_same [] = refl
-work_same (one ∷ before) = ap (λ (works : List PixelWork). one.pixel_work ∷ works) (work_same before)
+work_same (one ∷ before) = ap (λ (works : List PixelWork). plane_work one.plane ∷ works) (work_same before)
 
 -- so each card was read once at most
 pub once_at_end : (before after : List HduState) → after ≡ each_read before → ReadsOnceAtMost before after
 once_at_end before after e = rw e (record { hdus = read_same before; pixel_work = work_same before; least = λ j. read_grows before j; most = λ j. omega arith })
 
 -- no count falls where one HDU is being read
-least_read : (before hdus : List HduState) (i : ℕ) (old new : HduState) → hdus ≡ first_read i before → i < length hdus → old ≡ get_or hdus i old → old.reads ≤ new.reads → (j : ℕ) → get_or (reads_of before) j 0 ≤ get_or (reads_of (set hdus i new)) j 0
+least_read : (before hdus : List HduState) (i : ℕ) (old new : HduState) → hdus ≡ first_read i before → i < length hdus → old ≡ get_or hdus i old → old.header.reads ≤ new.header.reads → (j : ℕ) → get_or (reads_of before) j 0 ≤ get_or (reads_of (set hdus i new)) j 0
 least_read before [] i old new e l is le j = absurd (omega arith)
 least_read [] (hdu ∷ hdus) zero old new e l is le j = absurd (cc)
 least_read [] (hdu ∷ hdus) (suc i) old new e l is le j = absurd (cc)
 least_read (one ∷ before) (hdu ∷ hdus) zero old new e l is le zero =
     let head : hdu ≡ one = cc in
-    omega (arith, ap (λ (one : HduState). one.reads) head, ap (λ (state : HduState). state.reads) is)
+    omega (arith, ap (λ (one : HduState). one.header.reads) head, ap (λ (state : HduState). state.header.reads) is)
 least_read (one ∷ before) (hdu ∷ hdus) zero old new e l is le (suc j) =
     let tail : hdus ≡ before = cc in
     omega (arith, ap (λ (before : List HduState). get_or (reads_of before) j 0) tail)
 least_read (one ∷ before) (hdu ∷ hdus) (suc i) old new e l is le zero =
     let head : hdu ≡ once_read one = cc in
-    omega (arith, ap (λ (one : HduState). one.reads) head)
+    omega (arith, ap (λ (one : HduState). one.header.reads) head)
 least_read (one ∷ before) (hdu ∷ hdus) (suc i) old new e l is le (suc j) =
     let tail : hdus ≡ first_read i before = cc in
     least_read before hdus i old new tail (omega arith) is le j
 
 -- and none grows past one read of each card
-most_read : (before hdus : List HduState) (i : ℕ) (old new : HduState) → hdus ≡ first_read i before → i < length hdus → old ≡ get_or hdus i old → new.reads ≤ old.reads + length old.hdu.header.cards → (j : ℕ) → get_or (reads_of (set hdus i new)) j 0 ≤ get_or (reads_of (each_read before)) j 0
+most_read : (before hdus : List HduState) (i : ℕ) (old new : HduState) → hdus ≡ first_read i before → i < length hdus → old ≡ get_or hdus i old → new.header.reads ≤ old.header.reads + length old.header.header.cards → (j : ℕ) → get_or (reads_of (set hdus i new)) j 0 ≤ get_or (reads_of (each_read before)) j 0
 most_read before [] i old new e l is le j = absurd (omega arith)
 most_read [] (hdu ∷ hdus) zero old new e l is le j = absurd (cc)
 most_read [] (hdu ∷ hdus) (suc i) old new e l is le j = absurd (cc)
 most_read (one ∷ before) (hdu ∷ hdus) zero old new e l is le zero =
     let head : hdu ≡ one = cc in
-    omega (arith, ap (λ (one : HduState). one.reads + length one.hdu.header.cards) head, ap (λ (state : HduState). state.reads + length state.hdu.header.cards) is)
+    omega (arith, ap (λ (one : HduState). one.header.reads + length one.header.header.cards) head, ap (λ (state : HduState). state.header.reads + length state.header.header.cards) is)
 most_read (one ∷ before) (hdu ∷ hdus) zero old new e l is le (suc j) =
     let tail : hdus ≡ before = cc in
     omega (arith, ap (λ (before : List HduState). get_or (reads_of before) j 0) tail, read_grows before j)
 most_read (one ∷ before) (hdu ∷ hdus) (suc i) old new e l is le zero =
     let head : hdu ≡ once_read one = cc in
-    omega (arith, ap (λ (one : HduState). one.reads) head)
+    omega (arith, ap (λ (one : HduState). one.header.reads) head)
 most_read (one ∷ before) (hdu ∷ hdus) (suc i) old new e l is le (suc j) =
     let tail : hdus ≡ first_read i before = cc in
     most_read before hdus i old new tail (omega arith) is le j
@@ -159,15 +163,15 @@ most_read (one ∷ before) (hdu ∷ hdus) (suc i) old new e l is le (suc j) =
 first_work : (i : ℕ) (before : List HduState) → works_of (first_read i before) ≡ works_of before
 first_work zero before = refl
 first_work (suc i) [] = refl
-first_work (suc i) (one ∷ before) = ap (λ (works : List PixelWork). one.pixel_work ∷ works) (first_work i before)
+first_work (suc i) (one ∷ before) = ap (λ (works : List PixelWork). plane_work one.plane ∷ works) (first_work i before)
 
 -- so each card is read once at most, also where a call fails
-pub once_at_most : (before hdus : List HduState) (i : ℕ) (old new : HduState) → hdus ≡ first_read i before → hdus_of hdus ≡ hdus_of before → i < length hdus → old ≡ get_or hdus i old → ReadsUpTo old new (length old.hdu.header.cards) → ReadsOnceAtMost before (set hdus i new)
+pub once_at_most : (before hdus : List HduState) (i : ℕ) (old new : HduState) → hdus ≡ first_read i before → hdus_of hdus ≡ hdus_of before → i < length hdus → old ≡ get_or hdus i old → ReadsUpTo old new (length old.header.header.cards) → ReadsOnceAtMost before (set hdus i new)
 once_at_most before hdus i old new e same l is work = record {
-  hdus = hdus_of-same hdus i old new l is work.hdu ∙ same;
-  pixel_work = works_of-same hdus i old new l is work.pixel_work ∙ ap works_of e ∙ first_work i before;
-  least = λ j. least_read before hdus i old new e l is work.least j;
-  most = λ j. most_read before hdus i old new e l is work.most j;
+  hdus = hdus_of-same hdus i old new l is (parts_read old new _ work) ∙ same;
+  pixel_work = works_of-same hdus i old new l is (ap plane_work work.plane) ∙ ap works_of e ∙ first_work i before;
+  least = λ j. least_read before hdus i old new e l is work.header.least j;
+  most = λ j. most_read before hdus i old new e l is work.header.most j;
 }
 
 -- a file of HDUs whose bytes stay is whole still

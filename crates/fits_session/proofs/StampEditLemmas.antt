@@ -5,8 +5,8 @@ use Rattle.fits_card.specs.Header.{header_length}
 use Rattle.fits_rules.specs.Class.{is_primary}
 use Rattle.fits_hdu.specs.Hdu.{HduParts, hdu_bytes, IsHdu}
 use Rattle.fits_hdu.specs.Stamp.{stamped}
-use Rattle.fits_hdu.specs.State.{HduState}
-use Rattle.fits_hdu.specs.Work.{stamp_count_reads, stamp_reads}
+use Rattle.fits_hdu.specs.State.{HduState, parts_of}
+use Rattle.fits_hdu.specs.Work.{plane_work, stamp_count_reads, stamp_reads}
 use Rattle.fits_hdu.proofs.StampingLemmas.{stamped_is_hdu, stamped_unit}
 use Rattle.fits_session.specs.HduEdit.{hdu_made}
 use Rattle.fits_session.specs.Limits.{size_within}
@@ -21,26 +21,26 @@ pub stamp_reckoned : (primary : Bool) (hdu : HduParts) (len before after : ℕ) 
 stamp_reckoned primary hdu len before after whole part b a = length_reckoned primary hdu (stamped hdu) len before after whole (stamped_is_hdu primary hdu whole) (stamped_unit hdu) part b a
 
 -- a stamp that is refused owes this
-pub stamps_not : (bytes hdus : ℕ) (old new : HduState) (why : Refusal) → IsHdu (is_primary old.shape.class) old.hdu → new.hdu ≡ old.hdu → old.reads ≤ new.reads → new.reads ≤ old.reads + (stamp_count_reads old.hdu.header.cards + stamp_reads old.hdu.header.cards) → new.pixel_work ≡ old.pixel_work
-    → Fails (λ refused. refused ≡ None) (limit_refusal (length_with bytes old.hdu (stamped old.hdu)) hdus) why → HduEditsTo Stamp bytes hdus old new (Err why)
+pub stamps_not : (bytes hdus : ℕ) (old new : HduState) (why : Refusal) → IsHdu (is_primary old.header.shape.class) (parts_of old) → parts_of new ≡ parts_of old → old.header.reads ≤ new.header.reads → new.header.reads ≤ old.header.reads + (stamp_count_reads old.header.header.cards + stamp_reads old.header.header.cards) → plane_work new.plane ≡ plane_work old.plane
+    → Fails (λ refused. refused ≡ None) (limit_refusal (length_with bytes (parts_of old) (stamped (parts_of old))) hdus) why → HduEditsTo Stamp bytes hdus old new (Err why)
 unfolding hdu_made
 stamps_not bytes hdus old new why whole same least most idle fails =
-    makes_not (Ok (stamped old.hdu)) (HduNeedsMemory Stamp) (stamp_count_reads old.hdu.header.cards + stamp_reads old.hdu.header.cards) (BlankWork (is_primary old.shape.class) old.hdu (Ok (stamped old.hdu))) bytes hdus old new why whole same least most idle
+    makes_not (Ok (stamped (parts_of old))) (HduNeedsMemory Stamp) (stamp_count_reads old.header.header.cards + stamp_reads old.header.header.cards) (BlankWork (is_primary old.header.shape.class) (parts_of old) (Ok (stamped (parts_of old)))) bytes hdus old new why whole same least most idle
     (record { same = λ e. refl; any = inl refl }) fails
 
 -- one that is made owes this
-pub stamps : (bytes hdus n : ℕ) (old new : HduState) → IsHdu (is_primary old.shape.class) old.hdu → Some n ≡ size_within (length_with bytes old.hdu (stamped old.hdu)) hdus → new.hdu ≡ stamped old.hdu → old.reads ≤ new.reads
-    → new.reads ≤ old.reads + (stamp_count_reads old.hdu.header.cards + stamp_reads old.hdu.header.cards) → new.pixel_work ≡ old.pixel_work → HduEditsTo Stamp bytes hdus old new (Ok n)
+pub stamps : (bytes hdus n : ℕ) (old new : HduState) → IsHdu (is_primary old.header.shape.class) (parts_of old) → Some n ≡ size_within (length_with bytes (parts_of old) (stamped (parts_of old))) hdus → parts_of new ≡ stamped (parts_of old) → old.header.reads ≤ new.header.reads
+    → new.header.reads ≤ old.header.reads + (stamp_count_reads old.header.header.cards + stamp_reads old.header.header.cards) → plane_work new.plane ≡ plane_work old.plane → HduEditsTo Stamp bytes hdus old new (Ok n)
 unfolding hdu_made
 stamps bytes hdus n old new whole some is least most idle =
-    let primary : Bool = is_primary old.shape.class in
-    let room = fits (length_with bytes old.hdu (stamped old.hdu)) n hdus some in
+    let primary : Bool = is_primary old.header.shape.class in
+    let room = fits (length_with bytes (parts_of old) (stamped (parts_of old))) n hdus some in
     record {
       whole = whole;
-      left = subst (λ (hdu : HduParts). IsHdu primary hdu) (sym is) (stamped_is_hdu primary old.hdu whole);
+      left = subst (λ (hdu : HduParts). IsHdu primary hdu) (sym is) (stamped_is_hdu primary (parts_of old) whole);
       accepted = room.0;
       ok = ap (λ (hdu : HduParts). let made : Result HduParts Refusal = Ok hdu in made) (sym is);
-      size = room.1 ∙ ap (length_with bytes old.hdu) (sym is);
+      size = room.1 ∙ ap (length_with bytes (parts_of old)) (sym is);
       refused = tt;
       err = tt;
       least = least;

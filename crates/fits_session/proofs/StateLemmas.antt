@@ -8,7 +8,9 @@ use Rattle.std.proofs.lemmas.Option.{slice_get_read, slice_get_within, slice_get
 use Rattle.fits_rules.specs.Class.{is_primary}
 use Rattle.fits_rules.specs.Shape.{shape_of}
 use Rattle.fits_hdu.specs.Hdu.{HduParts, hdu_bytes, IsHdu}
-use Rattle.fits_hdu.specs.State.{HduState, PixelWork, ReadsUpTo}
+use Rattle.fits_hdu.specs.State.{HduState, ReadsUpTo, parts_of}
+use Rattle.fits_hdu.specs.Work.{PixelWork, plane_work}
+use Rattle.fits_hdu.proofs.StateLemmas.{parts_read}
 use Rattle.fits_hdu.proofs.ShapeLemmas.{one_primary}
 use Rattle.fits_session.specs.Edit.{hdu_of, changed_at, changed_of, is_primary_hdu}
 use Rattle.fits_session.specs.File.{FileParts, IsFile, file_bytes, joined_hdus}
@@ -39,19 +41,19 @@ parts_same part (hdu ∷ hdus) zero old new l e p = ap (λ x. x ∷ map part hdu
 parts_same part (hdu ∷ hdus) (suc i) old new l e p = ap (λ xs. part hdu ∷ xs) (parts_same part hdus i old new (omega arith) e p)
 
 -- the HDUs with one changed
-pub hdus_of-changed : (hdus : List HduState) (h i : ℕ) (old new : HduState) (change : HduParts → HduParts) → IsHduAt hdus h i old → new.hdu ≡ change old.hdu → hdus_of (set hdus i new) ≡ changed_at i change (hdus_of hdus)
-hdus_of-changed hdus h i old new change at p = parts_changed (λ (one : HduState). one.hdu) change hdus i old new at.index.within at.is p
+pub hdus_of-changed : (hdus : List HduState) (h i : ℕ) (old new : HduState) (change : HduParts → HduParts) → IsHduAt hdus h i old → parts_of new ≡ change (parts_of old) → hdus_of (set hdus i new) ≡ changed_at i change (hdus_of hdus)
+hdus_of-changed hdus h i old new change at p = parts_changed parts_of change hdus i old new at.index.within at.is p
 
 -- the HDUs stay where the one written stays
-pub hdus_of-same : (hdus : List HduState) (i : ℕ) (old new : HduState) → i < length hdus → old ≡ get_or hdus i old → new.hdu ≡ old.hdu → hdus_of (set hdus i new) ≡ hdus_of hdus
-hdus_of-same hdus i old new l e p = parts_same (λ (one : HduState). one.hdu) hdus i old new l e p
+pub hdus_of-same : (hdus : List HduState) (i : ℕ) (old new : HduState) → i < length hdus → old ≡ get_or hdus i old → parts_of new ≡ parts_of old → hdus_of (set hdus i new) ≡ hdus_of hdus
+hdus_of-same hdus i old new l e p = parts_same parts_of hdus i old new l e p
 
 -- and so does the file
-pub file_of-same : (hdus : List HduState) (tail : List ℕ) (h i : ℕ) (old new : HduState) → IsHduAt hdus h i old → new.hdu ≡ old.hdu → file_of (state_of (set hdus i new) tail) ≡ file_of (state_of hdus tail)
+pub file_of-same : (hdus : List HduState) (tail : List ℕ) (h i : ℕ) (old new : HduState) → IsHduAt hdus h i old → parts_of new ≡ parts_of old → file_of (state_of (set hdus i new) tail) ≡ file_of (state_of hdus tail)
 file_of-same hdus tail h i old new at p = ap (λ (us : List HduParts). let file : FileParts = record { hdus = us; tail = tail } in file) (hdus_of-same hdus i old new at.index.within at.is p)
 
 -- a session stays a file where its HDUs stay, of as many bytes
-pub stays_file : (hdus : List HduState) (tail : List ℕ) (h i len : ℕ) (old new : HduState) → IsHduAt hdus h i old → new.hdu ≡ old.hdu → IsFile (file_of (state_of hdus tail)) → len ≡ length (file_bytes (file_of (state_of hdus tail)))
+pub stays_file : (hdus : List HduState) (tail : List ℕ) (h i len : ℕ) (old new : HduState) → IsHduAt hdus h i old → parts_of new ≡ parts_of old → IsFile (file_of (state_of hdus tail)) → len ≡ length (file_bytes (file_of (state_of hdus tail)))
     → IsFile (file_of (state_of (set hdus i new) tail)) × (len ≡ length (file_bytes (file_of (state_of (set hdus i new) tail))))
 stays_file hdus tail h i len old new at p file e =
     let same = file_of-same hdus tail h i old new at p in
@@ -59,16 +61,16 @@ stays_file hdus tail h i len old new at p file e =
 
 -- there are as many parts as HDUs
 pub length-hdus_of : (hdus : List HduState) → length (hdus_of hdus) ≡ length hdus
-length-hdus_of hdus = length-map hdus (λ (one : HduState). one.hdu)
+length-hdus_of hdus = length-map hdus parts_of
 
 -- the parts of an HDU at an index
-pub slice_get-hdus_of : (hdus : List HduState) (i : ℕ) (hdu : HduState) → i < length hdus → hdu ≡ get_or hdus i hdu → slice_get (hdus_of hdus) i ≡ Some hdu.hdu
+pub slice_get-hdus_of : (hdus : List HduState) (i : ℕ) (hdu : HduState) → i < length hdus → hdu ≡ get_or hdus i hdu → slice_get (hdus_of hdus) i ≡ Some (parts_of hdu)
 slice_get-hdus_of hdus i hdu l e =
-    slice_get-map (λ (one : HduState). one.hdu) hdus i
-    ∙ ap (option_map (λ (one : HduState). one.hdu)) (slice_get_read hdus (length hdus) i hdu refl l e)
+    slice_get-map parts_of hdus i
+    ∙ ap (option_map parts_of) (slice_get_read hdus (length hdus) i hdu refl l e)
 
 -- HDU h
-pub hdu_of-there : (hdus : List HduState) (tail : List ℕ) (h i : ℕ) (hdu : HduState) → IsHduAt hdus h i hdu → hdu_of (file_of (state_of hdus tail)) h ≡ Some hdu.hdu
+pub hdu_of-there : (hdus : List HduState) (tail : List ℕ) (h i : ℕ) (hdu : HduState) → IsHduAt hdus h i hdu → hdu_of (file_of (state_of hdus tail)) h ≡ Some (parts_of hdu)
 hdu_of-there hdus tail h i hdu at = ap (hdu_of (file_of (state_of hdus tail))) (at.index.at ∙ add-one i) ∙ slice_get-hdus_of hdus i hdu at.index.within at.is
 
 -- no element stands past the last
@@ -87,26 +89,26 @@ pub hdu_of-nowhere : (hdus : List HduState) (tail : List ℕ) (h : ℕ) → IsNo
 hdu_of-nowhere hdus tail h p = elim p [ inl zero_is ↦ ap (hdu_of (file_of (state_of hdus tail))) zero_is | inr past ↦ after_last (file_of (state_of hdus tail)) h (omega (arith, past, length-hdus_of hdus)) ]
 
 -- HDU h of a file is one
-pub whole_there : (hdus : List HduState) (tail : List ℕ) (h i : ℕ) (hdu : HduState) → IsFile (file_of (state_of hdus tail)) → IsHduAt hdus h i hdu → IsHdu (is_primary_hdu h) hdu.hdu
+pub whole_there : (hdus : List HduState) (tail : List ℕ) (h i : ℕ) (hdu : HduState) → IsFile (file_of (state_of hdus tail)) → IsHduAt hdus h i hdu → IsHdu (is_primary_hdu h) (parts_of hdu)
 whole_there hdus tail h i hdu p at =
-    subst (λ (k : ℕ). IsHdu (is_primary_hdu k) hdu.hdu) (sym (at.index.at ∙ add-one i)) (hdu_is (file_bytes (file_of (state_of hdus tail))) (hdus_of hdus) tail i hdu.hdu p.front (slice_get-hdus_of hdus i hdu at.index.within at.is))
+    subst (λ (k : ℕ). IsHdu (is_primary_hdu k) (parts_of hdu)) (sym (at.index.at ∙ add-one i)) (hdu_is (file_bytes (file_of (state_of hdus tail))) (hdus_of hdus) tail i (parts_of hdu) p.front (slice_get-hdus_of hdus i hdu at.index.within at.is))
 
 -- its class says whether it is the primary one
-pub primary_there : (hdus : List HduState) (tail : List ℕ) (h i : ℕ) (hdu : HduState) → IsFile (file_of (state_of hdus tail)) → IsHduAt hdus h i hdu → IsHdu (is_primary hdu.shape.class) hdu.hdu → is_primary hdu.shape.class ≡ is_primary_hdu h
+pub primary_there : (hdus : List HduState) (tail : List ℕ) (h i : ℕ) (hdu : HduState) → IsFile (file_of (state_of hdus tail)) → IsHduAt hdus h i hdu → IsHdu (is_primary hdu.header.shape.class) (parts_of hdu) → is_primary hdu.header.shape.class ≡ is_primary_hdu h
 primary_there hdus tail h i hdu p at whole =
     let there = whole_there hdus tail h i hdu p at in
-    one_primary (is_primary hdu.shape.class) (is_primary_hdu h) hdu.hdu.header.cards whole.shape there.shape whole.described there.described
+    one_primary (is_primary hdu.header.shape.class) (is_primary_hdu h) hdu.header.header.cards whole.shape there.shape whole.described there.described
 
 -- so its cards describe its shape as those of HDU h
-pub described_there : (hdus : List HduState) (tail : List ℕ) (h i : ℕ) (hdu : HduState) → IsFile (file_of (state_of hdus tail)) → IsHduAt hdus h i hdu → shape_of (is_primary hdu.shape.class) hdu.hdu.header.cards ≡ Ok hdu.shape → shape_of (is_primary_hdu h) hdu.hdu.header.cards ≡ Ok hdu.shape
+pub described_there : (hdus : List HduState) (tail : List ℕ) (h i : ℕ) (hdu : HduState) → IsFile (file_of (state_of hdus tail)) → IsHduAt hdus h i hdu → shape_of (is_primary hdu.header.shape.class) hdu.header.header.cards ≡ Ok hdu.header.shape → shape_of (is_primary_hdu h) hdu.header.header.cards ≡ Ok hdu.header.shape
 described_there hdus tail h i hdu p at described =
     let there = whole_there hdus tail h i hdu p at in
-    let same = one_primary (is_primary hdu.shape.class) (is_primary_hdu h) hdu.hdu.header.cards hdu.shape there.shape described there.described in
-    ap (λ b. shape_of b hdu.hdu.header.cards) (sym same) ∙ described
+    let same = one_primary (is_primary hdu.header.shape.class) (is_primary_hdu h) hdu.header.header.cards hdu.header.shape there.shape described there.described in
+    ap (λ b. shape_of b hdu.header.header.cards) (sym same) ∙ described
 
 -- it is a part of the file
-pub part_there : (hdus : List HduState) (tail : List ℕ) (h i : ℕ) (hdu : HduState) → IsHduAt hdus h i hdu → length (hdu_bytes hdu.hdu) ≤ length (file_bytes (file_of (state_of hdus tail)))
-part_there hdus tail h i hdu at = omega (arith, part_within (hdus_of hdus) i hdu.hdu (slice_get-hdus_of hdus i hdu at.index.within at.is), length-append (joined_hdus (hdus_of hdus)) tail)
+pub part_there : (hdus : List HduState) (tail : List ℕ) (h i : ℕ) (hdu : HduState) → IsHduAt hdus h i hdu → length (hdu_bytes (parts_of hdu)) ≤ length (file_bytes (file_of (state_of hdus tail)))
+part_there hdus tail h i hdu at = omega (arith, part_within (hdus_of hdus) i (parts_of hdu) (slice_get-hdus_of hdus i hdu at.index.within at.is), length-append (joined_hdus (hdus_of hdus)) tail)
 
 -- which is not too long
 pub file_size : (hdus : List HduState) (tail : List ℕ) → IsFile (file_of (state_of hdus tail)) → length (joined_hdus (hdus_of hdus)) + length tail ≤ FILE_LIMIT
@@ -128,46 +130,46 @@ reads_none zero most reads = record { count = 0; few = omega arith; is = refl }
 reads_none (suc h) most reads = record { count = 0; few = omega arith; is = sym (changed-none h reads) }
 
 -- cards of HDU h alone were read
-pub reads_more : (hdus : List HduState) (h i most : ℕ) (old new : HduState) → IsHduAt hdus h i old → old.reads ≤ new.reads → new.reads ≤ old.reads + most → ReadsOnly h most (reads_of hdus) (reads_of (set hdus i new))
+pub reads_more : (hdus : List HduState) (h i most : ℕ) (old new : HduState) → IsHduAt hdus h i old → old.header.reads ≤ new.header.reads → new.header.reads ≤ old.header.reads + most → ReadsOnly h most (reads_of hdus) (reads_of (set hdus i new))
 reads_more hdus h i most old new at least few =
-    let count : ℕ = new.reads - old.reads in
-    let is : reads_of (set hdus i new) ≡ changed_at i (λ n. n + count) (reads_of hdus) = parts_changed (λ (one : HduState). one.reads) (λ n. n + count) hdus i old new at.index.within at.is (omega arith) in
+    let count : ℕ = new.header.reads - old.header.reads in
+    let is : reads_of (set hdus i new) ≡ changed_at i (λ n. n + count) (reads_of hdus) = parts_changed (λ (one : HduState). one.header.reads) (λ n. n + count) hdus i old new at.index.within at.is (omega arith) in
     record { count = count; few = omega arith; is = is ∙ ap (λ k. changed_of k (λ n. n + count) (reads_of hdus)) (sym (at.index.at ∙ add-one i)) }
 
 -- there are as many works as HDUs
 length-works_of : (hdus : List HduState) → length (works_of hdus) ≡ length hdus
-length-works_of hdus = length-map hdus (λ (one : HduState). one.pixel_work)
+length-works_of hdus = length-map hdus (λ (one : HduState). plane_work one.plane)
 
 -- the work on the HDU at an index
-slice_get-works_of : (hdus : List HduState) (i : ℕ) (hdu : HduState) → i < length hdus → hdu ≡ get_or hdus i hdu → slice_get (works_of hdus) i ≡ Some hdu.pixel_work
+slice_get-works_of : (hdus : List HduState) (i : ℕ) (hdu : HduState) → i < length hdus → hdu ≡ get_or hdus i hdu → slice_get (works_of hdus) i ≡ Some (plane_work hdu.plane)
 slice_get-works_of hdus i hdu l e =
-    slice_get-map (λ (one : HduState). one.pixel_work) hdus i
-    ∙ ap (option_map (λ (one : HduState). one.pixel_work)) (slice_get_read hdus (length hdus) i hdu refl l e)
+    slice_get-map (λ (one : HduState). plane_work one.plane) hdus i
+    ∙ ap (option_map (λ (one : HduState). plane_work one.plane)) (slice_get_read hdus (length hdus) i hdu refl l e)
 
 -- where HDU h stays as it was worked on, all do
-pub works_of-same : (hdus : List HduState) (i : ℕ) (old new : HduState) → i < length hdus → old ≡ get_or hdus i old → new.pixel_work ≡ old.pixel_work → works_of (set hdus i new) ≡ works_of hdus
-works_of-same hdus i old new l e p = parts_same (λ (one : HduState). one.pixel_work) hdus i old new l e p
+pub works_of-same : (hdus : List HduState) (i : ℕ) (old new : HduState) → i < length hdus → old ≡ get_or hdus i old → plane_work new.plane ≡ plane_work old.plane → works_of (set hdus i new) ≡ works_of hdus
+works_of-same hdus i old new l e p = parts_same (λ (one : HduState). plane_work one.plane) hdus i old new l e p
 
 -- where no card of it was read, none of any was
-pub reads_of-same : (hdus : List HduState) (i : ℕ) (old new : HduState) → i < length hdus → old ≡ get_or hdus i old → new.reads ≡ old.reads → reads_of (set hdus i new) ≡ reads_of hdus
-reads_of-same hdus i old new l e p = parts_same (λ (one : HduState). one.reads) hdus i old new l e p
+pub reads_of-same : (hdus : List HduState) (i : ℕ) (old new : HduState) → i < length hdus → old ≡ get_or hdus i old → new.header.reads ≡ old.header.reads → reads_of (set hdus i new) ≡ reads_of hdus
+reads_of-same hdus i old new l e p = parts_same (λ (one : HduState). one.header.reads) hdus i old new l e p
 
 -- HDU h alone was worked on
-pub works_changed : (hdus : List HduState) (h i : ℕ) (old new : HduState) (change : PixelWork → PixelWork) → IsHduAt hdus h i old → new.pixel_work ≡ change old.pixel_work → works_of (set hdus i new) ≡ changed_of h change (works_of hdus)
+pub works_changed : (hdus : List HduState) (h i : ℕ) (old new : HduState) (change : PixelWork → PixelWork) → IsHduAt hdus h i old → plane_work new.plane ≡ change (plane_work old.plane) → works_of (set hdus i new) ≡ changed_of h change (works_of hdus)
 works_changed hdus h i old new change at p =
-    parts_changed (λ (one : HduState). one.pixel_work) change hdus i old new at.index.within at.is p
+    parts_changed (λ (one : HduState). plane_work one.plane) change hdus i old new at.index.within at.is p
     ∙ ap (λ k. changed_of k change (works_of hdus)) (sym (at.index.at ∙ add-one i))
 
 -- and so much
-pub works_there : (hdus : List HduState) (h i : ℕ) (Much : PixelWork → PixelWork → Type 0) (old new : HduState) → IsHduAt hdus h i old → Much old.pixel_work new.pixel_work → WorksOnly h Much (works_of hdus) (works_of (set hdus i new))
+pub works_there : (hdus : List HduState) (h i : ℕ) (Much : PixelWork → PixelWork → Type 0) (old new : HduState) → IsHduAt hdus h i old → Much (plane_work old.plane) (plane_work new.plane) → WorksOnly h Much (works_of hdus) (works_of (set hdus i new))
 works_there hdus h i Much old new at p = record {
-  now = new.pixel_work;
-  is = works_changed hdus h i old new (λ work. new.pixel_work) at refl;
+  now = (plane_work new.plane);
+  is = works_changed hdus h i old new (λ work. (plane_work new.plane)) at refl;
   much = λ k work number there.
       let index : k ≡ i = omega (arith, number, at.index.at) in
-      let both : Option.Some work ≡ Some old.pixel_work = sym there ∙ ap (slice_get (works_of hdus)) index ∙ slice_get-works_of hdus i old at.index.within at.is in
-      let same : work ≡ old.pixel_work = cc in
-      subst (λ (w : PixelWork). Much w new.pixel_work) (sym same) p;
+      let both : Option.Some work ≡ Some (plane_work old.plane) = sym there ∙ ap (slice_get (works_of hdus)) index ∙ slice_get-works_of hdus i old at.index.within at.is in
+      let same : work ≡ (plane_work old.plane) = cc in
+      subst (λ (w : PixelWork). Much w (plane_work new.plane)) (sym same) p;
 }
 
 -- a change past the last element changes nothing
@@ -197,9 +199,9 @@ works_nowhere hdus h Much p =
 -- a query read cards of HDU h
 pub asked : (hdus : List HduState) (tail : List ℕ) (h i most : ℕ) (old new : HduState) → IsHduAt hdus h i old → ReadsUpTo old new most → Asks h most (state_of hdus tail) (state_of (set hdus i new) tail)
 asked hdus tail h i most old new at p = record {
-  file = file_of-same hdus tail h i old new at p.hdu;
-  work = reads_more hdus h i most old new at p.least p.most;
-  pixel_work = works_of-same hdus i old new at.index.within at.is p.pixel_work;
+  file = file_of-same hdus tail h i old new at (parts_read old new _ p);
+  work = reads_more hdus h i most old new at p.header.least p.header.most;
+  pixel_work = works_of-same hdus i old new at.index.within at.is (ap plane_work p.plane);
 }
 
 -- a query read none
@@ -207,7 +209,7 @@ pub asked_none : (h most : ℕ) (session : SessionState) → Asks h most session
 asked_none h most session = record { file = refl; work = reads_none h most (reads_of session.hdus); pixel_work = refl }
 
 -- the HDU at an index
-pub get_or-hdus_of : (hdus : List HduState) (i : ℕ) (hdu : HduState) → i < length hdus → hdu ≡ get_or hdus i hdu → get_or (hdus_of hdus) i hdu.hdu ≡ hdu.hdu
-get_or-hdus_of hdus i hdu l e = get_or_from_slice_get (hdus_of hdus) i hdu.hdu hdu.hdu (slice_get-hdus_of hdus i hdu l e)
+pub get_or-hdus_of : (hdus : List HduState) (i : ℕ) (hdu : HduState) → i < length hdus → hdu ≡ get_or hdus i hdu → get_or (hdus_of hdus) i (parts_of hdu) ≡ parts_of hdu
+get_or-hdus_of hdus i hdu l e = get_or_from_slice_get (hdus_of hdus) i (parts_of hdu) (parts_of hdu) (slice_get-hdus_of hdus i hdu l e)
 
 pub ruleset count_steps = (length-hdus_of)

@@ -11,7 +11,7 @@ use Rattle.fits_stream.specs.Stream.{FailsOnce, SourceState, StaysQuiet}
 use Rattle.fits_stream.proofs.SightLemmas.{finds_begun, finds_given, finds_next, finds_spent, long_given, no_bytes, past_limit, rest_given, takes_and_holds, takes_fewer, takes_more, tells_after, within_limit}
 use Rattle.fits_hdu.specs.Hdu.{HduParts, HasHduFault, IsHdu, hdu_bytes}
 use Rattle.fits_hdu.specs.Reading.{HduStops, TakesHdu}
-use Rattle.fits_hdu.specs.State.{HduState}
+use Rattle.fits_hdu.specs.State.{HduState, parts_of}
 use Rattle.fits_hdu.specs.declared.fault.HduFault.{HduFault}
 use Rattle.fits_hdu.specs.declared.fault.HduFault.TheVariants as hdu_fault
 use Rattle.fits_hdu.specs.declared.read_fault.ReadHduFault.{ReadHduFault}
@@ -312,22 +312,22 @@ pub ruleset end_steps = (within_limit, past_limit)
 pub ruleset settled_steps = (settled_before, settled_here, settled_early)
 
 -- the HDUs that are kept whole are those of the file
-each_is : (hdus : List HduState) (us : List HduParts) → KeepsEach (λ (it : HduState) hdu. it.hdu ≡ hdu) hdus us → hdus_of hdus ≡ us
+each_is : (hdus : List HduState) (us : List HduParts) → KeepsEach (λ (it : HduState) hdu. (parts_of it) ≡ hdu) hdus us → hdus_of hdus ≡ us
 each_is [] [] p = refl
 each_is [] (u ∷ us) p = absurd p
 each_is (hdu ∷ hdus) [] p = absurd p
 each_is (hdu ∷ hdus) (u ∷ us) p = rw (p.0, each_is hdus us p.1) refl
 
 -- they and the tail were taken
-pub session_taken : (hdus : List HduState) (tail : List ℕ) (a b c : Supply) → Walked (λ (it : HduState) hdu. it.hdu ≡ hdu) hdus a b → Takes b c tail → Takes a c (joined_hdus (hdus_of hdus) ++ tail)
+pub session_taken : (hdus : List HduState) (tail : List ℕ) (a b c : Supply) → Walked (λ (it : HduState) hdu. (parts_of it) ≡ hdu) hdus a b → Takes b c tail → Takes a c (joined_hdus (hdus_of hdus) ++ tail)
 session_taken hdus tail a b c p q = rw (each_is hdus p.hdus p.each) (takes_more a b c (joined_hdus p.hdus) tail p.taken q)
 
 -- and are a file
-pub session_whole : (hdus : List HduState) (tail : List ℕ) (a b c : Supply) → length a.ahead + a.left ≤ FILE_LIMIT → Walked (λ (it : HduState) hdu. it.hdu ≡ hdu) hdus a b → Takes b c tail → 0 < length hdus → length hdus ≤ HDU_LIMIT → begins_extension tail ≡ false
+pub session_whole : (hdus : List HduState) (tail : List ℕ) (a b c : Supply) → length a.ahead + a.left ≤ FILE_LIMIT → Walked (λ (it : HduState) hdu. (parts_of it) ≡ hdu) hdus a b → Takes b c tail → 0 < length hdus → length hdus ≤ HDU_LIMIT → begins_extension tail ≡ false
     → IsFile (file_of (state_of hdus tail))
 session_whole hdus tail a b c limit p q some few ends =
     let taken : Takes a c (joined_hdus p.hdus ++ tail) = takes_more a b c (joined_hdus p.hdus) tail p.taken q in
-    rw (each_is hdus p.hdus p.each) (file_walked (λ (it : HduState) hdu. it.hdu ≡ hdu) hdus p.hdus tail p.each p.front some few ends (omega (arith, limit, takes_fewer a c (joined_hdus p.hdus ++ tail) taken)))
+    rw (each_is hdus p.hdus p.each) (file_walked (λ (it : HduState) hdu. (parts_of it) ≡ hdu) hdus p.hdus tail p.each p.front some few ends (omega (arith, limit, takes_fewer a c (joined_hdus p.hdus ++ tail) taken)))
 
 -- of which nothing is left
 pub session_given : (hdus : List HduState) (tail : List ℕ) (a c : Supply) → Takes a c (joined_hdus (hdus_of hdus) ++ tail) → IsOver c → IfSome c.source.remaining (λ ys. length ys ≤ c.left) → IsFile (file_of (state_of hdus tail))
@@ -340,7 +340,7 @@ session_given hdus tail a c taken over few file =
     (bytes, subst (TellsAll a) (ap (λ t. bytes ++ t) none ∙ append-nil bytes) told, file)
 
 -- how many bytes the HDUs have
-pub hdus_length : (hdus : List HduState) (a b : Supply) → Walked (λ (it : HduState) hdu. it.hdu ≡ hdu) hdus a b → length a.ahead + a.left ≡ length b.ahead + b.left + length (joined_hdus (hdus_of hdus))
+pub hdus_length : (hdus : List HduState) (a b : Supply) → Walked (λ (it : HduState) hdu. (parts_of it) ≡ hdu) hdus a b → length a.ahead + a.left ≡ length b.ahead + b.left + length (joined_hdus (hdus_of hdus))
 hdus_length hdus a b p = rw (each_is hdus p.hdus p.each) (takes_fewer a b (joined_hdus p.hdus) p.taken)
 
 -- the tail that was read begins no extension

@@ -10,8 +10,8 @@ use Rattle.fits_rules.specs.declared.array_shape.Shape.{Shape}
 use Rattle.fits_hdu.specs.Hdu.{HduParts, hdu_bytes, IsHdu}
 use Rattle.fits_header.specs.Work.{shape_reads}
 use Rattle.fits_hdu.specs.Layout.{layout_of}
-use Rattle.fits_hdu.specs.State.{HduState, PixelWork}
-use Rattle.fits_hdu.specs.Work.{apply_reads, open_reads, FollowsBlank, IsMade, IsPatched}
+use Rattle.fits_hdu.specs.State.{HduState, parts_of}
+use Rattle.fits_hdu.specs.Work.{apply_reads, open_reads, plane_work, FollowsBlank, IsMade, IsPatched, PixelWork}
 use Rattle.fits_session.specs.Edit.{changed_of, file_after, hdu_of, is_primary_hdu, made_or}
 use Rattle.fits_session.specs.File.{FileParts}
 use Rattle.fits_session.specs.HduEdit.{hdu_changed, hdu_made}
@@ -30,15 +30,15 @@ pub record SessionState : Type 0 where
 
 -- the parts of each HDU
 abbrev pub hdus_of : List HduState → List HduParts
-hdus_of hdus = map (λ (one : HduState). one.hdu) hdus
+hdus_of hdus = map parts_of hdus
 
 -- the cards read of each
 abbrev pub reads_of : List HduState → List ℕ
-reads_of hdus = map (λ (one : HduState). one.reads) hdus
+reads_of hdus = map (λ (one : HduState). one.header.reads) hdus
 
 -- the work on the data unit of each
 abbrev pub works_of : List HduState → List PixelWork
-works_of hdus = map (λ (one : HduState). one.pixel_work) hdus
+works_of hdus = map (λ (one : HduState). plane_work one.plane) hdus
 
 -- the file that a session is
 abbrev pub file_of : SessionState → FileParts
@@ -89,7 +89,7 @@ EditWork file h edit old new = (hdu : HduParts) → hdu_of file h ≡ Some hdu �
 
 -- an HDU with each of its cards read once more
 abbrev pub once_read : HduState → HduState
-once_read one = record one { reads = one.reads + length one.hdu.header.cards }
+once_read one = record one { header = record one.header { reads = one.header.reads + length one.header.header.cards } }
 
 -- the same of each
 abbrev pub each_read : List HduState → List HduState
@@ -111,8 +111,8 @@ pub record HduWorks (h : ℕ) (edit : HduEdit) (old new : SessionState) : Type 0
 pub record PutsIn (h : ℕ) (before after : List HduState) : Type 0 where
   pub one : HduState
   pub is : after ≡ insert before (h - 1) one
-  pub reads : one.reads ≤ open_reads one.hdu.header.cards
-  pub made : IsMade (block_count one.hdu.data_unit) one.pixel_work
+  pub reads : one.header.reads ≤ open_reads one.header.header.cards
+  pub made : IsMade (block_count one.plane.bytes) (plane_work one.plane)
 
 -- the work of an edit: on its HDU, or none but that of an HDU that is put in; the counts go with their HDUs
 abbrev pub WorksAs : Edit → SessionState → SessionState → Type 0
@@ -168,27 +168,27 @@ within_refusal bytes hdus hdu (Ok made) = limit_refusal (length_with bytes hdu m
 -- what is made of an HDU owes, in a file of so many bytes and HDUs: it is made where no test fails, and the answer is how many bytes the
 -- file has then; else the HDU is as before, and the refusal is the first test's that fails, or memory's; a refused one works on no block
 pub record HduMakes (made : Result HduParts Refusal) (NeedsMemory : Option Refusal → Type 0) (reads : ℕ) (Works : PixelWork → PixelWork → Type 0) (bytes hdus : ℕ) (old new : HduState) (result : Result ℕ Refusal) : Type 0 where
-  pub whole : IsHdu (is_primary old.shape.class) old.hdu
-  pub left : IsHdu (is_primary old.shape.class) new.hdu
-  pub accepted : OnOk result (within_refusal bytes hdus old.hdu made ≡ None)
-  pub ok : OnOk result (made ≡ Ok new.hdu)
-  pub size : IfOk result (λ after. after ≡ length_with bytes old.hdu new.hdu)
-  pub refused : IfErr result (Fails NeedsMemory (within_refusal bytes hdus old.hdu made))
-  pub err : OnErr result (new.hdu ≡ old.hdu)
-  pub least : old.reads ≤ new.reads
-  pub most : new.reads ≤ old.reads + reads
-  pub work : Works old.pixel_work new.pixel_work
-  pub idle : OnErr result (new.pixel_work ≡ old.pixel_work)
+  pub whole : IsHdu (is_primary old.header.shape.class) (parts_of old)
+  pub left : IsHdu (is_primary old.header.shape.class) (parts_of new)
+  pub accepted : OnOk result (within_refusal bytes hdus (parts_of old) made ≡ None)
+  pub ok : OnOk result (made ≡ Ok (parts_of new))
+  pub size : IfOk result (λ after. after ≡ length_with bytes (parts_of old) (parts_of new))
+  pub refused : IfErr result (Fails NeedsMemory (within_refusal bytes hdus (parts_of old) made))
+  pub err : OnErr result (parts_of new ≡ parts_of old)
+  pub least : old.header.reads ≤ new.header.reads
+  pub most : new.header.reads ≤ old.header.reads + reads
+  pub work : Works (plane_work old.plane) (plane_work new.plane)
+  pub idle : OnErr result (plane_work new.plane ≡ plane_work old.plane)
 
 -- an edit of an HDU owes this
 abbrev pub HduEditsTo : HduEdit → (bytes hdus : ℕ) (old new : HduState) → Result ℕ Refusal → Type 0
 HduEditsTo edit bytes hdus old new =
-    let primary : Bool = is_primary old.shape.class in
-    HduMakes (hdu_made primary edit old.hdu) (HduNeedsMemory edit) (hdu_reads primary edit old.hdu) (HduWork primary edit old.hdu) bytes hdus old new
+    let primary : Bool = is_primary old.header.shape.class in
+    HduMakes (hdu_made primary edit (parts_of old)) (HduNeedsMemory edit) (hdu_reads primary edit (parts_of old)) (HduWork primary edit (parts_of old)) bytes hdus old new
 
 -- and so does a change of its cards
 abbrev pub ChangesTo : Change → (bytes hdus : ℕ) (old new : HduState) → Result ℕ Refusal → Type 0
 ChangesTo change bytes hdus old new =
-    let primary : Bool = is_primary old.shape.class in
-    let made : Result HduParts Refusal = hdu_changed primary old.hdu (Ok change) in
-    HduMakes made CardsNeedMemory (shape_reads old.shape + apply_reads) (BlankWork primary old.hdu made) bytes hdus old new
+    let primary : Bool = is_primary old.header.shape.class in
+    let made : Result HduParts Refusal = hdu_changed primary (parts_of old) (Ok change) in
+    HduMakes made CardsNeedMemory (shape_reads old.header.shape + apply_reads) (BlankWork primary (parts_of old) made) bytes hdus old new

@@ -16,7 +16,8 @@ impl Hdu {
     ghost use Rattle.fits_plane.specs.Layout.{block_count};
     ghost use Rattle.fits_hdu.specs.Hdu.{hdu_bytes};
     ghost use Rattle.fits_hdu.specs.NewImage.{are_axes, image_shape, new_image};
-    ghost use Rattle.fits_hdu.specs.Work.{open_reads, IsMade};
+    ghost use Rattle.fits_hdu.specs.State.{parts_of};
+    ghost use Rattle.fits_hdu.specs.Work.{open_reads, plane_work, IsMade};
 
     /// A new image of this kind and shape (FITS Standard 4.0, section 7.1), each of whose bytes of
     /// data is zero. With its header it has 2^33 bytes at most.
@@ -27,10 +28,10 @@ impl Hdu {
         requires shape { shape ≡ image_shape kind shape.axes }
         requires axes { are_axes shape.axes ≡ true }
         requires small { length (hdu_bytes (new_image kind shape.axes)) ≤ 2 ^ 33 }
-        ensures hdu { IfOk result (λ it. it.hdu ≡ new_image kind shape.axes) }
-        ensures shape { IfOk result (λ it. it.shape ≡ shape) }
-        ensures work { IfOk result (λ it. it.reads ≤ open_reads it.hdu.header.cards) }
-        ensures scans { IfOk result (λ it. IsMade (block_count it.hdu.data_unit) it.pixel_work) }
+        ensures hdu { IfOk result (λ it. parts_of it ≡ new_image kind shape.axes) }
+        ensures shape { IfOk result (λ it. it.header.shape ≡ shape) }
+        ensures work { IfOk result (λ it. it.header.reads ≤ open_reads it.header.header.cards) }
+        ensures scans { IfOk result (λ it. IsMade (block_count it.plane.bytes) (plane_work it.plane)) }
     {
         let Ok(len) = unit_len(&shape, LARGEST_UNIT) else {
             return Err(AllocError);

@@ -13,13 +13,14 @@ impl Hdu {
     ghost use Rattle.fits_rules.specs.Shape.{shape_of};
     ghost use Rattle.fits_hdu.specs.Layout.{layout_of};
     ghost use Rattle.fits_hdu.specs.Pixels.{painted, rect_of, stats_of, RectFails};
-    ghost use Rattle.fits_hdu.specs.Work.{IsPatched};
+    ghost use Rattle.fits_hdu.specs.State.{parts_of};
+    ghost use Rattle.fits_hdu.specs.Work.{plane_work, IsPatched};
 
     /// The statistics of its pixels, where it is an image of integers. It takes no memory, and
     /// reads no card and no pixel.
     #[tactic(auto, using(crate::proofs::PixelLemmas::pixel_steps))]
     pub fn stats(&self) -> Option<ValueSummary>
-        ensures { result ≡ stats_of self.now.shape self.now.hdu }
+        ensures { result ≡ stats_of self.now.header.shape (parts_of self.now) }
     {
         let kind = self.kind?;
         Some(self.plane.value_stats(kind.offset()))
@@ -29,15 +30,13 @@ impl Hdu {
     /// read once.
     #[tactic(auto, using(crate::proofs::PixelLemmas::pixel_steps))]
     pub fn rect(&mut self, alloc: Global, lo: &[u64], hi: &[u64]) -> Result<Vec<i128>, PixelFault>
-        ensures ok { IfOk result (λ values. rect_of self.old.shape lo.now hi.now self.old.hdu
+        ensures ok { IfOk result (λ values. rect_of self.old.header.shape lo.now hi.now (parts_of self.old)
             ≡ Ok values.items) }
-        ensures err { IfErr result (RectFails (rect_of self.old.shape lo.now hi.now self.old.hdu)) }
+        ensures err { IfErr result (RectFails (rect_of self.old.header.shape lo.now hi.now (parts_of self.old))) }
         ensures work { OnOk result (self.new ≡ record self.old {
-          pixel_work = record
-              self.old.pixel_work {
-                reads = self.old.pixel_work.reads
-                    + rectangle_size lo.now hi.now;
-              };
+          plane = record self.old.plane {
+            reads = self.old.plane.reads + rectangle_size lo.now hi.now;
+          };
         }) }
         ensures same { OnErr result (self.new ≡ self.old) }
     {
@@ -59,20 +58,18 @@ impl Hdu {
     /// It takes no memory. Of the data unit it scans the blocks that hold a byte of the rectangle.
     #[tactic(auto, using(crate::proofs::PixelLemmas::pixel_steps))]
     pub fn paint(&mut self, lo: &[u64], hi: &[u64], paint: &LentPaint) -> Result<(), PixelFault>
-        ensures ok { OnOk result (painted self.old.shape lo.now hi.now paint.now self.old.hdu
-            ≡ Ok self.new.hdu) }
-        ensures err { IfErr result (λ why. painted self.old.shape lo.now hi.now paint.now
-            self.old.hdu ≡ Err why) }
+        ensures ok { OnOk result (painted self.old.header.shape lo.now hi.now paint.now (parts_of self.old)
+            ≡ Ok (parts_of self.new)) }
+        ensures err { IfErr result (λ why. painted self.old.header.shape lo.now hi.now paint.now
+            (parts_of self.old) ≡ Err why) }
         ensures same { OnErr result (self.new ≡ self.old) }
-        ensures shape { self.new.shape ≡ self.old.shape }
-        ensures room { self.new.room ≡ self.old.room }
-        ensures reads { self.new.reads ≡ self.old.reads }
+        ensures rest { self.new ≡ record self.old { plane = self.new.plane } }
         ensures work { OnOk result (IsPatched
-            (rectangle_blocks (layout_of self.old.shape self.old.hdu.header.cards)
-            self.old.hdu.data_unit self.old.shape.axes lo.now hi.now)
-            (block_count self.old.hdu.data_unit) self.old.pixel_work self.new.pixel_work) }
-        ensures described { shape_of (is_primary self.old.shape.class) self.old.hdu.header.cards
-            ≡ Ok self.old.shape }
+            (rectangle_blocks (layout_of self.old.header.shape self.old.header.header.cards)
+            self.old.plane.bytes self.old.header.shape.axes lo.now hi.now)
+            (block_count self.old.plane.bytes) (plane_work self.old.plane) (plane_work self.new.plane)) }
+        ensures described { shape_of (is_primary self.old.header.shape.class) self.old.header.header.cards
+            ≡ Ok self.old.header.shape }
     {
         let Some(kind) = self.kind else {
             return Err(PixelFault::NotImage);

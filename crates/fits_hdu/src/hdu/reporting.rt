@@ -19,13 +19,14 @@ impl Hdu {
     ghost use Rattle.fits_hdu.specs.ExtensionName.{extension_name};
     ghost use Rattle.fits_hdu.specs.Findings.{AreFindings, hdu_counts, whole_codes};
     ghost use Rattle.fits_hdu.specs.Hdu.{hdu_bytes};
+    ghost use Rattle.fits_hdu.specs.State.{parts_of};
     ghost use Rattle.fits_hdu.specs.Sums.{data_sum, verdicts_of};
 
     /// The sum of its data unit, with the fill (FITS Standard 4.0, Appendix J). It takes no memory,
     /// and nothing is read.
     #[tactic(auto, unfolding(crate::specs::Sums::data_sum))]
     pub fn datasum(&self) -> u32
-        ensures { result ≡ data_sum self.now.hdu }
+        ensures { result ≡ data_sum (parts_of self.now) }
     {
         fold(self.plane.total())
     }
@@ -33,8 +34,8 @@ impl Hdu {
     /// Whether its sums are right (FITS Standard 4.0, section 4.4.2.7). It takes no memory, and
     /// reads no card and no block.
     pub fn verdicts(&self) -> Verdicts
-        requires { length (hdu_bytes self.now.hdu) ≤ 2 ^ 34 }
-        ensures { result ≡ verdicts_of self.now.hdu }
+        requires { length (hdu_bytes (parts_of self.now)) ≤ 2 ^ 34 }
+        ensures { result ≡ verdicts_of (parts_of self.now) }
     {
         // A header is of whole words, so the data unit's total adds to its own.
         let _whole_words = self.header.len();
@@ -46,8 +47,8 @@ impl Hdu {
     // The codes of it as a whole: those of its header, and then those of its data and its sums.
     #[tactic(auto, using(crate::proofs::ReportLemmas::report_steps))]
     fn whole(&self) -> CodeSet
-        requires { length (hdu_bytes self.now.hdu) ≤ 2 ^ 34 }
-        ensures { result ≡ whole_codes self.now.shape self.now.hdu }
+        requires { length (hdu_bytes (parts_of self.now)) ≤ 2 ^ 34 }
+        ensures { result ≡ whole_codes self.now.header.shape (parts_of self.now) }
     {
         with_data_codes(self.codes, self.plane.fill_ok(), self.verdicts())
     }
@@ -55,9 +56,9 @@ impl Hdu {
     /// What it is called, if it is an extension with a name. It takes no memory, and reads no card.
     pub fn extension_name(&self) -> Option<ExtensionName>
         ensures value { result
-            ≡ extension_name (is_primary self.now.shape.class) self.now.hdu.header.cards }
-        ensures described { shape_of (is_primary self.now.shape.class) self.now.hdu.header.cards
-            ≡ Ok self.now.shape }
+            ≡ extension_name (is_primary self.now.header.shape.class) self.now.header.header.cards }
+        ensures described { shape_of (is_primary self.now.header.shape.class) self.now.header.header.cards
+            ≡ Ok self.now.header.shape }
     {
         self.name
     }
@@ -65,9 +66,9 @@ impl Hdu {
     /// What is found of it. No card is read.
     #[tactic(auto, using(crate::proofs::ReportLemmas::report_steps))]
     pub fn findings(&mut self, alloc: Global) -> Result<Findings, AllocError>
-        requires { length (hdu_bytes self.old.hdu) ≤ 2 ^ 34 }
+        requires { length (hdu_bytes (parts_of self.old)) ≤ 2 ^ 34 }
         ensures found { IfOk result (λ it.
-            AreFindings it.whole it.of_cards.items it.name self.old.hdu) }
+            AreFindings it.whole it.of_cards.items it.name (parts_of self.old)) }
         ensures same { self.new ≡ self.old }
     {
         let whole = self.whole();
@@ -82,11 +83,11 @@ impl Hdu {
     /// How many errors and warnings are found of it, which is called as another extension is or
     /// isn't. It takes no memory, and reads no card.
     pub fn counts(&mut self, repeated: bool) -> Counts
-        requires { length (hdu_bytes self.old.hdu) ≤ 2 ^ 34 }
-        ensures value { result ≡ hdu_counts self.old.shape self.old.hdu repeated }
-        ensures described { shape_of (is_primary self.old.shape.class) self.old.hdu.header.cards
-            ≡ Ok self.old.shape }
-        ensures within { result.errors + result.warnings ≤ length (hdu_bytes self.old.hdu) }
+        requires { length (hdu_bytes (parts_of self.old)) ≤ 2 ^ 34 }
+        ensures value { result ≡ hdu_counts self.old.header.shape (parts_of self.old) repeated }
+        ensures described { shape_of (is_primary self.old.header.shape.class) self.old.header.header.cards
+            ≡ Ok self.old.header.shape }
+        ensures within { result.errors + result.warnings ≤ length (hdu_bytes (parts_of self.old)) }
         ensures same { self.new ≡ self.old }
     {
         // A card has fewer codes than bytes, and so have the whole and END.

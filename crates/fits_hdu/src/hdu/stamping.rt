@@ -20,16 +20,16 @@ impl Hdu {
     ghost use Rattle.fits_hdu.specs.Hdu.{hdu_bytes};
     ghost use Rattle.fits_hdu.specs.Keyword.{own_count};
     ghost use Rattle.fits_hdu.specs.Stamp.{stamped, with_keyword, IsOneCard, IsSumName};
-    ghost use Rattle.fits_hdu.specs.State.{ReadsUpTo};
+    ghost use Rattle.fits_hdu.specs.State.{parts_of, ReadsUpTo};
     ghost use Rattle.fits_hdu.specs.Sums.{hdu_sum};
-    ghost use Rattle.fits_hdu.specs.Work.{apply_reads, keyword_reads, stamp_count_reads, stamp_reads};
+    ghost use Rattle.fits_hdu.specs.Work.{apply_reads, keyword_reads, plane_work, stamp_count_reads, stamp_reads};
 
     /// How many cards its header has when it is stamped. The cards that it reads are counted. It
     /// takes no memory.
     #[tactic(auto, using(crate::proofs::StampingLemmas::count_steps))]
     pub fn count_stamped(&mut self) -> usize
-        ensures value { result ≡ length (stamped self.old.hdu).header.cards }
-        ensures work { ReadsUpTo self.old self.new (stamp_count_reads self.old.hdu.header.cards) }
+        ensures value { result ≡ length (stamped (parts_of self.old)).header.cards }
+        ensures work { ReadsUpTo self.old self.new (stamp_count_reads self.old.header.header.cards) }
     {
         let checksum = count_of(self.keyword_cards(&CHECKSUM));
         let datasum = count_of(self.keyword_cards(&DATASUM));
@@ -43,16 +43,16 @@ impl Hdu {
     /// the data unit is read.
     #[tactic(auto, using(crate::proofs::StampingLemmas::stamp_steps))]
     pub fn stamp(&mut self, alloc: Global) -> Result<(), AllocError>
-        requires { length (hdu_bytes self.old.hdu) ≤ 2 ^ 33 }
-        ensures ok { OnOk result (self.new.hdu ≡ stamped self.old.hdu) }
-        ensures err { OnErr result (self.new.hdu ≡ self.old.hdu) }
-        ensures shape { self.new.shape ≡ self.old.shape }
-        ensures pixel_work { self.new.pixel_work ≡ self.old.pixel_work }
-        ensures least { self.old.reads ≤ self.new.reads }
-        ensures work { self.new.reads
-            ≤ self.old.reads + stamp_reads self.old.hdu.header.cards }
-        ensures described { shape_of (is_primary self.old.shape.class) self.old.hdu.header.cards
-            ≡ Ok self.old.shape }
+        requires { length (hdu_bytes (parts_of self.old)) ≤ 2 ^ 33 }
+        ensures ok { OnOk result (parts_of self.new ≡ stamped (parts_of self.old)) }
+        ensures err { OnErr result (parts_of self.new ≡ parts_of self.old) }
+        ensures shape { self.new.header.shape ≡ self.old.header.shape }
+        ensures pixel_work { plane_work self.new.plane ≡ plane_work self.old.plane }
+        ensures least { self.old.header.reads ≤ self.new.header.reads }
+        ensures work { self.new.header.reads
+            ≤ self.old.header.reads + stamp_reads self.old.header.header.cards }
+        ensures described { shape_of (is_primary self.old.header.shape.class) self.old.header.header.cards
+            ≡ Ok self.old.header.shape }
     {
         let _described = self.card_count();
         let zeros = one_card(alloc, sum_card(&CHECKSUM, &[b'0'; 16]))?;
@@ -70,8 +70,8 @@ impl Hdu {
     // The sum of the whole of it.
     #[tactic(auto, using(crate::proofs::StampingLemmas::sum_steps), unfolding(crate::specs::Sums::hdu_sum))]
     fn sum(&self) -> u32
-        requires { length (hdu_bytes self.now.hdu) ≤ 2 ^ 34 }
-        ensures { result ≡ hdu_sum self.now.hdu }
+        requires { length (hdu_bytes (parts_of self.now)) ≤ 2 ^ 34 }
+        ensures { result ≡ hdu_sum (parts_of self.now) }
     {
         let _whole = self.card_count();
         let header = fold(self.header.total());
@@ -80,7 +80,7 @@ impl Hdu {
 
     // How many cards come where a keyword is set to one.
     fn missing(&self, name: &Name) -> usize
-        ensures { result ≡ 1 - own_count self.now.hdu.header.cards name.now }
+        ensures { result ≡ 1 - own_count self.now.header.header.cards name.now }
     {
         match self.header.lead(name) {
             Some(_) => 0,
@@ -93,15 +93,15 @@ impl Hdu {
     fn set_card(&mut self, name: &Name, new: Cards)
         requires keyword { IsSumName name.now }
         requires one { IsOneCard name.now new }
-        requires room { 1 ≤ self.old.room + own_count self.old.hdu.header.cards name.now }
-        ensures hdu { self.new.hdu ≡ with_keyword name.now (Some new) self.old.hdu }
-        ensures shape { self.new.shape ≡ self.old.shape }
-        ensures room { self.new.room + 1
-            ≡ self.old.room + own_count self.old.hdu.header.cards name.now }
-        ensures pixel_work { self.new.pixel_work ≡ self.old.pixel_work }
-        ensures least { self.old.reads ≤ self.new.reads }
-        ensures work { self.new.reads
-            ≤ self.old.reads + keyword_reads self.old.hdu.header.cards name.now + apply_reads }
+        requires room { 1 ≤ self.old.header.room + own_count self.old.header.header.cards name.now }
+        ensures hdu { parts_of self.new ≡ with_keyword name.now (Some new) (parts_of self.old) }
+        ensures shape { self.new.header.shape ≡ self.old.header.shape }
+        ensures room { self.new.header.room + 1
+            ≡ self.old.header.room + own_count self.old.header.header.cards name.now }
+        ensures pixel_work { plane_work self.new.plane ≡ plane_work self.old.plane }
+        ensures least { self.old.header.reads ≤ self.new.header.reads }
+        ensures work { self.new.header.reads
+            ≤ self.old.header.reads + keyword_reads self.old.header.header.cards name.now + apply_reads }
     {
         let count = self.card_count();
         let old = self.keyword_cards(name);

@@ -4,6 +4,7 @@ ghost use Rattle.std.specs.Prelude.{◌≡◌, ◌≤◌, ◌+◌, ◌-◌, true
 ghost use Rattle.fits_card.specs.Change.{new_cards, IsInRange};
 ghost use Rattle.fits_card.specs.Header.{header_length, IsInnerCard};
 ghost use Rattle.fits_hdu.specs.Hdu.{hdu_bytes};
+ghost use Rattle.fits_hdu.specs.State.{parts_of};
 ghost use Rattle.fits_session.specs.Limits.{is_within_limits, size_within};
 ghost use Rattle.fits_session.specs.Session.{ChangesTo, HduEditsTo};
 ghost use Rattle.fits_session.specs.declared.limits.TheConstants.{FILE_LIMIT};
@@ -26,7 +27,7 @@ pub(super) fn edit_cards(
     hdus: u64,
     edit: &CardEdit,
 ) -> Result<u64, Refusal>
-    requires part { length (hdu_bytes hdu.old.hdu) ≤ len }
+    requires part { length (hdu_bytes (parts_of hdu.old)) ≤ len }
     requires within { is_within_limits len hdus ≡ true }
     ensures { HduEditsTo (HduEdit.Cards edit.now) len hdus hdu.old hdu.new result }
 {
@@ -36,9 +37,9 @@ pub(super) fn edit_cards(
 
 // Makes a change of an HDU, if it keeps the shape and the limits.
 fn make_change(hdu: &mut Hdu, change: &Change, len: u64, hdus: u64) -> Result<u64, Refusal>
-    requires in_range { IsInRange hdu.old.hdu.header.cards change.now }
+    requires in_range { IsInRange hdu.old.header.header.cards change.now }
     requires inner { All IsInnerCard (new_cards change.now) }
-    requires part { length (hdu_bytes hdu.old.hdu) ≤ len }
+    requires part { length (hdu_bytes (parts_of hdu.old)) ≤ len }
     requires within { is_within_limits len hdus ≡ true }
     ensures { ChangesTo change.now len hdus hdu.old hdu.new result }
 {

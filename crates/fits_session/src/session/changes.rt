@@ -5,7 +5,7 @@ ghost use Rattle.fits_card.specs.Header.{IsInnerCard};
 ghost use Rattle.fits_rules.specs.Class.{is_primary};
 ghost use Rattle.fits_rules.specs.Shape.{shape_of};
 ghost use Rattle.fits_hdu.specs.Hdu.{IsHdu};
-ghost use Rattle.fits_hdu.specs.State.{ReadsUpTo};
+ghost use Rattle.fits_hdu.specs.State.{parts_of, ReadsUpTo};
 ghost use Rattle.fits_hdu.specs.Work.{keyword_reads};
 ghost use Rattle.fits_session.specs.CardEdit.{change_of, is_keyword_name, is_splice_within, is_within, own_refusal, set_of, tested, unset_of};
 ghost use Rattle.fits_session.specs.Refusal.{ChangeFails};
@@ -23,13 +23,13 @@ use std::alloc::{AllocError, Global};
 /// Memory is asked for after these tests.
 #[tactic(auto, unfolding(crate::specs::CardEdit::change_of))]
 pub(super) fn change_of(alloc: Global, hdu: &mut Hdu, edit: &CardEdit) -> Result<Change, Refusal>
-    ensures ok { IfOk result (λ change. change_of hdu.old.hdu.header.cards edit.now ≡ Ok change) }
+    ensures ok { IfOk result (λ change. change_of hdu.old.header.header.cards edit.now ≡ Ok change) }
     ensures inner { IfOk result (λ change. All IsInnerCard (new_cards change)) }
-    ensures err { IfErr result (ChangeFails (change_of hdu.old.hdu.header.cards edit.now)) }
-    ensures work { ReadsUpTo hdu.old hdu.new (own_reads hdu.old.hdu.header.cards edit.now) }
-    ensures whole { IsHdu (is_primary hdu.old.shape.class) hdu.old.hdu }
-    ensures described { shape_of (is_primary hdu.old.shape.class) hdu.old.hdu.header.cards
-        ≡ Ok hdu.old.shape }
+    ensures err { IfErr result (ChangeFails (change_of hdu.old.header.header.cards edit.now)) }
+    ensures work { ReadsUpTo hdu.old hdu.new (own_reads hdu.old.header.header.cards edit.now) }
+    ensures whole { IsHdu (is_primary hdu.old.header.shape.class) (parts_of hdu.old) }
+    ensures described { shape_of (is_primary hdu.old.header.shape.class) hdu.old.header.header.cards
+        ≡ Ok hdu.old.header.shape }
 {
     let count = hdu.card_count();
     match edit {
@@ -148,13 +148,13 @@ fn set_keyword(
     value: &Value,
     comment: &Option<Text>,
 ) -> Result<Change, Refusal>
-    ensures ok { IfOk result (λ change. set_of hdu.old.hdu.header.cards name.now value.now
+    ensures ok { IfOk result (λ change. set_of hdu.old.header.header.cards name.now value.now
         comment.now ≡ Ok change) }
     ensures inner { IfOk result (λ change. All IsInnerCard (new_cards change)) }
-    ensures err { IfErr result (ChangeFails (set_of hdu.old.hdu.header.cards name.now value.now
+    ensures err { IfErr result (ChangeFails (set_of hdu.old.header.header.cards name.now value.now
         comment.now)) }
     ensures work { ReadsUpTo hdu.old hdu.new
-        (keyword_reads hdu.old.hdu.header.cards name.now) }
+        (keyword_reads hdu.old.header.header.cards name.now) }
 {
     if !name.is_settable() {
         return Err(Refusal::BadName);
@@ -167,10 +167,10 @@ fn set_keyword(
 // A keyword's cards go.
 #[tactic(auto, using(crate::proofs::KeywordLemmas::unset_steps))]
 fn unset_keyword(alloc: Global, hdu: &mut Hdu, name: &Name) -> Result<Change, Refusal>
-    ensures value { result ≡ unset_of hdu.old.hdu.header.cards name.now }
+    ensures value { result ≡ unset_of hdu.old.header.header.cards name.now }
     ensures inner { IfOk result (λ change. All IsInnerCard (new_cards change)) }
     ensures work { ReadsUpTo hdu.old hdu.new
-        (keyword_reads hdu.old.hdu.header.cards name.now) }
+        (keyword_reads hdu.old.header.header.cards name.now) }
 {
     if !is_keyword_name(name) {
         return Err(Refusal::BadName);

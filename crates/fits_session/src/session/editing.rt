@@ -1,6 +1,7 @@
 //! Edits of one HDU.
 ghost use Rattle.std.specs.Prelude.{◌≡◌, ◌≤◌, true, length};
 ghost use Rattle.fits_hdu.specs.Hdu.{hdu_bytes};
+ghost use Rattle.fits_hdu.specs.State.{parts_of};
 ghost use Rattle.fits_session.specs.Limits.{is_within_limits};
 ghost use Rattle.fits_session.specs.Session.{HduEditsTo};
 
@@ -38,7 +39,7 @@ fn edit_hdu(
     hdus: u64,
     edit: &HduEdit,
 ) -> Result<u64, Refusal>
-    requires part { length (hdu_bytes hdu.old.hdu) ≤ len }
+    requires part { length (hdu_bytes (parts_of hdu.old)) ≤ len }
     requires within { is_within_limits len hdus ≡ true }
     ensures { HduEditsTo edit.now len hdus hdu.old hdu.new result }
 {

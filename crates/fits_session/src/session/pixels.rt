@@ -1,6 +1,7 @@
 //! Edits of pixels: their tests, and then the pixels are painted. No memory is asked for.
 ghost use Rattle.std.specs.Prelude.{◌≡◌, ◌≤◌, true, length};
 ghost use Rattle.fits_hdu.specs.Hdu.{hdu_bytes};
+ghost use Rattle.fits_hdu.specs.State.{parts_of};
 ghost use Rattle.fits_session.specs.Limits.{is_within_limits};
 ghost use Rattle.fits_session.specs.Session.{HduEditsTo};
 
@@ -20,7 +21,7 @@ pub(super) fn paint_pixels(
     hi: &Corner,
     paint: &Paint,
 ) -> Result<u64, Refusal>
-    requires part { length (hdu_bytes hdu.old.hdu) ≤ len }
+    requires part { length (hdu_bytes (parts_of hdu.old)) ≤ len }
     requires within { is_within_limits len hdus ≡ true }
     ensures { HduEditsTo (HduEdit.Pixels lo.now hi.now paint.now) len hdus hdu.old hdu.new result }
 {

@@ -1,6 +1,6 @@
 //! What a session answers. Queries leave the file as it is.
 ghost use Rattle.std.specs.Prelude.{◌≡◌, ◌≤◌, ◌<◌, ◌+◌, ℕ, List, length, get_or, IfOk};
-ghost use Rattle.fits_hdu.specs.State.{HduState};
+ghost use Rattle.fits_hdu.specs.State.{parts_of, HduState};
 ghost use Rattle.fits_session.specs.File.{joined_hdus, offsets_from, IsFile};
 ghost use Rattle.fits_session.specs.declared.limits.TheConstants.{FILE_LIMIT};
 ghost use Rattle.fits_session.specs.Reading.{is_found, KeepsEach};
@@ -220,7 +220,7 @@ fn is_repeated(hdus: &[Hdu], i: usize) -> bool
     requires within { i < length hdus.now }
     ensures { (tail : List ℕ) (hdu : HduState) → IsFile (file_of (state_of hdus.now tail))
         → hdu ≡ get_or hdus.now i hdu
-        → result ≡ is_repeated (names_from 1 (hdus_of hdus.now)) (name_in (i + 1) hdu.hdu) }
+        → result ≡ is_repeated (names_from 1 (hdus_of hdus.now)) (name_in (i + 1) (parts_of hdu)) }
 {
     match hdus[i].extension_name() {
         Some(name) => called_count(hdus, &name) >= 2,

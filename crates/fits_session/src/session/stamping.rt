@@ -1,6 +1,7 @@
 //! Making the sums of an HDU right: the limits are tested before the sums are written.
 ghost use Rattle.std.specs.Prelude.{◌≡◌, ◌≤◌, true, length};
 ghost use Rattle.fits_hdu.specs.Hdu.{hdu_bytes};
+ghost use Rattle.fits_hdu.specs.State.{parts_of};
 ghost use Rattle.fits_session.specs.Limits.{is_within_limits};
 ghost use Rattle.fits_session.specs.Session.{HduEditsTo};
 
@@ -13,7 +14,7 @@ use std::alloc::Global;
 /// Makes the sums of an HDU right in a file of so many bytes and HDUs, and answers how many bytes
 /// the file has then.
 pub(super) fn stamp(alloc: Global, hdu: &mut Hdu, len: u64, hdus: u64) -> Result<u64, Refusal>
-    requires part { length (hdu_bytes hdu.old.hdu) ≤ len }
+    requires part { length (hdu_bytes (parts_of hdu.old)) ≤ len }
     requires within { is_within_limits len hdus ≡ true }
     ensures { HduEditsTo HduEdit.Stamp len hdus hdu.old hdu.new result }
 {

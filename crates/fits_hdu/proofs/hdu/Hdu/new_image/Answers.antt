@@ -3,13 +3,14 @@ use Rattle.std.proofs.lemmas.List.{length-replicate}
 use Rattle.fits_card.specs.Header.{Header, new_header}
 use Rattle.fits_rules.specs.Size.{data_length}
 use Rattle.fits_hdu.specs.NewImage.{image_cards}
+use Rattle.fits_hdu.specs.State.{parts_of}
 use Rattle.fits_hdu.proofs.NewHeaderLemmas.{new_described, new_made}
 use Rattle.fits_hdu.proofs.hdu.Hdu.new_image.Goals as goal
 
 pub returns-clause-hdu : goal.returns-clause-hdu
 returns-clause-hdu c =
     let axes = ap (λ (xs : List ℕ). new_header (image_cards c.args.kind xs)) c.as_slice.ensures in
-    new_made c.args.kind c.args.shape c.joined.result.hdu c.in-Ok.len c.requires.shape
+    new_made c.args.kind c.args.shape (parts_of c.joined.result) c.in-Ok.len c.requires.shape
     (c.joined.ensures.header ∙ (c.zero_plane.ensures.work.header ∙ (c.in_ok-header.ensures.header ∙ (c.in_ok-cards.ensures.header ∙ axes))))
     (c.joined.ensures.unit ∙ c.in-Ok-zero_plane.ensures.bytes) c.in-Ok.ensures.ok
 

@@ -9,8 +9,8 @@ use Rattle.fits_hdu.specs.Hdu.{HduParts}
 use Rattle.fits_hdu.specs.Kind.{offset_of, width_of}
 use Rattle.fits_hdu.specs.Layout.{layout_of}
 use Rattle.fits_hdu.specs.Pixels.{painted}
-use Rattle.fits_hdu.specs.State.{HduState}
-use Rattle.fits_hdu.specs.Work.{IsPatched}
+use Rattle.fits_hdu.specs.State.{HduState, parts_of}
+use Rattle.fits_hdu.specs.Work.{IsPatched, plane_work}
 use Rattle.fits_hdu.specs.declared.pixel_fault.PixelFault.TheVariants.{NotImage, BadRectangle, WrongCount, OutOfRange}
 use Rattle.fits_hdu.proofs.PixelLemmas.{few_places, length-rectangle_written, offset_fits, painted-not_image, painted-bad, painted-count, painted-out, painted-done, patched, plane_pixels, plane_width}
 use Rattle.fits_hdu.proofs.hdu.Hdu.paint.Goals as goal
@@ -20,7 +20,7 @@ returns-in_default-clause-err c =
     let t = c.self.inside in
     let hdu : HduParts = record { header = t.header.header; data_unit = t.plane.bytes } in
     let no : t.kind ≡ None = search rules in
-    subst (λ (s : HduState). painted s.shape c.args.lo.now c.args.hi.now c.args.paint.now s.hdu ≡ Err NotImage) c.self.view_is
+    subst (λ (s : HduState). painted s.header.shape c.args.lo.now c.args.hi.now c.args.paint.now (parts_of s) ≡ Err NotImage) c.self.view_is
     (painted-not_image t.header.shape hdu c.args.lo.now c.args.hi.now c.args.paint.now (sym c.self.invariant.kind ∙ no))
 
 pub returns-then-not-is_rectangle-clause-err : goal.returns-then-not-is_rectangle-clause-err
@@ -29,7 +29,7 @@ returns-then-not-is_rectangle-clause-err c =
     let hdu : HduParts = record { header = t.header.header; data_unit = t.plane.bytes } in
     let some = c.in-Some.is in
     let bad : lies_within t.header.shape.axes c.args.lo.now c.args.hi.now ≡ false = search rules in
-    subst (λ (s : HduState). painted s.shape c.args.lo.now c.args.hi.now c.args.paint.now s.hdu ≡ Err BadRectangle) c.self.view_is
+    subst (λ (s : HduState). painted s.header.shape c.args.lo.now c.args.hi.now c.args.paint.now (parts_of s) ≡ Err BadRectangle) c.self.view_is
     (painted-bad t.header.shape hdu c.args.lo.now c.args.hi.now c.args.paint.now c.in-Some.kind (sym c.self.invariant.kind ∙ some) bad)
 
 pub rectangle_len-requires-clause-small : goal.rectangle_len-requires-clause-small
@@ -48,7 +48,7 @@ returns-then-not-has_count-clause-err c =
     let some = c.in-Some.is in
     let within : lies_within t.header.shape.axes c.args.lo.now c.args.hi.now ≡ true = search rules in
     let wrong : has_count c.args.paint.now (rectangle_size c.args.lo.now c.args.hi.now) ≡ false = search rules in
-    subst (λ (s : HduState). painted s.shape c.args.lo.now c.args.hi.now c.args.paint.now s.hdu ≡ Err WrongCount) c.self.view_is
+    subst (λ (s : HduState). painted s.header.shape c.args.lo.now c.args.hi.now c.args.paint.now (parts_of s) ≡ Err WrongCount) c.self.view_is
     (painted-count t.header.shape hdu c.args.lo.now c.args.hi.now c.args.paint.now c.in-Some.kind (sym c.self.invariant.kind ∙ some) within wrong)
 
 pub returns-then-not-is_storable-clause-err : goal.returns-then-not-is_storable-clause-err
@@ -60,7 +60,7 @@ returns-then-not-is_storable-clause-err c =
     let count : has_count c.args.paint.now (rectangle_size c.args.lo.now c.args.hi.now) ≡ true = search rules in
     let test : can_store_paint c.width.result c.offset-offset.result c.args.paint.now ≡ false = search rules in
     let offset = offset_fits c.in-Some.kind c.offset-offset.result c.offset-offset.ensures in
-    subst (λ (s : HduState). painted s.shape c.args.lo.now c.args.hi.now c.args.paint.now s.hdu ≡ Err OutOfRange) c.self.view_is
+    subst (λ (s : HduState). painted s.header.shape c.args.lo.now c.args.hi.now c.args.paint.now (parts_of s) ≡ Err OutOfRange) c.self.view_is
     (painted-out t.header.shape hdu c.args.lo.now c.args.hi.now c.args.paint.now c.in-Some.kind (sym c.self.invariant.kind ∙ some) within count
     (rw (← c.width.ensures.value, ← c.offset-offset.ensures) test))
 
@@ -88,7 +88,7 @@ returns-clause-ok c =
     c.paint_rect.ensures.bytes
     ∙ ap (λ o. rectangle_written t.plane.layout.width c.as_slice-axes.result.now c.args.lo.now c.args.hi.now (painted_number c.args.paint.now o) t.plane.bytes) offset
     ∙ ap (λ xs. rectangle_written t.plane.layout.width xs c.args.lo.now c.args.hi.now (painted_number c.args.paint.now (offset_of c.in-Some.kind)) t.plane.bytes) axes in
-    subst (λ (s : HduState). painted s.shape c.args.lo.now c.args.hi.now c.args.paint.now s.hdu ≡ Ok (record { header = t.header.header; data_unit = c.paint_rect.new.self.bytes })) c.self.view_is
+    subst (λ (s : HduState). painted s.header.shape c.args.lo.now c.args.hi.now c.args.paint.now (parts_of s) ≡ Ok (record { header = t.header.header; data_unit = c.paint_rect.new.self.bytes })) c.self.view_is
     (painted-done t.header.shape t.header.header t.plane.bytes c.paint_rect.new.self.bytes c.args.lo.now c.args.hi.now c.args.paint.now c.in-Some.kind t.plane.layout.width
     (sym c.self.invariant.kind ∙ some) within (width ∙ c.width.ensures.value) count can put)
 
@@ -97,8 +97,8 @@ returns-clause-work c =
     let t = c.self.inside in
     let e = c.paint_rect.ensures in
     let axes = c.as_slice-axes.ensures ∙ ap (λ (shape : Shape). shape.axes) c.shape.ensures.value in
-    subst (λ (s : HduState). IsPatched (rectangle_blocks (layout_of s.shape s.hdu.header.cards) s.hdu.data_unit s.shape.axes c.args.lo.now c.args.hi.now)
-    (block_count s.hdu.data_unit) s.pixel_work (record { scans = c.paint_rect.new.self.scans; reads = c.paint_rect.new.self.reads; joins = c.paint_rect.new.self.joins })) c.self.view_is
+    subst (λ (s : HduState). IsPatched (rectangle_blocks (layout_of s.header.shape s.header.header.cards) s.plane.bytes s.header.shape.axes c.args.lo.now c.args.hi.now)
+    (block_count s.plane.bytes) (plane_work s.plane) (record { scans = c.paint_rect.new.self.scans; reads = c.paint_rect.new.self.reads; joins = c.paint_rect.new.self.joins })) c.self.view_is
     (patched t.plane.layout t.header.shape t.header.header.cards t.plane.bytes c.as_slice-axes.result.now c.args.lo.now c.args.hi.now _ _ c.self.invariant.layout axes
     e.reads e.more_scans e.scans e.more_joins e.joins)
 

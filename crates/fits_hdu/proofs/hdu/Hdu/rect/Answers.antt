@@ -5,7 +5,7 @@ use Rattle.fits_rules.specs.declared.array_shape.Shape.{Shape}
 use Rattle.fits_hdu.specs.Hdu.{HduParts}
 use Rattle.fits_hdu.specs.Kind.{offset_of, width_of}
 use Rattle.fits_hdu.specs.Pixels.{rect_of}
-use Rattle.fits_hdu.specs.State.{HduState}
+use Rattle.fits_hdu.specs.State.{HduState, parts_of}
 use Rattle.fits_hdu.specs.declared.pixel_fault.PixelFault.{PixelFault}
 use Rattle.fits_hdu.specs.declared.pixel_fault.PixelFault.TheVariants.{NotImage, BadRectangle}
 use Rattle.fits_hdu.proofs.PixelLemmas.{offset_fits, plane_pixels, plane_width, rect_of-bad, rect_of-not_image, rect_of-values}
@@ -16,7 +16,7 @@ returns-in_default-clause-err c =
     let t = c.self.inside in
     let hdu : HduParts = record { header = t.header.header; data_unit = t.plane.bytes } in
     let no : t.kind ≡ None = search rules in
-    subst (λ (s : HduState). rect_of s.shape c.args.lo.now c.args.hi.now s.hdu ≡ Err NotImage) c.self.view_is
+    subst (λ (s : HduState). rect_of s.header.shape c.args.lo.now c.args.hi.now (parts_of s) ≡ Err NotImage) c.self.view_is
     (rect_of-not_image t.header.shape hdu c.args.lo.now c.args.hi.now (sym c.self.invariant.kind ∙ no))
 
 pub returns-then-not-is_rectangle-clause-err : goal.returns-then-not-is_rectangle-clause-err
@@ -25,7 +25,7 @@ returns-then-not-is_rectangle-clause-err c =
     let hdu : HduParts = record { header = t.header.header; data_unit = t.plane.bytes } in
     let some = c.in-Some.is in
     let bad : lies_within t.header.shape.axes c.args.lo.now c.args.hi.now ≡ false = search rules in
-    subst (λ (s : HduState). rect_of s.shape c.args.lo.now c.args.hi.now s.hdu ≡ Err BadRectangle) c.self.view_is
+    subst (λ (s : HduState). rect_of s.header.shape c.args.lo.now c.args.hi.now (parts_of s) ≡ Err BadRectangle) c.self.view_is
     (rect_of-bad t.header.shape hdu c.args.lo.now c.args.hi.now c.in-Some.kind (sym c.self.invariant.kind ∙ some) bad)
 
 pub returns-in_default-rect-clause-err : goal.returns-in_default-rect-clause-err
@@ -34,7 +34,7 @@ returns-in_default-rect-clause-err c =
     let hdu : HduParts = record { header = t.header.header; data_unit = t.plane.bytes } in
     let some = c.in-Some.is in
     let within : lies_within t.header.shape.axes c.args.lo.now c.args.hi.now ≡ true = search rules in
-    subst (λ (s : HduState). IsOk (rect_of s.shape c.args.lo.now c.args.hi.now s.hdu)) c.self.view_is
+    subst (λ (s : HduState). IsOk (rect_of s.header.shape c.args.lo.now c.args.hi.now (parts_of s))) c.self.view_is
     (subst (λ (r : Result (List ℤ) PixelFault). IsOk r) (sym (rect_of-values t.header.shape hdu c.args.lo.now c.args.hi.now c.in-Some.kind (sym c.self.invariant.kind ∙ some) within)) refl)
 
 pub returns-clause-ok : goal.returns-clause-ok
@@ -50,7 +50,7 @@ returns-clause-ok c =
     ∙ ap (λ o. rectangle_values t.plane.layout.width t.plane.bytes c.as_slice-axes.result.now c.args.lo.now c.args.hi.now o) (offset_fits c.in-Some.kind c.offset.result c.offset.ensures ∙ c.offset.ensures)
     ∙ ap (λ xs. rectangle_values t.plane.layout.width t.plane.bytes xs c.args.lo.now c.args.hi.now (offset_of c.in-Some.kind)) axes
     ∙ ap (λ w. rectangle_values w t.plane.bytes t.header.shape.axes c.args.lo.now c.args.hi.now (offset_of c.in-Some.kind)) width in
-    subst (λ (s : HduState). rect_of s.shape c.args.lo.now c.args.hi.now s.hdu ≡ Ok c.in-Ok.values.items) c.self.view_is
+    subst (λ (s : HduState). rect_of s.header.shape c.args.lo.now c.args.hi.now (parts_of s) ≡ Ok c.in-Ok.values.items) c.self.view_is
     (rect_of-values t.header.shape hdu c.args.lo.now c.args.hi.now c.in-Some.kind (sym c.self.invariant.kind ∙ some) within ∙ ap Ok (sym values))
 
 pub rect-requires-clause-all : goal.rect-requires-clause-all

@@ -5,7 +5,8 @@ use Rattle.fits_sum.specs.ChecksumText.{checksum_text}
 use Rattle.fits_hdu.specs.Hdu.{HduParts}
 use Rattle.fits_hdu.specs.Keyword.{own_count}
 use Rattle.fits_hdu.specs.Stamp.{with_keyword}
-use Rattle.fits_hdu.specs.Work.{keyword_reads}
+use Rattle.fits_hdu.specs.Work.{keyword_reads, plane_work}
+use Rattle.fits_hdu.specs.State.{HduState, parts_of}
 use Rattle.fits_hdu.proofs.StampTextLemmas.{plain_card}
 use Rattle.fits_hdu.proofs.StampingLemmas.{checksum_count, checksum_reads, datasum_count, datasum_one, datasum_reads, stamp_bytes, stamp_most, stamped_by, text_one, zeros_one}
 use Rattle.fits_hdu.proofs.hdu.Hdu.stamp.Goals as goal
@@ -13,7 +14,7 @@ use Rattle.fits_hdu.proofs.hdu.Hdu.stamp.Goals as goal
 pub set_card-requires-2-clause-one : goal.set_card-requires-2-clause-one
 set_card-requires-2-clause-one c =
     let digits = c.deref.ensures.value ∙ (c.in_ok-digits.ensures.ok ∙ ap decimal c.datasum.ensures) in
-    datasum_one c.args.self.now.hdu c.new-2.result (c.new-2.ensures ∙ (c.in_ok-datasum.ensures ∙ ap (λ (card : List ℕ). card ∷ []) (c.sum_card-2.ensures ∙ ap (plain_card (codes "DATASUM ")) digits)))
+    datasum_one (parts_of c.args.self.now) c.new-2.result (c.new-2.ensures ∙ (c.in_ok-datasum.ensures ∙ ap (λ (card : List ℕ). card ∷ []) (c.sum_card-2.ensures ∙ ap (plain_card (codes "DATASUM ")) digits)))
 
 pub sum-requires : goal.sum-requires
 sum-requires c =
@@ -21,10 +22,10 @@ sum-requires c =
     let digits = c.deref.ensures.value ∙ (c.in_ok-digits.ensures.ok ∙ ap decimal c.datasum.ensures) in
     let sum = c.new-2.ensures ∙ (c.in_ok-datasum.ensures ∙ ap (λ (card : List ℕ). card ∷ []) (c.sum_card-2.ensures ∙ ap (plain_card (codes "DATASUM ")) digits)) in
     let first = c.set_card.ensures.hdu ∙ ap (λ (hdu : HduParts). with_keyword (codes "CHECKSUM") (Some c.new.result) hdu) c.reserve.ensures.hdu in
-    stamp_bytes (is_primary c.args.self.now.shape.class) c.args.self.now.hdu c.set_card.new.self.hdu c.set_card-2.new.self.hdu c.new.result c.new-2.result c.card_count-described.ensures.whole c.requires zeros first sum c.set_card-2.ensures.hdu
+    stamp_bytes (is_primary c.args.self.now.header.shape.class) (parts_of c.args.self.now) (parts_of c.set_card.new.self) (parts_of c.set_card-2.new.self) c.new.result c.new-2.result c.card_count-described.ensures.whole c.requires zeros first sum c.set_card-2.ensures.hdu
 
 pub set_card-requires-3-clause-one : goal.set_card-requires-3-clause-one
-set_card-requires-3-clause-one c = text_one c.set_card-2.new.self.hdu c.new-3.result (c.new-3.ensures ∙ (ap (λ cards. set cards 0 c.sum_card-4.result) c.in_ok-checksum.ensures ∙ ap (λ (card : List ℕ). card ∷ []) (c.sum_card-4.ensures ∙ ap (plain_card (codes "CHECKSUM")) (c.encode.ensures ∙ ap checksum_text c.sum.ensures))))
+set_card-requires-3-clause-one c = text_one (parts_of c.set_card-2.new.self) c.new-3.result (c.new-3.ensures ∙ (ap (λ cards. set cards 0 c.sum_card-4.result) c.in_ok-checksum.ensures ∙ ap (λ (card : List ℕ). card ∷ []) (c.sum_card-4.ensures ∙ ap (plain_card (codes "CHECKSUM")) (c.encode.ensures ∙ ap checksum_text c.sum.ensures))))
 
 pub set_card-requires-3-clause-room : goal.set_card-requires-3-clause-room
 set_card-requires-3-clause-room c =
@@ -32,7 +33,7 @@ set_card-requires-3-clause-room c =
     let digits = c.deref.ensures.value ∙ (c.in_ok-digits.ensures.ok ∙ ap decimal c.datasum.ensures) in
     let sum = c.new-2.ensures ∙ (c.in_ok-datasum.ensures ∙ ap (λ (card : List ℕ). card ∷ []) (c.sum_card-2.ensures ∙ ap (plain_card (codes "DATASUM ")) digits)) in
     let first = c.set_card.ensures.hdu ∙ ap (λ (hdu : HduParts). with_keyword (codes "CHECKSUM") (Some c.new.result) hdu) c.reserve.ensures.hdu in
-    omega (arith, checksum_count c.args.self.now.hdu c.set_card.new.self.hdu c.set_card-2.new.self.hdu c.new.result c.new-2.result zeros first sum c.set_card-2.ensures.hdu)
+    omega (arith, checksum_count (parts_of c.args.self.now) (parts_of c.set_card.new.self) (parts_of c.set_card-2.new.self) c.new.result c.new-2.result zeros first sum c.set_card-2.ensures.hdu)
 
 pub returns-clause-ok : goal.returns-clause-ok
 returns-clause-ok c =
@@ -41,7 +42,7 @@ returns-clause-ok c =
     let sum = c.new-2.ensures ∙ (c.in_ok-datasum.ensures ∙ ap (λ (card : List ℕ). card ∷ []) (c.sum_card-2.ensures ∙ ap (plain_card (codes "DATASUM ")) digits)) in
     let first = c.set_card.ensures.hdu ∙ ap (λ (hdu : HduParts). with_keyword (codes "CHECKSUM") (Some c.new.result) hdu) c.reserve.ensures.hdu in
     let text = c.new-3.ensures ∙ (ap (λ cards. set cards 0 c.sum_card-4.result) c.in_ok-checksum.ensures ∙ ap (λ (card : List ℕ). card ∷ []) (c.sum_card-4.ensures ∙ ap (plain_card (codes "CHECKSUM")) (c.encode.ensures ∙ ap checksum_text c.sum.ensures))) in
-    stamped_by c.args.self.now.hdu c.set_card.new.self.hdu c.set_card-2.new.self.hdu c.set_card-3.new.self.hdu c.new.result c.new-2.result c.new-3.result zeros first sum c.set_card-2.ensures.hdu text c.set_card-3.ensures.hdu
+    stamped_by (parts_of c.args.self.now) (parts_of c.set_card.new.self) (parts_of c.set_card-2.new.self) (parts_of c.set_card-3.new.self) c.new.result c.new-2.result c.new-3.result zeros first sum c.set_card-2.ensures.hdu text c.set_card-3.ensures.hdu
 
 pub returns-clause-work : goal.returns-clause-work
 returns-clause-work c =
@@ -52,14 +53,14 @@ returns-clause-work c =
     let old = c.args.self.now in
     let a = c.set_card.new.self in
     let b = c.set_card-2.new.self in
-    let x = keyword_reads c.reserve.new.self.hdu.header.cards (codes "CHECKSUM") in
-    let y = keyword_reads a.hdu.header.cards (codes "DATASUM ") in
-    let z = keyword_reads b.hdu.header.cards (codes "CHECKSUM") in
-    stamp_most old.hdu.header.cards old.reads a.reads b.reads c.set_card-3.new.self.reads x y z
+    let x = keyword_reads c.reserve.new.self.header.header.cards (codes "CHECKSUM") in
+    let y = keyword_reads a.header.header.cards (codes "DATASUM ") in
+    let z = keyword_reads b.header.header.cards (codes "CHECKSUM") in
+    stamp_most old.header.header.cards old.header.reads a.header.reads b.header.reads c.set_card-3.new.self.header.reads x y z
     (omega (arith, c.set_card.ensures.work, c.reserve.ensures.work)) c.set_card-2.ensures.work c.set_card-3.ensures.work
     (ap (λ (hdu : HduParts). keyword_reads hdu.header.cards (codes "CHECKSUM")) c.reserve.ensures.hdu)
-    (datasum_reads old.hdu a.hdu c.new.result zeros first)
-    (checksum_reads old.hdu a.hdu b.hdu c.new.result c.new-2.result zeros first sum c.set_card-2.ensures.hdu)
+    (datasum_reads (parts_of old) (parts_of a) c.new.result zeros first)
+    (checksum_reads (parts_of old) (parts_of a) (parts_of b) c.new.result c.new-2.result zeros first sum c.set_card-2.ensures.hdu)
 
 pub set_card-requires-clause-one : goal.set_card-requires-clause-one
 set_card-requires-clause-one c = zeros_one c.new.result (c.new.ensures ∙ (c.in_ok-zeros.ensures ∙ ap (λ (card : List ℕ). card ∷ []) c.sum_card.ensures))
@@ -74,13 +75,13 @@ set_card-requires-2-clause-room c =
     let zeros = c.new.ensures ∙ (c.in_ok-zeros.ensures ∙ ap (λ (card : List ℕ). card ∷ []) c.sum_card.ensures) in
     let first = c.set_card.ensures.hdu ∙ ap (λ (hdu : HduParts). with_keyword (codes "CHECKSUM") (Some c.new.result) hdu) c.reserve.ensures.hdu in
     let same = ap (λ (hdu : HduParts). own_count hdu.header.cards (codes "CHECKSUM")) c.reserve.ensures.hdu in
-    omega (arith, c.in_ok-reserve.ensures.ok, c.missing.ensures, c.missing-2.ensures, same, c.set_card.ensures.room, datasum_count c.args.self.now.hdu c.set_card.new.self.hdu c.new.result zeros first)
+    omega (arith, c.in_ok-reserve.ensures.ok, c.missing.ensures, c.missing-2.ensures, same, c.set_card.ensures.room, datasum_count (parts_of c.args.self.now) (parts_of c.set_card.new.self) c.new.result zeros first)
 
 pub returns-clause-shape : goal.returns-clause-shape
 returns-clause-shape c = c.set_card-3.ensures.shape ∙ (c.set_card-2.ensures.shape ∙ (c.set_card.ensures.shape ∙ c.reserve.ensures.shape))
 
 pub returns-clause-pixel_work : goal.returns-clause-pixel_work
-returns-clause-pixel_work c = c.set_card-3.ensures.pixel_work ∙ (c.set_card-2.ensures.pixel_work ∙ (c.set_card.ensures.pixel_work ∙ c.reserve.ensures.pixel_work))
+returns-clause-pixel_work c = c.set_card-3.ensures.pixel_work ∙ (c.set_card-2.ensures.pixel_work ∙ (c.set_card.ensures.pixel_work ∙ ap (λ (hdu : HduState). plane_work hdu.plane) c.reserve.ensures.rest))
 
 pub returns-clause-least : goal.returns-clause-least
 returns-clause-least c = omega (arith, c.set_card.ensures.least, c.set_card-2.ensures.least, c.set_card-3.ensures.least, c.reserve.ensures.work)
@@ -161,7 +162,7 @@ returns-in_err-reserve c =
       ok = rw failed.1 tt;
       err = rw failed.1 c.reserve.ensures.hdu;
       shape = c.reserve.ensures.shape;
-      pixel_work = c.reserve.ensures.pixel_work;
+      pixel_work = ap (λ (hdu : HduState). plane_work hdu.plane) c.reserve.ensures.rest;
       least = omega (arith, c.reserve.ensures.work);
       work = omega (arith, c.reserve.ensures.work);
       described = c.card_count-described.ensures.described;

@@ -5,7 +5,7 @@ use Rattle.fits_plane.specs.declared.value_summary.ValueSummary.{ValueSummary}
 use Rattle.fits_hdu.specs.Hdu.{HduParts}
 use Rattle.fits_hdu.specs.Kind.{offset_of}
 use Rattle.fits_hdu.specs.Pixels.{stats_of}
-use Rattle.fits_hdu.specs.State.{HduState}
+use Rattle.fits_hdu.specs.State.{HduState, parts_of}
 use Rattle.fits_hdu.proofs.PixelLemmas.{offset_fits, stats_of-image, stats_of-none}
 use Rattle.fits_hdu.proofs.hdu.Hdu.stats.Goals as goal
 
@@ -15,7 +15,7 @@ returns-in_err-kind c =
     let hdu : HduParts = record { header = t.header.header; data_unit = t.plane.bytes } in
     let no : t.kind ≡ None = search rules in
     let result : c.from_residual.result ≡ None = search rules in
-    result ∙ subst (λ (s : HduState). None ≡ stats_of s.shape s.hdu) c.self.view_is (stats_of-none t.header.shape hdu (sym c.self.invariant.kind ∙ no))
+    result ∙ subst (λ (s : HduState). None ≡ stats_of s.header.shape (parts_of s)) c.self.view_is (stats_of-none t.header.shape hdu (sym c.self.invariant.kind ∙ no))
 
 pub returns : goal.returns
 returns c =
@@ -26,5 +26,5 @@ returns c =
     let found : values ≡ value_statistics (offset_of c.in_ok-kind.kind) t.plane.layout.blank (pixels t.plane.layout.width t.plane.bytes 0 t.plane.layout.pixels) =
     c.value_stats.ensures
     ∙ ap (λ o. value_statistics o t.plane.layout.blank (pixels t.plane.layout.width t.plane.bytes 0 t.plane.layout.pixels)) (offset_fits c.in_ok-kind.kind c.offset.result c.offset.ensures ∙ c.offset.ensures) in
-    subst (λ (s : HduState). Some values ≡ stats_of s.shape s.hdu) c.self.view_is
+    subst (λ (s : HduState). Some values ≡ stats_of s.header.shape (parts_of s)) c.self.view_is
     (stats_of-image t.header.shape hdu c.in_ok-kind.kind t.plane.layout values (sym c.self.invariant.kind ∙ some) c.self.invariant.layout found)

@@ -4,6 +4,7 @@ use Rattle.fits_card.specs.Header.{header_bytes}
 use Rattle.fits_header.specs.State.{HeaderState}
 use Rattle.fits_plane.specs.Plane.{PlaneState}
 use Rattle.std.proofs.lemmas.Result.{err_from_is_err_and}
+use Rattle.fits_hdu.specs.State.{parts_of}
 use Rattle.fits_session.proofs.ListEditLemmas.{primary_stays, removed_left, removed_size, removes, removes_nowhere}
 use Rattle.fits_session.proofs.StateLemmas.{file_within, is_at, part_there}
 use Rattle.fits_session.proofs.session.Session.take_out.Goals as goal
@@ -18,7 +19,7 @@ returns-then-i-eq0 c = rw (← c.self.view_is) (primary_stays c.self.inside.hdus
 
 pub byte_len-header_len-requires : goal.byte_len-header_len-requires
 byte_len-header_len-requires c =
-    let hdu = c.remove-hdu.result.hdu in
+    let hdu = (parts_of c.remove-hdu.result) in
     let part = part_there c.self.inside.hdus.items c.self.inside.tail.items c.args.h c.in_ok-i.i c.remove-hdu.result
     (is_at c.self.inside.hdus.items c.deref.result.now c.args.h c.args.h c.in_ok-i.i c.remove-hdu.result c.deref.ensures.value refl c.in_ok-i.ensures.found c.remove-hdu.ensures.value) in
     let size = (file_within c.self.inside.hdus.items c.self.inside.tail.items c.self.invariant.whole).0 in
@@ -26,23 +27,23 @@ byte_len-header_len-requires c =
 
 pub overflow_add-self : goal.overflow_add-self
 overflow_add-self c =
-    let hdu = c.remove-hdu.result.hdu in
+    let hdu = (parts_of c.remove-hdu.result) in
     let part = part_there c.self.inside.hdus.items c.self.inside.tail.items c.args.h c.in_ok-i.i c.remove-hdu.result
     (is_at c.self.inside.hdus.items c.deref.result.now c.args.h c.args.h c.in_ok-i.i c.remove-hdu.result c.deref.ensures.value refl c.in_ok-i.ensures.found c.remove-hdu.ensures.value) in
     let size = (file_within c.self.inside.hdus.items c.self.inside.tail.items c.self.invariant.whole).0 in
-    omega (arith, part, size, length-append (header_bytes hdu.header) hdu.data_unit, c.byte_len-header_len.ensures, ap (λ (h : HeaderState). length (header_bytes h.header)) c.header.ensures, c.byte_len-data_len.ensures, ap (λ (p : PlaneState). length p.bytes) c.plane.ensures)
+    omega (arith, part, size, length-append (header_bytes hdu.header) hdu.data_unit, c.byte_len-header_len.ensures, ap (λ (h : HeaderState). length (header_bytes h.header)) c.header.ensures, c.byte_len-data_len.ensures, ap (λ (p : PlaneState). length p.bytes) c.plane.ensures.value)
 
 pub overflow_sub-self : goal.overflow_sub-self
 overflow_sub-self c =
-    let hdu = c.remove-hdu.result.hdu in
+    let hdu = (parts_of c.remove-hdu.result) in
     let part = part_there c.self.inside.hdus.items c.self.inside.tail.items c.args.h c.in_ok-i.i c.remove-hdu.result
     (is_at c.self.inside.hdus.items c.deref.result.now c.args.h c.args.h c.in_ok-i.i c.remove-hdu.result c.deref.ensures.value refl c.in_ok-i.ensures.found c.remove-hdu.ensures.value) in
     let size = (file_within c.self.inside.hdus.items c.self.inside.tail.items c.self.invariant.whole).0 in
-    omega (arith, part, c.self.invariant.len, length-append (header_bytes hdu.header) hdu.data_unit, c.byte_len-header_len.ensures, ap (λ (h : HeaderState). length (header_bytes h.header)) c.header.ensures, c.byte_len-data_len.ensures, ap (λ (p : PlaneState). length p.bytes) c.plane.ensures)
+    omega (arith, part, c.self.invariant.len, length-append (header_bytes hdu.header) hdu.data_unit, c.byte_len-header_len.ensures, ap (λ (h : HeaderState). length (header_bytes h.header)) c.header.ensures, c.byte_len-data_len.ensures, ap (λ (p : PlaneState). length p.bytes) c.plane.ensures.value)
 
 pub invariant_of-self : goal.invariant_of-self
 invariant_of-self c =
-    let hdu = c.remove-hdu.result.hdu in
+    let hdu = (parts_of c.remove-hdu.result) in
     let behind : 0 < c.in_ok-i.i = grind (arith, c.if-i-eq0.false) in
     let left = removed_left c.self.inside.hdus.items c.self.inside.tail.items c.args.h c.in_ok-i.i c.remove-hdu.result c.self.invariant.whole
     (is_at c.self.inside.hdus.items c.deref.result.now c.args.h c.args.h c.in_ok-i.i c.remove-hdu.result c.deref.ensures.value refl c.in_ok-i.ensures.found c.remove-hdu.ensures.value) behind in
@@ -50,7 +51,7 @@ invariant_of-self c =
     (is_at c.self.inside.hdus.items c.deref.result.now c.args.h c.args.h c.in_ok-i.i c.remove-hdu.result c.deref.ensures.value refl c.in_ok-i.ensures.found c.remove-hdu.ensures.value) in
     record {
       whole = rw c.remove-hdu.ensures.items left;
-      len = rw c.remove-hdu.ensures.items (omega (arith, less, c.self.invariant.len, length-append (header_bytes hdu.header) hdu.data_unit, c.byte_len-header_len.ensures, ap (λ (h : HeaderState). length (header_bytes h.header)) c.header.ensures, c.byte_len-data_len.ensures, ap (λ (p : PlaneState). length p.bytes) c.plane.ensures));
+      len = rw c.remove-hdu.ensures.items (omega (arith, less, c.self.invariant.len, length-append (header_bytes hdu.header) hdu.data_unit, c.byte_len-header_len.ensures, ap (λ (h : HeaderState). length (header_bytes h.header)) c.header.ensures, c.byte_len-data_len.ensures, ap (λ (p : PlaneState). length p.bytes) c.plane.ensures.value));
     }
 
 pub returns : goal.returns

@@ -2,6 +2,7 @@ use Rattle.std.proofs.Common.{subst, sym}
 use Rattle.std.proofs.lemmas.Result.{err_from_is_err_and}
 use Rattle.fits_card.specs.Change.{IsInRange}
 use Rattle.fits_hdu.specs.Hdu.{HduParts}
+use Rattle.fits_hdu.proofs.StateLemmas.{parts_read}
 use Rattle.fits_session.proofs.CardEditLemmas.{made_in_range}
 use Rattle.fits_session.proofs.MakingLemmas.{cards_made, cards_unmade}
 use Rattle.fits_session.proofs.session.cards.edit_cards.Goals as goal
@@ -13,7 +14,7 @@ returns-in_err-change c =
 
 pub make_change-requires-clause-in_range : goal.make_change-requires-clause-in_range
 make_change-requires-clause-in_range c =
-    subst (λ (hdu : HduParts). IsInRange hdu.header.cards c.in_ok-change.change) (sym c.change_of.ensures.work.hdu) (made_in_range c.args.hdu.now.hdu.header.cards c.args.edit.now c.in_ok-change.change c.in_ok-change.ensures.ok)
+    subst (λ (hdu : HduParts). IsInRange hdu.header.cards c.in_ok-change.change) (sym (parts_read _ _ _ c.change_of.ensures.work)) (made_in_range c.args.hdu.now.header.header.cards c.args.edit.now c.in_ok-change.change c.in_ok-change.ensures.ok)
 
 pub returns : goal.returns
 returns c = cards_made c.args.edit.now c.in_ok-change.change c.args.len c.args.hdus c.args.hdu.now c.change_of.new.hdu c.make_change.new.hdu c.make_change.result c.change_of.ensures.described c.change_of.ensures.work c.in_ok-change.ensures.ok c.make_change.ensures

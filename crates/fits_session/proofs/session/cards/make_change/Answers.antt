@@ -3,7 +3,10 @@ use Rattle.fits_card.specs.Change.{cards_after}
 use Rattle.fits_header.specs.State.{HeaderState}
 use Rattle.fits_card.specs.Header.{header_length}
 use Rattle.fits_rules.specs.Class.{is_primary}
-use Rattle.fits_hdu.specs.Hdu.{hdu_after}
+use Rattle.fits_hdu.specs.Hdu.{hdu_after, HduParts}
+use Rattle.fits_hdu.specs.State.{parts_of, HduState}
+use Rattle.fits_hdu.specs.Work.{plane_work}
+use Rattle.fits_hdu.proofs.StateLemmas.{parts_read}
 use Rattle.fits_session.specs.Limits.{size_within}
 use Rattle.fits_session.specs.Session.{length_with, within_refusal}
 use Rattle.fits_session.specs.declared.refusal.Refusal.TheVariants as refusal
@@ -11,24 +14,29 @@ use Rattle.fits_session.proofs.MakingLemmas.{change_reckoned, changes_made, chan
 use Rattle.fits_session.proofs.session.cards.make_change.Goals as goal
 
 pub len_after-requires-clause-part : goal.len_after-requires-clause-part
-len_after-requires-clause-part c = omega (arith, c.requires.part, header_part _ c.args.hdu.now.hdu c.card_count-before.ensures.whole, ap header_length c.card_count-before.ensures.value)
+len_after-requires-clause-part c = omega (arith, c.requires.part, header_part _ (parts_of c.args.hdu.now) c.card_count-before.ensures.whole, ap header_length c.card_count-before.ensures.value)
 
 pub returns-in_default : goal.returns-in_default
 returns-in_default c =
-    let primary : Bool = is_primary c.args.hdu.now.shape.class in
-    let reckoned = change_reckoned c.args.hdu.now.hdu primary c.args.change.now c.args.len c.card_count-before.result c.count_after-after.result c.card_count-before.ensures.whole c.requires.inner (sym c.if-not-keeps_shape.ensures.value) c.requires.part c.card_count-before.ensures.value (c.count_after-after.ensures ∙ ap (λ (h : HeaderState). length (cards_after h.header.cards c.args.change.now)) c.header.ensures) in
-    let past = fits_not (length_with c.args.len c.args.hdu.now.hdu (hdu_after c.args.change.now c.args.hdu.now.hdu)) c.args.hdus (c.in_default.ensures ∙ ap (λ n. size_within n c.args.hdus) reckoned) in
-    let made = kept_made primary c.args.hdu.now.hdu c.args.change.now (sym c.if-not-keeps_shape.ensures.value) in
-    changes_not c.args.change.now c.args.len c.args.hdus c.args.hdu.now c.keeps_shape.new.self refusal.TooLarge c.card_count-before.ensures.whole c.keeps_shape.ensures.work.hdu c.keeps_shape.ensures.work.least c.keeps_shape.ensures.work.most c.keeps_shape.ensures.work.pixel_work
-    (inl (ap (within_refusal c.args.len c.args.hdus c.args.hdu.now.hdu) made ∙ past))
+    let primary : Bool = is_primary c.args.hdu.now.header.shape.class in
+    let reckoned = change_reckoned (parts_of c.args.hdu.now) primary c.args.change.now c.args.len c.card_count-before.result c.count_after-after.result c.card_count-before.ensures.whole c.requires.inner (sym c.if-not-keeps_shape.ensures.value) c.requires.part c.card_count-before.ensures.value (c.count_after-after.ensures ∙ ap (λ (h : HeaderState). length (cards_after h.header.cards c.args.change.now)) c.header.ensures) in
+    let past = fits_not (length_with c.args.len (parts_of c.args.hdu.now) (hdu_after c.args.change.now (parts_of c.args.hdu.now))) c.args.hdus (c.in_default.ensures ∙ ap (λ n. size_within n c.args.hdus) reckoned) in
+    let made = kept_made primary (parts_of c.args.hdu.now) c.args.change.now (sym c.if-not-keeps_shape.ensures.value) in
+    changes_not c.args.change.now c.args.len c.args.hdus c.args.hdu.now c.keeps_shape.new.self refusal.TooLarge c.card_count-before.ensures.whole (parts_read _ _ _ c.keeps_shape.ensures.work) c.keeps_shape.ensures.work.header.least c.keeps_shape.ensures.work.header.most (ap plane_work c.keeps_shape.ensures.work.plane)
+    (inl (ap (within_refusal c.args.len c.args.hdus (parts_of c.args.hdu.now)) made ∙ past))
 
 pub returns : goal.returns
 returns c =
-    let primary : Bool = is_primary c.args.hdu.now.shape.class in
-    let reckoned = change_reckoned c.args.hdu.now.hdu primary c.args.change.now c.args.len c.card_count-before.result c.count_after-after.result c.card_count-before.ensures.whole c.requires.inner (sym c.if-not-keeps_shape.ensures.value) c.requires.part c.card_count-before.ensures.value (c.count_after-after.ensures ∙ ap (λ (h : HeaderState). length (cards_after h.header.cards c.args.change.now)) c.header.ensures) in
+    let primary : Bool = is_primary c.args.hdu.now.header.shape.class in
+    let reckoned = change_reckoned (parts_of c.args.hdu.now) primary c.args.change.now c.args.len c.card_count-before.result c.count_after-after.result c.card_count-before.ensures.whole c.requires.inner (sym c.if-not-keeps_shape.ensures.value) c.requires.part c.card_count-before.ensures.value (c.count_after-after.ensures ∙ ap (λ (h : HeaderState). length (cards_after h.header.cards c.args.change.now)) c.header.ensures) in
+    let read = c.keeps_shape.ensures.work in
+    let room = c.in_ok-reserve.ensures in
+    let header = ap (λ (hdu : HduParts). hdu.header) c.apply.ensures.hdu in
+    let reserved = ap (λ (hdu : HduParts). hdu.header) room.hdu in
+    let plane = ap (λ (hdu : HduState). hdu.plane) room.rest in
     changes_made c.args.change.now c.args.len c.args.hdus c.in-Some.len c.args.hdu.now c.apply.new.self c.card_count-before.ensures.whole c.card_count-before.ensures.described c.requires.inner (sym c.if-not-keeps_shape.ensures.value)
     (c.in-Some.ensures ∙ ap (λ n. size_within n c.args.hdus) reckoned)
-    (c.apply.ensures.hdu ∙ ap (hdu_after c.args.change.now) (c.in_ok-reserve.ensures.hdu ∙ c.keeps_shape.ensures.work.hdu))
-    (omega (arith, c.keeps_shape.ensures.work.least, c.in_ok-reserve.ensures.work, c.apply.ensures.least))
-    (omega (arith, c.keeps_shape.ensures.work.most, c.in_ok-reserve.ensures.work, c.apply.ensures.work))
-    (rw (c.apply.ensures.hdu, c.apply.ensures.shape, c.in_ok-reserve.ensures.hdu, c.in_ok-reserve.ensures.shape, c.in_ok-reserve.ensures.pixel_work, c.keeps_shape.ensures.work.hdu, c.keeps_shape.ensures.work.shape, c.keeps_shape.ensures.work.pixel_work) at c.apply.ensures.scans)
+    (c.apply.ensures.hdu ∙ ap (hdu_after c.args.change.now) (room.hdu ∙ parts_read _ _ _ read))
+    (omega (arith, read.header.least, room.work, c.apply.ensures.least))
+    (omega (arith, read.header.most, room.work, c.apply.ensures.work))
+    (rw (header, c.apply.ensures.shape, reserved, room.shape, plane, read.header.header, read.header.shape, read.plane) at c.apply.ensures.scans)

@@ -6,5 +6,5 @@ use Rattle.fits_session.proofs.session.changes.set_keyword.Goals as goal
 pub returns-in_err-cards-clause-err : goal.returns-in_err-cards-clause-err
 returns-in_err-cards-clause-err c =
     let p = err_from_is_err_and c.from_residual.result c.from_residual.ensures.1 in
-    rw (p.1, p.2) (not_written c.args.hdu.now.hdu.header.cards c.args.name.now c.args.value.now c.args.comment.now c.in_err-cards.field-0.0
+    rw (p.1, p.2) (not_written c.args.hdu.now.header.header.cards c.args.name.now c.args.value.now c.args.comment.now c.in_err-cards.field-0.0
     (search rules) (λ bad. c.in_err-cards.ensures.bad (cc)) (λ none. let same = c.in_err-cards.ensures.firm none in cc))

@@ -1,5 +1,6 @@
 use Rattle.std.proofs.Common.{◌<◌, ◌≤◌, length, arith}
 use Rattle.std.proofs.lemmas.Grind.{common_steps}
+use Rattle.fits_hdu.proofs.StateLemmas.{parts_read}
 use Rattle.fits_session.proofs.SaveLemmas.{Prints-hdu, hdus_kept, first_read_more, all_read, once_at_end, once_at_most}
 use Rattle.fits_session.proofs.session.saving.write_hdus.Goals as goal
 
@@ -8,7 +9,7 @@ loop-i-preserved g c =
     let l : c.loop-i.i < length c.loop-i.hdus.items = omega (arith, c.loop-i.invariant.count) in
     record {
       printed = Prints-hdu _ _ _ c.loop-i.hdus.items _ c.loop-i.i c.index_mut-hdu.result.now c.loop-i.invariant.same l c.index_mut-hdu.ensures.value c.loop-i.invariant.printed c.in_ok-emit.ensures.ok;
-      same = hdus_kept c.loop-i.hdus.items _ c.loop-i.i c.index_mut-hdu.result.now _ c.loop-i.invariant.same l c.index_mut-hdu.ensures.value c.emit.ensures.work.hdu;
+      same = hdus_kept c.loop-i.hdus.items _ c.loop-i.i c.index_mut-hdu.result.now _ c.loop-i.invariant.same l c.index_mut-hdu.ensures.value (parts_read _ _ _ c.emit.ensures.work);
       count = grind (arith, common_steps);
       work = first_read_more _ c.loop-i.hdus.items c.loop-i.i c.index_mut-hdu.result.now _ _ c.loop-i.invariant.work l c.index_mut-hdu.ensures.value c.emit.ensures.work c.in_ok-emit.ensures.all_read;
     }

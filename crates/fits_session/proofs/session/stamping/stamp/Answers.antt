@@ -3,6 +3,9 @@ use Rattle.std.proofs.lemmas.Result.{err_from_is_err_and}
 use Rattle.fits_card.specs.Header.{header_length}
 use Rattle.fits_rules.specs.Class.{is_primary}
 use Rattle.fits_hdu.specs.Stamp.{stamped}
+use Rattle.fits_hdu.specs.State.{parts_of}
+use Rattle.fits_hdu.specs.Work.{plane_work}
+use Rattle.fits_hdu.proofs.StateLemmas.{parts_read}
 use Rattle.fits_session.specs.Limits.{size_within}
 use Rattle.fits_session.specs.Session.{length_with}
 use Rattle.fits_session.specs.declared.refusal.Refusal.TheVariants as refusal
@@ -11,29 +14,29 @@ use Rattle.fits_session.proofs.StampEditLemmas.{stamp_reckoned, stamps, stamps_n
 use Rattle.fits_session.proofs.session.stamping.stamp.Goals as goal
 
 pub len_after-requires-clause-part : goal.len_after-requires-clause-part
-len_after-requires-clause-part c = omega (arith, c.requires.part, header_part _ c.args.hdu.now.hdu c.card_count-before.ensures.whole, ap header_length c.card_count-before.ensures.value)
+len_after-requires-clause-part c = omega (arith, c.requires.part, header_part _ (parts_of c.args.hdu.now) c.card_count-before.ensures.whole, ap header_length c.card_count-before.ensures.value)
 
 pub returns-in_default : goal.returns-in_default
 returns-in_default c =
     let work = c.count_stamped-after.ensures.work in
-    let reckoned = stamp_reckoned (is_primary c.args.hdu.now.shape.class) c.args.hdu.now.hdu c.args.len c.card_count-before.result c.count_stamped-after.result c.card_count-before.ensures.whole c.requires.part c.card_count-before.ensures.value c.count_stamped-after.ensures.value in
-    let past = fits_not (length_with c.args.len c.args.hdu.now.hdu (stamped c.args.hdu.now.hdu)) c.args.hdus (c.in_default.ensures ∙ ap (λ n. size_within n c.args.hdus) reckoned) in
-    stamps_not c.args.len c.args.hdus c.args.hdu.now c.count_stamped-after.new.self refusal.TooLarge c.card_count-before.ensures.whole work.hdu work.least (omega (arith, work.most)) work.pixel_work (inl past)
+    let reckoned = stamp_reckoned (is_primary c.args.hdu.now.header.shape.class) (parts_of c.args.hdu.now) c.args.len c.card_count-before.result c.count_stamped-after.result c.card_count-before.ensures.whole c.requires.part c.card_count-before.ensures.value c.count_stamped-after.ensures.value in
+    let past = fits_not (length_with c.args.len (parts_of c.args.hdu.now) (stamped (parts_of c.args.hdu.now))) c.args.hdus (c.in_default.ensures ∙ ap (λ n. size_within n c.args.hdus) reckoned) in
+    stamps_not c.args.len c.args.hdus c.args.hdu.now c.count_stamped-after.new.self refusal.TooLarge c.card_count-before.ensures.whole (parts_read _ _ _ work) work.header.least (omega (arith, work.header.most)) (ap plane_work work.plane) (inl past)
 
 pub returns-in_err-stamp : goal.returns-in_err-stamp
 returns-in_err-stamp c =
     let p = err_from_is_err_and c.from_residual.result c.from_residual.ensures.1 in
     let work = c.count_stamped-after.ensures.work in
-    let reckoned = stamp_reckoned (is_primary c.args.hdu.now.shape.class) c.args.hdu.now.hdu c.args.len c.card_count-before.result c.count_stamped-after.result c.card_count-before.ensures.whole c.requires.part c.card_count-before.ensures.value c.count_stamped-after.ensures.value in
-    let room = fits (length_with c.args.len c.args.hdu.now.hdu (stamped c.args.hdu.now.hdu)) c.in-Some.len c.args.hdus (c.in-Some.ensures ∙ ap (λ n. size_within n c.args.hdus) reckoned) in
-    let most = rw work.hdu at c.in_err-stamp.ensures.work in
-    rw (p.1, p.2) (stamps_not c.args.len c.args.hdus c.args.hdu.now c.stamp.new.self refusal.Memory c.card_count-before.ensures.whole (c.in_err-stamp.ensures.err ∙ work.hdu) (omega (arith, work.least, c.in_err-stamp.ensures.least)) (omega (arith, work.most, most)) (c.in_err-stamp.ensures.pixel_work ∙ work.pixel_work)
+    let reckoned = stamp_reckoned (is_primary c.args.hdu.now.header.shape.class) (parts_of c.args.hdu.now) c.args.len c.card_count-before.result c.count_stamped-after.result c.card_count-before.ensures.whole c.requires.part c.card_count-before.ensures.value c.count_stamped-after.ensures.value in
+    let room = fits (length_with c.args.len (parts_of c.args.hdu.now) (stamped (parts_of c.args.hdu.now))) c.in-Some.len c.args.hdus (c.in-Some.ensures ∙ ap (λ n. size_within n c.args.hdus) reckoned) in
+    let most = rw work.header.header at c.in_err-stamp.ensures.work in
+    rw (p.1, p.2) (stamps_not c.args.len c.args.hdus c.args.hdu.now c.stamp.new.self refusal.Memory c.card_count-before.ensures.whole (c.in_err-stamp.ensures.err ∙ parts_read _ _ _ work) (omega (arith, work.header.least, c.in_err-stamp.ensures.least)) (omega (arith, work.header.most, most)) (c.in_err-stamp.ensures.pixel_work ∙ ap plane_work work.plane)
     (inr (refl, room.0)))
 
 pub returns : goal.returns
 returns c =
     let work = c.count_stamped-after.ensures.work in
-    let reckoned = stamp_reckoned (is_primary c.args.hdu.now.shape.class) c.args.hdu.now.hdu c.args.len c.card_count-before.result c.count_stamped-after.result c.card_count-before.ensures.whole c.requires.part c.card_count-before.ensures.value c.count_stamped-after.ensures.value in
-    let most = rw work.hdu at c.in_ok-stamp.ensures.work in
-    stamps c.args.len c.args.hdus c.in-Some.len c.args.hdu.now c.stamp.new.self c.card_count-before.ensures.whole (c.in-Some.ensures ∙ ap (λ n. size_within n c.args.hdus) reckoned) (c.in_ok-stamp.ensures.ok ∙ ap stamped work.hdu) (omega (arith, work.least, c.in_ok-stamp.ensures.least)) (omega (arith, work.most, most))
-    (c.in_ok-stamp.ensures.pixel_work ∙ work.pixel_work)
+    let reckoned = stamp_reckoned (is_primary c.args.hdu.now.header.shape.class) (parts_of c.args.hdu.now) c.args.len c.card_count-before.result c.count_stamped-after.result c.card_count-before.ensures.whole c.requires.part c.card_count-before.ensures.value c.count_stamped-after.ensures.value in
+    let most = rw work.header.header at c.in_ok-stamp.ensures.work in
+    stamps c.args.len c.args.hdus c.in-Some.len c.args.hdu.now c.stamp.new.self c.card_count-before.ensures.whole (c.in-Some.ensures ∙ ap (λ n. size_within n c.args.hdus) reckoned) (c.in_ok-stamp.ensures.ok ∙ ap stamped (parts_read _ _ _ work)) (omega (arith, work.header.least, c.in_ok-stamp.ensures.least)) (omega (arith, work.header.most, most))
+    (c.in_ok-stamp.ensures.pixel_work ∙ ap plane_work work.plane)
