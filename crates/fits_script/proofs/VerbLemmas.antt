@@ -1,5 +1,5 @@
 -- A verb and its word.
-use Rattle.std.proofs.Common.{◌≡◌, ℕ, List, [], ◌∷◌, ap, ◌∙◌, absurd, true, false, Bool, Option, None, Some}
+use Rattle.std.proofs.Common.{◌≡◌, ℕ, List, [], ◌∷◌, sym, true, false, Bool, Option, None, Some}
 use Rattle.std.specs.List.{find}
 use Rattle.std.specs.Str.{bytes_eq}
 use Rattle.std.proofs.lemmas.Slice.Eq.{bytes_eq-Decides}
@@ -10,8 +10,8 @@ use Rattle.fits_script.proofs.FormLemmas.{either_some}
 
 -- what is found passes the test
 found-passes : {X : Type 0} (test : X → Bool) (items : List X) (x : X) → find test items ≡ Some x → test x ≡ true
-found-passes test [] x e = absurd (let z : ◌≡◌ {A = Option X} None (Some x) = e in cc)
-found-passes test (y ∷ items) x e =
+found-passes {X = X} test [] x e = absurd (let z : ◌≡◌ {A = Option X} None (Some x) = e in cc)
+found-passes {X = X} test (y ∷ items) x e =
     either_some (test y) (Some y) (find test items) x e (λ passes same. let is : ◌≡◌ {A = X} y x = cc in rw (sym is) passes) (λ fails more. found-passes test items x more)
 
 -- a word that is a verb is its word
