@@ -54,7 +54,10 @@ const VERBS: [Verb; 18] = [
 pub(crate) fn verb_of(word: &[u8]) -> Option<Verb>
     ensures { result ≡ verb_of word.now }
 {
-    VERBS.iter().copied().find(|verb| is_word(word, word_of(*verb)))
+    VERBS
+        .iter()
+        .copied()
+        .find(|verb| is_word(word, word_of(*verb)))
 }
 
 // The word of a verb.

@@ -1,6 +1,5 @@
 use Rattle.std.proofs.Common.{ap, ◌∙◌, length, codes}
 use Rattle.std.specs.Option.{option_map_or}
-use Rattle.fits_hdu.specs.Hdu.{HduParts}
 use Rattle.fits_hdu.specs.declared.keyword_cards.KeywordCards.{KeywordCards}
 use Rattle.fits_hdu.specs.Keyword.{own_count}
 use Rattle.fits_hdu.specs.State.{parts_of}

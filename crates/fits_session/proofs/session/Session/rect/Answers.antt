@@ -1,6 +1,6 @@
 use Rattle.std.proofs.Common.{ap, refl}
 use Rattle.std.proofs.lemmas.Result.{err_from_is_err_and}
-use Rattle.fits_hdu.specs.State.{HduState, parts_of}
+use Rattle.fits_hdu.specs.State.{parts_of}
 use Rattle.fits_session.proofs.QueryLemmas.{rect_asks, rect_fails, rect_ok}
 use Rattle.fits_session.proofs.StateLemmas.{is_at, stays_file}
 use Rattle.fits_session.proofs.session.Session.rect.Goals as goal
