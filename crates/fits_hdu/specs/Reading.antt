@@ -16,6 +16,8 @@ use Rattle.fits_hdu.specs.Hdu.{HduParts, HasHduFault, IsHdu, hdu_bytes}
 use Rattle.fits_hdu.specs.declared.fault.HduFault.TheVariants.{NoEnd, BadShape, Memory}
 use Rattle.fits_hdu.specs.declared.read_fault.ReadHduFault.{ReadHduFault}
 use Rattle.fits_hdu.specs.declared.read_fault.ReadHduFault.TheVariants.{Hdu, Failed}
+use Rattle.fits_hdu.specs.State.{HduState, parts_of}
+use Rattle.fits_hdu.specs.Work.{IsOpened}
 
 -- the header's fault
 abbrev pub of_read_header : ReadHeaderFault → ReadHduFault
@@ -45,6 +47,11 @@ pub record TakesHdu (keeps : HduParts → Type 0) (primary : Bool) (old new : Su
   pub kept : keeps hdu
   pub whole : IsHdu primary hdu
   pub taken : Takes old new (hdu_bytes hdu)
+
+-- an HDU is kept whole: it was opened
+pub record IsKeptWhole (it : HduState) (hdu : HduParts) : Type 0 where
+  pub parts : parts_of it ≡ hdu
+  pub opened : IsOpened it
 
 -- of an HDU that passed by its header is known, the shape that its cards describe, and how long its data unit was
 pub record IsPassed (hdu : HduParts) (header : Header) (shape : Shape) (unit_len : ℕ) : Type 0 where

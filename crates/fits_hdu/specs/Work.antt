@@ -4,7 +4,9 @@ use Rattle.std.specs.Option.{option_map_or}
 use Rattle.fits_value.specs.Says.{chain_length}
 use Rattle.fits_rules.specs.Lead.{lead_place}
 use Rattle.fits_header.specs.Work.{judge_reads}
+use Rattle.fits_plane.specs.Layout.{block_count}
 use Rattle.fits_plane.specs.Plane.{PlaneState}
+use Rattle.fits_hdu.specs.State.{HduState}
 
 -- what is read after a change of the cards: the leads of BZERO, BSCALE, BLANK, DATASUM, CHECKSUM, EXTNAME and EXTVER, and place 1
 abbrev pub lead_reads : ℕ
@@ -45,6 +47,11 @@ pub record IsScanned (blocks : ℕ) (work : PixelWork) : Type 0 where
   pub scans : work.scans ≡ blocks
   pub reads : work.reads ≡ 0
   pub joins : (d : ℕ) → blocks ≤ 2 ^ d → work.joins ≤ 2 ^ d
+
+-- an HDU was opened: its cards were read so often at most, each block of its data unit was scanned once, and no pixel read
+pub record IsOpened (hdu : HduState) : Type 0 where
+  pub reads : hdu.header.reads ≤ open_reads hdu.header.header.cards
+  pub scans : IsScanned (block_count hdu.plane.bytes) (plane_work hdu.plane)
 
 -- a data unit of so many blocks was made: each was scanned once at most, and no pixel read
 pub record IsMade (blocks : ℕ) (work : PixelWork) : Type 0 where

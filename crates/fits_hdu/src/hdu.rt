@@ -87,7 +87,7 @@ impl Hdu {
     ghost use Rattle.fits_hdu.specs.Layout.{layout_of};
     ghost use Rattle.fits_hdu.specs.Reading.{HduStops};
     ghost use Rattle.fits_hdu.specs.State.{parts_of, ReadsUpTo};
-    ghost use Rattle.fits_hdu.specs.Work.{apply_reads, keyword_reads, open_reads, plane_work, FollowsBlank, IsScanned};
+    ghost use Rattle.fits_hdu.specs.Work.{apply_reads, keyword_reads, plane_work, FollowsBlank, IsOpened, IsScanned};
     ghost use Rattle.fits_hdu.specs.Hdu.{IsHdu, IsHduOf, HduFails, hdu_bytes, hdu_after, keeps_shape};
 
     /// The HDU that these bytes begin with, the primary one or an extension, and how many bytes it
@@ -103,9 +103,7 @@ impl Hdu {
         ensures class { IfOk result (λ cut. is_primary cut.0.header.shape.class ≡ primary) }
         ensures len { IfOk result (λ cut. cut.1 ≡ length (hdu_bytes (parts_of cut.0))) }
         ensures within { IfOk result (λ cut. cut.1 ≤ length bytes.now) }
-        ensures work { IfOk result (λ cut. cut.0.header.reads ≤ open_reads cut.0.header.header.cards) }
-        ensures scans { IfOk result (λ cut. IsScanned (block_count cut.0.plane.bytes)
-            (plane_work cut.0.plane)) }
+        ensures opened { IfOk result (λ cut. IsOpened cut.0) }
 
         // Whether there is a header is found before any memory is asked for.
         ensures fault { IfErr result (HduFails primary bytes.now) }
@@ -139,6 +137,7 @@ impl Hdu {
         ensures shape { IfOk result (λ it. it.header.shape ≡ shape) }
         ensures work { IfOk result (λ it. it.header.reads
             ≤ cards.reads + length cards.header.cards + apply_reads) }
+        ensures least { IfOk result (λ it. cards.reads ≤ it.header.reads) }
         ensures scans { IfOk result (λ it. IsScanned (block_count data_unit.items) (plane_work it.plane)) }
     {
         let mut header = Header::open(alloc, cards, shape)?;
@@ -159,6 +158,7 @@ impl Hdu {
         ensures unit { result.plane.bytes ≡ plane.bytes }
         ensures shape { result.header.shape ≡ header.shape }
         ensures work { result.header.reads + 1 ≤ header.reads + apply_reads }
+        ensures least { header.reads ≤ result.header.reads }
         ensures scans { plane_work result.plane ≡ plane_work plane }
     {
         let codes = header.judge();
@@ -194,9 +194,7 @@ impl Hdu {
         ensures whole { IfOk result (λ hdu. IsHdu primary (parts_of hdu)) }
         ensures described { IfOk result (λ hdu. shape_of primary hdu.header.header.cards
             ≡ Ok hdu.header.shape) }
-        ensures work { IfOk result (λ hdu. hdu.header.reads ≤ open_reads hdu.header.header.cards) }
-        ensures scans { IfOk result (λ hdu. IsScanned (block_count hdu.plane.bytes)
-            (plane_work hdu.plane)) }
+        ensures opened { IfOk result (λ hdu. IsOpened hdu) }
         ensures err { IfErr result (HduStops primary
             (supply (R.state source.old) intake.old) (supply (R.state source.new) intake.new)) }
     {

@@ -2,7 +2,6 @@ ghost use Rattle.std.specs.Prelude.{◌≡◌, ◌+◌, ◌<◌, ◌≤◌, ◌^
 ghost use Rattle.fits_stream.specs.Intake.{supply};
 ghost use Rattle.fits_hdu.specs.Hdu.{HduParts};
 ghost use Rattle.fits_hdu.specs.Reading.{HduStops, TakesHdu};
-ghost use Rattle.fits_hdu.specs.State.{parts_of};
 
 use crate::findings::Findings;
 use crate::hdu::Hdu;
@@ -33,9 +32,9 @@ pub trait Kept {
 
 /// All of it is kept.
 impl Kept for Hdu {
-    ghost use Rattle.std.specs.Prelude.{◌≡◌};
+    ghost use Rattle.fits_hdu.specs.Reading.{IsKeptWhole};
 
-    ghost keeps = { λ it hdu. parts_of it ≡ hdu };
+    ghost keeps = { λ it hdu. IsKeptWhole it hdu };
 
     fn read_next<R: Source>(
         alloc: Global,

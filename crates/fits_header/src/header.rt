@@ -91,6 +91,7 @@ impl Header {
         requires described { shape_of (is_primary shape.class) cards.header.cards ≡ Ok shape }
         ensures header { IfOk result (λ it. it.header ≡ cards.header) }
         ensures shape { IfOk result (λ it. it.shape ≡ shape) }
+        ensures least { IfOk result (λ it. cards.reads ≤ it.reads) }
         ensures work { IfOk result (λ it. it.reads ≤ cards.reads + length cards.header.cards) }
     {
         let mut cards = cards;

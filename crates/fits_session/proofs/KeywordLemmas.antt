@@ -1,17 +1,25 @@
 -- Steps of changes of a keyword.
-use Rattle.std.proofs.Common.{◌≡◌, inl, inr, ℕ, true, false, List, [], length, refl, Option, None, Some}
-use Rattle.std.specs.Prelude.{Ok, Err, IsOk}
+use Rattle.std.proofs.Common.{◌≡◌, arith, inl, inr, ℕ, true, false, List, [], length, refl, Option, None, Some}
+use Rattle.std.specs.Prelude.{Ok, Err, IsOk, Result, ◌+◌}
 use Rattle.fits_card.specs.Name.{is_settable}
 use Rattle.fits_card.specs.declared.change.Change.TheVariants.{Splice}
 use Rattle.fits_value.specs.Written.{write_says}
 use Rattle.fits_value.specs.declared.value.Value.{Value}
 use Rattle.fits_value.specs.declared.write.WriteFault.{WriteFault}
 use Rattle.fits_value.specs.declared.write.WriteFault.TheVariants as write
-use Rattle.fits_hdu.specs.Keyword.{keyword_cards, replacing}
+use Rattle.fits_hdu.specs.Keyword.{keyword_cards, replacing, with_links}
 use Rattle.fits_hdu.specs.declared.keyword_cards.KeywordCards.{KeywordCards}
 use Rattle.fits_session.specs.CardEdit.{is_keyword_name, setting, set_of, unset_of}
 use Rattle.fits_session.specs.Refusal.{ChangeFails, refusal_of_writing}
 use Rattle.fits_session.specs.declared.refusal.Refusal.TheVariants as refusal
+use Rattle.fits_session.specs.Work.{reads_to_find}
+use Rattle.fits_hdu.specs.Work.{keyword_reads}
+use Rattle.fits_card.specs.declared.change.Change.{Change}
+use Rattle.fits_session.specs.declared.refusal.Refusal.{Refusal}
+use Rattle.fits_rules.specs.Lead.{lead_place}
+use Rattle.fits_value.specs.Says.{chain_length}
+use Rattle.std.specs.Option.{option_map, option_map_or}
+use Rattle.fits_hdu.specs.State.{HduState, ReadsUpTo}
 
 -- a name that can't have a value is the first test
 pub not_settable : (cards : List (List ℕ)) (name : List ℕ) (value : Value) (comment : Option (List ℕ)) → is_settable name ≡ false → set_of cards name value comment ≡ Err refusal.BadName
@@ -39,6 +47,32 @@ not_written cards name value comment write.BadValue e bad firm = inl (settable c
 not_written cards name value comment write.Memory e bad firm = inr (refl, can_write cards name value comment (write_says name value comment) e refl (λ none. let same = firm none in cc))
 
 pub ruleset set_steps = (not_settable, is_set)
+
+-- what is read to find a change that is there
+pub read_to_find : (made : Result Change Refusal) (change : Change) (count : ℕ) → made ≡ Ok change → reads_to_find made count ≡ count
+read_to_find made change count e = rw e refl
+
+-- for a keyword that has no lead nothing is read
+pub no_lead_reads : (cards : List (List ℕ)) (name : List ℕ) → None ≡ keyword_cards cards name → keyword_reads cards name ≡ 0
+unfolding keyword_cards keyword_reads
+no_lead_reads cards name none = led (lead_place cards name) none
+  where
+    led : (place : Option ℕ) → None ≡ option_map (with_links cards) place → option_map_or (λ place. chain_length cards place + 1) place 0 ≡ 0
+    led None e = refl
+    led (Some place) e = absurd (let z : ◌≡◌ {A = Option KeywordCards} None (Some (with_links cards place)) = e in cc)
+
+-- so whatever may be read, no more was
+pub nothing_read : (old new : HduState) (name : List ℕ) (count : ℕ) → None ≡ keyword_cards old.header.header.cards name → ReadsUpTo old new (keyword_reads old.header.header.cards name) → ReadsUpTo old new count
+nothing_read old new name count none read = record {
+  header = record {
+    header = read.header.header;
+    shape = read.header.shape;
+    room = read.header.room;
+    least = read.header.least;
+    most = omega (arith, read.header.most, no_lead_reads old.header.header.cards name none);
+  };
+  plane = read.plane;
+}
 
 -- a name that isn't a keyword's is the first test
 pub not_keyword : (cards : List (List ℕ)) (name : List ℕ) → is_keyword_name name ≡ false → unset_of cards name ≡ Err refusal.BadName

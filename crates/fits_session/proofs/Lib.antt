@@ -1,3 +1,4 @@
+pub mod BoundLemmas
 pub mod CardEditLemmas
 pub mod CardLemmas
 pub mod ChangeLemmas

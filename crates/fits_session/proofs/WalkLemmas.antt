@@ -1,5 +1,5 @@
 -- Steps of a walk over the HDUs of a source.
-use Rattle.std.proofs.Common.{◌≡◌, ◌⊎◌, ℕ, ◌+◌, ◌<◌, ◌≤◌, Bool, true, false, List, [], ◌∷◌, ◌++◌, length, take, refl, subst, ap, sym, ◌∙◌, arith, rules, inl, inr}
+use Rattle.std.proofs.Common.{All, ◌≡◌, ◌⊎◌, ℕ, ◌+◌, ◌<◌, ◌≤◌, Bool, true, false, List, [], ◌∷◌, ◌++◌, length, take, refl, subst, ap, sym, ◌∙◌, arith, rules, inl, inr}
 use Rattle.std.specs.Prelude.{IfSome, nat_eq, not, codes}
 use Rattle.std.specs.Str.{bytes_eq}
 use Rattle.std.specs.List.{starts_with}
@@ -10,7 +10,7 @@ use Rattle.fits_stream.specs.Intake.{supply, Finds, Gives, GivesAll, IntakeState
 use Rattle.fits_stream.specs.Stream.{FailsOnce, SourceState, StaysQuiet}
 use Rattle.fits_stream.proofs.SightLemmas.{finds_begun, finds_given, finds_next, finds_spent, long_given, no_bytes, past_limit, rest_given, takes_and_holds, takes_fewer, takes_more, tells_after, within_limit}
 use Rattle.fits_hdu.specs.Hdu.{HduParts, HasHduFault, IsHdu, hdu_bytes}
-use Rattle.fits_hdu.specs.Reading.{HduStops, TakesHdu}
+use Rattle.fits_hdu.specs.Reading.{HduStops, TakesHdu, IsKeptWhole}
 use Rattle.fits_hdu.specs.State.{HduState, parts_of}
 use Rattle.fits_hdu.specs.declared.fault.HduFault.{HduFault}
 use Rattle.fits_hdu.specs.declared.fault.HduFault.TheVariants as hdu_fault
@@ -26,6 +26,8 @@ use Rattle.fits_session.specs.declared.read_fault.ReadFileFault.{ReadFileFault}
 use Rattle.fits_session.specs.declared.read_fault.ReadFileFault.TheVariants.{Open, Failed}
 use Rattle.fits_session.proofs.FileLemmas.{fault_here}
 use Rattle.fits_session.proofs.FrontLemmas.{front_begins, front_none, front_push, goes_on-some, hdu_long}
+use Rattle.fits_hdu.specs.Work.{IsOpened}
+use Rattle.std.proofs.lemmas.List.Elements.{All-cons, All-nil}
 
 -- texts that compare as one are one
 bytes_are : (a b : List ℕ) → bytes_eq a b ≡ true → a ≡ b
@@ -312,22 +314,33 @@ pub ruleset end_steps = (within_limit, past_limit)
 pub ruleset settled_steps = (settled_before, settled_here, settled_early)
 
 -- the HDUs that are kept whole are those of the file
-each_is : (hdus : List HduState) (us : List HduParts) → KeepsEach (λ (it : HduState) hdu. (parts_of it) ≡ hdu) hdus us → hdus_of hdus ≡ us
+each_is : (hdus : List HduState) (us : List HduParts) → KeepsEach IsKeptWhole hdus us → hdus_of hdus ≡ us
 each_is [] [] p = refl
 each_is [] (u ∷ us) p = absurd p
 each_is (hdu ∷ hdus) [] p = absurd p
-each_is (hdu ∷ hdus) (u ∷ us) p = rw (p.0, each_is hdus us p.1) refl
+each_is (hdu ∷ hdus) (u ∷ us) p = rw (p.0.parts, each_is hdus us p.1) refl
+
+-- and were opened
+each_opened : (hdus : List HduState) (us : List HduParts) → KeepsEach IsKeptWhole hdus us → All IsOpened hdus
+each_opened [] [] p = All-nil IsOpened
+each_opened [] (u ∷ us) p = absurd p
+each_opened (hdu ∷ hdus) [] p = absurd p
+each_opened (hdu ∷ hdus) (u ∷ us) p = All-cons IsOpened hdu hdus p.0.opened (each_opened hdus us p.1)
+
+-- so a walk that keeps them whole opens them
+pub walked_opened : (hdus : List HduState) (a b : Supply) → Walked IsKeptWhole hdus a b → All IsOpened hdus
+walked_opened hdus a b p = each_opened hdus p.hdus p.each
 
 -- they and the tail were taken
-pub session_taken : (hdus : List HduState) (tail : List ℕ) (a b c : Supply) → Walked (λ (it : HduState) hdu. (parts_of it) ≡ hdu) hdus a b → Takes b c tail → Takes a c (joined_hdus (hdus_of hdus) ++ tail)
+pub session_taken : (hdus : List HduState) (tail : List ℕ) (a b c : Supply) → Walked IsKeptWhole hdus a b → Takes b c tail → Takes a c (joined_hdus (hdus_of hdus) ++ tail)
 session_taken hdus tail a b c p q = rw (each_is hdus p.hdus p.each) (takes_more a b c (joined_hdus p.hdus) tail p.taken q)
 
 -- and are a file
-pub session_whole : (hdus : List HduState) (tail : List ℕ) (a b c : Supply) → length a.ahead + a.left ≤ FILE_LIMIT → Walked (λ (it : HduState) hdu. (parts_of it) ≡ hdu) hdus a b → Takes b c tail → 0 < length hdus → length hdus ≤ HDU_LIMIT → begins_extension tail ≡ false
+pub session_whole : (hdus : List HduState) (tail : List ℕ) (a b c : Supply) → length a.ahead + a.left ≤ FILE_LIMIT → Walked IsKeptWhole hdus a b → Takes b c tail → 0 < length hdus → length hdus ≤ HDU_LIMIT → begins_extension tail ≡ false
     → IsFile (file_of (state_of hdus tail))
 session_whole hdus tail a b c limit p q some few ends =
     let taken : Takes a c (joined_hdus p.hdus ++ tail) = takes_more a b c (joined_hdus p.hdus) tail p.taken q in
-    rw (each_is hdus p.hdus p.each) (file_walked (λ (it : HduState) hdu. (parts_of it) ≡ hdu) hdus p.hdus tail p.each p.front some few ends (omega (arith, limit, takes_fewer a c (joined_hdus p.hdus ++ tail) taken)))
+    rw (each_is hdus p.hdus p.each) (file_walked IsKeptWhole hdus p.hdus tail p.each p.front some few ends (omega (arith, limit, takes_fewer a c (joined_hdus p.hdus ++ tail) taken)))
 
 -- of which nothing is left
 pub session_given : (hdus : List HduState) (tail : List ℕ) (a c : Supply) → Takes a c (joined_hdus (hdus_of hdus) ++ tail) → IsOver c → IfSome c.source.remaining (λ ys. length ys ≤ c.left) → IsFile (file_of (state_of hdus tail))
@@ -340,7 +353,7 @@ session_given hdus tail a c taken over few file =
     (bytes, subst (TellsAll a) (ap (λ t. bytes ++ t) none ∙ append-nil bytes) told, file)
 
 -- how many bytes the HDUs have
-pub hdus_length : (hdus : List HduState) (a b : Supply) → Walked (λ (it : HduState) hdu. (parts_of it) ≡ hdu) hdus a b → length a.ahead + a.left ≡ length b.ahead + b.left + length (joined_hdus (hdus_of hdus))
+pub hdus_length : (hdus : List HduState) (a b : Supply) → Walked IsKeptWhole hdus a b → length a.ahead + a.left ≡ length b.ahead + b.left + length (joined_hdus (hdus_of hdus))
 hdus_length hdus a b p = rw (each_is hdus p.hdus p.each) (takes_fewer a b (joined_hdus p.hdus) p.taken)
 
 -- the tail that was read begins no extension

@@ -7,7 +7,7 @@ use Rattle.fits_rules.specs.declared.array_shape.Shape.{Shape}
 use Rattle.fits_header.specs.Work.{shape_reads}
 use Rattle.fits_hdu.specs.Hdu.{HduParts}
 use Rattle.fits_hdu.specs.Work.{apply_reads, keyword_reads, stamp_count_reads, stamp_reads}
-use Rattle.fits_session.specs.CardEdit.{change_of}
+use Rattle.fits_session.specs.CardEdit.{change_of, set_of, unset_of}
 use Rattle.fits_session.specs.Edit.{hdu_of, is_primary_hdu}
 use Rattle.fits_session.specs.File.{FileParts}
 use Rattle.fits_session.specs.declared.card_edit.CardEdit.{CardEdit}
@@ -16,10 +16,16 @@ use Rattle.fits_session.specs.declared.hdu_edit.HduEdit.{HduEdit}
 use Rattle.fits_session.specs.declared.hdu_edit.HduEdit.TheVariants.{Cards, Pixels, Stamp}
 use Rattle.fits_session.specs.declared.refusal.Refusal.{Refusal}
 
--- how many cards an edit of cards reads at most to find its change: those of the keyword that it names, and one
+-- so many are read to find a change, where there is one
+abbrev pub reads_to_find : Result Change Refusal → ℕ → ℕ
+reads_to_find (Ok change) count = count
+reads_to_find (Err why) count = 0
+
+-- how many cards an edit of cards reads at most to find its change: those of the keyword that it names, and one; none where one of its
+-- own tests fails
 abbrev pub own_reads : List (List ℕ) → CardEdit → ℕ
-own_reads cards (Set name value comment) = keyword_reads cards name
-own_reads cards (Unset name) = keyword_reads cards name
+own_reads cards (Set name value comment) = reads_to_find (set_of cards name value comment) (keyword_reads cards name)
+own_reads cards (Unset name) = reads_to_find (unset_of cards name) (keyword_reads cards name)
 own_reads cards edit = 0
 
 -- how many cards a change reads at most: those that say whether the shape stays, and those that are read when it is made

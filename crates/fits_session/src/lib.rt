@@ -21,6 +21,7 @@ mod save_fault;
 mod session;
 mod summing;
 mod walking;
+mod work_laws;
 
 pub use card_edit::CardEdit;
 pub use corner::Corner;
@@ -45,3 +46,7 @@ pub use reporting::read_report;
 pub use save_fault::SaveFault;
 pub use session::Session;
 pub use summing::read_sums;
+pub use work_laws::{
+    edits_of_cards_read_few, edits_of_pixels_scan_few, edits_of_the_list_keep_counts,
+    openings_and_queries_work_little,
+};

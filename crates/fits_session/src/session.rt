@@ -54,9 +54,10 @@ impl Model for Session {
 }
 
 impl Session {
-    ghost use Rattle.std.specs.Prelude.{◌≡◌, ◌<◌, length, IfOk, IfErr, IsErrOf, OnOk};
+    ghost use Rattle.std.specs.Prelude.{◌≡◌, ◌<◌, length, All, IfOk, IfErr, IsErrOf, OnOk};
     ghost use Rattle.fits_stream.specs.Intake.{Gives};
     ghost use Rattle.fits_stream.specs.Stream.{StaysQuiet};
+    ghost use Rattle.fits_hdu.specs.Work.{IsOpened};
     ghost use Rattle.fits_session.specs.File.{IsFileOf};
     ghost use Rattle.fits_session.specs.declared.limits.TheConstants.{FILE_LIMIT};
     ghost use Rattle.fits_session.specs.Opening.{HasOpenFault, OpenFails};
@@ -66,6 +67,7 @@ impl Session {
     /// Opens the file that has these bytes.
     pub fn open(alloc: Global, bytes: &[u8]) -> Result<Session, OpenFault>
         ensures ok { IfOk result (λ session. IsFileOf bytes.now (file_of session)) }
+        ensures opened { IfOk result (λ session. All IsOpened session.hdus) }
         ensures err { IfErr result (OpenFails bytes.now) }
 
         // Its length and its first bytes are looked at before memory is asked for.
@@ -95,6 +97,7 @@ impl Session {
     pub fn read<R: Source>(alloc: Global, source: &mut R) -> Result<Session, ReadFileFault>
         ensures ok { IfOk result (λ session. Gives (R.state source.old)
             (λ bytes. IsFileOf bytes (file_of session))) }
+        ensures opened { IfOk result (λ session. All IsOpened session.hdus) }
         ensures quiet { OnOk result (StaysQuiet (R.state source.old) (R.state source.new)) }
         ensures err { IfErr result (ReadStops (R.state source.old) (R.state source.new)) }
     {

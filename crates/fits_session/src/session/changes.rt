@@ -9,7 +9,7 @@ ghost use Rattle.fits_hdu.specs.State.{parts_of, ReadsUpTo};
 ghost use Rattle.fits_hdu.specs.Work.{keyword_reads};
 ghost use Rattle.fits_session.specs.CardEdit.{change_of, is_keyword_name, is_splice_within, is_within, own_refusal, set_of, tested, unset_of};
 ghost use Rattle.fits_session.specs.Refusal.{ChangeFails};
-ghost use Rattle.fits_session.specs.Work.{own_reads};
+ghost use Rattle.fits_session.specs.Work.{own_reads, reads_to_find};
 
 use crate::card_edit::CardEdit;
 use crate::refusal::Refusal;
@@ -153,8 +153,9 @@ fn set_keyword(
     ensures inner { IfOk result (λ change. All IsInnerCard (new_cards change)) }
     ensures err { IfErr result (ChangeFails (set_of hdu.old.header.header.cards name.now value.now
         comment.now)) }
-    ensures work { ReadsUpTo hdu.old hdu.new
-        (keyword_reads hdu.old.header.header.cards name.now) }
+    ensures work { ReadsUpTo hdu.old hdu.new (reads_to_find
+        (set_of hdu.old.header.header.cards name.now value.now comment.now)
+        (keyword_reads hdu.old.header.header.cards name.now)) }
 {
     if !name.is_settable() {
         return Err(Refusal::BadName);
@@ -169,8 +170,9 @@ fn set_keyword(
 fn unset_keyword(alloc: Global, hdu: &mut Hdu, name: &Name) -> Result<Change, Refusal>
     ensures value { result ≡ unset_of hdu.old.header.header.cards name.now }
     ensures inner { IfOk result (λ change. All IsInnerCard (new_cards change)) }
-    ensures work { ReadsUpTo hdu.old hdu.new
-        (keyword_reads hdu.old.header.header.cards name.now) }
+    ensures work { ReadsUpTo hdu.old hdu.new (reads_to_find
+        (unset_of hdu.old.header.header.cards name.now)
+        (keyword_reads hdu.old.header.header.cards name.now)) }
 {
     if !is_keyword_name(name) {
         return Err(Refusal::BadName);

@@ -1,8 +1,9 @@
 //! The HDUs of a source, and what follows them.
-ghost use Rattle.std.specs.Prelude.{◌≡◌, ◌+◌, ◌≤◌, ◌<◌, false, length, IfOk, IfErr, OnOk};
+ghost use Rattle.std.specs.Prelude.{◌≡◌, ◌+◌, ◌≤◌, ◌<◌, false, length, All, IfOk, IfErr, OnOk};
 ghost use Rattle.fits_card.specs.declared.card_list.TheConstants.{BLOCK_LEN};
 ghost use Rattle.fits_stream.specs.Intake.{supply, GivesAll, IsLimited, IsOver, IsSpent, Takes, TakingStops};
 ghost use Rattle.fits_stream.specs.Stream.{StaysQuiet};
+ghost use Rattle.fits_hdu.specs.Work.{IsOpened};
 ghost use Rattle.fits_session.specs.File.{begins_extension, file_bytes, IsFile, IsFileOf};
 ghost use Rattle.fits_session.specs.declared.limits.TheConstants.{FILE_LIMIT};
 ghost use Rattle.fits_session.specs.Reading.{SupplyStops};
@@ -30,6 +31,7 @@ pub(crate) fn read_file<R: Source>(
         (file_of (state_of parts.0.items parts.2.items))) }
     ensures len { IfOk result (λ parts. parts.1
         ≡ length (file_bytes (file_of (state_of parts.0.items parts.2.items)))) }
+    ensures opened { IfOk result (λ parts. All IsOpened parts.0.items) }
     ensures quiet { OnOk result (StaysQuiet (R.state source.old) (R.state source.new)) }
     ensures err { IfErr result (SupplyStops (supply (R.state source.old) intake.entry)
         (R.state source.new)) }

@@ -30,3 +30,6 @@ returns-clause-work c = omega (arith, c.joined.ensures.work, c.plane_of.ensures.
 
 pub returns-clause-scans : goal.returns-clause-scans
 returns-clause-scans c = rw c.joined.ensures.scans c.in-Ok.ensures.scans
+
+pub returns-clause-least : goal.returns-clause-least
+returns-clause-least c = omega (arith, c.joined.ensures.least, c.plane_of.ensures.work.least, c.in_ok-header.ensures.least)

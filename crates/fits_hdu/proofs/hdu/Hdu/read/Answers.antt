@@ -35,12 +35,11 @@ pub returns-in-Err-clause-err : goal.returns-in-Err-clause-err
 returns-in-Err-clause-err g c =
     rw c.from.ensures (stops_by_unit _ _ _ _ _ c.in-Err.fault c.in_ok-cards.ensures.taken c.in-Err.ensures.err)
 
-pub returns-in-Ok-of-clause-work : goal.returns-in-Ok-of-clause-work
-returns-in-Ok-of-clause-work g c =
-    omega (arith, c.in-Ok-of.ensures.work, c.in_ok-cards.ensures.work, ap (λ (header : Header). length header.cards) c.in-Ok-of.ensures.header)
-
-pub returns-in-Ok-of-clause-scans : goal.returns-in-Ok-of-clause-scans
-returns-in-Ok-of-clause-scans g c = rw c.in-Ok-of.ensures.unit c.in-Ok-of.ensures.scans
+pub returns-in-Ok-of-clause-opened : goal.returns-in-Ok-of-clause-opened
+returns-in-Ok-of-clause-opened g c = record {
+  reads = omega (arith, c.in-Ok-of.ensures.work, c.in_ok-cards.ensures.work, ap (λ (header : Header). length header.cards) c.in-Ok-of.ensures.header);
+  scans = rw c.in-Ok-of.ensures.unit c.in-Ok-of.ensures.scans;
+}
 
 -- memory was refused
 pub returns-in-Err-of-clause-err : goal.returns-in-Err-of-clause-err

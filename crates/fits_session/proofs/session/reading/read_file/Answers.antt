@@ -2,7 +2,7 @@ use Rattle.std.proofs.Common.{arith}
 use Rattle.std.proofs.lemmas.List.{length-append}
 use Rattle.fits_session.specs.File.{joined_hdus}
 use Rattle.fits_session.specs.Session.{hdus_of}
-use Rattle.fits_session.proofs.WalkLemmas.{ends_before, hdus_length, session_given, session_taken, session_whole}
+use Rattle.fits_session.proofs.WalkLemmas.{ends_before, hdus_length, session_given, session_taken, session_whole, walked_opened}
 use Rattle.fits_session.proofs.session.reading.read_file.Goals as goal
 
 pub overflow_sub-hdus_len : goal.overflow_sub-hdus_len
@@ -34,3 +34,6 @@ returns-in-Ok-end-clause-len g c = omega (
   hdus_length c.in-Ok.hdus.items _ _ c.in-Ok.ensures.walked,
   length-append (joined_hdus (hdus_of c.in-Ok.hdus.items)) c.in-Ok-read_tail.tail.items,
 )
+
+pub returns-in-Ok-end-clause-opened : goal.returns-in-Ok-end-clause-opened
+returns-in-Ok-end-clause-opened g c = walked_opened c.in-Ok.hdus.items _ _ c.in-Ok.ensures.walked
