@@ -1,7 +1,7 @@
 -- What is found of cards, by their notes and by what stands round them.
 use Rattle.std.proofs.Common.{◌≡◌, ℕ, ◌+◌, ◌-◌, ◌<◌, ◌≤◌, Bool, true, false, List, [], ◌∷◌, ◌++◌, length, take, get_or, map, filter, not, ap, sym, ◌∙◌, refl, arith, append_assoc, append-nil, length-append}
 use Rattle.std.specs.List.{flat_map, range_with_len}
-use Rattle.std.proofs.lemmas.List.{length-map, get_or-map, get_or_past, get_or_default, same_lists, map-append, take_more}
+use Rattle.std.proofs.lemmas.List.{length-map, get_or-map, get_or_past, get_or_default, same_lists, map-append, take_more, nil_from_length}
 use Rattle.std.proofs.lemmas.List.Elements.{filter-append}
 use Rattle.std.proofs.lemmas.List.Concat.{flat_map-append}
 use Rattle.std.proofs.lemmas.List.FromFn.{length-map-range_with_len, get_or-map-range_with_len, map-range_with_len_more}
@@ -21,6 +21,7 @@ use Rattle.fits_header.specs.declared.counts.Counts.{Counts}
 use Rattle.fits_header.specs.declared.finding.Finding.{Finding}
 use Rattle.fits_header.proofs.MarkedLinkLemmas.{length-links}
 use Rattle.fits_header.proofs.NoteLemmas.{note_there}
+use Rattle.std.proofs.lemmas.List.Filters.{length-filter_both}
 
 -- the links that are marked
 abbrev links_marked : List Surrounding → List Bool
@@ -177,3 +178,27 @@ counted-all shape cards n is =
 pub counted-more : (found codes : List Code) (i : ℕ) (d : Code) (now next : Counts) → i < length codes → next ≡ counted now (get_or codes i d) → now ≡ counts_of (found ++ take i codes) → next ≡ counts_of (found ++ take (i + 1) codes)
 counted-more found codes i d now next within is so_far =
     is ∙ (ap (λ (counts : Counts). counted counts (get_or codes i d)) so_far ∙ sym (counts-more found codes i d within))
+
+-- where neither an error nor a warning is counted, nothing is found
+pub none_found : (shape : Shape) (cards : List (List ℕ)) (counts : Counts) → counts ≡ card_counts shape cards → counts.errors ≡ 0 → counts.warnings ≡ 0 → card_findings shape cards ≡ []
+unfolding card_counts
+none_found shape cards counts is no_errors no_warnings =
+    let found : List Finding = card_findings shape cards in
+    let codes : List Code = map (λ (finding : Finding). finding.code) found in
+    let both = length-filter_both is_error (λ code. not (is_error code)) (λ code. refl) codes in
+    nil_from_length found (omega (
+      arith,
+      both,
+      ap (λ (c : Counts). c.errors) is,
+      ap (λ (c : Counts). c.warnings) is,
+      no_errors,
+      no_warnings,
+      length-map found (λ (finding : Finding). finding.code),
+    ))
+
+-- and the other way round
+pub none_counted : (shape : Shape) (cards : List (List ℕ)) → card_findings shape cards ≡ [] → counts_by 0 0 ≡ card_counts shape cards
+unfolding card_counts
+none_counted shape cards none = rw none refl
+
+pub ruleset clean_steps = (none_found, none_counted)

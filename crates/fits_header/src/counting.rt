@@ -20,10 +20,7 @@ pub(crate) fn count_all(shape: &Shape, notes: &Notes, surroundings: &[Surroundin
         → surroundings.now ≡ surroundings_of cards → result ≡ card_counts shape.now cards }
     ensures within { result.errors + result.warnings ≤ MOST_CODES * length notes.now.items }
 {
-    let mut counts = Counts {
-        errors: 0,
-        warnings: 0,
-    };
+    let mut counts = Counts::NONE;
     for index in 0..notes.len() {
         let codes = codes_at(shape, notes, surroundings, index + 1);
         counts = count_more(counts, codes.as_slice());

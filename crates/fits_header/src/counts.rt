@@ -11,6 +11,12 @@ pub struct Counts {
 }
 
 impl Counts {
+    /// Nothing was found.
+    pub(crate) const NONE: Counts = Counts {
+        errors: 0,
+        warnings: 0,
+    };
+
     ghost use Rattle.std.specs.Prelude.{◌≡◌, ◌+◌, ◌<◌, ◌^◌, length};
     ghost use Rattle.fits_header.specs.Findings.{counts_of, summed};
 
@@ -19,11 +25,7 @@ impl Counts {
         ensures value { result ≡ counts_of codes.now }
         ensures sum { result.errors + result.warnings ≡ length codes.now }
     {
-        let none = Counts {
-            errors: 0,
-            warnings: 0,
-        };
-        count_more(none, codes)
+        count_more(Counts::NONE, codes)
     }
 
     /// These and others.

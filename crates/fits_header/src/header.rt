@@ -29,12 +29,16 @@ pub struct Header {
     notes: Notes,
     // What stands round each card, or nothing where it wasn't asked for since the last change.
     surroundings: Vec<Surrounding>,
+    // How many errors and warnings its cards have, where that was found since the last change.
+    counted: Option<Counts>,
 }
 
 impl Model for Header {
-    ghost use Rattle.std.specs.Prelude.{◌≡◌, ◌≤◌, ◌<◌, ◌+◌, Ok, length, vec_capacity, vec_len};
+    ghost use Rattle.std.specs.Prelude.{◌≡◌, ◌≤◌, ◌<◌, ◌+◌, ◌*◌, IfSome, Ok, length, vec_capacity, vec_len};
+    ghost use Rattle.fits_codes.specs.declared.code_set.TheConstants.{MOST_CODES};
     ghost use Rattle.fits_rules.specs.Class.{is_primary};
     ghost use Rattle.fits_rules.specs.Shape.{shape_of};
+    ghost use Rattle.fits_header.specs.Findings.{card_counts};
     ghost use Rattle.fits_header.specs.Index.{IsIndexOf};
     ghost use Rattle.fits_header.specs.Notes.{notes_of};
     ghost use Rattle.fits_header.specs.State.{HeaderState};
@@ -58,6 +62,9 @@ impl Model for Header {
           → it.surroundings.items ≡ surroundings_of it.cards.header.cards;
       whole : 0 < vec_len it.surroundings
           → vec_len it.surroundings ≡ length it.cards.header.cards;
+      counted : IfSome it.counted (λ counts. counts ≡ card_counts it.shape it.cards.header.cards);
+      few_codes : IfSome it.counted (λ counts.
+          counts.errors + counts.warnings ≤ MOST_CODES * length it.cards.header.cards);
       room_of_index : it.cards.room ≤ it.index.room;
       room_of_notes : it.cards.room ≤ it.notes.room;
       room_of_surroundings : length it.cards.header.cards + it.cards.room
@@ -66,7 +73,7 @@ impl Model for Header {
 }
 
 impl Header {
-    ghost use Rattle.std.specs.Prelude.{◌≡◌, ◌≤◌, ◌<◌, ◌+◌, ◌-◌, ◌*◌, ◌/◌, ◌^◌, List, ℕ, Ok, IsOk, IfOk, IfErr, OnOk, OnErr, IsTrue, None, false, length, slice_index_or, All};
+    ghost use Rattle.std.specs.Prelude.{◌≡◌, ◌≤◌, ◌<◌, ◌+◌, ◌-◌, ◌*◌, ◌/◌, ◌^◌, List, [], ℕ, Ok, IsOk, IfOk, IfErr, OnOk, OnErr, IsTrue, None, false, length, slice_index_or, All};
     ghost use Rattle.fits_card.specs.Card.{IsEnd};
     ghost use Rattle.fits_card.specs.Change.{cards_after, new_cards, IsInRange};
     ghost use Rattle.fits_card.specs.Header.{IsHeader, header_bytes, with_cards};
@@ -107,6 +114,7 @@ impl Header {
             index,
             notes,
             surroundings,
+            counted: None,
         })
     }
 
@@ -281,6 +289,7 @@ impl Header {
         change_index(&mut self.index, &self.cards, &self.notes, change);
         self.notes.change(&self.cards, change);
         self.surroundings.clear();
+        self.counted = None;
         change.apply(&mut self.cards);
     }
 
@@ -293,15 +302,34 @@ impl Header {
         judge_header_mark(&mark, &self.shape)
     }
 
-    /// What is found of its cards: by place, and at each by number. No card is read.
-    #[tactic(auto, using(crate::proofs::CountLemmas::index_steps))]
+    /// What is found of its cards: by place, and at each by number. No card is read, and nothing is
+    /// looked at where it was found before that there is nothing.
+    #[tactic(auto, using(crate::proofs::CountLemmas::index_steps, crate::proofs::FindingLemmas::clean_steps))]
     pub fn findings(&mut self, alloc: Global) -> Result<Vec<Finding>, AllocError>
         ensures found { IfOk result (λ found. found.items
             ≡ card_findings self.old.shape self.old.header.cards) }
         ensures same { self.new ≡ self.old }
     {
+        if self.is_clean() {
+            return Ok(Vec::new(alloc));
+        }
         survey(&mut self.surroundings, &self.notes, &self.index);
-        findings_of(alloc, &self.shape, &self.notes, &self.surroundings)
+        let found = findings_of(alloc, &self.shape, &self.notes, &self.surroundings)?;
+        if found.is_empty() {
+            self.counted = Some(Counts::NONE);
+        }
+        Ok(found)
+    }
+
+    // Whether it was found before that its cards have nothing to report.
+    #[tactic(auto, using(crate::proofs::FindingLemmas::clean_steps))]
+    fn is_clean(&self) -> bool
+        ensures { IsTrue result → card_findings self.now.shape self.now.header.cards ≡ [] }
+    {
+        match self.counted {
+            Some(counts) => counts.errors == 0 && counts.warnings == 0,
+            None => false,
+        }
     }
 
     /// The codes of the card at a place, by number. It takes no memory, and reads no card.
@@ -316,7 +344,8 @@ impl Header {
         codes_at(&self.shape, &self.notes, &self.surroundings, place)
     }
 
-    /// How many errors and warnings are found of its cards. It takes no memory, and reads no card.
+    /// How many errors and warnings are found of its cards. It takes no memory, and reads no card. They
+    /// are kept until the next change.
     #[tactic(auto, using(crate::proofs::CountLemmas::index_steps))]
     pub fn counts(&mut self) -> Counts
         requires { length (header_bytes self.old.header) ≤ 2 ^ 34 }
@@ -324,10 +353,15 @@ impl Header {
         ensures within { result.errors + result.warnings ≤ MOST_CODES * length self.old.header.cards }
         ensures same { self.new ≡ self.old }
     {
+        if let Some(counts) = self.counted {
+            return counts;
+        }
         // So few cards have no more codes than the counts can hold.
         let _few = self.cards.len();
         survey(&mut self.surroundings, &self.notes, &self.index);
-        count_all(&self.shape, &self.notes, &self.surroundings)
+        let counts = count_all(&self.shape, &self.notes, &self.surroundings);
+        self.counted = Some(counts);
+        counts
     }
 
     /// Whether the card at a place goes on with a long string. It takes no memory, and reads no
