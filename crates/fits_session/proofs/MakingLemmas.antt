@@ -1,10 +1,12 @@
 -- What is made of an HDU: its length, the limits, and what it owes.
-use Rattle.std.proofs.Common.{◌≡◌, inl, inr, ℕ, ◌+◌, ◌-◌, ◌*◌, ◌<◌, ◌≤◌, Bool, true, false, List, length, refl, ap, sym, ◌∙◌, subst, arith, rules, All, Option, None, Some, replicate}
+use Rattle.std.proofs.Common.{◌≡◌, inl, inr, ℕ, ◌+◌, ◌-◌, ◌*◌, ◌<◌, ◌≤◌, Bool, true, false, List, [], ◌∷◌, length, refl, ap, sym, ◌∙◌, subst, arith, rules, All, Option, None, Some, replicate}
 use Rattle.std.specs.Prelude.{Result, Ok, Err, IsOk, IfErr, OnOk, if◌then◌else◌}
 use Rattle.std.proofs.lemmas.List.{length-append}
-use Rattle.fits_card.specs.Change.{cards_after, new_cards}
+use Rattle.fits_card.specs.Change.{IsInRange, cards_after, new_cards}
 use Rattle.fits_card.specs.Header.{Header, IsHeader, IsInnerCard, header_bytes, header_length, fill_length}
 use Rattle.fits_card.specs.declared.change.Change.{Change}
+use Rattle.fits_card.specs.declared.change.Change.TheVariants as changes
+use Rattle.fits_card.proofs.ChangeLemmas.{length-moved, length-spliced}
 use Rattle.fits_card.proofs.HeaderLemmas.{fill_length-by_cards, length-header_bytes, whole-with_cards}
 use Rattle.fits_plane.specs.Layout.{block_count}
 use Rattle.fits_rules.specs.Class.{is_primary}
@@ -17,17 +19,20 @@ use Rattle.fits_hdu.specs.State.{HduState, ReadsUpTo, parts_of}
 use Rattle.fits_hdu.specs.Work.{FollowsBlank, PixelWork, apply_reads, plane_work}
 use Rattle.fits_hdu.proofs.StateLemmas.{parts_read}
 use Rattle.fits_hdu.proofs.ChangeLemmas.{hdu-changed, inner_after}
-use Rattle.fits_session.specs.CardEdit.{change_of}
+use Rattle.fits_session.specs.CardEdit.{change_of, is_keyword_name, unless, unset_of, unsetting}
 use Rattle.fits_session.specs.HduEdit.{hdu_changed, hdu_made}
 use Rattle.fits_session.specs.Limits.{is_within_limits, size_within}
 use Rattle.fits_session.specs.declared.limits.TheConstants.{FILE_LIMIT, HDU_LIMIT}
-use Rattle.fits_session.specs.Refusal.{limit_refusal, CardsNeedMemory, ChangeFails, Fails}
+use Rattle.fits_session.specs.Refusal.{limit_refusal, CardEditNeedsMemory, CardsNeedMemory, ChangeFails, ChangeNeedsMemory, Fails}
 use Rattle.fits_session.specs.Session.{length_with, within_refusal, BlankWork, ChangesTo, HduEditsTo, HduMakes}
 use Rattle.fits_session.specs.Work.{hdu_reads, own_reads}
 use Rattle.fits_session.specs.declared.card_edit.CardEdit.{CardEdit}
+use Rattle.fits_session.specs.declared.card_edit.CardEdit.TheVariants.{Insert, Put, Delete, Move, Set, Unset}
 use Rattle.fits_session.specs.declared.hdu_edit.HduEdit.TheVariants.{Cards}
 use Rattle.fits_session.specs.declared.refusal.Refusal.{Refusal}
 use Rattle.fits_session.specs.declared.refusal.Refusal.TheVariants as refusal
+use Rattle.fits_hdu.specs.Keyword.{keyword_cards}
+use Rattle.fits_hdu.specs.declared.keyword_cards.KeywordCards.{KeywordCards}
 
 -- a header is as long as its number of cards says
 pub header_long : (header : Header) → IsHeader header → length (header_bytes header) ≡ header_length (length header.cards)
@@ -155,10 +160,10 @@ blank_none primary hdu made work = record { same = λ e. refl; any = inl refl }
 
 -- a change of an HDU that is refused owes this
 pub changes_not : (change : Change) (bytes hdus : ℕ) (old new : HduState) (why : Refusal) → IsHdu (is_primary old.header.shape.class) (parts_of old) → parts_of new ≡ parts_of old → old.header.reads ≤ new.header.reads → new.header.reads ≤ old.header.reads + shape_reads old.header.shape → plane_work new.plane ≡ plane_work old.plane
-    → Fails CardsNeedMemory (within_refusal bytes hdus (parts_of old) (hdu_changed (is_primary old.header.shape.class) (parts_of old) (Ok change))) why → ChangesTo change bytes hdus old new (Err why)
+    → Fails (ChangeNeedsMemory change) (within_refusal bytes hdus (parts_of old) (hdu_changed (is_primary old.header.shape.class) (parts_of old) (Ok change))) why → ChangesTo change bytes hdus old new (Err why)
 changes_not change bytes hdus old new why whole same least most idle fails =
     let made : Result HduParts Refusal = hdu_changed (is_primary old.header.shape.class) (parts_of old) (Ok change) in
-    makes_not made CardsNeedMemory (shape_reads old.header.shape + apply_reads) (BlankWork (is_primary old.header.shape.class) (parts_of old) made) bytes hdus old new why whole same least (omega (arith, most)) idle
+    makes_not made (ChangeNeedsMemory change) (shape_reads old.header.shape + apply_reads) (BlankWork (is_primary old.header.shape.class) (parts_of old) made) bytes hdus old new why whole same least (omega (arith, most)) idle
     (blank_none (is_primary old.header.shape.class) (parts_of old) made (plane_work old.plane)) fails
 
 -- one that is made owes this
@@ -200,15 +205,71 @@ needs_memory : (primary : Bool) (bytes hdus : ℕ) (hdu : HduParts) (made : Resu
 needs_memory primary bytes hdus hdu (Ok change) p = needs_kept (keeps_shape primary hdu.header.cards (cards_after hdu.header.cards change)) bytes hdus hdu (hdu_after change hdu)
 needs_memory primary bytes hdus hdu (Err why) p = cc
 
+-- memory that an edit may need without a refusal it may need on the way to one
+needs_as : (edit : CardEdit) (refused : Option Refusal) → CardEditNeedsMemory edit None → CardsNeedMemory refused → CardEditNeedsMemory edit refused
+needs_as (Insert place card) refused takes needs = needs
+needs_as (Put place card) refused takes needs = needs
+needs_as (Delete place) refused takes needs = takes
+needs_as (Move from to) refused takes needs = takes
+needs_as (Set name value comment) refused takes needs = needs
+needs_as (Unset name) refused takes needs = takes
+
+-- a change that needs memory puts cards in
+needs_cards : (change : Change) (refused : Option Refusal) → ChangeNeedsMemory change refused → CardsNeedMemory refused
+needs_cards (changes.Splice place removed []) refused needs = absurd needs
+needs_cards (changes.Splice place removed (card ∷ cards)) refused needs = needs
+needs_cards (changes.Move from to) refused needs = absurd needs
+
+-- what came of tests needs what it is
+needs_tested : (refusal : Option Refusal) (made change : Change) (refused : Option Refusal) → unless refusal made ≡ Ok change → ChangeNeedsMemory change refused → ChangeNeedsMemory made refused
+needs_tested None made change refused e needs = let same : made ≡ change = cc in subst (λ (c : Change). ChangeNeedsMemory c refused) (sym same) needs
+needs_tested (Some why) made change refused e needs = absurd (let z : ◌≡◌ {A = Result Change Refusal} (Err why) (Ok change) = e in cc)
+
+-- nor does one that takes a keyword out
+needs_unset : (b : Bool) (old : Option KeywordCards) (change : Change) (refused : Option Refusal) → (if b then unsetting old else Err refusal.BadName) ≡ Ok change → ChangeNeedsMemory change refused → ⊥
+needs_unset true None change refused e needs = let z : ◌≡◌ {A = Result Change Refusal} (Err refusal.NoKey) (Ok change) = e in cc
+needs_unset true (Some old) change refused e needs = let same : changes.Splice old.place old.count [] ≡ change = cc in subst (λ (c : Change). ChangeNeedsMemory c refused) (sym same) needs
+needs_unset false old change refused e needs = let z : ◌≡◌ {A = Result Change Refusal} (Err refusal.BadName) (Ok change) = e in cc
+
+-- so where the change of an edit needs memory, the edit does
+puts_cards : (cards : List (List ℕ)) (edit : CardEdit) (change : Change) → change_of cards edit ≡ Ok change → (refused : Option Refusal) → ChangeNeedsMemory change refused → CardEditNeedsMemory edit refused
+unfolding change_of unset_of
+puts_cards cards (Insert place card) change e refused needs = needs_cards change refused needs
+puts_cards cards (Put place card) change e refused needs = needs_cards change refused needs
+puts_cards cards (Delete place) change e refused needs = needs_tested _ (changes.Splice place 1 []) change refused e needs
+puts_cards cards (Move from to) change e refused needs = needs_tested _ (changes.Move from to) change refused e needs
+puts_cards cards (Set name value comment) change e refused needs = needs_cards change refused needs
+puts_cards cards (Unset name) change e refused needs = needs_unset (is_keyword_name name) (keyword_cards cards name) change refused e needs
+
+-- what fails so fails so too
+fails_as : {X : Type 0} (A B : Option Refusal → Type 0) (refused : Option Refusal) (result : Result X Refusal) → ((refused : Option Refusal) → A refused → B refused) → IfErr result (Fails A refused) → IfErr result (Fails B refused)
+fails_as A B refused (Ok x) more p = tt
+fails_as A B refused (Err why) more p = elim p [
+  | inl test ↦ inl test
+  | inr memory ↦ inr (memory.0, more refused memory.1)
+]
+
+-- a change that leaves more cards puts some in
+grows_needs : (cards : List (List ℕ)) (change : Change) (refused : Option Refusal) → IsInRange cards change → length cards < length (cards_after cards change) → CardsNeedMemory refused → ChangeNeedsMemory change refused
+unfolding cards_after IsInRange
+grows_needs cards (changes.Splice place removed []) refused range more needs = absurd (omega (arith, more, length-spliced cards [] place removed range.0 range.1))
+grows_needs cards (changes.Splice place removed (card ∷ new)) refused range more needs = needs
+grows_needs cards (changes.Move from to) refused range more needs = absurd (omega (arith, more, length-moved cards from to range.0 range.1 range.2 range.3))
+
+-- room may be missing for such a change
+pub room_missing : (change : Change) (bytes hdus : ℕ) (primary : Bool) (hdu : HduParts) → IsInRange hdu.header.cards change → length hdu.header.cards < length (cards_after hdu.header.cards change)
+    → ChangeNeedsMemory change (within_refusal bytes hdus hdu (hdu_changed primary hdu (Ok change)))
+room_missing change bytes hdus primary hdu range more = grows_needs hdu.header.cards change _ range more (needs_memory primary bytes hdus hdu (Ok change) refl)
+
 -- an edit of cards whose change isn't made owes this
-pub cards_unmade : (edit : CardEdit) (bytes hdus : ℕ) (old new : HduState) (why : Refusal) → IsHdu (is_primary old.header.shape.class) (parts_of old) → ReadsUpTo old new (own_reads old.header.header.cards edit) → ChangeFails (change_of old.header.header.cards edit) why → HduEditsTo (Cards edit) bytes hdus old new (Err why)
+pub cards_unmade : (edit : CardEdit) (bytes hdus : ℕ) (old new : HduState) (why : Refusal) → IsHdu (is_primary old.header.shape.class) (parts_of old) → ReadsUpTo old new (own_reads old.header.header.cards edit) → ChangeFails (change_of old.header.header.cards edit) why → (why ≡ refusal.Memory → CardEditNeedsMemory edit None) → HduEditsTo (Cards edit) bytes hdus old new (Err why)
 unfolding hdu_made
-cards_unmade edit bytes hdus old new why whole r fails =
+cards_unmade edit bytes hdus old new why whole r fails takes =
     let primary : Bool = is_primary old.header.shape.class in
     let made : Result HduParts Refusal = hdu_changed primary (parts_of old) (change_of old.header.header.cards edit) in
-    makes_not made CardsNeedMemory (hdu_reads primary (Cards edit) (parts_of old)) (BlankWork primary (parts_of old) made) bytes hdus old new why whole (parts_read old new _ r) r.header.least (omega (arith, r.header.most)) (ap plane_work r.plane) (blank_none primary (parts_of old) made (plane_work old.plane)) (elim fails [
+    makes_not made (CardEditNeedsMemory edit) (hdu_reads primary (Cards edit) (parts_of old)) (BlankWork primary (parts_of old) made) bytes hdus old new why whole (parts_read old new _ r) r.header.least (omega (arith, r.header.most)) (ap plane_work r.plane) (blank_none primary (parts_of old) made (plane_work old.plane)) (elim fails [
       | inl e ↦ inl (ap (λ said. within_refusal bytes hdus (parts_of old) (hdu_changed primary (parts_of old) said)) e)
-      | inr m ↦ inr (m.0, needs_memory primary bytes hdus (parts_of old) (change_of old.header.header.cards edit) m.1)
+      | inr m ↦ inr (m.0, needs_as edit _ (takes m.0) (needs_memory primary bytes hdus (parts_of old) (change_of old.header.header.cards edit) m.1))
     ])
 
 -- one whose change is made owes what the change does
@@ -220,7 +281,8 @@ cards_made edit change bytes hdus old left new result described r made p =
     let there : Result HduParts Refusal = hdu_changed primary (parts_of old) (Ok change) in
     let accepted : OnOk result (within_refusal bytes hdus (parts_of old) there ≡ None) = rw (r.header.header, r.plane, r.header.shape) at p.accepted in
     let ok : OnOk result (there ≡ Ok (parts_of new)) = rw (r.header.header, r.plane, r.header.shape) at p.ok in
-    let refused : IfErr result (Fails CardsNeedMemory (within_refusal bytes hdus (parts_of old) there)) = rw (r.header.header, r.plane, r.header.shape) at p.refused in
+    let refused : IfErr result (Fails (CardEditNeedsMemory edit) (within_refusal bytes hdus (parts_of old) there)) =
+    fails_as (ChangeNeedsMemory change) (CardEditNeedsMemory edit) _ result (puts_cards old.header.header.cards edit change made) (rw (r.header.header, r.plane, r.header.shape) at p.refused) in
     let most : new.header.reads ≤ left.header.reads + (shape_reads old.header.shape + apply_reads) = rw r.header.shape at p.most in
     let reads : hdu_reads primary (Cards edit) (parts_of old) ≡ own_reads old.header.header.cards edit + (shape_reads old.header.shape + apply_reads) = rw (described, made) refl in
     let work : BlankWork primary (parts_of old) there (plane_work old.plane) (plane_work new.plane) = rw (r.header.header, r.plane, r.header.shape) at p.work in

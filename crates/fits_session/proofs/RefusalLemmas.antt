@@ -1,6 +1,6 @@
 -- No test refuses an edit for memory.
-use Rattle.std.proofs.Common.{◌≡◌, ℕ, ◌+◌, refl, ap, [], ◌∷◌, length, Bool, true, false, List, Option, None, Some}
-use Rattle.std.specs.Prelude.{◌==◌, if◌then◌else◌, not, Result, Ok, Err}
+use Rattle.std.proofs.Common.{◌≡◌, ℕ, ◌+◌, refl, ap, sym, ◌∙◌, [], ◌∷◌, length, Bool, true, false, List, Option, None, Some}
+use Rattle.std.specs.Prelude.{◌==◌, if◌then◌else◌, not, Result, Ok, Err, IsErrOf}
 use Rattle.std.specs.List.{list_all, list_any}
 use Rattle.fits_card.specs.Card.{is_text, is_end}
 use Rattle.fits_card.specs.Change.{cards_after, new_cards}
@@ -117,17 +117,34 @@ firm_unsetting : (old : Option KeywordCards) → FirmChange (unsetting old)
 firm_unsetting None = firm_refused NoKey (λ e. cc)
 firm_unsetting (Some old) = firm_made (Splice old.place old.count [])
 
+-- that is there or not
+firm_unset : (cards : List (List ℕ)) (name : List ℕ) → FirmChange (unset_of cards name)
+unfolding unset_of
+firm_unset cards name = firm_either (is_keyword_name name) _ (Err BadName) (firm_unsetting (keyword_cards cards name)) (firm_refused BadName (λ e. cc))
+
 -- the change of each edit
 firm_change : (cards : List (List ℕ)) (edit : CardEdit) → FirmChange (change_of cards edit)
-unfolding change_of set_of unset_of
+unfolding change_of set_of
 firm_change cards (Insert place card) = firm_tested (length cards) (Splice place 0 (card ∷ []))
 firm_change cards (Put place card) = firm_tested (length cards) (Splice place 1 (card ∷ []))
 firm_change cards (Delete place) = firm_tested (length cards) (Splice place 1 [])
 firm_change cards (Move from to) = firm_tested (length cards) (change.Move from to)
 firm_change cards (Set name value comment) =
     firm_either (is_settable name) _ (Err BadName) (firm_setting (length cards) (keyword_cards cards name) (write_says name value comment)) (firm_refused BadName (λ e. cc))
-firm_change cards (Unset name) =
-    firm_either (is_keyword_name name) _ (Err BadName) (firm_unsetting (keyword_cards cards name)) (firm_refused BadName (λ e. cc))
+firm_change cards (Unset name) = firm_unset cards name
+
+-- so what makes such a change isn't out of memory
+of_firm : (made result : Result Change Refusal) → FirmChange made → result ≡ made → IsErrOf result Memory → ⊥
+unfolding FirmChange
+of_firm made result firm is memory = firm (sym is ∙ memory)
+
+-- of a card that goes or moves
+pub tested_firm : (count : ℕ) (change : Change) (result : Result Change Refusal) → result ≡ tested count change → IsErrOf result Memory → ⊥
+tested_firm count change result = of_firm (tested count change) result (firm_tested count change)
+
+-- and of a keyword that goes
+pub unset_firm : (cards : List (List ℕ)) (name : List ℕ) (result : Result Change Refusal) → result ≡ unset_of cards name → IsErrOf result Memory → ⊥
+unset_firm cards name result = of_firm (unset_of cards name) result (firm_unset cards name)
 
 -- nor is what an edit makes of an HDU
 FirmMade : Result HduParts Refusal → Type 0

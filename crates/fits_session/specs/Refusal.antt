@@ -1,6 +1,7 @@
 -- When an edit is refused: the first of its tests that fails (own).
-use Rattle.std.specs.Prelude.{◌≡◌, ◌⊎◌, ℕ, ◌+◌, ◌==◌, not, List, length, codes, Option, Some, None, Result, Ok, Err, IsOk, if◌then◌else◌}
+use Rattle.std.specs.Prelude.{◌≡◌, ◌⊎◌, ℕ, ◌+◌, ◌==◌, not, List, [], ◌∷◌, length, codes, Option, Some, None, Result, Ok, Err, IsOk, if◌then◌else◌}
 use Rattle.fits_card.specs.declared.change.Change.{Change}
+use Rattle.fits_card.specs.declared.change.Change.TheVariants as change
 use Rattle.fits_hdu.specs.Hdu.{HduParts}
 use Rattle.fits_hdu.specs.NewImage.{are_axes, new_image}
 use Rattle.fits_hdu.specs.declared.kind.Kind.{Kind}
@@ -9,6 +10,8 @@ use Rattle.fits_session.specs.Edit.{hdu_of, is_primary_hdu, with_hdu, with_new_h
 use Rattle.fits_session.specs.File.{FileParts, file_bytes}
 use Rattle.fits_session.specs.HduEdit.{hdu_made}
 use Rattle.fits_session.specs.Limits.{is_within_limits}
+use Rattle.fits_session.specs.declared.card_edit.CardEdit.{CardEdit}
+use Rattle.fits_session.specs.declared.card_edit.CardEdit.TheVariants.{Delete, Move, Unset}
 use Rattle.fits_session.specs.declared.edit.Edit.{Edit}
 use Rattle.fits_session.specs.declared.edit.Edit.TheVariants.{Hdu, NewImage, RemoveHdu}
 use Rattle.fits_session.specs.declared.hdu_edit.HduEdit.{HduEdit}
@@ -67,6 +70,19 @@ CardsNeedMemory (Some Shape) = Unit {0}
 CardsNeedMemory (Some TooLarge) = Unit {0}
 CardsNeedMemory (Some why) = ⊥
 
+-- of one that puts no card in it doesn't
+abbrev pub CardEditNeedsMemory : CardEdit → Option Refusal → Type 0
+CardEditNeedsMemory (Delete place) refused = ⊥
+CardEditNeedsMemory (Move from to) refused = ⊥
+CardEditNeedsMemory (Unset name) refused = ⊥
+CardEditNeedsMemory edit refused = CardsNeedMemory refused
+
+-- nor where a change is made that puts none in
+abbrev pub ChangeNeedsMemory : Change → Option Refusal → Type 0
+ChangeNeedsMemory (change.Splice place removed []) refused = ⊥
+ChangeNeedsMemory (change.Splice place removed (card ∷ cards)) refused = CardsNeedMemory refused
+ChangeNeedsMemory (change.Move from to) refused = ⊥
+
 -- and of a new image: none, or that it would be too large
 abbrev pub NewNeedsMemory : Option Refusal → Type 0
 NewNeedsMemory None = Unit {0}
@@ -75,7 +91,7 @@ NewNeedsMemory (Some why) = ⊥
 
 -- and of an edit of an HDU: one of pixels takes none, and a stamp asks for it after its test
 abbrev pub HduNeedsMemory : HduEdit → Option Refusal → Type 0
-HduNeedsMemory (Cards edit) refused = CardsNeedMemory refused
+HduNeedsMemory (Cards edit) refused = CardEditNeedsMemory edit refused
 HduNeedsMemory (Pixels lo hi paint) refused = ⊥
 HduNeedsMemory Stamp refused = refused ≡ None
 

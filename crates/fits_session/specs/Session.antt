@@ -15,7 +15,7 @@ use Rattle.fits_hdu.specs.Work.{apply_reads, open_reads, plane_work, FollowsBlan
 use Rattle.fits_session.specs.Edit.{changed_of, file_after, hdu_of, is_primary_hdu, made_or}
 use Rattle.fits_session.specs.File.{FileParts}
 use Rattle.fits_session.specs.HduEdit.{hdu_changed, hdu_made}
-use Rattle.fits_session.specs.Refusal.{limit_refusal, refusal_of, CardsNeedMemory, EditNeedsMemory, Fails, HduNeedsMemory}
+use Rattle.fits_session.specs.Refusal.{limit_refusal, refusal_of, ChangeNeedsMemory, EditNeedsMemory, Fails, HduNeedsMemory}
 use Rattle.fits_session.specs.Work.{edit_reads, hdu_reads}
 use Rattle.fits_session.specs.declared.edit.Edit.{Edit}
 use Rattle.fits_session.specs.declared.edit.Edit.TheVariants.{Hdu, NewImage, RemoveHdu}
@@ -191,4 +191,4 @@ abbrev pub ChangesTo : Change → (bytes hdus : ℕ) (old new : HduState) → Re
 ChangesTo change bytes hdus old new =
     let primary : Bool = is_primary old.header.shape.class in
     let made : Result HduParts Refusal = hdu_changed primary (parts_of old) (Ok change) in
-    HduMakes made CardsNeedMemory (shape_reads old.header.shape + apply_reads) (BlankWork primary (parts_of old) made) bytes hdus old new
+    HduMakes made (ChangeNeedsMemory change) (shape_reads old.header.shape + apply_reads) (BlankWork primary (parts_of old) made) bytes hdus old new

@@ -1,4 +1,6 @@
-use Rattle.std.proofs.Common.{Bool, inl, ap, sym, ◌∙◌, arith, length}
+use Rattle.std.proofs.Common.{Bool, inl, inr, refl, ◌<◌, ap, sym, ◌∙◌, arith, length}
+use Rattle.std.proofs.lemmas.Bool.{cases_lt, false≢true}
+use Rattle.std.proofs.lemmas.Result.{err_from_is_err_and}
 use Rattle.fits_card.specs.Change.{cards_after}
 use Rattle.fits_header.specs.State.{HeaderState}
 use Rattle.fits_card.specs.Header.{header_length}
@@ -10,7 +12,7 @@ use Rattle.fits_hdu.proofs.StateLemmas.{parts_read}
 use Rattle.fits_session.specs.Limits.{size_within}
 use Rattle.fits_session.specs.Session.{length_with, within_refusal}
 use Rattle.fits_session.specs.declared.refusal.Refusal.TheVariants as refusal
-use Rattle.fits_session.proofs.MakingLemmas.{change_reckoned, changes_made, changes_not, fits_not, header_part, kept_made}
+use Rattle.fits_session.proofs.MakingLemmas.{change_reckoned, changes_made, changes_not, fits_not, header_part, kept_made, room_missing}
 use Rattle.fits_session.proofs.session.cards.make_change.Goals as goal
 
 pub len_after-requires-clause-part : goal.len_after-requires-clause-part
@@ -40,3 +42,21 @@ returns c =
     (omega (arith, read.header.least, room.work, c.apply.ensures.least))
     (omega (arith, read.header.most, room.work, c.apply.ensures.work))
     (rw (header, c.apply.ensures.shape, reserved, room.shape, plane, read.header.header, read.header.shape, read.plane) at c.apply.ensures.scans)
+
+pub returns-in_err-reserve : goal.returns-in_err-reserve
+returns-in_err-reserve c =
+    let p = err_from_is_err_and c.from_residual.result c.from_residual.ensures.1 in
+    let read = c.keeps_shape.ensures.work in
+    let room = c.in_err-reserve.ensures in
+    let cards = c.args.hdu.now.header.header.cards in
+    let more : length cards < length (cards_after cards c.args.change.now) =
+    elim (cases_lt (length cards) (length (cards_after cards c.args.change.now))) [
+      | inl more ↦ more
+      | inr few ↦ absurd (false≢true (room.succeeds (omega (arith, few, c.saturating_sub.ensures, c.card_count-before.ensures.value, c.count_after-after.ensures, ap (λ (h : HeaderState). length (cards_after h.header.cards c.args.change.now)) c.header.ensures))))
+    ] in
+    rw (p.1, p.2) (changes_not c.args.change.now c.args.len c.args.hdus c.args.hdu.now c.reserve.new.self refusal.Memory c.card_count-before.ensures.whole
+    (room.hdu ∙ parts_read _ _ _ read)
+    (omega (arith, read.header.least, room.work))
+    (omega (arith, read.header.most, room.work))
+    (ap (λ (hdu : HduState). plane_work hdu.plane) room.rest ∙ ap plane_work read.plane)
+    (inr (refl, room_missing c.args.change.now c.args.len c.args.hdus (is_primary c.args.hdu.now.header.shape.class) (parts_of c.args.hdu.now) c.requires.in_range more)))
