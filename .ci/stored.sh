@@ -152,6 +152,8 @@ expect 'an OUT that cannot be made ends with 3' status 3 edit "$example/in.fits"
 expect 'words that are missing end with 2' status 2 edit "$example/in.fits"
 expect 'no words end with 2' status 2 "$program"
 expect 'another command ends with 2' status 2 "$program" frob
+told_to_a_full_device() { "$program" "$@" 2>/dev/full; }
+expect 'and does so where that can not be said' status 2 told_to_a_full_device frob
 expect 'an argument that is not UTF-8 ends with 2' status 2 edit "$(printf 'a\377')" "$room/unsaved.fits"
 expect 'help ends with 0' status 0 "$program" --help
 expect 'help of a command ends with 0' status 0 "$program" edit --help

@@ -91,15 +91,20 @@ fn reported<R: Eprint>(rt: &R, fault: Fault) -> u8 {
     fault.status()
 }
 
-// Help that was asked for is printed with status 0; wrong words are explained on standard error.
+// Help that was asked for is printed with status 0; wrong words are explained on standard error,
+// and end with 2 whether that can be written or not.
 fn usage<R: Print + Eprint>(rt: &R, error: Error) -> u8 {
     if error.kind() == ErrorKind::OutOfMemory {
         return reported(rt, Fault::Memory);
     }
-    if error.print(rt).is_err() {
-        return reported(rt, Fault::WriteFailed);
+    let printed = error.print(rt);
+    if error.use_stderr() {
+        return 2;
     }
-    if error.use_stderr() { 2 } else { 0 }
+    match printed {
+        Ok(()) => 0,
+        Err(_) => reported(rt, Fault::WriteFailed),
+    }
 }
 
 // An argument that isn't UTF-8, which clap doesn't take.
