@@ -1,11 +1,10 @@
 -- How much edits and queries do at most, by what they touch.
-use Rattle.std.proofs.Common.{◌≡◌, add-one, ◌⊎◌, inl, inr, true, false, ℕ, zero, suc, ◌+◌, ◌-◌, ◌*◌, ◌^◌, ◌<◌, ◌≤◌, Bool, List, [], ◌∷◌, length, get_or, codes, refl, ap, sym, ◌∙◌, subst, arith, Option, None, Some}
+use Rattle.std.proofs.Common.{◌≡◌, add-one, ◌⊎◌, inl, inr, true, false, ℕ, zero, suc, ◌+◌, ◌-◌, ◌*◌, ◌^◌, ◌≤◌, Bool, List, [], ◌∷◌, length, get_or, codes, refl, ap, sym, ◌∙◌, subst, arith, Option, None, Some}
 use Rattle.std.specs.Prelude.{Result, Ok, Err, if◌then◌else◌}
-use Rattle.std.specs.List.{insert, remove, slice_get, range_with_len}
+use Rattle.std.specs.List.{remove, slice_get, range_with_len}
 use Rattle.std.specs.Option.{option_map, option_map_or}
-use Rattle.std.proofs.lemmas.List.Edits.{get_or-insert_above, get_or-insert_below, get_or-remove_above, get_or-remove_below}
+use Rattle.std.proofs.lemmas.List.Edits.{get_or-remove_above}
 use Rattle.fits_card.specs.declared.change.Change.{Change}
-use Rattle.fits_card.specs.declared.change.Change.TheVariants as change
 use Rattle.fits_value.specs.Says.{chain_length}
 use Rattle.fits_plane.specs.Layout.{block_count, block_pixels}
 use Rattle.fits_plane.specs.Work.{rectangle_blocks, is_touched}
@@ -16,12 +15,12 @@ use Rattle.fits_hdu.specs.Hdu.{HduParts}
 use Rattle.fits_hdu.specs.Keyword.{keyword_cards, own_count, with_links}
 use Rattle.fits_hdu.specs.Layout.{layout_of}
 use Rattle.fits_hdu.specs.State.{HduState, parts_of}
-use Rattle.fits_hdu.specs.Work.{keyword_reads, plane_work, stamp_count_reads, stamp_reads, FollowsBlank, IsMade, IsOpened, IsPatched, IsRescanned, IsScanned, PixelWork}
+use Rattle.fits_hdu.specs.Work.{keyword_reads, stamp_count_reads, stamp_reads, IsPatched, IsRescanned, PixelWork}
 use Rattle.fits_hdu.specs.declared.keyword_cards.KeywordCards.{KeywordCards}
-use Rattle.fits_session.specs.Bounds.{mandatory_count, most_reads, moved_count, stamped_count, unworked, Grows, NoneFalls, OthersStay, WorksUpTo}
+use Rattle.fits_session.specs.Bounds.{mandatory_count, moved_count, stamped_count, Grows, NoneFalls, OthersStay, WorksUpTo}
 use Rattle.fits_session.specs.CardEdit.{change_of, is_keyword_name, set_of, setting, unset_of, unsetting}
-use Rattle.fits_session.specs.Edit.{changed_at, changed_of, hdu_of, is_primary_hdu}
-use Rattle.fits_session.specs.Session.{Asks, AsksPixels, EditsTo, HduWork, PatchesIn, PutsIn, ReadsOnceAtMost, ReadsOnly, SessionState, WorksOnly, file_of, hdus_of, read_more, reads_of, works_of}
+use Rattle.fits_session.specs.Edit.{changed_of, hdu_of, is_primary_hdu}
+use Rattle.fits_session.specs.Session.{Asks, AsksPixels, EditsTo, HduWork, PatchesIn, ReadsOnly, SessionState, file_of, hdus_of, read_more, reads_of, works_of}
 use Rattle.fits_session.specs.Work.{change_reads, hdu_reads, own_reads, reads_to_find}
 use Rattle.fits_session.specs.declared.card_edit.CardEdit.{CardEdit}
 use Rattle.fits_session.specs.declared.card_edit.CardEdit.TheVariants.{Insert, Put, Delete, Move, Set, Unset}
@@ -169,7 +168,7 @@ changed_get (suc (suc h)) (suc i) change (x ∷ xs) = elim (changed_get (suc h) 
 ]
 
 changed_others : {X : Type 0} (h i : ℕ) (change : X → X) (xs : List X) → (h ≡ i + 1 → ⊥) → slice_get (changed_of h change xs) i ≡ slice_get xs i
-changed_others h i change xs apart = elim (changed_get h i change xs) [ | inl same ↦ same | inr at ↦ absurd (apart at.0) ]
+changed_others h i change xs apart = elim (changed_get h i change xs) [ inl same ↦ same | inr at ↦ absurd (apart at.0) ]
 
 -- a count that grows is no less anywhere
 added_grows : (h i count : ℕ) (xs : List ℕ) → get_or xs i 0 ≤ get_or (changed_of h (λ n. n + count) xs) i 0

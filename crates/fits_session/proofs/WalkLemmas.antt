@@ -11,7 +11,7 @@ use Rattle.fits_stream.specs.Stream.{FailsOnce, SourceState, StaysQuiet}
 use Rattle.fits_stream.proofs.SightLemmas.{finds_begun, finds_given, finds_next, finds_spent, long_given, no_bytes, past_limit, rest_given, takes_and_holds, takes_fewer, takes_more, tells_after, within_limit}
 use Rattle.fits_hdu.specs.Hdu.{HduParts, HasHduFault, IsHdu, hdu_bytes}
 use Rattle.fits_hdu.specs.Reading.{HduStops, TakesHdu, IsKeptWhole}
-use Rattle.fits_hdu.specs.State.{HduState, parts_of}
+use Rattle.fits_hdu.specs.State.{HduState}
 use Rattle.fits_hdu.specs.declared.fault.HduFault.{HduFault}
 use Rattle.fits_hdu.specs.declared.fault.HduFault.TheVariants as hdu_fault
 use Rattle.fits_hdu.specs.declared.read_fault.ReadHduFault.{ReadHduFault}

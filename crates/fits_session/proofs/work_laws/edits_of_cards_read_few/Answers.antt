@@ -1,6 +1,4 @@
-use Rattle.std.proofs.Common.{arith, length}
-use Rattle.fits_session.specs.Bounds.{moved_count}
-use Rattle.fits_session.specs.CardEdit.{change_of}
+use Rattle.std.proofs.Common.{arith}
 use Rattle.fits_session.proofs.BoundLemmas.{cards_closer, edit_none_falls, edit_others, stamp_closer}
 use Rattle.fits_session.proofs.work_laws.edits_of_cards_read_few.Goals as goal
 
