@@ -45,15 +45,6 @@ keyword_few cards name = led (lead_place cards name)
     led None = omega arith
     led (Some place) = omega arith
 
--- where it has no cards, by none
-keyword_none : (cards : List (List ℕ)) (name : List ℕ) → own_count cards name ≡ 0 → keyword_reads cards name ≡ 0
-unfolding keyword_reads keyword_cards
-keyword_none cards name e = led (lead_place cards name) e
-  where
-    led : (place : Option ℕ) → option_map_or (λ (at : KeywordCards). at.count) (option_map (with_links cards) place) 0 ≡ 0 → option_map_or (λ place. chain_length cards place + 1) place 0 ≡ 0
-    led None e = refl
-    led (Some place) e = absurd (omega (arith, e))
-
 -- an edit that sets a keyword takes its cards out
 set_moves : (count : ℕ) (old : Option KeywordCards) (written : Option (List (List ℕ))) (reads : ℕ) → reads ≤ option_map_or (λ (at : KeywordCards). at.count) old 0 + 1 → reads_to_find (setting count old written) reads ≤ moved_count (setting count old written) + 1
 set_moves count old None reads few = omega arith

@@ -1,6 +1,6 @@
 -- Steps of changes of a keyword.
 use Rattle.std.proofs.Common.{◌≡◌, arith, inl, inr, ℕ, true, false, List, [], length, refl, Option, None, Some}
-use Rattle.std.specs.Prelude.{Ok, Err, IsOk, Result, ◌+◌}
+use Rattle.std.specs.Prelude.{Ok, Err, IsOk, ◌+◌}
 use Rattle.fits_card.specs.Name.{is_settable}
 use Rattle.fits_card.specs.declared.change.Change.TheVariants.{Splice}
 use Rattle.fits_value.specs.Written.{write_says}
@@ -12,10 +12,7 @@ use Rattle.fits_hdu.specs.declared.keyword_cards.KeywordCards.{KeywordCards}
 use Rattle.fits_session.specs.CardEdit.{is_keyword_name, setting, set_of, unset_of}
 use Rattle.fits_session.specs.Refusal.{ChangeFails, refusal_of_writing}
 use Rattle.fits_session.specs.declared.refusal.Refusal.TheVariants as refusal
-use Rattle.fits_session.specs.Work.{reads_to_find}
 use Rattle.fits_hdu.specs.Work.{keyword_reads}
-use Rattle.fits_card.specs.declared.change.Change.{Change}
-use Rattle.fits_session.specs.declared.refusal.Refusal.{Refusal}
 use Rattle.fits_rules.specs.Lead.{lead_place}
 use Rattle.fits_value.specs.Says.{chain_length}
 use Rattle.std.specs.Option.{option_map, option_map_or}
@@ -47,10 +44,6 @@ not_written cards name value comment write.BadValue e bad firm = inl (settable c
 not_written cards name value comment write.Memory e bad firm = inr (refl, can_write cards name value comment (write_says name value comment) e refl (λ none. let same = firm none in cc))
 
 pub ruleset set_steps = (not_settable, is_set)
-
--- what is read to find a change that is there
-pub read_to_find : (made : Result Change Refusal) (change : Change) (count : ℕ) → made ≡ Ok change → reads_to_find made count ≡ count
-read_to_find made change count e = rw e refl
 
 -- for a keyword that has no lead nothing is read
 pub no_lead_reads : (cards : List (List ℕ)) (name : List ℕ) → None ≡ keyword_cards cards name → keyword_reads cards name ≡ 0
