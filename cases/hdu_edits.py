@@ -376,6 +376,15 @@ MANY_AXES = [
     ),
 ]
 
+# An image of 12,000,000 bytes, in 4,167 blocks: what is printed of it, and its header.
+LARGE = (
+    "new 2 u8 12000000\noff\nstat 2\nsum 2\nrep",
+    "1 0 2880 2880\n2 2880 5760 12006720\ndefined 12000000 blank 0 min 0 max 0 sum 0\n"
+    "datasum 0 verdicts 0 0\nerrors 0 warnings 0\n",
+    "XTENSION= 'IMAGE   '|BITPIX  =                    8|NAXIS   =                    1|"
+    "NAXIS1  =             12000000|PCOUNT  =                    0|GCOUNT  =                    1|END",
+)
+
 # Lines over a file of 9,999 HDUs, one after another: why each is refused, if it is, and how many HDUs there are then.
 MANY_HDUS = [
     ("new 10001 u8 -", "1 NoHdu", 9_999),
@@ -397,6 +406,9 @@ def cases():
         yield script, edited, pixel_file(before), script, answers, status, pixel_file(after)
     for first, more, times, answers in MANY_AXES:
         yield f"new {first}, and {times} times {more}", many_axes, f"new {first}{more * times}", answers
+    script, answers, cards = LARGE
+    saved = header(P0) + header(cards) + bytes(4_167 * BLOCK_LEN)
+    yield "an image of 12,000,000 bytes", edited, header(P0), script, answers, 0, saved
     script = "".join(f"{line}\noff\n" for line, _, _ in MANY_HDUS)
     answers = "".join(
         (f"line {2 * place + 1}: refused {why}\n" if why else "") + offsets(hdus)
