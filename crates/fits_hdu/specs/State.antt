@@ -1,5 +1,7 @@
 -- What an HDU under edits is to its callers.
-use Rattle.std.specs.Prelude.{◌≡◌, ℕ}
+use Rattle.std.specs.Prelude.{◌≡◌, ℕ, Ok}
+use Rattle.fits_rules.specs.Class.{is_primary}
+use Rattle.fits_rules.specs.Shape.{shape_of}
 use Rattle.fits_header.specs.State.{HeaderState}
 use Rattle.fits_header.specs.State as header
 use Rattle.fits_plane.specs.Plane.{PlaneState}
@@ -13,6 +15,10 @@ pub record HduState : Type 0 where
 -- its parts: what stands in a file
 abbrev pub parts_of : HduState → HduParts
 parts_of hdu = record { header = hdu.header.header; data_unit = hdu.plane.bytes }
+
+-- its cards describe the shape that is kept of them
+abbrev pub IsDescribed : HduState → Type 0
+IsDescribed hdu = shape_of (is_primary hdu.header.shape.class) hdu.header.header.cards ≡ Ok hdu.header.shape
 
 -- so many of its cards were read at most, and nothing else changed
 pub record ReadsUpTo (old new : HduState) (count : ℕ) : Type 0 where

@@ -86,7 +86,7 @@ impl Hdu {
     ghost use Rattle.fits_hdu.specs.Kind.{kind_in};
     ghost use Rattle.fits_hdu.specs.Layout.{layout_of};
     ghost use Rattle.fits_hdu.specs.Reading.{HduStops};
-    ghost use Rattle.fits_hdu.specs.State.{parts_of, ReadsUpTo};
+    ghost use Rattle.fits_hdu.specs.State.{parts_of, IsDescribed, ReadsUpTo};
     ghost use Rattle.fits_hdu.specs.Work.{apply_reads, keyword_reads, plane_work, FollowsBlank, IsOpened, IsScanned};
     ghost use Rattle.fits_hdu.specs.Hdu.{IsHdu, IsHduOf, HduFails, hdu_bytes, hdu_after, keeps_shape};
 
@@ -138,7 +138,8 @@ impl Hdu {
         ensures work { IfOk result (λ it. it.header.reads
             ≤ cards.reads + length cards.header.cards + apply_reads) }
         ensures least { IfOk result (λ it. cards.reads ≤ it.header.reads) }
-        ensures scans { IfOk result (λ it. IsScanned (block_count data_unit.items) (plane_work it.plane)) }
+        ensures scans { IfOk result (λ it. IsScanned (block_count data_unit.items)
+            (plane_work it.plane)) }
     {
         let mut header = Header::open(alloc, cards, shape)?;
         let Ok(plane) = plane_of(alloc, &mut header, data_unit) else {
@@ -219,8 +220,7 @@ impl Hdu {
     /// The shape that its cards describe.
     pub fn shape(&self) -> &Shape
         ensures value { result.now ≡ self.now.header.shape }
-        ensures described { shape_of (is_primary self.now.header.shape.class) self.now.header.header.cards
-            ≡ Ok self.now.header.shape }
+        ensures described { IsDescribed self.now }
     {
         self.header.shape()
     }
@@ -229,8 +229,7 @@ impl Hdu {
     pub fn card_count(&self) -> usize
         ensures value { result ≡ length self.now.header.header.cards }
         ensures whole { IsHdu (is_primary self.now.header.shape.class) (parts_of self.now) }
-        ensures described { shape_of (is_primary self.now.header.shape.class) self.now.header.header.cards
-            ≡ Ok self.now.header.shape }
+        ensures described { IsDescribed self.now }
         ensures few { result < 2 ^ 63 }
     {
         self.header.len()
@@ -270,8 +269,7 @@ impl Hdu {
     /// 4.4.2.5 and 5.2.5). It takes no memory, and reads no card.
     pub fn kind(&self) -> Option<Kind>
         ensures value { result ≡ kind_in self.now.header.shape self.now.header.header.cards }
-        ensures described { shape_of (is_primary self.now.header.shape.class) self.now.header.header.cards
-            ≡ Ok self.now.header.shape }
+        ensures described { IsDescribed self.now }
     {
         self.kind
     }
@@ -343,9 +341,11 @@ impl Hdu {
         ensures least { self.old.header.reads ≤ self.new.header.reads }
 
         // The data unit is scanned again where the number that BLANK says changes.
-        ensures scans { FollowsBlank (layout_of self.old.header.shape self.old.header.header.cards).blank
+        ensures scans { FollowsBlank
+            (layout_of self.old.header.shape self.old.header.header.cards).blank
             (layout_of self.new.header.shape self.new.header.header.cards).blank
-            (block_count self.old.plane.bytes) (plane_work self.old.plane) (plane_work self.new.plane) }
+            (block_count self.old.plane.bytes)
+            (plane_work self.old.plane) (plane_work self.new.plane) }
     {
         self.header.apply(change);
         self.codes = self.header.judge();

@@ -344,8 +344,8 @@ impl Header {
         codes_at(&self.shape, &self.notes, &self.surroundings, place)
     }
 
-    /// How many errors and warnings are found of its cards. It takes no memory, and reads no card. They
-    /// are kept until the next change.
+    /// How many errors and warnings are found of its cards. It takes no memory, and reads no card.
+    /// They are kept until the next change.
     #[tactic(auto, using(crate::proofs::CountLemmas::index_steps))]
     pub fn counts(&mut self) -> Counts
         requires { length (header_bytes self.old.header) ≤ 2 ^ 34 }

@@ -115,10 +115,10 @@ impl Session {
 
     /// Makes an edit, or refuses it by the first test that fails.
     ///
-    /// `Memory` may stand in place of success, but not where pixels are edited, cards or an HDU only
-    /// go, or a card moves, which takes none; for an edit that puts cards in, in place of `Shape` and
-    /// `TooLarge`, whose tests need the cards of the change; and for a new image in place of
-    /// `TooLarge`.
+    /// `Memory` may stand in place of success, but not where pixels are edited, cards or an HDU
+    /// only go, or a card moves, which takes none; for an edit that puts cards in, in place of
+    /// `Shape` and `TooLarge`, whose tests need the cards of the change; and for a new image in
+    /// place of `TooLarge`.
     pub fn edit(&mut self, edit: Edit) -> Result<(), Refusal>
         ensures edits { EditsTo edit self.old self.new result }
     {

@@ -42,18 +42,21 @@ pub fn edits_of_cards_read_few()
         ≤ 3 * most_reads (mandatory_count shape) (stamped_count hdu.header.cards) }
     ensures stamp_closer { (primary : Bool) (hdu : HduParts)
         → hdu_reads primary HduEdit.Stamp hdu ≤ 2 * stamped_count hdu.header.cards + 38 }
-    ensures scans { (primary : Bool) (hdu : HduParts) (edit : CardEdit) (old new : PixelWork) (d : ℕ)
-        → block_count hdu.data_unit ≤ 2 ^ d → HduWork primary (HduEdit.Cards edit) hdu old new
+    ensures scans { (primary : Bool) (hdu : HduParts) (edit : CardEdit) (old new : PixelWork)
+        (d : ℕ) → block_count hdu.data_unit ≤ 2 ^ d
+        → HduWork primary (HduEdit.Cards edit) hdu old new
         → WorksUpTo (block_count hdu.data_unit) (2 * 2 ^ d) old new }
     ensures stamp_scans { (primary : Bool) (hdu : HduParts) (old new : PixelWork) (d : ℕ)
         → block_count hdu.data_unit ≤ 2 ^ d → HduWork primary HduEdit.Stamp hdu old new
         → WorksUpTo (block_count hdu.data_unit) (2 * 2 ^ d) old new }
     ensures still { (number : Option ℤ) (blocks : ℕ) (old new : PixelWork)
         → FollowsBlank number number blocks old new → new ≡ old }
-    ensures others { (h : ℕ) (edit : HduEdit) (old new : SessionState) (result : Result (Unit {0}) Refusal)
-        → EditsTo (Edit.Hdu h edit) old new result → OthersStay h old.hdus new.hdus }
-    ensures grows { (h : ℕ) (edit : HduEdit) (old new : SessionState) (result : Result (Unit {0}) Refusal)
-        → EditsTo (Edit.Hdu h edit) old new result → NoneFalls old.hdus new.hdus }
+    ensures others { (h : ℕ) (edit : HduEdit) (old new : SessionState)
+        (result : Result (Unit {0}) Refusal) → EditsTo (Edit.Hdu h edit) old new result
+        → OthersStay h old.hdus new.hdus }
+    ensures grows { (h : ℕ) (edit : HduEdit) (old new : SessionState)
+        (result : Result (Unit {0}) Refusal) → EditsTo (Edit.Hdu h edit) old new result
+        → NoneFalls old.hdus new.hdus }
 {}
 
 /// An edit of pixels reads no card and no pixel, and scans at most the blocks that hold a byte of
@@ -67,8 +70,8 @@ pub fn edits_of_pixels_scan_few()
         → HduWork primary (HduEdit.Pixels lo hi paint) hdu old new
         → WorksUpTo
         (rectangle_blocks (layout_of shape hdu.header.cards) hdu.data_unit shape.axes lo hi)
-        (rectangle_blocks (layout_of shape hdu.header.cards) hdu.data_unit shape.axes lo hi * (d + 1))
-        old new }
+        (rectangle_blocks (layout_of shape hdu.header.cards) hdu.data_unit shape.axes lo hi
+        * (d + 1)) old new }
 
     // Of a data unit of two blocks it scans two and joins four nodes at most.
     ensures two_blocks { (primary : Bool) (hdu : HduParts) (shape : Shape) (lo hi : List ℕ)

@@ -31,7 +31,8 @@ impl Hdu {
         ensures hdu { IfOk result (λ it. parts_of it ≡ new_image kind shape.axes) }
         ensures shape { IfOk result (λ it. it.header.shape ≡ shape) }
         ensures work { IfOk result (λ it. it.header.reads ≤ open_reads it.header.header.cards) }
-        ensures scans { IfOk result (λ it. IsMade (block_count it.plane.bytes) (plane_work it.plane)) }
+        ensures scans { IfOk result (λ it. IsMade (block_count it.plane.bytes)
+            (plane_work it.plane)) }
     {
         let Ok(len) = unit_len(&shape, LARGEST_UNIT) else {
             return Err(AllocError);

@@ -9,11 +9,9 @@ impl Hdu {
     ghost use Rattle.fits_plane.specs.Layout.{block_count};
     ghost use Rattle.fits_plane.specs.Rectangle.{rectangle_size};
     ghost use Rattle.fits_plane.specs.Work.{rectangle_blocks};
-    ghost use Rattle.fits_rules.specs.Class.{is_primary};
-    ghost use Rattle.fits_rules.specs.Shape.{shape_of};
     ghost use Rattle.fits_hdu.specs.Layout.{layout_of};
     ghost use Rattle.fits_hdu.specs.Pixels.{painted, rect_of, stats_of, RectFails};
-    ghost use Rattle.fits_hdu.specs.State.{parts_of};
+    ghost use Rattle.fits_hdu.specs.State.{parts_of, IsDescribed};
     ghost use Rattle.fits_hdu.specs.Work.{plane_work, IsPatched};
 
     /// The statistics of its pixels, where it is an image of integers. It takes no memory, and
@@ -30,9 +28,10 @@ impl Hdu {
     /// read once.
     #[tactic(auto, using(crate::proofs::PixelLemmas::pixel_steps))]
     pub fn rect(&mut self, alloc: Global, lo: &[u64], hi: &[u64]) -> Result<Vec<i128>, PixelFault>
-        ensures ok { IfOk result (λ values. rect_of self.old.header.shape lo.now hi.now (parts_of self.old)
-            ≡ Ok values.items) }
-        ensures err { IfErr result (RectFails (rect_of self.old.header.shape lo.now hi.now (parts_of self.old))) }
+        ensures ok { IfOk result (λ values. rect_of
+            self.old.header.shape lo.now hi.now (parts_of self.old) ≡ Ok values.items) }
+        ensures err { IfErr result (RectFails (rect_of
+            self.old.header.shape lo.now hi.now (parts_of self.old))) }
         ensures work { OnOk result (self.new ≡ record self.old {
           plane = record self.old.plane {
             reads = self.old.plane.reads + rectangle_size lo.now hi.now;
@@ -58,7 +57,8 @@ impl Hdu {
     /// It takes no memory. Of the data unit it scans the blocks that hold a byte of the rectangle.
     #[tactic(auto, using(crate::proofs::PixelLemmas::pixel_steps))]
     pub fn paint(&mut self, lo: &[u64], hi: &[u64], paint: &LentPaint) -> Result<(), PixelFault>
-        ensures ok { OnOk result (painted self.old.header.shape lo.now hi.now paint.now (parts_of self.old)
+        ensures ok { OnOk result (painted
+            self.old.header.shape lo.now hi.now paint.now (parts_of self.old)
             ≡ Ok (parts_of self.new)) }
         ensures err { IfErr result (λ why. painted self.old.header.shape lo.now hi.now paint.now
             (parts_of self.old) ≡ Err why) }
@@ -67,9 +67,9 @@ impl Hdu {
         ensures work { OnOk result (IsPatched
             (rectangle_blocks (layout_of self.old.header.shape self.old.header.header.cards)
             self.old.plane.bytes self.old.header.shape.axes lo.now hi.now)
-            (block_count self.old.plane.bytes) (plane_work self.old.plane) (plane_work self.new.plane)) }
-        ensures described { shape_of (is_primary self.old.header.shape.class) self.old.header.header.cards
-            ≡ Ok self.old.header.shape }
+            (block_count self.old.plane.bytes)
+            (plane_work self.old.plane) (plane_work self.new.plane)) }
+        ensures described { IsDescribed self.old }
     {
         let Some(kind) = self.kind else {
             return Err(PixelFault::NotImage);

@@ -15,11 +15,10 @@ use std::alloc::{AllocError, Global};
 impl Hdu {
     ghost use Rattle.std.specs.Prelude.{◌≡◌, ◌+◌, ◌≤◌, ◌^◌, length, Ok, IfOk};
     ghost use Rattle.fits_rules.specs.Class.{is_primary};
-    ghost use Rattle.fits_rules.specs.Shape.{shape_of};
     ghost use Rattle.fits_hdu.specs.ExtensionName.{extension_name};
     ghost use Rattle.fits_hdu.specs.Findings.{AreFindings, hdu_counts, whole_codes};
     ghost use Rattle.fits_hdu.specs.Hdu.{hdu_bytes};
-    ghost use Rattle.fits_hdu.specs.State.{parts_of};
+    ghost use Rattle.fits_hdu.specs.State.{parts_of, IsDescribed};
     ghost use Rattle.fits_hdu.specs.Sums.{data_sum, verdicts_of};
 
     /// The sum of its data unit, with the fill (FITS Standard 4.0, Appendix J). It takes no memory,
@@ -57,8 +56,7 @@ impl Hdu {
     pub fn extension_name(&self) -> Option<ExtensionName>
         ensures value { result
             ≡ extension_name (is_primary self.now.header.shape.class) self.now.header.header.cards }
-        ensures described { shape_of (is_primary self.now.header.shape.class) self.now.header.header.cards
-            ≡ Ok self.now.header.shape }
+        ensures described { IsDescribed self.now }
     {
         self.name
     }
@@ -85,8 +83,7 @@ impl Hdu {
     pub fn counts(&mut self, repeated: bool) -> Counts
         requires { length (hdu_bytes (parts_of self.old)) ≤ 2 ^ 34 }
         ensures value { result ≡ hdu_counts self.old.header.shape (parts_of self.old) repeated }
-        ensures described { shape_of (is_primary self.old.header.shape.class) self.old.header.header.cards
-            ≡ Ok self.old.header.shape }
+        ensures described { IsDescribed self.old }
         ensures within { result.errors + result.warnings ≤ length (hdu_bytes (parts_of self.old)) }
         ensures same { self.new ≡ self.old }
     {

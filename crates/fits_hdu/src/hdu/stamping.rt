@@ -15,12 +15,10 @@ use std::alloc::{AllocError, Global};
 
 impl Hdu {
     ghost use Rattle.std.specs.Prelude.{◌≡◌, ◌≤◌, ◌+◌, ◌-◌, ◌^◌, length, Ok, Some, OnOk, OnErr};
-    ghost use Rattle.fits_rules.specs.Class.{is_primary};
-    ghost use Rattle.fits_rules.specs.Shape.{shape_of};
     ghost use Rattle.fits_hdu.specs.Hdu.{hdu_bytes};
     ghost use Rattle.fits_hdu.specs.Keyword.{own_count};
     ghost use Rattle.fits_hdu.specs.Stamp.{stamped, with_keyword, IsOneCard, IsSumName};
-    ghost use Rattle.fits_hdu.specs.State.{parts_of, ReadsUpTo};
+    ghost use Rattle.fits_hdu.specs.State.{parts_of, IsDescribed, ReadsUpTo};
     ghost use Rattle.fits_hdu.specs.Sums.{hdu_sum};
     ghost use Rattle.fits_hdu.specs.Work.{apply_reads, keyword_reads, plane_work, stamp_count_reads, stamp_reads};
 
@@ -29,7 +27,8 @@ impl Hdu {
     #[tactic(auto, using(crate::proofs::StampingLemmas::count_steps))]
     pub fn count_stamped(&mut self) -> usize
         ensures value { result ≡ length (stamped (parts_of self.old)).header.cards }
-        ensures work { ReadsUpTo self.old self.new (stamp_count_reads self.old.header.header.cards) }
+        ensures work { ReadsUpTo self.old self.new
+            (stamp_count_reads self.old.header.header.cards) }
     {
         let checksum = count_of(self.keyword_cards(&CHECKSUM));
         let datasum = count_of(self.keyword_cards(&DATASUM));
@@ -51,8 +50,7 @@ impl Hdu {
         ensures least { self.old.header.reads ≤ self.new.header.reads }
         ensures work { self.new.header.reads
             ≤ self.old.header.reads + stamp_reads self.old.header.header.cards }
-        ensures described { shape_of (is_primary self.old.header.shape.class) self.old.header.header.cards
-            ≡ Ok self.old.header.shape }
+        ensures described { IsDescribed self.old }
     {
         let _described = self.card_count();
         let zeros = one_card(alloc, sum_card(&CHECKSUM, &[b'0'; 16]))?;
@@ -100,8 +98,8 @@ impl Hdu {
             ≡ self.old.header.room + own_count self.old.header.header.cards name.now }
         ensures pixel_work { plane_work self.new.plane ≡ plane_work self.old.plane }
         ensures least { self.old.header.reads ≤ self.new.header.reads }
-        ensures work { self.new.header.reads
-            ≤ self.old.header.reads + keyword_reads self.old.header.header.cards name.now + apply_reads }
+        ensures work { self.new.header.reads ≤ self.old.header.reads
+            + keyword_reads self.old.header.header.cards name.now + apply_reads }
     {
         let count = self.card_count();
         let old = self.keyword_cards(name);

@@ -3,9 +3,8 @@ ghost use Rattle.std.specs.Prelude.{◌≡◌, ◌+◌, ◌<◌, ◌^◌, length
 ghost use Rattle.fits_card.specs.Change.{new_cards};
 ghost use Rattle.fits_card.specs.Header.{IsInnerCard};
 ghost use Rattle.fits_rules.specs.Class.{is_primary};
-ghost use Rattle.fits_rules.specs.Shape.{shape_of};
 ghost use Rattle.fits_hdu.specs.Hdu.{IsHdu};
-ghost use Rattle.fits_hdu.specs.State.{parts_of, ReadsUpTo};
+ghost use Rattle.fits_hdu.specs.State.{parts_of, IsDescribed, ReadsUpTo};
 ghost use Rattle.fits_hdu.specs.Work.{keyword_reads};
 ghost use Rattle.fits_session.specs.CardEdit.{change_of, is_keyword_name, is_splice_within, is_within, own_refusal, set_of, tested, unset_of};
 ghost use Rattle.fits_session.specs.Refusal.{CardEditNeedsMemory, ChangeFails};
@@ -23,14 +22,14 @@ use std::alloc::{AllocError, Global};
 /// Memory is asked for after these tests.
 #[tactic(auto, unfolding(crate::specs::CardEdit::change_of))]
 pub(super) fn change_of(alloc: Global, hdu: &mut Hdu, edit: &CardEdit) -> Result<Change, Refusal>
-    ensures ok { IfOk result (λ change. change_of hdu.old.header.header.cards edit.now ≡ Ok change) }
+    ensures ok { IfOk result (λ change. change_of hdu.old.header.header.cards edit.now
+        ≡ Ok change) }
     ensures inner { IfOk result (λ change. All IsInnerCard (new_cards change)) }
     ensures err { IfErr result (ChangeFails (change_of hdu.old.header.header.cards edit.now)) }
     ensures memory { IsErrOf result Refusal.Memory → CardEditNeedsMemory edit.now None }
     ensures work { ReadsUpTo hdu.old hdu.new (own_reads hdu.old.header.header.cards edit.now) }
     ensures whole { IsHdu (is_primary hdu.old.header.shape.class) (parts_of hdu.old) }
-    ensures described { shape_of (is_primary hdu.old.header.shape.class) hdu.old.header.header.cards
-        ≡ Ok hdu.old.header.shape }
+    ensures described { IsDescribed hdu.old }
 {
     let count = hdu.card_count();
     match edit {
