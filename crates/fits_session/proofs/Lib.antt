@@ -9,6 +9,7 @@ pub mod FileLemmas
 pub mod FrontLemmas
 pub mod KeywordLemmas
 pub mod KindLemmas
+pub mod LargeLemmas
 pub mod LawLemmas
 pub mod ListEditLemmas
 pub mod MakingLemmas

@@ -7,7 +7,7 @@ ghost use Rattle.fits_value.specs.declared.value.Value.{Value};
 ghost use Rattle.fits_hdu.specs.Hdu.{HduParts, hdu_after};
 ghost use Rattle.fits_hdu.specs.Keyword.{keyword_value};
 ghost use Rattle.fits_hdu.specs.declared.kind.Kind.{Kind};
-ghost use Rattle.fits_session.specs.CardEdit.{set_of};
+ghost use Rattle.fits_session.specs.CardEdit.{set_of, HasCardSizes, LeavesNoMore};
 ghost use Rattle.fits_session.specs.Edit.{file_after, hdu_of, with_hdu, HasSizes};
 ghost use Rattle.fits_session.specs.File.{FileParts, file_bytes, IsFile, IsFileOf};
 ghost use Rattle.fits_session.specs.Fresh.{Answered, EditsInTurn, file_after_all, fresh, Fresh, ReadsAs};
@@ -16,10 +16,12 @@ ghost use Rattle.fits_session.specs.Query.{kind_in, IsKindIn};
 ghost use Rattle.fits_session.specs.Refusal.{refusal_of, size_refusal};
 ghost use Rattle.fits_session.specs.Report.{report_of, IsListedBefore, IsTrailing, IsWrong};
 ghost use Rattle.fits_session.specs.Session.{file_of, SessionState};
+ghost use Rattle.fits_session.specs.declared.card_edit.CardEdit.{CardEdit};
 ghost use Rattle.fits_session.specs.declared.edit.Edit.{Edit};
+ghost use Rattle.fits_session.specs.declared.hdu_edit.HduEdit.{HduEdit};
 ghost use Rattle.fits_session.specs.declared.open_fault.OpenFault.{OpenFault};
 ghost use Rattle.fits_session.specs.declared.problem.Problem.{Problem};
-ghost use Rattle.fits_session.specs.declared.refusal.Refusal.TheVariants.{Memory};
+ghost use Rattle.fits_session.specs.declared.refusal.Refusal.TheVariants.{Memory, TooLarge};
 
 use fits_hdu::which_kind_an_image_has;
 
@@ -92,6 +94,13 @@ pub fn fewer_cards_pass_no_limit()
         → IsFileOf bytes file → hdu_of file h ≡ Some hdu → All IsInnerCard (new_cards change)
         → length (cards_after hdu.header.cards change) ≤ length hdu.header.cards
         → size_refusal (with_hdu file h (hdu_after change)) ≡ None }
+{}
+
+/// An edit that leaves no more cards than there were is never refused for the size of the file.
+pub fn as_many_cards_are_never_too_large()
+    ensures { (bytes : List ℕ) (file : FileParts) (h : ℕ) (edit : CardEdit)
+        → IsFileOf bytes file → HasCardSizes edit → LeavesNoMore edit
+        → refusal_of file (Edit.Hdu h (HduEdit.Cards edit)) ≡ Some TooLarge → ⊥ }
 {}
 
 /// The report has a problem exactly where the code is among those of the place, in the HDU as a
