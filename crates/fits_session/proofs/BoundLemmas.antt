@@ -158,6 +158,7 @@ changed_get (suc (suc h)) (suc i) change (x ∷ xs) = elim (changed_get (suc h) 
   | inr at ↦ inr (omega (arith, at.0), at.1)
 ]
 
+-- so those of an HDU that isn't named stay
 changed_others : {X : Type 0} (h i : ℕ) (change : X → X) (xs : List X) → (h ≡ i + 1 → ⊥) → slice_get (changed_of h change xs) i ≡ slice_get xs i
 changed_others h i change xs apart = elim (changed_get h i change xs) [ inl same ↦ same | inr at ↦ absurd (apart at.0) ]
 
