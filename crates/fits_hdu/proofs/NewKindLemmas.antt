@@ -1,9 +1,13 @@
--- A new image has the kind that was asked for.
-use Rattle.std.proofs.Common.{◌≡◌, ℕ, ◌*◌, ◌^◌, ◌<◌, ◌≤◌, Bool, true, false, ltb, List, [], ◌∷◌, length, codes, refl, ap, ◌∙◌, arith, None, Some}
-use Rattle.std.specs.Prelude.{◌&&◌, ℤ, pos, negsuc, is_none, unsigned_abs, unwrap_or}
+-- A new image has the kind that was asked for, and isn't called anything.
+use Rattle.std.proofs.Common.{◌≡◌, ℕ, ◌*◌, ◌^◌, ◌<◌, ◌≤◌, Bool, true, false, ltb, List, [], ◌∷◌, length, codes, refl, ap, ◌∙◌, arith, Option, None, Some}
+use Rattle.std.specs.Prelude.{◌&&◌, ℤ, pos, negsuc, is_none, option_and_then, unsigned_abs, unwrap_or}
 use Rattle.std.specs.Option.{option_map}
 use Rattle.std.specs.Str.{bytes_eq}
 use Rattle.std.proofs.lemmas.Bool.{and_from, cond-true, lt-ltb, or_right}
+use Rattle.fits_card.specs.Header.{card_at}
+use Rattle.fits_rules.specs.Reads.{string_said}
+use Rattle.fits_rules.specs.Shape.{axis_name}
+use Rattle.fits_hdu.specs.ExtensionName.{called, extension_name, version_said}
 use Rattle.fits_rules.specs.Denotes.{card_says_number, lead_says_number}
 use Rattle.fits_rules.specs.Image.{image_bits}
 use Rattle.fits_rules.specs.Lead.{lead_card}
@@ -12,7 +16,7 @@ use Rattle.fits_hdu.specs.NewImage.{are_axes, image_cards, image_shape}
 use Rattle.fits_hdu.specs.declared.kind.Kind.{Kind}
 use Rattle.fits_hdu.specs.declared.kind.Kind.TheVariants.{U8, I8, I16, U16, I32, U32, I64, U64}
 use Rattle.fits_hdu.proofs.SettingLemmas.{from_lead}
-use Rattle.fits_hdu.proofs.NewImageLemmas.{AreAxesFrom, axes_from, bscale_later, bscale_name, bzero_later, bzero_name, gcount_is, image_cards_are, image_list, later_list, lead_by, leads_here, offset_list, passed, pcount_is, scaling_list}
+use Rattle.fits_hdu.proofs.NewImageLemmas.{AreAxesFrom, IsLater, axes_from, bscale_later, bscale_name, bzero_later, bzero_name, gcount_is, image_cards_are, image_list, later_list, lead_by, leads_here, offset_list, passed, pcount_is, scaling_list}
 use Rattle.fits_hdu.proofs.WrittenNumberLemmas.{IsValueCard, number_card, number_card_denotes, number_card_is}
 
 -- a lead that is no count's is the offset's
@@ -92,3 +96,41 @@ list_kind U64 axes are some = kind_by U64 axes true some (with_offset U64 axes (
 -- a new image has the kind that was asked for
 pub new_has_kind : (kind : Kind) (axes : List ℕ) → are_axes axes ≡ true → 1 ≤ length axes → kind_in (image_shape kind axes) (image_cards kind axes) ≡ Some kind
 new_has_kind kind axes e some = ap (kind_in (image_shape kind axes)) (image_cards_are kind axes e) ∙ list_kind kind axes (axes_from axes e) some
+
+-- EXTNAME would stand after the axes
+extname_later : IsLater (codes "EXTNAME ")
+unfolding axis_name
+extname_later = record { no_xtension = refl; no_bitpix = refl; no_naxis = refl; no_axis = λ n. refl }
+
+-- no card of an offset is its lead
+scaling_unnamed : (offset : ℤ) → unsigned_abs offset < 2 ^ 64 → from_lead (codes "EXTNAME ") (scaling_list offset) ≡ None
+scaling_unnamed offset small =
+    let zero = number_card (codes "BZERO   ") offset in
+    passed (codes "EXTNAME ") (codes "BSCALE  ") (number_card (codes "BSCALE  ") (pos 1)) (zero ∷ []) bscale_is refl
+    ∙ passed (codes "EXTNAME ") (codes "BZERO   ") zero [] (number_card_is (codes "BZERO   ") offset bzero_name small) refl
+
+-- of no kind
+offset_unnamed : (kind : Kind) → from_lead (codes "EXTNAME ") (offset_list kind) ≡ None
+offset_unnamed U8 = refl
+offset_unnamed I8 = scaling_unnamed (negsuc 127) (omega arith)
+offset_unnamed I16 = refl
+offset_unnamed U16 = scaling_unnamed (pos 32768) (omega arith)
+offset_unnamed I32 = refl
+offset_unnamed U32 = scaling_unnamed (pos 2147483648) (omega arith)
+offset_unnamed I64 = refl
+offset_unnamed U64 = scaling_unnamed (pos 9223372036854775808) (omega arith)
+
+-- without a name nothing is called anything
+called_nothing : (xtension : Option (List ℕ)) (version : ℤ) → called xtension None version ≡ None
+called_nothing None version = refl
+called_nothing (Some text) version = refl
+
+-- so a new image isn't
+pub new_unnamed : (kind : Kind) (axes : List ℕ) → are_axes axes ≡ true → extension_name false (image_cards kind axes) ≡ None
+unfolding extension_name
+new_unnamed kind axes e =
+    let cards : List (List ℕ) = image_list kind axes in
+    let none : lead_card cards (codes "EXTNAME ") ≡ None = lead_by (codes "EXTNAME ") kind axes None extname_later (axes_from axes e) (behind_counts (codes "EXTNAME ") kind refl refl ∙ offset_unnamed kind) in
+    ap (extension_name false) (image_cards_are kind axes e)
+    ∙ (ap (λ said. called (option_and_then string_said (card_at cards 1)) (option_and_then string_said said) (version_said (lead_card cards (codes "EXTVER  ")))) none
+    ∙ called_nothing (option_and_then string_said (card_at cards 1)) (version_said (lead_card cards (codes "EXTVER  "))))

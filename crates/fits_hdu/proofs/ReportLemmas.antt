@@ -13,6 +13,7 @@ use Rattle.fits_rules.specs.Size.{data_size}
 use Rattle.fits_rules.specs.declared.array_shape.Shape.{Shape}
 use Rattle.fits_codes.specs.HeaderCodes.{has_header_code, header_codes, header_judged, header_mark_of}
 use Rattle.fits_codes.specs.declared.code.Code.{Code}
+use Rattle.fits_codes.specs.declared.header_mark.HeaderMark.{HeaderMark}
 use Rattle.fits_header.specs.Findings.{card_counts, card_findings, counts_by, counts_of, found_at, header_codes_of, summed}
 use Rattle.fits_header.specs.declared.counts.Counts.{Counts}
 use Rattle.fits_header.specs.declared.finding.Finding.{Finding}
@@ -69,17 +70,16 @@ same_fill layout shape cards unit is =
 pub fill_known : (ok : Bool) (layout : Layout) (shape : Shape) (cards : List (List ℕ)) (unit : List ℕ) → layout ≡ layout_of shape cards → (IsTrue ok ↔ All (λ b. b ≡ layout.fill) (drop layout.used unit)) → ok ≡ is_filled shape unit
 fill_known ok layout shape cards unit is test = are_all ok layout.fill (drop layout.used unit) test ∙ same_fill layout shape cards unit is
 
+-- the codes of a header, by its mark
+pub marked_codes : (codes : List Code) (mark : HeaderMark) (seen shape : Shape) (header : Header) → codes ≡ header_judged mark seen → mark ≡ header_mark_of header shape → seen ≡ shape → codes ≡ header_codes_of shape header
+marked_codes codes mark seen shape header is p q = rw (is, p, q) refl
+
 -- the codes of a whole, by its parts
 pub whole_known : (result codes : List Code) (ok : Bool) (verdicts : Verdicts) (shape : Shape) (hdu : HduParts) → result ≡ codes ++ data_codes ok verdicts → codes ≡ header_codes_of shape hdu.header → ok ≡ is_filled shape hdu.data_unit → verdicts ≡ verdicts_of hdu
     → result ≡ whole_codes shape hdu
 whole_known result codes ok verdicts shape hdu is p q r =
     is ∙ (ap (λ (xs : List Code). xs ++ data_codes ok verdicts) p ∙ ap (λ (b : Bool). header_codes_of shape hdu.header ++ data_codes b verdicts) q
     ∙ ap (λ (v : Verdicts). header_codes_of shape hdu.header ++ data_codes (is_filled shape hdu.data_unit) v) r)
-
--- the codes of the whole, what is found of the cards, and the name
-pub findings_known : (whole : List Code) (of_cards : List Finding) (name : Option ExtensionName) (hdu : HduParts) (shape : Shape) → shape_of (is_primary shape.class) hdu.header.cards ≡ Ok shape → whole ≡ whole_codes shape hdu → of_cards ≡ card_findings shape hdu.header.cards
-    → name ≡ extension_name (is_primary shape.class) hdu.header.cards → AreFindings whole of_cards name hdu
-findings_known whole of_cards name hdu shape described is cards called = record { shape = shape; described = described; codes = is; cards = cards; called = called }
 
 -- the last two of three counts may change places
 summed_swap : (a b c : Counts) → summed (summed a b) c ≡ summed (summed a c) b
@@ -129,4 +129,4 @@ counts_named result counts named of_whole of_cards hdu shape whole repeated is n
     is ∙ (ap (λ (c : Counts). summed c named) apart ∙ (ap (λ (c : Counts). summed (summed (counts_of (whole_codes shape hdu)) (card_counts shape hdu.header.cards)) c) name
     ∙ (sym (counts_parts shape hdu true) ∙ ap (hdu_counts shape hdu) (sym twice))))
 
-pub ruleset report_steps = (few_codes, findings_known)
+pub ruleset report_steps = (few_codes, marked_codes)

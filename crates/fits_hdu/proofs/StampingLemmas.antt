@@ -394,6 +394,7 @@ count_reads a b c p q =
         least = omega (arith, p.header.least, q.header.least);
         most = omega (arith, p.header.most, q.header.most, same);
       };
+      entry = q.entry ∙ p.entry;
       plane = q.plane ∙ p.plane;
     }
 

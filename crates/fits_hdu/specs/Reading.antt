@@ -51,7 +51,7 @@ pub record TakesHdu (keeps : HduParts → Type 0) (primary : Bool) (old new : Su
 -- an HDU is kept whole: it was opened
 pub record IsKeptWhole (it : HduState) (hdu : HduParts) : Type 0 where
   pub parts : parts_of it ≡ hdu
-  pub opened : IsOpened it
+  pub opened : IsOpened 0 it
 
 -- of an HDU that passed by its header is known, the shape that its cards describe, and how long its data unit was
 pub record IsPassed (hdu : HduParts) (header : Header) (shape : Shape) (unit_len : ℕ) : Type 0 where

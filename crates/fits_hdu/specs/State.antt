@@ -1,16 +1,19 @@
 -- What an HDU under edits is to its callers.
-use Rattle.std.specs.Prelude.{◌≡◌, ℕ, Ok}
+use Rattle.std.specs.Prelude.{◌≡◌, ℕ, Ok, Option}
 use Rattle.fits_rules.specs.Class.{is_primary}
 use Rattle.fits_rules.specs.Shape.{shape_of}
 use Rattle.fits_header.specs.State.{HeaderState}
 use Rattle.fits_header.specs.State as header
 use Rattle.fits_plane.specs.Plane.{PlaneState}
+use Rattle.fits_hdu.specs.ExtensionName.{extension_name}
 use Rattle.fits_hdu.specs.Hdu.{HduParts}
+use Rattle.fits_hdu.specs.declared.extension_name.ExtensionName.{ExtensionName}
 
--- its header, and its data unit, read as its cards say
+-- its header, its data unit, read as its cards say, and where its name stands in a table of names, if its holder said so
 pub record HduState : Type 0 where
   pub header : HeaderState
   pub plane : PlaneState
+  pub entry : Option ℕ
 
 -- its parts: what stands in a file
 abbrev pub parts_of : HduState → HduParts
@@ -20,7 +23,12 @@ parts_of hdu = record { header = hdu.header.header; data_unit = hdu.plane.bytes 
 abbrev pub IsDescribed : HduState → Type 0
 IsDescribed hdu = shape_of (is_primary hdu.header.shape.class) hdu.header.header.cards ≡ Ok hdu.header.shape
 
+-- what it is called
+abbrev pub name_of : HduState → Option ExtensionName
+name_of hdu = extension_name (is_primary hdu.header.shape.class) hdu.header.header.cards
+
 -- so many of its cards were read at most, and nothing else changed
 pub record ReadsUpTo (old new : HduState) (count : ℕ) : Type 0 where
   pub header : header.ReadsUpTo old.header new.header count
   pub plane : new.plane ≡ old.plane
+  pub entry : new.entry ≡ old.entry

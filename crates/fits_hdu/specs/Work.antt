@@ -3,18 +3,22 @@ use Rattle.std.specs.Prelude.{◌≡◌, ◌⊎◌, ℕ, ◌+◌, ◌*◌, ◌^�
 use Rattle.std.specs.Option.{option_map_or}
 use Rattle.fits_value.specs.Says.{chain_length}
 use Rattle.fits_rules.specs.Lead.{lead_place}
-use Rattle.fits_header.specs.Work.{judge_reads}
+use Rattle.fits_header.specs.Work.{mark_reads}
 use Rattle.fits_plane.specs.Layout.{block_count}
 use Rattle.fits_plane.specs.Plane.{PlaneState}
 use Rattle.fits_hdu.specs.State.{HduState}
 
--- what is read after a change of the cards: the leads of BZERO, BSCALE, BLANK, DATASUM, CHECKSUM, EXTNAME and EXTVER, and place 1
+-- what is read after a change of the cards: the leads of BZERO, BSCALE, BLANK, DATASUM and CHECKSUM
 abbrev pub lead_reads : ℕ
-lead_reads = 8
+lead_reads = 5
+
+-- what an extension is called is found by place 1 and the leads of EXTNAME and EXTVER
+abbrev pub name_reads : ℕ
+name_reads = 3
 
 -- a change of the cards reads so many when it is made: the leads, and those that decide the codes of the header
 abbrev pub apply_reads : ℕ
-apply_reads = judge_reads + lead_reads
+apply_reads = mark_reads + lead_reads
 
 -- an HDU is opened by so many: its shape is read, then each card for what is kept beside it, and then what a change reads
 abbrev pub open_reads : List (List ℕ) → ℕ
@@ -48,9 +52,9 @@ pub record IsScanned (blocks : ℕ) (work : PixelWork) : Type 0 where
   pub reads : work.reads ≡ 0
   pub joins : (d : ℕ) → blocks ≤ 2 ^ d → work.joins ≤ 2 ^ d
 
--- an HDU was opened: its cards were read so often at most, each block of its data unit was scanned once, and no pixel read
-pub record IsOpened (hdu : HduState) : Type 0 where
-  pub reads : hdu.header.reads ≤ open_reads hdu.header.header.cards
+-- an HDU was opened, and so many of its cards were read more at most; each block of its data unit was scanned once, and no pixel read
+pub record IsOpened (more : ℕ) (hdu : HduState) : Type 0 where
+  pub reads : hdu.header.reads ≤ open_reads hdu.header.header.cards + more
   pub scans : IsScanned (block_count hdu.plane.bytes) (plane_work hdu.plane)
 
 -- a data unit of so many blocks was made: each was scanned once at most, and no pixel read

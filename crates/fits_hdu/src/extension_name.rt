@@ -7,6 +7,7 @@ ghost use Rattle.fits_header.specs.State.{ReadsUpTo};
 ghost use Rattle.fits_rules.specs.Class.{is_primary};
 ghost use Rattle.fits_rules.specs.Reads.{string_said};
 ghost use Rattle.fits_hdu.specs.ExtensionName.{called, extension_name, names_something, version_said};
+ghost use Rattle.fits_hdu.specs.Work.{name_reads};
 
 use crate::kind::lead_card;
 use fits_card::{Card, Name};
@@ -79,7 +80,7 @@ impl Hash for ExtensionName {
 pub(crate) fn extension_name(header: &mut Header) -> Option<ExtensionName>
     ensures value { result
         ≡ extension_name (is_primary header.old.shape.class) header.old.header.cards }
-    ensures work { ReadsUpTo header.old header.new 3 }
+    ensures work { ReadsUpTo header.old header.new name_reads }
 {
     if header.shape().class.is_primary() {
         return None;

@@ -16,7 +16,7 @@ use crate::read_fault::ReadHduFault;
 use crate::sum_keywords::SumKeywords;
 use crate::sums::sum_keywords;
 use fits_card::{CardList, Change, Name, has_header};
-use fits_codes::CodeSet;
+use fits_codes::HeaderMark;
 use fits_header::Header;
 use fits_plane::Plane;
 use fits_rules::Shape;
@@ -32,14 +32,14 @@ pub struct Hdu {
     header: Header,
     // Its layout follows the cards.
     plane: Plane,
-    // The codes of the header as a whole.
-    codes: CodeSet,
+    // What the header says as a whole.
+    mark: HeaderMark,
     // The kind of its pixels, where it is an image of integers.
     kind: Option<Kind>,
     // What DATASUM and CHECKSUM say.
     sums: SumKeywords,
-    // What it is called, if it is an extension with a name.
-    name: Option<ExtensionName>,
+    // Where its name stands in a table of names, as its holder said last.
+    entry: Option<usize>,
 }
 
 impl Model for Hdu {
@@ -47,8 +47,7 @@ impl Model for Hdu {
     ghost use Rattle.fits_rules.specs.Class.{is_primary};
     ghost use Rattle.fits_rules.specs.Shape.{shape_of};
     ghost use Rattle.fits_rules.specs.Size.{data_length};
-    ghost use Rattle.fits_header.specs.Findings.{header_codes_of};
-    ghost use Rattle.fits_hdu.specs.ExtensionName.{extension_name};
+    ghost use Rattle.fits_codes.specs.HeaderCodes.{header_mark_of};
     ghost use Rattle.fits_hdu.specs.Kind.{kind_in};
     ghost use Rattle.fits_hdu.specs.Layout.{layout_of};
     ghost use Rattle.fits_hdu.specs.State.{HduState};
@@ -56,22 +55,21 @@ impl Model for Hdu {
 
     ghost Value = { HduState };
 
-    ghost view = { λ it. record { header = it.header; plane = it.plane } };
+    ghost view = { λ it. record { header = it.header; plane = it.plane; entry = it.entry } };
 
     ghost invariant = { λ it. record {
       described : shape_of (is_primary it.header.shape.class) it.header.header.cards
           ≡ Ok it.header.shape;
       size : length it.plane.bytes ≡ data_length it.header.shape;
       layout : it.plane.layout ≡ layout_of it.header.shape it.header.header.cards;
-      codes : it.codes ≡ header_codes_of it.header.shape it.header.header;
+      mark : it.mark ≡ header_mark_of it.header.header it.header.shape;
       kind : it.kind ≡ kind_in it.header.shape it.header.header.cards;
       sums : it.sums ≡ sum_keywords it.header.header.cards;
-      name : it.name ≡ extension_name (is_primary it.header.shape.class) it.header.header.cards;
     } };
 }
 
 impl Hdu {
-    ghost use Rattle.std.specs.Prelude.{◌≡◌, ◌+◌, ◌^◌, ◌≤◌, ◌<◌, true, length, take, drop, All, Ok, IsOk, IfOk, IfErr, IsErrOf, OnOk, OnErr, IsTrue};
+    ghost use Rattle.std.specs.Prelude.{◌≡◌, ◌+◌, ◌^◌, ◌≤◌, ◌<◌, true, length, take, drop, All, None, Ok, IsOk, IfOk, IfErr, IsErrOf, OnOk, OnErr, IsTrue};
     ghost use Rattle.fits_card.specs.Card.{IsEnd};
     ghost use Rattle.fits_card.specs.Change.{cards_after, new_cards, IsInRange};
     ghost use Rattle.fits_card.specs.Header.{HasNoHeader, header_bytes};
@@ -86,8 +84,8 @@ impl Hdu {
     ghost use Rattle.fits_hdu.specs.Kind.{kind_in};
     ghost use Rattle.fits_hdu.specs.Layout.{layout_of};
     ghost use Rattle.fits_hdu.specs.Reading.{HduStops};
-    ghost use Rattle.fits_hdu.specs.State.{parts_of, IsDescribed, ReadsUpTo};
-    ghost use Rattle.fits_hdu.specs.Work.{apply_reads, keyword_reads, plane_work, FollowsBlank, IsOpened, IsScanned};
+    ghost use Rattle.fits_hdu.specs.State.{name_of, parts_of, IsDescribed, ReadsUpTo};
+    ghost use Rattle.fits_hdu.specs.Work.{apply_reads, keyword_reads, name_reads, plane_work, FollowsBlank, IsOpened, IsScanned};
     ghost use Rattle.fits_hdu.specs.Hdu.{IsHdu, IsHduOf, HduFails, hdu_bytes, hdu_after, keeps_shape};
 
     /// The HDU that these bytes begin with, the primary one or an extension, and how many bytes it
@@ -103,7 +101,7 @@ impl Hdu {
         ensures class { IfOk result (λ cut. is_primary cut.0.header.shape.class ≡ primary) }
         ensures len { IfOk result (λ cut. cut.1 ≡ length (hdu_bytes (parts_of cut.0))) }
         ensures within { IfOk result (λ cut. cut.1 ≤ length bytes.now) }
-        ensures opened { IfOk result (λ cut. IsOpened cut.0) }
+        ensures opened { IfOk result (λ cut. IsOpened 0 cut.0) }
 
         // Whether there is a header is found before any memory is asked for.
         ensures fault { IfErr result (HduFails primary bytes.now) }
@@ -161,18 +159,18 @@ impl Hdu {
         ensures work { result.header.reads + 1 ≤ header.reads + apply_reads }
         ensures least { header.reads ≤ result.header.reads }
         ensures scans { plane_work result.plane ≡ plane_work plane }
+        ensures entry { result.entry ≡ None }
     {
-        let codes = header.judge();
+        let mark = header.mark();
         let kind = image_kind(&mut header);
         let sums = sum_keywords(&mut header);
-        let name = extension_name(&mut header);
         Hdu {
             header,
             plane,
-            codes,
+            mark,
             kind,
             sums,
-            name,
+            entry: None,
         }
     }
 
@@ -195,7 +193,7 @@ impl Hdu {
         ensures whole { IfOk result (λ hdu. IsHdu primary (parts_of hdu)) }
         ensures described { IfOk result (λ hdu. shape_of primary hdu.header.header.cards
             ≡ Ok hdu.header.shape) }
-        ensures opened { IfOk result (λ hdu. IsOpened hdu) }
+        ensures opened { IfOk result (λ hdu. IsOpened 0 hdu) }
         ensures err { IfErr result (HduStops primary
             (supply (R.state source.old) intake.old) (supply (R.state source.new) intake.new)) }
     {
@@ -249,6 +247,31 @@ impl Hdu {
             ≡ layout_of self.now.header.shape self.now.header.header.cards }
     {
         &self.plane
+    }
+
+    /// What it is called, if it is an extension with a name. The cards that it reads are counted.
+    ///
+    /// It takes no memory.
+    pub fn extension_name(&mut self) -> Option<ExtensionName>
+        ensures value { result ≡ name_of self.old }
+        ensures work { ReadsUpTo self.old self.new name_reads }
+        ensures described { IsDescribed self.old }
+    {
+        extension_name(&mut self.header)
+    }
+
+    /// Where its name stands in a table of names, as `set_entry` said last.
+    pub fn entry(&self) -> Option<usize>
+        ensures { result ≡ self.now.entry }
+    {
+        self.entry
+    }
+
+    /// Says where its name stands in a table of names. Nothing else changes.
+    pub fn set_entry(&mut self, entry: Option<usize>)
+        ensures { self.new ≡ record self.old { entry = entry } }
+    {
+        self.entry = entry;
     }
 
     /// Makes room for this many more cards. It fails only where room was missing.
@@ -323,7 +346,7 @@ impl Hdu {
     ///
     /// It takes no memory: the room is reserved before, and `keeps_shape` says whether the shape
     /// stays. The cards that it reads are counted: those that decide the codes of the header, and
-    /// those that say how pixels are read, what the sums are and what it is called.
+    /// those that say how pixels are read and what the sums are.
     #[tactic(auto, using(crate::proofs::ChangeLemmas::kept_steps))]
     pub fn apply(&mut self, change: &Change)
         requires in_range { IsInRange self.old.header.header.cards change.now }
@@ -339,6 +362,8 @@ impl Hdu {
             ≡ self.old.header.room + length self.old.header.header.cards }
         ensures work { self.new.header.reads ≤ self.old.header.reads + apply_reads }
         ensures least { self.old.header.reads ≤ self.new.header.reads }
+        ensures entry { self.new.entry ≡ self.old.entry }
+        ensures described { IsDescribed self.new }
 
         // The data unit is scanned again where the number that BLANK says changes.
         ensures scans { FollowsBlank
@@ -348,10 +373,9 @@ impl Hdu {
             (plane_work self.old.plane) (plane_work self.new.plane) }
     {
         self.header.apply(change);
-        self.codes = self.header.judge();
+        self.mark = self.header.mark();
         self.kind = image_kind(&mut self.header);
         self.sums = sum_keywords(&mut self.header);
-        self.name = extension_name(&mut self.header);
         follow_blank(&mut self.plane, &mut self.header);
     }
 

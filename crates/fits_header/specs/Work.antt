@@ -7,5 +7,5 @@ abbrev pub shape_reads : Shape → ℕ
 shape_reads shape = 3 + length shape.axes + 3
 
 -- the codes of a header as a whole are found by PCOUNT, GCOUNT, the first card and the lead of BLANK
-abbrev pub judge_reads : ℕ
-judge_reads = 4
+abbrev pub mark_reads : ℕ
+mark_reads = 4

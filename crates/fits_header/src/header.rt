@@ -10,7 +10,7 @@ use crate::leads::{lead_after, leads_after};
 use crate::notes::Notes;
 use crate::survey::{reserve_surroundings, survey};
 use fits_card::{Card, CardList, Change, Name, room_for};
-use fits_codes::{CodeSet, Surrounding, judge_header_mark};
+use fits_codes::{CodeSet, HeaderMark, Surrounding};
 use fits_rules::{Shape, ShapeFault, keeps_shape, shape};
 use fits_stream::Sink;
 use fits_sum::card_total;
@@ -85,12 +85,13 @@ impl Header {
     ghost use Rattle.fits_rules.specs.Lead.{lead_card, lead_place};
     ghost use Rattle.fits_rules.specs.Shape.{shape_of};
     ghost use Rattle.fits_rules.specs.declared.mandatory.ShapeFault.{ShapeFault};
-    ghost use Rattle.fits_header.specs.Findings.{card_counts, card_findings, codes_at, header_codes_of};
+    ghost use Rattle.fits_codes.specs.HeaderCodes.{header_mark_of};
+    ghost use Rattle.fits_header.specs.Findings.{card_counts, card_findings, codes_at};
     ghost use Rattle.fits_header.specs.Links.{header_links};
     ghost use Rattle.fits_header.specs.Names.{header_names};
     ghost use Rattle.fits_header.specs.Places.{keyword_places};
     ghost use Rattle.fits_header.specs.State.{ReadsUpTo, still_describes};
-    ghost use Rattle.fits_header.specs.Work.{judge_reads, shape_reads};
+    ghost use Rattle.fits_header.specs.Work.{mark_reads, shape_reads};
     ghost use Rattle.fits_sum.specs.Words.{word_total};
 
     /// The header that has these cards, which describe this shape. Each card is read once.
@@ -293,13 +294,12 @@ impl Header {
         change.apply(&mut self.cards);
     }
 
-    /// The codes of the header as a whole, by number. It takes no memory.
-    pub fn judge(&mut self) -> CodeSet
-        ensures value { result ≡ header_codes_of self.old.shape self.old.header }
-        ensures work { ReadsUpTo self.old self.new judge_reads }
+    /// What it says as a whole, as far as the rules ask. It takes no memory.
+    pub fn mark(&mut self) -> HeaderMark
+        ensures value { result ≡ header_mark_of self.old.header self.old.shape }
+        ensures work { ReadsUpTo self.old self.new mark_reads }
     {
-        let mark = header_mark_of(&mut self.cards, &self.index, &self.shape);
-        judge_header_mark(&mark, &self.shape)
+        header_mark_of(&mut self.cards, &self.index, &self.shape)
     }
 
     /// What is found of its cards: by place, and at each by number. No card is read, and nothing is

@@ -1,9 +1,11 @@
 -- How much edits and queries do at most, by what they touch.
-use Rattle.std.proofs.Common.{◌≡◌, add-one, ◌⊎◌, inl, inr, true, false, ℕ, zero, suc, ◌+◌, ◌-◌, ◌*◌, ◌^◌, ◌≤◌, Bool, List, [], ◌∷◌, length, get_or, codes, refl, ap, sym, ◌∙◌, subst, arith, Option, None, Some}
+use Rattle.std.proofs.Common.{◌≡◌, add-one, ◌⊎◌, inl, inr, true, false, ℕ, zero, suc, ◌+◌, ◌-◌, ◌*◌, ◌^◌, ◌<◌, ◌≤◌, Bool, List, [], ◌∷◌, length, get_or, codes, refl, ap, sym, ◌∙◌, subst, arith, Option, None, Some}
 use Rattle.std.specs.Prelude.{Result, Ok, Err, if◌then◌else◌}
 use Rattle.std.specs.List.{remove, slice_get, range_with_len}
 use Rattle.std.specs.Option.{option_map, option_map_or}
-use Rattle.std.proofs.lemmas.List.Edits.{get_or-remove_above}
+use Rattle.indexmap.proofs.SetLemmas.{map-remove}
+use Rattle.fits_session.proofs.PlaceLemmas.{get_before, get_behind}
+use Rattle.fits_session.proofs.KeptLemmas.{reads_of-unentered, works_of-unentered}
 use Rattle.fits_card.specs.declared.change.Change.{Change}
 use Rattle.fits_value.specs.Says.{chain_length}
 use Rattle.fits_plane.specs.Layout.{block_count, block_pixels}
@@ -15,13 +17,14 @@ use Rattle.fits_hdu.specs.Hdu.{HduParts}
 use Rattle.fits_hdu.specs.Keyword.{keyword_cards, own_count, with_links}
 use Rattle.fits_hdu.specs.Layout.{layout_of}
 use Rattle.fits_hdu.specs.State.{HduState, parts_of}
-use Rattle.fits_hdu.specs.Work.{keyword_reads, stamp_count_reads, stamp_reads, IsPatched, IsRescanned, PixelWork}
+use Rattle.fits_hdu.specs.Work.{keyword_reads, stamp_count_reads, stamp_reads, plane_work, IsPatched, IsRescanned, PixelWork}
 use Rattle.fits_hdu.specs.declared.keyword_cards.KeywordCards.{KeywordCards}
-use Rattle.fits_session.specs.Bounds.{mandatory_count, moved_count, stamped_count, Grows, NoneFalls, OthersStay, WorksUpTo}
+use Rattle.fits_session.specs.Bounds.{mandatory_count, moved_count, stamped_count, Grows, NoneFalls, OthersStay, SameCounts, WorksUpTo}
 use Rattle.fits_session.specs.CardEdit.{change_of, is_keyword_name, set_of, setting, unset_of, unsetting}
 use Rattle.fits_session.specs.Edit.{changed_of, hdu_of, is_primary_hdu}
-use Rattle.fits_session.specs.Session.{Asks, AsksPixels, EditsTo, HduWork, PatchesIn, ReadsOnly, SessionState, file_of, hdus_of, read_more, reads_of, works_of}
-use Rattle.fits_session.specs.Work.{change_reads, hdu_reads, own_reads, reads_to_find}
+use Rattle.fits_session.specs.Session.{Asks, AsksPixels, EditsTo, HduWork, PatchesIn, ReadsOnly, SessionState, file_of, hdus_of, read_more, reads_of, without_entries, works_of}
+use Rattle.fits_session.specs.HduEdit.{hdu_changed, hdu_made}
+use Rattle.fits_session.specs.Work.{change_reads, follow_reads, own_reads, reads_in_all, reads_to_find}
 use Rattle.fits_session.specs.declared.card_edit.CardEdit.{CardEdit}
 use Rattle.fits_session.specs.declared.card_edit.CardEdit.TheVariants.{Insert, Put, Delete, Move, Set, Unset}
 use Rattle.fits_session.specs.declared.edit.Edit.TheVariants.{Hdu}
@@ -71,22 +74,33 @@ own_moves cards (Move from to) = omega arith
 own_moves cards (Set name value comment) = named_moves (is_settable name) _ _ (keyword_reads cards name) (set_moves (length cards) (keyword_cards cards name) (write_says name value comment) (keyword_reads cards name) (keyword_few cards name))
 own_moves cards (Unset name) = named_moves (is_keyword_name name) _ _ (keyword_reads cards name) (unset_moves (keyword_cards cards name) (keyword_reads cards name) (keyword_few cards name))
 
+-- what it is called then is found by three
+follow_few : (edit : HduEdit) (made : Result HduParts Refusal) → follow_reads edit made ≤ 3
+follow_few (Cards edit) (Ok made) = omega arith
+follow_few (Cards edit) (Err why) = omega arith
+follow_few (Pixels lo hi paint) (Ok made) = omega arith
+follow_few (Pixels lo hi paint) (Err why) = omega arith
+follow_few Stamp (Ok made) = omega arith
+follow_few Stamp (Err why) = omega arith
+
 -- and makes it by those that say whether the shape stays, and twelve
-change_few : (shape : Shape) (made : Result Change Refusal) → change_reads (Ok shape) made ≤ mandatory_count shape + 15
-change_few shape (Ok change) = omega arith
-change_few shape (Err why) = omega arith
+change_few : (shape : Shape) (primary : Bool) (hdu : HduParts) (edit : CardEdit) (made : Result Change Refusal) → change_reads (Ok shape) made + follow_reads (Cards edit) (hdu_changed primary hdu made) ≤ mandatory_count shape + 15
+change_few shape primary hdu edit (Ok change) = omega (arith, follow_few (Cards edit) (hdu_changed primary hdu (Ok change)))
+change_few shape primary hdu edit (Err why) = omega arith
 
 -- so it reads few
-pub cards_closer : (primary : Bool) (hdu : HduParts) (shape : Shape) (edit : CardEdit) → shape_of primary hdu.header.cards ≡ Ok shape → hdu_reads primary (Cards edit) hdu ≤ mandatory_count shape + moved_count (change_of hdu.header.cards edit) + 16
+pub cards_closer : (primary : Bool) (hdu : HduParts) (shape : Shape) (edit : CardEdit) → shape_of primary hdu.header.cards ≡ Ok shape → reads_in_all primary (Cards edit) hdu ≤ mandatory_count shape + moved_count (change_of hdu.header.cards edit) + 16
+unfolding hdu_made
 cards_closer primary hdu shape edit described =
     let made = change_of hdu.header.cards edit in
     let reads : change_reads (shape_of primary hdu.header.cards) made ≡ change_reads (Ok shape) made = ap (λ said. change_reads said made) described in
-    omega (arith, reads, change_few shape made, own_moves hdu.header.cards edit)
+    omega (arith, reads, change_few shape primary hdu edit made, own_moves hdu.header.cards edit)
 
 -- and a stamp
-pub stamp_closer : (primary : Bool) (hdu : HduParts) → hdu_reads primary Stamp hdu ≤ 2 * stamped_count hdu.header.cards + 38
+pub stamp_closer : (primary : Bool) (hdu : HduParts) → reads_in_all primary Stamp hdu ≤ 2 * stamped_count hdu.header.cards + 32
 unfolding stamp_count_reads stamp_reads
-stamp_closer primary hdu = omega (arith, keyword_few hdu.header.cards (codes "CHECKSUM"), keyword_few hdu.header.cards (codes "DATASUM "))
+stamp_closer primary hdu =
+    omega (arith, follow_few Stamp (hdu_made primary Stamp hdu), keyword_few hdu.header.cards (codes "CHECKSUM"), keyword_few hdu.header.cards (codes "DATASUM "))
 
 -- a value is read by one card more than its chain has
 pub value_few : (cards : List (List ℕ)) (name : List ℕ) (place : ℕ) → lead_place cards name ≡ Some place → keyword_reads cards name ≤ 2 * chain_length cards place + 2
@@ -250,6 +264,30 @@ asks_pixels_little h count old new p = (
   },
 )
 
--- an HDU behind one that goes
-pub behind_gone : (h : ℕ) (before : List HduState) (i : ℕ) (none : HduState) → 1 ≤ h → h ≤ length before → h ≤ i + 1 → get_or (remove before (h - 1)) i none ≡ get_or before (i + 1) none
-behind_gone h before i none some within behind = get_or-remove_above before (h - 1) none i (omega (arith, some, behind)) (omega (arith, some, within))
+-- ---- the list
+
+-- the cards read of the HDUs that are left
+reads_left : (k : ℕ) (before after : List HduState) → without_entries after ≡ remove (without_entries before) k → reads_of after ≡ remove (reads_of before) k
+reads_left k before after gone =
+    let read : HduState → ℕ = λ one. one.header.reads in
+    sym (reads_of-unentered after) ∙ ap reads_of gone ∙ map-remove read (without_entries before) k ∙ ap (λ reads. remove reads k) (reads_of-unentered before)
+
+-- and the work on their data units
+works_left : (k : ℕ) (before after : List HduState) → without_entries after ≡ remove (without_entries before) k → works_of after ≡ remove (works_of before) k
+works_left k before after gone =
+    let work : HduState → PixelWork = λ one. plane_work one.plane in
+    sym (works_of-unentered after) ∙ ap works_of gone ∙ map-remove work (without_entries before) k ∙ ap (λ works. remove works k) (works_of-unentered before)
+
+-- so each HDU before keeps its counts
+pub before_gone : (h : ℕ) (before after : List HduState) (i : ℕ) → without_entries after ≡ remove (without_entries before) (h - 1) → i + 1 < h → SameCounts i i before after
+before_gone h before after i gone at = record {
+  cards = ap (λ xs. slice_get xs i) (reads_left (h - 1) before after gone) ∙ get_before (reads_of before) (h - 1) i (omega (arith, at));
+  pixels = ap (λ xs. slice_get xs i) (works_left (h - 1) before after gone) ∙ get_before (works_of before) (h - 1) i (omega (arith, at));
+}
+
+-- and each behind
+pub behind_gone : (h : ℕ) (before after : List HduState) (i : ℕ) → without_entries after ≡ remove (without_entries before) (h - 1) → h ≤ i + 1 → SameCounts (i + 1) i before after
+behind_gone h before after i gone at = record {
+  cards = ap (λ xs. slice_get xs i) (reads_left (h - 1) before after gone) ∙ get_behind (reads_of before) (h - 1) i (omega (arith, at)) ∙ ap (slice_get (reads_of before)) (sym (add-one i));
+  pixels = ap (λ xs. slice_get xs i) (works_left (h - 1) before after gone) ∙ get_behind (works_of before) (h - 1) i (omega (arith, at)) ∙ ap (slice_get (works_of before)) (sym (add-one i));
+}

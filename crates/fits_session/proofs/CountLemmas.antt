@@ -1,5 +1,5 @@
 -- How many errors and warnings a report has, HDU after HDU.
-use Rattle.std.proofs.Common.{◌≡◌, ℕ, ◌+◌, ◌<◌, ◌≤◌, ◌^◌, Bool, true, false, List, [], ◌∷◌, ◌++◌, length, map, take, get_or, refl, ap, sym, ◌∙◌, append_assoc, append-nil, arith}
+use Rattle.std.proofs.Common.{◌≡◌, ℕ, ◌+◌, ◌<◌, ◌≤◌, ◌^◌, Bool, true, false, List, [], ◌∷◌, ◌++◌, length, map, take, get_or, refl, ap, sym, subst, ◌∙◌, append_assoc, append-nil, arith}
 use Rattle.std.specs.Prelude.{Option, Ok}
 use Rattle.std.proofs.lemmas.List.{length-append, length-take-le, map-append, take_all}
 use Rattle.fits_card.specs.Header.{header_bytes}
@@ -7,21 +7,27 @@ use Rattle.fits_rules.specs.Class.{is_primary}
 use Rattle.fits_rules.specs.Shape.{shape_of}
 use Rattle.fits_rules.specs.declared.array_shape.Shape.{Shape}
 use Rattle.fits_codes.specs.declared.code.Code.TheVariants.{TrailingBytes}
-use Rattle.fits_header.specs.Findings.{counts_of, summed}
+use Rattle.std.specs.Map.{keys_of}
+use Rattle.fits_codes.specs.declared.code.Code.{Code}
+use Rattle.fits_header.specs.Findings.{card_findings, counts_of, found_at, summed}
 use Rattle.fits_header.specs.declared.counts.Counts.{Counts}
 use Rattle.fits_header.specs.declared.finding.Finding.{Finding}
 use Rattle.fits_header.proofs.FindingLemmas.{counts-append}
-use Rattle.fits_hdu.specs.Findings.{hdu_counts, hdu_findings}
+use Rattle.fits_hdu.specs.ExtensionName.{name_codes}
+use Rattle.fits_hdu.specs.Findings.{hdu_counts, hdu_findings, whole_codes}
 use Rattle.fits_hdu.specs.Hdu.{HduParts, hdu_bytes}
-use Rattle.fits_hdu.specs.State.{HduState, parts_of}
+use Rattle.fits_hdu.specs.State.{HduState, name_of, parts_of, IsDescribed}
 use Rattle.fits_hdu.specs.declared.extension_name.ExtensionName.{ExtensionName}
 use Rattle.fits_session.specs.File.{is_followed, joined_hdus, IsFile}
 use Rattle.fits_session.specs.Edit.{is_primary_hdu}
 use Rattle.fits_session.specs.declared.limits.TheConstants.{FILE_LIMIT}
-use Rattle.fits_session.specs.Report.{counts_in, in_hdu, is_repeated, name_in, names_from, report_of, trails, wrong_from, wrong_in}
-use Rattle.fits_session.specs.Session.{file_of, hdus_of, state_of}
+use Rattle.fits_session.specs.Report.{counts_in, in_hdu, is_repeated, name_in, names_from, report_of, trailing, trails, wrong_from, wrong_in}
+use Rattle.fits_session.specs.NameTable.{names_of, IsTableOf, PointsAt}
+use Rattle.fits_session.specs.Session.{file_of, hdus_of, state_of, AreNamed}
 use Rattle.fits_session.specs.declared.problem.Problem.{Problem}
 use Rattle.fits_session.proofs.OffsetLemmas.{ends_within, hdus_more, start_more}
+use Rattle.fits_session.proofs.NameLemmas.{named_there, names_are}
+use Rattle.fits_session.proofs.StandingLemmas.{points_there}
 use Rattle.fits_session.proofs.ReportLemmas.{trailing_none, trailing_some}
 use Rattle.fits_session.proofs.StateLemmas.{described_there, file_size, length-hdus_of, IsHduAt}
 
@@ -70,15 +76,45 @@ one_more names hdus tail i hdu repeated file l e described again =
     ap (λ us. counts_in (wrong_from names 1 us)) (hdus_more hdus i hdu l e)
     ∙ counts_push names (take i (hdus_of hdus)) (parts_of hdu) (i + 1) hdu.header.shape repeated number (described_there hdus tail (i + 1) i hdu file at described) again
 
+-- whether an HDU is called as another is, by the entry that it has
+pub repeated_by : (hdus : List HduState) (es : List (ExtensionName × ℕ)) (i : ℕ) (hdu : HduState) (repeated : Bool) → AreNamed hdus es → i < length hdus → hdu ≡ get_or hdus i hdu
+    → ((name : Option ExtensionName) (names : List (Option ExtensionName)) → PointsAt (keys_of es) name hdu.entry → IsTableOf names es → repeated ≡ is_repeated names name) → repeated ≡ is_repeated (names_from 1 (hdus_of hdus)) (name_in (i + 1) (parts_of hdu))
+repeated_by hdus es i hdu repeated p l e told =
+    let described : IsDescribed hdu = subst IsDescribed (sym e) (p.described i hdu l) in
+    told (name_of hdu) (names_of hdus) (points_there hdus (keys_of es) i hdu l e p.names.placed) p.names.table
+    ∙ ap (λ names. is_repeated names (name_of hdu)) (names_are hdus p.tail p.whole p.described)
+    ∙ ap (is_repeated (names_from 1 (hdus_of hdus))) (named_there hdus p.tail i hdu p.whole l e described)
+
 -- so one more HDU is counted
-pub counts_more : (hdus old seen : List HduState) (tail : List ℕ) (i : ℕ) (hdu : HduState) (repeated : Bool) (now here next : Counts) → hdus ≡ old → IsFile (file_of (state_of old tail)) → i < length hdus → hdu ≡ get_or hdus i hdu
-    → shape_of (is_primary hdu.header.shape.class) hdu.header.header.cards ≡ Ok hdu.header.shape → seen ≡ hdus → (IsFile (file_of (state_of seen tail)) → hdu ≡ get_or seen i hdu → repeated ≡ is_repeated (names_from 1 (hdus_of seen)) (name_in (i + 1) (parts_of hdu)))
+pub counts_more : (hdus old : List HduState) (es : List (ExtensionName × ℕ)) (i : ℕ) (hdu : HduState) (repeated : Bool) (now here next : Counts) → hdus ≡ old → AreNamed old es → i < length hdus → hdu ≡ get_or hdus i hdu
+    → ((name : Option ExtensionName) (names : List (Option ExtensionName)) → PointsAt (keys_of es) name hdu.entry → IsTableOf names es → repeated ≡ is_repeated names name)
     → now ≡ counts_in (wrong_from (names_from 1 (hdus_of old)) 1 (take i (hdus_of old))) → here ≡ hdu_counts hdu.header.shape (parts_of hdu) repeated → next ≡ summed now here
     → next ≡ counts_in (wrong_from (names_from 1 (hdus_of old)) 1 (take (i + 1) (hdus_of old)))
-counts_more hdus old seen tail i hdu repeated now here next same file l e described see again so_far found is =
-    let all : seen ≡ old = see ∙ same in
-    let named : repeated ≡ is_repeated (names_from 1 (hdus_of old)) (name_in (i + 1) (parts_of hdu)) = rw all at (again (rw all file) (rw see e)) in
-    is ∙ (rw (so_far, found) (sym (one_more (names_from 1 (hdus_of old)) old tail i hdu repeated file (rw same at l) (rw same at e) described named)))
+counts_more hdus old es i hdu repeated now here next same p l e told so_far found is =
+    let l' : i < length old = rw same at l in
+    let e' : hdu ≡ get_or old i hdu = rw same at e in
+    let again = repeated_by old es i hdu repeated p l' e' told in
+    is ∙ (rw (so_far, found) (sym (one_more (names_from 1 (hdus_of old)) old p.tail i hdu repeated p.whole l' e' (subst IsDescribed (sym e') (p.described i hdu l')) again)))
+
+-- and what is wrong in it is listed
+pub listed_here : (hdus old : List HduState) (es : List (ExtensionName × ℕ)) (i : ℕ) (hdu : HduState) (repeated : Bool) (whole : List Code) (of_cards : List Finding) (before after : List Problem) → hdus ≡ old → AreNamed old es → i < length hdus → hdu ≡ get_or hdus i hdu
+    → ((name : Option ExtensionName) (names : List (Option ExtensionName)) → PointsAt (keys_of es) name hdu.entry → IsTableOf names es → repeated ≡ is_repeated names name)
+    → whole ≡ whole_codes hdu.header.shape (parts_of hdu) → of_cards ≡ card_findings hdu.header.shape hdu.header.header.cards → before ≡ wrong_from (names_from 1 (hdus_of old)) 1 (take i (hdus_of old))
+    → after ≡ before ++ map (in_hdu (i + 1)) (found_at 0 (whole ++ name_codes repeated) ++ of_cards) → after ≡ wrong_from (names_from 1 (hdus_of old)) 1 (take (i + 1) (hdus_of old))
+unfolding hdu_findings
+listed_here hdus old es i hdu repeated whole of_cards before after same p l e told codes cards so_far is =
+    let l' : i < length old = rw same at l in
+    let e' : hdu ≡ get_or old i hdu = rw same at e in
+    let again = repeated_by old es i hdu repeated p l' e' told in
+    let at : IsHduAt old (i + 1) i hdu = record { index = record { at = refl; within = l' }; is = e' } in
+    let number : 1 + length (take i (hdus_of old)) ≡ i + 1 = omega (arith, length-take-le i (hdus_of old) (omega (arith, l', length-hdus_of old))) in
+    let described = described_there old p.tail (i + 1) i hdu p.whole at (subst IsDescribed (sym e') (p.described i hdu l')) in
+    is ∙ (rw (so_far, codes, cards) (sym (ap (wrong_from (names_from 1 (hdus_of old)) 1) (hdus_more old i hdu l' e')
+    ∙ wrong_more (names_from 1 (hdus_of old)) (take i (hdus_of old)) (parts_of hdu) (i + 1) hdu.header.shape repeated number described again)))
+
+-- those of all HDUs are all
+pub all_listed : (names : List (Option ExtensionName)) (hdus : List HduState) (i : ℕ) → length hdus ≤ i → wrong_from names 1 (take i (hdus_of hdus)) ≡ wrong_from names 1 (hdus_of hdus)
+all_listed names hdus i l = ap (wrong_from names 1) (take_all i (hdus_of hdus) (omega (arith, l, length-hdus_of hdus)))
 
 -- each code has a byte of its own
 pub within_more : (hdus old : List HduState) (i : ℕ) (hdu : HduState) (now here next : Counts) → hdus ≡ old → i < length hdus → hdu ≡ get_or hdus i hdu
@@ -107,25 +143,26 @@ pub hdu_small : (hdus old : List HduState) (tail : List ℕ) (i : ℕ) (hdu : Hd
 hdu_small hdus old tail i hdu same file l e =
     omega (arith, length-append (header_bytes hdu.header.header) hdu.plane.bytes, ends_within old i (length (joined_hdus (take i (hdus_of old)))) hdu (rw same at l) (rw same at e) refl, file_size old tail file)
 
--- those of all HDUs
-all_counted : (names : List (Option ExtensionName)) (hdus : List HduState) (i : ℕ) → length hdus ≤ i → counts_in (wrong_from names 1 (take i (hdus_of hdus))) ≡ counts_in (wrong_from names 1 (hdus_of hdus))
-all_counted names hdus i l = ap (λ us. counts_in (wrong_from names 1 us)) (take_all i (hdus_of hdus) (omega (arith, l, length-hdus_of hdus)))
-
 -- the counts of the report where no bytes follow the last HDU
-pub counts_alone : (hdus : List HduState) (tail : List ℕ) (i : ℕ) (now : Counts) → length hdus ≤ i → now ≡ counts_in (wrong_from (names_from 1 (hdus_of hdus)) 1 (take i (hdus_of hdus))) → is_followed tail ≡ false → now ≡ counts_in (report_of (file_of (state_of hdus tail)))
+pub counts_alone : (hdus : List HduState) (tail : List ℕ) (now : Counts) → now ≡ counts_in (wrong_from (names_from 1 (hdus_of hdus)) 1 (hdus_of hdus)) → is_followed tail ≡ false → now ≡ counts_in (report_of (file_of (state_of hdus tail)))
 unfolding report_of
-counts_alone hdus tail i now l so_far none =
+counts_alone hdus tail now is none =
     let names : List (Option ExtensionName) = names_from 1 (hdus_of hdus) in
-    so_far ∙ all_counted names hdus i l
-    ∙ ap counts_in (sym (append-nil (wrong_from names 1 (hdus_of hdus))) ∙ ap (λ t. wrong_from names 1 (hdus_of hdus) ++ t) (sym (trailing_none (length (hdus_of hdus) + 1) tail none)))
+    is ∙ ap counts_in (sym (append-nil (wrong_from names 1 (hdus_of hdus))) ∙ ap (λ t. wrong_from names 1 (hdus_of hdus) ++ t) (sym (trailing_none (length (hdus_of hdus) + 1) tail none)))
 
 -- and where some do
-pub counts_followed : (hdus : List HduState) (tail : List ℕ) (i : ℕ) (now more next : Counts) → length hdus ≤ i → now ≡ counts_in (wrong_from (names_from 1 (hdus_of hdus)) 1 (take i (hdus_of hdus))) → is_followed tail ≡ true → more ≡ counts_of (TrailingBytes ∷ []) → next ≡ summed now more
+pub counts_followed : (hdus : List HduState) (tail : List ℕ) (now more next : Counts) → now ≡ counts_in (wrong_from (names_from 1 (hdus_of hdus)) 1 (hdus_of hdus)) → is_followed tail ≡ true → more ≡ counts_of (TrailingBytes ∷ []) → next ≡ summed now more
     → next ≡ counts_in (report_of (file_of (state_of hdus tail)))
 unfolding report_of
-counts_followed hdus tail i now more next l so_far some one is =
+counts_followed hdus tail now more next so_far some one is =
     let names : List (Option ExtensionName) = names_from 1 (hdus_of hdus) in
     let h : ℕ = length (hdus_of hdus) + 1 in
-    is ∙ (rw (so_far, one) (ap (λ (c : Counts). summed c (counts_of (TrailingBytes ∷ []))) (all_counted names hdus i l)))
-    ∙ sym (counts_in-append (wrong_from names 1 (hdus_of hdus)) (trails h ∷ []))
+    is ∙ (rw (so_far, one) (sym (counts_in-append (wrong_from names 1 (hdus_of hdus)) (trails h ∷ []))))
     ∙ ap (λ t. counts_in (wrong_from names 1 (hdus_of hdus) ++ t)) (sym (trailing_some h tail some))
+
+-- the report is what is listed, and what trails
+pub report_is : (hdus : List HduState) (tail : List ℕ) (h : ℕ) (listed report : List Problem) → listed ≡ wrong_from (names_from 1 (hdus_of hdus)) 1 (hdus_of hdus) → h ≡ length hdus + 1 → report ≡ listed ++ trailing h tail → report ≡ report_of (file_of (state_of hdus tail))
+unfolding report_of
+report_is hdus tail h listed report first at all =
+    let number : h ≡ length (hdus_of hdus) + 1 = omega (arith, at, length-hdus_of hdus) in
+    all ∙ ap (λ (t : List Problem). t ++ trailing h tail) first ∙ ap (λ n. wrong_from (names_from 1 (hdus_of hdus)) 1 (hdus_of hdus) ++ trailing n tail) number

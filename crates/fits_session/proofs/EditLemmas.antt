@@ -1,28 +1,38 @@
 -- An edit of HDU h of a session owes what it owes of that HDU.
-use Rattle.std.proofs.Common.{◌≡◌, inl, ℕ, ◌+◌, ◌≤◌, List, length, set, refl, ap, sym, ◌∙◌, subst, arith, Option, None, Some, suc, add-one}
+use Rattle.std.proofs.Common.{◌≡◌, inl, ℕ, ◌+◌, ◌≤◌, List, length, set, refl, ap, sym, ◌∙◌, subst, arith, All, Option, None, Some, suc, false, add-one}
 use Rattle.std.specs.Prelude.{Result, Ok, Err}
 use Rattle.std.specs.List.{slice_get}
 use Rattle.std.specs.Option.{option_map_or}
-use Rattle.std.proofs.lemmas.List.{length-append}
+use Rattle.std.proofs.lemmas.List.{get_or-set_same, length-append, length-set, set-get_or, set-set}
+use Rattle.std.proofs.lemmas.List.Elements.{All-set}
+use Rattle.fits_card.specs.Header.{Header}
+use Rattle.fits_rules.specs.Shape.{shape_of}
+use Rattle.fits_hdu.specs.ExtensionName.{extension_name}
+use Rattle.fits_hdu.specs.declared.extension_name.ExtensionName.{ExtensionName}
+use Rattle.fits_hdu.proofs.ShapeLemmas.{one_primary}
 use Rattle.fits_rules.specs.Class.{is_primary}
 use Rattle.fits_hdu.specs.Hdu.{HduParts, hdu_bytes, IsHdu}
-use Rattle.fits_hdu.specs.State.{HduState, parts_of}
+use Rattle.fits_hdu.specs.State.{HduState, name_of, parts_of, IsDescribed}
 use Rattle.fits_hdu.specs.Work.{plane_work}
 use Rattle.fits_session.specs.Edit.{changed_at, changed_of, file_after, hdu_edited, hdu_of, is_primary_hdu, made_or, with_hdu}
 use Rattle.fits_session.specs.File.{FileParts, file_bytes, joined_hdus, IsFile, IsFileOf}
 use Rattle.fits_session.specs.HduEdit.{hdu_made}
 use Rattle.fits_session.specs.Limits.{is_within_limits}
 use Rattle.fits_session.specs.Refusal.{limit_refusal, made_refusal, refusal_in, refusal_of, Fails, HduNeedsMemory}
-use Rattle.fits_session.specs.Session.{file_of, hdus_of, state_of, length_with, within_refusal, EditsTo, EditWork, HduEditsTo, HduWork, HduWorks, IsNowhere}
-use Rattle.fits_session.specs.Work.{edit_reads, hdu_reads}
+use Rattle.fits_session.specs.Session.{file_of, hdus_of, reads_of, state_of, works_of, length_with, within_refusal, EditsTo, EditWork, HduEditsTo, HduWork, HduWorks, IsKept, IsNowhere, ReadsOnly, WorksOnly}
+use Rattle.fits_session.specs.NameTable.{Stands, Stood}
+use Rattle.fits_session.specs.Work.{edit_reads, follow_reads, hdu_reads, may_rename, reads_in_all}
 use Rattle.fits_session.specs.declared.edit.Edit.TheVariants.{Hdu}
 use Rattle.fits_session.specs.declared.hdu_edit.HduEdit.{HduEdit}
+use Rattle.fits_session.specs.declared.hdu_edit.HduEdit.TheVariants.{Cards, Pixels, Stamp}
 use Rattle.fits_session.specs.declared.limits.TheConstants.{FILE_LIMIT}
 use Rattle.fits_session.specs.declared.refusal.Refusal.{Refusal}
 use Rattle.fits_session.specs.declared.refusal.Refusal.TheVariants as refusal
 use Rattle.fits_session.proofs.ChangeLemmas.{front_changed, goes_on-changed, joined-changed, length-changed}
+use Rattle.fits_session.proofs.PixelEditLemmas.{pixels_keep}
+use Rattle.fits_session.proofs.StandingLemmas.{stands_same}
 use Rattle.fits_session.proofs.MakingLemmas.{limit_none, within_limits}
-use Rattle.fits_session.proofs.StateLemmas.{IsHduAt, file_of-same, hdu_of-nowhere, hdu_of-there, hdus_of-changed, length-hdus_of, part_there, primary_there, reads_more, reads_none, slice_get-hdus_of, works_nowhere, works_of-same, works_there}
+use Rattle.fits_session.proofs.StateLemmas.{IsHduAt, file_of-same, hdu_of-nowhere, hdu_of-there, hdus_of-changed, length-hdus_of, part_there, primary_there, reads_more, reads_none, reads_twice, reads_up_to, slice_get-hdus_of, works_nowhere, works_of-same, works_there}
 
 -- the file with another HDU at an index is one, where that HDU is one and the file isn't too long
 pub other_kept : (f : List ℕ) (file : FileParts) (i : ℕ) (hdu : HduParts) (change : HduParts → HduParts) → IsFileOf f file → slice_get file.hdus i ≡ Some hdu → IsHdu (is_primary_hdu (suc i)) (change hdu) → length (file_bytes (with_hdu file (suc i) change)) ≤ FILE_LIMIT → IsFile (with_hdu file (suc i) change)
@@ -56,6 +66,16 @@ edits_nowhere hdus tail h edit p = record {
   };
   idle = refl;
 }
+
+-- HDUs after what the one at an index is called was read, so many cards at most, and entries mended
+pub record IsFollowed (before after : List HduState) (h most : ℕ) : Type 0 where
+  pub hdus : hdus_of after ≡ hdus_of before
+  pub reads : ReadsOnly h most (reads_of before) (reads_of after)
+  pub works : works_of after ≡ works_of before
+
+-- where nothing was read they are as before
+pub followed_none : (hdus : List HduState) (h : ℕ) → IsFollowed hdus hdus h 0
+followed_none hdus h = record { hdus = refl; reads = reads_none h 0 (reads_of hdus); works = refl }
 
 -- what is known where HDU h was edited
 pub record IsEdited (hdus : List HduState) (tail : List ℕ) (h i : ℕ) (edit : HduEdit) (bytes count : ℕ) (old new : HduState) (result : Result ℕ Refusal) : Type 0 where
@@ -107,8 +127,8 @@ module _ (hdus : List HduState) (tail : List ℕ) (h i : ℕ) (edit : HduEdit) (
   tests_are = ap (refusal_in (file_of (state_of hdus tail)) h edit) found ∙ tests_made (hdu_made (is_primary_hdu h) edit (parts_of old)) ∙ ap (within_refusal bytes count (parts_of old)) is_made
 
   -- so many cards of it were read at most
-  reads_are : edit_reads (file_of (state_of hdus tail)) h edit ≡ hdu_reads (is_primary old.header.shape.class) edit (parts_of old)
-  reads_are = ap (λ (hdu : Option HduParts). option_map_or (hdu_reads (is_primary_hdu h) edit) hdu 0) found ∙ ap (λ b. hdu_reads b edit (parts_of old)) (sym primary)
+  reads_are : edit_reads (file_of (state_of hdus tail)) h edit ≡ reads_in_all (is_primary old.header.shape.class) edit (parts_of old)
+  reads_are = ap (λ (hdu : Option HduParts). option_map_or (reads_in_all (is_primary_hdu h) edit) hdu 0) found ∙ ap (λ b. reads_in_all b edit (parts_of old)) (sym primary)
 
   -- and so it was worked on
   work_is : EditWork (file_of (state_of hdus tail)) h edit (plane_work old.plane) (plane_work new.plane)
@@ -122,10 +142,11 @@ module _ (hdus : List HduState) (tail : List ℕ) (h i : ℕ) (edit : HduEdit) (
   file_left = ap (λ (us : List HduParts). let file : FileParts = record { hdus = us; tail = tail } in file) (hdus_of-changed hdus h i old new (λ hdu. (parts_of new)) p.at refl)
 
   -- no other HDU was read or worked on
-  works : HduWorks h edit (state_of hdus tail) (state_of (set hdus i new) tail)
-  works = record {
-    cards = reads_more hdus h i (edit_reads (file_of (state_of hdus tail)) h edit) old new p.at p.edits.least (rw reads_are p.edits.most);
-    pixels = works_there hdus h i (EditWork (file_of (state_of hdus tail)) h edit) old new p.at work_is;
+  works : (most : ℕ) (left : List HduState) → IsFollowed (set hdus i new) left h most → most ≤ follow_reads edit (hdu_made (is_primary old.header.shape.class) edit (parts_of old)) → HduWorks h edit (state_of hdus tail) (state_of left tail)
+  works most left follows few = record {
+    cards = reads_up_to h (hdu_reads (is_primary old.header.shape.class) edit (parts_of old) + most) (edit_reads (file_of (state_of hdus tail)) h edit) (reads_of hdus) (reads_of left) (omega (arith, few, reads_are))
+        (reads_twice h (hdu_reads (is_primary old.header.shape.class) edit (parts_of old)) most (reads_of hdus) (reads_of (set hdus i new)) (reads_of left) (reads_more hdus h i (hdu_reads (is_primary old.header.shape.class) edit (parts_of old)) old new p.at p.edits.least p.edits.most) follows.reads);
+    pixels = subst (λ works. WorksOnly h (EditWork (file_of (state_of hdus tail)) h edit) (works_of hdus) works) (sym follows.works) (works_there hdus h i (EditWork (file_of (state_of hdus tail)) h edit) old new p.at work_is);
   }
 
   -- the file after the edit, where it was made
@@ -137,13 +158,16 @@ module _ (hdus : List HduState) (tail : List ℕ) (h i : ℕ) (edit : HduEdit) (
       (hdus_of-changed hdus h i old new change p.at (sym (ap (made_or (parts_of old)) (is_made ∙ made))) ∙ ap (λ k. changed_of k change (hdus_of hdus)) (sym named))
 
 -- an edit that is made owes this
-pub edits_made : {X : Type 0} (hdus : List HduState) (tail : List ℕ) (h i : ℕ) (edit : HduEdit) (bytes count n : ℕ) (old new : HduState) (x : X) → IsEdited hdus tail h i edit bytes count old new (Ok n) → EditsTo {X = X} (Hdu h edit) (state_of hdus tail) (state_of (set hdus i new) tail) (Ok x)
-edits_made hdus tail h i edit bytes count n old new x p = record {
+pub edits_made : {X : Type 0} (hdus left : List HduState) (tail : List ℕ) (h i : ℕ) (edit : HduEdit) (bytes count n most : ℕ) (old new : HduState) (x : X) → IsEdited hdus tail h i edit bytes count old new (Ok n) → IsFollowed (set hdus i new) left h most → most ≤ follow_reads edit (Ok (parts_of new))
+    → EditsTo {X = X} (Hdu h edit) (state_of hdus tail) (state_of left tail) (Ok x)
+edits_made hdus left tail h i edit bytes count n most old new x p follows few = record {
   accepted = tests_are hdus tail h i edit bytes count old new (Ok n) p ∙ p.edits.accepted;
-  ok = file_made hdus tail h i edit bytes count old new (Ok n) p p.edits.ok;
+  ok =
+      ap (λ (us : List HduParts). let file : FileParts = record { hdus = us; tail = tail } in file) follows.hdus
+      ∙ file_made hdus tail h i edit bytes count old new (Ok n) p p.edits.ok;
   refused = tt;
   err = tt;
-  work = works hdus tail h i edit bytes count old new (Ok n) p;
+  work = works hdus tail h i edit bytes count old new (Ok n) p most left follows (rw p.edits.ok few);
   idle = tt;
 }
 
@@ -171,7 +195,7 @@ edits_refused hdus tail h i edit bytes count old new why p = record {
   ok = tt;
   refused = subst (λ (refused : Option Refusal). Fails (HduNeedsMemory edit) refused why) (sym (tests_are hdus tail h i edit bytes count old new (Err why) p)) p.edits.refused;
   err = file_of-same hdus tail h i old new p.at p.edits.err;
-  work = works hdus tail h i edit bytes count old new (Err why) p;
+  work = works hdus tail h i edit bytes count old new (Err why) p 0 (set hdus i new) (followed_none (set hdus i new) h) (omega arith);
   idle = works_of-same hdus i old new p.at.index.within p.at.is p.edits.idle;
 }
 
@@ -180,3 +204,72 @@ pub file_refused_is : (hdus : List HduState) (tail : List ℕ) (h i : ℕ) (edit
 file_refused_is hdus tail h i edit bytes count old new why p =
     let same = file_of-same hdus tail h i old new p.at p.edits.err in
     (subst (λ (f : FileParts). IsFile f) (sym same) p.file, p.size ∙ ap (λ (f : FileParts). length (file_bytes f)) (sym same))
+
+-- cards that stay call an HDU as before
+pub name_same : (old new : HduState) → IsDescribed old → IsDescribed new → new.header.header.cards ≡ old.header.header.cards → name_of new ≡ name_of old
+name_same old new was is same =
+    let primary : is_primary new.header.shape.class ≡ is_primary old.header.shape.class = one_primary (is_primary new.header.shape.class) (is_primary old.header.shape.class) old.header.header.cards new.header.shape old.header.shape (subst (λ cards. shape_of (is_primary new.header.shape.class) cards ≡ Ok new.header.shape) same is) was in
+    ap (λ cards. extension_name (is_primary new.header.shape.class) cards) same ∙ ap (λ b. extension_name b old.header.header.cards) primary
+
+-- so an edit of pixels leaves the name
+pub unrenamed : (edit : HduEdit) (old new : HduState) → may_rename edit ≡ false → IsHdu (is_primary old.header.shape.class) (parts_of old) → IsDescribed old → IsDescribed new → hdu_made (is_primary old.header.shape.class) edit (parts_of old) ≡ Ok (parts_of new) → name_of new ≡ name_of old
+unrenamed (Cards edit) old new never whole was is made = cc
+unrenamed Stamp old new never whole was is made = cc
+unrenamed (Pixels lo hi paint) old new never whole was is made =
+    name_same old new was is (ap (λ (header : Header). header.cards) (pixels_keep (is_primary old.header.shape.class) old.header.shape (parts_of old) (parts_of new) lo hi paint whole was made))
+
+module _ (hdus : List HduState) (tail : List ℕ) (h i : ℕ) (edit : HduEdit) (bytes count : ℕ) (es : List (ExtensionName × ℕ)) (capacity : ℕ) (old new : HduState) (kept : IsKept hdus tail bytes es capacity) where
+  -- the cards of the one that was edited described its shape
+  was_described : (result : Result ℕ Refusal) → IsEdited hdus tail h i edit bytes count old new result → IsDescribed old
+  was_described result p = subst IsDescribed (sym p.at.is) (kept.described i old p.at.index.within)
+
+  -- so they do still
+  all_described : (result : Result ℕ Refusal) → IsEdited hdus tail h i edit bytes count old new result → All IsDescribed (set hdus i new)
+  all_described result p = All-set IsDescribed hdus i new p.edits.described kept.described
+
+  -- what a session keeps where an edit is refused
+  pub kept_refused : (why : Refusal) → IsEdited hdus tail h i edit bytes count old new (Err why) → IsKept (set hdus i new) tail bytes es capacity
+  kept_refused why p =
+      let left = file_refused_is hdus tail h i edit bytes count old new why p in
+      let called = name_same old new (was_described (Err why) p) p.edits.described (ap (λ (hdu : HduParts). hdu.header.cards) p.edits.err) in
+      record {
+        whole = left.0;
+        len = left.1;
+        described = all_described (Err why) p;
+        names = stands_same hdus i old new es p.at.index.within p.at.is called p.edits.entry kept.names;
+        room = omega (arith, kept.room, length-set hdus i new);
+      }
+
+  -- and where it is made, and no HDU is called otherwise
+  pub kept_unrenamed : (n : ℕ) → may_rename edit ≡ false → IsEdited hdus tail h i edit bytes count old new (Ok n) → IsKept (set hdus i new) tail n es capacity
+  kept_unrenamed n never p =
+      let left = file_made_is hdus tail h i edit bytes count n old new p in
+      let called = unrenamed edit old new never p.edits.whole (was_described (Ok n) p) p.edits.described p.edits.ok in
+      record {
+        whole = left.0;
+        len = left.1;
+        described = all_described (Ok n) p;
+        names = stands_same hdus i old new es p.at.index.within p.at.is called p.edits.entry kept.names;
+        room = omega (arith, kept.room, length-set hdus i new);
+      }
+
+  -- the table stood for them before
+  pub stood_before : (n : ℕ) → IsEdited hdus tail h i edit bytes count old new (Ok n) → Stood (set hdus i new) i es
+  stood_before n p = record {
+    was = old;
+    stood = subst (λ (us : List HduState). Stands us es) (sym (set-set hdus i new old ∙ ap (set hdus i) p.at.is ∙ set-get_or hdus i old)) kept.names;
+    entry = λ now there. ap (λ (hdu : HduState). hdu.entry) (there ∙ get_or-set_same hdus i new now p.at.index.within) ∙ p.edits.entry;
+  }
+
+  -- and where one may be
+  pub kept_followed : (n most more : ℕ) (left : List HduState) (fs : List (ExtensionName × ℕ)) → IsEdited hdus tail h i edit bytes count old new (Ok n) → IsFollowed (set hdus i new) left h most → (All IsDescribed (set hdus i new) → All IsDescribed left) → Stands left fs → capacity ≤ more → IsKept left tail n fs more
+  kept_followed n most more left fs p follows describes stands room =
+      let is = file_made_is hdus tail h i edit bytes count n old new p in
+      let same = ap (λ (us : List HduParts). let file : FileParts = record { hdus = us; tail = tail } in file) follows.hdus in
+      record {
+        whole = subst (λ (f : FileParts). IsFile f) (sym same) is.0;
+        len = is.1 ∙ ap (λ (f : FileParts). length (file_bytes f)) (sym same);
+        described = describes (all_described (Ok n) p);
+        names = stands;
+        room = omega (arith, room, kept.room, ap length follows.hdus, length-hdus_of left, length-hdus_of (set hdus i new), length-set hdus i new);
+      }

@@ -65,6 +65,7 @@ nothing_read old new name count none read = record {
     most = omega (arith, read.header.most, no_lead_reads old.header.header.cards name none);
   };
   plane = read.plane;
+  entry = read.entry;
 }
 
 -- a name that isn't a keyword's is the first test

@@ -7,6 +7,7 @@ pub mod EditLemmas
 pub mod FreshLemmas
 pub mod FileLemmas
 pub mod FrontLemmas
+pub mod KeptLemmas
 pub mod KeywordLemmas
 pub mod KindLemmas
 pub mod LargeLemmas
@@ -14,9 +15,11 @@ pub mod LawLemmas
 pub mod ListEditLemmas
 pub mod MakingLemmas
 pub mod NameLemmas
+pub mod NamingLemmas
 pub mod OffsetLemmas
 pub mod OrderLemmas
 pub mod PixelEditLemmas
+pub mod PlaceLemmas
 pub mod ProblemLemmas
 pub mod QueryLemmas
 pub mod RefusalLemmas
@@ -24,5 +27,7 @@ pub mod ReportLemmas
 pub mod SaveLemmas
 pub mod SetLemmas
 pub mod StampEditLemmas
+pub mod StandingLemmas
 pub mod StateLemmas
+pub mod TableLemmas
 pub mod WalkLemmas

@@ -19,12 +19,14 @@ use Rattle.fits_session.specs.File.{FileParts, file_bytes, goes_on, joined_hdus,
 use Rattle.fits_session.specs.Limits.{is_within_limits}
 use Rattle.fits_session.specs.declared.limits.TheConstants.{FILE_LIMIT, HDU_LIMIT}
 use Rattle.fits_session.specs.Refusal.{new_image_refusal, primary_refusal, refusal_of, removal_refusal, size_refusal, Fails, NewNeedsMemory}
-use Rattle.fits_session.specs.Session.{file_of, hdus_of, state_of, EditsTo, IsIndexOf, IsNowhere}
+use Rattle.fits_session.specs.Session.{file_of, hdus_of, state_of, unentered, without_entries, EditsTo, IsIndexOf, IsNowhere}
 use Rattle.fits_session.specs.declared.edit.Edit.TheVariants.{NewImage, RemoveHdu}
 use Rattle.fits_session.specs.declared.refusal.Refusal.{Refusal}
 use Rattle.fits_session.specs.declared.refusal.Refusal.TheVariants as refusal
 use Rattle.fits_session.proofs.MakingLemmas.{kept_limits, limit_none, within_limits}
 use Rattle.fits_session.proofs.FrontLemmas.{goes_on-some, some_hdus}
+use Rattle.indexmap.proofs.SetLemmas.{map-remove}
+use Rattle.fits_session.proofs.KeptLemmas.{file_of-unentered}
 use Rattle.fits_session.proofs.StateLemmas.{IsHduAt, hdu_of-nowhere, hdu_of-there, length-hdus_of, slice_get-hdus_of}
 
 -- how many bytes HDUs have where one is put in
@@ -40,11 +42,11 @@ joined-remove (v ∷ vs) zero hdu e = let same : v ≡ hdu = cc in omega (arith,
 joined-remove (v ∷ vs) (suc i) hdu e = omega (arith, length-append (hdu_bytes v) (joined_hdus vs), length-append (hdu_bytes v) (joined_hdus (remove vs i)), joined-remove vs i hdu e)
 
 -- what holds of all, and of one that is put in, holds after it
-all_inserted : (P : HduParts → Type 0) (hdus : List HduParts) (i : ℕ) (hdu : HduParts) → P hdu → All P hdus → All P (insert hdus i hdu)
+pub all_inserted : {X : Type 0} (P : X → Type 0) (hdus : List X) (i : ℕ) (hdu : X) → P hdu → All P hdus → All P (insert hdus i hdu)
 all_inserted P hdus i hdu p all = All-append P (take i hdus) (hdu ∷ drop i hdus) (All-take P i hdus all) (All-cons P hdu (drop i hdus) p (All-drop P i hdus all))
 
 -- and of what is left where one is taken out
-all_left : (P : HduParts → Type 0) (hdus : List HduParts) (i : ℕ) → All P hdus → All P (remove hdus i)
+pub all_left : {X : Type 0} (P : X → Type 0) (hdus : List X) (i : ℕ) → All P hdus → All P (remove hdus i)
 all_left P hdus i all = All-append P (take i hdus) (drop (suc i) hdus) (All-take P i hdus all) (All-drop P (suc i) hdus all)
 
 -- HDUs with an extension put in behind the first begin their bytes
@@ -352,17 +354,17 @@ goes h zero at behind = absurd (omega arith)
 goes h (suc i) at behind = let number : h ≡ suc (suc i) = omega (arith, at) in ap primary_refusal number ∙ ap (λ b. if b then Some refusal.PrimaryStays else None) (not_one i)
 
 -- an HDU that is taken out owes this
-pub removes : {X : Type 0} (hdus : List HduState) (tail : List ℕ) (h i : ℕ) (x : X) (old : HduState) → IsHduAt hdus h i old → 0 < i → EditsTo {X = X} (RemoveHdu h) (state_of hdus tail) (state_of (remove hdus i) tail) (Ok x)
+pub removes : {X : Type 0} (hdus left : List HduState) (tail : List ℕ) (h i : ℕ) (x : X) (old : HduState) → IsHduAt hdus h i old → 0 < i → without_entries left ≡ without_entries (remove hdus i) → EditsTo {X = X} (RemoveHdu h) (state_of hdus tail) (state_of left tail) (Ok x)
 unfolding refusal_of file_after
-removes hdus tail h i x old at behind =
+removes hdus left tail h i x old at behind same =
     let file : FileParts = file_of (state_of hdus tail) in
     let index : i ≡ h - 1 = omega (arith, at.index.at) in
     record {
       accepted = ap (removal_refusal h) (hdu_of-there hdus tail h i old at) ∙ goes h i at.index.at behind;
-      ok = file_of-left hdus tail h i at.index.at;
+      ok = file_of-unentered left (remove hdus i) tail same ∙ file_of-left hdus tail h i at.index.at;
       refused = tt;
       err = tt;
-      work = inr (ap (remove hdus) index);
+      work = inr (same ∙ map-remove unentered hdus i ∙ ap (remove (without_entries hdus)) index);
       idle = tt;
     }
 

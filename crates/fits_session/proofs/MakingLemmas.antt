@@ -15,7 +15,7 @@ use Rattle.fits_rules.proofs.SameShapeLemmas.{same_shape-Decides}
 use Rattle.fits_header.specs.Work.{shape_reads}
 use Rattle.fits_hdu.specs.Hdu.{HduParts, hdu_after, hdu_bytes, IsHdu, keeps_shape}
 use Rattle.fits_hdu.specs.Layout.{layout_of}
-use Rattle.fits_hdu.specs.State.{HduState, ReadsUpTo, parts_of}
+use Rattle.fits_hdu.specs.State.{HduState, ReadsUpTo, parts_of, IsDescribed}
 use Rattle.fits_hdu.specs.Work.{FollowsBlank, PixelWork, apply_reads, plane_work}
 use Rattle.fits_hdu.proofs.StateLemmas.{parts_read}
 use Rattle.fits_hdu.proofs.ChangeLemmas.{hdu-changed, inner_after}
@@ -119,11 +119,19 @@ length_cards primary hdu change whole inner =
       header_long (hdu_after change hdu).header left,
     )
 
+-- the cards of an HDU describe the shape that is kept, and its entry is that of another
+abbrev pub Lasts : (old new : HduState) → Type 0
+Lasts old new = IsDescribed new × (new.entry ≡ old.entry)
+
+-- so it is where cards were read
+pub lasts_read : (old new : HduState) (count : ℕ) → IsDescribed old → ReadsUpTo old new count → Lasts old new
+lasts_read old new count described read = (rw (read.header.header, read.header.shape) described, read.entry)
+
 -- what is refused owes this
 pub makes_not : (made : Result HduParts Refusal) (NeedsMemory : Option Refusal → Type 0) (reads : ℕ) (Works : PixelWork → PixelWork → Type 0) (bytes hdus : ℕ) (old new : HduState) (why : Refusal)
-    → IsHdu (is_primary old.header.shape.class) (parts_of old) → parts_of new ≡ parts_of old → old.header.reads ≤ new.header.reads → new.header.reads ≤ old.header.reads + reads → plane_work new.plane ≡ plane_work old.plane → Works (plane_work old.plane) (plane_work old.plane) → Fails NeedsMemory (within_refusal bytes hdus (parts_of old) made) why
+    → IsHdu (is_primary old.header.shape.class) (parts_of old) → parts_of new ≡ parts_of old → old.header.reads ≤ new.header.reads → new.header.reads ≤ old.header.reads + reads → plane_work new.plane ≡ plane_work old.plane → Lasts old new → Works (plane_work old.plane) (plane_work old.plane) → Fails NeedsMemory (within_refusal bytes hdus (parts_of old) made) why
     → HduMakes made NeedsMemory reads Works bytes hdus old new (Err why)
-makes_not made NeedsMemory reads Works bytes hdus old new why whole same least most idle none fails = record {
+makes_not made NeedsMemory reads Works bytes hdus old new why whole same least most idle lasts none fails = record {
   whole = whole;
   left = subst (λ (hdu : HduParts). IsHdu (is_primary old.header.shape.class) hdu) (sym same) whole;
   accepted = tt;
@@ -135,6 +143,8 @@ makes_not made NeedsMemory reads Works bytes hdus old new why whole same least m
   most = most;
   work = subst (λ (work : PixelWork). Works (plane_work old.plane) work) (sym idle) none;
   idle = idle;
+  described = lasts.0;
+  entry = lasts.1;
 }
 
 -- a change that keeps the shape makes this
@@ -159,18 +169,18 @@ blank_none : (primary : Bool) (hdu : HduParts) (made : Result HduParts Refusal) 
 blank_none primary hdu made work = record { same = λ e. refl; any = inl refl }
 
 -- a change of an HDU that is refused owes this
-pub changes_not : (change : Change) (bytes hdus : ℕ) (old new : HduState) (why : Refusal) → IsHdu (is_primary old.header.shape.class) (parts_of old) → parts_of new ≡ parts_of old → old.header.reads ≤ new.header.reads → new.header.reads ≤ old.header.reads + shape_reads old.header.shape → plane_work new.plane ≡ plane_work old.plane
+pub changes_not : (change : Change) (bytes hdus : ℕ) (old new : HduState) (why : Refusal) → IsHdu (is_primary old.header.shape.class) (parts_of old) → parts_of new ≡ parts_of old → old.header.reads ≤ new.header.reads → new.header.reads ≤ old.header.reads + shape_reads old.header.shape → plane_work new.plane ≡ plane_work old.plane → Lasts old new
     → Fails (ChangeNeedsMemory change) (within_refusal bytes hdus (parts_of old) (hdu_changed (is_primary old.header.shape.class) (parts_of old) (Ok change))) why → ChangesTo change bytes hdus old new (Err why)
-changes_not change bytes hdus old new why whole same least most idle fails =
+changes_not change bytes hdus old new why whole same least most idle lasts fails =
     let made : Result HduParts Refusal = hdu_changed (is_primary old.header.shape.class) (parts_of old) (Ok change) in
-    makes_not made (ChangeNeedsMemory change) (shape_reads old.header.shape + apply_reads) (BlankWork (is_primary old.header.shape.class) (parts_of old) made) bytes hdus old new why whole same least (omega (arith, most)) idle
+    makes_not made (ChangeNeedsMemory change) (shape_reads old.header.shape + apply_reads) (BlankWork (is_primary old.header.shape.class) (parts_of old) made) bytes hdus old new why whole same least (omega (arith, most)) idle lasts
     (blank_none (is_primary old.header.shape.class) (parts_of old) made (plane_work old.plane)) fails
 
 -- one that is made owes this
 pub changes_made : (change : Change) (bytes hdus n : ℕ) (old new : HduState) → IsHdu (is_primary old.header.shape.class) (parts_of old) → shape_of (is_primary old.header.shape.class) old.header.header.cards ≡ Ok old.header.shape → All IsInnerCard (new_cards change)
     → keeps_shape (is_primary old.header.shape.class) old.header.header.cards (cards_after old.header.header.cards change) ≡ true → Some n ≡ size_within (length_with bytes (parts_of old) (hdu_after change (parts_of old))) hdus → parts_of new ≡ hdu_after change (parts_of old) → old.header.reads ≤ new.header.reads → new.header.reads ≤ old.header.reads + (shape_reads old.header.shape + apply_reads)
-    → FollowsBlank (layout_of old.header.shape old.header.header.cards).blank (layout_of old.header.shape (cards_after old.header.header.cards change)).blank (block_count old.plane.bytes) (plane_work old.plane) (plane_work new.plane) → ChangesTo change bytes hdus old new (Ok n)
-changes_made change bytes hdus n old new whole described inner kept some is least most follows =
+    → FollowsBlank (layout_of old.header.shape old.header.header.cards).blank (layout_of old.header.shape (cards_after old.header.header.cards change)).blank (block_count old.plane.bytes) (plane_work old.plane) (plane_work new.plane) → Lasts old new → ChangesTo change bytes hdus old new (Ok n)
+changes_made change bytes hdus n old new whole described inner kept some is least most follows lasts =
     let primary : Bool = is_primary old.header.shape.class in
     let after : List (List ℕ) = cards_after old.header.header.cards change in
     let made = kept_made primary (parts_of old) change kept in
@@ -188,6 +198,8 @@ changes_made change bytes hdus n old new whole described inner kept some is leas
       most = most;
       work = rw (made, described, there) follows;
       idle = tt;
+      described = lasts.0;
+      entry = lasts.1;
     }
 
 -- memory may run out before the size is known
@@ -262,12 +274,12 @@ pub room_missing : (change : Change) (bytes hdus : ℕ) (primary : Bool) (hdu : 
 room_missing change bytes hdus primary hdu range more = grows_needs hdu.header.cards change _ range more (needs_memory primary bytes hdus hdu (Ok change) refl)
 
 -- an edit of cards whose change isn't made owes this
-pub cards_unmade : (edit : CardEdit) (bytes hdus : ℕ) (old new : HduState) (why : Refusal) → IsHdu (is_primary old.header.shape.class) (parts_of old) → ReadsUpTo old new (own_reads old.header.header.cards edit) → ChangeFails (change_of old.header.header.cards edit) why → (why ≡ refusal.Memory → CardEditNeedsMemory edit None) → HduEditsTo (Cards edit) bytes hdus old new (Err why)
+pub cards_unmade : (edit : CardEdit) (bytes hdus : ℕ) (old new : HduState) (why : Refusal) → IsHdu (is_primary old.header.shape.class) (parts_of old) → IsDescribed old → ReadsUpTo old new (own_reads old.header.header.cards edit) → ChangeFails (change_of old.header.header.cards edit) why → (why ≡ refusal.Memory → CardEditNeedsMemory edit None) → HduEditsTo (Cards edit) bytes hdus old new (Err why)
 unfolding hdu_made
-cards_unmade edit bytes hdus old new why whole r fails takes =
+cards_unmade edit bytes hdus old new why whole described r fails takes =
     let primary : Bool = is_primary old.header.shape.class in
     let made : Result HduParts Refusal = hdu_changed primary (parts_of old) (change_of old.header.header.cards edit) in
-    makes_not made (CardEditNeedsMemory edit) (hdu_reads primary (Cards edit) (parts_of old)) (BlankWork primary (parts_of old) made) bytes hdus old new why whole (parts_read old new _ r) r.header.least (omega (arith, r.header.most)) (ap plane_work r.plane) (blank_none primary (parts_of old) made (plane_work old.plane)) (elim fails [
+    makes_not made (CardEditNeedsMemory edit) (hdu_reads primary (Cards edit) (parts_of old)) (BlankWork primary (parts_of old) made) bytes hdus old new why whole (parts_read old new _ r) r.header.least (omega (arith, r.header.most)) (ap plane_work r.plane) (lasts_read old new _ described r) (blank_none primary (parts_of old) made (plane_work old.plane)) (elim fails [
       | inl e ↦ inl (ap (λ said. within_refusal bytes hdus (parts_of old) (hdu_changed primary (parts_of old) said)) e)
       | inr m ↦ inr (m.0, needs_as edit _ (takes m.0) (needs_memory primary bytes hdus (parts_of old) (change_of old.header.header.cards edit) m.1))
     ])
@@ -298,4 +310,6 @@ cards_made edit change bytes hdus old left new result described r made p =
       most = omega (arith, r.header.most, most, reads);
       work = rw made work;
       idle = rw r.plane at p.idle;
+      described = p.described;
+      entry = p.entry ∙ r.entry;
     }

@@ -1,5 +1,5 @@
 -- What HDUs are called, and which of them are called the same.
-use Rattle.std.proofs.Common.{◌≡◌, ◌⊎◌, ℕ, ◌+◌, ◌<◌, ◌≤◌, Bool, true, false, cond, true≢false, is_some, List, [], ◌∷◌, ◌++◌, length, take, get_or, refl, ap, sym, subst, ◌∙◌, arith, inl, inr, Option, None, Some, zero, suc}
+use Rattle.std.proofs.Common.{◌≡◌, ◌⊎◌, ℕ, ◌+◌, ◌<◌, ◌≤◌, Bool, true, false, cond, true≢false, is_some, List, [], ◌∷◌, ◌++◌, length, take, get_or, refl, ap, sym, subst, ◌∙◌, arith, inl, inr, All, Option, None, Some, zero, suc}
 use Rattle.std.specs.Prelude.{nat_le, ◌&&◌, Ok}
 use Rattle.std.specs.List.{filter, slice_get}
 use Rattle.std.specs.Ordering.{int_eq}
@@ -8,18 +8,17 @@ use Rattle.std.proofs.lemmas.Bool.Decides.{Decides-int_eq}
 use Rattle.std.proofs.lemmas.Slice.Eq.{bytes_eq-Decides}
 use Rattle.std.proofs.lemmas.Option.{slice_get_read}
 use Rattle.std.proofs.lemmas.List.{length-take-le, map-append, take_more}
-use Rattle.indexmap.specs.IndexMap.{get, IndexMap, Updates}
 use Rattle.fits_rules.specs.Class.{is_primary}
 use Rattle.fits_rules.specs.Shape.{shape_of}
 use Rattle.fits_hdu.specs.ExtensionName.{extension_name, is_same_name}
 use Rattle.fits_hdu.specs.Hdu.{HduParts}
 use Rattle.fits_hdu.specs.declared.extension_name.ExtensionName.{ExtensionName}
 use Rattle.fits_hdu.specs.declared.findings.Findings.{Findings}
-use Rattle.fits_hdu.specs.State.{HduState, parts_of}
+use Rattle.fits_hdu.specs.State.{HduState, name_of, parts_of, IsDescribed}
 use Rattle.fits_hdu.proofs.ShapeLemmas.{one_primary}
 use Rattle.fits_session.specs.Edit.{hdu_of}
 use Rattle.fits_session.specs.File.{FileParts, IsFile}
-use Rattle.fits_session.specs.NameTable.{said_of, TellsOf}
+use Rattle.fits_session.specs.NameTable.{names_of}
 use Rattle.fits_session.specs.Edit.{is_primary_hdu}
 use Rattle.fits_session.specs.Report.{called_count, found_names, is_called, is_repeated, name_in, names_from, HasNameOfAnother}
 use Rattle.fits_session.specs.Session.{file_of, hdus_of, state_of}
@@ -47,15 +46,15 @@ name_itself name =
     rw ((Decides-int_eq name.extver name.extver).1 refl, (bytes_eq-Decides name.xtension name.xtension).1 refl, (bytes_eq-Decides name.extname name.extname).1 refl) refl
 
 -- one more, if the first is
-count_called : (name : ExtensionName) (first : Option ExtensionName) (names : List (Option ExtensionName)) → is_called name first ≡ true → called_count name (first ∷ names) ≡ suc (called_count name names)
+pub count_called : (name : ExtensionName) (first : Option ExtensionName) (names : List (Option ExtensionName)) → is_called name first ≡ true → called_count name (first ∷ names) ≡ suc (called_count name names)
 count_called name first names is = ap (λ b. length (cond b (first ∷ filter (is_called name) names) (filter (is_called name) names))) is
 
 -- and no more, if it isn't
-count_other : (name : ExtensionName) (first : Option ExtensionName) (names : List (Option ExtensionName)) → is_called name first ≡ false → called_count name (first ∷ names) ≡ called_count name names
+pub count_other : (name : ExtensionName) (first : Option ExtensionName) (names : List (Option ExtensionName)) → is_called name first ≡ false → called_count name (first ∷ names) ≡ called_count name names
 count_other name first names is = ap (λ b. length (cond b (first ∷ filter (is_called name) names) (filter (is_called name) names))) is
 
 -- the first is called so, or it isn't
-first_or : (name : ExtensionName) (first : Option ExtensionName) → (is_called name first ≡ true) ⊎ (is_called name first ≡ false)
+pub first_or : (name : ExtensionName) (first : Option ExtensionName) → (is_called name first ≡ true) ⊎ (is_called name first ≡ false)
 first_or name first = either (is_called name first) refl
   where
     either : (b : Bool) → is_called name first ≡ b → (is_called name first ≡ true) ⊎ (is_called name first ≡ false)
@@ -63,7 +62,7 @@ first_or name first = either (is_called name first) refl
     either false p = inr p
 
 -- what is called so has this name
-name_is : (name : ExtensionName) (first : Option ExtensionName) → is_called name first ≡ true → first ≡ Some name
+pub name_is : (name : ExtensionName) (first : Option ExtensionName) → is_called name first ≡ true → first ≡ Some name
 name_is name None p = cc
 name_is name (Some other) p = ap (λ (it : ExtensionName). Option.Some it) (sym (same_name name other p))
 
@@ -184,8 +183,8 @@ unfolding is_repeated
 is_repeated_by names said name is two = ap (is_repeated names) is ∙ is_two (called_count name names) two
 
 -- what HDU h is called
-name_of : (file : FileParts) (h : ℕ) (index : ℕ) (hdu : HduParts) → h ≡ suc index → hdu_of file h ≡ Some hdu → slice_get (names_from 1 file.hdus) index ≡ Some (name_in h hdu)
-name_of file h index hdu at there =
+name_of_hdu : (file : FileParts) (h : ℕ) (index : ℕ) (hdu : HduParts) → h ≡ suc index → hdu_of file h ≡ Some hdu → slice_get (names_from 1 file.hdus) index ≡ Some (name_in h hdu)
+name_of_hdu file h index hdu at there =
     let number : 1 + index ≡ h = omega (arith, at) in
     name_at 1 file.hdus index hdu (sym (ap (hdu_of file) at) ∙ there) ∙ ap (λ n. Option.Some (name_in n hdu)) number
 
@@ -194,10 +193,10 @@ another_at : (file : FileParts) (h index : ℕ) (hdu : HduParts) → h ≡ suc i
 another_at file h index hdu at there p =
     let names : List (Option ExtensionName) = names_from 1 file.hdus in
     let q = repeated_is names (name_in h hdu) p in
-    let one : slice_get names index ≡ Some (Some q.name) = name_of file h index hdu at there ∙ ap (λ (it : Option ExtensionName). Option.Some it) q.is in
+    let one : slice_get names index ≡ Some (Some q.name) = name_of_hdu file h index hdu at there ∙ ap (λ (it : Option ExtensionName). Option.Some it) q.is in
     let r = named_elsewhere q.name names index one q.two in
     let s = hdu_at 1 file.hdus r.other (Some q.name) r.there in
-    let both : Option.Some (name_in (suc r.other) s.hdu) ≡ Some (Some q.name) = sym (name_of file (suc r.other) r.other s.hdu refl s.there) ∙ r.there in
+    let both : Option.Some (name_in (suc r.other) s.hdu) ≡ Some (Some q.name) = sym (name_of_hdu file (suc r.other) r.other s.hdu refl s.there) ∙ r.there in
     record {
       name = q.name;
       called = q.is;
@@ -214,8 +213,8 @@ at_another : (file : FileParts) (index other : ℕ) (hdu u : HduParts) (name : E
     → is_repeated (names_from 1 file.hdus) (name_in (suc index) hdu) ≡ true
 at_another file index other hdu u name differs there called also again =
     let names : List (Option ExtensionName) = names_from 1 file.hdus in
-    let one : slice_get names index ≡ Some (Some name) = name_of file (suc index) index hdu refl there ∙ ap (λ (it : Option ExtensionName). Option.Some it) called in
-    let two : slice_get names other ≡ Some (Some name) = name_of file (suc other) other u refl also ∙ ap (λ (it : Option ExtensionName). Option.Some it) again in
+    let one : slice_get names index ≡ Some (Some name) = name_of_hdu file (suc index) index hdu refl there ∙ ap (λ (it : Option ExtensionName). Option.Some it) called in
+    let two : slice_get names other ≡ Some (Some name) = name_of_hdu file (suc other) other u refl also ∙ ap (λ (it : Option ExtensionName). Option.Some it) again in
     is_repeated_by names (name_in (suc index) hdu) name called (elsewhere_named name names index other (λ e. differs (ap suc e)) one two)
 
 -- whatever their numbers
@@ -229,116 +228,31 @@ at_numbers file (suc index) (suc other) hdu u name differs there called also aga
 pub has_repeated : (file : FileParts) (h : ℕ) (hdu : HduParts) → hdu_of file h ≡ Some hdu → HasNameOfAnother file h hdu → is_repeated (names_from 1 file.hdus) (name_in h hdu) ≡ true
 has_repeated file h hdu there p = at_numbers file h p.again.other hdu p.again.hdu p.name p.again.differs there p.called p.again.there p.again.called
 
--- how many of these and of those are called so
-called_count-append : (name : ExtensionName) (xs ys : List (Option ExtensionName)) → called_count name (xs ++ ys) ≡ called_count name xs + called_count name ys
-called_count-append name [] ys = omega arith
-called_count-append name (x ∷ xs) ys =
-    let more = called_count-append name xs ys in
-    elim (first_or name x) [
-      | inl is ↦ omega (arith, more, count_called name x (xs ++ ys) is, count_called name x xs is)
-      | inr not ↦ omega (arith, more, count_other name x (xs ++ ys) not, count_other name x xs not)
-    ]
-
--- one more, if the last is
-pub count_pushed : (name : ExtensionName) (names : List (Option ExtensionName)) (last : Option ExtensionName) → is_called name last ≡ true → called_count name (names ++ last ∷ []) ≡ suc (called_count name names)
-count_pushed name names last is = omega (arith, called_count-append name names (last ∷ []), count_called name last [] is)
-
--- and no more, if it isn't
-pub count_kept : (name : ExtensionName) (names : List (Option ExtensionName)) (last : Option ExtensionName) → is_called name last ≡ false → called_count name (names ++ last ∷ []) ≡ called_count name names
-count_kept name names last is = omega (arith, called_count-append name names (last ∷ []), count_other name last [] is)
-
--- what a table says of a name that one more has
-said_more : (count : ℕ) → said_of (suc count) ≡ Some (is_some (said_of count))
-said_more zero = refl
-said_more (suc zero) = refl
-said_more (suc (suc count)) = refl
-
 -- a name is another, or it isn't
-same_or : (name other : ExtensionName) → (is_same_name name other ≡ true) ⊎ (is_same_name name other ≡ false)
+pub same_or : (name other : ExtensionName) → (is_same_name name other ≡ true) ⊎ (is_same_name name other ≡ false)
 same_or name other = first_or name (Some other)
 
 -- where it isn't, the other isn't either
-other_way : (name other : ExtensionName) → is_same_name name other ≡ false → is_same_name other name ≡ false
+pub other_way : (name other : ExtensionName) → is_same_name name other ≡ false → is_same_name other name ≡ false
 other_way name other p =
     elim (same_or other name) [
       | inl same ↦ absurd (true≢false (sym (rw (same_name other name same) (name_itself name)) ∙ p))
       | inr not ↦ not
     ]
 
--- a table into which a name was put, with whether it was there, tells of that name too
-pub table_named : {S : Type 0} (old new : IndexMap ExtensionName Bool S) (names : List (Option ExtensionName)) (name : ExtensionName) (seen : Bool) → TellsOf names old → Updates is_same_name old new name (Some seen) → seen ≡ is_some (get is_same_name old name)
-    → TellsOf (names ++ Some name ∷ []) new
-table_named old new names name seen told puts is other =
-    elim (same_or name other) [
-      | inl same ↦
-          let equal : name ≡ other = same_name name other same in
-          let put : get is_same_name new other ≡ Some seen = puts.0 other ∙ ap (λ b. cond b (Option.Some seen) (get is_same_name old other)) same in
-          let before : Option.Some seen ≡ said_of (suc (called_count name names)) = ap (λ b. Option.Some b) (is ∙ ap is_some (told name)) ∙ sym (said_more (called_count name names)) in
-          let count : called_count other (names ++ Some name ∷ []) ≡ suc (called_count other names) = count_pushed other names (Some name) (is_name other (Some name) (ap (λ (it : ExtensionName). Option.Some it) equal)) in
-          put ∙ before ∙ ap (λ (it : ExtensionName). said_of (suc (called_count it names))) equal ∙ ap said_of (sym count)
-      | inr not ↦
-          let kept : get is_same_name new other ≡ get is_same_name old other = puts.0 other ∙ ap (λ b. cond b (Option.Some seen) (get is_same_name old other)) not in
-          kept ∙ told other ∙ ap said_of (sym (count_kept other names (Some name) (other_way name other not)))
-    ]
-
--- and of an HDU that isn't called anything
-table_unnamed : {S : Type 0} (table : IndexMap ExtensionName Bool S) (names : List (Option ExtensionName)) → TellsOf names table → TellsOf (names ++ None ∷ []) table
-table_unnamed table names told other = told other ∙ ap said_of (sym (count_kept other names None refl))
-
 -- what one more HDU is called
-names_push : (found : List Findings) (i : ℕ) (it : Findings) → i < length found → it ≡ get_or found i it → found_names (take (i + 1) found) ≡ found_names (take i found) ++ it.name ∷ []
+pub names_push : (found : List Findings) (i : ℕ) (it : Findings) → i < length found → it ≡ get_or found i it → found_names (take (i + 1) found) ≡ found_names (take i found) ++ it.name ∷ []
 names_push found i it l e =
     ap found_names (take_more found i it l ∙ ap (λ (x : Findings). take i found ++ x ∷ []) (sym e)) ∙ map-append (λ (one : Findings). one.name) (take i found) (it ∷ [])
 
--- so the table tells of it, where it has a name
-pub told_more : {S : Type 0} (old new : IndexMap ExtensionName Bool S) (found : List Findings) (i : ℕ) (it : Findings) (name : ExtensionName) (seen : Bool) → i < length found → it ≡ get_or found i it → it.name ≡ Some name → TellsOf (found_names (take i found)) old
-    → Updates is_same_name old new name (Some seen) → seen ≡ is_some (get is_same_name old name) → TellsOf (found_names (take (i + 1) found)) new
-told_more old new found i it name seen l e named told puts is =
-    subst (λ names. TellsOf names new) (ap (λ last. found_names (take i found) ++ last ∷ []) (sym named) ∙ sym (names_push found i it l e)) (table_named old new (found_names (take i found)) name seen told puts is)
-
--- and where it has none
-pub told_same : {S : Type 0} (table : IndexMap ExtensionName Bool S) (found : List Findings) (i : ℕ) (it : Findings) → i < length found → it ≡ get_or found i it → it.name ≡ None → TellsOf (found_names (take i found)) table → TellsOf (found_names (take (i + 1) found)) table
-told_same table found i it l e none told =
-    subst (λ names. TellsOf names table) (ap (λ last. found_names (take i found) ++ last ∷ []) (sym none) ∙ sym (names_push found i it l e)) (table_unnamed table (found_names (take i found)) told)
-
--- what is said of a name
-said_is : (count : ℕ) (several : Bool) → Some several ≡ said_of count → several ≡ nat_le 2 count
-said_is zero several p = cc
-said_is (suc zero) several p = cc
-said_is (suc (suc count)) several p = let is : several ≡ true = cc in is ∙ sym (is_two (suc (suc count)) (omega arith))
-
--- or that nothing is
-none_is : (count : ℕ) → None ≡ said_of count → nat_le 2 count ≡ false
-none_is zero p = refl
-none_is (suc zero) p = cc
-none_is (suc (suc count)) p = cc
-
--- so a name is repeated where the table says so
-pub told_repeated : {S : Type 0} (table : IndexMap ExtensionName Bool S) (names : List (Option ExtensionName)) (name : ExtensionName) (several : Bool) → TellsOf names table → Some several ≡ get is_same_name table name → several ≡ is_repeated names (Some name)
-unfolding is_repeated
-told_repeated table names name several told found = said_is (called_count name names) several (found ∙ told name)
-
--- and isn't where it says nothing
-pub told_nothing : {S : Type 0} (table : IndexMap ExtensionName Bool S) (names : List (Option ExtensionName)) (name : ExtensionName) → TellsOf names table → None ≡ get is_same_name table name → false ≡ is_repeated names (Some name)
-unfolding is_repeated
-told_nothing table names name told none = sym (none_is (called_count name names) (none ∙ told name))
-
--- an HDU that isn't called anything isn't called as another is
-pub none_repeated : (names : List (Option ExtensionName)) → false ≡ is_repeated names None
-unfolding is_repeated
-none_repeated names = refl
-
--- a name is repeated where two have it
-pub count_repeated : (names : List (Option ExtensionName)) (name : ExtensionName) (count : ℕ) → count ≡ called_count name names → nat_le 2 count ≡ is_repeated names (Some name)
-unfolding is_repeated
-count_repeated names name count is = ap (nat_le 2) is
-
--- what HDUs are called, and more
-names_from-append : (h : ℕ) (us vs : List HduParts) → names_from h (us ++ vs) ≡ names_from h us ++ names_from (h + length us) vs
-names_from-append h [] vs = ap (λ n. names_from n vs) (omega arith)
-names_from-append h (u ∷ us) vs =
-    let number : h + 1 + length us ≡ h + length (u ∷ us) = omega arith in
-    ap (λ names. name_in h u ∷ names) (names_from-append (h + 1) us vs ∙ ap (λ n. names_from (h + 1) us ++ names_from n vs) number)
+-- no more are called so than there are
+pub count_within : (name : ExtensionName) (names : List (Option ExtensionName)) → called_count name names ≤ length names
+count_within name [] = omega arith
+count_within name (first ∷ names) =
+    elim (first_or name first) [
+      | inl is ↦ omega (arith, count_within name names, count_called name first names is)
+      | inr not ↦ omega (arith, count_within name names, count_other name first names not)
+    ]
 
 -- what an HDU under edits is called
 pub named_there : (hdus : List HduState) (tail : List ℕ) (i : ℕ) (hdu : HduState) → IsFile (file_of (state_of hdus tail)) → i < length hdus → hdu ≡ get_or hdus i hdu → shape_of (is_primary hdu.header.shape.class) hdu.header.header.cards ≡ Ok hdu.header.shape
@@ -347,47 +261,20 @@ named_there hdus tail i hdu file l e described =
     let there = whole_there hdus tail (i + 1) i hdu file (record { index = record { at = refl; within = l }; is = e }) in
     ap (λ b. extension_name b hdu.header.header.cards) (one_primary (is_primary hdu.header.shape.class) (is_primary_hdu (i + 1)) hdu.header.header.cards hdu.header.shape there.shape described there.described)
 
--- what one more of them is called
-named_more : (hdus : List HduState) (i : ℕ) (hdu : HduState) → i < length hdus → hdu ≡ get_or hdus i hdu → names_from 1 (take (i + 1) (hdus_of hdus)) ≡ names_from 1 (take i (hdus_of hdus)) ++ name_in (i + 1) (parts_of hdu) ∷ []
-named_more hdus i hdu l e =
-    let us : List HduParts = hdus_of hdus in
-    let number : 1 + length (take i us) ≡ i + 1 = omega (arith, length-take-le i us (omega (arith, l, length-hdus_of hdus))) in
-    ap (names_from 1) (hdus_more hdus i hdu l e) ∙ names_from-append 1 (take i us) ((parts_of hdu) ∷ []) ∙ ap (λ n. names_from 1 (take i us) ++ name_in n (parts_of hdu) ∷ []) number
+-- what HDUs from number h on are called, each by its own class
+names_numbered : (h : ℕ) (hdus : List HduState) → ((i : ℕ) (hdu : HduState) → i < length hdus → hdu ≡ get_or hdus i hdu → name_of hdu ≡ name_in (h + i) (parts_of hdu)) → names_of hdus ≡ names_from h (hdus_of hdus)
+names_numbered h [] each = refl
+names_numbered h (hdu ∷ hdus) each =
+    let number : h + 0 ≡ h = omega arith in
+    let first : name_of hdu ≡ name_in h (parts_of hdu) = each 0 hdu (omega arith) refl ∙ ap (λ n. name_in n (parts_of hdu)) number in
+    let rest : names_of hdus ≡ names_from (h + 1) (hdus_of hdus) = names_numbered (h + 1) hdus (λ i one within there.
+        let next : h + suc i ≡ h + 1 + i = omega arith in
+        each (suc i) one (omega (arith, within)) there ∙ ap (λ n. name_in n (parts_of one)) next) in
+    λ j. first j ∷ rest j
 
--- how many are called so, with one HDU more that is
-pub counted_more : (hdus : List HduState) (tail : List ℕ) (i count : ℕ) (hdu : HduState) (name other : ExtensionName) → IsFile (file_of (state_of hdus tail)) → i < length hdus → hdu ≡ get_or hdus i hdu → shape_of (is_primary hdu.header.shape.class) hdu.header.header.cards ≡ Ok hdu.header.shape
-    → Some other ≡ extension_name (is_primary hdu.header.shape.class) hdu.header.header.cards → is_same_name name other ≡ true → count ≡ called_count name (names_from 1 (take i (hdus_of hdus))) → count + 1 ≡ called_count name (names_from 1 (take (i + 1) (hdus_of hdus)))
-counted_more hdus tail i count hdu name other file l e described named same so_far =
-    let is : is_called name (name_in (i + 1) (parts_of hdu)) ≡ true = ap (is_called name) (sym (named ∙ named_there hdus tail i hdu file l e described)) ∙ same in
-    omega (arith, so_far, count_pushed name (names_from 1 (take i (hdus_of hdus))) (name_in (i + 1) (parts_of hdu)) is, ap (called_count name) (named_more hdus i hdu l e))
-
--- that isn't
-pub counted_other : (hdus : List HduState) (tail : List ℕ) (i count : ℕ) (hdu : HduState) (name : ExtensionName) (said : Option ExtensionName) → IsFile (file_of (state_of hdus tail)) → i < length hdus → hdu ≡ get_or hdus i hdu → shape_of (is_primary hdu.header.shape.class) hdu.header.header.cards ≡ Ok hdu.header.shape
-    → said ≡ extension_name (is_primary hdu.header.shape.class) hdu.header.header.cards → is_called name said ≡ false → count ≡ called_count name (names_from 1 (take i (hdus_of hdus))) → count ≡ called_count name (names_from 1 (take (i + 1) (hdus_of hdus)))
-counted_other hdus tail i count hdu name said file l e described named not so_far =
-    let is : is_called name (name_in (i + 1) (parts_of hdu)) ≡ false = ap (is_called name) (sym (named ∙ named_there hdus tail i hdu file l e described)) ∙ not in
-    so_far ∙ sym (count_kept name (names_from 1 (take i (hdus_of hdus))) (name_in (i + 1) (parts_of hdu)) is) ∙ sym (ap (called_count name) (named_more hdus i hdu l e))
-
--- one HDU stands at an index
-one_there : (hdus : List HduState) (i : ℕ) (hdu seen : HduState) → i < length hdus → hdu ≡ get_or hdus i hdu → seen ≡ get_or hdus i seen → seen ≡ hdu
-one_there hdus i hdu seen l e f =
-    let both : Option.Some seen ≡ Some hdu = sym (slice_get_read hdus (length hdus) i seen refl l f) ∙ slice_get_read hdus (length hdus) i hdu refl l e in
-    cc
-
--- what it is called
-called_there : (hdus : List HduState) (tail : List ℕ) (i : ℕ) (hdu seen : HduState) (said : Option ExtensionName) → IsFile (file_of (state_of hdus tail)) → i < length hdus → hdu ≡ get_or hdus i hdu → seen ≡ get_or hdus i seen → shape_of (is_primary seen.header.shape.class) seen.header.header.cards ≡ Ok seen.header.shape
-    → said ≡ extension_name (is_primary seen.header.shape.class) seen.header.header.cards → said ≡ name_in (i + 1) (parts_of hdu)
-called_there hdus tail i hdu seen said file l e f described named =
-    named ∙ named_there hdus tail i seen file l f described ∙ ap (λ (it : HduState). name_in (i + 1) (parts_of it)) (one_there hdus i hdu seen l e f)
-
--- its name is repeated where two have it
-pub repeated_there : (hdus : List HduState) (tail : List ℕ) (i : ℕ) (hdu seen : HduState) (name : ExtensionName) (count : ℕ) → IsFile (file_of (state_of hdus tail)) → i < length hdus → hdu ≡ get_or hdus i hdu → seen ≡ get_or hdus i seen → shape_of (is_primary seen.header.shape.class) seen.header.header.cards ≡ Ok seen.header.shape
-    → Some name ≡ extension_name (is_primary seen.header.shape.class) seen.header.header.cards → count ≡ called_count name (names_from 1 (hdus_of hdus)) → nat_le 2 count ≡ is_repeated (names_from 1 (hdus_of hdus)) (name_in (i + 1) (parts_of hdu))
-repeated_there hdus tail i hdu seen name count file l e f described named is =
-    count_repeated (names_from 1 (hdus_of hdus)) name count is ∙ ap (is_repeated (names_from 1 (hdus_of hdus))) (called_there hdus tail i hdu seen (Some name) file l e f described named)
-
--- and isn't where it has none
-pub unrepeated_there : (hdus : List HduState) (tail : List ℕ) (i : ℕ) (hdu seen : HduState) → IsFile (file_of (state_of hdus tail)) → i < length hdus → hdu ≡ get_or hdus i hdu → seen ≡ get_or hdus i seen → shape_of (is_primary seen.header.shape.class) seen.header.header.cards ≡ Ok seen.header.shape
-    → None ≡ extension_name (is_primary seen.header.shape.class) seen.header.header.cards → false ≡ is_repeated (names_from 1 (hdus_of hdus)) (name_in (i + 1) (parts_of hdu))
-unrepeated_there hdus tail i hdu seen file l e f described named =
-    none_repeated (names_from 1 (hdus_of hdus)) ∙ ap (is_repeated (names_from 1 (hdus_of hdus))) (called_there hdus tail i hdu seen None file l e f described named)
+-- so those of a file are called as their numbers say
+pub names_are : (hdus : List HduState) (tail : List ℕ) → IsFile (file_of (state_of hdus tail)) → All IsDescribed hdus → names_of hdus ≡ names_from 1 (hdus_of hdus)
+names_are hdus tail file described =
+    names_numbered 1 hdus (λ i hdu within there.
+    let number : i + 1 ≡ 1 + i = omega arith in
+    named_there hdus tail i hdu file within there (subst IsDescribed (sym there) (described i hdu within)) ∙ ap (λ n. name_in n (parts_of hdu)) number)

@@ -1,5 +1,5 @@
 -- Edits of pixels: what they make of an HDU, and owe.
-use Rattle.std.proofs.Common.{◌≡◌, inl, ℕ, ◌≤◌, Bool, true, List, length, refl, ap, sym, ◌∙◌, arith}
+use Rattle.std.proofs.Common.{◌≡◌, inl, ℕ, ◌≤◌, Bool, true, List, length, refl, ap, sym, subst, ◌∙◌, arith}
 use Rattle.std.specs.Prelude.{Result, Ok, Err}
 use Rattle.std.proofs.lemmas.List.{length-append}
 use Rattle.fits_card.specs.Header.{Header, header_bytes}
@@ -10,6 +10,7 @@ use Rattle.fits_rules.specs.Shape.{shape_of}
 use Rattle.fits_rules.specs.declared.array_shape.Shape.{Shape}
 use Rattle.fits_hdu.specs.Hdu.{HduParts, hdu_bytes, IsHdu}
 use Rattle.fits_hdu.specs.Layout.{layout_of}
+use Rattle.fits_header.specs.State.{HeaderState}
 use Rattle.fits_hdu.specs.State.{HduState, parts_of}
 use Rattle.fits_hdu.specs.Work.{IsPatched, PixelWork, plane_work}
 use Rattle.fits_hdu.specs.declared.pixel_fault.PixelFault.{PixelFault}
@@ -21,7 +22,7 @@ use Rattle.fits_session.specs.Refusal.{limit_refusal, HduNeedsMemory}
 use Rattle.fits_session.specs.Session.{length_with, within_refusal, HduEditsTo, HduWork, PatchesIn}
 use Rattle.fits_session.specs.declared.hdu_edit.HduEdit.TheVariants.{Pixels}
 use Rattle.fits_session.specs.declared.paint.Paint.{Paint}
-use Rattle.fits_session.proofs.MakingLemmas.{makes_not}
+use Rattle.fits_session.proofs.MakingLemmas.{Lasts, makes_not}
 
 -- an HDU with a rectangle painted has as many bytes
 pub pixels_long : (hdu new : HduParts) → new.header ≡ hdu.header → length new.data_unit ≡ length hdu.data_unit → length (hdu_bytes new) ≡ length (hdu_bytes hdu)
@@ -55,16 +56,18 @@ paints_not lo hi paint bytes hdus old new why whole described is same =
     let reads : new.header.reads ≡ old.header.reads = ap (λ (state : HduState). state.header.reads) same in
     makes_not (hdu_painted primary lo hi paint (parts_of old)) (HduNeedsMemory (Pixels lo hi paint)) 0 (HduWork primary (Pixels lo hi paint) (parts_of old)) bytes hdus old new (refusal_of_pixels why) whole (ap parts_of same) (omega (arith, reads)) (omega (arith, reads))
     (ap (λ (state : HduState). plane_work state.plane) same)
+    (subst (λ (state : HduState). Lasts old state) (sym same) (described, refl))
     (patches_none (shape_of primary old.header.header.cards) lo hi (parts_of old) (plane_work old.plane))
     (inl (ap (within_refusal bytes hdus (parts_of old)) (made_by primary old.header.shape (parts_of old) lo hi paint (Err why) described is)))
 
 -- one that is made owes this
 pub paints : (lo hi : List ℕ) (paint : Paint) (bytes hdus : ℕ) (old new : HduState) → IsHdu (is_primary old.header.shape.class) (parts_of old) → shape_of (is_primary old.header.shape.class) old.header.header.cards ≡ Ok old.header.shape → length (hdu_bytes (parts_of old)) ≤ bytes → is_within_limits bytes hdus ≡ true
-    → painted old.header.shape lo hi (plane_paint paint) (parts_of old) ≡ Ok (parts_of new) → new.header.reads ≡ old.header.reads → IsPatched (rectangle_blocks (layout_of old.header.shape old.header.header.cards) old.plane.bytes old.header.shape.axes lo hi) (block_count old.plane.bytes) (plane_work old.plane) (plane_work new.plane)
+    → painted old.header.shape lo hi (plane_paint paint) (parts_of old) ≡ Ok (parts_of new) → new.header ≡ old.header → new.entry ≡ old.entry → IsPatched (rectangle_blocks (layout_of old.header.shape old.header.header.cards) old.plane.bytes old.header.shape.axes lo hi) (block_count old.plane.bytes) (plane_work old.plane) (plane_work new.plane)
     → HduEditsTo (Pixels lo hi paint) bytes hdus old new (Ok bytes)
 unfolding hdu_made
-paints lo hi paint bytes hdus old new whole described part within is reads patched =
+paints lo hi paint bytes hdus old new whole described part within is same entry patched =
     let primary : Bool = is_primary old.header.shape.class in
+    let reads : new.header.reads ≡ old.header.reads = ap (λ (header : HeaderState). header.reads) same in
     let change = painted_hdu primary old.header.shape (parts_of old) lo hi (plane_paint paint) (parts_of new) whole described is in
     let made : hdu_painted primary lo hi paint (parts_of old) ≡ Ok (parts_of new) = made_by primary old.header.shape (parts_of old) lo hi paint (Ok (parts_of new)) described is in
     let long : bytes ≡ length_with bytes (parts_of old) (parts_of new) = omega (arith, part, pixels_long (parts_of old) (parts_of new) change.1 change.2) in
@@ -80,4 +83,18 @@ paints lo hi paint bytes hdus old new whole described part within is reads patch
       most = omega (arith, reads);
       work = patches_by (shape_of primary old.header.header.cards) old.header.shape lo hi (parts_of old) (plane_work old.plane) (plane_work new.plane) described patched;
       idle = tt;
+      described = rw same described;
+      entry = entry;
     }
+
+-- what pixels are made is what was made of them
+made_of : (said : Result HduParts PixelFault) (made : HduParts) → pixels_made said ≡ Ok made → said ≡ Ok made
+made_of (Ok it) made p = let same : it ≡ made = cc in ap (λ (hdu : HduParts). let made : Result HduParts PixelFault = Ok hdu in made) same
+made_of (Err why) made p = cc
+
+-- so an edit of pixels keeps the header
+pub pixels_keep : (primary : Bool) (shape : Shape) (hdu made : HduParts) (lo hi : List ℕ) (paint : Paint) → IsHdu primary hdu → shape_of primary hdu.header.cards ≡ Ok shape → hdu_made primary (Pixels lo hi paint) hdu ≡ Ok made → made.header ≡ hdu.header
+unfolding hdu_made
+pixels_keep primary shape hdu made lo hi paint whole described is =
+    let painted_is : painted shape lo hi (plane_paint paint) hdu ≡ Ok made = made_of _ made (sym (made_by primary shape hdu lo hi paint (painted shape lo hi (plane_paint paint) hdu) described refl) ∙ is) in
+    (painted_hdu primary shape hdu lo hi (plane_paint paint) made whole described painted_is).1

@@ -165,19 +165,8 @@ codes_more h start report new codes i d before is l =
     ∙ ap (λ t. start ++ t) (sym (ap (λ t. map (in_hdu h) (found_at 0 t)) (take_more codes i d l)
     ∙ (ap (map (in_hdu h)) (map-append at_0 (take i codes) (code ∷ [])) ∙ map-append (in_hdu h) (found_at 0 (take i codes)) (found_at 0 (code ∷ [])))))
 
--- what is found of one more of the HDUs under edits
-pub each_found : (hdus old : List HduState) (i : ℕ) (hdu : HduState) (found new : List Findings) (it : Findings) → hdus ≡ old → i < length hdus → hdu ≡ get_or hdus i hdu → KeepsEach is_found found (take i (hdus_of old)) → is_found it (parts_of hdu)
-    → new ≡ found ++ it ∷ [] → KeepsEach is_found new (take (i + 1) (hdus_of old))
-each_found hdus old i hdu found new it same l e each here is =
-    let more : take (i + 1) (hdus_of old) ≡ take i (hdus_of old) ++ (parts_of hdu) ∷ [] = subst (λ (us : List HduState). take (i + 1) (hdus_of us) ≡ take i (hdus_of us) ++ (parts_of hdu) ∷ []) same (hdus_more hdus i hdu l e) in
-    rw (is, more) (each_push is_found found (take i (hdus_of old)) it (parts_of hdu) each here)
-
 -- HDUs stay where the one written stays
 pub hdus_stay : (hdus old : List HduState) (i : ℕ) (hdu new : HduState) → hdus ≡ old → i < length hdus → hdu ≡ get_or hdus i hdu → new ≡ hdu → set hdus i new ≡ old
 hdus_stay hdus old i hdu new same l e stays = ap (set hdus i) (stays ∙ e) ∙ set-get_or hdus i hdu ∙ same
-
--- of all of them
-pub all_found : (hdus : List HduState) (i : ℕ) (found : List Findings) → length hdus ≤ i → KeepsEach is_found found (take i (hdus_of hdus)) → KeepsEach is_found found (hdus_of hdus)
-all_found hdus i found l each = subst (λ (us : List HduParts). KeepsEach is_found found us) (take_all i (hdus_of hdus) (omega (arith, length-hdus_of hdus))) each
 
 pub ruleset trailing_steps = (trailing_no, trailing_yes)

@@ -10,8 +10,9 @@ use Rattle.fits_hdu.specs.State.{HduState, ReadsUpTo, parts_of}
 use Rattle.fits_hdu.specs.Work.{PixelWork, plane_work}
 use Rattle.fits_hdu.proofs.StateLemmas.{parts_read}
 use Rattle.fits_session.specs.File.{joined_hdus, IsFile}
-use Rattle.fits_session.specs.Session.{hdus_of, reads_of, works_of, file_of, state_of, once_read, each_read, ReadsOnceAtMost}
-use Rattle.fits_session.proofs.StateLemmas.{get_or-hdus_of, hdus_of-same, length-hdus_of, works_of-same}
+use Rattle.fits_session.specs.Session.{hdus_of, reads_of, works_of, once_read, each_read, uncounted, without_counts, ReadsOnceAtMost}
+use Rattle.fits_session.proofs.KeptLemmas.{uncounted_read}
+use Rattle.fits_session.proofs.StateLemmas.{get_or-hdus_of, hdus_of-same, length-hdus_of, parts_same, works_of-same}
 
 -- HDU i of those that are there
 hdu_here : (hdus : List HduState) (us : List HduParts) (i : ℕ) (hdu : HduState) → hdus_of hdus ≡ us → i < length hdus → hdu ≡ get_or hdus i hdu → get_or us i (parts_of hdu) ≡ parts_of hdu
@@ -62,15 +63,15 @@ pub first_read_none : (before : List HduState) → before ≡ first_read 0 befor
 first_read_none before = refl
 
 -- two states of the same parts are one
-state_is : (a b : HduState) → a.header.header ≡ b.header.header → a.header.shape ≡ b.header.shape → a.header.reads ≡ b.header.reads → a.header.room ≡ b.header.room → a.plane ≡ b.plane → a ≡ b
-state_is a b p q r s t =
+state_is : (a b : HduState) → a.header.header ≡ b.header.header → a.header.shape ≡ b.header.shape → a.header.reads ≡ b.header.reads → a.header.room ≡ b.header.room → a.plane ≡ b.plane → a.entry ≡ b.entry → a ≡ b
+state_is a b p q r s t u =
     let header : HeaderState = record { header = a.header.header; shape = a.header.shape; reads = a.header.reads; room = a.header.room } in
-    let same : (let state : HduState = record { header = header; plane = a.plane } in state) ≡ b = rw (p, q, r, s, t) refl in
+    let same : (let state : HduState = record { header = header; plane = a.plane; entry = a.entry } in state) ≡ b = rw (p, q, r, s, t, u) refl in
     same
 
 -- an HDU whose cards all were read
 read_as : (one hdu new : HduState) (most : ℕ) → hdu ≡ one → ReadsUpTo hdu new most → new.header.reads ≡ hdu.header.reads + length hdu.header.header.cards → new ≡ once_read one
-read_as one hdu new most e r more = state_is new (once_read hdu) r.header.header r.header.shape more r.header.room r.plane ∙ ap once_read e
+read_as one hdu new most e r more = state_is new (once_read hdu) r.header.header r.header.shape more r.header.room r.plane r.entry ∙ ap once_read e
 
 -- one more HDU was read
 read_next : (before hdus : List HduState) (i : ℕ) (old new : HduState) (most : ℕ) → hdus ≡ first_read i before → i < length hdus → old ≡ get_or hdus i old → ReadsUpTo old new most → new.header.reads ≡ old.header.reads + length old.header.header.cards → set hdus i new ≡ first_read (suc i) before
@@ -110,9 +111,9 @@ read_grows (one ∷ before) zero = omega arith
 read_grows (one ∷ before) (suc j) = read_grows before j
 
 -- nor are the HDUs others
-read_same : (before : List HduState) → hdus_of (each_read before) ≡ hdus_of before
+read_same : (before : List HduState) → without_counts (each_read before) ≡ without_counts before
 read_same [] = refl
-read_same (one ∷ before) = ap (λ (us : List HduParts). parts_of one ∷ us) (read_same before)
+read_same (one ∷ before) = ap (λ (hdus : List HduState). uncounted one ∷ hdus) (read_same before)
 
 -- nor is the work on their data units
 work_same : (before : List HduState) → works_of (each_read before) ≡ works_of before
@@ -165,17 +166,19 @@ first_work zero before = refl
 first_work (suc i) [] = refl
 first_work (suc i) (one ∷ before) = ap (λ (works : List PixelWork). plane_work one.plane ∷ works) (first_work i before)
 
+-- nor are the HDUs others
+first_same : (i : ℕ) (before : List HduState) → without_counts (first_read i before) ≡ without_counts before
+first_same zero before = refl
+first_same (suc i) [] = refl
+first_same (suc i) (one ∷ before) = ap (λ (hdus : List HduState). uncounted one ∷ hdus) (first_same i before)
+
 -- so each card is read once at most, also where a call fails
-pub once_at_most : (before hdus : List HduState) (i : ℕ) (old new : HduState) → hdus ≡ first_read i before → hdus_of hdus ≡ hdus_of before → i < length hdus → old ≡ get_or hdus i old → ReadsUpTo old new (length old.header.header.cards) → ReadsOnceAtMost before (set hdus i new)
-once_at_most before hdus i old new e same l is work = record {
-  hdus = hdus_of-same hdus i old new l is (parts_read old new _ work) ∙ same;
+pub once_at_most : (before hdus : List HduState) (i : ℕ) (old new : HduState) → hdus ≡ first_read i before → i < length hdus → old ≡ get_or hdus i old → ReadsUpTo old new (length old.header.header.cards) → ReadsOnceAtMost before (set hdus i new)
+once_at_most before hdus i old new e l is work = record {
+  hdus = parts_same uncounted hdus i old new l is (uncounted_read old new _ work) ∙ ap without_counts e ∙ first_same i before;
   pixel_work = works_of-same hdus i old new l is (ap plane_work work.plane) ∙ ap works_of e ∙ first_work i before;
   least = λ j. least_read before hdus i old new e l is work.header.least j;
   most = λ j. most_read before hdus i old new e l is work.header.most j;
 }
-
--- a file of HDUs whose bytes stay is whole still
-pub whole_still : (before after : List HduState) (tail : List ℕ) → hdus_of after ≡ hdus_of before → IsFile (file_of (state_of before tail)) → IsFile (file_of (state_of after tail))
-whole_still before after tail same whole = subst (λ (us : List HduParts). IsFile (record { hdus = us; tail = tail })) (sym same) whole
 
 pub ruleset save_steps = (Prints-no_hdus, Prints-more, Prints-hdus, PrintsFront-hdu, PrintsFront-longer, PrintsFront-more, first_read_none)

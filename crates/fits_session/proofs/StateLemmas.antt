@@ -35,7 +35,7 @@ parts_changed part change (hdu ∷ hdus) zero old new l e p = ap (λ x. x ∷ ma
 parts_changed part change (hdu ∷ hdus) (suc i) old new l e p = ap (λ xs. part hdu ∷ xs) (parts_changed part change hdus i old new (omega arith) e p)
 
 -- the same where the part stays
-parts_same : {X : Type 0} (part : HduState → X) (hdus : List HduState) (i : ℕ) (old new : HduState) → i < length hdus → old ≡ get_or hdus i old → part new ≡ part old → map part (set hdus i new) ≡ map part hdus
+pub parts_same : {X : Type 0} (part : HduState → X) (hdus : List HduState) (i : ℕ) (old new : HduState) → i < length hdus → old ≡ get_or hdus i old → part new ≡ part old → map part (set hdus i new) ≡ map part hdus
 parts_same part [] i old new l e p = absurd (omega arith)
 parts_same part (hdu ∷ hdus) zero old new l e p = ap (λ x. x ∷ map part hdus) (p ∙ ap (λ (state : HduState). part state) e)
 parts_same part (hdu ∷ hdus) (suc i) old new l e p = ap (λ xs. part hdu ∷ xs) (parts_same part hdus i old new (omega arith) e p)
@@ -128,6 +128,25 @@ changed-none (suc h) (x ∷ xs) = ap (λ ns. x ∷ ns) (changed-none h xs)
 pub reads_none : (h most : ℕ) (reads : List ℕ) → ReadsOnly h most reads reads
 reads_none zero most reads = record { count = 0; few = omega arith; is = refl }
 reads_none (suc h) most reads = record { count = 0; few = omega arith; is = sym (changed-none h reads) }
+
+-- more may be read
+pub reads_up_to : (h few most : ℕ) (before after : List ℕ) → few ≤ most → ReadsOnly h few before after → ReadsOnly h most before after
+reads_up_to h few most before after le read = record { count = read.count; few = omega (arith, read.few, le); is = read.is }
+
+-- one count and then another come to both
+changed-twice : (i a b : ℕ) (xs : List ℕ) → changed_at i (λ n. n + b) (changed_at i (λ n. n + a) xs) ≡ changed_at i (λ n. n + (a + b)) xs
+changed-twice i a b [] = refl
+changed-twice zero a b (x ∷ xs) = ap (λ n. n ∷ xs) (omega arith)
+changed-twice (suc i) a b (x ∷ xs) = ap (λ ns. x ∷ ns) (changed-twice i a b xs)
+
+-- of an HDU whose cards were read twice
+pub reads_twice : (h a b : ℕ) (before between after : List ℕ) → ReadsOnly h a before between → ReadsOnly h b between after → ReadsOnly h (a + b) before after
+reads_twice zero a b before between after p q = record { count = 0; few = omega arith; is = q.is ∙ p.is }
+reads_twice (suc i) a b before between after p q = record {
+  count = p.count + q.count;
+  few = omega (arith, p.few, q.few);
+  is = q.is ∙ ap (changed_at i (λ n. n + q.count)) p.is ∙ changed-twice i p.count q.count before;
+}
 
 -- cards of HDU h alone were read
 pub reads_more : (hdus : List HduState) (h i most : ℕ) (old new : HduState) → IsHduAt hdus h i old → old.header.reads ≤ new.header.reads → new.header.reads ≤ old.header.reads + most → ReadsOnly h most (reads_of hdus) (reads_of (set hdus i new))

@@ -321,14 +321,14 @@ each_is (hdu ∷ hdus) [] p = absurd p
 each_is (hdu ∷ hdus) (u ∷ us) p = rw (p.0.parts, each_is hdus us p.1) refl
 
 -- and were opened
-each_opened : (hdus : List HduState) (us : List HduParts) → KeepsEach IsKeptWhole hdus us → All IsOpened hdus
-each_opened [] [] p = All-nil IsOpened
+each_opened : (hdus : List HduState) (us : List HduParts) → KeepsEach IsKeptWhole hdus us → All (IsOpened 0) hdus
+each_opened [] [] p = All-nil (IsOpened 0)
 each_opened [] (u ∷ us) p = absurd p
 each_opened (hdu ∷ hdus) [] p = absurd p
-each_opened (hdu ∷ hdus) (u ∷ us) p = All-cons IsOpened hdu hdus p.0.opened (each_opened hdus us p.1)
+each_opened (hdu ∷ hdus) (u ∷ us) p = All-cons (IsOpened 0) hdu hdus p.0.opened (each_opened hdus us p.1)
 
 -- so a walk that keeps them whole opens them
-pub walked_opened : (hdus : List HduState) (a b : Supply) → Walked IsKeptWhole hdus a b → All IsOpened hdus
+pub walked_opened : (hdus : List HduState) (a b : Supply) → Walked IsKeptWhole hdus a b → All (IsOpened 0) hdus
 walked_opened hdus a b p = each_opened hdus p.hdus p.each
 
 -- they and the tail were taken

@@ -55,3 +55,8 @@ pub record NoneFalls (before after : List HduState) : Type 0 where
 pub record OthersStay (h : ℕ) (before after : List HduState) : Type 0 where
   pub cards : (i : ℕ) → (h ≡ i + 1 → ⊥) → slice_get (reads_of after) i ≡ slice_get (reads_of before) i
   pub pixels : (i : ℕ) → (h ≡ i + 1 → ⊥) → slice_get (works_of after) i ≡ slice_get (works_of before) i
+
+-- what was counted of the HDU at one index is what is counted of that at another
+pub record SameCounts (was is : ℕ) (before after : List HduState) : Type 0 where
+  pub cards : slice_get (reads_of after) is ≡ slice_get (reads_of before) was
+  pub pixels : slice_get (works_of after) is ≡ slice_get (works_of before) was

@@ -1,5 +1,5 @@
 -- What a session is to its callers, and what its calls owe.
-use Rattle.std.specs.Prelude.{◌≡◌, ◌⊎◌, ℕ, Bool, ◌+◌, ◌-◌, ◌<◌, ◌≤◌, List, Option, length, get_or, map, Result, Ok, Err, IfOk, IfErr, OnOk, OnErr, None, Some, ℤ}
+use Rattle.std.specs.Prelude.{◌≡◌, ◌⊎◌, ℕ, Bool, ◌+◌, ◌-◌, ◌<◌, ◌≤◌, List, Option, length, get_or, map, All, Result, Ok, Err, IfOk, IfErr, OnOk, OnErr, None, Some, ℤ}
 use Rattle.std.specs.List.{insert, remove, slice_get}
 use Rattle.fits_card.specs.declared.change.Change.{Change}
 use Rattle.fits_rules.specs.Class.{is_primary}
@@ -10,11 +10,13 @@ use Rattle.fits_rules.specs.declared.array_shape.Shape.{Shape}
 use Rattle.fits_hdu.specs.Hdu.{HduParts, hdu_bytes, IsHdu}
 use Rattle.fits_header.specs.Work.{shape_reads}
 use Rattle.fits_hdu.specs.Layout.{layout_of}
-use Rattle.fits_hdu.specs.State.{HduState, parts_of}
+use Rattle.fits_hdu.specs.State.{HduState, parts_of, IsDescribed}
+use Rattle.fits_hdu.specs.declared.extension_name.ExtensionName.{ExtensionName}
 use Rattle.fits_hdu.specs.Work.{apply_reads, open_reads, plane_work, FollowsBlank, IsMade, IsPatched, PixelWork}
 use Rattle.fits_session.specs.Edit.{changed_of, file_after, hdu_of, is_primary_hdu, made_or}
-use Rattle.fits_session.specs.File.{FileParts}
+use Rattle.fits_session.specs.File.{file_bytes, FileParts, IsFile}
 use Rattle.fits_session.specs.HduEdit.{hdu_changed, hdu_made}
+use Rattle.fits_session.specs.NameTable.{Stands}
 use Rattle.fits_session.specs.Refusal.{limit_refusal, refusal_of, ChangeNeedsMemory, EditNeedsMemory, Fails, HduNeedsMemory}
 use Rattle.fits_session.specs.Work.{edit_reads, hdu_reads}
 use Rattle.fits_session.specs.declared.edit.Edit.{Edit}
@@ -39,6 +41,22 @@ reads_of hdus = map (λ (one : HduState). one.header.reads) hdus
 -- the work on the data unit of each
 abbrev pub works_of : List HduState → List PixelWork
 works_of hdus = map (λ (one : HduState). plane_work one.plane) hdus
+
+-- an HDU but for its entry in the table of names
+abbrev pub unentered : HduState → HduState
+unentered one = record one { entry = None }
+
+-- the same of each
+abbrev pub without_entries : List HduState → List HduState
+without_entries hdus = map unentered hdus
+
+-- an HDU but for what was counted of it
+abbrev pub uncounted : HduState → HduState
+uncounted one = record one { header = record one.header { reads = 0 }; plane = record one.plane { scans = 0; reads = 0; joins = 0 } }
+
+-- the same of each
+abbrev pub without_counts : List HduState → List HduState
+without_counts hdus = map uncounted hdus
 
 -- the file that a session is
 abbrev pub file_of : SessionState → FileParts
@@ -95,9 +113,9 @@ once_read one = record one { header = record one.header { reads = one.header.rea
 abbrev pub each_read : List HduState → List HduState
 each_read hdus = map once_read hdus
 
--- the HDUs stay, no count falls, no card was read more than once, and no data unit was worked on
+-- the HDUs stay but for counts, of which none falls; no card was read more than once, and no data unit was worked on
 pub record ReadsOnceAtMost (before after : List HduState) : Type 0 where
-  pub hdus : hdus_of after ≡ hdus_of before
+  pub hdus : without_counts after ≡ without_counts before
   pub pixel_work : works_of after ≡ works_of before
   pub least : (i : ℕ) → get_or (reads_of before) i 0 ≤ get_or (reads_of after) i 0
   pub most : (i : ℕ) → get_or (reads_of after) i 0 ≤ get_or (reads_of (each_read before)) i 0
@@ -114,11 +132,11 @@ pub record PutsIn (h : ℕ) (before after : List HduState) : Type 0 where
   pub reads : one.header.reads ≤ open_reads one.header.header.cards
   pub made : IsMade (block_count one.plane.bytes) (plane_work one.plane)
 
--- the work of an edit: on its HDU, or none but that of an HDU that is put in; the counts go with their HDUs
+-- the work of an edit: on its HDU, or none but that of an HDU that is put in; the counts go with their HDUs, whose entries may move
 abbrev pub WorksAs : Edit → SessionState → SessionState → Type 0
 WorksAs (Hdu h edit) old new = HduWorks h edit old new
 WorksAs (NewImage at kind axes) old new = (new ≡ old) ⊎ PutsIn at old.hdus new.hdus
-WorksAs (RemoveHdu h) old new = (new ≡ old) ⊎ (new.hdus ≡ remove old.hdus (h - 1))
+WorksAs (RemoveHdu h) old new = (new ≡ old) ⊎ (without_entries new.hdus ≡ remove (without_entries old.hdus) (h - 1))
 
 -- an edit owes: it is made where none of its tests fails, and then the file is the one after it; else the file is as
 -- before, and the refusal is the first test's that fails, or memory's. Cards of the HDU that it names alone are read, and a refused edit
@@ -147,6 +165,22 @@ pub record AsksPixels (h count : ℕ) (old new : SessionState) : Type 0 where
   pub work : reads_of new.hdus ≡ reads_of old.hdus
   pub pixel_work : works_of new.hdus ≡ changed_of h (read_more count) (works_of old.hdus)
 
+-- the HDUs and the tail are those of a file of so many bytes; the cards of each describe the shape that is kept; a table of names
+-- stands for them, and has room for a name of each and one more
+pub record IsKept (hdus : List HduState) (tail : List ℕ) (bytes : ℕ) (entries : List (ExtensionName × ℕ)) (capacity : ℕ) : Type 0 where
+  pub whole : IsFile (file_of (state_of hdus tail))
+  pub len : bytes ≡ length (file_bytes (file_of (state_of hdus tail)))
+  pub described : All IsDescribed hdus
+  pub names : Stands hdus entries
+  pub room : length hdus < capacity
+
+-- HDUs are those of a file; the cards of each describe the shape that is kept, and a table of names stands for them
+pub record AreNamed (hdus : List HduState) (entries : List (ExtensionName × ℕ)) : Type 0 where
+  pub tail : List ℕ
+  pub whole : IsFile (file_of (state_of hdus tail))
+  pub described : All IsDescribed hdus
+  pub names : Stands hdus entries
+
 -- HDU h of so many stands at index i, from 0
 pub record IsIndexOf (count h i : ℕ) : Type 0 where
   pub at : h ≡ i + 1
@@ -166,7 +200,8 @@ within_refusal bytes hdus hdu (Err why) = Some why
 within_refusal bytes hdus hdu (Ok made) = limit_refusal (length_with bytes hdu made) hdus
 
 -- what is made of an HDU owes, in a file of so many bytes and HDUs: it is made where no test fails, and the answer is how many bytes the
--- file has then; else the HDU is as before, and the refusal is the first test's that fails, or memory's; a refused one works on no block
+-- file has then; else the HDU is as before, and the refusal is the first test's that fails, or memory's; a refused one works on no block;
+-- its cards describe the shape that is kept, and its entry stays
 pub record HduMakes (made : Result HduParts Refusal) (NeedsMemory : Option Refusal → Type 0) (reads : ℕ) (Works : PixelWork → PixelWork → Type 0) (bytes hdus : ℕ) (old new : HduState) (result : Result ℕ Refusal) : Type 0 where
   pub whole : IsHdu (is_primary old.header.shape.class) (parts_of old)
   pub left : IsHdu (is_primary old.header.shape.class) (parts_of new)
@@ -179,6 +214,8 @@ pub record HduMakes (made : Result HduParts Refusal) (NeedsMemory : Option Refus
   pub most : new.header.reads ≤ old.header.reads + reads
   pub work : Works (plane_work old.plane) (plane_work new.plane)
   pub idle : OnErr result (plane_work new.plane ≡ plane_work old.plane)
+  pub described : IsDescribed new
+  pub entry : new.entry ≡ old.entry
 
 -- an edit of an HDU owes this
 abbrev pub HduEditsTo : HduEdit → (bytes hdus : ℕ) (old new : HduState) → Result ℕ Refusal → Type 0

@@ -1,15 +1,16 @@
 -- How many cards edits and queries read (own).
-use Rattle.std.specs.Prelude.{ℕ, ◌+◌, Bool, List, Option, None, Some, Result, Ok, Err}
+use Rattle.std.specs.Prelude.{ℕ, ◌+◌, Bool, true, false, if◌then◌else◌, List, Option, None, Some, Result, Ok, Err}
 use Rattle.std.specs.Option.{option_map_or}
 use Rattle.fits_card.specs.declared.change.Change.{Change}
 use Rattle.fits_rules.specs.Shape.{shape_of}
 use Rattle.fits_rules.specs.declared.array_shape.Shape.{Shape}
 use Rattle.fits_header.specs.Work.{shape_reads}
 use Rattle.fits_hdu.specs.Hdu.{HduParts}
-use Rattle.fits_hdu.specs.Work.{apply_reads, keyword_reads, stamp_count_reads, stamp_reads}
+use Rattle.fits_hdu.specs.Work.{apply_reads, keyword_reads, name_reads, stamp_count_reads, stamp_reads}
 use Rattle.fits_session.specs.CardEdit.{change_of, set_of, unset_of}
 use Rattle.fits_session.specs.Edit.{hdu_of, is_primary_hdu}
 use Rattle.fits_session.specs.File.{FileParts}
+use Rattle.fits_session.specs.HduEdit.{hdu_made}
 use Rattle.fits_session.specs.declared.card_edit.CardEdit.{CardEdit}
 use Rattle.fits_session.specs.declared.card_edit.CardEdit.TheVariants.{Set, Unset}
 use Rattle.fits_session.specs.declared.hdu_edit.HduEdit.{HduEdit}
@@ -41,9 +42,23 @@ hdu_reads primary (Cards edit) hdu =
 hdu_reads primary (Pixels lo hi paint) hdu = 0
 hdu_reads primary Stamp hdu = stamp_count_reads hdu.header.cards + stamp_reads hdu.header.cards
 
+-- whether an edit may change what an HDU is called: one of pixels can't
+abbrev pub may_rename : HduEdit → Bool
+may_rename (Pixels lo hi paint) = false
+may_rename edit = true
+
+-- how many cards are read after an edit that makes something of an HDU, to know what it is called then
+abbrev pub follow_reads : HduEdit → Result HduParts Refusal → ℕ
+follow_reads edit (Ok made) = if may_rename edit then name_reads else 0
+follow_reads edit (Err why) = 0
+
+-- how many cards an edit of an HDU reads at most in all
+abbrev pub reads_in_all : Bool → HduEdit → HduParts → ℕ
+reads_in_all primary edit hdu = hdu_reads primary edit hdu + follow_reads edit (hdu_made primary edit hdu)
+
 -- how many cards an edit of HDU h reads at most, none where it isn't there
 abbrev pub edit_reads : FileParts → ℕ → HduEdit → ℕ
-edit_reads file h edit = option_map_or (hdu_reads (is_primary_hdu h) edit) (hdu_of file h) 0
+edit_reads file h edit = option_map_or (reads_in_all (is_primary_hdu h) edit) (hdu_of file h) 0
 
 -- how many cards a keyword of an HDU is read by at most, none where the HDU isn't there
 abbrev pub reads_in : Option HduParts → List ℕ → ℕ

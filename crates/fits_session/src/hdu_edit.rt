@@ -19,3 +19,15 @@ pub enum HduEdit {
     /// place, or comes after the last card, and loses its comment.
     Stamp,
 }
+
+impl HduEdit {
+    ghost use Rattle.std.specs.Prelude.{◌≡◌};
+    ghost use Rattle.fits_session.specs.Work.{may_rename};
+
+    // Whether it may change what an HDU is called.
+    pub(crate) fn may_rename(&self) -> bool
+        ensures { result ≡ may_rename self.now }
+    {
+        !matches!(self, HduEdit::Pixels { .. })
+    }
+}

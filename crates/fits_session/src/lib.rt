@@ -7,6 +7,7 @@ mod edit;
 mod hdu_edit;
 mod laws;
 mod limits;
+mod name_counts;
 mod name_table;
 mod offsets;
 mod open_fault;

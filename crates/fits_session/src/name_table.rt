@@ -1,42 +1,140 @@
-//! Which names several extensions of a file have.
-ghost use Rattle.std.specs.Prelude.{◌≡◌, List, Option, IfOk};
-ghost use Rattle.fits_hdu.specs.declared.extension_name.ExtensionName.{ExtensionName};
-ghost use Rattle.fits_session.specs.NameTable.{TellsOf};
-ghost use Rattle.fits_session.specs.Report.{found_names, is_repeated};
+//! The table of what the HDUs of a session are called.
+ghost use Rattle.std.specs.Prelude.{◌≡◌, ◌≤◌};
 
-use fits_hdu::{ExtensionName, Findings};
-use indexmap::IndexMap;
+use crate::name_counts::NameCounts;
+use fits_hdu::ExtensionName;
 use std::alloc::{AllocError, Global};
 
-/// What the extensions of a file are called: each name once, with whether several have it.
+/// Each name that HDUs of a session have, once, with how many have it. An HDU knows the place of
+/// its name; a name is looked for among all only where an HDU comes to another.
+///
+/// Its room is made where HDUs come, so that an edit of cards never asks for memory for a name.
 #[derive(Drop)]
 pub(crate) struct NameTable {
-    several: IndexMap<ExtensionName, bool>,
+    pub(crate) numbers: Vec<(ExtensionName, usize)>,
 }
 
 impl NameTable {
-    /// The table of what was found of the HDUs of a file, in one pass over them.
-    pub(crate) fn of(alloc: Global, found: &[Findings]) -> Result<NameTable, AllocError>
-        ensures { IfOk result (λ table. TellsOf (found_names found.now) table.several) }
+    ghost use Rattle.std.specs.Prelude.{◌≡◌, ◌+◌, ◌-◌, ◌<◌, ◌≤◌, ◌^◌, ℕ, List, length, Option, Some, None, ◌∷◌, IfOk, IfSome, OnOk, IsTrue, IsSome, slice_get, vec_capacity, if◌then◌else◌};
+    ghost use Rattle.std.specs.Map.{keys_of, lookup};
+    ghost use Rattle.fits_hdu.specs.ExtensionName.{is_same_name};
+    ghost use Rattle.fits_hdu.specs.declared.extension_name.ExtensionName.{ExtensionName};
+    ghost use Rattle.fits_session.specs.Report.{is_repeated};
+    ghost use Rattle.fits_session.specs.NameTable.{moved, Enters, IsTableOf, PointsAt, TellsAt, TellsOf, TellsOfFew};
+
+    /// The table with these names, and with room for so many.
+    pub(crate) fn of(
+        alloc: Global,
+        counts: &NameCounts,
+        room: usize,
+    ) -> Result<NameTable, AllocError>
+        ensures names { IfOk result (λ table. table.numbers.items ≡ counts.now.numbers.entries) }
+        ensures room { IfOk result (λ table. room ≤ vec_capacity table.numbers) }
     {
-        let mut several = IndexMap::new(alloc);
-        for it in found {
-            if let Some(name) = it.name {
-                let seen = several.contains_key(&name);
-                several.insert(name, seen)?;
-            }
+        let mut numbers = Vec::with_capacity(alloc, room)?;
+        for place in 0..counts.numbers.len() {
+            let Some((name, number)) = counts.numbers.get_index(place) else {
+                unreachable!()
+            };
+            numbers.push((*name, *number))?;
         }
-        Ok(NameTable { several })
+        Ok(NameTable { numbers })
     }
 
-    /// Whether the HDU that is called so isn't the only one.
-    pub(crate) fn is_repeated(&self, name: &Option<ExtensionName>) -> bool
-        ensures { (names : List (Option ExtensionName)) → TellsOf names self.now.several
-            → result ≡ is_repeated names name.now }
+    /// Makes room for so many names.
+    pub(crate) fn reserve(&mut self, room: usize) -> Result<(), AllocError>
+        requires { length self.old.numbers.items ≤ room }
+        ensures names { self.new.numbers.items ≡ self.old.numbers.items }
+        ensures ok { OnOk result (room ≤ vec_capacity self.new.numbers) }
+        ensures capacity { vec_capacity self.old.numbers ≤ vec_capacity self.new.numbers }
     {
-        match name {
-            Some(name) => match self.several.get(name) {
-                Some(several) => *several,
+        self.numbers.reserve(room - self.numbers.len())
+    }
+
+    /// One more HDU is called so, if it is called anything: at which place its name stands. Each
+    /// other name stands where it stood. It takes no memory.
+    pub(crate) fn enter(&mut self, name: &Option<ExtensionName>) -> Option<usize>
+        requires few { TellsOfFew self.old.numbers.items }
+        requires room { length self.old.numbers.items < vec_capacity self.old.numbers }
+        ensures entered { Enters self.old.numbers.items self.new.numbers.items name.now result }
+        ensures capacity { vec_capacity self.old.numbers ≤ vec_capacity self.new.numbers }
+    {
+        let Some(name) = name else {
+            return None;
+        };
+        if let Some(place) = self.place_of(name) {
+            let it = &mut self.numbers[place];
+            it.1 += 1;
+            return Some(place);
+        }
+        let Ok(()) = self.numbers.push((*name, 1)) else {
+            unreachable!()
+        };
+        Some(self.numbers.len() - 1)
+    }
+
+    // At which place a name stands, if it does.
+    fn place_of(&self, name: &ExtensionName) -> Option<usize>
+        ensures some { IfSome result (λ place.
+            slice_get (keys_of self.now.numbers.items) place ≡ Some name.now) }
+        ensures none { result ≡ None → lookup (is_same_name name.now) self.now.numbers.items ≡ None }
+    {
+        for (place, it) in self.numbers.iter().enumerate() {
+            if name.is_same(&it.0) {
+                return Some(place);
+            }
+        }
+        None
+    }
+
+    /// One HDU fewer has the name at a place. Where it was the only one the name goes, and each name
+    /// after it comes one place nearer: whether it went. It takes no memory.
+    pub(crate) fn leave(&mut self, place: usize) -> bool
+        requires { TellsAt place self.old.numbers.items }
+        ensures told { (name : ExtensionName) (names : List (Option ExtensionName))
+            → slice_get (keys_of self.old.numbers.items) place ≡ Some name
+            → IsTableOf (Some name ∷ names) self.old.numbers.items
+            → IsTableOf names self.new.numbers.items }
+        ensures others { (at : ℕ) (other : ExtensionName)
+            → slice_get (keys_of self.old.numbers.items) at ≡ Some other
+            → IsSome (lookup (is_same_name other) self.new.numbers.items)
+            → slice_get (keys_of self.new.numbers.items) (if result then moved place at else at)
+            ≡ Some other }
+        ensures capacity { vec_capacity self.old.numbers ≤ vec_capacity self.new.numbers }
+    {
+        let it = &mut self.numbers[place];
+        if it.1 > 1 {
+            it.1 -= 1;
+            return false;
+        }
+        let _ = self.numbers.remove(place);
+        true
+    }
+
+    /// Whether an HDU with this entry is called so. It takes no memory.
+    pub(crate) fn is_entry_of(&self, entry: Option<usize>, name: &Option<ExtensionName>) -> bool
+        ensures { IsTrue result → (was : Option ExtensionName)
+            → PointsAt (keys_of self.now.numbers.items) was entry → name.now ≡ was }
+    {
+        match (entry, name) {
+            (Some(place), Some(name)) => match self.numbers.get(place) {
+                Some(it) => name.is_same(&it.0),
+                None => false,
+            },
+            (None, None) => true,
+            _ => false,
+        }
+    }
+
+    /// Whether an HDU with this entry isn't the only one of its name. It takes no memory.
+    pub(crate) fn is_repeated(&self, entry: Option<usize>) -> bool
+        ensures { (name : Option ExtensionName) (names : List (Option ExtensionName))
+            → PointsAt (keys_of self.now.numbers.items) name entry
+            → IsTableOf names self.now.numbers.items → result ≡ is_repeated names name }
+    {
+        match entry {
+            Some(place) => match self.numbers.get(place) {
+                Some(it) => it.1 >= 2,
                 None => false,
             },
             None => false,

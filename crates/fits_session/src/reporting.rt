@@ -6,14 +6,14 @@ ghost use Rattle.fits_header.specs.Findings.{found_at};
 ghost use Rattle.fits_hdu.specs.ExtensionName.{name_codes};
 ghost use Rattle.fits_session.specs.File.{FileParts, IsFileOf, is_followed};
 ghost use Rattle.fits_session.specs.Reading.{is_found, KeepsEach, ReadStops};
-ghost use Rattle.fits_session.specs.NameTable.{TellsOf};
+ghost use Rattle.fits_session.specs.NameTable.{IsTableOf};
 ghost use Rattle.fits_session.specs.Report.{found_from, found_names, in_hdu, report_of, trailing, IsReportOf};
 
-use crate::name_table::NameTable;
+use crate::name_counts::NameCounts;
 use crate::problem::Problem;
 use crate::read_fault::ReadFileFault;
 use crate::walking::read_kept;
-use fits_codes::Code;
+use fits_codes::{Code, CodeSet};
 use fits_hdu::Findings;
 use fits_header::Finding;
 use fits_stream::Source;
@@ -32,25 +32,25 @@ pub fn read_report<R: Source>(alloc: Global, source: &mut R) -> Result<Vec<Probl
     Ok(report)
 }
 
-/// The report of a file, by what is found of each of its HDUs and whether bytes follow the last.
-pub(crate) fn report_of(
-    alloc: Global,
-    found: &[Findings],
-    followed: bool,
-) -> Result<Vec<Problem>, AllocError>
+// The report of a file, by what is found of each of its HDUs and whether bytes follow the last.
+fn report_of(alloc: Global, found: &[Findings], followed: bool) -> Result<Vec<Problem>, AllocError>
     ensures { (bytes : List ℕ) (file : FileParts) → IsFileOf bytes file
         → KeepsEach is_found found.now file.hdus → followed ≡ is_followed file.tail
         → IfOk result (λ report. report.items ≡ report_of file) }
 {
-    let table = NameTable::of(alloc, found)?;
-    let mut report = problems(alloc, found, &table)?;
+    let names = NameCounts::of(alloc, found)?;
+    let mut report = problems(alloc, found, &names)?;
     push_trailing(&mut report, found.len() + 1, followed)?;
     Ok(report)
 }
 
-// Lists that bytes follow the last HDU, where any do; they would be HDU h.
+/// Lists that bytes follow the last HDU, where any do; they would be HDU h.
 #[tactic(auto, using(crate::proofs::ReportLemmas::trailing_steps))]
-fn push_trailing(report: &mut Vec<Problem>, h: usize, followed: bool) -> Result<(), AllocError>
+pub(crate) fn push_trailing(
+    report: &mut Vec<Problem>,
+    h: usize,
+    followed: bool,
+) -> Result<(), AllocError>
     ensures { OnOk result ((tail : List ℕ) → followed ≡ is_followed tail
         → report.new.items ≡ report.old.items ++ trailing h tail) }
 {
@@ -64,38 +64,41 @@ fn push_trailing(report: &mut Vec<Problem>, h: usize, followed: bool) -> Result<
     Ok(())
 }
 
-// What is found of HDUs, one after another, by a table of all that they are called.
+// What is found of HDUs, one after another, by how many have each of their names.
 fn problems(
     alloc: Global,
     found: &[Findings],
-    table: &NameTable,
+    names: &NameCounts,
 ) -> Result<Vec<Problem>, AllocError>
-    requires { TellsOf (found_names found.now) table.now.several }
+    requires { IsTableOf (found_names found.now) names.now.numbers.entries }
     ensures { IfOk result (λ report. report.items
         ≡ found_from (found_names found.now) 1 found.now) }
 {
     let mut report = Vec::new(alloc);
     for (i, it) in found.iter().enumerate() {
-        push_problems(&mut report, i + 1, it, table.is_repeated(&it.name))?;
+        let repeated = names.is_repeated(&it.name);
+        push_problems(&mut report, i + 1, it.whole, &it.of_cards, repeated)?;
     }
     Ok(report)
 }
 
-// Lists what is found of HDU h, whose name is repeated or isn't.
-fn push_problems(
+/// Lists what is found of HDU h: of it as a whole, that its name is repeated, if it is, and of its
+/// cards.
+pub(crate) fn push_problems(
     report: &mut Vec<Problem>,
     h: usize,
-    it: &Findings,
+    whole: CodeSet,
+    of_cards: &[Finding],
     repeated: bool,
 ) -> Result<(), AllocError>
     ensures { OnOk result (report.new.items ≡ report.old.items ++ map (in_hdu h)
-        (found_at 0 (it.now.whole ++ name_codes repeated) ++ it.now.of_cards.items)) }
+        (found_at 0 (whole ++ name_codes repeated) ++ of_cards.now)) }
 {
-    push_codes(report, h, it.whole.as_slice())?;
+    push_codes(report, h, whole.as_slice())?;
     if repeated {
         push_codes(report, h, &[Code::DuplicateExtension])?;
     }
-    push_found(report, h, &it.of_cards)
+    push_found(report, h, of_cards)
 }
 
 // Lists codes of HDU h as a whole.

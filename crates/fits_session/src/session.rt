@@ -5,6 +5,7 @@ mod changes;
 mod editing;
 mod finding;
 mod list_edits;
+mod naming;
 mod opening;
 mod pixels;
 mod queries;
@@ -14,14 +15,16 @@ mod stamping;
 
 use crate::edit::Edit;
 use crate::limits::FILE_LIMIT;
+use crate::name_table::NameTable;
 use crate::open_fault::OpenFault;
 use crate::read_fault::ReadFileFault;
 use crate::refusal::Refusal;
 use fits_hdu::Hdu;
 use fits_stream::{Intake, Source};
+use naming::name_all;
 use opening::test_start;
 use reading::read_file;
-use std::alloc::Global;
+use std::alloc::{AllocError, Global};
 use std::marker::Model;
 
 /// A file under edits: its HDUs, and the bytes after the last.
@@ -34,40 +37,38 @@ pub struct Session {
     /// How many bytes the file has.
     len: u64,
     tail: Vec<u8>,
+    /// What the HDUs are called.
+    names: NameTable,
     alloc: Global,
 }
 
 impl Model for Session {
-    ghost use Rattle.std.specs.Prelude.{◌≡◌, length};
-    ghost use Rattle.fits_session.specs.File.{file_bytes, IsFile};
-    ghost use Rattle.fits_session.specs.Session.{SessionState, file_of, state_of};
+    ghost use Rattle.std.specs.Prelude.{vec_capacity};
+    ghost use Rattle.fits_session.specs.Session.{SessionState, state_of, IsKept};
 
     ghost Value = { SessionState };
 
     ghost view = { λ session. state_of session.hdus.items session.tail.items };
 
-    ghost invariant = { λ session. record {
-      whole : IsFile (file_of (state_of session.hdus.items session.tail.items));
-      len : session.len
-          ≡ length (file_bytes (file_of (state_of session.hdus.items session.tail.items)));
-    } };
+    ghost invariant = { λ session. IsKept session.hdus.items session.tail.items session.len
+        session.names.numbers.items (vec_capacity session.names.numbers) };
 }
 
 impl Session {
     ghost use Rattle.std.specs.Prelude.{◌≡◌, ◌<◌, length, All, IfOk, IfErr, IsErrOf, OnOk};
     ghost use Rattle.fits_stream.specs.Intake.{Gives};
     ghost use Rattle.fits_stream.specs.Stream.{StaysQuiet};
-    ghost use Rattle.fits_hdu.specs.Work.{IsOpened};
-    ghost use Rattle.fits_session.specs.File.{IsFileOf};
+    ghost use Rattle.fits_hdu.specs.Work.{name_reads, IsOpened};
+    ghost use Rattle.fits_session.specs.File.{file_bytes, IsFile, IsFileOf};
     ghost use Rattle.fits_session.specs.declared.limits.TheConstants.{FILE_LIMIT};
     ghost use Rattle.fits_session.specs.Opening.{HasOpenFault, OpenFails};
     ghost use Rattle.fits_session.specs.Reading.{ReadStops};
-    ghost use Rattle.fits_session.specs.Session.{file_of, EditsTo};
+    ghost use Rattle.fits_session.specs.Session.{file_of, state_of, EditsTo};
 
     /// Opens the file that has these bytes.
     pub fn open(alloc: Global, bytes: &[u8]) -> Result<Session, OpenFault>
         ensures ok { IfOk result (λ session. IsFileOf bytes.now (file_of session)) }
-        ensures opened { IfOk result (λ session. All IsOpened session.hdus) }
+        ensures opened { IfOk result (λ session. All (IsOpened name_reads) session.hdus) }
         ensures err { IfErr result (OpenFails bytes.now) }
 
         // Its length and its first bytes are looked at before memory is asked for.
@@ -78,12 +79,7 @@ impl Session {
         test_start(bytes)?;
         let mut none: &[u8] = &[];
         match read_file(alloc, Intake::of(bytes), &mut none) {
-            Ok((hdus, len, tail)) => Ok(Session {
-                hdus,
-                len,
-                tail,
-                alloc,
-            }),
+            Ok(parts) => Ok(Session::of(alloc, parts)?),
             Err(ReadFileFault::Open(fault)) => Err(fault),
             // Nothing is read, and no bytes fail.
             Err(ReadFileFault::Failed) => unreachable!(),
@@ -97,20 +93,36 @@ impl Session {
     pub fn read<R: Source>(alloc: Global, source: &mut R) -> Result<Session, ReadFileFault>
         ensures ok { IfOk result (λ session. Gives (R.state source.old)
             (λ bytes. IsFileOf bytes (file_of session))) }
-        ensures opened { IfOk result (λ session. All IsOpened session.hdus) }
+        ensures opened { IfOk result (λ session. All (IsOpened name_reads) session.hdus) }
         ensures quiet { OnOk result (StaysQuiet (R.state source.old) (R.state source.new)) }
         ensures err { IfErr result (ReadStops (R.state source.old) (R.state source.new)) }
     {
         let intake = Intake::new(alloc, FILE_LIMIT as usize)?;
         match read_file(alloc, intake, source) {
-            Ok((hdus, len, tail)) => Ok(Session {
-                hdus,
-                len,
-                tail,
-                alloc,
-            }),
+            Ok(parts) => Ok(Session::of(alloc, parts)?),
             Err(fault) => Err(fault),
         }
+    }
+
+    // The session of the HDUs of a file, how many bytes it has, and the bytes after the last HDU.
+    fn of(alloc: Global, parts: (Vec<Hdu>, u64, Vec<u8>)) -> Result<Session, AllocError>
+        requires whole { IsFile (file_of (state_of parts.0.items parts.2.items)) }
+        requires len { parts.1
+            ≡ length (file_bytes (file_of (state_of parts.0.items parts.2.items))) }
+        requires opened { All (IsOpened 0) parts.0.items }
+        ensures file { IfOk result (λ session. file_of session
+            ≡ file_of (state_of parts.0.items parts.2.items)) }
+        ensures opened { IfOk result (λ session. All (IsOpened name_reads) session.hdus) }
+    {
+        let (mut hdus, len, tail) = parts;
+        let names = name_all(alloc, &mut hdus)?;
+        Ok(Session {
+            hdus,
+            len,
+            tail,
+            names,
+            alloc,
+        })
     }
 
     /// Makes an edit, or refuses it by the first test that fails.

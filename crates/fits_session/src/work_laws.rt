@@ -13,11 +13,11 @@ ghost use Rattle.fits_hdu.specs.Layout.{layout_of};
 ghost use Rattle.fits_hdu.specs.State.{HduState};
 ghost use Rattle.fits_hdu.specs.Work.{keyword_reads, plane_work, FollowsBlank, IsOpened, PixelWork};
 ghost use Rattle.fits_session.specs.Bounds.{mandatory_count, most_reads, moved_count, stamped_count};
-ghost use Rattle.fits_session.specs.Bounds.{unworked, NoneFalls, OthersStay, WorksUpTo};
+ghost use Rattle.fits_session.specs.Bounds.{unworked, NoneFalls, OthersStay, SameCounts, WorksUpTo};
 ghost use Rattle.fits_session.specs.CardEdit.{change_of};
-ghost use Rattle.fits_session.specs.Session.{works_of, Asks, AsksPixels, EditsTo, HduWork, PutsIn, ReadsOnceAtMost};
+ghost use Rattle.fits_session.specs.Session.{without_entries, works_of, Asks, AsksPixels, EditsTo, HduWork, PutsIn, ReadsOnceAtMost};
 ghost use Rattle.fits_session.specs.Session.{SessionState};
-ghost use Rattle.fits_session.specs.Work.{hdu_reads};
+ghost use Rattle.fits_session.specs.Work.{reads_in_all};
 ghost use Rattle.fits_session.specs.declared.card_edit.CardEdit.{CardEdit};
 ghost use Rattle.fits_session.specs.declared.edit.Edit.{Edit};
 ghost use Rattle.fits_session.specs.declared.hdu_edit.HduEdit.{HduEdit};
@@ -30,18 +30,18 @@ ghost use Rattle.fits_session.specs.declared.refusal.Refusal.{Refusal};
 pub fn edits_of_cards_read_few()
     ensures cards { (primary : Bool) (hdu : HduParts) (shape : Shape) (edit : CardEdit)
         → shape_of primary hdu.header.cards ≡ Ok shape
-        → hdu_reads primary (HduEdit.Cards edit) hdu
+        → reads_in_all primary (HduEdit.Cards edit) hdu
         ≤ most_reads (mandatory_count shape) (moved_count (change_of hdu.header.cards edit)) }
     ensures cards_closer { (primary : Bool) (hdu : HduParts) (shape : Shape) (edit : CardEdit)
         → shape_of primary hdu.header.cards ≡ Ok shape
-        → hdu_reads primary (HduEdit.Cards edit) hdu
+        → reads_in_all primary (HduEdit.Cards edit) hdu
         ≤ mandatory_count shape + moved_count (change_of hdu.header.cards edit) + 16 }
     ensures stamp { (primary : Bool) (hdu : HduParts) (shape : Shape)
         → shape_of primary hdu.header.cards ≡ Ok shape
-        → hdu_reads primary HduEdit.Stamp hdu
+        → reads_in_all primary HduEdit.Stamp hdu
         ≤ 3 * most_reads (mandatory_count shape) (stamped_count hdu.header.cards) }
     ensures stamp_closer { (primary : Bool) (hdu : HduParts)
-        → hdu_reads primary HduEdit.Stamp hdu ≤ 2 * stamped_count hdu.header.cards + 38 }
+        → reads_in_all primary HduEdit.Stamp hdu ≤ 2 * stamped_count hdu.header.cards + 32 }
     ensures scans { (primary : Bool) (hdu : HduParts) (edit : CardEdit) (old new : PixelWork)
         (d : ℕ) → block_count hdu.data_unit ≤ 2 ^ d
         → HduWork primary (HduEdit.Cards edit) hdu old new
@@ -63,7 +63,7 @@ pub fn edits_of_cards_read_few()
 /// its rectangle; one that is refused, of whatever kind, scans none.
 pub fn edits_of_pixels_scan_few()
     ensures cards { (primary : Bool) (hdu : HduParts) (lo hi : List ℕ) (paint : Paint)
-        → hdu_reads primary (HduEdit.Pixels lo hi paint) hdu ≡ 0 }
+        → reads_in_all primary (HduEdit.Pixels lo hi paint) hdu ≡ 0 }
     ensures scans { (primary : Bool) (hdu : HduParts) (shape : Shape) (lo hi : List ℕ)
         (paint : Paint) (old new : PixelWork) (d : ℕ)
         → shape_of primary hdu.header.cards ≡ Ok shape → block_count hdu.data_unit ≤ 2 ^ d
@@ -94,18 +94,18 @@ pub fn edits_of_the_list_keep_counts()
     ensures new { (h : ℕ) (before after : List HduState) (d : ℕ) (p : PutsIn h before after)
         → block_count p.one.plane.bytes ≤ 2 ^ d
         → WorksUpTo (block_count p.one.plane.bytes) (2 * 2 ^ d) unworked (plane_work p.one.plane) }
-    ensures gone_before { (h : ℕ) (before : List HduState) (i : ℕ) (none : HduState) → 1 ≤ h
-        → h ≤ length before → i + 1 < h
-        → get_or (remove before (h - 1)) i none ≡ get_or before i none }
-    ensures gone_behind { (h : ℕ) (before : List HduState) (i : ℕ) (none : HduState) → 1 ≤ h
-        → h ≤ length before → h ≤ i + 1
-        → get_or (remove before (h - 1)) i none ≡ get_or before (i + 1) none }
+    ensures gone_before { (h : ℕ) (before after : List HduState) (i : ℕ)
+        → without_entries after ≡ remove (without_entries before) (h - 1) → i + 1 < h
+        → SameCounts i i before after }
+    ensures gone_behind { (h : ℕ) (before after : List HduState) (i : ℕ)
+        → without_entries after ≡ remove (without_entries before) (h - 1) → h ≤ i + 1
+        → SameCounts (i + 1) i before after }
 {}
 
 /// An HDU that is opened begins with one scan of each block of its data unit, and no pixel read; a
 /// query or a saving lets no count fall, and those of the HDUs that a query doesn't name stay.
 pub fn openings_and_queries_work_little()
-    ensures opened { (hdu : HduState) (d : ℕ) → IsOpened hdu
+    ensures opened { (more : ℕ) (hdu : HduState) (d : ℕ) → IsOpened more hdu
         → block_count hdu.plane.bytes ≤ 2 ^ d
         → WorksUpTo (block_count hdu.plane.bytes) (2 * 2 ^ d) unworked (plane_work hdu.plane) }
     ensures value { (cards : List (List ℕ)) (name : List ℕ) (place : ℕ)

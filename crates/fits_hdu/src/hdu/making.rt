@@ -12,15 +12,15 @@ use std::alloc::{AllocError, Global};
 const LARGEST_UNIT: usize = 1 << 33;
 
 impl Hdu {
-    ghost use Rattle.std.specs.Prelude.{◌≡◌, ◌^◌, ◌≤◌, true, length, IfOk};
+    ghost use Rattle.std.specs.Prelude.{◌≡◌, ◌^◌, ◌≤◌, true, length, None, IfOk};
     ghost use Rattle.fits_plane.specs.Layout.{block_count};
     ghost use Rattle.fits_hdu.specs.Hdu.{hdu_bytes};
     ghost use Rattle.fits_hdu.specs.NewImage.{are_axes, image_shape, new_image};
-    ghost use Rattle.fits_hdu.specs.State.{parts_of};
+    ghost use Rattle.fits_hdu.specs.State.{name_of, parts_of, IsDescribed};
     ghost use Rattle.fits_hdu.specs.Work.{open_reads, plane_work, IsMade};
 
     /// A new image of this kind and shape (FITS Standard 4.0, section 7.1), each of whose bytes of
-    /// data is zero. With its header it has 2^33 bytes at most.
+    /// data is zero. With its header it has 2^33 bytes at most. It isn't called anything.
     ///
     /// Err: memory was refused.
     #[tactic(auto, using(crate::proofs::NewHeaderLemmas::make_steps))]
@@ -30,6 +30,9 @@ impl Hdu {
         requires small { length (hdu_bytes (new_image kind shape.axes)) ≤ 2 ^ 33 }
         ensures hdu { IfOk result (λ it. parts_of it ≡ new_image kind shape.axes) }
         ensures shape { IfOk result (λ it. it.header.shape ≡ shape) }
+        ensures described { IfOk result (λ it. IsDescribed it) }
+        ensures unnamed { IfOk result (λ it. name_of it ≡ None) }
+        ensures entry { IfOk result (λ it. it.entry ≡ None) }
         ensures work { IfOk result (λ it. it.header.reads ≤ open_reads it.header.header.cards) }
         ensures scans { IfOk result (λ it. IsMade (block_count it.plane.bytes)
             (plane_work it.plane)) }

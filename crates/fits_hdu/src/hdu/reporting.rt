@@ -2,21 +2,18 @@
 ghost use Rattle.std.specs.Prelude.{◌≡◌};
 
 use super::Hdu;
-use crate::extension_name::ExtensionName;
-use crate::findings::Findings;
 use crate::found::with_data_codes;
 use crate::sums::{verdicts_by, whole_sum};
 use crate::verdicts::Verdicts;
-use fits_codes::{Code, CodeSet};
-use fits_header::Counts;
+use fits_codes::{Code, CodeSet, judge_header_mark};
+use fits_header::{Counts, Finding};
 use fits_sum::fold;
 use std::alloc::{AllocError, Global};
 
 impl Hdu {
     ghost use Rattle.std.specs.Prelude.{◌≡◌, ◌+◌, ◌≤◌, ◌^◌, length, Ok, IfOk};
-    ghost use Rattle.fits_rules.specs.Class.{is_primary};
-    ghost use Rattle.fits_hdu.specs.ExtensionName.{extension_name};
-    ghost use Rattle.fits_hdu.specs.Findings.{AreFindings, hdu_counts, whole_codes};
+    ghost use Rattle.fits_header.specs.Findings.{card_findings};
+    ghost use Rattle.fits_hdu.specs.Findings.{hdu_counts, whole_codes};
     ghost use Rattle.fits_hdu.specs.Hdu.{hdu_bytes};
     ghost use Rattle.fits_hdu.specs.State.{parts_of, IsDescribed};
     ghost use Rattle.fits_hdu.specs.Sums.{data_sum, verdicts_of};
@@ -43,39 +40,25 @@ impl Hdu {
         verdicts_by(self.sums, fold(unit), whole)
     }
 
-    // The codes of it as a whole: those of its header, and then those of its data and its sums.
+    /// The codes of it as a whole but for that of its name, by number: those of its header, and then
+    /// those of its data and its sums. It takes no memory, and reads no card and no block.
     #[tactic(auto, using(crate::proofs::ReportLemmas::report_steps))]
-    fn whole(&self) -> CodeSet
+    pub fn whole(&self) -> CodeSet
         requires { length (hdu_bytes (parts_of self.now)) ≤ 2 ^ 34 }
         ensures { result ≡ whole_codes self.now.header.shape (parts_of self.now) }
     {
-        with_data_codes(self.codes, self.plane.fill_ok(), self.verdicts())
+        let codes = judge_header_mark(&self.mark, self.header.shape());
+        with_data_codes(codes, self.plane.fill_ok(), self.verdicts())
     }
 
-    /// What it is called, if it is an extension with a name. It takes no memory, and reads no card.
-    pub fn extension_name(&self) -> Option<ExtensionName>
-        ensures value { result
-            ≡ extension_name (is_primary self.now.header.shape.class) self.now.header.header.cards }
-        ensures described { IsDescribed self.now }
-    {
-        self.name
-    }
-
-    /// What is found of it. No card is read.
-    #[tactic(auto, using(crate::proofs::ReportLemmas::report_steps))]
-    pub fn findings(&mut self, alloc: Global) -> Result<Findings, AllocError>
-        requires { length (hdu_bytes (parts_of self.old)) ≤ 2 ^ 34 }
-        ensures found { IfOk result (λ it.
-            AreFindings it.whole it.of_cards.items it.name (parts_of self.old)) }
+    /// What is found of its cards: by place, and at each by code. No card is read.
+    pub fn findings(&mut self, alloc: Global) -> Result<Vec<Finding>, AllocError>
+        ensures found { IfOk result (λ found. found.items
+            ≡ card_findings self.old.header.shape self.old.header.header.cards) }
+        ensures described { IsDescribed self.old }
         ensures same { self.new ≡ self.old }
     {
-        let whole = self.whole();
-        let of_cards = self.header.findings(alloc)?;
-        Ok(Findings {
-            whole,
-            of_cards,
-            name: self.name,
-        })
+        self.header.findings(alloc)
     }
 
     /// How many errors and warnings are found of it, which is called as another extension is or

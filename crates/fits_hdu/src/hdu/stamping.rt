@@ -50,7 +50,9 @@ impl Hdu {
         ensures least { self.old.header.reads ≤ self.new.header.reads }
         ensures work { self.new.header.reads
             ≤ self.old.header.reads + stamp_reads self.old.header.header.cards }
+        ensures entry { self.new.entry ≡ self.old.entry }
         ensures described { IsDescribed self.old }
+        ensures left { IsDescribed self.new }
     {
         let _described = self.card_count();
         let zeros = one_card(alloc, sum_card(&CHECKSUM, &[b'0'; 16]))?;
@@ -100,6 +102,8 @@ impl Hdu {
         ensures least { self.old.header.reads ≤ self.new.header.reads }
         ensures work { self.new.header.reads ≤ self.old.header.reads
             + keyword_reads self.old.header.header.cards name.now + apply_reads }
+        ensures entry { self.new.entry ≡ self.old.entry }
+        ensures described { IsDescribed self.new }
     {
         let count = self.card_count();
         let old = self.keyword_cards(name);

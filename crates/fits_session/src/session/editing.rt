@@ -8,6 +8,7 @@ ghost use Rattle.fits_session.specs.Session.{HduEditsTo};
 use super::Session;
 use super::cards::edit_cards;
 use super::finding::index_of;
+use super::naming::follow;
 use super::pixels::paint_pixels;
 use super::stamping::stamp;
 use crate::edit::Edit;
@@ -26,6 +27,9 @@ impl Session {
         let i = index_of(&self.hdus, h)?;
         let count = self.hdus.len() as u64;
         self.len = edit_hdu(self.alloc, &mut self.hdus[i], self.len, count, edit)?;
+        if edit.may_rename() {
+            follow(&mut self.hdus, &mut self.names, i);
+        }
         Ok(())
     }
 }

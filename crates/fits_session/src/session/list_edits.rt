@@ -2,6 +2,7 @@
 use super::Session;
 use super::changes::is_within;
 use super::finding::index_of;
+use super::naming::leave;
 use crate::edit::Edit;
 use crate::limits::{FILE_LIMIT, HDU_LIMIT};
 use crate::refusal::Refusal;
@@ -32,6 +33,7 @@ impl Session {
             return Err(Refusal::TooLarge);
         };
         let hdu = Hdu::new_image(self.alloc, kind, shape)?;
+        self.names.reserve(self.hdus.len() + 2)?;
         self.hdus.insert(at - 1, hdu)?;
         self.len += len;
         Ok(())
@@ -48,7 +50,9 @@ impl Session {
         let hdu = self.hdus.remove(i);
         let header_len = hdu.header().byte_len();
         let data_len = hdu.plane().byte_len();
+        let entry = hdu.entry();
         self.len -= (header_len + data_len) as u64;
+        leave(&mut self.hdus, &mut self.names, entry);
         Ok(())
     }
 }

@@ -1,21 +1,20 @@
 //! What a session answers. Queries leave the file as it is.
-ghost use Rattle.std.specs.Prelude.{◌≡◌, ◌≤◌, ◌<◌, ◌+◌, ℕ, List, length, get_or, IfOk};
-ghost use Rattle.fits_hdu.specs.State.{parts_of, HduState};
-ghost use Rattle.fits_session.specs.File.{joined_hdus, offsets_from, IsFile};
+ghost use Rattle.std.specs.Prelude.{◌≡◌, ◌≤◌, ◌+◌, length, IfOk};
+ghost use Rattle.fits_session.specs.File.{joined_hdus, offsets_from};
 ghost use Rattle.fits_session.specs.declared.limits.TheConstants.{FILE_LIMIT};
-ghost use Rattle.fits_session.specs.Reading.{is_found, KeepsEach};
-ghost use Rattle.fits_session.specs.Report.{called_count, counts_in, is_repeated, name_in, names_from, report_of};
-ghost use Rattle.fits_session.specs.Session.{file_of, hdus_of, state_of};
+ghost use Rattle.fits_session.specs.Report.{counts_in, names_from, wrong_from};
+ghost use Rattle.fits_session.specs.Session.{hdus_of, AreNamed};
 
 use super::Session;
 use super::finding::index_of;
+use crate::name_table::NameTable;
 use crate::offsets::HduOffsets;
 use crate::problem::Problem;
 use crate::refusal::Refusal;
-use crate::reporting::report_of;
+use crate::reporting::{push_problems, push_trailing};
 use fits_card::Name;
 use fits_codes::Code;
-use fits_hdu::{ExtensionName, Findings, Hdu, Kind, Stats, Verdicts};
+use fits_hdu::{Hdu, Kind, Stats, Verdicts};
 use fits_header::Counts;
 use fits_rules::Shape;
 use fits_value::{Text, Value};
@@ -160,8 +159,9 @@ impl Session {
         ensures value { IfOk result (λ report. report.items ≡ report_of (file_of self.old)) }
         ensures same { self.new ≡ self.old }
     {
-        let found = findings_of(self.alloc, &mut self.hdus)?;
-        report_of(self.alloc, &found, !self.tail.is_empty())
+        let mut report = problems(self.alloc, &mut self.hdus, &self.names)?;
+        push_trailing(&mut report, self.hdus.len() + 1, !self.tail.is_empty())?;
+        Ok(report)
     }
 
     /// How many errors and warnings the report has. It takes no memory, and reads no card.
@@ -169,7 +169,11 @@ impl Session {
         ensures value { result ≡ counts_in (report_of (file_of self.old)) }
         ensures same { self.new ≡ self.old }
     {
-        counts_of(&mut self.hdus, &self.tail)
+        let counts = counts_of(&mut self.hdus, &self.names);
+        if self.tail.is_empty() {
+            return counts;
+        }
+        counts.plus(Counts::of(&[Code::TrailingBytes]))
     }
 
     /// Where each HDU stands.
@@ -180,68 +184,43 @@ impl Session {
     }
 }
 
-// What is found of HDUs, one after another.
-fn findings_of(alloc: Global, hdus: &mut Vec<Hdu>) -> Result<Vec<Findings>, AllocError>
-    requires { length (joined_hdus (hdus_of hdus.old.items)) ≤ FILE_LIMIT }
-    ensures found { IfOk result (λ found. KeepsEach is_found found.items
-        (hdus_of hdus.old.items)) }
+// What is wrong in HDUs, one after another, with a table of what they are called.
+fn problems(
+    alloc: Global,
+    hdus: &mut Vec<Hdu>,
+    names: &NameTable,
+) -> Result<Vec<Problem>, AllocError>
+    requires { AreNamed hdus.old.items names.now.numbers.items }
+    ensures value { IfOk result (λ report. report.items
+        ≡ wrong_from (names_from 1 (hdus_of hdus.old.items)) 1 (hdus_of hdus.old.items)) }
     ensures same { hdus.new.items ≡ hdus.old.items }
 {
-    let mut found = Vec::new(alloc);
+    let mut report = Vec::new(alloc);
     for i in 0..hdus.len() {
         let hdu = &mut hdus[i];
-        let here = hdu.findings(alloc)?;
-        found.push(here)?;
+        let repeated = names.is_repeated(hdu.entry());
+        let whole = hdu.whole();
+        let of_cards = hdu.findings(alloc)?;
+        push_problems(&mut report, i + 1, whole, &of_cards, repeated)?;
     }
-    Ok(found)
+    Ok(report)
 }
 
-// How many errors and warnings the report of a file has, by its HDUs and the bytes after the last.
-fn counts_of(hdus: &mut Vec<Hdu>, tail: &[u8]) -> Counts
-    requires { IsFile (file_of (state_of hdus.old.items tail.now)) }
-    ensures value { result ≡ counts_in (report_of (file_of (state_of hdus.old.items tail.now))) }
+// How many errors and warnings that is.
+fn counts_of(hdus: &mut Vec<Hdu>, names: &NameTable) -> Counts
+    requires { AreNamed hdus.old.items names.now.numbers.items }
+    ensures value { result ≡ counts_in
+        (wrong_from (names_from 1 (hdus_of hdus.old.items)) 1 (hdus_of hdus.old.items)) }
+    ensures few { result.errors + result.warnings ≤ FILE_LIMIT }
     ensures same { hdus.new.items ≡ hdus.old.items }
 {
     let mut counts = Counts::of(&[]);
     for i in 0..hdus.len() {
-        let repeated = is_repeated(hdus, i);
         let hdu = &mut hdus[i];
-        let here = hdu.counts(repeated);
+        let here = hdu.counts(names.is_repeated(hdu.entry()));
         counts = counts.plus(here);
     }
-    if tail.is_empty() {
-        return counts;
-    }
-    counts.plus(Counts::of(&[Code::TrailingBytes]))
-}
-
-// Whether the HDU at an index is called as another is.
-fn is_repeated(hdus: &[Hdu], i: usize) -> bool
-    requires within { i < length hdus.now }
-    ensures { (tail : List ℕ) (hdu : HduState) → IsFile (file_of (state_of hdus.now tail))
-        → hdu ≡ get_or hdus.now i hdu
-        → result ≡ is_repeated (names_from 1 (hdus_of hdus.now)) (name_in (i + 1) (parts_of hdu)) }
-{
-    match hdus[i].extension_name() {
-        Some(name) => called_count(hdus, &name) >= 2,
-        None => false,
-    }
-}
-
-// How many HDUs are called so.
-fn called_count(hdus: &[Hdu], name: &ExtensionName) -> usize
-    ensures { (tail : List ℕ) → IsFile (file_of (state_of hdus.now tail))
-        → result ≡ called_count name.now (names_from 1 (hdus_of hdus.now)) }
-{
-    let mut count = 0;
-    for hdu in hdus {
-        if let Some(other) = hdu.extension_name() {
-            if name.is_same(&other) {
-                count += 1;
-            }
-        }
-    }
-    count
+    counts
 }
 
 // Where HDUs stand, of which the first begins at 0.

@@ -31,7 +31,7 @@ pub(crate) fn read_file<R: Source>(
         (file_of (state_of parts.0.items parts.2.items))) }
     ensures len { IfOk result (λ parts. parts.1
         ≡ length (file_bytes (file_of (state_of parts.0.items parts.2.items)))) }
-    ensures opened { IfOk result (λ parts. All IsOpened parts.0.items) }
+    ensures opened { IfOk result (λ parts. All (IsOpened 0) parts.0.items) }
     ensures quiet { OnOk result (StaysQuiet (R.state source.old) (R.state source.new)) }
     ensures err { IfErr result (SupplyStops (supply (R.state source.old) intake.entry)
         (R.state source.new)) }

@@ -9,6 +9,5 @@ apply-requires-clause-kept c = rw (kept_value _ _ c.self.inside.header.shape c.s
 -- the number that BLANK says is not followed yet
 pub follow_blank-requires : goal.follow_blank-requires
 follow_blank-requires c =
-    let shape = c.extension_name-self-inside.ensures.work.shape ∙ (c.sum_keywords-self-inside.ensures.work.shape
-    ∙ (c.image_kind-self-inside.ensures.work.shape ∙ (c.judge-self-inside.ensures.work.shape ∙ c.apply.ensures.shape))) in
-    rw shape (layout_kept c.self.inside.header.shape c.self.inside.header.header.cards c.extension_name-self-inside.new.header.header.cards c.self.inside.plane.layout c.self.invariant.layout)
+    let shape = c.sum_keywords-self-inside.ensures.work.shape ∙ (c.image_kind-self-inside.ensures.work.shape ∙ (c.mark-self-inside.ensures.work.shape ∙ c.apply.ensures.shape)) in
+    rw shape (layout_kept c.self.inside.header.shape c.self.inside.header.header.cards c.sum_keywords-self-inside.new.header.header.cards c.self.inside.plane.layout c.self.invariant.layout)

@@ -22,10 +22,9 @@ invariant_of-self c =
       described = rw same kept.described;
       size = rw same kept.size;
       layout = rw same kept.layout;
-      codes = rw same kept.codes;
+      mark = rw same kept.mark;
       kind = rw same kept.kind;
       sums = rw same kept.sums;
-      name = rw same kept.name;
     }
 
 pub invariant_of-self-2 : goal.invariant_of-self-2
@@ -36,8 +35,7 @@ invariant_of-self-2 c =
       described = rw same kept.described;
       size = rw same kept.size;
       layout = rw same kept.layout;
-      codes = rw same kept.codes;
+      mark = rw same kept.mark;
       kind = rw same kept.kind;
       sums = rw same kept.sums;
-      name = rw same kept.name;
     }

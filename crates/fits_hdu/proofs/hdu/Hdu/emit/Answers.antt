@@ -9,10 +9,9 @@ invariant_of-self g c =
       described = rw (read.header, read.shape) kept.described;
       size = rw read.shape kept.size;
       layout = rw (read.header, read.shape) kept.layout;
-      codes = rw (read.header, read.shape) kept.codes;
+      mark = rw (read.header, read.shape) kept.mark;
       kind = rw (read.header, read.shape) kept.kind;
       sums = rw read.header kept.sums;
-      name = rw (read.header, read.shape) kept.name;
     }
 
 pub invariant_of-self-2 : goal.invariant_of-self-2
@@ -23,8 +22,7 @@ invariant_of-self-2 g c =
       described = rw (read.header, read.shape) kept.described;
       size = rw read.shape kept.size;
       layout = rw (read.header, read.shape) kept.layout;
-      codes = rw (read.header, read.shape) kept.codes;
+      mark = rw (read.header, read.shape) kept.mark;
       kind = rw (read.header, read.shape) kept.kind;
       sums = rw read.header kept.sums;
-      name = rw (read.header, read.shape) kept.name;
     }

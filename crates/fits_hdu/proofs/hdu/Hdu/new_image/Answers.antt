@@ -1,10 +1,14 @@
-use Rattle.std.proofs.Common.{◌∙◌, List, ℕ, ap, arith, length, sym}
+use Rattle.std.proofs.Common.{◌∙◌, false, List, ℕ, ap, arith, length, sym}
 use Rattle.std.proofs.lemmas.List.{length-replicate}
 use Rattle.fits_card.specs.Header.{Header, new_header}
 use Rattle.fits_rules.specs.Size.{data_length}
+use Rattle.fits_rules.specs.Class.{is_primary}
+use Rattle.fits_rules.specs.declared.array_shape.Shape.{Shape}
+use Rattle.fits_hdu.specs.ExtensionName.{extension_name}
 use Rattle.fits_hdu.specs.NewImage.{image_cards}
 use Rattle.fits_hdu.specs.State.{parts_of}
 use Rattle.fits_hdu.proofs.NewHeaderLemmas.{new_described, new_made}
+use Rattle.fits_hdu.proofs.NewKindLemmas.{new_unnamed}
 use Rattle.fits_hdu.proofs.hdu.Hdu.new_image.Goals as goal
 
 pub returns-clause-hdu : goal.returns-clause-hdu
@@ -51,3 +55,12 @@ returns-clause-work c =
 
 pub returns-clause-scans : goal.returns-clause-scans
 returns-clause-scans c = rw (c.joined.ensures.scans, c.joined.ensures.unit, c.in-Ok-zero_plane.ensures.bytes) c.in-Ok-zero_plane.ensures.scans
+
+-- it isn't called anything
+pub returns-clause-unnamed : goal.returns-clause-unnamed
+returns-clause-unnamed c =
+    let axes = ap (λ (xs : List ℕ). new_header (image_cards c.args.kind xs)) c.as_slice.ensures in
+    let header = c.joined.ensures.header ∙ (c.zero_plane.ensures.work.header ∙ (c.in_ok-header.ensures.header ∙ (c.in_ok-cards.ensures.header ∙ axes))) in
+    let shape = c.joined.ensures.shape ∙ (c.zero_plane.ensures.work.shape ∙ c.in_ok-header.ensures.shape) in
+    ap (λ (s : Shape). extension_name (is_primary s.class) c.joined.result.header.header.cards) (shape ∙ c.requires.shape)
+    ∙ (ap (λ (h : Header). extension_name false h.cards) header ∙ new_unnamed c.args.kind c.args.shape.axes c.requires.axes)

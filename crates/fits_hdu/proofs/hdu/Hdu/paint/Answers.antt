@@ -117,8 +117,7 @@ invariant_of-self c =
       described = kept.described;
       size = ap length c.paint_rect.ensures.bytes ∙ (length-rectangle_written _ _ _ _ _ _ ∙ kept.size);
       layout = c.paint_rect.ensures.layout ∙ kept.layout;
-      codes = kept.codes;
+      mark = kept.mark;
       kind = kept.kind;
       sums = kept.sums;
-      name = kept.name;
     }

@@ -113,6 +113,8 @@ returns-in_err-zeros c =
       least = omega arith;
       work = omega arith;
       described = c.card_count-described.ensures.described;
+      entry = refl;
+      left = c.card_count-described.ensures.described;
     }
 
 pub returns-in_err-digits : goal.returns-in_err-digits
@@ -126,6 +128,8 @@ returns-in_err-digits c =
       least = omega arith;
       work = omega arith;
       described = c.card_count-described.ensures.described;
+      entry = refl;
+      left = c.card_count-described.ensures.described;
     }
 
 pub returns-in_err-datasum : goal.returns-in_err-datasum
@@ -139,6 +143,8 @@ returns-in_err-datasum c =
       least = omega arith;
       work = omega arith;
       described = c.card_count-described.ensures.described;
+      entry = refl;
+      left = c.card_count-described.ensures.described;
     }
 
 pub returns-in_err-checksum : goal.returns-in_err-checksum
@@ -152,6 +158,8 @@ returns-in_err-checksum c =
       least = omega arith;
       work = omega arith;
       described = c.card_count-described.ensures.described;
+      entry = refl;
+      left = c.card_count-described.ensures.described;
     }
 
 -- no room was reserved, and nothing else was changed
@@ -166,4 +174,6 @@ returns-in_err-reserve c =
       least = omega (arith, c.reserve.ensures.work);
       work = omega (arith, c.reserve.ensures.work);
       described = c.card_count-described.ensures.described;
+      entry = ap (λ (hdu : HduState). hdu.entry) c.reserve.ensures.rest;
+      left = rw (c.reserve.ensures.shape, ap (λ (hdu : HduParts). hdu.header) c.reserve.ensures.hdu) c.card_count-described.ensures.described;
     }

@@ -1,10 +1,26 @@
-use Rattle.fits_session.proofs.NameLemmas.{told_more, told_same}
-use Rattle.fits_session.proofs.name_table.NameTable.of.Goals.{in-Some+in_ok-insert, in_default}
+use Rattle.std.proofs.Common.{◌≡◌, ◌+◌, ◌++◌, ◌∷◌, [], List, ℕ, take, length, ap, sym, ◌∙◌, arith}
+use Rattle.std.proofs.lemmas.List.{take_all, take_more}
+use Rattle.std.proofs.lemmas.Option.{get_or_from_slice_get}
+use Rattle.fits_hdu.specs.declared.extension_name.ExtensionName.{ExtensionName}
 use Rattle.fits_session.proofs.name_table.NameTable.of.Goals as goal
 
-pub loop-it-preserved : goal.loop-it-preserved
-loop-it-preserved c =
-    elim c.match-it.branch [
-      | in-Some+in_ok-insert w ↦ rw (w.several-is) (told_more c.loop-it.several w.insert.new.self c.args.found.now c.loop-it.it-index c.it-item.result w.in-Some.name w.contains_key-seen.result c.loop-it-test.true c.it-item.is w.in-Some.is c.loop-it.invariant w.in_ok-insert.ensures.updates w.contains_key-seen.ensures)
-      | in_default w ↦ rw (w.several-is) (told_same c.loop-it.several c.args.found.now c.loop-it.it-index c.it-item.result c.loop-it-test.true c.it-item.is w.in_default.is c.loop-it.invariant)
-    ]
+pub loop-place-init : goal.loop-place-init
+loop-place-init c = record { names = c.in_ok-numbers.ensures.items; room = omega (arith, c.in_ok-numbers.ensures.capacity) }
+
+pub loop-place-preserved : goal.loop-place-preserved
+loop-place-preserved c =
+    let es : List (ExtensionName × ℕ) = c.args.counts.now.numbers.entries in
+    let e : ExtensionName × ℕ = (c.in-Some.name.now, c.in-Some.number.now) in
+    let there = get_or_from_slice_get es c.loop-place.place e e (sym c.in-Some.ensures.entry) in
+    record {
+      names =
+          c.in_ok-push.ensures.items ∙ ap (λ (xs : List (ExtensionName × ℕ)). xs ++ e ∷ []) c.loop-place.invariant.names
+          ∙ sym (take_more es c.loop-place.place e (omega (arith, c.loop-place-test.true, c.len-place-end.ensures.len)) ∙ ap (λ (x : ExtensionName × ℕ). take c.loop-place.place es ++ x ∷ []) there);
+      room = omega (arith, c.loop-place.invariant.room, c.in_ok-push.ensures.capacity);
+    }
+
+pub returns-clause-names : goal.returns-clause-names
+returns-clause-names c = c.loop-place.invariant.names ∙ take_all c.loop-place.place c.args.counts.now.numbers.entries (omega (arith, c.loop-place-test.false, c.len-place-end.ensures.len))
+
+pub returns-clause-room : goal.returns-clause-room
+returns-clause-room c = c.loop-place.invariant.room

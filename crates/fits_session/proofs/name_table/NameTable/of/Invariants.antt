@@ -1,7 +1,8 @@
-use Rattle.std.proofs.Common.{take}
-use Rattle.fits_session.specs.NameTable.{TellsOf}
-use Rattle.fits_session.specs.Report.{found_names}
+use Rattle.std.proofs.Common.{◌≡◌, ◌≤◌, take, vec_capacity}
 use Rattle.fits_session.proofs.name_table.NameTable.of.Given as goal
 
-abbrev pub invariant-loop-it : goal.invariant-loop-it
-invariant-loop-it l = TellsOf (found_names (take l.it-index l.found)) l.several
+abbrev pub invariant-loop-place : goal.invariant-loop-place
+invariant-loop-place l = record {
+  names : l.numbers.items ≡ take l.place l.counts.numbers.entries;
+  room : l.room ≤ vec_capacity l.numbers;
+}

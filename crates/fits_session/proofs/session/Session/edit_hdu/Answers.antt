@@ -1,7 +1,11 @@
-use Rattle.std.proofs.Common.{length, refl, arith, ap, sym, ◌∙◌}
+use Rattle.std.proofs.Common.{◌≤◌, length, refl, arith, ap, set, subst, sym, ◌∙◌, vec_capacity}
+use Rattle.fits_hdu.specs.State.{parts_of}
+use Rattle.fits_hdu.specs.Work.{name_reads}
+use Rattle.fits_session.specs.Session.{reads_of, ReadsOnly}
+use Rattle.fits_session.specs.Work.{follow_reads}
 use Rattle.std.specs.Prelude.{Ok, Err}
 use Rattle.std.proofs.lemmas.Result.{err_from_is_err_and}
-use Rattle.fits_session.proofs.EditLemmas.{IsEdited, edits_made, edits_nowhere, edits_refused, file_made_is, file_refused_is}
+use Rattle.fits_session.proofs.EditLemmas.{IsEdited, IsFollowed, edits_made, edits_nowhere, edits_refused, followed_none, kept_followed, kept_refused, kept_unrenamed, stood_before}
 use Rattle.fits_session.proofs.MakingLemmas.{kept_limits}
 use Rattle.fits_session.proofs.StateLemmas.{file_within, is_at, part_there}
 use Rattle.fits_session.proofs.session.Session.edit_hdu.Goals as goal
@@ -32,8 +36,7 @@ invariant_of-self c =
       number = c.len-count.ensures ∙ sym c.deref.ensures.len ∙ ap length c.deref.ensures.value;
       edits = c.in_err-self-inside.ensures;
     } in
-    let left = file_refused_is c.self.inside.hdus.items c.self.inside.tail.items c.args.h c.in_ok-i.i c.args.edit.now c.self.inside.len c.len-count.result c.index_mut.result.now c.edit_hdu.new.hdu c.in_err-self-inside.field-0.0 edited in
-    record { whole = left.0; len = left.1 }
+    kept_refused c.self.inside.hdus.items c.self.inside.tail.items c.args.h c.in_ok-i.i c.args.edit.now c.self.inside.len c.len-count.result c.self.inside.names.numbers.items (vec_capacity c.self.inside.names.numbers) c.index_mut.result.now c.edit_hdu.new.hdu c.self.invariant c.in_err-self-inside.field-0.0 edited
 
 pub returns-in_err-self-inside : goal.returns-in_err-self-inside
 returns-in_err-self-inside c =
@@ -47,8 +50,8 @@ returns-in_err-self-inside c =
     } in
     rw (p.1, p.2, ← c.self.view_is) (edits_refused c.self.inside.hdus.items c.self.inside.tail.items c.args.h c.in_ok-i.i c.args.edit.now c.self.inside.len c.len-count.result c.index_mut.result.now c.edit_hdu.new.hdu c.in_err-self-inside.field-0.0 edited)
 
-pub invariant_of-self-2 : goal.invariant_of-self-2
-invariant_of-self-2 c =
+pub follow-requires-clause-stood : goal.follow-requires-clause-stood
+follow-requires-clause-stood c =
     let edited : IsEdited c.self.inside.hdus.items c.self.inside.tail.items c.args.h c.in_ok-i.i c.args.edit.now c.self.inside.len c.len-count.result c.index_mut.result.now c.edit_hdu.new.hdu (Ok c.in_ok-self-inside.field-0) = record {
       at = is_at c.self.inside.hdus.items c.deref.result.now c.args.h c.args.h c.in_ok-i.i c.index_mut.result.now c.deref.ensures.value refl c.in_ok-i.ensures.found c.index_mut.ensures.value;
       file = c.self.invariant.whole;
@@ -56,11 +59,10 @@ invariant_of-self-2 c =
       number = c.len-count.ensures ∙ sym c.deref.ensures.len ∙ ap length c.deref.ensures.value;
       edits = c.in_ok-self-inside.ensures;
     } in
-    let left = file_made_is c.self.inside.hdus.items c.self.inside.tail.items c.args.h c.in_ok-i.i c.args.edit.now c.self.inside.len c.len-count.result c.in_ok-self-inside.field-0 c.index_mut.result.now c.edit_hdu.new.hdu edited in
-    record { whole = left.0; len = left.1 }
+    stood_before c.self.inside.hdus.items c.self.inside.tail.items c.args.h c.in_ok-i.i c.args.edit.now c.self.inside.len c.len-count.result c.self.inside.names.numbers.items (vec_capacity c.self.inside.names.numbers) c.index_mut.result.now c.edit_hdu.new.hdu c.self.invariant c.in_ok-self-inside.field-0 edited
 
-pub returns : goal.returns
-returns c =
+pub invariant_of-self-then-may_rename : goal.invariant_of-self-then-may_rename
+invariant_of-self-then-may_rename c =
     let edited : IsEdited c.self.inside.hdus.items c.self.inside.tail.items c.args.h c.in_ok-i.i c.args.edit.now c.self.inside.len c.len-count.result c.index_mut.result.now c.edit_hdu.new.hdu (Ok c.in_ok-self-inside.field-0) = record {
       at = is_at c.self.inside.hdus.items c.deref.result.now c.args.h c.args.h c.in_ok-i.i c.index_mut.result.now c.deref.ensures.value refl c.in_ok-i.ensures.found c.index_mut.ensures.value;
       file = c.self.invariant.whole;
@@ -68,4 +70,48 @@ returns c =
       number = c.len-count.ensures ∙ sym c.deref.ensures.len ∙ ap length c.deref.ensures.value;
       edits = c.in_ok-self-inside.ensures;
     } in
-    rw (← c.self.view_is) (edits_made c.self.inside.hdus.items c.self.inside.tail.items c.args.h c.in_ok-i.i c.args.edit.now c.self.inside.len c.len-count.result c.in_ok-self-inside.field-0 c.index_mut.result.now c.edit_hdu.new.hdu tt edited)
+    let follows : IsFollowed (set c.self.inside.hdus.items c.in_ok-i.i c.edit_hdu.new.hdu) c.follow.new.hdus.items c.args.h name_reads = record {
+      hdus = c.follow.ensures.hdus;
+      reads = subst (λ h. ReadsOnly h name_reads (reads_of (set c.self.inside.hdus.items c.in_ok-i.i c.edit_hdu.new.hdu)) (reads_of c.follow.new.hdus.items)) (sym edited.at.index.at) c.follow.ensures.reads;
+      works = c.follow.ensures.works;
+    } in
+    kept_followed c.self.inside.hdus.items c.self.inside.tail.items c.args.h c.in_ok-i.i c.args.edit.now c.self.inside.len c.len-count.result c.self.inside.names.numbers.items (vec_capacity c.self.inside.names.numbers) c.index_mut.result.now c.edit_hdu.new.hdu c.self.invariant c.in_ok-self-inside.field-0 name_reads (vec_capacity c.follow.new.table.numbers) c.follow.new.hdus.items c.follow.new.table.numbers.items edited follows c.follow.ensures.described c.follow.ensures.stands c.follow.ensures.room
+
+pub invariant_of-self-else-may_rename : goal.invariant_of-self-else-may_rename
+invariant_of-self-else-may_rename c =
+    let edited : IsEdited c.self.inside.hdus.items c.self.inside.tail.items c.args.h c.in_ok-i.i c.args.edit.now c.self.inside.len c.len-count.result c.index_mut.result.now c.edit_hdu.new.hdu (Ok c.in_ok-self-inside.field-0) = record {
+      at = is_at c.self.inside.hdus.items c.deref.result.now c.args.h c.args.h c.in_ok-i.i c.index_mut.result.now c.deref.ensures.value refl c.in_ok-i.ensures.found c.index_mut.ensures.value;
+      file = c.self.invariant.whole;
+      size = c.self.invariant.len;
+      number = c.len-count.ensures ∙ sym c.deref.ensures.len ∙ ap length c.deref.ensures.value;
+      edits = c.in_ok-self-inside.ensures;
+    } in
+    kept_unrenamed c.self.inside.hdus.items c.self.inside.tail.items c.args.h c.in_ok-i.i c.args.edit.now c.self.inside.len c.len-count.result c.self.inside.names.numbers.items (vec_capacity c.self.inside.names.numbers) c.index_mut.result.now c.edit_hdu.new.hdu c.self.invariant c.in_ok-self-inside.field-0 (sym c.if-may_rename.ensures) edited
+
+pub returns-then-may_rename : goal.returns-then-may_rename
+returns-then-may_rename c =
+    let edited : IsEdited c.self.inside.hdus.items c.self.inside.tail.items c.args.h c.in_ok-i.i c.args.edit.now c.self.inside.len c.len-count.result c.index_mut.result.now c.edit_hdu.new.hdu (Ok c.in_ok-self-inside.field-0) = record {
+      at = is_at c.self.inside.hdus.items c.deref.result.now c.args.h c.args.h c.in_ok-i.i c.index_mut.result.now c.deref.ensures.value refl c.in_ok-i.ensures.found c.index_mut.ensures.value;
+      file = c.self.invariant.whole;
+      size = c.self.invariant.len;
+      number = c.len-count.ensures ∙ sym c.deref.ensures.len ∙ ap length c.deref.ensures.value;
+      edits = c.in_ok-self-inside.ensures;
+    } in
+    let follows : IsFollowed (set c.self.inside.hdus.items c.in_ok-i.i c.edit_hdu.new.hdu) c.follow.new.hdus.items c.args.h name_reads = record {
+      hdus = c.follow.ensures.hdus;
+      reads = subst (λ h. ReadsOnly h name_reads (reads_of (set c.self.inside.hdus.items c.in_ok-i.i c.edit_hdu.new.hdu)) (reads_of c.follow.new.hdus.items)) (sym edited.at.index.at) c.follow.ensures.reads;
+      works = c.follow.ensures.works;
+    } in
+    let few : name_reads ≤ follow_reads c.args.edit.now (Ok (parts_of c.edit_hdu.new.hdu)) = rw (sym c.if-may_rename.ensures) (omega arith) in
+    rw (← c.self.view_is) (edits_made c.self.inside.hdus.items c.follow.new.hdus.items c.self.inside.tail.items c.args.h c.in_ok-i.i c.args.edit.now c.self.inside.len c.len-count.result c.in_ok-self-inside.field-0 name_reads c.index_mut.result.now c.edit_hdu.new.hdu tt edited follows few)
+
+pub returns-else-may_rename : goal.returns-else-may_rename
+returns-else-may_rename c =
+    let edited : IsEdited c.self.inside.hdus.items c.self.inside.tail.items c.args.h c.in_ok-i.i c.args.edit.now c.self.inside.len c.len-count.result c.index_mut.result.now c.edit_hdu.new.hdu (Ok c.in_ok-self-inside.field-0) = record {
+      at = is_at c.self.inside.hdus.items c.deref.result.now c.args.h c.args.h c.in_ok-i.i c.index_mut.result.now c.deref.ensures.value refl c.in_ok-i.ensures.found c.index_mut.ensures.value;
+      file = c.self.invariant.whole;
+      size = c.self.invariant.len;
+      number = c.len-count.ensures ∙ sym c.deref.ensures.len ∙ ap length c.deref.ensures.value;
+      edits = c.in_ok-self-inside.ensures;
+    } in
+    rw (← c.self.view_is) (edits_made c.self.inside.hdus.items (set c.self.inside.hdus.items c.in_ok-i.i c.edit_hdu.new.hdu) c.self.inside.tail.items c.args.h c.in_ok-i.i c.args.edit.now c.self.inside.len c.len-count.result c.in_ok-self-inside.field-0 0 c.index_mut.result.now c.edit_hdu.new.hdu tt edited (followed_none (set c.self.inside.hdus.items c.in_ok-i.i c.edit_hdu.new.hdu) c.args.h) (omega arith))

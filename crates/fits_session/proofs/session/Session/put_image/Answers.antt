@@ -1,10 +1,17 @@
-use Rattle.std.proofs.Common.{◌≡◌, ◌+◌, inl, inr, length, arith, ap, sym, ◌∙◌, refl}
+use Rattle.std.proofs.Common.{vec_capacity, ◌≡◌, ◌+◌, ◌-◌, inl, inr, length, arith, ap, sym, ◌∙◌, refl}
 use Rattle.std.proofs.lemmas.Result.{err_from_is_err_and}
 use Rattle.fits_hdu.specs.Hdu.{hdu_bytes}
 use Rattle.fits_hdu.specs.NewImage.{are_axes, new_image}
 use Rattle.fits_rules.specs.declared.array_shape.Shape.{Shape}
 use Rattle.fits_session.specs.CardEdit.{is_within}
-use Rattle.fits_session.proofs.ListEditLemmas.{is_placed, new_first, new_fits, new_left, new_made, new_memory, new_nowhere, new_shapeless, new_size, new_too_large}
+use Rattle.fits_session.proofs.ListEditLemmas.{all_inserted, is_placed, new_first, new_fits, new_left, new_made, new_memory, new_nowhere, new_shapeless, new_size, new_too_large, placed_at}
+use Rattle.std.proofs.lemmas.List.{length-map}
+use Rattle.std.proofs.lemmas.List.Edits.{length-insert}
+use Rattle.fits_hdu.specs.State.{name_of, IsDescribed}
+use Rattle.fits_session.specs.NameTable.{names_of}
+use Rattle.fits_session.proofs.KeptLemmas.{kept_roomy}
+use Rattle.fits_session.proofs.StandingLemmas.{unnamed_stands}
+use Rattle.fits_session.proofs.TableLemmas.{names_within}
 use Rattle.fits_session.proofs.StateLemmas.{file_within}
 use Rattle.fits_session.proofs.session.Session.put_image.Goals as goal
 
@@ -43,6 +50,22 @@ returns-in_err-hdu c =
     let p = err_from_is_err_and c.from_residual-in_err-hdu.result c.from_residual-in_err-hdu.ensures.1 in
     rw (p.1, p.2, ← c.self.view_is) (new_memory c.self.inside.hdus.items c.self.inside.tail.items c.args.at c.args.kind c.args.axes.now placed)
 
+pub returns-in_err-reserve : goal.returns-in_err-reserve
+returns-in_err-reserve c =
+    let many : length c.self.inside.hdus.items ≡ c.len.result = omega (arith, c.len.ensures, c.self.inside.hdus.ok.0) in
+    let placed = is_placed (length c.self.inside.hdus.items) c.len.result c.args.at c.args.axes.now c.as_slice.result.now many (sym c.is_within.ensures ∙ c.if-not-is_within.false) c.if-at-eq1.false c.as_slice.ensures (sym c.are_axes.ensures ∙ c.if-not-are_axes.false) in
+    let p = err_from_is_err_and c.from_residual-in_err-reserve.result c.from_residual-in_err-reserve.ensures.1 in
+    rw (p.1, p.2, ← c.self.view_is) (new_memory c.self.inside.hdus.items c.self.inside.tail.items c.args.at c.args.kind c.args.axes.now placed)
+
+pub reserve-requires : goal.reserve-requires
+reserve-requires c =
+    omega (arith, names_within (names_of c.self.inside.hdus.items) c.self.inside.names.numbers.items c.self.invariant.names.table, length-map c.self.inside.hdus.items name_of, c.self.inside.hdus.ok.0, c.len-3.ensures)
+
+-- the table has room for no fewer than before
+pub invariant_of-self-in_err-insert : goal.invariant_of-self-in_err-insert
+invariant_of-self-in_err-insert c =
+    rw c.in_err-insert.ensures.items (kept_roomy c.self.inside.hdus.items c.self.inside.tail.items c.self.inside.len c.self.inside.names.numbers.items c.reserve.new.self.numbers.items (vec_capacity c.self.inside.names.numbers) (vec_capacity c.reserve.new.self.numbers) c.reserve.ensures.names c.reserve.ensures.capacity c.self.invariant)
+
 pub returns-in_err-insert : goal.returns-in_err-insert
 returns-in_err-insert c =
     let many : length c.self.inside.hdus.items ≡ c.len.result = omega (arith, c.len.ensures, c.self.inside.hdus.ok.0) in
@@ -70,10 +93,17 @@ invariant_of-self-2 c =
     let is = c.in_ok-hdu.ensures.hdu ∙ ap (new_image c.args.kind) axes_are in
     let left = new_left c.self.inside.hdus.items c.self.inside.tail.items c.args.at c.args.kind c.args.axes.now c.in_ok-hdu.hdu c.self.invariant.whole placed fits is in
     let more = new_size c.self.inside.hdus.items c.self.inside.tail.items c.args.at (new_image c.args.kind c.args.axes.now) c.in_ok-hdu.hdu is in
-    record {
-      whole = rw c.in_ok-insert.ensures.items left;
-      len = rw c.in_ok-insert.ensures.items (omega (arith, more, long, c.self.invariant.len, c.in-Some.ensures.len));
-    }
+    let hdus = c.self.inside.hdus.items in
+    let at = c.args.at - 1 in
+    let new = c.in_ok-hdu.hdu in
+    let es = c.self.inside.names.numbers.items in
+    rw (c.in_ok-insert.ensures.items, c.reserve.ensures.names) (record {
+      whole = left;
+      len = omega (arith, more, long, c.self.invariant.len, c.in-Some.ensures.len);
+      described = all_inserted IsDescribed hdus at new c.in_ok-hdu.ensures.described c.self.invariant.described;
+      names = unnamed_stands hdus at new es c.in_ok-hdu.ensures.unnamed c.in_ok-hdu.ensures.entry c.self.invariant.names;
+      room = omega (arith, c.in_ok-reserve.ensures.ok, c.len-3.ensures, c.self.inside.hdus.ok.0, length-insert hdus at new (placed_at (length hdus) c.args.at c.args.axes.now placed).1);
+    })
 
 pub returns : goal.returns
 returns c =

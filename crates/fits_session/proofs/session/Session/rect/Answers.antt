@@ -1,8 +1,9 @@
-use Rattle.std.proofs.Common.{ap, refl}
+use Rattle.std.proofs.Common.{ap, refl, vec_capacity}
 use Rattle.std.proofs.lemmas.Result.{err_from_is_err_and}
-use Rattle.fits_hdu.specs.State.{parts_of}
+use Rattle.fits_session.specs.Session.{uncounted}
+use Rattle.fits_session.proofs.KeptLemmas.{kept_read}
 use Rattle.fits_session.proofs.QueryLemmas.{rect_asks, rect_fails, rect_ok}
-use Rattle.fits_session.proofs.StateLemmas.{is_at, stays_file}
+use Rattle.fits_session.proofs.StateLemmas.{is_at}
 use Rattle.fits_session.proofs.session.Session.rect.Goals as goal
 
 pub returns-in_err-values-clause-err : goal.returns-in_err-values-clause-err
@@ -14,10 +15,9 @@ returns-in_err-values-clause-err c =
 
 pub invariant_of-self-2 : goal.invariant_of-self-2
 invariant_of-self-2 c =
-    let stays = stays_file c.self.inside.hdus.items c.self.inside.tail.items c.args.h c.in_ok-i.i c.self.inside.len c.index_mut-hdu.result.now c.rect.new.self
+    kept_read c.self.inside.hdus.items c.self.inside.tail.items c.args.h c.in_ok-i.i c.self.inside.len c.self.inside.names.numbers.items (vec_capacity c.self.inside.names.numbers) c.index_mut-hdu.result.now c.rect.new.self
     (is_at c.self.inside.hdus.items c.deref.result.now c.args.h c.args.h c.in_ok-i.i c.index_mut-hdu.result.now c.deref.ensures.value refl c.in_ok-i.ensures.found c.index_mut-hdu.ensures.value)
-    (ap parts_of c.in_ok-values.ensures.work) c.self.invariant.whole c.self.invariant.len in
-    record { whole = stays.0; len = stays.1 }
+    (ap uncounted c.in_ok-values.ensures.work) c.self.invariant
 
 pub returns-clause-ok : goal.returns-clause-ok
 returns-clause-ok c =

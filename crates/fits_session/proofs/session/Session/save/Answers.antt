@@ -1,12 +1,16 @@
-use Rattle.std.proofs.Common.{List, length, ap, sym, ◌∙◌}
-use Rattle.fits_hdu.specs.Hdu.{HduParts}
-use Rattle.fits_session.specs.File.{FileParts, file_bytes}
-use Rattle.fits_session.proofs.SaveLemmas.{whole_still}
+use Rattle.std.proofs.Common.{vec_capacity}
+use Rattle.fits_session.proofs.KeptLemmas.{file_counted, kept_counted}
 use Rattle.fits_session.proofs.session.Session.save.Goals as goal
 
--- the HDUs were read, and their bytes stay
+-- the HDUs were read, and nothing else of them changes
 pub invariant_of-self : goal.invariant_of-self
-invariant_of-self g c = record {
-  whole = whole_still _ c.write_hdus.new.hdus.items _ c.write_hdus.ensures.work.hdus c.self.invariant.whole;
-  len = c.self.invariant.len ∙ ap (λ (us : List HduParts). let file : FileParts = record { hdus = us; tail = c.self.inside.tail.items } in length (file_bytes file)) (sym c.write_hdus.ensures.work.hdus);
-}
+invariant_of-self g c = kept_counted c.self.inside.hdus.items c.write_hdus.new.hdus.items c.self.inside.tail.items c.self.inside.len c.self.inside.names.numbers.items (vec_capacity c.self.inside.names.numbers) c.write_hdus.ensures.work.hdus c.self.invariant
+
+pub invariant_of-self-2 : goal.invariant_of-self-2
+invariant_of-self-2 g c = kept_counted c.self.inside.hdus.items c.write_hdus.new.hdus.items c.self.inside.tail.items c.self.inside.len c.self.inside.names.numbers.items (vec_capacity c.self.inside.names.numbers) c.write_hdus.ensures.work.hdus c.self.invariant
+
+pub returns-in_err-outcome-clause-file : goal.returns-in_err-outcome-clause-file
+returns-in_err-outcome-clause-file g c = rw (← c.self.view_is) (file_counted c.self.inside.hdus.items c.write_hdus.new.hdus.items c.self.inside.tail.items c.write_hdus.ensures.work.hdus)
+
+pub returns-clause-file : goal.returns-clause-file
+returns-clause-file g c = rw (← c.self.view_is) (file_counted c.self.inside.hdus.items c.write_hdus.new.hdus.items c.self.inside.tail.items c.write_hdus.ensures.work.hdus)

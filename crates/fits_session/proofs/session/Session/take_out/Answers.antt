@@ -1,11 +1,17 @@
-use Rattle.std.proofs.Common.{ap, length, ◌<◌, arith, refl}
+use Rattle.std.proofs.Common.{ap, length, ◌<◌, ◌∙◌, arith, refl, subst, sym}
+use Rattle.std.specs.List.{remove}
+use Rattle.std.proofs.lemmas.List.Edits.{length-remove}
+use Rattle.fits_session.specs.File.{FileParts, file_bytes, IsFile}
+use Rattle.fits_session.specs.Session.{without_entries}
+use Rattle.fits_session.proofs.KeptLemmas.{count_moved, described_moved, file_of-unentered}
+use Rattle.fits_session.proofs.StandingLemmas.{removed_leaves}
 use Rattle.std.proofs.lemmas.List.{length-append}
 use Rattle.fits_card.specs.Header.{header_bytes}
 use Rattle.fits_header.specs.State.{HeaderState}
 use Rattle.fits_plane.specs.Plane.{PlaneState}
 use Rattle.std.proofs.lemmas.Result.{err_from_is_err_and}
-use Rattle.fits_hdu.specs.State.{parts_of}
-use Rattle.fits_session.proofs.ListEditLemmas.{primary_stays, removed_left, removed_size, removes, removes_nowhere}
+use Rattle.fits_hdu.specs.State.{parts_of, IsDescribed}
+use Rattle.fits_session.proofs.ListEditLemmas.{all_left, primary_stays, removed_left, removed_size, removes, removes_nowhere}
 use Rattle.fits_session.proofs.StateLemmas.{file_within, is_at, part_there}
 use Rattle.fits_session.proofs.session.Session.take_out.Goals as goal
 
@@ -41,21 +47,31 @@ overflow_sub-self c =
     let size = (file_within c.self.inside.hdus.items c.self.inside.tail.items c.self.invariant.whole).0 in
     omega (arith, part, c.self.invariant.len, length-append (header_bytes hdu.header) hdu.data_unit, c.byte_len-header_len.ensures, ap (λ (h : HeaderState). length (header_bytes h.header)) c.header.ensures, c.byte_len-data_len.ensures, ap (λ (p : PlaneState). length p.bytes) c.plane.ensures.value)
 
+pub leave-requires : goal.leave-requires
+leave-requires c =
+    let at = (is_at c.self.inside.hdus.items c.deref.result.now c.args.h c.args.h c.in_ok-i.i c.remove-hdu.result c.deref.ensures.value refl c.in_ok-i.ensures.found c.remove-hdu.ensures.value) in
+    rw (c.remove-hdu.ensures.items, c.entry-entry.ensures) (removed_leaves c.self.inside.hdus.items c.in_ok-i.i c.remove-hdu.result c.self.inside.names.numbers.items at.index.within at.is c.self.invariant.names)
+
 pub invariant_of-self : goal.invariant_of-self
 invariant_of-self c =
+    let hdus = c.self.inside.hdus.items in
     let hdu = (parts_of c.remove-hdu.result) in
     let behind : 0 < c.in_ok-i.i = grind (arith, c.if-i-eq0.false) in
-    let left = removed_left c.self.inside.hdus.items c.self.inside.tail.items c.args.h c.in_ok-i.i c.remove-hdu.result c.self.invariant.whole
-    (is_at c.self.inside.hdus.items c.deref.result.now c.args.h c.args.h c.in_ok-i.i c.remove-hdu.result c.deref.ensures.value refl c.in_ok-i.ensures.found c.remove-hdu.ensures.value) behind in
-    let less = removed_size c.self.inside.hdus.items c.self.inside.tail.items c.args.h c.in_ok-i.i c.remove-hdu.result
-    (is_at c.self.inside.hdus.items c.deref.result.now c.args.h c.args.h c.in_ok-i.i c.remove-hdu.result c.deref.ensures.value refl c.in_ok-i.ensures.found c.remove-hdu.ensures.value) in
+    let at = (is_at c.self.inside.hdus.items c.deref.result.now c.args.h c.args.h c.in_ok-i.i c.remove-hdu.result c.deref.ensures.value refl c.in_ok-i.ensures.found c.remove-hdu.ensures.value) in
+    let moved = c.leave.ensures.hdus ∙ ap without_entries c.remove-hdu.ensures.items in
+    let same = file_of-unentered c.leave.new.hdus.items (remove hdus c.in_ok-i.i) c.self.inside.tail.items moved in
+    let left = removed_left hdus c.self.inside.tail.items c.args.h c.in_ok-i.i c.remove-hdu.result c.self.invariant.whole at behind in
+    let less = removed_size hdus c.self.inside.tail.items c.args.h c.in_ok-i.i c.remove-hdu.result at in
     record {
-      whole = rw c.remove-hdu.ensures.items left;
-      len = rw c.remove-hdu.ensures.items (omega (arith, less, c.self.invariant.len, length-append (header_bytes hdu.header) hdu.data_unit, c.byte_len-header_len.ensures, ap (λ (h : HeaderState). length (header_bytes h.header)) c.header.ensures, c.byte_len-data_len.ensures, ap (λ (p : PlaneState). length p.bytes) c.plane.ensures.value));
+      whole = subst (λ (f : FileParts). IsFile f) (sym same) left;
+      len = omega (arith, ap (λ (f : FileParts). length (file_bytes f)) same, less, c.self.invariant.len, length-append (header_bytes hdu.header) hdu.data_unit, c.byte_len-header_len.ensures, ap (λ (h : HeaderState). length (header_bytes h.header)) c.header.ensures, c.byte_len-data_len.ensures, ap (λ (p : PlaneState). length p.bytes) c.plane.ensures.value);
+      described = described_moved c.leave.new.hdus.items (remove hdus c.in_ok-i.i) moved (all_left IsDescribed hdus c.in_ok-i.i c.self.invariant.described);
+      names = c.leave.ensures.stands;
+      room = omega (arith, c.self.invariant.room, c.leave.ensures.room, count_moved c.leave.new.hdus.items (remove hdus c.in_ok-i.i) moved, length-remove hdus c.in_ok-i.i at.index.within);
     }
 
 pub returns : goal.returns
 returns c =
     let behind : 0 < c.in_ok-i.i = grind (arith, c.if-i-eq0.false) in
-    rw (c.remove-hdu.ensures.items, ← c.self.view_is) (removes c.self.inside.hdus.items c.self.inside.tail.items c.args.h c.in_ok-i.i tt c.remove-hdu.result
-    (is_at c.self.inside.hdus.items c.deref.result.now c.args.h c.args.h c.in_ok-i.i c.remove-hdu.result c.deref.ensures.value refl c.in_ok-i.ensures.found c.remove-hdu.ensures.value) behind)
+    let at = (is_at c.self.inside.hdus.items c.deref.result.now c.args.h c.args.h c.in_ok-i.i c.remove-hdu.result c.deref.ensures.value refl c.in_ok-i.ensures.found c.remove-hdu.ensures.value) in
+    rw (← c.self.view_is) (removes c.self.inside.hdus.items c.leave.new.hdus.items c.self.inside.tail.items c.args.h c.in_ok-i.i tt c.remove-hdu.result at behind (c.leave.ensures.hdus ∙ ap without_entries c.remove-hdu.ensures.items))

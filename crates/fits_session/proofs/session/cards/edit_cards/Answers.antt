@@ -13,7 +13,7 @@ use Rattle.fits_session.proofs.session.cards.edit_cards.Goals as goal
 pub returns-in_err-change : goal.returns-in_err-change
 returns-in_err-change c =
     let p = err_from_is_err_and c.from_residual.result c.from_residual.ensures.1 in
-    rw (p.1, p.2) (cards_unmade c.args.edit.now c.args.len c.args.hdus c.args.hdu.now c.change_of.new.hdu c.in_err-change.field-0.0 c.change_of.ensures.whole c.change_of.ensures.work c.in_err-change.ensures.err (λ memory. c.in_err-change.ensures.memory (ap (λ why. let made : Result Change Refusal = Err why in made) memory)))
+    rw (p.1, p.2) (cards_unmade c.args.edit.now c.args.len c.args.hdus c.args.hdu.now c.change_of.new.hdu c.in_err-change.field-0.0 c.change_of.ensures.whole c.change_of.ensures.described c.change_of.ensures.work c.in_err-change.ensures.err (λ memory. c.in_err-change.ensures.memory (ap (λ why. let made : Result Change Refusal = Err why in made) memory)))
 
 pub make_change-requires-clause-in_range : goal.make_change-requires-clause-in_range
 make_change-requires-clause-in_range c =

@@ -11,5 +11,5 @@ returns-in_err-paint c =
 
 pub returns : goal.returns
 returns c =
-    paints c.args.lo.now c.args.hi.now c.args.paint.now c.args.len c.args.hdus c.args.hdu.now c.paint.new.self c.card_count-whole.ensures.whole c.paint.ensures.described c.requires.part c.requires.within (rw (c.as_slice.ensures, c.as_slice-2.ensures, c.lent.ensures) at c.in_ok-paint.ensures.ok) (ap (λ (state : HduState). state.header.reads) c.paint.ensures.rest)
+    paints c.args.lo.now c.args.hi.now c.args.paint.now c.args.len c.args.hdus c.args.hdu.now c.paint.new.self c.card_count-whole.ensures.whole c.paint.ensures.described c.requires.part c.requires.within (rw (c.as_slice.ensures, c.as_slice-2.ensures, c.lent.ensures) at c.in_ok-paint.ensures.ok) (ap (λ (state : HduState). state.header) c.paint.ensures.rest) (ap (λ (state : HduState). state.entry) c.paint.ensures.rest)
     (rw (c.as_slice.ensures, c.as_slice-2.ensures) at c.in_ok-paint.ensures.work)

@@ -17,7 +17,7 @@ loop-i-preserved g c =
 pub returns-in_err-emit-clause-work : goal.returns-in_err-emit-clause-work
 returns-in_err-emit-clause-work g c =
     let l : c.loop-i.i < length c.loop-i.hdus.items = omega (arith, c.loop-i.invariant.count) in
-    once_at_most _ c.loop-i.hdus.items c.loop-i.i c.index_mut-hdu.result.now _ c.loop-i.invariant.work c.loop-i.invariant.same l c.index_mut-hdu.ensures.value c.emit.ensures.work
+    once_at_most _ c.loop-i.hdus.items c.loop-i.i c.index_mut-hdu.result.now _ c.loop-i.invariant.work l c.index_mut-hdu.ensures.value c.emit.ensures.work
 
 pub returns-clause-work : goal.returns-clause-work
 returns-clause-work g c =

@@ -1,0 +1,150 @@
+-- What a session keeps, where counts grow and entries move.
+use Rattle.std.proofs.Common.{◌≡◌, ℕ, ◌<◌, ◌≤◌, List, [], ◌∷◌, length, map, get_or, set, refl, ap, sym, subst, ◌∙◌, arith, Option}
+use Rattle.std.specs.Prelude.{All}
+use Rattle.std.proofs.lemmas.List.{get_or-map, length-map}
+use Rattle.std.proofs.lemmas.List.Elements.{All-map}
+use Rattle.fits_hdu.specs.Hdu.{HduParts}
+use Rattle.fits_hdu.specs.State.{HduState, ReadsUpTo, name_of, parts_of, IsDescribed}
+use Rattle.fits_hdu.specs.Work.{PixelWork, plane_work}
+use Rattle.fits_hdu.specs.declared.extension_name.ExtensionName.{ExtensionName}
+use Rattle.std.specs.Map.{keys_of}
+use Rattle.fits_session.specs.File.{FileParts, file_bytes, IsFile}
+use Rattle.fits_session.specs.NameTable.{mended, names_of, ArePlaced, IsTableOf, PointsAt, Stands}
+use Rattle.fits_session.specs.Session.{file_of, hdus_of, reads_of, state_of, uncounted, unentered, without_counts, without_entries, works_of, AreNamed, IsKept}
+use Rattle.fits_session.proofs.StateLemmas.{IsHduAt, parts_same}
+
+-- the parts of HDUs are no counts
+hdus_of-uncounted : (hdus : List HduState) → hdus_of (without_counts hdus) ≡ hdus_of hdus
+hdus_of-uncounted [] = refl
+hdus_of-uncounted (hdu ∷ hdus) = ap (λ us. parts_of hdu ∷ us) (hdus_of-uncounted hdus)
+
+-- nor is what they are called
+names_of-uncounted : (hdus : List HduState) → names_of (without_counts hdus) ≡ names_of hdus
+names_of-uncounted [] = refl
+names_of-uncounted (hdu ∷ hdus) = ap (λ names. name_of hdu ∷ names) (names_of-uncounted hdus)
+
+-- so HDUs that differ in counts alone have the same parts
+pub hdus_as : (hdus others : List HduState) → without_counts hdus ≡ without_counts others → hdus_of hdus ≡ hdus_of others
+hdus_as hdus others same = sym (hdus_of-uncounted hdus) ∙ ap hdus_of same ∙ hdus_of-uncounted others
+
+-- files with the same HDUs are the same
+file_with : (us vs : List HduParts) (tail : List ℕ) → us ≡ vs → (let file : FileParts = record { hdus = us; tail = tail } in file) ≡ record { hdus = vs; tail = tail }
+file_with us vs tail same = ap (λ (hdus : List HduParts). let file : FileParts = record { hdus = hdus; tail = tail } in file) same
+
+-- what holds of HDUs seen another way holds of them, and back
+all_seen : (P : HduState → Type 0) (see : HduState → HduState) → ((one : HduState) → P (see one) → P one) → (hdus : List HduState) → All P (map see hdus) → All P hdus
+all_seen P see back hdus p = λ i d within. back (get_or hdus i d) (subst P (get_or-map see hdus i d (see d) within) (p i (see d) (omega (arith, within, length-map hdus see))))
+
+seen_all : (P : HduState → Type 0) (see : HduState → HduState) → ((one : HduState) → P one → P (see one)) → (hdus : List HduState) → All P hdus → All P (map see hdus)
+seen_all P see on hdus p = All-map P see hdus (λ i d within. on (get_or hdus i d) (p i d within))
+
+-- the entry of one is the place of its name
+IsPlaced : List ExtensionName → HduState → Type 0
+IsPlaced keys hdu = PointsAt keys (name_of hdu) hdu.entry
+
+-- what is kept of HDUs is kept of them without their counts
+kept_without : (hdus : List HduState) (tail : List ℕ) (bytes : ℕ) (entries : List (ExtensionName × ℕ)) (capacity : ℕ) → IsKept hdus tail bytes entries capacity → IsKept (without_counts hdus) tail bytes entries capacity
+unfolding IsPlaced
+kept_without hdus tail bytes entries capacity kept =
+    let same = sym (file_with (hdus_of (without_counts hdus)) (hdus_of hdus) tail (hdus_of-uncounted hdus)) in
+    record {
+      whole = subst (λ (f : FileParts). IsFile f) same kept.whole;
+      len = kept.len ∙ ap (λ (f : FileParts). length (file_bytes f)) same;
+      described = seen_all IsDescribed uncounted (λ one p. p) hdus kept.described;
+      names = record {
+        table = subst (λ names. IsTableOf names entries) (sym (names_of-uncounted hdus)) kept.names.table;
+        placed = seen_all (IsPlaced (keys_of entries)) uncounted (λ one p. p) hdus kept.names.placed;
+      };
+      room = omega (arith, kept.room, length-map hdus uncounted);
+    }
+
+-- and back
+kept_with : (hdus : List HduState) (tail : List ℕ) (bytes : ℕ) (entries : List (ExtensionName × ℕ)) (capacity : ℕ) → IsKept (without_counts hdus) tail bytes entries capacity → IsKept hdus tail bytes entries capacity
+unfolding IsPlaced
+kept_with hdus tail bytes entries capacity kept =
+    let same = file_with (hdus_of (without_counts hdus)) (hdus_of hdus) tail (hdus_of-uncounted hdus) in
+    record {
+      whole = subst (λ (f : FileParts). IsFile f) same kept.whole;
+      len = kept.len ∙ ap (λ (f : FileParts). length (file_bytes f)) same;
+      described = all_seen IsDescribed uncounted (λ one p. p) hdus kept.described;
+      names = record {
+        table = subst (λ names. IsTableOf names entries) (names_of-uncounted hdus) kept.names.table;
+        placed = all_seen (IsPlaced (keys_of entries)) uncounted (λ one p. p) hdus kept.names.placed;
+      };
+      room = omega (arith, kept.room, length-map hdus uncounted);
+    }
+
+-- so it is kept where counts alone change
+pub kept_counted : (hdus others : List HduState) (tail : List ℕ) (bytes : ℕ) (entries : List (ExtensionName × ℕ)) (capacity : ℕ) → without_counts others ≡ without_counts hdus → IsKept hdus tail bytes entries capacity → IsKept others tail bytes entries capacity
+kept_counted hdus others tail bytes entries capacity same kept =
+    kept_with others tail bytes entries capacity (subst (λ (us : List HduState). IsKept us tail bytes entries capacity) (sym same) (kept_without hdus tail bytes entries capacity kept))
+
+-- an HDU whose cards were read is the same without its counts
+pub uncounted_read : (old new : HduState) (most : ℕ) → ReadsUpTo old new most → uncounted new ≡ uncounted old
+uncounted_read old new most read = rw (read.header.header, read.header.shape, read.header.room, read.plane, read.entry) refl
+
+-- so what is kept is kept where one HDU was read
+pub kept_read : (hdus : List HduState) (tail : List ℕ) (h i bytes : ℕ) (entries : List (ExtensionName × ℕ)) (capacity : ℕ) (old new : HduState) → IsHduAt hdus h i old → uncounted new ≡ uncounted old → IsKept hdus tail bytes entries capacity → IsKept (set hdus i new) tail bytes entries capacity
+kept_read hdus tail h i bytes entries capacity old new at same kept = kept_counted hdus (set hdus i new) tail bytes entries capacity (parts_same uncounted hdus i old new at.index.within at.is same) kept
+
+-- the parts of HDUs are no entries
+hdus_of-unentered : (hdus : List HduState) → hdus_of (without_entries hdus) ≡ hdus_of hdus
+hdus_of-unentered [] = refl
+hdus_of-unentered (hdu ∷ hdus) = ap (λ us. parts_of hdu ∷ us) (hdus_of-unentered hdus)
+
+-- nor are their counts
+pub reads_of-unentered : (hdus : List HduState) → reads_of (without_entries hdus) ≡ reads_of hdus
+reads_of-unentered [] = refl
+reads_of-unentered (hdu ∷ hdus) = ap (λ (reads : List ℕ). hdu.header.reads ∷ reads) (reads_of-unentered hdus)
+
+-- nor the work on their data units
+pub works_of-unentered : (hdus : List HduState) → works_of (without_entries hdus) ≡ works_of hdus
+works_of-unentered [] = refl
+works_of-unentered (hdu ∷ hdus) = ap (λ (works : List PixelWork). plane_work hdu.plane ∷ works) (works_of-unentered hdus)
+
+-- so HDUs that differ in entries alone have the same parts
+pub hdus_moved : (hdus others : List HduState) → without_entries hdus ≡ without_entries others → hdus_of hdus ≡ hdus_of others
+hdus_moved hdus others same = sym (hdus_of-unentered hdus) ∙ ap hdus_of same ∙ hdus_of-unentered others
+
+-- and the same counts
+pub reads_moved : (hdus others : List HduState) → without_entries hdus ≡ without_entries others → reads_of hdus ≡ reads_of others
+reads_moved hdus others same = sym (reads_of-unentered hdus) ∙ ap reads_of same ∙ reads_of-unentered others
+
+pub works_moved : (hdus others : List HduState) → without_entries hdus ≡ without_entries others → works_of hdus ≡ works_of others
+works_moved hdus others same = sym (works_of-unentered hdus) ∙ ap works_of same ∙ works_of-unentered others
+
+-- their cards describe their shapes alike
+pub described_moved : (hdus others : List HduState) → without_entries hdus ≡ without_entries others → All IsDescribed others → All IsDescribed hdus
+described_moved hdus others same p =
+    all_seen IsDescribed unentered (λ one q. q) hdus (subst (All IsDescribed) (sym same) (seen_all IsDescribed unentered (λ one q. q) others p))
+
+-- and they are as many
+pub count_moved : (hdus others : List HduState) → without_entries hdus ≡ without_entries others → length hdus ≡ length others
+count_moved hdus others same = sym (length-map hdus unentered) ∙ ap length same ∙ length-map others unentered
+
+-- the file is the same
+pub file_of-unentered : (hdus others : List HduState) (tail : List ℕ) → without_entries hdus ≡ without_entries others → file_of (state_of hdus tail) ≡ file_of (state_of others tail)
+file_of-unentered hdus others tail same = file_with (hdus_of hdus) (hdus_of others) tail (hdus_moved hdus others same)
+
+-- HDUs that are kept are named
+pub kept_named : (hdus : List HduState) (tail : List ℕ) (bytes : ℕ) (entries : List (ExtensionName × ℕ)) (capacity : ℕ) → IsKept hdus tail bytes entries capacity → AreNamed hdus entries
+kept_named hdus tail bytes entries capacity kept = record { tail = tail; whole = kept.whole; described = kept.described; names = kept.names }
+
+-- entries that are mended are no other HDUs
+pub unentered_mended : (gone : ℕ) (hdus : List HduState) → without_entries (map (mended gone) hdus) ≡ without_entries hdus
+unentered_mended gone [] = refl
+unentered_mended gone (hdu ∷ hdus) = ap (λ (us : List HduState). unentered hdu ∷ us) (unentered_mended gone hdus)
+
+-- a session keeps what it kept where its table has more room
+pub kept_roomy : (hdus : List HduState) (tail : List ℕ) (bytes : ℕ) (entries others : List (ExtensionName × ℕ)) (capacity more : ℕ) → others ≡ entries → capacity ≤ more → IsKept hdus tail bytes entries capacity → IsKept hdus tail bytes others more
+kept_roomy hdus tail bytes entries others capacity more same room kept = record {
+  whole = kept.whole;
+  len = kept.len;
+  described = kept.described;
+  names = subst (Stands hdus) (sym same) kept.names;
+  room = omega (arith, kept.room, room);
+}
+
+-- the file stays where counts alone change
+pub file_counted : (hdus others : List HduState) (tail : List ℕ) → without_counts others ≡ without_counts hdus → file_of (state_of others tail) ≡ file_of (state_of hdus tail)
+file_counted hdus others tail same = file_with (hdus_of others) (hdus_of hdus) tail (hdus_as others hdus same)
