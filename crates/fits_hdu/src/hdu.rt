@@ -1,5 +1,7 @@
 ghost use Rattle.std.specs.Prelude.{◌≡◌, ◌≤◌, ◌+◌, length};
 
+#[cfg(test)]
+mod fields;
 mod making;
 mod pixels;
 mod reporting;
@@ -140,11 +142,13 @@ impl Hdu {
             (plane_work it.plane)) }
     {
         let mut header = Header::open(alloc, cards, shape)?;
-        let Ok(plane) = plane_of(alloc, &mut header, data_unit) else {
-            drop(header);
-            return Err(AllocError);
-        };
-        Ok(Hdu::joined(header, plane))
+        match plane_of(alloc, &mut header, data_unit) {
+            Ok(plane) => Ok(Hdu::joined(header, plane)),
+            Err(refused) => {
+                drop(header);
+                Err(refused)
+            }
+        }
     }
 
     // The HDU of a header and of the data unit that it describes.

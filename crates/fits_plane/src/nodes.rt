@@ -7,14 +7,16 @@ use fits_stream::Count;
 use std::alloc::{AllocError, Global};
 
 /// The least power of two that is not below a number.
-pub(crate) fn power_from(used: usize) -> Option<usize>
-    ensures power { IfSome result (λ n. IsLeastPower used n) }
+pub(crate) fn power_from(used: usize) -> usize
+    requires { used ≤ 2 ^ 62 }
+    ensures power { IsLeastPower used result }
+    ensures small { result ≤ 2 ^ 62 }
 {
     let mut width = 1usize;
     while width < used {
-        width = width.checked_mul(2)?;
+        width *= 2;
     }
-    Some(width)
+    width
 }
 
 /// So many units.

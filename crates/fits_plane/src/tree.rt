@@ -39,19 +39,15 @@ impl<S: Summary> Model for Tree<S> {
 impl<S: Summary> Tree<S> {
     /// A tree of leaves, with a join for each node above them.
     pub fn open(alloc: Global, leaves: Vec<S>) -> Result<Tree<S>, AllocError>
+        requires few { length leaves.items ≤ 2 ^ 62 }
         requires fit { (k : ℕ) → k < length leaves.items
             → S.fits (slice_index_or leaves.items k S.empty) }
         ensures leaves { IfOk result (λ t. t.leaves ≡ leaves.items) }
         ensures work { IfOk result (λ t. (d : ℕ) → length leaves.items ≤ 2 ^ d → t.joins ≤ 2 ^ d) }
     {
         let used = leaves.len();
-        let Some(width) = power_from(used) else {
-            return Err(AllocError)
-        };
-        let Some(count) = width.checked_mul(2) else {
-            return Err(AllocError)
-        };
-        let mut nodes = units_of(alloc, count)?;
+        let width = power_from(used);
+        let mut nodes = units_of(alloc, 2 * width)?;
         let mut joins = Count::new();
         plant_tree(nodes.as_mut_slice(), width, leaves.as_slice(), &mut joins);
         Ok(Tree {

@@ -3,6 +3,8 @@ ghost use Rattle.std.specs.Prelude.{◌≡◌};
 mod cards;
 mod changes;
 mod editing;
+#[cfg(test)]
+mod fields;
 mod finding;
 mod list_edits;
 mod naming;

@@ -88,7 +88,8 @@ fn and<'a>(
 ) -> Result<Command<'a>, AllocError> {
     match (all, one) {
         (Ok(all), Ok(one)) => all.subcommand(one),
-        _ => Err(AllocError),
+        (Err(refused), _) => Err(refused),
+        (_, Err(refused)) => Err(refused),
     }
 }
 

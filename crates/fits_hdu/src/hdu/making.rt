@@ -38,14 +38,16 @@ impl Hdu {
             (plane_work it.plane)) }
     {
         let Ok(len) = unit_len(&shape, LARGEST_UNIT) else {
-            return Err(AllocError);
+            unreachable!()
         };
         let cards = image_header(alloc, kind, shape.axes.as_slice())?;
         let mut header = Header::open(alloc, cards, shape)?;
-        let Ok(plane) = zero_plane(alloc, &mut header, len) else {
-            drop(header);
-            return Err(AllocError);
-        };
-        Ok(Hdu::joined(header, plane))
+        match zero_plane(alloc, &mut header, len) {
+            Ok(plane) => Ok(Hdu::joined(header, plane)),
+            Err(refused) => {
+                drop(header);
+                Err(refused)
+            }
+        }
     }
 }

@@ -7,19 +7,19 @@ use Rattle.fits_rules.specs.declared.array_shape.Shape.{Shape}
 use Rattle.fits_hdu.specs.ExtensionName.{extension_name}
 use Rattle.fits_hdu.specs.NewImage.{image_cards}
 use Rattle.fits_hdu.specs.State.{parts_of}
-use Rattle.fits_hdu.proofs.NewHeaderLemmas.{new_described, new_made}
+use Rattle.fits_hdu.proofs.NewHeaderLemmas.{new_described, new_made, size_more}
 use Rattle.fits_hdu.proofs.NewKindLemmas.{new_unnamed}
 use Rattle.fits_hdu.proofs.hdu.Hdu.new_image.Goals as goal
 
-pub returns-clause-hdu : goal.returns-clause-hdu
-returns-clause-hdu c =
+pub returns-in-Ok-zero_plane-clause-hdu : goal.returns-in-Ok-zero_plane-clause-hdu
+returns-in-Ok-zero_plane-clause-hdu c =
     let axes = ap (λ (xs : List ℕ). new_header (image_cards c.args.kind xs)) c.as_slice.ensures in
     new_made c.args.kind c.args.shape (parts_of c.joined.result) c.in-Ok.len c.requires.shape
     (c.joined.ensures.header ∙ (c.zero_plane.ensures.work.header ∙ (c.in_ok-header.ensures.header ∙ (c.in_ok-cards.ensures.header ∙ axes))))
     (c.joined.ensures.unit ∙ c.in-Ok-zero_plane.ensures.bytes) c.in-Ok.ensures.ok
 
-pub returns-clause-shape : goal.returns-clause-shape
-returns-clause-shape c = c.joined.ensures.shape ∙ (c.zero_plane.ensures.work.shape ∙ c.in_ok-header.ensures.shape)
+pub returns-in-Ok-zero_plane-clause-shape : goal.returns-in-Ok-zero_plane-clause-shape
+returns-in-Ok-zero_plane-clause-shape c = c.joined.ensures.shape ∙ (c.zero_plane.ensures.work.shape ∙ c.in_ok-header.ensures.shape)
 
 pub open-requires : goal.open-requires
 open-requires c =
@@ -48,19 +48,23 @@ zero_plane-requires-clause-small c = omega (arith, c.in-Ok.ensures.within)
 pub image_header-requires : goal.image_header-requires
 image_header-requires c = record { axes = rw c.as_slice.ensures c.requires.axes }
 
-pub returns-clause-work : goal.returns-clause-work
-returns-clause-work c =
+pub returns-in-Ok-zero_plane-clause-work : goal.returns-in-Ok-zero_plane-clause-work
+returns-in-Ok-zero_plane-clause-work c =
     let same = c.joined.ensures.header ∙ (c.zero_plane.ensures.work.header ∙ c.in_ok-header.ensures.header) in
     omega (arith, ap (λ (header : Header). length header.cards) same, c.joined.ensures.work, c.zero_plane.ensures.work.most, c.in_ok-header.ensures.work, c.in_ok-cards.ensures.unread)
 
-pub returns-clause-scans : goal.returns-clause-scans
-returns-clause-scans c = rw (c.joined.ensures.scans, c.joined.ensures.unit, c.in-Ok-zero_plane.ensures.bytes) c.in-Ok-zero_plane.ensures.scans
+pub returns-in-Ok-zero_plane-clause-scans : goal.returns-in-Ok-zero_plane-clause-scans
+returns-in-Ok-zero_plane-clause-scans c = rw (c.joined.ensures.scans, c.joined.ensures.unit, c.in-Ok-zero_plane.ensures.bytes) c.in-Ok-zero_plane.ensures.scans
 
 -- it isn't called anything
-pub returns-clause-unnamed : goal.returns-clause-unnamed
-returns-clause-unnamed c =
+pub returns-in-Ok-zero_plane-clause-unnamed : goal.returns-in-Ok-zero_plane-clause-unnamed
+returns-in-Ok-zero_plane-clause-unnamed c =
     let axes = ap (λ (xs : List ℕ). new_header (image_cards c.args.kind xs)) c.as_slice.ensures in
     let header = c.joined.ensures.header ∙ (c.zero_plane.ensures.work.header ∙ (c.in_ok-header.ensures.header ∙ (c.in_ok-cards.ensures.header ∙ axes))) in
     let shape = c.joined.ensures.shape ∙ (c.zero_plane.ensures.work.shape ∙ c.in_ok-header.ensures.shape) in
     ap (λ (s : Shape). extension_name (is_primary s.class) c.joined.result.header.header.cards) (shape ∙ c.requires.shape)
     ∙ (ap (λ (h : Header). extension_name false h.cards) header ∙ new_unnamed c.args.kind c.args.shape.axes c.requires.axes)
+
+-- the data unit isn't longer than the whole
+pub unreachable-requires : goal.unreachable-requires
+unreachable-requires c = omega (arith, c.requires.small, size_more c.args.kind c.args.shape 8589934592 c.requires.shape c.requires.axes c.in_default.ensures.short)

@@ -16,20 +16,20 @@ joined-requires-clause-size c = ap length c.in-Ok.ensures.bytes ∙ (c.requires.
 pub joined-requires-clause-layout : goal.joined-requires-clause-layout
 joined-requires-clause-layout c = rw (c.plane_of.ensures.work.header, c.plane_of.ensures.work.shape) c.in-Ok.ensures.layout
 
-pub returns-clause-header : goal.returns-clause-header
-returns-clause-header c = c.joined.ensures.header ∙ (c.plane_of.ensures.work.header ∙ c.in_ok-header.ensures.header)
+pub returns-in-Ok-clause-header : goal.returns-in-Ok-clause-header
+returns-in-Ok-clause-header c = c.joined.ensures.header ∙ (c.plane_of.ensures.work.header ∙ c.in_ok-header.ensures.header)
 
-pub returns-clause-unit : goal.returns-clause-unit
-returns-clause-unit c = c.joined.ensures.unit ∙ c.in-Ok.ensures.bytes
+pub returns-in-Ok-clause-unit : goal.returns-in-Ok-clause-unit
+returns-in-Ok-clause-unit c = c.joined.ensures.unit ∙ c.in-Ok.ensures.bytes
 
-pub returns-clause-shape : goal.returns-clause-shape
-returns-clause-shape c = c.joined.ensures.shape ∙ (c.plane_of.ensures.work.shape ∙ c.in_ok-header.ensures.shape)
+pub returns-in-Ok-clause-shape : goal.returns-in-Ok-clause-shape
+returns-in-Ok-clause-shape c = c.joined.ensures.shape ∙ (c.plane_of.ensures.work.shape ∙ c.in_ok-header.ensures.shape)
 
-pub returns-clause-work : goal.returns-clause-work
-returns-clause-work c = omega (arith, c.joined.ensures.work, c.plane_of.ensures.work.most, c.in_ok-header.ensures.work)
+pub returns-in-Ok-clause-work : goal.returns-in-Ok-clause-work
+returns-in-Ok-clause-work c = omega (arith, c.joined.ensures.work, c.plane_of.ensures.work.most, c.in_ok-header.ensures.work)
 
-pub returns-clause-scans : goal.returns-clause-scans
-returns-clause-scans c = rw c.joined.ensures.scans c.in-Ok.ensures.scans
+pub returns-in-Ok-clause-scans : goal.returns-in-Ok-clause-scans
+returns-in-Ok-clause-scans c = rw c.joined.ensures.scans c.in-Ok.ensures.scans
 
-pub returns-clause-least : goal.returns-clause-least
-returns-clause-least c = omega (arith, c.joined.ensures.least, c.plane_of.ensures.work.least, c.in_ok-header.ensures.least)
+pub returns-in-Ok-clause-least : goal.returns-in-Ok-clause-least
+returns-in-Ok-clause-least c = omega (arith, c.joined.ensures.least, c.plane_of.ensures.work.least, c.in_ok-header.ensures.least)

@@ -6,8 +6,8 @@ use Rattle.fits_plane.proofs.tree.Tree.open.Goals as goal
 
 pub returns-clause-work : goal.returns-clause-work
 returns-clause-work g c = λ d u.
-    let p = c.in-Some.ensures.power in
-    let few = least_power p.depth c.in-Some.width c.len-used.result d p.power p.least (omega (arith, u, c.len-used.ensures)) in
+    let p = c.power_from-width.ensures.power in
+    let few = least_power p.depth c.power_from-width.result c.len-used.result d p.power p.least (omega (arith, u, c.len-used.ensures)) in
     omega (arith, few, c.plant_tree.ensures.work, c.new-joins.ensures)
 
 -- the leaves fit
@@ -19,11 +19,11 @@ plant_tree-requires-clause-fit g c = λ k b.
 pub invariant_of-result : goal.invariant_of-result
 invariant_of-result g c =
     let s = g.S.Summary in
-    let n : ℕ = c.in-Some.width in
+    let n : ℕ = c.power_from-width.result in
     let same = with_items_is c.in_ok-nodes.nodes c.plant_tree.new.nodes (omega arith) in
     record {
       tree = subst (IsTree s.empty s.joined s.fits n) (sym same) c.plant_tree.ensures.tree;
-      power = c.in-Some.ensures.power;
+      power = c.power_from-width.ensures.power;
       units = λ k low high. ap (λ xs. get_or xs (n + k) s.empty) same ∙ c.plant_tree.ensures.units k (omega (arith, low, c.len-used.ensures, ap length c.as_slice.ensures.value));
     }
 
@@ -31,7 +31,7 @@ invariant_of-result g c =
 pub returns-clause-leaves : goal.returns-clause-leaves
 returns-clause-leaves g c =
     let used : ℕ = c.len-used.result in
-    let n : ℕ = c.in-Some.width in
+    let n : ℕ = c.power_from-width.result in
     let long : used ≡ length c.as_slice.result.now = omega (arith, c.len-used.ensures, ap length c.as_slice.ensures.value) in
     ap (λ xs. take used (drop n xs)) (with_items_is c.in_ok-nodes.nodes c.plant_tree.new.nodes (omega arith))
     ∙ ap (λ m. take m (drop n c.plant_tree.new.nodes)) long ∙ c.plant_tree.ensures.leaves ∙ c.as_slice.ensures.value
