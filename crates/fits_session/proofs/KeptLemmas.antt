@@ -1,5 +1,5 @@
 -- What a session keeps, where counts grow and entries move.
-use Rattle.std.proofs.Common.{◌≡◌, ℕ, ◌<◌, ◌≤◌, List, [], ◌∷◌, length, map, get_or, set, refl, ap, sym, subst, ◌∙◌, arith, Option}
+use Rattle.std.proofs.Common.{◌≡◌, ℕ, ◌≤◌, List, [], ◌∷◌, length, map, get_or, set, refl, ap, sym, subst, ◌∙◌, arith}
 use Rattle.std.specs.Prelude.{All}
 use Rattle.std.proofs.lemmas.List.{get_or-map, length-map}
 use Rattle.std.proofs.lemmas.List.Elements.{All-map}
@@ -9,7 +9,7 @@ use Rattle.fits_hdu.specs.Work.{PixelWork, plane_work}
 use Rattle.fits_hdu.specs.declared.extension_name.ExtensionName.{ExtensionName}
 use Rattle.std.specs.Map.{keys_of}
 use Rattle.fits_session.specs.File.{FileParts, file_bytes, IsFile}
-use Rattle.fits_session.specs.NameTable.{mended, names_of, ArePlaced, IsTableOf, PointsAt, Stands}
+use Rattle.fits_session.specs.NameTable.{mended, names_of, IsTableOf, PointsAt, Stands}
 use Rattle.fits_session.specs.Session.{file_of, hdus_of, reads_of, state_of, uncounted, unentered, without_counts, without_entries, works_of, AreNamed, IsKept}
 use Rattle.fits_session.proofs.StateLemmas.{IsHduAt, parts_same}
 

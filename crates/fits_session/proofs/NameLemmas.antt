@@ -1,13 +1,12 @@
 -- What HDUs are called, and which of them are called the same.
-use Rattle.std.proofs.Common.{◌≡◌, ◌⊎◌, ℕ, ◌+◌, ◌<◌, ◌≤◌, Bool, true, false, cond, true≢false, is_some, List, [], ◌∷◌, ◌++◌, length, take, get_or, refl, ap, sym, subst, ◌∙◌, arith, inl, inr, All, Option, None, Some, zero, suc}
+use Rattle.std.proofs.Common.{◌≡◌, ◌⊎◌, ℕ, ◌+◌, ◌<◌, ◌≤◌, Bool, true, false, cond, true≢false, List, [], ◌∷◌, ◌++◌, length, take, get_or, refl, ap, sym, subst, ◌∙◌, arith, inl, inr, All, Option, None, Some, zero, suc}
 use Rattle.std.specs.Prelude.{nat_le, ◌&&◌, Ok}
 use Rattle.std.specs.List.{filter, slice_get}
 use Rattle.std.specs.Ordering.{int_eq}
 use Rattle.std.specs.Str.{bytes_eq}
 use Rattle.std.proofs.lemmas.Bool.Decides.{Decides-int_eq}
 use Rattle.std.proofs.lemmas.Slice.Eq.{bytes_eq-Decides}
-use Rattle.std.proofs.lemmas.Option.{slice_get_read}
-use Rattle.std.proofs.lemmas.List.{length-take-le, map-append, take_more}
+use Rattle.std.proofs.lemmas.List.{map-append, take_more}
 use Rattle.fits_rules.specs.Class.{is_primary}
 use Rattle.fits_rules.specs.Shape.{shape_of}
 use Rattle.fits_hdu.specs.ExtensionName.{extension_name, is_same_name}
@@ -22,8 +21,7 @@ use Rattle.fits_session.specs.NameTable.{names_of}
 use Rattle.fits_session.specs.Edit.{is_primary_hdu}
 use Rattle.fits_session.specs.Report.{called_count, found_names, is_called, is_repeated, name_in, names_from, HasNameOfAnother}
 use Rattle.fits_session.specs.Session.{file_of, hdus_of, state_of}
-use Rattle.fits_session.proofs.OffsetLemmas.{hdus_more}
-use Rattle.fits_session.proofs.StateLemmas.{length-hdus_of, whole_there}
+use Rattle.fits_session.proofs.StateLemmas.{whole_there}
 
 -- both of two tests pass
 both_pass : (a b : Bool) → a && b ≡ true → (a ≡ true) × (b ≡ true)
@@ -268,8 +266,8 @@ names_numbered h (hdu ∷ hdus) each =
     let number : h + 0 ≡ h = omega arith in
     let first : name_of hdu ≡ name_in h (parts_of hdu) = each 0 hdu (omega arith) refl ∙ ap (λ n. name_in n (parts_of hdu)) number in
     let rest : names_of hdus ≡ names_from (h + 1) (hdus_of hdus) = names_numbered (h + 1) hdus (λ i one within there.
-        let next : h + suc i ≡ h + 1 + i = omega arith in
-        each (suc i) one (omega (arith, within)) there ∙ ap (λ n. name_in n (parts_of one)) next) in
+    let next : h + suc i ≡ h + 1 + i = omega arith in
+    each (suc i) one (omega (arith, within)) there ∙ ap (λ n. name_in n (parts_of one)) next) in
     λ j. first j ∷ rest j
 
 -- so those of a file are called as their numbers say

@@ -1,15 +1,14 @@
 -- Steps of naming HDUs, one after another, and of following one that changed.
-use Rattle.std.proofs.Common.{◌≡◌, ℕ, ◌+◌, ◌<◌, ◌≤◌, List, [], ◌∷◌, length, get_or, take, drop, set, refl, ap, sym, subst, ◌∙◌, arith, Option, zero, suc, add-one}
+use Rattle.std.proofs.Common.{◌≡◌, ℕ, ◌+◌, ◌<◌, List, [], ◌∷◌, length, get_or, take, drop, set, refl, ap, sym, subst, ◌∙◌, arith, Option, zero, suc, add-one}
 use Rattle.std.specs.Prelude.{All, Err, Ok, OnOk, Result}
 use Rattle.std.specs.Map.{keys_of}
 use Rattle.std.proofs.lemmas.List.{get_or-drop, get_or-set_same, length-set, set-set, take_more_set}
-use Rattle.std.proofs.lemmas.List.Elements.{All-push, All-set}
-use Rattle.fits_hdu.specs.State.{HduState, ReadsUpTo, name_of, parts_of, IsDescribed}
-use Rattle.fits_hdu.specs.Work.{name_reads, open_reads, IsOpened}
+use Rattle.std.proofs.lemmas.List.Elements.{All-push}
+use Rattle.fits_hdu.specs.State.{HduState, ReadsUpTo, name_of}
+use Rattle.fits_hdu.specs.Work.{name_reads, IsOpened}
 use Rattle.fits_hdu.specs.declared.extension_name.ExtensionName.{ExtensionName}
-use Rattle.fits_session.specs.NameTable.{ArePlaced, Enters, Leaves, PointsAt, Stands, Stood}
+use Rattle.fits_session.specs.NameTable.{Enters, Leaves, PointsAt, Stands, Stood}
 use Rattle.fits_session.proofs.StandingLemmas.{entered_as, renamed_leaves, stands_same}
-use Rattle.fits_session.proofs.MakingLemmas.{lasts_read}
 
 -- what holds anyhow holds where there is no error
 pub ok_or : {X E P : Type 0} (result : Result X E) → P → OnOk result P

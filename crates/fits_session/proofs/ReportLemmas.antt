@@ -1,7 +1,7 @@
 -- The report, by what is found of each HDU.
-use Rattle.std.proofs.Common.{◌≡◌, ℕ, ◌+◌, ◌<◌, ◌≤◌, Bool, true, false, List, [], ◌∷◌, ◌++◌, length, map, take, drop, get_or, set, refl, ap, sym, subst, ◌∙◌, append_assoc, arith, rules, All}
+use Rattle.std.proofs.Common.{◌≡◌, ℕ, ◌+◌, ◌<◌, Bool, true, false, List, [], ◌∷◌, ◌++◌, length, map, take, drop, get_or, set, refl, ap, sym, ◌∙◌, append_assoc, arith, rules, All}
 use Rattle.std.specs.Prelude.{nat_le, Ok, Option}
-use Rattle.std.proofs.lemmas.List.{append-nil, length-take-le, map-append, set-get_or, take_all, take_more}
+use Rattle.std.proofs.lemmas.List.{append-nil, length-take-le, map-append, set-get_or, take_more}
 use Rattle.std.proofs.lemmas.List.Elements.{All-head, All-tail}
 use Rattle.fits_rules.specs.Class.{is_primary}
 use Rattle.fits_rules.specs.Shape.{shape_of}
@@ -12,7 +12,7 @@ use Rattle.fits_codes.specs.declared.code.Code.{Code}
 use Rattle.fits_hdu.specs.ExtensionName.{extension_name, name_codes}
 use Rattle.fits_hdu.specs.Findings.{hdu_findings}
 use Rattle.fits_hdu.specs.Hdu.{HduParts, IsHdu}
-use Rattle.fits_hdu.specs.State.{HduState, parts_of}
+use Rattle.fits_hdu.specs.State.{HduState}
 use Rattle.fits_hdu.specs.declared.extension_name.ExtensionName.{ExtensionName}
 use Rattle.fits_hdu.specs.declared.findings.Findings.{Findings}
 use Rattle.fits_hdu.proofs.ShapeLemmas.{one_primary}
@@ -20,11 +20,8 @@ use Rattle.fits_session.specs.File.{FileParts, is_followed, IsFileOf}
 use Rattle.fits_session.specs.Reading.{is_found, KeepsEach}
 use Rattle.fits_session.specs.Edit.{is_primary_hdu}
 use Rattle.fits_session.specs.Report.{found_from, found_names, in_hdu, is_repeated, name_in, names_from, report_of, trailing, trails, wrong_from, wrong_in}
-use Rattle.fits_session.specs.Session.{hdus_of}
 use Rattle.fits_session.specs.declared.problem.Problem.{Problem}
-use Rattle.fits_session.proofs.OffsetLemmas.{hdus_more}
-use Rattle.fits_session.proofs.StateLemmas.{length-hdus_of}
-use Rattle.fits_session.proofs.WalkLemmas.{each_length, each_push}
+use Rattle.fits_session.proofs.WalkLemmas.{each_length}
 
 -- the class that findings tell says whether HDU h is the primary one
 class_same : (h : ℕ) (primary : Bool) (shape : Shape) (u : HduParts) → is_primary_hdu h ≡ primary → IsHdu primary u → shape_of (is_primary shape.class) u.header.cards ≡ Ok shape → is_primary shape.class ≡ is_primary_hdu h

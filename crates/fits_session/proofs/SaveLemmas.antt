@@ -8,8 +8,7 @@ use Rattle.fits_header.specs.State.{HeaderState}
 use Rattle.fits_hdu.specs.Hdu.{HduParts, hdu_bytes}
 use Rattle.fits_hdu.specs.State.{HduState, ReadsUpTo, parts_of}
 use Rattle.fits_hdu.specs.Work.{PixelWork, plane_work}
-use Rattle.fits_hdu.proofs.StateLemmas.{parts_read}
-use Rattle.fits_session.specs.File.{joined_hdus, IsFile}
+use Rattle.fits_session.specs.File.{joined_hdus}
 use Rattle.fits_session.specs.Session.{hdus_of, reads_of, works_of, once_read, each_read, uncounted, without_counts, ReadsOnceAtMost}
 use Rattle.fits_session.proofs.KeptLemmas.{uncounted_read}
 use Rattle.fits_session.proofs.StateLemmas.{get_or-hdus_of, hdus_of-same, length-hdus_of, parts_same, works_of-same}

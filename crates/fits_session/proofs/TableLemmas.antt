@@ -1,14 +1,13 @@
 -- The table of names: what one name more or fewer leaves of it.
-use Rattle.std.proofs.Common.{◌≡◌, ℕ, ◌+◌, ◌-◌, ◌<◌, ◌≤◌, ◌^◌, Bool, true, false, cond, not, true≢false, List, [], ◌∷◌, ◌++◌, length, get_or, take, drop, set, refl, ap, sym, subst, ◌∙◌, arith, inl, inr, Option, None, Some, zero, suc}
+use Rattle.std.proofs.Common.{◌≡◌, ℕ, ◌+◌, ◌-◌, ◌<◌, ◌≤◌, ◌^◌, Bool, true, false, cond, not, true≢false, List, [], ◌∷◌, ◌++◌, length, get_or, drop, set, refl, ap, sym, subst, ◌∙◌, arith, inl, inr, Option, None, Some, zero, suc}
 use Rattle.std.specs.Prelude.{nat_le, nat_lt, ◌||◌}
 use Rattle.std.specs.Cmp.{IsEquivalence}
 use Rattle.std.specs.List.{list_any, position_or_len, remove, slice_get, AllByRecursion, IsDistinct}
-use Rattle.std.specs.Map.{keys_of, lookup, values_of}
+use Rattle.std.specs.Map.{keys_of, lookup}
 use Rattle.std.specs.Option.{is_some, option_map, unwrap_or, IsSome}
-use Rattle.std.proofs.lemmas.Bool.Decides.{Decides-eqb}
 use Rattle.std.proofs.lemmas.List.{drop_more, map-append, set-get_or}
 use Rattle.std.proofs.lemmas.Map.Entries.{length-keys_of, lookup_from_place}
-use Rattle.std.proofs.lemmas.Option.{get_or_from_slice_get, slice_get-get_or, slice_get-map, slice_get_within}
+use Rattle.std.proofs.lemmas.Option.{slice_get-get_or, slice_get-map, slice_get_within}
 use Rattle.std.proofs.lemmas.Map.Made.{length-le_from_is_member}
 use Rattle.std.proofs.lemmas.Map.Keys.{IsDistinct-cons, IsDistinct-head, IsDistinct-push, IsDistinct-tail}
 use Rattle.indexmap.proofs.SetLemmas.{map-remove}
@@ -387,10 +386,12 @@ names_within names es p =
     said [] = []
     said (None ∷ rest) = said rest
     said (Some name ∷ rest) = name ∷ said rest
+
     said_few : (rest : List (Option ExtensionName)) → length (said rest) ≤ length rest
     said_few [] = omega arith
     said_few (None ∷ rest) = omega (arith, said_few rest)
     said_few (Some name ∷ rest) = omega (arith, said_few rest)
+
     key_found : (fs : List (ExtensionName × ℕ)) (q : ExtensionName) → list_any (is_same_name q) (keys_of fs) ≡ true → IsSome (lookup (is_same_name q) fs)
     key_found [] q member = absurd (true≢false (sym member))
     key_found (f ∷ fs) q member =
@@ -398,12 +399,14 @@ names_within names es p =
           | inl same ↦ ap (λ b. is_some (cond b (Option.Some f.1) (lookup (is_same_name q) fs))) same
           | inr not ↦ ap (λ b. is_some (cond b (Option.Some f.1) (lookup (is_same_name q) fs))) not ∙ key_found fs q (sym (ap (λ b. b || list_any (is_same_name q) (keys_of fs)) not) ∙ member)
         ]
+
     told_some : (fs : List (ExtensionName × ℕ)) (rest : List (Option ExtensionName)) (q : ExtensionName) → TellsOf rest fs → IsSome (lookup (is_same_name q) fs) → 1 ≤ called_count q rest
     told_some fs rest q told found = some_count (called_count q rest) (subst IsSome (told q) found)
       where
         some_count : (n : ℕ) → IsSome (said_of n) → 1 ≤ n
         some_count zero some = absurd (true≢false (sym some))
         some_count (suc n) some = omega arith
+
     said_there : (rest : List (Option ExtensionName)) (q : ExtensionName) → 1 ≤ called_count q rest → list_any (is_same_name q) (said rest) ≡ true
     said_there [] q one = absurd (omega (arith, one))
     said_there (None ∷ rest) q one = said_there rest q one

@@ -1,5 +1,5 @@
-use Rattle.std.proofs.Common.{ap, sym, ◌∙◌}
-use Rattle.fits_session.proofs.TableLemmas.{no_entry, same_entry}
+use Rattle.std.proofs.Common.{sym, ◌∙◌}
+use Rattle.fits_session.proofs.TableLemmas.{same_entry}
 use Rattle.fits_session.proofs.name_table.NameTable.is_entry_of.Goals as goal
 
 pub returns-in-Some : goal.returns-in-Some

@@ -1,6 +1,5 @@
-use Rattle.std.proofs.Common.{◌-◌, arith, ap, ◌∙◌}
+use Rattle.std.proofs.Common.{◌-◌, arith}
 use Rattle.std.specs.Map.{keys_of}
-use Rattle.std.specs.Option.{IsSome}
 use Rattle.std.proofs.lemmas.Map.Entries.{length-keys_of}
 use Rattle.std.proofs.lemmas.Option.{slice_get_within}
 use Rattle.fits_session.proofs.TableLemmas.{leaves_none, leaves_some, lent_same, others_none, others_some}

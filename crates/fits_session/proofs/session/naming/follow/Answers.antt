@@ -1,15 +1,14 @@
-use Rattle.std.proofs.Common.{◌≡◌, ◌+◌, ◌<◌, ◌≤◌, List, length, set, sym, ap, subst, ◌∙◌, refl, arith}
-use Rattle.std.specs.Prelude.{All}
+use Rattle.std.proofs.Common.{◌+◌, set, sym, ap, subst, ◌∙◌, refl, arith}
 use Rattle.std.proofs.lemmas.List.{length-map, length-set}
 use Rattle.std.proofs.lemmas.List.Elements.{All-set}
-use Rattle.fits_hdu.specs.State.{HduState, name_of, IsDescribed}
+use Rattle.fits_hdu.specs.State.{name_of, IsDescribed}
 use Rattle.fits_hdu.specs.Work.{name_reads, plane_work}
 use Rattle.fits_hdu.proofs.StateLemmas.{parts_read}
-use Rattle.fits_session.specs.NameTable.{names_of, Leaves, Stands}
-use Rattle.fits_session.specs.Session.{hdus_of, reads_of, works_of, ReadsOnly}
+use Rattle.fits_session.specs.NameTable.{names_of}
+use Rattle.fits_session.specs.Session.{reads_of, ReadsOnly}
 use Rattle.fits_session.proofs.KeptLemmas.{described_moved, hdus_moved, reads_moved, works_moved}
 use Rattle.fits_session.proofs.MakingLemmas.{lasts_read}
-use Rattle.fits_session.proofs.NamingLemmas.{follows_leaves, follows_same, points_was, with_entry}
+use Rattle.fits_session.proofs.NamingLemmas.{follows_leaves, follows_same, points_was}
 use Rattle.fits_session.proofs.StateLemmas.{IsHduAt, hdus_of-same, reads_more, works_of-same}
 use Rattle.fits_session.proofs.TableLemmas.{names_within}
 use Rattle.fits_session.proofs.session.naming.follow.Goals as goal

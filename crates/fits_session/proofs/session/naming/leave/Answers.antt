@@ -3,7 +3,7 @@ use Rattle.fits_hdu.specs.State.{HduState}
 use Rattle.fits_session.specs.NameTable.{names_of, Stands}
 use Rattle.fits_session.specs.Session.{without_entries}
 use Rattle.fits_session.proofs.KeptLemmas.{unentered_mended}
-use Rattle.fits_session.proofs.StandingLemmas.{kept_stand, leaves_name, leaves_nothing, mended_stand}
+use Rattle.fits_session.proofs.StandingLemmas.{kept_stand, leaves_name, mended_stand}
 use Rattle.fits_session.proofs.session.naming.leave.Goals as goal
 
 pub leave-requires : goal.leave-requires
