@@ -1,14 +1,12 @@
 -- What is found of an HDU under edits.
 use Rattle.std.proofs.Common.{◌≡◌, ℕ, ◌+◌, ◌≤◌, Bool, true, false, List, ◌++◌, length, drop, map, All, Option, None, Some, refl, ap, sym, ◌∙◌, inl, inr, arith}
-use Rattle.std.specs.Prelude.{Ok, IsTrue, ◌↔◌, nat_eq}
+use Rattle.std.specs.Prelude.{IsTrue, ◌↔◌, nat_eq}
 use Rattle.std.specs.List.{list_all}
 use Rattle.std.proofs.lemmas.Bool.{cases_Bool}
 use Rattle.std.proofs.lemmas.Bool.Decides.{nat_tests}
 use Rattle.std.proofs.lemmas.List.{map-append}
 use Rattle.std.proofs.lemmas.List.Sums.{AllPass-from_list_all, count_by-le-length, length-filter, list_all-from_AllPass}
 use Rattle.fits_card.specs.Header.{Header}
-use Rattle.fits_rules.specs.Class.{is_primary}
-use Rattle.fits_rules.specs.Shape.{shape_of}
 use Rattle.fits_rules.specs.Size.{data_size}
 use Rattle.fits_rules.specs.declared.array_shape.Shape.{Shape}
 use Rattle.fits_codes.specs.HeaderCodes.{has_header_code, header_codes, header_judged, header_mark_of}
@@ -19,12 +17,11 @@ use Rattle.fits_header.specs.declared.counts.Counts.{Counts}
 use Rattle.fits_header.specs.declared.finding.Finding.{Finding}
 use Rattle.fits_header.proofs.FindingLemmas.{codes-found_at, counts-append}
 use Rattle.fits_plane.specs.declared.layout.Layout.{Layout}
-use Rattle.fits_hdu.specs.ExtensionName.{extension_name, name_codes}
-use Rattle.fits_hdu.specs.Findings.{AreFindings, data_codes, hdu_counts, hdu_findings, is_filled, whole_codes}
+use Rattle.fits_hdu.specs.ExtensionName.{name_codes}
+use Rattle.fits_hdu.specs.Findings.{data_codes, hdu_counts, hdu_findings, is_filled, whole_codes}
 use Rattle.fits_hdu.specs.Hdu.{HduParts}
 use Rattle.fits_hdu.specs.Layout.{fill_byte, layout_by, layout_of}
 use Rattle.fits_hdu.specs.Sums.{verdicts_of}
-use Rattle.fits_hdu.specs.declared.extension_name.ExtensionName.{ExtensionName}
 use Rattle.fits_hdu.specs.declared.verdicts.Verdicts.{Verdicts}
 
 -- a header as a whole has eight codes at most

@@ -133,11 +133,6 @@ pub counts_small : (hdus old : List HduState) (tail : List ℕ) (i : ℕ) (hdu :
 counts_small hdus old tail i hdu now here same file l e so_far few =
     omega (arith, so_far, few, length-append (header_bytes hdu.header.header) hdu.plane.bytes, ends_within old i (length (joined_hdus (take i (hdus_of old)))) hdu (rw same at l) (rw same at e) refl, file_size old tail file)
 
--- one of HDUs that aren't too long isn't
-pub hdu_within : (hdus old : List HduState) (i : ℕ) (hdu : HduState) → hdus ≡ old → length (joined_hdus (hdus_of old)) ≤ FILE_LIMIT → i < length hdus → hdu ≡ get_or hdus i hdu → length (hdu_bytes (parts_of hdu)) ≤ 2 ^ 34
-hdu_within hdus old i hdu same size l e =
-    omega (arith, size, length-append (header_bytes hdu.header.header) hdu.plane.bytes, ends_within old i (length (joined_hdus (take i (hdus_of old)))) hdu (rw same at l) (rw same at e) refl)
-
 -- an HDU of a file isn't too long
 pub hdu_small : (hdus old : List HduState) (tail : List ℕ) (i : ℕ) (hdu : HduState) → hdus ≡ old → IsFile (file_of (state_of old tail)) → i < length hdus → hdu ≡ get_or hdus i hdu → length (hdu_bytes (parts_of hdu)) ≤ 2 ^ 34
 hdu_small hdus old tail i hdu same file l e =

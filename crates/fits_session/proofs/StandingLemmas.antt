@@ -54,10 +54,6 @@ table_alike xs ys es same p = record { told = told_alike xs ys es same p.told; o
 pub table_unnamed : (names : List (Option ExtensionName)) (es : List (ExtensionName × ℕ)) → IsTableOf names es → IsTableOf (None ∷ names) es
 table_unnamed names es p = record { told = λ name. p.told name; once = p.once }
 
--- nor does one that goes
-pub table_named : (names : List (Option ExtensionName)) (es : List (ExtensionName × ℕ)) → IsTableOf (None ∷ names) es → IsTableOf names es
-table_named names es p = record { told = λ name. p.told name; once = p.once }
-
 -- and an entry points where its name stands
 pub points_on : (keys more : List ExtensionName) → ((at : ℕ) (other : ExtensionName) → slice_get keys at ≡ Some other → slice_get more at ≡ Some other) → (name : Option ExtensionName) (entry : Option ℕ) → PointsAt keys name entry → PointsAt more name entry
 points_on keys more on None entry points = points
@@ -109,14 +105,6 @@ leaves_name hdus entries entry place it is = by it.name it.points it.table
     by : (name : Option ExtensionName) → PointsAt (keys_of entries) name entry → IsTableOf (name ∷ names_of hdus) entries → Named hdus entries place
     by None points table = let none : None ≡ Some place = sym points ∙ is in cc
     by (Some name) points table = record { name = name; there = subst (PointsAt (keys_of entries) (Some name)) is points; table = table }
-
--- what has no entry isn't called anything
-pub leaves_nothing : (hdus : List HduState) (entries : List (ExtensionName × ℕ)) (entry : Option ℕ) → Leaves hdus entries entry → entry ≡ None → Stands hdus entries
-leaves_nothing hdus entries entry it is = record { table = by it.name it.points it.table; placed = it.placed }
-  where
-    by : (name : Option ExtensionName) → PointsAt (keys_of entries) name entry → IsTableOf (name ∷ names_of hdus) entries → IsTableOf (names_of hdus) entries
-    by None points table = table_named (names_of hdus) entries table
-    by (Some name) points table = absurd (subst (PointsAt (keys_of entries) (Some name)) is points)
 
 -- the table stands for the HDUs with their entries mended
 pub mended_stand : (hdus : List HduState) (es fs : List (ExtensionName × ℕ)) (gone : ℕ) → IsTableOf (names_of hdus) fs → ArePlaced (keys_of es) hdus
@@ -173,10 +161,6 @@ one_more_stands hdus i new es fs within stands it =
 -- so few are called anything
 pub few_told : (hdus : List HduState) (es : List (ExtensionName × ℕ)) → length hdus < 2 ^ 63 → Stands hdus es → TellsOfFew es
 few_told hdus es few stands = record { names = names_of hdus; table = stands.table; few = omega (arith, few, length-map hdus name_of) }
-
--- there are as many HDUs as names
-pub as_many : (hdus others : List HduState) → names_of hdus ≡ names_of others → length hdus ≡ length others
-as_many hdus others same = sym (length-map hdus name_of) ∙ ap length same ∙ length-map others name_of
 
 -- what one HDU of these is called
 name_read : (hdus : List HduState) (i : ℕ) (hdu : HduState) (d : Option ExtensionName) → i < length hdus → hdu ≡ get_or hdus i hdu → get_or (names_of hdus) i d ≡ name_of hdu

@@ -52,13 +52,6 @@ hdus_of-same hdus i old new l e p = parts_same parts_of hdus i old new l e p
 pub file_of-same : (hdus : List HduState) (tail : List ℕ) (h i : ℕ) (old new : HduState) → IsHduAt hdus h i old → parts_of new ≡ parts_of old → file_of (state_of (set hdus i new) tail) ≡ file_of (state_of hdus tail)
 file_of-same hdus tail h i old new at p = ap (λ (us : List HduParts). let file : FileParts = record { hdus = us; tail = tail } in file) (hdus_of-same hdus i old new at.index.within at.is p)
 
--- a session stays a file where its HDUs stay, of as many bytes
-pub stays_file : (hdus : List HduState) (tail : List ℕ) (h i len : ℕ) (old new : HduState) → IsHduAt hdus h i old → parts_of new ≡ parts_of old → IsFile (file_of (state_of hdus tail)) → len ≡ length (file_bytes (file_of (state_of hdus tail)))
-    → IsFile (file_of (state_of (set hdus i new) tail)) × (len ≡ length (file_bytes (file_of (state_of (set hdus i new) tail))))
-stays_file hdus tail h i len old new at p file e =
-    let same = file_of-same hdus tail h i old new at p in
-    (subst (λ (f : FileParts). IsFile f) (sym same) file, e ∙ ap (λ (f : FileParts). length (file_bytes f)) (sym same))
-
 -- there are as many parts as HDUs
 pub length-hdus_of : (hdus : List HduState) → length (hdus_of hdus) ≡ length hdus
 length-hdus_of hdus = length-map hdus parts_of

@@ -278,11 +278,6 @@ enters_last es place name none last = record {
   others = λ at other p. key_before es (name, 1) at other p;
 }
 
--- some have the name at a place
-pub some_have : (es : List (ExtensionName × ℕ)) (place : ℕ) (it : ExtensionName × ℕ) (name : ExtensionName) (names : List (Option ExtensionName)) → it ≡ get_or es place it → slice_get (keys_of es) place ≡ Some name → IsTableOf (Some name ∷ names) es → 1 ≤ it.1
-some_have es place it name names read there p =
-    omega (arith, number_read es place it name p.once read there, number_told (Some name ∷ names) es name p.told, count_called name (Some name) names (name_itself name))
-
 -- one fewer has it, and others do
 pub leaves_some : (es : List (ExtensionName × ℕ)) (place : ℕ) (it : ExtensionName × ℕ) (name : ExtensionName) (names : List (Option ExtensionName)) → it ≡ get_or es place it → 1 < it.1 → slice_get (keys_of es) place ≡ Some name → IsTableOf (Some name ∷ names) es → IsTableOf names (set es place (it.0, it.1 - 1))
 leaves_some es place it name names read more there p =
@@ -337,11 +332,6 @@ same_entry es entry place it name None is read same points = let none : None ≡
 same_entry es entry place it name (Some other) is read same points =
     let there : slice_get (keys_of es) place ≡ Some other = subst (PointsAt (keys_of es) (Some other)) is points in
     ap (λ (k : ExtensionName). Option.Some k) (same_name name it.0 same ∙ (entry_read es place it other read there).1)
-
--- and one without an entry isn't called anything
-pub no_entry : (keys : List ExtensionName) (entry : Option ℕ) (was : Option ExtensionName) → entry ≡ None → PointsAt keys was entry → None ≡ was
-no_entry keys entry None is points = refl
-no_entry keys entry (Some name) is points = absurd (subst (PointsAt keys (Some name)) is points)
 
 -- a name is repeated where its number is two or more
 pub repeated_at : (names : List (Option ExtensionName)) (es : List (ExtensionName × ℕ)) (name : Option ExtensionName) (entry : Option ℕ) (place : ℕ) (it : ExtensionName × ℕ) → IsTableOf names es → PointsAt (keys_of es) name entry → entry ≡ Some place → it ≡ get_or es place it
