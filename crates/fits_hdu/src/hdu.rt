@@ -1,7 +1,5 @@
 ghost use Rattle.std.specs.Prelude.{◌≡◌, ◌≤◌, ◌+◌, length};
 
-#[cfg(test)]
-mod fields;
 mod making;
 mod pixels;
 mod reporting;
@@ -402,3 +400,6 @@ impl Hdu {
         self.plane.emit(sink)
     }
 }
+
+#[cfg(test)]
+mod fields;

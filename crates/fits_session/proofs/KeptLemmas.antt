@@ -31,10 +31,11 @@ hdus_as hdus others same = sym (hdus_of-uncounted hdus) ∙ ap hdus_of same ∙ 
 file_with : (us vs : List HduParts) (tail : List ℕ) → us ≡ vs → (let file : FileParts = record { hdus = us; tail = tail } in file) ≡ record { hdus = vs; tail = tail }
 file_with us vs tail same = ap (λ (hdus : List HduParts). let file : FileParts = record { hdus = hdus; tail = tail } in file) same
 
--- what holds of HDUs seen another way holds of them, and back
+-- what holds of HDUs seen another way holds of them
 all_seen : (P : HduState → Type 0) (see : HduState → HduState) → ((one : HduState) → P (see one) → P one) → (hdus : List HduState) → All P (map see hdus) → All P hdus
 all_seen P see back hdus p = λ i d within. back (get_or hdus i d) (subst P (get_or-map see hdus i d (see d) within) (p i (see d) (omega (arith, within, length-map hdus see))))
 
+-- and what holds of HDUs holds of them seen another way
 seen_all : (P : HduState → Type 0) (see : HduState → HduState) → ((one : HduState) → P one → P (see one)) → (hdus : List HduState) → All P hdus → All P (map see hdus)
 seen_all P see on hdus p = All-map P see hdus (λ i d within. on (get_or hdus i d) (p i d within))
 
@@ -110,6 +111,7 @@ hdus_moved hdus others same = sym (hdus_of-unentered hdus) ∙ ap hdus_of same �
 pub reads_moved : (hdus others : List HduState) → without_entries hdus ≡ without_entries others → reads_of hdus ≡ reads_of others
 reads_moved hdus others same = sym (reads_of-unentered hdus) ∙ ap reads_of same ∙ reads_of-unentered others
 
+-- and the same work on their data units
 pub works_moved : (hdus others : List HduState) → without_entries hdus ≡ without_entries others → works_of hdus ≡ works_of others
 works_moved hdus others same = sym (works_of-unentered hdus) ∙ ap works_of same ∙ works_of-unentered others
 

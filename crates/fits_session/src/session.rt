@@ -3,8 +3,6 @@ ghost use Rattle.std.specs.Prelude.{◌≡◌};
 mod cards;
 mod changes;
 mod editing;
-#[cfg(test)]
-mod fields;
 mod finding;
 mod list_edits;
 mod naming;
@@ -143,3 +141,6 @@ impl Session {
         }
     }
 }
+
+#[cfg(test)]
+mod fields;
