@@ -41,10 +41,10 @@ SCRIPTS = [
     ),
     (
         SAID,
-        "get 1 KEY\nget 1 PAIR\nget 1 NONE\nrep\nget 1 KEY",
+        "get 1 KEY\nget 1 PAIR\nget 1 NONE\nrep\nget 1 KEY\npos 1 KEY\npos 1 NONE",
         "string 'abc''de' / last\ncomplex (1, 2) /\nline 3: refused 3 NoKey\n"
         + "".join(f"E06 1 {k} mandatory card not in fixed format\n" for k in (1, 2, 3))
-        + "errors 3 warnings 0\nstring 'abc''de' / last\n",
+        + "errors 3 warnings 0\nstring 'abc''de' / last\n4\nline 7: refused 3 NoKey\n",
         1,
         SAID,
     ),

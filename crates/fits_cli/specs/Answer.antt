@@ -1,5 +1,5 @@
 -- What the lines of a script print and do (own).
-use Rattle.std.specs.Prelude.{◌≡◌, ◌⊎◌, ℕ, ◌+◌, Bool, false, true, List, [], ◌∷◌, ◌++◌, codes, Option, Some, None, Result, Ok, Err, IsOk}
+use Rattle.std.specs.Prelude.{◌≡◌, ◌<◌, ◌⊎◌, ℕ, ◌+◌, Bool, false, true, List, [], ◌∷◌, ◌++◌, codes, length, Option, Some, None, Result, Ok, Err, IsOk, IsOkAnd}
 use Rattle.std.specs.Fmt.{decimal}
 use Rattle.std.specs.List.{flat_map}
 use Rattle.fits_session.specs.Edit.{file_after}
@@ -87,7 +87,7 @@ OutcomeNeedsMemory file Nothing = ⊥
 OutcomeNeedsMemory file (Edit edit) = EditNeedsMemory edit (refusal_of file edit)
 OutcomeNeedsMemory file Offsets = Unit {0}
 OutcomeNeedsMemory file (Get hdu name) = IsOk (value_in file hdu name)
-OutcomeNeedsMemory file (Positions hdu name) = IsOk (positions_in file hdu name)
+OutcomeNeedsMemory file (Positions hdu name) = IsOkAnd (positions_in file hdu name) (λ places. 0 < length places)
 OutcomeNeedsMemory file Report = Unit {0}
 OutcomeNeedsMemory file (Statistics hdu) = IsOk (stats_in file hdu)
 OutcomeNeedsMemory file (Rectangle hdu lo hi) = IsOk (rect_in file hdu lo hi)

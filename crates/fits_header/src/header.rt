@@ -178,10 +178,12 @@ impl Header {
         self.index.lead(name)
     }
 
-    /// The places of the cards of a name, ascending. No card is read.
+    /// The places of the cards of a name, ascending. No card is read, and no memory is taken where
+    /// there is none.
     pub fn positions(&self, alloc: Global, name: &Name) -> Result<Vec<usize>, AllocError>
-        ensures { IfOk result (λ places. places.items
+        ensures places { IfOk result (λ places. places.items
             ≡ keyword_places self.now.header.cards name.now) }
+        ensures some { OnErr result (0 < length (keyword_places self.now.header.cards name.now)) }
     {
         self.index.positions(alloc, name)
     }

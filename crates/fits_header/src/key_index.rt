@@ -77,11 +77,13 @@ impl KeyIndex {
         })
     }
 
-    /// The places of the cards of a name, ascending.
+    /// The places of the cards of a name, ascending. It takes no memory where there is none.
     #[tactic(auto, using(crate::proofs::AnswerLemmas::answer_steps))]
     pub fn positions(&self, alloc: Global, name: &Name) -> Result<Vec<usize>, AllocError>
-        ensures { (cards : List (List ℕ)) → IsIndexOf self.now.entries cards
+        ensures places { (cards : List (List ℕ)) → IsIndexOf self.now.entries cards
             → IfOk result (λ places. places.items ≡ keyword_places cards name.now) }
+        ensures some { (cards : List (List ℕ)) → IsIndexOf self.now.entries cards
+            → OnErr result (0 < length (keyword_places cards name.now)) }
     {
         positions(alloc, &self.entries, number_of(name))
     }

@@ -1,5 +1,5 @@
 //! What sorted entries answer.
-ghost use Rattle.std.specs.Prelude.{◌≡◌, ◌≤◌, ◌+◌, ℕ, List, All, IfOk, filter, length, map, nat_eq};
+ghost use Rattle.std.specs.Prelude.{◌≡◌, ◌≤◌, ◌<◌, ◌+◌, ℕ, List, All, IfOk, OnErr, filter, length, map, nat_eq};
 ghost use Rattle.std.specs.List.{dedup, list_any};
 ghost use Rattle.std.specs.List.Sorted.{IsStrictlyIncreasing};
 ghost use Rattle.fits_header.specs.declared.entry.Entry.{Entry};
@@ -41,15 +41,16 @@ pub(crate) fn has(entries: &[Entry], name: u64) -> bool
     }
 }
 
-/// The places of a name, ascending.
+/// The places of a name, ascending. It takes no memory where there is none.
 pub(crate) fn positions(
     alloc: Global,
     entries: &[Entry],
     name: u64,
 ) -> Result<Vec<usize>, AllocError>
     requires { IsSortedIndex entries.now }
-    ensures { IfOk result (λ places. places.items
+    ensures places { IfOk result (λ places. places.items
         ≡ places_in (filter (is_named name) entries.now)) }
+    ensures some { OnErr result (0 < length (places_in (filter (is_named name) entries.now))) }
 {
     positions_in(alloc, rest_of(entries, name), name)
 }
@@ -130,7 +131,9 @@ fn lead_in(rest: &[Entry], name: u64) -> Option<usize>
 fn positions_in(alloc: Global, rest: &[Entry], name: u64) -> Result<Vec<usize>, AllocError>
     requires sorted { IsSortedIndex rest.now }
     requires from { All (λ e. name ≤ e.name) rest.now }
-    ensures { IfOk result (λ places. places.items ≡ places_in (filter (is_named name) rest.now)) }
+    ensures places { IfOk result (λ places. places.items
+        ≡ places_in (filter (is_named name) rest.now)) }
+    ensures some { OnErr result (0 < length (places_in (filter (is_named name) rest.now))) }
 {
     let mut places = Vec::new(alloc);
     for entry in rest {

@@ -23,6 +23,7 @@ pub mod RunLemmas
 pub mod ScanLemmas
 pub mod ShortRowLemmas
 pub mod SignedLemmas
+pub mod StoreLemmas
 pub mod TestLemmas
 pub mod TreeLemmas
 pub mod TurnLemmas

@@ -5,15 +5,17 @@ ghost use Rattle.fits_plane.specs.Summary.{PixelFits, WordFits, HalvesFit};
 ghost use Rattle.fits_plane.specs.Statistics.{statistics};
 ghost use Rattle.fits_plane.specs.Pixels.{pixels, IsWidth};
 ghost use Rattle.fits_plane.specs.Rectangle.{IsRectangle, product};
+ghost use Rattle.fits_plane.specs.DataBytes.{IsScanned};
 ghost use Rattle.fits_plane.specs.Layout.{IsLayout, block_count, block_pixels};
 ghost use Rattle.fits_plane.specs.Tree.{most_above, nodes_left};
 ghost use Rattle.fits_plane.specs.Work.{is_touched, touched_blocks};
 ghost use Rattle.fits_plane.specs.Leaves.{leaf_unit, IsLeaf, AreLeaves, IsBlockTree, IsBlockTreeBut};
 
+use crate::data_bytes::DataBytes;
 use crate::layout::Layout;
 use crate::nodes::{climb, write_leaf};
 use crate::rectangle::{row_len, row_start, rows};
-use crate::scan::{Leaf, pixels_per_block, scan_block};
+use crate::scan::{Leaf, pixels_per_block};
 use crate::tree::Tree;
 use fits_stream::Count;
 use std::alloc::{AllocError, Global};
@@ -21,22 +23,22 @@ use std::alloc::{AllocError, Global};
 /// The summaries of all blocks.
 pub(crate) fn leaves_of(
     alloc: Global,
-    bytes: &[u8],
+    store: &mut DataBytes,
     layout: Layout,
     blocks: usize,
-    scans: &mut Count,
 ) -> Result<Vec<Leaf>, AllocError>
-    requires layout { IsLayout layout bytes.now }
-    requires whole { length bytes.now ≡ 2880 * blocks }
+    requires layout { IsLayout layout store.old.bytes }
+    requires whole { length store.old.bytes ≡ 2880 * blocks }
     ensures long { IfOk result (λ v. length v.items ≡ blocks) }
-    ensures right { IfOk result (λ v. AreLeaves layout bytes.now v.items) }
+    ensures right { IfOk result (λ v. AreLeaves layout store.old.bytes v.items) }
     ensures fit { IfOk result (λ v. (k : ℕ) → k < blocks
         → HalvesFit PixelFits WordFits (slice_index_or v.items k leaf_unit)) }
-    ensures work { OnOk result (scans.new.total ≡ scans.old.total + blocks) }
+    ensures same { IsScanned store.old store.new }
+    ensures work { OnOk result (store.new.scans ≡ store.old.scans + blocks) }
 {
     let mut leaves = Vec::with_capacity(alloc, blocks)?;
     for k in 0..blocks {
-        leaves.push(scan_block(bytes, layout, k, scans))?;
+        leaves.push(store.scan(layout, k))?;
     }
     Ok(leaves)
 }
@@ -45,19 +47,19 @@ pub(crate) fn leaves_of(
 /// same, so one of them is scanned.
 pub(crate) fn zero_leaves(
     alloc: Global,
-    bytes: &[u8],
+    store: &mut DataBytes,
     layout: Layout,
     blocks: usize,
-    scans: &mut Count,
 ) -> Result<Vec<Leaf>, AllocError>
-    requires layout { IsLayout layout bytes.now }
-    requires whole { length bytes.now ≡ 2880 * blocks }
-    requires zeros { bytes.now ≡ replicate (length bytes.now) 0 }
+    requires layout { IsLayout layout store.old.bytes }
+    requires whole { length store.old.bytes ≡ 2880 * blocks }
+    requires zeros { store.old.bytes ≡ replicate (length store.old.bytes) 0 }
     ensures long { IfOk result (λ v. length v.items ≡ blocks) }
-    ensures right { IfOk result (λ v. AreLeaves layout bytes.now v.items) }
+    ensures right { IfOk result (λ v. AreLeaves layout store.old.bytes v.items) }
     ensures fit { IfOk result (λ v. (k : ℕ) → k < blocks
         → HalvesFit PixelFits WordFits (slice_index_or v.items k leaf_unit)) }
-    ensures work { OnOk result (scans.new.total ≤ scans.old.total + blocks) }
+    ensures same { IsScanned store.old store.new }
+    ensures work { OnOk result (store.new.scans ≤ store.old.scans + blocks) }
 {
     let full = full_blocks(layout);
     let mut leaves = Vec::with_capacity(alloc, blocks)?;
@@ -65,7 +67,7 @@ pub(crate) fn zero_leaves(
         let leaf = if 0 < k && k < full {
             leaves[0]
         } else {
-            scan_block(bytes, layout, k, scans)
+            store.scan(layout, k)
         };
         leaves.push(leaf)?;
     }
@@ -88,26 +90,26 @@ fn refresh_blocks(
     nodes: &mut [Leaf],
     width: usize,
     last: usize,
-    bytes: &[u8],
+    store: &mut DataBytes,
     layout: Layout,
     from: usize,
     to: usize,
-    scans: &mut Count,
     joins: &mut Count,
 ) -> usize
-    requires layout { IsLayout layout bytes.now }
+    requires layout { IsLayout layout store.old.bytes }
     requires tree { IsBlockTreeBut width last nodes.old }
     requires leaf { (last ≡ 1) ⊎ (width ≤ last) }
-    requires blocks { to ≤ block_count bytes.now }
-    requires within { block_count bytes.now ≤ width }
+    requires blocks { to ≤ block_count store.old.bytes }
+    requires within { block_count store.old.bytes ≤ width }
     ensures tree { IsBlockTreeBut width result nodes.new }
     ensures leaf { (result ≡ 1) ⊎ (width ≤ result) }
     ensures order { result ≤ max last (width + to) }
-    ensures made { (k : ℕ) → from ≤ k → k < to → IsLeaf layout bytes.now (drop width nodes.new) k }
+    ensures made { (k : ℕ) → from ≤ k → k < to → IsLeaf layout store.old.bytes (drop width nodes.new) k }
     ensures kept { (k : ℕ) → (k < from) ⊎ (to ≤ k)
         → slice_index_or (drop width nodes.new) k leaf_unit
         ≡ slice_index_or (drop width nodes.old) k leaf_unit }
-    ensures work { scans.new.total ≡ scans.old.total + (to - from) }
+    ensures same { IsScanned store.old store.new }
+    ensures work { store.new.scans ≡ store.old.scans + (to - from) }
     ensures more { joins.old.total ≤ joins.new.total }
     ensures few { (d : ℕ) → width ≤ 2 ^ d → joins.new.total + most_above d result
         ≤ joins.old.total + most_above d last + (to - from) * d }
@@ -116,7 +118,7 @@ fn refresh_blocks(
 {
     let mut place = last;
     for k in from..to {
-        let leaf = scan_block(bytes, layout, k, scans);
+        let leaf = store.scan(layout, k);
         place = write_leaf(nodes, width, place, k, leaf, joins);
     }
     place
@@ -126,37 +128,37 @@ fn refresh_blocks(
 fn refresh_rows(
     nodes: &mut [Leaf],
     width: usize,
-    bytes: &[u8],
+    store: &mut DataBytes,
     layout: Layout,
     axes: &[u64],
     lo: &[u64],
     hi: &[u64],
-    scans: &mut Count,
     joins: &mut Count,
 )
-    requires layout { IsLayout layout bytes.now }
+    requires layout { IsLayout layout store.old.bytes }
     requires width { IsWidth layout.width }
     requires tree { IsBlockTree width nodes.old }
     requires some { 1 ≤ width }
-    requires within { block_count bytes.now ≤ width }
+    requires within { block_count store.old.bytes ≤ width }
     requires rectangle { IsRectangle axes.now lo.now hi.now }
     requires all { product axes.now ≡ layout.pixels }
-    requires fresh { (k : ℕ) → k < block_count bytes.now
+    requires fresh { (k : ℕ) → k < block_count store.old.bytes
         → is_touched axes.now lo.now hi.now (block_pixels layout.width) layout.pixels k ≡ false
-        → IsLeaf layout bytes.now (drop width nodes.old) k }
+        → IsLeaf layout store.old.bytes (drop width nodes.old) k }
     ensures tree { IsBlockTree width nodes.new }
-    ensures right { (k : ℕ) → k < block_count bytes.now
-        → IsLeaf layout bytes.now (drop width nodes.new) k }
-    ensures units { (k : ℕ) → block_count bytes.now ≤ k
+    ensures right { (k : ℕ) → k < block_count store.old.bytes
+        → IsLeaf layout store.old.bytes (drop width nodes.new) k }
+    ensures units { (k : ℕ) → block_count store.old.bytes ≤ k
         → slice_index_or (drop width nodes.new) k leaf_unit
         ≡ slice_index_or (drop width nodes.old) k leaf_unit }
-    ensures more_work { scans.old.total ≤ scans.new.total }
-    ensures work { scans.new.total ≤ scans.old.total
+    ensures same { IsScanned store.old store.new }
+    ensures more_work { store.old.scans ≤ store.new.scans }
+    ensures work { store.new.scans ≤ store.old.scans
         + touched_blocks axes.now lo.now hi.now (block_pixels layout.width) layout.pixels
-        (block_count bytes.now) }
+        (block_count store.old.bytes) }
     ensures more { joins.old.total ≤ joins.new.total }
     ensures few { (d : ℕ) → width ≤ 2 ^ d → joins.new.total
-        ≤ joins.old.total + (scans.new.total - scans.old.total) * d }
+        ≤ joins.old.total + (store.new.scans - store.old.scans) * d }
     ensures most { (h : ℕ) → width ≡ 2 ^ h → joins.new.total + 1 ≤ joins.old.total + width }
 {
     let per = pixels_per_block(layout.width);
@@ -168,7 +170,7 @@ fn refresh_rows(
         let first = row_start(axes, lo, hi, row);
         let start = (first / per).max(next);
         let stop = (first + side - 1) / per + 1;
-        last = refresh_blocks(nodes, width, last, bytes, layout, start, stop, scans, joins);
+        last = refresh_blocks(nodes, width, last, store, layout, start, stop, joins);
         next = next.max(stop);
     }
     climb(nodes, width, last, 1, joins);
@@ -179,56 +181,55 @@ impl Tree<Leaf> {
     /// are joined up to where its path meets the next one's.
     pub(crate) fn refresh_rectangle(
         &mut self,
-        bytes: &[u8],
+        store: &mut DataBytes,
         layout: Layout,
         axes: &[u64],
         lo: &[u64],
         hi: &[u64],
-        scans: &mut Count,
     )
-        requires layout { IsLayout layout bytes.now }
+        requires layout { IsLayout layout store.old.bytes }
         requires width { IsWidth layout.width }
-        requires whole { length bytes.now ≡ 2880 * length self.old.leaves }
+        requires whole { length store.old.bytes ≡ 2880 * length self.old.leaves }
         requires rectangle { IsRectangle axes.now lo.now hi.now }
         requires all { product axes.now ≡ layout.pixels }
         requires fresh { (k : ℕ) → k < length self.old.leaves
             → is_touched axes.now lo.now hi.now (block_pixels layout.width) layout.pixels k ≡ false
-            → IsLeaf layout bytes.now self.old.leaves k }
+            → IsLeaf layout store.old.bytes self.old.leaves k }
         ensures long { length self.new.leaves ≡ length self.old.leaves }
-        ensures right { AreLeaves layout bytes.now self.new.leaves }
-        ensures more_work { scans.old.total ≤ scans.new.total }
-        ensures work { scans.new.total ≤ scans.old.total
+        ensures right { AreLeaves layout store.old.bytes self.new.leaves }
+        ensures same { IsScanned store.old store.new }
+        ensures more_work { store.old.scans ≤ store.new.scans }
+        ensures work { store.new.scans ≤ store.old.scans
             + touched_blocks axes.now lo.now hi.now (block_pixels layout.width) layout.pixels
             (length self.old.leaves) }
         ensures more { self.old.joins ≤ self.new.joins }
         ensures joins { (d : ℕ) → length self.old.leaves ≤ 2 ^ d
-            → self.new.joins ≤ self.old.joins + (scans.new.total - scans.old.total) * d }
+            → self.new.joins ≤ self.old.joins + (store.new.scans - store.old.scans) * d }
         ensures most { (d : ℕ) → length self.old.leaves ≤ 2 ^ d
             → self.new.joins ≤ self.old.joins + 2 ^ d }
     {
         refresh_rows(
             self.nodes.as_mut_slice(),
             self.width,
-            bytes,
+            store,
             layout,
             axes,
             lo,
             hi,
-            scans,
             &mut self.joins,
         );
     }
 }
 
 /// The statistics of all pixels and the total of all words, of a tree whose leaves are right.
-pub(crate) fn root_of(tree: &Tree<Leaf>, bytes: &[u8], layout: Layout) -> Leaf
-    requires layout { IsLayout layout bytes.now }
-    requires whole { length bytes.now ≡ 2880 * length tree.now.leaves }
-    requires right { AreLeaves layout bytes.now tree.now.leaves }
+pub(crate) fn root_of(tree: &Tree<Leaf>, store: &DataBytes, layout: Layout) -> Leaf
+    requires layout { IsLayout layout store.now.bytes }
+    requires whole { length store.now.bytes ≡ 2880 * length tree.now.leaves }
+    requires right { AreLeaves layout store.now.bytes tree.now.leaves }
     ensures first { result.first
-        ≡ statistics layout.blank (pixels layout.width bytes.now 0 layout.pixels) }
-    ensures second { result.second.total ≡ word_total bytes.now }
+        ≡ statistics layout.blank (pixels layout.width store.now.bytes 0 layout.pixels) }
+    ensures second { result.second.total ≡ word_total store.now.bytes }
 {
-    let _first = bytes.first();
+    store.are_bytes();
     tree.root()
 }

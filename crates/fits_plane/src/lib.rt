@@ -2,6 +2,7 @@
 #![tactic(auto)]
 
 mod both;
+mod data_bytes;
 mod exchange;
 mod extremes;
 mod halves;
@@ -24,7 +25,6 @@ mod pixels_64;
 mod pixels_8;
 mod plane;
 mod rectangle;
-mod rescan;
 mod scan;
 mod scan_end;
 mod short_rows;

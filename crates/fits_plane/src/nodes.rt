@@ -162,7 +162,7 @@ fn ask_leaves<S: Summary, F: Fn(usize) -> S + Drop>(
     used: usize,
     leaf: &F,
 )
-    requires callable { F.IsAlwaysCallable leaf.now }
+    requires callable { (i : ℕ) → i < used → F.pre leaf.now i }
     requires long { length nodes.old ≡ 2 * width }
     requires within { used ≤ width }
     ensures long { length nodes.new ≡ length nodes.old }
@@ -186,8 +186,8 @@ pub(crate) fn plant_again<S: Summary, F: Fn(usize) -> S + Drop>(
     leaf: &F,
     joins: &mut Count,
 )
-    requires callable { F.IsAlwaysCallable leaf.now }
-    requires fits { (i : ℕ) (x : S) → F.post leaf.now i x → S.fits x }
+    requires callable { (i : ℕ) → i < used → F.pre leaf.now i }
+    requires fits { (i : ℕ) (x : S) → i < used → F.post leaf.now i x → S.fits x }
     requires tree { IsTree S.empty S.joined S.fits width nodes.old }
     requires some { 1 ≤ width }
     requires within { used ≤ width }

@@ -7,13 +7,12 @@ ghost use Rattle.fits_plane.specs.Layout.{block_pixels};
 ghost use Rattle.fits_plane.specs.Work.{touched_blocks};
 ghost use Rattle.fits_plane.specs.ShortRows.{IsKept};
 
+use crate::data_bytes::DataBytes;
 use crate::layout::Layout;
 use crate::lent_paint::LentPaint;
-use crate::pixel_writes::paint_rows;
 use crate::rectangle::row_len;
 use crate::scan::{Leaf, pixels_per_block};
 use crate::tree::Tree;
-use fits_stream::Count;
 
 /// Whether each row is an eighth of a block at most, and no block has pixels of two rows.
 ///
@@ -31,8 +30,7 @@ fn are_apart(axes: &[u64], per: usize, side: usize) -> bool
 /// Paints all rows, and then scans each block that has a pixel of one.
 fn paint_and_scan(
     tree: &mut Tree<Leaf>,
-    scans: &mut Count,
-    bytes: &mut [u8],
+    store: &mut DataBytes,
     layout: Layout,
     axes: &[u64],
     lo: &[u64],
@@ -40,36 +38,36 @@ fn paint_and_scan(
     paint: &LentPaint,
     offset: i128,
 )
-    requires kept { IsKept layout bytes.old tree.old.leaves }
+    requires kept { IsKept layout store.old.bytes tree.old.leaves }
     requires width { IsWidth layout.width }
     requires rectangle { IsRectangle axes.now lo.now hi.now }
     requires all { product axes.now ≡ layout.pixels }
     requires count { has_count paint.now (rectangle_size lo.now hi.now) ≡ true }
     requires storable { (k : ℕ) → k < rectangle_size lo.now hi.now
         → IsStorable layout.width (painted_number paint.now offset k) }
-    ensures long { length bytes.new ≡ length bytes.old }
-    ensures value { bytes.new ≡ rectangle_written layout.width axes.now lo.now hi.now
-        (painted_number paint.now offset) bytes.old }
-    ensures kept { IsKept layout bytes.new tree.new.leaves }
-    ensures more_scans { scans.old.total ≤ scans.new.total }
-    ensures scans { scans.new.total ≤ scans.old.total
+    ensures long { length store.new.bytes ≡ length store.old.bytes }
+    ensures value { store.new.bytes ≡ rectangle_written layout.width axes.now lo.now hi.now
+        (painted_number paint.now offset) store.old.bytes }
+    ensures kept { IsKept layout store.new.bytes tree.new.leaves }
+    ensures reads { store.new.reads ≡ store.old.reads }
+    ensures more_scans { store.old.scans ≤ store.new.scans }
+    ensures scans { store.new.scans ≤ store.old.scans
         + touched_blocks axes.now lo.now hi.now (block_pixels layout.width) layout.pixels
         (length tree.old.leaves) }
     ensures more { tree.old.joins ≤ tree.new.joins }
     ensures joins { (d : ℕ) → length tree.old.leaves ≤ 2 ^ d → tree.new.joins
-        ≤ tree.old.joins + (scans.new.total - scans.old.total) * d }
+        ≤ tree.old.joins + (store.new.scans - store.old.scans) * d }
     ensures most { (d : ℕ) → length tree.old.leaves ≤ 2 ^ d
         → tree.new.joins ≤ tree.old.joins + 2 ^ d }
 {
-    paint_rows(bytes, layout.width, axes, lo, hi, paint, offset);
-    tree.refresh_rectangle(bytes, layout, axes, lo, hi, scans);
+    store.paint_rows(layout.width, axes, lo, hi, paint, offset);
+    tree.refresh_rectangle(store, layout, axes, lo, hi);
 }
 
 /// Paints a rectangle, and makes the leaves of its blocks anew.
 pub(crate) fn paint_rectangle(
     tree: &mut Tree<Leaf>,
-    scans: &mut Count,
-    bytes: &mut [u8],
+    store: &mut DataBytes,
     layout: Layout,
     axes: &[u64],
     lo: &[u64],
@@ -77,32 +75,33 @@ pub(crate) fn paint_rectangle(
     paint: &LentPaint,
     offset: i128,
 )
-    requires kept { IsKept layout bytes.old tree.old.leaves }
+    requires kept { IsKept layout store.old.bytes tree.old.leaves }
     requires width { IsWidth layout.width }
     requires rectangle { IsRectangle axes.now lo.now hi.now }
     requires all { product axes.now ≡ layout.pixels }
     requires count { has_count paint.now (rectangle_size lo.now hi.now) ≡ true }
     requires storable { (k : ℕ) → k < rectangle_size lo.now hi.now
         → IsStorable layout.width (painted_number paint.now offset k) }
-    ensures long { length bytes.new ≡ length bytes.old }
-    ensures value { bytes.new ≡ rectangle_written layout.width axes.now lo.now hi.now
-        (painted_number paint.now offset) bytes.old }
-    ensures kept { IsKept layout bytes.new tree.new.leaves }
-    ensures more_scans { scans.old.total ≤ scans.new.total }
-    ensures scans { scans.new.total ≤ scans.old.total
+    ensures long { length store.new.bytes ≡ length store.old.bytes }
+    ensures value { store.new.bytes ≡ rectangle_written layout.width axes.now lo.now hi.now
+        (painted_number paint.now offset) store.old.bytes }
+    ensures kept { IsKept layout store.new.bytes tree.new.leaves }
+    ensures reads { store.new.reads ≡ store.old.reads }
+    ensures more_scans { store.old.scans ≤ store.new.scans }
+    ensures scans { store.new.scans ≤ store.old.scans
         + touched_blocks axes.now lo.now hi.now (block_pixels layout.width) layout.pixels
         (length tree.old.leaves) }
     ensures more { tree.old.joins ≤ tree.new.joins }
     ensures joins { (d : ℕ) → length tree.old.leaves ≤ 2 ^ d → tree.new.joins
-        ≤ tree.old.joins + (scans.new.total - scans.old.total) * d }
+        ≤ tree.old.joins + (store.new.scans - store.old.scans) * d }
     ensures most { (d : ℕ) → length tree.old.leaves ≤ 2 ^ d
         → tree.new.joins ≤ tree.old.joins + 2 ^ d }
 {
     let per = pixels_per_block(layout.width);
     let side = row_len(axes, lo, hi) as usize;
     if are_apart(axes, per, side) {
-        tree.paint_short_rows(scans, bytes, layout, axes, lo, hi, paint, offset);
+        tree.paint_short_rows(store, layout, axes, lo, hi, paint, offset);
     } else {
-        paint_and_scan(tree, scans, bytes, layout, axes, lo, hi, paint, offset);
+        paint_and_scan(tree, store, layout, axes, lo, hi, paint, offset);
     }
 }

@@ -1,18 +1,22 @@
-//! A block of which a part changed: what went of its summary and what came, without a look at the rest.
+//! A block of which a part is painted: what went of its summary and what came, without a look at the
+//! rest.
 ghost use Rattle.std.specs.Prelude.{◌≡◌, ◌≤◌, ◌<◌, ◌*◌, ◌+◌, ◌-◌, ℕ, List, length, slice_index};
 ghost use Rattle.fits_plane.specs.Pixels.{IsWidth};
-ghost use Rattle.fits_plane.specs.Layout.{IsLayout};
+ghost use Rattle.fits_plane.specs.Layout.{IsLayout, block_pixels};
 ghost use Rattle.fits_plane.specs.Leaves.{leaf_of};
+ghost use Rattle.fits_plane.specs.Paint.{painted_number};
 ghost use Rattle.fits_plane.specs.Parts.{part_of, AreGroupsChanged};
+ghost use Rattle.fits_plane.specs.ShortRows.{CanPaint, RowWritten};
 
 use crate::exchange::exchanged;
 use crate::layout::Layout;
+use crate::lent_paint::LentPaint;
+use crate::pixel_writes::paint_row;
 use crate::pixels::read_bytes;
 use crate::scan::{Leaf, scan_block, scan_part};
-use fits_stream::Count;
 
 /// Scans a part of a block, by groups of eight bytes.
-pub(crate) fn scan_groups(bytes: &[u8], layout: Layout, from: usize, to: usize) -> Leaf
+fn scan_groups(bytes: &[u8], layout: Layout, from: usize, to: usize) -> Leaf
     requires layout { IsLayout layout bytes.now }
     requires width { IsWidth layout.width }
     requires order { from ≤ to }
@@ -29,9 +33,8 @@ pub(crate) fn scan_groups(bytes: &[u8], layout: Layout, from: usize, to: usize) 
     scan_part(part, layout.width, held, layout.blank)
 }
 
-/// The leaf of a block once a part of it changed, of which this went. One scan is counted for it,
-/// whether it is made or not.
-pub(crate) fn leaf_after(
+/// The summary of a block once a part of it changed, of which this went.
+fn leaf_after(
     bytes: &[u8],
     layout: Layout,
     k: usize,
@@ -39,7 +42,6 @@ pub(crate) fn leaf_after(
     to: usize,
     all: Leaf,
     gone: Leaf,
-    scans: &mut Count,
 ) -> Leaf
     requires layout { IsLayout layout bytes.now }
     requires width { IsWidth layout.width }
@@ -47,18 +49,46 @@ pub(crate) fn leaf_after(
     requires low { 360 * k ≤ from }
     requires order { from ≤ to }
     requires high { to ≤ 360 * k + 360 }
-    ensures leaf { (old : List ℕ) → ((j : ℕ) → slice_index old j < 256)
+    ensures { (old : List ℕ) → ((j : ℕ) → slice_index old j < 256)
         → AreGroupsChanged from to old bytes.now → all ≡ leaf_of layout old k
         → gone ≡ part_of layout old from (to - from) → result ≡ leaf_of layout bytes.now k }
-    ensures work { scans.new.total ≡ scans.old.total + 1 }
 {
     read_bytes(bytes);
     let come = scan_groups(bytes, layout, from, to);
     match exchanged(all, gone, come) {
-        Some(leaf) => {
-            scans.tick();
-            leaf
-        }
-        None => scan_block(bytes, layout, k, scans),
+        Some(leaf) => leaf,
+        None => scan_block(bytes, layout, k),
     }
+}
+
+/// Paints pixels of block k, of which this is kept, and says what is kept of it then.
+pub(crate) fn paint_block(
+    bytes: &mut [u8],
+    layout: Layout,
+    k: usize,
+    start: usize,
+    count: usize,
+    paint: &LentPaint,
+    rank: usize,
+    offset: i128,
+    all: Leaf,
+) -> Leaf
+    requires layout { IsLayout layout bytes.old }
+    requires width { IsWidth layout.width }
+    requires some { 0 < count }
+    requires low { k * block_pixels layout.width ≤ start }
+    requires high { start + count ≤ (k + 1) * block_pixels layout.width }
+    requires within { start + count ≤ layout.pixels }
+    requires paint { CanPaint layout.width paint.now offset rank count }
+    ensures written { RowWritten layout.width start count
+        (λ x. painted_number paint.now offset (rank + x)) bytes.old bytes.new }
+    ensures leaf { all ≡ leaf_of layout bytes.old k → result ≡ leaf_of layout bytes.new k }
+{
+    read_bytes(bytes);
+    // The groups of eight bytes that hold the pixels, and perhaps others beside them.
+    let from = start * layout.width / 8;
+    let to = ((start + count) * layout.width).div_ceil(8);
+    let gone = scan_groups(bytes, layout, from, to);
+    paint_row(bytes, layout.width, start, count, paint, rank, offset);
+    leaf_after(bytes, layout, k, from, to, all, gone)
 }

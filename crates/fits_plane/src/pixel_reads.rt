@@ -4,9 +4,8 @@ ghost use Rattle.std.specs.List.{range_with_len};
 ghost use Rattle.fits_plane.specs.Pixels.{IsWidth};
 ghost use Rattle.fits_plane.specs.Rectangle.{IsRectangle, product, rectangle_size, value_at, rectangle_values};
 
-use crate::pixels::pixel_at;
+use crate::data_bytes::DataBytes;
 use crate::rectangle::{row_len, row_start, rows};
-use fits_stream::Count;
 
 /// The value of a stored number.
 fn value_of(stored: i64, offset: i128) -> i128
@@ -29,54 +28,52 @@ fn put_value(values: &mut Vec<i128>, value: i128)
 /// Reads a run of pixels into room that is reserved, each with the offset.
 fn read_row(
     values: &mut Vec<i128>,
-    bytes: &[u8],
+    store: &mut DataBytes,
     width: usize,
     start: usize,
     count: usize,
     offset: i128,
-    reads: &mut Count,
 )
     requires width { IsWidth width }
-    requires within { (start + count) * width ≤ length bytes.now }
+    requires within { (start + count) * width ≤ length store.old.bytes }
+    requires small { start + count < 2 ^ 62 }
     requires offset { unsigned_abs offset ≤ 2 ^ 64 }
     requires room { vec_len values.old + count ≤ vec_capacity values.old }
     ensures items { values.new.items ≡ values.old.items
-        ++ map (value_at width bytes.now offset) (range_with_len start count) }
+        ++ map (value_at width store.old.bytes offset) (range_with_len start count) }
     ensures len { vec_len values.new ≡ vec_len values.old + count }
     ensures room { vec_capacity values.old ≤ vec_capacity values.new }
-    ensures work { reads.new.total ≡ reads.old.total + count }
+    ensures work { store.new ≡ record store.old { reads = store.old.reads + count } }
 {
     for x in 0..count {
-        let value = value_of(pixel_at(bytes, width, start + x), offset);
-        reads.tick();
-        put_value(values, value);
+        put_value(values, value_of(store.pixel(width, start + x), offset));
     }
 }
 
 /// Reads a rectangle into room that is reserved, row by row, each pixel with the offset.
 pub(crate) fn read_rows(
     values: &mut Vec<i128>,
-    bytes: &[u8],
+    store: &mut DataBytes,
     width: usize,
     axes: &[u64],
     lo: &[u64],
     hi: &[u64],
     offset: i128,
-    reads: &mut Count,
 )
     requires width { IsWidth width }
     requires rectangle { IsRectangle axes.now lo.now hi.now }
-    requires within { product axes.now * width ≤ length bytes.now }
+    requires within { product axes.now * width ≤ length store.old.bytes }
     requires small { product axes.now < 2 ^ 62 }
     requires offset { unsigned_abs offset ≤ 2 ^ 64 }
     requires room { vec_len values.old + rectangle_size lo.now hi.now ≤ vec_capacity values.old }
     ensures items { values.new.items ≡ values.old.items
-        ++ rectangle_values width bytes.now axes.now lo.now hi.now offset }
-    ensures work { reads.new.total ≡ reads.old.total + rectangle_size lo.now hi.now }
+        ++ rectangle_values width store.old.bytes axes.now lo.now hi.now offset }
+    ensures work { store.new
+        ≡ record store.old { reads = store.old.reads + rectangle_size lo.now hi.now } }
 {
     let side = row_len(axes, lo, hi) as usize;
     for row in 0..rows(axes, lo, hi) {
         let start = row_start(axes, lo, hi, row);
-        read_row(values, bytes, width, start, side, offset, reads);
+        read_row(values, store, width, start, side, offset);
     }
 }

@@ -1,20 +1,19 @@
 ghost use Rattle.std.specs.Prelude.{◌≡◌, replicate, IfOk};
 
+use crate::data_bytes::DataBytes;
 use crate::layout::Layout;
 use crate::leaves::{leaves_of, root_of, zero_leaves};
 use crate::lent_paint::LentPaint;
 use crate::painting::paint_rectangle;
 use crate::pixel_reads::read_rows;
 use crate::pixel_summary::PixelSummary;
-use crate::pixels::{pixel_at, read_bytes};
 use crate::rectangle::rectangle_len;
 use crate::scan::Leaf;
 use crate::tree::Tree;
 use crate::value_summary::ValueSummary;
 use crate::values::Values;
 use fits_card::BLOCK_LEN;
-use fits_stream::{Count, Sink, write_all};
-use fits_sum::all_are;
+use fits_stream::Sink;
 use std::alloc::{AllocError, Global};
 use std::io;
 use std::marker::Model;
@@ -25,11 +24,9 @@ use std::marker::Model;
 /// how many blocks were scanned, pixels read and nodes joined so far.
 #[derive(Drop)]
 pub struct Plane {
-    bytes: Vec<u8>,
+    store: DataBytes,
     layout: Layout,
     tree: Tree<Leaf>,
-    scans: Count,
-    reads: Count,
 }
 
 impl Model for Plane {
@@ -41,17 +38,17 @@ impl Model for Plane {
     ghost Value = { PlaneState };
 
     ghost view = { λ p. record {
-      bytes = p.bytes.items;
+      bytes = p.store.bytes;
       layout = p.layout;
-      scans = p.scans.total;
-      reads = p.reads.total;
+      scans = p.store.scans;
+      reads = p.store.reads;
       joins = p.tree.joins;
     } };
 
     ghost invariant = { λ p. record {
-      whole : length p.bytes.items ≡ 2880 * length p.tree.leaves;
-      layout : IsLayout p.layout p.bytes.items;
-      leaves : AreLeaves p.layout p.bytes.items p.tree.leaves;
+      whole : length p.store.bytes ≡ 2880 * length p.tree.leaves;
+      layout : IsLayout p.layout p.store.bytes;
+      leaves : AreLeaves p.layout p.store.bytes p.tree.leaves;
     } };
 }
 
@@ -90,17 +87,11 @@ impl Plane {
         ensures joins { IfOk result
             (λ p. (d : ℕ) → block_count bytes.items ≤ 2 ^ d → p.joins ≤ 2 ^ d) }
     {
-        let mut scans = Count::new();
         let blocks = bytes.len() / BLOCK_LEN;
-        let leaves = leaves_of(alloc, bytes.as_slice(), layout, blocks, &mut scans)?;
+        let mut store = DataBytes::new(bytes);
+        let leaves = leaves_of(alloc, &mut store, layout, blocks)?;
         let tree = Tree::open(alloc, leaves)?;
-        Ok(Plane {
-            bytes,
-            layout,
-            tree,
-            scans,
-            reads: Count::new(),
-        })
+        Ok(Plane { store, layout, tree })
     }
 
     /// The data unit of so many bytes, each zero.
@@ -115,18 +106,10 @@ impl Plane {
         ensures joins { IfOk result
             (λ p. (d : ℕ) → block_count (replicate len 0) ≤ 2 ^ d → p.joins ≤ 2 ^ d) }
     {
-        let mut scans = Count::new();
-        let bytes = zeros(alloc, len)?;
-        let blocks = bytes.len() / BLOCK_LEN;
-        let leaves = zero_leaves(alloc, bytes.as_slice(), layout, blocks, &mut scans)?;
+        let mut store = DataBytes::new(zeros(alloc, len)?);
+        let leaves = zero_leaves(alloc, &mut store, layout, len / BLOCK_LEN)?;
         let tree = Tree::open(alloc, leaves)?;
-        Ok(Plane {
-            bytes,
-            layout,
-            tree,
-            scans,
-            reads: Count::new(),
-        })
+        Ok(Plane { store, layout, tree })
     }
 
     pub fn layout(&self) -> Layout
@@ -140,7 +123,7 @@ impl Plane {
     pub fn byte_len(&self) -> usize
         ensures { result ≡ length self.now.bytes }
     {
-        self.bytes.len()
+        self.store.len()
     }
 
     /// Stored pixel i. The read is counted.
@@ -149,8 +132,7 @@ impl Plane {
         ensures value { result ≡ pixel self.old.layout.width self.old.bytes i }
         ensures work { self.new ≡ record self.old { reads = self.old.reads + 1 } }
     {
-        self.reads.tick();
-        pixel_at(self.bytes.as_slice(), self.layout.width, i)
+        self.store.pixel(self.layout.width, i)
     }
 
     /// The statistics of its stored numbers.
@@ -158,7 +140,7 @@ impl Plane {
         ensures { result ≡ statistics self.now.layout.blank
             (pixels self.now.layout.width self.now.bytes 0 self.now.layout.pixels) }
     {
-        root_of(&self.tree, self.bytes.as_slice(), self.layout).first
+        root_of(&self.tree, &self.store, self.layout).first
     }
 
     /// The statistics of its values, each a stored number and the offset.
@@ -167,7 +149,7 @@ impl Plane {
         ensures { result ≡ value_statistics offset self.now.layout.blank
             (pixels self.now.layout.width self.now.bytes 0 self.now.layout.pixels) }
     {
-        read_bytes(self.bytes.as_slice());
+        self.store.are_bytes();
         self.stats().with_offset(offset)
     }
 
@@ -175,9 +157,7 @@ impl Plane {
     pub fn total(&self) -> u64
         ensures { result ≡ word_total self.now.bytes }
     {
-        root_of(&self.tree, self.bytes.as_slice(), self.layout)
-            .second
-            .total
+        root_of(&self.tree, &self.store, self.layout).second.total
     }
 
     /// Whether each byte of the fill is the one that it should be.
@@ -185,7 +165,7 @@ impl Plane {
         ensures { IsTrue result
             ↔ All (λ b. b ≡ self.now.layout.fill) (drop self.now.layout.used self.now.bytes) }
     {
-        all_are(&self.bytes.as_slice()[self.layout.used..], self.layout.fill)
+        self.store.ends_in(self.layout.used, self.layout.fill)
     }
 
     /// Gives the pixels of a rectangle the values of a paint, each less the offset. It takes no memory.
@@ -207,8 +187,7 @@ impl Plane {
     {
         paint_rectangle(
             &mut self.tree,
-            &mut self.scans,
-            self.bytes.as_mut_slice(),
+            &mut self.store,
             self.layout,
             axes,
             lo,
@@ -273,13 +252,12 @@ impl Plane {
         let mut values = Vec::with_capacity(alloc, size)?;
         read_rows(
             &mut values,
-            self.bytes.as_slice(),
+            &mut self.store,
             width,
             axes,
             lo,
             hi,
             offset,
-            &mut self.reads,
         );
         Ok(values)
     }
@@ -295,8 +273,7 @@ impl Plane {
             → self.new.joins ≤ self.old.joins + 2 ^ d }
     {
         self.layout.blank = blank;
-        self.tree
-            .rescan(self.bytes.as_slice(), self.layout, &mut self.scans);
+        self.store.scan_all(self.layout, &mut self.tree);
     }
 
     /// Writes its bytes, or a prefix of them where a call failed.
@@ -305,7 +282,7 @@ impl Plane {
         ensures err { OnErr result (PrintsFront self.now.bytes
             (W.state sink.old) (W.state sink.new)) }
     {
-        write_all(sink, self.bytes.as_slice())
+        self.store.emit(sink)
     }
 }
 

@@ -16,7 +16,6 @@ use crate::summary::Summary;
 use crate::word_summary::WordSummary;
 use crate::{pixels_8, signed};
 use fits_card::BLOCK_LEN;
-use fits_stream::Count;
 
 /// What is kept of a block: its statistics, and the total of its words.
 pub(crate) type Leaf = Both<PixelSummary, WordSummary>;
@@ -110,14 +109,12 @@ pub(crate) fn pixels_per_block(width: usize) -> usize
     BLOCK_LEN.checked_div(width).unwrap_or(0)
 }
 
-/// Scans block k. The scan is counted.
-pub(crate) fn scan_block(bytes: &[u8], layout: Layout, k: usize, scans: &mut Count) -> Leaf
+/// What is kept of block k.
+pub(crate) fn scan_block(bytes: &[u8], layout: Layout, k: usize) -> Leaf
     requires layout { IsLayout layout bytes.now }
     requires within { 2880 * k + 2880 ≤ length bytes.now }
-    ensures leaf { result ≡ leaf_of layout bytes.now k }
-    ensures work { scans.new.total ≡ scans.old.total + 1 }
+    ensures { result ≡ leaf_of layout bytes.now k }
 {
-    scans.tick();
     let at = BLOCK_LEN * k;
     let block = &bytes[at..at + BLOCK_LEN];
     let per = pixels_per_block(layout.width);

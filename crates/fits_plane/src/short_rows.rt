@@ -10,12 +10,10 @@ ghost use Rattle.fits_plane.specs.Tree.{most_above, nodes_left};
 ghost use Rattle.fits_plane.specs.Work.{touched_blocks};
 ghost use Rattle.fits_plane.specs.ShortRows.{IsKept, IsKeptBut, CanPaint, RowWritten};
 
+use crate::data_bytes::DataBytes;
 use crate::layout::Layout;
 use crate::lent_paint::LentPaint;
 use crate::nodes::{climb, write_leaf};
-use crate::parts::{leaf_after, scan_groups};
-use crate::pixel_writes::paint_row;
-use crate::pixels::read_bytes;
 use crate::rectangle::{row_len, row_start, rows};
 use crate::scan::{Leaf, pixels_per_block};
 use crate::tree::Tree;
@@ -36,7 +34,7 @@ fn paint_part(
     nodes: &mut [Leaf],
     width: usize,
     last: usize,
-    bytes: &mut [u8],
+    store: &mut DataBytes,
     layout: Layout,
     k: usize,
     start: usize,
@@ -44,10 +42,9 @@ fn paint_part(
     paint: &LentPaint,
     rank: usize,
     offset: i128,
-    scans: &mut Count,
     joins: &mut Count,
 ) -> usize
-    requires kept { IsKeptBut layout bytes.old width last nodes.old }
+    requires kept { IsKeptBut layout store.old.bytes width last nodes.old }
     requires width { IsWidth layout.width }
     requires some { 0 < count }
     requires low { k * block_pixels layout.width ≤ start }
@@ -56,22 +53,17 @@ fn paint_part(
     requires paint { CanPaint layout.width paint.now offset rank count }
     ensures place { result ≡ width + k }
     ensures written { RowWritten layout.width start count
-        (λ x. painted_number paint.now offset (rank + x)) bytes.old bytes.new }
-    ensures kept { IsKeptBut layout bytes.new width result nodes.new }
-    ensures scans { scans.new.total ≡ scans.old.total + 1 }
+        (λ x. painted_number paint.now offset (rank + x)) store.old.bytes store.new.bytes }
+    ensures kept { IsKeptBut layout store.new.bytes width result nodes.new }
+    ensures reads { store.new.reads ≡ store.old.reads }
+    ensures scans { store.new.scans ≡ store.old.scans + 1 }
     ensures more { joins.old.total ≤ joins.new.total }
     ensures few { (d : ℕ) → width ≤ 2 ^ d → joins.new.total ≤ joins.old.total + most_above d last }
     ensures left { (h : ℕ) → width ≡ 2 ^ h → last ≤ result → joins.new.total
         + nodes_left h (last - width) ≤ joins.old.total + nodes_left h k }
 {
-    read_bytes(bytes);
-    // The groups of eight bytes that hold the pixels, and perhaps others beside them.
-    let from = start * layout.width / 8;
-    let to = ((start + count) * layout.width).div_ceil(8);
     let all = leaf_at(nodes, width, k);
-    let gone = scan_groups(bytes, layout, from, to);
-    paint_row(bytes, layout.width, start, count, paint, rank, offset);
-    let leaf = leaf_after(bytes, layout, k, from, to, all, gone, scans);
+    let leaf = store.paint_block(layout, k, start, count, paint, rank, offset, all);
     write_leaf(nodes, width, last, k, leaf, joins)
 }
 
@@ -81,17 +73,16 @@ fn paint_short_row(
     nodes: &mut [Leaf],
     width: usize,
     last: usize,
-    bytes: &mut [u8],
+    store: &mut DataBytes,
     layout: Layout,
     start: usize,
     count: usize,
     paint: &LentPaint,
     rank: usize,
     offset: i128,
-    scans: &mut Count,
     joins: &mut Count,
 ) -> usize
-    requires kept { IsKeptBut layout bytes.old width last nodes.old }
+    requires kept { IsKeptBut layout store.old.bytes width last nodes.old }
     requires width { IsWidth layout.width }
     requires some { 0 < count }
     requires short { count ≤ block_pixels layout.width }
@@ -99,13 +90,14 @@ fn paint_short_row(
     requires paint { CanPaint layout.width paint.now offset rank count }
     ensures place { result ≡ width + (start + count - 1) / block_pixels layout.width }
     ensures written { RowWritten layout.width start count
-        (λ x. painted_number paint.now offset (rank + x)) bytes.old bytes.new }
-    ensures kept { IsKeptBut layout bytes.new width result nodes.new }
-    ensures scans { scans.new.total ≡ scans.old.total + ((start + count - 1)
+        (λ x. painted_number paint.now offset (rank + x)) store.old.bytes store.new.bytes }
+    ensures kept { IsKeptBut layout store.new.bytes width result nodes.new }
+    ensures reads { store.new.reads ≡ store.old.reads }
+    ensures scans { store.new.scans ≡ store.old.scans + ((start + count - 1)
         / block_pixels layout.width + 1 - start / block_pixels layout.width) }
     ensures more { joins.old.total ≤ joins.new.total }
     ensures few { (d : ℕ) → width ≤ 2 ^ d → joins.new.total + most_above d result
-        ≤ joins.old.total + most_above d last + (scans.new.total - scans.old.total) * d }
+        ≤ joins.old.total + most_above d last + (store.new.scans - store.old.scans) * d }
     ensures left { (h : ℕ) → width ≡ 2 ^ h → last ≤ width + start / block_pixels layout.width
         → joins.new.total + nodes_left h (last - width)
         ≤ joins.old.total + nodes_left h (result - width) }
@@ -115,7 +107,7 @@ fn paint_short_row(
     let next = (k + 1) * per;
     let here = count.min(next - start);
     let place = paint_part(
-        nodes, width, last, bytes, layout, k, start, here, paint, rank, offset, scans, joins,
+        nodes, width, last, store, layout, k, start, here, paint, rank, offset, joins,
     );
     if here < count {
         let rest = count - here;
@@ -123,7 +115,7 @@ fn paint_short_row(
             nodes,
             width,
             place,
-            bytes,
+            store,
             layout,
             k + 1,
             next,
@@ -131,7 +123,6 @@ fn paint_short_row(
             paint,
             rank + here,
             offset,
-            scans,
             joins,
         )
     } else {
@@ -143,17 +134,16 @@ fn paint_short_row(
 fn paint_rows_apart(
     nodes: &mut [Leaf],
     width: usize,
-    bytes: &mut [u8],
+    store: &mut DataBytes,
     layout: Layout,
     axes: &[u64],
     lo: &[u64],
     hi: &[u64],
     paint: &LentPaint,
     offset: i128,
-    scans: &mut Count,
     joins: &mut Count,
 )
-    requires kept { IsKeptBut layout bytes.old width 1 nodes.old }
+    requires kept { IsKeptBut layout store.old.bytes width 1 nodes.old }
     requires width { IsWidth layout.width }
     requires rectangle { IsRectangle axes.now lo.now hi.now }
     requires all { product axes.now ≡ layout.pixels }
@@ -162,17 +152,18 @@ fn paint_rows_apart(
         → IsStorable layout.width (painted_number paint.now offset k) }
     requires short { row_size lo.now hi.now ≤ block_pixels layout.width }
     requires apart { block_pixels layout.width + row_size lo.now hi.now ≤ slice_index axes.now 0 }
-    ensures long { length bytes.new ≡ length bytes.old }
-    ensures value { bytes.new ≡ rectangle_written layout.width axes.now lo.now hi.now
-        (painted_number paint.now offset) bytes.old }
-    ensures kept { IsKeptBut layout bytes.new width 1 nodes.new }
-    ensures more_scans { scans.old.total ≤ scans.new.total }
-    ensures scans { scans.new.total ≤ scans.old.total
+    ensures long { length store.new.bytes ≡ length store.old.bytes }
+    ensures value { store.new.bytes ≡ rectangle_written layout.width axes.now lo.now hi.now
+        (painted_number paint.now offset) store.old.bytes }
+    ensures kept { IsKeptBut layout store.new.bytes width 1 nodes.new }
+    ensures reads { store.new.reads ≡ store.old.reads }
+    ensures more_scans { store.old.scans ≤ store.new.scans }
+    ensures scans { store.new.scans ≤ store.old.scans
         + touched_blocks axes.now lo.now hi.now (block_pixels layout.width) layout.pixels
-        (block_count bytes.old) }
+        (block_count store.old.bytes) }
     ensures more { joins.old.total ≤ joins.new.total }
     ensures few { (d : ℕ) → width ≤ 2 ^ d → joins.new.total
-        ≤ joins.old.total + (scans.new.total - scans.old.total) * d }
+        ≤ joins.old.total + (store.new.scans - store.old.scans) * d }
     ensures most { (h : ℕ) → width ≡ 2 ^ h → joins.new.total + 1 ≤ joins.old.total + width }
 {
     let side = row_len(axes, lo, hi) as usize;
@@ -182,11 +173,11 @@ fn paint_rows_apart(
         let start = row_start(axes, lo, hi, row);
         let rank = row as usize * side;
         last = paint_short_row(
-            nodes, width, last, bytes, layout, start, side, paint, rank, offset, scans, joins,
+            nodes, width, last, store, layout, start, side, paint, rank, offset, joins,
         );
     }
     climb(nodes, width, last, 1, joins);
-    read_bytes(bytes);
+    store.are_bytes();
 }
 
 impl Tree<Leaf> {
@@ -194,8 +185,7 @@ impl Tree<Leaf> {
     /// are joined up to where its path meets the next one's.
     pub(crate) fn paint_short_rows(
         &mut self,
-        scans: &mut Count,
-        bytes: &mut [u8],
+        store: &mut DataBytes,
         layout: Layout,
         axes: &[u64],
         lo: &[u64],
@@ -203,7 +193,7 @@ impl Tree<Leaf> {
         paint: &LentPaint,
         offset: i128,
     )
-        requires kept { IsKept layout bytes.old self.old.leaves }
+        requires kept { IsKept layout store.old.bytes self.old.leaves }
         requires width { IsWidth layout.width }
         requires rectangle { IsRectangle axes.now lo.now hi.now }
         requires all { product axes.now ≡ layout.pixels }
@@ -213,31 +203,31 @@ impl Tree<Leaf> {
         requires short { row_size lo.now hi.now ≤ block_pixels layout.width }
         requires apart { block_pixels layout.width + row_size lo.now hi.now
             ≤ slice_index axes.now 0 }
-        ensures long { length bytes.new ≡ length bytes.old }
-        ensures value { bytes.new ≡ rectangle_written layout.width axes.now lo.now hi.now
-            (painted_number paint.now offset) bytes.old }
-        ensures kept { IsKept layout bytes.new self.new.leaves }
-        ensures more_scans { scans.old.total ≤ scans.new.total }
-        ensures scans { scans.new.total ≤ scans.old.total
+        ensures long { length store.new.bytes ≡ length store.old.bytes }
+        ensures value { store.new.bytes ≡ rectangle_written layout.width axes.now lo.now hi.now
+            (painted_number paint.now offset) store.old.bytes }
+        ensures kept { IsKept layout store.new.bytes self.new.leaves }
+        ensures reads { store.new.reads ≡ store.old.reads }
+        ensures more_scans { store.old.scans ≤ store.new.scans }
+        ensures scans { store.new.scans ≤ store.old.scans
             + touched_blocks axes.now lo.now hi.now (block_pixels layout.width) layout.pixels
             (length self.old.leaves) }
         ensures more { self.old.joins ≤ self.new.joins }
         ensures joins { (d : ℕ) → length self.old.leaves ≤ 2 ^ d → self.new.joins
-            ≤ self.old.joins + (scans.new.total - scans.old.total) * d }
+            ≤ self.old.joins + (store.new.scans - store.old.scans) * d }
         ensures most { (d : ℕ) → length self.old.leaves ≤ 2 ^ d
             → self.new.joins ≤ self.old.joins + 2 ^ d }
     {
         paint_rows_apart(
             self.nodes.as_mut_slice(),
             self.width,
-            bytes,
+            store,
             layout,
             axes,
             lo,
             hi,
             paint,
             offset,
-            scans,
             &mut self.joins,
         );
     }

@@ -87,8 +87,9 @@ impl<S: Summary> Tree<S> {
     ///
     /// Each leaf is asked for once.
     pub fn refresh<F: Fn(usize) -> S + Drop>(&mut self, leaf: F)
-        requires callable { F.IsAlwaysCallable leaf }
-        requires fits { (i : ℕ) (x : S) → F.post leaf i x → S.fits x }
+        requires callable { (i : ℕ) → i < length self.old.leaves → F.pre leaf i }
+        requires fits { (i : ℕ) (x : S) → i < length self.old.leaves
+            → F.post leaf i x → S.fits x }
         ensures long { length self.new.leaves ≡ length self.old.leaves }
         ensures each { (i : ℕ) → i < length self.old.leaves
             → F.post leaf i (slice_index_or self.new.leaves i S.empty) }

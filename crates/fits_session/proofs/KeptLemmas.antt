@@ -115,6 +115,10 @@ reads_moved hdus others same = sym (reads_of-unentered hdus) ∙ ap reads_of sam
 pub works_moved : (hdus others : List HduState) → without_entries hdus ≡ without_entries others → works_of hdus ≡ works_of others
 works_moved hdus others same = sym (works_of-unentered hdus) ∙ ap works_of same ∙ works_of-unentered others
 
+-- an HDU of a session has the shape that its cards describe
+pub described_at : (hdus : List HduState) (h i : ℕ) (hdu : HduState) → All IsDescribed hdus → IsHduAt hdus h i hdu → IsDescribed hdu
+described_at hdus h i hdu all at = subst IsDescribed (sym at.is) (all i hdu at.index.within)
+
 -- their cards describe their shapes alike
 pub described_moved : (hdus others : List HduState) → without_entries hdus ≡ without_entries others → All IsDescribed others → All IsDescribed hdus
 described_moved hdus others same p =

@@ -1,5 +1,5 @@
 -- Steps of queries.
-use Rattle.std.proofs.Common.{◌≡◌, ◌+◌, ℕ, List, length, set, refl, ap, sym, ◌∙◌, subst, ℤ, Option, None, Some}
+use Rattle.std.proofs.Common.{◌≡◌, ◌<◌, ◌+◌, ℕ, List, length, set, refl, ap, sym, ◌∙◌, subst, ℤ, Option, None, Some}
 use Rattle.std.specs.Prelude.{ok_or, Result, Ok, Err, IsOk}
 use Rattle.fits_value.specs.declared.value.Value.{Value}
 use Rattle.fits_header.specs.Names.{header_names}
@@ -24,7 +24,7 @@ use Rattle.fits_hdu.specs.declared.keyword.KeywordFault.TheVariants as keyword
 use Rattle.fits_session.specs.Edit.{hdu_of}
 use Rattle.fits_session.specs.HduEdit.{pixels_made, refusal_of_pixels, shaped}
 use Rattle.fits_session.specs.File.{IsFile}
-use Rattle.fits_session.specs.Query.{by_shape, card_count_in, datasum_in, kind_in, rect_in, shape_in, some_shape, stats_in, verdicts_in, value_in, positions_in, names_in, in_hdu, or_refused, refusal_of_keyword, QueryFails}
+use Rattle.fits_session.specs.Query.{by_shape, card_count_in, datasum_in, kind_in, rect_in, shape_in, some_shape, stats_in, verdicts_in, value_in, positions_in, names_in, in_hdu, or_refused, refusal_of_keyword, PlacesFail, QueryFails}
 use Rattle.fits_session.specs.Edit.{is_primary_hdu}
 use Rattle.fits_session.specs.Session.{file_of, read_more, state_of, Asks, AsksPixels}
 use Rattle.fits_session.specs.Work.{reads_in, value_reads}
@@ -150,15 +150,15 @@ rect_asks hdus tail h i count old new at is = record {
 pub places_there : (hdus : List HduState) (tail : List ℕ) (h i : ℕ) (hdu : HduState) (name places : List ℕ) → IsHduAt hdus h i hdu → places ≡ keyword_places hdu.header.header.cards name → positions_in (file_of (state_of hdus tail)) h name ≡ Ok places
 places_there hdus tail h i hdu name places at is = answer_there (λ (u : HduParts). Ok (keyword_places u.header.cards name)) hdus tail h i hdu at ∙ ap Ok (sym is)
 
--- they are refused for memory alone
-pub no_places : (hdus : List HduState) (tail : List ℕ) (h i : ℕ) (hdu : HduState) (name : List ℕ) → IsHduAt hdus h i hdu → QueryFails (positions_in (file_of (state_of hdus tail)) h name) refusal.Memory
-no_places hdus tail h i hdu name at = rw (places_there hdus tail h i hdu name (keyword_places hdu.header.header.cards name) at refl) refl
+-- they are refused for memory alone, and where there is one
+pub no_places : (hdus : List HduState) (tail : List ℕ) (h i : ℕ) (hdu : HduState) (name : List ℕ) → IsHduAt hdus h i hdu → 0 < length (keyword_places hdu.header.header.cards name) → PlacesFail (positions_in (file_of (state_of hdus tail)) h name) refusal.Memory
+no_places hdus tail h i hdu name at some = rw (places_there hdus tail h i hdu name (keyword_places hdu.header.header.cards name) at refl) some
 
 -- the names of a header
 pub names_there : (hdus : List HduState) (tail : List ℕ) (h i : ℕ) (hdu : HduState) (names : List (List ℕ)) → IsHduAt hdus h i hdu → names ≡ header_names hdu.header.header.cards → names_in (file_of (state_of hdus tail)) h ≡ Ok names
 names_there hdus tail h i hdu names at is = answer_there (λ (u : HduParts). Ok (header_names u.header.cards)) hdus tail h i hdu at ∙ ap Ok (sym is)
 
--- they are refused for memory alone
+-- they are refused for memory alone, and where there is one
 pub no_names : (hdus : List HduState) (tail : List ℕ) (h i : ℕ) (hdu : HduState) → IsHduAt hdus h i hdu → QueryFails (names_in (file_of (state_of hdus tail)) h) refusal.Memory
 no_names hdus tail h i hdu at = rw (names_there hdus tail h i hdu (header_names hdu.header.header.cards) at refl) refl
 

@@ -1,5 +1,5 @@
 -- What queries answer of a file: a fresh reading of it (own).
-use Rattle.std.specs.Prelude.{◌≡◌, ℕ, Bool, ℤ, List, length, Option, None, Some, ok_or, Result, Ok, Err, IsOk}
+use Rattle.std.specs.Prelude.{◌≡◌, ◌<◌, ℕ, Bool, ℤ, List, length, Option, None, Some, ok_or, Result, Ok, Err, IsOk, IsOkAnd}
 use Rattle.fits_value.specs.declared.value.Value.{Value}
 use Rattle.fits_header.specs.Names.{header_names}
 use Rattle.fits_header.specs.Places.{keyword_places}
@@ -101,3 +101,8 @@ names_in file h = in_hdu (λ hdu. Ok (header_names hdu.header.cards)) (hdu_of fi
 abbrev pub QueryFails : {X : Type 0} → Result X Refusal → Refusal → Type 0
 QueryFails answer Memory = IsOk answer
 QueryFails answer why = answer ≡ Err why
+
+-- the query of places takes memory only where there is one
+abbrev pub PlacesFail : Result (List ℕ) Refusal → Refusal → Type 0
+PlacesFail answer Memory = IsOkAnd answer (λ places. 0 < length places)
+PlacesFail answer why = answer ≡ Err why

@@ -25,7 +25,7 @@ impl Session {
     ghost use Rattle.fits_plane.specs.Rectangle.{rectangle_size};
     ghost use Rattle.fits_session.specs.Edit.{hdu_of};
     ghost use Rattle.fits_session.specs.File.{offsets_from};
-    ghost use Rattle.fits_session.specs.Query.{card_count_in, datasum_in, kind_in, names_in, positions_in, rect_in, shape_in, stats_in, value_in, verdicts_in, QueryFails};
+    ghost use Rattle.fits_session.specs.Query.{card_count_in, datasum_in, kind_in, names_in, positions_in, rect_in, shape_in, stats_in, value_in, verdicts_in, PlacesFail, QueryFails};
     ghost use Rattle.fits_session.specs.Report.{counts_in, report_of};
     ghost use Rattle.fits_session.specs.Session.{file_of, Asks, AsksPixels};
     ghost use Rattle.fits_session.specs.Work.{value_reads};
@@ -73,8 +73,6 @@ impl Session {
     {
         let i = index_of(&self.hdus, h)?;
         let hdu = &self.hdus[i];
-        // Its cards describe this shape.
-        let _shape = hdu.shape();
         hdu.stats().ok_or(Refusal::NotImage)
     }
 
@@ -110,8 +108,6 @@ impl Session {
     {
         let i = index_of(&self.hdus, h)?;
         let hdu = &mut self.hdus[i];
-        // Its cards describe this shape.
-        let _shape = hdu.shape();
         let values = hdu.rect(self.alloc, lo, hi)?;
         Ok(values)
     }
@@ -129,12 +125,12 @@ impl Session {
         Ok(said)
     }
 
-    /// The places of the cards of a name in HDU h, ascending; of a name that no card has, none.
-    /// Refusals 1 and 15. No card is read.
+    /// The places of the cards of a name in HDU h, ascending; of a name that no card has, none,
+    /// and then no memory is taken. Refusals 1 and 15. No card is read.
     pub fn positions(&self, h: usize, name: &Name) -> Result<Vec<usize>, Refusal>
         ensures ok { IfOk result (λ places. positions_in (file_of self.now) h name.now
             ≡ Ok places.items) }
-        ensures err { IfErr result (QueryFails (positions_in (file_of self.now) h name.now)) }
+        ensures err { IfErr result (PlacesFail (positions_in (file_of self.now) h name.now)) }
     {
         let i = index_of(&self.hdus, h)?;
         let hdu = &self.hdus[i];

@@ -1,4 +1,4 @@
-use Rattle.std.proofs.Common.{◌≡◌, ◌≤◌, ◌+◌, ◌-◌, ◌/◌, max, ◌<◌, ◌*◌, ℕ, List, drop, get_or, refl, arith, ap, inl, inr, sym, subst, ◌∙◌}
+use Rattle.std.proofs.Common.{◌≡◌, ◌≤◌, ◌+◌, ◌-◌, ◌/◌, max, ◌<◌, ◌*◌, ℕ, List, drop, get_or, length, refl, arith, ap, inl, inr, sym, subst, ◌∙◌}
 use Rattle.std.proofs.Math.Nat.{mul-le-mul_left}
 use Rattle.fits_plane.specs.Rectangle.{product, row_size, row_count}
 use Rattle.fits_plane.specs.Layout.{block_count, block_pixels}
@@ -10,6 +10,7 @@ use Rattle.fits_plane.proofs.JoinLemmas.{tree_begun, tree_done}
 use Rattle.fits_plane.proofs.LeafLemmas.{block_pixels_some, layout_room, layout_small}
 use Rattle.fits_plane.proofs.PathLemmas.{all_left}
 use Rattle.fits_plane.proofs.PowerLemmas.{most_above_le}
+use Rattle.fits_plane.proofs.StoreLemmas.{fits_scanned, leaf_scanned, same_bytes, scanned_again}
 use Rattle.fits_plane.proofs.leaves.refresh_rows.Goals as goal
 
 pub loop-row-preserved : goal.loop-row-preserved
@@ -19,10 +20,10 @@ loop-row-preserved c =
     let hi : List ℕ = c.args.hi.now in
     let per : ℕ = block_pixels c.args.layout.width in
     let n : ℕ = c.args.width in
-    let blocks : ℕ = block_count c.args.bytes.now in
+    let blocks : ℕ = block_count c.args.store.now.bytes in
     let first : ℕ = c.row_start-first.result in
     let some = block_pixels_some c.args.layout.width c.requires.width in
-    let room = layout_room c.args.layout c.args.bytes.now blocks c.requires.layout (omega (arith, c.requires.layout.whole)) in
+    let room = layout_room c.args.layout c.args.store.now.bytes blocks c.requires.layout (omega (arith, c.requires.layout.whole)) in
     let w = row_of axes lo hi c.loop-row.row first c.requires.rectangle (omega (arith, c.loop-row-test.true, c.rows-row-end.ensures)) c.row_start-first.ensures.value in
     let v = c.loop-row.invariant in
     let e = c.refresh_blocks-last.ensures in
@@ -30,19 +31,20 @@ loop-row-preserved c =
     let start_is = c.max-start.ensures ∙ ap (λ p. max (first / p) c.loop-row.next) c.pixels_per_block-per.ensures in
     let stop_is : stop ≡ (first + row_size lo hi - 1) / per + 1
     = ap (λ p. (first + c.row_len-side.result - 1) / p + 1) c.pixels_per_block-per.ensures ∙ ap (λ s. (first + s - 1) / per + 1) c.row_len-side.ensures.value in
-    let more : c.refresh_blocks-last.new.scans.total - c.args.scans.now.total ≡ (c.loop-row.scans.total - c.args.scans.now.total) + (stop - c.max-start.result) = omega (arith, e.work, v.more_work) in
+    let more : c.refresh_blocks-last.new.store.scans - c.args.store.now.scans ≡ (c.loop-row.store.scans - c.args.store.now.scans) + (stop - c.max-start.result) = omega (arith, e.work, v.more_work) in
     let walk = walk_more axes lo hi (row_size lo hi) per c.args.layout.pixels blocks c.loop-row.row first c.loop-row.next c.max-start.result stop c.max-next.result _ _
-    (IsLeaf c.args.layout c.args.bytes.now (drop n c.loop-row.nodes)) (IsLeaf c.args.layout c.args.bytes.now (drop n c.refresh_blocks-last.new.nodes))
-    c.requires.rectangle c.requires.all some room w v.walk start_is stop_is c.max-next.ensures more e.made (λ k away r. e.kept k away ∙ r) in
+    (IsLeaf c.args.layout c.args.store.now.bytes (drop n c.loop-row.nodes)) (IsLeaf c.args.layout c.args.store.now.bytes (drop n c.refresh_blocks-last.new.nodes))
+    c.requires.rectangle c.requires.all some room w v.walk start_is stop_is c.max-next.ensures more (λ k p q. e.made k p q ∙ leaf_scanned c.args.layout k c.args.store.now c.loop-row.store v.same) (λ k away r. e.kept k away ∙ r) in
     record {
       tree = e.tree;
       leaf = e.leaf;
       order = omega (arith, e.order, v.order, c.max-next.ensures);
       walk = walk;
       units = λ k b. e.kept k (inr (omega (arith, b, walk.limit, c.max-next.ensures))) ∙ v.units k b;
+      same = scanned_again c.args.store.now c.loop-row.store c.refresh_blocks-last.new.store c.refresh_blocks-last.new.store.scans v.same e.same;
       more_work = omega (arith, e.work, v.more_work);
       more = omega (arith, e.more, v.more);
-      few = λ d u. joins_more (c.loop-row.scans.total - c.args.scans.now.total) (stop - c.max-start.result) _ d c.args.joins.now.total (c.loop-row.joins.total + most_above d c.loop-row.last) (c.refresh_blocks-last.new.joins.total + most_above d c.refresh_blocks-last.result)
+      few = λ d u. joins_more (c.loop-row.store.scans - c.args.store.now.scans) (stop - c.max-start.result) _ d c.args.joins.now.total (c.loop-row.joins.total + most_above d c.loop-row.last) (c.refresh_blocks-last.new.joins.total + most_above d c.refresh_blocks-last.result)
           more (v.few d u) (e.few d u);
       most = λ h p. omega (arith, v.most h p, e.left h p (omega (arith, v.order, c.max-start.ensures)));
     }
@@ -52,7 +54,7 @@ returns-clause-right c =
     let axes : List ℕ = c.args.axes.now in
     let lo : List ℕ = c.args.lo.now in
     let hi : List ℕ = c.args.hi.now in
-    let blocks : ℕ = block_count c.args.bytes.now in
+    let blocks : ℕ = block_count c.args.store.now.bytes in
     let v = c.loop-row.invariant in
     let some = block_pixels_some c.args.layout.width c.requires.width in
     let done : row_count lo hi ≤ c.loop-row.row = omega (arith, c.loop-row-test.false, c.rows-row-end.ensures) in
@@ -85,11 +87,11 @@ returns-clause-work c =
 -- a row ends within the blocks
 pub refresh_blocks-last-requires-clause-blocks : goal.refresh_blocks-last-requires-clause-blocks
 refresh_blocks-last-requires-clause-blocks c =
-    let blocks : ℕ = block_count c.args.bytes.now in
+    let blocks : ℕ = block_count c.args.store.now.bytes in
     let w : ℕ = c.args.layout.width in
     let some = subst (λ per. 0 < per) (sym c.pixels_per_block-per.ensures) (block_pixels_some w c.requires.width) in
-    let room = subst (λ per. c.args.layout.pixels ≤ blocks * per) (sym c.pixels_per_block-per.ensures) (layout_room c.args.layout c.args.bytes.now blocks c.requires.layout (omega (arith, c.requires.layout.whole))) in
-    stop_room c.row_start-first.result c.row_len-side.result (row_size c.args.lo.now c.args.hi.now) c.pixels_per_block-per.result (product c.args.axes.now) c.args.layout.pixels blocks some c.row_len-side.ensures.value c.row_len-side.ensures.some c.row_start-first.ensures.within c.requires.all room
+    let room = subst (λ per. c.args.layout.pixels ≤ blocks * per) (sym c.pixels_per_block-per.ensures) (layout_room c.args.layout c.args.store.now.bytes blocks c.requires.layout (omega (arith, c.requires.layout.whole))) in
+    rw (same_bytes c.args.store.now c.loop-row.store c.loop-row.invariant.same) (stop_room c.row_start-first.result c.row_len-side.result (row_size c.args.lo.now c.args.hi.now) c.pixels_per_block-per.result (product c.args.axes.now) c.args.layout.pixels blocks some c.row_len-side.ensures.value c.row_len-side.ensures.some c.row_start-first.ensures.within c.requires.all room)
 
 -- a block holds a pixel
 pub nonzero_div-first : goal.nonzero_div-first
@@ -102,7 +104,7 @@ nonzero_div-stop c = subst (λ per. 0 < per) (sym c.pixels_per_block-per.ensures
 -- a row ends within the image
 pub overflow_add-stop : goal.overflow_add-stop
 overflow_add-stop c =
-    record { fits = omega (arith, c.row_start-first.ensures.within, c.row_len-side.ensures.value, c.requires.all, layout_small c.args.layout c.args.bytes.now c.requires.layout, c.requires.layout.limit) }
+    record { fits = omega (arith, c.row_start-first.ensures.within, c.row_len-side.ensures.value, c.requires.all, layout_small c.args.layout c.args.store.now.bytes c.requires.layout, c.requires.layout.limit) }
 
 -- no row is walked over yet
 pub loop-row-init : goal.loop-row-init
@@ -110,6 +112,7 @@ loop-row-init c = record {
   tree = tree_begun c.args.width c.args.nodes.now c.requires.some c.requires.tree;
   walk = walk_begun _ _ _ _ _ _ _ _ _ (omega arith) c.requires.fresh;
   units = λ k b. refl;
+  same = refl;
   more_work = omega arith;
   more = omega arith;
   leaf = inl refl;
@@ -120,12 +123,18 @@ loop-row-init c = record {
 
 -- an image has no more pixels than bytes
 pub row_len-side-requires-clause-small : goal.row_len-side-requires-clause-small
-row_len-side-requires-clause-small c = omega (arith, c.requires.all, layout_small c.args.layout c.args.bytes.now c.requires.layout, c.requires.layout.limit)
+row_len-side-requires-clause-small c = omega (arith, c.requires.all, layout_small c.args.layout c.args.store.now.bytes c.requires.layout, c.requires.layout.limit)
 
 -- an image has no more pixels than bytes
 pub rows-row-end-requires-clause-small : goal.rows-row-end-requires-clause-small
-rows-row-end-requires-clause-small c = omega (arith, c.requires.all, layout_small c.args.layout c.args.bytes.now c.requires.layout, c.requires.layout.limit)
+rows-row-end-requires-clause-small c = omega (arith, c.requires.all, layout_small c.args.layout c.args.store.now.bytes c.requires.layout, c.requires.layout.limit)
 
 -- an image has no more pixels than bytes
 pub row_start-first-requires-clause-small : goal.row_start-first-requires-clause-small
-row_start-first-requires-clause-small c = omega (arith, c.requires.all, layout_small c.args.layout c.args.bytes.now c.requires.layout, c.requires.layout.limit)
+row_start-first-requires-clause-small c = omega (arith, c.requires.all, layout_small c.args.layout c.args.store.now.bytes c.requires.layout, c.requires.layout.limit)
+
+pub refresh_blocks-last-requires-clause-layout : goal.refresh_blocks-last-requires-clause-layout
+refresh_blocks-last-requires-clause-layout c = fits_scanned c.args.layout c.args.store.now c.loop-row.store c.loop-row.invariant.same c.requires.layout
+
+pub refresh_blocks-last-requires-clause-within : goal.refresh_blocks-last-requires-clause-within
+refresh_blocks-last-requires-clause-within c = omega (arith, ap length (same_bytes c.args.store.now c.loop-row.store c.loop-row.invariant.same), c.requires.within)

@@ -1,5 +1,6 @@
 use Rattle.std.proofs.Common.{◌≡◌, ◌≤◌, ◌+◌, ◌-◌, ◌*◌, ◌^◌, ◌⊎◌, ℕ, drop, get_or}
 use Rattle.fits_plane.specs.Rectangle.{row_size}
+use Rattle.fits_plane.specs.DataBytes.{IsScanned}
 use Rattle.fits_plane.specs.Layout.{block_count, block_pixels}
 use Rattle.fits_plane.specs.Tree.{most_above, nodes_left}
 use Rattle.fits_plane.specs.Leaves.{leaf_unit, IsLeaf, IsBlockTreeBut}
@@ -11,10 +12,11 @@ invariant-loop-row l = record {
   tree : IsBlockTreeBut l.width l.last l.nodes;
   leaf : (l.last ≡ 1) ⊎ (l.width ≤ l.last);
   order : l.last ≤ l.width + l.next;
-  walk : Walk l.axes l.lo l.hi (block_pixels l.layout.width) l.layout.pixels (block_count l.bytes) (row_size l.lo l.hi) l.row l.next (l.scans.total - l.initial.scans.total) (IsLeaf l.layout l.bytes (drop l.width l.nodes));
-  units : (k : ℕ) → block_count l.bytes ≤ k → get_or (drop l.width l.nodes) k leaf_unit ≡ get_or (drop l.width l.initial.nodes) k leaf_unit;
-  more_work : l.initial.scans.total ≤ l.scans.total;
+  walk : Walk l.axes l.lo l.hi (block_pixels l.layout.width) l.layout.pixels (block_count l.initial.store.bytes) (row_size l.lo l.hi) l.row l.next (l.store.scans - l.initial.store.scans) (IsLeaf l.layout l.initial.store.bytes (drop l.width l.nodes));
+  units : (k : ℕ) → block_count l.initial.store.bytes ≤ k → get_or (drop l.width l.nodes) k leaf_unit ≡ get_or (drop l.width l.initial.nodes) k leaf_unit;
+  same : IsScanned l.initial.store l.store;
+  more_work : l.initial.store.scans ≤ l.store.scans;
   more : l.initial.joins.total ≤ l.joins.total;
-  few : (d : ℕ) → l.width ≤ 2 ^ d → l.joins.total + most_above d l.last ≤ l.initial.joins.total + (l.scans.total - l.initial.scans.total) * d;
+  few : (d : ℕ) → l.width ≤ 2 ^ d → l.joins.total + most_above d l.last ≤ l.initial.joins.total + (l.store.scans - l.initial.store.scans) * d;
   most : (h : ℕ) → l.width ≡ 2 ^ h → l.joins.total ≤ l.initial.joins.total + nodes_left h (l.last - l.width);
 }

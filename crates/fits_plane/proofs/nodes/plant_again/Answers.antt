@@ -8,7 +8,7 @@ join_all-requires-clause-fit g c =
     let s = g.S.Summary in
     let n : ℕ = c.args.width in
     λ k p q. let back : n + (k - n) ≡ k = omega (arith, p) in elim (cases_lt (k - n) c.args.used) [
-      | inl lt ↦ subst (λ m. s.fits (get_or c.ask_leaves.new.nodes m s.empty)) back (c.requires.fits (k - n) _ (c.ask_leaves.ensures.asked (k - n) lt))
+      | inl lt ↦ subst (λ m. s.fits (get_or c.ask_leaves.new.nodes m s.empty)) back (c.requires.fits (k - n) _ lt (c.ask_leaves.ensures.asked (k - n) lt))
       | inr ge ↦ subst s.fits (sym (c.ask_leaves.ensures.past k (omega (arith, ge, p)))) (c.requires.tree.fit k (omega (arith, q)))
     ]
 

@@ -6,8 +6,8 @@ use Rattle.fits_plane.proofs.pixel_reads.read_row.Given as goal
 
 abbrev pub invariant-loop-x : goal.invariant-loop-x
 invariant-loop-x l = record {
-  items : l.values.items ≡ l.initial.values.items ++ map (value_at l.width l.bytes l.offset) (range_with_len l.start l.x);
+  items : l.values.items ≡ l.initial.values.items ++ map (value_at l.width l.initial.store.bytes l.offset) (range_with_len l.start l.x);
   len : vec_len l.values ≡ vec_len l.initial.values + l.x;
   room : vec_capacity l.initial.values ≤ vec_capacity l.values;
-  work : l.reads.total ≡ l.initial.reads.total + l.x;
+  work : l.store ≡ record l.initial.store { reads = l.initial.store.reads + l.x };
 }

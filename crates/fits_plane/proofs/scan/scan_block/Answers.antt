@@ -8,8 +8,8 @@ use Rattle.fits_plane.specs.SummaryLaws.{same_both}
 use Rattle.fits_plane.proofs.LeafLemmas.{block_part, word_leaf}
 use Rattle.fits_plane.proofs.scan.scan_block.Goals as goal
 
-pub returns-clause-leaf : goal.returns-clause-leaf
-returns-clause-leaf c =
+pub returns : goal.returns
+returns c =
     let xs : List ℕ = c.args.bytes.now in
     let k : ℕ = c.args.k in
     let w : ℕ = c.args.layout.width in

@@ -1,4 +1,4 @@
-use Rattle.std.proofs.Common.{◌≡◌, ◌<◌, ◌≤◌, ◌+◌, ◌-◌, ◌*◌, ◌/◌, ℕ, List, arith, ap, subst}
+use Rattle.std.proofs.Common.{◌≡◌, ◌<◌, ◌≤◌, ◌+◌, ◌-◌, ◌*◌, ◌/◌, ℕ, List, arith, ap, refl, subst, ◌∙◌}
 use Rattle.std.specs.Int.{w128}
 use Rattle.std.proofs.lemmas.Int.{to_z-of_z}
 use Rattle.fits_plane.specs.Layout.{block_count, block_pixels}
@@ -23,7 +23,7 @@ pub overflow_mul-rank : goal.overflow_mul-rank
 overflow_mul-rank c =
     let r = c.requires in
     let room = row_lies c.args.axes.now c.args.lo.now c.args.hi.now c.row_len-side.result c.rows-row-end.result c.loop-row.row r.rectangle c.row_len-side.ensures.value c.rows-row-end.ensures c.loop-row-test.true in
-    record { fits = omega (arith, room, rectangle_size-le-product _ _ _ r.rectangle, r.all, layout_small c.args.layout c.args.bytes.now r.kept.fits, r.kept.fits.limit) }
+    record { fits = omega (arith, room, rectangle_size-le-product _ _ _ r.rectangle, r.all, layout_small c.args.layout c.args.store.now.bytes r.kept.fits, r.kept.fits.limit) }
 
 -- the row's pixels have numbers, and can store them
 pub paint_short_row-last-requires-clause-paint : goal.paint_short_row-last-requires-clause-paint
@@ -32,7 +32,7 @@ paint_short_row-last-requires-clause-paint c =
     let rank : ℕ = c.loop-row.row * c.row_len-side.result in
     let room = row_lies c.args.axes.now c.args.lo.now c.args.hi.now c.row_len-side.result c.rows-row-end.result c.loop-row.row r.rectangle c.row_len-side.ensures.value c.rows-row-end.ensures c.loop-row-test.true in
     let whole : CanPaint c.args.layout.width c.args.paint.now c.args.offset rank c.row_len-side.result = record {
-      ranks = omega (arith, room, rectangle_size-le-product _ _ _ r.rectangle, r.all, layout_small c.args.layout c.args.bytes.now r.kept.fits, r.kept.fits.limit);
+      ranks = omega (arith, room, rectangle_size-le-product _ _ _ r.rectangle, r.all, layout_small c.args.layout c.args.store.now.bytes r.kept.fits, r.kept.fits.limit);
       values = has_values c.args.paint.now (rectangle_size c.args.lo.now c.args.hi.now) _ r.count room;
       storable = λ x b. r.storable (rank + x) (omega (arith, room, b));
     } in
@@ -46,7 +46,7 @@ loop-row-preserved c =
     let lo : List ℕ = c.args.lo.now in
     let hi : List ℕ = c.args.hi.now in
     let per : ℕ = block_pixels c.args.layout.width in
-    let blocks : ℕ = block_count c.args.bytes.now in
+    let blocks : ℕ = block_count c.args.store.now.bytes in
     let row : ℕ = c.loop-row.row in
     let start : ℕ = c.row_start-start.result in
     let v = c.loop-row.invariant in
@@ -54,19 +54,20 @@ loop-row-preserved c =
     let at = c.row_start-start.ensures.value in
     let below : row < row_count lo hi = omega (arith, c.loop-row-test.true, c.rows-row-end.ensures) in
     let some : (start + c.row_len-side.result - 1) / per + 1 - start / per ≡ (start + row_size lo hi - 1) / per + 1 - start / per = ap (λ s. (start + s - 1) / per + 1 - start / per) c.row_len-side.ensures.value in
-    let more : c.paint_short_row-last.new.scans.total - c.args.scans.now.total ≡ (c.loop-row.scans.total - c.args.scans.now.total) + ((start + row_size lo hi - 1) / per + 1 - start / per) = omega (arith, e.scans, v.more_scans, some) in
-    let work : c.paint_short_row-last.new.scans.total - c.args.scans.now.total ≡ (c.loop-row.scans.total - c.args.scans.now.total) + (c.paint_short_row-last.new.scans.total - c.loop-row.scans.total) = omega (arith, e.scans, v.more_scans) in
+    let more : c.paint_short_row-last.new.store.scans - c.args.store.now.scans ≡ (c.loop-row.store.scans - c.args.store.now.scans) + ((start + row_size lo hi - 1) / per + 1 - start / per) = omega (arith, e.scans, v.more_scans, some) in
+    let work : c.paint_short_row-last.new.store.scans - c.args.store.now.scans ≡ (c.loop-row.store.scans - c.args.store.now.scans) + (c.paint_short_row-last.new.store.scans - c.loop-row.store.scans) = omega (arith, e.scans, v.more_scans) in
     let end = ap (λ s. (start + s - 1) / per) c.row_len-side.ensures.value in
     let here : c.loop-row.last ≤ c.args.width + start / per = rw at (v.order below) in
     record {
       kept = e.kept;
-      written = rows_more c.args.layout.width axes lo hi c.row_len-side.result c.rows-row-end.result row start _ c.args.bytes.now c.loop-row.bytes c.paint_short_row-last.new.bytes
+      written = rows_more c.args.layout.width axes lo hi c.row_len-side.result c.rows-row-end.result row start _ c.args.store.now.bytes c.loop-row.store.bytes c.paint_short_row-last.new.store.bytes
           r.width r.rectangle c.row_len-side.ensures.value c.rows-row-end.ensures c.loop-row-test.true at v.written e.written.long e.written.inside e.written.outside;
-      walk = apart_more axes lo hi per c.args.layout.pixels blocks row start _ _ r.rectangle r.all (block_pixels_some c.args.layout.width r.width) (layout_room c.args.layout c.args.bytes.now blocks r.kept.fits (omega (arith, r.kept.fits.whole))) r.apart below at more v.walk;
+      walk = apart_more axes lo hi per c.args.layout.pixels blocks row start _ _ r.rectangle r.all (block_pixels_some c.args.layout.width r.width) (layout_room c.args.layout c.args.store.now.bytes blocks r.kept.fits (omega (arith, r.kept.fits.whole))) r.apart below at more v.walk;
       order = λ b. let past = row_past axes lo hi per row start r.rectangle (block_pixels_some c.args.layout.width r.width) r.apart b at in omega (arith, past, e.place, end);
+      reads = e.reads ∙ v.reads;
       more_scans = omega (arith, e.scans, v.more_scans);
       more = omega (arith, e.more, v.more);
-      few = λ d u. joins_more (c.loop-row.scans.total - c.args.scans.now.total) (c.paint_short_row-last.new.scans.total - c.loop-row.scans.total) _ d c.args.joins.now.total
+      few = λ d u. joins_more (c.loop-row.store.scans - c.args.store.now.scans) (c.paint_short_row-last.new.store.scans - c.loop-row.store.scans) _ d c.args.joins.now.total
           (c.loop-row.joins.total + most_above d c.loop-row.last) (c.paint_short_row-last.new.joins.total + most_above d c.paint_short_row-last.result) work (v.few d u) (e.few d u);
       most = λ h p. omega (arith, v.most h p, e.left h p here);
     }
@@ -77,6 +78,7 @@ loop-row-init c = record {
   kept = c.requires.kept;
   written = rows_begun _ _ _ _ _ _ _;
   walk = apart_begun _ _ _ _ _ _ _ _ (omega arith);
+  reads = refl;
   more_scans = omega arith;
   order = λ b. omega (arith, c.requires.kept.tree.within);
   more = omega arith;
@@ -90,7 +92,7 @@ climb-requires-clause-within c = omega (arith, c.requires.kept.tree.within)
 
 -- the last leaf's path is joined up to the root
 pub returns-clause-kept : goal.returns-clause-kept
-returns-clause-kept c = kept_done c.args.layout c.loop-row.bytes c.args.width c.loop-row.last c.loop-row.nodes c.climb.new.nodes c.loop-row.invariant.kept c.climb.ensures.tree c.climb.ensures.leaves
+returns-clause-kept c = kept_done c.args.layout c.loop-row.store.bytes c.args.width c.loop-row.last c.loop-row.nodes c.climb.new.nodes c.loop-row.invariant.kept c.climb.ensures.tree c.climb.ensures.leaves
 
 pub returns-clause-few : goal.returns-clause-few
 returns-clause-few c = λ d u. omega (arith, c.climb.ensures.few d u, c.loop-row.invariant.few d u)
@@ -105,9 +107,9 @@ returns-clause-most c = λ h e.
 -- the rows make up the rectangle
 pub returns-clause-value : goal.returns-clause-value
 returns-clause-value c =
-    let all = subst (λ z. IsWritten c.args.layout.width c.args.axes.now c.args.lo.now c.args.hi.now (painted_number c.args.paint.now z) c.args.bytes.now c.loop-row.bytes) (to_z-of_z w128 c.args.offset c.ranges.offset)
-    (write_all c.args.layout.width c.args.axes.now c.args.lo.now c.args.hi.now c.loop-row.row _ c.args.bytes.now c.loop-row.bytes c.requires.rectangle c.loop-row.invariant.written (omega (arith, c.loop-row-test.false, c.rows-row-end.ensures))) in
-    written_is c.args.layout.width c.args.axes.now c.args.lo.now c.args.hi.now (painted_number c.args.paint.now c.args.offset) c.args.bytes.now c.loop-row.bytes c.requires.width c.read_bytes.ensures all
+    let all = subst (λ z. IsWritten c.args.layout.width c.args.axes.now c.args.lo.now c.args.hi.now (painted_number c.args.paint.now z) c.args.store.now.bytes c.loop-row.store.bytes) (to_z-of_z w128 c.args.offset c.ranges.offset)
+    (write_all c.args.layout.width c.args.axes.now c.args.lo.now c.args.hi.now c.loop-row.row _ c.args.store.now.bytes c.loop-row.store.bytes c.requires.rectangle c.loop-row.invariant.written (omega (arith, c.loop-row-test.false, c.rows-row-end.ensures))) in
+    written_is c.args.layout.width c.args.axes.now c.args.lo.now c.args.hi.now (painted_number c.args.paint.now c.args.offset) c.args.store.now.bytes c.loop-row.store.bytes c.requires.width c.are_bytes.ensures all
 
 -- no more blocks were looked at than hold a pixel of the rectangle
 pub returns-clause-scans : goal.returns-clause-scans

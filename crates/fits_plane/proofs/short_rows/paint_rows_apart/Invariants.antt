@@ -10,12 +10,13 @@ use Rattle.fits_plane.proofs.short_rows.paint_rows_apart.Given as goal
 
 abbrev pub invariant-loop-row : goal.invariant-loop-row
 invariant-loop-row l = record {
-  kept : IsKeptBut l.layout l.bytes l.width l.last l.nodes;
-  written : RowsWritten l.layout.width l.axes l.lo l.hi (row_size l.lo l.hi) l.row (painted_number l.paint l.offset) l.fn.bytes l.bytes;
-  walk : ApartWalk l.axes l.lo l.hi (block_pixels l.layout.width) l.layout.pixels (block_count l.fn.bytes) (row_size l.lo l.hi) l.row (l.scans.total - l.fn.scans.total);
+  kept : IsKeptBut l.layout l.store.bytes l.width l.last l.nodes;
+  written : RowsWritten l.layout.width l.axes l.lo l.hi (row_size l.lo l.hi) l.row (painted_number l.paint l.offset) l.fn.store.bytes l.store.bytes;
+  walk : ApartWalk l.axes l.lo l.hi (block_pixels l.layout.width) l.layout.pixels (block_count l.fn.store.bytes) (row_size l.lo l.hi) l.row (l.store.scans - l.fn.store.scans);
   order : l.row < row_count l.lo l.hi → l.last ≤ l.width + place l.axes l.lo l.hi (l.row * row_size l.lo l.hi) / block_pixels l.layout.width;
-  more_scans : l.fn.scans.total ≤ l.scans.total;
+  reads : l.store.reads ≡ l.fn.store.reads;
+  more_scans : l.fn.store.scans ≤ l.store.scans;
   more : l.fn.joins.total ≤ l.joins.total;
-  few : (d : ℕ) → l.width ≤ 2 ^ d → l.joins.total + most_above d l.last ≤ l.fn.joins.total + (l.scans.total - l.fn.scans.total) * d;
+  few : (d : ℕ) → l.width ≤ 2 ^ d → l.joins.total + most_above d l.last ≤ l.fn.joins.total + (l.store.scans - l.fn.store.scans) * d;
   most : (h : ℕ) → l.width ≡ 2 ^ h → l.joins.total ≤ l.fn.joins.total + nodes_left h (l.last - l.width);
 }

@@ -50,16 +50,16 @@ returns-then-here-count-clause-written c =
       | inl one ↦ absurd (omega (arith, one.all, c.if-here-count.true))
       | inr two ↦ two.cut
     ] in
-    subst (λ z. RowWritten c.args.layout.width c.args.start c.args.count (λ x. painted_number c.args.paint.now z (c.args.rank + x)) c.args.bytes.now c.paint_part.new.bytes) (to_z-of_z w128 c.args.offset c.ranges.offset)
-    (row_joined c.args.layout.width c.args.start c.args.count here next (c.args.count - here) c.args.rank (painted_number c.args.paint.now (to_z w128 (of_z w128 c.args.offset))) c.args.bytes.now c.paint_part-place.new.bytes c.paint_part.new.bytes
+    subst (λ z. RowWritten c.args.layout.width c.args.start c.args.count (λ x. painted_number c.args.paint.now z (c.args.rank + x)) c.args.store.now.bytes c.paint_part.new.store.bytes) (to_z-of_z w128 c.args.offset c.ranges.offset)
+    (row_joined c.args.layout.width c.args.start c.args.count here next (c.args.count - here) c.args.rank (painted_number c.args.paint.now (to_z w128 (of_z w128 c.args.offset))) c.args.store.now.bytes c.paint_part-place.new.store.bytes c.paint_part.new.store.bytes
     (omega (arith, c.if-here-count.true)) cut refl c.paint_part-place.ensures.written c.paint_part.ensures.written)
 
 -- the one run is the row
 pub returns-else-here-count-clause-written : goal.returns-else-here-count-clause-written
 returns-else-here-count-clause-written c =
     let all : c.min-here.result ≡ c.args.count = omega (arith, c.min-here.ensures, c.if-here-count.false) in
-    subst (λ z. RowWritten c.args.layout.width c.args.start c.args.count (λ x. painted_number c.args.paint.now z (c.args.rank + x)) c.args.bytes.now c.paint_part-place.new.bytes) (to_z-of_z w128 c.args.offset c.ranges.offset)
-    (subst (λ n. RowWritten c.args.layout.width c.args.start n (λ x. painted_number c.args.paint.now (to_z w128 (of_z w128 c.args.offset)) (c.args.rank + x)) c.args.bytes.now c.paint_part-place.new.bytes) all c.paint_part-place.ensures.written)
+    subst (λ z. RowWritten c.args.layout.width c.args.start c.args.count (λ x. painted_number c.args.paint.now z (c.args.rank + x)) c.args.store.now.bytes c.paint_part-place.new.store.bytes) (to_z-of_z w128 c.args.offset c.ranges.offset)
+    (subst (λ n. RowWritten c.args.layout.width c.args.start n (λ x. painted_number c.args.paint.now (to_z w128 (of_z w128 c.args.offset)) (c.args.rank + x)) c.args.store.now.bytes c.paint_part-place.new.store.bytes) all c.paint_part-place.ensures.written)
 
 -- the last leaf is that of the row's last block
 pub returns-then-here-count-clause-place : goal.returns-then-here-count-clause-place
@@ -83,14 +83,14 @@ pub returns-then-here-count-clause-few : goal.returns-then-here-count-clause-few
 returns-then-here-count-clause-few c = λ d u.
     let first = c.paint_part-place.ensures in
     let second = c.paint_part.ensures in
-    let two : c.paint_part.new.scans.total - c.args.scans.now.total ≡ 2 = omega (arith, first.scans, second.scans) in
+    let two : c.paint_part.new.store.scans - c.args.store.now.scans ≡ 2 = omega (arith, first.scans, second.scans) in
     let all = ap (λ n. n * d) two in
     omega (arith, all, first.few d u, second.few d u, most_above_le d c.paint_part-place.result, most_above_le d c.paint_part.result)
 
 pub returns-else-here-count-clause-few : goal.returns-else-here-count-clause-few
 returns-else-here-count-clause-few c = λ d u.
     let first = c.paint_part-place.ensures in
-    let one : c.paint_part-place.new.scans.total - c.args.scans.now.total ≡ 1 = omega (arith, first.scans) in
+    let one : c.paint_part-place.new.store.scans - c.args.store.now.scans ≡ 1 = omega (arith, first.scans) in
     let all = ap (λ n. n * d) one in
     omega (arith, all, first.few d u, most_above_le d c.paint_part-place.result)
 

@@ -66,7 +66,7 @@ returns-clause-right c = λ k b.
 -- each block that is touched is one of the leaves
 pub returns-clause-work : goal.returns-clause-work
 returns-clause-work c =
-    let blocks : block_count c.args.bytes.now ≡ length c.args.self.now.leaves = omega (arith, c.requires.whole) in
+    let blocks : block_count c.args.store.now.bytes ≡ length c.args.self.now.leaves = omega (arith, c.requires.whole) in
     rw (← blocks) c.refresh_rows.ensures.work
 
 pub returns-clause-joins : goal.returns-clause-joins

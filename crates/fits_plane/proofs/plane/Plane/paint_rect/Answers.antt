@@ -1,12 +1,10 @@
-use Rattle.std.proofs.Common.{◌≡◌, ◌≤◌, ◌-◌, ◌∙◌, ℕ, List, length, ap, arith, subst, sym}
+use Rattle.std.proofs.Common.{◌≡◌, ◌≤◌, ◌-◌, ◌∙◌, ℕ, List, length, ap, arith, sym}
 use Rattle.std.specs.Int.{w128}
 use Rattle.std.proofs.Math.Nat.{mul-le-mul_right}
 use Rattle.std.proofs.lemmas.Int.{to_z-of_z}
-use Rattle.std.proofs.lemmas.List.{with_items_is}
 use Rattle.fits_plane.specs.Paint.{painted_number}
 use Rattle.fits_plane.specs.Rectangle.{rectangle_written}
 use Rattle.fits_plane.specs.Layout.{block_count, block_pixels}
-use Rattle.fits_plane.specs.ShortRows.{IsKept}
 use Rattle.fits_plane.specs.Work.{touched_blocks, rectangle_blocks}
 use Rattle.fits_plane.proofs.PlaneLemmas.{layout_width}
 use Rattle.fits_plane.proofs.plane.Plane.paint_rect.Goals as goal
@@ -18,13 +16,11 @@ paint_rectangle-requires-clause-width c =
 pub paint_rectangle-requires-clause-kept : goal.paint_rectangle-requires-clause-kept
 paint_rectangle-requires-clause-kept c =
     let v = c.self.invariant in
-    subst (λ xs. IsKept c.self.inside.layout xs c.self.inside.tree.leaves) (sym c.as_mut_slice.ensures.value) (record { fits = v.layout; whole = v.whole; right = v.leaves })
+    record { fits = v.layout; whole = v.whole; right = v.leaves }
 
 pub invariant_of-self : goal.invariant_of-self
 invariant_of-self c =
-    let t = c.self.inside in
-    let same = with_items_is t.bytes c.paint_rectangle.new.bytes (omega (arith, c.paint_rectangle.ensures.long, c.as_mut_slice.ensures.len)) in
-    let kept = subst (λ xs. IsKept t.layout xs c.paint_rectangle.new.tree.leaves) (sym same) c.paint_rectangle.ensures.kept in
+    let kept = c.paint_rectangle.ensures.kept in
     record { whole = kept.whole; layout = kept.fits; leaves = kept.right }
 
 pub returns : goal.returns
@@ -34,9 +30,7 @@ returns c =
     let lo : List ℕ = c.args.lo.now in
     let hi : List ℕ = c.args.hi.now in
     let number = painted_number c.args.paint.now c.args.offset in
-    let old : c.as_mut_slice.result.now ≡ c.args.self.now.bytes = c.as_mut_slice.ensures.value ∙ ap (λ z. z.bytes) c.self.view_is in
-    let new = with_items_is t.bytes c.paint_rectangle.new.bytes (omega (arith, c.paint_rectangle.ensures.long, c.as_mut_slice.ensures.len)) in
-    let written = c.paint_rectangle.ensures.value ∙ ap (λ z. rectangle_written t.layout.width axes lo hi (painted_number c.args.paint.now z) c.as_mut_slice.result.now) (to_z-of_z w128 c.args.offset c.ranges.offset) in
+    let written = c.paint_rectangle.ensures.value ∙ ap (λ z. rectangle_written t.layout.width axes lo hi (painted_number c.args.paint.now z) t.store.bytes) (to_z-of_z w128 c.args.offset c.ranges.offset) in
     let blocks : length t.tree.leaves ≡ block_count c.args.self.now.bytes = omega (arith, c.self.invariant.whole, ap (λ z. length z.bytes) c.self.view_is) in
     let many : touched_blocks axes lo hi (block_pixels t.layout.width) t.layout.pixels (length t.tree.leaves) ≡ rectangle_blocks c.args.self.now.layout c.args.self.now.bytes axes lo hi
     = ap (touched_blocks axes lo hi (block_pixels t.layout.width) t.layout.pixels) blocks ∙ ap (λ z. touched_blocks axes lo hi (block_pixels z.layout.width) z.layout.pixels (block_count c.args.self.now.bytes)) c.self.view_is in
@@ -44,14 +38,14 @@ returns c =
     let scans = ap (λ z. z.scans) c.self.view_is in
     let joins = ap (λ z. z.joins) c.self.view_is in
     record {
-      bytes = new ∙ written ∙ ap (rectangle_written t.layout.width axes lo hi number) old ∙ ap (λ z. rectangle_written z.layout.width axes lo hi number c.args.self.now.bytes) c.self.view_is;
+      bytes = written ∙ ap (λ z. rectangle_written z.layout.width axes lo hi number z.bytes) c.self.view_is;
       layout = ap (λ z. z.layout) c.self.view_is;
-      reads = ap (λ z. z.reads) c.self.view_is;
+      reads = e.reads ∙ ap (λ z. z.reads) c.self.view_is;
       more_scans = omega (arith, e.more_scans, scans);
       scans = omega (arith, e.scans, many, scans);
       more_joins = omega (arith, e.more, joins);
       joins = λ d u.
-          let few : c.paint_rectangle.new.scans.total - t.scans.total ≤ rectangle_blocks c.args.self.now.layout c.args.self.now.bytes axes lo hi = omega (arith, e.scans, many) in
+          let few : c.paint_rectangle.new.store.scans - t.store.scans ≤ rectangle_blocks c.args.self.now.layout c.args.self.now.bytes axes lo hi = omega (arith, e.scans, many) in
           let up = mul-le-mul_right d few in
           let j = e.joins d (omega (arith, u, blocks)) in
           omega (arith, up, j, joins);

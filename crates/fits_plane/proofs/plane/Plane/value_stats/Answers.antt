@@ -1,4 +1,4 @@
-use Rattle.std.proofs.Common.{◌<◌, ◌≤◌, ◌^◌, ◌∙◌, ℕ, slice_index, length, ap, arith, sym, subst}
+use Rattle.std.proofs.Common.{◌≤◌, ◌^◌, ◌∙◌, length, ap, arith, sym, subst}
 use Rattle.std.specs.Prelude.{unsigned_abs}
 use Rattle.std.specs.Int.{w128}
 use Rattle.std.proofs.lemmas.Int.{to_z-of_z}
@@ -14,11 +14,11 @@ small : (c : goal.After-stats) → Small c.args.self.now.layout.blank (pixels c.
 small c =
     let t = c.self.inside in
     let h = c.self.invariant.layout in
-    let bytes : (k : ℕ) → slice_index t.bytes.items k < 256 = λ k. subst (λ xs. slice_index xs k < 256) c.as_slice.ensures.value (c.read_bytes.ensures k) in
-    let fit = pixels_fit t.layout.width t.bytes.items 0 t.layout.pixels h.width h.no_pixels bytes in
-    let few : length (pixels t.layout.width t.bytes.items 0 t.layout.pixels) ≤ 2 ^ 62 = omega (arith, length-pixels t.layout.width 0 t.layout.pixels t.bytes.items, layout_small t.layout t.bytes.items h, h.limit) in
+    let bytes = c.are_bytes.ensures in
+    let fit = pixels_fit t.layout.width t.store.bytes 0 t.layout.pixels h.width h.no_pixels bytes in
+    let few : length (pixels t.layout.width t.store.bytes 0 t.layout.pixels) ≤ 2 ^ 62 = omega (arith, length-pixels t.layout.width 0 t.layout.pixels t.store.bytes, layout_small t.layout t.store.bytes h, h.limit) in
     subst (λ p. Small p.layout.blank (pixels p.layout.width p.bytes 0 p.layout.pixels)) c.self.view_is
-    (statistics_small t.layout.blank (pixels t.layout.width t.bytes.items 0 t.layout.pixels) fit few)
+    (statistics_small t.layout.blank (pixels t.layout.width t.store.bytes 0 t.layout.pixels) fit few)
 
 pub with_offset-requires-clause-few : goal.with_offset-requires-clause-few
 with_offset-requires-clause-few c = subst (λ s. s.defined ≤ 2 ^ 62) (sym c.stats.ensures) (small c).few

@@ -16,8 +16,8 @@ paint_rows_apart-requires-clause-kept c =
     let t = c.self.inside in
     let v = c.self.invariant in
     let some = one-le-pow v.power.depth 2 (omega arith) in
-    subst (IsKeptBut c.args.layout c.args.bytes.now t.width 1) (sym c.as_mut_slice.ensures.value)
-    (kept_open c.args.layout c.args.bytes.now t.width t.used t.nodes.items c.args.self.now.leaves (omega (arith, v.power.power, some)) v.power.enough v.tree v.units (ap (λ z. z.leaves) c.self.view_is) c.requires.kept)
+    subst (IsKeptBut c.args.layout c.args.store.now.bytes t.width 1) (sym c.as_mut_slice.ensures.value)
+    (kept_open c.args.layout c.args.store.now.bytes t.width t.used t.nodes.items c.args.self.now.leaves (omega (arith, v.power.power, some)) v.power.enough v.tree v.units (ap (λ z. z.leaves) c.self.view_is) c.requires.kept)
 
 -- the nodes are a tree still, and the leaves past those in use are as before
 pub invariant_of-self : goal.invariant_of-self
@@ -43,13 +43,13 @@ returns-clause-kept c =
     let new = c.paint_rows_apart.new.nodes in
     let many = leaves_used t.width t.used t.nodes.items c.args.self.now.leaves v.tree.long v.power.enough (ap (λ z. z.leaves) c.self.view_is) in
     let same = with_items_is t.nodes new (omega (arith, e.kept.tree.long, v.tree.long)) in
-    subst (λ xs. IsKept c.args.layout c.paint_rows_apart.new.bytes (take t.used (drop t.width xs))) (sym same)
-    (kept_closed c.args.layout c.paint_rows_apart.new.bytes t.width t.used new (omega (arith, many, c.requires.kept.whole, e.long)) e.kept)
+    subst (λ xs. IsKept c.args.layout c.paint_rows_apart.new.store.bytes (take t.used (drop t.width xs))) (sym same)
+    (kept_closed c.args.layout c.paint_rows_apart.new.store.bytes t.width t.used new (omega (arith, many, c.requires.kept.whole, e.long)) e.kept)
 
 -- each block that is touched is one of the leaves
 pub returns-clause-scans : goal.returns-clause-scans
 returns-clause-scans c =
-    let blocks : block_count c.args.bytes.now ≡ length c.args.self.now.leaves = omega (arith, c.requires.kept.whole) in
+    let blocks : block_count c.args.store.now.bytes ≡ length c.args.self.now.leaves = omega (arith, c.requires.kept.whole) in
     rw (← blocks) c.paint_rows_apart.ensures.scans
 
 pub returns-clause-joins : goal.returns-clause-joins

@@ -1,0 +1,198 @@
+ghost use Rattle.std.specs.Prelude.{◌≡◌, ◌≤◌, ◌*◌, ◌+◌, ℕ};
+ghost use Rattle.fits_plane.specs.Layout.{block_count};
+
+use crate::layout::Layout;
+use crate::lent_paint::LentPaint;
+use crate::parts;
+use crate::pixel_writes;
+use crate::pixels::{pixel_at, read_bytes};
+use crate::scan::{Leaf, scan_block};
+use crate::tree::Tree;
+use fits_card::BLOCK_LEN;
+use fits_stream::{Count, Sink, write_all};
+use fits_sum::all_are;
+use std::io;
+use std::marker::Model;
+
+/// The bytes of a data unit, and how many of their blocks were scanned and of their pixels read so
+/// far.
+///
+/// Outside this module they are reached by these functions alone: each counts what it looks at. The
+/// fill is looked at without a count.
+#[derive(Drop)]
+pub(crate) struct DataBytes {
+    bytes: Vec<u8>,
+    scans: Count,
+    reads: Count,
+}
+
+impl Model for DataBytes {
+    ghost use Rattle.fits_plane.specs.DataBytes.{DataState};
+
+    ghost Value = { DataState };
+
+    ghost view = { λ store. record {
+      bytes = store.bytes.items;
+      scans = store.scans.total;
+      reads = store.reads.total;
+    } };
+}
+
+impl DataBytes {
+    ghost use Rattle.std.specs.Prelude.{◌≡◌, ◌≤◌, ◌<◌, ◌*◌, ◌+◌, ◌^◌, ◌↔◌, ℕ, true, drop, length, slice_index, All, IsTrue, OnOk, OnErr};
+    ghost use Rattle.fits_stream.specs.Stream.{Prints, PrintsFront};
+    ghost use Rattle.fits_plane.specs.Layout.{IsLayout, block_count, block_pixels};
+    ghost use Rattle.fits_plane.specs.Leaves.{leaf_of, AreLeaves};
+    ghost use Rattle.fits_plane.specs.Paint.{has_count, painted_number};
+    ghost use Rattle.fits_plane.specs.Pixels.{pixel, IsStorable, IsWidth};
+    ghost use Rattle.fits_plane.specs.Rectangle.{IsRectangle, IsWritten, product, rectangle_size, rectangle_written};
+    ghost use Rattle.fits_plane.specs.ShortRows.{CanPaint, RowWritten};
+
+    /// Bytes that nothing looked at yet.
+    pub(crate) fn new(bytes: Vec<u8>) -> DataBytes
+        ensures { result ≡ record { bytes = bytes.items; scans = 0; reads = 0 } }
+    {
+        DataBytes {
+            bytes,
+            scans: Count::new(),
+            reads: Count::new(),
+        }
+    }
+
+    pub(crate) fn len(&self) -> usize
+        ensures { result ≡ length self.now.bytes }
+    {
+        self.bytes.len()
+    }
+
+    /// That each is below 256, which contracts are told of bytes where a body reads them.
+    pub(crate) fn are_bytes(&self)
+        ensures { (k : ℕ) → slice_index self.now.bytes k < 256 }
+    {
+        read_bytes(self.bytes.as_slice());
+    }
+
+    /// Scans block k.
+    pub(crate) fn scan(&mut self, layout: Layout, k: usize) -> Leaf
+        requires layout { IsLayout layout self.old.bytes }
+        requires within { 2880 * k + 2880 ≤ length self.old.bytes }
+        ensures leaf { result ≡ leaf_of layout self.old.bytes k }
+        ensures work { self.new ≡ record self.old { scans = self.old.scans + 1 } }
+    {
+        self.scans.tick();
+        scan_block(self.bytes.as_slice(), layout, k)
+    }
+
+    /// Scans each block into its leaf, and joins each node once.
+    pub(crate) fn scan_all(&mut self, layout: Layout, tree: &mut Tree<Leaf>)
+        requires layout { IsLayout layout self.old.bytes }
+        requires whole { length self.old.bytes ≡ 2880 * length tree.old.leaves }
+        ensures long { length tree.new.leaves ≡ length tree.old.leaves }
+        ensures right { AreLeaves layout self.old.bytes tree.new.leaves }
+        ensures work { self.new
+            ≡ record self.old { scans = self.old.scans + block_count self.old.bytes } }
+        ensures more { tree.old.joins ≤ tree.new.joins }
+        ensures joins { (d : ℕ) → length tree.old.leaves ≤ 2 ^ d
+            → tree.new.joins ≤ tree.old.joins + 2 ^ d }
+    {
+        tick_each(&mut self.scans, self.bytes.len() / BLOCK_LEN);
+        let bytes = self.bytes.as_slice();
+        tree.refresh(|k| scan_block(bytes, layout, k));
+    }
+
+    /// Reads stored pixel i.
+    pub(crate) fn pixel(&mut self, width: usize, i: usize) -> i64
+        requires width { IsWidth width }
+        requires within { (i + 1) * width ≤ length self.old.bytes }
+        ensures value { result ≡ pixel width self.old.bytes i }
+        ensures work { self.new ≡ record self.old { reads = self.old.reads + 1 } }
+    {
+        self.reads.tick();
+        pixel_at(self.bytes.as_slice(), width, i)
+    }
+
+    /// Whether each byte from a place on is this one.
+    pub(crate) fn ends_in(&self, from: usize, byte: u8) -> bool
+        requires { from ≤ length self.now.bytes }
+        ensures { IsTrue result ↔ All (λ b. b ≡ byte) (drop from self.now.bytes) }
+    {
+        all_are(&self.bytes.as_slice()[from..], byte)
+    }
+
+    /// Paints a rectangle, row by row.
+    pub(crate) fn paint_rows(
+        &mut self,
+        width: usize,
+        axes: &[u64],
+        lo: &[u64],
+        hi: &[u64],
+        paint: &LentPaint,
+        offset: i128,
+    )
+        requires width { IsWidth width }
+        requires rectangle { IsRectangle axes.now lo.now hi.now }
+        requires room { product axes.now * width ≤ length self.old.bytes }
+        requires small { product axes.now < 2 ^ 62 }
+        requires count { has_count paint.now (rectangle_size lo.now hi.now) ≡ true }
+        requires storable { (k : ℕ) → k < rectangle_size lo.now hi.now
+            → IsStorable width (painted_number paint.now offset k) }
+        ensures written { IsWritten width axes.now lo.now hi.now (painted_number paint.now offset)
+            self.old.bytes self.new.bytes }
+        ensures value { self.new.bytes ≡ rectangle_written width axes.now lo.now hi.now
+            (painted_number paint.now offset) self.old.bytes }
+        ensures work { self.new ≡ record self.old { bytes = self.new.bytes } }
+    {
+        let bytes = self.bytes.as_mut_slice();
+        pixel_writes::paint_rows(bytes, width, axes, lo, hi, paint, offset);
+    }
+
+    /// Paints pixels of block k, of which this is kept, and says what is kept of it then. One scan is
+    /// counted for it, whether all of the block is looked at or not.
+    pub(crate) fn paint_block(
+        &mut self,
+        layout: Layout,
+        k: usize,
+        start: usize,
+        count: usize,
+        paint: &LentPaint,
+        rank: usize,
+        offset: i128,
+        all: Leaf,
+    ) -> Leaf
+        requires layout { IsLayout layout self.old.bytes }
+        requires width { IsWidth layout.width }
+        requires some { 0 < count }
+        requires low { k * block_pixels layout.width ≤ start }
+        requires high { start + count ≤ (k + 1) * block_pixels layout.width }
+        requires within { start + count ≤ layout.pixels }
+        requires paint { CanPaint layout.width paint.now offset rank count }
+        ensures written { RowWritten layout.width start count
+            (λ x. painted_number paint.now offset (rank + x)) self.old.bytes self.new.bytes }
+        ensures leaf { all ≡ leaf_of layout self.old.bytes k
+            → result ≡ leaf_of layout self.new.bytes k }
+        ensures work { self.new
+            ≡ record self.old { bytes = self.new.bytes; scans = self.old.scans + 1 } }
+    {
+        self.scans.tick();
+        let bytes = self.bytes.as_mut_slice();
+        parts::paint_block(bytes, layout, k, start, count, paint, rank, offset, all)
+    }
+
+    /// Writes the bytes, or a prefix of them where a call failed.
+    pub(crate) fn emit<W: Sink>(&self, sink: &mut W) -> io::Result<()>
+        ensures ok { OnOk result (Prints self.now.bytes (W.state sink.old) (W.state sink.new)) }
+        ensures err { OnErr result (PrintsFront self.now.bytes
+            (W.state sink.old) (W.state sink.new)) }
+    {
+        write_all(sink, self.bytes.as_slice())
+    }
+}
+
+/// So many times more.
+fn tick_each(count: &mut Count, times: usize)
+    ensures { count.new.total ≡ count.old.total + times }
+{
+    for time in 0..times {
+        count.tick();
+    }
+}
