@@ -3,11 +3,10 @@ ghost use Rattle.fits_plane.specs.Layout.{block_count};
 
 use crate::layout::Layout;
 use crate::lent_paint::LentPaint;
-use crate::parts;
-use crate::pixel_writes;
 use crate::pixels::{pixel_at, read_bytes};
 use crate::scan::{Leaf, scan_block};
 use crate::tree::Tree;
+use crate::{parts, pixel_writes};
 use fits_card::BLOCK_LEN;
 use fits_stream::{Count, Sink, write_all};
 use fits_sum::all_are;

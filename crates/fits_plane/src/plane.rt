@@ -91,7 +91,11 @@ impl Plane {
         let mut store = DataBytes::new(bytes);
         let leaves = leaves_of(alloc, &mut store, layout, blocks)?;
         let tree = Tree::open(alloc, leaves)?;
-        Ok(Plane { store, layout, tree })
+        Ok(Plane {
+            store,
+            layout,
+            tree,
+        })
     }
 
     /// The data unit of so many bytes, each zero.
@@ -109,7 +113,11 @@ impl Plane {
         let mut store = DataBytes::new(zeros(alloc, len)?);
         let leaves = zero_leaves(alloc, &mut store, layout, len / BLOCK_LEN)?;
         let tree = Tree::open(alloc, leaves)?;
-        Ok(Plane { store, layout, tree })
+        Ok(Plane {
+            store,
+            layout,
+            tree,
+        })
     }
 
     pub fn layout(&self) -> Layout
@@ -250,15 +258,7 @@ impl Plane {
         let width = self.layout.width;
         let size = rectangle_len(axes, lo, hi) as usize;
         let mut values = Vec::with_capacity(alloc, size)?;
-        read_rows(
-            &mut values,
-            &mut self.store,
-            width,
-            axes,
-            lo,
-            hi,
-            offset,
-        );
+        read_rows(&mut values, &mut self.store, width, axes, lo, hi, offset);
         Ok(values)
     }
 
