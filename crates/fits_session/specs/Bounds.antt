@@ -36,6 +36,10 @@ pub record WorksUpTo (blocks nodes : ℕ) (old new : PixelWork) : Type 0 where
   pub more_joins : old.joins ≤ new.joins
   pub joins : new.joins ≤ old.joins + nodes
 
+-- the same where for each scan a leaf is written in a tree of this depth
+abbrev pub ScansUpTo : (blocks depth : ℕ) → (old new : PixelWork) → Type 0
+ScansUpTo blocks depth old new = WorksUpTo blocks (blocks * (depth + 1)) old new
+
 -- no work yet
 abbrev pub unworked : PixelWork
 unworked = record { scans = 0; reads = 0; joins = 0 }

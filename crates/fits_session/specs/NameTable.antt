@@ -1,5 +1,5 @@
 -- The table of what the HDUs of a session are called: each name once, with how many have it (own).
-use Rattle.std.specs.Prelude.{◌≡◌, ℕ, ◌-◌, ◌<◌, ◌^◌, nat_lt, List, ◌∷◌, length, get_or, map, All, Option, None, Some, zero, suc, slice_set, if◌then◌else◌}
+use Rattle.std.specs.Prelude.{◌≡◌, ℕ, ◌-◌, ◌<◌, ◌^◌, nat_lt, List, ◌∷◌, length, get_or, map, All, Option, None, Some, Bool, IsSome, zero, suc, slice_set, if◌then◌else◌}
 use Rattle.std.specs.List.{slice_get, IsDistinct}
 use Rattle.std.specs.Map.{keys_of, lookup}
 use Rattle.std.specs.Option.{unwrap_or}
@@ -67,6 +67,15 @@ moved gone at = if nat_lt gone at then at - 1 else at
 abbrev pub entry_moved : ℕ → Option ℕ → Option ℕ
 entry_moved gone None = None
 entry_moved gone (Some at) = Some (moved gone at)
+
+-- one HDU fewer has the name that stood at a place
+abbrev pub TellsOfOneFewer : ℕ → (old new : List (ExtensionName × ℕ)) → Type 0
+TellsOfOneFewer place old new = (name : ExtensionName) (names : List (Option ExtensionName)) → slice_get (keys_of old) place ≡ Some name → IsTableOf (Some name ∷ names) old → IsTableOf names new
+
+-- each name that is left stands where it stood, or, where the one at a place went, a place nearer behind it
+abbrev pub OthersMove : ℕ → (went : Bool) → (old new : List (ExtensionName × ℕ)) → Type 0
+OthersMove place went old new =
+    (at : ℕ) (other : ExtensionName) → slice_get (keys_of old) at ≡ Some other → IsSome (lookup (is_same_name other) new) → slice_get (keys_of new) (if went then moved place at else at) ≡ Some other
 
 -- an HDU with its entry mended
 abbrev pub mended : ℕ → HduState → HduState

@@ -15,12 +15,12 @@ pub(crate) struct NameTable {
 }
 
 impl NameTable {
-    ghost use Rattle.std.specs.Prelude.{◌≡◌, ◌+◌, ◌-◌, ◌<◌, ◌≤◌, ◌^◌, ℕ, List, length, Option, Some, None, ◌∷◌, IfOk, IfSome, OnOk, IsTrue, IsSome, slice_get, vec_capacity, if◌then◌else◌};
+    ghost use Rattle.std.specs.Prelude.{◌≡◌, ◌+◌, ◌-◌, ◌<◌, ◌≤◌, ◌^◌, ℕ, List, length, Option, Some, None, ◌∷◌, IfOk, IfSome, OnOk, IsTrue, slice_get, vec_capacity};
     ghost use Rattle.std.specs.Map.{keys_of, lookup};
     ghost use Rattle.fits_hdu.specs.ExtensionName.{is_same_name};
     ghost use Rattle.fits_hdu.specs.declared.extension_name.ExtensionName.{ExtensionName};
     ghost use Rattle.fits_session.specs.Report.{is_repeated};
-    ghost use Rattle.fits_session.specs.NameTable.{moved, Enters, IsTableOf, PointsAt, TellsAt, TellsOf, TellsOfFew};
+    ghost use Rattle.fits_session.specs.NameTable.{Enters, IsTableOf, OthersMove, PointsAt, TellsAt, TellsOf, TellsOfFew, TellsOfOneFewer};
 
     /// The table with these names, and with room for so many.
     pub(crate) fn of(
@@ -91,15 +91,8 @@ impl NameTable {
     /// after it comes one place nearer: whether it went. It takes no memory.
     pub(crate) fn leave(&mut self, place: usize) -> bool
         requires { TellsAt place self.old.numbers.items }
-        ensures told { (name : ExtensionName) (names : List (Option ExtensionName))
-            → slice_get (keys_of self.old.numbers.items) place ≡ Some name
-            → IsTableOf (Some name ∷ names) self.old.numbers.items
-            → IsTableOf names self.new.numbers.items }
-        ensures others { (at : ℕ) (other : ExtensionName)
-            → slice_get (keys_of self.old.numbers.items) at ≡ Some other
-            → IsSome (lookup (is_same_name other) self.new.numbers.items)
-            → slice_get (keys_of self.new.numbers.items) (if result then moved place at else at)
-            ≡ Some other }
+        ensures told { TellsOfOneFewer place self.old.numbers.items self.new.numbers.items }
+        ensures others { OthersMove place result self.old.numbers.items self.new.numbers.items }
         ensures capacity { vec_capacity self.old.numbers ≤ vec_capacity self.new.numbers }
     {
         let it = &mut self.numbers[place];

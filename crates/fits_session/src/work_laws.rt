@@ -13,7 +13,7 @@ ghost use Rattle.fits_hdu.specs.Layout.{layout_of};
 ghost use Rattle.fits_hdu.specs.State.{HduState};
 ghost use Rattle.fits_hdu.specs.Work.{keyword_reads, plane_work, FollowsBlank, IsOpened, PixelWork};
 ghost use Rattle.fits_session.specs.Bounds.{mandatory_count, most_reads, moved_count, stamped_count};
-ghost use Rattle.fits_session.specs.Bounds.{unworked, NoneFalls, OthersStay, SameCounts, WorksUpTo};
+ghost use Rattle.fits_session.specs.Bounds.{unworked, NoneFalls, OthersStay, SameCounts, ScansUpTo, WorksUpTo};
 ghost use Rattle.fits_session.specs.CardEdit.{change_of};
 ghost use Rattle.fits_session.specs.Session.{without_entries, works_of, Asks, AsksPixels, EditsTo, HduWork, PutsIn, ReadsOnceAtMost};
 ghost use Rattle.fits_session.specs.Session.{SessionState};
@@ -68,10 +68,9 @@ pub fn edits_of_pixels_scan_few()
         (paint : Paint) (old new : PixelWork) (d : ℕ)
         → shape_of primary hdu.header.cards ≡ Ok shape → block_count hdu.data_unit ≤ 2 ^ d
         → HduWork primary (HduEdit.Pixels lo hi paint) hdu old new
-        → WorksUpTo
-        (rectangle_blocks (layout_of shape hdu.header.cards) hdu.data_unit shape.axes lo hi)
-        (rectangle_blocks (layout_of shape hdu.header.cards) hdu.data_unit shape.axes lo hi
-        * (d + 1)) old new }
+        → ScansUpTo
+        (rectangle_blocks (layout_of shape hdu.header.cards) hdu.data_unit shape.axes lo hi) d
+        old new }
 
     // Of a data unit of two blocks it scans two and joins four nodes at most.
     ensures two_blocks { (primary : Bool) (hdu : HduParts) (shape : Shape) (lo hi : List ℕ)

@@ -1,4 +1,5 @@
-//! What a session keeps: the HDUs, the bytes after the last, a table of what they are called, and beside them plain values alone.
+//! What a session keeps: the HDUs, the bytes after the last, a table of what they are called, and beside
+//! them plain values alone.
 
 use super::Session;
 use crate::name_table::NameTable;
