@@ -17,6 +17,7 @@ mod parts;
 mod passes;
 mod pixel_reads;
 mod pixel_summary;
+mod pixel_writer;
 mod pixel_writes;
 mod pixels;
 mod pixels_16;

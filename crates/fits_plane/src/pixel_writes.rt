@@ -6,21 +6,23 @@ ghost use Rattle.fits_plane.specs.Pixels.{pixel, IsWidth, IsStorable};
 ghost use Rattle.fits_plane.specs.Rectangle.{IsRectangle, IsWritten, product, rectangle_size, rectangle_written};
 
 use crate::lent_paint::LentPaint;
-use crate::pixels::{put_pixel, read_bytes};
+use crate::pixel_writer::PixelWriter;
+use crate::pixels::read_bytes;
 use crate::rectangle::{row_len, row_start, rows};
 
 /// Writes one number over a run of pixels.
-fn fill_row(bytes: &mut [u8], width: usize, start: usize, count: usize, stored: i64)
+fn fill_row(pixels: &mut PixelWriter<'_>, width: usize, start: usize, count: usize, stored: i64)
     requires width { IsWidth width }
-    requires within { (start + count) * width ≤ length bytes.old }
+    requires within { (start + count) * width ≤ length pixels.old.bytes.now }
     requires storable { IsStorable width stored }
-    ensures long { length bytes.new ≡ length bytes.old }
-    ensures inside { (x : ℕ) → x < count → pixel width bytes.new (start + x) ≡ stored }
+    ensures same_reference { pixels.new.bytes.ghost_name ≡ pixels.old.bytes.ghost_name }
+    ensures long { length pixels.new.bytes.now ≡ length pixels.old.bytes.now }
+    ensures inside { (x : ℕ) → x < count → pixel width pixels.new.bytes.now (start + x) ≡ stored }
     ensures outside { (j : ℕ) → (j < start * width) ⊎ ((start + count) * width ≤ j)
-        → slice_index bytes.new j ≡ slice_index bytes.old j }
+        → slice_index pixels.new.bytes.now j ≡ slice_index pixels.old.bytes.now j }
 {
     for x in 0..count {
-        put_pixel(bytes, width, start + x, stored);
+        pixels.put(width, start + x, stored);
     }
 }
 
@@ -33,19 +35,26 @@ fn stored_of(value: i128, offset: i128) -> i64
 }
 
 /// Writes values less the offset over a run of pixels.
-fn write_row(bytes: &mut [u8], width: usize, start: usize, values: &[i128], offset: i128)
+fn write_row(
+    pixels: &mut PixelWriter<'_>,
+    width: usize,
+    start: usize,
+    values: &[i128],
+    offset: i128,
+)
     requires width { IsWidth width }
-    requires within { (start + length values.now) * width ≤ length bytes.old }
+    requires within { (start + length values.now) * width ≤ length pixels.old.bytes.now }
     requires storable { (x : ℕ) → x < length values.now
         → IsStorable width (slice_index_or values.now x (pos 0) -ℤ offset) }
-    ensures long { length bytes.new ≡ length bytes.old }
+    ensures same_reference { pixels.new.bytes.ghost_name ≡ pixels.old.bytes.ghost_name }
+    ensures long { length pixels.new.bytes.now ≡ length pixels.old.bytes.now }
     ensures inside { (x : ℕ) → x < length values.now
-        → pixel width bytes.new (start + x) ≡ slice_index_or values.now x (pos 0) -ℤ offset }
+        → pixel width pixels.new.bytes.now (start + x) ≡ slice_index_or values.now x (pos 0) -ℤ offset }
     ensures outside { (j : ℕ) → (j < start * width) ⊎ ((start + length values.now) * width ≤ j)
-        → slice_index bytes.new j ≡ slice_index bytes.old j }
+        → slice_index pixels.new.bytes.now j ≡ slice_index pixels.old.bytes.now j }
 {
     for x in 0..values.len() {
-        put_pixel(bytes, width, start + x, stored_of(values[x], offset));
+        pixels.put(width, start + x, stored_of(values[x], offset));
     }
 }
 
@@ -74,11 +83,14 @@ pub(crate) fn paint_row(
     ensures outside { (j : ℕ) → (j < start * width) ⊎ ((start + count) * width ≤ j)
         → slice_index bytes.new j ≡ slice_index bytes.old j }
 {
+    let mut pixels = PixelWriter::new(bytes);
     match paint {
-        LentPaint::Fill(value) => fill_row(bytes, width, start, count, stored_of(*value, offset)),
+        LentPaint::Fill(value) => {
+            fill_row(&mut pixels, width, start, count, stored_of(*value, offset));
+        }
         LentPaint::Write(values) => {
             let part = &values.as_slice()[rank..rank + count];
-            write_row(bytes, width, start, part, offset);
+            write_row(&mut pixels, width, start, part, offset);
         }
     }
 }

@@ -1,8 +1,8 @@
-use Rattle.std.proofs.Common.{◌<◌, ◌+◌, ◌∙◌, FitsSigned, arith, rules, subst, sym}
+use Rattle.std.proofs.Common.{◌≡◌, ◌<◌, ◌+◌, ◌∙◌, FitsSigned, arith, rules, subst, sym}
 use Rattle.std.specs.Int.{w64, w128}
 use Rattle.std.proofs.lemmas.Int.{to_z-of_z}
 use Rattle.fits_plane.specs.Paint.{painted_number}
-use Rattle.fits_plane.specs.Pixels.{IsStorable}
+use Rattle.fits_plane.specs.Pixels.{pixel, IsStorable}
 use Rattle.fits_plane.proofs.PaintLemmas.{part_number, written_part}
 use Rattle.fits_plane.proofs.pixel_writes.paint_row.Goals as goal
 
@@ -27,4 +27,4 @@ returns-in-Write-clause-inside c = λ x b.
     let part = written_part c.args.paint.now c.in-Write.values c.as_slice.result.now c.args.rank c.args.count c.in-Write.is c.as_slice.ensures c.requires.values in
     let number = part_number c.args.paint.now c.in-Write.values c.as_slice.result.now c.args.offset c.args.rank c.args.count x c.in-Write.is c.as_slice.ensures c.requires.values b in
     let here = c.write_row.ensures.inside x (omega (arith, b, part.long)) in
-    rw (to_z-of_z w128 c.args.offset c.ranges.offset) at here ∙ number
+    let whole : pixel c.args.width c.write_row.new.pixels.bytes.now (c.args.start + x) ≡ painted_number c.args.paint.now c.args.offset (c.args.rank + x) = rw (to_z-of_z w128 c.args.offset c.ranges.offset) at here ∙ number in search rules

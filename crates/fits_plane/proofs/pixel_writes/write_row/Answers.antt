@@ -1,4 +1,4 @@
-use Rattle.std.proofs.Common.{rules, FitsSigned, to_z, of_z, ◌∙◌, ℤ, ap, get_or, length, pos, subst, sym}
+use Rattle.std.proofs.Common.{rules, FitsSigned, to_z, of_z, ◌∙◌, ℤ, ap, get_or, length, pos, refl, subst, sym}
 use Rattle.std.specs.Prelude.{◌-ℤ◌}
 use Rattle.std.specs.Int.{w64, w128}
 use Rattle.std.proofs.lemmas.Int.{to_z-of_z}
@@ -9,15 +9,18 @@ use Rattle.fits_plane.proofs.pixel_writes.write_row.Goals as goal
 
 pub loop-x-preserved : goal.loop-x-preserved
 loop-x-preserved c =
-    let e = c.put_pixel.ensures in
+    let e = c.put.ensures in
     let v : ℤ = get_or c.args.values.now c.loop-x.x (pos 0) in
     let f : FitsSigned w128 v = search rules in
-    row_more c.args.width c.args.start c.loop-x.x _ _ c.args.bytes.now c.loop-x.bytes c.put_pixel.new.bytes c.loop-x.invariant
-    (to_z-of_z w64 c.stored_of.result (record { sfits = c.stored_of.type_inv }) ∙ c.stored_of.ensures ∙ ap (λ x. x -ℤ to_z w128 (of_z w128 c.args.offset)) (to_z-of_z w128 v f)) e.long e.here e.other
+    record {
+      same = e.same_reference ∙ c.loop-x.invariant.same;
+      written = row_more c.args.width c.args.start c.loop-x.x _ _ c.args.pixels.now.bytes.now c.loop-x.pixels.bytes.now c.put.new.self.bytes.now c.loop-x.invariant.written
+          (to_z-of_z w64 c.stored_of.result (record { sfits = c.stored_of.type_inv }) ∙ c.stored_of.ensures ∙ ap (λ x. x -ℤ to_z w128 (of_z w128 c.args.offset)) (to_z-of_z w128 v f)) e.long e.here e.other;
+    }
 
 -- what is written is a value less the offset
-pub put_pixel-requires-clause-storable : goal.put_pixel-requires-clause-storable
-put_pixel-requires-clause-storable c =
+pub put-requires-clause-storable : goal.put-requires-clause-storable
+put-requires-clause-storable c =
     let v : ℤ = get_or c.args.values.now c.loop-x.x (pos 0) in
     let f : FitsSigned w128 v = search rules in
     subst (IsStorable c.args.width)
@@ -25,13 +28,13 @@ put_pixel-requires-clause-storable c =
     (c.requires.storable c.loop-x.x c.loop-x-test.true)
 
 -- the bytes have room for the pixel
-pub put_pixel-requires-clause-within : goal.put_pixel-requires-clause-within
-put_pixel-requires-clause-within c =
-    pixel_room c.args.start c.loop-x.x (length c.args.values.now) c.args.width (length c.args.bytes.now) (length c.loop-x.bytes) c.loop-x-test.true c.requires.within c.loop-x.invariant.long
+pub put-requires-clause-within : goal.put-requires-clause-within
+put-requires-clause-within c =
+    pixel_room c.args.start c.loop-x.x (length c.args.values.now) c.args.width (length c.args.pixels.now.bytes.now) (length c.loop-x.pixels.bytes.now) c.loop-x-test.true c.requires.within c.loop-x.invariant.written.long
 
 -- no pixel is written yet
 pub loop-x-init : goal.loop-x-init
-loop-x-init c = row_begun _ _ _ _
+loop-x-init c = record { same = refl; written = row_begun _ _ _ _ }
 
 -- a number that a pixel can store is small
 pub stored_of-requires : goal.stored_of-requires
