@@ -20,7 +20,6 @@ use Rattle.fits_hdu.specs.State.{HduState, name_of, parts_of, IsDescribed}
 use Rattle.fits_hdu.specs.declared.extension_name.ExtensionName.{ExtensionName}
 use Rattle.fits_session.specs.File.{is_followed, joined_hdus, IsFile}
 use Rattle.fits_session.specs.Edit.{is_primary_hdu}
-use Rattle.fits_session.specs.declared.limits.TheConstants.{FILE_LIMIT}
 use Rattle.fits_session.specs.Report.{counts_in, in_hdu, is_repeated, name_in, names_from, report_of, trailing, trails, wrong_from, wrong_in}
 use Rattle.fits_session.specs.NameTable.{names_of, IsTableOf, PointsAt}
 use Rattle.fits_session.specs.Session.{file_of, hdus_of, state_of, AreNamed}

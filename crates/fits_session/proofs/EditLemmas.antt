@@ -32,7 +32,7 @@ use Rattle.fits_session.proofs.ChangeLemmas.{front_changed, goes_on-changed, joi
 use Rattle.fits_session.proofs.PixelEditLemmas.{pixels_keep}
 use Rattle.fits_session.proofs.StandingLemmas.{stands_same}
 use Rattle.fits_session.proofs.MakingLemmas.{limit_none, within_limits}
-use Rattle.fits_session.proofs.StateLemmas.{IsHduAt, file_of-same, hdu_of-nowhere, hdu_of-there, hdus_of-changed, length-hdus_of, part_there, primary_there, reads_more, reads_none, reads_twice, reads_up_to, slice_get-hdus_of, works_nowhere, works_of-same, works_there}
+use Rattle.fits_session.proofs.StateLemmas.{IsHduAt, file_of-same, hdu_of-nowhere, hdu_of-there, hdus_of-changed, length-hdus_of, part_there, primary_there, reads_more, reads_none, reads_twice, reads_up_to, slice_get-hdus_of, works_nowhere, rooms_of-same, works_of-same, works_there}
 
 -- the file with another HDU at an index is one, where that HDU is one and the file isn't too long
 pub other_kept : (f : List ℕ) (file : FileParts) (i : ℕ) (hdu : HduParts) (change : HduParts → HduParts) → IsFileOf f file → slice_get file.hdus i ≡ Some hdu → IsHdu (is_primary_hdu (suc i)) (change hdu) → length (file_bytes (with_hdu file (suc i) change)) ≤ FILE_LIMIT → IsFile (with_hdu file (suc i) change)
@@ -65,6 +65,7 @@ edits_nowhere hdus tail h edit p = record {
     pixels = works_nowhere hdus h (EditWork (file_of (state_of hdus tail)) h edit) p;
   };
   idle = refl;
+  room = refl;
 }
 
 -- HDUs after what the one at an index is called was read, so many cards at most, and entries mended
@@ -169,6 +170,7 @@ edits_made hdus left tail h i edit bytes count n most old new x p follows few = 
   err = tt;
   work = works hdus tail h i edit bytes count old new (Ok n) p most left follows (rw p.edits.ok few);
   idle = tt;
+  room = tt;
 }
 
 -- and leaves a file of so many bytes
@@ -197,6 +199,7 @@ edits_refused hdus tail h i edit bytes count old new why p = record {
   err = file_of-same hdus tail h i old new p.at p.edits.err;
   work = works hdus tail h i edit bytes count old new (Err why) p 0 (set hdus i new) (followed_none (set hdus i new) h) (omega arith);
   idle = works_of-same hdus i old new p.at.index.within p.at.is p.edits.idle;
+  room = rooms_of-same hdus i old new p.at.index.within p.at.is p.edits.room;
 }
 
 -- and leaves the file, of as many bytes

@@ -197,7 +197,7 @@ tests_are hdus tail h kind axes = ap (λ n. tests_of (is_within h (n + 1)) (h ==
 -- a new image that is refused owes this
 pub new_refused : {X : Type 0} (hdus : List HduState) (tail : List ℕ) (h : ℕ) (kind : Kind) (axes : List ℕ) (why : Refusal) → Fails NewNeedsMemory (new_image_refusal (file_of (state_of hdus tail)) h kind axes) why → EditsTo {X = X} (NewImage h kind axes) (state_of hdus tail) (state_of hdus tail) (Err why)
 unfolding refusal_of
-new_refused hdus tail h kind axes why p = record { accepted = tt; ok = tt; refused = p; err = refl; work = inl refl; idle = refl }
+new_refused hdus tail h kind axes why p = record { accepted = tt; ok = tt; refused = p; err = refl; work = inl refl; idle = refl; room = refl }
 
 -- it has no place
 pub new_nowhere : {X : Type 0} (hdus : List HduState) (tail : List ℕ) (h : ℕ) (kind : Kind) (axes : List ℕ) → is_within h (length hdus + 1) ≡ false → EditsTo {X = X} (NewImage h kind axes) (state_of hdus tail) (state_of hdus tail) (Err refusal.NoHdu)
@@ -320,6 +320,7 @@ new_made hdus tail h x kind axes new p fits is reads made = record {
   err = tt;
   work = inr (record { one = new; is = refl; reads = reads; made = made });
   idle = tt;
+  room = tt;
 }
 
 -- it leaves a file
@@ -336,7 +337,7 @@ new_size hdus tail h hdu new is = ap (λ (f : FileParts). length (file_bytes f))
 -- an HDU that isn't there doesn't go
 pub removes_nowhere : {X : Type 0} (hdus : List HduState) (tail : List ℕ) (h : ℕ) → IsNowhere (length hdus) h → EditsTo {X = X} (RemoveHdu h) (state_of hdus tail) (state_of hdus tail) (Err refusal.NoHdu)
 unfolding refusal_of
-removes_nowhere hdus tail h p = record { accepted = tt; ok = tt; refused = inl (ap (removal_refusal h) (hdu_of-nowhere hdus tail h p)); err = refl; work = inl refl; idle = refl }
+removes_nowhere hdus tail h p = record { accepted = tt; ok = tt; refused = inl (ap (removal_refusal h) (hdu_of-nowhere hdus tail h p)); err = refl; work = inl refl; idle = refl; room = refl }
 
 -- the primary HDU is there
 primary_is_there : (hdus : List HduState) (tail : List ℕ) (h : ℕ) → 0 < length hdus → h ≡ 1 → removal_refusal h (hdu_of (file_of (state_of hdus tail)) h) ≡ Some refusal.PrimaryStays
@@ -346,7 +347,7 @@ primary_is_there (v ∷ vs) tail h some is = let file : FileParts = file_of (sta
 -- and stays
 pub primary_stays : {X : Type 0} (hdus : List HduState) (tail : List ℕ) (h i : ℕ) → IsIndexOf (length hdus) h i → i ≡ 0 → EditsTo {X = X} (RemoveHdu h) (state_of hdus tail) (state_of hdus tail) (Err refusal.PrimaryStays)
 unfolding refusal_of
-primary_stays hdus tail h i at zero_is = record { accepted = tt; ok = tt; refused = inl (primary_is_there hdus tail h (omega (arith, at.within)) (omega (arith, at.at, zero_is))); err = refl; work = inl refl; idle = refl }
+primary_stays hdus tail h i at zero_is = record { accepted = tt; ok = tt; refused = inl (primary_is_there hdus tail h (omega (arith, at.within)) (omega (arith, at.at, zero_is))); err = refl; work = inl refl; idle = refl; room = refl }
 
 -- another may go
 goes : (h i : ℕ) → h ≡ i + 1 → 0 < i → primary_refusal h ≡ None
@@ -366,6 +367,7 @@ removes hdus left tail h i x old at behind same =
       err = tt;
       work = inr (same ∙ map-remove unentered hdus i ∙ ap (remove (without_entries hdus)) index);
       idle = tt;
+      room = tt;
     }
 
 -- it leaves a file

@@ -129,9 +129,9 @@ lasts_read old new count described read = (rw (read.header.header, read.header.s
 
 -- what is refused owes this
 pub makes_not : (made : Result HduParts Refusal) (NeedsMemory : Option Refusal → Type 0) (reads : ℕ) (Works : PixelWork → PixelWork → Type 0) (bytes hdus : ℕ) (old new : HduState) (why : Refusal)
-    → IsHdu (is_primary old.header.shape.class) (parts_of old) → parts_of new ≡ parts_of old → old.header.reads ≤ new.header.reads → new.header.reads ≤ old.header.reads + reads → plane_work new.plane ≡ plane_work old.plane → Lasts old new → Works (plane_work old.plane) (plane_work old.plane) → Fails NeedsMemory (within_refusal bytes hdus (parts_of old) made) why
+    → IsHdu (is_primary old.header.shape.class) (parts_of old) → parts_of new ≡ parts_of old → old.header.reads ≤ new.header.reads → new.header.reads ≤ old.header.reads + reads → plane_work new.plane ≡ plane_work old.plane → new.header.room ≡ old.header.room → Lasts old new → Works (plane_work old.plane) (plane_work old.plane) → Fails NeedsMemory (within_refusal bytes hdus (parts_of old) made) why
     → HduMakes made NeedsMemory reads Works bytes hdus old new (Err why)
-makes_not made NeedsMemory reads Works bytes hdus old new why whole same least most idle lasts none fails = record {
+makes_not made NeedsMemory reads Works bytes hdus old new why whole same least most idle room lasts none fails = record {
   whole = whole;
   left = subst (λ (hdu : HduParts). IsHdu (is_primary old.header.shape.class) hdu) (sym same) whole;
   accepted = tt;
@@ -143,6 +143,7 @@ makes_not made NeedsMemory reads Works bytes hdus old new why whole same least m
   most = most;
   work = subst (λ (work : PixelWork). Works (plane_work old.plane) work) (sym idle) none;
   idle = idle;
+  room = room;
   described = lasts.0;
   entry = lasts.1;
 }
@@ -169,11 +170,11 @@ blank_none : (primary : Bool) (hdu : HduParts) (made : Result HduParts Refusal) 
 blank_none primary hdu made work = record { same = λ e. refl; any = inl refl }
 
 -- a change of an HDU that is refused owes this
-pub changes_not : (change : Change) (bytes hdus : ℕ) (old new : HduState) (why : Refusal) → IsHdu (is_primary old.header.shape.class) (parts_of old) → parts_of new ≡ parts_of old → old.header.reads ≤ new.header.reads → new.header.reads ≤ old.header.reads + shape_reads old.header.shape → plane_work new.plane ≡ plane_work old.plane → Lasts old new
+pub changes_not : (change : Change) (bytes hdus : ℕ) (old new : HduState) (why : Refusal) → IsHdu (is_primary old.header.shape.class) (parts_of old) → parts_of new ≡ parts_of old → old.header.reads ≤ new.header.reads → new.header.reads ≤ old.header.reads + shape_reads old.header.shape → plane_work new.plane ≡ plane_work old.plane → new.header.room ≡ old.header.room → Lasts old new
     → Fails (ChangeNeedsMemory change) (within_refusal bytes hdus (parts_of old) (hdu_changed (is_primary old.header.shape.class) (parts_of old) (Ok change))) why → ChangesTo change bytes hdus old new (Err why)
-changes_not change bytes hdus old new why whole same least most idle lasts fails =
+changes_not change bytes hdus old new why whole same least most idle room lasts fails =
     let made : Result HduParts Refusal = hdu_changed (is_primary old.header.shape.class) (parts_of old) (Ok change) in
-    makes_not made (ChangeNeedsMemory change) (shape_reads old.header.shape + apply_reads) (BlankWork (is_primary old.header.shape.class) (parts_of old) made) bytes hdus old new why whole same least (omega (arith, most)) idle lasts
+    makes_not made (ChangeNeedsMemory change) (shape_reads old.header.shape + apply_reads) (BlankWork (is_primary old.header.shape.class) (parts_of old) made) bytes hdus old new why whole same least (omega (arith, most)) idle room lasts
     (blank_none (is_primary old.header.shape.class) (parts_of old) made (plane_work old.plane)) fails
 
 -- one that is made owes this
@@ -198,6 +199,7 @@ changes_made change bytes hdus n old new whole described inner kept some is leas
       most = most;
       work = rw (made, described, there) follows;
       idle = tt;
+      room = tt;
       described = lasts.0;
       entry = lasts.1;
     }
@@ -279,7 +281,7 @@ unfolding hdu_made
 cards_unmade edit bytes hdus old new why whole described r fails takes =
     let primary : Bool = is_primary old.header.shape.class in
     let made : Result HduParts Refusal = hdu_changed primary (parts_of old) (change_of old.header.header.cards edit) in
-    makes_not made (CardEditNeedsMemory edit) (hdu_reads primary (Cards edit) (parts_of old)) (BlankWork primary (parts_of old) made) bytes hdus old new why whole (parts_read old new _ r) r.header.least (omega (arith, r.header.most)) (ap plane_work r.plane) (lasts_read old new _ described r) (blank_none primary (parts_of old) made (plane_work old.plane)) (elim fails [
+    makes_not made (CardEditNeedsMemory edit) (hdu_reads primary (Cards edit) (parts_of old)) (BlankWork primary (parts_of old) made) bytes hdus old new why whole (parts_read old new _ r) r.header.least (omega (arith, r.header.most)) (ap plane_work r.plane) r.header.room (lasts_read old new _ described r) (blank_none primary (parts_of old) made (plane_work old.plane)) (elim fails [
       | inl e ↦ inl (ap (λ said. within_refusal bytes hdus (parts_of old) (hdu_changed primary (parts_of old) said)) e)
       | inr m ↦ inr (m.0, needs_as edit _ (takes m.0) (needs_memory primary bytes hdus (parts_of old) (change_of old.header.header.cards edit) m.1))
     ])
@@ -310,6 +312,7 @@ cards_made edit change bytes hdus old left new result described r made p =
       most = omega (arith, r.header.most, most, reads);
       work = rw made work;
       idle = rw r.plane at p.idle;
+      room = rw r.header.room at p.room;
       described = p.described;
       entry = p.entry ∙ r.entry;
     }

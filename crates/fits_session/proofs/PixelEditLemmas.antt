@@ -56,6 +56,7 @@ paints_not lo hi paint bytes hdus old new why whole described is same =
     let reads : new.header.reads ≡ old.header.reads = ap (λ (state : HduState). state.header.reads) same in
     makes_not (hdu_painted primary lo hi paint (parts_of old)) (HduNeedsMemory (Pixels lo hi paint)) 0 (HduWork primary (Pixels lo hi paint) (parts_of old)) bytes hdus old new (refusal_of_pixels why) whole (ap parts_of same) (omega (arith, reads)) (omega (arith, reads))
     (ap (λ (state : HduState). plane_work state.plane) same)
+    (ap (λ (state : HduState). state.header.room) same)
     (subst (λ (state : HduState). Lasts old state) (sym same) (described, refl))
     (patches_none (shape_of primary old.header.header.cards) lo hi (parts_of old) (plane_work old.plane))
     (inl (ap (within_refusal bytes hdus (parts_of old)) (made_by primary old.header.shape (parts_of old) lo hi paint (Err why) described is)))
@@ -83,6 +84,7 @@ paints lo hi paint bytes hdus old new whole described part within is same entry 
       most = omega (arith, reads);
       work = patches_by (shape_of primary old.header.header.cards) old.header.shape lo hi (parts_of old) (plane_work old.plane) (plane_work new.plane) described patched;
       idle = tt;
+      room = tt;
       described = rw same described;
       entry = entry;
     }

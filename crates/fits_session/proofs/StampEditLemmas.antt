@@ -21,11 +21,11 @@ pub stamp_reckoned : (primary : Bool) (hdu : HduParts) (len before after : ℕ) 
 stamp_reckoned primary hdu len before after whole part b a = length_reckoned primary hdu (stamped hdu) len before after whole (stamped_is_hdu primary hdu whole) (stamped_unit hdu) part b a
 
 -- a stamp that is refused owes this
-pub stamps_not : (bytes hdus : ℕ) (old new : HduState) (why : Refusal) → IsHdu (is_primary old.header.shape.class) (parts_of old) → parts_of new ≡ parts_of old → old.header.reads ≤ new.header.reads → new.header.reads ≤ old.header.reads + (stamp_count_reads old.header.header.cards + stamp_reads old.header.header.cards) → plane_work new.plane ≡ plane_work old.plane → Lasts old new
+pub stamps_not : (bytes hdus : ℕ) (old new : HduState) (why : Refusal) → IsHdu (is_primary old.header.shape.class) (parts_of old) → parts_of new ≡ parts_of old → old.header.reads ≤ new.header.reads → new.header.reads ≤ old.header.reads + (stamp_count_reads old.header.header.cards + stamp_reads old.header.header.cards) → plane_work new.plane ≡ plane_work old.plane → new.header.room ≡ old.header.room → Lasts old new
     → Fails (λ refused. refused ≡ None) (limit_refusal (length_with bytes (parts_of old) (stamped (parts_of old))) hdus) why → HduEditsTo Stamp bytes hdus old new (Err why)
 unfolding hdu_made
-stamps_not bytes hdus old new why whole same least most idle lasts fails =
-    makes_not (Ok (stamped (parts_of old))) (HduNeedsMemory Stamp) (stamp_count_reads old.header.header.cards + stamp_reads old.header.header.cards) (BlankWork (is_primary old.header.shape.class) (parts_of old) (Ok (stamped (parts_of old)))) bytes hdus old new why whole same least most idle lasts
+stamps_not bytes hdus old new why whole same least most idle room lasts fails =
+    makes_not (Ok (stamped (parts_of old))) (HduNeedsMemory Stamp) (stamp_count_reads old.header.header.cards + stamp_reads old.header.header.cards) (BlankWork (is_primary old.header.shape.class) (parts_of old) (Ok (stamped (parts_of old)))) bytes hdus old new why whole same least most idle room lasts
     (record { same = λ e. refl; any = inl refl }) fails
 
 -- one that is made owes this
@@ -47,6 +47,7 @@ stamps bytes hdus n old new whole some is least most idle lasts =
       most = most;
       work = record { same = λ e. idle; any = inl idle };
       idle = tt;
+      room = tt;
       described = lasts.0;
       entry = lasts.1;
     }

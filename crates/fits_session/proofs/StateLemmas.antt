@@ -15,7 +15,7 @@ use Rattle.fits_hdu.proofs.ShapeLemmas.{one_primary}
 use Rattle.fits_session.specs.Edit.{hdu_of, changed_at, changed_of, is_primary_hdu}
 use Rattle.fits_session.specs.File.{FileParts, IsFile, file_bytes, joined_hdus}
 use Rattle.fits_session.specs.declared.limits.TheConstants.{FILE_LIMIT, HDU_LIMIT}
-use Rattle.fits_session.specs.Session.{SessionState, file_of, hdus_of, reads_of, works_of, state_of, ReadsOnly, WorksOnly, Asks, IsIndexOf, IsNowhere}
+use Rattle.fits_session.specs.Session.{SessionState, file_of, hdus_of, reads_of, rooms_of, works_of, state_of, ReadsOnly, WorksOnly, Asks, IsIndexOf, IsNowhere}
 use Rattle.fits_session.proofs.ChangeLemmas.{hdu_is, part_within}
 
 -- HDU h of those under edits
@@ -165,6 +165,10 @@ works_of-same hdus i old new l e p = parts_same (λ (one : HduState). plane_work
 -- where no card of it was read, none of any was
 pub reads_of-same : (hdus : List HduState) (i : ℕ) (old new : HduState) → i < length hdus → old ≡ get_or hdus i old → new.header.reads ≡ old.header.reads → reads_of (set hdus i new) ≡ reads_of hdus
 reads_of-same hdus i old new l e p = parts_same (λ (one : HduState). one.header.reads) hdus i old new l e p
+
+-- nor has another room for more cards
+pub rooms_of-same : (hdus : List HduState) (i : ℕ) (old new : HduState) → i < length hdus → old ≡ get_or hdus i old → new.header.room ≡ old.header.room → rooms_of (set hdus i new) ≡ rooms_of hdus
+rooms_of-same hdus i old new l e p = parts_same (λ (one : HduState). one.header.room) hdus i old new l e p
 
 -- HDU h alone was worked on
 pub works_changed : (hdus : List HduState) (h i : ℕ) (old new : HduState) (change : PixelWork → PixelWork) → IsHduAt hdus h i old → plane_work new.plane ≡ change (plane_work old.plane) → works_of (set hdus i new) ≡ changed_of h change (works_of hdus)

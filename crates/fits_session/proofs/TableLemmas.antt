@@ -333,6 +333,12 @@ same_entry es entry place it name (Some other) is read same points =
     let there : slice_get (keys_of es) place ≡ Some other = subst (PointsAt (keys_of es) (Some other)) is points in
     ap (λ (k : ExtensionName). Option.Some k) (same_name name it.0 same ∙ (entry_read es place it other read there).1)
 
+-- and one that is called so has its name there
+pub told_entry : (es : List (ExtensionName × ℕ)) (entry : Option ℕ) (place : ℕ) (it : ExtensionName × ℕ) (name : ExtensionName) (now : Option ExtensionName) → entry ≡ Some place → now ≡ Some name → it ≡ get_or es place it → PointsAt (keys_of es) now entry → is_same_name name it.0 ≡ true
+told_entry es entry place it name now is said read points =
+    let there : slice_get (keys_of es) place ≡ Some name = rw (said, is) at points in
+    ap (λ (other : ExtensionName). is_same_name name other) (entry_read es place it name read there).1 ∙ name_itself name
+
 -- a name is repeated where its number is two or more
 pub repeated_at : (names : List (Option ExtensionName)) (es : List (ExtensionName × ℕ)) (name : Option ExtensionName) (entry : Option ℕ) (place : ℕ) (it : ExtensionName × ℕ) → IsTableOf names es → PointsAt (keys_of es) name entry → entry ≡ Some place → it ≡ get_or es place it
     → nat_le 2 it.1 ≡ is_repeated names name

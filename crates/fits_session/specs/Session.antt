@@ -38,6 +38,10 @@ hdus_of hdus = map parts_of hdus
 abbrev pub reads_of : List HduState → List ℕ
 reads_of hdus = map (λ (one : HduState). one.header.reads) hdus
 
+-- for how many more cards each has room
+abbrev pub rooms_of : List HduState → List ℕ
+rooms_of hdus = map (λ (one : HduState). one.header.room) hdus
+
 -- the work on the data unit of each
 abbrev pub works_of : List HduState → List PixelWork
 works_of hdus = map (λ (one : HduState). plane_work one.plane) hdus
@@ -140,7 +144,7 @@ WorksAs (RemoveHdu h) old new = (new ≡ old) ⊎ (without_entries new.hdus ≡ 
 
 -- an edit owes: it is made where none of its tests fails, and then the file is the one after it; else the file is as
 -- before, and the refusal is the first test's that fails, or memory's. Cards of the HDU that it names alone are read, and a refused edit
--- works on no block.
+-- works on no block and keeps no room.
 pub record EditsTo {X : Type 0} (edit : Edit) (old new : SessionState) (result : Result X Refusal) : Type 0 where
   pub accepted : OnOk result (refusal_of (file_of old) edit ≡ None)
   pub ok : OnOk result (file_of new ≡ file_after (file_of old) edit)
@@ -148,6 +152,7 @@ pub record EditsTo {X : Type 0} (edit : Edit) (old new : SessionState) (result :
   pub err : OnErr result (file_of new ≡ file_of old)
   pub work : WorksAs edit old new
   pub idle : OnErr result (works_of new.hdus ≡ works_of old.hdus)
+  pub room : OnErr result (rooms_of new.hdus ≡ rooms_of old.hdus)
 
 -- a query of HDU h owes: the file stays, and so many of that HDU's cards are read at most
 pub record Asks (h most : ℕ) (old new : SessionState) : Type 0 where
@@ -200,7 +205,8 @@ within_refusal bytes hdus hdu (Err why) = Some why
 within_refusal bytes hdus hdu (Ok made) = limit_refusal (length_with bytes hdu made) hdus
 
 -- what is made of an HDU owes, in a file of so many bytes and HDUs: it is made where no test fails, and the answer is how many bytes the
--- file has then; else the HDU is as before, and the refusal is the first test's that fails, or memory's; a refused one works on no block;
+-- file has then; else the HDU is as before, and the refusal is the first test's that fails, or memory's; a refused one works on no block
+-- and keeps no room;
 -- its cards describe the shape that is kept, and its entry stays
 pub record HduMakes (made : Result HduParts Refusal) (NeedsMemory : Option Refusal → Type 0) (reads : ℕ) (Works : PixelWork → PixelWork → Type 0) (bytes hdus : ℕ) (old new : HduState) (result : Result ℕ Refusal) : Type 0 where
   pub whole : IsHdu (is_primary old.header.shape.class) (parts_of old)
@@ -214,6 +220,7 @@ pub record HduMakes (made : Result HduParts Refusal) (NeedsMemory : Option Refus
   pub most : new.header.reads ≤ old.header.reads + reads
   pub work : Works (plane_work old.plane) (plane_work new.plane)
   pub idle : OnErr result (plane_work new.plane ≡ plane_work old.plane)
+  pub room : OnErr result (new.header.room ≡ old.header.room)
   pub described : IsDescribed new
   pub entry : new.entry ≡ old.entry
 

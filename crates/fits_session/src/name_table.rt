@@ -106,8 +106,9 @@ impl NameTable {
 
     /// Whether an HDU with this entry is called so. It takes no memory.
     pub(crate) fn is_entry_of(&self, entry: Option<usize>, name: &Option<ExtensionName>) -> bool
-        ensures { IsTrue result → (was : Option ExtensionName)
+        ensures same { IsTrue result → (was : Option ExtensionName)
             → PointsAt (keys_of self.now.numbers.items) was entry → name.now ≡ was }
+        ensures told { PointsAt (keys_of self.now.numbers.items) name.now entry → IsTrue result }
     {
         match (entry, name) {
             (Some(place), Some(name)) => match self.numbers.get(place) {

@@ -45,6 +45,7 @@ impl Hdu {
         requires { length (hdu_bytes (parts_of self.old)) ≤ 2 ^ 33 }
         ensures ok { OnOk result (parts_of self.new ≡ stamped (parts_of self.old)) }
         ensures err { OnErr result (parts_of self.new ≡ parts_of self.old) }
+        ensures room { OnErr result (self.new.header.room ≡ self.old.header.room) }
         ensures shape { self.new.header.shape ≡ self.old.header.shape }
         ensures pixel_work { plane_work self.new.plane ≡ plane_work self.old.plane }
         ensures least { self.old.header.reads ≤ self.new.header.reads }

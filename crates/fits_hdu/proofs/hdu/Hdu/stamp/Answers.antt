@@ -108,6 +108,7 @@ returns-in_err-zeros c =
     record {
       ok = rw failed.1 tt;
       err = rw failed.1 refl;
+      room = rw failed.1 refl;
       shape = refl;
       pixel_work = refl;
       least = omega arith;
@@ -123,6 +124,7 @@ returns-in_err-digits c =
     record {
       ok = rw failed.1 tt;
       err = rw failed.1 refl;
+      room = rw failed.1 refl;
       shape = refl;
       pixel_work = refl;
       least = omega arith;
@@ -138,6 +140,7 @@ returns-in_err-datasum c =
     record {
       ok = rw failed.1 tt;
       err = rw failed.1 refl;
+      room = rw failed.1 refl;
       shape = refl;
       pixel_work = refl;
       least = omega arith;
@@ -153,6 +156,7 @@ returns-in_err-checksum c =
     record {
       ok = rw failed.1 tt;
       err = rw failed.1 refl;
+      room = rw failed.1 refl;
       shape = refl;
       pixel_work = refl;
       least = omega arith;
@@ -169,6 +173,7 @@ returns-in_err-reserve c =
     record {
       ok = rw failed.1 tt;
       err = rw failed.1 c.reserve.ensures.hdu;
+      room = rw failed.1 c.in_err-reserve.ensures.err;
       shape = c.reserve.ensures.shape;
       pixel_work = ap (λ (hdu : HduState). plane_work hdu.plane) c.reserve.ensures.rest;
       least = omega (arith, c.reserve.ensures.work);

@@ -24,7 +24,7 @@ returns-in_default c =
     let reckoned = change_reckoned (parts_of c.args.hdu.now) primary c.args.change.now c.args.len c.card_count-before.result c.count_after-after.result c.card_count-before.ensures.whole c.requires.inner (sym c.if-not-keeps_shape.ensures.value) c.requires.part c.card_count-before.ensures.value (c.count_after-after.ensures ∙ ap (λ (h : HeaderState). length (cards_after h.header.cards c.args.change.now)) c.header.ensures) in
     let past = fits_not (length_with c.args.len (parts_of c.args.hdu.now) (hdu_after c.args.change.now (parts_of c.args.hdu.now))) c.args.hdus (c.in_default.ensures ∙ ap (λ n. size_within n c.args.hdus) reckoned) in
     let made = kept_made primary (parts_of c.args.hdu.now) c.args.change.now (sym c.if-not-keeps_shape.ensures.value) in
-    changes_not c.args.change.now c.args.len c.args.hdus c.args.hdu.now c.keeps_shape.new.self refusal.TooLarge c.card_count-before.ensures.whole (parts_read _ _ _ c.keeps_shape.ensures.work) c.keeps_shape.ensures.work.header.least c.keeps_shape.ensures.work.header.most (ap plane_work c.keeps_shape.ensures.work.plane) (lasts_read _ _ _ c.card_count-before.ensures.described c.keeps_shape.ensures.work)
+    changes_not c.args.change.now c.args.len c.args.hdus c.args.hdu.now c.keeps_shape.new.self refusal.TooLarge c.card_count-before.ensures.whole (parts_read _ _ _ c.keeps_shape.ensures.work) c.keeps_shape.ensures.work.header.least c.keeps_shape.ensures.work.header.most (ap plane_work c.keeps_shape.ensures.work.plane) c.keeps_shape.ensures.work.header.room (lasts_read _ _ _ c.card_count-before.ensures.described c.keeps_shape.ensures.work)
     (inl (ap (within_refusal c.args.len c.args.hdus (parts_of c.args.hdu.now)) made ∙ past))
 
 pub returns : goal.returns
@@ -60,5 +60,6 @@ returns-in_err-reserve c =
     (omega (arith, read.header.least, room.work))
     (omega (arith, read.header.most, room.work))
     (ap (λ (hdu : HduState). plane_work hdu.plane) room.rest ∙ ap plane_work read.plane)
+    (room.err ∙ read.header.room)
     (rw (ap (λ (hdu : HduParts). hdu.header) room.hdu, room.shape, read.header.header, read.header.shape) c.card_count-before.ensures.described, ap (λ (hdu : HduState). hdu.entry) room.rest ∙ read.entry)
     (inr (refl, room_missing c.args.change.now c.args.len c.args.hdus (is_primary c.args.hdu.now.header.shape.class) (parts_of c.args.hdu.now) c.requires.in_range more)))

@@ -22,7 +22,7 @@ returns-then-is_entry_of-clause-stands c =
     let r = c.extension_name-name.ensures.work in
     let s = c.requires.stood in
     follows_same hdus c.args.i es s c.requires.within now read c.index_mut-hdu.ensures.value r
-    (sym c.extension_name-name.ensures.value ∙ c.if-is_entry_of.ensures refl (name_of s.was) (rw c.entry-old.ensures (points_was hdus c.args.i es s c.requires.within now read c.index_mut-hdu.ensures.value r)))
+    (sym c.extension_name-name.ensures.value ∙ c.if-is_entry_of.ensures.same refl (name_of s.was) (rw c.entry-old.ensures (points_was hdus c.args.i es s c.requires.within now read c.index_mut-hdu.ensures.value r)))
 
 pub returns-then-is_entry_of-clause-described : goal.returns-then-is_entry_of-clause-described
 returns-then-is_entry_of-clause-described c described =

@@ -21,7 +21,7 @@ returns-in_default c =
     let work = c.count_stamped-after.ensures.work in
     let reckoned = stamp_reckoned (is_primary c.args.hdu.now.header.shape.class) (parts_of c.args.hdu.now) c.args.len c.card_count-before.result c.count_stamped-after.result c.card_count-before.ensures.whole c.requires.part c.card_count-before.ensures.value c.count_stamped-after.ensures.value in
     let past = fits_not (length_with c.args.len (parts_of c.args.hdu.now) (stamped (parts_of c.args.hdu.now))) c.args.hdus (c.in_default.ensures ∙ ap (λ n. size_within n c.args.hdus) reckoned) in
-    stamps_not c.args.len c.args.hdus c.args.hdu.now c.count_stamped-after.new.self refusal.TooLarge c.card_count-before.ensures.whole (parts_read _ _ _ work) work.header.least (omega (arith, work.header.most)) (ap plane_work work.plane) (lasts_read _ _ _ c.card_count-before.ensures.described work) (inl past)
+    stamps_not c.args.len c.args.hdus c.args.hdu.now c.count_stamped-after.new.self refusal.TooLarge c.card_count-before.ensures.whole (parts_read _ _ _ work) work.header.least (omega (arith, work.header.most)) (ap plane_work work.plane) work.header.room (lasts_read _ _ _ c.card_count-before.ensures.described work) (inl past)
 
 pub returns-in_err-stamp : goal.returns-in_err-stamp
 returns-in_err-stamp c =
@@ -30,7 +30,7 @@ returns-in_err-stamp c =
     let reckoned = stamp_reckoned (is_primary c.args.hdu.now.header.shape.class) (parts_of c.args.hdu.now) c.args.len c.card_count-before.result c.count_stamped-after.result c.card_count-before.ensures.whole c.requires.part c.card_count-before.ensures.value c.count_stamped-after.ensures.value in
     let room = fits (length_with c.args.len (parts_of c.args.hdu.now) (stamped (parts_of c.args.hdu.now))) c.in-Some.len c.args.hdus (c.in-Some.ensures ∙ ap (λ n. size_within n c.args.hdus) reckoned) in
     let most = rw work.header.header at c.in_err-stamp.ensures.work in
-    rw (p.1, p.2) (stamps_not c.args.len c.args.hdus c.args.hdu.now c.stamp.new.self refusal.Memory c.card_count-before.ensures.whole (c.in_err-stamp.ensures.err ∙ parts_read _ _ _ work) (omega (arith, work.header.least, c.in_err-stamp.ensures.least)) (omega (arith, work.header.most, most)) (c.in_err-stamp.ensures.pixel_work ∙ ap plane_work work.plane) (c.in_err-stamp.ensures.left, c.in_err-stamp.ensures.entry ∙ work.entry)
+    rw (p.1, p.2) (stamps_not c.args.len c.args.hdus c.args.hdu.now c.stamp.new.self refusal.Memory c.card_count-before.ensures.whole (c.in_err-stamp.ensures.err ∙ parts_read _ _ _ work) (omega (arith, work.header.least, c.in_err-stamp.ensures.least)) (omega (arith, work.header.most, most)) (c.in_err-stamp.ensures.pixel_work ∙ ap plane_work work.plane) (c.in_err-stamp.ensures.room ∙ work.header.room) (c.in_err-stamp.ensures.left, c.in_err-stamp.ensures.entry ∙ work.entry)
     (inr (refl, room.0)))
 
 pub returns : goal.returns
