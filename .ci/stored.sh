@@ -230,5 +230,49 @@ expect 'a listing without a path ends with 2' status 2 list
 cp "$example/in.fits" "$room/same.fits"
 expect 'OUT may be IN' status 0 edit "$room/same.fits" "$room/same.fits"
 expect 'and holds the edits' cmp -s "$room/same.fits" "$example/out.fits"
+# a file that stands at OUT is kept where saving fails; here at 8 KB, as on a full disk
+cp "$example/in.fits" "$room/kept.fits"
+in_8_kb() { (trap '' XFSZ && ulimit -f 16 && "$program" edit "$@" </dev/null); }
+expect 'a save that fails ends with 3' status 3 in_8_kb "$room/most.fits" "$room/kept.fits"
+expect 'and leaves the file at OUT' cmp -s "$room/kept.fits" "$example/in.fits"
+expect 'and nothing beside it' [ -z "$(ls -A "$room" | grep fitsed-)" ]
+expect 'OUT = IN too' status 3 in_8_kb "$room/most.fits" "$room/most.fits"
+expect 'and leaves the file' [ "$(stat -c %s "$room/most.fits")" = 28800000 ]
+chmod 640 "$room/kept.fits"
+ln -s kept.fits "$room/link.fits"
+expect 'OUT may be a link' status 0 edit "$example/in.fits" "$room/link.fits"
+expect 'whose file holds the edits' cmp -s "$room/kept.fits" "$example/out.fits"
+expect 'and has its permissions' [ "$(stat -c %a "$room/kept.fits")" = 640 ]
+expect 'and the link stays' [ -L "$room/link.fits" ]
+ln "$room/kept.fits" "$room/other.fits"
+expect 'OUT may have two names' status 0 ask "$room/two.fits" "$room/kept.fits"
+expect 'and both have the edits' cmp -s "$room/other.fits" "$room/two.fits"
+chmod 600 "$room/two.fits"
+(umask 022 && ask "$room/two.fits" "$room/like.fits" >"$room/printed")
+expect 'a new OUT has the permissions of IN' [ "$(stat -c %a "$room/like.fits")" = 600 ]
+chmod 666 "$room/two.fits"
+rm "$room/like.fits"
+(umask 027 && ask "$room/two.fits" "$room/like.fits" >"$room/printed")
+expect 'less those that the umask takes' [ "$(stat -c %a "$room/like.fits")" = 640 ]
+# streams that are closed when the program starts
+without_a_script() { "$program" edit "$@" <&-; }
+expect 'a closed standard input ends with 3' status 3 without_a_script "$room/two.fits" "$room/unsaved.fits"
+expect 'as a failed read' grep -qx 'fitsed: read failed' "$room/reported"
+expect 'and nothing is saved' [ ! -e "$room/unsaved.fits" ]
+without_answers() { printf 'off\n' | "$program" edit "$1" "$2" >&-; }
+expect 'a closed standard output ends with 3' status 3 without_answers "$room/two.fits" "$room/unsaved.fits"
+expect 'as a failed write' grep -qx 'fitsed: write failed' "$room/reported"
+expect 'and no answer is saved' [ ! -e "$room/unsaved.fits" ]
+without_reports() { printf 'off\n' | "$program" edit "$1" "$2" 2>&-; }
+expect 'a closed standard error changes nothing' status 0 without_reports "$room/two.fits" "$room/silent.fits"
+expect 'and no report is saved' cmp -s "$room/silent.fits" "$room/two.fits"
+# answers come before the script goes on
+mkfifo "$room/asked" "$room/answered"
+"$program" edit "$room/two.fits" "$room/two.out" <"$room/asked" >"$room/answered" &
+exec 8>"$room/asked" 9<"$room/answered"
+echo 'get 2 BITPIX' >&8
+expect 'an answer comes before the script ends' [ "$(timeout 20 head -n 1 <&9)" = 'integer 16' ]
+exec 8>&- 9<&-
+wait
 echo "$passed passed, $failed failed"
 [ "$failed" = 0 ]

@@ -2,9 +2,10 @@
 // fail or move little.
 //
 // REFUSE=K refuses the K-th request for memory, counted from 1.
-// STREAM names a stream of `fitsed`: script (reads of descriptor 0), file (reads of any other, also at a place), answers (writes to
-// descriptor 1), saved (writes to any but 1 and 2), or each. Of its calls STEP=N lets each move N bytes at most,
-// FAIL=K lets the K-th fail, counted from 1, and STOP=K the K-th and each after it.
+// STREAM names a stream of `fitsed`: script (reads of descriptor 0), file (reads of any other, also at a place), answers
+// (writes to descriptor 1), saved (writes to any but 1 and 2, what makes them reach the device, and renamings), or each.
+// Of its calls STEP=N lets each move N bytes at most, FAIL=K lets the K-th fail, counted from 1, and STOP=K the K-th and
+// each after it.
 // Where COUNTED is set, the number of requests, or of the stream's calls, goes to descriptor 2 at the end.
 #include <errno.h>
 #include <stdlib.h>
@@ -36,14 +37,20 @@ static int refused(void) { return ++requests == refuse; }
 void *malloc(size_t n) { return refused() ? 0 : __libc_malloc(n); }
 void *realloc(void *p, size_t n) { return refused() ? 0 : __libc_realloc(p, n); }
 
+// Whether a call is one of the stream.
+static int counts(const char *of) { return stream && of && (!strcmp(stream, of) || !strcmp(stream, "each")); }
+
+// Whether this call of the stream fails.
+static int fails(void) {
+    if (++calls != fail && calls < stop) return 0;
+    errno = EIO;
+    return 1;
+}
+
 // A call that moves bytes, as the stream lets it. `at` is its place, where it has one.
 static ssize_t moved(long call, const char *of, int fd, void *bytes, size_t n, off_t at) {
-    if (!stream || !of || (strcmp(stream, of) && strcmp(stream, "each"))) return syscall(call, fd, bytes, n, at);
-    if (++calls == fail || calls >= stop) {
-        errno = EIO;
-        return -1;
-    }
-    return syscall(call, fd, bytes, n < step ? n : step, at);
+    if (!counts(of)) return syscall(call, fd, bytes, n, at);
+    return fails() ? -1 : syscall(call, fd, bytes, n < step ? n : step, at);
 }
 
 ssize_t read(int fd, void *bytes, size_t n) { return moved(SYS_read, fd == 0 ? "script" : "file", fd, bytes, n, 0); }
@@ -53,6 +60,10 @@ ssize_t pread(int fd, void *bytes, size_t n, off_t at) { return moved(SYS_pread6
 ssize_t write(int fd, const void *bytes, size_t n) {
     return moved(SYS_write, fd == 1 ? "answers" : fd == 2 ? 0 : "saved", fd, (void *)bytes, n, 0);
 }
+
+int fsync(int fd) { return counts("saved") && fails() ? -1 : syscall(SYS_fsync, fd); }
+
+int rename(const char *from, const char *to) { return counts("saved") && fails() ? -1 : syscall(SYS_rename, from, to); }
 
 __attribute__((destructor)) static void end(void) {
     char text[24];

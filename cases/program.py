@@ -9,12 +9,13 @@ import tempfile
 
 @dataclasses.dataclass(frozen=True)
 class Ran:
-    """What a run came to. There is nothing saved where it made no file."""
+    """What a run came to. There is nothing saved where it made no file. `left` has the names of other files that it left."""
 
     status: int
     printed: bytes
     reported: bytes
     saved: bytes | None
+    left: frozenset = frozenset()
 
 
 class Program:
@@ -31,6 +32,12 @@ class Program:
         """A script over a file, saved to another."""
         return self.edit_by(file, [script])
 
+    def edit_over(self, file, script, old):
+        """A script over a file, saved over one that stands there; over the file itself where `old` is none."""
+        if old is None:
+            return self._run(["edit", "out.fits", "out.fits"], file, [script], file)
+        return self._run(["edit", "in.fits", "out.fits"], file, [script], old)
+
     def edit_by(self, file, pieces):
         """A script that comes in pieces, as far as it is read."""
         return self._run(["edit", "in.fits", "out.fits"], file, pieces)
@@ -39,10 +46,12 @@ class Program:
         """A text of a file: these words and the file's name."""
         return self._run([*words, "in.fits"], file, [])
 
-    def _run(self, words, file, pieces):
+    def _run(self, words, file, pieces, old=None):
         with tempfile.TemporaryDirectory() as room:
             path = pathlib.Path(room)
             (path / "in.fits").write_bytes(file)
+            if old is not None:
+                (path / "out.fits").write_bytes(old)
             with open(path / "printed", "wb") as printed, open(path / "reported", "wb") as reported:
                 how = {"cwd": room, "stdin": subprocess.PIPE, "stdout": printed, "stderr": reported}
                 how["env"] = {**os.environ, **self.environment}
@@ -58,7 +67,8 @@ class Program:
                     ran.kill()
             out = path / "out.fits"
             texts = [(path / it).read_bytes() for it in ("printed", "reported")]
-            return Ran(status, *texts, out.read_bytes() if out.exists() else None)
+            left = frozenset(os.listdir(room)) - {"in.fits", "out.fits", "printed", "reported"}
+            return Ran(status, *texts, out.read_bytes() if out.exists() else None, left)
 
 
 def differences(ran, **wanted):
@@ -77,14 +87,14 @@ def shown(what):
 
 def edited(program, file, script, printed, status, saved):
     """Where a script over a file doesn't print this, end so, and save this."""
-    ran = program.edit(file, script.encode())
-    return differences(ran, status=status, printed=printed.encode(), reported=b"", saved=saved)
+    ran = program.edit(file, script.encode("latin-1"))
+    return differences(ran, status=status, printed=printed.encode("latin-1"), reported=b"", saved=saved)
 
 
 def told(program, words, file, printed, status=0):
     """Where a text of a file isn't this, or doesn't end so."""
     ran = program.tell(words, file)
-    return differences(ran, status=status, printed=printed.encode(), reported=b"")
+    return differences(ran, status=status, printed=printed.encode("latin-1"), reported=b"")
 
 
 # What else reads a file from its beginning.
@@ -94,4 +104,4 @@ TELLINGS = [["list"], ["verify", "-q"], ["sum"]]
 def closed(program, front, fault):
     """Where a file opens, or another fault is reported of it, or anything is answered or saved."""
     for ran in [program.edit(front, b"off\nfrob\n"), *(program.tell(words, front) for words in TELLINGS)]:
-        yield from differences(ran, status=2, printed=b"", reported=f"fitsed: open refused {fault}\n".encode(), saved=None)
+        yield from differences(ran, status=2, printed=b"", reported=f"fitsed: open refused {fault}\n".encode("latin-1"), saved=None)

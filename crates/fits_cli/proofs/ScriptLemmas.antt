@@ -1,16 +1,17 @@
 -- A script to its end, as far as its limit, or as far as it could be answered.
-use Rattle.std.proofs.Common.{◌≡◌, ℕ, ◌+◌, ◌-◌, ◌<◌, ◌≤◌, List, [], ◌++◌, length, take, refl, ap, sym, ◌∙◌, arith, inl, inr, Option, None, Some}
+use Rattle.std.proofs.Common.{◌≡◌, ℕ, ◌+◌, ◌-◌, ◌<◌, ◌≤◌, List, [], ◌++◌, length, take, refl, ap, subst, sym, ◌∙◌, arith, inl, inr, Option, None, Some}
 use Rattle.std.proofs.lemmas.List.{append-nil, take_all, take-append-le, take-take, length-append, length-take-le}
 use Rattle.std.proofs.Math.Seq.{take-append-add}
 use Rattle.std.specs.Prelude.{IfSome}
 use Rattle.std.specs.Io.KnownBytes.{Consumes, IsAtEnd, Keeps}
-use Rattle.fits_stream.proofs.StreamLemmas.{Reads-more}
+use Rattle.fits_stream.proofs.StreamLemmas.{Prints-flushed, PrintsFront-unflushed, Reads-more}
 use Rattle.fits_cli.specs.Answer.{Standing}
 use Rattle.fits_cli.specs.Ends.{CameTo, HasLines}
 use Rattle.fits_cli.specs.declared.limits.TheConstants.{SCRIPT_LIMIT}
 use Rattle.fits_cli.specs.Running.{HasCome, HasStopped, Continues, PieceStops, LinesStop, EndsScript, EndStops, AnswersScript, AnswersTooLong, ScriptStops, ScriptReadFails}
 use Rattle.fits_cli.specs.Script.{IsCutInLines, script_lines}
-use Rattle.fits_stream.specs.Stream.{SourceState, SinkState, FailsToRead, Reads}
+use Rattle.fits_cli.specs.Faults.{FlushFails}
+use Rattle.fits_stream.specs.Stream.{SourceState, SinkState, FailsToRead, Flushes, Reads}
 use Rattle.fits_cli.specs.declared.fault.Fault.{Fault}
 use Rattle.fits_cli.specs.declared.fault.Fault.TheVariants.{Refused, ScriptTooLong, Memory, ReadFailed, WriteFailed}
 
@@ -155,3 +156,27 @@ ScriptStops-end old mid new n came buffer kept before now held holds more fault 
       are = inr (ended, short, refl);
     })
     whole.quiet (stops come.lines come.last before held come.kept_is come.answered)
+
+-- the answers to a piece are passed on
+pub Continues-flushed : (piece kept_before kept_now : List ℕ) (before now : Standing) (held mid holds : SinkState) → Continues piece kept_before kept_now before now held mid → Flushes mid holds → Continues piece kept_before kept_now before now held holds
+Continues-flushed piece kept_before kept_now before now held mid holds p q = λ script first start come.
+    let has = p script first start come in
+    record {
+      lines = has.lines;
+      last = has.last;
+      cut = has.cut;
+      kept_is = has.kept_is;
+      answered = record { printed = Prints-flushed start mid holds _ has.answered.printed q; left = has.answered.left };
+    }
+
+-- or they aren't, which ends the run
+pub PieceStops-unflushed : (piece kept_before kept_now : List ℕ) (before now : Standing) (held mid holds : SinkState) (fault : Fault) → Continues piece kept_before kept_now before now held mid → FlushFails mid holds fault → PieceStops piece kept_before before held holds fault
+PieceStops-unflushed piece kept_before kept_now before now held mid holds fault p q =
+    subst (PieceStops piece kept_before before held holds) (sym q.0) (λ script first start come.
+    let has = p script first start come in
+    record {
+      lines = has.lines;
+      last = has.last;
+      cut = has.cut;
+      stops = PrintsFront-unflushed start mid holds _ has.answered.printed q.1;
+    })

@@ -7,6 +7,7 @@ ghost use Rattle.fits_cli.specs.Running.{EndsScript, EndStops, LineStops, PieceS
 
 use crate::fault::Fault;
 use crate::limits::SCRIPT_LIMIT;
+use crate::printing::flush;
 use crate::reply::print_reply;
 use crate::runner::Runner;
 use fits_script::{LINE_LIMIT, split_far};
@@ -82,6 +83,30 @@ fn answer_piece<O: Sink>(
     }
 }
 
+// The same, and passes the answers on, so that what asks by a pipe has them before it says more.
+fn answer_at_once<O: Sink>(
+    alloc: Global,
+    runner: &mut Runner,
+    line: &mut Vec<u8>,
+    piece: &[u8],
+    out: &mut O,
+) -> Result<(), Fault>
+    requires numbers { runner.old.line + length piece.now + 1 < 2 ^ 64 }
+    requires room { LINE_LIMIT + 1 ≤ vec_capacity line.old }
+    requires within { vec_len line.old ≤ LINE_LIMIT + 1 }
+    ensures ok { OnOk result (Continues piece.now line.old.items line.new.items runner.old
+        runner.new (O.state out.old) (O.state out.new)) }
+    ensures err { IfErr result (PieceStops piece.now line.old.items runner.old
+        (O.state out.old) (O.state out.new)) }
+    ensures flushed { OnOk result ((O.state out.new).unflushed ≡ 0) }
+    ensures line { OnOk result (runner.new.line ≤ runner.old.line + length piece.now) }
+    ensures room { OnOk result (LINE_LIMIT + 1 ≤ vec_capacity line.new) }
+    ensures within { OnOk result (vec_len line.new ≤ LINE_LIMIT + 1) }
+{
+    answer_piece(alloc, runner, line, piece, out)?;
+    flush(out)
+}
+
 // Answers what came after the last line feed, unless it is nothing.
 fn answer_last_line<O: Sink>(
     alloc: Global,
@@ -152,7 +177,7 @@ fn answer_pieces<S: Source, O: Sink>(
             return Err(Fault::ScriptTooLong);
         }
         let (front, _) = piece.split_at(n);
-        answer_piece(alloc, runner, line, front, out)?;
+        answer_at_once(alloc, runner, line, front, out)?;
         taken += n;
     }
 }

@@ -6,16 +6,20 @@ mod arguments;
 use arguments::{Task, command, task_of};
 use clap::Error;
 use clap::error::ErrorKind;
-use fits_cli::{End, Fault, LazyFile, Telling, run_edit, run_telling};
+use fits_cli::{End, Fault, SavedFile, Telling, run_edit, run_telling};
 use fits_stream::{FileSource, Watched};
 use std::alloc::AllocError;
 use std::fs::File;
 use std::io::BufWriter;
+use std::os::unix::fs::MetadataExt;
 use std::process::ExitCode;
 use std::rt::Files;
 use std::{env, fs, io};
 
 fn main(rt: HostRuntime) -> ExitCode {
+    // A stream that was closed when the program started: this takes its place, so that no file that
+    // is opened does. It can be neither read as a file nor written.
+    let _held = [fs::open(&rt, "/"), fs::open(&rt, "/"), fs::open(&rt, "/")];
     let args = match env::args(&rt) {
         Ok(args) => args,
         Err(error) => return ExitCode::from(unreadable(&rt, error)),
@@ -49,16 +53,44 @@ fn edit<R: Files<File = File> + Input + Print + AllocGlobal>(rt: &R, from: &str,
     let Ok(out) = BufWriter::new(rt.alloc(), io::writer(rt)) else {
         return End::from(Fault::Memory);
     };
-    let Ok(saved) = BufWriter::new(rt.alloc(), LazyFile::new(rt, to)) else {
+    let Ok(saved) = SavedFile::new(rt, to, mode_of(&file)) else {
         return End::from(Fault::Memory);
     };
-    run_edit(
+    let Ok(saved) = BufWriter::new(rt.alloc(), saved) else {
+        return End::from(Fault::Memory);
+    };
+    let mut saved = Watched::new(saved);
+    let end = run_edit(
         rt.alloc(),
         &mut source_of(file),
         &mut Watched::new(rt.reader()),
-        &mut Watched::new(saved),
+        &mut saved,
         &mut Watched::new(out),
-    )
+    );
+    kept(saved.into_inner(), end)
+}
+
+// The permissions of a file that is read: those of one that is made like it. Of a pipe or a device,
+// those of any new file.
+fn mode_of(file: &File) -> u32 {
+    match file.metadata() {
+        Ok(about) if about.is_file() => about.mode() & 0o777,
+        _ => 0o666,
+    }
+}
+
+// Keeps what was saved, where all was; else the file that was there before stays.
+fn kept<R: Files>(saved: BufWriter<SavedFile<'_, R>>, end: End) -> End {
+    if end.fault.is_some() {
+        return end;
+    }
+    let Ok(saved) = saved.into_inner() else {
+        return End::from(Fault::WriteFailed);
+    };
+    match saved.keep() {
+        Ok(()) => end,
+        Err(_) => End::from(Fault::WriteFailed),
+    }
 }
 
 // Runs `list`, `sum` or `verify` over the file at `from`.

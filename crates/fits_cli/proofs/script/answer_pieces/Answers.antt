@@ -56,14 +56,14 @@ returns-then-n-room-clause-err g c =
     c.args.runner.now c.loop-n.runner c.answer_piece.new.runner _ _ _ inv.read c.in-Ok.ensures.ok (omega (arith, inv.counted, inv.short)) (omega (arith, c.if-n-room.true, inv.counted)) (search rules)
     inv.has (rw (c.split_at.ensures.front, inv.counted) at c.in_ok-answer_piece.ensures.ok)
 
-pub returns-in_err-answer_piece-2-clause-err : goal.returns-in_err-answer_piece-2-clause-err
-returns-in_err-answer_piece-2-clause-err g c =
+pub returns-in_err-answer_at_once-clause-err : goal.returns-in_err-answer_at_once-clause-err
+returns-in_err-answer_at_once-clause-err g c =
     let inv = c.loop-n.invariant in
     let size : length (take c.in-Ok.n c.read.new.buffer) ≡ c.in-Ok.n = length-take-le c.in-Ok.n c.read.new.buffer (search rules) in
-    at_exit _ _ _ c.from_residual-in_err-answer_piece-2.ensures.1
+    at_exit _ _ _ c.from_residual-in_err-answer_at_once.ensures.1
     (ScriptStops-piece _ (g.S.Source.state c.loop-n.script) _ inv.came (take c.in-Ok.n c.read.new.buffer) c.loop-n.line.items c.args.runner.now c.loop-n.runner _ _ _
-    c.in_err-answer_piece-2.field-0.0 inv.read c.in-Ok.ensures.ok (omega (arith, c.if-n-room.false, inv.counted, inv.short, size))
-    inv.has (rw c.split_at-in-loop-n.ensures.front at c.in_err-answer_piece-2.ensures.err))
+    c.in_err-answer_at_once.field-0.0 inv.read c.in-Ok.ensures.ok (omega (arith, c.if-n-room.false, inv.counted, inv.short, size))
+    inv.has (rw c.split_at-in-loop-n.ensures.front at c.in_err-answer_at_once.ensures.err))
 
 pub loop-n-preserved : goal.loop-n-preserved
 loop-n-preserved g c =
@@ -73,9 +73,9 @@ loop-n-preserved g c =
       read = Reads-more _ _ _ _ _ inv.read c.in-Ok.ensures.ok;
       counted = omega (arith, inv.counted, length-append inv.came (take c.in-Ok.n c.read.new.buffer), length-take-le c.in-Ok.n c.read.new.buffer (search rules));
       short = omega (arith, c.if-n-room.false, inv.short);
-      has = (rw c.split_at-in-loop-n.ensures.front at c.in_ok-answer_piece-2.ensures.ok) inv.came c.args.runner.now _ inv.has;
-      numbered = omega (arith, c.in_ok-answer_piece-2.ensures.line, c.split_at-in-loop-n.ensures.front_len, inv.numbered);
+      has = (rw c.split_at-in-loop-n.ensures.front at c.in_ok-answer_at_once.ensures.ok) inv.came c.args.runner.now _ inv.has;
+      numbered = omega (arith, c.in_ok-answer_at_once.ensures.line, c.split_at-in-loop-n.ensures.front_len, inv.numbered);
       wide = omega (arith, inv.wide, c.read.auto.buffer);
-      room = c.in_ok-answer_piece-2.ensures.room;
-      within = c.in_ok-answer_piece-2.ensures.within;
+      room = c.in_ok-answer_at_once.ensures.room;
+      within = c.in_ok-answer_at_once.ensures.within;
     }
