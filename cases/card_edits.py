@@ -406,5 +406,5 @@ def cases():
 
 def answered(program, file, script, answers):
     """Where a script over a file isn't answered so."""
-    ran = program.edit(file, script.encode())
-    return differences(ran, status=int("refused" in answers), printed=answers.encode(), reported=b"")
+    ran = program.edit(file, script.encode("latin-1"))
+    return differences(ran, status=int("refused" in answers), printed=answers.encode("latin-1"), reported=b"")

@@ -1,6 +1,7 @@
 """Refused memory and failing calls: how a run ends then, and that what it printed and saved is a front of the whole.
 
 Each request of a run for memory is refused in turn, and each call of a stream fails in turn, in a run of its own."""
+import dataclasses
 import os
 import subprocess
 import tempfile
@@ -30,6 +31,19 @@ SHORTEST = (
     header(f"{MANDATORY}|COMMENT x|END"),
 )
 
+# The same of questions alone.
+QUESTIONS = (
+    header(P0),
+    "off\nsum 1\nrep\nstat 1",
+    "1 0 2880 2880\ndatasum 0 verdicts 0 0\nerrors 0 warnings 0\nline 4: refused 9 NotImage\n",
+    1,
+    header(P0),
+)
+
+# A string over three cards, and the first of them.
+LONG_STRING = f"{'a' * 66}''{'b' * 73}"
+LEAD = f"KEY     = '{'a' * 66}&'"
+
 # Other scripts: a header that grows by a block, values over cards, pixels, HDUs put in, stamped and taken out.
 SCRIPTS = [
     (
@@ -54,6 +68,33 @@ SCRIPTS = [
         "datasum 0 verdicts 1 1\ndefined 3 blank 0 min -7 max 7 sum 0\n0 7\n",
         0,
         header(THREE_PIXELS) + pixels(2, [0, 7, -7], 0) + b"tail",
+    ),
+]
+
+# A string over CONTINUE cards, which another card takes the lead of for a time; a new image of unsigned pixels.
+SCRIPTS += [
+    (
+        header(P0),
+        f"set 1 KEY '{LONG_STRING}'\nput 1 4 KEY     = 'x'\nrep\nput 1 4 {LEAD}\nrep",
+        "".join(f"W09 1 {k} CONTINUE without an open string\n" for k in (5, 6))
+        + "errors 0 warnings 2\nerrors 0 warnings 0\n",
+        0,
+        header(f"{MANDATORY}|{LEAD}|CONTINUE  '''{'b' * 65}&'|CONTINUE  'bbbbbbbb'|END"),
+    ),
+    (
+        header(P0),
+        "new 2 u16 3\noff\nstat 2\nwrite 2 1:3 0 65535 1\nstat 2\nrect 2 1:3\nsum 2\nwrite 2 1:3 0 1\nrm 1",
+        "1 0 2880 2880\n2 2880 5760 8640\ndefined 3 blank 0 min 32768 max 32768 sum 98304\n"
+        "defined 3 blank 0 min 0 max 65535 sum 65536\n0 65535 1\ndatasum 98304 verdicts 0 0\n"
+        "line 8: refused 11 WrongCount\nline 9: refused 13 PrimaryStays\n",
+        1,
+        header(P0)
+        + header(
+            "XTENSION= 'IMAGE   '|BITPIX  =                   16|NAXIS   =                    1|"
+            "NAXIS1  =                    3|PCOUNT  =                    0|GCOUNT  =                    1|"
+            "BSCALE  =                    1|BZERO   =                32768|END"
+        )
+        + pixels(2, [-32768, 32767, -32767], 0),
     ),
 ]
 
@@ -91,8 +132,13 @@ WRITE_FAILED = b"fitsed: write failed\n"
 NO_MEMORY = b"fitsed: no memory\n"
 FAULTS = {"script": READ_FAILED, "file": READ_FAILED, "answers": WRITE_FAILED, "saved": WRITE_FAILED}
 
-# A stream of the script over the shortest file that moves so many bytes, one a call, and then fails; and how many bytes
+# What stands at OUT before; over IN itself, where none.
+OLD = [b"what was there", None]
+
+# A stream of a script over the shortest file that moves so many bytes, one a call, and then fails; and how many bytes
 # are printed and how many saved.
+ASKED_STOPS = [("answers", 15, 15, 0), ("saved", 100, len(QUESTIONS[2]), 100)]
+
 STOPS = [
     # also where the file's bytes would be refused, or are whole
     *[("file", count, 0, 0) for count in (0, 1, 2879, 2880)],
@@ -107,7 +153,7 @@ STOPS = [
 
 def cases():
     shim = preloaded()
-    edits = [(["edit"], *run) for run in [SHORTEST, *SCRIPTS]]
+    edits = [(["edit"], *run) for run in [SHORTEST, QUESTIONS, *SCRIPTS]]
     texts = [(words, of, "", *wanted, None) for words, of, *wanted in TOLD]
     for words, of, script, *wanted in edits + texts:
         run = words, of, script, whole(*wanted)
@@ -121,17 +167,22 @@ def cases():
         yield f"{words} {script}, a byte a call", slow, shim, run
         for stream in ("answers", "saved") if words == ["edit"] else ("answers",):
             yield f"{words} {script}, {stream} that are stuck", stuck, shim, run, stream
-    for stop in STOPS:
-        yield stop, stopped, shim, *stop
+        if words == ["edit"]:
+            for old in OLD:
+                for step in (100, 4096):
+                    yield f"{script}, over {old or 'IN'}, {step}", over, shim, run, old, step
+    for run, stops in ((SHORTEST, STOPS), (QUESTIONS, ASKED_STOPS)):
+        for stop in stops:
+            yield f"{run[1]}, {stop}", stopped, shim, run, *stop
 
 
 def whole(printed, status, saved):
     """What a run comes to that meets no fault."""
-    return {"status": status, "printed": printed.encode(), "reported": b"", "saved": saved}
+    return {"status": status, "printed": printed.encode("latin-1"), "reported": b"", "saved": saved}
 
 
 def run_of(program, words, of, script):
-    return program.edit(of, script.encode()) if words == ["edit"] else program.tell(words, of)
+    return program.edit(of, script.encode("latin-1")) if words == ["edit"] else program.tell(words, of)
 
 
 def each_fails(program, shim, run, fault, met, row):
@@ -154,7 +205,7 @@ def each_fails(program, shim, run, fault, met, row):
 def counted(ran):
     """A run, and the number that went to its standard error last."""
     *reported, count = ran.reported.splitlines(keepends=True)
-    return type(ran)(ran.status, ran.printed, b"".join(reported), ran.saved), int(count)
+    return dataclasses.replace(ran, reported=b"".join(reported)), int(count)
 
 
 def fronts(ran, fault, wanted, stream):
@@ -169,6 +220,22 @@ def fronts(ran, fault, wanted, stream):
             yield f"it saves {shown(ran.saved)}"
 
 
+def over(program, shim, run, old, step):
+    """Where what stands at OUT isn't kept by a run whose first, second .. call of saving fails, up to the first that
+    fails none, which has to be whole; or where another file is left beside it."""
+    _, of, script, wanted = run
+    for k in range(1, 100_000):
+        row = {"STREAM": "saved", "STEP": str(step), "FAIL": str(k), "COUNTED": "1"}
+        ran, count = counted(program.under(LD_PRELOAD=shim, **row).edit_over(of, script.encode("latin-1"), old))
+        ends = {**wanted, "left": frozenset()}
+        if count >= k:
+            ends |= {"status": 3, "reported": WRITE_FAILED, "saved": of if old is None else old}
+        for line in differences(ran, **ends):
+            yield f"the fault at {k}: {line}"
+        if count < k:
+            break
+
+
 def slow(program, shim, run):
     """Where a run comes to something else whose calls move a byte each."""
     *of_run, wanted = run
@@ -181,9 +248,9 @@ def stuck(program, shim, run, stream):
     return fronts(run_of(program.under(LD_PRELOAD=shim, STREAM=stream, STEP="0"), *of_run), WRITE_FAILED, wanted, stream)
 
 
-def stopped(program, shim, stream, count, printed, saved):
-    """Where the script over the shortest file prints or saves another number of bytes, or what is no front."""
-    of, script, *wanted = SHORTEST
+def stopped(program, shim, run, stream, count, printed, saved):
+    """Where a script prints or saves another number of bytes, or what is no front."""
+    of, script, *wanted = run
     row = {"STREAM": stream, "STEP": "1", "STOP": str(count + 1)}
     ran = run_of(program.under(LD_PRELOAD=shim, **row), ["edit"], of, script)
     yield from fronts(ran, FAULTS[stream], whole(*wanted), stream)

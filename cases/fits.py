@@ -1,7 +1,7 @@
 """Cards, headers and files, built of texts.
 
-The cards of a header are one text, END among them, separated by `|`. An HDU is its cards and how many blocks of data it
-has; a file is its HDUs and the text after the last."""
+The cards of a header are one text, END among them, separated by `|`; a character up to 255 is a byte. An HDU is its
+cards and how many blocks of data it has; a file is its HDUs and the text after the last."""
 
 CARD_LEN = 80
 BLOCK_LEN = 2880
@@ -28,7 +28,7 @@ COMMENTS = "|".join(["COMMENT"] * 32)
 
 def cards(text):
     """Cards, each with spaces to its end. A text of one space is a card of spaces."""
-    return b"".join(card + b" " * (-len(card) % CARD_LEN) for card in text.encode().split(b"|"))
+    return b"".join(card + b" " * (-len(card) % CARD_LEN) for card in text.encode("latin-1").split(b"|"))
 
 
 def header(*texts):
@@ -47,6 +47,11 @@ def zeros(blocks):
     return bytes(BLOCK_LEN * blocks)
 
 
+def changed(what, places):
+    """Bytes with others at some places, which count from 1."""
+    return bytes(places.get(place, byte) for place, byte in enumerate(what, 1))
+
+
 def pixels(width, numbers, last):
     """Pixels of so many bytes, and zeros to the end of a block, but for its last byte."""
     front = b"".join((number % 256**width).to_bytes(width, "big") for number in numbers)
@@ -57,10 +62,10 @@ def pixels(width, numbers, last):
 def file(text, data_of=data):
     """The bytes of a file."""
     hdus, tail = text
-    return b"".join(header(texts) + data_of(blocks) for texts, blocks in hdus) + tail.encode()
+    return b"".join(header(texts) + data_of(blocks) for texts, blocks in hdus) + tail.encode("latin-1")
 
 
 def pixel_file(text):
     """The bytes of a file whose HDUs have pixels in place of blocks."""
     hdus, tail = text
-    return b"".join(header(texts) + pixels(*of) for texts, of in hdus) + tail.encode()
+    return b"".join(header(texts) + pixels(*of) for texts, of in hdus) + tail.encode("latin-1")

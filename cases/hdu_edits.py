@@ -430,9 +430,9 @@ def offsets(hdus):
 
 def many_axes(program, line, answers):
     """Where a new image of many axes isn't answered so, or what is saved has other offsets."""
-    ran = program.edit(header(P0), f"{line}\noff".encode())
+    ran = program.edit(header(P0), f"{line}\noff".encode("latin-1"))
     refused = int(answers.startswith("line 1: refused"))
-    yield from differences(ran, status=refused, printed=answers.encode(), reported=b"")
+    yield from differences(ran, status=refused, printed=answers.encode("latin-1"), reported=b"")
     again = program.edit(ran.saved, b"off").printed
     if not ran.printed.endswith(again):
         yield f"what is saved has other offsets: {again}"

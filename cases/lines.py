@@ -64,7 +64,7 @@ LINES = [
     ("get 0 DATE-OBS", "get 0 DATE-OBS"),
     ("get 000000000000000012 1", "get 12 1"),
     ("get 999999999999999999 get", "get 999999999999999999 get"),
-    ("get 1 #=/'\t\xff\x00", "get 1 #=/'\t\xff\x00"),
+    ("get 1 #=/'\t\xc3\xbf\x00", "get 1 #=/'\t\xc3\xbf\x00"),
     ("get 1 KEY\r", "get 1 KEY\r"),
     # no command
     ("off ", None),
@@ -369,17 +369,17 @@ def cases():
 
 def says(program, about, line, plain):
     """Where a line is a command and shouldn't be, or comes to something else than its plainest form."""
-    ran, after = program.edit(about, f"{line}\nfrob".encode()), b"line 2: not a command\n"
+    ran, after = program.edit(about, f"{line}\nfrob".encode("latin-1")), b"line 2: not a command\n"
     if plain is None:
         return differences(ran, status=1, printed=b"line 1: not a command\n" + after, reported=b"", saved=about)
     if b"line 1: not a command" in ran.printed or not ran.printed.endswith(after):
         return [f"it is not the command {shown(plain)}"]
-    return differences(ran, **vars(program.edit(about, f"{plain}\nfrob".encode())))
+    return differences(ran, **vars(program.edit(about, f"{plain}\nfrob".encode("latin-1"))))
 
 
 def long_script(program, file, parts, answers, fault):
     """Where a long script isn't answered so, ends by another fault, or saves a file in spite of one."""
-    pieces = itertools.chain(*(itertools.repeat(text.encode(), times) for text, times in parts))
+    pieces = itertools.chain(*(itertools.repeat(text.encode("latin-1"), times) for text, times in parts))
     ran = program.edit_by(file, pieces)
     status, saved = (2, None) if fault else (0, file)
-    return differences(ran, status=status, printed=answers.encode(), reported=fault.encode(), saved=saved)
+    return differences(ran, status=status, printed=answers.encode("latin-1"), reported=fault.encode("latin-1"), saved=saved)

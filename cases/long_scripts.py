@@ -78,7 +78,7 @@ def as_saved(program, before, lines, refused):
     for k, answer in enumerate(answers_after(asked.printed.decode(), len(lines))):
         ran = program.edit(before, script_of(lines[: k + 1]))
         fresh = program.edit(ran.saved, script_of(QUERIES))
-        yield from differences(fresh, printed=answer.encode(), reported=b"")
+        yield from differences(fresh, printed=answer.encode("latin-1"), reported=b"")
     yield from differences(asked, saved=ran.saved, reported=b"")
     if ran.printed.count(b"\n") > refused:
         yield f"refused: {shown(ran.printed)}"
@@ -86,7 +86,7 @@ def as_saved(program, before, lines, refused):
 
 def script_of(lines):
     """The bytes of a script."""
-    return "\n".join(lines).encode()
+    return "\n".join(lines).encode("latin-1")
 
 
 def answers_after(printed, count):

@@ -1,5 +1,5 @@
 """Files that open, as what, and those that don't."""
-from fits import P0, PIXEL, THREE_PIXELS, data, file, header
+from fits import P0, PIXEL, THREE_PIXELS, changed, data, file, header
 from program import closed, differences, edited, shown
 
 # A file, and its HDUs' offsets.
@@ -107,6 +107,17 @@ FRONTS = [
         "O4 ShortData hdu 1",
     ),
 ]
+
+# A byte of the shortest file, what it becomes, and what is reported then.
+CHANGED = [
+    (1, 0, "O1 NotFits"),
+    (100, 255, "O3 BadShape hdu 1 card 2"),
+    (200, 255, "O3 BadShape hdu 1 card 3"),
+    (241, 255, "O2 NoEnd hdu 1"),
+]
+
+# The longest axes of the most that a header may have.
+ALL_AXES = "|".join(f"NAXIS{k}".ljust(8) + "= 9223372036854775807" for k in range(1, 1000))
 
 # Cards, how many blocks of data follow, and the class of the HDU that has these cards and all these blocks.
 HDUS = [
@@ -403,6 +414,10 @@ def cases():
     for whole, least, most, fault in FRONTS:
         for length in sorted({*range(least, most, 97), most}):
             yield f"{fault} in {length} bytes", closed, file(whole)[:length], fault
+    for place, byte, fault in CHANGED:
+        yield f"{byte} as byte {place}", closed, changed(header(P0), {place: byte}), fault
+    of_all_axes = f"SIMPLE  = T|BITPIX  = 64|NAXIS   = 999|{ALL_AXES}|END"
+    yield "999 axes", closed, header(of_all_axes), "O4 ShortData hdu 1"
     for texts, place in BROKEN:
         before = [] if texts.startswith("SIMPLE") else [(P0, 0)]
         fault = f"O3 BadShape hdu {len(before) + 1} card {place}"

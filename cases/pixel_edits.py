@@ -491,7 +491,7 @@ def cases():
 
 def saved_with(program, before, script, answers, status, data):
     """Where a script isn't answered so, or what is saved doesn't end with these data."""
-    ran = program.edit(before, script.encode())
-    yield from differences(ran, status=status, printed=answers.encode(), reported=b"")
+    ran = program.edit(before, script.encode("latin-1"))
+    yield from differences(ran, status=status, printed=answers.encode("latin-1"), reported=b"")
     if not ran.saved.endswith(data):
         yield f"it saves other data: {ran.saved[-len(data):]}"

@@ -61,7 +61,7 @@ def scanned(program, width, count, number, fill, blank):
     is_filled = fill == 0 or len(unit) == count * width
     report = "errors 0 warnings 0\n" if is_filled else "E22 1 0 bad data fill\nerrors 1 warnings 0\n"
     wanted = f"{statistics(pixels, blank)}datasum {datasum(unit)} verdicts 0 0\n{report}"
-    yield from differences(ran, status=0, printed=wanted.encode(), reported=b"")
+    yield from differences(ran, status=0, printed=wanted.encode("latin-1"), reported=b"")
 
 
 def drawn(program, width, axes, low, high):
@@ -86,9 +86,9 @@ def drawn(program, width, axes, low, high):
         unit = b"".join(stored(number, width) for number in pixels).ljust(unit_len, b"\0")
         answers += f"{statistics(pixels, None)}datasum {datasum(unit)} verdicts 0 0\n"
     script += f"fill 1 {rectangle} 7\nstat 1\nsum 1"
-    ran = program.edit(before, script.encode())
+    ran = program.edit(before, script.encode("latin-1"))
     after = before[: len(before) - unit_len] + unit
-    yield from differences(ran, status=0, printed=answers.encode(), reported=b"", saved=after)
+    yield from differences(ran, status=0, printed=answers.encode("latin-1"), reported=b"", saved=after)
 
 
 def cards(width, axes, blank):

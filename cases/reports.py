@@ -1,6 +1,6 @@
 """Reports, under edits and of files as they pass by."""
-from fits import P0, PIXEL, THREE_PIXELS, file, zeros
-from program import differences, shown, told
+from fits import MANDATORY, P0, PIXEL, THREE_PIXELS, changed, file, header, zeros
+from program import differences, edited, shown, told
 
 # How much of a report is printed.
 ALL = ["verify"]
@@ -357,9 +357,39 @@ VERIFIED = [
     (([(P0, 0)], "x"), QUIET, "errors 0 warnings 1\n", 0),
 ]
 
+# Bytes of the shortest file, what they become, a script, its answers, the status, and what is saved.
+BYTES = [
+    # the first new card makes the fill spaces, and leaves END as it is
+    (
+        {250: ord("x"), 2880: ord("x")},
+        "rep\nins 1 4 COMMENT\nrep",
+        "E14 1 0 END card not blank\nE15 1 0 header fill not spaces\nerrors 2 warnings 0\n"
+        "E14 1 0 END card not blank\nerrors 1 warnings 0\n",
+        0,
+        header(f"{MANDATORY}|COMMENT|END      x"),
+    ),
+    (
+        {40: 255},
+        "rep",
+        "E01 1 1 byte outside ASCII text\nE06 1 1 mandatory card not in fixed format\nerrors 2 warnings 0\n",
+        0,
+        changed(header(P0), {40: 255}),
+    ),
+    # saved as it was, and a line is refused
+    (
+        {},
+        "off\nsum 1\nrep\nstat 1",
+        "1 0 2880 2880\ndatasum 0 verdicts 0 0\nerrors 0 warnings 0\nline 4: refused 9 NotImage\n",
+        1,
+        header(P0),
+    ),
+]
 
 
 def cases():
+    for places, script, answers, status, saved in BYTES:
+        yield f"{places}: {script}", edited, changed(header(P0), places), script, answers, status, saved
+    yield "255 as byte 40", told, QUIET, changed(header(P0), {40: 255}), "errors 2 warnings 0\n", 1
     for before, script, answers, status in SCRIPTS + NAMES:
         yield script, reported, file(before, zeros), script, answers, status
     for text, words, report, status in VERIFIED:
@@ -368,8 +398,8 @@ def cases():
 
 def reported(program, before, script, answers, status):
     """Where a script isn't answered so, or what is saved has another report in a new session, or as it passes by."""
-    ran = program.edit(before, script.encode())
-    yield from differences(ran, status=status, printed=answers.encode(), reported=b"")
+    ran = program.edit(before, script.encode("latin-1"))
+    yield from differences(ran, status=status, printed=answers.encode("latin-1"), reported=b"")
     fresh = program.edit(ran.saved, b"rep").printed
     if script.endswith("rep") and not ran.printed.endswith(fresh):
         yield f"what is saved has the report {shown(fresh)}"

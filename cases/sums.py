@@ -104,6 +104,6 @@ def cases():
 
 def summed(program, before, script, lines):
     """Where what a script saves has other sums."""
-    ran = program.edit(before, script.encode())
+    ran = program.edit(before, script.encode("latin-1"))
     yield from differences(ran, status=0, reported=b"")
     yield from told(program, ["sum"], ran.saved, lines)

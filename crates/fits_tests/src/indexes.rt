@@ -4,7 +4,7 @@ use crate::builders::{P0, hdu_of, header_of, name_of};
 use crate::checks::{holds, same};
 use fits_card::Name;
 use fits_codes::Code;
-use fits_header::{Header, KeyIndex};
+use fits_header::{Counts, Header, KeyIndex};
 use fits_rules::shape;
 use fits_session::{Refusal, Session};
 use std::alloc::Global;
@@ -132,6 +132,42 @@ fn check_card<R: Abort>(
         let codes = header.codes(index + 1);
         let found = codes.as_slice().first().map(|code| code.label());
         same!(rt; found, code.map(Code::label), index);
+    }
+}
+
+/// The header that has these cards, if there is memory for it.
+#[tactic(auto, using(fits_rules::proofs::LawLemmas::laws))]
+fn opened_if_any(alloc: Global, cards: &str) -> Option<Header> {
+    let Ok(mut list) = header_of(alloc, cards) else {
+        return None;
+    };
+    let Ok(found) = shape(alloc, &mut list, cards.starts_with("SIMPLE")) else {
+        return None;
+    };
+    Header::open(alloc, list, found).ok()
+}
+
+// Whether a header is as it was opened.
+#[tactic(auto, using(fits_header::proofs::TotalLemmas::header_steps))]
+fn check_judged<R: Abort>(rt: &R, header: &mut Header) {
+    for (index, (is_link, code)) in CARD_CODES.iter().enumerate() {
+        check_card(rt, header, index, *is_link, *code);
+    }
+    same!(rt; header.lead(&name_of("KEY     ")), Some(4));
+    let is_judged = header.len() == CARD_CODES.len();
+    holds!(rt; is_judged);
+    same!(rt; header.counts(), Counts { errors: 0, warnings: 3 });
+    same!(rt; header.total(), 402_558_622_878);
+}
+
+#[test]
+fn refused_memory_at_the_room_of_a_header(rt: HostRuntime) {
+    let Some(mut header) = opened_if_any(rt.alloc(), JUDGED) else {
+        return;
+    };
+    for additional in [1usize, 40, 1000] {
+        let _ = header.reserve(additional);
+        check_judged(&rt, &mut header);
     }
 }
 

@@ -6,7 +6,11 @@ mod builders;
 #[cfg(test)]
 mod cards;
 #[cfg(test)]
+mod changed_bytes;
+#[cfg(test)]
 mod checks;
+#[cfg(test)]
+mod comparing;
 #[cfg(test)]
 mod files;
 #[cfg(test)]

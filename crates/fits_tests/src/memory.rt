@@ -7,8 +7,10 @@ use crate::builders::{
     COMMENTS, FileText, P0, PIXEL, add_cards, end_header, file_of, hdu_of, name_of, zeroed_file_of,
 };
 use crate::checks::{holds, same};
-use crate::files::{refusal_of, saved};
+use crate::comparing::same_answers;
+use crate::files::refusal_of;
 use fits_cli::{Command, LineFault, parse_line};
+use fits_hdu::{Hdu, HduFault};
 use fits_session::{Edit, OpenFault, Refusal, Session};
 use std::alloc::{AllocError, Global};
 use std::process::Abort;
@@ -25,37 +27,6 @@ fn full_file(alloc: Global, more: &str) -> Result<Vec<u8>, AllocError> {
     Ok(bytes)
 }
 
-// Whether two files give the same answers. Err: the memory for a comparison was refused.
-fn same_answers<R: Abort + AllocGlobal>(
-    rt: &R,
-    one: &mut Session,
-    other: &mut Session,
-) -> Result<(), AllocError> {
-    same!(rt; one.hdus(), other.hdus());
-    for h in 0..one.hdus().wrapping_add(2) {
-        same_hdus(rt, one, other, h);
-    }
-    same!(rt; one.counts(), other.counts());
-    let (Ok(offsets), Ok(report)) = (one.offsets(), one.report()) else {
-        return Err(AllocError);
-    };
-    holds!(rt; offsets == other.offsets()?);
-    holds!(rt; report == other.report()?);
-    let bytes = saved(rt.alloc(), one)?;
-    holds!(rt; bytes == saved(rt.alloc(), other)?);
-    Ok(())
-}
-
-// Whether an HDU of both is as long, of one kind, and has the same sums.
-fn same_hdus<R: Abort>(rt: &R, one: &mut Session, other: &mut Session, h: usize) {
-    same!(rt; one.card_count(h), other.card_count(h), h);
-    same!(rt; one.kind(h), other.kind(h), h);
-    same!(rt; one.stats(h), other.stats(h), h);
-    same!(rt; one.datasum(h), other.datasum(h), h);
-    same!(rt; one.verdicts(h), other.verdicts(h), h);
-    same!(rt; one.shape(h).is_ok(), other.shape(h).is_ok(), h);
-}
-
 #[test]
 fn refused_memory_at_opening(rt: HostRuntime) {
     let Ok(bytes) = full_file(rt.alloc(), "END") else {
@@ -69,6 +40,23 @@ fn refused_memory_at_opening(rt: HostRuntime) {
         // what begins otherwise is no file, whatever memory there is
         let why = Session::open(rt.alloc(), b"SIMPLE").err();
         same!(rt; why, Some(OpenFault::NotFits));
+    }
+}
+
+#[test]
+fn refused_memory_at_an_hdu(rt: HostRuntime) {
+    let Ok(bytes) = hdu_of(rt.alloc(), PIXEL, 1) else {
+        return;
+    };
+    for _ in 0..2 {
+        match Hdu::open(rt.alloc(), &bytes, false) {
+            Ok((hdu, len)) => same!(rt; (hdu.card_count(), len), (6, 5760)),
+            Err(why) => same!(rt; why, HduFault::Memory),
+        }
+        // what has no END is found before any memory is asked for
+        let (front, _) = bytes.split_at(400);
+        let why = Hdu::open(rt.alloc(), front, false).err();
+        same!(rt; why, Some(HduFault::NoEnd));
     }
 }
 
@@ -93,6 +81,27 @@ const EDITS: &[EditText<'static>] = &[
         "A|NEW     =                    7|END",
         None,
     ),
+    // a string over CONTINUE cards
+    (
+        "set 2 KEY '0123456789012345678901234567890123456789012345678901234567890123456789012345678901234567890123456789' / c",
+        "A|END",
+        "A|KEY     = '0123456789012345678901234567890123456789012345678901234567890123456&'|\
+        CONTINUE  '789012345678901234567890123456789' / c|END",
+        None,
+    ),
+    // an extension that wasn't called anything is, and one is called as another
+    (
+        "set 2 EXTNAME 'B'",
+        "A|END",
+        "A|EXTNAME = 'B       '|END",
+        None,
+    ),
+    (
+        "set 2 EXTNAME 'LAST'",
+        "EXTNAME = 'B'|END",
+        "EXTNAME = 'LAST    '|END",
+        None,
+    ),
     (
         "unset 2 KEY",
         "A|KEY     = 'a&'|CONTINUE  'b'|B|END",
@@ -110,7 +119,7 @@ const EDITS: &[EditText<'static>] = &[
     ("del 2 4", "A|END", "A|END", Some(Refusal::Shape)),
 ];
 
-// A file of two HDUs, the second with these cards after its mandatory ones, and a tail.
+// A file of three HDUs, the second with these cards after its mandatory ones, the last with a name, and a tail.
 fn edited_file(alloc: Global, cards: &str) -> Result<Vec<u8>, AllocError> {
     let mut bytes = hdu_of(alloc, P0, 0)?;
     add_cards(
@@ -118,6 +127,11 @@ fn edited_file(alloc: Global, cards: &str) -> Result<Vec<u8>, AllocError> {
         "XTENSION= 'IMAGE   '|BITPIX  = 16|NAXIS   = 1|NAXIS1  = 0",
     )?;
     add_cards(&mut bytes, cards)?;
+    end_header(&mut bytes)?;
+    add_cards(
+        &mut bytes,
+        "XTENSION= 'IMAGE   '|BITPIX  = 8|NAXIS   = 0|EXTNAME = 'LAST'|END",
+    )?;
     end_header(&mut bytes)?;
     bytes.extend_from_slice(b"tail")?;
     Ok(bytes)
@@ -227,6 +241,10 @@ const HDU_EDITS: &[HduEditText<'static>] = &[
     ("rm 2", THREE, Ok((&[(P0, 0), (NEW_U8, 0)], "")), false),
     ("rm 1", TWO, Err(Refusal::PrimaryStays), false),
     ("rm 3", TWO, Err(Refusal::NoHdu), false),
+    // nor do edits of pixels
+    ("fill 2 1:1 0", TWO, Ok(TWO), false),
+    ("write 2 1:1 0", TWO, Ok(TWO), false),
+    ("write 2 1:1 32768", THREE, Err(Refusal::Range), false),
 ];
 
 // Makes an edit of HDUs. Err: the memory for a file or a comparison was refused.
@@ -262,6 +280,12 @@ const LINES: &[(&str, Option<LineFault>, bool)] = &[
     ("new 2 u8 3,", Some(LineFault::Bad), false),
     ("new 2 f32 3", Some(LineFault::Bad), false),
     ("new 2 u8 -", None, false),
+    ("fill 2 1:2 7", None, true),
+    ("write 2 1:2 7 -7", None, true),
+    ("rect 2 1:2", None, true),
+    ("fill 2 1:2 x", Some(LineFault::Bad), false),
+    ("write 2 1:2 7 x", Some(LineFault::Bad), false),
+    ("rect 2 1:2,x", Some(LineFault::Bad), false),
 ];
 
 #[test]
@@ -292,5 +316,17 @@ fn ask<R: Abort>(rt: &R, session: &mut Session) {
     holds!(rt; matches!(why, None | Some(Refusal::Memory)));
     let why = session.value(2, &name_of("ABSENT")).err();
     same!(rt; why, Some(Refusal::NoKey));
+    let why = session.positions(2, &name_of("XTENSION")).err();
+    holds!(rt; matches!(why, None | Some(Refusal::Memory)));
+    // a name that isn't there has no places, whatever memory there is
+    let places = session.positions(2, &name_of("ABSENT"));
+    holds!(rt; matches!(places, Ok(none) if none.is_empty()));
+    let why = session.names(2).err();
+    holds!(rt; matches!(why, None | Some(Refusal::Memory)));
+    let why = session.rect(2, &[1], &[1]).err();
+    holds!(rt; matches!(why, None | Some(Refusal::Memory)));
+    let why = session.rect(2, &[2], &[1]).err();
+    same!(rt; why, Some(Refusal::BadRect));
     let _ = session.offsets();
+    let _ = session.report();
 }

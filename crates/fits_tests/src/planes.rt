@@ -34,6 +34,18 @@ fn trees_join_their_leaves(rt: HostRuntime) -> Result<(), Fail> {
     Ok(())
 }
 
+#[test]
+fn refused_memory_at_a_tree(rt: HostRuntime) {
+    for _ in 0..2 {
+        let Ok(leaves) = vec![in rt.alloc(); words(1), words(20), words(300)] else {
+            return;
+        };
+        if let Ok(tree) = Tree::open(rt.alloc(), leaves) {
+            same!(rt; tree.root().total, 321);
+        }
+    }
+}
+
 /// Pixels of 16 bits, in two blocks.
 const PIXELS: Layout = Layout {
     width: 2,

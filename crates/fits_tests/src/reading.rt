@@ -1,6 +1,7 @@
 //! Files that come from a source: they open as their bytes do, however the source gives them.
 
 use crate::builders::{FileText, P0, PIXEL, file_of};
+use crate::changed_bytes::change;
 use crate::checks::same;
 use crate::planned::{Plan, SMOOTH, reader, stored};
 use fits_session::{OpenFault, ReadFileFault, Session, read_outlines, read_sums};
@@ -10,7 +11,25 @@ use std::test::Fail;
 /// A file of three HDUs and a tail.
 const FILE: FileText<'static> = (&[(P0, 0), (PIXEL, 1), (PIXEL, 1)], "trailer");
 
-/// The fault of each prefix of it, from a length through another.
+/// An array of three pixels of 16 bits.
+const PIXELS: FileText<'static> = (
+    &[(
+        "SIMPLE  =                    T|BITPIX  =                   16|NAXIS   =                    1|\
+        NAXIS1  =                    3|END",
+        1,
+    )],
+    "",
+);
+
+/// The fault of each prefix of it.
+const PIXEL_PREFIXES: &[(usize, usize, Option<OpenFault>)] = &[
+    (0, 7, Some(OpenFault::NotFits)),
+    (8, 2879, Some(OpenFault::NoEnd { hdu: 1 })),
+    (2880, 5759, Some(OpenFault::ShortData { hdu: 1 })),
+    (5760, 5760, None),
+];
+
+/// The fault of each prefix of the file of three HDUs, from a length through another.
 const PREFIXES: &[(usize, usize, Option<OpenFault>)] = &[
     (0, 7, Some(OpenFault::NotFits)),
     (8, 2879, Some(OpenFault::NoEnd { hdu: 1 })),
@@ -39,11 +58,13 @@ fn reads_to<R: Abort + AllocGlobal>(
 
 #[test]
 fn each_prefix_of_a_file_has_its_fault(rt: HostRuntime) -> Result<(), Fail> {
-    let bytes = file_of(rt.alloc(), FILE)?;
-    for (least, most, fault) in PREFIXES {
-        for len in *least..=*most {
-            let (front, _) = bytes.split_at(len.min(bytes.len()));
-            reads_to(&rt, front, SMOOTH, fault.map(ReadFileFault::Open), len);
+    for (file, prefixes) in [(FILE, PREFIXES), (PIXELS, PIXEL_PREFIXES)] {
+        let bytes = file_of(rt.alloc(), file)?;
+        for (least, most, fault) in prefixes {
+            for len in *least..=*most {
+                let (front, _) = bytes.split_at(len.min(bytes.len()));
+                reads_to(&rt, front, SMOOTH, fault.map(ReadFileFault::Open), len);
+            }
         }
     }
     Ok(())
@@ -95,18 +116,6 @@ fn a_changed_byte_of_a_header_reads_as_it_opens(rt: HostRuntime) -> Result<(), F
         }
     }
     Ok(())
-}
-
-// Puts a byte at a place, and gives the one that stood there.
-fn change(bytes: &mut [u8], place: usize, byte: u8) -> u8 {
-    match bytes.get_mut(place) {
-        Some(here) => {
-            let before = *here;
-            *here = byte;
-            before
-        }
-        None => 0,
-    }
 }
 
 #[test]

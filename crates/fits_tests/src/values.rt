@@ -45,7 +45,7 @@ fn add_value(line: &mut Vec<u8>, value: &Value) -> Result<(), AllocError> {
 }
 
 /// What was read, as a line: `none`, or a value and ` /` before a comment.
-fn line_of(alloc: Global, said: &Option<(Value, Option<Text>)>) -> Result<Vec<u8>, AllocError> {
+pub fn line_of(alloc: Global, said: &Option<(Value, Option<Text>)>) -> Result<Vec<u8>, AllocError> {
     let mut line = Vec::new(alloc);
     let Some((value, comment)) = said else {
         line.extend_from_slice(b"none")?;
