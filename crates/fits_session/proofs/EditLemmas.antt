@@ -221,7 +221,7 @@ unrenamed Stamp old new never whole was is made = cc
 unrenamed (Pixels lo hi paint) old new never whole was is made =
     name_same old new was is (ap (λ (header : Header). header.cards) (pixels_keep (is_primary old.header.shape.class) old.header.shape (parts_of old) (parts_of new) lo hi paint whole was made))
 
-module _ (hdus : List HduState) (tail : List ℕ) (h i : ℕ) (edit : HduEdit) (bytes count : ℕ) (es : List (ExtensionName × ℕ)) (capacity : ℕ) (old new : HduState) (kept : IsKept hdus tail bytes es capacity) where
+module _ (hdus : List HduState) (tail : List ℕ) (h i : ℕ) (edit : HduEdit) (bytes count : ℕ) (es : List (ExtensionName × ℕ)) (room : ℕ) (old new : HduState) (kept : IsKept hdus tail bytes es room) where
   -- the cards of the one that was edited described its shape
   was_described : (result : Result ℕ Refusal) → IsEdited hdus tail h i edit bytes count old new result → IsDescribed old
   was_described result p = subst IsDescribed (sym p.at.is) (kept.described i old p.at.index.within)
@@ -231,7 +231,7 @@ module _ (hdus : List HduState) (tail : List ℕ) (h i : ℕ) (edit : HduEdit) (
   all_described result p = All-set IsDescribed hdus i new p.edits.described kept.described
 
   -- what a session keeps where an edit is refused
-  pub kept_refused : (why : Refusal) → IsEdited hdus tail h i edit bytes count old new (Err why) → IsKept (set hdus i new) tail bytes es capacity
+  pub kept_refused : (why : Refusal) → IsEdited hdus tail h i edit bytes count old new (Err why) → IsKept (set hdus i new) tail bytes es room
   kept_refused why p =
       let left = file_refused_is hdus tail h i edit bytes count old new why p in
       let called = name_same old new (was_described (Err why) p) p.edits.described (ap (λ (hdu : HduParts). hdu.header.cards) p.edits.err) in
@@ -240,11 +240,11 @@ module _ (hdus : List HduState) (tail : List ℕ) (h i : ℕ) (edit : HduEdit) (
         len = left.1;
         described = all_described (Err why) p;
         names = stands_same hdus i old new es p.at.index.within p.at.is called p.edits.entry kept.names;
-        room = omega (arith, kept.room, length-set hdus i new);
+        roomy = omega (arith, kept.roomy, length-set hdus i new);
       }
 
   -- and where it is made, and no HDU is called otherwise
-  pub kept_unrenamed : (n : ℕ) → may_rename edit ≡ false → IsEdited hdus tail h i edit bytes count old new (Ok n) → IsKept (set hdus i new) tail n es capacity
+  pub kept_unrenamed : (n : ℕ) → may_rename edit ≡ false → IsEdited hdus tail h i edit bytes count old new (Ok n) → IsKept (set hdus i new) tail n es room
   kept_unrenamed n never p =
       let left = file_made_is hdus tail h i edit bytes count n old new p in
       let called = unrenamed edit old new never p.edits.whole (was_described (Ok n) p) p.edits.described p.edits.ok in
@@ -253,7 +253,7 @@ module _ (hdus : List HduState) (tail : List ℕ) (h i : ℕ) (edit : HduEdit) (
         len = left.1;
         described = all_described (Ok n) p;
         names = stands_same hdus i old new es p.at.index.within p.at.is called p.edits.entry kept.names;
-        room = omega (arith, kept.room, length-set hdus i new);
+        roomy = omega (arith, kept.roomy, length-set hdus i new);
       }
 
   -- the table stood for them before
@@ -265,8 +265,8 @@ module _ (hdus : List HduState) (tail : List ℕ) (h i : ℕ) (edit : HduEdit) (
   }
 
   -- and where one may be
-  pub kept_followed : (n most more : ℕ) (left : List HduState) (fs : List (ExtensionName × ℕ)) → IsEdited hdus tail h i edit bytes count old new (Ok n) → IsFollowed (set hdus i new) left h most → (All IsDescribed (set hdus i new) → All IsDescribed left) → Stands left fs → capacity ≤ more → IsKept left tail n fs more
-  kept_followed n most more left fs p follows describes stands room =
+  pub kept_followed : (n most more : ℕ) (left : List HduState) (fs : List (ExtensionName × ℕ)) → IsEdited hdus tail h i edit bytes count old new (Ok n) → IsFollowed (set hdus i new) left h most → (All IsDescribed (set hdus i new) → All IsDescribed left) → Stands left fs → more ≡ room → IsKept left tail n fs more
+  kept_followed n most more left fs p follows describes stands still =
       let is = file_made_is hdus tail h i edit bytes count n old new p in
       let same = ap (λ (us : List HduParts). let file : FileParts = record { hdus = us; tail = tail } in file) follows.hdus in
       record {
@@ -274,5 +274,5 @@ module _ (hdus : List HduState) (tail : List ℕ) (h i : ℕ) (edit : HduEdit) (
         len = is.1 ∙ ap (λ (f : FileParts). length (file_bytes f)) (sym same);
         described = describes (all_described (Ok n) p);
         names = stands;
-        room = omega (arith, room, kept.room, ap length follows.hdus, length-hdus_of left, length-hdus_of (set hdus i new), length-set hdus i new);
+        roomy = omega (arith, still, kept.roomy, ap length follows.hdus, length-hdus_of left, length-hdus_of (set hdus i new), length-set hdus i new);
       }

@@ -1,5 +1,5 @@
 -- What a session keeps, where counts grow and entries move.
-use Rattle.std.proofs.Common.{◌≡◌, ℕ, ◌≤◌, List, [], ◌∷◌, length, map, get_or, set, refl, ap, sym, subst, ◌∙◌, arith}
+use Rattle.std.proofs.Common.{◌≡◌, ℕ, List, [], ◌∷◌, length, map, get_or, set, refl, ap, sym, subst, ◌∙◌, arith}
 use Rattle.std.specs.Prelude.{All}
 use Rattle.std.proofs.lemmas.List.{get_or-map, length-map}
 use Rattle.std.proofs.lemmas.List.Elements.{All-map}
@@ -44,9 +44,9 @@ IsPlaced : List ExtensionName → HduState → Type 0
 IsPlaced keys hdu = PointsAt keys (name_of hdu) hdu.entry
 
 -- what is kept of HDUs is kept of them without their counts
-kept_without : (hdus : List HduState) (tail : List ℕ) (bytes : ℕ) (entries : List (ExtensionName × ℕ)) (capacity : ℕ) → IsKept hdus tail bytes entries capacity → IsKept (without_counts hdus) tail bytes entries capacity
+kept_without : (hdus : List HduState) (tail : List ℕ) (bytes : ℕ) (entries : List (ExtensionName × ℕ)) (room : ℕ) → IsKept hdus tail bytes entries room → IsKept (without_counts hdus) tail bytes entries room
 unfolding IsPlaced
-kept_without hdus tail bytes entries capacity kept =
+kept_without hdus tail bytes entries room kept =
     let same = sym (file_with (hdus_of (without_counts hdus)) (hdus_of hdus) tail (hdus_of-uncounted hdus)) in
     record {
       whole = subst (λ (f : FileParts). IsFile f) same kept.whole;
@@ -56,13 +56,13 @@ kept_without hdus tail bytes entries capacity kept =
         table = subst (λ names. IsTableOf names entries) (sym (names_of-uncounted hdus)) kept.names.table;
         placed = seen_all (IsPlaced (keys_of entries)) uncounted (λ one p. p) hdus kept.names.placed;
       };
-      room = omega (arith, kept.room, length-map hdus uncounted);
+      roomy = omega (arith, kept.roomy, length-map hdus uncounted);
     }
 
 -- and back
-kept_with : (hdus : List HduState) (tail : List ℕ) (bytes : ℕ) (entries : List (ExtensionName × ℕ)) (capacity : ℕ) → IsKept (without_counts hdus) tail bytes entries capacity → IsKept hdus tail bytes entries capacity
+kept_with : (hdus : List HduState) (tail : List ℕ) (bytes : ℕ) (entries : List (ExtensionName × ℕ)) (room : ℕ) → IsKept (without_counts hdus) tail bytes entries room → IsKept hdus tail bytes entries room
 unfolding IsPlaced
-kept_with hdus tail bytes entries capacity kept =
+kept_with hdus tail bytes entries room kept =
     let same = file_with (hdus_of (without_counts hdus)) (hdus_of hdus) tail (hdus_of-uncounted hdus) in
     record {
       whole = subst (λ (f : FileParts). IsFile f) same kept.whole;
@@ -72,21 +72,21 @@ kept_with hdus tail bytes entries capacity kept =
         table = subst (λ names. IsTableOf names entries) (names_of-uncounted hdus) kept.names.table;
         placed = all_seen (IsPlaced (keys_of entries)) uncounted (λ one p. p) hdus kept.names.placed;
       };
-      room = omega (arith, kept.room, length-map hdus uncounted);
+      roomy = omega (arith, kept.roomy, length-map hdus uncounted);
     }
 
 -- so it is kept where counts alone change
-pub kept_counted : (hdus others : List HduState) (tail : List ℕ) (bytes : ℕ) (entries : List (ExtensionName × ℕ)) (capacity : ℕ) → without_counts others ≡ without_counts hdus → IsKept hdus tail bytes entries capacity → IsKept others tail bytes entries capacity
-kept_counted hdus others tail bytes entries capacity same kept =
-    kept_with others tail bytes entries capacity (subst (λ (us : List HduState). IsKept us tail bytes entries capacity) (sym same) (kept_without hdus tail bytes entries capacity kept))
+pub kept_counted : (hdus others : List HduState) (tail : List ℕ) (bytes : ℕ) (entries : List (ExtensionName × ℕ)) (room : ℕ) → without_counts others ≡ without_counts hdus → IsKept hdus tail bytes entries room → IsKept others tail bytes entries room
+kept_counted hdus others tail bytes entries room same kept =
+    kept_with others tail bytes entries room (subst (λ (us : List HduState). IsKept us tail bytes entries room) (sym same) (kept_without hdus tail bytes entries room kept))
 
 -- an HDU whose cards were read is the same without its counts
 pub uncounted_read : (old new : HduState) (most : ℕ) → ReadsUpTo old new most → uncounted new ≡ uncounted old
 uncounted_read old new most read = rw (read.header.header, read.header.shape, read.header.room, read.plane, read.entry) refl
 
 -- so what is kept is kept where one HDU was read
-pub kept_read : (hdus : List HduState) (tail : List ℕ) (h i bytes : ℕ) (entries : List (ExtensionName × ℕ)) (capacity : ℕ) (old new : HduState) → IsHduAt hdus h i old → uncounted new ≡ uncounted old → IsKept hdus tail bytes entries capacity → IsKept (set hdus i new) tail bytes entries capacity
-kept_read hdus tail h i bytes entries capacity old new at same kept = kept_counted hdus (set hdus i new) tail bytes entries capacity (parts_same uncounted hdus i old new at.index.within at.is same) kept
+pub kept_read : (hdus : List HduState) (tail : List ℕ) (h i bytes : ℕ) (entries : List (ExtensionName × ℕ)) (room : ℕ) (old new : HduState) → IsHduAt hdus h i old → uncounted new ≡ uncounted old → IsKept hdus tail bytes entries room → IsKept (set hdus i new) tail bytes entries room
+kept_read hdus tail h i bytes entries room old new at same kept = kept_counted hdus (set hdus i new) tail bytes entries room (parts_same uncounted hdus i old new at.index.within at.is same) kept
 
 -- the parts of HDUs are no entries
 hdus_of-unentered : (hdus : List HduState) → hdus_of (without_entries hdus) ≡ hdus_of hdus
@@ -133,22 +133,22 @@ pub file_of-unentered : (hdus others : List HduState) (tail : List ℕ) → with
 file_of-unentered hdus others tail same = file_with (hdus_of hdus) (hdus_of others) tail (hdus_moved hdus others same)
 
 -- HDUs that are kept are named
-pub kept_named : (hdus : List HduState) (tail : List ℕ) (bytes : ℕ) (entries : List (ExtensionName × ℕ)) (capacity : ℕ) → IsKept hdus tail bytes entries capacity → AreNamed hdus entries
-kept_named hdus tail bytes entries capacity kept = record { tail = tail; whole = kept.whole; described = kept.described; names = kept.names }
+pub kept_named : (hdus : List HduState) (tail : List ℕ) (bytes : ℕ) (entries : List (ExtensionName × ℕ)) (room : ℕ) → IsKept hdus tail bytes entries room → AreNamed hdus entries
+kept_named hdus tail bytes entries room kept = record { tail = tail; whole = kept.whole; described = kept.described; names = kept.names }
 
 -- entries that are mended are no other HDUs
 pub unentered_mended : (gone : ℕ) (hdus : List HduState) → without_entries (map (mended gone) hdus) ≡ without_entries hdus
 unentered_mended gone [] = refl
 unentered_mended gone (hdu ∷ hdus) = ap (λ (us : List HduState). unentered hdu ∷ us) (unentered_mended gone hdus)
 
--- a session keeps what it kept where its table has more room
-pub kept_roomy : (hdus : List HduState) (tail : List ℕ) (bytes : ℕ) (entries others : List (ExtensionName × ℕ)) (capacity more : ℕ) → others ≡ entries → capacity ≤ more → IsKept hdus tail bytes entries capacity → IsKept hdus tail bytes others more
-kept_roomy hdus tail bytes entries others capacity more same room kept = record {
+-- a session keeps what it kept where its table is as it was
+pub kept_as : (hdus : List HduState) (tail : List ℕ) (bytes : ℕ) (entries others : List (ExtensionName × ℕ)) (room now : ℕ) → others ≡ entries → now ≡ room → IsKept hdus tail bytes entries room → IsKept hdus tail bytes others now
+kept_as hdus tail bytes entries others room now same still kept = record {
   whole = kept.whole;
   len = kept.len;
   described = kept.described;
   names = subst (Stands hdus) (sym same) kept.names;
-  room = omega (arith, kept.room, room);
+  roomy = still ∙ kept.roomy;
 }
 
 -- the file stays where counts alone change

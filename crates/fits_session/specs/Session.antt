@@ -171,13 +171,13 @@ pub record AsksPixels (h count : ℕ) (old new : SessionState) : Type 0 where
   pub pixel_work : works_of new.hdus ≡ changed_of h (read_more count) (works_of old.hdus)
 
 -- the HDUs and the tail are those of a file of so many bytes; the cards of each describe the shape that is kept; a table of names
--- stands for them, and has room for a name of each and one more
-pub record IsKept (hdus : List HduState) (tail : List ℕ) (bytes : ℕ) (entries : List (ExtensionName × ℕ)) (capacity : ℕ) : Type 0 where
+-- stands for them, with room for a name of each and one more
+pub record IsKept (hdus : List HduState) (tail : List ℕ) (bytes : ℕ) (entries : List (ExtensionName × ℕ)) (room : ℕ) : Type 0 where
   pub whole : IsFile (file_of (state_of hdus tail))
   pub len : bytes ≡ length (file_bytes (file_of (state_of hdus tail)))
   pub described : All IsDescribed hdus
   pub names : Stands hdus entries
-  pub room : length hdus < capacity
+  pub roomy : room ≡ length hdus + 1
 
 -- HDUs are those of a file; the cards of each describe the shape that is kept, and a table of names stands for them
 pub record AreNamed (hdus : List HduState) (entries : List (ExtensionName × ℕ)) : Type 0 where

@@ -1,5 +1,5 @@
 //! The table of what the HDUs of a session are called.
-ghost use Rattle.std.specs.Prelude.{◌≡◌, ◌≤◌};
+ghost use Rattle.std.specs.Prelude.{◌≡◌, ◌≤◌, vec_capacity};
 
 use crate::name_counts::NameCounts;
 use fits_hdu::ExtensionName;
@@ -12,10 +12,13 @@ use std::alloc::{AllocError, Global};
 #[derive(Drop)]
 pub(crate) struct NameTable {
     pub(crate) numbers: Vec<(ExtensionName, usize)>,
+    /// For how many names room was made.
+    pub(crate) room: usize,
+    ghost has_room: { room ≤ vec_capacity numbers },
 }
 
 impl NameTable {
-    ghost use Rattle.std.specs.Prelude.{◌≡◌, ◌+◌, ◌-◌, ◌<◌, ◌≤◌, ◌^◌, ℕ, List, length, Option, Some, None, ◌∷◌, IfOk, IfSome, OnOk, IsTrue, slice_get, vec_capacity};
+    ghost use Rattle.std.specs.Prelude.{◌≡◌, ◌+◌, ◌-◌, ◌<◌, ◌≤◌, ◌^◌, ℕ, List, length, Option, Some, None, ◌∷◌, IfOk, IfSome, OnOk, OnErr, IsTrue, slice_get, vec_capacity};
     ghost use Rattle.std.specs.Map.{keys_of, lookup};
     ghost use Rattle.fits_hdu.specs.ExtensionName.{is_same_name};
     ghost use Rattle.fits_hdu.specs.declared.extension_name.ExtensionName.{ExtensionName};
@@ -29,7 +32,7 @@ impl NameTable {
         room: usize,
     ) -> Result<NameTable, AllocError>
         ensures names { IfOk result (λ table. table.numbers.items ≡ counts.now.numbers.entries) }
-        ensures room { IfOk result (λ table. room ≤ vec_capacity table.numbers) }
+        ensures room { IfOk result (λ table. table.room ≡ room) }
     {
         let mut numbers = Vec::with_capacity(alloc, room)?;
         for place in 0..counts.numbers.len() {
@@ -38,26 +41,37 @@ impl NameTable {
             };
             numbers.push((*name, *number))?;
         }
-        Ok(NameTable { numbers })
+        Ok(NameTable { numbers, room })
     }
 
     /// Makes room for so many names.
     pub(crate) fn reserve(&mut self, room: usize) -> Result<(), AllocError>
         requires { length self.old.numbers.items ≤ room }
         ensures names { self.new.numbers.items ≡ self.old.numbers.items }
-        ensures ok { OnOk result (room ≤ vec_capacity self.new.numbers) }
-        ensures capacity { vec_capacity self.old.numbers ≤ vec_capacity self.new.numbers }
+        ensures ok { OnOk result (self.new.room ≡ room) }
+        ensures err { OnErr result (self.new.room ≡ self.old.room) }
     {
-        self.numbers.reserve(room - self.numbers.len())
+        self.numbers.reserve(room - self.numbers.len())?;
+        self.room = room;
+        Ok(())
+    }
+
+    /// Room for one name fewer counts. It takes no memory.
+    pub(crate) fn release(&mut self)
+        requires { 1 ≤ self.old.room }
+        ensures names { self.new.numbers.items ≡ self.old.numbers.items }
+        ensures room { self.new.room + 1 ≡ self.old.room }
+    {
+        self.room -= 1;
     }
 
     /// One more HDU is called so, if it is called anything: at which place its name stands. Each
     /// other name stands where it stood. It takes no memory.
     pub(crate) fn enter(&mut self, name: &Option<ExtensionName>) -> Option<usize>
         requires few { TellsOfFew self.old.numbers.items }
-        requires room { length self.old.numbers.items < vec_capacity self.old.numbers }
+        requires room { length self.old.numbers.items < self.old.room }
         ensures entered { Enters self.old.numbers.items self.new.numbers.items name.now result }
-        ensures capacity { vec_capacity self.old.numbers ≤ vec_capacity self.new.numbers }
+        ensures room { self.new.room ≡ self.old.room }
     {
         let Some(name) = name else {
             return None;
@@ -93,7 +107,7 @@ impl NameTable {
         requires { TellsAt place self.old.numbers.items }
         ensures told { TellsOfOneFewer place self.old.numbers.items self.new.numbers.items }
         ensures others { OthersMove place result self.old.numbers.items self.new.numbers.items }
-        ensures capacity { vec_capacity self.old.numbers ≤ vec_capacity self.new.numbers }
+        ensures room { self.new.room ≡ self.old.room }
     {
         let it = &mut self.numbers[place];
         if it.1 > 1 {

@@ -43,7 +43,6 @@ pub struct Session {
 }
 
 impl Model for Session {
-    ghost use Rattle.std.specs.Prelude.{vec_capacity};
     ghost use Rattle.fits_session.specs.Session.{SessionState, state_of, IsKept};
 
     ghost Value = { SessionState };
@@ -51,7 +50,7 @@ impl Model for Session {
     ghost view = { λ session. state_of session.hdus.items session.tail.items };
 
     ghost invariant = { λ session. IsKept session.hdus.items session.tail.items session.len
-        session.names.numbers.items (vec_capacity session.names.numbers) };
+        session.names.numbers.items session.names.room };
 }
 
 impl Session {

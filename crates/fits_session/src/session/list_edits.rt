@@ -33,8 +33,11 @@ impl Session {
             return Err(Refusal::TooLarge);
         };
         let hdu = Hdu::new_image(self.alloc, kind, shape)?;
+        self.hdus.reserve(1)?;
         self.names.reserve(self.hdus.len() + 2)?;
-        self.hdus.insert(at - 1, hdu)?;
+        let Ok(()) = self.hdus.insert(at - 1, hdu) else {
+            unreachable!();
+        };
         self.len += len;
         Ok(())
     }
@@ -53,6 +56,7 @@ impl Session {
         let entry = hdu.entry();
         self.len -= (header_len + data_len) as u64;
         leave(&mut self.hdus, &mut self.names, entry);
+        self.names.release();
         Ok(())
     }
 }

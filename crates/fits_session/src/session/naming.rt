@@ -1,5 +1,5 @@
 //! HDUs that come to a name and lose it, and the table that tells of it.
-ghost use Rattle.std.specs.Prelude.{◌≡◌, ◌+◌, ◌<◌, ◌≤◌, ◌^◌, length, map, All, Option, IfOk, OnOk, vec_capacity};
+ghost use Rattle.std.specs.Prelude.{◌≡◌, ◌+◌, ◌<◌, ◌≤◌, ◌^◌, length, map, All, Option, IfOk, OnOk};
 ghost use Rattle.fits_hdu.specs.State.{IsDescribed};
 ghost use Rattle.fits_hdu.specs.Work.{name_reads, IsOpened};
 ghost use Rattle.fits_session.specs.NameTable.{mended, Leaves, Stands, Stood};
@@ -14,7 +14,7 @@ use std::alloc::{AllocError, Global};
 /// are read.
 pub(crate) fn name_all(alloc: Global, hdus: &mut Vec<Hdu>) -> Result<NameTable, AllocError>
     ensures stands { IfOk result (λ table. Stands hdus.new.items table.numbers.items) }
-    ensures room { IfOk result (λ table. length hdus.new.items < vec_capacity table.numbers) }
+    ensures room { IfOk result (λ table. table.room ≡ length hdus.new.items + 1) }
     ensures described { OnOk result (All IsDescribed hdus.new.items) }
     ensures hdus { OnOk result (hdus_of hdus.new.items ≡ hdus_of hdus.old.items) }
     ensures opened { All (IsOpened 0) hdus.old.items
@@ -36,9 +36,9 @@ pub(crate) fn follow(hdus: &mut Vec<Hdu>, table: &mut NameTable, i: usize)
     requires within { i < length hdus.old.items }
     requires stood { Stood hdus.old.items i table.old.numbers.items }
     requires few { length hdus.old.items < 2 ^ 63 }
-    requires room { length hdus.old.items < vec_capacity table.old.numbers }
+    requires room { length hdus.old.items < table.old.room }
     ensures stands { Stands hdus.new.items table.new.numbers.items }
-    ensures room { vec_capacity table.old.numbers ≤ vec_capacity table.new.numbers }
+    ensures room { table.new.room ≡ table.old.room }
     ensures described { All IsDescribed hdus.old.items → All IsDescribed hdus.new.items }
     ensures hdus { hdus_of hdus.new.items ≡ hdus_of hdus.old.items }
     ensures reads { ReadsOnly (i + 1) name_reads
@@ -61,7 +61,7 @@ pub(crate) fn follow(hdus: &mut Vec<Hdu>, table: &mut NameTable, i: usize)
 pub(crate) fn leave(hdus: &mut Vec<Hdu>, table: &mut NameTable, entry: Option<usize>)
     requires { Leaves hdus.old.items table.old.numbers.items entry }
     ensures stands { Stands hdus.new.items table.new.numbers.items }
-    ensures room { vec_capacity table.old.numbers ≤ vec_capacity table.new.numbers }
+    ensures room { table.new.room ≡ table.old.room }
     ensures hdus { without_entries hdus.new.items ≡ without_entries hdus.old.items }
 {
     let Some(place) = entry else {

@@ -21,6 +21,3 @@ loop-place-preserved c =
 
 pub returns-clause-names : goal.returns-clause-names
 returns-clause-names c = c.loop-place.invariant.names ∙ take_all c.loop-place.place c.args.counts.now.numbers.entries (omega (arith, c.loop-place-test.false, c.len-place-end.ensures.len))
-
-pub returns-clause-room : goal.returns-clause-room
-returns-clause-room c = c.loop-place.invariant.room

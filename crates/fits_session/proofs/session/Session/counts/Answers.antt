@@ -1,12 +1,12 @@
 use Rattle.std.proofs.lemmas.Grind.{common_steps}
-use Rattle.std.proofs.Common.{arith, not, sym, ap, ◌∙◌, vec_capacity}
+use Rattle.std.proofs.Common.{arith, not, sym, ap, ◌∙◌}
 use Rattle.fits_session.proofs.CountLemmas.{counts_alone, counts_followed}
 use Rattle.fits_session.proofs.KeptLemmas.{kept_named}
 use Rattle.fits_session.proofs.WalkLemmas.{followed_seen}
 use Rattle.fits_session.proofs.session.Session.counts.Goals as goal
 
 pub counts_of-counts-requires : goal.counts_of-counts-requires
-counts_of-counts-requires c = kept_named c.self.inside.hdus.items c.self.inside.tail.items c.self.inside.len c.self.inside.names.numbers.items (vec_capacity c.self.inside.names.numbers) c.self.invariant
+counts_of-counts-requires c = kept_named c.self.inside.hdus.items c.self.inside.tail.items c.self.inside.len c.self.inside.names.numbers.items c.self.inside.names.room c.self.invariant
 
 pub returns-then-is_empty-clause-value : goal.returns-then-is_empty-clause-value
 returns-then-is_empty-clause-value c =

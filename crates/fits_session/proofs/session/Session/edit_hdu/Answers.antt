@@ -1,4 +1,4 @@
-use Rattle.std.proofs.Common.{◌≤◌, length, refl, arith, ap, set, subst, sym, ◌∙◌, vec_capacity}
+use Rattle.std.proofs.Common.{◌≤◌, length, refl, arith, ap, set, subst, sym, ◌∙◌}
 use Rattle.fits_hdu.specs.State.{parts_of}
 use Rattle.fits_hdu.specs.Work.{name_reads}
 use Rattle.fits_session.specs.Session.{reads_of, ReadsOnly}
@@ -36,7 +36,7 @@ invariant_of-self c =
       number = c.len-count.ensures ∙ sym c.deref.ensures.len ∙ ap length c.deref.ensures.value;
       edits = c.in_err-self-inside.ensures;
     } in
-    kept_refused c.self.inside.hdus.items c.self.inside.tail.items c.args.h c.in_ok-i.i c.args.edit.now c.self.inside.len c.len-count.result c.self.inside.names.numbers.items (vec_capacity c.self.inside.names.numbers) c.index_mut.result.now c.edit_hdu.new.hdu c.self.invariant c.in_err-self-inside.field-0.0 edited
+    kept_refused c.self.inside.hdus.items c.self.inside.tail.items c.args.h c.in_ok-i.i c.args.edit.now c.self.inside.len c.len-count.result c.self.inside.names.numbers.items c.self.inside.names.room c.index_mut.result.now c.edit_hdu.new.hdu c.self.invariant c.in_err-self-inside.field-0.0 edited
 
 pub returns-in_err-self-inside : goal.returns-in_err-self-inside
 returns-in_err-self-inside c =
@@ -59,7 +59,7 @@ follow-requires-clause-stood c =
       number = c.len-count.ensures ∙ sym c.deref.ensures.len ∙ ap length c.deref.ensures.value;
       edits = c.in_ok-self-inside.ensures;
     } in
-    stood_before c.self.inside.hdus.items c.self.inside.tail.items c.args.h c.in_ok-i.i c.args.edit.now c.self.inside.len c.len-count.result c.self.inside.names.numbers.items (vec_capacity c.self.inside.names.numbers) c.index_mut.result.now c.edit_hdu.new.hdu c.self.invariant c.in_ok-self-inside.field-0 edited
+    stood_before c.self.inside.hdus.items c.self.inside.tail.items c.args.h c.in_ok-i.i c.args.edit.now c.self.inside.len c.len-count.result c.self.inside.names.numbers.items c.self.inside.names.room c.index_mut.result.now c.edit_hdu.new.hdu c.self.invariant c.in_ok-self-inside.field-0 edited
 
 pub invariant_of-self-then-may_rename : goal.invariant_of-self-then-may_rename
 invariant_of-self-then-may_rename c =
@@ -75,7 +75,7 @@ invariant_of-self-then-may_rename c =
       reads = subst (λ h. ReadsOnly h name_reads (reads_of (set c.self.inside.hdus.items c.in_ok-i.i c.edit_hdu.new.hdu)) (reads_of c.follow.new.hdus.items)) (sym edited.at.index.at) c.follow.ensures.reads;
       works = c.follow.ensures.works;
     } in
-    kept_followed c.self.inside.hdus.items c.self.inside.tail.items c.args.h c.in_ok-i.i c.args.edit.now c.self.inside.len c.len-count.result c.self.inside.names.numbers.items (vec_capacity c.self.inside.names.numbers) c.index_mut.result.now c.edit_hdu.new.hdu c.self.invariant c.in_ok-self-inside.field-0 name_reads (vec_capacity c.follow.new.table.numbers) c.follow.new.hdus.items c.follow.new.table.numbers.items edited follows c.follow.ensures.described c.follow.ensures.stands c.follow.ensures.room
+    kept_followed c.self.inside.hdus.items c.self.inside.tail.items c.args.h c.in_ok-i.i c.args.edit.now c.self.inside.len c.len-count.result c.self.inside.names.numbers.items c.self.inside.names.room c.index_mut.result.now c.edit_hdu.new.hdu c.self.invariant c.in_ok-self-inside.field-0 name_reads c.follow.new.table.room c.follow.new.hdus.items c.follow.new.table.numbers.items edited follows c.follow.ensures.described c.follow.ensures.stands c.follow.ensures.room
 
 pub invariant_of-self-else-may_rename : goal.invariant_of-self-else-may_rename
 invariant_of-self-else-may_rename c =
@@ -86,7 +86,7 @@ invariant_of-self-else-may_rename c =
       number = c.len-count.ensures ∙ sym c.deref.ensures.len ∙ ap length c.deref.ensures.value;
       edits = c.in_ok-self-inside.ensures;
     } in
-    kept_unrenamed c.self.inside.hdus.items c.self.inside.tail.items c.args.h c.in_ok-i.i c.args.edit.now c.self.inside.len c.len-count.result c.self.inside.names.numbers.items (vec_capacity c.self.inside.names.numbers) c.index_mut.result.now c.edit_hdu.new.hdu c.self.invariant c.in_ok-self-inside.field-0 (sym c.if-may_rename.ensures) edited
+    kept_unrenamed c.self.inside.hdus.items c.self.inside.tail.items c.args.h c.in_ok-i.i c.args.edit.now c.self.inside.len c.len-count.result c.self.inside.names.numbers.items c.self.inside.names.room c.index_mut.result.now c.edit_hdu.new.hdu c.self.invariant c.in_ok-self-inside.field-0 (sym c.if-may_rename.ensures) edited
 
 pub returns-then-may_rename : goal.returns-then-may_rename
 returns-then-may_rename c =

@@ -1,4 +1,4 @@
-use Rattle.std.proofs.Common.{vec_capacity, ◌≡◌, ◌+◌, ◌-◌, inl, inr, length, arith, ap, sym, ◌∙◌, refl}
+use Rattle.std.proofs.Common.{◌≡◌, ◌+◌, ◌-◌, inl, inr, length, arith, ap, sym, ◌∙◌, refl}
 use Rattle.std.proofs.lemmas.Result.{err_from_is_err_and}
 use Rattle.fits_hdu.specs.Hdu.{hdu_bytes}
 use Rattle.fits_hdu.specs.NewImage.{are_axes, new_image}
@@ -9,7 +9,7 @@ use Rattle.std.proofs.lemmas.List.{length-map}
 use Rattle.std.proofs.lemmas.List.Edits.{length-insert}
 use Rattle.fits_hdu.specs.State.{name_of, IsDescribed}
 use Rattle.fits_session.specs.NameTable.{names_of}
-use Rattle.fits_session.proofs.KeptLemmas.{kept_roomy}
+use Rattle.fits_session.proofs.KeptLemmas.{kept_as}
 use Rattle.fits_session.proofs.StandingLemmas.{unnamed_stands}
 use Rattle.fits_session.proofs.TableLemmas.{names_within}
 use Rattle.fits_session.proofs.StateLemmas.{file_within}
@@ -55,23 +55,23 @@ returns-in_err-reserve c =
     let many : length c.self.inside.hdus.items ≡ c.len.result = omega (arith, c.len.ensures, c.self.inside.hdus.ok.0) in
     let placed = is_placed (length c.self.inside.hdus.items) c.len.result c.args.at c.args.axes.now c.as_slice.result.now many (sym c.is_within.ensures ∙ c.if-not-is_within.false) c.if-at-eq1.false c.as_slice.ensures (sym c.are_axes.ensures ∙ c.if-not-are_axes.false) in
     let p = err_from_is_err_and c.from_residual-in_err-reserve.result c.from_residual-in_err-reserve.ensures.1 in
-    rw (p.1, p.2, ← c.self.view_is) (new_memory c.self.inside.hdus.items c.self.inside.tail.items c.args.at c.args.kind c.args.axes.now placed)
+    rw (p.1, p.2, c.reserve.ensures.items, ← c.self.view_is) (new_memory c.self.inside.hdus.items c.self.inside.tail.items c.args.at c.args.kind c.args.axes.now placed)
 
-pub reserve-requires : goal.reserve-requires
-reserve-requires c =
-    omega (arith, names_within (names_of c.self.inside.hdus.items) c.self.inside.names.numbers.items c.self.invariant.names.table, length-map c.self.inside.hdus.items name_of, c.self.inside.hdus.ok.0, c.len-3.ensures)
-
--- the table has room for no fewer than before
-pub invariant_of-self-in_err-insert : goal.invariant_of-self-in_err-insert
-invariant_of-self-in_err-insert c =
-    rw c.in_err-insert.ensures.items (kept_roomy c.self.inside.hdus.items c.self.inside.tail.items c.self.inside.len c.self.inside.names.numbers.items c.reserve.new.self.numbers.items (vec_capacity c.self.inside.names.numbers) (vec_capacity c.reserve.new.self.numbers) c.reserve.ensures.names c.reserve.ensures.capacity c.self.invariant)
-
-pub returns-in_err-insert : goal.returns-in_err-insert
-returns-in_err-insert c =
+pub returns-in_err-reserve-2 : goal.returns-in_err-reserve-2
+returns-in_err-reserve-2 c =
     let many : length c.self.inside.hdus.items ≡ c.len.result = omega (arith, c.len.ensures, c.self.inside.hdus.ok.0) in
     let placed = is_placed (length c.self.inside.hdus.items) c.len.result c.args.at c.args.axes.now c.as_slice.result.now many (sym c.is_within.ensures ∙ c.if-not-is_within.false) c.if-at-eq1.false c.as_slice.ensures (sym c.are_axes.ensures ∙ c.if-not-are_axes.false) in
-    let p = err_from_is_err_and c.from_residual-in_err-insert.result c.from_residual-in_err-insert.ensures.1 in
-    rw (p.1, p.2, c.in_err-insert.ensures.items, ← c.self.view_is) (new_memory c.self.inside.hdus.items c.self.inside.tail.items c.args.at c.args.kind c.args.axes.now placed)
+    let p = err_from_is_err_and c.from_residual-in_err-reserve-2.result c.from_residual-in_err-reserve-2.ensures.1 in
+    rw (p.1, p.2, c.reserve.ensures.items, ← c.self.view_is) (new_memory c.self.inside.hdus.items c.self.inside.tail.items c.args.at c.args.kind c.args.axes.now placed)
+
+pub reserve-requires-2 : goal.reserve-requires-2
+reserve-requires-2 c =
+    omega (arith, names_within (names_of c.self.inside.hdus.items) c.self.inside.names.numbers.items c.self.invariant.names.table, length-map c.self.inside.hdus.items name_of, c.self.inside.hdus.ok.0, ap length c.reserve.ensures.items, c.len-3.ensures)
+
+-- the table is as it was
+pub invariant_of-self-in_err-reserve-2 : goal.invariant_of-self-in_err-reserve-2
+invariant_of-self-in_err-reserve-2 c =
+    rw c.reserve.ensures.items (kept_as c.self.inside.hdus.items c.self.inside.tail.items c.self.inside.len c.self.inside.names.numbers.items c.reserve-2.new.self.numbers.items c.self.inside.names.room c.reserve-2.new.self.room c.reserve-2.ensures.names c.in_err-reserve-2.ensures.err c.self.invariant)
 
 pub returns-in_default : goal.returns-in_default
 returns-in_default c =
@@ -97,12 +97,12 @@ invariant_of-self-2 c =
     let at = c.args.at - 1 in
     let new = c.in_ok-hdu.hdu in
     let es = c.self.inside.names.numbers.items in
-    rw (c.in_ok-insert.ensures.items, c.reserve.ensures.names) (record {
+    rw (c.in-Ok.ensures.items, c.reserve.ensures.items, c.reserve-2.ensures.names) (record {
       whole = left;
       len = omega (arith, more, long, c.self.invariant.len, c.in-Some.ensures.len);
       described = all_inserted IsDescribed hdus at new c.in_ok-hdu.ensures.described c.self.invariant.described;
       names = unnamed_stands hdus at new es c.in_ok-hdu.ensures.unnamed c.in_ok-hdu.ensures.entry c.self.invariant.names;
-      room = omega (arith, c.in_ok-reserve.ensures.ok, c.len-3.ensures, c.self.inside.hdus.ok.0, length-insert hdus at new (placed_at (length hdus) c.args.at c.args.axes.now placed).1);
+      roomy = omega (arith, c.in_ok-reserve-2.ensures.ok, c.len-3.ensures, c.self.inside.hdus.ok.0, ap length c.reserve.ensures.items, length-insert hdus at new (placed_at (length hdus) c.args.at c.args.axes.now placed).1);
     })
 
 pub returns : goal.returns
@@ -114,4 +114,4 @@ returns c =
     let size = (file_within c.self.inside.hdus.items c.self.inside.tail.items c.self.invariant.whole).0 in
     let fits = new_fits c.self.inside.hdus.items c.self.inside.tail.items c.args.at c.args.kind c.args.axes.now placed (grind (arith, c.if-len-ge-HDU_LIMIT.false, c.len-2.ensures, c.self.inside.hdus.ok.0)) (omega (arith, size, long, c.self.invariant.len, c.in-Some.ensures.len, c.in-Some.ensures.within)) in
     let is = c.in_ok-hdu.ensures.hdu ∙ ap (new_image c.args.kind) axes_are in
-    rw (c.in_ok-insert.ensures.items, ← c.self.view_is) (new_made c.self.inside.hdus.items c.self.inside.tail.items c.args.at tt c.args.kind c.args.axes.now c.in_ok-hdu.hdu placed fits is c.in_ok-hdu.ensures.work c.in_ok-hdu.ensures.scans)
+    rw (c.in-Ok.ensures.items, c.reserve.ensures.items, ← c.self.view_is) (new_made c.self.inside.hdus.items c.self.inside.tail.items c.args.at tt c.args.kind c.args.axes.now c.in_ok-hdu.hdu placed fits is c.in_ok-hdu.ensures.work c.in_ok-hdu.ensures.scans)

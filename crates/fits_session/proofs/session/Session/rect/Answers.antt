@@ -1,4 +1,4 @@
-use Rattle.std.proofs.Common.{ap, refl, vec_capacity}
+use Rattle.std.proofs.Common.{ap, refl}
 use Rattle.std.proofs.lemmas.Result.{err_from_is_err_and}
 use Rattle.fits_session.specs.Session.{uncounted}
 use Rattle.fits_session.proofs.KeptLemmas.{described_at, kept_read}
@@ -15,7 +15,7 @@ returns-in_err-values-clause-err c =
 
 pub invariant_of-self-2 : goal.invariant_of-self-2
 invariant_of-self-2 c =
-    kept_read c.self.inside.hdus.items c.self.inside.tail.items c.args.h c.in_ok-i.i c.self.inside.len c.self.inside.names.numbers.items (vec_capacity c.self.inside.names.numbers) c.index_mut-hdu.result.now c.rect.new.self
+    kept_read c.self.inside.hdus.items c.self.inside.tail.items c.args.h c.in_ok-i.i c.self.inside.len c.self.inside.names.numbers.items c.self.inside.names.room c.index_mut-hdu.result.now c.rect.new.self
     (is_at c.self.inside.hdus.items c.deref.result.now c.args.h c.args.h c.in_ok-i.i c.index_mut-hdu.result.now c.deref.ensures.value refl c.in_ok-i.ensures.found c.index_mut-hdu.ensures.value)
     (ap uncounted c.in_ok-values.ensures.work) c.self.invariant
 

@@ -1,4 +1,4 @@
-use Rattle.std.proofs.Common.{◌+◌, arith, ap, length, vec_capacity}
+use Rattle.std.proofs.Common.{◌+◌, arith, ap, length}
 use Rattle.std.proofs.lemmas.Grind.{common_steps}
 use Rattle.fits_session.proofs.CountLemmas.{report_is}
 use Rattle.fits_session.proofs.KeptLemmas.{kept_named}
@@ -6,7 +6,7 @@ use Rattle.fits_session.proofs.WalkLemmas.{followed_seen}
 use Rattle.fits_session.proofs.session.Session.report.Goals as goal
 
 pub problems-requires : goal.problems-requires
-problems-requires c = kept_named c.self.inside.hdus.items c.self.inside.tail.items c.self.inside.len c.self.inside.names.numbers.items (vec_capacity c.self.inside.names.numbers) c.self.invariant
+problems-requires c = kept_named c.self.inside.hdus.items c.self.inside.tail.items c.self.inside.len c.self.inside.names.numbers.items c.self.inside.names.room c.self.invariant
 
 pub returns-clause-value : goal.returns-clause-value
 returns-clause-value c =

@@ -1,4 +1,4 @@
-use Rattle.std.proofs.Common.{refl, vec_capacity}
+use Rattle.std.proofs.Common.{refl}
 use Rattle.std.proofs.lemmas.Result.{err_from_is_err_and}
 use Rattle.fits_session.proofs.KeptLemmas.{kept_read, uncounted_read}
 use Rattle.fits_session.proofs.QueryLemmas.{value_ok, value_fails, value_asks}
@@ -10,7 +10,7 @@ returns-in_err-i-clause-asks c = asked_none _ _ _
 
 pub invariant_of-self : goal.invariant_of-self
 invariant_of-self c =
-    kept_read c.self.inside.hdus.items c.self.inside.tail.items c.args.h c.in_ok-i.i c.self.inside.len c.self.inside.names.numbers.items (vec_capacity c.self.inside.names.numbers) c.index_mut-hdu.result.now c.value.new.self
+    kept_read c.self.inside.hdus.items c.self.inside.tail.items c.args.h c.in_ok-i.i c.self.inside.len c.self.inside.names.numbers.items c.self.inside.names.room c.index_mut-hdu.result.now c.value.new.self
     (is_at c.self.inside.hdus.items c.deref.result.now c.args.h c.args.h c.in_ok-i.i c.index_mut-hdu.result.now c.deref.ensures.value refl c.in_ok-i.ensures.found c.index_mut-hdu.ensures.value)
     (uncounted_read _ _ _ c.value.ensures.work) c.self.invariant
 
@@ -29,7 +29,7 @@ returns-in_err-said-clause-asks c =
 
 pub invariant_of-self-2 : goal.invariant_of-self-2
 invariant_of-self-2 c =
-    kept_read c.self.inside.hdus.items c.self.inside.tail.items c.args.h c.in_ok-i.i c.self.inside.len c.self.inside.names.numbers.items (vec_capacity c.self.inside.names.numbers) c.index_mut-hdu.result.now c.value.new.self
+    kept_read c.self.inside.hdus.items c.self.inside.tail.items c.args.h c.in_ok-i.i c.self.inside.len c.self.inside.names.numbers.items c.self.inside.names.room c.index_mut-hdu.result.now c.value.new.self
     (is_at c.self.inside.hdus.items c.deref.result.now c.args.h c.args.h c.in_ok-i.i c.index_mut-hdu.result.now c.deref.ensures.value refl c.in_ok-i.ensures.found c.index_mut-hdu.ensures.value)
     (uncounted_read _ _ _ c.value.ensures.work) c.self.invariant
 
