@@ -26,6 +26,8 @@ mod planned;
 #[cfg(test)]
 mod reading;
 #[cfg(test)]
+mod runs;
+#[cfg(test)]
 mod shapes;
 #[cfg(test)]
 mod slots;

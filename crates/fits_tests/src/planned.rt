@@ -1,11 +1,12 @@
-//! Sources over memory that behave by a plan.
+//! Streams over memory that behave by a plan.
 ghost use Rattle.std.specs.Prelude.{None, Some};
 
 use fits_stream::{FileSource, Stored, Watched};
+use std::alloc::Global;
 use std::io;
-use std::io::{Error, ErrorKind, Read};
+use std::io::{Error, ErrorKind, Read, Write};
 
-/// What a source does.
+/// What a stream does.
 #[derive(Clone, Copy)]
 pub struct Plan {
     /// How many bytes a call moves at most.
@@ -85,4 +86,51 @@ impl Read for StoredBytes<'_> {
 
 pub fn stored(bytes: &[u8], known: usize) -> FileSource<StoredBytes<'_>> {
     FileSource::stored(StoredBytes { bytes, known })
+}
+
+/// Bytes that are written by a plan.
+#[derive(Drop)]
+pub struct PlannedWriter {
+    written: Vec<u8>,
+    plan: Plan,
+    calls: usize,
+}
+
+impl PlannedWriter {
+    /// What was written, and how many calls there were, flushes too.
+    pub fn into_parts(self) -> (Vec<u8>, usize) {
+        (self.written, self.calls)
+    }
+
+    // Counts one call more, and says whether it is the one that fails.
+    fn fails(&mut self) -> bool {
+        self.calls = self.calls.wrapping_add(1);
+        self.calls == self.plan.failing
+    }
+}
+
+impl Write for PlannedWriter {
+    fn write(&mut self, buf: &[u8]) -> io::Result<usize> {
+        if self.fails() {
+            return Err(Error::from(ErrorKind::Interrupted));
+        }
+        let (piece, _) = buf.split_at(buf.len().min(self.plan.step));
+        self.written.extend_from_slice(piece)?;
+        Ok(piece.len())
+    }
+
+    fn flush(&mut self) -> io::Result<()> {
+        if self.fails() {
+            return Err(Error::from(ErrorKind::Interrupted));
+        }
+        Ok(())
+    }
+}
+
+pub fn writer(alloc: Global, plan: Plan) -> Watched<PlannedWriter> {
+    Watched::new(PlannedWriter {
+        written: Vec::new(alloc),
+        plan,
+        calls: 0,
+    })
 }
