@@ -48,6 +48,8 @@ fn refused_memory_at_an_hdu(rt: HostRuntime) {
     let Ok(bytes) = hdu_of(rt.alloc(), PIXEL, 1) else {
         return;
     };
+    let is_small = bytes.len() < 10_000;
+    holds!(rt; is_small);
     for _ in 0..2 {
         match Hdu::open(rt.alloc(), &bytes, false) {
             Ok((hdu, len)) => same!(rt; (hdu.card_count(), len), (6, 5760)),
@@ -319,8 +321,10 @@ fn ask<R: Abort>(rt: &R, session: &mut Session) {
     let why = session.positions(2, &name_of("XTENSION")).err();
     holds!(rt; matches!(why, None | Some(Refusal::Memory)));
     // a name that isn't there has no places, whatever memory there is
-    let places = session.positions(2, &name_of("ABSENT"));
-    holds!(rt; matches!(places, Ok(none) if none.is_empty()));
+    let count = session
+        .positions(2, &name_of("ABSENT"))
+        .map(|places| places.len());
+    same!(rt; count, Ok(0));
     let why = session.names(2).err();
     holds!(rt; matches!(why, None | Some(Refusal::Memory)));
     let why = session.rect(2, &[1], &[1]).err();
