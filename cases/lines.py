@@ -78,7 +78,7 @@ LINES = [
     (" ", None),
     ("\r", None),
     (" #", None),
-    ("\ufeffoff", None),
+    ("\xef\xbb\xbfoff", None),
     ("\x00", None),
     ("frob", None),
     ("ins", None),

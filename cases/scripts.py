@@ -279,7 +279,7 @@ CHANGED = [
         "get 1 HIERARCH\nget 1 a/b,c\x7f\xc3\xbf\nget 1 =\nget 1 #OFF\n",
         "integer 5\nline 2: refused 8 BadValue\ninteger 8\ninteger 9\n",
         1,
-        "SIMPLE|BITPIX  = 8|NAXIS   = 0|HIERARCH= 5|a/b,c\x7f\xff= 6|=       = 8|#OFF    = 9|END",
+        "SIMPLE|BITPIX  = 8|NAXIS   = 0|HIERARCH= 5|a/b,c\x7f\xc3\xbf= 6|=       = 8|#OFF    = 9|END",
     ),
     # a query is refused by the first test that fails
     (
