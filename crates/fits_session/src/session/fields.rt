@@ -26,11 +26,12 @@ fn fields(rt: HostRuntime) -> Result<(), Fail> {
         names,
         alloc,
     } = session;
-    let NameTable { numbers } = names;
+    let NameTable { numbers, room } = names;
     let hdus: Vec<Hdu> = hdus;
     let tail: Vec<u8> = tail;
     let numbers: Vec<(ExtensionName, usize)> = numbers;
     plain::<u64>(len);
+    plain::<usize>(room);
     plain::<Global>(alloc);
     assert_eq!(rt; hdus.len(), 1);
     assert_eq!(rt; tail.len(), 0);
