@@ -124,9 +124,9 @@ expect 'the stored run has its answers' cmp -s crates/fitsed/stdout "$example/an
 
 # a file of the limit opens, and one byte more is too much; both are sparse
 cp "$example/in.fits" "$room/limit.fits"
-truncate -s 2880000000 "$room/limit.fits"
+truncate -s 11520000000 "$room/limit.fits"
 expect 'a file of the limit is listed' status 0 "$program" list "$room/limit.fits"
-truncate -s 2880000001 "$room/limit.fits"
+truncate -s 11520000001 "$room/limit.fits"
 expect 'one byte more ends with 2' status 2 "$program" list "$room/limit.fits"
 expect 'and is too large' grep -qx 'fitsed: open refused O5 TooLarge' "$room/reported"
 rm "$room/limit.fits"

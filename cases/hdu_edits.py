@@ -287,11 +287,11 @@ REFUSED = [
         "new 1 u8 999999999999999999",
         "line 1: refused 13 PrimaryStays\n",
     ),
-    # 2,880,000,000 bytes less the shortest file and a header is the most
-    ("new 2 u8 2879994241", "line 1: refused 14 TooLarge\n"),
-    ("new 2 u16 1439997121", "line 1: refused 14 TooLarge\n"),
-    ("new 2 u8 53667,53667", "line 1: refused 14 TooLarge\n"),
-    ("new 2 i64 359999281", "line 1: refused 14 TooLarge\n"),
+    # 11,520,000,000 bytes less the shortest file and a header is the most
+    ("new 2 u8 11519994241", "line 1: refused 14 TooLarge\n"),
+    ("new 2 u16 5759997121", "line 1: refused 14 TooLarge\n"),
+    ("new 2 u8 107332,107332", "line 1: refused 14 TooLarge\n"),
+    ("new 2 i64 1439999281", "line 1: refused 14 TooLarge\n"),
     (
         "new 2 u8 999999999999999999",
         "line 1: refused 14 TooLarge\n",

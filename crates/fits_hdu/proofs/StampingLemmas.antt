@@ -309,7 +309,7 @@ set_bytes primary hdu name new p low one =
     omega (arith, size, count, length-append (header_bytes hdu.header) hdu.data_unit, length-append (header_bytes after.header) after.data_unit, length-header_bytes hdu.header p.header, length-header_bytes after.header q.header, q.header.fill_size, fill_length-by_cards (length after.header.cards))
 
 -- so it stays small where both were
-pub stamp_bytes : (primary : Bool) (hdu a b : HduParts) (first second : List (List ℕ)) → IsHdu primary hdu → length (hdu_bytes hdu) ≤ 2 ^ 33 → first ≡ plain_card (codes "CHECKSUM") zeros ∷ [] → a ≡ with_keyword (codes "CHECKSUM") (Some first) hdu
+pub stamp_bytes : (primary : Bool) (hdu a b : HduParts) (first second : List (List ℕ)) → IsHdu primary hdu → length (hdu_bytes hdu) ≤ 2 ^ 34 - 2 ^ 13 → first ≡ plain_card (codes "CHECKSUM") zeros ∷ [] → a ≡ with_keyword (codes "CHECKSUM") (Some first) hdu
     → second ≡ plain_card (codes "DATASUM ") (decimal (data_sum hdu)) ∷ [] → b ≡ with_keyword (codes "DATASUM ") (Some second) a → length (hdu_bytes b) ≤ 2 ^ 34
 stamp_bytes primary hdu a b first second p small r s t u =
     let one = zeros_one first r in

@@ -54,7 +54,7 @@ pub fn image_shape(alloc: Global, kind: Kind, axes: &[u64]) -> Result<Shape, All
 pub fn image_len(kind: Kind, shape: &Shape, most: u64) -> Option<u64>
     requires shape { shape.now ≡ image_shape kind shape.now.axes }
     requires axes { are_axes shape.now.axes ≡ true }
-    requires small { most ≤ 2 ^ 33 }
+    requires small { most ≤ 2 ^ 34 }
     ensures len { IfSome result (λ len. len ≡ length (hdu_bytes (new_image kind shape.now.axes))) }
     ensures within { IfSome result (λ len. len ≤ most) }
     ensures too_large { result ≡ None → most < length (hdu_bytes (new_image kind shape.now.axes)) }

@@ -2,8 +2,8 @@
 ghost use Rattle.std.specs.Prelude.{◌≡◌};
 ghost use Rattle.fits_session.specs.Limits.{is_within_limits};
 
-/// How many bytes a file has at most: 1,000,000 blocks, the bytes after its last HDU included.
-pub const FILE_LIMIT: u64 = 2_880_000_000;
+/// How many bytes a file has at most: 4,000,000 blocks, the bytes after its last HDU included.
+pub const FILE_LIMIT: u64 = 11_520_000_000;
 
 /// How many HDUs a file has at most.
 pub const HDU_LIMIT: u64 = 10_000;

@@ -14,8 +14,9 @@ use std::test::Fail;
 
 /// How many bytes and HDUs a file has, and whether it keeps to the limits.
 const LIMITS: &[(u64, u64, bool)] = &[
-    (2_880_000_000, 10_000, true),
-    (2_880_000_001, 1, false),
+    (11_520_000_000, 10_000, true),
+    (11_520_000_001, 1, false),
+    (2_880_000_001, 1, true),
     (2_880, 10_001, false),
 ];
 

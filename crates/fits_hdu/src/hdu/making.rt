@@ -9,7 +9,7 @@ use fits_rules::Shape;
 use std::alloc::{AllocError, Global};
 
 /// How many bytes the data unit of a new image has at most.
-const LARGEST_UNIT: usize = 1 << 33;
+const LARGEST_UNIT: usize = 1 << 34;
 
 impl Hdu {
     ghost use Rattle.std.specs.Prelude.{◌≡◌, ◌^◌, ◌≤◌, true, length, None, IfOk};
@@ -20,14 +20,14 @@ impl Hdu {
     ghost use Rattle.fits_hdu.specs.Work.{open_reads, plane_work, IsMade};
 
     /// A new image of this kind and shape (FITS Standard 4.0, section 7.1), each of whose bytes of
-    /// data is zero. With its header it has 2^33 bytes at most. It isn't called anything.
+    /// data is zero. With its header it has 2^34 bytes at most. It isn't called anything.
     ///
     /// Err: memory was refused.
     #[tactic(auto, using(crate::proofs::NewHeaderLemmas::make_steps))]
     pub fn new_image(alloc: Global, kind: Kind, shape: Shape) -> Result<Hdu, AllocError>
         requires shape { shape ≡ image_shape kind shape.axes }
         requires axes { are_axes shape.axes ≡ true }
-        requires small { length (hdu_bytes (new_image kind shape.axes)) ≤ 2 ^ 33 }
+        requires small { length (hdu_bytes (new_image kind shape.axes)) ≤ 2 ^ 34 }
         ensures hdu { IfOk result (λ it. parts_of it ≡ new_image kind shape.axes) }
         ensures shape { IfOk result (λ it. it.header.shape ≡ shape) }
         ensures described { IfOk result (λ it. IsDescribed it) }

@@ -42,7 +42,7 @@ impl Hdu {
     /// the data unit is read.
     #[tactic(auto, using(crate::proofs::StampingLemmas::stamp_steps))]
     pub fn stamp(&mut self, alloc: Global) -> Result<(), AllocError>
-        requires { length (hdu_bytes (parts_of self.old)) ≤ 2 ^ 33 }
+        requires { length (hdu_bytes (parts_of self.old)) ≤ 2 ^ 34 - 2 ^ 13 }
         ensures ok { OnOk result (parts_of self.new ≡ stamped (parts_of self.old)) }
         ensures err { OnErr result (parts_of self.new ≡ parts_of self.old) }
         ensures room { OnErr result (self.new.header.room ≡ self.old.header.room) }

@@ -67,4 +67,4 @@ returns-in-Ok-zero_plane-clause-unnamed c =
 
 -- the data unit isn't longer than the whole
 pub unreachable-requires : goal.unreachable-requires
-unreachable-requires c = omega (arith, c.requires.small, size_more c.args.kind c.args.shape 8589934592 c.requires.shape c.requires.axes c.in_default.ensures.short)
+unreachable-requires c = omega (arith, c.requires.small, size_more c.args.kind c.args.shape 17179869184 c.requires.shape c.requires.axes c.in_default.ensures.short)
