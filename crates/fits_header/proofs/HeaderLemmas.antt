@@ -1,5 +1,5 @@
 -- What is kept beside the cards of a header through changes of the cards.
-use Rattle.std.proofs.Common.{◌≡◌, ◌≤◌, ℕ, ◌+◌, ◌-◌, List, [], ◌++◌, length, take, drop, map, ap, subst, sym, ◌∙◌, refl}
+use Rattle.std.proofs.Common.{◌≡◌, ◌≤◌, ℕ, ◌+◌, ◌-◌, Bool, List, [], ◌++◌, length, take, drop, map, ap, subst, sym, ◌∙◌, refl, arith}
 use Rattle.std.specs.Prelude.{Ok, true}
 use Rattle.std.proofs.lemmas.List.{map-append, take-map, drop-map}
 use Rattle.fits_card.specs.Change.{spliced, moved, only_item, cards_after, IsInRange}
@@ -9,9 +9,13 @@ use Rattle.fits_card.proofs.ChangeLemmas.{length-spliced, length-moved}
 use Rattle.fits_rules.specs.Class.{is_primary}
 use Rattle.fits_rules.specs.Shape.{shape_of}
 use Rattle.fits_rules.specs.declared.array_shape.Shape.{Shape}
+use Rattle.fits_rules.proofs.DescribesLemmas.{described}
+use Rattle.fits_rules.proofs.KeepingLemmas.{described_within}
 use Rattle.fits_rules.proofs.SameShapeLemmas.{same_shape-Decides}
 use Rattle.fits_header.specs.Index.{IsIndexOf}
 use Rattle.fits_header.specs.State.{still_describes}
+use Rattle.fits_header.specs.Notes.{note_of, notes_of}
+use Rattle.fits_header.specs.declared.note.Note.{Note}
 use Rattle.fits_header.specs.declared.entry.Entry.{Entry}
 use Rattle.fits_header.proofs.CountLemmas.{length-index}
 
@@ -72,6 +76,22 @@ pub stays_described : (shape : Shape) (after : List (List ℕ)) → still_descri
 unfolding still_describes
 stays_described shape after kept = (same_shape-Decides shape (shape_of (is_primary shape.class) after)).0 kept
 
+-- a shape has the cards of its axes
+pub axes_within : (primary : Bool) (cards : List (List ℕ)) (shape : Shape) → shape_of primary cards ≡ Ok shape → 3 + length shape.axes ≤ length cards
+axes_within primary cards shape is = described_within primary cards shape (described primary cards shape is)
+
+-- so many cards stand there after cards were put in place of those of a shape
+pub length-reshaped : (cards new : List (List ℕ)) (removed : ℕ) → 1 + removed ≤ length cards → length (spliced cards 2 removed new) + removed ≡ length cards + length new
+length-reshaped cards new removed within = length-spliced cards new 2 removed (omega arith) (omega (arith, within))
+
+-- the notes of cards that were put in place of others
+pub notes_reshaped : (old items : List Note) (cards new all : List (List ℕ)) (place removed : ℕ) → items ≡ spliced old place removed (notes_of new) → old ≡ notes_of cards
+    → all ≡ spliced cards place removed new → items ≡ notes_of all
+notes_reshaped old items cards new all place removed e f g =
+    e ∙ ap (λ (ns : List Note). spliced ns place removed (notes_of new)) f ∙ sym (map-spliced note_of cards new place removed) ∙ ap notes_of (sym g)
+
 pub ruleset change_steps = (index_after-splice, index_after-move, length_after-splice, length_after-move, range_of-splice, range_of-move, length-index)
 
 pub ruleset kept_steps = (stays_described)
+
+pub ruleset reshape_steps = (stays_described, axes_within, length-reshaped, length-index)

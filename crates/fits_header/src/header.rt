@@ -1,3 +1,5 @@
+ghost use Rattle.std.specs.Prelude.{◌≡◌, None, vec_capacity, vec_len};
+
 use crate::counting::count_all;
 use crate::counts::Counts;
 use crate::fill_total::fill_total;
@@ -75,7 +77,7 @@ impl Model for Header {
 impl Header {
     ghost use Rattle.std.specs.Prelude.{◌≡◌, ◌≤◌, ◌<◌, ◌+◌, ◌-◌, ◌*◌, ◌/◌, ◌^◌, List, [], ℕ, Ok, IsOk, IfOk, IfErr, OnOk, OnErr, IsTrue, None, false, length, slice_index_or, All};
     ghost use Rattle.fits_card.specs.Card.{IsEnd};
-    ghost use Rattle.fits_card.specs.Change.{cards_after, new_cards, IsInRange};
+    ghost use Rattle.fits_card.specs.Change.{cards_after, new_cards, spliced, IsInRange};
     ghost use Rattle.fits_card.specs.Header.{IsHeader, header_bytes, with_cards};
     ghost use Rattle.fits_stream.specs.Stream.{Prints, PrintsFront};
     ghost use Rattle.fits_card.specs.declared.card.TheConstants.{CARD_LEN};
@@ -178,6 +180,16 @@ impl Header {
         self.index.lead(name)
     }
 
+    /// The lead of a name. It takes no memory.
+    #[tactic(auto, using(fits_rules::proofs::LeadCardLemmas::lead_card_steps))]
+    pub fn lead_card(&mut self, name: &Name) -> Option<Card>
+        ensures value { result ≡ lead_card self.old.header.cards name.now }
+        ensures work { ReadsUpTo self.old self.new 1 }
+    {
+        let place = self.lead(name)?;
+        Some(self.card(place))
+    }
+
     /// The places of the cards of a name, ascending. No card is read, and no memory is taken where
     /// there is none.
     pub fn positions(&self, alloc: Global, name: &Name) -> Result<Vec<usize>, AllocError>
@@ -252,8 +264,22 @@ impl Header {
         keeps_shape(&mut self.cards, &self.shape, change, &leads)
     }
 
+    /// Whether its cards after a change would describe this shape.
+    ///
+    /// It takes no memory.
+    #[tactic(auto, unfolding(crate::specs::State::still_describes))]
+    pub fn would_have(&mut self, change: &Change, shape: &Shape) -> bool
+        requires { IsInRange self.old.header.cards change.now }
+        ensures value { result ≡ still_describes shape.now
+            (cards_after self.old.header.cards change.now) }
+        ensures work { ReadsUpTo self.old self.new (shape_reads shape.now) }
+    {
+        let leads = leads_after(&mut self.cards, &self.index, change);
+        keeps_shape(&mut self.cards, shape, change, &leads)
+    }
+
     /// The lead of a name after a change that isn't made. It takes no memory.
-    pub fn lead_card(&mut self, change: &Change, name: &Name) -> Option<Card>
+    pub fn lead_card_after(&mut self, change: &Change, name: &Name) -> Option<Card>
         requires { IsInRange self.old.header.cards change.now }
         ensures value { result
             ≡ lead_card (cards_after self.old.header.cards change.now) name.now }
@@ -291,9 +317,34 @@ impl Header {
     {
         change_index(&mut self.index, &self.cards, &self.notes, change);
         self.notes.change(&self.cards, change);
-        self.surroundings.clear();
-        self.counted = None;
+        forget(&mut self.surroundings, &mut self.counted);
         change.apply(&mut self.cards);
+    }
+
+    /// Puts these cards in place of BITPIX, NAXIS and the axes, with which the header describes this
+    /// shape (FITS Standard 4.0, section 4.4.1). END stays, and the fill is spaces. No card is read.
+    ///
+    /// It takes no memory: the room is reserved before, and `would_have` says whether the cards
+    /// describe it.
+    #[tactic(auto, using(crate::proofs::HeaderLemmas::reshape_steps))]
+    pub fn reshape(&mut self, cards: &[Card], shape: Shape)
+        requires not_end { All (λ card. IsEnd card → ⊥) cards.now }
+        requires room { length cards.now ≤ self.old.room + (2 + length self.old.shape.axes) }
+        requires kept { IsTrue (still_describes shape
+            (spliced self.old.header.cards 2 (2 + length self.old.shape.axes) cards.now)) }
+        ensures header { self.new.header ≡ with_cards self.old.header
+            (spliced self.old.header.cards 2 (2 + length self.old.shape.axes) cards.now) }
+        ensures shape { self.new.shape ≡ shape }
+        ensures room { self.new.room + length self.new.header.cards
+            ≡ self.old.room + length self.old.header.cards }
+        ensures work { self.new.reads ≡ self.old.reads }
+    {
+        let removed = 2 + self.shape.axes.as_slice().len();
+        self.index.splice(2, removed, cards);
+        self.notes.splice(2, removed, cards);
+        forget(&mut self.surroundings, &mut self.counted);
+        self.cards.splice(2, removed, cards);
+        self.shape = shape;
     }
 
     /// What it says as a whole, as far as the rules ask. It takes no memory.
@@ -396,4 +447,14 @@ impl Header {
     {
         self.cards.emit(sink)
     }
+}
+
+// Forgets what was found of the cards since the last change.
+fn forget(surroundings: &mut Vec<Surrounding>, counted: &mut Option<Counts>)
+    ensures none { vec_len surroundings.new ≡ 0 }
+    ensures room { vec_capacity surroundings.new ≡ vec_capacity surroundings.old }
+    ensures uncounted { counted.new ≡ None }
+{
+    surroundings.clear();
+    *counted = None;
 }

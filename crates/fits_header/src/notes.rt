@@ -110,8 +110,8 @@ impl Notes {
         }
     }
 
-    // From a place on, so many notes go, and those of these cards stand there instead.
-    fn splice(&mut self, place: usize, removed: usize, cards: &[Card])
+    /// From a place on, so many notes go, and those of these cards stand there instead.
+    pub(crate) fn splice(&mut self, place: usize, removed: usize, cards: &[Card])
         requires from { 1 ≤ place }
         requires to { place + removed ≤ length self.old.items + 1 }
         requires room { length cards.now ≤ self.old.room + removed }

@@ -106,7 +106,7 @@ unfolding axis_of card_named
 axis_same after cards n same = ap (λ (c : Option (List ℕ)). option_and_then (up_to LARGEST) (option_and_then integer_said (option_and_then (if_named (axis_name n)) c))) same
 
 -- a shape has the cards of its axes
-described_within : (primary : Bool) (cards : List (List ℕ)) (shape : Shape) → Describes primary cards shape → 3 + length shape.axes ≤ length cards
+pub described_within : (primary : Bool) (cards : List (List ℕ)) (shape : Shape) → Describes primary cards shape → 3 + length shape.axes ≤ length cards
 described_within primary cards shape d = elim (cases_lt 0 (length shape.axes)) [
   | inl some ↦
       let last = length shape.axes - 1 in

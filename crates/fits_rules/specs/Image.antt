@@ -15,6 +15,10 @@ abbrev pub integer_bits : ℤ → Option ℕ
 integer_bits (pos bits) = Some bits
 integer_bits (negsuc number) = None
 
--- how many bits a value has in an array of integers that has an axis; None where the shape is no such array
+-- how many bits a value has in an array of integers, with axes or without; None where the shape is no such array
+unfoldable pub array_bits : Shape → Option ℕ
+array_bits shape = if is_array shape.class shape.pcount shape.gcount then integer_bits shape.bitpix else None
+
+-- those of an array that has an axis
 unfoldable pub image_bits : Shape → Option ℕ
-image_bits shape = if is_array shape.class shape.pcount shape.gcount && nat_lt 0 (length shape.axes) then integer_bits shape.bitpix else None
+image_bits shape = if nat_lt 0 (length shape.axes) then array_bits shape else None

@@ -25,7 +25,7 @@ pub use axes::Axes;
 pub use axis_names::axis_name;
 pub use class::Class;
 pub use denoting::card_denotes;
-pub use image::image_bits;
+pub use image::{array_bits, image_bits};
 pub use integers::{IntegerSaid, integer_said};
 pub use laws::{
     broken_places_are_near, classes_tell_the_primary_hdu, later_splices_keep_shapes,
