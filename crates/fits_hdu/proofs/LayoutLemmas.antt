@@ -1,5 +1,5 @@
 -- The layout of a data unit: what it is by the shape, and that it fits the bytes that a shape describes.
-use Rattle.std.proofs.Common.{◌≡◌, inl, inr, ℕ, ◌+◌, ◌*◌, ◌/◌, ◌%◌, ◌^◌, ◌≤◌, ◌<◌, Bool, true, false, IsTrue, ◌&&◌, ◌||◌, ℤ, pos, negsuc, List, [], ◌∷◌, length, Option, None, Some, refl, ap, sym, ◌∙◌, mul_comm, arith}
+use Rattle.std.proofs.Common.{◌≡◌, inl, inr, ℕ, ◌+◌, ◌*◌, ◌/◌, ◌%◌, ◌^◌, ◌≤◌, ◌<◌, Bool, true, false, IsTrue, ◌||◌, ℤ, pos, negsuc, List, [], ◌∷◌, length, Option, None, Some, refl, ap, sym, ◌∙◌, mul_comm, arith}
 use Rattle.std.specs.Prelude.{◌==◌, nat_lt, unsigned_abs, Ok, if◌then◌else◌}
 use Rattle.std.proofs.lemmas.Bool.{false≢true, and_parts, or_cases, eqb-true}
 use Rattle.std.proofs.Math.Nat.{mul-div_cancel_left}
@@ -9,7 +9,7 @@ use Rattle.fits_plane.specs.Pixels.{IsWidth}
 use Rattle.fits_plane.specs.Rectangle.{product}
 use Rattle.fits_plane.specs.declared.layout.Layout.{Layout}
 use Rattle.fits_rules.specs.Class.{is_primary}
-use Rattle.fits_rules.specs.Image.{image_bits, integer_bits, is_array}
+use Rattle.fits_rules.specs.Image.{array_bits, image_bits, integer_bits, is_array}
 use Rattle.fits_rules.specs.Shape.{is_bitpix, shape_of}
 use Rattle.fits_rules.specs.Size.{array_values, data_length, data_size, value_bytes, values_in}
 use Rattle.fits_rules.specs.Size as size
@@ -44,7 +44,7 @@ values_are Table shape array some = absurd (false≢true array)
 values_are Other shape array some = absurd (false≢true array)
 
 -- what was kept by a test passed it
-kept : {X : Type 0} (b : Bool) (o : Option X) (x : X) → (if b then o else None) ≡ Some x → (b ≡ true) × (o ≡ Some x)
+pub kept : {X : Type 0} (b : Bool) (o : Option X) (x : X) → (if b then o else None) ≡ Some x → (b ≡ true) × (o ≡ Some x)
 kept true o x e = (refl, e)
 kept false o x e = cc
 
@@ -78,14 +78,14 @@ record IsImage (shape : Shape) (bits : ℕ) : Type 0 where
 
 -- an image that cards describe
 image_is : (shape : Shape) (cards : List (List ℕ)) (bits : ℕ) → shape_of (is_primary shape.class) cards ≡ Ok shape → image_bits shape ≡ Some bits → IsImage shape bits
-unfolding image_bits data_size
+unfolding image_bits array_bits data_size
 image_is shape cards bits described e =
     let bounded = shape_bounded (is_primary shape.class) cards shape described in
-    let found = kept (is_array shape.class shape.pcount shape.gcount && nat_lt 0 (length shape.axes)) (integer_bits shape.bitpix) bits e in
-    let array = and_parts (is_array shape.class shape.pcount shape.gcount) (nat_lt 0 (length shape.axes)) found.0 in
-    let integer = integer_is shape.bitpix bits bounded.bitpix found.1 in
+    let some = kept (nat_lt 0 (length shape.axes)) (array_bits shape) bits e in
+    let array = kept (is_array shape.class shape.pcount shape.gcount) (integer_bits shape.bitpix) bits some.1 in
+    let integer = integer_is shape.bitpix bits bounded.bitpix array.1 in
     let bytes : value_bytes shape ≡ bits / 8 = ap (λ z. unsigned_abs z / 8) integer.is in
-    record { width = integer.width; size = ap (λ n. n * values_in shape.class shape) bytes ∙ ap (λ n. bits / 8 * n) (values_are shape.class shape array.0 array.1) }
+    record { width = integer.width; size = ap (λ n. n * values_in shape.class shape) bytes ∙ ap (λ n. bits / 8 * n) (values_are shape.class shape array.0 some.0) }
 
 -- a width is not 0
 width_some : (width : ℕ) → IsWidth width → 0 < width

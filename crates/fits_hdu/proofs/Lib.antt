@@ -2,7 +2,6 @@ pub mod ChangeLemmas
 pub mod FindingsLemmas
 pub mod HduLemmas
 pub mod KeywordLemmas
-pub mod KindLemmas
 pub mod LayoutLemmas
 pub mod OpenLemmas
 pub mod PassingLemmas
@@ -21,7 +20,4 @@ pub mod UnitLemmas
 pub mod VerdictLemmas
 pub mod SumFacts
 pub mod SumLemmas
-pub mod WrittenNumberLemmas
 pub mod NewImageLemmas
-pub mod NewKindLemmas
-pub mod NewHeaderLemmas

@@ -1,5 +1,5 @@
 -- The pixels of an image of integers: their layout by the kind, and their values.
-use Rattle.std.proofs.Common.{◌≡◌, ◌≤◌, ◌<◌, ℕ, ◌+◌, ◌*◌, ◌/◌, ◌^◌, Bool, true, false, cond, List, length, inl, inr, refl, ap, sym, ◌∙◌, subst, arith, Option, None, Some, ℤ, pos, negsuc, to_z, of_z}
+use Rattle.std.proofs.Common.{nat_lt, ◌≡◌, ◌≤◌, ◌<◌, ℕ, ◌+◌, ◌*◌, ◌/◌, ◌^◌, Bool, true, false, cond, List, length, inl, inr, refl, ap, sym, ◌∙◌, subst, arith, Option, None, Some, ℤ, pos, negsuc, to_z, of_z}
 use Rattle.std.specs.Prelude.{Result, Ok, Err, IsTrue, unsigned_abs, not}
 use Rattle.std.specs.Int.{w128}
 use Rattle.std.proofs.Math.Nat.{mul-le-mul_left}
@@ -19,17 +19,18 @@ use Rattle.fits_plane.specs.declared.lent_paint.LentPaint.{LentPaint}
 use Rattle.fits_plane.specs.declared.value_summary.ValueSummary.{ValueSummary}
 use Rattle.fits_plane.proofs.PixelLemmas.{width_range}
 use Rattle.fits_rules.specs.Class.{is_primary}
-use Rattle.fits_rules.specs.Image.{image_bits, integer_bits}
+use Rattle.fits_rules.specs.Image.{array_bits, image_bits, integer_bits}
 use Rattle.fits_rules.specs.Shape.{shape_of, is_bitpix}
 use Rattle.fits_rules.specs.declared.array_shape.Shape.{Shape}
 use Rattle.fits_rules.proofs.LawLemmas.{shape_bounded}
 use Rattle.fits_hdu.specs.Hdu.{HduParts, IsHdu}
-use Rattle.fits_hdu.specs.Kind.{kind_in, kind_of, convention, has_offset, offset_of, width_of}
+use Rattle.fits_image.specs.Kind.{kind_in, kind_of, convention, has_offset, offset_of, width_of}
+use Rattle.fits_hdu.proofs.LayoutLemmas.{kept}
 use Rattle.fits_hdu.specs.Layout.{layout_by, layout_of}
 use Rattle.fits_hdu.specs.Pixels.{painted, painted_by, rect_by, rect_of, stats_of, with_numbers}
 use Rattle.fits_hdu.specs.Work.{IsPatched, PixelWork}
-use Rattle.fits_hdu.specs.declared.kind.Kind.{Kind}
-use Rattle.fits_hdu.specs.declared.kind.Kind.TheVariants.{U8, I8, I16, U16, I32, U32, I64, U64}
+use Rattle.fits_image.specs.declared.kind.Kind.{Kind}
+use Rattle.fits_image.specs.declared.kind.Kind.TheVariants.{U8, I8, I16, U16, I32, U32, I64, U64}
 use Rattle.fits_hdu.specs.declared.pixel_fault.PixelFault.{PixelFault}
 use Rattle.fits_hdu.specs.declared.pixel_fault.PixelFault.TheVariants.{NotImage, BadRectangle, WrongCount, OutOfRange}
 
@@ -43,8 +44,8 @@ bits_said false bitpix bits e = absurd (cc)
 
 -- an image of integers
 image_bitpix : (shape : Shape) (bits : ℕ) → image_bits shape ≡ Some bits → shape.bitpix ≡ pos bits
-unfolding image_bits
-image_bitpix shape bits e = bits_said _ shape.bitpix bits e
+unfolding image_bits array_bits
+image_bitpix shape bits e = bits_said _ shape.bitpix bits (kept (nat_lt 0 (length shape.axes)) (array_bits shape) bits e).1
 
 -- a kind has the width of its bits
 width_of_bits : (bits : ℕ) (offset : Bool) → IsTrue (is_bitpix (pos bits)) → bits / 8 ≡ width_of (kind_of bits offset)

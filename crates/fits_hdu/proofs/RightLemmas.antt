@@ -16,8 +16,10 @@ use Rattle.fits_value.specs.Says.{first_chain_length}
 use Rattle.fits_hdu.specs.Hdu.{HduParts, IsHdu}
 use Rattle.fits_hdu.specs.Stamp.{stamped, with_keyword}
 use Rattle.fits_hdu.specs.Sums.{data_sum, hdu_sum}
-use Rattle.fits_hdu.proofs.SettingLemmas.{From, chain_from, from_lead, gone_of, set_is, set_leads}
-use Rattle.fits_hdu.proofs.StampTextLemmas.{plain_card, plain_named, plain_valued, zeros_plain}
+use Rattle.fits_image.proofs.LeadFromLemmas.{From, from_lead}
+use Rattle.fits_hdu.proofs.SettingLemmas.{chain_from, gone_of, set_is, set_leads}
+use Rattle.fits_image.proofs.PlainTextLemmas.{plain_card, plain_named, plain_valued}
+use Rattle.fits_hdu.proofs.StampTextLemmas.{zeros_plain}
 use Rattle.fits_hdu.proofs.StampingLemmas.{datasum_one, datasum_other, other_kept, plain_chain, set_leaves, stamped_by, sum_valued, zeros_one}
 
 -- the text stands in its bytes 12 to 27

@@ -37,9 +37,11 @@ use Rattle.fits_hdu.specs.Sums.{data_sum, hdu_sum}
 use Rattle.fits_hdu.specs.Work.{FollowsBlank, PixelWork, apply_reads, keyword_reads, stamp_count_reads, stamp_reads}
 use Rattle.fits_hdu.specs.declared.keyword_cards.KeywordCards.{KeywordCards}
 use Rattle.fits_hdu.proofs.KeywordLemmas.{keyword_within}
-use Rattle.fits_hdu.proofs.SettingLemmas.{IsKept, IsSet, chain_alone, chain_from, count_by_chain, from_lead, lead_card_is, reads_by_chain, set_is, set_keeps, set_leads}
+use Rattle.fits_hdu.proofs.SettingLemmas.{IsKept, IsSet, chain_alone, chain_from, count_by_chain, reads_by_chain, set_is, set_keeps, set_leads}
+use Rattle.fits_image.proofs.LeadFromLemmas.{from_lead, lead_card_is}
 use Rattle.fits_hdu.proofs.StampLemmas.{IsLow, set_keeps_shape}
-use Rattle.fits_hdu.proofs.StampTextLemmas.{IsPlain, decimal_plain, plain_card, plain_ends, plain_named, plain_size, plain_string, plain_valued, plain_written, text_plain, zeros_plain}
+use Rattle.fits_image.proofs.PlainTextLemmas.{IsPlain, decimal_plain, plain_card, plain_ends, plain_named, plain_size, plain_string, plain_valued, plain_written}
+use Rattle.fits_hdu.proofs.StampTextLemmas.{text_plain, zeros_plain}
 
 -- the two names are low
 sum_low : (name : List ℕ) → IsSumName name → IsLow name

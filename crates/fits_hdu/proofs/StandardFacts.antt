@@ -1,7 +1,7 @@
 -- The offsets that the standard names for unsigned integers and signed bytes (FITS Standard 4.0, section 5.2.5, table 11).
 use Rattle.std.proofs.Common.{◌≡◌, Bool, ◌*◌, true, false, refl, pos, negsuc}
-use Rattle.fits_hdu.specs.Kind.{convention, kind_of, offset_of, width_of}
-use Rattle.fits_hdu.specs.declared.kind.Kind.TheVariants.{U8, I8, I16, U16, I32, U32, I64, U64}
+use Rattle.fits_image.specs.Kind.{convention, kind_of, offset_of, width_of}
+use Rattle.fits_image.specs.declared.kind.Kind.TheVariants.{U8, I8, I16, U16, I32, U32, I64, U64}
 
 -- BITPIX 8 and BZERO -128: signed bytes
 signed_bytes : (convention 8 ≡ negsuc 127) × (kind_of 8 true ≡ I8)

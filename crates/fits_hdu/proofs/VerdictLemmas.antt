@@ -21,8 +21,10 @@ use Rattle.fits_hdu.specs.declared.sum_said.SumSaid.TheVariants.{Nothing, Number
 use Rattle.fits_hdu.specs.declared.verdict.Verdict.{Verdict}
 use Rattle.fits_hdu.specs.declared.verdict.Verdict.TheVariants.{Right}
 use Rattle.fits_hdu.proofs.RightLemmas.{stamped_sum}
-use Rattle.fits_hdu.proofs.SettingLemmas.{From, lead_card_is, set_is, set_leads}
-use Rattle.fits_hdu.proofs.StampTextLemmas.{IsPlain, decimal_plain, decimal_says, letter_no_space, plain_card, plain_named, plain_says, plain_valued, text_plain}
+use Rattle.fits_image.proofs.LeadFromLemmas.{From, lead_card_is}
+use Rattle.fits_hdu.proofs.SettingLemmas.{set_is, set_leads}
+use Rattle.fits_image.proofs.PlainTextLemmas.{IsPlain, decimal_plain, decimal_says, letter_no_space, plain_card, plain_named, plain_says, plain_valued}
+use Rattle.fits_hdu.proofs.StampTextLemmas.{text_plain}
 use Rattle.fits_hdu.proofs.StampingLemmas.{data_small, datasum_other, hdu_small, other_kept, set_cards, stamped_by, sum_size, sum_text, sum_valued, text_one}
 
 -- a plain text begins with no space

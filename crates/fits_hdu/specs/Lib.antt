@@ -2,7 +2,6 @@ pub mod ExtensionName
 pub mod Findings
 pub mod Hdu
 pub mod Keyword
-pub mod Kind
 pub mod Layout
 pub mod NewImage
 pub mod Passing

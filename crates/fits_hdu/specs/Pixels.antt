@@ -9,9 +9,9 @@ use Rattle.fits_plane.specs.declared.lent_paint.LentPaint.{LentPaint}
 pub use Rattle.fits_plane.specs.declared.value_summary.ValueSummary.{ValueSummary as Stats}
 use Rattle.fits_rules.specs.declared.array_shape.Shape.{Shape}
 use Rattle.fits_hdu.specs.Hdu.{HduParts}
-use Rattle.fits_hdu.specs.Kind.{kind_in, offset_of, width_of}
+use Rattle.fits_image.specs.Kind.{kind_in, offset_of, width_of}
 use Rattle.fits_hdu.specs.Layout.{layout_of}
-use Rattle.fits_hdu.specs.declared.kind.Kind.{Kind}
+use Rattle.fits_image.specs.declared.kind.Kind.{Kind}
 use Rattle.fits_hdu.specs.declared.pixel_fault.PixelFault.{PixelFault}
 use Rattle.fits_hdu.specs.declared.pixel_fault.PixelFault.TheVariants.{NotImage, BadRectangle, WrongCount, OutOfRange, Memory}
 

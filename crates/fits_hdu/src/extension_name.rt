@@ -9,7 +9,6 @@ ghost use Rattle.fits_rules.specs.Reads.{string_said};
 ghost use Rattle.fits_hdu.specs.ExtensionName.{called, extension_name, names_something, version_said};
 ghost use Rattle.fits_hdu.specs.Work.{name_reads};
 
-use crate::kind::lead_card;
 use fits_card::{Card, Name};
 use fits_header::Header;
 use fits_rules::{IntegerSaid, integer_said};
@@ -86,8 +85,8 @@ pub(crate) fn extension_name(header: &mut Header) -> Option<ExtensionName>
         return None;
     }
     let xtension = string_of(first_card(header));
-    let extname = string_of(lead_card(header, &EXTNAME));
-    let extver = version_of(lead_card(header, &EXTVER));
+    let extname = string_of(header.lead_card(&EXTNAME));
+    let extver = version_of(header.lead_card(&EXTVER));
     called(xtension, extname, extver)
 }
 

@@ -11,12 +11,13 @@ ghost use Rattle.fits_rules.specs.declared.array_shape.Shape.{Shape};
 ghost use Rattle.fits_codes.specs.declared.code.Code.{Code};
 ghost use Rattle.fits_hdu.specs.declared.extension_name.ExtensionName.{ExtensionName};
 ghost use Rattle.fits_hdu.specs.declared.fault.HduFault.{HduFault};
-ghost use Rattle.fits_hdu.specs.declared.kind.Kind.{Kind};
+ghost use Rattle.fits_image.specs.declared.kind.Kind.{Kind};
 ghost use Rattle.fits_header.specs.declared.finding.Finding.{Finding};
 ghost use Rattle.fits_hdu.specs.Findings.{AreFindings};
 ghost use Rattle.fits_hdu.specs.Hdu.{HduParts, IsHdu, IsHduOf, HasHduFault, hdu_after};
-ghost use Rattle.fits_hdu.specs.Kind.{IsKind, kind_in};
-ghost use Rattle.fits_hdu.specs.NewImage.{are_axes, image_cards, image_shape, new_image};
+ghost use Rattle.fits_image.specs.Kind.{IsKind, kind_in};
+ghost use Rattle.fits_image.specs.ImageCards.{are_axes, image_cards, image_shape};
+ghost use Rattle.fits_hdu.specs.NewImage.{new_image};
 ghost use Rattle.fits_hdu.specs.Pixels.{painted};
 ghost use Rattle.fits_hdu.specs.Stamp.{stamped};
 ghost use Rattle.fits_hdu.specs.Sums.{hdu_sum, verdicts_of};
@@ -63,28 +64,10 @@ pub fn a_change_leaves_an_hdu()
         ≡ shape_of primary hdu.header.cards → IsHdu primary (hdu_after change hdu) }
 {}
 
-/// A new image is an HDU of the shape that is asked for, and, where it has an axis, of that kind.
+/// A new image is an HDU.
 pub fn new_images_are_hdus()
-    ensures whole { (kind : Kind) (axes : List ℕ) → are_axes axes ≡ true
+    ensures { (kind : Kind) (axes : List ℕ) → are_axes axes ≡ true
         → IsHdu false (new_image kind axes) }
-    ensures shape { (kind : Kind) (axes : List ℕ) → are_axes axes ≡ true
-        → shape_of false (image_cards kind axes) ≡ Ok (image_shape kind axes) }
-    ensures kind { (kind : Kind) (axes : List ℕ) → are_axes axes ≡ true → 1 ≤ length axes
-        → kind_in (image_shape kind axes) (image_cards kind axes) ≡ Some kind }
-{}
-
-/// An image has one kind.
-pub fn one_kind()
-    ensures { (shape : Shape) (cards : List (List ℕ)) (k j : Kind) → IsKind shape cards k
-        → IsKind shape cards j → k ≡ j }
-{}
-
-/// Which kind an image has, as a function.
-pub fn which_kind_an_image_has()
-    ensures kind { (shape : Shape) (cards : List (List ℕ)) (kind : Kind)
-        → IsKind shape cards kind ↔ (kind_in shape cards ≡ Some kind) }
-    ensures none { (shape : Shape) (cards : List (List ℕ))
-        → (kind_in shape cards ≡ None) ↔ (image_bits shape ≡ None) }
 {}
 
 /// One list of findings is that of an HDU.

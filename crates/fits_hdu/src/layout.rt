@@ -9,7 +9,6 @@ ghost use Rattle.fits_rules.specs.Size.{data_length, data_size};
 ghost use Rattle.fits_hdu.specs.Layout.{blank_number, fill_byte, layout_of};
 ghost use Rattle.fits_hdu.specs.Work.{plane_work, FollowsBlank, IsMade, IsScanned};
 
-use crate::kind::lead_card;
 use fits_card::Name;
 use fits_header::Header;
 use fits_plane::{Layout, Plane};
@@ -61,7 +60,7 @@ pub(crate) fn blank_number(header: &mut Header) -> Option<i64>
     ensures value { result ≡ blank_number (blank_said header.old.header.cards) }
     ensures work { ReadsUpTo header.old header.new 1 }
 {
-    match lead_card(header, &BLANK) {
+    match header.lead_card(&BLANK) {
         Some(card) => match integer_said(&card) {
             IntegerSaid::Number(number) => Some(number),
             _ => None,

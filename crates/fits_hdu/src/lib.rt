@@ -9,11 +9,9 @@ mod findings;
 mod found;
 mod hdu;
 mod hdu_sums;
-mod image_cards;
 mod kept;
 mod keyword;
 mod keyword_cards;
-mod kind;
 mod laws;
 mod layout;
 mod new_image;
@@ -37,14 +35,12 @@ pub use hdu_sums::HduSums;
 pub use kept::Kept;
 pub use keyword::KeywordFault;
 pub use keyword_cards::{KeywordCards, replacement};
-pub use kind::Kind;
 pub use laws::{
     a_change_leaves_an_hdu, a_stamped_hdu_is_right, an_hdu_or_a_fault, how_hdus_begin,
-    new_images_are_hdus, no_fault_at_an_hdu, one_hdu, one_hdu_fault, one_kind,
-    one_list_of_findings, painted_hdus_are_hdus, stamped_hdus_are_hdus,
-    stamped_hdus_sum_to_all_ones, which_kind_an_image_has,
+    new_images_are_hdus, no_fault_at_an_hdu, one_hdu, one_hdu_fault, one_list_of_findings,
+    painted_hdus_are_hdus, stamped_hdus_are_hdus, stamped_hdus_sum_to_all_ones,
 };
-pub use new_image::{are_axes, image_len, image_shape};
+pub use new_image::image_len;
 pub use outline::Outline;
 pub use pixel_fault::PixelFault;
 pub use read_fault::ReadHduFault;

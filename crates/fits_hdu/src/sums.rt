@@ -8,7 +8,6 @@ ghost use Rattle.fits_value.specs.Number.{value_of};
 ghost use Rattle.fits_value.specs.Spelling.{is_digit, is_space, IsDigits};
 ghost use Rattle.fits_hdu.specs.Sums.{checksum_verdict, datasum_verdict, right_if, sum_keywords, sum_of_lead, sum_of_number, sum_of_text, sum_of_value, verdicts_by};
 
-use crate::kind::lead_card;
 use crate::sum_keywords::SumKeywords;
 use crate::sum_said::SumSaid;
 use crate::verdict::Verdict;
@@ -28,8 +27,8 @@ pub(crate) fn sum_keywords(header: &mut Header) -> SumKeywords
     ensures value { result ≡ sum_keywords header.old.header.cards }
     ensures work { ReadsUpTo header.old header.new 2 }
 {
-    let datasum = lead_card(header, &DATASUM);
-    let checksum = lead_card(header, &CHECKSUM);
+    let datasum = header.lead_card(&DATASUM);
+    let checksum = header.lead_card(&CHECKSUM);
     SumKeywords {
         datasum: sum_of_lead(datasum),
         checksum: sum_of_lead(checksum),

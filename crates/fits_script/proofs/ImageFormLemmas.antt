@@ -6,8 +6,8 @@ use Rattle.std.specs.Str.{bytes_eq}
 use Rattle.std.proofs.lemmas.Bool.{cases_Bool}
 use Rattle.std.proofs.lemmas.Option.{option_and_then_some}
 use Rattle.std.proofs.lemmas.Slice.Eq.{bytes_eq-Decides}
-use Rattle.fits_hdu.specs.declared.kind.Kind.{Kind}
-use Rattle.fits_hdu.specs.declared.kind.Kind.TheVariants.{U8, I8, I16, U16, I32, U32, I64, U64}
+use Rattle.fits_image.specs.declared.kind.Kind.{Kind}
+use Rattle.fits_image.specs.declared.kind.Kind.TheVariants.{U8, I8, I16, U16, I32, U32, I64, U64}
 use Rattle.fits_script.specs.Cut.{HasNo}
 use Rattle.fits_script.specs.Forms.{followed, kind_word, AreNumbers, IsAxes, IsLengths}
 use Rattle.fits_script.specs.Line.{after_word, axes_last, axes_of_word, each_read, first_word, kind_first, kind_of_word, list_of_text, number_of_word}

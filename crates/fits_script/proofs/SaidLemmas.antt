@@ -7,7 +7,7 @@ use Rattle.std.proofs.lemmas.List.{append-nil}
 use Rattle.std.proofs.lemmas.Option.{option_and_then_some}
 use Rattle.fits_value.specs.Says.{field_says}
 use Rattle.fits_value.specs.declared.value.Value.{Value}
-use Rattle.fits_hdu.specs.declared.kind.Kind.{Kind}
+use Rattle.fits_image.specs.declared.kind.Kind.{Kind}
 use Rattle.fits_session.specs.declared.card_edit.CardEdit.TheVariants.{Insert, Put, Delete, Move, Set, Unset}
 use Rattle.fits_session.specs.declared.edit.Edit.TheVariants.{Hdu, NewImage, RemoveHdu}
 use Rattle.fits_session.specs.declared.hdu_edit.HduEdit.TheVariants.{Cards, Pixels, Stamp}

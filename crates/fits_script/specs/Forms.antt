@@ -6,8 +6,8 @@ use Rattle.fits_value.specs.Number.{signed, value_of}
 use Rattle.fits_value.specs.Says.{field_says}
 use Rattle.fits_value.specs.Spelling.{is_digit}
 use Rattle.fits_value.specs.declared.value.Value.{Value}
-use Rattle.fits_hdu.specs.declared.kind.Kind.{Kind}
-use Rattle.fits_hdu.specs.declared.kind.Kind.TheVariants.{U8, I8, I16, U16, I32, U32, I64, U64}
+use Rattle.fits_image.specs.declared.kind.Kind.{Kind}
+use Rattle.fits_image.specs.declared.kind.Kind.TheVariants.{U8, I8, I16, U16, I32, U32, I64, U64}
 use Rattle.fits_session.specs.declared.card_edit.CardEdit.{CardEdit}
 use Rattle.fits_session.specs.declared.card_edit.CardEdit.TheVariants.{Insert, Put, Delete, Move, Set, Unset}
 use Rattle.fits_session.specs.declared.edit.Edit.{Edit as SessionEdit}

@@ -6,7 +6,7 @@ ghost use Rattle.fits_script.specs.Line.{number_of_word};
 
 use crate::part::{Part, read_list};
 use crate::words::{cut_word, is_word, number_of_word};
-use fits_hdu::Kind;
+use fits_image::Kind;
 use fits_rules::Axes;
 use std::alloc::{AllocError, Global};
 

@@ -11,7 +11,7 @@ use Rattle.fits_rules.specs.declared.array_shape.Shape.{Shape}
 use Rattle.fits_hdu.specs.Hdu.{HduParts, hdu_after, IsHdu, keeps_shape}
 use Rattle.fits_hdu.specs.Stamp.{stamped}
 use Rattle.fits_hdu.specs.NewImage.{new_image}
-use Rattle.fits_hdu.specs.declared.kind.Kind.{Kind}
+use Rattle.fits_image.specs.declared.kind.Kind.{Kind}
 use Rattle.fits_hdu.specs.declared.pixel_fault.PixelFault.{PixelFault}
 use Rattle.fits_hdu.proofs.NewImageLemmas.{new_is_hdu}
 use Rattle.fits_hdu.specs.Pixels.{painted}

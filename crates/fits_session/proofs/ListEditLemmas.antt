@@ -7,10 +7,11 @@ use Rattle.std.proofs.lemmas.List.Edits.{length-insert, length-remove}
 use Rattle.std.proofs.lemmas.List.Elements.{All-append, All-cons, All-drop, All-take}
 use Rattle.std.proofs.lemmas.Option.{slice_get_within}
 use Rattle.fits_hdu.specs.Hdu.{HduParts, hdu_bytes, IsHdu}
-use Rattle.fits_hdu.specs.NewImage.{are_axes, new_image}
+use Rattle.fits_image.specs.ImageCards.{are_axes}
+use Rattle.fits_hdu.specs.NewImage.{new_image}
 use Rattle.fits_hdu.specs.State.{HduState, parts_of}
 use Rattle.fits_hdu.specs.Work.{open_reads, plane_work, IsMade}
-use Rattle.fits_hdu.specs.declared.kind.Kind.{Kind}
+use Rattle.fits_image.specs.declared.kind.Kind.{Kind}
 use Rattle.fits_hdu.proofs.NewImageLemmas.{new_is_hdu}
 use Rattle.fits_plane.specs.Layout.{block_count}
 use Rattle.fits_session.specs.CardEdit.{is_within}

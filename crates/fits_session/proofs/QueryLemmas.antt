@@ -9,7 +9,7 @@ use Rattle.fits_rules.specs.Shape.{shape_of}
 use Rattle.fits_rules.specs.declared.array_shape.Shape.{Shape}
 use Rattle.fits_hdu.specs.Hdu.{HduParts}
 use Rattle.fits_hdu.specs.Keyword.{keyword_value, KeywordFails}
-use Rattle.fits_hdu.specs.Kind.{kind_in as hdu_kind}
+use Rattle.fits_image.specs.Kind.{kind_in as hdu_kind}
 use Rattle.fits_hdu.specs.Pixels.{rect_of, stats_of, RectFails}
 use Rattle.fits_hdu.specs.Sums.{data_sum, verdicts_of}
 use Rattle.fits_hdu.specs.declared.pixel_fault.PixelFault.{PixelFault}
@@ -18,7 +18,7 @@ use Rattle.fits_hdu.specs.Pixels.{Stats}
 use Rattle.fits_hdu.specs.declared.verdicts.Verdicts.{Verdicts}
 use Rattle.fits_hdu.specs.State.{HduState, ReadsUpTo, parts_of}
 use Rattle.fits_hdu.specs.Work.{keyword_reads, plane_work}
-use Rattle.fits_hdu.specs.declared.kind.Kind.{Kind}
+use Rattle.fits_image.specs.declared.kind.Kind.{Kind}
 use Rattle.fits_hdu.specs.declared.keyword.KeywordFault.{KeywordFault}
 use Rattle.fits_hdu.specs.declared.keyword.KeywordFault.TheVariants as keyword
 use Rattle.fits_session.specs.Edit.{hdu_of}

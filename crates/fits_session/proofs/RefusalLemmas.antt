@@ -16,12 +16,13 @@ use Rattle.fits_plane.specs.Paint.{can_store_paint, has_count}
 use Rattle.fits_plane.specs.Rectangle.{lies_within, rectangle_size}
 use Rattle.fits_hdu.specs.Hdu.{HduParts, hdu_after, keeps_shape}
 use Rattle.fits_hdu.specs.Keyword.{keyword_cards, replacing}
-use Rattle.fits_hdu.specs.Kind.{kind_in, offset_of, width_of}
-use Rattle.fits_hdu.specs.NewImage.{are_axes, new_image}
+use Rattle.fits_image.specs.Kind.{kind_in, offset_of, width_of}
+use Rattle.fits_image.specs.ImageCards.{are_axes}
+use Rattle.fits_hdu.specs.NewImage.{new_image}
 use Rattle.fits_hdu.specs.Pixels.{painted, painted_by}
 use Rattle.fits_hdu.specs.Stamp.{stamped}
 use Rattle.fits_hdu.specs.declared.keyword_cards.KeywordCards.{KeywordCards}
-use Rattle.fits_hdu.specs.declared.kind.Kind.{Kind}
+use Rattle.fits_image.specs.declared.kind.Kind.{Kind}
 use Rattle.fits_hdu.specs.declared.pixel_fault.PixelFault.{PixelFault}
 use Rattle.fits_hdu.specs.declared.pixel_fault.PixelFault.TheVariants as pixel
 use Rattle.fits_session.specs.CardEdit.{change_of, is_in_range, is_keyword_name, is_within, own_refusal, set_of, setting, tested, unless, unset_of, unsetting}

@@ -7,10 +7,10 @@ use Rattle.fits_rules.specs.Shape.{shape_of}
 use Rattle.fits_rules.specs.declared.array_shape.Shape.{Shape}
 use Rattle.fits_hdu.specs.Hdu.{HduParts}
 use Rattle.fits_hdu.specs.Keyword.{keyword_value}
-use Rattle.fits_hdu.specs.Kind.{kind_in as hdu_kind, IsKind}
+use Rattle.fits_image.specs.Kind.{kind_in as hdu_kind, IsKind}
 use Rattle.fits_hdu.specs.Pixels.{rect_of, stats_of}
 use Rattle.fits_hdu.specs.Sums.{data_sum, verdicts_of}
-use Rattle.fits_hdu.specs.declared.kind.Kind.{Kind}
+use Rattle.fits_image.specs.declared.kind.Kind.{Kind}
 use Rattle.fits_hdu.specs.declared.pixel_fault.PixelFault.{PixelFault}
 use Rattle.fits_hdu.specs.declared.pixel_fault.PixelFault.TheVariants as pixel
 use Rattle.fits_hdu.specs.Pixels.{Stats}

@@ -1,5 +1,5 @@
 use crate::hdu_edit::HduEdit;
-use fits_hdu::Kind;
+use fits_image::Kind;
 use fits_rules::Axes;
 
 /// A change of a file. HDUs count from 1.

@@ -6,7 +6,7 @@ ghost use Rattle.fits_card.specs.declared.change.Change.{Change};
 ghost use Rattle.fits_value.specs.declared.value.Value.{Value};
 ghost use Rattle.fits_hdu.specs.Hdu.{HduParts, hdu_after};
 ghost use Rattle.fits_hdu.specs.Keyword.{keyword_value};
-ghost use Rattle.fits_hdu.specs.declared.kind.Kind.{Kind};
+ghost use Rattle.fits_image.specs.declared.kind.Kind.{Kind};
 ghost use Rattle.fits_session.specs.CardEdit.{set_of, HasCardSizes, LeavesNoMore};
 ghost use Rattle.fits_session.specs.Edit.{file_after, hdu_of, with_hdu, HasSizes};
 ghost use Rattle.fits_session.specs.File.{FileParts, file_bytes, IsFile, IsFileOf};
@@ -23,7 +23,7 @@ ghost use Rattle.fits_session.specs.declared.open_fault.OpenFault.{OpenFault};
 ghost use Rattle.fits_session.specs.declared.problem.Problem.{Problem};
 ghost use Rattle.fits_session.specs.declared.refusal.Refusal.TheVariants.{Memory, TooLarge};
 
-use fits_hdu::which_kind_an_image_has;
+use fits_image::which_kind_an_image_has;
 
 /// Bytes are one file at most.
 pub fn one_file()

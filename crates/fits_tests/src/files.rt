@@ -2,7 +2,7 @@
 
 use crate::builders::{FileText, P0, file_of};
 use crate::checks::same;
-use fits_hdu::Kind;
+use fits_image::Kind;
 use fits_rules::{Axes, Class};
 use fits_session::{Edit, Refusal, Session, within};
 use fits_stream::Watched;

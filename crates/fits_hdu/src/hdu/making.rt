@@ -1,10 +1,9 @@
 //! Making an HDU of nothing.
 use super::Hdu;
 use crate::data_unit::unit_len;
-use crate::image_cards::image_header;
-use crate::kind::Kind;
 use crate::layout::zero_plane;
 use fits_header::Header;
+use fits_image::{Kind, image_header};
 use fits_rules::Shape;
 use std::alloc::{AllocError, Global};
 
@@ -15,7 +14,8 @@ impl Hdu {
     ghost use Rattle.std.specs.Prelude.{◌≡◌, ◌^◌, ◌≤◌, true, length, None, IfOk};
     ghost use Rattle.fits_plane.specs.Layout.{block_count};
     ghost use Rattle.fits_hdu.specs.Hdu.{hdu_bytes};
-    ghost use Rattle.fits_hdu.specs.NewImage.{are_axes, image_shape, new_image};
+    ghost use Rattle.fits_image.specs.ImageCards.{are_axes, image_shape};
+    ghost use Rattle.fits_hdu.specs.NewImage.{new_image};
     ghost use Rattle.fits_hdu.specs.State.{name_of, parts_of, IsDescribed};
     ghost use Rattle.fits_hdu.specs.Work.{open_reads, plane_work, IsMade};
 
@@ -23,7 +23,7 @@ impl Hdu {
     /// data is zero. With its header it has 2^34 bytes at most. It isn't called anything.
     ///
     /// Err: memory was refused.
-    #[tactic(auto, using(crate::proofs::NewHeaderLemmas::make_steps))]
+    #[tactic(auto, using(crate::proofs::NewImageLemmas::make_steps))]
     pub fn new_image(alloc: Global, kind: Kind, shape: Shape) -> Result<Hdu, AllocError>
         requires shape { shape ≡ image_shape kind shape.axes }
         requires axes { are_axes shape.axes ≡ true }

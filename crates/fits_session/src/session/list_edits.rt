@@ -6,7 +6,8 @@ use super::naming::leave;
 use crate::edit::Edit;
 use crate::limits::{FILE_LIMIT, HDU_LIMIT};
 use crate::refusal::Refusal;
-use fits_hdu::{Hdu, Kind, are_axes, image_len, image_shape};
+use fits_hdu::{Hdu, image_len};
+use fits_image::{Kind, are_axes, image_shape};
 use fits_rules::Axes;
 
 impl Session {

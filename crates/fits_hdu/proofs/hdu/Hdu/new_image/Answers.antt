@@ -5,10 +5,11 @@ use Rattle.fits_rules.specs.Size.{data_length}
 use Rattle.fits_rules.specs.Class.{is_primary}
 use Rattle.fits_rules.specs.declared.array_shape.Shape.{Shape}
 use Rattle.fits_hdu.specs.ExtensionName.{extension_name}
-use Rattle.fits_hdu.specs.NewImage.{image_cards}
+use Rattle.fits_image.specs.ImageCards.{image_cards}
 use Rattle.fits_hdu.specs.State.{parts_of}
-use Rattle.fits_hdu.proofs.NewHeaderLemmas.{new_described, new_made, size_more}
-use Rattle.fits_hdu.proofs.NewKindLemmas.{new_unnamed}
+use Rattle.fits_image.proofs.ImageHeaderLemmas.{new_described}
+use Rattle.fits_hdu.proofs.NewImageLemmas.{new_made, size_more}
+use Rattle.fits_hdu.proofs.NewImageLemmas.{new_unnamed}
 use Rattle.fits_hdu.proofs.hdu.Hdu.new_image.Goals as goal
 
 pub returns-in-Ok-zero_plane-clause-hdu : goal.returns-in-Ok-zero_plane-clause-hdu

@@ -6,7 +6,7 @@ use Rattle.fits_plane.specs.Rectangle.{lies_within, product, rectangle_size, rec
 use Rattle.fits_plane.specs.Work.{rectangle_blocks}
 use Rattle.fits_rules.specs.declared.array_shape.Shape.{Shape}
 use Rattle.fits_hdu.specs.Hdu.{HduParts}
-use Rattle.fits_hdu.specs.Kind.{offset_of, width_of}
+use Rattle.fits_image.specs.Kind.{offset_of, width_of}
 use Rattle.fits_hdu.specs.Layout.{layout_of}
 use Rattle.fits_hdu.specs.Pixels.{painted}
 use Rattle.fits_hdu.specs.State.{HduState, parts_of}

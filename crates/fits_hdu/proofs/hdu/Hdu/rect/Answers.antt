@@ -3,7 +3,7 @@ use Rattle.std.specs.Prelude.{Result, Err, Ok, IsOk}
 use Rattle.fits_plane.specs.Rectangle.{lies_within, product, rectangle_values}
 use Rattle.fits_rules.specs.declared.array_shape.Shape.{Shape}
 use Rattle.fits_hdu.specs.Hdu.{HduParts}
-use Rattle.fits_hdu.specs.Kind.{offset_of, width_of}
+use Rattle.fits_image.specs.Kind.{offset_of, width_of}
 use Rattle.fits_hdu.specs.Pixels.{rect_of}
 use Rattle.fits_hdu.specs.State.{HduState, parts_of}
 use Rattle.fits_hdu.specs.declared.pixel_fault.PixelFault.{PixelFault}

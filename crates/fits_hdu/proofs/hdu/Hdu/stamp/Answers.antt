@@ -7,7 +7,7 @@ use Rattle.fits_hdu.specs.Keyword.{own_count}
 use Rattle.fits_hdu.specs.Stamp.{with_keyword}
 use Rattle.fits_hdu.specs.Work.{keyword_reads, plane_work}
 use Rattle.fits_hdu.specs.State.{HduState, parts_of}
-use Rattle.fits_hdu.proofs.StampTextLemmas.{plain_card}
+use Rattle.fits_image.proofs.PlainTextLemmas.{plain_card}
 use Rattle.fits_hdu.proofs.StampingLemmas.{checksum_count, checksum_reads, datasum_count, datasum_one, datasum_reads, stamp_bytes, stamp_most, stamped_by, text_one, zeros_one}
 use Rattle.fits_hdu.proofs.hdu.Hdu.stamp.Goals as goal
 

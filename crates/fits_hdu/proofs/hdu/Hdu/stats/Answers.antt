@@ -3,7 +3,7 @@ use Rattle.fits_plane.specs.Pixels.{pixels}
 use Rattle.fits_plane.specs.Statistics.{value_statistics}
 use Rattle.fits_plane.specs.declared.value_summary.ValueSummary.{ValueSummary}
 use Rattle.fits_hdu.specs.Hdu.{HduParts}
-use Rattle.fits_hdu.specs.Kind.{offset_of}
+use Rattle.fits_image.specs.Kind.{offset_of}
 use Rattle.fits_hdu.specs.Pixels.{stats_of}
 use Rattle.fits_hdu.specs.State.{HduState, parts_of}
 use Rattle.fits_hdu.proofs.PixelLemmas.{offset_fits, stats_of-image, stats_of-none}

@@ -1,7 +1,8 @@
 use Rattle.std.proofs.Common.{◌≡◌, ◌+◌, ◌-◌, inl, inr, length, arith, ap, sym, ◌∙◌, refl}
 use Rattle.std.proofs.lemmas.Result.{err_from_is_err_and}
 use Rattle.fits_hdu.specs.Hdu.{hdu_bytes}
-use Rattle.fits_hdu.specs.NewImage.{are_axes, new_image}
+use Rattle.fits_image.specs.ImageCards.{are_axes}
+use Rattle.fits_hdu.specs.NewImage.{new_image}
 use Rattle.fits_rules.specs.declared.array_shape.Shape.{Shape}
 use Rattle.fits_session.specs.CardEdit.{is_within}
 use Rattle.fits_session.proofs.ListEditLemmas.{all_inserted, is_placed, new_first, new_fits, new_left, new_made, new_memory, new_nowhere, new_shapeless, new_size, new_too_large, placed_at}

@@ -1,0 +1,2 @@
+pub mod ImageCards
+pub mod Kind
