@@ -21,3 +21,4 @@ pub mod VerdictLemmas
 pub mod SumFacts
 pub mod SumLemmas
 pub mod NewImageLemmas
+pub mod ScalingLemmas

@@ -45,8 +45,8 @@ use Rattle.fits_hdu.proofs.StampTextLemmas.{text_plain, zeros_plain}
 
 -- the two names are low
 sum_low : (name : List ℕ) → IsSumName name → IsLow name
-sum_low name (inl e) = rw e (record { above = omega arith; below = omega arith })
-sum_low name (inr e) = rw e (record { above = omega arith; below = omega arith })
+sum_low name (inl e) = rw e (record { above = omega arith; below = omega arith; second = λ e. omega (arith, e) })
+sum_low name (inr e) = rw e (record { above = omega arith; below = omega arith; second = λ e. omega (arith, e) })
 
 -- cards with one instead of a keyword's
 abbrev pub set_cards : List (List ℕ) → List ℕ → List (List ℕ) → List (List ℕ)

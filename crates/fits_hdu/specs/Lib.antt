@@ -11,3 +11,4 @@ pub mod Stamp
 pub mod State
 pub mod Sums
 pub mod Work
+pub mod Reshape

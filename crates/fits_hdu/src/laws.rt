@@ -19,6 +19,7 @@ ghost use Rattle.fits_image.specs.Kind.{IsKind, kind_in};
 ghost use Rattle.fits_image.specs.ImageCards.{are_axes, image_cards, image_shape};
 ghost use Rattle.fits_hdu.specs.NewImage.{new_image};
 ghost use Rattle.fits_hdu.specs.Pixels.{painted};
+ghost use Rattle.fits_hdu.specs.Reshape.{ScalingGivesOffset, ScalingKeepsShapes};
 ghost use Rattle.fits_hdu.specs.Stamp.{stamped};
 ghost use Rattle.fits_hdu.specs.Sums.{hdu_sum, verdicts_of};
 ghost use Rattle.fits_hdu.specs.declared.verdict.Verdict.TheVariants.{Right};
@@ -109,4 +110,15 @@ pub fn stamped_hdus_sum_to_all_ones()
 pub fn a_stamped_hdu_is_right()
     ensures { (primary : Bool) (hdu : HduParts) → IsHdu primary hdu
         → verdicts_of (stamped hdu) ≡ record { datasum = Right; checksum = Right } }
+{}
+
+/// Setting BSCALE to 1 and BZERO to an offset keeps the shape that cards describe, and brings about no
+/// other.
+pub fn scalings_keep_shapes()
+    ensures { ScalingKeepsShapes }
+{}
+
+/// Then pixels have that offset, and no other (FITS Standard 4.0, section 4.4.2.5).
+pub fn scalings_give_their_offset()
+    ensures { ScalingGivesOffset }
 {}

@@ -1,9 +1,12 @@
 -- Single written cards: those of numbers, and the one that says IMAGE.
-use Rattle.std.proofs.Common.{◌≡◌, inl, ℕ, suc, ◌-◌, ◌^◌, ◌<◌, ◌≤◌, true, false, not, List, [], ◌∷◌, ◌++◌, length, replicate, codes, refl, ap, sym, ◌∙◌, arith, Option, None, Some, length-append}
+use Rattle.std.proofs.Common.{subst, ◌≡◌, inl, ℕ, suc, ◌-◌, ◌^◌, ◌<◌, ◌≤◌, true, false, not, List, [], ◌∷◌, ◌++◌, length, replicate, codes, refl, ap, sym, ◌∙◌, arith, Option, None, Some, length-append}
 use Rattle.std.specs.Prelude.{ℤ, pos, negsuc, neg_ℤ, unsigned_abs, option_and_then, unwrap_or}
 use Rattle.std.specs.Fmt.{decimal, signed_decimal}
+use Rattle.std.specs.Cmp.{both_ways}
 use Rattle.std.specs.Option.{option_map}
+use Rattle.std.specs.Ordering.{int_eq}
 use Rattle.std.proofs.lemmas.Bool.{and_from, cond-true, false≢true}
+use Rattle.std.proofs.lemmas.Bool.Decides.{Decides-int_eq}
 use Rattle.std.proofs.lemmas.Fmt.{decimal_nonempty, length-decimal-le}
 use Rattle.std.proofs.lemmas.List.{length-replicate}
 use Rattle.std.proofs.lemmas.List.Elements.{All-cons, All-nil}
@@ -13,13 +16,13 @@ use Rattle.fits_card.specs.Header.{IsInnerCard}
 use Rattle.fits_card.specs.Name.{end_name, is_valueless}
 use Rattle.fits_rules.specs.Denotes.{card_says_number, value_says_number}
 use Rattle.fits_rules.specs.Reads.{integer_of_value, integer_said, string_said, value_said}
-use Rattle.fits_value.specs.Number.{IsInteger, IsIntegerOf}
-use Rattle.fits_value.specs.Says.{card_says, card_string}
+use Rattle.fits_value.specs.Number.{Denotes, IsInteger, IsIntegerOf}
+use Rattle.fits_value.specs.Says.{card_says, card_string, says_number}
 use Rattle.fits_value.specs.Spelling.{is_digit}
 use Rattle.fits_value.specs.Written.{IsWritable, card_of, cards_of, is_writable, justified, value_lead, write_says}
 use Rattle.fits_value.specs.declared.value.Value.TheVariants.{Integer, Str}
 use Rattle.fits_value.proofs.IntegerLemmas as integers
-use Rattle.fits_value.proofs.NumberLemmas.{integer_denotes}
+use Rattle.fits_value.proofs.NumberLemmas.{integer_denotes, one_denoted}
 use Rattle.fits_value.proofs.NumberSaysLemmas.{number_says}
 use Rattle.fits_value.proofs.PieceLemmas.{card_size}
 use Rattle.fits_value.proofs.SaysLemmas.{card_said}
@@ -152,6 +155,16 @@ unfolding card_says_number
 number_card_denotes name z is small =
     ap (λ o. unwrap_or (option_map (λ said. value_says_number z said.0) o) false) (number_card_says name z is small)
     ∙ (number_says (signed_decimal z) z).1 (integer_denotes (signed_decimal z) z (decimal_integer z small))
+
+-- and no other number
+pub number_card_denotes_alone : (name : List ℕ) (z other : ℤ) → IsValueName name → unsigned_abs z < 2 ^ 64 → card_says_number (number_card name z) other ≡ int_eq z other
+unfolding card_says_number
+number_card_denotes_alone name z other is small =
+    let text : List ℕ = signed_decimal z in
+    let denotes = integer_denotes text z (decimal_integer z small) in
+    let decides = Decides-int_eq z other in
+    ap (λ o. unwrap_or (option_map (λ said. value_says_number other said.0) o) false) (number_card_says name z is small)
+    ∙ both_ways (says_number text other) (int_eq z other) (λ t. decides.1 (one_denoted text z other denotes ((number_says text other).0 t))) (λ t. (number_says text other).1 (subst (Denotes text) (decides.0 t) denotes))
 
 -- IMAGE is plain
 image_plain : IsPlain (codes "IMAGE")

@@ -3,7 +3,7 @@
 use Rattle.std.specs.Prelude.{◌≡◌, ◌⊎◌, ℕ, ◌==◌, Bool, ◌&&◌, ◌||◌, true, false, IsTrue, ◌↔◌, ℤ, pos, negsuc, List, codes, Option, None, Some, is_none, if◌then◌else◌}
 use Rattle.std.specs.Option.{option_map}
 use Rattle.fits_rules.specs.Denotes.{LeadDenotes, lead_says_number}
-use Rattle.fits_rules.specs.Image.{image_bits}
+use Rattle.fits_rules.specs.Image.{array_bits, image_bits}
 use Rattle.fits_rules.specs.Lead.{lead_card}
 use Rattle.fits_rules.specs.declared.array_shape.Shape.{Shape}
 use Rattle.fits_image.specs.declared.kind.Kind.{Kind}
@@ -50,6 +50,14 @@ has_offset cards offset = lead_says_number cards (codes "BZERO   ") offset && is
 -- the kind of the image that a shape and cards describe, as a function
 unfoldable pub kind_in : Shape → List (List ℕ) → Option Kind
 kind_in shape cards = option_map (λ bits. kind_of bits (has_offset cards (convention bits))) (image_bits shape)
+
+-- the kind of the array that they describe, with axes or without
+unfoldable pub array_kind : Shape → List (List ℕ) → Option Kind
+array_kind shape cards = option_map (λ bits. kind_of bits (has_offset cards (convention bits))) (array_bits shape)
+
+-- nothing is scaled and nothing added: BSCALE is absent or denotes 1, BZERO is absent or denotes 0 (4.4.2.5)
+unfoldable pub is_plain : List (List ℕ) → Bool
+is_plain cards = is_unscaled cards && (is_none (lead_card cards (codes "BZERO   ")) || lead_says_number cards (codes "BZERO   ") (pos 0))
 
 -- what is added to the number that stands in a pixel: the convention's offset, or 0 (4.4.2.5, 5.2.5)
 abbrev pub offset_of : Kind → ℤ

@@ -1,11 +1,12 @@
-ghost use Rattle.std.specs.Prelude.{◌≡◌, ◌≤◌, codes};
+ghost use Rattle.std.specs.Prelude.{◌≡◌, ◌≤◌, ◌||◌, codes, is_none, pos};
 ghost use Rattle.fits_rules.specs.Denotes.{lead_says_number};
+ghost use Rattle.fits_rules.specs.Lead.{lead_card};
 ghost use Rattle.fits_header.specs.State.{ReadsUpTo};
-ghost use Rattle.fits_image.specs.Kind.{convention, kind_of, is_unscaled, has_offset, kind_in, offset_of, width_of};
+ghost use Rattle.fits_image.specs.Kind.{array_kind, convention, kind_of, is_plain, is_unscaled, has_offset, kind_in, offset_of, width_of};
 
 use fits_card::Name;
 use fits_header::Header;
-use fits_rules::{card_denotes, image_bits};
+use fits_rules::{array_bits, card_denotes, image_bits};
 
 /// The type of an image's pixels: how many bits, and whether they are signed (FITS Standard 4.0,
 /// sections 5.2.1 to 5.2.5).
@@ -84,6 +85,19 @@ fn is_unscaled(header: &mut Header) -> bool
     }
 }
 
+// Whether BZERO is absent or denotes 0.
+#[tactic(auto, unfolding(fits_rules::specs::Denotes::lead_says_number))]
+fn adds_nothing(header: &mut Header) -> bool
+    ensures value { result ≡ (is_none (lead_card header.old.header.cards (codes "BZERO   "))
+        || lead_says_number header.old.header.cards (codes "BZERO   ") (pos 0)) }
+    ensures work { ReadsUpTo header.old header.new 1 }
+{
+    match header.lead_card(&BZERO) {
+        Some(card) => card_denotes(&card, 0),
+        None => true,
+    }
+}
+
 // Whether BZERO denotes this offset, and nothing is scaled.
 fn has_offset(header: &mut Header, offset: i128) -> bool
     ensures value { result ≡ has_offset header.old.header.cards offset }
@@ -120,6 +134,16 @@ fn kind_of(bits: u64, has_offset: bool) -> Kind
     }
 }
 
+// The type of the pixels of so many bits that a header describes.
+fn kind_by(header: &mut Header, bits: u64) -> Kind
+    ensures value { result
+        ≡ kind_of bits (has_offset header.old.header.cards (convention bits)) }
+    ensures work { ReadsUpTo header.old header.new 2 }
+{
+    let has_offset = has_offset(header, convention(bits));
+    kind_of(bits, has_offset)
+}
+
 /// The kind of the integer image that a header describes. It takes no memory.
 #[tactic(auto, unfolding(crate::specs::Kind::kind_in))]
 pub fn image_kind(header: &mut Header) -> Option<Kind>
@@ -127,6 +151,26 @@ pub fn image_kind(header: &mut Header) -> Option<Kind>
     ensures work { ReadsUpTo header.old header.new 2 }
 {
     let bits = image_bits(header.shape())?;
-    let has_offset = has_offset(header, convention(bits));
-    Some(kind_of(bits, has_offset))
+    Some(kind_by(header, bits))
+}
+
+/// The kind of the array of integers that a header describes, with axes or without. It takes no
+/// memory.
+#[tactic(auto, unfolding(crate::specs::Kind::array_kind))]
+pub fn array_kind(header: &mut Header) -> Option<Kind>
+    ensures value { result ≡ array_kind header.old.shape header.old.header.cards }
+    ensures work { ReadsUpTo header.old header.new 2 }
+{
+    let bits = array_bits(header.shape())?;
+    Some(kind_by(header, bits))
+}
+
+/// Whether a header says that pixels are neither scaled nor anything is added to them (FITS Standard
+/// 4.0, section 4.4.2.5). It takes no memory.
+#[tactic(auto, unfolding(crate::specs::Kind::is_plain))]
+pub fn is_plain(header: &mut Header) -> bool
+    ensures value { result ≡ is_plain header.old.header.cards }
+    ensures work { ReadsUpTo header.old header.new 2 }
+{
+    is_unscaled(header) && adds_nothing(header)
 }

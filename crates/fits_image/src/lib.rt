@@ -8,5 +8,5 @@ mod laws;
 
 pub use axes::{are_axes, image_shape};
 pub use image_cards::{card_count, image_header, shape_cards};
-pub use kind::{Kind, image_kind};
+pub use kind::{Kind, array_kind, image_kind, is_plain};
 pub use laws::{images_are_described, one_kind, which_kind_an_image_has};

@@ -1,0 +1,87 @@
+-- BSCALE and BZERO, set to numbers: the shape stays, and the offset is there.
+use Rattle.std.proofs.Common.{◌≡◌, ℕ, ◌^◌, ◌<◌, Bool, true, false, List, [], ◌∷◌, get_or, codes, refl, ap, sym, ◌∙◌, subst, arith, Option, None, Some}
+use Rattle.std.specs.Prelude.{◌≢◌, ◌&&◌, ◌||◌, ◌↔◌, ℤ, pos, unsigned_abs, is_none, unwrap_or, Ok}
+use Rattle.std.specs.Option.{option_map}
+use Rattle.std.specs.Ordering.{int_eq}
+use Rattle.std.proofs.lemmas.Bool.{cond-true, or_right}
+use Rattle.fits_card.specs.Change.{cards_after}
+use Rattle.fits_rules.specs.Denotes.{card_says_number, lead_says_number}
+use Rattle.fits_rules.specs.Lead.{lead_card}
+use Rattle.fits_rules.specs.Shape.{shape_of}
+use Rattle.fits_rules.specs.declared.array_shape.Shape.{Shape}
+use Rattle.fits_image.specs.ImageCards.{written_number}
+use Rattle.fits_image.specs.Kind.{has_offset, is_unscaled}
+use Rattle.fits_image.proofs.ImageCardLemmas.{bscale_name, bzero_name}
+use Rattle.fits_image.proofs.LeadFromLemmas.{From, lead_card_is}
+use Rattle.fits_image.proofs.NumberCardLemmas.{IsValueName, number_card, number_card_denotes_alone, number_card_is, number_is_one_card}
+use Rattle.fits_hdu.specs.Keyword.{keyword_cards, replacing}
+use Rattle.fits_hdu.specs.Reshape.{with_number, with_scaling, ScalingGivesOffset, ScalingKeepsShapes}
+use Rattle.fits_hdu.proofs.SettingLemmas.{IsSet, set_is, set_keeps, set_leads}
+use Rattle.fits_hdu.proofs.StampingLemmas.{set_cards}
+use Rattle.fits_hdu.proofs.StampLemmas.{IsLow, bscale_low, bzero_low, set_kept_shape, set_keeps_shape}
+
+module _ (name : List ℕ) (z : ℤ) (cards : List (List ℕ)) (named : IsValueName name) (small : unsigned_abs z < 2 ^ 64) where
+  -- its one card stands there
+  number_set : IsSet name cards (with_number cards name z) (number_card name z)
+  number_set = subst (λ xs. IsSet name cards (set_cards cards name xs) (number_card name z)) (sym (number_is_one_card name z named.size small)) (set_is name cards (number_card name z))
+
+  -- the shape stays
+  pub number_keeps_shape : (primary : Bool) (shape : Shape) → IsLow name → (shape_of primary cards ≡ Ok shape) ↔ (shape_of primary (with_number cards name z) ≡ Ok shape)
+  number_keeps_shape primary shape low =
+      let card = number_card_is name z named small in (
+        λ e. set_keeps_shape primary name cards (with_number cards name z) (number_card name z) shape e low number_set card.named,
+        λ e. set_kept_shape primary name cards (with_number cards name z) (number_card name z) shape e low number_set card.named,
+      )
+
+  -- the card is the lead
+  pub number_leads : lead_card (with_number cards name z) name ≡ Some (number_card name z)
+  number_leads =
+      let is = number_card_is name z named small in
+      lead_card_is (with_number cards name z) name ∙ ap (option_map (λ (f : From). f.0)) (set_leads name cards (with_number cards name z) (number_card name z) number_set is.named is.valued)
+
+  -- and the leads of other keywords stay
+  pub number_keeps_lead : (other : List ℕ) → name ≢ other → codes "CONTINUE" ≢ other → lead_card (with_number cards name z) other ≡ lead_card cards other
+  number_keeps_lead other p q =
+      let is = number_card_is name z named small in
+      lead_card_is (with_number cards name z) other ∙ (set_keeps name other cards (with_number cards name z) (number_card name z) number_set p q is.named is.valued).lead ∙ sym (lead_card_is cards other)
+
+  -- which denotes that number alone
+  pub number_denotes : (after : List (List ℕ)) (other : ℤ) → lead_card after name ≡ Some (number_card name z) → lead_says_number after name other ≡ int_eq z other
+  unfolding lead_says_number
+  number_denotes after other e = ap (λ o. unwrap_or (option_map (λ card. card_says_number card other) o) false) e ∙ number_card_denotes_alone name z other named small
+
+-- they describe the shape that they did
+pub scaling_keeps_shapes : ScalingKeepsShapes
+scaling_keeps_shapes primary cards offset shape small =
+    let one = with_number cards (codes "BSCALE  ") (pos 1) in
+    let scale = number_keeps_shape (codes "BSCALE  ") (pos 1) cards bscale_name (omega arith) primary shape bscale_low in
+    let zero = number_keeps_shape (codes "BZERO   ") offset one bzero_name small primary shape bzero_low in
+    (λ e. zero.0 (scale.0 e), λ e. scale.1 (zero.1 e))
+
+-- the names differ
+zero_not_scale : codes "BZERO   " ≢ codes "BSCALE  "
+zero_not_scale e = let letter = ap (λ (x : List ℕ). get_or x 1 0) e in omega (arith, letter)
+
+continue_not_scale : codes "CONTINUE" ≢ codes "BSCALE  "
+continue_not_scale e = let letter = ap (λ (x : List ℕ). get_or x 0 0) e in omega (arith, letter)
+
+-- nothing is scaled then
+scaling_unscales : (cards : List (List ℕ)) (offset : ℤ) → unsigned_abs offset < 2 ^ 64 → is_unscaled (with_scaling cards offset) ≡ true
+scaling_unscales cards offset small =
+    let both = with_scaling cards offset in
+    let one = with_number cards (codes "BSCALE  ") (pos 1) in
+    let lead : lead_card both (codes "BSCALE  ") ≡ Some (number_card (codes "BSCALE  ") (pos 1)) =
+    number_keeps_lead (codes "BZERO   ") offset one bzero_name small (codes "BSCALE  ") zero_not_scale continue_not_scale ∙ number_leads (codes "BSCALE  ") (pos 1) cards bscale_name (omega arith) in
+    or_right (is_none (lead_card both (codes "BSCALE  "))) (lead_says_number both (codes "BSCALE  ") (pos 1)) (number_denotes (codes "BSCALE  ") (pos 1) cards bscale_name (omega arith) both (pos 1) lead)
+
+-- and have the offset, and no other
+pub scaling_gives_offset : ScalingGivesOffset
+scaling_gives_offset cards offset other small =
+    let both = with_scaling cards offset in
+    let one = with_number cards (codes "BSCALE  ") (pos 1) in
+    let zero = number_denotes (codes "BZERO   ") offset one bzero_name small both other (number_leads (codes "BZERO   ") offset one bzero_name small) in
+    ap (λ b. lead_says_number both (codes "BZERO   ") other && b) (scaling_unscales cards offset small) ∙ (and_same (lead_says_number both (codes "BZERO   ") other) ∙ zero)
+  where
+    and_same : (b : Bool) → (b && true) ≡ b
+    and_same true = refl
+    and_same false = refl
