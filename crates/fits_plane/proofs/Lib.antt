@@ -1,6 +1,7 @@
 pub mod ApartLemmas
 pub mod ApartRowLemmas
 pub mod BlockLemmas
+pub mod ConvertLemmas
 pub mod CornerLemmas
 pub mod ExactLemmas
 pub mod ExchangeLemmas
@@ -24,6 +25,7 @@ pub mod ScanLemmas
 pub mod ShortRowLemmas
 pub mod SignedLemmas
 pub mod StoreLemmas
+pub mod SummaryLemmas
 pub mod TestLemmas
 pub mod TreeLemmas
 pub mod TurnLemmas

@@ -82,7 +82,7 @@ stored_again w x h = by_width (λ w. x < 256 ^ w → low_bytes w64 w (stored_num
     (λ s. again_1 x s) (λ s. again_2 x (omega (arith, s))) (λ s. again_4 x (omega (arith, s))) (λ s. again_8 x (omega (arith, s))) w h
 
 -- the bytes of a pixel are those of its number
-pixel_bytes : (w i k : ℕ) (z : ℤ) (xs : List ℕ) → IsWidth w → ((k : ℕ) → slice_index xs k < 256) → pixel w xs i ≡ z → k < w
+pub pixel_bytes : (w i k : ℕ) (z : ℤ) (xs : List ℕ) → IsWidth w → ((k : ℕ) → slice_index xs k < 256) → pixel w xs i ≡ z → k < w
     → slice_index xs (i * w + k) ≡ slice_index (stored_bytes w z) k
 pixel_bytes w i k z xs h f e b =
     let x : ℕ = big_from (i * w) w xs in
@@ -94,7 +94,7 @@ pixel_bytes w i k z xs h f e b =
     same_bytes (i * w) 0 w xs (stored_bytes w z) f (bytes_small w (low_bytes w64 w z)) (sym number) k b ∙ ap (slice_index (stored_bytes w z)) zero
 
 -- bytes that are those of a number make a pixel of it
-pixel_of_bytes : (w i : ℕ) (z : ℤ) (xs : List ℕ) → IsWidth w → IsStorable w z → ((k : ℕ) → k < w → slice_index xs (i * w + k) ≡ slice_index (stored_bytes w z) k) → pixel w xs i ≡ z
+pub pixel_of_bytes : (w i : ℕ) (z : ℤ) (xs : List ℕ) → IsWidth w → IsStorable w z → ((k : ℕ) → k < w → slice_index xs (i * w + k) ≡ slice_index (stored_bytes w z) k) → pixel w xs i ≡ z
 pixel_of_bytes w i z xs h s f =
     let bits : ℕ = low_bytes w64 w z in
     ap (stored_number w) (big_from-same (i * w) 0 w xs (big_bytes w bits) (λ k b. let e : k ≡ 0 + k = omega arith in f k b ∙ ap (slice_index (big_bytes w bits)) e)

@@ -45,7 +45,7 @@ lies_within_decides axes lo hi = (λ e. within_is axes lo hi e, λ r. is_within 
 -- ---- a number
 
 -- no more than another
-at_most : (a b : ℤ) → int_le a b ≡ true → a ≤ℤ b
+pub at_most : (a b : ℤ) → int_le a b ≡ true → a ≤ℤ b
 at_most a b e = grind (arith, ints)
 
 -- and so by the test

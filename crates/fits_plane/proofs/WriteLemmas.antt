@@ -15,7 +15,7 @@ pub row_begun : (w start : ℕ) (value : ℕ → ℤ) (old : List ℕ) → RowWr
 row_begun w start value old = record { long = refl; inside = λ y b. absurd (omega (arith, b)); outside = λ j away. refl }
 
 -- another pixel is as before
-pixel_kept : (w i j : ℕ) (cur new : List ℕ) → ((j : ℕ) → (j < i * w) ⊎ ((i + 1) * w ≤ j) → slice_index new j ≡ slice_index cur j) → j ≢ i → pixel w new j ≡ pixel w cur j
+pub pixel_kept : (w i j : ℕ) (cur new : List ℕ) → ((j : ℕ) → (j < i * w) ⊎ ((i + 1) * w ≤ j) → slice_index new j ≡ slice_index cur j) → j ≢ i → pixel w new j ≡ pixel w cur j
 pixel_kept w i j cur new other ne = pixel-same w j j new cur (λ k b. elim (cases_lt j i) [
   | inl lt ↦ let up = mul-le-mul_right w lt in other (j * w + k) (inl (omega (arith, up, b)))
   | inr ge ↦ let gt : i + 1 ≤ j = omega (arith, ge, ne) in let up = mul-le-mul_right w gt in other (j * w + k) (inr (omega (arith, up)))

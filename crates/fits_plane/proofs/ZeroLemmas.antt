@@ -14,7 +14,7 @@ use Rattle.fits_plane.proofs.LeafLemmas.{word_leaf}
 use Rattle.fits_plane.proofs.PixelLemmas.{pixel-same, pixels-same}
 
 -- each byte of zeros, and each past them
-zero_byte : (n i : ℕ) → slice_index (replicate n 0) i ≡ 0
+pub zero_byte : (n i : ℕ) → slice_index (replicate n 0) i ≡ 0
 zero_byte zero i = refl
 zero_byte (suc n) zero = refl
 zero_byte (suc n) (suc i) = zero_byte n i

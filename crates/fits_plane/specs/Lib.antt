@@ -1,3 +1,4 @@
+pub mod Converting
 pub mod DataBytes
 pub mod Exchange
 pub mod Layout

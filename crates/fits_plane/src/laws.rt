@@ -1,5 +1,6 @@
-//! What stands of rectangles whatever is written, of tests whatever they are of, and of summaries
-//! whatever they are joined from, as contracts.
+//! What stands of rectangles and of runs whatever is written, of tests whatever they are of, and of
+//! summaries whatever they are joined from, as contracts.
+ghost use Rattle.fits_plane.specs.Converting.{CanStoreRunDecides, ConvertingKeepsValues, RunIsWritten, WrittenIsRun};
 ghost use Rattle.fits_plane.specs.Pixels.{CanStoreDecides, CanStoreAllDecides};
 ghost use Rattle.fits_plane.specs.Rectangle.{LiesWithinDecides, RectangleIsWritten, WrittenIsRectangle};
 ghost use Rattle.fits_plane.specs.Statistics.{JoinedIsExact, OffsetIsExact};
@@ -14,6 +15,21 @@ pub fn rectangles_are_written_in_one_way()
     ensures { WrittenIsRectangle }
 {}
 
+/// Numbers that can be stored are written one after the other.
+pub fn runs_are_written()
+    ensures { RunIsWritten }
+{}
+
+/// They are written in one way.
+pub fn runs_are_written_in_one_way()
+    ensures { WrittenIsRun }
+{}
+
+/// Pixels that are stored anew keep their values, and the others are zero.
+pub fn converting_keeps_values()
+    ensures { ConvertingKeepsValues }
+{}
+
 /// The summaries of single pixels, fewer than 2^62, are joined to their statistics.
 pub fn summaries_join_exactly()
     ensures { JoinedIsExact }
@@ -24,6 +40,7 @@ pub fn tests_decide()
     ensures lies_within { LiesWithinDecides }
     ensures can_store { CanStoreDecides }
     ensures can_store_all { CanStoreAllDecides }
+    ensures can_store_run { CanStoreRunDecides }
 {}
 
 /// The statistics of stored numbers give those of their values.

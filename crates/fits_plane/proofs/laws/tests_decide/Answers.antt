@@ -1,3 +1,4 @@
+use Rattle.fits_plane.proofs.ConvertLemmas.{can_store_run_decides}
 use Rattle.fits_plane.proofs.TestLemmas.{lies_within_decides, can_store_decides, can_store_all_decides}
 use Rattle.fits_plane.proofs.laws.tests_decide.Goals as goal
 
@@ -9,3 +10,6 @@ returns-clause-can_store c = can_store_decides
 
 pub returns-clause-can_store_all : goal.returns-clause-can_store_all
 returns-clause-can_store_all c = can_store_all_decides
+
+pub returns-clause-can_store_run : goal.returns-clause-can_store_run
+returns-clause-can_store_run c = can_store_run_decides
