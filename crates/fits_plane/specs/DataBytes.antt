@@ -10,3 +10,7 @@ pub record DataState : Type 0 where
 -- blocks were scanned, and else nothing
 abbrev pub IsScanned : DataState → DataState → Type 0
 IsScanned old new = new ≡ record old { scans = new.scans }
+
+-- pixels were read, and else nothing
+abbrev pub IsRead : DataState → DataState → Type 0
+IsRead old new = new ≡ record old { reads = new.reads }

@@ -3,9 +3,10 @@ ghost use Rattle.fits_plane.specs.Layout.{block_count};
 
 use crate::layout::Layout;
 use crate::lent_paint::LentPaint;
-use crate::pixels::{pixel_at, read_bytes};
+use crate::pixels::read_bytes;
 use crate::scan::{Leaf, scan_block};
 use crate::tree::Tree;
+use crate::width::Width;
 use crate::{parts, pixel_writes};
 use fits_card::BLOCK_LEN;
 use fits_stream::{Count, Sink, write_all};
@@ -71,6 +72,13 @@ impl DataBytes {
         read_bytes(self.bytes.as_slice());
     }
 
+    /// Puts other bytes in their place. The counts go on.
+    pub(crate) fn renew(&mut self, bytes: Vec<u8>)
+        ensures { self.new ≡ record self.old { bytes = bytes.items } }
+    {
+        self.bytes = bytes;
+    }
+
     /// Scans block k.
     pub(crate) fn scan(&mut self, layout: Layout, k: usize) -> Leaf
         requires layout { IsLayout layout self.old.bytes }
@@ -106,8 +114,22 @@ impl DataBytes {
         ensures value { result ≡ pixel width self.old.bytes i }
         ensures work { self.new ≡ record self.old { reads = self.old.reads + 1 } }
     {
+        match width {
+            1 => self.pixel_as::<u8>(i),
+            2 => self.pixel_as::<i16>(i),
+            4 => self.pixel_as::<i32>(i),
+            _ => self.pixel_as::<i64>(i),
+        }
+    }
+
+    /// The same, of a width that a type names.
+    pub(crate) fn pixel_as<A: Width>(&mut self, i: usize) -> i64
+        requires within { (i + 1) * A.width ≤ length self.old.bytes }
+        ensures value { result ≡ pixel A.width self.old.bytes i }
+        ensures work { self.new ≡ record self.old { reads = self.old.reads + 1 } }
+    {
         self.reads.tick();
-        pixel_at(self.bytes.as_slice(), width, i)
+        A::read(self.bytes.as_slice(), i)
     }
 
     /// Whether each byte from a place on is this one.

@@ -2,6 +2,7 @@
 #![tactic(auto)]
 
 mod both;
+mod converting;
 mod data_bytes;
 mod exchange;
 mod extremes;
@@ -35,6 +36,7 @@ mod summary;
 mod tree;
 mod value_summary;
 mod values;
+mod width;
 mod word_summary;
 
 pub use both::Both;

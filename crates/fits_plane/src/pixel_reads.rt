@@ -8,7 +8,7 @@ use crate::data_bytes::DataBytes;
 use crate::rectangle::{row_len, row_start, rows};
 
 /// The value of a stored number.
-fn value_of(stored: i64, offset: i128) -> i128
+pub(crate) fn value_of(stored: i64, offset: i128) -> i128
     requires { unsigned_abs offset ≤ 2 ^ 64 }
     ensures { result ≡ stored +ℤ offset }
 {

@@ -1,6 +1,7 @@
 ghost use Rattle.std.specs.Prelude.{◌≡◌, ◌≤◌, ◌*◌, ◌+◌};
 
 use crate::pixels::put_pixel;
+use crate::width::Width;
 
 /// Bytes of pixels that can be written, and not read.
 ///
@@ -33,5 +34,17 @@ impl<'a> PixelWriter<'a> {
             → slice_index self.new.bytes.now j ≡ slice_index self.old.bytes.now j }
     {
         put_pixel(self.bytes, width, i, stored);
+    }
+    /// The same, of a width that a type names.
+    pub(crate) fn put_as<B: Width>(&mut self, i: usize, stored: i64)
+        requires within { (i + 1) * B.width ≤ length self.old.bytes.now }
+        requires storable { IsStorable B.width stored }
+        ensures same_reference { self.new.bytes.ghost_name ≡ self.old.bytes.ghost_name }
+        ensures long { length self.new.bytes.now ≡ length self.old.bytes.now }
+        ensures here { pixel B.width self.new.bytes.now i ≡ stored }
+        ensures other { (j : ℕ) → (j < i * B.width) ⊎ ((i + 1) * B.width ≤ j)
+            → slice_index self.new.bytes.now j ≡ slice_index self.old.bytes.now j }
+    {
+        B::write(self.bytes, i, stored);
     }
 }

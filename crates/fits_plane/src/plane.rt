@@ -1,5 +1,6 @@
 ghost use Rattle.std.specs.Prelude.{◌≡◌, replicate, IfOk};
 
+use crate::converting::{convert_run, converts_run};
 use crate::data_bytes::DataBytes;
 use crate::layout::Layout;
 use crate::leaves::{leaves_of, root_of, zero_leaves};
@@ -7,6 +8,7 @@ use crate::lent_paint::LentPaint;
 use crate::painting::paint_rectangle;
 use crate::pixel_reads::read_rows;
 use crate::pixel_summary::PixelSummary;
+use crate::pixels::read_bytes;
 use crate::rectangle::rectangle_len;
 use crate::scan::Leaf;
 use crate::tree::Tree;
@@ -53,14 +55,16 @@ impl Model for Plane {
 }
 
 impl Plane {
-    ghost use Rattle.std.specs.Prelude.{◌≡◌, ◌≤◌, ◌<◌, ◌*◌, ◌+◌, ◌-ℤ◌, ◌^◌, ◌↔◌, ℕ, pos, true, drop, length, replicate, slice_index_or, unsigned_abs, All, IsTrue, IfOk, OnOk, OnErr};
+    ghost use Rattle.std.specs.Prelude.{◌≡◌, ◌≤◌, ◌<◌, ◌*◌, ◌+◌, ◌%◌, ◌-ℤ◌, ◌^◌, ◌↔◌, ℕ, pos, true, drop, length, replicate, slice_index_or, unsigned_abs, All, IsTrue, IfOk, OnOk, OnErr};
+    ghost use Rattle.std.specs.Option.{option_map};
     ghost use Rattle.fits_stream.specs.Stream.{Prints, PrintsFront};
     ghost use Rattle.fits_sum.specs.Words.{word_total};
+    ghost use Rattle.fits_plane.specs.Converting.{can_store_run, kept_numbers, run_made};
     ghost use Rattle.fits_plane.specs.Statistics.{statistics, value_statistics};
     ghost use Rattle.fits_plane.specs.Paint.{has_count, painted_number};
-    ghost use Rattle.fits_plane.specs.Pixels.{pixel, pixels, IsStorable};
+    ghost use Rattle.fits_plane.specs.Pixels.{pixel, pixels, IsStorable, IsWidth};
     ghost use Rattle.fits_plane.specs.Rectangle.{IsRectangle, product, rectangle_size, rectangle_values, rectangle_written};
-    ghost use Rattle.fits_plane.specs.Layout.{IsLayout, block_count};
+    ghost use Rattle.fits_plane.specs.Layout.{IsLayout, block_count, block_pixels};
     ghost use Rattle.fits_plane.specs.Plane.{IsPainted};
 
     /// The data unit of a copy of these bytes.
@@ -260,6 +264,108 @@ impl Plane {
         let mut values = Vec::with_capacity(alloc, size)?;
         read_rows(&mut values, &mut self.store, width, axes, lo, hi, offset);
         Ok(values)
+    }
+
+    /// Whether pixels of so many bytes can store the numbers of the first `count` pixels, blank or
+    /// not, each with the shift (FITS Standard 4.0, sections 3.3.2 and 4.4.2.5).
+    ///
+    /// The width is 1, 2, 4 or 8. The shift is the offset of the values less that which they are to
+    /// have, and no further from 0 than 2^64.
+    pub fn converts(&mut self, width: usize, count: usize, shift: i128) -> bool
+        requires from { IsWidth self.old.layout.width }
+        requires width { IsWidth width }
+        requires within { count ≤ self.old.layout.pixels }
+        requires shift { unsigned_abs shift ≤ 2 ^ 64 }
+        ensures value { result ≡ can_store_run width
+            (kept_numbers self.old.layout.width self.old.bytes count shift) }
+
+        // Full blocks are known by their least and greatest, so only pixels past them are read.
+        ensures bytes { self.new.bytes ≡ self.old.bytes }
+        ensures layout { self.new.layout ≡ self.old.layout }
+        ensures scans { self.new.scans ≡ self.old.scans }
+        ensures joins { self.new.joins ≡ self.old.joins }
+        ensures more_reads { self.old.reads ≤ self.new.reads }
+        ensures reads { self.new.reads
+            ≤ self.old.reads + count % block_pixels self.old.layout.width }
+    {
+        converts_run(
+            width,
+            &mut self.store,
+            self.layout,
+            &self.tree,
+            count,
+            shift,
+        )
+    }
+
+    /// `len` bytes that store the numbers of the first `count` pixels anew, at this width and each
+    /// with the shift, and zeros behind them. None where `converts` is false.
+    ///
+    /// `Err` is want of memory for the new bytes, and then nothing has changed.
+    pub fn converted(
+        &mut self,
+        alloc: Global,
+        width: usize,
+        count: usize,
+        shift: i128,
+        len: usize,
+    ) -> Result<Option<Vec<u8>>, AllocError>
+        requires from { IsWidth self.old.layout.width }
+        requires width { IsWidth width }
+        requires within { count ≤ self.old.layout.pixels }
+        requires room { count * width ≤ len }
+        requires shift { unsigned_abs shift ≤ 2 ^ 64 }
+        ensures value { IfOk result (λ made. option_map (λ v. v.items) made ≡ run_made width
+            (kept_numbers self.old.layout.width self.old.bytes count shift) len) }
+
+        // Each of its first pixels is read once at most. The memory is had before any is.
+        ensures bytes { self.new.bytes ≡ self.old.bytes }
+        ensures layout { self.new.layout ≡ self.old.layout }
+        ensures scans { self.new.scans ≡ self.old.scans }
+        ensures joins { self.new.joins ≡ self.old.joins }
+        ensures more_reads { self.old.reads ≤ self.new.reads }
+        ensures reads { self.new.reads ≤ self.old.reads + count }
+        ensures err { OnErr result (self.new ≡ self.old) }
+    {
+        let mut made = zeros(alloc, len)?;
+        let stored = convert_run(
+            made.as_mut_slice(),
+            width,
+            &mut self.store,
+            self.layout,
+            &self.tree,
+            count,
+            shift,
+        );
+        if !stored {
+            return Ok(None);
+        }
+        read_bytes(made.as_slice());
+        Ok(Some(made))
+    }
+
+    /// Makes this the data unit of bytes that are handed over. Each of their blocks is scanned, and
+    /// its counts go on.
+    ///
+    /// `Err` is want of memory for what is kept of the blocks, which stands beside what was kept of
+    /// the old ones till then; nothing has changed then, and no block was scanned.
+    pub fn renew(&mut self, alloc: Global, bytes: Vec<u8>, layout: Layout) -> Result<(), AllocError>
+        requires layout { IsLayout layout bytes.items }
+        ensures bytes { OnOk result (self.new.bytes ≡ bytes.items) }
+        ensures layout { OnOk result (self.new.layout ≡ layout) }
+        ensures reads { self.new.reads ≡ self.old.reads }
+        ensures more_scans { self.old.scans ≤ self.new.scans }
+        ensures scans { OnOk result (self.new.scans ≡ self.old.scans + block_count bytes.items) }
+        ensures more_joins { self.old.joins ≤ self.new.joins }
+        ensures joins { OnOk result ((d : ℕ) → block_count bytes.items ≤ 2 ^ d
+            → self.new.joins ≤ self.old.joins + 2 ^ d) }
+        ensures err { OnErr result (self.new ≡ self.old) }
+    {
+        self.tree.renew(alloc, bytes.len() / BLOCK_LEN)?;
+        self.store.renew(bytes);
+        self.layout = layout;
+        self.store.scan_all(layout, &mut self.tree);
+        Ok(())
     }
 
     /// Makes this the stored number of undefined pixels. It takes no memory.

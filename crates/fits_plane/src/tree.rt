@@ -1,4 +1,4 @@
-ghost use Rattle.std.specs.Prelude.{◌≡◌, ◌≤◌, ◌<◌, ◌*◌, ◌+◌, ◌^◌, ℕ, length, slice_set, slice_index_or, IfOk};
+ghost use Rattle.std.specs.Prelude.{◌≡◌, ◌≤◌, ◌<◌, ◌*◌, ◌+◌, ◌^◌, ℕ, length, replicate, slice_set, slice_index_or, IfOk, OnOk, OnErr};
 ghost use Rattle.fits_plane.specs.Summary.{all_joined};
 
 use crate::nodes::{plant_again, plant_tree, power_from, set_leaf, units_of};
@@ -58,11 +58,35 @@ impl<S: Summary> Tree<S> {
         })
     }
 
+    /// Makes this a tree of so many units, which takes no join. Its joins are counted on. On `Err`
+    /// nothing has changed.
+    pub fn renew(&mut self, alloc: Global, count: usize) -> Result<(), AllocError>
+        requires few { count ≤ 2 ^ 62 }
+        ensures leaves { OnOk result (self.new.leaves ≡ replicate count S.empty) }
+        ensures work { self.new.joins ≡ self.old.joins }
+        ensures err { OnErr result (self.new ≡ self.old) }
+    {
+        let width = power_from(count);
+        let nodes = units_of(alloc, 2 * width)?;
+        self.nodes = nodes;
+        self.width = width;
+        self.used = count;
+        Ok(())
+    }
+
     /// The summaries of all leaves, joined in order.
     pub fn root(&self) -> S
         ensures { result ≡ all_joined S.empty S.joined self.now.leaves }
     {
         self.nodes[1]
+    }
+
+    /// The summary of one leaf.
+    pub fn leaf(&self, index: usize) -> S
+        requires { index < length self.now.leaves }
+        ensures { result ≡ slice_index_or self.now.leaves index S.empty }
+    {
+        self.nodes[self.width + index]
     }
 
     /// Writes one leaf, and joins each node above it anew.

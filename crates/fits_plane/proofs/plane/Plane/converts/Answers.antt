@@ -1,0 +1,14 @@
+use Rattle.std.proofs.Common.{ap}
+use Rattle.std.proofs.lemmas.Int.{to_z-of_z}
+use Rattle.std.specs.Int.{w128}
+use Rattle.fits_plane.proofs.ConvertLemmas.{kept_decides}
+use Rattle.fits_plane.proofs.plane.Plane.converts.Goals as goal
+
+-- the test of each pixel is that of the numbers
+pub returns-clause-value : goal.returns-clause-value
+returns-clause-value c =
+    let a = c.args in
+    let width = ap (λ z. z.layout.width) c.self.view_is in
+    let bytes = ap (λ z. z.bytes) c.self.view_is in
+    let means = rw (to_z-of_z w128 a.shift c.ranges.shift) at c.converts_run.ensures.means in
+    kept_decides c.self.inside.layout.width a.self.now.layout.width a.width a.count a.shift c.self.inside.store.bytes a.self.now.bytes _ width bytes means
