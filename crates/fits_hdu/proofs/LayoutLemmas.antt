@@ -33,15 +33,19 @@ array_spanned (axis ∷ axes) some = spanned (axis ∷ axes)
 image_values : (pcount gcount values : ℕ) → (pcount == 0) ≡ true → (gcount == 1) ≡ true → gcount * (pcount + values) ≡ values
 image_values pcount gcount values none one = rw (eqb-true pcount 0 none, eqb-true gcount 1 one) (omega arith)
 
--- the values of an array that has an axis are its pixels (3.3.2, 7.1)
-values_are : (class : Class) (shape : Shape) → is_array class shape.pcount shape.gcount ≡ true → nat_lt 0 (length shape.axes) ≡ true → values_in class shape ≡ product shape.axes
-values_are Primary shape array some = array_spanned shape.axes some
-values_are Image shape array some =
+-- the values of an array are those that its axes span (3.3.2, 7.1)
+pub array_values_are : (class : Class) (shape : Shape) → is_array class shape.pcount shape.gcount ≡ true → values_in class shape ≡ array_values shape.axes
+array_values_are Primary shape array = refl
+array_values_are Image shape array =
     let counts = and_parts (shape.pcount == 0) (shape.gcount == 1) array in
-    image_values shape.pcount shape.gcount (array_values shape.axes) counts.0 counts.1 ∙ array_spanned shape.axes some
-values_are Groups shape array some = absurd (false≢true array)
-values_are Table shape array some = absurd (false≢true array)
-values_are Other shape array some = absurd (false≢true array)
+    image_values shape.pcount shape.gcount (array_values shape.axes) counts.0 counts.1
+array_values_are Groups shape array = absurd (false≢true array)
+array_values_are Table shape array = absurd (false≢true array)
+array_values_are Other shape array = absurd (false≢true array)
+
+-- where there is an axis they are its pixels
+values_are : (class : Class) (shape : Shape) → is_array class shape.pcount shape.gcount ≡ true → nat_lt 0 (length shape.axes) ≡ true → values_in class shape ≡ product shape.axes
+values_are class shape array some = array_values_are class shape array ∙ array_spanned shape.axes some
 
 -- what was kept by a test passed it
 pub kept : {X : Type 0} (b : Bool) (o : Option X) (x : X) → (if b then o else None) ≡ Some x → (b ≡ true) × (o ≡ Some x)

@@ -22,3 +22,4 @@ pub mod SumFacts
 pub mod SumLemmas
 pub mod NewImageLemmas
 pub mod ScalingLemmas
+pub mod ReshapeLemmas

@@ -289,7 +289,7 @@ unfolding stamp_reads stamp_count_reads
 stamp_most cards m a b n x y z p q r s t u = omega (arith, p, q, r, s, t, u)
 
 -- what is put in
-brought : (cards : List (List ℕ)) (new : List (List ℕ)) (old : Option KeywordCards) → new_cards (replacing (length cards) old new) ≡ new
+pub brought : (cards : List (List ℕ)) (new : List (List ℕ)) (old : Option KeywordCards) → new_cards (replacing (length cards) old new) ≡ new
 unfolding new_cards
 brought cards new None = refl
 brought cards new (Some old) = refl

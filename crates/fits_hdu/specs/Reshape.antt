@@ -1,16 +1,23 @@
--- The cards of an array of integers that is made another, of this kind and with these axes (FITS Standard 4.0, sections 4.4.1.1,
--- 4.4.2.5 and 5.2.5; own).
-use Rattle.std.specs.Prelude.{◌≡◌, ◌↔◌, ℕ, ◌+◌, ◌*◌, ◌^◌, ◌<◌, ◌&&◌, Bool, false, not, ℤ, pos, unsigned_abs, List, length, codes, Option, None, Some, Result, Ok, if◌then◌else◌}
+-- An array of integers made another, of this kind and with these axes: its cards, and its pixels (FITS Standard 4.0, sections
+-- 3.3.2, 4.4.1.1, 4.4.2.5 and 5.2; own).
+use Rattle.std.specs.Prelude.{◌≡◌, ◌≢◌, ◌↔◌, ℕ, ◌+◌, ◌*◌, ◌^◌, ◌<◌, ◌≤◌, ◌&&◌, Bool, false, not, min, ℤ, pos, ◌+ℤ◌, ◌-ℤ◌, unsigned_abs, List, length, slice_index, codes, Option, None, Some, Result, Ok, Err, if◌then◌else◌}
 use Rattle.std.specs.Ordering.{int_eq}
 use Rattle.fits_card.specs.Change.{cards_after, spliced}
+use Rattle.fits_card.specs.Header.{with_cards}
+use Rattle.fits_plane.specs.Converting.{KeepsValues, kept_numbers, run_made}
 use Rattle.fits_rules.specs.Class.{is_primary}
+use Rattle.fits_rules.specs.Lead.{lead_card}
 use Rattle.fits_rules.specs.SameShape.{same_shape}
-use Rattle.fits_rules.specs.Shape.{shape_of}
+use Rattle.fits_rules.specs.Shape.{axis_name, shape_of}
+use Rattle.fits_rules.specs.Size.{array_values, data_length}
 use Rattle.fits_rules.specs.declared.array_shape.Shape.{Shape}
 use Rattle.fits_image.specs.ImageCards.{are_axes, shape_cards, written_number}
 use Rattle.fits_image.specs.Kind.{array_kind, has_offset, is_plain, offset_of, width_of}
 use Rattle.fits_image.specs.declared.kind.Kind.{Kind}
+use Rattle.fits_hdu.specs.Hdu.{HduParts, IsHdu}
 use Rattle.fits_hdu.specs.Keyword.{keyword_cards, replacing}
+use Rattle.fits_hdu.specs.declared.reshape_fault.ReshapeFault.{ReshapeFault}
+use Rattle.fits_hdu.specs.declared.reshape_fault.ReshapeFault.TheVariants.{NotImage, BadShape, OutOfRange}
 
 -- what the cards describe then: the class and the counts stay
 abbrev pub reshaped_shape : Kind → List ℕ → Shape → Shape
@@ -50,6 +57,34 @@ can_reshape old kind axes shape cards =
     are_axes axes && not (scales_otherwise old kind cards)
     && describes_array (reshaped_shape kind axes shape) (offset_of kind) (cards_reshaped old kind axes shape cards)
 
+-- as many pixels stay as both arrays have
+abbrev pub kept_count : List ℕ → List ℕ → ℕ
+kept_count before after = min (array_values before) (array_values after)
+
+-- its data unit then: each pixel that stays has the value that it had, and zero bytes stand behind them; none where a pixel can't store
+-- its number (3.3.2, 4.4.2.5)
+abbrev pub unit_reshaped : Kind → Kind → List ℕ → Shape → List ℕ → Option (List ℕ)
+unit_reshaped old kind axes shape unit =
+    run_made (width_of kind) (kept_numbers (width_of old) unit (kept_count shape.axes axes) (offset_of old -ℤ offset_of kind))
+    (data_length (reshaped_shape kind axes shape))
+
+-- the HDU with these cards and this data unit, if there is one
+abbrev pub reshaped_to : List (List ℕ) → Option (List ℕ) → HduParts → Result HduParts ReshapeFault
+reshaped_to cards None hdu = Err OutOfRange
+reshaped_to cards (Some unit) hdu = Ok (record { header = with_cards hdu.header cards; data_unit = unit })
+
+-- of an array of this kind, or of none
+abbrev pub reshaped_by : Option Kind → Kind → List ℕ → Shape → HduParts → Result HduParts ReshapeFault
+reshaped_by None kind axes shape hdu = Err NotImage
+reshaped_by (Some old) kind axes shape hdu =
+    if can_reshape old kind axes shape hdu.header.cards
+    then reshaped_to (cards_reshaped old kind axes shape hdu.header.cards) (unit_reshaped old kind axes shape hdu.data_unit) hdu
+    else Err BadShape
+
+-- an HDU that is made such an array, or the first test that fails
+unfoldable pub reshaped : Kind → List ℕ → Shape → HduParts → Result HduParts ReshapeFault
+reshaped kind axes shape hdu = reshaped_by (array_kind shape hdu.header.cards) kind axes shape hdu
+
 -- cards that scale describe the shape that they did
 abbrev pub ScalingKeepsShapes : Type 0
 ScalingKeepsShapes =
@@ -62,3 +97,17 @@ abbrev pub ScalingGivesOffset : Type 0
 ScalingGivesOffset =
     (cards : List (List ℕ)) (offset other : ℤ) → unsigned_abs offset < 2 ^ 64
     → has_offset (with_scaling cards offset) other ≡ int_eq offset other
+
+-- an HDU that is made another array is one, and its cards describe it
+abbrev pub ReshapedIsHdu : Type 0
+ReshapedIsHdu =
+    (primary : Bool) (kind : Kind) (axes : List ℕ) (shape : Shape) (hdu new : HduParts)
+    → IsHdu primary hdu → shape_of primary hdu.header.cards ≡ Ok shape → reshaped kind axes shape hdu ≡ Ok new
+    → IsHdu primary new × (shape_of primary new.header.cards ≡ Ok (reshaped_shape kind axes shape))
+
+-- the pixels that stay have the values that they had, and the others store 0
+abbrev pub ReshapingKeepsValues : Type 0
+ReshapingKeepsValues =
+    (primary : Bool) (old kind : Kind) (axes : List ℕ) (shape : Shape) (hdu new : HduParts)
+    → shape_of primary hdu.header.cards ≡ Ok shape → array_kind shape hdu.header.cards ≡ Some old → reshaped kind axes shape hdu ≡ Ok new
+    → KeepsValues (width_of old) (width_of kind) (offset_of old) (offset_of kind) (kept_count shape.axes axes) (array_values axes) hdu.data_unit new.data_unit

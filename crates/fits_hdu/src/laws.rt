@@ -19,7 +19,7 @@ ghost use Rattle.fits_image.specs.Kind.{IsKind, kind_in};
 ghost use Rattle.fits_image.specs.ImageCards.{are_axes, image_cards, image_shape};
 ghost use Rattle.fits_hdu.specs.NewImage.{new_image};
 ghost use Rattle.fits_hdu.specs.Pixels.{painted};
-ghost use Rattle.fits_hdu.specs.Reshape.{ScalingGivesOffset, ScalingKeepsShapes};
+ghost use Rattle.fits_hdu.specs.Reshape.{ReshapedIsHdu, ReshapingKeepsValues, ScalingGivesOffset, ScalingKeepsShapes};
 ghost use Rattle.fits_hdu.specs.Stamp.{stamped};
 ghost use Rattle.fits_hdu.specs.Sums.{hdu_sum, verdicts_of};
 ghost use Rattle.fits_hdu.specs.declared.verdict.Verdict.TheVariants.{Right};
@@ -121,4 +121,15 @@ pub fn scalings_keep_shapes()
 /// Then pixels have that offset, and no other (FITS Standard 4.0, section 4.4.2.5).
 pub fn scalings_give_their_offset()
     ensures { ScalingGivesOffset }
+{}
+
+/// An HDU that is made another array is one, of the shape that is asked for.
+pub fn reshaped_hdus_are_hdus()
+    ensures { ReshapedIsHdu }
+{}
+
+/// The pixels that stay have the values that they had, blank ones too; the others store 0, and zero
+/// bytes stand behind them.
+pub fn a_reshaped_pixel_keeps_its_value()
+    ensures { ReshapingKeepsValues }
 {}

@@ -26,7 +26,7 @@ use Rattle.fits_rules.proofs.ShapeLemmas.{axis_there, bitpix_there, first_named,
 use Rattle.fits_value.specs.Spelling.{is_digit}
 use Rattle.fits_value.proofs.WrittenLemmas.{narrower, none_text, text_both, text_more, text_spaces}
 use Rattle.fits_image.specs.Kind.{offset_of, width_of}
-use Rattle.fits_image.specs.ImageCards.{are_axes, axis_cards, image_cards, image_shape, offset_cards, scaling_cards}
+use Rattle.fits_image.specs.ImageCards.{shape_cards, are_axes, axis_cards, image_cards, image_shape, offset_cards, scaling_cards}
 use Rattle.fits_image.specs.declared.kind.Kind.{Kind}
 use Rattle.fits_image.specs.declared.kind.Kind.TheVariants.{U8, I8, I16, U16, I32, U32, I64, U64}
 use Rattle.fits_image.proofs.LeadFromLemmas.{From, from_lead, lead_card_is}
@@ -184,8 +184,20 @@ image_cards_are kind axes e =
     let gcount = number_is_one_card (codes "GCOUNT  ") (pos 1) refl (omega arith) in
     rw (image_is_one_card, bitpix, naxis, axis_cards_are 1 axes are, pcount, gcount, offset_cards_are kind) refl
 
+-- BITPIX, NAXIS and the axes, one card each
+abbrev pub shape_list : Kind → List ℕ → List (List ℕ)
+shape_list kind axes = number_card (codes "BITPIX  ") (pos (8 * width_of kind)) ∷ number_card (codes "NAXIS   ") (pos (length axes)) ∷ axis_list 1 axes
+
+-- each of them is written to one
+pub shape_cards_are : (kind : Kind) (axes : List ℕ) → are_axes axes ≡ true → shape_cards kind axes ≡ shape_list kind axes
+shape_cards_are kind axes e =
+    let are = axes_from axes e in
+    let bitpix = number_is_one_card (codes "BITPIX  ") (pos (8 * width_of kind)) refl (omega (arith, width_most kind)) in
+    let naxis = number_is_one_card (codes "NAXIS   ") (pos (length axes)) refl (omega (arith, are.few)) in
+    rw (bitpix, naxis, axis_cards_are 1 axes are) refl
+
 -- a number's card is one of a header
-number_inner : (name : List ℕ) (z : ℤ) → IsValueName name → unsigned_abs z < 2 ^ 64 → IsInnerCard (number_card name z)
+pub number_inner : (name : List ℕ) (z : ℤ) → IsValueName name → unsigned_abs z < 2 ^ 64 → IsInnerCard (number_card name z)
 number_inner name z is small = let card = number_card_is name z is small in card.inner
 
 -- and so are those of axes
@@ -195,6 +207,16 @@ axis_list_inner n (axis ∷ axes) are =
     All-cons IsInnerCard (number_card (axis_name n) (pos axis)) (axis_list (n + 1) axes)
     (number_inner (axis_name n) (pos axis) (axis_name_is n (omega (arith, are.few))) (omega (arith, first_small n axis axes are)))
     (axis_list_inner (n + 1) axes (more_axes n axis axes are))
+
+-- and those of a shape
+pub shape_cards_inner : (kind : Kind) (axes : List ℕ) → are_axes axes ≡ true → All IsInnerCard (shape_cards kind axes)
+shape_cards_inner kind axes e =
+    let are = axes_from axes e in
+    let naxis = number_inner (codes "NAXIS   ") (pos (length axes)) naxis_name (omega (arith, are.few)) in
+    let bitpix = number_inner (codes "BITPIX  ") (pos (8 * width_of kind)) bitpix_name (omega (arith, width_most kind)) in
+    subst (All IsInnerCard) (sym (shape_cards_are kind axes e))
+    (All-cons IsInnerCard (number_card (codes "BITPIX  ") (pos (8 * width_of kind))) (number_card (codes "NAXIS   ") (pos (length axes)) ∷ axis_list 1 axes) bitpix
+    (All-cons IsInnerCard (number_card (codes "NAXIS   ") (pos (length axes))) (axis_list 1 axes) naxis (axis_list_inner 1 axes are)))
 
 -- those of an offset
 scaling_inner : (offset : ℤ) → unsigned_abs offset < 2 ^ 64 → All IsInnerCard (scaling_list offset)
