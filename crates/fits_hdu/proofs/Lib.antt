@@ -23,3 +23,4 @@ pub mod SumLemmas
 pub mod NewImageLemmas
 pub mod ScalingLemmas
 pub mod ReshapeLemmas
+pub mod OtherLeadLemmas

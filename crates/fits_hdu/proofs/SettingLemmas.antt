@@ -65,7 +65,7 @@ link_named card link e = elim (cases_Bool (is_continue card)) [
 ]
 
 -- a lead has its name and a value
-lead_parts : (name card : List ℕ) → is_value_of name card ≡ true → (keyword_name card ≡ name) × (has_value card ≡ true)
+pub lead_parts : (name card : List ℕ) → is_value_of name card ≡ true → (keyword_name card ≡ name) × (has_value card ≡ true)
 unfolding is_value_of
 lead_parts name card e = let both = and_parts _ _ e in ((bytes_eq-Decides (keyword_name card) name).0 both.0, both.1)
 
@@ -200,7 +200,7 @@ chain_or_later None later later' xs ys p q e = ap chain_from e
 chain_or_later (Some from) later later' xs ys p q e = ap Some (chain-before from.0 from.1 xs ys p q)
 
 -- and so does that lead
-card_or_later : (first later later' : Option From) (xs ys : List (List ℕ)) → later ≡ later' → option_map (λ (f : From). f.0) (or_later (option_map (before_more xs) first) later) ≡ option_map (λ (f : From). f.0) (or_later (option_map (before_more ys) first) later')
+pub card_or_later : (first later later' : Option From) (xs ys : List (List ℕ)) → later ≡ later' → option_map (λ (f : From). f.0) (or_later (option_map (before_more xs) first) later) ≡ option_map (λ (f : From). f.0) (or_later (option_map (before_more ys) first) later')
 card_or_later None later later' xs ys e = ap (option_map (λ (f : From). f.0)) e
 card_or_later (Some from) later later' xs ys e = refl
 

@@ -1,9 +1,11 @@
 -- How the cards of a shape begin.
-use Rattle.std.proofs.Common.{◌≡◌, ℕ, Bool, true, false, List, [], ◌∷◌, rules, refl, ap, sym, ◌∙◌, Option, None, Some}
+use Rattle.std.proofs.Common.{◌≡◌, ℕ, ◌+◌, Bool, true, false, List, [], ◌∷◌, rules, refl, ap, sym, ◌∙◌, Option, None, Some, option_and_then, ℤ}
 use Rattle.std.specs.Prelude.{codes, IfSome, Ok, ok_or, if◌then◌else◌}
 use Rattle.std.specs.Str.{bytes_eq}
 use Rattle.fits_card.specs.Card.{keyword_name}
-use Rattle.fits_rules.specs.Shape.{shape_of, first_card, card_named, if_named}
+use Rattle.fits_card.specs.Header.{card_at}
+use Rattle.fits_rules.specs.Reads.{integer_said}
+use Rattle.fits_rules.specs.Shape.{axis_name, axis_of, bitpix_in, bitpix_of, naxis_of, shape_of, first_card, card_named, if_named}
 use Rattle.fits_rules.specs.declared.array_shape.Shape.{Shape}
 use Rattle.fits_rules.proofs.AxesLemmas.{bind_ok}
 use Rattle.fits_rules.proofs.DescribesLemmas.{ok_or_ok}
@@ -63,3 +65,37 @@ one_primary p q cards s t d e =
     let same : a.0 ∷ a.1 ≡ b.0 ∷ b.1 = sym a.2 ∙ b.2 in
     let first : a.0 ≡ b.0 = cc in
     one_name p q (sym a.3 ∙ ap keyword_name first ∙ b.3)
+
+-- what an option holds, where something follows from it
+pub held : {X Y : Type 0} (f : X → Option Y) (o : Option X) (y : Y) → option_and_then f o ≡ Some y → (x : X) × (o ≡ Some x) × (f x ≡ Some y)
+held f None y e = absurd (cc)
+held f (Some x) y e = (x, refl, e)
+
+-- the card at a place has the name that is asked for there
+pub named_at : (cards : List (List ℕ)) (place : ℕ) (name card other : List ℕ) → card_at cards place ≡ Some card → card_named cards place name ≡ Some other → keyword_name card ≡ name
+unfolding card_named
+named_at cards place name card other at e = named name card other (sym (ap (option_and_then (if_named name)) at) ∙ e)
+
+-- that at 2 has the name BITPIX
+pub bitpix_named : (cards : List (List ℕ)) (card : List ℕ) (bitpix : ℤ) → card_at cards 2 ≡ Some card → bitpix_of cards ≡ Some bitpix → keyword_name card ≡ codes "BITPIX  "
+unfolding bitpix_of
+bitpix_named cards card bitpix at e =
+    let number = held bitpix_in _ bitpix e in
+    let found = held integer_said _ number.0 number.1 in
+    named_at cards 2 (codes "BITPIX  ") card found.0 at found.1
+
+-- that at 3 NAXIS
+pub naxis_named : (cards : List (List ℕ)) (card : List ℕ) (naxis : ℕ) → card_at cards 3 ≡ Some card → naxis_of cards ≡ Some naxis → keyword_name card ≡ codes "NAXIS   "
+unfolding naxis_of
+naxis_named cards card naxis at e =
+    let number = held _ _ naxis e in
+    let found = held integer_said _ number.0 number.1 in
+    named_at cards 3 (codes "NAXIS   ") card found.0 at found.1
+
+-- and those of axes theirs
+pub axis_named : (cards : List (List ℕ)) (card : List ℕ) (n axis : ℕ) → card_at cards (3 + n) ≡ Some card → axis_of cards n ≡ Some axis → keyword_name card ≡ axis_name n
+unfolding axis_of
+axis_named cards card n axis at e =
+    let number = held _ _ axis e in
+    let found = held integer_said _ number.0 number.1 in
+    named_at cards (3 + n) (axis_name n) card found.0 at found.1

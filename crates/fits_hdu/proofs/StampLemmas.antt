@@ -19,23 +19,13 @@ use Rattle.fits_rules.proofs.DescribesLemmas.{described}
 use Rattle.fits_rules.proofs.KeepingLemmas.{described_within, splice_keeps}
 use Rattle.fits_rules.proofs.NearLemmas.{naxis_within}
 use Rattle.fits_hdu.proofs.SettingLemmas.{IsOwn, IsSet}
-use Rattle.fits_hdu.proofs.ShapeLemmas.{named}
+use Rattle.fits_hdu.proofs.ShapeLemmas.{axis_named, bitpix_named, naxis_named, named_at}
 
 -- the name begins with B to F and not with BI, as those of a stamp and of a scaling, and no name of a shape
 pub record IsLow (name : List ℕ) : Type 0 where
   pub above : 65 < get_or name 0 0
   pub below : get_or name 0 0 < 71
   pub second : get_or name 1 0 ≢ 73
-
--- what an option holds, where something follows from it
-held : {X Y : Type 0} (f : X → Option Y) (o : Option X) (y : Y) → option_and_then f o ≡ Some y → (x : X) × (o ≡ Some x) × (f x ≡ Some y)
-held f None y e = absurd (cc)
-held f (Some x) y e = (x, refl, e)
-
--- the card at a place has the name that is asked for there
-named_at : (cards : List (List ℕ)) (place : ℕ) (name card other : List ℕ) → card_at cards place ≡ Some card → card_named cards place name ≡ Some other → keyword_name card ≡ name
-unfolding card_named
-named_at cards place name card other at e = named name card other (sym (ap (option_and_then (if_named name)) at) ∙ e)
 
 -- so no card of a low name stands first
 not_first : (primary : Bool) (cards : List (List ℕ)) (card first : List ℕ) → card_at cards 1 ≡ Some card → IsLow (keyword_name card) → first_card primary cards ≡ Some first → ⊥
@@ -45,28 +35,20 @@ not_first false cards card first at low e = let name = ap (λ (x : List ℕ). ge
 
 -- nor where BITPIX does
 not_bitpix : (cards : List (List ℕ)) (card : List ℕ) (bitpix : ℤ) → card_at cards 2 ≡ Some card → IsLow (keyword_name card) → bitpix_of cards ≡ Some bitpix → ⊥
-unfolding bitpix_of
 not_bitpix cards card bitpix at low e =
-    let number = held bitpix_in _ bitpix e in
-    let found = held integer_said _ number.0 number.1 in
-    low.second (ap (λ (x : List ℕ). get_or x 1 0) (named_at cards 2 (codes "BITPIX  ") card found.0 at found.1))
+    low.second (ap (λ (x : List ℕ). get_or x 1 0) (bitpix_named cards card bitpix at e))
 
 -- nor NAXIS
 not_naxis : (cards : List (List ℕ)) (card : List ℕ) (naxis : ℕ) → card_at cards 3 ≡ Some card → IsLow (keyword_name card) → naxis_of cards ≡ Some naxis → ⊥
-unfolding naxis_of
 not_naxis cards card naxis at low e =
-    let number = held _ _ naxis e in
-    let found = held integer_said _ number.0 number.1 in
-    let name = ap (λ (x : List ℕ). get_or x 0 0) (named_at cards 3 (codes "NAXIS   ") card found.0 at found.1) in
+    let name = ap (λ (x : List ℕ). get_or x 0 0) (naxis_named cards card naxis at e) in
     omega (arith, name, low.above, low.below)
 
 -- nor an axis
 not_axis : (cards : List (List ℕ)) (card : List ℕ) (n axis : ℕ) → card_at cards (3 + n) ≡ Some card → IsLow (keyword_name card) → axis_of cards n ≡ Some axis → ⊥
-unfolding axis_of axis_name
+unfolding axis_name
 not_axis cards card n axis at low e =
-    let number = held _ _ axis e in
-    let found = held integer_said _ number.0 number.1 in
-    let name = ap (λ (x : List ℕ). get_or x 0 0) (named_at cards (3 + n) (axis_name n) card found.0 at found.1) in
+    let name = ap (λ (x : List ℕ). get_or x 0 0) (axis_named cards card n axis at e) in
     omega (arith, name, low.above, low.below)
 
 -- a card of a low name stands after the last axis

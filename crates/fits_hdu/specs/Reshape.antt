@@ -1,6 +1,6 @@
 -- An array of integers made another, of this kind and with these axes: its cards, and its pixels (FITS Standard 4.0, sections
 -- 3.3.2, 4.4.1.1, 4.4.2.5 and 5.2; own).
-use Rattle.std.specs.Prelude.{◌≡◌, ◌≢◌, ◌↔◌, ℕ, ◌+◌, ◌*◌, ◌^◌, ◌<◌, ◌≤◌, ◌&&◌, Bool, false, not, min, ℤ, pos, ◌+ℤ◌, ◌-ℤ◌, unsigned_abs, List, length, slice_index, codes, Option, None, Some, Result, Ok, Err, if◌then◌else◌}
+use Rattle.std.specs.Prelude.{◌≡◌, ◌≢◌, ◌↔◌, ℕ, ◌+◌, ◌*◌, ◌^◌, ◌<◌, ◌≤◌, ◌&&◌, Bool, true, false, not, min, ℤ, pos, ◌+ℤ◌, ◌-ℤ◌, unsigned_abs, List, length, slice_index, codes, Option, None, Some, Result, Ok, Err, if◌then◌else◌}
 use Rattle.std.specs.Ordering.{int_eq}
 use Rattle.fits_card.specs.Change.{cards_after, spliced}
 use Rattle.fits_card.specs.Header.{with_cards}
@@ -111,3 +111,19 @@ ReshapingKeepsValues =
     (primary : Bool) (old kind : Kind) (axes : List ℕ) (shape : Shape) (hdu new : HduParts)
     → shape_of primary hdu.header.cards ≡ Ok shape → array_kind shape hdu.header.cards ≡ Some old → reshaped kind axes shape hdu ≡ Ok new
     → KeepsValues (width_of old) (width_of kind) (offset_of old) (offset_of kind) (kept_count shape.axes axes) (array_values axes) hdu.data_unit new.data_unit
+
+-- a name of no card that is written anew, and of none that continues another
+pub record IsOther (name : List ℕ) : Type 0 where
+  pub bitpix : codes "BITPIX  " ≢ name
+  pub naxis : codes "NAXIS   " ≢ name
+  pub axis : (n : ℕ) → axis_name n ≢ name
+  pub scale : codes "BSCALE  " ≢ name
+  pub zero : codes "BZERO   " ≢ name
+  pub link : codes "CONTINUE" ≢ name
+
+-- the leads of other names stay
+abbrev pub ReshapingLeavesLeads : Type 0
+ReshapingLeavesLeads =
+    (primary : Bool) (old kind : Kind) (axes : List ℕ) (shape : Shape) (cards : List (List ℕ)) (name : List ℕ)
+    → shape_of primary cards ≡ Ok shape → are_axes axes ≡ true → IsOther name
+    → lead_card (cards_reshaped old kind axes shape cards) name ≡ lead_card cards name

@@ -19,7 +19,7 @@ ghost use Rattle.fits_image.specs.Kind.{IsKind, kind_in};
 ghost use Rattle.fits_image.specs.ImageCards.{are_axes, image_cards, image_shape};
 ghost use Rattle.fits_hdu.specs.NewImage.{new_image};
 ghost use Rattle.fits_hdu.specs.Pixels.{painted};
-ghost use Rattle.fits_hdu.specs.Reshape.{ReshapedIsHdu, ReshapingKeepsValues, ScalingGivesOffset, ScalingKeepsShapes};
+ghost use Rattle.fits_hdu.specs.Reshape.{ReshapedIsHdu, ReshapingKeepsValues, ReshapingLeavesLeads, ScalingGivesOffset, ScalingKeepsShapes};
 ghost use Rattle.fits_hdu.specs.Stamp.{stamped};
 ghost use Rattle.fits_hdu.specs.Sums.{hdu_sum, verdicts_of};
 ghost use Rattle.fits_hdu.specs.declared.verdict.Verdict.TheVariants.{Right};
@@ -132,4 +132,9 @@ pub fn reshaped_hdus_are_hdus()
 /// bytes stand behind them.
 pub fn a_reshaped_pixel_keeps_its_value()
     ensures { ReshapingKeepsValues }
+{}
+
+/// The leads of names that are written anew on no card stay: BLANK's, and what an extension is called.
+pub fn a_reshape_leaves_other_leads()
+    ensures { ReshapingLeavesLeads }
 {}

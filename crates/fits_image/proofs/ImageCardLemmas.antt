@@ -73,11 +73,11 @@ axes_from axes e =
     record { few = omega (arith, few); small = both.1 }
 
 -- the first of them
-first_small : (n axis : ℕ) (axes : List ℕ) → AreAxesFrom n (axis ∷ axes) → axis ≤ 9223372036854775807
+pub first_small : (n axis : ℕ) (axes : List ℕ) → AreAxesFrom n (axis ∷ axes) → axis ≤ 9223372036854775807
 first_small n axis axes are = leb-true axis 9223372036854775807 (and_parts (leb axis 9223372036854775807) (list_all (λ a. nat_le a 9223372036854775807) axes) are.small).0
 
 -- and those after it
-more_axes : (n axis : ℕ) (axes : List ℕ) → AreAxesFrom n (axis ∷ axes) → AreAxesFrom (n + 1) axes
+pub more_axes : (n axis : ℕ) (axes : List ℕ) → AreAxesFrom n (axis ∷ axes) → AreAxesFrom (n + 1) axes
 more_axes n axis axes are = record { few = omega (arith, are.few); small = (and_parts (leb axis 9223372036854775807) (list_all (λ a. nat_le a 9223372036854775807) axes) are.small).1 }
 
 -- a digit is text
@@ -110,12 +110,12 @@ pub axis_name_is : (n : ℕ) → n < 1000 → IsValueName (axis_name n)
 axis_name_is n small = record { size = axis_name_size n small; text = axis_name_text n small; valued = axis_name_valued n }
 
 -- BITPIX is the name of a card with a value
-bitpix_name : IsValueName (codes "BITPIX  ")
+pub bitpix_name : IsValueName (codes "BITPIX  ")
 unfolding is_valueless is_text
 bitpix_name = record { size = refl; text = refl; valued = refl }
 
 -- NAXIS is the name of a card with a value
-naxis_name : IsValueName (codes "NAXIS   ")
+pub naxis_name : IsValueName (codes "NAXIS   ")
 unfolding is_valueless is_text
 naxis_name = record { size = refl; text = refl; valued = refl }
 
@@ -163,7 +163,7 @@ offset_cards_are I64 = refl
 offset_cards_are U64 = scaling_cards_are (pos 9223372036854775808) (omega arith)
 
 -- a pixel has 8 bytes at most
-width_most : (kind : Kind) → width_of kind ≤ 8
+pub width_most : (kind : Kind) → width_of kind ≤ 8
 width_most U8 = omega arith
 width_most I8 = omega arith
 width_most I16 = omega arith
