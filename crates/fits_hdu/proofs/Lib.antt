@@ -24,3 +24,5 @@ pub mod NewImageLemmas
 pub mod ScalingLemmas
 pub mod ReshapeLemmas
 pub mod OtherLeadLemmas
+pub mod PlanLemmas
+pub mod ReshapedCountLemmas

@@ -22,7 +22,7 @@ use Rattle.fits_image.specs.declared.kind.Kind.{Kind}
 use Rattle.fits_image.proofs.ImageCardLemmas.{AreAxesFrom, axes_from, axis_list, axis_name_is, bitpix_name, bscale_name, bzero_name, first_small, more_axes, naxis_name, shape_cards_are, shape_list, width_most}
 use Rattle.fits_image.proofs.LeadFromLemmas.{From, from_lead, from_lead-append, lead_card_is}
 use Rattle.fits_image.proofs.NumberCardLemmas.{number_card, number_card_is}
-use Rattle.fits_hdu.specs.Reshape.{IsOther, ReshapingLeavesLeads, cards_reshaped, with_number, with_scaling}
+use Rattle.fits_hdu.specs.Reshape.{IsOther, IsUnshaped, ReshapingLeavesLeads, cards_reshaped, with_number, with_scaling}
 use Rattle.fits_hdu.proofs.ReshapeLemmas.{offset_small}
 use Rattle.fits_hdu.proofs.ScalingLemmas.{number_keeps_lead}
 use Rattle.fits_hdu.proofs.SettingLemmas.{card_or_later, lead_parts}
@@ -33,7 +33,7 @@ abbrev pub Differs : List ℕ → List ℕ → Type 0
 Differs name card = keyword_name card ≢ name
 
 -- cards of other names hold no lead
-past_others : (name : List ℕ) (xs ys : List (List ℕ)) → All (Differs name) xs → from_lead name (xs ++ ys) ≡ from_lead name ys
+pub past_others : (name : List ℕ) (xs ys : List (List ℕ)) → All (Differs name) xs → from_lead name (xs ++ ys) ≡ from_lead name ys
 past_others name [] ys p = refl
 past_others name (x ∷ xs) ys p =
     let no : is_value_of name x ≡ false = false_from_ne_true (is_value_of name x) (λ e. All-head (Differs name) x xs p (lead_parts name x e).0) in
@@ -57,7 +57,7 @@ lead_spliced cards new name place removed taken brought =
     ∙ (sym (ap (option_map (λ (f : From). f.0)) before) ∙ sym (lead_card_is cards name))))
 
 -- a card of a shape has one of its names
-module _ (primary : Bool) (cards : List (List ℕ)) (shape : Shape) (name : List ℕ) (d : Describes primary cards shape) (other : IsOther name) where
+module _ (primary : Bool) (cards : List (List ℕ)) (shape : Shape) (name : List ℕ) (d : Describes primary cards shape) (other : IsUnshaped name) where
   -- the card at a place
   here : (place : ℕ) → place < length cards → card_at cards (place + 1) ≡ Some (get_or cards place [])
   here place within = ap (slice_get cards) (back place) ∙ slice_get-get_or cards place [] within
@@ -90,7 +90,7 @@ module _ (primary : Bool) (cards : List (List ℕ)) (shape : Shape) (name : List
       subst (Differs name) (sym (get_or-take (2 + length shape.axes) (drop 1 cards) i [] inside ∙ get_or-drop 1 cards i [])) (differs_at i inside))
 
 -- nor is one of those that come
-module _ (name : List ℕ) (other : IsOther name) where
+module _ (name : List ℕ) (other : IsUnshaped name) where
   axes_differ : (n : ℕ) (axes : List ℕ) → AreAxesFrom n axes → All (Differs name) (axis_list n axes)
   axes_differ n [] are = All-nil (Differs name)
   axes_differ n (axis ∷ axes) are =
@@ -107,13 +107,18 @@ module _ (name : List ℕ) (other : IsOther name) where
       (All-cons (Differs name) (number_card (codes "BITPIX  ") (pos (8 * width_of kind))) (number_card (codes "NAXIS   ") (pos (length axes)) ∷ axis_list 1 axes) (λ f. other.bitpix (sym bitpix.named ∙ f))
       (All-cons (Differs name) (number_card (codes "NAXIS   ") (pos (length axes))) (axis_list 1 axes) (λ f. other.naxis (sym naxis.named ∙ f)) (axes_differ 1 axes are)))
 
--- the leads of such names stay
+-- the leads of names of no card of a shape stay where those cards are written anew
+pub lead_written : (primary : Bool) (kind : Kind) (axes : List ℕ) (shape : Shape) (cards : List (List ℕ)) (name : List ℕ) → shape_of primary cards ≡ Ok shape → are_axes axes ≡ true → IsUnshaped name → lead_card (spliced cards 2 (2 + length shape.axes) (shape_cards kind axes)) name ≡ lead_card cards name
+lead_written primary kind axes shape cards name is may other =
+    lead_spliced cards (shape_cards kind axes) name 2 (2 + length shape.axes) (differ_before primary cards shape name (described primary cards shape is) other) (differ_after name other kind axes may)
+
+-- and so where BSCALE and BZERO are too
 pub reshaping_leaves_leads : ReshapingLeavesLeads
 unfolding cards_reshaped
 reshaping_leaves_leads primary old kind axes shape cards name is may other =
     let written : List (List ℕ) = spliced cards 2 (2 + length shape.axes) (shape_cards kind axes) in
     let one : List (List ℕ) = with_number written (codes "BSCALE  ") (pos 1) in
-    let same : lead_card written name ≡ lead_card cards name = lead_spliced cards (shape_cards kind axes) name 2 (2 + length shape.axes) (differ_before primary cards shape name (described primary cards shape is) other) (differ_after name other kind axes may) in
+    let same : lead_card written name ≡ lead_card cards name = lead_written primary kind axes shape cards name is may other.unshaped in
     let scaled : lead_card (with_scaling written (offset_of kind)) name ≡ lead_card written name =
     number_keeps_lead (codes "BZERO   ") (offset_of kind) one bzero_name (offset_small kind) name other.zero other.link ∙ number_keeps_lead (codes "BSCALE  ") (pos 1) written bscale_name (omega arith) name other.scale other.link in
     elim (cases_Bool (int_eq (offset_of old) (offset_of kind))) [

@@ -1,7 +1,7 @@
 -- BSCALE and BZERO, set to numbers: the shape stays, and the offset is there.
-use Rattle.std.proofs.Common.{◌≡◌, ℕ, ◌^◌, ◌<◌, Bool, true, false, List, [], ◌∷◌, get_or, codes, refl, ap, sym, ◌∙◌, subst, arith, Option, None, Some}
+use Rattle.std.proofs.Common.{◌≡◌, ℕ, ◌+◌, ◌-◌, length, ◌^◌, ◌<◌, Bool, true, false, List, [], ◌∷◌, get_or, codes, refl, ap, sym, ◌∙◌, subst, arith, Option, None, Some}
 use Rattle.std.specs.Prelude.{◌≢◌, ◌&&◌, ◌||◌, ◌↔◌, ℤ, pos, unsigned_abs, is_none, unwrap_or, Ok}
-use Rattle.std.specs.Option.{option_map}
+use Rattle.std.specs.Option.{option_map, option_map_or}
 use Rattle.std.specs.Ordering.{int_eq}
 use Rattle.std.proofs.lemmas.Bool.{cond-true, or_right}
 use Rattle.fits_card.specs.Change.{cards_after}
@@ -14,10 +14,10 @@ use Rattle.fits_image.specs.Kind.{has_offset, is_unscaled}
 use Rattle.fits_image.proofs.ImageCardLemmas.{bscale_name, bzero_name}
 use Rattle.fits_image.proofs.LeadFromLemmas.{From, lead_card_is}
 use Rattle.fits_image.proofs.NumberCardLemmas.{IsValueName, number_card, number_card_denotes_alone, number_card_is, number_is_one_card}
-use Rattle.fits_hdu.specs.Keyword.{keyword_cards, replacing}
+use Rattle.fits_hdu.specs.Keyword.{keyword_cards, own_count, replacing}
 use Rattle.fits_hdu.specs.Reshape.{with_number, with_scaling, ScalingGivesOffset, ScalingKeepsShapes}
-use Rattle.fits_hdu.proofs.SettingLemmas.{IsSet, set_is, set_keeps, set_leads}
-use Rattle.fits_hdu.proofs.StampingLemmas.{set_cards}
+use Rattle.fits_hdu.proofs.SettingLemmas.{IsSet, count_by_chain, set_is, set_keeps, set_leads}
+use Rattle.fits_hdu.proofs.StampingLemmas.{set_cards, set_length}
 use Rattle.fits_hdu.proofs.StampLemmas.{IsLow, bscale_low, bzero_low, set_kept_shape, set_keeps_shape}
 
 module _ (name : List ℕ) (z : ℤ) (cards : List (List ℕ)) (named : IsValueName name) (small : unsigned_abs z < 2 ^ 64) where
@@ -44,6 +44,16 @@ module _ (name : List ℕ) (z : ℤ) (cards : List (List ℕ)) (named : IsValueN
   number_keeps_lead other p q =
       let is = number_card_is name z named small in
       lead_card_is (with_number cards name z) other ∙ (set_keeps name other cards (with_number cards name z) (number_card name z) number_set p q is.named is.valued).lead ∙ sym (lead_card_is cards other)
+
+  -- and so do the counts of their cards
+  pub number_keeps_count : (other : List ℕ) → name ≢ other → codes "CONTINUE" ≢ other → own_count (with_number cards name z) other ≡ own_count cards other
+  number_keeps_count other p q =
+      let is = number_card_is name z named small in
+      count_by_chain (with_number cards name z) other ∙ (ap (λ n. option_map_or (λ n. 1 + (n - 1)) n 0) (set_keeps name other cards (with_number cards name z) (number_card name z) number_set p q is.named is.valued).chain ∙ sym (count_by_chain cards other))
+
+  -- one card comes, and those of the keyword go
+  pub number_count : length (with_number cards name z) + own_count cards name ≡ length cards + 1
+  number_count = subst (λ xs. length (set_cards cards name xs) + own_count cards name ≡ length cards + 1) (sym (number_is_one_card name z named.size small)) (set_length cards name (number_card name z))
 
   -- which denotes that number alone
   pub number_denotes : (after : List (List ℕ)) (other : ℤ) → lead_card after name ≡ Some (number_card name z) → lead_says_number after name other ≡ int_eq z other

@@ -12,3 +12,4 @@ pub mod State
 pub mod Sums
 pub mod Work
 pub mod Reshape
+pub mod Reshaping

@@ -112,11 +112,15 @@ ReshapingKeepsValues =
     → shape_of primary hdu.header.cards ≡ Ok shape → array_kind shape hdu.header.cards ≡ Some old → reshaped kind axes shape hdu ≡ Ok new
     → KeepsValues (width_of old) (width_of kind) (offset_of old) (offset_of kind) (kept_count shape.axes axes) (array_values axes) hdu.data_unit new.data_unit
 
--- a name of no card that is written anew, and of none that continues another
-pub record IsOther (name : List ℕ) : Type 0 where
+-- a name of no card of a shape
+pub record IsUnshaped (name : List ℕ) : Type 0 where
   pub bitpix : codes "BITPIX  " ≢ name
   pub naxis : codes "NAXIS   " ≢ name
   pub axis : (n : ℕ) → axis_name n ≢ name
+
+-- nor of one of a scaling, nor of one that continues another
+pub record IsOther (name : List ℕ) : Type 0 where
+  pub unshaped : IsUnshaped name
   pub scale : codes "BSCALE  " ≢ name
   pub zero : codes "BZERO   " ≢ name
   pub link : codes "CONTINUE" ≢ name

@@ -36,6 +36,11 @@ stamp_count_reads cards = keyword_reads cards (codes "CHECKSUM") + keyword_reads
 unfoldable pub stamp_reads : List (List ℕ) → ℕ
 stamp_reads cards = stamp_count_reads cards + 3 * apply_reads + 2
 
+-- whether an array may be made another with these axes is found by so many: the leads of BZERO and BSCALE three times, and what says the
+-- shape of the cards after
+abbrev pub plan_reads : List ℕ → ℕ
+plan_reads axes = length axes + 12
+
 -- how many blocks of a data unit were scanned, pixels read and nodes of its tree joined so far
 pub record PixelWork : Type 0 where
   pub scans : ℕ

@@ -1,6 +1,8 @@
 ghost use Rattle.std.specs.Prelude.{◌≡◌, ◌<◌, ◌^◌};
 ghost use Rattle.fits_card.specs.Change.{new_cards};
+ghost use Rattle.std.specs.Option.{option_map_or};
 ghost use Rattle.fits_hdu.specs.Keyword.{replacing};
+ghost use Rattle.fits_hdu.specs.declared.keyword_cards.KeywordCards.{KeywordCards};
 
 use fits_card::{Cards, Change};
 
@@ -33,5 +35,15 @@ pub fn replacement(count: usize, old: Option<KeywordCards>, cards: Cards) -> Cha
             removed: 0,
             cards,
         },
+    }
+}
+
+/// How many cards a keyword has.
+pub(crate) fn count_of(cards: Option<KeywordCards>) -> usize
+    ensures { result ≡ option_map_or (λ (cards : KeywordCards). cards.count) cards 0 }
+{
+    match cards {
+        Some(cards) => cards.count,
+        None => 0,
     }
 }

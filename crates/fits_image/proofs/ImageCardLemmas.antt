@@ -278,7 +278,7 @@ offset_list_length I64 = refl
 offset_list_length U64 = refl
 
 -- how many axes have
-axis_list_length : (n : ℕ) (axes : List ℕ) → length (axis_list n axes) ≡ length axes
+pub axis_list_length : (n : ℕ) (axes : List ℕ) → length (axis_list n axes) ≡ length axes
 axis_list_length n [] = refl
 axis_list_length n (axis ∷ axes) = ap suc (axis_list_length (n + 1) axes)
 

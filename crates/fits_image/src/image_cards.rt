@@ -134,6 +134,18 @@ fn push_offset(alloc: Global, cards: &mut Vec<Card>, kind: Kind) -> Result<(), A
     }
 }
 
+/// The card of a number under a name, without a comment (FITS Standard 4.0, section 4.2.3).
+///
+/// Err: memory was refused.
+pub fn number_cards(alloc: Global, name: &Name, number: i128) -> Result<Vec<Card>, AllocError>
+    requires settable { IsTrue (is_settable name.now) }
+    ensures { IfOk result (λ cards. cards.items ≡ written_number name.now number) }
+{
+    let mut cards = Vec::new(alloc);
+    push_number(alloc, &mut cards, name, number)?;
+    Ok(cards)
+}
+
 // The card of a number.
 fn push_number(
     alloc: Global,

@@ -134,8 +134,9 @@ fn kind_of(bits: u64, has_offset: bool) -> Kind
     }
 }
 
-// The type of the pixels of so many bits that a header describes.
-fn kind_by(header: &mut Header, bits: u64) -> Kind
+/// The type of pixels of so many bits, by BZERO and BSCALE (FITS Standard 4.0, sections 4.4.2.5 and
+/// 5.2.5). It takes no memory.
+pub fn pixel_kind(header: &mut Header, bits: u64) -> Kind
     ensures value { result
         ≡ kind_of bits (has_offset header.old.header.cards (convention bits)) }
     ensures work { ReadsUpTo header.old header.new 2 }
@@ -151,7 +152,7 @@ pub fn image_kind(header: &mut Header) -> Option<Kind>
     ensures work { ReadsUpTo header.old header.new 2 }
 {
     let bits = image_bits(header.shape())?;
-    Some(kind_by(header, bits))
+    Some(pixel_kind(header, bits))
 }
 
 /// The kind of the array of integers that a header describes, with axes or without. It takes no
@@ -162,7 +163,7 @@ pub fn array_kind(header: &mut Header) -> Option<Kind>
     ensures work { ReadsUpTo header.old header.new 2 }
 {
     let bits = array_bits(header.shape())?;
-    Some(kind_by(header, bits))
+    Some(pixel_kind(header, bits))
 }
 
 /// Whether a header says that pixels are neither scaled nor anything is added to them (FITS Standard

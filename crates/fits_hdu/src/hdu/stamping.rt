@@ -1,13 +1,11 @@
 //! Making the sums of an HDU right.
 ghost use Rattle.std.specs.Prelude.{◌≡◌, ◌≤◌, ◌<◌, ◌+◌, ◌-◌, ◌^◌, [], ◌∷◌, ◌++◌, length, codes, replicate, Some, IfOk};
-ghost use Rattle.std.specs.Option.{option_map_or};
 ghost use Rattle.fits_card.specs.Card.{card_of_text};
 ghost use Rattle.fits_card.specs.Change.{new_cards};
 ghost use Rattle.fits_hdu.specs.Keyword.{replacing};
-ghost use Rattle.fits_hdu.specs.declared.keyword_cards.KeywordCards.{KeywordCards};
 
 use super::Hdu;
-use crate::keyword_cards::{KeywordCards, replacement};
+use crate::keyword_cards::{count_of, replacement};
 use crate::sums::{CHECKSUM, DATASUM};
 use fits_card::{Card, Cards, Change, Name};
 use fits_sum::{datasum_text, encode, fold};
@@ -110,16 +108,6 @@ impl Hdu {
         let old = self.keyword_cards(name);
         let change = replacement(count, old, new);
         self.apply(&change);
-    }
-}
-
-// How many cards a keyword has.
-fn count_of(cards: Option<KeywordCards>) -> usize
-    ensures { result ≡ option_map_or (λ (cards : KeywordCards). cards.count) cards 0 }
-{
-    match cards {
-        Some(cards) => cards.count,
-        None => 0,
     }
 }
 

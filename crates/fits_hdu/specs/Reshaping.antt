@@ -1,0 +1,40 @@
+-- What is found of an array before it is made another (own).
+use Rattle.std.specs.Prelude.{◌≡◌, ℕ, ◌+◌, true, false, pos, List, length, codes, Option, None, Some, if◌then◌else◌}
+use Rattle.std.specs.Ordering.{int_eq}
+use Rattle.fits_card.specs.declared.change.Change.TheVariants.{Splice}
+use Rattle.fits_rules.specs.declared.array_shape.Shape.{Shape}
+use Rattle.fits_image.specs.ImageCards.{shape_cards, written_number}
+use Rattle.fits_image.specs.Kind.{array_kind, offset_of}
+use Rattle.fits_image.specs.declared.kind.Kind.{Kind}
+use Rattle.fits_hdu.specs.Reshape.{can_reshape, reshaped_shape}
+use Rattle.fits_hdu.specs.declared.reshape_fault.ReshapeFault.{ReshapeFault}
+use Rattle.fits_hdu.specs.declared.reshape_fault.ReshapeFault.TheVariants.{NotImage, BadShape, Memory}
+use Rattle.fits_hdu.specs.declared.reshaping.Reshaping.{Reshaping}
+use Rattle.fits_hdu.specs.declared.scaling.Scaling.{Scaling}
+
+-- BSCALE and BZERO, where the offset is another
+abbrev pub scaling_for : Kind → Kind → Option Scaling
+scaling_for old kind =
+    if int_eq (offset_of old) (offset_of kind) then None
+    else Some (record { scale = written_number (codes "BSCALE  ") (pos 1); zero = written_number (codes "BZERO   ") (offset_of kind) })
+
+-- the cards of an array of this kind that is made one of that, with these axes
+pub record IsPlanned (old kind : Kind) (axes : List ℕ) (shape : Shape) (plan : Reshaping) : Type 0 where
+  pub from : plan.old ≡ old
+  pub to : plan.kind ≡ kind
+  pub change : plan.change ≡ Splice 2 (2 + length shape.axes) (shape_cards kind axes)
+  pub after : plan.shape ≡ reshaped_shape kind axes shape
+  pub scaling : plan.scaling ≡ scaling_for old kind
+
+-- those of the array that cards describe, which may be made so
+pub record IsPlan (kind : Kind) (axes : List ℕ) (shape : Shape) (cards : List (List ℕ)) (plan : Reshaping) : Type 0 where
+  pub array : array_kind shape cards ≡ Some plan.old
+  pub can : can_reshape plan.old kind axes shape cards ≡ true
+  pub planned : IsPlanned plan.old kind axes shape plan
+
+-- it may not be, or memory runs out
+abbrev pub PlanFails : Kind → List ℕ → Shape → List (List ℕ) → ReshapeFault → Type 0
+PlanFails kind axes shape cards NotImage = array_kind shape cards ≡ None
+PlanFails kind axes shape cards BadShape = (old : Kind) × (array_kind shape cards ≡ Some old) × (can_reshape old kind axes shape cards ≡ false)
+PlanFails kind axes shape cards Memory = (old : Kind) × (array_kind shape cards ≡ Some old)
+PlanFails kind axes shape cards fault = ⊥
