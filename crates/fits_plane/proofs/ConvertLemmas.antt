@@ -212,10 +212,6 @@ pub record FrontWritten (w x : ℕ) (value : ℕ → ℤ) (old new : List ℕ) :
   pub inside : (y : ℕ) → y < x → pixel w new y ≡ value y
   pub outside : (j : ℕ) → x * w ≤ j → slice_index new j ≡ slice_index old j
 
--- before the first
-pub front_begun : (w : ℕ) (value : ℕ → ℤ) (old : List ℕ) → FrontWritten w 0 value old old
-front_begun w value old = record { long = refl; inside = λ y b. absurd (omega (arith, b)); outside = λ j away. refl }
-
 -- one pixel more
 pub front_more : (w x : ℕ) (value : ℕ → ℤ) (z : ℤ) (old cur new : List ℕ) → FrontWritten w x value old cur → z ≡ value x → length new ≡ length cur
     → pixel w new x ≡ z → ((j : ℕ) → (j < x * w) ⊎ ((x + 1) * w ≤ j) → slice_index new j ≡ slice_index cur j)

@@ -149,35 +149,10 @@ fn convert_each(
     true
 }
 
-/// Stores the first pixels anew, of one width in another. That they can be stored is known.
-fn convert_as<A: Width, B: Width>(
-    pixels: &mut PixelWriter<'_>,
-    store: &mut DataBytes,
-    count: usize,
-    shift: i128,
-)
-    requires within { count * A.width ≤ length store.old.bytes }
-    requires room { count * B.width ≤ length pixels.old.bytes.now }
-    requires shift { unsigned_abs shift ≤ 2 ^ 64 }
-    requires storable { (x : ℕ) → x < count
-        → IsStorable B.width (pixel A.width store.old.bytes x +ℤ shift) }
-    ensures same_reference { pixels.new.bytes.ghost_name ≡ pixels.old.bytes.ghost_name }
-    ensures long { length pixels.new.bytes.now ≡ length pixels.old.bytes.now }
-    ensures inside { (x : ℕ) → x < count
-        → pixel B.width pixels.new.bytes.now x ≡ pixel A.width store.old.bytes x +ℤ shift }
-    ensures outside { (j : ℕ) → count * B.width ≤ j
-        → slice_index pixels.new.bytes.now j ≡ slice_index pixels.old.bytes.now j }
-    ensures work { store.new ≡ record store.old { reads = store.old.reads + count } }
-{
-    for x in 0..count {
-        let number = value_of(store.pixel_as::<A>(x), shift);
-        pixels.put_as::<B>(x, number as i64);
-    }
-}
-
-/// The same, where the width that is read is a number.
+/// Stores the first pixels anew, where the width that is written is a type's. That they can be stored
+/// is known.
 fn convert_to<B: Width>(
-    pixels: &mut PixelWriter<'_>,
+    target: &mut [u8],
     store: &mut DataBytes,
     from: usize,
     count: usize,
@@ -185,29 +160,28 @@ fn convert_to<B: Width>(
 )
     requires from { IsWidth from }
     requires within { count * from ≤ length store.old.bytes }
-    requires room { count * B.width ≤ length pixels.old.bytes.now }
+    requires room { count * B.width ≤ length target.old }
     requires shift { unsigned_abs shift ≤ 2 ^ 64 }
     requires storable { (x : ℕ) → x < count
         → IsStorable B.width (pixel from store.old.bytes x +ℤ shift) }
-    ensures same_reference { pixels.new.bytes.ghost_name ≡ pixels.old.bytes.ghost_name }
-    ensures long { length pixels.new.bytes.now ≡ length pixels.old.bytes.now }
+    ensures long { length target.new ≡ length target.old }
     ensures inside { (x : ℕ) → x < count
-        → pixel B.width pixels.new.bytes.now x ≡ pixel from store.old.bytes x +ℤ shift }
+        → pixel B.width target.new x ≡ pixel from store.old.bytes x +ℤ shift }
     ensures outside { (j : ℕ) → count * B.width ≤ j
-        → slice_index pixels.new.bytes.now j ≡ slice_index pixels.old.bytes.now j }
+        → slice_index target.new j ≡ slice_index target.old j }
     ensures work { store.new ≡ record store.old { reads = store.old.reads + count } }
 {
     match from {
-        1 => convert_as::<u8, B>(pixels, store, count, shift),
-        2 => convert_as::<i16, B>(pixels, store, count, shift),
-        4 => convert_as::<i32, B>(pixels, store, count, shift),
-        _ => convert_as::<i64, B>(pixels, store, count, shift),
+        1 => store.convert_as::<u8, B>(target, count, shift),
+        2 => store.convert_as::<i16, B>(target, count, shift),
+        4 => store.convert_as::<i32, B>(target, count, shift),
+        _ => store.convert_as::<i64, B>(target, count, shift),
     }
 }
 
-/// The same, where both are.
+/// The same, where it is a number.
 fn convert_all(
-    pixels: &mut PixelWriter<'_>,
+    target: &mut [u8],
     width: usize,
     store: &mut DataBytes,
     from: usize,
@@ -217,23 +191,22 @@ fn convert_all(
     requires width { IsWidth width }
     requires from { IsWidth from }
     requires within { count * from ≤ length store.old.bytes }
-    requires room { count * width ≤ length pixels.old.bytes.now }
+    requires room { count * width ≤ length target.old }
     requires shift { unsigned_abs shift ≤ 2 ^ 64 }
     requires storable { (x : ℕ) → x < count
         → IsStorable width (pixel from store.old.bytes x +ℤ shift) }
-    ensures same_reference { pixels.new.bytes.ghost_name ≡ pixels.old.bytes.ghost_name }
-    ensures long { length pixels.new.bytes.now ≡ length pixels.old.bytes.now }
+    ensures long { length target.new ≡ length target.old }
     ensures inside { (x : ℕ) → x < count
-        → pixel width pixels.new.bytes.now x ≡ pixel from store.old.bytes x +ℤ shift }
+        → pixel width target.new x ≡ pixel from store.old.bytes x +ℤ shift }
     ensures outside { (j : ℕ) → count * width ≤ j
-        → slice_index pixels.new.bytes.now j ≡ slice_index pixels.old.bytes.now j }
+        → slice_index target.new j ≡ slice_index target.old j }
     ensures work { store.new ≡ record store.old { reads = store.old.reads + count } }
 {
     match width {
-        1 => convert_to::<u8>(pixels, store, from, count, shift),
-        2 => convert_to::<i16>(pixels, store, from, count, shift),
-        4 => convert_to::<i32>(pixels, store, from, count, shift),
-        _ => convert_to::<i64>(pixels, store, from, count, shift),
+        1 => convert_to::<u8>(target, store, from, count, shift),
+        2 => convert_to::<i16>(target, store, from, count, shift),
+        4 => convert_to::<i32>(target, store, from, count, shift),
+        _ => convert_to::<i64>(target, store, from, count, shift),
     }
 }
 
@@ -304,7 +277,7 @@ pub(crate) fn convert_run(
         return false;
     }
     let full = blocks * per;
+    convert_all(target, width, store, from, full, shift);
     let mut pixels = PixelWriter::new(target);
-    convert_all(&mut pixels, width, store, from, full, shift);
     convert_each(&mut pixels, width, store, from, full, count - full, shift)
 }

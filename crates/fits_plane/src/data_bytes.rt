@@ -1,9 +1,12 @@
-ghost use Rattle.std.specs.Prelude.{◌≡◌, ◌≤◌, ◌*◌, ◌+◌, ℕ};
+ghost use Rattle.std.specs.Prelude.{◌≡◌, ◌≤◌, ◌<◌, ◌*◌, ◌+◌, ◌+ℤ◌, ◌^◌, ℕ, length, slice_index, unsigned_abs};
 ghost use Rattle.fits_plane.specs.Layout.{block_count};
+ghost use Rattle.fits_plane.specs.Pixels.{pixel, IsStorable};
 
 use crate::layout::Layout;
 use crate::lent_paint::LentPaint;
-use crate::pixels::read_bytes;
+use crate::pixel_reads::value_of;
+use crate::pixel_writer::PixelWriter;
+use crate::pixels::{pixel_at, read_bytes};
 use crate::scan::{Leaf, scan_block};
 use crate::tree::Tree;
 use crate::width::Width;
@@ -39,7 +42,7 @@ impl Model for DataBytes {
 }
 
 impl DataBytes {
-    ghost use Rattle.std.specs.Prelude.{◌≡◌, ◌≤◌, ◌<◌, ◌*◌, ◌+◌, ◌^◌, ◌↔◌, ℕ, true, drop, length, slice_index, All, IsTrue, OnOk, OnErr};
+    ghost use Rattle.std.specs.Prelude.{◌≡◌, ◌≤◌, ◌<◌, ◌*◌, ◌+◌, ◌+ℤ◌, ◌^◌, ◌↔◌, ℕ, true, drop, length, slice_index, unsigned_abs, All, IsTrue, OnOk, OnErr};
     ghost use Rattle.fits_stream.specs.Stream.{Prints, PrintsFront};
     ghost use Rattle.fits_plane.specs.Layout.{IsLayout, block_count, block_pixels};
     ghost use Rattle.fits_plane.specs.Leaves.{leaf_of, AreLeaves};
@@ -114,22 +117,32 @@ impl DataBytes {
         ensures value { result ≡ pixel width self.old.bytes i }
         ensures work { self.new ≡ record self.old { reads = self.old.reads + 1 } }
     {
-        match width {
-            1 => self.pixel_as::<u8>(i),
-            2 => self.pixel_as::<i16>(i),
-            4 => self.pixel_as::<i32>(i),
-            _ => self.pixel_as::<i64>(i),
-        }
+        self.reads.tick();
+        pixel_at(self.bytes.as_slice(), width, i)
     }
 
-    /// The same, of a width that a type names.
-    pub(crate) fn pixel_as<A: Width>(&mut self, i: usize) -> i64
-        requires within { (i + 1) * A.width ≤ length self.old.bytes }
-        ensures value { result ≡ pixel A.width self.old.bytes i }
-        ensures work { self.new ≡ record self.old { reads = self.old.reads + 1 } }
+    /// Stores the first pixels anew in other bytes, of one width in another, each with a shift. That
+    /// they can be stored is known.
+    pub(crate) fn convert_as<A: Width, B: Width>(
+        &mut self,
+        target: &mut [u8],
+        count: usize,
+        shift: i128,
+    )
+        requires within { count * A.width ≤ length self.old.bytes }
+        requires room { count * B.width ≤ length target.old }
+        requires shift { unsigned_abs shift ≤ 2 ^ 64 }
+        requires storable { (x : ℕ) → x < count
+            → IsStorable B.width (pixel A.width self.old.bytes x +ℤ shift) }
+        ensures long { length target.new ≡ length target.old }
+        ensures inside { (x : ℕ) → x < count
+            → pixel B.width target.new x ≡ pixel A.width self.old.bytes x +ℤ shift }
+        ensures outside { (j : ℕ) → count * B.width ≤ j
+            → slice_index target.new j ≡ slice_index target.old j }
+        ensures work { self.new ≡ record self.old { reads = self.old.reads + count } }
     {
-        self.reads.tick();
-        A::read(self.bytes.as_slice(), i)
+        let source = self.bytes.as_slice();
+        convert_pixels::<A, B>(target, source, count, shift, &mut self.reads);
     }
 
     /// Whether each byte from a place on is this one.
@@ -215,5 +228,36 @@ fn tick_each(count: &mut Count, times: usize)
 {
     for time in 0..times {
         count.tick();
+    }
+}
+
+/// Stores the first pixels anew, of one width in another, each with a shift.
+///
+/// The bytes are a slice of their own here: asked for behind the type at each pixel, a run takes up
+/// to eight times as long.
+fn convert_pixels<A: Width, B: Width>(
+    target: &mut [u8],
+    source: &[u8],
+    count: usize,
+    shift: i128,
+    reads: &mut Count,
+)
+    requires within { count * A.width ≤ length source.now }
+    requires room { count * B.width ≤ length target.old }
+    requires shift { unsigned_abs shift ≤ 2 ^ 64 }
+    requires storable { (x : ℕ) → x < count
+        → IsStorable B.width (pixel A.width source.now x +ℤ shift) }
+    ensures long { length target.new ≡ length target.old }
+    ensures inside { (x : ℕ) → x < count
+        → pixel B.width target.new x ≡ pixel A.width source.now x +ℤ shift }
+    ensures outside { (j : ℕ) → count * B.width ≤ j
+        → slice_index target.new j ≡ slice_index target.old j }
+    ensures work { reads.new.total ≡ reads.old.total + count }
+{
+    let mut pixels = PixelWriter::new(target);
+    for x in 0..count {
+        reads.tick();
+        let number = value_of(A::read(source, x), shift);
+        pixels.put_as::<B>(x, number as i64);
     }
 }

@@ -5,7 +5,8 @@ use crate::width::Width;
 
 /// Bytes of pixels that can be written, and not read.
 ///
-/// Who paints is lent this and not the bytes, so that no pixel is looked at without a count.
+/// Who paints is lent this and not the bytes, so that no pixel is looked at without a count. Pixels
+/// that are stored anew are written by it too.
 #[derive(Drop)]
 pub(crate) struct PixelWriter<'a> {
     bytes: &'a mut [u8],

@@ -279,13 +279,15 @@ impl Plane {
         ensures value { result ≡ can_store_run width
             (kept_numbers self.old.layout.width self.old.bytes count shift) }
 
-        // Full blocks are known by their least and greatest, so only pixels past them are read.
         ensures bytes { self.new.bytes ≡ self.old.bytes }
         ensures layout { self.new.layout ≡ self.old.layout }
         ensures scans { self.new.scans ≡ self.old.scans }
         ensures joins { self.new.joins ≡ self.old.joins }
+
+        // Full blocks are known by what is kept of them, so only pixels past them are read.
         ensures more_reads { self.old.reads ≤ self.new.reads }
-        ensures reads { self.new.reads
+        ensures reads { self.new.reads ≤ self.old.reads + count }
+        ensures rest { self.new.reads
             ≤ self.old.reads + count % block_pixels self.old.layout.width }
     {
         converts_run(
@@ -318,11 +320,12 @@ impl Plane {
         ensures value { IfOk result (λ made. option_map (λ v. v.items) made ≡ run_made width
             (kept_numbers self.old.layout.width self.old.bytes count shift) len) }
 
-        // Each of its first pixels is read once at most. The memory is had before any is.
         ensures bytes { self.new.bytes ≡ self.old.bytes }
         ensures layout { self.new.layout ≡ self.old.layout }
         ensures scans { self.new.scans ≡ self.old.scans }
         ensures joins { self.new.joins ≡ self.old.joins }
+
+        // Each of these pixels is read once at most. The memory is had before any is.
         ensures more_reads { self.old.reads ≤ self.new.reads }
         ensures reads { self.new.reads ≤ self.old.reads + count }
         ensures err { OnErr result (self.new ≡ self.old) }

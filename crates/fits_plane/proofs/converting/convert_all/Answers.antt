@@ -12,16 +12,16 @@ convert_to-requires-in_default-clause-storable c =
 -- and were
 pub returns-in-1-clause-inside : goal.returns-in-1-clause-inside
 returns-in-1-clause-inside c =
-    stored_so c.args.from c.args.from 1 c.args.width c.args.count _ c.args.shift c.args.store.now.bytes c.convert_to.new.pixels.bytes.now refl (sym (c.in-1.is)) (to_z-of_z w128 c.args.shift c.ranges.shift) c.convert_to.ensures.inside
+    stored_so c.args.from c.args.from 1 c.args.width c.args.count _ c.args.shift c.args.store.now.bytes c.convert_to.new.target refl (sym (c.in-1.is)) (to_z-of_z w128 c.args.shift c.ranges.shift) c.convert_to.ensures.inside
 
 pub returns-in-2-clause-inside : goal.returns-in-2-clause-inside
 returns-in-2-clause-inside c =
-    stored_so c.args.from c.args.from 2 c.args.width c.args.count _ c.args.shift c.args.store.now.bytes c.convert_to-in-2.new.pixels.bytes.now refl (sym (c.in-2.is)) (to_z-of_z w128 c.args.shift c.ranges.shift) c.convert_to-in-2.ensures.inside
+    stored_so c.args.from c.args.from 2 c.args.width c.args.count _ c.args.shift c.args.store.now.bytes c.convert_to-in-2.new.target refl (sym (c.in-2.is)) (to_z-of_z w128 c.args.shift c.ranges.shift) c.convert_to-in-2.ensures.inside
 
 pub returns-in-4-clause-inside : goal.returns-in-4-clause-inside
 returns-in-4-clause-inside c =
-    stored_so c.args.from c.args.from 4 c.args.width c.args.count _ c.args.shift c.args.store.now.bytes c.convert_to-in-4.new.pixels.bytes.now refl (sym (c.in-4.is)) (to_z-of_z w128 c.args.shift c.ranges.shift) c.convert_to-in-4.ensures.inside
+    stored_so c.args.from c.args.from 4 c.args.width c.args.count _ c.args.shift c.args.store.now.bytes c.convert_to-in-4.new.target refl (sym (c.in-4.is)) (to_z-of_z w128 c.args.shift c.ranges.shift) c.convert_to-in-4.ensures.inside
 
 pub returns-in_default-clause-inside : goal.returns-in_default-clause-inside
 returns-in_default-clause-inside c =
-    stored_so c.args.from c.args.from 8 c.args.width c.args.count _ c.args.shift c.args.store.now.bytes c.convert_to-in_default.new.pixels.bytes.now refl (sym (widest c.args.width c.requires.width (omega arith) (omega arith) (omega arith))) (to_z-of_z w128 c.args.shift c.ranges.shift) c.convert_to-in_default.ensures.inside
+    stored_so c.args.from c.args.from 8 c.args.width c.args.count _ c.args.shift c.args.store.now.bytes c.convert_to-in_default.new.target refl (sym (widest c.args.width c.requires.width (omega arith) (omega arith) (omega arith))) (to_z-of_z w128 c.args.shift c.ranges.shift) c.convert_to-in_default.ensures.inside

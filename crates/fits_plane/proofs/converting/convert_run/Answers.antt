@@ -49,7 +49,7 @@ returns-clause-inside c = λ t x b.
     let first = rw (to_z-of_z w128 c.args.shift c.ranges.shift) at c.convert_all.ensures.inside in
     let left = rw (to_z-of_z w128 c.args.shift c.ranges.shift, bytes) at c.convert_each.ensures.inside in
     let whole : pixel c.args.width c.convert_each.new.pixels.bytes.now x ≡ pixel c.args.layout.width c.args.store.now.bytes x +ℤ c.args.shift
-    = parts_inside c.args.width c.args.count full (c.args.count - full) (λ y. pixel c.args.layout.width c.args.store.now.bytes y +ℤ c.args.shift) c.convert_all.new.pixels.bytes.now c.convert_each.new.pixels.bytes.now (omega (arith, few)) first (left t) c.convert_each.ensures.outside x b in
+    = parts_inside c.args.width c.args.count full (c.args.count - full) (λ y. pixel c.args.layout.width c.args.store.now.bytes y +ℤ c.args.shift) c.convert_all.new.target c.convert_each.new.pixels.bytes.now (omega (arith, few)) first (left t) (λ j away. c.convert_each.ensures.outside j away ∙ ap (λ xs. slice_index xs j) c.new-pixels.ensures.value) x b in
     search rules
 
 -- the bytes behind them stay
@@ -62,5 +62,5 @@ returns-clause-outside c = λ j behind.
     let whole : full + (c.args.count - full) ≡ c.args.count = omega (arith, few) in
     let less = mul-le-mul_right c.args.width few in
     let second = c.convert_each.ensures.outside j (inr (subst (λ n. n * c.args.width ≤ j) (sym whole) behind)) in
-    let kept : slice_index c.convert_each.new.pixels.bytes.now j ≡ slice_index c.new-pixels.result.bytes.now j = second ∙ c.convert_all.ensures.outside j (omega (arith, less, behind)) in
+    let kept : slice_index c.convert_each.new.pixels.bytes.now j ≡ slice_index c.args.target.now j = second ∙ ap (λ xs. slice_index xs j) c.new-pixels.ensures.value ∙ c.convert_all.ensures.outside j (omega (arith, less, behind)) in
     search rules

@@ -20,16 +20,16 @@ convert_as-requires-in_default-clause-storable g c =
 -- and were
 pub returns-in-1-clause-inside : goal.returns-in-1-clause-inside
 returns-in-1-clause-inside g c =
-    stored_so 1 c.args.from g.B.Width.width g.B.Width.width c.args.count _ c.args.shift c.args.store.now.bytes c.convert_as.new.pixels.bytes.now (sym (c.in-1.is)) refl (to_z-of_z w128 c.args.shift c.ranges.shift) c.convert_as.ensures.inside
+    stored_so 1 c.args.from g.B.Width.width g.B.Width.width c.args.count _ c.args.shift c.args.store.now.bytes c.convert_as.new.target (sym (c.in-1.is)) refl (to_z-of_z w128 c.args.shift c.ranges.shift) c.convert_as.ensures.inside
 
 pub returns-in-2-clause-inside : goal.returns-in-2-clause-inside
 returns-in-2-clause-inside g c =
-    stored_so 2 c.args.from g.B.Width.width g.B.Width.width c.args.count _ c.args.shift c.args.store.now.bytes c.convert_as-in-2.new.pixels.bytes.now (sym (c.in-2.is)) refl (to_z-of_z w128 c.args.shift c.ranges.shift) c.convert_as-in-2.ensures.inside
+    stored_so 2 c.args.from g.B.Width.width g.B.Width.width c.args.count _ c.args.shift c.args.store.now.bytes c.convert_as-in-2.new.target (sym (c.in-2.is)) refl (to_z-of_z w128 c.args.shift c.ranges.shift) c.convert_as-in-2.ensures.inside
 
 pub returns-in-4-clause-inside : goal.returns-in-4-clause-inside
 returns-in-4-clause-inside g c =
-    stored_so 4 c.args.from g.B.Width.width g.B.Width.width c.args.count _ c.args.shift c.args.store.now.bytes c.convert_as-in-4.new.pixels.bytes.now (sym (c.in-4.is)) refl (to_z-of_z w128 c.args.shift c.ranges.shift) c.convert_as-in-4.ensures.inside
+    stored_so 4 c.args.from g.B.Width.width g.B.Width.width c.args.count _ c.args.shift c.args.store.now.bytes c.convert_as-in-4.new.target (sym (c.in-4.is)) refl (to_z-of_z w128 c.args.shift c.ranges.shift) c.convert_as-in-4.ensures.inside
 
 pub returns-in_default-clause-inside : goal.returns-in_default-clause-inside
 returns-in_default-clause-inside g c =
-    stored_so 8 c.args.from g.B.Width.width g.B.Width.width c.args.count _ c.args.shift c.args.store.now.bytes c.convert_as-in_default.new.pixels.bytes.now (sym (widest c.args.from c.requires.from (omega arith) (omega arith) (omega arith))) refl (to_z-of_z w128 c.args.shift c.ranges.shift) c.convert_as-in_default.ensures.inside
+    stored_so 8 c.args.from g.B.Width.width g.B.Width.width c.args.count _ c.args.shift c.args.store.now.bytes c.convert_as-in_default.new.target (sym (widest c.args.from c.requires.from (omega arith) (omega arith) (omega arith))) refl (to_z-of_z w128 c.args.shift c.ranges.shift) c.convert_as-in_default.ensures.inside

@@ -1,7 +1,9 @@
-use Rattle.std.proofs.Common.{ap}
+use Rattle.std.proofs.Math.Nat.{mod-le}
+use Rattle.std.proofs.Common.{ap, arith}
 use Rattle.std.proofs.lemmas.Int.{to_z-of_z}
 use Rattle.std.specs.Int.{w128}
 use Rattle.fits_plane.proofs.ConvertLemmas.{kept_decides}
+use Rattle.fits_plane.specs.Layout.{block_pixels}
 use Rattle.fits_plane.proofs.plane.Plane.converts.Goals as goal
 
 -- the test of each pixel is that of the numbers
@@ -12,3 +14,8 @@ returns-clause-value c =
     let bytes = ap (λ z. z.bytes) c.self.view_is in
     let means = rw (to_z-of_z w128 a.shift c.ranges.shift) at c.converts_run.ensures.means in
     kept_decides c.self.inside.layout.width a.self.now.layout.width a.width a.count a.shift c.self.inside.store.bytes a.self.now.bytes _ width bytes means
+
+-- what is left of the numbers are no more than all
+pub returns-clause-reads : goal.returns-clause-reads
+returns-clause-reads c =
+    omega (arith, c.converts_run.ensures.reads, mod-le c.args.count (block_pixels c.self.inside.layout.width), ap (λ z. z.reads) c.self.view_is)
