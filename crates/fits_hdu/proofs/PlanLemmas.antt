@@ -1,13 +1,16 @@
 -- Whether an array may be made another, by its cards.
 use Rattle.std.proofs.Common.{◌≡◌, inl, inr, ℕ, ◌+◌, ◌*◌, ◌<◌, ◌≤◌, Bool, true, false, not, List, [], ◌∷◌, length, get_or, codes, refl, ap, sym, ◌∙◌, subst, arith, All, Option, None, Some, cond}
-use Rattle.std.specs.Prelude.{◌≢◌, ◌&&◌, ◌||◌, ℤ, pos, is_none, unwrap_or, Ok, if◌then◌else◌}
+use Rattle.std.specs.Prelude.{◌≢◌, ◌&&◌, ◌||◌, ℤ, pos, IsTrue, is_none, unwrap_or, Ok, if◌then◌else◌}
 use Rattle.std.specs.Cmp.{both_ways}
 use Rattle.std.specs.Option.{option_map}
 use Rattle.std.specs.Ordering.{int_eq}
 use Rattle.std.proofs.lemmas.Bool.{cases_Bool, cond-false, cond-true}
+use Rattle.std.proofs.lemmas.List.Elements.{All-weaker}
 use Rattle.std.proofs.lemmas.Bool.Decides.{Decides-int_eq}
-use Rattle.fits_card.specs.Change.{IsInRange, cards_after, spliced}
-use Rattle.fits_card.specs.Header.{Header}
+use Rattle.fits_card.specs.Card.{IsEnd}
+use Rattle.fits_card.specs.Change.{IsInRange, cards_after, new_cards, spliced}
+use Rattle.fits_card.proofs.ChangeLemmas.{length-spliced}
+use Rattle.fits_card.specs.Header.{Header, IsInnerCard, with_cards}
 use Rattle.fits_card.specs.declared.change.Change.{Change}
 use Rattle.fits_card.specs.declared.change.Change.TheVariants.{Splice}
 use Rattle.fits_header.specs.State.{still_describes}
@@ -21,13 +24,18 @@ use Rattle.fits_rules.specs.declared.array_shape.Shape.{Shape}
 use Rattle.fits_rules.proofs.DescribesLemmas.{described}
 use Rattle.fits_rules.proofs.KeepingLemmas.{described_within}
 use Rattle.fits_rules.proofs.SameShapeLemmas.{same_shape-Decides}
-use Rattle.fits_image.specs.ImageCards.{are_axes, shape_cards}
+use Rattle.fits_image.specs.ImageCards.{are_axes, shape_cards, written_number}
+use Rattle.fits_image.proofs.ImageCardLemmas.{shape_cards_inner}
+use Rattle.fits_hdu.specs.Keyword.{keyword_cards, replacing}
+use Rattle.fits_hdu.specs.Reshaping.{IsPlan, scaling_for}
+use Rattle.fits_hdu.specs.declared.reshaping.Reshaping.{Reshaping}
+use Rattle.fits_hdu.specs.declared.scaling.Scaling.{Scaling}
 use Rattle.fits_image.specs.Kind.{array_kind, convention, has_offset, is_unscaled, kind_of, offset_of, width_of}
 use Rattle.fits_image.specs.declared.kind.Kind.{Kind}
 use Rattle.fits_image.specs.declared.kind.Kind.TheVariants.{U8, I8, I16, U16, I32, U32, I64, U64}
-use Rattle.fits_hdu.specs.Reshape.{IsUnshaped, adds, can_reshape, cards_reshaped, describes_array, reshaped_shape, scales_otherwise, with_scaling}
+use Rattle.fits_hdu.specs.Reshape.{IsUnshaped, adds, can_reshape, cards_reshaped, describes_array, reshaped_shape, scales_otherwise, with_number, with_scaling}
 use Rattle.fits_hdu.proofs.OtherLeadLemmas.{lead_written}
-use Rattle.fits_hdu.proofs.ReshapeLemmas.{kind_of_array, offset_small}
+use Rattle.fits_hdu.proofs.ReshapeLemmas.{can_parts, kind_of_array, offset_small}
 use Rattle.fits_hdu.proofs.ScalingLemmas.{scaling_gives_offset, scaling_keeps_shapes}
 
 -- BSCALE and BZERO are no names of a shape
@@ -165,5 +173,70 @@ unfolding IsInRange
 splice_in_range primary cards new shape change is e =
     let within = described_within primary cards shape (described primary cards shape is) in
     subst (IsInRange cards) (sym e) (omega arith, omega (arith, within))
+
+-- the cards that come end no header
+pub shape_not_end : (kind : Kind) (axes : List ℕ) (n : ℕ) (change : Change) (new : List (List ℕ)) → are_axes axes ≡ true → change ≡ Splice 2 n (shape_cards kind axes) → new ≡ new_cards change → All (λ card. IsEnd card → ⊥) new
+unfolding new_cards
+shape_not_end kind axes n change new may e f =
+    subst (All (λ card. IsEnd card → ⊥)) (sym (f ∙ ap new_cards e)) (All-weaker IsInnerCard (λ card. IsEnd card → ⊥) (λ card i. i.not_end) (shape_cards kind axes) (shape_cards_inner kind axes may))
+
+-- and describe the shape
+pub plan_kept : (kind : Kind) (axes : List ℕ) (shape : Shape) (cards : List (List ℕ)) (plan : Reshaping) (new : List (List ℕ)) → IsPlan kind axes shape cards plan → shape_of (is_primary shape.class) cards ≡ Ok shape → new ≡ new_cards plan.change
+    → IsTrue (still_describes plan.shape (spliced cards 2 (2 + length shape.axes) new))
+unfolding still_describes new_cards
+plan_kept kind axes shape cards plan new p is e =
+    let can = can_parts plan.old kind axes shape cards p.can in
+    let after = reshaped_shape kind axes shape in
+    let told = sym (shape_told plan.old kind axes shape cards is can.axes_may after) ∙ can.shaped in
+    let same : new ≡ shape_cards kind axes = e ∙ ap new_cards p.planned.change in
+    rw (p.planned.after, same) told
+
+-- BSCALE and BZERO are written where the offset is another
+pub scaling_some : (old kind : Kind) (s : Scaling) → Some s ≡ scaling_for old kind → (int_eq (offset_of old) (offset_of kind) ≡ false) × (s.scale ≡ written_number (codes "BSCALE  ") (pos 1)) × (s.zero ≡ written_number (codes "BZERO   ") (offset_of kind))
+scaling_some old kind s e = by (int_eq (offset_of old) (offset_of kind)) _ e
+  where
+    by : (t : Bool) (some : Scaling) → Some s ≡ (if t then None else Some some) → (t ≡ false) × (s.scale ≡ some.scale) × (s.zero ≡ some.zero)
+    by true some e = absurd (cc)
+    by false some e = let same : s ≡ some = cc in (refl, ap (λ (x : Scaling). x.scale) same, ap (λ (x : Scaling). x.zero) same)
+
+-- else not
+pub scaling_none : (old kind : Kind) (scaling : Option Scaling) → scaling ≡ scaling_for old kind → scaling ≡ None → int_eq (offset_of old) (offset_of kind) ≡ true
+scaling_none old kind scaling e f = by (int_eq (offset_of old) (offset_of kind)) _ (sym f ∙ e)
+  where
+    by : (t : Bool) (some : Scaling) → None ≡ (if t then None else Some some) → t ≡ true
+    by true some e = refl
+    by false some e = absurd (cc)
+
+-- room is left for both
+pub room_left : (cards new : List (List ℕ)) (m room room' : ℕ) → length new ≤ room + m → 3 + m ≤ length cards → room' + length (spliced cards 2 (2 + m) new) ≡ room + length cards → 2 ≤ room'
+room_left cards new m room room' few within e = omega (arith, few, within, e, length-spliced cards new 2 (2 + m) (omega arith) (omega (arith, within)))
+
+-- a header with cards that are written one after the other
+pub scaled_header : (h r s t : Header) (written scale zero : List (List ℕ)) (offset : ℤ) → r ≡ with_cards h written
+    → s ≡ with_cards r (cards_after r.cards (replacing (length r.cards) (keyword_cards r.cards (codes "BSCALE  ")) scale))
+    → t ≡ with_cards s (cards_after s.cards (replacing (length s.cards) (keyword_cards s.cards (codes "BZERO   ")) zero))
+    → scale ≡ written_number (codes "BSCALE  ") (pos 1) → zero ≡ written_number (codes "BZERO   ") offset → t ≡ with_cards h (with_scaling written offset)
+scaled_header h r s t written scale zero offset a b c d e = rw (c, b, a, d, e) refl
+
+-- the first of both is written
+pub one_header : (h r s : Header) (written scale : List (List ℕ)) → r ≡ with_cards h written
+    → s ≡ with_cards r (cards_after r.cards (replacing (length r.cards) (keyword_cards r.cards (codes "BSCALE  ")) scale))
+    → scale ≡ written_number (codes "BSCALE  ") (pos 1) → s.cards ≡ with_number written (codes "BSCALE  ") (pos 1)
+one_header h r s written scale a b d = rw (b, a, d) refl
+
+-- the cards of an array that is made another, where the offset is another
+pub cards_scaled : (old kind : Kind) (axes : List ℕ) (shape : Shape) (cards : List (List ℕ)) → int_eq (offset_of old) (offset_of kind) ≡ false → cards_reshaped old kind axes shape cards ≡ with_scaling (spliced cards 2 (2 + length shape.axes) (shape_cards kind axes)) (offset_of kind)
+unfolding cards_reshaped
+cards_scaled old kind axes shape cards e = cond-false (int_eq (offset_of old) (offset_of kind)) (spliced cards 2 (2 + length shape.axes) (shape_cards kind axes)) (with_scaling (spliced cards 2 (2 + length shape.axes) (shape_cards kind axes)) (offset_of kind)) e
+
+-- and where it stays
+pub cards_kept : (old kind : Kind) (axes : List ℕ) (shape : Shape) (cards : List (List ℕ)) → int_eq (offset_of old) (offset_of kind) ≡ true → cards_reshaped old kind axes shape cards ≡ spliced cards 2 (2 + length shape.axes) (shape_cards kind axes)
+unfolding cards_reshaped
+cards_kept old kind axes shape cards e = cond-true (int_eq (offset_of old) (offset_of kind)) (spliced cards 2 (2 + length shape.axes) (shape_cards kind axes)) (with_scaling (spliced cards 2 (2 + length shape.axes) (shape_cards kind axes)) (offset_of kind)) e
+
+-- the cards that come are those of the shape
+pub new_are : (kind : Kind) (axes : List ℕ) (n : ℕ) (change : Change) (new : List (List ℕ)) → change ≡ Splice 2 n (shape_cards kind axes) → new ≡ new_cards change → new ≡ shape_cards kind axes
+unfolding new_cards
+new_are kind axes n change new e f = f ∙ ap new_cards e
 
 pub ruleset plan_steps = (shape_told, offset_told, splice_in_range, kind_of_array)

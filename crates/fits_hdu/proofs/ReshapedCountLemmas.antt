@@ -24,14 +24,15 @@ use Rattle.fits_image.specs.declared.kind.Kind.{Kind}
 use Rattle.fits_image.proofs.ImageCardLemmas.{axes_from, axis_list_length, bscale_name, bzero_name, shape_cards_are}
 use Rattle.fits_image.proofs.LeadFromLemmas.{from_lead}
 use Rattle.fits_hdu.specs.Keyword.{own_count}
+use Rattle.fits_hdu.specs.Work.{keyword_reads}
 use Rattle.fits_hdu.specs.Reshape.{IsUnshaped, cards_reshaped, with_number, with_scaling}
 use Rattle.fits_hdu.specs.Reshaping.{scaling_for}
 use Rattle.fits_hdu.specs.declared.scaling.Scaling.{Scaling}
 use Rattle.fits_hdu.proofs.OtherLeadLemmas.{Differs, differ_after, differ_before, past_others}
 use Rattle.fits_hdu.proofs.PlanLemmas.{bscale_unshaped, bzero_unshaped}
 use Rattle.fits_hdu.proofs.ReshapeLemmas.{offset_small}
-use Rattle.fits_hdu.proofs.ScalingLemmas.{number_count, number_keeps_count}
-use Rattle.fits_hdu.proofs.SettingLemmas.{chain_from, count_by_chain}
+use Rattle.fits_hdu.proofs.ScalingLemmas.{number_count, number_keeps_count, number_keeps_reads}
+use Rattle.fits_hdu.proofs.SettingLemmas.{chain_from, count_by_chain, reads_by_chain}
 use Rattle.fits_hdu.proofs.ShapeLemmas.{named_at}
 
 -- a name that begins with B is not that of the first card
@@ -39,6 +40,13 @@ first_differs : (primary : Bool) (cards : List (List ℕ)) (card first name : Li
 unfolding first_card
 first_differs true cards card first name b at e same = let letter = ap (λ (x : List ℕ). get_or x 0 0) (sym (named_at cards 1 (codes "SIMPLE  ") card first at e) ∙ same) in omega (arith, letter, b)
 first_differs false cards card first name b at e same = let letter = ap (λ (x : List ℕ). get_or x 0 0) (sym (named_at cards 1 (codes "XTENSION") card first at e) ∙ same) in omega (arith, letter, b)
+
+-- the names differ
+scale_not_zero : codes "BSCALE  " ≢ codes "BZERO   "
+scale_not_zero e = let letter = ap (λ (x : List ℕ). get_or x 1 0) e in omega (arith, letter)
+
+continue_not_zero : codes "CONTINUE" ≢ codes "BZERO   "
+continue_not_zero e = let letter = ap (λ (x : List ℕ). get_or x 0 0) e in omega (arith, letter)
 
 module _ (primary : Bool) (kind : Kind) (axes : List ℕ) (shape : Shape) (cards : List (List ℕ)) (is : shape_of primary cards ≡ Ok shape) (may : are_axes axes ≡ true) where
   -- the cards with BITPIX, NAXIS and the axes written anew
@@ -61,9 +69,9 @@ module _ (primary : Bool) (kind : Kind) (axes : List ℕ) (shape : Shape) (cards
           length-take-le-one [] = omega arith
           length-take-le-one (x ∷ xs) = omega arith
 
-  -- so a keyword has as many cards
-  pub count_written : (name : List ℕ) → get_or name 0 0 ≡ 66 → IsUnshaped name → own_count written name ≡ own_count cards name
-  count_written name b other =
+  -- so the lead and what follows it are the same
+  lead_from_written : (name : List ℕ) → get_or name 0 0 ≡ 66 → IsUnshaped name → from_lead name written ≡ from_lead name cards
+  lead_from_written name b other =
       let front : List (List ℕ) = take 1 cards in
       let gone : List (List ℕ) = take (2 + length shape.axes) (drop 1 cards) in
       let back : List (List ℕ) = drop (1 + (2 + length shape.axes)) cards in
@@ -72,7 +80,19 @@ module _ (primary : Bool) (kind : Kind) (axes : List ℕ) (shape : Shape) (cards
       let first = front_differs name b in
       let before : from_lead name cards ≡ from_lead name back = ap (from_lead name) was ∙ (past_others name front (gone ++ back) first ∙ past_others name gone back (differ_before primary cards shape name (described primary cards shape is) other)) in
       let after : from_lead name written ≡ from_lead name back = past_others name front (shape_cards kind axes ++ back) first ∙ past_others name (shape_cards kind axes) back (differ_after name other kind axes may) in
-      count_by_chain written name ∙ (ap (λ from. option_map_or (λ n. 1 + (n - 1)) (chain_from from) 0) (after ∙ sym before) ∙ sym (count_by_chain cards name))
+      after ∙ sym before
+
+  -- a keyword has as many cards
+  count_written : (name : List ℕ) → get_or name 0 0 ≡ 66 → IsUnshaped name → own_count written name ≡ own_count cards name
+  count_written name b other = count_by_chain written name ∙ (ap (λ from. option_map_or (λ n. 1 + (n - 1)) (chain_from from) 0) (lead_from_written name b other) ∙ sym (count_by_chain cards name))
+
+  -- and is read by as many
+  pub reads_written : (name : List ℕ) → get_or name 0 0 ≡ 66 → IsUnshaped name → keyword_reads written name ≡ keyword_reads cards name
+  reads_written name b other = reads_by_chain written name ∙ (ap (λ from. option_map_or (λ n. n + 1) (chain_from from) 0) (lead_from_written name b other) ∙ sym (reads_by_chain cards name))
+
+  -- BZERO too, where BSCALE was set
+  pub reads_scaled : keyword_reads (with_number written (codes "BSCALE  ") (pos 1)) (codes "BZERO   ") ≡ keyword_reads cards (codes "BZERO   ")
+  reads_scaled = number_keeps_reads (codes "BSCALE  ") (pos 1) written bscale_name (omega arith) (codes "BZERO   ") scale_not_zero continue_not_zero ∙ reads_written (codes "BZERO   ") refl bzero_unshaped
 
   -- where the offset stays no other card comes or goes
   pub count_same : (old : Kind) → int_eq (offset_of old) (offset_of kind) ≡ true → length (cards_reshaped old kind axes shape cards) ≡ length written
@@ -89,12 +109,6 @@ module _ (primary : Bool) (kind : Kind) (axes : List ℕ) (shape : Shape) (cards
       let zero = number_count (codes "BZERO   ") (offset_of kind) one bzero_name (offset_small kind) in
       let kept = number_keeps_count (codes "BSCALE  ") (pos 1) written bscale_name (omega arith) (codes "BZERO   ") scale_not_zero continue_not_zero in
       omega (arith, size, scale, zero, kept, count_written (codes "BSCALE  ") refl bscale_unshaped, count_written (codes "BZERO   ") refl bzero_unshaped)
-    where
-      scale_not_zero : codes "BSCALE  " ≢ codes "BZERO   "
-      scale_not_zero e = let letter = ap (λ (x : List ℕ). get_or x 1 0) e in omega (arith, letter)
-
-      continue_not_zero : codes "CONTINUE" ≢ codes "BZERO   "
-      continue_not_zero e = let letter = ap (λ (x : List ℕ). get_or x 0 0) e in omega (arith, letter)
 
 -- whether BSCALE and BZERO are written is whether the offset is another
 pub scaling_told : (old kind : Kind) (scaling : Option Scaling) (b : Bool) → scaling ≡ scaling_for old kind → is_some scaling ≡ not b → int_eq (offset_of old) (offset_of kind) ≡ b

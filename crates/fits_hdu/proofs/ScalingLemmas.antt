@@ -1,10 +1,18 @@
 -- BSCALE and BZERO, set to numbers: the shape stays, and the offset is there.
-use Rattle.std.proofs.Common.{◌≡◌, ℕ, ◌+◌, ◌-◌, length, ◌^◌, ◌<◌, Bool, true, false, List, [], ◌∷◌, get_or, codes, refl, ap, sym, ◌∙◌, subst, arith, Option, None, Some}
-use Rattle.std.specs.Prelude.{◌≢◌, ◌&&◌, ◌||◌, ◌↔◌, ℤ, pos, unsigned_abs, is_none, unwrap_or, Ok}
+use Rattle.std.proofs.Common.{All, inl, inr, ◌≡◌, ℕ, ◌+◌, ◌-◌, length, ◌^◌, ◌<◌, Bool, true, false, List, [], ◌∷◌, get_or, codes, refl, ap, sym, ◌∙◌, subst, arith, Option, None, Some}
+use Rattle.std.specs.Prelude.{◌≢◌, ◌&&◌, ◌||◌, ◌↔◌, ℤ, pos, unsigned_abs, is_none, unwrap_or, IsTrue, Ok}
 use Rattle.std.specs.Option.{option_map, option_map_or}
 use Rattle.std.specs.Ordering.{int_eq}
+use Rattle.std.proofs.lemmas.List.Elements.{All-cons, All-nil}
+use Rattle.std.proofs.lemmas.Slice.Eq.{bytes_eq-Decides}
+use Rattle.fits_card.specs.Card.{IsEnd, is_end, keyword_name}
+use Rattle.fits_card.specs.Name.{end_name}
+use Rattle.fits_header.specs.State.{still_describes}
+use Rattle.fits_rules.specs.Class.{is_primary}
+use Rattle.fits_rules.proofs.SameShapeLemmas.{same_shape-Decides}
 use Rattle.std.proofs.lemmas.Bool.{cond-true, or_right}
-use Rattle.fits_card.specs.Change.{cards_after}
+use Rattle.fits_card.specs.Change.{cards_after, new_cards}
+use Rattle.fits_card.specs.declared.change.Change.{Change}
 use Rattle.fits_rules.specs.Denotes.{card_says_number, lead_says_number}
 use Rattle.fits_rules.specs.Lead.{lead_card}
 use Rattle.fits_rules.specs.Shape.{shape_of}
@@ -15,9 +23,12 @@ use Rattle.fits_image.proofs.ImageCardLemmas.{bscale_name, bzero_name}
 use Rattle.fits_image.proofs.LeadFromLemmas.{From, lead_card_is}
 use Rattle.fits_image.proofs.NumberCardLemmas.{IsValueName, number_card, number_card_denotes_alone, number_card_is, number_is_one_card}
 use Rattle.fits_hdu.specs.Keyword.{keyword_cards, own_count, replacing}
-use Rattle.fits_hdu.specs.Reshape.{with_number, with_scaling, ScalingGivesOffset, ScalingKeepsShapes}
-use Rattle.fits_hdu.proofs.SettingLemmas.{IsSet, count_by_chain, set_is, set_keeps, set_leads}
-use Rattle.fits_hdu.proofs.StampingLemmas.{set_cards, set_length}
+use Rattle.fits_hdu.specs.Stamp.{IsOneCard}
+use Rattle.fits_hdu.specs.Work.{keyword_reads}
+use Rattle.fits_hdu.specs.declared.keyword_cards.KeywordCards.{KeywordCards}
+use Rattle.fits_hdu.specs.Reshape.{IsScaleName, with_number, with_scaling, ScalingGivesOffset, ScalingKeepsShapes}
+use Rattle.fits_hdu.proofs.SettingLemmas.{IsSet, count_by_chain, reads_by_chain, set_is, set_keeps, set_leads}
+use Rattle.fits_hdu.proofs.StampingLemmas.{set_cards, set_length, set_one}
 use Rattle.fits_hdu.proofs.StampLemmas.{IsLow, bscale_low, bzero_low, set_kept_shape, set_keeps_shape}
 
 module _ (name : List ℕ) (z : ℤ) (cards : List (List ℕ)) (named : IsValueName name) (small : unsigned_abs z < 2 ^ 64) where
@@ -50,6 +61,12 @@ module _ (name : List ℕ) (z : ℤ) (cards : List (List ℕ)) (named : IsValueN
   number_keeps_count other p q =
       let is = number_card_is name z named small in
       count_by_chain (with_number cards name z) other ∙ (ap (λ n. option_map_or (λ n. 1 + (n - 1)) n 0) (set_keeps name other cards (with_number cards name z) (number_card name z) number_set p q is.named is.valued).chain ∙ sym (count_by_chain cards other))
+
+  -- and how many cards they are read by
+  pub number_keeps_reads : (other : List ℕ) → name ≢ other → codes "CONTINUE" ≢ other → keyword_reads (with_number cards name z) other ≡ keyword_reads cards other
+  number_keeps_reads other p q =
+      let is = number_card_is name z named small in
+      reads_by_chain (with_number cards name z) other ∙ (ap (λ n. option_map_or (λ n. n + 1) n 0) (set_keeps name other cards (with_number cards name z) (number_card name z) number_set p q is.named is.valued).chain ∙ sym (reads_by_chain cards other))
 
   -- one card comes, and those of the keyword go
   pub number_count : length (with_number cards name z) + own_count cards name ≡ length cards + 1
@@ -95,3 +112,38 @@ scaling_gives_offset cards offset other small =
     and_same : (b : Bool) → (b && true) ≡ b
     and_same true = refl
     and_same false = refl
+
+-- the keywords of a scaling are low
+scale_low : (name : List ℕ) → IsScaleName name → IsLow name
+scale_low name (inl e) = rw e bscale_low
+scale_low name (inr e) = rw e bzero_low
+
+-- and begin no card that ends a header
+scale_no_end : (name card : List ℕ) → IsScaleName name → keyword_name card ≡ name → IsEnd card → ⊥
+unfolding is_end
+scale_no_end name card keyword e end =
+    let is = ap (λ (x : List ℕ). get_or x 0 0) (sym e ∙ (bytes_eq-Decides (keyword_name card) end_name).0 end) in
+    name_no_end name keyword is
+  where
+    name_no_end : (name : List ℕ) → IsScaleName name → get_or name 0 0 ≡ 69 → ⊥
+    name_no_end name (inl f) is = let letter = ap (λ (x : List ℕ). get_or x 0 0) f in omega (arith, letter, is)
+    name_no_end name (inr f) is = let letter = ap (λ (x : List ℕ). get_or x 0 0) f in omega (arith, letter, is)
+
+-- nor does the change
+pub scale_not_end : (name : List ℕ) (new : List (List ℕ)) (change : Change) → IsScaleName name → IsOneCard name new → new_cards change ≡ new → All (λ card. IsEnd card → ⊥) (new_cards change)
+scale_not_end name new change keyword one e = rw e (rw one.is (All-cons (λ card. IsEnd card → ⊥) one.card [] (scale_no_end name one.card keyword one.named) (All-nil (λ card. IsEnd card → ⊥))))
+
+-- and the shape stays
+pub scale_kept : (shape : Shape) (cards : List (List ℕ)) (name : List ℕ) (new : List (List ℕ)) (old : Option KeywordCards) (change : Change) (count : ℕ) → shape_of (is_primary shape.class) cards ≡ Ok shape → count ≡ length cards → old ≡ keyword_cards cards name → change ≡ replacing count old new
+    → IsScaleName name → IsOneCard name new → IsTrue (still_describes shape (cards_after cards change))
+unfolding still_describes
+scale_kept shape cards name new old change count is n e f keyword one =
+    let now : cards_after cards change ≡ set_cards cards name new = rw (f, n, e) refl in
+    let kept : shape_of (is_primary shape.class) (set_cards cards name new) ≡ Ok shape = set_keeps_shape (is_primary shape.class) name cards (set_cards cards name new) one.card shape is (scale_low name keyword) (set_one cards name new one) one.named in
+    (same_shape-Decides shape (shape_of (is_primary shape.class) (cards_after cards change))).1 (ap (shape_of (is_primary shape.class)) now ∙ kept)
+
+-- a number's cards are one
+pub number_one : (name : List ℕ) (z : ℤ) (new : List (List ℕ)) → IsValueName name → unsigned_abs z < 2 ^ 64 → new ≡ written_number name z → IsOneCard name new
+number_one name z new named small e =
+    let is = number_card_is name z named small in
+    record { card = number_card name z; is = e ∙ number_is_one_card name z named.size small; size = is.inner.size; named = is.named; valued = is.valued }

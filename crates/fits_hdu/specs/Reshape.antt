@@ -1,6 +1,6 @@
 -- An array of integers made another, of this kind and with these axes: its cards, and its pixels (FITS Standard 4.0, sections
 -- 3.3.2, 4.4.1.1, 4.4.2.5 and 5.2; own).
-use Rattle.std.specs.Prelude.{◌≡◌, ◌≢◌, ◌↔◌, ℕ, ◌+◌, ◌*◌, ◌^◌, ◌<◌, ◌≤◌, ◌&&◌, Bool, true, false, not, min, ℤ, pos, ◌+ℤ◌, ◌-ℤ◌, unsigned_abs, List, length, slice_index, codes, Option, None, Some, Result, Ok, Err, if◌then◌else◌}
+use Rattle.std.specs.Prelude.{◌≡◌, ◌⊎◌, ◌≢◌, ◌↔◌, ℕ, ◌+◌, ◌*◌, ◌^◌, ◌<◌, ◌≤◌, ◌&&◌, Bool, true, false, not, min, ℤ, pos, ◌+ℤ◌, ◌-ℤ◌, unsigned_abs, List, length, slice_index, codes, Option, None, Some, Result, Ok, Err, if◌then◌else◌}
 use Rattle.std.specs.Ordering.{int_eq}
 use Rattle.fits_card.specs.Change.{cards_after, spliced}
 use Rattle.fits_card.specs.Header.{with_cards}
@@ -22,6 +22,10 @@ use Rattle.fits_hdu.specs.declared.reshape_fault.ReshapeFault.TheVariants.{NotIm
 -- what the cards describe then: the class and the counts stay
 abbrev pub reshaped_shape : Kind → List ℕ → Shape → Shape
 reshaped_shape kind axes shape = record shape { bitpix = pos (8 * width_of kind); axes = axes }
+
+-- one of the two keywords of a scaling (4.4.2.5)
+abbrev pub IsScaleName : List ℕ → Type 0
+IsScaleName name = (name ≡ codes "BSCALE  ") ⊎ (name ≡ codes "BZERO   ")
 
 -- cards with a number's instead of a keyword's, without a comment
 abbrev pub with_number : List (List ℕ) → List ℕ → ℤ → List (List ℕ)

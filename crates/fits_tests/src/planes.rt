@@ -79,3 +79,45 @@ fn refused_memory_at_a_plane(rt: HostRuntime) {
         }
     }
 }
+
+/// Three pixels of 16 bits.
+const NARROW: Layout = Layout {
+    width: 2,
+    pixels: 3,
+    used: 6,
+    fill: 0,
+    blank: None,
+};
+
+/// And of 32.
+const WIDE: Layout = Layout {
+    width: 4,
+    pixels: 3,
+    used: 12,
+    fill: 0,
+    blank: None,
+};
+
+#[test]
+fn pixels_are_stored_anew(rt: HostRuntime) -> Result<(), Fail> {
+    let mut bytes = [0; 2880];
+    // 0, 32767 and -32768: unsigned, with the offset 32768, they are 32768, 65535 and 0
+    bytes[..6].copy_from_slice(&[0, 0, 127, 255, 128, 0]);
+    holds!(rt; NARROW.fits(&bytes));
+    let mut plane = Plane::open(rt.alloc(), &bytes, NARROW)?;
+    same!(rt; plane.converts(1, 1, 0), true);
+    same!(rt; plane.converts(1, 2, 0), false);
+    same!(rt; plane.converts(2, 3, 32768), false);
+    let narrow = plane.converted(rt.alloc(), 1, 2, 0, 2880)?;
+    holds!(rt; narrow.is_none());
+    let Some(wide) = plane.converted(rt.alloc(), 4, 3, 32768, 2880)? else {
+        return Err(Fail::from("no bytes"));
+    };
+    let wanted = [0, 0, 128, 0, 0, 0, 255, 255, 0, 0, 0, 0];
+    holds!(rt; wide.starts_with(&wanted));
+    holds!(rt; WIDE.fits(&wide));
+    plane.renew(rt.alloc(), wide, WIDE)?;
+    same!(rt; numbers(plane.stats()), (3, 0, Some(0), Some(65535), 98303));
+    same!(rt; plane.total(), 98303);
+    Ok(())
+}
