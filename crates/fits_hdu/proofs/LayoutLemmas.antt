@@ -25,7 +25,7 @@ spanned [] = refl
 spanned (axis ∷ axes) = ap (λ n. axis * n) (spanned axes)
 
 -- so an array that has an axis has as many values as pixels
-array_spanned : (axes : List ℕ) → nat_lt 0 (length axes) ≡ true → array_values axes ≡ product axes
+pub array_spanned : (axes : List ℕ) → nat_lt 0 (length axes) ≡ true → array_values axes ≡ product axes
 array_spanned [] some = absurd (false≢true some)
 array_spanned (axis ∷ axes) some = spanned (axis ∷ axes)
 

@@ -26,3 +26,5 @@ pub mod ReshapeLemmas
 pub mod OtherLeadLemmas
 pub mod PlanLemmas
 pub mod ReshapedCountLemmas
+pub mod ReshapedNameLemmas
+pub mod ReshapedUnitLemmas

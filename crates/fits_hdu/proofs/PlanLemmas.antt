@@ -25,9 +25,10 @@ use Rattle.fits_rules.proofs.DescribesLemmas.{described}
 use Rattle.fits_rules.proofs.KeepingLemmas.{described_within}
 use Rattle.fits_rules.proofs.SameShapeLemmas.{same_shape-Decides}
 use Rattle.fits_image.specs.ImageCards.{are_axes, shape_cards, written_number}
-use Rattle.fits_image.proofs.ImageCardLemmas.{shape_cards_inner}
+use Rattle.fits_image.proofs.ImageCardLemmas.{axis_list_length, shape_cards_are, shape_cards_inner}
 use Rattle.fits_hdu.specs.Keyword.{keyword_cards, replacing}
 use Rattle.fits_hdu.specs.Reshaping.{IsPlan, scaling_for}
+use Rattle.fits_hdu.specs.Work.{keyword_reads, scaling_reads}
 use Rattle.fits_hdu.specs.declared.reshaping.Reshaping.{Reshaping}
 use Rattle.fits_hdu.specs.declared.scaling.Scaling.{Scaling}
 use Rattle.fits_image.specs.Kind.{array_kind, convention, has_offset, is_unscaled, kind_of, offset_of, width_of}
@@ -234,9 +235,18 @@ pub cards_kept : (old kind : Kind) (axes : List ℕ) (shape : Shape) (cards : Li
 unfolding cards_reshaped
 cards_kept old kind axes shape cards e = cond-true (int_eq (offset_of old) (offset_of kind)) (spliced cards 2 (2 + length shape.axes) (shape_cards kind axes)) (with_scaling (spliced cards 2 (2 + length shape.axes) (shape_cards kind axes)) (offset_of kind)) e
 
+-- both keywords are read where the offset is another
+pub reads_scaling : (old kind : Kind) (cards : List (List ℕ)) → int_eq (offset_of old) (offset_of kind) ≡ false → scaling_reads old kind cards ≡ keyword_reads cards (codes "BSCALE  ") + keyword_reads cards (codes "BZERO   ")
+reads_scaling old kind cards e = cond-false (int_eq (offset_of old) (offset_of kind)) 0 (keyword_reads cards (codes "BSCALE  ") + keyword_reads cards (codes "BZERO   ")) e
+
 -- the cards that come are those of the shape
 pub new_are : (kind : Kind) (axes : List ℕ) (n : ℕ) (change : Change) (new : List (List ℕ)) → change ≡ Splice 2 n (shape_cards kind axes) → new ≡ new_cards change → new ≡ shape_cards kind axes
 unfolding new_cards
 new_are kind axes n change new e f = f ∙ ap new_cards e
+
+-- two of them, and one for each axis
+pub change_brings : (kind : Kind) (axes : List ℕ) (n : ℕ) (change : Change) → are_axes axes ≡ true → change ≡ Splice 2 n (shape_cards kind axes) → length (new_cards change) ≡ 2 + length axes
+unfolding new_cards
+change_brings kind axes n change may e = ap (λ (made : Change). length (new_cards made)) e ∙ (ap length (shape_cards_are kind axes may) ∙ omega (arith, axis_list_length 1 axes))
 
 pub ruleset plan_steps = (shape_told, offset_told, splice_in_range, kind_of_array)

@@ -14,10 +14,11 @@ use Rattle.fits_rules.specs.declared.array_shape.Shape.{Shape}
 use Rattle.fits_image.specs.ImageCards.{are_axes, shape_cards, written_number}
 use Rattle.fits_image.specs.Kind.{array_kind, has_offset, is_plain, offset_of, width_of}
 use Rattle.fits_image.specs.declared.kind.Kind.{Kind}
-use Rattle.fits_hdu.specs.Hdu.{HduParts, IsHdu}
+use Rattle.fits_hdu.specs.ExtensionName.{extension_name}
+use Rattle.fits_hdu.specs.Hdu.{HduParts, IsHdu, hdu_bytes}
 use Rattle.fits_hdu.specs.Keyword.{keyword_cards, replacing}
 use Rattle.fits_hdu.specs.declared.reshape_fault.ReshapeFault.{ReshapeFault}
-use Rattle.fits_hdu.specs.declared.reshape_fault.ReshapeFault.TheVariants.{NotImage, BadShape, OutOfRange}
+use Rattle.fits_hdu.specs.declared.reshape_fault.ReshapeFault.TheVariants.{NotImage, BadShape, OutOfRange, TooLarge, Memory}
 
 -- what the cards describe then: the class and the counts stay
 abbrev pub reshaped_shape : Kind → List ℕ → Shape → Shape
@@ -89,6 +90,12 @@ reshaped_by (Some old) kind axes shape hdu =
 unfoldable pub reshaped : Kind → List ℕ → Shape → HduParts → Result HduParts ReshapeFault
 reshaped kind axes shape hdu = reshaped_by (array_kind shape hdu.header.cards) kind axes shape hdu
 
+-- why it isn't made so, or would have more bytes than so many; memory may run out for an array of integers
+abbrev pub ReshapeFails : Result HduParts ReshapeFault → ℕ → ReshapeFault → Type 0
+ReshapeFails made most TooLarge = (hdu : HduParts) × (made ≡ Ok hdu) × (most < length (hdu_bytes hdu))
+ReshapeFails made most Memory = made ≢ Err NotImage
+ReshapeFails made most fault = made ≡ Err fault
+
 -- cards that scale describe the shape that they did
 abbrev pub ScalingKeepsShapes : Type 0
 ScalingKeepsShapes =
@@ -135,3 +142,10 @@ ReshapingLeavesLeads =
     (primary : Bool) (old kind : Kind) (axes : List ℕ) (shape : Shape) (cards : List (List ℕ)) (name : List ℕ)
     → shape_of primary cards ≡ Ok shape → are_axes axes ≡ true → IsOther name
     → lead_card (cards_reshaped old kind axes shape cards) name ≡ lead_card cards name
+
+-- what an HDU is called stays (4.4.2.6)
+abbrev pub ReshapingKeepsNames : Type 0
+ReshapingKeepsNames =
+    (primary : Bool) (kind : Kind) (axes : List ℕ) (shape : Shape) (hdu new : HduParts)
+    → shape_of primary hdu.header.cards ≡ Ok shape → reshaped kind axes shape hdu ≡ Ok new
+    → extension_name primary new.header.cards ≡ extension_name primary hdu.header.cards

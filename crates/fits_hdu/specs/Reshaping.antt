@@ -1,14 +1,17 @@
 -- What is found of an array before it is made another (own).
-use Rattle.std.specs.Prelude.{◌≡◌, ℕ, ◌+◌, true, false, pos, List, length, codes, Option, None, Some, if◌then◌else◌}
+use Rattle.std.specs.Prelude.{◌≡◌, ℕ, ◌+◌, ◌-ℤ◌, true, false, is_some, min, pos, List, length, codes, Option, None, Some, if◌then◌else◌}
 use Rattle.std.specs.Ordering.{int_eq}
 use Rattle.fits_card.specs.declared.change.Change.TheVariants.{Splice}
+use Rattle.fits_plane.specs.Converting.{kept_numbers, run_made}
+use Rattle.fits_plane.specs.Plane.{PlaneState}
+use Rattle.fits_rules.specs.Size.{array_values, data_length}
 use Rattle.fits_rules.specs.declared.array_shape.Shape.{Shape}
 use Rattle.fits_image.specs.ImageCards.{shape_cards, written_number}
-use Rattle.fits_image.specs.Kind.{array_kind, offset_of}
+use Rattle.fits_image.specs.Kind.{array_kind, offset_of, width_of}
 use Rattle.fits_image.specs.declared.kind.Kind.{Kind}
 use Rattle.fits_hdu.specs.Reshape.{can_reshape, reshaped_shape}
 use Rattle.fits_hdu.specs.declared.reshape_fault.ReshapeFault.{ReshapeFault}
-use Rattle.fits_hdu.specs.declared.reshape_fault.ReshapeFault.TheVariants.{NotImage, BadShape, Memory}
+use Rattle.fits_hdu.specs.declared.reshape_fault.ReshapeFault.TheVariants.{NotImage, BadShape, OutOfRange, TooLarge, Memory}
 use Rattle.fits_hdu.specs.declared.reshaping.Reshaping.{Reshaping}
 use Rattle.fits_hdu.specs.declared.scaling.Scaling.{Scaling}
 
@@ -38,3 +41,16 @@ PlanFails kind axes shape cards NotImage = array_kind shape cards ≡ None
 PlanFails kind axes shape cards BadShape = (old : Kind) × (array_kind shape cards ≡ Some old) × (can_reshape old kind axes shape cards ≡ false)
 PlanFails kind axes shape cards Memory = (old : Kind) × (array_kind shape cards ≡ Some old)
 PlanFails kind axes shape cards fault = ⊥
+
+-- the data unit that is planned for an array with these pixels, if each of their numbers can be stored
+abbrev pub unit_planned : Reshaping → PlaneState → Option (List ℕ)
+unit_planned plan plane =
+    run_made (width_of plan.kind) (kept_numbers plane.layout.width plane.bytes (min plane.layout.pixels (array_values plan.shape.axes)) (offset_of plan.old -ℤ offset_of plan.kind))
+    (data_length plan.shape)
+
+-- it isn't made: a number can't be stored, or it has too many bytes, or memory runs out
+abbrev pub UnitFails : Option (List ℕ) → Option ℕ → ReshapeFault → Type 0
+UnitFails made len OutOfRange = made ≡ None
+UnitFails made len TooLarge = (is_some made ≡ true) × (len ≡ None)
+UnitFails made len Memory = Unit {0}
+UnitFails made len fault = ⊥

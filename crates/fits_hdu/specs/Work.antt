@@ -1,11 +1,14 @@
 -- How much work the calls of an HDU are at most: cards read, blocks scanned, pixels read, nodes joined (own).
-use Rattle.std.specs.Prelude.{◌≡◌, ◌⊎◌, ℕ, ◌+◌, ◌*◌, ◌^◌, ◌≤◌, ℤ, List, length, codes, Option}
+use Rattle.std.specs.Prelude.{◌≡◌, ◌⊎◌, ℕ, ◌+◌, ◌*◌, ◌^◌, ◌≤◌, ℤ, List, length, codes, Option, None, Some, if◌then◌else◌}
+use Rattle.std.specs.Ordering.{int_eq}
 use Rattle.std.specs.Option.{option_map_or}
 use Rattle.fits_value.specs.Says.{chain_length}
 use Rattle.fits_rules.specs.Lead.{lead_place}
 use Rattle.fits_header.specs.Work.{mark_reads}
 use Rattle.fits_plane.specs.Layout.{block_count}
 use Rattle.fits_plane.specs.Plane.{PlaneState}
+use Rattle.fits_image.specs.Kind.{offset_of}
+use Rattle.fits_image.specs.declared.kind.Kind.{Kind}
 use Rattle.fits_hdu.specs.State.{HduState}
 
 -- what is read after a change of the cards: the leads of BZERO, BSCALE, BLANK, DATASUM and CHECKSUM
@@ -40,6 +43,16 @@ stamp_reads cards = stamp_count_reads cards + 3 * apply_reads + 2
 -- shape of the cards after
 abbrev pub plan_reads : List ℕ → ℕ
 plan_reads axes = length axes + 12
+
+-- BSCALE and BZERO are looked for by so many, where the offset is another
+abbrev pub scaling_reads : Kind → Kind → List (List ℕ) → ℕ
+scaling_reads old kind cards =
+    if int_eq (offset_of old) (offset_of kind) then 0 else keyword_reads cards (codes "BSCALE  ") + keyword_reads cards (codes "BZERO   ")
+
+-- an array is made another by so many: whether it may be, how many cards it has then, the change, and what a change reads
+abbrev pub reshape_reads : Option Kind → Kind → List ℕ → List (List ℕ) → ℕ
+reshape_reads None kind axes cards = plan_reads axes
+reshape_reads (Some old) kind axes cards = plan_reads axes + 2 * scaling_reads old kind cards + apply_reads
 
 -- how many blocks of a data unit were scanned, pixels read and nodes of its tree joined so far
 pub record PixelWork : Type 0 where
@@ -87,3 +100,19 @@ pub record IsPatched (touched blocks : ℕ) (old new : PixelWork) : Type 0 where
   pub scans : new.scans ≤ old.scans + touched
   pub more_joins : old.joins ≤ new.joins
   pub joins : (d : ℕ) → blocks ≤ 2 ^ d → new.joins ≤ old.joins + touched * d
+
+-- so many pixels were read at most, and no block was scanned
+pub record IsRead (kept : ℕ) (old new : PixelWork) : Type 0 where
+  pub more_reads : old.reads ≤ new.reads
+  pub reads : new.reads ≤ old.reads + kept
+  pub scans : new.scans ≡ old.scans
+  pub joins : new.joins ≡ old.joins
+
+-- each of so many pixels was read once at most, and each of so many new blocks scanned once at most
+pub record IsRenewed (kept blocks : ℕ) (old new : PixelWork) : Type 0 where
+  pub more_reads : old.reads ≤ new.reads
+  pub reads : new.reads ≤ old.reads + kept
+  pub more_scans : old.scans ≤ new.scans
+  pub scans : new.scans ≤ old.scans + blocks
+  pub more_joins : old.joins ≤ new.joins
+  pub joins : (d : ℕ) → blocks ≤ 2 ^ d → new.joins ≤ old.joins + 2 ^ d

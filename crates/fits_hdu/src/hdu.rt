@@ -3,6 +3,7 @@ ghost use Rattle.std.specs.Prelude.{◌≡◌, ◌≤◌, ◌+◌, length};
 mod making;
 mod pixels;
 mod reporting;
+mod reshaping;
 mod stamping;
 
 use crate::described::{Described, read_described};

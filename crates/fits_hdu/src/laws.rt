@@ -19,7 +19,7 @@ ghost use Rattle.fits_image.specs.Kind.{IsKind, kind_in};
 ghost use Rattle.fits_image.specs.ImageCards.{are_axes, image_cards, image_shape};
 ghost use Rattle.fits_hdu.specs.NewImage.{new_image};
 ghost use Rattle.fits_hdu.specs.Pixels.{painted};
-ghost use Rattle.fits_hdu.specs.Reshape.{ReshapedIsHdu, ReshapingKeepsValues, ReshapingLeavesLeads, ScalingGivesOffset, ScalingKeepsShapes};
+ghost use Rattle.fits_hdu.specs.Reshape.{ReshapedIsHdu, ReshapingKeepsNames, ReshapingKeepsValues, ReshapingLeavesLeads, ScalingGivesOffset, ScalingKeepsShapes};
 ghost use Rattle.fits_hdu.specs.Stamp.{stamped};
 ghost use Rattle.fits_hdu.specs.Sums.{hdu_sum, verdicts_of};
 ghost use Rattle.fits_hdu.specs.declared.verdict.Verdict.TheVariants.{Right};
@@ -137,4 +137,9 @@ pub fn a_reshaped_pixel_keeps_its_value()
 /// The leads of names that are written anew on no card stay: BLANK's, and what an extension is called.
 pub fn a_reshape_leaves_other_leads()
     ensures { ReshapingLeavesLeads }
+{}
+
+/// What an HDU is called stays where it is made another array (FITS Standard 4.0, section 4.4.2.6).
+pub fn a_reshaped_hdu_keeps_its_name()
+    ensures { ReshapingKeepsNames }
 {}

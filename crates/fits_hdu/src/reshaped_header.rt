@@ -1,5 +1,5 @@
 //! The header of an array that is made another: how many cards it has then, and the change itself.
-ghost use Rattle.std.specs.Prelude.{◌≡◌, ◌≤◌, ◌+◌, length, codes};
+ghost use Rattle.std.specs.Prelude.{◌≡◌, ◌≤◌, ◌+◌, length};
 ghost use Rattle.fits_card.specs.Change.{cards_after, new_cards};
 ghost use Rattle.fits_card.specs.Header.{with_cards};
 ghost use Rattle.fits_header.specs.State.{ReadsUpTo};
@@ -7,7 +7,7 @@ ghost use Rattle.fits_hdu.specs.Keyword.{keyword_cards, replacing};
 ghost use Rattle.fits_hdu.specs.Reshape.{cards_reshaped, IsScaleName};
 ghost use Rattle.fits_hdu.specs.Reshaping.{IsPlan};
 ghost use Rattle.fits_hdu.specs.Stamp.{IsOneCard};
-ghost use Rattle.fits_hdu.specs.Work.{keyword_reads};
+ghost use Rattle.fits_hdu.specs.Work.{keyword_reads, scaling_reads};
 
 use crate::keyword::keyword_cards;
 use crate::keyword_cards::{count_of, replacement};
@@ -28,8 +28,7 @@ pub(crate) fn count_reshaped(header: &mut Header, plan: &Reshaping) -> usize
     ensures value { result ≡ length (cards_reshaped plan.now.old plan.now.kind
         plan.now.shape.axes header.old.shape header.old.header.cards) }
     ensures work { ReadsUpTo header.old header.new
-        (keyword_reads header.old.header.cards (codes "BSCALE  ")
-        + keyword_reads header.old.header.cards (codes "BZERO   ")) }
+        (scaling_reads plan.now.old plan.now.kind header.old.header.cards) }
 {
     let _described = header.shape();
     let _few = header.len();
@@ -56,8 +55,7 @@ pub(crate) fn rewrite(header: &mut Header, plan: Reshaping)
     ensures shape { header.new.shape ≡ plan.shape }
     ensures least { header.old.reads ≤ header.new.reads }
     ensures work { header.new.reads ≤ header.old.reads
-        + (keyword_reads header.old.header.cards (codes "BSCALE  ")
-        + keyword_reads header.old.header.cards (codes "BZERO   ")) }
+        + scaling_reads plan.old plan.kind header.old.header.cards }
 {
     let _described = header.shape();
     let Reshaping {

@@ -9,6 +9,7 @@ use crate::painting::paint_rectangle;
 use crate::pixel_reads::read_rows;
 use crate::pixel_summary::PixelSummary;
 use crate::pixels::read_bytes;
+use crate::plane_room::PlaneRoom;
 use crate::rectangle::rectangle_len;
 use crate::scan::Leaf;
 use crate::tree::Tree;
@@ -272,7 +273,6 @@ impl Plane {
     /// The width is 1, 2, 4 or 8. The shift is the offset of the values less that which they are to
     /// have, and no further from 0 than 2^64.
     pub fn converts(&mut self, width: usize, count: usize, shift: i128) -> bool
-        requires from { IsWidth self.old.layout.width }
         requires width { IsWidth width }
         requires within { count ≤ self.old.layout.pixels }
         requires shift { unsigned_abs shift ≤ 2 ^ 64 }
@@ -290,6 +290,9 @@ impl Plane {
         ensures rest { self.new.reads
             ≤ self.old.reads + count % block_pixels self.old.layout.width }
     {
+        if count == 0 {
+            return true;
+        }
         converts_run(
             width,
             &mut self.store,
@@ -312,7 +315,6 @@ impl Plane {
         shift: i128,
         len: usize,
     ) -> Result<Option<Vec<u8>>, AllocError>
-        requires from { IsWidth self.old.layout.width }
         requires width { IsWidth width }
         requires within { count ≤ self.old.layout.pixels }
         requires room { count * width ≤ len }
@@ -331,6 +333,9 @@ impl Plane {
         ensures err { OnErr result (self.new ≡ self.old) }
     {
         let mut made = zeros(alloc, len)?;
+        if count == 0 {
+            return Ok(Some(made));
+        }
         let stored = convert_run(
             made.as_mut_slice(),
             width,
@@ -348,27 +353,22 @@ impl Plane {
     }
 
     /// Makes this the data unit of bytes that are handed over. Each of their blocks is scanned, and
-    /// its counts go on.
-    ///
-    /// `Err` is want of memory for what is kept of the blocks, which stands beside what was kept of
-    /// the old ones till then; nothing has changed then, and no block was scanned.
-    pub fn renew(&mut self, alloc: Global, bytes: Vec<u8>, layout: Layout) -> Result<(), AllocError>
+    /// its counts go on. It takes no memory: `PlaneRoom` was asked for before.
+    pub fn renew(&mut self, room: PlaneRoom, bytes: Vec<u8>, layout: Layout)
         requires layout { IsLayout layout bytes.items }
-        ensures bytes { OnOk result (self.new.bytes ≡ bytes.items) }
-        ensures layout { OnOk result (self.new.layout ≡ layout) }
+        requires room { room ≡ block_count bytes.items }
+        ensures bytes { self.new.bytes ≡ bytes.items }
+        ensures layout { self.new.layout ≡ layout }
         ensures reads { self.new.reads ≡ self.old.reads }
-        ensures more_scans { self.old.scans ≤ self.new.scans }
-        ensures scans { OnOk result (self.new.scans ≡ self.old.scans + block_count bytes.items) }
+        ensures scans { self.new.scans ≡ self.old.scans + block_count bytes.items }
         ensures more_joins { self.old.joins ≤ self.new.joins }
-        ensures joins { OnOk result ((d : ℕ) → block_count bytes.items ≤ 2 ^ d
-            → self.new.joins ≤ self.old.joins + 2 ^ d) }
-        ensures err { OnErr result (self.new ≡ self.old) }
+        ensures joins { (d : ℕ) → block_count bytes.items ≤ 2 ^ d
+            → self.new.joins ≤ self.old.joins + 2 ^ d }
     {
-        self.tree.renew(alloc, bytes.len() / BLOCK_LEN)?;
+        self.tree.renew(room.leaves());
         self.store.renew(bytes);
         self.layout = layout;
         self.store.scan_all(layout, &mut self.tree);
-        Ok(())
     }
 
     /// Makes this the stored number of undefined pixels. It takes no memory.

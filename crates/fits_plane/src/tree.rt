@@ -58,20 +58,33 @@ impl<S: Summary> Tree<S> {
         })
     }
 
-    /// Makes this a tree of so many units, which takes no join. Its joins are counted on. On `Err`
-    /// nothing has changed.
-    pub fn renew(&mut self, alloc: Global, count: usize) -> Result<(), AllocError>
+    /// A tree of so many units, which takes no join.
+    pub fn units(alloc: Global, count: usize) -> Result<Tree<S>, AllocError>
         requires few { count ≤ 2 ^ 62 }
-        ensures leaves { OnOk result (self.new.leaves ≡ replicate count S.empty) }
-        ensures work { self.new.joins ≡ self.old.joins }
-        ensures err { OnErr result (self.new ≡ self.old) }
+        ensures leaves { IfOk result (λ t. t.leaves ≡ replicate count S.empty) }
+        ensures work { IfOk result (λ t. t.joins ≡ 0) }
     {
         let width = power_from(count);
         let nodes = units_of(alloc, 2 * width)?;
+        Ok(Tree {
+            nodes,
+            width,
+            used: count,
+            joins: Count::new(),
+        })
+    }
+
+    /// Takes the leaves of another. Its own joins are counted on.
+    pub fn renew(&mut self, other: Tree<S>)
+        ensures leaves { self.new.leaves ≡ other.leaves }
+        ensures work { self.new.joins ≡ self.old.joins }
+    {
+        let Tree {
+            nodes, width, used, ..
+        } = other;
         self.nodes = nodes;
         self.width = width;
-        self.used = count;
-        Ok(())
+        self.used = used;
     }
 
     /// The summaries of all leaves, joined in order.

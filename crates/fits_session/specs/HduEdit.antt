@@ -8,12 +8,16 @@ use Rattle.fits_rules.specs.Shape.{shape_of}
 use Rattle.fits_rules.specs.declared.array_shape.Shape.{Shape}
 use Rattle.fits_hdu.specs.Hdu.{HduParts, hdu_after, keeps_shape}
 use Rattle.fits_hdu.specs.Pixels.{painted}
+use Rattle.fits_hdu.specs.Reshape.{reshaped}
 use Rattle.fits_hdu.specs.Stamp.{stamped}
 use Rattle.fits_hdu.specs.declared.pixel_fault.PixelFault.{PixelFault}
 use Rattle.fits_hdu.specs.declared.pixel_fault.PixelFault.TheVariants as pixel
+use Rattle.fits_hdu.specs.declared.reshape_fault.ReshapeFault.{ReshapeFault}
+use Rattle.fits_hdu.specs.declared.reshape_fault.ReshapeFault.TheVariants as reshape
+use Rattle.fits_image.specs.declared.kind.Kind.{Kind}
 use Rattle.fits_session.specs.CardEdit.{change_of, HasCardSizes}
 use Rattle.fits_session.specs.declared.hdu_edit.HduEdit.{HduEdit}
-use Rattle.fits_session.specs.declared.hdu_edit.HduEdit.TheVariants.{Cards, Pixels, Stamp}
+use Rattle.fits_session.specs.declared.hdu_edit.HduEdit.TheVariants.{Cards, Pixels, Reshape, Stamp}
 use Rattle.fits_session.specs.declared.paint.Paint.{Paint}
 use Rattle.fits_session.specs.declared.paint.Paint.TheVariants.{Fill, Write}
 use Rattle.fits_session.specs.declared.refusal.Refusal.{Refusal}
@@ -43,6 +47,24 @@ abbrev pub shaped : {X : Type 0} → Result Shape ℕ → (Shape → Result X Pi
 shaped (Ok shape) make = pixels_made (make shape)
 shaped (Err place) make = Err refusal.NotImage
 
+-- a test of a reshape that fails, as a refusal
+abbrev pub refusal_of_reshape : ReshapeFault → Refusal
+refusal_of_reshape reshape.NotImage = refusal.NotImage
+refusal_of_reshape reshape.BadShape = refusal.Shape
+refusal_of_reshape reshape.OutOfRange = refusal.Range
+refusal_of_reshape reshape.TooLarge = refusal.TooLarge
+refusal_of_reshape reshape.Memory = refusal.Memory
+
+-- an HDU that is made another array, or the refusal
+abbrev pub reshape_made : Result HduParts ReshapeFault → Result HduParts Refusal
+reshape_made (Ok made) = Ok made
+reshape_made (Err why) = Err (refusal_of_reshape why)
+
+-- by the shape that cards describe; an HDU without a shape is no array
+abbrev pub hdu_reshaped : Result Shape ℕ → Kind → List ℕ → HduParts → Result HduParts Refusal
+hdu_reshaped (Ok shape) kind axes hdu = reshape_made (reshaped kind axes shape hdu)
+hdu_reshaped (Err place) kind axes hdu = Err refusal.NotImage
+
 -- what a plane is given
 abbrev pub plane_paint : Paint → LentPaint
 plane_paint (Fill value) = plane.Fill value
@@ -56,6 +78,7 @@ hdu_painted primary lo hi paint hdu = shaped (shape_of primary hdu.header.cards)
 unfoldable pub hdu_made : Bool → HduEdit → HduParts → Result HduParts Refusal
 hdu_made primary (Cards edit) hdu = hdu_changed primary hdu (change_of hdu.header.cards edit)
 hdu_made primary (Pixels lo hi paint) hdu = hdu_painted primary lo hi paint hdu
+hdu_made primary (Reshape kind axes) hdu = hdu_reshaped (shape_of primary hdu.header.cards) kind axes hdu
 hdu_made primary Stamp hdu = Ok (stamped hdu)
 
 -- the cards and names that it brings have their sizes

@@ -16,7 +16,7 @@ use Rattle.fits_session.specs.declared.card_edit.CardEdit.TheVariants.{Delete, M
 use Rattle.fits_session.specs.declared.edit.Edit.{Edit}
 use Rattle.fits_session.specs.declared.edit.Edit.TheVariants.{Hdu, NewImage, RemoveHdu}
 use Rattle.fits_session.specs.declared.hdu_edit.HduEdit.{HduEdit}
-use Rattle.fits_session.specs.declared.hdu_edit.HduEdit.TheVariants.{Cards, Pixels, Stamp}
+use Rattle.fits_session.specs.declared.hdu_edit.HduEdit.TheVariants.{Cards, Pixels, Reshape, Stamp}
 use Rattle.fits_session.specs.declared.refusal.Refusal.{Refusal}
 use Rattle.fits_session.specs.declared.refusal.Refusal.TheVariants.{NoHdu, NoCard, NoKey, BadText, EndCard, Shape, BadName, BadValue, NotImage, BadRect, WrongCount, Range, PrimaryStays, TooLarge, Memory}
 use Rattle.fits_value.specs.declared.write.WriteFault.{WriteFault}
@@ -90,10 +90,19 @@ NewNeedsMemory None = Unit {0}
 NewNeedsMemory (Some TooLarge) = Unit {0}
 NewNeedsMemory (Some why) = ⊥
 
+-- and of a reshape, but where the HDU is no array of integers
+abbrev pub ReshapeNeedsMemory : Option Refusal → Type 0
+ReshapeNeedsMemory None = Unit {0}
+ReshapeNeedsMemory (Some Shape) = Unit {0}
+ReshapeNeedsMemory (Some Range) = Unit {0}
+ReshapeNeedsMemory (Some TooLarge) = Unit {0}
+ReshapeNeedsMemory (Some why) = ⊥
+
 -- and of an edit of an HDU: one of pixels takes none, and a stamp asks for it after its test
 abbrev pub HduNeedsMemory : HduEdit → Option Refusal → Type 0
 HduNeedsMemory (Cards edit) refused = CardEditNeedsMemory edit refused
 HduNeedsMemory (Pixels lo hi paint) refused = ⊥
+HduNeedsMemory (Reshape kind axes) refused = ReshapeNeedsMemory refused
 HduNeedsMemory Stamp refused = refused ≡ None
 
 -- and of an edit: taking an HDU out takes none

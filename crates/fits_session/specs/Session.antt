@@ -12,7 +12,8 @@ use Rattle.fits_header.specs.Work.{shape_reads}
 use Rattle.fits_hdu.specs.Layout.{layout_of}
 use Rattle.fits_hdu.specs.State.{HduState, parts_of, IsDescribed}
 use Rattle.fits_hdu.specs.declared.extension_name.ExtensionName.{ExtensionName}
-use Rattle.fits_hdu.specs.Work.{apply_reads, open_reads, plane_work, FollowsBlank, IsMade, IsPatched, PixelWork}
+use Rattle.fits_hdu.specs.Reshape.{kept_count}
+use Rattle.fits_hdu.specs.Work.{apply_reads, open_reads, plane_work, FollowsBlank, IsMade, IsPatched, IsRenewed, PixelWork}
 use Rattle.fits_session.specs.Edit.{changed_of, file_after, hdu_of, is_primary_hdu, made_or}
 use Rattle.fits_session.specs.File.{file_bytes, FileParts, IsFile}
 use Rattle.fits_session.specs.HduEdit.{hdu_changed, hdu_made}
@@ -22,7 +23,7 @@ use Rattle.fits_session.specs.Work.{edit_reads, hdu_reads}
 use Rattle.fits_session.specs.declared.edit.Edit.{Edit}
 use Rattle.fits_session.specs.declared.edit.Edit.TheVariants.{Hdu, NewImage, RemoveHdu}
 use Rattle.fits_session.specs.declared.hdu_edit.HduEdit.{HduEdit}
-use Rattle.fits_session.specs.declared.hdu_edit.HduEdit.TheVariants.{Pixels}
+use Rattle.fits_session.specs.declared.hdu_edit.HduEdit.TheVariants.{Pixels, Reshape}
 use Rattle.fits_session.specs.declared.refusal.Refusal.{Refusal}
 
 -- HDUs under edits, and the bytes that trail them
@@ -100,14 +101,36 @@ BlankWork primary hdu made =
     let after : List (List ℕ) = (made_or hdu made).header.cards in
     FollowsBlank (blank_of (shape_of primary before) before) (blank_of (shape_of primary after) after) (block_count hdu.data_unit)
 
--- so much work on its data unit an edit of an HDU is: one of pixels works on their blocks
+-- the pixels that stay are read once at most, and each block of the new data unit is scanned once at most, by the shape that cards
+-- describe
+abbrev pub ReshapesIn : Result Shape ℕ → List ℕ → HduParts → PixelWork → PixelWork → Type 0
+ReshapesIn (Ok shape) axes after = IsRenewed (kept_count shape.axes axes) (block_count after.data_unit)
+ReshapesIn (Err place) axes after = λ old new. new ≡ old
+
+-- so much work on its data unit an edit of an HDU is: one of pixels works on their blocks, a reshape on the pixels that stay and on the
+-- blocks that come
 abbrev pub HduWork : Bool → HduEdit → HduParts → PixelWork → PixelWork → Type 0
 HduWork primary (Pixels lo hi paint) hdu = PatchesIn (shape_of primary hdu.header.cards) lo hi hdu
+HduWork primary (Reshape kind axes) hdu = ReshapesIn (shape_of primary hdu.header.cards) axes (made_or hdu (hdu_made primary (Reshape kind axes) hdu))
 HduWork primary edit hdu = BlankWork primary hdu (hdu_made primary edit hdu)
 
 -- the same of HDU h
 abbrev pub EditWork : FileParts → ℕ → HduEdit → PixelWork → PixelWork → Type 0
 EditWork file h edit old new = (hdu : HduParts) → hdu_of file h ≡ Some hdu → HduWork (is_primary_hdu h) edit hdu old new
+
+-- the work on a data unit but for the pixels read
+abbrev pub unread : PixelWork → PixelWork
+unread work = record work { reads = 0 }
+
+-- an edit of an HDU that is refused does no work; a reshape may have read pixels
+abbrev pub IsIdle : HduEdit → PixelWork → PixelWork → Type 0
+IsIdle (Reshape kind axes) old new = unread new ≡ unread old
+IsIdle edit old new = new ≡ old
+
+-- the same of each HDU, for any edit
+abbrev pub AreIdle : Edit → List PixelWork → List PixelWork → Type 0
+AreIdle (Hdu h (Reshape kind axes)) before after = map unread after ≡ map unread before
+AreIdle edit before after = after ≡ before
 
 -- an HDU with each of its cards read once more
 abbrev pub once_read : HduState → HduState
@@ -144,14 +167,14 @@ WorksAs (RemoveHdu h) old new = (new ≡ old) ⊎ (without_entries new.hdus ≡ 
 
 -- an edit owes: it is made where none of its tests fails, and then the file is the one after it; else the file is as
 -- before, and the refusal is the first test's that fails, or memory's. Cards of the HDU that it names alone are read, and a refused edit
--- works on no block and keeps no room.
+-- works on no block and keeps no room; it reads no pixel but where an HDU was to be reshaped.
 pub record EditsTo {X : Type 0} (edit : Edit) (old new : SessionState) (result : Result X Refusal) : Type 0 where
   pub accepted : OnOk result (refusal_of (file_of old) edit ≡ None)
   pub ok : OnOk result (file_of new ≡ file_after (file_of old) edit)
   pub refused : IfErr result (Fails (EditNeedsMemory edit) (refusal_of (file_of old) edit))
   pub err : OnErr result (file_of new ≡ file_of old)
   pub work : WorksAs edit old new
-  pub idle : OnErr result (works_of new.hdus ≡ works_of old.hdus)
+  pub idle : OnErr result (AreIdle edit (works_of old.hdus) (works_of new.hdus))
   pub room : OnErr result (rooms_of new.hdus ≡ rooms_of old.hdus)
 
 -- a query of HDU h owes: the file stays, and so many of that HDU's cards are read at most
@@ -205,10 +228,10 @@ within_refusal bytes hdus hdu (Err why) = Some why
 within_refusal bytes hdus hdu (Ok made) = limit_refusal (length_with bytes hdu made) hdus
 
 -- what is made of an HDU owes, in a file of so many bytes and HDUs: it is made where no test fails, and the answer is how many bytes the
--- file has then; else the HDU is as before, and the refusal is the first test's that fails, or memory's; a refused one works on no block
--- and keeps no room;
+-- file has then; else the HDU is as before, and the refusal is the first test's that fails, or memory's; a refused one is idle and keeps no
+-- room;
 -- its cards describe the shape that is kept, and its entry stays
-pub record HduMakes (made : Result HduParts Refusal) (NeedsMemory : Option Refusal → Type 0) (reads : ℕ) (Works : PixelWork → PixelWork → Type 0) (bytes hdus : ℕ) (old new : HduState) (result : Result ℕ Refusal) : Type 0 where
+pub record HduMakes (made : Result HduParts Refusal) (NeedsMemory : Option Refusal → Type 0) (reads : ℕ) (Works Idles : PixelWork → PixelWork → Type 0) (bytes hdus : ℕ) (old new : HduState) (result : Result ℕ Refusal) : Type 0 where
   pub whole : IsHdu (is_primary old.header.shape.class) (parts_of old)
   pub left : IsHdu (is_primary old.header.shape.class) (parts_of new)
   pub accepted : OnOk result (within_refusal bytes hdus (parts_of old) made ≡ None)
@@ -219,7 +242,7 @@ pub record HduMakes (made : Result HduParts Refusal) (NeedsMemory : Option Refus
   pub least : old.header.reads ≤ new.header.reads
   pub most : new.header.reads ≤ old.header.reads + reads
   pub work : Works (plane_work old.plane) (plane_work new.plane)
-  pub idle : OnErr result (plane_work new.plane ≡ plane_work old.plane)
+  pub idle : OnErr result (Idles (plane_work old.plane) (plane_work new.plane))
   pub room : OnErr result (new.header.room ≡ old.header.room)
   pub described : IsDescribed new
   pub entry : new.entry ≡ old.entry
@@ -228,11 +251,11 @@ pub record HduMakes (made : Result HduParts Refusal) (NeedsMemory : Option Refus
 abbrev pub HduEditsTo : HduEdit → (bytes hdus : ℕ) (old new : HduState) → Result ℕ Refusal → Type 0
 HduEditsTo edit bytes hdus old new =
     let primary : Bool = is_primary old.header.shape.class in
-    HduMakes (hdu_made primary edit (parts_of old)) (HduNeedsMemory edit) (hdu_reads primary edit (parts_of old)) (HduWork primary edit (parts_of old)) bytes hdus old new
+    HduMakes (hdu_made primary edit (parts_of old)) (HduNeedsMemory edit) (hdu_reads primary edit (parts_of old)) (HduWork primary edit (parts_of old)) (IsIdle edit) bytes hdus old new
 
 -- and so does a change of its cards
 abbrev pub ChangesTo : Change → (bytes hdus : ℕ) (old new : HduState) → Result ℕ Refusal → Type 0
 ChangesTo change bytes hdus old new =
     let primary : Bool = is_primary old.header.shape.class in
     let made : Result HduParts Refusal = hdu_changed primary (parts_of old) (Ok change) in
-    HduMakes made (ChangeNeedsMemory change) (shape_reads old.header.shape + apply_reads) (BlankWork primary (parts_of old) made) bytes hdus old new
+    HduMakes made (ChangeNeedsMemory change) (shape_reads old.header.shape + apply_reads) (BlankWork primary (parts_of old) made) (λ before after. after ≡ before) bytes hdus old new

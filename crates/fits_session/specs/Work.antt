@@ -6,7 +6,9 @@ use Rattle.fits_rules.specs.Shape.{shape_of}
 use Rattle.fits_rules.specs.declared.array_shape.Shape.{Shape}
 use Rattle.fits_header.specs.Work.{shape_reads}
 use Rattle.fits_hdu.specs.Hdu.{HduParts}
-use Rattle.fits_hdu.specs.Work.{apply_reads, keyword_reads, name_reads, stamp_count_reads, stamp_reads}
+use Rattle.fits_hdu.specs.Work.{apply_reads, keyword_reads, name_reads, reshape_reads, stamp_count_reads, stamp_reads}
+use Rattle.fits_image.specs.Kind.{array_kind}
+use Rattle.fits_image.specs.declared.kind.Kind.{Kind}
 use Rattle.fits_session.specs.CardEdit.{change_of, set_of, unset_of}
 use Rattle.fits_session.specs.Edit.{hdu_of, is_primary_hdu}
 use Rattle.fits_session.specs.File.{FileParts}
@@ -14,7 +16,7 @@ use Rattle.fits_session.specs.HduEdit.{hdu_made}
 use Rattle.fits_session.specs.declared.card_edit.CardEdit.{CardEdit}
 use Rattle.fits_session.specs.declared.card_edit.CardEdit.TheVariants.{Set, Unset}
 use Rattle.fits_session.specs.declared.hdu_edit.HduEdit.{HduEdit}
-use Rattle.fits_session.specs.declared.hdu_edit.HduEdit.TheVariants.{Cards, Pixels, Stamp}
+use Rattle.fits_session.specs.declared.hdu_edit.HduEdit.TheVariants.{Cards, Pixels, Reshape, Stamp}
 use Rattle.fits_session.specs.declared.refusal.Refusal.{Refusal}
 
 -- so many are read to find a change, where there is one
@@ -35,16 +37,23 @@ change_reads (Ok shape) (Ok change) = shape_reads shape + apply_reads
 change_reads (Ok shape) (Err why) = 0
 change_reads (Err place) change = 0
 
+-- how many cards a reshape reads at most: by the shape that the cards describe
+abbrev pub reads_to_reshape : Result Shape ℕ → Kind → List ℕ → List (List ℕ) → ℕ
+reads_to_reshape (Ok shape) kind axes cards = reshape_reads (array_kind shape cards) kind axes cards
+reads_to_reshape (Err place) kind axes cards = 0
+
 -- how many cards an edit of an HDU reads at most: one of cards to find its change and to make it, one of pixels none
 abbrev pub hdu_reads : Bool → HduEdit → HduParts → ℕ
 hdu_reads primary (Cards edit) hdu =
     own_reads hdu.header.cards edit + change_reads (shape_of primary hdu.header.cards) (change_of hdu.header.cards edit)
 hdu_reads primary (Pixels lo hi paint) hdu = 0
+hdu_reads primary (Reshape kind axes) hdu = reads_to_reshape (shape_of primary hdu.header.cards) kind axes hdu.header.cards
 hdu_reads primary Stamp hdu = stamp_count_reads hdu.header.cards + stamp_reads hdu.header.cards
 
--- whether an edit may change what an HDU is called: one of pixels can't
+-- whether an edit may change what an HDU is called: one of pixels can't, nor can a reshape
 abbrev pub may_rename : HduEdit → Bool
 may_rename (Pixels lo hi paint) = false
+may_rename (Reshape kind axes) = false
 may_rename edit = true
 
 -- how many cards are read after an edit that makes something of an HDU, to know what it is called then

@@ -1,7 +1,7 @@
 //! Data units: trees over their blocks, and what they say where memory is refused.
 
 use crate::checks::{holds, same};
-use fits_plane::{Layout, PixelSummary, Plane, Tree, WordSummary};
+use fits_plane::{Layout, PixelSummary, Plane, PlaneRoom, Tree, WordSummary};
 use std::test::Fail;
 
 // The summary of words with this total.
@@ -116,7 +116,8 @@ fn pixels_are_stored_anew(rt: HostRuntime) -> Result<(), Fail> {
     let wanted = [0, 0, 128, 0, 0, 0, 255, 255, 0, 0, 0, 0];
     holds!(rt; wide.starts_with(&wanted));
     holds!(rt; WIDE.fits(&wide));
-    plane.renew(rt.alloc(), wide, WIDE)?;
+    let room = PlaneRoom::new(rt.alloc(), wide.len() / 2880)?;
+    plane.renew(room, wide, WIDE);
     same!(rt; numbers(plane.stats()), (3, 0, Some(0), Some(65535), 98303));
     same!(rt; plane.total(), 98303);
     Ok(())

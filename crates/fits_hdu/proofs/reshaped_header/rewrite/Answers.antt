@@ -9,7 +9,7 @@ use Rattle.fits_image.specs.ImageCards.{shape_cards}
 use Rattle.fits_image.specs.Kind.{offset_of}
 use Rattle.fits_image.proofs.ImageCardLemmas.{bscale_name, bzero_name}
 use Rattle.fits_hdu.specs.Work.{keyword_reads}
-use Rattle.fits_hdu.proofs.PlanLemmas.{bscale_unshaped, cards_kept, cards_scaled, new_are, one_header, plan_kept, room_left, scaled_header, scaling_none, scaling_some, shape_not_end}
+use Rattle.fits_hdu.proofs.PlanLemmas.{bscale_unshaped, cards_kept, cards_scaled, new_are, one_header, plan_kept, reads_scaling, room_left, scaled_header, scaling_none, scaling_some, shape_not_end}
 use Rattle.fits_hdu.proofs.ReshapeLemmas.{can_parts, offset_small}
 use Rattle.fits_hdu.proofs.ReshapedCountLemmas.{reads_scaled, reads_written}
 use Rattle.fits_hdu.proofs.ScalingLemmas.{number_one}
@@ -81,7 +81,8 @@ returns-in-Some-clause-work c =
     let one = one_header h.header c.reshape.new.self.header c.set_card.new.header.header written c.in-Some.field-0.scale first c.set_card.ensures.header some.1 in
     let scale = ap (λ (x : Header). keyword_reads x.cards (codes "BSCALE  ")) first ∙ reads_written primary p.kind p.shape.axes h.shape h.header.cards c.shape-described.ensures.described can.axes_may (codes "BSCALE  ") refl bscale_unshaped in
     let zero = ap (λ xs. keyword_reads xs (codes "BZERO   ")) one ∙ reads_scaled primary p.kind p.shape.axes h.shape h.header.cards c.shape-described.ensures.described can.axes_may in
-    omega (arith, scale, zero, c.reshape.ensures.work, c.set_card.ensures.work, c.set_card-in-Some.ensures.work)
+    let both = reads_scaling p.old p.kind h.header.cards some.0 in
+    omega (arith, scale, zero, both, c.reshape.ensures.work, c.set_card.ensures.work, c.set_card-in-Some.ensures.work)
 
 -- the offset stays
 pub returns-clause-header : goal.returns-clause-header

@@ -1,10 +1,17 @@
-use Rattle.std.proofs.Common.{ap, arith, slice_index, subst, ℕ, ◌<◌, ◌∙◌}
+use Rattle.std.proofs.Common.{Some, ap, arith, replicate, slice_index, subst, ℕ, ◌≡◌, ◌*◌, ◌-◌, ◌<◌, ◌∙◌}
 use Rattle.std.proofs.lemmas.Int.{to_z-of_z}
 use Rattle.std.proofs.lemmas.List.{with_items_is}
 use Rattle.std.specs.Int.{w128}
 use Rattle.fits_plane.proofs.ConvertLemmas.{kept_decides, run_made_none, run_made_some}
-use Rattle.fits_plane.specs.Converting.{kept_numbers}
+use Rattle.fits_plane.specs.Converting.{can_store_run, kept_numbers, run_written}
 use Rattle.fits_plane.proofs.plane.Plane.converted.Goals as goal
+
+-- no number: zeros alone
+pub returns-then-count-eq0-clause-value : goal.returns-then-count-eq0-clause-value
+unfolding can_store_run run_written
+returns-then-count-eq0-clause-value c =
+    let all : c.args.len ≡ c.args.len - 0 * c.args.width = omega arith in
+    rw c.if-count-eq0.true (ap Some (c.in_ok-made.ensures ∙ ap (λ n. replicate n 0) all))
 
 -- one of the numbers can't be stored
 pub returns-then-not-stored-clause-value : goal.returns-then-not-stored-clause-value

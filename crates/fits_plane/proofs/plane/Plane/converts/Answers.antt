@@ -1,10 +1,16 @@
 use Rattle.std.proofs.Math.Nat.{mod-le}
-use Rattle.std.proofs.Common.{ap, arith}
+use Rattle.std.proofs.Common.{ap, arith, refl}
 use Rattle.std.proofs.lemmas.Int.{to_z-of_z}
 use Rattle.std.specs.Int.{w128}
 use Rattle.fits_plane.proofs.ConvertLemmas.{kept_decides}
+use Rattle.fits_plane.specs.Converting.{can_store_run}
 use Rattle.fits_plane.specs.Layout.{block_pixels}
 use Rattle.fits_plane.proofs.plane.Plane.converts.Goals as goal
+
+-- no number, and each can be stored
+pub returns-then-count-eq0-clause-value : goal.returns-then-count-eq0-clause-value
+unfolding can_store_run
+returns-then-count-eq0-clause-value c = rw c.if-count-eq0.true refl
 
 -- the test of each pixel is that of the numbers
 pub returns-clause-value : goal.returns-clause-value

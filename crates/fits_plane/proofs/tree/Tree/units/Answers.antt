@@ -1,6 +1,6 @@
 use Rattle.std.proofs.Common.{ap, arith, drop, take, ℕ, ◌*◌, ◌-◌, ◌∙◌}
 use Rattle.std.proofs.lemmas.List.{drop-replicate, take-replicate}
-use Rattle.fits_plane.proofs.tree.Tree.renew.Goals as goal
+use Rattle.fits_plane.proofs.tree.Tree.units.Goals as goal
 
 -- the leaves are units
 pub returns-clause-leaves : goal.returns-clause-leaves

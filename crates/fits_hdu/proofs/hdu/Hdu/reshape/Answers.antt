@@ -1,0 +1,165 @@
+use Rattle.std.proofs.Common.{◌≡◌, ◌≤◌, ◌+◌, ◌∙◌, ap, arith, length, refl, subst, sym}
+use Rattle.std.specs.Prelude.{Result, Ok}
+use Rattle.std.proofs.lemmas.Result.{err_from_is_err_and}
+use Rattle.fits_card.specs.Header.{header_length}
+use Rattle.fits_plane.specs.Layout.{block_count}
+use Rattle.fits_rules.specs.Class.{is_primary}
+use Rattle.fits_rules.specs.Size.{data_length}
+use Rattle.fits_rules.specs.declared.array_shape.Shape.{Shape}
+use Rattle.fits_hdu.specs.Hdu.{HduParts, IsHdu, hdu_bytes}
+use Rattle.fits_hdu.specs.Reshape.{ReshapeFails, kept_count, reshaped}
+use Rattle.fits_hdu.specs.Reshaping.{UnitFails}
+use Rattle.fits_hdu.specs.State.{HduState, parts_of}
+use Rattle.fits_hdu.specs.Work.{IsRead, IsRenewed, plane_work}
+use Rattle.fits_hdu.specs.declared.reshape_fault.ReshapeFault.{ReshapeFault}
+use Rattle.fits_hdu.proofs.PlanLemmas.{change_brings}
+use Rattle.fits_hdu.proofs.ReshapeLemmas.{can_parts, kind_of_array}
+use Rattle.fits_hdu.proofs.ReshapedUnitLemmas.{kept_is, made_is, made_long, no_memory, plan_fails, renewed, unit_fails, unit_is, unit_long, unit_small, with_unit}
+use Rattle.fits_hdu.proofs.hdu.Hdu.reshape.Goals as goal
+
+-- it may not be made such an array
+pub returns-in_err-plan-clause-err : goal.returns-in_err-plan-clause-err
+returns-in_err-plan-clause-err c =
+    let p = err_from_is_err_and c.from_residual.result c.from_residual.ensures.1 in
+    let why = c.in_err-plan.field-0.0 in
+    let inside : HduParts = record { header = c.self.inside.header.header; data_unit = c.self.inside.plane.bytes } in
+    rw (p.1, p.2) (subst (λ (s : HduState). ReshapeFails (reshaped c.args.kind c.args.axes.now s.header.shape (parts_of s)) c.args.most why) c.self.view_is
+    (plan_fails c.args.kind c.args.axes.now c.self.inside.header.shape inside c.args.most why c.in_err-plan.ensures.err))
+
+pub reshape_unit-requires-clause-array : goal.reshape_unit-requires-clause-array
+reshape_unit-requires-clause-array c =
+    let h = c.self.inside.header in
+    let plan = c.in_ok-plan.ensures.ok in
+    rw plan.planned.after (kind_of_array h.shape h.header.cards c.in_ok-plan.plan.old plan.array)
+
+-- its data unit isn't made
+pub returns-in_err-bytes-clause-err : goal.returns-in_err-bytes-clause-err
+returns-in_err-bytes-clause-err c =
+    let p = err_from_is_err_and c.from_residual-in_err-bytes.result c.from_residual-in_err-bytes.ensures.1 in
+    let why = c.in_err-bytes.field-0.0 in
+    let h = c.self.inside.header in
+    let plan = c.in_ok-plan.ensures.ok in
+    let primary = is_primary h.shape.class in
+    let inside : HduParts = record { header = h.header; data_unit = c.self.inside.plane.bytes } in
+    let whole : IsHdu primary inside = subst (λ (s : HduState). IsHdu (is_primary s.header.shape.class) (parts_of s)) (sym c.self.view_is) c.card_count-whole.ensures.whole in
+    let unit = unit_is c.args.kind c.args.axes.now h.shape h.header.cards c.in_ok-plan.plan c.self.inside.plane plan c.self.invariant.described c.self.invariant.layout in
+    let fails = subst (λ made. UnitFails made c.unit_within-len.result why) unit c.in_err-bytes.ensures.err in
+    let count = rw (plan.planned.to, plan.planned.after, c.in_ok-plan.ensures.work.header, c.in_ok-plan.ensures.work.shape) at c.count_reshaped-cards.ensures.value in
+    rw (p.1, p.2) (subst (λ (s : HduState). ReshapeFails (reshaped c.args.kind c.args.axes.now s.header.shape (parts_of s)) c.args.most why) c.self.view_is
+    (unit_fails primary c.args.kind c.args.axes.now h.shape inside c.in_ok-plan.plan c.unit_within-len.result c.count_reshaped-cards.result c.args.most why whole c.self.invariant.described plan count c.unit_within-len.ensures.none fails))
+
+-- but its pixels may have been read
+pub returns-in_err-bytes-clause-idle : goal.returns-in_err-bytes-clause-idle
+returns-in_err-bytes-clause-idle c =
+    let p = err_from_is_err_and c.from_residual-in_err-bytes.result c.from_residual-in_err-bytes.ensures.1 in
+    let h = c.self.inside.header in
+    let plan = c.in_ok-plan.ensures.ok in
+    let kept = kept_is c.args.kind c.args.axes.now h.shape h.header.cards c.in_ok-plan.plan c.self.inside.plane.layout plan c.self.invariant.layout in
+    rw p.1 (subst (λ (s : HduState). IsRead (kept_count s.header.shape.axes c.args.axes.now) (plane_work s.plane) (plane_work c.reshape_unit.new.plane)) c.self.view_is (subst (λ n. IsRead n (plane_work c.self.inside.plane) (plane_work c.reshape_unit.new.plane)) kept c.in_err-bytes.ensures.work))
+
+-- memory runs out for what is kept of its blocks
+pub returns-in_err-room-clause-err : goal.returns-in_err-room-clause-err
+returns-in_err-room-clause-err c =
+    let p = err_from_is_err_and c.from_residual-in_err-room.result c.from_residual-in_err-room.ensures.1 in
+    let h = c.self.inside.header in
+    let inside : HduParts = record { header = h.header; data_unit = c.self.inside.plane.bytes } in
+    rw (p.1, p.2) (rw (← c.self.view_is) (no_memory c.args.kind c.in_ok-plan.plan.old c.args.axes.now h.shape inside c.args.most c.in_ok-plan.ensures.ok.array))
+
+pub returns-in_err-room-clause-idle : goal.returns-in_err-room-clause-idle
+returns-in_err-room-clause-idle c =
+    let p = err_from_is_err_and c.from_residual-in_err-room.result c.from_residual-in_err-room.ensures.1 in
+    let h = c.self.inside.header in
+    let plan = c.in_ok-plan.ensures.ok in
+    let kept = kept_is c.args.kind c.args.axes.now h.shape h.header.cards c.in_ok-plan.plan c.self.inside.plane.layout plan c.self.invariant.layout in
+    rw p.1 (subst (λ (s : HduState). IsRead (kept_count s.header.shape.axes c.args.axes.now) (plane_work s.plane) (plane_work c.reshape_unit.new.plane)) c.self.view_is (subst (λ n. IsRead n (plane_work c.self.inside.plane) (plane_work c.reshape_unit.new.plane)) kept c.in_ok-bytes.ensures.work))
+
+-- or for its cards
+pub returns-in_err-reserve-clause-err : goal.returns-in_err-reserve-clause-err
+returns-in_err-reserve-clause-err c =
+    let p = err_from_is_err_and c.from_residual-in_err-reserve.result c.from_residual-in_err-reserve.ensures.1 in
+    let h = c.self.inside.header in
+    let inside : HduParts = record { header = h.header; data_unit = c.self.inside.plane.bytes } in
+    rw (p.1, p.2) (rw (← c.self.view_is) (no_memory c.args.kind c.in_ok-plan.plan.old c.args.axes.now h.shape inside c.args.most c.in_ok-plan.ensures.ok.array))
+
+pub returns-in_err-reserve-clause-idle : goal.returns-in_err-reserve-clause-idle
+returns-in_err-reserve-clause-idle c =
+    let p = err_from_is_err_and c.from_residual-in_err-reserve.result c.from_residual-in_err-reserve.ensures.1 in
+    let h = c.self.inside.header in
+    let plan = c.in_ok-plan.ensures.ok in
+    let kept = kept_is c.args.kind c.args.axes.now h.shape h.header.cards c.in_ok-plan.plan c.self.inside.plane.layout plan c.self.invariant.layout in
+    rw p.1 (subst (λ (s : HduState). IsRead (kept_count s.header.shape.axes c.args.axes.now) (plane_work s.plane) (plane_work c.reshape_unit.new.plane)) c.self.view_is (subst (λ n. IsRead n (plane_work c.self.inside.plane) (plane_work c.reshape_unit.new.plane)) kept c.in_ok-bytes.ensures.work))
+
+-- there is room for its cards
+pub renew-requires-clause-room : goal.renew-requires-clause-room
+renew-requires-clause-room c =
+    let h = c.self.inside.header in
+    let plan = c.in_ok-plan.ensures.ok in
+    let can = can_parts c.in_ok-plan.plan.old c.args.kind c.args.axes.now h.shape h.header.cards plan.can in
+    let brought = change_brings c.args.kind c.args.axes.now (2 + length h.shape.axes) c.in_ok-plan.plan.change can.axes_may plan.planned.change in
+    let gone = ap length c.as_slice-gone.ensures ∙ ap (λ (shape : Shape). length shape.axes) c.shape.ensures.value in
+    omega (arith, brought, gone, c.saturating_sub.ensures, c.in_ok-reserve.ensures.ok, ap (λ (shape : Shape). length shape.axes) c.reserve.ensures.shape)
+
+-- its data unit is as long as the cards say
+pub renew-requires-clause-size : goal.renew-requires-clause-size
+renew-requires-clause-size c =
+    let h = c.self.inside.header in
+    let plan = c.in_ok-plan.ensures.ok in
+    let inside : HduParts = record { header = h.header; data_unit = c.self.inside.plane.bytes } in
+    let unit = unit_is c.args.kind c.args.axes.now h.shape h.header.cards c.in_ok-plan.plan c.self.inside.plane plan c.self.invariant.described c.self.invariant.layout in
+    unit_long c.args.kind c.args.axes.now h.shape inside c.in_ok-plan.plan c.in_ok-bytes.bytes.items plan (sym unit ∙ c.in_ok-bytes.ensures.ok)
+
+pub renew-requires-clause-small : goal.renew-requires-clause-small
+renew-requires-clause-small c =
+    let h = c.self.inside.header in
+    let plan = c.in_ok-plan.ensures.ok in
+    let inside : HduParts = record { header = h.header; data_unit = c.self.inside.plane.bytes } in
+    let unit = unit_is c.args.kind c.args.axes.now h.shape h.header.cards c.in_ok-plan.plan c.self.inside.plane plan c.self.invariant.described c.self.invariant.layout in
+    let long = unit_long c.args.kind c.args.axes.now h.shape inside c.in_ok-plan.plan c.in_ok-bytes.bytes.items plan (sym unit ∙ c.in_ok-bytes.ensures.ok) in
+    omega (arith, long, c.requires.most, unit_small c.unit_within-len.result c.count_reshaped-cards.result c.args.most (data_length c.in_ok-plan.plan.shape) c.in_ok-bytes.ensures.may c.unit_within-len.ensures.some c.unit_within-len.ensures.within)
+
+-- the HDU that is left is the one that is made
+pub returns-clause-ok : goal.returns-clause-ok
+returns-clause-ok c =
+    let h = c.self.inside.header in
+    let plan = c.in_ok-plan.ensures.ok in
+    let inside : HduParts = record { header = h.header; data_unit = c.self.inside.plane.bytes } in
+    let unit = unit_is c.args.kind c.args.axes.now h.shape h.header.cards c.in_ok-plan.plan c.self.inside.plane plan c.self.invariant.described c.self.invariant.layout in
+    let header = rw (c.reserve.ensures.header, c.count_reshaped-cards.ensures.work.header, c.in_ok-plan.ensures.work.header, c.reserve.ensures.shape, c.count_reshaped-cards.ensures.work.shape, c.in_ok-plan.ensures.work.shape, plan.planned.to, plan.planned.after) at c.renew.ensures.header in
+    let left : parts_of c.renew.new.self ≡ with_unit c.in_ok-plan.plan.old c.args.kind c.args.axes.now h.shape inside c.in_ok-bytes.bytes.items = rw (header, c.renew.ensures.unit) refl in
+    let made = made_is c.args.kind c.args.axes.now h.shape inside c.in_ok-plan.plan c.in_ok-bytes.bytes.items plan (sym unit ∙ c.in_ok-bytes.ensures.ok) in
+    subst (λ (s : HduState). reshaped c.args.kind c.args.axes.now s.header.shape (parts_of s) ≡ Ok (parts_of c.renew.new.self)) c.self.view_is (made ∙ ap (λ (hdu : HduParts). let made : Result HduParts ReshapeFault = Ok hdu in made) (sym left))
+
+-- it is so long
+pub returns-clause-len : goal.returns-clause-len
+returns-clause-len c =
+    let h = c.self.inside.header in
+    let plan = c.in_ok-plan.ensures.ok in
+    let primary = is_primary h.shape.class in
+    let inside : HduParts = record { header = h.header; data_unit = c.self.inside.plane.bytes } in
+    let whole : IsHdu primary inside = subst (λ (s : HduState). IsHdu (is_primary s.header.shape.class) (parts_of s)) (sym c.self.view_is) c.card_count-whole.ensures.whole in
+    let unit = unit_is c.args.kind c.args.axes.now h.shape h.header.cards c.in_ok-plan.plan c.self.inside.plane plan c.self.invariant.described c.self.invariant.layout in
+    let header = rw (c.reserve.ensures.header, c.count_reshaped-cards.ensures.work.header, c.in_ok-plan.ensures.work.header, c.reserve.ensures.shape, c.count_reshaped-cards.ensures.work.shape, c.in_ok-plan.ensures.work.shape, plan.planned.to, plan.planned.after) at c.renew.ensures.header in
+    let left : parts_of c.renew.new.self ≡ with_unit c.in_ok-plan.plan.old c.args.kind c.args.axes.now h.shape inside c.in_ok-bytes.bytes.items = rw (header, c.renew.ensures.unit) refl in
+    let count = rw (plan.planned.to, plan.planned.after, c.in_ok-plan.ensures.work.header, c.in_ok-plan.ensures.work.shape) at c.count_reshaped-cards.ensures.value in
+    let long = unit_long c.args.kind c.args.axes.now h.shape inside c.in_ok-plan.plan c.in_ok-bytes.bytes.items plan (sym unit ∙ c.in_ok-bytes.ensures.ok) in
+    let all = made_long primary c.args.kind c.args.axes.now h.shape inside c.in_ok-plan.plan c.in_ok-bytes.bytes.items whole c.self.invariant.described plan (sym unit ∙ c.in_ok-bytes.ensures.ok) in
+    omega (arith, c.header_len.ensures, c.len-2.ensures, ap (λ (hdu : HduParts). length (hdu_bytes hdu)) left, ap header_length count, long, all)
+
+pub returns-clause-within : goal.returns-clause-within
+returns-clause-within c =
+    let h = c.self.inside.header in
+    let plan = c.in_ok-plan.ensures.ok in
+    let inside : HduParts = record { header = h.header; data_unit = c.self.inside.plane.bytes } in
+    let unit = unit_is c.args.kind c.args.axes.now h.shape h.header.cards c.in_ok-plan.plan c.self.inside.plane plan c.self.invariant.described c.self.invariant.layout in
+    let long = unit_long c.args.kind c.args.axes.now h.shape inside c.in_ok-plan.plan c.in_ok-bytes.bytes.items plan (sym unit ∙ c.in_ok-bytes.ensures.ok) in
+    omega (arith, long, c.header_len.ensures, c.len-2.ensures, unit_small c.unit_within-len.result c.count_reshaped-cards.result c.args.most (data_length c.in_ok-plan.plan.shape) c.in_ok-bytes.ensures.may c.unit_within-len.ensures.some c.unit_within-len.ensures.within)
+
+-- its pixels were read, and its blocks scanned
+pub returns-clause-pixel_work : goal.returns-clause-pixel_work
+returns-clause-pixel_work c =
+    let h = c.self.inside.header in
+    let plan = c.in_ok-plan.ensures.ok in
+    let kept = kept_is c.args.kind c.args.axes.now h.shape h.header.cards c.in_ok-plan.plan c.self.inside.plane.layout plan c.self.invariant.layout in
+    let read = subst (λ n. IsRead n (plane_work c.self.inside.plane) (plane_work c.reshape_unit.new.plane)) kept c.in_ok-bytes.ensures.work in
+    let work = renewed (kept_count h.shape.axes c.args.axes.now) (block_count c.in_ok-bytes.bytes.items) (plane_work c.self.inside.plane) (plane_work c.reshape_unit.new.plane) (plane_work c.renew.new.self.plane) read c.renew.ensures.pixel_work in
+    rw c.renew.ensures.unit (subst (λ (s : HduState). IsRenewed (kept_count s.header.shape.axes c.args.axes.now) (block_count c.in_ok-bytes.bytes.items) (plane_work s.plane) (plane_work c.renew.new.self.plane)) c.self.view_is work)

@@ -1,0 +1,114 @@
+//! An HDU that is an array of integers is made another.
+ghost use Rattle.std.specs.Prelude.{◌≡◌, ◌≤◌, ◌+◌, length};
+
+use super::Hdu;
+use crate::layout::layout_of;
+use crate::reshape_fault::ReshapeFault;
+use crate::reshaped_header::{count_reshaped, rewrite};
+use crate::reshaped_unit::{reshape_unit, unit_within};
+use crate::reshaping::{Reshaping, plan};
+use crate::sums::sum_keywords;
+use fits_card::{BLOCK_LEN, header_len};
+use fits_image::{Kind, image_kind};
+use fits_plane::PlaneRoom;
+use std::alloc::Global;
+
+impl Hdu {
+    ghost use Rattle.std.specs.Prelude.{◌≡◌, ◌≤◌, ◌+◌, ◌^◌, length, Ok, IfErr, IfOk, OnErr, OnOk};
+    ghost use Rattle.fits_card.specs.Change.{new_cards};
+    ghost use Rattle.fits_card.specs.Header.{with_cards};
+    ghost use Rattle.fits_plane.specs.Layout.{block_count};
+    ghost use Rattle.fits_rules.specs.Size.{data_length};
+    ghost use Rattle.fits_image.specs.Kind.{array_kind};
+    ghost use Rattle.fits_hdu.specs.Hdu.{hdu_bytes};
+    ghost use Rattle.fits_hdu.specs.Reshape.{cards_reshaped, kept_count, reshaped, reshaped_shape, ReshapeFails};
+    ghost use Rattle.fits_hdu.specs.Reshaping.{IsPlan};
+    ghost use Rattle.fits_hdu.specs.State.{parts_of, IsDescribed};
+    ghost use Rattle.fits_hdu.specs.Work.{apply_reads, plane_work, reshape_reads, scaling_reads, IsRead, IsRenewed, IsRescanned};
+
+    /// Makes it an array of this kind and with these axes, where it is one of integers and has so
+    /// many bytes at most then, and answers how many it has (FITS Standard 4.0, sections 4.4.1.1,
+    /// 4.4.2.5 and 5.2).
+    ///
+    /// The pixels that stay keep their values, blank ones too; the others store 0. BITPIX, NAXIS
+    /// and the axes are written anew; so are BSCALE and BZERO, but where the offset stays. The
+    /// tests come in the order of `ReshapeFault`; memory is asked for before anything changes, and
+    /// may be refused on the way to each of them but the first.
+    pub fn reshape(
+        &mut self,
+        alloc: Global,
+        kind: Kind,
+        axes: &[u64],
+        most: usize,
+    ) -> Result<usize, ReshapeFault>
+        requires most { most ≤ 2 ^ 34 }
+        ensures ok { OnOk result (reshaped kind axes.now self.old.header.shape (parts_of self.old)
+            ≡ Ok (parts_of self.new)) }
+        ensures len { IfOk result (λ len. len ≡ length (hdu_bytes (parts_of self.new))) }
+        ensures within { IfOk result (λ len. len ≤ most) }
+        ensures shape { OnOk result (self.new.header.shape
+            ≡ reshaped_shape kind axes.now self.old.header.shape) }
+        ensures err { IfErr result (ReshapeFails
+            (reshaped kind axes.now self.old.header.shape (parts_of self.old)) most) }
+        ensures same { OnErr result (parts_of self.new ≡ parts_of self.old) }
+        ensures same_shape { OnErr result (self.new.header.shape ≡ self.old.header.shape) }
+        ensures room { OnErr result (self.new.header.room ≡ self.old.header.room) }
+        ensures least { self.old.header.reads ≤ self.new.header.reads }
+        ensures work { self.new.header.reads ≤ self.old.header.reads + reshape_reads
+            (array_kind self.old.header.shape self.old.header.header.cards) kind axes.now
+            self.old.header.header.cards }
+
+        // Each pixel that stays is read once at most, and each new block scanned once. One that is
+        // refused scans none.
+        ensures pixel_work { OnOk result (IsRenewed
+            (kept_count self.old.header.shape.axes axes.now) (block_count self.new.plane.bytes)
+            (plane_work self.old.plane) (plane_work self.new.plane)) }
+        ensures idle { OnErr result (IsRead (kept_count self.old.header.shape.axes axes.now)
+            (plane_work self.old.plane) (plane_work self.new.plane)) }
+        ensures entry { self.new.entry ≡ self.old.entry }
+        ensures described { IsDescribed self.old }
+        ensures left { IsDescribed self.new }
+    {
+        let _whole = self.card_count();
+        let plan = plan(alloc, &mut self.header, kind, axes)?;
+        let cards = count_reshaped(&mut self.header, &plan);
+        let len = unit_within(&plan.shape, cards, most);
+        let bytes = reshape_unit(alloc, &mut self.plane, &plan, len)?;
+        let room = PlaneRoom::new(alloc, bytes.len() / BLOCK_LEN)?;
+        let gone = self.header.shape().axes.as_slice().len();
+        self.header.reserve((2 + axes.len()).saturating_sub(gone))?;
+        let len = header_len(cards) + bytes.len();
+        self.renew(plan, room, bytes);
+        Ok(len)
+    }
+
+    // Writes its cards, and takes its data unit. It takes no memory.
+    fn renew(&mut self, plan: Reshaping, room: PlaneRoom, bytes: Vec<u8>)
+        requires plan { IsPlan plan.kind plan.shape.axes self.old.header.shape
+            self.old.header.header.cards plan }
+        requires room { length (new_cards plan.change)
+            ≤ self.old.header.room + length self.old.header.shape.axes }
+        requires size { length bytes.items ≡ data_length plan.shape }
+        requires small { length bytes.items ≤ 2 ^ 34 }
+        requires blocks { room ≡ block_count bytes.items }
+        ensures header { self.new.header.header ≡ with_cards self.old.header.header
+            (cards_reshaped plan.old plan.kind plan.shape.axes self.old.header.shape
+            self.old.header.header.cards) }
+        ensures unit { self.new.plane.bytes ≡ bytes.items }
+        ensures shape { self.new.header.shape ≡ plan.shape }
+        ensures least { self.old.header.reads ≤ self.new.header.reads }
+        ensures work { self.new.header.reads ≤ self.old.header.reads
+            + (scaling_reads plan.old plan.kind self.old.header.header.cards + apply_reads) }
+        ensures pixel_work { IsRescanned (block_count bytes.items)
+            (plane_work self.old.plane) (plane_work self.new.plane) }
+        ensures entry { self.new.entry ≡ self.old.entry }
+        ensures described { IsDescribed self.new }
+    {
+        rewrite(&mut self.header, plan);
+        self.mark = self.header.mark();
+        self.kind = image_kind(&mut self.header);
+        self.sums = sum_keywords(&mut self.header);
+        let layout = layout_of(&mut self.header);
+        self.plane.renew(room, bytes, layout);
+    }
+}

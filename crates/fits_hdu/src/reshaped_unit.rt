@@ -1,0 +1,85 @@
+//! The data unit of an array that is made another.
+ghost use Rattle.std.specs.Prelude.{◌≡◌, ◌≤◌, ◌<◌, ◌+◌, ◌*◌, ◌^◌, true, is_some, min, pos, IfNone, IfOk, IfSome, IfErr, OnErr, OnOk};
+ghost use Rattle.fits_card.specs.Header.{header_length};
+ghost use Rattle.fits_rules.specs.Image.{is_array};
+ghost use Rattle.fits_rules.specs.Size.{array_values, data_length};
+ghost use Rattle.fits_image.specs.Kind.{width_of};
+ghost use Rattle.fits_hdu.specs.Reshape.{reshaped_shape};
+ghost use Rattle.fits_hdu.specs.Reshaping.{unit_planned, UnitFails};
+ghost use Rattle.fits_hdu.specs.Work.{plane_work, IsRead};
+
+use crate::data_unit::unit_len;
+use crate::reshape_fault::ReshapeFault;
+use crate::reshaping::Reshaping;
+use fits_card::{CARD_LEN, header_len};
+use fits_image::Kind;
+use fits_plane::Plane;
+use fits_rules::{Shape, data_bytes};
+use std::alloc::Global;
+
+/// How many bytes the data unit has that a shape describes, where it and a header of so many cards
+/// have no more than may be.
+pub(crate) fn unit_within(shape: &Shape, cards: usize, most: usize) -> Option<usize>
+    requires most { most ≤ 2 ^ 34 }
+    ensures some { IfSome result (λ len. len ≡ data_length shape.now) }
+    ensures within { IfSome result (λ len. header_length cards + len ≤ most) }
+    ensures none { IfNone result (most < header_length cards + data_length shape.now) }
+{
+    if cards > most / CARD_LEN {
+        return None;
+    }
+    let header = header_len(cards);
+    if most < header {
+        return None;
+    }
+    unit_len(shape, most - header).ok()
+}
+
+/// Its bytes: the pixels that stay, stored anew, and zeros behind them. That a number of theirs
+/// can't be stored is found first.
+pub(crate) fn reshape_unit(
+    alloc: Global,
+    plane: &mut Plane,
+    plan: &Reshaping,
+    len: Option<usize>,
+) -> Result<Vec<u8>, ReshapeFault>
+    requires array { is_array plan.now.shape.class plan.now.shape.pcount plan.now.shape.gcount
+        ≡ true }
+    requires shape { plan.now.shape ≡ reshaped_shape plan.now.kind plan.now.shape.axes
+        plan.now.shape }
+    requires len { IfSome len (λ len. len ≡ data_length plan.now.shape) }
+    ensures ok { IfOk result (λ bytes. unit_planned plan.now plane.old ≡ Some bytes.items) }
+    ensures may { OnOk result (is_some len ≡ true) }
+    ensures err { IfErr result (UnitFails (unit_planned plan.now plane.old) len) }
+    ensures bytes { plane.new.bytes ≡ plane.old.bytes }
+    ensures layout { plane.new.layout ≡ plane.old.layout }
+    ensures work { IsRead (min plane.old.layout.pixels (array_values plan.now.shape.axes))
+        (plane_work plane.old) (plane_work plane.new) }
+{
+    let width = plan.kind.width();
+    let count = kept_count(plane.layout().pixels, &plan.shape, plan.kind);
+    let shift = plan.old.offset() - plan.kind.offset();
+    let Some(len) = len else {
+        return if plane.converts(width, count, shift) {
+            Err(ReshapeFault::TooLarge)
+        } else {
+            Err(ReshapeFault::OutOfRange)
+        };
+    };
+    plane
+        .converted(alloc, width, count, shift, len)?
+        .ok_or(ReshapeFault::OutOfRange)
+}
+
+// How many pixels stay of so many.
+fn kept_count(pixels: usize, shape: &Shape, kind: Kind) -> usize
+    requires few { pixels ≤ 2 ^ 34 }
+    requires array { is_array shape.now.class shape.now.pcount shape.now.gcount ≡ true }
+    requires shape { shape.now ≡ reshaped_shape kind shape.now.axes shape.now }
+    ensures { result ≡ min pixels (array_values shape.now.axes) }
+{
+    match data_bytes(shape) {
+        Some(bytes) => pixels.min(bytes as usize / kind.width()),
+        None => pixels,
+    }
+}
