@@ -1,10 +1,10 @@
 -- The leads of names that no card has which is written anew.
-use Rattle.std.proofs.Common.{◌≡◌, inl, inr, ℕ, zero, suc, ◌+◌, ◌-◌, ◌*◌, ◌^◌, ◌<◌, ◌≤◌, Bool, true, false, List, [], ◌∷◌, ◌++◌, length, get_or, take, drop, codes, refl, ap, sym, ◌∙◌, subst, arith, All, Option, None, Some, ℤ}
-use Rattle.std.specs.Prelude.{◌≢◌, pos, unsigned_abs, Ok}
+use Rattle.std.proofs.Common.{◌≡◌, inl, inr, ℕ, zero, suc, ◌+◌, ◌-◌, ◌*◌, ◌<◌, Bool, true, false, List, [], ◌∷◌, ◌++◌, length, get_or, take, drop, codes, refl, ap, sym, ◌∙◌, subst, arith, All, Some}
+use Rattle.std.specs.Prelude.{◌≢◌, pos, Ok}
 use Rattle.std.specs.List.{slice_get}
 use Rattle.std.specs.Option.{option_map}
 use Rattle.std.specs.Ordering.{int_eq}
-use Rattle.std.proofs.lemmas.Bool.{cases_Bool, cases_lt, cond-false, cond-true, false_from_ne_true}
+use Rattle.std.proofs.lemmas.Bool.{cases_Bool, cond-false, cond-true, false_from_ne_true}
 use Rattle.std.proofs.lemmas.List.{drop-drop, get_or-drop, get_or-take, length-drop, length-take-le, take-append-drop}
 use Rattle.std.proofs.lemmas.List.Elements.{All-cons, All-from_get_or, All-head, All-nil, All-tail}
 use Rattle.std.proofs.lemmas.Option.{slice_get-get_or}
@@ -12,17 +12,17 @@ use Rattle.fits_card.specs.Card.{keyword_name}
 use Rattle.fits_card.specs.Change.{spliced}
 use Rattle.fits_card.specs.Header.{card_at}
 use Rattle.fits_rules.specs.Lead.{is_value_of, lead_card}
-use Rattle.fits_rules.specs.Shape.{Describes, axis_name, axis_of, bitpix_of, naxis_of, shape_of}
+use Rattle.fits_rules.specs.Shape.{Describes, axis_name, shape_of}
 use Rattle.fits_rules.specs.declared.array_shape.Shape.{Shape}
 use Rattle.fits_rules.proofs.DescribesLemmas.{described}
 use Rattle.fits_rules.proofs.KeepingLemmas.{described_within}
 use Rattle.fits_image.specs.ImageCards.{are_axes, shape_cards}
 use Rattle.fits_image.specs.Kind.{offset_of, width_of}
 use Rattle.fits_image.specs.declared.kind.Kind.{Kind}
-use Rattle.fits_image.proofs.ImageCardLemmas.{AreAxesFrom, axes_from, axis_list, axis_name_is, bitpix_name, bscale_name, bzero_name, first_small, more_axes, naxis_name, shape_cards_are, shape_list, width_most}
+use Rattle.fits_image.proofs.ImageCardLemmas.{AreAxesFrom, axes_from, axis_list, axis_name_is, bitpix_name, bscale_name, bzero_name, first_small, more_axes, naxis_name, shape_cards_are, width_most}
 use Rattle.fits_image.proofs.LeadFromLemmas.{From, from_lead, from_lead-append, lead_card_is}
 use Rattle.fits_image.proofs.NumberCardLemmas.{number_card, number_card_is}
-use Rattle.fits_hdu.specs.Reshape.{IsOther, IsUnshaped, ReshapingLeavesLeads, cards_reshaped, with_number, with_scaling}
+use Rattle.fits_hdu.specs.Reshape.{IsUnshaped, ReshapingLeavesLeads, cards_reshaped, with_number, with_scaling}
 use Rattle.fits_hdu.proofs.ReshapeLemmas.{offset_small}
 use Rattle.fits_hdu.proofs.ScalingLemmas.{number_keeps_lead}
 use Rattle.fits_hdu.proofs.SettingLemmas.{card_or_later, lead_parts}

@@ -1,6 +1,6 @@
 -- Whether an array may be made another, by its cards.
-use Rattle.std.proofs.Common.{◌≡◌, inl, inr, ℕ, ◌+◌, ◌*◌, ◌<◌, ◌≤◌, Bool, true, false, not, List, [], ◌∷◌, length, get_or, codes, refl, ap, sym, ◌∙◌, subst, arith, All, Option, None, Some, cond}
-use Rattle.std.specs.Prelude.{◌≢◌, ◌&&◌, ◌||◌, ℤ, pos, IsTrue, is_none, unwrap_or, Ok, if◌then◌else◌}
+use Rattle.std.proofs.Common.{◌≡◌, inl, inr, ℕ, ◌+◌, ◌*◌, ◌≤◌, Bool, true, false, not, List, length, get_or, codes, refl, ap, sym, ◌∙◌, subst, arith, All, Option, None, Some}
+use Rattle.std.specs.Prelude.{◌&&◌, ◌||◌, ℤ, pos, IsTrue, Ok, if◌then◌else◌}
 use Rattle.std.specs.Cmp.{both_ways}
 use Rattle.std.specs.Option.{option_map}
 use Rattle.std.specs.Ordering.{int_eq}
@@ -15,7 +15,7 @@ use Rattle.fits_card.specs.declared.change.Change.{Change}
 use Rattle.fits_card.specs.declared.change.Change.TheVariants.{Splice}
 use Rattle.fits_header.specs.State.{still_describes}
 use Rattle.fits_rules.specs.Class.{is_primary}
-use Rattle.fits_rules.specs.Denotes.{card_says_number, lead_says_number}
+use Rattle.fits_rules.specs.Denotes.{lead_says_number}
 use Rattle.fits_rules.specs.Image.{array_bits, integer_bits, is_array}
 use Rattle.fits_rules.specs.Lead.{lead_card}
 use Rattle.fits_rules.specs.SameShape.{same_shape}
@@ -31,7 +31,7 @@ use Rattle.fits_hdu.specs.Reshaping.{IsPlan, scaling_for}
 use Rattle.fits_hdu.specs.Work.{keyword_reads, scaling_reads}
 use Rattle.fits_hdu.specs.declared.reshaping.Reshaping.{Reshaping}
 use Rattle.fits_hdu.specs.declared.scaling.Scaling.{Scaling}
-use Rattle.fits_image.specs.Kind.{array_kind, convention, has_offset, is_unscaled, kind_of, offset_of, width_of}
+use Rattle.fits_image.specs.Kind.{array_kind, convention, has_offset, kind_of, offset_of, width_of}
 use Rattle.fits_image.specs.declared.kind.Kind.{Kind}
 use Rattle.fits_image.specs.declared.kind.Kind.TheVariants.{U8, I8, I16, U16, I32, U32, I64, U64}
 use Rattle.fits_hdu.specs.Reshape.{IsUnshaped, adds, can_reshape, cards_reshaped, describes_array, reshaped_shape, scales_otherwise, with_number, with_scaling}

@@ -1,13 +1,13 @@
 -- An array that is made another: its cards, its data unit, and the HDU of both.
-use Rattle.std.proofs.Common.{mul-le-mul_right, ◌≡◌, inl, inr, ℕ, ◌+◌, ◌*◌, ◌/◌, ◌^◌, ◌<◌, ◌≤◌, Bool, true, false, cond, not, List, [], ◌∷◌, length, replicate, codes, refl, ap, sym, ◌∙◌, subst, arith, All, Option, None, Some}
-use Rattle.std.specs.Prelude.{if◌then◌else◌, ◌&&◌, ◌-ℤ◌, ℤ, pos, unsigned_abs, min, Result, Ok, Err}
+use Rattle.std.proofs.Common.{mul-le-mul_right, ◌≡◌, inl, inr, ℕ, ◌+◌, ◌*◌, ◌^◌, ◌<◌, ◌≤◌, Bool, true, false, not, List, [], length, replicate, codes, refl, ap, sym, ◌∙◌, subst, arith, All, Option, None, Some}
+use Rattle.std.specs.Prelude.{if◌then◌else◌, ◌&&◌, ◌-ℤ◌, ℤ, pos, unsigned_abs, Result, Ok, Err}
 use Rattle.std.specs.Ordering.{int_eq}
 use Rattle.std.proofs.lemmas.List.Elements.{All-cons, All-nil}
 use Rattle.std.proofs.lemmas.Bool.{and_parts, cases_Bool, cond-true, cond-false}
-use Rattle.fits_card.specs.Change.{cards_after, new_cards, spliced}
+use Rattle.fits_card.specs.Change.{spliced}
 use Rattle.fits_card.specs.Header.{Header, IsHeader, IsInnerCard, fill_length, with_cards}
 use Rattle.fits_card.proofs.HeaderLemmas.{inner-spliced, whole-with_cards}
-use Rattle.fits_plane.specs.Converting.{KeepsValues, can_store_run, kept_numbers, run_made, run_written}
+use Rattle.fits_plane.specs.Converting.{KeepsValues, can_store_run, kept_numbers, run_written}
 use Rattle.fits_plane.specs.Pixels.{IsWidth}
 use Rattle.fits_plane.proofs.ConvertLemmas.{converting_keeps_values, length-kept_numbers, run_is_written}
 use Rattle.fits_rules.specs.Class.{is_primary}
@@ -25,11 +25,11 @@ use Rattle.fits_image.specs.declared.kind.Kind.{Kind}
 use Rattle.fits_image.specs.declared.kind.Kind.TheVariants.{U8, I8, I16, U16, I32, U32, I64, U64}
 use Rattle.fits_image.proofs.ImageCardLemmas.{bscale_name, bzero_name, number_inner, shape_cards_inner}
 use Rattle.fits_image.proofs.NumberCardLemmas.{IsValueName, number_card, number_is_one_card}
-use Rattle.fits_hdu.specs.Hdu.{HduParts, IsHdu}
+use Rattle.fits_hdu.specs.Hdu.{HduParts}
 use Rattle.fits_hdu.specs.Keyword.{keyword_cards, replacing}
-use Rattle.fits_hdu.specs.Reshape.{adds, can_reshape, cards_reshaped, describes_array, kept_count, reshaped, reshaped_by, reshaped_shape, reshaped_to, scales_otherwise, unit_reshaped, with_number, with_scaling, ReshapedIsHdu, ReshapingKeepsValues}
+use Rattle.fits_hdu.specs.Reshape.{adds, can_reshape, cards_reshaped, describes_array, kept_count, reshaped, reshaped_by, reshaped_shape, reshaped_to, scales_otherwise, with_number, with_scaling, ReshapedIsHdu, ReshapingKeepsValues}
 use Rattle.fits_hdu.specs.declared.reshape_fault.ReshapeFault.{ReshapeFault}
-use Rattle.fits_hdu.specs.declared.reshape_fault.ReshapeFault.TheVariants.{BadShape, NotImage, OutOfRange}
+use Rattle.fits_hdu.specs.declared.reshape_fault.ReshapeFault.TheVariants.{BadShape}
 use Rattle.fits_hdu.proofs.ChangeLemmas.{inner_after}
 use Rattle.fits_hdu.proofs.LayoutLemmas.{array_values_are, kept}
 use Rattle.fits_hdu.proofs.StampingLemmas.{brought}

@@ -1,20 +1,18 @@
 -- How many cards there are where an array is made another.
 use Rattle.std.proofs.Common.{◌≡◌, ℕ, zero, suc, ◌+◌, ◌-◌, ◌^◌, ◌<◌, ◌≤◌, Bool, true, false, List, [], ◌∷◌, ◌++◌, length, get_or, take, drop, codes, refl, ap, sym, ◌∙◌, subst, arith, All, Option, None, Some}
 use Rattle.std.specs.Prelude.{◌≢◌, if◌then◌else◌, is_some, not, pos, Ok}
-use Rattle.std.specs.List.{slice_get}
 use Rattle.std.specs.Option.{option_map_or}
 use Rattle.std.specs.Ordering.{int_eq}
 use Rattle.std.proofs.lemmas.Bool.{cond-false, cond-true}
 use Rattle.std.proofs.lemmas.List.{drop-drop, get_or-take, take-append-drop}
 use Rattle.std.proofs.lemmas.List.Elements.{All-from_get_or}
 use Rattle.std.proofs.lemmas.Option.{slice_get-get_or}
-use Rattle.fits_card.specs.Card.{keyword_name}
 use Rattle.fits_card.specs.Change.{cards_after, spliced}
 use Rattle.fits_card.specs.declared.change.Change.{Change}
 use Rattle.fits_card.specs.declared.change.Change.TheVariants.{Splice}
 use Rattle.fits_card.proofs.ChangeLemmas.{length-spliced}
 use Rattle.fits_card.specs.Header.{card_at}
-use Rattle.fits_rules.specs.Shape.{Describes, axis_name, first_card, shape_of}
+use Rattle.fits_rules.specs.Shape.{first_card, shape_of}
 use Rattle.fits_rules.specs.declared.array_shape.Shape.{Shape}
 use Rattle.fits_rules.proofs.DescribesLemmas.{described}
 use Rattle.fits_rules.proofs.KeepingLemmas.{described_within}

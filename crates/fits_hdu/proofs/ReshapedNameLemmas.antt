@@ -1,5 +1,5 @@
 -- What an extension is called stays where it is made another array.
-use Rattle.std.proofs.Common.{◌≡◌, ℕ, Bool, true, false, List, [], ◌∷◌, get_or, codes, refl, ap, sym, ◌∙◌, arith, Option, None, Some, option_and_then}
+use Rattle.std.proofs.Common.{◌≡◌, ℕ, Bool, true, false, List, get_or, codes, refl, ap, sym, ◌∙◌, arith, Option, None, Some, option_and_then}
 use Rattle.std.specs.Prelude.{Ok, if◌then◌else◌}
 use Rattle.std.specs.Str.{bytes_eq}
 use Rattle.std.proofs.lemmas.Slice.Eq.{bytes_eq-Decides}
@@ -16,9 +16,7 @@ use Rattle.fits_rules.specs.declared.class.Class.TheVariants.{Primary, Groups, I
 use Rattle.fits_rules.proofs.DescribesLemmas.{described}
 use Rattle.fits_rules.proofs.LawLemmas.{shape_primary}
 use Rattle.fits_rules.proofs.SameShapeLemmas.{same_shape-Decides}
-use Rattle.fits_image.specs.declared.kind.Kind.{Kind}
 use Rattle.fits_hdu.specs.ExtensionName.{extension_name}
-use Rattle.fits_hdu.specs.Hdu.{HduParts}
 use Rattle.fits_hdu.specs.Reshape.{IsOther, ReshapingKeepsNames, cards_reshaped, reshaped_shape}
 use Rattle.fits_hdu.proofs.OtherLeadLemmas.{reshaping_leaves_leads}
 use Rattle.fits_hdu.proofs.ReshapeLemmas.{can_parts, kind_of_array, reshaped_has_kind, reshaped_is}

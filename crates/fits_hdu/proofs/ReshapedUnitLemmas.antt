@@ -1,25 +1,23 @@
 -- The data unit of an array that is made another: how many pixels stay, its bytes, and how long the HDU is then.
-use Rattle.std.proofs.Common.{rules, ◌≡◌, ℕ, suc, ◌+◌, ◌*◌, ◌/◌, ◌^◌, ◌<◌, ◌≤◌, nat_lt, Bool, true, false, List, [], ◌∷◌, ◌++◌, length, replicate, refl, ap, sym, ◌∙◌, subst, arith, Option, None, Some}
-use Rattle.std.specs.Prelude.{◌≢◌, ℤ, ◌-ℤ◌, min, is_some, Result, Ok, Err, IfNone, IfSome, if◌then◌else◌}
+use Rattle.std.proofs.Common.{rules, ◌≡◌, ℕ, ◌+◌, ◌*◌, ◌/◌, ◌^◌, ◌<◌, ◌≤◌, nat_lt, Bool, true, false, List, [], ◌∷◌, length, refl, ap, sym, ◌∙◌, subst, arith, Option, None, Some}
+use Rattle.std.specs.Prelude.{◌≢◌, ℤ, ◌-ℤ◌, min, is_some, Ok, Err, IfNone, IfSome, if◌then◌else◌}
 use Rattle.std.proofs.Math.Nat.{mul-div_cancel_left, mul-le-mul_right}
 use Rattle.std.proofs.lemmas.List.{length-append}
-use Rattle.fits_card.specs.Header.{Header, IsHeader, header_bytes, header_length, with_cards}
+use Rattle.fits_card.specs.Header.{header_bytes, header_length, with_cards}
 use Rattle.fits_card.proofs.HeaderLemmas.{length-header_bytes}
-use Rattle.fits_plane.specs.Converting.{can_store_run, kept_numbers, run_made, run_written}
-use Rattle.fits_plane.specs.Layout.{block_count}
+use Rattle.fits_plane.specs.Converting.{kept_numbers, run_made}
 use Rattle.fits_plane.specs.Plane.{PlaneState}
 use Rattle.fits_plane.specs.declared.layout.Layout.{Layout}
-use Rattle.fits_plane.proofs.ConvertLemmas.{length-kept_numbers, run_is_written}
 use Rattle.fits_rules.specs.Class.{is_primary}
-use Rattle.fits_rules.specs.Image.{array_bits, image_bits, is_array}
+use Rattle.fits_rules.specs.Image.{image_bits, is_array}
 use Rattle.fits_rules.specs.Shape.{shape_of}
 use Rattle.fits_rules.specs.Size.{array_values, data_length, data_size}
 use Rattle.fits_rules.specs.declared.array_shape.Shape.{Shape}
-use Rattle.fits_image.specs.Kind.{array_kind, convention, has_offset, kind_in, kind_of, offset_of, width_of}
+use Rattle.fits_image.specs.Kind.{array_kind, kind_in, offset_of, width_of}
 use Rattle.fits_image.specs.declared.kind.Kind.{Kind}
 use Rattle.fits_image.proofs.ImageCardLemmas.{width_most}
 use Rattle.fits_hdu.specs.Hdu.{HduParts, IsHdu, hdu_bytes}
-use Rattle.fits_hdu.specs.Layout.{layout_by, layout_of}
+use Rattle.fits_hdu.specs.Layout.{layout_of}
 use Rattle.fits_hdu.specs.Reshape.{ReshapeFails, can_reshape, cards_reshaped, kept_count, reshaped, reshaped_by, reshaped_shape, reshaped_to, unit_reshaped}
 use Rattle.fits_hdu.specs.Reshaping.{IsPlan, PlanFails, UnitFails, unit_planned}
 use Rattle.fits_hdu.specs.Work.{IsRead, IsRenewed, IsRescanned, PixelWork}
@@ -28,7 +26,7 @@ use Rattle.fits_hdu.specs.declared.reshape_fault.ReshapeFault.TheVariants.{NotIm
 use Rattle.fits_hdu.specs.declared.reshaping.Reshaping.{Reshaping}
 use Rattle.fits_hdu.proofs.LayoutLemmas.{array_spanned}
 use Rattle.fits_hdu.proofs.PixelLemmas.{layout_pixels, layout_width}
-use Rattle.fits_hdu.proofs.ReshapeLemmas.{kind_of_array, kind_width, length_reshaped, reshaped_is_hdu, room_reshaped, size_reshaped}
+use Rattle.fits_hdu.proofs.ReshapeLemmas.{length_reshaped, reshaped_is_hdu, room_reshaped, size_reshaped}
 
 -- ---- how many pixels stay
 

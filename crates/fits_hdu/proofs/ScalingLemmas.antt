@@ -1,6 +1,6 @@
 -- BSCALE and BZERO, set to numbers: the shape stays, and the offset is there.
-use Rattle.std.proofs.Common.{All, inl, inr, ◌≡◌, ℕ, ◌+◌, ◌-◌, length, ◌^◌, ◌<◌, Bool, true, false, List, [], ◌∷◌, get_or, codes, refl, ap, sym, ◌∙◌, subst, arith, Option, None, Some}
-use Rattle.std.specs.Prelude.{◌≢◌, ◌&&◌, ◌||◌, ◌↔◌, ℤ, pos, unsigned_abs, is_none, unwrap_or, IsTrue, Ok}
+use Rattle.std.proofs.Common.{All, inl, inr, ◌≡◌, ℕ, ◌+◌, ◌-◌, length, ◌^◌, ◌<◌, Bool, true, false, List, [], get_or, codes, refl, ap, sym, ◌∙◌, subst, arith, Option, Some}
+use Rattle.std.specs.Prelude.{◌≢◌, ◌&&◌, ◌↔◌, ℤ, pos, unsigned_abs, is_none, unwrap_or, IsTrue, Ok}
 use Rattle.std.specs.Option.{option_map, option_map_or}
 use Rattle.std.specs.Ordering.{int_eq}
 use Rattle.std.proofs.lemmas.List.Elements.{All-cons, All-nil}
@@ -10,7 +10,7 @@ use Rattle.fits_card.specs.Name.{end_name}
 use Rattle.fits_header.specs.State.{still_describes}
 use Rattle.fits_rules.specs.Class.{is_primary}
 use Rattle.fits_rules.proofs.SameShapeLemmas.{same_shape-Decides}
-use Rattle.std.proofs.lemmas.Bool.{cond-true, or_right}
+use Rattle.std.proofs.lemmas.Bool.{or_right}
 use Rattle.fits_card.specs.Change.{cards_after, new_cards}
 use Rattle.fits_card.specs.declared.change.Change.{Change}
 use Rattle.fits_rules.specs.Denotes.{card_says_number, lead_says_number}
@@ -18,7 +18,7 @@ use Rattle.fits_rules.specs.Lead.{lead_card}
 use Rattle.fits_rules.specs.Shape.{shape_of}
 use Rattle.fits_rules.specs.declared.array_shape.Shape.{Shape}
 use Rattle.fits_image.specs.ImageCards.{written_number}
-use Rattle.fits_image.specs.Kind.{has_offset, is_unscaled}
+use Rattle.fits_image.specs.Kind.{is_unscaled}
 use Rattle.fits_image.proofs.ImageCardLemmas.{bscale_name, bzero_name}
 use Rattle.fits_image.proofs.LeadFromLemmas.{From, lead_card_is}
 use Rattle.fits_image.proofs.NumberCardLemmas.{IsValueName, number_card, number_card_denotes_alone, number_card_is, number_is_one_card}

@@ -1,5 +1,5 @@
 -- The cards of a stamp, and the HDU that they leave.
-use Rattle.std.proofs.Common.{◌≡◌, inl, inr, ℕ, zero, suc, ◌+◌, ◌-◌, ◌<◌, ◌≤◌, Bool, true, false, List, [], ◌∷◌, ◌++◌, length, get_or, take, drop, codes, refl, ap, sym, ◌∙◌, subst, arith, All, Option, None, Some, option_and_then, ℤ}
+use Rattle.std.proofs.Common.{◌≡◌, inl, inr, ℕ, zero, suc, ◌+◌, ◌-◌, ◌<◌, ◌≤◌, Bool, true, false, List, [], ◌∷◌, ◌++◌, length, get_or, take, drop, codes, refl, ap, sym, ◌∙◌, subst, arith, All, Some, ℤ}
 use Rattle.std.specs.Prelude.{Ok, ◌≢◌}
 use Rattle.std.specs.List.{slice_get}
 use Rattle.std.proofs.lemmas.Bool.{cases_lt}
@@ -10,14 +10,11 @@ use Rattle.std.proofs.Math.Seq.{drop-append_seam, get_or-append_seam, take-appen
 use Rattle.fits_card.specs.Card.{keyword_name}
 use Rattle.fits_card.specs.Change.{spliced}
 use Rattle.fits_card.specs.Header.{card_at}
-use Rattle.fits_rules.specs.Reads.{integer_said}
 use Rattle.fits_rules.specs.SameShape.{IsUncounted}
-use Rattle.fits_rules.specs.Shape.{Describes, axis_name, axis_of, bitpix_in, bitpix_of, card_named, first_card, if_named, naxis_of, shape_of}
+use Rattle.fits_rules.specs.Shape.{Describes, axis_name, axis_of, bitpix_of, first_card, naxis_of, shape_of}
 use Rattle.fits_rules.specs.declared.array_shape.Shape.{Shape}
-use Rattle.fits_rules.proofs.AxesLemmas.{axis_within}
 use Rattle.fits_rules.proofs.DescribesLemmas.{described}
 use Rattle.fits_rules.proofs.KeepingLemmas.{described_within, splice_keeps}
-use Rattle.fits_rules.proofs.NearLemmas.{naxis_within}
 use Rattle.fits_hdu.proofs.SettingLemmas.{IsOwn, IsSet}
 use Rattle.fits_hdu.proofs.ShapeLemmas.{axis_named, bitpix_named, naxis_named, named_at}
 

@@ -1,6 +1,6 @@
 -- An array of integers made another, of this kind and with these axes: its cards, and its pixels (FITS Standard 4.0, sections
 -- 3.3.2, 4.4.1.1, 4.4.2.5 and 5.2; own).
-use Rattle.std.specs.Prelude.{◌≡◌, ◌⊎◌, ◌≢◌, ◌↔◌, ℕ, ◌+◌, ◌*◌, ◌^◌, ◌<◌, ◌≤◌, ◌&&◌, Bool, true, false, not, min, ℤ, pos, ◌+ℤ◌, ◌-ℤ◌, unsigned_abs, List, length, slice_index, codes, Option, None, Some, Result, Ok, Err, if◌then◌else◌}
+use Rattle.std.specs.Prelude.{◌≡◌, ◌⊎◌, ◌≢◌, ◌↔◌, ℕ, ◌+◌, ◌*◌, ◌^◌, ◌<◌, ◌&&◌, Bool, true, false, not, min, ℤ, pos, ◌-ℤ◌, unsigned_abs, List, length, codes, Option, None, Some, Result, Ok, Err, if◌then◌else◌}
 use Rattle.std.specs.Ordering.{int_eq}
 use Rattle.fits_card.specs.Change.{cards_after, spliced}
 use Rattle.fits_card.specs.Header.{with_cards}

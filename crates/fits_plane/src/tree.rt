@@ -80,7 +80,10 @@ impl<S: Summary> Tree<S> {
         ensures work { self.new.joins ≡ self.old.joins }
     {
         let Tree {
-            nodes, width, used, ..
+            nodes,
+            width,
+            used,
+            ..
         } = other;
         self.nodes = nodes;
         self.width = width;

@@ -1,6 +1,6 @@
 use Rattle.std.proofs.Common.{◌∙◌, ap, arith, length, sym}
 use Rattle.fits_card.specs.Header.{Header}
-use Rattle.fits_hdu.specs.Keyword.{keyword_cards, own_count}
+use Rattle.fits_hdu.specs.Keyword.{keyword_cards}
 use Rattle.fits_hdu.proofs.ScalingLemmas.{scale_kept, scale_not_end}
 use Rattle.fits_hdu.proofs.StampingLemmas.{set_left, set_room}
 use Rattle.fits_hdu.proofs.reshaped_header.set_card.Goals as goal

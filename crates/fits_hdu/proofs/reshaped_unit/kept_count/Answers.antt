@@ -1,5 +1,4 @@
-use Rattle.std.proofs.Common.{ap, arith}
-use Rattle.fits_rules.specs.Size.{array_values}
+use Rattle.std.proofs.Common.{arith}
 use Rattle.fits_hdu.proofs.ReshapedUnitLemmas.{all_stay, values_of_size}
 use Rattle.fits_hdu.proofs.reshaped_unit.kept_count.Goals as goal
 

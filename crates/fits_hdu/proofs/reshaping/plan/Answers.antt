@@ -1,7 +1,5 @@
-use Rattle.std.proofs.Common.{◌≡◌, ◌≤◌, ◌+◌, ◌∙◌, Some, ap, arith, false, length, refl, rules, subst, sym, true}
-use Rattle.fits_card.specs.Header.{Header}
+use Rattle.std.proofs.Common.{◌≡◌, ◌≤◌, ◌+◌, ◌∙◌, Some, ap, length, refl, rules, subst, sym, true}
 use Rattle.fits_card.specs.declared.change.Change.TheVariants.{Splice}
-use Rattle.fits_rules.specs.Class.{is_primary}
 use Rattle.fits_rules.specs.declared.array_shape.Shape.{Shape}
 use Rattle.fits_rules.proofs.LawLemmas.{shape_bounded}
 use Rattle.fits_image.specs.ImageCards.{shape_cards}
