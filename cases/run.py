@@ -20,6 +20,7 @@ import pixel_edits
 import planes
 import program
 import reports
+import reshapes
 import scripts
 import sums
 
@@ -31,6 +32,7 @@ TABLES = [
     pixel_edits,
     planes,
     hdu_edits,
+    reshapes,
     listings,
     sums,
     reports,

@@ -10,12 +10,12 @@ use Rattle.fits_value.specs.declared.value.Value.{Value}
 use Rattle.fits_image.specs.declared.kind.Kind.{Kind}
 use Rattle.fits_session.specs.declared.card_edit.CardEdit.TheVariants.{Insert, Put, Delete, Move, Set, Unset}
 use Rattle.fits_session.specs.declared.edit.Edit.TheVariants.{Hdu, NewImage, RemoveHdu}
-use Rattle.fits_session.specs.declared.hdu_edit.HduEdit.TheVariants.{Cards, Pixels, Stamp}
+use Rattle.fits_session.specs.declared.hdu_edit.HduEdit.TheVariants.{Cards, Pixels, Reshape, Stamp}
 use Rattle.fits_session.specs.declared.paint.Paint.{Paint}
 use Rattle.fits_session.specs.declared.paint.Paint.TheVariants.{Fill, Write}
 use Rattle.fits_script.specs.Cut.{HasNo}
-use Rattle.fits_script.specs.Forms.{IsAlone, IsCardForm, IsFieldForm, IsMoveForm, IsNameForm, IsNewForm, IsNumber, IsPaintForm, IsPlaceForm, IsRectangleForm, Names, Says, followed, kind_word, paint_word}
-use Rattle.fits_script.specs.Line.{after_word, alone, axes_last, card_last, card_words, cards_command, command_of, field_words, fill_words, first_word, hdu_said, kind_first, move_words, name_first, name_word, new_words, number_first, place_word, rectangle_first, rectangle_word, said_by, said_of, value_last, values_last, verb_of, verb_said, verb_word, words_said, write_words}
+use Rattle.fits_script.specs.Forms.{IsAlone, IsCardForm, IsFieldForm, IsMoveForm, IsNameForm, IsArrayForm, IsNumber, IsPaintForm, IsPlaceForm, IsRectangleForm, Names, Says, followed, kind_word, paint_word}
+use Rattle.fits_script.specs.Line.{after_word, alone, axes_last, card_last, card_words, cards_command, command_of, field_words, fill_words, first_word, hdu_said, kind_first, move_words, name_first, name_word, array_words, number_first, place_word, rectangle_first, rectangle_word, said_by, said_of, value_last, values_last, verb_of, verb_said, verb_word, words_said, write_words}
 use Rattle.fits_script.specs.declared.command.Command.{Command}
 use Rattle.fits_script.specs.declared.command.Command.TheVariants.{Nothing, Edit, Offsets, Get, Positions, Report, Statistics, Rectangle, Sums}
 use Rattle.fits_script.specs.declared.verb.Verb.{Verb}
@@ -157,14 +157,14 @@ write_words-says rest words e =
     rw same (record { area = a.word; words = v.0; is = a.is ∙ ap (λ r. Some (a.word ++ followed r)) v.1; is_area = a.is_rectangle; are_paint = v.2 })))
 
 -- `KIND AXES`, where it is written so
-new_words-is : (kind : Kind) (axes : List ℕ) (rest : Option (List ℕ)) → IsNewForm kind axes rest → new_words rest ≡ Some (kind, axes)
-unfolding new_words
-new_words-is kind axes rest form = rw (form.is, kind_first-is kind (Some form.word), axes_last-is form.word axes form.are_axes) refl
+array_words-is : (kind : Kind) (axes : List ℕ) (rest : Option (List ℕ)) → IsArrayForm kind axes rest → array_words rest ≡ Some (kind, axes)
+unfolding array_words
+array_words-is kind axes rest form = rw (form.is, kind_first-is kind (Some form.word), axes_last-is form.word axes form.are_axes) refl
 
 -- and where it is read
-new_words-says : (rest : Option (List ℕ)) (words : Kind × List ℕ) → new_words rest ≡ Some words → IsNewForm words.0 words.1 rest
-unfolding new_words
-new_words-says rest words e =
+array_words-says : (rest : Option (List ℕ)) (words : Kind × List ℕ) → array_words rest ≡ Some words → IsArrayForm words.0 words.1 rest
+unfolding array_words
+array_words-says rest words e =
     option_and_then_some _ (kind_first rest) words e (λ kind is_kind e1.
     option_and_then_some _ (axes_last kind.1) words e1 (λ axes are_axes e2.
     let same : ◌≡◌ {A = Kind × List ℕ} words (kind.0, axes) = cc in
@@ -213,8 +213,9 @@ command_of-says line (Edit (Hdu h (Cards (Set name value comment)))) says = name
 command_of-says line (Edit (Hdu h (Cards (Unset name)))) says = named-is verb.Unset _ _ h _ line says refl refl refl (λ rest. refl) ∙ ap (option_map (λ name. cards_command h (Unset name))) (name_word-is name says.rest says.form)
 command_of-says line (Edit (Hdu h (Pixels lo hi (Fill value)))) says = named-is verb.Fill _ _ h _ line says refl refl refl (λ rest. refl) ∙ ap (option_map (λ w. Edit (Hdu h (Pixels w.0 w.1 w.2)))) (fill_words-is lo hi value says.rest says.form)
 command_of-says line (Edit (Hdu h (Pixels lo hi (Write values)))) says = named-is verb.Write _ _ h _ line says refl refl refl (λ rest. refl) ∙ ap (option_map (λ w. Edit (Hdu h (Pixels w.0 w.1 w.2)))) (write_words-is lo hi values says.rest says.form)
+command_of-says line (Edit (Hdu h (Reshape kind axes))) says = named-is verb.Reshape _ _ h _ line says refl refl refl (λ rest. refl) ∙ ap (option_map (λ w. Edit (Hdu h (Reshape w.0 w.1)))) (array_words-is kind axes says.rest says.form)
 command_of-says line (Edit (Hdu h Stamp)) says = named-is verb.Stamp _ _ h _ line says refl refl refl (λ rest. refl) ∙ alone-says says.rest (Edit (Hdu h Stamp)) says.form
-command_of-says line (Edit (NewImage h kind axes)) says = named-is verb.New _ _ h _ line says refl refl refl (λ rest. refl) ∙ ap (option_map (λ w. Edit (NewImage h w.0 w.1))) (new_words-is kind axes says.rest says.form)
+command_of-says line (Edit (NewImage h kind axes)) says = named-is verb.New _ _ h _ line says refl refl refl (λ rest. refl) ∙ ap (option_map (λ w. Edit (NewImage h w.0 w.1))) (array_words-is kind axes says.rest says.form)
 command_of-says line (Edit (RemoveHdu h)) says = named-is verb.Remove _ _ h _ line says refl refl refl (λ rest. refl) ∙ alone-says says.rest (Edit (RemoveHdu h)) says.form
 command_of-says line (Get h name) says = named-is verb.Get _ _ h _ line says refl refl refl (λ rest. refl) ∙ ap (option_map (λ name. Get h name)) (name_word-is name says.rest says.form)
 command_of-says line (Positions h name) says = named-is verb.Positions _ _ h _ line says refl refl refl (λ rest. refl) ∙ ap (option_map (λ name. Positions h name)) (name_word-is name says.rest says.form)
@@ -288,7 +289,8 @@ said_by-says verb.Set rest command e = of_words verb.Set rest field_words (λ h 
 said_by-says verb.Unset rest command e = of_words verb.Unset rest name_word (λ h w. cards_command h (Unset w)) command e (λ h more. refl) (λ h w more is names. names _ (name_word-says more w is))
 said_by-says verb.Fill rest command e = of_words verb.Fill rest fill_words (λ h w. Edit (Hdu h (Pixels w.0 w.1 w.2))) command e (λ h more. refl) (λ h w more is names. rw (fill_words-word more w is) (names _ (fill_words-says more w is)))
 said_by-says verb.Write rest command e = of_words verb.Write rest write_words (λ h w. Edit (Hdu h (Pixels w.0 w.1 w.2))) command e (λ h more. refl) (λ h w more is names. rw (write_words-word more w is) (names _ (write_words-says more w is)))
-said_by-says verb.New rest command e = of_words verb.New rest new_words (λ h w. Edit (NewImage h w.0 w.1)) command e (λ h more. refl) (λ h w more is names. names _ (new_words-says more w is))
+said_by-says verb.Reshape rest command e = of_words verb.Reshape rest array_words (λ h w. Edit (Hdu h (Reshape w.0 w.1))) command e (λ h more. refl) (λ h w more is names. names _ (array_words-says more w is))
+said_by-says verb.New rest command e = of_words verb.New rest array_words (λ h w. Edit (NewImage h w.0 w.1)) command e (λ h more. refl) (λ h w more is names. names _ (array_words-says more w is))
 said_by-says verb.Remove rest command e = of_hdu verb.Remove rest (λ h. Edit (RemoveHdu h)) command e (λ h more. refl) (λ h names. names)
 said_by-says verb.Stamp rest command e = of_hdu verb.Stamp rest (λ h. Edit (Hdu h Stamp)) command e (λ h more. refl) (λ h names. names)
 said_by-says verb.Get rest command e = of_words verb.Get rest name_word (λ h w. Get h w) command e (λ h more. refl) (λ h w more is names. names _ (name_word-says more w is))

@@ -13,7 +13,7 @@ use Rattle.fits_session.specs.declared.card_edit.CardEdit.TheVariants.{Insert, P
 use Rattle.fits_session.specs.declared.edit.Edit.{Edit as SessionEdit}
 use Rattle.fits_session.specs.declared.edit.Edit.TheVariants.{Hdu, NewImage, RemoveHdu}
 use Rattle.fits_session.specs.declared.hdu_edit.HduEdit.{HduEdit}
-use Rattle.fits_session.specs.declared.hdu_edit.HduEdit.TheVariants.{Cards, Pixels, Stamp}
+use Rattle.fits_session.specs.declared.hdu_edit.HduEdit.TheVariants.{Cards, Pixels, Reshape, Stamp}
 use Rattle.fits_session.specs.declared.paint.Paint.{Paint}
 use Rattle.fits_session.specs.declared.paint.Paint.TheVariants.{Fill, Write}
 use Rattle.fits_script.specs.Cut.{HasNo}
@@ -182,7 +182,7 @@ pub record IsPaintForm (lo hi : List ℕ) (paint : Paint) (text : Option (List �
   pub are_paint : ArePaint words paint
 
 -- `KIND AXES`
-pub record IsNewForm (kind : Kind) (axes : List ℕ) (text : Option (List ℕ)) : Type 0 where
+pub record IsArrayForm (kind : Kind) (axes : List ℕ) (text : Option (List ℕ)) : Type 0 where
   pub word : List ℕ
   pub is : text ≡ Some (before (kind_word kind) word)
   pub are_axes : IsAxes word axes
@@ -221,12 +221,13 @@ paint_word (Write values) = codes "write"
 abbrev pub HduSaid : List ℕ → ℕ → HduEdit → Type 0
 HduSaid line h (Cards edit) = CardsSaid line h edit
 HduSaid line h (Pixels lo hi paint) = Names (paint_word paint) h (IsPaintForm lo hi paint) line
+HduSaid line h (Reshape kind axes) = Names (codes "reshape") h (IsArrayForm kind axes) line
 HduSaid line h Stamp = Names (codes "stamp") h IsAlone line
 
 -- the line says this edit
 abbrev pub EditSaid : List ℕ → SessionEdit → Type 0
 EditSaid line (Hdu h edit) = HduSaid line h edit
-EditSaid line (NewImage h kind axes) = Names (codes "new") h (IsNewForm kind axes) line
+EditSaid line (NewImage h kind axes) = Names (codes "new") h (IsArrayForm kind axes) line
 EditSaid line (RemoveHdu h) = Names (codes "rm") h IsAlone line
 
 -- the line says this command

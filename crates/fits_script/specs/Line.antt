@@ -16,7 +16,7 @@ use Rattle.fits_session.specs.declared.card_edit.CardEdit.TheVariants.{Insert, P
 use Rattle.fits_session.specs.declared.edit.Edit.{Edit as SessionEdit}
 use Rattle.fits_session.specs.declared.edit.Edit.TheVariants.{Hdu, NewImage, RemoveHdu}
 use Rattle.fits_session.specs.declared.hdu_edit.HduEdit.{HduEdit}
-use Rattle.fits_session.specs.declared.hdu_edit.HduEdit.TheVariants.{Cards, Pixels, Stamp}
+use Rattle.fits_session.specs.declared.hdu_edit.HduEdit.TheVariants.{Cards, Pixels, Reshape, Stamp}
 use Rattle.fits_session.specs.declared.paint.Paint.{Paint}
 use Rattle.fits_session.specs.declared.paint.Paint.TheVariants.{Fill, Write}
 use Rattle.fits_script.specs.declared.limits.TheConstants.{LINE_LIMIT}
@@ -237,8 +237,8 @@ write_words rest = do
   Some (area.0, area.1, Write values)
 
 -- `KIND AXES`
-unfoldable pub new_words : Option (List ℕ) → Option (Kind × List ℕ)
-new_words rest = do
+unfoldable pub array_words : Option (List ℕ) → Option (Kind × List ℕ)
+array_words rest = do
   kind ← kind_first rest
   axes ← axes_last kind.1
   Some (kind.0, axes)
@@ -257,6 +257,7 @@ verb_word verb.Set = codes "set"
 verb_word verb.Unset = codes "unset"
 verb_word verb.Fill = codes "fill"
 verb_word verb.Write = codes "write"
+verb_word verb.Reshape = codes "reshape"
 verb_word verb.New = codes "new"
 verb_word verb.Remove = codes "rm"
 verb_word verb.Stamp = codes "stamp"
@@ -282,7 +283,8 @@ said_of verb.Set h rest = option_map (λ w. cards_command h (Set w.0 w.1 w.2)) (
 said_of verb.Unset h rest = option_map (λ name. cards_command h (Unset name)) (name_word rest)
 said_of verb.Fill h rest = option_map (λ w. Edit (Hdu h (Pixels w.0 w.1 w.2))) (fill_words rest)
 said_of verb.Write h rest = option_map (λ w. Edit (Hdu h (Pixels w.0 w.1 w.2))) (write_words rest)
-said_of verb.New h rest = option_map (λ w. Edit (NewImage h w.0 w.1)) (new_words rest)
+said_of verb.Reshape h rest = option_map (λ w. Edit (Hdu h (Reshape w.0 w.1))) (array_words rest)
+said_of verb.New h rest = option_map (λ w. Edit (NewImage h w.0 w.1)) (array_words rest)
 said_of verb.Remove h rest = alone rest (Edit (RemoveHdu h))
 said_of verb.Stamp h rest = alone rest (Edit (Hdu h Stamp))
 said_of verb.Get h rest = option_map (λ name. Get h name) (name_word rest)
@@ -332,7 +334,7 @@ abbrev pub CardsHoldMemory : CardEdit → Type 0
 CardsHoldMemory (Set name value comment) = Unit {0}
 CardsHoldMemory edit = ⊥
 
--- and this edit of an HDU: corners and values of pixels are lists of their own
+-- and this edit of an HDU: corners and values of pixels, and new axes, are lists of their own
 abbrev pub HduHoldsMemory : HduEdit → Type 0
 HduHoldsMemory (Cards edit) = CardsHoldMemory edit
 HduHoldsMemory Stamp = ⊥

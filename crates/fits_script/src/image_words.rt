@@ -1,7 +1,7 @@
 //! The words of a new image: the kind of its pixels, and its axes.
 ghost use Rattle.std.specs.Prelude.{◌≡◌, IfOk, IfSome, IfNone, IsSome, None, OnErr, Some};
 ghost use Rattle.std.specs.Option.{option_copied};
-ghost use Rattle.fits_script.specs.Line.{axes_of_word, kind_first, kind_of_word, new_words};
+ghost use Rattle.fits_script.specs.Line.{axes_of_word, kind_first, kind_of_word, array_words};
 ghost use Rattle.fits_script.specs.Line.{number_of_word};
 
 use crate::part::{Part, read_list};
@@ -11,13 +11,13 @@ use fits_rules::Axes;
 use std::alloc::{AllocError, Global};
 
 /// `KIND AXES`
-#[tactic(auto, unfolding(crate::specs::Line::new_words, crate::specs::Line::axes_last))]
-pub(crate) fn new_words(
+#[tactic(auto, unfolding(crate::specs::Line::array_words, crate::specs::Line::axes_last))]
+pub(crate) fn array_words(
     alloc: Global,
     rest: Option<&[u8]>,
 ) -> Result<Option<(Kind, Axes)>, AllocError>
-    ensures ok { IfOk result (λ words. words ≡ new_words (option_copied rest.entry)) }
-    ensures err { OnErr result (IsSome (new_words (option_copied rest.entry))) }
+    ensures ok { IfOk result (λ words. words ≡ array_words (option_copied rest.entry)) }
+    ensures err { OnErr result (IsSome (array_words (option_copied rest.entry))) }
 {
     let Some((kind, Some(word))) = kind_first(rest) else {
         return Ok(None);

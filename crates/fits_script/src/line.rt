@@ -7,7 +7,7 @@ ghost use Rattle.fits_script.specs.Line.{said_or_none, words_said, ReadingNeedsM
 ghost use Rattle.fits_script.specs.declared.command.Command.{Command};
 
 use crate::command::Command;
-use crate::image_words::new_words;
+use crate::image_words::array_words;
 use crate::limits::LINE_LIMIT;
 use crate::line_fault::LineFault;
 use crate::line_reading::LineReading;
@@ -145,7 +145,11 @@ fn said_of(
             hdu,
             HduEdit::Pixels { lo, hi, paint },
         )),
-        Verb::New => new_words(alloc, rest)?.map(|(kind, axes)| Command::Edit(Edit::NewImage {
+        Verb::Reshape => array_words(alloc, rest)?.map(|(kind, axes)| hdu_command(
+            hdu,
+            HduEdit::Reshape { kind, axes },
+        )),
+        Verb::New => array_words(alloc, rest)?.map(|(kind, axes)| Command::Edit(Edit::NewImage {
             at: hdu,
             kind,
             axes,

@@ -15,6 +15,7 @@ pub(crate) enum Verb {
     Unset,
     Fill,
     Write,
+    Reshape,
     New,
     Remove,
     Stamp,
@@ -28,7 +29,7 @@ pub(crate) enum Verb {
 }
 
 /// All verbs.
-const VERBS: [Verb; 18] = [
+const VERBS: [Verb; 19] = [
     Verb::Insert,
     Verb::Put,
     Verb::Delete,
@@ -37,6 +38,7 @@ const VERBS: [Verb; 18] = [
     Verb::Unset,
     Verb::Fill,
     Verb::Write,
+    Verb::Reshape,
     Verb::New,
     Verb::Remove,
     Verb::Stamp,
@@ -73,6 +75,7 @@ fn word_of(verb: Verb) -> &'static [u8]
         Verb::Unset => b"unset",
         Verb::Fill => b"fill",
         Verb::Write => b"write",
+        Verb::Reshape => b"reshape",
         Verb::New => b"new",
         Verb::Remove => b"rm",
         Verb::Stamp => b"stamp",

@@ -2,6 +2,7 @@
 use Rattle.std.proofs.Common.{◌≡◌, add-one, ◌⊎◌, inl, inr, true, false, ℕ, zero, suc, ◌+◌, ◌-◌, ◌*◌, ◌^◌, ◌<◌, ◌≤◌, Bool, List, [], ◌∷◌, length, get_or, codes, refl, ap, sym, ◌∙◌, subst, arith, Option, None, Some}
 use Rattle.std.specs.Prelude.{Result, Ok, Err, if◌then◌else◌}
 use Rattle.std.specs.List.{remove, slice_get, range_with_len}
+use Rattle.std.specs.Ordering.{int_eq}
 use Rattle.std.specs.Option.{option_map, option_map_or}
 use Rattle.indexmap.proofs.SetLemmas.{map-remove}
 use Rattle.fits_session.proofs.PlaceLemmas.{get_before, get_behind}
@@ -17,19 +18,23 @@ use Rattle.fits_hdu.specs.Hdu.{HduParts}
 use Rattle.fits_hdu.specs.Keyword.{keyword_cards, own_count, with_links}
 use Rattle.fits_hdu.specs.Layout.{layout_of}
 use Rattle.fits_hdu.specs.State.{HduState, parts_of}
-use Rattle.fits_hdu.specs.Work.{keyword_reads, stamp_count_reads, stamp_reads, plane_work, IsPatched, IsRescanned, PixelWork}
+use Rattle.fits_image.specs.Kind.{array_kind, offset_of}
+use Rattle.fits_image.specs.declared.kind.Kind.{Kind}
+use Rattle.fits_hdu.specs.Reshape.{kept_count}
+use Rattle.fits_hdu.specs.Work.{keyword_reads, reshape_reads, stamp_count_reads, stamp_reads, plane_work, IsPatched, IsRenewed, IsRescanned, PixelWork}
 use Rattle.fits_hdu.specs.declared.keyword_cards.KeywordCards.{KeywordCards}
-use Rattle.fits_session.specs.Bounds.{mandatory_count, moved_count, stamped_count, Grows, NoneFalls, OthersStay, SameCounts, WorksUpTo}
+use Rattle.fits_session.specs.Bounds.{mandatory_count, moved_count, reshaped_count, stamped_count, Grows, NoneFalls, OthersStay, SameCounts, WorksUpTo}
 use Rattle.fits_session.specs.CardEdit.{change_of, is_keyword_name, set_of, setting, unset_of, unsetting}
-use Rattle.fits_session.specs.Edit.{changed_of, hdu_of, is_primary_hdu}
-use Rattle.fits_session.specs.Session.{Asks, AsksPixels, EditsTo, HduWork, PatchesIn, ReadsOnly, SessionState, file_of, hdus_of, read_more, reads_of, without_entries, works_of}
+use Rattle.fits_session.specs.Edit.{changed_of, hdu_edited, hdu_of, is_primary_hdu}
+use Rattle.fits_session.specs.Session.{AreIdle, Asks, AsksPixels, EditsTo, HduWork, PatchesIn, ReadsOnly, ReshapesIn, SessionState, file_of, hdus_of, read_more, reads_of, without_entries, works_of}
 use Rattle.fits_session.specs.HduEdit.{hdu_changed, hdu_made}
-use Rattle.fits_session.specs.Work.{change_reads, follow_reads, own_reads, reads_in_all, reads_to_find}
+use Rattle.fits_session.specs.Work.{change_reads, follow_reads, own_reads, reads_in_all, reads_to_find, reads_to_reshape}
 use Rattle.fits_session.specs.declared.card_edit.CardEdit.{CardEdit}
 use Rattle.fits_session.specs.declared.card_edit.CardEdit.TheVariants.{Insert, Put, Delete, Move, Set, Unset}
-use Rattle.fits_session.specs.declared.edit.Edit.TheVariants.{Hdu}
+use Rattle.fits_session.specs.declared.edit.Edit.{Edit}
+use Rattle.fits_session.specs.declared.edit.Edit.TheVariants.{Hdu, NewImage, RemoveHdu}
 use Rattle.fits_session.specs.declared.hdu_edit.HduEdit.{HduEdit}
-use Rattle.fits_session.specs.declared.hdu_edit.HduEdit.TheVariants.{Cards, Pixels, Stamp}
+use Rattle.fits_session.specs.declared.hdu_edit.HduEdit.TheVariants.{Cards, Pixels, Reshape, Stamp}
 use Rattle.fits_session.specs.declared.paint.Paint.{Paint}
 use Rattle.fits_session.specs.declared.refusal.Refusal.{Refusal}
 use Rattle.fits_card.specs.Name.{is_settable}
@@ -80,6 +85,8 @@ follow_few (Cards edit) (Ok made) = omega arith
 follow_few (Cards edit) (Err why) = omega arith
 follow_few (Pixels lo hi paint) (Ok made) = omega arith
 follow_few (Pixels lo hi paint) (Err why) = omega arith
+follow_few (Reshape kind axes) (Ok made) = omega arith
+follow_few (Reshape kind axes) (Err why) = omega arith
 follow_few Stamp (Ok made) = omega arith
 follow_few Stamp (Err why) = omega arith
 
@@ -101,6 +108,26 @@ pub stamp_closer : (primary : Bool) (hdu : HduParts) → reads_in_all primary St
 unfolding stamp_count_reads stamp_reads
 stamp_closer primary hdu =
     omega (arith, follow_few Stamp (hdu_made primary Stamp hdu), keyword_few hdu.header.cards (codes "CHECKSUM"), keyword_few hdu.header.cards (codes "DATASUM "))
+
+-- BSCALE and BZERO are read by no more cards than they move
+rescaled_few : (same : Bool) (a b m n : ℕ) → m ≤ a + 1 → n ≤ b + 1 → (if same then 0 else m + n) ≤ (if same then 0 else a + b + 2)
+rescaled_few true a b m n p q = omega arith
+rescaled_few false a b m n p q = omega (arith, p, q)
+
+-- so a reshape reads few
+reshape_few : (old : Option Kind) (kind : Kind) (axes : List ℕ) (shape : Shape) (cards : List (List ℕ)) → reshape_reads old kind axes cards ≤ length axes + 2 * reshaped_count old kind axes shape cards + 29
+reshape_few None kind axes shape cards = omega arith
+reshape_few (Some old) kind axes shape cards =
+    omega (
+      arith,
+      rescaled_few (int_eq (offset_of old) (offset_of kind)) (own_count cards (codes "BSCALE  ")) (own_count cards (codes "BZERO   ")) (keyword_reads cards (codes "BSCALE  ")) (keyword_reads cards (codes "BZERO   ")) (keyword_few cards (codes "BSCALE  ")) (keyword_few cards (codes "BZERO   ")),
+    )
+
+pub reshape_closer : (primary : Bool) (hdu : HduParts) (shape : Shape) (kind : Kind) (axes : List ℕ) → shape_of primary hdu.header.cards ≡ Ok shape
+    → reads_in_all primary (Reshape kind axes) hdu ≤ length axes + 2 * reshaped_count (array_kind shape hdu.header.cards) kind axes shape hdu.header.cards + 32
+reshape_closer primary hdu shape kind axes described =
+    let reads = ap (λ said. reads_to_reshape said kind axes hdu.header.cards) described in
+    omega (arith, reads, follow_few (Reshape kind axes) (hdu_made primary (Reshape kind axes) hdu), reshape_few (array_kind shape hdu.header.cards) kind axes shape hdu.header.cards)
 
 -- a value is read by one card more than its chain has
 pub value_few : (cards : List (List ℕ)) (name : List ℕ) (place : ℕ) → lead_place cards name ≡ Some place → keyword_reads cards name ≤ 2 * chain_length cards place + 2
@@ -125,6 +152,11 @@ pixels_few primary hdu shape lo hi paint old new d described few work =
       more_joins = patched.more_joins;
       joins = omega (arith, joins);
     }
+
+-- a reshape works on the pixels that stay and on the blocks that come
+pub reshape_works : (primary : Bool) (hdu : HduParts) (shape : Shape) (kind : Kind) (axes : List ℕ) (old new : PixelWork) → shape_of primary hdu.header.cards ≡ Ok shape → HduWork primary (Reshape kind axes) hdu old new
+    → IsRenewed (kept_count shape.axes axes) (block_count (hdu_edited primary (Reshape kind axes) hdu).data_unit) old new
+reshape_works primary hdu shape kind axes old new described work = subst (λ (said : Result Shape ℕ). ReshapesIn said axes (hdu_edited primary (Reshape kind axes) hdu) old new) described work
 
 -- of a data unit of two blocks, two at most
 pub two_blocks : (primary : Bool) (hdu : HduParts) (shape : Shape) (lo hi : List ℕ) (paint : Paint) (old new : PixelWork) → shape_of primary hdu.header.cards ≡ Ok shape → block_count hdu.data_unit ≡ 2 → HduWork primary (Pixels lo hi paint) hdu old new → WorksUpTo 2 4 old new
@@ -152,11 +184,26 @@ patches_grows : (said : Result Shape ℕ) (lo hi : List ℕ) (hdu : HduParts) (o
 patches_grows (Ok shape) lo hi hdu old new patched = record { scans = patched.more_scans; reads = omega (arith, patched.reads); joins = patched.more_joins }
 patches_grows (Err place) lo hi hdu old new same = follows_grows old new 0 (inl same)
 
+-- where an array is made another
+reshapes_grows : (said : Result Shape ℕ) (axes : List ℕ) (after : HduParts) (old new : PixelWork) → ReshapesIn said axes after old new → Grows old new
+reshapes_grows (Ok shape) axes after old new renewed = record { scans = renewed.more_scans; reads = renewed.more_reads; joins = renewed.more_joins }
+reshapes_grows (Err place) axes after old new same = follows_grows old new 0 (inl same)
+
 -- whatever an edit of an HDU does, no count falls
 edit_grows : (primary : Bool) (edit : HduEdit) (hdu : HduParts) (old new : PixelWork) → HduWork primary edit hdu old new → Grows old new
 edit_grows primary (Cards edit) hdu old new work = follows_grows old new (block_count hdu.data_unit) work.any
 edit_grows primary (Pixels lo hi paint) hdu old new work = patches_grows (shape_of primary hdu.header.cards) lo hi hdu old new work
+edit_grows primary (Reshape kind axes) hdu old new work = reshapes_grows (shape_of primary hdu.header.cards) axes _ old new work
 edit_grows primary Stamp hdu old new work = follows_grows old new (block_count hdu.data_unit) work.any
+
+-- an edit that is refused and no reshape did no work
+pub idle_else : (edit : Edit) (before after : List PixelWork) → AreIdle edit before after → ((h : ℕ) (kind : Kind) (axes : List ℕ) → edit ≡ Hdu h (Reshape kind axes) → ⊥) → after ≡ before
+idle_else (Hdu h (Cards edit)) before after idle other = idle
+idle_else (Hdu h (Pixels lo hi paint)) before after idle other = idle
+idle_else (Hdu h (Reshape kind axes)) before after idle other = absurd (other h kind axes refl)
+idle_else (Hdu h Stamp) before after idle other = idle
+idle_else (NewImage at kind axes) before after idle other = idle
+idle_else (RemoveHdu h) before after idle other = idle
 
 -- ---- lists of counts
 

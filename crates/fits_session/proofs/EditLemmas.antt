@@ -1,5 +1,5 @@
 -- An edit of HDU h of a session owes what it owes of that HDU.
-use Rattle.std.proofs.Common.{◌≡◌, inl, ℕ, ◌+◌, ◌≤◌, List, length, set, refl, ap, sym, ◌∙◌, subst, arith, All, Option, None, Some, suc, false, add-one}
+use Rattle.std.proofs.Common.{◌≡◌, inl, ℕ, ◌+◌, ◌<◌, ◌≤◌, Bool, List, length, get_or, set, refl, ap, sym, ◌∙◌, subst, arith, All, Option, None, Some, suc, false, add-one}
 use Rattle.std.specs.Prelude.{Result, Ok, Err}
 use Rattle.std.specs.List.{slice_get}
 use Rattle.std.specs.Option.{option_map_or}
@@ -7,32 +7,36 @@ use Rattle.std.proofs.lemmas.List.{get_or-set_same, length-append, length-set, s
 use Rattle.std.proofs.lemmas.List.Elements.{All-set}
 use Rattle.fits_card.specs.Header.{Header}
 use Rattle.fits_rules.specs.Shape.{shape_of}
+use Rattle.fits_rules.specs.declared.array_shape.Shape.{Shape}
 use Rattle.fits_hdu.specs.ExtensionName.{extension_name}
 use Rattle.fits_hdu.specs.declared.extension_name.ExtensionName.{ExtensionName}
 use Rattle.fits_hdu.proofs.ShapeLemmas.{one_primary}
 use Rattle.fits_rules.specs.Class.{is_primary}
 use Rattle.fits_hdu.specs.Hdu.{HduParts, hdu_bytes, IsHdu}
 use Rattle.fits_hdu.specs.State.{HduState, name_of, parts_of, IsDescribed}
-use Rattle.fits_hdu.specs.Work.{plane_work}
+use Rattle.fits_hdu.specs.Reshape.{reshaped_shape}
+use Rattle.fits_hdu.specs.Work.{PixelWork, plane_work}
 use Rattle.fits_session.specs.Edit.{changed_at, changed_of, file_after, hdu_edited, hdu_of, is_primary_hdu, made_or, with_hdu}
 use Rattle.fits_session.specs.File.{FileParts, file_bytes, joined_hdus, IsFile, IsFileOf}
 use Rattle.fits_session.specs.HduEdit.{hdu_made}
 use Rattle.fits_session.specs.Limits.{is_within_limits}
 use Rattle.fits_session.specs.Refusal.{limit_refusal, made_refusal, refusal_in, refusal_of, Fails, HduNeedsMemory}
-use Rattle.fits_session.specs.Session.{file_of, hdus_of, reads_of, state_of, works_of, length_with, within_refusal, EditsTo, EditWork, HduEditsTo, HduWork, HduWorks, IsKept, IsNowhere, ReadsOnly, WorksOnly}
+use Rattle.fits_session.specs.Session.{file_of, hdus_of, reads_of, state_of, works_of, length_with, within_refusal, AreIdle, EditsTo, EditWork, HduEditsTo, HduWork, HduWorks, IsIdle, IsKept, IsNowhere, ReadsOnly, WorksOnly}
 use Rattle.fits_session.specs.NameTable.{Stands, Stood}
 use Rattle.fits_session.specs.Work.{edit_reads, follow_reads, hdu_reads, may_rename, reads_in_all}
-use Rattle.fits_session.specs.declared.edit.Edit.TheVariants.{Hdu}
+use Rattle.fits_session.specs.declared.edit.Edit.{Edit}
+use Rattle.fits_session.specs.declared.edit.Edit.TheVariants.{Hdu, NewImage, RemoveHdu}
 use Rattle.fits_session.specs.declared.hdu_edit.HduEdit.{HduEdit}
-use Rattle.fits_session.specs.declared.hdu_edit.HduEdit.TheVariants.{Cards, Pixels, Stamp}
+use Rattle.fits_session.specs.declared.hdu_edit.HduEdit.TheVariants.{Cards, Pixels, Reshape, Stamp}
 use Rattle.fits_session.specs.declared.limits.TheConstants.{FILE_LIMIT}
 use Rattle.fits_session.specs.declared.refusal.Refusal.{Refusal}
 use Rattle.fits_session.specs.declared.refusal.Refusal.TheVariants as refusal
 use Rattle.fits_session.proofs.ChangeLemmas.{front_changed, goes_on-changed, joined-changed, length-changed}
 use Rattle.fits_session.proofs.PixelEditLemmas.{pixels_keep}
+use Rattle.fits_session.proofs.ReshapeEditLemmas.{reshape_described, reshape_named}
 use Rattle.fits_session.proofs.StandingLemmas.{stands_same}
 use Rattle.fits_session.proofs.MakingLemmas.{limit_none, within_limits}
-use Rattle.fits_session.proofs.StateLemmas.{IsHduAt, file_of-same, hdu_of-nowhere, hdu_of-there, hdus_of-changed, length-hdus_of, part_there, primary_there, reads_more, reads_none, reads_twice, reads_up_to, slice_get-hdus_of, works_nowhere, rooms_of-same, works_of-same, works_there}
+use Rattle.fits_session.proofs.StateLemmas.{IsHduAt, file_of-same, hdu_of-nowhere, hdu_of-there, hdus_of-changed, length-hdus_of, part_there, primary_there, reads_more, reads_none, reads_twice, reads_up_to, slice_get-hdus_of, works_nowhere, rooms_of-same, unread_of-same, works_of-same, works_there}
 
 -- the file with another HDU at an index is one, where that HDU is one and the file isn't too long
 pub other_kept : (f : List ℕ) (file : FileParts) (i : ℕ) (hdu : HduParts) (change : HduParts → HduParts) → IsFileOf f file → slice_get file.hdus i ≡ Some hdu → IsHdu (is_primary_hdu (suc i)) (change hdu) → length (file_bytes (with_hdu file (suc i) change)) ≤ FILE_LIMIT → IsFile (with_hdu file (suc i) change)
@@ -52,6 +56,22 @@ length_changed file i hdu change there = omega (
   joined-changed file.hdus i hdu change there,
 )
 
+-- where nothing was worked on all are idle
+idle_same : (edit : Edit) (works : List PixelWork) → AreIdle edit works works
+idle_same (Hdu h (Cards edit)) works = refl
+idle_same (Hdu h (Pixels lo hi paint)) works = refl
+idle_same (Hdu h (Reshape kind axes)) works = refl
+idle_same (Hdu h Stamp) works = refl
+idle_same (NewImage at kind axes) works = refl
+idle_same (RemoveHdu h) works = refl
+
+-- and where one is
+idle_there : (hdus : List HduState) (h i : ℕ) (edit : HduEdit) (old new : HduState) → i < length hdus → old ≡ get_or hdus i old → IsIdle edit (plane_work old.plane) (plane_work new.plane) → AreIdle (Hdu h edit) (works_of hdus) (works_of (set hdus i new))
+idle_there hdus h i (Cards edit) old new within is idle = works_of-same hdus i old new within is idle
+idle_there hdus h i (Pixels lo hi paint) old new within is idle = works_of-same hdus i old new within is idle
+idle_there hdus h i (Reshape kind axes) old new within is idle = unread_of-same hdus i old new within is idle
+idle_there hdus h i Stamp old new within is idle = works_of-same hdus i old new within is idle
+
 -- an HDU that isn't there refuses an edit
 pub edits_nowhere : {X : Type 0} (hdus : List HduState) (tail : List ℕ) (h : ℕ) (edit : HduEdit) → IsNowhere (length hdus) h → EditsTo {X = X} (Hdu h edit) (state_of hdus tail) (state_of hdus tail) (Err refusal.NoHdu)
 unfolding refusal_of
@@ -64,7 +84,7 @@ edits_nowhere hdus tail h edit p = record {
     cards = reads_none h (edit_reads (file_of (state_of hdus tail)) h edit) _;
     pixels = works_nowhere hdus h (EditWork (file_of (state_of hdus tail)) h edit) p;
   };
-  idle = refl;
+  idle = idle_same (Hdu h edit) (works_of hdus);
   room = refl;
 }
 
@@ -198,7 +218,7 @@ edits_refused hdus tail h i edit bytes count old new why p = record {
   refused = subst (λ (refused : Option Refusal). Fails (HduNeedsMemory edit) refused why) (sym (tests_are hdus tail h i edit bytes count old new (Err why) p)) p.edits.refused;
   err = file_of-same hdus tail h i old new p.at p.edits.err;
   work = works hdus tail h i edit bytes count old new (Err why) p 0 (set hdus i new) (followed_none (set hdus i new) h) (omega arith);
-  idle = works_of-same hdus i old new p.at.index.within p.at.is p.edits.idle;
+  idle = idle_there hdus h i edit old new p.at.index.within p.at.is p.edits.idle;
   room = rooms_of-same hdus i old new p.at.index.within p.at.is p.edits.room;
 }
 
@@ -214,10 +234,19 @@ name_same old new was is same =
     let primary : is_primary new.header.shape.class ≡ is_primary old.header.shape.class = one_primary (is_primary new.header.shape.class) (is_primary old.header.shape.class) old.header.header.cards new.header.shape old.header.shape (subst (λ cards. shape_of (is_primary new.header.shape.class) cards ≡ Ok new.header.shape) same is) was in
     ap (λ cards. extension_name (is_primary new.header.shape.class) cards) same ∙ ap (λ b. extension_name b old.header.header.cards) primary
 
--- so an edit of pixels leaves the name
+-- nor does one of which its name stays
+name_kept : (old new : HduState) (shape : Shape) → IsDescribed new → shape_of (is_primary old.header.shape.class) new.header.header.cards ≡ Ok shape → extension_name (is_primary old.header.shape.class) new.header.header.cards ≡ extension_name (is_primary old.header.shape.class) old.header.header.cards → name_of new ≡ name_of old
+name_kept old new shape is described same =
+    let primary : is_primary new.header.shape.class ≡ is_primary old.header.shape.class = one_primary (is_primary new.header.shape.class) (is_primary old.header.shape.class) new.header.header.cards new.header.shape shape is described in
+    ap (λ b. extension_name b new.header.header.cards) primary ∙ same
+
+-- so an edit of pixels leaves the name, and a reshape
 pub unrenamed : (edit : HduEdit) (old new : HduState) → may_rename edit ≡ false → IsHdu (is_primary old.header.shape.class) (parts_of old) → IsDescribed old → IsDescribed new → hdu_made (is_primary old.header.shape.class) edit (parts_of old) ≡ Ok (parts_of new) → name_of new ≡ name_of old
 unrenamed (Cards edit) old new never whole was is made = cc
 unrenamed Stamp old new never whole was is made = cc
+unrenamed (Reshape kind axes) old new never whole was is made =
+    let primary : Bool = is_primary old.header.shape.class in
+    name_kept old new (reshaped_shape kind axes old.header.shape) is (reshape_described primary old.header.shape kind axes (parts_of old) (parts_of new) whole was made) (reshape_named primary old.header.shape kind axes (parts_of old) (parts_of new) was made)
 unrenamed (Pixels lo hi paint) old new never whole was is made =
     name_same old new was is (ap (λ (header : Header). header.cards) (pixels_keep (is_primary old.header.shape.class) old.header.shape (parts_of old) (parts_of new) lo hi paint whole was made))
 

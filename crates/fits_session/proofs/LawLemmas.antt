@@ -27,7 +27,7 @@ use Rattle.fits_session.specs.Refusal.{made_refusal, new_image_refusal, refusal_
 use Rattle.fits_session.specs.declared.edit.Edit.{Edit}
 use Rattle.fits_session.specs.declared.edit.Edit.TheVariants.{Hdu, NewImage, RemoveHdu}
 use Rattle.fits_session.specs.declared.hdu_edit.HduEdit.{HduEdit}
-use Rattle.fits_session.specs.declared.hdu_edit.HduEdit.TheVariants.{Cards, Pixels, Stamp}
+use Rattle.fits_session.specs.declared.hdu_edit.HduEdit.TheVariants.{Cards, Pixels, Reshape, Stamp}
 use Rattle.fits_session.specs.declared.refusal.Refusal.{Refusal}
 use Rattle.fits_session.specs.declared.refusal.Refusal.TheVariants as refusal
 use Rattle.fits_session.proofs.CardEditLemmas.{made_inner}
@@ -35,6 +35,7 @@ use Rattle.fits_session.proofs.ChangeLemmas.{changed_at-same, hdu_is, length-cha
 use Rattle.fits_session.proofs.EditLemmas.{length_changed, other_kept}
 use Rattle.fits_session.proofs.ListEditLemmas.{inserted_is_a_file, new_passes, removed_is_a_file}
 use Rattle.fits_session.proofs.MakingLemmas.{kept_limits, kept_whole, length_cards, limit_none, within_limits}
+use Rattle.fits_session.proofs.ReshapeEditLemmas.{reshape_whole}
 
 -- a change that is taken keeps the shape
 taken : (kept : Bool) (hdu made : HduParts) → ◌≡◌ {A = Result HduParts Refusal} (if kept then Ok hdu else Err refusal.Shape) (Ok made) → (kept ≡ true) × (hdu ≡ made)
@@ -64,6 +65,7 @@ unfolding hdu_made
 made_whole primary (Cards edit) hdu new sizes whole e = changed_whole primary hdu new (change_of hdu.header.cards edit) whole (λ change made. made_inner hdu.header.cards edit change sizes made) e
 made_whole primary (Pixels lo hi paint) hdu new sizes whole e =
     shaped_whole primary hdu new (shape_of primary hdu.header.cards) (λ shape. painted shape lo hi (plane_paint paint) hdu) refl (λ shape described made. (painted_hdu primary shape hdu lo hi (plane_paint paint) new whole described made).0) e
+made_whole primary (Reshape kind axes) hdu new sizes whole e = reshape_whole primary kind axes hdu new whole e
 made_whole primary Stamp hdu new sizes whole e = subst (λ (u : HduParts). IsHdu primary u) (let same : stamped hdu ≡ new = cc in same) (stamped_is_hdu primary hdu whole)
 
 -- what is made of an HDU and keeps to the limits leaves a file

@@ -24,6 +24,7 @@ pub mod ProblemLemmas
 pub mod QueryLemmas
 pub mod RefusalLemmas
 pub mod ReportLemmas
+pub mod ReshapeEditLemmas
 pub mod SaveLemmas
 pub mod SetLemmas
 pub mod StampEditLemmas

@@ -47,7 +47,7 @@ pub fill_bound : (n : ℕ) → fill_length n ≤ 2800
 fill_bound n = omega (arith, fill_length-by_cards n)
 
 -- too many bytes don't keep to the limits
-not_within : (bytes hdus : ℕ) → FILE_LIMIT < bytes → is_within_limits bytes hdus ≡ false
+pub not_within : (bytes hdus : ℕ) → FILE_LIMIT < bytes → is_within_limits bytes hdus ≡ false
 not_within bytes hdus l = search rules
 
 -- so no size comes of them
@@ -130,7 +130,7 @@ lasts_read old new count described read = (rw (read.header.header, read.header.s
 -- what is refused owes this
 pub makes_not : (made : Result HduParts Refusal) (NeedsMemory : Option Refusal → Type 0) (reads : ℕ) (Works : PixelWork → PixelWork → Type 0) (bytes hdus : ℕ) (old new : HduState) (why : Refusal)
     → IsHdu (is_primary old.header.shape.class) (parts_of old) → parts_of new ≡ parts_of old → old.header.reads ≤ new.header.reads → new.header.reads ≤ old.header.reads + reads → plane_work new.plane ≡ plane_work old.plane → new.header.room ≡ old.header.room → Lasts old new → Works (plane_work old.plane) (plane_work old.plane) → Fails NeedsMemory (within_refusal bytes hdus (parts_of old) made) why
-    → HduMakes made NeedsMemory reads Works bytes hdus old new (Err why)
+    → HduMakes made NeedsMemory reads Works (λ before after. after ≡ before) bytes hdus old new (Err why)
 makes_not made NeedsMemory reads Works bytes hdus old new why whole same least most idle room lasts none fails = record {
   whole = whole;
   left = subst (λ (hdu : HduParts). IsHdu (is_primary old.header.shape.class) hdu) (sym same) whole;

@@ -28,7 +28,7 @@ use Rattle.fits_hdu.specs.declared.pixel_fault.PixelFault.TheVariants as pixel
 use Rattle.fits_session.specs.CardEdit.{change_of, is_in_range, is_keyword_name, is_within, own_refusal, set_of, setting, tested, unless, unset_of, unsetting}
 use Rattle.fits_session.specs.Edit.{hdu_of, is_primary_hdu, with_hdu, with_new_hdu}
 use Rattle.fits_session.specs.File.{FileParts, file_bytes}
-use Rattle.fits_session.specs.HduEdit.{hdu_changed, hdu_made, pixels_made, plane_paint, shaped}
+use Rattle.fits_session.specs.HduEdit.{hdu_changed, hdu_made, hdu_reshaped, pixels_made, plane_paint, shaped}
 use Rattle.fits_session.specs.Limits.{is_within_limits}
 use Rattle.fits_session.specs.Refusal.{made_refusal, new_image_refusal, refusal_in, refusal_of, removal_refusal, size_refusal}
 use Rattle.fits_session.specs.declared.card_edit.CardEdit.{CardEdit}
@@ -36,10 +36,11 @@ use Rattle.fits_session.specs.declared.card_edit.CardEdit.TheVariants.{Insert, P
 use Rattle.fits_session.specs.declared.edit.Edit.{Edit}
 use Rattle.fits_session.specs.declared.edit.Edit.TheVariants.{Hdu, NewImage, RemoveHdu}
 use Rattle.fits_session.specs.declared.hdu_edit.HduEdit.{HduEdit}
-use Rattle.fits_session.specs.declared.hdu_edit.HduEdit.TheVariants.{Cards, Pixels, Stamp}
+use Rattle.fits_session.specs.declared.hdu_edit.HduEdit.TheVariants.{Cards, Pixels, Reshape, Stamp}
 use Rattle.fits_session.specs.declared.refusal.Refusal.{Refusal}
 use Rattle.fits_session.specs.declared.refusal.Refusal.TheVariants.{NoHdu, NoCard, NoKey, BadText, EndCard, BadName, BadValue, NotImage, BadRect, WrongCount, Range, PrimaryStays, TooLarge, Memory}
 use Rattle.fits_session.specs.declared.refusal.Refusal.TheVariants as refusal
+use Rattle.fits_session.proofs.ReshapeEditLemmas.{reshape_firm}
 
 -- this isn't out of memory
 IsFirm : Option Refusal → Type 0
@@ -226,11 +227,17 @@ firm_shaped : (said : Result Shape ℕ) (make : Shape → Result HduParts PixelF
 firm_shaped (Ok shape) make firm = firm_pixels (make shape) (firm shape)
 firm_shaped (Err place) make firm = firm_no_hdu NotImage (λ e. cc)
 
+-- what is made another array
+firm_reshaped : (said : Result Shape ℕ) (kind : Kind) (axes : List ℕ) (hdu : HduParts) → FirmMade (hdu_reshaped said kind axes hdu)
+unfolding FirmMade
+firm_reshaped said kind axes hdu = reshape_firm said kind axes hdu
+
 -- what each edit makes of an HDU
 firm_made_of : (primary : Bool) (edit : HduEdit) (hdu : HduParts) → FirmMade (hdu_made primary edit hdu)
 unfolding hdu_made
 firm_made_of primary (Cards edit) hdu = firm_changed primary hdu (change_of hdu.header.cards edit) (firm_change hdu.header.cards edit)
 firm_made_of primary (Pixels lo hi paint) hdu = firm_shaped (shape_of primary hdu.header.cards) (λ shape. painted shape lo hi (plane_paint paint) hdu) (λ shape. firm_painted shape lo hi (plane_paint paint) hdu)
+firm_made_of primary (Reshape kind axes) hdu = firm_reshaped (shape_of primary hdu.header.cards) kind axes hdu
 firm_made_of primary Stamp hdu = firm_hdu (stamped hdu)
 
 -- the tests of a file's size

@@ -15,7 +15,7 @@ use Rattle.fits_hdu.proofs.ShapeLemmas.{one_primary}
 use Rattle.fits_session.specs.Edit.{hdu_of, changed_at, changed_of, is_primary_hdu}
 use Rattle.fits_session.specs.File.{FileParts, IsFile, file_bytes, joined_hdus}
 use Rattle.fits_session.specs.declared.limits.TheConstants.{FILE_LIMIT, HDU_LIMIT}
-use Rattle.fits_session.specs.Session.{SessionState, file_of, hdus_of, reads_of, rooms_of, works_of, state_of, ReadsOnly, WorksOnly, Asks, IsIndexOf, IsNowhere}
+use Rattle.fits_session.specs.Session.{SessionState, file_of, hdus_of, reads_of, rooms_of, works_of, state_of, unread, ReadsOnly, WorksOnly, Asks, IsIndexOf, IsNowhere}
 use Rattle.fits_session.proofs.ChangeLemmas.{hdu_is, part_within}
 
 -- HDU h of those under edits
@@ -161,6 +161,16 @@ slice_get-works_of hdus i hdu l e =
 -- where HDU h stays as it was worked on, all do
 pub works_of-same : (hdus : List HduState) (i : ℕ) (old new : HduState) → i < length hdus → old ≡ get_or hdus i old → plane_work new.plane ≡ plane_work old.plane → works_of (set hdus i new) ≡ works_of hdus
 works_of-same hdus i old new l e p = parts_same (λ (one : HduState). plane_work one.plane) hdus i old new l e p
+
+-- what is seen of works is seen of the HDUs
+unread_seen : (hdus : List HduState) → map unread (works_of hdus) ≡ map (λ (one : HduState). unread (plane_work one.plane)) hdus
+unread_seen [] = refl
+unread_seen (one ∷ hdus) = ap (λ works. unread (plane_work one.plane) ∷ works) (unread_seen hdus)
+
+-- the same but for the pixels read
+pub unread_of-same : (hdus : List HduState) (i : ℕ) (old new : HduState) → i < length hdus → old ≡ get_or hdus i old → unread (plane_work new.plane) ≡ unread (plane_work old.plane) → map unread (works_of (set hdus i new)) ≡ map unread (works_of hdus)
+unread_of-same hdus i old new l e p =
+    unread_seen (set hdus i new) ∙ (parts_same (λ (one : HduState). unread (plane_work one.plane)) hdus i old new l e p ∙ sym (unread_seen hdus))
 
 -- where no card of it was read, none of any was
 pub reads_of-same : (hdus : List HduState) (i : ℕ) (old new : HduState) → i < length hdus → old ≡ get_or hdus i old → new.header.reads ≡ old.header.reads → reads_of (set hdus i new) ≡ reads_of hdus

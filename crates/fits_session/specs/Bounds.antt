@@ -1,9 +1,12 @@
 -- Bounds of work by what an edit touches: the mandatory cards, and those that it takes out or puts in (own).
-use Rattle.std.specs.Prelude.{◌≡◌, ℕ, ◌+◌, ◌*◌, ◌≤◌, List, codes, get_or, length, Some, Result, Ok, Err}
+use Rattle.std.specs.Prelude.{◌≡◌, ℕ, ◌+◌, ◌*◌, ◌≤◌, List, codes, get_or, length, Option, None, Some, Result, Ok, Err, if◌then◌else◌}
 use Rattle.std.specs.List.{slice_get}
+use Rattle.std.specs.Ordering.{int_eq}
 use Rattle.fits_card.specs.declared.change.Change.{Change}
 use Rattle.fits_card.specs.declared.change.Change.TheVariants.{Splice, Move}
 use Rattle.fits_rules.specs.declared.array_shape.Shape.{Shape}
+use Rattle.fits_image.specs.Kind.{offset_of}
+use Rattle.fits_image.specs.declared.kind.Kind.{Kind}
 use Rattle.fits_hdu.specs.Keyword.{own_count}
 use Rattle.fits_hdu.specs.State.{HduState}
 use Rattle.fits_hdu.specs.Work.{PixelWork}
@@ -23,6 +26,16 @@ moved_count (Err why) = 0
 -- how many a stamp takes out and puts in: the cards of both keywords, and one for each
 abbrev pub stamped_count : List (List ℕ) → ℕ
 stamped_count cards = own_count cards (codes "CHECKSUM") + own_count cards (codes "DATASUM ") + 2
+
+-- how many cards BSCALE and BZERO have that a reshape writes anew, and one for each; none where the offset stays
+abbrev pub rescaled_count : Kind → Kind → List (List ℕ) → ℕ
+rescaled_count old kind cards =
+    if int_eq (offset_of old) (offset_of kind) then 0 else own_count cards (codes "BSCALE  ") + own_count cards (codes "BZERO   ") + 2
+
+-- how many cards a reshape takes out and puts in, with those: BITPIX, NAXIS and the axes
+abbrev pub reshaped_count : Option Kind → Kind → List ℕ → Shape → List (List ℕ) → ℕ
+reshaped_count None kind axes shape cards = 0
+reshaped_count (Some old) kind axes shape cards = (2 + length shape.axes) + (2 + length axes) + rescaled_count old kind cards
 
 -- how many cards an edit reads at most
 abbrev pub most_reads : (mandatory moved : ℕ) → ℕ

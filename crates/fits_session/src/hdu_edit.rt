@@ -1,6 +1,8 @@
 use crate::card_edit::CardEdit;
 use crate::corner::Corner;
 use crate::paint::Paint;
+use fits_image::Kind;
+use fits_rules::Axes;
 
 /// A change of one HDU.
 #[derive(Drop)]
@@ -15,6 +17,13 @@ pub enum HduEdit {
         hi: Corner,
         paint: Paint,
     },
+    /// An array of integers becomes one of this kind and with these axes. The pixels that stay keep
+    /// their values, and those that come store 0.
+    Reshape {
+        kind: Kind,
+        /// NAXIS1 first; none, or 999 at most.
+        axes: Axes,
+    },
     /// DATASUM and CHECKSUM are made right (FITS Standard 4.0, section 4.4.2.7): each keeps its
     /// place, or comes after the last card, and loses its comment.
     Stamp,
@@ -28,6 +37,6 @@ impl HduEdit {
     pub(crate) fn may_rename(&self) -> bool
         ensures { result ≡ may_rename self.now }
     {
-        !matches!(self, HduEdit::Pixels { .. })
+        !matches!(self, HduEdit::Pixels { .. } | HduEdit::Reshape { .. })
     }
 }

@@ -1,4 +1,4 @@
-use fits_hdu::{KeywordFault, PixelFault};
+use fits_hdu::{KeywordFault, PixelFault, ReshapeFault};
 use fits_value::WriteFault;
 use std::alloc::{AllocError, AllocFailed};
 use std::error::Error;
@@ -20,15 +20,16 @@ pub enum Refusal {
     BadText,
     /// 5: the card is named END.
     EndCard,
-    /// 6: the cards would describe another shape, or none; of a new image: more than 999 axes, or one
-    /// past the greatest integer of 64 bits.
+    /// 6: the cards would describe another shape, or none; of a new image or a reshape: more than 999
+    /// axes, or one past the greatest integer of 64 bits; of a reshape: an offset comes over other
+    /// cards that scale.
     Shape,
     /// 7: the name isn't a keyword's, or can't have a value.
     BadName,
     /// 8: the value or the comment can't be written, or the first card of this name that has a
     /// value can't be read.
     BadValue,
-    /// 9: the HDU is no image of integers.
+    /// 9: the HDU is no image of integers, nor, for a reshape, one without axes.
     NotImage,
     /// 10: the corners don't have a number for each axis, or don't lie in the axes, in order.
     BadRect,
@@ -144,6 +145,23 @@ impl From<PixelFault> for Refusal {
             PixelFault::WrongCount => Refusal::WrongCount,
             PixelFault::OutOfRange => Refusal::Range,
             PixelFault::Memory => Refusal::Memory,
+        }
+    }
+}
+
+impl From<ReshapeFault> for Refusal {
+    ghost use Rattle.fits_session.specs.HduEdit.{refusal_of_reshape};
+    ghost use Rattle.std.specs.Prelude.{◌≡◌};
+
+    ghost from_gives = { λ fault why. why ≡ refusal_of_reshape fault };
+
+    fn from(fault: ReshapeFault) -> Refusal {
+        match fault {
+            ReshapeFault::NotImage => Refusal::NotImage,
+            ReshapeFault::BadShape => Refusal::Shape,
+            ReshapeFault::OutOfRange => Refusal::Range,
+            ReshapeFault::TooLarge => Refusal::TooLarge,
+            ReshapeFault::Memory => Refusal::Memory,
         }
     }
 }

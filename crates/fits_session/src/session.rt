@@ -10,6 +10,7 @@ mod opening;
 mod pixels;
 mod queries;
 mod reading;
+mod reshaping;
 mod saving;
 mod stamping;
 
@@ -128,8 +129,8 @@ impl Session {
     ///
     /// `Memory` may stand in place of success, but not where pixels are edited, cards or an HDU
     /// only go, or a card moves, which takes none; for an edit that puts cards in, in place of
-    /// `Shape` and `TooLarge`, whose tests need the cards of the change; and for a new image in
-    /// place of `TooLarge`.
+    /// `Shape` and `TooLarge`, whose tests need the cards of the change; for a reshape in place of
+    /// `Range` too; and for a new image in place of `TooLarge`.
     pub fn edit(&mut self, edit: Edit) -> Result<(), Refusal>
         ensures edits { EditsTo edit self.old self.new result }
     {

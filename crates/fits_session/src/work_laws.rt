@@ -1,6 +1,6 @@
 //! Laws of bounded work, each the contract of a function that does nothing: how much the edits and
 //! queries of a session do at most, by what they touch, beside the exact counts of `specs/Work`.
-ghost use Rattle.std.specs.Prelude.{◌≡◌, ◌<◌, ◌≤◌, ◌+◌, ◌-◌, ◌*◌, ◌^◌, ℕ, ℤ, Bool, List, get_or, length, Option, Err, Ok, Result, Some};
+ghost use Rattle.std.specs.Prelude.{◌≡◌, ◌<◌, ◌≤◌, ◌+◌, ◌-◌, ◌*◌, ◌^◌, ℕ, ℤ, Bool, List, get_or, length, map, max, Option, Err, Ok, Result, Some};
 ghost use Rattle.std.specs.List.{remove};
 ghost use Rattle.fits_plane.specs.Layout.{block_count};
 ghost use Rattle.fits_plane.specs.Work.{rectangle_blocks};
@@ -11,11 +11,15 @@ ghost use Rattle.fits_value.specs.Says.{chain_length};
 ghost use Rattle.fits_hdu.specs.Hdu.{HduParts};
 ghost use Rattle.fits_hdu.specs.Layout.{layout_of};
 ghost use Rattle.fits_hdu.specs.State.{HduState};
-ghost use Rattle.fits_hdu.specs.Work.{keyword_reads, plane_work, FollowsBlank, IsOpened, PixelWork};
-ghost use Rattle.fits_session.specs.Bounds.{mandatory_count, most_reads, moved_count, stamped_count};
+ghost use Rattle.fits_image.specs.Kind.{array_kind};
+ghost use Rattle.fits_image.specs.declared.kind.Kind.{Kind};
+ghost use Rattle.fits_hdu.specs.Reshape.{kept_count};
+ghost use Rattle.fits_hdu.specs.Work.{keyword_reads, plane_work, FollowsBlank, IsOpened, IsRenewed, PixelWork};
+ghost use Rattle.fits_session.specs.Bounds.{mandatory_count, most_reads, moved_count, reshaped_count, stamped_count};
 ghost use Rattle.fits_session.specs.Bounds.{unworked, NoneFalls, OthersStay, SameCounts, ScansUpTo, WorksUpTo};
 ghost use Rattle.fits_session.specs.CardEdit.{change_of};
-ghost use Rattle.fits_session.specs.Session.{without_entries, works_of, Asks, AsksPixels, EditsTo, HduWork, PutsIn, ReadsOnceAtMost};
+ghost use Rattle.fits_session.specs.Edit.{hdu_edited};
+ghost use Rattle.fits_session.specs.Session.{unread, without_entries, works_of, Asks, AsksPixels, EditsTo, HduWork, PutsIn, ReadsOnceAtMost};
 ghost use Rattle.fits_session.specs.Session.{SessionState};
 ghost use Rattle.fits_session.specs.Work.{reads_in_all};
 ghost use Rattle.fits_session.specs.declared.card_edit.CardEdit.{CardEdit};
@@ -60,7 +64,7 @@ pub fn edits_of_cards_read_few()
 {}
 
 /// An edit of pixels reads no card and no pixel, and scans at most the blocks that hold a byte of
-/// its rectangle; one that is refused, of whatever kind, scans none.
+/// its rectangle; one that is refused does no work, nor does any other that is no reshape.
 pub fn edits_of_pixels_scan_few()
     ensures cards { (primary : Bool) (hdu : HduParts) (lo hi : List ℕ) (paint : Paint)
         → reads_in_all primary (HduEdit.Pixels lo hi paint) hdu ≡ 0 }
@@ -78,7 +82,33 @@ pub fn edits_of_pixels_scan_few()
         → block_count hdu.data_unit ≡ 2 → HduWork primary (HduEdit.Pixels lo hi paint) hdu old new
         → WorksUpTo 2 4 old new }
     ensures refused { (edit : Edit) (old new : SessionState) (why : Refusal)
-        → EditsTo {X = Unit {0}} edit old new (Err why) → works_of new.hdus ≡ works_of old.hdus }
+        → EditsTo {X = Unit {0}} edit old new (Err why)
+        → ((h : ℕ) (kind : Kind) (axes : List ℕ) → edit ≡ Edit.Hdu h (HduEdit.Reshape kind axes) → ⊥)
+        → works_of new.hdus ≡ works_of old.hdus }
+{}
+
+/// A reshape reads cards of its HDU alone, three times as many at most as an edit of cards that
+/// takes out and puts in as many; it reads each pixel that stays once at most, and scans each block
+/// of the new data unit once at most, with a join for each node above them. One that is refused
+/// scans none.
+pub fn reshapes_work_little()
+    ensures cards { (primary : Bool) (hdu : HduParts) (shape : Shape) (kind : Kind) (axes : List ℕ)
+        → shape_of primary hdu.header.cards ≡ Ok shape
+        → reads_in_all primary (HduEdit.Reshape kind axes) hdu
+        ≤ 3 * most_reads (max (mandatory_count shape) (3 + length axes))
+        (reshaped_count (array_kind shape hdu.header.cards) kind axes shape hdu.header.cards) }
+    ensures cards_closer { (primary : Bool) (hdu : HduParts) (shape : Shape) (kind : Kind)
+        (axes : List ℕ) → shape_of primary hdu.header.cards ≡ Ok shape
+        → reads_in_all primary (HduEdit.Reshape kind axes) hdu ≤ length axes + 2 * reshaped_count
+        (array_kind shape hdu.header.cards) kind axes shape hdu.header.cards + 32 }
+    ensures pixels { (primary : Bool) (hdu : HduParts) (shape : Shape) (kind : Kind)
+        (axes : List ℕ) (old new : PixelWork) → shape_of primary hdu.header.cards ≡ Ok shape
+        → HduWork primary (HduEdit.Reshape kind axes) hdu old new
+        → IsRenewed (kept_count shape.axes axes)
+        (block_count (hdu_edited primary (HduEdit.Reshape kind axes) hdu).data_unit) old new }
+    ensures refused { (h : ℕ) (kind : Kind) (axes : List ℕ) (old new : SessionState) (why : Refusal)
+        → EditsTo {X = Unit {0}} (Edit.Hdu h (HduEdit.Reshape kind axes)) old new (Err why)
+        → map unread (works_of new.hdus) ≡ map unread (works_of old.hdus) }
 {}
 
 /// Where an HDU is put in or goes, every other one keeps its counts, and a new one begins with one

@@ -10,6 +10,7 @@ use super::cards::edit_cards;
 use super::finding::index_of;
 use super::naming::follow;
 use super::pixels::paint_pixels;
+use super::reshaping::reshape;
 use super::stamping::stamp;
 use crate::edit::Edit;
 use crate::hdu_edit::HduEdit;
@@ -50,6 +51,7 @@ fn edit_hdu(
     match edit {
         HduEdit::Cards(edit) => edit_cards(alloc, hdu, len, hdus, edit),
         HduEdit::Pixels { lo, hi, paint } => paint_pixels(hdu, len, hdus, lo, hi, paint),
+        HduEdit::Reshape { kind, axes } => reshape(alloc, hdu, len, hdus, *kind, axes),
         HduEdit::Stamp => stamp(alloc, hdu, len, hdus),
     }
 }

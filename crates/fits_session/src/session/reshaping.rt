@@ -1,0 +1,37 @@
+//! Making an array of integers another: its own tests and the limit, and then it is made.
+ghost use Rattle.std.specs.Prelude.{◌≡◌, ◌≤◌, true, length};
+ghost use Rattle.fits_hdu.specs.Hdu.{hdu_bytes};
+ghost use Rattle.fits_hdu.specs.State.{parts_of};
+ghost use Rattle.fits_session.specs.Limits.{is_within_limits};
+ghost use Rattle.fits_session.specs.Session.{HduEditsTo};
+
+use crate::hdu_edit::HduEdit;
+use crate::limits::FILE_LIMIT;
+use crate::refusal::Refusal;
+use fits_hdu::Hdu;
+use fits_image::Kind;
+use fits_rules::Axes;
+use std::alloc::Global;
+
+/// Makes an HDU an array of this kind and with these axes in a file of so many bytes and HDUs, and
+/// answers how many bytes the file has then.
+pub(super) fn reshape(
+    alloc: Global,
+    hdu: &mut Hdu,
+    len: u64,
+    hdus: u64,
+    kind: Kind,
+    axes: &Axes,
+) -> Result<u64, Refusal>
+    requires part { length (hdu_bytes (parts_of hdu.old)) ≤ len }
+    requires within { is_within_limits len hdus ≡ true }
+    ensures { HduEditsTo (HduEdit.Reshape kind axes.now) len hdus hdu.old hdu.new result }
+{
+    let _whole = hdu.card_count();
+    let header_len = hdu.header().byte_len();
+    let data_len = hdu.plane().byte_len();
+    let others = len - (header_len + data_len) as u64;
+    let most = FILE_LIMIT - others;
+    let after = hdu.reshape(alloc, kind, axes.as_slice(), most as usize)?;
+    Ok(others + after as u64)
+}
