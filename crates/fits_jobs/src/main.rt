@@ -7,11 +7,13 @@ mod files;
 mod frames;
 mod noise;
 mod outcome;
+mod reshapes;
 mod tables;
 
 use frames::correct_frames;
 use noise::Noise;
 use outcome::Outcome;
+use reshapes::widen_images;
 use std::alloc::Global;
 use std::process::ExitCode;
 use std::{env, io};
@@ -21,6 +23,7 @@ use tables::mend_tables;
 fn job(alloc: Global, name: &str, rounds: usize, noise: &mut Noise) -> io::Result<Option<Outcome>> {
     let outcome = match name {
         "frames" => correct_frames(alloc, rounds, noise)?,
+        "reshapes" => widen_images(alloc, rounds, noise)?,
         "tables" => mend_tables(alloc, rounds, noise)?,
         _ => return Ok(None),
     };

@@ -39,25 +39,27 @@ Example:
 fitsed(1) has the lines of a script and the codes of a report.";
 
 const LINES: &str = "Lines of the script, words separated by one space:
-  ins H P CARD      insert a card at place P of HDU H
-  put H P CARD      put a card instead of the one at place P
-  del H P           delete the card at place P
-  mov H P Q         move the card at place P to place Q
-  set H NAME FIELD  give a keyword a value and a comment, as VALUE / COMMENT
-  unset H NAME      delete a keyword
-  fill H RECT V     give each pixel of a rectangle the value V
-  write H RECT V .. give the pixels of a rectangle these values
-  new H KIND AXES   put a new image in as HDU H, such as new 2 i16 100,200
-  rm H              take HDU H out
-  stamp H           write DATASUM and CHECKSUM so that both are right
-  get H NAME        print the value of a keyword
-  pos H NAME        print the places of the cards of a keyword
-  stat H            print how many pixels are defined, their least, greatest and sum
-  rect H RECT       print the values of a rectangle
-  sum H             print the sum of the data unit, and whether both sums are right
-  off               print where each HDU begins, its data begin, and it ends
-  rep               print what is wrong, and count it
-  # text            nothing; so does an empty line
+  ins H P CARD         insert a card at place P of HDU H
+  put H P CARD         put a card instead of the one at place P
+  del H P              delete the card at place P
+  mov H P Q            move the card at place P to place Q
+  set H NAME FIELD     give a keyword a value and a comment, as VALUE / COMMENT
+  unset H NAME         delete a keyword
+  fill H RECT V        give each pixel of a rectangle the value V
+  write H RECT V ..    give the pixels of a rectangle these values
+  reshape H KIND AXES  make an image another, such as reshape 2 i32 100,300: the pixels
+                       that stay keep their values
+  new H KIND AXES      put a new image in as HDU H, such as new 2 i16 100,200
+  rm H                 take HDU H out
+  stamp H              write DATASUM and CHECKSUM so that both are right
+  get H NAME           print the value of a keyword
+  pos H NAME           print the places of the cards of a keyword
+  stat H               print how many pixels are defined, their least, greatest and sum
+  rect H RECT          print the values of a rectangle
+  sum H                print the sum of the data unit, and whether both sums are right
+  off                  print where each HDU begins, its data begin, and it ends
+  rep                  print what is wrong, and count it
+  # text               nothing; so does an empty line
 
 Exit status:
   0  done
