@@ -1,5 +1,5 @@
 -- Reshapes: what they make of an HDU, and owe.
-use Rattle.std.proofs.Common.{◌≡◌, inl, inr, ℕ, ◌+◌, ◌-◌, ◌^◌, ◌<◌, ◌≤◌, Bool, true, false, List, length, refl, ap, sym, subst, ◌∙◌, arith, Option, None, Some}
+use Rattle.std.proofs.Common.{◌≡◌, inl, inr, ℕ, ◌+◌, ◌-◌, ◌<◌, ◌≤◌, Bool, true, false, List, length, refl, ap, sym, subst, ◌∙◌, arith, Option, None, Some}
 use Rattle.std.specs.Prelude.{◌≢◌, Result, Ok, Err, if◌then◌else◌}
 use Rattle.fits_plane.specs.Layout.{block_count}
 use Rattle.fits_rules.specs.Class.{is_primary}
@@ -19,12 +19,11 @@ use Rattle.fits_hdu.proofs.ReshapedNameLemmas.{reshaping_keeps_names}
 use Rattle.fits_session.specs.Edit.{made_or}
 use Rattle.fits_session.specs.HduEdit.{hdu_made, hdu_reshaped, refusal_of_reshape, reshape_made}
 use Rattle.fits_session.specs.Limits.{is_within_limits}
-use Rattle.fits_session.specs.Refusal.{limit_refusal, Fails, HduNeedsMemory, ReshapeNeedsMemory}
+use Rattle.fits_session.specs.Refusal.{limit_refusal, Fails, ReshapeNeedsMemory}
 use Rattle.fits_session.specs.Session.{length_with, unread, within_refusal, HduEditsTo, ReshapesIn}
 use Rattle.fits_session.specs.Work.{hdu_reads, reads_to_reshape}
 use Rattle.fits_session.specs.declared.hdu_edit.HduEdit.TheVariants.{Reshape}
-use Rattle.fits_session.specs.declared.limits.TheConstants.{FILE_LIMIT, HDU_LIMIT}
-use Rattle.fits_session.specs.declared.refusal.Refusal.{Refusal}
+use Rattle.fits_session.specs.declared.limits.TheConstants.{FILE_LIMIT}
 use Rattle.fits_session.specs.declared.refusal.Refusal.TheVariants as refusal
 use Rattle.fits_session.proofs.MakingLemmas.{Lasts, kept_limits, not_within, within_limits}
 
@@ -167,7 +166,7 @@ reshapes_not kind axes bytes hdus most old new why whole described part is fails
       least = least;
       most = omega (arith, few, reads_are primary old.header.shape kind axes (parts_of old) described);
       work = renews_by (shape_of primary old.header.header.cards) old.header.shape axes (made_or (parts_of old) (hdu_reshaped (shape_of primary old.header.header.cards) kind axes (parts_of old))) (plane_work old.plane) (plane_work new.plane) described
-      (read_renewed (kept_count old.header.shape.axes axes) _ (plane_work old.plane) (plane_work new.plane) read);
+          (read_renewed (kept_count old.header.shape.axes axes) _ (plane_work old.plane) (plane_work new.plane) read);
       idle = still_unread (kept_count old.header.shape.axes axes) (plane_work old.plane) (plane_work new.plane) read;
       room = room;
       described = lasts.0;
@@ -195,7 +194,7 @@ reshapes kind axes bytes hdus most n old new whole described part within is ok s
       least = least;
       most = omega (arith, few, reads_are primary old.header.shape kind axes (parts_of old) described);
       work = renews_by (shape_of primary old.header.header.cards) old.header.shape axes (made_or (parts_of old) (hdu_reshaped (shape_of primary old.header.header.cards) kind axes (parts_of old))) (plane_work old.plane) (plane_work new.plane) described
-      (subst (λ (hdu : HduParts). IsRenewed (kept_count old.header.shape.axes axes) (block_count hdu.data_unit) (plane_work old.plane) (plane_work new.plane)) (sym (ap (made_or (parts_of old)) made)) renewed);
+          (subst (λ (hdu : HduParts). IsRenewed (kept_count old.header.shape.axes axes) (block_count hdu.data_unit) (plane_work old.plane) (plane_work new.plane)) (sym (ap (made_or (parts_of old)) made)) renewed);
       idle = tt;
       room = tt;
       described = lasts.0;

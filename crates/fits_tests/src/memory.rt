@@ -206,6 +206,24 @@ const NEW_U8: &str =
     "XTENSION= 'IMAGE   '|BITPIX  =                    8|NAXIS   =                    0|\
     PCOUNT  =                    0|GCOUNT  =                    1|END";
 
+/// The image of one pixel made one of six pixels of 32 bits, and one of none with an offset.
+const RESHAPED_I32: &str =
+    "XTENSION= 'IMAGE   '|BITPIX  =                   32|NAXIS   =                    2|\
+    NAXIS1  =                    2|NAXIS2  =                    3|PCOUNT  =                    0|\
+    GCOUNT  =                    1|END";
+
+const RESHAPED_U16: &str =
+    "XTENSION= 'IMAGE   '|BITPIX  =                   16|NAXIS   =                    1|\
+    NAXIS1  =                    0|PCOUNT  =                    0|GCOUNT  =                    1|\
+    BSCALE  =                    1|BZERO   =                32768|END";
+
+/// Real numbers, and numbers that are scaled.
+const REALS: &str =
+    "XTENSION= 'IMAGE   '|BITPIX  = -32|NAXIS   = 0|PCOUNT  = 0|GCOUNT  = 1|END";
+
+const SCALED: &str =
+    "XTENSION= 'IMAGE   '|BITPIX  = 8|NAXIS   = 0|PCOUNT  = 0|GCOUNT  = 1|BSCALE  = 2|END";
+
 /// Two HDUs whose data are zeros, and a tail.
 const TWO: FileText<'static> = (&[(P0, 0), (PIXEL, 1)], "tail");
 
@@ -237,6 +255,43 @@ const HDU_EDITS: &[HduEditText<'static>] = &[
     ),
     ("new 4 u8 2", TWO, Err(Refusal::NoHdu), false),
     ("new 1 u8 2", TWO, Err(Refusal::PrimaryStays), false),
+    (
+        "reshape 2 i32 2,3",
+        TWO,
+        Ok((&[(P0, 0), (RESHAPED_I32, 1)], "tail")),
+        true,
+    ),
+    (
+        "reshape 2 u16 0",
+        TWO,
+        Ok((&[(P0, 0), (RESHAPED_U16, 0)], "tail")),
+        true,
+    ),
+    (
+        "reshape 2 u8 999999999999999999",
+        TWO,
+        Err(Refusal::TooLarge),
+        true,
+    ),
+    (
+        "reshape 2 u8 2,2",
+        (&[(P0, 0), (NEW_U16, 1)], ""),
+        Err(Refusal::Range),
+        true,
+    ),
+    (
+        "reshape 2 i8 1",
+        (&[(P0, 0), (SCALED, 0)], ""),
+        Err(Refusal::Shape),
+        true,
+    ),
+    ("reshape 3 u8 1", TWO, Err(Refusal::NoHdu), false),
+    (
+        "reshape 2 u8 1",
+        (&[(P0, 0), (REALS, 0)], ""),
+        Err(Refusal::NotImage),
+        false,
+    ),
     // taking an HDU out asks for none
     ("rm 2", TWO, Ok((&[(P0, 0)], "tail")), false),
     ("rm 2", THREE, Ok((&[(P0, 0), (NEW_U8, 0)], "")), false),
@@ -275,6 +330,8 @@ fn refused_memory_at_an_edit(rt: HostRuntime) {
 const LINES: &[(&str, Option<LineFault>, bool)] = &[
     ("set 1 KEY 'it''s' / c", None, true),
     ("new 2 u16 3,2", None, true),
+    ("reshape 2 u16 3,2", None, true),
+    ("reshape 2 u16 3,", Some(LineFault::Bad), false),
     ("set 1 KEY 'open", Some(LineFault::Bad), false),
     ("put 1 4 X", None, false),
     ("rm 2", None, false),
