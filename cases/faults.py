@@ -98,6 +98,21 @@ SCRIPTS += [
     ),
 ]
 
+# An image that gets wider pixels and more rows, or doesn't.
+SCRIPTS += [
+    (
+        header(THREE_PIXELS) + zeros(1),
+        "write 1 1:3 300 -7 7\nreshape 1 u8 2\nreshape 1 i32 2,2\nrect 1 1:2,1:2\nreshape 1 i64 999999999999999999\noff",
+        "line 2: refused 12 Range\n300 -7 7 0\nline 5: refused 14 TooLarge\n1 0 2880 5760\n",
+        1,
+        header(
+            "SIMPLE  =                    T|BITPIX  =                   32|NAXIS   =                    2|"
+            "NAXIS1  =                    2|NAXIS2  =                    2|END"
+        )
+        + pixels(4, [300, -7, 7], 0),
+    ),
+]
+
 # What is told of files: the words, the file, what is printed, and the status. The words of a block of data sum to
 # 1867394316.
 TOLD = [

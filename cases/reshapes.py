@@ -80,7 +80,8 @@ SESSIONS = [
     # what is called so stays so, and the table of names with it
     (
         "new 2 i16 2\nset 2 EXTNAME 'A'\nnew 3 i16 2\nset 3 EXTNAME 'A'\nreshape 2 u32 1\nrep\nset 3 EXTVER 2\nrep\nget 2 EXTNAME",
-        "W25 3 0 duplicate extension name\nerrors 0 warnings 1\nerrors 0 warnings 0\nstring 'A'\n",
+        "".join(f"W25 {k} 0 two extensions of one type, name and version\n" for k in (2, 3))
+        + "errors 0 warnings 2\nerrors 0 warnings 0\nstring 'A'\n",
         0,
     ),
 ]

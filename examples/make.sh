@@ -77,6 +77,7 @@ primary "OBJECT  = 'M31     '" "TELESCOP= 'W.H.T.  '           / where" "DATE-OB
     image 16 3 2 "$science"
     pixels 12 "$six"
 } | made an_added_image ''
+cp "$folder/an_added_image.fits" "$folder/a_reshaped_image.fits"
 {
     primary "OBJECT  = 'M31     '"
     cards "XTENSION= 'IMAGE   '" "$(number BITPIX 16)" "$(number NAXIS 2)" "$(number NAXIS1 3)" "$(number NAXIS2 2)" \

@@ -49,5 +49,5 @@ pub use session::Session;
 pub use summing::read_sums;
 pub use work_laws::{
     edits_of_cards_read_few, edits_of_pixels_scan_few, edits_of_the_list_keep_counts,
-    openings_and_queries_work_little,
+    openings_and_queries_work_little, reshapes_work_little,
 };
