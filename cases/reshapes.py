@@ -66,7 +66,7 @@ SESSIONS = [
     ),
     # 11,520,000,000 bytes less the shortest file and a header is the most
     (
-        "new 2 i16 2\nreshape 2 u8 11519991361\nreshape 2 u64 576460752303423488,8\nreshape 2 u8 4294967296,4294967296\noff",
+        "new 2 i16 2\nreshape 2 u8 11519994241\nreshape 2 u64 576460752303423488,8\nreshape 2 u8 4294967296,4294967296\noff",
         "line 2: refused 14 TooLarge\nline 3: refused 14 TooLarge\nline 4: refused 14 TooLarge\n"
         "1 0 2880 2880\n2 2880 5760 8640\n",
         1,
