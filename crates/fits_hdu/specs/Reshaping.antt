@@ -6,10 +6,10 @@ use Rattle.fits_plane.specs.Converting.{kept_numbers, run_made}
 use Rattle.fits_plane.specs.Plane.{PlaneState}
 use Rattle.fits_rules.specs.Size.{array_values, data_length}
 use Rattle.fits_rules.specs.declared.array_shape.Shape.{Shape}
-use Rattle.fits_image.specs.ImageCards.{shape_cards, written_number}
+use Rattle.fits_image.specs.ImageCards.{are_axes, shape_cards, written_number}
 use Rattle.fits_image.specs.Kind.{array_kind, offset_of, width_of}
 use Rattle.fits_image.specs.declared.kind.Kind.{Kind}
-use Rattle.fits_hdu.specs.Reshape.{can_reshape, reshaped_shape}
+use Rattle.fits_hdu.specs.Reshape.{can_reshape, reshaped_shape, scales_otherwise}
 use Rattle.fits_hdu.specs.declared.reshape_fault.ReshapeFault.{ReshapeFault}
 use Rattle.fits_hdu.specs.declared.reshape_fault.ReshapeFault.TheVariants.{NotImage, BadShape, OutOfRange, TooLarge, Memory}
 use Rattle.fits_hdu.specs.declared.reshaping.Reshaping.{Reshaping}
@@ -35,11 +35,12 @@ pub record IsPlan (kind : Kind) (axes : List ℕ) (shape : Shape) (cards : List 
   pub can : can_reshape plan.old kind axes shape cards ≡ true
   pub planned : IsPlanned plan.old kind axes shape plan
 
--- it may not be, or memory runs out
+-- it may not be, or memory runs out, but not before its axes and its scaling were looked at
 abbrev pub PlanFails : Kind → List ℕ → Shape → List (List ℕ) → ReshapeFault → Type 0
 PlanFails kind axes shape cards NotImage = array_kind shape cards ≡ None
 PlanFails kind axes shape cards BadShape = (old : Kind) × (array_kind shape cards ≡ Some old) × (can_reshape old kind axes shape cards ≡ false)
-PlanFails kind axes shape cards Memory = (old : Kind) × (array_kind shape cards ≡ Some old)
+PlanFails kind axes shape cards Memory =
+    (old : Kind) × (array_kind shape cards ≡ Some old) × (are_axes axes ≡ true) × (scales_otherwise old kind cards ≡ false)
 PlanFails kind axes shape cards fault = ⊥
 
 -- the data unit that is planned for an array with these pixels, if each of their numbers can be stored
@@ -48,9 +49,9 @@ unit_planned plan plane =
     run_made (width_of plan.kind) (kept_numbers plane.layout.width plane.bytes (min plane.layout.pixels (array_values plan.shape.axes)) (offset_of plan.old -ℤ offset_of plan.kind))
     (data_length plan.shape)
 
--- it isn't made: a number can't be stored, or it has too many bytes, or memory runs out
+-- it isn't made: a number can't be stored, or it has too many bytes, or memory runs out where it hasn't
 abbrev pub UnitFails : Option (List ℕ) → Option ℕ → ReshapeFault → Type 0
 UnitFails made len OutOfRange = made ≡ None
 UnitFails made len TooLarge = (is_some made ≡ true) × (len ≡ None)
-UnitFails made len Memory = Unit {0}
+UnitFails made len Memory = is_some len ≡ true
 UnitFails made len fault = ⊥

@@ -1,6 +1,7 @@
 //! The data unit of an array that is made another.
-ghost use Rattle.std.specs.Prelude.{◌≡◌, ◌≤◌, ◌<◌, ◌+◌, ◌*◌, ◌^◌, true, is_some, min, pos, IfNone, IfOk, IfSome, IfErr, OnErr, OnOk};
+ghost use Rattle.std.specs.Prelude.{◌≡◌, ◌≤◌, ◌<◌, ◌+◌, ◌*◌, ◌%◌, ◌^◌, true, is_some, min, pos, IfNone, IfOk, IfSome, IfErr, OnErr, OnOk};
 ghost use Rattle.fits_card.specs.Header.{header_length};
+ghost use Rattle.fits_plane.specs.Layout.{block_pixels};
 ghost use Rattle.fits_rules.specs.Image.{is_array};
 ghost use Rattle.fits_rules.specs.Size.{array_values, data_length};
 ghost use Rattle.fits_image.specs.Kind.{width_of};
@@ -55,6 +56,11 @@ pub(crate) fn reshape_unit(
     ensures layout { plane.new.layout ≡ plane.old.layout }
     ensures work { IsRead (min plane.old.layout.pixels (array_values plan.now.shape.axes))
         (plane_work plane.old) (plane_work plane.new) }
+
+    // Where it has too many bytes, most pixels are known by what is kept of their blocks.
+    ensures rest { IfNone len (plane.new.reads ≤ plane.old.reads
+        + min plane.old.layout.pixels (array_values plan.now.shape.axes)
+        % block_pixels plane.old.layout.width) }
 {
     let width = plan.kind.width();
     let count = kept_count(plane.layout().pixels, &plan.shape, plan.kind);

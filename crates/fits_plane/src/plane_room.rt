@@ -10,17 +10,19 @@ pub struct PlaneRoom {
 }
 
 impl Model for PlaneRoom {
-    ghost use Rattle.std.specs.Prelude.{ℕ, length};
+    ghost use Rattle.std.specs.Prelude.{◌≡◌, ℕ, length};
 
     ghost Value = { ℕ };
 
     ghost view = { λ room. length room.leaves.leaves };
+
+    ghost invariant = { λ room. room.leaves.joins ≡ 0 };
 }
 
 impl PlaneRoom {
     ghost use Rattle.std.specs.Prelude.{◌≡◌, ◌≤◌, ◌^◌, length, IfOk};
 
-    /// Room for so many blocks. No block is scanned.
+    /// Room for so many blocks. No block is scanned, and no node joined.
     pub fn new(alloc: Global, blocks: usize) -> Result<PlaneRoom, AllocError>
         requires few { blocks ≤ 2 ^ 62 }
         ensures { IfOk result (λ room. room ≡ blocks) }
@@ -31,7 +33,8 @@ impl PlaneRoom {
     }
 
     pub(crate) fn leaves(self) -> Tree<Leaf>
-        ensures { length result.leaves ≡ self }
+        ensures blocks { length result.leaves ≡ self }
+        ensures fresh { result.joins ≡ 0 }
     {
         self.leaves
     }

@@ -74,8 +74,9 @@ impl<S: Summary> Tree<S> {
         })
     }
 
-    /// Takes the leaves of another. Its own joins are counted on.
+    /// Takes the leaves of another, of which no node was joined. Its own joins are counted on.
     pub fn renew(&mut self, other: Tree<S>)
+        requires { other.joins ≡ 0 }
         ensures leaves { self.new.leaves ≡ other.leaves }
         ensures work { self.new.joins ≡ self.old.joins }
     {
