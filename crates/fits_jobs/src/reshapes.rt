@@ -66,7 +66,9 @@ fn image(alloc: Global, reshape: Reshape, noise: &mut Noise) -> Result<Vec<u8>, 
     push_details(alloc, &mut file, DETAILS, noise)?;
     end_header(&mut file)?;
     let rows = reshape.rows.unsigned_abs();
-    let words = rows.saturating_mul(32).saturating_mul(reshape.bits.unsigned_abs());
+    let words = rows
+        .saturating_mul(32)
+        .saturating_mul(reshape.bits.unsigned_abs());
     push_noise(&mut file, words, u64::MAX, noise)?;
     fill_block(&mut file, 0)?;
     Ok(file)

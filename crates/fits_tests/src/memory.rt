@@ -218,8 +218,7 @@ const RESHAPED_U16: &str =
     BSCALE  =                    1|BZERO   =                32768|END";
 
 /// Real numbers, and numbers that are scaled.
-const REALS: &str =
-    "XTENSION= 'IMAGE   '|BITPIX  = -32|NAXIS   = 0|PCOUNT  = 0|GCOUNT  = 1|END";
+const REALS: &str = "XTENSION= 'IMAGE   '|BITPIX  = -32|NAXIS   = 0|PCOUNT  = 0|GCOUNT  = 1|END";
 
 const SCALED: &str =
     "XTENSION= 'IMAGE   '|BITPIX  = 8|NAXIS   = 0|PCOUNT  = 0|GCOUNT  = 1|BSCALE  = 2|END";
