@@ -1,5 +1,6 @@
 pub mod CharacterLemmas
 pub mod ColumnLemmas
+pub mod DatasumLemmas
 pub mod FillLemmas
 pub mod StandardFacts
 pub mod SumLemmas

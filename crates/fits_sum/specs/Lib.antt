@@ -1,4 +1,5 @@
 pub mod ChecksumText
+pub mod DatasumCard
 pub mod Laws
 pub mod OnesComplement
 pub mod Words

@@ -9,7 +9,7 @@ mod ones_complement;
 mod words;
 
 pub use checksum_text::encode;
-pub use datasum::datasum_text;
+pub use datasum::{datasum_card, datasum_text};
 pub use fill::all_are;
 pub use ones_complement::fold;
 pub use words::{card_total, total, words_total};
