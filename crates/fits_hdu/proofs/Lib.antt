@@ -28,3 +28,4 @@ pub mod PlanLemmas
 pub mod ReshapedCountLemmas
 pub mod ReshapedNameLemmas
 pub mod ReshapedUnitLemmas
+pub mod StampedNameLemmas

@@ -1,6 +1,6 @@
 -- The pixels of an image of integers: their layout by the kind, and their values.
 use Rattle.std.proofs.Common.{nat_lt, ◌≡◌, ◌≤◌, ◌<◌, ℕ, ◌+◌, ◌*◌, ◌/◌, ◌^◌, Bool, true, false, cond, List, length, inl, inr, refl, ap, sym, ◌∙◌, subst, arith, Option, None, Some, ℤ, pos, negsuc, to_z, of_z}
-use Rattle.std.specs.Prelude.{Result, Ok, Err, IsTrue, unsigned_abs, not}
+use Rattle.std.specs.Prelude.{Result, Ok, Err, IsOk, IsTrue, unsigned_abs, not}
 use Rattle.std.specs.Int.{w128}
 use Rattle.std.proofs.Math.Nat.{mul-le-mul_left}
 use Rattle.std.proofs.lemmas.Bool.{eqb-true, or_cases}
@@ -213,6 +213,12 @@ unfolding painted
 painted-out shape hdu lo hi paint kind e within count out = rw (e, within, count, out) refl
 
 -- it is painted
+pub painted-may : (shape : Shape) (hdu : HduParts) (lo hi : List ℕ) (paint : LentPaint) (kind : Kind) → kind_in shape hdu.header.cards ≡ Some kind → lies_within shape.axes lo hi ≡ true → has_count paint (rectangle_size lo hi) ≡ true → can_store_paint (width_of kind) (offset_of kind) paint ≡ true
+    → IsOk (painted shape lo hi paint hdu)
+unfolding painted
+painted-may shape hdu lo hi paint kind e within count can = rw (e, within, count, can) refl
+
+-- and is painted
 pub painted-done : (shape : Shape) (header : Header) (old new : List ℕ) (lo hi : List ℕ) (paint : LentPaint) (kind : Kind) (width : ℕ) → kind_in shape header.cards ≡ Some kind → lies_within shape.axes lo hi ≡ true → width ≡ width_of kind
     → has_count paint (rectangle_size lo hi) ≡ true → can_store_paint (width_of kind) (offset_of kind) paint ≡ true → new ≡ rectangle_written width shape.axes lo hi (painted_number paint (offset_of kind)) old
     → painted shape lo hi paint (record { header = header; data_unit = old }) ≡ Ok (record { header = header; data_unit = new })

@@ -212,6 +212,10 @@ scaling_none old kind scaling e f = by (int_eq (offset_of old) (offset_of kind))
 pub room_left : (cards new : List (List ℕ)) (m room room' : ℕ) → length new ≤ room + m → 3 + m ≤ length cards → room' + length (spliced cards 2 (2 + m) new) ≡ room + length cards → 2 ≤ room'
 room_left cards new m room room' few within e = omega (arith, few, within, e, length-spliced cards new 2 (2 + m) (omega arith) (omega (arith, within)))
 
+-- so is what a reshape doesn't need
+pub room_stays : (cards new : List (List ℕ)) (m room room' : ℕ) → 3 + m ≤ length cards → room' + length (spliced cards 2 (2 + m) new) ≡ room + length cards → room + (2 + m) ≡ room' + length new
+room_stays cards new m room room' within e = omega (arith, within, e, length-spliced cards new 2 (2 + m) (omega arith) (omega (arith, within)))
+
 -- a header with cards that are written one after the other
 pub scaled_header : (h r s t : Header) (written scale zero : List (List ℕ)) (offset : ℤ) → r ≡ with_cards h written
     → s ≡ with_cards r (cards_after r.cards (replacing (length r.cards) (keyword_cards r.cards (codes "BSCALE  ")) scale))

@@ -150,19 +150,19 @@ no_image true cards (Some unit) hdu e = absurd (cc)
 no_image false cards unit hdu e = absurd (cc)
 
 -- so memory may run out for it
-pub no_memory : (kind old : Kind) (axes : List ℕ) (shape : Shape) (hdu : HduParts) (most : ℕ) → array_kind shape hdu.header.cards ≡ Some old → ReshapeFails (reshaped kind axes shape hdu) most Memory
+pub no_memory : (kind old : Kind) (axes : List ℕ) (shape : Shape) (hdu : HduParts) (most spare : ℕ) → array_kind shape hdu.header.cards ≡ Some old → ReshapeFails (reshaped kind axes shape hdu) most spare Memory
 unfolding reshaped
-no_memory kind old axes shape hdu most array made =
+no_memory kind old axes shape hdu most spare array made =
     no_image (can_reshape old kind axes shape hdu.header.cards) (cards_reshaped old kind axes shape hdu.header.cards) (unit_reshaped old kind axes shape hdu.data_unit) hdu (sym (ap (λ k. reshaped_by k kind axes shape hdu) array) ∙ made)
 
 -- a plan that isn't found says why
-pub plan_fails : (kind : Kind) (axes : List ℕ) (shape : Shape) (hdu : HduParts) (most : ℕ) (why : ReshapeFault) → PlanFails kind axes shape hdu.header.cards why → ReshapeFails (reshaped kind axes shape hdu) most why
+pub plan_fails : (kind : Kind) (axes : List ℕ) (shape : Shape) (hdu : HduParts) (most spare : ℕ) (why : ReshapeFault) → PlanFails kind axes shape hdu.header.cards why → ReshapeFails (reshaped kind axes shape hdu) most spare why
 unfolding reshaped
-plan_fails kind axes shape hdu most NotImage f = rw f refl
-plan_fails kind axes shape hdu most BadShape f = rw (f.1, f.2) refl
-plan_fails kind axes shape hdu most OutOfRange f = absurd f
-plan_fails kind axes shape hdu most TooLarge f = absurd f
-plan_fails kind axes shape hdu most Memory f = no_memory kind f.0 axes shape hdu most f.1
+plan_fails kind axes shape hdu most spare NotImage f = rw f refl
+plan_fails kind axes shape hdu most spare BadShape f = rw (f.1, f.2) refl
+plan_fails kind axes shape hdu most spare OutOfRange f = absurd f
+plan_fails kind axes shape hdu most spare TooLarge f = absurd f
+plan_fails kind axes shape hdu most spare Memory f = no_memory kind f.0 axes shape hdu most spare f.1
 
 -- what there is
 some_unit : (made : Option (List ℕ)) → is_some made ≡ true → (unit : List ℕ) × (made ≡ Some unit)
@@ -170,20 +170,20 @@ some_unit None e = absurd (cc)
 some_unit (Some unit) e = (unit, refl)
 
 -- a data unit that isn't made says why
-pub unit_fails : (primary : Bool) (kind : Kind) (axes : List ℕ) (shape : Shape) (hdu : HduParts) (plan : Reshaping) (len : Option ℕ) (count most : ℕ) (why : ReshapeFault) → IsHdu primary hdu → shape_of primary hdu.header.cards ≡ Ok shape → IsPlan kind axes shape hdu.header.cards plan
-    → count ≡ length (cards_reshaped plan.old kind axes shape hdu.header.cards) → IfNone len (most < header_length count + data_length plan.shape) → UnitFails (unit_reshaped plan.old kind axes shape hdu.data_unit) len why → ReshapeFails (reshaped kind axes shape hdu) most why
-unit_fails primary kind axes shape hdu plan len count most NotImage whole described p c past f = absurd f
-unit_fails primary kind axes shape hdu plan len count most BadShape whole described p c past f = absurd f
-unit_fails primary kind axes shape hdu plan len count most OutOfRange whole described p c past f = planned_is kind axes shape hdu plan p ∙ ap (λ u. reshaped_to (cards_reshaped plan.old kind axes shape hdu.header.cards) u hdu) f
-unit_fails primary kind axes shape hdu plan len count most TooLarge whole described p c past f =
+pub unit_fails : (primary : Bool) (kind : Kind) (axes : List ℕ) (shape : Shape) (hdu : HduParts) (plan : Reshaping) (len : Option ℕ) (count most spare : ℕ) (why : ReshapeFault) → IsHdu primary hdu → shape_of primary hdu.header.cards ≡ Ok shape → IsPlan kind axes shape hdu.header.cards plan
+    → count ≡ length (cards_reshaped plan.old kind axes shape hdu.header.cards) → IfNone len (most < header_length (count + spare) + data_length plan.shape) → UnitFails (unit_reshaped plan.old kind axes shape hdu.data_unit) len why → ReshapeFails (reshaped kind axes shape hdu) most spare why
+unit_fails primary kind axes shape hdu plan len count most spare NotImage whole described p c past f = absurd f
+unit_fails primary kind axes shape hdu plan len count most spare BadShape whole described p c past f = absurd f
+unit_fails primary kind axes shape hdu plan len count most spare OutOfRange whole described p c past f = planned_is kind axes shape hdu plan p ∙ ap (λ u. reshaped_to (cards_reshaped plan.old kind axes shape hdu.header.cards) u hdu) f
+unit_fails primary kind axes shape hdu plan len count most spare TooLarge whole described p c past f =
     let unit = some_unit (unit_reshaped plan.old kind axes shape hdu.data_unit) f.0 in
-    let large : most < header_length count + data_length plan.shape = subst (λ l. IfNone l (most < header_length count + data_length plan.shape)) f.1 past in
-    let size = made_long primary kind axes shape hdu plan unit.0 whole described p unit.1 in (
+    let large : most < header_length (count + spare) + data_length plan.shape = subst (λ l. IfNone l (most < header_length (count + spare) + data_length plan.shape)) f.1 past in
+    let size = unit_long kind axes shape hdu plan unit.0 p unit.1 in (
       with_unit plan.old kind axes shape hdu unit.0,
       made_is kind axes shape hdu plan unit.0 p unit.1,
-      omega (arith, large, size, ap header_length c),
+      omega (arith, large, size, ap (λ n. header_length (n + spare)) c),
     )
-unit_fails primary kind axes shape hdu plan len count most Memory whole described p c past f = no_memory kind plan.old axes shape hdu most p.array
+unit_fails primary kind axes shape hdu plan len count most spare Memory whole described p c past f = no_memory kind plan.old axes shape hdu most spare p.array
 
 -- ---- the work
 

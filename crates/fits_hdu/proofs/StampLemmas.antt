@@ -106,7 +106,7 @@ seam front x ys cards place e at =
     ap (slice_get cards) back ∙ (slice_get-get_or cards (length front) [] within ∙ ap Some (ap (λ xs. get_or xs (length front) []) e ∙ get_or-append_seam front x ys []))
 
 -- where a keyword's cards stand is after the last axis
-set_after : (primary : Bool) (name : List ℕ) (cards after : List (List ℕ)) (card : List ℕ) (shape : Shape) → Describes primary cards shape → IsLow name → (w : IsSet name cards after card) → (gone : List (List ℕ)) → w.gone ≡ gone → 3 + length shape.axes < w.place
+pub set_after : (primary : Bool) (name : List ℕ) (cards after : List (List ℕ)) (card : List ℕ) (shape : Shape) → Describes primary cards shape → IsLow name → (w : IsSet name cards after card) → (gone : List (List ℕ)) → w.gone ≡ gone → 3 + length shape.axes < w.place
 set_after primary name cards after card shape d low w [] e = omega (arith, w.last e, described_within primary cards shape d)
 set_after primary name cards after card shape d low w (first ∷ others) e =
     let own : IsOwn name first = All-head (IsOwn name) first others (subst (All (IsOwn name)) e w.own) in

@@ -1,13 +1,13 @@
 -- The steps of a stamp.
-use Rattle.std.proofs.Common.{◌≡◌, inl, inr, ℕ, suc, ◌+◌, ◌-◌, ◌%◌, ◌^◌, ◌<◌, ◌≤◌, Bool, false, eqb, set, List, [], ◌∷◌, ◌++◌, length, get_or, take, drop, replicate, codes, refl, ap, sym, ◌∙◌, subst, arith, All, Option, None, Some}
+use Rattle.std.proofs.Common.{◌≡◌, inl, inr, ℕ, ◌+◌, ◌-◌, ◌%◌, ◌^◌, ◌<◌, ◌≤◌, Bool, false, eqb, set, List, [], ◌∷◌, ◌++◌, length, get_or, drop, replicate, codes, refl, ap, sym, ◌∙◌, subst, arith, All, Option, None, Some}
 use Rattle.std.specs.Prelude.{◌≢◌, Ok, IsTrue}
 use Rattle.std.specs.Fmt.{decimal}
 use Rattle.std.specs.Option.{option_map, option_map_or}
 use Rattle.std.proofs.lemmas.Bool.{cases_Bool, cond-false, cond-true}
-use Rattle.std.proofs.lemmas.List.{append_assoc, drop-replicate, take-replicate, length-append, length-replicate}
+use Rattle.std.proofs.lemmas.List.{append-nil, append_assoc, drop-replicate, length-append}
 use Rattle.std.proofs.lemmas.List.Elements.{All-cons, All-nil}
 use Rattle.std.proofs.lemmas.Slice.Eq.{bytes_eq-Decides}
-use Rattle.fits_card.specs.Card.{IsEnd, IsText, is_end, is_text, keyword_name}
+use Rattle.fits_card.specs.Card.{card_of_text, IsEnd, IsText, is_end, is_text, keyword_name}
 use Rattle.fits_card.specs.Change.{IsInRange, cards_after, new_cards}
 use Rattle.fits_card.specs.Header.{Header, IsInnerCard, header_bytes}
 use Rattle.fits_card.specs.Name.{end_name, is_valueless}
@@ -24,6 +24,7 @@ use Rattle.fits_rules.specs.Shape.{shape_of}
 use Rattle.fits_rules.specs.declared.array_shape.Shape.{Shape}
 use Rattle.fits_rules.proofs.SameShapeLemmas.{same_shape-Decides}
 use Rattle.fits_sum.specs.ChecksumText.{checksum_text, zeros}
+use Rattle.fits_sum.specs.DatasumCard.{datasum_card}
 use Rattle.fits_sum.specs.OnesComplement.{ones_complement}
 use Rattle.fits_sum.specs.Words.{word_total}
 use Rattle.fits_sum.proofs.SumLemmas.{ones_complement-add}
@@ -31,7 +32,7 @@ use Rattle.fits_sum.proofs.WordLemmas.{totals_add}
 use Rattle.fits_hdu.specs.Hdu.{HduParts, IsHdu, hdu_after, hdu_bytes, keeps_shape}
 use Rattle.fits_hdu.specs.Keyword.{keyword_cards, own_count, replacing}
 use Rattle.fits_hdu.specs.Layout.{blank_number, layout_by, layout_of}
-use Rattle.fits_hdu.specs.Stamp.{IsOneCard, IsSumName, stamped, with_datasum, with_keyword, with_string}
+use Rattle.fits_hdu.specs.Stamp.{DatasumIsWritten, IsOneCard, IsSumName, stamped, with_datasum, with_keyword, with_string}
 use Rattle.fits_hdu.specs.State.{HduState, ReadsUpTo}
 use Rattle.fits_hdu.specs.Sums.{data_sum, hdu_sum}
 use Rattle.fits_hdu.specs.Work.{FollowsBlank, PixelWork, apply_reads, keyword_reads, stamp_count_reads, stamp_reads}
@@ -41,10 +42,10 @@ use Rattle.fits_hdu.proofs.SettingLemmas.{IsKept, IsSet, chain_alone, chain_from
 use Rattle.fits_image.proofs.LeadFromLemmas.{from_lead, lead_card_is}
 use Rattle.fits_hdu.proofs.StampLemmas.{IsLow, set_keeps_shape}
 use Rattle.fits_image.proofs.PlainTextLemmas.{IsPlain, decimal_plain, plain_card, plain_ends, plain_named, plain_size, plain_string, plain_valued, plain_written}
-use Rattle.fits_hdu.proofs.StampTextLemmas.{text_plain, zeros_plain}
+use Rattle.fits_hdu.proofs.StampTextLemmas.{text_long, text_plain, zeros_plain}
 
 -- the two names are low
-sum_low : (name : List ℕ) → IsSumName name → IsLow name
+pub sum_low : (name : List ℕ) → IsSumName name → IsLow name
 sum_low name (inl e) = rw e (record { above = omega arith; below = omega arith; second = λ e. omega (arith, e) })
 sum_low name (inr e) = rw e (record { above = omega arith; below = omega arith; second = λ e. omega (arith, e) })
 
@@ -204,11 +205,31 @@ plain_one name text cards low p is = record {
 pub zeros_one : (cards : List (List ℕ)) → cards ≡ plain_card (codes "CHECKSUM") zeros ∷ [] → IsOneCard (codes "CHECKSUM") cards
 zeros_one cards is = plain_one (codes "CHECKSUM") zeros cards (inr refl) zeros_plain is
 
+-- the card of a DATASUM is the one that is written
+pub datasum_written : (sum : ℕ) → datasum_card sum ≡ plain_card (codes "DATASUM ") (decimal sum)
+unfolding datasum_card
+datasum_written sum = ap (λ xs. card_of_text (codes "DATASUM = '" ++ xs)) (sym (append_assoc (decimal sum) (replicate (8 - length (decimal sum)) 32) (codes "'")))
+
+-- where it is set
+pub datasum_is_written : DatasumIsWritten
+datasum_is_written sum small = plain_written (codes "DATASUM ") (decimal sum) refl (decimal_plain sum small) ∙ ap (λ (card : List ℕ). Some (card ∷ [])) (sym (datasum_written sum))
+
+-- that of a CHECKSUM too
+pub checksum_written : (text : List ℕ) → length text ≡ 16 → card_of_text (codes "CHECKSUM= '" ++ (text ++ codes "'")) ≡ plain_card (codes "CHECKSUM") text
+checksum_written text size =
+    let none : 8 - length text ≡ 0 = omega (arith, size) in
+    let all : text ++ replicate (8 - length text) 32 ≡ text = ap (λ n. text ++ replicate n 32) none ∙ append-nil text in
+    ap (λ xs. card_of_text (codes "CHECKSUM= '" ++ (xs ++ codes "'"))) (sym all)
+
 -- so is the sum of the data unit
 pub datasum_one : (hdu : HduParts) (cards : List (List ℕ)) → cards ≡ plain_card (codes "DATASUM ") (decimal (data_sum hdu)) ∷ [] → IsOneCard (codes "DATASUM ") cards
 datasum_one hdu cards is = plain_one (codes "DATASUM ") (decimal (data_sum hdu)) cards (inl refl) (decimal_plain (data_sum hdu) (data_small hdu)) is
 
--- and the text of a checksum
+-- the text of a checksum has sixteen characters
+pub text_size : (hdu : HduParts) → length (checksum_text (hdu_sum hdu)) ≡ 16
+text_size hdu = text_long (hdu_sum hdu) (hdu_small hdu)
+
+-- and is one card
 pub text_one : (hdu : HduParts) (cards : List (List ℕ)) → cards ≡ plain_card (codes "CHECKSUM") (checksum_text (hdu_sum hdu)) ∷ [] → IsOneCard (codes "CHECKSUM") cards
 text_one hdu cards is = plain_one (codes "CHECKSUM") (checksum_text (hdu_sum hdu)) cards (inr refl) (text_plain (hdu_sum hdu) (hdu_small hdu)) is
 
@@ -328,38 +349,17 @@ sum_parts primary hdu header sum p e f =
     let words : length (header_bytes hdu.header) % 4 ≡ 0 = omega (arith, length-header_bytes hdu.header p.header, p.header.fill_size, fill_length-by_cards (length hdu.header.cards)) in
     rw (e, f) (sym (ap ones_complement (totals_add (header_bytes hdu.header) hdu.data_unit words) ∙ ones_complement-add (word_total (header_bytes hdu.header)) (word_total hdu.data_unit)))
 
--- its parts, joined in another order
-joined_bytes : (name text fill rest : List ℕ) → name ++ (codes "= '" ++ (text ++ (fill ++ 39 ∷ rest))) ≡ (name ++ codes "= " ++ (codes "'" ++ (text ++ fill) ++ codes "'")) ++ rest
-joined_bytes name text fill rest =
-    let body : List ℕ = codes "'" ++ (text ++ fill) ++ codes "'" in
-    sym (
-    append_assoc (name ++ codes "= ") body rest
-    ∙ (append_assoc name (codes "= ") (body ++ rest)
-    ∙ ap (λ (xs : List ℕ). name ++ (codes "= '" ++ xs)) (append_assoc (text ++ fill) (codes "'") rest ∙ append_assoc text fill (39 ∷ rest)))
-    )
-
--- the bytes of a card of a stamp
-pub sum_bytes : (name text fill rest : List ℕ) (n : ℕ) → length name ≡ 8 → length text ≤ 16 → n ≡ 8 - length text → fill ≡ replicate n 32 → rest ≡ replicate (69 - length text - n) 32
-    → name ++ (codes "= '" ++ (text ++ (fill ++ set rest 0 39))) ≡ plain_card name text
-sum_bytes name text fill rest n size few is e f =
-    let more = 68 - length text - n in
-    let back : 69 - length text - n ≡ suc more = omega (arith, few, is) in
-    let tail : set rest 0 39 ≡ 39 ∷ replicate more 32 = rw (f, back) refl in
-    let whole : length (name ++ codes "= " ++ (codes "'" ++ (text ++ replicate n 32) ++ codes "'")) ≡ 12 + length text + n =
-    omega (arith, size, length-append (name ++ codes "= ") (codes "'" ++ (text ++ replicate n 32) ++ codes "'"), length-append name (codes "= "), length-append (codes "'" ++ (text ++ replicate n 32)) (codes "'"), length-append text (replicate n 32), length-replicate {A = ℕ} n 32) in
-    let left : 80 - length (name ++ codes "= " ++ (codes "'" ++ (text ++ replicate n 32) ++ codes "'")) ≡ more = omega (arith, whole) in
-    rw (tail, e, ← is, left) (joined_bytes name text (replicate n 32) (replicate more 32))
-
--- the same of the parts that were written
-pub sum_card_bytes : (name text a b t first second third fill rest : List ℕ) (n : ℕ) → a ≡ name → length a ≡ 8 → b ≡ codes "= '" → t ≡ text → length text ≤ 16 → n ≡ 8 - length text
-    → first ≡ drop 8 (replicate 80 32) → second ≡ drop 3 first → third ≡ drop (length text) second → fill ≡ take n third → rest ≡ drop n third → a ++ (b ++ (t ++ (fill ++ set rest 0 39))) ≡ plain_card name text
-sum_card_bytes name text a b t first second third fill rest n e size f g few is p q r u v =
-    let one : first ≡ replicate 72 32 = p ∙ drop-replicate 8 80 32 in
-    let two : second ≡ replicate 69 32 = q ∙ (ap (drop 3) one ∙ drop-replicate 3 72 32) in
-    let three : third ≡ replicate (69 - length text) 32 = r ∙ (ap (drop (length text)) two ∙ drop-replicate (length text) 69 32) in
-    let cut : fill ≡ replicate n 32 = u ∙ (ap (take n) three ∙ take-replicate n (69 - length text) 32 (omega (arith, few, is))) in
-    let left : rest ≡ replicate (69 - length text - n) 32 = v ∙ (ap (drop n) three ∙ drop-replicate n (69 - length text) 32) in
-    rw (e, f, g) (sum_bytes name text fill rest n (sym (ap length e) ∙ size) few is cut left)
+-- the bytes of the card of a CHECKSUM, by the parts that were written
+pub checksum_bytes : (text a t first rest : List ℕ) → a ≡ codes "CHECKSUM= '" → t ≡ text → length text ≡ 16 → first ≡ drop 11 (replicate 80 32) → rest ≡ drop 16 first → a ++ (t ++ set rest 0 39) ≡ card_of_text (codes "CHECKSUM= '" ++ (text ++ codes "'"))
+checksum_bytes text a t first rest e f size p q =
+    let one : first ≡ replicate 69 32 = p ∙ drop-replicate 11 80 32 in
+    let two : rest ≡ replicate 53 32 = q ∙ (ap (drop 16) one ∙ drop-replicate 16 69 32) in
+    let tail : set rest 0 39 ≡ 39 ∷ replicate 52 32 = rw two refl in
+    let front : List ℕ = codes "CHECKSUM= '" ++ (text ++ codes "'") in
+    let left : 80 - length front ≡ 52 = omega (arith, size, length-append (codes "CHECKSUM= '") (text ++ codes "'"), length-append text (codes "'")) in
+    let joined : codes "CHECKSUM= '" ++ (text ++ (39 ∷ replicate 52 32)) ≡ front ++ replicate 52 32 =
+    sym (append_assoc (codes "CHECKSUM= '") (text ++ codes "'") (replicate 52 32) ∙ ap (λ xs. codes "CHECKSUM= '" ++ xs) (append_assoc text (codes "'") (replicate 52 32))) in
+    rw (e, f, tail, left) joined
 
 -- how many cards a stamped header has
 pub stamp_count : (hdu : HduParts) → length (stamped hdu).header.cards + own_count hdu.header.cards (codes "CHECKSUM") + own_count hdu.header.cards (codes "DATASUM ") ≡ length hdu.header.cards + 2
@@ -397,6 +397,7 @@ count_reads a b c p q =
         most = omega (arith, p.header.most, q.header.most, same);
       };
       entry = q.entry ∙ p.entry;
+      kept = q.kept ∙ p.kept;
       plane = q.plane ∙ p.plane;
     }
 
@@ -442,5 +443,3 @@ pub ruleset count_steps = (count_reads)
 pub ruleset stamp_steps = (zeros_one, datasum_one, text_one, stamped_by, datasum_reads, checksum_reads, stamp_most, stamp_bytes)
 
 pub ruleset sum_steps = (sum_parts)
-
-pub ruleset card_steps = (sum_bytes)

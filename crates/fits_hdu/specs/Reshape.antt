@@ -3,7 +3,7 @@
 use Rattle.std.specs.Prelude.{◌≡◌, ◌⊎◌, ◌≢◌, ◌↔◌, ℕ, ◌+◌, ◌*◌, ◌^◌, ◌<◌, ◌&&◌, Bool, true, false, not, min, ℤ, pos, ◌-ℤ◌, unsigned_abs, List, length, codes, Option, None, Some, Result, Ok, Err, if◌then◌else◌}
 use Rattle.std.specs.Ordering.{int_eq}
 use Rattle.fits_card.specs.Change.{cards_after, spliced}
-use Rattle.fits_card.specs.Header.{with_cards}
+use Rattle.fits_card.specs.Header.{header_length, with_cards}
 use Rattle.fits_plane.specs.Converting.{KeepsValues, kept_numbers, run_made}
 use Rattle.fits_rules.specs.Class.{is_primary}
 use Rattle.fits_rules.specs.Lead.{lead_card}
@@ -15,7 +15,7 @@ use Rattle.fits_image.specs.ImageCards.{are_axes, shape_cards, written_number}
 use Rattle.fits_image.specs.Kind.{array_kind, has_offset, is_plain, offset_of, width_of}
 use Rattle.fits_image.specs.declared.kind.Kind.{Kind}
 use Rattle.fits_hdu.specs.ExtensionName.{extension_name}
-use Rattle.fits_hdu.specs.Hdu.{HduParts, IsHdu, hdu_bytes}
+use Rattle.fits_hdu.specs.Hdu.{HduParts, IsHdu}
 use Rattle.fits_hdu.specs.Keyword.{keyword_cards, replacing}
 use Rattle.fits_hdu.specs.declared.reshape_fault.ReshapeFault.{ReshapeFault}
 use Rattle.fits_hdu.specs.declared.reshape_fault.ReshapeFault.TheVariants.{NotImage, BadShape, OutOfRange, TooLarge, Memory}
@@ -90,11 +90,15 @@ reshaped_by (Some old) kind axes shape hdu =
 unfoldable pub reshaped : Kind → List ℕ → Shape → HduParts → Result HduParts ReshapeFault
 reshaped kind axes shape hdu = reshaped_by (array_kind shape hdu.header.cards) kind axes shape hdu
 
--- why it isn't made so, or would have more bytes than so many; memory may run out for an array of integers
-abbrev pub ReshapeFails : Result HduParts ReshapeFault → ℕ → ReshapeFault → Type 0
-ReshapeFails made most TooLarge = (hdu : HduParts) × (made ≡ Ok hdu) × (most < length (hdu_bytes hdu))
-ReshapeFails made most Memory = made ≢ Err NotImage
-ReshapeFails made most fault = made ≡ Err fault
+-- how many bytes an HDU has with so many cards more
+abbrev pub length_spared : ℕ → HduParts → ℕ
+length_spared spare hdu = header_length (length hdu.header.cards + spare) + length hdu.data_unit
+
+-- why it isn't made so, or would have more bytes than so many with some cards more; memory may run out for an array of integers
+abbrev pub ReshapeFails : Result HduParts ReshapeFault → (most spare : ℕ) → ReshapeFault → Type 0
+ReshapeFails made most spare TooLarge = (hdu : HduParts) × (made ≡ Ok hdu) × (most < length_spared spare hdu)
+ReshapeFails made most spare Memory = made ≢ Err NotImage
+ReshapeFails made most spare fault = made ≡ Err fault
 
 -- cards that scale describe the shape that they did
 abbrev pub ScalingKeepsShapes : Type 0

@@ -1,5 +1,5 @@
 -- What an HDU under edits is to its callers.
-use Rattle.std.specs.Prelude.{◌≡◌, ℕ, Ok, Option}
+use Rattle.std.specs.Prelude.{◌≡◌, ℕ, Bool, Ok, Option}
 use Rattle.fits_rules.specs.Class.{is_primary}
 use Rattle.fits_rules.specs.Shape.{shape_of}
 use Rattle.fits_header.specs.State.{HeaderState}
@@ -9,11 +9,13 @@ use Rattle.fits_hdu.specs.ExtensionName.{extension_name}
 use Rattle.fits_hdu.specs.Hdu.{HduParts}
 use Rattle.fits_hdu.specs.declared.extension_name.ExtensionName.{ExtensionName}
 
--- its header, its data unit, read as its cards say, and where its name stands in a table of names, if its holder said so
+-- its header, its data unit, read as its cards say, where its name stands in a table of names, if its holder said so, and whether that
+-- keeps it stamped
 pub record HduState : Type 0 where
   pub header : HeaderState
   pub plane : PlaneState
   pub entry : Option ℕ
+  pub kept : Bool
 
 -- its parts: what stands in a file
 abbrev pub parts_of : HduState → HduParts
@@ -32,3 +34,4 @@ pub record ReadsUpTo (old new : HduState) (count : ℕ) : Type 0 where
   pub header : header.ReadsUpTo old.header new.header count
   pub plane : new.plane ≡ old.plane
   pub entry : new.entry ≡ old.entry
+  pub kept : new.kept ≡ old.kept

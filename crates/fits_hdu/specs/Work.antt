@@ -1,5 +1,5 @@
 -- How much work the calls of an HDU are at most: cards read, blocks scanned, pixels read, nodes joined (own).
-use Rattle.std.specs.Prelude.{◌≡◌, ◌⊎◌, ℕ, ◌+◌, ◌*◌, ◌^◌, ◌≤◌, ℤ, List, length, codes, Option, None, Some, if◌then◌else◌}
+use Rattle.std.specs.Prelude.{◌≡◌, ◌⊎◌, ℕ, ◌+◌, ◌*◌, ◌^◌, ◌≤◌, ℤ, List, length, codes, false, Option, None, Some, if◌then◌else◌}
 use Rattle.std.specs.Ordering.{int_eq}
 use Rattle.std.specs.Option.{option_map_or}
 use Rattle.fits_value.specs.Says.{chain_length}
@@ -70,10 +70,12 @@ pub record IsScanned (blocks : ℕ) (work : PixelWork) : Type 0 where
   pub reads : work.reads ≡ 0
   pub joins : (d : ℕ) → blocks ≤ 2 ^ d → work.joins ≤ 2 ^ d
 
--- an HDU was opened, and so many of its cards were read more at most; each block of its data unit was scanned once, and no pixel read
+-- an HDU was opened, and so many of its cards were read more at most; each block of its data unit was scanned once, and no pixel read;
+-- nobody keeps it stamped
 pub record IsOpened (more : ℕ) (hdu : HduState) : Type 0 where
   pub reads : hdu.header.reads ≤ open_reads hdu.header.header.cards + more
   pub scans : IsScanned (block_count hdu.plane.bytes) (plane_work hdu.plane)
+  pub kept : hdu.kept ≡ false
 
 -- a data unit of so many blocks was made: each was scanned once at most, and no pixel read
 pub record IsMade (blocks : ℕ) (work : PixelWork) : Type 0 where

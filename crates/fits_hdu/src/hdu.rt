@@ -41,6 +41,8 @@ pub struct Hdu {
     sums: SumKeywords,
     // Where its name stands in a table of names, as its holder said last.
     entry: Option<usize>,
+    // Whether its holder keeps it stamped.
+    kept: bool,
 }
 
 impl Model for Hdu {
@@ -56,7 +58,7 @@ impl Model for Hdu {
 
     ghost Value = { HduState };
 
-    ghost view = { λ it. record { header = it.header; plane = it.plane; entry = it.entry } };
+    ghost view = { λ it. record { header = it.header; plane = it.plane; entry = it.entry; kept = it.kept } };
 
     ghost invariant = { λ it. record {
       described : shape_of (is_primary it.header.shape.class) it.header.header.cards
@@ -70,7 +72,7 @@ impl Model for Hdu {
 }
 
 impl Hdu {
-    ghost use Rattle.std.specs.Prelude.{◌≡◌, ◌+◌, ◌^◌, ◌≤◌, ◌<◌, true, length, take, drop, All, None, Ok, IsOk, IfOk, IfErr, IsErrOf, OnOk, OnErr, IsTrue};
+    ghost use Rattle.std.specs.Prelude.{◌≡◌, ◌+◌, ◌^◌, ◌≤◌, ◌<◌, true, false, length, take, drop, All, None, Ok, IsOk, IfOk, IfErr, IsErrOf, OnOk, OnErr, IsTrue};
     ghost use Rattle.fits_card.specs.Card.{IsEnd};
     ghost use Rattle.fits_card.specs.Change.{cards_after, new_cards, IsInRange};
     ghost use Rattle.fits_card.specs.Header.{HasNoHeader, header_bytes};
@@ -134,6 +136,7 @@ impl Hdu {
         ensures header { IfOk result (λ it. it.header.header ≡ cards.header) }
         ensures unit { IfOk result (λ it. it.plane.bytes ≡ data_unit.items) }
         ensures shape { IfOk result (λ it. it.header.shape ≡ shape) }
+        ensures kept { IfOk result (λ it. it.kept ≡ false) }
         ensures work { IfOk result (λ it. it.header.reads
             ≤ cards.reads + length cards.header.cards + apply_reads) }
         ensures least { IfOk result (λ it. cards.reads ≤ it.header.reads) }
@@ -163,6 +166,7 @@ impl Hdu {
         ensures least { header.reads ≤ result.header.reads }
         ensures scans { plane_work result.plane ≡ plane_work plane }
         ensures entry { result.entry ≡ None }
+        ensures kept { result.kept ≡ false }
     {
         let mark = header.mark();
         let kind = image_kind(&mut header);
@@ -174,6 +178,7 @@ impl Hdu {
             kind,
             sums,
             entry: None,
+            kept: false,
         }
     }
 
@@ -277,6 +282,20 @@ impl Hdu {
         self.entry = entry;
     }
 
+    /// Whether its holder keeps it stamped, as `set_kept` said last.
+    pub fn kept(&self) -> bool
+        ensures { result ≡ self.now.kept }
+    {
+        self.kept
+    }
+
+    /// Says whether its holder keeps it stamped. Nothing else changes.
+    pub fn set_kept(&mut self, kept: bool)
+        ensures { self.new ≡ record self.old { kept = kept } }
+    {
+        self.kept = kept;
+    }
+
     /// Makes room for this many more cards. It fails only where room was missing.
     pub fn reserve(&mut self, additional: usize) -> Result<(), AllocError>
         ensures ok { OnOk result (additional ≤ self.new.header.room) }
@@ -366,6 +385,7 @@ impl Hdu {
         ensures work { self.new.header.reads ≤ self.old.header.reads + apply_reads }
         ensures least { self.old.header.reads ≤ self.new.header.reads }
         ensures entry { self.new.entry ≡ self.old.entry }
+        ensures kept { self.new.kept ≡ self.old.kept }
         ensures described { IsDescribed self.new }
 
         // The data unit is scanned again where the number that BLANK says changes.

@@ -20,7 +20,7 @@ ghost use Rattle.fits_image.specs.ImageCards.{are_axes, image_cards, image_shape
 ghost use Rattle.fits_hdu.specs.NewImage.{new_image};
 ghost use Rattle.fits_hdu.specs.Pixels.{painted};
 ghost use Rattle.fits_hdu.specs.Reshape.{ReshapedIsHdu, ReshapingKeepsNames, ReshapingKeepsValues, ReshapingLeavesLeads, ScalingGivesOffset, ScalingKeepsShapes};
-ghost use Rattle.fits_hdu.specs.Stamp.{stamped};
+ghost use Rattle.fits_hdu.specs.Stamp.{stamped, DatasumIsWritten, StampingKeepsNames};
 ghost use Rattle.fits_hdu.specs.Sums.{hdu_sum, verdicts_of};
 ghost use Rattle.fits_hdu.specs.declared.verdict.Verdict.TheVariants.{Right};
 
@@ -142,4 +142,15 @@ pub fn a_reshape_leaves_other_leads()
 /// What an HDU is called stays where it is made another array (FITS Standard 4.0, section 4.4.2.6).
 pub fn a_reshaped_hdu_keeps_its_name()
     ensures { ReshapingKeepsNames }
+{}
+
+/// What an HDU is called stays where it is stamped (FITS Standard 4.0, section 4.4.2.6).
+pub fn a_stamped_hdu_keeps_its_name()
+    ensures { StampingKeepsNames }
+{}
+
+/// The card of a sum is the one that setting DATASUM to its digits writes (FITS Standard 4.0, section
+/// 4.4.2.7).
+pub fn a_datasum_card_is_written()
+    ensures { DatasumIsWritten }
 {}

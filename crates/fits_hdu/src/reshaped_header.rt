@@ -56,6 +56,8 @@ pub(crate) fn rewrite(header: &mut Header, plan: Reshaping)
     ensures least { header.old.reads ≤ header.new.reads }
     ensures work { header.new.reads ≤ header.old.reads
         + scaling_reads plan.old plan.kind header.old.header.cards }
+    ensures left { header.old.room + length header.old.shape.axes
+        ≤ header.new.room + length (new_cards plan.change) }
 {
     let _described = header.shape();
     let Reshaping {

@@ -18,18 +18,19 @@ use fits_plane::Plane;
 use fits_rules::{Shape, data_bytes};
 use std::alloc::Global;
 
-/// How many bytes the data unit has that a shape describes, where it and a header of so many cards
-/// have no more than may be.
-pub(crate) fn unit_within(shape: &Shape, cards: usize, most: usize) -> Option<usize>
+/// How many bytes the data unit has that a shape describes, where it and a header of so many cards,
+/// and as many more as are to be spared, have no more than may be.
+pub(crate) fn unit_within(shape: &Shape, cards: usize, spare: usize, most: usize) -> Option<usize>
     requires most { most ≤ 2 ^ 34 }
     ensures some { IfSome result (λ len. len ≡ data_length shape.now) }
-    ensures within { IfSome result (λ len. header_length cards + len ≤ most) }
-    ensures none { IfNone result (most < header_length cards + data_length shape.now) }
+    ensures within { IfSome result (λ len. header_length (cards + spare) + len ≤ most) }
+    ensures none { IfNone result (most < header_length (cards + spare) + data_length shape.now) }
 {
-    if cards > most / CARD_LEN {
+    let most_cards = most / CARD_LEN;
+    if cards > most_cards || spare > most_cards - cards {
         return None;
     }
-    let header = header_len(cards);
+    let header = header_len(cards + spare);
     if most < header {
         return None;
     }

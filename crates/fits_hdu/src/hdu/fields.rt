@@ -28,6 +28,7 @@ fn fields(rt: HostRuntime) -> Result<(), Fail> {
         kind,
         sums,
         entry,
+        kept,
     } = hdu;
     let header: Header = header;
     let plane: Plane = plane;
@@ -35,6 +36,7 @@ fn fields(rt: HostRuntime) -> Result<(), Fail> {
     plain::<Option<Kind>>(kind);
     plain::<SumKeywords>(sums);
     plain::<Option<usize>>(entry);
+    plain::<bool>(kept);
     assert_eq!(rt; header.len(), 3);
     assert_eq!(rt; plane.byte_len(), 0);
     Ok(())

@@ -11,7 +11,7 @@ use std::alloc::{AllocError, Global};
 const LARGEST_UNIT: usize = 1 << 34;
 
 impl Hdu {
-    ghost use Rattle.std.specs.Prelude.{◌≡◌, ◌^◌, ◌≤◌, true, length, None, IfOk};
+    ghost use Rattle.std.specs.Prelude.{◌≡◌, ◌^◌, ◌≤◌, true, false, length, None, IfOk};
     ghost use Rattle.fits_plane.specs.Layout.{block_count};
     ghost use Rattle.fits_hdu.specs.Hdu.{hdu_bytes};
     ghost use Rattle.fits_image.specs.ImageCards.{are_axes, image_shape};
@@ -33,6 +33,7 @@ impl Hdu {
         ensures described { IfOk result (λ it. IsDescribed it) }
         ensures unnamed { IfOk result (λ it. name_of it ≡ None) }
         ensures entry { IfOk result (λ it. it.entry ≡ None) }
+        ensures kept { IfOk result (λ it. it.kept ≡ false) }
         ensures work { IfOk result (λ it. it.header.reads ≤ open_reads it.header.header.cards) }
         ensures scans { IfOk result (λ it. IsMade (block_count it.plane.bytes)
             (plane_work it.plane)) }

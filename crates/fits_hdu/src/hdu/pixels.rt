@@ -1,14 +1,18 @@
 //! The pixels of an HDU that is an image of integers.
 use super::Hdu;
 use crate::pixel_fault::PixelFault;
+use fits_image::Kind;
 use fits_plane::{LentPaint, ValueSummary, is_rectangle, rectangle_len};
 use std::alloc::Global;
 
 impl Hdu {
-    ghost use Rattle.std.specs.Prelude.{◌≡◌, ◌≤◌, ◌+◌, ◌^◌, length, Ok, Err, IsOk, IfOk, IfErr, OnOk, OnErr};
+    ghost use Rattle.std.specs.Prelude.{◌≡◌, ◌≤◌, ◌<◌, ◌+◌, ◌^◌, ℕ, true, length, Some, Ok, Err, IsOk, IfOk, IfErr, OnOk, OnErr};
     ghost use Rattle.fits_plane.specs.Layout.{block_count};
-    ghost use Rattle.fits_plane.specs.Rectangle.{rectangle_size};
+    ghost use Rattle.fits_plane.specs.Paint.{can_store_paint, has_count, painted_number};
+    ghost use Rattle.fits_plane.specs.Pixels.{IsStorable};
+    ghost use Rattle.fits_plane.specs.Rectangle.{lies_within, rectangle_size, IsRectangle};
     ghost use Rattle.fits_plane.specs.Work.{rectangle_blocks};
+    ghost use Rattle.fits_image.specs.Kind.{kind_in, offset_of, width_of};
     ghost use Rattle.fits_hdu.specs.Layout.{layout_of};
     ghost use Rattle.fits_hdu.specs.Pixels.{painted, rect_of, stats_of, RectFails};
     ghost use Rattle.fits_hdu.specs.State.{parts_of, IsDescribed};
@@ -71,6 +75,40 @@ impl Hdu {
             (plane_work self.old.plane) (plane_work self.new.plane)) }
         ensures described { IsDescribed self.old }
     {
+        let kind = self.paintable(lo, hi, paint)?;
+        let axes = self.header.shape().axes.as_slice();
+        self.plane.paint_rect(axes, lo, hi, paint, kind.offset());
+        Ok(())
+    }
+
+    /// Whether a rectangle of pixels may be painted so, or the first test that fails. It takes no
+    /// memory, and nothing is read.
+    #[tactic(auto, using(crate::proofs::PixelLemmas::pixel_steps))]
+    pub fn may_paint(&self, lo: &[u64], hi: &[u64], paint: &LentPaint) -> Result<(), PixelFault>
+        ensures ok { OnOk result (IsOk (painted
+            self.now.header.shape lo.now hi.now paint.now (parts_of self.now))) }
+        ensures err { IfErr result (λ why. painted self.now.header.shape lo.now hi.now paint.now
+            (parts_of self.now) ≡ Err why) }
+    {
+        self.paintable(lo, hi, paint)?;
+        Ok(())
+    }
+
+    // The kind of its pixels, where a rectangle of them may be painted so.
+    #[tactic(auto, using(crate::proofs::PixelLemmas::pixel_steps))]
+    fn paintable(&self, lo: &[u64], hi: &[u64], paint: &LentPaint) -> Result<Kind, PixelFault>
+        ensures kind { IfOk result (λ kind. kind_in self.now.header.shape
+            self.now.header.header.cards ≡ Some kind) }
+        ensures within { OnOk result (lies_within self.now.header.shape.axes lo.now hi.now ≡ true) }
+        ensures rectangle { OnOk result (IsRectangle self.now.header.shape.axes lo.now hi.now) }
+        ensures count { OnOk result (has_count paint.now (rectangle_size lo.now hi.now) ≡ true) }
+        ensures can { IfOk result (λ kind.
+            can_store_paint (width_of kind) (offset_of kind) paint.now ≡ true) }
+        ensures numbers { IfOk result (λ kind. (k : ℕ) → k < rectangle_size lo.now hi.now
+            → IsStorable (width_of kind) (painted_number paint.now (offset_of kind) k)) }
+        ensures err { IfErr result (λ why. painted self.now.header.shape lo.now hi.now paint.now
+            (parts_of self.now) ≡ Err why) }
+    {
         let Some(kind) = self.kind else {
             return Err(PixelFault::NotImage);
         };
@@ -87,7 +125,6 @@ impl Hdu {
         if !paint.is_storable(kind.width(), offset) {
             return Err(PixelFault::OutOfRange);
         }
-        self.plane.paint_rect(axes, lo, hi, paint, offset);
-        Ok(())
+        Ok(kind)
     }
 }

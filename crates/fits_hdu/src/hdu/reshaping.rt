@@ -21,14 +21,15 @@ impl Hdu {
     ghost use Rattle.fits_rules.specs.Size.{data_length};
     ghost use Rattle.fits_image.specs.Kind.{array_kind};
     ghost use Rattle.fits_hdu.specs.Hdu.{hdu_bytes};
-    ghost use Rattle.fits_hdu.specs.Reshape.{cards_reshaped, kept_count, reshaped, reshaped_shape, ReshapeFails};
+    ghost use Rattle.fits_hdu.specs.Reshape.{cards_reshaped, kept_count, length_spared, reshaped, reshaped_shape, ReshapeFails};
     ghost use Rattle.fits_hdu.specs.Reshaping.{IsPlan};
     ghost use Rattle.fits_hdu.specs.State.{parts_of, IsDescribed};
     ghost use Rattle.fits_hdu.specs.Work.{apply_reads, plane_work, reshape_reads, scaling_reads, IsRead, IsRenewed, IsRescanned};
 
     /// Makes it an array of this kind and with these axes, where it is one of integers and has so
-    /// many bytes at most then, and answers how many it has (FITS Standard 4.0, sections 4.4.1.1,
-    /// 4.4.2.5 and 5.2).
+    /// many bytes at most then, with as many cards more as are to be spared, and answers how many
+    /// it has without these (FITS Standard 4.0, sections 4.4.1.1, 4.4.2.5 and 5.2). There is room
+    /// for the spare cards then.
     ///
     /// The pixels that stay keep their values, blank ones too; the others store 0. BITPIX, NAXIS
     /// and the axes are written anew; so are BSCALE and BZERO, but where the offset stays. The
@@ -40,16 +41,19 @@ impl Hdu {
         kind: Kind,
         axes: &[u64],
         most: usize,
+        spare: usize,
     ) -> Result<usize, ReshapeFault>
         requires most { most ≤ 2 ^ 34 }
+        requires spare { spare ≤ 2 ^ 10 }
         ensures ok { OnOk result (reshaped kind axes.now self.old.header.shape (parts_of self.old)
             ≡ Ok (parts_of self.new)) }
         ensures len { IfOk result (λ len. len ≡ length (hdu_bytes (parts_of self.new))) }
-        ensures within { IfOk result (λ len. len ≤ most) }
+        ensures within { OnOk result (length_spared spare (parts_of self.new) ≤ most) }
+        ensures spared { OnOk result (spare ≤ self.new.header.room) }
         ensures shape { OnOk result (self.new.header.shape
             ≡ reshaped_shape kind axes.now self.old.header.shape) }
         ensures err { IfErr result (ReshapeFails
-            (reshaped kind axes.now self.old.header.shape (parts_of self.old)) most) }
+            (reshaped kind axes.now self.old.header.shape (parts_of self.old)) most spare) }
         ensures same { OnErr result (parts_of self.new ≡ parts_of self.old) }
         ensures same_shape { OnErr result (self.new.header.shape ≡ self.old.header.shape) }
         ensures room { OnErr result (self.new.header.room ≡ self.old.header.room) }
@@ -66,17 +70,19 @@ impl Hdu {
         ensures idle { OnErr result (IsRead (kept_count self.old.header.shape.axes axes.now)
             (plane_work self.old.plane) (plane_work self.new.plane)) }
         ensures entry { self.new.entry ≡ self.old.entry }
+        ensures kept { self.new.kept ≡ self.old.kept }
         ensures described { IsDescribed self.old }
         ensures left { IsDescribed self.new }
     {
         let _whole = self.card_count();
         let plan = plan(alloc, &mut self.header, kind, axes)?;
         let cards = count_reshaped(&mut self.header, &plan);
-        let len = unit_within(&plan.shape, cards, most);
+        let len = unit_within(&plan.shape, cards, spare, most);
         let bytes = reshape_unit(alloc, &mut self.plane, &plan, len)?;
         let room = PlaneRoom::new(alloc, bytes.len() / BLOCK_LEN)?;
         let gone = self.header.shape().axes.as_slice().len();
-        self.header.reserve((2 + axes.len()).saturating_sub(gone))?;
+        self.header
+            .reserve((2 + axes.len() + spare).saturating_sub(gone))?;
         let len = header_len(cards) + bytes.len();
         self.renew(plan, room, bytes);
         Ok(len)
@@ -102,6 +108,9 @@ impl Hdu {
         ensures pixel_work { IsRescanned (block_count bytes.items)
             (plane_work self.old.plane) (plane_work self.new.plane) }
         ensures entry { self.new.entry ≡ self.old.entry }
+        ensures kept { self.new.kept ≡ self.old.kept }
+        ensures left { self.old.header.room + length self.old.header.shape.axes
+            ≤ self.new.header.room + length (new_cards plan.change) }
         ensures described { IsDescribed self.new }
     {
         rewrite(&mut self.header, plan);

@@ -1,21 +1,22 @@
 //! Making the sums of an HDU right.
-ghost use Rattle.std.specs.Prelude.{◌≡◌, ◌≤◌, ◌<◌, ◌+◌, ◌-◌, ◌^◌, [], ◌∷◌, ◌++◌, length, codes, replicate, Some, IfOk};
+ghost use Rattle.std.specs.Prelude.{◌≡◌, ◌≤◌, ◌<◌, ◌+◌, ◌-◌, ◌^◌, ◌++◌, length, codes, Some};
 ghost use Rattle.fits_card.specs.Card.{card_of_text};
 ghost use Rattle.fits_card.specs.Change.{new_cards};
 ghost use Rattle.fits_hdu.specs.Keyword.{replacing};
 
 use super::Hdu;
 use crate::keyword_cards::{count_of, replacement};
+use crate::stamp_cards::StampCards;
 use crate::sums::{CHECKSUM, DATASUM};
-use fits_card::{Card, Cards, Change, Name};
-use fits_sum::{datasum_text, encode, fold};
+use fits_card::{Card, Cards, Name};
+use fits_sum::{datasum_card, encode, fold};
 use std::alloc::{AllocError, Global};
 
 impl Hdu {
     ghost use Rattle.std.specs.Prelude.{◌≡◌, ◌≤◌, ◌+◌, ◌-◌, ◌^◌, length, Ok, Some, OnOk, OnErr};
     ghost use Rattle.fits_hdu.specs.Hdu.{hdu_bytes};
     ghost use Rattle.fits_hdu.specs.Keyword.{own_count};
-    ghost use Rattle.fits_hdu.specs.Stamp.{stamped, with_keyword, IsOneCard, IsSumName};
+    ghost use Rattle.fits_hdu.specs.Stamp.{stamp_adds, stamped, with_keyword, IsOneCard, IsSumName};
     ghost use Rattle.fits_hdu.specs.State.{parts_of, IsDescribed, ReadsUpTo};
     ghost use Rattle.fits_hdu.specs.Sums.{hdu_sum};
     ghost use Rattle.fits_hdu.specs.Work.{apply_reads, keyword_reads, plane_work, stamp_count_reads, stamp_reads};
@@ -50,20 +51,54 @@ impl Hdu {
         ensures work { self.new.header.reads
             ≤ self.old.header.reads + stamp_reads self.old.header.header.cards }
         ensures entry { self.new.entry ≡ self.old.entry }
+        ensures kept { self.new.kept ≡ self.old.kept }
         ensures described { IsDescribed self.old }
         ensures left { IsDescribed self.new }
     {
         let _described = self.card_count();
-        let zeros = one_card(alloc, sum_card(&CHECKSUM, &[b'0'; 16]))?;
-        let digits = datasum_text(alloc, self.datasum())?;
-        let datasum = one_card(alloc, sum_card(&DATASUM, &digits))?;
-        let mut checksum = one_card(alloc, sum_card(&CHECKSUM, &[b'0'; 16]))?;
-        self.reserve(self.missing(&CHECKSUM) + self.missing(&DATASUM))?;
-        self.set_card(&CHECKSUM, Cards::new(zeros));
-        self.set_card(&DATASUM, Cards::new(datasum));
-        checksum[0] = sum_card(&CHECKSUM, &encode(self.sum()));
-        self.set_card(&CHECKSUM, Cards::new(checksum));
+        let cards = StampCards::new(alloc)?;
+        self.reserve_stamp()?;
+        self.stamp_with(cards);
         Ok(())
+    }
+
+    /// Makes room for the cards that a stamp brings. It fails only where room was missing.
+    pub fn reserve_stamp(&mut self) -> Result<(), AllocError>
+        ensures ok { OnOk result (stamp_adds self.old.header.header.cards ≤ self.new.header.room) }
+        ensures err { OnErr result (self.new.header.room ≡ self.old.header.room) }
+        ensures rest { self.new ≡ record self.old { header = self.new.header } }
+        ensures header { self.new.header ≡ record self.old.header { room = self.new.header.room } }
+    {
+        self.reserve(self.missing(&CHECKSUM) + self.missing(&DATASUM))
+    }
+
+    /// Makes DATASUM and CHECKSUM right, in room that was asked for before. It takes no memory.
+    #[tactic(auto, using(crate::proofs::StampingLemmas::stamp_steps))]
+    pub fn stamp_with(&mut self, cards: StampCards)
+        requires small { length (hdu_bytes (parts_of self.old)) ≤ 2 ^ 34 - 2 ^ 13 }
+        requires room { stamp_adds self.old.header.header.cards ≤ self.old.header.room }
+        ensures hdu { parts_of self.new ≡ stamped (parts_of self.old) }
+        ensures shape { self.new.header.shape ≡ self.old.header.shape }
+        ensures pixel_work { plane_work self.new.plane ≡ plane_work self.old.plane }
+        ensures least { self.old.header.reads ≤ self.new.header.reads }
+        ensures work { self.new.header.reads
+            ≤ self.old.header.reads + stamp_reads self.old.header.header.cards }
+        ensures entry { self.new.entry ≡ self.old.entry }
+        ensures kept { self.new.kept ≡ self.old.kept }
+        ensures described { IsDescribed self.old }
+        ensures left { IsDescribed self.new }
+    {
+        let _described = self.card_count();
+        let StampCards {
+            zeros,
+            datasum,
+            checksum,
+        } = cards;
+        let sum = datasum_card(self.datasum());
+        self.set_card(&CHECKSUM, zeros.holding(checksum_card(&[b'0'; 16])));
+        self.set_card(&DATASUM, datasum.holding(Card(sum)));
+        let text = encode(self.sum());
+        self.set_card(&CHECKSUM, checksum.holding(checksum_card(&text)));
     }
 
     // The sum of the whole of it.
@@ -102,6 +137,7 @@ impl Hdu {
         ensures work { self.new.header.reads ≤ self.old.header.reads
             + keyword_reads self.old.header.header.cards name.now + apply_reads }
         ensures entry { self.new.entry ≡ self.old.entry }
+        ensures kept { self.new.kept ≡ self.old.kept }
         ensures described { IsDescribed self.new }
     {
         let count = self.card_count();
@@ -111,37 +147,15 @@ impl Hdu {
     }
 }
 
-// A card with room of its own.
-fn one_card(alloc: Global, card: Card) -> Result<Vec<Card>, AllocError>
-    ensures { IfOk result (λ cards. cards.items ≡ card ∷ []) }
-{
-    let mut cards = Vec::with_capacity(alloc, 1)?;
-    cards.push(card)?;
-    Ok(cards)
-}
-
-// A text as the string of a keyword, in quotes and with spaces up to 8 bytes between them.
-#[tactic(auto, using(crate::proofs::StampingLemmas::card_steps))]
-fn sum_card(name: &Name, text: &[u8]) -> Card
-    requires { length text.now ≤ 16 }
-    ensures { result ≡ card_of_text (name.now ++ codes "= " ++ (codes "'" ++ (text.now
-        ++ replicate (8 - length text.now) 32) ++ codes "'")) }
+// A text as the string of CHECKSUM.
+fn checksum_card(text: &[u8; 16]) -> Card
+    ensures { result ≡ card_of_text (codes "CHECKSUM= '" ++ (text.now ++ codes "'")) }
 {
     let mut card = [b' '; 80];
-    let (front, rest) = card.split_at_mut(8);
-    front.copy_from_slice(&name.0);
-    let (mark, rest) = rest.split_at_mut(3);
-    mark.copy_from_slice(b"= '");
-    let (characters, rest) = rest.split_at_mut(text.len());
+    let (front, rest) = card.split_at_mut(11);
+    front.copy_from_slice(b"CHECKSUM= '");
+    let (characters, rest) = rest.split_at_mut(16);
     characters.copy_from_slice(text);
-    let (_, rest) = rest.split_at_mut(fill_len(text.len()));
     rest[0] = b'\'';
     Card(card)
-}
-
-// How many spaces fill so many bytes up to 8.
-fn fill_len(len: usize) -> usize
-    ensures { result ≡ 8 - len }
-{
-    if len < 8 { 8 - len } else { 0 }
 }

@@ -9,7 +9,7 @@ use Rattle.fits_image.specs.ImageCards.{shape_cards}
 use Rattle.fits_image.specs.Kind.{offset_of}
 use Rattle.fits_image.proofs.ImageCardLemmas.{bscale_name, bzero_name}
 use Rattle.fits_hdu.specs.Work.{keyword_reads}
-use Rattle.fits_hdu.proofs.PlanLemmas.{bscale_unshaped, cards_kept, cards_scaled, new_are, one_header, plan_kept, reads_scaling, room_left, scaled_header, scaling_none, scaling_some, shape_not_end}
+use Rattle.fits_hdu.proofs.PlanLemmas.{bscale_unshaped, cards_kept, cards_scaled, new_are, one_header, plan_kept, reads_scaling, room_left, room_stays, scaled_header, scaling_none, scaling_some, shape_not_end}
 use Rattle.fits_hdu.proofs.ReshapeLemmas.{can_parts, offset_small}
 use Rattle.fits_hdu.proofs.ReshapedCountLemmas.{reads_scaled, reads_written}
 use Rattle.fits_hdu.proofs.ScalingLemmas.{number_one}
@@ -57,6 +57,14 @@ set_card-requires-in-Some-clause-room c =
     (omega (arith, c.reshape.ensures.room, ap (λ (x : Header). length x.cards) c.reshape.ensures.header)) in
     omega (arith, left, c.set_card.ensures.room)
 
+-- and no more of it is taken
+pub returns-in-Some-clause-left : goal.returns-in-Some-clause-left
+returns-in-Some-clause-left c =
+    let h = c.args.header.now in
+    let within = described_within (is_primary h.shape.class) h.header.cards h.shape (described (is_primary h.shape.class) h.header.cards h.shape c.shape-described.ensures.described) in
+    let stays = room_stays h.header.cards c.cards.result.now (length h.shape.axes) h.room c.reshape.new.self.room within (omega (arith, c.reshape.ensures.room, ap (λ (x : Header). length x.cards) c.reshape.ensures.header)) in
+    omega (arith, stays, c.set_card.ensures.room, c.set_card-in-Some.ensures.room, ap length c.cards.ensures)
+
 -- all of them are written
 pub returns-in-Some-clause-header : goal.returns-in-Some-clause-header
 returns-in-Some-clause-header c =
@@ -93,3 +101,10 @@ returns-clause-header c =
     c.reshape.ensures.header
     ∙ (ap (λ new. with_cards h.header (spliced h.header.cards 2 (2 + length h.shape.axes) new)) (new_are p.kind p.shape.axes (2 + length h.shape.axes) p.change c.cards.result.now c.requires.plan.planned.change c.cards.ensures)
     ∙ ap (with_cards h.header) (sym (cards_kept p.old p.kind p.shape.axes h.shape h.header.cards none)))
+
+pub returns-clause-left : goal.returns-clause-left
+returns-clause-left c =
+    let h = c.args.header.now in
+    let within = described_within (is_primary h.shape.class) h.header.cards h.shape (described (is_primary h.shape.class) h.header.cards h.shape c.shape-described.ensures.described) in
+    let stays = room_stays h.header.cards c.cards.result.now (length h.shape.axes) h.room c.reshape.new.self.room within (omega (arith, c.reshape.ensures.room, ap (λ (x : Header). length x.cards) c.reshape.ensures.header)) in
+    omega (arith, stays, ap length c.cards.ensures)

@@ -1,7 +1,8 @@
 use Rattle.std.proofs.Common.{◌≡◌, ◌+◌, ◌∙◌, ap, arith, length, refl, subst, sym}
 use Rattle.std.specs.Prelude.{Result, Ok}
 use Rattle.std.proofs.lemmas.Result.{err_from_is_err_and}
-use Rattle.fits_card.specs.Header.{header_length}
+use Rattle.fits_card.specs.Header.{Header, header_length}
+use Rattle.fits_card.proofs.HeaderLemmas.{fill_length-by_cards}
 use Rattle.fits_plane.specs.Layout.{block_count}
 use Rattle.fits_rules.specs.Class.{is_primary}
 use Rattle.fits_rules.specs.Size.{data_length}
@@ -23,8 +24,8 @@ returns-in_err-plan-clause-err c =
     let p = err_from_is_err_and c.from_residual.result c.from_residual.ensures.1 in
     let why = c.in_err-plan.field-0.0 in
     let inside : HduParts = record { header = c.self.inside.header.header; data_unit = c.self.inside.plane.bytes } in
-    rw (p.1, p.2) (subst (λ (s : HduState). ReshapeFails (reshaped c.args.kind c.args.axes.now s.header.shape (parts_of s)) c.args.most why) c.self.view_is
-    (plan_fails c.args.kind c.args.axes.now c.self.inside.header.shape inside c.args.most why c.in_err-plan.ensures.err))
+    rw (p.1, p.2) (subst (λ (s : HduState). ReshapeFails (reshaped c.args.kind c.args.axes.now s.header.shape (parts_of s)) c.args.most c.args.spare why) c.self.view_is
+    (plan_fails c.args.kind c.args.axes.now c.self.inside.header.shape inside c.args.most c.args.spare why c.in_err-plan.ensures.err))
 
 pub reshape_unit-requires-clause-array : goal.reshape_unit-requires-clause-array
 reshape_unit-requires-clause-array c =
@@ -45,8 +46,8 @@ returns-in_err-bytes-clause-err c =
     let unit = unit_is c.args.kind c.args.axes.now h.shape h.header.cards c.in_ok-plan.plan c.self.inside.plane plan c.self.invariant.described c.self.invariant.layout in
     let fails = subst (λ made. UnitFails made c.unit_within-len.result why) unit c.in_err-bytes.ensures.err in
     let count = rw (plan.planned.to, plan.planned.after, c.in_ok-plan.ensures.work.header, c.in_ok-plan.ensures.work.shape) at c.count_reshaped-cards.ensures.value in
-    rw (p.1, p.2) (subst (λ (s : HduState). ReshapeFails (reshaped c.args.kind c.args.axes.now s.header.shape (parts_of s)) c.args.most why) c.self.view_is
-    (unit_fails primary c.args.kind c.args.axes.now h.shape inside c.in_ok-plan.plan c.unit_within-len.result c.count_reshaped-cards.result c.args.most why whole c.self.invariant.described plan count c.unit_within-len.ensures.none fails))
+    rw (p.1, p.2) (subst (λ (s : HduState). ReshapeFails (reshaped c.args.kind c.args.axes.now s.header.shape (parts_of s)) c.args.most c.args.spare why) c.self.view_is
+    (unit_fails primary c.args.kind c.args.axes.now h.shape inside c.in_ok-plan.plan c.unit_within-len.result c.count_reshaped-cards.result c.args.most c.args.spare why whole c.self.invariant.described plan count c.unit_within-len.ensures.none fails))
 
 -- but its pixels may have been read
 pub returns-in_err-bytes-clause-idle : goal.returns-in_err-bytes-clause-idle
@@ -63,7 +64,7 @@ returns-in_err-room-clause-err c =
     let p = err_from_is_err_and c.from_residual-in_err-room.result c.from_residual-in_err-room.ensures.1 in
     let h = c.self.inside.header in
     let inside : HduParts = record { header = h.header; data_unit = c.self.inside.plane.bytes } in
-    rw (p.1, p.2) (rw (← c.self.view_is) (no_memory c.args.kind c.in_ok-plan.plan.old c.args.axes.now h.shape inside c.args.most c.in_ok-plan.ensures.ok.array))
+    rw (p.1, p.2) (rw (← c.self.view_is) (no_memory c.args.kind c.in_ok-plan.plan.old c.args.axes.now h.shape inside c.args.most c.args.spare c.in_ok-plan.ensures.ok.array))
 
 pub returns-in_err-room-clause-idle : goal.returns-in_err-room-clause-idle
 returns-in_err-room-clause-idle c =
@@ -79,7 +80,7 @@ returns-in_err-reserve-clause-err c =
     let p = err_from_is_err_and c.from_residual-in_err-reserve.result c.from_residual-in_err-reserve.ensures.1 in
     let h = c.self.inside.header in
     let inside : HduParts = record { header = h.header; data_unit = c.self.inside.plane.bytes } in
-    rw (p.1, p.2) (rw (← c.self.view_is) (no_memory c.args.kind c.in_ok-plan.plan.old c.args.axes.now h.shape inside c.args.most c.in_ok-plan.ensures.ok.array))
+    rw (p.1, p.2) (rw (← c.self.view_is) (no_memory c.args.kind c.in_ok-plan.plan.old c.args.axes.now h.shape inside c.args.most c.args.spare c.in_ok-plan.ensures.ok.array))
 
 pub returns-in_err-reserve-clause-idle : goal.returns-in_err-reserve-clause-idle
 returns-in_err-reserve-clause-idle c =
@@ -115,7 +116,7 @@ renew-requires-clause-small c =
     let inside : HduParts = record { header = h.header; data_unit = c.self.inside.plane.bytes } in
     let unit = unit_is c.args.kind c.args.axes.now h.shape h.header.cards c.in_ok-plan.plan c.self.inside.plane plan c.self.invariant.described c.self.invariant.layout in
     let long = unit_long c.args.kind c.args.axes.now h.shape inside c.in_ok-plan.plan c.in_ok-bytes.bytes.items plan (sym unit ∙ c.in_ok-bytes.ensures.ok) in
-    omega (arith, long, c.requires.most, unit_small c.unit_within-len.result c.count_reshaped-cards.result c.args.most (data_length c.in_ok-plan.plan.shape) c.in_ok-bytes.ensures.may c.unit_within-len.ensures.some c.unit_within-len.ensures.within)
+    omega (arith, long, c.requires.most, unit_small c.unit_within-len.result (c.count_reshaped-cards.result + c.args.spare) c.args.most (data_length c.in_ok-plan.plan.shape) c.in_ok-bytes.ensures.may c.unit_within-len.ensures.some c.unit_within-len.ensures.within)
 
 -- the HDU that is left is the one that is made
 pub returns-clause-ok : goal.returns-clause-ok
@@ -128,6 +129,18 @@ returns-clause-ok c =
     let left : parts_of c.renew.new.self ≡ with_unit c.in_ok-plan.plan.old c.args.kind c.args.axes.now h.shape inside c.in_ok-bytes.bytes.items = rw (header, c.renew.ensures.unit) refl in
     let made = made_is c.args.kind c.args.axes.now h.shape inside c.in_ok-plan.plan c.in_ok-bytes.bytes.items plan (sym unit ∙ c.in_ok-bytes.ensures.ok) in
     subst (λ (s : HduState). reshaped c.args.kind c.args.axes.now s.header.shape (parts_of s) ≡ Ok (parts_of c.renew.new.self)) c.self.view_is (made ∙ ap (λ (hdu : HduParts). let made : Result HduParts ReshapeFault = Ok hdu in made) (sym left))
+
+-- a length that is within fits its type
+pub overflow_add-len : goal.overflow_add-len
+overflow_add-len c =
+    let h = c.self.inside.header in
+    let plan = c.in_ok-plan.ensures.ok in
+    let inside : HduParts = record { header = h.header; data_unit = c.self.inside.plane.bytes } in
+    let unit = unit_is c.args.kind c.args.axes.now h.shape h.header.cards c.in_ok-plan.plan c.self.inside.plane plan c.self.invariant.described c.self.invariant.layout in
+    let long = unit_long c.args.kind c.args.axes.now h.shape inside c.in_ok-plan.plan c.in_ok-bytes.bytes.items plan (sym unit ∙ c.in_ok-bytes.ensures.ok) in
+    let small = unit_small c.unit_within-len.result (c.count_reshaped-cards.result + c.args.spare) c.args.most (data_length c.in_ok-plan.plan.shape) c.in_ok-bytes.ensures.may c.unit_within-len.ensures.some c.unit_within-len.ensures.within in
+    let count = c.count_reshaped-cards.result in
+    omega (arith, c.header_len.ensures, c.len-2.ensures, long, small, c.requires.most, fill_length-by_cards count, fill_length-by_cards (count + c.args.spare))
 
 -- it is so long
 pub returns-clause-len : goal.returns-clause-len
@@ -152,7 +165,21 @@ returns-clause-within c =
     let inside : HduParts = record { header = h.header; data_unit = c.self.inside.plane.bytes } in
     let unit = unit_is c.args.kind c.args.axes.now h.shape h.header.cards c.in_ok-plan.plan c.self.inside.plane plan c.self.invariant.described c.self.invariant.layout in
     let long = unit_long c.args.kind c.args.axes.now h.shape inside c.in_ok-plan.plan c.in_ok-bytes.bytes.items plan (sym unit ∙ c.in_ok-bytes.ensures.ok) in
-    omega (arith, long, c.header_len.ensures, c.len-2.ensures, unit_small c.unit_within-len.result c.count_reshaped-cards.result c.args.most (data_length c.in_ok-plan.plan.shape) c.in_ok-bytes.ensures.may c.unit_within-len.ensures.some c.unit_within-len.ensures.within)
+    let header = rw (c.reserve.ensures.header, c.count_reshaped-cards.ensures.work.header, c.in_ok-plan.ensures.work.header, c.reserve.ensures.shape, c.count_reshaped-cards.ensures.work.shape, c.in_ok-plan.ensures.work.shape, plan.planned.to, plan.planned.after) at c.renew.ensures.header in
+    let count = rw (plan.planned.to, plan.planned.after, c.in_ok-plan.ensures.work.header, c.in_ok-plan.ensures.work.shape) at c.count_reshaped-cards.ensures.value in
+    let same : length c.renew.new.self.header.header.cards ≡ c.count_reshaped-cards.result = ap (λ (x : Header). length x.cards) header ∙ sym count in
+    let small = unit_small c.unit_within-len.result (c.count_reshaped-cards.result + c.args.spare) c.args.most (data_length c.in_ok-plan.plan.shape) c.in_ok-bytes.ensures.may c.unit_within-len.ensures.some c.unit_within-len.ensures.within in
+    omega (arith, ap (λ n. header_length (n + c.args.spare)) same, ap length c.renew.ensures.unit, long, small)
+
+-- and there is room for the spare cards
+pub returns-clause-spared : goal.returns-clause-spared
+returns-clause-spared c =
+    let h = c.self.inside.header in
+    let plan = c.in_ok-plan.ensures.ok in
+    let can = can_parts c.in_ok-plan.plan.old c.args.kind c.args.axes.now h.shape h.header.cards plan.can in
+    let brought = change_brings c.args.kind c.args.axes.now (2 + length h.shape.axes) c.in_ok-plan.plan.change can.axes_may plan.planned.change in
+    let gone = ap length c.as_slice-gone.ensures ∙ ap (λ (shape : Shape). length shape.axes) c.shape.ensures.value in
+    omega (arith, brought, gone, c.saturating_sub.ensures, c.in_ok-reserve.ensures.ok, c.renew.ensures.left, ap (λ (shape : Shape). length shape.axes) c.reserve.ensures.shape)
 
 -- its pixels were read, and its blocks scanned
 pub returns-clause-pixel_work : goal.returns-clause-pixel_work
