@@ -25,16 +25,16 @@ use Rattle.fits_hdu.specs.Work.{keyword_reads, reshape_reads, stamp_count_reads,
 use Rattle.fits_hdu.specs.declared.keyword_cards.KeywordCards.{KeywordCards}
 use Rattle.fits_session.specs.Bounds.{mandatory_count, moved_count, reshaped_count, stamped_count, Grows, NoneFalls, OthersStay, SameCounts, WorksUpTo}
 use Rattle.fits_session.specs.CardEdit.{change_of, is_keyword_name, set_of, setting, unset_of, unsetting}
-use Rattle.fits_session.specs.Edit.{changed_of, hdu_edited, hdu_of, is_primary_hdu}
+use Rattle.fits_session.specs.Edit.{changed_of, hdu_edited, hdu_of, is_primary_hdu, made_or}
 use Rattle.fits_session.specs.Session.{AreIdle, Asks, AsksPixels, EditsTo, HduWork, PatchesIn, ReadsOnly, ReshapesIn, SessionState, file_of, hdus_of, read_more, reads_of, without_entries, works_of}
 use Rattle.fits_session.specs.HduEdit.{hdu_changed, hdu_made}
-use Rattle.fits_session.specs.Work.{change_reads, follow_reads, own_reads, reads_in_all, reads_to_find, reads_to_reshape}
+use Rattle.fits_session.specs.Work.{change_reads, follow_reads, follow_up_reads, own_reads, reads_in_all, reads_to_find, reads_to_reshape}
 use Rattle.fits_session.specs.declared.card_edit.CardEdit.{CardEdit}
 use Rattle.fits_session.specs.declared.card_edit.CardEdit.TheVariants.{Insert, Put, Delete, Move, Set, Unset}
 use Rattle.fits_session.specs.declared.edit.Edit.{Edit}
 use Rattle.fits_session.specs.declared.edit.Edit.TheVariants.{Hdu, NewImage, RemoveHdu}
 use Rattle.fits_session.specs.declared.hdu_edit.HduEdit.{HduEdit}
-use Rattle.fits_session.specs.declared.hdu_edit.HduEdit.TheVariants.{Cards, Pixels, Reshape, Stamp}
+use Rattle.fits_session.specs.declared.hdu_edit.HduEdit.TheVariants.{Cards, Keep, Pixels, Release, Reshape, Stamp}
 use Rattle.fits_session.specs.declared.paint.Paint.{Paint}
 use Rattle.fits_session.specs.declared.refusal.Refusal.{Refusal}
 use Rattle.fits_card.specs.Name.{is_settable}
@@ -89,6 +89,10 @@ follow_few (Reshape kind axes) (Ok made) = omega arith
 follow_few (Reshape kind axes) (Err why) = omega arith
 follow_few Stamp (Ok made) = omega arith
 follow_few Stamp (Err why) = omega arith
+follow_few Keep (Ok made) = omega arith
+follow_few Keep (Err why) = omega arith
+follow_few Release (Ok made) = omega arith
+follow_few Release (Err why) = omega arith
 
 -- and makes it by those that say whether the shape stays, and twelve
 change_few : (shape : Shape) (primary : Bool) (hdu : HduParts) (edit : CardEdit) (made : Result Change Refusal) → change_reads (Ok shape) made + follow_reads (Cards edit) (hdu_changed primary hdu made) ≤ mandatory_count shape + 15
@@ -96,7 +100,7 @@ change_few shape primary hdu edit (Ok change) = omega (arith, follow_few (Cards 
 change_few shape primary hdu edit (Err why) = omega arith
 
 -- so it reads few
-pub cards_closer : (primary : Bool) (hdu : HduParts) (shape : Shape) (edit : CardEdit) → shape_of primary hdu.header.cards ≡ Ok shape → reads_in_all primary (Cards edit) hdu ≤ mandatory_count shape + moved_count (change_of hdu.header.cards edit) + 16
+pub cards_closer : (primary : Bool) (hdu : HduParts) (shape : Shape) (edit : CardEdit) → shape_of primary hdu.header.cards ≡ Ok shape → reads_in_all false primary (Cards edit) hdu ≤ mandatory_count shape + moved_count (change_of hdu.header.cards edit) + 16
 unfolding hdu_made
 cards_closer primary hdu shape edit described =
     let made = change_of hdu.header.cards edit in
@@ -104,10 +108,20 @@ cards_closer primary hdu shape edit described =
     omega (arith, reads, change_few shape primary hdu edit made, own_moves hdu.header.cards edit)
 
 -- and a stamp
-pub stamp_closer : (primary : Bool) (hdu : HduParts) → reads_in_all primary Stamp hdu ≤ 2 * stamped_count hdu.header.cards + 32
+pub stamp_closer : (primary : Bool) (hdu : HduParts) → reads_in_all false primary Stamp hdu ≤ 2 * stamped_count hdu.header.cards + 32
 unfolding stamp_count_reads stamp_reads
 stamp_closer primary hdu =
     omega (arith, follow_few Stamp (hdu_made primary Stamp hdu), keyword_few hdu.header.cards (codes "CHECKSUM"), keyword_few hdu.header.cards (codes "DATASUM "))
+
+-- the stamp that follows what was made of an HDU reads few
+follow_up_few : (hdu : HduParts) (made : Result HduParts Refusal) → follow_up_reads true made ≤ stamped_count (made_or hdu made).header.cards + 29
+unfolding stamp_count_reads stamp_reads
+follow_up_few hdu (Ok made) = omega (arith, keyword_few made.header.cards (codes "CHECKSUM"), keyword_few made.header.cards (codes "DATASUM "))
+follow_up_few hdu (Err why) = omega arith
+
+-- so what an edit reads of an HDU that is kept stamped is what it reads of another, and its stamp
+pub kept_closer : (primary : Bool) (edit : HduEdit) (hdu : HduParts) → reads_in_all true primary edit hdu ≤ reads_in_all false primary edit hdu + (stamped_count (hdu_edited primary edit hdu).header.cards + 29)
+kept_closer primary edit hdu = omega (arith, follow_up_few hdu (hdu_made primary edit hdu))
 
 -- BSCALE and BZERO are read by no more cards than they move
 rescaled_few : (same : Bool) (a b m n : ℕ) → m ≤ a + 1 → n ≤ b + 1 → (if same then 0 else m + n) ≤ (if same then 0 else a + b + 2)
@@ -124,7 +138,7 @@ reshape_few (Some old) kind axes shape cards =
     )
 
 pub reshape_closer : (primary : Bool) (hdu : HduParts) (shape : Shape) (kind : Kind) (axes : List ℕ) → shape_of primary hdu.header.cards ≡ Ok shape
-    → reads_in_all primary (Reshape kind axes) hdu ≤ length axes + 2 * reshaped_count (array_kind shape hdu.header.cards) kind axes shape hdu.header.cards + 32
+    → reads_in_all false primary (Reshape kind axes) hdu ≤ length axes + 2 * reshaped_count (array_kind shape hdu.header.cards) kind axes shape hdu.header.cards + 32
 reshape_closer primary hdu shape kind axes described =
     let reads = ap (λ said. reads_to_reshape said kind axes hdu.header.cards) described in
     omega (arith, reads, follow_few (Reshape kind axes) (hdu_made primary (Reshape kind axes) hdu), reshape_few (array_kind shape hdu.header.cards) kind axes shape hdu.header.cards)
@@ -195,6 +209,8 @@ edit_grows primary (Cards edit) hdu old new work = follows_grows old new (block_
 edit_grows primary (Pixels lo hi paint) hdu old new work = patches_grows (shape_of primary hdu.header.cards) lo hi hdu old new work
 edit_grows primary (Reshape kind axes) hdu old new work = reshapes_grows (shape_of primary hdu.header.cards) axes _ old new work
 edit_grows primary Stamp hdu old new work = follows_grows old new (block_count hdu.data_unit) work.any
+edit_grows primary Keep hdu old new work = follows_grows old new (block_count hdu.data_unit) work.any
+edit_grows primary Release hdu old new work = follows_grows old new (block_count hdu.data_unit) work.any
 
 -- an edit that is refused and no reshape did no work
 pub idle_else : (edit : Edit) (before after : List PixelWork) → AreIdle edit before after → ((h : ℕ) (kind : Kind) (axes : List ℕ) → edit ≡ Hdu h (Reshape kind axes) → ⊥) → after ≡ before
@@ -202,6 +218,8 @@ idle_else (Hdu h (Cards edit)) before after idle other = idle
 idle_else (Hdu h (Pixels lo hi paint)) before after idle other = idle
 idle_else (Hdu h (Reshape kind axes)) before after idle other = absurd (other h kind axes refl)
 idle_else (Hdu h Stamp) before after idle other = idle
+idle_else (Hdu h Keep) before after idle other = idle
+idle_else (Hdu h Release) before after idle other = idle
 idle_else (NewImage at kind axes) before after idle other = idle
 idle_else (RemoveHdu h) before after idle other = idle
 

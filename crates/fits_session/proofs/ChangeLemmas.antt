@@ -47,6 +47,12 @@ changed_at-same i first second x [] e same = refl
 changed_at-same zero first second x (y ∷ ys) e same = let is : y ≡ x = cc in ap (λ z. z ∷ ys) (ap first is ∙ same ∙ ap second (sym is))
 changed_at-same (suc i) first second x (y ∷ ys) e same = ap (λ zs. y ∷ zs) (changed_at-same i first second x ys e same)
 
+-- one change and then another are both
+pub changed_at-both : {X : Type 0} (i : ℕ) (first second : X → X) (xs : List X) → changed_at i second (changed_at i first xs) ≡ changed_at i (λ x. second (first x)) xs
+changed_at-both i first second [] = refl
+changed_at-both zero first second (x ∷ xs) = refl
+changed_at-both (suc i) first second (x ∷ xs) = ap (λ ys. x ∷ ys) (changed_at-both i first second xs)
+
 -- what holds of a first element and of the others holds of all
 all_cons : (P : HduParts → Type 0) (x : HduParts) (xs : List HduParts) → P x → All P xs → All P (x ∷ xs)
 all_cons P x xs p q zero d l = p

@@ -1,17 +1,19 @@
 -- What a session keeps, where counts grow and entries move.
-use Rattle.std.proofs.Common.{◌≡◌, ℕ, List, [], ◌∷◌, length, map, get_or, set, refl, ap, sym, subst, ◌∙◌, arith}
+use Rattle.std.proofs.Common.{◌≡◌, ℕ, Bool, false, List, [], ◌∷◌, length, map, get_or, replicate, set, refl, ap, sym, subst, ◌∙◌, arith}
 use Rattle.std.specs.Prelude.{All}
 use Rattle.std.proofs.lemmas.List.{get_or-map, length-map}
-use Rattle.std.proofs.lemmas.List.Elements.{All-map}
+use Rattle.std.proofs.lemmas.List.Elements.{All-head, All-map, All-tail}
 use Rattle.fits_hdu.specs.Hdu.{HduParts}
 use Rattle.fits_hdu.specs.State.{HduState, ReadsUpTo, name_of, parts_of, IsDescribed}
-use Rattle.fits_hdu.specs.Work.{PixelWork, plane_work}
+use Rattle.fits_hdu.specs.Work.{IsOpened, PixelWork, plane_work}
 use Rattle.fits_hdu.specs.declared.extension_name.ExtensionName.{ExtensionName}
 use Rattle.std.specs.Map.{keys_of}
 use Rattle.fits_session.specs.File.{FileParts, file_bytes, IsFile}
 use Rattle.fits_session.specs.NameTable.{mended, names_of, IsTableOf, PointsAt, Stands}
-use Rattle.fits_session.specs.Session.{file_of, hdus_of, reads_of, state_of, uncounted, unentered, without_counts, without_entries, works_of, AreNamed, IsKept}
-use Rattle.fits_session.proofs.StateLemmas.{IsHduAt, parts_same}
+use Rattle.fits_session.specs.Keeping.{IsRight}
+use Rattle.fits_session.specs.Marked.{Marked, unmarked}
+use Rattle.fits_session.specs.Session.{file_of, hdus_of, kept_of, marked_of, reads_of, state_of, uncounted, unentered, without_counts, without_entries, works_of, AreNamed, IsKept}
+use Rattle.fits_session.proofs.StateLemmas.{IsHduAt, parts_same, unkept_right}
 
 -- the parts of HDUs are no counts
 hdus_of-uncounted : (hdus : List HduState) → hdus_of (without_counts hdus) ≡ hdus_of hdus
@@ -23,6 +25,11 @@ names_of-uncounted : (hdus : List HduState) → names_of (without_counts hdus) �
 names_of-uncounted [] = refl
 names_of-uncounted (hdu ∷ hdus) = ap (λ names. name_of hdu ∷ names) (names_of-uncounted hdus)
 
+-- nor are the marks of those that are kept stamped
+kept_of-uncounted : (hdus : List HduState) → kept_of (without_counts hdus) ≡ kept_of hdus
+kept_of-uncounted [] = refl
+kept_of-uncounted (hdu ∷ hdus) = ap (λ (marks : List Bool). hdu.kept ∷ marks) (kept_of-uncounted hdus)
+
 -- so HDUs that differ in counts alone have the same parts
 pub hdus_as : (hdus others : List HduState) → without_counts hdus ≡ without_counts others → hdus_of hdus ≡ hdus_of others
 hdus_as hdus others same = sym (hdus_of-uncounted hdus) ∙ ap hdus_of same ∙ hdus_of-uncounted others
@@ -30,6 +37,12 @@ hdus_as hdus others same = sym (hdus_of-uncounted hdus) ∙ ap hdus_of same ∙ 
 -- files with the same HDUs are the same
 file_with : (us vs : List HduParts) (tail : List ℕ) → us ≡ vs → (let file : FileParts = record { hdus = us; tail = tail } in file) ≡ record { hdus = vs; tail = tail }
 file_with us vs tail same = ap (λ (hdus : List HduParts). let file : FileParts = record { hdus = hdus; tail = tail } in file) same
+
+-- and with the same marks too
+marked_with : (us vs : List HduParts) (tail : List ℕ) (a b : List Bool) → us ≡ vs → a ≡ b → (let it : Marked = record { file = record { hdus = us; tail = tail }; kept = a } in it) ≡ record { file = record { hdus = vs; tail = tail }; kept = b }
+marked_with us vs tail a b same marks =
+    ap (λ (hdus : List HduParts). let it : Marked = record { file = record { hdus = hdus; tail = tail }; kept = a } in it) same
+    ∙ ap (λ (kept : List Bool). let it : Marked = record { file = record { hdus = vs; tail = tail }; kept = kept } in it) marks
 
 -- what holds of HDUs seen another way holds of them
 all_seen : (P : HduState → Type 0) (see : HduState → HduState) → ((one : HduState) → P (see one) → P one) → (hdus : List HduState) → All P (map see hdus) → All P hdus
@@ -52,6 +65,7 @@ kept_without hdus tail bytes entries room kept =
       whole = subst (λ (f : FileParts). IsFile f) same kept.whole;
       len = kept.len ∙ ap (λ (f : FileParts). length (file_bytes f)) same;
       described = seen_all IsDescribed uncounted (λ one p. p) hdus kept.described;
+      right = seen_all IsRight uncounted (λ one p. p) hdus kept.right;
       names = record {
         table = subst (λ names. IsTableOf names entries) (sym (names_of-uncounted hdus)) kept.names.table;
         placed = seen_all (IsPlaced (keys_of entries)) uncounted (λ one p. p) hdus kept.names.placed;
@@ -68,6 +82,7 @@ kept_with hdus tail bytes entries room kept =
       whole = subst (λ (f : FileParts). IsFile f) same kept.whole;
       len = kept.len ∙ ap (λ (f : FileParts). length (file_bytes f)) same;
       described = all_seen IsDescribed uncounted (λ one p. p) hdus kept.described;
+      right = all_seen IsRight uncounted (λ one p. p) hdus kept.right;
       names = record {
         table = subst (λ names. IsTableOf names entries) (names_of-uncounted hdus) kept.names.table;
         placed = all_seen (IsPlaced (keys_of entries)) uncounted (λ one p. p) hdus kept.names.placed;
@@ -82,7 +97,7 @@ kept_counted hdus others tail bytes entries room same kept =
 
 -- an HDU whose cards were read is the same without its counts
 pub uncounted_read : (old new : HduState) (most : ℕ) → ReadsUpTo old new most → uncounted new ≡ uncounted old
-uncounted_read old new most read = rw (read.header.header, read.header.shape, read.header.room, read.plane, read.entry) refl
+uncounted_read old new most read = rw (read.header.header, read.header.shape, read.header.room, read.plane, read.entry, read.kept) refl
 
 -- so what is kept is kept where one HDU was read
 pub kept_read : (hdus : List HduState) (tail : List ℕ) (h i bytes : ℕ) (entries : List (ExtensionName × ℕ)) (room : ℕ) (old new : HduState) → IsHduAt hdus h i old → uncounted new ≡ uncounted old → IsKept hdus tail bytes entries room → IsKept (set hdus i new) tail bytes entries room
@@ -103,6 +118,11 @@ pub works_of-unentered : (hdus : List HduState) → works_of (without_entries hd
 works_of-unentered [] = refl
 works_of-unentered (hdu ∷ hdus) = ap (λ (works : List PixelWork). plane_work hdu.plane ∷ works) (works_of-unentered hdus)
 
+-- nor are the marks of those that are kept stamped
+kept_of-unentered : (hdus : List HduState) → kept_of (without_entries hdus) ≡ kept_of hdus
+kept_of-unentered [] = refl
+kept_of-unentered (hdu ∷ hdus) = ap (λ (marks : List Bool). hdu.kept ∷ marks) (kept_of-unentered hdus)
+
 -- so HDUs that differ in entries alone have the same parts
 pub hdus_moved : (hdus others : List HduState) → without_entries hdus ≡ without_entries others → hdus_of hdus ≡ hdus_of others
 hdus_moved hdus others same = sym (hdus_of-unentered hdus) ∙ ap hdus_of same ∙ hdus_of-unentered others
@@ -115,6 +135,10 @@ reads_moved hdus others same = sym (reads_of-unentered hdus) ∙ ap reads_of sam
 pub works_moved : (hdus others : List HduState) → without_entries hdus ≡ without_entries others → works_of hdus ≡ works_of others
 works_moved hdus others same = sym (works_of-unentered hdus) ∙ ap works_of same ∙ works_of-unentered others
 
+-- and the same marks
+pub kept_moved : (hdus others : List HduState) → without_entries hdus ≡ without_entries others → kept_of hdus ≡ kept_of others
+kept_moved hdus others same = sym (kept_of-unentered hdus) ∙ ap kept_of same ∙ kept_of-unentered others
+
 -- an HDU of a session has the shape that its cards describe
 pub described_at : (hdus : List HduState) (h i : ℕ) (hdu : HduState) → All IsDescribed hdus → IsHduAt hdus h i hdu → IsDescribed hdu
 described_at hdus h i hdu all at = subst IsDescribed (sym at.is) (all i hdu at.index.within)
@@ -124,6 +148,11 @@ pub described_moved : (hdus others : List HduState) → without_entries hdus ≡
 described_moved hdus others same p =
     all_seen IsDescribed unentered (λ one q. q) hdus (subst (All IsDescribed) (sym same) (seen_all IsDescribed unentered (λ one q. q) others p))
 
+-- in those that are kept stamped both sums are right
+pub right_unentered : (hdus others : List HduState) → without_entries hdus ≡ without_entries others → All IsRight others → All IsRight hdus
+right_unentered hdus others same p =
+    all_seen IsRight unentered (λ one q. q) hdus (subst (All IsRight) (sym same) (seen_all IsRight unentered (λ one q. q) others p))
+
 -- and they are as many
 pub count_moved : (hdus others : List HduState) → without_entries hdus ≡ without_entries others → length hdus ≡ length others
 count_moved hdus others same = sym (length-map hdus unentered) ∙ ap length same ∙ length-map others unentered
@@ -131,6 +160,26 @@ count_moved hdus others same = sym (length-map hdus unentered) ∙ ap length sam
 -- the file is the same
 pub file_of-unentered : (hdus others : List HduState) (tail : List ℕ) → without_entries hdus ≡ without_entries others → file_of (state_of hdus tail) ≡ file_of (state_of others tail)
 file_of-unentered hdus others tail same = file_with (hdus_of hdus) (hdus_of others) tail (hdus_moved hdus others same)
+
+-- so are the file and its marks
+pub marked_of-unentered : (hdus others : List HduState) (tail : List ℕ) → without_entries hdus ≡ without_entries others → marked_of (state_of hdus tail) ≡ marked_of (state_of others tail)
+marked_of-unentered hdus others tail same = marked_with (hdus_of hdus) (hdus_of others) tail (kept_of hdus) (kept_of others) (hdus_moved hdus others same) (kept_moved hdus others same)
+
+-- HDUs that were opened aren't kept stamped
+opened_marks : (more : ℕ) (hdus : List HduState) → All (IsOpened more) hdus → kept_of hdus ≡ replicate (length (hdus_of hdus)) false
+opened_marks more [] all = refl
+opened_marks more (one ∷ hdus) all =
+    ap (λ mark. mark ∷ kept_of hdus) (All-head (IsOpened more) one hdus all).kept ∙ ap (λ (marks : List Bool). false ∷ marks) (opened_marks more hdus (All-tail (IsOpened more) one hdus all))
+
+-- so a file that was opened has no marks
+pub opened_unmarked : (more : ℕ) (hdus : List HduState) (tail : List ℕ) → All (IsOpened more) hdus → marked_of (state_of hdus tail) ≡ unmarked (file_of (state_of hdus tail))
+opened_unmarked more hdus tail all = marked_with (hdus_of hdus) (hdus_of hdus) tail (kept_of hdus) (replicate (length (hdus_of hdus)) false) refl (opened_marks more hdus all)
+
+-- and no sums that have to be right
+pub opened_right : (more : ℕ) (hdus : List HduState) → All (IsOpened more) hdus → All IsRight hdus
+opened_right more hdus all = λ i d within. unkept_right (get_or hdus i d) (all i d within).kept
+
+pub ruleset opened_steps = (opened_unmarked, opened_right)
 
 -- HDUs that are kept are named
 pub kept_named : (hdus : List HduState) (tail : List ℕ) (bytes : ℕ) (entries : List (ExtensionName × ℕ)) (room : ℕ) → IsKept hdus tail bytes entries room → AreNamed hdus entries
@@ -147,10 +196,12 @@ kept_as hdus tail bytes entries others room now same still kept = record {
   whole = kept.whole;
   len = kept.len;
   described = kept.described;
+  right = kept.right;
   names = subst (Stands hdus) (sym same) kept.names;
   roomy = still ∙ kept.roomy;
 }
 
--- the file stays where counts alone change
-pub file_counted : (hdus others : List HduState) (tail : List ℕ) → without_counts others ≡ without_counts hdus → file_of (state_of others tail) ≡ file_of (state_of hdus tail)
-file_counted hdus others tail same = file_with (hdus_of others) (hdus_of hdus) tail (hdus_as others hdus same)
+-- the file and its marks stay where counts alone change
+pub marked_counted : (hdus others : List HduState) (tail : List ℕ) → without_counts others ≡ without_counts hdus → marked_of (state_of others tail) ≡ marked_of (state_of hdus tail)
+marked_counted hdus others tail same =
+    marked_with (hdus_of others) (hdus_of hdus) tail (kept_of others) (kept_of hdus) (hdus_as others hdus same) (sym (kept_of-uncounted others) ∙ ap kept_of same ∙ kept_of-uncounted hdus)

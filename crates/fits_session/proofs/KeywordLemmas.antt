@@ -66,6 +66,7 @@ nothing_read old new name count none read = record {
   };
   plane = read.plane;
   entry = read.entry;
+  kept = read.kept;
 }
 
 -- a name that isn't a keyword's is the first test

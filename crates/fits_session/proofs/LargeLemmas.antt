@@ -117,13 +117,13 @@ same_size file (suc i) hdu change there =
     ap (λ (us : List HduParts). size_refusal (record file { hdus = us })) (changed_at-same i (λ hdu'. hdu_after change hdu) (hdu_after change) hdu file.hdus there refl)
 
 -- a change that keeps the shape or doesn't
-kept_large : (kept : Bool) (file : FileParts) (h : ℕ) (made : HduParts) → size_refusal (with_hdu file h (λ hdu'. made)) ≡ None → made_refusal file h (if kept then Ok made else Err refusal.Shape) ≡ Some refusal.TooLarge → ⊥
+kept_large : (kept : Bool) (file : FileParts) (h : ℕ) (made : HduParts) → size_refusal (with_hdu file h (λ hdu'. made)) ≡ None → made_refusal false file h (if kept then Ok made else Err refusal.Shape) ≡ Some refusal.TooLarge → ⊥
 kept_large true file h made fits e = let z : ◌≡◌ {A = Option Refusal} None (Some refusal.TooLarge) = sym fits ∙ e in cc
 kept_large false file h made fits e = let z : ◌≡◌ {A = Option Refusal} (Some refusal.Shape) (Some refusal.TooLarge) = e in cc
 
 -- what such an edit makes of an HDU
 made_large : (f : List ℕ) (file : FileParts) (h : ℕ) (hdu : HduParts) (edit : CardEdit) (made : Result Change Refusal) → IsFileOf f file → hdu_of file h ≡ Some hdu → HasCardSizes edit → LeavesNoMore edit → change_of hdu.header.cards edit ≡ made → OwnAlone made
-    → made_refusal file h (hdu_changed (is_primary_hdu h) hdu made) ≡ Some refusal.TooLarge → ⊥
+    → made_refusal false file h (hdu_changed (is_primary_hdu h) hdu made) ≡ Some refusal.TooLarge → ⊥
 made_large f file h hdu edit (Ok change) p there sizes none is own e =
     let fits = fewer_cards f file h hdu change p there (made_inner hdu.header.cards edit change sizes is) (not_more hdu.header.cards edit change none is) in
     kept_large (keeps_shape (is_primary_hdu h) hdu.header.cards (cards_after hdu.header.cards change)) file h (hdu_after change hdu) (same_size file h hdu change there ∙ fits) e
@@ -132,7 +132,7 @@ made_large f file h hdu edit (Err why) p there sizes none is own e =
     subst IsOwn same own
 
 -- so it is never too large
-found_large : (f : List ℕ) (file : FileParts) (h : ℕ) (edit : CardEdit) (found : Option HduParts) → IsFileOf f file → hdu_of file h ≡ found → HasCardSizes edit → LeavesNoMore edit → refusal_in file h (Cards edit) found ≡ Some refusal.TooLarge → ⊥
+found_large : (f : List ℕ) (file : FileParts) (h : ℕ) (edit : CardEdit) (found : Option HduParts) → IsFileOf f file → hdu_of file h ≡ found → HasCardSizes edit → LeavesNoMore edit → refusal_in false file h (Cards edit) found ≡ Some refusal.TooLarge → ⊥
 unfolding hdu_made
 found_large f file h edit None p there sizes none e = let z : ◌≡◌ {A = Option Refusal} (Some refusal.NoHdu) (Some refusal.TooLarge) = e in cc
 found_large f file h edit (Some hdu) p there sizes none e = made_large f file h hdu edit (change_of hdu.header.cards edit) p there sizes none refl (own_change hdu.header.cards edit) e

@@ -7,6 +7,7 @@ pub mod EditLemmas
 pub mod FreshLemmas
 pub mod FileLemmas
 pub mod FrontLemmas
+pub mod KeepingLemmas
 pub mod KeptLemmas
 pub mod KeywordLemmas
 pub mod KindLemmas
@@ -14,6 +15,7 @@ pub mod LargeLemmas
 pub mod LawLemmas
 pub mod ListEditLemmas
 pub mod MakingLemmas
+pub mod MarkedLemmas
 pub mod NameLemmas
 pub mod NamingLemmas
 pub mod OffsetLemmas

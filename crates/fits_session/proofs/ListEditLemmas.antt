@@ -20,14 +20,15 @@ use Rattle.fits_session.specs.File.{FileParts, file_bytes, goes_on, joined_hdus,
 use Rattle.fits_session.specs.Limits.{is_within_limits}
 use Rattle.fits_session.specs.declared.limits.TheConstants.{FILE_LIMIT, HDU_LIMIT}
 use Rattle.fits_session.specs.Refusal.{new_image_refusal, primary_refusal, refusal_of, removal_refusal, size_refusal, Fails, NewNeedsMemory}
-use Rattle.fits_session.specs.Session.{file_of, hdus_of, state_of, unentered, without_entries, EditsTo, IsIndexOf, IsNowhere}
+use Rattle.fits_session.specs.Marked.{Marked, marked_after, marked_refusal}
+use Rattle.fits_session.specs.Session.{file_of, hdus_of, kept_of, marked_of, state_of, unentered, without_entries, EditsTo, IsIndexOf, IsNowhere, SessionState}
 use Rattle.fits_session.specs.declared.edit.Edit.TheVariants.{NewImage, RemoveHdu}
 use Rattle.fits_session.specs.declared.refusal.Refusal.{Refusal}
 use Rattle.fits_session.specs.declared.refusal.Refusal.TheVariants as refusal
 use Rattle.fits_session.proofs.MakingLemmas.{kept_limits, limit_none, within_limits}
 use Rattle.fits_session.proofs.FrontLemmas.{goes_on-some, some_hdus}
 use Rattle.indexmap.proofs.SetLemmas.{map-remove}
-use Rattle.fits_session.proofs.KeptLemmas.{file_of-unentered}
+use Rattle.fits_session.proofs.KeptLemmas.{file_of-unentered, kept_moved}
 use Rattle.fits_session.proofs.StateLemmas.{IsHduAt, hdu_of-nowhere, hdu_of-there, length-hdus_of, slice_get-hdus_of}
 
 -- how many bytes HDUs have where one is put in
@@ -182,6 +183,12 @@ file_of-left hdus tail h i at =
     let index : i ≡ h - 1 = omega (arith, at) in
     ap (λ (us : List HduParts). let file : FileParts = record { hdus = us; tail = tail } in file) (hdus_of-left hdus i ∙ ap (remove (hdus_of hdus)) index)
 
+-- a session's file and which of its HDUs are kept stamped
+pub marked_both : (session : SessionState) (file : FileParts) (kept : List Bool) → file_of session ≡ file → kept_of session.hdus ≡ kept → marked_of session ≡ (let it : Marked = record { file = file; kept = kept } in it)
+marked_both session file kept p q =
+    ap (λ (f : FileParts). let it : Marked = record { file = f; kept = kept_of session.hdus } in it) p
+    ∙ ap (λ (k : List Bool). let it : Marked = record { file = file; kept = k } in it) q
+
 -- the tests of a new image, by what each finds
 abbrev tests_of : Bool → Bool → Bool → Option Refusal → Option Refusal
 tests_of within first axes next = if not within then Some refusal.NoHdu else (if first then Some refusal.PrimaryStays else (if not axes then Some refusal.Shape else next))
@@ -197,7 +204,7 @@ tests_are hdus tail h kind axes = ap (λ n. tests_of (is_within h (n + 1)) (h ==
 
 -- a new image that is refused owes this
 pub new_refused : {X : Type 0} (hdus : List HduState) (tail : List ℕ) (h : ℕ) (kind : Kind) (axes : List ℕ) (why : Refusal) → Fails NewNeedsMemory (new_image_refusal (file_of (state_of hdus tail)) h kind axes) why → EditsTo {X = X} (NewImage h kind axes) (state_of hdus tail) (state_of hdus tail) (Err why)
-unfolding refusal_of
+unfolding marked_refusal refusal_of
 new_refused hdus tail h kind axes why p = record { accepted = tt; ok = tt; refused = p; err = refl; work = inl refl; idle = refl; room = refl }
 
 -- it has no place
@@ -247,6 +254,18 @@ tests_placed hdus tail h kind axes p = tests_behind hdus tail h kind axes p.with
 -- a number within is one
 pub in_range : (h last : ℕ) → is_within h last ≡ true → (1 ≤ h) × (h ≤ last)
 in_range h last e = search rules
+
+-- a new image that isn't refused has one
+passes_within : (b : Bool) (next : Option Refusal) → (if not b then Some refusal.NoHdu else next) ≡ None → b ≡ true
+passes_within true next e = refl
+passes_within false next e = cc
+
+-- so it stands in the list, or at its end
+pub new_within : (file : FileParts) (h : ℕ) (kind : Kind) (axes : List ℕ) → new_image_refusal file h kind axes ≡ None → h - 1 ≤ length file.hdus
+unfolding new_image_refusal
+new_within file h kind axes e =
+    let r = in_range h (length file.hdus + 1) (passes_within (is_within h (length file.hdus + 1)) _ e) in
+    omega (arith, r.1)
 
 -- so it comes behind the first, and not past the last but one
 pub placed_at : (count h : ℕ) (axes : List ℕ) → IsPlaced count h axes → (2 ≤ h) × (h - 1 ≤ count)
@@ -311,12 +330,13 @@ new_fits hdus tail h kind axes p few short =
     (kept_limits (length (file_bytes after)) (length after.hdus) (omega (arith, short, new_length hdus tail h (new_image kind axes))) (omega (arith, few, new_count hdus tail h axes (new_image kind axes) p)))
 
 -- a new image that is put in owes this
-pub new_made : {X : Type 0} (hdus : List HduState) (tail : List ℕ) (h : ℕ) (x : X) (kind : Kind) (axes : List ℕ) (new : HduState) → IsPlaced (length hdus) h axes → image_sized hdus tail h kind axes ≡ None → parts_of new ≡ new_image kind axes → new.header.reads ≤ open_reads new.header.header.cards → IsMade (block_count new.plane.bytes) (plane_work new.plane)
+pub new_made : {X : Type 0} (hdus : List HduState) (tail : List ℕ) (h : ℕ) (x : X) (kind : Kind) (axes : List ℕ) (new : HduState) → IsPlaced (length hdus) h axes → image_sized hdus tail h kind axes ≡ None → parts_of new ≡ new_image kind axes → new.kept ≡ false → new.header.reads ≤ open_reads new.header.header.cards → IsMade (block_count new.plane.bytes) (plane_work new.plane)
     → EditsTo {X = X} (NewImage h kind axes) (state_of hdus tail) (state_of (insert hdus (h - 1) new) tail) (Ok x)
-unfolding refusal_of file_after
-new_made hdus tail h x kind axes new p fits is reads made = record {
+unfolding marked_refusal marked_after refusal_of file_after
+new_made hdus tail h x kind axes new p fits is mark reads made = record {
   accepted = tests_placed hdus tail h kind axes p ∙ fits;
-  ok = file_of-inserted hdus tail h new (new_image kind axes) is;
+  ok = marked_both (state_of (insert hdus (h - 1) new) tail) (with_new_hdu (file_of (state_of hdus tail)) h (new_image kind axes)) (insert (kept_of hdus) (h - 1) false) (file_of-inserted hdus tail h new (new_image kind axes) is)
+      (map-inserted (λ (one : HduState). one.kept) hdus (h - 1) new ∙ ap (insert (kept_of hdus) (h - 1)) mark);
   refused = tt;
   err = tt;
   work = inr (record { one = new; is = refl; reads = reads; made = made });
@@ -337,7 +357,7 @@ new_size hdus tail h hdu new is = ap (λ (f : FileParts). length (file_bytes f))
 
 -- an HDU that isn't there doesn't go
 pub removes_nowhere : {X : Type 0} (hdus : List HduState) (tail : List ℕ) (h : ℕ) → IsNowhere (length hdus) h → EditsTo {X = X} (RemoveHdu h) (state_of hdus tail) (state_of hdus tail) (Err refusal.NoHdu)
-unfolding refusal_of
+unfolding marked_refusal refusal_of
 removes_nowhere hdus tail h p = record { accepted = tt; ok = tt; refused = inl (ap (removal_refusal h) (hdu_of-nowhere hdus tail h p)); err = refl; work = inl refl; idle = refl; room = refl }
 
 -- the primary HDU is there
@@ -347,7 +367,7 @@ primary_is_there (v ∷ vs) tail h some is = let file : FileParts = file_of (sta
 
 -- and stays
 pub primary_stays : {X : Type 0} (hdus : List HduState) (tail : List ℕ) (h i : ℕ) → IsIndexOf (length hdus) h i → i ≡ 0 → EditsTo {X = X} (RemoveHdu h) (state_of hdus tail) (state_of hdus tail) (Err refusal.PrimaryStays)
-unfolding refusal_of
+unfolding marked_refusal refusal_of
 primary_stays hdus tail h i at zero_is = record { accepted = tt; ok = tt; refused = inl (primary_is_there hdus tail h (omega (arith, at.within)) (omega (arith, at.at, zero_is))); err = refl; work = inl refl; idle = refl; room = refl }
 
 -- another may go
@@ -357,13 +377,14 @@ goes h (suc i) at behind = let number : h ≡ suc (suc i) = omega (arith, at) in
 
 -- an HDU that is taken out owes this
 pub removes : {X : Type 0} (hdus left : List HduState) (tail : List ℕ) (h i : ℕ) (x : X) (old : HduState) → IsHduAt hdus h i old → 0 < i → without_entries left ≡ without_entries (remove hdus i) → EditsTo {X = X} (RemoveHdu h) (state_of hdus tail) (state_of left tail) (Ok x)
-unfolding refusal_of file_after
+unfolding marked_refusal marked_after refusal_of file_after
 removes hdus left tail h i x old at behind same =
     let file : FileParts = file_of (state_of hdus tail) in
     let index : i ≡ h - 1 = omega (arith, at.index.at) in
     record {
       accepted = ap (removal_refusal h) (hdu_of-there hdus tail h i old at) ∙ goes h i at.index.at behind;
-      ok = file_of-unentered left (remove hdus i) tail same ∙ file_of-left hdus tail h i at.index.at;
+      ok = marked_both (state_of left tail) (without_hdu file h) (remove (kept_of hdus) (h - 1)) (file_of-unentered left (remove hdus i) tail same ∙ file_of-left hdus tail h i at.index.at)
+          (kept_moved left (remove hdus i) same ∙ (map-left (λ (one : HduState). one.kept) hdus i ∙ ap (remove (kept_of hdus)) index));
       refused = tt;
       err = tt;
       work = inr (same ∙ map-remove unentered hdus i ∙ ap (remove (without_entries hdus)) index);

@@ -1,5 +1,5 @@
 -- What is made of an HDU: its length, the limits, and what it owes.
-use Rattle.std.proofs.Common.{◌≡◌, inl, inr, ℕ, ◌+◌, ◌-◌, ◌*◌, ◌<◌, ◌≤◌, Bool, true, false, List, [], ◌∷◌, length, refl, ap, sym, ◌∙◌, subst, arith, rules, All, Option, None, Some, replicate}
+use Rattle.std.proofs.Common.{◌≡◌, inl, inr, ℕ, ◌+◌, ◌-◌, ◌*◌, ◌^◌, ◌<◌, ◌≤◌, Bool, true, false, List, [], ◌∷◌, length, refl, ap, sym, ◌∙◌, subst, arith, rules, All, Option, None, Some, replicate}
 use Rattle.std.specs.Prelude.{Result, Ok, Err, IsOk, IfErr, OnOk, if◌then◌else◌}
 use Rattle.std.proofs.lemmas.List.{length-append}
 use Rattle.fits_card.specs.Change.{IsInRange, cards_after, new_cards}
@@ -21,16 +21,18 @@ use Rattle.fits_hdu.proofs.StateLemmas.{parts_read}
 use Rattle.fits_hdu.proofs.ChangeLemmas.{hdu-changed, inner_after}
 use Rattle.fits_session.specs.CardEdit.{change_of, is_keyword_name, unless, unset_of, unsetting}
 use Rattle.fits_session.specs.HduEdit.{hdu_changed, hdu_made}
-use Rattle.fits_session.specs.Limits.{is_within_limits, size_within}
+use Rattle.fits_session.specs.Keeping.{padded_if, spare_cards, stamped_if, then_stamped}
+use Rattle.fits_session.specs.Limits.{is_within_limits}
 use Rattle.fits_session.specs.declared.limits.TheConstants.{FILE_LIMIT, HDU_LIMIT}
-use Rattle.fits_session.specs.Refusal.{limit_refusal, CardEditNeedsMemory, CardsNeedMemory, ChangeFails, ChangeNeedsMemory, Fails}
-use Rattle.fits_session.specs.Session.{length_with, within_refusal, BlankWork, ChangesTo, HduEditsTo, HduMakes}
-use Rattle.fits_session.specs.Work.{hdu_reads, own_reads}
+use Rattle.fits_session.specs.Refusal.{limit_refusal, CardEditNeedsMemory, CardsNeedMemory, ChangeFails, ChangeNeedsMemory, Fails, OrStampNeedsMemory}
+use Rattle.fits_session.specs.Session.{length_with, within_refusal, BlankWork, ChangesTo, HduEditsTo, HduMakes, IsFinished}
+use Rattle.fits_session.specs.Work.{follow_up_reads, hdu_reads, own_reads}
 use Rattle.fits_session.specs.declared.card_edit.CardEdit.{CardEdit}
 use Rattle.fits_session.specs.declared.card_edit.CardEdit.TheVariants.{Insert, Put, Delete, Move, Set, Unset}
 use Rattle.fits_session.specs.declared.hdu_edit.HduEdit.TheVariants.{Cards}
 use Rattle.fits_session.specs.declared.refusal.Refusal.{Refusal}
 use Rattle.fits_session.specs.declared.refusal.Refusal.TheVariants as refusal
+use Rattle.fits_session.proofs.KeepingLemmas.{finished_right, finished_short, finished_whole, hdu_long, no_longer, padded_long}
 use Rattle.fits_hdu.specs.Keyword.{keyword_cards}
 use Rattle.fits_hdu.specs.declared.keyword_cards.KeywordCards.{KeywordCards}
 
@@ -50,33 +52,19 @@ fill_bound n = omega (arith, fill_length-by_cards n)
 pub not_within : (bytes hdus : ℕ) → FILE_LIMIT < bytes → is_within_limits bytes hdus ≡ false
 not_within bytes hdus l = search rules
 
--- so no size comes of them
-pub too_long : (bytes hdus : ℕ) → FILE_LIMIT < bytes → size_within bytes hdus ≡ None
-too_long bytes hdus l = rw (not_within bytes hdus l) refl
-
--- more cards than a file has bytes for make one too long
-pub too_many : (len before after hdus : ℕ) → FILE_LIMIT < 80 * after → size_within (len - header_length before + header_length after) hdus ≡ None
-too_many len before after hdus l = too_long (len - header_length before + header_length after) hdus (omega arith)
+-- nor do more cards than a file has bytes for
+pub too_many : (len before after spare hdus : ℕ) → FILE_LIMIT < 80 * after → is_within_limits (len - header_length before + header_length (after + spare)) hdus ≡ false
+too_many len before after spare hdus l = not_within (len - header_length before + header_length (after + spare)) hdus (omega arith)
 
 pub ruleset length_steps = (fill_bound, too_many)
 
--- what was found of the limits
-limits_are : (b : Bool) (m n : ℕ) → Some n ≡ (if b then Some m else None) → (b ≡ true) × (n ≡ m)
-limits_are true m n e = (refl, cc)
-limits_are false m n e = cc
-
--- none says that they aren't kept
-limits_not : (b : Bool) (m : ℕ) → (let o : Option ℕ = None in o) ≡ (if b then Some m else None) → b ≡ false
-limits_not true m e = cc
-limits_not false m e = refl
-
--- a size that keeps to the limits isn't refused, and is what was reckoned
-pub fits : (m n hdus : ℕ) → Some n ≡ size_within m hdus → (limit_refusal m hdus ≡ None) × (n ≡ m)
-fits m n hdus some = let p = limits_are (is_within_limits m hdus) m n some in (rw p.0 refl, p.1)
+-- a size that keeps to the limits isn't refused
+pub fits : (m hdus : ℕ) → is_within_limits m hdus ≡ true → limit_refusal m hdus ≡ None
+fits m hdus e = rw e refl
 
 -- another is
-pub fits_not : (m hdus : ℕ) → (let o : Option ℕ = None in o) ≡ size_within m hdus → limit_refusal m hdus ≡ Some refusal.TooLarge
-fits_not m hdus none = rw (limits_not (is_within_limits m hdus) m none) refl
+pub fits_not : (m hdus : ℕ) → is_within_limits m hdus ≡ false → limit_refusal m hdus ≡ Some refusal.TooLarge
+fits_not m hdus e = rw e refl
 
 -- what keeps to the limits
 pub within_limits : (bytes hdus : ℕ) → is_within_limits bytes hdus ≡ true → (bytes ≤ FILE_LIMIT) × (hdus ≤ HDU_LIMIT)
@@ -91,19 +79,29 @@ pub limit_none : (b : Bool) → (if b then None else Some refusal.TooLarge) ≡ 
 limit_none true e = refl
 limit_none false e = cc
 
--- how many bytes a file has with an HDU of other cards, by their numbers
-pub length_reckoned : (primary : Bool) (hdu made : HduParts) (len before after : ℕ) → IsHdu primary hdu → IsHdu primary made → made.data_unit ≡ hdu.data_unit → length (hdu_bytes hdu) ≤ len → before ≡ length hdu.header.cards → after ≡ length made.header.cards
-    → len - header_length before + header_length after ≡ length_with len hdu made
-length_reckoned primary hdu made len before after whole left unit part b a = omega (
+-- no larger a size is refused
+pub fits_less : (m n hdus : ℕ) → n ≤ m → limit_refusal m hdus ≡ None → limit_refusal n hdus ≡ None
+fits_less m n hdus less e =
+    let few = within_limits m hdus (limit_none (is_within_limits m hdus) e) in
+    fits n hdus (kept_limits n hdus (omega (arith, few.0, less)) few.1)
+
+-- so what may be made is small enough for a stamp
+pub makes_small : (stamps primary : Bool) (bytes hdus : ℕ) (old made new : HduParts) → IsHdu primary made → new ≡ made → is_within_limits (length_with bytes old (padded_if stamps made)) hdus ≡ true → length (hdu_bytes new) ≤ 2 ^ 34 - 2 ^ 13
+makes_small stamps primary bytes hdus old made new whole is within =
+    let few = within_limits (length_with bytes old (padded_if stamps made)) hdus within in
+    omega (arith, few.0, hdu_long made whole.header, padded_long stamps primary made whole, no_longer (length made.header.cards) (length made.header.cards + spare_cards stamps) (omega arith), ap (λ (hdu : HduParts). length (hdu_bytes hdu)) is)
+
+-- how many bytes a file has with an HDU of other cards, and as many more as its stamp may bring, by their numbers
+pub length_reckoned : (stamps primary : Bool) (hdu made : HduParts) (len before after : ℕ) → IsHdu primary hdu → IsHdu primary made → made.data_unit ≡ hdu.data_unit → length (hdu_bytes hdu) ≤ len → before ≡ length hdu.header.cards → after ≡ length made.header.cards
+    → len - header_length before + header_length (after + spare_cards stamps) ≡ length_with len hdu (padded_if stamps made)
+length_reckoned stamps primary hdu made len before after whole left unit part b a = omega (
   arith,
   part,
   ap header_length b,
-  ap header_length a,
-  length-append (header_bytes hdu.header) hdu.data_unit,
-  length-append (header_bytes made.header) made.data_unit,
+  ap (λ n. header_length (n + spare_cards stamps)) a,
   ap length unit,
-  header_long hdu.header whole.header,
-  header_long made.header left.header,
+  hdu_long hdu whole.header,
+  padded_long stamps primary made left,
 )
 
 -- how many bytes an HDU has with its cards changed
@@ -119,34 +117,69 @@ length_cards primary hdu change whole inner =
       header_long (hdu_after change hdu).header left,
     )
 
--- the cards of an HDU describe the shape that is kept, and its entry is that of another
-abbrev pub Lasts : (old new : HduState) → Type 0
-Lasts old new = IsDescribed new × (new.entry ≡ old.entry)
+-- the cards of an HDU describe the shape that is kept, its entry is that of another, and it is kept stamped or not as that is
+pub record Lasts (old new : HduState) : Type 0 where
+  pub described : IsDescribed new
+  pub entry : new.entry ≡ old.entry
+  pub kept : new.kept ≡ old.kept
 
 -- so it is where cards were read
 pub lasts_read : (old new : HduState) (count : ℕ) → IsDescribed old → ReadsUpTo old new count → Lasts old new
-lasts_read old new count described read = (rw (read.header.header, read.header.shape) described, read.entry)
+lasts_read old new count described read = record { described = rw (read.header.header, read.header.shape) described; entry = read.entry; kept = read.kept }
 
 -- what is refused owes this
-pub makes_not : (made : Result HduParts Refusal) (NeedsMemory : Option Refusal → Type 0) (reads : ℕ) (Works : PixelWork → PixelWork → Type 0) (bytes hdus : ℕ) (old new : HduState) (why : Refusal)
-    → IsHdu (is_primary old.header.shape.class) (parts_of old) → parts_of new ≡ parts_of old → old.header.reads ≤ new.header.reads → new.header.reads ≤ old.header.reads + reads → plane_work new.plane ≡ plane_work old.plane → new.header.room ≡ old.header.room → Lasts old new → Works (plane_work old.plane) (plane_work old.plane) → Fails NeedsMemory (within_refusal bytes hdus (parts_of old) made) why
-    → HduMakes made NeedsMemory reads Works (λ before after. after ≡ before) bytes hdus old new (Err why)
-makes_not made NeedsMemory reads Works bytes hdus old new why whole same least most idle room lasts none fails = record {
+pub makes_not : {X : Type 0} (stamps kept : Bool) (made : Result HduParts Refusal) (NeedsMemory : Option Refusal → Type 0) (reads : ℕ) (Works : PixelWork → PixelWork → Type 0) (bytes hdus : ℕ) (old new : HduState) (why : Refusal)
+    → IsHdu (is_primary old.header.shape.class) (parts_of old) → parts_of new ≡ parts_of old → old.header.reads ≤ new.header.reads → new.header.reads ≤ old.header.reads + reads → plane_work new.plane ≡ plane_work old.plane → new.header.room ≡ old.header.room → Lasts old new → Works (plane_work old.plane) (plane_work old.plane)
+    → Fails (OrStampNeedsMemory stamps NeedsMemory) (within_refusal stamps bytes hdus (parts_of old) made) why
+    → HduMakes {X = X} stamps kept made NeedsMemory reads Works (λ before after. after ≡ before) bytes hdus old new (Err why)
+makes_not stamps kept made NeedsMemory reads Works bytes hdus old new why whole same least most idle room lasts none fails = record {
   whole = whole;
   left = subst (λ (hdu : HduParts). IsHdu (is_primary old.header.shape.class) hdu) (sym same) whole;
   accepted = tt;
   ok = tt;
-  size = tt;
+  within = tt;
+  mark = tt;
+  right = tt;
   refused = fails;
   err = same;
+  mark_stays = lasts.kept;
   least = least;
-  most = most;
+  most = omega (arith, most);
   work = subst (λ (work : PixelWork). Works (plane_work old.plane) work) (sym idle) none;
   idle = idle;
   room = room;
-  described = lasts.0;
-  entry = lasts.1;
+  described = lasts.described;
+  entry = lasts.entry;
 }
+
+-- what is made owes this, and the stamp that follows where the HDU is kept
+pub makes : {X : Type 0} (stamps : Bool) (made : Result HduParts Refusal) (NeedsMemory : Option Refusal → Type 0) (reads : ℕ) (Works Idles : PixelWork → PixelWork → Type 0) (bytes hdus : ℕ) (old mid new : HduState) (x : X)
+    → IsHdu (is_primary old.header.shape.class) (parts_of old) → IsHdu (is_primary old.header.shape.class) (parts_of mid) → made ≡ Ok (parts_of mid) → limit_refusal (length_with bytes (parts_of old) (padded_if stamps (parts_of mid))) hdus ≡ None
+    → old.header.reads ≤ mid.header.reads → mid.header.reads ≤ old.header.reads + reads → Works (plane_work old.plane) (plane_work mid.plane) → mid.entry ≡ old.entry → mid.kept ≡ stamps → IsFinished stamps mid new
+    → HduMakes {X = X} stamps stamps made NeedsMemory reads Works Idles bytes hdus old new (Ok x)
+makes stamps made NeedsMemory reads Works Idles bytes hdus old mid new x whole left is limits least most works entry kept f =
+    let primary : Bool = is_primary old.header.shape.class in
+    let short = finished_short stamps primary (parts_of mid) left in
+    let long : length (hdu_bytes (parts_of new)) ≡ length (hdu_bytes (stamped_if stamps (parts_of mid))) = ap (λ (hdu : HduParts). length (hdu_bytes hdu)) f.hdu in
+    record {
+      whole = whole;
+      left = subst (λ (hdu : HduParts). IsHdu primary hdu) (sym f.hdu) (finished_whole stamps primary (parts_of mid) left);
+      accepted = ap (within_refusal stamps bytes hdus (parts_of old)) is ∙ limits;
+      ok = ap (then_stamped stamps) is ∙ ap (λ (hdu : HduParts). let made : Result HduParts Refusal = Ok hdu in made) (sym f.hdu);
+      within = fits_less (length_with bytes (parts_of old) (padded_if stamps (parts_of mid))) (length_with bytes (parts_of old) (parts_of new)) hdus (omega (arith, short, long)) limits;
+      mark = f.kept ∙ kept;
+      right = λ on. finished_right stamps primary (parts_of mid) (parts_of new) left f.hdu (sym (f.kept ∙ kept) ∙ on);
+      refused = tt;
+      err = tt;
+      mark_stays = tt;
+      least = omega (arith, least, f.least);
+      most = omega (arith, most, f.most, ap (follow_up_reads stamps) is);
+      work = subst (λ (work : PixelWork). Works (plane_work old.plane) work) (sym f.work) works;
+      idle = tt;
+      room = tt;
+      described = f.described;
+      entry = f.entry ∙ entry;
+    }
 
 -- a change that keeps the shape makes this
 pub kept_made : (primary : Bool) (hdu : HduParts) (change : Change) → keeps_shape primary hdu.header.cards (cards_after hdu.header.cards change) ≡ true → hdu_changed primary hdu (Ok change) ≡ Ok (hdu_after change hdu)
@@ -160,49 +193,39 @@ kept_shape primary hdu change whole kept = (same_shape-Decides whole.shape (shap
 pub kept_whole : (primary : Bool) (hdu : HduParts) (change : Change) → IsHdu primary hdu → All IsInnerCard (new_cards change) → keeps_shape primary hdu.header.cards (cards_after hdu.header.cards change) ≡ true → IsHdu primary (hdu_after change hdu)
 kept_whole primary hdu change whole inner kept = hdu-changed primary hdu change whole inner (kept_shape primary hdu change whole kept ∙ sym whole.described)
 
--- how many bytes a file has with the cards of an HDU changed, by their numbers
-pub change_reckoned : (hdu : HduParts) (primary : Bool) (change : Change) (len before after : ℕ) → IsHdu primary hdu → All IsInnerCard (new_cards change) → keeps_shape primary hdu.header.cards (cards_after hdu.header.cards change) ≡ true → length (hdu_bytes hdu) ≤ len
-    → before ≡ length hdu.header.cards → after ≡ length (cards_after hdu.header.cards change) → len - header_length before + header_length after ≡ length_with len hdu (hdu_after change hdu)
-change_reckoned hdu primary change len before after whole inner kept part b a = length_reckoned primary hdu (hdu_after change hdu) len before after whole (kept_whole primary hdu change whole inner kept) refl part b a
+-- how many bytes a file has with the cards of an HDU changed, and as many more as its stamp may bring, by their numbers
+pub change_reckoned : (hdu : HduParts) (stamps primary : Bool) (change : Change) (len before after : ℕ) → IsHdu primary hdu → All IsInnerCard (new_cards change) → keeps_shape primary hdu.header.cards (cards_after hdu.header.cards change) ≡ true → length (hdu_bytes hdu) ≤ len
+    → before ≡ length hdu.header.cards → after ≡ length (cards_after hdu.header.cards change) → len - header_length before + header_length (after + spare_cards stamps) ≡ length_with len hdu (padded_if stamps (hdu_after change hdu))
+change_reckoned hdu stamps primary change len before after whole inner kept part b a = length_reckoned stamps primary hdu (hdu_after change hdu) len before after whole (kept_whole primary hdu change whole inner kept) refl part b a
 
 -- what keeps the number that BLANK names works on no block
-blank_none : (primary : Bool) (hdu : HduParts) (made : Result HduParts Refusal) (work : PixelWork) → BlankWork primary hdu made work work
+pub blank_none : (primary : Bool) (hdu : HduParts) (made : Result HduParts Refusal) (work : PixelWork) → BlankWork primary hdu made work work
 blank_none primary hdu made work = record { same = λ e. refl; any = inl refl }
 
 -- a change of an HDU that is refused owes this
-pub changes_not : (change : Change) (bytes hdus : ℕ) (old new : HduState) (why : Refusal) → IsHdu (is_primary old.header.shape.class) (parts_of old) → parts_of new ≡ parts_of old → old.header.reads ≤ new.header.reads → new.header.reads ≤ old.header.reads + shape_reads old.header.shape → plane_work new.plane ≡ plane_work old.plane → new.header.room ≡ old.header.room → Lasts old new
-    → Fails (ChangeNeedsMemory change) (within_refusal bytes hdus (parts_of old) (hdu_changed (is_primary old.header.shape.class) (parts_of old) (Ok change))) why → ChangesTo change bytes hdus old new (Err why)
+pub changes_not : {X : Type 0} (change : Change) (bytes hdus : ℕ) (old new : HduState) (why : Refusal) → IsHdu (is_primary old.header.shape.class) (parts_of old) → parts_of new ≡ parts_of old → old.header.reads ≤ new.header.reads → new.header.reads ≤ old.header.reads + shape_reads old.header.shape → plane_work new.plane ≡ plane_work old.plane → new.header.room ≡ old.header.room → Lasts old new
+    → Fails (OrStampNeedsMemory old.kept (ChangeNeedsMemory change)) (within_refusal old.kept bytes hdus (parts_of old) (hdu_changed (is_primary old.header.shape.class) (parts_of old) (Ok change))) why → ChangesTo {X = X} change bytes hdus old new (Err why)
 changes_not change bytes hdus old new why whole same least most idle room lasts fails =
     let made : Result HduParts Refusal = hdu_changed (is_primary old.header.shape.class) (parts_of old) (Ok change) in
-    makes_not made (ChangeNeedsMemory change) (shape_reads old.header.shape + apply_reads) (BlankWork (is_primary old.header.shape.class) (parts_of old) made) bytes hdus old new why whole same least (omega (arith, most)) idle room lasts
+    makes_not old.kept old.kept made (ChangeNeedsMemory change) (shape_reads old.header.shape + apply_reads) (BlankWork (is_primary old.header.shape.class) (parts_of old) made) bytes hdus old new why whole same least (omega (arith, most)) idle room lasts
     (blank_none (is_primary old.header.shape.class) (parts_of old) made (plane_work old.plane)) fails
 
 -- one that is made owes this
-pub changes_made : (change : Change) (bytes hdus n : ℕ) (old new : HduState) → IsHdu (is_primary old.header.shape.class) (parts_of old) → shape_of (is_primary old.header.shape.class) old.header.header.cards ≡ Ok old.header.shape → All IsInnerCard (new_cards change)
-    → keeps_shape (is_primary old.header.shape.class) old.header.header.cards (cards_after old.header.header.cards change) ≡ true → Some n ≡ size_within (length_with bytes (parts_of old) (hdu_after change (parts_of old))) hdus → parts_of new ≡ hdu_after change (parts_of old) → old.header.reads ≤ new.header.reads → new.header.reads ≤ old.header.reads + (shape_reads old.header.shape + apply_reads)
-    → FollowsBlank (layout_of old.header.shape old.header.header.cards).blank (layout_of old.header.shape (cards_after old.header.header.cards change)).blank (block_count old.plane.bytes) (plane_work old.plane) (plane_work new.plane) → Lasts old new → ChangesTo change bytes hdus old new (Ok n)
-changes_made change bytes hdus n old new whole described inner kept some is least most follows lasts =
+pub changes_made : {X : Type 0} (change : Change) (bytes hdus : ℕ) (old mid new : HduState) (x : X) → IsHdu (is_primary old.header.shape.class) (parts_of old) → shape_of (is_primary old.header.shape.class) old.header.header.cards ≡ Ok old.header.shape → All IsInnerCard (new_cards change)
+    → keeps_shape (is_primary old.header.shape.class) old.header.header.cards (cards_after old.header.header.cards change) ≡ true → limit_refusal (length_with bytes (parts_of old) (padded_if old.kept (hdu_after change (parts_of old)))) hdus ≡ None → parts_of mid ≡ hdu_after change (parts_of old) → old.header.reads ≤ mid.header.reads → mid.header.reads ≤ old.header.reads + (shape_reads old.header.shape + apply_reads)
+    → FollowsBlank (layout_of old.header.shape old.header.header.cards).blank (layout_of old.header.shape (cards_after old.header.header.cards change)).blank (block_count old.plane.bytes) (plane_work old.plane) (plane_work mid.plane) → mid.entry ≡ old.entry → mid.kept ≡ old.kept → IsFinished old.kept mid new → ChangesTo {X = X} change bytes hdus old new (Ok x)
+changes_made change bytes hdus old mid new x whole described inner kept limits is least most follows entry mark finished =
     let primary : Bool = is_primary old.header.shape.class in
     let after : List (List ℕ) = cards_after old.header.header.cards change in
-    let made = kept_made primary (parts_of old) change kept in
     let there : shape_of primary after ≡ Ok old.header.shape = (same_shape-Decides old.header.shape (shape_of primary after)).0 (rw described at kept) in
-    let room = fits (length_with bytes (parts_of old) (hdu_after change (parts_of old))) n hdus some in
-    record {
-      whole = whole;
-      left = subst (λ (hdu : HduParts). IsHdu primary hdu) (sym is) (kept_whole primary (parts_of old) change whole inner kept);
-      accepted = ap (within_refusal bytes hdus (parts_of old)) made ∙ room.0;
-      ok = made ∙ ap (λ (hdu : HduParts). let made : Result HduParts Refusal = Ok hdu in made) (sym is);
-      size = room.1 ∙ ap (length_with bytes (parts_of old)) (sym is);
-      refused = tt;
-      err = tt;
-      least = least;
-      most = most;
-      work = rw (made, described, there) follows;
-      idle = tt;
-      room = tt;
-      described = lasts.0;
-      entry = lasts.1;
-    }
+    let done = kept_made primary (parts_of old) change kept in
+    let made : Result HduParts Refusal = hdu_changed primary (parts_of old) (Ok change) in
+    let work : BlankWork primary (parts_of old) made (plane_work old.plane) (plane_work mid.plane) = rw (done, described, there) follows in
+    makes old.kept made (ChangeNeedsMemory change) (shape_reads old.header.shape + apply_reads) (BlankWork primary (parts_of old) made) (λ before after. after ≡ before) bytes hdus old mid new x whole
+    (subst (λ (hdu : HduParts). IsHdu primary hdu) (sym is) (kept_whole primary (parts_of old) change whole inner kept))
+    (done ∙ ap (λ (hdu : HduParts). let made : Result HduParts Refusal = Ok hdu in made) (sym is))
+    (subst (λ (hdu : HduParts). limit_refusal (length_with bytes (parts_of old) (padded_if old.kept hdu)) hdus ≡ None) (sym is) limits)
+    least most work entry mark finished
 
 -- memory may run out before the size is known
 needs_sized : (b : Bool) → CardsNeedMemory (if b then None else Some refusal.TooLarge)
@@ -210,14 +233,14 @@ needs_sized true = tt
 needs_sized false = tt
 
 -- and before the shape is
-needs_kept : (kept : Bool) (bytes hdus : ℕ) (hdu made : HduParts) → CardsNeedMemory (within_refusal bytes hdus hdu (if kept then Ok made else Err refusal.Shape))
-needs_kept true bytes hdus hdu made = needs_sized (is_within_limits (length_with bytes hdu made) hdus)
-needs_kept false bytes hdus hdu made = tt
+needs_kept : (stamps kept : Bool) (bytes hdus : ℕ) (hdu made : HduParts) → CardsNeedMemory (within_refusal stamps bytes hdus hdu (if kept then Ok made else Err refusal.Shape))
+needs_kept stamps true bytes hdus hdu made = needs_sized (is_within_limits (length_with bytes hdu (padded_if stamps made)) hdus)
+needs_kept stamps false bytes hdus hdu made = tt
 
 -- so it may wherever a change was made
-needs_memory : (primary : Bool) (bytes hdus : ℕ) (hdu : HduParts) (made : Result Change Refusal) → IsOk made → CardsNeedMemory (within_refusal bytes hdus hdu (hdu_changed primary hdu made))
-needs_memory primary bytes hdus hdu (Ok change) p = needs_kept (keeps_shape primary hdu.header.cards (cards_after hdu.header.cards change)) bytes hdus hdu (hdu_after change hdu)
-needs_memory primary bytes hdus hdu (Err why) p = cc
+needs_memory : (stamps primary : Bool) (bytes hdus : ℕ) (hdu : HduParts) (made : Result Change Refusal) → IsOk made → CardsNeedMemory (within_refusal stamps bytes hdus hdu (hdu_changed primary hdu made))
+needs_memory stamps primary bytes hdus hdu (Ok change) p = needs_kept stamps (keeps_shape primary hdu.header.cards (cards_after hdu.header.cards change)) bytes hdus hdu (hdu_after change hdu)
+needs_memory stamps primary bytes hdus hdu (Err why) p = cc
 
 -- memory that an edit may need without a refusal it may need on the way to one
 needs_as : (edit : CardEdit) (refused : Option Refusal) → CardEditNeedsMemory edit None → CardsNeedMemory refused → CardEditNeedsMemory edit refused
@@ -270,46 +293,58 @@ grows_needs cards (changes.Splice place removed []) refused range more needs = a
 grows_needs cards (changes.Splice place removed (card ∷ new)) refused range more needs = needs
 grows_needs cards (changes.Move from to) refused range more needs = absurd (omega (arith, more, length-moved cards from to range.0 range.1 range.2 range.3))
 
--- room may be missing for such a change
-pub room_missing : (change : Change) (bytes hdus : ℕ) (primary : Bool) (hdu : HduParts) → IsInRange hdu.header.cards change → length hdu.header.cards < length (cards_after hdu.header.cards change)
-    → ChangeNeedsMemory change (within_refusal bytes hdus hdu (hdu_changed primary hdu (Ok change)))
-room_missing change bytes hdus primary hdu range more = grows_needs hdu.header.cards change _ range more (needs_memory primary bytes hdus hdu (Ok change) refl)
+-- room may be missing for such a change, or for its stamp
+pub room_missing : (change : Change) (bytes hdus : ℕ) (stamps primary : Bool) (hdu : HduParts) → IsInRange hdu.header.cards change → length hdu.header.cards < length (cards_after hdu.header.cards change) + spare_cards stamps → within_refusal stamps bytes hdus hdu (hdu_changed primary hdu (Ok change)) ≡ None
+    → OrStampNeedsMemory stamps (ChangeNeedsMemory change) (within_refusal stamps bytes hdus hdu (hdu_changed primary hdu (Ok change)))
+room_missing change bytes hdus true primary hdu range more none = inr (refl, none)
+room_missing change bytes hdus false primary hdu range more none = inl (grows_needs hdu.header.cards change _ range (omega (arith, more)) (needs_memory false primary bytes hdus hdu (Ok change) refl))
 
 -- an edit of cards whose change isn't made owes this
-pub cards_unmade : (edit : CardEdit) (bytes hdus : ℕ) (old new : HduState) (why : Refusal) → IsHdu (is_primary old.header.shape.class) (parts_of old) → IsDescribed old → ReadsUpTo old new (own_reads old.header.header.cards edit) → ChangeFails (change_of old.header.header.cards edit) why → (why ≡ refusal.Memory → CardEditNeedsMemory edit None) → HduEditsTo (Cards edit) bytes hdus old new (Err why)
+pub cards_unmade : {X : Type 0} (edit : CardEdit) (bytes hdus : ℕ) (old new : HduState) (why : Refusal) → IsHdu (is_primary old.header.shape.class) (parts_of old) → IsDescribed old → ReadsUpTo old new (own_reads old.header.header.cards edit) → ChangeFails (change_of old.header.header.cards edit) why → (why ≡ refusal.Memory → CardEditNeedsMemory edit None) → HduEditsTo {X = X} (Cards edit) bytes hdus old new (Err why)
 unfolding hdu_made
 cards_unmade edit bytes hdus old new why whole described r fails takes =
     let primary : Bool = is_primary old.header.shape.class in
     let made : Result HduParts Refusal = hdu_changed primary (parts_of old) (change_of old.header.header.cards edit) in
-    makes_not made (CardEditNeedsMemory edit) (hdu_reads primary (Cards edit) (parts_of old)) (BlankWork primary (parts_of old) made) bytes hdus old new why whole (parts_read old new _ r) r.header.least (omega (arith, r.header.most)) (ap plane_work r.plane) r.header.room (lasts_read old new _ described r) (blank_none primary (parts_of old) made (plane_work old.plane)) (elim fails [
-      | inl e ↦ inl (ap (λ said. within_refusal bytes hdus (parts_of old) (hdu_changed primary (parts_of old) said)) e)
-      | inr m ↦ inr (m.0, needs_as edit _ (takes m.0) (needs_memory primary bytes hdus (parts_of old) (change_of old.header.header.cards edit) m.1))
+    makes_not old.kept old.kept made (CardEditNeedsMemory edit) (hdu_reads primary (Cards edit) (parts_of old)) (BlankWork primary (parts_of old) made) bytes hdus old new why whole (parts_read old new _ r) r.header.least (omega (arith, r.header.most)) (ap plane_work r.plane) r.header.room (lasts_read old new _ described r) (blank_none primary (parts_of old) made (plane_work old.plane)) (elim fails [
+      | inl e ↦ inl (ap (λ said. within_refusal old.kept bytes hdus (parts_of old) (hdu_changed primary (parts_of old) said)) e)
+      | inr m ↦ inr (m.0, inl (needs_as edit _ (takes m.0) (needs_memory old.kept primary bytes hdus (parts_of old) (change_of old.header.header.cards edit) m.1)))
     ])
 
+-- where the change of an edit needs memory or its stamp, the edit does
+puts_or_stamps : (stamps : Bool) (cards : List (List ℕ)) (edit : CardEdit) (change : Change) → change_of cards edit ≡ Ok change → (refused : Option Refusal) → OrStampNeedsMemory stamps (ChangeNeedsMemory change) refused → OrStampNeedsMemory stamps (CardEditNeedsMemory edit) refused
+puts_or_stamps stamps cards edit change e refused needs = elim needs [
+  | inl more ↦ inl (puts_cards cards edit change e refused more)
+  | inr stamp ↦ inr stamp
+]
+
 -- one whose change is made owes what the change does
-pub cards_made : (edit : CardEdit) (change : Change) (bytes hdus : ℕ) (old left new : HduState) (result : Result ℕ Refusal) → shape_of (is_primary old.header.shape.class) old.header.header.cards ≡ Ok old.header.shape → ReadsUpTo old left (own_reads old.header.header.cards edit)
+pub cards_made : {X : Type 0} (edit : CardEdit) (change : Change) (bytes hdus : ℕ) (old left new : HduState) (result : Result X Refusal) → shape_of (is_primary old.header.shape.class) old.header.header.cards ≡ Ok old.header.shape → ReadsUpTo old left (own_reads old.header.header.cards edit)
     → change_of old.header.header.cards edit ≡ Ok change → ChangesTo change bytes hdus left new result → HduEditsTo (Cards edit) bytes hdus old new result
 unfolding hdu_made
 cards_made edit change bytes hdus old left new result described r made p =
     let primary : Bool = is_primary old.header.shape.class in
     let there : Result HduParts Refusal = hdu_changed primary (parts_of old) (Ok change) in
-    let accepted : OnOk result (within_refusal bytes hdus (parts_of old) there ≡ None) = rw (r.header.header, r.plane, r.header.shape) at p.accepted in
-    let ok : OnOk result (there ≡ Ok (parts_of new)) = rw (r.header.header, r.plane, r.header.shape) at p.ok in
-    let refused : IfErr result (Fails (CardEditNeedsMemory edit) (within_refusal bytes hdus (parts_of old) there)) =
-    fails_as (ChangeNeedsMemory change) (CardEditNeedsMemory edit) _ result (puts_cards old.header.header.cards edit change made) (rw (r.header.header, r.plane, r.header.shape) at p.refused) in
-    let most : new.header.reads ≤ left.header.reads + (shape_reads old.header.shape + apply_reads) = rw r.header.shape at p.most in
+    let accepted : OnOk result (within_refusal old.kept bytes hdus (parts_of old) there ≡ None) = rw (r.header.header, r.plane, r.header.shape, r.kept) at p.accepted in
+    let ok : OnOk result (then_stamped old.kept there ≡ Ok (parts_of new)) = rw (r.header.header, r.plane, r.header.shape, r.kept) at p.ok in
+    let refused : IfErr result (Fails (OrStampNeedsMemory old.kept (CardEditNeedsMemory edit)) (within_refusal old.kept bytes hdus (parts_of old) there)) =
+    fails_as (OrStampNeedsMemory old.kept (ChangeNeedsMemory change)) (OrStampNeedsMemory old.kept (CardEditNeedsMemory edit)) _ result (puts_or_stamps old.kept old.header.header.cards edit change made) (rw (r.header.header, r.plane, r.header.shape, r.kept) at p.refused) in
+    let most : new.header.reads ≤ left.header.reads + (shape_reads old.header.shape + apply_reads + follow_up_reads old.kept there) = rw (r.header.header, r.plane, r.header.shape, r.kept) at p.most in
     let reads : hdu_reads primary (Cards edit) (parts_of old) ≡ own_reads old.header.header.cards edit + (shape_reads old.header.shape + apply_reads) = rw (described, made) refl in
+    let stamp : follow_up_reads old.kept (hdu_changed primary (parts_of old) (change_of old.header.header.cards edit)) ≡ follow_up_reads old.kept there = ap (λ said. follow_up_reads old.kept (hdu_changed primary (parts_of old) said)) made in
     let work : BlankWork primary (parts_of old) there (plane_work old.plane) (plane_work new.plane) = rw (r.header.header, r.plane, r.header.shape) at p.work in
     record {
       whole = rw (r.header.header, r.plane, r.header.shape) at p.whole;
       left = rw r.header.shape at p.left;
       accepted = rw made accepted;
       ok = rw made ok;
-      size = rw (r.header.header, r.plane) at p.size;
+      within = rw (r.header.header, r.plane) at p.within;
+      mark = rw r.kept at p.mark;
+      right = p.right;
       refused = rw made refused;
       err = rw (r.header.header, r.plane) at p.err;
+      mark_stays = rw r.kept at p.mark_stays;
       least = omega (arith, r.header.least, p.least);
-      most = omega (arith, r.header.most, most, reads);
+      most = omega (arith, r.header.most, most, reads, stamp);
       work = rw made work;
       idle = rw r.plane at p.idle;
       room = rw r.header.room at p.room;

@@ -1,5 +1,5 @@
 -- Steps of queries.
-use Rattle.std.proofs.Common.{◌≡◌, ◌<◌, ◌+◌, ℕ, List, length, set, refl, ap, sym, ◌∙◌, subst, ℤ, Option, None, Some}
+use Rattle.std.proofs.Common.{◌≡◌, ◌<◌, ◌+◌, ℕ, Bool, true, All, List, length, set, refl, ap, sym, ◌∙◌, subst, ℤ, Option, None, Some}
 use Rattle.std.specs.Prelude.{ok_or, Result, Ok, Err, IsOk}
 use Rattle.fits_value.specs.declared.value.Value.{Value}
 use Rattle.fits_header.specs.Names.{header_names}
@@ -26,11 +26,13 @@ use Rattle.fits_session.specs.HduEdit.{pixels_made, refusal_of_pixels, shaped}
 use Rattle.fits_session.specs.File.{IsFile}
 use Rattle.fits_session.specs.Query.{by_shape, card_count_in, datasum_in, kind_in, rect_in, shape_in, some_shape, stats_in, verdicts_in, value_in, positions_in, names_in, in_hdu, or_refused, refusal_of_keyword, PlacesFail, QueryFails}
 use Rattle.fits_session.specs.Edit.{is_primary_hdu}
-use Rattle.fits_session.specs.Session.{file_of, read_more, state_of, Asks, AsksPixels}
+use Rattle.fits_session.specs.Keeping.{both_right, IsRight}
+use Rattle.fits_session.specs.Marked.{is_kept, kept_in}
+use Rattle.fits_session.specs.Session.{file_of, kept_of, marked_of, read_more, state_of, Asks, AsksPixels}
 use Rattle.fits_session.specs.Work.{reads_in, value_reads}
 use Rattle.fits_session.specs.declared.refusal.Refusal.{Refusal}
 use Rattle.fits_session.specs.declared.refusal.Refusal.TheVariants as refusal
-use Rattle.fits_session.proofs.StateLemmas.{IsHduAt, hdu_of-there, described_there, asked, file_of-same, reads_of-same, works_changed}
+use Rattle.fits_session.proofs.StateLemmas.{IsHduAt, hdu_of-there, described_there, asked, kept_there, marked_of-same, reads_of-same, works_changed}
 
 -- how many cards HDU h has
 pub count_there : (hdus : List HduState) (tail : List ℕ) (h i n : ℕ) (hdu : HduState) → IsHduAt hdus h i hdu → n ≡ length hdu.header.header.cards → Path (Result ℕ Refusal) (Ok n) (card_count_in (file_of (state_of hdus tail)) h)
@@ -107,6 +109,16 @@ datasum_there hdus tail h i n hdu at is = ap Ok is ∙ sym (answer_there (λ (u 
 pub verdicts_there : (hdus : List HduState) (tail : List ℕ) (h i : ℕ) (hdu : HduState) (verdicts : Verdicts) → IsHduAt hdus h i hdu → verdicts ≡ verdicts_of (parts_of hdu) → Path (Result Verdicts Refusal) (Ok verdicts) (verdicts_in (file_of (state_of hdus tail)) h)
 verdicts_there hdus tail h i hdu verdicts at is = ap Ok is ∙ sym (answer_there (λ (u : HduParts). Ok (verdicts_of u)) hdus tail h i hdu at)
 
+-- whether it is kept stamped
+pub kept_said : (hdus : List HduState) (tail : List ℕ) (h i : ℕ) (hdu : HduState) (kept : Bool) → IsHduAt hdus h i hdu → kept ≡ hdu.kept → Path (Result Bool Refusal) (Ok kept) (kept_in (marked_of (state_of hdus tail)) h)
+kept_said hdus tail h i hdu kept at is = ap Ok (is ∙ sym (kept_there hdus h i hdu at)) ∙ sym (answer_there (λ (u : HduParts). Ok (is_kept (kept_of hdus) h)) hdus tail h i hdu at)
+
+-- and then both its sums are right
+pub kept_sums : (hdus : List HduState) (tail : List ℕ) (h i : ℕ) (hdu : HduState) (kept : Bool) → All IsRight hdus → IsHduAt hdus h i hdu → kept ≡ hdu.kept → kept ≡ true → verdicts_in (file_of (state_of hdus tail)) h ≡ Ok both_right
+kept_sums hdus tail h i hdu kept right at is on =
+    let own : IsRight hdu = subst IsRight (sym at.is) (right i hdu at.index.within) in
+    sym (verdicts_there hdus tail h i hdu both_right at (sym (own (sym is ∙ on))))
+
 -- the values of a rectangle of it
 rect_there : (hdus : List HduState) (tail : List ℕ) (h i : ℕ) (hdu : HduState) (lo hi : List ℕ) → IsFile (file_of (state_of hdus tail)) → IsHduAt hdus h i hdu → shape_of (is_primary hdu.header.shape.class) hdu.header.header.cards ≡ Ok hdu.header.shape → rect_in (file_of (state_of hdus tail)) h lo hi ≡ pixels_made (rect_of hdu.header.shape lo hi (parts_of hdu))
 rect_there hdus tail h i hdu lo hi p at described = shaped_there (λ shape it. rect_of shape lo hi it) hdus tail h i hdu p at described
@@ -141,7 +153,7 @@ pixels_read count state = record state { plane = record state.plane { reads = st
 -- what the query of a rectangle reads
 pub rect_asks : (hdus : List HduState) (tail : List ℕ) (h i count : ℕ) (old new : HduState) → IsHduAt hdus h i old → new ≡ pixels_read count old → AsksPixels h count (state_of hdus tail) (state_of (set hdus i new) tail)
 rect_asks hdus tail h i count old new at is = record {
-  file = file_of-same hdus tail h i old new at (ap parts_of is);
+  file = marked_of-same hdus tail h i old new at (ap parts_of is) (ap (λ (one : HduState). one.kept) is);
   work = reads_of-same hdus i old new at.index.within at.is (ap (λ (state : HduState). state.header.reads) is);
   pixel_work = works_changed hdus h i old new (read_more count) at (ap (λ (state : HduState). plane_work state.plane) is);
 }

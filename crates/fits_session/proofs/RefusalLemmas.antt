@@ -29,14 +29,16 @@ use Rattle.fits_session.specs.CardEdit.{change_of, is_in_range, is_keyword_name,
 use Rattle.fits_session.specs.Edit.{hdu_of, is_primary_hdu, with_hdu, with_new_hdu}
 use Rattle.fits_session.specs.File.{FileParts, file_bytes}
 use Rattle.fits_session.specs.HduEdit.{hdu_changed, hdu_made, hdu_reshaped, pixels_made, plane_paint, shaped}
+use Rattle.fits_session.specs.Keeping.{padded_if, stamp_follows}
 use Rattle.fits_session.specs.Limits.{is_within_limits}
+use Rattle.fits_session.specs.Marked.{Marked, is_kept, marked_refusal}
 use Rattle.fits_session.specs.Refusal.{made_refusal, new_image_refusal, refusal_in, refusal_of, removal_refusal, size_refusal}
 use Rattle.fits_session.specs.declared.card_edit.CardEdit.{CardEdit}
 use Rattle.fits_session.specs.declared.card_edit.CardEdit.TheVariants.{Insert, Put, Delete, Move, Set, Unset}
 use Rattle.fits_session.specs.declared.edit.Edit.{Edit}
 use Rattle.fits_session.specs.declared.edit.Edit.TheVariants.{Hdu, NewImage, RemoveHdu}
 use Rattle.fits_session.specs.declared.hdu_edit.HduEdit.{HduEdit}
-use Rattle.fits_session.specs.declared.hdu_edit.HduEdit.TheVariants.{Cards, Pixels, Reshape, Stamp}
+use Rattle.fits_session.specs.declared.hdu_edit.HduEdit.TheVariants.{Cards, Keep, Pixels, Release, Reshape, Stamp}
 use Rattle.fits_session.specs.declared.refusal.Refusal.{Refusal}
 use Rattle.fits_session.specs.declared.refusal.Refusal.TheVariants.{NoHdu, NoCard, NoKey, BadText, EndCard, BadName, BadValue, NotImage, BadRect, WrongCount, Range, PrimaryStays, TooLarge, Memory}
 use Rattle.fits_session.specs.declared.refusal.Refusal.TheVariants as refusal
@@ -239,21 +241,23 @@ firm_made_of primary (Cards edit) hdu = firm_changed primary hdu (change_of hdu.
 firm_made_of primary (Pixels lo hi paint) hdu = firm_shaped (shape_of primary hdu.header.cards) (λ shape. painted shape lo hi (plane_paint paint) hdu) (λ shape. firm_painted shape lo hi (plane_paint paint) hdu)
 firm_made_of primary (Reshape kind axes) hdu = firm_reshaped (shape_of primary hdu.header.cards) kind axes hdu
 firm_made_of primary Stamp hdu = firm_hdu (stamped hdu)
+firm_made_of primary Keep hdu = firm_hdu (stamped hdu)
+firm_made_of primary Release hdu = firm_hdu hdu
 
 -- the tests of a file's size
 firm_size : (file : FileParts) → IsFirm (size_refusal file)
 firm_size file = firm_choice (is_within_limits (length (file_bytes file)) (length file.hdus)) None (Some TooLarge) firm_none (firm_some TooLarge (λ e. cc))
 
 -- the tests of what is made of an HDU
-firm_tests : (file : FileParts) (h : ℕ) (made : Result HduParts Refusal) → FirmMade made → IsFirm (made_refusal file h made)
+firm_tests : (stamps : Bool) (file : FileParts) (h : ℕ) (made : Result HduParts Refusal) → FirmMade made → IsFirm (made_refusal stamps file h made)
 unfolding IsFirm FirmMade
-firm_tests file h (Err why) firm = λ e. firm (let same : why ≡ Memory = cc in ap Err same)
-firm_tests file h (Ok made) firm = firm_size (with_hdu file h (λ hdu. made))
+firm_tests stamps file h (Err why) firm = λ e. firm (let same : why ≡ Memory = cc in ap Err same)
+firm_tests stamps file h (Ok made) firm = firm_size (with_hdu file h (λ hdu. padded_if stamps made))
 
 -- the tests of an edit, whether its HDU is there or not
-firm_edit : (file : FileParts) (h : ℕ) (edit : HduEdit) (hdu : Option HduParts) → IsFirm (refusal_in file h edit hdu)
-firm_edit file h edit None = firm_some NoHdu (λ e. cc)
-firm_edit file h edit (Some hdu) = firm_tests file h (hdu_made (is_primary_hdu h) edit hdu) (firm_made_of (is_primary_hdu h) edit hdu)
+firm_edit : (stamps : Bool) (file : FileParts) (h : ℕ) (edit : HduEdit) (hdu : Option HduParts) → IsFirm (refusal_in stamps file h edit hdu)
+firm_edit stamps file h edit None = firm_some NoHdu (λ e. cc)
+firm_edit stamps file h edit (Some hdu) = firm_tests stamps file h (hdu_made (is_primary_hdu h) edit hdu) (firm_made_of (is_primary_hdu h) edit hdu)
 
 -- the tests of taking an HDU out
 firm_removal : (h : ℕ) (hdu : Option HduParts) → IsFirm (removal_refusal h hdu)
@@ -268,9 +272,9 @@ firm_new file h kind axes =
     (firm_choice (h == 1) (Some PrimaryStays) _ (firm_some PrimaryStays (λ e. cc))
     (firm_choice (not (are_axes axes)) (Some refusal.Shape) _ (firm_some refusal.Shape (λ e. cc)) (firm_size (with_new_hdu file h (new_image kind axes)))))
 
--- no edit of any file is refused for memory
-pub never_memory : (file : FileParts) (edit : Edit) → refusal_of file edit ≡ Some Memory → ⊥
-unfolding IsFirm refusal_of
-never_memory file (Hdu h edit) = firm_edit file h edit (hdu_of file h)
-never_memory file (NewImage at kind axes) = firm_new file at kind axes
-never_memory file (RemoveHdu h) = firm_removal h (hdu_of file h)
+-- no edit of any file is refused for memory, whatever HDUs are kept stamped
+pub never_memory : (it : Marked) (edit : Edit) → marked_refusal it edit ≡ Some Memory → ⊥
+unfolding IsFirm marked_refusal refusal_of
+never_memory it (Hdu h edit) = firm_edit (stamp_follows edit (is_kept it.kept h)) it.file h edit (hdu_of it.file h)
+never_memory it (NewImage at kind axes) = firm_new it.file at kind axes
+never_memory it (RemoveHdu h) = firm_removal h (hdu_of it.file h)

@@ -1,21 +1,25 @@
 -- HDUs under edits, as a session holds them.
-use Rattle.std.proofs.Common.{◌≡◌, inl, inr, ℕ, ◌+◌, ◌-◌, ◌<◌, ◌≤◌, List, [], ◌∷◌, length, map, get_or, set, refl, ap, sym, ◌∙◌, subst, arith, Option, None, Some, zero, suc, add-one}
-use Rattle.std.specs.Prelude.{Ok}
+use Rattle.std.proofs.Common.{◌≡◌, inl, inr, ℕ, ◌+◌, ◌-◌, ◌<◌, ◌≤◌, false, List, [], ◌∷◌, length, map, get_or, set, refl, ap, sym, ◌∙◌, subst, arith, Option, None, Some, zero, suc, add-one}
+use Rattle.std.specs.Prelude.{All, Ok}
 use Rattle.std.specs.List.{slice_get}
 use Rattle.std.specs.Option.{option_map}
 use Rattle.std.proofs.lemmas.List.{length-append, length-map}
+use Rattle.std.proofs.lemmas.List.Elements.{All-cons, All-head, All-nil, All-tail}
 use Rattle.std.proofs.lemmas.Option.{slice_get_read, slice_get_within, slice_get-map, get_or_from_slice_get}
 use Rattle.fits_rules.specs.Class.{is_primary}
 use Rattle.fits_rules.specs.Shape.{shape_of}
 use Rattle.fits_hdu.specs.Hdu.{HduParts, hdu_bytes, IsHdu}
 use Rattle.fits_hdu.specs.State.{HduState, ReadsUpTo, parts_of}
+use Rattle.fits_hdu.specs.Sums.{verdicts_of}
 use Rattle.fits_hdu.specs.Work.{PixelWork, plane_work}
 use Rattle.fits_hdu.proofs.StateLemmas.{parts_read}
 use Rattle.fits_hdu.proofs.ShapeLemmas.{one_primary}
 use Rattle.fits_session.specs.Edit.{hdu_of, changed_at, changed_of, is_primary_hdu}
 use Rattle.fits_session.specs.File.{FileParts, IsFile, file_bytes, joined_hdus}
 use Rattle.fits_session.specs.declared.limits.TheConstants.{FILE_LIMIT, HDU_LIMIT}
-use Rattle.fits_session.specs.Session.{SessionState, file_of, hdus_of, reads_of, rooms_of, works_of, state_of, unread, ReadsOnly, WorksOnly, Asks, IsIndexOf, IsNowhere}
+use Rattle.fits_session.specs.Keeping.{IsRight}
+use Rattle.fits_session.specs.Marked.{Marked, is_kept}
+use Rattle.fits_session.specs.Session.{SessionState, file_of, hdus_of, kept_of, marked_of, reads_of, rooms_of, works_of, state_of, unread, ReadsOnly, WorksOnly, Asks, IsIndexOf, IsNowhere}
 use Rattle.fits_session.proofs.ChangeLemmas.{hdu_is, part_within}
 
 -- HDU h of those under edits
@@ -28,7 +32,7 @@ pub is_at : (hdus seen : List HduState) (h k i : ℕ) (hdu : HduState) → seen 
 is_at hdus seen h k i hdu same named index is = record { index = rw (same, named) at index; is = is }
 
 -- the list that a write leaves, seen through a part of its elements
-parts_changed : {X : Type 0} (part : HduState → X) (change : X → X) (hdus : List HduState) (i : ℕ) (old new : HduState) → i < length hdus → old ≡ get_or hdus i old → part new ≡ change (part old)
+pub parts_changed : {X : Type 0} (part : HduState → X) (change : X → X) (hdus : List HduState) (i : ℕ) (old new : HduState) → i < length hdus → old ≡ get_or hdus i old → part new ≡ change (part old)
     → map part (set hdus i new) ≡ changed_at i change (map part hdus)
 parts_changed part change [] i old new l e p = absurd (omega arith)
 parts_changed part change (hdu ∷ hdus) zero old new l e p = ap (λ x. x ∷ map part hdus) (p ∙ ap (λ (state : HduState). change (part state)) e)
@@ -180,6 +184,37 @@ reads_of-same hdus i old new l e p = parts_same (λ (one : HduState). one.header
 pub rooms_of-same : (hdus : List HduState) (i : ℕ) (old new : HduState) → i < length hdus → old ≡ get_or hdus i old → new.header.room ≡ old.header.room → rooms_of (set hdus i new) ≡ rooms_of hdus
 rooms_of-same hdus i old new l e p = parts_same (λ (one : HduState). one.header.room) hdus i old new l e p
 
+-- nor is another kept stamped
+pub kept_of-same : (hdus : List HduState) (i : ℕ) (old new : HduState) → i < length hdus → old ≡ get_or hdus i old → new.kept ≡ old.kept → kept_of (set hdus i new) ≡ kept_of hdus
+kept_of-same hdus i old new l e p = parts_same (λ (one : HduState). one.kept) hdus i old new l e p
+
+-- whether the HDU at an index is kept
+kept_at : (hdus : List HduState) (i : ℕ) (hdu : HduState) → i < length hdus → hdu ≡ get_or hdus i hdu → get_or (kept_of hdus) i false ≡ hdu.kept
+kept_at hdus i hdu l e =
+    get_or_from_slice_get (kept_of hdus) i hdu.kept false (slice_get-map (λ (one : HduState). one.kept) hdus i ∙ ap (option_map (λ (one : HduState). one.kept)) (slice_get_read hdus (length hdus) i hdu refl l e))
+
+-- HDU h is kept as its mark says
+pub kept_there : (hdus : List HduState) (h i : ℕ) (hdu : HduState) → IsHduAt hdus h i hdu → is_kept (kept_of hdus) h ≡ hdu.kept
+kept_there hdus h i hdu at = ap (is_kept (kept_of hdus)) (at.index.at ∙ add-one i) ∙ kept_at hdus i hdu at.index.within at.is
+
+-- where both sums are right in those that are kept, they are in HDUs with the same parts and marks
+right_one : (old new : HduState) → parts_of new ≡ parts_of old → new.kept ≡ old.kept → IsRight old → IsRight new
+right_one old new same mark right on = ap verdicts_of same ∙ right (sym mark ∙ on)
+
+pub right_moved : (before after : List HduState) → hdus_of after ≡ hdus_of before → kept_of after ≡ kept_of before → All IsRight before → All IsRight after
+right_moved before [] p q all = All-nil IsRight
+right_moved [] (new ∷ after) p q all = absurd (cc)
+right_moved (old ∷ before) (new ∷ after) p q all =
+    let same : parts_of new ≡ parts_of old = cc in
+    let mark : new.kept ≡ old.kept = cc in
+    let others : hdus_of after ≡ hdus_of before = cc in
+    let marks : kept_of after ≡ kept_of before = cc in
+    All-cons IsRight new after (right_one old new same mark (All-head IsRight old before all)) (right_moved before after others marks (All-tail IsRight old before all))
+
+-- one that isn't kept has no sums that must be
+pub unkept_right : (new : HduState) → new.kept ≡ false → IsRight new
+unkept_right new mark on = cc
+
 -- HDU h alone was worked on
 pub works_changed : (hdus : List HduState) (h i : ℕ) (old new : HduState) (change : PixelWork → PixelWork) → IsHduAt hdus h i old → plane_work new.plane ≡ change (plane_work old.plane) → works_of (set hdus i new) ≡ changed_of h change (works_of hdus)
 works_changed hdus h i old new change at p =
@@ -222,10 +257,16 @@ works_nowhere hdus h Much p =
           absurd (elim p [ inl none ↦ omega (arith, number, none) | inr past ↦ omega (arith, number, past, within) ]);
     }
 
+-- the file and its marks stay where the HDU that was written has the same parts and mark
+pub marked_of-same : (hdus : List HduState) (tail : List ℕ) (h i : ℕ) (old new : HduState) → IsHduAt hdus h i old → parts_of new ≡ parts_of old → new.kept ≡ old.kept → marked_of (state_of (set hdus i new) tail) ≡ marked_of (state_of hdus tail)
+marked_of-same hdus tail h i old new at same mark =
+    ap (λ (file : FileParts). let it : Marked = record { file = file; kept = kept_of (set hdus i new) } in it) (file_of-same hdus tail h i old new at same)
+    ∙ ap (λ kept. let it : Marked = record { file = file_of (state_of hdus tail); kept = kept } in it) (kept_of-same hdus i old new at.index.within at.is mark)
+
 -- a query read cards of HDU h
 pub asked : (hdus : List HduState) (tail : List ℕ) (h i most : ℕ) (old new : HduState) → IsHduAt hdus h i old → ReadsUpTo old new most → Asks h most (state_of hdus tail) (state_of (set hdus i new) tail)
 asked hdus tail h i most old new at p = record {
-  file = file_of-same hdus tail h i old new at (parts_read old new _ p);
+  file = marked_of-same hdus tail h i old new at (parts_read old new _ p) p.kept;
   work = reads_more hdus h i most old new at p.header.least p.header.most;
   pixel_work = works_of-same hdus i old new at.index.within at.is (ap plane_work p.plane);
 }

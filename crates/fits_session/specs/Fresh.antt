@@ -6,11 +6,11 @@ use Rattle.fits_image.specs.declared.kind.Kind.{Kind}
 use Rattle.fits_hdu.specs.Pixels.{Stats}
 use Rattle.fits_hdu.specs.declared.verdicts.Verdicts.{Verdicts}
 use Rattle.fits_rules.specs.declared.array_shape.Shape.{Shape}
-use Rattle.fits_session.specs.Edit.{file_after}
 use Rattle.fits_session.specs.File.{FileParts, file_bytes, offsets_from, IsFileOf}
+use Rattle.fits_session.specs.Marked.{marked_after, Marked}
 use Rattle.fits_session.specs.Query.{card_count_in, datasum_in, kind_in, names_in, positions_in, rect_in, shape_in, stats_in, value_in, verdicts_in}
 use Rattle.fits_session.specs.Report.{counts_in, report_of}
-use Rattle.fits_session.specs.Session.{file_of, EditsTo, SessionState}
+use Rattle.fits_session.specs.Session.{marked_of, EditsTo, SessionState}
 use Rattle.fits_session.specs.declared.edit.Edit.{Edit}
 use Rattle.fits_session.specs.declared.offsets.HduOffsets.{HduOffsets}
 use Rattle.fits_session.specs.declared.problem.Problem.{Problem}
@@ -64,18 +64,18 @@ pub record ReadsAs (bytes : List ℕ) (answers : Fresh) : Type 0 where
 abbrev pub Answered : Type 0
 Answered = Edit × Result (Unit {0}) Refusal
 
--- the file after an edit that was answered so
-abbrev pub after_answer : FileParts → Edit → Result (Unit {0}) Refusal → FileParts
-after_answer file edit (Ok done) = file_after file edit
-after_answer file edit (Err why) = file
+-- the file, and which of its HDUs are kept stamped, after an edit that was answered so
+abbrev pub after_answer : Marked → Edit → Result (Unit {0}) Refusal → Marked
+after_answer it edit (Ok done) = marked_after it edit
+after_answer it edit (Err why) = it
 
--- the file after those of these edits that were accepted, in their order
-abbrev pub file_after_all : FileParts → List Answered → FileParts
-file_after_all file [] = file
-file_after_all file (step ∷ steps) = file_after_all (after_answer file step.0 step.1) steps
+-- both after those of these edits that were accepted, in their order
+abbrev pub marked_after_all : Marked → List Answered → Marked
+marked_after_all it [] = it
+marked_after_all it (step ∷ steps) = marked_after_all (after_answer it step.0 step.1) steps
 
--- edits of a session, one after another, and what was answered to each; between them its file stays, as queries and savings leave it
+-- edits of a session, one after another, and what was answered to each; between them both stay, as queries and savings leave them
 abbrev pub EditsInTurn : List Answered → SessionState → SessionState → Type 0
-EditsInTurn [] old new = file_of new ≡ file_of old
+EditsInTurn [] old new = marked_of new ≡ marked_of old
 EditsInTurn (step ∷ steps) old new =
-    (start : SessionState) × (next : SessionState) × (file_of start ≡ file_of old) × EditsTo step.0 start next step.1 × EditsInTurn steps next new
+    (start : SessionState) × (next : SessionState) × (marked_of start ≡ marked_of old) × EditsTo step.0 start next step.1 × EditsInTurn steps next new

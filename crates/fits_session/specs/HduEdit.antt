@@ -17,7 +17,7 @@ use Rattle.fits_hdu.specs.declared.reshape_fault.ReshapeFault.TheVariants as res
 use Rattle.fits_image.specs.declared.kind.Kind.{Kind}
 use Rattle.fits_session.specs.CardEdit.{change_of, HasCardSizes}
 use Rattle.fits_session.specs.declared.hdu_edit.HduEdit.{HduEdit}
-use Rattle.fits_session.specs.declared.hdu_edit.HduEdit.TheVariants.{Cards, Pixels, Reshape, Stamp}
+use Rattle.fits_session.specs.declared.hdu_edit.HduEdit.TheVariants.{Cards, Keep, Pixels, Release, Reshape, Stamp}
 use Rattle.fits_session.specs.declared.paint.Paint.{Paint}
 use Rattle.fits_session.specs.declared.paint.Paint.TheVariants.{Fill, Write}
 use Rattle.fits_session.specs.declared.refusal.Refusal.{Refusal}
@@ -80,6 +80,8 @@ hdu_made primary (Cards edit) hdu = hdu_changed primary hdu (change_of hdu.heade
 hdu_made primary (Pixels lo hi paint) hdu = hdu_painted primary lo hi paint hdu
 hdu_made primary (Reshape kind axes) hdu = hdu_reshaped (shape_of primary hdu.header.cards) kind axes hdu
 hdu_made primary Stamp hdu = Ok (stamped hdu)
+hdu_made primary Keep hdu = Ok (stamped hdu)
+hdu_made primary Release hdu = Ok hdu
 
 -- the cards and names that it brings have their sizes
 abbrev pub HasHduSizes : HduEdit → Type 0

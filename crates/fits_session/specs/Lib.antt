@@ -4,7 +4,9 @@ pub mod Edit
 pub mod File
 pub mod Fresh
 pub mod HduEdit
+pub mod Keeping
 pub mod Limits
+pub mod Marked
 pub mod NameTable
 pub mod Opening
 pub mod Query

@@ -1,5 +1,5 @@
 -- When an edit is refused: the first of its tests that fails (own).
-use Rattle.std.specs.Prelude.{◌≡◌, ◌⊎◌, ℕ, ◌+◌, ◌==◌, not, List, [], ◌∷◌, length, codes, Option, Some, None, Result, Ok, Err, IsOk, if◌then◌else◌}
+use Rattle.std.specs.Prelude.{◌≡◌, ◌⊎◌, ℕ, ◌+◌, ◌==◌, Bool, true, false, not, List, [], ◌∷◌, length, codes, Option, Some, None, Result, Ok, Err, IsOk, if◌then◌else◌}
 use Rattle.fits_card.specs.declared.change.Change.{Change}
 use Rattle.fits_card.specs.declared.change.Change.TheVariants as change
 use Rattle.fits_hdu.specs.Hdu.{HduParts}
@@ -10,13 +10,14 @@ use Rattle.fits_session.specs.CardEdit.{is_within}
 use Rattle.fits_session.specs.Edit.{hdu_of, is_primary_hdu, with_hdu, with_new_hdu}
 use Rattle.fits_session.specs.File.{FileParts, file_bytes}
 use Rattle.fits_session.specs.HduEdit.{hdu_made}
+use Rattle.fits_session.specs.Keeping.{padded_if}
 use Rattle.fits_session.specs.Limits.{is_within_limits}
 use Rattle.fits_session.specs.declared.card_edit.CardEdit.{CardEdit}
 use Rattle.fits_session.specs.declared.card_edit.CardEdit.TheVariants.{Delete, Move, Unset}
 use Rattle.fits_session.specs.declared.edit.Edit.{Edit}
 use Rattle.fits_session.specs.declared.edit.Edit.TheVariants.{Hdu, NewImage, RemoveHdu}
 use Rattle.fits_session.specs.declared.hdu_edit.HduEdit.{HduEdit}
-use Rattle.fits_session.specs.declared.hdu_edit.HduEdit.TheVariants.{Cards, Pixels, Reshape, Stamp}
+use Rattle.fits_session.specs.declared.hdu_edit.HduEdit.TheVariants.{Cards, Keep, Pixels, Release, Reshape, Stamp}
 use Rattle.fits_session.specs.declared.refusal.Refusal.{Refusal}
 use Rattle.fits_session.specs.declared.refusal.Refusal.TheVariants.{NoHdu, NoCard, NoKey, BadText, EndCard, Shape, BadName, BadValue, NotImage, BadRect, WrongCount, Range, PrimaryStays, TooLarge, Memory}
 use Rattle.fits_value.specs.declared.write.WriteFault.{WriteFault}
@@ -30,11 +31,11 @@ limit_refusal bytes hdus = if is_within_limits bytes hdus then None else Some To
 abbrev pub size_refusal : FileParts → Option Refusal
 size_refusal file = limit_refusal (length (file_bytes file)) (length file.hdus)
 
--- the tests of an edit of HDU h, by what it makes of it: its own, and then the limits. (An HDU that doesn't grow passes them, but every
--- row may have them.)
-abbrev pub made_refusal : FileParts → ℕ → Result HduParts Refusal → Option Refusal
-made_refusal file h (Err why) = Some why
-made_refusal file h (Ok made) = size_refusal (with_hdu file h (λ hdu. made))
+-- the tests of an edit of HDU h, by what it makes of it, where a stamp follows or not: its own, and then the limits, with room for the
+-- stamp. (An HDU that doesn't grow passes them, but every row may have them.)
+abbrev pub made_refusal : Bool → FileParts → ℕ → Result HduParts Refusal → Option Refusal
+made_refusal stamps file h (Err why) = Some why
+made_refusal stamps file h (Ok made) = size_refusal (with_hdu file h (λ hdu. padded_if stamps made))
 
 -- HDU 1 stays
 abbrev pub primary_refusal : ℕ → Option Refusal
@@ -49,18 +50,18 @@ new_image_refusal file h kind axes =
     else size_refusal (with_new_hdu file h (new_image kind axes))
 
 -- the tests of an edit of HDU h, if it is there
-abbrev pub refusal_in : FileParts → ℕ → HduEdit → Option HduParts → Option Refusal
-refusal_in file h edit None = Some NoHdu
-refusal_in file h edit (Some hdu) = made_refusal file h (hdu_made (is_primary_hdu h) edit hdu)
+abbrev pub refusal_in : Bool → FileParts → ℕ → HduEdit → Option HduParts → Option Refusal
+refusal_in stamps file h edit None = Some NoHdu
+refusal_in stamps file h edit (Some hdu) = made_refusal stamps file h (hdu_made (is_primary_hdu h) edit hdu)
 
 -- the tests of taking HDU h out, if it is there
 abbrev pub removal_refusal : ℕ → Option HduParts → Option Refusal
 removal_refusal h None = Some NoHdu
 removal_refusal h (Some hdu) = primary_refusal h
 
--- the first refusal of an edit, if it is refused
+-- the first refusal of an edit, if it is refused, in a file of which no HDU is kept stamped
 unfoldable pub refusal_of : FileParts → Edit → Option Refusal
-refusal_of file (Hdu h edit) = refusal_in file h edit (hdu_of file h)
+refusal_of file (Hdu h edit) = refusal_in false file h edit (hdu_of file h)
 refusal_of file (NewImage at kind axes) = new_image_refusal file at kind axes
 refusal_of file (RemoveHdu h) = removal_refusal h (hdu_of file h)
 
@@ -98,18 +99,24 @@ ReshapeNeedsMemory (Some Range) = Unit {0}
 ReshapeNeedsMemory (Some TooLarge) = Unit {0}
 ReshapeNeedsMemory (Some why) = ⊥
 
--- and of an edit of an HDU: one of pixels takes none, and a stamp asks for it after its test
+-- and of an edit of an HDU: one of pixels takes none, nor does a release; a stamp asks for it after its test
 abbrev pub HduNeedsMemory : HduEdit → Option Refusal → Type 0
 HduNeedsMemory (Cards edit) refused = CardEditNeedsMemory edit refused
 HduNeedsMemory (Pixels lo hi paint) refused = ⊥
 HduNeedsMemory (Reshape kind axes) refused = ReshapeNeedsMemory refused
 HduNeedsMemory Stamp refused = refused ≡ None
+HduNeedsMemory Keep refused = refused ≡ None
+HduNeedsMemory Release refused = ⊥
 
--- and of an edit: taking an HDU out takes none
-abbrev pub EditNeedsMemory : Edit → Option Refusal → Type 0
-EditNeedsMemory (Hdu h edit) refused = HduNeedsMemory edit refused
-EditNeedsMemory (NewImage at kind axes) refused = NewNeedsMemory refused
-EditNeedsMemory (RemoveHdu h) refused = ⊥
+-- what a stamp follows needs memory for that too, once no test fails
+abbrev pub OrStampNeedsMemory : Bool → (Option Refusal → Type 0) → Option Refusal → Type 0
+OrStampNeedsMemory stamps NeedsMemory refused = NeedsMemory refused ⊎ ((stamps ≡ true) × (refused ≡ None))
+
+-- and of an edit, where a stamp follows or not: taking an HDU out takes none
+abbrev pub EditNeedsMemory : Bool → Edit → Option Refusal → Type 0
+EditNeedsMemory stamps (Hdu h edit) refused = OrStampNeedsMemory stamps (HduNeedsMemory edit) refused
+EditNeedsMemory stamps (NewImage at kind axes) refused = NewNeedsMemory refused
+EditNeedsMemory stamps (RemoveHdu h) refused = ⊥
 
 -- it may end so: by its refusal, or out of memory where it may run out
 abbrev pub Fails : (Option Refusal → Type 0) → Option Refusal → Refusal → Type 0

@@ -1,5 +1,5 @@
 -- What a session is to its callers, and what its calls owe.
-use Rattle.std.specs.Prelude.{◌≡◌, ◌⊎◌, ℕ, Bool, ◌+◌, ◌-◌, ◌<◌, ◌≤◌, List, Option, length, get_or, map, All, Result, Ok, Err, IfOk, IfErr, OnOk, OnErr, None, Some, ℤ}
+use Rattle.std.specs.Prelude.{◌≡◌, ◌⊎◌, ℕ, Bool, ◌+◌, ◌-◌, ◌<◌, ◌≤◌, List, Option, length, get_or, map, All, Result, Ok, Err, IfErr, OnOk, OnErr, None, Some, ℤ}
 use Rattle.std.specs.List.{insert, remove, slice_get}
 use Rattle.fits_card.specs.declared.change.Change.{Change}
 use Rattle.fits_rules.specs.Class.{is_primary}
@@ -14,12 +14,14 @@ use Rattle.fits_hdu.specs.State.{HduState, parts_of, IsDescribed}
 use Rattle.fits_hdu.specs.declared.extension_name.ExtensionName.{ExtensionName}
 use Rattle.fits_hdu.specs.Reshape.{kept_count}
 use Rattle.fits_hdu.specs.Work.{apply_reads, open_reads, plane_work, FollowsBlank, IsMade, IsPatched, IsRenewed, PixelWork}
-use Rattle.fits_session.specs.Edit.{changed_of, file_after, hdu_of, is_primary_hdu, made_or}
+use Rattle.fits_session.specs.Edit.{changed_of, hdu_of, is_primary_hdu, made_or}
 use Rattle.fits_session.specs.File.{file_bytes, FileParts, IsFile}
 use Rattle.fits_session.specs.HduEdit.{hdu_changed, hdu_made}
+use Rattle.fits_session.specs.Keeping.{kept_after, padded_if, stamp_follows, stamped_if, then_stamped, IsRight}
+use Rattle.fits_session.specs.Marked.{is_stamped_after, marked_after, marked_refusal, Marked}
 use Rattle.fits_session.specs.NameTable.{Stands}
-use Rattle.fits_session.specs.Refusal.{limit_refusal, refusal_of, ChangeNeedsMemory, EditNeedsMemory, Fails, HduNeedsMemory}
-use Rattle.fits_session.specs.Work.{edit_reads, hdu_reads}
+use Rattle.fits_session.specs.Refusal.{limit_refusal, ChangeNeedsMemory, EditNeedsMemory, Fails, HduNeedsMemory, OrStampNeedsMemory}
+use Rattle.fits_session.specs.Work.{edit_reads, follow_up_reads, hdu_reads}
 use Rattle.fits_session.specs.declared.edit.Edit.{Edit}
 use Rattle.fits_session.specs.declared.edit.Edit.TheVariants.{Hdu, NewImage, RemoveHdu}
 use Rattle.fits_session.specs.declared.hdu_edit.HduEdit.{HduEdit}
@@ -66,6 +68,14 @@ without_counts hdus = map uncounted hdus
 -- the file that a session is
 abbrev pub file_of : SessionState → FileParts
 file_of session = record { hdus = hdus_of session.hdus; tail = session.tail }
+
+-- which of the HDUs are kept stamped
+abbrev pub kept_of : List HduState → List Bool
+kept_of hdus = map (λ (one : HduState). one.kept) hdus
+
+-- the file, and which of its HDUs are
+abbrev pub marked_of : SessionState → Marked
+marked_of session = record { file = file_of session; kept = kept_of session.hdus }
 
 -- HDUs under edits and a tail
 abbrev pub state_of : List HduState → List ℕ → SessionState
@@ -149,7 +159,7 @@ pub record ReadsOnceAtMost (before after : List HduState) : Type 0 where
 
 -- an edit of HDU h is work on that HDU, and on no other
 pub record HduWorks (h : ℕ) (edit : HduEdit) (old new : SessionState) : Type 0 where
-  pub cards : ReadsOnly h (edit_reads (file_of old) h edit) (reads_of old.hdus) (reads_of new.hdus)
+  pub cards : ReadsOnly h (edit_reads (marked_of old) h edit) (reads_of old.hdus) (reads_of new.hdus)
   pub pixels : WorksOnly h (EditWork (file_of old) h edit) (works_of old.hdus) (works_of new.hdus)
 
 -- an HDU was put in that will be HDU h: it was read and scanned as much as one that is opened, and the counts of the others are theirs
@@ -165,21 +175,21 @@ WorksAs (Hdu h edit) old new = HduWorks h edit old new
 WorksAs (NewImage at kind axes) old new = (new ≡ old) ⊎ PutsIn at old.hdus new.hdus
 WorksAs (RemoveHdu h) old new = (new ≡ old) ⊎ (without_entries new.hdus ≡ remove (without_entries old.hdus) (h - 1))
 
--- an edit owes: it is made where none of its tests fails, and then the file is the one after it; else the file is as
--- before, and the refusal is the first test's that fails, or memory's. Cards of the HDU that it names alone are read, and a refused edit
--- works on no block and keeps no room; it reads no pixel but where an HDU was to be reshaped.
+-- an edit owes: it is made where none of its tests fails, and then the file, and which HDUs are kept stamped, are as it leaves them;
+-- else both are as before, and the refusal is the first test's that fails, or memory's. Cards of the HDU that it names alone are read,
+-- and a refused edit works on no block and keeps no room; it reads no pixel but where an HDU was to be reshaped.
 pub record EditsTo {X : Type 0} (edit : Edit) (old new : SessionState) (result : Result X Refusal) : Type 0 where
-  pub accepted : OnOk result (refusal_of (file_of old) edit ≡ None)
-  pub ok : OnOk result (file_of new ≡ file_after (file_of old) edit)
-  pub refused : IfErr result (Fails (EditNeedsMemory edit) (refusal_of (file_of old) edit))
-  pub err : OnErr result (file_of new ≡ file_of old)
+  pub accepted : OnOk result (marked_refusal (marked_of old) edit ≡ None)
+  pub ok : OnOk result (marked_of new ≡ marked_after (marked_of old) edit)
+  pub refused : IfErr result (Fails (EditNeedsMemory (is_stamped_after (kept_of old.hdus) edit) edit) (marked_refusal (marked_of old) edit))
+  pub err : OnErr result (marked_of new ≡ marked_of old)
   pub work : WorksAs edit old new
   pub idle : OnErr result (AreIdle edit (works_of old.hdus) (works_of new.hdus))
   pub room : OnErr result (rooms_of new.hdus ≡ rooms_of old.hdus)
 
 -- a query of HDU h owes: the file stays, and so many of that HDU's cards are read at most
 pub record Asks (h most : ℕ) (old new : SessionState) : Type 0 where
-  pub file : file_of new ≡ file_of old
+  pub file : marked_of new ≡ marked_of old
   pub work : ReadsOnly h most (reads_of old.hdus) (reads_of new.hdus)
   pub pixel_work : works_of new.hdus ≡ works_of old.hdus
 
@@ -189,16 +199,17 @@ read_more count work = record work { reads = work.reads + count }
 
 -- a query of pixels of HDU h owes: the file stays, no card is read, and so many of that HDU's pixels are read
 pub record AsksPixels (h count : ℕ) (old new : SessionState) : Type 0 where
-  pub file : file_of new ≡ file_of old
+  pub file : marked_of new ≡ marked_of old
   pub work : reads_of new.hdus ≡ reads_of old.hdus
   pub pixel_work : works_of new.hdus ≡ changed_of h (read_more count) (works_of old.hdus)
 
--- the HDUs and the tail are those of a file of so many bytes; the cards of each describe the shape that is kept; a table of names
--- stands for them, with room for a name of each and one more
+-- the HDUs and the tail are those of a file of so many bytes; the cards of each describe the shape that is kept; in those that are kept
+-- stamped both sums are right; a table of names stands for them, with room for a name of each and one more
 pub record IsKept (hdus : List HduState) (tail : List ℕ) (bytes : ℕ) (entries : List (ExtensionName × ℕ)) (room : ℕ) : Type 0 where
   pub whole : IsFile (file_of (state_of hdus tail))
   pub len : bytes ≡ length (file_bytes (file_of (state_of hdus tail)))
   pub described : All IsDescribed hdus
+  pub right : All IsRight hdus
   pub names : Stands hdus entries
   pub roomy : room ≡ length hdus + 1
 
@@ -222,40 +233,54 @@ IsNowhere count h = (h ≡ 0) ⊎ (count < h)
 abbrev pub length_with : ℕ → HduParts → HduParts → ℕ
 length_with bytes before after = bytes - length (hdu_bytes before) + length (hdu_bytes after)
 
--- the tests of an edit of an HDU, by what it makes of it, in a file of so many bytes and HDUs: its own, and then the limits
-abbrev pub within_refusal : ℕ → ℕ → HduParts → Result HduParts Refusal → Option Refusal
-within_refusal bytes hdus hdu (Err why) = Some why
-within_refusal bytes hdus hdu (Ok made) = limit_refusal (length_with bytes hdu made) hdus
+-- the tests of an edit of an HDU, by what it makes of it, where a stamp follows or not, in a file of so many bytes and HDUs: its own, and
+-- then the limits, with room for the stamp
+abbrev pub within_refusal : Bool → (bytes hdus : ℕ) → HduParts → Result HduParts Refusal → Option Refusal
+within_refusal stamps bytes hdus hdu (Err why) = Some why
+within_refusal stamps bytes hdus hdu (Ok made) = limit_refusal (length_with bytes hdu (padded_if stamps made)) hdus
 
--- what is made of an HDU owes, in a file of so many bytes and HDUs: it is made where no test fails, and the answer is how many bytes the
--- file has then; else the HDU is as before, and the refusal is the first test's that fails, or memory's; a refused one is idle and keeps no
--- room;
--- its cards describe the shape that is kept, and its entry stays
-pub record HduMakes (made : Result HduParts Refusal) (NeedsMemory : Option Refusal → Type 0) (reads : ℕ) (Works Idles : PixelWork → PixelWork → Type 0) (bytes hdus : ℕ) (old new : HduState) (result : Result ℕ Refusal) : Type 0 where
+-- what is made of an HDU, where a stamp follows or not, owes, in a file of so many bytes and HDUs: it is made and stamped where no test
+-- fails, keeps to the limits, and is kept then or not; else it is as before, and the refusal is the first test's that fails, or memory's;
+-- a refused one is idle and keeps no room; its cards describe the shape that is kept, its entry stays, and where it is kept both sums are
+-- right
+pub record HduMakes {X : Type 0} (stamps kept : Bool) (made : Result HduParts Refusal) (NeedsMemory : Option Refusal → Type 0) (reads : ℕ) (Works Idles : PixelWork → PixelWork → Type 0) (bytes hdus : ℕ) (old new : HduState) (result : Result X Refusal) : Type 0 where
   pub whole : IsHdu (is_primary old.header.shape.class) (parts_of old)
   pub left : IsHdu (is_primary old.header.shape.class) (parts_of new)
-  pub accepted : OnOk result (within_refusal bytes hdus (parts_of old) made ≡ None)
-  pub ok : OnOk result (made ≡ Ok (parts_of new))
-  pub size : IfOk result (λ after. after ≡ length_with bytes (parts_of old) (parts_of new))
-  pub refused : IfErr result (Fails NeedsMemory (within_refusal bytes hdus (parts_of old) made))
+  pub accepted : OnOk result (within_refusal stamps bytes hdus (parts_of old) made ≡ None)
+  pub ok : OnOk result (then_stamped stamps made ≡ Ok (parts_of new))
+  pub within : OnOk result (limit_refusal (length_with bytes (parts_of old) (parts_of new)) hdus ≡ None)
+  pub mark : OnOk result (new.kept ≡ kept)
+  pub right : OnOk result (IsRight new)
+  pub refused : IfErr result (Fails (OrStampNeedsMemory stamps NeedsMemory) (within_refusal stamps bytes hdus (parts_of old) made))
   pub err : OnErr result (parts_of new ≡ parts_of old)
+  pub mark_stays : OnErr result (new.kept ≡ old.kept)
   pub least : old.header.reads ≤ new.header.reads
-  pub most : new.header.reads ≤ old.header.reads + reads
+  pub most : new.header.reads ≤ old.header.reads + (reads + follow_up_reads stamps made)
   pub work : Works (plane_work old.plane) (plane_work new.plane)
   pub idle : OnErr result (Idles (plane_work old.plane) (plane_work new.plane))
   pub room : OnErr result (new.header.room ≡ old.header.room)
   pub described : IsDescribed new
   pub entry : new.entry ≡ old.entry
 
+-- the stamp was made that follows an edit of an HDU, where one does; else it is as the edit left it
+pub record IsFinished (stamps : Bool) (old new : HduState) : Type 0 where
+  pub hdu : parts_of new ≡ stamped_if stamps (parts_of old)
+  pub least : old.header.reads ≤ new.header.reads
+  pub most : new.header.reads ≤ old.header.reads + follow_up_reads stamps (Ok (parts_of old))
+  pub work : plane_work new.plane ≡ plane_work old.plane
+  pub entry : new.entry ≡ old.entry
+  pub kept : new.kept ≡ old.kept
+  pub described : IsDescribed new
+
 -- an edit of an HDU owes this
-abbrev pub HduEditsTo : HduEdit → (bytes hdus : ℕ) (old new : HduState) → Result ℕ Refusal → Type 0
-HduEditsTo edit bytes hdus old new =
+abbrev pub HduEditsTo : {X : Type 0} → HduEdit → (bytes hdus : ℕ) (old new : HduState) → Result X Refusal → Type 0
+HduEditsTo edit bytes hdus old new result =
     let primary : Bool = is_primary old.header.shape.class in
-    HduMakes (hdu_made primary edit (parts_of old)) (HduNeedsMemory edit) (hdu_reads primary edit (parts_of old)) (HduWork primary edit (parts_of old)) (IsIdle edit) bytes hdus old new
+    HduMakes (stamp_follows edit old.kept) (kept_after edit old.kept) (hdu_made primary edit (parts_of old)) (HduNeedsMemory edit) (hdu_reads primary edit (parts_of old)) (HduWork primary edit (parts_of old)) (IsIdle edit) bytes hdus old new result
 
 -- and so does a change of its cards
-abbrev pub ChangesTo : Change → (bytes hdus : ℕ) (old new : HduState) → Result ℕ Refusal → Type 0
-ChangesTo change bytes hdus old new =
+abbrev pub ChangesTo : {X : Type 0} → Change → (bytes hdus : ℕ) (old new : HduState) → Result X Refusal → Type 0
+ChangesTo change bytes hdus old new result =
     let primary : Bool = is_primary old.header.shape.class in
     let made : Result HduParts Refusal = hdu_changed primary (parts_of old) (Ok change) in
-    HduMakes made (ChangeNeedsMemory change) (shape_reads old.header.shape + apply_reads) (BlankWork primary (parts_of old) made) (λ before after. after ≡ before) bytes hdus old new
+    HduMakes old.kept old.kept made (ChangeNeedsMemory change) (shape_reads old.header.shape + apply_reads) (BlankWork primary (parts_of old) made) (λ before after. after ≡ before) bytes hdus old new result

@@ -13,10 +13,12 @@ use Rattle.fits_session.specs.CardEdit.{change_of, set_of, unset_of}
 use Rattle.fits_session.specs.Edit.{hdu_of, is_primary_hdu}
 use Rattle.fits_session.specs.File.{FileParts}
 use Rattle.fits_session.specs.HduEdit.{hdu_made}
+use Rattle.fits_session.specs.Keeping.{stamp_follows}
+use Rattle.fits_session.specs.Marked.{Marked, is_kept}
 use Rattle.fits_session.specs.declared.card_edit.CardEdit.{CardEdit}
 use Rattle.fits_session.specs.declared.card_edit.CardEdit.TheVariants.{Set, Unset}
 use Rattle.fits_session.specs.declared.hdu_edit.HduEdit.{HduEdit}
-use Rattle.fits_session.specs.declared.hdu_edit.HduEdit.TheVariants.{Cards, Pixels, Reshape, Stamp}
+use Rattle.fits_session.specs.declared.hdu_edit.HduEdit.TheVariants.{Cards, Keep, Pixels, Release, Reshape, Stamp}
 use Rattle.fits_session.specs.declared.refusal.Refusal.{Refusal}
 
 -- so many are read to find a change, where there is one
@@ -42,32 +44,41 @@ abbrev pub reads_to_reshape : Result Shape ℕ → Kind → List ℕ → List (L
 reads_to_reshape (Ok shape) kind axes cards = reshape_reads (array_kind shape cards) kind axes cards
 reads_to_reshape (Err place) kind axes cards = 0
 
--- how many cards an edit of an HDU reads at most: one of cards to find its change and to make it, one of pixels none
+-- how many cards an edit of an HDU reads at most: one of cards to find its change and to make it, one of pixels none, nor a release
 abbrev pub hdu_reads : Bool → HduEdit → HduParts → ℕ
 hdu_reads primary (Cards edit) hdu =
     own_reads hdu.header.cards edit + change_reads (shape_of primary hdu.header.cards) (change_of hdu.header.cards edit)
 hdu_reads primary (Pixels lo hi paint) hdu = 0
 hdu_reads primary (Reshape kind axes) hdu = reads_to_reshape (shape_of primary hdu.header.cards) kind axes hdu.header.cards
 hdu_reads primary Stamp hdu = stamp_count_reads hdu.header.cards + stamp_reads hdu.header.cards
+hdu_reads primary Keep hdu = stamp_count_reads hdu.header.cards + stamp_reads hdu.header.cards
+hdu_reads primary Release hdu = 0
 
--- whether an edit may change what an HDU is called: one of pixels can't, nor can a reshape
+-- how many cards the stamp reads at most that follows what was made of an HDU, where one does
+abbrev pub follow_up_reads : Bool → Result HduParts Refusal → ℕ
+follow_up_reads false made = 0
+follow_up_reads true (Ok made) = stamp_reads made.header.cards
+follow_up_reads true (Err why) = 0
+
+-- whether an edit may change what an HDU is called: one of cards may, and no other
 abbrev pub may_rename : HduEdit → Bool
-may_rename (Pixels lo hi paint) = false
-may_rename (Reshape kind axes) = false
-may_rename edit = true
+may_rename (Cards edit) = true
+may_rename edit = false
 
 -- how many cards are read after an edit that makes something of an HDU, to know what it is called then
 abbrev pub follow_reads : HduEdit → Result HduParts Refusal → ℕ
 follow_reads edit (Ok made) = if may_rename edit then name_reads else 0
 follow_reads edit (Err why) = 0
 
--- how many cards an edit of an HDU reads at most in all
-abbrev pub reads_in_all : Bool → HduEdit → HduParts → ℕ
-reads_in_all primary edit hdu = hdu_reads primary edit hdu + follow_reads edit (hdu_made primary edit hdu)
+-- how many cards an edit of an HDU reads at most in all, where a stamp follows or not
+abbrev pub reads_in_all : (stamps primary : Bool) → HduEdit → HduParts → ℕ
+reads_in_all stamps primary edit hdu =
+    let made : Result HduParts Refusal = hdu_made primary edit hdu in
+    hdu_reads primary edit hdu + follow_up_reads stamps made + follow_reads edit made
 
 -- how many cards an edit of HDU h reads at most, none where it isn't there
-abbrev pub edit_reads : FileParts → ℕ → HduEdit → ℕ
-edit_reads file h edit = option_map_or (reads_in_all (is_primary_hdu h) edit) (hdu_of file h) 0
+abbrev pub edit_reads : Marked → ℕ → HduEdit → ℕ
+edit_reads it h edit = option_map_or (reads_in_all (stamp_follows edit (is_kept it.kept h)) (is_primary_hdu h) edit) (hdu_of it.file h) 0
 
 -- how many cards a keyword of an HDU is read by at most, none where the HDU isn't there
 abbrev pub reads_in : Option HduParts → List ℕ → ℕ

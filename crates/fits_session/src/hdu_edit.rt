@@ -27,6 +27,11 @@ pub enum HduEdit {
     /// DATASUM and CHECKSUM are made right (FITS Standard 4.0, section 4.4.2.7): each keeps its
     /// place, or comes after the last card, and loses its comment.
     Stamp,
+    /// It is stamped, and kept so: each accepted edit of its cards, its pixels or its shape is
+    /// followed by a stamp, until it is released.
+    Keep,
+    /// It is kept stamped no longer; nothing is changed.
+    Release,
 }
 
 impl HduEdit {
@@ -37,6 +42,6 @@ impl HduEdit {
     pub(crate) fn may_rename(&self) -> bool
         ensures { result ≡ may_rename self.now }
     {
-        !matches!(self, HduEdit::Pixels { .. } | HduEdit::Reshape { .. })
+        matches!(self, HduEdit::Cards(_))
     }
 }

@@ -8,14 +8,15 @@ ghost use Rattle.fits_hdu.specs.Hdu.{HduParts, hdu_after};
 ghost use Rattle.fits_hdu.specs.Keyword.{keyword_value};
 ghost use Rattle.fits_image.specs.declared.kind.Kind.{Kind};
 ghost use Rattle.fits_session.specs.CardEdit.{set_of, HasCardSizes, LeavesNoMore};
-ghost use Rattle.fits_session.specs.Edit.{file_after, hdu_of, with_hdu, HasSizes};
+ghost use Rattle.fits_session.specs.Edit.{hdu_of, with_hdu, HasSizes};
 ghost use Rattle.fits_session.specs.File.{FileParts, file_bytes, IsFile, IsFileOf};
-ghost use Rattle.fits_session.specs.Fresh.{Answered, EditsInTurn, file_after_all, fresh, Fresh, ReadsAs};
+ghost use Rattle.fits_session.specs.Fresh.{Answered, EditsInTurn, marked_after_all, fresh, Fresh, ReadsAs};
+ghost use Rattle.fits_session.specs.Marked.{marked_after, marked_refusal, AreRight, Marked, UnmarkedArePlain};
 ghost use Rattle.fits_session.specs.Opening.{HasOpenFault, IsFileOrNot};
 ghost use Rattle.fits_session.specs.Query.{kind_in, IsKindIn};
 ghost use Rattle.fits_session.specs.Refusal.{refusal_of, size_refusal};
 ghost use Rattle.fits_session.specs.Report.{report_of, IsListedBefore, IsTrailing, IsWrong};
-ghost use Rattle.fits_session.specs.Session.{file_of, SessionState};
+ghost use Rattle.fits_session.specs.Session.{file_of, marked_of, SessionState};
 ghost use Rattle.fits_session.specs.declared.card_edit.CardEdit.{CardEdit};
 ghost use Rattle.fits_session.specs.declared.edit.Edit.{Edit};
 ghost use Rattle.fits_session.specs.declared.hdu_edit.HduEdit.{HduEdit};
@@ -49,21 +50,33 @@ pub fn a_file_or_a_fault()
 
 /// An accepted edit leaves a file: the edited HDUs and the tail.
 pub fn an_edited_file_is_a_file()
-    ensures { (bytes : List ℕ) (file : FileParts) (edit : Edit) → HasSizes edit
-        → IsFileOf bytes file → refusal_of file edit ≡ None → IsFile (file_after file edit) }
+    ensures { (it : Marked) (edit : Edit) → HasSizes edit → IsFile it.file
+        → marked_refusal it edit ≡ None → IsFile (marked_after it edit).file }
 {}
 
-/// Edits of a session, one after another, with queries and savings anywhere between: its file is the
-/// one before them with those made that were accepted, in their order, and its present bytes, read
-/// afresh, are that file and answer as it does.
+/// An accepted edit leaves DATASUM and CHECKSUM right in each HDU that is kept stamped (FITS Standard
+/// 4.0, section 4.4.2.7).
+pub fn kept_hdus_stay_right()
+    ensures { (it : Marked) (edit : Edit) → HasSizes edit → IsFile it.file → AreRight it
+        → marked_refusal it edit ≡ None → AreRight (marked_after it edit) }
+{}
+
+/// Edits of a session, one after another, with queries and savings anywhere between: its file, and
+/// which of its HDUs are kept stamped, are those before them with the edits made that were
+/// accepted, in their order, and its present bytes, read afresh, are that file and answer as it
+/// does. In each HDU that is kept both sums are right.
 pub fn accepted_edits_in_order()
     ensures file { (old new : SessionState) (steps : List Answered) → EditsInTurn steps old new
-        → file_of new ≡ file_after_all (file_of old) steps }
+        → marked_of new ≡ marked_after_all (marked_of old) steps }
     ensures fresh { (old new : SessionState) (steps : List Answered)
         → All (λ step. HasSizes step.0) steps → IsFile (file_of old) → EditsInTurn steps old new
         → ReadsAs (file_bytes (file_of new)) (fresh (file_of new)) }
+    ensures kept { (old new : SessionState) (steps : List Answered)
+        → All (λ step. HasSizes step.0) steps → IsFile (file_of old) → AreRight (marked_of old)
+        → EditsInTurn steps old new → AreRight (marked_of new) }
 {
     an_edited_file_is_a_file();
+    kept_hdus_stay_right();
 }
 
 /// Bytes read afresh answer in one way.
@@ -96,7 +109,8 @@ pub fn fewer_cards_pass_no_limit()
         → size_refusal (with_hdu file h (hdu_after change)) ≡ None }
 {}
 
-/// An edit that leaves no more cards than there were is never refused for the size of the file.
+/// An edit that leaves no more cards than there were, of an HDU that isn't kept stamped, is never
+/// refused for the size of the file.
 pub fn as_many_cards_are_never_too_large()
     ensures { (bytes : List ℕ) (file : FileParts) (h : ℕ) (edit : CardEdit)
         → IsFileOf bytes file → HasCardSizes edit → LeavesNoMore edit
@@ -117,5 +131,10 @@ pub fn the_report_is_in_order()
 
 /// No test refuses an edit for memory.
 pub fn no_refusal_is_memory()
-    ensures { (file : FileParts) (edit : Edit) → refusal_of file edit ≡ Some Memory → ⊥ }
+    ensures { (it : Marked) (edit : Edit) → marked_refusal it edit ≡ Some Memory → ⊥ }
+{}
+
+/// Where no HDU is kept stamped, each edit is refused, and leaves the file, as it does without marks.
+pub fn unmarked_edits_are_plain()
+    ensures { UnmarkedArePlain }
 {}

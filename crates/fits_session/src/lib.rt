@@ -31,8 +31,9 @@ pub use hdu_edit::HduEdit;
 pub use laws::{
     a_file_or_a_fault, a_set_keyword_says_its_value, accepted_edits_in_order,
     an_edited_file_is_a_file, as_many_cards_are_never_too_large, fewer_cards_pass_no_limit,
-    no_fault_where_open, no_refusal_is_memory, one_file, one_fresh_reading, one_open_fault,
-    the_report_is_all_problems, the_report_is_in_order, which_kind_an_hdu_has,
+    kept_hdus_stay_right, no_fault_where_open, no_refusal_is_memory, one_file, one_fresh_reading,
+    one_open_fault, the_report_is_all_problems, the_report_is_in_order, unmarked_edits_are_plain,
+    which_kind_an_hdu_has,
 };
 pub use limits::{FILE_LIMIT, HDU_LIMIT, within};
 pub use offsets::HduOffsets;

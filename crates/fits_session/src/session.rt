@@ -4,6 +4,7 @@ mod cards;
 mod changes;
 mod editing;
 mod finding;
+mod keeping;
 mod list_edits;
 mod naming;
 mod opening;
@@ -61,13 +62,16 @@ impl Session {
     ghost use Rattle.fits_hdu.specs.Work.{name_reads, IsOpened};
     ghost use Rattle.fits_session.specs.File.{file_bytes, IsFile, IsFileOf};
     ghost use Rattle.fits_session.specs.declared.limits.TheConstants.{FILE_LIMIT};
+    ghost use Rattle.fits_session.specs.Marked.{unmarked};
     ghost use Rattle.fits_session.specs.Opening.{HasOpenFault, OpenFails};
     ghost use Rattle.fits_session.specs.Reading.{ReadStops};
-    ghost use Rattle.fits_session.specs.Session.{file_of, state_of, EditsTo};
+    ghost use Rattle.fits_session.specs.Session.{file_of, marked_of, state_of, EditsTo};
 
-    /// Opens the file that has these bytes.
+    /// Opens the file that has these bytes. No HDU is kept stamped.
     pub fn open(alloc: Global, bytes: &[u8]) -> Result<Session, OpenFault>
         ensures ok { IfOk result (λ session. IsFileOf bytes.now (file_of session)) }
+        ensures unmarked { IfOk result (λ session. marked_of session
+            ≡ unmarked (file_of session)) }
         ensures opened { IfOk result (λ session. All (IsOpened name_reads) session.hdus) }
         ensures err { IfErr result (OpenFails bytes.now) }
 
@@ -86,13 +90,16 @@ impl Session {
         }
     }
 
-    /// Reads the file that a source has, each data unit into its place, and opens it.
+    /// Reads the file that a source has, each data unit into its place, and opens it. No HDU is kept
+    /// stamped.
     ///
     /// The source is gone through to its end, or past the limit of a file. That it is too long comes before
     /// all else, then a failed call, then a fault of its bytes. `Memory` may stand anywhere.
     pub fn read<R: Source>(alloc: Global, source: &mut R) -> Result<Session, ReadFileFault>
         ensures ok { IfOk result (λ session. Gives (R.state source.old)
             (λ bytes. IsFileOf bytes (file_of session))) }
+        ensures unmarked { IfOk result (λ session. marked_of session
+            ≡ unmarked (file_of session)) }
         ensures opened { IfOk result (λ session. All (IsOpened name_reads) session.hdus) }
         ensures quiet { OnOk result (StaysQuiet (R.state source.old) (R.state source.new)) }
         ensures err { IfErr result (ReadStops (R.state source.old) (R.state source.new)) }
@@ -105,6 +112,7 @@ impl Session {
     }
 
     // The session of the HDUs of a file, how many bytes it has, and the bytes after the last HDU.
+    #[tactic(auto, using(crate::proofs::KeptLemmas::opened_steps))]
     fn of(alloc: Global, parts: (Vec<Hdu>, u64, Vec<u8>)) -> Result<Session, AllocError>
         requires whole { IsFile (file_of (state_of parts.0.items parts.2.items)) }
         requires len { parts.1
@@ -112,6 +120,8 @@ impl Session {
         requires opened { All (IsOpened 0) parts.0.items }
         ensures file { IfOk result (λ session. file_of session
             ≡ file_of (state_of parts.0.items parts.2.items)) }
+        ensures unmarked { IfOk result (λ session. marked_of session
+            ≡ unmarked (file_of session)) }
         ensures opened { IfOk result (λ session. All (IsOpened name_reads) session.hdus) }
     {
         let (mut hdus, len, tail) = parts;
@@ -127,10 +137,14 @@ impl Session {
 
     /// Makes an edit, or refuses it by the first test that fails.
     ///
+    /// An accepted edit of the cards, the pixels or the shape of an HDU that is kept stamped is
+    /// followed by a stamp of it; such an edit is `TooLarge` where two cards more would be.
+    ///
     /// `Memory` may stand in place of success, but not where pixels are edited, cards or an HDU
-    /// only go, or a card moves, which takes none; for an edit that puts cards in, in place of
-    /// `Shape` and `TooLarge`, whose tests need the cards of the change; for a reshape in place of
-    /// `Range` too; and for a new image in place of `TooLarge`.
+    /// only go, a card moves or an HDU is released, which takes none, unless the HDU is kept; for
+    /// an edit that puts cards in, in place of `Shape` and `TooLarge`, whose tests need the cards
+    /// of the change; for a reshape in place of `Range` too; and for a new image in place of
+    /// `TooLarge`.
     pub fn edit(&mut self, edit: Edit) -> Result<(), Refusal>
         ensures edits { EditsTo edit self.old self.new result }
     {

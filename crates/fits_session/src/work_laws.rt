@@ -1,6 +1,6 @@
 //! Laws of bounded work, each the contract of a function that does nothing: how much the edits and
 //! queries of a session do at most, by what they touch, beside the exact counts of `specs/Work`.
-ghost use Rattle.std.specs.Prelude.{◌≡◌, ◌<◌, ◌≤◌, ◌+◌, ◌-◌, ◌*◌, ◌^◌, ℕ, ℤ, Bool, List, get_or, length, map, max, Option, Err, Ok, Result, Some};
+ghost use Rattle.std.specs.Prelude.{◌≡◌, ◌<◌, ◌≤◌, ◌+◌, ◌-◌, ◌*◌, ◌^◌, ℕ, ℤ, Bool, true, false, List, get_or, length, map, max, Option, Err, Ok, Result, Some};
 ghost use Rattle.std.specs.List.{remove};
 ghost use Rattle.fits_plane.specs.Layout.{block_count};
 ghost use Rattle.fits_plane.specs.Work.{rectangle_blocks};
@@ -34,18 +34,23 @@ ghost use Rattle.fits_session.specs.declared.refusal.Refusal.{Refusal};
 pub fn edits_of_cards_read_few()
     ensures cards { (primary : Bool) (hdu : HduParts) (shape : Shape) (edit : CardEdit)
         → shape_of primary hdu.header.cards ≡ Ok shape
-        → reads_in_all primary (HduEdit.Cards edit) hdu
+        → reads_in_all false primary (HduEdit.Cards edit) hdu
         ≤ most_reads (mandatory_count shape) (moved_count (change_of hdu.header.cards edit)) }
     ensures cards_closer { (primary : Bool) (hdu : HduParts) (shape : Shape) (edit : CardEdit)
         → shape_of primary hdu.header.cards ≡ Ok shape
-        → reads_in_all primary (HduEdit.Cards edit) hdu
+        → reads_in_all false primary (HduEdit.Cards edit) hdu
         ≤ mandatory_count shape + moved_count (change_of hdu.header.cards edit) + 16 }
     ensures stamp { (primary : Bool) (hdu : HduParts) (shape : Shape)
         → shape_of primary hdu.header.cards ≡ Ok shape
-        → reads_in_all primary HduEdit.Stamp hdu
+        → reads_in_all false primary HduEdit.Stamp hdu
         ≤ 3 * most_reads (mandatory_count shape) (stamped_count hdu.header.cards) }
     ensures stamp_closer { (primary : Bool) (hdu : HduParts)
-        → reads_in_all primary HduEdit.Stamp hdu ≤ 2 * stamped_count hdu.header.cards + 32 }
+        → reads_in_all false primary HduEdit.Stamp hdu ≤ 2 * stamped_count hdu.header.cards + 32 }
+
+    // The stamp that follows an edit of an HDU that is kept adds its own reads, and no other work.
+    ensures kept { (primary : Bool) (edit : HduEdit) (hdu : HduParts)
+        → reads_in_all true primary edit hdu ≤ reads_in_all false primary edit hdu
+        + (stamped_count (hdu_edited primary edit hdu).header.cards + 29) }
     ensures scans { (primary : Bool) (hdu : HduParts) (edit : CardEdit) (old new : PixelWork)
         (d : ℕ) → block_count hdu.data_unit ≤ 2 ^ d
         → HduWork primary (HduEdit.Cards edit) hdu old new
@@ -67,7 +72,7 @@ pub fn edits_of_cards_read_few()
 /// its rectangle; one that is refused does no work, nor does any other that is no reshape.
 pub fn edits_of_pixels_scan_few()
     ensures cards { (primary : Bool) (hdu : HduParts) (lo hi : List ℕ) (paint : Paint)
-        → reads_in_all primary (HduEdit.Pixels lo hi paint) hdu ≡ 0 }
+        → reads_in_all false primary (HduEdit.Pixels lo hi paint) hdu ≡ 0 }
     ensures scans { (primary : Bool) (hdu : HduParts) (shape : Shape) (lo hi : List ℕ)
         (paint : Paint) (old new : PixelWork) (d : ℕ)
         → shape_of primary hdu.header.cards ≡ Ok shape → block_count hdu.data_unit ≤ 2 ^ d
@@ -94,12 +99,12 @@ pub fn edits_of_pixels_scan_few()
 pub fn reshapes_work_little()
     ensures cards { (primary : Bool) (hdu : HduParts) (shape : Shape) (kind : Kind) (axes : List ℕ)
         → shape_of primary hdu.header.cards ≡ Ok shape
-        → reads_in_all primary (HduEdit.Reshape kind axes) hdu
+        → reads_in_all false primary (HduEdit.Reshape kind axes) hdu
         ≤ 3 * most_reads (max (mandatory_count shape) (3 + length axes))
         (reshaped_count (array_kind shape hdu.header.cards) kind axes shape hdu.header.cards) }
     ensures cards_closer { (primary : Bool) (hdu : HduParts) (shape : Shape) (kind : Kind)
         (axes : List ℕ) → shape_of primary hdu.header.cards ≡ Ok shape
-        → reads_in_all primary (HduEdit.Reshape kind axes) hdu ≤ length axes + 2 * reshaped_count
+        → reads_in_all false primary (HduEdit.Reshape kind axes) hdu ≤ length axes + 2 * reshaped_count
         (array_kind shape hdu.header.cards) kind axes shape hdu.header.cards + 32 }
     ensures pixels { (primary : Bool) (hdu : HduParts) (shape : Shape) (kind : Kind)
         (axes : List ℕ) (old new : PixelWork) → shape_of primary hdu.header.cards ≡ Ok shape

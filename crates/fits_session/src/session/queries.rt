@@ -22,13 +22,15 @@ use fits_value::{Text, Value};
 use std::alloc::{AllocError, Global};
 
 impl Session {
-    ghost use Rattle.std.specs.Prelude.{◌≡◌, length, IfOk, IfErr, OnOk, OnErr, None, Ok};
+    ghost use Rattle.std.specs.Prelude.{◌≡◌, true, length, IfOk, IfErr, OnOk, OnErr, None, Ok};
     ghost use Rattle.fits_plane.specs.Rectangle.{rectangle_size};
     ghost use Rattle.fits_session.specs.Edit.{hdu_of};
     ghost use Rattle.fits_session.specs.File.{offsets_from};
+    ghost use Rattle.fits_session.specs.Keeping.{both_right};
+    ghost use Rattle.fits_session.specs.Marked.{kept_in};
     ghost use Rattle.fits_session.specs.Query.{card_count_in, datasum_in, kind_in, names_in, positions_in, rect_in, shape_in, stats_in, value_in, verdicts_in, PlacesFail, QueryFails};
     ghost use Rattle.fits_session.specs.Report.{counts_in, report_of};
-    ghost use Rattle.fits_session.specs.Session.{file_of, Asks, AsksPixels};
+    ghost use Rattle.fits_session.specs.Session.{file_of, marked_of, Asks, AsksPixels};
     ghost use Rattle.fits_session.specs.Work.{value_reads};
 
     /// How many HDUs there are.
@@ -95,6 +97,18 @@ impl Session {
         let i = index_of(&self.hdus, h)?;
         let hdu = &self.hdus[i];
         Ok(hdu.verdicts())
+    }
+
+    /// Whether HDU h is kept stamped: then both its sums are right. Refusal 1. It takes no memory,
+    /// and reads nothing.
+    pub fn kept(&self, h: usize) -> Result<bool, Refusal>
+        ensures value { result ≡ kept_in (marked_of self.now) h }
+        ensures right { IfOk result (λ kept. kept ≡ true
+            → verdicts_in (file_of self.now) h ≡ Ok both_right) }
+    {
+        let i = index_of(&self.hdus, h)?;
+        let hdu = &self.hdus[i];
+        Ok(hdu.kept())
     }
 
     /// The values of a rectangle of HDU h, in file order. The corners count from 1. Refusals 1, 9,

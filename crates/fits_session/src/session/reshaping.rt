@@ -5,16 +5,17 @@ ghost use Rattle.fits_hdu.specs.State.{parts_of};
 ghost use Rattle.fits_session.specs.Limits.{is_within_limits};
 ghost use Rattle.fits_session.specs.Session.{HduEditsTo};
 
+use super::editing::hdu_len;
+use super::keeping::{finish, spare_cards, stamp_cards};
 use crate::hdu_edit::HduEdit;
 use crate::limits::FILE_LIMIT;
 use crate::refusal::Refusal;
 use fits_hdu::Hdu;
 use fits_image::Kind;
-use fits_rules::Axes;
+use fits_rules::{Axes, array_bits};
 use std::alloc::Global;
 
-/// Makes an HDU an array of this kind and with these axes in a file of so many bytes and HDUs, and
-/// answers how many bytes the file has then.
+/// Makes an HDU an array of this kind and with these axes in a file of so many bytes and HDUs.
 pub(super) fn reshape(
     alloc: Global,
     hdu: &mut Hdu,
@@ -22,16 +23,19 @@ pub(super) fn reshape(
     hdus: u64,
     kind: Kind,
     axes: &Axes,
-) -> Result<u64, Refusal>
+) -> Result<(), Refusal>
     requires part { length (hdu_bytes (parts_of hdu.old)) ≤ len }
     requires within { is_within_limits len hdus ≡ true }
     ensures { HduEditsTo (HduEdit.Reshape kind axes.now) len hdus hdu.old hdu.new result }
 {
     let _whole = hdu.card_count();
-    let header_len = hdu.header().byte_len();
-    let data_len = hdu.plane().byte_len();
-    let others = len - (header_len + data_len) as u64;
-    let most = FILE_LIMIT - others;
-    let after = hdu.reshape(alloc, kind, axes.as_slice(), most as usize)?;
-    Ok(others + after as u64)
+    if array_bits(hdu.shape()).is_none() {
+        return Err(Refusal::NotImage);
+    }
+    let most = FILE_LIMIT - (len - hdu_len(hdu));
+    let spare = spare_cards(hdu);
+    let cards = stamp_cards(alloc, hdu)?;
+    hdu.reshape(alloc, kind, axes.as_slice(), most as usize, spare)?;
+    finish(hdu, cards);
+    Ok(())
 }

@@ -14,7 +14,7 @@ impl Session {
     ghost use Rattle.std.specs.Prelude.{◌≡◌, ◌+◌, OnOk, OnErr};
     ghost use Rattle.fits_stream.specs.Stream.{Prints, PrintsFront};
     ghost use Rattle.fits_session.specs.File.{file_bytes};
-    ghost use Rattle.fits_session.specs.Session.{file_of, each_read, ReadsOnceAtMost};
+    ghost use Rattle.fits_session.specs.Session.{file_of, each_read, marked_of, ReadsOnceAtMost};
 
     /// Writes the file. Where a call fails a prefix was written. It takes no memory.
     #[tactic(auto, using(crate::proofs::SaveLemmas::save_steps))]
@@ -25,7 +25,7 @@ impl Session {
             (W.state sink.old) (W.state sink.new)) }
 
         // The file stays, and each card is read once at most.
-        ensures file { file_of self.new ≡ file_of self.old }
+        ensures file { marked_of self.new ≡ marked_of self.old }
         ensures work { ReadsOnceAtMost self.old.hdus self.new.hdus }
         ensures all_read { OnOk result (self.new.hdus ≡ each_read self.old.hdus) }
     {

@@ -5,24 +5,23 @@ ghost use Rattle.fits_hdu.specs.State.{parts_of};
 ghost use Rattle.fits_session.specs.Limits.{is_within_limits};
 ghost use Rattle.fits_session.specs.Session.{HduEditsTo};
 
-use super::cards::len_after;
+use super::cards::keeps_limits;
 use crate::hdu_edit::HduEdit;
 use crate::refusal::Refusal;
 use fits_hdu::Hdu;
 use std::alloc::Global;
 
-/// Makes the sums of an HDU right in a file of so many bytes and HDUs, and answers how many bytes
-/// the file has then.
-pub(super) fn stamp(alloc: Global, hdu: &mut Hdu, len: u64, hdus: u64) -> Result<u64, Refusal>
+/// Makes the sums of an HDU right in a file of so many bytes and HDUs.
+pub(super) fn stamp(alloc: Global, hdu: &mut Hdu, len: u64, hdus: u64) -> Result<(), Refusal>
     requires part { length (hdu_bytes (parts_of hdu.old)) ≤ len }
     requires within { is_within_limits len hdus ≡ true }
     ensures { HduEditsTo HduEdit.Stamp len hdus hdu.old hdu.new result }
 {
     let before = hdu.card_count();
     let after = hdu.count_stamped();
-    let Some(len) = len_after(len, before, after, hdus) else {
+    if !keeps_limits(len, before, after, 0, hdus) {
         return Err(Refusal::TooLarge);
-    };
+    }
     hdu.stamp(alloc)?;
-    Ok(len)
+    Ok(())
 }

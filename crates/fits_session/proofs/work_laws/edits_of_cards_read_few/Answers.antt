@@ -1,5 +1,5 @@
 use Rattle.std.proofs.Common.{arith}
-use Rattle.fits_session.proofs.BoundLemmas.{cards_closer, edit_none_falls, edit_others, stamp_closer}
+use Rattle.fits_session.proofs.BoundLemmas.{cards_closer, edit_none_falls, edit_others, kept_closer, stamp_closer}
 use Rattle.fits_session.proofs.work_laws.edits_of_cards_read_few.Goals as goal
 
 pub returns-clause-cards : goal.returns-clause-cards
@@ -13,6 +13,9 @@ returns-clause-stamp c = λ primary hdu shape described. omega (arith, stamp_clo
 
 pub returns-clause-stamp_closer : goal.returns-clause-stamp_closer
 returns-clause-stamp_closer c = stamp_closer
+
+pub returns-clause-kept : goal.returns-clause-kept
+returns-clause-kept c = kept_closer
 
 pub returns-clause-others : goal.returns-clause-others
 returns-clause-others c = edit_others

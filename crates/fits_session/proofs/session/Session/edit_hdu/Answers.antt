@@ -34,7 +34,8 @@ invariant_of-self c =
       file = c.self.invariant.whole;
       size = c.self.invariant.len;
       number = c.len-count.ensures ∙ sym c.deref.ensures.len ∙ ap length c.deref.ensures.value;
-      edits = c.in_err-self-inside.ensures;
+      edits = c.in_err-self-inside.ensures.edits;
+      long = tt;
     } in
     kept_refused c.self.inside.hdus.items c.self.inside.tail.items c.args.h c.in_ok-i.i c.args.edit.now c.self.inside.len c.len-count.result c.self.inside.names.numbers.items c.self.inside.names.room c.index_mut.result.now c.edit_hdu.new.hdu c.self.invariant c.in_err-self-inside.field-0.0 edited
 
@@ -46,7 +47,8 @@ returns-in_err-self-inside c =
       file = c.self.invariant.whole;
       size = c.self.invariant.len;
       number = c.len-count.ensures ∙ sym c.deref.ensures.len ∙ ap length c.deref.ensures.value;
-      edits = c.in_err-self-inside.ensures;
+      edits = c.in_err-self-inside.ensures.edits;
+      long = tt;
     } in
     rw (p.1, p.2, ← c.self.view_is) (edits_refused c.self.inside.hdus.items c.self.inside.tail.items c.args.h c.in_ok-i.i c.args.edit.now c.self.inside.len c.len-count.result c.index_mut.result.now c.edit_hdu.new.hdu c.in_err-self-inside.field-0.0 edited)
 
@@ -57,7 +59,8 @@ follow-requires-clause-stood c =
       file = c.self.invariant.whole;
       size = c.self.invariant.len;
       number = c.len-count.ensures ∙ sym c.deref.ensures.len ∙ ap length c.deref.ensures.value;
-      edits = c.in_ok-self-inside.ensures;
+      edits = c.in_ok-self-inside.ensures.edits;
+      long = c.in_ok-self-inside.ensures.len;
     } in
     stood_before c.self.inside.hdus.items c.self.inside.tail.items c.args.h c.in_ok-i.i c.args.edit.now c.self.inside.len c.len-count.result c.self.inside.names.numbers.items c.self.inside.names.room c.index_mut.result.now c.edit_hdu.new.hdu c.self.invariant c.in_ok-self-inside.field-0 edited
 
@@ -68,12 +71,14 @@ invariant_of-self-then-may_rename c =
       file = c.self.invariant.whole;
       size = c.self.invariant.len;
       number = c.len-count.ensures ∙ sym c.deref.ensures.len ∙ ap length c.deref.ensures.value;
-      edits = c.in_ok-self-inside.ensures;
+      edits = c.in_ok-self-inside.ensures.edits;
+      long = c.in_ok-self-inside.ensures.len;
     } in
     let follows : IsFollowed (set c.self.inside.hdus.items c.in_ok-i.i c.edit_hdu.new.hdu) c.follow.new.hdus.items c.args.h name_reads = record {
       hdus = c.follow.ensures.hdus;
       reads = subst (λ h. ReadsOnly h name_reads (reads_of (set c.self.inside.hdus.items c.in_ok-i.i c.edit_hdu.new.hdu)) (reads_of c.follow.new.hdus.items)) (sym edited.at.index.at) c.follow.ensures.reads;
       works = c.follow.ensures.works;
+      kept = c.follow.ensures.kept;
     } in
     kept_followed c.self.inside.hdus.items c.self.inside.tail.items c.args.h c.in_ok-i.i c.args.edit.now c.self.inside.len c.len-count.result c.self.inside.names.numbers.items c.self.inside.names.room c.index_mut.result.now c.edit_hdu.new.hdu c.self.invariant c.in_ok-self-inside.field-0 name_reads c.follow.new.table.room c.follow.new.hdus.items c.follow.new.table.numbers.items edited follows c.follow.ensures.described c.follow.ensures.stands c.follow.ensures.room
 
@@ -84,7 +89,8 @@ invariant_of-self-else-may_rename c =
       file = c.self.invariant.whole;
       size = c.self.invariant.len;
       number = c.len-count.ensures ∙ sym c.deref.ensures.len ∙ ap length c.deref.ensures.value;
-      edits = c.in_ok-self-inside.ensures;
+      edits = c.in_ok-self-inside.ensures.edits;
+      long = c.in_ok-self-inside.ensures.len;
     } in
     kept_unrenamed c.self.inside.hdus.items c.self.inside.tail.items c.args.h c.in_ok-i.i c.args.edit.now c.self.inside.len c.len-count.result c.self.inside.names.numbers.items c.self.inside.names.room c.index_mut.result.now c.edit_hdu.new.hdu c.self.invariant c.in_ok-self-inside.field-0 (sym c.if-may_rename.ensures) edited
 
@@ -95,12 +101,14 @@ returns-then-may_rename c =
       file = c.self.invariant.whole;
       size = c.self.invariant.len;
       number = c.len-count.ensures ∙ sym c.deref.ensures.len ∙ ap length c.deref.ensures.value;
-      edits = c.in_ok-self-inside.ensures;
+      edits = c.in_ok-self-inside.ensures.edits;
+      long = c.in_ok-self-inside.ensures.len;
     } in
     let follows : IsFollowed (set c.self.inside.hdus.items c.in_ok-i.i c.edit_hdu.new.hdu) c.follow.new.hdus.items c.args.h name_reads = record {
       hdus = c.follow.ensures.hdus;
       reads = subst (λ h. ReadsOnly h name_reads (reads_of (set c.self.inside.hdus.items c.in_ok-i.i c.edit_hdu.new.hdu)) (reads_of c.follow.new.hdus.items)) (sym edited.at.index.at) c.follow.ensures.reads;
       works = c.follow.ensures.works;
+      kept = c.follow.ensures.kept;
     } in
     let few : name_reads ≤ follow_reads c.args.edit.now (Ok (parts_of c.edit_hdu.new.hdu)) = rw (sym c.if-may_rename.ensures) (omega arith) in
     rw (← c.self.view_is) (edits_made c.self.inside.hdus.items c.follow.new.hdus.items c.self.inside.tail.items c.args.h c.in_ok-i.i c.args.edit.now c.self.inside.len c.len-count.result c.in_ok-self-inside.field-0 name_reads c.index_mut.result.now c.edit_hdu.new.hdu tt edited follows few)
@@ -112,6 +120,7 @@ returns-else-may_rename c =
       file = c.self.invariant.whole;
       size = c.self.invariant.len;
       number = c.len-count.ensures ∙ sym c.deref.ensures.len ∙ ap length c.deref.ensures.value;
-      edits = c.in_ok-self-inside.ensures;
+      edits = c.in_ok-self-inside.ensures.edits;
+      long = c.in_ok-self-inside.ensures.len;
     } in
     rw (← c.self.view_is) (edits_made c.self.inside.hdus.items (set c.self.inside.hdus.items c.in_ok-i.i c.edit_hdu.new.hdu) c.self.inside.tail.items c.args.h c.in_ok-i.i c.args.edit.now c.self.inside.len c.len-count.result c.in_ok-self-inside.field-0 0 c.index_mut.result.now c.edit_hdu.new.hdu tt edited (followed_none (set c.self.inside.hdus.items c.in_ok-i.i c.edit_hdu.new.hdu) c.args.h) (omega arith))

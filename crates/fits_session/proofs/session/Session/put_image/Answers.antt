@@ -13,7 +13,8 @@ use Rattle.fits_session.specs.NameTable.{names_of}
 use Rattle.fits_session.proofs.KeptLemmas.{kept_as}
 use Rattle.fits_session.proofs.StandingLemmas.{unnamed_stands}
 use Rattle.fits_session.proofs.TableLemmas.{names_within}
-use Rattle.fits_session.proofs.StateLemmas.{file_within}
+use Rattle.fits_session.specs.Keeping.{IsRight}
+use Rattle.fits_session.proofs.StateLemmas.{file_within, unkept_right}
 use Rattle.fits_session.proofs.session.Session.put_image.Goals as goal
 
 pub returns-then-not-is_within : goal.returns-then-not-is_within
@@ -102,6 +103,7 @@ invariant_of-self-2 c =
       whole = left;
       len = omega (arith, more, long, c.self.invariant.len, c.in-Some.ensures.len);
       described = all_inserted IsDescribed hdus at new c.in_ok-hdu.ensures.described c.self.invariant.described;
+      right = all_inserted IsRight hdus at new (unkept_right new c.in_ok-hdu.ensures.kept) c.self.invariant.right;
       names = unnamed_stands hdus at new es c.in_ok-hdu.ensures.unnamed c.in_ok-hdu.ensures.entry c.self.invariant.names;
       roomy = omega (arith, c.in_ok-reserve-2.ensures.ok, c.len-3.ensures, c.self.inside.hdus.ok.0, ap length c.reserve.ensures.items, length-insert hdus at new (placed_at (length hdus) c.args.at c.args.axes.now placed).1);
     })
@@ -115,4 +117,4 @@ returns c =
     let size = (file_within c.self.inside.hdus.items c.self.inside.tail.items c.self.invariant.whole).0 in
     let fits = new_fits c.self.inside.hdus.items c.self.inside.tail.items c.args.at c.args.kind c.args.axes.now placed (grind (arith, c.if-len-ge-HDU_LIMIT.false, c.len-2.ensures, c.self.inside.hdus.ok.0)) (omega (arith, size, long, c.self.invariant.len, c.in-Some.ensures.len, c.in-Some.ensures.within)) in
     let is = c.in_ok-hdu.ensures.hdu ∙ ap (new_image c.args.kind) axes_are in
-    rw (c.in-Ok.ensures.items, c.reserve.ensures.items, ← c.self.view_is) (new_made c.self.inside.hdus.items c.self.inside.tail.items c.args.at tt c.args.kind c.args.axes.now c.in_ok-hdu.hdu placed fits is c.in_ok-hdu.ensures.work c.in_ok-hdu.ensures.scans)
+    rw (c.in-Ok.ensures.items, c.reserve.ensures.items, ← c.self.view_is) (new_made c.self.inside.hdus.items c.self.inside.tail.items c.args.at tt c.args.kind c.args.axes.now c.in_ok-hdu.hdu placed fits is c.in_ok-hdu.ensures.kept c.in_ok-hdu.ensures.work c.in_ok-hdu.ensures.scans)

@@ -3,8 +3,9 @@ use Rattle.std.specs.List.{remove}
 use Rattle.std.proofs.lemmas.List.Edits.{length-remove}
 use Rattle.fits_session.specs.File.{FileParts, file_bytes, IsFile}
 use Rattle.fits_session.specs.NameTable.{Stands}
+use Rattle.fits_session.specs.Keeping.{IsRight}
 use Rattle.fits_session.specs.Session.{without_entries}
-use Rattle.fits_session.proofs.KeptLemmas.{count_moved, described_moved, file_of-unentered}
+use Rattle.fits_session.proofs.KeptLemmas.{count_moved, described_moved, file_of-unentered, right_unentered}
 use Rattle.fits_session.proofs.StandingLemmas.{removed_leaves}
 use Rattle.std.proofs.lemmas.List.{length-append}
 use Rattle.fits_card.specs.Header.{header_bytes}
@@ -67,6 +68,7 @@ invariant_of-self c =
       whole = subst (λ (f : FileParts). IsFile f) (sym same) left;
       len = omega (arith, ap (λ (f : FileParts). length (file_bytes f)) same, less, c.self.invariant.len, length-append (header_bytes hdu.header) hdu.data_unit, c.byte_len-header_len.ensures, ap (λ (h : HeaderState). length (header_bytes h.header)) c.header.ensures, c.byte_len-data_len.ensures, ap (λ (p : PlaneState). length p.bytes) c.plane.ensures.value);
       described = described_moved c.leave.new.hdus.items (remove hdus c.in_ok-i.i) moved (all_left IsDescribed hdus c.in_ok-i.i c.self.invariant.described);
+      right = right_unentered c.leave.new.hdus.items (remove hdus c.in_ok-i.i) moved (all_left IsRight hdus c.in_ok-i.i c.self.invariant.right);
       names = subst (Stands c.leave.new.hdus.items) (sym c.release.ensures.names) c.leave.ensures.stands;
       roomy = omega (arith, c.self.invariant.roomy, c.leave.ensures.room, c.release.ensures.room, count_moved c.leave.new.hdus.items (remove hdus c.in_ok-i.i) moved, length-remove hdus c.in_ok-i.i at.index.within);
     }

@@ -6,10 +6,10 @@ use Rattle.fits_hdu.specs.Work.{name_reads, plane_work}
 use Rattle.fits_hdu.proofs.StateLemmas.{parts_read}
 use Rattle.fits_session.specs.NameTable.{names_of}
 use Rattle.fits_session.specs.Session.{reads_of, ReadsOnly}
-use Rattle.fits_session.proofs.KeptLemmas.{described_moved, hdus_moved, reads_moved, works_moved}
+use Rattle.fits_session.proofs.KeptLemmas.{described_moved, hdus_moved, kept_moved, reads_moved, works_moved}
 use Rattle.fits_session.proofs.MakingLemmas.{lasts_read}
 use Rattle.fits_session.proofs.NamingLemmas.{follows_leaves, follows_same, points_was}
-use Rattle.fits_session.proofs.StateLemmas.{IsHduAt, hdus_of-same, reads_more, works_of-same}
+use Rattle.fits_session.proofs.StateLemmas.{IsHduAt, hdus_of-same, kept_of-same, reads_more, works_of-same}
 use Rattle.fits_session.proofs.TableLemmas.{names_within}
 use Rattle.fits_session.proofs.session.naming.follow.Goals as goal
 
@@ -26,7 +26,7 @@ returns-then-is_entry_of-clause-stands c =
 
 pub returns-then-is_entry_of-clause-described : goal.returns-then-is_entry_of-clause-described
 returns-then-is_entry_of-clause-described c described =
-    All-set IsDescribed c.args.hdus.now.items c.args.i c.extension_name-name.new.self (lasts_read c.index_mut-hdu.result.now c.extension_name-name.new.self name_reads c.extension_name-name.ensures.described c.extension_name-name.ensures.work).0 described
+    All-set IsDescribed c.args.hdus.now.items c.args.i c.extension_name-name.new.self (lasts_read c.index_mut-hdu.result.now c.extension_name-name.new.self name_reads c.extension_name-name.ensures.described c.extension_name-name.ensures.work).described described
 
 pub returns-then-is_entry_of-clause-hdus : goal.returns-then-is_entry_of-clause-hdus
 returns-then-is_entry_of-clause-hdus c = hdus_of-same c.args.hdus.now.items c.args.i c.index_mut-hdu.result.now c.extension_name-name.new.self c.requires.within c.index_mut-hdu.ensures.value (parts_read c.index_mut-hdu.result.now c.extension_name-name.new.self name_reads c.extension_name-name.ensures.work)
@@ -39,6 +39,9 @@ returns-then-is_entry_of-clause-reads c =
 
 pub returns-then-is_entry_of-clause-works : goal.returns-then-is_entry_of-clause-works
 returns-then-is_entry_of-clause-works c = works_of-same c.args.hdus.now.items c.args.i c.index_mut-hdu.result.now c.extension_name-name.new.self c.requires.within c.index_mut-hdu.ensures.value (ap plane_work c.extension_name-name.ensures.work.plane)
+
+pub returns-then-is_entry_of-clause-kept : goal.returns-then-is_entry_of-clause-kept
+returns-then-is_entry_of-clause-kept c = kept_of-same c.args.hdus.now.items c.args.i c.index_mut-hdu.result.now c.extension_name-name.new.self c.requires.within c.index_mut-hdu.ensures.value c.extension_name-name.ensures.work.kept
 
 pub enter-entry-requires-clause-few : goal.enter-entry-requires-clause-few
 enter-entry-requires-clause-few c =
@@ -62,7 +65,7 @@ leave-requires c =
 pub returns-clause-described : goal.returns-clause-described
 returns-clause-described c described =
     described_moved c.leave.new.hdus.items (set c.args.hdus.now.items c.args.i c.set_entry.new.self) c.leave.ensures.hdus
-    (All-set IsDescribed c.args.hdus.now.items c.args.i c.set_entry.new.self (rw c.set_entry.ensures (lasts_read c.index_mut-hdu.result.now c.extension_name-name.new.self name_reads c.extension_name-name.ensures.described c.extension_name-name.ensures.work).0) described)
+    (All-set IsDescribed c.args.hdus.now.items c.args.i c.set_entry.new.self (rw c.set_entry.ensures (lasts_read c.index_mut-hdu.result.now c.extension_name-name.new.self name_reads c.extension_name-name.ensures.described c.extension_name-name.ensures.work).described) described)
 
 pub returns-clause-hdus : goal.returns-clause-hdus
 returns-clause-hdus c =
@@ -83,3 +86,9 @@ returns-clause-works c =
     works_moved c.leave.new.hdus.items (set c.args.hdus.now.items c.args.i c.set_entry.new.self) c.leave.ensures.hdus
     ∙ works_of-same c.args.hdus.now.items c.args.i c.index_mut-hdu.result.now c.set_entry.new.self c.requires.within c.index_mut-hdu.ensures.value
     (rw c.set_entry.ensures (ap plane_work c.extension_name-name.ensures.work.plane))
+
+pub returns-clause-kept : goal.returns-clause-kept
+returns-clause-kept c =
+    kept_moved c.leave.new.hdus.items (set c.args.hdus.now.items c.args.i c.set_entry.new.self) c.leave.ensures.hdus
+    ∙ kept_of-same c.args.hdus.now.items c.args.i c.index_mut-hdu.result.now c.set_entry.new.self c.requires.within c.index_mut-hdu.ensures.value
+    (rw c.set_entry.ensures c.extension_name-name.ensures.work.kept)

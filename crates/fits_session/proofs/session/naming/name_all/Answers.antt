@@ -49,7 +49,7 @@ loop-i-preserved c =
       stands =
           one_more_stands hdus i new c.loop-i.counts.numbers.entries c.enter.new.self.numbers.entries within c.loop-i.invariant.stands
           (entered_as c.loop-i.counts.numbers.entries c.enter.new.self.numbers.entries c.extension_name-name.result c.in_ok-entry.entry new (name_kept old read name_reads r ∙ sym c.extension_name-name.ensures.value) refl c.in_ok-entry.ensures.ok);
-      described = all_more IsDescribed hdus i new within c.loop-i.invariant.described lasts.0;
+      described = all_more IsDescribed hdus i new within c.loop-i.invariant.described lasts.described;
       opened = λ opened. all_more (IsOpened name_reads) hdus i new within (c.loop-i.invariant.opened opened)
           (opened_more old read c.in_ok-entry.entry
           (subst (IsOpened 0) (sym (first_after hdus c.args.hdus.now.items i old c.loop-i.invariant.rest c.index_mut-hdu.ensures.value)) (opened i old (omega (arith, within, c.loop-i.invariant.count)))) r);

@@ -1,0 +1,67 @@
+-- A file some of whose HDUs are kept stamped: what edits come to then, and when they are refused (own).
+use Rattle.std.specs.Prelude.{◌≡◌, ℕ, zero, suc, ◌-◌, Bool, true, false, List, length, get_or, replicate, Option, Some, Result, Ok, Err}
+use Rattle.std.specs.List.{insert, remove}
+use Rattle.fits_hdu.specs.Hdu.{HduParts}
+use Rattle.fits_hdu.specs.Sums.{verdicts_of}
+use Rattle.fits_session.specs.Edit.{changed_of, file_after, hdu_of, with_hdu}
+use Rattle.fits_session.specs.File.{FileParts}
+use Rattle.fits_session.specs.Keeping.{both_right, kept_after, stamp_follows, stamped_if}
+use Rattle.fits_session.specs.Query.{in_hdu}
+use Rattle.fits_session.specs.Refusal.{refusal_in, refusal_of}
+use Rattle.fits_session.specs.declared.edit.Edit.{Edit}
+use Rattle.fits_session.specs.declared.edit.Edit.TheVariants.{Hdu, NewImage, RemoveHdu}
+use Rattle.fits_session.specs.declared.refusal.Refusal.{Refusal}
+
+-- a file, and which of its HDUs are kept stamped
+pub record Marked : Type 0 where
+  pub file : FileParts
+  pub kept : List Bool
+
+-- HDU h, from 1, is kept; one that isn't there is not
+abbrev pub is_kept : List Bool → ℕ → Bool
+is_kept kept zero = false
+is_kept kept (suc i) = get_or kept i false
+
+-- a file of which no HDU is
+abbrev pub unmarked : FileParts → Marked
+unmarked file = record { file = file; kept = replicate (length file.hdus) false }
+
+-- whether a stamp follows an edit
+abbrev pub is_stamped_after : List Bool → Edit → Bool
+is_stamped_after kept (Hdu h edit) = stamp_follows edit (is_kept kept h)
+is_stamped_after kept edit = false
+
+-- which HDUs are kept after an edit: marks go with their HDUs, and a new HDU has none
+abbrev pub marks_after : List Bool → Edit → List Bool
+marks_after kept (Hdu h edit) = changed_of h (kept_after edit) kept
+marks_after kept (NewImage at kind axes) = insert kept (at - 1) false
+marks_after kept (RemoveHdu h) = remove kept (h - 1)
+
+-- the file after an edit; what changes a kept HDU is followed by a stamp of it
+abbrev pub marked_file_after : Marked → Edit → FileParts
+marked_file_after it (Hdu h edit) = with_hdu (file_after it.file (Hdu h edit)) h (stamped_if (stamp_follows edit (is_kept it.kept h)))
+marked_file_after it edit = file_after it.file edit
+
+-- how an edit leaves both
+unfoldable pub marked_after : Marked → Edit → Marked
+marked_after it edit = record { file = marked_file_after it edit; kept = marks_after it.kept edit }
+
+-- the first refusal of an edit, if it is refused: of a kept HDU the limits have to hold with two cards more
+unfoldable pub marked_refusal : Marked → Edit → Option Refusal
+marked_refusal it (Hdu h edit) = refusal_in (stamp_follows edit (is_kept it.kept h)) it.file h edit (hdu_of it.file h)
+marked_refusal it edit = refusal_of it.file edit
+
+-- whether HDU h is kept, or its refusal
+abbrev pub kept_in : Marked → ℕ → Result Bool Refusal
+kept_in it h = in_hdu (λ hdu. Ok (is_kept it.kept h)) (hdu_of it.file h)
+
+-- in each HDU that is kept DATASUM and CHECKSUM are right
+abbrev pub AreRight : Marked → Type 0
+AreRight it =
+    (h : ℕ) (hdu : HduParts) → hdu_of it.file h ≡ Some hdu → is_kept it.kept h ≡ true → verdicts_of hdu ≡ both_right
+
+-- where no HDU is kept, an edit is refused, and leaves the file, as it does without marks
+abbrev pub UnmarkedArePlain : Type 0
+UnmarkedArePlain =
+    (file : FileParts) (edit : Edit)
+    → (marked_refusal (unmarked file) edit ≡ refusal_of file edit) × ((marked_after (unmarked file) edit).file ≡ file_after file edit)
