@@ -10,14 +10,14 @@ use Rattle.fits_value.specs.declared.value.Value.{Value}
 use Rattle.fits_image.specs.declared.kind.Kind.{Kind}
 use Rattle.fits_session.specs.declared.card_edit.CardEdit.TheVariants.{Insert, Put, Delete, Move, Set, Unset}
 use Rattle.fits_session.specs.declared.edit.Edit.TheVariants.{Hdu, NewImage, RemoveHdu}
-use Rattle.fits_session.specs.declared.hdu_edit.HduEdit.TheVariants.{Cards, Pixels, Reshape, Stamp}
+use Rattle.fits_session.specs.declared.hdu_edit.HduEdit.TheVariants.{Cards, Keep, Pixels, Release, Reshape, Stamp}
 use Rattle.fits_session.specs.declared.paint.Paint.{Paint}
 use Rattle.fits_session.specs.declared.paint.Paint.TheVariants.{Fill, Write}
 use Rattle.fits_script.specs.Cut.{HasNo}
 use Rattle.fits_script.specs.Forms.{IsAlone, IsCardForm, IsFieldForm, IsMoveForm, IsNameForm, IsArrayForm, IsNumber, IsPaintForm, IsPlaceForm, IsRectangleForm, Names, Says, followed, kind_word, paint_word}
 use Rattle.fits_script.specs.Line.{after_word, alone, axes_last, card_last, card_words, cards_command, command_of, field_words, fill_words, first_word, hdu_said, kind_first, move_words, name_first, name_word, array_words, number_first, place_word, rectangle_first, rectangle_word, said_by, said_of, value_last, values_last, verb_of, verb_said, verb_word, words_said, write_words}
 use Rattle.fits_script.specs.declared.command.Command.{Command}
-use Rattle.fits_script.specs.declared.command.Command.TheVariants.{Nothing, Edit, Offsets, Get, Positions, Report, Statistics, Rectangle, Sums}
+use Rattle.fits_script.specs.declared.command.Command.TheVariants.{Nothing, Edit, Offsets, Get, Positions, Report, Statistics, Rectangle, Sums, Kept}
 use Rattle.fits_script.specs.declared.verb.Verb.{Verb}
 use Rattle.fits_script.specs.declared.verb.Verb.TheVariants as verb
 use Rattle.fits_script.specs.declared.word_fault.WordFault.{WordFault}
@@ -215,6 +215,8 @@ command_of-says line (Edit (Hdu h (Pixels lo hi (Fill value)))) says = named-is 
 command_of-says line (Edit (Hdu h (Pixels lo hi (Write values)))) says = named-is verb.Write _ _ h _ line says refl refl refl (λ rest. refl) ∙ ap (option_map (λ w. Edit (Hdu h (Pixels w.0 w.1 w.2)))) (write_words-is lo hi values says.rest says.form)
 command_of-says line (Edit (Hdu h (Reshape kind axes))) says = named-is verb.Reshape _ _ h _ line says refl refl refl (λ rest. refl) ∙ ap (option_map (λ w. Edit (Hdu h (Reshape w.0 w.1)))) (array_words-is kind axes says.rest says.form)
 command_of-says line (Edit (Hdu h Stamp)) says = named-is verb.Stamp _ _ h _ line says refl refl refl (λ rest. refl) ∙ alone-says says.rest (Edit (Hdu h Stamp)) says.form
+command_of-says line (Edit (Hdu h Keep)) says = named-is verb.Keep _ _ h _ line says refl refl refl (λ rest. refl) ∙ alone-says says.rest (Edit (Hdu h Keep)) says.form
+command_of-says line (Edit (Hdu h Release)) says = named-is verb.Release _ _ h _ line says refl refl refl (λ rest. refl) ∙ alone-says says.rest (Edit (Hdu h Release)) says.form
 command_of-says line (Edit (NewImage h kind axes)) says = named-is verb.New _ _ h _ line says refl refl refl (λ rest. refl) ∙ ap (option_map (λ w. Edit (NewImage h w.0 w.1))) (array_words-is kind axes says.rest says.form)
 command_of-says line (Edit (RemoveHdu h)) says = named-is verb.Remove _ _ h _ line says refl refl refl (λ rest. refl) ∙ alone-says says.rest (Edit (RemoveHdu h)) says.form
 command_of-says line (Get h name) says = named-is verb.Get _ _ h _ line says refl refl refl (λ rest. refl) ∙ ap (option_map (λ name. Get h name)) (name_word-is name says.rest says.form)
@@ -224,6 +226,7 @@ command_of-says line Report says = rw says refl
 command_of-says line (Statistics h) says = named-is verb.Statistics _ _ h _ line says refl refl refl (λ rest. refl) ∙ alone-says says.rest (Statistics h) says.form
 command_of-says line (Rectangle h lo hi) says = named-is verb.Rectangle _ _ h _ line says refl refl refl (λ rest. refl) ∙ ap (option_map (λ w. Rectangle h w.0 w.1)) (rectangle_word-is lo hi says.rest says.form)
 command_of-says line (Sums h) says = named-is verb.Sums _ _ h _ line says refl refl refl (λ rest. refl) ∙ alone-says says.rest (Sums h) says.form
+command_of-says line (Kept h) says = named-is verb.Kept _ _ h _ line says refl refl refl (λ rest. refl) ∙ alone-says says.rest (Kept h) says.form
 
 -- what words come to
 mapped : {X P : Type 0} (f : X → Command) (words : Option X) (command : Command) → option_map f words ≡ Some command → ((x : X) → words ≡ Some x → f x ≡ command → P) → P
@@ -293,6 +296,9 @@ said_by-says verb.Reshape rest command e = of_words verb.Reshape rest array_word
 said_by-says verb.New rest command e = of_words verb.New rest array_words (λ h w. Edit (NewImage h w.0 w.1)) command e (λ h more. refl) (λ h w more is names. names _ (array_words-says more w is))
 said_by-says verb.Remove rest command e = of_hdu verb.Remove rest (λ h. Edit (RemoveHdu h)) command e (λ h more. refl) (λ h names. names)
 said_by-says verb.Stamp rest command e = of_hdu verb.Stamp rest (λ h. Edit (Hdu h Stamp)) command e (λ h more. refl) (λ h names. names)
+said_by-says verb.Keep rest command e = of_hdu verb.Keep rest (λ h. Edit (Hdu h Keep)) command e (λ h more. refl) (λ h names. names)
+said_by-says verb.Release rest command e = of_hdu verb.Release rest (λ h. Edit (Hdu h Release)) command e (λ h more. refl) (λ h names. names)
+said_by-says verb.Kept rest command e = of_hdu verb.Kept rest (λ h. Kept h) command e (λ h more. refl) (λ h names. names)
 said_by-says verb.Get rest command e = of_words verb.Get rest name_word (λ h w. Get h w) command e (λ h more. refl) (λ h w more is names. names _ (name_word-says more w is))
 said_by-says verb.Positions rest command e = of_words verb.Positions rest name_word (λ h w. Positions h w) command e (λ h more. refl) (λ h w more is names. names _ (name_word-says more w is))
 said_by-says verb.Statistics rest command e = of_hdu verb.Statistics rest (λ h. Statistics h) command e (λ h more. refl) (λ h names. names)

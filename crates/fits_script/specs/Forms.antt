@@ -13,13 +13,13 @@ use Rattle.fits_session.specs.declared.card_edit.CardEdit.TheVariants.{Insert, P
 use Rattle.fits_session.specs.declared.edit.Edit.{Edit as SessionEdit}
 use Rattle.fits_session.specs.declared.edit.Edit.TheVariants.{Hdu, NewImage, RemoveHdu}
 use Rattle.fits_session.specs.declared.hdu_edit.HduEdit.{HduEdit}
-use Rattle.fits_session.specs.declared.hdu_edit.HduEdit.TheVariants.{Cards, Pixels, Reshape, Stamp}
+use Rattle.fits_session.specs.declared.hdu_edit.HduEdit.TheVariants.{Cards, Keep, Pixels, Release, Reshape, Stamp}
 use Rattle.fits_session.specs.declared.paint.Paint.{Paint}
 use Rattle.fits_session.specs.declared.paint.Paint.TheVariants.{Fill, Write}
 use Rattle.fits_script.specs.Cut.{HasNo}
 use Rattle.fits_script.specs.Line.{name_of_text}
 use Rattle.fits_script.specs.declared.command.Command.{Command}
-use Rattle.fits_script.specs.declared.command.Command.TheVariants.{Nothing, Edit, Offsets, Get, Positions, Report, Statistics, Rectangle, Sums}
+use Rattle.fits_script.specs.declared.command.Command.TheVariants.{Nothing, Edit, Offsets, Get, Positions, Report, Statistics, Rectangle, Sums, Kept}
 
 -- what follows a word: nothing, or one space and the rest of the line
 abbrev pub followed : Option (List ℕ) → List ℕ
@@ -223,6 +223,8 @@ HduSaid line h (Cards edit) = CardsSaid line h edit
 HduSaid line h (Pixels lo hi paint) = Names (paint_word paint) h (IsPaintForm lo hi paint) line
 HduSaid line h (Reshape kind axes) = Names (codes "reshape") h (IsArrayForm kind axes) line
 HduSaid line h Stamp = Names (codes "stamp") h IsAlone line
+HduSaid line h Keep = Names (codes "keep") h IsAlone line
+HduSaid line h Release = Names (codes "release") h IsAlone line
 
 -- the line says this edit
 abbrev pub EditSaid : List ℕ → SessionEdit → Type 0
@@ -241,3 +243,4 @@ Says line (Positions h name) = Names (codes "pos") h (IsNameForm name) line
 Says line (Statistics h) = Names (codes "stat") h IsAlone line
 Says line (Rectangle h lo hi) = Names (codes "rect") h (IsRectangleForm lo hi) line
 Says line (Sums h) = Names (codes "sum") h IsAlone line
+Says line (Kept h) = Names (codes "kept") h IsAlone line

@@ -16,12 +16,12 @@ use Rattle.fits_session.specs.declared.card_edit.CardEdit.TheVariants.{Insert, P
 use Rattle.fits_session.specs.declared.edit.Edit.{Edit as SessionEdit}
 use Rattle.fits_session.specs.declared.edit.Edit.TheVariants.{Hdu, NewImage, RemoveHdu}
 use Rattle.fits_session.specs.declared.hdu_edit.HduEdit.{HduEdit}
-use Rattle.fits_session.specs.declared.hdu_edit.HduEdit.TheVariants.{Cards, Pixels, Reshape, Stamp}
+use Rattle.fits_session.specs.declared.hdu_edit.HduEdit.TheVariants.{Cards, Keep, Pixels, Release, Reshape, Stamp}
 use Rattle.fits_session.specs.declared.paint.Paint.{Paint}
 use Rattle.fits_session.specs.declared.paint.Paint.TheVariants.{Fill, Write}
 use Rattle.fits_script.specs.declared.limits.TheConstants.{LINE_LIMIT}
 use Rattle.fits_script.specs.declared.command.Command.{Command}
-use Rattle.fits_script.specs.declared.command.Command.TheVariants.{Nothing, Edit, Offsets, Get, Positions, Report, Statistics, Rectangle, Sums}
+use Rattle.fits_script.specs.declared.command.Command.TheVariants.{Nothing, Edit, Offsets, Get, Positions, Report, Statistics, Rectangle, Sums, Kept}
 use Rattle.fits_script.specs.declared.line_reading.LineReading.{LineReading}
 use Rattle.fits_script.specs.declared.line_reading.LineReading.TheVariants.{TooLong, NoCommand, Said}
 use Rattle.fits_script.specs.declared.verb.TheConstants.{VERBS}
@@ -261,6 +261,9 @@ verb_word verb.Reshape = codes "reshape"
 verb_word verb.New = codes "new"
 verb_word verb.Remove = codes "rm"
 verb_word verb.Stamp = codes "stamp"
+verb_word verb.Keep = codes "keep"
+verb_word verb.Release = codes "release"
+verb_word verb.Kept = codes "kept"
 verb_word verb.Get = codes "get"
 verb_word verb.Positions = codes "pos"
 verb_word verb.Statistics = codes "stat"
@@ -287,6 +290,9 @@ said_of verb.Reshape h rest = option_map (λ w. Edit (Hdu h (Reshape w.0 w.1))) 
 said_of verb.New h rest = option_map (λ w. Edit (NewImage h w.0 w.1)) (array_words rest)
 said_of verb.Remove h rest = alone rest (Edit (RemoveHdu h))
 said_of verb.Stamp h rest = alone rest (Edit (Hdu h Stamp))
+said_of verb.Keep h rest = alone rest (Edit (Hdu h Keep))
+said_of verb.Release h rest = alone rest (Edit (Hdu h Release))
+said_of verb.Kept h rest = alone rest (Kept h)
 said_of verb.Get h rest = option_map (λ name. Get h name) (name_word rest)
 said_of verb.Positions h rest = option_map (λ name. Positions h name) (name_word rest)
 said_of verb.Statistics h rest = alone rest (Statistics h)
@@ -338,6 +344,8 @@ CardsHoldMemory edit = ⊥
 abbrev pub HduHoldsMemory : HduEdit → Type 0
 HduHoldsMemory (Cards edit) = CardsHoldMemory edit
 HduHoldsMemory Stamp = ⊥
+HduHoldsMemory Keep = ⊥
+HduHoldsMemory Release = ⊥
 HduHoldsMemory edit = Unit {0}
 
 -- and this edit: so are new axes

@@ -6,8 +6,8 @@ use fits_session::{Corner, Edit};
 pub enum Command {
     /// An empty line, or a comment.
     Nothing,
-    /// `ins`, `put`, `del`, `mov`, `set`, `unset`, `fill`, `write`, `new`, `rm` or `stamp`: the file
-    /// changes.
+    /// `ins`, `put`, `del`, `mov`, `set`, `unset`, `fill`, `write`, `reshape`, `new`, `rm`, `stamp`,
+    /// `keep` or `release`: the file changes, or which HDUs are kept stamped.
     Edit(Edit),
     /// `off`: where each HDU and its data begin, and where it ends.
     Offsets,
@@ -23,4 +23,6 @@ pub enum Command {
     Rectangle { hdu: usize, lo: Corner, hi: Corner },
     /// `sum H`: the sum of the data unit, and whether DATASUM and CHECKSUM are right.
     Sums { hdu: usize },
+    /// `kept H`: whether the HDU is kept stamped.
+    Kept { hdu: usize },
 }

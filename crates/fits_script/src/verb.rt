@@ -19,6 +19,9 @@ pub(crate) enum Verb {
     New,
     Remove,
     Stamp,
+    Keep,
+    Release,
+    Kept,
     Get,
     Positions,
     Statistics,
@@ -29,7 +32,7 @@ pub(crate) enum Verb {
 }
 
 /// All verbs.
-const VERBS: [Verb; 19] = [
+const VERBS: [Verb; 22] = [
     Verb::Insert,
     Verb::Put,
     Verb::Delete,
@@ -42,6 +45,9 @@ const VERBS: [Verb; 19] = [
     Verb::New,
     Verb::Remove,
     Verb::Stamp,
+    Verb::Keep,
+    Verb::Release,
+    Verb::Kept,
     Verb::Get,
     Verb::Positions,
     Verb::Statistics,
@@ -79,6 +85,9 @@ fn word_of(verb: Verb) -> &'static [u8]
         Verb::New => b"new",
         Verb::Remove => b"rm",
         Verb::Stamp => b"stamp",
+        Verb::Keep => b"keep",
+        Verb::Release => b"release",
+        Verb::Kept => b"kept",
         Verb::Get => b"get",
         Verb::Positions => b"pos",
         Verb::Statistics => b"stat",
