@@ -326,12 +326,12 @@ flushed_done old new parts now held mid holds (Err WriteFailed) result done is o
 
 -- the file after the last line
 left_file : (parts : FileParts) (now : Standing) (lines : List (List ℕ)) → now ≡ standing_after (at_first_line parts) lines
-    → file_bytes now.file ≡ file_bytes (standing_after (at_first_line parts) lines).file
-left_file parts now lines left = ap (λ (s : Standing). file_bytes s.file) left
+    → file_bytes now.marked.file ≡ file_bytes (standing_after (at_first_line parts) lines).marked.file
+left_file parts now lines left = ap (λ (s : Standing). file_bytes s.marked.file) left
 
 -- a run whose file can't be saved
 pub StopsBy-saving : (old new : RunState) (fault : Fault) (parts : FileParts) (now : Standing) → Opens old.file parts → StaysQuiet old.file new.file
-    → IsFlushed old.script new.script parts now old.printed new.printed → PrintFails (file_bytes now.file) old.saved new.saved fault → StopsBy old new fault
+    → IsFlushed old.script new.script parts now old.printed new.printed → PrintFails (file_bytes now.marked.file) old.saved new.saved fault → StopsBy old new fault
 StopsBy-saving old new fault parts now opened of_file flushed fails =
     let done = flushed.script in
     let lines : List (List ℕ) = script_lines done.lines done.last in
@@ -352,7 +352,7 @@ StopsBy-saving old new fault parts now opened of_file flushed fails =
 
 -- a run to its end
 pub Succeeds-saved : (old new : RunState) (parts : FileParts) (now : Standing) → Opens old.file parts → StaysQuiet old.file new.file
-    → IsFlushed old.script new.script parts now old.printed new.printed → Prints (file_bytes now.file) old.saved new.saved → new.saved.unflushed ≡ 0
+    → IsFlushed old.script new.script parts now old.printed new.printed → Prints (file_bytes now.marked.file) old.saved new.saved → new.saved.unflushed ≡ 0
     → Succeeds old new (status_of now)
 Succeeds-saved old new parts now opened of_file flushed saved flush =
     let done = flushed.script in

@@ -10,6 +10,7 @@ use Rattle.fits_rules.specs.declared.array_shape.Shape.{Shape}
 use Rattle.fits_session.specs.Edit.{hdu_of, is_primary_hdu}
 use Rattle.fits_session.specs.HduEdit.{pixels_made, shaped}
 use Rattle.fits_session.specs.File.{FileParts}
+use Rattle.fits_session.specs.Marked.{Marked, is_kept, kept_in}
 use Rattle.fits_session.specs.Query.{by_shape, datasum_in, in_hdu, rect_in, stats_in, verdicts_in, QueryFails}
 use Rattle.fits_session.specs.declared.refusal.Refusal.{Refusal}
 use Rattle.fits_session.specs.declared.refusal.Refusal.TheVariants.{NoHdu, NotImage, Memory}
@@ -37,18 +38,18 @@ stats_in-memory : (file : FileParts) (h : ℕ) → stats_in file h ≡ Err Memor
 stats_in-memory file h e = stats_there (is_primary_hdu h) (hdu_of file h) e
 
 -- asking for statistics fails as the query does
-pub statistics_fails : (file : FileParts) (h : ℕ) (why : Refusal) → stats_in file h ≡ Err why → CommandFails file (command.Statistics h) why
+pub statistics_fails : (it : Marked) (h : ℕ) (why : Refusal) → stats_in it.file h ≡ Err why → CommandFails it (command.Statistics h) why
 unfolding outcome_of
-statistics_fails file h why e = CommandFails-refused file (command.Statistics h) why (λ memory. stats_in-memory file h (e ∙ ap Err memory)) (rw e refl)
+statistics_fails it h why e = CommandFails-refused it (command.Statistics h) why (λ memory. stats_in-memory it.file h (e ∙ ap Err memory)) (rw e refl)
 
 -- asking for a rectangle fails as the query does
-pub rectangle_fails : (file : FileParts) (h : ℕ) (lo hi : List ℕ) (why : Refusal) → QueryFails (rect_in file h lo hi) why → CommandFails file (command.Rectangle h lo hi) why
+pub rectangle_fails : (it : Marked) (h : ℕ) (lo hi : List ℕ) (why : Refusal) → QueryFails (rect_in it.file h lo hi) why → CommandFails it (command.Rectangle h lo hi) why
 unfolding outcome_of OutcomeNeedsMemory
-rectangle_fails file h lo hi why fails = CommandFails-query file (command.Rectangle h lo hi) (rect_in file h lo hi) why fails (λ needs. needs) (λ e. rw e refl)
+rectangle_fails it h lo hi why fails = CommandFails-query it (command.Rectangle h lo hi) (rect_in it.file h lo hi) why fails (λ needs. needs) (λ e. rw e refl)
 
 -- the same, where the corners that were asked for are the command's
-pub rectangle_of_corners_fails : (file : FileParts) (h : ℕ) (los his lo hi : List ℕ) (why : Refusal) → los ≡ lo → his ≡ hi → QueryFails (rect_in file h los his) why → CommandFails file (command.Rectangle h lo hi) why
-rectangle_of_corners_fails file h los his lo hi why a b p = rw (← a, ← b) (rectangle_fails file h los his why p)
+pub rectangle_of_corners_fails : (it : Marked) (h : ℕ) (los his lo hi : List ℕ) (why : Refusal) → los ≡ lo → his ≡ hi → QueryFails (rect_in it.file h los his) why → CommandFails it (command.Rectangle h lo hi) why
+rectangle_of_corners_fails it h los his lo hi why a b p = rw (← a, ← b) (rectangle_fails it h los his why p)
 
 -- the sum of an HDU, if it is there, never fails by memory
 there_memory : {X : Type 0} (answer : HduParts → X) (hdu : Option HduParts) → in_hdu (λ hdu. Ok (answer hdu)) hdu ≡ Err Memory → ⊥
@@ -56,11 +57,16 @@ there_memory {X = X} answer None e = absurd (let z : ◌≡◌ {A = Result X Ref
 there_memory {X = X} answer (Some hdu) e = absurd (let z : ◌≡◌ {A = Result X Refusal} (Ok (answer hdu)) (Err Memory) = e in cc)
 
 -- asking for sums fails as the sum of the data unit does
-pub sums_fails : (file : FileParts) (h : ℕ) (why : Refusal) → datasum_in file h ≡ Err why → CommandFails file (command.Sums h) why
+pub sums_fails : (it : Marked) (h : ℕ) (why : Refusal) → datasum_in it.file h ≡ Err why → CommandFails it (command.Sums h) why
 unfolding outcome_of
-sums_fails file h why e = CommandFails-refused file (command.Sums h) why (λ memory. there_memory _ (hdu_of file h) (e ∙ ap Err memory)) (rw e refl)
+sums_fails it h why e = CommandFails-refused it (command.Sums h) why (λ memory. there_memory _ (hdu_of it.file h) (e ∙ ap Err memory)) (rw e refl)
 
 -- or as the verdicts do
-pub verdicts_fails : (file : FileParts) (h sum : ℕ) (why : Refusal) → datasum_in file h ≡ Ok sum → verdicts_in file h ≡ Err why → CommandFails file (command.Sums h) why
+pub verdicts_fails : (it : Marked) (h sum : ℕ) (why : Refusal) → datasum_in it.file h ≡ Ok sum → verdicts_in it.file h ≡ Err why → CommandFails it (command.Sums h) why
 unfolding outcome_of
-verdicts_fails file h sum why s e = CommandFails-refused file (command.Sums h) why (λ memory. there_memory _ (hdu_of file h) (e ∙ ap Err memory)) (rw (s, e) refl)
+verdicts_fails it h sum why s e = CommandFails-refused it (command.Sums h) why (λ memory. there_memory _ (hdu_of it.file h) (e ∙ ap Err memory)) (rw (s, e) refl)
+
+-- asking whether an HDU is kept stamped fails as the query does
+pub kept_fails : (it : Marked) (h : ℕ) (why : Refusal) → kept_in it h ≡ Err why → CommandFails it (command.Kept h) why
+unfolding outcome_of
+kept_fails it h why e = CommandFails-refused it (command.Kept h) why (λ memory. there_memory (λ hdu. is_kept it.kept h) (hdu_of it.file h) (e ∙ ap Err memory)) (rw e refl)

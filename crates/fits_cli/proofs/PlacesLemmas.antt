@@ -4,7 +4,7 @@ use Rattle.std.specs.Prelude.{codes}
 use Rattle.std.specs.Fmt.{decimal}
 use Rattle.std.proofs.lemmas.List.{append-nil, take_all, take_more}
 use Rattle.std.proofs.lemmas.List.Concat.{flat_map-append}
-use Rattle.fits_session.specs.File.{FileParts}
+use Rattle.fits_session.specs.Marked.{Marked}
 use Rattle.fits_session.specs.Query.{positions_in}
 use Rattle.fits_session.specs.declared.refusal.Refusal.TheVariants.{NoKey}
 use Rattle.fits_cli.specs.Answer.{places_line, spaced, outcome_of}
@@ -32,7 +32,7 @@ places_line-whole first i line new more l before added =
 pub ruleset places_steps = (places_line-whole)
 
 -- a name without cards
-pub no_places : (file : FileParts) (h : ℕ) (name places : List ℕ) → positions_in file h name ≡ Ok places → length places ≡ 0 → outcome_of file (Positions h name) ≡ Err NoKey
+pub no_places : (it : Marked) (h : ℕ) (name places : List ℕ) → positions_in it.file h name ≡ Ok places → length places ≡ 0 → outcome_of it (Positions h name) ≡ Err NoKey
 unfolding outcome_of
-no_places file h name [] found none = rw found refl
-no_places file h name (place ∷ places) found none = absurd (omega arith)
+no_places it h name [] found none = rw found refl
+no_places it h name (place ∷ places) found none = absurd (omega arith)

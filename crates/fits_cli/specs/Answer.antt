@@ -2,12 +2,12 @@
 use Rattle.std.specs.Prelude.{◌≡◌, ◌<◌, ◌⊎◌, ℕ, ◌+◌, Bool, false, true, List, [], ◌∷◌, ◌++◌, codes, length, Option, Some, None, Result, Ok, Err, IsOk, IsOkAnd}
 use Rattle.std.specs.Fmt.{decimal}
 use Rattle.std.specs.List.{flat_map}
-use Rattle.fits_session.specs.Edit.{file_after}
 use Rattle.fits_hdu.specs.declared.verdicts.Verdicts.{Verdicts}
 use Rattle.fits_session.specs.File.{FileParts, offsets_from}
+use Rattle.fits_session.specs.Marked.{Marked, is_stamped_after, kept_in, marked_after, marked_refusal, unmarked}
 use Rattle.fits_session.specs.Query.{datasum_in, positions_in, rect_in, stats_in, value_in, verdicts_in}
 use Rattle.fits_session.specs.Report.{report_of}
-use Rattle.fits_session.specs.Refusal.{refusal_of, refusal_text, EditNeedsMemory}
+use Rattle.fits_session.specs.Refusal.{refusal_text, EditNeedsMemory}
 use Rattle.fits_session.specs.declared.offsets.HduOffsets.{HduOffsets}
 use Rattle.fits_session.specs.declared.refusal.Refusal.{Refusal}
 use Rattle.fits_session.specs.declared.refusal.Refusal.TheVariants.{NoKey, Memory}
@@ -18,7 +18,7 @@ use Rattle.fits_cli.specs.ValueLine.{value_line}
 use Rattle.fits_script.specs.declared.line_reading.LineReading.{LineReading}
 use Rattle.fits_script.specs.declared.line_reading.LineReading.TheVariants.{TooLong, NoCommand, Said}
 use Rattle.fits_script.specs.declared.command.Command.{Command}
-use Rattle.fits_script.specs.declared.command.Command.TheVariants.{Nothing, Edit, Offsets, Get, Positions, Report, Statistics, Rectangle, Sums}
+use Rattle.fits_script.specs.declared.command.Command.TheVariants.{Nothing, Edit, Offsets, Get, Positions, Report, Statistics, Rectangle, Sums, Kept}
 use Rattle.fits_cli.specs.declared.level.Level.TheVariants.{All}
 
 -- the offsets of an HDU: where its header begins, its data begin and it ends
@@ -49,10 +49,10 @@ some_places (Ok []) = Err NoKey
 some_places (Ok (place ∷ places)) = Ok (place ∷ places)
 some_places (Err why) = Err why
 
--- what a command that was done prints, and the file that it leaves
+-- what a command that was done prints, and the file that it leaves, with its marks of those HDUs that are kept stamped
 pub record Done : Type 0 where
   pub text : List ℕ
-  pub file : FileParts
+  pub left : Marked
 
 -- done, unless it is refused
 abbrev pub unless : Option Refusal → Done → Result Done Refusal
@@ -60,61 +60,68 @@ unless (Some why) done = Err why
 unless None done = Ok done
 
 -- an answer as it is printed, or its refusal; the file stays
-abbrev pub asked : {X : Type 0} → FileParts → (X → List ℕ) → Result X Refusal → Result Done Refusal
-asked file text (Ok answer) = Ok (record { text = text answer; file = file })
-asked file text (Err why) = Err why
+abbrev pub asked : {X : Type 0} → Marked → (X → List ℕ) → Result X Refusal → Result Done Refusal
+asked it text (Ok answer) = Ok (record { text = text answer; left = it })
+asked it text (Err why) = Err why
 
 -- the sum of a data unit and the verdicts, as they are printed, or the first refusal of the two
-abbrev pub sums_asked : FileParts → Result ℕ Refusal → Result Verdicts Refusal → Result Done Refusal
-sums_asked file (Err why) verdicts = Err why
-sums_asked file (Ok sum) verdicts = asked file (sums_line sum) verdicts
+abbrev pub sums_asked : Marked → Result ℕ Refusal → Result Verdicts Refusal → Result Done Refusal
+sums_asked it (Err why) verdicts = Err why
+sums_asked it (Ok sum) verdicts = asked it (sums_line sum) verdicts
 
--- what a command comes to: what it prints and the file that it leaves, or its refusal
-unfoldable pub outcome_of : FileParts → Command → Result Done Refusal
-outcome_of file Nothing = Ok (record { text = []; file = file })
-outcome_of file (Edit edit) = unless (refusal_of file edit) (record { text = []; file = file_after file edit })
-outcome_of file Offsets = Ok (record { text = offset_lines 1 (offsets_from 0 file.hdus); file = file })
-outcome_of file (Get hdu name) = asked file (λ said. value_line said.0 said.1) (value_in file hdu name)
-outcome_of file (Positions hdu name) = asked file places_line (some_places (positions_in file hdu name))
-outcome_of file Report = Ok (record { text = report_text All (report_of file); file = file })
-outcome_of file (Statistics hdu) = asked file statistics_line (stats_in file hdu)
-outcome_of file (Rectangle hdu lo hi) = asked file values_line (rect_in file hdu lo hi)
-outcome_of file (Sums hdu) = sums_asked file (datasum_in file hdu) (verdicts_in file hdu)
+-- whether an HDU is kept stamped
+abbrev pub kept_line : Bool → List ℕ
+kept_line true = codes "yes\n"
+kept_line false = codes "no\n"
+
+-- what a command comes to: what it prints and what it leaves, or its refusal
+unfoldable pub outcome_of : Marked → Command → Result Done Refusal
+outcome_of it Nothing = Ok (record { text = []; left = it })
+outcome_of it (Edit edit) = unless (marked_refusal it edit) (record { text = []; left = marked_after it edit })
+outcome_of it Offsets = Ok (record { text = offset_lines 1 (offsets_from 0 it.file.hdus); left = it })
+outcome_of it (Get hdu name) = asked it (λ said. value_line said.0 said.1) (value_in it.file hdu name)
+outcome_of it (Positions hdu name) = asked it places_line (some_places (positions_in it.file hdu name))
+outcome_of it Report = Ok (record { text = report_text All (report_of it.file); left = it })
+outcome_of it (Statistics hdu) = asked it statistics_line (stats_in it.file hdu)
+outcome_of it (Rectangle hdu lo hi) = asked it values_line (rect_in it.file hdu lo hi)
+outcome_of it (Sums hdu) = sums_asked it (datasum_in it.file hdu) (verdicts_in it.file hdu)
+outcome_of it (Kept hdu) = asked it kept_line (kept_in it hdu)
 
 -- memory may run out on the way to this outcome
-unfoldable pub OutcomeNeedsMemory : FileParts → Command → Type 0
-OutcomeNeedsMemory file Nothing = ⊥
-OutcomeNeedsMemory file (Edit edit) = EditNeedsMemory edit (refusal_of file edit)
-OutcomeNeedsMemory file Offsets = Unit {0}
-OutcomeNeedsMemory file (Get hdu name) = IsOk (value_in file hdu name)
-OutcomeNeedsMemory file (Positions hdu name) = IsOkAnd (positions_in file hdu name) (λ places. 0 < length places)
-OutcomeNeedsMemory file Report = Unit {0}
-OutcomeNeedsMemory file (Statistics hdu) = IsOk (stats_in file hdu)
-OutcomeNeedsMemory file (Rectangle hdu lo hi) = IsOk (rect_in file hdu lo hi)
-OutcomeNeedsMemory file (Sums hdu) = IsOk (datasum_in file hdu)
+unfoldable pub OutcomeNeedsMemory : Marked → Command → Type 0
+OutcomeNeedsMemory it Nothing = ⊥
+OutcomeNeedsMemory it (Edit edit) = EditNeedsMemory (is_stamped_after it.kept edit) edit (marked_refusal it edit)
+OutcomeNeedsMemory it Offsets = Unit {0}
+OutcomeNeedsMemory it (Get hdu name) = IsOk (value_in it.file hdu name)
+OutcomeNeedsMemory it (Positions hdu name) = IsOkAnd (positions_in it.file hdu name) (λ places. 0 < length places)
+OutcomeNeedsMemory it Report = Unit {0}
+OutcomeNeedsMemory it (Statistics hdu) = IsOk (stats_in it.file hdu)
+OutcomeNeedsMemory it (Rectangle hdu lo hi) = IsOk (rect_in it.file hdu lo hi)
+OutcomeNeedsMemory it (Sums hdu) = IsOk (datasum_in it.file hdu)
+OutcomeNeedsMemory it (Kept hdu) = IsOk (kept_in it hdu)
 
 -- a command may end so: by its refusal, or by memory refused on the way to its outcome
-abbrev pub CommandFails : FileParts → Command → Refusal → Type 0
-CommandFails file command Memory = OutcomeNeedsMemory file command
-CommandFails file command why = outcome_of file command ≡ Err why
+abbrev pub CommandFails : Marked → Command → Refusal → Type 0
+CommandFails it command Memory = OutcomeNeedsMemory it command
+CommandFails it command why = outcome_of it command ≡ Err why
 
 -- a line that says why line `number` wasn't done
 abbrev pub complaint : ℕ → List ℕ → List ℕ
 complaint number why = codes "line " ++ (decimal number ++ (codes ": " ++ (why ++ codes "\n")))
 
--- the file before a line, the line's number from 1, and whether a line before it was refused or bad
+-- the file before a line, with its marks, the line's number from 1, and whether a line before it was refused or bad
 pub record Standing : Type 0 where
-  pub file : FileParts
+  pub marked : Marked
   pub line : ℕ
   pub any_refused : Bool
 
--- before the first line
+-- before the first line: no HDU is kept
 abbrev pub at_first_line : FileParts → Standing
-at_first_line file = record { file = file; line = 1; any_refused = false }
+at_first_line file = record { marked = unmarked file; line = 1; any_refused = false }
 
--- the next line, after one that left this file
-abbrev pub after_done : Standing → FileParts → Standing
-after_done standing file = record standing { file = file; line = standing.line + 1 }
+-- the next line, after one that left this
+abbrev pub after_done : Standing → Marked → Standing
+after_done standing left = record standing { marked = left; line = standing.line + 1 }
 
 -- the next line, after one that was refused or bad
 abbrev pub after_refused : Standing → Standing
@@ -127,23 +134,23 @@ outcome_text number (Err why) = complaint number (refusal_text why)
 
 -- what an outcome leaves
 abbrev pub after_outcome : Standing → Result Done Refusal → Standing
-after_outcome standing (Ok done) = after_done standing done.file
+after_outcome standing (Ok done) = after_done standing done.left
 after_outcome standing (Err why) = after_refused standing
 
 -- what a line prints
 unfoldable pub line_answer : Standing → LineReading → List ℕ
 line_answer standing TooLong = complaint standing.line (codes "too long")
 line_answer standing NoCommand = complaint standing.line (codes "not a command")
-line_answer standing (Said command) = outcome_text standing.line (outcome_of standing.file command)
+line_answer standing (Said command) = outcome_text standing.line (outcome_of standing.marked command)
 
 -- what a line leaves
 unfoldable pub line_left : Standing → LineReading → Standing
 line_left standing TooLong = after_refused standing
 line_left standing NoCommand = after_refused standing
-line_left standing (Said command) = after_outcome standing (outcome_of standing.file command)
+line_left standing (Said command) = after_outcome standing (outcome_of standing.marked command)
 
 -- memory may run out at a line: in reading it, or on the way to its outcome
-unfoldable pub LineNeedsMemory : FileParts → LineReading → Type 0
-LineNeedsMemory file TooLong = ⊥
-LineNeedsMemory file NoCommand = ⊥
-LineNeedsMemory file (Said command) = ReadingNeedsMemory (Said command) ⊎ OutcomeNeedsMemory file command
+unfoldable pub LineNeedsMemory : Marked → LineReading → Type 0
+LineNeedsMemory it TooLong = ⊥
+LineNeedsMemory it NoCommand = ⊥
+LineNeedsMemory it (Said command) = ReadingNeedsMemory (Said command) ⊎ OutcomeNeedsMemory it command

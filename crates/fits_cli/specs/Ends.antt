@@ -88,7 +88,7 @@ pub record StopsAtLine (old new : RunState) : Type 0 where
   pub others : List (List ℕ)
   pub opened : Opens old.file parts
   pub reached : HasLines old.script new.script (lines ++ line ∷ others)
-  pub needs : LineNeedsMemory (standing_after (at_first_line parts) lines).file (reading_of line)
+  pub needs : LineNeedsMemory (standing_after (at_first_line parts) lines).marked (reading_of line)
   pub printed : Prints (answers (at_first_line parts) lines) old.printed new.printed
   pub flushed : new.printed.unflushed ≡ 0
 

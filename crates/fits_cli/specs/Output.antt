@@ -39,7 +39,7 @@ output_unopened why = record { text = []; saved = []; status = 2; fault = Some (
 abbrev pub output_of_lines : FileParts → List (List ℕ) → Output
 output_of_lines file lines = record {
   text = answers (at_first_line file) lines;
-  saved = file_bytes (standing_after (at_first_line file) lines).file;
+  saved = file_bytes (standing_after (at_first_line file) lines).marked.file;
   status = status_of (standing_after (at_first_line file) lines);
   fault = None;
 }

@@ -22,7 +22,7 @@ pub record AnswersLine (line : List ℕ) (before now : Standing) (held holds : S
 abbrev pub LineStops : List ℕ → Standing → SinkState → SinkState → Fault → Type 0
 LineStops line before held holds (Refused why) = ⊥
 LineStops line before held holds ScriptTooLong = ⊥
-LineStops line before held holds Memory = LineNeedsMemory before.file (reading_of line) × (holds ≡ held)
+LineStops line before held holds Memory = LineNeedsMemory before.marked (reading_of line) × (holds ≡ held)
 LineStops line before held holds ReadFailed = ⊥
 LineStops line before held holds WriteFailed = PrintsFront (line_answer before (reading_of line)) held holds
 
@@ -37,7 +37,7 @@ pub record NeedsMemoryAt (lines : List (List ℕ)) (before : Standing) (held hol
   pub line : List ℕ
   pub others : List (List ℕ)
   pub split : lines ≡ done ++ line ∷ others
-  pub needs : LineNeedsMemory (standing_after before done).file (reading_of line)
+  pub needs : LineNeedsMemory (standing_after before done).marked (reading_of line)
   pub printed : Prints (answers before done) held holds
 
 -- these lines aren't all answered

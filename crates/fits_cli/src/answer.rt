@@ -1,9 +1,10 @@
 //! What a command makes of a file, and what it prints.
 ghost use Rattle.std.specs.Prelude.{◌≡◌, ◌++◌, IfOk, IfErr, OnOk, OnErr, Ok};
-ghost use Rattle.fits_session.specs.Session.{file_of};
+ghost use Rattle.fits_session.specs.Session.{marked_of};
 ghost use Rattle.fits_cli.specs.Answer.{offset_line, offset_lines, offsets_text};
 ghost use Rattle.fits_cli.specs.Answer.{outcome_of, CommandFails};
 
+use crate::kept_line::kept;
 use crate::pixel_answers::{rectangle, statistics, sums};
 use crate::places_line::positions;
 use crate::pushing::push_number;
@@ -13,17 +14,17 @@ use fits_script::Command;
 use fits_session::{HduOffsets, Refusal, Session};
 use std::alloc::{AllocError, Global};
 
-/// Does a command, and gives what it prints; or its refusal, which leaves the file.
+/// Does a command, and gives what it prints; or its refusal, which leaves the file and its marks.
 #[tactic(auto, unfolding(crate::specs::Answer::outcome_of, crate::specs::Answer::OutcomeNeedsMemory))]
 pub(crate) fn answer(
     alloc: Global,
     session: &mut Session,
     command: Command,
 ) -> Result<Vec<u8>, Refusal>
-    ensures ok { IfOk result (λ text. outcome_of (file_of session.old) command
-        ≡ Ok (record { text = text.items; file = file_of session.new })) }
-    ensures err { IfErr result (CommandFails (file_of session.old) command) }
-    ensures kept { OnErr result (file_of session.new ≡ file_of session.old) }
+    ensures ok { IfOk result (λ text. outcome_of (marked_of session.old) command
+        ≡ Ok (record { text = text.items; left = marked_of session.new })) }
+    ensures err { IfErr result (CommandFails (marked_of session.old) command) }
+    ensures kept { OnErr result (marked_of session.new ≡ marked_of session.old) }
 {
     match command {
         Command::Nothing => Ok(Vec::new(alloc)),
@@ -47,6 +48,7 @@ pub(crate) fn answer(
         Command::Statistics { hdu } => statistics(alloc, session, hdu),
         Command::Rectangle { hdu, lo, hi } => rectangle(alloc, session, hdu, lo, hi),
         Command::Sums { hdu } => sums(alloc, session, hdu),
+        Command::Kept { hdu } => kept(alloc, session, hdu),
     }
 }
 

@@ -6,6 +6,7 @@ mod complaint;
 mod editing;
 mod end;
 mod fault;
+mod kept_line;
 mod laws;
 mod level;
 mod limits;

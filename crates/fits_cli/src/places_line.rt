@@ -1,6 +1,6 @@
 //! The places of a keyword: what `pos` prints.
 ghost use Rattle.std.specs.Prelude.{◌≡◌, ◌∷◌, IfOk, IfErr, OnErr, Ok};
-ghost use Rattle.fits_session.specs.Session.{file_of};
+ghost use Rattle.fits_session.specs.Session.{marked_of};
 ghost use Rattle.fits_cli.specs.Answer.{outcome_of, places_line, CommandFails};
 ghost use Rattle.fits_script.specs.declared.command.Command.TheVariants.{Positions};
 
@@ -17,10 +17,10 @@ pub(crate) fn positions(
     hdu: usize,
     name: &Name,
 ) -> Result<Vec<u8>, Refusal>
-    ensures ok { IfOk result (λ text. outcome_of (file_of session.old) (Positions hdu name.now)
-        ≡ Ok (record { text = text.items; file = file_of session.new })) }
-    ensures err { IfErr result (CommandFails (file_of session.old) (Positions hdu name.now)) }
-    ensures kept { OnErr result (file_of session.new ≡ file_of session.old) }
+    ensures ok { IfOk result (λ text. outcome_of (marked_of session.old) (Positions hdu name.now)
+        ≡ Ok (record { text = text.items; left = marked_of session.new })) }
+    ensures err { IfErr result (CommandFails (marked_of session.old) (Positions hdu name.now)) }
+    ensures kept { OnErr result (marked_of session.new ≡ marked_of session.old) }
 {
     let places = session.positions(hdu, name)?;
     let Some((first, more)) = places.split_first() else {

@@ -20,12 +20,12 @@ pub(crate) struct Runner {
 
 impl Model for Runner {
     ghost use Rattle.fits_cli.specs.Answer.{Standing};
-    ghost use Rattle.fits_session.specs.Session.{file_of};
+    ghost use Rattle.fits_session.specs.Session.{marked_of};
 
     ghost Value = { Standing };
 
     ghost view = { λ runner. record {
-      file = file_of runner.session;
+      marked = marked_of runner.session;
       line = runner.line;
       any_refused = runner.any_refused;
     } };
@@ -40,10 +40,12 @@ impl Runner {
     ghost use Rattle.fits_cli.specs.Reply.{counts_as_refused, reply_text};
     ghost use Rattle.fits_cli.specs.Faults.{PrintFails};
     ghost use Rattle.fits_session.specs.File.{file_bytes};
-    ghost use Rattle.fits_session.specs.Session.{file_of};
+    ghost use Rattle.fits_session.specs.Marked.{unmarked};
+    ghost use Rattle.fits_session.specs.Session.{file_of, marked_of};
 
-    /// Before the first line.
+    /// Before the first line. No HDU is kept stamped.
     pub(crate) fn new(session: Session) -> Runner
+        requires { marked_of session ≡ unmarked (file_of session) }
         ensures { result ≡ at_first_line (file_of session) }
     {
         Runner {
@@ -74,7 +76,7 @@ impl Runner {
         ensures text { IfOk result (λ reply.
             reply_text self.old.line reply ≡ line_answer self.old (reading_of line.now)) }
         ensures left { OnOk result (self.new ≡ line_left self.old (reading_of line.now)) }
-        ensures err { OnErr result (LineNeedsMemory self.old.file (reading_of line.now)) }
+        ensures err { OnErr result (LineNeedsMemory self.old.marked (reading_of line.now)) }
         ensures line { OnOk result (self.new.line ≡ self.old.line + 1) }
     {
         match read_line(alloc, line) {
@@ -93,7 +95,7 @@ impl Runner {
         requires { self.old.line + 1 < 2 ^ 64 }
         ensures same { result ≡ reply }
         ensures left { self.new ≡ record {
-          file = self.old.file;
+          marked = self.old.marked;
           line = self.old.line + 1;
           any_refused = counts_as_refused reply || self.old.any_refused;
         } }
@@ -106,9 +108,9 @@ impl Runner {
     /// Saves the file, and flushes it.
     #[tactic(auto, using(fits_stream::proofs::StreamLemmas::flush_steps))]
     pub(crate) fn save<P: Sink>(&mut self, saved: &mut P) -> Result<(), Fault>
-        ensures ok { OnOk result (Prints (file_bytes self.old.file)
+        ensures ok { OnOk result (Prints (file_bytes self.old.marked.file)
             (P.state saved.old) (P.state saved.new)) }
-        ensures err { IfErr result (PrintFails (file_bytes self.old.file)
+        ensures err { IfErr result (PrintFails (file_bytes self.old.marked.file)
             (P.state saved.old) (P.state saved.new)) }
         ensures flushed { OnOk result ((P.state saved.new).unflushed ≡ 0) }
         ensures left { self.new ≡ self.old }

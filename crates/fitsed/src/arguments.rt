@@ -52,11 +52,14 @@ const LINES: &str = "Lines of the script, words separated by one space:
   new H KIND AXES      put a new image in as HDU H, such as new 2 i16 100,200
   rm H                 take HDU H out
   stamp H              write DATASUM and CHECKSUM so that both are right
+  keep H               stamp HDU H, and again after each edit of it
+  release H            keep HDU H stamped no longer
   get H NAME           print the value of a keyword
   pos H NAME           print the places of the cards of a keyword
   stat H               print how many pixels are defined, their least, greatest and sum
   rect H RECT          print the values of a rectangle
   sum H                print the sum of the data unit, and whether both sums are right
+  kept H               print whether HDU H is kept stamped: yes or no
   off                  print where each HDU begins, its data begin, and it ends
   rep                  print what is wrong, and count it
   # text               nothing; so does an empty line

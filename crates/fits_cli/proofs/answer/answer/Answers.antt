@@ -1,4 +1,4 @@
-use Rattle.fits_session.specs.Session.{file_of}
+use Rattle.fits_session.specs.Session.{marked_of}
 use Rattle.fits_cli.proofs.ExitLemmas.{at_exit}
 use Rattle.fits_cli.proofs.RefusalLemmas.{CommandFails-edit}
 use Rattle.fits_cli.proofs.answer.answer.Goals as goal
@@ -6,4 +6,4 @@ use Rattle.fits_cli.proofs.answer.answer.Goals as goal
 pub returns-in_err-edit-in-Edit-clause-err : goal.returns-in_err-edit-in-Edit-clause-err
 returns-in_err-edit-in-Edit-clause-err c =
     let refused = c.in_err-edit-in-Edit.ensures.edits.refused in
-    rw c.in-Edit.is (at_exit _ _ _ c.from_residual.ensures.1 (CommandFails-edit (file_of c.args.session.now) c.in-Edit.edit c.in_err-edit-in-Edit.field-0.0 refused))
+    rw c.in-Edit.is (at_exit _ _ _ c.from_residual.ensures.1 (CommandFails-edit (marked_of c.args.session.now) c.in-Edit.edit c.in_err-edit-in-Edit.field-0.0 refused))
