@@ -113,6 +113,22 @@ SCRIPTS += [
     ),
 ]
 
+# An HDU that is kept stamped: its cards, pixels, shape and sums are edited, and it is released.
+SCRIPTS += [
+    (
+        header(THREE_PIXELS) + zeros(1),
+        "keep 1\nset 1 OBJECT 'a'\nwrite 1 1:3 1 -1 0\nfill 1 2:3 0\nreshape 1 u8 4\nunset 1 CHECKSUM\nkept 1\nsum 1\n"
+        "unset 1 OBJECT\nrelease 1\nunset 1 CHECKSUM\nunset 1 DATASUM\nsum 1",
+        "yes\ndatasum 16777216 verdicts 1 1\ndatasum 16777216 verdicts 0 0\n",
+        0,
+        header(
+            "SIMPLE  =                    T|BITPIX  =                    8|NAXIS   =                    1|"
+            "NAXIS1  =                    4|END"
+        )
+        + pixels(1, [1, 0, 0, 0], 0),
+    ),
+]
+
 # What is told of files: the words, the file, what is printed, and the status. The words of a block of data sum to
 # 1867394316.
 TOLD = [

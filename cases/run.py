@@ -12,6 +12,7 @@ import card_edits
 import codes
 import faults
 import hdu_edits
+import keeping
 import lines
 import listings
 import long_scripts
@@ -33,6 +34,7 @@ TABLES = [
     planes,
     hdu_edits,
     reshapes,
+    keeping,
     listings,
     sums,
     reports,

@@ -107,6 +107,7 @@ class Round:
             lambda: f"fill {hdu} {','.join(pixels)} {rng.randrange(-300, 70_000)}",
             lambda: f"write {hdu} {pixels[0]} {' '.join(str(rng.randrange(-300, 300)) for _ in range(rng.randrange(1, 4)))}",
             lambda: f"stamp {hdu}",
+            lambda: f"{rng.choice(['keep', 'keep', 'release'])} {hdu}",
             lambda: f"new {rng.randrange(1, self.hdus + 3)} {rng.choice(KINDS)} {rng.choice(['-', '3', '2,2', '1441', '0', '7,x'])}",
             lambda: f"reshape {hdu} {rng.choice(KINDS)} {rng.choice(['-', '3', '2,2', '1441', '0', '2,3,1', '7,x'])}",
             lambda: f"rm {hdu}",

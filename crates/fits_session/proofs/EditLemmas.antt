@@ -1,5 +1,5 @@
 -- An edit of HDU h of a session owes what it owes of that HDU.
-use Rattle.std.proofs.Common.{◌≡◌, inl, ℕ, ◌+◌, ◌<◌, ◌≤◌, Bool, List, length, get_or, set, refl, ap, sym, ◌∙◌, subst, arith, All, Option, None, Some, suc, true, false, add-one}
+use Rattle.std.proofs.Common.{◌≡◌, inl, ℕ, ◌+◌, ◌<◌, ◌≤◌, Bool, List, length, get_or, set, refl, ap, sym, ◌∙◌, subst, arith, All, Option, Some, suc, true, false, add-one}
 use Rattle.std.specs.Prelude.{Result, Ok, Err, IfOk}
 use Rattle.std.specs.List.{slice_get}
 use Rattle.std.specs.Option.{option_map_or}
@@ -18,7 +18,7 @@ use Rattle.fits_hdu.specs.State.{HduState, name_of, parts_of, IsDescribed}
 use Rattle.fits_hdu.specs.Sums.{verdicts_of}
 use Rattle.fits_hdu.specs.Reshape.{reshaped_shape}
 use Rattle.fits_hdu.specs.Work.{PixelWork, plane_work}
-use Rattle.fits_session.specs.Edit.{changed_at, changed_of, file_after, hdu_edited, hdu_of, is_primary_hdu, made_or, with_hdu}
+use Rattle.fits_session.specs.Edit.{changed_at, changed_of, file_after, hdu_edited, hdu_of, is_primary_hdu, with_hdu}
 use Rattle.fits_session.specs.File.{FileParts, file_bytes, joined_hdus, IsFile, IsFileOf}
 use Rattle.fits_session.specs.HduEdit.{hdu_made}
 use Rattle.fits_session.specs.Keeping.{kept_after, padded_if, stamp_follows, stamped_if, then_stamped, IsRight}

@@ -1,11 +1,11 @@
 -- HDUs that are kept stamped: what a stamp after an edit leaves, and the room that it wants.
-use Rattle.std.proofs.Common.{◌≡◌, ℕ, ◌+◌, ◌≤◌, Bool, true, false, List, [], ◌∷◌, ◌++◌, length, get_or, replicate, refl, ap, sym, ◌∙◌, arith, All}
+use Rattle.std.proofs.Common.{◌≡◌, ℕ, ◌+◌, ◌≤◌, Bool, true, false, List, [], ◌∷◌, length, get_or, replicate, refl, ap, sym, ◌∙◌, arith}
 use Rattle.std.specs.Prelude.{Result, Ok, Err}
 use Rattle.std.proofs.lemmas.List.{length-append, length-replicate}
 use Rattle.std.proofs.lemmas.List.Elements.{All-append, All-cons, All-nil}
 use Rattle.std.proofs.lemmas.Slice.Eq.{bytes_eq-Decides}
 use Rattle.fits_card.specs.Card.{IsEnd, is_end, keyword_name}
-use Rattle.fits_card.specs.Header.{Header, IsHeader, IsInnerCard, fill_length, header_bytes, header_length}
+use Rattle.fits_card.specs.Header.{IsHeader, IsInnerCard, fill_length, header_bytes, header_length}
 use Rattle.fits_card.specs.Name.{end_name}
 use Rattle.fits_card.proofs.HeaderLemmas.{fill_length-by_cards, length-header_bytes, whole-with_cards}
 use Rattle.fits_hdu.specs.ExtensionName.{extension_name}

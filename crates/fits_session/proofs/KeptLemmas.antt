@@ -161,10 +161,6 @@ count_moved hdus others same = sym (length-map hdus unentered) ∙ ap length sam
 pub file_of-unentered : (hdus others : List HduState) (tail : List ℕ) → without_entries hdus ≡ without_entries others → file_of (state_of hdus tail) ≡ file_of (state_of others tail)
 file_of-unentered hdus others tail same = file_with (hdus_of hdus) (hdus_of others) tail (hdus_moved hdus others same)
 
--- so are the file and its marks
-pub marked_of-unentered : (hdus others : List HduState) (tail : List ℕ) → without_entries hdus ≡ without_entries others → marked_of (state_of hdus tail) ≡ marked_of (state_of others tail)
-marked_of-unentered hdus others tail same = marked_with (hdus_of hdus) (hdus_of others) tail (kept_of hdus) (kept_of others) (hdus_moved hdus others same) (kept_moved hdus others same)
-
 -- HDUs that were opened aren't kept stamped
 opened_marks : (more : ℕ) (hdus : List HduState) → All (IsOpened more) hdus → kept_of hdus ≡ replicate (length (hdus_of hdus)) false
 opened_marks more [] all = refl

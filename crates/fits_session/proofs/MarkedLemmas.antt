@@ -1,5 +1,5 @@
 -- Files some of whose HDUs are kept stamped.
-use Rattle.std.proofs.Common.{◌≡◌, ℕ, zero, suc, Bool, true, false, List, [], ◌∷◌, length, get_or, replicate, refl, ap, sym, ◌∙◌}
+use Rattle.std.proofs.Common.{◌≡◌, ℕ, zero, suc, false, List, [], ◌∷◌, length, get_or, replicate, refl, ap, ◌∙◌}
 use Rattle.fits_hdu.specs.Hdu.{HduParts}
 use Rattle.fits_session.specs.Edit.{changed_at, changed_of, file_after, hdu_of, with_hdu}
 use Rattle.fits_session.specs.File.{FileParts}

@@ -1,5 +1,5 @@
 -- A file some of whose HDUs are kept stamped: what edits come to then, and when they are refused (own).
-use Rattle.std.specs.Prelude.{◌≡◌, ℕ, zero, suc, ◌-◌, Bool, true, false, List, length, get_or, replicate, Option, Some, Result, Ok, Err}
+use Rattle.std.specs.Prelude.{◌≡◌, ℕ, zero, suc, ◌-◌, Bool, true, false, List, length, get_or, replicate, Option, Some, Result, Ok}
 use Rattle.std.specs.List.{insert, remove}
 use Rattle.fits_hdu.specs.Hdu.{HduParts}
 use Rattle.fits_hdu.specs.Sums.{verdicts_of}

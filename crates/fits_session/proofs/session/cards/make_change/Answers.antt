@@ -1,4 +1,4 @@
-use Rattle.std.proofs.Common.{◌≡◌, ◌+◌, ◌-◌, ◌<◌, ◌≤◌, Bool, inl, inr, refl, ap, sym, subst, ◌∙◌, arith, length, None, true}
+use Rattle.std.proofs.Common.{◌≡◌, ◌+◌, ◌-◌, ◌<◌, Bool, inl, inr, refl, ap, sym, subst, ◌∙◌, arith, length, true}
 use Rattle.std.proofs.lemmas.Bool.{cases_lt, false≢true}
 use Rattle.std.proofs.lemmas.Result.{err_from_is_err_and}
 use Rattle.std.specs.Prelude.{is_some}
@@ -6,7 +6,7 @@ use Rattle.fits_card.specs.Change.{cards_after}
 use Rattle.fits_header.specs.State.{HeaderState}
 use Rattle.fits_card.specs.Header.{header_length}
 use Rattle.fits_rules.specs.Class.{is_primary}
-use Rattle.fits_hdu.specs.Hdu.{hdu_after, hdu_bytes, HduParts}
+use Rattle.fits_hdu.specs.Hdu.{hdu_after, HduParts}
 use Rattle.fits_hdu.specs.State.{parts_of, HduState}
 use Rattle.fits_hdu.specs.Work.{plane_work}
 use Rattle.fits_hdu.proofs.StateLemmas.{parts_read}
