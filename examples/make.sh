@@ -78,6 +78,7 @@ primary "OBJECT  = 'M31     '" "TELESCOP= 'W.H.T.  '           / where" "DATE-OB
     pixels 12 "$six"
 } | made an_added_image ''
 cp "$folder/an_added_image.fits" "$folder/a_reshaped_image.fits"
+cp "$folder/an_added_image.fits" "$folder/sums_kept_right.fits"
 {
     primary "OBJECT  = 'M31     '"
     cards "XTENSION= 'IMAGE   '" "$(number BITPIX 16)" "$(number NAXIS 2)" "$(number NAXIS1 3)" "$(number NAXIS2 2)" \

@@ -5,12 +5,14 @@
 mod digest;
 mod files;
 mod frames;
+mod kept;
 mod noise;
 mod outcome;
 mod reshapes;
 mod tables;
 
 use frames::correct_frames;
+use kept::keep_mosaics;
 use noise::Noise;
 use outcome::Outcome;
 use reshapes::widen_images;
@@ -23,6 +25,7 @@ use tables::mend_tables;
 fn job(alloc: Global, name: &str, rounds: usize, noise: &mut Noise) -> io::Result<Option<Outcome>> {
     let outcome = match name {
         "frames" => correct_frames(alloc, rounds, noise)?,
+        "kept" => keep_mosaics(alloc, rounds, noise)?,
         "reshapes" => widen_images(alloc, rounds, noise)?,
         "tables" => mend_tables(alloc, rounds, noise)?,
         _ => return Ok(None),

@@ -16,6 +16,8 @@ mod files;
 #[cfg(test)]
 mod indexes;
 #[cfg(test)]
+mod keeping;
+#[cfg(test)]
 mod memory;
 #[cfg(test)]
 mod numbers;

@@ -164,8 +164,8 @@ fn check_line<R: Abort + AllocGlobal>(
     answers_as(rt, &mut session, bytes)
 }
 
-// Whether a file gives the answers of these bytes. Err: the memory for a comparison was refused.
-fn answers_as<R: Abort + AllocGlobal>(
+/// Whether a file gives the answers of these bytes. Err: the memory for a comparison was refused.
+pub fn answers_as<R: Abort + AllocGlobal>(
     rt: &R,
     session: &mut Session,
     bytes: &[u8],
@@ -174,8 +174,8 @@ fn answers_as<R: Abort + AllocGlobal>(
     same_answers(rt, session, &mut fresh)
 }
 
-// A file that opens, if there is memory for it.
-fn opened<R: Abort + AllocGlobal>(rt: &R, bytes: &[u8]) -> Result<Session, AllocError> {
+/// A file that opens, if there is memory for it.
+pub fn opened<R: Abort + AllocGlobal>(rt: &R, bytes: &[u8]) -> Result<Session, AllocError> {
     match Session::open(rt.alloc(), bytes) {
         Ok(session) => Ok(session),
         Err(why) => {
@@ -185,8 +185,8 @@ fn opened<R: Abort + AllocGlobal>(rt: &R, bytes: &[u8]) -> Result<Session, Alloc
     }
 }
 
-// The edit that a line says, if there is memory for it.
-fn edit_said<R: Abort + AllocGlobal>(rt: &R, line: &str) -> Result<Edit, AllocError> {
+/// The edit that a line says, if there is memory for it.
+pub fn edit_said<R: Abort + AllocGlobal>(rt: &R, line: &str) -> Result<Edit, AllocError> {
     match parse_line(rt.alloc(), line.as_bytes()) {
         Ok(Command::Edit(edit)) => Ok(edit),
         said => {
