@@ -1,4 +1,9 @@
-"""HDUs that are kept stamped, beside plain sums over what is saved."""
+"""HDUs that are kept stamped, beside plain sums over what is saved, and CFITSIO's verdicts where that is installed."""
+import os
+import pathlib
+import subprocess
+import tempfile
+
 from fits import BLOCK_LEN, CARD_LEN, MANDATORY, P0, PIXEL, file, header
 from planes import datasum
 from program import differences, shown
@@ -111,10 +116,11 @@ def cases():
     yield "what keep saves", saves, "keep 1", header(STAMPED)
     yield "marks aren't saved", saves, "keep 1\nrelease 1", header(STAMPED)
     yield "a mark of a run before", answers_over, header(STAMPED), "kept 1\nset 1 OBJECT 'x'\nsum 1", "no\ndatasum 0 verdicts 1 -1\n", 0
+    verdicts = by_cfitsio()
     for extensions, hdus, count in SCRIPTS:
         before = file(([(P0, 0)] + [(PIXEL, 1)] * extensions, "tail"))
         lines = [f"{word} {k % hdus}{rest}" for k, (word, rest) in enumerate(LINES * (count // len(LINES)))]
-        yield f"{count} lines over {extensions + 1} HDUs", stays_right, before, lines, extensions + 1
+        yield f"{count} lines over {extensions + 1} HDUs", stays_right, before, lines, extensions + 1, verdicts
 
 
 def answers(program, script, printed, status):
@@ -133,8 +139,8 @@ def saves(program, script, after):
     return differences(program.edit(header(P0), script.encode("latin-1")), saved=after, reported=b"")
 
 
-def stays_right(program, before, lines, count):
-    """Where after a line an HDU that is kept hasn't both sums right by a plain reckoning, or another is said to be kept."""
+def stays_right(program, before, lines, count, verdicts):
+    """Where after a line an HDU that is kept hasn't both sums right, or another is said to be kept."""
     kept = [False] * count
     for k in range(1, len(lines) + 1):
         asked = [*lines[:k], *(f"kept {h}" for h in range(1, len(kept) + 3)), "off"]
@@ -149,6 +155,8 @@ def stays_right(program, before, lines, count):
         for h, header_start, data_start, end in offsets:
             if kept[h - 1] and not is_right(ran.saved[header_start:data_start], ran.saved[data_start:end]):
                 yield f"after line {k}, {lines[k - 1]!r}: HDU {h}, {shown(ran.saved[header_start:data_start])}"
+        for line in verdicts(ran.saved, [h for h, it in enumerate(kept, 1) if it]):
+            yield f"after line {k}, {lines[k - 1]!r}: {line}"
 
 
 def follow(kept, line):
@@ -174,3 +182,24 @@ def is_right(of_header, of_data):
         and said.rstrip() == b"DATASUM = '%s'" % str(datasum(of_data)).encode().ljust(8)
         and datasum(of_header + of_data) == 2**32 - 1
     )
+
+
+ROOM = tempfile.TemporaryDirectory()
+
+
+def by_cfitsio():
+    """What asks CFITSIO for its verdicts on HDUs of a file, and says where one isn't 1 and 1; nothing where it isn't there."""
+    program, source = f"{ROOM.name}/verdicts", os.path.join(os.path.dirname(os.path.abspath(__file__)), "verdicts.c")
+    built = subprocess.run(["cc", "-O1", "-o", program, source, "-lcfitsio"], capture_output=True)
+    if built.returncode != 0:
+        return lambda saved, hdus: []
+    return lambda saved, hdus: wrong_by(program, saved, hdus)
+
+
+def wrong_by(program, saved, hdus):
+    """Where that program doesn't say 1 and 1 of each of these HDUs."""
+    with tempfile.NamedTemporaryFile(dir=ROOM.name, suffix=".fits") as file:
+        pathlib.Path(file.name).write_bytes(saved)
+        ran = subprocess.run([program, file.name, *map(str, hdus)], capture_output=True, timeout=60)
+    if ran.stdout != b"1 1\n" * len(hdus) or ran.returncode != 0:
+        yield f"CFITSIO says {ran.stdout} of HDUs {hdus}, and {ran.stderr}"
