@@ -88,7 +88,8 @@ fitsed() { "$program" "$@"; }
 (
     for example in examples/*/in.fits; do
         f=$(basename "$(dirname "$example")").fits
-        fitsed sum "$example" | grep -q -- ' -1' && echo "$f"
+        fitsed sum "$example" >"$room/sums" || echo "$f"
+        grep -q -- ' -1' "$room/sums" && echo "$f"
     done
     true
 ) >"$room/wrong"
@@ -101,20 +102,29 @@ echo "ins 2 $(($(cards examples/a_line_of_history/in.fits 2) + 1)) HISTORY 2026-
     fitsed edit examples/a_line_of_history/in.fits "$room/history.fits"
 expect 'a card comes after the last by a listing' cmp -s "$room/history.fits" examples/a_line_of_history/out.fits
 for example in examples/*/in.fits; do
-    fitsed verify "$example" | sed "\$d; s|^|$example |"
-done >"$room/found"
-expect 'each finding has its file' [ "$(grep -c '^examples/a_file_with_problems/in.fits [EW][0-9][0-9] ' "$room/found")" = 6 ]
-expect 'findings are counted by their codes' [ "$(cut -d' ' -f2 "$room/found" | sort | uniq -c | sed -n 's/ *\([0-9]*\) W24$/\1/p')" = 2 ]
+    fitsed verify "$example" 2>&1 | while IFS= read -r line; do printf '%s: %s\n' "$example" "$line"; done
+done | grep -v ': errors [0-9]* warnings [0-9]*$' >"$room/found"
+expect 'each finding has its file' [ "$(grep -c '^examples/a_file_with_problems/in.fits: [EW][0-9][0-9] ' "$room/found")" = 6 ]
+sed -n 's/.*: \([EW][0-9][0-9]\) .*/\1/p' "$room/found" | sort | uniq -c >"$room/counted"
+sed -n '/^Over the input files of the examples/,/^and /s/^ *[0-9]* [EW][0-9]*$/&/p' docs/GUIDE.md >"$room/lines"
+expect 'findings are counted by their codes' cmp -s "$room/counted" "$room/lines"
+fitsed sum examples/wrong_sums/in.fits | awk '$3 < 0 || $4 < 0 { print "stamp " $1 }' |
+    fitsed edit examples/wrong_sums/in.fits "$room/stamped.fits"
+expect 'HDUs with wrong sums are stamped by their sums' [ "$(fitsed sum "$room/stamped.fits" | grep -c ' 1 1$')" = 3 ]
 
 # many files at once, as docs/GUIDE.md has it
 example=examples/a_comment
-mkdir "$room/new"
-for k in 1 2 3 4 5 6 7 8; do cp "$example/in.fits" "$room/$k.fits"; done
+mkdir "$room/many" "$room/many/new" "$room/many/answers"
+for name in 1 2 3 'a b' "it's" 'R&D' 'a|b' 'a\b' '-e' 'two
+lines'; do cp "$example/in.fits" "$room/many/$name.fits"; done
 here=$(pwd)
-(cd "$room" && ls [1-8].fits | xargs -P 4 -I{} sh -c \
-    "\"\$0/$program\" edit \"\$1\" \"new/\$1\" < \"\$0/$example/script\" > \"new/\$1.answers\" 2>&1; echo \"\$? \$1\"" "$here" {} > done)
-expect 'eight files at once end with 0' [ "$(grep -c '^0 ' "$room/done")" = 8 ]
-expect 'and each is saved' cmp -s "$room/new/8.fits" "$example/out.fits"
+(cd "$room/many" && printf '%s\0' ./*.fits | xargs -0 -P 4 -I{} sh -c \
+    "\"\$0/$program\" edit \"\$1\" \"new/\$1\" < \"\$0/$example/script\" > \"answers/\$1\" 2>&1; echo \"\$? \$1\"" "$here" {} > done)
+expect 'ten files at once end with 0, whatever their names are' [ "$(grep -c '^0 ' "$room/many/done")" = 10 ]
+for made in "$room"/many/new/*.fits; do
+    expect 'and each is saved' cmp -s "$made" "$example/out.fits"
+done
+expect 'all of them' [ "$(printf '%s\0' "$room"/many/new/*.fits | tr -dc '\0' | wc -c)" = 10 ]
 
 # the stored run of the program is this example
 example=examples/a_comment

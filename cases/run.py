@@ -10,6 +10,7 @@ import sys
 
 import card_edits
 import codes
+import documents
 import faults
 import hdu_edits
 import keeping
@@ -41,6 +42,7 @@ TABLES = [
     codes,
     faults,
     long_scripts,
+    documents,
 ]
 
 
