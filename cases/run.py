@@ -17,6 +17,7 @@ import keeping
 import lines
 import listings
 import long_scripts
+import mending
 import openings
 import pixel_edits
 import planes
@@ -40,6 +41,7 @@ TABLES = [
     sums,
     reports,
     codes,
+    mending,
     faults,
     long_scripts,
     documents,
