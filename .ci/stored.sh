@@ -55,8 +55,10 @@ for report in examples/*/report; do
     expect 'without its warnings it ends so too' status 1 "$program" verify -e "$example/in.fits"
     grep -v '^W' "$report" >"$room/lines"
     expect 'and lists its errors' cmp -s "$room/printed" "$room/lines"
+    expect 'by the long name too' status 1 "$program" verify --errors "$example/in.fits"
+    expect 'and lists the same' cmp -s "$room/printed" "$room/lines"
     tail -n 1 "$report" >"$room/lines"
-    for flags in -q -eq -qe; do
+    for flags in -q -eq -qe --quiet; do
         expect "with $flags it ends so too" status 1 "$program" verify "$flags" "$example/in.fits"
         expect 'and is counted' cmp -s "$room/printed" "$room/lines"
     done
@@ -168,6 +170,14 @@ expect 'an argument that is not UTF-8 ends with 2' status 2 edit "$(printf 'a\37
 expect 'help ends with 0' status 0 "$program" --help
 expect 'help of a command ends with 0' status 0 "$program" edit --help
 expect 'and has the forms of the lines' grep -q 'ins H P CARD' "$room/printed"
+for command in edit list sum verify; do
+    expect "help of $command ends with 0" status 0 "$program" "$command" --help
+    cp "$room/printed" "$room/help"
+    expect 'so it does by its other form' status 0 "$program" help "$command"
+    expect 'and prints the same' cmp -s "$room/printed" "$room/help"
+    expect 'and says which statuses it has' grep -q 'Exit status:' "$room/printed"
+done
+expect 'the help of all ends with 0' status 0 "$program" help
 expect 'the version ends with 0' status 0 "$program" --version
 expect 'and is that of the manual page' [ "$(cat "$room/printed")" = "$(sed -n '1s/.*"\(fitsed [0-9.]*\)".*/\1/p' man/fitsed.1)" ]
 # two HDUs: P0 and an image extension of one pixel of 16 bits, and a tail

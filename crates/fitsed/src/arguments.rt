@@ -20,23 +20,51 @@ const EDIT: &str = "Edits a file by a script from standard input";
 
 const LIST: &str = "Prints a line for each HDU of a file";
 
-const SUM: &str = "Prints the sums of each HDU of a file, and whether they are right";
+const SUM: &str = "Prints the sum of each HDU's data, and whether DATASUM and CHECKSUM are right";
 
 const VERIFY: &str = "Prints what is wrong with a file, and counts it";
 
 const STATUSES: &str = "Exit status:
   0  done
   1  a line of the script was refused or bad; verify found an error
-  2  a usage fault, a file that doesn't open, or a script that is too long
+  2  a wrong command line, a file that doesn't open, or a script that is too long
   3  a file or stream can't be read or written, or memory ran out
 
-Example:
+Examples:
   fitsed list in.fits
   fitsed sum in.fits
   fitsed verify in.fits
   printf 'ins 1 4 COMMENT hello\\noff\\n' | fitsed edit in.fits out.fits
 
 fitsed(1) has the lines of a script and the codes of a report.";
+
+const LISTED: &str = "Each line: hdu N CLASS bitpix B axes A cards C at HEADER DATA END
+  N counts from 1; CLASS is PRIMARY, GROUPS, IMAGE, TABLE or OTHER; the last three are the
+  bytes, from 0, at which its header begins, its data begin, and it ends.
+
+Exit status:
+  0  done
+  2  a wrong command line, or a file that doesn't open
+  3  the file can't be read, the listing can't be written, or memory ran out";
+
+const SUMMED: &str = "Each line: HDU, sum of its data, verdict on DATASUM, verdict on CHECKSUM
+  1 is right, 0 says nothing or isn't there, -1 is wrong.
+
+Exit status:
+  0  done, whatever the verdicts are
+  2  a wrong command line, or a file that doesn't open
+  3  the file can't be read, the sums can't be written, or memory ran out";
+
+const FOUND: &str = "Each line: CODE HDU PLACE TEXT, and at the end the counts
+  An E is an error, a W a warning; place 0 is the HDU as a whole.
+
+Exit status:
+  0  no error, perhaps warnings
+  1  an error
+  2  a wrong command line, or a file that doesn't open
+  3  the file can't be read, the report can't be written, or memory ran out
+
+fitsed(1) has the codes.";
 
 const LINES: &str = "Lines of the script, words separated by one space:
   ins H P CARD         insert a card at place P of HDU H
@@ -66,8 +94,8 @@ const LINES: &str = "Lines of the script, words separated by one space:
 
 Exit status:
   0  done
-  1  a line of the script was refused or bad
-  2  a usage fault, a file that doesn't open, or a script that is too long
+  1  a line of the script was refused or bad; the others were done, and OUT was saved
+  2  a wrong command line, a file that doesn't open, or a script that is too long
   3  a file or stream can't be read or written, or memory ran out
 
 fitsed(1) says when a line is refused.";
@@ -78,11 +106,10 @@ pub fn command<'a>(alloc: Global) -> Result<Command<'a>, AllocError> {
         .version(VERSION)
         .about(ABOUT)
         .after_help(STATUSES)
-        .subcommand_required(true)
-        .disable_help_subcommand(true);
+        .subcommand_required(true);
     let all = and(Ok(all), edit(alloc));
-    let all = and(all, reading(alloc, "list", LIST, STATUSES));
-    let all = and(all, reading(alloc, "sum", SUM, STATUSES));
+    let all = and(all, reading(alloc, "list", LIST, LISTED));
+    let all = and(all, reading(alloc, "sum", SUM, SUMMED));
     and(all, verify(alloc))
 }
 
@@ -99,11 +126,12 @@ fn and<'a>(
 }
 
 fn edit<'a>(alloc: Global) -> Result<Command<'a>, AllocError> {
-    reading(alloc, "edit", EDIT, LINES)?.arg(path(alloc, "OUT", "The file to write; it may be IN"))
+    let out = "The file to write; it may be IN, or /dev/null for answers alone";
+    reading(alloc, "edit", EDIT, LINES)?.arg(path(alloc, "OUT", out))
 }
 
 fn verify<'a>(alloc: Global) -> Result<Command<'a>, AllocError> {
-    reading(alloc, "verify", VERIFY, STATUSES)?
+    reading(alloc, "verify", VERIFY, FOUND)?
         .arg(flag(alloc, "errors", 'e', "List errors alone"))?
         .arg(flag(alloc, "quiet", 'q', "List nothing: print the counts alone"))
 }
@@ -131,6 +159,7 @@ fn path<'a>(alloc: Global, id: &'a str, help: &'a str) -> Arg<'a> {
 fn flag<'a>(alloc: Global, id: &'a str, letter: char, help: &'a str) -> Arg<'a> {
     Arg::new(alloc, id)
         .short(letter)
+        .long(id)
         .action(ArgAction::SetTrue)
         .help(help)
 }
