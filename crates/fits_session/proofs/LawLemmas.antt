@@ -199,10 +199,11 @@ hdu_right it (suc i) edit (Some hdu) sizes p right there e =
     subst (λ (us : List HduParts). AreRightIn us (changed_at i (kept_after edit) it.kept)) (sym (changed_at-both i change (stamped_if stamps) it.file.hdus))
     (right_changed i it.file.hdus it.kept both (kept_after edit) right own)
 
--- from HDUs by their numbers to those of the list, and back
+-- from HDUs by their numbers to those of the list
 right_in : (it : Marked) → AreRight it → AreRightIn it.file.hdus it.kept
 right_in it right i hdu there on = right (suc i) hdu there on
 
+-- and back
 right_of : (it : Marked) → AreRightIn it.file.hdus it.kept → AreRight it
 right_of it right zero hdu there on = cc
 right_of it right (suc i) hdu there on = right i hdu there on

@@ -16,6 +16,7 @@ none_kept zero i = refl
 none_kept (suc n) zero = refl
 none_kept (suc n) (suc i) = none_kept n i
 
+-- nor by its number
 unmarked_kept : (n h : ℕ) → is_kept (replicate n false) h ≡ false
 unmarked_kept n zero = refl
 unmarked_kept n (suc i) = none_kept n i
@@ -35,10 +36,12 @@ same_at i [] = refl
 same_at zero (hdu ∷ hdus) = refl
 same_at (suc i) (hdu ∷ hdus) = ap (λ us. hdu ∷ us) (same_at i hdus)
 
+-- the same by its number
 same_of : (h : ℕ) (hdus : List HduParts) → changed_of h (stamped_if false) hdus ≡ hdus
 same_of zero hdus = refl
 same_of (suc i) hdus = same_at i hdus
 
+-- and of a file
 unstamped : (h : ℕ) (file : FileParts) → with_hdu file h (stamped_if false) ≡ file
 unstamped h file = ap (λ (us : List HduParts). record file { hdus = us }) (same_of h file.hdus)
 

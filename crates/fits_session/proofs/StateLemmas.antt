@@ -197,10 +197,11 @@ kept_at hdus i hdu l e =
 pub kept_there : (hdus : List HduState) (h i : ℕ) (hdu : HduState) → IsHduAt hdus h i hdu → is_kept (kept_of hdus) h ≡ hdu.kept
 kept_there hdus h i hdu at = ap (is_kept (kept_of hdus)) (at.index.at ∙ add-one i) ∙ kept_at hdus i hdu at.index.within at.is
 
--- where both sums are right in those that are kept, they are in HDUs with the same parts and marks
+-- where both sums are right in an HDU that is kept, they are in one with the same parts and mark
 right_one : (old new : HduState) → parts_of new ≡ parts_of old → new.kept ≡ old.kept → IsRight old → IsRight new
 right_one old new same mark right on = ap verdicts_of same ∙ right (sym mark ∙ on)
 
+-- so in all of a list
 pub right_moved : (before after : List HduState) → hdus_of after ≡ hdus_of before → kept_of after ≡ kept_of before → All IsRight before → All IsRight after
 right_moved before [] p q all = All-nil IsRight
 right_moved [] (new ∷ after) p q all = absurd (cc)
