@@ -1,4 +1,5 @@
 pub mod IntakeLemmas
+pub mod NamedLemmas
 pub mod SightLemmas
 pub mod StoredLemmas
 pub mod StreamLemmas

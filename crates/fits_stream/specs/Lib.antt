@@ -1,4 +1,5 @@
 pub mod Ahead
 pub mod Intake
+pub mod Named
 pub mod Stored
 pub mod Stream

@@ -28,4 +28,13 @@ impl Count {
     pub fn tick(&mut self)
         ensures { self.new.total ≡ self.old.total + 1 }
     {}
+
+    /// So many times more.
+    pub fn add(&mut self, times: usize)
+        ensures { self.new.total ≡ self.old.total + times }
+    {
+        for time in 0..times {
+            self.tick();
+        }
+    }
 }
