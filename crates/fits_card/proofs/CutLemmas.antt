@@ -66,7 +66,7 @@ header_there f n at_end le = record {
 }
 
 -- what follows cards of a header
-drop-cards : (cards : List (List ℕ)) (rest : List ℕ) → All IsInnerCard cards → drop (80 * length cards) (joined_cards cards ++ rest) ≡ rest
+pub drop-cards : (cards : List (List ℕ)) (rest : List ℕ) → All IsInnerCard cards → drop (80 * length cards) (joined_cards cards ++ rest) ≡ rest
 drop-cards cards rest h = drop_at (joined_cards cards) rest (80 * length cards) (length-joined_cards cards h)
 
 -- piece k of cards that are joined is card k

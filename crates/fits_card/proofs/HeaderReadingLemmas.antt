@@ -6,7 +6,8 @@ use Rattle.std.proofs.lemmas.List.Elements.{All-append, All-nil}
 use Rattle.std.proofs.lemmas.List.FromFn.{length-map-range_with_len}
 use Rattle.std.proofs.Math.Seq.{take-add}
 use Rattle.fits_card.specs.Card.{IsEnd}
-use Rattle.fits_card.specs.Header.{Header, IsHeader, IsInnerCard, HasNoHeader, header_bytes, joined_cards}
+use Rattle.fits_card.specs.Header.{Header, AreFrontCards, IsHeader, IsInnerCard, HasNoHeader, header_bytes, joined_cards}
+use Rattle.fits_card.specs.HeaderReading.{IsCut}
 use Rattle.fits_card.specs.HeaderSteps.{HasNoEnd, IsEndPlace, piece, pieces}
 use Rattle.fits_stream.specs.Intake.{Finds, IsSpent, Supply, Takes}
 use Rattle.fits_card.proofs.HeaderLemmas.{fill_length-by_cards, length-joined_cards}
@@ -93,13 +94,17 @@ no_header_short cards block inner full short header rest cut =
     let place : IsEndPlace (joined_cards cards ++ block) n = header-end_place (joined_cards cards ++ block) header rest cut in
     (inner n [] before).not_end (subst (λ (card : List ℕ). IsEnd card) (piece-joined_cards cards block n inner before) place.ends)
 
--- the source ended, or the limit came, within a block
-pub stops_short : (cards : List (List ℕ)) (a b c : Supply) → Takes a b (joined_cards cards) → Takes b c [] → IsSpent c → All IsInnerCard cards → length cards % 36 ≡ 0 → length c.ahead < 2880 → Finds a c HasNoHeader
-stops_short cards a b c p q spent inner full short =
-    finds_spent HasNoHeader a c (joined_cards cards) (takes_and_holds a b c (joined_cards cards) p q) spent (no_header_short cards c.ahead inner full short)
-
 -- no cards are all inner ones
 pub no_cards : (cards : List (List ℕ)) → cards ≡ [] → All IsInnerCard cards
 no_cards cards none = rw none (All-nil IsInnerCard)
 
 pub ruleset header_steps = (blocks_none, no_cards, inner_more, length-more, inner_ended)
+
+-- the source ended, or the limit came, within a block: these cards stand before END
+pub stops_cut : (cards all : List (List ℕ)) (block : List ℕ) (a b c : Supply) → Takes a b (joined_cards cards) → Takes b c [] → IsSpent c → All IsInnerCard cards → length cards % 36 ≡ 0 → length c.ahead < 2880 → block ≡ c.ahead
+    → AreFrontCards (joined_cards cards ++ block) all → Finds a c (IsCut all)
+stops_cut cards all block a b c p q spent inner full short same front =
+    finds_spent (IsCut all) a c (joined_cards cards) (takes_and_holds a b c (joined_cards cards) p q) spent (record {
+      none = no_header_short cards c.ahead inner full short;
+      front = subst (λ t. AreFrontCards (joined_cards cards ++ t) all) same front;
+    })

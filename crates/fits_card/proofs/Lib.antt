@@ -2,6 +2,7 @@ pub mod ChangeLemmas
 pub mod CutLemmas
 pub mod EmitLemmas
 pub mod FillLemmas
+pub mod FrontLemmas
 pub mod HeaderLemmas
 pub mod HeaderReadingLemmas
 pub mod OrderLemmas

@@ -1,5 +1,5 @@
 -- A header: cards, the END card and the fill of its last block (FITS Standard 4.0, sections 3.1, 3.3.1 and 4.4.1).
-use Rattle.std.specs.Prelude.{◌≡◌, ℕ, ◌+◌, ◌-◌, ◌*◌, ◌%◌, Bool, nat_eq, drop, List, ◌++◌, length, replicate, codes, All, Option, slice_get}
+use Rattle.std.specs.Prelude.{◌≡◌, ◌⊎◌, ℕ, ◌+◌, ◌-◌, ◌*◌, ◌%◌, Bool, nat_eq, drop, List, [], ◌++◌, length, replicate, codes, All, Option, slice_get}
 use Rattle.std.specs.List.{flat_map, list_all}
 use Rattle.fits_card.specs.Card.{IsEnd, card_of_text}
 
@@ -49,6 +49,19 @@ pub record IsHeaderOf (bytes : List ℕ) (header : Header) (rest : List ℕ) : T
 -- no header stands at the front of these bytes
 abbrev pub HasNoHeader : List ℕ → Type 0
 HasNoHeader bytes = (header : Header) → (rest : List ℕ) → IsHeaderOf bytes header rest → ⊥
+
+-- these cards stand before END, whatever follows it
+pub record EndsCards (bytes : List ℕ) (cards : List (List ℕ)) : Type 0 where
+  pub end : List ℕ
+  pub more : List ℕ
+  pub inner : All IsInnerCard cards
+  pub end_size : length end ≡ 80
+  pub ends : IsEnd end
+  pub joined : bytes ≡ joined_cards cards ++ (end ++ more)
+
+-- the cards before END, where there is one; else none
+abbrev pub AreFrontCards : List ℕ → List (List ℕ) → Type 0
+AreFrontCards bytes cards = EndsCards bytes cards ⊎ ((cards ≡ []) × ((others : List (List ℕ)) → EndsCards bytes others → ⊥))
 
 -- how many bytes a header of so many cards has
 abbrev pub header_length : ℕ → ℕ

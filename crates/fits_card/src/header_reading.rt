@@ -2,17 +2,18 @@
 ghost use Rattle.std.specs.Prelude.{◌≡◌, ◌+◌, ◌*◌, ◌%◌, ◌<◌, ◌≤◌, ◌++◌, All, length, IfOk, IfErr, OnOk};
 ghost use Rattle.fits_card.specs.declared.card.TheConstants.{CARD_LEN};
 ghost use Rattle.fits_card.specs.declared.card_list.TheConstants.{BLOCK_LEN};
-ghost use Rattle.fits_card.specs.Header.{header_bytes, joined_cards, IsHeader, IsInnerCard};
-ghost use Rattle.fits_card.specs.HeaderReading.{HeaderStops};
+ghost use Rattle.fits_card.specs.Header.{header_bytes, joined_cards, AreFrontCards, IsHeader, IsInnerCard};
+ghost use Rattle.fits_card.specs.HeaderReading.{FrontComes, HeaderStops};
 ghost use Rattle.fits_card.specs.HeaderSteps.{pieces, IsEndPlace};
-ghost use Rattle.fits_stream.specs.Intake.{supply, Takes};
+ghost use Rattle.fits_stream.specs.Intake.{supply, Takes, TakingStops};
 
 use crate::card::{CARD_LEN, Card};
 use crate::card_list::{BLOCK_LEN, CardList};
 use crate::cut::{card_at, end_place};
 use crate::fill::Fill;
+use crate::header_front::HeaderFront;
 use crate::room::room_for;
-use fits_stream::{Intake, Source};
+use fits_stream::{Intake, ReadFault, Source};
 use std::alloc::{AllocError, Global};
 use thiserror::Error;
 
@@ -45,7 +46,6 @@ impl From<AllocError> for ReadHeaderFault {
 ///
 /// Block after block is taken, as far as the first that has an END. Memory is asked for as cards
 /// come, and for them alone.
-#[tactic(auto, using(crate::proofs::HeaderReadingLemmas::header_steps))]
 pub fn read_header<R: Source>(
     alloc: Global,
     intake: &mut Intake,
@@ -59,24 +59,62 @@ pub fn read_header<R: Source>(
     ensures err { IfErr result (HeaderStops
         (supply (R.state source.old) intake.old) (supply (R.state source.new) intake.new)) }
 {
+    match read_front(alloc, intake, source) {
+        Ok(HeaderFront::Whole(list)) => Ok(list),
+        Ok(HeaderFront::Cut(_)) => Err(ReadHeaderFault::NoEnd),
+        Err(ReadFault::Memory) => Err(ReadHeaderFault::Memory),
+        Err(ReadFault::Failed) => Err(ReadHeaderFault::Failed),
+    }
+}
+
+/// The header that comes next, as `read_header`, or the cards before an END whose block isn't whole.
+#[tactic(auto, using(crate::proofs::HeaderReadingLemmas::header_steps))]
+pub fn read_front<R: Source>(
+    alloc: Global,
+    intake: &mut Intake,
+    source: &mut R,
+) -> Result<HeaderFront, ReadFault>
+    ensures ok { IfOk result (FrontComes
+        (supply (R.state source.old) intake.old) (supply (R.state source.new) intake.new)) }
+    ensures err { IfErr result (TakingStops (R.state source.old) (R.state source.new)) }
+{
     let mut cards = Vec::new(alloc);
     'block: loop {
         let Ok(()) = intake.hold(source, BLOCK_LEN) else {
-            return Err(ReadHeaderFault::Failed);
+            return Err(ReadFault::Failed);
         };
         let ahead = intake.ahead();
         if ahead.len() < BLOCK_LEN {
-            return Err(ReadHeaderFault::NoEnd);
+            let cards = cards_before_end(cards, ahead)?;
+            return Ok(HeaderFront::Cut(cards));
         }
         let (block, _) = ahead.split_at(BLOCK_LEN);
         if let Some(count) = end_place(block) {
             push_cards(&mut cards, block, count)?;
             let list = ended_list(alloc, cards, block, count)?;
             intake.pass(BLOCK_LEN);
-            return Ok(list);
+            return Ok(HeaderFront::Whole(list));
         }
         push_cards(&mut cards, block, BLOCK_LEN / CARD_LEN)?;
         intake.pass(BLOCK_LEN);
+    }
+}
+
+// Cards, and those of the block that follows them, before its END; none where it has no END.
+#[tactic(auto, using(crate::proofs::FrontLemmas::front_steps))]
+fn cards_before_end(mut cards: Vec<Card>, block: &[u8]) -> Result<Vec<Card>, AllocError>
+    requires { All IsInnerCard cards.items }
+    ensures { IfOk result (λ all. AreFrontCards (joined_cards cards.items ++ block.now) all.items) }
+{
+    match end_place(block) {
+        Some(count) => {
+            push_cards(&mut cards, block, count)?;
+            Ok(cards)
+        }
+        None => {
+            cards.clear();
+            Ok(cards)
+        }
     }
 }
 

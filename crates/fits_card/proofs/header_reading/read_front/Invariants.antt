@@ -1,7 +1,7 @@
 use Rattle.std.proofs.Common.{◌≡◌, ◌+◌, ◌%◌, All, length}
 use Rattle.fits_card.specs.Header.{IsInnerCard, joined_cards}
 use Rattle.fits_stream.specs.Intake.{supply, Takes}
-use Rattle.fits_card.proofs.header_reading.read_header.Given as goal
+use Rattle.fits_card.proofs.header_reading.read_front.Given as goal
 
 abbrev pub invariant-block : goal.invariant-block
 invariant-block g l = record {

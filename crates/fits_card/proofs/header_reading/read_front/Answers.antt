@@ -1,16 +1,16 @@
 use Rattle.std.proofs.Common.{◌≡◌, ◌*◌, ◌<◌, ◌≤◌, ◌++◌, ◌∙◌, length, take, refl, ap, subst, arith}
 use Rattle.std.proofs.lemmas.List.{length-drop, length-take-le}
 use Rattle.fits_card.specs.HeaderSteps.{pieces}
-use Rattle.fits_card.proofs.HeaderReadingLemmas.{blocks_ended, blocks_more, inner_ended, inner_more, length-more, stops_short}
+use Rattle.fits_card.proofs.HeaderReadingLemmas.{blocks_ended, blocks_more, inner_ended, inner_more, length-more, stops_cut}
 use Rattle.fits_stream.proofs.IntakeLemmas.{takes_passed}
 use Rattle.fits_stream.proofs.SightLemmas.{takes_fewer}
-use Rattle.fits_card.proofs.header_reading.read_header.Goals as goal
+use Rattle.fits_card.proofs.header_reading.read_front.Goals as goal
 
 -- the source ended, or the limit came, within a block
-pub returns-then-ahead-lt-BLOCK_LEN-clause-err : goal.returns-then-ahead-lt-BLOCK_LEN-clause-err
-returns-then-ahead-lt-BLOCK_LEN-clause-err g c =
+pub returns-then-ahead-lt-BLOCK_LEN-clause-ok : goal.returns-then-ahead-lt-BLOCK_LEN-clause-ok
+returns-then-ahead-lt-BLOCK_LEN-clause-ok g c =
     let short : length c.hold.new.self.ahead < 2880 = omega (arith, ap length c.ahead-ahead.ensures) in
-    stops_short c.block.cards.items _ _ _ c.block.invariant.taken c.in-Ok.ensures.ok (c.in-Ok.ensures.ends short) c.block.invariant.inner c.block.invariant.full short
+    stops_cut c.block.cards.items _ c.ahead-ahead.result.now _ _ _ c.block.invariant.taken c.in-Ok.ensures.ok (c.in-Ok.ensures.ends short) c.block.invariant.inner c.block.invariant.full short c.ahead-ahead.ensures c.in_ok-cards.ensures
 
 -- the cards before END
 pub ended_list-requires-clause-inner : goal.ended_list-requires-clause-inner
@@ -19,9 +19,12 @@ ended_list-requires-clause-inner g c = inner_ended c.block.cards.items _ c.split
 -- the last block is taken
 pub returns-in-Some-clause-ok : goal.returns-in-Some-clause-ok
 returns-in-Some-clause-ok g c =
-    let block : c.split_at.result.0.now ≡ take 2880 c.hold.new.self.ahead = c.split_at.ensures.front ∙ ap (take 2880) c.ahead-ahead.ensures in
-    blocks_ended c.block.cards.items _ _ _ _ _ c.split_at.result.0.now c.in-Some.count c.in_ok-list.list.header c.block.invariant.taken c.in-Ok.ensures.ok
-    (rw block (takes_passed _ _ 2880 refl c.pass.ensures.ahead c.pass.ensures.left)) c.in_ok-push_cards.ensures c.in_ok-list.ensures.cards c.in_ok-list.ensures.ended
+    let block : c.split_at.result.0.now ≡ take 2880 c.hold.new.self.ahead = c.split_at.ensures.front ∙ ap (take 2880) c.ahead-ahead.ensures in (
+      blocks_ended c.block.cards.items _ _ _ _ _ c.split_at.result.0.now c.in-Some.count c.in_ok-list.list.header c.block.invariant.taken c.in-Ok.ensures.ok
+          (rw block (takes_passed _ _ 2880 refl c.pass.ensures.ahead c.pass.ensures.left)) c.in_ok-push_cards.ensures c.in_ok-list.ensures.cards c.in_ok-list.ensures.ended,
+      c.in_ok-list.ensures.whole,
+      c.in_ok-list.ensures.unread,
+    )
 
 pub pass-requires-in-block : goal.pass-requires-in-block
 pass-requires-in-block g c = omega (arith, ap length c.ahead-ahead.ensures)
