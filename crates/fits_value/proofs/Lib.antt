@@ -26,12 +26,15 @@ pub mod PlaceLemmas
 pub mod QuoteLemmas
 pub mod ReadBackLemmas
 pub mod ReadLemmas
+pub mod RoomLemmas
 pub mod RunLemmas
 pub mod SayLemmas
 pub mod SaysLemmas
 pub mod SeparatorLemmas
 pub mod StandardFacts
 pub mod TrimLemmas
+pub mod UnreadableLemmas
+pub mod UnwritableLemmas
 pub mod ValueScanLemmas
 pub mod WithinLemmas
 pub mod WritableLemmas

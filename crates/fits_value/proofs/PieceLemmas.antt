@@ -90,7 +90,7 @@ fitting_some room [] h some = absurd (omega arith)
 fitting_some room (c ∷ s) h some = omega (arith, fitting_next room c s (omega (arith, width_most c)))
 
 -- what is left is shorter
-left_less : (m : ℕ) (s : List ℕ) → length s ≤ suc m → length (drop (fitting 67 s) s) ≤ m
+pub left_less : (m : ℕ) (s : List ℕ) → length s ≤ suc m → length (drop (fitting 67 s) s) ≤ m
 left_less m [] h = omega arith
 left_less m (c ∷ s) h = omega (arith, length-drop (fitting 67 (c ∷ s)) (c ∷ s), fitting_some 67 (c ∷ s) (omega arith) (omega arith))
 

@@ -28,7 +28,7 @@ pub one_fits : (card : List ℕ) → length card ≡ 80 → all_fit (card ∷ []
 one_fits card e = ap (λ (b : Bool). b && true) (eq-eqb (length card) 80 e)
 
 -- a card that fits, and others
-first_fits : (card : List ℕ) (others : List (List ℕ)) → length card ≡ 80 → all_fit (card ∷ others) ≡ all_fit others
+pub first_fits : (card : List ℕ) (others : List (List ℕ)) → length card ≡ 80 → all_fit (card ∷ others) ≡ all_fit others
 first_fits card others e = ap (λ (b : Bool). b && all_fit others) (eq-eqb (length card) 80 e)
 
 -- a piece and its ampersand fit a card

@@ -8,5 +8,7 @@ pub mod Says
 pub mod Scan
 pub mod Spelling
 pub mod Text
+pub mod Unreadable
+pub mod Unwritable
 pub mod Value
 pub mod Written

@@ -43,8 +43,9 @@ fn split_digits(text: &[u8]) -> (&[u8], &[u8])
     text.split_at(digits_len(text))
 }
 
+/// Whether a minus sign comes first, and what follows a sign.
 // [sign]
-fn split_sign(text: &[u8]) -> (bool, &[u8])
+pub(crate) fn split_sign(text: &[u8]) -> (bool, &[u8])
     ensures sign { result.0 ≡ is_minus text.now }
     ensures rest { result.1.now ≡ after_sign text.now }
 {

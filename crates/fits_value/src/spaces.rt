@@ -13,8 +13,8 @@ pub(crate) fn spaces_len(text: &[u8]) -> usize
     run_len(text, b' ')
 }
 
-/// How many bytes are left without the spaces at the end.
-pub(crate) fn trimmed_len(text: &[u8]) -> usize
+/// How many bytes are left of a text without the spaces at its end.
+pub fn trimmed_len(text: &[u8]) -> usize
     ensures value { result + suffix_len is_space text.now ≡ length text.now }
     ensures within { result ≤ length text.now }
 {

@@ -22,37 +22,37 @@ fn number_kind(text: &[u8]) -> Option<ValueKind>
     if len == text.len() { Some(kind) } else { None }
 }
 
-// Whether a text is an integer.
-fn is_integer(text: &[u8]) -> bool
+/// Whether a text is an integer.
+pub(crate) fn is_integer(text: &[u8]) -> bool
     ensures { result ≡ is_integer text.now }
 {
     matches!(number_kind(text), Some(ValueKind::Integer))
 }
 
-// Whether a text is a real number.
-fn is_real(text: &[u8]) -> bool
+/// Whether a text is a real number.
+pub(crate) fn is_real(text: &[u8]) -> bool
     ensures { result ≡ is_real text.now }
 {
     matches!(number_kind(text), Some(ValueKind::Real))
 }
 
-// Whether a text is an integer or a real number.
-fn is_number(text: &[u8]) -> bool
+/// Whether a text is an integer or a real number.
+pub(crate) fn is_number(text: &[u8]) -> bool
     ensures { result ≡ is_number text.now }
 {
     is_integer(text) || is_real(text)
 }
 
-// Whether a text is in normal form.
+/// Whether a text is in normal form.
 #[tactic(auto, using(crate::proofs::WritableLemmas::normal_tests))]
-fn is_normal(text: &[u8]) -> bool
+pub(crate) fn is_normal(text: &[u8]) -> bool
     ensures { result ≡ bytes_eq (normal_form text.now) text.now }
 {
     normal_len(text) == text.len()
 }
 
-// Whether a text ends in an ampersand.
-fn is_open(text: &[u8]) -> bool
+/// Whether a text ends in an ampersand.
+pub(crate) fn is_open(text: &[u8]) -> bool
     ensures { result ≡ ends_in_ampersand text.now }
 {
     matches!(text, [.., b'&'])

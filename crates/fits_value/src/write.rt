@@ -39,8 +39,8 @@ impl From<AllocError> for WriteFault {
     }
 }
 
-// How many bytes characters take between quotes.
-fn doubled_len(characters: &[u8]) -> usize
+/// How many bytes characters take between quotes.
+pub(crate) fn doubled_len(characters: &[u8]) -> usize
     ensures { result ≡ length (doubled characters.now) }
 {
     let mut len = 0;
@@ -63,8 +63,8 @@ fn width_of(character: u8) -> usize
     if character == b'\'' { 2 } else { 1 }
 }
 
-// How many of the first characters 67 bytes between quotes hold: the 68th is for an ampersand.
-fn piece_len(characters: &[u8]) -> usize
+/// How many of the first characters 67 bytes between quotes hold: the 68th is for an ampersand.
+pub(crate) fn piece_len(characters: &[u8]) -> usize
     ensures value { result ≡ fitting 67 characters.now }
     ensures within { result ≤ length characters.now }
 {

@@ -1,11 +1,12 @@
 //! Laws of written cards, each the contract of a function that does nothing.
-ghost use Rattle.std.specs.Prelude.{◌≡◌, ◌≤◌, ◌<◌, ◌↔◌, ℕ, List, [], ◌∷◌, ◌++◌, length, take, drop, codes, IsTrue, All, Option, None, Some};
+ghost use Rattle.std.specs.Prelude.{◌≡◌, ◌≤◌, ◌<◌, ◌↔◌, ℕ, nat_le, false, List, [], ◌∷◌, ◌++◌, length, take, drop, codes, IsTrue, All, Option, None, Some};
 ghost use Rattle.fits_card.specs.Name.{is_settable};
 ghost use Rattle.fits_card.specs.Header.{IsInnerCard};
 ghost use Rattle.fits_value.specs.Spelling.{doubled};
 ghost use Rattle.fits_value.specs.LongString.{LongSays, cards_from};
 ghost use Rattle.fits_value.specs.Says.{long_says};
-ghost use Rattle.fits_value.specs.Written.{fitting, quoted, card_of, continue_lead, cards_of_string, IsWritable, is_writable, write_says};
+ghost use Rattle.fits_value.specs.Unwritable.{value_end, comment_room};
+ghost use Rattle.fits_value.specs.Written.{fitting, quoted, card_of, continue_lead, cards_of_string, cards_of, all_fit, IsWritable, is_writable, write_says};
 ghost use Rattle.fits_value.specs.declared.strings.TheConstants.{MOST_CHARACTERS};
 ghost use Rattle.fits_value.specs.declared.value.Value.{Value};
 
@@ -54,4 +55,15 @@ pub fn strings_go_over_cards()
         ≡ card_of lead (quoted (take (fitting 67 text) text ++ codes "&")) None
         ∷ cards_of_string continue_lead (length (drop (fitting 67 text) text))
         (drop (fitting 67 text) text) comment }
+{}
+
+/// Which comments fit beside a value: those with no more bytes than it leaves room for.
+pub fn comments_fit_their_room()
+    ensures room { (name comment : List ℕ) (value : Value) → length name ≡ 8
+        → value_end value ≤ 78 → all_fit (cards_of name value (Some comment))
+        ≡ nat_le (length comment) (comment_room (value_end value)) }
+    ensures none { (name comment : List ℕ) (value : Value) → length name ≡ 8
+        → 78 < value_end value → all_fit (cards_of name value (Some comment)) ≡ false }
+    ensures alone { (name : List ℕ) (value : Value) → length name ≡ 8
+        → all_fit (cards_of name value None) ≡ nat_le (value_end value) 80 }
 {}
