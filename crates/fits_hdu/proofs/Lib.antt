@@ -1,6 +1,7 @@
 pub mod ChangeLemmas
 pub mod FindingsLemmas
 pub mod HduLemmas
+pub mod HeadedLemmas
 pub mod KeywordLemmas
 pub mod LayoutLemmas
 pub mod OpenLemmas
@@ -16,6 +17,7 @@ pub mod StampTextLemmas
 pub mod StampingLemmas
 pub mod StandardFacts
 pub mod StateLemmas
+pub mod StatsLemmas
 pub mod UnitLemmas
 pub mod VerdictLemmas
 pub mod SumFacts

@@ -5,6 +5,7 @@ pub mod Keyword
 pub mod Layout
 pub mod NewImage
 pub mod Passing
+pub mod PassingStats
 pub mod Pixels
 pub mod Reading
 pub mod Stamp

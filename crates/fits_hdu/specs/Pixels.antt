@@ -7,6 +7,8 @@ use Rattle.fits_plane.specs.Rectangle.{lies_within, rectangle_size, rectangle_va
 use Rattle.fits_plane.specs.Statistics.{value_statistics}
 use Rattle.fits_plane.specs.declared.lent_paint.LentPaint.{LentPaint}
 pub use Rattle.fits_plane.specs.declared.value_summary.ValueSummary.{ValueSummary as Stats}
+use Rattle.fits_rules.specs.Class.{is_primary}
+use Rattle.fits_rules.specs.Shape.{shape_of}
 use Rattle.fits_rules.specs.declared.array_shape.Shape.{Shape}
 use Rattle.fits_hdu.specs.Hdu.{HduParts}
 use Rattle.fits_image.specs.Kind.{kind_in, offset_of, width_of}
@@ -23,6 +25,12 @@ stored_numbers shape hdu = let layout = layout_of shape hdu.header.cards in pixe
 unfoldable pub stats_of : Shape → HduParts → Option Stats
 stats_of shape hdu =
     option_map (λ kind. value_statistics (offset_of kind) (layout_of shape hdu.header.cards).blank (stored_numbers shape hdu)) (kind_in shape hdu.header.cards)
+
+-- these are the statistics of an HDU, by the shape that its cards describe: none where it is no image of integers
+pub record AreStatsOf (stats : Option Stats) (hdu : HduParts) : Type 0 where
+  pub shape : Shape
+  pub described : shape_of (is_primary shape.class) hdu.header.cards ≡ Ok shape
+  pub are : stats ≡ stats_of shape hdu
 
 -- a number for each pixel of a rectangle, by its rank, in place of those that stood there
 abbrev pub with_numbers : Shape → Kind → List ℕ → List ℕ → (ℕ → ℤ) → HduParts → HduParts

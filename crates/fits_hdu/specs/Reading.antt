@@ -1,6 +1,6 @@
 -- How an HDU is read from a source, whatever is kept of it (own).
-use Rattle.std.specs.Prelude.{◌≡◌, ℕ, Bool, length, Ok}
-use Rattle.fits_card.specs.Header.{Header, header_bytes}
+use Rattle.std.specs.Prelude.{◌≡◌, ℕ, Bool, List, length, Ok, Option, None, Some}
+use Rattle.fits_card.specs.Header.{Header, AreFrontCards, header_bytes}
 use Rattle.fits_stream.specs.Intake.{Supply, Finds, Takes}
 use Rattle.fits_stream.specs.Stream.{FailsOnce, StaysQuiet}
 use Rattle.fits_card.specs.declared.header_reading.ReadHeaderFault.{ReadHeaderFault}
@@ -13,6 +13,7 @@ use Rattle.fits_rules.specs.declared.array_shape.Shape.{Shape}
 use Rattle.fits_rules.specs.declared.mandatory.ShapeFault.{ShapeFault}
 use Rattle.fits_rules.specs.declared.mandatory.ShapeFault.TheVariants as shape
 use Rattle.fits_hdu.specs.Hdu.{HduParts, HasHduFault, IsHdu, hdu_bytes}
+use Rattle.fits_hdu.specs.declared.fault.HduFault.{HduFault}
 use Rattle.fits_hdu.specs.declared.fault.HduFault.TheVariants.{NoEnd, BadShape, Memory}
 use Rattle.fits_hdu.specs.declared.read_fault.ReadHduFault.{ReadHduFault}
 use Rattle.fits_hdu.specs.declared.read_fault.ReadHduFault.TheVariants.{Hdu, Failed}
@@ -65,3 +66,13 @@ pub record IsOutlined (hdu : HduParts) (cards : ℕ) (shape : Shape) (header_len
   pub described : shape_of (is_primary shape.class) hdu.header.cards ≡ Ok shape
   pub header : header_len ≡ length (header_bytes hdu.header)
   pub unit : data_len ≡ length hdu.data_unit
+
+-- the bytes begin with no HDU, for this fault, and these are the cards before END
+pub record FailsAfter (primary : Bool) (cards : List (List ℕ)) (why : HduFault) (bytes : List ℕ) : Type 0 where
+  pub fault : HasHduFault primary bytes why
+  pub front : AreFrontCards bytes cards
+
+-- an HDU with these cards was taken; or none comes, for this fault, and these are the cards before END
+abbrev pub CardsCome : Bool → List (List ℕ) → Option HduFault → Supply → Supply → Type 0
+CardsCome primary cards None old new = TakesHdu (λ hdu. cards ≡ hdu.header.cards) primary old new
+CardsCome primary cards (Some why) old new = Finds old new (FailsAfter primary cards why)

@@ -5,6 +5,7 @@ ghost use Rattle.fits_hdu.specs.Reading.{HduStops, TakesHdu};
 
 use crate::findings::Findings;
 use crate::hdu::Hdu;
+use crate::hdu_stats::HduStats;
 use crate::hdu_sums::HduSums;
 use crate::outline::Outline;
 use crate::read_fault::ReadHduFault;
@@ -88,5 +89,20 @@ impl Kept for HduSums {
         primary: bool,
     ) -> Result<HduSums, ReadHduFault> {
         HduSums::read(alloc, intake, source, primary)
+    }
+}
+
+impl Kept for HduStats {
+    ghost use Rattle.fits_hdu.specs.Pixels.{AreStatsOf};
+
+    ghost keeps = { λ it hdu. AreStatsOf it.stats hdu };
+
+    fn read_next<R: Source>(
+        alloc: Global,
+        intake: &mut Intake,
+        source: &mut R,
+        primary: bool,
+    ) -> Result<HduStats, ReadHduFault> {
+        HduStats::read(alloc, intake, source, primary)
     }
 }

@@ -11,6 +11,7 @@ pub mod LaneLemmas
 pub mod LeafLemmas
 pub mod PaintLemmas
 pub mod PartLemmas
+pub mod PassedLemmas
 pub mod PathLemmas
 pub mod PixelLemmas
 pub mod PlaceLemmas

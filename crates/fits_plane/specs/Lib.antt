@@ -5,6 +5,7 @@ pub mod Layout
 pub mod Leaves
 pub mod Paint
 pub mod Parts
+pub mod Passing
 pub mod Pixels
 pub mod Plane
 pub mod Rectangle

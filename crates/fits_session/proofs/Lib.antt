@@ -7,6 +7,7 @@ pub mod EditLemmas
 pub mod FreshLemmas
 pub mod FileLemmas
 pub mod FrontLemmas
+pub mod HeadersLemmas
 pub mod KeepingLemmas
 pub mod KeptLemmas
 pub mod KeywordLemmas

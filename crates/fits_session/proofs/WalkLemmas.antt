@@ -47,7 +47,7 @@ begins_same : (text xs s : List ℕ) (n : ℕ) → (s ≡ []) ⊎ (n ≤ length 
 begins_same text xs s n few = elim few [ inl none ↦ ap (λ t. bytes_eq text (take n (xs ++ t))) none ∙ ap (λ t. bytes_eq text (take n t)) (append-nil xs) | inr many ↦ ap (bytes_eq text) (take-append-le n xs s many) ]
 
 -- what begins an extension does so whatever follows
-extension_more : (xs s : List ℕ) → begins_extension xs ≡ true → begins_extension (xs ++ s) ≡ true
+pub extension_more : (xs s : List ℕ) → begins_extension xs ≡ true → begins_extension (xs ++ s) ≡ true
 unfolding begins_extension
 extension_more xs s e = begins_more (codes "XTENSION") xs s 8 refl e
 
@@ -89,7 +89,7 @@ not_zero : (n : ℕ) → 0 < n → nat_eq n 0 ≡ false
 not_zero n h = search rules
 
 -- nothing is kept before the first HDU
-first_of : {K : Type 0} (keeps : K → HduParts → Type 0) (ks : List K) (us : List HduParts) → KeepsEach keeps ks us → nat_eq (length ks) 0 ≡ is_first us
+pub first_of : {K : Type 0} (keeps : K → HduParts → Type 0) (ks : List K) (us : List HduParts) → KeepsEach keeps ks us → nat_eq (length ks) 0 ≡ is_first us
 first_of keeps [] [] p = refl
 first_of keeps [] (v ∷ vs) p = absurd p
 first_of keeps (l ∷ ls) [] p = absurd p
@@ -125,7 +125,7 @@ pub next_more : {K : Type 0} (ks new : List K) (k : K) (first : List ℕ) → ne
 next_more ks new k first is e = rw (not_zero (length new) (omega (arith, ap length is, length-append ks (k ∷ [])))) e
 
 -- so an HDU must stand there, and the bytes begin as a file
-next_on : (us : List HduParts) (first s : List ℕ) → NextBegins (is_first us) first → IsFrontOf (joined_hdus us) us [] → (goes_on us (first ++ s) ≡ true) × BeginsAsFits (joined_hdus us ++ (first ++ s))
+pub next_on : (us : List HduParts) (first s : List ℕ) → NextBegins (is_first us) first → IsFrontOf (joined_hdus us) us [] → (goes_on us (first ++ s) ≡ true) × BeginsAsFits (joined_hdus us ++ (first ++ s))
 next_on [] first s begins p = (refl, begins_more (codes "SIMPLE  ") first s 8 refl begins)
 next_on (u ∷ us) first s begins p =
     (extension_more first s begins, front_begins (joined_hdus (u ∷ us) ++ (first ++ s)) (u ∷ us) (first ++ s) (front_rest (u ∷ us) (first ++ s) p) (omega arith))
@@ -138,7 +138,7 @@ fails_at us first s fault size front begins few fails =
     fault_here (joined_hdus us ++ (first ++ s)) us (first ++ s) fault size on.1 (front_rest us (first ++ s) front) on.0 few fails
 
 -- no more bytes are ahead and in sight than may be taken
-few_after : (a b : Supply) (bytes s : List ℕ) → Takes a b bytes → length a.ahead + a.left ≤ FILE_LIMIT → length s ≤ b.left → length (bytes ++ (b.ahead ++ s)) ≤ FILE_LIMIT
+pub few_after : (a b : Supply) (bytes s : List ℕ) → Takes a b bytes → length a.ahead + a.left ≤ FILE_LIMIT → length s ≤ b.left → length (bytes ++ (b.ahead ++ s)) ≤ FILE_LIMIT
 few_after a b bytes s p limit le = omega (arith, limit, takes_fewer a b bytes p, le, length-append bytes (b.ahead ++ s), length-append b.ahead s)
 
 -- a fault of the next HDU is the file's

@@ -4,6 +4,7 @@ pub mod Edit
 pub mod File
 pub mod Fresh
 pub mod HduEdit
+pub mod Headers
 pub mod Keeping
 pub mod Limits
 pub mod Marked

@@ -7,9 +7,11 @@ use Rattle.fits_stream.specs.declared.reading.ReadFault.{ReadFault}
 use Rattle.fits_stream.specs.declared.reading.ReadFault.TheVariants as read
 use Rattle.fits_hdu.specs.Findings.{AreFindings}
 use Rattle.fits_hdu.specs.Hdu.{HduParts}
+use Rattle.fits_hdu.specs.Pixels.{AreStatsOf}
 use Rattle.fits_hdu.specs.Reading.{IsOutlined}
 use Rattle.fits_hdu.specs.Sums.{AreSumsOf}
 use Rattle.fits_hdu.specs.declared.findings.Findings.{Findings}
+use Rattle.fits_hdu.specs.declared.hdu_stats.HduStats.{HduStats}
 use Rattle.fits_hdu.specs.declared.hdu_sums.HduSums.{HduSums}
 use Rattle.fits_hdu.specs.declared.outline.Outline.{Outline}
 use Rattle.fits_hdu.specs.declared.read_fault.ReadHduFault.{ReadHduFault}
@@ -106,3 +108,11 @@ is_summed it hdu = AreSumsOf it.datasum it.verdicts hdu
 -- these are the sums of a file's HDUs
 abbrev pub AreSumsOfFile : List HduSums → List ℕ → Type 0
 AreSumsOfFile sums bytes = IsKeptOf is_summed sums bytes
+
+-- these are an HDU's statistics
+abbrev pub are_stats : HduStats → HduParts → Type 0
+are_stats it hdu = AreStatsOf it.stats hdu
+
+-- these are the statistics of a file's HDUs
+abbrev pub AreStatisticsOfFile : List HduStats → List ℕ → Type 0
+AreStatisticsOfFile stats bytes = IsKeptOf are_stats stats bytes

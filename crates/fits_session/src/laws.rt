@@ -10,6 +10,7 @@ ghost use Rattle.fits_image.specs.declared.kind.Kind.{Kind};
 ghost use Rattle.fits_session.specs.CardEdit.{set_of, HasCardSizes, LeavesNoMore};
 ghost use Rattle.fits_session.specs.Edit.{hdu_of, with_hdu, HasSizes};
 ghost use Rattle.fits_session.specs.File.{FileParts, file_bytes, IsFile, IsFileOf};
+ghost use Rattle.fits_session.specs.Headers.{HeadersTellFaults, HeadersTellFiles};
 ghost use Rattle.fits_session.specs.Fresh.{Answered, EditsInTurn, marked_after_all, fresh, Fresh, ReadsAs};
 ghost use Rattle.fits_session.specs.Marked.{marked_after, marked_refusal, AreRight, Marked, UnmarkedArePlain};
 ghost use Rattle.fits_session.specs.Opening.{HasOpenFault, IsFileOrNot};
@@ -35,6 +36,13 @@ pub fn one_file()
 pub fn one_open_fault()
     ensures { (bytes : List ℕ) (e f : OpenFault) → HasOpenFault bytes e → HasOpenFault bytes f
         → e ≡ f }
+{}
+
+/// The headers that are read of bytes are those of a file, or the bytes have the fault that was
+/// found.
+pub fn headers_tell_files_and_faults()
+    ensures files { HeadersTellFiles }
+    ensures faults { HeadersTellFaults }
 {}
 
 /// Bytes that are a file have no fault.

@@ -5,6 +5,7 @@ mod card_edit;
 mod corner;
 mod edit;
 mod hdu_edit;
+mod headers;
 mod laws;
 mod limits;
 mod name_counts;
@@ -20,6 +21,7 @@ mod refusal;
 mod reporting;
 mod save_fault;
 mod session;
+mod statistics;
 mod summing;
 mod walking;
 mod work_laws;
@@ -28,12 +30,13 @@ pub use card_edit::CardEdit;
 pub use corner::Corner;
 pub use edit::Edit;
 pub use hdu_edit::HduEdit;
+pub use headers::{Headers, read_headers};
 pub use laws::{
     a_file_or_a_fault, a_set_keyword_says_its_value, accepted_edits_in_order,
     an_edited_file_is_a_file, as_many_cards_are_never_too_large, fewer_cards_pass_no_limit,
-    kept_hdus_stay_right, no_fault_where_open, no_refusal_is_memory, one_file, one_fresh_reading,
-    one_open_fault, the_report_is_all_problems, the_report_is_in_order, unmarked_edits_are_plain,
-    which_kind_an_hdu_has,
+    headers_tell_files_and_faults, kept_hdus_stay_right, no_fault_where_open, no_refusal_is_memory,
+    one_file, one_fresh_reading, one_open_fault, the_report_is_all_problems,
+    the_report_is_in_order, unmarked_edits_are_plain, which_kind_an_hdu_has,
 };
 pub use limits::{FILE_LIMIT, HDU_LIMIT, within};
 pub use offsets::HduOffsets;
@@ -47,6 +50,7 @@ pub use refusal::Refusal;
 pub use reporting::read_report;
 pub use save_fault::SaveFault;
 pub use session::Session;
+pub use statistics::read_statistics;
 pub use summing::read_sums;
 pub use work_laws::{
     edits_of_cards_read_few, edits_of_pixels_scan_few, edits_of_the_list_keep_counts,

@@ -131,17 +131,17 @@ fn is_of_bytes(fault: ReadFileFault) -> bool
     }
 }
 
-// Whether a file begins here.
+/// Whether a file begins here.
 #[tactic(auto)]
-fn begins_file(bytes: &[u8]) -> bool
+pub(crate) fn begins_file(bytes: &[u8]) -> bool
     ensures { result ≡ starts_with nat_eq bytes.now (codes "SIMPLE  ") }
 {
     bytes.starts_with(b"SIMPLE  ")
 }
 
-// Whether an extension begins here.
+/// Whether an extension begins here.
 #[tactic(auto, unfolding(crate::specs::File::begins_extension))]
-fn begins_extension(bytes: &[u8]) -> bool
+pub(crate) fn begins_extension(bytes: &[u8]) -> bool
     ensures { result ≡ begins_extension bytes.now }
 {
     bytes.starts_with(b"XTENSION")
@@ -157,8 +157,8 @@ fn file_fault(fault: ReadHduFault, h: usize) -> ReadFileFault
     }
 }
 
-// The same of a fault of its bytes.
-fn open_fault(fault: HduFault, h: usize) -> OpenFault
+/// The same of a fault of its bytes.
+pub(crate) fn open_fault(fault: HduFault, h: usize) -> OpenFault
     ensures { result ≡ open_fault_of fault h }
 {
     match fault {

@@ -1,0 +1,50 @@
+ghost use Rattle.std.specs.Prelude.{◌≡◌};
+
+use crate::described::read_described;
+use crate::fault::HduFault;
+use crate::image_pixels::image_pixels;
+use crate::read_fault::ReadHduFault;
+use crate::unit_stats::read_unit_stats;
+use fits_plane::ValueSummary;
+use fits_stream::{Intake, Source};
+use std::alloc::Global;
+
+/// The statistics of an HDU's pixels: what is told of them where it passes by.
+#[derive(Clone, Copy)]
+pub struct HduStats {
+    /// Those of their values, where it is an image of integers.
+    pub stats: Option<ValueSummary>,
+}
+
+impl HduStats {
+    ghost use Rattle.std.specs.Prelude.{◌≡◌, ◌+◌, ◌<◌, ◌≤◌, ◌^◌, length, IfOk, IfErr, OnOk};
+    ghost use Rattle.fits_stream.specs.Intake.{supply};
+    ghost use Rattle.fits_hdu.specs.Pixels.{AreStatsOf};
+    ghost use Rattle.fits_hdu.specs.Reading.{HduStops, TakesHdu};
+
+    /// The statistics of the HDU that comes next in a source, as `Hdu::read`. The data unit of an
+    /// image of integers passes by, one piece of it held at a time; any other is skipped.
+    pub fn read<R: Source>(
+        alloc: Global,
+        intake: &mut Intake,
+        source: &mut R,
+        primary: bool,
+    ) -> Result<HduStats, ReadHduFault>
+        requires { length intake.old.ahead + intake.old.left ≤ 2 ^ 34 }
+        ensures ok { IfOk result (λ it. TakesHdu (AreStatsOf it.stats) primary
+            (supply (R.state source.old) intake.old) (supply (R.state source.new) intake.new)) }
+        ensures err { IfErr result (HduStops primary
+            (supply (R.state source.old) intake.old) (supply (R.state source.new) intake.new)) }
+    {
+        let head = read_described(alloc, intake, source, primary)?;
+        let unit_len = head.unit_len;
+        let Ok(image) = image_pixels(alloc, head) else {
+            return Err(ReadHduFault::Hdu(HduFault::Memory));
+        };
+        match read_unit_stats(intake, source, unit_len, image) {
+            Ok(Some(found)) => Ok(found),
+            Ok(None) => Err(ReadHduFault::Hdu(HduFault::ShortData)),
+            Err(_) => Err(ReadHduFault::Failed),
+        }
+    }
+}

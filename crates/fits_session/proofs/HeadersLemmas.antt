@@ -1,0 +1,219 @@
+-- The headers of a source, as far as they can be read.
+use Rattle.std.proofs.Common.{◌≡◌, ℕ, ◌+◌, ◌<◌, ◌≤◌, Bool, true, false, List, [], ◌∷◌, ◌++◌, length, take, map, refl, subst, ap, sym, ◌∙◌, arith, Option, Some, None, IfSome, inl, inr}
+use Rattle.std.specs.Prelude.{nat_eq, IsTrue, ◌↔◌}
+use Rattle.std.proofs.lemmas.Bool.{cases_lt}
+use Rattle.std.proofs.lemmas.List.{append-nil, length-append, map-append}
+use Rattle.std.specs.Io.KnownBytes.{Consumes}
+use Rattle.fits_card.specs.CardList.{CardStore}
+use Rattle.fits_stream.specs.Intake.{supply, Finds, IntakeState, IsSpent, Supply, Takes}
+use Rattle.fits_stream.specs.Stream.{SourceState}
+use Rattle.fits_stream.proofs.SightLemmas.{finds_begun, finds_next, finds_spent, past_limit, within_limit}
+use Rattle.fits_hdu.specs.Hdu.{HduParts}
+use Rattle.fits_hdu.specs.Reading.{CardsCome, FailsAfter, TakesHdu}
+use Rattle.fits_hdu.specs.declared.fault.HduFault.{HduFault}
+use Rattle.fits_hdu.specs.declared.fault.HduFault.TheVariants as hdu_fault
+use Rattle.fits_session.specs.File.{begins_extension, is_first, joined_hdus, IsFrontOf}
+use Rattle.fits_session.specs.declared.limits.TheConstants.{FILE_LIMIT, HDU_LIMIT}
+use Rattle.fits_session.specs.Headers.{cards_of, read_cards, AreHeadersIn, FaultStays, HeadersTellFaults, HeadersTellFiles, IsFirstOf, ShowsHeaders, StopsBy, StopsHere}
+use Rattle.fits_session.specs.Opening.{BeginsAsFits, FailsAt, HasOpenFault, open_fault_of}
+use Rattle.fits_session.specs.Reading.{KeepsEach, NextBegins, Walked}
+use Rattle.fits_session.specs.declared.open_fault.OpenFault.{OpenFault}
+use Rattle.fits_session.specs.declared.open_fault.OpenFault.TheVariants.{NotFits, NoEnd, BadShape, ShortData, TooLarge, Memory}
+use Rattle.fits_session.proofs.FrontLemmas.{front_begins, front_none, goes_on-some}
+use Rattle.fits_session.proofs.WalkLemmas.{each_length, extension_more, extension_same, few_after, first_of, front_rest, next_on}
+
+-- a header is that of its HDU
+abbrev pub is_header : CardStore → HduParts → Type 0
+is_header list hdu = list.header.cards ≡ hdu.header.cards
+
+-- headers one by one are those of their HDUs
+each_cards : (ks : List CardStore) (us : List HduParts) → KeepsEach is_header ks us → read_cards ks ≡ cards_of us
+each_cards [] [] p = refl
+each_cards [] (u ∷ us) p = absurd p
+each_cards (k ∷ ks) [] p = absurd p
+each_cards (k ∷ ks) (u ∷ us) p = rw (p.0, each_cards ks us p.1) refl
+
+-- what was found is so of what follows from it
+finds_then : (P Q : List ℕ → Type 0) (a b : Supply) → Finds a b P → ((s : List ℕ) → P s → Q s) → Finds a b Q
+finds_then P Q a b f next = record { sight = f.sight; in_sight = f.in_sight; is = next (a.ahead ++ f.sight) f.is; bytes = f.bytes; taken = f.taken }
+
+-- bytes that don't begin as a file have no header
+none_shown : (bytes : List ℕ) → HasOpenFault bytes NotFits → AreHeadersIn [] (Some NotFits) bytes
+none_shown bytes p = record {
+  hdus = [];
+  rest = bytes;
+  last = [];
+  size = p.0;
+  front = front_none bytes;
+  begins = λ some. absurd (omega (arith, some));
+  count = omega arith;
+  stops = (refl, p.1, refl);
+  are = refl;
+}
+
+-- so none is shown
+pub headers_none : (ks : List CardStore) (a b : Supply) → ks ≡ [] → Finds a b (λ bytes. HasOpenFault bytes NotFits) → Finds a b (AreHeadersIn (read_cards ks) (Some NotFits))
+headers_none ks a b none f = rw none (finds_then (λ bytes. HasOpenFault bytes NotFits) (AreHeadersIn [] (Some NotFits)) a b f none_shown)
+
+-- one more is still few
+pub few_more : (n m : ℕ) → n < HDU_LIMIT → m ≡ n + 1 → (m ≡ HDU_LIMIT → ⊥) → m < HDU_LIMIT
+few_more n m few is full = elim (cases_lt m HDU_LIMIT) [ inl less ↦ less | inr more ↦ absurd (full (omega (arith, few, is, more))) ]
+
+-- one header more
+read_more : (ks new : List CardStore) (k : CardStore) → new ≡ ks ++ k ∷ [] → read_cards new ≡ read_cards ks ++ k.header.cards ∷ []
+read_more ks new k is = ap read_cards is ∙ map-append (λ (list : CardStore). list.header.cards) ks (k ∷ [])
+
+-- an HDU that can't be read is shown by its fault
+stops_by : (us : List HduParts) (rest : List ℕ) (last : List (List (List ℕ))) (h : ℕ) (why : HduFault) → StopsHere us rest last h why → StopsBy us rest last (Some (open_fault_of why h))
+stops_by us rest last h hdu_fault.NoEnd p = p
+stops_by us rest last h (hdu_fault.BadShape place) p = p
+stops_by us rest last h hdu_fault.ShortData p = p
+stops_by us rest last h hdu_fault.Memory p = absurd (p.here.fault)
+
+-- of an HDU that can't be read, after others, the cards before END are shown
+stops_shown : (us : List HduParts) (first s : List ℕ) (cards : List (List ℕ)) (all : List (List (List ℕ))) (h : ℕ) (why : HduFault) → length (joined_hdus us ++ (first ++ s)) ≤ FILE_LIMIT → IsFrontOf (joined_hdus us) us [] → NextBegins (is_first us) first → length us < HDU_LIMIT
+    → h ≡ length us + 1 → all ≡ cards_of us ++ cards ∷ [] → FailsAfter (is_first us) cards why (first ++ s) → AreHeadersIn all (Some (open_fault_of why h)) (joined_hdus us ++ (first ++ s))
+stops_shown us first s cards all h why size front begins few at is fails =
+    let on = next_on us first s begins front in
+    record {
+      hdus = us;
+      rest = first ++ s;
+      last = cards ∷ [];
+      size = size;
+      front = front_rest us (first ++ s) front;
+      begins = λ some. on.1;
+      count = omega (arith, few);
+      stops = stops_by us (first ++ s) (cards ∷ []) h why (record { cards = cards; more = on.0; few = few; here = fails; at = at; last_is = refl });
+      are = is;
+    }
+
+-- an HDU came
+pub cards_whole : (primary : Bool) (k : CardStore) (fault : Option HduFault) (a b : Supply) → CardsCome primary k.header.cards fault a b → fault ≡ None → TakesHdu (is_header k) primary a b
+cards_whole primary k fault a b p none = subst (λ f. CardsCome primary k.header.cards f a b) none p
+
+-- or none did
+pub cards_cut : (primary : Bool) (k : CardStore) (fault : Option HduFault) (why : HduFault) (a b : Supply) → CardsCome primary k.header.cards fault a b → fault ≡ Some why → Finds a b (FailsAfter primary k.header.cards why)
+cards_cut primary k fault why a b p some = subst (λ f. CardsCome primary k.header.cards f a b) some p
+
+-- so the walk over headers ends
+pub headers_stop : (ks new : List CardStore) (k : CardStore) (a b c : Supply) (h : ℕ) (primary : Bool) (why : HduFault) (found : OpenFault) → length a.ahead + a.left ≤ FILE_LIMIT → Walked is_header ks a b → NextBegins (nat_eq (length ks) 0) b.ahead → length ks < HDU_LIMIT
+    → primary ≡ nat_eq (length ks) 0 → new ≡ ks ++ k ∷ [] → h ≡ length new → found ≡ open_fault_of why h → Finds b c (FailsAfter primary k.header.cards why) → Finds a c (AreHeadersIn (read_cards new) (Some found))
+headers_stop ks new k a b c h primary why found limit p begins few at is place same f =
+    let us = p.hdus in
+    let count : length ks ≡ length us = each_length is_header ks us p.each in
+    let same_first : nat_eq (length ks) 0 ≡ is_first us = first_of is_header ks us p.each in
+    let next : NextBegins (is_first us) b.ahead = subst (λ (b' : Bool). NextBegins b' b.ahead) same_first begins in
+    let here : Finds b c (FailsAfter (is_first us) k.header.cards why) = subst (λ (b' : Bool). Finds b c (FailsAfter b' k.header.cards why)) (at ∙ same_first) f in
+    let shown : read_cards new ≡ cards_of us ++ k.header.cards ∷ [] = read_more ks new k is ∙ ap (λ t. t ++ k.header.cards ∷ []) (each_cards ks us p.each) in
+    let number : h ≡ length us + 1 = omega (arith, place, count, ap length is, length-append ks (k ∷ [])) in
+    rw same (finds_next (FailsAfter (is_first us) k.header.cards why) (AreHeadersIn (read_cards new) (Some (open_fault_of why h))) a b c (joined_hdus us) p.taken here
+    (λ s le fails. stops_shown us b.ahead s k.header.cards (read_cards new) h why (few_after a b (joined_hdus us) s p.taken limit le) p.front next (omega (arith, few, count)) number shown fails))
+
+-- HDUs after which none must stand are shown whole
+all_shown : (us : List HduParts) (rest : List ℕ) (all : List (List (List ℕ))) (fault : Option OpenFault) → 0 < length us → length us ≤ HDU_LIMIT → length (joined_hdus us ++ rest) ≤ FILE_LIMIT → IsFrontOf (joined_hdus us) us [] → all ≡ cards_of us
+    → StopsBy us rest [] fault → AreHeadersIn all fault (joined_hdus us ++ rest)
+all_shown us rest all fault some few size front is stops = record {
+  hdus = us;
+  rest = rest;
+  last = [];
+  size = size;
+  front = front_rest us rest front;
+  begins = λ more. front_begins (joined_hdus us ++ rest) us rest (front_rest us rest front) some;
+  count = few;
+  stops = stops;
+  are = is ∙ sym (append-nil (cards_of us));
+}
+
+-- no further HDU begins: those of a file are shown
+pub headers_whole : (ks : List CardStore) (a b : Supply) → length a.ahead + a.left ≤ FILE_LIMIT → Walked is_header ks a b → 0 < length ks → length ks ≤ HDU_LIMIT → begins_extension b.ahead ≡ false → (length b.ahead < 2880 → IsSpent b)
+    → Finds a b (AreHeadersIn (read_cards ks) None)
+headers_whole ks a b limit p some few ends short =
+    let us = p.hdus in
+    let count : length ks ≡ length us = each_length is_header ks us p.each in
+    let are : read_cards ks ≡ cards_of us = each_cards ks us p.each in
+    elim (cases_lt (length b.ahead) 2880) [
+      | inl less ↦ finds_spent (AreHeadersIn (read_cards ks) None) a b (joined_hdus us) p.taken (short less)
+          (all_shown us b.ahead (read_cards ks) None (omega (arith, some, count)) (omega (arith, few, count)) (subst (λ t. length (joined_hdus us ++ t) ≤ FILE_LIMIT) (append-nil b.ahead) (few_after a b (joined_hdus us) [] p.taken limit (omega arith))) p.front are
+          (goes_on-some us b.ahead (omega (arith, some, count)) ∙ ends, refl))
+      | inr many ↦ finds_begun (AreHeadersIn (read_cards ks) None) a b (joined_hdus us) p.taken
+          (λ s le. all_shown us (b.ahead ++ s) (read_cards ks) None (omega (arith, some, count)) (omega (arith, few, count)) (few_after a b (joined_hdus us) s p.taken limit le) p.front are
+          (goes_on-some us (b.ahead ++ s) (omega (arith, some, count)) ∙ (extension_same b.ahead s (inr (omega (arith, many))) ∙ ends), refl))
+    ]
+
+-- one begins after as many as a file may have: those are shown
+pub headers_full : (ks : List CardStore) (a b : Supply) → length a.ahead + a.left ≤ FILE_LIMIT → Walked is_header ks a b → length ks ≡ HDU_LIMIT → begins_extension b.ahead ≡ true → Finds a b (AreHeadersIn (read_cards ks) (Some TooLarge))
+headers_full ks a b limit p all more =
+    let us = p.hdus in
+    let count : length us ≡ HDU_LIMIT = omega (arith, each_length is_header ks us p.each, all) in
+    finds_begun (AreHeadersIn (read_cards ks) (Some TooLarge)) a b (joined_hdus us) p.taken
+    (λ s le. all_shown us (b.ahead ++ s) (read_cards ks) (Some TooLarge) (omega (arith, count)) (omega (arith, count)) (few_after a b (joined_hdus us) s p.taken limit le) p.front (each_cards ks us p.each)
+    (count, extension_more b.ahead s more, refl))
+
+-- how many bytes a source had, by what was taken and what is left
+left_in : (x y : Option (List ℕ)) (more : List ℕ) (P Q : ℕ → Type 0) → Consumes x y more → IfSome y (λ bytes. P (length bytes)) → ((n : ℕ) → P n → Q (length more + n)) → IfSome x (λ bytes. Q (length bytes))
+left_in None y more P Q p few next = tt
+left_in (Some xs) None more P Q p few next = absurd p
+left_in (Some xs) (Some ys) more P Q p few next = subst Q (sym (ap length p ∙ length-append more ys)) (next (length ys) few)
+
+-- more is left where a test says so
+pub over_when : (a : Option (List ℕ)) (left : ℕ) (more : Bool) → more ≡ true → IfSome a (λ xs. IsTrue more ↔ (left < length xs)) → IfSome a (λ xs. left < length xs)
+over_when a left more is p = past_limit a left (subst (λ b. IfSome a (λ xs. IsTrue b ↔ (left < length xs))) is p)
+
+-- and no more where it says not
+pub within_when : (a : Option (List ℕ)) (left : ℕ) (more : Bool) → more ≡ false → IfSome a (λ xs. IsTrue more ↔ (left < length xs)) → IfSome a (λ xs. length xs ≤ left)
+within_when a left more is p = within_limit a left (subst (λ b. IfSome a (λ xs. IsTrue b ↔ (left < length xs))) is p)
+
+-- what was found stays where no more is left than may be taken
+pub headers_stay : (old : SourceState) (b : Supply) (i : IntakeState) (headers : List (List (List ℕ))) (found : Option OpenFault) → i ≡ record { ahead = []; left = FILE_LIMIT } → Finds (supply old i) b (AreHeadersIn headers found)
+    → IfSome b.source.remaining (λ bytes. length bytes ≤ b.left) → ShowsHeaders old headers found
+headers_stay old b i headers found is f few =
+    let g : Finds (record { ahead = []; source = old; left = FILE_LIMIT }) b (AreHeadersIn headers found) = subst (λ (j : IntakeState). Finds (supply old j) b (AreHeadersIn headers found)) is f in
+    record {
+      found = found;
+      bytes = g.sight;
+      first = g.in_sight;
+      are = g.is;
+      fault_is = inl (refl, left_in old.remaining b.source.remaining g.taken.more (λ n. n ≤ b.left) (λ n. n ≤ FILE_LIMIT) g.taken.drawn.read.gone few (λ n le. omega (arith, le, g.taken.drawn.count)));
+    }
+
+-- and is another where more is
+pub headers_over : (old : SourceState) (b : Supply) (i : IntakeState) (headers : List (List (List ℕ))) (found : Option OpenFault) → i ≡ record { ahead = []; left = FILE_LIMIT } → Finds (supply old i) b (AreHeadersIn headers found)
+    → IfSome b.source.remaining (λ bytes. b.left < length bytes) → ShowsHeaders old headers (Some TooLarge)
+headers_over old b i headers found is f many =
+    let g : Finds (record { ahead = []; source = old; left = FILE_LIMIT }) b (AreHeadersIn headers found) = subst (λ (j : IntakeState). Finds (supply old j) b (AreHeadersIn headers found)) is f in
+    record {
+      found = found;
+      bytes = g.sight;
+      first = g.in_sight;
+      are = g.is;
+      fault_is = inr (refl, left_in old.remaining b.source.remaining g.taken.more (λ n. b.left < n) (λ n. FILE_LIMIT < n) g.taken.drawn.read.gone many (λ n less. omega (arith, less, g.taken.drawn.count)));
+    }
+
+-- headers without a fault are those of a file
+pub tell_files : HeadersTellFiles
+tell_files bytes headers p = (
+  record { hdus = p.hdus; tail = p.rest },
+  record { front = p.front; ends = p.stops.0; size = p.size; count = p.count },
+  p.are ∙ ap (λ t. cards_of p.hdus ++ t) p.stops.1 ∙ append-nil (cards_of p.hdus),
+)
+
+-- an HDU that can't be read is the first of the file
+fails_there : (bytes : List ℕ) (headers : List (List (List ℕ))) (fault : Option OpenFault) (h : ℕ) (why : HduFault) (p : AreHeadersIn headers fault bytes) → StopsHere p.hdus p.rest p.last h why → FailsAt bytes h why
+fails_there bytes headers fault h why p s = record {
+  size = p.size;
+  begins = p.begins (omega (arith, ap length s.last_is));
+  stops = record { before = p.hdus; rest = p.rest; front = p.front; more = s.more; few = s.few; here = s.here.fault; at = s.at };
+}
+
+-- bytes without an HDU before them are all of them
+rest_all : (bytes : List ℕ) (us : List HduParts) (rest : List ℕ) → IsFrontOf bytes us rest → us ≡ [] → bytes ≡ rest
+rest_all bytes us rest p none = p.joined ∙ ap (λ vs. joined_hdus vs ++ rest) none
+
+-- headers with a fault are of bytes that have it
+pub tell_faults : HeadersTellFaults
+tell_faults bytes headers NotFits p = (p.size, λ begins. p.stops.1 (subst BeginsAsFits (rest_all bytes p.hdus p.rest p.front p.stops.0) begins))
+tell_faults bytes headers (NoEnd h) p = fails_there bytes headers (Some (NoEnd h)) h hdu_fault.NoEnd p p.stops
+tell_faults bytes headers (BadShape h place) p = fails_there bytes headers (Some (BadShape h place)) h (hdu_fault.BadShape place) p p.stops
+tell_faults bytes headers (ShortData h) p = fails_there bytes headers (Some (ShortData h)) h hdu_fault.ShortData p p.stops
+tell_faults bytes headers TooLarge p = inr (record { before = p.hdus; rest = p.rest; front = p.front; all = p.stops.0; more = p.stops.1 })
+tell_faults bytes headers Memory p = absurd p.stops

@@ -1,0 +1,14 @@
+use Rattle.std.proofs.Common.{Some}
+use Rattle.fits_session.specs.Headers.{read_cards}
+use Rattle.fits_session.proofs.HeadersLemmas.{headers_over, headers_stay, over_when, within_when}
+use Rattle.fits_session.proofs.headers.read_headers.Goals as goal
+
+-- more is left than may be taken
+pub returns-in-Ok-true-clause-ok : goal.returns-in-Ok-true-clause-ok
+returns-in-Ok-true-clause-ok g c =
+    headers_over (g.R.Source.state c.args.source.now) _ c.in_ok-intake.intake (read_cards c.walk_headers.new.headers.items) c.in-Ok.fault c.in_ok-intake.ensures c.in-Ok.ensures.ok (over_when _ _ c.in-Ok-true.field-0 c.in-Ok-true.field-0-test c.in-Ok-true.ensures.more)
+
+-- no more is
+pub returns-in-Ok-false-clause-ok : goal.returns-in-Ok-false-clause-ok
+returns-in-Ok-false-clause-ok g c =
+    headers_stay (g.R.Source.state c.args.source.now) _ c.in_ok-intake.intake (read_cards c.walk_headers.new.headers.items) c.in-Ok.fault c.in_ok-intake.ensures c.in-Ok.ensures.ok (within_when _ _ c.in-Ok-false.field-0 c.in-Ok-false.field-0-test c.in-Ok-false.ensures.more)

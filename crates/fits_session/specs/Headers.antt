@@ -1,0 +1,80 @@
+-- The headers of a file, also of one that doesn't open: as far as they can be read (own; FITS Standard 4.0, sections 3.1 and 3.3.1).
+use Rattle.std.specs.Prelude.{◌≡◌, ◌⊎◌, ℕ, ◌+◌, ◌<◌, ◌≤◌, true, false, List, [], ◌∷◌, ◌++◌, length, take, map, Option, Some, None, IfSome, MatchOption}
+use Rattle.fits_card.specs.CardList.{CardStore}
+use Rattle.fits_stream.specs.Stream.{SourceState, StaysQuiet}
+use Rattle.fits_hdu.specs.Hdu.{HduParts}
+use Rattle.fits_hdu.specs.Reading.{FailsAfter}
+use Rattle.fits_hdu.specs.declared.fault.HduFault.{HduFault}
+use Rattle.fits_hdu.specs.declared.fault.HduFault.TheVariants as hdu_fault
+use Rattle.fits_session.specs.File.{FileParts, begins_extension, goes_on, is_first, IsFileOf, IsFrontOf}
+use Rattle.fits_session.specs.Opening.{BeginsAsFits, HasOpenFault}
+use Rattle.fits_session.specs.declared.limits.TheConstants.{FILE_LIMIT, HDU_LIMIT}
+use Rattle.fits_session.specs.declared.open_fault.OpenFault.{OpenFault}
+use Rattle.fits_session.specs.declared.open_fault.OpenFault.TheVariants.{NotFits, NoEnd, BadShape, ShortData, TooLarge, Memory}
+
+-- the cards of each header
+abbrev pub cards_of : List HduParts → List (List (List ℕ))
+cards_of hdus = map (λ (hdu : HduParts). hdu.header.cards) hdus
+
+-- the same of headers that were read
+abbrev pub read_cards : List CardStore → List (List (List ℕ))
+read_cards headers = map (λ (list : CardStore). list.header.cards) headers
+
+-- an HDU must stand here, after these, and can't be read for this fault: of its header the cards before END are shown
+pub record StopsHere (hdus : List HduParts) (rest : List ℕ) (last : List (List (List ℕ))) (h : ℕ) (why : HduFault) : Type 0 where
+  pub cards : List (List ℕ)
+  pub more : goes_on hdus rest ≡ true
+  pub few : length hdus < HDU_LIMIT
+  pub here : FailsAfter (is_first hdus) cards why rest
+  pub at : h ≡ length hdus + 1
+  pub last_is : last ≡ cards ∷ []
+
+-- why no HDU is read after these, and what is shown of one that can't be
+abbrev pub StopsBy : List HduParts → List ℕ → List (List (List ℕ)) → Option OpenFault → Type 0
+StopsBy hdus rest last None = (goes_on hdus rest ≡ false) × (last ≡ [])
+StopsBy hdus rest last (Some NotFits) = (hdus ≡ []) × (BeginsAsFits rest → ⊥) × (last ≡ [])
+StopsBy hdus rest last (Some (NoEnd h)) = StopsHere hdus rest last h hdu_fault.NoEnd
+StopsBy hdus rest last (Some (BadShape h place)) = StopsHere hdus rest last h (hdu_fault.BadShape place)
+StopsBy hdus rest last (Some (ShortData h)) = StopsHere hdus rest last h hdu_fault.ShortData
+StopsBy hdus rest last (Some TooLarge) = (length hdus ≡ HDU_LIMIT) × (begins_extension rest ≡ true) × (last ≡ [])
+StopsBy hdus rest last (Some Memory) = ⊥
+
+-- these are the cards of the headers of bytes that are no more than a file may have: those of its HDUs, and those of one that can't be
+-- read for this fault
+pub record AreHeadersIn (headers : List (List (List ℕ))) (fault : Option OpenFault) (bytes : List ℕ) : Type 0 where
+  pub hdus : List HduParts
+  pub rest : List ℕ
+  pub last : List (List (List ℕ))
+  pub size : length bytes ≤ FILE_LIMIT
+  pub front : IsFrontOf bytes hdus rest
+  pub begins : 0 < length hdus + length last → BeginsAsFits bytes
+  pub count : length hdus ≤ HDU_LIMIT
+  pub stops : StopsBy hdus rest last fault
+  pub are : headers ≡ cards_of hdus ++ last
+
+-- as many bytes as a file may have, as far as a source tells them
+abbrev pub IsFirstOf : SourceState → List ℕ → Type 0
+IsFirstOf old bytes = MatchOption old.remaining (length bytes ≤ FILE_LIMIT) (λ all. bytes ≡ take FILE_LIMIT all)
+
+-- the fault found in these stays, unless there are more: then the file is too large
+abbrev pub FaultStays : SourceState → Option OpenFault → Option OpenFault → Type 0
+FaultStays old found fault =
+    ((fault ≡ found) × IfSome old.remaining (λ all. length all ≤ FILE_LIMIT))
+    ⊎ ((fault ≡ Some TooLarge) × IfSome old.remaining (λ all. FILE_LIMIT < length all))
+
+-- these are the cards of the headers that a source has, in as many bytes as a file may have, and this is why it isn't a file, if it isn't
+pub record ShowsHeaders (old : SourceState) (headers : List (List (List ℕ))) (fault : Option OpenFault) : Type 0 where
+  pub found : Option OpenFault
+  pub bytes : List ℕ
+  pub first : IsFirstOf old bytes
+  pub are : AreHeadersIn headers found bytes
+  pub fault_is : FaultStays old found fault
+
+-- a file has no fault, and its headers are those of its HDUs
+abbrev pub HeadersTellFiles : Type 0
+HeadersTellFiles = (bytes : List ℕ) (headers : List (List (List ℕ))) → AreHeadersIn headers None bytes
+    → (file : FileParts) × IsFileOf bytes file × (headers ≡ cards_of file.hdus)
+
+-- where one is found it is the fault of the bytes
+abbrev pub HeadersTellFaults : Type 0
+HeadersTellFaults = (bytes : List ℕ) (headers : List (List (List ℕ))) (why : OpenFault) → AreHeadersIn headers (Some why) bytes → HasOpenFault bytes why

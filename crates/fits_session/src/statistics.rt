@@ -1,0 +1,28 @@
+//! The statistics of the HDUs of a source, whose data pass by.
+ghost use Rattle.std.specs.Prelude.{IfOk, IfErr, OnOk};
+ghost use Rattle.fits_stream.specs.Intake.{Gives};
+ghost use Rattle.fits_stream.specs.Stream.{StaysQuiet};
+ghost use Rattle.fits_session.specs.Reading.{AreStatisticsOfFile, ReadStops};
+
+use crate::read_fault::ReadFileFault;
+use crate::walking::read_kept;
+use fits_hdu::HduStats;
+use fits_stream::Source;
+use std::alloc::Global;
+
+/// The statistics of the HDUs of the file that a source has, which is read as `Session::read` reads
+/// it.
+///
+/// No data unit and no tail is kept. Data that are no image of integers are skipped.
+#[tactic(auto, using(crate::proofs::WalkLemmas::outline_steps))]
+pub fn read_statistics<R: Source>(
+    alloc: Global,
+    source: &mut R,
+) -> Result<Vec<HduStats>, ReadFileFault>
+    ensures ok { IfOk result (λ stats. Gives (R.state source.old) (AreStatisticsOfFile stats.items)) }
+    ensures quiet { OnOk result (StaysQuiet (R.state source.old) (R.state source.new)) }
+    ensures err { IfErr result (ReadStops (R.state source.old) (R.state source.new)) }
+{
+    let (stats, _) = read_kept(alloc, source)?;
+    Ok(stats)
+}
