@@ -1,3 +1,5 @@
 pub mod Cut
 pub mod Forms
 pub mod Line
+pub mod Misfit
+pub mod Wording

@@ -1,10 +1,10 @@
 //! The words of a new image: the kind of its pixels, and its axes.
-ghost use Rattle.std.specs.Prelude.{◌≡◌, IfOk, IfSome, IfNone, IsSome, None, OnErr, Some};
+ghost use Rattle.std.specs.Prelude.{◌≡◌, is_some, IfOk, IfSome, IfNone, IsSome, None, OnErr, Some};
 ghost use Rattle.std.specs.Option.{option_copied};
 ghost use Rattle.fits_script.specs.Line.{axes_of_word, kind_first, kind_of_word, array_words};
 ghost use Rattle.fits_script.specs.Line.{number_of_word};
 
-use crate::part::{Part, read_list};
+use crate::part::{Part, is_list, read_list};
 use crate::words::{cut_word, is_word, number_of_word};
 use fits_image::Kind;
 use fits_rules::Axes;
@@ -41,9 +41,9 @@ fn kind_first(rest: Option<&[u8]>) -> Option<(Kind, Option<&[u8]>)>
     Some((kind, rest))
 }
 
-// The kind of pixels that a word names.
+/// The kind of pixels that a word names.
 #[tactic(auto, unfolding(crate::specs::Line::kind_of_word))]
-fn kind_of_word(word: &[u8]) -> Option<Kind>
+pub(crate) fn kind_of_word(word: &[u8]) -> Option<Kind>
     ensures { result ≡ kind_of_word word.now }
 {
     if is_word(word, b"u8") {
@@ -81,6 +81,14 @@ fn axes_of_word(alloc: Global, word: &[u8]) -> Result<Option<Axes>, AllocError>
         Ok(None) => Ok(None),
         Err(refused) => Err(refused),
     }
+}
+
+/// Whether a word is axes.
+#[tactic(auto, unfolding(crate::specs::Line::axes_of_word))]
+pub(crate) fn is_axes(word: &[u8]) -> bool
+    ensures { result ≡ is_some (axes_of_word word.now) }
+{
+    is_word(word, b"-") || is_list::<u64>(word, b',')
 }
 
 // The length of an axis.

@@ -51,9 +51,9 @@ pub(crate) fn values_last(
     }
 }
 
-// The number of a value, unless the word is none.
+/// The number of a value, unless the word is none.
 #[tactic(auto, unfolding(crate::specs::Line::value_of_word))]
-fn read_value(word: &[u8]) -> Option<i128>
+pub(crate) fn read_value(word: &[u8]) -> Option<i128>
     ensures { result ≡ value_of_word word.now }
 {
     let (is_negative, size) = cut_sign(word);

@@ -1,6 +1,9 @@
 //! The verbs of a script's lines.
-ghost use Rattle.std.specs.Prelude.{◌≡◌};
+ghost use Rattle.std.specs.Prelude.{◌≡◌, map};
+ghost use Rattle.std.specs.Char.{to_ascii_lowercase};
+ghost use Rattle.std.specs.Str.{bytes_eq};
 ghost use Rattle.fits_script.specs.Line.{verb_of, verb_word};
+ghost use Rattle.fits_script.specs.Misfit.{is_capital_verb};
 
 use crate::words::is_word;
 
@@ -66,6 +69,22 @@ pub(crate) fn verb_of(word: &[u8]) -> Option<Verb>
         .iter()
         .copied()
         .find(|verb| is_word(word, word_of(*verb)))
+}
+
+/// Whether a word is a verb but for its letters, of which some are capitals.
+#[tactic(auto, unfolding(crate::specs::Misfit::is_capital_verb))]
+pub(crate) fn is_capital_verb(word: &[u8]) -> bool
+    ensures { result ≡ is_capital_verb word.now }
+{
+    VERBS.iter().any(|verb| is_in_capitals(word, *verb))
+}
+
+// Whether a word is a verb's but for its letters.
+#[tactic(auto, using(crate::proofs::MisfitLemmas::letter_steps))]
+fn is_in_capitals(word: &[u8], verb: Verb) -> bool
+    ensures { result ≡ bytes_eq (map to_ascii_lowercase word.now) (verb_word verb) }
+{
+    word.eq_ignore_ascii_case(word_of(verb))
 }
 
 // The word of a verb.

@@ -24,7 +24,7 @@ use std::alloc::{AllocError, Global};
 pub(crate) const DIGITS: usize = 18;
 
 /// How many bytes a keyword name has (FITS Standard 4.0, section 4.1.2.1).
-const NAME_LEN: usize = 8;
+pub(crate) const NAME_LEN: usize = 8;
 
 /// The first word, and what follows the space after it, if there is one.
 #[tactic(auto, using(crate::proofs::WordLemmas::word_steps))]
@@ -105,11 +105,11 @@ fn name_of_word(word: &[u8]) -> Option<Name>
     if word.is_empty() || word.len() > NAME_LEN {
         return None;
     }
-    Some(padded(word))
+    Some(padded_name(word))
 }
 
-// The name that begins with this text and goes on in spaces.
-fn padded(text: &[u8]) -> Name
+/// The name that begins with this text and goes on in spaces.
+pub fn padded_name(text: &[u8]) -> Name
     requires { length text.now ≤ 8 }
     ensures { result ≡ name_of_text text.now }
 {
@@ -119,8 +119,8 @@ fn padded(text: &[u8]) -> Name
     Name(name)
 }
 
-// The rest of a line, which may be empty without the space before it.
-fn text_of(rest: Option<&[u8]>) -> &[u8]
+/// The rest of a line, which may be empty without the space before it.
+pub(crate) fn text_of(rest: Option<&[u8]>) -> &[u8]
     ensures { result.now ≡ unwrap_or (option_copied rest.entry) [] }
 {
     match rest {
