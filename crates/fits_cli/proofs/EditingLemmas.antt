@@ -16,11 +16,12 @@ use Rattle.fits_session.specs.declared.open_fault.OpenFault.TheVariants.{NotFits
 use Rattle.fits_session.specs.declared.read_fault.ReadFileFault.{ReadFileFault}
 use Rattle.fits_session.specs.declared.read_fault.ReadFileFault.TheVariants.{Open, Failed}
 use Rattle.fits_cli.specs.Answer.{Standing, at_first_line}
-use Rattle.fits_cli.specs.Ends.{RunState, EndsBy, FlushesOrFails, Opens, HasLines, IsRefused, Succeeds, AnswersFail, StopsBy}
-use Rattle.fits_cli.specs.Faults.{fault_of_file, PrintFails}
+use Rattle.fits_cli.specs.Ends.{RunState, AsksAs, AsksBy, EndsBy, FlushesOrFails, EndsWhole, EndsWholeAs, Opens, HasLines, IsAsked, IsDoneWhole, IsRefused, IsUndone, Succeeds, AnswersFail, StopsBy}
+use Rattle.fits_cli.specs.Faults.{fault_of_file, status_of_fault, PrintFails}
+use Rattle.fits_cli.specs.declared.end.End.{End}
 use Rattle.fits_cli.specs.declared.limits.TheConstants.{SCRIPT_LIMIT}
 use Rattle.fits_cli.specs.Output.{Output, answers, standing_after, status_of, output_unopened, output_of_lines, output_too_long, IsOutputOf}
-use Rattle.fits_cli.specs.Running.{AnswersScript, AnswersTooLong, NeedsMemoryAt, ScriptReadFails, ScriptWriteFails, ScriptStops, FlushesThen, FlushesAnswers}
+use Rattle.fits_cli.specs.Running.{AnswersScript, AnswersTooLong, NeedsMemoryAt, ScriptReadFails, ScriptWriteFails, ScriptStops, FlushesThen, FlushesAnswers, IsAnsweredRun, IsFlushed}
 use Rattle.fits_cli.specs.Script.{script_lines}
 use Rattle.fits_cli.specs.declared.fault.Fault.{Fault}
 use Rattle.fits_cli.specs.declared.fault.Fault.TheVariants.{Refused, ScriptTooLong, Memory, ReadFailed, WriteFailed}
@@ -300,15 +301,21 @@ StopsBy-script old new mid (Err Memory) result fault parts now is opened of_file
 StopsBy-script old new mid (Err ReadFailed) result fault parts now is opened of_file saved ok err flush = StopsBy-read old new mid result fault parts is opened of_file saved err flush
 StopsBy-script old new mid (Err WriteFailed) result fault parts now is opened of_file saved ok err flush = StopsBy-write old new mid result fault parts is opened of_file saved err flush
 
+-- a fault that is passed on is that of a call
+pub fault_exit : {T : Type 0} (result : Result T Fault) (why : Fault) (P : Fault → Type 0) → IsErrAnd result (λ e. e ≡ why) → P why → IfErr result P
+fault_exit result why P is stops = let exit = err_from_is_err_and result is in rw (exit.1, exit.2) stops
+
+-- so ends a run that saves nothing
+pub asks_exit : (old new : RunState) (result : Result ℕ Fault) (why : Fault) → IsErrAnd result (λ e. e ≡ why) → StopsBy old new why → AsksBy old new result
+asks_exit old new result why is stops = let exit = err_from_is_err_and result is in rw (exit.1, exit.2) stops
+
+-- its fault has its status
+pub asks_fault : (old new : RunState) (end : End) (fault : Fault) → (end.status ≡ status_of_fault fault) × (end.fault ≡ Some fault) → StopsBy old new fault → AsksAs old new end
+asks_fault old new end fault is stops = rw is.1 (stops, is.0)
+
 -- a fault that is passed on ends a run
 pub ends_exit : (old new : RunState) (result : Result ℕ Fault) (why : Fault) → IsErrAnd result (λ e. e ≡ why) → StopsBy old new why → EndsBy old new result
 ends_exit old new result why is stops = let exit = err_from_is_err_and result is in rw (exit.1, exit.2) stops
-
--- a script that was answered whole, and its answers flushed
-pub record IsFlushed (old new : SourceState) (parts : FileParts) (now : Standing) (held holds : SinkState) : Type 0 where
-  pub mid : SinkState
-  pub script : AnswersScript old new (at_first_line parts) now held mid
-  pub flush : Flushes mid holds
 
 -- nothing else is done
 pub flushed_done : (old new : SourceState) (parts : FileParts) (now : Standing) (held mid holds : SinkState) (answered result : Result (Unit {0}) Fault) (done : Unit {0}) → result ≡ Ok done
@@ -374,3 +381,47 @@ Succeeds-saved old new parts now opened of_file flushed saved flush =
       printed = flushed.flush.flushed;
       saved = flush;
     }
+
+-- a run that saves nothing, to its end
+pub Asked-done : (old new : RunState) (now : Standing) → IsAnsweredRun old.file new.file old.script new.script old.printed new.printed now → new.saved ≡ old.saved → IsAsked old new (status_of now)
+Asked-done old new now run saved =
+    let done = run.answered.script in
+    let parts = run.parts in
+    let lines : List (List ℕ) = script_lines done.lines done.last in
+    record {
+      file = run.opened.0;
+      script = done.script;
+      output = output_of_lines parts lines;
+      told_file = run.opened.1;
+      told_script = script_told old.script new.script done.script done.read done.ended;
+      is = output_whole old.script new.script old.file parts now old.printed run.answered.mid run.opened done;
+      whole = refl;
+      printed = Prints-flushed old.printed run.answered.mid new.printed (answers (at_first_line parts) lines) done.answered.printed run.answered.flush;
+      flushed = run.answered.flush.flushed;
+      saved = saved;
+      status_is = ap status_of done.answered.left;
+      read = record { of_file = run.read; of_script = done.read.quiet };
+    }
+
+-- a run of which some lines weren't done
+pub Undone-asked : (old new : RunState) (now : Standing) → IsAnsweredRun old.file new.file old.script new.script old.printed new.printed now → new.saved ≡ old.saved → 0 < now.refused → IsUndone old new (status_of now) now.refused
+unfolding Asked-done standing_after
+Undone-asked old new now run saved some = record {
+  asked = Asked-done old new now run saved;
+  some = some;
+  count = ap (λ (s : Standing). s.refused) run.answered.script.answered.left;
+}
+
+-- a run of which all were
+pub Whole-saved : (old new : RunState) (now : Standing) → IsAnsweredRun old.file new.file old.script new.script old.printed new.printed now → Prints (file_bytes now.marked.file) old.saved new.saved → new.saved.unflushed ≡ 0 → now.refused ≡ 0
+    → IsDoneWhole old new (status_of now) now.refused
+unfolding Succeeds-saved standing_after
+Whole-saved old new now run saved flushed none = record {
+  done = Succeeds-saved old new run.parts now run.opened run.read run.answered saved flushed;
+  none = none;
+  all = sym (ap (λ (s : Standing). s.refused) run.answered.script.answered.left) ∙ none;
+}
+
+-- a fault that is passed on ends such a run
+pub whole_exit : (old new : RunState) (result : Result (ℕ × ℕ) Fault) (why : Fault) → IsErrAnd result (λ e. e ≡ why) → StopsBy old new why → EndsWhole old new result
+whole_exit old new result why is stops = let exit = err_from_is_err_and result is in rw (exit.1, exit.2) stops

@@ -1,9 +1,11 @@
 pub mod AnswerLemmas
+pub mod CardLemmas
 pub mod ComplaintLemmas
 pub mod EditingLemmas
 pub mod ExitLemmas
 pub mod LinesLemmas
 pub mod ListingLemmas
+pub mod NumberedLemmas
 pub mod OutputLemmas
 pub mod PixelAnswerLemmas
 pub mod PixelLineLemmas
@@ -13,6 +15,7 @@ pub mod RefusalLemmas
 pub mod ReportLemmas
 pub mod RunLemmas
 pub mod ScriptLemmas
+pub mod StatingLemmas
 pub mod SummingLemmas
 pub mod TellingLemmas
 pub mod ValueLineLemmas

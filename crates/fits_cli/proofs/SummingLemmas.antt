@@ -1,5 +1,6 @@
 -- The run of `sum`: its lines as they are printed, from the sums that were found.
-use Rattle.std.proofs.Common.{◌≡◌, ℕ, ◌+◌, ◌<◌, List, [], ◌∷◌, ◌++◌, length, take, drop, get_or, refl, ap, sym, ◌∙◌, append_assoc, arith}
+use Rattle.std.proofs.Common.{◌≡◌, ℕ, ◌+◌, ◌<◌, Bool, ◌||◌, if◌then◌else◌, List, [], ◌∷◌, ◌++◌, length, take, drop, get_or, refl, ap, sym, ◌∙◌, append_assoc, arith}
+use Rattle.std.specs.List.{list_any}
 use Rattle.std.proofs.lemmas.List.{append-nil, take-append-drop, take_more, length-take-le}
 use Rattle.fits_stream.specs.Intake.{Gives}
 use Rattle.fits_hdu.specs.Hdu.{HduParts}
@@ -8,7 +9,8 @@ use Rattle.fits_hdu.specs.declared.hdu_sums.HduSums.{HduSums}
 use Rattle.fits_session.specs.File.{FileParts}
 use Rattle.fits_session.specs.Reading.{is_summed, AreSumsOfFile, KeepsEach}
 use Rattle.fits_stream.specs.Stream.{SourceState, SinkState, Prints, StaysQuiet}
-use Rattle.fits_cli.specs.Summing.{summed_from, summed_line, summed_lines, summing}
+use Rattle.fits_cli.specs.Summing.{any_wrong, has_wrong, summed_from, summed_line, summed_lines, summing, wrong_line, wrong_lines, wrong_summing}
+use Rattle.fits_cli.specs.Numbered.{numbered}
 use Rattle.fits_cli.specs.Telling.{PrintingStops, TextIsTold, TextStopsBy}
 use Rattle.fits_cli.specs.declared.fault.Fault.{Fault}
 use Rattle.fits_cli.specs.declared.fault.Fault.TheVariants.{Memory}
@@ -92,3 +94,40 @@ pub TextStopsBy-summing : (file file_after : SourceState) (out out_after : SinkS
 TextStopsBy-summing file file_after out out_after sums fault given quiet stops =
     let parts : FileParts = given.2.0 in
     TextStopsBy-printing telling.Sums file file_after out out_after parts fault (given.0, given.1, given.2.1) quiet (rw (← summing-summed sums parts given.2.2) stops)
+
+-- lines of wrong sums are those of their HDUs
+wrong_same : (n : ℕ) (sums : List HduSums) (us : List HduParts) → KeepsEach is_summed sums us → numbered (λ h (it : HduSums). wrong_line h it.datasum it.verdicts) n sums ≡ numbered (λ h (hdu : HduParts). wrong_line h (data_sum hdu) (verdicts_of hdu)) n us
+wrong_same n [] [] p = refl
+wrong_same n [] (u ∷ us) p = absurd p
+wrong_same n (it ∷ sums) [] p = absurd p
+wrong_same n (it ∷ sums) (u ∷ us) p =
+    let rest : List ℕ = numbered (λ h (i : HduSums). wrong_line h i.datasum i.verdicts) (n + 1) sums in
+    ap (λ s. wrong_line n s it.verdicts ++ rest) p.0.sum
+    ∙ ap (λ v. wrong_line n (data_sum u) v ++ rest) p.0.right
+    ∙ ap (λ t. wrong_line n (data_sum u) (verdicts_of u) ++ t) (wrong_same (n + 1) sums us p.1)
+
+-- of a file
+wrong_summed : (sums : List HduSums) (file : FileParts) → KeepsEach is_summed sums file.hdus → wrong_lines sums ≡ wrong_summing file
+unfolding wrong_summing
+wrong_summed sums file each = wrong_same 1 sums file.hdus each
+
+-- whether one is wrong
+wrong_found : (sums : List HduSums) (us : List HduParts) → KeepsEach is_summed sums us → has_wrong sums ≡ list_any (λ (hdu : HduParts). any_wrong (verdicts_of hdu)) us
+wrong_found [] [] p = refl
+wrong_found [] (u ∷ us) p = absurd p
+wrong_found (it ∷ sums) [] p = absurd p
+wrong_found (it ∷ sums) (u ∷ us) p = ap (λ v. any_wrong v || has_wrong sums) p.0.right ∙ ap (λ b. any_wrong (verdicts_of u) || b) (wrong_found sums us p.1)
+
+-- the wrong sums that were found are told
+pub summed_wrong : (file file_after : SourceState) (out out_after : SinkState) (sums : List HduSums) (wrong : Bool) (status : ℕ) → Gives file (AreSumsOfFile sums) → StaysQuiet file file_after → Prints (wrong_lines sums) out out_after → wrong ≡ has_wrong sums
+    → status ≡ (if wrong then 1 else 0) → TextIsTold telling.WrongSums file file_after out out_after status
+summed_wrong file file_after out out_after sums wrong status given quiet printed is said =
+    let parts : FileParts = given.2.0 in
+    record { parts = parts; opened = (given.0, given.1, given.2.1); read = quiet; printed = rw (← wrong_summed sums parts given.2.2) printed; status_is = said ∙ ap (λ b. if b then 1 else 0) (is ∙ wrong_found sums parts.hdus given.2.2) }
+
+-- or a prefix of them
+pub TextStopsBy-wrong : (file file_after : SourceState) (out out_after : SinkState) (sums : List HduSums) (fault : Fault) → Gives file (AreSumsOfFile sums) → StaysQuiet file file_after → PrintingStops (wrong_lines sums) out out_after fault
+    → TextStopsBy telling.WrongSums file file_after out out_after fault
+TextStopsBy-wrong file file_after out out_after sums fault given quiet stops =
+    let parts : FileParts = given.2.0 in
+    TextStopsBy-printing telling.WrongSums file file_after out out_after parts fault (given.0, given.1, given.2.1) quiet (rw (← wrong_summed sums parts given.2.2) stops)

@@ -7,7 +7,7 @@ use Rattle.fits_session.specs.File.{FileParts}
 use Rattle.fits_session.specs.Report.{IsReportOf}
 use Rattle.fits_session.specs.declared.problem.Problem.{Problem}
 use Rattle.fits_cli.specs.Faults.{PrintFails}
-use Rattle.fits_cli.specs.Report.{closing_line, listed_line, problem_lines, report_text, status_of_report}
+use Rattle.fits_cli.specs.Report.{closing_line, listed_line, problem_lines, report_text, status_of_report, strict_status}
 use Rattle.fits_stream.specs.Stream.{SourceState, SinkState, Prints, StaysQuiet}
 use Rattle.fits_cli.specs.Telling.{PrintingStops, TextIsTold, TextStopsBy}
 use Rattle.fits_cli.specs.declared.fault.Fault.{Fault}

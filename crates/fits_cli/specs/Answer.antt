@@ -109,15 +109,15 @@ CommandFails it command why = outcome_of it command ≡ Err why
 abbrev pub complaint : ℕ → List ℕ → List ℕ
 complaint number why = codes "line " ++ (decimal number ++ (codes ": " ++ (why ++ codes "\n")))
 
--- the file before a line, with its marks, the line's number from 1, and whether a line before it was refused or bad
+-- the file before a line, with its marks, the line's number from 1, and how many lines before it were refused or bad
 pub record Standing : Type 0 where
   pub marked : Marked
   pub line : ℕ
-  pub any_refused : Bool
+  pub refused : ℕ
 
 -- before the first line: no HDU is kept
 abbrev pub at_first_line : FileParts → Standing
-at_first_line file = record { marked = unmarked file; line = 1; any_refused = false }
+at_first_line file = record { marked = unmarked file; line = 1; refused = 0 }
 
 -- the next line, after one that left this
 abbrev pub after_done : Standing → Marked → Standing
@@ -125,7 +125,7 @@ after_done standing left = record standing { marked = left; line = standing.line
 
 -- the next line, after one that was refused or bad
 abbrev pub after_refused : Standing → Standing
-after_refused standing = record standing { line = standing.line + 1; any_refused = true }
+after_refused standing = record standing { line = standing.line + 1; refused = standing.refused + 1 }
 
 -- what an outcome prints
 abbrev pub outcome_text : ℕ → Result Done Refusal → List ℕ

@@ -1,5 +1,5 @@
 -- How a run of `edit` ends: what was printed and saved, and what stood before a fault (own).
-use Rattle.std.specs.Prelude.{◌≡◌, ◌⊎◌, ℕ, ◌+◌, ◌≤◌, List, [], ◌∷◌, ◌++◌, length, take, Option, Some, None, Result, Ok, Err, MatchOption}
+use Rattle.std.specs.Prelude.{◌≡◌, ◌⊎◌, ℕ, ◌+◌, ◌<◌, ◌≤◌, List, [], ◌∷◌, ◌++◌, length, take, Option, Some, None, Result, Ok, Err, MatchOption}
 use Rattle.std.specs.Io.KnownBytes.{Appends, Consumes, IsAtEnd}
 use Rattle.fits_stream.specs.Intake.{Gives, Tells}
 use Rattle.fits_stream.specs.Stream.{SourceState, SinkState, FailsOnce, Prints, PrintsFront, StaysQuiet}
@@ -166,3 +166,51 @@ EndsBy old new (Err fault) = StopsBy old new fault
 abbrev pub EndsAs : RunState → RunState → End → Type 0
 EndsAs old new end =
     MatchOption end.fault (Succeeds old new end.status) (λ fault. StopsBy old new fault × (end.status ≡ status_of_fault fault))
+
+-- a run that saves nothing, to its end: it prints what `edit` prints, and ends with its status
+pub record IsAsked (old new : RunState) (status : ℕ) : Type 0 where
+  pub file : List ℕ
+  pub script : List ℕ
+  pub output : Output
+  pub told_file : Tells old.file file
+  pub told_script : Tells old.script script
+  pub is : IsOutputOf file script output
+  pub whole : output.fault ≡ None
+  pub printed : Prints output.text old.printed new.printed
+  pub flushed : new.printed.unflushed ≡ 0
+  pub saved : new.saved ≡ old.saved
+  pub status_is : status ≡ output.status
+  pub read : ReadsWell old new
+
+-- how a run that saves nothing ends: with the output and the status of `edit`, or by a fault of it
+abbrev pub AsksBy : RunState → RunState → Result ℕ Fault → Type 0
+AsksBy old new (Ok status) = IsAsked old new status
+AsksBy old new (Err fault) = StopsBy old new fault
+
+-- the same as it is answered: a fault has its status
+abbrev pub AsksAs : RunState → RunState → End → Type 0
+AsksAs old new end =
+    MatchOption end.fault (IsAsked old new end.status) (λ fault. StopsBy old new fault × (end.status ≡ status_of_fault fault))
+
+-- a run that saves nothing unless every line was done: so many weren't, and nothing is saved
+pub record IsUndone (old new : RunState) (status undone : ℕ) : Type 0 where
+  pub asked : IsAsked old new status
+  pub some : 0 < undone
+  pub count : undone ≡ asked.output.undone
+
+-- or all were
+pub record IsDoneWhole (old new : RunState) (status undone : ℕ) : Type 0 where
+  pub done : Succeeds old new status
+  pub none : undone ≡ 0
+  pub all : done.run.output.undone ≡ 0
+
+-- how such a run ends
+abbrev pub EndsWhole : RunState → RunState → Result (ℕ × ℕ) Fault → Type 0
+EndsWhole old new (Ok (status, undone)) = IsDoneWhole old new status undone ⊎ IsUndone old new status undone
+EndsWhole old new (Err fault) = StopsBy old new fault
+
+-- the same as it is answered: a fault has its status
+abbrev pub EndsWholeAs : RunState → RunState → End → ℕ → Type 0
+EndsWholeAs old new end undone =
+    MatchOption end.fault (IsDoneWhole old new end.status undone ⊎ IsUndone old new end.status undone)
+    (λ fault. StopsBy old new fault × (end.status ≡ status_of_fault fault) × (undone ≡ 0))

@@ -1,13 +1,17 @@
 pub mod Answer
+pub mod Cards
 pub mod Ends
 pub mod Faults
 pub mod Listing
+pub mod Numbered
 pub mod Output
+pub mod Patterns
 pub mod PixelLines
 pub mod Reply
 pub mod Report
 pub mod Running
 pub mod Script
+pub mod Stating
 pub mod Summing
 pub mod Telling
 pub mod ValueLine

@@ -1,5 +1,5 @@
 -- What a run of `edit` writes and answers: functions of the file and the script (own).
-use Rattle.std.specs.Prelude.{◌≡◌, ◌⊎◌, ℕ, nat_le, List, [], ◌∷◌, ◌++◌, length, take, Option, Some, None, if◌then◌else◌}
+use Rattle.std.specs.Prelude.{◌≡◌, ◌⊎◌, ℕ, nat_le, List, [], ◌∷◌, ◌++◌, ◌==◌, length, take, Option, Some, None, if◌then◌else◌}
 use Rattle.fits_session.specs.File.{FileParts, file_bytes, IsFileOf}
 use Rattle.fits_session.specs.Opening.{HasOpenFault}
 use Rattle.fits_session.specs.declared.open_fault.OpenFault.{OpenFault}
@@ -22,31 +22,39 @@ standing_after standing (line ∷ lines) = standing_after (line_left standing (r
 
 -- 1 where a line was refused or bad, else 0
 abbrev pub status_of : Standing → ℕ
-status_of standing = if standing.any_refused then 1 else 0
+status_of standing = if standing.refused == 0 then 0 else 1
 
--- what a run prints and saves, its status, and the fault that ended it
+-- what a run prints and saves, how many lines were refused or bad, its status, and the fault that ended it
 pub record Output : Type 0 where
   pub text : List ℕ
   pub saved : List ℕ
+  pub undone : ℕ
   pub status : ℕ
   pub fault : Option Fault
 
 -- a file that doesn't open
 abbrev pub output_unopened : OpenFault → Output
-output_unopened why = record { text = []; saved = []; status = 2; fault = Some (Refused why) }
+output_unopened why = record { text = []; saved = []; undone = 0; status = 2; fault = Some (Refused why) }
 
 -- all lines of a script, and then the file is saved
 abbrev pub output_of_lines : FileParts → List (List ℕ) → Output
 output_of_lines file lines = record {
   text = answers (at_first_line file) lines;
   saved = file_bytes (standing_after (at_first_line file) lines).marked.file;
+  undone = (standing_after (at_first_line file) lines).refused;
   status = status_of (standing_after (at_first_line file) lines);
   fault = None;
 }
 
 -- the whole lines within the limit of a script that is too long
 abbrev pub output_too_long : FileParts → List (List ℕ) → Output
-output_too_long file lines = record { text = answers (at_first_line file) lines; saved = []; status = 2; fault = Some ScriptTooLong }
+output_too_long file lines = record {
+  text = answers (at_first_line file) lines;
+  saved = [];
+  undone = (standing_after (at_first_line file) lines).refused;
+  status = 2;
+  fault = Some ScriptTooLong;
+}
 
 -- the output of a script of this length, cut into lines and a last piece without a line feed
 abbrev pub output_of_cut : FileParts → ℕ → List (List ℕ) → List ℕ → Output

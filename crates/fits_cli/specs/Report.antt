@@ -1,5 +1,5 @@
 -- What the report of a file prints (own).
-use Rattle.std.specs.Prelude.{ℕ, ◌==◌, Bool, true, false, not, List, [], ◌++◌, codes, count_by, if◌then◌else◌}
+use Rattle.std.specs.Prelude.{ℕ, ◌==◌, Bool, true, false, not, List, [], ◌++◌, codes, count_by, length, if◌then◌else◌}
 use Rattle.std.specs.Fmt.{decimal}
 use Rattle.std.specs.List.{flat_map}
 use Rattle.fits_codes.specs.Code.{is_error, label, text}
@@ -50,3 +50,7 @@ report_text level report = problem_lines level report ++ closing_line report
 -- 1 where there is an error, else 0: warnings don't count
 abbrev pub status_of_report : List Problem → ℕ
 status_of_report report = if errors_in report == 0 then 0 else 1
+
+-- 1 where there is an error or a warning, else 0
+abbrev pub strict_status : List Problem → ℕ
+strict_status report = if length report == 0 then 0 else 1

@@ -2,8 +2,9 @@
 use Rattle.std.specs.Prelude.{◌≡◌, ◌⊎◌, ℕ, ◌+◌, ◌<◌, ◌≤◌, List, ◌∷◌, ◌++◌, length, take, Result, Ok, Err}
 use Rattle.std.specs.Io.KnownBytes.{IsAtEnd}
 use Rattle.fits_stream.specs.Intake.{Tells}
-use Rattle.fits_cli.specs.Answer.{Standing, line_answer, line_left, LineNeedsMemory}
-use Rattle.fits_cli.specs.Ends.{CameTo, HasLines}
+use Rattle.fits_session.specs.File.{FileParts}
+use Rattle.fits_cli.specs.Answer.{Standing, at_first_line, line_answer, line_left, LineNeedsMemory}
+use Rattle.fits_cli.specs.Ends.{CameTo, HasLines, Opens}
 use Rattle.fits_script.specs.declared.limits.TheConstants.{LINE_LIMIT}
 use Rattle.fits_cli.specs.declared.limits.TheConstants.{SCRIPT_LIMIT}
 use Rattle.fits_script.specs.Line.{reading_of}
@@ -158,3 +159,16 @@ FlushesAnswers (Err Memory) result held holds = FlushesThen (Err Memory) result 
 FlushesAnswers (Err ReadFailed) result held holds =
     (result ≡ Err ReadFailed) × (Flushes held holds ⊎ FailsToFlush held holds)
 FlushesAnswers (Err WriteFailed) result held holds = (result ≡ Err WriteFailed) × (holds ≡ held)
+
+-- a script that was answered whole, and its answers flushed
+pub record IsFlushed (old new : SourceState) (parts : FileParts) (now : Standing) (held holds : SinkState) : Type 0 where
+  pub mid : SinkState
+  pub script : AnswersScript old new (at_first_line parts) now held mid
+  pub flush : Flushes mid holds
+
+-- a file was opened, and a script over it answered: things stand so
+pub record IsAnsweredRun (file file_after script script_after : SourceState) (out out_after : SinkState) (now : Standing) : Type 0 where
+  pub parts : FileParts
+  pub opened : Opens file parts
+  pub read : StaysQuiet file file_after
+  pub answered : IsFlushed script script_after parts now out out_after

@@ -1,4 +1,4 @@
--- How a run ends that prints a text of a file, as `list`, `sum` and `verify` do (own).
+-- How a run ends that prints a text of a file, as `list`, `sum`, `stat` and `verify` do (own).
 use Rattle.std.specs.Prelude.{◌≡◌, ◌⊎◌, ℕ, List, MatchOption}
 use Rattle.fits_stream.specs.Intake.{Gives}
 use Rattle.fits_stream.specs.Stream.{AppendsFront, SourceState, SinkState, FailsOnce, Prints, PrintsFront, StaysQuiet}
@@ -9,8 +9,9 @@ use Rattle.fits_session.specs.declared.open_fault.OpenFault.{OpenFault}
 use Rattle.fits_cli.specs.Ends.{Opens}
 use Rattle.fits_cli.specs.Faults.{status_of_fault}
 use Rattle.fits_cli.specs.Listing.{listing}
-use Rattle.fits_cli.specs.Report.{report_text, status_of_report}
-use Rattle.fits_cli.specs.Summing.{summing}
+use Rattle.fits_cli.specs.Report.{report_text, status_of_report, strict_status}
+use Rattle.fits_cli.specs.Stating.{stating}
+use Rattle.fits_cli.specs.Summing.{status_of_sums, summing, wrong_summing}
 use Rattle.fits_cli.specs.declared.end.End.{End}
 use Rattle.fits_cli.specs.declared.fault.Fault.{Fault}
 use Rattle.fits_cli.specs.declared.fault.Fault.TheVariants.{Refused, ScriptTooLong, Memory, ReadFailed, WriteFailed}
@@ -21,13 +22,19 @@ use Rattle.fits_cli.specs.declared.telling.Telling.TheVariants as telling
 abbrev pub text_of : Telling → FileParts → List ℕ
 text_of telling.List file = listing file
 text_of telling.Sums file = summing file
+text_of telling.WrongSums file = wrong_summing file
+text_of telling.Statistics file = stating file
 text_of (telling.Report level) file = report_text level (report_of file)
+text_of (telling.StrictReport level) file = report_text level (report_of file)
 
 -- the status of a run that has printed it
 abbrev pub status_of_text : Telling → FileParts → ℕ
 status_of_text telling.List file = 0
 status_of_text telling.Sums file = 0
+status_of_text telling.WrongSums file = status_of_sums file
+status_of_text telling.Statistics file = 0
 status_of_text (telling.Report level) file = status_of_report (report_of file)
+status_of_text (telling.StrictReport level) file = strict_status (report_of file)
 
 -- the text is printed and flushed
 pub record TextIsPrinted (kind : Telling) (file file_after : SourceState) (out out_after : SinkState) (status : ℕ) : Type 0 where

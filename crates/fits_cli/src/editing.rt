@@ -1,6 +1,8 @@
 //! The run of `edit`: a file, a script, answers, and the file saved.
-ghost use Rattle.fits_cli.specs.Ends.{run, EndsAs, EndsBy};
-ghost use Rattle.fits_cli.specs.Running.{FlushesAnswers};
+ghost use Rattle.std.specs.Prelude.{IfOk, IfErr};
+ghost use Rattle.fits_stream.specs.Stream.{SinkState};
+ghost use Rattle.fits_cli.specs.Ends.{run, EndsAs, EndsBy, StopsBy};
+ghost use Rattle.fits_cli.specs.Running.{FlushesAnswers, IsAnsweredRun};
 
 use crate::end::End;
 use crate::fault::Fault;
@@ -49,11 +51,28 @@ fn edit<F: Source, S: Source, P: Sink, O: Sink>(
         (run (F.state file.new) (S.state script.new) (O.state out.new) (P.state saved.new))
         result }
 {
+    let mut runner = answered(alloc, file, script, out)?;
+    runner.save(saved)?;
+    Ok(runner.status())
+}
+
+/// Reads a file and opens it, answers a script, and flushes the answers.
+pub(crate) fn answered<F: Source, S: Source, O: Sink>(
+    alloc: Global,
+    file: &mut F,
+    script: &mut S,
+    out: &mut O,
+) -> Result<Runner, Fault>
+    ensures ok { IfOk result (IsAnsweredRun (F.state file.old) (F.state file.new)
+        (S.state script.old) (S.state script.new) (O.state out.old) (O.state out.new)) }
+    ensures err { IfErr result (λ fault. (saved : SinkState) → StopsBy
+        (run (F.state file.old) (S.state script.old) (O.state out.old) saved)
+        (run (F.state file.new) (S.state script.new) (O.state out.new) saved) fault) }
+{
     let mut runner = Runner::new(Session::read(alloc, file)?);
     let answered = answer_script(alloc, &mut runner, script, out);
     flush_answers(answered, out)?;
-    runner.save(saved)?;
-    Ok(runner.status())
+    Ok(runner)
 }
 
 // Flushes the answers to a script, which are of use whatever ended it.

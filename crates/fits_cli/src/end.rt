@@ -1,3 +1,5 @@
+ghost use Rattle.std.specs.Prelude.{◌≡◌, if◌then◌else◌};
+
 use crate::fault::Fault;
 
 /// How a run ended.
@@ -23,4 +25,11 @@ impl From<Fault> for End {
             fault: Some(why),
         }
     }
+}
+
+/// The status 1 where something is so, else 0.
+pub(crate) fn one_if(is: bool) -> u8
+    ensures { result ≡ (if is then 1 else 0) }
+{
+    if is { 1 } else { 0 }
 }

@@ -2,15 +2,23 @@
 #![tactic(auto)]
 
 mod answer;
+mod asking;
+mod card_choice;
+mod card_lines;
+mod card_place;
+mod cards;
+mod choosing;
 mod complaint;
 mod editing;
 mod end;
 mod fault;
+mod file_fault;
 mod kept_line;
 mod laws;
 mod level;
 mod limits;
 mod listing;
+mod name_pattern;
 mod pixel_answers;
 mod pixel_lines;
 mod places_line;
@@ -22,21 +30,31 @@ mod report_text;
 mod runner;
 mod saved_file;
 mod script;
+mod shown_card;
+mod stating;
 mod summing;
 mod telling;
 mod value_line;
 mod verifying;
+mod whole_editing;
 
+pub use asking::run_ask;
+pub use card_choice::CardChoice;
+pub use card_place::CardPlace;
+pub use cards::{CardsEnd, run_cards};
 pub use editing::run_edit;
 pub use end::End;
 pub use fault::Fault;
+pub use file_fault::FileFault;
 pub use laws::{a_cut, an_output, one_cut, one_output, reading_of_a_front, what_a_line_says};
 pub use level::Level;
 pub use limits::SCRIPT_LIMIT;
 pub use listing::run_list;
+pub use name_pattern::NamePattern;
 pub use saved_file::SavedFile;
 pub use summing::run_sum;
 pub use telling::{Telling, run_telling};
 pub use verifying::run_verify;
+pub use whole_editing::{WholeEnd, run_edit_whole};
 // The lines of a script are named here too.
 pub use fits_script::{Command, LINE_LIMIT, LineFault, LineReading, parse_line, read_line};

@@ -19,10 +19,17 @@ pub(crate) fn statistics_line(alloc: Global, stats: &Stats) -> Result<Vec<u8>, A
     ensures { IfOk result (λ line. line.items ≡ statistics_line stats.now) }
 {
     let mut line = Vec::with_capacity(alloc, SUMMARY_ROOM)?;
-    push_counts(&mut line, stats)?;
-    push_values(&mut line, stats)?;
-    line.push(b'\n')?;
+    push_statistics(&mut line, stats)?;
     Ok(line)
+}
+
+/// The same, after a text.
+pub(crate) fn push_statistics(line: &mut Vec<u8>, stats: &Stats) -> Result<(), AllocError>
+    ensures { OnOk result (line.new.items ≡ line.old.items ++ statistics_line stats.now) }
+{
+    push_counts(line, stats)?;
+    push_values(line, stats)?;
+    line.extend_from_slice(b"\n")
 }
 
 // How many pixels are defined and blank.

@@ -14,11 +14,12 @@ pub(crate) struct Runner {
     session: Session,
     /// The number of the line that comes, from 1.
     line: u64,
-    /// Whether a line so far was refused or bad.
-    any_refused: bool,
+    /// How many lines so far were refused or bad.
+    refused: u64,
 }
 
 impl Model for Runner {
+    ghost use Rattle.std.specs.Prelude.{◌<◌};
     ghost use Rattle.fits_cli.specs.Answer.{Standing};
     ghost use Rattle.fits_session.specs.Session.{marked_of};
 
@@ -27,12 +28,14 @@ impl Model for Runner {
     ghost view = { λ runner. record {
       marked = marked_of runner.session;
       line = runner.line;
-      any_refused = runner.any_refused;
+      refused = runner.refused;
     } };
+
+    ghost invariant = { λ runner. runner.refused < runner.line };
 }
 
 impl Runner {
-    ghost use Rattle.std.specs.Prelude.{◌≡◌, ◌+◌, ◌^◌, ◌<◌, ◌||◌, IfOk, IfErr, OnOk, OnErr};
+    ghost use Rattle.std.specs.Prelude.{◌≡◌, ◌+◌, ◌^◌, ◌<◌, if◌then◌else◌, IfOk, IfErr, OnOk, OnErr};
     ghost use Rattle.fits_stream.specs.Stream.{Prints};
     ghost use Rattle.fits_cli.specs.Answer.{at_first_line, line_answer, line_left, LineNeedsMemory};
     ghost use Rattle.fits_script.specs.Line.{reading_of};
@@ -51,7 +54,7 @@ impl Runner {
         Runner {
             session,
             line: 1,
-            any_refused: false,
+            refused: 0,
         }
     }
 
@@ -66,7 +69,14 @@ impl Runner {
     pub(crate) fn status(&self) -> u8
         ensures { result ≡ status_of self.now }
     {
-        if self.any_refused { 1 } else { 0 }
+        if self.refused == 0 { 0 } else { 1 }
+    }
+
+    /// How many lines were refused or bad.
+    pub(crate) fn refused(&self) -> u64
+        ensures { result ≡ self.now.refused }
+    {
+        self.refused
     }
 
     /// Does what a line says, and goes on to the next one.
@@ -97,11 +107,13 @@ impl Runner {
         ensures left { self.new ≡ record {
           marked = self.old.marked;
           line = self.old.line + 1;
-          any_refused = counts_as_refused reply || self.old.any_refused;
+          refused = self.old.refused + (if counts_as_refused reply then 1 else 0);
         } }
     {
         self.line += 1;
-        self.any_refused = counts_as_refused(&reply) || self.any_refused;
+        if counts_as_refused(&reply) {
+            self.refused += 1;
+        }
         reply
     }
 

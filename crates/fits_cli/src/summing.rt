@@ -1,16 +1,16 @@
 //! The run of `sum`: the sums of each HDU of a file.
 ghost use Rattle.std.specs.Prelude.{◌≡◌, ◌++◌, IfOk, IfErr, OnOk};
 ghost use Rattle.fits_stream.specs.Stream.{Prints};
-ghost use Rattle.fits_cli.specs.Summing.{summed_line, summed_lines};
+ghost use Rattle.fits_cli.specs.Summing.{any_wrong, has_wrong, is_wrong, summed_line, summed_lines, wrong_line, wrong_lines};
 ghost use Rattle.fits_cli.specs.Telling.{PrintingStops, TextEndsAs, TextIsTold, TextStopsBy};
 
-use crate::end::End;
+use crate::end::{End, one_if};
 use crate::fault::Fault;
 use crate::pixel_lines::push_verdicts;
 use crate::printing::print;
 use crate::pushing::push_number;
 use crate::telling::{Telling, run_telling};
-use fits_hdu::HduSums;
+use fits_hdu::{HduSums, Verdict, Verdicts};
 use fits_session::read_sums;
 use fits_stream::{Sink, Source};
 use std::alloc::{AllocError, Global};
@@ -34,6 +34,67 @@ pub(crate) fn sum<F: Source, O: Sink>(alloc: Global, file: &mut F, out: &mut O) 
     let sums = read_sums(alloc, file)?;
     print_sums(alloc, &sums, out)?;
     Ok(0)
+}
+
+/// Reads a file, and prints the sums of those of its HDUs of which one is wrong. The status is 1
+/// where there is one.
+pub(crate) fn wrong_sums<F: Source, O: Sink>(
+    alloc: Global,
+    file: &mut F,
+    out: &mut O,
+) -> Result<u8, Fault>
+    ensures ok { IfOk result (λ status. TextIsTold Telling.WrongSums
+        (F.state file.old) (F.state file.new) (O.state out.old) (O.state out.new) status) }
+    ensures err { IfErr result (TextStopsBy Telling.WrongSums (F.state file.old) (F.state file.new)
+        (O.state out.old) (O.state out.new)) }
+{
+    let sums = read_sums(alloc, file)?;
+    let text = wrong_lines(alloc, &sums)?;
+    print(out, &text)?;
+    Ok(one_if(has_wrong(&sums)))
+}
+
+// The line of each HDU of which a sum is wrong.
+#[tactic(auto, using(crate::proofs::NumberedLemmas::numbered_steps))]
+fn wrong_lines(alloc: Global, sums: &[HduSums]) -> Result<Vec<u8>, AllocError>
+    ensures { IfOk result (λ text. text.items ≡ wrong_lines sums.now) }
+{
+    let mut text = Vec::new(alloc);
+    for (i, it) in sums.iter().enumerate() {
+        push_wrong(&mut text, i + 1, *it)?;
+    }
+    Ok(text)
+}
+
+// The line of an HDU, where a sum is wrong.
+fn push_wrong(text: &mut Vec<u8>, number: usize, it: HduSums) -> Result<(), AllocError>
+    ensures { OnOk result (text.new.items
+        ≡ text.old.items ++ wrong_line number it.datasum it.verdicts) }
+{
+    if any_wrong(it.verdicts) {
+        push_line(text, number, it)?;
+    }
+    Ok(())
+}
+
+// Whether a sum of an HDU is wrong.
+fn has_wrong(sums: &[HduSums]) -> bool
+    ensures { result ≡ has_wrong sums.now }
+{
+    sums.iter().any(|it| any_wrong(it.verdicts))
+}
+
+// Whether one of two verdicts is so.
+fn any_wrong(verdicts: Verdicts) -> bool
+    ensures { result ≡ any_wrong verdicts }
+{
+    is_wrong(verdicts.datasum) || is_wrong(verdicts.checksum)
+}
+
+fn is_wrong(verdict: Verdict) -> bool
+    ensures { result ≡ is_wrong verdict }
+{
+    matches!(verdict, Verdict::Wrong)
 }
 
 // Prints the line of each HDU by its sums. Room for one line is taken.

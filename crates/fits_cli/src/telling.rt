@@ -7,8 +7,9 @@ use crate::fault::Fault;
 use crate::level::Level;
 use crate::listing::list;
 use crate::printing::flush;
-use crate::summing::sum;
-use crate::verifying::verify;
+use crate::stating::statistics;
+use crate::summing::{sum, wrong_sums};
+use crate::verifying::{verify, verify_strictly};
 use fits_stream::{Sink, Source};
 use std::alloc::Global;
 
@@ -19,8 +20,14 @@ pub enum Telling {
     List,
     /// The sums of each HDU, and the verdicts on them.
     Sums,
-    /// What is wrong, as a level has it.
+    /// The same of HDUs of which a sum is wrong. The status is 1 where there is one.
+    WrongSums,
+    /// The statistics of each image of integers.
+    Statistics,
+    /// What is wrong, as a level has it. The status is 1 where there is an error.
     Report(Level),
+    /// The same. The status is 1 where there is an error or a warning.
+    StrictReport(Level),
 }
 
 /// Reads a file, opens it, and prints a text of it.
@@ -74,6 +81,9 @@ fn print_text<F: Source, O: Sink>(
     match telling {
         Telling::List => list(alloc, file, out),
         Telling::Sums => sum(alloc, file, out),
+        Telling::WrongSums => wrong_sums(alloc, file, out),
+        Telling::Statistics => statistics(alloc, file, out),
         Telling::Report(level) => verify(alloc, level, file, out),
+        Telling::StrictReport(level) => verify_strictly(alloc, level, file, out),
     }
 }

@@ -4,7 +4,7 @@ ghost use Rattle.fits_stream.specs.Stream.{Prints};
 ghost use Rattle.fits_cli.specs.Report.{listed_line, problem_lines, report_text};
 ghost use Rattle.fits_cli.specs.Telling.{PrintingStops, TextEndsAs, TextIsTold, TextStopsBy};
 
-use crate::end::End;
+use crate::end::{End, one_if};
 use crate::fault::Fault;
 use crate::level::Level;
 use crate::printing::print;
@@ -39,6 +39,23 @@ pub(crate) fn verify<F: Source, O: Sink>(
     let report = read_report(alloc, file)?;
     print_report(alloc, level, &report, out)?;
     Ok(status_of_report(&report))
+}
+
+/// Reads a file, and prints its report. The status is 1 where an error or a warning is found.
+pub(crate) fn verify_strictly<F: Source, O: Sink>(
+    alloc: Global,
+    level: Level,
+    file: &mut F,
+    out: &mut O,
+) -> Result<u8, Fault>
+    ensures ok { IfOk result (λ status. TextIsTold (Telling.StrictReport level)
+        (F.state file.old) (F.state file.new) (O.state out.old) (O.state out.new) status) }
+    ensures err { IfErr result (TextStopsBy (Telling.StrictReport level)
+        (F.state file.old) (F.state file.new) (O.state out.old) (O.state out.new)) }
+{
+    let report = read_report(alloc, file)?;
+    print_report(alloc, level, &report, out)?;
+    Ok(one_if(!report.is_empty()))
 }
 
 // Prints a report as a level has it. Room for one line is taken.

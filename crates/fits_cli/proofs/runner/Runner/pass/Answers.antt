@@ -1,6 +1,3 @@
 -- Said, so that a body that breaks it is refused at once.
 use Rattle.std.proofs.Common.{rules}
 use Rattle.fits_cli.proofs.runner.Runner.pass.Goals as goal
-
-pub returns-clause-left : goal.returns-clause-left
-returns-clause-left c = search rules
