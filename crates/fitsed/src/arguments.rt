@@ -1,104 +1,10 @@
-//! The words of the command line, as clap reads them.
-use clap::{Arg, ArgAction, ArgMatches, Command};
-use fits_cli::{Level, Telling};
+//! The words that the command line takes, as clap reads them.
+use crate::help::{
+    ABOUT, ASK, CARDS, EDIT, FOUND, LINES, LIST, LISTED, SHOWN, STAT, STATED, STATUSES, SUM,
+    SUMMED, VERIFY, VERSION,
+};
+use clap::{Arg, ArgAction, Command};
 use std::alloc::{AllocError, Global};
-
-/// What the command line asks for.
-#[derive(Clone, Copy)]
-pub enum Task<'a> {
-    /// The script on standard input edits the file at `from`; the result goes to `to`.
-    Edit { from: &'a str, to: &'a str },
-    /// A text of the file at `from` is printed.
-    Tell { from: &'a str, telling: Telling },
-}
-
-const VERSION: &str = "0.1.0";
-
-const ABOUT: &str = "Edits, lists, sums and verifies FITS files";
-
-const EDIT: &str = "Edits a file by a script from standard input";
-
-const LIST: &str = "Prints a line for each HDU of a file";
-
-const SUM: &str = "Prints the sum of each HDU's data, and whether DATASUM and CHECKSUM are right";
-
-const VERIFY: &str = "Prints what is wrong with a file, and counts it";
-
-const STATUSES: &str = "Exit status:
-  0  done
-  1  a line of the script was refused or bad; verify found an error
-  2  a wrong command line, a file that doesn't open, or a script that is too long
-  3  a file or stream can't be read or written, or memory ran out
-
-Examples:
-  fitsed list in.fits
-  fitsed sum in.fits
-  fitsed verify in.fits
-  printf 'ins 1 4 COMMENT hello\\noff\\n' | fitsed edit in.fits out.fits
-
-fitsed(1) has the lines of a script and the codes of a report.";
-
-const LISTED: &str = "Each line: hdu N CLASS bitpix B axes A cards C at HEADER DATA END
-  N counts from 1; CLASS is PRIMARY, GROUPS, IMAGE, TABLE or OTHER; the last three are the
-  bytes, from 0, at which its header begins, its data begin, and it ends.
-
-Exit status:
-  0  done
-  2  a wrong command line, or a file that doesn't open
-  3  the file can't be read, the listing can't be written, or memory ran out";
-
-const SUMMED: &str = "Each line: HDU, sum of its data, verdict on DATASUM, verdict on CHECKSUM
-  1 is right, 0 says nothing or isn't there, -1 is wrong.
-
-Exit status:
-  0  done, whatever the verdicts are
-  2  a wrong command line, or a file that doesn't open
-  3  the file can't be read, the sums can't be written, or memory ran out";
-
-const FOUND: &str = "Each line: CODE HDU PLACE TEXT, and at the end the counts
-  An E is an error, a W a warning; place 0 is the HDU as a whole.
-
-Exit status:
-  0  no error, perhaps warnings
-  1  an error
-  2  a wrong command line, or a file that doesn't open
-  3  the file can't be read, the report can't be written, or memory ran out
-
-fitsed(1) has the codes.";
-
-const LINES: &str = "Lines of the script, words separated by one space:
-  ins H P CARD         insert a card at place P of HDU H
-  put H P CARD         put a card instead of the one at place P
-  del H P              delete the card at place P
-  mov H P Q            move the card at place P to place Q
-  set H NAME FIELD     give a keyword a value and a comment, as VALUE / COMMENT
-  unset H NAME         delete a keyword
-  fill H RECT V        give each pixel of a rectangle the value V
-  write H RECT V ..    give the pixels of a rectangle these values
-  reshape H KIND AXES  make an image another, such as reshape 2 i32 100,300: the pixels
-                       that stay keep their values
-  new H KIND AXES      put a new image in as HDU H, such as new 2 i16 100,200
-  rm H                 take HDU H out
-  stamp H              write DATASUM and CHECKSUM so that both are right
-  keep H               stamp HDU H, and again after each edit of it
-  release H            keep HDU H stamped no longer
-  get H NAME           print the value of a keyword
-  pos H NAME           print the places of the cards of a keyword
-  stat H               print how many pixels are defined, their least, greatest and sum
-  rect H RECT          print the values of a rectangle
-  sum H                print the sum of the data unit, and whether both sums are right
-  kept H               print whether HDU H is kept stamped: yes or no
-  off                  print where each HDU begins, its data begin, and it ends
-  rep                  print what is wrong, and count it
-  # text               nothing; so does an empty line
-
-Exit status:
-  0  done
-  1  a line of the script was refused or bad; the others were done, and OUT was saved
-  2  a wrong command line, a file that doesn't open, or a script that is too long
-  3  a file or stream can't be read or written, or memory ran out
-
-fitsed(1) says when a line is refused.";
 
 /// The command line.
 pub fn command<'a>(alloc: Global) -> Result<Command<'a>, AllocError> {
@@ -108,8 +14,11 @@ pub fn command<'a>(alloc: Global) -> Result<Command<'a>, AllocError> {
         .after_help(STATUSES)
         .subcommand_required(true);
     let all = and(Ok(all), edit(alloc));
+    let all = and(all, ask(alloc));
+    let all = and(all, cards(alloc));
     let all = and(all, reading(alloc, "list", LIST, LISTED));
-    let all = and(all, reading(alloc, "sum", SUM, SUMMED));
+    let all = and(all, sum(alloc));
+    let all = and(all, reading(alloc, "stat", STAT, STATED));
     and(all, verify(alloc))
 }
 
@@ -127,33 +36,84 @@ fn and<'a>(
 
 fn edit<'a>(alloc: Global) -> Result<Command<'a>, AllocError> {
     let out = "The file to write; it may be IN, or /dev/null for answers alone";
-    reading(alloc, "edit", EDIT, LINES)?.arg(path(alloc, "OUT", out))
+    let out = path(alloc, "OUT", out).required_unless_present("in-place")?;
+    let more = path(alloc, "FILE", "More files to edit in place")
+        .action(ArgAction::Append)
+        .num_args(0..)
+        .requires_arg("in-place")?;
+    let whole = "Save nothing unless every line is done";
+    let in_place = "Edit IN, and each further file, where it stands; there is no OUT";
+    scripted(alloc, "edit", EDIT)?
+        .arg(flag(alloc, "all", 'a', whole))?
+        .arg(flag(alloc, "in-place", 'i', in_place))?
+        .arg(path(alloc, "IN", "The file to read").required(true))?
+        .arg(out)?
+        .arg(more)
+}
+
+fn ask<'a>(alloc: Global) -> Result<Command<'a>, AllocError> {
+    let command = scripted(alloc, "ask", ASK)?;
+    over_files(alloc, command)
+}
+
+// A command that has a script.
+fn scripted<'a>(alloc: Global, name: &'a str, about: &'a str) -> Result<Command<'a>, AllocError> {
+    let line = "A line of the script, in place of standard input; may be repeated";
+    let file = "A file with lines of the script, - for standard input; may be repeated";
+    Command::new(alloc, name)
+        .about(about)
+        .after_help(LINES)
+        .arg(list(alloc, "line", 'e', "LINE", line))?
+        .arg(list(alloc, "file", 'f', "FILE", file))
+}
+
+fn cards<'a>(alloc: Global) -> Result<Command<'a>, AllocError> {
+    let hdu = "Cards of this HDU alone; may be repeated";
+    let name = "Cards of this keyword alone; may be repeated";
+    reading(alloc, "cards", CARDS, SHOWN)?
+        .arg(list(alloc, "hdu", 'u', "HDU", hdu))?
+        .arg(list(alloc, "name", 'k', "NAME", name).allow_hyphen_values(true))
+}
+
+fn sum<'a>(alloc: Global) -> Result<Command<'a>, AllocError> {
+    let check = "Print the lines with a -1 alone, and end with 1 if there is one";
+    reading(alloc, "sum", SUM, SUMMED)?.arg(flag(alloc, "check", 'c', check))
 }
 
 fn verify<'a>(alloc: Global) -> Result<Command<'a>, AllocError> {
+    let names = "Print the names alone of files with errors, and of those that don't open";
     reading(alloc, "verify", VERIFY, FOUND)?
         .arg(flag(alloc, "errors", 'e', "List errors alone"))?
-        .arg(flag(alloc, "quiet", 'q', "List nothing: print the counts alone"))
+        .arg(flag(alloc, "quiet", 'q', "List nothing: print the counts alone"))?
+        .arg(flag(alloc, "warnings", 'w', "Warnings count for the status too"))?
+        .arg(flag(alloc, "files-with-errors", 'l', names))
 }
 
-// A command that reads a file.
+// A command that reads files.
 fn reading<'a>(
     alloc: Global,
     name: &'a str,
     about: &'a str,
     help: &'a str,
 ) -> Result<Command<'a>, AllocError> {
-    Command::new(alloc, name)
-        .about(about)
-        .after_help(help)
-        .arg(path(alloc, "IN", "The file to read"))
+    let command = Command::new(alloc, name).about(about).after_help(help);
+    over_files(alloc, command)
+}
+
+// A command over files.
+fn over_files<'a>(alloc: Global, command: Command<'a>) -> Result<Command<'a>, AllocError> {
+    let files = path(alloc, "IN", "The files to read")
+        .required(true)
+        .action(ArgAction::Append)
+        .num_args(1..);
+    let named = "Print the name of the file before each line, also of one file";
+    command
+        .arg(flag(alloc, "with-filename", 'H', named))?
+        .arg(files)
 }
 
 fn path<'a>(alloc: Global, id: &'a str, help: &'a str) -> Arg<'a> {
-    Arg::new(alloc, id)
-        .required(true)
-        .action(ArgAction::Set)
-        .help(help)
+    Arg::new(alloc, id).action(ArgAction::Set).help(help)
 }
 
 fn flag<'a>(alloc: Global, id: &'a str, letter: char, help: &'a str) -> Arg<'a> {
@@ -164,32 +124,11 @@ fn flag<'a>(alloc: Global, id: &'a str, letter: char, help: &'a str) -> Arg<'a> 
         .help(help)
 }
 
-// The level of the words of `verify`. With both flags nothing is listed.
-fn level_of(words: &ArgMatches<'_>) -> Level {
-    if words.get_flag("quiet") {
-        Level::Quiet
-    } else if words.get_flag("errors") {
-        Level::Errors
-    } else {
-        Level::All
-    }
-}
-
-/// The task of words that were read.
-pub fn task_of<'a>(matches: &ArgMatches<'a>) -> Option<Task<'a>> {
-    let (name, words) = matches.subcommand()?;
-    let from = words.get_str("IN")?;
-    let telling = match name {
-        "edit" => {
-            return Some(Task::Edit {
-                from,
-                to: words.get_str("OUT")?,
-            });
-        }
-        "list" => Telling::List,
-        "sum" => Telling::Sums,
-        "verify" => Telling::Report(level_of(words)),
-        _ => return None,
-    };
-    Some(Task::Tell { from, telling })
+fn list<'a>(alloc: Global, id: &'a str, letter: char, value: &'a str, help: &'a str) -> Arg<'a> {
+    Arg::new(alloc, id)
+        .short(letter)
+        .long(id)
+        .value_name(value)
+        .action(ArgAction::Append)
+        .help(help)
 }

@@ -2,19 +2,27 @@
 #![tactic(auto)]
 
 mod arguments;
+mod editing;
+mod files;
+mod help;
+mod piece;
+mod reading;
+mod reporting;
+mod task;
 
-use arguments::{Task, command, task_of};
+use arguments::command;
 use clap::Error;
 use clap::error::ErrorKind;
-use fits_cli::{End, Fault, SavedFile, Telling, run_edit, run_telling};
-use fits_stream::{FileSource, Watched};
+use editing::{edit, edit_in_place};
+use fits_cli::Fault;
+use reading::{Job, ask, each, name};
+use reporting::reported;
 use std::alloc::AllocError;
 use std::fs::File;
-use std::io::BufWriter;
-use std::os::unix::fs::MetadataExt;
 use std::process::ExitCode;
 use std::rt::Files;
 use std::{env, fs, io};
+use task::{Task, TaskFault, task_of};
 
 fn main(rt: HostRuntime) -> ExitCode {
     // A stream that was closed when the program started: this takes its place, so that no file that
@@ -34,93 +42,48 @@ fn main(rt: HostRuntime) -> ExitCode {
         Ok(matches) => matches,
         Err(error) => return ExitCode::from(usage(&rt, error)),
     };
-    let end = match task_of(&matches) {
-        Some(Task::Edit { from, to }) => edit(&rt, from, to),
-        Some(Task::Tell { from, telling }) => tell(&rt, from, telling),
-        None => return ExitCode::from(2),
-    };
-    if let Some(fault) = end.fault {
-        let _ = eprintln!(rt; "{fault}");
-    }
-    ExitCode::from(end.status)
+    ExitCode::from(match task_of(rt.alloc(), &matches) {
+        Ok(task) => status_of(&rt, task),
+        Err(why) => unsettled(&rt, why),
+    })
 }
 
-// Runs `edit` over the file at `from` and standard input.
-fn edit<R: Files<File = File> + Input + Print + AllocGlobal>(rt: &R, from: &str, to: &str) -> End {
-    let Ok(file) = fs::open(rt, from) else {
-        return End::from(Fault::ReadFailed);
-    };
-    let Ok(out) = BufWriter::new(rt.alloc(), io::writer(rt)) else {
-        return End::from(Fault::Memory);
-    };
-    let Ok(saved) = SavedFile::new(rt, to, mode_of(&file)) else {
-        return End::from(Fault::Memory);
-    };
-    let Ok(saved) = BufWriter::new(rt.alloc(), saved) else {
-        return End::from(Fault::Memory);
-    };
-    let mut saved = Watched::new(saved);
-    let end = run_edit(
-        rt.alloc(),
-        &mut source_of(file),
-        &mut Watched::new(rt.reader()),
-        &mut saved,
-        &mut Watched::new(out),
-    );
-    kept(saved.into_inner(), end)
-}
-
-// The permissions of a file that is read: those of one that is made like it. Of a pipe or a device,
-// those of any new file.
-fn mode_of(file: &File) -> u32 {
-    match file.metadata() {
-        Ok(about) if about.is_file() => about.mode() & 0o777,
-        _ => 0o666,
+// Does a task, and gives its status.
+fn status_of<R: Files<File = File> + Input + Print + Eprint + AllocGlobal>(
+    rt: &R,
+    task: Task<'_, '_>,
+) -> u8 {
+    match task {
+        Task::Edit {
+            script,
+            from,
+            to,
+            terms,
+        } => edit(rt, &script, from, to, terms),
+        Task::EditInPlace {
+            script,
+            paths,
+            terms,
+        } => edit_in_place(rt, &script, &paths, terms),
+        Task::Ask { script, files } => ask(rt, &script, files),
+        Task::Show { choice, files } => each(rt, Job::Show(&choice), files),
+        Task::Tell { telling, files } => each(rt, Job::Tell(telling), files),
+        Task::Name { telling, files } => name(rt, telling, files),
     }
 }
 
-// Keeps what was saved, where all was; else the file that was there before stays.
-fn kept<R: Files>(saved: BufWriter<SavedFile<'_, R>>, end: End) -> End {
-    if end.fault.is_some() {
-        return end;
-    }
-    let Ok(saved) = saved.into_inner() else {
-        return End::from(Fault::WriteFailed);
+// Explains words that clap takes and that ask for nothing. They end with 2 whether that can be
+// written or not.
+fn unsettled<R: Eprint>(rt: &R, why: TaskFault<'_>) -> u8 {
+    let _ = match why {
+        TaskFault::Memory => return reported(rt, Fault::Memory),
+        TaskFault::LongName(name) => {
+            eprintln!(rt; "fitsed: not a keyword name: {name}: more than 8 characters")
+        }
+        TaskFault::NotHdu(word) => eprintln!(rt; "fitsed: not the number of an HDU: {word}"),
+        TaskFault::Missing => Ok(()),
     };
-    match saved.keep() {
-        Ok(()) => end,
-        Err(_) => End::from(Fault::WriteFailed),
-    }
-}
-
-// Runs `list`, `sum` or `verify` over the file at `from`.
-fn tell<R: Files<File = File> + Print + AllocGlobal>(rt: &R, from: &str, telling: Telling) -> End {
-    let Ok(file) = fs::open(rt, from) else {
-        return End::from(Fault::ReadFailed);
-    };
-    let Ok(out) = BufWriter::new(rt.alloc(), io::writer(rt)) else {
-        return End::from(Fault::Memory);
-    };
-    run_telling(
-        rt.alloc(),
-        telling,
-        &mut source_of(file),
-        &mut Watched::new(out),
-    )
-}
-
-// A file to read: a regular one has places, so that its bytes can be gone past unread.
-fn source_of(file: File) -> FileSource<File> {
-    match file.metadata() {
-        Ok(about) if about.is_file() => FileSource::stored(file),
-        _ => FileSource::stream(file),
-    }
-}
-
-// Reports a fault on standard error, and gives its status.
-fn reported<R: Eprint>(rt: &R, fault: Fault) -> u8 {
-    let _ = eprintln!(rt; "{fault}");
-    fault.status()
+    2
 }
 
 // Help that was asked for is printed with status 0; wrong words are explained on standard error,

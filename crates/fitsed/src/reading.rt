@@ -1,0 +1,167 @@
+//! What is done with each file that is read.
+use crate::files::source_of;
+use crate::piece::{Piece, script_of};
+use crate::reporting::{report_changed, reported, reported_of};
+use crate::task::Files;
+use fits_cli::{
+    CardChoice, CardPlace, CardsEnd, End, Fault, Telling, run_ask, run_cards, run_telling,
+};
+use fits_stream::{NamedLines, Sink, Source, Watched};
+use std::alloc::{AllocError, Global};
+use std::fs::File;
+use std::io::{BufWriter, Write};
+use std::{fs, io, rt};
+
+/// What is done with a file.
+#[derive(Clone, Copy)]
+pub enum Job<'j> {
+    /// A script is answered.
+    Ask(&'j [u8]),
+    /// Its cards are shown.
+    Show(&'j CardChoice),
+    /// A text of it is printed.
+    Tell(Telling),
+}
+
+/// Does a script on each file, and saves nothing. Over one file standard input is answered as it
+/// comes.
+pub fn ask<R: rt::Files<File = File> + Input + Print + Eprint + AllocGlobal>(
+    rt: &R,
+    script: &[Piece<'_>],
+    files: Files<'_, '_>,
+) -> u8 {
+    if let (true, [path]) = (script.is_empty(), files.paths) {
+        return ask_as_it_comes(rt, path, files.named);
+    }
+    match script_of(rt, script) {
+        Ok(text) => each(rt, Job::Ask(&text), files),
+        Err(fault) => reported(rt, fault),
+    }
+}
+
+/// Does a job with each file. The status is the greatest.
+pub fn each<R: rt::Files<File = File> + Print + Eprint + AllocGlobal>(
+    rt: &R,
+    job: Job<'_>,
+    files: Files<'_, '_>,
+) -> u8 {
+    let Ok(mut out) = BufWriter::new(rt.alloc(), io::writer(rt)) else {
+        return reported(rt, Fault::Memory);
+    };
+    let mut status = 0;
+    for path in files.paths {
+        let done = one(rt, job, path, files.named, &mut out);
+        report_changed(rt, path, &done.changed);
+        let end = done.end;
+        status = status.max(end.status);
+        if let Some(fault) = end.fault {
+            let _status = reported_of(rt, path, files.named, fault);
+            if let Fault::Memory | Fault::WriteFailed = fault {
+                return status;
+            }
+        }
+    }
+    status
+}
+
+/// Prints the names of the files of which a report has something, and of those that don't open.
+pub fn name<R: rt::Files<File = File> + Print + Eprint + AllocGlobal>(
+    rt: &R,
+    telling: Telling,
+    files: Files<'_, '_>,
+) -> u8 {
+    let mut status = 0;
+    for path in files.paths {
+        let end = one(rt, Job::Tell(telling), path, false, &mut io::sink()).end;
+        status = status.max(end.status);
+        if let Some(fault) = end.fault {
+            let _status = reported_of(rt, path, true, fault);
+            if let Fault::Memory = fault {
+                return status;
+            }
+        }
+        if end.status == 1 || end.status == 2 {
+            if println!(rt; "{path}").is_err() {
+                return reported(rt, Fault::WriteFailed);
+            }
+        }
+    }
+    status
+}
+
+// Does a job with the file at a path.
+fn one<R: rt::Files<File = File> + AllocGlobal, W: Write>(
+    rt: &R,
+    job: Job<'_>,
+    path: &str,
+    named: bool,
+    out: &mut W,
+) -> CardsEnd {
+    let Ok(file) = fs::open(rt, path) else {
+        return ended(rt.alloc(), End::from(Fault::ReadFailed));
+    };
+    let mut source = source_of(file);
+    if !named {
+        return run(rt.alloc(), job, &mut source, &mut Watched::new(out));
+    }
+    let Ok(name) = before_lines(rt.alloc(), path) else {
+        return ended(rt.alloc(), End::from(Fault::Memory));
+    };
+    let mut out = NamedLines::new(Watched::new(out), name.as_bytes());
+    run(rt.alloc(), job, &mut source, &mut out)
+}
+
+// Answers standard input over one file, as it comes.
+fn ask_as_it_comes<R: rt::Files<File = File> + Input + Print + Eprint + AllocGlobal>(
+    rt: &R,
+    path: &str,
+    named: bool,
+) -> u8 {
+    let Ok(mut out) = BufWriter::new(rt.alloc(), io::writer(rt)) else {
+        return reported(rt, Fault::Memory);
+    };
+    let Ok(file) = fs::open(rt, path) else {
+        return reported_of(rt, path, named, Fault::ReadFailed);
+    };
+    let Ok(name) = before_lines(rt.alloc(), path) else {
+        return reported(rt, Fault::Memory);
+    };
+    let mut source = source_of(file);
+    let mut script = Watched::new(rt.reader());
+    let mut out = Watched::new(&mut out);
+    let end = if named {
+        let mut out = NamedLines::new(out, name.as_bytes());
+        run_ask(rt.alloc(), &mut source, &mut script, &mut out)
+    } else {
+        run_ask(rt.alloc(), &mut source, &mut script, &mut out)
+    };
+    match end.fault {
+        Some(fault) => reported_of(rt, path, named, fault),
+        None => end.status,
+    }
+}
+
+// Does a job.
+fn run<F: Source, O: Sink>(alloc: Global, job: Job<'_>, file: &mut F, out: &mut O) -> CardsEnd {
+    match job {
+        Job::Ask(text) => {
+            let mut script = text;
+            ended(alloc, run_ask(alloc, file, &mut script, out))
+        }
+        Job::Show(choice) => run_cards(alloc, choice, file, out),
+        Job::Tell(telling) => ended(alloc, run_telling(alloc, telling, file, out)),
+    }
+}
+
+// The end of a run that shows no cards.
+fn ended(alloc: Global, end: End) -> CardsEnd {
+    CardsEnd {
+        end,
+        changed: Vec::new(alloc),
+    }
+}
+
+// What stands before each line: the name and a colon.
+fn before_lines(alloc: Global, path: &str) -> Result<String, AllocError> {
+    format!(in alloc; "{path}:")
+}

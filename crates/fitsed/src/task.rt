@@ -1,0 +1,221 @@
+//! What the words of the command line ask for.
+use crate::piece::{Piece, pieces_of};
+use clap::ArgMatches;
+use fits_cli::{CardChoice, Level, NamePattern, Telling};
+use std::alloc::{AllocError, Global};
+
+/// What the command line asks for.
+#[derive(Drop)]
+pub enum Task<'m, 'a> {
+    /// A script edits the file at `from`; the result goes to `to`.
+    Edit {
+        script: Vec<Piece<'a>>,
+        from: &'a str,
+        to: &'a str,
+        terms: Terms,
+    },
+    /// A script edits each file where it stands.
+    EditInPlace {
+        script: Vec<Piece<'a>>,
+        paths: Vec<&'a str>,
+        terms: Terms,
+    },
+    /// A script is done on each file, and nothing is saved.
+    Ask {
+        script: Vec<Piece<'a>>,
+        files: Files<'m, 'a>,
+    },
+    /// Cards of each file are printed.
+    Show {
+        choice: CardChoice,
+        files: Files<'m, 'a>,
+    },
+    /// A text of each file is printed.
+    Tell {
+        telling: Telling,
+        files: Files<'m, 'a>,
+    },
+    /// The names of files are printed of which a report has something.
+    Name {
+        telling: Telling,
+        files: Files<'m, 'a>,
+    },
+}
+
+/// When the result of a script is saved.
+#[derive(Clone, Copy)]
+pub struct Terms {
+    /// Only where every line was done.
+    pub whole: bool,
+}
+
+/// The files that a command reads, and whether each line of its output is told the file's name.
+#[derive(Clone, Copy)]
+pub struct Files<'m, 'a> {
+    pub paths: &'m [&'a str],
+    pub named: bool,
+}
+
+/// Why words ask for nothing.
+#[derive(Clone, Copy)]
+pub enum TaskFault<'a> {
+    /// A keyword name has more than 8 characters.
+    LongName(&'a str),
+    /// An HDU's number is none.
+    NotHdu(&'a str),
+    /// No command is there, or an argument that it wants; clap tells of that before.
+    Missing,
+    /// Memory was refused.
+    Memory,
+}
+
+impl From<AllocError> for TaskFault<'_> {
+    fn from(_: AllocError) -> Self {
+        TaskFault::Memory
+    }
+}
+
+/// The task of words that were read.
+pub fn task_of<'m, 'a>(
+    alloc: Global,
+    matches: &'m ArgMatches<'a>,
+) -> Result<Task<'m, 'a>, TaskFault<'a>> {
+    let Some((name, words)) = matches.subcommand() else {
+        return Err(TaskFault::Missing);
+    };
+    if name == "edit" {
+        return edit_of(alloc, words);
+    }
+    let files = files_of(words)?;
+    Ok(match name {
+        "ask" => Task::Ask {
+            script: pieces_of(alloc, words)?,
+            files,
+        },
+        "cards" => Task::Show {
+            choice: choice_of(alloc, words)?,
+            files,
+        },
+        "verify" if words.get_flag("files-with-errors") => Task::Name {
+            telling: report_of(words, Level::Quiet),
+            files,
+        },
+        _ => Task::Tell {
+            telling: telling_of(name, words)?,
+            files,
+        },
+    })
+}
+
+// The words of `edit`: with `-i` all paths are files to edit.
+fn edit_of<'m, 'a>(
+    alloc: Global,
+    words: &'m ArgMatches<'a>,
+) -> Result<Task<'m, 'a>, TaskFault<'a>> {
+    let script = pieces_of(alloc, words)?;
+    let terms = Terms {
+        whole: words.get_flag("all"),
+    };
+    let Some(from) = words.get_str("IN") else {
+        return Err(TaskFault::Missing);
+    };
+    if words.get_flag("in-place") {
+        let paths = paths_of(alloc, words, from)?;
+        return Ok(Task::EditInPlace {
+            script,
+            paths,
+            terms,
+        });
+    }
+    let Some(to) = words.get_str("OUT") else {
+        return Err(TaskFault::Missing);
+    };
+    Ok(Task::Edit {
+        script,
+        from,
+        to,
+        terms,
+    })
+}
+
+// All paths of `edit -i`.
+fn paths_of<'a>(
+    alloc: Global,
+    words: &ArgMatches<'a>,
+    from: &'a str,
+) -> Result<Vec<&'a str>, AllocError> {
+    let mut paths = Vec::new(alloc);
+    paths.push(from)?;
+    if let Some(next) = words.get_str("OUT") {
+        paths.push(next)?;
+    }
+    for path in words.get_strs("FILE").unwrap_or(&[]) {
+        paths.push(*path)?;
+    }
+    Ok(paths)
+}
+
+fn files_of<'m, 'a>(words: &'m ArgMatches<'a>) -> Result<Files<'m, 'a>, TaskFault<'a>> {
+    let Some(paths) = words.get_strs("IN") else {
+        return Err(TaskFault::Missing);
+    };
+    Ok(Files {
+        paths,
+        named: paths.len() > 1 || words.get_flag("with-filename"),
+    })
+}
+
+// Which text of a file a command prints.
+fn telling_of<'a>(name: &str, words: &ArgMatches<'a>) -> Result<Telling, TaskFault<'a>> {
+    match name {
+        "list" => Ok(Telling::List),
+        "sum" if words.get_flag("check") => Ok(Telling::WrongSums),
+        "sum" => Ok(Telling::Sums),
+        "stat" => Ok(Telling::Statistics),
+        "verify" => Ok(report_of(words, level_of(words))),
+        _ => Err(TaskFault::Missing),
+    }
+}
+
+// The report of `verify`, as a level has it.
+fn report_of(words: &ArgMatches<'_>, level: Level) -> Telling {
+    if words.get_flag("warnings") {
+        Telling::StrictReport(level)
+    } else {
+        Telling::Report(level)
+    }
+}
+
+// The level of the words of `verify`. With both flags nothing is listed.
+fn level_of(words: &ArgMatches<'_>) -> Level {
+    if words.get_flag("quiet") {
+        Level::Quiet
+    } else if words.get_flag("errors") {
+        Level::Errors
+    } else {
+        Level::All
+    }
+}
+
+// Which cards the words of `cards` ask for.
+fn choice_of<'a>(alloc: Global, words: &ArgMatches<'a>) -> Result<CardChoice, TaskFault<'a>> {
+    let mut hdus = Vec::new(alloc);
+    for word in words.get_strs("hdu").unwrap_or(&[]) {
+        let Ok(hdu) = word.parse::<u64>() else {
+            return Err(TaskFault::NotHdu(*word));
+        };
+        let Ok(()) = hdus.push(hdu) else {
+            return Err(TaskFault::Memory);
+        };
+    }
+    let mut names = Vec::new(alloc);
+    for word in words.get_strs("name").unwrap_or(&[]) {
+        let Some(pattern) = NamePattern::of(word.as_bytes()) else {
+            return Err(TaskFault::LongName(*word));
+        };
+        let Ok(()) = names.push(pattern) else {
+            return Err(TaskFault::Memory);
+        };
+    }
+    Ok(CardChoice { hdus, names })
+}
