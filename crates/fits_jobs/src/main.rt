@@ -4,6 +4,7 @@
 
 mod digest;
 mod files;
+mod folders;
 mod frames;
 mod kept;
 mod noise;
@@ -11,6 +12,7 @@ mod outcome;
 mod reshapes;
 mod tables;
 
+use folders::read_folders;
 use frames::correct_frames;
 use kept::keep_mosaics;
 use noise::Noise;
@@ -24,6 +26,7 @@ use tables::mend_tables;
 // Does a job, so many rounds of it.
 fn job(alloc: Global, name: &str, rounds: usize, noise: &mut Noise) -> io::Result<Option<Outcome>> {
     let outcome = match name {
+        "folders" => read_folders(alloc, rounds, noise)?,
         "frames" => correct_frames(alloc, rounds, noise)?,
         "kept" => keep_mosaics(alloc, rounds, noise)?,
         "reshapes" => widen_images(alloc, rounds, noise)?,

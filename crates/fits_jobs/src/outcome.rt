@@ -6,7 +6,7 @@ use std::io;
 use std::io::{BufWriter, Read};
 
 /// A stream that keeps a digest of what is printed or saved.
-type Digested = Watched<BufWriter<Digest>>;
+pub type Digested = Watched<BufWriter<Digest>>;
 
 /// What runs of the program came to.
 #[derive(Clone, Copy)]
@@ -60,15 +60,15 @@ impl Outcome {
         self.add(saved)
     }
 
-    // Adds how a run ended.
-    fn end(&mut self, end: &End) {
+    /// Adds how a run ended.
+    pub fn end(&mut self, end: &End) {
         self.runs = self.runs.wrapping_add(1);
         let fault = u64::from(end.fault.is_some());
         self.mix(u64::from(end.status).wrapping_add(fault << 8));
     }
 
-    // Adds what a run printed or saved.
-    fn add(&mut self, written: Digested) -> io::Result<()> {
+    /// Adds what a run printed or saved.
+    pub fn add(&mut self, written: Digested) -> io::Result<()> {
         match written.into_inner().into_inner() {
             Ok(digest) => {
                 self.bytes = self.bytes.wrapping_add(digest.len);
