@@ -103,13 +103,6 @@ cards() { fitsed list "$1" | sed -n "s/^hdu $2 .* cards \([0-9]*\) .*/\1/p"; }
 echo "ins 2 $(($(cards examples/a_line_of_history/in.fits 2) + 1)) HISTORY 2026-11-23 flat field corrected by the archive" |
     fitsed edit examples/a_line_of_history/in.fits "$room/history.fits"
 expect 'a card comes after the last by a listing' cmp -s "$room/history.fits" examples/a_line_of_history/out.fits
-for example in examples/*/in.fits; do
-    fitsed verify "$example" 2>&1 | while IFS= read -r line; do printf '%s: %s\n' "$example" "$line"; done
-done | grep -v ': errors [0-9]* warnings [0-9]*$' >"$room/found"
-expect 'each finding has its file' [ "$(grep -c '^examples/a_file_with_problems/in.fits: [EW][0-9][0-9] ' "$room/found")" = 6 ]
-sed -n 's/.*: \([EW][0-9][0-9]\) .*/\1/p' "$room/found" | sort | uniq -c >"$room/counted"
-sed -n '/^Over the input files of the examples/,/^and /s/^ *[0-9]* [EW][0-9]*$/&/p' docs/GUIDE.md >"$room/lines"
-expect 'findings are counted by their codes' cmp -s "$room/counted" "$room/lines"
 fitsed sum examples/wrong_sums/in.fits | awk '$3 < 0 || $4 < 0 { print "stamp " $1 }' |
     fitsed edit examples/wrong_sums/in.fits "$room/stamped.fits"
 expect 'HDUs with wrong sums are stamped by their sums' [ "$(fitsed sum "$room/stamped.fits" | grep -c ' 1 1$')" = 3 ]

@@ -46,6 +46,22 @@ class Program:
         """A text of a file: these words and the file's name."""
         return self._run([*words, "in.fits"], file, [])
 
+    @contextlib.contextmanager
+    def room(self, files):
+        """A new folder with these files."""
+        with tempfile.TemporaryDirectory() as room:
+            for name, what in files.items():
+                (pathlib.Path(room) / name).write_bytes(what)
+            yield room
+
+    def over(self, words, files, script):
+        """These words in a folder with these files, and what it has then."""
+        with self.room(files) as room:
+            how = {"cwd": room, "input": script, "capture_output": True, "timeout": 60, "env": {**os.environ, **self.environment}}
+            ran = subprocess.run([self.path, *words], check=False, **how)
+            after = {it.name: it.read_bytes() for it in pathlib.Path(room).iterdir()}
+        return Ran(ran.returncode, ran.stdout, ran.stderr, None), after
+
     def _run(self, words, file, pieces, old=None):
         with tempfile.TemporaryDirectory() as room:
             path = pathlib.Path(room)

@@ -10,6 +10,7 @@ import sys
 
 import card_edits
 import codes
+import commands
 import documents
 import faults
 import hdu_edits
@@ -39,6 +40,7 @@ TABLES = [
     keeping,
     listings,
     sums,
+    commands,
     reports,
     codes,
     mending,

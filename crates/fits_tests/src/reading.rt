@@ -4,7 +4,8 @@ use crate::builders::{FileText, P0, PIXEL, file_of};
 use crate::changed_bytes::change;
 use crate::checks::same;
 use crate::planned::{Plan, SMOOTH, reader, stored};
-use fits_session::{OpenFault, ReadFileFault, Session, read_outlines, read_sums};
+use fits_hdu::Stats;
+use fits_session::{OpenFault, ReadFileFault, Session, read_outlines, read_statistics, read_sums};
 use std::process::Abort;
 use std::test::Fail;
 
@@ -71,7 +72,7 @@ fn each_prefix_of_a_file_has_its_fault(rt: HostRuntime) -> Result<(), Fail> {
 }
 
 #[test]
-fn the_ends_of_prefixes_are_summed_or_refused_alike(rt: HostRuntime) -> Result<(), Fail> {
+fn the_ends_of_prefixes_are_told_of_or_refused_alike(rt: HostRuntime) -> Result<(), Fail> {
     let bytes = file_of(rt.alloc(), FILE)?;
     for (least, most, fault) in PREFIXES {
         for len in [*least, *most] {
@@ -80,7 +81,32 @@ fn the_ends_of_prefixes_are_summed_or_refused_alike(rt: HostRuntime) -> Result<(
                 let plan = Plan { step, failing: 0 };
                 let found = read_sums(rt.alloc(), &mut reader(front, plan)).err();
                 same!(rt; found, fault.map(ReadFileFault::Open), (len, step));
+                let found = read_statistics(rt.alloc(), &mut reader(front, plan)).err();
+                same!(rt; found, fault.map(ReadFileFault::Open), (len, step));
             }
+        }
+    }
+    Ok(())
+}
+
+#[test]
+fn images_have_statistics_as_their_data_pass_by(rt: HostRuntime) -> Result<(), Fail> {
+    let bytes = file_of(rt.alloc(), FILE)?;
+    // the one pixel of each extension has the bytes 0 and 1
+    let one = Stats {
+        defined: 1,
+        blank: 0,
+        least: Some(1),
+        greatest: Some(1),
+        sum: 1,
+    };
+    let wanted = [None, Some(one), Some(one)];
+    for step in [7usize, 2880, 1_000_000] {
+        let plan = Plan { step, failing: 0 };
+        let found = read_statistics(rt.alloc(), &mut reader(&bytes, plan))?;
+        same!(rt; found.len(), wanted.len(), step);
+        for (it, stats) in found.iter().zip(wanted.iter()) {
+            same!(rt; it.stats, *stats, step);
         }
     }
     Ok(())
