@@ -19,7 +19,7 @@ use Rattle.fits_sum.specs.OnesComplement.{ones_complement}
 use Rattle.fits_sum.specs.Words.{word_total}
 use Rattle.fits_sum.proofs.WordLemmas.{totals_add}
 use Rattle.fits_hdu.specs.ExtensionName.{extension_name}
-use Rattle.fits_hdu.specs.Findings.{AreFindings, data_codes, is_filled, whole_codes}
+use Rattle.fits_hdu.specs.Findings.{AreFindings, AreFoundCards, data_codes, is_filled, whole_codes}
 use Rattle.fits_hdu.specs.Hdu.{HduParts, IsHdu, hdu_bytes}
 use Rattle.fits_hdu.specs.Layout.{fill_byte}
 use Rattle.fits_hdu.specs.Passing.{AreSums, IsSummed, TakesFewer, TakesSummed, codes_by, verdicts_of_sums}
@@ -142,16 +142,23 @@ summed_findings primary codes found name header shape sums hdu is cards called w
   called = called ∙ ap (λ (h : Header). extension_name (is_primary shape.class) h.cards) (sym p.passed.same);
 }
 
--- they are kept of it
-pub findings_summed : (primary : Bool) (a b : Supply) (codes : List Code) (found : List Finding) (name : Option ExtensionName) (header : Header) (shape : Shape) (sums : UnitSums)
-    → TakesHdu (λ hdu. IsSummed hdu header shape sums) primary a b → codes ≡ codes_by shape header sums → found ≡ card_findings shape header.cards → name ≡ extension_name (is_primary shape.class) header.cards
-    → TakesHdu (AreFindings codes found name) primary a b
-findings_summed primary a b codes found name header shape sums p is cards called = record {
+-- they and its cards are kept of it
+pub found_cards_summed : (primary : Bool) (a b : Supply) (codes : List Code) (found : List Finding) (name : Option ExtensionName) (cards : List (List ℕ)) (header : Header) (shape : Shape) (sums : UnitSums)
+    → TakesHdu (λ hdu. IsSummed hdu header shape sums) primary a b → codes ≡ codes_by shape header sums → found ≡ card_findings shape header.cards → name ≡ extension_name (is_primary shape.class) header.cards → cards ≡ header.cards
+    → TakesHdu (AreFoundCards codes found name cards) primary a b
+found_cards_summed primary a b codes found name cards header shape sums p is of_cards called are = record {
   hdu = p.hdu;
-  kept = summed_findings primary codes found name header shape sums p.hdu is cards called p.whole p.kept;
+  kept = record {
+    found = summed_findings primary codes found name header shape sums p.hdu is of_cards called p.whole p.kept;
+    cards_are = are ∙ ap (λ (h : Header). h.cards) (sym p.kept.passed.same);
+  };
   whole = p.whole;
   taken = p.taken;
 }
+
+-- or they alone
+pub findings_alone : (primary : Bool) (a b : Supply) (codes : List Code) (found : List Finding) (name : Option ExtensionName) (cards : List (List ℕ)) → TakesHdu (AreFoundCards codes found name cards) primary a b → TakesHdu (AreFindings codes found name) primary a b
+findings_alone primary a b codes found name cards p = record { hdu = p.hdu; kept = p.kept.found; whole = p.whole; taken = p.taken }
 
 -- and so are its sum and its verdicts
 pub sums_summed : (primary : Bool) (a b : Supply) (datasum : ℕ) (verdicts : Verdicts) (header : Header) (shape : Shape) (sums : UnitSums) → TakesHdu (λ hdu. IsSummed hdu header shape sums) primary a b

@@ -62,3 +62,8 @@ pub record AreFindings (whole : List Code) (of_cards : List Finding) (name : Opt
   pub codes : whole ≡ whole_codes shape hdu
   pub cards : of_cards ≡ card_findings shape hdu.header.cards
   pub called : name ≡ extension_name (is_primary shape.class) hdu.header.cards
+
+-- the same, and these are the cards of its header
+pub record AreFoundCards (whole : List Code) (of_cards : List Finding) (name : Option ExtensionName) (cards : List (List ℕ)) (hdu : HduParts) : Type 0 where
+  pub found : AreFindings whole of_cards name hdu
+  pub cards_are : cards ≡ hdu.header.cards

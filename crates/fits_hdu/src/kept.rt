@@ -4,6 +4,7 @@ ghost use Rattle.fits_hdu.specs.Hdu.{HduParts};
 ghost use Rattle.fits_hdu.specs.Reading.{HduStops, TakesHdu};
 
 use crate::findings::Findings;
+use crate::found_cards::FoundCards;
 use crate::hdu::Hdu;
 use crate::hdu_stats::HduStats;
 use crate::hdu_sums::HduSums;
@@ -74,6 +75,22 @@ impl Kept for Findings {
         primary: bool,
     ) -> Result<Findings, ReadHduFault> {
         Findings::read(alloc, intake, source, primary)
+    }
+}
+
+impl Kept for FoundCards {
+    ghost use Rattle.fits_hdu.specs.Findings.{AreFoundCards};
+
+    ghost keeps = { λ it hdu. AreFoundCards
+        it.found.whole it.found.of_cards.items it.found.name it.cards.header.cards hdu };
+
+    fn read_next<R: Source>(
+        alloc: Global,
+        intake: &mut Intake,
+        source: &mut R,
+        primary: bool,
+    ) -> Result<FoundCards, ReadHduFault> {
+        FoundCards::read(alloc, intake, source, primary)
     }
 }
 

@@ -121,6 +121,14 @@ impl Header {
         })
     }
 
+    /// Its cards, without what is kept beside them.
+    pub fn into_cards(self) -> CardList
+        ensures { result.header ≡ self.header }
+    {
+        let Header { cards, .. } = self;
+        cards
+    }
+
     /// The shape that its cards describe.
     pub fn shape(&self) -> &Shape
         ensures value { result.now ≡ self.now.shape }

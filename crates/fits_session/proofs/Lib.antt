@@ -1,6 +1,7 @@
 pub mod BoundLemmas
 pub mod CardEditLemmas
 pub mod CardLemmas
+pub mod CardReportLemmas
 pub mod ChangeLemmas
 pub mod CountLemmas
 pub mod EditLemmas

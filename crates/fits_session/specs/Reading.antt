@@ -5,12 +5,13 @@ use Rattle.fits_stream.specs.Intake.{Supply, Finds, Gives, GivesAll, Takes}
 use Rattle.fits_stream.specs.Stream.{SourceState, FailsOnce, StaysQuiet}
 use Rattle.fits_stream.specs.declared.reading.ReadFault.{ReadFault}
 use Rattle.fits_stream.specs.declared.reading.ReadFault.TheVariants as read
-use Rattle.fits_hdu.specs.Findings.{AreFindings}
+use Rattle.fits_hdu.specs.Findings.{AreFindings, AreFoundCards}
 use Rattle.fits_hdu.specs.Hdu.{HduParts}
 use Rattle.fits_hdu.specs.Pixels.{AreStatsOf}
 use Rattle.fits_hdu.specs.Reading.{IsOutlined}
 use Rattle.fits_hdu.specs.Sums.{AreSumsOf}
 use Rattle.fits_hdu.specs.declared.findings.Findings.{Findings}
+use Rattle.fits_hdu.specs.declared.found_cards.FoundCards.{FoundCards}
 use Rattle.fits_hdu.specs.declared.hdu_stats.HduStats.{HduStats}
 use Rattle.fits_hdu.specs.declared.hdu_sums.HduSums.{HduSums}
 use Rattle.fits_hdu.specs.declared.outline.Outline.{Outline}
@@ -92,6 +93,10 @@ NextBegins false first = begins_extension first ≡ true
 -- this is found of an HDU
 abbrev pub is_found : Findings → HduParts → Type 0
 is_found it hdu = AreFindings it.whole it.of_cards.items it.name hdu
+
+-- the same with the cards of its header
+abbrev pub is_found_with_cards : FoundCards → HduParts → Type 0
+is_found_with_cards it hdu = AreFoundCards it.found.whole it.found.of_cards.items it.found.name it.cards.header.cards hdu
 
 -- this is an HDU's outline
 abbrev pub is_outline : Outline → HduParts → Type 0

@@ -17,6 +17,7 @@ use Rattle.fits_hdu.specs.declared.findings.Findings.{Findings}
 use Rattle.fits_session.specs.Edit.{hdu_of}
 use Rattle.fits_session.specs.File.{FileParts, is_followed, IsFileOf}
 use Rattle.fits_session.specs.Edit.{is_primary_hdu}
+use Rattle.fits_session.specs.Headers.{cards_of}
 use Rattle.fits_session.specs.declared.problem.Problem.{Problem}
 
 -- a finding in HDU h
@@ -128,3 +129,10 @@ pub record IsReportOf (report : List Problem) (bytes : List ℕ) : Type 0 where
   pub file : FileParts
   pub opened : IsFileOf bytes file
   pub all : report ≡ report_of file
+
+-- the same, and these are the cards of its headers
+pub record IsCardReportOf (report : List Problem) (cards : List (List (List ℕ))) (bytes : List ℕ) : Type 0 where
+  pub file : FileParts
+  pub opened : IsFileOf bytes file
+  pub all : report ≡ report_of file
+  pub cards_are : cards ≡ cards_of file.hdus

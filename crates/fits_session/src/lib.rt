@@ -2,6 +2,7 @@
 #![tactic(auto)]
 
 mod card_edit;
+mod card_report;
 mod corner;
 mod edit;
 mod hdu_edit;
@@ -27,6 +28,7 @@ mod walking;
 mod work_laws;
 
 pub use card_edit::CardEdit;
+pub use card_report::{CardReport, read_card_report};
 pub use corner::Corner;
 pub use edit::Edit;
 pub use hdu_edit::HduEdit;

@@ -32,8 +32,12 @@ pub fn read_report<R: Source>(alloc: Global, source: &mut R) -> Result<Vec<Probl
     Ok(report)
 }
 
-// The report of a file, by what is found of each of its HDUs and whether bytes follow the last.
-fn report_of(alloc: Global, found: &[Findings], followed: bool) -> Result<Vec<Problem>, AllocError>
+/// The report of a file, by what is found of each of its HDUs and whether bytes follow the last.
+pub(crate) fn report_of(
+    alloc: Global,
+    found: &[Findings],
+    followed: bool,
+) -> Result<Vec<Problem>, AllocError>
     ensures { (bytes : List ℕ) (file : FileParts) → IsFileOf bytes file
         → KeepsEach is_found found.now file.hdus → followed ≡ is_followed file.tail
         → IfOk result (λ report. report.items ≡ report_of file) }

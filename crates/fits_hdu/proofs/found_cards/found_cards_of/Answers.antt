@@ -1,6 +1,6 @@
 use Rattle.std.proofs.Common.{◌∙◌}
 use Rattle.fits_hdu.proofs.ReportLemmas.{few_codes, marked_codes}
-use Rattle.fits_hdu.proofs.findings.findings_of.Goals as goal
+use Rattle.fits_hdu.proofs.found_cards.found_cards_of.Goals as goal
 
 pub with_data_codes-whole-requires : goal.with_data_codes-whole-requires
 with_data_codes-whole-requires c =
