@@ -28,6 +28,8 @@ fn closing_place(text: &[u8]) -> Option<usize>
 }
 
 /// The kind of the value at the front and how many bytes it has: none of them for no value.
+// Each card is scanned by it: the second call, of texts that are no values, would keep it out of line.
+#[inline(always)]
 pub(crate) fn scan_value(text: &[u8]) -> Option<(ValueKind, usize)>
     ensures value { result ≡ front_value text.now }
     ensures within { IfSome result (λ value. value.1 ≤ length text.now) }
