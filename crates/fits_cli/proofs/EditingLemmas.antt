@@ -16,12 +16,13 @@ use Rattle.fits_session.specs.declared.open_fault.OpenFault.TheVariants.{NotFits
 use Rattle.fits_session.specs.declared.read_fault.ReadFileFault.{ReadFileFault}
 use Rattle.fits_session.specs.declared.read_fault.ReadFileFault.TheVariants.{Open, Failed}
 use Rattle.fits_cli.specs.Answer.{Standing, at_first_line}
-use Rattle.fits_cli.specs.Ends.{RunState, AsksAs, AsksBy, EndsBy, FlushesOrFails, EndsWhole, EndsWholeAs, Opens, HasLines, IsAsked, IsDoneWhole, IsRefused, IsUndone, Succeeds, AnswersFail, StopsBy}
+use Rattle.fits_cli.specs.Ends.{RunState, AreAllRemarks, AreRemarksOn, AreToldOf, AsksAs, AsksBy, EndsBy, FlushesOrFails, EndsWhole, EndsWholeAs, Opens, HasLines, IsAsked, IsDoneWhole, IsRefused, IsUndone, Succeeds, AnswersFail, StopsBy}
 use Rattle.fits_cli.specs.Faults.{fault_of_file, status_of_fault, PrintFails}
 use Rattle.fits_cli.specs.declared.end.End.{End}
 use Rattle.fits_cli.specs.declared.limits.TheConstants.{SCRIPT_LIMIT}
+use Rattle.fits_cli.specs.Remark.{remarks, Remarks}
 use Rattle.fits_cli.specs.Output.{Output, answers, standing_after, status_of, output_unopened, output_of_lines, output_too_long, IsOutputOf}
-use Rattle.fits_cli.specs.Running.{AnswersScript, AnswersTooLong, NeedsMemoryAt, ScriptReadFails, ScriptWriteFails, ScriptStops, FlushesThen, FlushesAnswers, IsAnsweredRun, IsFlushed}
+use Rattle.fits_cli.specs.Running.{Heard, heard, AnswersScript, AnswersTooLong, NeedsMemoryAt, ScriptReadFails, ScriptWriteFails, ScriptStops, FlushesThen, FlushesAnswers, IsAnsweredRun, IsFlushed}
 use Rattle.fits_cli.specs.Script.{script_lines}
 use Rattle.fits_cli.specs.declared.fault.Fault.{Fault}
 use Rattle.fits_cli.specs.declared.fault.Fault.TheVariants.{Refused, ScriptTooLong, Memory, ReadFailed, WriteFailed}
@@ -88,7 +89,7 @@ choice-over : (n limit : ℕ) (a b : Output) → limit < n → b ≡ (if nat_le 
 choice-over n limit a b over = let test : nat_le n limit ≡ false = search rules in rw test refl
 
 -- the output of a script that is answered whole
-output_whole : (old new : SourceState) (file : SourceState) (parts : FileParts) (now : Standing) (held holds : SinkState) (opened : Opens file parts) (done : AnswersScript old new (at_first_line parts) now held holds)
+pub output_whole : (old new : SourceState) (file : SourceState) (parts : FileParts) (now : Standing) (held holds : Heard) (opened : Opens file parts) (done : AnswersScript old new (at_first_line parts) now held holds)
     → IsOutputOf opened.0 done.script (output_of_lines parts (script_lines done.lines done.last))
 output_whole old new file parts now held holds opened done = inr (record {
   parts = parts;
@@ -106,11 +107,11 @@ known_told (Some xs) None bytes read ended = absurd read
 known_told (Some xs) (Some ys) bytes read ended = read ∙ ap (λ t. bytes ++ t) ended ∙ append-nil bytes
 
 -- so all that it had is told
-script_told : (a b : SourceState) (bytes : List ℕ) → Reads bytes a b → IsAtEnd b.remaining → Tells a bytes
+pub script_told : (a b : SourceState) (bytes : List ℕ) → Reads bytes a b → IsAtEnd b.remaining → Tells a bytes
 script_told a b bytes read ended = known_told a.remaining b.remaining bytes read.gone ended
 
 -- all its lines
-all_lines : (old new : SourceState) (before now : Standing) (held holds : SinkState) (done : AnswersScript old new before now held holds) → HasLines old new (script_lines done.lines done.last)
+all_lines : (old new : SourceState) (before now : Standing) (held holds : Heard) (done : AnswersScript old new before now held holds) → HasLines old new (script_lines done.lines done.last)
 all_lines old new before now held holds done = record {
   whole = done.lines;
   last = done.last;
@@ -148,20 +149,20 @@ abbrev Ended : Result (Unit {0}) Fault → Fault → SinkState → SinkState →
 Ended result why mid out = ((result ≡ Err why) × Flushes mid out) ⊎ ((result ≡ Err WriteFailed) × FailsToFlush mid out)
 
 -- a run whose script was answered whole, and whose answers aren't flushed
-StopsBy-done : (old new : RunState) (mid : SinkState) (result : Result (Unit {0}) Fault) (fault : Fault) (parts : FileParts) (now : Standing) → result ≡ Err fault
+StopsBy-done : (old new : RunState) (mid : SinkState) (told told_after : Option SinkState) (result : Result (Unit {0}) Fault) (fault : Fault) (parts : FileParts) (now : Standing) → result ≡ Err fault
     → Opens old.file parts → StaysQuiet old.file new.file → new.saved ≡ old.saved
-    → AnswersScript old.script new.script (at_first_line parts) now old.printed mid → (result ≡ Err WriteFailed) × FailsToFlush mid new.printed → StopsBy old new fault
-StopsBy-done old new mid result fault parts now is opened of_file saved done flush =
+    → AnswersScript old.script new.script (at_first_line parts) now (heard old.printed told) (heard mid told_after) → (result ≡ Err WriteFailed) × FailsToFlush mid new.printed → StopsBy old new fault
+StopsBy-done old new mid told told_after result fault parts now is opened of_file saved done flush =
     let lines : List (List ℕ) = script_lines done.lines done.last in
     subst (λ (f : Fault). StopsBy old new f) (same_fault result WriteFailed fault flush.0 is)
     (inl (AnswersFail-flush old new mid parts lines [] lines of_file done.read.quiet saved opened
-    (all_lines old.script new.script (at_first_line parts) now old.printed mid done) (sym (append-nil lines)) done.answered.printed flush.1))
+    (all_lines old.script new.script (at_first_line parts) now (heard old.printed told) (heard mid told_after) done) (sym (append-nil lines)) done.answered.said.printed flush.1))
 
 -- a run whose script is too long
-StopsBy-too_long : (old new : RunState) (mid : SinkState) (result : Result (Unit {0}) Fault) (fault : Fault) (parts : FileParts) → result ≡ Err fault
+StopsBy-too_long : (old new : RunState) (mid : SinkState) (told told_after : Option SinkState) (result : Result (Unit {0}) Fault) (fault : Fault) (parts : FileParts) → result ≡ Err fault
     → Opens old.file parts → StaysQuiet old.file new.file → new.saved ≡ old.saved
-    → AnswersTooLong old.script new.script (at_first_line parts) old.printed mid → Ended result ScriptTooLong mid new.printed → StopsBy old new fault
-StopsBy-too_long old new mid result fault parts is opened of_file saved long (inl flush) =
+    → AnswersTooLong old.script new.script (at_first_line parts) (heard old.printed told) (heard mid told_after) → Ended result ScriptTooLong mid new.printed → StopsBy old new fault
+StopsBy-too_long old new mid told told_after result fault parts is opened of_file saved long (inl flush) =
     subst (λ (f : Fault). StopsBy old new f) (same_fault result ScriptTooLong fault flush.0 is)
     (record {
       run = record {
@@ -178,7 +179,7 @@ StopsBy-too_long old new mid result fault parts is opened of_file saved long (in
           cut = long.cut;
           is = choice-over (length long.script) SCRIPT_LIMIT (output_of_lines parts (script_lines long.lines long.last)) (output_too_long parts long.lines) long.long;
         });
-        printed = Prints-flushed old.printed mid new.printed (answers (at_first_line parts) long.lines) long.printed flush.1;
+        printed = Prints-flushed old.printed mid new.printed (answers (at_first_line parts) long.lines) long.said.printed flush.1;
         saved = Prints-same old.saved new.saved saved;
         status_is = refl;
         fault_is = refl;
@@ -187,10 +188,10 @@ StopsBy-too_long old new mid result fault parts is opened of_file saved long (in
       printed = flush.1.flushed;
       saved = saved;
     })
-StopsBy-too_long old new mid result fault parts is opened of_file saved long (inr flush) =
+StopsBy-too_long old new mid told told_after result fault parts is opened of_file saved long (inr flush) =
     subst (λ (f : Fault). StopsBy old new f) (same_fault result WriteFailed fault flush.0 is)
     (inl (AnswersFail-flush old new mid parts long.lines [] long.lines of_file long.quiet saved opened
-    (record { whole = long.lines; last = long.last; reached = long.reached; are = inl refl }) (sym (append-nil long.lines)) long.printed flush.1))
+    (record { whole = long.lines; last = long.last; reached = long.reached; are = inl refl }) (sym (append-nil long.lines)) long.said.printed flush.1))
 
 -- before the first line
 no_lines : (old new : SourceState) → new ≡ old → HasLines old new []
@@ -202,22 +203,22 @@ no_lines old new same = record {
 }
 
 -- a run whose script needs memory that is refused
-StopsBy-memory : (old new : RunState) (mid : SinkState) (result : Result (Unit {0}) Fault) (fault : Fault) (parts : FileParts) → result ≡ Err fault
+StopsBy-memory : (old new : RunState) (mid : SinkState) (told told_after : Option SinkState) (result : Result (Unit {0}) Fault) (fault : Fault) (parts : FileParts) → result ≡ Err fault
     → Opens old.file parts → StaysQuiet old.file new.file → new.saved ≡ old.saved → StaysQuiet old.script new.script
-    → (new.script ≡ old.script × mid ≡ old.printed) ⊎ ((lines : List (List ℕ)) × HasLines old.script new.script lines × NeedsMemoryAt lines (at_first_line parts) old.printed mid)
+    → (new.script ≡ old.script × heard mid told_after ≡ heard old.printed told) ⊎ ((lines : List (List ℕ)) × HasLines old.script new.script lines × NeedsMemoryAt lines (at_first_line parts) (heard old.printed told) (heard mid told_after))
     → Ended result Memory mid new.printed → StopsBy old new fault
-StopsBy-memory old new mid result fault parts is opened of_file saved of_script (inl none) (inl flush) =
+StopsBy-memory old new mid told told_after result fault parts is opened of_file saved of_script (inl none) (inl flush) =
     subst (λ (f : Fault). StopsBy old new f) (same_fault result Memory fault flush.0 is)
     (record {
       read = record { of_file = of_file; of_script = of_script };
-      printed = inl (none.0, Prints-flushed old.printed mid new.printed [] (Prints-same old.printed mid none.1) flush.1);
+      printed = inl (none.0, Prints-flushed old.printed mid new.printed [] (Prints-same old.printed mid (ap (λ (h : Heard). h.out) none.1)) flush.1);
       saved = saved;
     })
-StopsBy-memory old new mid result fault parts is opened of_file saved of_script (inl none) (inr flush) =
+StopsBy-memory old new mid told told_after result fault parts is opened of_file saved of_script (inl none) (inr flush) =
     subst (λ (f : Fault). StopsBy old new f) (same_fault result WriteFailed fault flush.0 is)
     (inl (AnswersFail-flush old new mid parts [] [] [] of_file of_script saved opened (no_lines old.script new.script none.0) refl
-    (rw (answers-none (at_first_line parts)) (Prints-same old.printed mid none.1)) flush.1))
-StopsBy-memory old new mid result fault parts is opened of_file saved of_script (inr some) (inl flush) =
+    (rw (answers-none (at_first_line parts)) (Prints-same old.printed mid (ap (λ (h : Heard). h.out) none.1))) flush.1))
+StopsBy-memory old new mid told told_after result fault parts is opened of_file saved of_script (inr some) (inl flush) =
     let at = some.2 in
     subst (λ (f : Fault). StopsBy old new f) (same_fault result Memory fault flush.0 is)
     (record {
@@ -230,15 +231,15 @@ StopsBy-memory old new mid result fault parts is opened of_file saved of_script 
         opened = opened;
         reached = subst (λ (ls : List (List ℕ)). HasLines old.script new.script ls) at.split some.1;
         needs = at.needs;
-        printed = Prints-flushed old.printed mid new.printed (answers (at_first_line parts) at.done) at.printed flush.1;
+        printed = Prints-flushed old.printed mid new.printed (answers (at_first_line parts) at.done) at.said.printed flush.1;
         flushed = flush.1.flushed;
       });
       saved = saved;
     })
-StopsBy-memory old new mid result fault parts is opened of_file saved of_script (inr some) (inr flush) =
+StopsBy-memory old new mid told told_after result fault parts is opened of_file saved of_script (inr some) (inr flush) =
     let at = some.2 in
     subst (λ (f : Fault). StopsBy old new f) (same_fault result WriteFailed fault flush.0 is)
-    (inl (AnswersFail-flush old new mid parts at.done (at.line ∷ at.others) some.0 of_file of_script saved opened some.1 at.split at.printed flush.1))
+    (inl (AnswersFail-flush old new mid parts at.done (at.line ∷ at.others) some.0 of_file of_script saved opened some.1 at.split at.said.printed flush.1))
 
 -- how the answers stand after a failed read, flushed or not
 flushed_or_not : (a b c : SinkState) (text : List ℕ) → Prints text a b → Flushes b c ⊎ FailsToFlush b c → Appends a.contents c.contents text × FlushesOrFails a c
@@ -246,11 +247,11 @@ flushed_or_not a b c text printed (inl flush) = let whole = Prints-flushed a b c
 flushed_or_not a b c text printed (inr failed) = (Appends-kept a.contents b.contents c.contents text printed.bytes failed.bytes, inr (omega (arith, printed.quiet, failed.failed)))
 
 -- a run whose script can't be read
-StopsBy-read : (old new : RunState) (mid : SinkState) (result : Result (Unit {0}) Fault) (fault : Fault) (parts : FileParts) → result ≡ Err fault
+StopsBy-read : (old new : RunState) (mid : SinkState) (told told_after : Option SinkState) (result : Result (Unit {0}) Fault) (fault : Fault) (parts : FileParts) → result ≡ Err fault
     → Opens old.file parts → StaysQuiet old.file new.file → new.saved ≡ old.saved
-    → ScriptReadFails old.script new.script (at_first_line parts) old.printed mid → (result ≡ Err ReadFailed) × (Flushes mid new.printed ⊎ FailsToFlush mid new.printed) → StopsBy old new fault
-StopsBy-read old new mid result fault parts is opened of_file saved fails flush =
-    let out = flushed_or_not old.printed mid new.printed (answers (at_first_line parts) fails.lines) fails.printed flush.1 in
+    → ScriptReadFails old.script new.script (at_first_line parts) (heard old.printed told) (heard mid told_after) → (result ≡ Err ReadFailed) × (Flushes mid new.printed ⊎ FailsToFlush mid new.printed) → StopsBy old new fault
+StopsBy-read old new mid told told_after result fault parts is opened of_file saved fails flush =
+    let out = flushed_or_not old.printed mid new.printed (answers (at_first_line parts) fails.lines) fails.said.printed flush.1 in
     subst (λ (f : Fault). StopsBy old new f) (same_fault result ReadFailed fault flush.0 is)
     (inr (record {
       of_file = of_file;
@@ -267,10 +268,10 @@ StopsBy-read old new mid result fault parts is opened of_file saved fails flush 
     }))
 
 -- a run whose answers can't be written
-StopsBy-write : (old new : RunState) (mid : SinkState) (result : Result (Unit {0}) Fault) (fault : Fault) (parts : FileParts) → result ≡ Err fault
+StopsBy-write : (old new : RunState) (mid : SinkState) (told told_after : Option SinkState) (result : Result (Unit {0}) Fault) (fault : Fault) (parts : FileParts) → result ≡ Err fault
     → Opens old.file parts → StaysQuiet old.file new.file → new.saved ≡ old.saved
-    → ScriptWriteFails old.script new.script (at_first_line parts) old.printed mid → (result ≡ Err WriteFailed) × (new.printed ≡ mid) → StopsBy old new fault
-StopsBy-write old new mid result fault parts is opened of_file saved fails flush =
+    → ScriptWriteFails old.script new.script (at_first_line parts) (heard old.printed told) (heard mid told_after) → (result ≡ Err WriteFailed) × (new.printed ≡ mid) → StopsBy old new fault
+StopsBy-write old new mid told told_after result fault parts is opened of_file saved fails flush =
     subst (λ (f : Fault). StopsBy old new f) (same_fault result WriteFailed fault flush.0 is)
     (inl (record {
       read = record { of_file = of_file; of_script = fails.quiet };
@@ -278,7 +279,7 @@ StopsBy-write old new mid result fault parts is opened of_file saved fails flush
       lines = fails.lines;
       opened = opened;
       reached = fails.reached;
-      printed = subst (λ (s : SinkState). PrintsFront (answers (at_first_line parts) fails.lines) old.printed s) (sym flush.1) fails.printed;
+      printed = subst (λ (s : SinkState). PrintsFront (answers (at_first_line parts) fails.lines) old.printed s) (sym flush.1) fails.front.printed;
       saved = saved;
     }))
 
@@ -288,18 +289,18 @@ flush_fails result done fault mid out is (inl flush) = absurd (no_fault result d
 flush_fails result done fault mid out is (inr flush) = flush
 
 -- a run that ends after its script, before saving
-pub StopsBy-script : (old new : RunState) (mid : SinkState) (answered result : Result (Unit {0}) Fault) (fault : Fault) (parts : FileParts) (now : Standing) → result ≡ Err fault
+pub StopsBy-script : (old new : RunState) (mid : SinkState) (told told_after : Option SinkState) (answered result : Result (Unit {0}) Fault) (fault : Fault) (parts : FileParts) (now : Standing) → result ≡ Err fault
     → Opens old.file parts → StaysQuiet old.file new.file → new.saved ≡ old.saved
-    → OnOk answered (AnswersScript old.script new.script (at_first_line parts) now old.printed mid)
-    → IfErr answered (ScriptStops old.script new.script (at_first_line parts) old.printed mid)
+    → OnOk answered (AnswersScript old.script new.script (at_first_line parts) now (heard old.printed told) (heard mid told_after))
+    → IfErr answered (ScriptStops old.script new.script (at_first_line parts) (heard old.printed told) (heard mid told_after))
     → FlushesAnswers answered result mid new.printed → StopsBy old new fault
-StopsBy-script old new mid (Ok done) result fault parts now is opened of_file saved ok err flush =
-    StopsBy-done old new mid result fault parts now is opened of_file saved ok (flush_fails result done fault mid new.printed is flush)
-StopsBy-script old new mid (Err (Refused why)) result fault parts now is opened of_file saved ok err flush = absurd err
-StopsBy-script old new mid (Err ScriptTooLong) result fault parts now is opened of_file saved ok err flush = StopsBy-too_long old new mid result fault parts is opened of_file saved err flush
-StopsBy-script old new mid (Err Memory) result fault parts now is opened of_file saved ok err flush = StopsBy-memory old new mid result fault parts is opened of_file saved err.quiet err.at flush
-StopsBy-script old new mid (Err ReadFailed) result fault parts now is opened of_file saved ok err flush = StopsBy-read old new mid result fault parts is opened of_file saved err flush
-StopsBy-script old new mid (Err WriteFailed) result fault parts now is opened of_file saved ok err flush = StopsBy-write old new mid result fault parts is opened of_file saved err flush
+StopsBy-script old new mid told told_after (Ok done) result fault parts now is opened of_file saved ok err flush =
+    StopsBy-done old new mid told told_after result fault parts now is opened of_file saved ok (flush_fails result done fault mid new.printed is flush)
+StopsBy-script old new mid told told_after (Err (Refused why)) result fault parts now is opened of_file saved ok err flush = absurd err
+StopsBy-script old new mid told told_after (Err ScriptTooLong) result fault parts now is opened of_file saved ok err flush = StopsBy-too_long old new mid told told_after result fault parts is opened of_file saved err flush
+StopsBy-script old new mid told told_after (Err Memory) result fault parts now is opened of_file saved ok err flush = StopsBy-memory old new mid told told_after result fault parts is opened of_file saved err.quiet err.at flush
+StopsBy-script old new mid told told_after (Err ReadFailed) result fault parts now is opened of_file saved ok err flush = StopsBy-read old new mid told told_after result fault parts is opened of_file saved err flush
+StopsBy-script old new mid told told_after (Err WriteFailed) result fault parts now is opened of_file saved ok err flush = StopsBy-write old new mid told told_after result fault parts is opened of_file saved err flush
 
 -- a fault that is passed on is that of a call
 pub fault_exit : {T : Type 0} (result : Result T Fault) (why : Fault) (P : Fault → Type 0) → IsErrAnd result (λ e. e ≡ why) → P why → IfErr result P
@@ -318,18 +319,18 @@ pub ends_exit : (old new : RunState) (result : Result ℕ Fault) (why : Fault) �
 ends_exit old new result why is stops = let exit = err_from_is_err_and result is in rw (exit.1, exit.2) stops
 
 -- nothing else is done
-pub flushed_done : (old new : SourceState) (parts : FileParts) (now : Standing) (held mid holds : SinkState) (answered result : Result (Unit {0}) Fault) (done : Unit {0}) → result ≡ Ok done
-    → OnOk answered (AnswersScript old new (at_first_line parts) now held mid) → FlushesAnswers answered result mid holds → IsFlushed old new parts now held holds
-flushed_done old new parts now held mid holds (Ok a) result done is ok (inl flush) = record { mid = mid; script = ok; flush = flush.1 }
-flushed_done old new parts now held mid holds (Ok a) result done is ok (inr flush) = absurd (no_fault result done WriteFailed is flush.0)
-flushed_done old new parts now held mid holds (Err (Refused why)) result done is ok (inl flush) = absurd (no_fault result done (Refused why) is flush.0)
-flushed_done old new parts now held mid holds (Err (Refused why)) result done is ok (inr flush) = absurd (no_fault result done WriteFailed is flush.0)
-flushed_done old new parts now held mid holds (Err ScriptTooLong) result done is ok (inl flush) = absurd (no_fault result done ScriptTooLong is flush.0)
-flushed_done old new parts now held mid holds (Err ScriptTooLong) result done is ok (inr flush) = absurd (no_fault result done WriteFailed is flush.0)
-flushed_done old new parts now held mid holds (Err Memory) result done is ok (inl flush) = absurd (no_fault result done Memory is flush.0)
-flushed_done old new parts now held mid holds (Err Memory) result done is ok (inr flush) = absurd (no_fault result done WriteFailed is flush.0)
-flushed_done old new parts now held mid holds (Err ReadFailed) result done is ok flush = absurd (no_fault result done ReadFailed is flush.0)
-flushed_done old new parts now held mid holds (Err WriteFailed) result done is ok flush = absurd (no_fault result done WriteFailed is flush.0)
+pub flushed_done : (old new : SourceState) (parts : FileParts) (now : Standing) (held mid holds : SinkState) (told told_after : Option SinkState) (answered result : Result (Unit {0}) Fault) (done : Unit {0}) → result ≡ Ok done
+    → OnOk answered (AnswersScript old new (at_first_line parts) now (heard held told) (heard mid told_after)) → FlushesAnswers answered result mid holds → IsFlushed old new parts now held holds told told_after
+flushed_done old new parts now held mid holds told told_after (Ok a) result done is ok (inl flush) = record { mid = mid; script = ok; flush = flush.1 }
+flushed_done old new parts now held mid holds told told_after (Ok a) result done is ok (inr flush) = absurd (no_fault result done WriteFailed is flush.0)
+flushed_done old new parts now held mid holds told told_after (Err (Refused why)) result done is ok (inl flush) = absurd (no_fault result done (Refused why) is flush.0)
+flushed_done old new parts now held mid holds told told_after (Err (Refused why)) result done is ok (inr flush) = absurd (no_fault result done WriteFailed is flush.0)
+flushed_done old new parts now held mid holds told told_after (Err ScriptTooLong) result done is ok (inl flush) = absurd (no_fault result done ScriptTooLong is flush.0)
+flushed_done old new parts now held mid holds told told_after (Err ScriptTooLong) result done is ok (inr flush) = absurd (no_fault result done WriteFailed is flush.0)
+flushed_done old new parts now held mid holds told told_after (Err Memory) result done is ok (inl flush) = absurd (no_fault result done Memory is flush.0)
+flushed_done old new parts now held mid holds told told_after (Err Memory) result done is ok (inr flush) = absurd (no_fault result done WriteFailed is flush.0)
+flushed_done old new parts now held mid holds told told_after (Err ReadFailed) result done is ok flush = absurd (no_fault result done ReadFailed is flush.0)
+flushed_done old new parts now held mid holds told told_after (Err WriteFailed) result done is ok flush = absurd (no_fault result done WriteFailed is flush.0)
 
 -- the file after the last line
 left_file : (parts : FileParts) (now : Standing) (lines : List (List ℕ)) → now ≡ standing_after (at_first_line parts) lines
@@ -337,9 +338,9 @@ left_file : (parts : FileParts) (now : Standing) (lines : List (List ℕ)) → n
 left_file parts now lines left = ap (λ (s : Standing). file_bytes s.marked.file) left
 
 -- a run whose file can't be saved
-pub StopsBy-saving : (old new : RunState) (fault : Fault) (parts : FileParts) (now : Standing) → Opens old.file parts → StaysQuiet old.file new.file
-    → IsFlushed old.script new.script parts now old.printed new.printed → PrintFails (file_bytes now.marked.file) old.saved new.saved fault → StopsBy old new fault
-StopsBy-saving old new fault parts now opened of_file flushed fails =
+pub StopsBy-saving : (old new : RunState) (fault : Fault) (parts : FileParts) (now : Standing) (told told_after : Option SinkState) → Opens old.file parts → StaysQuiet old.file new.file
+    → IsFlushed old.script new.script parts now old.printed new.printed told told_after → PrintFails (file_bytes now.marked.file) old.saved new.saved fault → StopsBy old new fault
+StopsBy-saving old new fault parts now told told_after opened of_file flushed fails =
     let done = flushed.script in
     let lines : List (List ℕ) = script_lines done.lines done.last in
     subst (λ (f : Fault). StopsBy old new f) (sym fails.0)
@@ -350,18 +351,18 @@ StopsBy-saving old new fault parts now opened of_file flushed fails =
       output = output_of_lines parts lines;
       told_file = opened.1;
       told_script = script_told old.script new.script done.script done.read done.ended;
-      is = output_whole old.script new.script old.file parts now old.printed flushed.mid opened done;
+      is = output_whole old.script new.script old.file parts now (heard old.printed told) (heard flushed.mid told_after) opened done;
       whole = refl;
-      printed = Prints-flushed old.printed flushed.mid new.printed (answers (at_first_line parts) lines) done.answered.printed flushed.flush;
+      printed = Prints-flushed old.printed flushed.mid new.printed (answers (at_first_line parts) lines) done.answered.said.printed flushed.flush;
       flushed = flushed.flush.flushed;
       saved = subst (λ (t : List ℕ). PrintsFront t old.saved new.saved) (left_file parts now lines done.answered.left) fails.1;
     }))
 
 -- a run to its end
-pub Succeeds-saved : (old new : RunState) (parts : FileParts) (now : Standing) → Opens old.file parts → StaysQuiet old.file new.file
-    → IsFlushed old.script new.script parts now old.printed new.printed → Prints (file_bytes now.marked.file) old.saved new.saved → new.saved.unflushed ≡ 0
+pub Succeeds-saved : (old new : RunState) (parts : FileParts) (now : Standing) (told told_after : Option SinkState) → Opens old.file parts → StaysQuiet old.file new.file
+    → IsFlushed old.script new.script parts now old.printed new.printed told told_after → Prints (file_bytes now.marked.file) old.saved new.saved → new.saved.unflushed ≡ 0
     → Succeeds old new (status_of now)
-Succeeds-saved old new parts now opened of_file flushed saved flush =
+Succeeds-saved old new parts now told told_after opened of_file flushed saved flush =
     let done = flushed.script in
     let lines : List (List ℕ) = script_lines done.lines done.last in
     record {
@@ -371,8 +372,8 @@ Succeeds-saved old new parts now opened of_file flushed saved flush =
         output = output_of_lines parts lines;
         told_file = opened.1;
         told_script = script_told old.script new.script done.script done.read done.ended;
-        is = output_whole old.script new.script old.file parts now old.printed flushed.mid opened done;
-        printed = Prints-flushed old.printed flushed.mid new.printed (answers (at_first_line parts) lines) done.answered.printed flushed.flush;
+        is = output_whole old.script new.script old.file parts now (heard old.printed told) (heard flushed.mid told_after) opened done;
+        printed = Prints-flushed old.printed flushed.mid new.printed (answers (at_first_line parts) lines) done.answered.said.printed flushed.flush;
         saved = subst (λ (t : List ℕ). Prints t old.saved new.saved) (left_file parts now lines done.answered.left) saved;
         status_is = ap status_of done.answered.left;
         fault_is = refl;
@@ -383,8 +384,8 @@ Succeeds-saved old new parts now opened of_file flushed saved flush =
     }
 
 -- a run that saves nothing, to its end
-pub Asked-done : (old new : RunState) (now : Standing) → IsAnsweredRun old.file new.file old.script new.script old.printed new.printed now → new.saved ≡ old.saved → IsAsked old new (status_of now)
-Asked-done old new now run saved =
+unfoldable pub Asked-done : (old new : RunState) (now : Standing) (told told_after : Option SinkState) → IsAnsweredRun old.file new.file old.script new.script old.printed new.printed told told_after now → new.saved ≡ old.saved → IsAsked old new (status_of now)
+Asked-done old new now told told_after run saved =
     let done = run.answered.script in
     let parts = run.parts in
     let lines : List (List ℕ) = script_lines done.lines done.last in
@@ -394,9 +395,9 @@ Asked-done old new now run saved =
       output = output_of_lines parts lines;
       told_file = run.opened.1;
       told_script = script_told old.script new.script done.script done.read done.ended;
-      is = output_whole old.script new.script old.file parts now old.printed run.answered.mid run.opened done;
+      is = output_whole old.script new.script old.file parts now (heard old.printed told) (heard run.answered.mid told_after) run.opened done;
       whole = refl;
-      printed = Prints-flushed old.printed run.answered.mid new.printed (answers (at_first_line parts) lines) done.answered.printed run.answered.flush;
+      printed = Prints-flushed old.printed run.answered.mid new.printed (answers (at_first_line parts) lines) done.answered.said.printed run.answered.flush;
       flushed = run.answered.flush.flushed;
       saved = saved;
       status_is = ap status_of done.answered.left;
@@ -404,20 +405,20 @@ Asked-done old new now run saved =
     }
 
 -- a run of which some lines weren't done
-pub Undone-asked : (old new : RunState) (now : Standing) → IsAnsweredRun old.file new.file old.script new.script old.printed new.printed now → new.saved ≡ old.saved → 0 < now.refused → IsUndone old new (status_of now) now.refused
+pub Undone-asked : (old new : RunState) (now : Standing) (told told_after : Option SinkState) → IsAnsweredRun old.file new.file old.script new.script old.printed new.printed told told_after now → new.saved ≡ old.saved → 0 < now.refused → IsUndone old new (status_of now) now.refused
 unfolding Asked-done standing_after
-Undone-asked old new now run saved some = record {
-  asked = Asked-done old new now run saved;
+Undone-asked old new now told told_after run saved some = record {
+  asked = Asked-done old new now told told_after run saved;
   some = some;
   count = ap (λ (s : Standing). s.refused) run.answered.script.answered.left;
 }
 
 -- a run of which all were
-pub Whole-saved : (old new : RunState) (now : Standing) → IsAnsweredRun old.file new.file old.script new.script old.printed new.printed now → Prints (file_bytes now.marked.file) old.saved new.saved → new.saved.unflushed ≡ 0 → now.refused ≡ 0
+pub Whole-saved : (old new : RunState) (now : Standing) (told told_after : Option SinkState) → IsAnsweredRun old.file new.file old.script new.script old.printed new.printed told told_after now → Prints (file_bytes now.marked.file) old.saved new.saved → new.saved.unflushed ≡ 0 → now.refused ≡ 0
     → IsDoneWhole old new (status_of now) now.refused
 unfolding Succeeds-saved standing_after
-Whole-saved old new now run saved flushed none = record {
-  done = Succeeds-saved old new run.parts now run.opened run.read run.answered saved flushed;
+Whole-saved old new now told told_after run saved flushed none = record {
+  done = Succeeds-saved old new run.parts now told told_after run.opened run.read run.answered saved flushed;
   none = none;
   all = sym (ap (λ (s : Standing). s.refused) run.answered.script.answered.left) ∙ none;
 }
@@ -425,3 +426,61 @@ Whole-saved old new now run saved flushed none = record {
 -- a fault that is passed on ends such a run
 pub whole_exit : (old new : RunState) (result : Result (ℕ × ℕ) Fault) (why : Fault) → IsErrAnd result (λ e. e ≡ why) → StopsBy old new why → EndsWhole old new result
 whole_exit old new result why is stops = let exit = err_from_is_err_and result is in rw (exit.1, exit.2) stops
+
+-- remarks on the first of the lines that were reached
+AreToldOf-first : (file old new : SourceState) (told told_after : Option SinkState) (parts : FileParts) (all lines others : List (List ℕ)) → Opens file parts → HasLines old new all → all ≡ lines ++ others
+    → Remarks (remarks (at_first_line parts) lines) told told_after → AreToldOf file old new told told_after
+AreToldOf-first file old new told told_after parts all lines others opened has split remarked =
+    inr (record { parts = parts; lines = lines; others = others; opened = opened; reached = subst (λ (ls : List (List ℕ)). HasLines old new ls) split has; made = remarked })
+
+-- remarks on all of them
+AreToldOf-all : (file old new : SourceState) (told told_after : Option SinkState) (parts : FileParts) (lines : List (List ℕ)) → Opens file parts → HasLines old new lines
+    → Remarks (remarks (at_first_line parts) lines) told told_after → AreToldOf file old new told told_after
+AreToldOf-all file old new told told_after parts lines opened has remarked =
+    AreToldOf-first file old new told told_after parts lines lines [] opened has (sym (append-nil lines)) remarked
+
+-- the remarks of a run that ends after its script, before saving
+pub AreToldOf-script : (file old new : SourceState) (held mid : SinkState) (told told_after : Option SinkState) (answered : Result (Unit {0}) Fault) (parts : FileParts) (now : Standing)
+    → Opens file parts
+    → OnOk answered (AnswersScript old new (at_first_line parts) now (heard held told) (heard mid told_after))
+    → IfErr answered (ScriptStops old new (at_first_line parts) (heard held told) (heard mid told_after))
+    → AreToldOf file old new told told_after
+AreToldOf-script file old new held mid told told_after (Ok done) parts now opened ok err =
+    AreToldOf-all file old new told told_after parts (script_lines ok.lines ok.last) opened
+    (all_lines old new (at_first_line parts) now (heard held told) (heard mid told_after) ok) ok.answered.said.told
+AreToldOf-script file old new held mid told told_after (Err (Refused why)) parts now opened ok err = absurd err
+AreToldOf-script file old new held mid told told_after (Err ScriptTooLong) parts now opened ok err =
+    AreToldOf-all file old new told told_after parts err.lines opened (record { whole = err.lines; last = err.last; reached = err.reached; are = inl refl }) err.said.told
+AreToldOf-script file old new held mid told told_after (Err Memory) parts now opened ok err =
+    elim err.at [
+      | inl none ↦ inl (ap (λ (h : Heard). h.told) none.1)
+      | inr some ↦ AreToldOf-first file old new told told_after parts some.0 some.2.done (some.2.line ∷ some.2.others) opened some.1 some.2.split some.2.said.told
+    ]
+AreToldOf-script file old new held mid told told_after (Err ReadFailed) parts now opened ok err =
+    AreToldOf-all file old new told told_after parts err.lines opened (record { whole = err.lines; last = err.last; reached = err.reached; are = inl refl }) err.said.told
+AreToldOf-script file old new held mid told told_after (Err WriteFailed) parts now opened ok err =
+    AreToldOf-first file old new told told_after parts err.lines err.front.done err.front.others opened err.reached err.front.split err.front.told
+
+-- those of a run whose script was answered whole
+pub AllRemarks-answered : (file file_after old new : SourceState) (out out_after : SinkState) (told told_after : Option SinkState) (now : Standing)
+    → IsAnsweredRun file file_after old new out out_after told told_after now → AreAllRemarks file old told told_after
+AllRemarks-answered file file_after old new out out_after told told_after now run =
+    let done = run.answered.script in
+    record {
+      parts = run.parts;
+      text = done.script;
+      lines = done.lines;
+      last = done.last;
+      opened = run.opened;
+      told_script = script_told old new done.script done.read done.ended;
+      cut = done.cut;
+      made = done.answered.said.told;
+    }
+
+-- the same where such a run ends later by a fault
+pub AreToldOf-answered : (file file_after old new : SourceState) (out out_after : SinkState) (told told_after : Option SinkState) (now : Standing)
+    → IsAnsweredRun file file_after old new out out_after told told_after now → AreToldOf file old new told told_after
+AreToldOf-answered file file_after old new out out_after told told_after now run =
+    let done = run.answered.script in
+    AreToldOf-all file old new told told_after run.parts (script_lines done.lines done.last) run.opened
+    (all_lines old new (at_first_line run.parts) now (heard out told) (heard run.answered.mid told_after) done) done.answered.said.told

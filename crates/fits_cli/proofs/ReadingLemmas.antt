@@ -6,6 +6,7 @@ use Rattle.std.proofs.lemmas.Bool.{cases_lt}
 use Rattle.std.proofs.lemmas.List.{take_all, take_min, length-take-le}
 use Rattle.fits_script.specs.declared.limits.TheConstants.{LINE_LIMIT}
 use Rattle.fits_script.specs.Line.{reading_of}
+use Rattle.fits_script.specs.declared.line_reading.LineReading.TheVariants.{TooLong}
 use Rattle.fits_cli.specs.Running.{kept_of}
 
 -- a line within the limit is kept whole
@@ -17,7 +18,12 @@ kept_of-short line short = take_all (LINE_LIMIT + 1) line (omega arith)
 over_limit : (n limit : ℕ) → limit < n → nat_le n limit ≡ false
 over_limit n limit over = search rules
 
--- a longer one is too long, and so is what is kept of it
+-- a longer one is too long
+pub reading_of-long : (line : List ℕ) → LINE_LIMIT < length line → reading_of line ≡ TooLong
+unfolding reading_of
+reading_of-long line long = let over : nat_le (length line) LINE_LIMIT ≡ false = over_limit (length line) LINE_LIMIT long in rw over refl
+
+-- and so is what is kept of it
 kept_of-long : (line : List ℕ) → LINE_LIMIT < length line → reading_of (kept_of line) ≡ reading_of line
 unfolding kept_of reading_of
 kept_of-long line long =

@@ -9,26 +9,25 @@ use Rattle.std.proofs.lemmas.List.Sums.{length-filter, count_by-le-length, count
 use Rattle.fits_codes.specs.Code.{is_error}
 use Rattle.fits_session.specs.declared.problem.Problem.{Problem}
 use Rattle.fits_cli.specs.Report.{closing_line, errors_in, listed_line, problem_line, problem_lines, report_text, warnings_in}
-use Rattle.fits_cli.specs.declared.level.Level.{Level}
 use Rattle.fits_cli.specs.declared.level.Level.TheVariants.{All}
 
 -- lines of the first problems, and of one more
-pub lines-more : (level : Level) (report : List Problem) (i : ℕ) (d : Problem) → i < length report
-    → problem_lines level (take (i + 1) report) ≡ problem_lines level (take i report) ++ listed_line level (get_or report i d)
-lines-more level report i d l =
-    ap (flat_map (listed_line level)) (take_more report i d l) ∙ flat_map-append (listed_line level) (take i report) (get_or report i d ∷ [])
-    ∙ ap (λ t. flat_map (listed_line level) (take i report) ++ t) (append-nil (listed_line level (get_or report i d)))
+pub lines-more : (line : Problem → List ℕ) (report : List Problem) (i : ℕ) (d : Problem) → i < length report
+    → flat_map line (take (i + 1) report) ≡ flat_map line (take i report) ++ line (get_or report i d)
+lines-more line report i d l =
+    ap (flat_map line) (take_more report i d l) ∙ flat_map-append line (take i report) (get_or report i d ∷ [])
+    ∙ ap (λ t. flat_map line (take i report) ++ t) (append-nil (line (get_or report i d)))
 
 -- lines of the first problems, and of the others
-pub lines-split : (level : Level) (report : List Problem) (i : ℕ) → problem_lines level report ≡ problem_lines level (take i report) ++ problem_lines level (drop i report)
-lines-split level report i =
-    ap (flat_map (listed_line level)) (sym (take-append-drop i report)) ∙ flat_map-append (listed_line level) (take i report) (drop i report)
+pub lines-split : (line : Problem → List ℕ) (report : List Problem) (i : ℕ) → flat_map line report ≡ flat_map line (take i report) ++ flat_map line (drop i report)
+lines-split line report i =
+    ap (flat_map line) (sym (take-append-drop i report)) ∙ flat_map-append line (take i report) (drop i report)
 
 -- one more line is added
 pub text_step : (text new : List ℕ) (report : List Problem) (i : ℕ) (d : Problem) → i < length report → text ≡ problem_lines All (take i report) → new ≡ text ++ problem_line (get_or report i d)
     → new ≡ problem_lines All (take (i + 1) report)
 text_step text new report i d l before added =
-    added ∙ ap (λ t. t ++ problem_line (get_or report i d)) before ∙ sym (lines-more All report i d l)
+    added ∙ ap (λ t. t ++ problem_line (get_or report i d)) before ∙ sym (lines-more (listed_line All) report i d l)
 
 -- all lines, and the closing one
 pub text_whole : (text new : List ℕ) (report : List Problem) (i : ℕ) → length report ≤ i → text ≡ problem_lines All (take i report) → new ≡ text ++ closing_line report → new ≡ report_text All report

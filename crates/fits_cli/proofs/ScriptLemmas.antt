@@ -8,7 +8,7 @@ use Rattle.fits_stream.proofs.StreamLemmas.{Prints-flushed, PrintsFront-unflushe
 use Rattle.fits_cli.specs.Answer.{Standing}
 use Rattle.fits_cli.specs.Ends.{CameTo, HasLines}
 use Rattle.fits_cli.specs.declared.limits.TheConstants.{SCRIPT_LIMIT}
-use Rattle.fits_cli.specs.Running.{HasCome, HasStopped, Continues, PieceStops, LinesStop, EndsScript, EndStops, AnswersScript, AnswersTooLong, ScriptStops, ScriptReadFails}
+use Rattle.fits_cli.specs.Running.{Heard, heard, HasCome, HasStopped, Continues, PieceStops, LinesStop, EndsScript, EndStops, AnswersScript, AnswersTooLong, ScriptStops, ScriptReadFails}
 use Rattle.fits_cli.specs.Script.{IsCutInLines, script_lines}
 use Rattle.fits_cli.specs.Faults.{FlushFails}
 use Rattle.fits_stream.specs.Stream.{SourceState, SinkState, FailsToRead, Flushes, Reads}
@@ -31,7 +31,7 @@ kept_bytes (Some xs) (Some ys) None came p q = absurd q
 kept_bytes (Some xs) (Some ys) (Some zs) came p q = p ∙ ap (λ t. came ++ t) (sym q)
 
 -- a read fails after these bytes came
-pub ScriptReadFails-after : (old mid new : SourceState) (came kept : List ℕ) (before now : Standing) (held holds : SinkState)
+pub ScriptReadFails-after : (old mid new : SourceState) (came kept : List ℕ) (before now : Standing) (held holds : Heard)
     → Reads came old mid → FailsToRead mid new → length came ≤ SCRIPT_LIMIT
     → HasCome came kept before now held holds → ScriptReadFails old new before held holds
 unfolding came_within
@@ -41,20 +41,20 @@ ScriptReadFails-after old mid new came kept before now held holds read failed sh
   last = come.last;
   reached = came_within old new came come.last come.lines (kept_bytes old.remaining mid.remaining new.remaining came read.gone failed.bytes) short come.cut;
   short = short;
-  printed = come.answered.printed;
+  said = come.answered.said;
 }
 
 -- lines of a script that aren't all answered
-ScriptStops-lines : (old new : SourceState) (lines : List (List ℕ)) (before : Standing) (held holds : SinkState) (fault : Fault)
+ScriptStops-lines : (old new : SourceState) (lines : List (List ℕ)) (before : Standing) (held holds : Heard) (fault : Fault)
     → HasLines old new lines → new.failures ≡ old.failures → LinesStop lines before held holds fault → ScriptStops old new before held holds fault
 ScriptStops-lines old new lines before held holds (Refused why) has quiet stops = stops
 ScriptStops-lines old new lines before held holds ScriptTooLong has quiet stops = absurd stops
 ScriptStops-lines old new lines before held holds Memory has quiet stops = record { quiet = quiet; at = inr (lines, has, stops) }
 ScriptStops-lines old new lines before held holds ReadFailed has quiet stops = absurd stops
-ScriptStops-lines old new lines before held holds WriteFailed has quiet stops = record { quiet = quiet; lines = lines; reached = has; printed = stops }
+ScriptStops-lines old new lines before held holds WriteFailed has quiet stops = record { quiet = quiet; lines = lines; reached = has; front = stops }
 
 -- lines that came aren't all answered
-ScriptStops-came : (old new : SourceState) (came text : List ℕ) (before : Standing) (held holds : SinkState) (fault : Fault)
+ScriptStops-came : (old new : SourceState) (came text : List ℕ) (before : Standing) (held holds : Heard) (fault : Fault)
     → Reads came old new → take SCRIPT_LIMIT came ≡ text
     → HasStopped text before held holds fault → ScriptStops old new before held holds fault
 ScriptStops-came old new came text before held holds fault read within stopped =
@@ -63,7 +63,7 @@ ScriptStops-came old new came text before held holds fault read within stopped =
     read.quiet stopped.stops
 
 -- a piece within the limit isn't answered
-pub ScriptStops-piece : (old mid new : SourceState) (came piece kept : List ℕ) (before now : Standing) (held holds more : SinkState) (fault : Fault)
+pub ScriptStops-piece : (old mid new : SourceState) (came piece kept : List ℕ) (before now : Standing) (held holds more : Heard) (fault : Fault)
     → Reads came old mid → Reads piece mid new → length came + length piece ≤ SCRIPT_LIMIT
     → HasCome came kept before now held holds → PieceStops piece kept now holds more fault → ScriptStops old new before held more fault
 ScriptStops-piece old mid new came piece kept before now held holds more fault read next short come stops =
@@ -78,7 +78,7 @@ over_limit limit n came buffer short over within =
     ap (λ k. take k (came ++ take n buffer)) whole ∙ take-append-add came (take n buffer) (limit - length came) ∙ ap (λ t. came ++ t) (take-take (limit - length came) n buffer (omega (arith, over)))
 
 -- a piece that goes past the limit isn't answered as far as it
-pub ScriptStops-over : (old mid new : SourceState) (n : ℕ) (came buffer kept : List ℕ) (before now : Standing) (held holds more : SinkState) (fault : Fault)
+pub ScriptStops-over : (old mid new : SourceState) (n : ℕ) (came buffer kept : List ℕ) (before now : Standing) (held holds more : Heard) (fault : Fault)
     → Reads came old mid → Reads (take n buffer) mid new → length came ≤ SCRIPT_LIMIT → SCRIPT_LIMIT - length came < n → n ≤ length buffer
     → HasCome came kept before now held holds
     → PieceStops (take (SCRIPT_LIMIT - length came) buffer) kept now holds more fault → ScriptStops old new before held more fault
@@ -97,7 +97,7 @@ take_longer : (limit : ℕ) (came rest : List ℕ) → limit ≤ length came →
 take_longer limit came rest within = take-append-le limit came rest within
 
 -- a script that goes past its limit
-pub AnswersTooLong-over : (old mid new : SourceState) (n : ℕ) (came buffer kept kept_now : List ℕ) (before now next : Standing) (held holds more : SinkState)
+pub AnswersTooLong-over : (old mid new : SourceState) (n : ℕ) (came buffer kept kept_now : List ℕ) (before now next : Standing) (held holds more : Heard)
     → Reads came old mid → Reads (take n buffer) mid new → length came ≤ SCRIPT_LIMIT → SCRIPT_LIMIT - length came < n → n ≤ length buffer
     → HasCome came kept before now held holds
     → Continues (take (SCRIPT_LIMIT - length came) buffer) kept kept_now now next holds more → AnswersTooLong old new before held more
@@ -117,7 +117,7 @@ AnswersTooLong-over old mid new n came buffer kept kept_now before now next held
       quiet = read_all.quiet;
       reached = record { came = all; read = read_all.gone; cut = rw front answered.cut };
       cut = rw (script.3, take_longer SCRIPT_LIMIT all script.1 (omega (arith, size, over, short)), front) answered.cut;
-      printed = answered.answered.printed;
+      said = answered.answered.said;
     }
 
 -- nothing more is read
@@ -127,7 +127,7 @@ read_at_end a b c n came buffer read none zero =
     rw (← append-nil came) (Reads-more a b c came [] read (rw nothing at none))
 
 -- the whole script is answered
-pub AnswersScript-end : (old mid new : SourceState) (n : ℕ) (came buffer kept : List ℕ) (before now next : Standing) (held holds more : SinkState)
+pub AnswersScript-end : (old mid new : SourceState) (n : ℕ) (came buffer kept : List ℕ) (before now next : Standing) (held holds more : Heard)
     → Reads came old mid → Reads (take n buffer) mid new → n ≡ 0 → IsAtEnd new.remaining → length came ≤ SCRIPT_LIMIT
     → HasCome came kept before now held holds → EndsScript kept now next holds more → AnswersScript old new before next held more
 AnswersScript-end old mid new n came buffer kept before now next held holds more read none zero ended short come ends = record {
@@ -142,7 +142,7 @@ AnswersScript-end old mid new n came buffer kept before now next held holds more
 }
 
 -- its last line isn't answered
-pub ScriptStops-end : (old mid new : SourceState) (n : ℕ) (came buffer kept : List ℕ) (before now : Standing) (held holds more : SinkState) (fault : Fault)
+pub ScriptStops-end : (old mid new : SourceState) (n : ℕ) (came buffer kept : List ℕ) (before now : Standing) (held holds more : Heard) (fault : Fault)
     → Reads came old mid → Reads (take n buffer) mid new → n ≡ 0 → IsAtEnd new.remaining → length came ≤ SCRIPT_LIMIT
     → HasCome came kept before now held holds → EndStops kept now holds more fault → ScriptStops old new before held more fault
 unfolding came_within
@@ -158,25 +158,36 @@ ScriptStops-end old mid new n came buffer kept before now held holds more fault 
     whole.quiet (stops come.lines come.last before held come.kept_is come.answered)
 
 -- the answers to a piece are passed on
-pub Continues-flushed : (piece kept_before kept_now : List ℕ) (before now : Standing) (held mid holds : SinkState) → Continues piece kept_before kept_now before now held mid → Flushes mid holds → Continues piece kept_before kept_now before now held holds
-Continues-flushed piece kept_before kept_now before now held mid holds p q = λ script first start come.
+pub Continues-flushed : (piece kept_before kept_now : List ℕ) (before now : Standing) (held : Heard) (mid out : SinkState) (told : Option SinkState)
+    → Continues piece kept_before kept_now before now held (heard mid told) → Flushes mid out → Continues piece kept_before kept_now before now held (heard out told)
+Continues-flushed piece kept_before kept_now before now held mid out told p q = λ script first start come.
     let has = p script first start come in
     record {
       lines = has.lines;
       last = has.last;
       cut = has.cut;
       kept_is = has.kept_is;
-      answered = record { printed = Prints-flushed start mid holds _ has.answered.printed q; left = has.answered.left };
+      answered = record {
+        said = record { printed = Prints-flushed start.out mid out _ has.answered.said.printed q; told = has.answered.said.told };
+        left = has.answered.left;
+      };
     }
 
 -- or they aren't, which ends the run
-pub PieceStops-unflushed : (piece kept_before kept_now : List ℕ) (before now : Standing) (held mid holds : SinkState) (fault : Fault) → Continues piece kept_before kept_now before now held mid → FlushFails mid holds fault → PieceStops piece kept_before before held holds fault
-PieceStops-unflushed piece kept_before kept_now before now held mid holds fault p q =
-    subst (PieceStops piece kept_before before held holds) (sym q.0) (λ script first start come.
+pub PieceStops-unflushed : (piece kept_before kept_now : List ℕ) (before now : Standing) (held : Heard) (mid out : SinkState) (told : Option SinkState) (fault : Fault)
+    → Continues piece kept_before kept_now before now held (heard mid told) → FlushFails mid out fault → PieceStops piece kept_before before held (heard out told) fault
+PieceStops-unflushed piece kept_before kept_now before now held mid out told fault p q =
+    subst (PieceStops piece kept_before before held (heard out told)) (sym q.0) (λ script first start come.
     let has = p script first start come in
     record {
       lines = has.lines;
       last = has.last;
       cut = has.cut;
-      stops = PrintsFront-unflushed start mid holds _ has.answered.printed q.1;
+      stops = record {
+        printed = PrintsFront-unflushed start.out mid out _ has.answered.said.printed q.1;
+        done = has.lines;
+        others = [];
+        split = sym (append-nil has.lines);
+        told = has.answered.said.told;
+      };
     })

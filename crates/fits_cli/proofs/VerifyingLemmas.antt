@@ -1,5 +1,6 @@
 -- The run of `verify`: its lines as they are printed, from the problems that were found.
 use Rattle.std.proofs.Common.{◌≡◌, ℕ, ◌+◌, ◌<◌, ◌≤◌, List, [], ◌++◌, length, take, drop, get_or, refl, ap, sym, subst, ◌∙◌}
+use Rattle.std.specs.List.{flat_map}
 use Rattle.std.proofs.lemmas.List.{take_all}
 use Rattle.fits_stream.specs.Intake.{Gives}
 use Rattle.fits_stream.proofs.StreamLemmas.{Appends-none}
@@ -7,7 +8,7 @@ use Rattle.fits_session.specs.File.{FileParts}
 use Rattle.fits_session.specs.Report.{IsReportOf}
 use Rattle.fits_session.specs.declared.problem.Problem.{Problem}
 use Rattle.fits_cli.specs.Faults.{PrintFails}
-use Rattle.fits_cli.specs.Report.{closing_line, listed_line, problem_lines, report_text, status_of_report, strict_status}
+use Rattle.fits_cli.specs.Report.{closing_line, report_text, status_of_report}
 use Rattle.fits_stream.specs.Stream.{SourceState, SinkState, Prints, StaysQuiet}
 use Rattle.fits_cli.specs.Telling.{PrintingStops, TextIsTold, TextStopsBy}
 use Rattle.fits_cli.specs.declared.fault.Fault.{Fault}
@@ -42,36 +43,40 @@ PrintingStops-more a b c xs ys Memory front stops = (AppendsFront-more a.content
 PrintingStops-more a b c xs ys ReadFailed front stops = absurd stops
 PrintingStops-more a b c xs ys WriteFailed front stops = PrintsFront-more a b c xs ys front stops
 
+-- a report whose problems have these lines
+abbrev pub report_by : (Problem → List ℕ) → List Problem → List ℕ
+report_by line report = flat_map line report ++ closing_line report
+
 -- the line of the next problem stops the report
-pub stops_at_line : (a b c : SinkState) (level : Level) (report : List Problem) (i : ℕ) (d : Problem) (fault : Fault) → i < length report → Prints (problem_lines level (take i report)) a b → PrintingStops (listed_line level (get_or report i d)) b c fault
-    → PrintingStops (report_text level report) a c fault
-stops_at_line a b c level report i d fault l front stops =
-    let rest : List ℕ = problem_lines level (drop (i + 1) report) in
-    let line : List ℕ = listed_line level (get_or report i d) in
-    let lines : problem_lines level report ≡ (problem_lines level (take i report) ++ line) ++ rest =
-    lines-split level report (i + 1) ∙ ap (λ t. t ++ rest) (lines-more level report i d l) in
-    PrintingStops-longer a c (problem_lines level report) (closing_line report) fault
-    (rw lines (PrintingStops-longer a c (problem_lines level (take i report) ++ line) rest fault (PrintingStops-more a b c (problem_lines level (take i report)) line fault front stops)))
+pub stops_at_line : (a b c : SinkState) (line : Problem → List ℕ) (report : List Problem) (i : ℕ) (d : Problem) (fault : Fault) → i < length report → Prints (flat_map line (take i report)) a b → PrintingStops (line (get_or report i d)) b c fault
+    → PrintingStops (report_by line report) a c fault
+stops_at_line a b c line report i d fault l front stops =
+    let rest : List ℕ = flat_map line (drop (i + 1) report) in
+    let next : List ℕ = line (get_or report i d) in
+    let lines : flat_map line report ≡ (flat_map line (take i report) ++ next) ++ rest =
+    lines-split line report (i + 1) ∙ ap (λ t. t ++ rest) (lines-more line report i d l) in
+    PrintingStops-longer a c (flat_map line report) (closing_line report) fault
+    (rw lines (PrintingStops-longer a c (flat_map line (take i report) ++ next) rest fault (PrintingStops-more a b c (flat_map line (take i report)) next fault front stops)))
 
 -- the closing line stops the report
-pub stops_at_closing : (a b c : SinkState) (level : Level) (report : List Problem) (i : ℕ) (fault : Fault) → length report ≤ i → Prints (problem_lines level (take i report)) a b → PrintingStops (closing_line report) b c fault
-    → PrintingStops (report_text level report) a c fault
-stops_at_closing a b c level report i fault l front stops =
-    PrintingStops-more a b c (problem_lines level report) (closing_line report) fault (rw (take_all i report l) at front) stops
+pub stops_at_closing : (a b c : SinkState) (line : Problem → List ℕ) (report : List Problem) (i : ℕ) (fault : Fault) → length report ≤ i → Prints (flat_map line (take i report)) a b → PrintingStops (closing_line report) b c fault
+    → PrintingStops (report_by line report) a c fault
+stops_at_closing a b c line report i fault l front stops =
+    PrintingStops-more a b c (flat_map line report) (closing_line report) fault (rw (take_all i report l) at front) stops
 
 -- memory is refused before the closing line
-pub stops_before_closing : (a b : SinkState) (level : Level) (report : List Problem) (i : ℕ) → length report ≤ i → Prints (problem_lines level (take i report)) a b → PrintingStops (report_text level report) a b Memory
-stops_before_closing a b level report i l front = stops_at_closing a b b level report i Memory l front (PrintingStops-none b (closing_line report))
+pub stops_before_closing : (a b : SinkState) (line : Problem → List ℕ) (report : List Problem) (i : ℕ) → length report ≤ i → Prints (flat_map line (take i report)) a b → PrintingStops (report_by line report) a b Memory
+stops_before_closing a b line report i l front = stops_at_closing a b b line report i Memory l front (PrintingStops-none b (closing_line report))
 
 -- all lines, and the closing one
-pub prints_report : (a b c : SinkState) (level : Level) (report : List Problem) (i : ℕ) → length report ≤ i → Prints (problem_lines level (take i report)) a b → Prints (closing_line report) b c → Prints (report_text level report) a c
-prints_report a b c level report i l front closing = Prints-more a b c (problem_lines level report) (closing_line report) (rw (take_all i report l) at front) closing
+pub prints_report : (a b c : SinkState) (line : Problem → List ℕ) (report : List Problem) (i : ℕ) → length report ≤ i → Prints (flat_map line (take i report)) a b → Prints (closing_line report) b c → Prints (report_by line report) a c
+prints_report a b c line report i l front closing = Prints-more a b c (flat_map line report) (closing_line report) (rw (take_all i report l) at front) closing
 
 -- one more line
-pub prints_line : (a b c : SinkState) (level : Level) (report : List Problem) (i : ℕ) (d : Problem) → i < length report → Prints (problem_lines level (take i report)) a b → Prints (listed_line level (get_or report i d)) b c
-    → Prints (problem_lines level (take (i + 1) report)) a c
-prints_line a b c level report i d l front line =
-    rw (lines-more level report i d l) (Prints-more a b c (problem_lines level (take i report)) (listed_line level (get_or report i d)) front line)
+pub prints_line : (a b c : SinkState) (line : Problem → List ℕ) (report : List Problem) (i : ℕ) (d : Problem) → i < length report → Prints (flat_map line (take i report)) a b → Prints (line (get_or report i d)) b c
+    → Prints (flat_map line (take (i + 1) report)) a c
+prints_line a b c line report i d l front next =
+    rw (lines-more line report i d l) (Prints-more a b c (flat_map line (take i report)) (line (get_or report i d)) front next)
 
 -- the report of problems that were found
 pub reported : (file file_after : SourceState) (out out_after : SinkState) (level : Level) (report : List Problem) → Gives file (IsReportOf report) → StaysQuiet file file_after → Prints (report_text level report) out out_after

@@ -9,6 +9,7 @@ use Rattle.fits_cli.specs.Faults.{status_of_fault}
 use Rattle.fits_cli.specs.declared.limits.TheConstants.{SCRIPT_LIMIT}
 use Rattle.fits_script.specs.Line.{reading_of}
 use Rattle.fits_cli.specs.Output.{answers, standing_after, Output, IsOutputOf}
+use Rattle.fits_cli.specs.Remark.{remarks, Remarks}
 use Rattle.fits_cli.specs.Script.{IsCutInLines, script_lines}
 use Rattle.fits_cli.specs.declared.end.End.{End}
 use Rattle.fits_cli.specs.declared.fault.Fault.{Fault}
@@ -214,3 +215,32 @@ abbrev pub EndsWholeAs : RunState → RunState → End → ℕ → Type 0
 EndsWholeAs old new end undone =
     MatchOption end.fault (IsDoneWhole old new end.status undone ⊎ IsUndone old new end.status undone)
     (λ fault. StopsBy old new fault × (end.status ≡ status_of_fault fault) × (undone ≡ 0))
+
+-- remarks were made on lines of a script over a file: those that were answered, or some of the first of them
+pub record AreRemarksOn (file script script_after : SourceState) (told told_after : Option SinkState) : Type 0 where
+  pub parts : FileParts
+  pub lines : List (List ℕ)
+  pub others : List (List ℕ)
+  pub opened : Opens file parts
+  pub reached : HasLines script script_after (lines ++ others)
+  pub made : Remarks (remarks (at_first_line parts) lines) told told_after
+
+-- or none were, where the script wasn't reached
+abbrev pub AreToldOf : SourceState → SourceState → SourceState → Option SinkState → Option SinkState → Type 0
+AreToldOf file script script_after told told_after = (told_after ≡ told) ⊎ AreRemarksOn file script script_after told told_after
+
+-- remarks were made on all lines of a script over a file
+pub record AreAllRemarks (file script : SourceState) (told told_after : Option SinkState) : Type 0 where
+  pub parts : FileParts
+  pub text : List ℕ
+  pub lines : List (List ℕ)
+  pub last : List ℕ
+  pub opened : Opens file parts
+  pub told_script : Tells script text
+  pub cut : IsCutInLines text lines last
+  pub made : Remarks (remarks (at_first_line parts) (script_lines lines last)) told told_after
+
+-- the remarks of a run: on all lines of its script where it came to its end, else on some of the first
+abbrev pub RemarksEndAs : SourceState → SourceState → SourceState → Option SinkState → Option SinkState → End → Type 0
+RemarksEndAs file script script_after told told_after end =
+    MatchOption end.fault (AreAllRemarks file script told told_after) (λ fault. AreToldOf file script script_after told told_after)

@@ -1,12 +1,16 @@
 pub mod Answer
+pub mod CardReport
 pub mod Cards
+pub mod CheckedEnds
 pub mod Ends
 pub mod Faults
 pub mod Listing
+pub mod NewErrors
 pub mod Numbered
 pub mod Output
 pub mod Patterns
 pub mod PixelLines
+pub mod Remark
 pub mod Reply
 pub mod Report
 pub mod Running

@@ -15,9 +15,12 @@ lists Errors code = is_error code
 lists Quiet code = false
 
 -- `CODE HDU PLACE TEXT`
-unfoldable pub problem_line : Problem → List ℕ
-problem_line it =
-    label it.code ++ (codes " " ++ (decimal it.hdu ++ (codes " " ++ (decimal it.place ++ (codes " " ++ (text it.code ++ codes "\n"))))))
+unfoldable pub problem_text : Problem → List ℕ
+problem_text it = label it.code ++ (codes " " ++ (decimal it.hdu ++ (codes " " ++ (decimal it.place ++ (codes " " ++ text it.code)))))
+
+-- the same as a line
+abbrev pub problem_line : Problem → List ℕ
+problem_line it = problem_text it ++ codes "\n"
 
 -- the line of a problem, where the level lists it
 abbrev pub listed_line : Level → Problem → List ℕ

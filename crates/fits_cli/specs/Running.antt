@@ -1,5 +1,5 @@
 -- What private functions of a run keep to: how far a script has come.
-use Rattle.std.specs.Prelude.{◌≡◌, ◌⊎◌, ℕ, ◌+◌, ◌<◌, ◌≤◌, List, ◌∷◌, ◌++◌, length, take, Result, Ok, Err}
+use Rattle.std.specs.Prelude.{◌≡◌, ◌⊎◌, ℕ, ◌+◌, ◌<◌, ◌≤◌, List, ◌∷◌, ◌++◌, length, take, Option, Result, Ok, Err}
 use Rattle.std.specs.Io.KnownBytes.{IsAtEnd}
 use Rattle.fits_stream.specs.Intake.{Tells}
 use Rattle.fits_session.specs.File.{FileParts}
@@ -9,52 +9,76 @@ use Rattle.fits_script.specs.declared.limits.TheConstants.{LINE_LIMIT}
 use Rattle.fits_cli.specs.declared.limits.TheConstants.{SCRIPT_LIMIT}
 use Rattle.fits_script.specs.Line.{reading_of}
 use Rattle.fits_cli.specs.Output.{answers, standing_after}
+use Rattle.fits_cli.specs.Remark.{line_remark, remarks, Remarks}
 use Rattle.fits_cli.specs.Script.{IsCutInLines, script_lines}
 use Rattle.fits_stream.specs.Stream.{SourceState, SinkState, FailsOnce, FailsToFlush, Flushes, Prints, PrintsFront, Reads, StaysQuiet}
 use Rattle.fits_cli.specs.declared.fault.Fault.{Fault}
 use Rattle.fits_cli.specs.declared.fault.Fault.TheVariants.{Refused, ScriptTooLong, Memory, ReadFailed, WriteFailed}
 
+-- what hears of the lines: the sink of their answers, and that of remarks on them, if there is one
+pub record Heard : Type 0 where
+  pub out : SinkState
+  pub told : Option SinkState
+
+-- the two
+abbrev pub heard : SinkState → Option SinkState → Heard
+heard out told = record { out = out; told = told }
+
+-- answers were printed, and remarks made
+pub record Says (text remarked : List ℕ) (held holds : Heard) : Type 0 where
+  pub printed : Prints text held.out holds.out
+  pub told : Remarks remarked held.told holds.told
+
+-- a prefix of the answers to these lines stands, and remarks were made on the first of them
+pub record SaysFront (lines : List (List ℕ)) (before : Standing) (held holds : Heard) : Type 0 where
+  pub printed : PrintsFront (answers before lines) held.out holds.out
+  pub done : List (List ℕ)
+  pub others : List (List ℕ)
+  pub split : lines ≡ done ++ others
+  pub told : Remarks (remarks before done) held.told holds.told
+
 -- one line is answered, and things stand as after it
-pub record AnswersLine (line : List ℕ) (before now : Standing) (held holds : SinkState) : Type 0 where
-  pub printed : Prints (line_answer before (reading_of line)) held holds
+pub record AnswersLine (line : List ℕ) (before now : Standing) (held holds : Heard) : Type 0 where
+  pub said : Says (line_answer before (reading_of line)) (line_remark before line) held holds
   pub left : now ≡ line_left before (reading_of line)
 
 -- one line isn't answered: memory was refused at it, or a write of its answer failed
-abbrev pub LineStops : List ℕ → Standing → SinkState → SinkState → Fault → Type 0
+abbrev pub LineStops : List ℕ → Standing → Heard → Heard → Fault → Type 0
 LineStops line before held holds (Refused why) = ⊥
 LineStops line before held holds ScriptTooLong = ⊥
 LineStops line before held holds Memory = LineNeedsMemory before.marked (reading_of line) × (holds ≡ held)
 LineStops line before held holds ReadFailed = ⊥
-LineStops line before held holds WriteFailed = PrintsFront (line_answer before (reading_of line)) held holds
+LineStops line before held holds WriteFailed =
+    PrintsFront (line_answer before (reading_of line)) held.out holds.out × (holds.told ≡ held.told)
 
 -- these lines are answered, and things stand as after them
-pub record AnswersLines (lines : List (List ℕ)) (before now : Standing) (held holds : SinkState) : Type 0 where
-  pub printed : Prints (answers before lines) held holds
+pub record AnswersLines (lines : List (List ℕ)) (before now : Standing) (held holds : Heard) : Type 0 where
+  pub said : Says (answers before lines) (remarks before lines) held holds
   pub left : now ≡ standing_after before lines
 
 -- the first of these lines are answered, and the next one may need memory
-pub record NeedsMemoryAt (lines : List (List ℕ)) (before : Standing) (held holds : SinkState) : Type 0 where
+pub record NeedsMemoryAt (lines : List (List ℕ)) (before : Standing) (held holds : Heard) : Type 0 where
   pub done : List (List ℕ)
   pub line : List ℕ
   pub others : List (List ℕ)
   pub split : lines ≡ done ++ line ∷ others
   pub needs : LineNeedsMemory (standing_after before done).marked (reading_of line)
-  pub printed : Prints (answers before done) held holds
+  pub said : Says (answers before done) (remarks before done) held holds
 
 -- these lines aren't all answered
-abbrev pub LinesStop : List (List ℕ) → Standing → SinkState → SinkState → Fault → Type 0
+abbrev pub LinesStop : List (List ℕ) → Standing → Heard → Heard → Fault → Type 0
 LinesStop lines before held holds (Refused why) = ⊥
 LinesStop lines before held holds ScriptTooLong = ⊥
 LinesStop lines before held holds Memory = NeedsMemoryAt lines before held holds
 LinesStop lines before held holds ReadFailed = ⊥
-LinesStop lines before held holds WriteFailed = PrintsFront (answers before lines) held holds
+LinesStop lines before held holds WriteFailed = SaysFront lines before held holds
 
 -- of a line that may go on as much is kept as decides what it comes to
 unfoldable pub kept_of : List ℕ → List ℕ
 kept_of line = take (LINE_LIMIT + 1) line
 
 -- so far a script was this: its whole lines are answered, and its open end is kept
-pub record HasCome (script kept : List ℕ) (before now : Standing) (held holds : SinkState) : Type 0 where
+pub record HasCome (script kept : List ℕ) (before now : Standing) (held holds : Heard) : Type 0 where
   pub lines : List (List ℕ)
   pub last : List ℕ
   pub cut : IsCutInLines script lines last
@@ -62,38 +86,38 @@ pub record HasCome (script kept : List ℕ) (before now : Standing) (held holds 
   pub answered : AnswersLines lines before now held holds
 
 -- so far a script was this, and not all its whole lines are answered
-pub record HasStopped (script : List ℕ) (before : Standing) (held holds : SinkState) (fault : Fault) : Type 0 where
+pub record HasStopped (script : List ℕ) (before : Standing) (held holds : Heard) (fault : Fault) : Type 0 where
   pub lines : List (List ℕ)
   pub last : List ℕ
   pub cut : IsCutInLines script lines last
   pub stops : LinesStop lines before held holds fault
 
 -- each piece of a script that comes next is answered
-abbrev pub Continues : List ℕ → List ℕ → List ℕ → Standing → Standing → SinkState → SinkState → Type 0
+abbrev pub Continues : List ℕ → List ℕ → List ℕ → Standing → Standing → Heard → Heard → Type 0
 Continues piece kept_before kept_now before now held holds =
-    (script : List ℕ) (first : Standing) (start : SinkState)
+    (script : List ℕ) (first : Standing) (start : Heard)
     → HasCome script kept_before first before start held → HasCome (script ++ piece) kept_now first now start holds
 
 -- or it isn't
-abbrev pub PieceStops : List ℕ → List ℕ → Standing → SinkState → SinkState → Fault → Type 0
+abbrev pub PieceStops : List ℕ → List ℕ → Standing → Heard → Heard → Fault → Type 0
 PieceStops piece kept_before before held holds fault =
-    (script : List ℕ) (first : Standing) (start : SinkState)
+    (script : List ℕ) (first : Standing) (start : Heard)
     → HasCome script kept_before first before start held → HasStopped (script ++ piece) first start holds fault
 
 -- the script ends, and its last line, which has no line feed, is answered
-abbrev pub EndsScript : List ℕ → Standing → Standing → SinkState → SinkState → Type 0
+abbrev pub EndsScript : List ℕ → Standing → Standing → Heard → Heard → Type 0
 EndsScript kept before now held holds =
-    (lines : List (List ℕ)) (last : List ℕ) (first : Standing) (start : SinkState)
+    (lines : List (List ℕ)) (last : List ℕ) (first : Standing) (start : Heard)
     → kept ≡ kept_of last → AnswersLines lines first before start held → AnswersLines (script_lines lines last) first now start holds
 
 -- or it isn't
-abbrev pub EndStops : List ℕ → Standing → SinkState → SinkState → Fault → Type 0
+abbrev pub EndStops : List ℕ → Standing → Heard → Heard → Fault → Type 0
 EndStops kept before held holds fault =
-    (lines : List (List ℕ)) (last : List ℕ) (first : Standing) (start : SinkState)
+    (lines : List (List ℕ)) (last : List ℕ) (first : Standing) (start : Heard)
     → kept ≡ kept_of last → AnswersLines lines first before start held → LinesStop (script_lines lines last) first start holds fault
 
 -- the whole script is answered
-pub record AnswersScript (old new : SourceState) (before now : Standing) (held holds : SinkState) : Type 0 where
+pub record AnswersScript (old new : SourceState) (before now : Standing) (held holds : Heard) : Type 0 where
   pub script : List ℕ
   pub lines : List (List ℕ)
   pub last : List ℕ
@@ -104,7 +128,7 @@ pub record AnswersScript (old new : SourceState) (before now : Standing) (held h
   pub answered : AnswersLines (script_lines lines last) before now held holds
 
 -- the script is too long: the whole lines within the limit are answered
-pub record AnswersTooLong (old new : SourceState) (before : Standing) (held holds : SinkState) : Type 0 where
+pub record AnswersTooLong (old new : SourceState) (before : Standing) (held holds : Heard) : Type 0 where
   pub script : List ℕ
   pub lines : List (List ℕ)
   pub last : List ℕ
@@ -113,32 +137,32 @@ pub record AnswersTooLong (old new : SourceState) (before : Standing) (held hold
   pub quiet : StaysQuiet old new
   pub reached : CameTo old new lines last
   pub cut : IsCutInLines (take SCRIPT_LIMIT script) lines last
-  pub printed : Prints (answers before lines) held holds
+  pub said : Says (answers before lines) (remarks before lines) held holds
 
 -- memory was refused: on the way to the first line, or at a line
-pub record ScriptNeedsMemory (old new : SourceState) (before : Standing) (held holds : SinkState) : Type 0 where
+pub record ScriptNeedsMemory (old new : SourceState) (before : Standing) (held holds : Heard) : Type 0 where
   pub quiet : StaysQuiet old new
   pub at : (new ≡ old × holds ≡ held)
       ⊎ ((lines : List (List ℕ)) × HasLines old new lines × NeedsMemoryAt lines before held holds)
 
 -- a read failed: the whole lines that came before are answered
-pub record ScriptReadFails (old new : SourceState) (before : Standing) (held holds : SinkState) : Type 0 where
+pub record ScriptReadFails (old new : SourceState) (before : Standing) (held holds : Heard) : Type 0 where
   pub failed : FailsOnce old new
   pub lines : List (List ℕ)
   pub last : List ℕ
   pub reached : CameTo old new lines last
   pub short : length reached.came ≤ SCRIPT_LIMIT
-  pub printed : Prints (answers before lines) held holds
+  pub said : Says (answers before lines) (remarks before lines) held holds
 
 -- a write failed: a prefix of the answers stands
-pub record ScriptWriteFails (old new : SourceState) (before : Standing) (held holds : SinkState) : Type 0 where
+pub record ScriptWriteFails (old new : SourceState) (before : Standing) (held holds : Heard) : Type 0 where
   pub quiet : StaysQuiet old new
   pub lines : List (List ℕ)
   pub reached : HasLines old new lines
-  pub printed : PrintsFront (answers before lines) held holds
+  pub front : SaysFront lines before held holds
 
 -- why a script isn't answered to its end
-abbrev pub ScriptStops : SourceState → SourceState → Standing → SinkState → SinkState → Fault → Type 0
+abbrev pub ScriptStops : SourceState → SourceState → Standing → Heard → Heard → Fault → Type 0
 ScriptStops old new before held holds (Refused why) = ⊥
 ScriptStops old new before held holds ScriptTooLong = AnswersTooLong old new before held holds
 ScriptStops old new before held holds Memory = ScriptNeedsMemory old new before held holds
@@ -161,14 +185,14 @@ FlushesAnswers (Err ReadFailed) result held holds =
 FlushesAnswers (Err WriteFailed) result held holds = (result ≡ Err WriteFailed) × (holds ≡ held)
 
 -- a script that was answered whole, and its answers flushed
-pub record IsFlushed (old new : SourceState) (parts : FileParts) (now : Standing) (held holds : SinkState) : Type 0 where
+pub record IsFlushed (old new : SourceState) (parts : FileParts) (now : Standing) (held holds : SinkState) (told told_after : Option SinkState) : Type 0 where
   pub mid : SinkState
-  pub script : AnswersScript old new (at_first_line parts) now held mid
+  pub script : AnswersScript old new (at_first_line parts) now (heard held told) (heard mid told_after)
   pub flush : Flushes mid holds
 
 -- a file was opened, and a script over it answered: things stand so
-pub record IsAnsweredRun (file file_after script script_after : SourceState) (out out_after : SinkState) (now : Standing) : Type 0 where
+pub record IsAnsweredRun (file file_after script script_after : SourceState) (out out_after : SinkState) (told told_after : Option SinkState) (now : Standing) : Type 0 where
   pub parts : FileParts
   pub opened : Opens file parts
   pub read : StaysQuiet file file_after
-  pub answered : IsFlushed script script_after parts now out out_after
+  pub answered : IsFlushed script script_after parts now out out_after told told_after

@@ -3,9 +3,11 @@ use Rattle.std.specs.Prelude.{◌≡◌, ◌⊎◌, ℕ, List, MatchOption}
 use Rattle.fits_stream.specs.Intake.{Gives}
 use Rattle.fits_stream.specs.Stream.{AppendsFront, SourceState, SinkState, FailsOnce, Prints, PrintsFront, StaysQuiet}
 use Rattle.fits_session.specs.File.{FileParts}
+use Rattle.fits_session.specs.Headers.{cards_of}
 use Rattle.fits_session.specs.Opening.{HasOpenFault}
 use Rattle.fits_session.specs.Report.{report_of}
 use Rattle.fits_session.specs.declared.open_fault.OpenFault.{OpenFault}
+use Rattle.fits_cli.specs.CardReport.{card_report_text}
 use Rattle.fits_cli.specs.Ends.{Opens}
 use Rattle.fits_cli.specs.Faults.{status_of_fault}
 use Rattle.fits_cli.specs.Listing.{listing}
@@ -26,6 +28,8 @@ text_of telling.WrongSums file = wrong_summing file
 text_of telling.Statistics file = stating file
 text_of (telling.Report level) file = report_text level (report_of file)
 text_of (telling.StrictReport level) file = report_text level (report_of file)
+text_of (telling.CardReport level) file = card_report_text level (cards_of file.hdus) (report_of file)
+text_of (telling.StrictCardReport level) file = card_report_text level (cards_of file.hdus) (report_of file)
 
 -- the status of a run that has printed it
 abbrev pub status_of_text : Telling → FileParts → ℕ
@@ -35,6 +39,8 @@ status_of_text telling.WrongSums file = status_of_sums file
 status_of_text telling.Statistics file = 0
 status_of_text (telling.Report level) file = status_of_report (report_of file)
 status_of_text (telling.StrictReport level) file = strict_status (report_of file)
+status_of_text (telling.CardReport level) file = status_of_report (report_of file)
+status_of_text (telling.StrictCardReport level) file = strict_status (report_of file)
 
 -- the text is printed and flushed
 pub record TextIsPrinted (kind : Telling) (file file_after : SourceState) (out out_after : SinkState) (status : ℕ) : Type 0 where

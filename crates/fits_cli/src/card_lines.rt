@@ -1,6 +1,7 @@
 //! Cards as they are printed.
 ghost use Rattle.std.specs.Prelude.{◌≡◌, ◌++◌, map, OnOk};
 ghost use Rattle.fits_card.specs.Card.{is_text_byte};
+ghost use Rattle.fits_value.specs.Text.{trimmed};
 ghost use Rattle.fits_cli.specs.Cards.{after_space, card_line, card_lines, changed_at, changed_of, shown_byte, shown_text};
 
 use crate::card_place::CardPlace;
@@ -36,12 +37,27 @@ fn push_card(text: &mut Vec<u8>, it: &ShownCard) -> Result<(), AllocError>
 fn push_text(text: &mut Vec<u8>, card: &Card) -> Result<(), AllocError>
     ensures { OnOk result (text.new.items ≡ text.old.items ++ after_space (shown_text card.now)) }
 {
-    let (bytes, _) = card.0.split_at(trimmed_len(&card.0));
+    let bytes = trimmed(card);
     if bytes.is_empty() {
         return Ok(());
     }
     text.extend_from_slice(b" ")?;
     push_shown(text, bytes)
+}
+
+/// The card without the spaces at its end.
+pub(crate) fn push_shown_text(text: &mut Vec<u8>, card: &Card) -> Result<(), AllocError>
+    ensures { OnOk result (text.new.items ≡ text.old.items ++ shown_text card.now) }
+{
+    push_shown(text, trimmed(card))
+}
+
+// The bytes of a card before the spaces at its end.
+fn trimmed(card: &Card) -> &[u8]
+    ensures { result.now ≡ trimmed card.now }
+{
+    let (bytes, _) = card.0.split_at(trimmed_len(&card.0));
+    bytes
 }
 
 // Bytes as they are shown.

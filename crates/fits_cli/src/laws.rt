@@ -1,10 +1,15 @@
 //! Laws of the definitions, each the contract of a function that does nothing.
-ghost use Rattle.std.specs.Prelude.{◌≡◌, ◌↔◌, ◌+◌, ℕ, List, Some, take};
+ghost use Rattle.std.specs.Prelude.{◌≡◌, ◌↔◌, ◌+◌, ◌<◌, ℕ, AllPairs, List, Some, length, take};
 ghost use Rattle.fits_script.specs.Forms.{Says};
 ghost use Rattle.fits_script.specs.declared.command.Command.{Command};
 ghost use Rattle.fits_script.specs.declared.limits.TheConstants.{LINE_LIMIT};
 ghost use Rattle.fits_script.specs.Line.{command_of, reading_of};
-ghost use Rattle.fits_cli.specs.Output.{Output, IsOutputOf};
+ghost use Rattle.fits_session.specs.File.{FileParts, IsFile};
+ghost use Rattle.fits_session.specs.Report.{IsListedBefore};
+ghost use Rattle.fits_session.specs.declared.problem.Problem.{Problem};
+ghost use Rattle.fits_cli.specs.Answer.{at_first_line};
+ghost use Rattle.fits_cli.specs.NewErrors.{new_errors, HasMoreErrors};
+ghost use Rattle.fits_cli.specs.Output.{standing_after, Output, IsOutputOf};
 ghost use Rattle.fits_cli.specs.Script.{IsCutInLines};
 
 /// What a line comes to is decided by one byte more than a line may have.
@@ -39,4 +44,17 @@ pub fn one_output()
 /// Every file and script have an output.
 pub fn an_output()
     ensures { (file script : List ℕ) → (output : Output) × IsOutputOf file script output }
+{}
+
+/// Where a report in order has more of some error than another, at least one of its errors is new,
+/// and only there.
+pub fn more_of_an_error_is_a_new_error()
+    ensures { (before after : List Problem) → AllPairs IsListedBefore after
+        → HasMoreErrors before after ↔ (0 < length (new_errors before after)) }
+{}
+
+/// What the lines of a script leave of a file is a file: it opens again.
+pub fn a_script_leaves_a_file()
+    ensures { (file : FileParts) (lines : List (List ℕ)) → IsFile file
+        → IsFile (standing_after (at_first_line file) lines).marked.file }
 {}

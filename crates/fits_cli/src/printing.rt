@@ -1,5 +1,5 @@
 //! Writing and flushing, where a call that fails ends the run.
-ghost use Rattle.std.specs.Prelude.{OnOk, IfErr};
+ghost use Rattle.std.specs.Prelude.{◌≡◌, OnOk, IfErr};
 ghost use Rattle.fits_stream.specs.Stream.{Flushes, Prints};
 ghost use Rattle.fits_cli.specs.Faults.{FlushFails, PrintFails};
 
@@ -26,4 +26,15 @@ pub(crate) fn flush<O: Sink>(out: &mut O) -> Result<(), Fault>
         Ok(()) => Ok(()),
         Err(_) => Err(Fault::WriteFailed),
     }
+}
+
+/// Writes a text, and passes it on.
+#[tactic(auto, using(fits_stream::proofs::StreamLemmas::flush_steps))]
+pub(crate) fn print_at_once<O: Sink>(out: &mut O, text: &[u8]) -> Result<(), Fault>
+    ensures ok { OnOk result (Prints text.now (O.state out.old) (O.state out.new)) }
+    ensures flushed { OnOk result ((O.state out.new).unflushed ≡ 0) }
+    ensures err { IfErr result (PrintFails text.now (O.state out.old) (O.state out.new)) }
+{
+    print(out, text)?;
+    flush(out)
 }

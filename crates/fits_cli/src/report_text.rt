@@ -1,6 +1,6 @@
 //! The report of a file as it is printed.
 ghost use Rattle.std.specs.Prelude.{◌≡◌, ◌++◌, ◌≤◌, length, IfOk, OnOk};
-ghost use Rattle.fits_cli.specs.Report.{closing_line, counts_line, errors_in, problem_line};
+ghost use Rattle.fits_cli.specs.Report.{closing_line, counts_line, errors_in, problem_line, problem_text};
 ghost use Rattle.fits_cli.specs.Report.{report_text, status_of_report};
 
 use crate::level::Level;
@@ -21,16 +21,23 @@ pub(crate) fn report_text(alloc: Global, report: &[Problem]) -> Result<Vec<u8>, 
 }
 
 /// `CODE HDU PLACE TEXT`
-#[tactic(auto, unfolding(crate::specs::Report::problem_line))]
 pub(crate) fn push_problem(text: &mut Vec<u8>, it: Problem) -> Result<(), AllocError>
     ensures { OnOk result (text.new.items ≡ text.old.items ++ problem_line it) }
+{
+    push_problem_text(text, it)?;
+    text.extend_from_slice(b"\n")
+}
+
+/// The same without the end of its line.
+#[tactic(auto, unfolding(crate::specs::Report::problem_text))]
+pub(crate) fn push_problem_text(text: &mut Vec<u8>, it: Problem) -> Result<(), AllocError>
+    ensures { OnOk result (text.new.items ≡ text.old.items ++ problem_text it) }
 {
     let Problem { hdu, place, code } = it;
     text.extend_from_slice(code.label().as_bytes())?;
     push_number(text, b" ", hdu as u64)?;
     push_number(text, b" ", place as u64)?;
-    text.extend_from_slice(b" ")?;
-    push_both(text, code.text().as_bytes(), b"\n")
+    push_both(text, b" ", code.text().as_bytes())
 }
 
 /// The closing line: it counts all problems.

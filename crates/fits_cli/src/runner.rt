@@ -1,9 +1,10 @@
 use crate::answer::answer;
 use crate::fault::Fault;
+use crate::new_errors::{NewErrors, errors_since};
 use crate::printing::flush;
 use crate::reply::{Reply, counts_as_refused, settled};
 use fits_script::{LineReading, read_line};
-use fits_session::Session;
+use fits_session::{Problem, Session};
 use fits_stream::Sink;
 use std::alloc::{AllocError, Global};
 use std::marker::Model;
@@ -35,15 +36,18 @@ impl Model for Runner {
 }
 
 impl Runner {
-    ghost use Rattle.std.specs.Prelude.{◌≡◌, ◌+◌, ◌^◌, ◌<◌, if◌then◌else◌, IfOk, IfErr, OnOk, OnErr};
+    ghost use Rattle.std.specs.Prelude.{◌≡◌, ◌+◌, ◌^◌, ◌<◌, AllPairs, if◌then◌else◌, length, IfOk, IfErr, OnOk, OnErr};
     ghost use Rattle.fits_stream.specs.Stream.{Prints};
     ghost use Rattle.fits_cli.specs.Answer.{at_first_line, line_answer, line_left, LineNeedsMemory};
     ghost use Rattle.fits_script.specs.Line.{reading_of};
     ghost use Rattle.fits_cli.specs.Output.{status_of};
+    ghost use Rattle.fits_cli.specs.Remark.{remark_by, remark_on};
     ghost use Rattle.fits_cli.specs.Reply.{counts_as_refused, reply_text};
     ghost use Rattle.fits_cli.specs.Faults.{PrintFails};
+    ghost use Rattle.fits_cli.specs.NewErrors.{new_error_lines, new_errors};
     ghost use Rattle.fits_session.specs.File.{file_bytes};
     ghost use Rattle.fits_session.specs.Marked.{unmarked};
+    ghost use Rattle.fits_session.specs.Report.{report_of, IsListedBefore};
     ghost use Rattle.fits_session.specs.Session.{file_of, marked_of};
 
     /// Before the first line. No HDU is kept stamped.
@@ -80,11 +84,13 @@ impl Runner {
     }
 
     /// Does what a line says, and goes on to the next one.
-    #[tactic(auto, unfolding(crate::specs::Answer::line_answer, crate::specs::Answer::line_left, crate::specs::Answer::LineNeedsMemory))]
+    #[tactic(auto, unfolding(crate::specs::Answer::line_answer, crate::specs::Answer::line_left, crate::specs::Answer::LineNeedsMemory, crate::specs::Remark::remark_by, crate::specs::Remark::remark_on))]
     pub(crate) fn reply(&mut self, alloc: Global, line: &[u8]) -> Result<Reply, AllocError>
         requires { self.old.line + 1 < 2 ^ 64 }
         ensures text { IfOk result (λ reply.
             reply_text self.old.line reply ≡ line_answer self.old (reading_of line.now)) }
+        ensures remark { IfOk result (λ reply. remark_by line.now (reading_of line.now) reply
+            ≡ remark_on self.old.marked line.now (reading_of line.now)) }
         ensures left { OnOk result (self.new ≡ line_left self.old (reading_of line.now)) }
         ensures err { OnErr result (LineNeedsMemory self.old.marked (reading_of line.now)) }
         ensures line { OnOk result (self.new.line ≡ self.old.line + 1) }
@@ -115,6 +121,31 @@ impl Runner {
             self.refused += 1;
         }
         reply
+    }
+
+    /// What is wrong with the file as it stands.
+    pub(crate) fn report(&mut self) -> Result<Vec<Problem>, AllocError>
+        ensures value { IfOk result (λ report. report.items ≡ report_of self.old.marked.file) }
+        ensures left { self.new ≡ self.old }
+    {
+        self.session.report()
+    }
+
+    /// The errors of the file as it stands that are new since this report.
+    pub(crate) fn errors_since(
+        &mut self,
+        alloc: Global,
+        before: &[Problem],
+    ) -> Result<NewErrors, AllocError>
+        requires { AllPairs IsListedBefore before.now }
+        ensures text { IfOk result (λ found. found.text.items
+            ≡ new_error_lines (new_errors before.now (report_of self.old.marked.file))) }
+        ensures count { IfOk result (λ found. found.count
+            ≡ length (new_errors before.now (report_of self.old.marked.file))) }
+        ensures left { self.new ≡ self.old }
+    {
+        let after = self.report()?;
+        errors_since(alloc, before, &after)
     }
 
     /// Saves the file, and flushes it.

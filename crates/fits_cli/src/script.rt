@@ -1,14 +1,19 @@
 //! A script, answered line by line as it comes.
 ghost use Rattle.std.specs.Prelude.{◌≡◌, ◌<◌, ◌≤◌, ◌+◌, ◌^◌, ◌++◌, [], length, IfErr, OnOk};
 ghost use Rattle.std.specs.Prelude.{vec_capacity, vec_len};
+ghost use Rattle.fits_stream.specs.Stream.{Prints};
 ghost use Rattle.fits_script.specs.Line.{reading_of};
-ghost use Rattle.fits_cli.specs.Running.{kept_of, AnswersLine, AnswersScript, Continues};
+ghost use Rattle.fits_cli.specs.Faults.{PrintFails};
+ghost use Rattle.fits_cli.specs.Reply.{reply_text};
+ghost use Rattle.std.specs.Option.{option_map};
+ghost use Rattle.fits_cli.specs.Running.{heard, kept_of, AnswersLine, AnswersScript, Continues};
 ghost use Rattle.fits_cli.specs.Running.{EndsScript, EndStops, LineStops, PieceStops, ScriptStops};
 
 use crate::fault::Fault;
 use crate::limits::SCRIPT_LIMIT;
 use crate::printing::flush;
-use crate::reply::print_reply;
+use crate::remarking::{remark_on, say};
+use crate::reply::{Reply, print_reply};
 use crate::runner::Runner;
 use fits_script::{LINE_LIMIT, split_far};
 use fits_stream::{PIECE_LEN, Sink, Source, buffer_of};
@@ -18,21 +23,46 @@ use std::alloc::Global;
 const LINE_ROOM: usize = LINE_LIMIT + 1;
 
 // Answers one line.
-fn answer_line<O: Sink>(
+fn answer_line<O: Sink, E: Sink>(
     alloc: Global,
     runner: &mut Runner,
     line: &[u8],
     out: &mut O,
+    told: &mut Option<E>,
 ) -> Result<(), Fault>
     requires { runner.old.line + 1 < 2 ^ 64 }
     ensures ok { OnOk result (AnswersLine line.now runner.old runner.new
-        (O.state out.old) (O.state out.new)) }
-    ensures err { IfErr result (LineStops line.now runner.old (O.state out.old) (O.state out.new)) }
+        (heard (O.state out.old) (option_map E.state told.old))
+        (heard (O.state out.new) (option_map E.state told.new))) }
+    ensures err { IfErr result (LineStops line.now runner.old
+        (heard (O.state out.old) (option_map E.state told.old))
+        (heard (O.state out.new) (option_map E.state told.new))) }
     ensures line { OnOk result (runner.new.line ≡ runner.old.line + 1) }
 {
     let number = runner.line();
     let reply = runner.reply(alloc, line)?;
-    print_reply(out, number, &reply)
+    let remark = remark_on(alloc, told.is_some(), line, &reply)?;
+    print_answer(out, number, &reply, remark.is_some())?;
+    say(told, number, &remark);
+    Ok(())
+}
+
+// Prints what a line comes to. Before a remark on it that is passed on, so that who reads both has
+// the answer first.
+#[tactic(auto, using(fits_stream::proofs::StreamLemmas::flush_steps))]
+fn print_answer<O: Sink>(
+    out: &mut O,
+    number: u64,
+    reply: &Reply,
+    at_once: bool,
+) -> Result<(), Fault>
+    ensures ok { OnOk result (Prints (reply_text number reply.now)
+        (O.state out.old) (O.state out.new)) }
+    ensures err { IfErr result (PrintFails (reply_text number reply.now)
+        (O.state out.old) (O.state out.new)) }
+{
+    print_reply(out, number, reply)?;
+    if at_once { flush(out) } else { Ok(()) }
 }
 
 // Keeps more of a line, as far as it decides what the line comes to.
@@ -52,20 +82,24 @@ fn keep(line: &mut Vec<u8>, more: &[u8])
 }
 
 // Answers each line that ends in this piece. `line` holds what came of a line that hasn't ended.
-fn answer_piece<O: Sink>(
+fn answer_piece<O: Sink, E: Sink>(
     alloc: Global,
     runner: &mut Runner,
     line: &mut Vec<u8>,
     piece: &[u8],
     out: &mut O,
+    told: &mut Option<E>,
 ) -> Result<(), Fault>
     requires numbers { runner.old.line + length piece.now + 1 < 2 ^ 64 }
     requires room { LINE_LIMIT + 1 ≤ vec_capacity line.old }
     requires within { vec_len line.old ≤ LINE_LIMIT + 1 }
     ensures ok { OnOk result (Continues piece.now line.old.items line.new.items runner.old
-        runner.new (O.state out.old) (O.state out.new)) }
+        runner.new
+        (heard (O.state out.old) (option_map E.state told.old))
+        (heard (O.state out.new) (option_map E.state told.new))) }
     ensures err { IfErr result (PieceStops piece.now line.old.items runner.old
-        (O.state out.old) (O.state out.new)) }
+        (heard (O.state out.old) (option_map E.state told.old))
+        (heard (O.state out.new) (option_map E.state told.new))) }
     ensures line { OnOk result (runner.new.line ≤ runner.old.line + length piece.now) }
     ensures room { OnOk result (LINE_LIMIT + 1 ≤ vec_capacity line.new) }
     ensures within { OnOk result (vec_len line.new ≤ LINE_LIMIT + 1) }
@@ -77,79 +111,100 @@ fn answer_piece<O: Sink>(
             return Ok(());
         };
         keep(line, front);
-        answer_line(alloc, runner, line, out)?;
+        answer_line(alloc, runner, line, out, told)?;
         line.clear();
         rest = next;
     }
 }
 
 // The same, and passes the answers on, so that what asks by a pipe has them before it says more.
-fn answer_at_once<O: Sink>(
+fn answer_at_once<O: Sink, E: Sink>(
     alloc: Global,
     runner: &mut Runner,
     line: &mut Vec<u8>,
     piece: &[u8],
     out: &mut O,
+    told: &mut Option<E>,
 ) -> Result<(), Fault>
     requires numbers { runner.old.line + length piece.now + 1 < 2 ^ 64 }
     requires room { LINE_LIMIT + 1 ≤ vec_capacity line.old }
     requires within { vec_len line.old ≤ LINE_LIMIT + 1 }
     ensures ok { OnOk result (Continues piece.now line.old.items line.new.items runner.old
-        runner.new (O.state out.old) (O.state out.new)) }
+        runner.new
+        (heard (O.state out.old) (option_map E.state told.old))
+        (heard (O.state out.new) (option_map E.state told.new))) }
     ensures err { IfErr result (PieceStops piece.now line.old.items runner.old
-        (O.state out.old) (O.state out.new)) }
+        (heard (O.state out.old) (option_map E.state told.old))
+        (heard (O.state out.new) (option_map E.state told.new))) }
     ensures flushed { OnOk result ((O.state out.new).unflushed ≡ 0) }
     ensures line { OnOk result (runner.new.line ≤ runner.old.line + length piece.now) }
     ensures room { OnOk result (LINE_LIMIT + 1 ≤ vec_capacity line.new) }
     ensures within { OnOk result (vec_len line.new ≤ LINE_LIMIT + 1) }
 {
-    answer_piece(alloc, runner, line, piece, out)?;
+    answer_piece(alloc, runner, line, piece, out, told)?;
     flush(out)
 }
 
 // Answers what came after the last line feed, unless it is nothing.
-fn answer_last_line<O: Sink>(
+fn answer_last_line<O: Sink, E: Sink>(
     alloc: Global,
     runner: &mut Runner,
     line: &[u8],
     out: &mut O,
+    told: &mut Option<E>,
 ) -> Result<(), Fault>
     requires { runner.old.line + 1 < 2 ^ 64 }
     ensures ok { OnOk result (EndsScript line.now runner.old runner.new
-        (O.state out.old) (O.state out.new)) }
-    ensures err { IfErr result (EndStops line.now runner.old (O.state out.old) (O.state out.new)) }
+        (heard (O.state out.old) (option_map E.state told.old))
+        (heard (O.state out.new) (option_map E.state told.new))) }
+    ensures err { IfErr result (EndStops line.now runner.old
+        (heard (O.state out.old) (option_map E.state told.old))
+        (heard (O.state out.new) (option_map E.state told.new))) }
 {
     if line.is_empty() {
         return Ok(());
     }
-    answer_line(alloc, runner, line, out)?;
+    answer_line(alloc, runner, line, out, told)?;
     Ok(())
 }
 
 /// Answers a script to its end, or as far as its limit.
-pub(crate) fn answer_script<S: Source, O: Sink>(
+pub(crate) fn answer_script<S: Source, O: Sink, E: Sink>(
     alloc: Global,
     runner: &mut Runner,
     script: &mut S,
     out: &mut O,
+    told: &mut Option<E>,
 ) -> Result<(), Fault>
     requires { runner.old.line ≡ 1 }
     ensures ok { OnOk result (AnswersScript (S.state script.old) (S.state script.new) runner.old
-        runner.new (O.state out.old) (O.state out.new)) }
+        runner.new
+        (heard (O.state out.old) (option_map E.state told.old))
+        (heard (O.state out.new) (option_map E.state told.new))) }
     ensures err { IfErr result (ScriptStops (S.state script.old) (S.state script.new) runner.old
-        (O.state out.old) (O.state out.new)) }
+        (heard (O.state out.old) (option_map E.state told.old))
+        (heard (O.state out.new) (option_map E.state told.new))) }
 {
     let mut buffer = buffer_of(alloc, PIECE_LEN)?;
     let mut line = Vec::with_capacity(alloc, LINE_ROOM)?;
-    answer_pieces(alloc, runner, script, out, buffer.as_mut_slice(), &mut line)
+    answer_pieces(
+        alloc,
+        runner,
+        script,
+        out,
+        told,
+        buffer.as_mut_slice(),
+        &mut line,
+    )
 }
 
 // Answers a script piece by piece. `piece` and `line` are room for a piece and for a line.
-fn answer_pieces<S: Source, O: Sink>(
+fn answer_pieces<S: Source, O: Sink, E: Sink>(
     alloc: Global,
     runner: &mut Runner,
     script: &mut S,
     out: &mut O,
+    told: &mut Option<E>,
     piece: &mut [u8],
     line: &mut Vec<u8>,
 ) -> Result<(), Fault>
@@ -158,9 +213,12 @@ fn answer_pieces<S: Source, O: Sink>(
     requires empty { line.old.items ≡ [] }
     requires room { LINE_LIMIT + 1 ≤ vec_capacity line.old }
     ensures ok { OnOk result (AnswersScript (S.state script.old) (S.state script.new) runner.old
-        runner.new (O.state out.old) (O.state out.new)) }
+        runner.new
+        (heard (O.state out.old) (option_map E.state told.old))
+        (heard (O.state out.new) (option_map E.state told.new))) }
     ensures err { IfErr result (ScriptStops (S.state script.old) (S.state script.new) runner.old
-        (O.state out.old) (O.state out.new)) }
+        (heard (O.state out.old) (option_map E.state told.old))
+        (heard (O.state out.new) (option_map E.state told.new))) }
 {
     let mut taken = 0usize;
     loop {
@@ -168,16 +226,16 @@ fn answer_pieces<S: Source, O: Sink>(
             return Err(Fault::ReadFailed);
         };
         if n == 0 {
-            return answer_last_line(alloc, runner, line, out);
+            return answer_last_line(alloc, runner, line, out, told);
         }
         let room = SCRIPT_LIMIT - taken;
         if n > room {
             let (front, _) = piece.split_at(room);
-            answer_piece(alloc, runner, line, front, out)?;
+            answer_piece(alloc, runner, line, front, out, told)?;
             return Err(Fault::ScriptTooLong);
         }
         let (front, _) = piece.split_at(n);
-        answer_at_once(alloc, runner, line, front, out)?;
+        answer_at_once(alloc, runner, line, front, out, told)?;
         taken += n;
     }
 }

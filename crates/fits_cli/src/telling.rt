@@ -10,6 +10,7 @@ use crate::printing::flush;
 use crate::stating::statistics;
 use crate::summing::{sum, wrong_sums};
 use crate::verifying::{verify, verify_strictly};
+use crate::verifying_cards::{verify_strictly_with_cards, verify_with_cards};
 use fits_stream::{Sink, Source};
 use std::alloc::Global;
 
@@ -28,6 +29,10 @@ pub enum Telling {
     Report(Level),
     /// The same. The status is 1 where there is an error or a warning.
     StrictReport(Level),
+    /// What is wrong, as `Report`, with the card of each place.
+    CardReport(Level),
+    /// The same, with the status of `StrictReport`.
+    StrictCardReport(Level),
 }
 
 /// Reads a file, opens it, and prints a text of it.
@@ -85,5 +90,7 @@ fn print_text<F: Source, O: Sink>(
         Telling::Statistics => statistics(alloc, file, out),
         Telling::Report(level) => verify(alloc, level, file, out),
         Telling::StrictReport(level) => verify_strictly(alloc, level, file, out),
+        Telling::CardReport(level) => verify_with_cards(alloc, level, file, out),
+        Telling::StrictCardReport(level) => verify_strictly_with_cards(alloc, level, file, out),
     }
 }

@@ -1,14 +1,15 @@
 use Rattle.std.proofs.Common.{◌≡◌, ◌≤◌, ◌+◌, ◌++◌, ℕ, List, length}
 use Rattle.std.specs.Prelude.{vec_len, vec_capacity}
+use Rattle.std.specs.Option.{option_map}
 use Rattle.fits_script.specs.declared.limits.TheConstants.{LINE_LIMIT}
-use Rattle.fits_cli.specs.Running.{Continues}
+use Rattle.fits_cli.specs.Running.{heard, Continues}
 use Rattle.fits_cli.proofs.script.answer_piece.Given as goal
 
 abbrev pub invariant-loop-front : goal.invariant-loop-front
 invariant-loop-front g l = record {
   done : List ℕ;
   split : l.piece ≡ done ++ l.rest;
-  answered : Continues done l.fn.line.items l.line.items l.fn.runner l.runner (g.O.Sink.state l.fn.out) (g.O.Sink.state l.out);
+  answered : Continues done l.fn.line.items l.line.items l.fn.runner l.runner (heard (g.O.Sink.state l.fn.out) (option_map g.E.Sink.state l.fn.told)) (heard (g.O.Sink.state l.out) (option_map g.E.Sink.state l.told));
   numbered : l.runner.line + length l.rest ≤ l.fn.runner.line + length l.piece;
   room : LINE_LIMIT + 1 ≤ vec_capacity l.line;
   within : vec_len l.line ≤ LINE_LIMIT + 1;

@@ -1,9 +1,10 @@
 use Rattle.std.proofs.Common.{◌≡◌, ◌<◌, ◌≤◌, ◌+◌, ◌-◌, List, ℕ, length}
 use Rattle.std.specs.Prelude.{vec_len, vec_capacity}
+use Rattle.std.specs.Option.{option_map}
 use Rattle.fits_stream.specs.Stream.{Reads}
 use Rattle.fits_script.specs.declared.limits.TheConstants.{LINE_LIMIT}
 use Rattle.fits_cli.specs.declared.limits.TheConstants.{SCRIPT_LIMIT}
-use Rattle.fits_cli.specs.Running.{HasCome}
+use Rattle.fits_cli.specs.Running.{heard, HasCome}
 use Rattle.fits_cli.proofs.script.answer_pieces.Given as goal
 
 abbrev pub invariant-loop-n : goal.invariant-loop-n
@@ -12,7 +13,7 @@ invariant-loop-n g l = record {
   read : Reads came (g.S.Source.state l.fn.script) (g.S.Source.state l.script);
   counted : l.taken ≡ length came;
   short : l.taken ≤ SCRIPT_LIMIT;
-  has : HasCome came l.line.items l.fn.runner l.runner (g.O.Sink.state l.fn.out) (g.O.Sink.state l.out);
+  has : HasCome came l.line.items l.fn.runner l.runner (heard (g.O.Sink.state l.fn.out) (option_map g.E.Sink.state l.fn.told)) (heard (g.O.Sink.state l.out) (option_map g.E.Sink.state l.told));
   numbered : l.runner.line ≤ l.taken + 1;
   wide : 0 < length l.piece;
   room : LINE_LIMIT + 1 ≤ vec_capacity l.line;

@@ -1,0 +1,173 @@
+-- A run of `edit -c`, from its answers to its end.
+use Rattle.std.proofs.Common.{◌≡◌, ℕ, ◌<◌, ◌≤◌, Bool, List, [], length, refl, ap, sym, subst, ◌∙◌, inl, inr, arith, Option, Result}
+use Rattle.std.specs.Prelude.{AllPairs}
+use Rattle.std.specs.Result.{IsErrAnd}
+use Rattle.std.proofs.lemmas.Result.{err_from_is_err_and}
+use Rattle.fits_stream.specs.Stream.{SourceState, SinkState, Prints, PrintsFront, StaysQuiet}
+use Rattle.fits_stream.proofs.StreamLemmas.{Prints-flushed, Prints-more, Prints-none}
+use Rattle.fits_session.specs.File.{FileParts, file_bytes}
+use Rattle.fits_session.specs.Report.{report_of, IsListedBefore}
+use Rattle.fits_session.specs.declared.problem.Problem.{Problem}
+use Rattle.fits_session.proofs.OrderLemmas.{in_order}
+use Rattle.fits_cli.specs.Answer.{Standing, at_first_line}
+use Rattle.fits_cli.specs.CheckedEnds.{kept_back, EndsChecked, IsKeptBack, IsReportedRun, IsSound, IsUnsound, IsUpToReports, StopsChecked}
+use Rattle.fits_cli.specs.Ends.{RunState, StopsBy}
+use Rattle.fits_cli.specs.Faults.{PrintFails}
+use Rattle.fits_cli.specs.NewErrors.{new_error_lines, new_errors, HasMoreErrors}
+use Rattle.fits_cli.specs.Output.{answers, output_of_lines, standing_after, status_of}
+use Rattle.fits_cli.specs.Running.{heard, IsAnsweredRun}
+use Rattle.fits_cli.specs.Script.{script_lines}
+use Rattle.fits_cli.specs.declared.fault.Fault.{Fault}
+use Rattle.fits_cli.specs.declared.fault.Fault.TheVariants.{Memory}
+use Rattle.fits_cli.proofs.EditingLemmas.{Asked-done, output_whole, script_told}
+use Rattle.fits_cli.proofs.NewErrorLemmas.{more-new, new-more}
+use Rattle.fits_cli.proofs.ResultLemmas.{lines_file, own_bytes}
+
+-- a fault before the script is answered ends such a run
+pub checked_exit : (whole : Bool) (old new : RunState) (result : Result (ℕ × ℕ × ℕ) Fault) (why : Fault) → IsErrAnd result (λ e. e ≡ why) → StopsChecked whole old new why → EndsChecked whole old new result
+checked_exit whole old new result why is stops = let exit = err_from_is_err_and result is in rw (exit.1, exit.2) stops
+
+-- memory is refused before the first line
+pub First-report-refused : (old new : RunState) → StaysQuiet old.file new.file → new.script ≡ old.script → new.printed ≡ old.printed → new.saved ≡ old.saved → StopsBy old new Memory
+First-report-refused old new of_file script printed saved = record {
+  read = record { of_file = of_file; of_script = ap (λ (s : SourceState). s.failures) script };
+  printed = inl (script, subst (λ (s : SinkState). Prints [] old.printed s) (sym printed) (Prints-none old.printed));
+  saved = saved;
+}
+
+-- the run at its two reports
+up_to_reports : (whole : Bool) (old new : RunState) (mid : SinkState) (told told_after : Option SinkState) (now : Standing) (before : List Problem) → IsReportedRun old.file new.file old.script new.script old.printed mid told told_after now before → kept_back whole now.refused ≡ 0
+    → IsUpToReports whole old new
+up_to_reports whole old new mid told told_after now before reported all =
+    let run = reported.run in
+    let done = run.answered.script in
+    record {
+      file = run.opened.0;
+      script = done.script;
+      output = output_of_lines run.parts (script_lines done.lines done.last);
+      before = before;
+      after = report_of now.marked.file;
+      told_file = run.opened.1;
+      told_script = script_told old.script new.script done.script done.read done.ended;
+      is = output_whole old.script new.script old.file run.parts now (heard old.printed told) (heard run.answered.mid told_after) run.opened done;
+      answered = refl;
+      done = ap (λ (s : Standing). kept_back whole s.refused) (sym done.answered.left) ∙ all;
+      before_is = record { file = run.parts; opened = run.opened.2; all = reported.before_is };
+      after_is = record {
+        file = (standing_after (at_first_line run.parts) (script_lines done.lines done.last)).marked.file;
+        opened = lines_file (at_first_line run.parts) (script_lines done.lines done.last) (own_bytes run.opened.0 run.parts run.opened.2);
+        all = ap (λ (s : Standing). report_of s.marked.file) done.answered.left;
+      };
+      read = record { of_file = run.read; of_script = done.read.quiet };
+    }
+
+-- its answers
+answered-printed : (old new : RunState) (mid : SinkState) (told told_after : Option SinkState) (now : Standing) (run : IsAnsweredRun old.file new.file old.script new.script old.printed mid told told_after now)
+    → Prints (answers (at_first_line run.parts) (script_lines run.answered.script.lines run.answered.script.last)) old.printed mid
+answered-printed old new mid told told_after now run =
+    let done = run.answered.script in
+    Prints-flushed old.printed run.answered.mid mid (answers (at_first_line run.parts) (script_lines done.lines done.last)) done.answered.said.printed run.answered.flush
+
+-- lines that weren't done keep the result back
+pub Kept-back : (whole : Bool) (old new : RunState) (told told_after : Option SinkState) (now : Standing) (before : List Problem) (undone : ℕ) → IsReportedRun old.file new.file old.script new.script old.printed new.printed told told_after now before → new.saved ≡ old.saved
+    → undone ≡ kept_back whole now.refused → 0 < undone → IsKeptBack whole old new (status_of now) undone
+unfolding Asked-done standing_after
+Kept-back whole old new told told_after now before undone reported saved is some = record {
+  asked = Asked-done old new now told told_after reported.run saved;
+  some = some;
+  count = is ∙ ap (λ (s : Standing). kept_back whole s.refused) reported.run.answered.script.answered.left;
+}
+
+-- memory is refused after the script
+pub Lacks-report : (whole : Bool) (old new : RunState) (told told_after : Option SinkState) (now : Standing) (before : List Problem) → IsReportedRun old.file new.file old.script new.script old.printed new.printed told told_after now before → new.saved ≡ old.saved
+    → kept_back whole now.refused ≡ 0 → StopsChecked whole old new Memory
+unfolding up_to_reports
+Lacks-report whole old new told told_after now before reported saved all = inr (record {
+  run = up_to_reports whole old new new.printed told told_after now before reported all;
+  printed = answered-printed old new new.printed told told_after now reported.run;
+  flushed = reported.run.answered.flush.flushed;
+  saved = saved;
+})
+
+-- there are new errors where some were found
+some-more : (before : List Problem) (file : FileParts) (count : ℕ) → count ≡ length (new_errors before (report_of file)) → 0 < count → HasMoreErrors before (report_of file)
+some-more before file count is some = new-more before (report_of file) (omega (arith, is, some))
+
+-- and none where none was
+none-more : (before : List Problem) (file : FileParts) (count : ℕ) → count ≡ length (new_errors before (report_of file)) → count ≤ 0 → HasMoreErrors before (report_of file) → ⊥
+none-more before file count is none more = absurd (omega (arith, is, none, more-new before (report_of file) (in_order file) more))
+
+-- some errors are new
+pub Unsound-printed : (whole : Bool) (old new : RunState) (mid : SinkState) (told told_after : Option SinkState) (now : Standing) (before : List Problem) (count : ℕ) → IsReportedRun old.file new.file old.script new.script old.printed mid told told_after now before → new.saved ≡ old.saved
+    → kept_back whole now.refused ≡ 0 → count ≡ length (new_errors before (report_of now.marked.file)) → 0 < count → Prints (new_error_lines (new_errors before (report_of now.marked.file))) mid new.printed → new.printed.unflushed ≡ 0
+    → IsUnsound whole old new 1 count
+unfolding up_to_reports
+Unsound-printed whole old new mid told told_after now before count reported saved all is some printed flushed =
+    let done = reported.run.answered.script in
+    record {
+      run = up_to_reports whole old new mid told told_after now before reported all;
+      more = some-more before now.marked.file count is some;
+      some = some;
+      count = is;
+      printed = Prints-more old.printed mid new.printed (answers (at_first_line reported.run.parts) (script_lines done.lines done.last)) (new_error_lines (new_errors before (report_of now.marked.file)))
+          (answered-printed old new mid told told_after now reported.run) printed;
+      flushed = flushed;
+      saved = saved;
+      status_is = refl;
+    }
+
+-- their lines can't be written
+pub New-errors-fail : (whole : Bool) (old new : RunState) (mid : SinkState) (told told_after : Option SinkState) (now : Standing) (before : List Problem) (count : ℕ) (fault : Fault) → IsReportedRun old.file new.file old.script new.script old.printed mid told told_after now before → new.saved ≡ old.saved
+    → kept_back whole now.refused ≡ 0 → count ≡ length (new_errors before (report_of now.marked.file)) → 0 < count → PrintFails (new_error_lines (new_errors before (report_of now.marked.file))) mid new.printed fault
+    → StopsChecked whole old new fault
+unfolding up_to_reports
+New-errors-fail whole old new mid told told_after now before count fault reported saved all is some fails =
+    subst (λ (f : Fault). StopsChecked whole old new f) (sym fails.0)
+    (inr (inl (record {
+      run = up_to_reports whole old new mid told told_after now before reported all;
+      more = some-more before now.marked.file count is some;
+      answered = mid;
+      printed = answered-printed old new mid told told_after now reported.run;
+      flushed = reported.run.answered.flush.flushed;
+      lines = fails.1;
+      saved = saved;
+    })))
+
+-- the file after the last line, in the run's output
+left_bytes : (old new : RunState) (mid : SinkState) (told told_after : Option SinkState) (now : Standing) (run : IsAnsweredRun old.file new.file old.script new.script old.printed mid told told_after now)
+    → file_bytes now.marked.file ≡ file_bytes (standing_after (at_first_line run.parts) (script_lines run.answered.script.lines run.answered.script.last)).marked.file
+left_bytes old new mid told told_after now run = ap (λ (s : Standing). file_bytes s.marked.file) run.answered.script.answered.left
+
+-- no error is new
+pub Sound-saved : (whole : Bool) (old new : RunState) (told told_after : Option SinkState) (now : Standing) (before : List Problem) (count : ℕ) → IsReportedRun old.file new.file old.script new.script old.printed new.printed told told_after now before
+    → kept_back whole now.refused ≡ 0 → count ≡ length (new_errors before (report_of now.marked.file)) → count ≤ 0 → Prints (file_bytes now.marked.file) old.saved new.saved → new.saved.unflushed ≡ 0
+    → IsSound whole old new (status_of now)
+unfolding up_to_reports
+Sound-saved whole old new told told_after now before count reported all is none saved flushed = record {
+  run = up_to_reports whole old new new.printed told told_after now before reported all;
+  none = none-more before now.marked.file count is none;
+  printed = answered-printed old new new.printed told told_after now reported.run;
+  printed_flushed = reported.run.answered.flush.flushed;
+  saved = subst (λ (t : List ℕ). Prints t old.saved new.saved) (left_bytes old new new.printed told told_after now reported.run) saved;
+  saved_flushed = flushed;
+  status_is = ap status_of reported.run.answered.script.answered.left;
+}
+
+-- the file can't be saved
+pub Sound-fails : (whole : Bool) (old new : RunState) (told told_after : Option SinkState) (now : Standing) (before : List Problem) (count : ℕ) (fault : Fault) → IsReportedRun old.file new.file old.script new.script old.printed new.printed told told_after now before
+    → kept_back whole now.refused ≡ 0 → count ≡ length (new_errors before (report_of now.marked.file)) → count ≤ 0 → PrintFails (file_bytes now.marked.file) old.saved new.saved fault
+    → StopsChecked whole old new fault
+unfolding up_to_reports
+Sound-fails whole old new told told_after now before count fault reported all is none fails =
+    subst (λ (f : Fault). StopsChecked whole old new f) (sym fails.0)
+    (inr (inr (record {
+      run = up_to_reports whole old new new.printed told told_after now before reported all;
+      none = none-more before now.marked.file count is none;
+      printed = answered-printed old new new.printed told told_after now reported.run;
+      flushed = reported.run.answered.flush.flushed;
+      saved = subst (λ (t : List ℕ). PrintsFront t old.saved new.saved) (left_bytes old new new.printed told told_after now reported.run) fails.1;
+    })))
+
+-- the report that a run begins with is in order
+pub reported-ordered : (file file_after script script_after : SourceState) (out out_after : SinkState) (told told_after : Option SinkState) (now : Standing) (before : List Problem) → IsReportedRun file file_after script script_after out out_after told told_after now before → AllPairs IsListedBefore before
+reported-ordered file file_after script script_after out out_after told told_after now before reported = rw reported.before_is (in_order reported.run.parts)

@@ -1,0 +1,81 @@
+-- What hears of the lines of a script: answers, and remarks, put together.
+use Rattle.std.proofs.Common.{◌≡◌, ℕ, ◌+◌, ◌≤◌, Bool, true, List, [], ◌++◌, refl, ap, sym, subst, ◌∙◌, arith, inl, Option, None, Some, option_map, is_some}
+use Rattle.fits_stream.specs.Stream.{SinkState}
+use Rattle.fits_stream.proofs.StreamLemmas.{Appends-more, Appends-none, Prints-none, Prints-more}
+use Rattle.fits_session.specs.Marked.{Marked}
+use Rattle.fits_script.specs.Line.{reading_of, ReadingNeedsMemory}
+use Rattle.fits_script.specs.declared.line_reading.LineReading.{LineReading}
+use Rattle.fits_script.specs.declared.line_reading.LineReading.TheVariants.{TooLong, NoCommand, Said}
+use Rattle.fits_cli.specs.Answer.{Standing, LineNeedsMemory}
+use Rattle.fits_cli.specs.Remark.{line_remark, remark_by, remark_line, remark_on, IsSaid, Remarks}
+use Rattle.fits_cli.specs.Running.{Heard, Says}
+use Rattle.fits_cli.specs.declared.remark.Remark.{Remark}
+use Rattle.fits_cli.specs.declared.reply.Reply.{Reply}
+
+-- nothing is said
+IsSaid-none : (a : SinkState) → IsSaid [] a a
+IsSaid-none a = record { later = omega arith; bytes = λ quiet. Appends-none a.contents }
+
+-- a text, and then another
+IsSaid-more : (a b c : SinkState) (xs ys : List ℕ) → IsSaid xs a b → IsSaid ys b c → IsSaid (xs ++ ys) a c
+IsSaid-more a b c xs ys p q = record {
+  later = omega (arith, p.later, q.later);
+  bytes = λ quiet. Appends-more a.contents b.contents c.contents xs ys (p.bytes (omega (arith, quiet, p.later, q.later))) (q.bytes (omega (arith, quiet, p.later, q.later)));
+}
+
+-- no remark
+pub Remarks-none : (a : Option SinkState) → Remarks [] a a
+Remarks-none None = tt
+Remarks-none (Some a) = IsSaid-none a
+
+-- remarks, and then others
+pub Remarks-more : (a b c : Option SinkState) (xs ys : List ℕ) → Remarks xs a b → Remarks ys b c → Remarks (xs ++ ys) a c
+Remarks-more None None None xs ys p q = tt
+Remarks-more None None (Some c) xs ys p q = absurd q
+Remarks-more None (Some b) c xs ys p q = absurd p
+Remarks-more (Some a) None c xs ys p q = absurd p
+Remarks-more (Some a) (Some b) None xs ys p q = absurd q
+Remarks-more (Some a) (Some b) (Some c) xs ys p q = IsSaid-more a b c xs ys p q
+
+-- nothing was said since
+pub Remarks-same : (text : List ℕ) (a b c : Option SinkState) → Remarks text a b → c ≡ b → Remarks text a c
+Remarks-same text a b c p same = subst (λ (s : Option SinkState). Remarks text a s) (sym same) p
+
+-- neither answers nor remarks
+pub Says-none : (a : Heard) → Says [] [] a a
+Says-none a = record { printed = Prints-none a.out; told = Remarks-none a.told }
+
+-- some of both, and then more
+pub Says-more : (a b c : Heard) (xs ys rs ss : List ℕ) → Says xs rs a b → Says ys ss b c → Says (xs ++ ys) (rs ++ ss) a c
+Says-more a b c xs ys rs ss p q = record {
+  printed = Prints-more a.out b.out c.out xs ys p.printed q.printed;
+  told = Remarks-more a.told b.told c.told rs ss p.told q.told;
+}
+
+-- the same texts
+pub Says-text : (xs ys rs ss : List ℕ) (a b : Heard) → xs ≡ ys → rs ≡ ss → Says xs rs a b → Says ys ss a b
+Says-text xs ys rs ss a b p q said = rw (← p, ← q) said
+
+-- a remark is the one on its line
+pub remark_lines : (standing : Standing) (line : List ℕ) (number : ℕ) (remark : Option Remark) (reply : Reply) → number ≡ standing.line
+    → remark ≡ remark_by line (reading_of line) reply → remark_by line (reading_of line) reply ≡ remark_on standing.marked line (reading_of line)
+    → remark_line number remark ≡ line_remark standing line
+unfolding line_remark
+remark_lines standing line number remark reply at is on = ap (λ (n : ℕ). remark_line n remark) at ∙ ap (remark_line standing.line) (is ∙ on)
+
+-- so it is said where it is wanted
+pub said_line : {E : Type 0} (state : E → SinkState) (standing : Standing) (line : List ℕ) (number : ℕ) (wanted : Bool) (remark : Option Remark) (reply : Reply) (told : Option E) (after : Option SinkState)
+    → number ≡ standing.line → wanted ≡ is_some told
+    → (wanted ≡ true → remark ≡ remark_by line (reading_of line) reply) → remark_by line (reading_of line) reply ≡ remark_on standing.marked line (reading_of line)
+    → Remarks (remark_line number remark) (option_map state told) after → Remarks (line_remark standing line) (option_map state told) after
+said_line state standing line number wanted remark reply None None at is by on said = tt
+said_line state standing line number wanted remark reply None (Some b) at is by on said = absurd said
+said_line state standing line number wanted remark reply (Some e) None at is by on said = absurd said
+said_line state standing line number wanted remark reply (Some e) (Some b) at is by on said = rw (← remark_lines standing line number remark reply at (by is) on) said
+
+-- a line whose command is read again may need memory for that
+pub needs_to_read : (it : Marked) (reading : LineReading) → ReadingNeedsMemory reading → LineNeedsMemory it reading
+unfolding LineNeedsMemory
+needs_to_read it TooLong needs = needs
+needs_to_read it NoCommand needs = needs
+needs_to_read it (Said command) needs = inl needs

@@ -1,0 +1,123 @@
+-- How a run of `edit -c` ends: nothing is saved where errors are new (own).
+use Rattle.std.specs.Prelude.{◌≡◌, ◌⊎◌, ℕ, ◌<◌, Bool, List, ◌++◌, length, Option, None, Result, Ok, Err, MatchOption, if◌then◌else◌}
+use Rattle.fits_stream.specs.Intake.{Tells}
+use Rattle.fits_stream.specs.Stream.{SourceState, SinkState, Prints, PrintsFront}
+use Rattle.fits_session.specs.Report.{report_of, IsReportOf}
+use Rattle.fits_session.specs.declared.problem.Problem.{Problem}
+use Rattle.fits_cli.specs.Answer.{Standing}
+use Rattle.fits_cli.specs.Ends.{RunState, IsAsked, ReadsWell, StopsBy}
+use Rattle.fits_cli.specs.Faults.{status_of_fault}
+use Rattle.fits_cli.specs.NewErrors.{new_error_lines, new_errors, HasMoreErrors}
+use Rattle.fits_cli.specs.Output.{Output, IsOutputOf}
+use Rattle.fits_cli.specs.Running.{IsAnsweredRun}
+use Rattle.fits_cli.specs.declared.end.End.{End}
+use Rattle.fits_cli.specs.declared.fault.Fault.{Fault}
+use Rattle.fits_cli.specs.declared.fault.Fault.TheVariants.{Refused, ScriptTooLong, Memory, ReadFailed, WriteFailed}
+
+-- how many lines that weren't done keep a result from being saved: all of them where every line is to be done, else none
+abbrev pub kept_back : Bool → ℕ → ℕ
+kept_back whole undone = if whole then undone else 0
+
+-- a script was answered to its end, and no line keeps its result from being saved: that is up to the reports of the bytes that were
+-- read and of those to be saved
+pub record IsUpToReports (whole : Bool) (old new : RunState) : Type 0 where
+  pub file : List ℕ
+  pub script : List ℕ
+  pub output : Output
+  pub before : List Problem
+  pub after : List Problem
+  pub told_file : Tells old.file file
+  pub told_script : Tells old.script script
+  pub is : IsOutputOf file script output
+  pub answered : output.fault ≡ None
+  pub done : kept_back whole output.undone ≡ 0
+  pub before_is : IsReportOf before file
+  pub after_is : IsReportOf after output.saved
+  pub read : ReadsWell old new
+
+-- no error is new: the result is saved, as `edit` saves it
+pub record IsSound (whole : Bool) (old new : RunState) (status : ℕ) : Type 0 where
+  pub run : IsUpToReports whole old new
+  pub none : HasMoreErrors run.before run.after → ⊥
+  pub printed : Prints run.output.text old.printed new.printed
+  pub printed_flushed : new.printed.unflushed ≡ 0
+  pub saved : Prints run.output.saved old.saved new.saved
+  pub saved_flushed : new.saved.unflushed ≡ 0
+  pub status_is : status ≡ run.output.status
+
+-- there are more of some error: the lines of the new ones follow the answers, and nothing is saved
+pub record IsUnsound (whole : Bool) (old new : RunState) (status errors : ℕ) : Type 0 where
+  pub run : IsUpToReports whole old new
+  pub more : HasMoreErrors run.before run.after
+  pub some : 0 < errors
+  pub count : errors ≡ length (new_errors run.before run.after)
+  pub printed : Prints (run.output.text ++ new_error_lines (new_errors run.before run.after)) old.printed new.printed
+  pub flushed : new.printed.unflushed ≡ 0
+  pub saved : new.saved ≡ old.saved
+  pub status_is : status ≡ 1
+
+-- lines weren't done, and every one was to be: nothing is saved, and no report of the result is made
+pub record IsKeptBack (whole : Bool) (old new : RunState) (status undone : ℕ) : Type 0 where
+  pub asked : IsAsked old new status
+  pub some : 0 < undone
+  pub count : undone ≡ kept_back whole asked.output.undone
+
+-- how such a run ends without a fault, with how many lines and how many errors kept its result from being saved
+abbrev pub IsChecked : Bool → RunState → RunState → ℕ → ℕ → ℕ → Type 0
+IsChecked whole old new status undone errors =
+    (IsSound whole old new status × (undone ≡ 0) × (errors ≡ 0))
+    ⊎ ((IsKeptBack whole old new status undone × (errors ≡ 0)) ⊎ (IsUnsound whole old new status errors × (undone ≡ 0)))
+
+-- memory was refused after the script, for the report of its result or the lines of new errors: the answers are flushed, and nothing is saved
+pub record LacksReport (whole : Bool) (old new : RunState) : Type 0 where
+  pub run : IsUpToReports whole old new
+  pub printed : Prints run.output.text old.printed new.printed
+  pub flushed : new.printed.unflushed ≡ 0
+  pub saved : new.saved ≡ old.saved
+
+-- a write of the lines of new errors failed: the answers are flushed, a prefix of the lines stands after them, and nothing is saved
+pub record NewErrorsFail (whole : Bool) (old new : RunState) : Type 0 where
+  pub run : IsUpToReports whole old new
+  pub more : HasMoreErrors run.before run.after
+  pub answered : SinkState
+  pub printed : Prints run.output.text old.printed answered
+  pub flushed : answered.unflushed ≡ 0
+  pub lines : PrintsFront (new_error_lines (new_errors run.before run.after)) answered new.printed
+  pub saved : new.saved ≡ old.saved
+
+-- a write of the saved file failed: no error is new, all answers are flushed, and a prefix of the file stands
+pub record SoundFails (whole : Bool) (old new : RunState) : Type 0 where
+  pub run : IsUpToReports whole old new
+  pub none : HasMoreErrors run.before run.after → ⊥
+  pub printed : Prints run.output.text old.printed new.printed
+  pub flushed : new.printed.unflushed ≡ 0
+  pub saved : PrintsFront run.output.saved old.saved new.saved
+
+-- what stands before a fault that comes after the script
+abbrev pub StopsLate : Bool → RunState → RunState → Fault → Type 0
+StopsLate whole old new (Refused why) = ⊥
+StopsLate whole old new ScriptTooLong = ⊥
+StopsLate whole old new Memory = LacksReport whole old new
+StopsLate whole old new ReadFailed = ⊥
+StopsLate whole old new WriteFailed = NewErrorsFail whole old new ⊎ SoundFails whole old new
+
+-- what stands before a fault: until the script is answered what stands before one of `edit`, where memory may be refused for the
+-- report of the file too, before the first line; and nothing is saved
+abbrev pub StopsChecked : Bool → RunState → RunState → Fault → Type 0
+StopsChecked whole old new fault = (StopsBy old new fault × (new.saved ≡ old.saved)) ⊎ StopsLate whole old new fault
+
+-- how such a run ends
+abbrev pub EndsChecked : Bool → RunState → RunState → Result (ℕ × ℕ × ℕ) Fault → Type 0
+EndsChecked whole old new (Ok (status, undone, errors)) = IsChecked whole old new status undone errors
+EndsChecked whole old new (Err fault) = StopsChecked whole old new fault
+
+-- the same as it is answered: a fault has its status
+abbrev pub EndsCheckedAs : Bool → RunState → RunState → End → ℕ → ℕ → Type 0
+EndsCheckedAs whole old new end undone errors =
+    MatchOption end.fault (IsChecked whole old new end.status undone errors)
+    (λ fault. StopsChecked whole old new fault × (end.status ≡ status_of_fault fault) × (undone ≡ 0) × (errors ≡ 0))
+
+-- what a private function of such a run keeps to: the run was answered as `edit` answers it, and this is the report of its file
+pub record IsReportedRun (file file_after script script_after : SourceState) (out out_after : SinkState) (told told_after : Option SinkState) (now : Standing) (before : List Problem) : Type 0 where
+  pub run : IsAnsweredRun file file_after script script_after out out_after told told_after now
+  pub before_is : before ≡ report_of run.parts

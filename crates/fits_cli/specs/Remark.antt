@@ -1,0 +1,176 @@
+-- What is said of the lines that weren't done, where that is asked for (own).
+use Rattle.std.specs.Prelude.{◌≡◌, ℕ, ◌≤◌, List, [], ◌∷◌, ◌++◌, codes, Option, Some, None, Result, Ok, Err, if◌then◌else◌}
+use Rattle.std.specs.Char.{is_ascii_lowercase}
+use Rattle.std.specs.Io.KnownBytes.{Appends}
+use Rattle.std.specs.List.{list_any}
+use Rattle.std.specs.Option.{option_map}
+use Rattle.fits_stream.specs.Stream.{SinkState, Prints}
+use Rattle.fits_value.specs.Unwritable.{unwritable_of}
+use Rattle.fits_value.specs.declared.unwritable.Unwritable.{Unwritable}
+use Rattle.fits_session.specs.Marked.{Marked}
+use Rattle.fits_session.specs.Refusal.{refusal_text}
+use Rattle.fits_session.specs.declared.card_edit.CardEdit.{CardEdit}
+use Rattle.fits_session.specs.declared.card_edit.CardEdit.TheVariants.{Set, Unset}
+use Rattle.fits_session.specs.declared.edit.Edit.{Edit as FileEdit}
+use Rattle.fits_session.specs.declared.edit.Edit.TheVariants.{Hdu}
+use Rattle.fits_session.specs.declared.hdu_edit.HduEdit.{HduEdit}
+use Rattle.fits_session.specs.declared.hdu_edit.HduEdit.TheVariants.{Cards}
+use Rattle.fits_session.specs.declared.refusal.Refusal.{Refusal}
+use Rattle.fits_session.specs.declared.refusal.Refusal.TheVariants as refusal
+use Rattle.fits_script.specs.Line.{reading_of}
+use Rattle.fits_script.specs.Misfit.{ends_in_return, misfit_of}
+use Rattle.fits_script.specs.Wording.{misfit_text, unwritable_text}
+use Rattle.fits_script.specs.declared.command.Command.{Command}
+use Rattle.fits_script.specs.declared.command.Command.TheVariants.{Edit, Get, Positions}
+use Rattle.fits_script.specs.declared.line_reading.LineReading.{LineReading}
+use Rattle.fits_script.specs.declared.line_reading.LineReading.TheVariants.{TooLong, NoCommand, Said}
+use Rattle.fits_cli.specs.Answer.{Done, Standing, complaint, line_left, outcome_of}
+use Rattle.fits_cli.specs.declared.reason.Reason.{Reason}
+use Rattle.fits_cli.specs.declared.reason.Reason.TheVariants.{CarriageReturn, SmallLetters, Unwritten, Plain}
+use Rattle.fits_cli.specs.declared.remark.Remark.{Remark}
+use Rattle.fits_cli.specs.declared.remark.Remark.TheVariants as remark
+use Rattle.fits_cli.specs.declared.reply.Reply.{Reply}
+use Rattle.fits_cli.specs.declared.reply.Reply.TheVariants as reply
+
+-- the name of a keyword that an edit of cards changes
+abbrev pub name_of_cards : CardEdit → Option (List ℕ)
+name_of_cards (Set name value comment) = Some name
+name_of_cards (Unset name) = Some name
+name_of_cards edit = None
+
+-- the same of an edit of an HDU, and of any edit
+abbrev pub name_of_hdu : HduEdit → Option (List ℕ)
+name_of_hdu (Cards edit) = name_of_cards edit
+name_of_hdu edit = None
+
+abbrev pub name_of_edit : FileEdit → Option (List ℕ)
+name_of_edit (Hdu hdu edit) = name_of_hdu edit
+name_of_edit edit = None
+
+-- the keyword name that a command has
+unfoldable pub name_in : Command → Option (List ℕ)
+name_in (Get hdu name) = Some name
+name_in (Positions hdu name) = Some name
+name_in (Edit edit) = name_of_edit edit
+name_in command = None
+
+-- why what an edit of cards gives a keyword can't be written
+abbrev pub unwritable_of_cards : CardEdit → Option Unwritable
+unwritable_of_cards (Set name value comment) = unwritable_of value comment
+unwritable_of_cards edit = None
+
+-- the same of an edit of an HDU, and of any edit
+abbrev pub unwritable_of_hdu : HduEdit → Option Unwritable
+unwritable_of_hdu (Cards edit) = unwritable_of_cards edit
+unwritable_of_hdu edit = None
+
+abbrev pub unwritable_of_edit : FileEdit → Option Unwritable
+unwritable_of_edit (Hdu hdu edit) = unwritable_of_hdu edit
+unwritable_of_edit edit = None
+
+-- the same of any command
+unfoldable pub unwritable_in : Command → Option Unwritable
+unwritable_in (Edit edit) = unwritable_of_edit edit
+unwritable_in command = None
+
+-- a keyword name with a small letter is none (4.1.2.1)
+abbrev pub name_reason : Option (List ℕ) → Reason
+name_reason None = Plain
+name_reason (Some name) = if list_any is_ascii_lowercase name then SmallLetters else Plain
+
+-- what can't be written
+abbrev pub value_reason : Option Unwritable → Reason
+value_reason None = Plain
+value_reason (Some why) = Unwritten why
+
+-- what a refusal comes from, as far as the command tells
+abbrev pub command_reason : Command → Refusal → Reason
+command_reason command refusal.NoKey = name_reason (name_in command)
+command_reason command refusal.BadName = name_reason (name_in command)
+command_reason command refusal.BadValue = value_reason (unwritable_in command)
+command_reason command why = Plain
+
+-- what it comes from, as far as the line tells
+unfoldable pub reason_of : List ℕ → Command → Refusal → Reason
+reason_of line command why = if ends_in_return line then CarriageReturn else command_reason command why
+
+-- what a refusal says in words
+abbrev pub plain_text : Refusal → List ℕ
+plain_text refusal.NoHdu = codes "no HDU has this number"
+plain_text refusal.NoCard = codes "no card stands at this place"
+plain_text refusal.NoKey = codes "no card says this"
+plain_text refusal.BadText = codes "a byte of the card is no character of text"
+plain_text refusal.EndCard = codes "the card is named END"
+plain_text refusal.Shape = codes "the cards would describe another shape, or none"
+plain_text refusal.BadName = codes "not the name of a keyword with a value"
+plain_text refusal.BadValue = codes "its card can't be read"
+plain_text refusal.NotImage = codes "the HDU is no image of integers"
+plain_text refusal.BadRect = codes "the corners don't lie in the axes, in order"
+plain_text refusal.WrongCount = codes "more or fewer values than pixels"
+plain_text refusal.Range = codes "a pixel of this kind can't have this value"
+plain_text refusal.PrimaryStays = codes "the primary HDU stays where it is"
+plain_text refusal.TooLarge = codes "the file would pass a limit"
+plain_text refusal.Memory = codes "out of memory"
+
+-- what it comes from in words
+abbrev pub reason_text : Refusal → Reason → List ℕ
+reason_text why CarriageReturn = codes "a carriage return at the end"
+reason_text why SmallLetters = codes "keyword names have capital letters"
+reason_text why (Unwritten it) = unwritable_text it
+reason_text why Plain = plain_text why
+
+-- a remark in words
+unfoldable pub remark_text : Remark → List ℕ
+remark_text remark.TooLong = codes "a line has at most 100000 bytes"
+remark_text (remark.NoCommand misfit) = misfit_text misfit
+remark_text (remark.Refused why reason) = refusal_text why ++ (codes ": " ++ reason_text why reason)
+
+-- the remark on a line that was read so, and whose command was refused for this
+abbrev pub refused_remark : List ℕ → LineReading → Refusal → Option Remark
+refused_remark line TooLong why = None
+refused_remark line NoCommand why = None
+refused_remark line (Said command) why = Some (remark.Refused why (reason_of line command why))
+
+-- the remark on a line that was read so, by what it comes to
+unfoldable pub remark_by : List ℕ → LineReading → Reply → Option Remark
+remark_by line reading (reply.Done text) = None
+remark_by line reading (reply.Refused why) = refused_remark line reading why
+remark_by line reading reply.TooLong = Some remark.TooLong
+remark_by line reading reply.NoCommand = option_map remark.NoCommand (misfit_of line)
+
+-- the remark on a command that was refused
+abbrev pub outcome_remark : List ℕ → Command → Result Done Refusal → Option Remark
+outcome_remark line command (Ok done) = None
+outcome_remark line command (Err why) = Some (remark.Refused why (reason_of line command why))
+
+-- the remark on a line, in a file with these marks: there is one unless it was done
+unfoldable pub remark_on : Marked → List ℕ → LineReading → Option Remark
+remark_on it line TooLong = Some remark.TooLong
+remark_on it line NoCommand = option_map remark.NoCommand (misfit_of line)
+remark_on it line (Said command) = outcome_remark line command (outcome_of it command)
+
+-- a remark on line `number`, as it is said
+abbrev pub remark_line : ℕ → Option Remark → List ℕ
+remark_line number None = []
+remark_line number (Some it) = complaint number (remark_text it)
+
+-- what is said of a line
+unfoldable pub line_remark : Standing → List ℕ → List ℕ
+line_remark standing line = remark_line standing.line (remark_on standing.marked line (reading_of line))
+
+-- what is said of lines, one after another
+unfoldable pub remarks : Standing → List (List ℕ) → List ℕ
+remarks standing [] = []
+remarks standing (line ∷ lines) = line_remark standing line ++ remarks (line_left standing (reading_of line)) lines
+
+-- a text was written to a sink, as far as no call failed: one that does loses some of it, and ends nothing
+pub record IsSaid (text : List ℕ) (old new : SinkState) : Type 0 where
+  pub later : old.failures ≤ new.failures
+  pub bytes : new.failures ≡ old.failures → Appends old.contents new.contents text
+
+-- the same where remarks may go nowhere
+abbrev pub Remarks : List ℕ → Option SinkState → Option SinkState → Type 0
+Remarks text None None = Unit {0}
+Remarks text None (Some new) = ⊥
+Remarks text (Some old) None = ⊥
+Remarks text (Some old) (Some new) = IsSaid text old new

@@ -1,0 +1,88 @@
+//! Errors of a report that another hasn't.
+ghost use Rattle.std.specs.Prelude.{◌≡◌, ◌++◌, List, AllPairs, IfOk, OnOk, length};
+ghost use Rattle.fits_session.specs.Report.{IsListedBefore};
+ghost use Rattle.fits_session.specs.declared.problem.Problem.{Problem};
+ghost use Rattle.fits_cli.specs.NewErrors.{is_listed_before, is_new, is_same, new_error_line, new_error_lines, new_errors, stands_in, AreCounts};
+
+use crate::code_counts::{NUMBERS, counts_of, has_more};
+use crate::report_text::push_problem;
+use fits_session::Problem;
+use std::alloc::{AllocError, Global};
+
+/// New errors: their lines, and how many there are.
+#[derive(Drop)]
+pub(crate) struct NewErrors {
+    pub text: Vec<u8>,
+    pub count: u64,
+}
+
+/// The errors of the report after that are new since the one before.
+#[tactic(auto, unfolding(crate::specs::NewErrors::new_errors))]
+pub(crate) fn errors_since(
+    alloc: Global,
+    before: &[Problem],
+    after: &[Problem],
+) -> Result<NewErrors, AllocError>
+    requires { AllPairs IsListedBefore before.now }
+    ensures text { IfOk result (λ found. found.text.items
+        ≡ new_error_lines (new_errors before.now after.now)) }
+    ensures count { IfOk result (λ found. found.count ≡ length (new_errors before.now after.now)) }
+{
+    let had = counts_of(before);
+    let has = counts_of(after);
+    let mut text = Vec::new(alloc);
+    let mut count = 0;
+    for it in after {
+        if is_new(&had, &has, before, *it) {
+            push_new_error(&mut text, *it)?;
+            count += 1;
+        }
+    }
+    Ok(NewErrors { text, count })
+}
+
+// `+CODE HDU PLACE TEXT`
+#[tactic(auto, unfolding(crate::specs::NewErrors::new_error_line))]
+fn push_new_error(text: &mut Vec<u8>, it: Problem) -> Result<(), AllocError>
+    ensures { OnOk result (text.new.items ≡ text.old.items ++ new_error_line it) }
+{
+    text.extend_from_slice(b"+")?;
+    push_problem(text, it)
+}
+
+// Whether a problem is a new error, by how many of each code there were and are.
+fn is_new(had: &[usize; NUMBERS], has: &[usize; NUMBERS], before: &[Problem], it: Problem) -> bool
+    requires ordered { AllPairs IsListedBefore before.now }
+    requires counted { AreCounts before.now had.now }
+    ensures { (after : List Problem) → AreCounts after has.now → result ≡ is_new before.now after it }
+{
+    has_more(had, has, it.code) && !stands_in(before, it)
+}
+
+// Whether a problem stands in a report. About as many of its problems are looked at as it has
+// binary digits in its length.
+fn stands_in(report: &[Problem], it: Problem) -> bool
+    requires { AllPairs IsListedBefore report.now }
+    ensures { result ≡ stands_in report.now it }
+{
+    let index = report.partition_point(|other| is_listed_before(*other, it));
+    match report.get(index) {
+        Some(other) => is_same(it, *other),
+        None => false,
+    }
+}
+
+fn is_listed_before(it: Problem, other: Problem) -> bool
+    ensures { result ≡ is_listed_before it other }
+{
+    it.hdu < other.hdu
+        || (it.hdu == other.hdu
+            && (it.place < other.place
+                || (it.place == other.place && it.code.number() < other.code.number())))
+}
+
+fn is_same(it: Problem, other: Problem) -> bool
+    ensures { result ≡ is_same it other }
+{
+    it.code.number() == other.code.number() && it.hdu == other.hdu && it.place == other.place
+}

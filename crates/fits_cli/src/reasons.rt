@@ -1,0 +1,158 @@
+//! What the refusal of a command comes from.
+ghost use Rattle.std.specs.Prelude.{◌≡◌, Some};
+ghost use Rattle.std.specs.Char.{is_ascii_lowercase};
+ghost use Rattle.std.specs.List.{list_any};
+ghost use Rattle.fits_script.specs.Misfit.{ends_in_return};
+ghost use Rattle.fits_cli.specs.Remark.{command_reason, name_in, name_of_cards, name_of_edit, name_of_hdu, name_reason, reason_of};
+ghost use Rattle.fits_cli.specs.Remark.{unwritable_in, unwritable_of_cards, unwritable_of_edit, unwritable_of_hdu, value_reason};
+
+use crate::reason::Reason;
+use fits_card::Name;
+use fits_script::Command;
+use fits_session::{CardEdit, Edit, HduEdit, Refusal};
+use fits_value::{Unwritable, unwritable_of};
+
+/// What the refusal of a command comes from, as far as its line tells.
+#[tactic(auto, unfolding(crate::specs::Remark::reason_of))]
+pub(crate) fn reason_of(line: &[u8], command: &Command, why: Refusal) -> Reason
+    ensures { result ≡ reason_of line.now command.now why }
+{
+    if ends_in_return(line) {
+        Reason::CarriageReturn
+    } else {
+        command_reason(command, why)
+    }
+}
+
+// Whether a line ends in a carriage return.
+fn ends_in_return(line: &[u8]) -> bool
+    ensures { result ≡ ends_in_return line.now }
+{
+    matches!(line, [.., b'\r'])
+}
+
+// The same, as far as the command tells.
+fn command_reason(command: &Command, why: Refusal) -> Reason
+    ensures { result ≡ command_reason command.now why }
+{
+    match why {
+        Refusal::NoKey | Refusal::BadName => name_reason(name_in(command)),
+        Refusal::BadValue => value_reason(unwritable_in(command)),
+        _ => Reason::Plain,
+    }
+}
+
+// A keyword name with a small letter is none.
+fn name_reason(name: Option<Name>) -> Reason
+    ensures { result ≡ name_reason name }
+{
+    match name {
+        Some(name) => letters_reason(&name),
+        None => Reason::Plain,
+    }
+}
+
+fn letters_reason(name: &Name) -> Reason
+    ensures { result ≡ name_reason (Some name.now) }
+{
+    if has_small_letter(name) {
+        Reason::SmallLetters
+    } else {
+        Reason::Plain
+    }
+}
+
+fn has_small_letter(name: &Name) -> bool
+    ensures { result ≡ list_any is_ascii_lowercase name.now }
+{
+    name.0.iter().any(|byte| byte.is_ascii_lowercase())
+}
+
+// What can't be written.
+fn value_reason(why: Option<Unwritable>) -> Reason
+    ensures { result ≡ value_reason why }
+{
+    match why {
+        Some(why) => Reason::Unwritten(why),
+        None => Reason::Plain,
+    }
+}
+
+// The keyword name that a command has.
+#[tactic(auto, unfolding(crate::specs::Remark::name_in))]
+fn name_in(command: &Command) -> Option<Name>
+    ensures { result ≡ name_in command.now }
+{
+    match command {
+        Command::Get { name, .. } => Some(*name),
+        Command::Positions { name, .. } => Some(*name),
+        Command::Edit(edit) => name_of_edit(edit),
+        _ => None,
+    }
+}
+
+fn name_of_edit(edit: &Edit) -> Option<Name>
+    ensures { result ≡ name_of_edit edit.now }
+{
+    match edit {
+        Edit::Hdu { edit, .. } => name_of_hdu(edit),
+        _ => None,
+    }
+}
+
+fn name_of_hdu(edit: &HduEdit) -> Option<Name>
+    ensures { result ≡ name_of_hdu edit.now }
+{
+    match edit {
+        HduEdit::Cards(edit) => name_of_cards(edit),
+        _ => None,
+    }
+}
+
+fn name_of_cards(edit: &CardEdit) -> Option<Name>
+    ensures { result ≡ name_of_cards edit.now }
+{
+    match edit {
+        CardEdit::Set { name, .. } => Some(*name),
+        CardEdit::Unset { name } => Some(*name),
+        _ => None,
+    }
+}
+
+// Why what a command gives a keyword can't be written.
+#[tactic(auto, unfolding(crate::specs::Remark::unwritable_in))]
+fn unwritable_in(command: &Command) -> Option<Unwritable>
+    ensures { result ≡ unwritable_in command.now }
+{
+    match command {
+        Command::Edit(edit) => unwritable_of_edit(edit),
+        _ => None,
+    }
+}
+
+fn unwritable_of_edit(edit: &Edit) -> Option<Unwritable>
+    ensures { result ≡ unwritable_of_edit edit.now }
+{
+    match edit {
+        Edit::Hdu { edit, .. } => unwritable_of_hdu(edit),
+        _ => None,
+    }
+}
+
+fn unwritable_of_hdu(edit: &HduEdit) -> Option<Unwritable>
+    ensures { result ≡ unwritable_of_hdu edit.now }
+{
+    match edit {
+        HduEdit::Cards(edit) => unwritable_of_cards(edit),
+        _ => None,
+    }
+}
+
+fn unwritable_of_cards(edit: &CardEdit) -> Option<Unwritable>
+    ensures { result ≡ unwritable_of_cards edit.now }
+{
+    match edit {
+        CardEdit::Set { value, comment, .. } => unwritable_of(value, comment),
+        _ => None,
+    }
+}

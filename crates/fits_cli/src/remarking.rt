@@ -1,0 +1,170 @@
+//! Remarks on the lines of a script that weren't done: which, and how they are said.
+ghost use Rattle.std.specs.Prelude.{◌≡◌, ◌++◌, true, codes, IfOk, OnErr, OnOk};
+ghost use Rattle.std.specs.Option.{option_map};
+ghost use Rattle.fits_stream.specs.Stream.{Prints, PrintsFront};
+ghost use Rattle.fits_session.specs.Refusal.{refusal_text};
+ghost use Rattle.fits_script.specs.Line.{reading_of, ReadingNeedsMemory};
+ghost use Rattle.fits_cli.specs.Answer.{complaint};
+ghost use Rattle.fits_cli.specs.Remark.{plain_text, reason_text, remark_by, remark_line, remark_text, IsSaid, Remarks};
+
+use crate::reason::Reason;
+use crate::reasons::reason_of;
+use crate::remark::Remark;
+use crate::reply::Reply;
+use fits_script::{LineReading, misfit_of, read_line, write_misfit, write_unwritable};
+use fits_session::Refusal;
+use fits_stream::{Sink, Watched, write_all};
+use itoa::Buffer;
+use std::alloc::{AllocError, Global};
+use std::io;
+
+/// No sink of remarks: none are wanted.
+pub(crate) type Silence = Option<Watched<io::Sink>>;
+
+/// What is said of a line that came to this, where that is wanted. Of a line that was refused the
+/// command is read again.
+pub(crate) fn remark_on<'a>(
+    alloc: Global,
+    wanted: bool,
+    line: &'a [u8],
+    reply: &Reply,
+) -> Result<Option<Remark<'a>>, AllocError>
+    ensures ok { IfOk result (λ remark. wanted ≡ true
+        → remark ≡ remark_by line.now (reading_of line.now) reply.now) }
+    ensures err { OnErr result (ReadingNeedsMemory (reading_of line.now)) }
+{
+    if !wanted {
+        return Ok(None);
+    }
+    remark_by(alloc, line, reply)
+}
+
+// What is said of a line that came to this.
+#[tactic(auto, unfolding(crate::specs::Remark::remark_by))]
+fn remark_by<'a>(
+    alloc: Global,
+    line: &'a [u8],
+    reply: &Reply,
+) -> Result<Option<Remark<'a>>, AllocError>
+    ensures ok { IfOk result (λ remark. remark
+        ≡ remark_by line.now (reading_of line.now) reply.now) }
+    ensures err { OnErr result (ReadingNeedsMemory (reading_of line.now)) }
+{
+    match reply {
+        Reply::Done(_) => Ok(None),
+        Reply::Refused(why) => match read_line(alloc, line)? {
+            LineReading::Said(command) => {
+                let reason = reason_of(line, &command, *why);
+                Ok(Some(Remark::Refused(*why, reason)))
+            }
+            LineReading::TooLong | LineReading::NoCommand => Ok(None),
+        },
+        Reply::TooLong => Ok(Some(Remark::TooLong)),
+        Reply::NoCommand => Ok(misfit_of(line).map(Remark::NoCommand)),
+    }
+}
+
+/// Says a remark on line `number`, and passes it on. Where that fails the remark is lost, and
+/// nothing else: there is nobody left to tell.
+pub(crate) fn say<E: Sink>(told: &mut Option<E>, number: u64, remark: &Option<Remark<'_>>)
+    ensures { Remarks (remark_line number remark.now)
+        (option_map E.state told.old) (option_map E.state told.new) }
+{
+    match (told, remark) {
+        (Some(sink), Some(remark)) => say_to(sink, number, remark),
+        _ => {}
+    }
+}
+
+// Says a remark, and passes it on.
+fn say_to<E: Sink>(sink: &mut E, number: u64, remark: &Remark<'_>)
+    ensures { IsSaid (complaint number (remark_text remark.now))
+        (E.state sink.old) (E.state sink.new) }
+{
+    let _ = write_line(sink, number, remark);
+    let _ = sink.flush();
+}
+
+// `line N: WHY`
+#[tactic(auto, using(fits_stream::proofs::StreamLemmas::printing_steps))]
+fn write_line<E: Sink>(sink: &mut E, number: u64, remark: &Remark<'_>) -> io::Result<()>
+    ensures ok { OnOk result (Prints (complaint number (remark_text remark.now))
+        (E.state sink.old) (E.state sink.new)) }
+    ensures err { OnErr result (PrintsFront (complaint number (remark_text remark.now))
+        (E.state sink.old) (E.state sink.new)) }
+{
+    let mut digits = Buffer::new();
+    write_all(sink, b"line ")?;
+    write_all(sink, digits.format(number).as_bytes())?;
+    write_all(sink, b": ")?;
+    write_remark(sink, remark)?;
+    write_all(sink, b"\n")
+}
+
+// Writes a remark in words.
+#[tactic(auto, unfolding(crate::specs::Remark::remark_text))]
+fn write_remark<E: Sink>(sink: &mut E, remark: &Remark<'_>) -> io::Result<()>
+    ensures ok { OnOk result (Prints (remark_text remark.now)
+        (E.state sink.old) (E.state sink.new)) }
+    ensures err { OnErr result (PrintsFront (remark_text remark.now)
+        (E.state sink.old) (E.state sink.new)) }
+{
+    match remark {
+        Remark::TooLong => write_all(sink, b"a line has at most 100000 bytes"),
+        Remark::NoCommand(misfit) => write_misfit(sink, misfit),
+        Remark::Refused(why, reason) => write_refused(sink, *why, *reason),
+    }
+}
+
+// Writes a refusal, and what it comes from.
+#[tactic(auto, using(fits_stream::proofs::StreamLemmas::printing_steps))]
+fn write_refused<E: Sink>(sink: &mut E, why: Refusal, reason: Reason) -> io::Result<()>
+    ensures ok { OnOk result (Prints
+        (refusal_text why ++ (codes ": " ++ reason_text why reason))
+        (E.state sink.old) (E.state sink.new)) }
+    ensures err { OnErr result (PrintsFront
+        (refusal_text why ++ (codes ": " ++ reason_text why reason))
+        (E.state sink.old) (E.state sink.new)) }
+{
+    write_all(sink, why.text().as_bytes())?;
+    write_all(sink, b": ")?;
+    write_reason(sink, why, reason)
+}
+
+// Writes what a refusal comes from.
+fn write_reason<E: Sink>(sink: &mut E, why: Refusal, reason: Reason) -> io::Result<()>
+    ensures ok { OnOk result (Prints (reason_text why reason)
+        (E.state sink.old) (E.state sink.new)) }
+    ensures err { OnErr result (PrintsFront (reason_text why reason)
+        (E.state sink.old) (E.state sink.new)) }
+{
+    match reason {
+        Reason::CarriageReturn => write_all(sink, b"a carriage return at the end"),
+        Reason::SmallLetters => write_all(sink, b"keyword names have capital letters"),
+        Reason::Unwritten(why) => write_unwritable(sink, &why),
+        Reason::Plain => write_all(sink, plain_text(why).as_bytes()),
+    }
+}
+
+// What a refusal says in words.
+fn plain_text(why: Refusal) -> &'static str
+    ensures { result.now ≡ plain_text why }
+{
+    match why {
+        Refusal::NoHdu => "no HDU has this number",
+        Refusal::NoCard => "no card stands at this place",
+        Refusal::NoKey => "no card says this",
+        Refusal::BadText => "a byte of the card is no character of text",
+        Refusal::EndCard => "the card is named END",
+        Refusal::Shape => "the cards would describe another shape, or none",
+        Refusal::BadName => "not the name of a keyword with a value",
+        Refusal::BadValue => "its card can't be read",
+        Refusal::NotImage => "the HDU is no image of integers",
+        Refusal::BadRect => "the corners don't lie in the axes, in order",
+        Refusal::WrongCount => "more or fewer values than pixels",
+        Refusal::Range => "a pixel of this kind can't have this value",
+        Refusal::PrimaryStays => "the primary HDU stays where it is",
+        Refusal::TooLarge => "the file would pass a limit",
+        Refusal::Memory => "out of memory",
+    }
+}
