@@ -42,9 +42,11 @@ fn edit<'a>(alloc: Global) -> Result<Command<'a>, AllocError> {
         .num_args(0..)
         .requires_arg("in-place")?;
     let whole = "Save nothing unless every line is done";
+    let checked = "Save nothing if the result has more of some error than IN; print the new errors";
     let in_place = "Edit IN, and each further file, where it stands; there is no OUT";
     scripted(alloc, "edit", EDIT)?
         .arg(flag(alloc, "all", 'a', whole))?
+        .arg(flag(alloc, "check", 'c', checked))?
         .arg(flag(alloc, "in-place", 'i', in_place))?
         .arg(path(alloc, "IN", "The file to read").required(true))?
         .arg(out)?
@@ -60,11 +62,13 @@ fn ask<'a>(alloc: Global) -> Result<Command<'a>, AllocError> {
 fn scripted<'a>(alloc: Global, name: &'a str, about: &'a str) -> Result<Command<'a>, AllocError> {
     let line = "A line of the script, in place of standard input; may be repeated";
     let file = "A file with lines of the script, - for standard input; may be repeated";
+    let remarks = "Say on standard error why a line isn't done";
     Command::new(alloc, name)
         .about(about)
         .after_help(LINES)
         .arg(list(alloc, "line", 'e', "LINE", line))?
-        .arg(list(alloc, "file", 'f', "FILE", file))
+        .arg(list(alloc, "file", 'f', "FILE", file))?
+        .arg(flag(alloc, "verbose", 'v', remarks))
 }
 
 fn cards<'a>(alloc: Global) -> Result<Command<'a>, AllocError> {
@@ -82,9 +86,11 @@ fn sum<'a>(alloc: Global) -> Result<Command<'a>, AllocError> {
 
 fn verify<'a>(alloc: Global) -> Result<Command<'a>, AllocError> {
     let names = "Print the names alone of files with errors, and of those that don't open";
+    let cards = "Print the card of its place after each problem";
     reading(alloc, "verify", VERIFY, FOUND)?
         .arg(flag(alloc, "errors", 'e', "List errors alone"))?
         .arg(flag(alloc, "quiet", 'q', "List nothing: print the counts alone"))?
+        .arg(flag(alloc, "print-cards", 'p', cards))?
         .arg(flag(alloc, "warnings", 'w', "Warnings count for the status too"))?
         .arg(flag(alloc, "files-with-errors", 'l', names))
 }

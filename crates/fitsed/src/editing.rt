@@ -1,44 +1,56 @@
 //! Files that are edited.
 use crate::files::{mode_of, source_of};
 use crate::piece::{Piece, script_of};
-use crate::reporting::{report_undone, reported, reported_of};
+use crate::remarks::{before_remarks, remarks_after};
+use crate::reporting::{report_new_errors, report_undone, reported, reported_of};
 use crate::task::Terms;
-use fits_cli::{End, Fault, SavedFile, WholeEnd, run_edit, run_edit_whole};
+use fits_cli::{
+    CheckedEnd, End, Fault, SavedFile, WholeEnd, run_edit_checked, run_edit_told, run_edit_whole,
+};
 use fits_stream::{NamedLines, Sink, Source, Watched};
+use std::alloc::Global;
 use std::fs::File;
-use std::io::{BufWriter, Write};
+use std::io::{BufWriter, Stderr, Write};
 use std::rt::Files;
 use std::{fs, io};
 
+/// Where a file is read from and saved to, and whether it is told apart from others.
+#[derive(Clone, Copy)]
+struct Paths<'p> {
+    from: &'p str,
+    to: &'p str,
+    named: bool,
+}
+
 /// Edits the file at `from`; the result goes to `to`. With no pieces the script is standard input,
-/// answered as it comes.
+/// answered as it comes. Remarks on lines that aren't done go to `told`.
 pub fn edit<R: Files<File = File> + Input + Print + Eprint + AllocGlobal>(
     rt: &R,
     script: &[Piece<'_>],
     from: &str,
     to: &str,
     terms: Terms,
+    told: Option<Stderr>,
 ) -> u8 {
     let Ok(mut out) = BufWriter::new(rt.alloc(), io::writer(rt)) else {
         return reported(rt, Fault::Memory);
     };
     let mut out = Watched::new(&mut out);
+    let paths = Paths {
+        from,
+        to,
+        named: false,
+    };
     let done = if script.is_empty() {
-        edited(
-            rt,
-            from,
-            to,
-            terms,
-            &mut Watched::new(rt.reader()),
-            &mut out,
-        )
+        let mut lines = Watched::new(rt.reader());
+        edited(rt, paths, terms, told, &mut lines, &mut out)
     } else {
         match script_of(rt, script) {
-            Ok(text) => edited(rt, from, to, terms, &mut text.as_slice(), &mut out),
+            Ok(text) => edited(rt, paths, terms, told, &mut text.as_slice(), &mut out),
             Err(fault) => return reported(rt, fault),
         }
     };
-    told(rt, to, false, done)
+    status_of(rt, to, false, done)
 }
 
 /// Edits each file where it stands, by the same script. The status is the greatest.
@@ -47,6 +59,7 @@ pub fn edit_in_place<R: Files<File = File> + Input + Print + Eprint + AllocGloba
     script: &[Piece<'_>],
     paths: &[&str],
     terms: Terms,
+    told: Option<Stderr>,
 ) -> u8 {
     let text = match script_of(rt, script) {
         Ok(text) => text,
@@ -58,9 +71,14 @@ pub fn edit_in_place<R: Files<File = File> + Input + Print + Eprint + AllocGloba
     let named = paths.len() > 1;
     let mut status = 0;
     for path in paths {
-        let done = edited_in_place(rt, path, named, terms, text.as_slice(), &mut out);
+        let at = Paths {
+            from: path,
+            to: path,
+            named,
+        };
+        let done = edited_in_place(rt, at, terms, told, text.as_slice(), &mut out);
         let fault = done.end.fault;
-        status = status.max(told(rt, path, named, done));
+        status = status.max(status_of(rt, path, named, done));
         if let Some(Fault::Memory | Fault::WriteFailed) = fault {
             return status;
         }
@@ -71,38 +89,44 @@ pub fn edit_in_place<R: Files<File = File> + Input + Print + Eprint + AllocGloba
 // Edits one file where it stands.
 fn edited_in_place<R: Files<File = File> + AllocGlobal, W: Write>(
     rt: &R,
-    path: &str,
-    named: bool,
+    paths: Paths<'_>,
     terms: Terms,
+    told: Option<Stderr>,
     script: &[u8],
     out: &mut W,
-) -> WholeEnd {
+) -> CheckedEnd {
     let mut script = script;
     let out = Watched::new(out);
-    if !named {
+    if !paths.named {
         let mut out = out;
-        return edited(rt, path, path, terms, &mut script, &mut out);
+        return edited(rt, paths, terms, told, &mut script, &mut out);
     }
-    let Ok(name) = format!(in rt.alloc(); "{path}:") else {
+    let Ok(name) = format!(in rt.alloc(); "{}:", paths.from) else {
         return ended(End::from(Fault::Memory));
     };
     let mut out = NamedLines::new(out, name.as_bytes());
-    edited(rt, path, path, terms, &mut script, &mut out)
+    edited(rt, paths, terms, told, &mut script, &mut out)
 }
 
-// Edits the file at `from`, and keeps the result at `to`.
+// Edits a file, and keeps the result where it is to be.
 fn edited<R: Files<File = File> + AllocGlobal, S: Source, O: Sink>(
     rt: &R,
-    from: &str,
-    to: &str,
+    paths: Paths<'_>,
     terms: Terms,
+    told: Option<Stderr>,
     script: &mut S,
     out: &mut O,
-) -> WholeEnd {
-    let Ok(file) = fs::open(rt, from) else {
+) -> CheckedEnd {
+    let Ok(file) = fs::open(rt, paths.from) else {
         return ended(End::from(Fault::ReadFailed));
     };
-    let Ok(saved) = SavedFile::new(rt, to, mode_of(&file)) else {
+    let Ok(before) = before_remarks(rt.alloc(), paths.to, paths.named) else {
+        return ended(End::from(Fault::Memory));
+    };
+    let Ok(mut told) = remarks_after(rt.alloc(), told, &before) else {
+        return ended(End::from(Fault::Memory));
+    };
+    let Ok(saved) = SavedFile::new(rt, paths.to, mode_of(&file)) else {
         return ended(End::from(Fault::Memory));
     };
     let Ok(saved) = BufWriter::new(rt.alloc(), saved) else {
@@ -110,22 +134,53 @@ fn edited<R: Files<File = File> + AllocGlobal, S: Source, O: Sink>(
     };
     let mut saved = Watched::new(saved);
     let mut source = source_of(file);
-    let done = if terms.whole {
-        run_edit_whole(rt.alloc(), &mut source, script, &mut saved, out)
-    } else {
-        ended(run_edit(rt.alloc(), &mut source, script, &mut saved, out))
-    };
+    let done = run_on(
+        rt.alloc(),
+        terms,
+        &mut source,
+        script,
+        &mut saved,
+        out,
+        &mut told,
+    );
     kept(saved.into_inner(), done)
 }
 
-// The end of a run of which every line counts as done.
-fn ended(end: End) -> WholeEnd {
-    WholeEnd { end, undone: 0 }
+// The run that has these terms.
+fn run_on<F: Source, S: Source, P: Sink, O: Sink, E: Sink>(
+    alloc: Global,
+    terms: Terms,
+    file: &mut F,
+    script: &mut S,
+    saved: &mut P,
+    out: &mut O,
+    told: &mut Option<E>,
+) -> CheckedEnd {
+    if terms.checked {
+        return run_edit_checked(alloc, terms.whole, file, script, saved, out, told);
+    }
+    if terms.whole {
+        let WholeEnd { end, undone } = run_edit_whole(alloc, file, script, saved, out, told);
+        return CheckedEnd {
+            undone,
+            ..ended(end)
+        };
+    }
+    ended(run_edit_told(alloc, file, script, saved, out, told))
+}
+
+// The end of a run of which neither lines nor errors keep the file from being saved.
+fn ended(end: End) -> CheckedEnd {
+    CheckedEnd {
+        end,
+        undone: 0,
+        new_errors: 0,
+    }
 }
 
 // Keeps what was saved, where all was; else the file that was there before stays.
-fn kept<R: Files>(saved: BufWriter<SavedFile<'_, R>>, done: WholeEnd) -> WholeEnd {
-    if done.end.fault.is_some() || done.undone > 0 {
+fn kept<R: Files>(saved: BufWriter<SavedFile<'_, R>>, done: CheckedEnd) -> CheckedEnd {
+    if done.end.fault.is_some() || done.undone > 0 || done.new_errors > 0 {
         return done;
     }
     let Ok(saved) = saved.into_inner() else {
@@ -138,9 +193,12 @@ fn kept<R: Files>(saved: BufWriter<SavedFile<'_, R>>, done: WholeEnd) -> WholeEn
 }
 
 // Tells standard error what kept a file from being saved, and gives the status.
-fn told<R: Eprint>(rt: &R, name: &str, named: bool, done: WholeEnd) -> u8 {
+fn status_of<R: Eprint>(rt: &R, name: &str, named: bool, done: CheckedEnd) -> u8 {
     if done.undone > 0 {
         report_undone(rt, name, done.undone);
+    }
+    if done.new_errors > 0 {
+        report_new_errors(rt, name, done.new_errors);
     }
     match done.end.fault {
         Some(fault) => reported_of(rt, name, named, fault),

@@ -55,7 +55,8 @@ Exit status:
   3  the file can't be read, the sums can't be written, or memory ran out";
 
 pub(crate) const FOUND: &str = "Each line: CODE HDU PLACE TEXT, and at the end the counts
-  An E is an error, a W a warning; place 0 is the HDU as a whole.
+  An E is an error, a W a warning; place 0 is the HDU as a whole. With -p the lines are
+  CODE HDU PLACE TEXT: CARD, as cards prints it; place 0 has none.
 
 Exit status:
   0  no error, perhaps warnings; with -w none either
@@ -114,7 +115,8 @@ pub(crate) const LINES: &str = "Lines of the script, words separated by one spac
 Exit status:
   0  done
   1  a line of the script was refused or bad; the others were done, and OUT was saved unless
-     -a was given
+     -a was given; or with -c an error is new: each is printed after a plus sign, and OUT
+     was not saved
   2  a wrong command line, a file that doesn't open, or a script that is too long
   3  a file or stream can't be read or written, or memory ran out
 

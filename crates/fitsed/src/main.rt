@@ -7,6 +7,7 @@ mod files;
 mod help;
 mod piece;
 mod reading;
+mod remarks;
 mod reporting;
 mod task;
 
@@ -19,6 +20,7 @@ use reading::{Job, ask, each, name};
 use reporting::reported;
 use std::alloc::AllocError;
 use std::fs::File;
+use std::io::Stderr;
 use std::process::ExitCode;
 use std::rt::Files;
 use std::{env, fs, io};
@@ -43,14 +45,15 @@ fn main(rt: HostRuntime) -> ExitCode {
         Err(error) => return ExitCode::from(usage(&rt, error)),
     };
     ExitCode::from(match task_of(rt.alloc(), &matches) {
-        Ok(task) => status_of(&rt, task),
+        Ok(task) => status_of(&rt, rt.stderr(), task),
         Err(why) => unsettled(&rt, why),
     })
 }
 
-// Does a task, and gives its status.
+// Does a task, and gives its status. Remarks that are wanted go to standard error.
 fn status_of<R: Files<File = File> + Input + Print + Eprint + AllocGlobal>(
     rt: &R,
+    errors: Stderr,
     task: Task<'_, '_>,
 ) -> u8 {
     match task {
@@ -59,13 +62,19 @@ fn status_of<R: Files<File = File> + Input + Print + Eprint + AllocGlobal>(
             from,
             to,
             terms,
-        } => edit(rt, &script, from, to, terms),
+            verbose,
+        } => edit(rt, &script, from, to, terms, verbose.then_some(errors)),
         Task::EditInPlace {
             script,
             paths,
             terms,
-        } => edit_in_place(rt, &script, &paths, terms),
-        Task::Ask { script, files } => ask(rt, &script, files),
+            verbose,
+        } => edit_in_place(rt, &script, &paths, terms, verbose.then_some(errors)),
+        Task::Ask {
+            script,
+            files,
+            verbose,
+        } => ask(rt, &script, files, verbose.then_some(errors)),
         Task::Show { choice, files } => each(rt, Job::Show(&choice), files),
         Task::Tell { telling, files } => each(rt, Job::Tell(telling), files),
         Task::Name { telling, files } => name(rt, telling, files),

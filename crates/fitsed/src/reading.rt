@@ -1,6 +1,7 @@
 //! What is done with each file that is read.
 use crate::files::source_of;
 use crate::piece::{Piece, script_of};
+use crate::remarks::{before_remarks, remarks_after};
 use crate::reporting::{report_changed, reported, reported_of};
 use crate::task::Files;
 use fits_cli::{
@@ -9,14 +10,14 @@ use fits_cli::{
 use fits_stream::{NamedLines, Sink, Source, Watched};
 use std::alloc::{AllocError, Global};
 use std::fs::File;
-use std::io::{BufWriter, Write};
+use std::io::{BufWriter, Stderr, Write};
 use std::{fs, io, rt};
 
 /// What is done with a file.
 #[derive(Clone, Copy)]
 pub enum Job<'j> {
-    /// A script is answered.
-    Ask(&'j [u8]),
+    /// A script is answered, and remarks on its lines are made, where they are wanted.
+    Ask(&'j [u8], Option<Stderr>),
     /// Its cards are shown.
     Show(&'j CardChoice),
     /// A text of it is printed.
@@ -29,12 +30,13 @@ pub fn ask<R: rt::Files<File = File> + Input + Print + Eprint + AllocGlobal>(
     rt: &R,
     script: &[Piece<'_>],
     files: Files<'_, '_>,
+    told: Option<Stderr>,
 ) -> u8 {
     if let (true, [path]) = (script.is_empty(), files.paths) {
-        return ask_as_it_comes(rt, path, files.named);
+        return ask_as_it_comes(rt, path, files.named, told);
     }
     match script_of(rt, script) {
-        Ok(text) => each(rt, Job::Ask(&text), files),
+        Ok(text) => each(rt, Job::Ask(&text, told), files),
         Err(fault) => reported(rt, fault),
     }
 }
@@ -102,13 +104,14 @@ fn one<R: rt::Files<File = File> + AllocGlobal, W: Write>(
     };
     let mut source = source_of(file);
     if !named {
-        return run(rt.alloc(), job, &mut source, &mut Watched::new(out));
+        let mut out = Watched::new(out);
+        return run(rt.alloc(), job, path, named, &mut source, &mut out);
     }
     let Ok(name) = before_lines(rt.alloc(), path) else {
         return ended(rt.alloc(), End::from(Fault::Memory));
     };
     let mut out = NamedLines::new(Watched::new(out), name.as_bytes());
-    run(rt.alloc(), job, &mut source, &mut out)
+    run(rt.alloc(), job, path, named, &mut source, &mut out)
 }
 
 // Answers standard input over one file, as it comes.
@@ -116,6 +119,7 @@ fn ask_as_it_comes<R: rt::Files<File = File> + Input + Print + Eprint + AllocGlo
     rt: &R,
     path: &str,
     named: bool,
+    told: Option<Stderr>,
 ) -> u8 {
     let Ok(mut out) = BufWriter::new(rt.alloc(), io::writer(rt)) else {
         return reported(rt, Fault::Memory);
@@ -131,9 +135,25 @@ fn ask_as_it_comes<R: rt::Files<File = File> + Input + Print + Eprint + AllocGlo
     let mut out = Watched::new(&mut out);
     let end = if named {
         let mut out = NamedLines::new(out, name.as_bytes());
-        run_ask(rt.alloc(), &mut source, &mut script, &mut out)
+        asked(
+            rt.alloc(),
+            path,
+            named,
+            told,
+            &mut source,
+            &mut script,
+            &mut out,
+        )
     } else {
-        run_ask(rt.alloc(), &mut source, &mut script, &mut out)
+        asked(
+            rt.alloc(),
+            path,
+            named,
+            told,
+            &mut source,
+            &mut script,
+            &mut out,
+        )
     };
     match end.fault {
         Some(fault) => reported_of(rt, path, named, fault),
@@ -142,15 +162,42 @@ fn ask_as_it_comes<R: rt::Files<File = File> + Input + Print + Eprint + AllocGlo
 }
 
 // Does a job.
-fn run<F: Source, O: Sink>(alloc: Global, job: Job<'_>, file: &mut F, out: &mut O) -> CardsEnd {
+fn run<F: Source, O: Sink>(
+    alloc: Global,
+    job: Job<'_>,
+    path: &str,
+    named: bool,
+    file: &mut F,
+    out: &mut O,
+) -> CardsEnd {
     match job {
-        Job::Ask(text) => {
+        Job::Ask(text, told) => {
             let mut script = text;
-            ended(alloc, run_ask(alloc, file, &mut script, out))
+            let end = asked(alloc, path, named, told, file, &mut script, out);
+            ended(alloc, end)
         }
         Job::Show(choice) => run_cards(alloc, choice, file, out),
         Job::Tell(telling) => ended(alloc, run_telling(alloc, telling, file, out)),
     }
+}
+
+// Answers a script over the file at a path.
+fn asked<F: Source, S: Source, O: Sink>(
+    alloc: Global,
+    path: &str,
+    named: bool,
+    told: Option<Stderr>,
+    file: &mut F,
+    script: &mut S,
+    out: &mut O,
+) -> End {
+    let Ok(before) = before_remarks(alloc, path, named) else {
+        return End::from(Fault::Memory);
+    };
+    let Ok(mut told) = remarks_after(alloc, told, &before) else {
+        return End::from(Fault::Memory);
+    };
+    run_ask(alloc, file, script, out, &mut told)
 }
 
 // The end of a run that shows no cards.

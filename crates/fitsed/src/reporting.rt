@@ -34,3 +34,9 @@ pub fn report_undone<R: Eprint>(rt: &R, name: &str, undone: u64) {
     };
     let _ = eprintln!(rt; "fitsed: {name}: not saved: {undone} {lines} not done");
 }
+
+/// Reports that a file isn't saved, since errors are new.
+pub fn report_new_errors<R: Eprint>(rt: &R, name: &str, new_errors: u64) {
+    let errors = if new_errors == 1 { "error" } else { "errors" };
+    let _ = eprintln!(rt; "fitsed: {name}: not saved: {new_errors} new {errors}");
+}

@@ -4,7 +4,7 @@ use clap::ArgMatches;
 use fits_cli::{CardChoice, Level, NamePattern, Telling};
 use std::alloc::{AllocError, Global};
 
-/// What the command line asks for.
+/// What the command line asks for. A verbose task makes remarks on lines that aren't done.
 #[derive(Drop)]
 pub enum Task<'m, 'a> {
     /// A script edits the file at `from`; the result goes to `to`.
@@ -13,17 +13,20 @@ pub enum Task<'m, 'a> {
         from: &'a str,
         to: &'a str,
         terms: Terms,
+        verbose: bool,
     },
     /// A script edits each file where it stands.
     EditInPlace {
         script: Vec<Piece<'a>>,
         paths: Vec<&'a str>,
         terms: Terms,
+        verbose: bool,
     },
     /// A script is done on each file, and nothing is saved.
     Ask {
         script: Vec<Piece<'a>>,
         files: Files<'m, 'a>,
+        verbose: bool,
     },
     /// Cards of each file are printed.
     Show {
@@ -47,6 +50,8 @@ pub enum Task<'m, 'a> {
 pub struct Terms {
     /// Only where every line was done.
     pub whole: bool,
+    /// Only where no error is new.
+    pub checked: bool,
 }
 
 /// The files that a command reads, and whether each line of its output is told the file's name.
@@ -91,6 +96,7 @@ pub fn task_of<'m, 'a>(
         "ask" => Task::Ask {
             script: pieces_of(alloc, words)?,
             files,
+            verbose: words.get_flag("verbose"),
         },
         "cards" => Task::Show {
             choice: choice_of(alloc, words)?,
@@ -115,7 +121,9 @@ fn edit_of<'m, 'a>(
     let script = pieces_of(alloc, words)?;
     let terms = Terms {
         whole: words.get_flag("all"),
+        checked: words.get_flag("check"),
     };
+    let verbose = words.get_flag("verbose");
     let Some(from) = words.get_str("IN") else {
         return Err(TaskFault::Missing);
     };
@@ -125,6 +133,7 @@ fn edit_of<'m, 'a>(
             script,
             paths,
             terms,
+            verbose,
         });
     }
     let Some(to) = words.get_str("OUT") else {
@@ -135,6 +144,7 @@ fn edit_of<'m, 'a>(
         from,
         to,
         terms,
+        verbose,
     })
 }
 
@@ -172,6 +182,7 @@ fn telling_of<'a>(name: &str, words: &ArgMatches<'a>) -> Result<Telling, TaskFau
         "sum" if words.get_flag("check") => Ok(Telling::WrongSums),
         "sum" => Ok(Telling::Sums),
         "stat" => Ok(Telling::Statistics),
+        "verify" if words.get_flag("print-cards") => Ok(card_report_of(words, level_of(words))),
         "verify" => Ok(report_of(words, level_of(words))),
         _ => Err(TaskFault::Missing),
     }
@@ -183,6 +194,15 @@ fn report_of(words: &ArgMatches<'_>, level: Level) -> Telling {
         Telling::StrictReport(level)
     } else {
         Telling::Report(level)
+    }
+}
+
+// The same with the card of each problem.
+fn card_report_of(words: &ArgMatches<'_>, level: Level) -> Telling {
+    if words.get_flag("warnings") {
+        Telling::StrictCardReport(level)
+    } else {
+        Telling::CardReport(level)
     }
 }
 
