@@ -1,10 +1,13 @@
 """Commands over several files, and their forms: a script in words and files, cards, statistics, wrong sums, names of files."""
 import contextlib
+import glob
 import os
+import pathlib
 import pty
 import subprocess
+import tempfile
 
-from fits import P0, PIXEL, THREE_PIXELS, changed, file
+from fits import MANDATORY, P0, PIXEL, THREE_PIXELS, changed, file
 from program import differences
 from sums import CHANGED, STAMPED, WRONG_SUM
 
@@ -45,11 +48,40 @@ CUT = file(([(P0, 0)], "")) + file(([("XTENSION= 'IMAGE   '|BITPIX  = 8", 0)], "
 SHAPELESS = file(([(P0, 0)], "")) + file(([("XTENSION= 'IMAGE   '|BITPIX  = 9|END", 0)], ""))
 FIRST = "1 1 SIMPLE  =                    T\n1 2 BITPIX  =                    8\n1 3 NAXIS   =                    0\n"
 
+
+def with_cards(cards):
+    """The shortest file with more cards."""
+    return file(([(P0.replace("|END", f"|{cards}|END"), 0)], ""))
+
+
 # A date of no day, which is an error.
-DATED = file(([(P0.replace("|END", "|DATE    = '2024-02-30'|END"), 0)], ""))
+DATED = with_cards("DATE    = '2024-02-30'")
+
+# The cards of an extension without data.
+EXTENSION = MANDATORY.replace("SIMPLE  =                    T", "XTENSION= 'IMAGE   '") + "|PCOUNT  =                    0|GCOUNT  =                    1"
+
+# A date of no day in each of two HDUs, at one place; in the second a card with a byte that isn't text, and one that ends in
+# its last byte. END isn't blank in the first, and bytes follow the second.
+TWO_DATES = file(
+    (
+        [
+            (f"{MANDATORY}|EXTEND  =                    T|COMMENT|DATE    = '2024-02-30'|END     x", 0),
+            (f"{EXTENSION}|DATE    = '2023-02-29' / no leap year|OBJECT  = 'a\x7fb'|KEY     ={' ' * 70}x|END", 0),
+        ],
+        "x",
+    )
+)
+FIRST_DATE = "E12 1 6 bad date: DATE    = '2024-02-30'\n"
+SECOND_DATE = "E12 2 6 bad date: DATE    = '2023-02-29' / no leap year\n"
+ODD_OBJECT = "E01 2 7 byte outside ASCII text: OBJECT  = 'a?b'\n"
+NO_VALUE = f"E03 2 8 unreadable value: KEY     ={' ' * 70}x\n"
+ERRORS = f"E14 1 0 END card not blank\n{FIRST_DATE}{SECOND_DATE}{ODD_OBJECT}{NO_VALUE}"
 
 # Names that a shell, a terminal or a printed line could take for something else.
 ODD_NAMES = ["with space.fits", "it's.fits", "a|b.fits", "a&b.fits", "a\nb.fits", 'say "so".fits', "$HOME.fits"]
+
+# A line that makes such an error.
+UNDATED = "set 1 DATE '2024-02-30'"
 
 # What is typed, the files, standard input, the status, and what is printed and reported.
 ROWS = [
@@ -110,6 +142,20 @@ ROWS = [
     (["verify", "-q", "d.fits"], {"d.fits": LATER}, "", 0, "errors 0 warnings 1\n", ""),
     (["verify", "-q", "-w", "d.fits"], {"d.fits": LATER}, "", 1, "errors 0 warnings 1\n", ""),
     (["verify", "-q", "--warnings", "d.fits"], {"d.fits": STAMP}, "", 0, "errors 0 warnings 0\n", ""),
+    # the card of each place; an HDU as a whole, and what follows the last, has none
+    (["verify", "-p", "a.fits"], {"a.fits": EMPTY}, "", 0, "errors 0 warnings 0\n", ""),
+    (["verify", "-p", "b.fits"], {"b.fits": DATED}, "", 1, "E12 1 4 bad date: DATE    = '2024-02-30'\nerrors 1 warnings 0\n", ""),
+    (["verify", "--print-cards", "b.fits"], {"b.fits": ODD}, "", 1, "E01 1 4 byte outside ASCII text: COMMENT ?b\nerrors 1 warnings 0\n", ""),
+    (["verify", "-p", "d.fits"], {"d.fits": LATER}, "", 0, "W24 1 0 CHECKSUM is wrong\nerrors 0 warnings 1\n", ""),
+    (["verify", "-p", "t.fits"], {"t.fits": TWO_DATES}, "", 1, f"{ERRORS}W26 3 0 bytes after the last HDU\nerrors 5 warnings 1\n", ""),
+    (["verify", "-p", "-e", "t.fits"], {"t.fits": TWO_DATES}, "", 1, f"{ERRORS}errors 5 warnings 1\n", ""),
+    (["verify", "-pq", "t.fits"], {"t.fits": TWO_DATES}, "", 1, "errors 5 warnings 1\n", ""),
+    (["verify", "-p", "-w", "d.fits"], {"d.fits": LATER}, "", 1, "W24 1 0 CHECKSUM is wrong\nerrors 0 warnings 1\n", ""),
+    (["verify", "-p", "-w", "a.fits"], {"a.fits": EMPTY}, "", 0, "errors 0 warnings 0\n", ""),
+    (["verify", "-pH", "b.fits"], {"b.fits": DATED}, "", 1, "b.fits:E12 1 4 bad date: DATE    = '2024-02-30'\nb.fits:errors 1 warnings 0\n", ""),
+    (["verify", "-p", "b.fits", "c.fits", "a.fits"], {"a.fits": EMPTY, "b.fits": DATED, "c.fits": CUT}, "", 2, "b.fits:E12 1 4 bad date: DATE    = '2024-02-30'\nb.fits:errors 1 warnings 0\na.fits:errors 0 warnings 0\n", "fitsed: c.fits: open refused O2 NoEnd hdu 2\n"),
+    (["verify", "-p", "-l", "a.fits", "b.fits"], {"a.fits": EMPTY, "b.fits": DATED}, "", 1, "b.fits\n", ""),
+    (["verify", "-p", "none.fits"], {}, "", 3, "", "fitsed: read failed\n"),
     # the names of files with errors, and of those that don't open
     (["verify", "-l", "a.fits", "b.fits", "c.fits", "d.fits"], {"a.fits": EMPTY, "b.fits": DATED, "c.fits": b"no", "d.fits": LATER}, "", 2, "b.fits\nc.fits\n", "fitsed: c.fits: open refused O1 NotFits\n"),
     (["verify", "-l", "-w", "a.fits", "d.fits"], {"a.fits": EMPTY, "d.fits": LATER}, "", 1, "d.fits\n", ""),
@@ -118,6 +164,19 @@ ROWS = [
     # lines that weren't done keep a file from being saved
     (["edit", "-a", "-e", "set 1 OBJECT 'M31'", "-e", "del 1 1", "a.fits", "b.fits"], {"a.fits": EMPTY}, "", 1, "line 2: refused 6 Shape\n", "fitsed: b.fits: not saved: 1 line was not done\n"),
     (["edit", "-a", "-e", "frob", "-e", "del 1 1", "a.fits", "b.fits"], {"a.fits": EMPTY}, "", 1, None, "fitsed: b.fits: not saved: 2 lines were not done\n"),
+    # new errors do: their lines follow the answers
+    (["edit", "-c", "-e", "ins 1 4 bad", "a.fits", "b.fits"], {"a.fits": EMPTY}, "", 1, "+E02 1 4 bad keyword name\n", "fitsed: b.fits: not saved: 1 new error\n"),
+    (["edit", "--check", "a.fits", "b.fits"], {"a.fits": EMPTY}, f"get 1 NAXIS\nins 1 4 bad\n{UNDATED}\n", 1, "integer 0\n+E02 1 4 bad keyword name\n+E12 1 5 bad date\n", "fitsed: b.fits: not saved: 2 new errors\n"),
+    (["edit", "-c", "-e", "frob", "-e", "ins 1 4 bad", "a.fits", "a.fits"], {"a.fits": EMPTY}, "", 1, "line 1: not a command\n+E02 1 4 bad keyword name\n", "fitsed: a.fits: not saved: 1 new error\n"),
+    # also where another error went, and where one that was there moved
+    (["edit", "-c", "-e", "put 1 4 bad", "a.fits", "b.fits"], {"a.fits": DATED}, "", 1, "+E02 1 4 bad keyword name\n", "fitsed: b.fits: not saved: 1 new error\n"),
+    (["edit", "-c", "-e", "ins 1 4 COMMENT", "-e", "set 1 DATE-OBS '2024-02-30'", "a.fits", "b.fits"], {"a.fits": DATED}, "", 1, "+E12 1 5 bad date\n+E12 1 6 bad date\n", "fitsed: b.fits: not saved: 2 new errors\n"),
+    (["edit", "-c", "-e", "set 1 DATE-OBS '2024-02-30'", "a.fits", "b.fits"], {"a.fits": DATED}, "", 1, "+E12 1 5 bad date\n", "fitsed: b.fits: not saved: 1 new error\n"),
+    # lines that weren't done come first
+    (["edit", "-a", "-c", "-e", "frob", "-e", "ins 1 4 bad", "a.fits", "b.fits"], {"a.fits": EMPTY}, "", 1, None, "fitsed: b.fits: not saved: 1 line was not done\n"),
+    (["edit", "-ac", "-e", "ins 1 4 bad", "a.fits", "b.fits"], {"a.fits": EMPTY}, "", 1, "+E02 1 4 bad keyword name\n", "fitsed: b.fits: not saved: 1 new error\n"),
+    (["edit", "-ci", "-e", "ins 1 4 bad", "a.fits", "b.fits"], {"a.fits": EMPTY, "b.fits": EMPTY}, "", 1, "a.fits:+E02 1 4 bad keyword name\nb.fits:+E02 1 4 bad keyword name\n", "fitsed: a.fits: not saved: 1 new error\nfitsed: b.fits: not saved: 1 new error\n"),
+    (["edit", "-c", "-e", "off", "a.fits", "b.fits"], {"a.fits": b"no"}, "", 2, "", "fitsed: open refused O1 NotFits\n"),
     # words that clap refuses
     (["edit", "-e", "off", "a.fits"], {"a.fits": EMPTY}, "", 2, "", None),
     (["edit", "-e", "off", "a.fits", "b.fits", "c.fits"], {"a.fits": EMPTY}, "", 2, "", None),
@@ -128,9 +187,68 @@ ROWS = [
     (["sum", "--", "-c"], {"-c": STAMP}, "", 0, "1 0 1 1\n", ""),
 ]
 
+# A line of a script over the three pixels of IMAGES, its answer, and what `edit -v` says of it.
+NOT = "not a command"
+REMARKS = [
+    ("set 1 OBJECT M31", NOT, "not a value: a string stands in quotes: 'M31'"),
+    ("set 1 EXPTIME 1.5e3", NOT, "not a value: an exponent is a capital E or D"),
+    ("set 1 FLAG true", NOT, "not a value: T or F"),
+    ("set 1 OBJECT 'it's'", NOT, "not a value: a quote in a string is doubled"),
+    ("set 1 EXPTIME 5 seconds", NOT, "text after the value: a comment begins with a slash"),
+    ("set 1 LONGKEYWORD 5", NOT, "not a keyword name: more than 8 characters"),
+    ("ins 1 5 HISTORY " + 100 * "x", NOT, "a card of 108 bytes, at most 80"),
+    ("ins 1 end HISTORY x", NOT, "not a place: end"),
+    ("get 1 EXPTIME ", NOT, "a space too many at byte 14"),
+    ("get  1 EXPTIME", NOT, "a space too many at byte 5"),
+    ("INS 1 5 HISTORY", NOT, "not a command: INS; commands are in lower case"),
+    ("insert 1 5 HISTORY", NOT, "not a command: insert"),
+    ("rep\r", NOT, "a carriage return at the end"),
+    ("unset 1", NOT, "a word is missing"),
+    ("off 1", NOT, "a word too many: 1"),
+    ("get one NAXIS", NOT, "not an HDU: one"),
+    ("fill 1 1-2 5", NOT, "not a rectangle: 1-2"),
+    ("fill 1 1:1 five", NOT, "not a pixel value: five"),
+    ("reshape 1 i7 3", NOT, "not a kind of pixels: i7"),
+    ("reshape 1 i16 three", NOT, "not axes: three"),
+    (100001 * "x", "too long", "a line has at most 100000 bytes"),
+    ("get 9 NAXIS", "refused 1 NoHdu", "refused 1 NoHdu: no HDU has this number"),
+    ("del 1 99", "refused 2 NoCard", "refused 2 NoCard: no card stands at this place"),
+    ("get 1 EXPTIME", "refused 3 NoKey", "refused 3 NoKey: no card says this"),
+    ("get 1 naxis", "refused 3 NoKey", "refused 3 NoKey: keyword names have capital letters"),
+    ("pos 1 naxis", "refused 3 NoKey", "refused 3 NoKey: keyword names have capital letters"),
+    ("unset 1 naxis", "refused 7 BadName", "refused 7 BadName: keyword names have capital letters"),
+    ("get 1 NAXIS\r", "refused 3 NoKey", "refused 3 NoKey: a carriage return at the end"),
+    ("ins 1 5 HISTORY\r", "refused 4 BadText", "refused 4 BadText: a carriage return at the end"),
+    ("ins 1 5 HISTORY \a", "refused 4 BadText", "refused 4 BadText: a byte of the card is no character of text"),
+    ("ins 1 5 END", "refused 5 EndCard", "refused 5 EndCard: the card is named END"),
+    ("del 1 1", "refused 6 Shape", "refused 6 Shape: the cards would describe another shape, or none"),
+    ("set 1 exptime 5", "refused 7 BadName", "refused 7 BadName: keyword names have capital letters"),
+    ("set 1 HISTORY 5", "refused 7 BadName", "refused 7 BadName: not the name of a keyword with a value"),
+    # the space after the slash is a byte of the comment
+    ("set 1 OBJECT 'x' / " + 60 * "c", "refused 8 BadValue", "refused 8 BadValue: the comment has 61 bytes, 48 fit"),
+    ("set 1 EXPTIME " + 71 * "1", "refused 8 BadValue", "refused 8 BadValue: the value has more than 70 bytes"),
+    ("fill 1 3:1 5", "refused 10 BadRect", "refused 10 BadRect: the corners don't lie in the axes, in order"),
+    ("write 1 1:2 5", "refused 11 WrongCount", "refused 11 WrongCount: more or fewer values than pixels"),
+    ("fill 1 1:1 99999", "refused 12 Range", "refused 12 Range: a pixel of this kind can't have this value"),
+    ("rm 1", "refused 13 PrimaryStays", "refused 13 PrimaryStays: the primary HDU stays where it is"),
+]
+ROWS += [
+    (["edit", "-v", "-e", line, "a.fits", "/dev/null"], {"a.fits": IMAGES}, "", 1, f"line 1: {answer}\n", f"fitsed: line 1: {why}\n")
+    for line, answer, why in REMARKS
+]
+ROWS += [
+    # lines that are done, and others; without -v nothing is said of them
+    (["edit", "-v", "-e", "off 1", "-e", "get 1 BITPIX", "-e", "rep 1", "a.fits", "/dev/null"], {"a.fits": EMPTY}, "", 1, "line 1: not a command\ninteger 8\nline 3: not a command\n", "fitsed: line 1: a word too many: 1\nfitsed: line 3: a word too many: 1\n"),
+    (["edit", "-e", "off 1", "a.fits", "/dev/null"], {"a.fits": EMPTY}, "", 1, "line 1: not a command\n", ""),
+    (["edit", "-v", "-e", "stat 1", "a.fits", "/dev/null"], {"a.fits": EMPTY}, "", 1, "line 1: refused 9 NotImage\n", "fitsed: line 1: refused 9 NotImage: the HDU is no image of integers\n"),
+    (["edit", "--verbose", "a.fits", "/dev/null"], {"a.fits": EMPTY}, "off 1", 1, "line 1: not a command\n", "fitsed: line 1: a word too many: 1\n"),
+    # of several files each is named, and what isn't saved is said last
+    (["edit", "-i", "-v", "-a", "-e", "off 1", "a.fits", "b.fits"], {"a.fits": EMPTY, "b.fits": EMPTY}, "", 1, "a.fits:line 1: not a command\nb.fits:line 1: not a command\n", "fitsed: a.fits: line 1: a word too many: 1\nfitsed: a.fits: not saved: 1 line was not done\nfitsed: b.fits: line 1: a word too many: 1\nfitsed: b.fits: not saved: 1 line was not done\n"),
+]
+
 # A script of `edit`, its files, the words, and what they have then; a file that isn't named stays.
 SET = "set 1 OBJECT 'M31'"
-TOLD = file(([(P0.replace("|END", "|OBJECT  = 'M31     '|END"), 0)], ""))
+TOLD = with_cards("OBJECT  = 'M31     '")
 EDITS = [
     (["edit", "-e", SET, "a.fits", "b.fits"], {"a.fits": EMPTY}, 0, {"b.fits": TOLD}),
     (["edit", "-e", SET, "a.fits", "a.fits"], {"a.fits": EMPTY}, 0, {"a.fits": TOLD}),
@@ -144,6 +262,15 @@ EDITS = [
     (["edit", "-a", "-i", "-e", "frob", "-e", SET, "a.fits"], {"a.fits": EMPTY}, 1, {}),
     (["edit", "-e", SET, "-e", "frob", "a.fits", "b.fits"], {"a.fits": EMPTY}, 1, {"b.fits": TOLD}),
     (["ask", "-e", SET, "a.fits"], {"a.fits": EMPTY}, 0, {}),
+    # no error is new: there is none, it is a warning, it moved, or one of its code went
+    (["edit", "-c", "-e", SET, "a.fits", "b.fits"], {"a.fits": EMPTY}, 0, {"b.fits": TOLD}),
+    (["edit", "-c", "-e", SET, "-e", "frob", "a.fits", "b.fits"], {"a.fits": EMPTY}, 1, {"b.fits": TOLD}),
+    (["edit", "-c", "-e", "ins 1 4 CONTINUE  'x'", "a.fits", "b.fits"], {"a.fits": EMPTY}, 0, {"b.fits": with_cards("CONTINUE  'x'")}),
+    (["edit", "-c", "-e", "ins 1 4 COMMENT", "a.fits", "b.fits"], {"a.fits": DATED}, 0, {"b.fits": with_cards("COMMENT|DATE    = '2024-02-30'")}),
+    (["edit", "-c", "-e", "put 1 4 COMMENT", "-e", "ins 1 5 DATE-OBS= '2024-02-30'", "a.fits", "b.fits"], {"a.fits": DATED}, 0, {"b.fits": with_cards("COMMENT|DATE-OBS= '2024-02-30'")}),
+    (["edit", "-c", "-e", "ins 1 4 bad", "-e", "del 1 4", "a.fits", "b.fits"], {"a.fits": EMPTY}, 0, {"b.fits": EMPTY}),
+    (["edit", "-c", "-a", "-e", SET, "a.fits", "b.fits"], {"a.fits": EMPTY}, 0, {"b.fits": TOLD}),
+    (["edit", "-i", "-c", "-e", SET, "-e", UNDATED, "a.fits", "b.fits"], {"a.fits": EMPTY, "b.fits": DATED}, 1, {"b.fits": with_cards("DATE    = '2024-02-30'|OBJECT  = 'M31     '")}),
 ]
 
 
@@ -158,6 +285,8 @@ def cases():
         words = ["edit", "-i", "-e", SET, name]
         yield f"edit -i {name!r}", changes, words, {name: EMPTY}, 0, {name: TOLD}
     yield "ask answers a terminal line by line", typed_in
+    for path in public_files():
+        yield f"cards {path} beside CFITSIO", beside_cfitsio, path
 
 
 def run(program, words, files, script, status, printed, reported):
@@ -197,3 +326,38 @@ def typed_in(program):
                 yield f"it ends with {ran.returncode}"
         ran.kill()
         os.close(ours)
+
+
+HERE = os.path.dirname(os.path.abspath(__file__))
+ROOM = tempfile.TemporaryDirectory()
+
+
+def public_files():
+    """The files of examples/, and those that astropy's tests have, where these and CFITSIO are installed."""
+    built = subprocess.run(["cc", "-O1", "-o", f"{ROOM.name}/cards", f"{HERE}/cards.c", "-lcfitsio"], capture_output=True)
+    if built.returncode != 0:
+        return []
+    folders = [os.path.join(HERE, "..", "examples"), *glob.glob("/usr/lib/python3*/*-packages/astropy")]
+    return sorted(path for folder in folders for path in glob.glob(f"{folder}/**/*.fits", recursive=True))
+
+
+def beside_cfitsio(program, path):
+    """Where `cards` prints others than CFITSIO reads, of a file that both open."""
+    content = pathlib.Path(path).read_bytes()
+    ran, _ = program.over(["cards", "a.fits"], {"a.fits": content}, b"")
+    theirs = subprocess.run([f"{ROOM.name}/cards", path], capture_output=True, timeout=60)
+    if ran.status == 2 or theirs.returncode != 0:
+        return
+    ours = [line.split(" ", 2) for line in ran.printed.decode().splitlines()]
+    # CFITSIO counts the blank cards before END as free room
+    cards = {tuple(words[:2]): words[2] for words in ours if len(words) == 3}
+    last = {hdu: place for hdu, place in cards}
+    read = {}
+    for line in theirs.stdout.decode("latin-1").split("\n")[:-1]:
+        hdu, place, card = line.split(" ", 2)
+        shown = "".join(byte if " " <= byte <= "~" else "?" for byte in card).rstrip(" ")
+        if shown or int(place) < int(last.get(hdu, 0)):
+            read[hdu, place] = shown
+    blank = {(words[0], words[1]): "" for words in ours if len(words) == 2 and int(words[1]) < int(last.get(words[0], 0))}
+    if cards | blank != read:
+        yield f"CFITSIO reads {sorted(read.items() ^ (cards | blank).items())!r:.300}"

@@ -129,6 +129,26 @@ SCRIPTS += [
     ),
 ]
 
+# Scripts that are checked for new errors, of which the first makes one and so isn't saved: what is reported, too.
+CHECKS = [
+    (
+        header(P0),
+        "off\nins 1 4 bad\noff",
+        "1 0 2880 2880\n1 0 2880 2880\n+E02 1 4 bad keyword name\n",
+        1,
+        None,
+        "fitsed: out.fits: not saved: 1 new error\n",
+    ),
+    (
+        header(f"{MANDATORY}|bad|END"),
+        "ins 1 4 COMMENT x\noff",
+        "1 0 2880 2880\n",
+        0,
+        header(f"{MANDATORY}|COMMENT x|bad|END"),
+        "",
+    ),
+]
+
 # What is told of files: the words, the file, what is printed, and the status. The words of a block of data sum to
 # 1867394316.
 TOLD = [
@@ -150,6 +170,13 @@ TOLD = [
         file(([(P0, 0), (NAMED, 0), (NAMED, 0)], "")),
         "".join(f"W25 {k} 0 two extensions of one type, name and version\n" for k in (2, 3)) + "errors 0 warnings 2\n",
         0,
+    ),
+    (
+        ["verify", "-p"],
+        file(([(P0.replace("|END", "|KEY     = TRUE|END"), 0), (NAMED.replace("EXTNAME = 'A'", "EPOCH   = 2000.0"), 0)], "x")),
+        "E03 1 4 unreadable value: KEY     = TRUE\nW13 2 6 deprecated keyword: EPOCH   = 2000.0\n"
+        "W26 3 0 bytes after the last HDU\nerrors 1 warnings 2\n",
+        1,
     ),
     (["sum"], file(([(STAMPED, 0), (PIXEL, 1)], "trailer")), "1 0 1 1\n2 1867394316 0 0\n", 0),
 ]
@@ -202,18 +229,28 @@ def cases():
             for old in OLD:
                 for step in (100, 4096):
                     yield f"{script}, over {old or 'IN'}, {step}", over, shim, run, old, step
+    for of, script, *wanted in CHECKS:
+        run = ["edit", "-c"], of, script, whole(*wanted)
+        yield f"edit -c {script}, memory", each_fails, shim, run, NO_MEMORY, "REFUSE", {}
+        for stream, steps in OF_SCRIPTS.items():
+            # nothing is saved by the first
+            if run[3]["saved"] is not None or stream != "saved":
+                row = {"STREAM": stream, "STEP": str(steps[-1])}
+                yield f"edit -c {script}, {row}", each_fails, shim, run, FAULTS[stream], "FAIL", row
+        yield f"edit -c {script}, a byte a call", slow, shim, run
+        yield f"edit -c {script}, answers that are stuck", stuck, shim, run, "answers"
     for run, stops in ((SHORTEST, STOPS), (QUESTIONS, ASKED_STOPS)):
         for stop in stops:
             yield f"{run[1]}, {stop}", stopped, shim, run, *stop
 
 
-def whole(printed, status, saved):
+def whole(printed, status, saved, reported=""):
     """What a run comes to that meets no fault."""
-    return {"status": status, "printed": printed.encode("latin-1"), "reported": b"", "saved": saved}
+    return {"status": status, "printed": printed.encode("latin-1"), "reported": reported.encode("latin-1"), "saved": saved}
 
 
 def run_of(program, words, of, script):
-    return program.edit(of, script.encode("latin-1")) if words == ["edit"] else program.tell(words, of)
+    return program.edit(of, script.encode("latin-1"), words) if words[0] == "edit" else program.tell(words, of)
 
 
 def each_fails(program, shim, run, fault, met, row):

@@ -28,9 +28,9 @@ class Program:
         """The same program, with more words in its environment."""
         return Program(self.path, **self.environment, **environment)
 
-    def edit(self, file, script):
+    def edit(self, file, script, words=("edit",)):
         """A script over a file, saved to another."""
-        return self.edit_by(file, [script])
+        return self._run([*words, "in.fits", "out.fits"], file, [script])
 
     def edit_over(self, file, script, old):
         """A script over a file, saved over one that stands there; over the file itself where `old` is none."""
