@@ -1,12 +1,9 @@
 -- What hears of the lines of a script: answers, and remarks, put together.
-use Rattle.std.proofs.Common.{◌≡◌, ℕ, ◌+◌, ◌≤◌, Bool, true, List, [], ◌++◌, refl, ap, sym, subst, ◌∙◌, arith, inl, Option, None, Some, option_map, is_some}
+use Rattle.std.proofs.Common.{◌≡◌, ℕ, ◌+◌, ◌≤◌, Bool, true, List, [], ◌++◌, refl, ap, sym, subst, ◌∙◌, arith, Option, None, Some, option_map, is_some}
 use Rattle.fits_stream.specs.Stream.{SinkState}
 use Rattle.fits_stream.proofs.StreamLemmas.{Appends-more, Appends-none, Prints-none, Prints-more}
-use Rattle.fits_session.specs.Marked.{Marked}
-use Rattle.fits_script.specs.Line.{reading_of, ReadingNeedsMemory}
-use Rattle.fits_script.specs.declared.line_reading.LineReading.{LineReading}
-use Rattle.fits_script.specs.declared.line_reading.LineReading.TheVariants.{TooLong, NoCommand, Said}
-use Rattle.fits_cli.specs.Answer.{Standing, LineNeedsMemory}
+use Rattle.fits_script.specs.Line.{reading_of}
+use Rattle.fits_cli.specs.Answer.{Standing}
 use Rattle.fits_cli.specs.Remark.{line_remark, remark_by, remark_line, remark_on, IsSaid, Remarks}
 use Rattle.fits_cli.specs.Running.{Heard, Says}
 use Rattle.fits_cli.specs.declared.remark.Remark.{Remark}
@@ -57,8 +54,8 @@ pub Says-text : (xs ys rs ss : List ℕ) (a b : Heard) → xs ≡ ys → rs ≡ 
 Says-text xs ys rs ss a b p q said = rw (← p, ← q) said
 
 -- a remark is the one on its line
-pub remark_lines : (standing : Standing) (line : List ℕ) (number : ℕ) (remark : Option Remark) (reply : Reply) → number ≡ standing.line
-    → remark ≡ remark_by line (reading_of line) reply → remark_by line (reading_of line) reply ≡ remark_on standing.marked line (reading_of line)
+remark_lines : (standing : Standing) (line : List ℕ) (number : ℕ) (remark : Option Remark) (reply : Reply) → number ≡ standing.line
+    → remark ≡ remark_by line reply → remark_by line reply ≡ remark_on standing.marked line (reading_of line)
     → remark_line number remark ≡ line_remark standing line
 unfolding line_remark
 remark_lines standing line number remark reply at is on = ap (λ (n : ℕ). remark_line n remark) at ∙ ap (remark_line standing.line) (is ∙ on)
@@ -66,16 +63,9 @@ remark_lines standing line number remark reply at is on = ap (λ (n : ℕ). rema
 -- so it is said where it is wanted
 pub said_line : {E : Type 0} (state : E → SinkState) (standing : Standing) (line : List ℕ) (number : ℕ) (wanted : Bool) (remark : Option Remark) (reply : Reply) (told : Option E) (after : Option SinkState)
     → number ≡ standing.line → wanted ≡ is_some told
-    → (wanted ≡ true → remark ≡ remark_by line (reading_of line) reply) → remark_by line (reading_of line) reply ≡ remark_on standing.marked line (reading_of line)
+    → (wanted ≡ true → remark ≡ remark_by line reply) → (wanted ≡ true → remark_by line reply ≡ remark_on standing.marked line (reading_of line))
     → Remarks (remark_line number remark) (option_map state told) after → Remarks (line_remark standing line) (option_map state told) after
 said_line state standing line number wanted remark reply None None at is by on said = tt
 said_line state standing line number wanted remark reply None (Some b) at is by on said = absurd said
 said_line state standing line number wanted remark reply (Some e) None at is by on said = absurd said
-said_line state standing line number wanted remark reply (Some e) (Some b) at is by on said = rw (← remark_lines standing line number remark reply at (by is) on) said
-
--- a line whose command is read again may need memory for that
-pub needs_to_read : (it : Marked) (reading : LineReading) → ReadingNeedsMemory reading → LineNeedsMemory it reading
-unfolding LineNeedsMemory
-needs_to_read it TooLong needs = needs
-needs_to_read it NoCommand needs = needs
-needs_to_read it (Said command) needs = inl needs
+said_line state standing line number wanted remark reply (Some e) (Some b) at is by on said = rw (← remark_lines standing line number remark reply at (by is) (on is)) said

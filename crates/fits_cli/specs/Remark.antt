@@ -25,6 +25,7 @@ use Rattle.fits_script.specs.declared.command.Command.TheVariants.{Edit, Get, Po
 use Rattle.fits_script.specs.declared.line_reading.LineReading.{LineReading}
 use Rattle.fits_script.specs.declared.line_reading.LineReading.TheVariants.{TooLong, NoCommand, Said}
 use Rattle.fits_cli.specs.Answer.{Done, Standing, complaint, line_left, outcome_of}
+use Rattle.fits_cli.specs.declared.clues.Clues.{Clues}
 use Rattle.fits_cli.specs.declared.reason.Reason.{Reason}
 use Rattle.fits_cli.specs.declared.reason.Reason.TheVariants.{CarriageReturn, SmallLetters, Unwritten, Plain}
 use Rattle.fits_cli.specs.declared.remark.Remark.{Remark}
@@ -83,16 +84,20 @@ abbrev pub value_reason : Option Unwritable → Reason
 value_reason None = Plain
 value_reason (Some why) = Unwritten why
 
--- what a refusal comes from, as far as the command tells
-abbrev pub command_reason : Command → Refusal → Reason
-command_reason command refusal.NoKey = name_reason (name_in command)
-command_reason command refusal.BadName = name_reason (name_in command)
-command_reason command refusal.BadValue = value_reason (unwritable_in command)
-command_reason command why = Plain
+-- what a command tells of why it may be refused
+abbrev pub clues_of : Command → Clues
+clues_of command = record { name = name_in command; unwritable = unwritable_in command }
+
+-- what a refusal comes from by that
+abbrev pub clues_reason : Clues → Refusal → Reason
+clues_reason clues refusal.NoKey = name_reason clues.name
+clues_reason clues refusal.BadName = name_reason clues.name
+clues_reason clues refusal.BadValue = value_reason clues.unwritable
+clues_reason clues why = Plain
 
 -- what it comes from, as far as the line tells
-unfoldable pub reason_of : List ℕ → Command → Refusal → Reason
-reason_of line command why = if ends_in_return line then CarriageReturn else command_reason command why
+unfoldable pub reason_of : List ℕ → Clues → Refusal → Reason
+reason_of line clues why = if ends_in_return line then CarriageReturn else clues_reason clues why
 
 -- what a refusal says in words
 abbrev pub plain_text : Refusal → List ℕ
@@ -125,23 +130,17 @@ remark_text remark.TooLong = codes "a line has at most 100000 bytes"
 remark_text (remark.NoCommand misfit) = misfit_text misfit
 remark_text (remark.Refused why reason) = refusal_text why ++ (codes ": " ++ reason_text why reason)
 
--- the remark on a line that was read so, and whose command was refused for this
-abbrev pub refused_remark : List ℕ → LineReading → Refusal → Option Remark
-refused_remark line TooLong why = None
-refused_remark line NoCommand why = None
-refused_remark line (Said command) why = Some (remark.Refused why (reason_of line command why))
-
--- the remark on a line that was read so, by what it comes to
-unfoldable pub remark_by : List ℕ → LineReading → Reply → Option Remark
-remark_by line reading (reply.Done text) = None
-remark_by line reading (reply.Refused why) = refused_remark line reading why
-remark_by line reading reply.TooLong = Some remark.TooLong
-remark_by line reading reply.NoCommand = option_map remark.NoCommand (misfit_of line)
+-- the remark on a line, by what it comes to
+unfoldable pub remark_by : List ℕ → Reply → Option Remark
+remark_by line (reply.Done text) = None
+remark_by line (reply.Refused why clues) = Some (remark.Refused why (reason_of line clues why))
+remark_by line reply.TooLong = Some remark.TooLong
+remark_by line reply.NoCommand = option_map remark.NoCommand (misfit_of line)
 
 -- the remark on a command that was refused
 abbrev pub outcome_remark : List ℕ → Command → Result Done Refusal → Option Remark
 outcome_remark line command (Ok done) = None
-outcome_remark line command (Err why) = Some (remark.Refused why (reason_of line command why))
+outcome_remark line command (Err why) = Some (remark.Refused why (reason_of line (clues_of command) why))
 
 -- the remark on a line, in a file with these marks: there is one unless it was done
 unfoldable pub remark_on : Marked → List ℕ → LineReading → Option Remark

@@ -7,25 +7,26 @@ use Rattle.fits_session.specs.declared.refusal.Refusal.{Refusal as SessionRefusa
 use Rattle.fits_session.specs.declared.refusal.Refusal.TheVariants.{Memory}
 use Rattle.fits_session.specs.Refusal.{refusal_text}
 use Rattle.fits_cli.specs.Answer.{complaint}
+use Rattle.fits_cli.specs.declared.clues.Clues.{Clues}
 use Rattle.fits_cli.specs.declared.reply.Reply.{Reply}
 use Rattle.fits_cli.specs.declared.reply.Reply.TheVariants.{Done, Refused, TooLong, NoCommand}
 
 -- what is printed of line `number`
 abbrev pub reply_text : ℕ → Reply → List ℕ
 reply_text number (Done text) = text.items
-reply_text number (Refused why) = complaint number (refusal_text why)
+reply_text number (Refused why clues) = complaint number (refusal_text why)
 reply_text number TooLong = complaint number (codes "too long")
 reply_text number NoCommand = complaint number (codes "not a command")
 
 -- the line was refused or bad
 abbrev pub counts_as_refused : Reply → Bool
 counts_as_refused (Done text) = false
-counts_as_refused (Refused why) = true
+counts_as_refused (Refused why clues) = true
 counts_as_refused TooLong = true
 counts_as_refused NoCommand = true
 
--- what a command's outcome is to its line: out of memory alone ends the run
-abbrev pub settled : Result (Vec ℕ Global) SessionRefusal → Result Reply AllocError
-settled (Ok text) = Ok (Done text)
-settled (Err Memory) = Err alloc_error
-settled (Err why) = Ok (Refused why)
+-- what the outcome of a command with these clues is to its line: out of memory alone ends the run
+abbrev pub settled : Clues → Result (Vec ℕ Global) SessionRefusal → Result Reply AllocError
+settled clues (Ok text) = Ok (Done text)
+settled clues (Err Memory) = Err alloc_error
+settled clues (Err why) = Ok (Refused why clues)

@@ -9,6 +9,7 @@ mod card_place;
 mod cards;
 mod checked_editing;
 mod choosing;
+mod clues;
 mod code_counts;
 mod complaint;
 mod editing;

@@ -1,26 +1,43 @@
-//! What the refusal of a command comes from.
-ghost use Rattle.std.specs.Prelude.{◌≡◌, Some};
+//! What the refusal of a command comes from, and what a command tells of that.
+ghost use Rattle.std.specs.Prelude.{◌≡◌, true, Some};
 ghost use Rattle.std.specs.Char.{is_ascii_lowercase};
 ghost use Rattle.std.specs.List.{list_any};
 ghost use Rattle.fits_script.specs.Misfit.{ends_in_return};
-ghost use Rattle.fits_cli.specs.Remark.{command_reason, name_in, name_of_cards, name_of_edit, name_of_hdu, name_reason, reason_of};
+ghost use Rattle.fits_cli.specs.Remark.{clues_of, clues_reason, name_in, name_of_cards, name_of_edit, name_of_hdu, name_reason, reason_of};
 ghost use Rattle.fits_cli.specs.Remark.{unwritable_in, unwritable_of_cards, unwritable_of_edit, unwritable_of_hdu, value_reason};
 
+use crate::clues::Clues;
 use crate::reason::Reason;
 use fits_card::Name;
 use fits_script::Command;
 use fits_session::{CardEdit, Edit, HduEdit, Refusal};
 use fits_value::{Unwritable, unwritable_of};
 
-/// What the refusal of a command comes from, as far as its line tells.
+/// What a command tells of why it may be refused, where that is wanted.
+pub(crate) fn clues_of(wanted: bool, command: &Command) -> Clues
+    ensures { wanted ≡ true → result ≡ clues_of command.now }
+{
+    if !wanted {
+        return Clues {
+            name: None,
+            unwritable: None,
+        };
+    }
+    Clues {
+        name: name_in(command),
+        unwritable: unwritable_in(command),
+    }
+}
+
+/// What the refusal of a command with these clues comes from, as far as its line tells.
 #[tactic(auto, unfolding(crate::specs::Remark::reason_of))]
-pub(crate) fn reason_of(line: &[u8], command: &Command, why: Refusal) -> Reason
-    ensures { result ≡ reason_of line.now command.now why }
+pub(crate) fn reason_of(line: &[u8], clues: Clues, why: Refusal) -> Reason
+    ensures { result ≡ reason_of line.now clues why }
 {
     if ends_in_return(line) {
         Reason::CarriageReturn
     } else {
-        command_reason(command, why)
+        clues_reason(clues, why)
     }
 }
 
@@ -32,12 +49,12 @@ fn ends_in_return(line: &[u8]) -> bool
 }
 
 // The same, as far as the command tells.
-fn command_reason(command: &Command, why: Refusal) -> Reason
-    ensures { result ≡ command_reason command.now why }
+fn clues_reason(clues: Clues, why: Refusal) -> Reason
+    ensures { result ≡ clues_reason clues why }
 {
     match why {
-        Refusal::NoKey | Refusal::BadName => name_reason(name_in(command)),
-        Refusal::BadValue => value_reason(unwritable_in(command)),
+        Refusal::NoKey | Refusal::BadName => name_reason(clues.name),
+        Refusal::BadValue => value_reason(clues.unwritable),
         _ => Reason::Plain,
     }
 }

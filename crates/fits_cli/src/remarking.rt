@@ -1,9 +1,8 @@
 //! Remarks on the lines of a script that weren't done: which, and how they are said.
-ghost use Rattle.std.specs.Prelude.{◌≡◌, ◌++◌, true, codes, IfOk, OnErr, OnOk};
+ghost use Rattle.std.specs.Prelude.{◌≡◌, ◌++◌, true, codes, OnErr, OnOk};
 ghost use Rattle.std.specs.Option.{option_map};
 ghost use Rattle.fits_stream.specs.Stream.{Prints, PrintsFront};
 ghost use Rattle.fits_session.specs.Refusal.{refusal_text};
-ghost use Rattle.fits_script.specs.Line.{reading_of, ReadingNeedsMemory};
 ghost use Rattle.fits_cli.specs.Answer.{complaint};
 ghost use Rattle.fits_cli.specs.Remark.{plain_text, reason_text, remark_by, remark_line, remark_text, IsSaid, Remarks};
 
@@ -11,56 +10,38 @@ use crate::reason::Reason;
 use crate::reasons::reason_of;
 use crate::remark::Remark;
 use crate::reply::Reply;
-use fits_script::{LineReading, misfit_of, read_line, write_misfit, write_unwritable};
+use fits_script::{misfit_of, write_misfit, write_unwritable};
 use fits_session::Refusal;
 use fits_stream::{Sink, Watched, write_all};
 use itoa::Buffer;
-use std::alloc::{AllocError, Global};
 use std::io;
 
 /// No sink of remarks: none are wanted.
 pub(crate) type Silence = Option<Watched<io::Sink>>;
 
-/// What is said of a line that came to this, where that is wanted. Of a line that was refused the
-/// command is read again.
-pub(crate) fn remark_on<'a>(
-    alloc: Global,
-    wanted: bool,
-    line: &'a [u8],
-    reply: &Reply,
-) -> Result<Option<Remark<'a>>, AllocError>
-    ensures ok { IfOk result (λ remark. wanted ≡ true
-        → remark ≡ remark_by line.now (reading_of line.now) reply.now) }
-    ensures err { OnErr result (ReadingNeedsMemory (reading_of line.now)) }
+/// What is said of a line that came to this, where that is wanted. It takes no memory.
+pub(crate) fn remark_on<'a>(wanted: bool, line: &'a [u8], reply: &Reply) -> Option<Remark<'a>>
+    ensures { wanted ≡ true → result ≡ remark_by line.now reply.now }
 {
     if !wanted {
-        return Ok(None);
+        return None;
     }
-    remark_by(alloc, line, reply)
+    remark_by(line, reply)
 }
 
 // What is said of a line that came to this.
 #[tactic(auto, unfolding(crate::specs::Remark::remark_by))]
-fn remark_by<'a>(
-    alloc: Global,
-    line: &'a [u8],
-    reply: &Reply,
-) -> Result<Option<Remark<'a>>, AllocError>
-    ensures ok { IfOk result (λ remark. remark
-        ≡ remark_by line.now (reading_of line.now) reply.now) }
-    ensures err { OnErr result (ReadingNeedsMemory (reading_of line.now)) }
+fn remark_by<'a>(line: &'a [u8], reply: &Reply) -> Option<Remark<'a>>
+    ensures { result ≡ remark_by line.now reply.now }
 {
     match reply {
-        Reply::Done(_) => Ok(None),
-        Reply::Refused(why) => match read_line(alloc, line)? {
-            LineReading::Said(command) => {
-                let reason = reason_of(line, &command, *why);
-                Ok(Some(Remark::Refused(*why, reason)))
-            }
-            LineReading::TooLong | LineReading::NoCommand => Ok(None),
-        },
-        Reply::TooLong => Ok(Some(Remark::TooLong)),
-        Reply::NoCommand => Ok(misfit_of(line).map(Remark::NoCommand)),
+        Reply::Done(_) => None,
+        Reply::Refused(why, clues) => {
+            let reason = reason_of(line, *clues, *why);
+            Some(Remark::Refused(*why, reason))
+        }
+        Reply::TooLong => Some(Remark::TooLong),
+        Reply::NoCommand => misfit_of(line).map(Remark::NoCommand),
     }
 }
 

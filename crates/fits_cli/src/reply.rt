@@ -4,6 +4,7 @@ ghost use Rattle.fits_stream.specs.Stream.{Prints};
 ghost use Rattle.fits_cli.specs.Faults.{PrintFails};
 ghost use Rattle.fits_cli.specs.Reply.{counts_as_refused, reply_text, settled};
 
+use crate::clues::Clues;
 use crate::complaint::print_complaint;
 use crate::fault::Fault;
 use crate::printing::print;
@@ -16,22 +17,22 @@ use std::alloc::AllocError;
 pub(crate) enum Reply {
     /// Its command was done, and prints this text.
     Done(Vec<u8>),
-    /// Its command was refused.
-    Refused(Refusal),
+    /// Its command was refused, and tells so much of why.
+    Refused(Refusal, Clues),
     /// It is past the limit.
     TooLong,
     /// It says no command.
     NoCommand,
 }
 
-/// What a command's outcome is to its line: out of memory alone ends the run.
-pub(crate) fn settled(outcome: Result<Vec<u8>, Refusal>) -> Result<Reply, AllocError>
-    ensures { result ≡ settled outcome }
+/// What the outcome of a command with these clues is to its line: out of memory alone ends the run.
+pub(crate) fn settled(clues: Clues, outcome: Result<Vec<u8>, Refusal>) -> Result<Reply, AllocError>
+    ensures { result ≡ settled clues outcome }
 {
     match outcome {
         Ok(text) => Ok(Reply::Done(text)),
         Err(Refusal::Memory) => Err(AllocError),
-        Err(why) => Ok(Reply::Refused(why)),
+        Err(why) => Ok(Reply::Refused(why, clues)),
     }
 }
 
@@ -41,7 +42,7 @@ pub(crate) fn counts_as_refused(reply: &Reply) -> bool
 {
     match reply {
         Reply::Done(_) => false,
-        Reply::Refused(_) | Reply::TooLong | Reply::NoCommand => true,
+        Reply::Refused(_, _) | Reply::TooLong | Reply::NoCommand => true,
     }
 }
 
@@ -54,7 +55,7 @@ pub(crate) fn print_reply<O: Sink>(out: &mut O, line: u64, reply: &Reply) -> Res
 {
     match reply {
         Reply::Done(text) => print(out, text),
-        Reply::Refused(why) => print_complaint(out, line, why.text()),
+        Reply::Refused(why, _) => print_complaint(out, line, why.text()),
         Reply::TooLong => print_complaint(out, line, "too long"),
         Reply::NoCommand => print_complaint(out, line, "not a command"),
     }

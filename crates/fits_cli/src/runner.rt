@@ -2,6 +2,7 @@ use crate::answer::answer;
 use crate::fault::Fault;
 use crate::new_errors::{NewErrors, errors_since};
 use crate::printing::flush;
+use crate::reasons::clues_of;
 use crate::reply::{Reply, counts_as_refused, settled};
 use fits_script::{LineReading, read_line};
 use fits_session::{Problem, Session};
@@ -36,7 +37,7 @@ impl Model for Runner {
 }
 
 impl Runner {
-    ghost use Rattle.std.specs.Prelude.{◌≡◌, ◌+◌, ◌^◌, ◌<◌, AllPairs, if◌then◌else◌, length, IfOk, IfErr, OnOk, OnErr};
+    ghost use Rattle.std.specs.Prelude.{◌≡◌, ◌+◌, ◌^◌, ◌<◌, true, AllPairs, if◌then◌else◌, length, IfOk, IfErr, OnOk, OnErr};
     ghost use Rattle.fits_stream.specs.Stream.{Prints};
     ghost use Rattle.fits_cli.specs.Answer.{at_first_line, line_answer, line_left, LineNeedsMemory};
     ghost use Rattle.fits_script.specs.Line.{reading_of};
@@ -83,13 +84,18 @@ impl Runner {
         self.refused
     }
 
-    /// Does what a line says, and goes on to the next one.
+    /// Does what a line says, and goes on to the next one. Where clues are wanted the reply has them.
     #[tactic(auto, unfolding(crate::specs::Answer::line_answer, crate::specs::Answer::line_left, crate::specs::Answer::LineNeedsMemory, crate::specs::Remark::remark_by, crate::specs::Remark::remark_on))]
-    pub(crate) fn reply(&mut self, alloc: Global, line: &[u8]) -> Result<Reply, AllocError>
+    pub(crate) fn reply(
+        &mut self,
+        alloc: Global,
+        wanted: bool,
+        line: &[u8],
+    ) -> Result<Reply, AllocError>
         requires { self.old.line + 1 < 2 ^ 64 }
         ensures text { IfOk result (λ reply.
             reply_text self.old.line reply ≡ line_answer self.old (reading_of line.now)) }
-        ensures remark { IfOk result (λ reply. remark_by line.now (reading_of line.now) reply
+        ensures remark { IfOk result (λ reply. wanted ≡ true → remark_by line.now reply
             ≡ remark_on self.old.marked line.now (reading_of line.now)) }
         ensures left { OnOk result (self.new ≡ line_left self.old (reading_of line.now)) }
         ensures err { OnErr result (LineNeedsMemory self.old.marked (reading_of line.now)) }
@@ -99,7 +105,8 @@ impl Runner {
             Ok(LineReading::TooLong) => Ok(self.pass(Reply::TooLong)),
             Ok(LineReading::NoCommand) => Ok(self.pass(Reply::NoCommand)),
             Ok(LineReading::Said(command)) => {
-                let reply = settled(answer(alloc, &mut self.session, command))?;
+                let clues = clues_of(wanted, &command);
+                let reply = settled(clues, answer(alloc, &mut self.session, command))?;
                 Ok(self.pass(reply))
             }
             Err(refused) => Err(refused),

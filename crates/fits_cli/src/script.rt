@@ -40,8 +40,9 @@ fn answer_line<O: Sink, E: Sink>(
     ensures line { OnOk result (runner.new.line ≡ runner.old.line + 1) }
 {
     let number = runner.line();
-    let reply = runner.reply(alloc, line)?;
-    let remark = remark_on(alloc, told.is_some(), line, &reply)?;
+    let wanted = told.is_some();
+    let reply = runner.reply(alloc, wanted, line)?;
+    let remark = remark_on(wanted, line, &reply);
     print_answer(out, number, &reply, remark.is_some())?;
     say(told, number, &remark);
     Ok(())
