@@ -11,13 +11,14 @@ use Rattle.fits_cli.specs.declared.reply.Reply.{Reply}
 
 -- nothing is said
 IsSaid-none : (a : SinkState) → IsSaid [] a a
-IsSaid-none a = record { later = omega arith; bytes = λ quiet. Appends-none a.contents }
+IsSaid-none a = record { later = omega arith; bytes = λ quiet. Appends-none a.contents; flushed = λ quiet was. was }
 
 -- a text, and then another
 IsSaid-more : (a b c : SinkState) (xs ys : List ℕ) → IsSaid xs a b → IsSaid ys b c → IsSaid (xs ++ ys) a c
 IsSaid-more a b c xs ys p q = record {
   later = omega (arith, p.later, q.later);
   bytes = λ quiet. Appends-more a.contents b.contents c.contents xs ys (p.bytes (omega (arith, quiet, p.later, q.later))) (q.bytes (omega (arith, quiet, p.later, q.later)));
+  flushed = λ quiet was. q.flushed (omega (arith, quiet, p.later, q.later)) (p.flushed (omega (arith, quiet, p.later, q.later)) was);
 }
 
 -- no remark

@@ -1,4 +1,4 @@
--- How a run of `edit -c` ends: nothing is saved where errors are new (own).
+-- How a run of `edit -c` ends: nothing is saved where the result has more errors of some code than the file (own).
 use Rattle.std.specs.Prelude.{◌≡◌, ◌⊎◌, ℕ, ◌<◌, Bool, List, ◌++◌, length, Option, None, Result, Ok, Err, MatchOption, if◌then◌else◌}
 use Rattle.fits_stream.specs.Intake.{Tells}
 use Rattle.fits_stream.specs.Stream.{SourceState, SinkState, Prints, PrintsFront}

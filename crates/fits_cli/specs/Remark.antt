@@ -88,31 +88,32 @@ value_reason (Some why) = Unwritten why
 abbrev pub clues_of : Command → Clues
 clues_of command = record { name = name_in command; unwritable = unwritable_in command }
 
--- what a refusal comes from by that
-abbrev pub clues_reason : Clues → Refusal → Reason
-clues_reason clues refusal.NoKey = name_reason clues.name
-clues_reason clues refusal.BadName = name_reason clues.name
-clues_reason clues refusal.BadValue = value_reason clues.unwritable
-clues_reason clues why = Plain
+-- a carriage return at the end of a line is a byte of its name or its card; where it has none, this
+abbrev pub unless_returned : List ℕ → Reason → Reason
+unless_returned line reason = if ends_in_return line then CarriageReturn else reason
 
--- what it comes from, as far as the line tells
+-- what a refusal comes from, as far as the line tells
 unfoldable pub reason_of : List ℕ → Clues → Refusal → Reason
-reason_of line clues why = if ends_in_return line then CarriageReturn else clues_reason clues why
+reason_of line clues refusal.NoKey = unless_returned line (name_reason clues.name)
+reason_of line clues refusal.BadName = unless_returned line (name_reason clues.name)
+reason_of line clues refusal.BadText = unless_returned line Plain
+reason_of line clues refusal.BadValue = value_reason clues.unwritable
+reason_of line clues why = Plain
 
 -- what a refusal says in words
 abbrev pub plain_text : Refusal → List ℕ
-plain_text refusal.NoHdu = codes "no HDU has this number"
-plain_text refusal.NoCard = codes "no card stands at this place"
-plain_text refusal.NoKey = codes "no card says this"
+plain_text refusal.NoHdu = codes "the number of the HDU is 0 or too great"
+plain_text refusal.NoCard = codes "a place is 0 or too great"
+plain_text refusal.NoKey = codes "no card of this name has a value"
 plain_text refusal.BadText = codes "a byte of the card is no character of text"
 plain_text refusal.EndCard = codes "the card is named END"
-plain_text refusal.Shape = codes "the cards would describe another shape, or none"
+plain_text refusal.Shape = codes "the cards wouldn't describe the data"
 plain_text refusal.BadName = codes "not the name of a keyword with a value"
 plain_text refusal.BadValue = codes "its card can't be read"
 plain_text refusal.NotImage = codes "the HDU is no image of integers"
-plain_text refusal.BadRect = codes "the corners don't lie in the axes, in order"
+plain_text refusal.BadRect = codes "the rectangle isn't lo:hi in each axis"
 plain_text refusal.WrongCount = codes "more or fewer values than pixels"
-plain_text refusal.Range = codes "a pixel of this kind can't have this value"
+plain_text refusal.Range = codes "a value that no pixel of this kind can have"
 plain_text refusal.PrimaryStays = codes "the primary HDU stays where it is"
 plain_text refusal.TooLarge = codes "the file would pass a limit"
 plain_text refusal.Memory = codes "out of memory"
@@ -162,10 +163,11 @@ unfoldable pub remarks : Standing → List (List ℕ) → List ℕ
 remarks standing [] = []
 remarks standing (line ∷ lines) = line_remark standing line ++ remarks (line_left standing (reading_of line)) lines
 
--- a text was written to a sink, as far as no call failed: one that does loses some of it, and ends nothing
+-- a text was written to a sink and passed on, as far as no call failed: one that does loses some of it, and ends nothing
 pub record IsSaid (text : List ℕ) (old new : SinkState) : Type 0 where
   pub later : old.failures ≤ new.failures
   pub bytes : new.failures ≡ old.failures → Appends old.contents new.contents text
+  pub flushed : new.failures ≡ old.failures → old.unflushed ≡ 0 → new.unflushed ≡ 0
 
 -- the same where remarks may go nowhere
 abbrev pub Remarks : List ℕ → Option SinkState → Option SinkState → Type 0

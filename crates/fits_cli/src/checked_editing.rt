@@ -1,4 +1,4 @@
-//! The run of `edit -c`: nothing is saved where the script makes errors that the file hadn't.
+//! The run of `edit -c`: nothing is saved where the result has more errors of some code than the file.
 ghost use Rattle.std.specs.Prelude.{◌≡◌, IfOk, IfErr, OnErr, OnOk};
 ghost use Rattle.std.specs.Option.{option_map};
 ghost use Rattle.fits_stream.specs.Stream.{SinkState};

@@ -3,7 +3,7 @@ ghost use Rattle.std.specs.Prelude.{◌≡◌, true, Some};
 ghost use Rattle.std.specs.Char.{is_ascii_lowercase};
 ghost use Rattle.std.specs.List.{list_any};
 ghost use Rattle.fits_script.specs.Misfit.{ends_in_return};
-ghost use Rattle.fits_cli.specs.Remark.{clues_of, clues_reason, name_in, name_of_cards, name_of_edit, name_of_hdu, name_reason, reason_of};
+ghost use Rattle.fits_cli.specs.Remark.{clues_of, name_in, name_of_cards, name_of_edit, name_of_hdu, name_reason, reason_of, unless_returned};
 ghost use Rattle.fits_cli.specs.Remark.{unwritable_in, unwritable_of_cards, unwritable_of_edit, unwritable_of_hdu, value_reason};
 
 use crate::clues::Clues;
@@ -34,10 +34,23 @@ pub(crate) fn clues_of(wanted: bool, command: &Command) -> Clues
 pub(crate) fn reason_of(line: &[u8], clues: Clues, why: Refusal) -> Reason
     ensures { result ≡ reason_of line.now clues why }
 {
+    match why {
+        Refusal::NoKey => unless_returned(line, name_reason(clues.name)),
+        Refusal::BadName => unless_returned(line, name_reason(clues.name)),
+        Refusal::BadText => unless_returned(line, Reason::Plain),
+        Refusal::BadValue => value_reason(clues.unwritable),
+        _ => Reason::Plain,
+    }
+}
+
+// A carriage return at the end of a line is a byte of its name or its card.
+fn unless_returned(line: &[u8], reason: Reason) -> Reason
+    ensures { result ≡ unless_returned line.now reason }
+{
     if ends_in_return(line) {
         Reason::CarriageReturn
     } else {
-        clues_reason(clues, why)
+        reason
     }
 }
 
@@ -46,17 +59,6 @@ fn ends_in_return(line: &[u8]) -> bool
     ensures { result ≡ ends_in_return line.now }
 {
     matches!(line, [.., b'\r'])
-}
-
-// The same, as far as the command tells.
-fn clues_reason(clues: Clues, why: Refusal) -> Reason
-    ensures { result ≡ clues_reason clues why }
-{
-    match why {
-        Refusal::NoKey | Refusal::BadName => name_reason(clues.name),
-        Refusal::BadValue => value_reason(clues.unwritable),
-        _ => Reason::Plain,
-    }
 }
 
 // A keyword name with a small letter is none.

@@ -1,11 +1,11 @@
 //! A script, answered line by line as it comes.
-ghost use Rattle.std.specs.Prelude.{◌≡◌, ◌<◌, ◌≤◌, ◌+◌, ◌^◌, ◌++◌, [], length, IfErr, OnOk};
+ghost use Rattle.std.specs.Prelude.{◌≡◌, ◌<◌, ◌≤◌, ◌+◌, ◌^◌, ◌++◌, true, [], length, IfErr, OnOk};
 ghost use Rattle.std.specs.Prelude.{vec_capacity, vec_len};
+ghost use Rattle.std.specs.Option.{option_map};
 ghost use Rattle.fits_stream.specs.Stream.{Prints};
 ghost use Rattle.fits_script.specs.Line.{reading_of};
 ghost use Rattle.fits_cli.specs.Faults.{PrintFails};
 ghost use Rattle.fits_cli.specs.Reply.{reply_text};
-ghost use Rattle.std.specs.Option.{option_map};
 ghost use Rattle.fits_cli.specs.Running.{heard, kept_of, AnswersLine, AnswersScript, Continues};
 ghost use Rattle.fits_cli.specs.Running.{EndsScript, EndStops, LineStops, PieceStops, ScriptStops};
 
@@ -48,8 +48,8 @@ fn answer_line<O: Sink, E: Sink>(
     Ok(())
 }
 
-// Prints what a line comes to. Before a remark on it that is passed on, so that who reads both has
-// the answer first.
+// Prints what a line comes to, and passes it on at once where a remark on it follows, so that who
+// reads both has the answer first.
 #[tactic(auto, using(fits_stream::proofs::StreamLemmas::flush_steps))]
 fn print_answer<O: Sink>(
     out: &mut O,
@@ -61,6 +61,7 @@ fn print_answer<O: Sink>(
         (O.state out.old) (O.state out.new)) }
     ensures err { IfErr result (PrintFails (reply_text number reply.now)
         (O.state out.old) (O.state out.new)) }
+    ensures flushed { at_once ≡ true → OnOk result ((O.state out.new).unflushed ≡ 0) }
 {
     print_reply(out, number, reply)?;
     if at_once { flush(out) } else { Ok(()) }
