@@ -42,7 +42,7 @@ fn edit<'a>(alloc: Global) -> Result<Command<'a>, AllocError> {
         .num_args(0..)
         .requires_arg("in-place")?;
     let whole = "Save nothing unless every line is done";
-    let checked = "Save nothing if the result has more of some error than IN; print the new errors";
+    let checked = "Save nothing if the result has more errors of some code than IN, and print them";
     let in_place = "Edit IN, and each further file, where it stands; there is no OUT";
     scripted(alloc, "edit", EDIT)?
         .arg(flag(alloc, "all", 'a', whole))?

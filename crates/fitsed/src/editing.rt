@@ -120,7 +120,7 @@ fn edited<R: Files<File = File> + AllocGlobal, S: Source, O: Sink>(
     let Ok(file) = fs::open(rt, paths.from) else {
         return ended(End::from(Fault::ReadFailed));
     };
-    let Ok(before) = before_remarks(rt.alloc(), paths.to, paths.named) else {
+    let Ok(before) = before_remarks(rt.alloc(), told, paths.to, paths.named) else {
         return ended(End::from(Fault::Memory));
     };
     let Ok(mut told) = remarks_after(rt.alloc(), told, &before) else {

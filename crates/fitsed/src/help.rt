@@ -22,7 +22,8 @@ pub(crate) const CARDS: &str = "Prints the cards of headers";
 
 pub(crate) const STATUSES: &str = "Exit status:
   0  done
-  1  a line of the script was refused or bad; verify found an error
+  1  a line of the script was refused or bad; verify found an error, or edit -c more than there
+     were
   2  a wrong command line, a file that doesn't open, or a script that is too long
   3  a file or stream can't be read or written, or memory ran out
 
@@ -114,9 +115,8 @@ pub(crate) const LINES: &str = "Lines of the script, words separated by one spac
 
 Exit status:
   0  done
-  1  a line of the script was refused or bad; the others were done, and OUT was saved unless
-     -a was given; or with -c an error is new: each is printed after a plus sign, and OUT
-     was not saved
+  1  a line of the script was refused or bad: the others were done, and edit saved OUT, but
+     not with -a; or there were more errors than in IN, and edit -c saved nothing
   2  a wrong command line, a file that doesn't open, or a script that is too long
   3  a file or stream can't be read or written, or memory ran out
 

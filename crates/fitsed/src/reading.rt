@@ -191,7 +191,7 @@ fn asked<F: Source, S: Source, O: Sink>(
     script: &mut S,
     out: &mut O,
 ) -> End {
-    let Ok(before) = before_remarks(alloc, path, named) else {
+    let Ok(before) = before_remarks(alloc, told, path, named) else {
         return End::from(Fault::Memory);
     };
     let Ok(mut told) = remarks_after(alloc, told, &before) else {

@@ -7,8 +7,16 @@ use std::io::{BufWriter, Stderr};
 /// Remarks, with the program's name before each, and a file's where several are told apart.
 pub type Remarks<'n> = NamedLines<'n, Watched<BufWriter<Stderr>>>;
 
-/// What stands before each remark on a script over a file.
-pub fn before_remarks(alloc: Global, path: &str, named: bool) -> Result<String, AllocError> {
+/// What stands before each remark on a script over a file; nothing where none are wanted.
+pub fn before_remarks(
+    alloc: Global,
+    told: Option<Stderr>,
+    path: &str,
+    named: bool,
+) -> Result<String, AllocError> {
+    if told.is_none() {
+        return Ok(String::new(alloc));
+    }
     if named {
         format!(in alloc; "fitsed: {path}: ")
     } else {

@@ -50,7 +50,7 @@ pub enum Task<'m, 'a> {
 pub struct Terms {
     /// Only where every line was done.
     pub whole: bool,
-    /// Only where no error is new.
+    /// Only where there are no more errors of any code.
     pub checked: bool,
 }
 
