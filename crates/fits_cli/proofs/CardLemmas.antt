@@ -1,27 +1,23 @@
 -- Cards as they are chosen and printed.
-use Rattle.std.proofs.Common.{◌≡◌, ℕ, suc, ◌+◌, ◌-◌, ◌<◌, ◌≤◌, ◌==◌, Bool, true, false, not, ◌&&◌, ◌||◌, List, [], ◌∷◌, ◌++◌, length, take, drop, map, set, get_or, slice_index_or, Option, refl, ap, sym, subst, inl, inr, rules, ◌∙◌, append_assoc, arith, if◌then◌else◌}
-use Rattle.std.proofs.lemmas.List.{get_or-map, length-map, take_all}
+use Rattle.std.proofs.Common.{◌≡◌, ℕ, suc, ◌+◌, ◌-◌, ◌<◌, ◌==◌, Bool, false, not, ◌&&◌, ◌||◌, List, [], ◌∷◌, ◌++◌, length, take, drop, map, set, get_or, slice_index_or, Option, refl, ap, sym, subst, rules, ◌∙◌, append_assoc, arith, if◌then◌else◌}
+use Rattle.std.proofs.lemmas.List.{get_or-map, length-map}
 use Rattle.std.proofs.lemmas.List.Concat.{flat_map-append}
 use Rattle.std.proofs.Math.Seq.{drop-cons, map-set_same}
 use Rattle.fits_card.specs.Card.{keyword_name}
 use Rattle.fits_card.specs.CardList.{CardStore}
 use Rattle.fits_header.specs.Links.{header_links, leaves_open, links_from, string_mark}
-use Rattle.fits_stream.specs.Intake.{TakingStops}
-use Rattle.fits_stream.specs.Stream.{SourceState, SinkState, Flushes, Prints, StaysQuiet}
-use Rattle.fits_stream.specs.declared.reading.ReadFault.{ReadFault}
-use Rattle.fits_stream.specs.declared.reading.ReadFault.TheVariants as read_fault
-use Rattle.fits_stream.proofs.StreamLemmas.{Prints-flushed, Prints-more, PrintsFront-unflushed}
+use Rattle.fits_stream.specs.Stream.{SourceState, SinkState, Prints, StaysQuiet}
+use Rattle.fits_stream.proofs.StreamLemmas.{Prints-more, PrintsFront-unflushed}
 use Rattle.fits_session.specs.Headers.{read_cards, ShowsHeaders}
 use Rattle.fits_session.specs.declared.open_fault.OpenFault.{OpenFault}
-use Rattle.fits_cli.specs.Cards.{all_chosen, card_line, card_lines, cards_text, changed_at, changed_of, chosen_from, chosen_in, end_by, has_name, has_some, CardsAreShown, CardsStop}
-use Rattle.fits_cli.specs.Faults.{fault_of_read, FlushFails}
+use Rattle.fits_cli.specs.Cards.{all_chosen, card_line, card_lines, cards_text, changed_at, changed_of, chosen_from, chosen_in, has_name, has_some, CardsStop}
+use Rattle.fits_cli.specs.Faults.{FlushFails}
 use Rattle.fits_cli.specs.Numbered.{numbered}
 use Rattle.fits_cli.specs.Telling.{PrintingStops}
 use Rattle.fits_cli.specs.declared.card_choice.CardChoice.{CardChoice}
 use Rattle.fits_cli.specs.declared.card_place.CardPlace.{CardPlace}
-use Rattle.fits_cli.specs.declared.end.End.{End}
 use Rattle.fits_cli.specs.declared.fault.Fault.{Fault}
-use Rattle.fits_cli.specs.declared.fault.Fault.TheVariants.{Refused, ScriptTooLong, Memory, ReadFailed, WriteFailed}
+use Rattle.fits_cli.specs.declared.fault.Fault.TheVariants.{Memory}
 use Rattle.fits_cli.specs.declared.shown_card.ShownCard.{ShownCard}
 use Rattle.fits_cli.proofs.NumberedLemmas.{numbered-more, numbered-split}
 use Rattle.fits_cli.proofs.VerifyingLemmas.{PrintingStops-longer, PrintingStops-more, PrintingStops-none}

@@ -16,7 +16,7 @@ use Rattle.fits_session.specs.declared.open_fault.OpenFault.TheVariants.{NotFits
 use Rattle.fits_session.specs.declared.read_fault.ReadFileFault.{ReadFileFault}
 use Rattle.fits_session.specs.declared.read_fault.ReadFileFault.TheVariants.{Open, Failed}
 use Rattle.fits_cli.specs.Answer.{Standing, at_first_line}
-use Rattle.fits_cli.specs.Ends.{RunState, AreAllRemarks, AreRemarksOn, AreToldOf, AsksAs, AsksBy, EndsBy, FlushesOrFails, EndsWhole, EndsWholeAs, Opens, HasLines, IsAsked, IsDoneWhole, IsRefused, IsUndone, Succeeds, AnswersFail, StopsBy}
+use Rattle.fits_cli.specs.Ends.{RunState, AreAllRemarks, AreToldOf, AsksAs, AsksBy, EndsBy, FlushesOrFails, EndsWhole, Opens, HasLines, IsAsked, IsDoneWhole, IsRefused, IsUndone, Succeeds, AnswersFail, StopsBy}
 use Rattle.fits_cli.specs.Faults.{fault_of_file, status_of_fault, PrintFails}
 use Rattle.fits_cli.specs.declared.end.End.{End}
 use Rattle.fits_cli.specs.declared.limits.TheConstants.{SCRIPT_LIMIT}

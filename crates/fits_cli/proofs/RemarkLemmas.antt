@@ -1,5 +1,5 @@
 -- What hears of the lines of a script: answers, and remarks, put together.
-use Rattle.std.proofs.Common.{◌≡◌, ℕ, ◌+◌, ◌≤◌, Bool, true, List, [], ◌++◌, refl, ap, sym, subst, ◌∙◌, arith, Option, None, Some, option_map, is_some}
+use Rattle.std.proofs.Common.{◌≡◌, ℕ, Bool, true, List, [], ◌++◌, ap, sym, subst, ◌∙◌, arith, Option, None, Some, option_map, is_some}
 use Rattle.fits_stream.specs.Stream.{SinkState}
 use Rattle.fits_stream.proofs.StreamLemmas.{Appends-more, Appends-none, Prints-none, Prints-more}
 use Rattle.fits_script.specs.Line.{reading_of}

@@ -7,18 +7,15 @@ use Rattle.fits_stream.specs.Stream.{SourceState, SinkState, Prints, StaysQuiet}
 use Rattle.fits_rules.specs.Class.{is_primary}
 use Rattle.fits_rules.specs.Shape.{shape_of}
 use Rattle.fits_hdu.specs.Hdu.{HduParts, IsHdu}
-use Rattle.fits_hdu.specs.Pixels.{Stats, stats_of, AreStatsOf}
 use Rattle.fits_hdu.specs.declared.hdu_stats.HduStats.{HduStats}
 use Rattle.fits_hdu.proofs.ShapeLemmas.{one_primary}
 use Rattle.fits_session.specs.File.{FileParts, IsFileOf}
 use Rattle.fits_session.specs.Edit.{is_primary_hdu}
 use Rattle.fits_session.specs.Reading.{are_stats, AreStatisticsOfFile, KeepsEach}
-use Rattle.fits_cli.specs.Faults.{PrintFails}
 use Rattle.fits_cli.specs.Numbered.{numbered}
 use Rattle.fits_cli.specs.Stating.{stat_line, stat_line_by, stat_line_of, stat_lines, stating}
 use Rattle.fits_cli.specs.Telling.{PrintingStops, TextIsTold, TextStopsBy}
 use Rattle.fits_cli.specs.declared.fault.Fault.{Fault}
-use Rattle.fits_cli.specs.declared.fault.Fault.TheVariants.{Memory}
 use Rattle.fits_cli.specs.declared.telling.Telling.TheVariants as telling
 use Rattle.fits_cli.proofs.TellingLemmas.{TextStopsBy-printing}
 

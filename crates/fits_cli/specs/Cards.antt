@@ -1,10 +1,9 @@
 -- What `cards` prints: cards of headers, a line each (own; FITS Standard 4.0, section 4.1).
-use Rattle.std.specs.Prelude.{◌≡◌, ◌⊎◌, ℕ, ◌+◌, ◌==◌, Bool, true, false, not, ◌&&◌, ◌||◌, List, [], ◌∷◌, ◌++◌, length, take, map, codes, Option, Some, None, if◌then◌else◌}
+use Rattle.std.specs.Prelude.{◌≡◌, ◌⊎◌, ℕ, ◌+◌, ◌==◌, Bool, false, not, ◌&&◌, ◌||◌, List, [], ◌∷◌, ◌++◌, length, take, map, codes, Option, Some, None, if◌then◌else◌}
 use Rattle.std.specs.Fmt.{decimal}
 use Rattle.std.specs.List.{flat_map, list_any}
 use Rattle.std.specs.Str.{bytes_eq}
 use Rattle.fits_card.specs.Card.{keyword_name, is_text, is_text_byte}
-use Rattle.fits_card.specs.declared.card.Card.{Card}
 use Rattle.fits_value.specs.Text.{trimmed}
 use Rattle.fits_header.specs.Links.{header_links}
 use Rattle.fits_stream.specs.Stream.{SourceState, SinkState, AppendsFront, FailsOnce, Prints, PrintsFront, StaysQuiet}

@@ -4,7 +4,7 @@ use Rattle.std.specs.Char.{is_ascii_lowercase}
 use Rattle.std.specs.Io.KnownBytes.{Appends}
 use Rattle.std.specs.List.{list_any}
 use Rattle.std.specs.Option.{option_map}
-use Rattle.fits_stream.specs.Stream.{SinkState, Prints}
+use Rattle.fits_stream.specs.Stream.{SinkState}
 use Rattle.fits_value.specs.Unwritable.{unwritable_of}
 use Rattle.fits_value.specs.declared.unwritable.Unwritable.{Unwritable}
 use Rattle.fits_session.specs.Marked.{Marked}

@@ -1,11 +1,11 @@
 -- The headers of a source, as far as they can be read.
-use Rattle.std.proofs.Common.{◌≡◌, ℕ, ◌+◌, ◌<◌, ◌≤◌, Bool, true, false, List, [], ◌∷◌, ◌++◌, length, take, map, refl, subst, ap, sym, ◌∙◌, arith, Option, Some, None, IfSome, inl, inr}
+use Rattle.std.proofs.Common.{◌≡◌, ℕ, ◌+◌, ◌<◌, ◌≤◌, Bool, true, false, List, [], ◌∷◌, ◌++◌, length, refl, subst, ap, sym, ◌∙◌, arith, Option, Some, None, IfSome, inl, inr}
 use Rattle.std.specs.Prelude.{nat_eq, IsTrue, ◌↔◌}
 use Rattle.std.proofs.lemmas.Bool.{cases_lt}
 use Rattle.std.proofs.lemmas.List.{append-nil, length-append, map-append}
 use Rattle.std.specs.Io.KnownBytes.{Consumes}
 use Rattle.fits_card.specs.CardList.{CardStore}
-use Rattle.fits_stream.specs.Intake.{supply, Finds, IntakeState, IsSpent, Supply, Takes}
+use Rattle.fits_stream.specs.Intake.{supply, Finds, IntakeState, IsSpent, Supply}
 use Rattle.fits_stream.specs.Stream.{SourceState}
 use Rattle.fits_stream.proofs.SightLemmas.{finds_begun, finds_next, finds_spent, past_limit, within_limit}
 use Rattle.fits_hdu.specs.Hdu.{HduParts}
@@ -14,7 +14,7 @@ use Rattle.fits_hdu.specs.declared.fault.HduFault.{HduFault}
 use Rattle.fits_hdu.specs.declared.fault.HduFault.TheVariants as hdu_fault
 use Rattle.fits_session.specs.File.{begins_extension, is_first, joined_hdus, IsFrontOf}
 use Rattle.fits_session.specs.declared.limits.TheConstants.{FILE_LIMIT, HDU_LIMIT}
-use Rattle.fits_session.specs.Headers.{cards_of, read_cards, AreHeadersIn, FaultStays, HeadersTellFaults, HeadersTellFiles, IsFirstOf, ShowsHeaders, StopsBy, StopsHere}
+use Rattle.fits_session.specs.Headers.{cards_of, read_cards, AreHeadersIn, HeadersTellFaults, HeadersTellFiles, ShowsHeaders, StopsBy, StopsHere}
 use Rattle.fits_session.specs.Opening.{BeginsAsFits, FailsAt, HasOpenFault, open_fault_of}
 use Rattle.fits_session.specs.Reading.{KeepsEach, NextBegins, Walked}
 use Rattle.fits_session.specs.declared.open_fault.OpenFault.{OpenFault}

@@ -1,7 +1,7 @@
 -- The headers of a file, also of one that doesn't open: as far as they can be read (own; FITS Standard 4.0, sections 3.1 and 3.3.1).
 use Rattle.std.specs.Prelude.{◌≡◌, ◌⊎◌, ℕ, ◌+◌, ◌<◌, ◌≤◌, true, false, List, [], ◌∷◌, ◌++◌, length, take, map, Option, Some, None, IfSome, MatchOption}
 use Rattle.fits_card.specs.CardList.{CardStore}
-use Rattle.fits_stream.specs.Stream.{SourceState, StaysQuiet}
+use Rattle.fits_stream.specs.Stream.{SourceState}
 use Rattle.fits_hdu.specs.Hdu.{HduParts}
 use Rattle.fits_hdu.specs.Reading.{FailsAfter}
 use Rattle.fits_hdu.specs.declared.fault.HduFault.{HduFault}

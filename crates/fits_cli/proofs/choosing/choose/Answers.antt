@@ -1,4 +1,4 @@
-use Rattle.std.proofs.Common.{◌∙◌, ap, arith}
+use Rattle.std.proofs.Common.{arith}
 use Rattle.fits_cli.proofs.CardLemmas.{choice_more}
 use Rattle.fits_cli.proofs.choosing.choose.Goals as goal
 

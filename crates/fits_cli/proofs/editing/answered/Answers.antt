@@ -1,6 +1,5 @@
 use Rattle.std.proofs.Common.{refl}
 use Rattle.fits_session.specs.Session.{file_of}
-use Rattle.fits_cli.specs.Ends.{run, StopsBy}
 use Rattle.fits_cli.proofs.EditingLemmas.{AreToldOf-script, StopsBy-opening, StopsBy-script, fault_exit, flushed_done}
 use Rattle.fits_cli.proofs.editing.answered.Goals as goal
 

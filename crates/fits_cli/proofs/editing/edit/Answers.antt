@@ -1,4 +1,3 @@
-use Rattle.std.proofs.Common.{refl}
 use Rattle.fits_cli.proofs.EditingLemmas.{AllRemarks-answered, AreToldOf-answered, fault_exit, ends_exit, StopsBy-saving, Succeeds-saved}
 use Rattle.fits_cli.proofs.editing.edit.Goals as goal
 

@@ -1,4 +1,3 @@
-use Rattle.std.proofs.Common.{Some}
 use Rattle.fits_session.specs.Headers.{read_cards}
 use Rattle.fits_session.proofs.HeadersLemmas.{headers_over, headers_stay, over_when, within_when}
 use Rattle.fits_session.proofs.headers.read_headers.Goals as goal

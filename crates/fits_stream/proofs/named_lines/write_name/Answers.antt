@@ -1,4 +1,4 @@
-use Rattle.std.proofs.Common.{◌≡◌, ◌+◌, ◌-◌, ◌≤◌, arith, rules, subst, sym, take, drop, length, ap}
+use Rattle.std.proofs.Common.{◌+◌, ◌-◌, ◌≤◌, rules, subst, sym, take, drop, length}
 use Rattle.std.proofs.lemmas.List.{take_rest}
 use Rattle.std.specs.Io.KnownBytes.{Appends, Keeps}
 use Rattle.fits_stream.specs.Named.{told_of}

@@ -1,8 +1,7 @@
-use Rattle.std.proofs.Common.{◌≡◌, ◌<◌, ap, arith, List, ℕ}
+use Rattle.std.proofs.Common.{◌<◌, ap, arith}
 use Rattle.std.specs.Prelude.{Err}
 use Rattle.std.proofs.lemmas.Grind.{common_steps}
 use Rattle.fits_card.specs.Header.{Header}
-use Rattle.fits_rules.specs.Size.{data_length}
 use Rattle.fits_rules.proofs.LawLemmas.{shape_primary}
 use Rattle.fits_hdu.proofs.HeadedLemmas.{head_broken, head_far, head_short, head_taken, whole_comes}
 use Rattle.fits_hdu.proofs.ReadingLemmas.{hdu_passed}
