@@ -6,8 +6,11 @@
 // (writes to descriptor 1), saved (writes to any but 1 and 2, what makes them reach the device, and renamings), or each.
 // Of its calls STEP=N lets each move N bytes at most, FAIL=K lets the K-th fail, counted from 1, and STOP=K the K-th and
 // each after it.
+// DENIED=create lets no file be made that has to be new, DENIED=liken no permissions be given to one.
 // Where COUNTED is set, the number of requests, or of the stream's calls, goes to descriptor 2 at the end.
 #include <errno.h>
+#include <fcntl.h>
+#include <stdarg.h>
 #include <stdlib.h>
 #include <string.h>
 #include <sys/syscall.h>
@@ -64,6 +67,24 @@ ssize_t write(int fd, const void *bytes, size_t n) {
 int fsync(int fd) { return counts("saved") && fails() ? -1 : syscall(SYS_fsync, fd); }
 
 int rename(const char *from, const char *to) { return counts("saved") && fails() ? -1 : syscall(SYS_rename, from, to); }
+
+// Whether this is denied.
+static int denied(const char *what) {
+    const char *text = getenv("DENIED");
+    if (!text || strcmp(text, what)) return 0;
+    errno = EACCES;
+    return 1;
+}
+
+int open(const char *path, int flags, ...) {
+    va_list more;
+    va_start(more, flags);
+    int fd = flags & O_EXCL && denied("create") ? -1 : syscall(SYS_open, path, flags, va_arg(more, int));
+    va_end(more);
+    return fd;
+}
+
+int fchmod(int fd, mode_t mode) { return denied("liken") ? -1 : syscall(SYS_fchmod, fd, mode); }
 
 __attribute__((destructor)) static void end(void) {
     char text[24];

@@ -129,6 +129,42 @@ SCRIPTS += [
     ),
 ]
 
+# Three images, and bytes after them. The pixels of two are painted, printed and reshaped, and the one between them stays; or
+# those of one are printed, and the header of another is edited.
+THREE_IMAGES = (
+    b"".join(header(of) + pixels(2, numbers, 0) for of, numbers in [(THREE_PIXELS, [5, 9, 9]), (PIXEL, [7]), (PIXEL, [-300])])
+    + b"tail"
+)
+RESHAPED = PIXEL.replace("                  16|", "                  32|").replace("NAXIS1  =                    1|", "NAXIS1  =                    2|")
+SCRIPTS += [
+    (
+        THREE_IMAGES,
+        "fill 1 2:2 2\nrect 1 1:3\nreshape 3 u8 2\nreshape 3 i32 2\nrect 3 1:2\nwrite 3 2:2 1",
+        "5 2 9\nline 3: refused 12 Range\n-300 0\n",
+        1,
+        header(THREE_PIXELS)
+        + pixels(2, [5, 2, 9], 0)
+        + header(PIXEL)
+        + pixels(2, [7], 0)
+        + header(RESHAPED)
+        + pixels(4, [-300, 1], 0)
+        + b"tail",
+    ),
+    (
+        THREE_IMAGES,
+        "set 2 OBJECT 'M31'\nrect 3 1:1\noff",
+        "-300\n1 0 2880 5760\n2 5760 8640 11520\n3 11520 14400 17280\n",
+        0,
+        header(THREE_PIXELS)
+        + pixels(2, [5, 9, 9], 0)
+        + header(PIXEL.replace("|END", "|OBJECT  = 'M31     '|END"))
+        + pixels(2, [7], 0)
+        + header(PIXEL)
+        + pixels(2, [-300], 0)
+        + b"tail",
+    ),
+]
+
 # Scripts that are checked for new errors, of which the first makes one and so isn't saved: what is reported, too.
 CHECKS = [
     (
@@ -185,13 +221,25 @@ TOLD = [
 OF_SCRIPTS = {"script": (1, 7, 4096), "file": (100, 4096), "answers": (1, 7, 4096), "saved": (7, 100, 4096)}
 OF_TEXTS = {"file": (100, 4096), "answers": (1, 7, 4096)}
 
+# The same where the file of a script comes by a pipe, which changes nothing of how the script is read and answered.
+OF_PIPES = {"file": (100, 4096), "saved": (100, 4096)}
+
 READ_FAILED = b"fitsed: read failed\n"
 WRITE_FAILED = b"fitsed: write failed\n"
 NO_MEMORY = b"fitsed: no memory\n"
 FAULTS = {"script": READ_FAILED, "file": READ_FAILED, "answers": WRITE_FAILED, "saved": WRITE_FAILED}
 
-# What stands at OUT before; over IN itself, where none.
-OLD = [b"what was there", None]
+# What stands at OUT before, where that isn't IN.
+OLD = b"what was there"
+
+# What leaves that as it was where it fails: a call of a stream that moves so many bytes, or a request for memory.
+OF_OUT = [{"STREAM": "file", "STEP": "4096"}, {"STREAM": "saved", "STEP": "100"}, {"STREAM": "saved", "STEP": "4096"}]
+MEMORY = {}
+
+# A read leaves it so, too, where it is written in its place, since no file can be made beside it.
+IN_PLACE = {"STREAM": "file", "STEP": "4096", "DENIED": "create"}
+
+EDITS = [SHORTEST, QUESTIONS, *SCRIPTS]
 
 # A stream of a script over the shortest file that moves so many bytes, one a call, and then fails; and how many bytes
 # are printed and how many saved.
@@ -211,37 +259,80 @@ STOPS = [
 
 def cases():
     shim = preloaded()
-    edits = [(["edit"], *run) for run in [SHORTEST, QUESTIONS, *SCRIPTS]]
-    texts = [(words, of, "", *wanted, None) for words, of, *wanted in TOLD]
-    for words, of, script, *wanted in edits + texts:
-        run = words, of, script, whole(*wanted)
-        yield f"{words} {script}, memory", each_fails, shim, run, NO_MEMORY, "REFUSE", {}
-        for stream, steps in (OF_SCRIPTS if words == ["edit"] else OF_TEXTS).items():
-            for step in steps:
-                # a header and its data are read and written in many calls, so only the shortest by few bytes
-                if step > 100 or stream in ("script", "answers") or of == SHORTEST[0]:
-                    row = {"STREAM": stream, "STEP": str(step)}
-                    yield f"{words} {script}, {row}", each_fails, shim, run, FAULTS[stream], "FAIL", row
-        yield f"{words} {script}, a byte a call", slow, shim, run
-        for stream in ("answers", "saved") if words == ["edit"] else ("answers",):
-            yield f"{words} {script}, {stream} that are stuck", stuck, shim, run, stream
-        if words == ["edit"]:
-            for old in OLD:
-                for step in (100, 4096):
-                    yield f"{script}, over {old or 'IN'}, {step}", over, shim, run, old, step
+    yield from of_scripts(shim, OF_SCRIPTS)
+    yield from ((f"{name}, by a pipe", by_pipe, *row) for name, *row in of_scripts(shim, OF_PIPES))
+    yield from over_itself(shim)
+    yield from of_texts(shim)
+
+
+def of_scripts(shim, streams):
+    yield from of_edits(shim, streams)
+    yield from of_checks(shim, streams)
+    yield from of_stops(shim, streams)
+
+
+def of_edits(shim, streams):
+    for of, script, *wanted in EDITS:
+        run = ["edit"], of, script, whole(*wanted)
+        yield from of_run(shim, run, streams)
+        yield f"edit {script}, saved that are stuck", stuck, shim, run, "saved"
+        yield from over_out(shim, run, OLD)
+
+
+def over_itself(shim):
+    for of, script, *wanted in EDITS:
+        yield from over_out(shim, (["edit"], of, script, whole(*wanted)), None)
+
+
+def over_out(shim, run, old):
+    """What is tried with a run over a file that stands at OUT; refused memory with images alone, since it takes many runs."""
+    _, of, script, _ = run
+    for row in [*OF_OUT, IN_PLACE, MEMORY] if of == THREE_IMAGES else OF_OUT:
+        yield f"edit {script}, over {old or 'IN'}, {row or 'memory'}", over, shim, run, old, row
+
+
+def of_texts(shim):
+    for words, of, *wanted in TOLD:
+        yield from of_run(shim, (words, of, "", whole(*wanted, None)), OF_TEXTS)
+
+
+def of_run(shim, run, streams):
+    """What is tried with each run."""
+    words, of, script, _ = run
+    yield f"{words} {script}, memory", each_fails, shim, run, NO_MEMORY, "REFUSE", {}
+    for stream, steps in streams.items():
+        for step in steps:
+            # a header and its data are read and written in many calls, so only the shortest by few bytes
+            if step > 100 or stream in ("script", "answers") or of == SHORTEST[0]:
+                row = {"STREAM": stream, "STEP": str(step)}
+                yield f"{words} {script}, {row}", each_fails, shim, run, FAULTS[stream], "FAIL", row
+    yield f"{words} {script}, a byte a call", slow, shim, run
+    yield f"{words} {script}, answers that are stuck", stuck, shim, run, "answers"
+
+
+def of_checks(shim, streams):
     for of, script, *wanted in CHECKS:
         run = ["edit", "-c"], of, script, whole(*wanted)
         yield f"edit -c {script}, memory", each_fails, shim, run, NO_MEMORY, "REFUSE", {}
-        for stream, steps in OF_SCRIPTS.items():
+        for stream, steps in streams.items():
             # nothing is saved by the first
             if run[3]["saved"] is not None or stream != "saved":
                 row = {"STREAM": stream, "STEP": str(steps[-1])}
                 yield f"edit -c {script}, {row}", each_fails, shim, run, FAULTS[stream], "FAIL", row
         yield f"edit -c {script}, a byte a call", slow, shim, run
         yield f"edit -c {script}, answers that are stuck", stuck, shim, run, "answers"
+
+
+def of_stops(shim, streams):
     for run, stops in ((SHORTEST, STOPS), (QUESTIONS, ASKED_STOPS)):
         for stop in stops:
-            yield f"{run[1]}, {stop}", stopped, shim, run, *stop
+            if stop[0] in streams:
+                yield f"{run[1]}, {stop}", stopped, shim, run, *stop
+
+
+def by_pipe(program, check, *of_row):
+    """Where a run comes to something else if the file of its script comes by a pipe."""
+    return check(program.by_pipe(), *of_row)
 
 
 def whole(printed, status, saved, reported=""):
@@ -288,17 +379,21 @@ def fronts(ran, fault, wanted, stream):
             yield f"it saves {shown(ran.saved)}"
 
 
-def over(program, shim, run, old, step):
-    """Where what stands at OUT isn't kept by a run whose first, second .. call of saving fails, up to the first that
-    fails none, which has to be whole; or where another file is left beside it."""
+def over(program, shim, run, old, row):
+    """Where what stands at OUT isn't kept by a run whose first, second .. call or request fails, up to the first that meets
+    none, which has to be whole; or where another file is left beside it."""
     _, of, script, wanted = run
+    kept, stream = of if old is None else old, row.get("STREAM")
     for k in range(1, 100_000):
-        row = {"STREAM": "saved", "STEP": str(step), "FAIL": str(k), "COUNTED": "1"}
-        ran, count = counted(program.under(LD_PRELOAD=shim, **row).edit_over(of, script.encode("latin-1"), old))
-        ends = {**wanted, "left": frozenset()}
-        if count >= k:
-            ends |= {"status": 3, "reported": WRITE_FAILED, "saved": of if old is None else old}
-        for line in differences(ran, **ends):
+        under = {"FAIL" if stream else "REFUSE": str(k), "COUNTED": "1", **row}
+        ran, count = counted(program.under(LD_PRELOAD=shim, **under).edit_over(of, script.encode("latin-1"), old))
+        if count < k or not stream and ran.status != 3:
+            ends = wanted
+        else:
+            # all is printed before anything is saved
+            printed = wanted["printed"][: None if stream == "saved" else len(ran.printed)]
+            ends = {"status": 3, "printed": printed, "reported": FAULTS.get(stream, NO_MEMORY), "saved": kept}
+        for line in differences(ran, **ends, left=frozenset()):
             yield f"the fault at {k}: {line}"
         if count < k:
             break

@@ -410,7 +410,7 @@ def says(program, about, line, plain):
 
 def long_script(program, file, parts, answers, fault):
     """Where a long script isn't answered so, ends by another fault, or saves a file in spite of one."""
-    pieces = itertools.chain(*(itertools.repeat(text.encode("latin-1"), times) for text, times in parts))
+    pieces = [piece for text, times in parts for piece in itertools.repeat(text.encode("latin-1"), times)]
     ran = program.edit_by(file, pieces)
     status, saved = (2, None) if fault else (0, file)
     return differences(ran, status=status, printed=answers.encode("latin-1"), reported=fault.encode("latin-1"), saved=saved)

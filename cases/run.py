@@ -1,9 +1,12 @@
 #!/usr/bin/env python3
 """Runs a built `fitsed` over each row of the tables beside this file, and says where one comes to something else.
+Scripts over files are rows once more, by pipes.
 
 `cases/run.py [PROGRAM]`; its last line is 'N passed, M failed'."""
 import concurrent.futures
 import functools
+import itertools
+import multiprocessing
 import os
 import subprocess
 import sys
@@ -19,6 +22,7 @@ import lines
 import listings
 import long_scripts
 import mending
+import one_file
 import openings
 import pixel_edits
 import planes
@@ -45,30 +49,40 @@ TABLES = [
     codes,
     mending,
     faults,
+    one_file,
     long_scripts,
     documents,
 ]
 
+# The rows of all tables, each after the name of its table.
+ROWS = []
 
-def checked(fitsed, row):
-    """Where a row comes to something else. A run that hangs, or saves nothing to go on with, does so too."""
-    _, _, check, *of_row = row
+
+def checked(path, index):
+    """A row, and where it comes to something else; where it runs scripts over files, another: what they come to by pipes. A run
+    that hangs, or saves nothing to go on with, comes to something else too."""
+    table, name, check, *of_row = ROWS[index]
+    fitsed, title = program.BothWays(path), f"{table}, {program.shown(name)}"
     try:
-        return list(check(fitsed, *of_row))
+        found = list(check(fitsed, *of_row))
     except (OSError, TypeError, ValueError, LookupError, AttributeError, subprocess.TimeoutExpired) as error:
-        return [repr(error)]
+        found = [repr(error)]
+    by_pipe = [(f"{title}, by a pipe", sum(fitsed.apart, []))] if fitsed.apart else []
+    return [(title, found), *by_pipe]
 
 
 def main(words):
-    fitsed = program.Program(*words or ["crates/fitsed/out/fitsed"])
-    rows = [(table.__name__, *row) for table in TABLES for row in table.cases()]
-    with concurrent.futures.ThreadPoolExecutor(len(os.sched_getaffinity(0))) as pool:
-        found = list(pool.map(functools.partial(checked, fitsed), rows))
-    for (table, name, *_), lines_of in zip(rows, found):
-        for line in lines_of:
-            print(f"FAILED: {table}, {program.shown(name)}: {line}")
-    failed = sum(map(bool, found))
-    print(f"{len(rows) - failed} passed, {failed} failed")
+    path = words[0] if words else "crates/fitsed/out/fitsed"
+    ROWS.extend((table.__name__, *row) for table in TABLES for row in table.cases())
+    # processes that are forked have the rows
+    fork = multiprocessing.get_context("fork")
+    with concurrent.futures.ProcessPoolExecutor(len(os.sched_getaffinity(0)), fork) as pool:
+        done = list(itertools.chain.from_iterable(pool.map(functools.partial(checked, path), range(len(ROWS)))))
+    for title, found in done:
+        for line in found:
+            print(f"FAILED: {title}: {line}")
+    failed = sum(bool(found) for _, found in done)
+    print(f"{len(done) - failed} passed, {failed} failed")
     return int(failed > 0)
 
 

@@ -5,6 +5,7 @@ pub mod HeadedLemmas
 pub mod KeywordLemmas
 pub mod LayoutLemmas
 pub mod OpenLemmas
+pub mod PassedLemmas
 pub mod PassingLemmas
 pub mod PixelLemmas
 pub mod ReadingLemmas
@@ -18,7 +19,6 @@ pub mod StampingLemmas
 pub mod StandardFacts
 pub mod StateLemmas
 pub mod StatsLemmas
-pub mod UnitLemmas
 pub mod VerdictLemmas
 pub mod SumFacts
 pub mod SumLemmas

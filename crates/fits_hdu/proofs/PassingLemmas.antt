@@ -31,7 +31,7 @@ use Rattle.fits_hdu.specs.declared.read_fault.ReadHduFault.TheVariants.{Hdu}
 use Rattle.fits_hdu.specs.declared.unit_sums.UnitSums.{UnitSums}
 use Rattle.fits_hdu.specs.declared.verdicts.Verdicts.{Verdicts}
 use Rattle.fits_hdu.proofs.ReadingLemmas.{hdu_taken, hdu_whole, stops_near}
-use Rattle.fits_hdu.proofs.UnitLemmas.{filled-append}
+use Rattle.fits_plane.proofs.FillLemmas.{filled-append}
 
 -- nothing is summed yet
 pub summed_none : (used fill : ℕ) (a : Supply) (sums : UnitSums) → sums ≡ record { count = 0; total = 0; filled = true } → TakesSummed used fill a a sums
@@ -103,7 +103,7 @@ stops_summed primary a b c len header shape p whole described q unit =
 pub ruleset summed_steps = (shape_primary, unit_words, hdu_summed, stops_summed)
 
 -- an HDU's header is of whole words
-header_words : (header : Header) → IsHeader header → length (header_bytes header) % 4 ≡ 0
+pub header_words : (header : Header) → IsHeader header → length (header_bytes header) % 4 ≡ 0
 header_words header whole = omega (arith, length-header_bytes header whole, fill_length-by_cards (length header.cards), whole.fill_size)
 
 -- the total of an HDU, by those of its parts

@@ -1,11 +1,9 @@
 -- What is found of an HDU under edits.
-use Rattle.std.proofs.Common.{◌≡◌, ℕ, ◌+◌, ◌≤◌, Bool, true, false, List, ◌++◌, length, drop, map, All, Option, None, Some, refl, ap, sym, ◌∙◌, inl, inr, arith}
-use Rattle.std.specs.Prelude.{IsTrue, ◌↔◌, nat_eq}
+use Rattle.std.proofs.Common.{◌≡◌, ℕ, ◌+◌, ◌≤◌, Bool, true, false, List, ◌++◌, length, drop, map, Option, None, Some, refl, ap, sym, ◌∙◌, arith}
+use Rattle.std.specs.Prelude.{nat_eq}
 use Rattle.std.specs.List.{list_all}
-use Rattle.std.proofs.lemmas.Bool.{cases_Bool}
-use Rattle.std.proofs.lemmas.Bool.Decides.{nat_tests}
 use Rattle.std.proofs.lemmas.List.{map-append}
-use Rattle.std.proofs.lemmas.List.Sums.{AllPass-from_list_all, count_by-le-length, length-filter, list_all-from_AllPass}
+use Rattle.std.proofs.lemmas.List.Sums.{count_by-le-length, length-filter}
 use Rattle.fits_card.specs.Header.{Header}
 use Rattle.fits_rules.specs.Size.{data_size}
 use Rattle.fits_rules.specs.declared.array_shape.Shape.{Shape}
@@ -35,16 +33,6 @@ few_header_codes shape header =
 pub few_codes : (codes : List Code) (shape : Shape) (header : Header) → codes ≡ header_codes_of shape header → length codes ≤ 10
 few_codes codes shape header is = rw is (omega (arith, few_header_codes shape header))
 
--- the test of bytes that should all be the same
-pub are_all : (ok : Bool) (byte : ℕ) (bytes : List ℕ) → (IsTrue ok ↔ All (λ b. b ≡ byte) bytes) → ok ≡ list_all (nat_eq byte) bytes
-are_all true byte bytes is =
-    sym (list_all-from_AllPass (nat_eq byte) bytes (λ k d l. let same = is.0 refl k d l in grind (arith, nat_tests)))
-are_all false byte bytes is =
-    elim (cases_Bool (list_all (nat_eq byte) bytes)) [
-      | inl holds ↦ let no : false ≡ true = is.1 (λ k d l. let same = AllPass-from_list_all (nat_eq byte) bytes holds k d l in grind (arith, nat_tests)) in absurd (cc)
-      | inr fails ↦ sym fails
-    ]
-
 -- where the fill begins
 layout_used : (bits : Option ℕ) (shape : Shape) (cards : List (List ℕ)) → (layout_by bits shape cards).used ≡ data_size shape
 layout_used None shape cards = refl
@@ -64,8 +52,8 @@ same_fill layout shape cards unit is =
     rw (used, fill) refl
 
 -- whether the data fill is what it should be, by the layout
-pub fill_known : (ok : Bool) (layout : Layout) (shape : Shape) (cards : List (List ℕ)) (unit : List ℕ) → layout ≡ layout_of shape cards → (IsTrue ok ↔ All (λ b. b ≡ layout.fill) (drop layout.used unit)) → ok ≡ is_filled shape unit
-fill_known ok layout shape cards unit is test = are_all ok layout.fill (drop layout.used unit) test ∙ same_fill layout shape cards unit is
+pub fill_known : (ok : Bool) (layout : Layout) (shape : Shape) (cards : List (List ℕ)) (unit : List ℕ) → layout ≡ layout_of shape cards → ok ≡ list_all (nat_eq layout.fill) (drop layout.used unit) → ok ≡ is_filled shape unit
+fill_known ok layout shape cards unit is test = test ∙ same_fill layout shape cards unit is
 
 -- the codes of a header, by its mark
 pub marked_codes : (codes : List Code) (mark : HeaderMark) (seen shape : Shape) (header : Header) → codes ≡ header_judged mark seen → mark ≡ header_mark_of header shape → seen ≡ shape → codes ≡ header_codes_of shape header

@@ -398,6 +398,7 @@ count_reads a b c p q =
       };
       entry = q.entry ∙ p.entry;
       kept = q.kept ∙ p.kept;
+      absent = q.absent ∙ p.absent;
       plane = q.plane ∙ p.plane;
     }
 

@@ -4,18 +4,20 @@ use Rattle.fits_rules.specs.Class.{is_primary}
 use Rattle.fits_rules.specs.Shape.{shape_of}
 use Rattle.fits_header.specs.State.{HeaderState}
 use Rattle.fits_header.specs.State as header
+use Rattle.fits_plane.specs.DataUnit.{Absence}
 use Rattle.fits_plane.specs.Plane.{PlaneState}
 use Rattle.fits_hdu.specs.ExtensionName.{extension_name}
 use Rattle.fits_hdu.specs.Hdu.{HduParts}
 use Rattle.fits_hdu.specs.declared.extension_name.ExtensionName.{ExtensionName}
 
--- its header, its data unit, read as its cards say, where its name stands in a table of names, if its holder said so, and whether that
--- keeps it stamped
+-- its header, its data unit, read as its cards say, where its name stands in a table of names, if its holder said so, whether that keeps
+-- it stamped, and where its data unit lies, if it isn't in memory
 pub record HduState : Type 0 where
   pub header : HeaderState
   pub plane : PlaneState
   pub entry : Option ℕ
   pub kept : Bool
+  pub absent : Option Absence
 
 -- its parts: what stands in a file
 abbrev pub parts_of : HduState → HduParts
@@ -35,3 +37,4 @@ pub record ReadsUpTo (old new : HduState) (count : ℕ) : Type 0 where
   pub plane : new.plane ≡ old.plane
   pub entry : new.entry ≡ old.entry
   pub kept : new.kept ≡ old.kept
+  pub absent : new.absent ≡ old.absent

@@ -71,11 +71,21 @@ pub record IsScanned (blocks : ℕ) (work : PixelWork) : Type 0 where
   pub joins : (d : ℕ) → blocks ≤ 2 ^ d → work.joins ≤ 2 ^ d
 
 -- an HDU was opened, and so many of its cards were read more at most; each block of its data unit was scanned once, and no pixel read;
--- nobody keeps it stamped
+-- nobody keeps it stamped, and all of it is in memory
 pub record IsOpened (more : ℕ) (hdu : HduState) : Type 0 where
   pub reads : hdu.header.reads ≤ open_reads hdu.header.header.cards + more
   pub scans : IsScanned (block_count hdu.plane.bytes) (plane_work hdu.plane)
   pub kept : hdu.kept ≡ false
+  pub held : hdu.absent ≡ None
+
+-- an HDU was opened as its data unit passed by, each block of which was scanned once: it lies at this place, and its statistics are known;
+-- nobody keeps it stamped
+pub record IsKnownAt (place : ℕ) (hdu : HduState) : Type 0 where
+  pub reads : hdu.header.reads ≤ open_reads hdu.header.header.cards
+  pub scans : IsScanned (block_count hdu.plane.bytes) (plane_work hdu.plane)
+  pub kept : hdu.kept ≡ false
+  pub entry : hdu.entry ≡ None
+  pub lies : hdu.absent ≡ Some (record { place = place; blank = hdu.plane.layout.blank })
 
 -- a data unit of so many blocks was made: each was scanned once at most, and no pixel read
 pub record IsMade (blocks : ℕ) (work : PixelWork) : Type 0 where
@@ -109,6 +119,14 @@ pub record IsRead (kept : ℕ) (old new : PixelWork) : Type 0 where
   pub reads : new.reads ≤ old.reads + kept
   pub scans : new.scans ≡ old.scans
   pub joins : new.joins ≡ old.joins
+
+-- each of so many blocks was scanned once more at most, and no pixel read
+pub record IsLoaded (blocks : ℕ) (old new : PixelWork) : Type 0 where
+  pub reads : new.reads ≡ old.reads
+  pub more_scans : old.scans ≤ new.scans
+  pub scans : new.scans ≤ old.scans + blocks
+  pub more_joins : old.joins ≤ new.joins
+  pub joins : (d : ℕ) → blocks ≤ 2 ^ d → new.joins ≤ old.joins + 2 ^ d
 
 -- each of so many pixels was read once at most, and each of so many new blocks scanned once at most
 pub record IsRenewed (kept blocks : ℕ) (old new : PixelWork) : Type 0 where

@@ -1,5 +1,6 @@
 ghost use Rattle.std.specs.Prelude.{◌≡◌, ◌≤◌, ◌+◌, length};
 
+mod loading;
 mod making;
 mod pixels;
 mod reporting;
@@ -19,7 +20,7 @@ use fits_card::{CardList, Change, Name, has_header};
 use fits_codes::HeaderMark;
 use fits_header::Header;
 use fits_image::{Kind, image_kind};
-use fits_plane::Plane;
+use fits_plane::{DataUnit, Plane};
 use fits_rules::Shape;
 use fits_stream::{Intake, Sink, Source};
 use fits_value::{Text, Value};
@@ -32,7 +33,7 @@ use std::marker::Model;
 pub struct Hdu {
     header: Header,
     // Its layout follows the cards.
-    plane: Plane,
+    unit: DataUnit,
     // What the header says as a whole.
     mark: HeaderMark,
     // The kind of its pixels, where it is an image of integers.
@@ -58,13 +59,19 @@ impl Model for Hdu {
 
     ghost Value = { HduState };
 
-    ghost view = { λ it. record { header = it.header; plane = it.plane; entry = it.entry; kept = it.kept } };
+    ghost view = { λ it. record {
+      header = it.header;
+      plane = it.unit.plane;
+      entry = it.entry;
+      kept = it.kept;
+      absent = it.unit.absent;
+    } };
 
     ghost invariant = { λ it. record {
       described : shape_of (is_primary it.header.shape.class) it.header.header.cards
           ≡ Ok it.header.shape;
-      size : length it.plane.bytes ≡ data_length it.header.shape;
-      layout : it.plane.layout ≡ layout_of it.header.shape it.header.header.cards;
+      size : length it.unit.plane.bytes ≡ data_length it.header.shape;
+      layout : it.unit.plane.layout ≡ layout_of it.header.shape it.header.header.cards;
       mark : it.mark ≡ header_mark_of it.header.header it.header.shape;
       kind : it.kind ≡ kind_in it.header.shape it.header.header.cards;
       sums : it.sums ≡ sum_keywords it.header.header.cards;
@@ -137,6 +144,7 @@ impl Hdu {
         ensures unit { IfOk result (λ it. it.plane.bytes ≡ data_unit.items) }
         ensures shape { IfOk result (λ it. it.header.shape ≡ shape) }
         ensures kept { IfOk result (λ it. it.kept ≡ false) }
+        ensures held { IfOk result (λ it. it.absent ≡ None) }
         ensures work { IfOk result (λ it. it.header.reads
             ≤ cards.reads + length cards.header.cards + apply_reads) }
         ensures least { IfOk result (λ it. cards.reads ≤ it.header.reads) }
@@ -145,7 +153,7 @@ impl Hdu {
     {
         let mut header = Header::open(alloc, cards, shape)?;
         match plane_of(alloc, &mut header, data_unit) {
-            Ok(plane) => Ok(Hdu::joined(header, plane)),
+            Ok(plane) => Ok(Hdu::joined(header, DataUnit::held(plane))),
             Err(refused) => {
                 drop(header);
                 Err(refused)
@@ -154,26 +162,26 @@ impl Hdu {
     }
 
     // The HDU of a header and of the data unit that it describes.
-    fn joined(mut header: Header, plane: Plane) -> Hdu
+    fn joined(mut header: Header, unit: DataUnit) -> Hdu
         requires described { shape_of (is_primary header.shape.class) header.header.cards
             ≡ Ok header.shape }
-        requires size { length plane.bytes ≡ data_length header.shape }
-        requires layout { plane.layout ≡ layout_of header.shape header.header.cards }
+        requires size { length unit.plane.bytes ≡ data_length header.shape }
+        requires layout { unit.plane.layout ≡ layout_of header.shape header.header.cards }
         ensures header { result.header.header ≡ header.header }
-        ensures unit { result.plane.bytes ≡ plane.bytes }
+        ensures unit { result.plane ≡ unit.plane }
         ensures shape { result.header.shape ≡ header.shape }
         ensures work { result.header.reads + 1 ≤ header.reads + apply_reads }
         ensures least { header.reads ≤ result.header.reads }
-        ensures scans { plane_work result.plane ≡ plane_work plane }
         ensures entry { result.entry ≡ None }
         ensures kept { result.kept ≡ false }
+        ensures absent { result.absent ≡ unit.absent }
     {
         let mark = header.mark();
         let kind = image_kind(&mut header);
         let sums = sum_keywords(&mut header);
         Hdu {
             header,
-            plane,
+            unit,
             mark,
             kind,
             sums,
@@ -248,13 +256,21 @@ impl Hdu {
         &self.header
     }
 
-    /// Its data unit, read as its cards say.
+    /// Its data unit in memory, read as its cards say.
     pub fn plane(&self) -> &Plane
+        requires { self.now.absent ≡ None }
         ensures value { result.now ≡ self.now.plane }
         ensures layout { result.now.layout
             ≡ layout_of self.now.header.shape self.now.header.header.cards }
     {
-        &self.plane
+        self.unit.plane()
+    }
+
+    /// How many bytes its data unit has, with the fill.
+    pub fn data_len(&self) -> usize
+        ensures { result ≡ length self.now.plane.bytes }
+    {
+        self.unit.byte_len()
     }
 
     /// What it is called, if it is an extension with a name. The cards that it reads are counted.
@@ -386,6 +402,7 @@ impl Hdu {
         ensures least { self.old.header.reads ≤ self.new.header.reads }
         ensures entry { self.new.entry ≡ self.old.entry }
         ensures kept { self.new.kept ≡ self.old.kept }
+        ensures absent { self.new.absent ≡ self.old.absent }
         ensures described { IsDescribed self.new }
 
         // The data unit is scanned again where the number that BLANK says changes.
@@ -399,7 +416,7 @@ impl Hdu {
         self.mark = self.header.mark();
         self.kind = image_kind(&mut self.header);
         self.sums = sum_keywords(&mut self.header);
-        follow_blank(&mut self.plane, &mut self.header);
+        follow_blank(&mut self.unit, &mut self.header);
     }
 
     /// Writes the header and then the data unit. Each card's read is counted.
@@ -407,6 +424,7 @@ impl Hdu {
     /// Where a call fails a prefix was written.
     #[tactic(auto, using(fits_stream::proofs::StreamLemmas::printing_steps))]
     pub fn emit<W: Sink>(&mut self, sink: &mut W) -> io::Result<()>
+        requires { self.old.absent ≡ None }
         ensures ok { OnOk result (Prints (hdu_bytes (parts_of self.old))
             (W.state sink.old) (W.state sink.new)) }
         ensures err { OnErr result (PrintsFront (hdu_bytes (parts_of self.old))
@@ -418,7 +436,7 @@ impl Hdu {
             ≡ self.old.header.reads + length self.old.header.header.cards) }
     {
         self.header.emit(sink)?;
-        self.plane.emit(sink)
+        self.unit.plane().emit(sink)
     }
 }
 

@@ -9,6 +9,7 @@ use crate::hdu::Hdu;
 use crate::hdu_stats::HduStats;
 use crate::hdu_sums::HduSums;
 use crate::outline::Outline;
+use crate::passed_hdu::PassedHdu;
 use crate::read_fault::ReadHduFault;
 use fits_stream::{Intake, Source};
 use std::alloc::Global;
@@ -45,6 +46,21 @@ impl Kept for Hdu {
         primary: bool,
     ) -> Result<Hdu, ReadHduFault> {
         Hdu::read(alloc, intake, source, primary)
+    }
+}
+
+impl Kept for PassedHdu {
+    ghost use Rattle.fits_hdu.specs.Reading.{IsPassedWhole};
+
+    ghost keeps = { λ it hdu. IsPassedWhole it.header it.unit hdu };
+
+    fn read_next<R: Source>(
+        alloc: Global,
+        intake: &mut Intake,
+        source: &mut R,
+        primary: bool,
+    ) -> Result<PassedHdu, ReadHduFault> {
+        PassedHdu::read(alloc, intake, source, primary)
     }
 }
 

@@ -11,7 +11,7 @@ ghost use Rattle.fits_hdu.specs.Work.{plane_work, FollowsBlank, IsMade, IsScanne
 
 use fits_card::Name;
 use fits_header::Header;
-use fits_plane::{Layout, Plane};
+use fits_plane::{DataUnit, Layout, Plane};
 use fits_rules::{Class, IntegerSaid, Shape, data_bytes, image_bits, integer_said};
 use std::alloc::{AllocError, Global};
 
@@ -122,18 +122,19 @@ pub(crate) fn zero_plane(
 
 /// Makes what BLANK says the stored number of undefined pixels, where it isn't yet. It takes no
 /// memory.
-pub(crate) fn follow_blank(plane: &mut Plane, header: &mut Header)
-    requires { plane.old.layout ≡ record (layout_of header.old.shape header.old.header.cards)
-        { blank = plane.old.layout.blank } }
-    ensures bytes { plane.new.bytes ≡ plane.old.bytes }
-    ensures layout { plane.new.layout ≡ layout_of header.old.shape header.old.header.cards }
-    ensures scans { FollowsBlank plane.old.layout.blank plane.new.layout.blank
-        (block_count plane.old.bytes) (plane_work plane.old) (plane_work plane.new) }
+pub(crate) fn follow_blank(unit: &mut DataUnit, header: &mut Header)
+    requires { unit.old.plane.layout ≡ record (layout_of header.old.shape header.old.header.cards)
+        { blank = unit.old.plane.layout.blank } }
+    ensures bytes { unit.new.plane.bytes ≡ unit.old.plane.bytes }
+    ensures layout { unit.new.plane.layout ≡ layout_of header.old.shape header.old.header.cards }
+    ensures absent { unit.new.absent ≡ unit.old.absent }
+    ensures scans { FollowsBlank unit.old.plane.layout.blank unit.new.plane.layout.blank
+        (block_count unit.old.plane.bytes) (plane_work unit.old.plane) (plane_work unit.new.plane) }
     ensures work { ReadsUpTo header.old header.new 1 }
 {
     let blank = pixel_blank(header);
-    if blank != plane.layout().blank {
-        plane.set_blank(blank);
+    if blank != unit.layout().blank {
+        unit.set_blank(blank);
     }
 }
 

@@ -1,5 +1,5 @@
 //! The data unit of an array that is made another.
-ghost use Rattle.std.specs.Prelude.{◌≡◌, ◌≤◌, ◌<◌, ◌+◌, ◌*◌, ◌%◌, ◌^◌, true, is_some, min, pos, IfNone, IfOk, IfSome, IfErr, OnErr, OnOk};
+ghost use Rattle.std.specs.Prelude.{◌≡◌, ◌≤◌, ◌<◌, ◌+◌, ◌*◌, ◌%◌, ◌^◌, true, None, is_some, min, pos, IfNone, IfOk, IfSome, IfErr, OnErr, OnOk};
 ghost use Rattle.fits_card.specs.Header.{header_length};
 ghost use Rattle.fits_plane.specs.Layout.{block_pixels};
 ghost use Rattle.fits_rules.specs.Image.{is_array};
@@ -14,7 +14,7 @@ use crate::reshape_fault::ReshapeFault;
 use crate::reshaping::Reshaping;
 use fits_card::{CARD_LEN, header_len};
 use fits_image::Kind;
-use fits_plane::Plane;
+use fits_plane::DataUnit;
 use fits_rules::{Shape, data_bytes};
 use std::alloc::Global;
 
@@ -41,40 +41,41 @@ pub(crate) fn unit_within(shape: &Shape, cards: usize, spare: usize, most: usize
 /// can't be stored is found first.
 pub(crate) fn reshape_unit(
     alloc: Global,
-    plane: &mut Plane,
+    unit: &mut DataUnit,
     plan: &Reshaping,
     len: Option<usize>,
 ) -> Result<Vec<u8>, ReshapeFault>
+    requires held { unit.old.absent ≡ None }
     requires array { is_array plan.now.shape.class plan.now.shape.pcount plan.now.shape.gcount
         ≡ true }
     requires shape { plan.now.shape ≡ reshaped_shape plan.now.kind plan.now.shape.axes
         plan.now.shape }
     requires len { IfSome len (λ len. len ≡ data_length plan.now.shape) }
-    ensures ok { IfOk result (λ bytes. unit_planned plan.now plane.old ≡ Some bytes.items) }
+    ensures ok { IfOk result (λ bytes. unit_planned plan.now unit.old.plane ≡ Some bytes.items) }
     ensures may { OnOk result (is_some len ≡ true) }
-    ensures err { IfErr result (UnitFails (unit_planned plan.now plane.old) len) }
-    ensures bytes { plane.new.bytes ≡ plane.old.bytes }
-    ensures layout { plane.new.layout ≡ plane.old.layout }
-    ensures work { IsRead (min plane.old.layout.pixels (array_values plan.now.shape.axes))
-        (plane_work plane.old) (plane_work plane.new) }
+    ensures err { IfErr result (UnitFails (unit_planned plan.now unit.old.plane) len) }
+    ensures bytes { unit.new.plane.bytes ≡ unit.old.plane.bytes }
+    ensures layout { unit.new.plane.layout ≡ unit.old.plane.layout }
+    ensures held { unit.new.absent ≡ None }
+    ensures work { IsRead (min unit.old.plane.layout.pixels (array_values plan.now.shape.axes))
+        (plane_work unit.old.plane) (plane_work unit.new.plane) }
 
     // Where it has too many bytes, most pixels are known by what is kept of their blocks.
-    ensures rest { IfNone len (plane.new.reads ≤ plane.old.reads
-        + min plane.old.layout.pixels (array_values plan.now.shape.axes)
-        % block_pixels plane.old.layout.width) }
+    ensures rest { IfNone len (unit.new.plane.reads ≤ unit.old.plane.reads
+        + min unit.old.plane.layout.pixels (array_values plan.now.shape.axes)
+        % block_pixels unit.old.plane.layout.width) }
 {
     let width = plan.kind.width();
-    let count = kept_count(plane.layout().pixels, &plan.shape, plan.kind);
+    let count = kept_count(unit.layout().pixels, &plan.shape, plan.kind);
     let shift = plan.old.offset() - plan.kind.offset();
     let Some(len) = len else {
-        return if plane.converts(width, count, shift) {
+        return if unit.converts(width, count, shift) {
             Err(ReshapeFault::TooLarge)
         } else {
             Err(ReshapeFault::OutOfRange)
         };
     };
-    plane
-        .converted(alloc, width, count, shift, len)?
+    unit.converted(alloc, width, count, shift, len)?
         .ok_or(ReshapeFault::OutOfRange)
 }
 

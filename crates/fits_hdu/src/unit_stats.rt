@@ -15,7 +15,7 @@ use fits_stream::{Intake, PIECE_LEN, Source};
 use std::io;
 
 /// As many bytes as an intake holds at once in whole blocks.
-const BLOCKS_LEN: usize = PIECE_LEN - PIECE_LEN % BLOCK_LEN;
+pub(crate) const BLOCKS_LEN: usize = PIECE_LEN - PIECE_LEN % BLOCK_LEN;
 
 /// The statistics of so many bytes that come next, which are a data unit, or None where there are
 /// fewer. Where they are no image they are skipped.

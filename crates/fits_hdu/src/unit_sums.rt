@@ -1,8 +1,8 @@
 //! The sums of a data unit, piece by piece.
-ghost use Rattle.std.specs.Prelude.{◌≡◌, nat_eq, drop};
-ghost use Rattle.std.specs.List.{list_all};
+ghost use Rattle.std.specs.Prelude.{◌≡◌};
 
-use fits_sum::{all_are, words_total};
+use fits_plane::is_filled;
+use fits_sum::words_total;
 
 /// The sums of the first bytes of a data unit.
 #[derive(Clone, Copy)]
@@ -49,12 +49,4 @@ impl UnitSums {
             filled: self.filled && filled,
         }
     }
-}
-
-// Whether the bytes of a piece are the fill, but for so many of data.
-fn is_filled(piece: &[u8], used: usize, fill: u8) -> bool
-    ensures { result ≡ list_all (nat_eq fill) (drop used piece.now) }
-{
-    let (_, filling) = piece.split_at(used.min(piece.len()));
-    all_are(filling, fill)
 }

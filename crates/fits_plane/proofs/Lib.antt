@@ -1,3 +1,4 @@
+pub mod AgainLemmas
 pub mod ApartLemmas
 pub mod ApartRowLemmas
 pub mod BlockLemmas
@@ -5,6 +6,7 @@ pub mod ConvertLemmas
 pub mod CornerLemmas
 pub mod ExactLemmas
 pub mod ExchangeLemmas
+pub mod FillLemmas
 pub mod HalfLemmas
 pub mod JoinLemmas
 pub mod LaneLemmas
@@ -12,6 +14,7 @@ pub mod LeafLemmas
 pub mod PaintLemmas
 pub mod PartLemmas
 pub mod PassedLemmas
+pub mod PassedBlockLemmas
 pub mod PathLemmas
 pub mod PixelLemmas
 pub mod PlaceLemmas

@@ -1,5 +1,5 @@
 -- Statistics of a data unit's pixels as its bytes pass by, block by block.
-use Rattle.std.proofs.Common.{◌≡◌, ◌≤◌, ◌<◌, ◌+◌, ◌-◌, ◌*◌, ◌/◌, ◌%◌, ◌^◌, ℕ, zero, suc, List, [], ◌∷◌, ◌++◌, length, slice_index, min, take, drop, arith, sym, ◌∙◌, ap, subst, inl, inr, ◌⊎◌, append_assoc}
+use Rattle.std.proofs.Common.{◌≡◌, ◌≤◌, ◌<◌, ◌+◌, ◌-◌, ◌*◌, ◌/◌, ◌%◌, ◌^◌, ℕ, ℤ, zero, suc, List, Option, [], ◌∷◌, ◌++◌, length, slice_index, min, take, drop, arith, sym, ◌∙◌, ap, subst, inl, inr, ◌⊎◌, append_assoc}
 use Rattle.std.proofs.Math.Seq.{take-add, take-append_seam, drop-append_seam}
 use Rattle.std.proofs.lemmas.Bool.{cases_lt}
 use Rattle.std.proofs.lemmas.List.{append-nil, length-append, take_all}
@@ -53,7 +53,7 @@ counts_none n count e = omega (arith, e)
 -- ---- bytes and a block more
 
 -- bytes, and others, are bytes
-small-append : (xs ys : List ℕ) → ((k : ℕ) → slice_index xs k < 256) → ((k : ℕ) → slice_index ys k < 256) → (k : ℕ) → slice_index (xs ++ ys) k < 256
+pub small-append : (xs ys : List ℕ) → ((k : ℕ) → slice_index xs k < 256) → ((k : ℕ) → slice_index ys k < 256) → (k : ℕ) → slice_index (xs ++ ys) k < 256
 small-append [] ys p q k = q k
 small-append (x ∷ xs) ys p q zero = p 0
 small-append (x ∷ xs) ys p q (suc k) = small-append xs ys (λ j. p (suc j)) q k
@@ -135,7 +135,7 @@ pub passed_whole : (layout : Layout) (unit : List ℕ) (it : PassedPixels) → H
 passed_whole layout unit it p = p.passed.stored ∙ ap (λ n. statistics layout.blank (pixels layout.width unit 0 n)) (all_in layout unit p.fits)
 
 -- and are small enough for an offset
-pub passed_small : (layout : Layout) (unit : List ℕ) → IsLayout layout unit → ((k : ℕ) → slice_index unit k < 256) → Small layout.blank (pixels layout.width unit 0 layout.pixels)
-passed_small layout unit h bytes =
+pub passed_small : (layout : Layout) (blank : Option ℤ) (unit : List ℕ) → IsLayout layout unit → ((k : ℕ) → slice_index unit k < 256) → Small blank (pixels layout.width unit 0 layout.pixels)
+passed_small layout blank unit h bytes =
     let few : length (pixels layout.width unit 0 layout.pixels) ≤ 2 ^ 62 = omega (arith, length-pixels layout.width 0 layout.pixels unit, layout_small layout unit h, h.limit) in
-    statistics_small layout.blank (pixels layout.width unit 0 layout.pixels) (pixels_fit layout.width unit 0 layout.pixels h.width h.no_pixels bytes) few
+    statistics_small blank (pixels layout.width unit 0 layout.pixels) (pixels_fit layout.width unit 0 layout.pixels h.width h.no_pixels bytes) few

@@ -1,5 +1,7 @@
+pub mod Again
 pub mod Converting
 pub mod DataBytes
+pub mod DataUnit
 pub mod Exchange
 pub mod Layout
 pub mod Leaves

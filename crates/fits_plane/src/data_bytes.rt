@@ -82,6 +82,13 @@ impl DataBytes {
         self.bytes = bytes;
     }
 
+    /// Counts so many blocks that were scanned.
+    pub(crate) fn count_scans(&mut self, blocks: usize)
+        ensures { self.new ≡ record self.old { scans = self.old.scans + blocks } }
+    {
+        tick_each(&mut self.scans, blocks);
+    }
+
     /// Scans block k.
     pub(crate) fn scan(&mut self, layout: Layout, k: usize) -> Leaf
         requires layout { IsLayout layout self.old.bytes }

@@ -1,11 +1,15 @@
 //! Data units of integer images: pixels and sums, with statistics that stand under edits.
 #![tactic(auto)]
 
+mod absent;
+mod again;
 mod both;
 mod converting;
 mod data_bytes;
+mod data_unit;
 mod exchange;
 mod extremes;
+mod filling;
 mod halves;
 pub mod laws;
 mod layout;
@@ -15,8 +19,11 @@ mod long_halves;
 mod nodes;
 mod painting;
 mod parts;
+mod passed_blocks;
 mod passed_pixels;
+mod passed_unit;
 mod passes;
+mod passing_unit;
 mod pixel_reads;
 mod pixel_summary;
 mod pixel_writer;
@@ -41,10 +48,15 @@ mod values;
 mod width;
 mod word_summary;
 
+pub use again::{CopyFault, LoadFault};
 pub use both::Both;
+pub use data_unit::DataUnit;
+pub use filling::is_filled;
 pub use layout::Layout;
 pub use lent_paint::LentPaint;
 pub use passed_pixels::PassedPixels;
+pub use passed_unit::PassedUnit;
+pub use passing_unit::PassingUnit;
 pub use pixel_summary::PixelSummary;
 pub use pixels::{are_storable, is_storable};
 pub use plane::Plane;

@@ -125,6 +125,25 @@ impl Plane {
         })
     }
 
+    /// What is kept of a data unit of so many blocks that isn't in memory: no byte. Each of its blocks
+    /// was scanned as it passed by.
+    pub(crate) fn away(alloc: Global, blocks: usize) -> Result<Plane, AllocError>
+        ensures scans { IfOk result (λ p. p.scans ≡ blocks) }
+        ensures reads { IfOk result (λ p. p.reads ≡ 0) }
+        ensures joins { IfOk result (λ p. p.joins ≤ 1) }
+    {
+        let layout = Layout {
+            width: 0,
+            pixels: 0,
+            used: 0,
+            fill: 0,
+            blank: None,
+        };
+        let mut plane = Plane::of(alloc, Vec::new(alloc), layout)?;
+        plane.store.count_scans(blocks);
+        Ok(plane)
+    }
+
     pub fn layout(&self) -> Layout
         ensures value { result ≡ self.now.layout }
         ensures fits { IsLayout result self.now.bytes }

@@ -25,7 +25,7 @@ use Rattle.fits_session.specs.Keeping.{kept_after, padded_if, stamp_follows, sta
 use Rattle.fits_session.specs.Limits.{is_within_limits}
 use Rattle.fits_session.specs.Marked.{Marked, is_kept, marked_after, marked_file_after, marked_refusal, marks_after}
 use Rattle.fits_session.specs.Refusal.{limit_refusal, made_refusal, refusal_in, Fails, HduNeedsMemory, OrStampNeedsMemory}
-use Rattle.fits_session.specs.Session.{file_of, hdus_of, kept_of, marked_of, reads_of, state_of, works_of, length_with, within_refusal, AreIdle, EditsTo, EditWork, HduEditsTo, HduWork, HduWorks, IsIdle, IsKept, IsNowhere, ReadsOnly, WorksOnly}
+use Rattle.fits_session.specs.Session.{file_of, hdus_of, kept_of, marked_of, reads_of, state_of, works_of, length_with, within_refusal, AreIdle, EditsTo, EditWork, HduEditsTo, HduWork, HduWorks, Holding, IsHad, IsIdle, IsKept, IsNowhere, ReadsOnly, WorksOnly}
 use Rattle.fits_session.specs.NameTable.{Stands, Stood}
 use Rattle.fits_session.specs.Work.{edit_reads, follow_reads, follow_up_reads, hdu_reads, may_rename, reads_in_all}
 use Rattle.fits_session.specs.declared.edit.Edit.{Edit}
@@ -35,6 +35,7 @@ use Rattle.fits_session.specs.declared.hdu_edit.HduEdit.TheVariants.{Cards, Keep
 use Rattle.fits_session.specs.declared.limits.TheConstants.{FILE_LIMIT}
 use Rattle.fits_session.specs.declared.refusal.Refusal.{Refusal}
 use Rattle.fits_session.specs.declared.refusal.Refusal.TheVariants as refusal
+use Rattle.fits_session.proofs.HadLemmas.{had_at}
 use Rattle.fits_session.proofs.KeepingLemmas.{finished_named, finished_shape, stamped_made}
 use Rattle.fits_session.proofs.ChangeLemmas.{changed_at-both, front_changed, goes_on-changed, joined-changed, length-changed}
 use Rattle.fits_session.proofs.PixelEditLemmas.{pixels_keep}
@@ -335,7 +336,7 @@ unrenamed edit old new never whole was is made =
     name_kept old new named.0.0 is (ap (shape_of primary) cards ∙ finished_shape (stamp_follows edit old.kept) primary mid.0 named.0.0 named.0.1)
     (ap (extension_name primary) cards ∙ (finished_named (stamp_follows edit old.kept) primary mid.0 named.0.0 named.0.1 ∙ named.1))
 
-module _ (hdus : List HduState) (tail : List ℕ) (h i : ℕ) (edit : HduEdit) (bytes count : ℕ) (es : List (ExtensionName × ℕ)) (room : ℕ) (old new : HduState) (kept : IsKept hdus tail bytes es room) where
+module _ (holding : Holding) (hdus : List HduState) (tail : List ℕ) (h i : ℕ) (edit : HduEdit) (bytes count : ℕ) (es : List (ExtensionName × ℕ)) (room : ℕ) (old new : HduState) (kept : IsKept holding hdus tail bytes es room) where
   -- the cards of the one that was edited described its shape
   was_described : (result : Result ℕ Refusal) → IsEdited hdus tail h i edit bytes count old new result → IsDescribed old
   was_described result p = subst IsDescribed (sym p.at.is) (kept.described i old p.at.index.within)
@@ -354,8 +355,12 @@ module _ (hdus : List HduState) (tail : List ℕ) (h i : ℕ) (edit : HduEdit) (
       let was : IsRight old = subst IsRight (sym p.at.is) (kept.right i old p.at.index.within) in
       ap verdicts_of same ∙ was (sym mark ∙ on)
 
+  -- the data units are had as they were
+  all_had : (result : Result ℕ Refusal) → IsEdited hdus tail h i edit bytes count old new result → All (IsHad holding) (set hdus i new)
+  all_had result p = had_at holding hdus h i old new p.at p.edits.had kept.had
+
   -- what a session keeps where an edit is refused
-  pub kept_refused : (why : Refusal) → IsEdited hdus tail h i edit bytes count old new (Err why) → IsKept (set hdus i new) tail bytes es room
+  pub kept_refused : (why : Refusal) → IsEdited hdus tail h i edit bytes count old new (Err why) → IsKept holding (set hdus i new) tail bytes es room
   kept_refused why p =
       let left = file_refused_is hdus tail h i edit bytes count old new why p in
       let called = name_same old new (was_described (Err why) p) p.edits.described (ap (λ (hdu : HduParts). hdu.header.cards) p.edits.err) in
@@ -366,10 +371,11 @@ module _ (hdus : List HduState) (tail : List ℕ) (h i : ℕ) (edit : HduEdit) (
         right = all_right (right_same (Err why) p p.edits.err p.edits.mark_stays);
         names = stands_same hdus i old new es p.at.index.within p.at.is called p.edits.entry kept.names;
         roomy = omega (arith, kept.roomy, length-set hdus i new);
+        had = all_had (Err why) p;
       }
 
   -- and where it is made, and no HDU is called otherwise
-  pub kept_unrenamed : (n : ℕ) → may_rename edit ≡ false → IsEdited hdus tail h i edit bytes count old new (Ok n) → IsKept (set hdus i new) tail n es room
+  pub kept_unrenamed : (n : ℕ) → may_rename edit ≡ false → IsEdited hdus tail h i edit bytes count old new (Ok n) → IsKept holding (set hdus i new) tail n es room
   kept_unrenamed n never p =
       let left = file_made_is hdus tail h i edit bytes count n old new p in
       let called = unrenamed edit old new never p.edits.whole (was_described (Ok n) p) p.edits.described p.edits.ok in
@@ -380,6 +386,7 @@ module _ (hdus : List HduState) (tail : List ℕ) (h i : ℕ) (edit : HduEdit) (
         right = all_right p.edits.right;
         names = stands_same hdus i old new es p.at.index.within p.at.is called p.edits.entry kept.names;
         roomy = omega (arith, kept.roomy, length-set hdus i new);
+        had = all_had (Ok n) p;
       }
 
   -- the table stood for them before
@@ -391,8 +398,8 @@ module _ (hdus : List HduState) (tail : List ℕ) (h i : ℕ) (edit : HduEdit) (
   }
 
   -- and where one may be
-  pub kept_followed : (n most more : ℕ) (left : List HduState) (fs : List (ExtensionName × ℕ)) → IsEdited hdus tail h i edit bytes count old new (Ok n) → IsFollowed (set hdus i new) left h most → (All IsDescribed (set hdus i new) → All IsDescribed left) → Stands left fs → more ≡ room → IsKept left tail n fs more
-  kept_followed n most more left fs p follows describes stands still =
+  pub kept_followed : (n most more : ℕ) (left : List HduState) (fs : List (ExtensionName × ℕ)) → IsEdited hdus tail h i edit bytes count old new (Ok n) → IsFollowed (set hdus i new) left h most → (All IsDescribed (set hdus i new) → All IsDescribed left) → ((holding : Holding) → All (IsHad holding) (set hdus i new) → All (IsHad holding) left) → Stands left fs → more ≡ room → IsKept holding left tail n fs more
+  kept_followed n most more left fs p follows describes moves stands still =
       let is = file_made_is hdus tail h i edit bytes count n old new p in
       let same = ap (λ (us : List HduParts). let file : FileParts = record { hdus = us; tail = tail } in file) follows.hdus in
       record {
@@ -402,4 +409,5 @@ module _ (hdus : List HduState) (tail : List ℕ) (h i : ℕ) (edit : HduEdit) (
         right = right_moved (set hdus i new) left follows.hdus follows.kept (all_right p.edits.right);
         names = stands;
         roomy = omega (arith, still, kept.roomy, ap length follows.hdus, length-hdus_of left, length-hdus_of (set hdus i new), length-set hdus i new);
+        had = moves holding (all_had (Ok n) p);
       }

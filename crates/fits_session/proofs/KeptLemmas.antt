@@ -12,7 +12,7 @@ use Rattle.fits_session.specs.File.{FileParts, file_bytes, IsFile}
 use Rattle.fits_session.specs.NameTable.{mended, names_of, IsTableOf, PointsAt, Stands}
 use Rattle.fits_session.specs.Keeping.{IsRight}
 use Rattle.fits_session.specs.Marked.{Marked, unmarked}
-use Rattle.fits_session.specs.Session.{file_of, hdus_of, kept_of, marked_of, reads_of, state_of, uncounted, unentered, without_counts, without_entries, works_of, AreNamed, IsKept}
+use Rattle.fits_session.specs.Session.{file_of, hdus_of, kept_of, marked_of, reads_of, state_of, uncounted, unentered, without_counts, without_entries, works_of, AreNamed, Holding, IsHad, IsKept}
 use Rattle.fits_session.proofs.StateLemmas.{IsHduAt, parts_same, unkept_right}
 
 -- the parts of HDUs are no counts
@@ -45,11 +45,11 @@ marked_with us vs tail a b same marks =
     ∙ ap (λ (kept : List Bool). let it : Marked = record { file = record { hdus = vs; tail = tail }; kept = kept } in it) marks
 
 -- what holds of HDUs seen another way holds of them
-all_seen : (P : HduState → Type 0) (see : HduState → HduState) → ((one : HduState) → P (see one) → P one) → (hdus : List HduState) → All P (map see hdus) → All P hdus
+pub all_seen : (P : HduState → Type 0) (see : HduState → HduState) → ((one : HduState) → P (see one) → P one) → (hdus : List HduState) → All P (map see hdus) → All P hdus
 all_seen P see back hdus p = λ i d within. back (get_or hdus i d) (subst P (get_or-map see hdus i d (see d) within) (p i (see d) (omega (arith, within, length-map hdus see))))
 
 -- and what holds of HDUs holds of them seen another way
-seen_all : (P : HduState → Type 0) (see : HduState → HduState) → ((one : HduState) → P one → P (see one)) → (hdus : List HduState) → All P hdus → All P (map see hdus)
+pub seen_all : (P : HduState → Type 0) (see : HduState → HduState) → ((one : HduState) → P one → P (see one)) → (hdus : List HduState) → All P hdus → All P (map see hdus)
 seen_all P see on hdus p = All-map P see hdus (λ i d within. on (get_or hdus i d) (p i d within))
 
 -- the entry of one is the place of its name
@@ -57,9 +57,9 @@ IsPlaced : List ExtensionName → HduState → Type 0
 IsPlaced keys hdu = PointsAt keys (name_of hdu) hdu.entry
 
 -- what is kept of HDUs is kept of them without their counts
-kept_without : (hdus : List HduState) (tail : List ℕ) (bytes : ℕ) (entries : List (ExtensionName × ℕ)) (room : ℕ) → IsKept hdus tail bytes entries room → IsKept (without_counts hdus) tail bytes entries room
+kept_without : (holding : Holding) (hdus : List HduState) (tail : List ℕ) (bytes : ℕ) (entries : List (ExtensionName × ℕ)) (room : ℕ) → IsKept holding hdus tail bytes entries room → IsKept holding (without_counts hdus) tail bytes entries room
 unfolding IsPlaced
-kept_without hdus tail bytes entries room kept =
+kept_without holding hdus tail bytes entries room kept =
     let same = sym (file_with (hdus_of (without_counts hdus)) (hdus_of hdus) tail (hdus_of-uncounted hdus)) in
     record {
       whole = subst (λ (f : FileParts). IsFile f) same kept.whole;
@@ -71,12 +71,13 @@ kept_without hdus tail bytes entries room kept =
         placed = seen_all (IsPlaced (keys_of entries)) uncounted (λ one p. p) hdus kept.names.placed;
       };
       roomy = omega (arith, kept.roomy, length-map hdus uncounted);
+      had = seen_all (IsHad holding) uncounted (λ one p. record { held = p.held; lies = p.lies }) hdus kept.had;
     }
 
 -- and back
-kept_with : (hdus : List HduState) (tail : List ℕ) (bytes : ℕ) (entries : List (ExtensionName × ℕ)) (room : ℕ) → IsKept (without_counts hdus) tail bytes entries room → IsKept hdus tail bytes entries room
+kept_with : (holding : Holding) (hdus : List HduState) (tail : List ℕ) (bytes : ℕ) (entries : List (ExtensionName × ℕ)) (room : ℕ) → IsKept holding (without_counts hdus) tail bytes entries room → IsKept holding hdus tail bytes entries room
 unfolding IsPlaced
-kept_with hdus tail bytes entries room kept =
+kept_with holding hdus tail bytes entries room kept =
     let same = file_with (hdus_of (without_counts hdus)) (hdus_of hdus) tail (hdus_of-uncounted hdus) in
     record {
       whole = subst (λ (f : FileParts). IsFile f) same kept.whole;
@@ -88,20 +89,21 @@ kept_with hdus tail bytes entries room kept =
         placed = all_seen (IsPlaced (keys_of entries)) uncounted (λ one p. p) hdus kept.names.placed;
       };
       roomy = omega (arith, kept.roomy, length-map hdus uncounted);
+      had = all_seen (IsHad holding) uncounted (λ one p. record { held = p.held; lies = p.lies }) hdus kept.had;
     }
 
 -- so it is kept where counts alone change
-pub kept_counted : (hdus others : List HduState) (tail : List ℕ) (bytes : ℕ) (entries : List (ExtensionName × ℕ)) (room : ℕ) → without_counts others ≡ without_counts hdus → IsKept hdus tail bytes entries room → IsKept others tail bytes entries room
-kept_counted hdus others tail bytes entries room same kept =
-    kept_with others tail bytes entries room (subst (λ (us : List HduState). IsKept us tail bytes entries room) (sym same) (kept_without hdus tail bytes entries room kept))
+pub kept_counted : (holding : Holding) (hdus others : List HduState) (tail : List ℕ) (bytes : ℕ) (entries : List (ExtensionName × ℕ)) (room : ℕ) → without_counts others ≡ without_counts hdus → IsKept holding hdus tail bytes entries room → IsKept holding others tail bytes entries room
+kept_counted holding hdus others tail bytes entries room same kept =
+    kept_with holding others tail bytes entries room (subst (λ (us : List HduState). IsKept holding us tail bytes entries room) (sym same) (kept_without holding hdus tail bytes entries room kept))
 
 -- an HDU whose cards were read is the same without its counts
 pub uncounted_read : (old new : HduState) (most : ℕ) → ReadsUpTo old new most → uncounted new ≡ uncounted old
-uncounted_read old new most read = rw (read.header.header, read.header.shape, read.header.room, read.plane, read.entry, read.kept) refl
+uncounted_read old new most read = rw (read.header.header, read.header.shape, read.header.room, read.plane, read.entry, read.kept, read.absent) refl
 
 -- so what is kept is kept where one HDU was read
-pub kept_read : (hdus : List HduState) (tail : List ℕ) (h i bytes : ℕ) (entries : List (ExtensionName × ℕ)) (room : ℕ) (old new : HduState) → IsHduAt hdus h i old → uncounted new ≡ uncounted old → IsKept hdus tail bytes entries room → IsKept (set hdus i new) tail bytes entries room
-kept_read hdus tail h i bytes entries room old new at same kept = kept_counted hdus (set hdus i new) tail bytes entries room (parts_same uncounted hdus i old new at.index.within at.is same) kept
+pub kept_read : (holding : Holding) (hdus : List HduState) (tail : List ℕ) (h i bytes : ℕ) (entries : List (ExtensionName × ℕ)) (room : ℕ) (old new : HduState) → IsHduAt hdus h i old → uncounted new ≡ uncounted old → IsKept holding hdus tail bytes entries room → IsKept holding (set hdus i new) tail bytes entries room
+kept_read holding hdus tail h i bytes entries room old new at same kept = kept_counted holding hdus (set hdus i new) tail bytes entries room (parts_same uncounted hdus i old new at.index.within at.is same) kept
 
 -- the parts of HDUs are no entries
 hdus_of-unentered : (hdus : List HduState) → hdus_of (without_entries hdus) ≡ hdus_of hdus
@@ -178,8 +180,8 @@ opened_right more hdus all = λ i d within. unkept_right (get_or hdus i d) (all 
 pub ruleset opened_steps = (opened_unmarked, opened_right)
 
 -- HDUs that are kept are named
-pub kept_named : (hdus : List HduState) (tail : List ℕ) (bytes : ℕ) (entries : List (ExtensionName × ℕ)) (room : ℕ) → IsKept hdus tail bytes entries room → AreNamed hdus entries
-kept_named hdus tail bytes entries room kept = record { tail = tail; whole = kept.whole; described = kept.described; names = kept.names }
+pub kept_named : (holding : Holding) (hdus : List HduState) (tail : List ℕ) (bytes : ℕ) (entries : List (ExtensionName × ℕ)) (room : ℕ) → IsKept holding hdus tail bytes entries room → AreNamed hdus entries
+kept_named holding hdus tail bytes entries room kept = record { tail = tail; whole = kept.whole; described = kept.described; names = kept.names }
 
 -- entries that are mended are no other HDUs
 pub unentered_mended : (gone : ℕ) (hdus : List HduState) → without_entries (map (mended gone) hdus) ≡ without_entries hdus
@@ -187,14 +189,15 @@ unentered_mended gone [] = refl
 unentered_mended gone (hdu ∷ hdus) = ap (λ (us : List HduState). unentered hdu ∷ us) (unentered_mended gone hdus)
 
 -- a session keeps what it kept where its table is as it was
-pub kept_as : (hdus : List HduState) (tail : List ℕ) (bytes : ℕ) (entries others : List (ExtensionName × ℕ)) (room now : ℕ) → others ≡ entries → now ≡ room → IsKept hdus tail bytes entries room → IsKept hdus tail bytes others now
-kept_as hdus tail bytes entries others room now same still kept = record {
+pub kept_as : (holding : Holding) (hdus : List HduState) (tail : List ℕ) (bytes : ℕ) (entries others : List (ExtensionName × ℕ)) (room now : ℕ) → others ≡ entries → now ≡ room → IsKept holding hdus tail bytes entries room → IsKept holding hdus tail bytes others now
+kept_as holding hdus tail bytes entries others room now same still kept = record {
   whole = kept.whole;
   len = kept.len;
   described = kept.described;
   right = kept.right;
   names = subst (Stands hdus) (sym same) kept.names;
   roomy = still ∙ kept.roomy;
+  had = kept.had;
 }
 
 -- the file and its marks stay where counts alone change

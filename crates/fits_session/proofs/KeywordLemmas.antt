@@ -67,6 +67,7 @@ nothing_read old new name count none read = record {
   plane = read.plane;
   entry = read.entry;
   kept = read.kept;
+  absent = read.absent;
 }
 
 -- a name that isn't a keyword's is the first test

@@ -8,6 +8,7 @@ pub mod EditLemmas
 pub mod FreshLemmas
 pub mod FileLemmas
 pub mod FrontLemmas
+pub mod HadLemmas
 pub mod HeadersLemmas
 pub mod KeepingLemmas
 pub mod KeptLemmas

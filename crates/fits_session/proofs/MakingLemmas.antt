@@ -25,13 +25,14 @@ use Rattle.fits_session.specs.Keeping.{padded_if, spare_cards, stamped_if, then_
 use Rattle.fits_session.specs.Limits.{is_within_limits}
 use Rattle.fits_session.specs.declared.limits.TheConstants.{FILE_LIMIT, HDU_LIMIT}
 use Rattle.fits_session.specs.Refusal.{limit_refusal, CardEditNeedsMemory, CardsNeedMemory, ChangeFails, ChangeNeedsMemory, Fails, OrStampNeedsMemory}
-use Rattle.fits_session.specs.Session.{length_with, within_refusal, BlankWork, ChangesTo, HduEditsTo, HduMakes, IsFinished}
+use Rattle.fits_session.specs.Session.{length_with, within_refusal, BlankWork, ChangesTo, HduEditsTo, HduMakes, IsFinished, StaysHad}
 use Rattle.fits_session.specs.Work.{follow_up_reads, hdu_reads, own_reads}
 use Rattle.fits_session.specs.declared.card_edit.CardEdit.{CardEdit}
 use Rattle.fits_session.specs.declared.card_edit.CardEdit.TheVariants.{Insert, Put, Delete, Move, Set, Unset}
 use Rattle.fits_session.specs.declared.hdu_edit.HduEdit.TheVariants.{Cards}
 use Rattle.fits_session.specs.declared.refusal.Refusal.{Refusal}
 use Rattle.fits_session.specs.declared.refusal.Refusal.TheVariants as refusal
+use Rattle.fits_session.proofs.HadLemmas.{had_read, had_same}
 use Rattle.fits_session.proofs.KeepingLemmas.{finished_right, finished_short, finished_whole, hdu_long, no_longer, padded_long}
 use Rattle.fits_hdu.specs.Keyword.{keyword_cards}
 use Rattle.fits_hdu.specs.declared.keyword_cards.KeywordCards.{KeywordCards}
@@ -117,15 +118,17 @@ length_cards primary hdu change whole inner =
       header_long (hdu_after change hdu).header left,
     )
 
--- the cards of an HDU describe the shape that is kept, its entry is that of another, and it is kept stamped or not as that is
+-- the cards of an HDU describe the shape that is kept, its entry is that of another, it is kept stamped or not as that is, and lies where
+-- that does
 pub record Lasts (old new : HduState) : Type 0 where
   pub described : IsDescribed new
   pub entry : new.entry ≡ old.entry
   pub kept : new.kept ≡ old.kept
+  pub absent : new.absent ≡ old.absent
 
 -- so it is where cards were read
 pub lasts_read : (old new : HduState) (count : ℕ) → IsDescribed old → ReadsUpTo old new count → Lasts old new
-lasts_read old new count described read = record { described = rw (read.header.header, read.header.shape) described; entry = read.entry; kept = read.kept }
+lasts_read old new count described read = record { described = rw (read.header.header, read.header.shape) described; entry = read.entry; kept = read.kept; absent = read.absent }
 
 -- what is refused owes this
 pub makes_not : {X : Type 0} (stamps kept : Bool) (made : Result HduParts Refusal) (NeedsMemory : Option Refusal → Type 0) (reads : ℕ) (Works : PixelWork → PixelWork → Type 0) (bytes hdus : ℕ) (old new : HduState) (why : Refusal)
@@ -150,14 +153,15 @@ makes_not stamps kept made NeedsMemory reads Works bytes hdus old new why whole 
   room = room;
   described = lasts.described;
   entry = lasts.entry;
+  had = had_same old new lasts.absent (ap (λ (hdu : HduParts). hdu.data_unit) same);
 }
 
 -- what is made owes this, and the stamp that follows where the HDU is kept
 pub makes : {X : Type 0} (stamps : Bool) (made : Result HduParts Refusal) (NeedsMemory : Option Refusal → Type 0) (reads : ℕ) (Works Idles : PixelWork → PixelWork → Type 0) (bytes hdus : ℕ) (old mid new : HduState) (x : X)
     → IsHdu (is_primary old.header.shape.class) (parts_of old) → IsHdu (is_primary old.header.shape.class) (parts_of mid) → made ≡ Ok (parts_of mid) → limit_refusal (length_with bytes (parts_of old) (padded_if stamps (parts_of mid))) hdus ≡ None
-    → old.header.reads ≤ mid.header.reads → mid.header.reads ≤ old.header.reads + reads → Works (plane_work old.plane) (plane_work mid.plane) → mid.entry ≡ old.entry → mid.kept ≡ stamps → IsFinished stamps mid new
+    → old.header.reads ≤ mid.header.reads → mid.header.reads ≤ old.header.reads + reads → Works (plane_work old.plane) (plane_work mid.plane) → mid.entry ≡ old.entry → mid.kept ≡ stamps → StaysHad old mid → IsFinished stamps mid new
     → HduMakes {X = X} stamps stamps made NeedsMemory reads Works Idles bytes hdus old new (Ok x)
-makes stamps made NeedsMemory reads Works Idles bytes hdus old mid new x whole left is limits least most works entry kept f =
+makes stamps made NeedsMemory reads Works Idles bytes hdus old mid new x whole left is limits least most works entry kept stays f =
     let primary : Bool = is_primary old.header.shape.class in
     let short = finished_short stamps primary (parts_of mid) left in
     let long : length (hdu_bytes (parts_of new)) ≡ length (hdu_bytes (stamped_if stamps (parts_of mid))) = ap (λ (hdu : HduParts). length (hdu_bytes hdu)) f.hdu in
@@ -179,6 +183,7 @@ makes stamps made NeedsMemory reads Works Idles bytes hdus old mid new x whole l
       room = tt;
       described = f.described;
       entry = f.entry ∙ entry;
+      had = λ holding p. f.had holding (stays holding p);
     }
 
 -- a change that keeps the shape makes this
@@ -213,8 +218,8 @@ changes_not change bytes hdus old new why whole same least most idle room lasts 
 -- one that is made owes this
 pub changes_made : {X : Type 0} (change : Change) (bytes hdus : ℕ) (old mid new : HduState) (x : X) → IsHdu (is_primary old.header.shape.class) (parts_of old) → shape_of (is_primary old.header.shape.class) old.header.header.cards ≡ Ok old.header.shape → All IsInnerCard (new_cards change)
     → keeps_shape (is_primary old.header.shape.class) old.header.header.cards (cards_after old.header.header.cards change) ≡ true → limit_refusal (length_with bytes (parts_of old) (padded_if old.kept (hdu_after change (parts_of old)))) hdus ≡ None → parts_of mid ≡ hdu_after change (parts_of old) → old.header.reads ≤ mid.header.reads → mid.header.reads ≤ old.header.reads + (shape_reads old.header.shape + apply_reads)
-    → FollowsBlank (layout_of old.header.shape old.header.header.cards).blank (layout_of old.header.shape (cards_after old.header.header.cards change)).blank (block_count old.plane.bytes) (plane_work old.plane) (plane_work mid.plane) → mid.entry ≡ old.entry → mid.kept ≡ old.kept → IsFinished old.kept mid new → ChangesTo {X = X} change bytes hdus old new (Ok x)
-changes_made change bytes hdus old mid new x whole described inner kept limits is least most follows entry mark finished =
+    → FollowsBlank (layout_of old.header.shape old.header.header.cards).blank (layout_of old.header.shape (cards_after old.header.header.cards change)).blank (block_count old.plane.bytes) (plane_work old.plane) (plane_work mid.plane) → mid.entry ≡ old.entry → mid.kept ≡ old.kept → mid.absent ≡ old.absent → IsFinished old.kept mid new → ChangesTo {X = X} change bytes hdus old new (Ok x)
+changes_made change bytes hdus old mid new x whole described inner kept limits is least most follows entry mark place finished =
     let primary : Bool = is_primary old.header.shape.class in
     let after : List (List ℕ) = cards_after old.header.header.cards change in
     let there : shape_of primary after ≡ Ok old.header.shape = (same_shape-Decides old.header.shape (shape_of primary after)).0 (rw described at kept) in
@@ -225,7 +230,7 @@ changes_made change bytes hdus old mid new x whole described inner kept limits i
     (subst (λ (hdu : HduParts). IsHdu primary hdu) (sym is) (kept_whole primary (parts_of old) change whole inner kept))
     (done ∙ ap (λ (hdu : HduParts). let made : Result HduParts Refusal = Ok hdu in made) (sym is))
     (subst (λ (hdu : HduParts). limit_refusal (length_with bytes (parts_of old) (padded_if old.kept hdu)) hdus ≡ None) (sym is) limits)
-    least most work entry mark finished
+    least most work entry mark (had_same old mid place (ap (λ (hdu : HduParts). hdu.data_unit) is)) finished
 
 -- memory may run out before the size is known
 needs_sized : (b : Bool) → CardsNeedMemory (if b then None else Some refusal.TooLarge)
@@ -350,4 +355,5 @@ cards_made edit change bytes hdus old left new result described r made p =
       room = rw r.header.room at p.room;
       described = p.described;
       entry = p.entry ∙ r.entry;
+      had = λ holding it. p.had holding (had_read old left _ r holding it);
     }

@@ -24,6 +24,7 @@ use Rattle.fits_session.specs.declared.hdu_edit.HduEdit.TheVariants.{Pixels}
 use Rattle.fits_session.specs.declared.paint.Paint.{Paint}
 use Rattle.fits_session.specs.declared.refusal.Refusal.{Refusal}
 use Rattle.fits_session.proofs.KeepingLemmas.{hdu_long, padded_long}
+use Rattle.fits_session.proofs.HadLemmas.{had_held}
 use Rattle.fits_session.proofs.MakingLemmas.{Lasts, fits, makes, makes_not}
 
 -- an HDU with a rectangle painted has as many bytes
@@ -59,7 +60,7 @@ paints_not lo hi paint bytes hdus old new why whole described is same =
     makes_not old.kept old.kept (hdu_painted primary lo hi paint (parts_of old)) (HduNeedsMemory (Pixels lo hi paint)) 0 (HduWork primary (Pixels lo hi paint) (parts_of old)) bytes hdus old new (refusal_of_pixels why) whole (ap parts_of same) (omega (arith, reads)) (omega (arith, reads))
     (ap (λ (state : HduState). plane_work state.plane) same)
     (ap (λ (state : HduState). state.header.room) same)
-    (subst (λ (state : HduState). Lasts old state) (sym same) (record { described = described; entry = refl; kept = refl }))
+    (subst (λ (state : HduState). Lasts old state) (sym same) (record { described = described; entry = refl; kept = refl; absent = refl }))
     (patches_none (shape_of primary old.header.header.cards) lo hi (parts_of old) (plane_work old.plane))
     (inl (ap (within_refusal old.kept bytes hdus (parts_of old)) (made_by primary old.header.shape (parts_of old) lo hi paint (Err why) described is)))
 
@@ -105,15 +106,15 @@ may_made (Err why) p = absurd (cc)
 -- one that is made owes this
 pub paints : {X : Type 0} (lo hi : List ℕ) (paint : Paint) (bytes hdus : ℕ) (old mid new : HduState) (x : X) → IsHdu (is_primary old.header.shape.class) (parts_of old) → shape_of (is_primary old.header.shape.class) old.header.header.cards ≡ Ok old.header.shape
     → painted old.header.shape lo hi (plane_paint paint) (parts_of old) ≡ Ok (parts_of mid) → limit_refusal (length_with bytes (parts_of old) (padded_if old.kept (parts_of mid))) hdus ≡ None → mid.header.reads ≡ old.header.reads
-    → IsPatched (rectangle_blocks (layout_of old.header.shape old.header.header.cards) old.plane.bytes old.header.shape.axes lo hi) (block_count old.plane.bytes) (plane_work old.plane) (plane_work mid.plane) → mid.entry ≡ old.entry → mid.kept ≡ old.kept → IsFinished old.kept mid new
+    → IsPatched (rectangle_blocks (layout_of old.header.shape old.header.header.cards) old.plane.bytes old.header.shape.axes lo hi) (block_count old.plane.bytes) (plane_work old.plane) (plane_work mid.plane) → mid.entry ≡ old.entry → mid.kept ≡ old.kept → mid.absent ≡ None → IsFinished old.kept mid new
     → HduEditsTo {X = X} (Pixels lo hi paint) bytes hdus old new (Ok x)
 unfolding hdu_made
-paints lo hi paint bytes hdus old mid new x whole described is limits reads patched entry kept finished =
+paints lo hi paint bytes hdus old mid new x whole described is limits reads patched entry kept held finished =
     let primary : Bool = is_primary old.header.shape.class in
     let change = painted_hdu primary old.header.shape (parts_of old) lo hi (plane_paint paint) (parts_of mid) whole described is in
     makes old.kept (hdu_painted primary lo hi paint (parts_of old)) (HduNeedsMemory (Pixels lo hi paint)) 0 (HduWork primary (Pixels lo hi paint) (parts_of old)) (λ before after. after ≡ before) bytes hdus old mid new x whole change.0
     (made_by primary old.header.shape (parts_of old) lo hi paint (Ok (parts_of mid)) described is) limits (omega (arith, reads)) (omega (arith, reads))
-    (patches_by (shape_of primary old.header.header.cards) old.header.shape lo hi (parts_of old) (plane_work old.plane) (plane_work mid.plane) described patched) entry kept finished
+    (patches_by (shape_of primary old.header.header.cards) old.header.shape lo hi (parts_of old) (plane_work old.plane) (plane_work mid.plane) described patched) entry kept (λ holding p. had_held holding mid held) finished
 
 -- a painted HDU that isn't kept keeps to the limits
 pub paint_within : (primary : Bool) (shape : Shape) (hdu made : HduParts) (lo hi : List ℕ) (paint : Paint) (bytes hdus : ℕ) → IsHdu primary hdu → shape_of primary hdu.header.cards ≡ Ok shape → painted shape lo hi (plane_paint paint) hdu ≡ Ok made → length (hdu_bytes hdu) ≤ bytes → is_within_limits bytes hdus ≡ true
@@ -131,7 +132,7 @@ unstamped_limits false bytes hdus hdu made e limits = limits
 -- and no stamp follows
 pub unstamped_finished : (stamps : Bool) (new : HduState) → stamps ≡ false → IsDescribed new → IsFinished stamps new new
 unstamped_finished true new e described = cc
-unstamped_finished false new e described = record { hdu = refl; least = omega arith; most = omega arith; work = refl; entry = refl; kept = refl; described = described }
+unstamped_finished false new e described = record { hdu = refl; least = omega arith; most = omega arith; work = refl; entry = refl; kept = refl; described = described; had = λ holding p. p }
 
 -- what pixels are made is what was made of them
 made_of : (said : Result HduParts PixelFault) (made : HduParts) → pixels_made said ≡ Ok made → said ≡ Ok made

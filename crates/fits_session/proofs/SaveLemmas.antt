@@ -62,15 +62,15 @@ pub first_read_none : (before : List HduState) → before ≡ first_read 0 befor
 first_read_none before = refl
 
 -- two states of the same parts are one
-state_is : (a b : HduState) → a.header.header ≡ b.header.header → a.header.shape ≡ b.header.shape → a.header.reads ≡ b.header.reads → a.header.room ≡ b.header.room → a.plane ≡ b.plane → a.entry ≡ b.entry → a.kept ≡ b.kept → a ≡ b
-state_is a b p q r s t u v =
+state_is : (a b : HduState) → a.header.header ≡ b.header.header → a.header.shape ≡ b.header.shape → a.header.reads ≡ b.header.reads → a.header.room ≡ b.header.room → a.plane ≡ b.plane → a.entry ≡ b.entry → a.kept ≡ b.kept → a.absent ≡ b.absent → a ≡ b
+state_is a b p q r s t u v w =
     let header : HeaderState = record { header = a.header.header; shape = a.header.shape; reads = a.header.reads; room = a.header.room } in
-    let same : (let state : HduState = record { header = header; plane = a.plane; entry = a.entry; kept = a.kept } in state) ≡ b = rw (p, q, r, s, t, u, v) refl in
+    let same : (let state : HduState = record { header = header; plane = a.plane; entry = a.entry; kept = a.kept; absent = a.absent } in state) ≡ b = rw (p, q, r, s, t, u, v, w) refl in
     same
 
 -- an HDU whose cards all were read
 read_as : (one hdu new : HduState) (most : ℕ) → hdu ≡ one → ReadsUpTo hdu new most → new.header.reads ≡ hdu.header.reads + length hdu.header.header.cards → new ≡ once_read one
-read_as one hdu new most e r more = state_is new (once_read hdu) r.header.header r.header.shape more r.header.room r.plane r.entry r.kept ∙ ap once_read e
+read_as one hdu new most e r more = state_is new (once_read hdu) r.header.header r.header.shape more r.header.room r.plane r.entry r.kept r.absent ∙ ap once_read e
 
 -- one more HDU was read
 read_next : (before hdus : List HduState) (i : ℕ) (old new : HduState) (most : ℕ) → hdus ≡ first_read i before → i < length hdus → old ≡ get_or hdus i old → ReadsUpTo old new most → new.header.reads ≡ old.header.reads + length old.header.header.cards → set hdus i new ≡ first_read (suc i) before

@@ -16,6 +16,7 @@ use Rattle.fits_session.specs.Refusal.{limit_refusal, Fails, HduNeedsMemory}
 use Rattle.fits_session.specs.Session.{length_with, BlankWork, HduEditsTo}
 use Rattle.fits_session.specs.declared.hdu_edit.HduEdit.TheVariants.{Keep, Release, Stamp}
 use Rattle.fits_session.specs.declared.refusal.Refusal.{Refusal}
+use Rattle.fits_session.proofs.HadLemmas.{had_same}
 use Rattle.fits_session.proofs.MakingLemmas.{Lasts, blank_none, fits, length_reckoned, makes_not}
 
 -- how many bytes a file has with an HDU stamped, by the numbers of its cards
@@ -58,6 +59,7 @@ stamps bytes hdus old new x whole within is least most idle lasts =
       room = tt;
       described = lasts.described;
       entry = lasts.entry;
+      had = had_same old new lasts.absent (ap (λ (hdu : HduParts). hdu.data_unit) is ∙ stamped_unit (parts_of old));
     }
 
 -- an HDU that isn't stamped isn't kept either
@@ -81,6 +83,7 @@ keeps_not bytes hdus old new why p = record {
   room = p.room;
   described = p.described;
   entry = p.entry;
+  had = p.had;
 }
 
 -- one that is stamped may be kept, and its sums are right
@@ -106,6 +109,7 @@ keeps bytes hdus old mid new x p is =
       room = tt;
       described = p.described;
       entry = p.entry;
+      had = λ holding it. let left = p.had holding it in record { held = left.held; lies = left.lies };
     } in
     subst (λ (hdu : HduState). HduEditsTo Keep bytes hdus old hdu (Ok x)) (sym is) made
 
@@ -134,5 +138,6 @@ releases bytes hdus old new x whole lasts part within is =
       room = tt;
       described = lasts.described;
       entry = refl;
+      had = λ holding it. record { held = it.held; lies = it.lies };
     } in
     subst (λ (hdu : HduState). HduEditsTo Release bytes hdus old hdu (Ok x)) (sym is) made

@@ -1,5 +1,5 @@
 -- Edits of one HDU: what each makes of it (own).
-use Rattle.std.specs.Prelude.{ℕ, Bool, List, Result, Ok, Err, if◌then◌else◌}
+use Rattle.std.specs.Prelude.{ℕ, Bool, true, false, List, Result, Ok, Err, if◌then◌else◌}
 use Rattle.fits_card.specs.Change.{cards_after}
 use Rattle.fits_card.specs.declared.change.Change.{Change}
 use Rattle.fits_plane.specs.declared.lent_paint.LentPaint.{LentPaint}
@@ -82,6 +82,12 @@ hdu_made primary (Reshape kind axes) hdu = hdu_reshaped (shape_of primary hdu.he
 hdu_made primary Stamp hdu = Ok (stamped hdu)
 hdu_made primary Keep hdu = Ok (stamped hdu)
 hdu_made primary Release hdu = Ok hdu
+
+-- whether an edit needs the pixels of its HDU
+abbrev pub needs_pixels : HduEdit → Bool
+needs_pixels (Pixels lo hi paint) = true
+needs_pixels (Reshape kind axes) = true
+needs_pixels edit = false
 
 -- the cards and names that it brings have their sizes
 abbrev pub HasHduSizes : HduEdit → Type 0

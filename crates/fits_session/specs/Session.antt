@@ -1,8 +1,9 @@
 -- What a session is to its callers, and what its calls owe.
-use Rattle.std.specs.Prelude.{◌≡◌, ◌⊎◌, ℕ, Bool, ◌+◌, ◌-◌, ◌<◌, ◌≤◌, List, Option, length, get_or, map, All, Result, Ok, Err, IfErr, OnOk, OnErr, None, Some, ℤ}
+use Rattle.std.specs.Prelude.{◌≡◌, ◌⊎◌, ℕ, Bool, ◌+◌, ◌-◌, ◌<◌, ◌≤◌, List, Option, length, get_or, map, All, true, Result, Ok, Err, IfErr, IfSome, OnOk, OnErr, None, Some, ℤ}
 use Rattle.std.specs.List.{insert, remove, slice_get}
 use Rattle.fits_card.specs.declared.change.Change.{Change}
 use Rattle.fits_rules.specs.Class.{is_primary}
+use Rattle.fits_plane.specs.DataUnit.{IsCounted, LiesIn}
 use Rattle.fits_plane.specs.Layout.{block_count}
 use Rattle.fits_plane.specs.Work.{rectangle_blocks}
 use Rattle.fits_rules.specs.Shape.{shape_of}
@@ -16,7 +17,7 @@ use Rattle.fits_hdu.specs.Reshape.{kept_count}
 use Rattle.fits_hdu.specs.Work.{apply_reads, open_reads, plane_work, FollowsBlank, IsMade, IsPatched, IsRenewed, PixelWork}
 use Rattle.fits_session.specs.Edit.{changed_of, hdu_of, is_primary_hdu, made_or}
 use Rattle.fits_session.specs.File.{file_bytes, FileParts, IsFile}
-use Rattle.fits_session.specs.HduEdit.{hdu_changed, hdu_made}
+use Rattle.fits_session.specs.HduEdit.{hdu_changed, hdu_made, needs_pixels}
 use Rattle.fits_session.specs.Keeping.{kept_after, padded_if, stamp_follows, stamped_if, then_stamped, IsRight}
 use Rattle.fits_session.specs.Marked.{is_stamped_after, marked_after, marked_refusal, Marked}
 use Rattle.fits_session.specs.NameTable.{Stands}
@@ -27,6 +28,17 @@ use Rattle.fits_session.specs.declared.edit.Edit.TheVariants.{Hdu, NewImage, Rem
 use Rattle.fits_session.specs.declared.hdu_edit.HduEdit.{HduEdit}
 use Rattle.fits_session.specs.declared.hdu_edit.HduEdit.TheVariants.{Pixels, Reshape}
 use Rattle.fits_session.specs.declared.refusal.Refusal.{Refusal}
+
+-- how the data units of a session are had: whether all of them are in memory, and the bytes of the file that the others lie in, where it
+-- tells them
+pub record Holding : Type 0 where
+  pub whole : Bool
+  pub told : Option (List ℕ)
+
+-- that of an HDU is had so
+pub record IsHad (holding : Holding) (one : HduState) : Type 0 where
+  pub held : holding.whole ≡ true → one.absent ≡ None
+  pub lies : IfSome holding.told (λ bytes. LiesIn bytes one.plane one.absent)
 
 -- HDUs under edits, and the bytes that trail them
 pub record SessionState : Type 0 where
@@ -204,14 +216,15 @@ pub record AsksPixels (h count : ℕ) (old new : SessionState) : Type 0 where
   pub pixel_work : works_of new.hdus ≡ changed_of h (read_more count) (works_of old.hdus)
 
 -- the HDUs and the tail are those of a file of so many bytes; the cards of each describe the shape that is kept; in those that are kept
--- stamped both sums are right; a table of names stands for them, with room for a name of each and one more
-pub record IsKept (hdus : List HduState) (tail : List ℕ) (bytes : ℕ) (entries : List (ExtensionName × ℕ)) (room : ℕ) : Type 0 where
+-- stamped both sums are right; a table of names stands for them, with room for a name of each and one more; their data units are had so
+pub record IsKept (holding : Holding) (hdus : List HduState) (tail : List ℕ) (bytes : ℕ) (entries : List (ExtensionName × ℕ)) (room : ℕ) : Type 0 where
   pub whole : IsFile (file_of (state_of hdus tail))
   pub len : bytes ≡ length (file_bytes (file_of (state_of hdus tail)))
   pub described : All IsDescribed hdus
   pub right : All IsRight hdus
   pub names : Stands hdus entries
   pub roomy : room ≡ length hdus + 1
+  pub had : All (IsHad holding) hdus
 
 -- HDUs are those of a file; the cards of each describe the shape that is kept, and a table of names stands for them
 pub record AreNamed (hdus : List HduState) (entries : List (ExtensionName × ℕ)) : Type 0 where
@@ -220,10 +233,31 @@ pub record AreNamed (hdus : List HduState) (entries : List (ExtensionName × ℕ
   pub described : All IsDescribed hdus
   pub names : Stands hdus entries
 
+-- however the data unit of an HDU is had, it is had so still
+abbrev pub StaysHad : HduState → HduState → Type 0
+StaysHad old new = (holding : Holding) → IsHad holding old → IsHad holding new
+
 -- HDU h of so many stands at index i, from 0
 pub record IsIndexOf (count h i : ℕ) : Type 0 where
   pub at : h ≡ i + 1
   pub within : i < count
+
+-- this holds of HDU h, if it is there
+abbrev pub IsSoOf : (HduState → Type 0) → ℕ → List HduState → Type 0
+IsSoOf Is h hdus = (i : ℕ) (one : HduState) → IsIndexOf (length hdus) h i → get_or hdus i one ≡ one → Is one
+
+-- its data unit is in memory
+abbrev pub IsHeld : HduState → Type 0
+IsHeld one = one.absent ≡ None
+
+-- its statistics are known
+abbrev pub HasStats : HduState → Type 0
+HasStats one = IsCounted one.plane one.absent
+
+-- where an edit needs pixels, those of its HDU are in memory
+abbrev pub IsReadyFor : Edit → List HduState → Type 0
+IsReadyFor (Hdu h edit) hdus = needs_pixels edit ≡ true → IsSoOf IsHeld h hdus
+IsReadyFor edit hdus = Unit {0}
 
 -- none of so many HDUs is HDU h
 abbrev pub IsNowhere : ℕ → ℕ → Type 0
@@ -261,6 +295,7 @@ pub record HduMakes {X : Type 0} (stamps kept : Bool) (made : Result HduParts Re
   pub room : OnErr result (new.header.room ≡ old.header.room)
   pub described : IsDescribed new
   pub entry : new.entry ≡ old.entry
+  pub had : StaysHad old new
 
 -- the stamp was made that follows an edit of an HDU, where one does; else it is as the edit left it
 pub record IsFinished (stamps : Bool) (old new : HduState) : Type 0 where
@@ -271,6 +306,7 @@ pub record IsFinished (stamps : Bool) (old new : HduState) : Type 0 where
   pub entry : new.entry ≡ old.entry
   pub kept : new.kept ≡ old.kept
   pub described : IsDescribed new
+  pub had : StaysHad old new
 
 -- an edit of an HDU owes this
 abbrev pub HduEditsTo : {X : Type 0} → HduEdit → (bytes hdus : ℕ) (old new : HduState) → Result X Refusal → Type 0

@@ -7,6 +7,7 @@ mod corner;
 mod edit;
 mod hdu_edit;
 mod headers;
+mod holder;
 mod laws;
 mod limits;
 mod name_counts;
@@ -33,6 +34,7 @@ pub use corner::Corner;
 pub use edit::Edit;
 pub use hdu_edit::HduEdit;
 pub use headers::{Headers, read_headers};
+pub use holder::{Holder, InFile, InMemory};
 pub use laws::{
     a_file_or_a_fault, a_set_keyword_says_its_value, accepted_edits_in_order,
     an_edited_file_is_a_file, as_many_cards_are_never_too_large, fewer_cards_pass_no_limit,

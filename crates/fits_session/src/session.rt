@@ -16,6 +16,7 @@ mod saving;
 mod stamping;
 
 use crate::edit::Edit;
+use crate::holder::{Holder, InMemory};
 use crate::limits::FILE_LIMIT;
 use crate::name_table::NameTable;
 use crate::open_fault::OpenFault;
@@ -32,9 +33,10 @@ use std::marker::Model;
 /// A file under edits: its HDUs, and the bytes after the last.
 ///
 /// HDUs count from 1. Contracts see the HDUs, how many cards of each were read and what work was
-/// done on its data unit so far, and the bytes after them.
+/// done on its data unit so far, and the bytes after them. All data units are in memory, but where
+/// another holder says how they are had.
 #[derive(Drop)]
-pub struct Session {
+pub struct Session<H: Holder + Drop = InMemory> {
     hdus: Vec<Hdu>,
     /// How many bytes the file has.
     len: u64,
@@ -42,16 +44,18 @@ pub struct Session {
     /// What the HDUs are called.
     names: NameTable,
     alloc: Global,
+    holder: H,
 }
 
-impl Model for Session {
+impl<H: Holder + Drop> Model for Session<H> {
     ghost use Rattle.fits_session.specs.Session.{SessionState, state_of, IsKept};
 
     ghost Value = { SessionState };
 
     ghost view = { λ session. state_of session.hdus.items session.tail.items };
 
-    ghost invariant = { λ session. IsKept session.hdus.items session.tail.items session.len
+    ghost invariant = { λ session. IsKept (record { whole = H.whole; told = H.told session.holder })
+        session.hdus.items session.tail.items session.len
         session.names.numbers.items session.names.room };
 }
 
@@ -65,7 +69,7 @@ impl Session {
     ghost use Rattle.fits_session.specs.Marked.{unmarked};
     ghost use Rattle.fits_session.specs.Opening.{HasOpenFault, OpenFails};
     ghost use Rattle.fits_session.specs.Reading.{ReadStops};
-    ghost use Rattle.fits_session.specs.Session.{file_of, marked_of, state_of, EditsTo};
+    ghost use Rattle.fits_session.specs.Session.{file_of, marked_of, state_of, EditsTo, IsHeld};
 
     /// Opens the file that has these bytes. No HDU is kept stamped.
     pub fn open(alloc: Global, bytes: &[u8]) -> Result<Session, OpenFault>
@@ -132,6 +136,7 @@ impl Session {
             tail,
             names,
             alloc,
+            holder: InMemory,
         })
     }
 
@@ -147,6 +152,26 @@ impl Session {
     /// `TooLarge`.
     pub fn edit(&mut self, edit: Edit) -> Result<(), Refusal>
         ensures edits { EditsTo edit self.old self.new result }
+    {
+        self.are_held();
+        self.make(edit)
+    }
+
+    // That all data units are in memory.
+    fn are_held(&self)
+        ensures { All IsHeld self.now.hdus }
+    {
+        let _hdus = self.hdus.len();
+    }
+}
+
+impl<H: Holder + Drop> Session<H> {
+    ghost use Rattle.fits_session.specs.Session.{EditsTo, IsReadyFor};
+
+    // Makes an edit, or refuses it. The pixels that it needs are in memory.
+    fn make(&mut self, edit: Edit) -> Result<(), Refusal>
+        requires { IsReadyFor edit self.old.hdus }
+        ensures { EditsTo edit self.old self.new result }
     {
         match &edit {
             Edit::Hdu { hdu, edit } => self.edit_hdu(*hdu, edit),

@@ -29,7 +29,7 @@ past_more a b c m n p q = record {
 pub ruleset skipping_steps = (past_none, past_read)
 
 -- bytes that are known to be there are gone past
-past_places : (bytes : Option (List ℕ)) (place len count : ℕ) → IfSome bytes (λ xs. len ≤ length xs) → count ≤ len - place → GoesPast (bytes_from place bytes) (bytes_from (place + count) bytes) count
+pub past_places : (bytes : Option (List ℕ)) (place len count : ℕ) → IfSome bytes (λ xs. len ≤ length xs) → count ≤ len - place → GoesPast (bytes_from place bytes) (bytes_from (place + count) bytes) count
 past_places None place len count known le = record { bytes = replicate count 0; gone = tt; size = length-replicate count 0 }
 past_places (Some xs) place len count known le = record {
   bytes = take count (drop place xs);

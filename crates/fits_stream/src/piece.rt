@@ -144,13 +144,13 @@ fn fill_after<R: Source>(
 {
     let (_, rest) = room.split_at_mut(held);
     let (rest, _) = rest.split_at_mut(len);
-    fill_from(source, rest)
+    fill(source, rest)
 }
 
-// Fills the room by as many reads as it takes, or as far as the source ends, and says how many bytes
-// it has.
+/// Fills the room by as many reads as it takes, or as far as the source ends, and says how many bytes
+/// it has.
 #[tactic(auto, using(crate::proofs::IntakeLemmas::filling_steps))]
-fn fill_from<R: Source>(source: &mut R, room: &mut [u8]) -> io::Result<usize>
+pub fn fill<R: Source>(source: &mut R, room: &mut [u8]) -> io::Result<usize>
     ensures ok { IfOk result (λ count. Reads (take count room.new)
         (R.state source.old) (R.state source.new)) }
     ensures within { IfOk result (λ count. count ≤ length room.new) }

@@ -5,7 +5,7 @@ use crate::sum_keywords::SumKeywords;
 use fits_codes::HeaderMark;
 use fits_header::Header;
 use fits_image::Kind;
-use fits_plane::Plane;
+use fits_plane::DataUnit;
 use std::test::Fail;
 
 // A value that holds no memory of its own.
@@ -23,7 +23,7 @@ fn fields(rt: HostRuntime) -> Result<(), Fail> {
     assert_eq!(rt; len, 2880);
     let Hdu {
         header,
-        plane,
+        unit,
         mark,
         kind,
         sums,
@@ -31,13 +31,13 @@ fn fields(rt: HostRuntime) -> Result<(), Fail> {
         kept,
     } = hdu;
     let header: Header = header;
-    let plane: Plane = plane;
+    let unit: DataUnit = unit;
     plain::<HeaderMark>(mark);
     plain::<Option<Kind>>(kind);
     plain::<SumKeywords>(sums);
     plain::<Option<usize>>(entry);
     plain::<bool>(kept);
     assert_eq!(rt; header.len(), 3);
-    assert_eq!(rt; plane.byte_len(), 0);
+    assert_eq!(rt; unit.byte_len(), 0);
     Ok(())
 }

@@ -4,6 +4,7 @@ use crate::data_unit::unit_len;
 use crate::layout::zero_plane;
 use fits_header::Header;
 use fits_image::{Kind, image_header};
+use fits_plane::DataUnit;
 use fits_rules::Shape;
 use std::alloc::{AllocError, Global};
 
@@ -34,6 +35,7 @@ impl Hdu {
         ensures unnamed { IfOk result (λ it. name_of it ≡ None) }
         ensures entry { IfOk result (λ it. it.entry ≡ None) }
         ensures kept { IfOk result (λ it. it.kept ≡ false) }
+        ensures held { IfOk result (λ it. it.absent ≡ None) }
         ensures work { IfOk result (λ it. it.header.reads ≤ open_reads it.header.header.cards) }
         ensures scans { IfOk result (λ it. IsMade (block_count it.plane.bytes)
             (plane_work it.plane)) }
@@ -44,7 +46,7 @@ impl Hdu {
         let cards = image_header(alloc, kind, shape.axes.as_slice())?;
         let mut header = Header::open(alloc, cards, shape)?;
         match zero_plane(alloc, &mut header, len) {
-            Ok(plane) => Ok(Hdu::joined(header, plane)),
+            Ok(plane) => Ok(Hdu::joined(header, DataUnit::held(plane))),
             Err(refused) => {
                 drop(header);
                 Err(refused)

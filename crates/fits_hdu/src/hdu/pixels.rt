@@ -6,7 +6,8 @@ use fits_plane::{LentPaint, ValueSummary, is_rectangle, rectangle_len};
 use std::alloc::Global;
 
 impl Hdu {
-    ghost use Rattle.std.specs.Prelude.{◌≡◌, ◌≤◌, ◌<◌, ◌+◌, ◌^◌, ℕ, true, length, Some, Ok, Err, IsOk, IfOk, IfErr, OnOk, OnErr};
+    ghost use Rattle.std.specs.Prelude.{◌≡◌, ◌≤◌, ◌<◌, ◌+◌, ◌^◌, ℕ, true, length, None, Some, Ok, Err, IsOk, IfOk, IfErr, OnOk, OnErr};
+    ghost use Rattle.fits_plane.specs.DataUnit.{IsCounted};
     ghost use Rattle.fits_plane.specs.Layout.{block_count};
     ghost use Rattle.fits_plane.specs.Paint.{can_store_paint, has_count, painted_number};
     ghost use Rattle.fits_plane.specs.Pixels.{IsStorable};
@@ -22,16 +23,18 @@ impl Hdu {
     /// reads no card and no pixel.
     #[tactic(auto, using(crate::proofs::PixelLemmas::pixel_steps))]
     pub fn stats(&self) -> Option<ValueSummary>
+        requires { IsCounted self.now.plane self.now.absent }
         ensures { result ≡ stats_of self.now.header.shape (parts_of self.now) }
     {
         let kind = self.kind?;
-        Some(self.plane.value_stats(kind.offset()))
+        Some(self.unit.value_stats(kind.offset()))
     }
 
     /// The values of a rectangle of pixels, in file order. Corners count from 1, and each pixel is
     /// read once.
     #[tactic(auto, using(crate::proofs::PixelLemmas::pixel_steps))]
     pub fn rect(&mut self, alloc: Global, lo: &[u64], hi: &[u64]) -> Result<Vec<i128>, PixelFault>
+        requires { self.old.absent ≡ None }
         ensures ok { IfOk result (λ values. rect_of
             self.old.header.shape lo.now hi.now (parts_of self.old) ≡ Ok values.items) }
         ensures err { IfErr result (RectFails (rect_of
@@ -50,7 +53,7 @@ impl Hdu {
         if !is_rectangle(axes, lo, hi) {
             return Err(PixelFault::BadRectangle);
         }
-        let Ok(values) = self.plane.rect(alloc, axes, lo, hi, kind.offset()) else {
+        let Ok(values) = self.unit.rect(alloc, axes, lo, hi, kind.offset()) else {
             return Err(PixelFault::Memory);
         };
         Ok(values)
@@ -61,6 +64,7 @@ impl Hdu {
     /// It takes no memory. Of the data unit it scans the blocks that hold a byte of the rectangle.
     #[tactic(auto, using(crate::proofs::PixelLemmas::pixel_steps))]
     pub fn paint(&mut self, lo: &[u64], hi: &[u64], paint: &LentPaint) -> Result<(), PixelFault>
+        requires { self.old.absent ≡ None }
         ensures ok { OnOk result (painted
             self.old.header.shape lo.now hi.now paint.now (parts_of self.old)
             ≡ Ok (parts_of self.new)) }
@@ -77,7 +81,7 @@ impl Hdu {
     {
         let kind = self.paintable(lo, hi, paint)?;
         let axes = self.header.shape().axes.as_slice();
-        self.plane.paint_rect(axes, lo, hi, paint, kind.offset());
+        self.unit.paint_rect(axes, lo, hi, paint, kind.offset());
         Ok(())
     }
 
@@ -117,7 +121,7 @@ impl Hdu {
             return Err(PixelFault::BadRectangle);
         }
         // The layout says that the pixels are few.
-        let _layout = self.plane.layout();
+        let _layout = self.unit.layout();
         if !paint.has_count(rectangle_len(axes, lo, hi)) {
             return Err(PixelFault::WrongCount);
         }

@@ -24,7 +24,7 @@ impl Hdu {
     pub fn datasum(&self) -> u32
         ensures { result ≡ data_sum (parts_of self.now) }
     {
-        fold(self.plane.total())
+        fold(self.unit.total())
     }
 
     /// Whether its sums are right (FITS Standard 4.0, section 4.4.2.7). It takes no memory, and
@@ -35,7 +35,7 @@ impl Hdu {
     {
         // A header is of whole words, so the data unit's total adds to its own.
         let _whole_words = self.header.len();
-        let unit = self.plane.total();
+        let unit = self.unit.total();
         let whole = whole_sum(self.header.total(), unit);
         verdicts_by(self.sums, fold(unit), whole)
     }
@@ -48,7 +48,7 @@ impl Hdu {
         ensures { result ≡ whole_codes self.now.header.shape (parts_of self.now) }
     {
         let codes = judge_header_mark(&self.mark, self.header.shape());
-        with_data_codes(codes, self.plane.fill_ok(), self.verdicts())
+        with_data_codes(codes, self.unit.fill_ok(), self.verdicts())
     }
 
     /// What is found of its cards: by place, and at each by code. No card is read.

@@ -14,7 +14,7 @@ use fits_plane::PlaneRoom;
 use std::alloc::Global;
 
 impl Hdu {
-    ghost use Rattle.std.specs.Prelude.{◌≡◌, ◌≤◌, ◌+◌, ◌^◌, length, Ok, IfErr, IfOk, OnErr, OnOk};
+    ghost use Rattle.std.specs.Prelude.{◌≡◌, ◌≤◌, ◌+◌, ◌^◌, length, None, Ok, IfErr, IfOk, OnErr, OnOk};
     ghost use Rattle.fits_card.specs.Change.{new_cards};
     ghost use Rattle.fits_card.specs.Header.{with_cards};
     ghost use Rattle.fits_plane.specs.Layout.{block_count};
@@ -43,6 +43,7 @@ impl Hdu {
         most: usize,
         spare: usize,
     ) -> Result<usize, ReshapeFault>
+        requires held { self.old.absent ≡ None }
         requires most { most ≤ 2 ^ 34 }
         requires spare { spare ≤ 2 ^ 10 }
         ensures ok { OnOk result (reshaped kind axes.now self.old.header.shape (parts_of self.old)
@@ -71,6 +72,7 @@ impl Hdu {
             (plane_work self.old.plane) (plane_work self.new.plane)) }
         ensures entry { self.new.entry ≡ self.old.entry }
         ensures kept { self.new.kept ≡ self.old.kept }
+        ensures held { self.new.absent ≡ None }
         ensures described { IsDescribed self.old }
         ensures left { IsDescribed self.new }
     {
@@ -78,7 +80,7 @@ impl Hdu {
         let plan = plan(alloc, &mut self.header, kind, axes)?;
         let cards = count_reshaped(&mut self.header, &plan);
         let len = unit_within(&plan.shape, cards, spare, most);
-        let bytes = reshape_unit(alloc, &mut self.plane, &plan, len)?;
+        let bytes = reshape_unit(alloc, &mut self.unit, &plan, len)?;
         let room = PlaneRoom::new(alloc, bytes.len() / BLOCK_LEN)?;
         let gone = self.header.shape().axes.as_slice().len();
         self.header
@@ -90,6 +92,7 @@ impl Hdu {
 
     // Writes its cards, and takes its data unit. It takes no memory.
     fn renew(&mut self, plan: Reshaping, room: PlaneRoom, bytes: Vec<u8>)
+        requires held { self.old.absent ≡ None }
         requires plan { IsPlan plan.kind plan.shape.axes self.old.header.shape
             self.old.header.header.cards plan }
         requires room { length (new_cards plan.change)
@@ -109,6 +112,7 @@ impl Hdu {
             (plane_work self.old.plane) (plane_work self.new.plane) }
         ensures entry { self.new.entry ≡ self.old.entry }
         ensures kept { self.new.kept ≡ self.old.kept }
+        ensures held { self.new.absent ≡ None }
         ensures left { self.old.header.room + length self.old.header.shape.axes
             ≤ self.new.header.room + length (new_cards plan.change) }
         ensures described { IsDescribed self.new }
@@ -118,6 +122,6 @@ impl Hdu {
         self.kind = image_kind(&mut self.header);
         self.sums = sum_keywords(&mut self.header);
         let layout = layout_of(&mut self.header);
-        self.plane.renew(room, bytes, layout);
+        self.unit.renew(room, bytes, layout);
     }
 }

@@ -52,6 +52,7 @@ impl Hdu {
             ≤ self.old.header.reads + stamp_reads self.old.header.header.cards }
         ensures entry { self.new.entry ≡ self.old.entry }
         ensures kept { self.new.kept ≡ self.old.kept }
+        ensures absent { self.new.absent ≡ self.old.absent }
         ensures described { IsDescribed self.old }
         ensures left { IsDescribed self.new }
     {
@@ -85,6 +86,7 @@ impl Hdu {
             ≤ self.old.header.reads + stamp_reads self.old.header.header.cards }
         ensures entry { self.new.entry ≡ self.old.entry }
         ensures kept { self.new.kept ≡ self.old.kept }
+        ensures absent { self.new.absent ≡ self.old.absent }
         ensures described { IsDescribed self.old }
         ensures left { IsDescribed self.new }
     {
@@ -138,6 +140,7 @@ impl Hdu {
             + keyword_reads self.old.header.header.cards name.now + apply_reads }
         ensures entry { self.new.entry ≡ self.old.entry }
         ensures kept { self.new.kept ≡ self.old.kept }
+        ensures absent { self.new.absent ≡ self.old.absent }
         ensures described { IsDescribed self.new }
     {
         let count = self.card_count();

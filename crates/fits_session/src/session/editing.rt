@@ -3,7 +3,8 @@ ghost use Rattle.std.specs.Prelude.{◌≡◌, ◌≤◌, ◌^◌, true, length,
 ghost use Rattle.fits_hdu.specs.Hdu.{hdu_bytes};
 ghost use Rattle.fits_hdu.specs.State.{parts_of};
 ghost use Rattle.fits_session.specs.Limits.{is_within_limits};
-ghost use Rattle.fits_session.specs.Session.{length_with, HduEditsTo};
+ghost use Rattle.fits_session.specs.HduEdit.{needs_pixels};
+ghost use Rattle.fits_session.specs.Session.{length_with, HduEditsTo, IsHeld};
 
 use super::Session;
 use super::cards::edit_cards;
@@ -15,15 +16,17 @@ use super::reshaping::reshape;
 use super::stamping::stamp;
 use crate::edit::Edit;
 use crate::hdu_edit::HduEdit;
+use crate::holder::Holder;
 use crate::refusal::Refusal;
 use fits_hdu::Hdu;
 use std::alloc::Global;
 
-impl Session {
-    ghost use Rattle.fits_session.specs.Session.{EditsTo};
+impl<H: Holder + Drop> Session<H> {
+    ghost use Rattle.fits_session.specs.Session.{EditsTo, IsReadyFor};
 
     // Makes an edit of HDU h, or refuses it.
     pub(super) fn edit_hdu(&mut self, h: usize, edit: &HduEdit) -> Result<(), Refusal>
+        requires { IsReadyFor (Edit.Hdu h edit.now) self.old.hdus }
         ensures { EditsTo (Edit.Hdu h edit.now) self.old self.new result }
     {
         let i = index_of(&self.hdus, h)?;
@@ -47,6 +50,7 @@ fn edit_hdu(
 ) -> Result<u64, Refusal>
     requires part { length (hdu_bytes (parts_of hdu.old)) ≤ len }
     requires within { is_within_limits len hdus ≡ true }
+    requires ready { needs_pixels edit.now ≡ true → IsHeld hdu.old }
     ensures edits { HduEditsTo edit.now len hdus hdu.old hdu.new result }
     ensures len { IfOk result (λ after. after
         ≡ length_with len (parts_of hdu.old) (parts_of hdu.new)) }
@@ -66,6 +70,7 @@ fn make_edit(
 ) -> Result<(), Refusal>
     requires part { length (hdu_bytes (parts_of hdu.old)) ≤ len }
     requires within { is_within_limits len hdus ≡ true }
+    requires ready { needs_pixels edit.now ≡ true → IsHeld hdu.old }
     ensures { HduEditsTo edit.now len hdus hdu.old hdu.new result }
 {
     match edit {
@@ -83,5 +88,5 @@ pub(super) fn hdu_len(hdu: &Hdu) -> u64
     requires { length (hdu_bytes (parts_of hdu.now)) ≤ 2 ^ 34 }
     ensures { result ≡ length (hdu_bytes (parts_of hdu.now)) }
 {
-    (hdu.header().byte_len() + hdu.plane().byte_len()) as u64
+    (hdu.header().byte_len() + hdu.data_len()) as u64
 }

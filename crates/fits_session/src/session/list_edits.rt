@@ -4,13 +4,14 @@ use super::changes::is_within;
 use super::finding::index_of;
 use super::naming::leave;
 use crate::edit::Edit;
+use crate::holder::Holder;
 use crate::limits::{FILE_LIMIT, HDU_LIMIT};
 use crate::refusal::Refusal;
 use fits_hdu::{Hdu, image_len};
 use fits_image::{Kind, are_axes, image_shape};
 use fits_rules::Axes;
 
-impl Session {
+impl<H: Holder + Drop> Session<H> {
     ghost use Rattle.fits_session.specs.Session.{EditsTo};
 
     // Puts in a new image as HDU `at`.
@@ -53,7 +54,7 @@ impl Session {
         }
         let hdu = self.hdus.remove(i);
         let header_len = hdu.header().byte_len();
-        let data_len = hdu.plane().byte_len();
+        let data_len = hdu.data_len();
         let entry = hdu.entry();
         self.len -= (header_len + data_len) as u64;
         leave(&mut self.hdus, &mut self.names, entry);

@@ -3,7 +3,7 @@ ghost use Rattle.std.specs.Prelude.{◌≡◌, ◌+◌, ◌<◌, ◌≤◌, ◌^
 ghost use Rattle.fits_hdu.specs.State.{IsDescribed};
 ghost use Rattle.fits_hdu.specs.Work.{name_reads, IsOpened};
 ghost use Rattle.fits_session.specs.NameTable.{mended, Leaves, Stands, Stood};
-ghost use Rattle.fits_session.specs.Session.{hdus_of, kept_of, reads_of, without_entries, works_of, ReadsOnly};
+ghost use Rattle.fits_session.specs.Session.{hdus_of, kept_of, reads_of, without_entries, works_of, Holding, IsHad, ReadsOnly};
 
 use crate::name_counts::NameCounts;
 use crate::name_table::NameTable;
@@ -45,6 +45,8 @@ pub(crate) fn follow(hdus: &mut Vec<Hdu>, table: &mut NameTable, i: usize)
         (reads_of hdus.old.items) (reads_of hdus.new.items) }
     ensures works { works_of hdus.new.items ≡ works_of hdus.old.items }
     ensures kept { kept_of hdus.new.items ≡ kept_of hdus.old.items }
+    ensures had { (holding : Holding) → All (IsHad holding) hdus.old.items
+        → All (IsHad holding) hdus.new.items }
 {
     let hdu = &mut hdus[i];
     let name = hdu.extension_name();

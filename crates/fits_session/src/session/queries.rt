@@ -7,6 +7,7 @@ ghost use Rattle.fits_session.specs.Session.{hdus_of, AreNamed};
 
 use super::Session;
 use super::finding::index_of;
+use crate::holder::Holder;
 use crate::name_table::NameTable;
 use crate::offsets::HduOffsets;
 use crate::problem::Problem;
@@ -21,7 +22,7 @@ use fits_rules::Shape;
 use fits_value::{Text, Value};
 use std::alloc::{AllocError, Global};
 
-impl Session {
+impl<H: Holder + Drop> Session<H> {
     ghost use Rattle.std.specs.Prelude.{◌≡◌, true, length, IfOk, IfErr, OnOk, OnErr, None, Ok};
     ghost use Rattle.fits_plane.specs.Rectangle.{rectangle_size};
     ghost use Rattle.fits_session.specs.Edit.{hdu_of};
@@ -30,7 +31,7 @@ impl Session {
     ghost use Rattle.fits_session.specs.Marked.{kept_in};
     ghost use Rattle.fits_session.specs.Query.{card_count_in, datasum_in, kind_in, names_in, positions_in, rect_in, shape_in, stats_in, value_in, verdicts_in, PlacesFail, QueryFails};
     ghost use Rattle.fits_session.specs.Report.{counts_in, report_of};
-    ghost use Rattle.fits_session.specs.Session.{file_of, marked_of, Asks, AsksPixels};
+    ghost use Rattle.fits_session.specs.Session.{file_of, marked_of, Asks, AsksPixels, HasStats, IsHeld, IsSoOf};
     ghost use Rattle.fits_session.specs.Work.{value_reads};
 
     /// How many HDUs there are.
@@ -69,16 +70,6 @@ impl Session {
         hdu.kind().ok_or(Refusal::NotImage)
     }
 
-    /// The statistics of the pixels of HDU h. Refusals 1 and 9. It takes no memory, and reads
-    /// nothing.
-    pub fn stats(&self, h: usize) -> Result<Stats, Refusal>
-        ensures { result ≡ stats_in (file_of self.now) h }
-    {
-        let i = index_of(&self.hdus, h)?;
-        let hdu = &self.hdus[i];
-        hdu.stats().ok_or(Refusal::NotImage)
-    }
-
     /// The sum of the data unit of HDU h, with its fill (FITS Standard 4.0, Appendix J). Refusal 1.
     /// It takes no memory, and reads nothing.
     pub fn datasum(&self, h: usize) -> Result<u32, Refusal>
@@ -109,22 +100,6 @@ impl Session {
         let i = index_of(&self.hdus, h)?;
         let hdu = &self.hdus[i];
         Ok(hdu.kept())
-    }
-
-    /// The values of a rectangle of HDU h, in file order. The corners count from 1. Refusals 1, 9,
-    /// 10 and 15. Each of its pixels is read once.
-    pub fn rect(&mut self, h: usize, lo: &[u64], hi: &[u64]) -> Result<Vec<i128>, Refusal>
-        ensures ok { IfOk result (λ values. rect_in (file_of self.old) h lo.now hi.now
-            ≡ Ok values.items) }
-        ensures err { IfErr result (QueryFails (rect_in (file_of self.old) h lo.now hi.now)) }
-        ensures asks { OnOk result (AsksPixels h (rectangle_size lo.now hi.now)
-            self.old self.new) }
-        ensures same { OnErr result (self.new ≡ self.old) }
-    {
-        let i = index_of(&self.hdus, h)?;
-        let hdu = &mut self.hdus[i];
-        let values = hdu.rect(self.alloc, lo, hi)?;
-        Ok(values)
     }
 
     /// The value of a keyword in HDU h, with the cards that continue it, and its comment. Refusals
@@ -193,6 +168,62 @@ impl Session {
     {
         offsets_of(self.alloc, &self.hdus)
     }
+
+    // The statistics of the pixels of HDU h, which are known.
+    fn known_stats(&self, h: usize) -> Result<Stats, Refusal>
+        requires { IsSoOf HasStats h self.now.hdus }
+        ensures { result ≡ stats_in (file_of self.now) h }
+    {
+        let i = index_of(&self.hdus, h)?;
+        let hdu = &self.hdus[i];
+        hdu.stats().ok_or(Refusal::NotImage)
+    }
+
+    // The values of a rectangle of HDU h, whose data unit is in memory.
+    fn held_rect(&mut self, h: usize, lo: &[u64], hi: &[u64]) -> Result<Vec<i128>, Refusal>
+        requires { IsSoOf IsHeld h self.old.hdus }
+        ensures ok { IfOk result (λ values. rect_in (file_of self.old) h lo.now hi.now
+            ≡ Ok values.items) }
+        ensures err { IfErr result (QueryFails (rect_in (file_of self.old) h lo.now hi.now)) }
+        ensures asks { OnOk result (AsksPixels h (rectangle_size lo.now hi.now)
+            self.old self.new) }
+        ensures same { OnErr result (self.new ≡ self.old) }
+    {
+        let i = index_of(&self.hdus, h)?;
+        let hdu = &mut self.hdus[i];
+        let values = hdu.rect(self.alloc, lo, hi)?;
+        Ok(values)
+    }
+}
+
+impl Session {
+    ghost use Rattle.std.specs.Prelude.{◌≡◌, IfOk, IfErr, OnOk, OnErr, Ok};
+    ghost use Rattle.fits_plane.specs.Rectangle.{rectangle_size};
+    ghost use Rattle.fits_session.specs.Query.{rect_in, stats_in, QueryFails};
+    ghost use Rattle.fits_session.specs.Session.{file_of, AsksPixels};
+
+    /// The statistics of the pixels of HDU h. Refusals 1 and 9. It takes no memory, and reads
+    /// nothing.
+    pub fn stats(&self, h: usize) -> Result<Stats, Refusal>
+        ensures { result ≡ stats_in (file_of self.now) h }
+    {
+        self.are_held();
+        self.known_stats(h)
+    }
+
+    /// The values of a rectangle of HDU h, in file order. The corners count from 1. Refusals 1, 9,
+    /// 10 and 15. Each of its pixels is read once.
+    pub fn rect(&mut self, h: usize, lo: &[u64], hi: &[u64]) -> Result<Vec<i128>, Refusal>
+        ensures ok { IfOk result (λ values. rect_in (file_of self.old) h lo.now hi.now
+            ≡ Ok values.items) }
+        ensures err { IfErr result (QueryFails (rect_in (file_of self.old) h lo.now hi.now)) }
+        ensures asks { OnOk result (AsksPixels h (rectangle_size lo.now hi.now)
+            self.old self.new) }
+        ensures same { OnErr result (self.new ≡ self.old) }
+    {
+        self.are_held();
+        self.held_rect(h, lo, hi)
+    }
 }
 
 // What is wrong in HDUs, one after another, with a table of what they are called.
@@ -244,7 +275,7 @@ fn offsets_of(alloc: Global, hdus: &[Hdu]) -> Result<Vec<HduOffsets>, AllocError
     let mut start = 0;
     for hdu in hdus {
         let header_len = hdu.header().byte_len();
-        let data_len = hdu.plane().byte_len();
+        let data_len = hdu.data_len();
         let data_start = start + header_len as u64;
         let hdu_end = data_start + data_len as u64;
         offsets.push(HduOffsets {

@@ -3,7 +3,7 @@ ghost use Rattle.std.specs.Prelude.{◌≡◌, ◌≤◌, true, length};
 ghost use Rattle.fits_hdu.specs.Hdu.{hdu_bytes};
 ghost use Rattle.fits_hdu.specs.State.{parts_of};
 ghost use Rattle.fits_session.specs.Limits.{is_within_limits};
-ghost use Rattle.fits_session.specs.Session.{HduEditsTo};
+ghost use Rattle.fits_session.specs.Session.{HduEditsTo, IsHeld};
 
 use super::editing::hdu_len;
 use super::keeping::{finish, spare_cards, stamp_cards};
@@ -24,6 +24,7 @@ pub(super) fn reshape(
     kind: Kind,
     axes: &Axes,
 ) -> Result<(), Refusal>
+    requires held { IsHeld hdu.old }
     requires part { length (hdu_bytes (parts_of hdu.old)) ≤ len }
     requires within { is_within_limits len hdus ≡ true }
     ensures { HduEditsTo (HduEdit.Reshape kind axes.now) len hdus hdu.old hdu.new result }

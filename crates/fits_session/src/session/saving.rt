@@ -1,8 +1,8 @@
 //! Writing the file.
-ghost use Rattle.std.specs.Prelude.{◌≡◌, ◌+◌, IsOk, IsErr, OnOk, OnErr};
+ghost use Rattle.std.specs.Prelude.{◌≡◌, ◌+◌, All, IsOk, IsErr, OnOk, OnErr};
 ghost use Rattle.fits_stream.specs.Stream.{Prints, PrintsFront};
 ghost use Rattle.fits_session.specs.File.{joined_hdus};
-ghost use Rattle.fits_session.specs.Session.{hdus_of, each_read, ReadsOnceAtMost};
+ghost use Rattle.fits_session.specs.Session.{hdus_of, each_read, IsHeld, ReadsOnceAtMost};
 
 use super::Session;
 use crate::save_fault::SaveFault;
@@ -29,6 +29,7 @@ impl Session {
         ensures work { ReadsOnceAtMost self.old.hdus self.new.hdus }
         ensures all_read { OnOk result (self.new.hdus ≡ each_read self.old.hdus) }
     {
+        self.are_held();
         outcome(write_hdus(&mut self.hdus, sink))?;
         outcome(write_all(sink, &self.tail))
     }
@@ -48,6 +49,7 @@ fn outcome(written: io::Result<()>) -> Result<(), SaveFault>
 // Writes HDUs, one after another. Where a call fails a prefix was written.
 #[tactic(auto, using(crate::proofs::SaveLemmas::save_steps))]
 fn write_hdus<W: Sink>(hdus: &mut Vec<Hdu>, sink: &mut W) -> io::Result<()>
+    requires { All IsHeld hdus.old.items }
     ensures ok { OnOk result (Prints (joined_hdus (hdus_of hdus.old.items))
         (W.state sink.old) (W.state sink.new)) }
     ensures err { OnErr result (PrintsFront (joined_hdus (hdus_of hdus.old.items))

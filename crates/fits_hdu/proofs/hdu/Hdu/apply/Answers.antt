@@ -10,4 +10,4 @@ apply-requires-clause-kept c = rw (kept_value _ _ c.self.inside.header.shape c.s
 pub follow_blank-requires : goal.follow_blank-requires
 follow_blank-requires c =
     let shape = c.sum_keywords-self-inside.ensures.work.shape ∙ (c.image_kind-self-inside.ensures.work.shape ∙ (c.mark-self-inside.ensures.work.shape ∙ c.apply.ensures.shape)) in
-    rw shape (layout_kept c.self.inside.header.shape c.self.inside.header.header.cards c.sum_keywords-self-inside.new.header.header.cards c.self.inside.plane.layout c.self.invariant.layout)
+    rw shape (layout_kept c.self.inside.header.shape c.self.inside.header.header.cards c.sum_keywords-self-inside.new.header.header.cards c.self.inside.unit.plane.layout c.self.invariant.layout)

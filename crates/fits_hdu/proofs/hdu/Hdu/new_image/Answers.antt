@@ -4,6 +4,8 @@ use Rattle.fits_card.specs.Header.{Header, new_header}
 use Rattle.fits_rules.specs.Size.{data_length}
 use Rattle.fits_rules.specs.Class.{is_primary}
 use Rattle.fits_rules.specs.declared.array_shape.Shape.{Shape}
+use Rattle.fits_plane.specs.DataUnit.{UnitState}
+use Rattle.fits_plane.specs.Plane.{PlaneState}
 use Rattle.fits_hdu.specs.ExtensionName.{extension_name}
 use Rattle.fits_image.specs.ImageCards.{image_cards}
 use Rattle.fits_hdu.specs.State.{parts_of}
@@ -17,7 +19,7 @@ returns-in-Ok-zero_plane-clause-hdu c =
     let axes = ap (λ (xs : List ℕ). new_header (image_cards c.args.kind xs)) c.as_slice.ensures in
     new_made c.args.kind c.args.shape (parts_of c.joined.result) c.in-Ok.len c.requires.shape
     (c.joined.ensures.header ∙ (c.zero_plane.ensures.work.header ∙ (c.in_ok-header.ensures.header ∙ (c.in_ok-cards.ensures.header ∙ axes))))
-    (c.joined.ensures.unit ∙ c.in-Ok-zero_plane.ensures.bytes) c.in-Ok.ensures.ok
+    (ap (λ (plane : PlaneState). plane.bytes) (c.joined.ensures.unit ∙ ap (λ (unit : UnitState). unit.plane) c.held.ensures) ∙ c.in-Ok-zero_plane.ensures.bytes) c.in-Ok.ensures.ok
 
 pub returns-in-Ok-zero_plane-clause-shape : goal.returns-in-Ok-zero_plane-clause-shape
 returns-in-Ok-zero_plane-clause-shape c = c.joined.ensures.shape ∙ (c.zero_plane.ensures.work.shape ∙ c.in_ok-header.ensures.shape)
@@ -35,10 +37,10 @@ joined-requires-clause-described c =
 
 pub joined-requires-clause-size : goal.joined-requires-clause-size
 joined-requires-clause-size c =
-    ap length c.in-Ok-zero_plane.ensures.bytes ∙ (length-replicate {A = ℕ} c.in-Ok.len 0 ∙ (c.in-Ok.ensures.ok ∙ ap data_length (sym (c.zero_plane.ensures.work.shape ∙ c.in_ok-header.ensures.shape))))
+    rw c.held.ensures (ap length c.in-Ok-zero_plane.ensures.bytes ∙ (length-replicate {A = ℕ} c.in-Ok.len 0 ∙ (c.in-Ok.ensures.ok ∙ ap data_length (sym (c.zero_plane.ensures.work.shape ∙ c.in_ok-header.ensures.shape)))))
 
 pub joined-requires-clause-layout : goal.joined-requires-clause-layout
-joined-requires-clause-layout c = rw (c.zero_plane.ensures.work.header, c.zero_plane.ensures.work.shape) c.in-Ok-zero_plane.ensures.layout
+joined-requires-clause-layout c = rw (c.held.ensures, c.zero_plane.ensures.work.header, c.zero_plane.ensures.work.shape) c.in-Ok-zero_plane.ensures.layout
 
 pub zero_plane-requires-clause-size : goal.zero_plane-requires-clause-size
 zero_plane-requires-clause-size c = c.in-Ok.ensures.ok ∙ ap data_length (sym c.in_ok-header.ensures.shape)
@@ -55,7 +57,10 @@ returns-in-Ok-zero_plane-clause-work c =
     omega (arith, ap (λ (header : Header). length header.cards) same, c.joined.ensures.work, c.zero_plane.ensures.work.most, c.in_ok-header.ensures.work, c.in_ok-cards.ensures.unread)
 
 pub returns-in-Ok-zero_plane-clause-scans : goal.returns-in-Ok-zero_plane-clause-scans
-returns-in-Ok-zero_plane-clause-scans c = rw (c.joined.ensures.scans, c.joined.ensures.unit, c.in-Ok-zero_plane.ensures.bytes) c.in-Ok-zero_plane.ensures.scans
+returns-in-Ok-zero_plane-clause-scans c = rw (c.joined.ensures.unit, c.held.ensures, c.in-Ok-zero_plane.ensures.bytes) c.in-Ok-zero_plane.ensures.scans
+
+pub returns-in-Ok-zero_plane-clause-held : goal.returns-in-Ok-zero_plane-clause-held
+returns-in-Ok-zero_plane-clause-held c = c.joined.ensures.absent ∙ ap (λ (unit : UnitState). unit.absent) c.held.ensures
 
 -- it isn't called anything
 pub returns-in-Ok-zero_plane-clause-unnamed : goal.returns-in-Ok-zero_plane-clause-unnamed

@@ -34,22 +34,22 @@ returns-clause-ok c =
     let width = ap (λ (l : Layout). l.width) c.self.invariant.layout ∙ layout_width t.header.shape t.header.header.cards kind c.self.invariant.described some in
     let axes = c.as_slice-axes.ensures ∙ ap (λ (shape : Shape). shape.axes) c.shape.ensures.value in
     let offset = offset_fits kind c.offset.result c.offset.ensures ∙ c.offset.ensures in
-    let put : c.paint_rect.new.self.bytes ≡ rectangle_written t.plane.layout.width t.header.shape.axes c.args.lo.now c.args.hi.now (painted_number c.args.paint.now (offset_of kind)) t.plane.bytes =
-    c.paint_rect.ensures.bytes
-    ∙ ap (λ o. rectangle_written t.plane.layout.width c.as_slice-axes.result.now c.args.lo.now c.args.hi.now (painted_number c.args.paint.now o) t.plane.bytes) offset
-    ∙ ap (λ xs. rectangle_written t.plane.layout.width xs c.args.lo.now c.args.hi.now (painted_number c.args.paint.now (offset_of kind)) t.plane.bytes) axes in
-    subst (λ (s : HduState). painted s.header.shape c.args.lo.now c.args.hi.now c.args.paint.now (parts_of s) ≡ Ok (record { header = t.header.header; data_unit = c.paint_rect.new.self.bytes })) c.self.view_is
-    (painted-done t.header.shape t.header.header t.plane.bytes c.paint_rect.new.self.bytes c.args.lo.now c.args.hi.now c.args.paint.now kind t.plane.layout.width
+    let put : c.paint_rect.new.self.plane.bytes ≡ rectangle_written t.unit.plane.layout.width t.header.shape.axes c.args.lo.now c.args.hi.now (painted_number c.args.paint.now (offset_of kind)) t.unit.plane.bytes =
+    c.paint_rect.ensures.painted.bytes
+    ∙ ap (λ o. rectangle_written t.unit.plane.layout.width c.as_slice-axes.result.now c.args.lo.now c.args.hi.now (painted_number c.args.paint.now o) t.unit.plane.bytes) offset
+    ∙ ap (λ xs. rectangle_written t.unit.plane.layout.width xs c.args.lo.now c.args.hi.now (painted_number c.args.paint.now (offset_of kind)) t.unit.plane.bytes) axes in
+    subst (λ (s : HduState). painted s.header.shape c.args.lo.now c.args.hi.now c.args.paint.now (parts_of s) ≡ Ok (record { header = t.header.header; data_unit = c.paint_rect.new.self.plane.bytes })) c.self.view_is
+    (painted-done t.header.shape t.header.header t.unit.plane.bytes c.paint_rect.new.self.plane.bytes c.args.lo.now c.args.hi.now c.args.paint.now kind t.unit.plane.layout.width
     some within width e.count e.can put)
 
 pub returns-clause-work : goal.returns-clause-work
 returns-clause-work c =
     let t = c.self.inside in
-    let e = c.paint_rect.ensures in
+    let e = c.paint_rect.ensures.painted in
     let axes = c.as_slice-axes.ensures ∙ ap (λ (shape : Shape). shape.axes) c.shape.ensures.value in
     subst (λ (s : HduState). IsPatched (rectangle_blocks (layout_of s.header.shape s.header.header.cards) s.plane.bytes s.header.shape.axes c.args.lo.now c.args.hi.now)
-    (block_count s.plane.bytes) (plane_work s.plane) (record { scans = c.paint_rect.new.self.scans; reads = c.paint_rect.new.self.reads; joins = c.paint_rect.new.self.joins })) c.self.view_is
-    (patched t.plane.layout t.header.shape t.header.header.cards t.plane.bytes c.as_slice-axes.result.now c.args.lo.now c.args.hi.now _ _ c.self.invariant.layout axes
+    (block_count s.plane.bytes) (plane_work s.plane) (record { scans = c.paint_rect.new.self.plane.scans; reads = c.paint_rect.new.self.plane.reads; joins = c.paint_rect.new.self.plane.joins })) c.self.view_is
+    (patched t.unit.plane.layout t.header.shape t.header.header.cards t.unit.plane.bytes c.as_slice-axes.result.now c.args.lo.now c.args.hi.now _ _ c.self.invariant.layout axes
     e.reads e.more_scans e.scans e.more_joins e.joins)
 
 pub paint_rect-requires-clause-all : goal.paint_rect-requires-clause-all
@@ -66,8 +66,8 @@ invariant_of-self c =
     let kept = c.self.invariant in
     record {
       described = kept.described;
-      size = ap length c.paint_rect.ensures.bytes ∙ (length-rectangle_written _ _ _ _ _ _ ∙ kept.size);
-      layout = c.paint_rect.ensures.layout ∙ kept.layout;
+      size = ap length c.paint_rect.ensures.painted.bytes ∙ (length-rectangle_written _ _ _ _ _ _ ∙ kept.size);
+      layout = c.paint_rect.ensures.painted.layout ∙ kept.layout;
       mark = kept.mark;
       kind = kept.kind;
       sums = kept.sums;

@@ -13,7 +13,7 @@ use Rattle.fits_hdu.proofs.hdu.Hdu.paintable.Goals as goal
 pub returns-in_default-clause-err : goal.returns-in_default-clause-err
 returns-in_default-clause-err c =
     let t = c.self.inside in
-    let hdu : HduParts = record { header = t.header.header; data_unit = t.plane.bytes } in
+    let hdu : HduParts = record { header = t.header.header; data_unit = t.unit.plane.bytes } in
     let no : t.kind ≡ None = search rules in
     subst (λ (s : HduState). painted s.header.shape c.args.lo.now c.args.hi.now c.args.paint.now (parts_of s) ≡ Err NotImage) c.self.view_is
     (painted-not_image t.header.shape hdu c.args.lo.now c.args.hi.now c.args.paint.now (sym c.self.invariant.kind ∙ no))
@@ -21,7 +21,7 @@ returns-in_default-clause-err c =
 pub returns-then-not-is_rectangle-clause-err : goal.returns-then-not-is_rectangle-clause-err
 returns-then-not-is_rectangle-clause-err c =
     let t = c.self.inside in
-    let hdu : HduParts = record { header = t.header.header; data_unit = t.plane.bytes } in
+    let hdu : HduParts = record { header = t.header.header; data_unit = t.unit.plane.bytes } in
     let some = c.in-Some.is in
     let bad : lies_within t.header.shape.axes c.args.lo.now c.args.hi.now ≡ false = search rules in
     subst (λ (s : HduState). painted s.header.shape c.args.lo.now c.args.hi.now c.args.paint.now (parts_of s) ≡ Err BadRectangle) c.self.view_is
@@ -32,14 +32,14 @@ rectangle_len-requires-clause-small c =
     let t = c.self.inside in
     let some = c.in-Some.is in
     let axes = c.as_slice-axes.ensures ∙ ap (λ (shape : Shape). shape.axes) c.shape.ensures.value in
-    let is : c.layout-layout.result ≡ t.plane.layout = c.layout-layout.ensures.value in
-    few_places c.layout-layout.result t.plane.bytes c.as_slice-axes.result.now c.layout-layout.ensures.fits
-    (ap product axes ∙ plane_pixels t.plane.layout t.header.shape t.header.header.cards c.in-Some.kind t.kind c.self.invariant.layout c.self.invariant.kind some ∙ ap (λ l. l.pixels) (sym is))
+    let is : c.layout-layout.result ≡ t.unit.plane.layout = c.layout-layout.ensures.value in
+    few_places c.layout-layout.result t.unit.plane.bytes c.as_slice-axes.result.now c.layout-layout.ensures.fits
+    (ap product axes ∙ plane_pixels t.unit.plane.layout t.header.shape t.header.header.cards c.in-Some.kind t.kind c.self.invariant.layout c.self.invariant.kind some ∙ ap (λ l. l.pixels) (sym is))
 
 pub returns-then-not-has_count-clause-err : goal.returns-then-not-has_count-clause-err
 returns-then-not-has_count-clause-err c =
     let t = c.self.inside in
-    let hdu : HduParts = record { header = t.header.header; data_unit = t.plane.bytes } in
+    let hdu : HduParts = record { header = t.header.header; data_unit = t.unit.plane.bytes } in
     let some = c.in-Some.is in
     let within : lies_within t.header.shape.axes c.args.lo.now c.args.hi.now ≡ true = search rules in
     let wrong : has_count c.args.paint.now (rectangle_size c.args.lo.now c.args.hi.now) ≡ false = search rules in
@@ -49,7 +49,7 @@ returns-then-not-has_count-clause-err c =
 pub returns-then-not-is_storable-clause-err : goal.returns-then-not-is_storable-clause-err
 returns-then-not-is_storable-clause-err c =
     let t = c.self.inside in
-    let hdu : HduParts = record { header = t.header.header; data_unit = t.plane.bytes } in
+    let hdu : HduParts = record { header = t.header.header; data_unit = t.unit.plane.bytes } in
     let some = c.in-Some.is in
     let within : lies_within t.header.shape.axes c.args.lo.now c.args.hi.now ≡ true = search rules in
     let count : has_count c.args.paint.now (rectangle_size c.args.lo.now c.args.hi.now) ≡ true = search rules in

@@ -23,7 +23,7 @@ pub returns-in_err-plan-clause-err : goal.returns-in_err-plan-clause-err
 returns-in_err-plan-clause-err c =
     let p = err_from_is_err_and c.from_residual.result c.from_residual.ensures.1 in
     let why = c.in_err-plan.field-0.0 in
-    let inside : HduParts = record { header = c.self.inside.header.header; data_unit = c.self.inside.plane.bytes } in
+    let inside : HduParts = record { header = c.self.inside.header.header; data_unit = c.self.inside.unit.plane.bytes } in
     rw (p.1, p.2) (subst (λ (s : HduState). ReshapeFails (reshaped c.args.kind c.args.axes.now s.header.shape (parts_of s)) c.args.most c.args.spare why) c.self.view_is
     (plan_fails c.args.kind c.args.axes.now c.self.inside.header.shape inside c.args.most c.args.spare why c.in_err-plan.ensures.err))
 
@@ -41,9 +41,9 @@ returns-in_err-bytes-clause-err c =
     let h = c.self.inside.header in
     let plan = c.in_ok-plan.ensures.ok in
     let primary = is_primary h.shape.class in
-    let inside : HduParts = record { header = h.header; data_unit = c.self.inside.plane.bytes } in
+    let inside : HduParts = record { header = h.header; data_unit = c.self.inside.unit.plane.bytes } in
     let whole : IsHdu primary inside = subst (λ (s : HduState). IsHdu (is_primary s.header.shape.class) (parts_of s)) (sym c.self.view_is) c.card_count-whole.ensures.whole in
-    let unit = unit_is c.args.kind c.args.axes.now h.shape h.header.cards c.in_ok-plan.plan c.self.inside.plane plan c.self.invariant.described c.self.invariant.layout in
+    let unit = unit_is c.args.kind c.args.axes.now h.shape h.header.cards c.in_ok-plan.plan c.self.inside.unit.plane plan c.self.invariant.described c.self.invariant.layout in
     let fails = subst (λ made. UnitFails made c.unit_within-len.result why) unit c.in_err-bytes.ensures.err in
     let count = rw (plan.planned.to, plan.planned.after, c.in_ok-plan.ensures.work.header, c.in_ok-plan.ensures.work.shape) at c.count_reshaped-cards.ensures.value in
     rw (p.1, p.2) (subst (λ (s : HduState). ReshapeFails (reshaped c.args.kind c.args.axes.now s.header.shape (parts_of s)) c.args.most c.args.spare why) c.self.view_is
@@ -55,15 +55,15 @@ returns-in_err-bytes-clause-idle c =
     let p = err_from_is_err_and c.from_residual-in_err-bytes.result c.from_residual-in_err-bytes.ensures.1 in
     let h = c.self.inside.header in
     let plan = c.in_ok-plan.ensures.ok in
-    let kept = kept_is c.args.kind c.args.axes.now h.shape h.header.cards c.in_ok-plan.plan c.self.inside.plane.layout plan c.self.invariant.layout in
-    rw p.1 (subst (λ (s : HduState). IsRead (kept_count s.header.shape.axes c.args.axes.now) (plane_work s.plane) (plane_work c.reshape_unit.new.plane)) c.self.view_is (subst (λ n. IsRead n (plane_work c.self.inside.plane) (plane_work c.reshape_unit.new.plane)) kept c.in_err-bytes.ensures.work))
+    let kept = kept_is c.args.kind c.args.axes.now h.shape h.header.cards c.in_ok-plan.plan c.self.inside.unit.plane.layout plan c.self.invariant.layout in
+    rw p.1 (subst (λ (s : HduState). IsRead (kept_count s.header.shape.axes c.args.axes.now) (plane_work s.plane) (plane_work c.reshape_unit.new.unit.plane)) c.self.view_is (subst (λ n. IsRead n (plane_work c.self.inside.unit.plane) (plane_work c.reshape_unit.new.unit.plane)) kept c.in_err-bytes.ensures.work))
 
 -- memory runs out for what is kept of its blocks
 pub returns-in_err-room-clause-err : goal.returns-in_err-room-clause-err
 returns-in_err-room-clause-err c =
     let p = err_from_is_err_and c.from_residual-in_err-room.result c.from_residual-in_err-room.ensures.1 in
     let h = c.self.inside.header in
-    let inside : HduParts = record { header = h.header; data_unit = c.self.inside.plane.bytes } in
+    let inside : HduParts = record { header = h.header; data_unit = c.self.inside.unit.plane.bytes } in
     rw (p.1, p.2) (rw (← c.self.view_is) (no_memory c.args.kind c.in_ok-plan.plan.old c.args.axes.now h.shape inside c.args.most c.args.spare c.in_ok-plan.ensures.ok.array))
 
 pub returns-in_err-room-clause-idle : goal.returns-in_err-room-clause-idle
@@ -71,15 +71,15 @@ returns-in_err-room-clause-idle c =
     let p = err_from_is_err_and c.from_residual-in_err-room.result c.from_residual-in_err-room.ensures.1 in
     let h = c.self.inside.header in
     let plan = c.in_ok-plan.ensures.ok in
-    let kept = kept_is c.args.kind c.args.axes.now h.shape h.header.cards c.in_ok-plan.plan c.self.inside.plane.layout plan c.self.invariant.layout in
-    rw p.1 (subst (λ (s : HduState). IsRead (kept_count s.header.shape.axes c.args.axes.now) (plane_work s.plane) (plane_work c.reshape_unit.new.plane)) c.self.view_is (subst (λ n. IsRead n (plane_work c.self.inside.plane) (plane_work c.reshape_unit.new.plane)) kept c.in_ok-bytes.ensures.work))
+    let kept = kept_is c.args.kind c.args.axes.now h.shape h.header.cards c.in_ok-plan.plan c.self.inside.unit.plane.layout plan c.self.invariant.layout in
+    rw p.1 (subst (λ (s : HduState). IsRead (kept_count s.header.shape.axes c.args.axes.now) (plane_work s.plane) (plane_work c.reshape_unit.new.unit.plane)) c.self.view_is (subst (λ n. IsRead n (plane_work c.self.inside.unit.plane) (plane_work c.reshape_unit.new.unit.plane)) kept c.in_ok-bytes.ensures.work))
 
 -- or for its cards
 pub returns-in_err-reserve-clause-err : goal.returns-in_err-reserve-clause-err
 returns-in_err-reserve-clause-err c =
     let p = err_from_is_err_and c.from_residual-in_err-reserve.result c.from_residual-in_err-reserve.ensures.1 in
     let h = c.self.inside.header in
-    let inside : HduParts = record { header = h.header; data_unit = c.self.inside.plane.bytes } in
+    let inside : HduParts = record { header = h.header; data_unit = c.self.inside.unit.plane.bytes } in
     rw (p.1, p.2) (rw (← c.self.view_is) (no_memory c.args.kind c.in_ok-plan.plan.old c.args.axes.now h.shape inside c.args.most c.args.spare c.in_ok-plan.ensures.ok.array))
 
 pub returns-in_err-reserve-clause-idle : goal.returns-in_err-reserve-clause-idle
@@ -87,8 +87,8 @@ returns-in_err-reserve-clause-idle c =
     let p = err_from_is_err_and c.from_residual-in_err-reserve.result c.from_residual-in_err-reserve.ensures.1 in
     let h = c.self.inside.header in
     let plan = c.in_ok-plan.ensures.ok in
-    let kept = kept_is c.args.kind c.args.axes.now h.shape h.header.cards c.in_ok-plan.plan c.self.inside.plane.layout plan c.self.invariant.layout in
-    rw p.1 (subst (λ (s : HduState). IsRead (kept_count s.header.shape.axes c.args.axes.now) (plane_work s.plane) (plane_work c.reshape_unit.new.plane)) c.self.view_is (subst (λ n. IsRead n (plane_work c.self.inside.plane) (plane_work c.reshape_unit.new.plane)) kept c.in_ok-bytes.ensures.work))
+    let kept = kept_is c.args.kind c.args.axes.now h.shape h.header.cards c.in_ok-plan.plan c.self.inside.unit.plane.layout plan c.self.invariant.layout in
+    rw p.1 (subst (λ (s : HduState). IsRead (kept_count s.header.shape.axes c.args.axes.now) (plane_work s.plane) (plane_work c.reshape_unit.new.unit.plane)) c.self.view_is (subst (λ n. IsRead n (plane_work c.self.inside.unit.plane) (plane_work c.reshape_unit.new.unit.plane)) kept c.in_ok-bytes.ensures.work))
 
 -- there is room for its cards
 pub renew-requires-clause-room : goal.renew-requires-clause-room
@@ -105,16 +105,16 @@ pub renew-requires-clause-size : goal.renew-requires-clause-size
 renew-requires-clause-size c =
     let h = c.self.inside.header in
     let plan = c.in_ok-plan.ensures.ok in
-    let inside : HduParts = record { header = h.header; data_unit = c.self.inside.plane.bytes } in
-    let unit = unit_is c.args.kind c.args.axes.now h.shape h.header.cards c.in_ok-plan.plan c.self.inside.plane plan c.self.invariant.described c.self.invariant.layout in
+    let inside : HduParts = record { header = h.header; data_unit = c.self.inside.unit.plane.bytes } in
+    let unit = unit_is c.args.kind c.args.axes.now h.shape h.header.cards c.in_ok-plan.plan c.self.inside.unit.plane plan c.self.invariant.described c.self.invariant.layout in
     unit_long c.args.kind c.args.axes.now h.shape inside c.in_ok-plan.plan c.in_ok-bytes.bytes.items plan (sym unit ∙ c.in_ok-bytes.ensures.ok)
 
 pub renew-requires-clause-small : goal.renew-requires-clause-small
 renew-requires-clause-small c =
     let h = c.self.inside.header in
     let plan = c.in_ok-plan.ensures.ok in
-    let inside : HduParts = record { header = h.header; data_unit = c.self.inside.plane.bytes } in
-    let unit = unit_is c.args.kind c.args.axes.now h.shape h.header.cards c.in_ok-plan.plan c.self.inside.plane plan c.self.invariant.described c.self.invariant.layout in
+    let inside : HduParts = record { header = h.header; data_unit = c.self.inside.unit.plane.bytes } in
+    let unit = unit_is c.args.kind c.args.axes.now h.shape h.header.cards c.in_ok-plan.plan c.self.inside.unit.plane plan c.self.invariant.described c.self.invariant.layout in
     let long = unit_long c.args.kind c.args.axes.now h.shape inside c.in_ok-plan.plan c.in_ok-bytes.bytes.items plan (sym unit ∙ c.in_ok-bytes.ensures.ok) in
     omega (arith, long, c.requires.most, unit_small c.unit_within-len.result (c.count_reshaped-cards.result + c.args.spare) c.args.most (data_length c.in_ok-plan.plan.shape) c.in_ok-bytes.ensures.may c.unit_within-len.ensures.some c.unit_within-len.ensures.within)
 
@@ -123,8 +123,8 @@ pub returns-clause-ok : goal.returns-clause-ok
 returns-clause-ok c =
     let h = c.self.inside.header in
     let plan = c.in_ok-plan.ensures.ok in
-    let inside : HduParts = record { header = h.header; data_unit = c.self.inside.plane.bytes } in
-    let unit = unit_is c.args.kind c.args.axes.now h.shape h.header.cards c.in_ok-plan.plan c.self.inside.plane plan c.self.invariant.described c.self.invariant.layout in
+    let inside : HduParts = record { header = h.header; data_unit = c.self.inside.unit.plane.bytes } in
+    let unit = unit_is c.args.kind c.args.axes.now h.shape h.header.cards c.in_ok-plan.plan c.self.inside.unit.plane plan c.self.invariant.described c.self.invariant.layout in
     let header = rw (c.reserve.ensures.header, c.count_reshaped-cards.ensures.work.header, c.in_ok-plan.ensures.work.header, c.reserve.ensures.shape, c.count_reshaped-cards.ensures.work.shape, c.in_ok-plan.ensures.work.shape, plan.planned.to, plan.planned.after) at c.renew.ensures.header in
     let left : parts_of c.renew.new.self ≡ with_unit c.in_ok-plan.plan.old c.args.kind c.args.axes.now h.shape inside c.in_ok-bytes.bytes.items = rw (header, c.renew.ensures.unit) refl in
     let made = made_is c.args.kind c.args.axes.now h.shape inside c.in_ok-plan.plan c.in_ok-bytes.bytes.items plan (sym unit ∙ c.in_ok-bytes.ensures.ok) in
@@ -135,8 +135,8 @@ pub overflow_add-len : goal.overflow_add-len
 overflow_add-len c =
     let h = c.self.inside.header in
     let plan = c.in_ok-plan.ensures.ok in
-    let inside : HduParts = record { header = h.header; data_unit = c.self.inside.plane.bytes } in
-    let unit = unit_is c.args.kind c.args.axes.now h.shape h.header.cards c.in_ok-plan.plan c.self.inside.plane plan c.self.invariant.described c.self.invariant.layout in
+    let inside : HduParts = record { header = h.header; data_unit = c.self.inside.unit.plane.bytes } in
+    let unit = unit_is c.args.kind c.args.axes.now h.shape h.header.cards c.in_ok-plan.plan c.self.inside.unit.plane plan c.self.invariant.described c.self.invariant.layout in
     let long = unit_long c.args.kind c.args.axes.now h.shape inside c.in_ok-plan.plan c.in_ok-bytes.bytes.items plan (sym unit ∙ c.in_ok-bytes.ensures.ok) in
     let small = unit_small c.unit_within-len.result (c.count_reshaped-cards.result + c.args.spare) c.args.most (data_length c.in_ok-plan.plan.shape) c.in_ok-bytes.ensures.may c.unit_within-len.ensures.some c.unit_within-len.ensures.within in
     let count = c.count_reshaped-cards.result in
@@ -148,9 +148,9 @@ returns-clause-len c =
     let h = c.self.inside.header in
     let plan = c.in_ok-plan.ensures.ok in
     let primary = is_primary h.shape.class in
-    let inside : HduParts = record { header = h.header; data_unit = c.self.inside.plane.bytes } in
+    let inside : HduParts = record { header = h.header; data_unit = c.self.inside.unit.plane.bytes } in
     let whole : IsHdu primary inside = subst (λ (s : HduState). IsHdu (is_primary s.header.shape.class) (parts_of s)) (sym c.self.view_is) c.card_count-whole.ensures.whole in
-    let unit = unit_is c.args.kind c.args.axes.now h.shape h.header.cards c.in_ok-plan.plan c.self.inside.plane plan c.self.invariant.described c.self.invariant.layout in
+    let unit = unit_is c.args.kind c.args.axes.now h.shape h.header.cards c.in_ok-plan.plan c.self.inside.unit.plane plan c.self.invariant.described c.self.invariant.layout in
     let header = rw (c.reserve.ensures.header, c.count_reshaped-cards.ensures.work.header, c.in_ok-plan.ensures.work.header, c.reserve.ensures.shape, c.count_reshaped-cards.ensures.work.shape, c.in_ok-plan.ensures.work.shape, plan.planned.to, plan.planned.after) at c.renew.ensures.header in
     let left : parts_of c.renew.new.self ≡ with_unit c.in_ok-plan.plan.old c.args.kind c.args.axes.now h.shape inside c.in_ok-bytes.bytes.items = rw (header, c.renew.ensures.unit) refl in
     let count = rw (plan.planned.to, plan.planned.after, c.in_ok-plan.ensures.work.header, c.in_ok-plan.ensures.work.shape) at c.count_reshaped-cards.ensures.value in
@@ -162,8 +162,8 @@ pub returns-clause-within : goal.returns-clause-within
 returns-clause-within c =
     let h = c.self.inside.header in
     let plan = c.in_ok-plan.ensures.ok in
-    let inside : HduParts = record { header = h.header; data_unit = c.self.inside.plane.bytes } in
-    let unit = unit_is c.args.kind c.args.axes.now h.shape h.header.cards c.in_ok-plan.plan c.self.inside.plane plan c.self.invariant.described c.self.invariant.layout in
+    let inside : HduParts = record { header = h.header; data_unit = c.self.inside.unit.plane.bytes } in
+    let unit = unit_is c.args.kind c.args.axes.now h.shape h.header.cards c.in_ok-plan.plan c.self.inside.unit.plane plan c.self.invariant.described c.self.invariant.layout in
     let long = unit_long c.args.kind c.args.axes.now h.shape inside c.in_ok-plan.plan c.in_ok-bytes.bytes.items plan (sym unit ∙ c.in_ok-bytes.ensures.ok) in
     let header = rw (c.reserve.ensures.header, c.count_reshaped-cards.ensures.work.header, c.in_ok-plan.ensures.work.header, c.reserve.ensures.shape, c.count_reshaped-cards.ensures.work.shape, c.in_ok-plan.ensures.work.shape, plan.planned.to, plan.planned.after) at c.renew.ensures.header in
     let count = rw (plan.planned.to, plan.planned.after, c.in_ok-plan.ensures.work.header, c.in_ok-plan.ensures.work.shape) at c.count_reshaped-cards.ensures.value in
@@ -186,7 +186,7 @@ pub returns-clause-pixel_work : goal.returns-clause-pixel_work
 returns-clause-pixel_work c =
     let h = c.self.inside.header in
     let plan = c.in_ok-plan.ensures.ok in
-    let kept = kept_is c.args.kind c.args.axes.now h.shape h.header.cards c.in_ok-plan.plan c.self.inside.plane.layout plan c.self.invariant.layout in
-    let read = subst (λ n. IsRead n (plane_work c.self.inside.plane) (plane_work c.reshape_unit.new.plane)) kept c.in_ok-bytes.ensures.work in
-    let work = renewed (kept_count h.shape.axes c.args.axes.now) (block_count c.in_ok-bytes.bytes.items) (plane_work c.self.inside.plane) (plane_work c.reshape_unit.new.plane) (plane_work c.renew.new.self.plane) read c.renew.ensures.pixel_work in
+    let kept = kept_is c.args.kind c.args.axes.now h.shape h.header.cards c.in_ok-plan.plan c.self.inside.unit.plane.layout plan c.self.invariant.layout in
+    let read = subst (λ n. IsRead n (plane_work c.self.inside.unit.plane) (plane_work c.reshape_unit.new.unit.plane)) kept c.in_ok-bytes.ensures.work in
+    let work = renewed (kept_count h.shape.axes c.args.axes.now) (block_count c.in_ok-bytes.bytes.items) (plane_work c.self.inside.unit.plane) (plane_work c.reshape_unit.new.unit.plane) (plane_work c.renew.new.self.plane) read c.renew.ensures.pixel_work in
     rw c.renew.ensures.unit (subst (λ (s : HduState). IsRenewed (kept_count s.header.shape.axes c.args.axes.now) (block_count c.in_ok-bytes.bytes.items) (plane_work s.plane) (plane_work c.renew.new.self.plane)) c.self.view_is work)

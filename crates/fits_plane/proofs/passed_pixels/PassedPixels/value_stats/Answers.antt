@@ -13,14 +13,14 @@ with_offset-requires-clause-few c =
     let layout = c.requires.passed.0 in
     let unit = c.requires.passed.1 in
     let all = c.requires.passed.2 in
-    subst (λ s. s.defined ≤ 2 ^ 62) (sym (passed_whole layout unit c.args.self all)) (passed_small layout unit all.fits all.passed.small).few
+    subst (λ s. s.defined ≤ 2 ^ 62) (sym (passed_whole layout unit c.args.self all)) (passed_small layout layout.blank unit all.fits all.passed.small).few
 
 pub with_offset-requires-clause-sum : goal.with_offset-requires-clause-sum
 with_offset-requires-clause-sum c =
     let layout = c.requires.passed.0 in
     let unit = c.requires.passed.1 in
     let all = c.requires.passed.2 in
-    subst (λ s. unsigned_abs s.sum ≤ 2 ^ 125) (sym (passed_whole layout unit c.args.self all)) (passed_small layout unit all.fits all.passed.small).sum
+    subst (λ s. unsigned_abs s.sum ≤ 2 ^ 125) (sym (passed_whole layout unit c.args.self all)) (passed_small layout layout.blank unit all.fits all.passed.small).sum
 
 pub returns : goal.returns
 returns c = λ layout unit all.

@@ -6,12 +6,12 @@ use Rattle.fits_session.proofs.WalkLemmas.{followed_seen}
 use Rattle.fits_session.proofs.session.Session.counts.Goals as goal
 
 pub counts_of-counts-requires : goal.counts_of-counts-requires
-counts_of-counts-requires c = kept_named c.self.inside.hdus.items c.self.inside.tail.items c.self.inside.len c.self.inside.names.numbers.items c.self.inside.names.room c.self.invariant
+counts_of-counts-requires g c = kept_named _ c.self.inside.hdus.items c.self.inside.tail.items c.self.inside.len c.self.inside.names.numbers.items c.self.inside.names.room c.self.invariant
 
 pub returns-then-is_empty-clause-value : goal.returns-then-is_empty-clause-value
-returns-then-is_empty-clause-value c =
+returns-then-is_empty-clause-value g c =
     rw (← c.self.view_is) (counts_alone c.self.inside.hdus.items c.self.inside.tail.items c.counts_of-counts.result c.counts_of-counts.ensures.value (sym (followed_seen c.self.inside.tail.items c.is_empty.result (grind (arith, common_steps))) ∙ ap not c.if-is_empty.true))
 
 pub returns-clause-value : goal.returns-clause-value
-returns-clause-value c =
+returns-clause-value g c =
     rw (← c.self.view_is) (counts_followed c.self.inside.hdus.items c.self.inside.tail.items c.counts_of-counts.result c.of.result c.plus.result c.counts_of-counts.ensures.value (sym (followed_seen c.self.inside.tail.items c.is_empty.result (grind (arith, common_steps))) ∙ ap not c.if-is_empty.false) c.of.ensures.value c.plus.ensures)

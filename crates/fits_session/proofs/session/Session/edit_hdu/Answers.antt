@@ -11,24 +11,24 @@ use Rattle.fits_session.proofs.StateLemmas.{file_within, is_at, part_there}
 use Rattle.fits_session.proofs.session.Session.edit_hdu.Goals as goal
 
 pub returns-in_err-i : goal.returns-in_err-i
-returns-in_err-i c =
+returns-in_err-i g c =
     let p = err_from_is_err_and c.from_residual.result c.from_residual.ensures.1 in
     rw (p.1, p.2, c.in_err-i.ensures.why, ← c.self.view_is) (edits_nowhere c.self.inside.hdus.items c.self.inside.tail.items c.args.h c.args.edit.now (rw c.deref.ensures.value at c.in_err-i.ensures.none))
 
 pub edit_hdu-requires-clause-part : goal.edit_hdu-requires-clause-part
-edit_hdu-requires-clause-part c =
+edit_hdu-requires-clause-part g c =
     let part = part_there c.self.inside.hdus.items c.self.inside.tail.items c.args.h c.in_ok-i.i c.index_mut.result.now
     (is_at c.self.inside.hdus.items c.deref.result.now c.args.h c.args.h c.in_ok-i.i c.index_mut.result.now c.deref.ensures.value refl c.in_ok-i.ensures.found c.index_mut.ensures.value) in
     omega (arith, part, c.self.invariant.len)
 
 pub edit_hdu-requires-clause-within : goal.edit_hdu-requires-clause-within
-edit_hdu-requires-clause-within c =
+edit_hdu-requires-clause-within g c =
     let within = file_within c.self.inside.hdus.items c.self.inside.tail.items c.self.invariant.whole in
     let number = c.len-count.ensures ∙ sym c.deref.ensures.len ∙ ap length c.deref.ensures.value in
     kept_limits c.self.inside.len c.len-count.result (omega (arith, c.self.invariant.len, within.0)) (omega (arith, number, within.1))
 
 pub invariant_of-self : goal.invariant_of-self
-invariant_of-self c =
+invariant_of-self g c =
     let edited : IsEdited c.self.inside.hdus.items c.self.inside.tail.items c.args.h c.in_ok-i.i c.args.edit.now c.self.inside.len c.len-count.result c.index_mut.result.now c.edit_hdu.new.hdu (Err c.in_err-self-inside.field-0.0) = record {
       at = is_at c.self.inside.hdus.items c.deref.result.now c.args.h c.args.h c.in_ok-i.i c.index_mut.result.now c.deref.ensures.value refl c.in_ok-i.ensures.found c.index_mut.ensures.value;
       file = c.self.invariant.whole;
@@ -37,10 +37,10 @@ invariant_of-self c =
       edits = c.in_err-self-inside.ensures.edits;
       long = tt;
     } in
-    kept_refused c.self.inside.hdus.items c.self.inside.tail.items c.args.h c.in_ok-i.i c.args.edit.now c.self.inside.len c.len-count.result c.self.inside.names.numbers.items c.self.inside.names.room c.index_mut.result.now c.edit_hdu.new.hdu c.self.invariant c.in_err-self-inside.field-0.0 edited
+    kept_refused _ c.self.inside.hdus.items c.self.inside.tail.items c.args.h c.in_ok-i.i c.args.edit.now c.self.inside.len c.len-count.result c.self.inside.names.numbers.items c.self.inside.names.room c.index_mut.result.now c.edit_hdu.new.hdu c.self.invariant c.in_err-self-inside.field-0.0 edited
 
 pub returns-in_err-self-inside : goal.returns-in_err-self-inside
-returns-in_err-self-inside c =
+returns-in_err-self-inside g c =
     let p = err_from_is_err_and c.from_residual-in_err-self-inside.result c.from_residual-in_err-self-inside.ensures.1 in
     let edited : IsEdited c.self.inside.hdus.items c.self.inside.tail.items c.args.h c.in_ok-i.i c.args.edit.now c.self.inside.len c.len-count.result c.index_mut.result.now c.edit_hdu.new.hdu (Err c.in_err-self-inside.field-0.0) = record {
       at = is_at c.self.inside.hdus.items c.deref.result.now c.args.h c.args.h c.in_ok-i.i c.index_mut.result.now c.deref.ensures.value refl c.in_ok-i.ensures.found c.index_mut.ensures.value;
@@ -53,7 +53,7 @@ returns-in_err-self-inside c =
     rw (p.1, p.2, ← c.self.view_is) (edits_refused c.self.inside.hdus.items c.self.inside.tail.items c.args.h c.in_ok-i.i c.args.edit.now c.self.inside.len c.len-count.result c.index_mut.result.now c.edit_hdu.new.hdu c.in_err-self-inside.field-0.0 edited)
 
 pub follow-requires-clause-stood : goal.follow-requires-clause-stood
-follow-requires-clause-stood c =
+follow-requires-clause-stood g c =
     let edited : IsEdited c.self.inside.hdus.items c.self.inside.tail.items c.args.h c.in_ok-i.i c.args.edit.now c.self.inside.len c.len-count.result c.index_mut.result.now c.edit_hdu.new.hdu (Ok c.in_ok-self-inside.field-0) = record {
       at = is_at c.self.inside.hdus.items c.deref.result.now c.args.h c.args.h c.in_ok-i.i c.index_mut.result.now c.deref.ensures.value refl c.in_ok-i.ensures.found c.index_mut.ensures.value;
       file = c.self.invariant.whole;
@@ -62,10 +62,10 @@ follow-requires-clause-stood c =
       edits = c.in_ok-self-inside.ensures.edits;
       long = c.in_ok-self-inside.ensures.len;
     } in
-    stood_before c.self.inside.hdus.items c.self.inside.tail.items c.args.h c.in_ok-i.i c.args.edit.now c.self.inside.len c.len-count.result c.self.inside.names.numbers.items c.self.inside.names.room c.index_mut.result.now c.edit_hdu.new.hdu c.self.invariant c.in_ok-self-inside.field-0 edited
+    stood_before _ c.self.inside.hdus.items c.self.inside.tail.items c.args.h c.in_ok-i.i c.args.edit.now c.self.inside.len c.len-count.result c.self.inside.names.numbers.items c.self.inside.names.room c.index_mut.result.now c.edit_hdu.new.hdu c.self.invariant c.in_ok-self-inside.field-0 edited
 
 pub invariant_of-self-then-may_rename : goal.invariant_of-self-then-may_rename
-invariant_of-self-then-may_rename c =
+invariant_of-self-then-may_rename g c =
     let edited : IsEdited c.self.inside.hdus.items c.self.inside.tail.items c.args.h c.in_ok-i.i c.args.edit.now c.self.inside.len c.len-count.result c.index_mut.result.now c.edit_hdu.new.hdu (Ok c.in_ok-self-inside.field-0) = record {
       at = is_at c.self.inside.hdus.items c.deref.result.now c.args.h c.args.h c.in_ok-i.i c.index_mut.result.now c.deref.ensures.value refl c.in_ok-i.ensures.found c.index_mut.ensures.value;
       file = c.self.invariant.whole;
@@ -80,10 +80,10 @@ invariant_of-self-then-may_rename c =
       works = c.follow.ensures.works;
       kept = c.follow.ensures.kept;
     } in
-    kept_followed c.self.inside.hdus.items c.self.inside.tail.items c.args.h c.in_ok-i.i c.args.edit.now c.self.inside.len c.len-count.result c.self.inside.names.numbers.items c.self.inside.names.room c.index_mut.result.now c.edit_hdu.new.hdu c.self.invariant c.in_ok-self-inside.field-0 name_reads c.follow.new.table.room c.follow.new.hdus.items c.follow.new.table.numbers.items edited follows c.follow.ensures.described c.follow.ensures.stands c.follow.ensures.room
+    kept_followed _ c.self.inside.hdus.items c.self.inside.tail.items c.args.h c.in_ok-i.i c.args.edit.now c.self.inside.len c.len-count.result c.self.inside.names.numbers.items c.self.inside.names.room c.index_mut.result.now c.edit_hdu.new.hdu c.self.invariant c.in_ok-self-inside.field-0 name_reads c.follow.new.table.room c.follow.new.hdus.items c.follow.new.table.numbers.items edited follows c.follow.ensures.described c.follow.ensures.had c.follow.ensures.stands c.follow.ensures.room
 
 pub invariant_of-self-else-may_rename : goal.invariant_of-self-else-may_rename
-invariant_of-self-else-may_rename c =
+invariant_of-self-else-may_rename g c =
     let edited : IsEdited c.self.inside.hdus.items c.self.inside.tail.items c.args.h c.in_ok-i.i c.args.edit.now c.self.inside.len c.len-count.result c.index_mut.result.now c.edit_hdu.new.hdu (Ok c.in_ok-self-inside.field-0) = record {
       at = is_at c.self.inside.hdus.items c.deref.result.now c.args.h c.args.h c.in_ok-i.i c.index_mut.result.now c.deref.ensures.value refl c.in_ok-i.ensures.found c.index_mut.ensures.value;
       file = c.self.invariant.whole;
@@ -92,10 +92,10 @@ invariant_of-self-else-may_rename c =
       edits = c.in_ok-self-inside.ensures.edits;
       long = c.in_ok-self-inside.ensures.len;
     } in
-    kept_unrenamed c.self.inside.hdus.items c.self.inside.tail.items c.args.h c.in_ok-i.i c.args.edit.now c.self.inside.len c.len-count.result c.self.inside.names.numbers.items c.self.inside.names.room c.index_mut.result.now c.edit_hdu.new.hdu c.self.invariant c.in_ok-self-inside.field-0 (sym c.if-may_rename.ensures) edited
+    kept_unrenamed _ c.self.inside.hdus.items c.self.inside.tail.items c.args.h c.in_ok-i.i c.args.edit.now c.self.inside.len c.len-count.result c.self.inside.names.numbers.items c.self.inside.names.room c.index_mut.result.now c.edit_hdu.new.hdu c.self.invariant c.in_ok-self-inside.field-0 (sym c.if-may_rename.ensures) edited
 
 pub returns-then-may_rename : goal.returns-then-may_rename
-returns-then-may_rename c =
+returns-then-may_rename g c =
     let edited : IsEdited c.self.inside.hdus.items c.self.inside.tail.items c.args.h c.in_ok-i.i c.args.edit.now c.self.inside.len c.len-count.result c.index_mut.result.now c.edit_hdu.new.hdu (Ok c.in_ok-self-inside.field-0) = record {
       at = is_at c.self.inside.hdus.items c.deref.result.now c.args.h c.args.h c.in_ok-i.i c.index_mut.result.now c.deref.ensures.value refl c.in_ok-i.ensures.found c.index_mut.ensures.value;
       file = c.self.invariant.whole;
@@ -114,7 +114,7 @@ returns-then-may_rename c =
     rw (← c.self.view_is) (edits_made c.self.inside.hdus.items c.follow.new.hdus.items c.self.inside.tail.items c.args.h c.in_ok-i.i c.args.edit.now c.self.inside.len c.len-count.result c.in_ok-self-inside.field-0 name_reads c.index_mut.result.now c.edit_hdu.new.hdu tt edited follows few)
 
 pub returns-else-may_rename : goal.returns-else-may_rename
-returns-else-may_rename c =
+returns-else-may_rename g c =
     let edited : IsEdited c.self.inside.hdus.items c.self.inside.tail.items c.args.h c.in_ok-i.i c.args.edit.now c.self.inside.len c.len-count.result c.index_mut.result.now c.edit_hdu.new.hdu (Ok c.in_ok-self-inside.field-0) = record {
       at = is_at c.self.inside.hdus.items c.deref.result.now c.args.h c.args.h c.in_ok-i.i c.index_mut.result.now c.deref.ensures.value refl c.in_ok-i.ensures.found c.index_mut.ensures.value;
       file = c.self.invariant.whole;

@@ -5,6 +5,8 @@ use Rattle.fits_image.specs.ImageCards.{are_axes}
 use Rattle.fits_hdu.specs.NewImage.{new_image}
 use Rattle.fits_rules.specs.declared.array_shape.Shape.{Shape}
 use Rattle.fits_session.specs.CardEdit.{is_within}
+use Rattle.fits_session.specs.Session.{IsHad}
+use Rattle.fits_session.proofs.HadLemmas.{had_held}
 use Rattle.fits_session.proofs.ListEditLemmas.{all_inserted, is_placed, new_first, new_fits, new_left, new_made, new_memory, new_nowhere, new_shapeless, new_size, new_too_large, placed_at}
 use Rattle.std.proofs.lemmas.List.{length-map}
 use Rattle.std.proofs.lemmas.List.Edits.{length-insert}
@@ -18,65 +20,65 @@ use Rattle.fits_session.proofs.StateLemmas.{file_within, unkept_right}
 use Rattle.fits_session.proofs.session.Session.put_image.Goals as goal
 
 pub returns-then-not-is_within : goal.returns-then-not-is_within
-returns-then-not-is_within c =
+returns-then-not-is_within g c =
     let many : length c.self.inside.hdus.items ≡ c.len.result = omega (arith, c.len.ensures, c.self.inside.hdus.ok.0) in
     rw (← c.self.view_is) (new_nowhere c.self.inside.hdus.items c.self.inside.tail.items c.args.at c.args.kind c.args.axes.now (ap (λ n. is_within c.args.at (n + 1)) many ∙ sym c.is_within.ensures ∙ c.if-not-is_within.true))
 
 pub returns-then-at-eq1 : goal.returns-then-at-eq1
-returns-then-at-eq1 c =
+returns-then-at-eq1 g c =
     let many : length c.self.inside.hdus.items ≡ c.len.result = omega (arith, c.len.ensures, c.self.inside.hdus.ok.0) in
     rw (← c.self.view_is) (new_first c.self.inside.hdus.items c.self.inside.tail.items c.args.at c.args.kind c.args.axes.now (ap (λ n. is_within c.args.at (n + 1)) many ∙ sym c.is_within.ensures ∙ c.if-not-is_within.false) c.if-at-eq1.true)
 
 pub returns-then-not-are_axes : goal.returns-then-not-are_axes
-returns-then-not-are_axes c =
+returns-then-not-are_axes g c =
     let many : length c.self.inside.hdus.items ≡ c.len.result = omega (arith, c.len.ensures, c.self.inside.hdus.ok.0) in
     rw (← c.self.view_is) (new_shapeless c.self.inside.hdus.items c.self.inside.tail.items c.args.at c.args.kind c.args.axes.now (ap (λ n. is_within c.args.at (n + 1)) many ∙ sym c.is_within.ensures ∙ c.if-not-is_within.false) c.if-at-eq1.false (ap are_axes (sym c.as_slice.ensures) ∙ sym c.are_axes.ensures ∙ c.if-not-are_axes.true))
 
 pub returns-then-len-ge-HDU_LIMIT : goal.returns-then-len-ge-HDU_LIMIT
-returns-then-len-ge-HDU_LIMIT c =
+returns-then-len-ge-HDU_LIMIT g c =
     let many : length c.self.inside.hdus.items ≡ c.len.result = omega (arith, c.len.ensures, c.self.inside.hdus.ok.0) in
     let placed = is_placed (length c.self.inside.hdus.items) c.len.result c.args.at c.args.axes.now c.as_slice.result.now many (sym c.is_within.ensures ∙ c.if-not-is_within.false) c.if-at-eq1.false c.as_slice.ensures (sym c.are_axes.ensures ∙ c.if-not-are_axes.false) in
     rw (← c.self.view_is) (new_too_large c.self.inside.hdus.items c.self.inside.tail.items c.args.at c.args.kind c.args.axes.now placed (inl (grind (arith, c.if-len-ge-HDU_LIMIT.true, c.len-2.ensures, c.self.inside.hdus.ok.0))))
 
 pub returns-in_err-shape : goal.returns-in_err-shape
-returns-in_err-shape c =
+returns-in_err-shape g c =
     let many : length c.self.inside.hdus.items ≡ c.len.result = omega (arith, c.len.ensures, c.self.inside.hdus.ok.0) in
     let placed = is_placed (length c.self.inside.hdus.items) c.len.result c.args.at c.args.axes.now c.as_slice.result.now many (sym c.is_within.ensures ∙ c.if-not-is_within.false) c.if-at-eq1.false c.as_slice.ensures (sym c.are_axes.ensures ∙ c.if-not-are_axes.false) in
     let p = err_from_is_err_and c.from_residual.result c.from_residual.ensures.1 in
     rw (p.1, p.2, ← c.self.view_is) (new_memory c.self.inside.hdus.items c.self.inside.tail.items c.args.at c.args.kind c.args.axes.now placed)
 
 pub returns-in_err-hdu : goal.returns-in_err-hdu
-returns-in_err-hdu c =
+returns-in_err-hdu g c =
     let many : length c.self.inside.hdus.items ≡ c.len.result = omega (arith, c.len.ensures, c.self.inside.hdus.ok.0) in
     let placed = is_placed (length c.self.inside.hdus.items) c.len.result c.args.at c.args.axes.now c.as_slice.result.now many (sym c.is_within.ensures ∙ c.if-not-is_within.false) c.if-at-eq1.false c.as_slice.ensures (sym c.are_axes.ensures ∙ c.if-not-are_axes.false) in
     let p = err_from_is_err_and c.from_residual-in_err-hdu.result c.from_residual-in_err-hdu.ensures.1 in
     rw (p.1, p.2, ← c.self.view_is) (new_memory c.self.inside.hdus.items c.self.inside.tail.items c.args.at c.args.kind c.args.axes.now placed)
 
 pub returns-in_err-reserve : goal.returns-in_err-reserve
-returns-in_err-reserve c =
+returns-in_err-reserve g c =
     let many : length c.self.inside.hdus.items ≡ c.len.result = omega (arith, c.len.ensures, c.self.inside.hdus.ok.0) in
     let placed = is_placed (length c.self.inside.hdus.items) c.len.result c.args.at c.args.axes.now c.as_slice.result.now many (sym c.is_within.ensures ∙ c.if-not-is_within.false) c.if-at-eq1.false c.as_slice.ensures (sym c.are_axes.ensures ∙ c.if-not-are_axes.false) in
     let p = err_from_is_err_and c.from_residual-in_err-reserve.result c.from_residual-in_err-reserve.ensures.1 in
     rw (p.1, p.2, c.reserve.ensures.items, ← c.self.view_is) (new_memory c.self.inside.hdus.items c.self.inside.tail.items c.args.at c.args.kind c.args.axes.now placed)
 
 pub returns-in_err-reserve-2 : goal.returns-in_err-reserve-2
-returns-in_err-reserve-2 c =
+returns-in_err-reserve-2 g c =
     let many : length c.self.inside.hdus.items ≡ c.len.result = omega (arith, c.len.ensures, c.self.inside.hdus.ok.0) in
     let placed = is_placed (length c.self.inside.hdus.items) c.len.result c.args.at c.args.axes.now c.as_slice.result.now many (sym c.is_within.ensures ∙ c.if-not-is_within.false) c.if-at-eq1.false c.as_slice.ensures (sym c.are_axes.ensures ∙ c.if-not-are_axes.false) in
     let p = err_from_is_err_and c.from_residual-in_err-reserve-2.result c.from_residual-in_err-reserve-2.ensures.1 in
     rw (p.1, p.2, c.reserve.ensures.items, ← c.self.view_is) (new_memory c.self.inside.hdus.items c.self.inside.tail.items c.args.at c.args.kind c.args.axes.now placed)
 
 pub reserve-requires-2 : goal.reserve-requires-2
-reserve-requires-2 c =
+reserve-requires-2 g c =
     omega (arith, names_within (names_of c.self.inside.hdus.items) c.self.inside.names.numbers.items c.self.invariant.names.table, length-map c.self.inside.hdus.items name_of, c.self.inside.hdus.ok.0, ap length c.reserve.ensures.items, c.len-3.ensures)
 
 -- the table is as it was
 pub invariant_of-self-in_err-reserve-2 : goal.invariant_of-self-in_err-reserve-2
-invariant_of-self-in_err-reserve-2 c =
-    rw c.reserve.ensures.items (kept_as c.self.inside.hdus.items c.self.inside.tail.items c.self.inside.len c.self.inside.names.numbers.items c.reserve-2.new.self.numbers.items c.self.inside.names.room c.reserve-2.new.self.room c.reserve-2.ensures.names c.in_err-reserve-2.ensures.err c.self.invariant)
+invariant_of-self-in_err-reserve-2 g c =
+    rw c.reserve.ensures.items (kept_as _ c.self.inside.hdus.items c.self.inside.tail.items c.self.inside.len c.self.inside.names.numbers.items c.reserve-2.new.self.numbers.items c.self.inside.names.room c.reserve-2.new.self.room c.reserve-2.ensures.names c.in_err-reserve-2.ensures.err c.self.invariant)
 
 pub returns-in_default : goal.returns-in_default
-returns-in_default c =
+returns-in_default g c =
     let many : length c.self.inside.hdus.items ≡ c.len.result = omega (arith, c.len.ensures, c.self.inside.hdus.ok.0) in
     let placed = is_placed (length c.self.inside.hdus.items) c.len.result c.args.at c.args.axes.now c.as_slice.result.now many (sym c.is_within.ensures ∙ c.if-not-is_within.false) c.if-at-eq1.false c.as_slice.ensures (sym c.are_axes.ensures ∙ c.if-not-are_axes.false) in
     let axes_are : c.in_ok-shape.shape.axes ≡ c.args.axes.now = ap (λ (shape : Shape). shape.axes) c.in_ok-shape.ensures ∙ c.as_slice-2.ensures in
@@ -85,7 +87,7 @@ returns-in_default c =
     rw (← c.self.view_is) (new_too_large c.self.inside.hdus.items c.self.inside.tail.items c.args.at c.args.kind c.args.axes.now placed (inr (omega (arith, size, long, c.self.invariant.len, c.in_default.ensures.too_large refl))))
 
 pub invariant_of-self-2 : goal.invariant_of-self-2
-invariant_of-self-2 c =
+invariant_of-self-2 g c =
     let many : length c.self.inside.hdus.items ≡ c.len.result = omega (arith, c.len.ensures, c.self.inside.hdus.ok.0) in
     let placed = is_placed (length c.self.inside.hdus.items) c.len.result c.args.at c.args.axes.now c.as_slice.result.now many (sym c.is_within.ensures ∙ c.if-not-is_within.false) c.if-at-eq1.false c.as_slice.ensures (sym c.are_axes.ensures ∙ c.if-not-are_axes.false) in
     let axes_are : c.in_ok-shape.shape.axes ≡ c.args.axes.now = ap (λ (shape : Shape). shape.axes) c.in_ok-shape.ensures ∙ c.as_slice-2.ensures in
@@ -106,10 +108,11 @@ invariant_of-self-2 c =
       right = all_inserted IsRight hdus at new (unkept_right new c.in_ok-hdu.ensures.kept) c.self.invariant.right;
       names = unnamed_stands hdus at new es c.in_ok-hdu.ensures.unnamed c.in_ok-hdu.ensures.entry c.self.invariant.names;
       roomy = omega (arith, c.in_ok-reserve-2.ensures.ok, c.len-3.ensures, c.self.inside.hdus.ok.0, ap length c.reserve.ensures.items, length-insert hdus at new (placed_at (length hdus) c.args.at c.args.axes.now placed).1);
+      had = all_inserted (IsHad _) hdus at new (had_held _ new c.in_ok-hdu.ensures.held) c.self.invariant.had;
     })
 
 pub returns : goal.returns
-returns c =
+returns g c =
     let many : length c.self.inside.hdus.items ≡ c.len.result = omega (arith, c.len.ensures, c.self.inside.hdus.ok.0) in
     let placed = is_placed (length c.self.inside.hdus.items) c.len.result c.args.at c.args.axes.now c.as_slice.result.now many (sym c.is_within.ensures ∙ c.if-not-is_within.false) c.if-at-eq1.false c.as_slice.ensures (sym c.are_axes.ensures ∙ c.if-not-are_axes.false) in
     let axes_are : c.in_ok-shape.shape.axes ≡ c.args.axes.now = ap (λ (shape : Shape). shape.axes) c.in_ok-shape.ensures ∙ c.as_slice-2.ensures in

@@ -6,9 +6,9 @@ use Rattle.fits_session.proofs.WalkLemmas.{followed_seen}
 use Rattle.fits_session.proofs.session.Session.report.Goals as goal
 
 pub problems-requires : goal.problems-requires
-problems-requires c = kept_named c.self.inside.hdus.items c.self.inside.tail.items c.self.inside.len c.self.inside.names.numbers.items c.self.inside.names.room c.self.invariant
+problems-requires g c = kept_named _ c.self.inside.hdus.items c.self.inside.tail.items c.self.inside.len c.self.inside.names.numbers.items c.self.inside.names.room c.self.invariant
 
 pub returns-clause-value : goal.returns-clause-value
-returns-clause-value c =
+returns-clause-value g c =
     rw (← c.self.view_is) (report_is c.self.inside.hdus.items c.self.inside.tail.items (c.len.result + 1) c.in_ok-report.report.items c.push_trailing.new.report.items c.in_ok-report.ensures.value (omega (arith, c.len.ensures, c.problems.new.hdus.ok.0, ap length c.problems.ensures.same))
     (c.in_ok-push_trailing.ensures c.self.inside.tail.items (followed_seen c.self.inside.tail.items c.is_empty.result (grind (arith, common_steps)))))

@@ -4,7 +4,8 @@ use Rattle.std.proofs.lemmas.List.Edits.{length-remove}
 use Rattle.fits_session.specs.File.{FileParts, file_bytes, IsFile}
 use Rattle.fits_session.specs.NameTable.{Stands}
 use Rattle.fits_session.specs.Keeping.{IsRight}
-use Rattle.fits_session.specs.Session.{without_entries}
+use Rattle.fits_session.specs.Session.{without_entries, IsHad}
+use Rattle.fits_session.proofs.HadLemmas.{had_moved}
 use Rattle.fits_session.proofs.KeptLemmas.{count_moved, described_moved, file_of-unentered, right_unentered}
 use Rattle.fits_session.proofs.StandingLemmas.{removed_leaves}
 use Rattle.std.proofs.lemmas.List.{length-append}
@@ -18,15 +19,15 @@ use Rattle.fits_session.proofs.StateLemmas.{file_within, is_at, part_there}
 use Rattle.fits_session.proofs.session.Session.take_out.Goals as goal
 
 pub returns-in_err-i : goal.returns-in_err-i
-returns-in_err-i c =
+returns-in_err-i g c =
     let p = err_from_is_err_and c.from_residual.result c.from_residual.ensures.1 in
     rw (p.1, p.2, c.in_err-i.ensures.why, ← c.self.view_is) (removes_nowhere c.self.inside.hdus.items c.self.inside.tail.items c.args.h (rw c.deref.ensures.value at c.in_err-i.ensures.none))
 
 pub returns-then-i-eq0 : goal.returns-then-i-eq0
-returns-then-i-eq0 c = rw (← c.self.view_is) (primary_stays c.self.inside.hdus.items c.self.inside.tail.items c.args.h c.in_ok-i.i (rw c.deref.ensures.value at c.in_ok-i.ensures.found) (grind (arith, c.if-i-eq0.true)))
+returns-then-i-eq0 g c = rw (← c.self.view_is) (primary_stays c.self.inside.hdus.items c.self.inside.tail.items c.args.h c.in_ok-i.i (rw c.deref.ensures.value at c.in_ok-i.ensures.found) (grind (arith, c.if-i-eq0.true)))
 
 pub byte_len-header_len-requires : goal.byte_len-header_len-requires
-byte_len-header_len-requires c =
+byte_len-header_len-requires g c =
     let hdu = (parts_of c.remove-hdu.result) in
     let part = part_there c.self.inside.hdus.items c.self.inside.tail.items c.args.h c.in_ok-i.i c.remove-hdu.result
     (is_at c.self.inside.hdus.items c.deref.result.now c.args.h c.args.h c.in_ok-i.i c.remove-hdu.result c.deref.ensures.value refl c.in_ok-i.ensures.found c.remove-hdu.ensures.value) in
@@ -34,28 +35,28 @@ byte_len-header_len-requires c =
     omega (arith, part, size, length-append (header_bytes hdu.header) hdu.data_unit, ap (λ (h : HeaderState). length (header_bytes h.header)) c.header.ensures)
 
 pub overflow_add-self : goal.overflow_add-self
-overflow_add-self c =
+overflow_add-self g c =
     let hdu = (parts_of c.remove-hdu.result) in
     let part = part_there c.self.inside.hdus.items c.self.inside.tail.items c.args.h c.in_ok-i.i c.remove-hdu.result
     (is_at c.self.inside.hdus.items c.deref.result.now c.args.h c.args.h c.in_ok-i.i c.remove-hdu.result c.deref.ensures.value refl c.in_ok-i.ensures.found c.remove-hdu.ensures.value) in
     let size = (file_within c.self.inside.hdus.items c.self.inside.tail.items c.self.invariant.whole).0 in
-    omega (arith, part, size, length-append (header_bytes hdu.header) hdu.data_unit, c.byte_len-header_len.ensures, ap (λ (h : HeaderState). length (header_bytes h.header)) c.header.ensures, c.byte_len-data_len.ensures, ap (λ (p : PlaneState). length p.bytes) c.plane.ensures.value)
+    omega (arith, part, size, length-append (header_bytes hdu.header) hdu.data_unit, c.byte_len-header_len.ensures, ap (λ (h : HeaderState). length (header_bytes h.header)) c.header.ensures, c.data_len-data_len.ensures)
 
 pub overflow_sub-self : goal.overflow_sub-self
-overflow_sub-self c =
+overflow_sub-self g c =
     let hdu = (parts_of c.remove-hdu.result) in
     let part = part_there c.self.inside.hdus.items c.self.inside.tail.items c.args.h c.in_ok-i.i c.remove-hdu.result
     (is_at c.self.inside.hdus.items c.deref.result.now c.args.h c.args.h c.in_ok-i.i c.remove-hdu.result c.deref.ensures.value refl c.in_ok-i.ensures.found c.remove-hdu.ensures.value) in
     let size = (file_within c.self.inside.hdus.items c.self.inside.tail.items c.self.invariant.whole).0 in
-    omega (arith, part, c.self.invariant.len, length-append (header_bytes hdu.header) hdu.data_unit, c.byte_len-header_len.ensures, ap (λ (h : HeaderState). length (header_bytes h.header)) c.header.ensures, c.byte_len-data_len.ensures, ap (λ (p : PlaneState). length p.bytes) c.plane.ensures.value)
+    omega (arith, part, c.self.invariant.len, length-append (header_bytes hdu.header) hdu.data_unit, c.byte_len-header_len.ensures, ap (λ (h : HeaderState). length (header_bytes h.header)) c.header.ensures, c.data_len-data_len.ensures)
 
 pub leave-requires : goal.leave-requires
-leave-requires c =
+leave-requires g c =
     let at = (is_at c.self.inside.hdus.items c.deref.result.now c.args.h c.args.h c.in_ok-i.i c.remove-hdu.result c.deref.ensures.value refl c.in_ok-i.ensures.found c.remove-hdu.ensures.value) in
     rw (c.remove-hdu.ensures.items, c.entry-entry.ensures) (removed_leaves c.self.inside.hdus.items c.in_ok-i.i c.remove-hdu.result c.self.inside.names.numbers.items at.index.within at.is c.self.invariant.names)
 
 pub invariant_of-self : goal.invariant_of-self
-invariant_of-self c =
+invariant_of-self g c =
     let hdus = c.self.inside.hdus.items in
     let hdu = (parts_of c.remove-hdu.result) in
     let behind : 0 < c.in_ok-i.i = grind (arith, c.if-i-eq0.false) in
@@ -66,15 +67,16 @@ invariant_of-self c =
     let less = removed_size hdus c.self.inside.tail.items c.args.h c.in_ok-i.i c.remove-hdu.result at in
     record {
       whole = subst (λ (f : FileParts). IsFile f) (sym same) left;
-      len = omega (arith, ap (λ (f : FileParts). length (file_bytes f)) same, less, c.self.invariant.len, length-append (header_bytes hdu.header) hdu.data_unit, c.byte_len-header_len.ensures, ap (λ (h : HeaderState). length (header_bytes h.header)) c.header.ensures, c.byte_len-data_len.ensures, ap (λ (p : PlaneState). length p.bytes) c.plane.ensures.value);
+      len = omega (arith, ap (λ (f : FileParts). length (file_bytes f)) same, less, c.self.invariant.len, length-append (header_bytes hdu.header) hdu.data_unit, c.byte_len-header_len.ensures, ap (λ (h : HeaderState). length (header_bytes h.header)) c.header.ensures, c.data_len-data_len.ensures);
       described = described_moved c.leave.new.hdus.items (remove hdus c.in_ok-i.i) moved (all_left IsDescribed hdus c.in_ok-i.i c.self.invariant.described);
       right = right_unentered c.leave.new.hdus.items (remove hdus c.in_ok-i.i) moved (all_left IsRight hdus c.in_ok-i.i c.self.invariant.right);
       names = subst (Stands c.leave.new.hdus.items) (sym c.release.ensures.names) c.leave.ensures.stands;
       roomy = omega (arith, c.self.invariant.roomy, c.leave.ensures.room, c.release.ensures.room, count_moved c.leave.new.hdus.items (remove hdus c.in_ok-i.i) moved, length-remove hdus c.in_ok-i.i at.index.within);
+      had = had_moved _ c.leave.new.hdus.items (remove hdus c.in_ok-i.i) moved (all_left (IsHad _) hdus c.in_ok-i.i c.self.invariant.had);
     }
 
 pub returns : goal.returns
-returns c =
+returns g c =
     let behind : 0 < c.in_ok-i.i = grind (arith, c.if-i-eq0.false) in
     let at = (is_at c.self.inside.hdus.items c.deref.result.now c.args.h c.args.h c.in_ok-i.i c.remove-hdu.result c.deref.ensures.value refl c.in_ok-i.ensures.found c.remove-hdu.ensures.value) in
     rw (← c.self.view_is) (removes c.self.inside.hdus.items c.leave.new.hdus.items c.self.inside.tail.items c.args.h c.in_ok-i.i tt c.remove-hdu.result at behind (c.leave.ensures.hdus ∙ ap without_entries c.remove-hdu.ensures.items))

@@ -81,6 +81,7 @@ returns-in_err-reserve c =
       described = rw (ap (λ (hdu : HduParts). hdu.header) room.hdu, room.shape, read.header.header, read.header.shape) c.card_count-before.ensures.described;
       entry = ap (λ (hdu : HduState). hdu.entry) room.rest ∙ read.entry;
       kept = ap (λ (hdu : HduState). hdu.kept) room.rest ∙ read.kept;
+      absent = ap (λ (hdu : HduState). hdu.absent) room.rest ∙ read.absent;
     })
     (inr (refl, room_missing c.args.change.now c.args.len c.args.hdus hdu.kept primary (parts_of hdu) c.requires.in_range more (ap (within_refusal hdu.kept c.args.len c.args.hdus (parts_of hdu)) made ∙ within))))
 
@@ -121,4 +122,5 @@ returns c =
     (rw (header, c.apply.ensures.shape, reserved, room.shape, plane, read.header.header, read.header.shape, read.plane) at c.apply.ensures.scans)
     (c.apply.ensures.entry ∙ (ap (λ (hdu : HduState). hdu.entry) room.rest ∙ read.entry))
     (c.apply.ensures.kept ∙ (ap (λ (hdu : HduState). hdu.kept) room.rest ∙ read.kept))
+    (c.apply.ensures.absent ∙ (ap (λ (hdu : HduState). hdu.absent) room.rest ∙ read.absent))
     (subst (λ b. IsFinished b c.apply.new.self c.finish.new.hdu) stamps c.finish.ensures)

@@ -5,7 +5,8 @@ use Rattle.fits_hdu.specs.State.{name_of, IsDescribed}
 use Rattle.fits_hdu.specs.Work.{name_reads, plane_work}
 use Rattle.fits_hdu.proofs.StateLemmas.{parts_read}
 use Rattle.fits_session.specs.NameTable.{names_of}
-use Rattle.fits_session.specs.Session.{reads_of, ReadsOnly}
+use Rattle.fits_session.specs.Session.{reads_of, ReadsOnly, StaysHad}
+use Rattle.fits_session.proofs.HadLemmas.{had_at, had_moved, had_read}
 use Rattle.fits_session.proofs.KeptLemmas.{described_moved, hdus_moved, kept_moved, reads_moved, works_moved}
 use Rattle.fits_session.proofs.MakingLemmas.{lasts_read}
 use Rattle.fits_session.proofs.NamingLemmas.{follows_leaves, follows_same, points_was}
@@ -42,6 +43,11 @@ returns-then-is_entry_of-clause-works c = works_of-same c.args.hdus.now.items c.
 
 pub returns-then-is_entry_of-clause-kept : goal.returns-then-is_entry_of-clause-kept
 returns-then-is_entry_of-clause-kept c = kept_of-same c.args.hdus.now.items c.args.i c.index_mut-hdu.result.now c.extension_name-name.new.self c.requires.within c.index_mut-hdu.ensures.value c.extension_name-name.ensures.work.kept
+
+pub returns-then-is_entry_of-clause-had : goal.returns-then-is_entry_of-clause-had
+returns-then-is_entry_of-clause-had c holding had =
+    let at : IsHduAt c.args.hdus.now.items (c.args.i + 1) c.args.i c.index_mut-hdu.result.now = record { index = record { at = refl; within = c.requires.within }; is = c.index_mut-hdu.ensures.value } in
+    had_at holding c.args.hdus.now.items (c.args.i + 1) c.args.i c.index_mut-hdu.result.now c.extension_name-name.new.self at (had_read _ _ _ c.extension_name-name.ensures.work) had
 
 pub enter-entry-requires-clause-few : goal.enter-entry-requires-clause-few
 enter-entry-requires-clause-few c =
@@ -92,3 +98,10 @@ returns-clause-kept c =
     kept_moved c.leave.new.hdus.items (set c.args.hdus.now.items c.args.i c.set_entry.new.self) c.leave.ensures.hdus
     ∙ kept_of-same c.args.hdus.now.items c.args.i c.index_mut-hdu.result.now c.set_entry.new.self c.requires.within c.index_mut-hdu.ensures.value
     (rw c.set_entry.ensures c.extension_name-name.ensures.work.kept)
+
+pub returns-clause-had : goal.returns-clause-had
+returns-clause-had c holding had =
+    let at : IsHduAt c.args.hdus.now.items (c.args.i + 1) c.args.i c.index_mut-hdu.result.now = record { index = record { at = refl; within = c.requires.within }; is = c.index_mut-hdu.ensures.value } in
+    let read : StaysHad c.index_mut-hdu.result.now c.extension_name-name.new.self = had_read _ _ _ c.extension_name-name.ensures.work in
+    had_moved holding c.leave.new.hdus.items (set c.args.hdus.now.items c.args.i c.set_entry.new.self) c.leave.ensures.hdus
+    (had_at holding c.args.hdus.now.items (c.args.i + 1) c.args.i c.index_mut-hdu.result.now c.set_entry.new.self at (λ holding it. rw c.set_entry.ensures (let read_it = read holding it in record { held = read_it.held; lies = read_it.lies })) had)

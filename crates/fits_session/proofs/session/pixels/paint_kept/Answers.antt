@@ -33,7 +33,7 @@ returns-then-not-keeps_limits c =
     let may = may_made _ (rw (c.as_slice.ensures, c.as_slice-2.ensures, c.lent-paint.ensures) at c.in_ok-may_paint.ensures.ok) in
     let within = paint_limits c.keeps_limits.result hdu.kept primary hdu.header.shape (parts_of hdu) may.0 c.args.lo.now c.args.hi.now c.args.paint.now c.args.len n.result c.spare_cards-spare.result c.args.hdus n.ensures.whole n.ensures.described may.1 c.requires.part n.ensures.value c.spare_cards-spare.ensures c.keeps_limits.ensures.value in
     paints_unstamped c.args.lo.now c.args.hi.now c.args.paint.now c.args.len c.args.hdus hdu hdu may.0 refusal.TooLarge n.ensures.whole n.ensures.described may.1
-    (inl (fits_not (length_with c.args.len (parts_of hdu) (padded_if hdu.kept may.0)) c.args.hdus (within ∙ c.if-not-keeps_limits.true))) refl refl refl refl (record { described = n.ensures.described; entry = refl; kept = refl })
+    (inl (fits_not (length_with c.args.len (parts_of hdu) (padded_if hdu.kept may.0)) c.args.hdus (within ∙ c.if-not-keeps_limits.true))) refl refl refl refl (record { described = n.ensures.described; entry = refl; kept = refl; absent = refl })
 
 -- memory runs out for its cards
 pub returns-in_err-cards : goal.returns-in_err-cards
@@ -46,7 +46,7 @@ returns-in_err-cards c =
     let within = paint_limits c.keeps_limits.result hdu.kept primary hdu.header.shape (parts_of hdu) may.0 c.args.lo.now c.args.hi.now c.args.paint.now c.args.len n.result c.spare_cards-spare.result c.args.hdus n.ensures.whole n.ensures.described may.1 c.requires.part n.ensures.value c.spare_cards-spare.ensures c.keeps_limits.ensures.value in
     let none = fits (length_with c.args.len (parts_of hdu) (padded_if hdu.kept may.0)) c.args.hdus (within ∙ c.if-not-keeps_limits.false) in
     rw (p.1, p.2) (paints_unstamped c.args.lo.now c.args.hi.now c.args.paint.now c.args.len c.args.hdus hdu hdu may.0 refusal.Memory n.ensures.whole n.ensures.described may.1
-    (inr (refl, inr (c.requires.kept, none))) refl refl refl refl (record { described = n.ensures.described; entry = refl; kept = refl }))
+    (inr (refl, inr (c.requires.kept, none))) refl refl refl refl (record { described = n.ensures.described; entry = refl; kept = refl; absent = refl }))
 
 -- or for their room
 pub returns-in_err-reserve : goal.returns-in_err-reserve
@@ -67,6 +67,7 @@ returns-in_err-reserve c =
       described = rw (ap (λ (hdu : HduParts). hdu.header) room.hdu, room.shape) n.ensures.described;
       entry = ap (λ (state : HduState). state.entry) room.rest;
       kept = ap (λ (state : HduState). state.kept) room.rest;
+      absent = ap (λ (state : HduState). state.absent) room.rest;
     }))
 
 -- the HDU is small enough to be stamped
@@ -100,4 +101,5 @@ returns c =
     (rw (c.as_slice-3.ensures, c.as_slice-4.ensures, header, room.shape, plane) at c.in-Ok.ensures.work)
     (ap (λ (state : HduState). state.entry) rest ∙ ap (λ (state : HduState). state.entry) room.rest)
     (ap (λ (state : HduState). state.kept) rest ∙ ap (λ (state : HduState). state.kept) room.rest)
+    (ap (λ (state : HduState). state.absent) rest ∙ (ap (λ (state : HduState). state.absent) room.rest ∙ c.requires.held))
     (subst (λ b. IsFinished b mid c.finish.new.hdu) stamps c.finish.ensures)

@@ -26,7 +26,7 @@ returns-then-is_none c =
     let few = within_limits c.args.len c.args.hdus c.requires.within in
     let most = FILE_LIMIT - (c.args.len - length (hdu_bytes (parts_of hdu))) in
     reshapes_not c.args.kind c.args.axes.now c.args.len c.args.hdus most (spare_cards hdu.kept) hdu hdu reshape.NotImage c.card_count-whole.ensures.whole c.card_count-whole.ensures.described refl c.requires.part (omega (arith, few.0))
-    (no_array c.args.kind c.args.axes.now hdu.header.shape (parts_of hdu) bits) refl (omega arith) (omega arith) (read_none (kept_count hdu.header.shape.axes c.args.axes.now) (plane_work hdu.plane)) refl (record { described = c.card_count-whole.ensures.described; entry = refl; kept = refl })
+    (no_array c.args.kind c.args.axes.now hdu.header.shape (parts_of hdu) bits) refl (omega arith) (omega arith) (read_none (kept_count hdu.header.shape.axes c.args.axes.now) (plane_work hdu.plane)) refl (record { described = c.card_count-whole.ensures.described; entry = refl; kept = refl; absent = refl })
 
 -- memory runs out for the cards of its stamp
 pub returns-in_err-cards : goal.returns-in_err-cards
@@ -38,7 +38,7 @@ returns-in_err-cards c =
     let most = FILE_LIMIT - (c.args.len - length (hdu_bytes (parts_of hdu))) in
     rw (p.1, p.2) (reshapes_not c.args.kind c.args.axes.now c.args.len c.args.hdus most (spare_cards hdu.kept) hdu hdu reshape.Memory c.card_count-whole.ensures.whole c.card_count-whole.ensures.described refl c.requires.part (omega (arith, few.0))
     (array_memory c.args.kind c.args.axes.now hdu.header.shape (parts_of hdu) most (spare_cards hdu.kept) (λ none. some (c.array_bits.ensures ∙ ap array_bits c.shape.ensures.value ∙ none)))
-    refl (omega arith) (omega arith) (read_none (kept_count hdu.header.shape.axes c.args.axes.now) (plane_work hdu.plane)) refl (record { described = c.card_count-whole.ensures.described; entry = refl; kept = refl }))
+    refl (omega arith) (omega arith) (read_none (kept_count hdu.header.shape.axes c.args.axes.now) (plane_work hdu.plane)) refl (record { described = c.card_count-whole.ensures.described; entry = refl; kept = refl; absent = refl }))
 
 -- another test fails
 pub returns-in_err-reshape : goal.returns-in_err-reshape
@@ -49,7 +49,7 @@ returns-in_err-reshape c =
     let few = within_limits c.args.len c.args.hdus c.requires.within in
     let most : FILE_LIMIT - (c.args.len - c.hdu_len.result) + (c.args.len - length (hdu_bytes (parts_of hdu))) ≡ FILE_LIMIT = omega (arith, c.hdu_len.ensures, few.0) in
     rw (p.1, p.2) (reshapes_not c.args.kind c.args.axes.now c.args.len c.args.hdus (FILE_LIMIT - (c.args.len - c.hdu_len.result)) c.spare_cards-spare.result hdu c.reshape.new.self c.in_err-reshape.field-0.0 c.card_count-whole.ensures.whole e.described c.spare_cards-spare.ensures c.requires.part most
-    (rw c.as_slice.ensures at e.err) e.same e.least (rw c.as_slice.ensures at e.work) (rw c.as_slice.ensures at e.idle) e.room (record { described = e.left; entry = e.entry; kept = e.kept }))
+    (rw c.as_slice.ensures at e.err) e.same e.least (rw c.as_slice.ensures at e.work) (rw c.as_slice.ensures at e.idle) e.room (record { described = e.left; entry = e.entry; kept = e.kept; absent = e.held ∙ sym c.requires.held }))
 
 -- it is small enough to be stamped
 pub finish-requires-clause-small : goal.finish-requires-clause-small
@@ -68,4 +68,4 @@ returns c =
     let most : FILE_LIMIT - (c.args.len - c.hdu_len.result) + (c.args.len - length (hdu_bytes (parts_of hdu))) ≡ FILE_LIMIT = omega (arith, c.hdu_len.ensures, few.0) in
     let stamps : is_some c.in_ok-cards.cards ≡ hdu.kept = c.in_ok-cards.ensures.ok in
     reshapes c.args.kind c.args.axes.now c.args.len c.args.hdus (FILE_LIMIT - (c.args.len - c.hdu_len.result)) c.spare_cards-spare.result hdu c.reshape.new.self c.finish.new.hdu tt c.card_count-whole.ensures.whole e.described c.spare_cards-spare.ensures c.requires.part c.requires.within most
-    (rw c.as_slice.ensures at e.ok) e.within e.least (rw c.as_slice.ensures at e.work) (rw c.as_slice.ensures at e.pixel_work) e.entry e.kept (subst (λ b. IsFinished b c.reshape.new.self c.finish.new.hdu) stamps c.finish.ensures)
+    (rw c.as_slice.ensures at e.ok) e.within e.least (rw c.as_slice.ensures at e.work) (rw c.as_slice.ensures at e.pixel_work) e.entry e.kept e.held (subst (λ b. IsFinished b c.reshape.new.self c.finish.new.hdu) stamps c.finish.ensures)

@@ -31,7 +31,7 @@ returns-in_err-stamp c =
     let within = fits (length_with c.args.len (parts_of c.args.hdu.now) (stamped (parts_of c.args.hdu.now))) c.args.hdus (sym (ap (λ n. is_within_limits n c.args.hdus) reckoned) ∙ sym c.if-not-keeps_limits.ensures.value) in
     let most = rw work.header.header at c.in_err-stamp.ensures.work in
     rw (p.1, p.2) (stamps_not c.args.len c.args.hdus c.args.hdu.now c.stamp.new.self refusal.Memory c.card_count-before.ensures.whole (c.in_err-stamp.ensures.err ∙ parts_read _ _ _ work) (omega (arith, work.header.least, c.in_err-stamp.ensures.least)) (omega (arith, work.header.most, most)) (c.in_err-stamp.ensures.pixel_work ∙ ap plane_work work.plane) (c.in_err-stamp.ensures.room ∙ work.header.room)
-    (record { described = c.in_err-stamp.ensures.left; entry = c.in_err-stamp.ensures.entry ∙ work.entry; kept = c.in_err-stamp.ensures.kept ∙ work.kept })
+    (record { described = c.in_err-stamp.ensures.left; entry = c.in_err-stamp.ensures.entry ∙ work.entry; kept = c.in_err-stamp.ensures.kept ∙ work.kept; absent = c.in_err-stamp.ensures.absent ∙ work.absent })
     (inr (refl, within)))
 
 pub returns : goal.returns
@@ -42,4 +42,4 @@ returns c =
     let most = rw work.header.header at c.in_ok-stamp.ensures.work in
     stamps c.args.len c.args.hdus c.args.hdu.now c.stamp.new.self tt c.card_count-before.ensures.whole within (c.in_ok-stamp.ensures.ok ∙ ap stamped (parts_read _ _ _ work)) (omega (arith, work.header.least, c.in_ok-stamp.ensures.least)) (omega (arith, work.header.most, most))
     (c.in_ok-stamp.ensures.pixel_work ∙ ap plane_work work.plane)
-    (record { described = c.in_ok-stamp.ensures.left; entry = c.in_ok-stamp.ensures.entry ∙ work.entry; kept = c.in_ok-stamp.ensures.kept ∙ work.kept })
+    (record { described = c.in_ok-stamp.ensures.left; entry = c.in_ok-stamp.ensures.entry ∙ work.entry; kept = c.in_ok-stamp.ensures.kept ∙ work.kept; absent = c.in_ok-stamp.ensures.absent ∙ work.absent })

@@ -1,0 +1,17 @@
+use Rattle.std.proofs.lemmas.Result.{IfErr-weaker, on_ok_weaker}
+use Rattle.fits_card.specs.Header.{header_bytes}
+use Rattle.fits_hdu.proofs.PassedLemmas.{copy_more, like_more}
+use Rattle.fits_hdu.proofs.hdu.Hdu.emit_from.Goals as goal
+
+pub returns-clause-like : goal.returns-clause-like
+returns-clause-like g c =
+    let header = c.self.inside.header.header in
+    let unit = c.self.inside.unit.plane.bytes in
+    rw (← c.self.view_is) (on_ok_weaker c.emit_from.result (like_more header unit _ _ _ c.len-whole_words.ensures.whole c.in-Ok.ensures.ok) c.emit_from.ensures.like)
+
+pub returns-clause-err : goal.returns-clause-err
+returns-clause-err g c = λ told.
+    let header = c.self.inside.header.header in
+    let unit = c.self.inside.unit.plane.bytes in
+    let known = rw (← c.self.view_is) at told in
+    rw (← c.self.view_is) (IfErr-weaker c.emit_from.result _ _ (λ why fails. copy_more (header_bytes header) unit _ _ _ why c.in-Ok.ensures.ok fails) (c.emit_from.ensures.err known))

@@ -1,0 +1,111 @@
+//! An HDU whose data unit lies in a file, and is read again where it is wanted.
+use super::Hdu;
+use crate::passed_hdu::PassedHdu;
+use fits_plane::{CopyFault, DataUnit, LoadFault};
+use fits_stream::{Sink, Stored};
+use std::alloc::{AllocError, Global};
+
+impl Hdu {
+    ghost use Rattle.std.specs.Prelude.{◌≡◌, ◌+◌, ◌%◌, ◌<◌, ◌↔◌, length, None, IfOk, IfErr, IsOk, IsTrue, OnOk, OnErr};
+    ghost use Rattle.fits_stream.specs.Stream.{Prints};
+    ghost use Rattle.fits_sum.specs.Words.{word_total};
+    ghost use Rattle.fits_plane.specs.Again.{CopyFails, PrintsLike};
+    ghost use Rattle.fits_plane.specs.DataUnit.{IsCounted, IsToldBy};
+    ghost use Rattle.fits_plane.specs.Layout.{block_count};
+    ghost use Rattle.fits_hdu.specs.Hdu.{hdu_bytes};
+    ghost use Rattle.fits_hdu.specs.Reading.{passed_parts, IsPassedWhole};
+    ghost use Rattle.fits_hdu.specs.State.{parts_of, ReadsUpTo};
+    ghost use Rattle.fits_hdu.specs.Work.{plane_work, IsKnownAt, IsLoaded};
+
+    /// The HDU whose data unit passed by, and lies at this place of a file.
+    pub fn away(alloc: Global, passed: PassedHdu, place: u64) -> Result<Hdu, AllocError>
+        requires { IsPassedWhole passed.header passed.unit (passed_parts passed.header passed.unit) }
+        ensures parts { IfOk result (λ it. parts_of it ≡ passed_parts passed.header passed.unit) }
+        ensures shape { IfOk result (λ it. it.header.shape ≡ passed.header.shape) }
+        ensures known { IfOk result (IsKnownAt place) }
+    {
+        let PassedHdu { header, unit } = passed;
+        match DataUnit::away(alloc, unit, place) {
+            Ok(unit) => Ok(Hdu::joined(header, unit)),
+            Err(refused) => {
+                drop(header);
+                Err(refused)
+            }
+        }
+    }
+
+    /// Whether its data unit is in memory.
+    pub fn is_held(&self) -> bool
+        ensures { IsTrue result ↔ self.now.absent ≡ None }
+    {
+        self.unit.is_held()
+    }
+
+    /// Whether its statistics are known: its data unit is in memory, or BLANK names the number that it
+    /// named as the data unit passed by.
+    pub fn is_counted(&self) -> bool
+        ensures { IsTrue result ↔ IsCounted self.now.plane self.now.absent }
+    {
+        self.unit.is_counted()
+    }
+
+    /// Reads its data unit into memory, where it isn't there, from the file that it lies in. What is
+    /// read is compared with what is known of it, by its length and its total.
+    pub fn load<F: Stored>(&mut self, alloc: Global, file: &F) -> Result<(), LoadFault>
+        ensures held { OnOk result (self.new.absent ≡ None) }
+        ensures same { IsToldBy (F.bytes file.now) self.old.plane self.old.absent
+            → OnOk result (parts_of self.new ≡ parts_of self.old) }
+        ensures total { OnOk result
+            (word_total self.new.plane.bytes ≡ word_total self.old.plane.bytes) }
+        ensures size { length self.new.plane.bytes ≡ length self.old.plane.bytes }
+        ensures idle { self.old.absent ≡ None → self.new ≡ self.old }
+        ensures at_once { self.old.absent ≡ None → IsOk result }
+        ensures work { IsLoaded (block_count self.old.plane.bytes)
+            (plane_work self.old.plane) (plane_work self.new.plane) }
+        ensures rest { self.new ≡ record self.old {
+          plane = self.new.plane;
+          absent = self.new.absent;
+        } }
+        ensures err { OnErr result (self.new ≡ self.old) }
+        ensures steady { IsToldBy (F.bytes file.now) self.old.plane self.old.absent
+            → IfErr result (λ why. why ≡ LoadFault.Changed → ⊥) }
+    {
+        self.unit.load(alloc, file)
+    }
+
+    /// Writes the header and then the data unit: that in memory, or else what the file has at its
+    /// place, through a room of whole words. What is copied is compared with what is known of it, by
+    /// its length and its total. Each card's read is counted.
+    ///
+    /// Where a call fails a prefix was written.
+    pub fn emit_from<F: Stored, W: Sink>(
+        &mut self,
+        file: &F,
+        room: &mut [u8],
+        sink: &mut W,
+    ) -> Result<(), CopyFault>
+        requires wide { 0 < length room.old }
+        requires words { length room.old % 4 ≡ 0 }
+        ensures ok { IsToldBy (F.bytes file.now) self.old.plane self.old.absent
+            → OnOk result (Prints (hdu_bytes (parts_of self.old))
+            (W.state sink.old) (W.state sink.new)) }
+        ensures like { OnOk result (PrintsLike (hdu_bytes (parts_of self.old))
+            (W.state sink.old) (W.state sink.new)) }
+        ensures err { IsToldBy (F.bytes file.now) self.old.plane self.old.absent
+            → IfErr result (CopyFails (hdu_bytes (parts_of self.old))
+            (W.state sink.old) (W.state sink.new)) }
+        ensures size { length room.new ≡ length room.old }
+
+        // The HDU stays, and each card is read once at most.
+        ensures work { ReadsUpTo self.old self.new (length self.old.header.header.cards) }
+        ensures all_read { OnOk result (self.new.header.reads
+            ≡ self.old.header.reads + length self.old.header.header.cards) }
+    {
+        // A header is of whole words, so the total of what is written is known.
+        let _whole_words = self.header.len();
+        let Ok(()) = self.header.emit(sink) else {
+            return Err(CopyFault::Write);
+        };
+        self.unit.emit_from(file, room, sink)
+    }
+}

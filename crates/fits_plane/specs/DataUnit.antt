@@ -1,0 +1,39 @@
+-- A data unit, in memory or known alone (own).
+use Rattle.std.specs.Prelude.{◌≡◌, ℕ, ℤ, List, length, take, drop, Option, None, Some, IfSome}
+use Rattle.fits_plane.specs.Plane.{PlaneState}
+use Rattle.fits_plane.specs.declared.absent.Absent.{Absent}
+
+-- where a data unit lies that isn't in memory: its place in the file that it was read from; and the stored number of undefined pixels that
+-- its statistics leave out
+pub record Absence : Type 0 where
+  pub place : ℕ
+  pub blank : Option ℤ
+
+-- a data unit: its bytes, how they are read, and the work on them so far; and where it lies, if it isn't in memory
+pub record UnitState : Type 0 where
+  pub plane : PlaneState
+  pub absent : Option Absence
+
+-- its bytes are those in memory, or those that are known
+abbrev pub plane_of : PlaneState → Option Absent → PlaneState
+plane_of plane None = plane
+plane_of plane (Some it) = record plane { bytes = it.unit.bytes; layout = it.unit.layout }
+
+-- where it lies
+abbrev pub absence_of : Option Absent → Option Absence
+absence_of None = None
+absence_of (Some it) = Some (record { place = it.place; blank = it.unit.blank })
+
+-- its statistics are known: it is in memory, or they leave out what they are to leave out
+abbrev pub IsCounted : PlaneState → Option Absence → Type 0
+IsCounted plane absent = IfSome absent (λ it. plane.layout.blank ≡ it.blank)
+
+-- where it isn't in memory, it is what these bytes have at its place
+abbrev pub LiesIn : List ℕ → PlaneState → Option Absence → Type 0
+LiesIn bytes plane absent = IfSome absent (λ it. take (length plane.bytes) (drop it.place bytes) ≡ plane.bytes)
+
+-- a file that tells its bytes has it there
+pub record IsToldBy (told : Option (List ℕ)) (plane : PlaneState) (absent : Option Absence) : Type 0 where
+  pub bytes : List ℕ
+  pub told_is : told ≡ Some bytes
+  pub lies : LiesIn bytes plane absent

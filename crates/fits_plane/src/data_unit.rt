@@ -1,0 +1,371 @@
+ghost use Rattle.std.specs.Prelude.{◌≡◌};
+
+use crate::absent::Absent;
+use crate::again::{CopyFault, LoadFault, copy_again, read_again};
+use crate::layout::Layout;
+use crate::lent_paint::LentPaint;
+use crate::passed_unit::PassedUnit;
+use crate::plane::Plane;
+use crate::plane_room::PlaneRoom;
+use crate::value_summary::ValueSummary;
+use fits_card::BLOCK_LEN;
+use fits_stream::{Sink, Stored};
+use fits_sum::words_total;
+use std::alloc::{AllocError, Global};
+use std::marker::Model;
+
+/// A data unit: in memory, or known by what was found as its bytes passed by.
+///
+/// Contracts see its bytes all the same, how they are read, the work on them so far, and where it
+/// lies, if it isn't in memory.
+#[derive(Drop)]
+pub struct DataUnit {
+    // Of a unit that isn't in memory it has no bytes, and the work so far.
+    plane: Plane,
+    absent: Option<Absent>,
+}
+
+impl Model for DataUnit {
+    ghost use Rattle.fits_plane.specs.DataUnit.{absence_of, plane_of, UnitState};
+
+    ghost Value = { UnitState };
+
+    ghost view = { λ it. record {
+      plane = plane_of it.plane it.absent;
+      absent = absence_of it.absent;
+    } };
+}
+
+impl DataUnit {
+    ghost use Rattle.std.specs.Prelude.{◌≡◌, ◌≤◌, ◌<◌, ◌*◌, ◌+◌, ◌%◌, ◌-ℤ◌, ◌^◌, ◌↔◌, ℕ, true, None, Some, drop, length, nat_eq, unsigned_abs, All, IsTrue, IfOk, IfErr, IfSome, IsOk, OnOk, OnErr};
+    ghost use Rattle.std.specs.List.{list_all};
+    ghost use Rattle.std.specs.Option.{option_map};
+    ghost use Rattle.fits_stream.specs.Stream.{Prints, PrintsFront};
+    ghost use Rattle.fits_sum.specs.Words.{word_total};
+    ghost use Rattle.fits_plane.specs.Converting.{can_store_run, kept_numbers, run_made};
+    ghost use Rattle.fits_plane.specs.Again.{CopyFails, PrintsLike};
+    ghost use Rattle.fits_plane.specs.DataUnit.{IsCounted, IsToldBy};
+    ghost use Rattle.fits_plane.specs.Statistics.{value_statistics};
+    ghost use Rattle.fits_plane.specs.Paint.{has_count, painted_number};
+    ghost use Rattle.fits_plane.specs.Pixels.{pixels, IsStorable, IsWidth};
+    ghost use Rattle.fits_plane.specs.Rectangle.{IsRectangle, product, rectangle_size, rectangle_values};
+    ghost use Rattle.fits_plane.specs.Layout.{IsLayout, block_count, block_pixels};
+    ghost use Rattle.fits_plane.specs.Plane.{IsPainted};
+
+    /// A data unit in memory.
+    pub fn held(plane: Plane) -> DataUnit
+        ensures { result ≡ record { plane = plane; absent = None } }
+    {
+        DataUnit {
+            plane,
+            absent: None,
+        }
+    }
+
+    /// A data unit that passed by, and lies at this place of a file.
+    pub fn away(alloc: Global, unit: PassedUnit, place: u64) -> Result<DataUnit, AllocError>
+        ensures bytes { IfOk result (λ it. it.plane.bytes ≡ unit.bytes) }
+        ensures layout { IfOk result (λ it. it.plane.layout ≡ unit.layout) }
+        ensures absent { IfOk result (λ it. it.absent
+            ≡ Some (record { place = place; blank = unit.blank })) }
+        ensures scans { IfOk result (λ it. it.plane.scans ≡ block_count unit.bytes) }
+        ensures reads { IfOk result (λ it. it.plane.reads ≡ 0) }
+        ensures joins { IfOk result (λ it. it.plane.joins ≤ 1) }
+    {
+        Ok(DataUnit {
+            plane: Plane::away(alloc, unit.byte_len() / BLOCK_LEN)?,
+            absent: Some(Absent { unit, place }),
+        })
+    }
+
+    /// Whether it is in memory.
+    pub fn is_held(&self) -> bool
+        ensures { IsTrue result ↔ self.now.absent ≡ None }
+    {
+        self.absent.is_none()
+    }
+
+    /// Whether its statistics are known: it is in memory, or BLANK is what it was as its bytes passed
+    /// by.
+    pub fn is_counted(&self) -> bool
+        ensures { IsTrue result ↔ IsCounted self.now.plane self.now.absent }
+    {
+        match &self.absent {
+            None => true,
+            Some(it) => it.unit.blank() == it.unit.layout().blank,
+        }
+    }
+
+    /// Its bytes in memory.
+    pub fn plane(&self) -> &Plane
+        requires { self.now.absent ≡ None }
+        ensures { result.now ≡ self.now.plane }
+    {
+        &self.plane
+    }
+
+    pub fn layout(&self) -> Layout
+        ensures value { result ≡ self.now.plane.layout }
+        ensures fits { IsLayout result self.now.plane.bytes }
+    {
+        match &self.absent {
+            None => self.plane.layout(),
+            Some(it) => it.unit.layout(),
+        }
+    }
+
+    /// How many bytes it has, with the fill.
+    pub fn byte_len(&self) -> usize
+        ensures { result ≡ length self.now.plane.bytes }
+    {
+        match &self.absent {
+            None => self.plane.byte_len(),
+            Some(it) => it.unit.byte_len(),
+        }
+    }
+
+    /// The statistics of its values, each a stored number and the offset.
+    pub fn value_stats(&self, offset: i128) -> ValueSummary
+        requires counted { IsCounted self.now.plane self.now.absent }
+        requires offset { unsigned_abs offset ≤ 2 ^ 63 }
+        ensures { result ≡ value_statistics offset self.now.plane.layout.blank
+            (pixels self.now.plane.layout.width self.now.plane.bytes 0
+            self.now.plane.layout.pixels) }
+    {
+        match &self.absent {
+            None => self.plane.value_stats(offset),
+            Some(it) => it.unit.value_stats(offset),
+        }
+    }
+
+    /// The total of its words, with the fill.
+    pub fn total(&self) -> u64
+        ensures { result ≡ word_total self.now.plane.bytes }
+    {
+        match &self.absent {
+            None => self.plane.total(),
+            Some(it) => it.unit.total(),
+        }
+    }
+
+    /// Whether each byte of the fill is the one that it should be.
+    pub fn fill_ok(&self) -> bool
+        ensures { result ≡ list_all (nat_eq self.now.plane.layout.fill)
+            (drop self.now.plane.layout.used self.now.plane.bytes) }
+    {
+        match &self.absent {
+            None => self.plane.fill_ok(),
+            Some(it) => it.unit.fill_ok(),
+        }
+    }
+
+    /// Makes this the stored number of undefined pixels. It takes no memory. Where it isn't in
+    /// memory its bytes aren't looked at again.
+    pub fn set_blank(&mut self, blank: Option<i64>)
+        ensures bytes { self.new.plane.bytes ≡ self.old.plane.bytes }
+        ensures layout { self.new.plane.layout
+            ≡ record self.old.plane.layout { blank = blank } }
+        ensures absent { self.new.absent ≡ self.old.absent }
+        ensures reads { self.new.plane.reads ≡ self.old.plane.reads }
+        ensures scans { self.old.absent ≡ None → self.new.plane.scans
+            ≡ self.old.plane.scans + block_count self.old.plane.bytes }
+        ensures known { IfSome self.old.absent (λ _. self.new.plane
+            ≡ record self.old.plane { layout = self.new.plane.layout }) }
+        ensures more_joins { self.old.plane.joins ≤ self.new.plane.joins }
+        ensures joins { (d : ℕ) → block_count self.old.plane.bytes ≤ 2 ^ d
+            → self.new.plane.joins ≤ self.old.plane.joins + 2 ^ d }
+    {
+        match &mut self.absent {
+            None => self.plane.set_blank(blank),
+            Some(it) => it.unit.set_blank(blank),
+        }
+    }
+
+    /// Gives the pixels of a rectangle the values of a paint, each less the offset. It takes no memory.
+    pub fn paint_rect(
+        &mut self,
+        axes: &[u64],
+        lo: &[u64],
+        hi: &[u64],
+        paint: &LentPaint,
+        offset: i128,
+    )
+        requires held { self.old.absent ≡ None }
+        requires rectangle { IsRectangle axes.now lo.now hi.now }
+        requires all { product axes.now ≡ self.old.plane.layout.pixels }
+        requires count { has_count paint.now (rectangle_size lo.now hi.now) ≡ true }
+        requires storable { (k : ℕ) → k < rectangle_size lo.now hi.now
+            → IsStorable self.old.plane.layout.width (painted_number paint.now offset k) }
+        ensures painted { IsPainted axes.now lo.now hi.now (painted_number paint.now offset)
+            self.old.plane self.new.plane }
+        ensures held { self.new.absent ≡ None }
+    {
+        self.plane.paint_rect(axes, lo, hi, paint, offset);
+    }
+
+    /// The values of a rectangle in file order, each its stored number and the offset.
+    pub fn rect(
+        &mut self,
+        alloc: Global,
+        axes: &[u64],
+        lo: &[u64],
+        hi: &[u64],
+        offset: i128,
+    ) -> Result<Vec<i128>, AllocError>
+        requires held { self.old.absent ≡ None }
+        requires rectangle { IsRectangle axes.now lo.now hi.now }
+        requires all { product axes.now ≡ self.old.plane.layout.pixels }
+        requires offset { unsigned_abs offset ≤ 2 ^ 64 }
+        ensures value { IfOk result (λ v. v.items ≡ rectangle_values
+            self.old.plane.layout.width self.old.plane.bytes axes.now lo.now hi.now offset) }
+
+        // Each of its pixels is read once. The memory is had before any is.
+        ensures work { OnOk result (self.new ≡ record self.old {
+          plane = record self.old.plane {
+            reads = self.old.plane.reads + rectangle_size lo.now hi.now;
+          };
+        }) }
+        ensures err { OnErr result (self.new ≡ self.old) }
+    {
+        self.plane.rect(alloc, axes, lo, hi, offset)
+    }
+
+    /// Whether pixels of so many bytes can store the numbers of the first `count` pixels, each with
+    /// the shift, as `Plane::converts`.
+    pub fn converts(&mut self, width: usize, count: usize, shift: i128) -> bool
+        requires held { self.old.absent ≡ None }
+        requires width { IsWidth width }
+        requires within { count ≤ self.old.plane.layout.pixels }
+        requires shift { unsigned_abs shift ≤ 2 ^ 64 }
+        ensures value { result ≡ can_store_run width
+            (kept_numbers self.old.plane.layout.width self.old.plane.bytes count shift) }
+        ensures same { self.new ≡ record self.old {
+          plane = record self.old.plane { reads = self.new.plane.reads };
+        } }
+        ensures more_reads { self.old.plane.reads ≤ self.new.plane.reads }
+        ensures reads { self.new.plane.reads ≤ self.old.plane.reads + count }
+        ensures rest { self.new.plane.reads ≤ self.old.plane.reads
+            + count % block_pixels self.old.plane.layout.width }
+    {
+        self.plane.converts(width, count, shift)
+    }
+
+    /// `len` bytes that store the numbers of the first `count` pixels anew, as `Plane::converted`.
+    pub fn converted(
+        &mut self,
+        alloc: Global,
+        width: usize,
+        count: usize,
+        shift: i128,
+        len: usize,
+    ) -> Result<Option<Vec<u8>>, AllocError>
+        requires held { self.old.absent ≡ None }
+        requires width { IsWidth width }
+        requires within { count ≤ self.old.plane.layout.pixels }
+        requires room { count * width ≤ len }
+        requires shift { unsigned_abs shift ≤ 2 ^ 64 }
+        ensures value { IfOk result (λ made. option_map (λ v. v.items) made ≡ run_made width
+            (kept_numbers self.old.plane.layout.width self.old.plane.bytes count shift) len) }
+        ensures same { self.new ≡ record self.old {
+          plane = record self.old.plane { reads = self.new.plane.reads };
+        } }
+        ensures more_reads { self.old.plane.reads ≤ self.new.plane.reads }
+        ensures reads { self.new.plane.reads ≤ self.old.plane.reads + count }
+        ensures err { OnErr result (self.new ≡ self.old) }
+    {
+        self.plane.converted(alloc, width, count, shift, len)
+    }
+
+    /// Makes this the data unit of bytes that are handed over, as `Plane::renew`.
+    pub fn renew(&mut self, room: PlaneRoom, bytes: Vec<u8>, layout: Layout)
+        requires held { self.old.absent ≡ None }
+        requires layout { IsLayout layout bytes.items }
+        requires room { room ≡ block_count bytes.items }
+        ensures bytes { self.new.plane.bytes ≡ bytes.items }
+        ensures layout { self.new.plane.layout ≡ layout }
+        ensures held { self.new.absent ≡ None }
+        ensures reads { self.new.plane.reads ≡ self.old.plane.reads }
+        ensures scans { self.new.plane.scans
+            ≡ self.old.plane.scans + block_count bytes.items }
+        ensures more_joins { self.old.plane.joins ≤ self.new.plane.joins }
+        ensures joins { (d : ℕ) → block_count bytes.items ≤ 2 ^ d
+            → self.new.plane.joins ≤ self.old.plane.joins + 2 ^ d }
+    {
+        self.plane.renew(room, bytes, layout);
+    }
+
+    /// Reads it into memory, where it isn't: each of its blocks is scanned again, and its counts go
+    /// on. What is read is compared with what is known of it, by its length and its total.
+    pub fn load<F: Stored>(&mut self, alloc: Global, file: &F) -> Result<(), LoadFault>
+        ensures held { OnOk result (self.new.absent ≡ None) }
+        ensures layout { OnOk result (self.new.plane.layout ≡ self.old.plane.layout) }
+        ensures same { IsToldBy (F.bytes file.now) self.old.plane self.old.absent
+            → OnOk result (self.new.plane.bytes ≡ self.old.plane.bytes) }
+        ensures size { OnOk result
+            (length self.new.plane.bytes ≡ length self.old.plane.bytes) }
+        ensures total { OnOk result
+            (word_total self.new.plane.bytes ≡ word_total self.old.plane.bytes) }
+        ensures idle { self.old.absent ≡ None → self.new ≡ self.old }
+        ensures at_once { self.old.absent ≡ None → IsOk result }
+        ensures reads { self.new.plane.reads ≡ self.old.plane.reads }
+        ensures more_scans { self.old.plane.scans ≤ self.new.plane.scans }
+        ensures scans { self.new.plane.scans
+            ≤ self.old.plane.scans + block_count self.old.plane.bytes }
+        ensures more_joins { self.old.plane.joins ≤ self.new.plane.joins }
+        ensures joins { (d : ℕ) → block_count self.old.plane.bytes ≤ 2 ^ d
+            → self.new.plane.joins ≤ self.old.plane.joins + 2 ^ d }
+        ensures err { OnErr result (self.new ≡ self.old) }
+        ensures steady { IsToldBy (F.bytes file.now) self.old.plane self.old.absent
+            → IfErr result (λ why. why ≡ LoadFault.Changed → ⊥) }
+    {
+        let Some(it) = &self.absent else {
+            return Ok(());
+        };
+        let len = it.unit.byte_len();
+        let layout = it.unit.layout();
+        let bytes = read_again(alloc, file, it.place, len)?;
+        if words_total(bytes.as_slice()) != it.unit.total() {
+            return Err(LoadFault::Changed);
+        }
+        let Ok(room) = PlaneRoom::new(alloc, len / BLOCK_LEN) else {
+            return Err(LoadFault::Memory);
+        };
+        self.plane.renew(room, bytes, layout);
+        self.absent = None;
+        Ok(())
+    }
+
+    /// Writes its bytes: those in memory, or else those that the file has at its place, through a room
+    /// of whole words. What is copied is compared with what is known of it, by its length and its
+    /// total.
+    pub fn emit_from<F: Stored, W: Sink>(
+        &self,
+        file: &F,
+        room: &mut [u8],
+        sink: &mut W,
+    ) -> Result<(), CopyFault>
+        requires wide { 0 < length room.old }
+        requires words { length room.old % 4 ≡ 0 }
+        ensures ok { IsToldBy (F.bytes file.now) self.now.plane self.now.absent
+            → OnOk result (Prints self.now.plane.bytes (W.state sink.old) (W.state sink.new)) }
+        ensures like { OnOk result (PrintsLike self.now.plane.bytes
+            (W.state sink.old) (W.state sink.new)) }
+        ensures err { IsToldBy (F.bytes file.now) self.now.plane self.now.absent
+            → IfErr result (CopyFails self.now.plane.bytes
+            (W.state sink.old) (W.state sink.new)) }
+        ensures size { length room.new ≡ length room.old }
+    {
+        let Some(it) = &self.absent else {
+            return match self.plane.emit(sink) {
+                Ok(()) => Ok(()),
+                Err(_) => Err(CopyFault::Write),
+            };
+        };
+        let _layout = it.unit.layout();
+        let total = copy_again(file, it.place, it.unit.byte_len(), room, sink)?;
+        if total != it.unit.total() {
+            return Err(CopyFault::Changed);
+        }
+        Ok(())
+    }
+}

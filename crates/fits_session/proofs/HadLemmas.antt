@@ -1,0 +1,70 @@
+-- How the data units of a session are had, and what leaves them so.
+use Rattle.std.proofs.Common.{◌≡◌, ◌<◌, ◌∙◌, ap, sym, subst, ℕ, List, length, get_or, set, Option, None, Some}
+use Rattle.std.specs.Prelude.{All, IfSome, true}
+use Rattle.std.proofs.lemmas.List.Elements.{All-set}
+use Rattle.fits_hdu.specs.State.{HduState, ReadsUpTo}
+use Rattle.fits_plane.specs.DataUnit.{LiesIn}
+use Rattle.fits_plane.specs.Plane.{PlaneState}
+use Rattle.fits_session.specs.Session.{unentered, without_entries, HasStats, Holding, IsHad, IsHeld, IsReadyFor, IsSoOf, StaysHad}
+use Rattle.fits_session.specs.declared.edit.Edit.{Edit}
+use Rattle.fits_session.specs.declared.edit.Edit.TheVariants.{Hdu, NewImage, RemoveHdu}
+use Rattle.fits_session.proofs.KeptLemmas.{all_seen, seen_all}
+use Rattle.fits_session.proofs.StateLemmas.{IsHduAt}
+
+-- one that lies where it lay, and has the bytes that it had, is had as it was
+pub had_same : (old new : HduState) → new.absent ≡ old.absent → new.plane.bytes ≡ old.plane.bytes → StaysHad old new
+had_same old new place bytes holding p = record {
+  held = λ whole. place ∙ p.held whole;
+  lies = rw (place, bytes) p.lies;
+}
+
+-- so is one whose cards were read
+pub had_read : (old new : HduState) (count : ℕ) → ReadsUpTo old new count → StaysHad old new
+had_read old new count read = had_same old new read.absent (ap (λ (plane : PlaneState). plane.bytes) read.plane)
+
+-- what is in memory lies in any file
+lies_held : (told : Option (List ℕ)) (one : HduState) → one.absent ≡ None → IfSome told (λ bytes. LiesIn bytes one.plane one.absent)
+lies_held None one held = tt
+lies_held (Some bytes) one held = rw held tt
+
+-- and is had in any way
+pub had_held : (holding : Holding) (one : HduState) → one.absent ≡ None → IsHad holding one
+had_held holding one held = record { held = λ whole. held; lies = lies_held holding.told one held }
+
+-- HDUs that are all in memory are
+pub all_held : (holding : Holding) (hdus : List HduState) → All IsHeld hdus → All (IsHad holding) hdus
+all_held holding hdus held = λ i d within. had_held holding (get_or hdus i d) (held i d within)
+
+-- and where all are to be in memory, they are
+pub held_all : (holding : Holding) (hdus : List HduState) → holding.whole ≡ true → All (IsHad holding) hdus → All IsHeld hdus
+held_all holding hdus whole had = λ i d within. (had i d within).held whole
+
+-- HDUs of which one is had as it was
+pub had_at : (holding : Holding) (hdus : List HduState) (h i : ℕ) (old new : HduState) → IsHduAt hdus h i old → StaysHad old new → All (IsHad holding) hdus → All (IsHad holding) (set hdus i new)
+had_at holding hdus h i old new at stays had =
+    All-set (IsHad holding) hdus i new (stays holding (subst (IsHad holding) (sym at.is) (had i old at.index.within))) had
+
+-- entries in a table don't matter
+pub had_moved : (holding : Holding) (hdus others : List HduState) → without_entries hdus ≡ without_entries others → All (IsHad holding) others → All (IsHad holding) hdus
+had_moved holding hdus others same p =
+    all_seen (IsHad holding) unentered (λ one q. record { held = q.held; lies = q.lies }) hdus (subst (All (IsHad holding)) (sym same) (seen_all (IsHad holding) unentered (λ one q. record { held = q.held; lies = q.lies }) others p))
+
+-- ---- what is in memory
+
+-- where all are in memory, that of HDU h is
+pub so_held : (h : ℕ) (hdus : List HduState) → All IsHeld hdus → IsSoOf IsHeld h hdus
+so_held h hdus held i one at there = subst IsHeld there (held i one at.within)
+
+-- so its statistics are known
+pub so_counted : (h : ℕ) (hdus : List HduState) → All IsHeld hdus → IsSoOf HasStats h hdus
+so_counted h hdus held i one at there = let here : IsHeld one = so_held h hdus held i one at there in rw here tt
+
+-- and any edit may be made
+pub ready_held : (edit : Edit) (hdus : List HduState) → All IsHeld hdus → IsReadyFor edit hdus
+ready_held (Hdu h edit) hdus held = λ needs. so_held h hdus held
+ready_held (NewImage at kind axes) hdus held = tt
+ready_held (RemoveHdu h) hdus held = tt
+
+-- they are still where the cards of one were read
+pub held_read : (hdus : List HduState) (i : ℕ) (old new : HduState) (count : ℕ) → i < length hdus → old ≡ get_or hdus i old → ReadsUpTo old new count → All IsHeld hdus → All IsHeld (set hdus i new)
+held_read hdus i old new count within is read held = All-set IsHeld hdus i new (read.absent ∙ subst IsHeld (sym is) (held i old within)) held
