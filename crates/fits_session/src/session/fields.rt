@@ -2,6 +2,7 @@
 //! them plain values alone.
 
 use super::Session;
+use crate::holder::InMemory;
 use crate::name_table::NameTable;
 use fits_hdu::{ExtensionName, Hdu};
 use std::alloc::Global;
@@ -25,6 +26,7 @@ fn fields(rt: HostRuntime) -> Result<(), Fail> {
         tail,
         names,
         alloc,
+        holder,
     } = session;
     let NameTable { numbers, room } = names;
     let hdus: Vec<Hdu> = hdus;
@@ -33,6 +35,7 @@ fn fields(rt: HostRuntime) -> Result<(), Fail> {
     plain::<u64>(len);
     plain::<usize>(room);
     plain::<Global>(alloc);
+    plain::<InMemory>(holder);
     assert_eq!(rt; hdus.len(), 1);
     assert_eq!(rt; tail.len(), 0);
     assert_eq!(rt; numbers.len(), 0);
