@@ -1,5 +1,5 @@
 -- An HDU whose data unit passes by.
-use Rattle.std.proofs.Common.{◌≡◌, ◌≤◌, ℕ, ◌+◌, Bool, List, ◌++◌, length, take, refl, ◌∙◌, arith}
+use Rattle.std.proofs.Common.{◌≡◌, ◌≤◌, ℕ, ◌+◌, Bool, List, ◌++◌, ap, length, sym, take, refl, ◌∙◌, arith}
 use Rattle.std.proofs.Math.Seq.{take-append-add}
 use Rattle.std.proofs.lemmas.List.{length-append}
 use Rattle.std.specs.Prelude.{Ok}
@@ -16,9 +16,13 @@ use Rattle.fits_plane.specs.Again.{CopyFails, PrintsLike}
 use Rattle.fits_plane.specs.Passing.{PassedState}
 use Rattle.fits_plane.specs.declared.again.CopyFault.{CopyFault}
 use Rattle.fits_plane.specs.declared.again.CopyFault.TheVariants.{Failed, Changed, Write}
+use Rattle.fits_sum.specs.OnesComplement.{ones_complement}
+use Rattle.fits_sum.specs.Words.{word_total}
 use Rattle.fits_sum.proofs.WordLemmas.{totals_add}
 use Rattle.fits_hdu.specs.Layout.{layout_of}
+use Rattle.fits_hdu.specs.Hdu.{HduParts, hdu_bytes}
 use Rattle.fits_hdu.specs.Reading.{IsPassedWhole, TakesHdu}
+use Rattle.fits_hdu.specs.Sums.{data_sum, hdu_sum, sum_keywords, verdicts_by, verdicts_of}
 use Rattle.fits_hdu.specs.Work.{apply_reads, open_reads}
 use Rattle.fits_hdu.proofs.PassingLemmas.{header_words}
 use Rattle.fits_hdu.proofs.ReadingLemmas.{hdu_taken, hdu_whole}
@@ -57,3 +61,15 @@ like_more header unit a b c whole p q =
       total = omega (arith, totals_add (header_bytes header) q.like words, totals_add (header_bytes header) unit words, q.total);
       written = Prints-more a b c (header_bytes header) q.like p q.written;
     }
+
+-- data units of the same total, after the same header, have the same verdicts
+pub same_verdicts : (old new : HduParts) → IsHeader old.header → new.header ≡ old.header → word_total new.data_unit ≡ word_total old.data_unit → verdicts_of new ≡ verdicts_of old
+unfolding verdicts_of data_sum hdu_sum
+same_verdicts old new whole header total =
+    let words = header_words old.header whole in
+    let all : word_total (hdu_bytes new) ≡ word_total (hdu_bytes old) =
+    ap (λ (h : Header). word_total (header_bytes h ++ new.data_unit)) header ∙ totals_add (header_bytes old.header) new.data_unit words
+    ∙ ap (λ n. word_total (header_bytes old.header) + n) total ∙ sym (totals_add (header_bytes old.header) old.data_unit words) in
+    ap (λ (h : Header). verdicts_by (sum_keywords h.cards) (ones_complement (word_total new.data_unit)) (ones_complement (word_total (hdu_bytes new)))) header
+    ∙ ap (λ n. verdicts_by (sum_keywords old.header.cards) (ones_complement n) (ones_complement (word_total (hdu_bytes new)))) total
+    ∙ ap (λ n. verdicts_by (sum_keywords old.header.cards) (ones_complement (word_total old.data_unit)) (ones_complement n)) all

@@ -53,10 +53,11 @@ pub record TakesHdu (keeps : HduParts → Type 0) (primary : Bool) (old new : Su
   pub whole : IsHdu primary hdu
   pub taken : Takes old new (hdu_bytes hdu)
 
--- an HDU is kept whole: it was opened
+-- an HDU is kept whole: it was opened, and all of it is in memory
 pub record IsKeptWhole (it : HduState) (hdu : HduParts) : Type 0 where
   pub parts : parts_of it ≡ hdu
   pub opened : IsOpened 0 it
+  pub held : it.absent ≡ None
 
 -- of an HDU that passed by its header is known, the shape that its cards describe, and how long its data unit was
 pub record IsPassed (hdu : HduParts) (header : Header) (shape : Shape) (unit_len : ℕ) : Type 0 where

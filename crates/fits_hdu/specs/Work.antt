@@ -9,6 +9,7 @@ use Rattle.fits_plane.specs.Layout.{block_count}
 use Rattle.fits_plane.specs.Plane.{PlaneState}
 use Rattle.fits_image.specs.Kind.{offset_of}
 use Rattle.fits_image.specs.declared.kind.Kind.{Kind}
+use Rattle.fits_sum.specs.Words.{word_total}
 use Rattle.fits_hdu.specs.State.{HduState}
 
 -- what is read after a change of the cards: the leads of BZERO, BSCALE, BLANK, DATASUM and CHECKSUM
@@ -71,19 +72,15 @@ pub record IsScanned (blocks : ℕ) (work : PixelWork) : Type 0 where
   pub joins : (d : ℕ) → blocks ≤ 2 ^ d → work.joins ≤ 2 ^ d
 
 -- an HDU was opened, and so many of its cards were read more at most; each block of its data unit was scanned once, and no pixel read;
--- nobody keeps it stamped, and all of it is in memory
+-- nobody keeps it stamped
 pub record IsOpened (more : ℕ) (hdu : HduState) : Type 0 where
   pub reads : hdu.header.reads ≤ open_reads hdu.header.header.cards + more
   pub scans : IsScanned (block_count hdu.plane.bytes) (plane_work hdu.plane)
   pub kept : hdu.kept ≡ false
-  pub held : hdu.absent ≡ None
 
--- an HDU was opened as its data unit passed by, each block of which was scanned once: it lies at this place, and its statistics are known;
--- nobody keeps it stamped
+-- an HDU was opened as its data unit passed by: that lies at this place, and its statistics are known
 pub record IsKnownAt (place : ℕ) (hdu : HduState) : Type 0 where
-  pub reads : hdu.header.reads ≤ open_reads hdu.header.header.cards
-  pub scans : IsScanned (block_count hdu.plane.bytes) (plane_work hdu.plane)
-  pub kept : hdu.kept ≡ false
+  pub opened : IsOpened 0 hdu
   pub entry : hdu.entry ≡ None
   pub lies : hdu.absent ≡ Some (record { place = place; blank = hdu.plane.layout.blank })
 
@@ -127,6 +124,14 @@ pub record IsLoaded (blocks : ℕ) (old new : PixelWork) : Type 0 where
   pub scans : new.scans ≤ old.scans + blocks
   pub more_joins : old.joins ≤ new.joins
   pub joins : (d : ℕ) → blocks ≤ 2 ^ d → new.joins ≤ old.joins + 2 ^ d
+
+-- the data unit of an HDU was loaded, or stays where it is: it is as long and has the same total; nothing else changes, and each of its
+-- blocks was scanned once more at most
+pub record Loads (old new : HduState) : Type 0 where
+  pub total : word_total new.plane.bytes ≡ word_total old.plane.bytes
+  pub size : length new.plane.bytes ≡ length old.plane.bytes
+  pub rest : new ≡ record old { plane = new.plane; absent = new.absent }
+  pub work : IsLoaded (block_count old.plane.bytes) (plane_work old.plane) (plane_work new.plane)
 
 -- each of so many pixels was read once at most, and each of so many new blocks scanned once at most
 pub record IsRenewed (kept blocks : ℕ) (old new : PixelWork) : Type 0 where

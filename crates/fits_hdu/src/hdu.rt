@@ -112,6 +112,7 @@ impl Hdu {
         ensures len { IfOk result (λ cut. cut.1 ≡ length (hdu_bytes (parts_of cut.0))) }
         ensures within { IfOk result (λ cut. cut.1 ≤ length bytes.now) }
         ensures opened { IfOk result (λ cut. IsOpened 0 cut.0) }
+        ensures held { IfOk result (λ cut. cut.0.absent ≡ None) }
 
         // Whether there is a header is found before any memory is asked for.
         ensures fault { IfErr result (HduFails primary bytes.now) }
@@ -210,6 +211,7 @@ impl Hdu {
         ensures described { IfOk result (λ hdu. shape_of primary hdu.header.header.cards
             ≡ Ok hdu.header.shape) }
         ensures opened { IfOk result (λ hdu. IsOpened 0 hdu) }
+        ensures held { IfOk result (λ hdu. hdu.absent ≡ None) }
         ensures err { IfErr result (HduStops primary
             (supply (R.state source.old) intake.old) (supply (R.state source.new) intake.new)) }
     {

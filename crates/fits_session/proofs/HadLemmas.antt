@@ -3,7 +3,7 @@ use Rattle.std.proofs.Common.{◌≡◌, ◌<◌, ◌∙◌, ap, sym, subst, ℕ
 use Rattle.std.specs.Prelude.{All, IfSome, true}
 use Rattle.std.proofs.lemmas.List.Elements.{All-set}
 use Rattle.fits_hdu.specs.State.{HduState, ReadsUpTo}
-use Rattle.fits_plane.specs.DataUnit.{LiesIn}
+use Rattle.fits_plane.specs.DataUnit.{IsToldBy, LiesIn}
 use Rattle.fits_plane.specs.Plane.{PlaneState}
 use Rattle.fits_session.specs.Session.{unentered, without_entries, HasStats, Holding, IsHad, IsHeld, IsReadyFor, IsSoOf, StaysHad}
 use Rattle.fits_session.specs.declared.edit.Edit.{Edit}
@@ -31,6 +31,14 @@ lies_held (Some bytes) one held = rw held tt
 pub had_held : (holding : Holding) (one : HduState) → one.absent ≡ None → IsHad holding one
 had_held holding one held = record { held = λ whole. held; lies = lies_held holding.told one held }
 
+-- a file that tells its bytes has it where it lies
+pub told_by : (told : Option (List ℕ)) (one : HduState) → (xs : List ℕ) × (told ≡ Some xs) → IfSome told (λ bytes. LiesIn bytes one.plane one.absent) → IsToldBy told one.plane one.absent
+told_by told one tells lies = record {
+  bytes = tells.0;
+  told_is = tells.1;
+  lies = let here : IfSome (Option.Some tells.0) (λ bytes. LiesIn bytes one.plane one.absent) = subst (λ (t : Option (List ℕ)). IfSome t (λ bytes. LiesIn bytes one.plane one.absent)) tells.1 lies in here;
+}
+
 -- HDUs that are all in memory are
 pub all_held : (holding : Holding) (hdus : List HduState) → All IsHeld hdus → All (IsHad holding) hdus
 all_held holding hdus held = λ i d within. had_held holding (get_or hdus i d) (held i d within)
@@ -43,6 +51,17 @@ held_all holding hdus whole had = λ i d within. (had i d within).held whole
 pub had_at : (holding : Holding) (hdus : List HduState) (h i : ℕ) (old new : HduState) → IsHduAt hdus h i old → StaysHad old new → All (IsHad holding) hdus → All (IsHad holding) (set hdus i new)
 had_at holding hdus h i old new at stays had =
     All-set (IsHad holding) hdus i new (stays holding (subst (IsHad holding) (sym at.is) (had i old at.index.within))) had
+
+-- so are HDUs of which the cards of one were read
+pub had_set : (holding : Holding) (hdus : List HduState) (i : ℕ) (old new : HduState) (count : ℕ) → i < length hdus → old ≡ get_or hdus i old → ReadsUpTo old new count → All (IsHad holding) hdus → All (IsHad holding) (set hdus i new)
+had_set holding hdus i old new count within is read had =
+    All-set (IsHad holding) hdus i new (had_read old new count read holding (subst (IsHad holding) (sym is) (had i old within))) had
+
+-- also where it gets another entry in a table
+pub had_named : (holding : Holding) (hdus : List HduState) (i : ℕ) (old read : HduState) (entry : Option ℕ) (count : ℕ) → i < length hdus → old ≡ get_or hdus i old → ReadsUpTo old read count → All (IsHad holding) hdus → All (IsHad holding) (set hdus i (record read { entry = entry }))
+had_named holding hdus i old read entry count within is reads had =
+    let one : IsHad holding read = had_read old read count reads holding (subst (IsHad holding) (sym is) (had i old within)) in
+    All-set (IsHad holding) hdus i (record read { entry = entry }) (record { held = one.held; lies = one.lies }) had
 
 -- entries in a table don't matter
 pub had_moved : (holding : Holding) (hdus others : List HduState) → without_entries hdus ≡ without_entries others → All (IsHad holding) others → All (IsHad holding) hdus
@@ -64,7 +83,3 @@ pub ready_held : (edit : Edit) (hdus : List HduState) → All IsHeld hdus → Is
 ready_held (Hdu h edit) hdus held = λ needs. so_held h hdus held
 ready_held (NewImage at kind axes) hdus held = tt
 ready_held (RemoveHdu h) hdus held = tt
-
--- they are still where the cards of one were read
-pub held_read : (hdus : List HduState) (i : ℕ) (old new : HduState) (count : ℕ) → i < length hdus → old ≡ get_or hdus i old → ReadsUpTo old new count → All IsHeld hdus → All IsHeld (set hdus i new)
-held_read hdus i old new count within is read held = All-set IsHeld hdus i new (read.absent ∙ subst IsHeld (sym is) (held i old within)) held

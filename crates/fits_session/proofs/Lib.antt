@@ -1,3 +1,4 @@
+pub mod AwayLemmas
 pub mod BoundLemmas
 pub mod CardEditLemmas
 pub mod CardLemmas

@@ -56,7 +56,6 @@ opened_more hdu read entry opened r = record {
   reads = rw r.header.header (omega (arith, opened.reads, r.header.most));
   scans = rw r.plane opened.scans;
   kept = r.kept ∙ opened.kept;
-  held = r.absent ∙ opened.held;
 }
 
 module _ (hdus : List HduState) (i : ℕ) (es : List (ExtensionName × ℕ)) (s : Stood hdus i es) (within : i < length hdus) (now read : HduState) (there : now ≡ get_or hdus i now) (r : ReadsUpTo now read name_reads) where

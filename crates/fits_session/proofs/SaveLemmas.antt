@@ -1,13 +1,19 @@
 -- Steps of saving: HDU after HDU, then the tail.
-use Rattle.std.proofs.Common.{◌≡◌, ℕ, ◌+◌, ◌<◌, ◌≤◌, List, [], ◌∷◌, ◌++◌, length, take, drop, get_or, set, refl, ap, sym, subst, ◌∙◌, arith, zero, suc, add-one}
-use Rattle.std.proofs.lemmas.List.{append-nil, take_all, take_more, drop_more, take-append-drop}
+use Rattle.std.proofs.Common.{◌≡◌, ℕ, ◌+◌, ◌<◌, ◌≤◌, List, [], ◌∷◌, ◌++◌, length, take, drop, get_or, set, refl, ap, sym, subst, ◌∙◌, arith, zero, suc, add-one, inl, inr}
+use Rattle.std.proofs.lemmas.Bool.{cases_lt}
+use Rattle.std.proofs.Math.Seq.{take-append_seam}
+use Rattle.std.proofs.lemmas.List.{append-nil, take_all, take_more, drop_more, take-append-drop, take-append-le}
 use Rattle.std.proofs.lemmas.List.Concat.{flat_map-append}
+use Rattle.fits_plane.specs.Again.{CopyFails}
+use Rattle.fits_plane.specs.declared.again.CopyFault.{CopyFault}
+use Rattle.fits_plane.specs.declared.again.CopyFault.TheVariants.{Failed, Changed, Write}
 use Rattle.fits_stream.specs.Stream.{SinkState, Prints, PrintsFront}
 use Rattle.fits_stream.proofs.StreamLemmas.{Prints-none, Prints-more, PrintsFront-longer, PrintsFront-more}
 use Rattle.fits_header.specs.State.{HeaderState}
 use Rattle.fits_hdu.specs.Hdu.{HduParts, hdu_bytes}
 use Rattle.fits_hdu.specs.State.{HduState, ReadsUpTo, parts_of}
 use Rattle.fits_hdu.specs.Work.{PixelWork, plane_work}
+use Rattle.fits_hdu.proofs.PassedLemmas.{copy_more}
 use Rattle.fits_session.specs.File.{joined_hdus}
 use Rattle.fits_session.specs.Session.{hdus_of, reads_of, works_of, once_read, each_read, uncounted, without_counts, ReadsOnceAtMost}
 use Rattle.fits_session.proofs.KeptLemmas.{uncounted_read}
@@ -38,6 +44,29 @@ PrintsFront-hdu a b c hdus us i hdu same l e p q =
     ap joined_hdus (sym (take-append-drop i us)) ∙ flat_map-append hdu_bytes (take i us) (drop i us)
     ∙ ap (λ t. joined_hdus (take i us) ++ t) (ap joined_hdus (drop_more us i (parts_of hdu) (within hdus us i same l)) ∙ ap (λ u. hdu_bytes u ++ joined_hdus rest) (hdu_here hdus us i hdu same l e)) in
     rw split (PrintsFront-more a b c _ (hdu_bytes (parts_of hdu) ++ joined_hdus rest) p (PrintsFront-longer b c (hdu_bytes (parts_of hdu)) (joined_hdus rest) q))
+
+-- bytes that weren't all copied stay so with more after them
+copy_longer : (xs rest : List ℕ) (a c : SinkState) (why : CopyFault) → CopyFails xs a c why → CopyFails (xs ++ rest) a c why
+copy_longer xs rest a c Failed p =
+    elim (cases_lt (length xs) p.0) [
+      | inl all ↦ (length xs, subst (λ (bytes : List ℕ). Prints bytes a c) (take_all p.0 xs (omega (arith, all)) ∙ sym (take-append_seam xs rest)) p.1)
+      | inr few ↦ (p.0, subst (λ (bytes : List ℕ). Prints bytes a c) (sym (take-append-le p.0 xs rest few)) p.1)
+    ]
+copy_longer xs rest a c Changed p = absurd p
+copy_longer xs rest a c Write p = PrintsFront-longer a c xs rest p
+
+-- so of one of the HDUs, after those before it
+pub copy_hdu : (a b c : SinkState) (hdus : List HduState) (us : List HduParts) (i : ℕ) (hdu : HduState) (why : CopyFault) → hdus_of hdus ≡ us → i < length hdus → hdu ≡ get_or hdus i hdu → Prints (joined_hdus (take i us)) a b → CopyFails (hdu_bytes (parts_of hdu)) b c why → CopyFails (joined_hdus us) a c why
+copy_hdu a b c hdus us i hdu why same l e p q =
+    let rest : List HduParts = drop (i + 1) us in
+    let split : joined_hdus us ≡ joined_hdus (take i us) ++ (hdu_bytes (parts_of hdu) ++ joined_hdus rest) =
+    ap joined_hdus (sym (take-append-drop i us)) ∙ flat_map-append hdu_bytes (take i us) (drop i us)
+    ∙ ap (λ t. joined_hdus (take i us) ++ t) (ap joined_hdus (drop_more us i (parts_of hdu) (within hdus us i same l)) ∙ ap (λ u. hdu_bytes u ++ joined_hdus rest) (hdu_here hdus us i hdu same l e)) in
+    rw split (copy_more (joined_hdus (take i us)) (hdu_bytes (parts_of hdu) ++ joined_hdus rest) a b c why p (copy_longer (hdu_bytes (parts_of hdu)) (joined_hdus rest) b c why q))
+
+-- and of all of them, with a tail after them
+pub copy_hdus : (us : List HduParts) (tail : List ℕ) (a c : SinkState) (why : CopyFault) → CopyFails (joined_hdus us) a c why → CopyFails (joined_hdus us ++ tail) a c why
+copy_hdus us tail a c why p = copy_longer (joined_hdus us) tail a c why p
 
 -- none of them yet
 pub Prints-no_hdus : (a : SinkState) (us : List HduParts) → Prints (joined_hdus (take 0 us)) a a

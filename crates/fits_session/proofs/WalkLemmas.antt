@@ -16,11 +16,11 @@ use Rattle.fits_hdu.specs.declared.fault.HduFault.{HduFault}
 use Rattle.fits_hdu.specs.declared.fault.HduFault.TheVariants as hdu_fault
 use Rattle.fits_hdu.specs.declared.read_fault.ReadHduFault.{ReadHduFault}
 use Rattle.fits_hdu.specs.declared.read_fault.ReadHduFault.TheVariants as read_hdu
-use Rattle.fits_session.specs.File.{FileParts, begins_extension, goes_on, is_first, is_followed, joined_hdus, IsFile, IsFileOf, IsFrontOf}
+use Rattle.fits_session.specs.File.{FileParts, begins_extension, file_bytes, goes_on, is_first, is_followed, joined_hdus, IsFile, IsFileOf, IsFrontOf}
 use Rattle.fits_session.specs.declared.limits.TheConstants.{FILE_LIMIT, HDU_LIMIT}
 use Rattle.fits_session.specs.Opening.{BeginsAsFits, HasOpenFault, open_fault_of}
-use Rattle.fits_session.specs.Reading.{file_fault_of, is_of_bytes, IsKeptOf, IsWalkOf, KeepsEach, NextBegins, ReadStops, RestStops, SupplyStops, Walked, WalkStops}
-use Rattle.fits_session.specs.Session.{file_of, hdus_of, state_of}
+use Rattle.fits_session.specs.Reading.{file_fault_of, is_of_bytes, IsKeptOf, IsReadWhole, IsWalkOf, KeepsEach, NextBegins, ReadStops, RestStops, SupplyStops, Walked, WalkStops}
+use Rattle.fits_session.specs.Session.{file_of, hdus_of, state_of, IsHeld}
 use Rattle.fits_session.specs.declared.open_fault.OpenFault.TheVariants.{NotFits, NoEnd, BadShape, ShortData, TooLarge, Memory}
 use Rattle.fits_session.specs.declared.read_fault.ReadFileFault.{ReadFileFault}
 use Rattle.fits_session.specs.declared.read_fault.ReadFileFault.TheVariants.{Open, Failed}
@@ -327,34 +327,53 @@ each_opened [] (u ∷ us) p = absurd p
 each_opened (hdu ∷ hdus) [] p = absurd p
 each_opened (hdu ∷ hdus) (u ∷ us) p = All-cons (IsOpened 0) hdu hdus p.0.opened (each_opened hdus us p.1)
 
--- so a walk that keeps them whole opens them
-pub walked_opened : (hdus : List HduState) (a b : Supply) → Walked IsKeptWhole hdus a b → All (IsOpened 0) hdus
-walked_opened hdus a b p = each_opened hdus p.hdus p.each
-
--- they and the tail were taken
-pub session_taken : (hdus : List HduState) (tail : List ℕ) (a b c : Supply) → Walked IsKeptWhole hdus a b → Takes b c tail → Takes a c (joined_hdus (hdus_of hdus) ++ tail)
-session_taken hdus tail a b c p q = rw (each_is hdus p.hdus p.each) (takes_more a b c (joined_hdus p.hdus) tail p.taken q)
-
--- and are a file
-pub session_whole : (hdus : List HduState) (tail : List ℕ) (a b c : Supply) → length a.ahead + a.left ≤ FILE_LIMIT → Walked IsKeptWhole hdus a b → Takes b c tail → 0 < length hdus → length hdus ≤ HDU_LIMIT → begins_extension tail ≡ false
-    → IsFile (file_of (state_of hdus tail))
-session_whole hdus tail a b c limit p q some few ends =
-    let taken : Takes a c (joined_hdus p.hdus ++ tail) = takes_more a b c (joined_hdus p.hdus) tail p.taken q in
-    rw (each_is hdus p.hdus p.each) (file_walked IsKeptWhole hdus p.hdus tail p.each p.front some few ends (omega (arith, limit, takes_fewer a c (joined_hdus p.hdus ++ tail) taken)))
-
--- of which nothing is left
-pub session_given : (hdus : List HduState) (tail : List ℕ) (a c : Supply) → Takes a c (joined_hdus (hdus_of hdus) ++ tail) → IsOver c → IfSome c.source.remaining (λ ys. length ys ≤ c.left) → IsFile (file_of (state_of hdus tail))
-    → GivesAll a (λ bytes. IsFileOf bytes (file_of (state_of hdus tail)))
-session_given hdus tail a c taken over few file =
-    let bytes : List ℕ = joined_hdus (hdus_of hdus) ++ tail in
-    let s = rest_given c few in
-    let told : TellsAll a (bytes ++ (c.ahead ++ s.0)) = tells_after a c bytes s.0 taken s.1 in
-    let none : c.ahead ++ s.0 ≡ [] = ap (λ t. t ++ s.0) over.none ∙ s.2.1 over.spent in
-    (bytes, subst (TellsAll a) (ap (λ t. bytes ++ t) none ∙ append-nil bytes) told, file)
+-- and are in memory
+each_held : (hdus : List HduState) (us : List HduParts) → KeepsEach IsKeptWhole hdus us → All IsHeld hdus
+each_held [] [] p = All-nil IsHeld
+each_held [] (u ∷ us) p = absurd p
+each_held (hdu ∷ hdus) [] p = absurd p
+each_held (hdu ∷ hdus) (u ∷ us) p = All-cons IsHeld hdu hdus p.0.held (each_held hdus us p.1)
 
 -- how many bytes the HDUs have
-pub hdus_length : (hdus : List HduState) (a b : Supply) → Walked IsKeptWhole hdus a b → length a.ahead + a.left ≡ length b.ahead + b.left + length (joined_hdus (hdus_of hdus))
-hdus_length hdus a b p = rw (each_is hdus p.hdus p.each) (takes_fewer a b (joined_hdus p.hdus) p.taken)
+pub hdus_length : {K : Type 0} (keeps : K → HduParts → Type 0) (ks : List K) (a b : Supply) (p : Walked keeps ks a b) → length a.ahead + a.left ≡ length b.ahead + b.left + length (joined_hdus p.hdus)
+hdus_length keeps ks a b p = takes_fewer a b (joined_hdus p.hdus) p.taken
+
+-- they and a tail were taken
+pub all_passed : {K : Type 0} (keeps : K → HduParts → Type 0) (ks : List K) (tail : List ℕ) (a b c : Supply) (p : Walked keeps ks a b) → Takes b c tail → Takes a c (joined_hdus p.hdus ++ tail)
+all_passed keeps ks tail a b c p q = takes_more a b c (joined_hdus p.hdus) tail p.taken q
+
+-- and are a file, of which nothing is left
+pub walked_whole : {K : Type 0} (keeps : K → HduParts → Type 0) (ks : List K) (tail : List ℕ) (bytes : ℕ) (a b c : Supply) (p : Walked keeps ks a b) → length a.ahead + a.left ≤ FILE_LIMIT → Takes b c tail → 0 < length ks → length ks ≤ HDU_LIMIT → begins_extension tail ≡ false
+    → IsOver c → IfSome c.source.remaining (λ ys. length ys ≤ c.left) → bytes ≡ length (joined_hdus p.hdus ++ tail) → IsReadWhole keeps ks bytes tail a
+walked_whole keeps ks tail bytes a b c p limit q some few ends over short len =
+    let all : List ℕ = joined_hdus p.hdus ++ tail in
+    let taken : Takes a c all = all_passed keeps ks tail a b c p q in
+    let s = rest_given c short in
+    let told : TellsAll a (all ++ (c.ahead ++ s.0)) = tells_after a c all s.0 taken s.1 in
+    let none : c.ahead ++ s.0 ≡ [] = ap (λ t. t ++ s.0) over.none ∙ s.2.1 over.spent in
+    record {
+      hdus = p.hdus;
+      each = p.each;
+      whole = file_walked keeps ks p.hdus tail p.each p.front some few ends (omega (arith, limit, takes_fewer a c all taken));
+      len = len;
+      told = subst (TellsAll a) (ap (λ t. all ++ t) none ∙ append-nil all) told;
+    }
+
+-- so HDUs that are kept whole and a tail are the file
+pub whole_given : (hdus : List HduState) (bytes : ℕ) (tail : List ℕ) (a : Supply) → IsReadWhole IsKeptWhole hdus bytes tail a → GivesAll a (λ all. IsFileOf all (file_of (state_of hdus tail)))
+whole_given hdus bytes tail a r = rw (each_is hdus r.hdus r.each) (file_bytes (record { hdus = r.hdus; tail = tail }), r.told, r.whole)
+
+pub whole_is : (hdus : List HduState) (bytes : ℕ) (tail : List ℕ) (a : Supply) → IsReadWhole IsKeptWhole hdus bytes tail a → IsFile (file_of (state_of hdus tail))
+whole_is hdus bytes tail a r = rw (each_is hdus r.hdus r.each) r.whole
+
+pub whole_long : (hdus : List HduState) (bytes : ℕ) (tail : List ℕ) (a : Supply) → IsReadWhole IsKeptWhole hdus bytes tail a → bytes ≡ length (file_bytes (file_of (state_of hdus tail)))
+whole_long hdus bytes tail a r = rw (each_is hdus r.hdus r.each) r.len
+
+pub whole_opened : (hdus : List HduState) (bytes : ℕ) (tail : List ℕ) (a : Supply) → IsReadWhole IsKeptWhole hdus bytes tail a → All (IsOpened 0) hdus
+whole_opened hdus bytes tail a r = each_opened hdus r.hdus r.each
+
+pub whole_held : (hdus : List HduState) (bytes : ℕ) (tail : List ℕ) (a : Supply) → IsReadWhole IsKeptWhole hdus bytes tail a → All IsHeld hdus
+whole_held hdus bytes tail a r = each_held hdus r.hdus r.each
 
 -- the tail that was read begins no extension
 pub tail_ends : (tail : List ℕ) (a b : Supply) → Takes a b tail → b.ahead ≡ [] → 2880 ≤ length a.ahead → begins_extension tail ≡ begins_extension a.ahead

@@ -1,3 +1,4 @@
+pub mod Away
 pub mod Bounds
 pub mod CardEdit
 pub mod Edit

@@ -1,7 +1,7 @@
 -- How a file is read from a source, whatever is kept of its HDUs (own).
 use Rattle.std.specs.Prelude.{◌≡◌, ℕ, ◌<◌, Bool, true, false, List, [], ◌∷◌, length, nat_eq, codes, IfSome}
 use Rattle.std.specs.List.{starts_with}
-use Rattle.fits_stream.specs.Intake.{Supply, Finds, Gives, GivesAll, Takes}
+use Rattle.fits_stream.specs.Intake.{Supply, Finds, Gives, GivesAll, Takes, TellsAll}
 use Rattle.fits_stream.specs.Stream.{SourceState, FailsOnce, StaysQuiet}
 use Rattle.fits_stream.specs.declared.reading.ReadFault.{ReadFault}
 use Rattle.fits_stream.specs.declared.reading.ReadFault.TheVariants as read
@@ -17,7 +17,7 @@ use Rattle.fits_hdu.specs.declared.hdu_sums.HduSums.{HduSums}
 use Rattle.fits_hdu.specs.declared.outline.Outline.{Outline}
 use Rattle.fits_hdu.specs.declared.read_fault.ReadHduFault.{ReadHduFault}
 use Rattle.fits_hdu.specs.declared.read_fault.ReadHduFault.TheVariants as hdu
-use Rattle.fits_session.specs.File.{FileParts, begins_extension, is_followed, joined_hdus, IsFileOf, IsFrontOf}
+use Rattle.fits_session.specs.File.{FileParts, begins_extension, file_bytes, is_followed, joined_hdus, IsFile, IsFileOf, IsFrontOf}
 use Rattle.fits_session.specs.Opening.{HasOpenFault, open_fault_of}
 use Rattle.fits_session.specs.declared.open_fault.OpenFault.TheVariants.{TooLarge, Memory}
 use Rattle.fits_session.specs.declared.read_fault.ReadFileFault.{ReadFileFault}
@@ -76,6 +76,14 @@ pub record Walked {K : Type 0} (keeps : K → HduParts → Type 0) (kept : List 
   pub each : KeepsEach keeps kept hdus
   pub front : IsFrontOf (joined_hdus hdus) hdus []
   pub taken : Takes old new (joined_hdus hdus)
+
+-- HDUs, of which this is kept, and this tail were taken, and are all that might be: they are a file of so many bytes
+pub record IsReadWhole {K : Type 0} (keeps : K → HduParts → Type 0) (kept : List K) (bytes : ℕ) (tail : List ℕ) (old : Supply) : Type 0 where
+  pub hdus : List HduParts
+  pub each : KeepsEach keeps kept hdus
+  pub whole : IsFile (record { hdus = hdus; tail = tail })
+  pub len : bytes ≡ length (file_bytes (record { hdus = hdus; tail = tail }))
+  pub told : TellsAll old (file_bytes (record { hdus = hdus; tail = tail }))
 
 -- the bytes are a file, of whose HDUs this is kept
 abbrev pub IsKeptOf : {K : Type 0} → (K → HduParts → Type 0) → List K → List ℕ → Type 0

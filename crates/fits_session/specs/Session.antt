@@ -254,7 +254,12 @@ IsHeld one = one.absent ≡ None
 abbrev pub HasStats : HduState → Type 0
 HasStats one = IsCounted one.plane one.absent
 
--- where an edit needs pixels, those of its HDU are in memory
+-- an edit needs pixels
+abbrev pub NeedsPixels : Edit → Type 0
+NeedsPixels (Hdu h edit) = needs_pixels edit ≡ true
+NeedsPixels edit = ⊥
+
+-- then those of its HDU are in memory
 abbrev pub IsReadyFor : Edit → List HduState → Type 0
 IsReadyFor (Hdu h edit) hdus = needs_pixels edit ≡ true → IsSoOf IsHeld h hdus
 IsReadyFor edit hdus = Unit {0}

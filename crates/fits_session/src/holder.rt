@@ -1,6 +1,16 @@
-ghost use Rattle.std.specs.Prelude.{ℕ, List, Option, None, Bool, true, false};
+ghost use Rattle.std.specs.Prelude.{◌≡◌, ◌+◌, ℕ, List, Option, None, Bool, true, false, length, IfErr, IsOk, OnErr, OnOk};
+ghost use Rattle.fits_plane.specs.Again.{CopyFails, PrintsLike};
+ghost use Rattle.fits_stream.specs.Stream.{Prints};
+ghost use Rattle.fits_hdu.specs.Hdu.{hdu_bytes};
+ghost use Rattle.fits_hdu.specs.State.{parts_of, ReadsUpTo};
+ghost use Rattle.fits_hdu.specs.Work.{Loads};
+ghost use Rattle.fits_session.specs.Session.{IsHad};
 
-use fits_stream::Stored;
+use fits_hdu::Hdu;
+use fits_plane::{CopyFault, LoadFault};
+use fits_stream::{Sink, Stored, buffer_of};
+use std::alloc::{AllocError, Global};
+use std::marker::Model;
 
 /// How the data units of a session are had.
 pub trait Holder {
@@ -9,6 +19,34 @@ pub trait Holder {
 
     /// The bytes of the file that the others lie in, where it tells them.
     ghost told: { Self → Option (List ℕ) };
+
+    /// What is read again is known to be what was read before.
+    ghost steady: { Type 0 };
+
+    /// Has the data unit of an HDU in memory: it is read again, where it lies in the file.
+    fn load(&self, alloc: Global, hdu: &mut Hdu) -> Result<(), LoadFault>
+        requires { IsHad (record { whole = whole; told = told self.now }) hdu.old }
+        ensures held { OnOk result (hdu.new.absent ≡ None) }
+        ensures same { steady → OnOk result (parts_of hdu.new ≡ parts_of hdu.old) }
+        ensures loads { Loads hdu.old hdu.new }
+        ensures at_once { hdu.old.absent ≡ None → IsOk result }
+        ensures err { OnErr result (hdu.new ≡ hdu.old) }
+        ensures unchanged { steady → IfErr result (λ why. why ≡ LoadFault.Changed → ⊥) };
+
+    /// Writes an HDU: its data unit is read again, where it lies in the file. It takes no memory.
+    fn emit<W: Sink>(&mut self, hdu: &mut Hdu, sink: &mut W) -> Result<(), CopyFault>
+        requires { IsHad (record { whole = whole; told = told self.old }) hdu.old }
+        ensures ok { steady → OnOk result (Prints (hdu_bytes (parts_of hdu.old))
+            (W.state sink.old) (W.state sink.new)) }
+        ensures like { OnOk result (PrintsLike (hdu_bytes (parts_of hdu.old))
+            (W.state sink.old) (W.state sink.new)) }
+        ensures err { steady → IfErr result (CopyFails (hdu_bytes (parts_of hdu.old))
+            (W.state sink.old) (W.state sink.new)) }
+        ensures written { whole ≡ true → IfErr result (λ why. why ≡ CopyFault.Write) }
+        ensures work { ReadsUpTo hdu.old hdu.new (length hdu.old.header.header.cards) }
+        ensures all_read { OnOk result (hdu.new.header.reads
+            ≡ hdu.old.header.reads + length hdu.old.header.header.cards) }
+        ensures told { told self.new ≡ told self.old };
 }
 
 /// All data units are in memory.
@@ -19,16 +57,70 @@ impl Holder for InMemory {
     ghost whole = { true };
 
     ghost told = { λ _. None };
+
+    ghost steady = { Unit {0} };
+
+    fn load(&self, _alloc: Global, _hdu: &mut Hdu) -> Result<(), LoadFault> {
+        Ok(())
+    }
+
+    fn emit<W: Sink>(&mut self, hdu: &mut Hdu, sink: &mut W) -> Result<(), CopyFault> {
+        match hdu.emit(sink) {
+            Ok(()) => Ok(()),
+            Err(_) => Err(CopyFault::Write),
+        }
+    }
 }
 
+/// How many bytes are copied at once.
+const ROOM_LEN: usize = 262_144;
+
 /// Data units that aren't in memory lie in a stored file.
-#[derive(Clone, Copy)]
+#[derive(Drop)]
 pub struct InFile<'f, F> {
-    pub file: &'f F,
+    file: &'f F,
+    /// What is copied goes through it.
+    room: Vec<u8>,
+}
+
+impl<'f, F> Model for InFile<'f, F> {
+    ghost use Rattle.std.specs.Prelude.{◌≡◌, vec_len};
+
+    ghost Value = { F };
+
+    ghost view = { λ it. it.file.now };
+
+    ghost invariant = { λ it. vec_len it.room ≡ 262144 };
+}
+
+impl<'f, F: Stored> InFile<'f, F> {
+    ghost use Rattle.std.specs.Prelude.{◌≡◌, IfOk};
+
+    /// The data units of a file lie in it.
+    pub(crate) fn new(alloc: Global, file: &'f F) -> Result<InFile<'f, F>, AllocError>
+        ensures { IfOk result (λ it. it ≡ file.now) }
+    {
+        Ok(InFile {
+            file,
+            room: buffer_of(alloc, ROOM_LEN)?,
+        })
+    }
 }
 
 impl<'f, F: Stored> Holder for InFile<'f, F> {
+    ghost use Rattle.fits_session.specs.Away.{AllTell};
+
     ghost whole = { false };
 
-    ghost told = { λ it. F.bytes it.file.now };
+    ghost told = { λ it. F.bytes it };
+
+    ghost steady = { AllTell F.bytes };
+
+    fn load(&self, alloc: Global, hdu: &mut Hdu) -> Result<(), LoadFault> {
+        hdu.load(alloc, self.file)
+    }
+
+    fn emit<W: Sink>(&mut self, hdu: &mut Hdu, sink: &mut W) -> Result<(), CopyFault> {
+        hdu.emit_from(self.file, self.room.as_mut_slice(), sink)
+    }
 }

@@ -17,6 +17,7 @@ mod open_fault;
 mod outlines;
 mod paint;
 mod pixel_values;
+mod placing;
 mod problem;
 mod read_fault;
 mod refusal;

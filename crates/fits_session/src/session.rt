@@ -6,6 +6,7 @@ mod editing;
 mod finding;
 mod keeping;
 mod list_edits;
+mod loading;
 mod naming;
 mod opening;
 mod pixels;
@@ -87,7 +88,7 @@ impl Session {
         test_start(bytes)?;
         let mut none: &[u8] = &[];
         match read_file(alloc, Intake::of(bytes), &mut none) {
-            Ok(parts) => Ok(Session::of(alloc, parts)?),
+            Ok(parts) => Ok(Session::of(alloc, parts, InMemory)?),
             Err(ReadFileFault::Open(fault)) => Err(fault),
             // Nothing is read, and no bytes fail.
             Err(ReadFileFault::Failed) => unreachable!(),
@@ -110,34 +111,9 @@ impl Session {
     {
         let intake = Intake::new(alloc, FILE_LIMIT as usize)?;
         match read_file(alloc, intake, source) {
-            Ok(parts) => Ok(Session::of(alloc, parts)?),
+            Ok(parts) => Ok(Session::of(alloc, parts, InMemory)?),
             Err(fault) => Err(fault),
         }
-    }
-
-    // The session of the HDUs of a file, how many bytes it has, and the bytes after the last HDU.
-    #[tactic(auto, using(crate::proofs::KeptLemmas::opened_steps))]
-    fn of(alloc: Global, parts: (Vec<Hdu>, u64, Vec<u8>)) -> Result<Session, AllocError>
-        requires whole { IsFile (file_of (state_of parts.0.items parts.2.items)) }
-        requires len { parts.1
-            ≡ length (file_bytes (file_of (state_of parts.0.items parts.2.items))) }
-        requires opened { All (IsOpened 0) parts.0.items }
-        ensures file { IfOk result (λ session. file_of session
-            ≡ file_of (state_of parts.0.items parts.2.items)) }
-        ensures unmarked { IfOk result (λ session. marked_of session
-            ≡ unmarked (file_of session)) }
-        ensures opened { IfOk result (λ session. All (IsOpened name_reads) session.hdus) }
-    {
-        let (mut hdus, len, tail) = parts;
-        let names = name_all(alloc, &mut hdus)?;
-        Ok(Session {
-            hdus,
-            len,
-            tail,
-            names,
-            alloc,
-            holder: InMemory,
-        })
     }
 
     /// Makes an edit, or refuses it by the first test that fails.
@@ -166,10 +142,46 @@ impl Session {
 }
 
 impl<H: Holder + Drop> Session<H> {
-    ghost use Rattle.fits_session.specs.Session.{EditsTo, IsReadyFor};
+    ghost use Rattle.std.specs.Prelude.{◌≡◌, length, All, IfOk};
+    ghost use Rattle.fits_hdu.specs.Work.{name_reads, IsOpened};
+    ghost use Rattle.fits_session.specs.File.{file_bytes, IsFile};
+    ghost use Rattle.fits_session.specs.Marked.{unmarked};
+    ghost use Rattle.fits_session.specs.Session.{file_of, marked_of, state_of, EditsTo, IsHad, IsReadyFor};
 
-    // Makes an edit, or refuses it. The pixels that it needs are in memory.
-    fn make(&mut self, edit: Edit) -> Result<(), Refusal>
+    // The session of the HDUs of a file, how many bytes it has, and the bytes after the last HDU.
+    #[tactic(auto, using(crate::proofs::KeptLemmas::opened_steps))]
+    fn of(
+        alloc: Global,
+        parts: (Vec<Hdu>, u64, Vec<u8>),
+        holder: H,
+    ) -> Result<Session<H>, AllocError>
+        requires whole { IsFile (file_of (state_of parts.0.items parts.2.items)) }
+        requires len { parts.1
+            ≡ length (file_bytes (file_of (state_of parts.0.items parts.2.items))) }
+        requires opened { All (IsOpened 0) parts.0.items }
+        requires had { All (IsHad (record { whole = H.whole; told = H.told holder }))
+            parts.0.items }
+        ensures file { IfOk result (λ session. file_of session
+            ≡ file_of (state_of parts.0.items parts.2.items)) }
+        ensures unmarked { IfOk result (λ session. marked_of session
+            ≡ unmarked (file_of session)) }
+        ensures opened { IfOk result (λ session. All (IsOpened name_reads) session.hdus) }
+    {
+        let (mut hdus, len, tail) = parts;
+        let names = name_all(alloc, &mut hdus)?;
+        Ok(Session {
+            hdus,
+            len,
+            tail,
+            names,
+            alloc,
+            holder,
+        })
+    }
+
+    /// Makes an edit, or refuses it, as `edit`. The pixels that it needs are in memory: `load_for`
+    /// sees to it.
+    pub fn make(&mut self, edit: Edit) -> Result<(), Refusal>
         requires { IsReadyFor edit self.old.hdus }
         ensures { EditsTo edit self.old self.new result }
     {

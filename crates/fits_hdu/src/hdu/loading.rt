@@ -8,14 +8,12 @@ use std::alloc::{AllocError, Global};
 impl Hdu {
     ghost use Rattle.std.specs.Prelude.{◌≡◌, ◌+◌, ◌%◌, ◌<◌, ◌↔◌, length, None, IfOk, IfErr, IsOk, IsTrue, OnOk, OnErr};
     ghost use Rattle.fits_stream.specs.Stream.{Prints};
-    ghost use Rattle.fits_sum.specs.Words.{word_total};
     ghost use Rattle.fits_plane.specs.Again.{CopyFails, PrintsLike};
     ghost use Rattle.fits_plane.specs.DataUnit.{IsCounted, IsToldBy};
-    ghost use Rattle.fits_plane.specs.Layout.{block_count};
     ghost use Rattle.fits_hdu.specs.Hdu.{hdu_bytes};
     ghost use Rattle.fits_hdu.specs.Reading.{passed_parts, IsPassedWhole};
     ghost use Rattle.fits_hdu.specs.State.{parts_of, ReadsUpTo};
-    ghost use Rattle.fits_hdu.specs.Work.{plane_work, IsKnownAt, IsLoaded};
+    ghost use Rattle.fits_hdu.specs.Work.{IsKnownAt, Loads};
 
     /// The HDU whose data unit passed by, and lies at this place of a file.
     pub fn away(alloc: Global, passed: PassedHdu, place: u64) -> Result<Hdu, AllocError>
@@ -55,17 +53,9 @@ impl Hdu {
         ensures held { OnOk result (self.new.absent ≡ None) }
         ensures same { IsToldBy (F.bytes file.now) self.old.plane self.old.absent
             → OnOk result (parts_of self.new ≡ parts_of self.old) }
-        ensures total { OnOk result
-            (word_total self.new.plane.bytes ≡ word_total self.old.plane.bytes) }
-        ensures size { length self.new.plane.bytes ≡ length self.old.plane.bytes }
+        ensures loads { Loads self.old self.new }
         ensures idle { self.old.absent ≡ None → self.new ≡ self.old }
         ensures at_once { self.old.absent ≡ None → IsOk result }
-        ensures work { IsLoaded (block_count self.old.plane.bytes)
-            (plane_work self.old.plane) (plane_work self.new.plane) }
-        ensures rest { self.new ≡ record self.old {
-          plane = self.new.plane;
-          absent = self.new.absent;
-        } }
         ensures err { OnErr result (self.new ≡ self.old) }
         ensures steady { IsToldBy (F.bytes file.now) self.old.plane self.old.absent
             → IfErr result (λ why. why ≡ LoadFault.Changed → ⊥) }

@@ -19,6 +19,8 @@ pub(crate) fn name_all(alloc: Global, hdus: &mut Vec<Hdu>) -> Result<NameTable, 
     ensures hdus { OnOk result (hdus_of hdus.new.items ≡ hdus_of hdus.old.items) }
     ensures opened { All (IsOpened 0) hdus.old.items
         → OnOk result (All (IsOpened name_reads) hdus.new.items) }
+    ensures had { (holding : Holding) → All (IsHad holding) hdus.old.items
+        → OnOk result (All (IsHad holding) hdus.new.items) }
 {
     let mut counts = NameCounts::new(alloc);
     for i in 0..hdus.len() {

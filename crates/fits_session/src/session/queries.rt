@@ -169,8 +169,8 @@ impl<H: Holder + Drop> Session<H> {
         offsets_of(self.alloc, &self.hdus)
     }
 
-    // The statistics of the pixels of HDU h, which are known.
-    fn known_stats(&self, h: usize) -> Result<Stats, Refusal>
+    /// The statistics of the pixels of HDU h, as `stats`. They are known: `load_counts` sees to it.
+    pub fn known_stats(&self, h: usize) -> Result<Stats, Refusal>
         requires { IsSoOf HasStats h self.now.hdus }
         ensures { result ≡ stats_in (file_of self.now) h }
     {
@@ -179,8 +179,8 @@ impl<H: Holder + Drop> Session<H> {
         hdu.stats().ok_or(Refusal::NotImage)
     }
 
-    // The values of a rectangle of HDU h, whose data unit is in memory.
-    fn held_rect(&mut self, h: usize, lo: &[u64], hi: &[u64]) -> Result<Vec<i128>, Refusal>
+    /// The values of a rectangle of HDU h, as `rect`. Its data unit is in memory: `load` sees to it.
+    pub fn held_rect(&mut self, h: usize, lo: &[u64], hi: &[u64]) -> Result<Vec<i128>, Refusal>
         requires { IsSoOf IsHeld h self.old.hdus }
         ensures ok { IfOk result (λ values. rect_in (file_of self.old) h lo.now hi.now
             ≡ Ok values.items) }

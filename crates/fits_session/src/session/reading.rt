@@ -1,18 +1,20 @@
 //! The HDUs of a source, and what follows them.
 ghost use Rattle.std.specs.Prelude.{◌≡◌, ◌+◌, ◌≤◌, ◌<◌, false, length, All, IfOk, IfErr, OnOk};
 ghost use Rattle.fits_card.specs.declared.card_list.TheConstants.{BLOCK_LEN};
-ghost use Rattle.fits_stream.specs.Intake.{supply, GivesAll, IsLimited, IsOver, IsSpent, Takes, TakingStops};
+ghost use Rattle.fits_stream.specs.Intake.{supply, GivesAll, IsLimited, IsOver, IsSpent, Takes, TakingStops, TellsAll};
 ghost use Rattle.fits_stream.specs.Stream.{StaysQuiet};
 ghost use Rattle.fits_hdu.specs.Work.{IsOpened};
 ghost use Rattle.fits_session.specs.File.{begins_extension, file_bytes, IsFile, IsFileOf};
 ghost use Rattle.fits_session.specs.declared.limits.TheConstants.{FILE_LIMIT};
-ghost use Rattle.fits_session.specs.Reading.{SupplyStops};
-ghost use Rattle.fits_session.specs.Session.{file_of, state_of};
+ghost use Rattle.fits_session.specs.Away.{AreKnownFrom};
+ghost use Rattle.fits_session.specs.Reading.{IsReadWhole, SupplyStops};
+ghost use Rattle.fits_session.specs.Session.{file_of, state_of, IsHeld};
 
 use crate::read_fault::ReadFileFault;
 use crate::walking::{end, settled, walk};
 use fits_card::BLOCK_LEN;
-use fits_hdu::Hdu;
+use crate::placing::placed;
+use fits_hdu::{Hdu, Kept, PassedHdu};
 use fits_stream::{Intake, ReadFault, Source};
 use std::alloc::Global;
 
@@ -20,7 +22,7 @@ use std::alloc::Global;
 /// last HDU.
 pub(crate) fn read_file<R: Source>(
     alloc: Global,
-    mut intake: Intake,
+    intake: Intake,
     source: &mut R,
 ) -> Result<(Vec<Hdu>, u64, Vec<u8>), ReadFileFault>
     requires few { length intake.ahead + intake.left ≤ FILE_LIMIT }
@@ -32,6 +34,48 @@ pub(crate) fn read_file<R: Source>(
     ensures len { IfOk result (λ parts. parts.1
         ≡ length (file_bytes (file_of (state_of parts.0.items parts.2.items)))) }
     ensures opened { IfOk result (λ parts. All (IsOpened 0) parts.0.items) }
+    ensures held { IfOk result (λ parts. All IsHeld parts.0.items) }
+    ensures quiet { OnOk result (StaysQuiet (R.state source.old) (R.state source.new)) }
+    ensures err { IfErr result (SupplyStops (supply (R.state source.old) intake.entry)
+        (R.state source.new)) }
+{
+    read_whole::<Hdu, R>(alloc, intake, source)
+}
+
+/// The same, but that the data units pass by: they lie in the file, and are known.
+pub(crate) fn read_away<R: Source>(
+    alloc: Global,
+    intake: Intake,
+    source: &mut R,
+) -> Result<(Vec<Hdu>, u64, Vec<u8>), ReadFileFault>
+    requires few { length intake.ahead + intake.left ≤ FILE_LIMIT }
+    requires limited { IsLimited FILE_LIMIT (supply (R.state source.old) intake) }
+    ensures told { IfOk result (λ parts. TellsAll (supply (R.state source.old) intake.entry)
+        (file_bytes (file_of (state_of parts.0.items parts.2.items)))) }
+    ensures whole { IfOk result (λ parts. IsFile
+        (file_of (state_of parts.0.items parts.2.items))) }
+    ensures len { IfOk result (λ parts. parts.1
+        ≡ length (file_bytes (file_of (state_of parts.0.items parts.2.items)))) }
+    ensures known { IfOk result (λ parts. AreKnownFrom 0 parts.0.items) }
+    ensures quiet { OnOk result (StaysQuiet (R.state source.old) (R.state source.new)) }
+    ensures err { IfErr result (SupplyStops (supply (R.state source.old) intake.entry)
+        (R.state source.new)) }
+{
+    let (passed, len, tail) = read_whole::<PassedHdu, R>(alloc, intake, source)?;
+    let hdus = placed(alloc, passed)?;
+    Ok((hdus, len, tail))
+}
+
+// What is kept of the HDUs, how many bytes the file has, and the bytes after the last HDU.
+fn read_whole<K: Kept + Drop, R: Source>(
+    alloc: Global,
+    mut intake: Intake,
+    source: &mut R,
+) -> Result<(Vec<K>, u64, Vec<u8>), ReadFileFault>
+    requires few { length intake.ahead + intake.left ≤ FILE_LIMIT }
+    requires limited { IsLimited FILE_LIMIT (supply (R.state source.old) intake) }
+    ensures ok { IfOk result (λ parts. IsReadWhole K.keeps parts.0.items parts.1 parts.2.items
+        (supply (R.state source.old) intake.entry)) }
     ensures quiet { OnOk result (StaysQuiet (R.state source.old) (R.state source.new)) }
     ensures err { IfErr result (SupplyStops (supply (R.state source.old) intake.entry)
         (R.state source.new)) }

@@ -1,14 +1,16 @@
 //! Writing the file.
-ghost use Rattle.std.specs.Prelude.{◌≡◌, ◌+◌, All, IsOk, IsErr, OnOk, OnErr};
+ghost use Rattle.std.specs.Prelude.{◌≡◌, ◌+◌, true, All, IfErr, IsOk, IsErr, OnOk, OnErr};
+ghost use Rattle.fits_plane.specs.Again.{CopyFails};
 ghost use Rattle.fits_stream.specs.Stream.{Prints, PrintsFront};
 ghost use Rattle.fits_session.specs.File.{joined_hdus};
-ghost use Rattle.fits_session.specs.Session.{hdus_of, each_read, IsHeld, ReadsOnceAtMost};
+ghost use Rattle.fits_session.specs.Session.{hdus_of, each_read, IsHad, ReadsOnceAtMost};
 
 use super::Session;
+use crate::holder::Holder;
 use crate::save_fault::SaveFault;
 use fits_hdu::Hdu;
+use fits_plane::CopyFault;
 use fits_stream::{Sink, write_all};
-use std::io;
 
 impl Session {
     ghost use Rattle.std.specs.Prelude.{◌≡◌, ◌+◌, OnOk, OnErr};
@@ -17,7 +19,6 @@ impl Session {
     ghost use Rattle.fits_session.specs.Session.{file_of, each_read, marked_of, ReadsOnceAtMost};
 
     /// Writes the file. Where a call fails a prefix was written. It takes no memory.
-    #[tactic(auto, using(crate::proofs::SaveLemmas::save_steps))]
     pub fn save<W: Sink>(&mut self, sink: &mut W) -> Result<(), SaveFault>
         ensures ok { OnOk result (Prints (file_bytes (file_of self.old))
             (W.state sink.old) (W.state sink.new)) }
@@ -29,37 +30,63 @@ impl Session {
         ensures work { ReadsOnceAtMost self.old.hdus self.new.hdus }
         ensures all_read { OnOk result (self.new.hdus ≡ each_read self.old.hdus) }
     {
-        self.are_held();
-        outcome(write_hdus(&mut self.hdus, sink))?;
-        outcome(write_all(sink, &self.tail))
+        match self.write(sink) {
+            Ok(()) => Ok(()),
+            Err(_) => Err(SaveFault::Device),
+        }
     }
 }
 
-// How saving goes on after a write: a failed one is the device's fault.
-fn outcome(written: io::Result<()>) -> Result<(), SaveFault>
-    ensures ok { OnOk result (IsOk written) }
-    ensures err { OnErr result (IsErr written) }
-{
-    match written {
-        Ok(()) => Ok(()),
-        Err(_) => Err(SaveFault::Device),
+impl<H: Holder + Drop> Session<H> {
+    ghost use Rattle.std.specs.Prelude.{◌≡◌, true, IfErr, OnOk};
+    ghost use Rattle.fits_plane.specs.Again.{CopyFails};
+    ghost use Rattle.fits_stream.specs.Stream.{Prints};
+    ghost use Rattle.fits_session.specs.File.{file_bytes};
+    ghost use Rattle.fits_session.specs.Session.{file_of, each_read, marked_of, ReadsOnceAtMost};
+
+    /// Writes the file, as `save`. Data units that aren't in memory are read again; where they have
+    /// another total than they had, it ends there. It takes no memory.
+    #[tactic(auto, using(crate::proofs::SaveLemmas::save_steps))]
+    pub fn write<W: Sink>(&mut self, sink: &mut W) -> Result<(), CopyFault>
+        ensures ok { H.steady → OnOk result (Prints (file_bytes (file_of self.old))
+            (W.state sink.old) (W.state sink.new)) }
+        ensures err { H.steady → IfErr result (CopyFails (file_bytes (file_of self.old))
+            (W.state sink.old) (W.state sink.new)) }
+        ensures written { H.whole ≡ true → IfErr result (λ why. why ≡ CopyFault.Write) }
+
+        // The file stays, and each card is read once at most.
+        ensures file { marked_of self.new ≡ marked_of self.old }
+        ensures work { ReadsOnceAtMost self.old.hdus self.new.hdus }
+        ensures all_read { OnOk result (self.new.hdus ≡ each_read self.old.hdus) }
+    {
+        write_hdus(&mut self.holder, &mut self.hdus, sink)?;
+        let Ok(()) = write_all(sink, &self.tail) else {
+            return Err(CopyFault::Write);
+        };
+        Ok(())
     }
 }
 
-// Writes HDUs, one after another. Where a call fails a prefix was written.
+// Writes HDUs, one after another, that are had so.
 #[tactic(auto, using(crate::proofs::SaveLemmas::save_steps))]
-fn write_hdus<W: Sink>(hdus: &mut Vec<Hdu>, sink: &mut W) -> io::Result<()>
-    requires { All IsHeld hdus.old.items }
-    ensures ok { OnOk result (Prints (joined_hdus (hdus_of hdus.old.items))
+fn write_hdus<H: Holder, W: Sink>(
+    holder: &mut H,
+    hdus: &mut Vec<Hdu>,
+    sink: &mut W,
+) -> Result<(), CopyFault>
+    requires { All (IsHad (record { whole = H.whole; told = H.told holder.old })) hdus.old.items }
+    ensures ok { H.steady → OnOk result (Prints (joined_hdus (hdus_of hdus.old.items))
         (W.state sink.old) (W.state sink.new)) }
-    ensures err { OnErr result (PrintsFront (joined_hdus (hdus_of hdus.old.items))
+    ensures err { H.steady → IfErr result (CopyFails (joined_hdus (hdus_of hdus.old.items))
         (W.state sink.old) (W.state sink.new)) }
+    ensures written { H.whole ≡ true → IfErr result (λ why. why ≡ CopyFault.Write) }
+    ensures told { H.told holder.new ≡ H.told holder.old }
     ensures work { ReadsOnceAtMost hdus.old.items hdus.new.items }
     ensures all_read { OnOk result (hdus.new.items ≡ each_read hdus.old.items) }
 {
     for i in 0..hdus.len() {
         let hdu = &mut hdus[i];
-        hdu.emit(sink)?;
+        holder.emit(hdu, sink)?;
     }
     Ok(())
 }

@@ -40,7 +40,6 @@ returns-in-Ok-of-clause-opened g c = record {
   reads = omega (arith, c.in-Ok-of.ensures.work, c.in_ok-cards.ensures.work, ap (λ (header : Header). length header.cards) c.in-Ok-of.ensures.header);
   scans = rw c.in-Ok-of.ensures.unit c.in-Ok-of.ensures.scans;
   kept = c.in-Ok-of.ensures.kept;
-  held = c.in-Ok-of.ensures.held;
 }
 
 -- memory was refused

@@ -1,6 +1,17 @@
 use Rattle.fits_hdu.specs.Work.{name_reads}
-use Rattle.fits_session.proofs.KeptLemmas.{opened_unmarked}
+use Rattle.fits_session.proofs.KeptLemmas.{opened_right, opened_unmarked}
 use Rattle.fits_session.proofs.session.Session.of.Goals as goal
 
 pub returns-clause-unmarked : goal.returns-clause-unmarked
-returns-clause-unmarked c = opened_unmarked name_reads c.name_all.new.hdus.items c.args.parts.2.items (c.in_ok-names.ensures.opened c.requires.opened)
+returns-clause-unmarked g c = opened_unmarked name_reads c.name_all.new.hdus.items c.args.parts.2.items (c.in_ok-names.ensures.opened c.requires.opened)
+
+pub invariant_of-result : goal.invariant_of-result
+invariant_of-result g c = record {
+  whole = rw c.in_ok-names.ensures.hdus c.requires.whole;
+  len = rw c.in_ok-names.ensures.hdus c.requires.len;
+  described = c.in_ok-names.ensures.described;
+  right = opened_right name_reads c.name_all.new.hdus.items (c.in_ok-names.ensures.opened c.requires.opened);
+  names = c.in_ok-names.ensures.stands;
+  roomy = c.in_ok-names.ensures.room;
+  had = c.in_ok-names.ensures.had _ c.requires.had;
+}

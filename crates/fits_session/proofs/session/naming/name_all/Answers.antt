@@ -7,6 +7,7 @@ use Rattle.fits_hdu.specs.State.{HduState, IsDescribed}
 use Rattle.fits_hdu.specs.Work.{name_reads, IsOpened}
 use Rattle.fits_hdu.proofs.StateLemmas.{parts_read}
 use Rattle.fits_session.specs.NameTable.{Stands}
+use Rattle.fits_session.proofs.HadLemmas.{had_named}
 use Rattle.fits_session.proofs.MakingLemmas.{lasts_read}
 use Rattle.fits_session.proofs.NamingLemmas.{all_more, first_after, name_kept, ok_or, opened_more, rest_after, with_entry}
 use Rattle.fits_session.proofs.StandingLemmas.{entered_as, few_told, one_more_stands}
@@ -21,6 +22,7 @@ loop-i-init c = record {
   rest = refl;
   stands = record { table = table_empty c.new-counts.result.numbers.entries c.new-counts.ensures; placed = All-nil _ };
   described = All-nil IsDescribed;
+  had = λ holding had. had;
   opened = λ opened. All-nil (IsOpened name_reads);
 }
 
@@ -50,6 +52,7 @@ loop-i-preserved c =
           one_more_stands hdus i new c.loop-i.counts.numbers.entries c.enter.new.self.numbers.entries within c.loop-i.invariant.stands
           (entered_as c.loop-i.counts.numbers.entries c.enter.new.self.numbers.entries c.extension_name-name.result c.in_ok-entry.entry new (name_kept old read name_reads r ∙ sym c.extension_name-name.ensures.value) refl c.in_ok-entry.ensures.ok);
       described = all_more IsDescribed hdus i new within c.loop-i.invariant.described lasts.described;
+      had = λ holding all. let had = c.loop-i.invariant.had holding all in had_named holding hdus i old read c.in_ok-entry.entry name_reads within c.index_mut-hdu.ensures.value r had;
       opened = λ opened. all_more (IsOpened name_reads) hdus i new within (c.loop-i.invariant.opened opened)
           (opened_more old read c.in_ok-entry.entry
           (subst (IsOpened 0) (sym (first_after hdus c.args.hdus.now.items i old c.loop-i.invariant.rest c.index_mut-hdu.ensures.value)) (opened i old (omega (arith, within, c.loop-i.invariant.count)))) r);
@@ -67,6 +70,9 @@ pub returns-clause-described : goal.returns-clause-described
 returns-clause-described c =
     let all : take c.loop-i.i c.loop-i.hdus.items ≡ c.loop-i.hdus.items = take_all c.loop-i.i c.loop-i.hdus.items (omega (arith, c.loop-i-test.false, c.len-i-end.ensures, c.loop-i.invariant.count, c.args.hdus.now.ok.0)) in
     ok_or c.of.result (subst (All IsDescribed) all c.loop-i.invariant.described)
+
+pub returns-clause-had : goal.returns-clause-had
+returns-clause-had c holding all = ok_or c.of.result (c.loop-i.invariant.had holding all)
 
 pub returns-clause-hdus : goal.returns-clause-hdus
 returns-clause-hdus c = ok_or c.of.result c.loop-i.invariant.hdus

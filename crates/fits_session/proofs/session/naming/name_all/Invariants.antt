@@ -3,7 +3,7 @@ use Rattle.std.specs.Prelude.{All}
 use Rattle.fits_hdu.specs.State.{IsDescribed}
 use Rattle.fits_hdu.specs.Work.{name_reads, IsOpened}
 use Rattle.fits_session.specs.NameTable.{Stands}
-use Rattle.fits_session.specs.Session.{hdus_of}
+use Rattle.fits_session.specs.Session.{hdus_of, Holding, IsHad}
 use Rattle.fits_session.proofs.session.naming.name_all.Given as goal
 
 abbrev pub invariant-loop-i : goal.invariant-loop-i
@@ -13,5 +13,6 @@ invariant-loop-i l = record {
   rest : drop l.i l.hdus.items ≡ drop l.i l.fn.hdus.items;
   stands : Stands (take l.i l.hdus.items) l.counts.numbers.entries;
   described : All IsDescribed (take l.i l.hdus.items);
+  had : (holding : Holding) → All (IsHad holding) l.fn.hdus.items → All (IsHad holding) l.hdus.items;
   opened : All (IsOpened 0) l.fn.hdus.items → All (IsOpened name_reads) (take l.i l.hdus.items);
 }

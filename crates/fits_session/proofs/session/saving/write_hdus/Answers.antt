@@ -1,21 +1,29 @@
-use Rattle.std.proofs.Common.{◌<◌, ◌≤◌, length, arith, subst, sym}
+use Rattle.std.proofs.Common.{◌<◌, ◌≤◌, ◌≡◌, ◌∙◌, length, arith, subst, sym, true}
 use Rattle.std.proofs.lemmas.Grind.{common_steps}
+use Rattle.std.proofs.lemmas.Result.{err_from_is_err_and}
 use Rattle.fits_hdu.proofs.StateLemmas.{parts_read}
-use Rattle.fits_session.specs.Session.{IsHeld}
-use Rattle.fits_session.proofs.HadLemmas.{held_read}
-use Rattle.fits_session.proofs.SaveLemmas.{Prints-hdu, hdus_kept, first_read_more, all_read, once_at_end, once_at_most}
+use Rattle.fits_session.specs.Session.{Holding, IsHad}
+use Rattle.fits_session.proofs.HadLemmas.{had_set}
+use Rattle.fits_session.proofs.SaveLemmas.{Prints-hdu, copy_hdu, hdus_kept, first_read_more, all_read, once_at_end, once_at_most}
 use Rattle.fits_session.proofs.session.saving.write_hdus.Goals as goal
 
 pub loop-i-preserved : goal.loop-i-preserved
 loop-i-preserved g c =
     let l : c.loop-i.i < length c.loop-i.hdus.items = omega (arith, c.loop-i.invariant.count) in
     record {
-      printed = Prints-hdu _ _ _ c.loop-i.hdus.items _ c.loop-i.i c.index_mut-hdu.result.now c.loop-i.invariant.same l c.index_mut-hdu.ensures.value c.loop-i.invariant.printed c.in_ok-emit.ensures.ok;
+      printed = λ steady. Prints-hdu _ _ _ c.loop-i.hdus.items _ c.loop-i.i c.index_mut-hdu.result.now c.loop-i.invariant.same l c.index_mut-hdu.ensures.value (c.loop-i.invariant.printed steady) (c.in_ok-emit.ensures.ok steady);
       same = hdus_kept c.loop-i.hdus.items _ c.loop-i.i c.index_mut-hdu.result.now _ c.loop-i.invariant.same l c.index_mut-hdu.ensures.value (parts_read _ _ _ c.emit.ensures.work);
       count = grind (arith, common_steps);
-      held = held_read c.loop-i.hdus.items c.loop-i.i c.index_mut-hdu.result.now _ _ l c.index_mut-hdu.ensures.value c.emit.ensures.work c.loop-i.invariant.held;
+      had = had_set _ c.loop-i.hdus.items c.loop-i.i c.index_mut-hdu.result.now _ _ l c.index_mut-hdu.ensures.value c.emit.ensures.work c.loop-i.invariant.had;
+      told = c.emit.ensures.told ∙ c.loop-i.invariant.told;
       work = first_read_more _ c.loop-i.hdus.items c.loop-i.i c.index_mut-hdu.result.now _ _ c.loop-i.invariant.work l c.index_mut-hdu.ensures.value c.emit.ensures.work c.in_ok-emit.ensures.all_read;
     }
+
+pub returns-in_err-emit-clause-err : goal.returns-in_err-emit-clause-err
+returns-in_err-emit-clause-err g c steady =
+    let l : c.loop-i.i < length c.loop-i.hdus.items = omega (arith, c.loop-i.invariant.count) in
+    let p = err_from_is_err_and c.from_residual.result c.from_residual.ensures.1 in
+    rw (p.1, p.2) (copy_hdu _ _ _ c.loop-i.hdus.items _ c.loop-i.i c.index_mut-hdu.result.now c.in_err-emit.field-0.0 c.loop-i.invariant.same l c.index_mut-hdu.ensures.value (c.loop-i.invariant.printed steady) (c.in_err-emit.ensures.err steady))
 
 pub returns-in_err-emit-clause-work : goal.returns-in_err-emit-clause-work
 returns-in_err-emit-clause-work g c =
@@ -35,4 +43,5 @@ returns-clause-all_read g c =
 pub emit-requires : goal.emit-requires
 emit-requires g c =
     let l : c.loop-i.i < length c.loop-i.hdus.items = omega (arith, c.loop-i.invariant.count) in
-    subst IsHeld (sym c.index_mut-hdu.ensures.value) (c.loop-i.invariant.held c.loop-i.i c.index_mut-hdu.result.now l)
+    let holding : Holding = record { whole = g.H.Holder.whole; told = g.H.Holder.told c.args.holder.now } in
+    rw c.loop-i.invariant.told (subst (IsHad holding) (sym c.index_mut-hdu.ensures.value) (c.loop-i.invariant.had c.loop-i.i c.index_mut-hdu.result.now l))

@@ -1,0 +1,246 @@
+-- Data units that lie in a stored file, and what loading one leaves.
+use Rattle.std.proofs.Common.{All, ◌≡◌, ℕ, ◌+◌, ◌<◌, ◌≤◌, List, [], ◌∷◌, ◌++◌, length, map, take, drop, get_or, set, refl, ap, sym, subst, ◌∙◌, arith, Option, None, Some, suc, add-one}
+use Rattle.std.specs.Prelude.{IfSome, Err, Ok, OnErr, OnOk, Result, false, true}
+use Rattle.std.proofs.Math.Seq.{drop-append-add, take-append_seam}
+use Rattle.std.proofs.lemmas.List.{append_assoc, length-append, length-set, map-append}
+use Rattle.std.proofs.lemmas.List.Elements.{All-cons, All-nil, All-set}
+use Rattle.std.proofs.lemmas.List.Concat.{flat_map-append}
+use Rattle.fits_card.specs.Header.{Header, IsHeader, header_bytes}
+use Rattle.fits_rules.specs.Class.{is_primary}
+use Rattle.fits_rules.specs.Shape.{shape_of}
+use Rattle.fits_header.specs.State.{HeaderState}
+use Rattle.fits_hdu.specs.ExtensionName.{extension_name}
+use Rattle.fits_plane.specs.DataUnit.{Absence, LiesIn}
+use Rattle.fits_plane.specs.Plane.{PlaneState}
+use Rattle.fits_stream.specs.Intake.{supply, IntakeState, TellsAll}
+use Rattle.fits_stream.specs.Stored.{left_at, Placed}
+use Rattle.fits_stream.specs.Stream.{SourceState}
+use Rattle.fits_hdu.specs.Hdu.{HduParts, hdu_bytes, IsHdu}
+use Rattle.fits_hdu.specs.Reading.{IsPassedWhole}
+use Rattle.fits_hdu.specs.State.{HduState, name_of, parts_of, IsDescribed}
+use Rattle.fits_hdu.specs.Work.{IsKnownAt, IsOpened, Loads, plane_work}
+use Rattle.fits_hdu.specs.declared.passed_hdu.PassedHdu.{PassedHdu}
+use Rattle.fits_hdu.specs.Sums.{verdicts_of}
+use Rattle.fits_hdu.proofs.PassedLemmas.{same_verdicts}
+use Rattle.fits_hdu.specs.declared.extension_name.ExtensionName.{ExtensionName}
+use Rattle.fits_session.specs.Away.{is_passed, parts_passed, AreKnownFrom, LoadWork}
+use Rattle.fits_session.specs.Edit.{hdu_of, is_primary_hdu, with_hdu}
+use Rattle.fits_session.specs.File.{FileParts, file_bytes, joined_hdus, IsFile, IsFileOf}
+use Rattle.fits_session.specs.Keeping.{IsRight}
+use Rattle.fits_session.specs.Reading.{KeepsEach, ReadStops, SupplyStops}
+use Rattle.fits_session.specs.Session.{file_of, hdus_of, marked_of, state_of, Holding, IsHad, IsKept}
+use Rattle.fits_session.specs.declared.limits.TheConstants.{FILE_LIMIT}
+use Rattle.fits_session.proofs.HadLemmas.{had_held}
+use Rattle.fits_session.proofs.EditLemmas.{length_changed, other_kept}
+use Rattle.fits_session.specs.declared.read_fault.ReadFileFault.{ReadFileFault}
+use Rattle.fits_session.proofs.StandingLemmas.{stands_same}
+use Rattle.fits_session.proofs.WalkLemmas.{read_stops}
+use Rattle.fits_session.proofs.StateLemmas.{IsHduAt, hdu_of-there, hdus_of-changed, marked_of-same, slice_get-hdus_of, whole_there}
+
+-- ---- HDUs that passed by
+
+-- their parts are those of the file
+pub passed_are : (ks : List PassedHdu) (us : List HduParts) → KeepsEach is_passed ks us → map parts_passed ks ≡ us
+passed_are [] [] p = refl
+passed_are [] (u ∷ us) p = absurd p
+passed_are (k ∷ ks) [] p = absurd p
+passed_are (k ∷ ks) (u ∷ us) p = rw (p.0.parts, passed_are ks us p.1) refl
+
+-- so each is known by its own parts
+pub passed_known : (ks : List PassedHdu) (us : List HduParts) → KeepsEach is_passed ks us → All (λ (it : PassedHdu). is_passed it (parts_passed it)) ks
+passed_known [] [] p = All-nil (λ (it : PassedHdu). is_passed it (parts_passed it))
+passed_known [] (u ∷ us) p = absurd p
+passed_known (k ∷ ks) [] p = absurd p
+passed_known (k ∷ ks) (u ∷ us) p =
+    let own : is_passed k (parts_passed k) = subst (is_passed k) (sym p.0.parts) p.0 in
+    All-cons (λ (it : PassedHdu). is_passed it (parts_passed it)) k ks own (passed_known ks us p.1)
+
+-- one more lies after them
+pub known_push : (start : ℕ) (hdus : List HduState) (one : HduState) → AreKnownFrom start hdus → IsKnownAt (start + length (joined_hdus (hdus_of hdus)) + length (header_bytes one.header.header)) one → AreKnownFrom start (hdus ++ one ∷ [])
+known_push start [] one p q =
+    let place : start + 0 + length (header_bytes one.header.header) ≡ start + length (header_bytes one.header.header) = omega arith in
+    (subst (λ n. IsKnownAt n one) place q, tt)
+known_push start (hdu ∷ hdus) one p q =
+    let own : List ℕ = hdu_bytes (parts_of hdu) in
+    let rest : List ℕ = joined_hdus (hdus_of hdus) in
+    let place : start + length (own ++ rest) + length (header_bytes one.header.header) ≡ start + length own + length rest + length (header_bytes one.header.header) = omega (arith, length-append own rest) in
+    (p.0, known_push (start + length own) hdus one p.1 (subst (λ n. IsKnownAt n one) place q))
+
+-- the parts of those that have come and of those that come
+pub pushed_parts : (hdus more : List HduState) (one : HduState) (k : PassedHdu) (ks rest : List PassedHdu) (all : List HduParts) → more ≡ hdus ++ one ∷ [] → parts_of one ≡ parts_passed k → ks ≡ k ∷ rest → hdus_of hdus ++ map parts_passed ks ≡ all
+    → hdus_of more ++ map parts_passed rest ≡ all
+pushed_parts hdus more one k ks rest all is own next same =
+    ap (λ (us : List HduState). hdus_of us ++ map parts_passed rest) is
+    ∙ ap (λ us. us ++ map parts_passed rest) (map-append parts_of hdus (one ∷ []) ∙ ap (λ (u : HduParts). hdus_of hdus ++ u ∷ []) own)
+    ∙ append_assoc (hdus_of hdus) (parts_passed k ∷ []) (map parts_passed rest)
+    ∙ ap (λ (ls : List PassedHdu). hdus_of hdus ++ map parts_passed ls) (sym next)
+    ∙ same
+
+-- how many bytes they have with one more
+pub joined_push : (hdus : List HduState) (one : HduState) → length (joined_hdus (hdus_of (hdus ++ one ∷ []))) ≡ length (joined_hdus (hdus_of hdus)) + length (hdu_bytes (parts_of one))
+joined_push [] one = omega (arith, length-append (hdu_bytes (parts_of one)) [])
+joined_push (hdu ∷ hdus) one = omega (
+  arith,
+  length-append (hdu_bytes (parts_of hdu)) (joined_hdus (hdus_of (hdus ++ one ∷ []))),
+  length-append (hdu_bytes (parts_of hdu)) (joined_hdus (hdus_of hdus)),
+  joined_push hdus one,
+)
+
+-- they were opened
+pub known_opened : (start : ℕ) (hdus : List HduState) → AreKnownFrom start hdus → All (IsOpened 0) hdus
+known_opened start [] p = All-nil (IsOpened 0)
+known_opened start (hdu ∷ hdus) p = All-cons (IsOpened 0) hdu hdus p.0.opened (known_opened (start + length (hdu_bytes (parts_of hdu))) hdus p.1)
+
+-- what stands after a header is the data unit
+unit_there : (front header unit rest : List ℕ) → take (length unit) (drop (length front + length header) (front ++ ((header ++ unit) ++ rest))) ≡ unit
+unit_there front header unit rest =
+    ap (take (length unit))
+    (drop-append-add front ((header ++ unit) ++ rest) (length header)
+    ∙ ap (drop (length header)) (append_assoc header unit rest)
+    ∙ ap (λ n. drop n (header ++ (unit ++ rest))) (let same : length header ≡ length header + 0 = omega arith in same)
+    ∙ drop-append-add header (unit ++ rest) 0)
+    ∙ take-append_seam unit rest
+
+-- one that is known lies where it is known to
+one_lies : (bytes : List ℕ) (place : ℕ) (one : HduState) → IsKnownAt place one → take (length one.plane.bytes) (drop place bytes) ≡ one.plane.bytes → LiesIn bytes one.plane one.absent
+one_lies bytes place one known there = rw known.lies there
+
+-- so do HDUs that follow one another
+pub known_lie : (front : List ℕ) (hdus : List HduState) (tail : List ℕ) → AreKnownFrom (length front) hdus → All (λ (one : HduState). LiesIn (front ++ (joined_hdus (hdus_of hdus) ++ tail)) one.plane one.absent) hdus
+known_lie front [] tail p = All-nil (λ (one : HduState). LiesIn (front ++ ([] ++ tail)) one.plane one.absent)
+known_lie front (hdu ∷ hdus) tail p =
+    let header : List ℕ = header_bytes hdu.header.header in
+    let own : List ℕ = hdu_bytes (parts_of hdu) in
+    let rest : List ℕ = joined_hdus (hdus_of hdus) in
+    let first : front ++ ((own ++ rest) ++ tail) ≡ front ++ (own ++ (rest ++ tail)) = ap (λ t. front ++ t) (append_assoc own rest tail) in
+    let others : front ++ (own ++ (rest ++ tail)) ≡ (front ++ own) ++ (rest ++ tail) = sym (append_assoc front own (rest ++ tail)) in
+    let size : length front + length own ≡ length (front ++ own) = sym (length-append front own) in
+    let here : LiesIn (front ++ (own ++ (rest ++ tail))) hdu.plane hdu.absent = one_lies (front ++ (own ++ (rest ++ tail))) (length front + length header) hdu p.0 (unit_there front header hdu.plane.bytes (rest ++ tail)) in
+    let after : All (λ (one : HduState). LiesIn ((front ++ own) ++ (rest ++ tail)) one.plane one.absent) hdus = known_lie (front ++ own) hdus tail (subst (λ n. AreKnownFrom n hdus) size p.1) in
+    let more : All (λ (one : HduState). LiesIn (front ++ (own ++ (rest ++ tail))) one.plane one.absent) hdus = subst (λ (bytes : List ℕ). All (λ (one : HduState). LiesIn bytes one.plane one.absent) hdus) (sym others) after in
+    subst (λ (bytes : List ℕ). All (λ (one : HduState). LiesIn bytes one.plane one.absent) (hdu ∷ hdus)) (sym first)
+    (All-cons (λ (one : HduState). LiesIn (front ++ (own ++ (rest ++ tail))) one.plane one.absent) hdu hdus here more)
+
+-- ---- a stored file
+
+-- from its start on it has all its bytes
+pub from_start : (told : Option (List ℕ)) → left_at (Some 0) told None ≡ told
+from_start None = refl
+from_start (Some xs) = refl
+
+-- so a source of it from there on tells what it tells
+pub stored_told : {F : Type 0} (bytes : F → Option (List ℕ)) (source : Placed F) (file : F) (intake : IntakeState) (left : ℕ) (xs : List ℕ) → source ≡ record { file = file; place = Some 0; failures = 0 } → intake ≡ record { ahead = []; left = left }
+    → TellsAll (supply (record { remaining = left_at source.place (bytes source.file) None; failures = source.failures }) intake) xs → IfSome (bytes file) (λ all. all ≡ xs)
+stored_told bytes source file intake left xs is of told =
+    let there : TellsAll (supply (record { remaining = left_at (Some 0) (bytes file) None; failures = 0 }) (record { ahead = []; left = left })) xs = rw (is, of) at told in
+    subst (λ (t : Option (List ℕ)). IfSome t (λ all. all ≡ xs)) (from_start (bytes file)) there
+
+-- and why it doesn't open is why the file doesn't
+pub stored_stops : {F : Type 0} (bytes : F → Option (List ℕ)) (source : Placed F) (file : F) (intake : IntakeState) (after : SourceState) (why : ReadFileFault) → source ≡ record { file = file; place = Some 0; failures = 0 } → intake ≡ record { ahead = []; left = FILE_LIMIT }
+    → SupplyStops (supply (record { remaining = left_at source.place (bytes source.file) None; failures = source.failures }) intake) after why → ReadStops (record { remaining = bytes file; failures = 0 }) after why
+stored_stops bytes source file intake after why is of stops =
+    let there : SupplyStops (supply (record { remaining = left_at (Some 0) (bytes file) None; failures = 0 }) intake) after why = rw is at stops in
+    subst (λ (t : Option (List ℕ)). ReadStops (record { remaining = t; failures = 0 }) after why) (from_start (bytes file)) (read_stops (record { remaining = left_at (Some 0) (bytes file) None; failures = 0 }) after intake why of there)
+
+-- those that it tells are the file, of which the data units that passed by lie in it
+pub stored_had : (told : Option (List ℕ)) (hdus : List HduState) (tail : List ℕ) → IfSome told (λ left. left ≡ joined_hdus (hdus_of hdus) ++ tail) → AreKnownFrom 0 hdus → All (IsHad (record { whole = false; told = told })) hdus
+stored_had None hdus tail same known = λ i d within. record { held = λ no. absurd (cc); lies = tt }
+stored_had (Some xs) hdus tail same known = λ i d within. record {
+  held = λ no. absurd (cc);
+  lies = subst (λ (bytes : List ℕ). LiesIn bytes (get_or hdus i d).plane (get_or hdus i d).absent) (sym same) (known_lie [] hdus tail known i d within);
+}
+
+-- ---- loading
+
+-- one that was loaded is had, and one that wasn't is had as it was
+pub loaded_had : {X E : Type 0} (result : Result X E) (holding : Holding) (old new : HduState) → OnOk result (new.absent ≡ None) → OnErr result (new ≡ old) → IsHad holding old → IsHad holding new
+loaded_had (Ok x) holding old new held same had = had_held holding new held
+loaded_had (Err e) holding old new held same had = subst (IsHad holding) (sym same) had
+
+-- where its bytes are what they were, the file is
+pub loaded_same : {X E : Type 0} (result : Result X E) (hdus : List HduState) (tail : List ℕ) (h i : ℕ) (old new : HduState) → IsHduAt hdus h i old → Loads old new → OnOk result (parts_of new ≡ parts_of old) → OnOk result (marked_of (state_of (set hdus i new) tail) ≡ marked_of (state_of hdus tail))
+loaded_same (Ok x) hdus tail h i old new at loads same = marked_of-same hdus tail h i old new at same (ap (λ (one : HduState). one.kept) loads.rest)
+loaded_same (Err e) hdus tail h i old new at loads same = tt
+
+-- the length of an HDU goes by that of its data unit
+same_length : (old new : HduState) → new.header.header ≡ old.header.header → length new.plane.bytes ≡ length old.plane.bytes → length (hdu_bytes (parts_of new)) ≡ length (hdu_bytes (parts_of old))
+same_length old new header size = omega (
+  arith,
+  length-append (header_bytes new.header.header) new.plane.bytes,
+  length-append (header_bytes old.header.header) old.plane.bytes,
+  size,
+  ap (λ h. length (header_bytes h)) header,
+)
+
+module _ (holding : Holding) (hdus : List HduState) (tail : List ℕ) (h i bytes : ℕ) (es : List (ExtensionName × ℕ)) (room : ℕ) (old new : HduState) (at : IsHduAt hdus h i old) (kept : IsKept holding hdus tail bytes es room) (loads : Loads old new) where
+  header_same : new.header ≡ old.header
+  header_same = ap (λ (one : HduState). one.header) loads.rest
+
+  cards_same : new.header.header ≡ old.header.header
+  cards_same = ap (λ (header : HeaderState). header.header) header_same
+
+  long_as : length (hdu_bytes (parts_of new)) ≡ length (hdu_bytes (parts_of old))
+  long_as = same_length old new cards_same loads.size
+
+  there : IsHdu (is_primary_hdu h) (parts_of old)
+  there = whole_there hdus tail h i old kept.whole at
+
+  -- it is an HDU still
+  is_one : IsHdu (is_primary_hdu h) (parts_of new)
+  is_one = record {
+    shape = there.shape;
+    header = subst IsHeader (sym cards_same) there.header;
+    described = ap (λ (header : Header). shape_of (is_primary_hdu h) header.cards) cards_same ∙ there.described;
+    size = loads.size ∙ there.size;
+  }
+
+  -- the file is one, and as long
+  file_is : IsFile (file_of (state_of (set hdus i new) tail)) × (bytes ≡ length (file_bytes (file_of (state_of (set hdus i new) tail))))
+  file_is =
+      let file : FileParts = file_of (state_of hdus tail) in
+      let change : HduParts → HduParts = λ hdu. parts_of new in
+      let found = slice_get-hdus_of hdus i old at.index.within at.is in
+      let named : h ≡ i + 1 = at.index.at in
+      let left : file_of (state_of (set hdus i new) tail) ≡ with_hdu file (suc i) change = ap (λ (us : List HduParts). let f : FileParts = record { hdus = us; tail = tail } in f) (hdus_of-changed hdus h i old new change at refl) in
+      let size : length (file_bytes (with_hdu file (suc i) change)) ≡ length (file_bytes file) = omega (arith, length_changed file i (parts_of old) change found, long_as) in
+      let whole : IsHdu (is_primary_hdu (suc i)) (parts_of new) = subst (λ n. IsHdu (is_primary_hdu n) (parts_of new)) (named ∙ add-one i) is_one in
+      let within : length (file_bytes file) ≤ FILE_LIMIT = kept.whole.size in (
+        subst (λ (f : FileParts). IsFile f) (sym left) (other_kept (file_bytes file) file i (parts_of old) change kept.whole found whole (omega (arith, size, within))),
+        kept.len ∙ sym size ∙ ap (λ (f : FileParts). length (file_bytes f)) (sym left),
+      )
+
+  -- both sums are as right as they were
+  right_still : IsRight new
+  right_still on =
+      let was : IsRight old = subst IsRight (sym at.is) (kept.right i old at.index.within) in
+      let mark : new.kept ≡ old.kept = ap (λ (one : HduState). one.kept) loads.rest in
+      same_verdicts (parts_of old) (parts_of new) there.header cards_same loads.total ∙ was (sym mark ∙ on)
+
+  -- its cards describe its shape
+  described_still : IsDescribed new
+  described_still =
+      subst (λ (header : HeaderState). shape_of (is_primary header.shape.class) header.header.cards ≡ Ok header.shape) (sym header_same)
+      (subst IsDescribed (sym at.is) (kept.described i old at.index.within))
+
+  -- it is called as before
+  called : name_of new ≡ name_of old
+  called = ap (λ (header : HeaderState). extension_name (is_primary header.shape.class) header.header.cards) header_same
+
+  -- what a session keeps where one was loaded, or wasn't
+  pub kept_loaded : IsHad holding new → IsKept holding (set hdus i new) tail bytes es room
+  kept_loaded had = record {
+    whole = file_is.0;
+    len = file_is.1;
+    described = All-set IsDescribed hdus i new described_still kept.described;
+    right = All-set IsRight hdus i new right_still kept.right;
+    names = stands_same hdus i old new es at.index.within at.is called (ap (λ (one : HduState). one.entry) loads.rest) kept.names;
+    roomy = omega (arith, kept.roomy, length-set hdus i new);
+    had = All-set (IsHad holding) hdus i new had kept.had;
+  }
+
+  -- so much work it was
+  pub load_work : LoadWork (file_of (state_of hdus tail)) h (plane_work old.plane) (plane_work new.plane)
+  load_work hdu there =
+      let both : Option.Some hdu ≡ Some (parts_of old) = sym there ∙ hdu_of-there hdus tail h i old at in
+      let same : hdu ≡ parts_of old = cc in
+      rw same loads.work

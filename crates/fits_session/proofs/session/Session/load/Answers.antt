@@ -1,0 +1,42 @@
+use Rattle.std.proofs.Common.{ap, refl, subst, sym}
+use Rattle.fits_hdu.specs.State.{HduState}
+use Rattle.fits_session.specs.Away.{LoadWork}
+use Rattle.fits_session.specs.Session.{file_of, state_of, Holding, IsHad}
+use Rattle.fits_session.proofs.AwayLemmas.{kept_loaded, load_work, loaded_had, loaded_same}
+use Rattle.fits_session.proofs.StateLemmas.{is_at, reads_of-same, works_nowhere, works_there}
+use Rattle.fits_session.proofs.session.Session.load.Goals as goal
+
+pub returns-in_default-clause-work : goal.returns-in_default-clause-work
+returns-in_default-clause-work g c = rw (← c.self.view_is) (works_nowhere c.self.inside.hdus.items c.args.h _ (rw c.deref.ensures.value at c.in_default.ensures.none))
+
+pub invariant_of-self : goal.invariant_of-self
+invariant_of-self g c =
+    let holding : Holding = record { whole = g.H.Holder.whole; told = g.H.Holder.told c.self.inside.holder } in
+    let at = is_at c.self.inside.hdus.items c.deref.result.now c.args.h c.args.h c.in-Ok.i c.index_mut.result.now c.deref.ensures.value refl c.in-Ok.ensures.found c.index_mut.ensures.value in
+    let was : IsHad holding c.index_mut.result.now = subst (IsHad holding) (sym at.is) (c.self.invariant.had c.in-Ok.i c.index_mut.result.now at.index.within) in
+    kept_loaded holding c.self.inside.hdus.items c.self.inside.tail.items c.args.h c.in-Ok.i c.self.inside.len c.self.inside.names.numbers.items c.self.inside.names.room c.index_mut.result.now c.load.new.hdu at c.self.invariant c.load.ensures.loads
+    (loaded_had c.load.result holding c.index_mut.result.now c.load.new.hdu c.load.ensures.held c.load.ensures.err was)
+
+pub returns-clause-same : goal.returns-clause-same
+returns-clause-same g c steady =
+    let at = is_at c.self.inside.hdus.items c.deref.result.now c.args.h c.args.h c.in-Ok.i c.index_mut.result.now c.deref.ensures.value refl c.in-Ok.ensures.found c.index_mut.ensures.value in
+    rw (← c.self.view_is) (loaded_same c.load.result c.self.inside.hdus.items c.self.inside.tail.items c.args.h c.in-Ok.i c.index_mut.result.now c.load.new.hdu at c.load.ensures.loads (c.load.ensures.same steady))
+
+pub returns-clause-reads : goal.returns-clause-reads
+returns-clause-reads g c =
+    let at = is_at c.self.inside.hdus.items c.deref.result.now c.args.h c.args.h c.in-Ok.i c.index_mut.result.now c.deref.ensures.value refl c.in-Ok.ensures.found c.index_mut.ensures.value in
+    rw (← c.self.view_is) (reads_of-same c.self.inside.hdus.items c.in-Ok.i c.index_mut.result.now c.load.new.hdu at.index.within at.is (ap (λ (one : HduState). one.header.reads) c.load.ensures.loads.rest))
+
+pub returns-clause-work : goal.returns-clause-work
+returns-clause-work g c =
+    let holding : Holding = record { whole = g.H.Holder.whole; told = g.H.Holder.told c.self.inside.holder } in
+    let at = is_at c.self.inside.hdus.items c.deref.result.now c.args.h c.args.h c.in-Ok.i c.index_mut.result.now c.deref.ensures.value refl c.in-Ok.ensures.found c.index_mut.ensures.value in
+    let work = load_work holding c.self.inside.hdus.items c.self.inside.tail.items c.args.h c.in-Ok.i c.self.inside.len c.self.inside.names.numbers.items c.self.inside.names.room c.index_mut.result.now c.load.new.hdu at c.self.invariant c.load.ensures.loads in
+    rw (← c.self.view_is) (works_there c.self.inside.hdus.items c.args.h c.in-Ok.i (LoadWork (file_of (state_of c.self.inside.hdus.items c.self.inside.tail.items)) c.args.h) c.index_mut.result.now c.load.new.hdu at work)
+
+pub returns-clause-whole : goal.returns-clause-whole
+returns-clause-whole g c whole =
+    let holding : Holding = record { whole = g.H.Holder.whole; told = g.H.Holder.told c.self.inside.holder } in
+    let at = is_at c.self.inside.hdus.items c.deref.result.now c.args.h c.args.h c.in-Ok.i c.index_mut.result.now c.deref.ensures.value refl c.in-Ok.ensures.found c.index_mut.ensures.value in
+    let was : IsHad holding c.index_mut.result.now = subst (IsHad holding) (sym at.is) (c.self.invariant.had c.in-Ok.i c.index_mut.result.now at.index.within) in
+    c.load.ensures.at_once (was.held whole)

@@ -1,0 +1,38 @@
+-- Data units that lie in a stored file: where they lie, and what loading one owes (own).
+use Rattle.std.specs.Prelude.{◌≡◌, ℕ, ◌+◌, List, [], ◌∷◌, length, map, Option, Some, IfSome}
+use Rattle.fits_card.specs.Header.{header_bytes}
+use Rattle.fits_plane.specs.DataUnit.{LiesIn}
+use Rattle.fits_plane.specs.Layout.{block_count}
+use Rattle.fits_hdu.specs.Hdu.{HduParts, hdu_bytes}
+use Rattle.fits_hdu.specs.Reading.{passed_parts, IsPassedWhole}
+use Rattle.fits_hdu.specs.State.{HduState, parts_of}
+use Rattle.fits_hdu.specs.Work.{IsKnownAt, IsLoaded, PixelWork}
+use Rattle.fits_hdu.specs.declared.passed_hdu.PassedHdu.{PassedHdu}
+use Rattle.fits_session.specs.Edit.{hdu_of}
+use Rattle.fits_session.specs.File.{FileParts}
+
+-- each file of a kind tells its bytes
+abbrev pub AllTell : {F : Type 0} → (F → Option (List ℕ)) → Type 0
+AllTell bytes = (file : _) → (xs : List ℕ) × (bytes file ≡ Some xs)
+
+-- the parts of an HDU that passed by
+abbrev pub parts_passed : PassedHdu → HduParts
+parts_passed it = passed_parts it.header it.unit
+
+-- of an HDU that passed by this is known
+abbrev pub is_passed : PassedHdu → HduParts → Type 0
+is_passed it hdu = IsPassedWhole it.header it.unit hdu
+
+-- HDUs follow one another from a place of a file on, and the data unit of each lies in it
+abbrev pub AreKnownFrom : ℕ → List HduState → Type 0
+AreKnownFrom start [] = Unit {0}
+AreKnownFrom start (one ∷ hdus) =
+    IsKnownAt (start + length (header_bytes one.header.header)) one × AreKnownFrom (start + length (hdu_bytes (parts_of one))) hdus
+
+-- a file that tells its bytes has the data unit of one where it lies
+abbrev pub LiesThere : Option (List ℕ) → HduState → Type 0
+LiesThere told one = IfSome told (λ bytes. LiesIn bytes one.plane one.absent)
+
+-- so much work on its data unit loading HDU h is
+abbrev pub LoadWork : FileParts → ℕ → PixelWork → PixelWork → Type 0
+LoadWork file h old new = (hdu : HduParts) → hdu_of file h ≡ Some hdu → IsLoaded (block_count hdu.data_unit) old new
