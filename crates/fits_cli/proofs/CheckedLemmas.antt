@@ -1,31 +1,35 @@
 -- A run of `edit -c`, from its answers to its end.
-use Rattle.std.proofs.Common.{◌≡◌, ℕ, ◌<◌, ◌≤◌, Bool, List, [], length, refl, ap, sym, subst, ◌∙◌, inl, inr, arith, Option, Result}
-use Rattle.std.specs.Prelude.{AllPairs}
+use Rattle.std.proofs.Common.{◌≡◌, ◌⊎◌, ℕ, ◌<◌, ◌≤◌, Bool, true, take, List, [], length, refl, ap, sym, subst, ◌∙◌, inl, inr, arith, Option, Result, Some}
 use Rattle.std.specs.Result.{IsErrAnd}
 use Rattle.std.proofs.lemmas.Result.{err_from_is_err_and}
 use Rattle.fits_stream.specs.Stream.{SourceState, SinkState, Prints, PrintsFront, StaysQuiet}
 use Rattle.fits_stream.proofs.StreamLemmas.{Prints-flushed, Prints-more, Prints-none}
 use Rattle.fits_session.specs.File.{FileParts, file_bytes}
-use Rattle.fits_session.specs.Report.{report_of, IsListedBefore}
+use Rattle.fits_session.specs.Report.{report_of}
 use Rattle.fits_session.specs.declared.problem.Problem.{Problem}
 use Rattle.fits_session.proofs.OrderLemmas.{in_order}
 use Rattle.fits_cli.specs.Answer.{Standing, at_first_line}
-use Rattle.fits_cli.specs.CheckedEnds.{kept_back, EndsChecked, IsKeptBack, IsReportedRun, IsSound, IsUnsound, IsUpToReports, StopsChecked}
+use Rattle.fits_cli.specs.CheckedEnds.{kept_back, EndsChecked, EndsCheckedAs, IsKeptBack, IsReportedRun, IsSound, IsUnsound, IsUpToReports, SoundCopyFails, StopsChecked}
 use Rattle.fits_cli.specs.Ends.{RunState, StopsBy}
-use Rattle.fits_cli.specs.Faults.{PrintFails}
+use Rattle.fits_cli.specs.declared.end.End.{End}
+use Rattle.fits_cli.specs.Faults.{status_of_fault, IsOnce, PrintFails, SaveFails}
 use Rattle.fits_cli.specs.NewErrors.{new_error_lines, new_errors, HasMoreErrors}
 use Rattle.fits_cli.specs.Output.{answers, output_of_lines, standing_after, status_of}
 use Rattle.fits_cli.specs.Running.{heard, IsAnsweredRun}
 use Rattle.fits_cli.specs.Script.{script_lines}
 use Rattle.fits_cli.specs.declared.fault.Fault.{Fault}
 use Rattle.fits_cli.specs.declared.fault.Fault.TheVariants.{Memory}
-use Rattle.fits_cli.proofs.EditingLemmas.{Asked-done, output_whole, script_told}
+use Rattle.fits_cli.proofs.EditingLemmas.{Asked-done, again_stored, output_whole, script_told}
 use Rattle.fits_cli.proofs.NewErrorLemmas.{more-new, new-more}
 use Rattle.fits_cli.proofs.ResultLemmas.{lines_file, own_bytes}
 
 -- a fault before the script is answered ends such a run
 pub checked_exit : (whole : Bool) (old new : RunState) (result : Result (ℕ × ℕ × ℕ) Fault) (why : Fault) → IsErrAnd result (λ e. e ≡ why) → StopsChecked whole old new why → EndsChecked whole old new result
 checked_exit whole old new result why is stops = let exit = err_from_is_err_and result is in rw (exit.1, exit.2) stops
+
+-- its fault has its status
+pub checked_fault : (whole : Bool) (old new : RunState) (end : End) (undone errors : ℕ) (fault : Fault) → (end.status ≡ status_of_fault fault) × (end.fault ≡ Some fault) × (undone ≡ 0) × (errors ≡ 0) → StopsChecked whole old new fault → EndsCheckedAs whole old new end undone errors
+checked_fault whole old new end undone errors fault is stops = rw is.1 (stops, is.0, is.2, is.3)
 
 -- memory is refused before the first line
 pub First-report-refused : (old new : RunState) → StaysQuiet old.file new.file → new.script ≡ old.script → new.printed ≡ old.printed → new.saved ≡ old.saved → StopsBy old new Memory
@@ -154,11 +158,11 @@ Sound-saved whole old new told told_after now before count reported all is none 
 }
 
 -- the file can't be saved
-pub Sound-fails : (whole : Bool) (old new : RunState) (told told_after : Option SinkState) (now : Standing) (before : List Problem) (count : ℕ) (fault : Fault) → IsReportedRun old.file new.file old.script new.script old.printed new.printed told told_after now before
-    → kept_back whole now.refused ≡ 0 → count ≡ length (new_errors before (report_of now.marked.file)) → count ≤ 0 → PrintFails (file_bytes now.marked.file) old.saved new.saved fault
+pub Sound-fails : (whole : Bool) (old new : RunState) (told told_after : Option SinkState) (now : Standing) (before : List Problem) (count : ℕ) (fault : Fault) → IsReportedRun old.file new.file old.script new.script old.printed new.printed told told_after now before → (old.stored ≡ true) ⊎ IsOnce fault
+    → kept_back whole now.refused ≡ 0 → count ≡ length (new_errors before (report_of now.marked.file)) → count ≤ 0 → SaveFails (file_bytes now.marked.file) old.saved new.saved fault
     → StopsChecked whole old new fault
 unfolding up_to_reports
-Sound-fails whole old new told told_after now before count fault reported all is none fails =
+Sound-fails whole old new told told_after now before count fault reported re all is none (inl fails) =
     subst (λ (f : Fault). StopsChecked whole old new f) (sym fails.0)
     (inr (inr (record {
       run = up_to_reports whole old new new.printed told told_after now before reported all;
@@ -167,7 +171,13 @@ Sound-fails whole old new told told_after now before count fault reported all is
       flushed = reported.run.answered.flush.flushed;
       saved = subst (λ (t : List ℕ). PrintsFront t old.saved new.saved) (left_bytes old new new.printed told told_after now reported.run) fails.1;
     })))
-
--- the report that a run begins with is in order
-pub reported-ordered : (file file_after script script_after : SourceState) (out out_after : SinkState) (told told_after : Option SinkState) (now : Standing) (before : List Problem) → IsReportedRun file file_after script script_after out out_after told told_after now before → AllPairs IsListedBefore before
-reported-ordered file file_after script script_after out out_after told told_after now before reported = rw reported.before_is (in_order reported.run.parts)
+Sound-fails whole old new told told_after now before count fault reported re all is none (inr fails) =
+    let here : SoundCopyFails whole old new = record {
+      run = up_to_reports whole old new new.printed told told_after now before reported all;
+      none = none-more before now.marked.file count is none;
+      printed = answered-printed old new new.printed told told_after now reported.run;
+      flushed = reported.run.answered.flush.flushed;
+      count = fails.1.0;
+      saved = subst (λ (t : List ℕ). Prints (take fails.1.0 t) old.saved new.saved) (left_bytes old new new.printed told told_after now reported.run) fails.1.1;
+    } in
+    subst (λ (f : Fault). StopsChecked whole old new f) (sym fails.0) (inr (again_stored old.stored fault fails.0 re, (refl, here)))

@@ -1,5 +1,5 @@
 -- A whole run of `edit`, from the bytes that were read to its end.
-use Rattle.std.proofs.Common.{◌≡◌, ◌⊎◌, ℕ, ◌<◌, ◌≤◌, List, [], ◌∷◌, ◌++◌, length, refl, ap, sym, subst, ◌∙◌, inl, inr, rules, arith, true, false, Result, Ok, Err, Option, None, Some}
+use Rattle.std.proofs.Common.{◌≡◌, ◌⊎◌, ℕ, ◌<◌, ◌≤◌, Bool, List, [], ◌∷◌, ◌++◌, length, take, refl, ap, sym, subst, ◌∙◌, inl, inr, rules, arith, true, false, Result, Ok, Err, Option, None, Some}
 use Rattle.std.specs.Prelude.{nat_le, if◌then◌else◌, IfSome}
 use Rattle.std.specs.Result.{OnOk, IfErr, IsErrAnd}
 use Rattle.std.proofs.lemmas.Result.{err_from_is_err_and}
@@ -16,16 +16,19 @@ use Rattle.fits_session.specs.declared.open_fault.OpenFault.TheVariants.{NotFits
 use Rattle.fits_session.specs.declared.read_fault.ReadFileFault.{ReadFileFault}
 use Rattle.fits_session.specs.declared.read_fault.ReadFileFault.TheVariants.{Open, Failed}
 use Rattle.fits_cli.specs.Answer.{Standing, at_first_line}
-use Rattle.fits_cli.specs.Ends.{RunState, AreAllRemarks, AreToldOf, AsksAs, AsksBy, EndsBy, FlushesOrFails, EndsWhole, Opens, HasLines, IsAsked, IsDoneWhole, IsRefused, IsUndone, Succeeds, AnswersFail, StopsBy}
+use Rattle.fits_cli.specs.Ends.{RunState, AreAllRemarks, AreToldOf, AsksAs, AsksBy, EndsAs, EndsBy, FlushesOrFails, EndsWhole, EndsWholeAs, Opens, HasLines, CopyingFails, IsAsked, IsDoneWhole, LacksPixels, IsRefused, IsUndone, Succeeds, AnswersFail, StopsBy}
 use Rattle.fits_cli.specs.Faults.{fault_of_file, status_of_fault, PrintFails}
 use Rattle.fits_cli.specs.declared.end.End.{End}
 use Rattle.fits_cli.specs.declared.limits.TheConstants.{SCRIPT_LIMIT}
 use Rattle.fits_cli.specs.Remark.{remarks, Remarks}
 use Rattle.fits_cli.specs.Output.{Output, answers, standing_after, status_of, output_unopened, output_of_lines, output_too_long, IsOutputOf}
-use Rattle.fits_cli.specs.Running.{Heard, heard, AnswersScript, AnswersTooLong, NeedsMemoryAt, ScriptReadFails, ScriptWriteFails, ScriptStops, FlushesThen, FlushesAnswers, IsAnsweredRun, IsFlushed}
+use Rattle.fits_cli.specs.Running.{Heard, heard, AnswersScript, AnswersTooLong, NeedsMemoryAt, ScriptLacksPixels, ScriptReadFails, ScriptWriteFails, ScriptStops, FlushesThen, FlushesAnswers, IsAnsweredRun, IsFlushed}
 use Rattle.fits_cli.specs.Script.{script_lines}
 use Rattle.fits_cli.specs.declared.fault.Fault.{Fault}
-use Rattle.fits_cli.specs.declared.fault.Fault.TheVariants.{Refused, ScriptTooLong, Memory, ReadFailed, WriteFailed}
+use Rattle.fits_cli.specs.declared.fault.Fault.TheVariants.{Refused, ScriptTooLong, Memory, ReadFailed, WriteFailed, Reread as RereadFault}
+use Rattle.fits_cli.specs.declared.reread.Reread.{Reread}
+use Rattle.fits_cli.specs.declared.reread.Reread.TheVariants as again
+use Rattle.fits_cli.specs.Faults.{IsOnce, SaveFails}
 use Rattle.fits_cli.proofs.LinesLemmas.{IsCutInLines-none}
 use Rattle.fits_cli.proofs.RunLemmas.{answers-append, answers-none}
 use Rattle.fits_stream.proofs.StreamLemmas.{Appends-kept, Prints-none, Prints-flushed, PrintsFront-unflushed, PrintsFront-longer}
@@ -283,6 +286,33 @@ StopsBy-write old new mid told told_after result fault parts is opened of_file s
       saved = saved;
     }))
 
+-- a run that wants data again, which it doesn't have
+StopsBy-pixels : (old new : RunState) (mid : SinkState) (told told_after : Option SinkState) (result : Result (Unit {0}) Fault) (why : Reread) (fault : Fault) (parts : FileParts) → result ≡ Err fault → old.stored ≡ true
+    → Opens old.file parts → StaysQuiet old.file new.file → new.saved ≡ old.saved
+    → ScriptLacksPixels old.script new.script (at_first_line parts) (heard old.printed told) (heard mid told_after) why → Ended result (RereadFault why) mid new.printed → StopsBy old new fault
+StopsBy-pixels old new mid told told_after result why fault parts is stored opened of_file saved lacks (inl flush) =
+    let at = lacks.at in
+    let here : LacksPixels old new = record {
+      read = record { of_file = of_file; of_script = lacks.quiet };
+      at = record {
+        parts = parts;
+        lines = at.done;
+        line = at.line;
+        others = at.others;
+        opened = opened;
+        reached = subst (λ (ls : List (List ℕ)). HasLines old.script new.script ls) at.split lacks.reached;
+        needs = at.needs;
+        printed = Prints-flushed old.printed mid new.printed (answers (at_first_line parts) at.done) at.said.printed flush.1;
+        flushed = flush.1.flushed;
+      };
+      saved = saved;
+    } in
+    subst (λ (f : Fault). StopsBy old new f) (same_fault result (RereadFault why) fault flush.0 is) (stored, (lacks.unchanged, inl here))
+StopsBy-pixels old new mid told told_after result why fault parts is stored opened of_file saved lacks (inr flush) =
+    let at = lacks.at in
+    subst (λ (f : Fault). StopsBy old new f) (same_fault result WriteFailed fault flush.0 is)
+    (inl (AnswersFail-flush old new mid parts at.done (at.line ∷ at.others) lacks.lines of_file lacks.quiet saved opened lacks.reached at.split at.said.printed flush.1))
+
 -- a flush that ends a run whose script was answered whole
 flush_fails : (result : Result (Unit {0}) Fault) (done : Unit {0}) (fault : Fault) (mid out : SinkState) → result ≡ Err fault → FlushesThen (Ok done) result mid out → (result ≡ Err WriteFailed) × FailsToFlush mid out
 flush_fails result done fault mid out is (inl flush) = absurd (no_fault result done fault flush.0 is)
@@ -290,17 +320,19 @@ flush_fails result done fault mid out is (inr flush) = flush
 
 -- a run that ends after its script, before saving
 pub StopsBy-script : (old new : RunState) (mid : SinkState) (told told_after : Option SinkState) (answered result : Result (Unit {0}) Fault) (fault : Fault) (parts : FileParts) (now : Standing) → result ≡ Err fault
-    → Opens old.file parts → StaysQuiet old.file new.file → new.saved ≡ old.saved
+    → Opens old.file parts → StaysQuiet old.file new.file → new.saved ≡ old.saved → (old.stored ≡ true) ⊎ IfErr answered IsOnce
     → OnOk answered (AnswersScript old.script new.script (at_first_line parts) now (heard old.printed told) (heard mid told_after))
     → IfErr answered (ScriptStops old.script new.script (at_first_line parts) (heard old.printed told) (heard mid told_after))
     → FlushesAnswers answered result mid new.printed → StopsBy old new fault
-StopsBy-script old new mid told told_after (Ok done) result fault parts now is opened of_file saved ok err flush =
+StopsBy-script old new mid told told_after (Ok done) result fault parts now is opened of_file saved re ok err flush =
     StopsBy-done old new mid told told_after result fault parts now is opened of_file saved ok (flush_fails result done fault mid new.printed is flush)
-StopsBy-script old new mid told told_after (Err (Refused why)) result fault parts now is opened of_file saved ok err flush = absurd err
-StopsBy-script old new mid told told_after (Err ScriptTooLong) result fault parts now is opened of_file saved ok err flush = StopsBy-too_long old new mid told told_after result fault parts is opened of_file saved err flush
-StopsBy-script old new mid told told_after (Err Memory) result fault parts now is opened of_file saved ok err flush = StopsBy-memory old new mid told told_after result fault parts is opened of_file saved err.quiet err.at flush
-StopsBy-script old new mid told told_after (Err ReadFailed) result fault parts now is opened of_file saved ok err flush = StopsBy-read old new mid told told_after result fault parts is opened of_file saved err flush
-StopsBy-script old new mid told told_after (Err WriteFailed) result fault parts now is opened of_file saved ok err flush = StopsBy-write old new mid told told_after result fault parts is opened of_file saved err flush
+StopsBy-script old new mid told told_after (Err (Refused why)) result fault parts now is opened of_file saved re ok err flush = absurd err
+StopsBy-script old new mid told told_after (Err ScriptTooLong) result fault parts now is opened of_file saved re ok err flush = StopsBy-too_long old new mid told told_after result fault parts is opened of_file saved err flush
+StopsBy-script old new mid told told_after (Err Memory) result fault parts now is opened of_file saved re ok err flush = StopsBy-memory old new mid told told_after result fault parts is opened of_file saved err.quiet err.at flush
+StopsBy-script old new mid told told_after (Err ReadFailed) result fault parts now is opened of_file saved re ok err flush = StopsBy-read old new mid told told_after result fault parts is opened of_file saved err flush
+StopsBy-script old new mid told told_after (Err WriteFailed) result fault parts now is opened of_file saved re ok err flush = StopsBy-write old new mid told told_after result fault parts is opened of_file saved err flush
+StopsBy-script old new mid told told_after (Err (RereadFault why)) result fault parts now is opened of_file saved re ok err flush =
+    elim re [ inl stored ↦ StopsBy-pixels old new mid told told_after result why fault parts is stored opened of_file saved err flush | inr once ↦ absurd once ]
 
 -- a fault that is passed on is that of a call
 pub fault_exit : {T : Type 0} (result : Result T Fault) (why : Fault) (P : Fault → Type 0) → IsErrAnd result (λ e. e ≡ why) → P why → IfErr result P
@@ -313,6 +345,10 @@ asks_exit old new result why is stops = let exit = err_from_is_err_and result is
 -- its fault has its status
 pub asks_fault : (old new : RunState) (end : End) (fault : Fault) → (end.status ≡ status_of_fault fault) × (end.fault ≡ Some fault) → StopsBy old new fault → AsksAs old new end
 asks_fault old new end fault is stops = rw is.1 (stops, is.0)
+
+-- of a run that saves it too
+pub ends_fault : (old new : RunState) (end : End) (fault : Fault) → (end.status ≡ status_of_fault fault) × (end.fault ≡ Some fault) → StopsBy old new fault → EndsAs old new end
+ends_fault old new end fault is stops = rw is.1 (stops, is.0)
 
 -- a fault that is passed on ends a run
 pub ends_exit : (old new : RunState) (result : Result ℕ Fault) (why : Fault) → IsErrAnd result (λ e. e ≡ why) → StopsBy old new why → EndsBy old new result
@@ -329,6 +365,8 @@ flushed_done old new parts now held mid holds told told_after (Err ScriptTooLong
 flushed_done old new parts now held mid holds told told_after (Err ScriptTooLong) result done is ok (inr flush) = absurd (no_fault result done WriteFailed is flush.0)
 flushed_done old new parts now held mid holds told told_after (Err Memory) result done is ok (inl flush) = absurd (no_fault result done Memory is flush.0)
 flushed_done old new parts now held mid holds told told_after (Err Memory) result done is ok (inr flush) = absurd (no_fault result done WriteFailed is flush.0)
+flushed_done old new parts now held mid holds told told_after (Err (RereadFault why)) result done is ok (inl flush) = absurd (no_fault result done (RereadFault why) is flush.0)
+flushed_done old new parts now held mid holds told told_after (Err (RereadFault why)) result done is ok (inr flush) = absurd (no_fault result done WriteFailed is flush.0)
 flushed_done old new parts now held mid holds told told_after (Err ReadFailed) result done is ok flush = absurd (no_fault result done ReadFailed is flush.0)
 flushed_done old new parts now held mid holds told told_after (Err WriteFailed) result done is ok flush = absurd (no_fault result done WriteFailed is flush.0)
 
@@ -337,10 +375,19 @@ left_file : (parts : FileParts) (now : Standing) (lines : List (List ℕ)) → n
     → file_bytes now.marked.file ≡ file_bytes (standing_after (at_first_line parts) lines).marked.file
 left_file parts now lines left = ap (λ (s : Standing). file_bytes s.marked.file) left
 
+-- a failed read is no change
+pub failed_unchanged : again.Failed ≡ again.Changed → ⊥
+failed_unchanged same = cc
+
+-- data are read again where the file is stored alone
+pub again_stored : (stored : Bool) (fault : Fault) → fault ≡ RereadFault again.Failed → (stored ≡ true) ⊎ IsOnce fault → stored ≡ true
+again_stored stored fault is (inl there) = there
+again_stored stored fault is (inr once) = absurd (subst IsOnce is once)
+
 -- a run whose file can't be saved
-pub StopsBy-saving : (old new : RunState) (fault : Fault) (parts : FileParts) (now : Standing) (told told_after : Option SinkState) → Opens old.file parts → StaysQuiet old.file new.file
-    → IsFlushed old.script new.script parts now old.printed new.printed told told_after → PrintFails (file_bytes now.marked.file) old.saved new.saved fault → StopsBy old new fault
-StopsBy-saving old new fault parts now told told_after opened of_file flushed fails =
+pub StopsBy-saving : (old new : RunState) (fault : Fault) (parts : FileParts) (now : Standing) (told told_after : Option SinkState) → Opens old.file parts → StaysQuiet old.file new.file → (old.stored ≡ true) ⊎ IsOnce fault
+    → IsFlushed old.script new.script parts now old.printed new.printed told told_after → SaveFails (file_bytes now.marked.file) old.saved new.saved fault → StopsBy old new fault
+StopsBy-saving old new fault parts now told told_after opened of_file re flushed (inl fails) =
     let done = flushed.script in
     let lines : List (List ℕ) = script_lines done.lines done.last in
     subst (λ (f : Fault). StopsBy old new f) (sym fails.0)
@@ -357,6 +404,24 @@ StopsBy-saving old new fault parts now told told_after opened of_file flushed fa
       flushed = flushed.flush.flushed;
       saved = subst (λ (t : List ℕ). PrintsFront t old.saved new.saved) (left_file parts now lines done.answered.left) fails.1;
     }))
+StopsBy-saving old new fault parts now told told_after opened of_file re flushed (inr fails) =
+    let done = flushed.script in
+    let lines : List (List ℕ) = script_lines done.lines done.last in
+    let here : CopyingFails old new = record {
+      read = record { of_file = of_file; of_script = done.read.quiet };
+      file = opened.0;
+      script = done.script;
+      output = output_of_lines parts lines;
+      told_file = opened.1;
+      told_script = script_told old.script new.script done.script done.read done.ended;
+      is = output_whole old.script new.script old.file parts now (heard old.printed told) (heard flushed.mid told_after) opened done;
+      whole = refl;
+      printed = Prints-flushed old.printed flushed.mid new.printed (answers (at_first_line parts) lines) done.answered.said.printed flushed.flush;
+      flushed = flushed.flush.flushed;
+      count = fails.1.0;
+      saved = subst (λ (t : List ℕ). Prints (take fails.1.0 t) old.saved new.saved) (left_file parts now lines done.answered.left) fails.1.1;
+    } in
+    subst (λ (f : Fault). StopsBy old new f) (sym fails.0) (again_stored old.stored fault fails.0 re, (failed_unchanged, inr (refl, here)))
 
 -- a run to its end
 pub Succeeds-saved : (old new : RunState) (parts : FileParts) (now : Standing) (told told_after : Option SinkState) → Opens old.file parts → StaysQuiet old.file new.file
@@ -427,6 +492,10 @@ Whole-saved old new now told told_after run saved flushed none = record {
 pub whole_exit : (old new : RunState) (result : Result (ℕ × ℕ) Fault) (why : Fault) → IsErrAnd result (λ e. e ≡ why) → StopsBy old new why → EndsWhole old new result
 whole_exit old new result why is stops = let exit = err_from_is_err_and result is in rw (exit.1, exit.2) stops
 
+-- its fault has its status
+pub whole_fault : (old new : RunState) (end : End) (undone : ℕ) (fault : Fault) → (end.status ≡ status_of_fault fault) × (end.fault ≡ Some fault) × (undone ≡ 0) → StopsBy old new fault → EndsWholeAs old new end undone
+whole_fault old new end undone fault is stops = rw is.1 (stops, is.0, is.2)
+
 -- remarks on the first of the lines that were reached
 AreToldOf-first : (file old new : SourceState) (told told_after : Option SinkState) (parts : FileParts) (all lines others : List (List ℕ)) → Opens file parts → HasLines old new all → all ≡ lines ++ others
     → Remarks (remarks (at_first_line parts) lines) told told_after → AreToldOf file old new told told_after
@@ -456,6 +525,8 @@ AreToldOf-script file old new held mid told told_after (Err Memory) parts now op
       | inl none ↦ inl (ap (λ (h : Heard). h.told) none.1)
       | inr some ↦ AreToldOf-first file old new told told_after parts some.0 some.2.done (some.2.line ∷ some.2.others) opened some.1 some.2.split some.2.said.told
     ]
+AreToldOf-script file old new held mid told told_after (Err (RereadFault why)) parts now opened ok err =
+    AreToldOf-first file old new told told_after parts err.lines err.at.done (err.at.line ∷ err.at.others) opened err.reached err.at.split err.at.said.told
 AreToldOf-script file old new held mid told told_after (Err ReadFailed) parts now opened ok err =
     AreToldOf-all file old new told told_after parts err.lines opened (record { whole = err.lines; last = err.last; reached = err.reached; are = inl refl }) err.said.told
 AreToldOf-script file old new held mid told told_after (Err WriteFailed) parts now opened ok err =

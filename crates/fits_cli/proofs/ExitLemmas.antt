@@ -1,5 +1,6 @@
 -- What a function returns where it passes a fault on.
-use Rattle.std.proofs.Common.{◌≡◌, ℕ, List, Result, Ok, Err}
+use Rattle.std.proofs.Common.{◌≡◌, ◌⊎◌, ℕ, Bool, List, Result, Ok, Err, false, inl, inr, refl, true}
+use Rattle.std.specs.Prelude.{not}
 use Rattle.std.specs.Result.{IfErr, IsErrAnd, OnOk}
 use Rattle.std.proofs.lemmas.Result.{err_from_is_err_and}
 use Rattle.fits_cli.specs.Faults.{PrintFails}
@@ -30,3 +31,8 @@ last_err (Err e) p f = f e p
 pub print_last : {T : Type 0} (r : Result T Fault) (text whole : List ℕ) (a b c : SinkState) → IfErr r (PrintFails text b c) → (PrintsFront text b c → PrintsFront whole a c) → IfErr r (PrintFails whole a c)
 print_last (Ok x) text whole a b c failed f = failed
 print_last (Err why) text whole a b c failed f = (failed.0, f failed.1)
+
+-- what holds where all data are in memory holds, or they aren't
+pub once_or : (whole : Bool) (P : Type 0) → (whole ≡ true → P) → (not whole ≡ true) ⊎ P
+once_or true P p = inr (p refl)
+once_or false P p = inl refl

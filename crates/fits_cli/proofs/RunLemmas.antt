@@ -2,17 +2,24 @@
 use Rattle.std.proofs.Common.{◌≡◌, ℕ, zero, suc, ◌+◌, ◌<◌, List, [], ◌∷◌, ◌++◌, length, take, refl, ap, sym, ◌∙◌, append_assoc, arith, inl, inr, Some}
 use Rattle.std.proofs.lemmas.Bool.{cases_lt}
 use Rattle.std.proofs.lemmas.List.{append-nil, take_all, take-append-le, length-take-le}
-use Rattle.fits_cli.specs.Answer.{Standing, line_answer, line_left}
+use Rattle.fits_cli.specs.Answer.{Standing, line_answer, line_left, CommandWantsPixels, WantsPixels}
 use Rattle.fits_script.specs.declared.limits.TheConstants.{LINE_LIMIT}
 use Rattle.fits_script.specs.Line.{reading_of}
 use Rattle.fits_script.specs.declared.line_reading.LineReading.TheVariants.{TooLong}
 use Rattle.fits_cli.specs.declared.remark.Remark.TheVariants as remark
 use Rattle.fits_cli.specs.Output.{answers, standing_after}
 use Rattle.fits_cli.specs.Remark.{line_remark, remark_line, remark_on, remarks}
-use Rattle.fits_cli.specs.Running.{Heard, AnswersLine, AnswersLines, LineStops, LinesStop, HasCome, HasStopped, Continues, PieceStops, EndsScript, EndStops, kept_of}
+use Rattle.fits_cli.specs.Running.{Heard, AnswersLine, AnswersLines, LacksReply, LineStops, LinesStop, HasCome, HasStopped, Continues, PieceStops, EndsScript, EndStops, kept_of}
 use Rattle.fits_cli.specs.Script.{HasNoLineFeed, script_lines}
 use Rattle.fits_cli.specs.declared.fault.Fault.{Fault}
-use Rattle.fits_cli.specs.declared.fault.Fault.TheVariants.{Refused, ScriptTooLong, Memory, ReadFailed, WriteFailed}
+use Rattle.fits_cli.specs.declared.fault.Fault.TheVariants.{Refused, ScriptTooLong, Memory, ReadFailed, WriteFailed, Reread as RereadFault}
+use Rattle.fits_cli.specs.declared.reread.Reread.{Reread}
+use Rattle.fits_cli.specs.Faults.{fault_of_load, reread_of, IsUnchanged}
+use Rattle.fits_plane.specs.declared.again.LoadFault.{LoadFault}
+use Rattle.fits_plane.specs.declared.again.LoadFault.TheVariants as load
+use Rattle.fits_session.specs.Marked.{Marked}
+use Rattle.fits_script.specs.declared.command.Command.{Command}
+use Rattle.fits_script.specs.declared.line_reading.LineReading.TheVariants.{Said}
 use Rattle.fits_cli.proofs.LinesLemmas.{IsCutInLines-none, IsCutInLines-open, IsCutInLines-line, IsCutInLines-append, a_cut}
 use Rattle.fits_cli.proofs.ReadingLemmas.{kept_of-short, reading_of-kept_of, reading_of-long}
 use Rattle.fits_cli.proofs.RemarkLemmas.{Says-none, Says-more, Says-text, Remarks-same}
@@ -152,6 +159,27 @@ LineStops-kept kept line before held holds ScriptTooLong is stops = stops
 LineStops-kept kept line before held holds Memory is stops = (rw (← (ap reading_of is ∙ reading_of-kept_of line)) stops.0, stops.1)
 LineStops-kept kept line before held holds ReadFailed is stops = stops
 LineStops-kept kept line before held holds WriteFailed is stops = (rw (← (ap reading_of is ∙ reading_of-kept_of line)) stops.0, stops.1)
+LineStops-kept kept line before held holds (RereadFault why) is stops = (stops.0, (rw (← (ap reading_of is ∙ reading_of-kept_of line)) stops.1.0, stops.1.1))
+
+-- what data weren't had again for is no change
+unchanged_of : (why : LoadFault) → (why ≡ load.Changed → ⊥) → IsUnchanged (reread_of why)
+unchanged_of load.Memory same e = cc
+unchanged_of load.Failed same e = cc
+unchanged_of load.Changed same e = same refl
+
+-- data that a line wants aren't had again
+pub lacks_pixels : (it : Marked) (line : List ℕ) (command : Command) (why : LoadFault) → Said command ≡ reading_of line → CommandWantsPixels command → (why ≡ load.Changed → ⊥) → LacksReply it (reading_of line) (fault_of_load why)
+unfolding WantsPixels
+lacks_pixels it line command why is wants same = (unchanged_of why same, rw (← is) wants)
+
+-- a line that has no answer isn't answered
+pub LineStops-reply : (line : List ℕ) (before : Standing) (held : Heard) (fault : Fault) → LacksReply before.marked (reading_of line) fault → LineStops line before held held fault
+LineStops-reply line before held (Refused why) lacks = absurd lacks
+LineStops-reply line before held ScriptTooLong lacks = absurd lacks
+LineStops-reply line before held Memory lacks = (lacks, refl)
+LineStops-reply line before held ReadFailed lacks = absurd lacks
+LineStops-reply line before held WriteFailed lacks = absurd lacks
+LineStops-reply line before held (RereadFault why) lacks = (lacks.0, (lacks.1, refl))
 
 -- a line feed, and the line before it is answered
 HasCome-line : (script kept : List ℕ) (before now next : Standing) (held holds more : Heard)
@@ -179,6 +207,10 @@ LinesStop-line lines others line before now held holds more Memory so_far stops 
   said = rw stops.1 so_far.said;
 }
 LinesStop-line lines others line before now held holds more ReadFailed so_far stops = stops
+LinesStop-line lines others line before now held holds more (RereadFault why) so_far stops = (
+  stops.0,
+  record { done = lines; line = line; others = others; split = refl; needs = rw (← so_far.left) stops.1.0; said = rw stops.1.1 so_far.said },
+)
 LinesStop-line lines others line before now held holds more WriteFailed so_far stops =
     let split : (lines ++ line ∷ []) ++ others ≡ lines ++ line ∷ others = append_assoc lines (line ∷ []) others in
     let all : answers before (lines ++ line ∷ others) ≡ (answers before lines ++ line_answer now (reading_of line)) ++ answers (standing_after before (lines ++ line ∷ [])) others =

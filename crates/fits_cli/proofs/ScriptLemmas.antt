@@ -13,7 +13,8 @@ use Rattle.fits_cli.specs.Script.{IsCutInLines, script_lines}
 use Rattle.fits_cli.specs.Faults.{FlushFails}
 use Rattle.fits_stream.specs.Stream.{SourceState, SinkState, FailsToRead, Flushes, Reads}
 use Rattle.fits_cli.specs.declared.fault.Fault.{Fault}
-use Rattle.fits_cli.specs.declared.fault.Fault.TheVariants.{Refused, ScriptTooLong, Memory, ReadFailed, WriteFailed}
+use Rattle.fits_cli.specs.declared.fault.Fault.TheVariants.{Refused, ScriptTooLong, Memory, ReadFailed, WriteFailed, Reread as RereadFault}
+use Rattle.fits_cli.specs.declared.reread.Reread.{Reread}
 
 -- bytes within a limit are all taken
 within_limit : (limit : ℕ) (bytes : List ℕ) → length bytes ≤ limit → take limit bytes ≡ bytes
@@ -52,6 +53,7 @@ ScriptStops-lines old new lines before held holds ScriptTooLong has quiet stops 
 ScriptStops-lines old new lines before held holds Memory has quiet stops = record { quiet = quiet; at = inr (lines, has, stops) }
 ScriptStops-lines old new lines before held holds ReadFailed has quiet stops = absurd stops
 ScriptStops-lines old new lines before held holds WriteFailed has quiet stops = record { quiet = quiet; lines = lines; reached = has; front = stops }
+ScriptStops-lines old new lines before held holds (RereadFault why) has quiet stops = record { unchanged = stops.0; quiet = quiet; lines = lines; reached = has; at = stops.1 }
 
 -- lines that came aren't all answered
 ScriptStops-came : (old new : SourceState) (came text : List ℕ) (before : Standing) (held holds : Heard) (fault : Fault)

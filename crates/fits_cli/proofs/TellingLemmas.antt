@@ -10,7 +10,7 @@ use Rattle.fits_cli.specs.Listing.{outlined_lines}
 use Rattle.fits_stream.specs.Stream.{SourceState, SinkState, Flushes, Prints, StaysQuiet}
 use Rattle.fits_cli.specs.Telling.{text_of, PrintingStops, TextIsPrinted, TextIsTold, TextStopsBy}
 use Rattle.fits_cli.specs.declared.fault.Fault.{Fault}
-use Rattle.fits_cli.specs.declared.fault.Fault.TheVariants.{Refused, ScriptTooLong, Memory, ReadFailed, WriteFailed}
+use Rattle.fits_cli.specs.declared.fault.Fault.TheVariants.{Refused, ScriptTooLong, Memory, ReadFailed, WriteFailed, Reread as RereadFault}
 use Rattle.fits_cli.specs.declared.telling.Telling.{Telling}
 use Rattle.fits_cli.specs.declared.telling.Telling.TheVariants as telling
 use Rattle.fits_cli.proofs.ListingLemmas.{listing-outlined}
@@ -23,6 +23,7 @@ TextStopsBy-printing kind file file_after out out_after parts (Refused why) open
 TextStopsBy-printing kind file file_after out out_after parts ScriptTooLong opened read stops = absurd stops
 TextStopsBy-printing kind file file_after out out_after parts Memory opened read stops = record { read = read; quiet = stops.1; printed = inr (parts, opened, stops.0) }
 TextStopsBy-printing kind file file_after out out_after parts ReadFailed opened read stops = absurd stops
+TextStopsBy-printing kind file file_after out out_after parts (RereadFault why) opened read stops = absurd stops
 TextStopsBy-printing kind file file_after out out_after parts WriteFailed opened read stops = record { parts = parts; opened = opened; read = read; printed = stops }
 
 -- a text that can't be flushed

@@ -12,7 +12,7 @@ use Rattle.fits_cli.specs.Report.{closing_line, report_text, status_of_report}
 use Rattle.fits_stream.specs.Stream.{SourceState, SinkState, Prints, StaysQuiet}
 use Rattle.fits_cli.specs.Telling.{PrintingStops, TextIsTold, TextStopsBy}
 use Rattle.fits_cli.specs.declared.fault.Fault.{Fault}
-use Rattle.fits_cli.specs.declared.fault.Fault.TheVariants.{Refused, ScriptTooLong, Memory, ReadFailed, WriteFailed}
+use Rattle.fits_cli.specs.declared.fault.Fault.TheVariants.{Refused, ScriptTooLong, Memory, ReadFailed, WriteFailed, Reread as RereadFault}
 use Rattle.fits_cli.specs.declared.level.Level.{Level}
 use Rattle.fits_cli.specs.declared.telling.Telling.TheVariants as telling
 use Rattle.fits_cli.proofs.ReportLemmas.{lines-more, lines-split}
@@ -33,6 +33,7 @@ PrintingStops-longer a b xs ys (Refused why) stops = absurd stops
 PrintingStops-longer a b xs ys ScriptTooLong stops = absurd stops
 PrintingStops-longer a b xs ys Memory stops = (AppendsFront-longer a.contents b.contents xs ys stops.0, stops.1)
 PrintingStops-longer a b xs ys ReadFailed stops = absurd stops
+PrintingStops-longer a b xs ys (RereadFault why) stops = absurd stops
 PrintingStops-longer a b xs ys WriteFailed stops = PrintsFront-longer a b xs ys stops
 
 -- what stops a text stops it after another
@@ -41,6 +42,7 @@ PrintingStops-more a b c xs ys (Refused why) front stops = absurd stops
 PrintingStops-more a b c xs ys ScriptTooLong front stops = absurd stops
 PrintingStops-more a b c xs ys Memory front stops = (AppendsFront-more a.contents b.contents c.contents xs ys front.bytes stops.0, stops.1 ∙ front.quiet)
 PrintingStops-more a b c xs ys ReadFailed front stops = absurd stops
+PrintingStops-more a b c xs ys (RereadFault why) front stops = absurd stops
 PrintingStops-more a b c xs ys WriteFailed front stops = PrintsFront-more a b c xs ys front stops
 
 -- a report whose problems have these lines

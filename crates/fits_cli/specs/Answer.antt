@@ -8,6 +8,8 @@ use Rattle.fits_session.specs.Marked.{Marked, is_stamped_after, kept_in, marked_
 use Rattle.fits_session.specs.Query.{datasum_in, positions_in, rect_in, stats_in, value_in, verdicts_in}
 use Rattle.fits_session.specs.Report.{report_of}
 use Rattle.fits_session.specs.Refusal.{refusal_text, EditNeedsMemory}
+use Rattle.fits_session.specs.Session.{HasStats, IsHeld, IsReadyFor, IsSoOf, NeedsPixels}
+use Rattle.fits_hdu.specs.State.{HduState}
 use Rattle.fits_session.specs.declared.offsets.HduOffsets.{HduOffsets}
 use Rattle.fits_session.specs.declared.refusal.Refusal.{Refusal}
 use Rattle.fits_session.specs.declared.refusal.Refusal.TheVariants.{NoKey, Memory}
@@ -148,6 +150,25 @@ unfoldable pub line_left : Standing → LineReading → Standing
 line_left standing TooLong = after_refused standing
 line_left standing NoCommand = after_refused standing
 line_left standing (Said command) = after_outcome standing (outcome_of standing.marked command)
+
+-- a command may want data that had passed by
+unfoldable pub CommandWantsPixels : Command → Type 0
+CommandWantsPixels (Edit edit) = NeedsPixels edit
+CommandWantsPixels (Statistics hdu) = Unit {0}
+CommandWantsPixels (Rectangle hdu lo hi) = Unit {0}
+CommandWantsPixels command = ⊥
+
+-- then they are in memory, or known
+unfoldable pub IsReady : Command → List HduState → Type 0
+IsReady (Edit edit) hdus = IsReadyFor edit hdus
+IsReady (Statistics hdu) hdus = IsSoOf HasStats hdu hdus
+IsReady (Rectangle hdu lo hi) hdus = IsSoOf IsHeld hdu hdus
+IsReady command hdus = Unit {0}
+
+-- a line may want them
+unfoldable pub WantsPixels : Marked → LineReading → Type 0
+WantsPixels it (Said command) = CommandWantsPixels command
+WantsPixels it reading = ⊥
 
 -- memory may run out at a line: in reading it, or on the way to its outcome
 unfoldable pub LineNeedsMemory : Marked → LineReading → Type 0

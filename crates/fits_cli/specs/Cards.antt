@@ -15,7 +15,7 @@ use Rattle.fits_cli.specs.declared.card_choice.CardChoice.{CardChoice}
 use Rattle.fits_cli.specs.declared.card_place.CardPlace.{CardPlace}
 use Rattle.fits_cli.specs.declared.end.End.{End}
 use Rattle.fits_cli.specs.declared.fault.Fault.{Fault}
-use Rattle.fits_cli.specs.declared.fault.Fault.TheVariants.{Refused, ScriptTooLong, Memory, ReadFailed, WriteFailed}
+use Rattle.fits_cli.specs.declared.fault.Fault.TheVariants.{Refused, ScriptTooLong, Memory, ReadFailed, WriteFailed, Reread as RereadFault}
 use Rattle.fits_cli.specs.declared.name_pattern.NamePattern.{NamePattern}
 use Rattle.fits_cli.specs.declared.shown_card.ShownCard.{ShownCard}
 
@@ -139,6 +139,7 @@ CardsStop choice file file_after out out_after ScriptTooLong = ⊥
 CardsStop choice file file_after out out_after Memory = CardsNeedMemory choice file file_after out out_after
 CardsStop choice file file_after out out_after ReadFailed = FailsOnce file file_after × (out_after ≡ out)
 CardsStop choice file file_after out out_after WriteFailed = CardsFail choice file file_after out out_after
+CardsStop choice file file_after out out_after (RereadFault why) = ⊥
 
 -- the run ended by a fault: no card is told
 pub record CardsStopped (choice : CardChoice) (file file_after : SourceState) (out out_after : SinkState) (end : End) (changed : List CardPlace) : Type 0 where

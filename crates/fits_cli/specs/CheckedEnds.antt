@@ -1,5 +1,5 @@
 -- How a run of `edit -c` ends: nothing is saved where the result has more errors of some code than the file (own).
-use Rattle.std.specs.Prelude.{◌≡◌, ◌⊎◌, ℕ, ◌<◌, Bool, List, ◌++◌, length, Option, None, Result, Ok, Err, MatchOption, if◌then◌else◌}
+use Rattle.std.specs.Prelude.{◌≡◌, ◌⊎◌, ℕ, ◌<◌, Bool, true, List, ◌++◌, length, take, Option, None, Result, Ok, Err, MatchOption, if◌then◌else◌}
 use Rattle.fits_stream.specs.Intake.{Tells}
 use Rattle.fits_stream.specs.Stream.{SourceState, SinkState, Prints, PrintsFront}
 use Rattle.fits_session.specs.Report.{report_of, IsReportOf}
@@ -12,7 +12,8 @@ use Rattle.fits_cli.specs.Output.{Output, IsOutputOf}
 use Rattle.fits_cli.specs.Running.{IsAnsweredRun}
 use Rattle.fits_cli.specs.declared.end.End.{End}
 use Rattle.fits_cli.specs.declared.fault.Fault.{Fault}
-use Rattle.fits_cli.specs.declared.fault.Fault.TheVariants.{Refused, ScriptTooLong, Memory, ReadFailed, WriteFailed}
+use Rattle.fits_cli.specs.declared.fault.Fault.TheVariants.{Refused, ScriptTooLong, Memory, ReadFailed, WriteFailed, Reread as RereadFault}
+use Rattle.fits_cli.specs.declared.reread.Reread.TheVariants as again
 
 -- how many lines that weren't done keep a result from being saved: all of them where every line is to be done, else none
 abbrev pub kept_back : Bool → ℕ → ℕ
@@ -93,6 +94,15 @@ pub record SoundFails (whole : Bool) (old new : RunState) : Type 0 where
   pub flushed : new.printed.unflushed ≡ 0
   pub saved : PrintsFront run.output.saved old.saved new.saved
 
+-- a read of data that are copied failed: no error is new, all answers are flushed, and a prefix of the file stands
+pub record SoundCopyFails (whole : Bool) (old new : RunState) : Type 0 where
+  pub run : IsUpToReports whole old new
+  pub none : HasMoreErrors run.before run.after → ⊥
+  pub printed : Prints run.output.text old.printed new.printed
+  pub flushed : new.printed.unflushed ≡ 0
+  pub count : ℕ
+  pub saved : Prints (take count run.output.saved) old.saved new.saved
+
 -- what stands before a fault that comes after the script
 abbrev pub StopsLate : Bool → RunState → RunState → Fault → Type 0
 StopsLate whole old new (Refused why) = ⊥
@@ -100,6 +110,7 @@ StopsLate whole old new ScriptTooLong = ⊥
 StopsLate whole old new Memory = LacksReport whole old new
 StopsLate whole old new ReadFailed = ⊥
 StopsLate whole old new WriteFailed = NewErrorsFail whole old new ⊎ SoundFails whole old new
+StopsLate whole old new (RereadFault why) = (old.stored ≡ true) × ((why ≡ again.Failed) × SoundCopyFails whole old new)
 
 -- what stands before a fault: until the script is answered what stands before one of `edit`, where memory may be refused for the
 -- report of the file too, before the first line; and nothing is saved

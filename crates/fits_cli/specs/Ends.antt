@@ -1,11 +1,11 @@
 -- How a run of `edit` ends: what was printed and saved, and what stood before a fault (own).
-use Rattle.std.specs.Prelude.{◌≡◌, ◌⊎◌, ℕ, ◌+◌, ◌<◌, ◌≤◌, List, [], ◌∷◌, ◌++◌, length, take, Option, Some, None, Result, Ok, Err, MatchOption}
+use Rattle.std.specs.Prelude.{◌≡◌, ◌⊎◌, ℕ, ◌+◌, ◌<◌, ◌≤◌, Bool, false, true, List, [], ◌∷◌, ◌++◌, length, take, Option, Some, None, Result, Ok, Err, MatchOption}
 use Rattle.std.specs.Io.KnownBytes.{Appends, Consumes, IsAtEnd}
 use Rattle.fits_stream.specs.Intake.{Gives, Tells}
 use Rattle.fits_stream.specs.Stream.{SourceState, SinkState, FailsOnce, Prints, PrintsFront, StaysQuiet}
 use Rattle.fits_session.specs.File.{FileParts, IsFileOf}
-use Rattle.fits_cli.specs.Answer.{at_first_line, LineNeedsMemory}
-use Rattle.fits_cli.specs.Faults.{status_of_fault}
+use Rattle.fits_cli.specs.Answer.{at_first_line, LineNeedsMemory, WantsPixels}
+use Rattle.fits_cli.specs.Faults.{status_of_fault, IsUnchanged}
 use Rattle.fits_cli.specs.declared.limits.TheConstants.{SCRIPT_LIMIT}
 use Rattle.fits_script.specs.Line.{reading_of}
 use Rattle.fits_cli.specs.Output.{answers, standing_after, Output, IsOutputOf}
@@ -13,18 +13,27 @@ use Rattle.fits_cli.specs.Remark.{remarks, Remarks}
 use Rattle.fits_cli.specs.Script.{IsCutInLines, script_lines}
 use Rattle.fits_cli.specs.declared.end.End.{End}
 use Rattle.fits_cli.specs.declared.fault.Fault.{Fault}
-use Rattle.fits_cli.specs.declared.fault.Fault.TheVariants.{Refused, ScriptTooLong, Memory, ReadFailed, WriteFailed}
+use Rattle.fits_cli.specs.declared.fault.Fault.TheVariants.{Refused, ScriptTooLong, Memory, ReadFailed, WriteFailed, Reread as RereadFault}
+use Rattle.fits_cli.specs.declared.reread.Reread.{Reread}
+use Rattle.fits_cli.specs.declared.reread.Reread.TheVariants as again
+use Rattle.fits_session.specs.Marked.{Marked}
+use Rattle.fits_script.specs.declared.line_reading.LineReading.{LineReading}
 
--- the four streams of a run
+-- the four streams of a run, and whether the file is read again where its data are wanted
 pub record RunState : Type 0 where
+  pub stored : Bool
   pub file : SourceState
   pub script : SourceState
   pub printed : SinkState
   pub saved : SinkState
 
+-- four streams, of which the file is read again or not
+abbrev pub run_by : Bool → SourceState → SourceState → SinkState → SinkState → RunState
+run_by stored file script printed saved = record { stored = stored; file = file; script = script; printed = printed; saved = saved }
+
 -- four streams
 abbrev pub run : SourceState → SourceState → SinkState → SinkState → RunState
-run file script printed saved = record { file = file; script = script; printed = printed; saved = saved }
+run file script printed saved = run_by false file script printed saved
 
 -- both sources were read without a failed call
 pub record ReadsWell (old new : RunState) : Type 0 where
@@ -34,6 +43,14 @@ pub record ReadsWell (old new : RunState) : Type 0 where
 -- the file's bytes are these parts
 abbrev pub Opens : SourceState → FileParts → Type 0
 Opens old parts = Gives old (λ bytes. IsFileOf bytes parts)
+
+-- this is so of each file with these parts, before and after it was read without a failed call
+abbrev pub OverFile : FileParts → (SourceState → SourceState → Type 0) → Type 0
+OverFile parts Is = (file after : SourceState) → Opens file parts → StaysQuiet file after → Is file after
+
+-- a stored file, before it is read
+abbrev pub unread : Option (List ℕ) → SourceState
+unread told = record { remaining = told; failures = 0 }
 
 -- what was read of a script, as far as its limit, and the whole lines of that
 pub record CameTo (old new : SourceState) (lines : List (List ℕ)) (last : List ℕ) : Type 0 where
@@ -81,22 +98,22 @@ pub record IsTooLong (old new : RunState) : Type 0 where
   pub printed : new.printed.unflushed ≡ 0
   pub saved : new.saved ≡ old.saved
 
--- memory was refused at a line that may need it: the answers to the lines before it are flushed
-pub record StopsAtLine (old new : RunState) : Type 0 where
+-- a run stops at a line that needs this: the answers to the lines before it are flushed
+pub record StopsAtLine (Needs : Marked → LineReading → Type 0) (old new : RunState) : Type 0 where
   pub parts : FileParts
   pub lines : List (List ℕ)
   pub line : List ℕ
   pub others : List (List ℕ)
   pub opened : Opens old.file parts
   pub reached : HasLines old.script new.script (lines ++ line ∷ others)
-  pub needs : LineNeedsMemory (standing_after (at_first_line parts) lines).marked (reading_of line)
+  pub needs : Needs (standing_after (at_first_line parts) lines).marked (reading_of line)
   pub printed : Prints (answers (at_first_line parts) lines) old.printed new.printed
   pub flushed : new.printed.unflushed ≡ 0
 
 -- memory was refused: on the way to the first line, so that nothing is printed, or at a line; nothing is saved
 pub record IsOutOfMemory (old new : RunState) : Type 0 where
   pub read : ReadsWell old new
-  pub printed : (new.script ≡ old.script × Prints [] old.printed new.printed) ⊎ StopsAtLine old new
+  pub printed : (new.script ≡ old.script × Prints [] old.printed new.printed) ⊎ StopsAtLine LineNeedsMemory old new
   pub saved : new.saved ≡ old.saved
 
 -- a read of the file failed: no other stream was touched
@@ -150,6 +167,27 @@ pub record SavingFails (old new : RunState) : Type 0 where
   pub flushed : new.printed.unflushed ≡ 0
   pub saved : PrintsFront output.saved old.saved new.saved
 
+-- data that a line wants aren't had again: nothing is saved
+pub record LacksPixels (old new : RunState) : Type 0 where
+  pub read : ReadsWell old new
+  pub at : StopsAtLine WantsPixels old new
+  pub saved : new.saved ≡ old.saved
+
+-- a read of data that are copied failed: all answers are flushed, and a prefix of the file stands
+pub record CopyingFails (old new : RunState) : Type 0 where
+  pub read : ReadsWell old new
+  pub file : List ℕ
+  pub script : List ℕ
+  pub output : Output
+  pub told_file : Tells old.file file
+  pub told_script : Tells old.script script
+  pub is : IsOutputOf file script output
+  pub whole : output.fault ≡ None
+  pub printed : Prints output.text old.printed new.printed
+  pub flushed : new.printed.unflushed ≡ 0
+  pub count : ℕ
+  pub saved : Prints (take count output.saved) old.saved new.saved
+
 -- what stands before a fault that ends a run
 abbrev pub StopsBy : RunState → RunState → Fault → Type 0
 StopsBy old new (Refused why) = IsRefused old new (Refused why)
@@ -157,6 +195,7 @@ StopsBy old new ScriptTooLong = IsTooLong old new
 StopsBy old new Memory = IsOutOfMemory old new
 StopsBy old new ReadFailed = FileFails old new ⊎ ScriptFails old new
 StopsBy old new WriteFailed = AnswersFail old new ⊎ SavingFails old new
+StopsBy old new (RereadFault why) = (old.stored ≡ true) × (IsUnchanged why × (LacksPixels old new ⊎ ((why ≡ again.Failed) × CopyingFails old new)))
 
 -- how a run ends: with its output and its status, or by a fault
 abbrev pub EndsBy : RunState → RunState → Result ℕ Fault → Type 0

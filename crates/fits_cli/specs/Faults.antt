@@ -1,14 +1,20 @@
 -- Faults: their status, and which one stands for a failed call (own).
-use Rattle.std.specs.Prelude.{◌≡◌, ℕ, List}
+use Rattle.std.specs.Prelude.{◌≡◌, ◌⊎◌, ℕ, List, take}
 use Rattle.fits_session.specs.declared.open_fault.OpenFault.{OpenFault}
 use Rattle.fits_session.specs.declared.open_fault.OpenFault.TheVariants.{NotFits, NoEnd, BadShape, ShortData, TooLarge, Memory as OpenMemory}
 use Rattle.fits_session.specs.declared.read_fault.ReadFileFault.{ReadFileFault}
 use Rattle.fits_session.specs.declared.read_fault.ReadFileFault.TheVariants as read_file
 use Rattle.fits_stream.specs.declared.reading.ReadFault.{ReadFault}
 use Rattle.fits_stream.specs.declared.reading.ReadFault.TheVariants as read_fault
-use Rattle.fits_stream.specs.Stream.{SinkState, PrintsFront, FailsToFlush}
+use Rattle.fits_stream.specs.Stream.{SinkState, Prints, PrintsFront, FailsToFlush}
 use Rattle.fits_cli.specs.declared.fault.Fault.{Fault}
-use Rattle.fits_cli.specs.declared.fault.Fault.TheVariants.{Refused, ScriptTooLong, Memory, ReadFailed, WriteFailed}
+use Rattle.fits_cli.specs.declared.fault.Fault.TheVariants.{Refused, ScriptTooLong, Memory, ReadFailed, WriteFailed, Reread as RereadFault}
+use Rattle.fits_cli.specs.declared.reread.Reread.{Reread}
+use Rattle.fits_cli.specs.declared.reread.Reread.TheVariants as again
+use Rattle.fits_plane.specs.declared.again.LoadFault.{LoadFault}
+use Rattle.fits_plane.specs.declared.again.LoadFault.TheVariants as load
+use Rattle.fits_plane.specs.declared.again.CopyFault.{CopyFault}
+use Rattle.fits_plane.specs.declared.again.CopyFault.TheVariants as copy
 
 -- the status that goes with a fault
 abbrev pub status_of_fault : Fault → ℕ
@@ -17,6 +23,32 @@ status_of_fault ScriptTooLong = 2
 status_of_fault Memory = 3
 status_of_fault ReadFailed = 3
 status_of_fault WriteFailed = 3
+status_of_fault (RereadFault why) = 3
+
+-- why data that had passed by weren't had again
+abbrev pub reread_of : LoadFault → Reread
+reread_of load.Memory = again.Memory
+reread_of load.Failed = again.Failed
+reread_of load.Changed = again.Changed
+
+-- what ends a run that wants them
+abbrev pub fault_of_load : LoadFault → Fault
+fault_of_load why = RereadFault (reread_of why)
+
+-- what ends a run that copies them
+abbrev pub fault_of_copy : CopyFault → Fault
+fault_of_copy copy.Failed = RereadFault again.Failed
+fault_of_copy copy.Changed = RereadFault again.Changed
+fault_of_copy copy.Write = WriteFailed
+
+-- no data were wanted again
+abbrev pub IsOnce : Fault → Type 0
+IsOnce (RereadFault why) = ⊥
+IsOnce fault = Unit {0}
+
+-- they weren't had, and not because the file changed
+abbrev pub IsUnchanged : Reread → Type 0
+IsUnchanged why = why ≡ again.Changed → ⊥
 
 -- what ends a run whose file doesn't open
 abbrev pub fault_of_open : OpenFault → Fault
@@ -40,6 +72,10 @@ fault_of_read read_fault.Failed = ReadFailed
 -- a text isn't written whole
 abbrev pub PrintFails : List ℕ → SinkState → SinkState → Fault → Type 0
 PrintFails text old new fault = (fault ≡ WriteFailed) × PrintsFront text old new
+
+-- a file isn't saved whole: a write failed, or a read of data that are copied
+abbrev pub SaveFails : List ℕ → SinkState → SinkState → Fault → Type 0
+SaveFails bytes old new fault = PrintFails bytes old new fault ⊎ ((fault ≡ RereadFault again.Failed) × ((n : ℕ) × Prints (take n bytes) old new))
 
 -- what was written isn't passed on
 abbrev pub FlushFails : SinkState → SinkState → Fault → Type 0

@@ -3,7 +3,7 @@ use Rattle.std.specs.Prelude.{◌≡◌, ◌⊎◌, ℕ, ◌+◌, ◌<◌, ◌�
 use Rattle.std.specs.Io.KnownBytes.{IsAtEnd}
 use Rattle.fits_stream.specs.Intake.{Tells}
 use Rattle.fits_session.specs.File.{FileParts}
-use Rattle.fits_cli.specs.Answer.{Standing, at_first_line, line_answer, line_left, LineNeedsMemory}
+use Rattle.fits_cli.specs.Answer.{Standing, at_first_line, line_answer, line_left, LineNeedsMemory, WantsPixels}
 use Rattle.fits_cli.specs.Ends.{CameTo, HasLines, Opens}
 use Rattle.fits_script.specs.declared.limits.TheConstants.{LINE_LIMIT}
 use Rattle.fits_cli.specs.declared.limits.TheConstants.{SCRIPT_LIMIT}
@@ -13,7 +13,11 @@ use Rattle.fits_cli.specs.Remark.{line_remark, remarks, Remarks}
 use Rattle.fits_cli.specs.Script.{IsCutInLines, script_lines}
 use Rattle.fits_stream.specs.Stream.{SourceState, SinkState, FailsOnce, FailsToFlush, Flushes, Prints, PrintsFront, Reads, StaysQuiet}
 use Rattle.fits_cli.specs.declared.fault.Fault.{Fault}
-use Rattle.fits_cli.specs.declared.fault.Fault.TheVariants.{Refused, ScriptTooLong, Memory, ReadFailed, WriteFailed}
+use Rattle.fits_cli.specs.declared.fault.Fault.TheVariants.{Refused, ScriptTooLong, Memory, ReadFailed, WriteFailed, Reread as RereadFault}
+use Rattle.fits_cli.specs.declared.reread.Reread.{Reread}
+use Rattle.fits_cli.specs.Faults.{IsUnchanged}
+use Rattle.fits_session.specs.Marked.{Marked}
+use Rattle.fits_script.specs.declared.line_reading.LineReading.{LineReading}
 
 -- what hears of the lines: the sink of their answers, and that of remarks on them, if there is one
 pub record Heard : Type 0 where
@@ -42,7 +46,7 @@ pub record AnswersLine (line : List ℕ) (before now : Standing) (held holds : H
   pub said : Says (line_answer before (reading_of line)) (line_remark before line) held holds
   pub left : now ≡ line_left before (reading_of line)
 
--- one line isn't answered: memory was refused at it, or a write of its answer failed
+-- one line isn't answered: memory was refused at it, a write of its answer failed, or data that it wants aren't had again
 abbrev pub LineStops : List ℕ → Standing → Heard → Heard → Fault → Type 0
 LineStops line before held holds (Refused why) = ⊥
 LineStops line before held holds ScriptTooLong = ⊥
@@ -50,20 +54,34 @@ LineStops line before held holds Memory = LineNeedsMemory before.marked (reading
 LineStops line before held holds ReadFailed = ⊥
 LineStops line before held holds WriteFailed =
     PrintsFront (line_answer before (reading_of line)) held.out holds.out × (holds.told ≡ held.told)
+LineStops line before held holds (RereadFault why) = IsUnchanged why × (WantsPixels before.marked (reading_of line) × (holds ≡ held))
+
+-- a line has no answer: memory was refused at it, or data that it wants aren't had again
+abbrev pub LacksReply : Marked → LineReading → Fault → Type 0
+LacksReply it reading (Refused why) = ⊥
+LacksReply it reading ScriptTooLong = ⊥
+LacksReply it reading Memory = LineNeedsMemory it reading
+LacksReply it reading ReadFailed = ⊥
+LacksReply it reading WriteFailed = ⊥
+LacksReply it reading (RereadFault why) = IsUnchanged why × WantsPixels it reading
 
 -- these lines are answered, and things stand as after them
 pub record AnswersLines (lines : List (List ℕ)) (before now : Standing) (held holds : Heard) : Type 0 where
   pub said : Says (answers before lines) (remarks before lines) held holds
   pub left : now ≡ standing_after before lines
 
--- the first of these lines are answered, and the next one may need memory
-pub record NeedsMemoryAt (lines : List (List ℕ)) (before : Standing) (held holds : Heard) : Type 0 where
+-- the first of these lines are answered, and the next one needs this
+pub record StopsAt (Needs : Marked → LineReading → Type 0) (lines : List (List ℕ)) (before : Standing) (held holds : Heard) : Type 0 where
   pub done : List (List ℕ)
   pub line : List ℕ
   pub others : List (List ℕ)
   pub split : lines ≡ done ++ line ∷ others
-  pub needs : LineNeedsMemory (standing_after before done).marked (reading_of line)
+  pub needs : Needs (standing_after before done).marked (reading_of line)
   pub said : Says (answers before done) (remarks before done) held holds
+
+-- the next one may need memory
+abbrev pub NeedsMemoryAt : List (List ℕ) → Standing → Heard → Heard → Type 0
+NeedsMemoryAt lines before held holds = StopsAt LineNeedsMemory lines before held holds
 
 -- these lines aren't all answered
 abbrev pub LinesStop : List (List ℕ) → Standing → Heard → Heard → Fault → Type 0
@@ -72,6 +90,7 @@ LinesStop lines before held holds ScriptTooLong = ⊥
 LinesStop lines before held holds Memory = NeedsMemoryAt lines before held holds
 LinesStop lines before held holds ReadFailed = ⊥
 LinesStop lines before held holds WriteFailed = SaysFront lines before held holds
+LinesStop lines before held holds (RereadFault why) = IsUnchanged why × StopsAt WantsPixels lines before held holds
 
 -- of a line that may go on as much is kept as decides what it comes to
 unfoldable pub kept_of : List ℕ → List ℕ
@@ -161,6 +180,14 @@ pub record ScriptWriteFails (old new : SourceState) (before : Standing) (held ho
   pub reached : HasLines old new lines
   pub front : SaysFront lines before held holds
 
+-- data that a line wants aren't had again
+pub record ScriptLacksPixels (old new : SourceState) (before : Standing) (held holds : Heard) (why : Reread) : Type 0 where
+  pub unchanged : IsUnchanged why
+  pub quiet : StaysQuiet old new
+  pub lines : List (List ℕ)
+  pub reached : HasLines old new lines
+  pub at : StopsAt WantsPixels lines before held holds
+
 -- why a script isn't answered to its end
 abbrev pub ScriptStops : SourceState → SourceState → Standing → Heard → Heard → Fault → Type 0
 ScriptStops old new before held holds (Refused why) = ⊥
@@ -168,6 +195,7 @@ ScriptStops old new before held holds ScriptTooLong = AnswersTooLong old new bef
 ScriptStops old new before held holds Memory = ScriptNeedsMemory old new before held holds
 ScriptStops old new before held holds ReadFailed = ScriptReadFails old new before held holds
 ScriptStops old new before held holds WriteFailed = ScriptWriteFails old new before held holds
+ScriptStops old new before held holds (RereadFault why) = ScriptLacksPixels old new before held holds why
 
 -- then the answers are flushed, or that call fails and is the fault
 abbrev pub FlushesThen : {T : Type 0} → Result T Fault → Result T Fault → SinkState → SinkState → Type 0
@@ -183,6 +211,7 @@ FlushesAnswers (Err Memory) result held holds = FlushesThen (Err Memory) result 
 FlushesAnswers (Err ReadFailed) result held holds =
     (result ≡ Err ReadFailed) × (Flushes held holds ⊎ FailsToFlush held holds)
 FlushesAnswers (Err WriteFailed) result held holds = (result ≡ Err WriteFailed) × (holds ≡ held)
+FlushesAnswers (Err (RereadFault why)) result held holds = FlushesThen (Err (RereadFault why)) result held holds
 
 -- a script that was answered whole, and its answers flushed
 pub record IsFlushed (old new : SourceState) (parts : FileParts) (now : Standing) (held holds : SinkState) (told told_after : Option SinkState) : Type 0 where

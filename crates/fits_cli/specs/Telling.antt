@@ -16,7 +16,7 @@ use Rattle.fits_cli.specs.Stating.{stating}
 use Rattle.fits_cli.specs.Summing.{status_of_sums, summing, wrong_summing}
 use Rattle.fits_cli.specs.declared.end.End.{End}
 use Rattle.fits_cli.specs.declared.fault.Fault.{Fault}
-use Rattle.fits_cli.specs.declared.fault.Fault.TheVariants.{Refused, ScriptTooLong, Memory, ReadFailed, WriteFailed}
+use Rattle.fits_cli.specs.declared.fault.Fault.TheVariants.{Refused, ScriptTooLong, Memory, ReadFailed, WriteFailed, Reread as RereadFault}
 use Rattle.fits_cli.specs.declared.telling.Telling.{Telling}
 use Rattle.fits_cli.specs.declared.telling.Telling.TheVariants as telling
 
@@ -91,6 +91,7 @@ PrintingStops text out out_after ScriptTooLong = ⊥
 PrintingStops text out out_after Memory = AppendsFront out.contents out_after.contents text × (out_after.failures ≡ out.failures)
 PrintingStops text out out_after ReadFailed = ⊥
 PrintingStops text out out_after WriteFailed = PrintsFront text out out_after
+PrintingStops text out out_after (RereadFault why) = ⊥
 
 -- what stands before a fault that ends a run
 abbrev pub TextStopsBy : Telling → SourceState → SourceState → SinkState → SinkState → Fault → Type 0
@@ -99,6 +100,7 @@ TextStopsBy kind file file_after out out_after ScriptTooLong = ⊥
 TextStopsBy kind file file_after out out_after Memory = TextIsOutOfMemory kind file file_after out out_after
 TextStopsBy kind file file_after out out_after ReadFailed = TextFileFails file file_after out out_after
 TextStopsBy kind file file_after out out_after WriteFailed = TextFails kind file file_after out out_after
+TextStopsBy kind file file_after out out_after (RereadFault why) = ⊥
 
 -- how a run ends: with its text, or by a fault and the fault's status
 abbrev pub TextEndsAs : Telling → SourceState → SourceState → SinkState → SinkState → End → Type 0

@@ -2,7 +2,7 @@
 ghost use Rattle.std.specs.Prelude.{◌≡◌, ◌++◌, IfOk, IfErr, OnOk, OnErr, Ok};
 ghost use Rattle.fits_session.specs.Session.{marked_of};
 ghost use Rattle.fits_cli.specs.Answer.{offset_line, offset_lines, offsets_text};
-ghost use Rattle.fits_cli.specs.Answer.{outcome_of, CommandFails};
+ghost use Rattle.fits_cli.specs.Answer.{outcome_of, CommandFails, IsReady};
 
 use crate::kept_line::kept;
 use crate::pixel_answers::{rectangle, statistics, sums};
@@ -11,16 +11,17 @@ use crate::pushing::push_number;
 use crate::report_text::report_text;
 use crate::value_line::value_line;
 use fits_script::Command;
-use fits_session::{HduOffsets, Refusal, Session};
+use fits_session::{HduOffsets, Holder, Refusal, Session};
 use std::alloc::{AllocError, Global};
 
 /// Does a command, and gives what it prints; or its refusal, which leaves the file and its marks.
-#[tactic(auto, unfolding(crate::specs::Answer::outcome_of, crate::specs::Answer::OutcomeNeedsMemory))]
-pub(crate) fn answer(
+#[tactic(auto, unfolding(crate::specs::Answer::outcome_of, crate::specs::Answer::OutcomeNeedsMemory, crate::specs::Answer::IsReady))]
+pub(crate) fn answer<H: Holder + Drop>(
     alloc: Global,
-    session: &mut Session,
+    session: &mut Session<H>,
     command: Command,
 ) -> Result<Vec<u8>, Refusal>
+    requires { IsReady command session.old.hdus }
     ensures ok { IfOk result (λ text. outcome_of (marked_of session.old) command
         ≡ Ok (record { text = text.items; left = marked_of session.new })) }
     ensures err { IfErr result (CommandFails (marked_of session.old) command) }
@@ -29,7 +30,7 @@ pub(crate) fn answer(
     match command {
         Command::Nothing => Ok(Vec::new(alloc)),
         Command::Edit(edit) => {
-            session.edit(edit)?;
+            session.make(edit)?;
             Ok(Vec::new(alloc))
         }
         Command::Offsets => {

@@ -1,13 +1,17 @@
 //! The run of `ask`: a file, a script, and answers; nothing is saved.
-ghost use Rattle.std.specs.Prelude.{OnErr, OnOk};
+ghost use Rattle.std.specs.Prelude.{◌≡◌, true, not, OnErr, OnOk};
 ghost use Rattle.std.specs.Option.{option_map};
-ghost use Rattle.fits_stream.specs.Stream.{SinkState};
-ghost use Rattle.fits_cli.specs.Ends.{run, AreAllRemarks, AreToldOf, AsksAs, AsksBy, RemarksEndAs};
+ghost use Rattle.fits_stream.specs.Stream.{SinkState, SourceState};
+ghost use Rattle.fits_session.specs.Away.{AllTell};
+ghost use Rattle.fits_session.specs.Marked.{unmarked};
+ghost use Rattle.fits_session.specs.Session.{file_of, marked_of};
+ghost use Rattle.fits_cli.specs.Ends.{run, run_by, unread, AreAllRemarks, AreToldOf, AsksAs, AsksBy, OverFile, RemarksEndAs};
 
 use crate::editing::answered;
 use crate::end::End;
 use crate::fault::Fault;
-use fits_stream::{Sink, Source};
+use fits_session::{Holder, Session};
+use fits_stream::{Sink, Source, Stored};
 use std::alloc::Global;
 
 /// Reads a file and opens it, and answers a script, as `run_edit` does. Nothing is saved. Remarks on
@@ -26,7 +30,52 @@ pub fn run_ask<F: Source, S: Source, O: Sink, E: Sink>(
     ensures told { RemarksEndAs (F.state file.old) (S.state script.old) (S.state script.new)
         (option_map E.state told.old) (option_map E.state told.new) result }
 {
-    match ask(alloc, file, script, out, told) {
+    match Session::read(alloc, file) {
+        Ok(session) => run_over(alloc, session, script, out, told),
+        Err(why) => End::from(Fault::from(why)),
+    }
+}
+
+/// The same of a stored file, as `run_edit_stored` reads it.
+pub fn run_ask_stored<F: Stored, S: Source, O: Sink, E: Sink>(
+    alloc: Global,
+    file: &F,
+    script: &mut S,
+    out: &mut O,
+    told: &mut Option<E>,
+) -> End
+    ensures ends { AllTell F.bytes → (saved : SinkState) → (after : SourceState) × AsksAs
+        (run_by true (unread (F.bytes file.now)) (S.state script.old) (O.state out.old) saved)
+        (run_by true after (S.state script.new) (O.state out.new) saved)
+        result }
+    ensures told { AllTell F.bytes → RemarksEndAs (unread (F.bytes file.now))
+        (S.state script.old) (S.state script.new)
+        (option_map E.state told.old) (option_map E.state told.new) result }
+{
+    match Session::read_stored(alloc, file) {
+        Ok(session) => run_over(alloc, session, script, out, told),
+        Err(why) => End::from(Fault::from(why)),
+    }
+}
+
+// The run over a file that was opened.
+fn run_over<H: Holder + Drop, S: Source, O: Sink, E: Sink>(
+    alloc: Global,
+    session: Session<H>,
+    script: &mut S,
+    out: &mut O,
+    told: &mut Option<E>,
+) -> End
+    requires { marked_of session ≡ unmarked (file_of session) }
+    ensures ends { H.steady → OverFile (file_of session) (λ file after. (saved : SinkState) → AsksAs
+        (run_by (not H.whole) file (S.state script.old) (O.state out.old) saved)
+        (run_by (not H.whole) after (S.state script.new) (O.state out.new) saved)
+        result) }
+    ensures told { H.steady → OverFile (file_of session) (λ file after. RemarksEndAs file
+        (S.state script.old) (S.state script.new)
+        (option_map E.state told.old) (option_map E.state told.new) result) }
+{
+    match ask(alloc, session, script, out, told) {
         Ok(status) => End {
             status,
             fault: None,
@@ -36,23 +85,24 @@ pub fn run_ask<F: Source, S: Source, O: Sink, E: Sink>(
 }
 
 // The run as a result: its status, or the fault that ended it.
-fn ask<F: Source, S: Source, O: Sink, E: Sink>(
+fn ask<H: Holder + Drop, S: Source, O: Sink, E: Sink>(
     alloc: Global,
-    file: &mut F,
+    session: Session<H>,
     script: &mut S,
     out: &mut O,
     told: &mut Option<E>,
 ) -> Result<u8, Fault>
-    ensures ends { (saved : SinkState) → AsksBy
-        (run (F.state file.old) (S.state script.old) (O.state out.old) saved)
-        (run (F.state file.new) (S.state script.new) (O.state out.new) saved)
-        result }
-    ensures all { OnOk result (AreAllRemarks (F.state file.old) (S.state script.old)
-        (option_map E.state told.old) (option_map E.state told.new)) }
-    ensures some { OnErr result (AreToldOf (F.state file.old)
-        (S.state script.old) (S.state script.new)
-        (option_map E.state told.old) (option_map E.state told.new)) }
+    requires { marked_of session ≡ unmarked (file_of session) }
+    ensures ends { H.steady → OverFile (file_of session) (λ file after. (saved : SinkState) → AsksBy
+        (run_by (not H.whole) file (S.state script.old) (O.state out.old) saved)
+        (run_by (not H.whole) after (S.state script.new) (O.state out.new) saved)
+        result) }
+    ensures all { H.steady → OnOk result (OverFile (file_of session) (λ file after. AreAllRemarks
+        file (S.state script.old) (option_map E.state told.old) (option_map E.state told.new))) }
+    ensures some { H.steady → OnErr result (OverFile (file_of session) (λ file after. AreToldOf
+        file (S.state script.old) (S.state script.new)
+        (option_map E.state told.old) (option_map E.state told.new))) }
 {
-    let runner = answered(alloc, file, script, out, told)?;
+    let runner = answered(alloc, session, script, out, told)?;
     Ok(runner.status())
 }

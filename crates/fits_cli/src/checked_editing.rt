@@ -1,9 +1,13 @@
 //! The run of `edit -c`: nothing is saved where the result has more errors of some code than the file.
-ghost use Rattle.std.specs.Prelude.{◌≡◌, IfOk, IfErr, OnErr, OnOk};
+ghost use Rattle.std.specs.Prelude.{◌≡◌, true, not, AllPairs, IfOk, IfErr, OnErr, OnOk};
 ghost use Rattle.std.specs.Option.{option_map};
-ghost use Rattle.fits_stream.specs.Stream.{SinkState};
+ghost use Rattle.fits_stream.specs.Stream.{SinkState, SourceState};
+ghost use Rattle.fits_session.specs.Away.{AllTell};
+ghost use Rattle.fits_session.specs.Marked.{unmarked};
+ghost use Rattle.fits_session.specs.Report.{IsListedBefore};
+ghost use Rattle.fits_session.specs.Session.{file_of, marked_of};
 ghost use Rattle.fits_cli.specs.CheckedEnds.{kept_back, EndsChecked, EndsCheckedAs, IsReportedRun};
-ghost use Rattle.fits_cli.specs.Ends.{run, AreAllRemarks, AreToldOf, RemarksEndAs, StopsBy};
+ghost use Rattle.fits_cli.specs.Ends.{run, run_by, unread, AreAllRemarks, AreToldOf, OverFile, RemarksEndAs, StopsBy};
 
 use crate::editing::flush_answers;
 use crate::end::End;
@@ -11,8 +15,8 @@ use crate::fault::Fault;
 use crate::printing::print_at_once;
 use crate::runner::Runner;
 use crate::script::answer_script;
-use fits_session::{Problem, Session};
-use fits_stream::{Sink, Source};
+use fits_session::{Holder, Problem, Session};
+use fits_stream::{Sink, Source, Stored};
 use std::alloc::Global;
 
 /// How a run of `edit -c` ended.
@@ -23,6 +27,22 @@ pub struct CheckedEnd {
     pub undone: u64,
     /// How many errors are new, where that kept the file from being saved; else 0.
     pub new_errors: u64,
+}
+
+impl From<Fault> for CheckedEnd {
+    ghost use Rattle.std.specs.Prelude.{◌≡◌, Some};
+    ghost use Rattle.fits_cli.specs.Faults.{status_of_fault};
+
+    ghost from_gives = { λ why it. (it.end.status ≡ status_of_fault why)
+        × (it.end.fault ≡ Some why) × (it.undone ≡ 0) × (it.new_errors ≡ 0) };
+
+    fn from(why: Fault) -> CheckedEnd {
+        CheckedEnd {
+            end: End::from(why),
+            undone: 0,
+            new_errors: 0,
+        }
+    }
 }
 
 /// Reads a file and opens it, and answers a script, as `run_edit` does. What the script made of the
@@ -45,7 +65,57 @@ pub fn run_edit_checked<F: Source, S: Source, P: Sink, O: Sink, E: Sink>(
     ensures told { RemarksEndAs (F.state file.old) (S.state script.old) (S.state script.new)
         (option_map E.state told.old) (option_map E.state told.new) result.end }
 {
-    match edit_checked(alloc, whole, file, script, saved, out, told) {
+    match Session::read(alloc, file) {
+        Ok(session) => run_over(alloc, whole, session, script, saved, out, told),
+        Err(why) => CheckedEnd::from(Fault::from(why)),
+    }
+}
+
+/// The same of a stored file, as `run_edit_stored` reads it.
+pub fn run_edit_checked_stored<F: Stored, S: Source, P: Sink, O: Sink, E: Sink>(
+    alloc: Global,
+    whole: bool,
+    file: &F,
+    script: &mut S,
+    saved: &mut P,
+    out: &mut O,
+    told: &mut Option<E>,
+) -> CheckedEnd
+    ensures ends { AllTell F.bytes → (after : SourceState) × EndsCheckedAs whole
+        (run_by true (unread (F.bytes file.now))
+        (S.state script.old) (O.state out.old) (P.state saved.old))
+        (run_by true after (S.state script.new) (O.state out.new) (P.state saved.new))
+        result.end result.undone result.new_errors }
+    ensures told { AllTell F.bytes → RemarksEndAs (unread (F.bytes file.now))
+        (S.state script.old) (S.state script.new)
+        (option_map E.state told.old) (option_map E.state told.new) result.end }
+{
+    match Session::read_stored(alloc, file) {
+        Ok(session) => run_over(alloc, whole, session, script, saved, out, told),
+        Err(why) => CheckedEnd::from(Fault::from(why)),
+    }
+}
+
+// The run over a file that was opened.
+fn run_over<H: Holder + Drop, S: Source, P: Sink, O: Sink, E: Sink>(
+    alloc: Global,
+    whole: bool,
+    session: Session<H>,
+    script: &mut S,
+    saved: &mut P,
+    out: &mut O,
+    told: &mut Option<E>,
+) -> CheckedEnd
+    requires { marked_of session ≡ unmarked (file_of session) }
+    ensures ends { H.steady → OverFile (file_of session) (λ file after. EndsCheckedAs whole
+        (run_by (not H.whole) file (S.state script.old) (O.state out.old) (P.state saved.old))
+        (run_by (not H.whole) after (S.state script.new) (O.state out.new) (P.state saved.new))
+        result.end result.undone result.new_errors) }
+    ensures told { H.steady → OverFile (file_of session) (λ file after. RemarksEndAs file
+        (S.state script.old) (S.state script.new)
+        (option_map E.state told.old) (option_map E.state told.new) result.end) }
+{
+    match edit_checked(alloc, whole, session, script, saved, out, told) {
         Ok((status, undone, new_errors)) => CheckedEnd {
             end: End {
                 status,
@@ -54,36 +124,33 @@ pub fn run_edit_checked<F: Source, S: Source, P: Sink, O: Sink, E: Sink>(
             undone,
             new_errors,
         },
-        Err(fault) => CheckedEnd {
-            end: End::from(fault),
-            undone: 0,
-            new_errors: 0,
-        },
+        Err(fault) => CheckedEnd::from(fault),
     }
 }
 
 // The run as a result: its status, how many lines and how many errors kept the file from being
 // saved, or the fault that ended it.
-fn edit_checked<F: Source, S: Source, P: Sink, O: Sink, E: Sink>(
+fn edit_checked<H: Holder + Drop, S: Source, P: Sink, O: Sink, E: Sink>(
     alloc: Global,
     whole: bool,
-    file: &mut F,
+    session: Session<H>,
     script: &mut S,
     saved: &mut P,
     out: &mut O,
     told: &mut Option<E>,
 ) -> Result<(u8, u64, u64), Fault>
-    ensures ends { EndsChecked whole
-        (run (F.state file.old) (S.state script.old) (O.state out.old) (P.state saved.old))
-        (run (F.state file.new) (S.state script.new) (O.state out.new) (P.state saved.new))
-        result }
-    ensures all { OnOk result (AreAllRemarks (F.state file.old) (S.state script.old)
-        (option_map E.state told.old) (option_map E.state told.new)) }
-    ensures some { OnErr result (AreToldOf (F.state file.old)
-        (S.state script.old) (S.state script.new)
-        (option_map E.state told.old) (option_map E.state told.new)) }
+    requires { marked_of session ≡ unmarked (file_of session) }
+    ensures ends { H.steady → OverFile (file_of session) (λ file after. EndsChecked whole
+        (run_by (not H.whole) file (S.state script.old) (O.state out.old) (P.state saved.old))
+        (run_by (not H.whole) after (S.state script.new) (O.state out.new) (P.state saved.new))
+        result) }
+    ensures all { H.steady → OnOk result (OverFile (file_of session) (λ file after. AreAllRemarks
+        file (S.state script.old) (option_map E.state told.old) (option_map E.state told.new))) }
+    ensures some { H.steady → OnErr result (OverFile (file_of session) (λ file after. AreToldOf
+        file (S.state script.old) (S.state script.new)
+        (option_map E.state told.old) (option_map E.state told.new))) }
 {
-    let (mut runner, before) = reported_and_answered(alloc, file, script, out, told)?;
+    let (mut runner, before) = reported_and_answered(alloc, session, script, out, told)?;
     let undone = kept_back(whole, runner.refused());
     if undone > 0 {
         return Ok((runner.status(), undone, 0));
@@ -97,25 +164,29 @@ fn edit_checked<F: Source, S: Source, P: Sink, O: Sink, E: Sink>(
     Ok((runner.status(), 0, 0))
 }
 
-// Reads a file and opens it, asks for its report, answers a script, and flushes the answers.
-fn reported_and_answered<F: Source, S: Source, O: Sink, E: Sink>(
+// Asks for the report of a file that was opened, answers a script over it, and flushes the answers.
+fn reported_and_answered<H: Holder + Drop, S: Source, O: Sink, E: Sink>(
     alloc: Global,
-    file: &mut F,
+    session: Session<H>,
     script: &mut S,
     out: &mut O,
     told: &mut Option<E>,
-) -> Result<(Runner, Vec<Problem>), Fault>
-    ensures ok { IfOk result (λ done. IsReportedRun (F.state file.old) (F.state file.new)
-        (S.state script.old) (S.state script.new) (O.state out.old) (O.state out.new)
-        (option_map E.state told.old) (option_map E.state told.new) done.0 done.1.items) }
-    ensures err { IfErr result (λ fault. (saved : SinkState) → StopsBy
-        (run (F.state file.old) (S.state script.old) (O.state out.old) saved)
-        (run (F.state file.new) (S.state script.new) (O.state out.new) saved) fault) }
-    ensures told { OnErr result (AreToldOf
-        (F.state file.old) (S.state script.old) (S.state script.new)
-        (option_map E.state told.old) (option_map E.state told.new)) }
+) -> Result<(Runner<H>, Vec<Problem>), Fault>
+    requires { marked_of session ≡ unmarked (file_of session) }
+    ensures ok { H.steady → IfOk result (λ done. OverFile (file_of session) (λ file after.
+        IsReportedRun file after (S.state script.old) (S.state script.new)
+        (O.state out.old) (O.state out.new)
+        (option_map E.state told.old) (option_map E.state told.new) done.0 done.1.items)) }
+    ensures ordered { IfOk result (λ done. AllPairs IsListedBefore done.1.items) }
+    ensures err { H.steady → IfErr result (λ fault. OverFile (file_of session) (λ file after.
+        (saved : SinkState) → StopsBy
+        (run_by (not H.whole) file (S.state script.old) (O.state out.old) saved)
+        (run_by (not H.whole) after (S.state script.new) (O.state out.new) saved) fault)) }
+    ensures told { H.steady → OnErr result (OverFile (file_of session) (λ file after. AreToldOf
+        file (S.state script.old) (S.state script.new)
+        (option_map E.state told.old) (option_map E.state told.new))) }
 {
-    let mut runner = Runner::new(Session::read(alloc, file)?);
+    let mut runner = Runner::new(session);
     let before = runner.report()?;
     let answered = answer_script(alloc, &mut runner, script, out, told);
     flush_answers(answered, out)?;

@@ -1,9 +1,12 @@
 //! The run of `edit`: a file, a script, answers, and the file saved.
-ghost use Rattle.std.specs.Prelude.{IfOk, IfErr, OnErr, OnOk};
+ghost use Rattle.std.specs.Prelude.{◌≡◌, true, not, IfOk, IfErr, OnErr, OnOk};
 ghost use Rattle.std.specs.Option.{option_map};
-ghost use Rattle.fits_stream.specs.Stream.{SinkState};
-ghost use Rattle.fits_cli.specs.Ends.{run, AreAllRemarks, AreToldOf, EndsAs, EndsBy, RemarksEndAs, StopsBy};
-ghost use Rattle.fits_cli.specs.Running.{FlushesAnswers, IsAnsweredRun};
+ghost use Rattle.fits_stream.specs.Stream.{SinkState, SourceState};
+ghost use Rattle.fits_session.specs.Away.{AllTell};
+ghost use Rattle.fits_session.specs.Marked.{unmarked};
+ghost use Rattle.fits_session.specs.Session.{file_of, marked_of};
+ghost use Rattle.fits_cli.specs.Ends.{run, run_by, unread, AreAllRemarks, AreToldOf, EndsAs, EndsBy, OverFile, RemarksEndAs, StopsBy};
+ghost use Rattle.fits_cli.specs.Running.{FlushesAnswers, IsFlushed};
 
 use crate::end::End;
 use crate::fault::Fault;
@@ -11,8 +14,8 @@ use crate::printing::flush;
 use crate::remarking::Silence;
 use crate::runner::Runner;
 use crate::script::answer_script;
-use fits_session::Session;
-use fits_stream::{Sink, Source};
+use fits_session::{Holder, Session};
+use fits_stream::{Sink, Source, Stored};
 use std::alloc::Global;
 
 /// Reads a file and opens it, answers a script, and saves what the script made of the file.
@@ -51,7 +54,57 @@ pub fn run_edit_told<F: Source, S: Source, P: Sink, O: Sink, E: Sink>(
     ensures told { RemarksEndAs (F.state file.old) (S.state script.old) (S.state script.new)
         (option_map E.state told.old) (option_map E.state told.new) result }
 {
-    match edit(alloc, file, script, saved, out, told) {
+    match Session::read(alloc, file) {
+        Ok(session) => run_over(alloc, session, script, saved, out, told),
+        Err(why) => End::from(Fault::from(why)),
+    }
+}
+
+/// The same of a stored file, in which its data stay until a line wants them. They are read again
+/// then, or where they are copied as it is saved: where they have changed meanwhile, or aren't had,
+/// the run ends by `Fault::Reread`, and nothing more is saved.
+pub fn run_edit_stored<F: Stored, S: Source, P: Sink, O: Sink, E: Sink>(
+    alloc: Global,
+    file: &F,
+    script: &mut S,
+    saved: &mut P,
+    out: &mut O,
+    told: &mut Option<E>,
+) -> End
+    ensures ends { AllTell F.bytes → (after : SourceState) × EndsAs
+        (run_by true (unread (F.bytes file.now))
+        (S.state script.old) (O.state out.old) (P.state saved.old))
+        (run_by true after (S.state script.new) (O.state out.new) (P.state saved.new))
+        result }
+    ensures told { AllTell F.bytes → RemarksEndAs (unread (F.bytes file.now))
+        (S.state script.old) (S.state script.new)
+        (option_map E.state told.old) (option_map E.state told.new) result }
+{
+    match Session::read_stored(alloc, file) {
+        Ok(session) => run_over(alloc, session, script, saved, out, told),
+        Err(why) => End::from(Fault::from(why)),
+    }
+}
+
+// The run over a file that was opened.
+fn run_over<H: Holder + Drop, S: Source, P: Sink, O: Sink, E: Sink>(
+    alloc: Global,
+    session: Session<H>,
+    script: &mut S,
+    saved: &mut P,
+    out: &mut O,
+    told: &mut Option<E>,
+) -> End
+    requires { marked_of session ≡ unmarked (file_of session) }
+    ensures ends { H.steady → OverFile (file_of session) (λ file after. EndsAs
+        (run_by (not H.whole) file (S.state script.old) (O.state out.old) (P.state saved.old))
+        (run_by (not H.whole) after (S.state script.new) (O.state out.new) (P.state saved.new))
+        result) }
+    ensures told { H.steady → OverFile (file_of session) (λ file after. RemarksEndAs file
+        (S.state script.old) (S.state script.new)
+        (option_map E.state told.old) (option_map E.state told.new) result) }
+{
+    match edit(alloc, session, script, saved, out, told) {
         Ok(status) => End {
             status,
             fault: None,
@@ -61,49 +114,53 @@ pub fn run_edit_told<F: Source, S: Source, P: Sink, O: Sink, E: Sink>(
 }
 
 // The run as a result: its status, or the fault that ended it.
-fn edit<F: Source, S: Source, P: Sink, O: Sink, E: Sink>(
+fn edit<H: Holder + Drop, S: Source, P: Sink, O: Sink, E: Sink>(
     alloc: Global,
-    file: &mut F,
+    session: Session<H>,
     script: &mut S,
     saved: &mut P,
     out: &mut O,
     told: &mut Option<E>,
 ) -> Result<u8, Fault>
-    ensures ends { EndsBy
-        (run (F.state file.old) (S.state script.old) (O.state out.old) (P.state saved.old))
-        (run (F.state file.new) (S.state script.new) (O.state out.new) (P.state saved.new))
-        result }
-    ensures all { OnOk result (AreAllRemarks (F.state file.old) (S.state script.old)
-        (option_map E.state told.old) (option_map E.state told.new)) }
-    ensures some { OnErr result (AreToldOf (F.state file.old)
-        (S.state script.old) (S.state script.new)
-        (option_map E.state told.old) (option_map E.state told.new)) }
+    requires { marked_of session ≡ unmarked (file_of session) }
+    ensures ends { H.steady → OverFile (file_of session) (λ file after. EndsBy
+        (run_by (not H.whole) file (S.state script.old) (O.state out.old) (P.state saved.old))
+        (run_by (not H.whole) after (S.state script.new) (O.state out.new) (P.state saved.new))
+        result) }
+    ensures all { H.steady → OnOk result (OverFile (file_of session) (λ file after. AreAllRemarks
+        file (S.state script.old) (option_map E.state told.old) (option_map E.state told.new))) }
+    ensures some { H.steady → OnErr result (OverFile (file_of session) (λ file after. AreToldOf
+        file (S.state script.old) (S.state script.new)
+        (option_map E.state told.old) (option_map E.state told.new))) }
 {
-    let mut runner = answered(alloc, file, script, out, told)?;
+    let mut runner = answered(alloc, session, script, out, told)?;
     runner.save(saved)?;
     Ok(runner.status())
 }
 
-/// Reads a file and opens it, answers a script, and flushes the answers. Remarks on its lines go to
+/// Answers a script over a file that was opened, and flushes the answers. Remarks on its lines go to
 /// `told`.
-pub(crate) fn answered<F: Source, S: Source, O: Sink, E: Sink>(
+pub(crate) fn answered<H: Holder + Drop, S: Source, O: Sink, E: Sink>(
     alloc: Global,
-    file: &mut F,
+    session: Session<H>,
     script: &mut S,
     out: &mut O,
     told: &mut Option<E>,
-) -> Result<Runner, Fault>
-    ensures ok { IfOk result (IsAnsweredRun (F.state file.old) (F.state file.new)
-        (S.state script.old) (S.state script.new) (O.state out.old) (O.state out.new)
+) -> Result<Runner<H>, Fault>
+    requires { marked_of session ≡ unmarked (file_of session) }
+    ensures ok { H.steady → IfOk result (λ runner. IsFlushed
+        (S.state script.old) (S.state script.new) (file_of session) runner
+        (O.state out.old) (O.state out.new)
         (option_map E.state told.old) (option_map E.state told.new)) }
-    ensures err { IfErr result (λ fault. (saved : SinkState) → StopsBy
-        (run (F.state file.old) (S.state script.old) (O.state out.old) saved)
-        (run (F.state file.new) (S.state script.new) (O.state out.new) saved) fault) }
-    ensures told { OnErr result (AreToldOf
-        (F.state file.old) (S.state script.old) (S.state script.new)
-        (option_map E.state told.old) (option_map E.state told.new)) }
+    ensures err { H.steady → IfErr result (λ fault. OverFile (file_of session) (λ file after.
+        (saved : SinkState) → StopsBy
+        (run_by (not H.whole) file (S.state script.old) (O.state out.old) saved)
+        (run_by (not H.whole) after (S.state script.new) (O.state out.new) saved) fault)) }
+    ensures told { H.steady → OnErr result (OverFile (file_of session) (λ file after. AreToldOf
+        file (S.state script.old) (S.state script.new)
+        (option_map E.state told.old) (option_map E.state told.new))) }
 {
-    let mut runner = Runner::new(Session::read(alloc, file)?);
+    let mut runner = Runner::new(session);
     let answered = answer_script(alloc, &mut runner, script, out, told);
     flush_answers(answered, out)?;
     Ok(runner)

@@ -1,5 +1,7 @@
 ghost use Rattle.std.specs.Prelude.{◌≡◌};
 
+use crate::reread::Reread;
+use fits_plane::{CopyFault, LoadFault};
 use fits_session::{OpenFault, ReadFileFault};
 use fits_stream::ReadFault;
 use std::alloc::AllocError;
@@ -19,6 +21,9 @@ pub enum Fault {
     ReadFailed,
     #[error("fitsed: write failed")]
     WriteFailed,
+    /// Data of the file were wanted again, and weren't had.
+    #[error("fitsed: {0}")]
+    Reread(Reread),
 }
 
 impl Fault {
@@ -32,7 +37,7 @@ impl Fault {
     {
         match self {
             Fault::Refused(_) | Fault::ScriptTooLong => 2,
-            Fault::Memory | Fault::ReadFailed | Fault::WriteFailed => 3,
+            Fault::Memory | Fault::ReadFailed | Fault::WriteFailed | Fault::Reread(_) => 3,
         }
     }
 }
@@ -86,6 +91,32 @@ impl From<ReadFileFault> for Fault {
         match why {
             ReadFileFault::Open(why) => Fault::from(why),
             ReadFileFault::Failed => Fault::ReadFailed,
+        }
+    }
+}
+
+impl From<LoadFault> for Fault {
+    ghost use Rattle.fits_cli.specs.Faults.{fault_of_load};
+    ghost use Rattle.std.specs.Prelude.{◌≡◌};
+
+    ghost from_gives = { λ why fault. fault ≡ fault_of_load why };
+
+    fn from(why: LoadFault) -> Fault {
+        Fault::Reread(Reread::from(why))
+    }
+}
+
+impl From<CopyFault> for Fault {
+    ghost use Rattle.fits_cli.specs.Faults.{fault_of_copy};
+    ghost use Rattle.std.specs.Prelude.{◌≡◌};
+
+    ghost from_gives = { λ why fault. fault ≡ fault_of_copy why };
+
+    fn from(why: CopyFault) -> Fault {
+        match why {
+            CopyFault::Failed => Fault::Reread(Reread::Failed),
+            CopyFault::Changed => Fault::Reread(Reread::Changed),
+            CopyFault::Write => Fault::WriteFailed,
         }
     }
 }

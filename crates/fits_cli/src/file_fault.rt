@@ -18,6 +18,7 @@ impl Display for FileFault<'_> {
             Fault::Memory => write!(f, "fitsed: {name}: no memory"),
             Fault::ReadFailed => write!(f, "fitsed: {name}: read failed"),
             Fault::WriteFailed => write!(f, "fitsed: {name}: write failed"),
+            Fault::Reread(why) => write!(f, "fitsed: {name}: {why}"),
         }
     }
 }

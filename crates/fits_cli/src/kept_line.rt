@@ -4,12 +4,16 @@ ghost use Rattle.fits_session.specs.Session.{marked_of};
 ghost use Rattle.fits_cli.specs.Answer.{kept_line, outcome_of, CommandFails};
 ghost use Rattle.fits_script.specs.declared.command.Command.TheVariants.{Kept};
 
-use fits_session::{Refusal, Session};
+use fits_session::{Holder, Refusal, Session};
 use std::alloc::{AllocError, Global};
 
 /// `kept H`
 #[tactic(auto, unfolding(crate::specs::Answer::outcome_of, crate::specs::Answer::OutcomeNeedsMemory))]
-pub(crate) fn kept(alloc: Global, session: &mut Session, hdu: usize) -> Result<Vec<u8>, Refusal>
+pub(crate) fn kept<H: Holder + Drop>(
+    alloc: Global,
+    session: &mut Session<H>,
+    hdu: usize,
+) -> Result<Vec<u8>, Refusal>
     ensures ok { IfOk result (λ text. outcome_of (marked_of session.old) (Kept hdu)
         ≡ Ok (record { text = text.items; left = marked_of session.new })) }
     ensures err { IfErr result (CommandFails (marked_of session.old) (Kept hdu)) }

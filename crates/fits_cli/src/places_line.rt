@@ -6,14 +6,14 @@ ghost use Rattle.fits_script.specs.declared.command.Command.TheVariants.{Positio
 
 use crate::pushing::push_number;
 use fits_card::Name;
-use fits_session::{Refusal, Session};
+use fits_session::{Holder, Refusal, Session};
 use std::alloc::{AllocError, Global};
 
 /// `pos H NAME`
 #[tactic(auto, unfolding(crate::specs::Answer::outcome_of, crate::specs::Answer::OutcomeNeedsMemory))]
-pub(crate) fn positions(
+pub(crate) fn positions<H: Holder + Drop>(
     alloc: Global,
-    session: &mut Session,
+    session: &mut Session<H>,
     hdu: usize,
     name: &Name,
 ) -> Result<Vec<u8>, Refusal>

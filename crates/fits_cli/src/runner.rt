@@ -2,25 +2,26 @@ use crate::answer::answer;
 use crate::fault::Fault;
 use crate::new_errors::{NewErrors, errors_since};
 use crate::printing::flush;
+use crate::readying::ready;
 use crate::reasons::clues_of;
 use crate::reply::{Reply, counts_as_refused, settled};
 use fits_script::{LineReading, read_line};
-use fits_session::{Problem, Session};
+use fits_session::{Holder, Problem, Session};
 use fits_stream::Sink;
 use std::alloc::{AllocError, Global};
 use std::marker::Model;
 
 /// A file and how far its script has come. Contracts see the standing.
 #[derive(Drop)]
-pub(crate) struct Runner {
-    session: Session,
+pub(crate) struct Runner<H: Holder + Drop> {
+    session: Session<H>,
     /// The number of the line that comes, from 1.
     line: u64,
     /// How many lines so far were refused or bad.
     refused: u64,
 }
 
-impl Model for Runner {
+impl<H: Holder + Drop> Model for Runner<H> {
     ghost use Rattle.std.specs.Prelude.{◌<◌};
     ghost use Rattle.fits_cli.specs.Answer.{Standing};
     ghost use Rattle.fits_session.specs.Session.{marked_of};
@@ -36,7 +37,7 @@ impl Model for Runner {
     ghost invariant = { λ runner. runner.refused < runner.line };
 }
 
-impl Runner {
+impl<H: Holder + Drop> Runner<H> {
     ghost use Rattle.std.specs.Prelude.{◌≡◌, ◌+◌, ◌^◌, ◌<◌, true, AllPairs, if◌then◌else◌, length, IfOk, IfErr, OnOk, OnErr};
     ghost use Rattle.fits_stream.specs.Stream.{Prints};
     ghost use Rattle.fits_cli.specs.Answer.{at_first_line, line_answer, line_left, LineNeedsMemory};
@@ -44,7 +45,8 @@ impl Runner {
     ghost use Rattle.fits_cli.specs.Output.{status_of};
     ghost use Rattle.fits_cli.specs.Remark.{remark_by, remark_on};
     ghost use Rattle.fits_cli.specs.Reply.{counts_as_refused, reply_text};
-    ghost use Rattle.fits_cli.specs.Faults.{PrintFails};
+    ghost use Rattle.fits_cli.specs.Faults.{IsOnce, SaveFails};
+    ghost use Rattle.fits_cli.specs.Running.{LacksReply};
     ghost use Rattle.fits_cli.specs.NewErrors.{new_error_lines, new_errors};
     ghost use Rattle.fits_session.specs.File.{file_bytes};
     ghost use Rattle.fits_session.specs.Marked.{unmarked};
@@ -52,7 +54,7 @@ impl Runner {
     ghost use Rattle.fits_session.specs.Session.{file_of, marked_of};
 
     /// Before the first line. No HDU is kept stamped.
-    pub(crate) fn new(session: Session) -> Runner
+    pub(crate) fn new(session: Session<H>) -> Runner<H>
         requires { marked_of session ≡ unmarked (file_of session) }
         ensures { result ≡ at_first_line (file_of session) }
     {
@@ -86,30 +88,29 @@ impl Runner {
 
     /// Does what a line says, and goes on to the next one. Where clues are wanted the reply has them.
     #[tactic(auto, unfolding(crate::specs::Answer::line_answer, crate::specs::Answer::line_left, crate::specs::Answer::LineNeedsMemory, crate::specs::Remark::remark_by, crate::specs::Remark::remark_on))]
-    pub(crate) fn reply(
-        &mut self,
-        alloc: Global,
-        wanted: bool,
-        line: &[u8],
-    ) -> Result<Reply, AllocError>
+    pub(crate) fn reply(&mut self, alloc: Global, wanted: bool, line: &[u8]) -> Result<Reply, Fault>
         requires { self.old.line + 1 < 2 ^ 64 }
-        ensures text { IfOk result (λ reply.
+        ensures text { H.steady → IfOk result (λ reply.
             reply_text self.old.line reply ≡ line_answer self.old (reading_of line.now)) }
-        ensures remark { IfOk result (λ reply. wanted ≡ true → remark_by line.now reply
+        ensures remark { H.steady → IfOk result (λ reply. wanted ≡ true → remark_by line.now reply
             ≡ remark_on self.old.marked line.now (reading_of line.now)) }
-        ensures left { OnOk result (self.new ≡ line_left self.old (reading_of line.now)) }
-        ensures err { OnErr result (LineNeedsMemory self.old.marked (reading_of line.now)) }
+        ensures left { H.steady → OnOk result
+            (self.new ≡ line_left self.old (reading_of line.now)) }
+        ensures err { H.steady → IfErr result
+            (LacksReply self.old.marked (reading_of line.now)) }
+        ensures once { H.whole ≡ true → IfErr result IsOnce }
         ensures line { OnOk result (self.new.line ≡ self.old.line + 1) }
     {
         match read_line(alloc, line) {
             Ok(LineReading::TooLong) => Ok(self.pass(Reply::TooLong)),
             Ok(LineReading::NoCommand) => Ok(self.pass(Reply::NoCommand)),
             Ok(LineReading::Said(command)) => {
+                ready(&mut self.session, &command)?;
                 let clues = clues_of(wanted, &command);
                 let reply = settled(clues, answer(alloc, &mut self.session, command))?;
                 Ok(self.pass(reply))
             }
-            Err(refused) => Err(refused),
+            Err(refused) => Err(Fault::from(refused)),
         }
     }
 
@@ -158,16 +159,15 @@ impl Runner {
     /// Saves the file, and flushes it.
     #[tactic(auto, using(fits_stream::proofs::StreamLemmas::flush_steps))]
     pub(crate) fn save<P: Sink>(&mut self, saved: &mut P) -> Result<(), Fault>
-        ensures ok { OnOk result (Prints (file_bytes self.old.marked.file)
+        ensures ok { H.steady → OnOk result (Prints (file_bytes self.old.marked.file)
             (P.state saved.old) (P.state saved.new)) }
-        ensures err { IfErr result (PrintFails (file_bytes self.old.marked.file)
+        ensures err { H.steady → IfErr result (SaveFails (file_bytes self.old.marked.file)
             (P.state saved.old) (P.state saved.new)) }
+        ensures once { H.whole ≡ true → IfErr result IsOnce }
         ensures flushed { OnOk result ((P.state saved.new).unflushed ≡ 0) }
         ensures left { self.new ≡ self.old }
     {
-        let Ok(()) = self.session.save(saved) else {
-            return Err(Fault::WriteFailed);
-        };
+        self.session.write(saved)?;
         flush(saved)
     }
 }

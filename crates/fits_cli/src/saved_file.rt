@@ -1,9 +1,10 @@
 use crate::replacement::Replacement;
 use std::alloc::AllocError;
-use std::fs::OpenOptions;
+use std::fs;
+use std::fs::{Metadata, OpenOptions};
 use std::io;
 use std::io::Write;
-use std::os::unix::fs::OpenOptionsExt;
+use std::os::unix::fs::{MetadataExt, OpenOptionsExt};
 use std::rt::Files;
 
 /// The file at a path, as it is saved.
@@ -54,6 +55,22 @@ impl<R: Files> SavedFile<'_, R> {
             (Some(mut replacement), Some(file)) => replacement.finish(&file),
             _ => Ok(()),
         }
+    }
+
+    /// Whether the file that this tells about stays as it is until all is saved: another one is
+    /// written, or a new one that takes its place. Then the new one is made at once.
+    pub fn spares(&mut self, file: &Metadata) -> bool {
+        let Ok(there) = fs::metadata(self.rt, self.path) else {
+            return true;
+        };
+        if there.dev() != file.dev() || there.ino() != file.ino() {
+            return true;
+        }
+        let Some(replacement) = &mut self.replacement else {
+            return false;
+        };
+        self.file = replacement.begin();
+        self.file.is_some()
     }
 
     // What the first byte goes to.

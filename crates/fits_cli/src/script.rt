@@ -4,7 +4,7 @@ ghost use Rattle.std.specs.Prelude.{vec_capacity, vec_len};
 ghost use Rattle.std.specs.Option.{option_map};
 ghost use Rattle.fits_stream.specs.Stream.{Prints};
 ghost use Rattle.fits_script.specs.Line.{reading_of};
-ghost use Rattle.fits_cli.specs.Faults.{PrintFails};
+ghost use Rattle.fits_cli.specs.Faults.{IsOnce, PrintFails};
 ghost use Rattle.fits_cli.specs.Reply.{reply_text};
 ghost use Rattle.fits_cli.specs.Running.{heard, kept_of, AnswersLine, AnswersScript, Continues};
 ghost use Rattle.fits_cli.specs.Running.{EndsScript, EndStops, LineStops, PieceStops, ScriptStops};
@@ -16,6 +16,7 @@ use crate::remarking::{remark_on, say};
 use crate::reply::{Reply, print_reply};
 use crate::runner::Runner;
 use fits_script::{LINE_LIMIT, split_far};
+use fits_session::Holder;
 use fits_stream::{PIECE_LEN, Sink, Source, buffer_of};
 use std::alloc::Global;
 
@@ -23,20 +24,21 @@ use std::alloc::Global;
 const LINE_ROOM: usize = LINE_LIMIT + 1;
 
 // Answers one line.
-fn answer_line<O: Sink, E: Sink>(
+fn answer_line<H: Holder + Drop, O: Sink, E: Sink>(
     alloc: Global,
-    runner: &mut Runner,
+    runner: &mut Runner<H>,
     line: &[u8],
     out: &mut O,
     told: &mut Option<E>,
 ) -> Result<(), Fault>
     requires { runner.old.line + 1 < 2 ^ 64 }
-    ensures ok { OnOk result (AnswersLine line.now runner.old runner.new
+    ensures ok { H.steady → OnOk result (AnswersLine line.now runner.old runner.new
         (heard (O.state out.old) (option_map E.state told.old))
         (heard (O.state out.new) (option_map E.state told.new))) }
-    ensures err { IfErr result (LineStops line.now runner.old
+    ensures err { H.steady → IfErr result (LineStops line.now runner.old
         (heard (O.state out.old) (option_map E.state told.old))
         (heard (O.state out.new) (option_map E.state told.new))) }
+    ensures once { H.whole ≡ true → IfErr result IsOnce }
     ensures line { OnOk result (runner.new.line ≡ runner.old.line + 1) }
 {
     let number = runner.line();
@@ -84,9 +86,9 @@ fn keep(line: &mut Vec<u8>, more: &[u8])
 }
 
 // Answers each line that ends in this piece. `line` holds what came of a line that hasn't ended.
-fn answer_piece<O: Sink, E: Sink>(
+fn answer_piece<H: Holder + Drop, O: Sink, E: Sink>(
     alloc: Global,
-    runner: &mut Runner,
+    runner: &mut Runner<H>,
     line: &mut Vec<u8>,
     piece: &[u8],
     out: &mut O,
@@ -95,13 +97,14 @@ fn answer_piece<O: Sink, E: Sink>(
     requires numbers { runner.old.line + length piece.now + 1 < 2 ^ 64 }
     requires room { LINE_LIMIT + 1 ≤ vec_capacity line.old }
     requires within { vec_len line.old ≤ LINE_LIMIT + 1 }
-    ensures ok { OnOk result (Continues piece.now line.old.items line.new.items runner.old
+    ensures ok { H.steady → OnOk result (Continues piece.now line.old.items line.new.items runner.old
         runner.new
         (heard (O.state out.old) (option_map E.state told.old))
         (heard (O.state out.new) (option_map E.state told.new))) }
-    ensures err { IfErr result (PieceStops piece.now line.old.items runner.old
+    ensures err { H.steady → IfErr result (PieceStops piece.now line.old.items runner.old
         (heard (O.state out.old) (option_map E.state told.old))
         (heard (O.state out.new) (option_map E.state told.new))) }
+    ensures once { H.whole ≡ true → IfErr result IsOnce }
     ensures line { OnOk result (runner.new.line ≤ runner.old.line + length piece.now) }
     ensures room { OnOk result (LINE_LIMIT + 1 ≤ vec_capacity line.new) }
     ensures within { OnOk result (vec_len line.new ≤ LINE_LIMIT + 1) }
@@ -120,9 +123,9 @@ fn answer_piece<O: Sink, E: Sink>(
 }
 
 // The same, and passes the answers on, so that what asks by a pipe has them before it says more.
-fn answer_at_once<O: Sink, E: Sink>(
+fn answer_at_once<H: Holder + Drop, O: Sink, E: Sink>(
     alloc: Global,
-    runner: &mut Runner,
+    runner: &mut Runner<H>,
     line: &mut Vec<u8>,
     piece: &[u8],
     out: &mut O,
@@ -131,13 +134,14 @@ fn answer_at_once<O: Sink, E: Sink>(
     requires numbers { runner.old.line + length piece.now + 1 < 2 ^ 64 }
     requires room { LINE_LIMIT + 1 ≤ vec_capacity line.old }
     requires within { vec_len line.old ≤ LINE_LIMIT + 1 }
-    ensures ok { OnOk result (Continues piece.now line.old.items line.new.items runner.old
+    ensures ok { H.steady → OnOk result (Continues piece.now line.old.items line.new.items runner.old
         runner.new
         (heard (O.state out.old) (option_map E.state told.old))
         (heard (O.state out.new) (option_map E.state told.new))) }
-    ensures err { IfErr result (PieceStops piece.now line.old.items runner.old
+    ensures err { H.steady → IfErr result (PieceStops piece.now line.old.items runner.old
         (heard (O.state out.old) (option_map E.state told.old))
         (heard (O.state out.new) (option_map E.state told.new))) }
+    ensures once { H.whole ≡ true → IfErr result IsOnce }
     ensures flushed { OnOk result ((O.state out.new).unflushed ≡ 0) }
     ensures line { OnOk result (runner.new.line ≤ runner.old.line + length piece.now) }
     ensures room { OnOk result (LINE_LIMIT + 1 ≤ vec_capacity line.new) }
@@ -148,20 +152,21 @@ fn answer_at_once<O: Sink, E: Sink>(
 }
 
 // Answers what came after the last line feed, unless it is nothing.
-fn answer_last_line<O: Sink, E: Sink>(
+fn answer_last_line<H: Holder + Drop, O: Sink, E: Sink>(
     alloc: Global,
-    runner: &mut Runner,
+    runner: &mut Runner<H>,
     line: &[u8],
     out: &mut O,
     told: &mut Option<E>,
 ) -> Result<(), Fault>
     requires { runner.old.line + 1 < 2 ^ 64 }
-    ensures ok { OnOk result (EndsScript line.now runner.old runner.new
+    ensures ok { H.steady → OnOk result (EndsScript line.now runner.old runner.new
         (heard (O.state out.old) (option_map E.state told.old))
         (heard (O.state out.new) (option_map E.state told.new))) }
-    ensures err { IfErr result (EndStops line.now runner.old
+    ensures err { H.steady → IfErr result (EndStops line.now runner.old
         (heard (O.state out.old) (option_map E.state told.old))
         (heard (O.state out.new) (option_map E.state told.new))) }
+    ensures once { H.whole ≡ true → IfErr result IsOnce }
 {
     if line.is_empty() {
         return Ok(());
@@ -171,21 +176,22 @@ fn answer_last_line<O: Sink, E: Sink>(
 }
 
 /// Answers a script to its end, or as far as its limit.
-pub(crate) fn answer_script<S: Source, O: Sink, E: Sink>(
+pub(crate) fn answer_script<H: Holder + Drop, S: Source, O: Sink, E: Sink>(
     alloc: Global,
-    runner: &mut Runner,
+    runner: &mut Runner<H>,
     script: &mut S,
     out: &mut O,
     told: &mut Option<E>,
 ) -> Result<(), Fault>
     requires { runner.old.line ≡ 1 }
-    ensures ok { OnOk result (AnswersScript (S.state script.old) (S.state script.new) runner.old
+    ensures ok { H.steady → OnOk result (AnswersScript (S.state script.old) (S.state script.new) runner.old
         runner.new
         (heard (O.state out.old) (option_map E.state told.old))
         (heard (O.state out.new) (option_map E.state told.new))) }
-    ensures err { IfErr result (ScriptStops (S.state script.old) (S.state script.new) runner.old
+    ensures err { H.steady → IfErr result (ScriptStops (S.state script.old) (S.state script.new) runner.old
         (heard (O.state out.old) (option_map E.state told.old))
         (heard (O.state out.new) (option_map E.state told.new))) }
+    ensures once { H.whole ≡ true → IfErr result IsOnce }
 {
     let mut buffer = buffer_of(alloc, PIECE_LEN)?;
     let mut line = Vec::with_capacity(alloc, LINE_ROOM)?;
@@ -201,9 +207,9 @@ pub(crate) fn answer_script<S: Source, O: Sink, E: Sink>(
 }
 
 // Answers a script piece by piece. `piece` and `line` are room for a piece and for a line.
-fn answer_pieces<S: Source, O: Sink, E: Sink>(
+fn answer_pieces<H: Holder + Drop, S: Source, O: Sink, E: Sink>(
     alloc: Global,
-    runner: &mut Runner,
+    runner: &mut Runner<H>,
     script: &mut S,
     out: &mut O,
     told: &mut Option<E>,
@@ -214,13 +220,14 @@ fn answer_pieces<S: Source, O: Sink, E: Sink>(
     requires wide { 0 < length piece.old }
     requires empty { line.old.items ≡ [] }
     requires room { LINE_LIMIT + 1 ≤ vec_capacity line.old }
-    ensures ok { OnOk result (AnswersScript (S.state script.old) (S.state script.new) runner.old
+    ensures ok { H.steady → OnOk result (AnswersScript (S.state script.old) (S.state script.new) runner.old
         runner.new
         (heard (O.state out.old) (option_map E.state told.old))
         (heard (O.state out.new) (option_map E.state told.new))) }
-    ensures err { IfErr result (ScriptStops (S.state script.old) (S.state script.new) runner.old
+    ensures err { H.steady → IfErr result (ScriptStops (S.state script.old) (S.state script.new) runner.old
         (heard (O.state out.old) (option_map E.state told.old))
         (heard (O.state out.new) (option_map E.state told.new))) }
+    ensures once { H.whole ≡ true → IfErr result IsOnce }
 {
     let mut taken = 0usize;
     loop {

@@ -1,12 +1,17 @@
 //! The run of `edit -a`: nothing is saved unless every line of the script was done.
-ghost use Rattle.std.specs.Prelude.{OnErr, OnOk};
+ghost use Rattle.std.specs.Prelude.{◌≡◌, true, not, OnErr, OnOk};
 ghost use Rattle.std.specs.Option.{option_map};
-ghost use Rattle.fits_cli.specs.Ends.{run, AreAllRemarks, AreToldOf, EndsWhole, EndsWholeAs, RemarksEndAs};
+ghost use Rattle.fits_stream.specs.Stream.{SourceState};
+ghost use Rattle.fits_session.specs.Away.{AllTell};
+ghost use Rattle.fits_session.specs.Marked.{unmarked};
+ghost use Rattle.fits_session.specs.Session.{file_of, marked_of};
+ghost use Rattle.fits_cli.specs.Ends.{run, run_by, unread, AreAllRemarks, AreToldOf, EndsWhole, EndsWholeAs, OverFile, RemarksEndAs};
 
 use crate::editing::answered;
 use crate::end::End;
 use crate::fault::Fault;
-use fits_stream::{Sink, Source};
+use fits_session::{Holder, Session};
+use fits_stream::{Sink, Source, Stored};
 use std::alloc::Global;
 
 /// How a run of `edit -a` ended.
@@ -15,6 +20,21 @@ pub struct WholeEnd {
     pub end: End,
     /// How many lines weren't done, where that kept the file from being saved; else 0.
     pub undone: u64,
+}
+
+impl From<Fault> for WholeEnd {
+    ghost use Rattle.std.specs.Prelude.{◌≡◌, Some};
+    ghost use Rattle.fits_cli.specs.Faults.{status_of_fault};
+
+    ghost from_gives = { λ why whole. (whole.end.status ≡ status_of_fault why)
+        × (whole.end.fault ≡ Some why) × (whole.undone ≡ 0) };
+
+    fn from(why: Fault) -> WholeEnd {
+        WholeEnd {
+            end: End::from(why),
+            undone: 0,
+        }
+    }
 }
 
 /// Reads a file and opens it, and answers a script, as `run_edit` does. What the script made of the
@@ -34,7 +54,55 @@ pub fn run_edit_whole<F: Source, S: Source, P: Sink, O: Sink, E: Sink>(
     ensures told { RemarksEndAs (F.state file.old) (S.state script.old) (S.state script.new)
         (option_map E.state told.old) (option_map E.state told.new) result.end }
 {
-    match edit_whole(alloc, file, script, saved, out, told) {
+    match Session::read(alloc, file) {
+        Ok(session) => run_over(alloc, session, script, saved, out, told),
+        Err(why) => WholeEnd::from(Fault::from(why)),
+    }
+}
+
+/// The same of a stored file, as `run_edit_stored` reads it.
+pub fn run_edit_whole_stored<F: Stored, S: Source, P: Sink, O: Sink, E: Sink>(
+    alloc: Global,
+    file: &F,
+    script: &mut S,
+    saved: &mut P,
+    out: &mut O,
+    told: &mut Option<E>,
+) -> WholeEnd
+    ensures ends { AllTell F.bytes → (after : SourceState) × EndsWholeAs
+        (run_by true (unread (F.bytes file.now))
+        (S.state script.old) (O.state out.old) (P.state saved.old))
+        (run_by true after (S.state script.new) (O.state out.new) (P.state saved.new))
+        result.end result.undone }
+    ensures told { AllTell F.bytes → RemarksEndAs (unread (F.bytes file.now))
+        (S.state script.old) (S.state script.new)
+        (option_map E.state told.old) (option_map E.state told.new) result.end }
+{
+    match Session::read_stored(alloc, file) {
+        Ok(session) => run_over(alloc, session, script, saved, out, told),
+        Err(why) => WholeEnd::from(Fault::from(why)),
+    }
+}
+
+// The run over a file that was opened.
+fn run_over<H: Holder + Drop, S: Source, P: Sink, O: Sink, E: Sink>(
+    alloc: Global,
+    session: Session<H>,
+    script: &mut S,
+    saved: &mut P,
+    out: &mut O,
+    told: &mut Option<E>,
+) -> WholeEnd
+    requires { marked_of session ≡ unmarked (file_of session) }
+    ensures ends { H.steady → OverFile (file_of session) (λ file after. EndsWholeAs
+        (run_by (not H.whole) file (S.state script.old) (O.state out.old) (P.state saved.old))
+        (run_by (not H.whole) after (S.state script.new) (O.state out.new) (P.state saved.new))
+        result.end result.undone) }
+    ensures told { H.steady → OverFile (file_of session) (λ file after. RemarksEndAs file
+        (S.state script.old) (S.state script.new)
+        (option_map E.state told.old) (option_map E.state told.new) result.end) }
+{
+    match edit_whole(alloc, session, script, saved, out, told) {
         Ok((status, undone)) => WholeEnd {
             end: End {
                 status,
@@ -42,33 +110,31 @@ pub fn run_edit_whole<F: Source, S: Source, P: Sink, O: Sink, E: Sink>(
             },
             undone,
         },
-        Err(fault) => WholeEnd {
-            end: End::from(fault),
-            undone: 0,
-        },
+        Err(fault) => WholeEnd::from(fault),
     }
 }
 
 // The run as a result: its status and how many lines weren't done, or the fault that ended it.
-fn edit_whole<F: Source, S: Source, P: Sink, O: Sink, E: Sink>(
+fn edit_whole<H: Holder + Drop, S: Source, P: Sink, O: Sink, E: Sink>(
     alloc: Global,
-    file: &mut F,
+    session: Session<H>,
     script: &mut S,
     saved: &mut P,
     out: &mut O,
     told: &mut Option<E>,
 ) -> Result<(u8, u64), Fault>
-    ensures ends { EndsWhole
-        (run (F.state file.old) (S.state script.old) (O.state out.old) (P.state saved.old))
-        (run (F.state file.new) (S.state script.new) (O.state out.new) (P.state saved.new))
-        result }
-    ensures all { OnOk result (AreAllRemarks (F.state file.old) (S.state script.old)
-        (option_map E.state told.old) (option_map E.state told.new)) }
-    ensures some { OnErr result (AreToldOf (F.state file.old)
-        (S.state script.old) (S.state script.new)
-        (option_map E.state told.old) (option_map E.state told.new)) }
+    requires { marked_of session ≡ unmarked (file_of session) }
+    ensures ends { H.steady → OverFile (file_of session) (λ file after. EndsWhole
+        (run_by (not H.whole) file (S.state script.old) (O.state out.old) (P.state saved.old))
+        (run_by (not H.whole) after (S.state script.new) (O.state out.new) (P.state saved.new))
+        result) }
+    ensures all { H.steady → OnOk result (OverFile (file_of session) (λ file after. AreAllRemarks
+        file (S.state script.old) (option_map E.state told.old) (option_map E.state told.new))) }
+    ensures some { H.steady → OnErr result (OverFile (file_of session) (λ file after. AreToldOf
+        file (S.state script.old) (S.state script.new)
+        (option_map E.state told.old) (option_map E.state told.new))) }
 {
-    let mut runner = answered(alloc, file, script, out, told)?;
+    let mut runner = answered(alloc, session, script, out, told)?;
     let undone = runner.refused();
     if undone > 0 {
         return Ok((runner.status(), undone));

@@ -5,4 +5,4 @@ use Rattle.fits_cli.proofs.places_line.positions.Goals as goal
 
 pub returns-in_default-clause-ok : goal.returns-in_default-clause-ok
 unfolding outcome_of OutcomeNeedsMemory
-returns-in_default-clause-ok c = search rules
+returns-in_default-clause-ok g c = search rules

@@ -3,7 +3,7 @@ use Rattle.fits_cli.proofs.ScriptLemmas.{Continues-flushed, PieceStops-unflushed
 use Rattle.fits_cli.proofs.script.answer_at_once.Goals as goal
 
 pub returns-clause-ok : goal.returns-clause-ok
-returns-clause-ok g c = last_ok _ c.flush.ensures.ok (Continues-flushed _ _ _ _ _ _ _ _ _ c.in_ok-answer_piece.ensures.ok)
+returns-clause-ok g c steady = last_ok _ c.flush.ensures.ok (Continues-flushed _ _ _ _ _ _ _ _ _ (c.in_ok-answer_piece.ensures.ok steady))
 
 pub returns-clause-err : goal.returns-clause-err
-returns-clause-err g c = last_err _ c.flush.ensures.err (λ why failed. PieceStops-unflushed _ _ _ _ _ _ _ _ _ why c.in_ok-answer_piece.ensures.ok failed)
+returns-clause-err g c steady = last_err _ c.flush.ensures.err (λ why failed. PieceStops-unflushed _ _ _ _ _ _ _ _ _ why (c.in_ok-answer_piece.ensures.ok steady) failed)

@@ -4,14 +4,14 @@ use Rattle.fits_cli.proofs.RunLemmas.{EndsScript-none, EndsScript-line, EndStops
 use Rattle.fits_cli.proofs.script.answer_last_line.Goals as goal
 
 pub returns-then-is_empty-clause-ok : goal.returns-then-is_empty-clause-ok
-returns-then-is_empty-clause-ok g c = EndsScript-none c.args.line.now _ _ (let empty : length c.args.line.now ≡ 0 = search rules in empty)
+returns-then-is_empty-clause-ok g c steady = EndsScript-none c.args.line.now _ _ (let empty : length c.args.line.now ≡ 0 = search rules in empty)
 
 pub returns-in_err-answer_line-clause-err : goal.returns-in_err-answer_line-clause-err
-returns-in_err-answer_line-clause-err g c =
+returns-in_err-answer_line-clause-err g c steady =
     let some : 0 < length c.args.line.now = search rules in
-    at_exit _ _ _ c.from_residual.ensures.1 (EndStops-line c.args.line.now c.args.runner.now _ _ _ some c.in_err-answer_line.ensures.err)
+    at_exit _ _ _ c.from_residual.ensures.1 (EndStops-line c.args.line.now c.args.runner.now _ _ _ some (c.in_err-answer_line.ensures.err steady))
 
 pub returns-clause-ok : goal.returns-clause-ok
-returns-clause-ok g c =
+returns-clause-ok g c steady =
     let some : 0 < length c.args.line.now = search rules in
-    EndsScript-line c.args.line.now _ _ _ _ some c.in_ok-answer_line.ensures.ok
+    EndsScript-line c.args.line.now _ _ _ _ some (c.in_ok-answer_line.ensures.ok steady)

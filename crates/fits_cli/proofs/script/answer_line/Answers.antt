@@ -1,12 +1,17 @@
+use Rattle.fits_cli.proofs.ExitLemmas.{at_exit}
 use Rattle.fits_cli.proofs.RemarkLemmas.{said_line}
+use Rattle.fits_cli.proofs.RunLemmas.{LineStops-reply}
 use Rattle.fits_cli.proofs.script.answer_line.Goals as goal
 
 pub returns-clause-ok : goal.returns-clause-ok
-returns-clause-ok g c = record {
+returns-clause-ok g c steady = record {
   said = record {
-    printed = rw (c.line-number.ensures, c.in_ok-reply.ensures.text) at c.in_ok-print_answer.ensures.ok;
+    printed = rw (c.line-number.ensures, (c.in_ok-reply.ensures.text steady)) at c.in_ok-print_answer.ensures.ok;
     told = said_line g.E.Sink.state c.args.runner.now c.args.line.now _ c.is_some-wanted.result c.remark_on-remark.result c.in_ok-reply.reply c.args.told.now _
-        c.line-number.ensures c.is_some-wanted.ensures c.remark_on-remark.ensures c.in_ok-reply.ensures.remark c.say.ensures;
+        c.line-number.ensures c.is_some-wanted.ensures c.remark_on-remark.ensures (c.in_ok-reply.ensures.remark steady) c.say.ensures;
   };
-  left = c.in_ok-reply.ensures.left;
+  left = (c.in_ok-reply.ensures.left steady);
 }
+
+pub returns-in_err-reply-clause-err : goal.returns-in_err-reply-clause-err
+returns-in_err-reply-clause-err g c steady = at_exit _ _ _ c.from_residual.ensures.1 (LineStops-reply c.args.line.now c.args.runner.now _ _ (c.in_err-reply.ensures.err steady))

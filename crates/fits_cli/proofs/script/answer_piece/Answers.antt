@@ -8,21 +8,21 @@ pub loop-front-init : goal.loop-front-init
 loop-front-init g c = record {
   done = [];
   split = refl;
-  answered = Continues-none c.args.line.now.items c.args.runner.now _;
+  answered = λ steady. Continues-none c.args.line.now.items c.args.runner.now _;
   numbered = omega arith;
   room = c.requires.room;
   within = c.requires.within;
 }
 
 pub returns-in_default-clause-ok : goal.returns-in_default-clause-ok
-returns-in_default-clause-ok g c =
+returns-in_default-clause-ok g c steady =
     let inv = c.loop-front.invariant in
     rw inv.split
     (Continues-open inv.done c.loop-front.rest.now c.args.line.now.items c.loop-front.line.items c.keep.new.line.items c.args.runner.now c.loop-front.runner _ _
-    inv.answered c.in_default.ensures.none c.keep.ensures.kept)
+    (inv.answered steady) c.in_default.ensures.none c.keep.ensures.kept)
 
 pub returns-in_err-answer_line-clause-err : goal.returns-in_err-answer_line-clause-err
-returns-in_err-answer_line-clause-err g c =
+returns-in_err-answer_line-clause-err g c steady =
     let inv = c.loop-front.invariant in
     let front = c.in-Some.front.now in
     let next = c.in-Some.next.now in
@@ -31,7 +31,7 @@ returns-in_err-answer_line-clause-err g c =
     at_exit _ _ _ c.from_residual.ensures.1
     (rw whole
     (PieceStops-line inv.done front next c.args.line.now.items c.loop-front.line.items c.keep-in-loop-front.new.line.items c.args.runner.now c.loop-front.runner _ _ _ c.in_err-answer_line.field-0.0
-    inv.answered c.in-Some.ensures.some.0 c.keep-in-loop-front.ensures.kept (rw c.deref.ensures.value at c.in_err-answer_line.ensures.err)))
+    (inv.answered steady) c.in-Some.ensures.some.0 c.keep-in-loop-front.ensures.kept (rw c.deref.ensures.value at (c.in_err-answer_line.ensures.err steady))))
 
 pub loop-front-preserved : goal.loop-front-preserved
 loop-front-preserved g c =
@@ -43,9 +43,9 @@ loop-front-preserved g c =
     record {
       done = done ++ (front ++ 10 ∷ []);
       split = inv.split ∙ ap (λ t. done ++ t) (cut ∙ sym (append_assoc front (10 ∷ []) next)) ∙ sym (append_assoc done (front ++ 10 ∷ []) next);
-      answered = rw c.clear.ensures.items
+      answered = λ steady. rw c.clear.ensures.items
           (Continues-line done front c.args.line.now.items c.loop-front.line.items c.keep-in-loop-front.new.line.items c.args.runner.now c.loop-front.runner c.answer_line.new.runner _ _ _
-          inv.answered c.in-Some.ensures.some.0 c.keep-in-loop-front.ensures.kept (rw c.deref.ensures.value at c.in_ok-answer_line.ensures.ok));
+          (inv.answered steady) c.in-Some.ensures.some.0 c.keep-in-loop-front.ensures.kept (rw c.deref.ensures.value at (c.in_ok-answer_line.ensures.ok steady)));
       numbered = omega (arith, c.in_ok-answer_line.ensures.line, ap length cut, length-append front (10 ∷ next), inv.numbered);
       room = omega (arith, c.clear.ensures.capacity, c.keep-in-loop-front.ensures.room);
       within = omega (arith, c.clear.ensures.len);

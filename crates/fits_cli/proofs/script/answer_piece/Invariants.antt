@@ -9,7 +9,7 @@ abbrev pub invariant-loop-front : goal.invariant-loop-front
 invariant-loop-front g l = record {
   done : List ℕ;
   split : l.piece ≡ done ++ l.rest;
-  answered : Continues done l.fn.line.items l.line.items l.fn.runner l.runner (heard (g.O.Sink.state l.fn.out) (option_map g.E.Sink.state l.fn.told)) (heard (g.O.Sink.state l.out) (option_map g.E.Sink.state l.told));
+  answered : g.H.Holder.steady → Continues done l.fn.line.items l.line.items l.fn.runner l.runner (heard (g.O.Sink.state l.fn.out) (option_map g.E.Sink.state l.fn.told)) (heard (g.O.Sink.state l.out) (option_map g.E.Sink.state l.told));
   numbered : l.runner.line + length l.rest ≤ l.fn.runner.line + length l.piece;
   room : LINE_LIMIT + 1 ≤ vec_capacity l.line;
   within : vec_len l.line ≤ LINE_LIMIT + 1;

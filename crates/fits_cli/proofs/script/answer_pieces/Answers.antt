@@ -12,7 +12,7 @@ loop-n-init g c = record {
   read = Reads-none (g.S.Source.state c.args.script.now);
   counted = refl;
   short = omega arith;
-  has = rw c.requires.empty (HasCome-none c.args.runner.now _);
+  has = λ steady. rw c.requires.empty (HasCome-none c.args.runner.now _);
   numbered = omega (arith, c.requires.first);
   wide = c.requires.wide;
   room = c.requires.room;
@@ -20,50 +20,50 @@ loop-n-init g c = record {
 }
 
 pub returns-in_default-clause-err : goal.returns-in_default-clause-err
-returns-in_default-clause-err g c =
+returns-in_default-clause-err g c steady =
     let inv = c.loop-n.invariant in
     ScriptReadFails-after _ (g.S.Source.state c.loop-n.script) _ inv.came c.loop-n.line.items c.args.runner.now c.loop-n.runner _ _
-    inv.read c.in_default.ensures.err (omega (arith, inv.counted, inv.short)) inv.has
+    inv.read c.in_default.ensures.err (omega (arith, inv.counted, inv.short)) (inv.has steady)
 
 pub returns-then-n-eq0-clause-err : goal.returns-then-n-eq0-clause-err
-returns-then-n-eq0-clause-err g c =
+returns-then-n-eq0-clause-err g c steady =
     let inv = c.loop-n.invariant in
-    last_err _ (rw c.deref.ensures.value at c.answer_last_line.ensures.err)
+    last_err _ (rw c.deref.ensures.value at (c.answer_last_line.ensures.err steady))
     (λ why stops. ScriptStops-end _ (g.S.Source.state c.loop-n.script) _ c.in-Ok.n inv.came c.read.new.buffer c.loop-n.line.items c.args.runner.now c.loop-n.runner _ _ _
     why inv.read c.in-Ok.ensures.ok c.if-n-eq0.true (c.in-Ok.ensures.ends c.if-n-eq0.true (search rules)) (omega (arith, inv.counted, inv.short))
-    inv.has stops)
+    (inv.has steady) stops)
 
 pub returns-then-n-eq0-clause-ok : goal.returns-then-n-eq0-clause-ok
-returns-then-n-eq0-clause-ok g c =
+returns-then-n-eq0-clause-ok g c steady =
     let inv = c.loop-n.invariant in
-    last_ok _ (rw c.deref.ensures.value at c.answer_last_line.ensures.ok)
+    last_ok _ (rw c.deref.ensures.value at (c.answer_last_line.ensures.ok steady))
     (λ ends. AnswersScript-end _ (g.S.Source.state c.loop-n.script) _ c.in-Ok.n inv.came c.read.new.buffer c.loop-n.line.items c.args.runner.now c.loop-n.runner _ _ _ _
     inv.read c.in-Ok.ensures.ok c.if-n-eq0.true (c.in-Ok.ensures.ends c.if-n-eq0.true (search rules)) (omega (arith, inv.counted, inv.short))
-    inv.has ends)
+    (inv.has steady) ends)
 
 pub returns-in_err-answer_piece-clause-err : goal.returns-in_err-answer_piece-clause-err
-returns-in_err-answer_piece-clause-err g c =
+returns-in_err-answer_piece-clause-err g c steady =
     let inv = c.loop-n.invariant in
     at_exit _ _ _ c.from_residual.ensures.1
     (ScriptStops-over _ (g.S.Source.state c.loop-n.script) _ c.in-Ok.n inv.came c.read.new.buffer c.loop-n.line.items c.args.runner.now c.loop-n.runner _ _ _
     c.in_err-answer_piece.field-0.0 inv.read c.in-Ok.ensures.ok (omega (arith, inv.counted, inv.short)) (omega (arith, c.if-n-room.true, inv.counted)) (search rules)
-    inv.has (rw (c.split_at.ensures.front, inv.counted) at c.in_err-answer_piece.ensures.err))
+    (inv.has steady) (rw (c.split_at.ensures.front, inv.counted) at (c.in_err-answer_piece.ensures.err steady)))
 
 pub returns-then-n-room-clause-err : goal.returns-then-n-room-clause-err
-returns-then-n-room-clause-err g c =
+returns-then-n-room-clause-err g c steady =
     let inv = c.loop-n.invariant in
     AnswersTooLong-over _ (g.S.Source.state c.loop-n.script) _ c.in-Ok.n inv.came c.read.new.buffer c.loop-n.line.items c.answer_piece.new.line.items
     c.args.runner.now c.loop-n.runner c.answer_piece.new.runner _ _ _ inv.read c.in-Ok.ensures.ok (omega (arith, inv.counted, inv.short)) (omega (arith, c.if-n-room.true, inv.counted)) (search rules)
-    inv.has (rw (c.split_at.ensures.front, inv.counted) at c.in_ok-answer_piece.ensures.ok)
+    (inv.has steady) (rw (c.split_at.ensures.front, inv.counted) at (c.in_ok-answer_piece.ensures.ok steady))
 
 pub returns-in_err-answer_at_once-clause-err : goal.returns-in_err-answer_at_once-clause-err
-returns-in_err-answer_at_once-clause-err g c =
+returns-in_err-answer_at_once-clause-err g c steady =
     let inv = c.loop-n.invariant in
     let size : length (take c.in-Ok.n c.read.new.buffer) ≡ c.in-Ok.n = length-take-le c.in-Ok.n c.read.new.buffer (search rules) in
     at_exit _ _ _ c.from_residual-in_err-answer_at_once.ensures.1
     (ScriptStops-piece _ (g.S.Source.state c.loop-n.script) _ inv.came (take c.in-Ok.n c.read.new.buffer) c.loop-n.line.items c.args.runner.now c.loop-n.runner _ _ _
     c.in_err-answer_at_once.field-0.0 inv.read c.in-Ok.ensures.ok (omega (arith, c.if-n-room.false, inv.counted, inv.short, size))
-    inv.has (rw c.split_at-in-loop-n.ensures.front at c.in_err-answer_at_once.ensures.err))
+    (inv.has steady) (rw c.split_at-in-loop-n.ensures.front at (c.in_err-answer_at_once.ensures.err steady)))
 
 pub loop-n-preserved : goal.loop-n-preserved
 loop-n-preserved g c =
@@ -73,7 +73,7 @@ loop-n-preserved g c =
       read = Reads-more _ _ _ _ _ inv.read c.in-Ok.ensures.ok;
       counted = omega (arith, inv.counted, length-append inv.came (take c.in-Ok.n c.read.new.buffer), length-take-le c.in-Ok.n c.read.new.buffer (search rules));
       short = omega (arith, c.if-n-room.false, inv.short);
-      has = (rw c.split_at-in-loop-n.ensures.front at c.in_ok-answer_at_once.ensures.ok) inv.came c.args.runner.now _ inv.has;
+      has = λ steady. (rw c.split_at-in-loop-n.ensures.front at (c.in_ok-answer_at_once.ensures.ok steady)) inv.came c.args.runner.now _ (inv.has steady);
       numbered = omega (arith, c.in_ok-answer_at_once.ensures.line, c.split_at-in-loop-n.ensures.front_len, inv.numbered);
       wide = omega (arith, inv.wide, c.read.auto.buffer);
       room = c.in_ok-answer_at_once.ensures.room;

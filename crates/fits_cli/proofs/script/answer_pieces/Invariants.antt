@@ -13,7 +13,7 @@ invariant-loop-n g l = record {
   read : Reads came (g.S.Source.state l.fn.script) (g.S.Source.state l.script);
   counted : l.taken ≡ length came;
   short : l.taken ≤ SCRIPT_LIMIT;
-  has : HasCome came l.line.items l.fn.runner l.runner (heard (g.O.Sink.state l.fn.out) (option_map g.E.Sink.state l.fn.told)) (heard (g.O.Sink.state l.out) (option_map g.E.Sink.state l.told));
+  has : g.H.Holder.steady → HasCome came l.line.items l.fn.runner l.runner (heard (g.O.Sink.state l.fn.out) (option_map g.E.Sink.state l.fn.told)) (heard (g.O.Sink.state l.out) (option_map g.E.Sink.state l.told));
   numbered : l.runner.line ≤ l.taken + 1;
   wide : 0 < length l.piece;
   room : LINE_LIMIT + 1 ≤ vec_capacity l.line;
