@@ -73,7 +73,7 @@ impl Holder for InMemory {
 }
 
 /// How many bytes are copied at once.
-const ROOM_LEN: usize = 262_144;
+const ROOM_LEN: usize = 65_536;
 
 /// Data units that aren't in memory lie in a stored file.
 #[derive(Drop)]
@@ -90,7 +90,7 @@ impl<'f, F> Model for InFile<'f, F> {
 
     ghost view = { λ it. it.file.now };
 
-    ghost invariant = { λ it. vec_len it.room ≡ 262144 };
+    ghost invariant = { λ it. vec_len it.room ≡ 65536 };
 }
 
 impl<'f, F: Stored> InFile<'f, F> {

@@ -2,12 +2,13 @@
 use crate::files::{mode_of, source_of};
 use crate::piece::{Piece, script_of};
 use crate::remarks::{before_remarks, remarks_after};
-use crate::reporting::{report_new_errors, report_undone, reported, reported_of};
+use crate::reporting::{ends_all, report_new_errors, report_undone, reported, reported_of};
 use crate::task::Terms;
 use fits_cli::{
-    CheckedEnd, End, Fault, SavedFile, WholeEnd, run_edit_checked, run_edit_told, run_edit_whole,
+    CheckedEnd, End, Fault, SavedFile, WholeEnd, run_edit_checked, run_edit_checked_stored,
+    run_edit_stored, run_edit_told, run_edit_whole, run_edit_whole_stored,
 };
-use fits_stream::{NamedLines, Sink, Source, Watched};
+use fits_stream::{NamedLines, Sink, Source, Stored, Watched};
 use std::alloc::Global;
 use std::fs::File;
 use std::io::{BufWriter, Stderr, Write};
@@ -79,7 +80,7 @@ pub fn edit_in_place<R: Files<File = File> + Input + Print + Eprint + AllocGloba
         let done = edited_in_place(rt, at, terms, told, text.as_slice(), &mut out);
         let fault = done.end.fault;
         status = status.max(status_of(rt, path, named, done));
-        if let Some(Fault::Memory | Fault::WriteFailed) = fault {
+        if fault.is_some_and(ends_all) {
             return status;
         }
     }
@@ -126,24 +127,35 @@ fn edited<R: Files<File = File> + AllocGlobal, S: Source, O: Sink>(
     let Ok(mut told) = remarks_after(rt.alloc(), told, &before) else {
         return ended(End::from(Fault::Memory));
     };
-    let Ok(saved) = SavedFile::new(rt, paths.to, mode_of(&file)) else {
+    let is_new = fs::symlink_metadata(rt, paths.to).is_err();
+    let Ok(mut saved) = SavedFile::new(rt, paths.to, mode_of(&file)) else {
         return ended(End::from(Fault::Memory));
     };
+    let stays = matches!(file.metadata(), Ok(about) if about.is_file() && saved.spares(&about));
     let Ok(saved) = BufWriter::new(rt.alloc(), saved) else {
         return ended(End::from(Fault::Memory));
     };
     let mut saved = Watched::new(saved);
-    let mut source = source_of(file);
-    let done = run_on(
-        rt.alloc(),
-        terms,
-        &mut source,
-        script,
-        &mut saved,
-        out,
-        &mut told,
-    );
-    kept(saved.into_inner(), done)
+    let alloc = rt.alloc();
+    let done = if stays {
+        run_on_stored(alloc, terms, &file, script, &mut saved, out, &mut told)
+    } else {
+        let mut source = source_of(file);
+        run_on(
+            alloc,
+            terms,
+            &mut source,
+            script,
+            &mut saved,
+            out,
+            &mut told,
+        )
+    };
+    let done = kept(saved.into_inner(), done);
+    if let (true, Some(Fault::Reread(_))) = (is_new, done.end.fault) {
+        let _ = fs::remove_file(rt, paths.to);
+    }
+    done
 }
 
 // The run that has these terms.
@@ -167,6 +179,29 @@ fn run_on<F: Source, S: Source, P: Sink, O: Sink, E: Sink>(
         };
     }
     ended(run_edit_told(alloc, file, script, saved, out, told))
+}
+
+// The same over a regular file, the data of which stay in it until they are wanted.
+fn run_on_stored<F: Stored, S: Source, P: Sink, O: Sink, E: Sink>(
+    alloc: Global,
+    terms: Terms,
+    file: &F,
+    script: &mut S,
+    saved: &mut P,
+    out: &mut O,
+    told: &mut Option<E>,
+) -> CheckedEnd {
+    if terms.checked {
+        return run_edit_checked_stored(alloc, terms.whole, file, script, saved, out, told);
+    }
+    if terms.whole {
+        let WholeEnd { end, undone } = run_edit_whole_stored(alloc, file, script, saved, out, told);
+        return CheckedEnd {
+            undone,
+            ..ended(end)
+        };
+    }
+    ended(run_edit_stored(alloc, file, script, saved, out, told))
 }
 
 // The end of a run of which neither lines nor errors keep the file from being saved.

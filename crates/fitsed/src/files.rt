@@ -11,6 +11,11 @@ pub fn source_of(file: File) -> FileSource<File> {
     }
 }
 
+/// Whether a file is a regular one, which can be read again.
+pub fn is_stored(file: &File) -> bool {
+    matches!(file.metadata(), Ok(about) if about.is_file())
+}
+
 /// The permissions of a file that is read: those of one that is made like it. Of a pipe or a device,
 /// those of any new file.
 pub fn mode_of(file: &File) -> u32 {

@@ -1,11 +1,12 @@
 //! What is done with each file that is read.
-use crate::files::source_of;
+use crate::files::{is_stored, source_of};
 use crate::piece::{Piece, script_of};
 use crate::remarks::{before_remarks, remarks_after};
-use crate::reporting::{report_changed, reported, reported_of};
+use crate::reporting::{ends_all, report_changed, reported, reported_of};
 use crate::task::Files;
 use fits_cli::{
-    CardChoice, CardPlace, CardsEnd, End, Fault, Telling, run_ask, run_cards, run_telling,
+    CardChoice, CardPlace, CardsEnd, End, Fault, Telling, run_ask, run_ask_stored, run_cards,
+    run_telling,
 };
 use fits_stream::{NamedLines, Sink, Source, Watched};
 use std::alloc::{AllocError, Global};
@@ -58,7 +59,7 @@ pub fn each<R: rt::Files<File = File> + Print + Eprint + AllocGlobal>(
         status = status.max(end.status);
         if let Some(fault) = end.fault {
             let _status = reported_of(rt, path, files.named, fault);
-            if let Fault::Memory | Fault::WriteFailed = fault {
+            if ends_all(fault) {
                 return status;
             }
         }
@@ -102,16 +103,15 @@ fn one<R: rt::Files<File = File> + AllocGlobal, W: Write>(
     let Ok(file) = fs::open(rt, path) else {
         return ended(rt.alloc(), End::from(Fault::ReadFailed));
     };
-    let mut source = source_of(file);
     if !named {
         let mut out = Watched::new(out);
-        return run(rt.alloc(), job, path, named, &mut source, &mut out);
+        return run(rt.alloc(), job, path, named, file, &mut out);
     }
     let Ok(name) = before_lines(rt.alloc(), path) else {
         return ended(rt.alloc(), End::from(Fault::Memory));
     };
     let mut out = NamedLines::new(Watched::new(out), name.as_bytes());
-    run(rt.alloc(), job, path, named, &mut source, &mut out)
+    run(rt.alloc(), job, path, named, file, &mut out)
 }
 
 // Answers standard input over one file, as it comes.
@@ -130,30 +130,13 @@ fn ask_as_it_comes<R: rt::Files<File = File> + Input + Print + Eprint + AllocGlo
     let Ok(name) = before_lines(rt.alloc(), path) else {
         return reported(rt, Fault::Memory);
     };
-    let mut source = source_of(file);
     let mut script = Watched::new(rt.reader());
     let mut out = Watched::new(&mut out);
     let end = if named {
         let mut out = NamedLines::new(out, name.as_bytes());
-        asked(
-            rt.alloc(),
-            path,
-            named,
-            told,
-            &mut source,
-            &mut script,
-            &mut out,
-        )
+        asked(rt.alloc(), path, named, told, file, &mut script, &mut out)
     } else {
-        asked(
-            rt.alloc(),
-            path,
-            named,
-            told,
-            &mut source,
-            &mut script,
-            &mut out,
-        )
+        asked(rt.alloc(), path, named, told, file, &mut script, &mut out)
     };
     match end.fault {
         Some(fault) => reported_of(rt, path, named, fault),
@@ -162,12 +145,12 @@ fn ask_as_it_comes<R: rt::Files<File = File> + Input + Print + Eprint + AllocGlo
 }
 
 // Does a job.
-fn run<F: Source, O: Sink>(
+fn run<O: Sink>(
     alloc: Global,
     job: Job<'_>,
     path: &str,
     named: bool,
-    file: &mut F,
+    file: File,
     out: &mut O,
 ) -> CardsEnd {
     match job {
@@ -176,18 +159,21 @@ fn run<F: Source, O: Sink>(
             let end = asked(alloc, path, named, told, file, &mut script, out);
             ended(alloc, end)
         }
-        Job::Show(choice) => run_cards(alloc, choice, file, out),
-        Job::Tell(telling) => ended(alloc, run_telling(alloc, telling, file, out)),
+        Job::Show(choice) => run_cards(alloc, choice, &mut source_of(file), out),
+        Job::Tell(telling) => ended(
+            alloc,
+            run_telling(alloc, telling, &mut source_of(file), out),
+        ),
     }
 }
 
-// Answers a script over the file at a path.
-fn asked<F: Source, S: Source, O: Sink>(
+// Answers a script over the file at a path. The data of a regular one are read where they are wanted.
+fn asked<S: Source, O: Sink>(
     alloc: Global,
     path: &str,
     named: bool,
     told: Option<Stderr>,
-    file: &mut F,
+    file: File,
     script: &mut S,
     out: &mut O,
 ) -> End {
@@ -197,7 +183,10 @@ fn asked<F: Source, S: Source, O: Sink>(
     let Ok(mut told) = remarks_after(alloc, told, &before) else {
         return End::from(Fault::Memory);
     };
-    run_ask(alloc, file, script, out, &mut told)
+    if is_stored(&file) {
+        return run_ask_stored(alloc, &file, script, out, &mut told);
+    }
+    run_ask(alloc, &mut source_of(file), script, out, &mut told)
 }
 
 // The end of a run that shows no cards.

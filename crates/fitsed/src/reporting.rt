@@ -1,10 +1,18 @@
 //! What standard error is told.
-use fits_cli::{CardPlace, Fault, FileFault};
+use fits_cli::{CardPlace, Fault, FileFault, Reread};
 
 /// Reports a fault, and gives its status.
 pub fn reported<R: Eprint>(rt: &R, fault: Fault) -> u8 {
     let _ = eprintln!(rt; "{fault}");
     fault.status()
+}
+
+/// Whether a fault ends a run over several files: it isn't one of the file alone.
+pub fn ends_all(fault: Fault) -> bool {
+    matches!(
+        fault,
+        Fault::Memory | Fault::WriteFailed | Fault::Reread(Reread::Memory)
+    )
 }
 
 /// Reports the fault of a file, with its name where several are told apart.
