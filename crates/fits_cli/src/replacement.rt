@@ -71,6 +71,13 @@ impl<R: Files> Replacement<'_, R> {
         }
     }
 
+    /// Whether the new file can be made. It is removed again.
+    pub(crate) fn can_begin(&mut self) -> bool {
+        let made = self.begin().is_some();
+        self.remove();
+        made
+    }
+
     /// Gives the new file the place of the old one, once all of it has reached the device.
     pub(crate) fn finish(&mut self, file: &R::File) -> io::Result<()> {
         file.sync_all()?;

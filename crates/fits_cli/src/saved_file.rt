@@ -1,11 +1,10 @@
 use crate::replacement::Replacement;
 use std::alloc::AllocError;
-use std::fs;
-use std::fs::{Metadata, OpenOptions};
-use std::io;
+use std::fs::OpenOptions;
 use std::io::Write;
-use std::os::unix::fs::{MetadataExt, OpenOptionsExt};
+use std::os::unix::fs::OpenOptionsExt;
 use std::rt::Files;
+use std::{fs, io};
 
 /// The file at a path, as it is saved.
 ///
@@ -18,6 +17,8 @@ pub struct SavedFile<'a, R: Files> {
     path: &'a str,
     mode: u32,
     replacement: Option<Replacement<'a, R>>,
+    /// Whether nothing but a replacement may be written.
+    replaces: bool,
     file: Option<R::File>,
 }
 
@@ -35,6 +36,7 @@ impl<'a, R: Files + AllocGlobal> SavedFile<'a, R> {
             path,
             mode,
             replacement: Replacement::of(rt, path)?,
+            replaces: false,
             file: None,
         })
     }
@@ -49,6 +51,7 @@ impl<R: Files> SavedFile<'_, R> {
             path: _,
             mode: _,
             replacement,
+            replaces: _,
             file,
         } = self;
         match (replacement, file) {
@@ -57,20 +60,19 @@ impl<R: Files> SavedFile<'_, R> {
         }
     }
 
-    /// Whether the file that this tells about stays as it is until all is saved: another one is
-    /// written, or a new one that takes its place. Then the new one is made at once.
-    pub fn spares(&mut self, file: &Metadata) -> bool {
-        let Ok(there) = fs::metadata(self.rt, self.path) else {
-            return true;
-        };
-        if there.dev() != file.dev() || there.ino() != file.ino() {
-            return true;
+    /// Whether what stands at the path stays as it is until all is saved: nothing stands there that
+    /// has bytes of its own, or a new file can be made that takes its place. Then no other is written.
+    pub fn spares(&mut self) -> bool {
+        match fs::metadata(self.rt, self.path) {
+            Ok(there) if there.is_file() => {
+                self.replaces = match &mut self.replacement {
+                    Some(replacement) => replacement.can_begin(),
+                    None => false,
+                };
+                self.replaces
+            }
+            _ => true,
         }
-        let Some(replacement) = &mut self.replacement else {
-            return false;
-        };
-        self.file = replacement.begin();
-        self.file.is_some()
     }
 
     // What the first byte goes to.
@@ -79,6 +81,9 @@ impl<R: Files> SavedFile<'_, R> {
             if let Some(file) = replacement.begin() {
                 return Ok(file);
             }
+        }
+        if self.replaces {
+            return Err(io::Error::from(io::ErrorKind::PermissionDenied));
         }
         self.replacement = None;
         OpenOptions::new()

@@ -1,5 +1,5 @@
 //! Files that are edited.
-use crate::files::{mode_of, source_of};
+use crate::files::{is_stored, mode_of, source_of};
 use crate::piece::{Piece, script_of};
 use crate::remarks::{before_remarks, remarks_after};
 use crate::reporting::{ends_all, report_new_errors, report_undone, reported, reported_of};
@@ -131,7 +131,7 @@ fn edited<R: Files<File = File> + AllocGlobal, S: Source, O: Sink>(
     let Ok(mut saved) = SavedFile::new(rt, paths.to, mode_of(&file)) else {
         return ended(End::from(Fault::Memory));
     };
-    let stays = matches!(file.metadata(), Ok(about) if about.is_file() && saved.spares(&about));
+    let stays = is_stored(&file) && saved.spares();
     let Ok(saved) = BufWriter::new(rt.alloc(), saved) else {
         return ended(End::from(Fault::Memory));
     };
