@@ -2,6 +2,8 @@
 #![tactic(auto)]
 
 #[cfg(test)]
+mod away;
+#[cfg(test)]
 mod builders;
 #[cfg(test)]
 mod cards;

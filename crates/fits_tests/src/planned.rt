@@ -52,11 +52,12 @@ pub fn reader(bytes: &[u8], plan: Plan) -> Watched<PlannedReader<'_>> {
     })
 }
 
-/// Bytes in memory that have places, of which so many are known to be there.
+/// Bytes in memory that have places, of which so many are known to be there. A read from this place on fails.
 #[derive(Drop)]
 pub struct StoredBytes<'a> {
     bytes: &'a [u8],
     known: usize,
+    failing: usize,
 }
 
 impl Stored for StoredBytes<'_> {
@@ -67,9 +68,12 @@ impl Stored for StoredBytes<'_> {
     }
 
     fn read_from(&self, buffer: &mut [u8], place: u64) -> io::Result<usize> {
+        if self.failing <= place as usize {
+            return Err(Error::from(ErrorKind::Interrupted));
+        }
         let start = (place as usize).min(self.bytes.len());
         let (_, rest) = self.bytes.split_at(start);
-        let count = buffer.len().min(rest.len());
+        let count = buffer.len().min(rest.len()).min(self.failing - start);
         let (piece, _) = rest.split_at(count);
         let (front, _) = buffer.split_at_mut(count);
         front.copy_from_slice(piece);
@@ -84,8 +88,26 @@ impl Read for StoredBytes<'_> {
     }
 }
 
+/// No read of them fails.
+pub fn stored_bytes(bytes: &[u8], known: usize) -> StoredBytes<'_> {
+    StoredBytes {
+        bytes,
+        known,
+        failing: usize::MAX,
+    }
+}
+
+/// Each read from this place on fails.
+pub fn broken_bytes(bytes: &[u8], failing: usize) -> StoredBytes<'_> {
+    StoredBytes {
+        bytes,
+        known: bytes.len(),
+        failing,
+    }
+}
+
 pub fn stored(bytes: &[u8], known: usize) -> FileSource<StoredBytes<'_>> {
-    FileSource::stored(StoredBytes { bytes, known })
+    FileSource::stored(stored_bytes(bytes, known))
 }
 
 /// Bytes that are written by a plan.

@@ -1,0 +1,895 @@
+//! Data units that aren't in memory: known as they pass by, loaded, and copied from the file that they lie in.
+ghost use Rattle.std.specs.Prelude.{◌≤◌, ◌^◌, length, IsTrue};
+ghost use Rattle.fits_hdu.specs.Hdu.{hdu_bytes};
+ghost use Rattle.fits_hdu.specs.State.{parts_of};
+
+use crate::builders::{P0, card_of, fill_up, hdu_of};
+use crate::changed_bytes::change;
+use crate::checks::{holds, same};
+use crate::planned::{Plan, SMOOTH, StoredBytes, broken_bytes, reader, stored_bytes, writer};
+use fits_card::{BLOCK_LEN, CARD_LEN, Cards, Change};
+use fits_hdu::{Hdu, HduFault, PassedHdu, ReadHduFault, Stats};
+use fits_plane::{CopyFault, DataUnit, Layout, LoadFault, PassedUnit, PassingUnit, Plane};
+use fits_stream::{Intake, Source, Stored, StoredSource, fill};
+use std::alloc::{AllocError, Global};
+use std::process::Abort;
+use std::test::Fail;
+
+/// An HDU: its cards, which fit in one block, how many bytes of data it has, and the byte that fills their last block.
+type HduRow<'a> = (&'a str, usize, u8);
+
+const NO_DATA: HduRow<'static> = (P0, 0, 0);
+
+const BYTES: HduRow<'static> = (
+    "SIMPLE  =                    T|BITPIX  =                    8|NAXIS   =                    2|\
+    NAXIS1  =                  100|NAXIS2  =                   30|COMMENT|END",
+    3000,
+    0,
+);
+
+/// Of its pixels 6 are 1, and so undefined.
+const BLANKED: HduRow<'static> = (
+    "XTENSION= 'IMAGE   '|BITPIX  =                   16|NAXIS   =                    1|\
+    NAXIS1  =                 1500|PCOUNT  =                    0|GCOUNT  =                    1|\
+    BLANK   =                    1|END",
+    3000,
+    0,
+);
+
+/// Its only pixel is 66051, and so is the sum of its words.
+const SUMMED: HduRow<'static> = (
+    "XTENSION= 'IMAGE   '|BITPIX  =                   32|NAXIS   =                    1|\
+    NAXIS1  =                    1|PCOUNT  =                    0|GCOUNT  =                    1|\
+    DATASUM = '66051   '|END",
+    4,
+    0,
+);
+
+const REALS: HduRow<'static> = (
+    "XTENSION= 'IMAGE   '|BITPIX  =                  -32|NAXIS   =                    1|\
+    NAXIS1  =                   10|PCOUNT  =                    0|GCOUNT  =                    1|\
+    BLANK   =                    1|END",
+    40,
+    0,
+);
+
+const TABLE: HduRow<'static> = (
+    "XTENSION= 'TABLE   '|BITPIX  =                    8|NAXIS   =                    2|\
+    NAXIS1  =                   10|NAXIS2  =                    2|PCOUNT  =                    0|\
+    GCOUNT  =                    1|TFIELDS =                    0|END",
+    20,
+    b' ',
+);
+
+/// Its fill should be zeros.
+const ILL_FILLED: HduRow<'static> = (
+    "XTENSION= 'IMAGE   '|BITPIX  =                    8|NAXIS   =                    1|\
+    NAXIS1  =                   10|PCOUNT  =                    0|GCOUNT  =                    1|END",
+    10,
+    1,
+);
+
+/// Unsigned numbers, in 42 blocks: more than a piece of a source.
+const LARGE: HduRow<'static> = (
+    "XTENSION= 'IMAGE   '|BITPIX  =                   16|NAXIS   =                    2|\
+    NAXIS1  =                  300|NAXIS2  =                  200|PCOUNT  =                    0|\
+    GCOUNT  =                    1|BZERO   =                32768|END",
+    120_000,
+    0,
+);
+
+const HDUS: &[HduRow<'static>] = &[
+    NO_DATA, BYTES, BLANKED, SUMMED, REALS, TABLE, ILL_FILLED, LARGE,
+];
+
+/// Where an HDU begins in a file, and its data unit.
+const HDU_AT: usize = 2880;
+
+const DATA_AT: usize = 5760;
+
+/// How many bytes a file has after an HDU.
+const TAIL: &[u8] = b"tail";
+
+// A file with an HDU after another. No byte of its data is as the one before.
+fn file_with(alloc: Global, row: HduRow<'_>) -> Result<Vec<u8>, AllocError> {
+    let (cards, used, filling) = row;
+    let mut file = hdu_of(alloc, P0, 0)?;
+    file.extend_from_slice(&hdu_of(alloc, cards, 0)?)?;
+    for place in 0..used {
+        file.push((place % 251) as u8)?;
+    }
+    fill_up(&mut file, BLOCK_LEN, filling)?;
+    file.extend_from_slice(TAIL)?;
+    Ok(file)
+}
+
+// The HDU in a file, with the bytes after it.
+fn from_hdu(file: &[u8]) -> &[u8] {
+    let (_, rest) = file.split_at(HDU_AT.min(file.len()));
+    rest
+}
+
+fn is_primary(row: HduRow<'_>) -> bool {
+    row.0.starts_with("SIMPLE")
+}
+
+/// How a read, a load or a copy ends.
+#[derive(Clone, Copy, PartialEq, Eq, Debug)]
+enum End {
+    Done,
+    Memory,
+    Failed,
+    Changed,
+    Write,
+    /// The bytes don't begin with an HDU.
+    Hdu(HduFault),
+}
+
+use End::{Changed, Done, Failed};
+
+fn read_end(read: Result<Hdu, ReadHduFault>) -> End {
+    match read {
+        Ok(_) => Done,
+        Err(ReadHduFault::Hdu(HduFault::Memory)) => End::Memory,
+        Err(ReadHduFault::Hdu(fault)) => End::Hdu(fault),
+        Err(ReadHduFault::Failed) => Failed,
+    }
+}
+
+fn load_end(loaded: Result<(), LoadFault>) -> End {
+    match loaded {
+        Ok(()) => Done,
+        Err(LoadFault::Memory) => End::Memory,
+        Err(LoadFault::Failed) => Failed,
+        Err(LoadFault::Changed) => Changed,
+    }
+}
+
+fn copy_end(copied: Result<(), CopyFault>) -> End {
+    match copied {
+        Ok(()) => Done,
+        Err(CopyFault::Failed) => Failed,
+        Err(CopyFault::Changed) => Changed,
+        Err(CopyFault::Write) => End::Write,
+    }
+}
+
+// The HDU that comes next in a source. Its data unit passes by, and lies at its place in a file.
+fn passed<S: Source>(alloc: Global, source: &mut S, primary: bool) -> Result<Hdu, ReadHduFault> {
+    let Ok(mut intake) = Intake::new(alloc, 1_000_000) else {
+        return Err(ReadHduFault::Hdu(HduFault::Memory));
+    };
+    let passed = PassedHdu::read(alloc, &mut intake, source, primary)?;
+    match Hdu::away(alloc, passed, DATA_AT as u64) {
+        Ok(hdu) => Ok(hdu),
+        Err(_) => Err(ReadHduFault::Hdu(HduFault::Memory)),
+    }
+}
+
+// The HDU of a stored file. Its data unit is away.
+fn stored_away<F: Stored>(alloc: Global, file: &F, primary: bool) -> Result<Hdu, ReadHduFault> {
+    passed(alloc, &mut StoredSource::new(file, HDU_AT as u64), primary)
+}
+
+// The HDU that these bytes begin with, in memory.
+fn opened<R: Abort + AllocGlobal>(rt: &R, bytes: &[u8], primary: bool) -> Result<Hdu, HduFault> {
+    holds!(rt; bytes.len() < 1_000_000);
+    let (hdu, _) = Hdu::open(rt.alloc(), bytes, primary)?;
+    Ok(hdu)
+}
+
+// What is read of an HDU.
+fn had(read: Result<Hdu, ReadHduFault>) -> Result<Hdu, Fail> {
+    match read {
+        Ok(it) => Ok(it),
+        Err(ReadHduFault::Hdu(fault)) => Err(Fail::from(fault)),
+        Err(ReadHduFault::Failed) => Err(Fail::from("a call failed")),
+    }
+}
+
+// Whether an HDU has so few cards and data that all its bytes are few.
+fn is_small(hdu: &Hdu) -> bool
+    ensures { IsTrue result → length (hdu_bytes (parts_of hdu.now)) ≤ 2 ^ 34 }
+{
+    hdu.card_count() < 1000 && hdu.data_len() < 1_000_000
+}
+
+// Whether all is the same that two HDUs answer without their pixels.
+fn same_answers<R: Abort>(rt: &R, found: &Hdu, wanted: &Hdu, row: HduRow<'_>) {
+    let (cards, _, _) = row;
+    holds!(rt; found.is_counted(), cards);
+    holds!(rt; wanted.is_counted(), cards);
+    holds!(rt; is_small(found), cards);
+    holds!(rt; is_small(wanted), cards);
+    same!(rt; found.card_count(), wanted.card_count(), cards);
+    same!(rt; found.data_len(), wanted.data_len(), cards);
+    same!(rt; found.kind(), wanted.kind(), cards);
+    same!(rt; found.stats(), wanted.stats(), cards);
+    same!(rt; found.datasum(), wanted.datasum(), cards);
+    same!(rt; found.verdicts(), wanted.verdicts(), cards);
+    holds!(rt; found.whole().as_slice() == wanted.whole().as_slice(), cards);
+}
+
+// Whether an HDU that passes by in a source is known to be one in memory.
+fn check_known<R: Abort + AllocGlobal, S: Source>(
+    rt: &R,
+    source: &mut S,
+    wanted: &Hdu,
+    row: HduRow<'_>,
+) -> Result<(), Fail> {
+    let found = had(passed(rt.alloc(), source, is_primary(row)))?;
+    holds!(rt; !found.is_held(), row);
+    same_answers(rt, &found, wanted, row);
+    Ok(())
+}
+
+/// How many pixels are defined and how many blank, the least, the greatest and the sum of the defined ones.
+type Numbers = (u64, u64, i128, i128, i128);
+
+/// An HDU, its numbers, if it is an image of integers, and the sum of its data unit, as Python counts them.
+const KNOWN: &[(HduRow<'static>, Option<Numbers>, u32)] = &[
+    (NO_DATA, None, 0),
+    (BYTES, Some((3000, 0, 0, 250, 373_566)), 1_111_440_441),
+    (
+        BLANKED,
+        Some((1494, 6, -32_639, 32_640, 31_638)),
+        1_111_440_441,
+    ),
+    (SUMMED, Some((1, 0, 66_051, 66_051, 66_051)), 66_051),
+    (REALS, None, 3_032_402_130),
+    (TABLE, None, 3_790_007_280),
+    (ILL_FILLED, Some((10, 0, 0, 9, 45)), 3_688_814_810),
+    (
+        LARGE,
+        Some((60_000, 0, 129, 65_408, 1_966_693_114)),
+        1_642_359_796,
+    ),
+];
+
+#[test]
+fn an_hdu_has_the_numbers_of_what_passed_by(rt: HostRuntime) -> Result<(), Fail> {
+    for (row, numbers, datasum) in KNOWN {
+        let file = file_with(rt.alloc(), *row)?;
+        let stored = stored_bytes(&file, file.len());
+        let found = had(stored_away(rt.alloc(), &stored, is_primary(*row)))?;
+        holds!(rt; found.is_counted(), row);
+        same!(rt; found.stats().and_then(numbers_of), *numbers, row);
+        same!(rt; found.datasum(), *datasum, row);
+    }
+    Ok(())
+}
+
+// The numbers of statistics, where a pixel is defined.
+fn numbers_of(stats: Stats) -> Option<Numbers> {
+    let (least, greatest) = (stats.least?, stats.greatest?);
+    Some((stats.defined, stats.blank, least, greatest, stats.sum))
+}
+
+#[test]
+fn an_hdu_is_known_as_it_passes_by(rt: HostRuntime) -> Result<(), Fail> {
+    for row in HDUS {
+        let file = file_with(rt.alloc(), *row)?;
+        let bytes = from_hdu(&file);
+        let wanted = opened(&rt, bytes, is_primary(*row))?;
+        for step in [7usize, 2880, 1_000_000] {
+            let plan = Plan { step, failing: 0 };
+            check_known(&rt, &mut reader(bytes, plan), &wanted, *row)?;
+        }
+        let stored = stored_bytes(&file, file.len());
+        let mut source = StoredSource::new(&stored, HDU_AT as u64);
+        check_known(&rt, &mut source, &wanted, *row)?;
+    }
+    Ok(())
+}
+
+// Whether two HDUs in memory have the same pixels, where they are images of integers.
+fn same_pixels<R: Abort + AllocGlobal>(
+    rt: &R,
+    found: &mut Hdu,
+    wanted: &mut Hdu,
+    row: HduRow<'_>,
+) -> Result<(), AllocError> {
+    holds!(rt; found.is_held(), row);
+    holds!(rt; wanted.is_held(), row);
+    let last = found.shape().axes.as_slice().to_vec(rt.alloc())?;
+    let first = vec![in rt.alloc(); 1u64; last.len()]?;
+    let pixels = found.rect(rt.alloc(), &first, &last).ok();
+    holds!(rt; pixels.is_some() == found.kind().is_some(), row);
+    holds!(rt; pixels == wanted.rect(rt.alloc(), &first, &last).ok(), row);
+    Ok(())
+}
+
+#[test]
+fn a_data_unit_is_loaded(rt: HostRuntime) -> Result<(), Fail> {
+    for row in HDUS {
+        let file = file_with(rt.alloc(), *row)?;
+        let mut wanted = opened(&rt, from_hdu(&file), is_primary(*row))?;
+        let stored = stored_bytes(&file, file.len());
+        let mut found = had(stored_away(rt.alloc(), &stored, is_primary(*row)))?;
+        found.load(rt.alloc(), &stored)?;
+        // what is in memory is read from no file
+        found.load(rt.alloc(), &broken_bytes(&[], 0))?;
+        same_answers(&rt, &found, &wanted, *row);
+        same_pixels(&rt, &mut found, &mut wanted, *row)?;
+    }
+    Ok(())
+}
+
+/// How a copy of an HDU ended, what was written of it, and by how many calls.
+#[derive(Drop)]
+struct Copied {
+    end: End,
+    written: Vec<u8>,
+    calls: usize,
+}
+
+// Copies an HDU from its file, through a room of so many bytes, to a sink that follows a plan.
+fn copy_of<R: Abort + AllocGlobal, F: Stored>(
+    rt: &R,
+    hdu: &mut Hdu,
+    file: &F,
+    room: usize,
+    plan: Plan,
+) -> Result<Copied, AllocError> {
+    let mut room = vec![in rt.alloc(); 0u8; room]?;
+    let is_of_words = !room.is_empty() && room.len() % 4 == 0;
+    holds!(rt; is_of_words);
+    let mut sink = writer(rt.alloc(), plan);
+    let end = copy_end(hdu.emit_from(file, room.as_mut_slice(), &mut sink));
+    let (written, calls) = sink.into_inner().into_parts();
+    Ok(Copied {
+        end,
+        written,
+        calls,
+    })
+}
+
+// Whether a copy of an HDU has all its bytes.
+fn check_copy<R: Abort + AllocGlobal, F: Stored>(
+    rt: &R,
+    hdu: &mut Hdu,
+    file: &F,
+    room: usize,
+    wanted: &[u8],
+) -> Result<(), AllocError> {
+    let found = copy_of(rt, hdu, file, room, SMOOTH)?;
+    same!(rt; found.end, Done, room);
+    holds!(rt; found.written.as_slice() == wanted, room);
+    Ok(())
+}
+
+/// How many bytes of a file a copy holds at once.
+const ROOMS: &[usize] = &[4, 2880, 65_536];
+
+#[test]
+fn an_hdu_is_copied_from_its_file(rt: HostRuntime) -> Result<(), Fail> {
+    for row in HDUS {
+        let file = file_with(rt.alloc(), *row)?;
+        let Some(wanted) = from_hdu(&file).strip_suffix(TAIL) else {
+            return Err(Fail::from("no tail"));
+        };
+        let stored = stored_bytes(&file, file.len());
+        for room in ROOMS {
+            let mut hdu = had(stored_away(rt.alloc(), &stored, is_primary(*row)))?;
+            check_copy(&rt, &mut hdu, &stored, *room, wanted)?;
+            hdu.load(rt.alloc(), &stored)?;
+            check_copy(&rt, &mut hdu, &broken_bytes(&[], 0), *room, wanted)?;
+        }
+    }
+    Ok(())
+}
+
+/// What becomes of a file: the byte at a place is another, or it ends there, or reads from there on fail.
+#[derive(Clone, Copy, Debug)]
+enum Damage {
+    Byte(usize),
+    Length(usize),
+    Reads(usize),
+}
+
+/// What becomes of the file with `LARGE`, and how its HDU is read then, and loaded and copied where it was read before.
+///
+/// That two words of the data unit changed places is seen by neither: their total is the same. No row has it.
+type DamageRow = (Damage, End, End, End);
+
+const SHORT: End = End::Hdu(HduFault::ShortData);
+
+const DAMAGES: &[DamageRow] = &[
+    // the header isn't read again
+    (Damage::Byte(5679), Done, Done, Done),
+    (Damage::Byte(5760), Done, Changed, Changed),
+    (Damage::Byte(125_759), Done, Changed, Changed),
+    // the last byte of the fill, and the first after it
+    (Damage::Byte(126_719), Done, Changed, Changed),
+    (Damage::Byte(126_720), Done, Done, Done),
+    (
+        Damage::Length(2880),
+        End::Hdu(HduFault::NoEnd),
+        Changed,
+        Changed,
+    ),
+    (Damage::Length(5760), SHORT, Changed, Changed),
+    (Damage::Length(75_000), SHORT, Changed, Changed),
+    (Damage::Length(126_719), SHORT, Changed, Changed),
+    (Damage::Length(126_720), Done, Done, Done),
+    (Damage::Reads(2880), Failed, Failed, Failed),
+    (Damage::Reads(5760), Failed, Failed, Failed),
+    (Damage::Reads(75_000), Failed, Failed, Failed),
+    (Damage::Reads(126_719), Failed, Failed, Failed),
+    (Damage::Reads(126_720), Done, Done, Done),
+];
+
+// A stored file after a damage, of which the bytes were changed.
+fn damaged(bytes: &[u8], damage: Damage) -> StoredBytes<'_> {
+    match damage {
+        Damage::Byte(_) => stored_bytes(bytes, bytes.len()),
+        Damage::Length(len) => {
+            let (front, _) = bytes.split_at(len.min(bytes.len()));
+            stored_bytes(front, front.len())
+        }
+        Damage::Reads(place) => broken_bytes(bytes, place),
+    }
+}
+
+#[test]
+fn a_damaged_file_is_seen(rt: HostRuntime) -> Result<(), Fail> {
+    let file = file_with(rt.alloc(), LARGE)?;
+    let wanted = opened(&rt, from_hdu(&file), false)?;
+    for case in DAMAGES {
+        check_damage(&rt, &file, &wanted, *case)?;
+    }
+    Ok(())
+}
+
+// Whether a damage of a file is seen. The HDU stays as it was where it can't be loaded.
+fn check_damage<R: Abort + AllocGlobal>(
+    rt: &R,
+    file: &[u8],
+    wanted: &Hdu,
+    case: DamageRow,
+) -> Result<(), Fail> {
+    let (damage, read, load, copy) = case;
+    let whole = stored_bytes(file, file.len());
+    let mut hdu = had(stored_away(rt.alloc(), &whole, false))?;
+    let mut bytes = file.to_vec(rt.alloc())?;
+    if let Damage::Byte(place) = damage {
+        change(&mut bytes, place, b'?');
+    }
+    let stored = damaged(&bytes, damage);
+    same!(rt; read_end(stored_away(rt.alloc(), &stored, false)), read, damage);
+    let found = copy_of(rt, &mut hdu, &stored, 2880, SMOOTH)?;
+    same!(rt; found.end, copy, damage);
+    same!(rt; load_end(hdu.load(rt.alloc(), &stored)), load, damage);
+    same!(rt; hdu.is_held(), load == Done, damage);
+    same_answers(rt, &hdu, wanted, LARGE);
+    same!(rt; load_end(hdu.load(rt.alloc(), &whole)), Done, damage);
+    holds!(rt; hdu.is_held(), damage);
+    Ok(())
+}
+
+#[test]
+fn each_call_of_a_sink_that_fails_ends_a_copy(rt: HostRuntime) -> Result<(), Fail> {
+    let file = file_with(rt.alloc(), BLANKED)?;
+    let stored = stored_bytes(&file, file.len());
+    let mut hdu = had(stored_away(rt.alloc(), &stored, false))?;
+    check_sinks(&rt, &mut hdu, &stored)?;
+    hdu.load(rt.alloc(), &stored)?;
+    check_sinks(&rt, &mut hdu, &stored)?;
+    Ok(())
+}
+
+// Whether each call of a sink that fails ends a copy, and one that takes nothing.
+fn check_sinks<R: Abort + AllocGlobal, F: Stored>(
+    rt: &R,
+    hdu: &mut Hdu,
+    file: &F,
+) -> Result<(), AllocError> {
+    let step = 1000;
+    let whole = copy_of(rt, hdu, file, 2880, Plan { step, failing: 0 })?;
+    same!(rt; whole.end, Done);
+    for failing in 1..=whole.calls {
+        let found = copy_of(rt, hdu, file, 2880, Plan { step, failing })?;
+        same!(rt; found.end, End::Write, failing);
+        holds!(rt; whole.written.starts_with(&found.written), failing);
+    }
+    let idle = Plan {
+        step: 0,
+        failing: 0,
+    };
+    let found = copy_of(rt, hdu, file, 2880, idle)?;
+    same!(rt; found.end, End::Write);
+    holds!(rt; found.written.is_empty());
+    Ok(())
+}
+
+#[test]
+fn refused_memory_at_a_load(rt: HostRuntime) {
+    let _ = check_refused(&rt, BLANKED);
+}
+
+// Whether an HDU whose data unit is away is as before where memory for it is refused. Err: the memory for a file was
+// refused.
+fn check_refused<R: Abort + AllocGlobal>(rt: &R, row: HduRow<'_>) -> Result<(), AllocError> {
+    let file = file_with(rt.alloc(), row)?;
+    let Ok(wanted) = opened(rt, from_hdu(&file), is_primary(row)) else {
+        return Err(AllocError);
+    };
+    let stored = stored_bytes(&file, file.len());
+    for _ in 0..2 {
+        match stored_away(rt.alloc(), &stored, is_primary(row)) {
+            Ok(mut hdu) => check_loads(rt, &mut hdu, &stored, &wanted, row),
+            Err(why) => same!(rt; read_end(Err(why)), End::Memory, row),
+        }
+    }
+    Ok(())
+}
+
+// Whether an HDU is loaded, or is as before.
+fn check_loads<R: Abort + AllocGlobal, F: Stored>(
+    rt: &R,
+    hdu: &mut Hdu,
+    file: &F,
+    wanted: &Hdu,
+    row: HduRow<'_>,
+) {
+    for _ in 0..2 {
+        let end = load_end(hdu.load(rt.alloc(), file));
+        holds!(rt; end == Done || end == End::Memory, row);
+        same!(rt; hdu.is_held(), end == Done, row);
+        same_answers(rt, hdu, wanted, row);
+    }
+}
+
+/// An HDU, the place of one of its cards, the cards that are put there in turn, and whether its statistics are known
+/// then, without its pixels.
+type Edited<'a> = (HduRow<'a>, usize, &'a [&'a str], bool);
+
+const BLANK_EDITS: &[Edited<'static>] = &[
+    (BLANKED, 7, &["BLANK   =                    2"], false),
+    (BLANKED, 7, &["BLANK   = 'one'"], false),
+    (BLANKED, 7, &["COMMENT"], false),
+    (BLANKED, 7, &["COMMENT", "BLANK   = 1 / undefined"], true),
+    (BLANKED, 7, &["BLANK   = 2", "BLANK   = 3"], false),
+    (BYTES, 6, &["BLANK   = 0"], false),
+    (BYTES, 6, &["BLANK   = 0", "HISTORY"], true),
+    (LARGE, 7, &["BZERO   = 0"], true),
+    // no BLANK is looked for where there are no integers
+    (REALS, 7, &["COMMENT"], true),
+    (TABLE, 7, &["BLANK   = 1"], true),
+];
+
+#[test]
+fn a_changed_blank_waits_for_the_pixels(rt: HostRuntime) -> Result<(), Fail> {
+    for case in BLANK_EDITS {
+        check_edit(&rt, *case)?;
+    }
+    Ok(())
+}
+
+// Whether an HDU that is edited while its data unit is away is one that has the edited cards.
+fn check_edit<R: Abort + AllocGlobal>(rt: &R, case: Edited<'_>) -> Result<(), Fail> {
+    let (row, place, cards, is_counted) = case;
+    let file = file_with(rt.alloc(), row)?;
+    let edited = edited_hdu(rt.alloc(), from_hdu(&file), place, cards)?;
+    let stored = stored_bytes(&file, file.len());
+    let mut found = had(stored_away(rt.alloc(), &stored, is_primary(row)))?;
+    put_cards(rt, &mut found, place, cards)?;
+    check_counted(rt, &found, &edited, row, is_counted)?;
+    check_copy(rt, &mut found, &stored, 2880, &edited)?;
+    found.load(rt.alloc(), &stored)?;
+    check_edited(rt, &mut found, &edited, row)
+}
+
+// Whether the statistics of an HDU are known; where they are, all is answered as in memory.
+fn check_counted<R: Abort + AllocGlobal>(
+    rt: &R,
+    found: &Hdu,
+    bytes: &[u8],
+    row: HduRow<'_>,
+    is_counted: bool,
+) -> Result<(), Fail> {
+    same!(rt; found.is_counted(), is_counted, row);
+    if is_counted {
+        let wanted = opened(rt, bytes, is_primary(row))?;
+        same_answers(rt, found, &wanted, row);
+    }
+    Ok(())
+}
+
+// Whether an HDU in memory is that of these bytes.
+fn check_edited<R: Abort + AllocGlobal>(
+    rt: &R,
+    found: &mut Hdu,
+    bytes: &[u8],
+    row: HduRow<'_>,
+) -> Result<(), Fail> {
+    let mut wanted = opened(rt, bytes, is_primary(row))?;
+    same_answers(rt, found, &wanted, row);
+    same_pixels(rt, found, &mut wanted, row)?;
+    Ok(())
+}
+
+// The bytes of an HDU with cards put in the place of another in turn.
+fn edited_hdu(
+    alloc: Global,
+    bytes: &[u8],
+    place: usize,
+    cards: &[&str],
+) -> Result<Vec<u8>, AllocError> {
+    let mut edited = bytes.strip_suffix(TAIL).unwrap_or(bytes).to_vec(alloc)?;
+    for text in cards {
+        put_text(&mut edited, place, text);
+    }
+    Ok(edited)
+}
+
+// Puts cards in the place of another in turn.
+fn put_cards<R: Abort + AllocGlobal>(
+    rt: &R,
+    hdu: &mut Hdu,
+    place: usize,
+    cards: &[&str],
+) -> Result<(), AllocError> {
+    for text in cards {
+        put_card(rt, hdu, place, text)?;
+    }
+    Ok(())
+}
+
+// Puts a card in the place of another, which keeps the shape.
+#[tactic(auto, unfolding(fits_card::specs::Change::IsInRange, fits_card::specs::Change::new_cards))]
+fn put_card<R: Abort + AllocGlobal>(
+    rt: &R,
+    hdu: &mut Hdu,
+    place: usize,
+    text: &str,
+) -> Result<(), AllocError> {
+    let card = card_of(text);
+    let change = Change::Splice {
+        place,
+        removed: 1,
+        cards: Cards::one(rt.alloc(), card)?,
+    };
+    let count = hdu.card_count();
+    holds!(rt; !card.is_end(), text);
+    holds!(rt; 1 <= place && place <= count, text);
+    holds!(rt; hdu.header().count_after(&change) == count, text);
+    holds!(rt; hdu.keeps_shape(&change), text);
+    hdu.apply(&change);
+    Ok(())
+}
+
+// Puts the text of a card in the place of another.
+fn put_text(bytes: &mut [u8], place: usize, text: &str) {
+    let start = place.wrapping_sub(1).wrapping_mul(CARD_LEN);
+    for (index, byte) in card_of(text).bytes().iter().enumerate() {
+        change(bytes, start.wrapping_add(index), *byte);
+    }
+}
+
+/// A place of `abcdefghij`, how many of these bytes are known to be there, how many are to be gone past, how many are,
+/// and which are read then.
+const GONE_PAST: &[(u64, usize, usize, usize, &[u8])] = &[
+    (0, 10, 0, 0, b"abc"),
+    (3, 10, 2, 2, b"fgh"),
+    (3, 5, 4, 4, b"hij"),
+    (3, 0, 4, 4, b"hij"),
+    (8, 10, 1, 1, b"j"),
+    (8, 10, 5, 2, b""),
+    (12, 10, 1, 0, b""),
+];
+
+#[test]
+fn a_lent_file_is_read_from_a_place_on(rt: HostRuntime) -> Result<(), Fail> {
+    for case in GONE_PAST {
+        let (place, known, len, past, next) = *case;
+        let file = stored_bytes(b"abcdefghij", known);
+        let mut source = StoredSource::new(&file, place);
+        let mut room = [0; 3];
+        same!(rt; source.skip(&mut room, len)?, past, case);
+        let count = fill(&mut source, &mut room)?;
+        let (found, _) = room.split_at(count.min(room.len()));
+        same!(rt; found, next, case);
+    }
+    Ok(())
+}
+
+/// How a data unit is read, how many of its bytes are data, how many there are in all, and the byte of its fill.
+type UnitRow = (Layout, usize, u8);
+
+const UNITS: &[UnitRow] = &[
+    // no bytes
+    (
+        Layout {
+            width: 0,
+            pixels: 0,
+            used: 0,
+            fill: 0,
+            blank: None,
+        },
+        0,
+        0,
+    ),
+    // no pixels, and a fill that is right or wrong
+    (
+        Layout {
+            width: 0,
+            pixels: 0,
+            used: 20,
+            fill: b' ',
+            blank: None,
+        },
+        20,
+        b' ',
+    ),
+    (
+        Layout {
+            width: 0,
+            pixels: 0,
+            used: 20,
+            fill: b' ',
+            blank: None,
+        },
+        20,
+        0,
+    ),
+    // pixels over two blocks, the last of one
+    (
+        Layout {
+            width: 1,
+            pixels: 2881,
+            used: 2881,
+            fill: 0,
+            blank: None,
+        },
+        2881,
+        0,
+    ),
+    (
+        Layout {
+            width: 2,
+            pixels: 2000,
+            used: 4000,
+            fill: 0,
+            blank: Some(1),
+        },
+        4000,
+        0,
+    ),
+    (
+        Layout {
+            width: 2,
+            pixels: 2000,
+            used: 4000,
+            fill: 0,
+            blank: Some(1),
+        },
+        4000,
+        1,
+    ),
+    (
+        Layout {
+            width: 4,
+            pixels: 1440,
+            used: 5760,
+            fill: 0,
+            blank: Some(0x0001_0203),
+        },
+        5760,
+        0,
+    ),
+    (
+        Layout {
+            width: 8,
+            pixels: 800,
+            used: 6400,
+            fill: 0,
+            blank: Some(-1),
+        },
+        6400,
+        0,
+    ),
+];
+
+// The bytes of a data unit. None of its data is as the one before.
+fn unit_of(alloc: Global, used: usize, filling: u8) -> Result<Vec<u8>, AllocError> {
+    let mut bytes = Vec::new(alloc);
+    for place in 0..used {
+        bytes.push((place % 251) as u8)?;
+    }
+    fill_up(&mut bytes, BLOCK_LEN, filling)?;
+    Ok(bytes)
+}
+
+// What is known of a data unit that passes by in two pieces.
+fn passed_unit<R: Abort>(rt: &R, bytes: &[u8], layout: Layout, at: usize) -> PassedUnit {
+    holds!(rt; layout.fits(bytes), at);
+    holds!(rt; at % BLOCK_LEN == 0 && at <= bytes.len(), at);
+    let (front, back) = bytes.split_at(at);
+    let mut unit = PassingUnit::new(layout);
+    unit.add(front);
+    unit.add(back);
+    unit.end()
+}
+
+#[test]
+fn a_data_unit_is_known_as_it_passes_by(rt: HostRuntime) -> Result<(), Fail> {
+    for (layout, used, filling) in UNITS {
+        let bytes = unit_of(rt.alloc(), *used, *filling)?;
+        holds!(rt; layout.fits(&bytes), used);
+        let wanted = Plane::open(rt.alloc(), &bytes, *layout)?;
+        for at in [0usize, 2880, 5760] {
+            let at = at.min(bytes.len());
+            let found = passed_unit(&rt, &bytes, *layout, at);
+            check_passed(&rt, found, &wanted);
+        }
+    }
+    Ok(())
+}
+
+// Whether a data unit that passed by is known to be one in memory, also after its BLANK was another.
+fn check_passed<R: Abort>(rt: &R, mut found: PassedUnit, wanted: &Plane) {
+    let blank = found.blank();
+    found.set_blank(Some(7));
+    same!(rt; found.layout().blank, Some(7));
+    found.set_blank(blank);
+    let case = (wanted.layout().width, wanted.layout().pixels);
+    same!(rt; found.blank(), wanted.layout().blank, case);
+    holds!(rt; found.layout().blank == found.blank(), case);
+    same!(rt; found.byte_len(), wanted.byte_len(), case);
+    same!(rt; found.total(), wanted.total(), case);
+    same!(rt; found.fill_ok(), wanted.fill_ok(), case);
+    same!(rt; found.value_stats(0), wanted.value_stats(0), case);
+    same!(rt; found.value_stats(32768), wanted.value_stats(32768), case);
+}
+
+/// Where a data unit lies in its file.
+const UNIT_AT: u64 = 6;
+
+#[test]
+fn a_data_unit_away_is_loaded_and_copied(rt: HostRuntime) -> Result<(), Fail> {
+    for (layout, used, filling) in UNITS {
+        let bytes = unit_of(rt.alloc(), *used, *filling)?;
+        let mut file = b"before".to_vec(rt.alloc())?;
+        file.extend_from_slice(&bytes)?;
+        let stored = stored_bytes(&file, file.len());
+        holds!(rt; layout.fits(&bytes), used);
+        let wanted = Plane::open(rt.alloc(), &bytes, *layout)?;
+        let mut found = DataUnit::away(rt.alloc(), passed_unit(&rt, &bytes, *layout, 0), UNIT_AT)?;
+        holds!(rt; !found.is_held());
+        check_unit(&rt, &mut found, &stored, &wanted, &bytes)?;
+        found.load(rt.alloc(), &stored)?;
+        holds!(rt; found.is_held());
+        check_unit(&rt, &mut found, &stored, &wanted, &bytes)?;
+        let mut held = DataUnit::held(Plane::open(rt.alloc(), &bytes, *layout)?);
+        holds!(rt; held.is_held());
+        check_unit(&rt, &mut held, &stored, &wanted, &bytes)?;
+    }
+    Ok(())
+}
+
+// Whether a data unit, in memory or away, answers what a plane does, and is copied to its bytes.
+fn check_unit<R: Abort + AllocGlobal, F: Stored>(
+    rt: &R,
+    found: &mut DataUnit,
+    file: &F,
+    wanted: &Plane,
+    bytes: &[u8],
+) -> Result<(), AllocError> {
+    let layout = wanted.layout();
+    let case = (layout.width, layout.pixels);
+    found.set_blank(Some(7));
+    same!(rt; found.is_counted(), found.is_held(), case);
+    found.set_blank(layout.blank);
+    holds!(rt; found.is_counted(), case);
+    same!(rt; found.total(), wanted.total(), case);
+    same!(rt; found.fill_ok(), wanted.fill_ok(), case);
+    same!(rt; found.value_stats(0), wanted.value_stats(0), case);
+    same!(rt; found.value_stats(32768), wanted.value_stats(32768), case);
+    let mut room = [0u8; 400];
+    let mut sink = writer(rt.alloc(), SMOOTH);
+    same!(rt; copy_end(found.emit_from(file, &mut room, &mut sink)), Done, case);
+    let (written, _) = sink.into_inner().into_parts();
+    holds!(rt; written.as_slice() == bytes, case);
+    Ok(())
+}
