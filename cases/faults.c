@@ -2,15 +2,20 @@
 // fail or move little.
 //
 // REFUSE=K refuses the K-th request for memory, counted from 1.
-// STREAM names a stream of `fitsed`: script (reads of descriptor 0), file (reads of any other, also at a place), answers
-// (writes to descriptor 1), saved (writes to any but 1 and 2, what makes them reach the device, and renamings), or each.
+// STREAM names a stream of `fitsed`: script (reads of descriptor 0), file (reads of any other, also at a place), again
+// (those of a file's bytes that were read before), answers (writes to descriptor 1), saved (writes to any but 1 and 2,
+// what makes them reach the device, and renamings), or each.
 // Of its calls STEP=N lets each move N bytes at most, FAIL=K lets the K-th fail, counted from 1, and STOP=K the K-th and
 // each after it.
+// BYTE=PLACE changes the byte at a place of a file that has one there, and LENGTH=N gives a file this length: before bytes
+// of it are read again for the first time, or where WHEN=K is set, the K-th.
 // DENIED=create lets no file be made that has to be new, DENIED=liken no permissions be given to one.
 // Where COUNTED is set, the number of requests, or of the stream's calls, goes to descriptor 2 at the end.
+#define _GNU_SOURCE
 #include <errno.h>
 #include <fcntl.h>
 #include <stdarg.h>
+#include <stdio.h>
 #include <stdlib.h>
 #include <string.h>
 #include <sys/syscall.h>
@@ -19,7 +24,13 @@
 extern void *__libc_malloc(size_t), *__libc_realloc(void *, size_t);
 
 static const char *stream = 0;
-static unsigned long requests = 0, calls = 0, refuse = 0, fail = 0, stop = -1, step = -1;
+static unsigned long requests = 0, calls = 0, refuse = 0, fail = 0, stop = -1, step = -1, when = 1;
+
+// How far the file was read that was opened last to be read; how often bytes were read again; what is to change of a file, if
+// anything, and whether it did.
+static off_t furthest = 0, byte = -1, length = -1;
+static unsigned long again = 0;
+static int is_changed = 0;
 
 static unsigned long number(const char *name, unsigned long otherwise) {
     const char *text = getenv(name);
@@ -32,6 +43,9 @@ __attribute__((constructor)) static void begin(void) {
     fail = number("FAIL", 0);
     stop = number("STOP", stop);
     refuse = number("REFUSE", 0);
+    when = number("WHEN", when);
+    byte = number("BYTE", byte);
+    length = number("LENGTH", length);
     requests = 0;
 }
 
@@ -58,7 +72,26 @@ static ssize_t moved(long call, const char *of, int fd, void *bytes, size_t n, o
 
 ssize_t read(int fd, void *bytes, size_t n) { return moved(SYS_read, fd == 0 ? "script" : "file", fd, bytes, n, 0); }
 
-ssize_t pread(int fd, void *bytes, size_t n, off_t at) { return moved(SYS_pread64, "file", fd, bytes, n, at); }
+// Changes a file as BYTE or LENGTH says.
+static void change(int fd) {
+    char path[32], old;
+    snprintf(path, sizeof path, "/proc/self/fd/%d", fd);
+    int it = syscall(SYS_open, path, O_RDWR);
+    if (length >= 0) is_changed = !ftruncate(it, length);
+    if (byte >= 0 && syscall(SYS_pread64, it, &old, 1, byte) == 1) {
+        old ^= 1;
+        is_changed = syscall(SYS_pwrite64, it, &old, 1, byte) == 1;
+    }
+    close(it);
+}
+
+ssize_t pread(int fd, void *bytes, size_t n, off_t at) {
+    int is_again = at < furthest;
+    if (is_again && ++again >= when && !is_changed && (byte >= 0 || length >= 0)) change(fd);
+    ssize_t count = moved(SYS_pread64, is_again && counts("again") ? "again" : "file", fd, bytes, n, at);
+    if (count > 0 && at + count > furthest) furthest = at + count;
+    return count;
+}
 
 ssize_t write(int fd, const void *bytes, size_t n) {
     return moved(SYS_write, fd == 1 ? "answers" : fd == 2 ? 0 : "saved", fd, (void *)bytes, n, 0);
@@ -81,6 +114,8 @@ int open(const char *path, int flags, ...) {
     va_start(more, flags);
     int fd = flags & O_EXCL && denied("create") ? -1 : syscall(SYS_open, path, flags, va_arg(more, int));
     va_end(more);
+    // a file to be read, another than before
+    if ((flags & O_ACCMODE) == O_RDONLY) furthest = 0;
     return fd;
 }
 

@@ -55,9 +55,9 @@ class Program:
         return self._run([*words, "in.fits"], {"in.fits": file}, [])
 
     @contextlib.contextmanager
-    def room(self, files):
-        """A new folder with these files."""
-        with tempfile.TemporaryDirectory() as room:
+    def room(self, files, at=None):
+        """A new folder with these files, in one for such folders or at this path."""
+        with tempfile.TemporaryDirectory(dir=at) as room:
             for name, what in files.items():
                 (pathlib.Path(room) / name).write_bytes(what)
             yield room

@@ -11,6 +11,7 @@ import os
 import subprocess
 import sys
 
+import again
 import card_edits
 import codes
 import commands
@@ -50,6 +51,7 @@ TABLES = [
     mending,
     faults,
     one_file,
+    again,
     long_scripts,
     documents,
 ]
