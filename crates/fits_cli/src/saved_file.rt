@@ -6,6 +6,17 @@ use std::os::unix::fs::OpenOptionsExt;
 use std::rt::Files;
 use std::{fs, io};
 
+/// What may be written at a path.
+#[derive(Clone, Copy)]
+enum Target {
+    /// Whatever stands there, if nothing can take its place.
+    Any,
+    /// A file where none stands.
+    New,
+    /// A new file that takes the place of what stands there.
+    Replacement,
+}
+
 /// The file at a path, as it is saved.
 ///
 /// Nothing is made before the first byte. Where a regular file stands there, the bytes go to a new
@@ -17,8 +28,7 @@ pub struct SavedFile<'a, R: Files> {
     path: &'a str,
     mode: u32,
     replacement: Option<Replacement<'a, R>>,
-    /// Whether nothing but a replacement may be written.
-    replaces: bool,
+    target: Target,
     file: Option<R::File>,
 }
 
@@ -36,7 +46,7 @@ impl<'a, R: Files + AllocGlobal> SavedFile<'a, R> {
             path,
             mode,
             replacement: Replacement::of(rt, path)?,
-            replaces: false,
+            target: Target::Any,
             file: None,
         })
     }
@@ -51,7 +61,7 @@ impl<R: Files> SavedFile<'_, R> {
             path: _,
             mode: _,
             replacement,
-            replaces: _,
+            target: _,
             file,
         } = self;
         match (replacement, file) {
@@ -60,18 +70,48 @@ impl<R: Files> SavedFile<'_, R> {
         }
     }
 
-    /// Whether what stands at the path stays as it is until all is saved: nothing stands there that
-    /// has bytes of its own, or a new file can be made that takes its place. Then no other is written.
+    /// Whether what stands at the path stays as it is until all is saved: nothing stands there, what
+    /// stands there has no bytes of its own, or a new file can be made that takes its place. Then no
+    /// file that comes to stand there meanwhile is written.
     pub fn spares(&mut self) -> bool {
-        match fs::metadata(self.rt, self.path) {
-            Ok(there) if there.is_file() => {
-                self.replaces = match &mut self.replacement {
-                    Some(replacement) => replacement.can_begin(),
-                    None => false,
-                };
-                self.replaces
+        match self.spared() {
+            Some(target) => {
+                self.target = target;
+                true
             }
-            _ => true,
+            None => false,
+        }
+    }
+
+    // What may be written so that what stands at the path stays, if there is such.
+    fn spared(&mut self) -> Option<Target> {
+        let Ok(there) = fs::metadata(self.rt, self.path) else {
+            // A link that leads to no file stands there, and is no new file's place.
+            let is_free = fs::symlink_metadata(self.rt, self.path).is_err();
+            return is_free.then_some(Target::New);
+        };
+        if !there.is_file() {
+            return Some(Target::Any);
+        }
+        let can_begin = match &mut self.replacement {
+            Some(replacement) => replacement.can_begin(),
+            None => false,
+        };
+        can_begin.then_some(Target::Replacement)
+    }
+
+    /// Ends a saving that wasn't done: a file that was made where none stood is removed.
+    pub fn undo(self) {
+        let SavedFile {
+            rt,
+            path,
+            mode: _,
+            replacement: _replacement,
+            target,
+            file,
+        } = self;
+        if let (Target::New, Some(_file)) = (target, file) {
+            let _ = fs::remove_file(rt, path);
         }
     }
 
@@ -82,16 +122,14 @@ impl<R: Files> SavedFile<'_, R> {
                 return Ok(file);
             }
         }
-        if self.replaces {
-            return Err(io::Error::from(io::ErrorKind::PermissionDenied));
-        }
         self.replacement = None;
-        OpenOptions::new()
-            .write(true)
-            .create(true)
-            .truncate(true)
-            .mode(self.mode)
-            .open(self.rt, self.path)
+        let mut options = OpenOptions::new();
+        let options = options.write(true).mode(self.mode);
+        match self.target {
+            Target::Any => options.create(true).truncate(true).open(self.rt, self.path),
+            Target::New => options.create_new(true).open(self.rt, self.path),
+            Target::Replacement => Err(io::Error::from(io::ErrorKind::PermissionDenied)),
+        }
     }
 }
 

@@ -127,7 +127,6 @@ fn edited<R: Files<File = File> + AllocGlobal, S: Source, O: Sink>(
     let Ok(mut told) = remarks_after(rt.alloc(), told, &before) else {
         return ended(End::from(Fault::Memory));
     };
-    let is_new = fs::symlink_metadata(rt, paths.to).is_err();
     let Ok(mut saved) = SavedFile::new(rt, paths.to, mode_of(&file)) else {
         return ended(End::from(Fault::Memory));
     };
@@ -151,11 +150,7 @@ fn edited<R: Files<File = File> + AllocGlobal, S: Source, O: Sink>(
             &mut told,
         )
     };
-    let done = kept(saved.into_inner(), done);
-    if let (true, Some(Fault::Reread(_))) = (is_new, done.end.fault) {
-        let _ = fs::remove_file(rt, paths.to);
-    }
-    done
+    kept(saved.into_inner(), done)
 }
 
 // The run that has these terms.
@@ -215,6 +210,12 @@ fn ended(end: End) -> CheckedEnd {
 
 // Keeps what was saved, where all was; else the file that was there before stays.
 fn kept<R: Files>(saved: BufWriter<SavedFile<'_, R>>, done: CheckedEnd) -> CheckedEnd {
+    if let Some(Fault::Reread(_)) = done.end.fault {
+        if let Ok(saved) = saved.into_inner() {
+            saved.undo();
+        }
+        return done;
+    }
     if done.end.fault.is_some() || done.undone > 0 || done.new_errors > 0 {
         return done;
     }
