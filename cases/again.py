@@ -471,6 +471,10 @@ def of_kept(shim):
     # IN and OUT are one file, which has two names by then
     names = ["in.fits", "other.fits"]
     yield "OUT that is IN gets another name", kept, "in.fits", alone, linked(*names), *COPIES[0][::2], names, {}
+    # IN comes to a new OUT
+    names = ["in.fits", "out.fits"]
+    for come in (linked, leading):
+        yield f"a new OUT is IN meanwhile, {come.__name__}", kept, "out.fits", alone, come(*names), *COPIES[0][::2], names, {}
 
 
 def alone(path):
@@ -487,6 +491,11 @@ def linked(name, other):
     return lambda path: (path / other).hardlink_to(path / name)
 
 
+def leading(name, other):
+    """A link of another name comes to a folder, which leads to that of this name, if there is one."""
+    return lambda path: (path / other).symlink_to(name)
+
+
 def two_names(path):
     """A file of two names stands at OUT."""
     stands("other.fits")(path)
@@ -499,6 +508,8 @@ AT_OUT = [
     ("an old OUT", "out.fits", stands("out.fits"), alone, ["out.fits"]),
     ("OUT with two names", "out.fits", two_names, alone, ["out.fits", "other.fits"]),
     ("OUT that gets a name", "out.fits", stands("out.fits"), linked("out.fits", "other.fits"), ["out.fits", "other.fits"]),
+    ("a link that leads to no file", "out.fits", leading("none.fits", "out.fits"), alone, ["out.fits", "none.fits"]),
+    ("a new OUT that another makes", "out.fits", alone, stands("out.fits"), ["out.fits"]),
 ]
 
 
