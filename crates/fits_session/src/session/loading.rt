@@ -24,10 +24,7 @@ impl<'f, F: Stored> Session<InFile<'f, F>> {
     ghost use Rattle.fits_session.specs.Session.{file_of, marked_of};
 
     /// Opens a stored file, as `read`. Its data units pass by, and lie there until they are wanted.
-    pub fn read_stored(
-        alloc: Global,
-        file: &'f F,
-    ) -> Result<Session<InFile<'f, F>>, ReadFileFault>
+    pub fn read_stored(alloc: Global, file: &'f F) -> Result<Session<InFile<'f, F>>, ReadFileFault>
         ensures ok { IfOk result (λ session. Gives
             (record { remaining = F.bytes file.now; failures = 0 })
             (λ bytes. IsFileOf bytes (file_of session))) }

@@ -10,10 +10,10 @@ ghost use Rattle.fits_session.specs.Away.{AreKnownFrom};
 ghost use Rattle.fits_session.specs.Reading.{IsReadWhole, SupplyStops};
 ghost use Rattle.fits_session.specs.Session.{file_of, state_of, IsHeld};
 
+use crate::placing::placed;
 use crate::read_fault::ReadFileFault;
 use crate::walking::{end, settled, walk};
 use fits_card::BLOCK_LEN;
-use crate::placing::placed;
 use fits_hdu::{Hdu, Kept, PassedHdu};
 use fits_stream::{Intake, ReadFault, Source};
 use std::alloc::Global;
