@@ -82,31 +82,50 @@ const HDUS: &[HduRow<'static>] = &[
     NO_DATA, BYTES, BLANKED, SUMMED, REALS, TABLE, ILL_FILLED, LARGE,
 ];
 
-/// Where an HDU begins in a file, and its data unit.
+/// Where an HDU begins in a file.
 const HDU_AT: usize = 2880;
 
+/// And its data unit.
 const DATA_AT: usize = 5760;
 
-/// How many bytes a file has after an HDU.
+/// What a file has after an HDU.
 const TAIL: &[u8] = b"tail";
 
-// A file with an HDU after another. No byte of its data is as the one before.
+// The bytes of a data unit, with the fill. No byte of data is as the one before.
+fn unit_of(alloc: Global, used: usize, filling: u8) -> Result<Vec<u8>, AllocError> {
+    let mut bytes = Vec::new(alloc);
+    for place in 0..used {
+        bytes.push((place % 251) as u8)?;
+    }
+    fill_up(&mut bytes, BLOCK_LEN, filling)?;
+    Ok(bytes)
+}
+
+// A file with an HDU after another.
 fn file_with(alloc: Global, row: HduRow<'_>) -> Result<Vec<u8>, AllocError> {
     let (cards, used, filling) = row;
     let mut file = hdu_of(alloc, P0, 0)?;
     file.extend_from_slice(&hdu_of(alloc, cards, 0)?)?;
-    for place in 0..used {
-        file.push((place % 251) as u8)?;
-    }
-    fill_up(&mut file, BLOCK_LEN, filling)?;
+    file.extend_from_slice(&unit_of(alloc, used, filling)?)?;
     file.extend_from_slice(TAIL)?;
     Ok(file)
 }
 
+// The bytes from a place on.
+fn from_place(bytes: &[u8], place: usize) -> &[u8] {
+    let (_, rest) = bytes.split_at(place.min(bytes.len()));
+    rest
+}
+
 // The HDU in a file, with the bytes after it.
 fn from_hdu(file: &[u8]) -> &[u8] {
-    let (_, rest) = file.split_at(HDU_AT.min(file.len()));
-    rest
+    from_place(file, HDU_AT)
+}
+
+// And without.
+fn hdu_in(file: &[u8]) -> &[u8] {
+    let rest = from_hdu(file);
+    rest.strip_suffix(TAIL).unwrap_or(rest)
 }
 
 fn is_primary(row: HduRow<'_>) -> bool {
@@ -159,8 +178,8 @@ fn passed<S: Source>(alloc: Global, source: &mut S, primary: bool) -> Result<Hdu
     let Ok(mut intake) = Intake::new(alloc, 1_000_000) else {
         return Err(ReadHduFault::Hdu(HduFault::Memory));
     };
-    let passed = PassedHdu::read(alloc, &mut intake, source, primary)?;
-    match Hdu::away(alloc, passed, DATA_AT as u64) {
+    let known = PassedHdu::read(alloc, &mut intake, source, primary)?;
+    match Hdu::away(alloc, known, DATA_AT as u64) {
         Ok(hdu) => Ok(hdu),
         Err(_) => Err(ReadHduFault::Hdu(HduFault::Memory)),
     }
@@ -178,7 +197,7 @@ fn opened<R: Abort + AllocGlobal>(rt: &R, bytes: &[u8], primary: bool) -> Result
     Ok(hdu)
 }
 
-// What is read of an HDU.
+// The HDU that was read, if one was.
 fn had(read: Result<Hdu, ReadHduFault>) -> Result<Hdu, Fail> {
     match read {
         Ok(it) => Ok(it),
@@ -226,8 +245,10 @@ fn check_known<R: Abort + AllocGlobal, S: Source>(
 /// How many pixels are defined and how many blank, the least, the greatest and the sum of the defined ones.
 type Numbers = (u64, u64, i128, i128, i128);
 
-/// An HDU, its numbers, if it is an image of integers, and the sum of its data unit, as Python counts them.
-const KNOWN: &[(HduRow<'static>, Option<Numbers>, u32)] = &[
+/// An HDU, its numbers, if it is an image of integers, and the sum of its data unit: they were counted in Python.
+type Known<'a> = (HduRow<'a>, Option<Numbers>, u32);
+
+const KNOWN: &[Known<'static>] = &[
     (NO_DATA, None, 0),
     (BYTES, Some((3000, 0, 0, 250, 373_566)), 1_111_440_441),
     (
@@ -248,14 +269,20 @@ const KNOWN: &[(HduRow<'static>, Option<Numbers>, u32)] = &[
 
 #[test]
 fn an_hdu_has_the_numbers_of_what_passed_by(rt: HostRuntime) -> Result<(), Fail> {
-    for (row, numbers, datasum) in KNOWN {
-        let file = file_with(rt.alloc(), *row)?;
-        let stored = stored_bytes(&file, file.len());
-        let found = had(stored_away(rt.alloc(), &stored, is_primary(*row)))?;
-        holds!(rt; found.is_counted(), row);
-        same!(rt; found.stats().and_then(numbers_of), *numbers, row);
-        same!(rt; found.datasum(), *datasum, row);
+    for case in KNOWN {
+        let file = file_with(rt.alloc(), case.0)?;
+        check_numbers(&rt, &file, *case)?;
     }
+    Ok(())
+}
+
+fn check_numbers<R: Abort + AllocGlobal>(rt: &R, file: &[u8], case: Known<'_>) -> Result<(), Fail> {
+    let (row, numbers, datasum) = case;
+    let stored = stored_bytes(file, file.len());
+    let found = had(stored_away(rt.alloc(), &stored, is_primary(row)))?;
+    holds!(rt; found.is_counted(), row);
+    same!(rt; found.stats().and_then(numbers_of), numbers, row);
+    same!(rt; found.datasum(), datasum, row);
     Ok(())
 }
 
@@ -269,17 +296,26 @@ fn numbers_of(stats: Stats) -> Option<Numbers> {
 fn an_hdu_is_known_as_it_passes_by(rt: HostRuntime) -> Result<(), Fail> {
     for row in HDUS {
         let file = file_with(rt.alloc(), *row)?;
-        let bytes = from_hdu(&file);
-        let wanted = opened(&rt, bytes, is_primary(*row))?;
-        for step in [7usize, 2880, 1_000_000] {
-            let plan = Plan { step, failing: 0 };
-            check_known(&rt, &mut reader(bytes, plan), &wanted, *row)?;
-        }
-        let stored = stored_bytes(&file, file.len());
-        let mut source = StoredSource::new(&stored, HDU_AT as u64);
-        check_known(&rt, &mut source, &wanted, *row)?;
+        let wanted = opened(&rt, from_hdu(&file), is_primary(*row))?;
+        check_sources(&rt, &file, &wanted, *row)?;
     }
     Ok(())
+}
+
+// Whether an HDU is known to be one in memory, from each source.
+fn check_sources<R: Abort + AllocGlobal>(
+    rt: &R,
+    file: &[u8],
+    wanted: &Hdu,
+    row: HduRow<'_>,
+) -> Result<(), Fail> {
+    for step in [7usize, 2880, 1_000_000] {
+        let plan = Plan { step, failing: 0 };
+        check_known(rt, &mut reader(from_hdu(file), plan), wanted, row)?;
+    }
+    let stored = stored_bytes(file, file.len());
+    let mut source = StoredSource::new(&stored, HDU_AT as u64);
+    check_known(rt, &mut source, wanted, row)
 }
 
 // Whether two HDUs in memory have the same pixels, where they are images of integers.
@@ -303,15 +339,41 @@ fn same_pixels<R: Abort + AllocGlobal>(
 fn a_data_unit_is_loaded(rt: HostRuntime) -> Result<(), Fail> {
     for row in HDUS {
         let file = file_with(rt.alloc(), *row)?;
-        let mut wanted = opened(&rt, from_hdu(&file), is_primary(*row))?;
-        let stored = stored_bytes(&file, file.len());
-        let mut found = had(stored_away(rt.alloc(), &stored, is_primary(*row)))?;
-        found.load(rt.alloc(), &stored)?;
-        // what is in memory is read from no file
-        found.load(rt.alloc(), &broken_bytes(&[], 0))?;
-        same_answers(&rt, &found, &wanted, *row);
-        same_pixels(&rt, &mut found, &mut wanted, *row)?;
+        check_loaded(&rt, &file, *row)?;
     }
+    Ok(())
+}
+
+fn check_loaded<R: Abort + AllocGlobal>(rt: &R, file: &[u8], row: HduRow<'_>) -> Result<(), Fail> {
+    let stored = stored_bytes(file, file.len());
+    let mut found = had(stored_away(rt.alloc(), &stored, is_primary(row)))?;
+    check_load(rt, &mut found, &stored, from_hdu(file), row)
+}
+
+// Whether an HDU is loaded from its file. These bytes begin with it.
+fn check_load<R: Abort + AllocGlobal, F: Stored>(
+    rt: &R,
+    found: &mut Hdu,
+    file: &F,
+    bytes: &[u8],
+    row: HduRow<'_>,
+) -> Result<(), Fail> {
+    found.load(rt.alloc(), file)?;
+    // what is in memory is read from no file
+    found.load(rt.alloc(), &broken_bytes(&[], 0))?;
+    check_held(rt, found, bytes, row)
+}
+
+// Whether an HDU in memory is the one that these bytes begin with.
+fn check_held<R: Abort + AllocGlobal>(
+    rt: &R,
+    found: &mut Hdu,
+    bytes: &[u8],
+    row: HduRow<'_>,
+) -> Result<(), Fail> {
+    let mut wanted = opened(rt, bytes, is_primary(row))?;
+    same_answers(rt, found, &wanted, row);
+    same_pixels(rt, found, &mut wanted, row)?;
     Ok(())
 }
 
@@ -365,17 +427,35 @@ const ROOMS: &[usize] = &[4, 2880, 65_536];
 fn an_hdu_is_copied_from_its_file(rt: HostRuntime) -> Result<(), Fail> {
     for row in HDUS {
         let file = file_with(rt.alloc(), *row)?;
-        let Some(wanted) = from_hdu(&file).strip_suffix(TAIL) else {
-            return Err(Fail::from("no tail"));
-        };
-        let stored = stored_bytes(&file, file.len());
         for room in ROOMS {
-            let mut hdu = had(stored_away(rt.alloc(), &stored, is_primary(*row)))?;
-            check_copy(&rt, &mut hdu, &stored, *room, wanted)?;
-            hdu.load(rt.alloc(), &stored)?;
-            check_copy(&rt, &mut hdu, &broken_bytes(&[], 0), *room, wanted)?;
+            check_copies(&rt, &file, *row, *room)?;
         }
     }
+    Ok(())
+}
+
+fn check_copies<R: Abort + AllocGlobal>(
+    rt: &R,
+    file: &[u8],
+    row: HduRow<'_>,
+    room: usize,
+) -> Result<(), Fail> {
+    let stored = stored_bytes(file, file.len());
+    let mut hdu = had(stored_away(rt.alloc(), &stored, is_primary(row)))?;
+    check_both_copies(rt, &mut hdu, &stored, room, hdu_in(file))
+}
+
+// Whether copies of an HDU have all its bytes: one from its file, and one from memory.
+fn check_both_copies<R: Abort + AllocGlobal, F: Stored>(
+    rt: &R,
+    hdu: &mut Hdu,
+    file: &F,
+    room: usize,
+    wanted: &[u8],
+) -> Result<(), Fail> {
+    check_copy(rt, hdu, file, room, wanted)?;
+    hdu.load(rt.alloc(), file)?;
+    check_copy(rt, hdu, &broken_bytes(&[], 0), room, wanted)?;
     Ok(())
 }
 
@@ -396,7 +476,7 @@ const SHORT: End = End::Hdu(HduFault::ShortData);
 
 const DAMAGES: &[DamageRow] = &[
     // the header isn't read again
-    (Damage::Byte(5679), Done, Done, Done),
+    (Damage::Byte(5759), Done, Done, Done),
     (Damage::Byte(5760), Done, Changed, Changed),
     (Damage::Byte(125_759), Done, Changed, Changed),
     // the last byte of the fill, and the first after it
@@ -441,29 +521,61 @@ fn a_damaged_file_is_seen(rt: HostRuntime) -> Result<(), Fail> {
     Ok(())
 }
 
-// Whether a damage of a file is seen. The HDU stays as it was where it can't be loaded.
 fn check_damage<R: Abort + AllocGlobal>(
     rt: &R,
     file: &[u8],
     wanted: &Hdu,
     case: DamageRow,
 ) -> Result<(), Fail> {
-    let (damage, read, load, copy) = case;
-    let whole = stored_bytes(file, file.len());
-    let mut hdu = had(stored_away(rt.alloc(), &whole, false))?;
     let mut bytes = file.to_vec(rt.alloc())?;
-    if let Damage::Byte(place) = damage {
+    if let Damage::Byte(place) = case.0 {
         change(&mut bytes, place, b'?');
     }
-    let stored = damaged(&bytes, damage);
+    check_damaged(rt, file, &bytes, wanted, case)
+}
+
+// Whether a file with these bytes after a damage is read so, and one that was read before it is loaded and copied so.
+fn check_damaged<R: Abort + AllocGlobal>(
+    rt: &R,
+    file: &[u8],
+    bytes: &[u8],
+    wanted: &Hdu,
+    case: DamageRow,
+) -> Result<(), Fail> {
+    let (damage, read, _, _) = case;
+    let stored = damaged(bytes, damage);
     same!(rt; read_end(stored_away(rt.alloc(), &stored, false)), read, damage);
-    let found = copy_of(rt, &mut hdu, &stored, 2880, SMOOTH)?;
-    same!(rt; found.end, copy, damage);
-    same!(rt; load_end(hdu.load(rt.alloc(), &stored)), load, damage);
-    same!(rt; hdu.is_held(), load == Done, damage);
-    same_answers(rt, &hdu, wanted, LARGE);
+    let whole = stored_bytes(file, file.len());
+    let mut hdu = had(stored_away(rt.alloc(), &whole, false))?;
+    check_seen(
+        rt,
+        &mut hdu,
+        &stored,
+        from_place(bytes, DATA_AT),
+        wanted,
+        case,
+    )?;
     same!(rt; load_end(hdu.load(rt.alloc(), &whole)), Done, damage);
-    holds!(rt; hdu.is_held(), damage);
+    Ok(())
+}
+
+// Whether a damage of a file is seen, of whose data unit no other bytes are copied than these. An HDU that isn't loaded
+// stays as it was.
+fn check_seen<R: Abort + AllocGlobal, F: Stored>(
+    rt: &R,
+    hdu: &mut Hdu,
+    file: &F,
+    bytes: &[u8],
+    wanted: &Hdu,
+    case: DamageRow,
+) -> Result<(), AllocError> {
+    let (damage, _, load, copy) = case;
+    let found = copy_of(rt, hdu, file, 2880, SMOOTH)?;
+    same!(rt; found.end, copy, damage);
+    holds!(rt; bytes.starts_with(from_place(&found.written, BLOCK_LEN)), damage);
+    same!(rt; load_end(hdu.load(rt.alloc(), file)), load, damage);
+    same!(rt; hdu.is_held(), load == Done, damage);
+    same_answers(rt, hdu, wanted, LARGE);
     Ok(())
 }
 
@@ -472,9 +584,18 @@ fn each_call_of_a_sink_that_fails_ends_a_copy(rt: HostRuntime) -> Result<(), Fai
     let file = file_with(rt.alloc(), BLANKED)?;
     let stored = stored_bytes(&file, file.len());
     let mut hdu = had(stored_away(rt.alloc(), &stored, false))?;
-    check_sinks(&rt, &mut hdu, &stored)?;
-    hdu.load(rt.alloc(), &stored)?;
-    check_sinks(&rt, &mut hdu, &stored)?;
+    check_failing_sinks(&rt, &mut hdu, &stored)
+}
+
+// Whether sinks that fail end copies: from a file, and from memory.
+fn check_failing_sinks<R: Abort + AllocGlobal, F: Stored>(
+    rt: &R,
+    hdu: &mut Hdu,
+    file: &F,
+) -> Result<(), Fail> {
+    check_sinks(rt, hdu, file)?;
+    hdu.load(rt.alloc(), file)?;
+    check_sinks(rt, hdu, file)?;
     Ok(())
 }
 
@@ -504,24 +625,27 @@ fn check_sinks<R: Abort + AllocGlobal, F: Stored>(
 
 #[test]
 fn refused_memory_at_a_load(rt: HostRuntime) {
-    let _ = check_refused(&rt, BLANKED);
+    let why = check_refused(&rt, BLANKED).err();
+    holds!(rt; matches!(why, None | Some(HduFault::Memory)));
 }
 
-// Whether an HDU whose data unit is away is as before where memory for it is refused. Err: the memory for a file was
-// refused.
-fn check_refused<R: Abort + AllocGlobal>(rt: &R, row: HduRow<'_>) -> Result<(), AllocError> {
+// Err: the memory for a file or an HDU in memory was refused.
+fn check_refused<R: Abort + AllocGlobal>(rt: &R, row: HduRow<'_>) -> Result<(), HduFault> {
     let file = file_with(rt.alloc(), row)?;
-    let Ok(wanted) = opened(rt, from_hdu(&file), is_primary(row)) else {
-        return Err(AllocError);
-    };
-    let stored = stored_bytes(&file, file.len());
+    let wanted = opened(rt, from_hdu(&file), is_primary(row))?;
     for _ in 0..2 {
-        match stored_away(rt.alloc(), &stored, is_primary(row)) {
-            Ok(mut hdu) => check_loads(rt, &mut hdu, &stored, &wanted, row),
-            Err(why) => same!(rt; read_end(Err(why)), End::Memory, row),
-        }
+        check_try(rt, &file, &wanted, row);
     }
     Ok(())
+}
+
+// Whether an HDU is read and then loaded, as far as there is memory.
+fn check_try<R: Abort + AllocGlobal>(rt: &R, file: &[u8], wanted: &Hdu, row: HduRow<'_>) {
+    let stored = stored_bytes(file, file.len());
+    match stored_away(rt.alloc(), &stored, is_primary(row)) {
+        Ok(mut hdu) => check_loads(rt, &mut hdu, &stored, wanted, row),
+        Err(why) => same!(rt; read_end(Err(why)), End::Memory, row),
+    }
 }
 
 // Whether an HDU is loaded, or is as before.
@@ -561,23 +685,34 @@ const BLANK_EDITS: &[Edited<'static>] = &[
 #[test]
 fn a_changed_blank_waits_for_the_pixels(rt: HostRuntime) -> Result<(), Fail> {
     for case in BLANK_EDITS {
-        check_edit(&rt, *case)?;
+        let file = file_with(rt.alloc(), case.0)?;
+        check_edit(&rt, &file, *case)?;
     }
     Ok(())
 }
 
-// Whether an HDU that is edited while its data unit is away is one that has the edited cards.
-fn check_edit<R: Abort + AllocGlobal>(rt: &R, case: Edited<'_>) -> Result<(), Fail> {
-    let (row, place, cards, is_counted) = case;
-    let file = file_with(rt.alloc(), row)?;
-    let edited = edited_hdu(rt.alloc(), from_hdu(&file), place, cards)?;
-    let stored = stored_bytes(&file, file.len());
+fn check_edit<R: Abort + AllocGlobal>(rt: &R, file: &[u8], case: Edited<'_>) -> Result<(), Fail> {
+    let (row, place, cards, _) = case;
+    let edited = edited_hdu(rt.alloc(), hdu_in(file), place, cards)?;
+    let stored = stored_bytes(file, file.len());
     let mut found = had(stored_away(rt.alloc(), &stored, is_primary(row)))?;
-    put_cards(rt, &mut found, place, cards)?;
-    check_counted(rt, &found, &edited, row, is_counted)?;
-    check_copy(rt, &mut found, &stored, 2880, &edited)?;
-    found.load(rt.alloc(), &stored)?;
-    check_edited(rt, &mut found, &edited, row)
+    check_edited(rt, &mut found, &stored, &edited, case)
+}
+
+// Whether an HDU that is edited while its data unit is away is the one that has the edited cards.
+fn check_edited<R: Abort + AllocGlobal, F: Stored>(
+    rt: &R,
+    found: &mut Hdu,
+    file: &F,
+    edited: &[u8],
+    case: Edited<'_>,
+) -> Result<(), Fail> {
+    let (row, place, cards, is_counted) = case;
+    put_cards(rt, found, place, cards)?;
+    check_counted(rt, found, edited, row, is_counted)?;
+    check_copy(rt, found, file, 2880, edited)?;
+    found.load(rt.alloc(), file)?;
+    check_held(rt, found, edited, row)
 }
 
 // Whether the statistics of an HDU are known; where they are, all is answered as in memory.
@@ -596,19 +731,6 @@ fn check_counted<R: Abort + AllocGlobal>(
     Ok(())
 }
 
-// Whether an HDU in memory is that of these bytes.
-fn check_edited<R: Abort + AllocGlobal>(
-    rt: &R,
-    found: &mut Hdu,
-    bytes: &[u8],
-    row: HduRow<'_>,
-) -> Result<(), Fail> {
-    let mut wanted = opened(rt, bytes, is_primary(row))?;
-    same_answers(rt, found, &wanted, row);
-    same_pixels(rt, found, &mut wanted, row)?;
-    Ok(())
-}
-
 // The bytes of an HDU with cards put in the place of another in turn.
 fn edited_hdu(
     alloc: Global,
@@ -616,7 +738,7 @@ fn edited_hdu(
     place: usize,
     cards: &[&str],
 ) -> Result<Vec<u8>, AllocError> {
-    let mut edited = bytes.strip_suffix(TAIL).unwrap_or(bytes).to_vec(alloc)?;
+    let mut edited = bytes.to_vec(alloc)?;
     for text in cards {
         put_text(&mut edited, place, text);
     }
@@ -694,111 +816,30 @@ fn a_lent_file_is_read_from_a_place_on(rt: HostRuntime) -> Result<(), Fail> {
     Ok(())
 }
 
-/// How a data unit is read, how many of its bytes are data, how many there are in all, and the byte of its fill.
-type UnitRow = (Layout, usize, u8);
+/// The width of pixels, how many there are, how many bytes come before the fill, the byte of which that should be, the
+/// number of undefined pixels, and the byte of which the fill is.
+type UnitRow = (usize, usize, usize, u8, Option<i64>, u8);
 
 const UNITS: &[UnitRow] = &[
-    // no bytes
-    (
-        Layout {
-            width: 0,
-            pixels: 0,
-            used: 0,
-            fill: 0,
-            blank: None,
-        },
-        0,
-        0,
-    ),
-    // no pixels, and a fill that is right or wrong
-    (
-        Layout {
-            width: 0,
-            pixels: 0,
-            used: 20,
-            fill: b' ',
-            blank: None,
-        },
-        20,
-        b' ',
-    ),
-    (
-        Layout {
-            width: 0,
-            pixels: 0,
-            used: 20,
-            fill: b' ',
-            blank: None,
-        },
-        20,
-        0,
-    ),
-    // pixels over two blocks, the last of one
-    (
-        Layout {
-            width: 1,
-            pixels: 2881,
-            used: 2881,
-            fill: 0,
-            blank: None,
-        },
-        2881,
-        0,
-    ),
-    (
-        Layout {
-            width: 2,
-            pixels: 2000,
-            used: 4000,
-            fill: 0,
-            blank: Some(1),
-        },
-        4000,
-        0,
-    ),
-    (
-        Layout {
-            width: 2,
-            pixels: 2000,
-            used: 4000,
-            fill: 0,
-            blank: Some(1),
-        },
-        4000,
-        1,
-    ),
-    (
-        Layout {
-            width: 4,
-            pixels: 1440,
-            used: 5760,
-            fill: 0,
-            blank: Some(0x0001_0203),
-        },
-        5760,
-        0,
-    ),
-    (
-        Layout {
-            width: 8,
-            pixels: 800,
-            used: 6400,
-            fill: 0,
-            blank: Some(-1),
-        },
-        6400,
-        0,
-    ),
+    (0, 0, 0, 0, None, 0),
+    (0, 0, 20, b' ', None, b' '),
+    (0, 0, 20, b' ', None, 0),
+    (1, 2881, 2881, 0, None, 0),
+    (2, 2000, 4000, 0, Some(1), 0),
+    (2, 2000, 4000, 0, Some(1), 1),
+    (4, 1440, 5760, 0, Some(0x0001_0203), 0),
+    (8, 800, 6400, 0, Some(-1), 0),
 ];
 
-// The bytes of a data unit. None of its data is as the one before.
-fn unit_of(alloc: Global, used: usize, filling: u8) -> Result<Vec<u8>, AllocError> {
-    let mut bytes = Vec::new(alloc);
-    for place in 0..used {
-        bytes.push((place % 251) as u8)?;
+fn layout_of(row: UnitRow) -> Layout {
+    let (width, pixels, used, fill, blank, _) = row;
+    Layout {
+        width,
+        pixels,
+        used,
+        fill,
+        blank,
     }
-    fill_up(&mut bytes, BLOCK_LEN, filling)?;
-    Ok(bytes)
 }
 
 // What is known of a data unit that passes by in two pieces.
@@ -814,13 +855,14 @@ fn passed_unit<R: Abort>(rt: &R, bytes: &[u8], layout: Layout, at: usize) -> Pas
 
 #[test]
 fn a_data_unit_is_known_as_it_passes_by(rt: HostRuntime) -> Result<(), Fail> {
-    for (layout, used, filling) in UNITS {
-        let bytes = unit_of(rt.alloc(), *used, *filling)?;
-        holds!(rt; layout.fits(&bytes), used);
-        let wanted = Plane::open(rt.alloc(), &bytes, *layout)?;
+    for row in UNITS {
+        let bytes = unit_of(rt.alloc(), row.2, row.5)?;
+        let layout = layout_of(*row);
+        holds!(rt; layout.fits(&bytes), row);
+        let wanted = Plane::open(rt.alloc(), &bytes, layout)?;
         for at in [0usize, 2880, 5760] {
             let at = at.min(bytes.len());
-            let found = passed_unit(&rt, &bytes, *layout, at);
+            let found = passed_unit(&rt, &bytes, layout, at);
             check_passed(&rt, found, &wanted);
         }
     }
@@ -848,48 +890,80 @@ const UNIT_AT: u64 = 6;
 
 #[test]
 fn a_data_unit_away_is_loaded_and_copied(rt: HostRuntime) -> Result<(), Fail> {
-    for (layout, used, filling) in UNITS {
-        let bytes = unit_of(rt.alloc(), *used, *filling)?;
+    for row in UNITS {
+        let bytes = unit_of(rt.alloc(), row.2, row.5)?;
         let mut file = b"before".to_vec(rt.alloc())?;
         file.extend_from_slice(&bytes)?;
-        let stored = stored_bytes(&file, file.len());
-        holds!(rt; layout.fits(&bytes), used);
-        let wanted = Plane::open(rt.alloc(), &bytes, *layout)?;
-        let mut found = DataUnit::away(rt.alloc(), passed_unit(&rt, &bytes, *layout, 0), UNIT_AT)?;
-        holds!(rt; !found.is_held());
-        check_unit(&rt, &mut found, &stored, &wanted, &bytes)?;
-        found.load(rt.alloc(), &stored)?;
-        holds!(rt; found.is_held());
-        check_unit(&rt, &mut found, &stored, &wanted, &bytes)?;
-        let mut held = DataUnit::held(Plane::open(rt.alloc(), &bytes, *layout)?);
-        holds!(rt; held.is_held());
-        check_unit(&rt, &mut held, &stored, &wanted, &bytes)?;
+        check_unit_away(&rt, &file, &bytes, layout_of(*row))?;
+        check_unit_held(&rt, &bytes, layout_of(*row))?;
     }
     Ok(())
 }
 
-// Whether a data unit, in memory or away, answers what a plane does, and is copied to its bytes.
+// Whether a data unit that lies in a file is loaded and copied.
+fn check_unit_away<R: Abort + AllocGlobal>(
+    rt: &R,
+    file: &[u8],
+    bytes: &[u8],
+    layout: Layout,
+) -> Result<(), Fail> {
+    let stored = stored_bytes(file, file.len());
+    let unit = passed_unit(rt, bytes, layout, 0);
+    let mut found = DataUnit::away(rt.alloc(), unit, UNIT_AT)?;
+    holds!(rt; !found.is_held());
+    check_unit(rt, &mut found, &stored, bytes, layout)?;
+    found.load(rt.alloc(), &stored)?;
+    holds!(rt; found.is_held());
+    check_unit(rt, &mut found, &broken_bytes(&[], 0), bytes, layout)
+}
+
+// Whether a data unit in memory is copied from there.
+fn check_unit_held<R: Abort + AllocGlobal>(
+    rt: &R,
+    bytes: &[u8],
+    layout: Layout,
+) -> Result<(), Fail> {
+    holds!(rt; layout.fits(bytes));
+    let mut found = DataUnit::held(Plane::open(rt.alloc(), bytes, layout)?);
+    holds!(rt; found.is_held());
+    check_unit(rt, &mut found, &broken_bytes(&[], 0), bytes, layout)
+}
+
+// Whether a data unit, in memory or away, is that of these bytes.
 fn check_unit<R: Abort + AllocGlobal, F: Stored>(
     rt: &R,
     found: &mut DataUnit,
     file: &F,
-    wanted: &Plane,
     bytes: &[u8],
-) -> Result<(), AllocError> {
-    let layout = wanted.layout();
-    let case = (layout.width, layout.pixels);
+    layout: Layout,
+) -> Result<(), Fail> {
     found.set_blank(Some(7));
-    same!(rt; found.is_counted(), found.is_held(), case);
+    same!(rt; found.is_counted(), found.is_held());
     found.set_blank(layout.blank);
+    check_unit_answers(rt, found, bytes, layout)?;
+    let mut room = [0u8; 400];
+    let mut sink = writer(rt.alloc(), SMOOTH);
+    same!(rt; copy_end(found.emit_from(file, &mut room, &mut sink)), Done);
+    let (written, _) = sink.into_inner().into_parts();
+    holds!(rt; written.as_slice() == bytes);
+    Ok(())
+}
+
+// Whether a data unit answers what the plane of these bytes does.
+fn check_unit_answers<R: Abort + AllocGlobal>(
+    rt: &R,
+    found: &DataUnit,
+    bytes: &[u8],
+    layout: Layout,
+) -> Result<(), AllocError> {
+    holds!(rt; layout.fits(bytes));
+    let wanted = Plane::open(rt.alloc(), bytes, layout)?;
+    let case = (layout.width, layout.pixels);
     holds!(rt; found.is_counted(), case);
+    same!(rt; found.byte_len(), wanted.byte_len(), case);
     same!(rt; found.total(), wanted.total(), case);
     same!(rt; found.fill_ok(), wanted.fill_ok(), case);
     same!(rt; found.value_stats(0), wanted.value_stats(0), case);
     same!(rt; found.value_stats(32768), wanted.value_stats(32768), case);
-    let mut room = [0u8; 400];
-    let mut sink = writer(rt.alloc(), SMOOTH);
-    same!(rt; copy_end(found.emit_from(file, &mut room, &mut sink)), Done, case);
-    let (written, _) = sink.into_inner().into_parts();
-    holds!(rt; written.as_slice() == bytes, case);
     Ok(())
 }
