@@ -21,7 +21,8 @@ enum Target {
 ///
 /// Nothing is made before the first byte. Where a regular file stands there, the bytes go to a new
 /// one beside it, if it can be made: kept, that takes the place of the old one; dropped before, it
-/// is removed, and the old one is as it was. Any other file is made or emptied, and written.
+/// is removed, and the old one is as it was. Any other file is made or emptied, and written, unless
+/// what stands there is to be spared.
 #[derive(Drop)]
 pub struct SavedFile<'a, R: Files> {
     rt: &'a R,

@@ -363,15 +363,19 @@ walked_whole keeps ks tail bytes a b c p limit q some few ends over short len =
 pub whole_given : (hdus : List HduState) (bytes : ℕ) (tail : List ℕ) (a : Supply) → IsReadWhole IsKeptWhole hdus bytes tail a → GivesAll a (λ all. IsFileOf all (file_of (state_of hdus tail)))
 whole_given hdus bytes tail a r = rw (each_is hdus r.hdus r.each) (file_bytes (record { hdus = r.hdus; tail = tail }), r.told, r.whole)
 
+-- they are one
 pub whole_is : (hdus : List HduState) (bytes : ℕ) (tail : List ℕ) (a : Supply) → IsReadWhole IsKeptWhole hdus bytes tail a → IsFile (file_of (state_of hdus tail))
 whole_is hdus bytes tail a r = rw (each_is hdus r.hdus r.each) r.whole
 
+-- of so many bytes
 pub whole_long : (hdus : List HduState) (bytes : ℕ) (tail : List ℕ) (a : Supply) → IsReadWhole IsKeptWhole hdus bytes tail a → bytes ≡ length (file_bytes (file_of (state_of hdus tail)))
 whole_long hdus bytes tail a r = rw (each_is hdus r.hdus r.each) r.len
 
+-- they were opened
 pub whole_opened : (hdus : List HduState) (bytes : ℕ) (tail : List ℕ) (a : Supply) → IsReadWhole IsKeptWhole hdus bytes tail a → All (IsOpened 0) hdus
 whole_opened hdus bytes tail a r = each_opened hdus r.hdus r.each
 
+-- and are in memory
 pub whole_held : (hdus : List HduState) (bytes : ℕ) (tail : List ℕ) (a : Supply) → IsReadWhole IsKeptWhole hdus bytes tail a → All IsHeld hdus
 whole_held hdus bytes tail a r = each_held hdus r.hdus r.each
 
