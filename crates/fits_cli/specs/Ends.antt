@@ -48,10 +48,6 @@ Opens old parts = Gives old (λ bytes. IsFileOf bytes parts)
 abbrev pub OverFile : FileParts → (SourceState → SourceState → Type 0) → Type 0
 OverFile parts Is = (file after : SourceState) → Opens file parts → StaysQuiet file after → Is file after
 
--- a stored file, before it is read
-abbrev pub unread : Option (List ℕ) → SourceState
-unread told = record { remaining = told; failures = 0 }
-
 -- what was read of a script, as far as its limit, and the whole lines of that
 pub record CameTo (old new : SourceState) (lines : List (List ℕ)) (last : List ℕ) : Type 0 where
   pub came : List ℕ

@@ -1,12 +1,12 @@
 -- Faults: their status, and which one stands for a failed call (own).
-use Rattle.std.specs.Prelude.{◌≡◌, ◌⊎◌, ℕ, List, take}
+use Rattle.std.specs.Prelude.{◌≡◌, ◌⊎◌, ℕ, ◌+◌, List, take}
 use Rattle.fits_session.specs.declared.open_fault.OpenFault.{OpenFault}
 use Rattle.fits_session.specs.declared.open_fault.OpenFault.TheVariants.{NotFits, NoEnd, BadShape, ShortData, TooLarge, Memory as OpenMemory}
 use Rattle.fits_session.specs.declared.read_fault.ReadFileFault.{ReadFileFault}
 use Rattle.fits_session.specs.declared.read_fault.ReadFileFault.TheVariants as read_file
 use Rattle.fits_stream.specs.declared.reading.ReadFault.{ReadFault}
 use Rattle.fits_stream.specs.declared.reading.ReadFault.TheVariants as read_fault
-use Rattle.fits_stream.specs.Stream.{SinkState, Prints, PrintsFront, FailsToFlush}
+use Rattle.fits_stream.specs.Stream.{SinkState, SourceState, FailsOnce, Prints, PrintsFront, FailsToFlush}
 use Rattle.fits_cli.specs.declared.fault.Fault.{Fault}
 use Rattle.fits_cli.specs.declared.fault.Fault.TheVariants.{Refused, ScriptTooLong, Memory, ReadFailed, WriteFailed, Reread as RereadFault}
 use Rattle.fits_cli.specs.declared.reread.Reread.{Reread}
@@ -49,6 +49,30 @@ IsOnce fault = Unit {0}
 -- they weren't had, and not because the file changed
 abbrev pub IsUnchanged : Reread → Type 0
 IsUnchanged why = why ≡ again.Changed → ⊥
+
+-- how many reads of a file have failed, before and after its data weren't had again: one more where that is why, else no more
+abbrev pub RereadCounts : ℕ → ℕ → Reread → Type 0
+RereadCounts before after again.Failed = after ≡ before + 1
+RereadCounts before after why = after ≡ before
+
+-- the same for what ends a line or a save: no read fails but of data that weren't had again
+abbrev pub FaultCounts : ℕ → ℕ → Fault → Type 0
+FaultCounts before after (RereadFault why) = RereadCounts before after why
+FaultCounts before after ReadFailed = ⊥
+FaultCounts before after fault = after ≡ before
+
+-- the same for what ends a script, a read of which may fail too
+abbrev pub ScriptCounts : ℕ → ℕ → SourceState → SourceState → Fault → Type 0
+ScriptCounts before after script script_after ReadFailed = (after ≡ before) × FailsOnce script script_after
+ScriptCounts before after script script_after fault = FaultCounts before after fault
+
+-- the same for what ends a run: a read of the script failed, or one of the file before the script was reached; where answers can't be
+-- flushed that is the fault, also after a read of the file
+abbrev pub RunCounts : ℕ → ℕ → SourceState → SourceState → Fault → Type 0
+RunCounts before after script script_after ReadFailed =
+    ((after ≡ before) × FailsOnce script script_after) ⊎ ((after ≡ before + 1) × (script_after ≡ script))
+RunCounts before after script script_after WriteFailed = (after ≡ before) ⊎ (after ≡ before + 1)
+RunCounts before after script script_after fault = FaultCounts before after fault
 
 -- what ends a run whose file doesn't open
 abbrev pub fault_of_open : OpenFault → Fault

@@ -1,17 +1,18 @@
 //! The run of `ask`: a file, a script, and answers; nothing is saved.
-ghost use Rattle.std.specs.Prelude.{◌≡◌, true, not, OnErr, OnOk};
+ghost use Rattle.std.specs.Prelude.{◌≡◌, true, not, OnErr, OnOk, IfErr, MatchOption};
 ghost use Rattle.std.specs.Option.{option_map};
 ghost use Rattle.fits_stream.specs.Stream.{SinkState, SourceState};
-ghost use Rattle.fits_session.specs.Away.{AllTell};
+ghost use Rattle.fits_session.specs.Away.{at_start, AllTell};
 ghost use Rattle.fits_session.specs.Marked.{unmarked};
 ghost use Rattle.fits_session.specs.Session.{file_of, marked_of};
-ghost use Rattle.fits_cli.specs.Ends.{run, run_by, unread, AreAllRemarks, AreToldOf, AsksAs, AsksBy, OverFile, RemarksEndAs};
+ghost use Rattle.fits_cli.specs.Faults.{RunCounts};
+ghost use Rattle.fits_cli.specs.Ends.{run, run_by, AreAllRemarks, AreToldOf, AsksAs, AsksBy, OverFile, RemarksEndAs};
 
 use crate::editing::answered;
 use crate::end::End;
 use crate::fault::Fault;
 use fits_session::{Holder, Session};
-use fits_stream::{Sink, Source, Stored};
+use fits_stream::{FailedReads, Sink, Source, Stored};
 use std::alloc::Global;
 
 /// Reads a file and opens it, and answers a script, as `run_edit` does. Nothing is saved. Remarks on
@@ -31,7 +32,7 @@ pub fn run_ask<F: Source, S: Source, O: Sink, E: Sink>(
         (option_map E.state told.old) (option_map E.state told.new) result }
 {
     match Session::read(alloc, file) {
-        Ok(session) => run_over(alloc, session, script, out, told),
+        Ok(session) => run_over(alloc, session, &mut FailedReads::none(), script, out, told),
         Err(why) => End::from(Fault::from(why)),
     }
 }
@@ -40,20 +41,23 @@ pub fn run_ask<F: Source, S: Source, O: Sink, E: Sink>(
 pub fn run_ask_stored<F: Stored, S: Source, O: Sink, E: Sink>(
     alloc: Global,
     file: &F,
+    failed: &mut FailedReads,
     script: &mut S,
     out: &mut O,
     told: &mut Option<E>,
 ) -> End
     ensures ends { AllTell F.bytes → (saved : SinkState) → (after : SourceState) × AsksAs
-        (run_by true (unread (F.bytes file.now)) (S.state script.old) (O.state out.old) saved)
+        (run_by true (at_start (F.bytes file.now) failed.old) (S.state script.old) (O.state out.old) saved)
         (run_by true after (S.state script.new) (O.state out.new) saved)
         result }
-    ensures told { AllTell F.bytes → RemarksEndAs (unread (F.bytes file.now))
+    ensures told { AllTell F.bytes → RemarksEndAs (at_start (F.bytes file.now) failed.old)
         (S.state script.old) (S.state script.new)
         (option_map E.state told.old) (option_map E.state told.new) result }
+    ensures counted { MatchOption result.fault (failed.new ≡ failed.old)
+        (RunCounts failed.old failed.new (S.state script.old) (S.state script.new)) }
 {
-    match Session::read_stored(alloc, file) {
-        Ok(session) => run_over(alloc, session, script, out, told),
+    match Session::read_stored(alloc, file, failed) {
+        Ok(session) => run_over(alloc, session, failed, script, out, told),
         Err(why) => End::from(Fault::from(why)),
     }
 }
@@ -62,6 +66,7 @@ pub fn run_ask_stored<F: Stored, S: Source, O: Sink, E: Sink>(
 fn run_over<H: Holder + Drop, S: Source, O: Sink, E: Sink>(
     alloc: Global,
     session: Session<H>,
+    failed: &mut FailedReads,
     script: &mut S,
     out: &mut O,
     told: &mut Option<E>,
@@ -74,8 +79,10 @@ fn run_over<H: Holder + Drop, S: Source, O: Sink, E: Sink>(
     ensures told { H.steady → OverFile (file_of session) (λ file after. RemarksEndAs file
         (S.state script.old) (S.state script.new)
         (option_map E.state told.old) (option_map E.state told.new) result) }
+    ensures counted { MatchOption result.fault (failed.new ≡ failed.old)
+        (RunCounts failed.old failed.new (S.state script.old) (S.state script.new)) }
 {
-    match ask(alloc, session, script, out, told) {
+    match ask(alloc, session, failed, script, out, told) {
         Ok(status) => End {
             status,
             fault: None,
@@ -88,6 +95,7 @@ fn run_over<H: Holder + Drop, S: Source, O: Sink, E: Sink>(
 fn ask<H: Holder + Drop, S: Source, O: Sink, E: Sink>(
     alloc: Global,
     session: Session<H>,
+    failed: &mut FailedReads,
     script: &mut S,
     out: &mut O,
     told: &mut Option<E>,
@@ -102,7 +110,10 @@ fn ask<H: Holder + Drop, S: Source, O: Sink, E: Sink>(
     ensures some { H.steady → OnErr result (OverFile (file_of session) (λ file after. AreToldOf
         file (S.state script.old) (S.state script.new)
         (option_map E.state told.old) (option_map E.state told.new))) }
+    ensures quiet { OnOk result (failed.new ≡ failed.old) }
+    ensures counted { IfErr result (RunCounts failed.old failed.new
+        (S.state script.old) (S.state script.new)) }
 {
-    let runner = answered(alloc, session, script, out, told)?;
+    let runner = answered(alloc, session, failed, script, out, told)?;
     Ok(runner.status())
 }

@@ -1,13 +1,14 @@
 //! The run of `edit -c`: nothing is saved where the result has more errors of some code than the file.
-ghost use Rattle.std.specs.Prelude.{◌≡◌, true, not, AllPairs, IfOk, IfErr, OnErr, OnOk};
+ghost use Rattle.std.specs.Prelude.{◌≡◌, true, not, AllPairs, IfOk, IfErr, OnErr, OnOk, MatchOption};
 ghost use Rattle.std.specs.Option.{option_map};
 ghost use Rattle.fits_stream.specs.Stream.{SinkState, SourceState};
-ghost use Rattle.fits_session.specs.Away.{AllTell};
+ghost use Rattle.fits_session.specs.Away.{at_start, AllTell};
 ghost use Rattle.fits_session.specs.Marked.{unmarked};
 ghost use Rattle.fits_session.specs.Report.{IsListedBefore};
 ghost use Rattle.fits_session.specs.Session.{file_of, marked_of};
 ghost use Rattle.fits_cli.specs.CheckedEnds.{kept_back, EndsChecked, EndsCheckedAs, IsReportedRun};
-ghost use Rattle.fits_cli.specs.Ends.{run, run_by, unread, AreAllRemarks, AreToldOf, OverFile, RemarksEndAs, StopsBy};
+ghost use Rattle.fits_cli.specs.Faults.{RunCounts};
+ghost use Rattle.fits_cli.specs.Ends.{run, run_by, AreAllRemarks, AreToldOf, OverFile, RemarksEndAs, StopsBy};
 
 use crate::editing::flush_answers;
 use crate::end::End;
@@ -16,7 +17,7 @@ use crate::printing::print_at_once;
 use crate::runner::Runner;
 use crate::script::answer_script;
 use fits_session::{Holder, Problem, Session};
-use fits_stream::{Sink, Source, Stored};
+use fits_stream::{FailedReads, Sink, Source, Stored};
 use std::alloc::Global;
 
 /// How a run of `edit -c` ended.
@@ -66,7 +67,7 @@ pub fn run_edit_checked<F: Source, S: Source, P: Sink, O: Sink, E: Sink>(
         (option_map E.state told.old) (option_map E.state told.new) result.end }
 {
     match Session::read(alloc, file) {
-        Ok(session) => run_over(alloc, whole, session, script, saved, out, told),
+        Ok(session) => run_over(alloc, whole, session, &mut FailedReads::none(), script, saved, out, told),
         Err(why) => CheckedEnd::from(Fault::from(why)),
     }
 }
@@ -76,22 +77,25 @@ pub fn run_edit_checked_stored<F: Stored, S: Source, P: Sink, O: Sink, E: Sink>(
     alloc: Global,
     whole: bool,
     file: &F,
+    failed: &mut FailedReads,
     script: &mut S,
     saved: &mut P,
     out: &mut O,
     told: &mut Option<E>,
 ) -> CheckedEnd
     ensures ends { AllTell F.bytes → (after : SourceState) × EndsCheckedAs whole
-        (run_by true (unread (F.bytes file.now))
+        (run_by true (at_start (F.bytes file.now) failed.old)
         (S.state script.old) (O.state out.old) (P.state saved.old))
         (run_by true after (S.state script.new) (O.state out.new) (P.state saved.new))
         result.end result.undone result.new_errors }
-    ensures told { AllTell F.bytes → RemarksEndAs (unread (F.bytes file.now))
+    ensures told { AllTell F.bytes → RemarksEndAs (at_start (F.bytes file.now) failed.old)
         (S.state script.old) (S.state script.new)
         (option_map E.state told.old) (option_map E.state told.new) result.end }
+    ensures counted { MatchOption result.end.fault (failed.new ≡ failed.old)
+        (RunCounts failed.old failed.new (S.state script.old) (S.state script.new)) }
 {
-    match Session::read_stored(alloc, file) {
-        Ok(session) => run_over(alloc, whole, session, script, saved, out, told),
+    match Session::read_stored(alloc, file, failed) {
+        Ok(session) => run_over(alloc, whole, session, failed, script, saved, out, told),
         Err(why) => CheckedEnd::from(Fault::from(why)),
     }
 }
@@ -101,6 +105,7 @@ fn run_over<H: Holder + Drop, S: Source, P: Sink, O: Sink, E: Sink>(
     alloc: Global,
     whole: bool,
     session: Session<H>,
+    failed: &mut FailedReads,
     script: &mut S,
     saved: &mut P,
     out: &mut O,
@@ -114,8 +119,10 @@ fn run_over<H: Holder + Drop, S: Source, P: Sink, O: Sink, E: Sink>(
     ensures told { H.steady → OverFile (file_of session) (λ file after. RemarksEndAs file
         (S.state script.old) (S.state script.new)
         (option_map E.state told.old) (option_map E.state told.new) result.end) }
+    ensures counted { MatchOption result.end.fault (failed.new ≡ failed.old)
+        (RunCounts failed.old failed.new (S.state script.old) (S.state script.new)) }
 {
-    match edit_checked(alloc, whole, session, script, saved, out, told) {
+    match edit_checked(alloc, whole, session, failed, script, saved, out, told) {
         Ok((status, undone, new_errors)) => CheckedEnd {
             end: End {
                 status,
@@ -134,6 +141,7 @@ fn edit_checked<H: Holder + Drop, S: Source, P: Sink, O: Sink, E: Sink>(
     alloc: Global,
     whole: bool,
     session: Session<H>,
+    failed: &mut FailedReads,
     script: &mut S,
     saved: &mut P,
     out: &mut O,
@@ -149,8 +157,11 @@ fn edit_checked<H: Holder + Drop, S: Source, P: Sink, O: Sink, E: Sink>(
     ensures some { H.steady → OnErr result (OverFile (file_of session) (λ file after. AreToldOf
         file (S.state script.old) (S.state script.new)
         (option_map E.state told.old) (option_map E.state told.new))) }
+    ensures quiet { OnOk result (failed.new ≡ failed.old) }
+    ensures counted { IfErr result (RunCounts failed.old failed.new
+        (S.state script.old) (S.state script.new)) }
 {
-    let (mut runner, before) = reported_and_answered(alloc, session, script, out, told)?;
+    let (mut runner, before) = reported_and_answered(alloc, session, failed, script, out, told)?;
     let undone = kept_back(whole, runner.refused());
     if undone > 0 {
         return Ok((runner.status(), undone, 0));
@@ -160,7 +171,7 @@ fn edit_checked<H: Holder + Drop, S: Source, P: Sink, O: Sink, E: Sink>(
         print_at_once(out, &found.text)?;
         return Ok((1, 0, found.count));
     }
-    runner.save(saved)?;
+    runner.save(failed, saved)?;
     Ok((runner.status(), 0, 0))
 }
 
@@ -168,6 +179,7 @@ fn edit_checked<H: Holder + Drop, S: Source, P: Sink, O: Sink, E: Sink>(
 fn reported_and_answered<H: Holder + Drop, S: Source, O: Sink, E: Sink>(
     alloc: Global,
     session: Session<H>,
+    failed: &mut FailedReads,
     script: &mut S,
     out: &mut O,
     told: &mut Option<E>,
@@ -185,10 +197,13 @@ fn reported_and_answered<H: Holder + Drop, S: Source, O: Sink, E: Sink>(
     ensures told { H.steady → OnErr result (OverFile (file_of session) (λ file after. AreToldOf
         file (S.state script.old) (S.state script.new)
         (option_map E.state told.old) (option_map E.state told.new))) }
+    ensures quiet { OnOk result (failed.new ≡ failed.old) }
+    ensures counted { IfErr result (RunCounts failed.old failed.new
+        (S.state script.old) (S.state script.new)) }
 {
     let mut runner = Runner::new(session);
     let before = runner.report()?;
-    let answered = answer_script(alloc, &mut runner, script, out, told);
+    let answered = answer_script(alloc, &mut runner, failed, script, out, told);
     flush_answers(answered, out)?;
     Ok((runner, before))
 }

@@ -1,11 +1,12 @@
 //! The run of `edit`: a file, a script, answers, and the file saved.
-ghost use Rattle.std.specs.Prelude.{◌≡◌, true, not, IfOk, IfErr, OnErr, OnOk};
+ghost use Rattle.std.specs.Prelude.{◌≡◌, true, not, IfOk, IfErr, OnErr, OnOk, MatchOption};
 ghost use Rattle.std.specs.Option.{option_map};
 ghost use Rattle.fits_stream.specs.Stream.{SinkState, SourceState};
-ghost use Rattle.fits_session.specs.Away.{AllTell};
+ghost use Rattle.fits_session.specs.Away.{at_start, AllTell};
 ghost use Rattle.fits_session.specs.Marked.{unmarked};
 ghost use Rattle.fits_session.specs.Session.{file_of, marked_of};
-ghost use Rattle.fits_cli.specs.Ends.{run, run_by, unread, AreAllRemarks, AreToldOf, EndsAs, EndsBy, OverFile, RemarksEndAs, StopsBy};
+ghost use Rattle.fits_cli.specs.Faults.{RunCounts};
+ghost use Rattle.fits_cli.specs.Ends.{run, run_by, AreAllRemarks, AreToldOf, EndsAs, EndsBy, OverFile, RemarksEndAs, StopsBy};
 ghost use Rattle.fits_cli.specs.Running.{FlushesAnswers, IsFlushed};
 
 use crate::end::End;
@@ -15,7 +16,7 @@ use crate::remarking::Silence;
 use crate::runner::Runner;
 use crate::script::answer_script;
 use fits_session::{Holder, Session};
-use fits_stream::{Sink, Source, Stored};
+use fits_stream::{FailedReads, Sink, Source, Stored};
 use std::alloc::Global;
 
 /// Reads a file and opens it, answers a script, and saves what the script made of the file.
@@ -55,7 +56,7 @@ pub fn run_edit_told<F: Source, S: Source, P: Sink, O: Sink, E: Sink>(
         (option_map E.state told.old) (option_map E.state told.new) result }
 {
     match Session::read(alloc, file) {
-        Ok(session) => run_over(alloc, session, script, saved, out, told),
+        Ok(session) => run_over(alloc, session, &mut FailedReads::none(), script, saved, out, told),
         Err(why) => End::from(Fault::from(why)),
     }
 }
@@ -66,22 +67,25 @@ pub fn run_edit_told<F: Source, S: Source, P: Sink, O: Sink, E: Sink>(
 pub fn run_edit_stored<F: Stored, S: Source, P: Sink, O: Sink, E: Sink>(
     alloc: Global,
     file: &F,
+    failed: &mut FailedReads,
     script: &mut S,
     saved: &mut P,
     out: &mut O,
     told: &mut Option<E>,
 ) -> End
     ensures ends { AllTell F.bytes → (after : SourceState) × EndsAs
-        (run_by true (unread (F.bytes file.now))
+        (run_by true (at_start (F.bytes file.now) failed.old)
         (S.state script.old) (O.state out.old) (P.state saved.old))
         (run_by true after (S.state script.new) (O.state out.new) (P.state saved.new))
         result }
-    ensures told { AllTell F.bytes → RemarksEndAs (unread (F.bytes file.now))
+    ensures told { AllTell F.bytes → RemarksEndAs (at_start (F.bytes file.now) failed.old)
         (S.state script.old) (S.state script.new)
         (option_map E.state told.old) (option_map E.state told.new) result }
+    ensures counted { MatchOption result.fault (failed.new ≡ failed.old)
+        (RunCounts failed.old failed.new (S.state script.old) (S.state script.new)) }
 {
-    match Session::read_stored(alloc, file) {
-        Ok(session) => run_over(alloc, session, script, saved, out, told),
+    match Session::read_stored(alloc, file, failed) {
+        Ok(session) => run_over(alloc, session, failed, script, saved, out, told),
         Err(why) => End::from(Fault::from(why)),
     }
 }
@@ -90,6 +94,7 @@ pub fn run_edit_stored<F: Stored, S: Source, P: Sink, O: Sink, E: Sink>(
 fn run_over<H: Holder + Drop, S: Source, P: Sink, O: Sink, E: Sink>(
     alloc: Global,
     session: Session<H>,
+    failed: &mut FailedReads,
     script: &mut S,
     saved: &mut P,
     out: &mut O,
@@ -103,8 +108,10 @@ fn run_over<H: Holder + Drop, S: Source, P: Sink, O: Sink, E: Sink>(
     ensures told { H.steady → OverFile (file_of session) (λ file after. RemarksEndAs file
         (S.state script.old) (S.state script.new)
         (option_map E.state told.old) (option_map E.state told.new) result) }
+    ensures counted { MatchOption result.fault (failed.new ≡ failed.old)
+        (RunCounts failed.old failed.new (S.state script.old) (S.state script.new)) }
 {
-    match edit(alloc, session, script, saved, out, told) {
+    match edit(alloc, session, failed, script, saved, out, told) {
         Ok(status) => End {
             status,
             fault: None,
@@ -117,6 +124,7 @@ fn run_over<H: Holder + Drop, S: Source, P: Sink, O: Sink, E: Sink>(
 fn edit<H: Holder + Drop, S: Source, P: Sink, O: Sink, E: Sink>(
     alloc: Global,
     session: Session<H>,
+    failed: &mut FailedReads,
     script: &mut S,
     saved: &mut P,
     out: &mut O,
@@ -132,9 +140,12 @@ fn edit<H: Holder + Drop, S: Source, P: Sink, O: Sink, E: Sink>(
     ensures some { H.steady → OnErr result (OverFile (file_of session) (λ file after. AreToldOf
         file (S.state script.old) (S.state script.new)
         (option_map E.state told.old) (option_map E.state told.new))) }
+    ensures quiet { OnOk result (failed.new ≡ failed.old) }
+    ensures counted { IfErr result (RunCounts failed.old failed.new
+        (S.state script.old) (S.state script.new)) }
 {
-    let mut runner = answered(alloc, session, script, out, told)?;
-    runner.save(saved)?;
+    let mut runner = answered(alloc, session, failed, script, out, told)?;
+    runner.save(failed, saved)?;
     Ok(runner.status())
 }
 
@@ -143,6 +154,7 @@ fn edit<H: Holder + Drop, S: Source, P: Sink, O: Sink, E: Sink>(
 pub(crate) fn answered<H: Holder + Drop, S: Source, O: Sink, E: Sink>(
     alloc: Global,
     session: Session<H>,
+    failed: &mut FailedReads,
     script: &mut S,
     out: &mut O,
     told: &mut Option<E>,
@@ -159,9 +171,12 @@ pub(crate) fn answered<H: Holder + Drop, S: Source, O: Sink, E: Sink>(
     ensures told { H.steady → OnErr result (OverFile (file_of session) (λ file after. AreToldOf
         file (S.state script.old) (S.state script.new)
         (option_map E.state told.old) (option_map E.state told.new))) }
+    ensures quiet { OnOk result (failed.new ≡ failed.old) }
+    ensures counted { IfErr result (RunCounts failed.old failed.new
+        (S.state script.old) (S.state script.new)) }
 {
     let mut runner = Runner::new(session);
-    let answered = answer_script(alloc, &mut runner, script, out, told);
+    let answered = answer_script(alloc, &mut runner, failed, script, out, told);
     flush_answers(answered, out)?;
     Ok(runner)
 }

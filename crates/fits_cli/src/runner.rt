@@ -7,7 +7,7 @@ use crate::reasons::clues_of;
 use crate::reply::{Reply, counts_as_refused, settled};
 use fits_script::{LineReading, read_line};
 use fits_session::{Holder, Problem, Session};
-use fits_stream::Sink;
+use fits_stream::{FailedReads, Sink};
 use std::alloc::{AllocError, Global};
 use std::marker::Model;
 
@@ -45,7 +45,7 @@ impl<H: Holder + Drop> Runner<H> {
     ghost use Rattle.fits_cli.specs.Output.{status_of};
     ghost use Rattle.fits_cli.specs.Remark.{remark_by, remark_on};
     ghost use Rattle.fits_cli.specs.Reply.{counts_as_refused, reply_text};
-    ghost use Rattle.fits_cli.specs.Faults.{IsOnce, SaveFails};
+    ghost use Rattle.fits_cli.specs.Faults.{FaultCounts, IsOnce, SaveFails};
     ghost use Rattle.fits_cli.specs.Running.{LacksReply};
     ghost use Rattle.fits_cli.specs.NewErrors.{new_error_lines, new_errors};
     ghost use Rattle.fits_session.specs.File.{file_bytes};
@@ -87,8 +87,15 @@ impl<H: Holder + Drop> Runner<H> {
     }
 
     /// Does what a line says, and goes on to the next one. Where clues are wanted the reply has them.
+    /// Reads of the file that fail are counted.
     #[tactic(auto, unfolding(crate::specs::Answer::line_answer, crate::specs::Answer::line_left, crate::specs::Answer::LineNeedsMemory, crate::specs::Remark::remark_by, crate::specs::Remark::remark_on))]
-    pub(crate) fn reply(&mut self, alloc: Global, wanted: bool, line: &[u8]) -> Result<Reply, Fault>
+    pub(crate) fn reply(
+        &mut self,
+        alloc: Global,
+        wanted: bool,
+        line: &[u8],
+        failed: &mut FailedReads,
+    ) -> Result<Reply, Fault>
         requires { self.old.line + 1 < 2 ^ 64 }
         ensures text { H.steady → IfOk result (λ reply.
             reply_text self.old.line reply ≡ line_answer self.old (reading_of line.now)) }
@@ -98,6 +105,8 @@ impl<H: Holder + Drop> Runner<H> {
             (self.new ≡ line_left self.old (reading_of line.now)) }
         ensures err { H.steady → IfErr result
             (LacksReply self.old.marked (reading_of line.now)) }
+        ensures quiet { OnOk result (failed.new ≡ failed.old) }
+        ensures counted { IfErr result (FaultCounts failed.old failed.new) }
         ensures once { H.whole ≡ true → IfErr result IsOnce }
         ensures line { OnOk result (self.new.line ≡ self.old.line + 1) }
     {
@@ -105,7 +114,7 @@ impl<H: Holder + Drop> Runner<H> {
             Ok(LineReading::TooLong) => Ok(self.pass(Reply::TooLong)),
             Ok(LineReading::NoCommand) => Ok(self.pass(Reply::NoCommand)),
             Ok(LineReading::Said(command)) => {
-                ready(&mut self.session, &command)?;
+                ready(&mut self.session, &command, failed)?;
                 let clues = clues_of(wanted, &command);
                 let reply = settled(clues, answer(alloc, &mut self.session, command))?;
                 Ok(self.pass(reply))
@@ -158,16 +167,22 @@ impl<H: Holder + Drop> Runner<H> {
 
     /// Saves the file, and flushes it.
     #[tactic(auto, using(fits_stream::proofs::StreamLemmas::flush_steps))]
-    pub(crate) fn save<P: Sink>(&mut self, saved: &mut P) -> Result<(), Fault>
+    pub(crate) fn save<P: Sink>(
+        &mut self,
+        failed: &mut FailedReads,
+        saved: &mut P,
+    ) -> Result<(), Fault>
         ensures ok { H.steady → OnOk result (Prints (file_bytes self.old.marked.file)
             (P.state saved.old) (P.state saved.new)) }
         ensures err { H.steady → IfErr result (SaveFails (file_bytes self.old.marked.file)
             (P.state saved.old) (P.state saved.new)) }
+        ensures quiet { OnOk result (failed.new ≡ failed.old) }
+        ensures counted { IfErr result (FaultCounts failed.old failed.new) }
         ensures once { H.whole ≡ true → IfErr result IsOnce }
         ensures flushed { OnOk result ((P.state saved.new).unflushed ≡ 0) }
         ensures left { self.new ≡ self.old }
     {
-        self.session.write(saved)?;
+        self.session.write(failed, saved)?;
         flush(saved)
     }
 }

@@ -4,7 +4,7 @@ ghost use Rattle.std.specs.Prelude.{vec_capacity, vec_len};
 ghost use Rattle.std.specs.Option.{option_map};
 ghost use Rattle.fits_stream.specs.Stream.{Prints};
 ghost use Rattle.fits_script.specs.Line.{reading_of};
-ghost use Rattle.fits_cli.specs.Faults.{IsOnce, PrintFails};
+ghost use Rattle.fits_cli.specs.Faults.{FaultCounts, IsOnce, PrintFails, ScriptCounts};
 ghost use Rattle.fits_cli.specs.Reply.{reply_text};
 ghost use Rattle.fits_cli.specs.Running.{heard, kept_of, AnswersLine, AnswersScript, Continues};
 ghost use Rattle.fits_cli.specs.Running.{EndsScript, EndStops, LineStops, PieceStops, ScriptStops};
@@ -17,7 +17,7 @@ use crate::reply::{Reply, print_reply};
 use crate::runner::Runner;
 use fits_script::{LINE_LIMIT, split_far};
 use fits_session::Holder;
-use fits_stream::{PIECE_LEN, Sink, Source, buffer_of};
+use fits_stream::{FailedReads, PIECE_LEN, Sink, Source, buffer_of};
 use std::alloc::Global;
 
 /// How many bytes of a line are kept until it ends. More aren't needed: it is too long.
@@ -27,6 +27,7 @@ const LINE_ROOM: usize = LINE_LIMIT + 1;
 fn answer_line<H: Holder + Drop, O: Sink, E: Sink>(
     alloc: Global,
     runner: &mut Runner<H>,
+    failed: &mut FailedReads,
     line: &[u8],
     out: &mut O,
     told: &mut Option<E>,
@@ -38,12 +39,14 @@ fn answer_line<H: Holder + Drop, O: Sink, E: Sink>(
     ensures err { H.steady → IfErr result (LineStops line.now runner.old
         (heard (O.state out.old) (option_map E.state told.old))
         (heard (O.state out.new) (option_map E.state told.new))) }
+    ensures quiet { OnOk result (failed.new ≡ failed.old) }
+    ensures counted { IfErr result (FaultCounts failed.old failed.new) }
     ensures once { H.whole ≡ true → IfErr result IsOnce }
     ensures line { OnOk result (runner.new.line ≡ runner.old.line + 1) }
 {
     let number = runner.line();
     let wanted = told.is_some();
-    let reply = runner.reply(alloc, wanted, line)?;
+    let reply = runner.reply(alloc, wanted, line, failed)?;
     let remark = remark_on(wanted, line, &reply);
     print_answer(out, number, &reply, remark.is_some())?;
     say(told, number, &remark);
@@ -89,6 +92,7 @@ fn keep(line: &mut Vec<u8>, more: &[u8])
 fn answer_piece<H: Holder + Drop, O: Sink, E: Sink>(
     alloc: Global,
     runner: &mut Runner<H>,
+    failed: &mut FailedReads,
     line: &mut Vec<u8>,
     piece: &[u8],
     out: &mut O,
@@ -104,6 +108,8 @@ fn answer_piece<H: Holder + Drop, O: Sink, E: Sink>(
     ensures err { H.steady → IfErr result (PieceStops piece.now line.old.items runner.old
         (heard (O.state out.old) (option_map E.state told.old))
         (heard (O.state out.new) (option_map E.state told.new))) }
+    ensures quiet { OnOk result (failed.new ≡ failed.old) }
+    ensures counted { IfErr result (FaultCounts failed.old failed.new) }
     ensures once { H.whole ≡ true → IfErr result IsOnce }
     ensures line { OnOk result (runner.new.line ≤ runner.old.line + length piece.now) }
     ensures room { OnOk result (LINE_LIMIT + 1 ≤ vec_capacity line.new) }
@@ -116,7 +122,7 @@ fn answer_piece<H: Holder + Drop, O: Sink, E: Sink>(
             return Ok(());
         };
         keep(line, front);
-        answer_line(alloc, runner, line, out, told)?;
+        answer_line(alloc, runner, failed, line, out, told)?;
         line.clear();
         rest = next;
     }
@@ -126,6 +132,7 @@ fn answer_piece<H: Holder + Drop, O: Sink, E: Sink>(
 fn answer_at_once<H: Holder + Drop, O: Sink, E: Sink>(
     alloc: Global,
     runner: &mut Runner<H>,
+    failed: &mut FailedReads,
     line: &mut Vec<u8>,
     piece: &[u8],
     out: &mut O,
@@ -141,13 +148,15 @@ fn answer_at_once<H: Holder + Drop, O: Sink, E: Sink>(
     ensures err { H.steady → IfErr result (PieceStops piece.now line.old.items runner.old
         (heard (O.state out.old) (option_map E.state told.old))
         (heard (O.state out.new) (option_map E.state told.new))) }
+    ensures quiet { OnOk result (failed.new ≡ failed.old) }
+    ensures counted { IfErr result (FaultCounts failed.old failed.new) }
     ensures once { H.whole ≡ true → IfErr result IsOnce }
     ensures flushed { OnOk result ((O.state out.new).unflushed ≡ 0) }
     ensures line { OnOk result (runner.new.line ≤ runner.old.line + length piece.now) }
     ensures room { OnOk result (LINE_LIMIT + 1 ≤ vec_capacity line.new) }
     ensures within { OnOk result (vec_len line.new ≤ LINE_LIMIT + 1) }
 {
-    answer_piece(alloc, runner, line, piece, out, told)?;
+    answer_piece(alloc, runner, failed, line, piece, out, told)?;
     flush(out)
 }
 
@@ -155,6 +164,7 @@ fn answer_at_once<H: Holder + Drop, O: Sink, E: Sink>(
 fn answer_last_line<H: Holder + Drop, O: Sink, E: Sink>(
     alloc: Global,
     runner: &mut Runner<H>,
+    failed: &mut FailedReads,
     line: &[u8],
     out: &mut O,
     told: &mut Option<E>,
@@ -166,12 +176,14 @@ fn answer_last_line<H: Holder + Drop, O: Sink, E: Sink>(
     ensures err { H.steady → IfErr result (EndStops line.now runner.old
         (heard (O.state out.old) (option_map E.state told.old))
         (heard (O.state out.new) (option_map E.state told.new))) }
+    ensures quiet { OnOk result (failed.new ≡ failed.old) }
+    ensures counted { IfErr result (FaultCounts failed.old failed.new) }
     ensures once { H.whole ≡ true → IfErr result IsOnce }
 {
     if line.is_empty() {
         return Ok(());
     }
-    answer_line(alloc, runner, line, out, told)?;
+    answer_line(alloc, runner, failed, line, out, told)?;
     Ok(())
 }
 
@@ -179,6 +191,7 @@ fn answer_last_line<H: Holder + Drop, O: Sink, E: Sink>(
 pub(crate) fn answer_script<H: Holder + Drop, S: Source, O: Sink, E: Sink>(
     alloc: Global,
     runner: &mut Runner<H>,
+    failed: &mut FailedReads,
     script: &mut S,
     out: &mut O,
     told: &mut Option<E>,
@@ -191,6 +204,9 @@ pub(crate) fn answer_script<H: Holder + Drop, S: Source, O: Sink, E: Sink>(
     ensures err { H.steady → IfErr result (ScriptStops (S.state script.old) (S.state script.new) runner.old
         (heard (O.state out.old) (option_map E.state told.old))
         (heard (O.state out.new) (option_map E.state told.new))) }
+    ensures quiet { OnOk result (failed.new ≡ failed.old) }
+    ensures counted { IfErr result (ScriptCounts failed.old failed.new
+        (S.state script.old) (S.state script.new)) }
     ensures once { H.whole ≡ true → IfErr result IsOnce }
 {
     let mut buffer = buffer_of(alloc, PIECE_LEN)?;
@@ -198,6 +214,7 @@ pub(crate) fn answer_script<H: Holder + Drop, S: Source, O: Sink, E: Sink>(
     answer_pieces(
         alloc,
         runner,
+        failed,
         script,
         out,
         told,
@@ -210,6 +227,7 @@ pub(crate) fn answer_script<H: Holder + Drop, S: Source, O: Sink, E: Sink>(
 fn answer_pieces<H: Holder + Drop, S: Source, O: Sink, E: Sink>(
     alloc: Global,
     runner: &mut Runner<H>,
+    failed: &mut FailedReads,
     script: &mut S,
     out: &mut O,
     told: &mut Option<E>,
@@ -227,6 +245,9 @@ fn answer_pieces<H: Holder + Drop, S: Source, O: Sink, E: Sink>(
     ensures err { H.steady → IfErr result (ScriptStops (S.state script.old) (S.state script.new) runner.old
         (heard (O.state out.old) (option_map E.state told.old))
         (heard (O.state out.new) (option_map E.state told.new))) }
+    ensures quiet { OnOk result (failed.new ≡ failed.old) }
+    ensures counted { IfErr result (ScriptCounts failed.old failed.new
+        (S.state script.old) (S.state script.new)) }
     ensures once { H.whole ≡ true → IfErr result IsOnce }
 {
     let mut taken = 0usize;
@@ -235,16 +256,16 @@ fn answer_pieces<H: Holder + Drop, S: Source, O: Sink, E: Sink>(
             return Err(Fault::ReadFailed);
         };
         if n == 0 {
-            return answer_last_line(alloc, runner, line, out, told);
+            return answer_last_line(alloc, runner, failed, line, out, told);
         }
         let room = SCRIPT_LIMIT - taken;
         if n > room {
             let (front, _) = piece.split_at(room);
-            answer_piece(alloc, runner, line, front, out, told)?;
+            answer_piece(alloc, runner, failed, line, front, out, told)?;
             return Err(Fault::ScriptTooLong);
         }
         let (front, _) = piece.split_at(n);
-        answer_at_once(alloc, runner, line, front, out, told)?;
+        answer_at_once(alloc, runner, failed, line, front, out, told)?;
         taken += n;
     }
 }

@@ -1,17 +1,18 @@
 //! The run of `edit -a`: nothing is saved unless every line of the script was done.
-ghost use Rattle.std.specs.Prelude.{◌≡◌, true, not, OnErr, OnOk};
+ghost use Rattle.std.specs.Prelude.{◌≡◌, true, not, OnErr, OnOk, IfErr, MatchOption};
 ghost use Rattle.std.specs.Option.{option_map};
 ghost use Rattle.fits_stream.specs.Stream.{SourceState};
-ghost use Rattle.fits_session.specs.Away.{AllTell};
+ghost use Rattle.fits_session.specs.Away.{at_start, AllTell};
 ghost use Rattle.fits_session.specs.Marked.{unmarked};
 ghost use Rattle.fits_session.specs.Session.{file_of, marked_of};
-ghost use Rattle.fits_cli.specs.Ends.{run, run_by, unread, AreAllRemarks, AreToldOf, EndsWhole, EndsWholeAs, OverFile, RemarksEndAs};
+ghost use Rattle.fits_cli.specs.Faults.{RunCounts};
+ghost use Rattle.fits_cli.specs.Ends.{run, run_by, AreAllRemarks, AreToldOf, EndsWhole, EndsWholeAs, OverFile, RemarksEndAs};
 
 use crate::editing::answered;
 use crate::end::End;
 use crate::fault::Fault;
 use fits_session::{Holder, Session};
-use fits_stream::{Sink, Source, Stored};
+use fits_stream::{FailedReads, Sink, Source, Stored};
 use std::alloc::Global;
 
 /// How a run of `edit -a` ended.
@@ -55,7 +56,7 @@ pub fn run_edit_whole<F: Source, S: Source, P: Sink, O: Sink, E: Sink>(
         (option_map E.state told.old) (option_map E.state told.new) result.end }
 {
     match Session::read(alloc, file) {
-        Ok(session) => run_over(alloc, session, script, saved, out, told),
+        Ok(session) => run_over(alloc, session, &mut FailedReads::none(), script, saved, out, told),
         Err(why) => WholeEnd::from(Fault::from(why)),
     }
 }
@@ -64,22 +65,25 @@ pub fn run_edit_whole<F: Source, S: Source, P: Sink, O: Sink, E: Sink>(
 pub fn run_edit_whole_stored<F: Stored, S: Source, P: Sink, O: Sink, E: Sink>(
     alloc: Global,
     file: &F,
+    failed: &mut FailedReads,
     script: &mut S,
     saved: &mut P,
     out: &mut O,
     told: &mut Option<E>,
 ) -> WholeEnd
     ensures ends { AllTell F.bytes → (after : SourceState) × EndsWholeAs
-        (run_by true (unread (F.bytes file.now))
+        (run_by true (at_start (F.bytes file.now) failed.old)
         (S.state script.old) (O.state out.old) (P.state saved.old))
         (run_by true after (S.state script.new) (O.state out.new) (P.state saved.new))
         result.end result.undone }
-    ensures told { AllTell F.bytes → RemarksEndAs (unread (F.bytes file.now))
+    ensures told { AllTell F.bytes → RemarksEndAs (at_start (F.bytes file.now) failed.old)
         (S.state script.old) (S.state script.new)
         (option_map E.state told.old) (option_map E.state told.new) result.end }
+    ensures counted { MatchOption result.end.fault (failed.new ≡ failed.old)
+        (RunCounts failed.old failed.new (S.state script.old) (S.state script.new)) }
 {
-    match Session::read_stored(alloc, file) {
-        Ok(session) => run_over(alloc, session, script, saved, out, told),
+    match Session::read_stored(alloc, file, failed) {
+        Ok(session) => run_over(alloc, session, failed, script, saved, out, told),
         Err(why) => WholeEnd::from(Fault::from(why)),
     }
 }
@@ -88,6 +92,7 @@ pub fn run_edit_whole_stored<F: Stored, S: Source, P: Sink, O: Sink, E: Sink>(
 fn run_over<H: Holder + Drop, S: Source, P: Sink, O: Sink, E: Sink>(
     alloc: Global,
     session: Session<H>,
+    failed: &mut FailedReads,
     script: &mut S,
     saved: &mut P,
     out: &mut O,
@@ -101,8 +106,10 @@ fn run_over<H: Holder + Drop, S: Source, P: Sink, O: Sink, E: Sink>(
     ensures told { H.steady → OverFile (file_of session) (λ file after. RemarksEndAs file
         (S.state script.old) (S.state script.new)
         (option_map E.state told.old) (option_map E.state told.new) result.end) }
+    ensures counted { MatchOption result.end.fault (failed.new ≡ failed.old)
+        (RunCounts failed.old failed.new (S.state script.old) (S.state script.new)) }
 {
-    match edit_whole(alloc, session, script, saved, out, told) {
+    match edit_whole(alloc, session, failed, script, saved, out, told) {
         Ok((status, undone)) => WholeEnd {
             end: End {
                 status,
@@ -118,6 +125,7 @@ fn run_over<H: Holder + Drop, S: Source, P: Sink, O: Sink, E: Sink>(
 fn edit_whole<H: Holder + Drop, S: Source, P: Sink, O: Sink, E: Sink>(
     alloc: Global,
     session: Session<H>,
+    failed: &mut FailedReads,
     script: &mut S,
     saved: &mut P,
     out: &mut O,
@@ -133,12 +141,15 @@ fn edit_whole<H: Holder + Drop, S: Source, P: Sink, O: Sink, E: Sink>(
     ensures some { H.steady → OnErr result (OverFile (file_of session) (λ file after. AreToldOf
         file (S.state script.old) (S.state script.new)
         (option_map E.state told.old) (option_map E.state told.new))) }
+    ensures quiet { OnOk result (failed.new ≡ failed.old) }
+    ensures counted { IfErr result (RunCounts failed.old failed.new
+        (S.state script.old) (S.state script.new)) }
 {
-    let mut runner = answered(alloc, session, script, out, told)?;
+    let mut runner = answered(alloc, session, failed, script, out, told)?;
     let undone = runner.refused();
     if undone > 0 {
         return Ok((runner.status(), undone));
     }
-    runner.save(saved)?;
+    runner.save(failed, saved)?;
     Ok((runner.status(), undone))
 }

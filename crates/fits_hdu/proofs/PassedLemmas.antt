@@ -1,5 +1,5 @@
 -- An HDU whose data unit passes by.
-use Rattle.std.proofs.Common.{◌≡◌, ◌≤◌, ℕ, ◌+◌, Bool, List, ◌++◌, ap, length, sym, take, refl, ◌∙◌, arith}
+use Rattle.std.proofs.Common.{◌≡◌, ◌≤◌, ℕ, ◌+◌, Bool, List, ◌++◌, ◌%◌, ap, length, sym, take, refl, ◌∙◌, arith}
 use Rattle.std.proofs.Math.Seq.{take-append-add}
 use Rattle.std.proofs.lemmas.List.{length-append}
 use Rattle.std.specs.Prelude.{Ok}
@@ -20,11 +20,11 @@ use Rattle.fits_sum.specs.OnesComplement.{ones_complement}
 use Rattle.fits_sum.specs.Words.{word_total}
 use Rattle.fits_sum.proofs.WordLemmas.{totals_add}
 use Rattle.fits_hdu.specs.Layout.{layout_of}
-use Rattle.fits_hdu.specs.Hdu.{HduParts, hdu_bytes}
+use Rattle.fits_hdu.specs.Hdu.{HduParts, hdu_bytes, IsHdu}
 use Rattle.fits_hdu.specs.Reading.{IsPassedWhole, TakesHdu}
 use Rattle.fits_hdu.specs.Sums.{data_sum, hdu_sum, sum_keywords, verdicts_by, verdicts_of}
 use Rattle.fits_hdu.specs.Work.{apply_reads, open_reads}
-use Rattle.fits_hdu.proofs.PassingLemmas.{header_words}
+use Rattle.fits_hdu.proofs.PassingLemmas.{header_words, unit_words}
 use Rattle.fits_hdu.proofs.ReadingLemmas.{hdu_taken, hdu_whole}
 
 -- its header was taken, and then its data unit
@@ -61,6 +61,24 @@ like_more header unit a b c whole p q =
       total = omega (arith, totals_add (header_bytes header) q.like words, totals_add (header_bytes header) unit words, q.total);
       written = Prints-more a b c (header_bytes header) q.like p q.written;
     }
+
+-- bytes of whole words like some, and then bytes like others
+pub like_append : (xs ys : List ℕ) (a b c : SinkState) → length xs % 4 ≡ 0 → PrintsLike xs a b → PrintsLike ys b c → PrintsLike (xs ++ ys) a c
+like_append xs ys a b c words p q = record {
+  like = p.like ++ q.like;
+  size = omega (arith, length-append p.like q.like, length-append xs ys, p.size, q.size);
+  total = omega (arith, totals_add p.like q.like (omega (arith, words, p.size)), totals_add xs ys words, p.total, q.total);
+  written = Prints-more a b c p.like q.like p.written q.written;
+}
+
+-- the same, and then these
+pub like_printed : (xs ys : List ℕ) (a b c : SinkState) → length xs % 4 ≡ 0 → PrintsLike xs a b → Prints ys b c → PrintsLike (xs ++ ys) a c
+like_printed xs ys a b c words p q = like_append xs ys a b c words p (record { like = ys; size = refl; total = refl; written = q })
+
+-- an HDU is of whole words
+pub hdu_words : (primary : Bool) (hdu : HduParts) → IsHdu primary hdu → length (hdu_bytes hdu) % 4 ≡ 0
+hdu_words primary hdu whole =
+    omega (arith, length-append (header_bytes hdu.header) hdu.data_unit, header_words hdu.header whole.header, unit_words whole.shape, whole.size)
 
 -- data units of the same total, after the same header, have the same verdicts
 pub same_verdicts : (old new : HduParts) → IsHeader old.header → new.header ≡ old.header → word_total new.data_unit ≡ word_total old.data_unit → verdicts_of new ≡ verdicts_of old

@@ -8,15 +8,15 @@ use Rattle.fits_stream.specs.Stream.{SinkState, SourceState, Prints, PrintsFront
 use Rattle.fits_stream.proofs.StreamLemmas.{Consumes-more, PrintsFront-longer}
 use Rattle.fits_sum.specs.Words.{word_total}
 use Rattle.fits_sum.proofs.WordLemmas.{word_total-append}
-use Rattle.fits_plane.specs.Again.{AreFrom, CopyFails, CopyStops}
+use Rattle.fits_plane.specs.Again.{ComeNext, CopyFails, CopyStops}
 use Rattle.fits_plane.specs.declared.again.CopyFault.{CopyFault}
 use Rattle.fits_plane.specs.declared.again.CopyFault.TheVariants.{Failed, Changed, Write}
 
--- what came is what stands there
-pub again_are : (told : Option (List ℕ)) (place : ℕ) (rest : Option (List ℕ)) (bytes : List ℕ) → Consumes (bytes_from place told) rest bytes → AreFrom told place bytes
-again_are None place rest bytes p = tt
-again_are (Some xs) place None bytes p = absurd p
-again_are (Some xs) place (Some ys) bytes p = sym (take-append_seam bytes ys) ∙ ap (take (length bytes)) (sym p)
+-- what came is what comes next
+pub next_are : (rest left : Option (List ℕ)) (bytes : List ℕ) → Consumes rest left bytes → ComeNext rest bytes
+next_are None left bytes p = tt
+next_are (Some xs) None bytes p = absurd p
+next_are (Some xs) (Some ys) bytes p = sym (take-append_seam bytes ys) ∙ ap (take (length bytes)) (sym p)
 
 -- the words of what was copied, and of a piece more
 pub copied_more : (done piece : List ℕ) (total more : ℕ) → total ≡ word_total done → more ≡ word_total piece → length done % 4 ≡ 0 → total + more ≡ word_total (done ++ piece)
@@ -38,7 +38,7 @@ front_is bytes unit front place lies are few =
     ap (take (length front)) (sym lies) ∙ take-take (length front) (length unit) (drop place bytes) few ∙ sym are
 
 -- where the file tells its bytes, a data unit that lies there isn't copied whole for these reasons alone
-pub copy_fails : (told : Option (List ℕ)) (place : ℕ) (unit bytes : List ℕ) (old new : SinkState) (why : CopyFault) → told ≡ Some bytes → take (length unit) (drop place bytes) ≡ unit → CopyStops told place (length unit) old new why → CopyFails unit old new why
+pub copy_fails : (told : Option (List ℕ)) (place : ℕ) (unit bytes : List ℕ) (old new : SinkState) (why : CopyFault) → told ≡ Some bytes → take (length unit) (drop place bytes) ≡ unit → CopyStops (bytes_from place told) (length unit) old new why → CopyFails unit old new why
 copy_fails told place unit bytes old new Failed is lies p =
     let front = front_is bytes unit p.bytes place lies (rw is at p.are) p.few in
     (length p.bytes, subst (λ xs. Prints xs old new) (sym front) p.ends)

@@ -1,5 +1,5 @@
 -- Bytes of a stored file that are read again (own).
-use Rattle.std.specs.Prelude.{◌≡◌, ◌<◌, ◌≤◌, ℕ, List, length, take, drop, Option, IfSome}
+use Rattle.std.specs.Prelude.{◌≡◌, ◌<◌, ◌≤◌, ℕ, ◌+◌, List, length, take, Option, IfSome}
 use Rattle.fits_stream.specs.Stream.{SinkState, Prints, PrintsFront}
 use Rattle.fits_sum.specs.Words.{word_total}
 use Rattle.fits_plane.specs.declared.again.CopyFault.{CopyFault}
@@ -7,39 +7,49 @@ use Rattle.fits_plane.specs.declared.again.CopyFault.TheVariants.{Failed, Change
 use Rattle.fits_plane.specs.declared.again.LoadFault.{LoadFault}
 use Rattle.fits_plane.specs.declared.again.LoadFault.TheVariants as load
 
--- they are those that the file has from a place on, where it tells them
-abbrev pub AreFrom : Option (List ℕ) → ℕ → List ℕ → Type 0
-AreFrom told place bytes = IfSome told (λ xs. bytes ≡ take (length bytes) (drop place xs))
+-- they are those that come next, where these are told
+abbrev pub ComeNext : Option (List ℕ) → List ℕ → Type 0
+ComeNext rest bytes = IfSome rest (λ xs. bytes ≡ take (length bytes) xs)
 
 -- so many of them were copied, which have this total
-pub record Copies (told : Option (List ℕ)) (place len total : ℕ) (old new : SinkState) : Type 0 where
+pub record Copies (rest : Option (List ℕ)) (len total : ℕ) (old new : SinkState) : Type 0 where
   pub bytes : List ℕ
-  pub are : AreFrom told place bytes
+  pub are : ComeNext rest bytes
   pub size : length bytes ≡ len
   pub total_is : total ≡ word_total bytes
   pub written : Prints bytes old new
 
 -- no more of them were copied than these
-pub record CopiesFront (Ends : List ℕ → Type 0) (told : Option (List ℕ)) (place len : ℕ) : Type 0 where
+pub record CopiesFront (Ends : List ℕ → Type 0) (rest : Option (List ℕ)) (len : ℕ) : Type 0 where
   pub bytes : List ℕ
-  pub are : AreFrom told place bytes
+  pub are : ComeNext rest bytes
   pub few : length bytes ≤ len
   pub ends : Ends bytes
 
--- the file ends before so many bytes from a place on, where it tells its bytes
-abbrev pub IsShort : Option (List ℕ) → ℕ → ℕ → Type 0
-IsShort told place len = IfSome told (λ xs. length (drop place xs) < len)
+-- fewer than so many come, where they are told
+abbrev pub IsShort : Option (List ℕ) → ℕ → Type 0
+IsShort rest len = IfSome rest (λ xs. length xs < len)
 
--- why they weren't all copied: a read failed, the file is shorter than it was, or a write failed
-abbrev pub CopyStops : Option (List ℕ) → ℕ → ℕ → SinkState → SinkState → CopyFault → Type 0
-CopyStops told place len old new Failed = CopiesFront (λ bytes. Prints bytes old new) told place len
-CopyStops told place len old new Changed = CopiesFront (λ bytes. Prints bytes old new) told place len × IsShort told place len
-CopyStops told place len old new Write = CopiesFront (λ bytes. PrintsFront bytes old new) told place len
+-- why they weren't all copied: a read failed, there are fewer, or a write failed
+abbrev pub CopyStops : Option (List ℕ) → ℕ → SinkState → SinkState → CopyFault → Type 0
+CopyStops rest len old new Failed = CopiesFront (λ bytes. Prints bytes old new) rest len
+CopyStops rest len old new Changed = CopiesFront (λ bytes. Prints bytes old new) rest len × IsShort rest len
+CopyStops rest len old new Write = CopiesFront (λ bytes. PrintsFront bytes old new) rest len
 
--- why they weren't read: memory was refused, a read failed, or the file is shorter than it was
-abbrev pub LoadStops : Option (List ℕ) → ℕ → ℕ → LoadFault → Type 0
-LoadStops told place len load.Changed = IsShort told place len
-LoadStops told place len why = Unit {0}
+-- why they weren't read: memory was refused, a read failed, or there are fewer
+abbrev pub LoadStops : Option (List ℕ) → ℕ → LoadFault → Type 0
+LoadStops rest len load.Changed = IsShort rest len
+LoadStops rest len why = Unit {0}
+
+-- how many reads have failed, before and after bytes weren't read: one more where that is why, else no more
+abbrev pub LoadCounts : ℕ → ℕ → LoadFault → Type 0
+LoadCounts before after load.Failed = after ≡ before + 1
+LoadCounts before after why = after ≡ before
+
+-- the same where they weren't copied
+abbrev pub CopyCounts : ℕ → ℕ → CopyFault → Type 0
+CopyCounts before after Failed = after ≡ before + 1
+CopyCounts before after why = after ≡ before
 
 -- bytes that a file tells weren't all copied: a prefix of them was
 abbrev pub CopyFails : List ℕ → SinkState → SinkState → CopyFault → Type 0

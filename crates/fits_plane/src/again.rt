@@ -1,8 +1,10 @@
 //! Bytes of a stored file that are read again.
-ghost use Rattle.std.specs.Prelude.{◌≡◌, ◌<◌, ◌≤◌, ◌%◌, ◌^◌, length, IfOk, IfErr};
-ghost use Rattle.fits_plane.specs.Again.{AreFrom, Copies, CopyStops, LoadStops};
+ghost use Rattle.std.specs.Prelude.{◌≡◌, ◌<◌, ◌≤◌, ◌%◌, ◌^◌, length, IfOk, IfErr, OnOk};
+ghost use Rattle.fits_stream.specs.Stored.{bytes_from};
+ghost use Rattle.fits_plane.specs.Again.{ComeNext, Copies, CopyCounts, CopyStops, LoadCounts, LoadStops};
 
-use fits_stream::{Intake, ReadFault, Sink, Stored, StoredSource, fill, write_all};
+use fits_stream::{FailedReads, Intake, ReadFault, Sink, Source, Stored, StoredSource};
+use fits_stream::{fill, write_all};
 use fits_sum::words_total;
 use std::alloc::Global;
 
@@ -28,22 +30,27 @@ pub enum CopyFault {
     Write,
 }
 
-/// So many bytes from a place on.
+/// So many bytes of a file from a place on.
 pub(crate) fn read_again<F: Stored>(
     alloc: Global,
     file: &F,
+    failed: &mut FailedReads,
     place: u64,
     len: usize,
 ) -> Result<Vec<u8>, LoadFault>
-    ensures are { IfOk result (λ bytes. AreFrom (F.bytes file.now) place bytes.items) }
+    ensures are { IfOk result (λ bytes. ComeNext (bytes_from place (F.bytes file.now)) bytes.items) }
     ensures size { IfOk result (λ bytes. length bytes.items ≡ len) }
-    ensures err { IfErr result (LoadStops (F.bytes file.now) place len) }
+    ensures quiet { OnOk result (failed.new ≡ failed.old) }
+    ensures err { IfErr result (LoadStops (bytes_from place (F.bytes file.now)) len) }
+    ensures counted { IfErr result (LoadCounts failed.old failed.new) }
 {
-    let mut source = StoredSource::new(file, place);
     let Ok(mut intake) = Intake::new(alloc, len) else {
         return Err(LoadFault::Memory);
     };
-    let bytes = match intake.take(alloc, &mut source, len) {
+    let mut source = StoredSource::new(file, place, failed.take());
+    let taken = intake.take(alloc, &mut source, len);
+    *failed = source.into_failed();
+    let bytes = match taken {
         Ok(bytes) => bytes,
         Err(ReadFault::Memory) => return Err(LoadFault::Memory),
         Err(ReadFault::Failed) => return Err(LoadFault::Failed),
@@ -54,10 +61,11 @@ pub(crate) fn read_again<F: Stored>(
     Ok(bytes)
 }
 
-/// Copies so many bytes from a place on, through a room of whole words, and says the total of their
-/// words.
+/// Copies so many bytes of a file from a place on, through a room of whole words, and says the total of
+/// their words.
 pub(crate) fn copy_again<F: Stored, W: Sink>(
     file: &F,
+    failed: &mut FailedReads,
     place: u64,
     len: usize,
     room: &mut [u8],
@@ -67,19 +75,46 @@ pub(crate) fn copy_again<F: Stored, W: Sink>(
     requires words { length room.old % 4 ≡ 0 }
     requires whole { len % 4 ≡ 0 }
     requires few { len ≤ 2 ^ 34 }
-    ensures ok { IfOk result (λ total. Copies (F.bytes file.now) place len total
+    ensures ok { IfOk result (λ total. Copies (bytes_from place (F.bytes file.now)) len total
         (W.state sink.old) (W.state sink.new)) }
     ensures size { length room.new ≡ length room.old }
-    ensures err { IfErr result (CopyStops (F.bytes file.now) place len
+    ensures quiet { OnOk result (failed.new ≡ failed.old) }
+    ensures err { IfErr result (CopyStops (bytes_from place (F.bytes file.now)) len
         (W.state sink.old) (W.state sink.new)) }
+    ensures counted { IfErr result (CopyCounts failed.old failed.new) }
 {
-    let mut source = StoredSource::new(file, place);
+    let mut source = StoredSource::new(file, place, failed.take());
+    let copied = copy_next(&mut source, len, room, sink);
+    *failed = source.into_failed();
+    copied
+}
+
+// Copies the next bytes of a source, so many.
+fn copy_next<R: Source, W: Sink>(
+    source: &mut R,
+    len: usize,
+    room: &mut [u8],
+    sink: &mut W,
+) -> Result<u64, CopyFault>
+    requires wide { 0 < length room.old }
+    requires words { length room.old % 4 ≡ 0 }
+    requires whole { len % 4 ≡ 0 }
+    requires few { len ≤ 2 ^ 34 }
+    ensures ok { IfOk result (λ total. Copies (R.state source.old).remaining len total
+        (W.state sink.old) (W.state sink.new)) }
+    ensures size { length room.new ≡ length room.old }
+    ensures quiet { OnOk result ((R.state source.new).failures ≡ (R.state source.old).failures) }
+    ensures err { IfErr result (CopyStops (R.state source.old).remaining len
+        (W.state sink.old) (W.state sink.new)) }
+    ensures counted { IfErr result
+        (CopyCounts (R.state source.old).failures (R.state source.new).failures) }
+{
     let mut count = 0;
     let mut total = 0u64;
     while count < len {
         let most = room.len().min(len - count);
         let (piece, _) = room.split_at_mut(most);
-        let Ok(n) = fill(&mut source, piece) else {
+        let Ok(n) = fill(source, piece) else {
             return Err(CopyFault::Failed);
         };
         if n < most {

@@ -9,7 +9,7 @@ use crate::plane::Plane;
 use crate::plane_room::PlaneRoom;
 use crate::value_summary::ValueSummary;
 use fits_card::BLOCK_LEN;
-use fits_stream::{Sink, Stored};
+use fits_stream::{FailedReads, Sink, Stored};
 use fits_sum::words_total;
 use std::alloc::{AllocError, Global};
 use std::marker::Model;
@@ -43,7 +43,7 @@ impl DataUnit {
     ghost use Rattle.fits_stream.specs.Stream.{Prints, PrintsFront};
     ghost use Rattle.fits_sum.specs.Words.{word_total};
     ghost use Rattle.fits_plane.specs.Converting.{can_store_run, kept_numbers, run_made};
-    ghost use Rattle.fits_plane.specs.Again.{CopyFails, PrintsLike};
+    ghost use Rattle.fits_plane.specs.Again.{CopyCounts, CopyFails, LoadCounts, PrintsLike};
     ghost use Rattle.fits_plane.specs.DataUnit.{IsCounted, IsToldBy};
     ghost use Rattle.fits_plane.specs.Statistics.{value_statistics};
     ghost use Rattle.fits_plane.specs.Paint.{has_count, painted_number};
@@ -296,7 +296,12 @@ impl DataUnit {
 
     /// Reads it into memory, where it isn't: each of its blocks is scanned again, and its counts go
     /// on. What is read is compared with what is known of it, by its length and its total.
-    pub fn load<F: Stored>(&mut self, alloc: Global, file: &F) -> Result<(), LoadFault>
+    pub fn load<F: Stored>(
+        &mut self,
+        alloc: Global,
+        file: &F,
+        failed: &mut FailedReads,
+    ) -> Result<(), LoadFault>
         ensures held { OnOk result (self.new.absent ≡ None) }
         ensures layout { OnOk result (self.new.plane.layout ≡ self.old.plane.layout) }
         ensures same { IsToldBy (F.bytes file.now) self.old.plane self.old.absent
@@ -314,7 +319,9 @@ impl DataUnit {
         ensures more_joins { self.old.plane.joins ≤ self.new.plane.joins }
         ensures joins { (d : ℕ) → block_count self.old.plane.bytes ≤ 2 ^ d
             → self.new.plane.joins ≤ self.old.plane.joins + 2 ^ d }
+        ensures quiet { OnOk result (failed.new ≡ failed.old) }
         ensures err { OnErr result (self.new ≡ self.old) }
+        ensures counted { IfErr result (LoadCounts failed.old failed.new) }
         ensures steady { IsToldBy (F.bytes file.now) self.old.plane self.old.absent
             → IfErr result (λ why. why ≡ LoadFault.Changed → ⊥) }
     {
@@ -323,7 +330,7 @@ impl DataUnit {
         };
         let len = it.unit.byte_len();
         let layout = it.unit.layout();
-        let bytes = read_again(alloc, file, it.place, len)?;
+        let bytes = read_again(alloc, file, failed, it.place, len)?;
         if words_total(bytes.as_slice()) != it.unit.total() {
             return Err(LoadFault::Changed);
         }
@@ -341,6 +348,7 @@ impl DataUnit {
     pub fn emit_from<F: Stored, W: Sink>(
         &self,
         file: &F,
+        failed: &mut FailedReads,
         room: &mut [u8],
         sink: &mut W,
     ) -> Result<(), CopyFault>
@@ -354,6 +362,8 @@ impl DataUnit {
             → IfErr result (CopyFails self.now.plane.bytes
             (W.state sink.old) (W.state sink.new)) }
         ensures size { length room.new ≡ length room.old }
+        ensures quiet { OnOk result (failed.new ≡ failed.old) }
+        ensures counted { IfErr result (CopyCounts failed.old failed.new) }
     {
         let Some(it) = &self.absent else {
             return match self.plane.emit(sink) {
@@ -362,7 +372,7 @@ impl DataUnit {
             };
         };
         let _layout = it.unit.layout();
-        let total = copy_again(file, it.place, it.unit.byte_len(), room, sink)?;
+        let total = copy_again(file, failed, it.place, it.unit.byte_len(), room, sink)?;
         if total != it.unit.total() {
             return Err(CopyFault::Changed);
         }

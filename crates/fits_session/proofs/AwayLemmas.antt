@@ -1,8 +1,10 @@
 -- Data units that lie in a stored file, and what loading one leaves.
-use Rattle.std.proofs.Common.{All, ◌≡◌, ℕ, ◌+◌, ◌<◌, ◌≤◌, List, [], ◌∷◌, ◌++◌, length, map, take, drop, get_or, set, refl, ap, sym, subst, ◌∙◌, arith, Option, None, Some, suc, add-one}
+use Rattle.std.proofs.Common.{All, ◌≡◌, ℕ, ◌+◌, ◌<◌, ◌≤◌, List, [], ◌∷◌, ◌++◌, length, map, take, drop, get_or, set, refl, ap, sym, subst, ◌∙◌, arith, Option, None, Some, suc, zero, add-one, inl, inr}
 use Rattle.std.specs.Prelude.{IfSome, Err, Ok, OnErr, OnOk, Result, false, true}
 use Rattle.std.proofs.Math.Seq.{drop-append-add, take-append_seam}
-use Rattle.std.proofs.lemmas.List.{append_assoc, length-append, length-set, map-append}
+use Rattle.std.proofs.lemmas.List.{append_assoc, length-append, length-set, map-append, set-get_or}
+use Rattle.std.proofs.lemmas.Option.{slice_get_read}
+use Rattle.std.specs.List.{slice_get}
 use Rattle.std.proofs.lemmas.List.Elements.{All-cons, All-nil, All-set}
 use Rattle.std.proofs.lemmas.List.Concat.{flat_map-append}
 use Rattle.fits_card.specs.Header.{Header, IsHeader, header_bytes}
@@ -10,7 +12,7 @@ use Rattle.fits_rules.specs.Class.{is_primary}
 use Rattle.fits_rules.specs.Shape.{shape_of}
 use Rattle.fits_header.specs.State.{HeaderState}
 use Rattle.fits_hdu.specs.ExtensionName.{extension_name}
-use Rattle.fits_plane.specs.DataUnit.{Absence, LiesIn}
+use Rattle.fits_plane.specs.DataUnit.{Absence, IsCounted, LiesIn}
 use Rattle.fits_plane.specs.Plane.{PlaneState}
 use Rattle.fits_stream.specs.Intake.{supply, IntakeState, TellsAll}
 use Rattle.fits_stream.specs.Stored.{left_at, Placed}
@@ -23,12 +25,15 @@ use Rattle.fits_hdu.specs.declared.passed_hdu.PassedHdu.{PassedHdu}
 use Rattle.fits_hdu.specs.Sums.{verdicts_of}
 use Rattle.fits_hdu.proofs.PassedLemmas.{same_verdicts}
 use Rattle.fits_hdu.specs.declared.extension_name.ExtensionName.{ExtensionName}
-use Rattle.fits_session.specs.Away.{is_passed, parts_passed, AreKnownFrom, LoadWork}
-use Rattle.fits_session.specs.Edit.{hdu_of, is_primary_hdu, with_hdu}
+use Rattle.fits_session.specs.Away.{is_passed, parts_passed, at_start, AreKnownFrom, LoadsAlone, LoadsAt, LoadsFor, LoadWork}
+use Rattle.fits_session.specs.Edit.{changed_of, hdu_of, is_primary_hdu, with_hdu}
+use Rattle.fits_session.specs.HduEdit.{needs_pixels}
+use Rattle.fits_session.specs.declared.edit.Edit.TheVariants.{Hdu}
+use Rattle.fits_session.specs.declared.hdu_edit.HduEdit.{HduEdit}
 use Rattle.fits_session.specs.File.{FileParts, file_bytes, joined_hdus, IsFile, IsFileOf}
 use Rattle.fits_session.specs.Keeping.{IsRight}
 use Rattle.fits_session.specs.Reading.{KeepsEach, ReadStops, SupplyStops}
-use Rattle.fits_session.specs.Session.{file_of, hdus_of, marked_of, state_of, Holding, IsHad, IsKept}
+use Rattle.fits_session.specs.Session.{SessionState, file_of, hdus_of, marked_of, state_of, HasStats, Holding, IsHad, IsHeld, IsKept, IsSoOf}
 use Rattle.fits_session.specs.declared.limits.TheConstants.{FILE_LIMIT}
 use Rattle.fits_session.proofs.HadLemmas.{had_held}
 use Rattle.fits_session.proofs.EditLemmas.{length_changed, other_kept}
@@ -129,18 +134,18 @@ from_start None = refl
 from_start (Some xs) = refl
 
 -- so a source of it from there on tells what it tells
-pub stored_told : {F : Type 0} (bytes : F → Option (List ℕ)) (source : Placed F) (file : F) (intake : IntakeState) (left : ℕ) (xs : List ℕ) → source ≡ record { file = file; place = Some 0; failures = 0 } → intake ≡ record { ahead = []; left = left }
+pub stored_told : {F : Type 0} (bytes : F → Option (List ℕ)) (source : Placed F) (file : F) (failed : ℕ) (intake : IntakeState) (left : ℕ) (xs : List ℕ) → source ≡ record { file = file; place = Some 0; failures = failed } → intake ≡ record { ahead = []; left = left }
     → TellsAll (supply (record { remaining = left_at source.place (bytes source.file) None; failures = source.failures }) intake) xs → IfSome (bytes file) (λ all. all ≡ xs)
-stored_told bytes source file intake left xs is of told =
-    let there : TellsAll (supply (record { remaining = left_at (Some 0) (bytes file) None; failures = 0 }) (record { ahead = []; left = left })) xs = rw (is, of) at told in
+stored_told bytes source file failed intake left xs is of told =
+    let there : TellsAll (supply (record { remaining = left_at (Some 0) (bytes file) None; failures = failed }) (record { ahead = []; left = left })) xs = rw (is, of) at told in
     subst (λ (t : Option (List ℕ)). IfSome t (λ all. all ≡ xs)) (from_start (bytes file)) there
 
 -- and why it doesn't open is why the file doesn't
-pub stored_stops : {F : Type 0} (bytes : F → Option (List ℕ)) (source : Placed F) (file : F) (intake : IntakeState) (after : SourceState) (why : ReadFileFault) → source ≡ record { file = file; place = Some 0; failures = 0 } → intake ≡ record { ahead = []; left = FILE_LIMIT }
-    → SupplyStops (supply (record { remaining = left_at source.place (bytes source.file) None; failures = source.failures }) intake) after why → ReadStops (record { remaining = bytes file; failures = 0 }) after why
-stored_stops bytes source file intake after why is of stops =
-    let there : SupplyStops (supply (record { remaining = left_at (Some 0) (bytes file) None; failures = 0 }) intake) after why = rw is at stops in
-    subst (λ (t : Option (List ℕ)). ReadStops (record { remaining = t; failures = 0 }) after why) (from_start (bytes file)) (read_stops (record { remaining = left_at (Some 0) (bytes file) None; failures = 0 }) after intake why of there)
+pub stored_stops : {F : Type 0} (bytes : F → Option (List ℕ)) (source : Placed F) (file : F) (failed : ℕ) (intake : IntakeState) (after : SourceState) (why : ReadFileFault) → source ≡ record { file = file; place = Some 0; failures = failed } → intake ≡ record { ahead = []; left = FILE_LIMIT }
+    → SupplyStops (supply (record { remaining = left_at source.place (bytes source.file) None; failures = source.failures }) intake) after why → ReadStops (at_start (bytes file) failed) after why
+stored_stops bytes source file failed intake after why is of stops =
+    let there : SupplyStops (supply (record { remaining = left_at (Some 0) (bytes file) None; failures = failed }) intake) after why = rw is at stops in
+    subst (λ (t : Option (List ℕ)). ReadStops (at_start t failed) after why) (from_start (bytes file)) (read_stops (record { remaining = left_at (Some 0) (bytes file) None; failures = failed }) after intake why of there)
 
 -- those that it tells are the file, of which the data units that passed by lie in it
 pub stored_had : (told : Option (List ℕ)) (hdus : List HduState) (tail : List ℕ) → IfSome told (λ left. left ≡ joined_hdus (hdus_of hdus) ++ tail) → AreKnownFrom 0 hdus → All (IsHad (record { whole = false; told = told })) hdus
@@ -244,3 +249,37 @@ module _ (holding : Holding) (hdus : List HduState) (tail : List ℕ) (h i bytes
       let both : Option.Some hdu ≡ Some (parts_of old) = sym there ∙ hdu_of-there hdus tail h i old at in
       let same : hdu ≡ parts_of old = cc in
       rw same loads.work
+
+-- ---- and nothing else
+
+-- the list with an HDU written over
+hdus_set : (hdus : List HduState) (i : ℕ) (new : HduState) → set hdus i new ≡ changed_of (suc i) (λ one. new) hdus
+hdus_set [] i new = refl
+hdus_set (hdu ∷ hdus) zero new = refl
+hdus_set (hdu ∷ hdus) (suc i) new = ap (λ (left : List HduState). hdu ∷ left) (hdus_set hdus i new)
+
+-- that HDU was loaded alone
+pub loads_alone : (hdus : List HduState) (tail : List ℕ) (h i : ℕ) (old new : HduState) → IsHduAt hdus h i old → Loads old new → LoadsAlone h (state_of hdus tail) (state_of (set hdus i new) tail)
+loads_alone hdus tail h i old new at loads = record {
+  now = new;
+  is = ap (λ (left : List HduState). state_of left tail) (hdus_set hdus i new ∙ ap (λ k. changed_of k (λ one. new) hdus) (sym (at.index.at ∙ add-one i)));
+  loads = λ k one number there.
+      let index : k ≡ i = omega (arith, number, at.index.at) in
+      let both : Option.Some one ≡ Some old = sym there ∙ ap (slice_get hdus) index ∙ slice_get_read hdus (length hdus) i old refl at.index.within at.is in
+      let same : one ≡ old = cc in
+      subst (λ (was : HduState). Loads was new) (sym same) loads;
+}
+
+-- where it was held, nothing changes
+pub held_stays : (hdus : List HduState) (tail : List ℕ) (h i : ℕ) (old new : HduState) → IsHduAt hdus h i old → (old.absent ≡ None → new ≡ old) → IsSoOf IsHeld h hdus → state_of (set hdus i new) tail ≡ state_of hdus tail
+held_stays hdus tail h i old new at idle held =
+    let same : new ≡ old = idle (held i old at.index (sym at.is)) in
+    ap (λ (left : List HduState). state_of left tail) (ap (set hdus i) (same ∙ at.is) ∙ set-get_or hdus i old)
+
+-- where an edit needs pixels, those of its HDU are loaded
+pub loads_for : (h : ℕ) (edit : HduEdit) (old new : SessionState) → needs_pixels edit ≡ true → LoadsAt h old new → LoadsFor (Hdu h edit) old new
+loads_for h edit old new needs p = elim p [ inl same ↦ inl same | inr alone ↦ inr (needs, alone) ]
+
+-- the statistics of what is held are known
+pub held_known : (hdus : List HduState) (h : ℕ) → IsSoOf IsHeld h hdus → IsSoOf HasStats h hdus
+held_known hdus h held i one at is = subst (λ (absent : Option Absence). IsCounted one.plane absent) (sym (held i one at is)) tt

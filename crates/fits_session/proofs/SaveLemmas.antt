@@ -1,19 +1,19 @@
 -- Steps of saving: HDU after HDU, then the tail.
-use Rattle.std.proofs.Common.{◌≡◌, ℕ, ◌+◌, ◌<◌, ◌≤◌, List, [], ◌∷◌, ◌++◌, length, take, drop, get_or, set, refl, ap, sym, subst, ◌∙◌, arith, zero, suc, add-one, inl, inr}
+use Rattle.std.proofs.Common.{◌≡◌, Bool, ℕ, ◌+◌, ◌%◌, ◌<◌, ◌≤◌, List, [], ◌∷◌, ◌++◌, length, take, drop, get_or, set, refl, ap, sym, subst, ◌∙◌, arith, zero, suc, add-one, inl, inr}
 use Rattle.std.proofs.lemmas.Bool.{cases_lt}
 use Rattle.std.proofs.Math.Seq.{take-append_seam}
-use Rattle.std.proofs.lemmas.List.{append-nil, take_all, take_more, drop_more, take-append-drop, take-append-le}
+use Rattle.std.proofs.lemmas.List.{append-nil, length-append, take_all, take_more, drop_more, take-append-drop, take-append-le}
 use Rattle.std.proofs.lemmas.List.Concat.{flat_map-append}
-use Rattle.fits_plane.specs.Again.{CopyFails}
+use Rattle.fits_plane.specs.Again.{CopyFails, PrintsLike}
 use Rattle.fits_plane.specs.declared.again.CopyFault.{CopyFault}
 use Rattle.fits_plane.specs.declared.again.CopyFault.TheVariants.{Failed, Changed, Write}
 use Rattle.fits_stream.specs.Stream.{SinkState, Prints, PrintsFront}
 use Rattle.fits_stream.proofs.StreamLemmas.{Prints-none, Prints-more, PrintsFront-longer, PrintsFront-more}
 use Rattle.fits_header.specs.State.{HeaderState}
-use Rattle.fits_hdu.specs.Hdu.{HduParts, hdu_bytes}
+use Rattle.fits_hdu.specs.Hdu.{HduParts, hdu_bytes, IsHdu}
 use Rattle.fits_hdu.specs.State.{HduState, ReadsUpTo, parts_of}
 use Rattle.fits_hdu.specs.Work.{PixelWork, plane_work}
-use Rattle.fits_hdu.proofs.PassedLemmas.{copy_more}
+use Rattle.fits_hdu.proofs.PassedLemmas.{copy_more, hdu_words, like_append, like_printed}
 use Rattle.fits_session.specs.File.{joined_hdus}
 use Rattle.fits_session.specs.Session.{hdus_of, reads_of, works_of, once_read, each_read, uncounted, without_counts, ReadsOnceAtMost}
 use Rattle.fits_session.proofs.KeptLemmas.{uncounted_read}
@@ -28,13 +28,15 @@ hdu_here hdus us i hdu same l e =
 within : (hdus : List HduState) (us : List HduParts) (i : ℕ) → hdus_of hdus ≡ us → i < length hdus → i < length us
 within hdus us i same l = omega (arith, ap length same, length-hdus_of hdus)
 
+-- the bytes of one HDU more
+joined_more : (hdus : List HduState) (us : List HduParts) (i : ℕ) (hdu : HduState) → hdus_of hdus ≡ us → i < length hdus → hdu ≡ get_or hdus i hdu → joined_hdus (take (i + 1) us) ≡ joined_hdus (take i us) ++ hdu_bytes (parts_of hdu)
+joined_more hdus us i hdu same l e =
+    ap joined_hdus (take_more us i (parts_of hdu) (within hdus us i same l)) ∙ flat_map-append hdu_bytes (take i us) (get_or us i (parts_of hdu) ∷ [])
+    ∙ ap (λ t. joined_hdus (take i us) ++ t) (append-nil (hdu_bytes (get_or us i (parts_of hdu))) ∙ ap hdu_bytes (hdu_here hdus us i hdu same l e))
+
 -- one more HDU
 pub Prints-hdu : (a b c : SinkState) (hdus : List HduState) (us : List HduParts) (i : ℕ) (hdu : HduState) → hdus_of hdus ≡ us → i < length hdus → hdu ≡ get_or hdus i hdu → Prints (joined_hdus (take i us)) a b → Prints (hdu_bytes (parts_of hdu)) b c → Prints (joined_hdus (take (i + 1) us)) a c
-Prints-hdu a b c hdus us i hdu same l e p q =
-    let more : joined_hdus (take (i + 1) us) ≡ joined_hdus (take i us) ++ hdu_bytes (parts_of hdu) =
-    ap joined_hdus (take_more us i (parts_of hdu) (within hdus us i same l)) ∙ flat_map-append hdu_bytes (take i us) (get_or us i (parts_of hdu) ∷ [])
-    ∙ ap (λ t. joined_hdus (take i us) ++ t) (append-nil (hdu_bytes (get_or us i (parts_of hdu))) ∙ ap hdu_bytes (hdu_here hdus us i hdu same l e)) in
-    rw more (Prints-more a b c _ _ p q)
+Prints-hdu a b c hdus us i hdu same l e p q = rw (joined_more hdus us i hdu same l e) (Prints-more a b c _ _ p q)
 
 -- a prefix of it
 pub PrintsFront-hdu : (a b c : SinkState) (hdus : List HduState) (us : List HduParts) (i : ℕ) (hdu : HduState) → hdus_of hdus ≡ us → i < length hdus → hdu ≡ get_or hdus i hdu → Prints (joined_hdus (take i us)) a b → PrintsFront (hdu_bytes (parts_of hdu)) b c → PrintsFront (joined_hdus us) a c
@@ -67,6 +69,36 @@ copy_hdu a b c hdus us i hdu why same l e p q =
 -- and of all of them, with a tail after them
 pub copy_hdus : (us : List HduParts) (tail : List ℕ) (a c : SinkState) (why : CopyFault) → CopyFails (joined_hdus us) a c why → CopyFails (joined_hdus us ++ tail) a c why
 copy_hdus us tail a c why p = copy_longer (joined_hdus us) tail a c why p
+
+-- bytes like one HDU more
+pub like_hdu : (a b c : SinkState) (hdus : List HduState) (us : List HduParts) (i : ℕ) (hdu : HduState) → hdus_of hdus ≡ us → i < length hdus → hdu ≡ get_or hdus i hdu → length (joined_hdus (take i us)) % 4 ≡ 0 → PrintsLike (joined_hdus (take i us)) a b → PrintsLike (hdu_bytes (parts_of hdu)) b c → PrintsLike (joined_hdus (take (i + 1) us)) a c
+like_hdu a b c hdus us i hdu same l e words p q =
+    rw (joined_more hdus us i hdu same l e) (like_append (joined_hdus (take i us)) (hdu_bytes (parts_of hdu)) a b c words p q)
+
+-- those of one HDU more are of whole words
+pub words_hdu : (hdus : List HduState) (us : List HduParts) (i : ℕ) (hdu : HduState) (primary : Bool) → hdus_of hdus ≡ us → i < length hdus → hdu ≡ get_or hdus i hdu → IsHdu primary (parts_of hdu) → length (joined_hdus (take i us)) % 4 ≡ 0 → length (joined_hdus (take (i + 1) us)) % 4 ≡ 0
+words_hdu hdus us i hdu primary same l e whole words =
+    omega (arith, ap length (joined_more hdus us i hdu same l e), length-append (joined_hdus (take i us)) (hdu_bytes (parts_of hdu)), hdu_words primary (parts_of hdu) whole, words)
+
+-- none of them yet
+pub like_none : (a : SinkState) (us : List HduParts) → PrintsLike (joined_hdus (take 0 us)) a a
+like_none a us = record { like = []; size = refl; total = refl; written = Prints-none a }
+
+-- nor their words
+pub words_none : (us : List HduParts) → length (joined_hdus (take 0 us)) % 4 ≡ 0
+words_none us = refl
+
+-- all of them
+pub like_hdus : (a b : SinkState) (us : List HduParts) (i : ℕ) → length us ≤ i → PrintsLike (joined_hdus (take i us)) a b → PrintsLike (joined_hdus us) a b
+like_hdus a b us i l p = rw (take_all i us l) at p
+
+-- and their words
+pub words_hdus : (us : List HduParts) (i : ℕ) → length us ≤ i → length (joined_hdus (take i us)) % 4 ≡ 0 → length (joined_hdus us) % 4 ≡ 0
+words_hdus us i l p = rw (take_all i us l) at p
+
+-- and then the tail
+pub like_tail : (us : List HduParts) (tail : List ℕ) (a b c : SinkState) → length (joined_hdus us) % 4 ≡ 0 → PrintsLike (joined_hdus us) a b → Prints tail b c → PrintsLike (joined_hdus us ++ tail) a c
+like_tail us tail a b c words p q = like_printed (joined_hdus us) tail a b c words p q
 
 -- none of them yet
 pub Prints-no_hdus : (a : SinkState) (us : List HduParts) → Prints (joined_hdus (take 0 us)) a a
@@ -209,4 +241,4 @@ once_at_most before hdus i old new e l is work = record {
   most = λ j. most_read before hdus i old new e l is work.header.most j;
 }
 
-pub ruleset save_steps = (Prints-no_hdus, Prints-more, Prints-hdus, PrintsFront-hdu, PrintsFront-longer, PrintsFront-more, first_read_none)
+pub ruleset save_steps = (like_none, like_hdus, like_tail, words_none, words_hdus, Prints-no_hdus, Prints-more, Prints-hdus, PrintsFront-hdu, PrintsFront-longer, PrintsFront-more, first_read_none)

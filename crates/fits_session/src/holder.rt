@@ -1,5 +1,5 @@
 ghost use Rattle.std.specs.Prelude.{◌≡◌, ◌+◌, ℕ, List, Option, None, Bool, true, false, length, IfErr, IsOk, OnErr, OnOk};
-ghost use Rattle.fits_plane.specs.Again.{CopyFails, PrintsLike};
+ghost use Rattle.fits_plane.specs.Again.{CopyCounts, CopyFails, LoadCounts, PrintsLike};
 ghost use Rattle.fits_stream.specs.Stream.{Prints};
 ghost use Rattle.fits_hdu.specs.Hdu.{hdu_bytes};
 ghost use Rattle.fits_hdu.specs.State.{parts_of, ReadsUpTo};
@@ -8,11 +8,11 @@ ghost use Rattle.fits_session.specs.Session.{IsHad};
 
 use fits_hdu::Hdu;
 use fits_plane::{CopyFault, LoadFault};
-use fits_stream::{Sink, Stored, buffer_of};
+use fits_stream::{FailedReads, Sink, Stored, buffer_of};
 use std::alloc::{AllocError, Global};
 use std::marker::Model;
 
-/// How the data units of a session are had.
+/// How the data units of a session are had. Reads of a file that fail are counted.
 pub trait Holder {
     /// Whether all of them are in memory.
     ghost whole: { Bool };
@@ -24,17 +24,30 @@ pub trait Holder {
     ghost steady: { Type 0 };
 
     /// Has the data unit of an HDU in memory: it is read again, where it lies in the file.
-    fn load(&self, alloc: Global, hdu: &mut Hdu) -> Result<(), LoadFault>
+    fn load(
+        &self,
+        alloc: Global,
+        hdu: &mut Hdu,
+        failed: &mut FailedReads,
+    ) -> Result<(), LoadFault>
         requires { IsHad (record { whole = whole; told = told self.now }) hdu.old }
         ensures held { OnOk result (hdu.new.absent ≡ None) }
         ensures same { steady → OnOk result (parts_of hdu.new ≡ parts_of hdu.old) }
         ensures loads { Loads hdu.old hdu.new }
+        ensures idle { hdu.old.absent ≡ None → hdu.new ≡ hdu.old }
         ensures at_once { hdu.old.absent ≡ None → IsOk result }
+        ensures quiet { OnOk result (failed.new ≡ failed.old) }
         ensures err { OnErr result (hdu.new ≡ hdu.old) }
+        ensures counted { IfErr result (LoadCounts failed.old failed.new) }
         ensures unchanged { steady → IfErr result (λ why. why ≡ LoadFault.Changed → ⊥) };
 
     /// Writes an HDU: its data unit is read again, where it lies in the file. It takes no memory.
-    fn emit<W: Sink>(&mut self, hdu: &mut Hdu, sink: &mut W) -> Result<(), CopyFault>
+    fn emit<W: Sink>(
+        &mut self,
+        hdu: &mut Hdu,
+        failed: &mut FailedReads,
+        sink: &mut W,
+    ) -> Result<(), CopyFault>
         requires { IsHad (record { whole = whole; told = told self.old }) hdu.old }
         ensures ok { steady → OnOk result (Prints (hdu_bytes (parts_of hdu.old))
             (W.state sink.old) (W.state sink.new)) }
@@ -43,6 +56,8 @@ pub trait Holder {
         ensures err { steady → IfErr result (CopyFails (hdu_bytes (parts_of hdu.old))
             (W.state sink.old) (W.state sink.new)) }
         ensures written { whole ≡ true → IfErr result (λ why. why ≡ CopyFault.Write) }
+        ensures quiet { OnOk result (failed.new ≡ failed.old) }
+        ensures counted { IfErr result (CopyCounts failed.old failed.new) }
         ensures work { ReadsUpTo hdu.old hdu.new (length hdu.old.header.header.cards) }
         ensures all_read { OnOk result (hdu.new.header.reads
             ≡ hdu.old.header.reads + length hdu.old.header.header.cards) }
@@ -60,11 +75,21 @@ impl Holder for InMemory {
 
     ghost steady = { Unit {0} };
 
-    fn load(&self, _alloc: Global, _hdu: &mut Hdu) -> Result<(), LoadFault> {
+    fn load(
+        &self,
+        _alloc: Global,
+        _hdu: &mut Hdu,
+        _failed: &mut FailedReads,
+    ) -> Result<(), LoadFault> {
         Ok(())
     }
 
-    fn emit<W: Sink>(&mut self, hdu: &mut Hdu, sink: &mut W) -> Result<(), CopyFault> {
+    fn emit<W: Sink>(
+        &mut self,
+        hdu: &mut Hdu,
+        _failed: &mut FailedReads,
+        sink: &mut W,
+    ) -> Result<(), CopyFault> {
         match hdu.emit(sink) {
             Ok(()) => Ok(()),
             Err(_) => Err(CopyFault::Write),
@@ -116,11 +141,21 @@ impl<'f, F: Stored> Holder for InFile<'f, F> {
 
     ghost steady = { AllTell F.bytes };
 
-    fn load(&self, alloc: Global, hdu: &mut Hdu) -> Result<(), LoadFault> {
-        hdu.load(alloc, self.file)
+    fn load(
+        &self,
+        alloc: Global,
+        hdu: &mut Hdu,
+        failed: &mut FailedReads,
+    ) -> Result<(), LoadFault> {
+        hdu.load(alloc, self.file, failed)
     }
 
-    fn emit<W: Sink>(&mut self, hdu: &mut Hdu, sink: &mut W) -> Result<(), CopyFault> {
-        hdu.emit_from(self.file, self.room.as_mut_slice(), sink)
+    fn emit<W: Sink>(
+        &mut self,
+        hdu: &mut Hdu,
+        failed: &mut FailedReads,
+        sink: &mut W,
+    ) -> Result<(), CopyFault> {
+        hdu.emit_from(self.file, failed, self.room.as_mut_slice(), sink)
     }
 }

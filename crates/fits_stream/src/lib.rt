@@ -3,6 +3,7 @@
 
 mod ahead;
 mod count;
+mod failed_reads;
 mod file_source;
 mod gone_bytes;
 mod intake;
@@ -19,6 +20,7 @@ mod watched;
 mod writing;
 
 pub use count::Count;
+pub use failed_reads::FailedReads;
 pub use file_source::FileSource;
 pub use gone_bytes::GoneBytes;
 pub use intake::Intake;

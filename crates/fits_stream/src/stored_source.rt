@@ -1,6 +1,6 @@
 ghost use Rattle.std.specs.Prelude.{◌≡◌, ◌≤◌, ◌+◌, ℕ, Some};
 
-use crate::count::Count;
+use crate::failed_reads::FailedReads;
 use crate::skipping::skip_by_reading;
 use crate::source::Source;
 use crate::stored::Stored;
@@ -13,7 +13,7 @@ use std::marker::Model;
 #[derive(Drop)]
 pub struct StoredSource<'f, F> {
     at: AtPlace<'f, F>,
-    failed: Count,
+    failed: FailedReads,
 }
 
 impl<'f, F> Model for StoredSource<'f, F> {
@@ -25,7 +25,7 @@ impl<'f, F> Model for StoredSource<'f, F> {
     ghost view = { λ it. record {
       file = it.at.file.now;
       place = Some it.at.place;
-      failures = it.failed.total;
+      failures = it.failed;
     } };
 }
 
@@ -37,14 +37,22 @@ pub(crate) struct AtPlace<'f, F> {
 }
 
 impl<'f, F> StoredSource<'f, F> {
-    /// The bytes from this place on.
-    pub fn new(file: &'f F, place: u64) -> StoredSource<'f, F>
-        ensures { result ≡ record { file = file.now; place = Some place; failures = 0 } }
+    /// The bytes from this place on. Its failed calls are counted on from these.
+    pub fn new(file: &'f F, place: u64, failed: FailedReads) -> StoredSource<'f, F>
+        ensures { result ≡ record { file = file.now; place = Some place; failures = failed } }
     {
         StoredSource {
             at: AtPlace { file, place },
-            failed: Count::new(),
+            failed,
         }
+    }
+
+    /// How many calls have failed, its own and those before.
+    pub fn into_failed(self) -> FailedReads
+        ensures { result ≡ self.entry.failures }
+    {
+        let StoredSource { failed, .. } = self;
+        failed
     }
 }
 

@@ -3,14 +3,14 @@ ghost use Rattle.std.specs.Prelude.{◌≤◌, ◌^◌, length, IsTrue};
 ghost use Rattle.fits_hdu.specs.Hdu.{hdu_bytes};
 ghost use Rattle.fits_hdu.specs.State.{parts_of};
 
-use crate::builders::{P0, card_of, fill_up, hdu_of};
+use crate::builders::{P0, card_of, hdu_of, unit_of};
 use crate::changed_bytes::change;
 use crate::checks::{holds, same};
 use crate::planned::{Plan, SMOOTH, StoredBytes, broken_bytes, reader, stored_bytes, writer};
 use fits_card::{BLOCK_LEN, CARD_LEN, Cards, Change};
 use fits_hdu::{Hdu, HduFault, PassedHdu, ReadHduFault, Stats};
-use fits_plane::{CopyFault, DataUnit, Layout, LoadFault, PassedUnit, PassingUnit, Plane};
-use fits_stream::{Intake, Source, Stored, StoredSource, fill};
+use fits_plane::{CopyFault, LoadFault};
+use fits_stream::{FailedReads, Intake, Source, Stored, StoredSource};
 use std::alloc::{AllocError, Global};
 use std::process::Abort;
 use std::test::Fail;
@@ -90,16 +90,6 @@ const DATA_AT: usize = 5760;
 
 /// What a file has after an HDU.
 const TAIL: &[u8] = b"tail";
-
-// The bytes of a data unit, with the fill. No byte of data is as the one before.
-fn unit_of(alloc: Global, used: usize, filling: u8) -> Result<Vec<u8>, AllocError> {
-    let mut bytes = Vec::new(alloc);
-    for place in 0..used {
-        bytes.push((place % 251) as u8)?;
-    }
-    fill_up(&mut bytes, BLOCK_LEN, filling)?;
-    Ok(bytes)
-}
 
 // A file with an HDU after another.
 fn file_with(alloc: Global, row: HduRow<'_>) -> Result<Vec<u8>, AllocError> {
@@ -187,7 +177,7 @@ fn passed<S: Source>(alloc: Global, source: &mut S, primary: bool) -> Result<Hdu
 
 // The HDU of a stored file. Its data unit is away.
 fn stored_away<F: Stored>(alloc: Global, file: &F, primary: bool) -> Result<Hdu, ReadHduFault> {
-    passed(alloc, &mut StoredSource::new(file, HDU_AT as u64), primary)
+    passed(alloc, &mut StoredSource::new(file, HDU_AT as u64, FailedReads::none()), primary)
 }
 
 // The HDU that these bytes begin with, in memory.
@@ -314,7 +304,7 @@ fn check_sources<R: Abort + AllocGlobal>(
         check_known(rt, &mut reader(from_hdu(file), plan), wanted, row)?;
     }
     let stored = stored_bytes(file, file.len());
-    let mut source = StoredSource::new(&stored, HDU_AT as u64);
+    let mut source = StoredSource::new(&stored, HDU_AT as u64, FailedReads::none());
     check_known(rt, &mut source, wanted, row)
 }
 
@@ -358,9 +348,9 @@ fn check_load<R: Abort + AllocGlobal, F: Stored>(
     bytes: &[u8],
     row: HduRow<'_>,
 ) -> Result<(), Fail> {
-    found.load(rt.alloc(), file)?;
+    found.load(rt.alloc(), file, &mut FailedReads::none())?;
     // what is in memory is read from no file
-    found.load(rt.alloc(), &broken_bytes(&[], 0))?;
+    found.load(rt.alloc(), &broken_bytes(&[], 0), &mut FailedReads::none())?;
     check_held(rt, found, bytes, row)
 }
 
@@ -397,7 +387,7 @@ fn copy_of<R: Abort + AllocGlobal, F: Stored>(
     let is_of_words = !room.is_empty() && room.len() % 4 == 0;
     holds!(rt; is_of_words);
     let mut sink = writer(rt.alloc(), plan);
-    let end = copy_end(hdu.emit_from(file, room.as_mut_slice(), &mut sink));
+    let end = copy_end(hdu.emit_from(file, &mut FailedReads::none(), room.as_mut_slice(), &mut sink));
     let (written, calls) = sink.into_inner().into_parts();
     Ok(Copied {
         end,
@@ -454,7 +444,7 @@ fn check_both_copies<R: Abort + AllocGlobal, F: Stored>(
     wanted: &[u8],
 ) -> Result<(), Fail> {
     check_copy(rt, hdu, file, room, wanted)?;
-    hdu.load(rt.alloc(), file)?;
+    hdu.load(rt.alloc(), file, &mut FailedReads::none())?;
     check_copy(rt, hdu, &broken_bytes(&[], 0), room, wanted)?;
     Ok(())
 }
@@ -555,7 +545,7 @@ fn check_damaged<R: Abort + AllocGlobal>(
         wanted,
         case,
     )?;
-    same!(rt; load_end(hdu.load(rt.alloc(), &whole)), Done, damage);
+    same!(rt; load_end(hdu.load(rt.alloc(), &whole, &mut FailedReads::none())), Done, damage);
     Ok(())
 }
 
@@ -573,7 +563,7 @@ fn check_seen<R: Abort + AllocGlobal, F: Stored>(
     let found = copy_of(rt, hdu, file, 2880, SMOOTH)?;
     same!(rt; found.end, copy, damage);
     holds!(rt; bytes.starts_with(from_place(&found.written, BLOCK_LEN)), damage);
-    same!(rt; load_end(hdu.load(rt.alloc(), file)), load, damage);
+    same!(rt; load_end(hdu.load(rt.alloc(), file, &mut FailedReads::none())), load, damage);
     same!(rt; hdu.is_held(), load == Done, damage);
     same_answers(rt, hdu, wanted, LARGE);
     Ok(())
@@ -594,7 +584,7 @@ fn check_failing_sinks<R: Abort + AllocGlobal, F: Stored>(
     file: &F,
 ) -> Result<(), Fail> {
     check_sinks(rt, hdu, file)?;
-    hdu.load(rt.alloc(), file)?;
+    hdu.load(rt.alloc(), file, &mut FailedReads::none())?;
     check_sinks(rt, hdu, file)?;
     Ok(())
 }
@@ -657,7 +647,7 @@ fn check_loads<R: Abort + AllocGlobal, F: Stored>(
     row: HduRow<'_>,
 ) {
     for _ in 0..2 {
-        let end = load_end(hdu.load(rt.alloc(), file));
+        let end = load_end(hdu.load(rt.alloc(), file, &mut FailedReads::none()));
         holds!(rt; end == Done || end == End::Memory, row);
         same!(rt; hdu.is_held(), end == Done, row);
         same_answers(rt, hdu, wanted, row);
@@ -711,7 +701,7 @@ fn check_edited<R: Abort + AllocGlobal, F: Stored>(
     put_cards(rt, found, place, cards)?;
     check_counted(rt, found, edited, row, is_counted)?;
     check_copy(rt, found, file, 2880, edited)?;
-    found.load(rt.alloc(), file)?;
+    found.load(rt.alloc(), file, &mut FailedReads::none())?;
     check_held(rt, found, edited, row)
 }
 
@@ -787,183 +777,4 @@ fn put_text(bytes: &mut [u8], place: usize, text: &str) {
     for (index, byte) in card_of(text).bytes().iter().enumerate() {
         change(bytes, start.wrapping_add(index), *byte);
     }
-}
-
-/// A place of `abcdefghij`, how many of these bytes are known to be there, how many are to be gone past, how many are,
-/// and which are read then.
-const GONE_PAST: &[(u64, usize, usize, usize, &[u8])] = &[
-    (0, 10, 0, 0, b"abc"),
-    (3, 10, 2, 2, b"fgh"),
-    (3, 5, 4, 4, b"hij"),
-    (3, 0, 4, 4, b"hij"),
-    (8, 10, 1, 1, b"j"),
-    (8, 10, 5, 2, b""),
-    (12, 10, 1, 0, b""),
-];
-
-#[test]
-fn a_lent_file_is_read_from_a_place_on(rt: HostRuntime) -> Result<(), Fail> {
-    for case in GONE_PAST {
-        let (place, known, len, past, next) = *case;
-        let file = stored_bytes(b"abcdefghij", known);
-        let mut source = StoredSource::new(&file, place);
-        let mut room = [0; 3];
-        same!(rt; source.skip(&mut room, len)?, past, case);
-        let count = fill(&mut source, &mut room)?;
-        let (found, _) = room.split_at(count.min(room.len()));
-        same!(rt; found, next, case);
-    }
-    Ok(())
-}
-
-/// The width of pixels, how many there are, how many bytes come before the fill, the byte of which that should be, the
-/// number of undefined pixels, and the byte of which the fill is.
-type UnitRow = (usize, usize, usize, u8, Option<i64>, u8);
-
-const UNITS: &[UnitRow] = &[
-    (0, 0, 0, 0, None, 0),
-    (0, 0, 20, b' ', None, b' '),
-    (0, 0, 20, b' ', None, 0),
-    (1, 2881, 2881, 0, None, 0),
-    (2, 2000, 4000, 0, Some(1), 0),
-    (2, 2000, 4000, 0, Some(1), 1),
-    (4, 1440, 5760, 0, Some(0x0001_0203), 0),
-    (8, 800, 6400, 0, Some(-1), 0),
-];
-
-fn layout_of(row: UnitRow) -> Layout {
-    let (width, pixels, used, fill, blank, _) = row;
-    Layout {
-        width,
-        pixels,
-        used,
-        fill,
-        blank,
-    }
-}
-
-// What is known of a data unit that passes by in two pieces.
-fn passed_unit<R: Abort>(rt: &R, bytes: &[u8], layout: Layout, at: usize) -> PassedUnit {
-    holds!(rt; layout.fits(bytes), at);
-    holds!(rt; at % BLOCK_LEN == 0 && at <= bytes.len(), at);
-    let (front, back) = bytes.split_at(at);
-    let mut unit = PassingUnit::new(layout);
-    unit.add(front);
-    unit.add(back);
-    unit.end()
-}
-
-#[test]
-fn a_data_unit_is_known_as_it_passes_by(rt: HostRuntime) -> Result<(), Fail> {
-    for row in UNITS {
-        let bytes = unit_of(rt.alloc(), row.2, row.5)?;
-        let layout = layout_of(*row);
-        holds!(rt; layout.fits(&bytes), row);
-        let wanted = Plane::open(rt.alloc(), &bytes, layout)?;
-        for at in [0usize, 2880, 5760] {
-            let at = at.min(bytes.len());
-            let found = passed_unit(&rt, &bytes, layout, at);
-            check_passed(&rt, found, &wanted);
-        }
-    }
-    Ok(())
-}
-
-// Whether a data unit that passed by is known to be one in memory, also after its BLANK was another.
-fn check_passed<R: Abort>(rt: &R, mut found: PassedUnit, wanted: &Plane) {
-    let blank = found.blank();
-    found.set_blank(Some(7));
-    same!(rt; found.layout().blank, Some(7));
-    found.set_blank(blank);
-    let case = (wanted.layout().width, wanted.layout().pixels);
-    same!(rt; found.blank(), wanted.layout().blank, case);
-    holds!(rt; found.layout().blank == found.blank(), case);
-    same!(rt; found.byte_len(), wanted.byte_len(), case);
-    same!(rt; found.total(), wanted.total(), case);
-    same!(rt; found.fill_ok(), wanted.fill_ok(), case);
-    same!(rt; found.value_stats(0), wanted.value_stats(0), case);
-    same!(rt; found.value_stats(32768), wanted.value_stats(32768), case);
-}
-
-/// Where a data unit lies in its file.
-const UNIT_AT: u64 = 6;
-
-#[test]
-fn a_data_unit_away_is_loaded_and_copied(rt: HostRuntime) -> Result<(), Fail> {
-    for row in UNITS {
-        let bytes = unit_of(rt.alloc(), row.2, row.5)?;
-        let mut file = b"before".to_vec(rt.alloc())?;
-        file.extend_from_slice(&bytes)?;
-        check_unit_away(&rt, &file, &bytes, layout_of(*row))?;
-        check_unit_held(&rt, &bytes, layout_of(*row))?;
-    }
-    Ok(())
-}
-
-// Whether a data unit that lies in a file is loaded and copied.
-fn check_unit_away<R: Abort + AllocGlobal>(
-    rt: &R,
-    file: &[u8],
-    bytes: &[u8],
-    layout: Layout,
-) -> Result<(), Fail> {
-    let stored = stored_bytes(file, file.len());
-    let unit = passed_unit(rt, bytes, layout, 0);
-    let mut found = DataUnit::away(rt.alloc(), unit, UNIT_AT)?;
-    holds!(rt; !found.is_held());
-    check_unit(rt, &mut found, &stored, bytes, layout)?;
-    found.load(rt.alloc(), &stored)?;
-    holds!(rt; found.is_held());
-    check_unit(rt, &mut found, &broken_bytes(&[], 0), bytes, layout)
-}
-
-// Whether a data unit in memory is copied from there.
-fn check_unit_held<R: Abort + AllocGlobal>(
-    rt: &R,
-    bytes: &[u8],
-    layout: Layout,
-) -> Result<(), Fail> {
-    holds!(rt; layout.fits(bytes));
-    let mut found = DataUnit::held(Plane::open(rt.alloc(), bytes, layout)?);
-    holds!(rt; found.is_held());
-    check_unit(rt, &mut found, &broken_bytes(&[], 0), bytes, layout)
-}
-
-// Whether a data unit, in memory or away, is that of these bytes.
-fn check_unit<R: Abort + AllocGlobal, F: Stored>(
-    rt: &R,
-    found: &mut DataUnit,
-    file: &F,
-    bytes: &[u8],
-    layout: Layout,
-) -> Result<(), Fail> {
-    found.set_blank(Some(7));
-    same!(rt; found.is_counted(), found.is_held());
-    found.set_blank(layout.blank);
-    check_unit_answers(rt, found, bytes, layout)?;
-    let mut room = [0u8; 400];
-    let mut sink = writer(rt.alloc(), SMOOTH);
-    same!(rt; copy_end(found.emit_from(file, &mut room, &mut sink)), Done);
-    let (written, _) = sink.into_inner().into_parts();
-    holds!(rt; written.as_slice() == bytes);
-    Ok(())
-}
-
-// Whether a data unit answers what the plane of these bytes does.
-fn check_unit_answers<R: Abort + AllocGlobal>(
-    rt: &R,
-    found: &DataUnit,
-    bytes: &[u8],
-    layout: Layout,
-) -> Result<(), AllocError> {
-    holds!(rt; layout.fits(bytes));
-    let wanted = Plane::open(rt.alloc(), bytes, layout)?;
-    let case = (layout.width, layout.pixels);
-    holds!(rt; found.is_counted(), case);
-    same!(rt; found.byte_len(), wanted.byte_len(), case);
-    same!(rt; found.total(), wanted.total(), case);
-    same!(rt; found.fill_ok(), wanted.fill_ok(), case);
-    same!(rt; found.value_stats(0), wanted.value_stats(0), case);
-    same!(rt; found.value_stats(32768), wanted.value_stats(32768), case);
-    Ok(())
 }

@@ -156,3 +156,13 @@ fn cards_of(alloc: Global, texts: &str) -> Result<Cards, AllocError> {
     }
     Ok(Cards::new(cards))
 }
+
+/// The bytes of a data unit, with the fill. No byte of data is as the one before.
+pub fn unit_of(alloc: Global, used: usize, filling: u8) -> Result<Vec<u8>, AllocError> {
+    let mut bytes = Vec::new(alloc);
+    for place in 0..used {
+        bytes.push((place % 251) as u8)?;
+    }
+    fill_up(&mut bytes, BLOCK_LEN, filling)?;
+    Ok(bytes)
+}

@@ -38,6 +38,8 @@ mod slots;
 #[cfg(test)]
 mod sums;
 #[cfg(test)]
+mod units_away;
+#[cfg(test)]
 mod values;
 #[cfg(test)]
 mod writing;

@@ -8,7 +8,7 @@ use fits_cli::{
     CheckedEnd, End, Fault, SavedFile, WholeEnd, run_edit_checked, run_edit_checked_stored,
     run_edit_stored, run_edit_told, run_edit_whole, run_edit_whole_stored,
 };
-use fits_stream::{NamedLines, Sink, Source, Stored, Watched};
+use fits_stream::{FailedReads, NamedLines, Sink, Source, Stored, Watched};
 use std::alloc::Global;
 use std::fs::File;
 use std::io::{BufWriter, Stderr, Write};
@@ -186,17 +186,18 @@ fn run_on_stored<F: Stored, S: Source, P: Sink, O: Sink, E: Sink>(
     out: &mut O,
     told: &mut Option<E>,
 ) -> CheckedEnd {
+    let failed = &mut FailedReads::none();
     if terms.checked {
-        return run_edit_checked_stored(alloc, terms.whole, file, script, saved, out, told);
+        return run_edit_checked_stored(alloc, terms.whole, file, failed, script, saved, out, told);
     }
     if terms.whole {
-        let WholeEnd { end, undone } = run_edit_whole_stored(alloc, file, script, saved, out, told);
+        let WholeEnd { end, undone } = run_edit_whole_stored(alloc, file, failed, script, saved, out, told);
         return CheckedEnd {
             undone,
             ..ended(end)
         };
     }
-    ended(run_edit_stored(alloc, file, script, saved, out, told))
+    ended(run_edit_stored(alloc, file, failed, script, saved, out, told))
 }
 
 // The end of a run of which neither lines nor errors keep the file from being saved.

@@ -2,13 +2,13 @@
 use super::Hdu;
 use crate::passed_hdu::PassedHdu;
 use fits_plane::{CopyFault, DataUnit, LoadFault};
-use fits_stream::{Sink, Stored};
+use fits_stream::{FailedReads, Sink, Stored};
 use std::alloc::{AllocError, Global};
 
 impl Hdu {
     ghost use Rattle.std.specs.Prelude.{◌≡◌, ◌+◌, ◌%◌, ◌<◌, ◌↔◌, length, None, IfOk, IfErr, IsOk, IsTrue, OnOk, OnErr};
     ghost use Rattle.fits_stream.specs.Stream.{Prints};
-    ghost use Rattle.fits_plane.specs.Again.{CopyFails, PrintsLike};
+    ghost use Rattle.fits_plane.specs.Again.{CopyCounts, CopyFails, LoadCounts, PrintsLike};
     ghost use Rattle.fits_plane.specs.DataUnit.{IsCounted, IsToldBy};
     ghost use Rattle.fits_hdu.specs.Hdu.{hdu_bytes};
     ghost use Rattle.fits_hdu.specs.Reading.{passed_parts, IsPassedWhole};
@@ -49,18 +49,25 @@ impl Hdu {
 
     /// Reads its data unit into memory, where it isn't there, from the file that it lies in. What is
     /// read is compared with what is known of it, by its length and its total.
-    pub fn load<F: Stored>(&mut self, alloc: Global, file: &F) -> Result<(), LoadFault>
+    pub fn load<F: Stored>(
+        &mut self,
+        alloc: Global,
+        file: &F,
+        failed: &mut FailedReads,
+    ) -> Result<(), LoadFault>
         ensures held { OnOk result (self.new.absent ≡ None) }
         ensures same { IsToldBy (F.bytes file.now) self.old.plane self.old.absent
             → OnOk result (parts_of self.new ≡ parts_of self.old) }
         ensures loads { Loads self.old self.new }
         ensures idle { self.old.absent ≡ None → self.new ≡ self.old }
         ensures at_once { self.old.absent ≡ None → IsOk result }
+        ensures quiet { OnOk result (failed.new ≡ failed.old) }
         ensures err { OnErr result (self.new ≡ self.old) }
+        ensures counted { IfErr result (LoadCounts failed.old failed.new) }
         ensures steady { IsToldBy (F.bytes file.now) self.old.plane self.old.absent
             → IfErr result (λ why. why ≡ LoadFault.Changed → ⊥) }
     {
-        self.unit.load(alloc, file)
+        self.unit.load(alloc, file, failed)
     }
 
     /// Writes the header and then the data unit: that in memory, or else what the file has at its
@@ -71,6 +78,7 @@ impl Hdu {
     pub fn emit_from<F: Stored, W: Sink>(
         &mut self,
         file: &F,
+        failed: &mut FailedReads,
         room: &mut [u8],
         sink: &mut W,
     ) -> Result<(), CopyFault>
@@ -85,6 +93,8 @@ impl Hdu {
             → IfErr result (CopyFails (hdu_bytes (parts_of self.old))
             (W.state sink.old) (W.state sink.new)) }
         ensures size { length room.new ≡ length room.old }
+        ensures quiet { OnOk result (failed.new ≡ failed.old) }
+        ensures counted { IfErr result (CopyCounts failed.old failed.new) }
 
         // The HDU stays, and each card is read once at most.
         ensures work { ReadsUpTo self.old self.new (length self.old.header.header.cards) }
@@ -96,6 +106,6 @@ impl Hdu {
         let Ok(()) = self.header.emit(sink) else {
             return Err(CopyFault::Write);
         };
-        self.unit.emit_from(file, room, sink)
+        self.unit.emit_from(file, failed, room, sink)
     }
 }

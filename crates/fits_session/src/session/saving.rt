@@ -1,6 +1,6 @@
 //! Writing the file.
-ghost use Rattle.std.specs.Prelude.{◌≡◌, ◌+◌, true, All, IfErr, IsOk, IsErr, OnOk, OnErr};
-ghost use Rattle.fits_plane.specs.Again.{CopyFails};
+ghost use Rattle.std.specs.Prelude.{◌≡◌, ◌+◌, ◌%◌, true, length, All, IfErr, IsOk, IsErr, OnOk, OnErr};
+ghost use Rattle.fits_plane.specs.Again.{CopyCounts, CopyFails, PrintsLike};
 ghost use Rattle.fits_stream.specs.Stream.{Prints, PrintsFront};
 ghost use Rattle.fits_session.specs.File.{joined_hdus};
 ghost use Rattle.fits_session.specs.Session.{hdus_of, each_read, IsHad, ReadsOnceAtMost};
@@ -10,7 +10,7 @@ use crate::holder::Holder;
 use crate::save_fault::SaveFault;
 use fits_hdu::Hdu;
 use fits_plane::CopyFault;
-use fits_stream::{Sink, write_all};
+use fits_stream::{FailedReads, Sink, write_all};
 
 impl Session {
     ghost use Rattle.std.specs.Prelude.{◌≡◌, ◌+◌, OnOk, OnErr};
@@ -30,7 +30,7 @@ impl Session {
         ensures work { ReadsOnceAtMost self.old.hdus self.new.hdus }
         ensures all_read { OnOk result (self.new.hdus ≡ each_read self.old.hdus) }
     {
-        match self.write(sink) {
+        match self.write(&mut FailedReads::none(), sink) {
             Ok(()) => Ok(()),
             Err(_) => Err(SaveFault::Device),
         }
@@ -39,19 +39,27 @@ impl Session {
 
 impl<H: Holder + Drop> Session<H> {
     ghost use Rattle.std.specs.Prelude.{◌≡◌, true, IfErr, OnOk};
-    ghost use Rattle.fits_plane.specs.Again.{CopyFails};
+    ghost use Rattle.fits_plane.specs.Again.{CopyCounts, CopyFails, PrintsLike};
     ghost use Rattle.fits_stream.specs.Stream.{Prints};
     ghost use Rattle.fits_session.specs.File.{file_bytes};
     ghost use Rattle.fits_session.specs.Session.{file_of, each_read, marked_of, ReadsOnceAtMost};
 
-    /// Writes the file, as `save`. Data units that aren't in memory are read again; where they have
-    /// another total than they had, it ends there. It takes no memory.
+    /// Writes the file, as `save`. Data units that aren't in memory are read again, and reads that fail
+    /// are counted; where they have another total than they had, it ends there. It takes no memory.
     #[tactic(auto, using(crate::proofs::SaveLemmas::save_steps))]
-    pub fn write<W: Sink>(&mut self, sink: &mut W) -> Result<(), CopyFault>
+    pub fn write<W: Sink>(
+        &mut self,
+        failed: &mut FailedReads,
+        sink: &mut W,
+    ) -> Result<(), CopyFault>
         ensures ok { H.steady → OnOk result (Prints (file_bytes (file_of self.old))
             (W.state sink.old) (W.state sink.new)) }
+        ensures like { OnOk result (PrintsLike (file_bytes (file_of self.old))
+            (W.state sink.old) (W.state sink.new)) }
+        ensures quiet { OnOk result (failed.new ≡ failed.old) }
         ensures err { H.steady → IfErr result (CopyFails (file_bytes (file_of self.old))
             (W.state sink.old) (W.state sink.new)) }
+        ensures counted { IfErr result (CopyCounts failed.old failed.new) }
         ensures written { H.whole ≡ true → IfErr result (λ why. why ≡ CopyFault.Write) }
 
         // The file stays, and each card is read once at most.
@@ -59,7 +67,7 @@ impl<H: Holder + Drop> Session<H> {
         ensures work { ReadsOnceAtMost self.old.hdus self.new.hdus }
         ensures all_read { OnOk result (self.new.hdus ≡ each_read self.old.hdus) }
     {
-        write_hdus(&mut self.holder, &mut self.hdus, sink)?;
+        write_hdus(&mut self.holder, &mut self.hdus, failed, sink)?;
         let Ok(()) = write_all(sink, &self.tail) else {
             return Err(CopyFault::Write);
         };
@@ -72,13 +80,19 @@ impl<H: Holder + Drop> Session<H> {
 fn write_hdus<H: Holder, W: Sink>(
     holder: &mut H,
     hdus: &mut Vec<Hdu>,
+    failed: &mut FailedReads,
     sink: &mut W,
 ) -> Result<(), CopyFault>
     requires { All (IsHad (record { whole = H.whole; told = H.told holder.old })) hdus.old.items }
     ensures ok { H.steady → OnOk result (Prints (joined_hdus (hdus_of hdus.old.items))
         (W.state sink.old) (W.state sink.new)) }
+    ensures like { OnOk result (PrintsLike (joined_hdus (hdus_of hdus.old.items))
+        (W.state sink.old) (W.state sink.new)) }
+    ensures words { OnOk result (length (joined_hdus (hdus_of hdus.old.items)) % 4 ≡ 0) }
+    ensures quiet { OnOk result (failed.new ≡ failed.old) }
     ensures err { H.steady → IfErr result (CopyFails (joined_hdus (hdus_of hdus.old.items))
         (W.state sink.old) (W.state sink.new)) }
+    ensures counted { IfErr result (CopyCounts failed.old failed.new) }
     ensures written { H.whole ≡ true → IfErr result (λ why. why ≡ CopyFault.Write) }
     ensures told { H.told holder.new ≡ H.told holder.old }
     ensures work { ReadsOnceAtMost hdus.old.items hdus.new.items }
@@ -86,7 +100,9 @@ fn write_hdus<H: Holder, W: Sink>(
 {
     for i in 0..hdus.len() {
         let hdu = &mut hdus[i];
-        holder.emit(hdu, sink)?;
+        // It is of whole words, so the total of what is written is known.
+        let _whole = hdu.card_count();
+        holder.emit(hdu, failed, sink)?;
     }
     Ok(())
 }

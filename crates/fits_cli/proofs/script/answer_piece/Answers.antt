@@ -9,6 +9,7 @@ loop-front-init g c = record {
   done = [];
   split = refl;
   answered = λ steady. Continues-none c.args.line.now.items c.args.runner.now _;
+  quiet = refl;
   numbered = omega arith;
   room = c.requires.room;
   within = c.requires.within;
@@ -46,6 +47,7 @@ loop-front-preserved g c =
       answered = λ steady. rw c.clear.ensures.items
           (Continues-line done front c.args.line.now.items c.loop-front.line.items c.keep-in-loop-front.new.line.items c.args.runner.now c.loop-front.runner c.answer_line.new.runner _ _ _
           (inv.answered steady) c.in-Some.ensures.some.0 c.keep-in-loop-front.ensures.kept (rw c.deref.ensures.value at (c.in_ok-answer_line.ensures.ok steady)));
+      quiet = c.in_ok-answer_line.ensures.quiet ∙ inv.quiet;
       numbered = omega (arith, c.in_ok-answer_line.ensures.line, ap length cut, length-append front (10 ∷ next), inv.numbered);
       room = omega (arith, c.clear.ensures.capacity, c.keep-in-loop-front.ensures.room);
       within = omega (arith, c.clear.ensures.len);

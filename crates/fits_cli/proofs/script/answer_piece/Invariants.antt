@@ -10,6 +10,7 @@ invariant-loop-front g l = record {
   done : List ℕ;
   split : l.piece ≡ done ++ l.rest;
   answered : g.H.Holder.steady → Continues done l.fn.line.items l.line.items l.fn.runner l.runner (heard (g.O.Sink.state l.fn.out) (option_map g.E.Sink.state l.fn.told)) (heard (g.O.Sink.state l.out) (option_map g.E.Sink.state l.told));
+  quiet : l.failed ≡ l.fn.failed;
   numbered : l.runner.line + length l.rest ≤ l.fn.runner.line + length l.piece;
   room : LINE_LIMIT + 1 ≤ vec_capacity l.line;
   within : vec_len l.line ≤ LINE_LIMIT + 1;

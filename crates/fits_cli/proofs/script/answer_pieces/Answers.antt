@@ -13,6 +13,7 @@ loop-n-init g c = record {
   counted = refl;
   short = omega arith;
   has = λ steady. rw c.requires.empty (HasCome-none c.args.runner.now _);
+  quiet = refl;
   numbered = omega (arith, c.requires.first);
   wide = c.requires.wide;
   room = c.requires.room;

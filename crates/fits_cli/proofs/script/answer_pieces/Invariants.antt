@@ -14,6 +14,7 @@ invariant-loop-n g l = record {
   counted : l.taken ≡ length came;
   short : l.taken ≤ SCRIPT_LIMIT;
   has : g.H.Holder.steady → HasCome came l.line.items l.fn.runner l.runner (heard (g.O.Sink.state l.fn.out) (option_map g.E.Sink.state l.fn.told)) (heard (g.O.Sink.state l.out) (option_map g.E.Sink.state l.told));
+  quiet : l.failed ≡ l.fn.failed;
   numbered : l.runner.line ≤ l.taken + 1;
   wide : 0 < length l.piece;
   room : LINE_LIMIT + 1 ≤ vec_capacity l.line;

@@ -1,8 +1,8 @@
-use Rattle.std.proofs.Common.{ap, refl, subst, sym}
+use Rattle.std.proofs.Common.{ap, inr, refl, subst, sym}
 use Rattle.fits_hdu.specs.State.{HduState}
 use Rattle.fits_session.specs.Away.{LoadWork}
 use Rattle.fits_session.specs.Session.{file_of, state_of, Holding, IsHad}
-use Rattle.fits_session.proofs.AwayLemmas.{kept_loaded, load_work, loaded_had, loaded_same}
+use Rattle.fits_session.proofs.AwayLemmas.{held_stays, kept_loaded, load_work, loaded_had, loaded_same, loads_alone}
 use Rattle.fits_session.proofs.StateLemmas.{is_at, reads_of-same, works_nowhere, works_there}
 use Rattle.fits_session.proofs.session.Session.load.Goals as goal
 
@@ -21,6 +21,16 @@ pub returns-clause-same : goal.returns-clause-same
 returns-clause-same g c steady =
     let at = is_at c.self.inside.hdus.items c.deref.result.now c.args.h c.args.h c.in-Ok.i c.index_mut.result.now c.deref.ensures.value refl c.in-Ok.ensures.found c.index_mut.ensures.value in
     rw (← c.self.view_is) (loaded_same c.load.result c.self.inside.hdus.items c.self.inside.tail.items c.args.h c.in-Ok.i c.index_mut.result.now c.load.new.hdu at c.load.ensures.loads (c.load.ensures.same steady))
+
+pub returns-clause-alone : goal.returns-clause-alone
+returns-clause-alone g c =
+    let at = is_at c.self.inside.hdus.items c.deref.result.now c.args.h c.args.h c.in-Ok.i c.index_mut.result.now c.deref.ensures.value refl c.in-Ok.ensures.found c.index_mut.ensures.value in
+    rw (← c.self.view_is) (inr (loads_alone c.self.inside.hdus.items c.self.inside.tail.items c.args.h c.in-Ok.i c.index_mut.result.now c.load.new.hdu at c.load.ensures.loads))
+
+pub returns-clause-idle : goal.returns-clause-idle
+returns-clause-idle g c held =
+    let at = is_at c.self.inside.hdus.items c.deref.result.now c.args.h c.args.h c.in-Ok.i c.index_mut.result.now c.deref.ensures.value refl c.in-Ok.ensures.found c.index_mut.ensures.value in
+    rw (← c.self.view_is) (held_stays c.self.inside.hdus.items c.self.inside.tail.items c.args.h c.in-Ok.i c.index_mut.result.now c.load.new.hdu at c.load.ensures.idle (rw (← c.self.view_is) at held))
 
 pub returns-clause-reads : goal.returns-clause-reads
 returns-clause-reads g c =

@@ -4,7 +4,7 @@ use Rattle.std.proofs.lemmas.Result.{err_from_is_err_and}
 use Rattle.fits_hdu.proofs.StateLemmas.{parts_read}
 use Rattle.fits_session.specs.Session.{Holding, IsHad}
 use Rattle.fits_session.proofs.HadLemmas.{had_set}
-use Rattle.fits_session.proofs.SaveLemmas.{Prints-hdu, copy_hdu, hdus_kept, first_read_more, all_read, once_at_end, once_at_most}
+use Rattle.fits_session.proofs.SaveLemmas.{Prints-hdu, copy_hdu, like_hdu, words_hdu, hdus_kept, first_read_more, all_read, once_at_end, once_at_most}
 use Rattle.fits_session.proofs.session.saving.write_hdus.Goals as goal
 
 pub loop-i-preserved : goal.loop-i-preserved
@@ -12,6 +12,9 @@ loop-i-preserved g c =
     let l : c.loop-i.i < length c.loop-i.hdus.items = omega (arith, c.loop-i.invariant.count) in
     record {
       printed = λ steady. Prints-hdu _ _ _ c.loop-i.hdus.items _ c.loop-i.i c.index_mut-hdu.result.now c.loop-i.invariant.same l c.index_mut-hdu.ensures.value (c.loop-i.invariant.printed steady) (c.in_ok-emit.ensures.ok steady);
+      like = like_hdu _ _ _ c.loop-i.hdus.items _ c.loop-i.i c.index_mut-hdu.result.now c.loop-i.invariant.same l c.index_mut-hdu.ensures.value c.loop-i.invariant.words c.loop-i.invariant.like c.in_ok-emit.ensures.like;
+      words = words_hdu c.loop-i.hdus.items _ c.loop-i.i c.index_mut-hdu.result.now _ c.loop-i.invariant.same l c.index_mut-hdu.ensures.value c.card_count-whole.ensures.whole c.loop-i.invariant.words;
+      quiet = c.in_ok-emit.ensures.quiet ∙ c.loop-i.invariant.quiet;
       same = hdus_kept c.loop-i.hdus.items _ c.loop-i.i c.index_mut-hdu.result.now _ c.loop-i.invariant.same l c.index_mut-hdu.ensures.value (parts_read _ _ _ c.emit.ensures.work);
       count = grind (arith, common_steps);
       had = had_set _ c.loop-i.hdus.items c.loop-i.i c.index_mut-hdu.result.now _ _ l c.index_mut-hdu.ensures.value c.emit.ensures.work c.loop-i.invariant.had;

@@ -1,4 +1,5 @@
-use Rattle.std.proofs.Common.{All, ◌≡◌, take, length}
+use Rattle.std.proofs.Common.{All, ◌≡◌, ◌%◌, take, length}
+use Rattle.fits_plane.specs.Again.{PrintsLike}
 use Rattle.fits_stream.specs.Stream.{Prints}
 use Rattle.fits_session.specs.File.{joined_hdus}
 use Rattle.fits_session.specs.Session.{hdus_of, IsHad}
@@ -8,6 +9,9 @@ use Rattle.fits_session.proofs.session.saving.write_hdus.Given as goal
 abbrev pub invariant-loop-i : goal.invariant-loop-i
 invariant-loop-i g l = record {
   printed : g.H.Holder.steady → Prints (joined_hdus (take l.i (hdus_of l.fn.hdus.items))) (g.W.Sink.state l.fn.sink) (g.W.Sink.state l.sink);
+  like : PrintsLike (joined_hdus (take l.i (hdus_of l.fn.hdus.items))) (g.W.Sink.state l.fn.sink) (g.W.Sink.state l.sink);
+  words : length (joined_hdus (take l.i (hdus_of l.fn.hdus.items))) % 4 ≡ 0;
+  quiet : l.failed ≡ l.fn.failed;
   same : hdus_of l.hdus.items ≡ hdus_of l.fn.hdus.items;
   count : length l.hdus.items ≡ length l.fn.hdus.items;
   had : All (IsHad (record { whole = g.H.Holder.whole; told = g.H.Holder.told l.fn.holder })) l.hdus.items;

@@ -1,9 +1,8 @@
-use Rattle.std.proofs.Common.{◌-◌, ◌≡◌, ◌≤◌, ◌%◌, ◌*◌, ◌/◌, ℕ, List, length, None}
+use Rattle.std.proofs.Common.{◌-◌, ◌≡◌, ◌≤◌, ◌%◌, ◌*◌, ◌/◌, ℕ, List, length}
 use Rattle.std.specs.Io.KnownBytes.{Consumes}
-use Rattle.fits_stream.specs.Stored.{bytes_from, left_at}
 use Rattle.fits_stream.specs.Stream.{Prints}
 use Rattle.fits_sum.specs.Words.{word_total}
-use Rattle.fits_plane.proofs.again.copy_again.Given as goal
+use Rattle.fits_plane.proofs.again.copy_next.Given as goal
 
 abbrev pub invariant-loop-count : goal.invariant-loop-count
 invariant-loop-count g l = record {
@@ -11,7 +10,8 @@ invariant-loop-count g l = record {
   size : length done ≡ l.count;
   words : l.count % 4 ≡ 0;
   within : l.count ≤ l.len;
-  gone : Consumes (bytes_from l.fn.place (g.F.Stored.bytes l.file)) (left_at l.source.place (g.F.Stored.bytes l.source.file) None) done;
+  gone : Consumes (g.R.Source.state l.fn.source).remaining (g.R.Source.state l.source).remaining done;
+  quiet : (g.R.Source.state l.source).failures ≡ (g.R.Source.state l.fn.source).failures;
   written : Prints done (g.W.Sink.state l.fn.sink) (g.W.Sink.state l.sink);
   total_is : l.total ≡ word_total done;
   bounded : l.total ≤ 4294967295 * (l.count / 4);
