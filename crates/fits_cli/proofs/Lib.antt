@@ -2,7 +2,6 @@ pub mod AnswerLemmas
 pub mod CardLemmas
 pub mod CheckedLemmas
 pub mod ComplaintLemmas
-pub mod CountLemmas
 pub mod EditingLemmas
 pub mod ExitLemmas
 pub mod LinesLemmas

@@ -67,7 +67,16 @@ pub fn run_edit_checked<F: Source, S: Source, P: Sink, O: Sink, E: Sink>(
         (option_map E.state told.old) (option_map E.state told.new) result.end }
 {
     match Session::read(alloc, file) {
-        Ok(session) => run_over(alloc, whole, session, &mut FailedReads::none(), script, saved, out, told),
+        Ok(session) => run_over(
+            alloc,
+            whole,
+            session,
+            &mut FailedReads::none(),
+            script,
+            saved,
+            out,
+            told,
+        ),
         Err(why) => CheckedEnd::from(Fault::from(why)),
     }
 }

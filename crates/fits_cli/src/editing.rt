@@ -56,7 +56,15 @@ pub fn run_edit_told<F: Source, S: Source, P: Sink, O: Sink, E: Sink>(
         (option_map E.state told.old) (option_map E.state told.new) result }
 {
     match Session::read(alloc, file) {
-        Ok(session) => run_over(alloc, session, &mut FailedReads::none(), script, saved, out, told),
+        Ok(session) => run_over(
+            alloc,
+            session,
+            &mut FailedReads::none(),
+            script,
+            saved,
+            out,
+            told,
+        ),
         Err(why) => End::from(Fault::from(why)),
     }
 }

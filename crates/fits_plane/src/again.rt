@@ -3,8 +3,9 @@ ghost use Rattle.std.specs.Prelude.{◌≡◌, ◌<◌, ◌≤◌, ◌%◌, ◌^
 ghost use Rattle.fits_stream.specs.Stored.{bytes_from};
 ghost use Rattle.fits_plane.specs.Again.{ComeNext, Copies, CopyCounts, CopyStops, LoadCounts, LoadStops};
 
-use fits_stream::{FailedReads, Intake, ReadFault, Sink, Source, Stored, StoredSource};
-use fits_stream::{fill, write_all};
+use fits_stream::{
+    FailedReads, Intake, ReadFault, Sink, Source, Stored, StoredSource, fill, write_all,
+};
 use fits_sum::words_total;
 use std::alloc::Global;
 

@@ -24,12 +24,7 @@ pub trait Holder {
     ghost steady: { Type 0 };
 
     /// Has the data unit of an HDU in memory: it is read again, where it lies in the file.
-    fn load(
-        &self,
-        alloc: Global,
-        hdu: &mut Hdu,
-        failed: &mut FailedReads,
-    ) -> Result<(), LoadFault>
+    fn load(&self, alloc: Global, hdu: &mut Hdu, failed: &mut FailedReads) -> Result<(), LoadFault>
         requires { IsHad (record { whole = whole; told = told self.now }) hdu.old }
         ensures held { OnOk result (hdu.new.absent ≡ None) }
         ensures same { steady → OnOk result (parts_of hdu.new ≡ parts_of hdu.old) }

@@ -177,7 +177,11 @@ fn passed<S: Source>(alloc: Global, source: &mut S, primary: bool) -> Result<Hdu
 
 // The HDU of a stored file. Its data unit is away.
 fn stored_away<F: Stored>(alloc: Global, file: &F, primary: bool) -> Result<Hdu, ReadHduFault> {
-    passed(alloc, &mut StoredSource::new(file, HDU_AT as u64, FailedReads::none()), primary)
+    passed(
+        alloc,
+        &mut StoredSource::new(file, HDU_AT as u64, FailedReads::none()),
+        primary,
+    )
 }
 
 // The HDU that these bytes begin with, in memory.
@@ -387,7 +391,12 @@ fn copy_of<R: Abort + AllocGlobal, F: Stored>(
     let is_of_words = !room.is_empty() && room.len() % 4 == 0;
     holds!(rt; is_of_words);
     let mut sink = writer(rt.alloc(), plan);
-    let end = copy_end(hdu.emit_from(file, &mut FailedReads::none(), room.as_mut_slice(), &mut sink));
+    let end = copy_end(hdu.emit_from(
+        file,
+        &mut FailedReads::none(),
+        room.as_mut_slice(),
+        &mut sink,
+    ));
     let (written, calls) = sink.into_inner().into_parts();
     Ok(Copied {
         end,

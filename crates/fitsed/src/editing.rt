@@ -191,7 +191,9 @@ fn run_on_stored<F: Stored, S: Source, P: Sink, O: Sink, E: Sink>(
         return run_edit_checked_stored(alloc, terms.whole, file, failed, script, saved, out, told);
     }
     if terms.whole {
-        let WholeEnd { end, undone } = run_edit_whole_stored(alloc, file, failed, script, saved, out, told);
+        let WholeEnd { end, undone } = run_edit_whole_stored(
+            alloc, file, failed, script, saved, out, told,
+        );
         return CheckedEnd {
             undone,
             ..ended(end)

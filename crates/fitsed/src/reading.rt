@@ -184,7 +184,14 @@ fn asked<S: Source, O: Sink>(
         return End::from(Fault::Memory);
     };
     if is_stored(&file) {
-        return run_ask_stored(alloc, &file, &mut FailedReads::none(), script, out, &mut told);
+        return run_ask_stored(
+            alloc,
+            &file,
+            &mut FailedReads::none(),
+            script,
+            out,
+            &mut told,
+        );
     }
     run_ask(alloc, &mut source_of(file), script, out, &mut told)
 }

@@ -11,4 +11,4 @@ returns-in-Ok-clause-ends g c tells saved =
 pub returns-in-Err-clause-ends : goal.returns-in-Err-clause-ends
 returns-in-Err-clause-ends g c tells saved =
     let stops = c.in-Err.ensures.err in
-    (record { remaining = stops.0; failures = _ }, asks_fault _ _ c.from-in-Err.result c.from.result c.from-in-Err.ensures (rw c.from.ensures (StopsBy-opening _ _ _ refl refl refl stops.1)))
+    (record { remaining = stops.0; failures = c.read_stored.new.failed }, asks_fault _ _ c.from-in-Err.result c.from.result c.from-in-Err.ensures (rw c.from.ensures (StopsBy-opening _ _ _ refl refl refl stops.1)))

@@ -1,4 +1,4 @@
-use Rattle.std.proofs.Common.{◌≡◌, ◌++◌, [], take, length, refl, ap, arith, rules}
+use Rattle.std.proofs.Common.{◌≡◌, ◌++◌, ◌∙◌, [], take, length, refl, ap, arith, rules}
 use Rattle.std.proofs.lemmas.List.{length-append, length-take-le}
 use Rattle.fits_stream.proofs.StreamLemmas.{Reads-none, Reads-more}
 use Rattle.fits_cli.proofs.ExitLemmas.{at_exit, last_err, last_ok}
@@ -75,6 +75,7 @@ loop-n-preserved g c =
       counted = omega (arith, inv.counted, length-append inv.came (take c.in-Ok.n c.read.new.buffer), length-take-le c.in-Ok.n c.read.new.buffer (search rules));
       short = omega (arith, c.if-n-room.false, inv.short);
       has = λ steady. (rw c.split_at-in-loop-n.ensures.front at (c.in_ok-answer_at_once.ensures.ok steady)) inv.came c.args.runner.now _ (inv.has steady);
+      quiet = c.in_ok-answer_at_once.ensures.quiet ∙ inv.quiet;
       numbered = omega (arith, c.in_ok-answer_at_once.ensures.line, c.split_at-in-loop-n.ensures.front_len, inv.numbered);
       wide = omega (arith, inv.wide, c.read.auto.buffer);
       room = c.in_ok-answer_at_once.ensures.room;

@@ -11,4 +11,4 @@ returns-in-Ok-clause-ends g c tells =
 pub returns-in-Err-clause-ends : goal.returns-in-Err-clause-ends
 returns-in-Err-clause-ends g c tells =
     let stops = c.in-Err.ensures.err in
-    (record { remaining = stops.0; failures = _ }, whole_fault _ _ c.from-in-Err.result.end c.from-in-Err.result.undone c.from.result c.from-in-Err.ensures (rw c.from.ensures (StopsBy-opening _ _ _ refl refl refl stops.1)))
+    (record { remaining = stops.0; failures = c.read_stored.new.failed }, whole_fault _ _ c.from-in-Err.result.end c.from-in-Err.result.undone c.from.result c.from-in-Err.ensures (rw c.from.ensures (StopsBy-opening _ _ _ refl refl refl stops.1)))
