@@ -1,5 +1,5 @@
 -- Data units that lie in a stored file, and what loading one leaves.
-use Rattle.std.proofs.Common.{All, ◌≡◌, ℕ, ◌+◌, ◌<◌, ◌≤◌, List, [], ◌∷◌, ◌++◌, length, map, take, drop, get_or, set, refl, ap, sym, subst, ◌∙◌, arith, Option, None, Some, suc, zero, add-one, inl, inr}
+use Rattle.std.proofs.Common.{All, ◌≡◌, ℕ, ◌+◌, ◌<◌, ◌≤◌, List, [], ◌∷◌, ◌++◌, length, map, take, drop, get_or, set, refl, ap, sym, subst, ◌∙◌, arith, Option, None, Some, suc, zero, add-one}
 use Rattle.std.specs.Prelude.{IfSome, Err, Ok, OnErr, OnOk, Result, false, true}
 use Rattle.std.proofs.Math.Seq.{drop-append-add, take-append_seam}
 use Rattle.std.proofs.lemmas.List.{append_assoc, length-append, length-set, map-append, set-get_or}
@@ -25,15 +25,12 @@ use Rattle.fits_hdu.specs.declared.passed_hdu.PassedHdu.{PassedHdu}
 use Rattle.fits_hdu.specs.Sums.{verdicts_of}
 use Rattle.fits_hdu.proofs.PassedLemmas.{same_verdicts}
 use Rattle.fits_hdu.specs.declared.extension_name.ExtensionName.{ExtensionName}
-use Rattle.fits_session.specs.Away.{is_passed, parts_passed, at_start, AreKnownFrom, LoadsAlone, LoadsAt, LoadsFor, LoadWork}
+use Rattle.fits_session.specs.Away.{is_passed, parts_passed, at_start, AreKnownFrom, LoadsAlone, LoadWork}
 use Rattle.fits_session.specs.Edit.{changed_of, hdu_of, is_primary_hdu, with_hdu}
-use Rattle.fits_session.specs.HduEdit.{needs_pixels}
-use Rattle.fits_session.specs.declared.edit.Edit.TheVariants.{Hdu}
-use Rattle.fits_session.specs.declared.hdu_edit.HduEdit.{HduEdit}
 use Rattle.fits_session.specs.File.{FileParts, file_bytes, joined_hdus, IsFile, IsFileOf}
 use Rattle.fits_session.specs.Keeping.{IsRight}
 use Rattle.fits_session.specs.Reading.{KeepsEach, ReadStops, SupplyStops}
-use Rattle.fits_session.specs.Session.{SessionState, file_of, hdus_of, marked_of, state_of, HasStats, Holding, IsHad, IsHeld, IsKept, IsSoOf}
+use Rattle.fits_session.specs.Session.{file_of, hdus_of, marked_of, state_of, HasStats, Holding, IsHad, IsHeld, IsKept, IsSoOf}
 use Rattle.fits_session.specs.declared.limits.TheConstants.{FILE_LIMIT}
 use Rattle.fits_session.proofs.HadLemmas.{had_held}
 use Rattle.fits_session.proofs.EditLemmas.{length_changed, other_kept}
@@ -275,10 +272,6 @@ pub held_stays : (hdus : List HduState) (tail : List ℕ) (h i : ℕ) (old new :
 held_stays hdus tail h i old new at idle held =
     let same : new ≡ old = idle (held i old at.index (sym at.is)) in
     ap (λ (left : List HduState). state_of left tail) (ap (set hdus i) (same ∙ at.is) ∙ set-get_or hdus i old)
-
--- where an edit needs pixels, those of its HDU are loaded
-pub loads_for : (h : ℕ) (edit : HduEdit) (old new : SessionState) → needs_pixels edit ≡ true → LoadsAt h old new → LoadsFor (Hdu h edit) old new
-loads_for h edit old new needs p = elim p [ inl same ↦ inl same | inr alone ↦ inr (needs, alone) ]
 
 -- the statistics of what is held are known
 pub held_known : (hdus : List HduState) (h : ℕ) → IsSoOf IsHeld h hdus → IsSoOf HasStats h hdus
