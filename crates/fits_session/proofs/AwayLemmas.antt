@@ -1,33 +1,29 @@
 -- Data units that lie in a stored file, and what loading one leaves.
-use Rattle.std.proofs.Common.{All, ◌≡◌, ℕ, ◌+◌, ◌<◌, ◌≤◌, List, [], ◌∷◌, ◌++◌, length, map, take, drop, get_or, set, refl, ap, sym, subst, ◌∙◌, arith, Option, None, Some, suc, zero, add-one}
-use Rattle.std.specs.Prelude.{IfSome, Err, Ok, OnErr, OnOk, Result, false, true}
+use Rattle.std.proofs.Common.{All, ◌≡◌, ℕ, ◌+◌, ◌≤◌, List, [], ◌∷◌, ◌++◌, length, map, take, drop, get_or, set, refl, ap, sym, subst, ◌∙◌, arith, Option, None, Some, suc, zero, add-one}
+use Rattle.std.specs.Prelude.{IfSome, Err, Ok, OnErr, OnOk, Result, false}
 use Rattle.std.proofs.Math.Seq.{drop-append-add, take-append_seam}
 use Rattle.std.proofs.lemmas.List.{append_assoc, length-append, length-set, map-append, set-get_or}
 use Rattle.std.proofs.lemmas.Option.{slice_get_read}
 use Rattle.std.specs.List.{slice_get}
 use Rattle.std.proofs.lemmas.List.Elements.{All-cons, All-nil, All-set}
-use Rattle.std.proofs.lemmas.List.Concat.{flat_map-append}
 use Rattle.fits_card.specs.Header.{Header, IsHeader, header_bytes}
 use Rattle.fits_rules.specs.Class.{is_primary}
 use Rattle.fits_rules.specs.Shape.{shape_of}
 use Rattle.fits_header.specs.State.{HeaderState}
 use Rattle.fits_hdu.specs.ExtensionName.{extension_name}
 use Rattle.fits_plane.specs.DataUnit.{Absence, IsCounted, LiesIn}
-use Rattle.fits_plane.specs.Plane.{PlaneState}
 use Rattle.fits_stream.specs.Intake.{supply, IntakeState, TellsAll}
 use Rattle.fits_stream.specs.Stored.{left_at, Placed}
 use Rattle.fits_stream.specs.Stream.{SourceState}
 use Rattle.fits_hdu.specs.Hdu.{HduParts, hdu_bytes, IsHdu}
-use Rattle.fits_hdu.specs.Reading.{IsPassedWhole}
 use Rattle.fits_hdu.specs.State.{HduState, name_of, parts_of, IsDescribed}
 use Rattle.fits_hdu.specs.Work.{IsKnownAt, IsOpened, Loads, plane_work}
 use Rattle.fits_hdu.specs.declared.passed_hdu.PassedHdu.{PassedHdu}
-use Rattle.fits_hdu.specs.Sums.{verdicts_of}
 use Rattle.fits_hdu.proofs.PassedLemmas.{same_verdicts}
 use Rattle.fits_hdu.specs.declared.extension_name.ExtensionName.{ExtensionName}
 use Rattle.fits_session.specs.Away.{is_passed, parts_passed, at_start, AreKnownFrom, LoadsAlone, LoadWork}
-use Rattle.fits_session.specs.Edit.{changed_of, hdu_of, is_primary_hdu, with_hdu}
-use Rattle.fits_session.specs.File.{FileParts, file_bytes, joined_hdus, IsFile, IsFileOf}
+use Rattle.fits_session.specs.Edit.{changed_of, is_primary_hdu, with_hdu}
+use Rattle.fits_session.specs.File.{FileParts, file_bytes, joined_hdus, IsFile}
 use Rattle.fits_session.specs.Keeping.{IsRight}
 use Rattle.fits_session.specs.Reading.{KeepsEach, ReadStops, SupplyStops}
 use Rattle.fits_session.specs.Session.{file_of, hdus_of, marked_of, state_of, HasStats, Holding, IsHad, IsHeld, IsKept, IsSoOf}

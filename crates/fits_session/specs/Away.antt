@@ -1,5 +1,5 @@
 -- Data units that lie in a stored file: where they lie, and what loading one owes (own).
-use Rattle.std.specs.Prelude.{◌≡◌, ◌⊎◌, ℕ, ◌+◌, List, [], ◌∷◌, length, map, true, Option, Some, IfSome}
+use Rattle.std.specs.Prelude.{◌≡◌, ◌⊎◌, ℕ, ◌+◌, List, [], ◌∷◌, length, true, Option, Some, IfSome}
 use Rattle.std.specs.List.{slice_get}
 use Rattle.fits_card.specs.Header.{header_bytes}
 use Rattle.fits_stream.specs.Stream.{SourceState}

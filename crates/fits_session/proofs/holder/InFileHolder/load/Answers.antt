@@ -1,4 +1,4 @@
-use Rattle.std.proofs.Common.{List, sym, subst}
+use Rattle.std.proofs.Common.{sym, subst}
 use Rattle.std.specs.Prelude.{IfSome}
 use Rattle.fits_plane.specs.DataUnit.{LiesIn}
 use Rattle.fits_session.proofs.HadLemmas.{told_by}

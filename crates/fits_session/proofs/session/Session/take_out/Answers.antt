@@ -11,7 +11,6 @@ use Rattle.fits_session.proofs.StandingLemmas.{removed_leaves}
 use Rattle.std.proofs.lemmas.List.{length-append}
 use Rattle.fits_card.specs.Header.{header_bytes}
 use Rattle.fits_header.specs.State.{HeaderState}
-use Rattle.fits_plane.specs.Plane.{PlaneState}
 use Rattle.std.proofs.lemmas.Result.{err_from_is_err_and}
 use Rattle.fits_hdu.specs.State.{parts_of, IsDescribed}
 use Rattle.fits_session.proofs.ListEditLemmas.{all_left, primary_stays, removed_left, removed_size, removes, removes_nowhere}

@@ -1,7 +1,6 @@
 use Rattle.std.proofs.Common.{◌+◌, ap, ◌∙◌, arith, length}
 use Rattle.fits_card.specs.Header.{header_bytes}
 use Rattle.fits_header.specs.State.{HeaderState}
-use Rattle.fits_plane.specs.Plane.{PlaneState}
 use Rattle.fits_session.proofs.OffsetLemmas.{ends_within, offsets_all, offsets_more, start_more}
 use Rattle.fits_session.proofs.session.queries.offsets_of.Goals as goal
 
