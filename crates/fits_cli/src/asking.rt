@@ -37,7 +37,7 @@ pub fn run_ask<F: Source, S: Source, O: Sink, E: Sink>(
     }
 }
 
-/// The same of a stored file, as `run_edit_stored` reads it.
+/// The same of a stored file, as `run_edit_stored` reads it. Reads of it that fail are counted.
 pub fn run_ask_stored<F: Stored, S: Source, O: Sink, E: Sink>(
     alloc: Global,
     file: &F,
@@ -47,7 +47,8 @@ pub fn run_ask_stored<F: Stored, S: Source, O: Sink, E: Sink>(
     told: &mut Option<E>,
 ) -> End
     ensures ends { AllTell F.bytes → (saved : SinkState) → (after : SourceState) × AsksAs
-        (run_by true (at_start (F.bytes file.now) failed.old) (S.state script.old) (O.state out.old) saved)
+        (run_by true (at_start (F.bytes file.now) failed.old)
+        (S.state script.old) (O.state out.old) saved)
         (run_by true after (S.state script.new) (O.state out.new) saved)
         result }
     ensures told { AllTell F.bytes → RemarksEndAs (at_start (F.bytes file.now) failed.old)

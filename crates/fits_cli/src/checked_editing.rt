@@ -81,7 +81,7 @@ pub fn run_edit_checked<F: Source, S: Source, P: Sink, O: Sink, E: Sink>(
     }
 }
 
-/// The same of a stored file, as `run_edit_stored` reads it.
+/// The same of a stored file, as `run_edit_stored` reads it. Reads of it that fail are counted.
 pub fn run_edit_checked_stored<F: Stored, S: Source, P: Sink, O: Sink, E: Sink>(
     alloc: Global,
     whole: bool,

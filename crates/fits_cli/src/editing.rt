@@ -71,7 +71,7 @@ pub fn run_edit_told<F: Source, S: Source, P: Sink, O: Sink, E: Sink>(
 
 /// The same of a stored file, in which its data stay until a line wants them. They are read again
 /// then, or where they are copied as it is saved: where they have changed meanwhile, or aren't had,
-/// the run ends by `Fault::Reread`, and nothing more is saved.
+/// the run ends by `Fault::Reread`, and nothing more is saved. Reads of it that fail are counted.
 pub fn run_edit_stored<F: Stored, S: Source, P: Sink, O: Sink, E: Sink>(
     alloc: Global,
     file: &F,

@@ -69,7 +69,7 @@ pub fn run_edit_whole<F: Source, S: Source, P: Sink, O: Sink, E: Sink>(
     }
 }
 
-/// The same of a stored file, as `run_edit_stored` reads it.
+/// The same of a stored file, as `run_edit_stored` reads it. Reads of it that fail are counted.
 pub fn run_edit_whole_stored<F: Stored, S: Source, P: Sink, O: Sink, E: Sink>(
     alloc: Global,
     file: &F,

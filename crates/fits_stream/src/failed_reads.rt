@@ -21,6 +21,7 @@ impl Model for FailedReads {
 }
 
 impl FailedReads {
+    /// None so far.
     pub fn none() -> FailedReads
         ensures { result ≡ 0 }
     {
@@ -29,9 +30,10 @@ impl FailedReads {
         }
     }
 
-    /// Those that it counts, to be counted on elsewhere.
+    /// Those that it counts, to be counted on elsewhere. It is begun anew.
     pub fn take(&mut self) -> FailedReads
-        ensures { result ≡ self.old }
+        ensures value { result ≡ self.old }
+        ensures left { self.new ≡ 0 }
     {
         mem::replace(self, FailedReads::none())
     }

@@ -82,6 +82,7 @@ impl<H: Holder + Drop> Session<H> {
         ensures needed { OnErr result (NeedsPixels edit.now) }
         ensures same { H.steady → OnOk result (marked_of self.new ≡ marked_of self.old) }
         ensures alone { LoadsFor edit.now self.old self.new }
+        ensures idle { IsReadyFor edit.now self.old.hdus → self.new ≡ self.old }
         ensures quiet { OnOk result (failed.new ≡ failed.old) }
         ensures err { OnErr result (self.new ≡ self.old) }
         ensures counted { IfErr result (LoadCounts failed.old failed.new) }

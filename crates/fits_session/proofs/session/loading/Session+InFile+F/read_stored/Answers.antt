@@ -27,4 +27,4 @@ pub returns-in_err-parts-clause-err : goal.returns-in_err-parts-clause-err
 returns-in_err-parts-clause-err g c =
     let p = err_from_is_err_and c.from_residual-in_err-parts.result c.from_residual-in_err-parts.ensures.1 in
     let after : SourceState = record { remaining = left_at c.read_away-read.new.source.place (g.F.Stored.bytes c.read_away-read.new.source.file) None; failures = c.read_away-read.new.source.failures } in
-    rw (p.1, p.2, c.into_failed.ensures, ← c.take.ensures) (after.remaining, stored_stops g.F.Stored.bytes c.new-source.result c.args.file.now _ c.in_ok-intake.intake after c.in_err-parts.field-0.0 c.new-source.ensures c.in_ok-intake.ensures c.in_err-parts.ensures.err)
+    rw (p.1, p.2, c.into_failed.ensures, ← c.take.ensures.value) (after.remaining, stored_stops g.F.Stored.bytes c.new-source.result c.args.file.now _ c.in_ok-intake.intake after c.in_err-parts.field-0.0 c.new-source.ensures c.in_ok-intake.ensures c.in_err-parts.ensures.err)
