@@ -1,10 +1,10 @@
 #!/usr/bin/env python3
 """Measures what the gate costs: runs it on a fresh clone of HEAD, and prints the table of docs/GATE.md.
 
-Processor minutes (user and system) of each check, added up by crate: its proof, its tests, and its must-fail edits.
+Processor minutes (user and system) of each check, added up by crate: its proof, its tests, and its refused bodies.
 They are read from /proc five times a second, so that of each check a fifth of a second at most is missing. All is proved
 and tried again, whatever an earlier run on the machine kept. Nothing else should run meanwhile: machines count differently
-for the same work, and one machine counts more when it has more to do."""
+for the same work, and one machine counts more when it has more to do. `taskset -c 0,1 .ci/measure.py` says what two processors take."""
 import collections
 import glob
 import os
@@ -48,7 +48,6 @@ def lines(crate, part, ending):
 
 
 def main():
-    checks = int(os.environ.setdefault("RT_JOBS", "2"))
     seconds = {}
     with tempfile.TemporaryDirectory() as room:
         subprocess.run(["git", "clone", "-q", TOP, f"{room}/fitsed"], check=True)
@@ -66,13 +65,14 @@ def main():
     print("|---|---|---|---|---|---|---|---|")
     rows = []
     for crate in [it.partition(":")[0] for it in open(f"{TOP}/crates.txt") if it[0] not in "#\n"]:
-        edits = len(glob.glob(f"{TOP}/crates/{crate}/must-fail/*.edit"))
+        edits = len(glob.glob(f"{TOP}/crates/{crate}/refused/*.edit"))
         sizes = [lines(crate, "src", "rt"), lines(crate, "specs", "antt"), lines(crate, "proofs", "antt"), edits]
         rows.append([*sizes, *(minutes[crate, kind] for kind in KINDS)])
         print(f"| {crate} | {' | '.join(map(str, sizes))} | {' | '.join(f'{it:.1f}' for it in rows[-1][4:])} |")
     sums = [sum(it) for it in zip(*rows)]
     print(f"| all | {' | '.join(map(str, sums[:4]))} | {' | '.join(f'{it:.1f}' for it in sums[4:])} |")
-    print(f"{sum(sums[4:]):.0f} processor minutes in {took:.0f} minutes with {checks} checks at once, status {gate.returncode}")
+    processors = len(os.sched_getaffinity(0))
+    print(f"{sum(sums[4:]):.0f} processor minutes in {took:.0f} minutes on {processors} processors, RT_JOBS {os.environ.get('RT_JOBS', 'not set')}, status {gate.returncode}")
     return gate.returncode
 
 
