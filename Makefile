@@ -9,12 +9,15 @@ crates := $(shell sed -n 's/^\([a-z_]*\):.*/\1/p' crates.txt)
 stands_on = $(filter $(crates),$(shell sed -n 's/^$(1)://p' crates.txt))
 sources = $(shell find crates/$(1) -name out -prune -o \( -name '*.rt' -o -name '*.antt' \) -print)
 
+# The jobs of a check: one for each processor that has 4 GB of memory, since mostly one crate is proved at a time.
+jobs ?= $(shell awk -v most="$$(nproc)" '/^MemAvailable/ { n = int($$2 / 4000000); print n < 1 ? 1 : n < most ? n : most }' /proc/meminfo)
+
 # A crate is proved once those are that it stands on; crates beside one another are proved at once by `make -j`.
 define proved
 crates/$(1)/out/proved: $(call sources,$(1)) $(patsubst %,crates/%/out/proved,$(call stands_on,$(1)))
 	@mkdir -p crates/$(1)/out
 	@echo 'fitsed: proving $(1)' >&2
-	@cd crates/$(1) && { rt check >out/log 2>&1 || { cat out/log >&2; exit 1; }; }
+	@cd crates/$(1) && { rt check --jobs $(jobs) >out/log 2>&1 || { cat out/log >&2; exit 1; }; }
 	@touch $$@
 endef
 $(foreach crate,$(crates),$(eval $(call proved,$(crate))))
