@@ -193,5 +193,4 @@ impl<H: Holder + Drop> Session<H> {
     }
 }
 
-#[cfg(test)]
 mod fields;
