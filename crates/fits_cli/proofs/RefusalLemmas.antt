@@ -4,7 +4,7 @@ use Rattle.std.specs.Prelude.{IsOk}
 use Rattle.fits_session.specs.Marked.{Marked, is_stamped_after, marked_refusal}
 use Rattle.fits_session.specs.Query.{QueryFails}
 use Rattle.fits_session.specs.Refusal.{EditNeedsMemory, Fails}
-use Rattle.fits_session.specs.declared.edit.Edit.{Edit}
+use Rattle.fits_edit.specs.declared.edit.Edit.{Edit}
 use Rattle.fits_session.specs.declared.refusal.Refusal.{Refusal}
 use Rattle.fits_session.specs.declared.refusal.Refusal.TheVariants.{NoHdu, NoCard, NoKey, BadText, EndCard, Shape as OtherShape, BadName, BadValue, NotImage, BadRect, WrongCount, Range, PrimaryStays, TooLarge, Memory}
 use Rattle.fits_session.proofs.RefusalLemmas.{never_memory}

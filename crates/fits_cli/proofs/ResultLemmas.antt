@@ -9,12 +9,12 @@ use Rattle.fits_session.specs.File.{FileParts, IsFile, IsFileOf}
 use Rattle.fits_session.specs.HduEdit.{HasHduSizes}
 use Rattle.fits_session.specs.Marked.{kept_in, marked_after, marked_refusal}
 use Rattle.fits_session.specs.Query.{datasum_in, positions_in, rect_in, stats_in, value_in, verdicts_in}
-use Rattle.fits_session.specs.declared.card_edit.CardEdit.{CardEdit}
-use Rattle.fits_session.specs.declared.card_edit.CardEdit.TheVariants.{Insert, Put, Delete, Move, Set, Unset}
-use Rattle.fits_session.specs.declared.edit.Edit.{Edit as SessionEdit}
-use Rattle.fits_session.specs.declared.edit.Edit.TheVariants.{Hdu, NewImage, RemoveHdu}
-use Rattle.fits_session.specs.declared.hdu_edit.HduEdit.{HduEdit}
-use Rattle.fits_session.specs.declared.hdu_edit.HduEdit.TheVariants.{Cards, Keep, Pixels, Release, Reshape, Stamp}
+use Rattle.fits_edit.specs.declared.card_edit.CardEdit.{CardEdit}
+use Rattle.fits_edit.specs.declared.card_edit.CardEdit.TheVariants.{Insert, Put, Delete, Move, Set, Unset}
+use Rattle.fits_edit.specs.declared.edit.Edit.{Edit as SessionEdit}
+use Rattle.fits_edit.specs.declared.edit.Edit.TheVariants.{Hdu, NewImage, RemoveHdu}
+use Rattle.fits_edit.specs.declared.hdu_edit.HduEdit.{HduEdit}
+use Rattle.fits_edit.specs.declared.hdu_edit.HduEdit.TheVariants.{Cards, Keep, Pixels, Release, Reshape, Stamp}
 use Rattle.fits_session.specs.declared.refusal.Refusal.{Refusal}
 use Rattle.fits_session.proofs.LawLemmas.{edited}
 use Rattle.fits_script.specs.Forms.{CardsSaid, EditSaid, HduSaid, Says}

@@ -442,5 +442,4 @@ impl Hdu {
     }
 }
 
-#[cfg(test)]
 mod fields;

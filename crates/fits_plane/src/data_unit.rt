@@ -379,3 +379,5 @@ impl DataUnit {
         Ok(())
     }
 }
+
+mod fields;

@@ -120,3 +120,5 @@ impl PassedUnit {
         self.layout.blank = blank;
     }
 }
+
+mod fields;

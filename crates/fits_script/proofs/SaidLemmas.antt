@@ -8,11 +8,11 @@ use Rattle.std.proofs.lemmas.Option.{option_and_then_some}
 use Rattle.fits_value.specs.Says.{field_says}
 use Rattle.fits_value.specs.declared.value.Value.{Value}
 use Rattle.fits_image.specs.declared.kind.Kind.{Kind}
-use Rattle.fits_session.specs.declared.card_edit.CardEdit.TheVariants.{Insert, Put, Delete, Move, Set, Unset}
-use Rattle.fits_session.specs.declared.edit.Edit.TheVariants.{Hdu, NewImage, RemoveHdu}
-use Rattle.fits_session.specs.declared.hdu_edit.HduEdit.TheVariants.{Cards, Keep, Pixels, Release, Reshape, Stamp}
-use Rattle.fits_session.specs.declared.paint.Paint.{Paint}
-use Rattle.fits_session.specs.declared.paint.Paint.TheVariants.{Fill, Write}
+use Rattle.fits_edit.specs.declared.card_edit.CardEdit.TheVariants.{Insert, Put, Delete, Move, Set, Unset}
+use Rattle.fits_edit.specs.declared.edit.Edit.TheVariants.{Hdu, NewImage, RemoveHdu}
+use Rattle.fits_edit.specs.declared.hdu_edit.HduEdit.TheVariants.{Cards, Keep, Pixels, Release, Reshape, Stamp}
+use Rattle.fits_edit.specs.declared.paint.Paint.{Paint}
+use Rattle.fits_edit.specs.declared.paint.Paint.TheVariants.{Fill, Write}
 use Rattle.fits_script.specs.Cut.{HasNo}
 use Rattle.fits_script.specs.Forms.{IsAlone, IsCardForm, IsFieldForm, IsMoveForm, IsNameForm, IsArrayForm, IsNumber, IsPaintForm, IsPlaceForm, IsRectangleForm, Names, Says, followed, kind_word, paint_word}
 use Rattle.fits_script.specs.Line.{after_word, alone, axes_last, card_last, card_words, cards_command, command_of, field_words, fill_words, first_word, hdu_said, kind_first, move_words, name_first, name_word, array_words, number_first, place_word, rectangle_first, rectangle_word, said_by, said_of, value_last, values_last, verb_of, verb_said, verb_word, words_said, write_words}

@@ -1,5 +1,5 @@
 use fits_card::Name;
-use fits_session::{Corner, Edit};
+use fits_edit::{Corner, Edit};
 
 /// What a line of a script asks for. HDUs and places count from 1.
 #[derive(Drop)]

@@ -17,7 +17,7 @@ use crate::words::{
     alone, card_words, cut_word, field_words, fill_words, move_words, name_word, number_first,
     place_word, rectangle_word, write_words,
 };
-use fits_session::{CardEdit, Edit, HduEdit};
+use fits_edit::{CardEdit, Edit, HduEdit};
 use std::alloc::{AllocError, Global};
 
 /// The command that a line says, without its line feed.

@@ -5,7 +5,7 @@ ghost use Rattle.fits_script.specs.Line.{after_colon, axis_of_word, before_colon
 use crate::cut::split_once;
 use crate::part::{Part, is_list, read_list};
 use crate::words::number_of_word;
-use fits_session::Corner;
+use fits_edit::Corner;
 use std::alloc::{AllocError, Global};
 
 // An axis: its lower and its upper place.

@@ -10,7 +10,7 @@ ghost use Rattle.fits_value.specs.Spelling.{is_digit};
 
 use crate::part::{Part, read_list};
 use crate::words::{DIGITS, number_of_word};
-use fits_session::PixelValues;
+use fits_edit::PixelValues;
 use std::alloc::{AllocError, Global};
 
 /// How many digits a value has at most.

@@ -16,7 +16,7 @@ use crate::cut::split_once;
 use crate::rectangle_words::{corners_of, is_rectangle};
 use crate::value_words::{value_last, values_last};
 use fits_card::{CARD_LEN, Card, Name};
-use fits_session::{Corner, Paint};
+use fits_edit::{Corner, Paint};
 use fits_value::{Text, Value, read_field};
 use std::alloc::{AllocError, Global};
 

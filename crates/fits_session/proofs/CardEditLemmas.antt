@@ -15,8 +15,8 @@ use Rattle.fits_hdu.specs.Keyword.{keyword_cards, replacing}
 use Rattle.fits_hdu.specs.declared.keyword_cards.KeywordCards.{KeywordCards}
 use Rattle.fits_hdu.proofs.KeywordLemmas.{keyword_within}
 use Rattle.fits_session.specs.CardEdit.{is_in_range, own_refusal, unless, tested, is_keyword_name, setting, unsetting, set_of, unset_of, change_of, HasCardSizes}
-use Rattle.fits_session.specs.declared.card_edit.CardEdit.{CardEdit}
-use Rattle.fits_session.specs.declared.card_edit.CardEdit.TheVariants.{Insert, Put, Delete, Move, Set, Unset}
+use Rattle.fits_edit.specs.declared.card_edit.CardEdit.{CardEdit}
+use Rattle.fits_edit.specs.declared.card_edit.CardEdit.TheVariants.{Insert, Put, Delete, Move, Set, Unset}
 use Rattle.fits_session.specs.declared.refusal.Refusal.{Refusal}
 use Rattle.fits_session.specs.declared.refusal.Refusal.TheVariants as refusal
 

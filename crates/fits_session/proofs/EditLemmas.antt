@@ -27,11 +27,12 @@ use Rattle.fits_session.specs.Marked.{Marked, is_kept, marked_after, marked_file
 use Rattle.fits_session.specs.Refusal.{limit_refusal, made_refusal, refusal_in, Fails, HduNeedsMemory, OrStampNeedsMemory}
 use Rattle.fits_session.specs.Session.{file_of, hdus_of, kept_of, marked_of, reads_of, state_of, works_of, length_with, within_refusal, AreIdle, EditsTo, EditWork, HduEditsTo, HduWork, HduWorks, Holding, IsHad, IsIdle, IsKept, IsNowhere, ReadsOnly, WorksOnly}
 use Rattle.fits_session.specs.NameTable.{Stands, Stood}
-use Rattle.fits_session.specs.Work.{edit_reads, follow_reads, follow_up_reads, hdu_reads, may_rename, reads_in_all}
-use Rattle.fits_session.specs.declared.edit.Edit.{Edit}
-use Rattle.fits_session.specs.declared.edit.Edit.TheVariants.{Hdu, NewImage, RemoveHdu}
-use Rattle.fits_session.specs.declared.hdu_edit.HduEdit.{HduEdit}
-use Rattle.fits_session.specs.declared.hdu_edit.HduEdit.TheVariants.{Cards, Keep, Pixels, Release, Reshape, Stamp}
+use Rattle.fits_session.specs.Work.{edit_reads, follow_reads, follow_up_reads, hdu_reads, reads_in_all}
+use Rattle.fits_edit.specs.HduEdit.{may_rename}
+use Rattle.fits_edit.specs.declared.edit.Edit.{Edit}
+use Rattle.fits_edit.specs.declared.edit.Edit.TheVariants.{Hdu, NewImage, RemoveHdu}
+use Rattle.fits_edit.specs.declared.hdu_edit.HduEdit.{HduEdit}
+use Rattle.fits_edit.specs.declared.hdu_edit.HduEdit.TheVariants.{Cards, Keep, Pixels, Release, Reshape, Stamp}
 use Rattle.fits_session.specs.declared.limits.TheConstants.{FILE_LIMIT}
 use Rattle.fits_session.specs.declared.refusal.Refusal.{Refusal}
 use Rattle.fits_session.specs.declared.refusal.Refusal.TheVariants as refusal

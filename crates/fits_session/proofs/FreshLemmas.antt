@@ -7,7 +7,7 @@ use Rattle.fits_session.specs.File.{FileParts, file_bytes, IsFile, IsFileOf}
 use Rattle.fits_session.specs.Fresh.{Answered, EditsInTurn, Fresh, ReadsAs, after_answer, fresh, marked_after_all}
 use Rattle.fits_session.specs.Marked.{AreRight, Marked, marked_after, marked_refusal}
 use Rattle.fits_session.specs.Session.{file_of, marked_of, EditsTo, SessionState}
-use Rattle.fits_session.specs.declared.edit.Edit.{Edit}
+use Rattle.fits_edit.specs.declared.edit.Edit.{Edit}
 use Rattle.fits_session.specs.declared.refusal.Refusal.{Refusal}
 
 -- an accepted edit leaves a file, and both sums right in the HDUs that are kept stamped

@@ -6,8 +6,8 @@ use Rattle.fits_hdu.specs.State.{HduState, ReadsUpTo}
 use Rattle.fits_plane.specs.DataUnit.{IsToldBy, LiesIn}
 use Rattle.fits_plane.specs.Plane.{PlaneState}
 use Rattle.fits_session.specs.Session.{unentered, without_entries, HasStats, Holding, IsHad, IsHeld, IsReadyFor, IsSoOf, StaysHad}
-use Rattle.fits_session.specs.declared.edit.Edit.{Edit}
-use Rattle.fits_session.specs.declared.edit.Edit.TheVariants.{Hdu, NewImage, RemoveHdu}
+use Rattle.fits_edit.specs.declared.edit.Edit.{Edit}
+use Rattle.fits_edit.specs.declared.edit.Edit.TheVariants.{Hdu, NewImage, RemoveHdu}
 use Rattle.fits_session.proofs.KeptLemmas.{all_seen, seen_all}
 use Rattle.fits_session.proofs.StateLemmas.{IsHduAt}
 

@@ -17,10 +17,10 @@ use Rattle.fits_session.specs.Edit.{hdu_of, is_primary_hdu, with_hdu}
 use Rattle.fits_session.specs.File.{FileParts, IsFileOf}
 use Rattle.fits_session.specs.HduEdit.{hdu_changed, hdu_made}
 use Rattle.fits_session.specs.Refusal.{made_refusal, refusal_in, refusal_of, size_refusal}
-use Rattle.fits_session.specs.declared.card_edit.CardEdit.{CardEdit}
-use Rattle.fits_session.specs.declared.card_edit.CardEdit.TheVariants.{Insert, Put, Delete, Move, Set, Unset}
-use Rattle.fits_session.specs.declared.edit.Edit.TheVariants.{Hdu}
-use Rattle.fits_session.specs.declared.hdu_edit.HduEdit.TheVariants.{Cards}
+use Rattle.fits_edit.specs.declared.card_edit.CardEdit.{CardEdit}
+use Rattle.fits_edit.specs.declared.card_edit.CardEdit.TheVariants.{Insert, Put, Delete, Move, Set, Unset}
+use Rattle.fits_edit.specs.declared.edit.Edit.TheVariants.{Hdu}
+use Rattle.fits_edit.specs.declared.hdu_edit.HduEdit.TheVariants.{Cards}
 use Rattle.fits_session.specs.declared.refusal.Refusal.{Refusal}
 use Rattle.fits_session.specs.declared.refusal.Refusal.TheVariants as refusal
 use Rattle.fits_session.proofs.CardEditLemmas.{made_in_range, made_inner}

@@ -21,16 +21,17 @@ use Rattle.fits_hdu.proofs.VerdictLemmas.{stamped_right}
 use Rattle.fits_session.specs.CardEdit.{change_of}
 use Rattle.fits_session.specs.Edit.{changed_at, changed_of, hdu_edited, hdu_of, is_primary_hdu, file_after, made_or, with_hdu, with_new_hdu, without_hdu, HasSizes}
 use Rattle.fits_session.specs.File.{FileParts, file_bytes, IsFileOf, IsFile}
-use Rattle.fits_session.specs.HduEdit.{hdu_changed, hdu_made, pixels_made, plane_paint, shaped, HasHduSizes}
+use Rattle.fits_session.specs.HduEdit.{hdu_changed, hdu_made, pixels_made, shaped, HasHduSizes}
 use Rattle.fits_session.specs.Keeping.{both_right, kept_after, padded_if, stamp_follows, stamped_if}
 use Rattle.fits_session.specs.Limits.{is_within_limits}
 use Rattle.fits_session.specs.Marked.{AreRight, Marked, is_kept, marked_after, marked_refusal}
 use Rattle.fits_session.specs.declared.limits.TheConstants.{FILE_LIMIT, HDU_LIMIT}
 use Rattle.fits_session.specs.Refusal.{made_refusal, new_image_refusal, refusal_in, refusal_of, removal_refusal, size_refusal}
-use Rattle.fits_session.specs.declared.edit.Edit.{Edit}
-use Rattle.fits_session.specs.declared.edit.Edit.TheVariants.{Hdu, NewImage, RemoveHdu}
-use Rattle.fits_session.specs.declared.hdu_edit.HduEdit.{HduEdit}
-use Rattle.fits_session.specs.declared.hdu_edit.HduEdit.TheVariants.{Cards, Keep, Pixels, Release, Reshape, Stamp}
+use Rattle.fits_edit.specs.Paint.{plane_paint}
+use Rattle.fits_edit.specs.declared.edit.Edit.{Edit}
+use Rattle.fits_edit.specs.declared.edit.Edit.TheVariants.{Hdu, NewImage, RemoveHdu}
+use Rattle.fits_edit.specs.declared.hdu_edit.HduEdit.{HduEdit}
+use Rattle.fits_edit.specs.declared.hdu_edit.HduEdit.TheVariants.{Cards, Keep, Pixels, Release, Reshape, Stamp}
 use Rattle.fits_session.specs.declared.refusal.Refusal.{Refusal}
 use Rattle.fits_session.specs.declared.refusal.Refusal.TheVariants as refusal
 use Rattle.fits_session.proofs.CardEditLemmas.{made_inner}

@@ -22,7 +22,7 @@ use Rattle.fits_session.specs.declared.limits.TheConstants.{FILE_LIMIT, HDU_LIMI
 use Rattle.fits_session.specs.Refusal.{new_image_refusal, primary_refusal, refusal_of, removal_refusal, size_refusal, Fails, NewNeedsMemory}
 use Rattle.fits_session.specs.Marked.{Marked, marked_after, marked_refusal}
 use Rattle.fits_session.specs.Session.{file_of, hdus_of, kept_of, marked_of, state_of, unentered, without_entries, EditsTo, IsIndexOf, IsNowhere, SessionState}
-use Rattle.fits_session.specs.declared.edit.Edit.TheVariants.{NewImage, RemoveHdu}
+use Rattle.fits_edit.specs.declared.edit.Edit.TheVariants.{NewImage, RemoveHdu}
 use Rattle.fits_session.specs.declared.refusal.Refusal.{Refusal}
 use Rattle.fits_session.specs.declared.refusal.Refusal.TheVariants as refusal
 use Rattle.fits_session.proofs.MakingLemmas.{kept_limits, limit_none, within_limits}

@@ -27,9 +27,9 @@ use Rattle.fits_session.specs.declared.limits.TheConstants.{FILE_LIMIT, HDU_LIMI
 use Rattle.fits_session.specs.Refusal.{limit_refusal, CardEditNeedsMemory, CardsNeedMemory, ChangeFails, ChangeNeedsMemory, Fails, OrStampNeedsMemory}
 use Rattle.fits_session.specs.Session.{length_with, within_refusal, BlankWork, ChangesTo, HduEditsTo, HduMakes, IsFinished, StaysHad}
 use Rattle.fits_session.specs.Work.{follow_up_reads, hdu_reads, own_reads}
-use Rattle.fits_session.specs.declared.card_edit.CardEdit.{CardEdit}
-use Rattle.fits_session.specs.declared.card_edit.CardEdit.TheVariants.{Insert, Put, Delete, Move, Set, Unset}
-use Rattle.fits_session.specs.declared.hdu_edit.HduEdit.TheVariants.{Cards}
+use Rattle.fits_edit.specs.declared.card_edit.CardEdit.{CardEdit}
+use Rattle.fits_edit.specs.declared.card_edit.CardEdit.TheVariants.{Insert, Put, Delete, Move, Set, Unset}
+use Rattle.fits_edit.specs.declared.hdu_edit.HduEdit.TheVariants.{Cards}
 use Rattle.fits_session.specs.declared.refusal.Refusal.{Refusal}
 use Rattle.fits_session.specs.declared.refusal.Refusal.TheVariants as refusal
 use Rattle.fits_session.proofs.HadLemmas.{had_read, had_same}

@@ -6,9 +6,9 @@ use Rattle.fits_session.specs.File.{FileParts}
 use Rattle.fits_session.specs.Keeping.{stamp_follows, stamped_if}
 use Rattle.fits_session.specs.Marked.{UnmarkedArePlain, is_kept, marked_after, marked_refusal}
 use Rattle.fits_session.specs.Refusal.{refusal_in, refusal_of}
-use Rattle.fits_session.specs.declared.edit.Edit.TheVariants.{Hdu, NewImage, RemoveHdu}
-use Rattle.fits_session.specs.declared.hdu_edit.HduEdit.{HduEdit}
-use Rattle.fits_session.specs.declared.hdu_edit.HduEdit.TheVariants.{Cards, Keep, Pixels, Release, Reshape, Stamp}
+use Rattle.fits_edit.specs.declared.edit.Edit.TheVariants.{Hdu, NewImage, RemoveHdu}
+use Rattle.fits_edit.specs.declared.hdu_edit.HduEdit.{HduEdit}
+use Rattle.fits_edit.specs.declared.hdu_edit.HduEdit.TheVariants.{Cards, Keep, Pixels, Release, Reshape, Stamp}
 
 -- of marks of which none is set, none is
 none_kept : (n i : ℕ) → get_or (replicate n false) i false ≡ false

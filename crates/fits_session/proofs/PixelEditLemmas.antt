@@ -15,13 +15,14 @@ use Rattle.fits_hdu.specs.Work.{IsPatched, PixelWork, plane_work}
 use Rattle.fits_hdu.specs.declared.pixel_fault.PixelFault.{PixelFault}
 use Rattle.fits_hdu.specs.Pixels.{painted}
 use Rattle.fits_hdu.proofs.PixelLemmas.{painted_hdu}
-use Rattle.fits_session.specs.HduEdit.{hdu_made, hdu_painted, pixels_made, plane_paint, refusal_of_pixels, shaped}
+use Rattle.fits_session.specs.HduEdit.{hdu_made, hdu_painted, pixels_made, refusal_of_pixels, shaped}
 use Rattle.fits_session.specs.Keeping.{padded_if, spare_cards}
 use Rattle.fits_session.specs.Limits.{is_within_limits}
 use Rattle.fits_session.specs.Refusal.{limit_refusal, Fails, HduNeedsMemory, OrStampNeedsMemory}
 use Rattle.fits_session.specs.Session.{length_with, within_refusal, HduEditsTo, HduWork, IsFinished, PatchesIn}
-use Rattle.fits_session.specs.declared.hdu_edit.HduEdit.TheVariants.{Pixels}
-use Rattle.fits_session.specs.declared.paint.Paint.{Paint}
+use Rattle.fits_edit.specs.Paint.{plane_paint}
+use Rattle.fits_edit.specs.declared.hdu_edit.HduEdit.TheVariants.{Pixels}
+use Rattle.fits_edit.specs.declared.paint.Paint.{Paint}
 use Rattle.fits_session.specs.declared.refusal.Refusal.{Refusal}
 use Rattle.fits_session.proofs.KeepingLemmas.{hdu_long, padded_long}
 use Rattle.fits_session.proofs.HadLemmas.{had_held}

@@ -27,7 +27,7 @@ use Rattle.fits_session.specs.Limits.{is_within_limits}
 use Rattle.fits_session.specs.Refusal.{limit_refusal, Fails, HduNeedsMemory, OrStampNeedsMemory, ReshapeNeedsMemory}
 use Rattle.fits_session.specs.Session.{length_with, unread, within_refusal, HduEditsTo, HduWork, IsFinished, IsIdle, ReshapesIn}
 use Rattle.fits_session.specs.Work.{hdu_reads, reads_to_reshape}
-use Rattle.fits_session.specs.declared.hdu_edit.HduEdit.TheVariants.{Reshape}
+use Rattle.fits_edit.specs.declared.hdu_edit.HduEdit.TheVariants.{Reshape}
 use Rattle.fits_session.specs.declared.limits.TheConstants.{FILE_LIMIT}
 use Rattle.fits_session.specs.declared.refusal.Refusal.TheVariants as refusal
 use Rattle.fits_session.proofs.HadLemmas.{had_held, had_same}

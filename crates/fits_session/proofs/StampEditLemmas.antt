@@ -14,7 +14,7 @@ use Rattle.fits_session.specs.HduEdit.{hdu_made}
 use Rattle.fits_session.specs.Limits.{is_within_limits}
 use Rattle.fits_session.specs.Refusal.{limit_refusal, Fails, HduNeedsMemory}
 use Rattle.fits_session.specs.Session.{length_with, BlankWork, HduEditsTo}
-use Rattle.fits_session.specs.declared.hdu_edit.HduEdit.TheVariants.{Keep, Release, Stamp}
+use Rattle.fits_edit.specs.declared.hdu_edit.HduEdit.TheVariants.{Keep, Release, Stamp}
 use Rattle.fits_session.specs.declared.refusal.Refusal.{Refusal}
 use Rattle.fits_session.proofs.HadLemmas.{had_same}
 use Rattle.fits_session.proofs.MakingLemmas.{Lasts, blank_none, fits, length_reckoned, makes_not}

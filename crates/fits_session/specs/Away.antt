@@ -15,8 +15,8 @@ use Rattle.fits_session.specs.File.{FileParts}
 use Rattle.fits_session.specs.HduEdit.{needs_pixels}
 use Rattle.fits_session.specs.Reading.{ReadStops}
 use Rattle.fits_session.specs.Session.{SessionState}
-use Rattle.fits_session.specs.declared.edit.Edit.{Edit}
-use Rattle.fits_session.specs.declared.edit.Edit.TheVariants.{Hdu}
+use Rattle.fits_edit.specs.declared.edit.Edit.{Edit}
+use Rattle.fits_edit.specs.declared.edit.Edit.TheVariants.{Hdu}
 use Rattle.fits_session.specs.declared.read_fault.ReadFileFault.{ReadFileFault}
 
 -- each file of a kind tells its bytes

@@ -5,9 +5,9 @@ use Rattle.fits_hdu.specs.Hdu.{HduParts}
 use Rattle.fits_hdu.specs.NewImage.{new_image}
 use Rattle.fits_session.specs.File.{FileParts}
 use Rattle.fits_session.specs.HduEdit.{hdu_made, HasHduSizes}
-use Rattle.fits_session.specs.declared.edit.Edit.{Edit}
-use Rattle.fits_session.specs.declared.edit.Edit.TheVariants.{Hdu, NewImage, RemoveHdu}
-use Rattle.fits_session.specs.declared.hdu_edit.HduEdit.{HduEdit}
+use Rattle.fits_edit.specs.declared.edit.Edit.{Edit}
+use Rattle.fits_edit.specs.declared.edit.Edit.TheVariants.{Hdu, NewImage, RemoveHdu}
+use Rattle.fits_edit.specs.declared.hdu_edit.HduEdit.{HduEdit}
 use Rattle.fits_session.specs.declared.refusal.Refusal.{Refusal}
 
 -- HDU h, from 1, if it is there

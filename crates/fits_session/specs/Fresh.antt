@@ -11,7 +11,7 @@ use Rattle.fits_session.specs.Marked.{marked_after, Marked}
 use Rattle.fits_session.specs.Query.{card_count_in, datasum_in, kind_in, names_in, positions_in, rect_in, shape_in, stats_in, value_in, verdicts_in}
 use Rattle.fits_session.specs.Report.{counts_in, report_of}
 use Rattle.fits_session.specs.Session.{marked_of, EditsTo, SessionState}
-use Rattle.fits_session.specs.declared.edit.Edit.{Edit}
+use Rattle.fits_edit.specs.declared.edit.Edit.{Edit}
 use Rattle.fits_session.specs.declared.offsets.HduOffsets.{HduOffsets}
 use Rattle.fits_session.specs.declared.problem.Problem.{Problem}
 use Rattle.fits_session.specs.declared.refusal.Refusal.{Refusal}

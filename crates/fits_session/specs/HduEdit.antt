@@ -2,8 +2,6 @@
 use Rattle.std.specs.Prelude.{ℕ, Bool, true, false, List, Result, Ok, Err, if◌then◌else◌}
 use Rattle.fits_card.specs.Change.{cards_after}
 use Rattle.fits_card.specs.declared.change.Change.{Change}
-use Rattle.fits_plane.specs.declared.lent_paint.LentPaint.{LentPaint}
-use Rattle.fits_plane.specs.declared.lent_paint.LentPaint.TheVariants as plane
 use Rattle.fits_rules.specs.Shape.{shape_of}
 use Rattle.fits_rules.specs.declared.array_shape.Shape.{Shape}
 use Rattle.fits_hdu.specs.Hdu.{HduParts, hdu_after, keeps_shape}
@@ -16,10 +14,10 @@ use Rattle.fits_hdu.specs.declared.reshape_fault.ReshapeFault.{ReshapeFault}
 use Rattle.fits_hdu.specs.declared.reshape_fault.ReshapeFault.TheVariants as reshape
 use Rattle.fits_image.specs.declared.kind.Kind.{Kind}
 use Rattle.fits_session.specs.CardEdit.{change_of, HasCardSizes}
-use Rattle.fits_session.specs.declared.hdu_edit.HduEdit.{HduEdit}
-use Rattle.fits_session.specs.declared.hdu_edit.HduEdit.TheVariants.{Cards, Keep, Pixels, Release, Reshape, Stamp}
-use Rattle.fits_session.specs.declared.paint.Paint.{Paint}
-use Rattle.fits_session.specs.declared.paint.Paint.TheVariants.{Fill, Write}
+use Rattle.fits_edit.specs.Paint.{plane_paint}
+use Rattle.fits_edit.specs.declared.hdu_edit.HduEdit.{HduEdit}
+use Rattle.fits_edit.specs.declared.hdu_edit.HduEdit.TheVariants.{Cards, Keep, Pixels, Release, Reshape, Stamp}
+use Rattle.fits_edit.specs.declared.paint.Paint.{Paint}
 use Rattle.fits_session.specs.declared.refusal.Refusal.{Refusal}
 use Rattle.fits_session.specs.declared.refusal.Refusal.TheVariants as refusal
 
@@ -64,11 +62,6 @@ reshape_made (Err why) = Err (refusal_of_reshape why)
 abbrev pub hdu_reshaped : Result Shape ℕ → Kind → List ℕ → HduParts → Result HduParts Refusal
 hdu_reshaped (Ok shape) kind axes hdu = reshape_made (reshaped kind axes shape hdu)
 hdu_reshaped (Err place) kind axes hdu = Err refusal.NotImage
-
--- what a plane is given
-abbrev pub plane_paint : Paint → LentPaint
-plane_paint (Fill value) = plane.Fill value
-plane_paint (Write values) = plane.Write values
 
 -- an HDU with the pixels of a rectangle painted, or why not
 abbrev pub hdu_painted : Bool → List ℕ → List ℕ → Paint → HduParts → Result HduParts Refusal

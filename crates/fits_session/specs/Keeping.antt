@@ -7,8 +7,8 @@ use Rattle.fits_hdu.specs.State.{HduState, parts_of}
 use Rattle.fits_hdu.specs.Sums.{verdicts_of}
 use Rattle.fits_hdu.specs.declared.verdict.Verdict.TheVariants.{Right}
 use Rattle.fits_hdu.specs.declared.verdicts.Verdicts.{Verdicts}
-use Rattle.fits_session.specs.declared.hdu_edit.HduEdit.{HduEdit}
-use Rattle.fits_session.specs.declared.hdu_edit.HduEdit.TheVariants.{Cards, Keep, Pixels, Release, Reshape}
+use Rattle.fits_edit.specs.declared.hdu_edit.HduEdit.{HduEdit}
+use Rattle.fits_edit.specs.declared.hdu_edit.HduEdit.TheVariants.{Cards, Keep, Pixels, Release, Reshape}
 use Rattle.fits_session.specs.declared.refusal.Refusal.{Refusal}
 
 -- whether an HDU is kept after an edit of it

@@ -8,8 +8,8 @@ use Rattle.fits_session.specs.File.{FileParts}
 use Rattle.fits_session.specs.Keeping.{both_right, kept_after, stamp_follows, stamped_if}
 use Rattle.fits_session.specs.Query.{in_hdu}
 use Rattle.fits_session.specs.Refusal.{refusal_in, refusal_of}
-use Rattle.fits_session.specs.declared.edit.Edit.{Edit}
-use Rattle.fits_session.specs.declared.edit.Edit.TheVariants.{Hdu, NewImage, RemoveHdu}
+use Rattle.fits_edit.specs.declared.edit.Edit.{Edit}
+use Rattle.fits_edit.specs.declared.edit.Edit.TheVariants.{Hdu, NewImage, RemoveHdu}
 use Rattle.fits_session.specs.declared.refusal.Refusal.{Refusal}
 
 -- a file, and which of its HDUs are kept stamped

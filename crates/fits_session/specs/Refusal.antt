@@ -12,12 +12,12 @@ use Rattle.fits_session.specs.File.{FileParts, file_bytes}
 use Rattle.fits_session.specs.HduEdit.{hdu_made}
 use Rattle.fits_session.specs.Keeping.{padded_if}
 use Rattle.fits_session.specs.Limits.{is_within_limits}
-use Rattle.fits_session.specs.declared.card_edit.CardEdit.{CardEdit}
-use Rattle.fits_session.specs.declared.card_edit.CardEdit.TheVariants.{Delete, Move, Unset}
-use Rattle.fits_session.specs.declared.edit.Edit.{Edit}
-use Rattle.fits_session.specs.declared.edit.Edit.TheVariants.{Hdu, NewImage, RemoveHdu}
-use Rattle.fits_session.specs.declared.hdu_edit.HduEdit.{HduEdit}
-use Rattle.fits_session.specs.declared.hdu_edit.HduEdit.TheVariants.{Cards, Keep, Pixels, Release, Reshape, Stamp}
+use Rattle.fits_edit.specs.declared.card_edit.CardEdit.{CardEdit}
+use Rattle.fits_edit.specs.declared.card_edit.CardEdit.TheVariants.{Delete, Move, Unset}
+use Rattle.fits_edit.specs.declared.edit.Edit.{Edit}
+use Rattle.fits_edit.specs.declared.edit.Edit.TheVariants.{Hdu, NewImage, RemoveHdu}
+use Rattle.fits_edit.specs.declared.hdu_edit.HduEdit.{HduEdit}
+use Rattle.fits_edit.specs.declared.hdu_edit.HduEdit.TheVariants.{Cards, Keep, Pixels, Release, Reshape, Stamp}
 use Rattle.fits_session.specs.declared.refusal.Refusal.{Refusal}
 use Rattle.fits_session.specs.declared.refusal.Refusal.TheVariants.{NoHdu, NoCard, NoKey, BadText, EndCard, Shape, BadName, BadValue, NotImage, BadRect, WrongCount, Range, PrimaryStays, TooLarge, Memory}
 use Rattle.fits_value.specs.declared.write.WriteFault.{WriteFault}

@@ -23,10 +23,10 @@ use Rattle.fits_session.specs.Marked.{is_stamped_after, marked_after, marked_ref
 use Rattle.fits_session.specs.NameTable.{Stands}
 use Rattle.fits_session.specs.Refusal.{limit_refusal, ChangeNeedsMemory, EditNeedsMemory, Fails, HduNeedsMemory, OrStampNeedsMemory}
 use Rattle.fits_session.specs.Work.{edit_reads, follow_up_reads, hdu_reads}
-use Rattle.fits_session.specs.declared.edit.Edit.{Edit}
-use Rattle.fits_session.specs.declared.edit.Edit.TheVariants.{Hdu, NewImage, RemoveHdu}
-use Rattle.fits_session.specs.declared.hdu_edit.HduEdit.{HduEdit}
-use Rattle.fits_session.specs.declared.hdu_edit.HduEdit.TheVariants.{Pixels, Reshape}
+use Rattle.fits_edit.specs.declared.edit.Edit.{Edit}
+use Rattle.fits_edit.specs.declared.edit.Edit.TheVariants.{Hdu, NewImage, RemoveHdu}
+use Rattle.fits_edit.specs.declared.hdu_edit.HduEdit.{HduEdit}
+use Rattle.fits_edit.specs.declared.hdu_edit.HduEdit.TheVariants.{Pixels, Reshape}
 use Rattle.fits_session.specs.declared.refusal.Refusal.{Refusal}
 
 -- how the data units of a session are had: whether all of them are in memory, and the bytes of the file that the others lie in, where it

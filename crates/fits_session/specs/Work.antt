@@ -15,10 +15,11 @@ use Rattle.fits_session.specs.File.{FileParts}
 use Rattle.fits_session.specs.HduEdit.{hdu_made}
 use Rattle.fits_session.specs.Keeping.{stamp_follows}
 use Rattle.fits_session.specs.Marked.{Marked, is_kept}
-use Rattle.fits_session.specs.declared.card_edit.CardEdit.{CardEdit}
-use Rattle.fits_session.specs.declared.card_edit.CardEdit.TheVariants.{Set, Unset}
-use Rattle.fits_session.specs.declared.hdu_edit.HduEdit.{HduEdit}
-use Rattle.fits_session.specs.declared.hdu_edit.HduEdit.TheVariants.{Cards, Keep, Pixels, Release, Reshape, Stamp}
+use Rattle.fits_edit.specs.HduEdit.{may_rename}
+use Rattle.fits_edit.specs.declared.card_edit.CardEdit.{CardEdit}
+use Rattle.fits_edit.specs.declared.card_edit.CardEdit.TheVariants.{Set, Unset}
+use Rattle.fits_edit.specs.declared.hdu_edit.HduEdit.{HduEdit}
+use Rattle.fits_edit.specs.declared.hdu_edit.HduEdit.TheVariants.{Cards, Keep, Pixels, Release, Reshape, Stamp}
 use Rattle.fits_session.specs.declared.refusal.Refusal.{Refusal}
 
 -- so many are read to find a change, where there is one
@@ -59,11 +60,6 @@ abbrev pub follow_up_reads : Bool → Result HduParts Refusal → ℕ
 follow_up_reads false made = 0
 follow_up_reads true (Ok made) = stamp_reads made.header.cards
 follow_up_reads true (Err why) = 0
-
--- whether an edit may change what an HDU is called: one of cards may, and no other
-abbrev pub may_rename : HduEdit → Bool
-may_rename (Cards edit) = true
-may_rename edit = false
 
 -- how many cards are read after an edit that makes something of an HDU, to know what it is called then
 abbrev pub follow_reads : HduEdit → Result HduParts Refusal → ℕ

@@ -1,11 +1,7 @@
 //! A FITS file under edits: several HDUs and a tail, opened, changed, asked and saved.
 #![tactic(auto)]
 
-mod card_edit;
 mod card_report;
-mod corner;
-mod edit;
-mod hdu_edit;
 mod headers;
 mod holder;
 mod laws;
@@ -15,8 +11,6 @@ mod name_table;
 mod offsets;
 mod open_fault;
 mod outlines;
-mod paint;
-mod pixel_values;
 mod placing;
 mod problem;
 mod read_fault;
@@ -29,11 +23,8 @@ mod summing;
 mod walking;
 mod work_laws;
 
-pub use card_edit::CardEdit;
 pub use card_report::{CardReport, read_card_report};
-pub use corner::Corner;
-pub use edit::Edit;
-pub use hdu_edit::HduEdit;
+pub use fits_edit::{CardEdit, Corner, Edit, HduEdit, Paint, PixelValues};
 pub use headers::{Headers, read_headers};
 pub use holder::{Holder, InFile, InMemory};
 pub use laws::{
@@ -47,8 +38,6 @@ pub use limits::{FILE_LIMIT, HDU_LIMIT, within};
 pub use offsets::HduOffsets;
 pub use open_fault::OpenFault;
 pub use outlines::read_outlines;
-pub use paint::Paint;
-pub use pixel_values::PixelValues;
 pub use problem::Problem;
 pub use read_fault::ReadFileFault;
 pub use refusal::Refusal;

@@ -16,13 +16,13 @@ mod reshaping;
 mod saving;
 mod stamping;
 
-use crate::edit::Edit;
 use crate::holder::{Holder, InMemory};
 use crate::limits::FILE_LIMIT;
 use crate::name_table::NameTable;
 use crate::open_fault::OpenFault;
 use crate::read_fault::ReadFileFault;
 use crate::refusal::Refusal;
+use fits_edit::Edit;
 use fits_hdu::Hdu;
 use fits_stream::{Intake, Source};
 use naming::name_all;
@@ -193,5 +193,4 @@ impl<H: Holder + Drop> Session<H> {
     }
 }
 
-#[cfg(test)]
 mod fields;

@@ -22,10 +22,10 @@ ghost use Rattle.fits_session.specs.Edit.{hdu_edited};
 ghost use Rattle.fits_session.specs.Session.{unread, without_entries, works_of, Asks, AsksPixels, EditsTo, HduWork, PutsIn, ReadsOnceAtMost};
 ghost use Rattle.fits_session.specs.Session.{SessionState};
 ghost use Rattle.fits_session.specs.Work.{reads_in_all};
-ghost use Rattle.fits_session.specs.declared.card_edit.CardEdit.{CardEdit};
-ghost use Rattle.fits_session.specs.declared.edit.Edit.{Edit};
-ghost use Rattle.fits_session.specs.declared.hdu_edit.HduEdit.{HduEdit};
-ghost use Rattle.fits_session.specs.declared.paint.Paint.{Paint};
+ghost use Rattle.fits_edit.specs.declared.card_edit.CardEdit.{CardEdit};
+ghost use Rattle.fits_edit.specs.declared.edit.Edit.{Edit};
+ghost use Rattle.fits_edit.specs.declared.hdu_edit.HduEdit.{HduEdit};
+ghost use Rattle.fits_edit.specs.declared.paint.Paint.{Paint};
 ghost use Rattle.fits_session.specs.declared.refusal.Refusal.{Refusal};
 
 /// An edit of cards, or a stamp, reads cards of its HDU alone, at most four for each mandatory one,

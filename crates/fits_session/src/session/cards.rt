@@ -11,11 +11,10 @@ ghost use Rattle.fits_session.specs.declared.limits.TheConstants.{FILE_LIMIT};
 
 use super::changes::change_of;
 use super::keeping::{finish, spare_cards, stamp_cards};
-use crate::card_edit::CardEdit;
-use crate::hdu_edit::HduEdit;
 use crate::limits::{FILE_LIMIT, within};
 use crate::refusal::Refusal;
 use fits_card::{CARD_LEN, Change, header_len};
+use fits_edit::{CardEdit, HduEdit};
 use fits_hdu::Hdu;
 use std::alloc::Global;
 

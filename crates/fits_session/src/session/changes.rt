@@ -10,9 +10,9 @@ ghost use Rattle.fits_session.specs.CardEdit.{change_of, is_keyword_name, is_spl
 ghost use Rattle.fits_session.specs.Refusal.{CardEditNeedsMemory, ChangeFails};
 ghost use Rattle.fits_session.specs.Work.{own_reads, reads_to_find};
 
-use crate::card_edit::CardEdit;
 use crate::refusal::Refusal;
 use fits_card::{Card, Cards, Change, Name};
+use fits_edit::CardEdit;
 use fits_hdu::{Hdu, replacement};
 use fits_value::{Text, Value, write_value};
 use std::alloc::{AllocError, Global};

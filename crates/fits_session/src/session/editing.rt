@@ -14,10 +14,9 @@ use super::naming::follow;
 use super::pixels::paint_pixels;
 use super::reshaping::reshape;
 use super::stamping::stamp;
-use crate::edit::Edit;
-use crate::hdu_edit::HduEdit;
 use crate::holder::Holder;
 use crate::refusal::Refusal;
+use fits_edit::{Edit, HduEdit};
 use fits_hdu::Hdu;
 use std::alloc::Global;
 

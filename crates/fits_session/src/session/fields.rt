@@ -6,20 +6,13 @@ use crate::holder::InMemory;
 use crate::name_table::NameTable;
 use fits_hdu::{ExtensionName, Hdu};
 use std::alloc::Global;
-use std::test::Fail;
 
 // A value that holds no memory of its own.
 fn plain<T: Copy>(_value: T) {}
 
-/// Each field has the type that is written here: one more, or one of another type, doesn't compile.
-#[test]
-fn fields(rt: HostRuntime) -> Result<(), Fail> {
-    let mut bytes = [b' '; 2880];
-    bytes[..30].copy_from_slice(b"SIMPLE  =                    T");
-    bytes[80..110].copy_from_slice(b"BITPIX  =                    8");
-    bytes[160..190].copy_from_slice(b"NAXIS   =                    0");
-    bytes[240..243].copy_from_slice(b"END");
-    let session = Session::open(rt.alloc(), &bytes)?;
+/// Takes a session apart, and nothing calls it: each field has the type that is written here, and one
+/// more, or one of another type, doesn't compile.
+fn apart(session: Session<InMemory>) {
     let Session {
         hdus,
         len,
@@ -29,15 +22,11 @@ fn fields(rt: HostRuntime) -> Result<(), Fail> {
         holder,
     } = session;
     let NameTable { numbers, room } = names;
-    let hdus: Vec<Hdu> = hdus;
-    let tail: Vec<u8> = tail;
-    let numbers: Vec<(ExtensionName, usize)> = numbers;
+    let _hdus: Vec<Hdu> = hdus;
+    let _tail: Vec<u8> = tail;
+    let _numbers: Vec<(ExtensionName, usize)> = numbers;
     plain::<u64>(len);
     plain::<usize>(room);
     plain::<Global>(alloc);
     plain::<InMemory>(holder);
-    assert_eq!(rt; hdus.len(), 1);
-    assert_eq!(rt; tail.len(), 0);
-    assert_eq!(rt; numbers.len(), 0);
-    Ok(())
 }

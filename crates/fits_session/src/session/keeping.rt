@@ -8,8 +8,8 @@ ghost use Rattle.fits_session.specs.Limits.{is_within_limits};
 ghost use Rattle.fits_session.specs.Session.{HduEditsTo, IsFinished};
 
 use super::stamping::stamp;
-use crate::hdu_edit::HduEdit;
 use crate::refusal::Refusal;
+use fits_edit::HduEdit;
 use fits_hdu::{Hdu, StampCards};
 use std::alloc::{AllocError, Global};
 

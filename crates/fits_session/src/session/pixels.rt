@@ -7,10 +7,8 @@ ghost use Rattle.fits_session.specs.Session.{HduEditsTo, IsHeld};
 
 use super::cards::keeps_limits;
 use super::keeping::{finish, spare_cards, stamp_cards};
-use crate::corner::Corner;
-use crate::hdu_edit::HduEdit;
-use crate::paint::Paint;
 use crate::refusal::Refusal;
+use fits_edit::{Corner, HduEdit, Paint};
 use fits_hdu::Hdu;
 use std::alloc::Global;
 

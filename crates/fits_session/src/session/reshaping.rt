@@ -7,9 +7,9 @@ ghost use Rattle.fits_session.specs.Session.{HduEditsTo, IsHeld};
 
 use super::editing::hdu_len;
 use super::keeping::{finish, spare_cards, stamp_cards};
-use crate::hdu_edit::HduEdit;
 use crate::limits::FILE_LIMIT;
 use crate::refusal::Refusal;
+use fits_edit::HduEdit;
 use fits_hdu::Hdu;
 use fits_image::Kind;
 use fits_rules::{Axes, array_bits};

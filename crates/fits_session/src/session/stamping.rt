@@ -6,8 +6,8 @@ ghost use Rattle.fits_session.specs.Limits.{is_within_limits};
 ghost use Rattle.fits_session.specs.Session.{HduEditsTo};
 
 use super::cards::keeps_limits;
-use crate::hdu_edit::HduEdit;
 use crate::refusal::Refusal;
+use fits_edit::HduEdit;
 use fits_hdu::Hdu;
 use std::alloc::Global;
 

@@ -7,7 +7,7 @@ use Rattle.fits_hdu.specs.Hdu.{HduParts}
 use Rattle.fits_hdu.specs.State.{HduState, parts_of}
 use Rattle.fits_hdu.specs.Work.{plane_work}
 use Rattle.fits_hdu.proofs.PixelLemmas.{painted_hdu}
-use Rattle.fits_session.specs.HduEdit.{plane_paint}
+use Rattle.fits_edit.specs.Paint.{plane_paint}
 use Rattle.fits_session.specs.Keeping.{padded_if}
 use Rattle.fits_session.specs.Session.{length_with, IsFinished}
 use Rattle.fits_session.specs.declared.refusal.Refusal.TheVariants as refusal

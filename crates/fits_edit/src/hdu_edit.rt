@@ -36,10 +36,10 @@ pub enum HduEdit {
 
 impl HduEdit {
     ghost use Rattle.std.specs.Prelude.{◌≡◌};
-    ghost use Rattle.fits_session.specs.Work.{may_rename};
+    ghost use Rattle.fits_edit.specs.HduEdit.{may_rename};
 
-    // Whether it may change what an HDU is called.
-    pub(crate) fn may_rename(&self) -> bool
+    /// Whether it may change what an HDU is called.
+    pub fn may_rename(&self) -> bool
         ensures { result ≡ may_rename self.now }
     {
         matches!(self, HduEdit::Cards(_))

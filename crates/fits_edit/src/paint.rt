@@ -13,10 +13,10 @@ pub enum Paint {
 
 impl Paint {
     ghost use Rattle.std.specs.Prelude.{◌≡◌};
-    ghost use Rattle.fits_session.specs.HduEdit.{plane_paint};
+    ghost use Rattle.fits_edit.specs.Paint.{plane_paint};
 
-    // The same, lent to a plane.
-    pub(crate) fn lent(&self) -> LentPaint<'_>
+    /// The same, lent to a plane.
+    pub fn lent(&self) -> LentPaint<'_>
         ensures { result ≡ plane_paint self.now }
     {
         match self {

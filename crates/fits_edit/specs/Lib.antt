@@ -1,0 +1,2 @@
+pub mod HduEdit
+pub mod Paint
