@@ -8,7 +8,6 @@ pub mod LinesLemmas
 pub mod ListingLemmas
 pub mod NewErrorLemmas
 pub mod NumberedLemmas
-pub mod OutputLemmas
 pub mod PixelAnswerLemmas
 pub mod PixelLineLemmas
 pub mod PlacesLemmas

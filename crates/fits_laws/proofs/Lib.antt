@@ -1,0 +1,13 @@
+pub mod BoundLemmas
+pub mod FileKindLemmas
+pub mod FileLemmas
+pub mod FreshLemmas
+pub mod FrontLemmas
+pub mod HeadersLemmas
+pub mod LargeLemmas
+pub mod MarkedLemmas
+pub mod OutputLemmas
+pub mod ProblemLemmas
+pub mod RepeatedLemmas
+pub mod RightLemmas
+pub mod SetLemmas

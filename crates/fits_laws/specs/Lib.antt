@@ -1,0 +1,5 @@
+pub mod Bounds
+pub mod Edits
+pub mod Files
+pub mod Fresh
+pub mod Problems

@@ -1,0 +1,6 @@
+//! Laws of the definitions, by layer: each is the contract of a function that does nothing.
+#![tactic(auto)]
+
+pub mod script;
+pub mod session;
+pub mod work;
