@@ -4,7 +4,8 @@ use Rattle.std.specs.Prelude.{◌↔◌, ok_or, Result, Ok, Err}
 use Rattle.fits_rules.specs.Shape.{shape_of}
 use Rattle.fits_rules.specs.declared.array_shape.Shape.{Shape}
 use Rattle.fits_hdu.specs.Hdu.{HduParts}
-use Rattle.fits_image.specs.Kind.{kind_in as hdu_kind, IsKind}
+use Rattle.fits_image.specs.Kind.{kind_in as hdu_kind}
+use Rattle.fits_laws.specs.Kinds.{IsKind}
 use Rattle.fits_image.specs.declared.kind.Kind.{Kind}
 use Rattle.fits_hdu.specs.declared.pixel_fault.PixelFault.{PixelFault}
 use Rattle.fits_hdu.specs.declared.pixel_fault.PixelFault.TheVariants as pixel

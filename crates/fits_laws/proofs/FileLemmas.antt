@@ -7,7 +7,7 @@ use Rattle.std.proofs.lemmas.List.{length-append}
 use Rattle.fits_hdu.specs.Hdu.{HduParts, hdu_bytes, IsHduOf, HasHduFault}
 use Rattle.fits_hdu.specs.declared.fault.HduFault.{HduFault}
 use Rattle.fits_hdu.specs.declared.fault.HduFault.TheVariants as hdu_fault
-use Rattle.fits_hdu.proofs.HduLemmas.{no_fault, one_fault, hdu_or_fault, BeginsWithHdu}
+use Rattle.fits_laws.proofs.HduLemmas.{no_fault, one_fault, hdu_or_fault, BeginsWithHdu}
 use Rattle.fits_session.specs.File.{FileParts, begins_extension, is_first, goes_on, IsFrontOf, IsFileOf}
 use Rattle.fits_session.specs.declared.limits.TheConstants.{FILE_LIMIT, HDU_LIMIT}
 use Rattle.fits_session.specs.Opening.{BeginsAsFits, StopsAt, FailsAt, HasTooManyHdus, HasOpenFault, open_fault_of}

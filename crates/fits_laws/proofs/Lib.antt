@@ -1,11 +1,17 @@
 pub mod BoundLemmas
 pub mod FileKindLemmas
 pub mod FileLemmas
+pub mod FindingsLemmas
 pub mod FreshLemmas
 pub mod FrontLemmas
+pub mod HduLemmas
 pub mod HeadersLemmas
+pub mod ImageKindLemmas
+pub mod KindLemmas
 pub mod LargeLemmas
+pub mod LinkLemmas
 pub mod MarkedLemmas
+pub mod NameLemmas
 pub mod OutputLemmas
 pub mod ProblemLemmas
 pub mod RepeatedLemmas

@@ -7,7 +7,7 @@ use Rattle.fits_session.specs.Headers.{AreHeadersIn, cards_of}
 use Rattle.fits_rules.specs.Shape.{shape_of}
 use Rattle.fits_rules.specs.declared.array_shape.Shape.{Shape}
 use Rattle.fits_hdu.specs.Hdu.{HduParts}
-use Rattle.fits_image.specs.Kind.{IsKind}
+use Rattle.fits_laws.specs.Kinds.{IsKind}
 use Rattle.fits_image.specs.declared.kind.Kind.{Kind}
 use Rattle.fits_session.specs.Edit.{hdu_of, is_primary_hdu}
 

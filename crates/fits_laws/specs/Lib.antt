@@ -2,4 +2,5 @@ pub mod Bounds
 pub mod Edits
 pub mod Files
 pub mod Fresh
+pub mod Kinds
 pub mod Problems

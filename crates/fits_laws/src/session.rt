@@ -30,7 +30,7 @@ ghost use Rattle.fits_session.specs.declared.open_fault.OpenFault.{OpenFault};
 ghost use Rattle.fits_session.specs.declared.problem.Problem.{Problem};
 ghost use Rattle.fits_session.specs.declared.refusal.Refusal.TheVariants.{Memory, TooLarge};
 
-use fits_image::which_kind_an_image_has;
+use crate::image::which_kind_an_image_has;
 
 /// Bytes are one file at most.
 pub fn one_file()
