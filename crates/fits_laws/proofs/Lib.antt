@@ -10,10 +10,17 @@ pub mod ImageKindLemmas
 pub mod KindLemmas
 pub mod LargeLemmas
 pub mod LinkLemmas
+pub mod LongSaysLemmas
+pub mod LongStringLemmas
+pub mod LongValueLemmas
 pub mod MarkedLemmas
 pub mod NameLemmas
+pub mod OneValueLemmas
 pub mod OutputLemmas
 pub mod ProblemLemmas
+pub mod ReadBackLemmas
 pub mod RepeatedLemmas
 pub mod RightLemmas
 pub mod SetLemmas
+pub mod TextLemmas
+pub mod WrittenStringLemmas

@@ -19,7 +19,7 @@ use Rattle.fits_value.specs.Spelling.{doubled}
 use Rattle.fits_value.specs.Written.{card_of, cards_of, cards_of_string, characters_of, continue_lead, fitting, is_long, quoted, value_field, value_lead, write_says}
 use Rattle.fits_value.specs.declared.value.Value.{Value}
 use Rattle.fits_value.proofs.InnerLemmas.{settable_valued}
-use Rattle.fits_value.proofs.ReadBackLemmas.{written_said}
+use Rattle.fits_laws.proofs.ReadBackLemmas.{written_said}
 use Rattle.fits_value.proofs.WritableLemmas.{says_parts}
 use Rattle.fits_value.proofs.WrittenLemmas.{commented_after, lead_name, lead_mark}
 use Rattle.fits_rules.specs.Lead.{is_value_of, lead_place}

@@ -3,4 +3,5 @@ pub mod Edits
 pub mod Files
 pub mod Fresh
 pub mod Kinds
+pub mod LongStrings
 pub mod Problems

@@ -6,4 +6,6 @@ pub mod header;
 pub mod image;
 pub mod script;
 pub mod session;
+pub mod value;
 pub mod work;
+pub mod write;
