@@ -19,6 +19,7 @@ pub mod ReportLemmas
 pub mod ResultLemmas
 pub mod RunLemmas
 pub mod ScriptLemmas
+pub mod SizeLemmas
 pub mod StatingLemmas
 pub mod SummingLemmas
 pub mod TellingLemmas
