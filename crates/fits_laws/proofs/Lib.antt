@@ -2,11 +2,14 @@ pub mod BoundLemmas
 pub mod FileKindLemmas
 pub mod FileLemmas
 pub mod FindingsLemmas
+pub mod FormLemmas
 pub mod FreshLemmas
 pub mod FrontLemmas
 pub mod HduLemmas
 pub mod HeadersLemmas
+pub mod ImageFormLemmas
 pub mod ImageKindLemmas
+pub mod JoinedLemmas
 pub mod KindLemmas
 pub mod LargeLemmas
 pub mod LinkLemmas
@@ -17,10 +20,12 @@ pub mod MarkedLemmas
 pub mod NameLemmas
 pub mod OneValueLemmas
 pub mod OutputLemmas
+pub mod PixelFormLemmas
 pub mod ProblemLemmas
 pub mod ReadBackLemmas
 pub mod RepeatedLemmas
 pub mod RightLemmas
+pub mod SaidLemmas
 pub mod SetLemmas
 pub mod TextLemmas
 pub mod WrittenStringLemmas

@@ -4,7 +4,7 @@ use Rattle.std.proofs.lemmas.List.Elements.{All-head, All-tail}
 use Rattle.fits_cli.specs.declared.limits.TheConstants.{SCRIPT_LIMIT}
 use Rattle.fits_cli.specs.Script.{HasNoLineFeed, ended_lines, IsCutInLines}
 use Rattle.fits_cli.specs.Output.{Output, IsOutputOf, output_unopened, output_of_cut}
-use Rattle.fits_script.proofs.CutLemmas.{one_cut_at, not_without}
+use Rattle.fits_laws.proofs.JoinedLemmas.{one_cut_at, not_without}
 use Rattle.fits_cli.proofs.LinesLemmas.{a_cut}
 use Rattle.fits_laws.proofs.FileLemmas.{one_file, no_open_fault, one_open_fault, file_or_fault}
 

@@ -1,6 +1,7 @@
 pub mod Bounds
 pub mod Edits
 pub mod Files
+pub mod Forms
 pub mod Fresh
 pub mod Kinds
 pub mod LongStrings

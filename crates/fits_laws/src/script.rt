@@ -1,6 +1,6 @@
 //! Laws of the definitions, each the contract of a function that does nothing.
 ghost use Rattle.std.specs.Prelude.{◌≡◌, ◌↔◌, ◌+◌, ◌<◌, ℕ, AllPairs, List, Some, length, take};
-ghost use Rattle.fits_script.specs.Forms.{Says};
+ghost use Rattle.fits_laws.specs.Forms.{Says};
 ghost use Rattle.fits_script.specs.declared.command.Command.{Command};
 ghost use Rattle.fits_script.specs.declared.limits.TheConstants.{LINE_LIMIT};
 ghost use Rattle.fits_script.specs.Line.{command_of, reading_of};

@@ -1,4 +1,4 @@
-use Rattle.fits_script.proofs.SaidLemmas.{command_of-says, Says-command_of}
+use Rattle.fits_laws.proofs.SaidLemmas.{command_of-says, Says-command_of}
 use Rattle.fits_laws.proofs.script.what_a_line_says.Goals as goal
 
 pub returns : goal.returns

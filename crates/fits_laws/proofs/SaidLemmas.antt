@@ -14,7 +14,7 @@ use Rattle.fits_session.specs.declared.hdu_edit.HduEdit.TheVariants.{Cards, Keep
 use Rattle.fits_session.specs.declared.paint.Paint.{Paint}
 use Rattle.fits_session.specs.declared.paint.Paint.TheVariants.{Fill, Write}
 use Rattle.fits_script.specs.Cut.{HasNo}
-use Rattle.fits_script.specs.Forms.{IsAlone, IsCardForm, IsFieldForm, IsMoveForm, IsNameForm, IsArrayForm, IsNumber, IsPaintForm, IsPlaceForm, IsRectangleForm, Names, Says, followed, kind_word, paint_word}
+use Rattle.fits_laws.specs.Forms.{IsAlone, IsCardForm, IsFieldForm, IsMoveForm, IsNameForm, IsArrayForm, IsNumber, IsPaintForm, IsPlaceForm, IsRectangleForm, Names, Says, followed, kind_word, paint_word}
 use Rattle.fits_script.specs.Line.{after_word, alone, axes_last, card_last, card_words, cards_command, command_of, field_words, fill_words, first_word, hdu_said, kind_first, move_words, name_first, name_word, array_words, number_first, place_word, rectangle_first, rectangle_word, said_by, said_of, value_last, values_last, verb_of, verb_said, verb_word, words_said, write_words}
 use Rattle.fits_script.specs.declared.command.Command.{Command}
 use Rattle.fits_script.specs.declared.command.Command.TheVariants.{Nothing, Edit, Offsets, Get, Positions, Report, Statistics, Rectangle, Sums, Kept}
@@ -22,9 +22,10 @@ use Rattle.fits_script.specs.declared.verb.Verb.{Verb}
 use Rattle.fits_script.specs.declared.verb.Verb.TheVariants as verb
 use Rattle.fits_script.specs.declared.word_fault.WordFault.{WordFault}
 use Rattle.fits_script.specs.declared.word_fault.WordFault.TheVariants.{NoHdu, OtherWords}
-use Rattle.fits_script.proofs.FormLemmas.{first_word-followed, after_word-followed, either_some, followed-after_word, number_first-is, name_first-is, card_last-is, IsCard-is, NumberFirst-is, NameFirst-is, alone-is, followed-nothing}
-use Rattle.fits_script.proofs.ImageFormLemmas.{axes_last-is, axes_last-says, kind_first-is, kind_first-says}
-use Rattle.fits_script.proofs.PixelFormLemmas.{rectangle_first-is, RectangleFirst-is, value_last-is, value_last-says, values_last-is, values_last-says}
+use Rattle.fits_script.proofs.VerbLemmas.{either_some}
+use Rattle.fits_laws.proofs.FormLemmas.{first_word-followed, after_word-followed, followed-after_word, number_first-is, name_first-is, card_last-is, IsCard-is, NumberFirst-is, NameFirst-is, alone-is, followed-nothing}
+use Rattle.fits_laws.proofs.ImageFormLemmas.{axes_last-is, axes_last-says, kind_first-is, kind_first-says}
+use Rattle.fits_laws.proofs.PixelFormLemmas.{rectangle_first-is, RectangleFirst-is, value_last-is, value_last-says, values_last-is, values_last-says}
 use Rattle.fits_script.proofs.VerbLemmas.{verb_of-says}
 
 -- `P CARD`, where it is written so

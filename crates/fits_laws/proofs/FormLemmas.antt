@@ -9,7 +9,7 @@ use Rattle.fits_card.specs.Card.{card_of_text}
 use Rattle.fits_value.specs.Number.{value_of}
 use Rattle.fits_value.specs.Spelling.{is_digit, is_space}
 use Rattle.fits_script.specs.Cut.{HasNo}
-use Rattle.fits_script.specs.Forms.{followed, IsNumber, IsName, IsCard}
+use Rattle.fits_laws.specs.Forms.{followed, IsNumber, IsName, IsCard}
 use Rattle.fits_script.specs.Line.{after_word, alone, card_last, first_word, name_first, name_of_text, name_of_word, number_first, number_of_word}
 use Rattle.fits_script.proofs.WordLemmas.{first_word-alone, after_word-alone, first_word-cut, after_word-cut}
 
@@ -79,12 +79,6 @@ three_parts false b c e = absurd (let z : false ≡ true = e in cc)
 pub tested_some : {X P : Type 0} (test : Bool) (x y : X) → (if test then Some x else None) ≡ Some y → (test ≡ true → x ≡ y → P) → P
 tested_some {X = X} true x y e give = give refl (let z : ◌≡◌ {A = Option X} (Some x) (Some y) = e in cc)
 tested_some {X = X} false x y e give = absurd (let z : ◌≡◌ {A = Option X} None (Some y) = e in cc)
-
--- one of two things is there
-pub either_some : {X P : Type 0} (test : Bool) (a b : Option X) (x : X) → (if test then a else b) ≡ Some x
-    → (test ≡ true → a ≡ Some x → P) → (test ≡ false → b ≡ Some x → P) → P
-either_some true a b x e first next = first refl e
-either_some false a b x e first next = next refl e
 
 -- a word with a number is one
 pub IsNumber-is : (word : List ℕ) (number : ℕ) → number_of_word word ≡ Some number → IsNumber word number

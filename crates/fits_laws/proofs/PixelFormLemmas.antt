@@ -7,11 +7,11 @@ use Rattle.std.proofs.lemmas.Option.{option_and_then_some}
 use Rattle.fits_value.specs.Number.{signed, value_of}
 use Rattle.fits_value.specs.Spelling.{is_digit}
 use Rattle.fits_script.specs.Cut.{HasNo}
-use Rattle.fits_script.specs.Forms.{followed, minus_if, AreAxes, AreValues, IsAxis, IsRectangle, IsValue, IsValues}
+use Rattle.fits_laws.specs.Forms.{followed, minus_if, AreAxes, AreValues, IsAxis, IsRectangle, IsValue, IsValues}
 use Rattle.fits_script.specs.Line.{after_colon, after_word, axis_of_word, before_colon, corners_of_word, each_read, first_word, is_negative, is_number, list_of_text, number_of_word, rectangle_first, value_last, value_of_word, values_last, without_minus}
-use Rattle.fits_script.proofs.FormLemmas.{first_word-followed, after_word-followed, followed-after_word, number_of_word-is, three_parts, tested_some, IsNumber-is}
-use Rattle.fits_script.proofs.PartsLemmas.{before_colon-cut, after_colon-cut, joined-parts, some_parts, EachHasNo}
-use Rattle.fits_script.proofs.ListLemmas.{each_read-none, each_read-some, list_of_text-joined}
+use Rattle.fits_laws.proofs.FormLemmas.{first_word-followed, after_word-followed, followed-after_word, number_of_word-is, three_parts, tested_some, IsNumber-is}
+use Rattle.fits_script.proofs.PartsLemmas.{before_colon-cut, after_colon-cut}
+use Rattle.fits_laws.proofs.JoinedLemmas.{joined-parts, some_parts, EachHasNo, each_read-none, each_read-some, list_of_text-joined}
 
 -- a digit is none of the bytes that stand between numbers
 pub digit-between : (byte : ℕ) → is_digit byte ≡ true → ((byte == 58) ≡ false) × ((byte == 44) ≡ false) × ((byte == 32) ≡ false) × ((byte == 45) ≡ false)

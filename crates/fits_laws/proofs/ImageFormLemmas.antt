@@ -9,12 +9,12 @@ use Rattle.std.proofs.lemmas.Slice.Eq.{bytes_eq-Decides}
 use Rattle.fits_image.specs.declared.kind.Kind.{Kind}
 use Rattle.fits_image.specs.declared.kind.Kind.TheVariants.{U8, I8, I16, U16, I32, U32, I64, U64}
 use Rattle.fits_script.specs.Cut.{HasNo}
-use Rattle.fits_script.specs.Forms.{followed, kind_word, AreNumbers, IsAxes, IsLengths}
+use Rattle.fits_laws.specs.Forms.{followed, kind_word, AreNumbers, IsAxes, IsLengths}
 use Rattle.fits_script.specs.Line.{after_word, axes_last, axes_of_word, each_read, first_word, kind_first, kind_of_word, list_of_text, number_of_word}
-use Rattle.fits_script.proofs.FormLemmas.{first_word-followed, after_word-followed, either_some, followed-after_word, number_of_word-is, IsNumber-is}
-use Rattle.fits_script.proofs.ListLemmas.{each_read-none, each_read-some, list_of_text-joined}
-use Rattle.fits_script.proofs.PartsLemmas.{joined-parts, some_parts, EachHasNo}
-use Rattle.fits_script.proofs.PixelFormLemmas.{digit-between, digits_without}
+use Rattle.fits_script.proofs.VerbLemmas.{either_some}
+use Rattle.fits_laws.proofs.FormLemmas.{first_word-followed, after_word-followed, followed-after_word, number_of_word-is, IsNumber-is}
+use Rattle.fits_laws.proofs.JoinedLemmas.{each_read-none, each_read-some, list_of_text-joined, joined-parts, some_parts, EachHasNo}
+use Rattle.fits_laws.proofs.PixelFormLemmas.{digit-between, digits_without}
 
 -- the kind of a kind's word
 kind_of_word-is : (kind : Kind) → kind_of_word (kind_word kind) ≡ Some kind
