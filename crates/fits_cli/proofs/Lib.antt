@@ -8,7 +8,6 @@ pub mod LinesLemmas
 pub mod ListingLemmas
 pub mod NewErrorLemmas
 pub mod NumberedLemmas
-pub mod OutputLemmas
 pub mod PixelAnswerLemmas
 pub mod PixelLineLemmas
 pub mod PlacesLemmas
@@ -20,6 +19,7 @@ pub mod ReportLemmas
 pub mod ResultLemmas
 pub mod RunLemmas
 pub mod ScriptLemmas
+pub mod SizeLemmas
 pub mod StatingLemmas
 pub mod SummingLemmas
 pub mod TellingLemmas

@@ -17,7 +17,6 @@ mod end;
 mod fault;
 mod file_fault;
 mod kept_line;
-mod laws;
 mod level;
 mod limits;
 mod listing;
@@ -59,10 +58,6 @@ pub use editing::{run_edit, run_edit_stored, run_edit_told};
 pub use end::End;
 pub use fault::Fault;
 pub use file_fault::FileFault;
-pub use laws::{
-    a_cut, a_script_leaves_a_file, an_output, more_of_an_error_is_a_new_error, one_cut, one_output,
-    reading_of_a_front, what_a_line_says,
-};
 pub use level::Level;
 pub use limits::SCRIPT_LIMIT;
 pub use listing::run_list;

@@ -1,5 +1,4 @@
 pub mod ChangeLemmas
-pub mod FindingsLemmas
 pub mod HduLemmas
 pub mod HeadedLemmas
 pub mod KeywordLemmas

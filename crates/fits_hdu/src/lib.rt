@@ -16,7 +16,6 @@ mod image_pixels;
 mod kept;
 mod keyword;
 mod keyword_cards;
-mod laws;
 mod layout;
 mod new_image;
 mod one_card;
@@ -52,14 +51,6 @@ pub use headed::Headed;
 pub use kept::Kept;
 pub use keyword::KeywordFault;
 pub use keyword_cards::{KeywordCards, replacement};
-pub use laws::{
-    a_change_leaves_an_hdu, a_datasum_card_is_written, a_reshape_leaves_other_leads,
-    a_reshaped_hdu_keeps_its_name, a_reshaped_pixel_keeps_its_value, a_stamped_hdu_is_right,
-    a_stamped_hdu_keeps_its_name, an_hdu_or_a_fault, how_hdus_begin, new_images_are_hdus,
-    no_fault_at_an_hdu, one_hdu, one_hdu_fault, one_list_of_findings, painted_hdus_are_hdus,
-    reshaped_hdus_are_hdus, scalings_give_their_offset, scalings_keep_shapes,
-    stamped_hdus_are_hdus, stamped_hdus_sum_to_all_ones,
-};
 pub use new_image::image_len;
 pub use outline::Outline;
 pub use passed_hdu::PassedHdu;

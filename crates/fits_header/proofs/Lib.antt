@@ -15,7 +15,6 @@ pub mod StretchLemmas
 pub mod TurnLemmas
 pub mod HeaderMarkLemmas
 pub mod StandardFacts
-pub mod LinkLemmas
 pub mod HeaderLemmas
 pub mod NoteLemmas
 pub mod PlaceLemmas

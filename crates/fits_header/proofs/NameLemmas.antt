@@ -1,21 +1,20 @@
 -- The names of a header, each once, ascending.
-use Rattle.std.proofs.Common.{◌≡◌, IsTrue, ℕ, suc, ◌+◌, ◌<◌, ◌≤◌, ◌==◌, ◌||◌, ◌^◌, nat_lt, nat_eq, Bool, true, false, cond, List, [], ◌∷◌, get_or, filter, map, ap, sym, ◌∙◌, refl, subst, arith, inl, inr}
-use Rattle.std.specs.List.{All, AllPairs, Contains, dedup, list_any}
+use Rattle.std.proofs.Common.{◌≡◌, ℕ, suc, ◌+◌, ◌<◌, ◌≤◌, ◌==◌, ◌||◌, ◌^◌, nat_lt, nat_eq, Bool, true, false, cond, List, [], ◌∷◌, get_or, filter, map, ap, sym, ◌∙◌, refl, subst, arith, inl, inr}
+use Rattle.std.specs.List.{All, AllPairs, dedup, list_any}
 use Rattle.std.specs.List.Sorted.{IsStrictlyIncreasing}
 use Rattle.std.specs.Int.{to_be_bytes, w64}
-use Rattle.std.specs.Cmp.{IsEquivalence, nat_eq_equiv}
+use Rattle.std.specs.Cmp.{nat_eq_equiv}
 use Rattle.std.specs.Str.{bytes_eq}
 use Rattle.std.proofs.lemmas.Bool.{cases_lt}
 use Rattle.std.proofs.lemmas.Bool.Decides.{nat_tests}
-use Rattle.std.proofs.lemmas.List.Elements.{All-nil, All-cons, All-tail, All-map}
+use Rattle.std.proofs.lemmas.List.Elements.{All-nil, All-cons, All-tail}
 use Rattle.std.proofs.lemmas.List.Kept.{AllPairs-cons, AllPairs-from_increasing, Contains-dedup_nat, Contains-from_dedup}
-use Rattle.std.proofs.lemmas.Slice.Eq.{bytes_eq-Decides}
 use Rattle.std.proofs.lemmas.Map.Views.{list_any-from_Contains, Contains-from_any}
 use Rattle.fits_card.specs.Card.{keyword_name}
 use Rattle.fits_header.specs.declared.entry.Entry.{Entry}
 use Rattle.fits_header.specs.Index.{is_named, entries_from, IsIndexOf}
-use Rattle.fits_header.specs.Names.{AreNamed, IsName, name_number, is_before, with_name, header_names, AreNamesOf}
-use Rattle.fits_header.proofs.NumberLemmas.{before-number, same-number, name-bytes, bytes-name, bytes-number, number-fits, earlier}
+use Rattle.fits_header.specs.Names.{AreNamed, IsName, name_number, is_before, with_name, header_names}
+use Rattle.fits_header.proofs.NumberLemmas.{before-number, same-number, name-bytes, bytes-name, bytes-number, number-fits}
 
 -- ascending numbers with one more, where it goes, unless it is there
 abbrev with_number : ℕ → List ℕ → List ℕ
@@ -23,7 +22,7 @@ with_number n [] = n ∷ []
 with_number n (m ∷ ms) = cond (nat_lt n m) (n ∷ m ∷ ms) (cond (n == m) (m ∷ ms) (m ∷ with_number n ms))
 
 -- the numbers of the cards' names, each once, ascending
-abbrev numbers_of : List (List ℕ) → List ℕ
+abbrev pub numbers_of : List (List ℕ) → List ℕ
 numbers_of [] = []
 numbers_of (card ∷ cards) = with_number (name_number (keyword_name card)) (numbers_of cards)
 
@@ -44,15 +43,15 @@ All-with P n (m ∷ ms) here others =
     All-with_by P (nat_lt n m) (n == m) n m ms here (others 0 m (omega arith)) (All-tail P m ms others) (All-with P n ms here (All-tail P m ms others))
 
 -- each is smaller than all behind it
-abbrev Rises : List ℕ → Type 0
+abbrev pub Rises : List ℕ → Type 0
 Rises ns = AllPairs (λ (x y : ℕ). x < y) ns
 
 -- the rest of rising numbers rises
-rises_tail : (n : ℕ) (ns : List ℕ) → Rises (n ∷ ns) → Rises ns
+pub rises_tail : (n : ℕ) (ns : List ℕ) → Rises (n ∷ ns) → Rises ns
 rises_tail n ns h = λ i j d l m. h (suc i) (suc j) d (omega arith) (omega arith)
 
 -- and lies above the first
-rises_first : (n : ℕ) (ns : List ℕ) → Rises (n ∷ ns) → All (λ m. n < m) ns
+pub rises_first : (n : ℕ) (ns : List ℕ) → Rises (n ∷ ns) → All (λ m. n < m) ns
 rises_first n ns h = λ k d l. h 0 (suc k) d (omega arith) (omega arith)
 
 -- below the first is below all
@@ -78,14 +77,14 @@ rises-with n [] h = λ i j d l m. absurd (omega arith)
 rises-with n (m ∷ ms) h = rises-with_by (nat_lt n m) (n == m) n m ms refl refl h (rises-with n ms (rises_tail m ms h))
 
 -- three facts in another order
-or_swap : (a b c : Bool) → (a || (b || c)) ≡ (b || (a || c))
+pub or_swap : (a b c : Bool) → (a || (b || c)) ≡ (b || (a || c))
 or_swap true true c = refl
 or_swap true false c = refl
 or_swap false true c = refl
 or_swap false false c = refl
 
 -- a fact said twice
-or_same : (a c : Bool) → (a || c) ≡ (a || (a || c))
+pub or_same : (a c : Bool) → (a || c) ≡ (a || (a || c))
 or_same true c = refl
 or_same false c = refl
 
@@ -145,7 +144,7 @@ rising_same (x ∷ xs) (y ∷ ys) up rise same =
     (λ q. rest_by (nat_eq q x) q x xs ys refl (rises_first x xs up) (rises_first x ys rise') (same' q)))
 
 -- the numbers of cards rise
-numbers-rise : (cards : List (List ℕ)) → Rises (numbers_of cards)
+pub numbers-rise : (cards : List (List ℕ)) → Rises (numbers_of cards)
 numbers-rise [] = λ i j d l m. absurd (omega arith)
 numbers-rise (card ∷ cards) = rises-with (name_number (keyword_name card)) (numbers_of cards) (numbers-rise cards)
 
@@ -180,7 +179,7 @@ has-names q [] = refl
 has-names q (e ∷ es) = ap (λ b. b || has_number q (map (λ (e : Entry). e.name) es)) (same_eq q e.name) ∙ ap (λ b. (e.name == q) || b) (has-names q es)
 
 -- two tests that imply each other are equal
-iff : (a b : Bool) → (a ≡ true → b ≡ true) → (b ≡ true → a ≡ true) → a ≡ b
+pub iff : (a b : Bool) → (a ≡ true → b ≡ true) → (b ≡ true → a ≡ true) → a ≡ b
 iff true b h g = sym (h refl)
 iff false true h g = g refl
 iff false false h g = refl
@@ -218,13 +217,13 @@ map-with name (m ∷ ms) is fits =
     ∙ map-with_by (nat_lt n m) (n == m) name n m ms (name-bytes name is) (map-with name ms is (All-tail (λ m. m < 2 ^ 64) m ms fits)))
 
 -- the numbers of names have 64 bits
-numbers-fit : (cards : List (List ℕ)) → AreNamed cards → All (λ m. m < 2 ^ 64) (numbers_of cards)
+pub numbers-fit : (cards : List (List ℕ)) → AreNamed cards → All (λ m. m < 2 ^ 64) (numbers_of cards)
 numbers-fit [] named = All-nil (λ m. m < 2 ^ 64)
 numbers-fit (card ∷ cards) named =
     All-with (λ m. m < 2 ^ 64) (name_number (keyword_name card)) (numbers_of cards) (number-fits (keyword_name card) (named 0 card (omega arith))) (numbers-fit cards (All-tail (λ (card : List ℕ). IsName (keyword_name card)) card cards named))
 
 -- the names of a header are those of its numbers
-names-numbers : (cards : List (List ℕ)) → AreNamed cards → header_names cards ≡ map (to_be_bytes w64) (numbers_of cards)
+pub names-numbers : (cards : List (List ℕ)) → AreNamed cards → header_names cards ≡ map (to_be_bytes w64) (numbers_of cards)
 names-numbers [] named = refl
 names-numbers (card ∷ cards) named =
     let others = All-tail (λ (card : List ℕ). IsName (keyword_name card)) card cards named in
@@ -241,66 +240,3 @@ index-names es cards index rise =
     ∙ sym (names-numbers cards index.named)
 
 pub ruleset name_steps = (index-names)
-
--- a smaller number has smaller bytes
-before_bytes : (m n : ℕ) → m < 2 ^ 64 → n < 2 ^ 64 → m < n → IsTrue (is_before (to_be_bytes w64 m) (to_be_bytes w64 n))
-before_bytes m n low high less = (earlier (to_be_bytes w64 m) (to_be_bytes w64 n) (bytes-name m) (bytes-name n)).1 (rw (bytes-number m low, bytes-number n high) less)
-
--- the names of rising numbers ascend
-ascend : (ns : List ℕ) → Rises ns → All (λ m. m < 2 ^ 64) ns → AllPairs (λ (name other : List ℕ). IsTrue (is_before name other)) (map (to_be_bytes w64) ns)
-ascend [] up fits = λ i j d l m. absurd (omega arith)
-ascend (n ∷ ns) up fits =
-    let others = All-tail (λ m. m < 2 ^ 64) n ns fits in
-    AllPairs-cons (λ (name other : List ℕ). IsTrue (is_before name other)) (to_be_bytes w64 n) (map (to_be_bytes w64) ns)
-    (All-map (λ (other : List ℕ). IsTrue (is_before (to_be_bytes w64 n) other)) (to_be_bytes w64) ns
-    (λ k d l. before_bytes n (get_or ns k d) (fits 0 n (omega arith)) (others k d l) (rises_first n ns up k d l)))
-    (ascend ns (rises_tail n ns up) others)
-
--- the name is among these
-abbrev has_one : List ℕ → List (List ℕ) → Bool
-has_one name names = list_any (bytes_eq name) names
-
--- a name is among those with one more where it is that one, or was there
-any-with_by : (a b : Bool) (q name first : List ℕ) (others : List (List ℕ)) → bytes_eq name first ≡ b → has_one q (with_name name others) ≡ (bytes_eq q name || has_one q others)
-    → has_one q (cond a (name ∷ first ∷ others) (cond b (first ∷ others) (first ∷ with_name name others))) ≡ (bytes_eq q name || (bytes_eq q first || has_one q others))
-any-with_by true b q name first others is more = refl
-any-with_by false true q name first others is more =
-    or_same (bytes_eq q first) (has_one q others) ∙ ap (λ k. bytes_eq q k || (bytes_eq q first || has_one q others)) (sym ((bytes_eq-Decides name first).0 is))
-any-with_by false false q name first others is more = ap (λ b. bytes_eq q first || b) more ∙ or_swap (bytes_eq q first) (bytes_eq q name) (has_one q others)
-
--- so it is
-any-with : (q name : List ℕ) (names : List (List ℕ)) → has_one q (with_name name names) ≡ (bytes_eq q name || has_one q names)
-any-with q name [] = refl
-any-with q name (first ∷ others) = any-with_by (is_before name first) (bytes_eq name first) q name first others refl (any-with q name others)
-
--- the names are those of the cards
-any-names : (q : List ℕ) (cards : List (List ℕ)) → has_one q (header_names cards) ≡ has_one q (map keyword_name cards)
-any-names q [] = refl
-any-names q (card ∷ cards) = any-with q (keyword_name card) (header_names cards) ∙ ap (λ b. bytes_eq q (keyword_name card) || b) (any-names q cards)
-
--- equal by the test is equal
-same_bytes : (x y : List ℕ) → bytes_eq x y ≡ true → x ≡ y
-same_bytes x y h = (bytes_eq-Decides x y).0 h
-
--- a name equals itself
-same_self : (x : List ℕ) → bytes_eq x x ≡ true
-same_self x = (bytes_eq-Decides x x).1 refl
-
--- in either order
-turned : (x y : List ℕ) → bytes_eq x y ≡ bytes_eq y x
-turned x y = iff (bytes_eq x y) (bytes_eq y x) (λ h. rw (same_bytes x y h) (same_self y)) (λ h. rw (same_bytes y x h) (same_self x))
-
--- so equality of bytes is an equivalence
-bytes_equiv : IsEquivalence bytes_eq
-bytes_equiv = record { refl = same_self; symm = turned; congr = λ x y z h. ap (λ k. bytes_eq k z) (same_bytes x y h) }
-
--- what is in one list is in another with the same names
-moved_over : (q : List ℕ) (xs ys : List (List ℕ)) → has_one q xs ≡ has_one q ys → Contains xs q → Contains ys q
-moved_over q xs ys same h = Contains-from_any same_bytes q ys (sym same ∙ list_any-from_Contains bytes_equiv q xs h)
-
--- each once, ascending, and exactly those of the cards
-pub names_are_theirs : (cards : List (List ℕ)) → AreNamed cards → AreNamesOf (header_names cards) cards
-names_are_theirs cards named = record {
-  ascending = subst (AllPairs (λ (name other : List ℕ). IsTrue (is_before name other))) (sym (names-numbers cards named)) (ascend (numbers_of cards) (numbers-rise cards) (numbers-fit cards named));
-  theirs = λ name. (moved_over name (header_names cards) (map keyword_name cards) (any-names name cards), moved_over name (map keyword_name cards) (header_names cards) (sym (any-names name cards)));
-}

@@ -14,7 +14,6 @@ mod header;
 mod header_marks;
 mod indexing;
 mod key_index;
-mod laws;
 mod leads;
 mod links;
 mod lookups;
@@ -31,8 +30,4 @@ pub use counts::Counts;
 pub use finding::Finding;
 pub use header::Header;
 pub use key_index::KeyIndex;
-pub use laws::{
-    links_are_those_of_chains, names_are_those_of_the_cards, numbers_keep_the_order,
-    numbers_tell_names_apart,
-};
 pub use passing_total::header_total;

@@ -4,9 +4,7 @@
 mod axes;
 mod image_cards;
 mod kind;
-mod laws;
 
 pub use axes::{are_axes, image_shape};
 pub use image_cards::{card_count, image_header, number_cards, shape_cards};
 pub use kind::{Kind, array_kind, image_kind, is_plain, pixel_kind};
-pub use laws::{images_are_described, one_kind, which_kind_an_image_has};

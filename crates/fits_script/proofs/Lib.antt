@@ -1,12 +1,8 @@
 pub mod CutLemmas
-pub mod FormLemmas
-pub mod ImageFormLemmas
 pub mod ListLemmas
 pub mod MisfitLemmas
 pub mod PartsLemmas
-pub mod PixelFormLemmas
 pub mod RectangleLemmas
-pub mod SaidLemmas
 pub mod ValuesLemmas
 pub mod VerbLemmas
 pub mod WordLemmas

@@ -1,13 +1,10 @@
 -- Lists of words, one part after another.
-use Rattle.std.proofs.Common.{◌≡◌, ◌≤◌, length, ℕ, List, [], ◌∷◌, ◌++◌, refl, ap, sym, ◌∙◌, append_assoc, false, Option, None, Some}
+use Rattle.std.proofs.Common.{◌≡◌, ℕ, List, [], ◌∷◌, ◌++◌, refl, ap, sym, ◌∙◌, append_assoc, false, Option, None, Some}
 use Rattle.std.specs.Prelude.{is_some}
 use Rattle.std.specs.Option.{option_map}
-use Rattle.std.specs.List.{join_with_byte, slice_split}
-use Rattle.std.specs.Prelude.{◌==◌}
-use Rattle.std.proofs.lemmas.Option.{option_and_then_some}
 use Rattle.fits_script.specs.Cut.{HasNo}
 use Rattle.fits_script.specs.Line.{◌>>=◌, each_read, list_of_text}
-use Rattle.fits_script.proofs.PartsLemmas.{parts-none, parts-cut, parts-joined, EachHasNo}
+use Rattle.fits_script.proofs.PartsLemmas.{parts-none, parts-cut}
 
 -- a text without the byte is one part
 pub list_of_text-one : {X : Type 0} (reads : List ℕ → Option X) (separator : ℕ) (text : List ℕ) (read : Option X) → HasNo separator text → reads text ≡ read → list_of_text reads separator text ≡ option_map (λ item. item ∷ []) read
@@ -75,23 +72,3 @@ pub last_read : {X : Type 0} (reads : List ℕ → Option X) (separator : ℕ) (
     → HasNo separator rest → reads rest ≡ read → list_of_text reads separator text ≡ option_map (λ item. items ++ item ∷ []) read
 last_read reads separator text rest items None before none is = before ∙ ap (option_map (λ others. items ++ others)) (list_of_text-one reads separator rest None none is)
 last_read reads separator text rest items (Some item) before none is = before ∙ ap (option_map (λ others. items ++ others)) (list_of_text-one reads separator rest (Some item) none is)
-
--- joined parts are the list that they read as
-pub list_of_text-joined : {X : Type 0} (reads : List ℕ → Option X) (byte : ℕ) (text : List ℕ) (parts : List (List ℕ)) (items : List X) → text ≡ join_with_byte byte parts → 1 ≤ length parts → EachHasNo byte parts → each_read reads parts ≡ Some items
-    → list_of_text reads byte text ≡ Some items
-unfolding list_of_text
-list_of_text-joined reads byte text parts items is some bare read = ap (each_read reads) (ap (slice_split (λ b. b == byte)) is ∙ parts-joined byte parts some bare) ∙ read
-
--- what reads as a first item and others
-pub each_read-some : {X P : Type 0} (reads : List ℕ → Option X) (text : List ℕ) (texts : List (List ℕ)) (items : List X) → each_read reads (text ∷ texts) ≡ Some items
-    → ((item : X) (others : List X) → reads text ≡ Some item → each_read reads texts ≡ Some others → item ∷ others ≡ items → P) → P
-unfolding each_read
-each_read-some {X = X} reads text texts items e give =
-    option_and_then_some _ (reads text) items e (λ item is e1.
-    option_and_then_some _ (each_read reads texts) items e1 (λ others are e2.
-    give item others is are (let z : ◌≡◌ {A = Option (List X)} (Some (item ∷ others)) (Some items) = e2 in cc)))
-
--- nothing reads as nothing
-pub each_read-none : {X : Type 0} (reads : List ℕ → Option X) (items : List X) → each_read reads [] ≡ Some items → [] ≡ items
-unfolding each_read
-each_read-none {X = X} reads items e = let z : ◌≡◌ {A = Option (List X)} (Some []) (Some items) = e in cc

@@ -1,8 +1,7 @@
 -- The parts of a text that is cut at a byte.
-use Rattle.std.proofs.Common.{◌≡◌, ℕ, List, [], ◌∷◌, ◌++◌, refl, ap, sym, ◌∙◌, length, ◌≤◌, arith, rules, true}
+use Rattle.std.proofs.Common.{◌≡◌, ℕ, List, [], ◌∷◌, ◌++◌, refl, ap, rules, true}
 use Rattle.std.specs.Prelude.{◌==◌}
-use Rattle.std.specs.List.{join_with_byte, list_any, onto_first, slice_split}
-use Rattle.std.proofs.lemmas.List.Splits.{join_with_byte-slice_split, length-slice_split}
+use Rattle.std.specs.List.{list_any, onto_first, slice_split}
 use Rattle.std.proofs.lemmas.Bool.{or_parts}
 use Rattle.fits_script.specs.Cut.{HasNo}
 use Rattle.fits_script.specs.Line.{after_colon, before_colon}
@@ -24,26 +23,6 @@ parts-cut byte [] rest none = rw (same_byte byte) refl
 parts-cut byte (b ∷ bs) rest none =
     let parts = or_parts (b == byte) (list_any (λ x. x == byte) bs) none in
     rw parts.0 (ap (onto_first b) (parts-cut byte bs rest parts.1))
-
--- each part is without a byte
-abbrev pub EachHasNo : ℕ → List (List ℕ) → Type 0
-EachHasNo byte [] = Unit {0}
-EachHasNo byte (part ∷ parts) = HasNo byte part × EachHasNo byte parts
-
--- joined parts are cut into them
-pub parts-joined : (byte : ℕ) (parts : List (List ℕ)) → 1 ≤ length parts → EachHasNo byte parts → slice_split (λ b. b == byte) (join_with_byte byte parts) ≡ parts
-parts-joined byte [] some all = absurd (omega arith)
-parts-joined byte (part ∷ []) some all = parts-none byte part all.0
-parts-joined byte (part ∷ next ∷ parts) some all =
-    parts-cut byte part (join_with_byte byte (next ∷ parts)) all.0 ∙ ap (λ t. part ∷ t) (parts-joined byte (next ∷ parts) (omega arith) all.1)
-
--- a text is its parts, joined
-pub joined-parts : (byte : ℕ) (text : List ℕ) → text ≡ join_with_byte byte (slice_split (λ b. b == byte) text)
-joined-parts byte text = sym (join_with_byte-slice_split byte text)
-
--- and there is one at least
-pub some_parts : (byte : ℕ) (text : List ℕ) → 1 ≤ length (slice_split (λ b. b == byte) text)
-some_parts byte text = omega (arith, length-slice_split (λ b. b == byte) text)
 
 -- all of a text without a colon stands before one
 pub before_colon-none : (text : List ℕ) → HasNo 58 text → before_colon text ≡ text

@@ -1,5 +1,4 @@
 pub mod Cut
-pub mod Forms
 pub mod Line
 pub mod Misfit
 pub mod Wording

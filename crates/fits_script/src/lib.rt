@@ -28,5 +28,7 @@ pub use line_fault::LineFault;
 pub use line_misfit::misfit_of;
 pub use line_reading::LineReading;
 pub use misfit::Misfit;
+pub use verb::Verb;
+pub use word_fault::WordFault;
 pub use wording::{write_misfit, write_unwritable};
 pub use words::padded_name;

@@ -9,7 +9,7 @@ use crate::words::is_word;
 
 /// What the first word of a line asks for.
 #[derive(Clone, Copy)]
-pub(crate) enum Verb {
+pub enum Verb {
     Insert,
     Put,
     Delete,

@@ -1,6 +1,6 @@
 /// Why the words of a line say no command.
 #[derive(Clone, Copy)]
-pub(crate) enum WordFault {
+pub enum WordFault {
     /// The first word is no verb.
     NoVerb,
     /// The verb wants the number of an HDU next.

@@ -1,5 +1,5 @@
 -- One HDU of a file changes.
-use Rattle.std.proofs.Common.{◌≡◌, ℕ, ◌+◌, ◌≤◌, Bool, true, false, List, [], ◌∷◌, ◌++◌, length, refl, ap, sym, ◌∙◌, subst, arith, rules, All, Some, zero, suc}
+use Rattle.std.proofs.Common.{◌≡◌, ℕ, ◌+◌, ◌≤◌, Bool, true, false, List, [], ◌∷◌, ◌++◌, length, refl, ap, sym, subst, arith, rules, All, Some, zero, suc}
 use Rattle.std.specs.List.{slice_get}
 use Rattle.std.proofs.lemmas.List.{length-append}
 use Rattle.std.proofs.lemmas.Option.{slice_get_within, get_or_from_slice_get}
@@ -40,12 +40,6 @@ pub length-changed : {X : Type 0} (i : ℕ) (change : X → X) (xs : List X) →
 length-changed i change [] = refl
 length-changed zero change (x ∷ xs) = refl
 length-changed (suc i) change (x ∷ xs) = ap suc (length-changed i change xs)
-
--- two changes that make the same of an element make the same of the list
-pub changed_at-same : {X : Type 0} (i : ℕ) (first second : X → X) (x : X) (xs : List X) → slice_get xs i ≡ Some x → first x ≡ second x → changed_at i first xs ≡ changed_at i second xs
-changed_at-same i first second x [] e same = refl
-changed_at-same zero first second x (y ∷ ys) e same = let is : y ≡ x = cc in ap (λ z. z ∷ ys) (ap first is ∙ same ∙ ap second (sym is))
-changed_at-same (suc i) first second x (y ∷ ys) e same = ap (λ zs. y ∷ zs) (changed_at-same i first second x ys e same)
 
 -- one change and then another are both
 pub changed_at-both : {X : Type 0} (i : ℕ) (first second : X → X) (xs : List X) → changed_at i second (changed_at i first xs) ≡ changed_at i (λ x. second (first x)) xs

@@ -14,11 +14,11 @@ use Rattle.fits_hdu.specs.declared.fault.HduFault.{HduFault}
 use Rattle.fits_hdu.specs.declared.fault.HduFault.TheVariants as hdu_fault
 use Rattle.fits_session.specs.File.{begins_extension, is_first, joined_hdus, IsFrontOf}
 use Rattle.fits_session.specs.declared.limits.TheConstants.{FILE_LIMIT, HDU_LIMIT}
-use Rattle.fits_session.specs.Headers.{cards_of, read_cards, AreHeadersIn, HeadersTellFaults, HeadersTellFiles, ShowsHeaders, StopsBy, StopsHere}
-use Rattle.fits_session.specs.Opening.{BeginsAsFits, FailsAt, HasOpenFault, open_fault_of}
+use Rattle.fits_session.specs.Headers.{cards_of, read_cards, AreHeadersIn, ShowsHeaders, StopsBy, StopsHere}
+use Rattle.fits_session.specs.Opening.{HasOpenFault, open_fault_of}
 use Rattle.fits_session.specs.Reading.{KeepsEach, NextBegins, Walked}
 use Rattle.fits_session.specs.declared.open_fault.OpenFault.{OpenFault}
-use Rattle.fits_session.specs.declared.open_fault.OpenFault.TheVariants.{NotFits, NoEnd, BadShape, ShortData, TooLarge, Memory}
+use Rattle.fits_session.specs.declared.open_fault.OpenFault.TheVariants.{NotFits, TooLarge}
 use Rattle.fits_session.proofs.FrontLemmas.{front_begins, front_none, goes_on-some}
 use Rattle.fits_session.proofs.WalkLemmas.{each_length, extension_more, extension_same, few_after, first_of, front_rest, next_on}
 
@@ -188,32 +188,3 @@ headers_over old b i headers found is f many =
       are = g.is;
       fault_is = inr (refl, left_in old.remaining b.source.remaining g.taken.more (λ n. b.left < n) (λ n. FILE_LIMIT < n) g.taken.drawn.read.gone many (λ n less. omega (arith, less, g.taken.drawn.count)));
     }
-
--- headers without a fault are those of a file
-pub tell_files : HeadersTellFiles
-tell_files bytes headers p = (
-  record { hdus = p.hdus; tail = p.rest },
-  record { front = p.front; ends = p.stops.0; size = p.size; count = p.count },
-  p.are ∙ ap (λ t. cards_of p.hdus ++ t) p.stops.1 ∙ append-nil (cards_of p.hdus),
-)
-
--- an HDU that can't be read is the first of the file
-fails_there : (bytes : List ℕ) (headers : List (List (List ℕ))) (fault : Option OpenFault) (h : ℕ) (why : HduFault) (p : AreHeadersIn headers fault bytes) → StopsHere p.hdus p.rest p.last h why → FailsAt bytes h why
-fails_there bytes headers fault h why p s = record {
-  size = p.size;
-  begins = p.begins (omega (arith, ap length s.last_is));
-  stops = record { before = p.hdus; rest = p.rest; front = p.front; more = s.more; few = s.few; here = s.here.fault; at = s.at };
-}
-
--- bytes without an HDU before them are all of them
-rest_all : (bytes : List ℕ) (us : List HduParts) (rest : List ℕ) → IsFrontOf bytes us rest → us ≡ [] → bytes ≡ rest
-rest_all bytes us rest p none = p.joined ∙ ap (λ vs. joined_hdus vs ++ rest) none
-
--- headers with a fault are of bytes that have it
-pub tell_faults : HeadersTellFaults
-tell_faults bytes headers NotFits p = (p.size, λ begins. p.stops.1 (subst BeginsAsFits (rest_all bytes p.hdus p.rest p.front p.stops.0) begins))
-tell_faults bytes headers (NoEnd h) p = fails_there bytes headers (Some (NoEnd h)) h hdu_fault.NoEnd p p.stops
-tell_faults bytes headers (BadShape h place) p = fails_there bytes headers (Some (BadShape h place)) h (hdu_fault.BadShape place) p p.stops
-tell_faults bytes headers (ShortData h) p = fails_there bytes headers (Some (ShortData h)) h hdu_fault.ShortData p p.stops
-tell_faults bytes headers TooLarge p = inr (record { before = p.hdus; rest = p.rest; front = p.front; all = p.stops.0; more = p.stops.1 })
-tell_faults bytes headers Memory p = absurd p.stops

@@ -255,18 +255,6 @@ tests_placed hdus tail h kind axes p = tests_behind hdus tail h kind axes p.with
 pub in_range : (h last : ℕ) → is_within h last ≡ true → (1 ≤ h) × (h ≤ last)
 in_range h last e = search rules
 
--- a new image that isn't refused has one
-passes_within : (b : Bool) (next : Option Refusal) → (if not b then Some refusal.NoHdu else next) ≡ None → b ≡ true
-passes_within true next e = refl
-passes_within false next e = cc
-
--- so it stands in the list, or at its end
-pub new_within : (file : FileParts) (h : ℕ) (kind : Kind) (axes : List ℕ) → new_image_refusal file h kind axes ≡ None → h - 1 ≤ length file.hdus
-unfolding new_image_refusal
-new_within file h kind axes e =
-    let r = in_range h (length file.hdus + 1) (passes_within (is_within h (length file.hdus + 1)) _ e) in
-    omega (arith, r.1)
-
 -- so it comes behind the first, and not past the last but one
 pub placed_at : (count h : ℕ) (axes : List ℕ) → IsPlaced count h axes → (2 ≤ h) × (h - 1 ≤ count)
 placed_at count zero axes p = let r = in_range 0 (count + 1) p.within in absurd (omega (arith, r.0))

@@ -1,5 +1,5 @@
 -- What is made of an HDU: its length, the limits, and what it owes.
-use Rattle.std.proofs.Common.{◌≡◌, inl, inr, ℕ, ◌+◌, ◌-◌, ◌*◌, ◌^◌, ◌<◌, ◌≤◌, Bool, true, false, List, [], ◌∷◌, length, refl, ap, sym, ◌∙◌, subst, arith, rules, All, Option, None, Some, replicate}
+use Rattle.std.proofs.Common.{◌≡◌, inl, inr, ℕ, ◌+◌, ◌-◌, ◌*◌, ◌^◌, ◌<◌, ◌≤◌, Bool, true, false, List, [], ◌∷◌, length, refl, ap, sym, ◌∙◌, subst, arith, rules, All, Option, None, Some}
 use Rattle.std.specs.Prelude.{Result, Ok, Err, IsOk, IfErr, OnOk, if◌then◌else◌}
 use Rattle.std.proofs.lemmas.List.{length-append}
 use Rattle.fits_card.specs.Change.{IsInRange, cards_after, new_cards}
@@ -7,7 +7,7 @@ use Rattle.fits_card.specs.Header.{Header, IsHeader, IsInnerCard, header_bytes, 
 use Rattle.fits_card.specs.declared.change.Change.{Change}
 use Rattle.fits_card.specs.declared.change.Change.TheVariants as changes
 use Rattle.fits_card.proofs.ChangeLemmas.{length-moved, length-spliced}
-use Rattle.fits_card.proofs.HeaderLemmas.{fill_length-by_cards, length-header_bytes, whole-with_cards}
+use Rattle.fits_card.proofs.HeaderLemmas.{fill_length-by_cards, length-header_bytes}
 use Rattle.fits_plane.specs.Layout.{block_count}
 use Rattle.fits_rules.specs.Class.{is_primary}
 use Rattle.fits_rules.specs.Shape.{shape_of}
@@ -18,7 +18,7 @@ use Rattle.fits_hdu.specs.Layout.{layout_of}
 use Rattle.fits_hdu.specs.State.{HduState, ReadsUpTo, parts_of, IsDescribed}
 use Rattle.fits_hdu.specs.Work.{FollowsBlank, PixelWork, apply_reads, plane_work}
 use Rattle.fits_hdu.proofs.StateLemmas.{parts_read}
-use Rattle.fits_hdu.proofs.ChangeLemmas.{hdu-changed, inner_after}
+use Rattle.fits_hdu.proofs.ChangeLemmas.{hdu-changed}
 use Rattle.fits_session.specs.CardEdit.{change_of, is_keyword_name, unless, unset_of, unsetting}
 use Rattle.fits_session.specs.HduEdit.{hdu_changed, hdu_made}
 use Rattle.fits_session.specs.Keeping.{padded_if, spare_cards, stamped_if, then_stamped}
@@ -104,19 +104,6 @@ length_reckoned stamps primary hdu made len before after whole left unit part b 
   hdu_long hdu whole.header,
   padded_long stamps primary made left,
 )
-
--- how many bytes an HDU has with its cards changed
-pub length_cards : (primary : Bool) (hdu : HduParts) (change : Change) → IsHdu primary hdu → All IsInnerCard (new_cards change) → length (hdu_bytes (hdu_after change hdu)) + header_length (length hdu.header.cards) ≡ length (hdu_bytes hdu) + header_length (length (cards_after hdu.header.cards change))
-length_cards primary hdu change whole inner =
-    let cards : List (List ℕ) = cards_after hdu.header.cards change in
-    let left = whole-with_cards hdu.header cards (replicate (fill_length (length cards)) 32) (length cards) whole.header (inner_after hdu.header.cards change whole.header.cards inner) refl refl in
-    omega (
-      arith,
-      length-append (header_bytes hdu.header) hdu.data_unit,
-      length-append (header_bytes (hdu_after change hdu).header) hdu.data_unit,
-      header_long hdu.header whole.header,
-      header_long (hdu_after change hdu).header left,
-    )
 
 -- the cards of an HDU describe the shape that is kept, its entry is that of another, it is kept stamped or not as that is, and lies where
 -- that does

@@ -78,12 +78,6 @@ change_of cards (Move from to) = tested (length cards) (change.Move from to)
 change_of cards (Set name value comment) = set_of cards name value comment
 change_of cards (Unset name) = unset_of cards name
 
--- it leaves no more cards than there were: a card comes in place of another, or cards go, or one moves
-abbrev pub LeavesNoMore : CardEdit → Type 0
-LeavesNoMore (Insert place card) = ⊥
-LeavesNoMore (Set name value comment) = ⊥
-LeavesNoMore edit = Unit {0}
-
 -- its card has 80 bytes (4.1), and the name that it sets has 8 (4.1.2.1)
 abbrev pub HasCardSizes : CardEdit → Type 0
 HasCardSizes (Insert place card) = length card ≡ 80

@@ -6,8 +6,8 @@ use Rattle.fits_hdu.specs.Hdu.{HduParts}
 use Rattle.fits_hdu.specs.Reading.{FailsAfter}
 use Rattle.fits_hdu.specs.declared.fault.HduFault.{HduFault}
 use Rattle.fits_hdu.specs.declared.fault.HduFault.TheVariants as hdu_fault
-use Rattle.fits_session.specs.File.{FileParts, begins_extension, goes_on, is_first, IsFileOf, IsFrontOf}
-use Rattle.fits_session.specs.Opening.{BeginsAsFits, HasOpenFault}
+use Rattle.fits_session.specs.File.{begins_extension, goes_on, is_first, IsFrontOf}
+use Rattle.fits_session.specs.Opening.{BeginsAsFits}
 use Rattle.fits_session.specs.declared.limits.TheConstants.{FILE_LIMIT, HDU_LIMIT}
 use Rattle.fits_session.specs.declared.open_fault.OpenFault.{OpenFault}
 use Rattle.fits_session.specs.declared.open_fault.OpenFault.TheVariants.{NotFits, NoEnd, BadShape, ShortData, TooLarge, Memory}
@@ -69,12 +69,3 @@ pub record ShowsHeaders (old : SourceState) (headers : List (List (List ℕ))) (
   pub first : IsFirstOf old bytes
   pub are : AreHeadersIn headers found bytes
   pub fault_is : FaultStays old found fault
-
--- a file has no fault, and its headers are those of its HDUs
-abbrev pub HeadersTellFiles : Type 0
-HeadersTellFiles = (bytes : List ℕ) (headers : List (List (List ℕ))) → AreHeadersIn headers None bytes
-    → (file : FileParts) × IsFileOf bytes file × (headers ≡ cards_of file.hdus)
-
--- where one is found it is the fault of the bytes
-abbrev pub HeadersTellFaults : Type 0
-HeadersTellFaults = (bytes : List ℕ) (headers : List (List (List ℕ))) (why : OpenFault) → AreHeadersIn headers (Some why) bytes → HasOpenFault bytes why

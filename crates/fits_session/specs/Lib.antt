@@ -1,9 +1,7 @@
 pub mod Away
-pub mod Bounds
 pub mod CardEdit
 pub mod Edit
 pub mod File
-pub mod Fresh
 pub mod HduEdit
 pub mod Headers
 pub mod Keeping

@@ -1,11 +1,9 @@
 -- A file some of whose HDUs are kept stamped: what edits come to then, and when they are refused (own).
-use Rattle.std.specs.Prelude.{◌≡◌, ℕ, zero, suc, ◌-◌, Bool, true, false, List, length, get_or, replicate, Option, Some, Result, Ok}
+use Rattle.std.specs.Prelude.{ℕ, zero, suc, ◌-◌, Bool, false, List, length, get_or, replicate, Option, Result, Ok}
 use Rattle.std.specs.List.{insert, remove}
-use Rattle.fits_hdu.specs.Hdu.{HduParts}
-use Rattle.fits_hdu.specs.Sums.{verdicts_of}
 use Rattle.fits_session.specs.Edit.{changed_of, file_after, hdu_of, with_hdu}
 use Rattle.fits_session.specs.File.{FileParts}
-use Rattle.fits_session.specs.Keeping.{both_right, kept_after, stamp_follows, stamped_if}
+use Rattle.fits_session.specs.Keeping.{kept_after, stamp_follows, stamped_if}
 use Rattle.fits_session.specs.Query.{in_hdu}
 use Rattle.fits_session.specs.Refusal.{refusal_in, refusal_of}
 use Rattle.fits_edit.specs.declared.edit.Edit.{Edit}
@@ -54,14 +52,3 @@ marked_refusal it edit = refusal_of it.file edit
 -- whether HDU h is kept, or its refusal
 abbrev pub kept_in : Marked → ℕ → Result Bool Refusal
 kept_in it h = in_hdu (λ hdu. Ok (is_kept it.kept h)) (hdu_of it.file h)
-
--- in each HDU that is kept DATASUM and CHECKSUM are right
-abbrev pub AreRight : Marked → Type 0
-AreRight it =
-    (h : ℕ) (hdu : HduParts) → hdu_of it.file h ≡ Some hdu → is_kept it.kept h ≡ true → verdicts_of hdu ≡ both_right
-
--- where no HDU is kept, an edit is refused, and leaves the file, as it does without marks
-abbrev pub UnmarkedArePlain : Type 0
-UnmarkedArePlain =
-    (file : FileParts) (edit : Edit)
-    → (marked_refusal (unmarked file) edit ≡ refusal_of file edit) × ((marked_after (unmarked file) edit).file ≡ file_after file edit)

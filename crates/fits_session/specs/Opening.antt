@@ -5,7 +5,7 @@ use Rattle.fits_hdu.specs.Hdu.{HduParts, HasHduFault}
 use Rattle.fits_hdu.specs.declared.fault.HduFault.{HduFault}
 use Rattle.fits_hdu.specs.declared.fault.HduFault.TheVariants as hdu_fault
 use Rattle.fits_session.specs.declared.limits.TheConstants.{FILE_LIMIT, HDU_LIMIT}
-use Rattle.fits_session.specs.File.{FileParts, IsFileOf, IsFrontOf, goes_on, is_first, begins_extension}
+use Rattle.fits_session.specs.File.{IsFrontOf, goes_on, is_first, begins_extension}
 use Rattle.fits_session.specs.declared.open_fault.OpenFault.{OpenFault}
 use Rattle.fits_session.specs.declared.open_fault.OpenFault.TheVariants.{NotFits, NoEnd, BadShape, ShortData, TooLarge, Memory}
 
@@ -57,7 +57,3 @@ open_fault_of hdu_fault.NoEnd h = NoEnd h
 open_fault_of (hdu_fault.BadShape place) h = BadShape h place
 open_fault_of hdu_fault.ShortData h = ShortData h
 open_fault_of hdu_fault.Memory h = Memory
-
--- the bytes are a file, or have a fault
-abbrev pub IsFileOrNot : List ℕ → Type 0
-IsFileOrNot bytes = ((file : FileParts) × IsFileOf bytes file) ⊎ ((fault : OpenFault) × HasOpenFault bytes fault)

@@ -7,7 +7,7 @@ use Rattle.fits_rules.specs.Shape.{shape_of}
 use Rattle.fits_rules.specs.declared.array_shape.Shape.{Shape}
 use Rattle.fits_hdu.specs.Hdu.{HduParts}
 use Rattle.fits_hdu.specs.Keyword.{keyword_value}
-use Rattle.fits_image.specs.Kind.{kind_in as hdu_kind, IsKind}
+use Rattle.fits_image.specs.Kind.{kind_in as hdu_kind}
 use Rattle.fits_hdu.specs.Pixels.{rect_of, stats_of}
 use Rattle.fits_hdu.specs.Sums.{data_sum, verdicts_of}
 use Rattle.fits_image.specs.declared.kind.Kind.{Kind}
@@ -41,14 +41,6 @@ some_shape (Err place) = Err BadShape
 -- the shape that the cards of HDU h describe (4.4.1)
 abbrev pub shape_in : FileParts → ℕ → Result Shape Refusal
 shape_in file h = in_hdu (λ hdu. some_shape (shape_of (is_primary_hdu h) hdu.header.cards)) (hdu_of file h)
-
--- HDU h is an integer image of this kind (5.2)
-pub record IsKindIn (file : FileParts) (h : ℕ) (kind : Kind) : Type 0 where
-  pub hdu : HduParts
-  pub shape : Shape
-  pub there : hdu_of file h ≡ Some hdu
-  pub described : shape_of (is_primary_hdu h) hdu.header.cards ≡ Ok shape
-  pub is : IsKind shape hdu.header.cards kind
 
 -- what an HDU answers by the shape that its cards describe
 abbrev pub by_shape : {X : Type 0} → Bool → (Shape → HduParts → Result X PixelFault) → HduParts → Result X Refusal

@@ -1,21 +1,19 @@
 -- The report of a file: what is wrong, HDU after HDU (own).
-use Rattle.std.specs.Prelude.{◌≡◌, ◌⊎◌, ℕ, ◌+◌, ◌<◌, nat_le, Bool, true, false, List, [], ◌∷◌, ◌++◌, length, map, Contains, Option, None, Some, Result, Ok, Err, zero, suc}
+use Rattle.std.specs.Prelude.{◌≡◌, ◌⊎◌, ℕ, ◌+◌, ◌<◌, nat_le, Bool, false, List, [], ◌∷◌, ◌++◌, length, map, Option, None, Some, Result, Ok, Err}
 use Rattle.std.specs.List.{filter}
 use Rattle.fits_rules.specs.Shape.{shape_of}
 use Rattle.fits_rules.specs.declared.array_shape.Shape.{Shape}
 use Rattle.fits_codes.specs.Code.{number}
-use Rattle.fits_codes.specs.declared.code.Code.{Code}
-use Rattle.fits_codes.specs.declared.code.Code.TheVariants.{DuplicateExtension, TrailingBytes}
-use Rattle.fits_header.specs.Findings.{codes_at, counts_of, found_at}
+use Rattle.fits_codes.specs.declared.code.Code.TheVariants.{TrailingBytes}
+use Rattle.fits_header.specs.Findings.{counts_of, found_at}
 use Rattle.fits_header.specs.declared.counts.Counts.{Counts}
 use Rattle.fits_header.specs.declared.finding.Finding.{Finding}
 use Rattle.fits_hdu.specs.ExtensionName.{extension_name, is_same_name, name_codes}
-use Rattle.fits_hdu.specs.Findings.{hdu_findings, whole_codes}
+use Rattle.fits_hdu.specs.Findings.{hdu_findings}
 use Rattle.fits_hdu.specs.Hdu.{HduParts}
 use Rattle.fits_hdu.specs.declared.extension_name.ExtensionName.{ExtensionName}
 use Rattle.fits_hdu.specs.declared.findings.Findings.{Findings}
-use Rattle.fits_session.specs.Edit.{hdu_of}
-use Rattle.fits_session.specs.File.{FileParts, is_followed, IsFileOf}
+use Rattle.fits_session.specs.File.{FileParts, IsFileOf}
 use Rattle.fits_session.specs.Edit.{is_primary_hdu}
 use Rattle.fits_session.specs.Headers.{cards_of}
 use Rattle.fits_session.specs.declared.problem.Problem.{Problem}
@@ -74,39 +72,6 @@ report_of file = wrong_from (names_from 1 file.hdus) 1 file.hdus ++ trailing (le
 -- how many errors and warnings a report has
 abbrev pub counts_in : List Problem → Counts
 counts_in report = counts_of (map (λ (it : Problem). it.code) report)
-
--- another HDU than HDU h is called so
-pub record IsNameOfAnother (file : FileParts) (h : ℕ) (name : ExtensionName) : Type 0 where
-  pub other : ℕ
-  pub hdu : HduParts
-  pub differs : other ≡ h → ⊥
-  pub there : hdu_of file other ≡ Some hdu
-  pub called : name_in other hdu ≡ Some name
-
--- HDU h is called as another is (4.4.2.6)
-pub record HasNameOfAnother (file : FileParts) (h : ℕ) (hdu : HduParts) : Type 0 where
-  pub name : ExtensionName
-  pub called : name_in h hdu ≡ Some name
-  pub again : IsNameOfAnother file h name
-
--- the code is among those of a place of HDU h, which is 0 for the HDU as a whole: those of its header, of its data and of its sums, or
--- that it is called as another is
-abbrev pub IsCodeAt : FileParts → ℕ → Shape → HduParts → ℕ → Code → Type 0
-IsCodeAt file h shape hdu zero code =
-    Contains (whole_codes shape hdu) code ⊎ ((code ≡ DuplicateExtension) × HasNameOfAnother file h hdu)
-IsCodeAt file h shape hdu (suc index) code = (index < length hdu.header.cards) × Contains (codes_at shape hdu.header.cards (suc index)) code
-
--- the HDU of a problem is there, its cards describe a shape, and the code is among those of the place
-pub record IsWrong (file : FileParts) (problem : Problem) : Type 0 where
-  pub hdu : HduParts
-  pub shape : Shape
-  pub there : hdu_of file problem.hdu ≡ Some hdu
-  pub described : shape_of (is_primary_hdu problem.hdu) hdu.header.cards ≡ Ok shape
-  pub code : IsCodeAt file problem.hdu shape hdu problem.place problem.code
-
--- bytes follow the last HDU, and the problem says so
-abbrev pub IsTrailing : FileParts → Problem → Type 0
-IsTrailing file problem = (is_followed file.tail ≡ true) × (problem ≡ trails (length file.hdus + 1))
 
 -- a problem stands before another: by HDU, by place, by the code's number
 abbrev pub IsListedBefore : Problem → Problem → Type 0

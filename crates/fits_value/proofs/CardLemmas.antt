@@ -9,7 +9,6 @@ use Rattle.std.proofs.lemmas.Bool.{and_parts}
 use Rattle.std.proofs.lemmas.List.{take-append-drop}
 use Rattle.std.proofs.lemmas.List.Folds.{list_all-append}
 use Rattle.fits_card.specs.Card.{IsText, is_text, is_text_byte}
-use Rattle.fits_value.proofs.FieldOnlyLemmas.{one_reading}
 use Rattle.fits_value.proofs.PartLemmas.{part-drop}
 use Rattle.fits_value.specs.Spelling.{IsSpaces}
 use Rattle.fits_value.specs.Field.{FieldReadsAs, ReadsAs, IsPlacedIn, part, field}
@@ -105,7 +104,3 @@ card_only card text r m e f h k s c says =
 pub card_none : (card text : List ℕ) → text ≡ field card → ((k : ValueKind) (s : List ℕ) (c : Option (List ℕ)) → FieldReadsAs text k s c → ⊥)
     → (k : ValueKind) (s : List ℕ) (c : Option (List ℕ)) → ReadsAs card k s c → ⊥
 card_none card text e h k s c says = h k s c (subst (λ (x : List ℕ). FieldReadsAs x k s c) (sym e) says.reads)
-
--- a card has at most one reading
-pub one_card_reading : (card : List ℕ) (k j : ValueKind) (s t : List ℕ) (c d : Option (List ℕ)) → ReadsAs card k s c → ReadsAs card j t d → (k ≡ j) × (s ≡ t) × (c ≡ d)
-one_card_reading card k j s t c d g h = one_reading (field card) k j s t c d g.reads h.reads

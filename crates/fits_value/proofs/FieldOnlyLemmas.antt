@@ -6,7 +6,6 @@ use Rattle.std.specs.Option.{option_map}
 use Rattle.std.proofs.Math.Seq.{drop-append_seam}
 use Rattle.std.proofs.lemmas.List.{append-nil}
 use Rattle.std.proofs.lemmas.Bool.{and_parts, eqb-true}
-use Rattle.std.proofs.lemmas.Option.{same_Some}
 use Rattle.fits_value.proofs.FrontLemmas.{Stops, prefix_len-front}
 use Rattle.fits_value.proofs.TrimLemmas.{suffix_len-back}
 use Rattle.fits_value.proofs.PartLemmas.{part_is}
@@ -109,14 +108,3 @@ pub scan_only : (text : List ℕ) (found : Option Reading) → found ≡ reading
 scan_only text found e k spelling comment h =
     let given = reading_only text k spelling comment h in
     subst (λ (o : Option Reading). IsSomeAnd o (λ (r : Reading). (r.kind ≡ k) × (part text r.value ≡ spelling) × (option_map (part text) r.comment ≡ comment))) (sym (e ∙ given.1)) (given.2, given.3, given.4)
-
--- a text has at most one reading
-pub one_reading : (text : List ℕ) (k j : ValueKind) (s t : List ℕ) (c d : Option (List ℕ)) → FieldReadsAs text k s c → FieldReadsAs text j t d → (k ≡ j) × (s ≡ t) × (c ≡ d)
-one_reading text k j s t c d g h =
-    let x = reading_only text k s c g in
-    let y = reading_only text j t d h in
-    let same : x.0 ≡ y.0 = same_Some x.0 y.0 (sym x.1 ∙ y.1) in (
-      sym x.2 ∙ (ap (λ (r : Reading). r.kind) same ∙ y.2),
-      sym x.3 ∙ (ap (λ (r : Reading). part text r.value) same ∙ y.3),
-      sym x.4 ∙ (ap (λ (r : Reading). option_map (part text) r.comment) same ∙ y.4),
-    )

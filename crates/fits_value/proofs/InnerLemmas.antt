@@ -1,14 +1,13 @@
 -- Written cards are cards of a header before its END.
-use Rattle.std.proofs.Common.{◌≡◌, ℕ, zero, suc, ◌+◌, ◌&&◌, true, false, not, eqb, leb, List, [], ◌∷◌, ◌++◌, length, take, drop, codes, bytes_eq, All, Option, None, Some, Result, Ok, Err, refl, sym, ◌∙◌, ap, subst, arith, inl, inr}
+use Rattle.std.proofs.Common.{◌≡◌, ℕ, zero, suc, ◌+◌, ◌&&◌, true, false, not, eqb, leb, List, [], ◌∷◌, ◌++◌, length, take, drop, codes, bytes_eq, All, Option, None, Some, Result, Ok, Err, refl, sym, ◌∙◌, ap, subst, inl, inr}
 use Rattle.std.specs.Prelude.{IfOk, OnOk, IsTrue}
-use Rattle.std.specs.List.{list_all, prefix_len}
 use Rattle.std.proofs.lemmas.Bool.{cases_Bool, and_parts, cond-true, cond-false, not-true, eqb-true}
 use Rattle.std.proofs.lemmas.List.Elements.{All-cons, All-nil}
 use Rattle.std.proofs.lemmas.Slice.Eq.{bytes_eq-Decides}
-use Rattle.fits_card.specs.Card.{IsEnd, IsText, is_end, is_text_byte, card_of_text, keyword_name}
+use Rattle.fits_card.specs.Card.{IsEnd, is_end, card_of_text, keyword_name}
 use Rattle.fits_card.specs.Header.{IsInnerCard}
-use Rattle.fits_card.specs.Name.{end_name, is_valueless, is_spelled, is_settable, is_name_byte}
-use Rattle.fits_value.proofs.WrittenLemmas.{commented_after, lead_name, narrower, text_more, none_text}
+use Rattle.fits_card.specs.Name.{end_name, is_valueless, is_spelled, is_settable}
+use Rattle.fits_value.proofs.WrittenLemmas.{commented_after, lead_name}
 use Rattle.fits_value.specs.Spelling.{doubled}
 use Rattle.fits_value.specs.Written.{value_lead, value_field, continue_lead, card_of, quoted, fitting, cards_of_string, is_long, characters_of, cards_of, all_fit, is_writable, is_writable_value, is_writable_comment, write_says}
 use Rattle.fits_value.proofs.WritableLemmas.{says_parts}
@@ -83,32 +82,6 @@ inner_cards name value comment size valued fits =
 pub settable_valued : (name : List ℕ) → IsTrue (is_settable name) → is_valueless name ≡ false
 unfolding is_settable
 settable_valued name h = not-true (is_valueless name) (and_parts (is_spelled name) (not (is_valueless name)) h).1
-
--- characters of names and spaces are text
-name_text : (b : ℕ) → is_name_byte b ≡ true → is_text_byte b ≡ true
-name_text b h = grind arith
-
--- and so is a space
-space_text : (b : ℕ) → eqb 32 b ≡ true → is_text_byte b ≡ true
-space_text b h = grind arith
-
--- so a name that is spelled as the standard asks is text
-spelled_text : (s : List ℕ) → list_all (eqb 32) (drop (prefix_len is_name_byte s) s) ≡ true → IsText s
-spelled_text [] h = none_text
-spelled_text (c ∷ s) h = elim (cases_Bool (is_name_byte c)) [
-  | inl e ↦
-      let n : prefix_len is_name_byte (c ∷ s) ≡ 1 + prefix_len is_name_byte s = cond-true (is_name_byte c) (1 + prefix_len is_name_byte s) 0 e in
-      let m : prefix_len is_name_byte (c ∷ s) ≡ suc (prefix_len is_name_byte s) = omega (arith, n) in
-      text_more c s (name_text c e) (spelled_text s (ap (λ (k : ℕ). list_all (eqb 32) (drop k (c ∷ s))) (sym m) ∙ h))
-  | inr e ↦
-      let n : prefix_len is_name_byte (c ∷ s) ≡ 0 = cond-false (is_name_byte c) (1 + prefix_len is_name_byte s) 0 e in
-      narrower (eqb 32) (c ∷ s) space_text (ap (λ (k : ℕ). list_all (eqb 32) (drop k (c ∷ s))) (sym n) ∙ h)
-]
-
--- and so is one that may have a value
-pub settable_text : (name : List ℕ) → IsTrue (is_settable name) → IsText name
-unfolding is_settable is_spelled
-settable_text name h = spelled_text name (and_parts (is_spelled name) (not (is_valueless name)) h).0
 
 -- so the cards of a value that was written are inner cards
 pub inner_result : (r : Result (List (List ℕ)) WriteFault) (name : List ℕ) (value : Value) (comment : Option (List ℕ)) → IsTrue (is_settable name) → IfOk r (λ (x : List (List ℕ)). x ≡ cards_of name value comment) → OnOk r (IsTrue (all_fit (cards_of name value comment)))

@@ -10,9 +10,6 @@ pub mod FieldOnlyLemmas
 pub mod FrontLemmas
 pub mod InnerLemmas
 pub mod IntegerLemmas
-pub mod LongSaysLemmas
-pub mod LongStringLemmas
-pub mod LongValueLemmas
 pub mod NormalLemmas
 pub mod NumberFrontLemmas
 pub mod NumberLemmas
@@ -24,7 +21,6 @@ pub mod PartLemmas
 pub mod PieceLemmas
 pub mod PlaceLemmas
 pub mod QuoteLemmas
-pub mod ReadBackLemmas
 pub mod ReadLemmas
 pub mod RoomLemmas
 pub mod RunLemmas

@@ -1,29 +1,7 @@
--- Values that fields and cards say: at most one.
-use Rattle.std.proofs.Common.{◌≡◌, ℕ, List, Option, Some, ◌∙◌, ap, subst}
-use Rattle.fits_value.proofs.FieldOnlyLemmas.{one_reading}
-use Rattle.fits_value.proofs.SayLemmas.{one_value}
-use Rattle.fits_value.specs.Field.{field}
-use Rattle.fits_value.specs.Value.{kind_of, IsValueOf, FieldSays, CardSays}
+-- A value with its comment.
+use Rattle.std.proofs.Common.{ℕ, List, Option}
 use Rattle.fits_value.specs.declared.value.Value.{Value}
 
--- a value with its comment
+-- what a field or a card says
 abbrev pub Said : Type 0
 Said = Value × Option (List ℕ)
-
--- the same value and the same comment
-pub same_said : (x y : Said) → x.0 ≡ y.0 → x.1 ≡ y.1 → Some x ≡ Some y
-same_said x y e f = ap (λ (v : Value). let p : Said = (v, x.1) in Some p) e ∙ ap (λ (c : Option (List ℕ)). let p : Said = (y.0, c) in Some p) f
-
--- a text says at most one value and comment
-pub one_field_said : (text : List ℕ) (x y : Said) → FieldSays text x.0 x.1 → FieldSays text y.0 y.1 → (x.0 ≡ y.0) × (x.1 ≡ y.1)
-one_field_said text x y g h =
-    let p = one_reading text (kind_of x.0) (kind_of y.0) g.spelling h.spelling x.1 y.1 g.reads h.reads in
-    (one_value x.0 y.0 h.spelling p.0 (subst (λ (s : List ℕ). IsValueOf x.0 s) p.1 g.is_value) h.is_value, p.2)
-
--- a text says at most one value
-pub one_field_value : (text : List ℕ) (v w : Value) (c d : Option (List ℕ)) → FieldSays text v c → FieldSays text w d → (v ≡ w) × (c ≡ d)
-one_field_value text v w c d g h = one_field_said text (v, c) (w, d) g h
-
--- a card says at most one value
-pub one_card_value : (card : List ℕ) (v w : Value) (c d : Option (List ℕ)) → CardSays card v c → CardSays card w d → (v ≡ w) × (c ≡ d)
-one_card_value card v w c d g h = one_field_value (field card) v w c d g.says h.says

@@ -1,16 +1,16 @@
 -- Cards that are written are text, and say what was written on them.
-use Rattle.std.proofs.Common.{Bool, take, ◌≡◌, ℕ, zero, suc, ◌+◌, ◌-◌, true, eqb, List, [], ◌∷◌, ◌++◌, length, drop, replicate, Option, None, Some, refl, sym, ◌∙◌, ap, subst, inl, inr, append_assoc}
+use Rattle.std.proofs.Common.{Bool, take, ◌≡◌, ℕ, zero, suc, ◌+◌, ◌-◌, true, List, [], ◌∷◌, ◌++◌, length, drop, replicate, Option, None, Some, refl, sym, ◌∙◌, ap, subst, append_assoc}
 use Rattle.std.specs.Prelude.{IfSome}
 use Rattle.std.specs.List.{list_all}
 use Rattle.std.proofs.Math.Seq.{drop-append_seam, take-append_seam}
 use Rattle.std.proofs.lemmas.List.{append-nil}
 use Rattle.std.proofs.lemmas.List.Folds.{list_all-append}
-use Rattle.std.proofs.lemmas.Bool.{cases_Bool, and_parts, and_from, cond-true, cond-false}
+use Rattle.std.proofs.lemmas.Bool.{and_parts, and_from}
 use Rattle.fits_card.specs.Card.{IsText, is_text, is_text_byte, card_of_text, keyword_name, indicator}
 use Rattle.fits_value.specs.Field.{field, FieldReadsAs}
-use Rattle.fits_value.specs.Spelling.{IsSpaces, Spells, doubled}
+use Rattle.fits_value.specs.Spelling.{IsSpaces, Spells}
 use Rattle.fits_value.specs.Value.{CardSays, IsValueOf, kind_of}
-use Rattle.fits_value.specs.Written.{commented, card_of, quoted, IsWritableComment}
+use Rattle.fits_value.specs.Written.{commented, card_of, IsWritableComment}
 use Rattle.fits_value.specs.declared.value.Value.{Value}
 
 -- spaces are spaces
@@ -29,31 +29,10 @@ pub text_both : (s t : List ℕ) → IsText s → IsText t → IsText (s ++ t)
 unfolding is_text
 text_both s t a b = list_all-append is_text_byte s t ∙ and_from _ _ a b
 
--- the parts of a text
-pub text_parts : (s t : List ℕ) → IsText (s ++ t) → IsText s × IsText t
-unfolding is_text
-text_parts s t h = let p = and_parts (list_all is_text_byte s) (list_all is_text_byte t) (sym (list_all-append is_text_byte s t) ∙ h) in (p.0, p.1)
-
--- a text with its quotes doubled
-pub text_doubled : (s : List ℕ) → IsText s → IsText (doubled s)
-unfolding is_text
-text_doubled [] h = refl
-text_doubled (c ∷ s) h =
-    let p = and_parts (is_text_byte c) (list_all is_text_byte s) h in
-    let more = text_doubled s p.1 in
-    elim (cases_Bool (eqb c 39)) [
-      | inl e ↦ ap (λ (x : List ℕ). list_all is_text_byte x) (cond-true (eqb c 39) (39 ∷ 39 ∷ doubled s) (c ∷ doubled s) e) ∙ more
-      | inr e ↦ ap (λ (x : List ℕ). list_all is_text_byte x) (cond-false (eqb c 39) (39 ∷ 39 ∷ doubled s) (c ∷ doubled s) e) ∙ and_from _ _ p.0 more
-    ]
-
 -- one character more
 pub text_more : (c : ℕ) (s : List ℕ) → is_text_byte c ≡ true → IsText s → IsText (c ∷ s)
 unfolding is_text
 text_more c s a b = and_from _ _ a b
-
--- text between quotes
-pub text_quoted : (s : List ℕ) → IsText s → IsText (quoted s)
-text_quoted s h = text_more 39 (doubled s ++ 39 ∷ []) refl (text_both (doubled s) (39 ∷ []) (text_doubled s h) (text_more 39 [] refl (text_spaces 0)))
 
 -- bytes 11 to 80 of a card that begins with ten bytes
 after_lead : (lead body : List ℕ) → length lead ≡ 10 → field (card_of_text (lead ++ body)) ≡ body ++ replicate (80 - length (lead ++ body)) 32

@@ -15,7 +15,7 @@ use fits_card::Card;
 use std::marker::Model;
 
 /// How many characters a card's string has at most: bytes 11 to 80 without the two quotes.
-pub(crate) const MOST_CHARACTERS: usize = 68;
+pub const MOST_CHARACTERS: usize = 68;
 
 /// The string of one card, decoded and in normal form. Contracts see it as its list of characters.
 #[derive(Clone, Copy)]

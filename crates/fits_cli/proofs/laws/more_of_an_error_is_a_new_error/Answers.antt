@@ -1,5 +1,0 @@
-use Rattle.fits_cli.proofs.NewErrorLemmas.{more-new, new-more}
-use Rattle.fits_cli.proofs.laws.more_of_an_error_is_a_new_error.Goals as goal
-
-pub returns : goal.returns
-returns c before after ordered = (more-new before after ordered, new-more before after)

@@ -1,5 +1,0 @@
-use Rattle.fits_script.proofs.SaidLemmas.{command_of-says, Says-command_of}
-use Rattle.fits_cli.proofs.laws.what_a_line_says.Goals as goal
-
-pub returns : goal.returns
-returns c line command = (Says-command_of line command, command_of-says line command)

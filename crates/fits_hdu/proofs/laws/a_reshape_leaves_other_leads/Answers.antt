@@ -1,5 +1,0 @@
-use Rattle.fits_hdu.proofs.OtherLeadLemmas.{reshaping_leaves_leads}
-use Rattle.fits_hdu.proofs.laws.a_reshape_leaves_other_leads.Goals as goal
-
-pub returns : goal.returns
-returns c = reshaping_leaves_leads

@@ -1,5 +1,0 @@
-use Rattle.fits_hdu.proofs.HduLemmas.{hdu_or_fault}
-use Rattle.fits_hdu.proofs.laws.an_hdu_or_a_fault.Goals as goal
-
-pub returns : goal.returns
-returns c = hdu_or_fault

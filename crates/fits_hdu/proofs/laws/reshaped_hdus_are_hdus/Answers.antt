@@ -1,5 +1,0 @@
-use Rattle.fits_hdu.proofs.ReshapeLemmas.{reshaped_is_hdu}
-use Rattle.fits_hdu.proofs.laws.reshaped_hdus_are_hdus.Goals as goal
-
-pub returns : goal.returns
-returns c = reshaped_is_hdu

@@ -1,5 +1,0 @@
-use Rattle.fits_hdu.proofs.ScalingLemmas.{scaling_keeps_shapes}
-use Rattle.fits_hdu.proofs.laws.scalings_keep_shapes.Goals as goal
-
-pub returns : goal.returns
-returns c = scaling_keeps_shapes

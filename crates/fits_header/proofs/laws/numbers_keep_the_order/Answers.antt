@@ -1,5 +1,0 @@
-use Rattle.fits_header.proofs.NumberLemmas.{earlier}
-use Rattle.fits_header.proofs.laws.numbers_keep_the_order.Goals as goal
-
-pub returns : goal.returns
-returns c = earlier

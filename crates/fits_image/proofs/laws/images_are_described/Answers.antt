@@ -1,9 +1,0 @@
-use Rattle.fits_image.proofs.ImageCardLemmas.{described}
-use Rattle.fits_image.proofs.ImageKindLemmas.{new_has_kind}
-use Rattle.fits_image.proofs.laws.images_are_described.Goals as goal
-
-pub returns-clause-shape : goal.returns-clause-shape
-returns-clause-shape c = described
-
-pub returns-clause-kind : goal.returns-clause-kind
-returns-clause-kind c = new_has_kind

@@ -1,0 +1,60 @@
+//! Laws of the definitions, each the contract of a function that does nothing.
+ghost use Rattle.std.specs.Prelude.{◌≡◌, ◌↔◌, ◌+◌, ◌<◌, ℕ, AllPairs, List, Some, length, take};
+ghost use Rattle.fits_laws.specs.Forms.{Says};
+ghost use Rattle.fits_script.specs.declared.command.Command.{Command};
+ghost use Rattle.fits_script.specs.declared.limits.TheConstants.{LINE_LIMIT};
+ghost use Rattle.fits_script.specs.Line.{command_of, reading_of};
+ghost use Rattle.fits_session.specs.File.{FileParts, IsFile};
+ghost use Rattle.fits_session.specs.Report.{IsListedBefore};
+ghost use Rattle.fits_session.specs.declared.problem.Problem.{Problem};
+ghost use Rattle.fits_cli.specs.Answer.{at_first_line};
+ghost use Rattle.fits_cli.specs.NewErrors.{new_errors, HasMoreErrors};
+ghost use Rattle.fits_cli.specs.Output.{standing_after, Output, IsOutputOf};
+ghost use Rattle.fits_cli.specs.Script.{IsCutInLines};
+
+/// What a line comes to is decided by one byte more than a line may have.
+pub fn reading_of_a_front()
+    ensures { (line : List ℕ) → reading_of (take (LINE_LIMIT + 1) line) ≡ reading_of line }
+{}
+
+/// A line within the limit says a command exactly where it has its form.
+pub fn what_a_line_says()
+    ensures { (line : List ℕ) (command : Command)
+        → (command_of line ≡ Some command) ↔ Says line command }
+{}
+
+/// A script is cut into lines in one way.
+pub fn one_cut()
+    ensures { (text : List ℕ) (ls ms : List (List ℕ)) (x y : List ℕ)
+        → IsCutInLines text ls x → IsCutInLines text ms y → (ls ≡ ms) × (x ≡ y) }
+{}
+
+/// Every script can be cut into lines.
+pub fn a_cut()
+    ensures { (text : List ℕ)
+        → (lines : List (List ℕ)) × (last : List ℕ) × IsCutInLines text lines last }
+{}
+
+/// A run has at most one output.
+pub fn one_output()
+    ensures { (file script : List ℕ) (o p : Output)
+        → IsOutputOf file script o → IsOutputOf file script p → o ≡ p }
+{}
+
+/// Every file and script have an output.
+pub fn an_output()
+    ensures { (file script : List ℕ) → (output : Output) × IsOutputOf file script output }
+{}
+
+/// Where a report in order has more of some error than another, at least one of its errors is new,
+/// and only there.
+pub fn more_of_an_error_is_a_new_error()
+    ensures { (before after : List Problem) → AllPairs IsListedBefore after
+        → HasMoreErrors before after ↔ (0 < length (new_errors before after)) }
+{}
+
+/// What the lines of a script leave of a file is a file: it opens again.
+pub fn a_script_leaves_a_file()
+    ensures { (file : FileParts) (lines : List (List ℕ)) → IsFile file
+        → IsFile (standing_after (at_first_line file) lines).marked.file }
+{}

@@ -1,5 +1,0 @@
-use Rattle.fits_session.proofs.FreshLemmas.{read_once}
-use Rattle.fits_session.proofs.laws.one_fresh_reading.Goals as goal
-
-pub returns : goal.returns
-returns c = read_once c.one_file.ensures

@@ -1,5 +1,0 @@
-use Rattle.fits_session.proofs.ProblemLemmas.{all_problems}
-use Rattle.fits_session.proofs.laws.the_report_is_all_problems.Goals as goal
-
-pub returns : goal.returns
-returns c = all_problems

@@ -1,5 +1,0 @@
-use Rattle.fits_session.proofs.MarkedLemmas.{unmarked_are_plain}
-use Rattle.fits_session.proofs.laws.unmarked_edits_are_plain.Goals as goal
-
-pub returns : goal.returns
-returns c = unmarked_are_plain

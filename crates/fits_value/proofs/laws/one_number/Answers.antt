@@ -1,5 +1,0 @@
-use Rattle.fits_value.proofs.NumberLemmas.{one_denoted}
-use Rattle.fits_value.proofs.laws.one_number.Goals as goal
-
-pub returns : goal.returns
-returns c = one_denoted

@@ -1,8 +1,0 @@
-use Rattle.fits_value.proofs.LongSaysLemmas.{link_in_chain, chain_of_link}
-use Rattle.fits_value.proofs.laws.which_cards_are_links.Goals as goal
-
-pub returns-clause-said : goal.returns-clause-said
-returns-clause-said c = link_in_chain
-
-pub returns-clause-only : goal.returns-clause-only
-returns-clause-only c = chain_of_link

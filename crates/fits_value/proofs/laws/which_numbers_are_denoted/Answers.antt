@@ -1,5 +1,0 @@
-use Rattle.fits_value.proofs.NumberSaysLemmas.{number_says}
-use Rattle.fits_value.proofs.laws.which_numbers_are_denoted.Goals as goal
-
-pub returns : goal.returns
-returns c = number_says

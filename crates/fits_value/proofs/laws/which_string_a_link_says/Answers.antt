@@ -1,8 +1,0 @@
-use Rattle.fits_value.proofs.LongSaysLemmas.{link_found, link_told_of}
-use Rattle.fits_value.proofs.laws.which_string_a_link_says.Goals as goal
-
-pub returns-clause-said : goal.returns-clause-said
-returns-clause-said c = link_found
-
-pub returns-clause-only : goal.returns-clause-only
-returns-clause-only c = link_told_of

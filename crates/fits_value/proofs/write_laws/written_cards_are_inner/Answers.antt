@@ -1,5 +1,0 @@
-use Rattle.fits_value.proofs.InnerLemmas.{inner_written}
-use Rattle.fits_value.proofs.write_laws.written_cards_are_inner.Goals as goal
-
-pub returns : goal.returns
-returns c = inner_written
