@@ -1,22 +1,52 @@
-use Rattle.std.proofs.Common.{◌≡◌, ◌+◌, ◌∙◌, ap, arith, length, refl, subst, sym}
-use Rattle.std.specs.Prelude.{Result, Ok}
+use Rattle.std.proofs.Common.{◌≡◌, ℕ, ◌+◌, ◌*◌, ◌≤◌, ◌∙◌, List, ap, arith, length, refl, subst, sym}
+use Rattle.std.specs.Prelude.{Option, None, Some, Result, Ok}
 use Rattle.std.proofs.lemmas.Result.{err_from_is_err_and}
 use Rattle.fits_card.specs.Header.{Header, header_length}
+use Rattle.fits_header.specs.State.{HeaderState, ReadsUpTo}
 use Rattle.fits_card.proofs.HeaderLemmas.{fill_length-by_cards}
 use Rattle.fits_plane.specs.Layout.{block_count}
 use Rattle.fits_rules.specs.Class.{is_primary}
 use Rattle.fits_rules.specs.Size.{data_length}
 use Rattle.fits_rules.specs.declared.array_shape.Shape.{Shape}
+use Rattle.fits_image.specs.Kind.{array_kind}
+use Rattle.fits_image.specs.declared.kind.Kind.{Kind}
 use Rattle.fits_hdu.specs.Hdu.{HduParts, IsHdu, hdu_bytes}
 use Rattle.fits_hdu.specs.Reshape.{ReshapeFails, kept_count, reshaped}
-use Rattle.fits_hdu.specs.Reshaping.{UnitFails}
+use Rattle.fits_hdu.specs.Reshaping.{IsPlan, UnitFails}
 use Rattle.fits_hdu.specs.State.{HduState, parts_of}
-use Rattle.fits_hdu.specs.Work.{IsRead, IsRenewed, plane_work}
+use Rattle.fits_hdu.specs.Work.{IsRead, IsRenewed, apply_reads, plan_reads, plane_work, reshape_reads, scaling_reads}
+use Rattle.fits_hdu.specs.declared.reshaping.Reshaping.{Reshaping}
 use Rattle.fits_hdu.specs.declared.reshape_fault.ReshapeFault.{ReshapeFault}
 use Rattle.fits_hdu.proofs.PlanLemmas.{change_brings}
 use Rattle.fits_hdu.proofs.ReshapeLemmas.{can_parts, kind_of_array}
 use Rattle.fits_hdu.proofs.ReshapedUnitLemmas.{kept_is, made_is, made_long, no_memory, plan_fails, renewed, unit_fails, unit_is, unit_long, unit_small, with_unit}
 use Rattle.fits_hdu.proofs.hdu.Hdu.reshape.Goals as goal
+
+-- ---- which cards are read
+
+-- whether it may be one is part of it
+plan_few : (old : Option Kind) (kind : Kind) (axes : List ℕ) (cards : List (List ℕ)) → plan_reads axes ≤ reshape_reads old kind axes cards
+plan_few None kind axes cards = omega arith
+plan_few (Some old) kind axes cards = omega arith
+
+-- so few are read until its plan is made
+plan_most : (kind : Kind) (axes : List ℕ) (old new : HeaderState) → ReadsUpTo old new (plan_reads axes) → new.reads ≤ old.reads + reshape_reads (array_kind old.shape old.header.cards) kind axes old.header.cards
+plan_most kind axes old new work =
+    let few : plan_reads axes ≤ reshape_reads (array_kind old.shape old.header.cards) kind axes old.header.cards = plan_few (array_kind old.shape old.header.cards) kind axes old.header.cards in
+    omega (arith, work.most, few)
+
+-- and with those that say how many cards it has, and those that are read when it is made
+all_most : (kind : Kind) (axes : List ℕ) (plan : Reshaping) (old mid counted : HeaderState) (last : ℕ) → IsPlan kind axes old.shape old.header.cards plan → ReadsUpTo old mid (plan_reads axes) → ReadsUpTo mid counted (scaling_reads plan.old plan.kind mid.header.cards)
+    → last ≤ counted.reads + (scaling_reads plan.old plan.kind counted.header.cards + apply_reads) → last ≤ old.reads + reshape_reads (array_kind old.shape old.header.cards) kind axes old.header.cards
+all_most kind axes plan old mid counted last is planned count made =
+    let cards : mid.header.cards ≡ old.header.cards = ap (λ (header : Header). header.cards) planned.header in
+    let left : counted.header.cards ≡ old.header.cards = ap (λ (header : Header). header.cards) count.header ∙ cards in
+    let reads = λ (to : Kind) (cs : List (List ℕ)). scaling_reads plan.old to cs in
+    let first : reads plan.kind mid.header.cards ≡ reads kind old.header.cards = ap (λ to. reads to mid.header.cards) is.planned.to ∙ ap (reads kind) cards in
+    let second : reads plan.kind counted.header.cards ≡ reads kind old.header.cards = ap (λ to. reads to counted.header.cards) is.planned.to ∙ ap (reads kind) left in
+    rw is.array (omega (arith, planned.most, count.most, made, first, second))
+
+-- ----
 
 -- it may not be made such an array
 pub returns-in_err-plan-clause-err : goal.returns-in_err-plan-clause-err
@@ -190,3 +220,24 @@ returns-clause-pixel_work c =
     let read = subst (λ n. IsRead n (plane_work c.self.inside.unit.plane) (plane_work c.reshape_unit.new.unit.plane)) kept c.in_ok-bytes.ensures.work in
     let work = renewed (kept_count h.shape.axes c.args.axes.now) (block_count c.in_ok-bytes.bytes.items) (plane_work c.self.inside.unit.plane) (plane_work c.reshape_unit.new.unit.plane) (plane_work c.renew.new.self.plane) read c.renew.ensures.pixel_work in
     rw c.renew.ensures.unit (subst (λ (s : HduState). IsRenewed (kept_count s.header.shape.axes c.args.axes.now) (block_count c.in_ok-bytes.bytes.items) (plane_work s.plane) (plane_work c.renew.new.self.plane)) c.self.view_is work)
+
+-- the cards that were read on the way
+pub returns-in_err-plan-clause-work : goal.returns-in_err-plan-clause-work
+returns-in_err-plan-clause-work c = subst (λ (s : HduState). c.plan.new.header.reads ≤ s.header.reads + reshape_reads (array_kind s.header.shape s.header.header.cards) c.args.kind c.args.axes.now s.header.header.cards) c.self.view_is (plan_most c.args.kind c.args.axes.now c.self.inside.header c.plan.new.header c.in_err-plan.ensures.work)
+
+pub returns-in_err-bytes-clause-work : goal.returns-in_err-bytes-clause-work
+returns-in_err-bytes-clause-work c =
+    subst (λ (s : HduState). c.count_reshaped-cards.new.header.reads ≤ s.header.reads + reshape_reads (array_kind s.header.shape s.header.header.cards) c.args.kind c.args.axes.now s.header.header.cards) c.self.view_is (all_most c.args.kind c.args.axes.now c.in_ok-plan.plan c.self.inside.header c.plan.new.header c.count_reshaped-cards.new.header (c.count_reshaped-cards.new.header.reads) c.in_ok-plan.ensures.ok c.in_ok-plan.ensures.work c.count_reshaped-cards.ensures.work (omega arith))
+
+pub returns-in_err-room-clause-work : goal.returns-in_err-room-clause-work
+returns-in_err-room-clause-work c =
+    subst (λ (s : HduState). c.count_reshaped-cards.new.header.reads ≤ s.header.reads + reshape_reads (array_kind s.header.shape s.header.header.cards) c.args.kind c.args.axes.now s.header.header.cards) c.self.view_is (all_most c.args.kind c.args.axes.now c.in_ok-plan.plan c.self.inside.header c.plan.new.header c.count_reshaped-cards.new.header (c.count_reshaped-cards.new.header.reads) c.in_ok-plan.ensures.ok c.in_ok-plan.ensures.work c.count_reshaped-cards.ensures.work (omega arith))
+
+pub returns-in_err-reserve-clause-work : goal.returns-in_err-reserve-clause-work
+returns-in_err-reserve-clause-work c =
+    subst (λ (s : HduState). c.reserve.new.self.reads ≤ s.header.reads + reshape_reads (array_kind s.header.shape s.header.header.cards) c.args.kind c.args.axes.now s.header.header.cards) c.self.view_is (all_most c.args.kind c.args.axes.now c.in_ok-plan.plan c.self.inside.header c.plan.new.header c.count_reshaped-cards.new.header (c.reserve.new.self.reads) c.in_ok-plan.ensures.ok c.in_ok-plan.ensures.work c.count_reshaped-cards.ensures.work (omega (arith, c.reserve.ensures.work)))
+
+pub returns-clause-work : goal.returns-clause-work
+returns-clause-work c =
+    let cards = ap (λ (header : Header). scaling_reads c.in_ok-plan.plan.old c.in_ok-plan.plan.kind header.cards) c.reserve.ensures.header in
+    subst (λ (s : HduState). c.renew.new.self.header.reads ≤ s.header.reads + reshape_reads (array_kind s.header.shape s.header.header.cards) c.args.kind c.args.axes.now s.header.header.cards) c.self.view_is (all_most c.args.kind c.args.axes.now c.in_ok-plan.plan c.self.inside.header c.plan.new.header c.count_reshaped-cards.new.header (c.renew.new.self.header.reads) c.in_ok-plan.ensures.ok c.in_ok-plan.ensures.work c.count_reshaped-cards.ensures.work (omega (arith, c.renew.ensures.work, c.reserve.ensures.work, cards)))
