@@ -1,4 +1,4 @@
-use Rattle.std.proofs.Common.{subst, ℕ, ◌≡◌, ◌+◌, ◌%◌, ◌≤◌, ◌∙◌, ap, arith}
+use Rattle.std.proofs.Common.{rules, subst, ℕ, ◌≡◌, ◌+◌, ◌%◌, ◌≤◌, ◌∙◌, ap, arith}
 use Rattle.std.specs.Prelude.{min, IfSome}
 use Rattle.fits_plane.specs.DataUnit.{UnitState}
 use Rattle.fits_plane.specs.Layout.{block_pixels}
@@ -60,3 +60,17 @@ returns-in_err-converted-clause-rest c = rw c.in-Some.is tt
 
 pub returns-clause-rest : goal.returns-clause-rest
 returns-clause-rest c = rw c.in-Some.is tt
+
+-- Said, so that a body that breaks it is refused at once.
+
+pub returns-then-converts-clause-err : goal.returns-then-converts-clause-err
+returns-then-converts-clause-err c = search rules
+
+pub returns-else-converts-clause-err : goal.returns-else-converts-clause-err
+returns-else-converts-clause-err c = search rules
+
+pub returns-clause-ok : goal.returns-clause-ok
+returns-clause-ok c = search rules
+
+pub returns-clause-err : goal.returns-clause-err
+returns-clause-err c = search rules
