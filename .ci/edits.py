@@ -1,7 +1,7 @@
 #!/usr/bin/env python3
 """Tries the refused bodies crates/NAME/refused/*.edit: the prover must refuse the very function that each one turns.
 
-    .ci/edits.py [--anew] [--beside PROCESS] [NAME..]
+    .ci/edits.py [--anew] [--beside PROCESS LOG] [NAME..]
 
 An edit is as in must-fail/, with a line `of: FUNCTION` before its `file:`, the function by the name that a check prints. `rt ci`
 tries each edit of must-fail/ by a check of its own over a second proof of the whole crate. Here all edits of a crate that turn
@@ -13,7 +13,8 @@ a condition of what it calls isn't met. One that isn't seen refused beside other
 An edit that can't be applied or compiled fails as one that isn't refused does.
 
 What was refused is kept on this machine, by the sum of all that the answer rests on; --anew tries all. The libraries below a crate
-are those in out/, as `rt check` or `rt ci` builds them; while the process of the given number runs, they are waited for.
+are those in out/, as `rt check` or `rt ci` builds them; while the `rt ci` of the given number runs, a library is waited for until its
+log says that it is there.
 The last line is 'N passed, M failed'.
 """
 import concurrent.futures
@@ -229,6 +230,12 @@ def runs(process):
         return False
 
 
+def is_built(crate, log):
+    """Whether a library stands whole in out/: while `rt ci` runs, it may stand there in part until its log names it."""
+    is_told = log is None or re.search(rf"(?m)^(?:rt: )?{crate.name} (?:proved$|is kept)", log)
+    return is_told and os.path.isfile(f"{crate.rlib}/format")
+
+
 def free():
     """The free memory of the machine, in kB."""
     return int(re.search(r"MemAvailable:\s+(\d+)", open("/proc/meminfo", encoding="ascii").read())[1])
@@ -248,9 +255,9 @@ class Trying:
                 if len(known) < len(edits):
                     self.left[crate] = [it for it in edits if it not in known]
 
-    def find_ready(self):
-        """Lets the seeds wait for a processor of all crates whose libraries below are built."""
-        for crate in [it for it in self.left if all(os.path.isfile(f"{dep.rlib}/format") for dep in it.below())]:
+    def find_ready(self, log):
+        """Lets the seeds wait for a processor of all crates whose libraries below are built, as a log says, if there is one."""
+        for crate in [it for it in self.left if all(is_built(dep, log) for dep in it.below())]:
             edits = self.left.pop(crate)
             for dep in crate.below():
                 take(dep, self.room)
@@ -295,8 +302,9 @@ class Trying:
 
 def main(words):
     os.chdir(TOP)
-    anew, beside = "--anew" in words, words[words.index("--beside") + 1] if "--beside" in words else None
-    names = [it for it in words if it not in ("--anew", "--beside", beside)]
+    at = words.index("--beside") if "--beside" in words else len(words)
+    beside, log = words[at + 1 : at + 3] or (None, None)
+    anew, names = "--anew" in words, [it for it in words[:at] + words[at + 3 :] if it != "--anew"]
     rtlib.guarded()
     os.makedirs(KEPT, exist_ok=True)
     lanes = int(os.environ.get("EDITS_AT_ONCE") or len(os.sched_getaffinity(0)))
@@ -306,7 +314,7 @@ def main(words):
         while trying.waiting or trying.running or trying.left and not is_last:
             # (once more after the other process has ended)
             is_last = beside is None or not runs(beside)
-            trying.find_ready()
+            trying.find_ready(None if is_last else open(log, encoding="utf-8", errors="replace").read())
             trying.go_on(pool, lanes, 2)
     answers = trying.answers
     answers.update({it: (None, "NOT TRIED: a library below isn't built") for edits in trying.left.values() for it in edits})

@@ -33,7 +33,7 @@ proofs=$!
 part tool nice -n 10 python3 -B .ci/edits_test.py &
 # What stood in out/ is set aside once a crate is proved: the libraries that come then are those of this run.
 until grep -qE ' proved$| is kept' "$room/proofs.log" 2>/dev/null || ! kill -0 $proofs 2>/dev/null; do sleep 1; done
-part edits nice -n 10 python3 -B .ci/edits.py ${ANEW:+--anew} --beside $proofs &
+part edits nice -n 10 python3 -B .ci/edits.py ${ANEW:+--anew} --beside $proofs "$room/proofs.log" &
 edits=$!
 wait $proofs
 part refused sh .ci/refuse.sh &
