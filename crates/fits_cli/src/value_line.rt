@@ -23,9 +23,7 @@ pub(crate) fn value_line(
 {
     let mut line = Vec::with_capacity(alloc, LINE_ROOM)?;
     push_value(&mut line, value)?;
-    if let Some(comment) = comment {
-        push_comment(&mut line, comment)?;
-    }
+    push_comment(&mut line, comment)?;
     line.push(b'\n')?;
     Ok(line)
 }
@@ -69,8 +67,13 @@ fn push_doubled(line: &mut Vec<u8>, text: &[u8]) -> Result<(), AllocError>
     line.extend_from_slice(rest)
 }
 
-fn push_comment(line: &mut Vec<u8>, comment: &Text) -> Result<(), AllocError>
-    ensures { OnOk result (line.new.items ≡ line.old.items ++ comment_text (Some comment.now)) }
+// Adds a comment, where there is one.
+fn push_comment(line: &mut Vec<u8>, comment: Option<&Text>) -> Result<(), AllocError>
+    ensures { OnOk result
+        (line.new.items ≡ line.old.items ++ comment_text (option_copied comment.entry)) }
 {
-    push_both(line, b" /", comment.as_bytes())
+    match comment {
+        Some(comment) => push_both(line, b" /", comment.as_bytes()),
+        None => Ok(()),
+    }
 }
