@@ -1,4 +1,4 @@
-use Rattle.std.proofs.Common.{◌≤◌, length, refl, arith, ap, set, subst, sym, ◌∙◌}
+use Rattle.std.proofs.Common.{rules, ◌≤◌, length, refl, arith, ap, set, subst, sym, ◌∙◌}
 use Rattle.fits_hdu.specs.State.{parts_of}
 use Rattle.fits_hdu.specs.Work.{name_reads}
 use Rattle.fits_session.specs.Session.{reads_of, ReadsOnly}
@@ -124,3 +124,7 @@ returns-else-may_rename g c =
       long = c.in_ok-self-inside.ensures.len;
     } in
     rw (← c.self.view_is) (edits_made c.self.inside.hdus.items (set c.self.inside.hdus.items c.in_ok-i.i c.edit_hdu.new.hdu) c.self.inside.tail.items c.args.h c.in_ok-i.i c.args.edit.now c.self.inside.len c.len-count.result c.in_ok-self-inside.field-0 0 c.index_mut.result.now c.edit_hdu.new.hdu tt edited (followed_none (set c.self.inside.hdus.items c.in_ok-i.i c.edit_hdu.new.hdu) c.args.h) (omega arith))
+
+-- Said, so that a body that breaks it is refused at once.
+pub edit_hdu-requires-clause-ready : goal.edit_hdu-requires-clause-ready
+edit_hdu-requires-clause-ready g c = search rules

@@ -1,4 +1,4 @@
-use Rattle.std.proofs.Common.{◌≡◌, ◌+◌, ◌-◌, ◌<◌, Bool, inl, inr, refl, ap, sym, subst, ◌∙◌, arith, length, true}
+use Rattle.std.proofs.Common.{rules, ◌≡◌, ◌+◌, ◌-◌, ◌<◌, Bool, inl, inr, refl, ap, sym, subst, ◌∙◌, arith, length, true}
 use Rattle.std.proofs.lemmas.Bool.{cases_lt, false≢true}
 use Rattle.std.proofs.lemmas.Result.{err_from_is_err_and}
 use Rattle.std.specs.Prelude.{is_some}
@@ -124,3 +124,7 @@ returns c =
     (c.apply.ensures.kept ∙ (ap (λ (hdu : HduState). hdu.kept) room.rest ∙ read.kept))
     (c.apply.ensures.absent ∙ (ap (λ (hdu : HduState). hdu.absent) room.rest ∙ read.absent))
     (subst (λ b. IsFinished b c.apply.new.self c.finish.new.hdu) stamps c.finish.ensures)
+
+-- Said, so that a body that breaks it is refused at once.
+pub returns-then-not-keeps_shape : goal.returns-then-not-keeps_shape
+returns-then-not-keeps_shape c = search rules
