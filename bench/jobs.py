@@ -104,12 +104,12 @@ def kept_script(noise):
 
 def kept_line(number, noise):
     hdu = noise.within(2, KEPT_IMAGES + 1)
-    column, row, value = noise.within(1, 500), noise.within(1, 256), noise.within(0, 30_000)
+    column, row, level = noise.within(1, 500), noise.within(1, 256), noise.within(0, 30_000)
     return [
-        f"set {hdu} KEY3 'setting {value}' / corrected",
-        f"fill {hdu} {column}:{column},{row}:{row} {value}",
-        f"write {hdu} {column}:{column + 3},{row}:{row} 1 2 3 {value}",
-        f"ins {hdu} 12 HISTORY corrected by {value}",
+        f"set {hdu} KEY3 'setting {level}' / corrected",
+        f"fill {hdu} {column}:{column},{row}:{row} {level}",
+        f"write {hdu} {column}:{column + 3},{row}:{row} 1 2 3 {level}",
+        f"ins {hdu} 12 HISTORY corrected by {level}",
         f"sum {hdu}",
     ][number % 5]
 
@@ -150,7 +150,8 @@ def tables(noise):
         pixels = filled(noise.words(64 * 64 * -bits // 64))
         lines = [table_line(columns, cards, noise) for _ in range(TABLE_LINES)]
         files = {IN: b"".join([*parts, pixels]), SCRIPT: script([*lines, "stamp 2", "stamp 3", "rep"])}
-        yield Round(files, [Command(["verify", "-e", IN]), edit()])
+        # the status is 1 for the questions that find no keyword
+        yield Round(files, [Command(["verify", "-e", IN]), edit(status=1)])
 
 
 def table(columns, noise):
