@@ -4,12 +4,14 @@
 mod arguments;
 mod editing;
 mod files;
+mod form;
 mod help;
 mod piece;
 mod reading;
 mod remarks;
 mod reporting;
 mod task;
+mod word;
 
 use arguments::command;
 use clap::Error;

@@ -1,0 +1,119 @@
+//! A word that a command takes.
+use clap::{Arg, ArgAction};
+use std::alloc::{AllocError, Global};
+
+/// A word that a command takes.
+#[derive(Clone, Copy)]
+pub enum Word {
+    /// A flag of one command: its name, its letter, and what the help says of it.
+    Flag(&'static str, char, &'static str),
+    /// A line of the script.
+    Line,
+    /// A file with lines of the script.
+    File,
+    /// Whether remarks are made on lines.
+    Verbose,
+    /// Whether each line begins with the name of its file.
+    Named,
+    /// An HDU whose cards are printed.
+    Hdu,
+    /// A keyword whose cards are printed.
+    Name,
+    /// The file to edit.
+    In,
+    /// The file to write.
+    Out,
+    /// More files to edit.
+    More,
+    /// The files to read.
+    Files,
+}
+
+impl Word {
+    /// The word, as clap reads it.
+    pub fn arg<'a>(&self, alloc: Global) -> Result<Arg<'a>, AllocError> {
+        match *self {
+            Word::Flag(id, letter, help) => Ok(flag(alloc, id, letter, help)),
+            Word::Line => Ok(line(alloc)),
+            Word::File => Ok(file(alloc)),
+            Word::Verbose => Ok(verbose(alloc)),
+            Word::Named => Ok(named(alloc)),
+            Word::Hdu => Ok(hdu(alloc)),
+            Word::Name => Ok(name(alloc)),
+            Word::In => Ok(path(alloc, "IN", "The file to read").required(true)),
+            Word::Out => out(alloc),
+            Word::More => more(alloc),
+            Word::Files => Ok(files(alloc)),
+        }
+    }
+}
+
+fn line<'a>(alloc: Global) -> Arg<'a> {
+    let help = "A line of the script, in place of standard input; may be repeated";
+    list(alloc, "line", 'e', "LINE", help)
+}
+
+fn file<'a>(alloc: Global) -> Arg<'a> {
+    let help = "A file with lines of the script, - for standard input; may be repeated";
+    list(alloc, "file", 'f', "FILE", help)
+}
+
+fn verbose<'a>(alloc: Global) -> Arg<'a> {
+    let help = "Say on standard error why a line isn't done";
+    flag(alloc, "verbose", 'v', help)
+}
+
+fn named<'a>(alloc: Global) -> Arg<'a> {
+    let help = "Print the name of the file before each line, also of one file";
+    flag(alloc, "with-filename", 'H', help)
+}
+
+fn hdu<'a>(alloc: Global) -> Arg<'a> {
+    let help = "Cards of this HDU alone; may be repeated";
+    list(alloc, "hdu", 'u', "HDU", help)
+}
+
+fn name<'a>(alloc: Global) -> Arg<'a> {
+    let help = "Cards of this keyword alone; may be repeated";
+    list(alloc, "name", 'k', "NAME", help).allow_hyphen_values(true)
+}
+
+fn out<'a>(alloc: Global) -> Result<Arg<'a>, AllocError> {
+    let help = "The file to write; it may be IN, or /dev/null for answers alone";
+    path(alloc, "OUT", help).required_unless_present("in-place")
+}
+
+fn more<'a>(alloc: Global) -> Result<Arg<'a>, AllocError> {
+    path(alloc, "FILE", "More files to edit in place")
+        .action(ArgAction::Append)
+        .num_args(0..)
+        .requires_arg("in-place")
+}
+
+fn files<'a>(alloc: Global) -> Arg<'a> {
+    path(alloc, "IN", "The files to read")
+        .required(true)
+        .action(ArgAction::Append)
+        .num_args(1..)
+}
+
+fn path<'a>(alloc: Global, id: &'a str, help: &'a str) -> Arg<'a> {
+    Arg::new(alloc, id).action(ArgAction::Set).help(help)
+}
+
+fn flag<'a>(alloc: Global, id: &'a str, letter: char, help: &'a str) -> Arg<'a> {
+    Arg::new(alloc, id)
+        .short(letter)
+        .long(id)
+        .action(ArgAction::SetTrue)
+        .help(help)
+}
+
+fn list<'a>(alloc: Global, id: &'a str, letter: char, value: &'a str, help: &'a str) -> Arg<'a> {
+    Arg::new(alloc, id)
+        .short(letter)
+        .long(id)
+        .value_name(value)
+        .action(ArgAction::Append)
+        .help(help)
+}
