@@ -12,14 +12,12 @@ use Rattle.std.proofs.lemmas.List.{length-replicate}
 use Rattle.std.proofs.lemmas.List.Elements.{All-append, All-cons, All-nil}
 use Rattle.std.proofs.lemmas.Slice.Eq.{bytes_eq-Decides}
 use Rattle.fits_card.specs.Card.{IsEnd, IsText, card_of_text, has_value, is_end, is_text, is_text_byte, keyword_name}
-use Rattle.fits_card.specs.Header.{Header, IsHeader, IsInnerCard, card_at, fill_length, header_bytes, header_length, new_header}
+use Rattle.fits_card.specs.Header.{IsHeader, IsInnerCard, card_at, fill_length, new_header}
 use Rattle.fits_card.specs.Name.{is_valueless}
-use Rattle.fits_card.proofs.HeaderLemmas.{length-header_bytes}
 use Rattle.fits_rules.specs.Class.{extension_class}
 use Rattle.fits_rules.specs.Lead.{is_value_of, lead_card}
 use Rattle.fits_rules.specs.Reads.{integer_said}
 use Rattle.fits_rules.specs.Shape.{Describes, axis_name, axis_of, bitpix_in, bitpix_of, card_named, class_of, count_of, count_said, first_card, naxis_of, shape_of, up_to}
-use Rattle.fits_rules.specs.Size.{data_length}
 use Rattle.fits_rules.specs.declared.class.Class.TheVariants.{Image}
 use Rattle.fits_rules.proofs.DescribesLemmas.{describes}
 use Rattle.fits_rules.proofs.ShapeLemmas.{axis_there, bitpix_there, first_named, naxis_there, named_same}

@@ -1,12 +1,10 @@
 -- The header of a new image, as it is made.
-use Rattle.std.proofs.Common.{◌≡◌, ℕ, ◌+◌, ◌*◌, ◌/◌, ◌%◌, ◌<◌, ◌≤◌, inl, inr, true, false, List, [], ◌∷◌, ◌++◌, length, get_or, drop, replicate, codes, refl, ap, sym, ◌∙◌, subst, arith, append_assoc, append-nil, All}
+use Rattle.std.proofs.Common.{◌≡◌, ℕ, ◌+◌, ◌*◌, ◌/◌, ◌%◌, ◌<◌, ◌≤◌, inl, inr, true, false, List, [], ◌∷◌, ◌++◌, length, get_or, drop, codes, refl, ap, sym, ◌∙◌, subst, arith, append_assoc, append-nil, All}
 use Rattle.std.specs.Prelude.{IsTrue, Ok, pos}
-use Rattle.fits_card.specs.Header.{Header, IsInnerCard, header_bytes, header_length, new_header}
+use Rattle.fits_card.specs.Header.{Header, IsInnerCard, new_header}
 use Rattle.fits_card.specs.Name.{is_name_byte, is_settable, is_spelled, is_valueless}
-use Rattle.fits_card.proofs.HeaderLemmas.{length-header_bytes}
 use Rattle.fits_rules.specs.Class.{is_primary}
 use Rattle.fits_rules.specs.Shape.{axis_name, shape_of}
-use Rattle.fits_rules.specs.Size.{data_length}
 use Rattle.fits_rules.specs.declared.array_shape.Shape.{Shape}
 use Rattle.fits_image.specs.ImageCards.{shape_cards, are_axes, axis_cards, offset_cards, written, written_number, image_cards, image_shape}
 use Rattle.fits_image.specs.declared.kind.Kind.{Kind}
@@ -15,7 +13,7 @@ use Rattle.fits_image.specs.Kind.{width_of}
 use Rattle.fits_value.specs.declared.value.Value.TheVariants.{Str}
 use Rattle.fits_rules.proofs.ShapeLemmas.{name_one, name_two, name_three}
 use Rattle.std.proofs.lemmas.Bool.{cases_lt}
-use Rattle.std.proofs.lemmas.List.{drop_all, drop_more, length-append, length-replicate}
+use Rattle.std.proofs.lemmas.List.{drop_all, drop_more}
 use Rattle.fits_image.proofs.ImageCardLemmas.{inner_cards, offset_count, count_of_cards, described, axes_from}
 
 -- an offset has two cards at most

@@ -1,13 +1,10 @@
 -- What stands behind the counts of a new image.
-use Rattle.std.proofs.Common.{◌≡◌, ℕ, false, List, ◌∷◌, codes, ◌∙◌, arith, Option}
-use Rattle.std.specs.Prelude.{pos, option_and_then}
+use Rattle.std.proofs.Common.{◌≡◌, ℕ, false, List, ◌∷◌, codes, ◌∙◌, arith}
+use Rattle.std.specs.Prelude.{pos}
 use Rattle.std.specs.Str.{bytes_eq}
-use Rattle.fits_card.specs.Header.{card_at}
-use Rattle.fits_rules.specs.Reads.{string_said}
-use Rattle.fits_rules.specs.Shape.{axis_name}
 use Rattle.fits_image.specs.declared.kind.Kind.{Kind}
 use Rattle.fits_image.proofs.LeadFromLemmas.{from_lead}
-use Rattle.fits_image.proofs.ImageCardLemmas.{IsLater, bscale_name, gcount_is, later_list, offset_list, passed, pcount_is}
+use Rattle.fits_image.proofs.ImageCardLemmas.{bscale_name, gcount_is, later_list, offset_list, passed, pcount_is}
 use Rattle.fits_image.proofs.NumberCardLemmas.{IsValueCard, number_card, number_card_is}
 
 -- a lead that is no count's is the offset's

@@ -1,19 +1,12 @@
 -- The lead of a name, and the cards after it.
-use Rattle.std.proofs.Common.{◌≡◌, ◌⊎◌, inl, inr, ℕ, zero, suc, ◌+◌, ◌-◌, ◌<◌, ◌≤◌, Bool, true, false, ltb, List, [], ◌∷◌, ◌++◌, length, get_or, take, drop, codes, not, refl, ap, sym, ◌∙◌, subst, arith, All, Option, None, Some, option_and_then}
-use Rattle.std.specs.Prelude.{◌≢◌, if◌then◌else◌}
+use Rattle.std.proofs.Common.{◌≡◌, ◌⊎◌, inl, inr, ℕ, suc, ◌+◌, ◌-◌, ◌<◌, true, false, ltb, List, [], ◌∷◌, ◌++◌, length, get_or, take, drop, not, refl, ap, sym, ◌∙◌, arith, Option, None, Some, option_and_then}
+use Rattle.std.specs.Prelude.{if◌then◌else◌}
 use Rattle.std.specs.List.{position_or_len, slice_get}
-use Rattle.std.specs.Option.{option_map, option_map_or}
-use Rattle.std.specs.Str.{bytes_eq}
-use Rattle.std.proofs.lemmas.Bool.{cases_Bool, and_from, and_parts, cond-true, cond-false, lt-ltb, ltb-true, false_from_ne_true}
-use Rattle.std.proofs.lemmas.List.{append-nil, drop_all, drop-drop, get_or-drop, length-drop, length-take-le, take-append-drop}
-use Rattle.std.proofs.Math.Seq.{take-length}
-use Rattle.std.proofs.lemmas.List.Elements.{All-cons, All-head, All-nil, All-tail}
+use Rattle.std.specs.Option.{option_map}
+use Rattle.std.proofs.lemmas.Bool.{cases_Bool, cond-true, cond-false, lt-ltb, ltb-true, false_from_ne_true}
+use Rattle.std.proofs.lemmas.List.{get_or-drop, length-drop}
 use Rattle.std.proofs.lemmas.Option.{slice_get-get_or}
-use Rattle.std.proofs.lemmas.Slice.Eq.{bytes_eq-Decides}
-use Rattle.fits_card.specs.Card.{has_value, indicator, keyword_name}
-use Rattle.fits_card.specs.Change.{cards_after, spliced}
 use Rattle.fits_card.specs.Header.{card_at}
-use Rattle.fits_value.specs.Says.{card_says, card_string, ends_in_ampersand, first_chain_length, is_continue, link_before, link_count, chain_length, link_says, links_after, links_of, said_string, string_cards}
 use Rattle.fits_rules.specs.Lead.{is_value_of, lead_card, lead_place}
 
 -- a card, and those after it

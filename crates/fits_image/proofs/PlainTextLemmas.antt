@@ -12,8 +12,7 @@ use Rattle.std.proofs.Math.Seq.{take-append_seam, take-length}
 use Rattle.std.proofs.lemmas.Slice.Eq.{bytes_eq-Decides}
 use Rattle.fits_card.specs.Card.{IsText, card_of_text, has_value, indicator, is_text_byte, keyword_name}
 use Rattle.fits_card.specs.Name.{is_valueless}
-use Rattle.fits_sum.specs.ChecksumText.{checksum_text, is_letter_or_digit, zeros}
-use Rattle.fits_sum.proofs.TextLemmas.{texts_are_letters_and_digits}
+use Rattle.fits_sum.specs.ChecksumText.{is_letter_or_digit}
 use Rattle.fits_value.specs.LongString.{EndsInAmpersand}
 use Rattle.fits_value.specs.Number.{value_of}
 use Rattle.fits_value.specs.Says.{card_says, card_string, ends_in_ampersand, said_string}

@@ -1,5 +1,5 @@
 -- The cards of an image extension, as values are written (FITS Standard 4.0, sections 4.4.1.2, 4.4.2.5, 5.2.5 and 7.1; own).
-use Rattle.std.specs.Prelude.{ℕ, ◌+◌, ◌*◌, ◌&&◌, Bool, nat_le, ℤ, pos, List, [], ◌∷◌, ◌++◌, length, replicate, codes, None, unwrap_or}
+use Rattle.std.specs.Prelude.{ℕ, ◌+◌, ◌*◌, ◌&&◌, Bool, nat_le, ℤ, pos, List, [], ◌∷◌, ◌++◌, length, codes, None, unwrap_or}
 use Rattle.std.specs.Fmt.{signed_decimal}
 use Rattle.std.specs.List.{list_all}
 use Rattle.fits_rules.specs.Shape.{axis_name}

@@ -1,5 +1,5 @@
 -- Written cards are cards of a header before its END.
-use Rattle.std.proofs.Common.{◌≡◌, ℕ, zero, suc, ◌+◌, ◌&&◌, true, false, not, eqb, leb, List, [], ◌∷◌, ◌++◌, length, take, drop, codes, bytes_eq, All, Option, None, Some, Result, Ok, Err, refl, sym, ◌∙◌, ap, subst, inl, inr}
+use Rattle.std.proofs.Common.{◌≡◌, ℕ, zero, suc, ◌&&◌, true, false, not, eqb, leb, List, [], ◌∷◌, ◌++◌, length, take, drop, codes, bytes_eq, All, Option, None, Some, Result, Ok, Err, refl, sym, ◌∙◌, ap, subst, inl, inr}
 use Rattle.std.specs.Prelude.{IfOk, OnOk, IsTrue}
 use Rattle.std.proofs.lemmas.Bool.{cases_Bool, and_parts, cond-true, cond-false, not-true, eqb-true}
 use Rattle.std.proofs.lemmas.List.Elements.{All-cons, All-nil}

@@ -1,5 +1,5 @@
 -- Texts that end in no space.
-use Rattle.std.proofs.Common.{◌≡◌, ℕ, ◌-◌, List, [], ◌∷◌, length, refl, sym, ◌∙◌, arith}
+use Rattle.std.proofs.Common.{◌≡◌, ℕ, List, [], ◌∷◌, length, refl, sym, ◌∙◌, arith}
 use Rattle.std.specs.List.{suffix_len}
 use Rattle.std.proofs.Math.Seq.{take-length}
 use Rattle.fits_value.proofs.NormalLemmas.{normal_form-other}

@@ -1,4 +1,3 @@
-use Rattle.std.proofs.Common.{rules}
 use Rattle.fits_image.proofs.ImageHeaderLemmas.{gcount_settable, image_pushed, pcount_settable}
 use Rattle.fits_image.proofs.image_cards.push_image.Goals as goal
 
