@@ -1,9 +1,9 @@
 //! Files with one byte changed: what opens is edited, saved and opened again, and answers as before.
 
-use crate::builders::{FileText, P0, file_of};
 use crate::comparing::same_answers;
-use crate::files::{refusal_of, saved};
-use fits_cli::{Command, parse_line};
+use crate::files::saved;
+use fits_fixtures::{FileText, P0, change, file_of};
+use fits_script::{Command, parse_line};
 use fits_session::Session;
 use std::alloc::AllocError;
 use std::process::Abort;
@@ -68,23 +68,11 @@ fn check_file<R: Abort + AllocGlobal>(rt: &R, bytes: &[u8], line: &str) -> Resul
         return Ok(());
     };
     if let Ok(Command::Edit(edit)) = parse_line(rt.alloc(), line.as_bytes()) {
-        let _ = refusal_of(&mut session, edit);
+        let _ = session.edit(edit);
     }
     let left = saved(rt.alloc(), &mut session)?;
     match Session::open(rt.alloc(), &left) {
         Ok(mut fresh) => same_answers(rt, &mut session, &mut fresh),
         Err(_) => Err(AllocError),
-    }
-}
-
-/// Puts a byte at a place, and gives the one that stood there.
-pub fn change(bytes: &mut [u8], place: usize, byte: u8) -> u8 {
-    match bytes.get_mut(place) {
-        Some(here) => {
-            let before = *here;
-            *here = byte;
-            before
-        }
-        None => 0,
     }
 }

@@ -1,11 +1,11 @@
 //! Whether two sessions give the same answers to every query.
 
-use crate::builders::name_of;
-use crate::checks::{holds, same};
 use crate::files::saved;
-use crate::values::line_of;
 use fits_card::Name;
-use fits_rules::Shape;
+use fits_fixtures::{holds, line_of, name_of, same};
+use fits_hdu::{Stats, Verdicts};
+use fits_image::Kind;
+use fits_rules::{Class, Shape};
 use fits_session::{Refusal, Session};
 use std::alloc::{AllocError, Global};
 use std::process::Abort;
@@ -37,25 +37,42 @@ pub fn same_answers<R: Abort + AllocGlobal>(
     Ok(())
 }
 
-// Whether an HDU of both is as long, of one shape and kind, and has the same sums.
-fn same_numbers<R: Abort>(rt: &R, one: &mut Session, other: &mut Session, h: usize) {
-    same!(rt; one.card_count(h), other.card_count(h), h);
-    same!(rt; one.kind(h), other.kind(h), h);
-    same!(rt; one.stats(h), other.stats(h), h);
-    same!(rt; one.datasum(h), other.datasum(h), h);
-    same!(rt; one.verdicts(h), other.verdicts(h), h);
-    match (one.shape(h), other.shape(h)) {
-        (Ok(found), Ok(wanted)) => same_shape(rt, found, wanted),
-        (found, wanted) => same!(rt; found.err(), wanted.err(), h),
-    }
+/// How many cards an HDU has, its kind, its statistics, its sum and its verdicts.
+type Numbers = (
+    Result<usize, Refusal>,
+    Result<Kind, Refusal>,
+    Result<Stats, Refusal>,
+    Result<u32, Refusal>,
+    Result<Verdicts, Refusal>,
+);
+
+fn numbers_of(session: &Session, h: usize) -> Numbers {
+    (
+        session.card_count(h),
+        session.kind(h),
+        session.stats(h),
+        session.datasum(h),
+        session.verdicts(h),
+    )
 }
 
-// Whether two shapes are the same.
-fn same_shape<R: Abort>(rt: &R, one: &Shape, other: &Shape) {
-    same!(rt; one.class, other.class);
-    same!(rt; one.bitpix, other.bitpix);
-    same!(rt; one.axes.as_slice(), other.axes.as_slice());
-    same!(rt; (one.pcount, one.gcount), (other.pcount, other.gcount));
+/// A shape: its class, BITPIX, axes, PCOUNT and GCOUNT.
+type ShapeText<'a> = (Class, i64, &'a [u64], u64, u64);
+
+fn text_of(shape: &Shape) -> ShapeText<'_> {
+    (
+        shape.class,
+        shape.bitpix,
+        shape.axes.as_slice(),
+        shape.pcount,
+        shape.gcount,
+    )
+}
+
+// Whether an HDU of both is as long, of one shape and kind, and has the same sums.
+fn same_numbers<R: Abort>(rt: &R, one: &Session, other: &Session, h: usize) {
+    same!(rt; numbers_of(one, h), numbers_of(other, h), h);
+    same!(rt; one.shape(h).map(text_of), other.shape(h).map(text_of), h);
 }
 
 // Whether an HDU of both has the same names of cards, and the same first pixel. Err: memory was refused.

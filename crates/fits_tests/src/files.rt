@@ -1,14 +1,10 @@
 //! Files: which open, as what, and what they answer.
 
-use crate::builders::{FileText, P0, file_of};
-use crate::checks::same;
+use fits_fixtures::{FileText, P0, SMOOTH, file_of, same, writer};
 use fits_image::Kind;
 use fits_rules::{Axes, Class};
 use fits_session::{Edit, Refusal, Session, within};
-use fits_stream::Watched;
 use std::alloc::{AllocError, Global};
-use std::io;
-use std::io::Write;
 use std::process::Abort;
 use std::test::Fail;
 
@@ -27,33 +23,14 @@ fn limits_are_the_last_that_are_kept(rt: HostRuntime) {
     }
 }
 
-/// Makes an edit, and answers why it was refused, if it was.
-pub fn refusal_of(session: &mut Session, edit: Edit) -> Option<Refusal> {
-    session.edit(edit).err()
-}
-
-/// Bytes in memory, as they were written.
-#[derive(Drop)]
-struct Written(Vec<u8>);
-
-impl Write for Written {
-    fn write(&mut self, buf: &[u8]) -> io::Result<usize> {
-        self.0.extend_from_slice(buf)?;
-        Ok(buf.len())
-    }
-
-    fn flush(&mut self) -> io::Result<()> {
-        Ok(())
-    }
-}
-
 /// The bytes that are saved, if there is memory for them.
 pub fn saved(alloc: Global, session: &mut Session) -> Result<Vec<u8>, AllocError> {
-    let mut sink = Watched::new(Written(Vec::new(alloc)));
-    match session.save(&mut sink) {
-        Ok(()) => Ok(sink.into_inner().0),
-        Err(_) => Err(AllocError),
+    let mut sink = writer(alloc, SMOOTH);
+    if session.save(&mut sink).is_err() {
+        return Err(AllocError);
     }
+    let (written, _) = sink.into_inner().into_parts();
+    Ok(written)
 }
 
 /// The HDUs that `HDUS` describes: no image, an image, an image of unsigned pixels, none without axes.
@@ -76,14 +53,14 @@ const ASKED: FileText<'static> = (
     "tail",
 );
 
-/// An HDU, its class, how many axes and cards it has, and its kind.
-type Described = (usize, Class, usize, usize, Option<Kind>);
+/// An HDU, its class, how many axes, cards and names of cards it has, and its kind.
+type Described = (usize, Class, usize, usize, usize, Option<Kind>);
 
 const HDUS: &[Described] = &[
-    (1, Class::Primary, 0, 3, None),
-    (2, Class::Table, 1, 4, None),
-    (3, Class::Image, 1, 5, Some(Kind::U16)),
-    (4, Class::Image, 0, 6, None),
+    (1, Class::Primary, 0, 3, 3, None),
+    (2, Class::Table, 1, 4, 4, None),
+    (3, Class::Image, 1, 5, 5, Some(Kind::U16)),
+    (4, Class::Image, 0, 6, 6, None),
 ];
 
 #[test]
@@ -102,18 +79,20 @@ fn check_file<R: Abort>(rt: &R, session: &mut Session) {
     for h in [0usize, 5] {
         same!(rt; session.shape(h).err(), Some(Refusal::NoHdu), h);
         same!(rt; session.card_count(h), Err(Refusal::NoHdu), h);
+        same!(rt; session.names(h).err(), Some(Refusal::NoHdu), h);
         same!(rt; session.kind(h), Err(Refusal::NoHdu), h);
     }
 }
 
 // Whether a file describes an HDU so.
 fn check_hdu<R: Abort>(rt: &R, session: &mut Session, row: Described) {
-    let (h, class, axes, cards, kind) = row;
+    let (h, class, axes, cards, names, kind) = row;
     let shape = session
         .shape(h)
         .map(|shape| (shape.class, shape.axes.as_slice().len()));
     same!(rt; shape, Ok((class, axes)), h);
     same!(rt; session.card_count(h), Ok(cards), h);
+    same!(rt; session.names(h).map(|names| names.len()), Ok(names), h);
     same!(rt; session.kind(h), kind.ok_or(Refusal::NotImage), h);
 }
 
@@ -136,7 +115,7 @@ fn an_axis_has_64_bits_at_most(rt: HostRuntime) -> Result<(), Fail> {
             kind: Kind::U8,
             axes: Axes::new(axes.to_vec(rt.alloc())?),
         };
-        same!(rt; refusal_of(&mut session, edit), *refusal, (at, axes));
+        same!(rt; session.edit(edit).err(), *refusal, (at, axes));
     }
     Ok(())
 }

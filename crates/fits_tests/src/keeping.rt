@@ -1,9 +1,8 @@
 //! HDUs that are kept stamped: an edit of one and its stamp are made together or not at all, whatever memory there is.
 
-use crate::builders::{FileText, P0, PIXEL, zeroed_file_of};
-use crate::checks::{holds, same};
-use crate::files::{refusal_of, saved};
+use crate::files::saved;
 use crate::memory::{answers_as, edit_said, opened};
+use fits_fixtures::{FileText, P0, PIXEL, holds, same, zeroed_file_of};
 use fits_hdu::{Verdict, Verdicts};
 use fits_session::Refusal;
 use std::alloc::AllocError;
@@ -48,13 +47,13 @@ fn check_line<R: Abort + AllocGlobal>(
 ) -> Result<(), AllocError> {
     let unstamped = zeroed_file_of(rt.alloc(), FILE)?;
     let mut session = opened(rt, &unstamped)?;
-    if refusal_of(&mut session, edit_said(rt, "keep 2")?).is_some() {
+    if session.edit(edit_said(rt, "keep 2")?).is_err() {
         same!(rt; session.kept(2), Ok(false));
         return answers_as(rt, &mut session, &unstamped);
     }
     let before = saved(rt.alloc(), &mut session)?;
     let after = stamped_after(rt, &before, line, refusal)?;
-    let refused = refusal_of(&mut session, edit_said(rt, line)?);
+    let refused = session.edit(edit_said(rt, line)?).err();
     holds!(rt; refused == refusal || refused == Some(Refusal::Memory), line);
     same!(rt; session.kept(2), Ok(true), line);
     same!(rt; session.verdicts(2), Ok(RIGHT), line);
@@ -71,7 +70,7 @@ fn stamped_after<R: Abort + AllocGlobal>(
 ) -> Result<Vec<u8>, AllocError> {
     let mut session = opened(rt, before)?;
     for (line, wanted) in [(line, refusal), ("stamp 2", None)] {
-        let refused = refusal_of(&mut session, edit_said(rt, line)?);
+        let refused = session.edit(edit_said(rt, line)?).err();
         if refused == Some(Refusal::Memory) {
             return Err(AllocError);
         }

@@ -3,14 +3,12 @@
 //! Where the request belongs to what a test sets up, the test gives up quietly. After a refusal the next try finds
 //! all as it was.
 
-use crate::builders::{
-    COMMENTS, FileText, P0, PIXEL, add_cards, end_header, file_of, hdu_of, name_of, zeroed_file_of,
-};
-use crate::checks::{holds, same};
 use crate::comparing::same_answers;
-use crate::files::refusal_of;
-use fits_cli::{Command, LineFault, parse_line};
-use fits_hdu::{Hdu, HduFault};
+use fits_fixtures::{
+    COMMENTS, FileText, P0, PIXEL, add_cards, end_header, file_of, hdu_of, holds, name_of, same,
+    zeroed_file_of,
+};
+use fits_script::{Command, LineFault, parse_line};
 use fits_session::{Edit, OpenFault, Refusal, Session};
 use std::alloc::{AllocError, Global};
 use std::process::Abort;
@@ -40,24 +38,6 @@ fn refused_memory_at_opening(rt: HostRuntime) {
         // what begins otherwise is no file, whatever memory there is
         let why = Session::open(rt.alloc(), b"SIMPLE").err();
         same!(rt; why, Some(OpenFault::NotFits));
-    }
-}
-
-#[test]
-fn refused_memory_at_an_hdu(rt: HostRuntime) {
-    let Ok(bytes) = hdu_of(rt.alloc(), PIXEL, 1) else {
-        return;
-    };
-    let is_small = bytes.len() < 10_000;
-    holds!(rt; is_small);
-    for _ in 0..2 {
-        match Hdu::open(rt.alloc(), &bytes, false) {
-            Ok((hdu, len)) => same!(rt; (hdu.card_count(), len), (6, 5760)),
-            Err(why) => same!(rt; why, HduFault::Memory),
-        }
-        // what has no END is found before any memory is asked for
-        let why = Hdu::open(rt.alloc(), b"XTENSION", false).err();
-        same!(rt; why, Some(HduFault::NoEnd));
     }
 }
 
@@ -157,7 +137,7 @@ fn check_line<R: Abort + AllocGlobal>(
     takes_memory: bool,
 ) -> Result<(), AllocError> {
     let mut session = opened(rt, before)?;
-    let refused = refusal_of(&mut session, edit_said(rt, line)?);
+    let refused = session.edit(edit_said(rt, line)?).err();
     holds!(rt; refused == refusal || (takes_memory && refused == Some(Refusal::Memory)), line);
     // nothing else is refused after a refusal
     let bytes = if refused.is_none() { after } else { before };

@@ -1,9 +1,6 @@
 //! Files that come from a source: they open as their bytes do, however the source gives them.
 
-use crate::builders::{FileText, P0, PIXEL, file_of};
-use crate::changed_bytes::change;
-use crate::checks::same;
-use crate::planned::{Plan, SMOOTH, reader, stored};
+use fits_fixtures::{FileText, P0, PIXEL, Plan, SMOOTH, change, file_of, reader, same, stored};
 use fits_hdu::Stats;
 use fits_session::{OpenFault, ReadFileFault, Session, read_outlines, read_statistics, read_sums};
 use std::process::Abort;

@@ -1,9 +1,10 @@
 //! Stored files that are lent, and data units that lie in one.
-use crate::builders::unit_of;
-use crate::checks::{holds, same};
-use crate::planned::{SMOOTH, broken_bytes, stored_bytes, writer};
+ghost use Rattle.std.specs.Prelude.{◌≡◌};
+ghost use Rattle.fits_plane.specs.DataUnit.{IsCounted};
+
 use fits_card::BLOCK_LEN;
-use fits_plane::{DataUnit, Layout, PassedUnit, PassingUnit, Plane};
+use fits_fixtures::{SMOOTH, broken_bytes, holds, same, stored_bytes, unit_of, writer};
+use fits_plane::{DataUnit, Layout, PassedUnit, PassingUnit, Plane, ValueSummary};
 use fits_stream::{FailedReads, Source, Stored, StoredSource, fill};
 use std::alloc::AllocError;
 use std::process::Abort;
@@ -89,6 +90,44 @@ fn a_data_unit_is_known_as_it_passes_by(rt: HostRuntime) -> Result<(), Fail> {
     Ok(())
 }
 
+/// How many bytes a data unit has, their total, whether the fill is right, and the statistics of its values, without an
+/// offset and with one.
+type Answers = (usize, u64, bool, ValueSummary, ValueSummary);
+
+fn answers_of_plane(plane: &Plane) -> Answers {
+    (
+        plane.byte_len(),
+        plane.total(),
+        plane.fill_ok(),
+        plane.value_stats(0),
+        plane.value_stats(32768),
+    )
+}
+
+fn answers_of_passed(unit: &PassedUnit) -> Answers
+    requires { unit.now.layout.blank ≡ unit.now.blank }
+{
+    (
+        unit.byte_len(),
+        unit.total(),
+        unit.fill_ok(),
+        unit.value_stats(0),
+        unit.value_stats(32768),
+    )
+}
+
+fn answers_of(unit: &DataUnit) -> Answers
+    requires { IsCounted unit.now.plane unit.now.absent }
+{
+    (
+        unit.byte_len(),
+        unit.total(),
+        unit.fill_ok(),
+        unit.value_stats(0),
+        unit.value_stats(32768),
+    )
+}
+
 // Whether a data unit that passed by is known to be one in memory, also after its BLANK was another.
 fn check_passed<R: Abort>(rt: &R, mut found: PassedUnit, wanted: &Plane) {
     let blank = found.blank();
@@ -98,11 +137,7 @@ fn check_passed<R: Abort>(rt: &R, mut found: PassedUnit, wanted: &Plane) {
     let case = (wanted.layout().width, wanted.layout().pixels);
     same!(rt; found.blank(), wanted.layout().blank, case);
     holds!(rt; found.layout().blank == found.blank(), case);
-    same!(rt; found.byte_len(), wanted.byte_len(), case);
-    same!(rt; found.total(), wanted.total(), case);
-    same!(rt; found.fill_ok(), wanted.fill_ok(), case);
-    same!(rt; found.value_stats(0), wanted.value_stats(0), case);
-    same!(rt; found.value_stats(32768), wanted.value_stats(32768), case);
+    same!(rt; answers_of_passed(&found), answers_of_plane(wanted), case);
 }
 
 /// Where a data unit lies in its file.
@@ -160,7 +195,7 @@ fn check_unit<R: Abort + AllocGlobal, F: Stored>(
     found.set_blank(Some(7));
     same!(rt; found.is_counted(), found.is_held());
     found.set_blank(layout.blank);
-    check_unit_answers(rt, found, bytes, layout)?;
+    check_answers(rt, found, bytes, layout)?;
     let mut room = [0u8; 400];
     let mut sink = writer(rt.alloc(), SMOOTH);
     let failed = &mut FailedReads::none();
@@ -171,7 +206,7 @@ fn check_unit<R: Abort + AllocGlobal, F: Stored>(
 }
 
 // Whether a data unit answers what the plane of these bytes does.
-fn check_unit_answers<R: Abort + AllocGlobal>(
+fn check_answers<R: Abort + AllocGlobal>(
     rt: &R,
     found: &DataUnit,
     bytes: &[u8],
@@ -181,10 +216,6 @@ fn check_unit_answers<R: Abort + AllocGlobal>(
     let wanted = Plane::open(rt.alloc(), bytes, layout)?;
     let case = (layout.width, layout.pixels);
     holds!(rt; found.is_counted(), case);
-    same!(rt; found.byte_len(), wanted.byte_len(), case);
-    same!(rt; found.total(), wanted.total(), case);
-    same!(rt; found.fill_ok(), wanted.fill_ok(), case);
-    same!(rt; found.value_stats(0), wanted.value_stats(0), case);
-    same!(rt; found.value_stats(32768), wanted.value_stats(32768), case);
+    same!(rt; answers_of(found), answers_of_plane(&wanted), case);
     Ok(())
 }

@@ -1,9 +1,9 @@
 //! Runs over streams of which a call fails: each call of each stream in turn.
 
-use crate::builders::{P0, hdu_of};
-use crate::checks::{holds, same};
-use crate::planned::{Plan, PlannedReader, PlannedWriter, SMOOTH, reader, writer};
 use fits_cli::{End, Fault, Level, run_edit, run_verify};
+use fits_fixtures::{
+    P0, Plan, PlannedReader, PlannedWriter, SMOOTH, hdu_of, holds, reader, same, writer,
+};
 use fits_stream::Watched;
 use std::alloc::{AllocError, Global};
 use std::process::Abort;

@@ -3,7 +3,7 @@ use Rattle.std.proofs.lemmas.Bool.Decides.{nat_tests}
 use Rattle.std.proofs.lemmas.List.{length-append}
 use Rattle.fits_card.specs.Header.{header_bytes}
 use Rattle.fits_card.proofs.HeaderLemmas.{fill_length-by_cards, length-header_bytes}
-use Rattle.fits_tests.proofs.away.is_small.Goals as goal
+use Rattle.fits_tests_away.proofs.away.is_small.Goals as goal
 
 -- a header of so few cards is short
 pub returns-then-card_count-lt1000 : goal.returns-then-card_count-lt1000

@@ -1,0 +1,7 @@
+//! The tests of runs over streams of which a call fails, as tables of cases.
+#![tactic(auto)]
+
+#[cfg(test)]
+mod checks;
+#[cfg(test)]
+mod runs;
