@@ -9,7 +9,7 @@ import sys
 
 passed, faults = 0, []
 for path in sorted(pathlib.Path("crates").glob("*/src/**/*.rt")):
-    if path.parts[1] == "fits_tests":
+    if path.parts[1].startswith("fits_tests"):
         continue
     for number, line in enumerate(path.read_text().splitlines(), 1):
         if "(AllocError)" in line:
