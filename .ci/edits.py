@@ -8,9 +8,9 @@ tries each edit of must-fail/ by a check of its own over a second proof of the w
 different functions are tried by one check, over a proof of these functions and what they call: a function's proof rests on the
 contracts of what it calls and on no other body. What changes more than a body, as a constant, has a line `alone` and is tried so.
 
-An edit is refused where its function isn't proved for a goal of its own: that what it calls isn't proved doesn't count, nor that
-a condition of what it calls isn't met. One that isn't seen refused beside others is tried again with those left, and then alone.
-An edit that can't be applied or compiled fails as one that isn't refused does.
+An edit is refused where its function isn't proved for a goal of its own contract, type or loop: that what it calls isn't proved
+doesn't count, nor that a condition of what it calls isn't met, or that a sum may wrap. One that isn't seen refused beside others is
+tried again with those left, and then alone. An edit that can't be applied or compiled fails as one that isn't refused does.
 
 What was refused is kept on this machine, by the sum of all that the answer rests on; --anew tries all. The libraries below a crate
 are those in out/, as `rt check` or `rt ci` builds them; while the `rt ci` of the given number runs, a library is waited for until its
@@ -35,6 +35,8 @@ KIT = os.path.dirname(subprocess.run(["rt", "doc"], capture_output=True, text=Tr
 KEPT = os.path.join(os.environ.get("XDG_CACHE_HOME", os.path.expanduser("~/.cache")), "fitsed-edits")
 # The most edits of one check: more save little, and leave processors idle at the end.
 MOST = 24
+# The goals of a contract, of a type, and of a loop, also of one over closures, which has a name of its own.
+OWN = re.compile(r"^(returns|invariant_of|loop-)|-(preserved|init)\b")
 # The free memory, in kB, that one check more asks for: a check of 24 edits of the largest crate takes up to 4 GB.
 ROOM = 5_000_000
 
@@ -142,8 +144,8 @@ def goals_broken(crate, said):
 
 
 def is_own(goal):
-    """Whether a goal is of the function itself: its contract, a loop, a type; and no condition of what it calls."""
-    return not goal.endswith("requires") and "-requires-" not in goal
+    """Whether a goal is of the function's own contract, a loop or a type; and no condition of what it calls, no sum that may wrap."""
+    return OWN.search(goal) is not None
 
 
 def is_checked(status, said):
