@@ -1,4 +1,4 @@
-ghost use Rattle.std.specs.Prelude.{◌≡◌, ◌⊎◌, true, false, OnErr, OnOk};
+ghost use Rattle.std.specs.Prelude.{◌≡◌, ◌⊎◌, Bool, true, false, OnErr, OnOk};
 ghost use Rattle.std.specs.Io.{WritesAtMost};
 ghost use Rattle.fits_save.specs.Stages.{after};
 ghost use Rattle.fits_save.specs.declared.stage.Stage.{Stage};
@@ -14,6 +14,9 @@ pub trait Place {
     /// What stands at both.
     ghost stage: { Self → Stage };
 
+    /// Whether a call failed, or what stands at the path wasn't what was opened there.
+    ghost failed: { Self → Bool };
+
     /// What stands at both.
     fn reached(&self) -> Stage
         ensures { result ≡ stage self.now };
@@ -27,12 +30,14 @@ pub trait Place {
     fn begin(&mut self) -> Result<(), BeginFault>
         ensures ok { OnOk result ((stage self.new ≡ after Act.Begin (stage self.old))
             ⊎ (stage self.new ≡ after Act.Pass (stage self.old))) }
-        ensures err { OnErr result (stage self.new ≡ stage self.old) };
+        ensures err { OnErr result (stage self.new ≡ stage self.old) }
+        ensures failed { OnErr result (failed self.new ≡ true) };
 
     /// Empties what stands at the path, which is written in its place then.
     fn expose(&mut self) -> io::Result<()>
         ensures ok { OnOk result (stage self.new ≡ after Act.Expose (stage self.old)) }
-        ensures err { OnErr result (stage self.new ≡ stage self.old) };
+        ensures err { OnErr result (stage self.new ≡ stage self.old) }
+        ensures failed { OnErr result (failed self.new ≡ true) };
 
     /// Writes a prefix of a piece, and says how many bytes it has.
     fn write(&mut self, piece: &[u8]) -> io::Result<usize>
@@ -42,13 +47,15 @@ pub trait Place {
     /// Waits until the new file has reached the disk.
     fn settle(&mut self) -> io::Result<()>
         ensures ok { OnOk result (stage self.new ≡ after Act.Settle (stage self.old)) }
-        ensures err { OnErr result (stage self.new ≡ stage self.old) };
+        ensures err { OnErr result (stage self.new ≡ stage self.old) }
+        ensures failed { OnErr result (failed self.new ≡ true) };
 
     /// Whether what stands at the path is what was opened there. From then on no other run of the
     /// program takes the path.
     fn agrees(&mut self) -> bool
         ensures yes { result ≡ true → stage self.new ≡ after Act.Compare (stage self.old) }
-        ensures no { result ≡ false → stage self.new ≡ stage self.old };
+        ensures no { result ≡ false → stage self.new ≡ stage self.old }
+        ensures failed { result ≡ false → failed self.new ≡ true };
 
     /// How the new file takes the path.
     fn taking(&self) -> Taking;
@@ -56,18 +63,21 @@ pub trait Place {
     /// Gives the new file the path's name too; a file that came meanwhile stays.
     fn link(&mut self) -> io::Result<()>
         ensures ok { OnOk result (stage self.new ≡ after Act.Link (stage self.old)) }
-        ensures err { OnErr result (stage self.new ≡ stage self.old) };
+        ensures err { OnErr result (stage self.new ≡ stage self.old) }
+        ensures failed { OnErr result (failed self.new ≡ true) };
 
     /// Gives the new file the path's name. The old file keeps another, where that is wanted.
     fn rename(&mut self) -> io::Result<()>
         ensures ok { OnOk result (stage self.new ≡ after Act.Rename (stage self.old)) }
-        ensures err { OnErr result (stage self.new ≡ stage self.old) };
+        ensures err { OnErr result (stage self.new ≡ stage self.old) }
+        ensures failed { OnErr result (failed self.new ≡ true) };
 
     /// Writes the new file over what stands at the path, and waits until that has reached the disk.
     fn overwrite(&mut self) -> io::Result<()>
         ensures ok { OnOk result (stage self.new
             ≡ after Act.Finish (after Act.Overwrite (stage self.old))) }
-        ensures err { OnErr result (stage self.new ≡ after Act.Overwrite (stage self.old)) };
+        ensures err { OnErr result (stage self.new ≡ after Act.Overwrite (stage self.old)) }
+        ensures failed { OnErr result (failed self.new ≡ true) };
 
     /// Removes the name beside the path.
     fn clear(&mut self)

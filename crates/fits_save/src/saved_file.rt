@@ -23,23 +23,27 @@ pub struct SavedFile<P: Place + Drop> {
 impl<P: Place + Drop> Model for SavedFile<P> {
     ghost use Rattle.std.specs.Prelude.{◌≡◌, true};
     ghost use Rattle.fits_save.specs.Stages.{is_safe};
-    ghost use Rattle.fits_save.specs.declared.stage.Stage.{Stage};
+    ghost use Rattle.fits_save.specs.Progress.{Progress};
 
-    ghost Value = { Stage };
+    ghost Value = { Progress };
 
-    ghost view = { λ saved. P.stage saved.place };
+    ghost view = { λ saved. record {
+      stage = P.stage saved.place;
+      failed = P.failed saved.place;
+    } };
 
     ghost invariant = { λ saved. is_safe saved.whole (P.stage saved.place) ≡ true };
 }
 
 impl<P: Place + Drop> SavedFile<P> {
     ghost use Rattle.std.specs.Prelude.{◌≡◌, true, OnErr, OnOk};
-    ghost use Rattle.fits_save.specs.Stages.{is_as_it_was, is_had, is_open, kept};
+    ghost use Rattle.fits_save.specs.Progress.{IsGivenUp};
+    ghost use Rattle.fits_save.specs.Stages.{is_as_it_was, is_open, kept};
 
     /// The file at a place where nothing has happened yet.
     pub fn at(place: P, safe: bool) -> SavedFile<P>
         requires { P.stage place ≡ Stage.Untouched }
-        ensures { result ≡ Stage.Untouched }
+        ensures { result.stage ≡ Stage.Untouched }
     {
         SavedFile {
             place,
@@ -56,7 +60,7 @@ impl<P: Place + Drop> SavedFile<P> {
     /// Whether what stands at the path stays whole until all is saved, asked before the first byte.
     /// Where it does it is never emptied from then on.
     pub fn spares(&mut self) -> bool
-        ensures { self.new ≡ self.old }
+        ensures { self.new.stage ≡ self.old.stage }
     {
         let Stage::Untouched = self.place.reached() else {
             return self.whole;
@@ -72,8 +76,8 @@ impl<P: Place + Drop> SavedFile<P> {
     ///
     /// Where it fails, what stood there is as it was, or the whole result stands beside it.
     pub fn keep(&mut self) -> Result<(), SaveFault>
-        ensures ok { OnOk result (self.new ≡ kept self.old) }
-        ensures err { OnErr result (is_had self.new ≡ true) }
+        ensures ok { OnOk result (self.new.stage ≡ kept self.old.stage) }
+        ensures err { OnErr result (IsGivenUp self.new) }
     {
         match self.place.reached() {
             Stage::Partial => self.take_place(),
@@ -83,9 +87,9 @@ impl<P: Place + Drop> SavedFile<P> {
 
     // The whole result takes its path.
     fn take_place(&mut self) -> Result<(), SaveFault>
-        requires { self.old ≡ Stage.Partial }
-        ensures ok { OnOk result (self.new ≡ Stage.Placed) }
-        ensures err { OnErr result (is_had self.new ≡ true) }
+        requires { self.old.stage ≡ Stage.Partial }
+        ensures ok { OnOk result (self.new.stage ≡ Stage.Placed) }
+        ensures err { OnErr result (IsGivenUp self.new) }
     {
         match self.place.taking() {
             Taking::Link => self.link()?,
@@ -98,9 +102,10 @@ impl<P: Place + Drop> SavedFile<P> {
 
     // Its path is free.
     fn link(&mut self) -> Result<(), SaveFault>
-        requires { self.old ≡ Stage.Partial }
-        ensures ok { OnOk result (self.new ≡ Stage.Both) }
-        ensures err { OnErr result (self.new ≡ self.old) }
+        requires { self.old.stage ≡ Stage.Partial }
+        ensures ok { OnOk result (self.new.stage ≡ Stage.Both) }
+        ensures err { OnErr result (self.new.stage ≡ self.old.stage) }
+        ensures cause { OnErr result (self.new.failed ≡ true) }
     {
         match self.place.link() {
             Ok(()) => Ok(()),
@@ -110,9 +115,10 @@ impl<P: Place + Drop> SavedFile<P> {
 
     // It takes the name of what stands there.
     fn rename(&mut self) -> Result<(), SaveFault>
-        requires { self.old ≡ Stage.Partial }
-        ensures ok { OnOk result (self.new ≡ Stage.Placed) }
-        ensures err { OnErr result (is_as_it_was self.new ≡ true) }
+        requires { self.old.stage ≡ Stage.Partial }
+        ensures ok { OnOk result (self.new.stage ≡ Stage.Placed) }
+        ensures err { OnErr result (is_as_it_was self.new.stage ≡ true) }
+        ensures cause { OnErr result (self.new.failed ≡ true) }
     {
         self.settle()?;
         match self.place.rename() {
@@ -123,9 +129,9 @@ impl<P: Place + Drop> SavedFile<P> {
 
     // What stands there is written over.
     fn overwrite(&mut self) -> Result<(), SaveFault>
-        requires { self.old ≡ Stage.Partial }
-        ensures ok { OnOk result (self.new ≡ Stage.Both) }
-        ensures err { OnErr result (is_had self.new ≡ true) }
+        requires { self.old.stage ≡ Stage.Partial }
+        ensures ok { OnOk result (self.new.stage ≡ Stage.Both) }
+        ensures err { OnErr result (IsGivenUp self.new) }
     {
         self.settle()?;
         match self.place.overwrite() {
@@ -136,22 +142,14 @@ impl<P: Place + Drop> SavedFile<P> {
 
     // The whole result is on the disk, and what stands at the path is what was opened there.
     fn settle(&mut self) -> Result<(), SaveFault>
-        requires { self.old ≡ Stage.Partial }
-        ensures ok { OnOk result (self.new ≡ Stage.Agreed) }
-        ensures err { OnErr result (is_as_it_was self.new ≡ true) }
+        requires { self.old.stage ≡ Stage.Partial }
+        ensures ok { OnOk result (self.new.stage ≡ Stage.Agreed) }
+        ensures err { OnErr result (is_as_it_was self.new.stage ≡ true) }
+        ensures cause { OnErr result (self.new.failed ≡ true) }
     {
         if let Err(error) = self.place.settle() {
             return Err(SaveFault::Failed(error));
         }
-        self.compare()
-    }
-
-    // What stands at the path is what was opened there.
-    fn compare(&mut self) -> Result<(), SaveFault>
-        requires { self.old ≡ Stage.Whole }
-        ensures ok { OnOk result (self.new ≡ Stage.Agreed) }
-        ensures err { OnErr result (self.new ≡ self.old) }
-    {
         if self.place.agrees() {
             return Ok(());
         }
@@ -165,8 +163,8 @@ impl<P: Place + Drop> SavedFile<P> {
 
     // What bytes go to is open.
     fn open(&mut self) -> Result<(), SaveFault>
-        ensures ok { OnOk result (is_open self.new ≡ true) }
-        ensures err { OnErr result (self.old ≡ Stage.Untouched → is_as_it_was self.new ≡ true) }
+        ensures ok { OnOk result (is_open self.new.stage ≡ true) }
+        ensures err { OnErr result (self.old.stage ≡ Stage.Untouched → is_as_it_was self.new.stage ≡ true) }
     {
         match self.place.reached() {
             Stage::Untouched => self.begin(),
@@ -177,9 +175,10 @@ impl<P: Place + Drop> SavedFile<P> {
 
     // What the first byte goes to.
     fn begin(&mut self) -> Result<(), SaveFault>
-        requires { self.old ≡ Stage.Untouched }
-        ensures ok { OnOk result (is_open self.new ≡ true) }
-        ensures err { OnErr result (is_as_it_was self.new ≡ true) }
+        requires { self.old.stage ≡ Stage.Untouched }
+        ensures ok { OnOk result (is_open self.new.stage ≡ true) }
+        ensures err { OnErr result (is_as_it_was self.new.stage ≡ true) }
+        ensures cause { OnErr result (self.new.failed ≡ true) }
     {
         match self.place.begin() {
             Ok(()) => Ok(()),
@@ -190,9 +189,11 @@ impl<P: Place + Drop> SavedFile<P> {
 
     // What stands at the path is emptied, if it needn't stay whole, since nothing can stand beside it.
     fn expose(&mut self, why: io::Error) -> Result<(), SaveFault>
-        requires { self.old ≡ Stage.Untouched }
-        ensures ok { OnOk result (self.new ≡ Stage.Exposed) }
-        ensures err { OnErr result (is_as_it_was self.new ≡ true) }
+        requires untouched { self.old.stage ≡ Stage.Untouched }
+        requires failed { self.old.failed ≡ true }
+        ensures ok { OnOk result (self.new.stage ≡ Stage.Exposed) }
+        ensures err { OnErr result (is_as_it_was self.new.stage ≡ true) }
+        ensures cause { OnErr result (self.new.failed ≡ true) }
     {
         if self.whole {
             return Err(SaveFault::Opening(why));

@@ -124,6 +124,11 @@ impl<R: Files<File = File>> Slot<'_, R> {
         self.backup.is_empty() || matches!(self.taking, Taking::Rename)
     }
 
+    /// Whether a file stood at the path that isn't what is read.
+    pub(crate) fn replaces_another(&self) -> bool {
+        matches!((self.target, self.seen), (Target::File, None))
+    }
+
     /// Whether a file stands under the name that the old one is to keep.
     pub(crate) fn backup_stands(&self) -> bool {
         !self.backup.is_empty() && fs::symlink_metadata(self.rt, self.backup.as_str()).is_ok()
@@ -205,6 +210,14 @@ impl<R: Files<File = File>> Slot<'_, R> {
         };
         self.new = Some(opened.open(self.rt, self.path.as_str())?);
         Ok(())
+    }
+
+    /// Opens a device or a pipe.
+    pub(crate) fn open_device(&mut self) -> Result<(), BeginFault> {
+        match self.open_there() {
+            Ok(()) => Ok(()),
+            Err(error) => Err(BeginFault::Failed(error)),
+        }
     }
 
     /// Writes a prefix of a piece to what was made or opened.

@@ -1,6 +1,7 @@
 use crate::act::Act;
 use crate::begin_fault::BeginFault;
 use crate::place::Place;
+use crate::save_fault::SaveFault;
 use crate::saving::Saving;
 use crate::seen::Seen;
 use crate::slot::Slot;
@@ -17,6 +18,7 @@ use std::rt::Files;
 pub struct System<'a, R: Files<File = File>> {
     slot: Slot<'a, R>,
     stage: Stage,
+    failed: bool,
 }
 
 impl<'a, R: Files<File = File> + AllocGlobal> System<'a, R> {
@@ -36,13 +38,22 @@ impl<'a, R: Files<File = File> + AllocGlobal> System<'a, R> {
         Ok(System {
             slot: Slot::of(rt, path, mode, seen, saving)?,
             stage: Stage::Untouched,
+            failed: false,
         })
     }
 }
 
 impl<R: Files<File = File>> System<'_, R> {
-    ghost use Rattle.std.specs.Prelude.{◌≡◌};
+    ghost use Rattle.std.specs.Prelude.{◌≡◌, true, OnErr, OnOk};
     ghost use Rattle.fits_save.specs.Stages.{after};
+
+    /// Why the result can't be saved as is wanted, if it can't: `spares` was asked, and said so.
+    pub fn refusal(&self, saving: Saving<'_>, spares: bool) -> Option<SaveFault> {
+        if (saving.safe && !spares) || !self.slot.keeps_old() {
+            return Some(SaveFault::NotWhole);
+        }
+        self.slot.backup_stands().then_some(SaveFault::Stands)
+    }
 
     /// How many names beside the path were taken: files that a broken run left, or those of one that
     /// runs.
@@ -55,26 +66,30 @@ impl<R: Files<File = File>> System<'_, R> {
         self.slot.beside()
     }
 
-    /// Whether the old file can keep another name, where that is wanted: it's replaced by a new one.
-    pub fn keeps_old(&self) -> bool {
-        self.slot.keeps_old()
+    /// Whether a file stood at the path that isn't what is read.
+    pub fn replaces_another(&self) -> bool {
+        self.slot.replaces_another()
     }
 
-    /// Whether a file stands under the name that the old one is to keep.
-    pub fn backup_stands(&self) -> bool {
-        self.slot.backup_stands()
-    }
-
-    // Goes on by a call that was done.
-    fn pass(&mut self, act: Act)
-        ensures { self.new.stage ≡ after act self.old.stage }
+    // Goes on by a call, if it was done.
+    fn pass<E>(&mut self, done: Result<(), E>, act: Act) -> Result<(), E>
+        ensures same { result ≡ done }
+        ensures ok { OnOk result (self.new.stage ≡ after act self.old.stage) }
+        ensures err { OnErr result (self.new.stage ≡ self.old.stage) }
+        ensures failed { OnErr result (self.new.failed ≡ true) }
     {
-        self.stage = self.stage.after(act);
+        match &done {
+            Ok(()) => self.stage = self.stage.after(act),
+            Err(_) => self.failed = true,
+        }
+        done
     }
 }
 
 impl<R: Files<File = File>> Place for System<'_, R> {
     ghost stage = { λ place. place.stage };
+
+    ghost failed = { λ place. place.failed };
 
     fn reached(&self) -> Stage {
         self.stage
@@ -96,46 +111,40 @@ impl<R: Files<File = File>> Place for System<'_, R> {
     }
 
     fn begin(&mut self) -> Result<(), BeginFault> {
-        match self.slot.target() {
-            Target::Free => self.slot.make_free()?,
-            Target::File => self.slot.make_beside()?,
-            Target::Held => {
-                let error = io::Error::from(io::ErrorKind::Unsupported);
-                return Err(BeginFault::NoPlace(error));
-            }
-            Target::Device => {
-                if let Err(error) = self.slot.open_there() {
-                    return Err(BeginFault::Failed(error));
-                }
-                self.pass(Act::Pass);
-                return Ok(());
-            }
-        }
-        self.pass(Act::Begin);
-        Ok(())
+        let (made, act) = match self.slot.target() {
+            Target::Free => (self.slot.make_free(), Act::Begin),
+            Target::File => (self.slot.make_beside(), Act::Begin),
+            Target::Held => (Err(no_place()), Act::Begin),
+            Target::Device => (self.slot.open_device(), Act::Pass),
+        };
+        self.pass(made, act)
     }
 
     fn expose(&mut self) -> io::Result<()> {
-        self.slot.open_there()?;
-        self.pass(Act::Expose);
-        Ok(())
+        let opened = self.slot.open_there();
+        self.pass(opened, Act::Expose)
     }
 
     fn write(&mut self, piece: &[u8]) -> io::Result<usize> {
-        self.pass(Act::Write);
-        self.slot.write(piece)
+        self.stage = self.stage.after(Act::Write);
+        let written = self.slot.write(piece);
+        if written.is_err() {
+            self.failed = true;
+        }
+        written
     }
 
     fn settle(&mut self) -> io::Result<()> {
-        self.slot.settle()?;
-        self.pass(Act::Settle);
-        Ok(())
+        let settled = self.slot.settle();
+        self.pass(settled, Act::Settle)
     }
 
     fn agrees(&mut self) -> bool {
         let agrees = self.slot.agrees();
         if agrees {
-            self.pass(Act::Compare);
+            self.stage = self.stage.after(Act::Compare);
+        } else {
+            self.failed = true;
         }
         agrees
     }
@@ -145,27 +154,24 @@ impl<R: Files<File = File>> Place for System<'_, R> {
     }
 
     fn link(&mut self) -> io::Result<()> {
-        self.slot.link()?;
-        self.pass(Act::Link);
-        Ok(())
+        let linked = self.slot.link();
+        self.pass(linked, Act::Link)
     }
 
     fn rename(&mut self) -> io::Result<()> {
-        self.slot.rename()?;
-        self.pass(Act::Rename);
-        Ok(())
+        let renamed = self.slot.rename();
+        self.pass(renamed, Act::Rename)
     }
 
     fn overwrite(&mut self) -> io::Result<()> {
-        self.pass(Act::Overwrite);
-        self.slot.overwrite()?;
-        self.pass(Act::Finish);
-        Ok(())
+        self.stage = self.stage.after(Act::Overwrite);
+        let written = self.slot.overwrite();
+        self.pass(written, Act::Finish)
     }
 
     fn clear(&mut self) {
         self.slot.clear();
-        self.pass(Act::Clear);
+        self.stage = self.stage.after(Act::Clear);
     }
 }
 
@@ -175,6 +181,15 @@ impl<R: Files<File = File>> Drop for System<'_, R> {
             Stage::Partial | Stage::Whole | Stage::Agreed | Stage::Both => self.slot.clear(),
             _ => {}
         }
-        let System { slot: _slot, stage: _ } = self;
+        let System {
+            slot: _slot,
+            stage: _,
+            failed: _,
+        } = self;
     }
+}
+
+// Nothing can stand beside the path of an open descriptor.
+fn no_place() -> BeginFault {
+    BeginFault::NoPlace(io::Error::from(io::ErrorKind::Unsupported))
 }
