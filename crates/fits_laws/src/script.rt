@@ -1,5 +1,5 @@
 //! Laws of the definitions, each the contract of a function that does nothing.
-ghost use Rattle.std.specs.Prelude.{◌≡◌, ◌↔◌, ◌+◌, ◌<◌, ℕ, AllPairs, List, Some, length, take};
+ghost use Rattle.std.specs.Prelude.{◌≡◌, ◌↔◌, ◌+◌, ◌<◌, ℕ, AllPairs, false, List, Some, length, take};
 ghost use Rattle.fits_laws.specs.Forms.{Says};
 ghost use Rattle.fits_script.specs.declared.command.Command.{Command};
 ghost use Rattle.fits_script.specs.declared.limits.TheConstants.{LINE_LIMIT};
@@ -53,6 +53,15 @@ pub fn an_output()
 pub fn more_of_an_error_is_a_new_error()
     ensures { (before after : List Problem) → AllPairs IsListedBefore after
         → HasMoreErrors before after ↔ (0 < length (new_errors before after)) }
+{}
+
+/// Where no edit of a script is accepted, the file and its marks are as they were before the first
+/// line. So nothing is lost where such a file is spared.
+pub fn no_edit_leaves_the_file()
+    ensures { (terms : Terms) (file : FileParts) (lines : List (List ℕ))
+        → (standing_after (at_first_line terms file) lines).edited ≡ false
+        → (standing_after (at_first_line terms file) lines).marked
+        ≡ (at_first_line terms file).marked }
 {}
 
 /// What the lines of a script leave of a file is a file: it opens again.
