@@ -22,6 +22,7 @@ use Rattle.fits_script.specs.declared.line_reading.LineReading.TheVariants.{TooL
 use Rattle.fits_script.specs.declared.command.Command.{Command}
 use Rattle.fits_script.specs.declared.command.Command.TheVariants.{Nothing, Edit, Offsets, Get, Positions, Report, Statistics, Rectangle, Sums, Kept}
 use Rattle.fits_cli.specs.declared.level.Level.TheVariants.{All}
+use Rattle.fits_cli.specs.declared.terms.Terms.{Terms}
 
 -- the offsets of an HDU: where its header begins, its data begin and it ends
 abbrev pub offsets_text : HduOffsets → List ℕ
@@ -117,9 +118,13 @@ pub record Standing : Type 0 where
   pub line : ℕ
   pub refused : ℕ
 
--- before the first line: no HDU is kept
-abbrev pub at_first_line : FileParts → Standing
-at_first_line file = record { marked = unmarked file; line = 1; refused = 0 }
+-- a file with its marks before the first line, on these terms: no HDU is kept
+abbrev pub marked_first : Terms → FileParts → Marked
+marked_first terms file = unmarked file
+
+-- before the first line
+abbrev pub at_first_line : Terms → FileParts → Standing
+at_first_line terms file = record { marked = marked_first terms file; line = 1; refused = 0 }
 
 -- the next line, after one that left this
 abbrev pub after_done : Standing → Marked → Standing

@@ -5,6 +5,7 @@ use crate::printing::flush;
 use crate::readying::ready;
 use crate::reasons::clues_of;
 use crate::reply::{Reply, counts_as_refused, settled};
+use crate::terms::Terms;
 use fits_script::{LineReading, read_line};
 use fits_session::{Holder, Problem, Session};
 use fits_stream::{FailedReads, Sink};
@@ -53,10 +54,10 @@ impl<H: Holder + Drop> Runner<H> {
     ghost use Rattle.fits_session.specs.Report.{report_of, IsListedBefore};
     ghost use Rattle.fits_session.specs.Session.{file_of, marked_of};
 
-    /// Before the first line. No HDU is kept stamped.
-    pub(crate) fn new(session: Session<H>) -> Runner<H>
+    /// Before the first line, on these terms. No HDU is kept stamped.
+    pub(crate) fn new(session: Session<H>, terms: Terms) -> Runner<H>
         requires { marked_of session ≡ unmarked (file_of session) }
-        ensures { result ≡ at_first_line (file_of session) }
+        ensures { result ≡ at_first_line terms (file_of session) }
     {
         Runner {
             session,

@@ -5,8 +5,8 @@ use crate::remarks::{before_remarks, remarks_after};
 use crate::reporting::{ends_all, report_new_errors, report_undone, reported, reported_of};
 use crate::task::Terms;
 use fits_cli::{
-    CheckedEnd, End, Fault, SavedFile, WholeEnd, run_edit_checked, run_edit_checked_stored,
-    run_edit_stored, run_edit_told, run_edit_whole, run_edit_whole_stored,
+    CheckedEnd, End, Fault, SavedFile, Terms as RunTerms, WholeEnd, run_edit_checked,
+    run_edit_checked_stored, run_edit_stored, run_edit_told, run_edit_whole, run_edit_whole_stored,
 };
 use fits_stream::{FailedReads, NamedLines, Sink, Source, Stored, Watched};
 use std::alloc::Global;
@@ -14,6 +14,12 @@ use std::fs::File;
 use std::io::{BufWriter, Stderr, Write};
 use std::rt::Files;
 use std::{fs, io};
+
+// The terms of every run.
+const PLAIN: RunTerms = RunTerms {
+    sums: false,
+    spare: false,
+};
 
 /// Where a file is read from and saved to, and whether it is told apart from others.
 #[derive(Clone, Copy)]
@@ -164,16 +170,16 @@ fn run_on<F: Source, S: Source, P: Sink, O: Sink, E: Sink>(
     told: &mut Option<E>,
 ) -> CheckedEnd {
     if terms.checked {
-        return run_edit_checked(alloc, terms.whole, file, script, saved, out, told);
+        return run_edit_checked(alloc, PLAIN, terms.whole, file, script, saved, out, told);
     }
     if terms.whole {
-        let WholeEnd { end, undone } = run_edit_whole(alloc, file, script, saved, out, told);
+        let WholeEnd { end, undone } = run_edit_whole(alloc, PLAIN, file, script, saved, out, told);
         return CheckedEnd {
             undone,
             ..ended(end)
         };
     }
-    ended(run_edit_told(alloc, file, script, saved, out, told))
+    ended(run_edit_told(alloc, PLAIN, file, script, saved, out, told))
 }
 
 // The same over a regular file, the data of which stay in it until they are wanted.
@@ -188,18 +194,28 @@ fn run_on_stored<F: Stored, S: Source, P: Sink, O: Sink, E: Sink>(
 ) -> CheckedEnd {
     let failed = &mut FailedReads::none();
     if terms.checked {
-        return run_edit_checked_stored(alloc, terms.whole, file, failed, script, saved, out, told);
+        return run_edit_checked_stored(
+            alloc,
+            PLAIN,
+            terms.whole,
+            file,
+            failed,
+            script,
+            saved,
+            out,
+            told,
+        );
     }
     if terms.whole {
         let WholeEnd { end, undone } = run_edit_whole_stored(
-            alloc, file, failed, script, saved, out, told,
+            alloc, PLAIN, file, failed, script, saved, out, told,
         );
         return CheckedEnd {
             undone,
             ..ended(end)
         };
     }
-    ended(run_edit_stored(alloc, file, failed, script, saved, out, told))
+    ended(run_edit_stored(alloc, PLAIN, file, failed, script, saved, out, told))
 }
 
 // The end of a run of which neither lines nor errors keep the file from being saved.
