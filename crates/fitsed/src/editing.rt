@@ -1,9 +1,16 @@
 //! Files that are edited.
-use crate::files::{is_stored, mode_of, source_of};
+use crate::detail::Detail;
+use crate::explaining::INPUT;
+use crate::files::{Standing, is_stored, mode_of, source_of, standing_at};
 use crate::piece::{Piece, script_of};
 use crate::remarks::{before_remarks, remarks_after};
-use crate::reporting::{ends_all, report_new_errors, report_undone, reported, reported_of};
-use crate::task::Terms;
+use crate::reporting::{
+    NOT_TAKEN, ends_all, report_made_hyphen, report_new_errors, report_replaced, report_undone,
+    reported, reported_oddity, reported_of, reported_script,
+};
+use crate::subject::Subject;
+use crate::task::{Inputs, SavingTerms};
+use crate::words::oddity_of;
 use fits_cli::{
     CheckedEnd, End, Fault, SavedFile, WholeEnd, run_edit_checked, run_edit_checked_stored,
     run_edit_stored, run_edit_told, run_edit_whole, run_edit_whole_stored,
@@ -11,75 +18,78 @@ use fits_cli::{
 use fits_stream::{FailedReads, NamedLines, Sink, Source, Stored, Watched};
 use std::alloc::Global;
 use std::fs::File;
-use std::io::{BufWriter, Stderr, Write};
+use std::io::{BufWriter, Write};
 use std::rt::Files;
 use std::{fs, io};
 
-/// Where a file is read from and saved to, and whether it is told apart from others.
+/// A file that is edited, and where it is saved to.
 #[derive(Clone, Copy)]
-struct Paths<'p> {
-    from: &'p str,
+struct FilePair<'p> {
+    subject: Subject<'p>,
     to: &'p str,
-    named: bool,
 }
 
-/// Edits the file at `from`; the result goes to `to`. With no pieces the script is standard input,
-/// answered as it comes. Remarks on lines that aren't done go to `told`.
+/// Edits the file that is told of; the result goes to `to`. With no pieces the script is standard
+/// input, answered as it comes.
 pub fn edit<R: Files<File = File> + Input + Print + Eprint + AllocGlobal>(
     rt: &R,
     script: &[Piece<'_>],
-    from: &str,
+    subject: Subject<'_>,
     to: &str,
-    terms: Terms,
-    told: Option<Stderr>,
+    terms: SavingTerms,
 ) -> u8 {
+    if terms.fresh && fs::symlink_metadata(rt, to).is_ok() {
+        let _ = eprintln!(rt; "fitsed: {to}: stands there");
+        return NOT_TAKEN;
+    }
     let Ok(mut out) = BufWriter::new(rt.alloc(), io::writer(rt)) else {
         return reported(rt, Fault::Memory);
     };
-    let mut out = Watched::new(&mut out);
-    let paths = Paths {
-        from,
-        to,
-        named: false,
-    };
-    let done = if script.is_empty() {
+    let at = FilePair { subject, to };
+    if script.is_empty() {
         let mut lines = Watched::new(rt.reader());
-        edited(rt, paths, terms, told, &mut lines, &mut out)
-    } else {
-        match script_of(rt, script) {
-            Ok(text) => edited(rt, paths, terms, told, &mut text.as_slice(), &mut out),
-            Err(fault) => return reported(rt, fault),
+        let done = named_edited(rt, at, terms, &mut lines, &mut out);
+        return status_of(rt, at, INPUT, done);
+    }
+    match script_of(rt, script) {
+        Ok(text) => {
+            let done = named_edited(rt, at, terms, &mut text.as_slice(), &mut out);
+            status_of(rt, at, subject.name, done)
         }
-    };
-    status_of(rt, to, false, done)
+        Err(why) => reported_script(rt, subject.detail, why),
+    }
 }
 
 /// Edits each file where it stands, by the same script. The status is the greatest.
 pub fn edit_in_place<R: Files<File = File> + Input + Print + Eprint + AllocGlobal>(
     rt: &R,
     script: &[Piece<'_>],
-    paths: &[&str],
-    terms: Terms,
-    told: Option<Stderr>,
+    files: Inputs<'_, '_>,
+    terms: SavingTerms,
+    detail: Detail<'_>,
 ) -> u8 {
     let text = match script_of(rt, script) {
         Ok(text) => text,
-        Err(fault) => return reported(rt, fault),
+        Err(why) => return reported_script(rt, detail, why),
     };
     let Ok(mut out) = BufWriter::new(rt.alloc(), io::writer(rt)) else {
         return reported(rt, Fault::Memory);
     };
-    let named = paths.len() > 1;
     let mut status = 0;
-    for path in paths {
-        let at = Paths {
-            from: path,
-            to: path,
-            named,
+    for path in files.paths {
+        if let Some(oddity) = oddity_of(path) {
+            status = status.max(reported_oddity(rt, oddity));
+            continue;
+        }
+        let subject = Subject {
+            name: path,
+            named: files.named,
+            detail,
         };
-        let done = edited_in_place(rt, at, terms, told, text.as_slice(), &mut out);
+        let at = FilePair { subject, to: path };
+        let done = named_edited(rt, at, terms, &mut text.as_slice(), &mut out);
         let fault = done.end.fault;
-        status = status.max(status_of(rt, path, named, done));
+        status = status.max(status_of(rt, at, path, done));
         if fault.is_some_and(ends_all) {
             return status;
         }
@@ -87,53 +97,50 @@ pub fn edit_in_place<R: Files<File = File> + Input + Print + Eprint + AllocGloba
     status
 }
 
-// Edits one file where it stands.
-fn edited_in_place<R: Files<File = File> + AllocGlobal, W: Write>(
+// Edits a file, with its name before each answer where it is told apart.
+fn named_edited<R: Files<File = File> + Eprint + AllocGlobal, S: Source, W: Write>(
     rt: &R,
-    paths: Paths<'_>,
-    terms: Terms,
-    told: Option<Stderr>,
-    script: &[u8],
+    at: FilePair<'_>,
+    terms: SavingTerms,
+    script: &mut S,
     out: &mut W,
 ) -> CheckedEnd {
-    let mut script = script;
-    let out = Watched::new(out);
-    if !paths.named {
-        let mut out = out;
-        return edited(rt, paths, terms, told, &mut script, &mut out);
+    let mut out = Watched::new(out);
+    if !at.subject.named {
+        return edited(rt, at, terms, script, &mut out);
     }
-    let Ok(name) = format!(in rt.alloc(); "{}:", paths.from) else {
+    let Ok(name) = format!(in rt.alloc(); "{}:", at.subject.name) else {
         return ended(End::from(Fault::Memory));
     };
     let mut out = NamedLines::new(out, name.as_bytes());
-    edited(rt, paths, terms, told, &mut script, &mut out)
+    edited(rt, at, terms, script, &mut out)
 }
 
 // Edits a file, and keeps the result where it is to be.
-fn edited<R: Files<File = File> + AllocGlobal, S: Source, O: Sink>(
+fn edited<R: Files<File = File> + Eprint + AllocGlobal, S: Source, O: Sink>(
     rt: &R,
-    paths: Paths<'_>,
-    terms: Terms,
-    told: Option<Stderr>,
+    at: FilePair<'_>,
+    terms: SavingTerms,
     script: &mut S,
     out: &mut O,
 ) -> CheckedEnd {
-    let Ok(file) = fs::open(rt, paths.from) else {
+    let Ok(file) = fs::open(rt, at.subject.name) else {
         return ended(End::from(Fault::ReadFailed));
     };
-    let Ok(before) = before_remarks(rt.alloc(), told, paths.to, paths.named) else {
+    let Ok(before) = before_remarks(rt.alloc(), at.subject) else {
         return ended(End::from(Fault::Memory));
     };
-    let Ok(mut told) = remarks_after(rt.alloc(), told, &before) else {
+    let Ok(mut told) = remarks_after(rt.alloc(), at.subject, &before) else {
         return ended(End::from(Fault::Memory));
     };
-    let Ok(mut saved) = SavedFile::new(rt, paths.to, mode_of(&file)) else {
+    let Ok(mut saved) = SavedFile::new(rt, at.to, mode_of(&file)) else {
         return ended(End::from(Fault::Memory));
     };
     let stays = is_stored(&file) && saved.spares();
     let Ok(saved) = BufWriter::new(rt.alloc(), saved) else {
         return ended(End::from(Fault::Memory));
     };
+    let there = standing_at(rt, at.to, &file);
     let mut saved = Watched::new(saved);
     let alloc = rt.alloc();
     let done = if stays {
@@ -150,13 +157,31 @@ fn edited<R: Files<File = File> + AllocGlobal, S: Source, O: Sink>(
             &mut told,
         )
     };
-    kept(saved.into_inner(), done)
+    let done = kept(saved.into_inner(), done);
+    if at.subject.detail.tells() && is_saved(done) {
+        tell_saved(rt, at.to, there);
+    }
+    done
+}
+
+// Whether the result of a run was saved.
+fn is_saved(done: CheckedEnd) -> bool {
+    done.end.fault.is_none() && done.undone == 0 && done.new_errors == 0
+}
+
+// Tells of a file that was saved what someone who typed a word too few would want to know.
+fn tell_saved<R: Eprint>(rt: &R, to: &str, there: Standing) {
+    match there {
+        Standing::Other => report_replaced(rt, to),
+        Standing::Nothing if to == "-" => report_made_hyphen(rt),
+        _ => {}
+    }
 }
 
 // The run that has these terms.
 fn run_on<F: Source, S: Source, P: Sink, O: Sink, E: Sink>(
     alloc: Global,
-    terms: Terms,
+    terms: SavingTerms,
     file: &mut F,
     script: &mut S,
     saved: &mut P,
@@ -179,7 +204,7 @@ fn run_on<F: Source, S: Source, P: Sink, O: Sink, E: Sink>(
 // The same over a regular file, the data of which stay in it until they are wanted.
 fn run_on_stored<F: Stored, S: Source, P: Sink, O: Sink, E: Sink>(
     alloc: Global,
-    terms: Terms,
+    terms: SavingTerms,
     file: &F,
     script: &mut S,
     saved: &mut P,
@@ -232,15 +257,20 @@ fn kept<R: Files>(saved: BufWriter<SavedFile<'_, R>>, done: CheckedEnd) -> Check
 }
 
 // Tells standard error what kept a file from being saved, and gives the status.
-fn status_of<R: Eprint>(rt: &R, name: &str, named: bool, done: CheckedEnd) -> u8 {
+fn status_of<R: Files<File = File> + Eprint + AllocGlobal>(
+    rt: &R,
+    at: FilePair<'_>,
+    other: &str,
+    done: CheckedEnd,
+) -> u8 {
     if done.undone > 0 {
-        report_undone(rt, name, done.undone);
+        report_undone(rt, at.to, done.undone);
     }
     if done.new_errors > 0 {
-        report_new_errors(rt, name, done.new_errors);
+        report_new_errors(rt, at.to, done.new_errors);
     }
     match done.end.fault {
-        Some(fault) => reported_of(rt, name, named, fault),
+        Some(fault) => reported_of(rt, at.subject, other, fault),
         None => done.end.status,
     }
 }
