@@ -33,6 +33,12 @@ const EDITS: Form = Form {
             "Edit IN, and each further file, where it stands; there is no OUT",
         ),
         Word::NoClobber,
+        Word::Flag(
+            "safe",
+            'S',
+            "Save nothing where what stands at OUT can't stay whole until all is saved",
+        ),
+        Word::Backup,
         Word::In,
         Word::Out,
         Word::More,

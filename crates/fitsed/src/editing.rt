@@ -1,22 +1,22 @@
 //! Files that are edited.
 use crate::detail::Detail;
+use crate::edit_runs::{run_on, run_on_stored};
 use crate::explaining::INPUT;
 use crate::files::{Standing, is_stored, mode_of, source_of, standing_at};
 use crate::piece::{Piece, script_of};
 use crate::remarks::{before_remarks, remarks_after};
 use crate::reporting::{
-    NOT_TAKEN, ends_all, report_made_hyphen, report_new_errors, report_replaced, report_undone,
-    reported, reported_oddity, reported_of, reported_script,
+    NOT_TAKEN, report_beside, report_left_over, report_made_hyphen, report_new_errors,
+    report_replaced, report_undone, reported, reported_oddity, reported_of, reported_save,
+    reported_script,
 };
+use crate::saved_end::SavedEnd;
 use crate::subject::Subject;
 use crate::task::{Inputs, SavingTerms};
 use crate::words::oddity_of;
-use fits_cli::{
-    CheckedEnd, End, Fault, SavedFile, WholeEnd, run_edit_checked, run_edit_checked_stored,
-    run_edit_stored, run_edit_told, run_edit_whole, run_edit_whole_stored,
-};
-use fits_stream::{FailedReads, NamedLines, Sink, Source, Stored, Watched};
-use std::alloc::Global;
+use fits_cli::{CheckedEnd, Fault};
+use fits_save::{Place, SaveFault, SavedFile, Seen, System};
+use fits_stream::{NamedLines, Sink, Source, Watched};
 use std::fs::File;
 use std::io::{BufWriter, Write};
 use std::rt::Files;
@@ -36,7 +36,7 @@ pub fn edit<R: Files<File = File> + Input + Print + Eprint + AllocGlobal>(
     script: &[Piece<'_>],
     subject: Subject<'_>,
     to: &str,
-    terms: SavingTerms,
+    terms: SavingTerms<'_>,
 ) -> u8 {
     if terms.fresh && fs::symlink_metadata(rt, to).is_ok() {
         let _ = eprintln!(rt; "fitsed: {to}: stands there");
@@ -49,12 +49,12 @@ pub fn edit<R: Files<File = File> + Input + Print + Eprint + AllocGlobal>(
     if script.is_empty() {
         let mut lines = Watched::new(rt.reader());
         let done = named_edited(rt, at, terms, &mut lines, &mut out);
-        return status_of(rt, at, INPUT, done);
+        return status_of(rt, at, terms, INPUT, &done);
     }
     match script_of(rt, script) {
         Ok(text) => {
             let done = named_edited(rt, at, terms, &mut text.as_slice(), &mut out);
-            status_of(rt, at, subject.name, done)
+            status_of(rt, at, terms, subject.name, &done)
         }
         Err(why) => reported_script(rt, subject.detail, why),
     }
@@ -65,7 +65,7 @@ pub fn edit_in_place<R: Files<File = File> + Input + Print + Eprint + AllocGloba
     rt: &R,
     script: &[Piece<'_>],
     files: Inputs<'_, '_>,
-    terms: SavingTerms,
+    terms: SavingTerms<'_>,
     detail: Detail<'_>,
 ) -> u8 {
     let text = match script_of(rt, script) {
@@ -88,9 +88,8 @@ pub fn edit_in_place<R: Files<File = File> + Input + Print + Eprint + AllocGloba
         };
         let at = FilePair { subject, to: path };
         let done = named_edited(rt, at, terms, &mut text.as_slice(), &mut out);
-        let fault = done.end.fault;
-        status = status.max(status_of(rt, at, path, done));
-        if fault.is_some_and(ends_all) {
+        status = status.max(status_of(rt, at, terms, path, &done));
+        if done.ends_all() {
             return status;
         }
     }
@@ -101,16 +100,16 @@ pub fn edit_in_place<R: Files<File = File> + Input + Print + Eprint + AllocGloba
 fn named_edited<R: Files<File = File> + Eprint + AllocGlobal, S: Source, W: Write>(
     rt: &R,
     at: FilePair<'_>,
-    terms: SavingTerms,
+    terms: SavingTerms<'_>,
     script: &mut S,
     out: &mut W,
-) -> CheckedEnd {
+) -> SavedEnd {
     let mut out = Watched::new(out);
     if !at.subject.named {
         return edited(rt, at, terms, script, &mut out);
     }
     let Ok(name) = format!(in rt.alloc(); "{}:", at.subject.name) else {
-        return ended(End::from(Fault::Memory));
+        return SavedEnd::from(Fault::Memory);
     };
     let mut out = NamedLines::new(out, name.as_bytes());
     edited(rt, at, terms, script, &mut out)
@@ -120,25 +119,32 @@ fn named_edited<R: Files<File = File> + Eprint + AllocGlobal, S: Source, W: Writ
 fn edited<R: Files<File = File> + Eprint + AllocGlobal, S: Source, O: Sink>(
     rt: &R,
     at: FilePair<'_>,
-    terms: SavingTerms,
+    terms: SavingTerms<'_>,
     script: &mut S,
     out: &mut O,
-) -> CheckedEnd {
+) -> SavedEnd {
     let Ok(file) = fs::open(rt, at.subject.name) else {
-        return ended(End::from(Fault::ReadFailed));
+        return SavedEnd::from(Fault::ReadFailed);
     };
     let Ok(before) = before_remarks(rt.alloc(), at.subject) else {
-        return ended(End::from(Fault::Memory));
+        return SavedEnd::from(Fault::Memory);
     };
     let Ok(mut told) = remarks_after(rt.alloc(), at.subject, &before) else {
-        return ended(End::from(Fault::Memory));
+        return SavedEnd::from(Fault::Memory);
     };
-    let Ok(mut saved) = SavedFile::new(rt, at.to, mode_of(&file)) else {
-        return ended(End::from(Fault::Memory));
+    let Ok(place) = System::new(rt, at.to, mode_of(&file), Seen::of(&file), terms.saving) else {
+        return SavedEnd::from(Fault::Memory);
     };
-    let stays = is_stored(&file) && saved.spares();
+    let mut saved = SavedFile::at(place, terms.saving.safe);
+    let spares = (is_stored(&file) || terms.asks_first()) && saved.spares();
+    if terms.asks_first() {
+        if let Some(fault) = saved.place().refusal(terms.saving, spares) {
+            return SavedEnd::refused(fault);
+        }
+    }
+    let stays = is_stored(&file) && spares;
     let Ok(saved) = BufWriter::new(rt.alloc(), saved) else {
-        return ended(End::from(Fault::Memory));
+        return SavedEnd::from(Fault::Memory);
     };
     let there = standing_at(rt, at.to, &file);
     let mut saved = Watched::new(saved);
@@ -157,20 +163,27 @@ fn edited<R: Files<File = File> + Eprint + AllocGlobal, S: Source, O: Sink>(
             &mut told,
         )
     };
-    let done = kept(saved.into_inner(), done);
-    if at.subject.detail.tells() && is_saved(done) {
-        tell_saved(rt, at.to, there);
+    let saved = saved.into_inner();
+    let met = saved.get_ref().place().met();
+    let done = SavedEnd {
+        met,
+        ..kept(saved, done)
+    };
+    if at.subject.detail.tells() {
+        tell_saved(rt, at.to, there, &done);
     }
     done
 }
 
-// Whether the result of a run was saved.
-fn is_saved(done: CheckedEnd) -> bool {
-    done.end.fault.is_none() && done.undone == 0 && done.new_errors == 0
-}
-
-// Tells of a file that was saved what someone who typed a word too few would want to know.
-fn tell_saved<R: Eprint>(rt: &R, to: &str, there: Standing) {
+// Tells of a file that was saved what someone who typed a word too few would want to know, and what
+// broken runs left.
+fn tell_saved<R: Eprint>(rt: &R, to: &str, there: Standing, done: &SavedEnd) {
+    if done.met > 0 {
+        report_left_over(rt, to, done.met);
+    }
+    if !done.is_saved() {
+        return;
+    }
     match there {
         Standing::Other => report_replaced(rt, to),
         Standing::Nothing if to == "-" => report_made_hyphen(rt),
@@ -178,81 +191,26 @@ fn tell_saved<R: Eprint>(rt: &R, to: &str, there: Standing) {
     }
 }
 
-// The run that has these terms.
-fn run_on<F: Source, S: Source, P: Sink, O: Sink, E: Sink>(
-    alloc: Global,
-    terms: SavingTerms,
-    file: &mut F,
-    script: &mut S,
-    saved: &mut P,
-    out: &mut O,
-    told: &mut Option<E>,
-) -> CheckedEnd {
-    if terms.checked {
-        return run_edit_checked(alloc, terms.whole, file, script, saved, out, told);
-    }
-    if terms.whole {
-        let WholeEnd { end, undone } = run_edit_whole(alloc, file, script, saved, out, told);
-        return CheckedEnd {
-            undone,
-            ..ended(end)
-        };
-    }
-    ended(run_edit_told(alloc, file, script, saved, out, told))
-}
-
-// The same over a regular file, the data of which stay in it until they are wanted.
-fn run_on_stored<F: Stored, S: Source, P: Sink, O: Sink, E: Sink>(
-    alloc: Global,
-    terms: SavingTerms,
-    file: &F,
-    script: &mut S,
-    saved: &mut P,
-    out: &mut O,
-    told: &mut Option<E>,
-) -> CheckedEnd {
-    let failed = &mut FailedReads::none();
-    if terms.checked {
-        return run_edit_checked_stored(alloc, terms.whole, file, failed, script, saved, out, told);
-    }
-    if terms.whole {
-        let WholeEnd { end, undone } = run_edit_whole_stored(
-            alloc, file, failed, script, saved, out, told,
-        );
-        return CheckedEnd {
-            undone,
-            ..ended(end)
-        };
-    }
-    ended(run_edit_stored(alloc, file, failed, script, saved, out, told))
-}
-
-// The end of a run of which neither lines nor errors keep the file from being saved.
-fn ended(end: End) -> CheckedEnd {
-    CheckedEnd {
-        end,
-        undone: 0,
-        new_errors: 0,
-    }
-}
-
-// Keeps what was saved, where all was; else the file that was there before stays.
-fn kept<R: Files>(saved: BufWriter<SavedFile<'_, R>>, done: CheckedEnd) -> CheckedEnd {
-    if let Some(Fault::Reread(_)) = done.end.fault {
-        if let Ok(saved) = saved.into_inner() {
-            saved.undo();
-        }
-        return done;
-    }
+// Keeps what was saved, where all was; else what stood there stays as it was.
+fn kept<P: Place + Drop>(saved: BufWriter<SavedFile<P>>, done: CheckedEnd) -> SavedEnd {
     if done.end.fault.is_some() || done.undone > 0 || done.new_errors > 0 {
-        return done;
+        let fault = saved.get_ref().fault();
+        return SavedEnd {
+            done,
+            fault,
+            met: 0,
+        };
     }
-    let Ok(saved) = saved.into_inner() else {
-        return ended(End::from(Fault::WriteFailed));
+    let Ok(mut saved) = saved.into_inner() else {
+        return SavedEnd::from(Fault::WriteFailed);
     };
     match saved.keep() {
-        Ok(()) => done,
-        Err(_) => ended(End::from(Fault::WriteFailed)),
+        Ok(()) => SavedEnd {
+            done,
+            fault: None,
+            met: 0,
+        },
+        Err(fault) => SavedEnd::refused(fault),
     }
 }
 
@@ -260,14 +218,23 @@ fn kept<R: Files>(saved: BufWriter<SavedFile<'_, R>>, done: CheckedEnd) -> Check
 fn status_of<R: Files<File = File> + Eprint + AllocGlobal>(
     rt: &R,
     at: FilePair<'_>,
+    terms: SavingTerms<'_>,
     other: &str,
-    done: CheckedEnd,
+    ended: &SavedEnd,
 ) -> u8 {
+    let done = ended.done;
     if done.undone > 0 {
         report_undone(rt, at.to, done.undone);
     }
     if done.new_errors > 0 {
         report_new_errors(rt, at.to, done.new_errors);
+    }
+    if let Some(fault) = ended.fault {
+        let status = reported_save(rt, at.subject, at.to, terms.saving, fault);
+        if let (SaveFault::InPart(_), true) = (fault, at.subject.detail.tells()) {
+            report_beside(rt, at.to, ended.met);
+        }
+        return status;
     }
     match done.end.fault {
         Some(fault) => reported_of(rt, at.subject, other, fault),

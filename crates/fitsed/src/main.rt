@@ -3,6 +3,7 @@
 
 mod arguments;
 mod detail;
+mod edit_runs;
 mod editing;
 mod explaining;
 mod files;
@@ -13,6 +14,7 @@ mod piece;
 mod reading;
 mod remarks;
 mod reporting;
+mod saved_end;
 mod scaled;
 mod subject;
 mod task;

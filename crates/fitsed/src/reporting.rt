@@ -1,10 +1,11 @@
 //! What standard error is told.
 use crate::detail::Detail;
-use crate::explaining::{INPUT, explain, explain_read, tell_call};
+use crate::explaining::{INPUT, explain, explain_read, tell_call, tell_cause};
 use crate::piece::ScriptFault;
 use crate::subject::Subject;
 use crate::words::oddity_of;
 use fits_cli::{CardPlace, Fault, FileFault, Reread};
+use fits_save::{SaveFault, Saving};
 use std::fs::File;
 use std::rt::Files;
 
@@ -76,6 +77,54 @@ pub fn reported_odd_word<R: Eprint>(rt: &R, words: &[String], tells: bool) -> u8
         let _ = eprintln!(rt; "fitsed: {oddity}");
     }
     NOT_TAKEN
+}
+
+/// Reports that a result isn't saved, and gives the status.
+pub fn reported_save<R: Files<File = File> + Eprint + AllocGlobal>(
+    rt: &R,
+    subject: Subject<'_>,
+    to: &str,
+    saving: Saving<'_>,
+    fault: SaveFault,
+) -> u8 {
+    let _ = match fault {
+        SaveFault::Changed => {
+            let changed = Fault::Reread(Reread::Changed);
+            return named_fault(rt, subject.name, subject.named, changed);
+        }
+        SaveFault::NotWhole => {
+            eprintln!(rt; "fitsed: {to}: not saved: it can't be replaced whole")
+        }
+        SaveFault::Stands => {
+            let suffix = saving.backup.unwrap_or("");
+            eprintln!(rt; "fitsed: {to}: not saved: {to}{suffix} stands there")
+        }
+        SaveFault::Opening(error) | SaveFault::Failed(error) | SaveFault::InPart(error) => {
+            let status = named_fault(rt, subject.name, subject.named, Fault::WriteFailed);
+            if subject.detail.tells() {
+                tell_cause(rt, to, error);
+            }
+            return status;
+        }
+    };
+    Fault::WriteFailed.status()
+}
+
+/// Reports where the whole result is that didn't get to its place.
+pub fn report_beside<R: Eprint>(rt: &R, name: &str, number: u32) {
+    let _ = eprintln!(rt; "fitsed: {name}: the whole result is in {name}.fitsed-{number}");
+}
+
+/// Reports that files of broken runs stand beside one.
+pub fn report_left_over<R: Eprint>(rt: &R, name: &str, count: u32) {
+    let _ = if count == 1 {
+        eprintln!(rt; "fitsed: {name}: {name}.fitsed-0 is left of a run that was broken off")
+    } else {
+        let more = count.saturating_sub(1);
+        eprintln!(rt;
+            "fitsed: {name}: {name}.fitsed-0 and {more} more are left of runs that were broken off"
+        )
+    };
 }
 
 /// Reports cards that aren't printed as they are.

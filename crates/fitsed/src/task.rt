@@ -3,10 +3,11 @@ use crate::piece::{Piece, pieces_of};
 use crate::words::oddity_of;
 use clap::ArgMatches;
 use fits_cli::{CardChoice, Level, NamePattern, Telling};
+use fits_save::Saving;
 use std::alloc::{AllocError, Global};
 
 /// The options that have values.
-const VALUES: &[&str] = &["line", "file", "hdu", "name"];
+const VALUES: &[&str] = &["line", "file", "hdu", "name", "backup"];
 
 /// What the command line asks for.
 #[derive(Drop)]
@@ -17,14 +18,14 @@ pub enum Task<'m, 'a> {
         from: &'a str,
         to: &'a str,
         named: bool,
-        terms: SavingTerms,
+        terms: SavingTerms<'a>,
     },
     /// A script edits each file where it stands.
     EditInPlace {
         script: Vec<Piece<'a>>,
         paths: Vec<&'a str>,
         named: bool,
-        terms: SavingTerms,
+        terms: SavingTerms<'a>,
     },
     /// A script is done on each file, and nothing is saved.
     Ask {
@@ -50,13 +51,22 @@ pub enum Task<'m, 'a> {
 
 /// When the result of a script is saved.
 #[derive(Clone, Copy)]
-pub struct SavingTerms {
+pub struct SavingTerms<'a> {
     /// Only where every line was done.
     pub whole: bool,
     /// Only where there are no more errors of any code.
     pub checked: bool,
     /// Only where nothing stands.
     pub fresh: bool,
+    /// Only where the file that stands there stays whole, or is kept.
+    pub saving: Saving<'a>,
+}
+
+impl SavingTerms<'_> {
+    /// Whether it is asked before the run how the result can be saved.
+    pub fn asks_first(&self) -> bool {
+        self.saving.safe || self.saving.backup.is_some()
+    }
 }
 
 /// The files that a command reads, and whether each line of its output is told the file's name.
@@ -166,11 +176,15 @@ fn edit_of<'m, 'a>(
 }
 
 // When the words of `edit` want the result saved.
-fn terms_of(words: &ArgMatches<'_>) -> SavingTerms {
+fn terms_of<'a>(words: &ArgMatches<'a>) -> SavingTerms<'a> {
     SavingTerms {
         whole: words.get_flag("all"),
         checked: words.get_flag("check"),
         fresh: words.get_flag("no-clobber"),
+        saving: Saving {
+            safe: words.get_flag("safe"),
+            backup: words.get_str("backup"),
+        },
     }
 }
 

@@ -15,6 +15,8 @@ pub enum Word {
     Verbose(&'static str),
     /// Whether a file that stands at OUT stays.
     NoClobber,
+    /// What ends the name that the old file keeps.
+    Backup,
     /// Whether each line begins with the name of its file.
     Named,
     /// An HDU whose cards are printed.
@@ -40,6 +42,7 @@ impl Word {
             Word::File => Ok(file(alloc)),
             Word::Verbose(help) => Ok(flag(alloc, "verbose", 'v', help)),
             Word::NoClobber => no_clobber(alloc),
+            Word::Backup => Ok(backup(alloc)),
             Word::Named => Ok(named(alloc)),
             Word::Hdu => Ok(hdu(alloc)),
             Word::Name => Ok(name(alloc)),
@@ -64,6 +67,15 @@ fn file<'a>(alloc: Global) -> Arg<'a> {
 fn no_clobber<'a>(alloc: Global) -> Result<Arg<'a>, AllocError> {
     let help = "Do nothing where something stands at OUT";
     flag(alloc, "no-clobber", 'n', help).conflicts_with("in-place")
+}
+
+fn backup<'a>(alloc: Global) -> Arg<'a> {
+    Arg::new(alloc, "backup")
+        .short('b')
+        .long("backup")
+        .value_name("SUFFIX")
+        .action(ArgAction::Set)
+        .help("Keep the file that stands at OUT, with SUFFIX after its name")
 }
 
 fn named<'a>(alloc: Global) -> Arg<'a> {

@@ -1,0 +1,65 @@
+use std::fs::{File, Metadata};
+use std::os::unix::fs::MetadataExt;
+
+/// Which file was opened, and how it was then.
+#[derive(Clone, Copy)]
+pub struct Seen {
+    device: u64,
+    inode: u64,
+    len: u64,
+    modified: (i64, i64),
+    changed: (i64, i64),
+    /// Whether another holds a lock on it, as `flock` does for the program that it runs.
+    locked: bool,
+}
+
+impl Seen {
+    /// The file as it is opened; none where the system doesn't tell.
+    pub fn of(file: &File) -> Option<Seen> {
+        let Ok(about) = file.metadata() else {
+            return None;
+        };
+        let mut seen = Seen::as_it_is(&about);
+        seen.locked = is_locked(file);
+        Some(seen)
+    }
+
+    // What the system tells of a file.
+    pub(crate) fn as_it_is(about: &Metadata) -> Seen {
+        Seen {
+            device: about.dev(),
+            inode: about.ino(),
+            len: about.len(),
+            modified: (about.mtime(), about.mtime_nsec()),
+            changed: (about.ctime(), about.ctime_nsec()),
+            locked: false,
+        }
+    }
+
+    /// Whether this is that file, whatever was done to it since.
+    pub fn is_of(&self, about: &Metadata) -> bool {
+        self.device == about.dev() && self.inode == about.ino()
+    }
+
+    /// Whether this is that file, and as it was.
+    pub(crate) fn is_still(&self, about: &Metadata) -> bool {
+        self.is_of(about)
+            && self.len == about.len()
+            && self.modified == (about.mtime(), about.mtime_nsec())
+            && self.changed == (about.ctime(), about.ctime_nsec())
+    }
+
+    /// Whether another held a lock on it as it was opened.
+    pub(crate) fn was_locked(&self) -> bool {
+        self.locked
+    }
+}
+
+// Whether another holds a lock on a file.
+fn is_locked(file: &File) -> bool {
+    if file.try_lock_shared().is_err() {
+        return true;
+    }
+    let _ = file.unlock();
+    false
+}
