@@ -273,6 +273,10 @@ MORE = [
     (["stat", "a.fits"], {"a.fits": SCALED}, 0, "1 defined 3 blank 0 min 1 max 1029 sum 1545\n", "", "fitsed: hdu 1: stored numbers: BSCALE 0.5, BZERO 1500.0\n"),
     (["stat", "-H", "a.fits"], {"a.fits": SCALED}, 0, "a.fits:1 defined 3 blank 0 min 1 max 1029 sum 1545\n", "", "fitsed: a.fits: hdu 1: stored numbers: BSCALE 0.5, BZERO 1500.0\n"),
     (["stat", "a.fits"], {"a.fits": UNSIGNED}, 0, "1 defined 3 blank 0 min 32769 max 33797 sum 99849\n", "", ""),
+    (["ask", "-e", "rect 1 1:1", "a.fits", "b.fits"], {"a.fits": SCALED, "b.fits": EMPTY}, 1, "a.fits:1\nb.fits:line 1: refused 9 NotImage\n", "", None),
+    (["ask", "-e", "get 1 NAXIS", "-e", "stat 1", "a.fit"], {"a.fit": SCALED}, 0, "integer 1\ndefined 3 blank 0 min 1 max 1029 sum 1545\n", "", "fitsed: hdu 1: stored numbers: BSCALE 0.5, BZERO 1500.0\n"),
+    (["ask", "-e", "get 1 NAXIS", "a.fits"], {"a.fits": SCALED}, 0, "integer 1\n", "", ""),
+    (["edit", "-i", "-e", "fill 1 1:1 1", "a.fits"], {"a.fits": SCALED}, 0, "", "", "fitsed: hdu 1: stored numbers: BSCALE 0.5, BZERO 1500.0\n"),
     (["list", "a.fits"], {"a.fits": SCALED}, 0, "hdu 1 PRIMARY bitpix 16 axes 3 cards 6 at 0 2880 5760\n", "", ""),
     # what is saved: over another file, over IN, as a new file, as one with an odd name
     (["edit", "-e", "off", "a.fits", "b.fits"], {"a.fits": EMPTY, "b.fits": EMPTY}, 0, "1 0 2880 2880\n", "", "fitsed: b.fits: replaced\n"),

@@ -4,7 +4,7 @@ use Rattle.std.specs.Result.{IsErrAnd}
 use Rattle.std.proofs.lemmas.Result.{err_from_is_err_and}
 use Rattle.fits_stream.specs.Stream.{SourceState, SinkState, Prints, PrintsFront, StaysQuiet}
 use Rattle.fits_stream.proofs.StreamLemmas.{Prints-flushed, Prints-more, Prints-none}
-use Rattle.fits_session.specs.File.{FileParts, file_bytes}
+use Rattle.fits_session.specs.File.{FileParts}
 use Rattle.fits_session.specs.Report.{report_of}
 use Rattle.fits_session.specs.declared.problem.Problem.{Problem}
 use Rattle.fits_session.proofs.OrderLemmas.{in_order}
@@ -14,7 +14,7 @@ use Rattle.fits_cli.specs.Ends.{RunState, StopsBy}
 use Rattle.fits_cli.specs.declared.end.End.{End}
 use Rattle.fits_cli.specs.Faults.{status_of_fault, IsOnce, PrintFails, SaveFails}
 use Rattle.fits_cli.specs.NewErrors.{new_error_lines, new_errors, HasMoreErrors}
-use Rattle.fits_cli.specs.Output.{answers, output_of_lines, standing_after, status_of}
+use Rattle.fits_cli.specs.Output.{answers, output_of_lines, saved_bytes, standing_after, status_of}
 use Rattle.fits_cli.specs.Running.{heard, IsAnsweredRun}
 use Rattle.fits_cli.specs.Script.{script_lines}
 use Rattle.fits_cli.specs.declared.fault.Fault.{Fault}
@@ -40,7 +40,7 @@ First-report-refused old new of_file script printed saved = record {
 }
 
 -- the run at its two reports
-up_to_reports : (whole : Bool) (old new : RunState) (mid : SinkState) (told told_after : Option SinkState) (now : Standing) (before : List Problem) → IsReportedRun old.file new.file old.script new.script old.printed mid told told_after now before → kept_back whole now.refused ≡ 0
+up_to_reports : (whole : Bool) (old new : RunState) (mid : SinkState) (told told_after : Option SinkState) (now : Standing) (before : List Problem) → IsReportedRun old.terms old.file new.file old.script new.script old.printed mid told told_after now before → kept_back whole now.refused ≡ 0
     → IsUpToReports whole old new
 up_to_reports whole old new mid told told_after now before reported all =
     let run = reported.run in
@@ -48,32 +48,32 @@ up_to_reports whole old new mid told told_after now before reported all =
     record {
       file = run.opened.0;
       script = done.script;
-      output = output_of_lines run.parts (script_lines done.lines done.last);
+      output = output_of_lines old.terms run.parts (script_lines done.lines done.last);
       before = before;
       after = report_of now.marked.file;
       told_file = run.opened.1;
       told_script = script_told old.script new.script done.script done.read done.ended;
-      is = output_whole old.script new.script old.file run.parts now (heard old.printed told) (heard run.answered.mid told_after) run.opened done;
+      is = output_whole old.terms old.script new.script old.file run.parts now (heard old.printed told) (heard run.answered.mid told_after) run.opened done;
       answered = refl;
       done = ap (λ (s : Standing). kept_back whole s.refused) (sym done.answered.left) ∙ all;
       before_is = record { file = run.parts; opened = run.opened.2; all = reported.before_is };
       after_is = record {
-        file = (standing_after (at_first_line run.parts) (script_lines done.lines done.last)).marked.file;
-        opened = lines_file (at_first_line run.parts) (script_lines done.lines done.last) (own_bytes run.opened.0 run.parts run.opened.2);
+        file = (standing_after (at_first_line old.terms run.parts) (script_lines done.lines done.last)).marked.file;
+        opened = lines_file (at_first_line old.terms run.parts) (script_lines done.lines done.last) (own_bytes run.opened.0 run.parts run.opened.2);
         all = ap (λ (s : Standing). report_of s.marked.file) done.answered.left;
       };
       read = record { of_file = run.read; of_script = done.read.quiet };
     }
 
 -- its answers
-answered-printed : (old new : RunState) (mid : SinkState) (told told_after : Option SinkState) (now : Standing) (run : IsAnsweredRun old.file new.file old.script new.script old.printed mid told told_after now)
-    → Prints (answers (at_first_line run.parts) (script_lines run.answered.script.lines run.answered.script.last)) old.printed mid
+answered-printed : (old new : RunState) (mid : SinkState) (told told_after : Option SinkState) (now : Standing) (run : IsAnsweredRun old.terms old.file new.file old.script new.script old.printed mid told told_after now)
+    → Prints (answers (at_first_line old.terms run.parts) (script_lines run.answered.script.lines run.answered.script.last)) old.printed mid
 answered-printed old new mid told told_after now run =
     let done = run.answered.script in
-    Prints-flushed old.printed run.answered.mid mid (answers (at_first_line run.parts) (script_lines done.lines done.last)) done.answered.said.printed run.answered.flush
+    Prints-flushed old.printed run.answered.mid mid (answers (at_first_line old.terms run.parts) (script_lines done.lines done.last)) done.answered.said.printed run.answered.flush
 
 -- lines that weren't done keep the result back
-pub Kept-back : (whole : Bool) (old new : RunState) (told told_after : Option SinkState) (now : Standing) (before : List Problem) (undone : ℕ) → IsReportedRun old.file new.file old.script new.script old.printed new.printed told told_after now before → new.saved ≡ old.saved
+pub Kept-back : (whole : Bool) (old new : RunState) (told told_after : Option SinkState) (now : Standing) (before : List Problem) (undone : ℕ) → IsReportedRun old.terms old.file new.file old.script new.script old.printed new.printed told told_after now before → new.saved ≡ old.saved
     → undone ≡ kept_back whole now.refused → 0 < undone → IsKeptBack whole old new (status_of now) undone
 unfolding Asked-done standing_after
 Kept-back whole old new told told_after now before undone reported saved is some = record {
@@ -83,7 +83,7 @@ Kept-back whole old new told told_after now before undone reported saved is some
 }
 
 -- memory is refused after the script
-pub Lacks-report : (whole : Bool) (old new : RunState) (told told_after : Option SinkState) (now : Standing) (before : List Problem) → IsReportedRun old.file new.file old.script new.script old.printed new.printed told told_after now before → new.saved ≡ old.saved
+pub Lacks-report : (whole : Bool) (old new : RunState) (told told_after : Option SinkState) (now : Standing) (before : List Problem) → IsReportedRun old.terms old.file new.file old.script new.script old.printed new.printed told told_after now before → new.saved ≡ old.saved
     → kept_back whole now.refused ≡ 0 → StopsChecked whole old new Memory
 unfolding up_to_reports
 Lacks-report whole old new told told_after now before reported saved all = inr (record {
@@ -102,7 +102,7 @@ none-more : (before : List Problem) (file : FileParts) (count : ℕ) → count �
 none-more before file count is none more = absurd (omega (arith, is, none, more-new before (report_of file) (in_order file) more))
 
 -- some errors are new
-pub Unsound-printed : (whole : Bool) (old new : RunState) (mid : SinkState) (told told_after : Option SinkState) (now : Standing) (before : List Problem) (count : ℕ) → IsReportedRun old.file new.file old.script new.script old.printed mid told told_after now before → new.saved ≡ old.saved
+pub Unsound-printed : (whole : Bool) (old new : RunState) (mid : SinkState) (told told_after : Option SinkState) (now : Standing) (before : List Problem) (count : ℕ) → IsReportedRun old.terms old.file new.file old.script new.script old.printed mid told told_after now before → new.saved ≡ old.saved
     → kept_back whole now.refused ≡ 0 → count ≡ length (new_errors before (report_of now.marked.file)) → 0 < count → Prints (new_error_lines (new_errors before (report_of now.marked.file))) mid new.printed → new.printed.unflushed ≡ 0
     → IsUnsound whole old new 1 count
 unfolding up_to_reports
@@ -113,7 +113,7 @@ Unsound-printed whole old new mid told told_after now before count reported save
       more = some-more before now.marked.file count is some;
       some = some;
       count = is;
-      printed = Prints-more old.printed mid new.printed (answers (at_first_line reported.run.parts) (script_lines done.lines done.last)) (new_error_lines (new_errors before (report_of now.marked.file)))
+      printed = Prints-more old.printed mid new.printed (answers (at_first_line old.terms reported.run.parts) (script_lines done.lines done.last)) (new_error_lines (new_errors before (report_of now.marked.file)))
           (answered-printed old new mid told told_after now reported.run) printed;
       flushed = flushed;
       saved = saved;
@@ -121,7 +121,7 @@ Unsound-printed whole old new mid told told_after now before count reported save
     }
 
 -- their lines can't be written
-pub New-errors-fail : (whole : Bool) (old new : RunState) (mid : SinkState) (told told_after : Option SinkState) (now : Standing) (before : List Problem) (count : ℕ) (fault : Fault) → IsReportedRun old.file new.file old.script new.script old.printed mid told told_after now before → new.saved ≡ old.saved
+pub New-errors-fail : (whole : Bool) (old new : RunState) (mid : SinkState) (told told_after : Option SinkState) (now : Standing) (before : List Problem) (count : ℕ) (fault : Fault) → IsReportedRun old.terms old.file new.file old.script new.script old.printed mid told told_after now before → new.saved ≡ old.saved
     → kept_back whole now.refused ≡ 0 → count ≡ length (new_errors before (report_of now.marked.file)) → 0 < count → PrintFails (new_error_lines (new_errors before (report_of now.marked.file))) mid new.printed fault
     → StopsChecked whole old new fault
 unfolding up_to_reports
@@ -137,14 +137,14 @@ New-errors-fail whole old new mid told told_after now before count fault reporte
       saved = saved;
     })))
 
--- the file after the last line, in the run's output
-left_bytes : (old new : RunState) (mid : SinkState) (told told_after : Option SinkState) (now : Standing) (run : IsAnsweredRun old.file new.file old.script new.script old.printed mid told told_after now)
-    → file_bytes now.marked.file ≡ file_bytes (standing_after (at_first_line run.parts) (script_lines run.answered.script.lines run.answered.script.last)).marked.file
-left_bytes old new mid told told_after now run = ap (λ (s : Standing). file_bytes s.marked.file) run.answered.script.answered.left
+-- what is saved after the last line, in the run's output
+left_bytes : (old new : RunState) (mid : SinkState) (told told_after : Option SinkState) (now : Standing) (run : IsAnsweredRun old.terms old.file new.file old.script new.script old.printed mid told told_after now)
+    → saved_bytes old.terms now ≡ saved_bytes old.terms (standing_after (at_first_line old.terms run.parts) (script_lines run.answered.script.lines run.answered.script.last))
+left_bytes old new mid told told_after now run = ap (saved_bytes old.terms) run.answered.script.answered.left
 
 -- no error is new
-pub Sound-saved : (whole : Bool) (old new : RunState) (told told_after : Option SinkState) (now : Standing) (before : List Problem) (count : ℕ) → IsReportedRun old.file new.file old.script new.script old.printed new.printed told told_after now before
-    → kept_back whole now.refused ≡ 0 → count ≡ length (new_errors before (report_of now.marked.file)) → count ≤ 0 → Prints (file_bytes now.marked.file) old.saved new.saved → new.saved.unflushed ≡ 0
+pub Sound-saved : (whole : Bool) (old new : RunState) (told told_after : Option SinkState) (now : Standing) (before : List Problem) (count : ℕ) → IsReportedRun old.terms old.file new.file old.script new.script old.printed new.printed told told_after now before
+    → kept_back whole now.refused ≡ 0 → count ≡ length (new_errors before (report_of now.marked.file)) → count ≤ 0 → Prints (saved_bytes old.terms now) old.saved new.saved → new.saved.unflushed ≡ 0
     → IsSound whole old new (status_of now)
 unfolding up_to_reports
 Sound-saved whole old new told told_after now before count reported all is none saved flushed = record {
@@ -158,8 +158,8 @@ Sound-saved whole old new told told_after now before count reported all is none 
 }
 
 -- the file can't be saved
-pub Sound-fails : (whole : Bool) (old new : RunState) (told told_after : Option SinkState) (now : Standing) (before : List Problem) (count : ℕ) (fault : Fault) → IsReportedRun old.file new.file old.script new.script old.printed new.printed told told_after now before → (old.stored ≡ true) ⊎ IsOnce fault
-    → kept_back whole now.refused ≡ 0 → count ≡ length (new_errors before (report_of now.marked.file)) → count ≤ 0 → SaveFails (file_bytes now.marked.file) old.saved new.saved fault
+pub Sound-fails : (whole : Bool) (old new : RunState) (told told_after : Option SinkState) (now : Standing) (before : List Problem) (count : ℕ) (fault : Fault) → IsReportedRun old.terms old.file new.file old.script new.script old.printed new.printed told told_after now before → (old.stored ≡ true) ⊎ IsOnce fault
+    → kept_back whole now.refused ≡ 0 → count ≡ length (new_errors before (report_of now.marked.file)) → count ≤ 0 → SaveFails (saved_bytes old.terms now) old.saved new.saved fault
     → StopsChecked whole old new fault
 unfolding up_to_reports
 Sound-fails whole old new told told_after now before count fault reported re all is none (inl fails) =

@@ -8,7 +8,7 @@ use Rattle.fits_stream.specs.Intake.{Gives, Tells}
 use Rattle.fits_stream.specs.Stream.{SourceState, SinkState, FailsToFlush, Flushes, Prints, PrintsFront, Reads, StaysQuiet}
 use Rattle.fits_stream.proofs.StreamLemmas.{Consumes-none}
 use Rattle.std.proofs.lemmas.List.{append-nil, take_all}
-use Rattle.fits_session.specs.File.{FileParts, file_bytes}
+use Rattle.fits_session.specs.File.{FileParts}
 use Rattle.fits_session.specs.Opening.{HasOpenFault}
 use Rattle.fits_session.specs.Reading.{ReadStops}
 use Rattle.fits_session.specs.declared.open_fault.OpenFault.{OpenFault}
@@ -17,17 +17,18 @@ use Rattle.fits_session.specs.declared.read_fault.ReadFileFault.{ReadFileFault}
 use Rattle.fits_session.specs.declared.read_fault.ReadFileFault.TheVariants.{Open, Failed}
 use Rattle.fits_cli.specs.Answer.{Standing, at_first_line}
 use Rattle.fits_cli.specs.Ends.{RunState, AreAllRemarks, AreToldOf, AsksAs, AsksBy, EndsAs, EndsBy, FlushesOrFails, EndsWhole, EndsWholeAs, Opens, HasLines, CopyingFails, IsAsked, IsDoneWhole, LacksPixels, IsRefused, IsUndone, Succeeds, AnswersFail, StopsBy}
-use Rattle.fits_cli.specs.Faults.{fault_of_file, status_of_fault, PrintFails}
+use Rattle.fits_cli.specs.Faults.{fault_of_file, status_of_fault}
 use Rattle.fits_cli.specs.declared.end.End.{End}
 use Rattle.fits_cli.specs.declared.limits.TheConstants.{SCRIPT_LIMIT}
 use Rattle.fits_cli.specs.Remark.{remarks, Remarks}
-use Rattle.fits_cli.specs.Output.{Output, answers, standing_after, status_of, output_unopened, output_of_lines, output_too_long, IsOutputOf}
+use Rattle.fits_cli.specs.Output.{Output, answers, saved_bytes, standing_after, status_of, output_unopened, output_of_lines, output_too_long, IsOutputOf}
 use Rattle.fits_cli.specs.Running.{Heard, heard, AnswersScript, AnswersTooLong, NeedsMemoryAt, ScriptLacksPixels, ScriptReadFails, ScriptWriteFails, ScriptStops, FlushesThen, FlushesAnswers, IsAnsweredRun, IsFlushed}
 use Rattle.fits_cli.specs.Script.{script_lines}
 use Rattle.fits_cli.specs.declared.fault.Fault.{Fault}
 use Rattle.fits_cli.specs.declared.fault.Fault.TheVariants.{Refused, ScriptTooLong, Memory, ReadFailed, WriteFailed, Reread as RereadFault}
 use Rattle.fits_cli.specs.declared.reread.Reread.{Reread}
 use Rattle.fits_cli.specs.declared.reread.Reread.TheVariants as again
+use Rattle.fits_cli.specs.declared.terms.Terms.{Terms}
 use Rattle.fits_cli.specs.Faults.{IsOnce, SaveFails}
 use Rattle.fits_cli.proofs.LinesLemmas.{IsCutInLines-none}
 use Rattle.fits_cli.proofs.RunLemmas.{answers-append, answers-none}
@@ -92,15 +93,15 @@ choice-over : (n limit : ℕ) (a b : Output) → limit < n → b ≡ (if nat_le 
 choice-over n limit a b over = let test : nat_le n limit ≡ false = search rules in rw test refl
 
 -- the output of a script that is answered whole
-pub output_whole : (old new : SourceState) (file : SourceState) (parts : FileParts) (now : Standing) (held holds : Heard) (opened : Opens file parts) (done : AnswersScript old new (at_first_line parts) now held holds)
-    → IsOutputOf opened.0 done.script (output_of_lines parts (script_lines done.lines done.last))
-output_whole old new file parts now held holds opened done = inr (record {
+pub output_whole : (terms : Terms) (old new : SourceState) (file : SourceState) (parts : FileParts) (now : Standing) (held holds : Heard) (opened : Opens file parts) (done : AnswersScript old new (at_first_line terms parts) now held holds)
+    → IsOutputOf terms opened.0 done.script (output_of_lines terms parts (script_lines done.lines done.last))
+output_whole terms old new file parts now held holds opened done = inr (record {
   parts = parts;
   lines = done.lines;
   last = done.last;
   opens = opened.2;
   cut = rw (take_all SCRIPT_LIMIT done.script done.short) done.cut;
-  is = choice-within (length done.script) SCRIPT_LIMIT (output_of_lines parts (script_lines done.lines done.last)) (output_too_long parts done.lines) done.short;
+  is = choice-within (length done.script) SCRIPT_LIMIT (output_of_lines terms parts (script_lines done.lines done.last)) (output_too_long terms parts done.lines) done.short;
 })
 
 -- a script that was read to its end
@@ -124,7 +125,7 @@ all_lines old new before now held holds done = record {
 
 -- the answers to some lines can't be flushed
 AnswersFail-flush : (old new : RunState) (mid : SinkState) (parts : FileParts) (lines others all : List (List ℕ)) → StaysQuiet old.file new.file → StaysQuiet old.script new.script → new.saved ≡ old.saved
-    → Opens old.file parts → HasLines old.script new.script all → all ≡ lines ++ others → Prints (answers (at_first_line parts) lines) old.printed mid → FailsToFlush mid new.printed → AnswersFail old new
+    → Opens old.file parts → HasLines old.script new.script all → all ≡ lines ++ others → Prints (answers (at_first_line old.terms parts) lines) old.printed mid → FailsToFlush mid new.printed → AnswersFail old new
 AnswersFail-flush old new mid parts lines others all of_file of_script saved opened has split printed failed = record {
   read = record { of_file = of_file; of_script = of_script };
   parts = parts;
@@ -132,7 +133,7 @@ AnswersFail-flush old new mid parts lines others all of_file of_script saved ope
   opened = opened;
   reached = has;
   printed =
-      let first : Standing = at_first_line parts in
+      let first : Standing = at_first_line old.terms parts in
       let whole : answers first all ≡ answers first lines ++ answers (standing_after first lines) others = ap (answers first) split ∙ answers-append first lines others in
       rw whole (PrintsFront-longer old.printed new.printed (answers first lines) (answers (standing_after first lines) others)
       (PrintsFront-unflushed old.printed mid new.printed (answers first lines) printed failed));
@@ -154,24 +155,24 @@ Ended result why mid out = ((result ≡ Err why) × Flushes mid out) ⊎ ((resul
 -- a run whose script was answered whole, and whose answers aren't flushed
 StopsBy-done : (old new : RunState) (mid : SinkState) (told told_after : Option SinkState) (result : Result (Unit {0}) Fault) (fault : Fault) (parts : FileParts) (now : Standing) → result ≡ Err fault
     → Opens old.file parts → StaysQuiet old.file new.file → new.saved ≡ old.saved
-    → AnswersScript old.script new.script (at_first_line parts) now (heard old.printed told) (heard mid told_after) → (result ≡ Err WriteFailed) × FailsToFlush mid new.printed → StopsBy old new fault
+    → AnswersScript old.script new.script (at_first_line old.terms parts) now (heard old.printed told) (heard mid told_after) → (result ≡ Err WriteFailed) × FailsToFlush mid new.printed → StopsBy old new fault
 StopsBy-done old new mid told told_after result fault parts now is opened of_file saved done flush =
     let lines : List (List ℕ) = script_lines done.lines done.last in
     subst (λ (f : Fault). StopsBy old new f) (same_fault result WriteFailed fault flush.0 is)
     (inl (AnswersFail-flush old new mid parts lines [] lines of_file done.read.quiet saved opened
-    (all_lines old.script new.script (at_first_line parts) now (heard old.printed told) (heard mid told_after) done) (sym (append-nil lines)) done.answered.said.printed flush.1))
+    (all_lines old.script new.script (at_first_line old.terms parts) now (heard old.printed told) (heard mid told_after) done) (sym (append-nil lines)) done.answered.said.printed flush.1))
 
 -- a run whose script is too long
 StopsBy-too_long : (old new : RunState) (mid : SinkState) (told told_after : Option SinkState) (result : Result (Unit {0}) Fault) (fault : Fault) (parts : FileParts) → result ≡ Err fault
     → Opens old.file parts → StaysQuiet old.file new.file → new.saved ≡ old.saved
-    → AnswersTooLong old.script new.script (at_first_line parts) (heard old.printed told) (heard mid told_after) → Ended result ScriptTooLong mid new.printed → StopsBy old new fault
+    → AnswersTooLong old.script new.script (at_first_line old.terms parts) (heard old.printed told) (heard mid told_after) → Ended result ScriptTooLong mid new.printed → StopsBy old new fault
 StopsBy-too_long old new mid told told_after result fault parts is opened of_file saved long (inl flush) =
     subst (λ (f : Fault). StopsBy old new f) (same_fault result ScriptTooLong fault flush.0 is)
     (record {
       run = record {
         file = opened.0;
         script = long.script;
-        output = output_too_long parts long.lines;
+        output = output_too_long old.terms parts long.lines;
         told_file = opened.1;
         told_script = long.told;
         is = inr (record {
@@ -180,9 +181,9 @@ StopsBy-too_long old new mid told told_after result fault parts is opened of_fil
           last = long.last;
           opens = opened.2;
           cut = long.cut;
-          is = choice-over (length long.script) SCRIPT_LIMIT (output_of_lines parts (script_lines long.lines long.last)) (output_too_long parts long.lines) long.long;
+          is = choice-over (length long.script) SCRIPT_LIMIT (output_of_lines old.terms parts (script_lines long.lines long.last)) (output_too_long old.terms parts long.lines) long.long;
         });
-        printed = Prints-flushed old.printed mid new.printed (answers (at_first_line parts) long.lines) long.said.printed flush.1;
+        printed = Prints-flushed old.printed mid new.printed (answers (at_first_line old.terms parts) long.lines) long.said.printed flush.1;
         saved = Prints-same old.saved new.saved saved;
         status_is = refl;
         fault_is = refl;
@@ -208,7 +209,7 @@ no_lines old new same = record {
 -- a run whose script needs memory that is refused
 StopsBy-memory : (old new : RunState) (mid : SinkState) (told told_after : Option SinkState) (result : Result (Unit {0}) Fault) (fault : Fault) (parts : FileParts) → result ≡ Err fault
     → Opens old.file parts → StaysQuiet old.file new.file → new.saved ≡ old.saved → StaysQuiet old.script new.script
-    → (new.script ≡ old.script × heard mid told_after ≡ heard old.printed told) ⊎ ((lines : List (List ℕ)) × HasLines old.script new.script lines × NeedsMemoryAt lines (at_first_line parts) (heard old.printed told) (heard mid told_after))
+    → (new.script ≡ old.script × heard mid told_after ≡ heard old.printed told) ⊎ ((lines : List (List ℕ)) × HasLines old.script new.script lines × NeedsMemoryAt lines (at_first_line old.terms parts) (heard old.printed told) (heard mid told_after))
     → Ended result Memory mid new.printed → StopsBy old new fault
 StopsBy-memory old new mid told told_after result fault parts is opened of_file saved of_script (inl none) (inl flush) =
     subst (λ (f : Fault). StopsBy old new f) (same_fault result Memory fault flush.0 is)
@@ -220,7 +221,7 @@ StopsBy-memory old new mid told told_after result fault parts is opened of_file 
 StopsBy-memory old new mid told told_after result fault parts is opened of_file saved of_script (inl none) (inr flush) =
     subst (λ (f : Fault). StopsBy old new f) (same_fault result WriteFailed fault flush.0 is)
     (inl (AnswersFail-flush old new mid parts [] [] [] of_file of_script saved opened (no_lines old.script new.script none.0) refl
-    (rw (answers-none (at_first_line parts)) (Prints-same old.printed mid (ap (λ (h : Heard). h.out) none.1))) flush.1))
+    (rw (answers-none (at_first_line old.terms parts)) (Prints-same old.printed mid (ap (λ (h : Heard). h.out) none.1))) flush.1))
 StopsBy-memory old new mid told told_after result fault parts is opened of_file saved of_script (inr some) (inl flush) =
     let at = some.2 in
     subst (λ (f : Fault). StopsBy old new f) (same_fault result Memory fault flush.0 is)
@@ -234,7 +235,7 @@ StopsBy-memory old new mid told told_after result fault parts is opened of_file 
         opened = opened;
         reached = subst (λ (ls : List (List ℕ)). HasLines old.script new.script ls) at.split some.1;
         needs = at.needs;
-        printed = Prints-flushed old.printed mid new.printed (answers (at_first_line parts) at.done) at.said.printed flush.1;
+        printed = Prints-flushed old.printed mid new.printed (answers (at_first_line old.terms parts) at.done) at.said.printed flush.1;
         flushed = flush.1.flushed;
       });
       saved = saved;
@@ -252,9 +253,9 @@ flushed_or_not a b c text printed (inr failed) = (Appends-kept a.contents b.cont
 -- a run whose script can't be read
 StopsBy-read : (old new : RunState) (mid : SinkState) (told told_after : Option SinkState) (result : Result (Unit {0}) Fault) (fault : Fault) (parts : FileParts) → result ≡ Err fault
     → Opens old.file parts → StaysQuiet old.file new.file → new.saved ≡ old.saved
-    → ScriptReadFails old.script new.script (at_first_line parts) (heard old.printed told) (heard mid told_after) → (result ≡ Err ReadFailed) × (Flushes mid new.printed ⊎ FailsToFlush mid new.printed) → StopsBy old new fault
+    → ScriptReadFails old.script new.script (at_first_line old.terms parts) (heard old.printed told) (heard mid told_after) → (result ≡ Err ReadFailed) × (Flushes mid new.printed ⊎ FailsToFlush mid new.printed) → StopsBy old new fault
 StopsBy-read old new mid told told_after result fault parts is opened of_file saved fails flush =
-    let out = flushed_or_not old.printed mid new.printed (answers (at_first_line parts) fails.lines) fails.said.printed flush.1 in
+    let out = flushed_or_not old.printed mid new.printed (answers (at_first_line old.terms parts) fails.lines) fails.said.printed flush.1 in
     subst (λ (f : Fault). StopsBy old new f) (same_fault result ReadFailed fault flush.0 is)
     (inr (record {
       of_file = of_file;
@@ -273,7 +274,7 @@ StopsBy-read old new mid told told_after result fault parts is opened of_file sa
 -- a run whose answers can't be written
 StopsBy-write : (old new : RunState) (mid : SinkState) (told told_after : Option SinkState) (result : Result (Unit {0}) Fault) (fault : Fault) (parts : FileParts) → result ≡ Err fault
     → Opens old.file parts → StaysQuiet old.file new.file → new.saved ≡ old.saved
-    → ScriptWriteFails old.script new.script (at_first_line parts) (heard old.printed told) (heard mid told_after) → (result ≡ Err WriteFailed) × (new.printed ≡ mid) → StopsBy old new fault
+    → ScriptWriteFails old.script new.script (at_first_line old.terms parts) (heard old.printed told) (heard mid told_after) → (result ≡ Err WriteFailed) × (new.printed ≡ mid) → StopsBy old new fault
 StopsBy-write old new mid told told_after result fault parts is opened of_file saved fails flush =
     subst (λ (f : Fault). StopsBy old new f) (same_fault result WriteFailed fault flush.0 is)
     (inl (record {
@@ -282,14 +283,14 @@ StopsBy-write old new mid told told_after result fault parts is opened of_file s
       lines = fails.lines;
       opened = opened;
       reached = fails.reached;
-      printed = subst (λ (s : SinkState). PrintsFront (answers (at_first_line parts) fails.lines) old.printed s) (sym flush.1) fails.front.printed;
+      printed = subst (λ (s : SinkState). PrintsFront (answers (at_first_line old.terms parts) fails.lines) old.printed s) (sym flush.1) fails.front.printed;
       saved = saved;
     }))
 
 -- a run that wants data again, which it doesn't have
 StopsBy-pixels : (old new : RunState) (mid : SinkState) (told told_after : Option SinkState) (result : Result (Unit {0}) Fault) (why : Reread) (fault : Fault) (parts : FileParts) → result ≡ Err fault → old.stored ≡ true
     → Opens old.file parts → StaysQuiet old.file new.file → new.saved ≡ old.saved
-    → ScriptLacksPixels old.script new.script (at_first_line parts) (heard old.printed told) (heard mid told_after) why → Ended result (RereadFault why) mid new.printed → StopsBy old new fault
+    → ScriptLacksPixels old.script new.script (at_first_line old.terms parts) (heard old.printed told) (heard mid told_after) why → Ended result (RereadFault why) mid new.printed → StopsBy old new fault
 StopsBy-pixels old new mid told told_after result why fault parts is stored opened of_file saved lacks (inl flush) =
     let at = lacks.at in
     let here : LacksPixels old new = record {
@@ -302,7 +303,7 @@ StopsBy-pixels old new mid told told_after result why fault parts is stored open
         opened = opened;
         reached = subst (λ (ls : List (List ℕ)). HasLines old.script new.script ls) at.split lacks.reached;
         needs = at.needs;
-        printed = Prints-flushed old.printed mid new.printed (answers (at_first_line parts) at.done) at.said.printed flush.1;
+        printed = Prints-flushed old.printed mid new.printed (answers (at_first_line old.terms parts) at.done) at.said.printed flush.1;
         flushed = flush.1.flushed;
       };
       saved = saved;
@@ -321,8 +322,8 @@ flush_fails result done fault mid out is (inr flush) = flush
 -- a run that ends after its script, before saving
 pub StopsBy-script : (old new : RunState) (mid : SinkState) (told told_after : Option SinkState) (answered result : Result (Unit {0}) Fault) (fault : Fault) (parts : FileParts) (now : Standing) → result ≡ Err fault
     → Opens old.file parts → StaysQuiet old.file new.file → new.saved ≡ old.saved → (old.stored ≡ true) ⊎ IfErr answered IsOnce
-    → OnOk answered (AnswersScript old.script new.script (at_first_line parts) now (heard old.printed told) (heard mid told_after))
-    → IfErr answered (ScriptStops old.script new.script (at_first_line parts) (heard old.printed told) (heard mid told_after))
+    → OnOk answered (AnswersScript old.script new.script (at_first_line old.terms parts) now (heard old.printed told) (heard mid told_after))
+    → IfErr answered (ScriptStops old.script new.script (at_first_line old.terms parts) (heard old.printed told) (heard mid told_after))
     → FlushesAnswers answered result mid new.printed → StopsBy old new fault
 StopsBy-script old new mid told told_after (Ok done) result fault parts now is opened of_file saved re ok err flush =
     StopsBy-done old new mid told told_after result fault parts now is opened of_file saved ok (flush_fails result done fault mid new.printed is flush)
@@ -355,25 +356,25 @@ pub ends_exit : (old new : RunState) (result : Result ℕ Fault) (why : Fault) �
 ends_exit old new result why is stops = let exit = err_from_is_err_and result is in rw (exit.1, exit.2) stops
 
 -- nothing else is done
-pub flushed_done : (old new : SourceState) (parts : FileParts) (now : Standing) (held mid holds : SinkState) (told told_after : Option SinkState) (answered result : Result (Unit {0}) Fault) (done : Unit {0}) → result ≡ Ok done
-    → OnOk answered (AnswersScript old new (at_first_line parts) now (heard held told) (heard mid told_after)) → FlushesAnswers answered result mid holds → IsFlushed old new parts now held holds told told_after
-flushed_done old new parts now held mid holds told told_after (Ok a) result done is ok (inl flush) = record { mid = mid; script = ok; flush = flush.1 }
-flushed_done old new parts now held mid holds told told_after (Ok a) result done is ok (inr flush) = absurd (no_fault result done WriteFailed is flush.0)
-flushed_done old new parts now held mid holds told told_after (Err (Refused why)) result done is ok (inl flush) = absurd (no_fault result done (Refused why) is flush.0)
-flushed_done old new parts now held mid holds told told_after (Err (Refused why)) result done is ok (inr flush) = absurd (no_fault result done WriteFailed is flush.0)
-flushed_done old new parts now held mid holds told told_after (Err ScriptTooLong) result done is ok (inl flush) = absurd (no_fault result done ScriptTooLong is flush.0)
-flushed_done old new parts now held mid holds told told_after (Err ScriptTooLong) result done is ok (inr flush) = absurd (no_fault result done WriteFailed is flush.0)
-flushed_done old new parts now held mid holds told told_after (Err Memory) result done is ok (inl flush) = absurd (no_fault result done Memory is flush.0)
-flushed_done old new parts now held mid holds told told_after (Err Memory) result done is ok (inr flush) = absurd (no_fault result done WriteFailed is flush.0)
-flushed_done old new parts now held mid holds told told_after (Err (RereadFault why)) result done is ok (inl flush) = absurd (no_fault result done (RereadFault why) is flush.0)
-flushed_done old new parts now held mid holds told told_after (Err (RereadFault why)) result done is ok (inr flush) = absurd (no_fault result done WriteFailed is flush.0)
-flushed_done old new parts now held mid holds told told_after (Err ReadFailed) result done is ok flush = absurd (no_fault result done ReadFailed is flush.0)
-flushed_done old new parts now held mid holds told told_after (Err WriteFailed) result done is ok flush = absurd (no_fault result done WriteFailed is flush.0)
+pub flushed_done : (terms : Terms) (old new : SourceState) (parts : FileParts) (now : Standing) (held mid holds : SinkState) (told told_after : Option SinkState) (answered result : Result (Unit {0}) Fault) (done : Unit {0}) → result ≡ Ok done
+    → OnOk answered (AnswersScript old new (at_first_line terms parts) now (heard held told) (heard mid told_after)) → FlushesAnswers answered result mid holds → IsFlushed terms old new parts now held holds told told_after
+flushed_done terms old new parts now held mid holds told told_after (Ok a) result done is ok (inl flush) = record { mid = mid; script = ok; flush = flush.1 }
+flushed_done terms old new parts now held mid holds told told_after (Ok a) result done is ok (inr flush) = absurd (no_fault result done WriteFailed is flush.0)
+flushed_done terms old new parts now held mid holds told told_after (Err (Refused why)) result done is ok (inl flush) = absurd (no_fault result done (Refused why) is flush.0)
+flushed_done terms old new parts now held mid holds told told_after (Err (Refused why)) result done is ok (inr flush) = absurd (no_fault result done WriteFailed is flush.0)
+flushed_done terms old new parts now held mid holds told told_after (Err ScriptTooLong) result done is ok (inl flush) = absurd (no_fault result done ScriptTooLong is flush.0)
+flushed_done terms old new parts now held mid holds told told_after (Err ScriptTooLong) result done is ok (inr flush) = absurd (no_fault result done WriteFailed is flush.0)
+flushed_done terms old new parts now held mid holds told told_after (Err Memory) result done is ok (inl flush) = absurd (no_fault result done Memory is flush.0)
+flushed_done terms old new parts now held mid holds told told_after (Err Memory) result done is ok (inr flush) = absurd (no_fault result done WriteFailed is flush.0)
+flushed_done terms old new parts now held mid holds told told_after (Err (RereadFault why)) result done is ok (inl flush) = absurd (no_fault result done (RereadFault why) is flush.0)
+flushed_done terms old new parts now held mid holds told told_after (Err (RereadFault why)) result done is ok (inr flush) = absurd (no_fault result done WriteFailed is flush.0)
+flushed_done terms old new parts now held mid holds told told_after (Err ReadFailed) result done is ok flush = absurd (no_fault result done ReadFailed is flush.0)
+flushed_done terms old new parts now held mid holds told told_after (Err WriteFailed) result done is ok flush = absurd (no_fault result done WriteFailed is flush.0)
 
--- the file after the last line
-left_file : (parts : FileParts) (now : Standing) (lines : List (List ℕ)) → now ≡ standing_after (at_first_line parts) lines
-    → file_bytes now.marked.file ≡ file_bytes (standing_after (at_first_line parts) lines).marked.file
-left_file parts now lines left = ap (λ (s : Standing). file_bytes s.marked.file) left
+-- what is saved after the last line
+saved-left : (terms : Terms) (parts : FileParts) (now : Standing) (lines : List (List ℕ)) → now ≡ standing_after (at_first_line terms parts) lines
+    → saved_bytes terms now ≡ saved_bytes terms (standing_after (at_first_line terms parts) lines)
+saved-left terms parts now lines left = ap (saved_bytes terms) left
 
 -- a failed read is no change
 pub failed_unchanged : again.Failed ≡ again.Changed → ⊥
@@ -386,7 +387,7 @@ again_stored stored fault is (inr once) = absurd (subst IsOnce is once)
 
 -- a run whose file can't be saved
 pub StopsBy-saving : (old new : RunState) (fault : Fault) (parts : FileParts) (now : Standing) (told told_after : Option SinkState) → Opens old.file parts → StaysQuiet old.file new.file → (old.stored ≡ true) ⊎ IsOnce fault
-    → IsFlushed old.script new.script parts now old.printed new.printed told told_after → SaveFails (file_bytes now.marked.file) old.saved new.saved fault → StopsBy old new fault
+    → IsFlushed old.terms old.script new.script parts now old.printed new.printed told told_after → SaveFails (saved_bytes old.terms now) old.saved new.saved fault → StopsBy old new fault
 StopsBy-saving old new fault parts now told told_after opened of_file re flushed (inl fails) =
     let done = flushed.script in
     let lines : List (List ℕ) = script_lines done.lines done.last in
@@ -395,14 +396,14 @@ StopsBy-saving old new fault parts now told told_after opened of_file re flushed
       read = record { of_file = of_file; of_script = done.read.quiet };
       file = opened.0;
       script = done.script;
-      output = output_of_lines parts lines;
+      output = output_of_lines old.terms parts lines;
       told_file = opened.1;
       told_script = script_told old.script new.script done.script done.read done.ended;
-      is = output_whole old.script new.script old.file parts now (heard old.printed told) (heard flushed.mid told_after) opened done;
+      is = output_whole old.terms old.script new.script old.file parts now (heard old.printed told) (heard flushed.mid told_after) opened done;
       whole = refl;
-      printed = Prints-flushed old.printed flushed.mid new.printed (answers (at_first_line parts) lines) done.answered.said.printed flushed.flush;
+      printed = Prints-flushed old.printed flushed.mid new.printed (answers (at_first_line old.terms parts) lines) done.answered.said.printed flushed.flush;
       flushed = flushed.flush.flushed;
-      saved = subst (λ (t : List ℕ). PrintsFront t old.saved new.saved) (left_file parts now lines done.answered.left) fails.1;
+      saved = subst (λ (t : List ℕ). PrintsFront t old.saved new.saved) (saved-left old.terms parts now lines done.answered.left) fails.1;
     }))
 StopsBy-saving old new fault parts now told told_after opened of_file re flushed (inr fails) =
     let done = flushed.script in
@@ -411,21 +412,21 @@ StopsBy-saving old new fault parts now told told_after opened of_file re flushed
       read = record { of_file = of_file; of_script = done.read.quiet };
       file = opened.0;
       script = done.script;
-      output = output_of_lines parts lines;
+      output = output_of_lines old.terms parts lines;
       told_file = opened.1;
       told_script = script_told old.script new.script done.script done.read done.ended;
-      is = output_whole old.script new.script old.file parts now (heard old.printed told) (heard flushed.mid told_after) opened done;
+      is = output_whole old.terms old.script new.script old.file parts now (heard old.printed told) (heard flushed.mid told_after) opened done;
       whole = refl;
-      printed = Prints-flushed old.printed flushed.mid new.printed (answers (at_first_line parts) lines) done.answered.said.printed flushed.flush;
+      printed = Prints-flushed old.printed flushed.mid new.printed (answers (at_first_line old.terms parts) lines) done.answered.said.printed flushed.flush;
       flushed = flushed.flush.flushed;
       count = fails.1.0;
-      saved = subst (λ (t : List ℕ). Prints (take fails.1.0 t) old.saved new.saved) (left_file parts now lines done.answered.left) fails.1.1;
+      saved = subst (λ (t : List ℕ). Prints (take fails.1.0 t) old.saved new.saved) (saved-left old.terms parts now lines done.answered.left) fails.1.1;
     } in
     subst (λ (f : Fault). StopsBy old new f) (sym fails.0) (again_stored old.stored fault fails.0 re, (failed_unchanged, inr (refl, here)))
 
 -- a run to its end
 pub Succeeds-saved : (old new : RunState) (parts : FileParts) (now : Standing) (told told_after : Option SinkState) → Opens old.file parts → StaysQuiet old.file new.file
-    → IsFlushed old.script new.script parts now old.printed new.printed told told_after → Prints (file_bytes now.marked.file) old.saved new.saved → new.saved.unflushed ≡ 0
+    → IsFlushed old.terms old.script new.script parts now old.printed new.printed told told_after → Prints (saved_bytes old.terms now) old.saved new.saved → new.saved.unflushed ≡ 0
     → Succeeds old new (status_of now)
 Succeeds-saved old new parts now told told_after opened of_file flushed saved flush =
     let done = flushed.script in
@@ -434,12 +435,12 @@ Succeeds-saved old new parts now told told_after opened of_file flushed saved fl
       run = record {
         file = opened.0;
         script = done.script;
-        output = output_of_lines parts lines;
+        output = output_of_lines old.terms parts lines;
         told_file = opened.1;
         told_script = script_told old.script new.script done.script done.read done.ended;
-        is = output_whole old.script new.script old.file parts now (heard old.printed told) (heard flushed.mid told_after) opened done;
-        printed = Prints-flushed old.printed flushed.mid new.printed (answers (at_first_line parts) lines) done.answered.said.printed flushed.flush;
-        saved = subst (λ (t : List ℕ). Prints t old.saved new.saved) (left_file parts now lines done.answered.left) saved;
+        is = output_whole old.terms old.script new.script old.file parts now (heard old.printed told) (heard flushed.mid told_after) opened done;
+        printed = Prints-flushed old.printed flushed.mid new.printed (answers (at_first_line old.terms parts) lines) done.answered.said.printed flushed.flush;
+        saved = subst (λ (t : List ℕ). Prints t old.saved new.saved) (saved-left old.terms parts now lines done.answered.left) saved;
         status_is = ap status_of done.answered.left;
         fault_is = refl;
         read = record { of_file = of_file; of_script = done.read.quiet };
@@ -449,7 +450,7 @@ Succeeds-saved old new parts now told told_after opened of_file flushed saved fl
     }
 
 -- a run that saves nothing, to its end
-unfoldable pub Asked-done : (old new : RunState) (now : Standing) (told told_after : Option SinkState) → IsAnsweredRun old.file new.file old.script new.script old.printed new.printed told told_after now → new.saved ≡ old.saved → IsAsked old new (status_of now)
+unfoldable pub Asked-done : (old new : RunState) (now : Standing) (told told_after : Option SinkState) → IsAnsweredRun old.terms old.file new.file old.script new.script old.printed new.printed told told_after now → new.saved ≡ old.saved → IsAsked old new (status_of now)
 Asked-done old new now told told_after run saved =
     let done = run.answered.script in
     let parts = run.parts in
@@ -457,12 +458,12 @@ Asked-done old new now told told_after run saved =
     record {
       file = run.opened.0;
       script = done.script;
-      output = output_of_lines parts lines;
+      output = output_of_lines old.terms parts lines;
       told_file = run.opened.1;
       told_script = script_told old.script new.script done.script done.read done.ended;
-      is = output_whole old.script new.script old.file parts now (heard old.printed told) (heard run.answered.mid told_after) run.opened done;
+      is = output_whole old.terms old.script new.script old.file parts now (heard old.printed told) (heard run.answered.mid told_after) run.opened done;
       whole = refl;
-      printed = Prints-flushed old.printed run.answered.mid new.printed (answers (at_first_line parts) lines) done.answered.said.printed run.answered.flush;
+      printed = Prints-flushed old.printed run.answered.mid new.printed (answers (at_first_line old.terms parts) lines) done.answered.said.printed run.answered.flush;
       flushed = run.answered.flush.flushed;
       saved = saved;
       status_is = ap status_of done.answered.left;
@@ -470,7 +471,7 @@ Asked-done old new now told told_after run saved =
     }
 
 -- a run of which some lines weren't done
-pub Undone-asked : (old new : RunState) (now : Standing) (told told_after : Option SinkState) → IsAnsweredRun old.file new.file old.script new.script old.printed new.printed told told_after now → new.saved ≡ old.saved → 0 < now.refused → IsUndone old new (status_of now) now.refused
+pub Undone-asked : (old new : RunState) (now : Standing) (told told_after : Option SinkState) → IsAnsweredRun old.terms old.file new.file old.script new.script old.printed new.printed told told_after now → new.saved ≡ old.saved → 0 < now.refused → IsUndone old new (status_of now) now.refused
 unfolding Asked-done standing_after
 Undone-asked old new now told told_after run saved some = record {
   asked = Asked-done old new now told told_after run saved;
@@ -479,7 +480,7 @@ Undone-asked old new now told told_after run saved some = record {
 }
 
 -- a run of which all were
-pub Whole-saved : (old new : RunState) (now : Standing) (told told_after : Option SinkState) → IsAnsweredRun old.file new.file old.script new.script old.printed new.printed told told_after now → Prints (file_bytes now.marked.file) old.saved new.saved → new.saved.unflushed ≡ 0 → now.refused ≡ 0
+pub Whole-saved : (old new : RunState) (now : Standing) (told told_after : Option SinkState) → IsAnsweredRun old.terms old.file new.file old.script new.script old.printed new.printed told told_after now → Prints (saved_bytes old.terms now) old.saved new.saved → new.saved.unflushed ≡ 0 → now.refused ≡ 0
     → IsDoneWhole old new (status_of now) now.refused
 unfolding Succeeds-saved standing_after
 Whole-saved old new now told told_after run saved flushed none = record {
@@ -497,45 +498,45 @@ pub whole_fault : (old new : RunState) (end : End) (undone : ℕ) (fault : Fault
 whole_fault old new end undone fault is stops = rw is.1 (stops, is.0, is.2)
 
 -- remarks on the first of the lines that were reached
-AreToldOf-first : (file old new : SourceState) (told told_after : Option SinkState) (parts : FileParts) (all lines others : List (List ℕ)) → Opens file parts → HasLines old new all → all ≡ lines ++ others
-    → Remarks (remarks (at_first_line parts) lines) told told_after → AreToldOf file old new told told_after
-AreToldOf-first file old new told told_after parts all lines others opened has split remarked =
+AreToldOf-first : (terms : Terms) (file old new : SourceState) (told told_after : Option SinkState) (parts : FileParts) (all lines others : List (List ℕ)) → Opens file parts → HasLines old new all → all ≡ lines ++ others
+    → Remarks (remarks (at_first_line terms parts) lines) told told_after → AreToldOf terms file old new told told_after
+AreToldOf-first terms file old new told told_after parts all lines others opened has split remarked =
     inr (record { parts = parts; lines = lines; others = others; opened = opened; reached = subst (λ (ls : List (List ℕ)). HasLines old new ls) split has; made = remarked })
 
 -- remarks on all of them
-AreToldOf-all : (file old new : SourceState) (told told_after : Option SinkState) (parts : FileParts) (lines : List (List ℕ)) → Opens file parts → HasLines old new lines
-    → Remarks (remarks (at_first_line parts) lines) told told_after → AreToldOf file old new told told_after
-AreToldOf-all file old new told told_after parts lines opened has remarked =
-    AreToldOf-first file old new told told_after parts lines lines [] opened has (sym (append-nil lines)) remarked
+AreToldOf-all : (terms : Terms) (file old new : SourceState) (told told_after : Option SinkState) (parts : FileParts) (lines : List (List ℕ)) → Opens file parts → HasLines old new lines
+    → Remarks (remarks (at_first_line terms parts) lines) told told_after → AreToldOf terms file old new told told_after
+AreToldOf-all terms file old new told told_after parts lines opened has remarked =
+    AreToldOf-first terms file old new told told_after parts lines lines [] opened has (sym (append-nil lines)) remarked
 
 -- the remarks of a run that ends after its script, before saving
-pub AreToldOf-script : (file old new : SourceState) (held mid : SinkState) (told told_after : Option SinkState) (answered : Result (Unit {0}) Fault) (parts : FileParts) (now : Standing)
+pub AreToldOf-script : (terms : Terms) (file old new : SourceState) (held mid : SinkState) (told told_after : Option SinkState) (answered : Result (Unit {0}) Fault) (parts : FileParts) (now : Standing)
     → Opens file parts
-    → OnOk answered (AnswersScript old new (at_first_line parts) now (heard held told) (heard mid told_after))
-    → IfErr answered (ScriptStops old new (at_first_line parts) (heard held told) (heard mid told_after))
-    → AreToldOf file old new told told_after
-AreToldOf-script file old new held mid told told_after (Ok done) parts now opened ok err =
-    AreToldOf-all file old new told told_after parts (script_lines ok.lines ok.last) opened
-    (all_lines old new (at_first_line parts) now (heard held told) (heard mid told_after) ok) ok.answered.said.told
-AreToldOf-script file old new held mid told told_after (Err (Refused why)) parts now opened ok err = absurd err
-AreToldOf-script file old new held mid told told_after (Err ScriptTooLong) parts now opened ok err =
-    AreToldOf-all file old new told told_after parts err.lines opened (record { whole = err.lines; last = err.last; reached = err.reached; are = inl refl }) err.said.told
-AreToldOf-script file old new held mid told told_after (Err Memory) parts now opened ok err =
+    → OnOk answered (AnswersScript old new (at_first_line terms parts) now (heard held told) (heard mid told_after))
+    → IfErr answered (ScriptStops old new (at_first_line terms parts) (heard held told) (heard mid told_after))
+    → AreToldOf terms file old new told told_after
+AreToldOf-script terms file old new held mid told told_after (Ok done) parts now opened ok err =
+    AreToldOf-all terms file old new told told_after parts (script_lines ok.lines ok.last) opened
+    (all_lines old new (at_first_line terms parts) now (heard held told) (heard mid told_after) ok) ok.answered.said.told
+AreToldOf-script terms file old new held mid told told_after (Err (Refused why)) parts now opened ok err = absurd err
+AreToldOf-script terms file old new held mid told told_after (Err ScriptTooLong) parts now opened ok err =
+    AreToldOf-all terms file old new told told_after parts err.lines opened (record { whole = err.lines; last = err.last; reached = err.reached; are = inl refl }) err.said.told
+AreToldOf-script terms file old new held mid told told_after (Err Memory) parts now opened ok err =
     elim err.at [
       | inl none ↦ inl (ap (λ (h : Heard). h.told) none.1)
-      | inr some ↦ AreToldOf-first file old new told told_after parts some.0 some.2.done (some.2.line ∷ some.2.others) opened some.1 some.2.split some.2.said.told
+      | inr some ↦ AreToldOf-first terms file old new told told_after parts some.0 some.2.done (some.2.line ∷ some.2.others) opened some.1 some.2.split some.2.said.told
     ]
-AreToldOf-script file old new held mid told told_after (Err (RereadFault why)) parts now opened ok err =
-    AreToldOf-first file old new told told_after parts err.lines err.at.done (err.at.line ∷ err.at.others) opened err.reached err.at.split err.at.said.told
-AreToldOf-script file old new held mid told told_after (Err ReadFailed) parts now opened ok err =
-    AreToldOf-all file old new told told_after parts err.lines opened (record { whole = err.lines; last = err.last; reached = err.reached; are = inl refl }) err.said.told
-AreToldOf-script file old new held mid told told_after (Err WriteFailed) parts now opened ok err =
-    AreToldOf-first file old new told told_after parts err.lines err.front.done err.front.others opened err.reached err.front.split err.front.told
+AreToldOf-script terms file old new held mid told told_after (Err (RereadFault why)) parts now opened ok err =
+    AreToldOf-first terms file old new told told_after parts err.lines err.at.done (err.at.line ∷ err.at.others) opened err.reached err.at.split err.at.said.told
+AreToldOf-script terms file old new held mid told told_after (Err ReadFailed) parts now opened ok err =
+    AreToldOf-all terms file old new told told_after parts err.lines opened (record { whole = err.lines; last = err.last; reached = err.reached; are = inl refl }) err.said.told
+AreToldOf-script terms file old new held mid told told_after (Err WriteFailed) parts now opened ok err =
+    AreToldOf-first terms file old new told told_after parts err.lines err.front.done err.front.others opened err.reached err.front.split err.front.told
 
 -- those of a run whose script was answered whole
-pub AllRemarks-answered : (file file_after old new : SourceState) (out out_after : SinkState) (told told_after : Option SinkState) (now : Standing)
-    → IsAnsweredRun file file_after old new out out_after told told_after now → AreAllRemarks file old told told_after
-AllRemarks-answered file file_after old new out out_after told told_after now run =
+pub AllRemarks-answered : (terms : Terms) (file file_after old new : SourceState) (out out_after : SinkState) (told told_after : Option SinkState) (now : Standing)
+    → IsAnsweredRun terms file file_after old new out out_after told told_after now → AreAllRemarks terms file old told told_after
+AllRemarks-answered terms file file_after old new out out_after told told_after now run =
     let done = run.answered.script in
     record {
       parts = run.parts;
@@ -549,9 +550,9 @@ AllRemarks-answered file file_after old new out out_after told told_after now ru
     }
 
 -- the same where such a run ends later by a fault
-pub AreToldOf-answered : (file file_after old new : SourceState) (out out_after : SinkState) (told told_after : Option SinkState) (now : Standing)
-    → IsAnsweredRun file file_after old new out out_after told told_after now → AreToldOf file old new told told_after
-AreToldOf-answered file file_after old new out out_after told told_after now run =
+pub AreToldOf-answered : (terms : Terms) (file file_after old new : SourceState) (out out_after : SinkState) (told told_after : Option SinkState) (now : Standing)
+    → IsAnsweredRun terms file file_after old new out out_after told told_after now → AreToldOf terms file old new told told_after
+AreToldOf-answered terms file file_after old new out out_after told told_after now run =
     let done = run.answered.script in
-    AreToldOf-all file old new told told_after run.parts (script_lines done.lines done.last) run.opened
-    (all_lines old new (at_first_line run.parts) now (heard out told) (heard run.answered.mid told_after) done) done.answered.said.told
+    AreToldOf-all terms file old new told told_after run.parts (script_lines done.lines done.last) run.opened
+    (all_lines old new (at_first_line terms run.parts) now (heard out told) (heard run.answered.mid told_after) done) done.answered.said.told

@@ -14,13 +14,14 @@ use Rattle.fits_cli.specs.declared.end.End.{End}
 use Rattle.fits_cli.specs.declared.fault.Fault.{Fault}
 use Rattle.fits_cli.specs.declared.fault.Fault.TheVariants.{Refused, ScriptTooLong, Memory, ReadFailed, WriteFailed, Reread as RereadFault}
 use Rattle.fits_cli.specs.declared.reread.Reread.TheVariants as again
+use Rattle.fits_cli.specs.declared.terms.Terms.{Terms}
 
 -- how many lines that weren't done keep a result from being saved: all of them where every line is to be done, else none
 abbrev pub kept_back : Bool → ℕ → ℕ
 kept_back whole undone = if whole then undone else 0
 
 -- a script was answered to its end, and no line keeps its result from being saved: that is up to the reports of the bytes that were
--- read and of those to be saved
+-- read and of those that the script makes of them
 pub record IsUpToReports (whole : Bool) (old new : RunState) : Type 0 where
   pub file : List ℕ
   pub script : List ℕ
@@ -29,11 +30,11 @@ pub record IsUpToReports (whole : Bool) (old new : RunState) : Type 0 where
   pub after : List Problem
   pub told_file : Tells old.file file
   pub told_script : Tells old.script script
-  pub is : IsOutputOf file script output
+  pub is : IsOutputOf old.terms file script output
   pub answered : output.fault ≡ None
   pub done : kept_back whole output.undone ≡ 0
   pub before_is : IsReportOf before file
-  pub after_is : IsReportOf after output.saved
+  pub after_is : IsReportOf after output.made
   pub read : ReadsWell old new
 
 -- no error is new: the result is saved, as `edit` saves it
@@ -129,6 +130,6 @@ EndsCheckedAs whole old new end undone errors =
     (λ fault. StopsChecked whole old new fault × (end.status ≡ status_of_fault fault) × (undone ≡ 0) × (errors ≡ 0))
 
 -- what a private function of such a run keeps to: the run was answered as `edit` answers it, and this is the report of its file
-pub record IsReportedRun (file file_after script script_after : SourceState) (out out_after : SinkState) (told told_after : Option SinkState) (now : Standing) (before : List Problem) : Type 0 where
-  pub run : IsAnsweredRun file file_after script script_after out out_after told told_after now
+pub record IsReportedRun (terms : Terms) (file file_after script script_after : SourceState) (out out_after : SinkState) (told told_after : Option SinkState) (now : Standing) (before : List Problem) : Type 0 where
+  pub run : IsAnsweredRun terms file file_after script script_after out out_after told told_after now
   pub before_is : before ≡ report_of run.parts

@@ -11,29 +11,31 @@ use Rattle.fits_script.specs.Line.{reading_of}
 use Rattle.fits_cli.specs.Output.{answers, standing_after, Output, IsOutputOf}
 use Rattle.fits_cli.specs.Remark.{remarks, Remarks}
 use Rattle.fits_cli.specs.Script.{IsCutInLines, script_lines}
+use Rattle.fits_cli.specs.Terms.{plain}
 use Rattle.fits_cli.specs.declared.end.End.{End}
 use Rattle.fits_cli.specs.declared.fault.Fault.{Fault}
 use Rattle.fits_cli.specs.declared.fault.Fault.TheVariants.{Refused, ScriptTooLong, Memory, ReadFailed, WriteFailed, Reread as RereadFault}
-use Rattle.fits_cli.specs.declared.reread.Reread.{Reread}
 use Rattle.fits_cli.specs.declared.reread.Reread.TheVariants as again
+use Rattle.fits_cli.specs.declared.terms.Terms.{Terms}
 use Rattle.fits_session.specs.Marked.{Marked}
 use Rattle.fits_script.specs.declared.line_reading.LineReading.{LineReading}
 
--- the four streams of a run, and whether the file is read again where its data are wanted
+-- the terms and the four streams of a run, and whether the file is read again where its data are wanted
 pub record RunState : Type 0 where
+  pub terms : Terms
   pub stored : Bool
   pub file : SourceState
   pub script : SourceState
   pub printed : SinkState
   pub saved : SinkState
 
--- four streams, of which the file is read again or not
-abbrev pub run_by : Bool → SourceState → SourceState → SinkState → SinkState → RunState
-run_by stored file script printed saved = record { stored = stored; file = file; script = script; printed = printed; saved = saved }
+-- four streams on these terms, of which the file is read again or not
+abbrev pub run_by : Terms → Bool → SourceState → SourceState → SinkState → SinkState → RunState
+run_by terms stored file script printed saved = record { terms = terms; stored = stored; file = file; script = script; printed = printed; saved = saved }
 
--- four streams
+-- four streams on plain terms
 abbrev pub run : SourceState → SourceState → SinkState → SinkState → RunState
-run file script printed saved = run_by false file script printed saved
+run file script printed saved = run_by plain false file script printed saved
 
 -- both sources were read without a failed call
 pub record ReadsWell (old new : RunState) : Type 0 where
@@ -61,14 +63,14 @@ pub record HasLines (old new : SourceState) (lines : List (List ℕ)) : Type 0 w
   pub reached : CameTo old new whole last
   pub are : (lines ≡ whole) ⊎ (IsAtEnd new.remaining × (length reached.came ≤ SCRIPT_LIMIT) × (lines ≡ script_lines whole last))
 
--- a run with the output of its file and its script
+-- a run with the output of its file and its script, on its terms
 pub record IsRun (old new : RunState) (status : ℕ) (fault : Option Fault) : Type 0 where
   pub file : List ℕ
   pub script : List ℕ
   pub output : Output
   pub told_file : Tells old.file file
   pub told_script : Tells old.script script
-  pub is : IsOutputOf file script output
+  pub is : IsOutputOf old.terms file script output
   pub printed : Prints output.text old.printed new.printed
   pub saved : Prints output.saved old.saved new.saved
   pub status_is : status ≡ output.status
@@ -102,8 +104,8 @@ pub record StopsAtLine (Needs : Marked → LineReading → Type 0) (old new : Ru
   pub others : List (List ℕ)
   pub opened : Opens old.file parts
   pub reached : HasLines old.script new.script (lines ++ line ∷ others)
-  pub needs : Needs (standing_after (at_first_line parts) lines).marked (reading_of line)
-  pub printed : Prints (answers (at_first_line parts) lines) old.printed new.printed
+  pub needs : Needs (standing_after (at_first_line old.terms parts) lines).marked (reading_of line)
+  pub printed : Prints (answers (at_first_line old.terms parts) lines) old.printed new.printed
   pub flushed : new.printed.unflushed ≡ 0
 
 -- memory was refused: on the way to the first line, so that nothing is printed, or at a line; nothing is saved
@@ -135,7 +137,7 @@ pub record ScriptFails (old new : RunState) : Type 0 where
   pub opened : Opens old.file parts
   pub reached : CameTo old.script new.script lines last
   pub short : length reached.came ≤ SCRIPT_LIMIT
-  pub printed : Appends old.printed.contents new.printed.contents (answers (at_first_line parts) lines)
+  pub printed : Appends old.printed.contents new.printed.contents (answers (at_first_line old.terms parts) lines)
   pub flushed : FlushesOrFails old.printed new.printed
   pub saved : new.saved ≡ old.saved
 
@@ -146,7 +148,7 @@ pub record AnswersFail (old new : RunState) : Type 0 where
   pub lines : List (List ℕ)
   pub opened : Opens old.file parts
   pub reached : HasLines old.script new.script lines
-  pub printed : PrintsFront (answers (at_first_line parts) lines) old.printed new.printed
+  pub printed : PrintsFront (answers (at_first_line old.terms parts) lines) old.printed new.printed
   pub saved : new.saved ≡ old.saved
 
 -- a write of the saved file failed: all answers are flushed, and a prefix of the file stands
@@ -157,7 +159,7 @@ pub record SavingFails (old new : RunState) : Type 0 where
   pub output : Output
   pub told_file : Tells old.file file
   pub told_script : Tells old.script script
-  pub is : IsOutputOf file script output
+  pub is : IsOutputOf old.terms file script output
   pub whole : output.fault ≡ None
   pub printed : Prints output.text old.printed new.printed
   pub flushed : new.printed.unflushed ≡ 0
@@ -177,7 +179,7 @@ pub record CopyingFails (old new : RunState) : Type 0 where
   pub output : Output
   pub told_file : Tells old.file file
   pub told_script : Tells old.script script
-  pub is : IsOutputOf file script output
+  pub is : IsOutputOf old.terms file script output
   pub whole : output.fault ≡ None
   pub printed : Prints output.text old.printed new.printed
   pub flushed : new.printed.unflushed ≡ 0
@@ -210,7 +212,7 @@ pub record IsAsked (old new : RunState) (status : ℕ) : Type 0 where
   pub output : Output
   pub told_file : Tells old.file file
   pub told_script : Tells old.script script
-  pub is : IsOutputOf file script output
+  pub is : IsOutputOf old.terms file script output
   pub whole : output.fault ≡ None
   pub printed : Prints output.text old.printed new.printed
   pub flushed : new.printed.unflushed ≡ 0
@@ -252,20 +254,20 @@ EndsWholeAs old new end undone =
     (λ fault. StopsBy old new fault × (end.status ≡ status_of_fault fault) × (undone ≡ 0))
 
 -- remarks were made on lines of a script over a file: those that were answered, or some of the first of them
-pub record AreRemarksOn (file script script_after : SourceState) (told told_after : Option SinkState) : Type 0 where
+pub record AreRemarksOn (terms : Terms) (file script script_after : SourceState) (told told_after : Option SinkState) : Type 0 where
   pub parts : FileParts
   pub lines : List (List ℕ)
   pub others : List (List ℕ)
   pub opened : Opens file parts
   pub reached : HasLines script script_after (lines ++ others)
-  pub made : Remarks (remarks (at_first_line parts) lines) told told_after
+  pub made : Remarks (remarks (at_first_line terms parts) lines) told told_after
 
 -- or none were, where the script wasn't reached
-abbrev pub AreToldOf : SourceState → SourceState → SourceState → Option SinkState → Option SinkState → Type 0
-AreToldOf file script script_after told told_after = (told_after ≡ told) ⊎ AreRemarksOn file script script_after told told_after
+abbrev pub AreToldOf : Terms → SourceState → SourceState → SourceState → Option SinkState → Option SinkState → Type 0
+AreToldOf terms file script script_after told told_after = (told_after ≡ told) ⊎ AreRemarksOn terms file script script_after told told_after
 
 -- remarks were made on all lines of a script over a file
-pub record AreAllRemarks (file script : SourceState) (told told_after : Option SinkState) : Type 0 where
+pub record AreAllRemarks (terms : Terms) (file script : SourceState) (told told_after : Option SinkState) : Type 0 where
   pub parts : FileParts
   pub text : List ℕ
   pub lines : List (List ℕ)
@@ -273,9 +275,9 @@ pub record AreAllRemarks (file script : SourceState) (told told_after : Option S
   pub opened : Opens file parts
   pub told_script : Tells script text
   pub cut : IsCutInLines text lines last
-  pub made : Remarks (remarks (at_first_line parts) (script_lines lines last)) told told_after
+  pub made : Remarks (remarks (at_first_line terms parts) (script_lines lines last)) told told_after
 
 -- the remarks of a run: on all lines of its script where it came to its end, else on some of the first
-abbrev pub RemarksEndAs : SourceState → SourceState → SourceState → Option SinkState → Option SinkState → End → Type 0
-RemarksEndAs file script script_after told told_after end =
-    MatchOption end.fault (AreAllRemarks file script told told_after) (λ fault. AreToldOf file script script_after told told_after)
+abbrev pub RemarksEndAs : Terms → SourceState → SourceState → SourceState → Option SinkState → Option SinkState → End → Type 0
+RemarksEndAs terms file script script_after told told_after end =
+    MatchOption end.fault (AreAllRemarks terms file script told told_after) (λ fault. AreToldOf terms file script script_after told told_after)

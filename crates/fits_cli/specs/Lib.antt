@@ -18,4 +18,5 @@ pub mod Script
 pub mod Stating
 pub mod Summing
 pub mod Telling
+pub mod Terms
 pub mod ValueLine

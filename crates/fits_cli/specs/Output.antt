@@ -1,5 +1,5 @@
--- What a run of `edit` writes and answers: functions of the file and the script (own).
-use Rattle.std.specs.Prelude.{◌≡◌, ◌⊎◌, ℕ, nat_le, List, [], ◌∷◌, ◌++◌, ◌==◌, length, take, Option, Some, None, if◌then◌else◌}
+-- What a run of `edit` writes and answers: functions of its terms, the file and the script (own).
+use Rattle.std.specs.Prelude.{◌≡◌, ◌⊎◌, ℕ, nat_le, List, [], ◌∷◌, ◌++◌, ◌==◌, ◌&&◌, not, length, take, Option, Some, None, if◌then◌else◌}
 use Rattle.fits_session.specs.File.{FileParts, file_bytes, IsFileOf}
 use Rattle.fits_session.specs.Opening.{HasOpenFault}
 use Rattle.fits_session.specs.declared.open_fault.OpenFault.{OpenFault}
@@ -7,6 +7,7 @@ use Rattle.fits_cli.specs.declared.limits.TheConstants.{SCRIPT_LIMIT}
 use Rattle.fits_script.specs.Line.{reading_of}
 use Rattle.fits_cli.specs.Script.{IsCutInLines, script_lines}
 use Rattle.fits_cli.specs.Answer.{Standing, at_first_line, line_answer, line_left}
+use Rattle.fits_cli.specs.declared.terms.Terms.{Terms}
 use Rattle.fits_cli.specs.declared.fault.Fault.{Fault}
 use Rattle.fits_cli.specs.declared.fault.Fault.TheVariants.{Refused, ScriptTooLong}
 
@@ -24,9 +25,15 @@ standing_after standing (line ∷ lines) = standing_after (line_left standing (r
 abbrev pub status_of : Standing → ℕ
 status_of standing = if standing.refused == 0 then 0 else 1
 
--- what a run prints and saves, how many lines were refused or bad, its status, and the fault that ended it
+-- what is saved: nothing where no edit was accepted and such a file is spared, else the file
+abbrev pub saved_bytes : Terms → Standing → List ℕ
+saved_bytes terms standing = if terms.spare && not standing.edited then [] else file_bytes standing.marked.file
+
+-- what a run prints, what its script makes of the file, what is saved, how many lines were refused or bad, its status, and the fault
+-- that ended it
 pub record Output : Type 0 where
   pub text : List ℕ
+  pub made : List ℕ
   pub saved : List ℕ
   pub undone : ℕ
   pub status : ℕ
@@ -34,32 +41,34 @@ pub record Output : Type 0 where
 
 -- a file that doesn't open
 abbrev pub output_unopened : OpenFault → Output
-output_unopened why = record { text = []; saved = []; undone = 0; status = 2; fault = Some (Refused why) }
+output_unopened why = record { text = []; made = []; saved = []; undone = 0; status = 2; fault = Some (Refused why) }
 
--- all lines of a script, and then the file is saved
-abbrev pub output_of_lines : FileParts → List (List ℕ) → Output
-output_of_lines file lines = record {
-  text = answers (at_first_line file) lines;
-  saved = file_bytes (standing_after (at_first_line file) lines).marked.file;
-  undone = (standing_after (at_first_line file) lines).refused;
-  status = status_of (standing_after (at_first_line file) lines);
+-- all lines of a script, and then the file is saved or spared
+abbrev pub output_of_lines : Terms → FileParts → List (List ℕ) → Output
+output_of_lines terms file lines = record {
+  text = answers (at_first_line terms file) lines;
+  made = file_bytes (standing_after (at_first_line terms file) lines).marked.file;
+  saved = saved_bytes terms (standing_after (at_first_line terms file) lines);
+  undone = (standing_after (at_first_line terms file) lines).refused;
+  status = status_of (standing_after (at_first_line terms file) lines);
   fault = None;
 }
 
 -- the whole lines within the limit of a script that is too long
-abbrev pub output_too_long : FileParts → List (List ℕ) → Output
-output_too_long file lines = record {
-  text = answers (at_first_line file) lines;
+abbrev pub output_too_long : Terms → FileParts → List (List ℕ) → Output
+output_too_long terms file lines = record {
+  text = answers (at_first_line terms file) lines;
+  made = [];
   saved = [];
-  undone = (standing_after (at_first_line file) lines).refused;
+  undone = (standing_after (at_first_line terms file) lines).refused;
   status = 2;
   fault = Some ScriptTooLong;
 }
 
 -- the output of a script of this length, cut into lines and a last piece without a line feed
-abbrev pub output_of_cut : FileParts → ℕ → List (List ℕ) → List ℕ → Output
-output_of_cut file size lines last =
-    if nat_le size SCRIPT_LIMIT then output_of_lines file (script_lines lines last) else output_too_long file lines
+abbrev pub output_of_cut : Terms → FileParts → ℕ → List (List ℕ) → List ℕ → Output
+output_of_cut terms file size lines last =
+    if nat_le size SCRIPT_LIMIT then output_of_lines terms file (script_lines lines last) else output_too_long terms file lines
 
 -- the output of a file that doesn't open
 pub record IsUnopened (file : List ℕ) (output : Output) : Type 0 where
@@ -68,14 +77,14 @@ pub record IsUnopened (file : List ℕ) (output : Output) : Type 0 where
   pub is : output ≡ output_unopened why
 
 -- the output of a file that opens, and a script
-pub record IsAnswered (file script : List ℕ) (output : Output) : Type 0 where
+pub record IsAnswered (terms : Terms) (file script : List ℕ) (output : Output) : Type 0 where
   pub parts : FileParts
   pub lines : List (List ℕ)
   pub last : List ℕ
   pub opens : IsFileOf file parts
   pub cut : IsCutInLines (take SCRIPT_LIMIT script) lines last
-  pub is : output ≡ output_of_cut parts (length script) lines last
+  pub is : output ≡ output_of_cut terms parts (length script) lines last
 
--- the output of a file and a script
-abbrev pub IsOutputOf : List ℕ → List ℕ → Output → Type 0
-IsOutputOf file script output = IsUnopened file output ⊎ IsAnswered file script output
+-- the output of a file and a script, on these terms
+abbrev pub IsOutputOf : Terms → List ℕ → List ℕ → Output → Type 0
+IsOutputOf terms file script output = IsUnopened file output ⊎ IsAnswered terms file script output

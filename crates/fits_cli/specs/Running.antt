@@ -15,6 +15,7 @@ use Rattle.fits_stream.specs.Stream.{SourceState, SinkState, FailsOnce, FailsToF
 use Rattle.fits_cli.specs.declared.fault.Fault.{Fault}
 use Rattle.fits_cli.specs.declared.fault.Fault.TheVariants.{Refused, ScriptTooLong, Memory, ReadFailed, WriteFailed, Reread as RereadFault}
 use Rattle.fits_cli.specs.declared.reread.Reread.{Reread}
+use Rattle.fits_cli.specs.declared.terms.Terms.{Terms}
 use Rattle.fits_cli.specs.Faults.{IsUnchanged}
 use Rattle.fits_session.specs.Marked.{Marked}
 use Rattle.fits_script.specs.declared.line_reading.LineReading.{LineReading}
@@ -214,14 +215,14 @@ FlushesAnswers (Err WriteFailed) result held holds = (result ≡ Err WriteFailed
 FlushesAnswers (Err (RereadFault why)) result held holds = FlushesThen (Err (RereadFault why)) result held holds
 
 -- a script that was answered whole, and its answers flushed
-pub record IsFlushed (old new : SourceState) (parts : FileParts) (now : Standing) (held holds : SinkState) (told told_after : Option SinkState) : Type 0 where
+pub record IsFlushed (terms : Terms) (old new : SourceState) (parts : FileParts) (now : Standing) (held holds : SinkState) (told told_after : Option SinkState) : Type 0 where
   pub mid : SinkState
-  pub script : AnswersScript old new (at_first_line parts) now (heard held told) (heard mid told_after)
+  pub script : AnswersScript old new (at_first_line terms parts) now (heard held told) (heard mid told_after)
   pub flush : Flushes mid holds
 
 -- a file was opened, and a script over it answered: things stand so
-pub record IsAnsweredRun (file file_after script script_after : SourceState) (out out_after : SinkState) (told told_after : Option SinkState) (now : Standing) : Type 0 where
+pub record IsAnsweredRun (terms : Terms) (file file_after script script_after : SourceState) (out out_after : SinkState) (told told_after : Option SinkState) (now : Standing) : Type 0 where
   pub parts : FileParts
   pub opened : Opens file parts
   pub read : StaysQuiet file file_after
-  pub answered : IsFlushed script script_after parts now out out_after told told_after
+  pub answered : IsFlushed terms script script_after parts now out out_after told told_after

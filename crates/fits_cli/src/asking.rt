@@ -6,11 +6,13 @@ ghost use Rattle.fits_session.specs.Away.{at_start, AllTell};
 ghost use Rattle.fits_session.specs.Marked.{unmarked};
 ghost use Rattle.fits_session.specs.Session.{file_of, marked_of};
 ghost use Rattle.fits_cli.specs.Faults.{RunCounts};
+ghost use Rattle.fits_cli.specs.Terms.{plain};
 ghost use Rattle.fits_cli.specs.Ends.{run, run_by, AreAllRemarks, AreToldOf, AsksAs, AsksBy, OverFile, RemarksEndAs};
 
 use crate::editing::answered;
 use crate::end::End;
 use crate::fault::Fault;
+use crate::terms::PLAIN;
 use fits_session::{Holder, Session};
 use fits_stream::{FailedReads, Sink, Source, Stored};
 use std::alloc::Global;
@@ -28,7 +30,7 @@ pub fn run_ask<F: Source, S: Source, O: Sink, E: Sink>(
         (run (F.state file.old) (S.state script.old) (O.state out.old) saved)
         (run (F.state file.new) (S.state script.new) (O.state out.new) saved)
         result }
-    ensures told { RemarksEndAs (F.state file.old) (S.state script.old) (S.state script.new)
+    ensures told { RemarksEndAs plain (F.state file.old) (S.state script.old) (S.state script.new)
         (option_map E.state told.old) (option_map E.state told.new) result }
 {
     match Session::read(alloc, file) {
@@ -47,11 +49,11 @@ pub fn run_ask_stored<F: Stored, S: Source, O: Sink, E: Sink>(
     told: &mut Option<E>,
 ) -> End
     ensures ends { AllTell F.bytes → (saved : SinkState) → (after : SourceState) × AsksAs
-        (run_by true (at_start (F.bytes file.now) failed.old)
+        (run_by plain true (at_start (F.bytes file.now) failed.old)
         (S.state script.old) (O.state out.old) saved)
-        (run_by true after (S.state script.new) (O.state out.new) saved)
+        (run_by plain true after (S.state script.new) (O.state out.new) saved)
         result }
-    ensures told { AllTell F.bytes → RemarksEndAs (at_start (F.bytes file.now) failed.old)
+    ensures told { AllTell F.bytes → RemarksEndAs plain (at_start (F.bytes file.now) failed.old)
         (S.state script.old) (S.state script.new)
         (option_map E.state told.old) (option_map E.state told.new) result }
     ensures counted { MatchOption result.fault (failed.new ≡ failed.old)
@@ -74,10 +76,10 @@ fn run_over<H: Holder + Drop, S: Source, O: Sink, E: Sink>(
 ) -> End
     requires { marked_of session ≡ unmarked (file_of session) }
     ensures ends { H.steady → OverFile (file_of session) (λ file after. (saved : SinkState) → AsksAs
-        (run_by (not H.whole) file (S.state script.old) (O.state out.old) saved)
-        (run_by (not H.whole) after (S.state script.new) (O.state out.new) saved)
+        (run_by plain (not H.whole) file (S.state script.old) (O.state out.old) saved)
+        (run_by plain (not H.whole) after (S.state script.new) (O.state out.new) saved)
         result) }
-    ensures told { H.steady → OverFile (file_of session) (λ file after. RemarksEndAs file
+    ensures told { H.steady → OverFile (file_of session) (λ file after. RemarksEndAs plain file
         (S.state script.old) (S.state script.new)
         (option_map E.state told.old) (option_map E.state told.new) result) }
     ensures counted { MatchOption result.fault (failed.new ≡ failed.old)
@@ -103,18 +105,18 @@ fn ask<H: Holder + Drop, S: Source, O: Sink, E: Sink>(
 ) -> Result<u8, Fault>
     requires { marked_of session ≡ unmarked (file_of session) }
     ensures ends { H.steady → OverFile (file_of session) (λ file after. (saved : SinkState) → AsksBy
-        (run_by (not H.whole) file (S.state script.old) (O.state out.old) saved)
-        (run_by (not H.whole) after (S.state script.new) (O.state out.new) saved)
+        (run_by plain (not H.whole) file (S.state script.old) (O.state out.old) saved)
+        (run_by plain (not H.whole) after (S.state script.new) (O.state out.new) saved)
         result) }
-    ensures all { H.steady → OnOk result (OverFile (file_of session) (λ file after. AreAllRemarks
+    ensures all { H.steady → OnOk result (OverFile (file_of session) (λ file after. AreAllRemarks plain
         file (S.state script.old) (option_map E.state told.old) (option_map E.state told.new))) }
-    ensures some { H.steady → OnErr result (OverFile (file_of session) (λ file after. AreToldOf
+    ensures some { H.steady → OnErr result (OverFile (file_of session) (λ file after. AreToldOf plain
         file (S.state script.old) (S.state script.new)
         (option_map E.state told.old) (option_map E.state told.new))) }
     ensures quiet { OnOk result (failed.new ≡ failed.old) }
     ensures counted { IfErr result (RunCounts failed.old failed.new
         (S.state script.old) (S.state script.new)) }
 {
-    let runner = answered(alloc, session, failed, script, out, told)?;
+    let runner = answered(alloc, PLAIN, session, failed, script, out, told)?;
     Ok(runner.status())
 }

@@ -1,5 +1,5 @@
 //! The run of `edit -c`: nothing is saved where the result has more errors of some code than the file.
-ghost use Rattle.std.specs.Prelude.{◌≡◌, true, not, AllPairs, IfOk, IfErr, OnErr, OnOk, MatchOption};
+ghost use Rattle.std.specs.Prelude.{◌≡◌, false, true, not, AllPairs, IfOk, IfErr, OnErr, OnOk, MatchOption};
 ghost use Rattle.std.specs.Option.{option_map};
 ghost use Rattle.fits_stream.specs.Stream.{SinkState, SourceState};
 ghost use Rattle.fits_session.specs.Away.{at_start, AllTell};
@@ -8,7 +8,7 @@ ghost use Rattle.fits_session.specs.Report.{IsListedBefore};
 ghost use Rattle.fits_session.specs.Session.{file_of, marked_of};
 ghost use Rattle.fits_cli.specs.CheckedEnds.{kept_back, EndsChecked, EndsCheckedAs, IsReportedRun};
 ghost use Rattle.fits_cli.specs.Faults.{RunCounts};
-ghost use Rattle.fits_cli.specs.Ends.{run, run_by, AreAllRemarks, AreToldOf, OverFile, RemarksEndAs, StopsBy};
+ghost use Rattle.fits_cli.specs.Ends.{run_by, AreAllRemarks, AreToldOf, OverFile, RemarksEndAs, StopsBy};
 
 use crate::editing::flush_answers;
 use crate::end::End;
@@ -16,6 +16,7 @@ use crate::fault::Fault;
 use crate::printing::print_at_once;
 use crate::runner::Runner;
 use crate::script::answer_script;
+use crate::terms::Terms;
 use fits_session::{Holder, Problem, Session};
 use fits_stream::{FailedReads, Sink, Source, Stored};
 use std::alloc::Global;
@@ -52,6 +53,7 @@ impl From<Fault> for CheckedEnd {
 /// remarks on the lines that aren't done to `told`, if they are wanted.
 pub fn run_edit_checked<F: Source, S: Source, P: Sink, O: Sink, E: Sink>(
     alloc: Global,
+    terms: Terms,
     whole: bool,
     file: &mut F,
     script: &mut S,
@@ -60,15 +62,18 @@ pub fn run_edit_checked<F: Source, S: Source, P: Sink, O: Sink, E: Sink>(
     told: &mut Option<E>,
 ) -> CheckedEnd
     ensures ends { EndsCheckedAs whole
-        (run (F.state file.old) (S.state script.old) (O.state out.old) (P.state saved.old))
-        (run (F.state file.new) (S.state script.new) (O.state out.new) (P.state saved.new))
+        (run_by terms false
+        (F.state file.old) (S.state script.old) (O.state out.old) (P.state saved.old))
+        (run_by terms false
+        (F.state file.new) (S.state script.new) (O.state out.new) (P.state saved.new))
         result.end result.undone result.new_errors }
-    ensures told { RemarksEndAs (F.state file.old) (S.state script.old) (S.state script.new)
+    ensures told { RemarksEndAs terms (F.state file.old) (S.state script.old) (S.state script.new)
         (option_map E.state told.old) (option_map E.state told.new) result.end }
 {
     match Session::read(alloc, file) {
         Ok(session) => run_over(
             alloc,
+            terms,
             whole,
             session,
             &mut FailedReads::none(),
@@ -84,6 +89,7 @@ pub fn run_edit_checked<F: Source, S: Source, P: Sink, O: Sink, E: Sink>(
 /// The same of a stored file, as `run_edit_stored` reads it. Reads of it that fail are counted.
 pub fn run_edit_checked_stored<F: Stored, S: Source, P: Sink, O: Sink, E: Sink>(
     alloc: Global,
+    terms: Terms,
     whole: bool,
     file: &F,
     failed: &mut FailedReads,
@@ -93,18 +99,20 @@ pub fn run_edit_checked_stored<F: Stored, S: Source, P: Sink, O: Sink, E: Sink>(
     told: &mut Option<E>,
 ) -> CheckedEnd
     ensures ends { AllTell F.bytes → (after : SourceState) × EndsCheckedAs whole
-        (run_by true (at_start (F.bytes file.now) failed.old)
+        (run_by terms true (at_start (F.bytes file.now) failed.old)
         (S.state script.old) (O.state out.old) (P.state saved.old))
-        (run_by true after (S.state script.new) (O.state out.new) (P.state saved.new))
+        (run_by terms true after (S.state script.new) (O.state out.new) (P.state saved.new))
         result.end result.undone result.new_errors }
-    ensures told { AllTell F.bytes → RemarksEndAs (at_start (F.bytes file.now) failed.old)
+    ensures told { AllTell F.bytes → RemarksEndAs terms (at_start (F.bytes file.now) failed.old)
         (S.state script.old) (S.state script.new)
         (option_map E.state told.old) (option_map E.state told.new) result.end }
     ensures counted { MatchOption result.end.fault (failed.new ≡ failed.old)
         (RunCounts failed.old failed.new (S.state script.old) (S.state script.new)) }
 {
     match Session::read_stored(alloc, file, failed) {
-        Ok(session) => run_over(alloc, whole, session, failed, script, saved, out, told),
+        Ok(session) => run_over(
+            alloc, terms, whole, session, failed, script, saved, out, told,
+        ),
         Err(why) => CheckedEnd::from(Fault::from(why)),
     }
 }
@@ -112,6 +120,7 @@ pub fn run_edit_checked_stored<F: Stored, S: Source, P: Sink, O: Sink, E: Sink>(
 // The run over a file that was opened.
 fn run_over<H: Holder + Drop, S: Source, P: Sink, O: Sink, E: Sink>(
     alloc: Global,
+    terms: Terms,
     whole: bool,
     session: Session<H>,
     failed: &mut FailedReads,
@@ -122,16 +131,18 @@ fn run_over<H: Holder + Drop, S: Source, P: Sink, O: Sink, E: Sink>(
 ) -> CheckedEnd
     requires { marked_of session ≡ unmarked (file_of session) }
     ensures ends { H.steady → OverFile (file_of session) (λ file after. EndsCheckedAs whole
-        (run_by (not H.whole) file (S.state script.old) (O.state out.old) (P.state saved.old))
-        (run_by (not H.whole) after (S.state script.new) (O.state out.new) (P.state saved.new))
+        (run_by terms (not H.whole) file (S.state script.old) (O.state out.old) (P.state saved.old))
+        (run_by terms (not H.whole) after (S.state script.new) (O.state out.new) (P.state saved.new))
         result.end result.undone result.new_errors) }
-    ensures told { H.steady → OverFile (file_of session) (λ file after. RemarksEndAs file
+    ensures told { H.steady → OverFile (file_of session) (λ file after. RemarksEndAs terms file
         (S.state script.old) (S.state script.new)
         (option_map E.state told.old) (option_map E.state told.new) result.end) }
     ensures counted { MatchOption result.end.fault (failed.new ≡ failed.old)
         (RunCounts failed.old failed.new (S.state script.old) (S.state script.new)) }
 {
-    match edit_checked(alloc, whole, session, failed, script, saved, out, told) {
+    match edit_checked(
+        alloc, terms, whole, session, failed, script, saved, out, told,
+    ) {
         Ok((status, undone, new_errors)) => CheckedEnd {
             end: End {
                 status,
@@ -148,6 +159,7 @@ fn run_over<H: Holder + Drop, S: Source, P: Sink, O: Sink, E: Sink>(
 // saved, or the fault that ended it.
 fn edit_checked<H: Holder + Drop, S: Source, P: Sink, O: Sink, E: Sink>(
     alloc: Global,
+    terms: Terms,
     whole: bool,
     session: Session<H>,
     failed: &mut FailedReads,
@@ -158,19 +170,21 @@ fn edit_checked<H: Holder + Drop, S: Source, P: Sink, O: Sink, E: Sink>(
 ) -> Result<(u8, u64, u64), Fault>
     requires { marked_of session ≡ unmarked (file_of session) }
     ensures ends { H.steady → OverFile (file_of session) (λ file after. EndsChecked whole
-        (run_by (not H.whole) file (S.state script.old) (O.state out.old) (P.state saved.old))
-        (run_by (not H.whole) after (S.state script.new) (O.state out.new) (P.state saved.new))
+        (run_by terms (not H.whole) file (S.state script.old) (O.state out.old) (P.state saved.old))
+        (run_by terms (not H.whole) after (S.state script.new) (O.state out.new) (P.state saved.new))
         result) }
-    ensures all { H.steady → OnOk result (OverFile (file_of session) (λ file after. AreAllRemarks
+    ensures all { H.steady → OnOk result (OverFile (file_of session) (λ file after. AreAllRemarks terms
         file (S.state script.old) (option_map E.state told.old) (option_map E.state told.new))) }
-    ensures some { H.steady → OnErr result (OverFile (file_of session) (λ file after. AreToldOf
+    ensures some { H.steady → OnErr result (OverFile (file_of session) (λ file after. AreToldOf terms
         file (S.state script.old) (S.state script.new)
         (option_map E.state told.old) (option_map E.state told.new))) }
     ensures quiet { OnOk result (failed.new ≡ failed.old) }
     ensures counted { IfErr result (RunCounts failed.old failed.new
         (S.state script.old) (S.state script.new)) }
 {
-    let (mut runner, before) = reported_and_answered(alloc, session, failed, script, out, told)?;
+    let (mut runner, before) = reported_and_answered(
+        alloc, terms, session, failed, script, out, told,
+    )?;
     let undone = kept_back(whole, runner.refused());
     if undone > 0 {
         return Ok((runner.status(), undone, 0));
@@ -180,13 +194,14 @@ fn edit_checked<H: Holder + Drop, S: Source, P: Sink, O: Sink, E: Sink>(
         print_at_once(out, &found.text)?;
         return Ok((1, 0, found.count));
     }
-    runner.save(failed, saved)?;
+    runner.save(terms, failed, saved)?;
     Ok((runner.status(), 0, 0))
 }
 
 // Asks for the report of a file that was opened, answers a script over it, and flushes the answers.
 fn reported_and_answered<H: Holder + Drop, S: Source, O: Sink, E: Sink>(
     alloc: Global,
+    terms: Terms,
     session: Session<H>,
     failed: &mut FailedReads,
     script: &mut S,
@@ -195,22 +210,22 @@ fn reported_and_answered<H: Holder + Drop, S: Source, O: Sink, E: Sink>(
 ) -> Result<(Runner<H>, Vec<Problem>), Fault>
     requires { marked_of session ≡ unmarked (file_of session) }
     ensures ok { H.steady → IfOk result (λ done. OverFile (file_of session) (λ file after.
-        IsReportedRun file after (S.state script.old) (S.state script.new)
+        IsReportedRun terms file after (S.state script.old) (S.state script.new)
         (O.state out.old) (O.state out.new)
         (option_map E.state told.old) (option_map E.state told.new) done.0 done.1.items)) }
     ensures ordered { IfOk result (λ done. AllPairs IsListedBefore done.1.items) }
     ensures err { H.steady → IfErr result (λ fault. OverFile (file_of session) (λ file after.
         (saved : SinkState) → StopsBy
-        (run_by (not H.whole) file (S.state script.old) (O.state out.old) saved)
-        (run_by (not H.whole) after (S.state script.new) (O.state out.new) saved) fault)) }
-    ensures told { H.steady → OnErr result (OverFile (file_of session) (λ file after. AreToldOf
+        (run_by terms (not H.whole) file (S.state script.old) (O.state out.old) saved)
+        (run_by terms (not H.whole) after (S.state script.new) (O.state out.new) saved) fault)) }
+    ensures told { H.steady → OnErr result (OverFile (file_of session) (λ file after. AreToldOf terms
         file (S.state script.old) (S.state script.new)
         (option_map E.state told.old) (option_map E.state told.new))) }
     ensures quiet { OnOk result (failed.new ≡ failed.old) }
     ensures counted { IfErr result (RunCounts failed.old failed.new
         (S.state script.old) (S.state script.new)) }
 {
-    let mut runner = Runner::new(session);
+    let mut runner = Runner::new(session, terms);
     let before = runner.report()?;
     let answered = answer_script(alloc, &mut runner, failed, script, out, told);
     flush_answers(answered, out)?;

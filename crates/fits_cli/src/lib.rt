@@ -42,6 +42,7 @@ mod shown_card;
 mod stating;
 mod summing;
 mod telling;
+mod terms;
 mod value_line;
 mod verifying;
 mod verifying_cards;
@@ -63,6 +64,7 @@ pub use name_pattern::NamePattern;
 pub use reread::Reread;
 pub use summing::run_sum;
 pub use telling::{Telling, run_telling};
+pub use terms::Terms;
 pub use verifying::run_verify;
 pub use whole_editing::{WholeEnd, run_edit_whole, run_edit_whole_stored};
 // The lines of a script are named here too.

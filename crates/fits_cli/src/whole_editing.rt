@@ -1,16 +1,17 @@
 //! The run of `edit -a`: nothing is saved unless every line of the script was done.
-ghost use Rattle.std.specs.Prelude.{◌≡◌, true, not, OnErr, OnOk, IfErr, MatchOption};
+ghost use Rattle.std.specs.Prelude.{◌≡◌, false, true, not, OnErr, OnOk, IfErr, MatchOption};
 ghost use Rattle.std.specs.Option.{option_map};
 ghost use Rattle.fits_stream.specs.Stream.{SourceState};
 ghost use Rattle.fits_session.specs.Away.{at_start, AllTell};
 ghost use Rattle.fits_session.specs.Marked.{unmarked};
 ghost use Rattle.fits_session.specs.Session.{file_of, marked_of};
 ghost use Rattle.fits_cli.specs.Faults.{RunCounts};
-ghost use Rattle.fits_cli.specs.Ends.{run, run_by, AreAllRemarks, AreToldOf, EndsWhole, EndsWholeAs, OverFile, RemarksEndAs};
+ghost use Rattle.fits_cli.specs.Ends.{run_by, AreAllRemarks, AreToldOf, EndsWhole, EndsWholeAs, OverFile, RemarksEndAs};
 
 use crate::editing::answered;
 use crate::end::End;
 use crate::fault::Fault;
+use crate::terms::Terms;
 use fits_session::{Holder, Session};
 use fits_stream::{FailedReads, Sink, Source, Stored};
 use std::alloc::Global;
@@ -42,6 +43,7 @@ impl From<Fault> for WholeEnd {
 /// file is saved where every line was done. Remarks on the others go to `told`, if they are wanted.
 pub fn run_edit_whole<F: Source, S: Source, P: Sink, O: Sink, E: Sink>(
     alloc: Global,
+    terms: Terms,
     file: &mut F,
     script: &mut S,
     saved: &mut P,
@@ -49,15 +51,18 @@ pub fn run_edit_whole<F: Source, S: Source, P: Sink, O: Sink, E: Sink>(
     told: &mut Option<E>,
 ) -> WholeEnd
     ensures ends { EndsWholeAs
-        (run (F.state file.old) (S.state script.old) (O.state out.old) (P.state saved.old))
-        (run (F.state file.new) (S.state script.new) (O.state out.new) (P.state saved.new))
+        (run_by terms false
+        (F.state file.old) (S.state script.old) (O.state out.old) (P.state saved.old))
+        (run_by terms false
+        (F.state file.new) (S.state script.new) (O.state out.new) (P.state saved.new))
         result.end result.undone }
-    ensures told { RemarksEndAs (F.state file.old) (S.state script.old) (S.state script.new)
+    ensures told { RemarksEndAs terms (F.state file.old) (S.state script.old) (S.state script.new)
         (option_map E.state told.old) (option_map E.state told.new) result.end }
 {
     match Session::read(alloc, file) {
         Ok(session) => run_over(
             alloc,
+            terms,
             session,
             &mut FailedReads::none(),
             script,
@@ -72,6 +77,7 @@ pub fn run_edit_whole<F: Source, S: Source, P: Sink, O: Sink, E: Sink>(
 /// The same of a stored file, as `run_edit_stored` reads it. Reads of it that fail are counted.
 pub fn run_edit_whole_stored<F: Stored, S: Source, P: Sink, O: Sink, E: Sink>(
     alloc: Global,
+    terms: Terms,
     file: &F,
     failed: &mut FailedReads,
     script: &mut S,
@@ -80,18 +86,18 @@ pub fn run_edit_whole_stored<F: Stored, S: Source, P: Sink, O: Sink, E: Sink>(
     told: &mut Option<E>,
 ) -> WholeEnd
     ensures ends { AllTell F.bytes → (after : SourceState) × EndsWholeAs
-        (run_by true (at_start (F.bytes file.now) failed.old)
+        (run_by terms true (at_start (F.bytes file.now) failed.old)
         (S.state script.old) (O.state out.old) (P.state saved.old))
-        (run_by true after (S.state script.new) (O.state out.new) (P.state saved.new))
+        (run_by terms true after (S.state script.new) (O.state out.new) (P.state saved.new))
         result.end result.undone }
-    ensures told { AllTell F.bytes → RemarksEndAs (at_start (F.bytes file.now) failed.old)
+    ensures told { AllTell F.bytes → RemarksEndAs terms (at_start (F.bytes file.now) failed.old)
         (S.state script.old) (S.state script.new)
         (option_map E.state told.old) (option_map E.state told.new) result.end }
     ensures counted { MatchOption result.end.fault (failed.new ≡ failed.old)
         (RunCounts failed.old failed.new (S.state script.old) (S.state script.new)) }
 {
     match Session::read_stored(alloc, file, failed) {
-        Ok(session) => run_over(alloc, session, failed, script, saved, out, told),
+        Ok(session) => run_over(alloc, terms, session, failed, script, saved, out, told),
         Err(why) => WholeEnd::from(Fault::from(why)),
     }
 }
@@ -99,6 +105,7 @@ pub fn run_edit_whole_stored<F: Stored, S: Source, P: Sink, O: Sink, E: Sink>(
 // The run over a file that was opened.
 fn run_over<H: Holder + Drop, S: Source, P: Sink, O: Sink, E: Sink>(
     alloc: Global,
+    terms: Terms,
     session: Session<H>,
     failed: &mut FailedReads,
     script: &mut S,
@@ -108,16 +115,16 @@ fn run_over<H: Holder + Drop, S: Source, P: Sink, O: Sink, E: Sink>(
 ) -> WholeEnd
     requires { marked_of session ≡ unmarked (file_of session) }
     ensures ends { H.steady → OverFile (file_of session) (λ file after. EndsWholeAs
-        (run_by (not H.whole) file (S.state script.old) (O.state out.old) (P.state saved.old))
-        (run_by (not H.whole) after (S.state script.new) (O.state out.new) (P.state saved.new))
+        (run_by terms (not H.whole) file (S.state script.old) (O.state out.old) (P.state saved.old))
+        (run_by terms (not H.whole) after (S.state script.new) (O.state out.new) (P.state saved.new))
         result.end result.undone) }
-    ensures told { H.steady → OverFile (file_of session) (λ file after. RemarksEndAs file
+    ensures told { H.steady → OverFile (file_of session) (λ file after. RemarksEndAs terms file
         (S.state script.old) (S.state script.new)
         (option_map E.state told.old) (option_map E.state told.new) result.end) }
     ensures counted { MatchOption result.end.fault (failed.new ≡ failed.old)
         (RunCounts failed.old failed.new (S.state script.old) (S.state script.new)) }
 {
-    match edit_whole(alloc, session, failed, script, saved, out, told) {
+    match edit_whole(alloc, terms, session, failed, script, saved, out, told) {
         Ok((status, undone)) => WholeEnd {
             end: End {
                 status,
@@ -132,6 +139,7 @@ fn run_over<H: Holder + Drop, S: Source, P: Sink, O: Sink, E: Sink>(
 // The run as a result: its status and how many lines weren't done, or the fault that ended it.
 fn edit_whole<H: Holder + Drop, S: Source, P: Sink, O: Sink, E: Sink>(
     alloc: Global,
+    terms: Terms,
     session: Session<H>,
     failed: &mut FailedReads,
     script: &mut S,
@@ -141,23 +149,23 @@ fn edit_whole<H: Holder + Drop, S: Source, P: Sink, O: Sink, E: Sink>(
 ) -> Result<(u8, u64), Fault>
     requires { marked_of session ≡ unmarked (file_of session) }
     ensures ends { H.steady → OverFile (file_of session) (λ file after. EndsWhole
-        (run_by (not H.whole) file (S.state script.old) (O.state out.old) (P.state saved.old))
-        (run_by (not H.whole) after (S.state script.new) (O.state out.new) (P.state saved.new))
+        (run_by terms (not H.whole) file (S.state script.old) (O.state out.old) (P.state saved.old))
+        (run_by terms (not H.whole) after (S.state script.new) (O.state out.new) (P.state saved.new))
         result) }
-    ensures all { H.steady → OnOk result (OverFile (file_of session) (λ file after. AreAllRemarks
+    ensures all { H.steady → OnOk result (OverFile (file_of session) (λ file after. AreAllRemarks terms
         file (S.state script.old) (option_map E.state told.old) (option_map E.state told.new))) }
-    ensures some { H.steady → OnErr result (OverFile (file_of session) (λ file after. AreToldOf
+    ensures some { H.steady → OnErr result (OverFile (file_of session) (λ file after. AreToldOf terms
         file (S.state script.old) (S.state script.new)
         (option_map E.state told.old) (option_map E.state told.new))) }
     ensures quiet { OnOk result (failed.new ≡ failed.old) }
     ensures counted { IfErr result (RunCounts failed.old failed.new
         (S.state script.old) (S.state script.new)) }
 {
-    let mut runner = answered(alloc, session, failed, script, out, told)?;
+    let mut runner = answered(alloc, terms, session, failed, script, out, told)?;
     let undone = runner.refused();
     if undone > 0 {
         return Ok((runner.status(), undone));
     }
-    runner.save(failed, saved)?;
+    runner.save(terms, failed, saved)?;
     Ok((runner.status(), undone))
 }

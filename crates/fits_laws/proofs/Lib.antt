@@ -27,5 +27,6 @@ pub mod RepeatedLemmas
 pub mod RightLemmas
 pub mod SaidLemmas
 pub mod SetLemmas
+pub mod SparedLemmas
 pub mod TextLemmas
 pub mod WrittenStringLemmas

@@ -4,6 +4,7 @@ use Rattle.std.proofs.lemmas.List.Elements.{All-head, All-tail}
 use Rattle.fits_cli.specs.declared.limits.TheConstants.{SCRIPT_LIMIT}
 use Rattle.fits_cli.specs.Script.{HasNoLineFeed, ended_lines, IsCutInLines}
 use Rattle.fits_cli.specs.Output.{Output, IsOutputOf, output_unopened, output_of_cut}
+use Rattle.fits_cli.specs.declared.terms.Terms.{Terms}
 use Rattle.fits_laws.proofs.JoinedLemmas.{one_cut_at, not_without}
 use Rattle.fits_cli.proofs.LinesLemmas.{a_cut}
 use Rattle.fits_laws.proofs.FileLemmas.{one_file, no_open_fault, one_open_fault, file_or_fault}
@@ -27,8 +28,8 @@ pub one_cut : (text : List ℕ) (ls ms : List (List ℕ)) (x y : List ℕ) → I
 one_cut text ls ms x y a b = one_cut_from ls ms x y a.whole b.whole a.open_end b.open_end (sym a.joined ∙ b.joined)
 
 -- and a run has one output
-pub one_output : (file script : List ℕ) (o p : Output) → IsOutputOf file script o → IsOutputOf file script p → o ≡ p
-one_output file script o p a b =
+pub one_output : (terms : Terms) (file script : List ℕ) (o p : Output) → IsOutputOf terms file script o → IsOutputOf terms file script p → o ≡ p
+one_output terms file script o p a b =
     elim a [
       | inl x ↦ elim b [
         | inl y ↦ x.is ∙ ap output_unopened (one_open_fault file x.why y.why x.fails y.fails) ∙ sym y.is
@@ -39,18 +40,18 @@ one_output file script o p a b =
         | inr y ↦
             let size : ℕ = length script in
             let cut = one_cut (take SCRIPT_LIMIT script) x.lines y.lines x.last y.last x.cut y.cut in
-            x.is ∙ ap (λ h. output_of_cut h size x.lines x.last) (one_file file x.parts y.parts x.opens y.opens)
-            ∙ ap (λ ls. output_of_cut y.parts size ls x.last) cut.0 ∙ ap (λ t. output_of_cut y.parts size y.lines t) cut.1 ∙ sym y.is
+            x.is ∙ ap (λ h. output_of_cut terms h size x.lines x.last) (one_file file x.parts y.parts x.opens y.opens)
+            ∙ ap (λ ls. output_of_cut terms y.parts size ls x.last) cut.0 ∙ ap (λ t. output_of_cut terms y.parts size y.lines t) cut.1 ∙ sym y.is
       ]
     ]
 
 -- each file and script has one
-pub an_output : (file script : List ℕ) → (output : Output) × IsOutputOf file script output
-an_output file script =
+pub an_output : (terms : Terms) (file script : List ℕ) → (output : Output) × IsOutputOf terms file script output
+an_output terms file script =
     let cut = a_cut (take SCRIPT_LIMIT script) in
     elim (file_or_fault file) [
       | inl opened ↦
-          let output : Output = output_of_cut opened.0 (length script) cut.lines cut.last in
+          let output : Output = output_of_cut terms opened.0 (length script) cut.lines cut.last in
           (output, inr (record { parts = opened.0; lines = cut.lines; last = cut.last; opens = opened.1; cut = cut.cut; is = refl }))
       | inr faulty ↦ (output_unopened faulty.0, inl (record { why = faulty.0; fails = faulty.1; is = refl }))
     ]

@@ -1,5 +1,5 @@
 //! Laws of the definitions, each the contract of a function that does nothing.
-ghost use Rattle.std.specs.Prelude.{◌≡◌, ◌↔◌, ◌+◌, ◌<◌, ℕ, AllPairs, List, Some, length, take};
+ghost use Rattle.std.specs.Prelude.{◌≡◌, ◌↔◌, ◌+◌, ◌<◌, ℕ, AllPairs, false, List, Some, length, take};
 ghost use Rattle.fits_laws.specs.Forms.{Says};
 ghost use Rattle.fits_script.specs.declared.command.Command.{Command};
 ghost use Rattle.fits_script.specs.declared.limits.TheConstants.{LINE_LIMIT};
@@ -11,6 +11,7 @@ ghost use Rattle.fits_cli.specs.Answer.{at_first_line};
 ghost use Rattle.fits_cli.specs.NewErrors.{new_errors, HasMoreErrors};
 ghost use Rattle.fits_cli.specs.Output.{standing_after, Output, IsOutputOf};
 ghost use Rattle.fits_cli.specs.Script.{IsCutInLines};
+ghost use Rattle.fits_cli.specs.declared.terms.Terms.{Terms};
 
 /// What a line comes to is decided by one byte more than a line may have.
 pub fn reading_of_a_front()
@@ -37,13 +38,14 @@ pub fn a_cut()
 
 /// A run has at most one output.
 pub fn one_output()
-    ensures { (file script : List ℕ) (o p : Output)
-        → IsOutputOf file script o → IsOutputOf file script p → o ≡ p }
+    ensures { (terms : Terms) (file script : List ℕ) (o p : Output)
+        → IsOutputOf terms file script o → IsOutputOf terms file script p → o ≡ p }
 {}
 
-/// Every file and script have an output.
+/// Every file and script have an output, on any terms.
 pub fn an_output()
-    ensures { (file script : List ℕ) → (output : Output) × IsOutputOf file script output }
+    ensures { (terms : Terms) (file script : List ℕ)
+        → (output : Output) × IsOutputOf terms file script output }
 {}
 
 /// Where a report in order has more of some error than another, at least one of its errors is new,
@@ -53,8 +55,17 @@ pub fn more_of_an_error_is_a_new_error()
         → HasMoreErrors before after ↔ (0 < length (new_errors before after)) }
 {}
 
+/// Where no edit of a script is accepted, the file and its marks are as they were before the first
+/// line. So nothing is lost where such a file is spared.
+pub fn no_edit_leaves_the_file()
+    ensures { (terms : Terms) (file : FileParts) (lines : List (List ℕ))
+        → (standing_after (at_first_line terms file) lines).edited ≡ false
+        → (standing_after (at_first_line terms file) lines).marked
+        ≡ (at_first_line terms file).marked }
+{}
+
 /// What the lines of a script leave of a file is a file: it opens again.
 pub fn a_script_leaves_a_file()
-    ensures { (file : FileParts) (lines : List (List ℕ)) → IsFile file
-        → IsFile (standing_after (at_first_line file) lines).marked.file }
+    ensures { (terms : Terms) (file : FileParts) (lines : List (List ℕ)) → IsFile file
+        → IsFile (standing_after (at_first_line terms file) lines).marked.file }
 {}

@@ -32,6 +32,11 @@ const EDITS: Form = Form {
             'i',
             "Edit IN, and each further file, where it stands; there is no OUT",
         ),
+        Word::Flag(
+            "sums",
+            's',
+            "Keep sums right that are right, and leave wrong ones as they are",
+        ),
         Word::NoClobber,
         Word::Flag(
             "safe",

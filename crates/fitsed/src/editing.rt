@@ -11,10 +11,12 @@ use crate::reporting::{
     reported_script,
 };
 use crate::saved_end::SavedEnd;
+use crate::scaled::{has_pixel_line, tell_scaled};
 use crate::subject::Subject;
 use crate::task::{Inputs, SavingTerms};
 use crate::words::oddity_of;
-use fits_cli::{CheckedEnd, Fault};
+use crate::wrong_sums::tell_wrong_sums;
+use fits_cli::{CheckedEnd, Fault, Terms};
 use fits_save::{Place, SaveFault, SavedFile, Seen, System};
 use fits_stream::{NamedLines, Sink, Source, Watched};
 use std::fs::File;
@@ -53,6 +55,7 @@ pub fn edit<R: Files<File = File> + Input + Print + Eprint + AllocGlobal>(
     }
     match script_of(rt, script) {
         Ok(text) => {
+            tell_values(rt, subject, &text);
             let done = named_edited(rt, at, terms, &mut text.as_slice(), &mut out);
             status_of(rt, at, terms, subject.name, &done)
         }
@@ -87,6 +90,7 @@ pub fn edit_in_place<R: Files<File = File> + Input + Print + Eprint + AllocGloba
             detail,
         };
         let at = FilePair { subject, to: path };
+        tell_values(rt, subject, &text);
         let done = named_edited(rt, at, terms, &mut text.as_slice(), &mut out);
         status = status.max(status_of(rt, at, terms, path, &done));
         if done.ends_all() {
@@ -94,6 +98,18 @@ pub fn edit_in_place<R: Files<File = File> + Input + Print + Eprint + AllocGloba
         }
     }
     status
+}
+
+// Tells of a file whose pixels a script is about that they are stored numbers, where they stand for
+// others.
+fn tell_values<R: Files<File = File> + Eprint + AllocGlobal>(
+    rt: &R,
+    subject: Subject<'_>,
+    script: &[u8],
+) {
+    if subject.detail.tells() && has_pixel_line(script) {
+        tell_scaled(rt, subject);
+    }
 }
 
 // Edits a file, with its name before each answer where it is told apart.
@@ -137,33 +153,55 @@ fn edited<R: Files<File = File> + Eprint + AllocGlobal, S: Source, O: Sink>(
     };
     let mut saved = SavedFile::at(place, terms.saving.safe);
     let spares = (is_stored(&file) || terms.asks_first()) && saved.spares();
-    if terms.asks_first() {
-        if let Some(fault) = saved.place().refusal(terms.saving, spares) {
-            return SavedEnd::refused(fault);
-        }
+    if let Some(fault) = refusal_of(&saved, terms, spares) {
+        return SavedEnd::refused(fault);
     }
-    let stays = is_stored(&file) && spares;
     let Ok(saved) = BufWriter::new(rt.alloc(), saved) else {
         return SavedEnd::from(Fault::Memory);
     };
+    if terms.sums && at.subject.detail.tells() {
+        tell_wrong_sums(rt, at.subject);
+    }
     let there = standing_at(rt, at.to, &file);
+    let of_run = Terms {
+        sums: terms.sums,
+        spare: matches!(there, Standing::Same),
+    };
     let mut saved = Watched::new(saved);
     let alloc = rt.alloc();
-    let done = if stays {
-        run_on_stored(alloc, terms, &file, script, &mut saved, out, &mut told)
+    let done = if is_stored(&file) && spares {
+        run_on_stored(
+            alloc, terms, of_run, &file, script, &mut saved, out, &mut told,
+        )
     } else {
-        let mut source = source_of(file);
+        let mut file = source_of(file);
         run_on(
-            alloc,
-            terms,
-            &mut source,
-            script,
-            &mut saved,
-            out,
-            &mut told,
+            alloc, terms, of_run, &mut file, script, &mut saved, out, &mut told,
         )
     };
-    let saved = saved.into_inner();
+    finished(rt, at, there, saved.into_inner(), done)
+}
+
+// Why a result can't be saved as is wanted, if it is asked before the run.
+fn refusal_of<R: Files<File = File>>(
+    saved: &SavedFile<System<'_, R>>,
+    terms: SavingTerms<'_>,
+    spares: bool,
+) -> Option<SaveFault> {
+    if !terms.asks_first() {
+        return None;
+    }
+    saved.place().refusal(terms.saving, spares)
+}
+
+// Ends the saving, and tells of it.
+fn finished<R: Files<File = File> + Eprint>(
+    rt: &R,
+    at: FilePair<'_>,
+    there: Standing,
+    saved: BufWriter<SavedFile<System<'_, R>>>,
+    done: CheckedEnd,
+) -> SavedEnd {
     let met = saved.get_ref().place().met();
     let done = SavedEnd {
         met,

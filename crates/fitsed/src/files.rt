@@ -11,12 +11,12 @@ use std::rt::Files;
 #[derive(Clone, Copy)]
 pub enum Standing {
     Nothing,
+    /// A pipe or a device.
+    Device,
     /// The file that is read.
     Same,
     /// Another file.
     Other,
-    /// A pipe or a device.
-    Device,
 }
 
 /// What stands at a path, where this file is read.
@@ -24,24 +24,30 @@ pub fn standing_at<R: Files>(rt: &R, path: &str, read: &File) -> Standing {
     let Ok(there) = fs::metadata(rt, path) else {
         return Standing::Nothing;
     };
+    if !there.is_file() {
+        return Standing::Device;
+    }
     match read.metadata() {
         Ok(about) if about.dev() == there.dev() && about.ino() == there.ino() => Standing::Same,
-        _ if there.is_file() => Standing::Other,
-        _ => Standing::Device,
+        _ => Standing::Other,
     }
 }
 
-/// The headers of a regular file, read once more, as far as they can be. Of a pipe or a device there
-/// are none.
-pub fn headers_at<R: Files<File = File> + AllocGlobal>(
-    rt: &R,
-    path: &str,
-) -> Option<Vec<CardList>> {
+/// A regular file, opened once more. A pipe or a device isn't: it would lose what it has.
+pub fn stored_at<R: Files<File = File>>(rt: &R, path: &str) -> Option<File> {
     let about = fs::metadata(rt, path).ok()?;
     if !about.is_file() {
         return None;
     }
-    let file = fs::open(rt, path).ok()?;
+    fs::open(rt, path).ok()
+}
+
+/// The headers of a regular file, read once more, as far as they can be.
+pub fn headers_at<R: Files<File = File> + AllocGlobal>(
+    rt: &R,
+    path: &str,
+) -> Option<Vec<CardList>> {
+    let file = stored_at(rt, path)?;
     match read_headers(rt.alloc(), &mut source_of(file)) {
         Ok(Headers { headers, .. }) => Some(headers),
         Err(_) => None,

@@ -21,6 +21,7 @@ mod task;
 mod unopened;
 mod word;
 mod words;
+mod wrong_sums;
 
 use arguments::command;
 use clap::error::ErrorKind;

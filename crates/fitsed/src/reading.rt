@@ -7,7 +7,7 @@ use crate::remarks::{before_remarks, remarks_after};
 use crate::reporting::{
     ends_all, report_changed, reported, reported_oddity, reported_of, reported_script,
 };
-use crate::scaled::tell_scaled;
+use crate::scaled::{has_pixel_line, tell_scaled};
 use crate::subject::Subject;
 use crate::task::Inputs;
 use crate::words::oddity_of;
@@ -33,9 +33,13 @@ pub enum Job<'j> {
 }
 
 impl Job<'_> {
-    // Whether it prints values of pixels, of each HDU.
-    fn prints_values(&self) -> bool {
-        matches!(self, Job::Tell(Telling::Statistics))
+    // Whether it is about values of pixels.
+    fn has_values(&self) -> bool {
+        match *self {
+            Job::Ask(script) => has_pixel_line(script),
+            Job::Tell(Telling::Statistics) => true,
+            _ => false,
+        }
     }
 }
 
@@ -91,7 +95,7 @@ pub fn each<R: rt::Files<File = File> + Print + Eprint + AllocGlobal>(
             if ends_all(fault) {
                 return status;
             }
-        } else if detail.tells() && job.prints_values() {
+        } else if detail.tells() && job.has_values() {
             tell_scaled(rt, subject);
         }
     }

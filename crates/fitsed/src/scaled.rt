@@ -12,6 +12,20 @@ const BSCALE: Name = Name(*b"BSCALE  ");
 
 const BZERO: Name = Name(*b"BZERO   ");
 
+/// The first words of lines whose numbers are values of pixels.
+const PIXEL_VERBS: &[&str] = &["stat ", "rect ", "fill ", "write "];
+
+/// Whether a script has a line with values of pixels.
+pub fn has_pixel_line(script: &[u8]) -> bool {
+    script.split(|byte| *byte == b'\n').any(is_pixel_line)
+}
+
+fn is_pixel_line(line: &[u8]) -> bool {
+    PIXEL_VERBS
+        .iter()
+        .any(|verb| line.starts_with(verb.as_bytes()))
+}
+
 /// Tells of each image of integers in a regular file whose BSCALE and BZERO aren't applied.
 pub fn tell_scaled<R: Files<File = File> + Eprint + AllocGlobal>(rt: &R, subject: Subject<'_>) {
     let Some(mut headers) = headers_at(rt, subject.name) else {

@@ -49,13 +49,15 @@ pub enum Task<'m, 'a> {
     },
 }
 
-/// When the result of a script is saved.
+/// When the result of a script is saved, and how.
 #[derive(Clone, Copy)]
 pub struct SavingTerms<'a> {
     /// Only where every line was done.
     pub whole: bool,
     /// Only where there are no more errors of any code.
     pub checked: bool,
+    /// So that sums that were right are right.
+    pub sums: bool,
     /// Only where nothing stands.
     pub fresh: bool,
     /// Only where the file that stands there stays whole, or is kept.
@@ -180,6 +182,7 @@ fn terms_of<'a>(words: &ArgMatches<'a>) -> SavingTerms<'a> {
     SavingTerms {
         whole: words.get_flag("all"),
         checked: words.get_flag("check"),
+        sums: words.get_flag("sums"),
         fresh: words.get_flag("no-clobber"),
         saving: Saving {
             safe: words.get_flag("safe"),

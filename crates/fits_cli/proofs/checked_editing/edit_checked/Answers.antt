@@ -73,21 +73,21 @@ returns-clause-ends g c steady file after opened quiet =
 
 pub returns-in_err-found-clause-some : goal.returns-in_err-found-clause-some
 returns-in_err-found-clause-some g c steady =
-    fault_exit c.from_residual-in_err-found.result _ _ c.from_residual-in_err-found.ensures.1 (λ file after opened quiet. AreToldOf-answered file after _ _ _ _ _ _ c.in_ok-runner.runner (c.in_ok-runner.ensures.ok steady file after opened quiet).run)
+    fault_exit c.from_residual-in_err-found.result _ _ c.from_residual-in_err-found.ensures.1 (λ file after opened quiet. AreToldOf-answered c.args.terms file after _ _ _ _ _ _ c.in_ok-runner.runner (c.in_ok-runner.ensures.ok steady file after opened quiet).run)
 
 pub returns-in_err-print_at_once-clause-some : goal.returns-in_err-print_at_once-clause-some
 returns-in_err-print_at_once-clause-some g c steady =
-    fault_exit c.from_residual-in_err-print_at_once.result _ _ c.from_residual-in_err-print_at_once.ensures.1 (λ file after opened quiet. AreToldOf-answered file after _ _ _ _ _ _ c.in_ok-runner.runner (c.in_ok-runner.ensures.ok steady file after opened quiet).run)
+    fault_exit c.from_residual-in_err-print_at_once.result _ _ c.from_residual-in_err-print_at_once.ensures.1 (λ file after opened quiet. AreToldOf-answered c.args.terms file after _ _ _ _ _ _ c.in_ok-runner.runner (c.in_ok-runner.ensures.ok steady file after opened quiet).run)
 
 pub returns-in_err-save-clause-some : goal.returns-in_err-save-clause-some
 returns-in_err-save-clause-some g c steady =
-    fault_exit c.from_residual-in_err-save.result _ _ c.from_residual-in_err-save.ensures.1 (λ file after opened quiet. AreToldOf-answered file after _ _ _ _ _ _ c.in_ok-runner.runner (c.in_ok-runner.ensures.ok steady file after opened quiet).run)
+    fault_exit c.from_residual-in_err-save.result _ _ c.from_residual-in_err-save.ensures.1 (λ file after opened quiet. AreToldOf-answered c.args.terms file after _ _ _ _ _ _ c.in_ok-runner.runner (c.in_ok-runner.ensures.ok steady file after opened quiet).run)
 
 pub returns-then-undone-gt0-clause-all : goal.returns-then-undone-gt0-clause-all
-returns-then-undone-gt0-clause-all g c steady file after opened quiet = AllRemarks-answered file after _ _ _ _ _ _ c.in_ok-runner.runner (c.in_ok-runner.ensures.ok steady file after opened quiet).run
+returns-then-undone-gt0-clause-all g c steady file after opened quiet = AllRemarks-answered c.args.terms file after _ _ _ _ _ _ c.in_ok-runner.runner (c.in_ok-runner.ensures.ok steady file after opened quiet).run
 
 pub returns-then-found-gt0-clause-all : goal.returns-then-found-gt0-clause-all
-returns-then-found-gt0-clause-all g c steady file after opened quiet = AllRemarks-answered file after _ _ _ _ _ _ c.in_ok-runner.runner (c.in_ok-runner.ensures.ok steady file after opened quiet).run
+returns-then-found-gt0-clause-all g c steady file after opened quiet = AllRemarks-answered c.args.terms file after _ _ _ _ _ _ c.in_ok-runner.runner (c.in_ok-runner.ensures.ok steady file after opened quiet).run
 
 pub returns-clause-all : goal.returns-clause-all
-returns-clause-all g c steady file after opened quiet = AllRemarks-answered file after _ _ _ _ _ _ c.in_ok-runner.runner (c.in_ok-runner.ensures.ok steady file after opened quiet).run
+returns-clause-all g c steady file after opened quiet = AllRemarks-answered c.args.terms file after _ _ _ _ _ _ c.in_ok-runner.runner (c.in_ok-runner.ensures.ok steady file after opened quiet).run

@@ -25,7 +25,7 @@ returns-clause-ok g c steady file after opened quiet = record {
     parts = file_of c.args.session;
     opened = opened;
     read = quiet;
-    answered = flushed_done _ _ (file_of c.args.session) c.answer_script-answered.new.runner _ _ _ _ _ c.answer_script-answered.result c.flush_answers.result _ c.in_ok-flush_answers.was
+    answered = flushed_done c.args.terms _ _ (file_of c.args.session) c.answer_script-answered.new.runner _ _ _ _ _ c.answer_script-answered.result c.flush_answers.result _ c.in_ok-flush_answers.was
         (rw (c.in_ok-before.ensures.left, c.new-runner.ensures) at (c.answer_script-answered.ensures.ok steady)) c.flush_answers.ensures;
   };
   before_is = rw c.new-runner.ensures at c.in_ok-before.ensures.value;
@@ -39,5 +39,5 @@ returns-clause-ordered g c = rw c.in_ok-before.ensures.value (in_order c.new-run
 pub returns-in_err-flush_answers-clause-told : goal.returns-in_err-flush_answers-clause-told
 returns-in_err-flush_answers-clause-told g c steady =
     fault_exit c.from_residual-in_err-flush_answers.result _ _ c.from_residual-in_err-flush_answers.ensures.1
-    (λ file after opened quiet. AreToldOf-script file _ _ _ _ _ _ c.answer_script-answered.result (file_of c.args.session) c.answer_script-answered.new.runner opened
+    (λ file after opened quiet. AreToldOf-script c.args.terms file _ _ _ _ _ _ c.answer_script-answered.result (file_of c.args.session) c.answer_script-answered.new.runner opened
     (rw (c.in_ok-before.ensures.left, c.new-runner.ensures) at (c.answer_script-answered.ensures.ok steady)) (rw (c.in_ok-before.ensures.left, c.new-runner.ensures) at (c.answer_script-answered.ensures.err steady)))

@@ -14,12 +14,12 @@ returns-in_err-flush_answers-clause-err g c steady =
 -- it is
 pub returns-clause-ok : goal.returns-clause-ok
 returns-clause-ok g c steady =
-    flushed_done _ _ (file_of c.args.session) c.answer_script-answered.new.runner _ _ _ _ _ c.answer_script-answered.result c.flush_answers.result _ c.in_ok-flush_answers.was (rw c.new-runner.ensures at (c.answer_script-answered.ensures.ok steady))
+    flushed_done c.args.terms _ _ (file_of c.args.session) c.answer_script-answered.new.runner _ _ _ _ _ c.answer_script-answered.result c.flush_answers.result _ c.in_ok-flush_answers.was (rw c.new-runner.ensures at (c.answer_script-answered.ensures.ok steady))
     c.flush_answers.ensures
 
 -- what is said where it isn't
 pub returns-in_err-flush_answers-clause-told : goal.returns-in_err-flush_answers-clause-told
 returns-in_err-flush_answers-clause-told g c steady =
     fault_exit c.from_residual.result _ _ c.from_residual.ensures.1
-    (λ file after opened quiet. AreToldOf-script file _ _ _ _ _ _ c.answer_script-answered.result (file_of c.args.session) c.answer_script-answered.new.runner opened (rw c.new-runner.ensures at (c.answer_script-answered.ensures.ok steady))
+    (λ file after opened quiet. AreToldOf-script c.args.terms file _ _ _ _ _ _ c.answer_script-answered.result (file_of c.args.session) c.answer_script-answered.new.runner opened (rw c.new-runner.ensures at (c.answer_script-answered.ensures.ok steady))
     (rw c.new-runner.ensures at (c.answer_script-answered.ensures.err steady)))

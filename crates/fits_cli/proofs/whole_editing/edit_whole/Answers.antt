@@ -26,12 +26,12 @@ returns-clause-ends g c steady file after opened quiet =
 pub returns-in_err-save-clause-some : goal.returns-in_err-save-clause-some
 returns-in_err-save-clause-some g c steady =
     fault_exit c.from_residual-in_err-save.result _ _ c.from_residual-in_err-save.ensures.1
-    (λ file after opened quiet. AreToldOf-answered file after _ _ _ _ _ _ c.in_ok-runner.runner (record { parts = file_of c.args.session; opened = opened; read = quiet; answered = c.in_ok-runner.ensures.ok steady }))
+    (λ file after opened quiet. AreToldOf-answered c.args.terms file after _ _ _ _ _ _ c.in_ok-runner.runner (record { parts = file_of c.args.session; opened = opened; read = quiet; answered = c.in_ok-runner.ensures.ok steady }))
 
 pub returns-then-undone-gt0-clause-all : goal.returns-then-undone-gt0-clause-all
 returns-then-undone-gt0-clause-all g c steady file after opened quiet =
-    AllRemarks-answered file after _ _ _ _ _ _ c.in_ok-runner.runner (record { parts = file_of c.args.session; opened = opened; read = quiet; answered = c.in_ok-runner.ensures.ok steady })
+    AllRemarks-answered c.args.terms file after _ _ _ _ _ _ c.in_ok-runner.runner (record { parts = file_of c.args.session; opened = opened; read = quiet; answered = c.in_ok-runner.ensures.ok steady })
 
 pub returns-clause-all : goal.returns-clause-all
 returns-clause-all g c steady file after opened quiet =
-    AllRemarks-answered file after _ _ _ _ _ _ c.in_ok-runner.runner (record { parts = file_of c.args.session; opened = opened; read = quiet; answered = c.in_ok-runner.ensures.ok steady })
+    AllRemarks-answered c.args.terms file after _ _ _ _ _ _ c.in_ok-runner.runner (record { parts = file_of c.args.session; opened = opened; read = quiet; answered = c.in_ok-runner.ensures.ok steady })
