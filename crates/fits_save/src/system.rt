@@ -170,7 +170,10 @@ impl<R: Files<File = File>> Place for System<'_, R> {
     }
 
     fn clear(&mut self) {
-        self.slot.clear();
+        // The name went with a rename; another run may have it by now.
+        if !matches!(self.stage, Stage::Placed) {
+            self.slot.clear();
+        }
         self.stage = self.stage.after(Act::Clear);
     }
 }
