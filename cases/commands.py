@@ -8,7 +8,7 @@ import subprocess
 import tempfile
 
 from fits import MANDATORY, P0, PIXEL, THREE_PIXELS, changed, file
-from program import differences
+from program import Ran, differences
 from sums import CHANGED, STAMPED, WRONG_SUM
 
 EMPTY = file(([(P0, 0)], ""))
@@ -43,9 +43,15 @@ ODD = changed(file(([(P0.replace("|END", "|COMMENT ab|END"), 0)], "")), {3 * 80 
 # Three pixels of 16 bits, 1 2 and 772 before 1286, and one of them alone, as `fits.data` fills them.
 STATS = "1 defined 3 blank 0 min 1 max 1029 sum 1545\n2 defined 1 blank 0 min 1 max 1 sum 1\n"
 
+# Pixels that are stored numbers, scaled, and unsigned ones.
+SCALED = file(([(THREE_PIXELS.replace("|END", "|BSCALE  = 0.5|BZERO   = 1500.0|END"), 1)], ""))
+UNSIGNED = file(([(THREE_PIXELS.replace("|END", "|BSCALE  = 1.0|BZERO   = 32768|END"), 1)], ""))
+
 # Files whose second HDU has no END, and no shape.
 CUT = file(([(P0, 0)], "")) + file(([("XTENSION= 'IMAGE   '|BITPIX  = 8", 0)], ""))
 SHAPELESS = file(([(P0, 0)], "")) + file(([("XTENSION= 'IMAGE   '|BITPIX  = 9|END", 0)], ""))
+NO_AXIS = file(([(P0.replace("0|END", "1|OBJECT  = 'M31'|END"), 0)], ""))
+NO_NAXIS = file(([(P0.split("|NAXIS")[0] + "|END", 0)], ""))
 FIRST = "1 1 SIMPLE  =                    T\n1 2 BITPIX  =                    8\n1 3 NAXIS   =                    0\n"
 
 
@@ -59,6 +65,9 @@ DATED = with_cards("DATE    = '2024-02-30'")
 
 # The cards of an extension without data.
 EXTENSION = MANDATORY.replace("SIMPLE  =                    T", "XTENSION= 'IMAGE   '") + "|PCOUNT  =                    0|GCOUNT  =                    1"
+
+# An extension whose GCOUNT counts nothing.
+BAD_COUNT = file(([(P0, 0), (f"{EXTENSION.rpartition('|')[0]}|GCOUNT  = 'x'|END", 0)], ""))
 
 # A date of no day in each of two HDUs, at one place; in the second a card with a byte that isn't text, and one that ends in
 # its last byte. END isn't blank in the first, and bytes follow the second.
@@ -80,6 +89,10 @@ ERRORS = f"E14 1 0 END card not blank\n{FIRST_DATE}{SECOND_DATE}{ODD_OBJECT}{NO_
 # Names that a shell, a terminal or a printed line could take for something else.
 ODD_NAMES = ["with space.fits", "it's.fits", "a|b.fits", "a&b.fits", "a\nb.fits", 'say "so".fits', "$HOME.fits"]
 
+# A name that isn't UTF-8, and what is told where that ends the run.
+ODD_NAME = "na\udcefve.fits"
+ODD_WORD = "fitsed: an argument is not UTF-8\n"
+
 # A line that makes such an error.
 UNDATED = "set 1 DATE '2024-02-30'"
 
@@ -93,6 +106,14 @@ ROWS = [
     (["ask", "-f", "-", "-e", "get 1 NAXIS", "a.fits"], {"a.fits": EMPTY}, "get 1 BITPIX", 0, "integer 8\ninteger 0\n", ""),
     (["ask", "-e", "get 1 BITPIX\nget 1 NAXIS\n", "a.fits"], {"a.fits": EMPTY}, "", 0, "integer 8\ninteger 0\n", ""),
     (["ask", "-e", "", "a.fits"], {"a.fits": EMPTY}, "get 1 NAXIS\n", 0, "", ""),
+    # an empty piece is a line, wherever it stands
+    (["ask", "-e", "get 1 NAXIS", "-e", "", "-e", "frob", "a.fits"], {"a.fits": EMPTY}, "", 1, "integer 0\nline 3: not a command\n", ""),
+    (["ask", "-e", "", "-e", "", "-e", "frob", "a.fits"], {"a.fits": EMPTY}, "", 1, "line 3: not a command\n", ""),
+    (["ask", "-e", "get 1 NAXIS", "-f", "s", "-e", "frob", "a.fits"], {"a.fits": EMPTY, "s": b""}, "", 1, "integer 0\nline 3: not a command\n", ""),
+    (["ask", "-f", "s", "-e", "frob", "a.fits"], {"a.fits": EMPTY, "s": b"get 1 NAXIS\n"}, "", 1, "integer 0\nline 2: not a command\n", ""),
+    # a line may begin with a hyphen
+    (["ask", "-e", "-5", "a.fits"], {"a.fits": EMPTY}, "", 1, "line 1: not a command\n", ""),
+    (["ask", "-e", "-v", "-e", "--line", "a.fits"], {"a.fits": EMPTY}, "", 1, "line 1: not a command\nline 2: not a command\n", ""),
     (["ask", "-f", "none", "a.fits"], {"a.fits": EMPTY}, "", 3, "", "fitsed: read failed\n"),
     (["ask", "a.fits"], {"a.fits": EMPTY}, "get 1 NAXIS\nget 1 X\n", 1, "integer 0\nline 2: refused 3 NoKey\n", ""),
     # what was asked is not saved
@@ -129,6 +150,8 @@ ROWS = [
     (["cards", "a.fits", "b.fits"], {"a.fits": b"no", "b.fits": EMPTY}, "", 2, FIRST.replace("1 ", "b.fits:1 ", 1).replace("\n1 ", "\nb.fits:1 "), "fitsed: a.fits: open refused O1 NotFits\n"),
     (["cards", "-u", "x", "a.fits"], {"a.fits": EMPTY}, "", 2, "", "fitsed: not the number of an HDU: x\n"),
     (["cards", "-k", "NINECHARS", "a.fits"], {"a.fits": EMPTY}, "", 2, "", "fitsed: not a keyword name: NINECHARS: more than 8 characters\n"),
+    # one of few characters that has many bytes
+    (["cards", "-k", "\u00c4\u00c4\u00c4\u00c4\u00c4", "a.fits"], {"a.fits": EMPTY}, "", 2, "", "fitsed: not a keyword name: \u00c4\u00c4\u00c4\u00c4\u00c4: more than 8 bytes\n"),
     # statistics
     (["stat", "a.fits"], {"a.fits": EMPTY}, "", 0, "1 -\n", ""),
     (["stat", "a.fits"], {"a.fits": IMAGES}, "", 0, STATS, ""),
@@ -161,6 +184,7 @@ ROWS = [
     (["verify", "-l", "-w", "a.fits", "d.fits"], {"a.fits": EMPTY, "d.fits": LATER}, "", 1, "d.fits\n", ""),
     (["verify", "--files-with-errors", "a.fits"], {"a.fits": EMPTY}, "", 0, "", ""),
     (["verify", "-l", "none.fits"], {}, "", 3, "", "fitsed: none.fits: read failed\n"),
+    (["verify", "-l", "none.fits", "b.fits"], {"b.fits": DATED}, "", 3, "b.fits\n", "fitsed: none.fits: read failed\n"),
     # lines that weren't done keep a file from being saved
     (["edit", "-a", "-e", "set 1 OBJECT 'M31'", "-e", "del 1 1", "a.fits", "b.fits"], {"a.fits": EMPTY}, "", 1, "line 2: refused 6 Shape\n", "fitsed: b.fits: not saved: 1 line was not done\n"),
     (["edit", "-a", "-e", "frob", "-e", "del 1 1", "a.fits", "b.fits"], {"a.fits": EMPTY}, "", 1, None, "fitsed: b.fits: not saved: 2 lines were not done\n"),
@@ -177,6 +201,34 @@ ROWS = [
     (["edit", "-ac", "-e", "ins 1 4 bad", "a.fits", "b.fits"], {"a.fits": EMPTY}, "", 1, "+E02 1 4 bad keyword name\n", "fitsed: b.fits: not saved: 1 new error\n"),
     (["edit", "-ci", "-e", "ins 1 4 bad", "a.fits", "b.fits"], {"a.fits": EMPTY, "b.fits": EMPTY}, "", 1, "a.fits:+E02 1 4 bad keyword name\nb.fits:+E02 1 4 bad keyword name\n", "fitsed: a.fits: not saved: 1 new error\nfitsed: b.fits: not saved: 1 new error\n"),
     (["edit", "-c", "-e", "off", "a.fits", "b.fits"], {"a.fits": b"no"}, "", 2, "", "fitsed: open refused O1 NotFits\n"),
+    # the name of IN before answers and faults of one file
+    (["edit", "-H", "-e", "get 1 NAXIS", "-e", "frob", "a.fits", "b.fits"], {"a.fits": EMPTY, "b.fits": EMPTY}, "", 1, "a.fits:integer 0\na.fits:line 2: not a command\n", ""),
+    (["edit", "-H", "-v", "-e", "off 1", "a.fits", "/dev/null"], {"a.fits": EMPTY}, "", 1, "a.fits:line 1: not a command\n", "fitsed: a.fits: line 1: a word too many: 1\n"),
+    (["edit", "-i", "-H", "-e", "get 1 NAXIS", "a.fits"], {"a.fits": EMPTY}, "", 0, "a.fits:integer 0\n", ""),
+    (["edit", "-iH", "-e", "off", "a.fits"], {"a.fits": b"no"}, "", 2, "", "fitsed: a.fits: open refused O1 NotFits\n"),
+    (["edit", "-H", "none.fits", "b.fits"], {}, "", 3, "", "fitsed: none.fits: read failed\n"),
+    # an OUT that stands stays
+    (["edit", "-n", "-e", "get 1 NAXIS", "a.fits", "b.fits"], {"a.fits": EMPTY, "b.fits": STAMP}, "", 2, "", "fitsed: b.fits: stands there\n"),
+    (["edit", "-n", "-e", "get 1 NAXIS", "none.fits", "a.fits"], {"a.fits": EMPTY}, "", 2, "", "fitsed: a.fits: stands there\n"),
+    (["edit", "--no-clobber", "a.fits", "a.fits"], {"a.fits": EMPTY}, "frob\n", 2, "", "fitsed: a.fits: stands there\n"),
+    (["edit", "-n", "-i", "-e", "off", "a.fits"], {"a.fits": EMPTY}, "", 2, "", None),
+    # a path that isn't UTF-8: the others are done
+    (["sum", "a.fits", ODD_NAME, "b.fits"], {"a.fits": EMPTY, ODD_NAME: EMPTY, "b.fits": STAMP}, "", 2, "a.fits:1 0 0 0\nb.fits:1 0 1 1\n", "fitsed: argument 3 is not UTF-8: na\\xefve.fits\n"),
+    (["verify", "-l", "b.fits", "-w", ODD_NAME], {ODD_NAME: EMPTY, "b.fits": DATED}, "", 2, "b.fits\n", "fitsed: argument 5 is not UTF-8: na\\xefve.fits\n"),
+    (["ask", "-e", "get 1 NAXIS", ODD_NAME, "\udcff", "none.fits", "a.fits"], {ODD_NAME: EMPTY, "a.fits": EMPTY}, "", 3, "a.fits:integer 0\n", "fitsed: argument 4 is not UTF-8: na\\xefve.fits\nfitsed: argument 5 is not UTF-8: \\xff\nfitsed: none.fits: read failed\n"),
+    (["edit", "-i", "-e", "get 1 NAXIS", ODD_NAME, "a.fits"], {ODD_NAME: EMPTY, "a.fits": EMPTY}, "", 2, "a.fits:integer 0\n", "fitsed: argument 5 is not UTF-8: na\\xefve.fits\n"),
+    (["sum", "--", f"-{ODD_NAME}", "a.fits"], {"a.fits": EMPTY}, "", 2, "a.fits:1 0 0 0\n", "fitsed: argument 3 is not UTF-8: -na\\xefve.fits\n"),
+    # any other word, and one path alone: nothing is done
+    (["sum", ODD_NAME], {ODD_NAME: EMPTY}, "", 2, "", ODD_WORD),
+    (["sum", "-v", ODD_NAME], {ODD_NAME: EMPTY}, "", 2, "", f"{ODD_WORD}fitsed: argument 3 is not UTF-8: na\\xefve.fits\n"),
+    (["edit", "-i", "-e", "off", ODD_NAME], {ODD_NAME: EMPTY}, "", 2, "", ODD_WORD),
+    (["edit", "-e", "off", "a.fits", ODD_NAME], {"a.fits": EMPTY}, "", 2, "", ODD_WORD),
+    (["edit", "-e", "off", ODD_NAME, "b.fits"], {ODD_NAME: EMPTY}, "", 2, "", ODD_WORD),
+    (["ask", "-e", "off \udcef", "a.fits", "b.fits"], {"a.fits": EMPTY, "b.fits": EMPTY}, "", 2, "", ODD_WORD),
+    (["ask", "-f", ODD_NAME, "a.fits", "b.fits"], {"a.fits": EMPTY, "b.fits": EMPTY}, "", 2, "", ODD_WORD),
+    (["cards", "-k", "\udcef", "a.fits", "b.fits"], {"a.fits": EMPTY, "b.fits": EMPTY}, "", 2, "", ODD_WORD),
+    (["sum", "-\udcef", "a.fits", "b.fits"], {"a.fits": EMPTY, "b.fits": EMPTY}, "", 2, "", ODD_WORD),
+    (["\udcef", "a.fits"], {"a.fits": EMPTY}, "", 2, "", ODD_WORD),
     # words that clap refuses
     (["edit", "-e", "off", "a.fits"], {"a.fits": EMPTY}, "", 2, "", None),
     (["edit", "-e", "off", "a.fits", "b.fits", "c.fits"], {"a.fits": EMPTY}, "", 2, "", None),
@@ -185,6 +237,64 @@ ROWS = [
     (["frob", "a.fits"], {}, "", 2, "", None),
     # a name that begins with a hyphen
     (["sum", "--", "-c"], {"-c": STAMP}, "", 0, "1 0 1 1\n", ""),
+]
+
+# What more is told with -v, or where standard error is a terminal: the words, the files, the status, what is printed, the
+# lines that are reported always, and those that are then.
+NO_FILE = "No such file or directory"
+GZIP = bytes.fromhex("1f8b0800000000000003")
+MORE = [
+    (["sum", "none.fits"], {}, 3, "", "fitsed: read failed\n", f"fitsed: none.fits: {NO_FILE}\n"),
+    (["sum", "a.fits", "none.fits"], {"a.fits": EMPTY}, 3, "a.fits:1 0 0 0\n", "fitsed: none.fits: read failed\n", f"fitsed: none.fits: {NO_FILE}\n"),
+    (["list", ""], {}, 3, "", "fitsed: read failed\n", f"fitsed: : {NO_FILE}\n"),
+    (["list", "."], {}, 3, "", "fitsed: read failed\n", "fitsed: .: Is a directory\n"),
+    (["cards", "a.fits/b.fits"], {"a.fits": EMPTY}, 3, "", "fitsed: read failed\n", "fitsed: a.fits/b.fits: Not a directory\n"),
+    (["stat", "-"], {}, 3, "", "fitsed: read failed\n", f"fitsed: -: {NO_FILE}\n"),
+    (["verify", "-l", "none.fits"], {}, 3, "", "fitsed: none.fits: read failed\n", f"fitsed: none.fits: {NO_FILE}\n"),
+    (["ask", "none.fits"], {}, 3, "", "fitsed: read failed\n", f"fitsed: none.fits: {NO_FILE}\n"),
+    (["ask", "-f", "none", "a.fits"], {"a.fits": EMPTY}, 3, "", "fitsed: read failed\n", f"fitsed: none: {NO_FILE}\n"),
+    (["edit", "-i", "-e", "off", "-f", ".", "a.fits"], {"a.fits": EMPTY}, 3, "", "fitsed: read failed\n", "fitsed: .: Is a directory\n"),
+    (["edit", "-e", "off", "none.fits", "b.fits"], {}, 3, "", "fitsed: read failed\n", f"fitsed: none.fits: {NO_FILE}\n"),
+    # what begins as no FITS file does
+    (["verify", "a.fits.gz"], {"a.fits.gz": GZIP}, 2, "", "fitsed: open refused O1 NotFits\n", "fitsed: a.fits.gz: compressed by gzip: gzip -dc a.fits.gz | fitsed verify /dev/stdin\n"),
+    (["edit", "-i", "-e", "off", "a.fits.gz"], {"a.fits.gz": GZIP}, 2, "", "fitsed: open refused O1 NotFits\n", "fitsed: a.fits.gz: compressed by gzip: gzip -dc a.fits.gz | fitsed edit /dev/stdin OUT\n"),
+    (["list", "a.fits"], {"a.fits": b""}, 2, "", "fitsed: open refused O1 NotFits\n", "fitsed: a.fits: the file is empty\n"),
+    (["list", "a.fits"], {"a.fits": b"no"}, 2, "", "fitsed: open refused O1 NotFits\n", ""),
+    # where a file goes wrong, and what is there
+    (["sum", "a.fits"], {"a.fits": IMAGES[:-2880]}, 2, "", "fitsed: open refused O4 ShortData hdu 2\n", "fitsed: a.fits: hdu 2: 2880 bytes described, 0 there\n"),
+    (["sum", "a.fits"], {"a.fits": IMAGES[:-1]}, 2, "", "fitsed: open refused O4 ShortData hdu 2\n", "fitsed: a.fits: hdu 2: 2880 bytes described, 2879 there\n"),
+    (["list", "a.fits"], {"a.fits": CUT}, 2, "", "fitsed: open refused O2 NoEnd hdu 2\n", "fitsed: a.fits: hdu 2: no END in the 2880 bytes from byte 2880 on\n"),
+    (["list", "a.fits"], {"a.fits": CUT[:4000]}, 2, "", "fitsed: open refused O2 NoEnd hdu 2\n", "fitsed: a.fits: hdu 2: no END in the 1120 bytes from byte 2880 on\n"),
+    (["list", "a.fits"], {"a.fits": SHAPELESS}, 2, "", "fitsed: open refused O3 BadShape hdu 2 card 2\n", "fitsed: a.fits: hdu 2 card 2: BITPIX is wanted, there is BITPIX  = 9\n"),
+    (["list", "a.fits"], {"a.fits": NO_AXIS}, 2, "", "fitsed: open refused O3 BadShape hdu 1 card 4\n", "fitsed: a.fits: hdu 1 card 4: NAXIS1 is wanted, there is OBJECT  = 'M31'\n"),
+    (["list", "a.fits"], {"a.fits": NO_NAXIS}, 2, "", "fitsed: open refused O3 BadShape hdu 1 card 3\n", "fitsed: a.fits: hdu 1 card 3: NAXIS is wanted, there is END\n"),
+    (["list", "a.fits"], {"a.fits": BAD_COUNT}, 2, "", "fitsed: open refused O3 BadShape hdu 2 card 5\n", "fitsed: a.fits: hdu 2 card 5: GCOUNT is wanted, there is GCOUNT  = 'x'\n"),
+    # numbers that stand for others; not those of unsigned integers
+    (["stat", "a.fits"], {"a.fits": SCALED}, 0, "1 defined 3 blank 0 min 1 max 1029 sum 1545\n", "", "fitsed: hdu 1: stored numbers: BSCALE 0.5, BZERO 1500.0\n"),
+    (["stat", "-H", "a.fits"], {"a.fits": SCALED}, 0, "a.fits:1 defined 3 blank 0 min 1 max 1029 sum 1545\n", "", "fitsed: a.fits: hdu 1: stored numbers: BSCALE 0.5, BZERO 1500.0\n"),
+    (["stat", "a.fits"], {"a.fits": UNSIGNED}, 0, "1 defined 3 blank 0 min 32769 max 33797 sum 99849\n", "", ""),
+    (["ask", "-e", "rect 1 1:1", "a.fits", "b.fits"], {"a.fits": SCALED, "b.fits": EMPTY}, 1, "a.fits:1\nb.fits:line 1: refused 9 NotImage\n", "", None),
+    (["ask", "-e", "get 1 NAXIS", "-e", "stat 1", "a.fit"], {"a.fit": SCALED}, 0, "integer 1\ndefined 3 blank 0 min 1 max 1029 sum 1545\n", "", "fitsed: hdu 1: stored numbers: BSCALE 0.5, BZERO 1500.0\n"),
+    (["ask", "-e", "get 1 NAXIS", "a.fits"], {"a.fits": SCALED}, 0, "integer 1\n", "", ""),
+    (["edit", "-i", "-e", "fill 1 1:1 1", "a.fits"], {"a.fits": SCALED}, 0, "", "", "fitsed: hdu 1: stored numbers: BSCALE 0.5, BZERO 1500.0\n"),
+    (["list", "a.fits"], {"a.fits": SCALED}, 0, "hdu 1 PRIMARY bitpix 16 axes 3 cards 6 at 0 2880 5760\n", "", ""),
+    # what is saved: over another file, over IN, as a new file, as one with an odd name
+    (["edit", "-e", "off", "a.fits", "b.fits"], {"a.fits": EMPTY, "b.fits": EMPTY}, 0, "1 0 2880 2880\n", "", "fitsed: b.fits: replaced\n"),
+    (["edit", "-e", "off", "a.fits", "a.fits"], {"a.fits": EMPTY}, 0, "1 0 2880 2880\n", "", ""),
+    (["edit", "-i", "-e", "off", "a.fits"], {"a.fits": EMPTY}, 0, "1 0 2880 2880\n", "", ""),
+    (["edit", "-e", "off", "a.fits", "/dev/null"], {"a.fits": EMPTY}, 0, "1 0 2880 2880\n", "", ""),
+    (["edit", "-a", "-e", "del 1 9", "a.fits", "b.fits"], {"a.fits": EMPTY, "b.fits": EMPTY}, 1, "line 1: refused 2 NoCard\n", "fitsed: b.fits: not saved: 1 line was not done\n", None),
+    (["sum", "-H", "a.fits"], {"a.fits": EMPTY}, 0, "a.fits:1 0 0 0\n", "", ""),
+]
+
+# The same where lines of a script aren't done: why is told with -v, and on a terminal that it is.
+UNDONE = [
+    (["ask", "-e", "off 1", "a.fits"], {"a.fits": EMPTY}, 1, "line 1: not a command\n", "fitsed: 1 line was not done: -v says why\n"),
+    (["ask", "-e", "off 1", "-e", "frob", "-e", "del 1 9", "a.fits"], {"a.fits": EMPTY}, 1, "line 1: not a command\nline 2: not a command\nline 3: refused 2 NoCard\n", "fitsed: 3 lines were not done: -v says why\n"),
+    (["ask", "-e", "off 1", "a.fits", "b.fits"], {"a.fits": EMPTY, "b.fits": EMPTY}, 1, "a.fits:line 1: not a command\nb.fits:line 1: not a command\n", "fitsed: 2 lines were not done: -v says why\n"),
+    (["edit", "-i", "-a", "-e", "off 1", "a.fits"], {"a.fits": EMPTY}, 1, "line 1: not a command\n", "fitsed: a.fits: not saved: 1 line was not done\nfitsed: 1 line was not done: -v says why\n"),
+    (["ask", "-e", "off", "a.fits"], {"a.fits": EMPTY}, 0, "1 0 2880 2880\n", ""),
+    (["ask", "-v", "-e", "off 1", "a.fits"], {"a.fits": EMPTY}, 1, "line 1: not a command\n", "fitsed: line 1: a word too many: 1\n"),
 ]
 
 # A line of a script over the three pixels of IMAGES, its answer, and what `edit -v` says of it.
@@ -286,6 +396,14 @@ def cases():
         yield f"sum -H {name!r}", run, ["sum", "-H", name], {name: EMPTY}, "", 0, printed, ""
         words = ["edit", "-i", "-e", SET, name]
         yield f"edit -i {name!r}", changes, words, {name: EMPTY}, 0, {name: TOLD}
+    for words, files, status, printed, reported, more in MORE:
+        title = " ".join(words)
+        yield title, run, words, files, "", status, printed, reported
+        if more is not None:
+            yield f"{title}, with -v", run, [words[0], "-v", *words[1:]], files, "", status, printed, reported + more
+            yield f"{title}, on a terminal", on_terminal, words, files, status, printed, reported + more
+    for words, files, status, printed, reported in UNDONE:
+        yield f"{' '.join(words)}, on a terminal", on_terminal, words, files, status, printed, reported
     yield "ask answers a terminal line by line", typed_in
     for path in public_files():
         yield f"cards {path} beside CFITSIO", beside_cfitsio, path
@@ -296,7 +414,7 @@ def run(program, words, files, script, status, printed, reported):
     ran, after = program.over(words, files, script.encode("latin-1"))
     wanted = {"status": status}
     wanted |= {} if printed is None else {"printed": printed.encode("latin-1")}
-    wanted |= {} if reported is None else {"reported": reported.encode("latin-1")}
+    wanted |= {} if reported is None else {"reported": reported.encode()}
     yield from differences(ran, **wanted)
     if after != files:
         yield f"the files are {sorted(after)}, or have other bytes"
@@ -309,6 +427,21 @@ def changes(program, words, files, status, wanted):
     for name in sorted(after.keys() | files.keys() | wanted.keys()):
         if after.get(name) != wanted.get(name, files.get(name)):
             yield f"{name!r} has {after.get(name)!r:.200}"
+
+
+def on_terminal(program, words, files, status, printed, reported):
+    """Where words over these files print something else, or tell a terminal something else, or end otherwise."""
+    with program.room(files) as room:
+        ours, theirs = pty.openpty()
+        ran = subprocess.run([program.path, *words], cwd=room, stdin=subprocess.DEVNULL, stdout=subprocess.PIPE, stderr=theirs, timeout=60)
+        os.close(theirs)
+        told = b""
+        with contextlib.suppress(OSError):
+            while piece := os.read(ours, 65536):
+                told += piece
+        os.close(ours)
+    found = Ran(ran.returncode, ran.stdout, told.replace(b"\r\n", b"\n"), None)
+    yield from differences(found, status=status, printed=printed.encode("latin-1"), reported=reported.encode("latin-1"))
 
 
 def typed_in(program):

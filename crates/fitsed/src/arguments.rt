@@ -1,8 +1,8 @@
 //! The words that the command line takes, as clap reads them.
 use crate::form::Form;
 use crate::help::{
-    ABOUT, ASK, CARDS, EDIT, FOUND, LINES, LIST, LISTED, SHOWN, STAT, STATED, STATUSES, SUM,
-    SUMMED, VERIFY, VERSION,
+    ABOUT, ASK, CARDS, EDIT, EDIT_USAGE, FOUND, LINES, LIST, LISTED, SHOWN, STAT, STATED, STATUSES,
+    SUM, SUMMED, VERIFY, VERSION, WHY_FILES, WHY_LINES,
 };
 use crate::word::Word;
 use clap::Command;
@@ -15,10 +15,12 @@ const EDITS: Form = Form {
     name: "edit",
     about: EDIT,
     help: LINES,
+    usage: Some(EDIT_USAGE),
     words: &[
         Word::Line,
         Word::File,
-        Word::Verbose,
+        Word::Verbose(WHY_LINES),
+        Word::Named,
         Word::Flag("all", 'a', "Save nothing unless every line is done"),
         Word::Flag(
             "check",
@@ -30,6 +32,18 @@ const EDITS: Form = Form {
             'i',
             "Edit IN, and each further file, where it stands; there is no OUT",
         ),
+        Word::Flag(
+            "sums",
+            's',
+            "Keep sums right that are right, and leave wrong ones as they are",
+        ),
+        Word::NoClobber,
+        Word::Flag(
+            "safe",
+            'S',
+            "Save nothing where what stands at OUT can't stay whole until all is saved",
+        ),
+        Word::Backup,
         Word::In,
         Word::Out,
         Word::More,
@@ -40,10 +54,11 @@ const ASKS: Form = Form {
     name: "ask",
     about: ASK,
     help: LINES,
+    usage: None,
     words: &[
         Word::Line,
         Word::File,
-        Word::Verbose,
+        Word::Verbose(WHY_LINES),
         Word::Named,
         Word::Files,
     ],
@@ -53,21 +68,31 @@ const SHOWS: Form = Form {
     name: "cards",
     about: CARDS,
     help: SHOWN,
-    words: &[Word::Named, Word::Files, Word::Hdu, Word::Name],
+    usage: None,
+    words: &[
+        Word::Verbose(WHY_FILES),
+        Word::Named,
+        Word::Files,
+        Word::Hdu,
+        Word::Name,
+    ],
 };
 
 const LISTS: Form = Form {
     name: "list",
     about: LIST,
     help: LISTED,
-    words: &[Word::Named, Word::Files],
+    usage: None,
+    words: &[Word::Verbose(WHY_FILES), Word::Named, Word::Files],
 };
 
 const SUMS: Form = Form {
     name: "sum",
     about: SUM,
     help: SUMMED,
+    usage: None,
     words: &[
+        Word::Verbose(WHY_FILES),
         Word::Named,
         Word::Files,
         Word::Flag(
@@ -82,14 +107,17 @@ const STATES: Form = Form {
     name: "stat",
     about: STAT,
     help: STATED,
-    words: &[Word::Named, Word::Files],
+    usage: None,
+    words: &[Word::Verbose(WHY_FILES), Word::Named, Word::Files],
 };
 
 const VERIFIES: Form = Form {
     name: "verify",
     about: VERIFY,
     help: FOUND,
+    usage: None,
     words: &[
+        Word::Verbose(WHY_FILES),
         Word::Named,
         Word::Files,
         Word::Flag("errors", 'e', "List errors alone"),

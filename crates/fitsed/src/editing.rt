@@ -1,262 +1,281 @@
 //! Files that are edited.
-use crate::files::{is_stored, mode_of, source_of};
+use crate::detail::Detail;
+use crate::edit_runs::{run_on, run_on_stored};
+use crate::explaining::INPUT;
+use crate::files::{Standing, is_stored, mode_of, source_of, standing_at};
 use crate::piece::{Piece, script_of};
 use crate::remarks::{before_remarks, remarks_after};
-use crate::reporting::{ends_all, report_new_errors, report_undone, reported, reported_of};
-use crate::task::Terms;
-use fits_cli::{
-    CheckedEnd, End, Fault, SavedFile, Terms as RunTerms, WholeEnd, run_edit_checked,
-    run_edit_checked_stored, run_edit_stored, run_edit_told, run_edit_whole, run_edit_whole_stored,
+use crate::reporting::{
+    NOT_TAKEN, report_beside, report_left_over, report_made_hyphen, report_new_errors,
+    report_replaced, report_undone, reported, reported_oddity, reported_of, reported_save,
+    reported_script,
 };
-use fits_stream::{FailedReads, NamedLines, Sink, Source, Stored, Watched};
-use std::alloc::Global;
+use crate::saved_end::SavedEnd;
+use crate::scaled::{has_pixel_line, tell_scaled};
+use crate::subject::Subject;
+use crate::task::{Inputs, SavingTerms};
+use crate::words::oddity_of;
+use crate::wrong_sums::tell_wrong_sums;
+use fits_cli::{CheckedEnd, Fault, Terms};
+use fits_save::{Place, SaveFault, SavedFile, Seen, System};
+use fits_stream::{NamedLines, Sink, Source, Watched};
 use std::fs::File;
-use std::io::{BufWriter, Stderr, Write};
+use std::io::{BufWriter, Write};
 use std::rt::Files;
 use std::{fs, io};
 
-// The terms of every run.
-const PLAIN: RunTerms = RunTerms {
-    sums: false,
-    spare: false,
-};
-
-/// Where a file is read from and saved to, and whether it is told apart from others.
+/// A file that is edited, and where it is saved to.
 #[derive(Clone, Copy)]
-struct Paths<'p> {
-    from: &'p str,
+struct FilePair<'p> {
+    subject: Subject<'p>,
     to: &'p str,
-    named: bool,
 }
 
-/// Edits the file at `from`; the result goes to `to`. With no pieces the script is standard input,
-/// answered as it comes. Remarks on lines that aren't done go to `told`.
+/// Edits the file that is told of; the result goes to `to`. With no pieces the script is standard
+/// input, answered as it comes.
 pub fn edit<R: Files<File = File> + Input + Print + Eprint + AllocGlobal>(
     rt: &R,
     script: &[Piece<'_>],
-    from: &str,
+    subject: Subject<'_>,
     to: &str,
-    terms: Terms,
-    told: Option<Stderr>,
+    terms: SavingTerms<'_>,
 ) -> u8 {
+    if terms.fresh && fs::symlink_metadata(rt, to).is_ok() {
+        let _ = eprintln!(rt; "fitsed: {to}: stands there");
+        return NOT_TAKEN;
+    }
     let Ok(mut out) = BufWriter::new(rt.alloc(), io::writer(rt)) else {
         return reported(rt, Fault::Memory);
     };
-    let mut out = Watched::new(&mut out);
-    let paths = Paths {
-        from,
-        to,
-        named: false,
-    };
-    let done = if script.is_empty() {
+    let at = FilePair { subject, to };
+    if script.is_empty() {
         let mut lines = Watched::new(rt.reader());
-        edited(rt, paths, terms, told, &mut lines, &mut out)
-    } else {
-        match script_of(rt, script) {
-            Ok(text) => edited(rt, paths, terms, told, &mut text.as_slice(), &mut out),
-            Err(fault) => return reported(rt, fault),
+        let done = named_edited(rt, at, terms, &mut lines, &mut out);
+        return status_of(rt, at, terms, INPUT, &done);
+    }
+    match script_of(rt, script) {
+        Ok(text) => {
+            tell_values(rt, subject, &text);
+            let done = named_edited(rt, at, terms, &mut text.as_slice(), &mut out);
+            status_of(rt, at, terms, subject.name, &done)
         }
-    };
-    status_of(rt, to, false, done)
+        Err(why) => reported_script(rt, subject.detail, why),
+    }
 }
 
 /// Edits each file where it stands, by the same script. The status is the greatest.
 pub fn edit_in_place<R: Files<File = File> + Input + Print + Eprint + AllocGlobal>(
     rt: &R,
     script: &[Piece<'_>],
-    paths: &[&str],
-    terms: Terms,
-    told: Option<Stderr>,
+    files: Inputs<'_, '_>,
+    terms: SavingTerms<'_>,
+    detail: Detail<'_>,
 ) -> u8 {
     let text = match script_of(rt, script) {
         Ok(text) => text,
-        Err(fault) => return reported(rt, fault),
+        Err(why) => return reported_script(rt, detail, why),
     };
     let Ok(mut out) = BufWriter::new(rt.alloc(), io::writer(rt)) else {
         return reported(rt, Fault::Memory);
     };
-    let named = paths.len() > 1;
     let mut status = 0;
-    for path in paths {
-        let at = Paths {
-            from: path,
-            to: path,
-            named,
+    for path in files.paths {
+        if let Some(oddity) = oddity_of(path) {
+            status = status.max(reported_oddity(rt, oddity));
+            continue;
+        }
+        let subject = Subject {
+            name: path,
+            named: files.named,
+            detail,
         };
-        let done = edited_in_place(rt, at, terms, told, text.as_slice(), &mut out);
-        let fault = done.end.fault;
-        status = status.max(status_of(rt, path, named, done));
-        if fault.is_some_and(ends_all) {
+        let at = FilePair { subject, to: path };
+        tell_values(rt, subject, &text);
+        let done = named_edited(rt, at, terms, &mut text.as_slice(), &mut out);
+        status = status.max(status_of(rt, at, terms, path, &done));
+        if done.ends_all() {
             return status;
         }
     }
     status
 }
 
-// Edits one file where it stands.
-fn edited_in_place<R: Files<File = File> + AllocGlobal, W: Write>(
+// Tells of a file whose pixels a script is about that they are stored numbers, where they stand for
+// others.
+fn tell_values<R: Files<File = File> + Eprint + AllocGlobal>(
     rt: &R,
-    paths: Paths<'_>,
-    terms: Terms,
-    told: Option<Stderr>,
+    subject: Subject<'_>,
     script: &[u8],
-    out: &mut W,
-) -> CheckedEnd {
-    let mut script = script;
-    let out = Watched::new(out);
-    if !paths.named {
-        let mut out = out;
-        return edited(rt, paths, terms, told, &mut script, &mut out);
+) {
+    if subject.detail.tells() && has_pixel_line(script) {
+        tell_scaled(rt, subject);
     }
-    let Ok(name) = format!(in rt.alloc(); "{}:", paths.from) else {
-        return ended(End::from(Fault::Memory));
+}
+
+// Edits a file, with its name before each answer where it is told apart.
+fn named_edited<R: Files<File = File> + Eprint + AllocGlobal, S: Source, W: Write>(
+    rt: &R,
+    at: FilePair<'_>,
+    terms: SavingTerms<'_>,
+    script: &mut S,
+    out: &mut W,
+) -> SavedEnd {
+    let mut out = Watched::new(out);
+    if !at.subject.named {
+        return edited(rt, at, terms, script, &mut out);
+    }
+    let Ok(name) = format!(in rt.alloc(); "{}:", at.subject.name) else {
+        return SavedEnd::from(Fault::Memory);
     };
     let mut out = NamedLines::new(out, name.as_bytes());
-    edited(rt, paths, terms, told, &mut script, &mut out)
+    edited(rt, at, terms, script, &mut out)
 }
 
 // Edits a file, and keeps the result where it is to be.
-fn edited<R: Files<File = File> + AllocGlobal, S: Source, O: Sink>(
+fn edited<R: Files<File = File> + Eprint + AllocGlobal, S: Source, O: Sink>(
     rt: &R,
-    paths: Paths<'_>,
-    terms: Terms,
-    told: Option<Stderr>,
+    at: FilePair<'_>,
+    terms: SavingTerms<'_>,
     script: &mut S,
     out: &mut O,
-) -> CheckedEnd {
-    let Ok(file) = fs::open(rt, paths.from) else {
-        return ended(End::from(Fault::ReadFailed));
+) -> SavedEnd {
+    let Ok(file) = fs::open(rt, at.subject.name) else {
+        return SavedEnd::from(Fault::ReadFailed);
     };
-    let Ok(before) = before_remarks(rt.alloc(), told, paths.to, paths.named) else {
-        return ended(End::from(Fault::Memory));
+    let Ok(before) = before_remarks(rt.alloc(), at.subject) else {
+        return SavedEnd::from(Fault::Memory);
     };
-    let Ok(mut told) = remarks_after(rt.alloc(), told, &before) else {
-        return ended(End::from(Fault::Memory));
+    let Ok(mut told) = remarks_after(rt.alloc(), at.subject, &before) else {
+        return SavedEnd::from(Fault::Memory);
     };
-    let Ok(mut saved) = SavedFile::new(rt, paths.to, mode_of(&file)) else {
-        return ended(End::from(Fault::Memory));
+    let Ok(place) = System::new(rt, at.to, mode_of(&file), Seen::of(&file), terms.saving) else {
+        return SavedEnd::from(Fault::Memory);
     };
-    let stays = is_stored(&file) && saved.spares();
+    let mut saved = SavedFile::at(place, terms.saving.safe);
+    let spares = (is_stored(&file) || terms.asks_first()) && saved.spares();
+    if let Some(fault) = refusal_of(&saved, terms, spares) {
+        return SavedEnd::refused(fault);
+    }
     let Ok(saved) = BufWriter::new(rt.alloc(), saved) else {
-        return ended(End::from(Fault::Memory));
+        return SavedEnd::from(Fault::Memory);
+    };
+    if terms.sums && at.subject.detail.tells() {
+        tell_wrong_sums(rt, at.subject);
+    }
+    let there = standing_at(rt, at.to, &file);
+    let of_run = Terms {
+        sums: terms.sums,
+        spare: matches!(there, Standing::Same),
     };
     let mut saved = Watched::new(saved);
     let alloc = rt.alloc();
-    let done = if stays {
-        run_on_stored(alloc, terms, &file, script, &mut saved, out, &mut told)
+    let done = if is_stored(&file) && spares {
+        run_on_stored(
+            alloc, terms, of_run, &file, script, &mut saved, out, &mut told,
+        )
     } else {
-        let mut source = source_of(file);
+        let mut file = source_of(file);
         run_on(
-            alloc,
-            terms,
-            &mut source,
-            script,
-            &mut saved,
-            out,
-            &mut told,
+            alloc, terms, of_run, &mut file, script, &mut saved, out, &mut told,
         )
     };
-    kept(saved.into_inner(), done)
+    finished(rt, at, there, saved.into_inner(), done)
 }
 
-// The run that has these terms.
-fn run_on<F: Source, S: Source, P: Sink, O: Sink, E: Sink>(
-    alloc: Global,
-    terms: Terms,
-    file: &mut F,
-    script: &mut S,
-    saved: &mut P,
-    out: &mut O,
-    told: &mut Option<E>,
-) -> CheckedEnd {
-    if terms.checked {
-        return run_edit_checked(alloc, PLAIN, terms.whole, file, script, saved, out, told);
+// Why a result can't be saved as is wanted, if it is asked before the run.
+fn refusal_of<R: Files<File = File>>(
+    saved: &SavedFile<System<'_, R>>,
+    terms: SavingTerms<'_>,
+    spares: bool,
+) -> Option<SaveFault> {
+    if !terms.asks_first() {
+        return None;
     }
-    if terms.whole {
-        let WholeEnd { end, undone } = run_edit_whole(alloc, PLAIN, file, script, saved, out, told);
-        return CheckedEnd {
-            undone,
-            ..ended(end)
-        };
-    }
-    ended(run_edit_told(alloc, PLAIN, file, script, saved, out, told))
+    saved.place().refusal(terms.saving, spares)
 }
 
-// The same over a regular file, the data of which stay in it until they are wanted.
-fn run_on_stored<F: Stored, S: Source, P: Sink, O: Sink, E: Sink>(
-    alloc: Global,
-    terms: Terms,
-    file: &F,
-    script: &mut S,
-    saved: &mut P,
-    out: &mut O,
-    told: &mut Option<E>,
-) -> CheckedEnd {
-    let failed = &mut FailedReads::none();
-    if terms.checked {
-        return run_edit_checked_stored(
-            alloc,
-            PLAIN,
-            terms.whole,
-            file,
-            failed,
-            script,
-            saved,
-            out,
-            told,
-        );
+// Ends the saving, and tells of it.
+fn finished<R: Files<File = File> + Eprint>(
+    rt: &R,
+    at: FilePair<'_>,
+    there: Standing,
+    saved: BufWriter<SavedFile<System<'_, R>>>,
+    done: CheckedEnd,
+) -> SavedEnd {
+    let met = saved.get_ref().place().met();
+    let done = SavedEnd {
+        met,
+        ..kept(saved, done)
+    };
+    if at.subject.detail.tells() {
+        tell_saved(rt, at.to, there, &done);
     }
-    if terms.whole {
-        let WholeEnd { end, undone } = run_edit_whole_stored(
-            alloc, PLAIN, file, failed, script, saved, out, told,
-        );
-        return CheckedEnd {
-            undone,
-            ..ended(end)
-        };
-    }
-    ended(run_edit_stored(alloc, PLAIN, file, failed, script, saved, out, told))
+    done
 }
 
-// The end of a run of which neither lines nor errors keep the file from being saved.
-fn ended(end: End) -> CheckedEnd {
-    CheckedEnd {
-        end,
-        undone: 0,
-        new_errors: 0,
+// Tells of a file that was saved what someone who typed a word too few would want to know, and what
+// broken runs left.
+fn tell_saved<R: Eprint>(rt: &R, to: &str, there: Standing, done: &SavedEnd) {
+    if done.met > 0 {
+        report_left_over(rt, to, done.met);
+    }
+    if !done.is_saved() {
+        return;
+    }
+    match there {
+        Standing::Other => report_replaced(rt, to),
+        Standing::Nothing if to == "-" => report_made_hyphen(rt),
+        _ => {}
     }
 }
 
-// Keeps what was saved, where all was; else the file that was there before stays.
-fn kept<R: Files>(saved: BufWriter<SavedFile<'_, R>>, done: CheckedEnd) -> CheckedEnd {
-    if let Some(Fault::Reread(_)) = done.end.fault {
-        if let Ok(saved) = saved.into_inner() {
-            saved.undo();
-        }
-        return done;
-    }
+// Keeps what was saved, where all was; else what stood there stays as it was.
+fn kept<P: Place + Drop>(saved: BufWriter<SavedFile<P>>, done: CheckedEnd) -> SavedEnd {
     if done.end.fault.is_some() || done.undone > 0 || done.new_errors > 0 {
-        return done;
+        let fault = saved.get_ref().fault();
+        return SavedEnd {
+            done,
+            fault,
+            met: 0,
+        };
     }
-    let Ok(saved) = saved.into_inner() else {
-        return ended(End::from(Fault::WriteFailed));
+    let Ok(mut saved) = saved.into_inner() else {
+        return SavedEnd::from(Fault::WriteFailed);
     };
     match saved.keep() {
-        Ok(()) => done,
-        Err(_) => ended(End::from(Fault::WriteFailed)),
+        Ok(()) => SavedEnd {
+            done,
+            fault: None,
+            met: 0,
+        },
+        Err(fault) => SavedEnd::refused(fault),
     }
 }
 
 // Tells standard error what kept a file from being saved, and gives the status.
-fn status_of<R: Eprint>(rt: &R, name: &str, named: bool, done: CheckedEnd) -> u8 {
+fn status_of<R: Files<File = File> + Eprint + AllocGlobal>(
+    rt: &R,
+    at: FilePair<'_>,
+    terms: SavingTerms<'_>,
+    other: &str,
+    ended: &SavedEnd,
+) -> u8 {
+    let done = ended.done;
     if done.undone > 0 {
-        report_undone(rt, name, done.undone);
+        report_undone(rt, at.to, done.undone);
     }
     if done.new_errors > 0 {
-        report_new_errors(rt, name, done.new_errors);
+        report_new_errors(rt, at.to, done.new_errors);
+    }
+    if let Some(fault) = ended.fault {
+        let status = reported_save(rt, at.subject, at.to, terms.saving, fault);
+        if let (SaveFault::InPart(_), true) = (fault, at.subject.detail.tells()) {
+            report_beside(rt, at.to, ended.met);
+        }
+        return status;
     }
     match done.end.fault {
-        Some(fault) => reported_of(rt, name, named, fault),
+        Some(fault) => reported_of(rt, at.subject, other, fault),
         None => done.end.status,
     }
 }

@@ -9,6 +9,8 @@ pub struct Form {
     pub name: &'static str,
     pub about: &'static str,
     pub help: &'static str,
+    /// How it is typed, where clap wouldn't say it.
+    pub usage: Option<&'static str>,
     pub words: &'static [Word],
 }
 
@@ -18,6 +20,9 @@ impl Form {
         let mut command = Command::new(alloc, self.name)
             .about(self.about)
             .after_help(self.help);
+        if let Some(usage) = self.usage {
+            command = command.override_usage(usage);
+        }
         for word in self.words {
             command = command.arg(word.arg(alloc)?)?;
         }

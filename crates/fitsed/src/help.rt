@@ -2,9 +2,18 @@
 
 pub(crate) const VERSION: &str = "0.1.0";
 
-pub(crate) const ABOUT: &str = "Edits, lists, sums and verifies FITS files";
+pub(crate) const ABOUT: &str =
+    "Edits headers, integer pixels and checksums of FITS files, and verifies them";
 
 pub(crate) const EDIT: &str = "Edits a file by the lines of a script";
+
+pub(crate) const EDIT_USAGE: &str = "fitsed edit [OPTIONS] <IN> <OUT>
+       fitsed edit -i [OPTIONS] <FILE>...";
+
+pub(crate) const WHY_LINES: &str =
+    "Say more on standard error: why a line isn't done, which file failed, and why";
+
+pub(crate) const WHY_FILES: &str = "Say more on standard error: which file failed, and why";
 
 pub(crate) const ASK: &str = "Answers the lines of a script, and saves nothing";
 
@@ -69,6 +78,8 @@ fitsed(1) has the codes.";
 
 pub(crate) const STATED: &str =
     "Each line: HDU defined D blank B min X max Y sum S, or HDU - where it is no image of integers
+  Values are the stored numbers, with the offset of unsigned integers and signed bytes; other
+  BSCALE and BZERO aren't applied.
 
 Exit status:
   0  done
@@ -112,6 +123,8 @@ pub(crate) const LINES: &str = "Lines of the script, words separated by one spac
   off                  print where each HDU begins, its data begin, and it ends
   rep                  print what is wrong, and count it
   # text               nothing; so does an empty line
+Values of pixels are the stored numbers, with the offset of unsigned integers and signed bytes;
+other BSCALE and BZERO aren't applied.
 
 Exit status:
   0  done
@@ -120,4 +133,4 @@ Exit status:
   2  a wrong command line, a file that doesn't open, or a script that is too long
   3  a file or stream can't be read or written, or memory ran out
 
-fitsed(1) says when a line is refused.";
+fitsed(1) says when a line is refused, and how OUT is written.";

@@ -2,60 +2,84 @@
 #![tactic(auto)]
 
 mod arguments;
+mod detail;
+mod edit_runs;
 mod editing;
+mod explaining;
 mod files;
 mod form;
 mod help;
+mod noted;
 mod piece;
 mod reading;
 mod remarks;
 mod reporting;
+mod saved_end;
+mod scaled;
+mod subject;
 mod task;
+mod unopened;
 mod word;
+mod words;
+mod wrong_sums;
 
 use arguments::command;
-use clap::Error;
 use clap::error::ErrorKind;
+use clap::{ArgMatches, Error};
+use detail::Detail;
 use editing::{edit, edit_in_place};
 use fits_cli::Fault;
 use reading::{Job, ask, each, name};
-use reporting::reported;
-use std::alloc::AllocError;
+use reporting::{NOT_TAKEN, report_untold, reported, reported_odd_word};
+use std::cell::Cell;
+use std::fs;
 use std::fs::File;
-use std::io::Stderr;
+use std::io::IsTerminal;
 use std::process::ExitCode;
 use std::rt::Files;
-use std::{env, fs, io};
-use task::{Task, TaskFault, task_of};
+use subject::Subject;
+use task::{Inputs, Task, TaskFault, task_of};
+use words::{oddity_of, words};
+
+/// How many characters a keyword name has at most.
+const NAME_LEN: usize = 8;
 
 fn main(rt: HostRuntime) -> ExitCode {
     // A stream that was closed when the program started: this takes its place, so that no file that
     // is opened does. It can be neither read as a file nor written.
     let _held = [fs::open(&rt, "/"), fs::open(&rt, "/"), fs::open(&rt, "/")];
-    let args = match env::args(&rt) {
-        Ok(args) => args,
-        Err(error) => return ExitCode::from(unreadable(&rt, error)),
-    };
-    let Ok(words): Result<Vec<String>, AllocError> = args.collect(rt.alloc()) else {
+    let Ok(words) = words(&rt) else {
         return ExitCode::from(reported(&rt, Fault::Memory));
     };
     let Ok(command) = command(rt.alloc()) else {
         return ExitCode::from(reported(&rt, Fault::Memory));
     };
-    let matches = match command.try_get_matches_from(words.as_slice()) {
-        Ok(matches) => matches,
-        Err(error) => return ExitCode::from(usage(&rt, error)),
-    };
-    ExitCode::from(match task_of(rt.alloc(), &matches) {
-        Ok(task) => status_of(&rt, rt.stderr(), task),
-        Err(why) => unsettled(&rt, why),
+    ExitCode::from(match command.try_get_matches_from(words.as_slice()) {
+        Ok(matches) => asked(&rt, &words, &matches),
+        Err(error) => usage(&rt, &words, error),
     })
 }
 
-// Does a task, and gives its status. Remarks that are wanted go to standard error.
+// Does what words ask for, and gives its status.
+fn asked(rt: &HostRuntime, words: &[String], matches: &ArgMatches<'_>) -> u8 {
+    let undone = Cell::new(0);
+    let (command, verbose) = match matches.subcommand() {
+        Some((name, of_command)) => (name, of_command.get_flag("verbose")),
+        None => ("", false),
+    };
+    let detail = Detail::of(command, rt.stderr(), verbose, &undone);
+    let status = match task_of(rt.alloc(), matches) {
+        Ok(task) => status_of(rt, detail, task),
+        Err(why) => unsettled(rt, words, detail, why),
+    };
+    report_untold(rt, detail.untold());
+    status
+}
+
+// Does a task, and gives its status.
 fn status_of<R: Files<File = File> + Input + Print + Eprint + AllocGlobal>(
     rt: &R,
-    errors: Stderr,
+    detail: Detail<'_>,
     task: Task<'_, '_>,
 ) -> u8 {
     match task {
@@ -63,61 +87,70 @@ fn status_of<R: Files<File = File> + Input + Print + Eprint + AllocGlobal>(
             script,
             from,
             to,
+            named,
             terms,
-            verbose,
-        } => edit(rt, &script, from, to, terms, verbose.then_some(errors)),
+        } => {
+            let subject = Subject {
+                name: from,
+                named,
+                detail,
+            };
+            edit(rt, &script, subject, to, terms)
+        }
         Task::EditInPlace {
             script,
             paths,
+            named,
             terms,
-            verbose,
-        } => edit_in_place(rt, &script, &paths, terms, verbose.then_some(errors)),
-        Task::Ask {
-            script,
-            files,
-            verbose,
-        } => ask(rt, &script, files, verbose.then_some(errors)),
-        Task::Show { choice, files } => each(rt, Job::Show(&choice), files),
-        Task::Tell { telling, files } => each(rt, Job::Tell(telling), files),
-        Task::Name { telling, files } => name(rt, telling, files),
+        } => {
+            let files = Inputs {
+                paths: &paths,
+                named,
+            };
+            edit_in_place(rt, &script, files, terms, detail)
+        }
+        Task::Ask { script, files } => ask(rt, &script, files, detail),
+        Task::Show { choice, files } => each(rt, Job::Show(&choice), files, detail),
+        Task::Tell { telling, files } => each(rt, Job::Tell(telling), files, detail),
+        Task::Name { telling, files } => name(rt, telling, files, detail),
     }
 }
 
 // Explains words that clap takes and that ask for nothing. They end with 2 whether that can be
 // written or not.
-fn unsettled<R: Eprint>(rt: &R, why: TaskFault<'_>) -> u8 {
+fn unsettled<R: Eprint>(rt: &R, words: &[String], detail: Detail<'_>, why: TaskFault<'_>) -> u8 {
     let _ = match why {
         TaskFault::Memory => return reported(rt, Fault::Memory),
+        TaskFault::NotText => return reported_odd_word(rt, words, detail.tells()),
         TaskFault::LongName(name) => {
-            eprintln!(rt; "fitsed: not a keyword name: {name}: more than 8 characters")
+            let unit = if name.chars().count() > NAME_LEN {
+                "characters"
+            } else {
+                "bytes"
+            };
+            eprintln!(rt; "fitsed: not a keyword name: {name}: more than 8 {unit}")
         }
         TaskFault::NotHdu(word) => eprintln!(rt; "fitsed: not the number of an HDU: {word}"),
         TaskFault::Missing => Ok(()),
     };
-    2
+    NOT_TAKEN
 }
 
 // Help that was asked for is printed with status 0; wrong words are explained on standard error,
 // and end with 2 whether that can be written or not.
-fn usage<R: Print + Eprint>(rt: &R, error: Error) -> u8 {
+fn usage(rt: &HostRuntime, words: &[String], error: Error) -> u8 {
     if error.kind() == ErrorKind::OutOfMemory {
         return reported(rt, Fault::Memory);
     }
+    if words.iter().any(|word| oddity_of(word.as_str()).is_some()) {
+        return reported_odd_word(rt, words, rt.stderr().is_terminal());
+    }
     let printed = error.print(rt);
     if error.use_stderr() {
-        return 2;
+        return NOT_TAKEN;
     }
     match printed {
         Ok(()) => 0,
         Err(_) => reported(rt, Fault::WriteFailed),
     }
-}
-
-// An argument that isn't UTF-8, which clap doesn't take.
-fn unreadable<R: Eprint>(rt: &R, error: io::Error) -> u8 {
-    if error.kind() == io::ErrorKind::OutOfMemory {
-        return reported(rt, Fault::Memory);
-    }
-    let _ = eprintln!(rt; "fitsed: an argument is not UTF-8");
-    2
 }

@@ -16,6 +16,16 @@ pub enum Piece<'a> {
     File(&'a str),
 }
 
+impl<'a> Piece<'a> {
+    // The file that it stands in, if that isn't standard input.
+    fn path(&self) -> Option<&'a str> {
+        match *self {
+            Piece::Line(_) | Piece::File("-") => None,
+            Piece::File(path) => Some(path),
+        }
+    }
+}
+
 /// The pieces of a script, in the order in which they are typed. With none it is standard input.
 pub fn pieces_of<'a>(alloc: Global, words: &ArgMatches<'a>) -> Result<Vec<Piece<'a>>, AllocError> {
     let mut lines = words.get_strs("line").unwrap_or(&[]);
@@ -53,32 +63,55 @@ fn rest_of(places: &[usize]) -> &[usize] {
     }
 }
 
-/// The pieces joined, a line feed after each that has none; with no piece standard input. No more is
-/// read than shows that the script is too long.
-pub fn script_of<R: Files<File = File> + Input + AllocGlobal>(
+/// Why a script isn't had: what was read then, a file or standard input.
+#[derive(Clone, Copy)]
+pub struct ScriptFault<'a> {
+    pub fault: Fault,
+    pub path: Option<&'a str>,
+}
+
+/// The pieces joined, a line feed after each that ends without one, also after an empty one; with no
+/// piece standard input. No more is read than shows that the script is too long.
+pub fn script_of<'a, R: Files<File = File> + Input + AllocGlobal>(
     rt: &R,
-    pieces: &[Piece<'_>],
-) -> Result<Vec<u8>, Fault> {
+    pieces: &[Piece<'a>],
+) -> Result<Vec<u8>, ScriptFault<'a>> {
     let mut text = Vec::new(rt.alloc());
     if pieces.is_empty() {
-        read_all(&mut rt.reader(), &mut text)?;
+        if let Err(fault) = read_all(&mut rt.reader(), &mut text) {
+            return Err(ScriptFault { fault, path: None });
+        }
     }
     for piece in pieces {
-        match *piece {
-            Piece::Line(line) => add(&mut text, line)?,
-            Piece::File("-") => read_all(&mut rt.reader(), &mut text)?,
-            Piece::File(path) => {
-                let Ok(mut file) = fs::open(rt, path) else {
-                    return Err(Fault::ReadFailed);
-                };
-                read_all(&mut file, &mut text)?;
-            }
-        }
-        if !text.ends_with(b"\n") {
-            add(&mut text, "\n")?;
+        if let Err(fault) = add_piece(rt, *piece, &mut text) {
+            let path = piece.path();
+            return Err(ScriptFault { fault, path });
         }
     }
     Ok(text)
+}
+
+// Adds a piece, and a line feed where it ends without one.
+fn add_piece<R: Files<File = File> + Input + AllocGlobal>(
+    rt: &R,
+    piece: Piece<'_>,
+    text: &mut Vec<u8>,
+) -> Result<(), Fault> {
+    let before = text.len();
+    match piece {
+        Piece::Line(line) => add(text, line)?,
+        Piece::File("-") => read_all(&mut rt.reader(), text)?,
+        Piece::File(path) => {
+            let Ok(mut file) = fs::open(rt, path) else {
+                return Err(Fault::ReadFailed);
+            };
+            read_all(&mut file, text)?;
+        }
+    }
+    if text.len() == before || !text.ends_with(b"\n") {
+        add(text, "\n")?;
+    }
+    Ok(())
 }
 
 fn add(text: &mut Vec<u8>, more: &str) -> Result<(), AllocError> {

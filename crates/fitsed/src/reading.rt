@@ -1,9 +1,16 @@
 //! What is done with each file that is read.
+use crate::detail::Detail;
+use crate::explaining::INPUT;
 use crate::files::{is_stored, source_of};
 use crate::piece::{Piece, script_of};
 use crate::remarks::{before_remarks, remarks_after};
-use crate::reporting::{ends_all, report_changed, reported, reported_of};
-use crate::task::Files;
+use crate::reporting::{
+    ends_all, report_changed, reported, reported_oddity, reported_of, reported_script,
+};
+use crate::scaled::{has_pixel_line, tell_scaled};
+use crate::subject::Subject;
+use crate::task::Inputs;
+use crate::words::oddity_of;
 use fits_cli::{
     CardChoice, CardPlace, CardsEnd, End, Fault, Telling, run_ask, run_ask_stored, run_cards,
     run_telling,
@@ -11,18 +18,29 @@ use fits_cli::{
 use fits_stream::{FailedReads, NamedLines, Sink, Source, Watched};
 use std::alloc::{AllocError, Global};
 use std::fs::File;
-use std::io::{BufWriter, Stderr, Write};
+use std::io::{BufWriter, Write};
 use std::{fs, io, rt};
 
 /// What is done with a file.
 #[derive(Clone, Copy)]
 pub enum Job<'j> {
-    /// A script is answered, and remarks on its lines are made, where they are wanted.
-    Ask(&'j [u8], Option<Stderr>),
+    /// A script is answered.
+    Ask(&'j [u8]),
     /// Its cards are shown.
     Show(&'j CardChoice),
     /// A text of it is printed.
     Tell(Telling),
+}
+
+impl Job<'_> {
+    // Whether it is about values of pixels.
+    fn has_values(&self) -> bool {
+        match *self {
+            Job::Ask(script) => has_pixel_line(script),
+            Job::Tell(Telling::Statistics) => true,
+            _ => false,
+        }
+    }
 }
 
 /// Does a script on each file, and saves nothing. Over one file standard input is answered as it
@@ -30,15 +48,20 @@ pub enum Job<'j> {
 pub fn ask<R: rt::Files<File = File> + Input + Print + Eprint + AllocGlobal>(
     rt: &R,
     script: &[Piece<'_>],
-    files: Files<'_, '_>,
-    told: Option<Stderr>,
+    files: Inputs<'_, '_>,
+    detail: Detail<'_>,
 ) -> u8 {
     if let (true, [path]) = (script.is_empty(), files.paths) {
-        return ask_as_it_comes(rt, path, files.named, told);
+        let subject = Subject {
+            name: path,
+            named: files.named,
+            detail,
+        };
+        return ask_as_it_comes(rt, subject);
     }
     match script_of(rt, script) {
-        Ok(text) => each(rt, Job::Ask(&text, told), files),
-        Err(fault) => reported(rt, fault),
+        Ok(text) => each(rt, Job::Ask(&text), files, detail),
+        Err(why) => reported_script(rt, detail, why),
     }
 }
 
@@ -46,22 +69,34 @@ pub fn ask<R: rt::Files<File = File> + Input + Print + Eprint + AllocGlobal>(
 pub fn each<R: rt::Files<File = File> + Print + Eprint + AllocGlobal>(
     rt: &R,
     job: Job<'_>,
-    files: Files<'_, '_>,
+    files: Inputs<'_, '_>,
+    detail: Detail<'_>,
 ) -> u8 {
     let Ok(mut out) = BufWriter::new(rt.alloc(), io::writer(rt)) else {
         return reported(rt, Fault::Memory);
     };
     let mut status = 0;
     for path in files.paths {
-        let done = one(rt, job, path, files.named, &mut out);
+        if let Some(oddity) = oddity_of(path) {
+            status = status.max(reported_oddity(rt, oddity));
+            continue;
+        }
+        let subject = Subject {
+            name: path,
+            named: files.named,
+            detail,
+        };
+        let done = one(rt, job, subject, &mut out);
         report_changed(rt, path, &done.changed);
         let end = done.end;
         status = status.max(end.status);
         if let Some(fault) = end.fault {
-            let _status = reported_of(rt, path, files.named, fault);
+            let _status = reported_of(rt, subject, path, fault);
             if ends_all(fault) {
                 return status;
             }
+        } else if detail.tells() && job.has_values() {
+            tell_scaled(rt, subject);
         }
     }
     status
@@ -71,75 +106,86 @@ pub fn each<R: rt::Files<File = File> + Print + Eprint + AllocGlobal>(
 pub fn name<R: rt::Files<File = File> + Print + Eprint + AllocGlobal>(
     rt: &R,
     telling: Telling,
-    files: Files<'_, '_>,
+    files: Inputs<'_, '_>,
+    detail: Detail<'_>,
 ) -> u8 {
     let mut status = 0;
     for path in files.paths {
-        let end = one(rt, Job::Tell(telling), path, false, &mut io::sink()).end;
+        if let Some(oddity) = oddity_of(path) {
+            status = status.max(reported_oddity(rt, oddity));
+            continue;
+        }
+        let unnamed = Subject {
+            name: path,
+            named: false,
+            detail,
+        };
+        let subject = Subject {
+            named: true,
+            ..unnamed
+        };
+        let end = one(rt, Job::Tell(telling), unnamed, &mut io::sink()).end;
         status = status.max(end.status);
         if let Some(fault) = end.fault {
-            let _status = reported_of(rt, path, true, fault);
+            let _status = reported_of(rt, subject, path, fault);
             if let Fault::Memory = fault {
                 return status;
             }
         }
         if end.status == 1 || end.status == 2 {
             if println!(rt; "{path}").is_err() {
-                return reported(rt, Fault::WriteFailed);
+                return reported_of(rt, subject, path, Fault::WriteFailed);
             }
         }
     }
     status
 }
 
-// Does a job with the file at a path.
+// Does a job with a file.
 fn one<R: rt::Files<File = File> + AllocGlobal, W: Write>(
     rt: &R,
     job: Job<'_>,
-    path: &str,
-    named: bool,
+    subject: Subject<'_>,
     out: &mut W,
 ) -> CardsEnd {
-    let Ok(file) = fs::open(rt, path) else {
+    let Ok(file) = fs::open(rt, subject.name) else {
         return ended(rt.alloc(), End::from(Fault::ReadFailed));
     };
-    if !named {
+    if !subject.named {
         let mut out = Watched::new(out);
-        return run(rt.alloc(), job, path, named, file, &mut out);
+        return run(rt.alloc(), job, subject, file, &mut out);
     }
-    let Ok(name) = before_lines(rt.alloc(), path) else {
+    let Ok(name) = before_lines(rt.alloc(), subject.name) else {
         return ended(rt.alloc(), End::from(Fault::Memory));
     };
     let mut out = NamedLines::new(Watched::new(out), name.as_bytes());
-    run(rt.alloc(), job, path, named, file, &mut out)
+    run(rt.alloc(), job, subject, file, &mut out)
 }
 
 // Answers standard input over one file, as it comes.
 fn ask_as_it_comes<R: rt::Files<File = File> + Input + Print + Eprint + AllocGlobal>(
     rt: &R,
-    path: &str,
-    named: bool,
-    told: Option<Stderr>,
+    subject: Subject<'_>,
 ) -> u8 {
     let Ok(mut out) = BufWriter::new(rt.alloc(), io::writer(rt)) else {
         return reported(rt, Fault::Memory);
     };
-    let Ok(file) = fs::open(rt, path) else {
-        return reported_of(rt, path, named, Fault::ReadFailed);
+    let Ok(file) = fs::open(rt, subject.name) else {
+        return reported_of(rt, subject, INPUT, Fault::ReadFailed);
     };
-    let Ok(name) = before_lines(rt.alloc(), path) else {
+    let Ok(name) = before_lines(rt.alloc(), subject.name) else {
         return reported(rt, Fault::Memory);
     };
     let mut script = Watched::new(rt.reader());
     let mut out = Watched::new(&mut out);
-    let end = if named {
+    let end = if subject.named {
         let mut out = NamedLines::new(out, name.as_bytes());
-        asked(rt.alloc(), path, named, told, file, &mut script, &mut out)
+        asked(rt.alloc(), subject, file, &mut script, &mut out)
     } else {
-        asked(rt.alloc(), path, named, told, file, &mut script, &mut out)
+        asked(rt.alloc(), subject, file, &mut script, &mut out)
     };
     match end.fault {
-        Some(fault) => reported_of(rt, path, named, fault),
+        Some(fault) => reported_of(rt, subject, INPUT, fault),
         None => end.status,
     }
 }
@@ -148,15 +194,14 @@ fn ask_as_it_comes<R: rt::Files<File = File> + Input + Print + Eprint + AllocGlo
 fn run<O: Sink>(
     alloc: Global,
     job: Job<'_>,
-    path: &str,
-    named: bool,
+    subject: Subject<'_>,
     file: File,
     out: &mut O,
 ) -> CardsEnd {
     match job {
-        Job::Ask(text, told) => {
+        Job::Ask(text) => {
             let mut script = text;
-            let end = asked(alloc, path, named, told, file, &mut script, out);
+            let end = asked(alloc, subject, file, &mut script, out);
             ended(alloc, end)
         }
         Job::Show(choice) => run_cards(alloc, choice, &mut source_of(file), out),
@@ -167,20 +212,18 @@ fn run<O: Sink>(
     }
 }
 
-// Answers a script over the file at a path. The data of a regular one are read where they are wanted.
+// Answers a script over a file. The data of a regular one are read where they are wanted.
 fn asked<S: Source, O: Sink>(
     alloc: Global,
-    path: &str,
-    named: bool,
-    told: Option<Stderr>,
+    subject: Subject<'_>,
     file: File,
     script: &mut S,
     out: &mut O,
 ) -> End {
-    let Ok(before) = before_remarks(alloc, told, path, named) else {
+    let Ok(before) = before_remarks(alloc, subject) else {
         return End::from(Fault::Memory);
     };
-    let Ok(mut told) = remarks_after(alloc, told, &before) else {
+    let Ok(mut told) = remarks_after(alloc, subject, &before) else {
         return End::from(Fault::Memory);
     };
     if is_stored(&file) {

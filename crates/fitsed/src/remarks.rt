@@ -1,38 +1,35 @@
-//! Where remarks on the lines of a script go: to standard error.
+//! Where remarks on the lines of a script go.
+use crate::noted::Noted;
+use crate::subject::Subject;
 use fits_stream::{NamedLines, Watched};
 use std::alloc::{AllocError, Global};
 use std::io;
-use std::io::{BufWriter, Stderr};
+use std::io::BufWriter;
 
 /// Remarks, with the program's name before each, and a file's where several are told apart.
-pub type Remarks<'n> = NamedLines<'n, Watched<BufWriter<Stderr>>>;
+pub type Remarks<'n> = NamedLines<'n, Watched<BufWriter<Noted<'n>>>>;
 
-/// What stands before each remark on a script over a file; nothing where none are wanted.
-pub fn before_remarks(
-    alloc: Global,
-    told: Option<Stderr>,
-    path: &str,
-    named: bool,
-) -> Result<String, AllocError> {
-    if told.is_none() {
+/// What stands before each remark on a script over a file; nothing where none are made.
+pub fn before_remarks(alloc: Global, subject: Subject<'_>) -> Result<String, AllocError> {
+    if !subject.detail.tells() {
         return Ok(String::new(alloc));
     }
-    if named {
-        format!(in alloc; "fitsed: {path}: ")
+    if subject.named {
+        format!(in alloc; "fitsed: {}: ", subject.name)
     } else {
         format!(in alloc; "fitsed: ")
     }
 }
 
-/// Remarks after this text, where they are wanted.
+/// Remarks after this text, where they are made.
 pub fn remarks_after<'n>(
     alloc: Global,
-    told: Option<Stderr>,
+    subject: Subject<'n>,
     before: &'n str,
 ) -> io::Result<Option<Remarks<'n>>> {
-    let Some(errors) = told else {
+    let Some(noted) = subject.detail.remarks() else {
         return Ok(None);
     };
-    let sink = BufWriter::new(alloc, errors)?;
+    let sink = BufWriter::new(alloc, noted)?;
     Ok(Some(NamedLines::new(Watched::new(sink), before.as_bytes())))
 }

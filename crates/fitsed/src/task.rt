@@ -1,10 +1,15 @@
 //! What the words of the command line ask for.
 use crate::piece::{Piece, pieces_of};
+use crate::words::oddity_of;
 use clap::ArgMatches;
 use fits_cli::{CardChoice, Level, NamePattern, Telling};
+use fits_save::Saving;
 use std::alloc::{AllocError, Global};
 
-/// What the command line asks for. A verbose task makes remarks on lines that aren't done.
+/// The options that have values.
+const VALUES: &[&str] = &["line", "file", "hdu", "name", "backup"];
+
+/// What the command line asks for.
 #[derive(Drop)]
 pub enum Task<'m, 'a> {
     /// A script edits the file at `from`; the result goes to `to`.
@@ -12,51 +17,63 @@ pub enum Task<'m, 'a> {
         script: Vec<Piece<'a>>,
         from: &'a str,
         to: &'a str,
-        terms: Terms,
-        verbose: bool,
+        named: bool,
+        terms: SavingTerms<'a>,
     },
     /// A script edits each file where it stands.
     EditInPlace {
         script: Vec<Piece<'a>>,
         paths: Vec<&'a str>,
-        terms: Terms,
-        verbose: bool,
+        named: bool,
+        terms: SavingTerms<'a>,
     },
     /// A script is done on each file, and nothing is saved.
     Ask {
         script: Vec<Piece<'a>>,
-        files: Files<'m, 'a>,
-        verbose: bool,
+        files: Inputs<'m, 'a>,
     },
     /// Cards of each file are printed.
     Show {
         choice: CardChoice,
-        files: Files<'m, 'a>,
+        files: Inputs<'m, 'a>,
     },
     /// A text of each file is printed.
     Tell {
         telling: Telling,
-        files: Files<'m, 'a>,
+        files: Inputs<'m, 'a>,
     },
     /// The names of files are printed of which a report has something.
     Name {
         telling: Telling,
-        files: Files<'m, 'a>,
+        files: Inputs<'m, 'a>,
     },
 }
 
-/// When the result of a script is saved.
+/// When the result of a script is saved, and how.
 #[derive(Clone, Copy)]
-pub struct Terms {
+pub struct SavingTerms<'a> {
     /// Only where every line was done.
     pub whole: bool,
     /// Only where there are no more errors of any code.
     pub checked: bool,
+    /// So that sums that were right are right.
+    pub sums: bool,
+    /// Only where nothing stands.
+    pub fresh: bool,
+    /// Only where the file that stands there stays whole, or is kept.
+    pub saving: Saving<'a>,
+}
+
+impl SavingTerms<'_> {
+    /// Whether it is asked before the run how the result can be saved.
+    pub fn asks_first(&self) -> bool {
+        self.saving.safe || self.saving.backup.is_some()
+    }
 }
 
 /// The files that a command reads, and whether each line of its output is told the file's name.
 #[derive(Clone, Copy)]
-pub struct Files<'m, 'a> {
+pub struct Inputs<'m, 'a> {
     pub paths: &'m [&'a str],
     pub named: bool,
 }
@@ -68,6 +85,8 @@ pub enum TaskFault<'a> {
     LongName(&'a str),
     /// An HDU's number is none.
     NotHdu(&'a str),
+    /// An argument isn't UTF-8, and is no path among several.
+    NotText,
     /// No command is there, or an argument that it wants; clap tells of that before.
     Missing,
     /// Memory was refused.
@@ -88,6 +107,9 @@ pub fn task_of<'m, 'a>(
     let Some((name, words)) = matches.subcommand() else {
         return Err(TaskFault::Missing);
     };
+    if has_odd_value(words) {
+        return Err(TaskFault::NotText);
+    }
     if name == "edit" {
         return edit_of(alloc, words);
     }
@@ -96,7 +118,6 @@ pub fn task_of<'m, 'a>(
         "ask" => Task::Ask {
             script: pieces_of(alloc, words)?,
             files,
-            verbose: words.get_flag("verbose"),
         },
         "cards" => Task::Show {
             choice: choice_of(alloc, words)?,
@@ -113,39 +134,61 @@ pub fn task_of<'m, 'a>(
     })
 }
 
+// Whether an option has a value that isn't UTF-8.
+fn has_odd_value(words: &ArgMatches<'_>) -> bool {
+    VALUES.iter().any(|id| {
+        let values = words.get_strs(id).unwrap_or(&[]);
+        values.iter().any(|value| oddity_of(value).is_some())
+    })
+}
+
 // The words of `edit`: with `-i` all paths are files to edit.
 fn edit_of<'m, 'a>(
     alloc: Global,
     words: &'m ArgMatches<'a>,
 ) -> Result<Task<'m, 'a>, TaskFault<'a>> {
-    let script = pieces_of(alloc, words)?;
-    let terms = Terms {
-        whole: words.get_flag("all"),
-        checked: words.get_flag("check"),
-    };
-    let verbose = words.get_flag("verbose");
     let Some(from) = words.get_str("IN") else {
         return Err(TaskFault::Missing);
     };
+    let script = pieces_of(alloc, words)?;
+    let terms = terms_of(words);
+    let named = words.get_flag("with-filename");
     if words.get_flag("in-place") {
         let paths = paths_of(alloc, words, from)?;
         return Ok(Task::EditInPlace {
             script,
+            named: are_named(&paths, named)?,
             paths,
             terms,
-            verbose,
         });
     }
     let Some(to) = words.get_str("OUT") else {
         return Err(TaskFault::Missing);
     };
+    if oddity_of(from).is_some() || oddity_of(to).is_some() {
+        return Err(TaskFault::NotText);
+    }
     Ok(Task::Edit {
         script,
         from,
         to,
+        named,
         terms,
-        verbose,
     })
+}
+
+// When the words of `edit` want the result saved.
+fn terms_of<'a>(words: &ArgMatches<'a>) -> SavingTerms<'a> {
+    SavingTerms {
+        whole: words.get_flag("all"),
+        checked: words.get_flag("check"),
+        sums: words.get_flag("sums"),
+        fresh: words.get_flag("no-clobber"),
+        saving: Saving {
+            safe: words.get_flag("safe"),
+            backup: words.get_str("backup"),
+        },
+    }
 }
 
 // All paths of `edit -i`.
@@ -165,14 +208,24 @@ fn paths_of<'a>(
     Ok(paths)
 }
 
-fn files_of<'m, 'a>(words: &'m ArgMatches<'a>) -> Result<Files<'m, 'a>, TaskFault<'a>> {
+fn files_of<'m, 'a>(words: &'m ArgMatches<'a>) -> Result<Inputs<'m, 'a>, TaskFault<'a>> {
     let Some(paths) = words.get_strs("IN") else {
         return Err(TaskFault::Missing);
     };
-    Ok(Files {
+    Ok(Inputs {
         paths,
-        named: paths.len() > 1 || words.get_flag("with-filename"),
+        named: are_named(paths, words.get_flag("with-filename"))?,
     })
+}
+
+// Whether files are told apart by their names: with several, and where that is asked for. One alone
+// is to be UTF-8.
+fn are_named<'a>(paths: &[&str], asked: bool) -> Result<bool, TaskFault<'a>> {
+    match paths {
+        [path] if oddity_of(path).is_some() => Err(TaskFault::NotText),
+        [_] => Ok(asked),
+        _ => Ok(true),
+    }
 }
 
 // Which text of a file a command prints.

@@ -11,8 +11,12 @@ pub enum Word {
     Line,
     /// A file with lines of the script.
     File,
-    /// Whether remarks are made on lines.
-    Verbose,
+    /// Whether standard error is told more.
+    Verbose(&'static str),
+    /// Whether a file that stands at OUT stays.
+    NoClobber,
+    /// What ends the name that the old file keeps.
+    Backup,
     /// Whether each line begins with the name of its file.
     Named,
     /// An HDU whose cards are printed.
@@ -36,7 +40,9 @@ impl Word {
             Word::Flag(id, letter, help) => Ok(flag(alloc, id, letter, help)),
             Word::Line => Ok(line(alloc)),
             Word::File => Ok(file(alloc)),
-            Word::Verbose => Ok(verbose(alloc)),
+            Word::Verbose(help) => Ok(flag(alloc, "verbose", 'v', help)),
+            Word::NoClobber => no_clobber(alloc),
+            Word::Backup => Ok(backup(alloc)),
             Word::Named => Ok(named(alloc)),
             Word::Hdu => Ok(hdu(alloc)),
             Word::Name => Ok(name(alloc)),
@@ -50,17 +56,26 @@ impl Word {
 
 fn line<'a>(alloc: Global) -> Arg<'a> {
     let help = "A line of the script, in place of standard input; may be repeated";
-    list(alloc, "line", 'e', "LINE", help)
+    list(alloc, "line", 'e', "LINE", help).allow_hyphen_values(true)
 }
 
 fn file<'a>(alloc: Global) -> Arg<'a> {
     let help = "A file with lines of the script, - for standard input; may be repeated";
-    list(alloc, "file", 'f', "FILE", help)
+    list(alloc, "file", 'f', "SCRIPT", help)
 }
 
-fn verbose<'a>(alloc: Global) -> Arg<'a> {
-    let help = "Say on standard error why a line isn't done";
-    flag(alloc, "verbose", 'v', help)
+fn no_clobber<'a>(alloc: Global) -> Result<Arg<'a>, AllocError> {
+    let help = "Do nothing where something stands at OUT";
+    flag(alloc, "no-clobber", 'n', help).conflicts_with("in-place")
+}
+
+fn backup<'a>(alloc: Global) -> Arg<'a> {
+    Arg::new(alloc, "backup")
+        .short('b')
+        .long("backup")
+        .value_name("SUFFIX")
+        .action(ArgAction::Set)
+        .help("Keep the file that stands at OUT, with SUFFIX after its name")
 }
 
 fn named<'a>(alloc: Global) -> Arg<'a> {
@@ -79,7 +94,7 @@ fn name<'a>(alloc: Global) -> Arg<'a> {
 }
 
 fn out<'a>(alloc: Global) -> Result<Arg<'a>, AllocError> {
-    let help = "The file to write; it may be IN, or /dev/null for answers alone";
+    let help = "The file to write; it may be IN. What stands there is replaced once all is saved";
     path(alloc, "OUT", help).required_unless_present("in-place")
 }
 
