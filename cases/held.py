@@ -38,7 +38,7 @@ ANOTHER = 42_424
 
 WRITE_FAILED = b"fitsed: write failed\n"
 FULL = errno.ENOSPC
-TIMEOUT = 60
+TIMEOUT = 30
 
 ROOM = tempfile.TemporaryDirectory()
 
