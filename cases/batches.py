@@ -103,7 +103,7 @@ def of_rights():
 
 def comes_to(program, words, files, status, printed, reported, wanted):
     """Where words over these files end otherwise, print or report something else, or leave other files."""
-    ran, after = program.over(words, files, b"")
+    ran, after = program.under().over(words, files, b"")
     return apart(ran, after, {"status": status, "printed": printed.encode(), "reported": reported.encode()}, wanted)
 
 

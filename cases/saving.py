@@ -13,6 +13,7 @@ import subprocess
 from again import apart, contents, image_at, in_little_memory, make_image, of_image
 from held import (
     ALONE,
+    ANOTHER,
     BEFORE,
     BOTH,
     FULL,
@@ -36,6 +37,7 @@ from held import (
     lost,
     merged,
     preloaded,
+    rights_count,
     run_at_terminal,
     run_in,
 )
@@ -91,6 +93,8 @@ def of_scenes():
         for error in (errno.EPERM, errno.EOPNOTSUPP, errno.ENOSYS):
             yield f"a new OUT where no links can be made, {os.strerror(error)}", without_links, error
         yield "the new file stands beside what a link leads to", beside_its_place
+    for scene in [*REPLACED, *NEW, *NAMED_TWICE] if rights_count() else []:
+        yield f"{scene.name}, its folder can't be listed", in_unlisted, scene
 
 
 def moments(scene):
@@ -256,6 +260,19 @@ def beside_its_place(program):
             yield from apart(ended(ran), contents(path / "night"), {"status": 0}, {"real.fits": RESULT})
     if names != (["in.fits", "night", "out.fits"], ["real.fits", "real.fits.fitsed-0"]):
         yield f"there are {names}"
+
+
+def in_unlisted(program, scene):
+    """Where OUT isn't saved in a folder that takes files and can't be listed."""
+    is_of_another = os.geteuid() == 0
+    with scene.laid(program) as path:
+        for it in [*path.iterdir(), path] if is_of_another else []:
+            os.chown(it, ANOTHER, ANOTHER)
+        path.chmod(0o333)
+        with begun(program, path, scene.words(), is_of_another) as ran:
+            came = ended(ran)
+        path.chmod(0o755)
+        yield from apart(came, contents(path), {"status": 0, "printed": b"", "reported": b""}, scene.done())
 
 
 def large_written_over(program):
