@@ -1,11 +1,13 @@
 """What `edit -S` refuses to save, which could be lost while it is saved, and what `edit -b` keeps of the old file."""
 import os
+import pathlib
 import signal
 import subprocess
 
 from again import apart, contents
 from held import (
     ALONE,
+    ANOTHER,
     BEFORE,
     LINE,
     NAMED_TWICE,
@@ -92,17 +94,13 @@ def is_refused(program, words):
 def one_is_refused(program):
     """Where of several files one that can't be replaced keeps the others from being saved."""
     with program.room({"b.fits": BEFORE, "c.fits": BEFORE}) as room, closed_folder(program, {"a.fits": BEFORE}) as (closed, is_of_another):
-        os.chmod(room, 0o777)
-        for name in ("b.fits", "c.fits"):
-            os.chmod(f"{room}/{name}", 0o666)
-        if is_of_another:
-            for name in ("b.fits", "c.fits"):
-                os.chown(f"{room}/{name}", os.stat(closed).st_uid, os.stat(closed).st_gid)
+        for it in (room, f"{room}/b.fits", f"{room}/c.fits") if is_of_another else ():
+            os.chown(it, ANOTHER, ANOTHER)
         where = f"{closed}/a.fits"
         with begun(program, room, ["edit", "-i", "-S", "-e", LINE, "b.fits", where, "c.fits"], is_of_another) as ran:
             came = ended(ran)
         reported = f"fitsed: {where}: not saved: it can't be replaced whole\n".encode()
-        files = {**contents(closed), **{name: open(f"{room}/{name}", "rb").read() for name in os.listdir(room)}}
+        files = {**contents(closed), **contents(pathlib.Path(room))}
         yield from apart(came, files, {"status": 3, "printed": b"", "reported": reported}, {"a.fits": BEFORE, "b.fits": RESULT, "c.fits": RESULT})
 
 
@@ -138,8 +136,7 @@ def is_kept(program, option, words):
         before = os.stat(f"{room}/a.fits")
         with begun(program, room, ["edit", option, ".bak", "-e", LINE, *words]) as ran:
             came = ended(ran)
-        files = {name: open(f"{room}/{name}", "rb").read() for name in os.listdir(room)}
-        yield from apart(came, files, DONE, {**FILES, "a.fits": RESULT, "a.fits.bak": BEFORE})
+        yield from apart(came, contents(pathlib.Path(room)), DONE, {**FILES, "a.fits": RESULT, "a.fits.bak": BEFORE})
         if not os.path.samestat(before, os.stat(f"{room}/a.fits.bak")):
             yield "a.fits.bak isn't the old file"
 

@@ -9,6 +9,7 @@ import resource
 import shutil
 import signal
 import subprocess
+import tempfile
 
 from again import apart, contents, image_at, in_little_memory, make_image, of_image
 from held import (
@@ -186,6 +187,9 @@ def in_order(program, scene):
         wanted = [f"fsync {new}", f"rename {new} {out}"] if scene.old else [f"write {new}", f"link {new} {out}", f"unlink {new}"]
         if touched:
             yield f"{out} is touched: {calls}"
+        # the name that went is free, and perhaps another run's
+        if scene.old and last(calls, f"unlink {new}") > last(calls, wanted[-1]):
+            yield f"{new} is removed after it took its place: {calls}"
     places = [last(calls, call) for call in wanted]
     if places != sorted(places) or -1 in places:
         yield f"these don't come in this order, {wanted}: {calls}"
@@ -285,21 +289,22 @@ def large_written_over(program):
         yield from differences(image_at(f"{room}/other.fits"), **of_image(LARGE, "OBJECT  = 'M31     '"))
 
 
-# A folder with a small disk of so many bytes, in which files lie, and a run there: how it ends, what it reports, and the files then.
+# How many bytes a small disk has; and how one is mounted in a folder, files are laid on it and a run begins there: its status,
+# what it reports and the files then stand beside that folder.
 DISK = 256 * 1024
-SMALL_DISK = """mkdir disk && mount -t tmpfs -o size=256k none disk && cp -a given/. disk && cd disk || exit 99
+MOUNTED = ["unshare", "-rm", "sh", "-c"]
+SMALL_DISK = f"""mkdir disk && mount -t tmpfs -o size={DISK} none disk && cp -a given/. disk && cd disk || exit 99
 "$0" "$@" 2>../reported; echo $? >../status; cp -a . ../left"""
 
 
 def can_mount():
-    """Whether small disks can be made here."""
-    made = shutil.which("unshare") and subprocess.run(MOUNTING + ["true"], capture_output=True, check=False).returncode == 0
-    if not made:
+    """Whether small disks can be mounted here."""
+    with tempfile.TemporaryDirectory() as room:
+        typed = [*MOUNTED, 'mount -t tmpfs none "$0"', room]
+        can = bool(shutil.which("unshare")) and subprocess.run(typed, capture_output=True, check=False).returncode == 0
+    if not can:
         left_out("rows on a small disk", "none can be mounted")
-    return bool(made)
-
-
-MOUNTING = ["unshare", "-rm"]
+    return can
 
 
 def on_a_small_disk(program, scene):
@@ -309,7 +314,7 @@ def on_a_small_disk(program, scene):
     with program.room({}) as room, scene.laid(program) as path:
         (path / "fill").write_bytes(fill)
         shutil.copytree(path, f"{room}/given", copy_function=os.link)
-        words = [*MOUNTING, "sh", "-c", SMALL_DISK, program.path, *scene.words()]
+        words = [*MOUNTED, SMALL_DISK, program.path, *scene.words()]
         subprocess.run(words, cwd=room, capture_output=True, check=False, timeout=60)
         here = pathlib.Path(room)
         status = int((here / "status").read_text(encoding="utf-8"))
