@@ -23,6 +23,7 @@ import lines
 import listings
 import long_scripts
 import mending
+import odd_places
 import one_file
 import openings
 import pixel_edits
@@ -52,6 +53,7 @@ TABLES = [
     faults,
     one_file,
     again,
+    odd_places,
     long_scripts,
     documents,
 ]
