@@ -7,15 +7,16 @@ pub(crate) const NAMES: u32 = 100;
 /// How many bytes a name has at most, on the file systems that the system has.
 const NAME_LIMIT: usize = 255;
 
-/// How many bytes the end of such a name has at most: `.fitsed-99`.
-const ENDING_LEN: usize = 10;
+/// How many bytes the end of such a name has at most: `.fitsed-lock`.
+const ENDING_LEN: usize = 12;
 
-/// The name of the new file beside a path: the path, cut where its last name would be too long, and
-/// an ending with a number.
+/// The names beside a path: the path, cut where its last name would be too long, and an ending, which
+/// is a number for the new file.
 #[derive(Drop)]
 pub(crate) struct Beside {
     front: String,
     name: String,
+    lock: String,
 }
 
 impl Beside {
@@ -24,9 +25,11 @@ impl Beside {
         let front = path.get(..front_len(path)).unwrap_or(path);
         let front = format!(in alloc; "{front}")?;
         let room = front.len().saturating_add(ENDING_LEN);
+        let lock = format!(in alloc; "{front}.fitsed-lock")?;
         Ok(Beside {
             front,
             name: String::with_capacity(alloc, room)?,
+            lock,
         })
     }
 
@@ -36,9 +39,14 @@ impl Beside {
         let _ = write!(self.name, "{}.fitsed-{number}", self.front.as_str());
     }
 
-    /// The name.
+    /// The name of the new file.
     pub(crate) fn as_str(&self) -> &str {
         self.name.as_str()
+    }
+
+    /// The name of a file that a run locks while it takes the path.
+    pub(crate) fn lock(&self) -> &str {
+        self.lock.as_str()
     }
 }
 

@@ -5,6 +5,7 @@ mod act;
 mod begin_fault;
 mod beside;
 mod finding;
+mod path_lock;
 mod place;
 mod save_fault;
 mod saved_file;

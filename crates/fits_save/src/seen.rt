@@ -9,30 +9,25 @@ pub struct Seen {
     len: u64,
     modified: (i64, i64),
     changed: (i64, i64),
-    /// Whether another holds a lock on it, as `flock` does for the program that it runs.
-    locked: bool,
 }
 
 impl Seen {
     /// The file as it is opened; none where the system doesn't tell.
     pub fn of(file: &File) -> Option<Seen> {
-        let Ok(about) = file.metadata() else {
-            return None;
-        };
-        let mut seen = Seen::as_it_is(&about);
-        seen.locked = is_locked(file);
-        Some(seen)
+        match file.metadata() {
+            Ok(about) => Some(Seen::as_it_is(&about)),
+            Err(_) => None,
+        }
     }
 
     // What the system tells of a file.
-    pub(crate) fn as_it_is(about: &Metadata) -> Seen {
+    fn as_it_is(about: &Metadata) -> Seen {
         Seen {
             device: about.dev(),
             inode: about.ino(),
             len: about.len(),
             modified: (about.mtime(), about.mtime_nsec()),
             changed: (about.ctime(), about.ctime_nsec()),
-            locked: false,
         }
     }
 
@@ -48,18 +43,4 @@ impl Seen {
             && self.modified == (about.mtime(), about.mtime_nsec())
             && self.changed == (about.ctime(), about.ctime_nsec())
     }
-
-    /// Whether another held a lock on it as it was opened.
-    pub(crate) fn was_locked(&self) -> bool {
-        self.locked
-    }
-}
-
-// Whether another holds a lock on a file.
-fn is_locked(file: &File) -> bool {
-    if file.try_lock_shared().is_err() {
-        return true;
-    }
-    let _ = file.unlock();
-    false
 }

@@ -3,6 +3,7 @@ ghost use Rattle.std.specs.Io.{WritesAtMost};
 use crate::begin_fault::BeginFault;
 use crate::beside::{Beside, NAMES};
 use crate::finding::{end_of_links, is_descriptor};
+use crate::path_lock::PathLock;
 use crate::saving::Saving;
 use crate::seen::Seen;
 use crate::taking::Taking;
@@ -12,7 +13,7 @@ use std::fs::{File, Metadata, OpenFile, OpenOptions};
 use std::io::{ErrorKind, Write};
 use std::os::unix::fs::{MetadataExt, OpenOptionsExt, lchown};
 use std::rt::Files;
-use std::{fs, io};
+use std::{fs, io, mem};
 
 /// A path, the name beside it, and the files that are open at both.
 #[derive(Drop)]
@@ -31,6 +32,8 @@ pub(crate) struct Slot<'a, R: Files<File = File>> {
     taking: Taking,
     old: Option<File>,
     new: Option<File>,
+    /// Held while the path is taken, where it's read too.
+    lock: Option<PathLock>,
     /// How many names beside the path were taken.
     met: u32,
 }
@@ -62,6 +65,7 @@ impl<'a, R: Files<File = File> + AllocGlobal> Slot<'a, R> {
             taking: Taking::Link,
             old: None,
             new: None,
+            lock: None,
             met: 0,
         })
     }
@@ -238,18 +242,27 @@ impl<R: Files<File = File>> Slot<'_, R> {
         }
     }
 
-    /// Whether what stands at the path is what was opened there, as it was then. Other runs wait
-    /// until this one has ended.
-    pub(crate) fn agrees(&self) -> bool {
+    /// Whether what stands at the path is what was opened there, as it was then. Other runs over it
+    /// wait from then on, until it's unlocked.
+    pub(crate) fn agrees(&mut self) -> bool {
         let Some(seen) = self.seen else {
             return true;
         };
-        if let Some(old) = &self.old {
-            lock(old, seen.was_locked());
-        }
-        match fs::metadata(self.rt, self.path.as_str()) {
+        self.lock = PathLock::at(self.rt, self.beside.lock());
+        let agrees = match fs::metadata(self.rt, self.path.as_str()) {
             Ok(about) => seen.is_still(&about),
             Err(_) => false,
+        };
+        if !agrees {
+            self.unlock();
+        }
+        agrees
+    }
+
+    /// Lets other runs over the path go on.
+    pub(crate) fn unlock(&mut self) {
+        if let Some(lock) = mem::take(&mut self.lock) {
+            lock.release(self.rt, self.beside.lock());
         }
     }
 
@@ -281,7 +294,8 @@ impl<R: Files<File = File>> Slot<'_, R> {
 
     /// Writes the new file over what stands at the path, and waits until that has reached the disk.
     pub(crate) fn overwrite(&mut self) -> io::Result<()> {
-        sync_folder(self.rt, self.path.as_str())?;
+        // Some folders can't be opened so, and some file systems sync none.
+        let _ = sync_folder(self.rt, self.path.as_str());
         let mut from = fs::open(self.rt, self.beside.as_str())?;
         let Some(old) = &mut self.old else {
             return Err(io::Error::from(ErrorKind::Other));
@@ -295,16 +309,6 @@ impl<R: Files<File = File>> Slot<'_, R> {
     pub(crate) fn clear(&mut self) {
         let _ = fs::remove_file(self.rt, self.beside.as_str());
         self.new = None;
-    }
-}
-
-// Locks a file against other runs of the program until it's closed. A lock that another held all the
-// while isn't waited for: it's that of the program that started this one.
-fn lock(file: &File, was_locked: bool) {
-    if was_locked {
-        let _ = file.try_lock();
-    } else {
-        let _ = file.lock();
     }
 }
 

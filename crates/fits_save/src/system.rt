@@ -122,6 +122,7 @@ impl<R: Files<File = File>> Place for System<'_, R> {
 
     fn expose(&mut self) -> io::Result<()> {
         let opened = self.slot.open_there();
+        self.slot.unlock();
         self.pass(opened, Act::Expose)
     }
 
@@ -160,12 +161,14 @@ impl<R: Files<File = File>> Place for System<'_, R> {
 
     fn rename(&mut self) -> io::Result<()> {
         let renamed = self.slot.rename();
+        self.slot.unlock();
         self.pass(renamed, Act::Rename)
     }
 
     fn overwrite(&mut self) -> io::Result<()> {
         self.stage = self.stage.after(Act::Overwrite);
         let written = self.slot.overwrite();
+        self.slot.unlock();
         self.pass(written, Act::Finish)
     }
 
@@ -180,6 +183,7 @@ impl<R: Files<File = File>> Place for System<'_, R> {
 
 impl<R: Files<File = File>> Drop for System<'_, R> {
     fn drop(mut self) {
+        self.slot.unlock();
         match self.stage {
             Stage::Partial | Stage::Whole | Stage::Agreed | Stage::Both => self.slot.clear(),
             _ => {}
