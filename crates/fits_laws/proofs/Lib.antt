@@ -18,6 +18,7 @@ pub mod LongStringLemmas
 pub mod LongValueLemmas
 pub mod MarkedLemmas
 pub mod NameLemmas
+pub mod NewLemmas
 pub mod OneValueLemmas
 pub mod OutputLemmas
 pub mod PixelFormLemmas
