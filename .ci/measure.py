@@ -26,8 +26,8 @@ def check_of(words):
     return crate, "tests" if "--test" in words else "edits" if "--incremental" in words else "proof"
 
 
-def look(seconds):
-    """Notes how long each running check has taken so far, by its process."""
+def look(seconds, session):
+    """Notes how long each running check of a session has taken so far, by its process."""
     for folder in glob.glob("/proc/[0-9]*"):
         try:
             with open(f"{folder}/cmdline", encoding="utf-8", errors="replace") as it:
@@ -35,8 +35,9 @@ def look(seconds):
             if check:
                 with open(f"{folder}/stat", encoding="utf-8", errors="replace") as it:
                     fields = it.read().rpartition(")")[2].split()
-                # a process is known by its number and its beginning
-                seconds[folder, fields[19]] = check, (int(fields[11]) + int(fields[12])) / TICKS
+                # (the fields after the name: state, parent, group, session ..) a process is known by its number and its beginning
+                if int(fields[3]) == session:
+                    seconds[folder, fields[19]] = check, (int(fields[11]) + int(fields[12])) / TICKS
         except OSError:
             pass
 
@@ -53,9 +54,10 @@ def main():
         subprocess.run(["git", "clone", "-q", TOP, f"{room}/fitsed"], check=True)
         began = time.time()
         again = {**os.environ, "ANEW": "1"}
-        with subprocess.Popen(["make", "test"], cwd=f"{room}/fitsed", env=again, stdout=sys.stderr) as gate:
+        with subprocess.Popen(["make", "test"], cwd=f"{room}/fitsed", env=again, stdout=sys.stderr,
+                              start_new_session=True) as gate:
             while gate.poll() is None:
-                look(seconds)
+                look(seconds, gate.pid)
                 time.sleep(0.2)
         took = (time.time() - began) / 60
     minutes = collections.Counter()

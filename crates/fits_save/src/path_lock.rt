@@ -20,7 +20,10 @@ impl PathLock {
         for _turn in 0..TURNS {
             match open(rt, name) {
                 Ok(file) => {
-                    file.lock().ok()?;
+                    if file.lock().is_err() {
+                        let _ = fs::remove_file(rt, name);
+                        return None;
+                    }
                     // The run that had it may have removed the file.
                     if stands(rt, name, &file) {
                         return Some(PathLock { file });
