@@ -4,7 +4,7 @@ use Rattle.std.specs.Result.{IsErrAnd}
 use Rattle.std.proofs.lemmas.Result.{err_from_is_err_and}
 use Rattle.fits_stream.specs.Stream.{SourceState, SinkState, Prints, PrintsFront, StaysQuiet}
 use Rattle.fits_stream.proofs.StreamLemmas.{Prints-flushed, Prints-more, Prints-none}
-use Rattle.fits_session.specs.File.{FileParts, file_bytes}
+use Rattle.fits_session.specs.File.{FileParts}
 use Rattle.fits_session.specs.Report.{report_of}
 use Rattle.fits_session.specs.declared.problem.Problem.{Problem}
 use Rattle.fits_session.proofs.OrderLemmas.{in_order}
@@ -14,7 +14,7 @@ use Rattle.fits_cli.specs.Ends.{RunState, StopsBy}
 use Rattle.fits_cli.specs.declared.end.End.{End}
 use Rattle.fits_cli.specs.Faults.{status_of_fault, IsOnce, PrintFails, SaveFails}
 use Rattle.fits_cli.specs.NewErrors.{new_error_lines, new_errors, HasMoreErrors}
-use Rattle.fits_cli.specs.Output.{answers, output_of_lines, standing_after, status_of}
+use Rattle.fits_cli.specs.Output.{answers, output_of_lines, saved_bytes, standing_after, status_of}
 use Rattle.fits_cli.specs.Running.{heard, IsAnsweredRun}
 use Rattle.fits_cli.specs.Script.{script_lines}
 use Rattle.fits_cli.specs.declared.fault.Fault.{Fault}
@@ -137,14 +137,14 @@ New-errors-fail whole old new mid told told_after now before count fault reporte
       saved = saved;
     })))
 
--- the file after the last line, in the run's output
+-- what is saved after the last line, in the run's output
 left_bytes : (old new : RunState) (mid : SinkState) (told told_after : Option SinkState) (now : Standing) (run : IsAnsweredRun old.terms old.file new.file old.script new.script old.printed mid told told_after now)
-    → file_bytes now.marked.file ≡ file_bytes (standing_after (at_first_line old.terms run.parts) (script_lines run.answered.script.lines run.answered.script.last)).marked.file
-left_bytes old new mid told told_after now run = ap (λ (s : Standing). file_bytes s.marked.file) run.answered.script.answered.left
+    → saved_bytes old.terms now ≡ saved_bytes old.terms (standing_after (at_first_line old.terms run.parts) (script_lines run.answered.script.lines run.answered.script.last))
+left_bytes old new mid told told_after now run = ap (saved_bytes old.terms) run.answered.script.answered.left
 
 -- no error is new
 pub Sound-saved : (whole : Bool) (old new : RunState) (told told_after : Option SinkState) (now : Standing) (before : List Problem) (count : ℕ) → IsReportedRun old.terms old.file new.file old.script new.script old.printed new.printed told told_after now before
-    → kept_back whole now.refused ≡ 0 → count ≡ length (new_errors before (report_of now.marked.file)) → count ≤ 0 → Prints (file_bytes now.marked.file) old.saved new.saved → new.saved.unflushed ≡ 0
+    → kept_back whole now.refused ≡ 0 → count ≡ length (new_errors before (report_of now.marked.file)) → count ≤ 0 → Prints (saved_bytes old.terms now) old.saved new.saved → new.saved.unflushed ≡ 0
     → IsSound whole old new (status_of now)
 unfolding up_to_reports
 Sound-saved whole old new told told_after now before count reported all is none saved flushed = record {
@@ -159,7 +159,7 @@ Sound-saved whole old new told told_after now before count reported all is none 
 
 -- the file can't be saved
 pub Sound-fails : (whole : Bool) (old new : RunState) (told told_after : Option SinkState) (now : Standing) (before : List Problem) (count : ℕ) (fault : Fault) → IsReportedRun old.terms old.file new.file old.script new.script old.printed new.printed told told_after now before → (old.stored ≡ true) ⊎ IsOnce fault
-    → kept_back whole now.refused ≡ 0 → count ≡ length (new_errors before (report_of now.marked.file)) → count ≤ 0 → SaveFails (file_bytes now.marked.file) old.saved new.saved fault
+    → kept_back whole now.refused ≡ 0 → count ≡ length (new_errors before (report_of now.marked.file)) → count ≤ 0 → SaveFails (saved_bytes old.terms now) old.saved new.saved fault
     → StopsChecked whole old new fault
 unfolding up_to_reports
 Sound-fails whole old new told told_after now before count fault reported re all is none (inl fails) =

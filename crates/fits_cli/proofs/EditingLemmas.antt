@@ -8,7 +8,7 @@ use Rattle.fits_stream.specs.Intake.{Gives, Tells}
 use Rattle.fits_stream.specs.Stream.{SourceState, SinkState, FailsToFlush, Flushes, Prints, PrintsFront, Reads, StaysQuiet}
 use Rattle.fits_stream.proofs.StreamLemmas.{Consumes-none}
 use Rattle.std.proofs.lemmas.List.{append-nil, take_all}
-use Rattle.fits_session.specs.File.{FileParts, file_bytes}
+use Rattle.fits_session.specs.File.{FileParts}
 use Rattle.fits_session.specs.Opening.{HasOpenFault}
 use Rattle.fits_session.specs.Reading.{ReadStops}
 use Rattle.fits_session.specs.declared.open_fault.OpenFault.{OpenFault}
@@ -17,11 +17,11 @@ use Rattle.fits_session.specs.declared.read_fault.ReadFileFault.{ReadFileFault}
 use Rattle.fits_session.specs.declared.read_fault.ReadFileFault.TheVariants.{Open, Failed}
 use Rattle.fits_cli.specs.Answer.{Standing, at_first_line}
 use Rattle.fits_cli.specs.Ends.{RunState, AreAllRemarks, AreToldOf, AsksAs, AsksBy, EndsAs, EndsBy, FlushesOrFails, EndsWhole, EndsWholeAs, Opens, HasLines, CopyingFails, IsAsked, IsDoneWhole, LacksPixels, IsRefused, IsUndone, Succeeds, AnswersFail, StopsBy}
-use Rattle.fits_cli.specs.Faults.{fault_of_file, status_of_fault, PrintFails}
+use Rattle.fits_cli.specs.Faults.{fault_of_file, status_of_fault}
 use Rattle.fits_cli.specs.declared.end.End.{End}
 use Rattle.fits_cli.specs.declared.limits.TheConstants.{SCRIPT_LIMIT}
 use Rattle.fits_cli.specs.Remark.{remarks, Remarks}
-use Rattle.fits_cli.specs.Output.{Output, answers, standing_after, status_of, output_unopened, output_of_lines, output_too_long, IsOutputOf}
+use Rattle.fits_cli.specs.Output.{Output, answers, saved_bytes, standing_after, status_of, output_unopened, output_of_lines, output_too_long, IsOutputOf}
 use Rattle.fits_cli.specs.Running.{Heard, heard, AnswersScript, AnswersTooLong, NeedsMemoryAt, ScriptLacksPixels, ScriptReadFails, ScriptWriteFails, ScriptStops, FlushesThen, FlushesAnswers, IsAnsweredRun, IsFlushed}
 use Rattle.fits_cli.specs.Script.{script_lines}
 use Rattle.fits_cli.specs.declared.fault.Fault.{Fault}
@@ -371,10 +371,10 @@ flushed_done terms old new parts now held mid holds told told_after (Err (Reread
 flushed_done terms old new parts now held mid holds told told_after (Err ReadFailed) result done is ok flush = absurd (no_fault result done ReadFailed is flush.0)
 flushed_done terms old new parts now held mid holds told told_after (Err WriteFailed) result done is ok flush = absurd (no_fault result done WriteFailed is flush.0)
 
--- the file after the last line
-left_file : (terms : Terms) (parts : FileParts) (now : Standing) (lines : List (List ℕ)) → now ≡ standing_after (at_first_line terms parts) lines
-    → file_bytes now.marked.file ≡ file_bytes (standing_after (at_first_line terms parts) lines).marked.file
-left_file terms parts now lines left = ap (λ (s : Standing). file_bytes s.marked.file) left
+-- what is saved after the last line
+saved-left : (terms : Terms) (parts : FileParts) (now : Standing) (lines : List (List ℕ)) → now ≡ standing_after (at_first_line terms parts) lines
+    → saved_bytes terms now ≡ saved_bytes terms (standing_after (at_first_line terms parts) lines)
+saved-left terms parts now lines left = ap (saved_bytes terms) left
 
 -- a failed read is no change
 pub failed_unchanged : again.Failed ≡ again.Changed → ⊥
@@ -387,7 +387,7 @@ again_stored stored fault is (inr once) = absurd (subst IsOnce is once)
 
 -- a run whose file can't be saved
 pub StopsBy-saving : (old new : RunState) (fault : Fault) (parts : FileParts) (now : Standing) (told told_after : Option SinkState) → Opens old.file parts → StaysQuiet old.file new.file → (old.stored ≡ true) ⊎ IsOnce fault
-    → IsFlushed old.terms old.script new.script parts now old.printed new.printed told told_after → SaveFails (file_bytes now.marked.file) old.saved new.saved fault → StopsBy old new fault
+    → IsFlushed old.terms old.script new.script parts now old.printed new.printed told told_after → SaveFails (saved_bytes old.terms now) old.saved new.saved fault → StopsBy old new fault
 StopsBy-saving old new fault parts now told told_after opened of_file re flushed (inl fails) =
     let done = flushed.script in
     let lines : List (List ℕ) = script_lines done.lines done.last in
@@ -403,7 +403,7 @@ StopsBy-saving old new fault parts now told told_after opened of_file re flushed
       whole = refl;
       printed = Prints-flushed old.printed flushed.mid new.printed (answers (at_first_line old.terms parts) lines) done.answered.said.printed flushed.flush;
       flushed = flushed.flush.flushed;
-      saved = subst (λ (t : List ℕ). PrintsFront t old.saved new.saved) (left_file old.terms parts now lines done.answered.left) fails.1;
+      saved = subst (λ (t : List ℕ). PrintsFront t old.saved new.saved) (saved-left old.terms parts now lines done.answered.left) fails.1;
     }))
 StopsBy-saving old new fault parts now told told_after opened of_file re flushed (inr fails) =
     let done = flushed.script in
@@ -420,13 +420,13 @@ StopsBy-saving old new fault parts now told told_after opened of_file re flushed
       printed = Prints-flushed old.printed flushed.mid new.printed (answers (at_first_line old.terms parts) lines) done.answered.said.printed flushed.flush;
       flushed = flushed.flush.flushed;
       count = fails.1.0;
-      saved = subst (λ (t : List ℕ). Prints (take fails.1.0 t) old.saved new.saved) (left_file old.terms parts now lines done.answered.left) fails.1.1;
+      saved = subst (λ (t : List ℕ). Prints (take fails.1.0 t) old.saved new.saved) (saved-left old.terms parts now lines done.answered.left) fails.1.1;
     } in
     subst (λ (f : Fault). StopsBy old new f) (sym fails.0) (again_stored old.stored fault fails.0 re, (failed_unchanged, inr (refl, here)))
 
 -- a run to its end
 pub Succeeds-saved : (old new : RunState) (parts : FileParts) (now : Standing) (told told_after : Option SinkState) → Opens old.file parts → StaysQuiet old.file new.file
-    → IsFlushed old.terms old.script new.script parts now old.printed new.printed told told_after → Prints (file_bytes now.marked.file) old.saved new.saved → new.saved.unflushed ≡ 0
+    → IsFlushed old.terms old.script new.script parts now old.printed new.printed told told_after → Prints (saved_bytes old.terms now) old.saved new.saved → new.saved.unflushed ≡ 0
     → Succeeds old new (status_of now)
 Succeeds-saved old new parts now told told_after opened of_file flushed saved flush =
     let done = flushed.script in
@@ -440,7 +440,7 @@ Succeeds-saved old new parts now told told_after opened of_file flushed saved fl
         told_script = script_told old.script new.script done.script done.read done.ended;
         is = output_whole old.terms old.script new.script old.file parts now (heard old.printed told) (heard flushed.mid told_after) opened done;
         printed = Prints-flushed old.printed flushed.mid new.printed (answers (at_first_line old.terms parts) lines) done.answered.said.printed flushed.flush;
-        saved = subst (λ (t : List ℕ). Prints t old.saved new.saved) (left_file old.terms parts now lines done.answered.left) saved;
+        saved = subst (λ (t : List ℕ). Prints t old.saved new.saved) (saved-left old.terms parts now lines done.answered.left) saved;
         status_is = ap status_of done.answered.left;
         fault_is = refl;
         read = record { of_file = of_file; of_script = done.read.quiet };
@@ -480,7 +480,7 @@ Undone-asked old new now told told_after run saved some = record {
 }
 
 -- a run of which all were
-pub Whole-saved : (old new : RunState) (now : Standing) (told told_after : Option SinkState) → IsAnsweredRun old.terms old.file new.file old.script new.script old.printed new.printed told told_after now → Prints (file_bytes now.marked.file) old.saved new.saved → new.saved.unflushed ≡ 0 → now.refused ≡ 0
+pub Whole-saved : (old new : RunState) (now : Standing) (told told_after : Option SinkState) → IsAnsweredRun old.terms old.file new.file old.script new.script old.printed new.printed told told_after now → Prints (saved_bytes old.terms now) old.saved new.saved → new.saved.unflushed ≡ 0 → now.refused ≡ 0
     → IsDoneWhole old new (status_of now) now.refused
 unfolding Succeeds-saved standing_after
 Whole-saved old new now told told_after run saved flushed none = record {

@@ -30,35 +30,35 @@ said_line line command is = subst (λ (found : Option Command). AllIn IsSized fo
     of false found e = absurd (cc)
 
 -- the file after a question is the one before
-asked_file : {X : Type 0} (standing : Standing) (text : X → List ℕ) (answer : Result X Refusal) → IsFile standing.marked.file → IsFile (after_outcome standing (asked standing.marked text answer)).marked.file
-asked_file standing text (Ok answer) p = p
-asked_file standing text (Err why) p = p
+asked_file : {X : Type 0} (standing : Standing) (command : Command) (text : X → List ℕ) (answer : Result X Refusal) → IsFile standing.marked.file → IsFile (after_outcome standing command (asked standing.marked text answer)).marked.file
+asked_file standing command text (Ok answer) p = p
+asked_file standing command text (Err why) p = p
 
 -- also where two are asked
-sums_file : (standing : Standing) (sum : Result ℕ Refusal) (verdicts : Result Verdicts Refusal) → IsFile standing.marked.file → IsFile (after_outcome standing (sums_asked standing.marked sum verdicts)).marked.file
-sums_file standing (Ok sum) (Ok verdicts) p = p
-sums_file standing (Ok sum) (Err why) p = p
-sums_file standing (Err why) verdicts p = p
+sums_file : (standing : Standing) (command : Command) (sum : Result ℕ Refusal) (verdicts : Result Verdicts Refusal) → IsFile standing.marked.file → IsFile (after_outcome standing command (sums_asked standing.marked sum verdicts)).marked.file
+sums_file standing command (Ok sum) (Ok verdicts) p = p
+sums_file standing command (Ok sum) (Err why) p = p
+sums_file standing command (Err why) verdicts p = p
 
 -- an edit leaves a file, done or refused
 edit_file : (standing : Standing) (edit : SessionEdit) (refusal : Option Refusal) → marked_refusal standing.marked edit ≡ refusal → HasSizes edit → IsFile standing.marked.file
-    → IsFile (after_outcome standing (unless refusal (record { text = []; left = marked_after standing.marked edit }))).marked.file
+    → IsFile (after_outcome standing (Edit edit) (unless refusal (record { text = []; left = marked_after standing.marked edit }))).marked.file
 edit_file standing edit (Some why) is sizes p = p
 edit_file standing edit None is sizes p = edited standing.marked edit sizes p is
 
 -- so does every command whose cards and names are as long as they are
-command_file : (standing : Standing) (command : Command) → IsSized command → IsFile standing.marked.file → IsFile (after_outcome standing (outcome_of standing.marked command)).marked.file
+command_file : (standing : Standing) (command : Command) → IsSized command → IsFile standing.marked.file → IsFile (after_outcome standing command (outcome_of standing.marked command)).marked.file
 unfolding outcome_of
 command_file standing Nothing sized p = p
 command_file standing (Edit edit) sized p = edit_file standing edit (marked_refusal standing.marked edit) refl sized p
 command_file standing Offsets sized p = p
-command_file standing (Get hdu name) sized p = asked_file standing _ (value_in standing.marked.file hdu name) p
-command_file standing (Positions hdu name) sized p = asked_file standing _ (some_places (positions_in standing.marked.file hdu name)) p
+command_file standing (Get hdu name) sized p = asked_file standing (Get hdu name) _ (value_in standing.marked.file hdu name) p
+command_file standing (Positions hdu name) sized p = asked_file standing (Positions hdu name) _ (some_places (positions_in standing.marked.file hdu name)) p
 command_file standing Report sized p = p
-command_file standing (Statistics hdu) sized p = asked_file standing _ (stats_in standing.marked.file hdu) p
-command_file standing (Rectangle hdu lo hi) sized p = asked_file standing _ (rect_in standing.marked.file hdu lo hi) p
-command_file standing (Sums hdu) sized p = sums_file standing (datasum_in standing.marked.file hdu) (verdicts_in standing.marked.file hdu) p
-command_file standing (Kept hdu) sized p = asked_file standing kept_line (kept_in standing.marked hdu) p
+command_file standing (Statistics hdu) sized p = asked_file standing (Statistics hdu) _ (stats_in standing.marked.file hdu) p
+command_file standing (Rectangle hdu lo hi) sized p = asked_file standing (Rectangle hdu lo hi) _ (rect_in standing.marked.file hdu lo hi) p
+command_file standing (Sums hdu) sized p = sums_file standing (Sums hdu) (datasum_in standing.marked.file hdu) (verdicts_in standing.marked.file hdu) p
+command_file standing (Kept hdu) sized p = asked_file standing (Kept hdu) kept_line (kept_in standing.marked hdu) p
 
 -- and every line
 line_file : (standing : Standing) (line : List ℕ) (reading : LineReading) → reading_of line ≡ reading → IsFile standing.marked.file → IsFile (line_left standing reading).marked.file

@@ -13,7 +13,6 @@ use Rattle.fits_cli.specs.Running.{Heard, AnswersLine, AnswersLines, LacksReply,
 use Rattle.fits_cli.specs.Script.{HasNoLineFeed, script_lines}
 use Rattle.fits_cli.specs.declared.fault.Fault.{Fault}
 use Rattle.fits_cli.specs.declared.fault.Fault.TheVariants.{Refused, ScriptTooLong, Memory, ReadFailed, WriteFailed, Reread as RereadFault}
-use Rattle.fits_cli.specs.declared.reread.Reread.{Reread}
 use Rattle.fits_cli.specs.Faults.{fault_of_load, reread_of, IsUnchanged}
 use Rattle.fits_plane.specs.declared.again.LoadFault.{LoadFault}
 use Rattle.fits_plane.specs.declared.again.LoadFault.TheVariants as load

@@ -14,7 +14,6 @@ use Rattle.fits_cli.specs.Faults.{FlushFails}
 use Rattle.fits_stream.specs.Stream.{SourceState, SinkState, FailsToRead, Flushes, Reads}
 use Rattle.fits_cli.specs.declared.fault.Fault.{Fault}
 use Rattle.fits_cli.specs.declared.fault.Fault.TheVariants.{Refused, ScriptTooLong, Memory, ReadFailed, WriteFailed, Reread as RereadFault}
-use Rattle.fits_cli.specs.declared.reread.Reread.{Reread}
 
 -- bytes within a limit are all taken
 within_limit : (limit : ℕ) (bytes : List ℕ) → length bytes ≤ limit → take limit bytes ≡ bytes

@@ -1,5 +1,5 @@
 -- What the lines of a script print and do (own).
-use Rattle.std.specs.Prelude.{◌≡◌, ◌<◌, ◌⊎◌, ℕ, ◌+◌, Bool, false, true, List, [], ◌∷◌, ◌++◌, codes, length, Option, Some, None, Result, Ok, Err, IsOk, IsOkAnd, if◌then◌else◌}
+use Rattle.std.specs.Prelude.{◌≡◌, ◌<◌, ◌⊎◌, ℕ, ◌+◌, Bool, false, true, List, [], ◌∷◌, ◌++◌, ◌||◌, codes, length, Option, Some, None, Result, Ok, Err, IsOk, IsOkAnd, if◌then◌else◌}
 use Rattle.std.specs.Fmt.{decimal}
 use Rattle.std.specs.List.{flat_map}
 use Rattle.fits_hdu.specs.declared.verdicts.Verdicts.{Verdicts}
@@ -112,11 +112,13 @@ CommandFails it command why = outcome_of it command ≡ Err why
 abbrev pub complaint : ℕ → List ℕ → List ℕ
 complaint number why = codes "line " ++ (decimal number ++ (codes ": " ++ (why ++ codes "\n")))
 
--- the file before a line, with its marks, the line's number from 1, and how many lines before it were refused or bad
+-- the file before a line, with its marks, the line's number from 1, how many lines before it were refused or bad, and whether one of
+-- them was an edit that was accepted
 pub record Standing : Type 0 where
   pub marked : Marked
   pub line : ℕ
   pub refused : ℕ
+  pub edited : Bool
 
 -- a file with its marks before the first line, on these terms: each HDU is kept whose sums vouch for it, or none is
 abbrev pub marked_first : Terms → FileParts → Marked
@@ -124,11 +126,16 @@ marked_first terms file = record { file = file; kept = if terms.sums then (vouch
 
 -- before the first line
 abbrev pub at_first_line : Terms → FileParts → Standing
-at_first_line terms file = record { marked = marked_first terms file; line = 1; refused = 0 }
+at_first_line terms file = record { marked = marked_first terms file; line = 1; refused = 0; edited = false }
 
--- the next line, after one that left this
-abbrev pub after_done : Standing → Marked → Standing
-after_done standing left = record standing { marked = left; line = standing.line + 1 }
+-- the command is an edit
+abbrev pub is_edit : Command → Bool
+is_edit (Edit edit) = true
+is_edit command = false
+
+-- the next line, after one whose command was done and left this
+abbrev pub after_done : Standing → Command → Marked → Standing
+after_done standing command left = record standing { marked = left; line = standing.line + 1; edited = is_edit command || standing.edited }
 
 -- the next line, after one that was refused or bad
 abbrev pub after_refused : Standing → Standing
@@ -139,10 +146,10 @@ abbrev pub outcome_text : ℕ → Result Done Refusal → List ℕ
 outcome_text number (Ok done) = done.text
 outcome_text number (Err why) = complaint number (refusal_text why)
 
--- what an outcome leaves
-abbrev pub after_outcome : Standing → Result Done Refusal → Standing
-after_outcome standing (Ok done) = after_done standing done.left
-after_outcome standing (Err why) = after_refused standing
+-- what the outcome of a command leaves
+abbrev pub after_outcome : Standing → Command → Result Done Refusal → Standing
+after_outcome standing command (Ok done) = after_done standing command done.left
+after_outcome standing command (Err why) = after_refused standing
 
 -- what a line prints
 unfoldable pub line_answer : Standing → LineReading → List ℕ
@@ -154,7 +161,7 @@ line_answer standing (Said command) = outcome_text standing.line (outcome_of sta
 unfoldable pub line_left : Standing → LineReading → Standing
 line_left standing TooLong = after_refused standing
 line_left standing NoCommand = after_refused standing
-line_left standing (Said command) = after_outcome standing (outcome_of standing.marked command)
+line_left standing (Said command) = after_outcome standing command (outcome_of standing.marked command)
 
 -- a command may want data that had passed by
 unfoldable pub CommandWantsPixels : Command → Type 0

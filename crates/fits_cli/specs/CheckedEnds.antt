@@ -21,7 +21,7 @@ abbrev pub kept_back : Bool → ℕ → ℕ
 kept_back whole undone = if whole then undone else 0
 
 -- a script was answered to its end, and no line keeps its result from being saved: that is up to the reports of the bytes that were
--- read and of those to be saved
+-- read and of those that the script makes of them
 pub record IsUpToReports (whole : Bool) (old new : RunState) : Type 0 where
   pub file : List ℕ
   pub script : List ℕ
@@ -34,7 +34,7 @@ pub record IsUpToReports (whole : Bool) (old new : RunState) : Type 0 where
   pub answered : output.fault ≡ None
   pub done : kept_back whole output.undone ≡ 0
   pub before_is : IsReportOf before file
-  pub after_is : IsReportOf after output.saved
+  pub after_is : IsReportOf after output.made
   pub read : ReadsWell old new
 
 -- no error is new: the result is saved, as `edit` saves it

@@ -15,7 +15,6 @@ use Rattle.fits_cli.specs.Terms.{plain}
 use Rattle.fits_cli.specs.declared.end.End.{End}
 use Rattle.fits_cli.specs.declared.fault.Fault.{Fault}
 use Rattle.fits_cli.specs.declared.fault.Fault.TheVariants.{Refused, ScriptTooLong, Memory, ReadFailed, WriteFailed, Reread as RereadFault}
-use Rattle.fits_cli.specs.declared.reread.Reread.{Reread}
 use Rattle.fits_cli.specs.declared.reread.Reread.TheVariants as again
 use Rattle.fits_cli.specs.declared.terms.Terms.{Terms}
 use Rattle.fits_session.specs.Marked.{Marked}

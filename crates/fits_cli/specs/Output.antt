@@ -1,5 +1,5 @@
 -- What a run of `edit` writes and answers: functions of its terms, the file and the script (own).
-use Rattle.std.specs.Prelude.{◌≡◌, ◌⊎◌, ℕ, nat_le, List, [], ◌∷◌, ◌++◌, ◌==◌, length, take, Option, Some, None, if◌then◌else◌}
+use Rattle.std.specs.Prelude.{◌≡◌, ◌⊎◌, ℕ, nat_le, List, [], ◌∷◌, ◌++◌, ◌==◌, ◌&&◌, not, length, take, Option, Some, None, if◌then◌else◌}
 use Rattle.fits_session.specs.File.{FileParts, file_bytes, IsFileOf}
 use Rattle.fits_session.specs.Opening.{HasOpenFault}
 use Rattle.fits_session.specs.declared.open_fault.OpenFault.{OpenFault}
@@ -25,9 +25,15 @@ standing_after standing (line ∷ lines) = standing_after (line_left standing (r
 abbrev pub status_of : Standing → ℕ
 status_of standing = if standing.refused == 0 then 0 else 1
 
--- what a run prints and saves, how many lines were refused or bad, its status, and the fault that ended it
+-- what is saved: nothing where no edit was accepted and such a file is spared, else the file
+abbrev pub saved_bytes : Terms → Standing → List ℕ
+saved_bytes terms standing = if terms.spare && not standing.edited then [] else file_bytes standing.marked.file
+
+-- what a run prints, what its script makes of the file, what is saved, how many lines were refused or bad, its status, and the fault
+-- that ended it
 pub record Output : Type 0 where
   pub text : List ℕ
+  pub made : List ℕ
   pub saved : List ℕ
   pub undone : ℕ
   pub status : ℕ
@@ -35,13 +41,14 @@ pub record Output : Type 0 where
 
 -- a file that doesn't open
 abbrev pub output_unopened : OpenFault → Output
-output_unopened why = record { text = []; saved = []; undone = 0; status = 2; fault = Some (Refused why) }
+output_unopened why = record { text = []; made = []; saved = []; undone = 0; status = 2; fault = Some (Refused why) }
 
--- all lines of a script, and then the file is saved
+-- all lines of a script, and then the file is saved or spared
 abbrev pub output_of_lines : Terms → FileParts → List (List ℕ) → Output
 output_of_lines terms file lines = record {
   text = answers (at_first_line terms file) lines;
-  saved = file_bytes (standing_after (at_first_line terms file) lines).marked.file;
+  made = file_bytes (standing_after (at_first_line terms file) lines).marked.file;
+  saved = saved_bytes terms (standing_after (at_first_line terms file) lines);
   undone = (standing_after (at_first_line terms file) lines).refused;
   status = status_of (standing_after (at_first_line terms file) lines);
   fault = None;
@@ -51,6 +58,7 @@ output_of_lines terms file lines = record {
 abbrev pub output_too_long : Terms → FileParts → List (List ℕ) → Output
 output_too_long terms file lines = record {
   text = answers (at_first_line terms file) lines;
+  made = [];
   saved = [];
   undone = (standing_after (at_first_line terms file) lines).refused;
   status = 2;

@@ -2,7 +2,7 @@
 ghost use Rattle.std.specs.Prelude.{◌≡◌, ◌++◌, IfOk, IfErr, OnOk, OnErr, Ok};
 ghost use Rattle.fits_session.specs.Session.{marked_of};
 ghost use Rattle.fits_cli.specs.Answer.{offset_line, offset_lines, offsets_text};
-ghost use Rattle.fits_cli.specs.Answer.{outcome_of, CommandFails, IsReady};
+ghost use Rattle.fits_cli.specs.Answer.{is_edit, outcome_of, CommandFails, IsReady};
 
 use crate::kept_line::kept;
 use crate::pixel_answers::{rectangle, statistics, sums};
@@ -51,6 +51,13 @@ pub(crate) fn answer<H: Holder + Drop>(
         Command::Sums { hdu } => sums(alloc, session, hdu),
         Command::Kept { hdu } => kept(alloc, session, hdu),
     }
+}
+
+/// Whether a command is an edit.
+pub(crate) fn is_edit(command: &Command) -> bool
+    ensures { result ≡ is_edit command.now }
+{
+    matches!(command, Command::Edit(_))
 }
 
 // Where each HDU begins, its data begin, and it ends.

@@ -194,7 +194,7 @@ fn edit_checked<H: Holder + Drop, S: Source, P: Sink, O: Sink, E: Sink>(
         print_at_once(out, &found.text)?;
         return Ok((1, 0, found.count));
     }
-    runner.save(failed, saved)?;
+    runner.save(terms, failed, saved)?;
     Ok((runner.status(), 0, 0))
 }
 

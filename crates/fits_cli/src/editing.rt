@@ -161,7 +161,7 @@ fn edit<H: Holder + Drop, S: Source, P: Sink, O: Sink, E: Sink>(
         (S.state script.old) (S.state script.new)) }
 {
     let mut runner = answered(alloc, terms, session, failed, script, out, told)?;
-    runner.save(failed, saved)?;
+    runner.save(terms, failed, saved)?;
     Ok(runner.status())
 }
 

@@ -4,7 +4,7 @@ ghost use Rattle.fits_cli.specs.Answer.{marked_first};
 ghost use Rattle.fits_session.specs.Marked.{unmarked};
 ghost use Rattle.fits_session.specs.Session.{file_of, marked_of};
 
-use crate::answer::answer;
+use crate::answer::{answer, is_edit};
 use crate::fault::Fault;
 use crate::new_errors::{NewErrors, errors_since};
 use crate::printing::flush;
@@ -26,6 +26,8 @@ pub(crate) struct Runner<H: Holder + Drop> {
     line: u64,
     /// How many lines so far were refused or bad.
     refused: u64,
+    /// Whether a line so far was an edit that was accepted.
+    edited: bool,
 }
 
 impl<H: Holder + Drop> Model for Runner<H> {
@@ -39,23 +41,23 @@ impl<H: Holder + Drop> Model for Runner<H> {
       marked = marked_of runner.session;
       line = runner.line;
       refused = runner.refused;
+      edited = runner.edited;
     } };
 
     ghost invariant = { λ runner. runner.refused < runner.line };
 }
 
 impl<H: Holder + Drop> Runner<H> {
-    ghost use Rattle.std.specs.Prelude.{◌≡◌, ◌+◌, ◌^◌, ◌<◌, true, AllPairs, if◌then◌else◌, length, IfOk, IfErr, OnOk, OnErr};
+    ghost use Rattle.std.specs.Prelude.{◌≡◌, ◌+◌, ◌^◌, ◌<◌, ◌&&◌, ◌||◌, not, true, AllPairs, if◌then◌else◌, length, IfOk, IfErr, OnOk, OnErr};
     ghost use Rattle.fits_stream.specs.Stream.{Prints};
     ghost use Rattle.fits_cli.specs.Answer.{at_first_line, line_answer, line_left, LineNeedsMemory};
     ghost use Rattle.fits_script.specs.Line.{reading_of};
-    ghost use Rattle.fits_cli.specs.Output.{status_of};
+    ghost use Rattle.fits_cli.specs.Output.{saved_bytes, status_of};
     ghost use Rattle.fits_cli.specs.Remark.{remark_by, remark_on};
     ghost use Rattle.fits_cli.specs.Reply.{counts_as_refused, reply_text};
     ghost use Rattle.fits_cli.specs.Faults.{FaultCounts, IsOnce, SaveFails};
     ghost use Rattle.fits_cli.specs.Running.{LacksReply};
     ghost use Rattle.fits_cli.specs.NewErrors.{new_error_lines, new_errors};
-    ghost use Rattle.fits_session.specs.File.{file_bytes};
     ghost use Rattle.fits_session.specs.Marked.{unmarked};
     ghost use Rattle.fits_session.specs.Report.{report_of, IsListedBefore};
     ghost use Rattle.fits_session.specs.Session.{file_of, marked_of};
@@ -71,6 +73,7 @@ impl<H: Holder + Drop> Runner<H> {
             session,
             line: 1,
             refused: 0,
+            edited: false,
         }
     }
 
@@ -120,31 +123,35 @@ impl<H: Holder + Drop> Runner<H> {
         ensures line { OnOk result (self.new.line ≡ self.old.line + 1) }
     {
         match read_line(alloc, line) {
-            Ok(LineReading::TooLong) => Ok(self.pass(Reply::TooLong)),
-            Ok(LineReading::NoCommand) => Ok(self.pass(Reply::NoCommand)),
+            Ok(LineReading::TooLong) => Ok(self.pass(Reply::TooLong, false)),
+            Ok(LineReading::NoCommand) => Ok(self.pass(Reply::NoCommand, false)),
             Ok(LineReading::Said(command)) => {
                 ready(&mut self.session, &command, failed)?;
                 let clues = clues_of(wanted, &command);
+                let edits = is_edit(&command);
                 let reply = settled(clues, answer(alloc, &mut self.session, command))?;
-                Ok(self.pass(reply))
+                Ok(self.pass(reply, edits))
             }
             Err(refused) => Err(Fault::from(refused)),
         }
     }
 
-    // Goes on to the next line, after one that came to this.
-    fn pass(&mut self, reply: Reply) -> Reply
+    // Goes on to the next line, after one that came to this, whose command is an edit or isn't.
+    fn pass(&mut self, reply: Reply, edits: bool) -> Reply
         requires { self.old.line + 1 < 2 ^ 64 }
         ensures same { result ≡ reply }
         ensures left { self.new ≡ record {
           marked = self.old.marked;
           line = self.old.line + 1;
           refused = self.old.refused + (if counts_as_refused reply then 1 else 0);
+          edited = if counts_as_refused reply then self.old.edited else edits || self.old.edited;
         } }
     {
         self.line += 1;
         if counts_as_refused(&reply) {
             self.refused += 1;
+        } else if edits {
+            self.edited = true;
         }
         reply
     }
@@ -174,16 +181,17 @@ impl<H: Holder + Drop> Runner<H> {
         errors_since(alloc, before, &after)
     }
 
-    /// Saves the file, and flushes it.
+    /// Saves the file on these terms, and flushes it.
     #[tactic(auto, using(fits_stream::proofs::StreamLemmas::flush_steps))]
     pub(crate) fn save<P: Sink>(
         &mut self,
+        terms: Terms,
         failed: &mut FailedReads,
         saved: &mut P,
     ) -> Result<(), Fault>
-        ensures ok { H.steady → OnOk result (Prints (file_bytes self.old.marked.file)
+        ensures ok { H.steady → OnOk result (Prints (saved_bytes terms self.old)
             (P.state saved.old) (P.state saved.new)) }
-        ensures err { H.steady → IfErr result (SaveFails (file_bytes self.old.marked.file)
+        ensures err { H.steady → IfErr result (SaveFails (saved_bytes terms self.old)
             (P.state saved.old) (P.state saved.new)) }
         ensures quiet { OnOk result (failed.new ≡ failed.old) }
         ensures counted { IfErr result (FaultCounts failed.old failed.new) }
@@ -191,8 +199,38 @@ impl<H: Holder + Drop> Runner<H> {
         ensures flushed { OnOk result ((P.state saved.new).unflushed ≡ 0) }
         ensures left { self.new ≡ self.old }
     {
-        self.session.write(failed, saved)?;
+        self.write(terms, failed, saved)?;
         flush(saved)
+    }
+
+    // Writes what is saved on these terms.
+    fn write<P: Sink>(
+        &mut self,
+        terms: Terms,
+        failed: &mut FailedReads,
+        saved: &mut P,
+    ) -> Result<(), Fault>
+        ensures ok { H.steady → OnOk result (Prints (saved_bytes terms self.old)
+            (P.state saved.old) (P.state saved.new)) }
+        ensures err { H.steady → IfErr result (SaveFails (saved_bytes terms self.old)
+            (P.state saved.old) (P.state saved.new)) }
+        ensures quiet { OnOk result (failed.new ≡ failed.old) }
+        ensures counted { IfErr result (FaultCounts failed.old failed.new) }
+        ensures once { H.whole ≡ true → IfErr result IsOnce }
+        ensures left { self.new ≡ self.old }
+    {
+        if self.is_spared(terms) {
+            return Ok(());
+        }
+        self.session.write(failed, saved)?;
+        Ok(())
+    }
+
+    // Whether nothing is saved on these terms, since no edit was accepted.
+    fn is_spared(&self, terms: Terms) -> bool
+        ensures { result ≡ (terms.spare && not self.now.edited) }
+    {
+        terms.spare && !self.edited
     }
 }
 

@@ -166,6 +166,6 @@ fn edit_whole<H: Holder + Drop, S: Source, P: Sink, O: Sink, E: Sink>(
     if undone > 0 {
         return Ok((runner.status(), undone));
     }
-    runner.save(failed, saved)?;
+    runner.save(terms, failed, saved)?;
     Ok((runner.status(), undone))
 }

@@ -29,6 +29,7 @@ pub mod RightLemmas
 pub mod RunLemmas
 pub mod SaidLemmas
 pub mod SetLemmas
+pub mod SparedLemmas
 pub mod SumCardLemmas
 pub mod SumLemmas
 pub mod TextLemmas

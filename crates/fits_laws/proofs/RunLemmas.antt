@@ -36,15 +36,15 @@ accepted_both it [] others p q = q
 accepted_both it (edit ∷ first) others p q = (p.0, p.1, accepted_both (marked_after it edit) first others p.2 q)
 
 -- a question leaves all as it was
-asked_same : {X : Type 0} (standing : Standing) (text : X → List ℕ) (answer : Result X Refusal) → (after_outcome standing (asked standing.marked text answer)).marked ≡ standing.marked
-asked_same standing text (Ok answer) = refl
-asked_same standing text (Err why) = refl
+asked_same : {X : Type 0} (standing : Standing) (command : Command) (text : X → List ℕ) (answer : Result X Refusal) → (after_outcome standing command (asked standing.marked text answer)).marked ≡ standing.marked
+asked_same standing command text (Ok answer) = refl
+asked_same standing command text (Err why) = refl
 
 -- also where two are asked
-sums_same : (standing : Standing) (sum : Result ℕ Refusal) (verdicts : Result Verdicts Refusal) → (after_outcome standing (sums_asked standing.marked sum verdicts)).marked ≡ standing.marked
-sums_same standing (Ok sum) (Ok verdicts) = refl
-sums_same standing (Ok sum) (Err why) = refl
-sums_same standing (Err why) verdicts = refl
+sums_same : (standing : Standing) (command : Command) (sum : Result ℕ Refusal) (verdicts : Result Verdicts Refusal) → (after_outcome standing command (sums_asked standing.marked sum verdicts)).marked ≡ standing.marked
+sums_same standing command (Ok sum) (Ok verdicts) = refl
+sums_same standing command (Ok sum) (Err why) = refl
+sums_same standing command (Err why) verdicts = refl
 
 -- edits leave what they do, each accepted in its turn
 record Leaves (it left : Marked) (edits : List SessionEdit) : Type 0 where
@@ -57,23 +57,23 @@ none_left it left same = record { is = same; accepted = tt }
 
 -- an edit, done or refused
 edit_left : (standing : Standing) (edit : SessionEdit) (refusal : Option Refusal) → marked_refusal standing.marked edit ≡ refusal → HasSizes edit
-    → Leaves standing.marked (after_outcome standing (unless refusal (record { text = []; left = marked_after standing.marked edit }))).marked (edit_unless refusal edit)
+    → Leaves standing.marked (after_outcome standing (Edit edit) (unless refusal (record { text = []; left = marked_after standing.marked edit }))).marked (edit_unless refusal edit)
 edit_left standing edit (Some why) is sizes = none_left standing.marked standing.marked refl
 edit_left standing edit None is sizes = record { is = refl; accepted = (sizes, is, tt) }
 
 -- a command
-command_left : (standing : Standing) (command : Command) → IsSized command → Leaves standing.marked (after_outcome standing (outcome_of standing.marked command)).marked (edits_said standing.marked (Said command))
+command_left : (standing : Standing) (command : Command) → IsSized command → Leaves standing.marked (after_outcome standing command (outcome_of standing.marked command)).marked (edits_said standing.marked (Said command))
 unfolding outcome_of
 command_left standing Nothing sized = none_left _ _ refl
 command_left standing (Edit edit) sized = edit_left standing edit (marked_refusal standing.marked edit) refl sized
 command_left standing Offsets sized = none_left _ _ refl
-command_left standing (Get hdu name) sized = none_left _ _ (asked_same standing _ (value_in standing.marked.file hdu name))
-command_left standing (Positions hdu name) sized = none_left _ _ (asked_same standing _ (some_places (positions_in standing.marked.file hdu name)))
+command_left standing (Get hdu name) sized = none_left _ _ (asked_same standing (Get hdu name) _ (value_in standing.marked.file hdu name))
+command_left standing (Positions hdu name) sized = none_left _ _ (asked_same standing (Positions hdu name) _ (some_places (positions_in standing.marked.file hdu name)))
 command_left standing Report sized = none_left _ _ refl
-command_left standing (Statistics hdu) sized = none_left _ _ (asked_same standing _ (stats_in standing.marked.file hdu))
-command_left standing (Rectangle hdu lo hi) sized = none_left _ _ (asked_same standing _ (rect_in standing.marked.file hdu lo hi))
-command_left standing (Sums hdu) sized = none_left _ _ (sums_same standing (datasum_in standing.marked.file hdu) (verdicts_in standing.marked.file hdu))
-command_left standing (Kept hdu) sized = none_left _ _ (asked_same standing kept_line (kept_in standing.marked hdu))
+command_left standing (Statistics hdu) sized = none_left _ _ (asked_same standing (Statistics hdu) _ (stats_in standing.marked.file hdu))
+command_left standing (Rectangle hdu lo hi) sized = none_left _ _ (asked_same standing (Rectangle hdu lo hi) _ (rect_in standing.marked.file hdu lo hi))
+command_left standing (Sums hdu) sized = none_left _ _ (sums_same standing (Sums hdu) (datasum_in standing.marked.file hdu) (verdicts_in standing.marked.file hdu))
+command_left standing (Kept hdu) sized = none_left _ _ (asked_same standing (Kept hdu) kept_line (kept_in standing.marked hdu))
 
 -- a line
 one_left : (standing : Standing) (line : List ℕ) (reading : LineReading) → reading_of line ≡ reading → Leaves standing.marked (line_left standing reading).marked (edits_said standing.marked reading)

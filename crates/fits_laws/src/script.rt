@@ -1,5 +1,5 @@
 //! Laws of the definitions, each the contract of a function that does nothing.
-ghost use Rattle.std.specs.Prelude.{◌≡◌, ◌↔◌, ◌+◌, ◌<◌, ℕ, true, AllPairs, List, Some, length, take};
+ghost use Rattle.std.specs.Prelude.{◌≡◌, ◌↔◌, ◌+◌, ◌<◌, ℕ, true, AllPairs, false, List, Some, length, take};
 ghost use Rattle.fits_laws.specs.Forms.{Says};
 ghost use Rattle.fits_laws.specs.Runs.{IsEdited, LeavesSums};
 ghost use Rattle.fits_script.specs.declared.command.Command.{Command};
@@ -68,6 +68,15 @@ pub fn a_script_is_its_edits()
 pub fn a_script_keeps_right_sums_right()
     ensures { (terms : Terms) (file : FileParts) (lines : List (List ℕ)) → terms.sums ≡ true
         → IsFile file → LeavesSums terms file lines }
+{}
+
+/// Where no edit of a script is accepted, the file and its marks are as they were before the first
+/// line. So nothing is lost where such a file is spared.
+pub fn no_edit_leaves_the_file()
+    ensures { (terms : Terms) (file : FileParts) (lines : List (List ℕ))
+        → (standing_after (at_first_line terms file) lines).edited ≡ false
+        → (standing_after (at_first_line terms file) lines).marked
+        ≡ (at_first_line terms file).marked }
 {}
 
 /// What the lines of a script leave of a file is a file: it opens again.

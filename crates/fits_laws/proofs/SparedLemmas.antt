@@ -1,0 +1,65 @@
+-- Where no edit is accepted a file stays.
+use Rattle.std.proofs.Common.{◌≡◌, ℕ, Bool, true, false, List, [], ◌∷◌, refl, ◌∙◌, Option, None, Some}
+use Rattle.std.specs.Prelude.{Result, Ok, Err}
+use Rattle.fits_hdu.specs.declared.verdicts.Verdicts.{Verdicts}
+use Rattle.fits_session.specs.Marked.{kept_in, marked_after, marked_refusal}
+use Rattle.fits_session.specs.Query.{datasum_in, positions_in, rect_in, stats_in, value_in, verdicts_in}
+use Rattle.fits_edit.specs.declared.edit.Edit.{Edit as SessionEdit}
+use Rattle.fits_session.specs.declared.refusal.Refusal.{Refusal}
+use Rattle.fits_script.specs.Line.{reading_of}
+use Rattle.fits_script.specs.declared.command.Command.{Command}
+use Rattle.fits_script.specs.declared.command.Command.TheVariants.{Nothing, Edit, Offsets, Get, Positions, Report, Statistics, Rectangle, Sums, Kept}
+use Rattle.fits_script.specs.declared.line_reading.LineReading.{LineReading}
+use Rattle.fits_script.specs.declared.line_reading.LineReading.TheVariants.{TooLong, NoCommand, Said}
+use Rattle.fits_cli.specs.Answer.{Standing, after_outcome, asked, is_edit, kept_line, line_left, outcome_of, some_places, sums_asked, unless}
+use Rattle.fits_cli.specs.Output.{standing_after}
+
+-- unless an edit was accepted by then, none was before, and the file and its marks are as they were
+abbrev pub Stays : Standing → Standing → Type 0
+Stays before after = after.edited ≡ false → (before.edited ≡ false) × (after.marked ≡ before.marked)
+
+-- a question leaves them
+asked_stays : {X : Type 0} (standing : Standing) (command : Command) (text : X → List ℕ) (answer : Result X Refusal) → is_edit command ≡ false → Stays standing (after_outcome standing command (asked standing.marked text answer))
+asked_stays standing command text (Ok answer) query e = (rw query at e, refl)
+asked_stays standing command text (Err why) query e = (e, refl)
+
+-- also where two are asked
+sums_stay : (standing : Standing) (command : Command) (sum : Result ℕ Refusal) (verdicts : Result Verdicts Refusal) → is_edit command ≡ false → Stays standing (after_outcome standing command (sums_asked standing.marked sum verdicts))
+sums_stay standing command (Ok sum) (Ok verdicts) query e = (rw query at e, refl)
+sums_stay standing command (Ok sum) (Err why) query e = (e, refl)
+sums_stay standing command (Err why) verdicts query e = (e, refl)
+
+-- an edit leaves them where it is refused, and is accepted else
+edit_stays : (standing : Standing) (edit : SessionEdit) (refusal : Option Refusal) → Stays standing (after_outcome standing (Edit edit) (unless refusal (record { text = []; left = marked_after standing.marked edit })))
+edit_stays standing edit (Some why) e = (e, refl)
+edit_stays standing edit None e = absurd (cc)
+
+-- so it is of every command
+command_stays : (standing : Standing) (command : Command) → Stays standing (after_outcome standing command (outcome_of standing.marked command))
+unfolding outcome_of
+command_stays standing Nothing e = (e, refl)
+command_stays standing (Edit edit) e = edit_stays standing edit (marked_refusal standing.marked edit) e
+command_stays standing Offsets e = (e, refl)
+command_stays standing (Get hdu name) e = asked_stays standing (Get hdu name) _ (value_in standing.marked.file hdu name) refl e
+command_stays standing (Positions hdu name) e = asked_stays standing (Positions hdu name) _ (some_places (positions_in standing.marked.file hdu name)) refl e
+command_stays standing Report e = (e, refl)
+command_stays standing (Statistics hdu) e = asked_stays standing (Statistics hdu) _ (stats_in standing.marked.file hdu) refl e
+command_stays standing (Rectangle hdu lo hi) e = asked_stays standing (Rectangle hdu lo hi) _ (rect_in standing.marked.file hdu lo hi) refl e
+command_stays standing (Sums hdu) e = sums_stay standing (Sums hdu) (datasum_in standing.marked.file hdu) (verdicts_in standing.marked.file hdu) refl e
+command_stays standing (Kept hdu) e = asked_stays standing (Kept hdu) kept_line (kept_in standing.marked hdu) refl e
+
+-- and of every line
+line_stays : (standing : Standing) (reading : LineReading) → Stays standing (line_left standing reading)
+unfolding line_left
+line_stays standing TooLong e = (e, refl)
+line_stays standing NoCommand e = (e, refl)
+line_stays standing (Said command) e = command_stays standing command e
+
+-- all lines leave them, where none of them is an edit that was accepted
+pub lines_stay : (standing : Standing) (lines : List (List ℕ)) → Stays standing (standing_after standing lines)
+unfolding standing_after
+lines_stay standing [] e = (e, refl)
+lines_stay standing (line ∷ lines) e =
+    let others = lines_stay (line_left standing (reading_of line)) lines e in
+    let first = line_stays standing (reading_of line) others.0 in
+    (first.0, others.1 ∙ first.1)
