@@ -170,7 +170,17 @@ fn run_on<F: Source, S: Source, P: Sink, O: Sink, E: Sink>(
     told: &mut Option<E>,
 ) -> CheckedEnd {
     if terms.checked {
-        return run_edit_checked(alloc, PLAIN, terms.whole, file, script, saved, out, told);
+        return run_edit_checked(
+            alloc,
+            PLAIN,
+            terms.whole,
+            false,
+            file,
+            script,
+            saved,
+            out,
+            told,
+        );
     }
     if terms.whole {
         let WholeEnd { end, undone } = run_edit_whole(alloc, PLAIN, file, script, saved, out, told);
@@ -198,6 +208,7 @@ fn run_on_stored<F: Stored, S: Source, P: Sink, O: Sink, E: Sink>(
             alloc,
             PLAIN,
             terms.whole,
+            false,
             file,
             failed,
             script,
@@ -224,6 +235,7 @@ fn ended(end: End) -> CheckedEnd {
         end,
         undone: 0,
         new_errors: 0,
+        new_warnings: 0,
     }
 }
 
