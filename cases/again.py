@@ -12,7 +12,7 @@ import threading
 
 from faults import NO_MEMORY, OLD, READ_FAILED, WRITE_FAILED, counted, preloaded
 from fits import THREE_PIXELS, header, pixels
-from one_file import BEFORE, COPIED, DENIED, FIRST, LOADED, MANY, REPLACED, SECOND, TAIL, THIRD, WITH_OBJECT, WRITTEN, in_place
+from one_file import BEFORE, COPIED, EMPTIED, FIRST, LOADED, MANY, OVERWRITTEN, REPLACED, SECOND, TAIL, THIRD, WITH_OBJECT, in_place
 from program import Ran, differences, shown
 
 CHANGED = b"fitsed: the file changed while it was read\n"
@@ -143,6 +143,10 @@ class Run:
         out = {"out.fits": self.old} if self.old else {}
         return {"in.fits": of, **out, **({self.words[-1]: self.saved} if is_saved and self.saved else {})}
 
+    def is_of_itself(self):
+        """Whether OUT is IN."""
+        return self.words[0] == "edit" and self.words[-1] == "in.fits"
+
     def whole(self, of=BEFORE):
         """How it ends that meets no fault, and the files then, of which IN is this one."""
         return {"status": 0, "printed": self.printed, "reported": b""}, self.files(of, True)
@@ -201,8 +205,10 @@ def of_copies(shim):
 
 
 def of_any(shim, name, run):
+    # a file that changes isn't replaced, wherever it does
+    fault = CHANGED if run.is_of_itself() else None
     for change in ELSEWHERE:
-        yield f"{name}, {change} elsewhere", changes, shim, run, change, None, run.printed
+        yield f"{name}, {change} elsewhere", changes, shim, run, change, fault, run.printed
     yield f"{name}, reads again fail", each_read_fails, shim, run, {}
 
 
@@ -216,16 +222,28 @@ def of_plain(shim, name, run):
 def of_one_file(shim):
     for script, after in (COPIED[1], LOADED[1]):
         for options in ([], ["-a"], ["-c"]):
-            # what follows the last data unit is in memory
-            yield from of_itself(REPLACED, options, script, after, False, {"LD_PRELOAD": shim, "LENGTH": "216000"})
-            # and so is all of a file that is written in its place
-            yield from of_itself(WRITTEN, options, script, after, True, {"LD_PRELOAD": shim, "LENGTH": "0"})
-            for denied in DENIED:
-                row = {"LD_PRELOAD": shim, "LENGTH": "0", "DENIED": denied}
-                yield from of_itself(REPLACED[:1], options, script, after, True, row)
+            # a file that loses what follows its last data unit isn't replaced, though that is in memory, and none is written
+            # over that loses all
+            yield from of_changed(REPLACED, options, script, {"LD_PRELOAD": shim, "LENGTH": "216000"})
+            yield from of_changed(OVERWRITTEN, options, script, {"LD_PRELOAD": shim, "LENGTH": "0"})
+            yield from of_changed(REPLACED[:1], options, script, {"LD_PRELOAD": shim, "LENGTH": "0", "DENIED": "liken"})
+            for words in REPLACED:
+                yield f"{['edit', *options, *words[1:]]} {script}, as apart", as_apart, ["edit", *options, *words[1:]], script, False
+            # one that is emptied and written in its place is in memory
+            yield from of_itself(EMPTIED, options, script, after, True, {"LD_PRELOAD": shim, "LENGTH": "0"})
+            row = {"LD_PRELOAD": shim, "LENGTH": "0", "DENIED": "create"}
+            yield from of_itself(REPLACED[:1], options, script, after, True, row)
     for words, *row in UNSAVED:
         for names in (["in.fits", "in.fits"], ["-i", "in.fits"]):
             yield f"{words} {names} {row[1:3]}, nothing is left", unsaved, shim, [*words, *names], *row
+
+
+def of_changed(ways, options, script, row):
+    """A file that is IN and OUT, and has this length by the time that data are read again."""
+    for _, *words in ways:
+        typed = ["edit", *options, *words]
+        title = f"{typed} {script}, {row['LENGTH']} bytes, {row.get('DENIED', 'nothing')} denied"
+        yield title, in_place, typed, script, BEFORE[: int(row["LENGTH"])], True, row, CHANGED
 
 
 def of_itself(ways, options, script, after, is_written, row):

@@ -243,7 +243,7 @@ EDITS = [SHORTEST, QUESTIONS, *SCRIPTS]
 
 # A stream of a script over the shortest file that moves so many bytes, one a call, and then fails; and how many bytes
 # are printed and how many saved.
-ASKED_STOPS = [("answers", 15, 15, 0), ("saved", 100, len(QUESTIONS[2]), 100)]
+ASKED_STOPS = [("answers", 15, 15, 0), ("saved", 100, len(QUESTIONS[2]), 0)]
 
 STOPS = [
     # also where the file's bytes would be refused, or are whole
@@ -253,7 +253,8 @@ STOPS = [
     *[("script", count, 14, 0) for count in (4, 15)],
     *[("script", count, 36, 0) for count in (16, 34, 37)],
     *[("answers", count, count, 0) for count in (0, 15)],
-    *[("saved", count, 50, count) for count in (0, 100, 250, 2879)],
+    # a new OUT gets its name once all is saved
+    *[("saved", count, 50, 0) for count in (0, 100, 250, 2879)],
 ]
 
 

@@ -1,7 +1,7 @@
 """OUT that is IN, by its own name or by another: what is saved is right, whatever of IN is read when it is written.
 
-A file with two names, one that is reached by a descriptor, and one beside which no new file can be made are written in their
-places; any other is replaced."""
+A file with two names is written over once the whole result stands beside it, one that is reached by a descriptor, and one beside
+which no new file can be made, are written in their places; any other is replaced."""
 import os
 import pathlib
 import subprocess
@@ -56,19 +56,21 @@ REPLACED = [
     ["edit", "-i", "link.fits"],
 ]
 
-# OUT is written in its place.
-WRITTEN = [
+# OUT is written over once all of the result stands beside it; and emptied and written in its place.
+OVERWRITTEN = [
     ["edit", "in.fits", "other.fits"],
     ["edit", "other.fits", "other.fits"],
     ["edit", "link.fits", "other.fits"],
-    ["edit", "in.fits", "/dev/fd/{it}"],
-    ["edit", "in.fits", "/proc/self/fd/{it}"],
     ["edit", "/dev/fd/{it}", "other.fits"],
-    ["edit", "/dev/fd/{it}", "/proc/self/fd/{it}"],
     ["edit", "-i", "other.fits"],
 ]
+EMPTIED = [
+    ["edit", "in.fits", "/dev/fd/{it}"],
+    ["edit", "in.fits", "/proc/self/fd/{it}"],
+    ["edit", "/dev/fd/{it}", "/proc/self/fd/{it}"],
+]
 
-# What can't be done with a file beside OUT, so that it isn't replaced: it is made, or gets the permissions of the old one.
+# What can't be done with a file beside OUT, so that OUT isn't replaced: it is made, or gets the permissions of the old one.
 DENIED = ["create", "liken"]
 
 
@@ -76,16 +78,18 @@ def cases():
     shim = preloaded()
     for script, after in SCRIPTS:
         for words in REPLACED:
-            yield f"{words} {script}", in_place, words, script, after, False, {}
-        for words in WRITTEN:
+            # a file of which no edit was accepted stays
+            yield f"{words} {script}", in_place, words, script, after, not script, {}
+        for words in OVERWRITTEN + EMPTIED:
             yield f"{words} {script}", in_place, words, script, after, True, {}
         for denied in DENIED:
             row = {"LD_PRELOAD": shim, "DENIED": denied}
             yield f"{denied} denied, {script}", in_place, REPLACED[0], script, after, True, row
 
 
-def in_place(program, words, script, after, is_written, environment):
-    """Where a script over a file that is IN and OUT doesn't end well, saves something else, or leaves other files."""
+def in_place(program, words, script, after, is_written, environment, fault=b""):
+    """Where a script over a file that is IN and OUT doesn't end well, or by this fault, leaves other bytes than these, or other
+    files."""
     with program.room({"in.fits": BEFORE}) as room, open(f"{room}/in.fits", "r+b") as it:
         path = pathlib.Path(room)
         (path / "link.fits").symlink_to("in.fits")
@@ -95,7 +99,7 @@ def in_place(program, words, script, after, is_written, environment):
         typed = [program.path, *(word.format(it=it.fileno()) for word in words)]
         how = {"cwd": room, "env": {**os.environ, **environment}, "pass_fds": [it.fileno()]}
         ran = subprocess.run(typed, input=script.encode("latin-1"), capture_output=True, timeout=60, **how)
-        yield from differences(Ran(ran.returncode, ran.stdout, ran.stderr, None), status=0, printed=b"", reported=b"")
+        yield from differences(Ran(ran.returncode, ran.stdout, ran.stderr, None), status=3 if fault else 0, printed=b"", reported=fault)
         if kinds(path) != before:
             yield f"there are {kinds(path)}, and not {before}"
         if os.path.samestat(os.fstat(it.fileno()), (path / "in.fits").stat()) != is_written:
