@@ -12,6 +12,7 @@ import subprocess
 import sys
 
 import again
+import batches
 import card_edits
 import codes
 import commands
@@ -19,9 +20,11 @@ import documents
 import faults
 import hdu_edits
 import keeping
+import kept_sums
 import lines
 import listings
 import long_scripts
+import meanwhile
 import mending
 import odd_places
 import one_file
@@ -31,7 +34,10 @@ import planes
 import program
 import reports
 import reshapes
+import safe_saving
+import saving
 import scripts
+import spared
 import sums
 
 TABLES = [
@@ -54,6 +60,12 @@ TABLES = [
     one_file,
     again,
     odd_places,
+    saving,
+    safe_saving,
+    meanwhile,
+    batches,
+    spared,
+    kept_sums,
     long_scripts,
     documents,
 ]

@@ -87,7 +87,6 @@ def of_scenes():
     for scene in [*REPLACED, *NEW, *NAMED_TWICE] if can_mount() else []:
         yield f"{scene.name}, on a small disk", on_a_small_disk, scene
     if preloaded():
-        yield "a new OUT is on the disk before it gets its name", settles_first
         yield "a new OUT that comes meanwhile", comes_meanwhile
         yield "no file can be made beside OUT for want of room", none_can_be_made
         yield "a file of two names that no memory has room for", large_written_over
@@ -193,13 +192,6 @@ def in_order(program, scene):
     places = [last(calls, call) for call in wanted]
     if places != sorted(places) or -1 in places:
         yield f"these don't come in this order, {wanted}: {calls}"
-
-
-def settles_first(program):
-    """Where a new OUT gets its name before it is on the disk."""
-    calls = merged(calls_of(program, NEW[0]))
-    if not 0 <= last(calls, "fsync out.fits.fitsed-0") < last(calls, "link out.fits.fitsed-0 out.fits"):
-        yield f"it makes these calls: {calls}"
 
 
 def last(calls, call):

@@ -36,8 +36,6 @@ def cases():
     for script in ("frob", f"{LINE}\nfrob"):
         scene = Scene("-a", ("-a", *IN_PLACE), ALONE, "in.fits")
         yield f"-a, {script!r}", is_spared, scene, script, f"line {len(script.splitlines())}: not a command\n", 1
-    yield "its folder, nothing is asked", folder_is_spared, SCENES[0], "get 1 NAXIS"
-    yield "its folder, a line is refused", folder_is_spared, SCENES[0], "del 1 1"
     yield "several, of which one is edited", one_of_several
     yield "another OUT", is_written
     yield "an edit that is done, and one that isn't", is_edited
@@ -59,17 +57,6 @@ def is_spared(program, scene, script, printed, status):
         yield from apart(came, contents(path), told, scene.undone())
         if times(path / "in.fits") != before:
             yield "it is written"
-
-
-def folder_is_spared(program, scene, script):
-    """Where something came to its folder, or went."""
-    with scene.laid(program) as path:
-        os.utime(path, ns=(LONG_AGO, LONG_AGO))
-        before = times(path)
-        with begun(program, path, ["edit", "-e", script, *scene.typed]) as ran:
-            ended(ran)
-        if times(path) != before:
-            yield "its folder has another time"
 
 
 def one_of_several(program):
