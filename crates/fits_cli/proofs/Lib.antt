@@ -23,5 +23,6 @@ pub mod SizeLemmas
 pub mod StatingLemmas
 pub mod SummingLemmas
 pub mod TellingLemmas
+pub mod UntouchedLemmas
 pub mod ValueLineLemmas
 pub mod VerifyingLemmas

@@ -1,7 +1,8 @@
 -- Queries of pixels and sums as their commands.
 use Rattle.std.proofs.Common.{◌≡◌, ℕ, List, Bool, refl, ap, ◌∙◌, Option, None, Some, Result, Ok, Err}
-use Rattle.std.specs.Prelude.{ok_or}
+use Rattle.std.specs.Prelude.{◌&&◌, ok_or}
 use Rattle.fits_hdu.specs.Hdu.{HduParts}
+use Rattle.fits_hdu.specs.Sums.{verdicts_of}
 use Rattle.fits_hdu.specs.Pixels.{stats_of}
 use Rattle.fits_hdu.specs.declared.pixel_fault.PixelFault.TheVariants as pixel
 use Rattle.fits_hdu.specs.Pixels.{Stats}
@@ -10,6 +11,7 @@ use Rattle.fits_rules.specs.declared.array_shape.Shape.{Shape}
 use Rattle.fits_session.specs.Edit.{hdu_of, is_primary_hdu}
 use Rattle.fits_session.specs.HduEdit.{pixels_made, shaped}
 use Rattle.fits_session.specs.File.{FileParts}
+use Rattle.fits_session.specs.Keeping.{are_right}
 use Rattle.fits_session.specs.Marked.{Marked, is_kept, kept_in}
 use Rattle.fits_session.specs.Query.{by_shape, datasum_in, in_hdu, rect_in, stats_in, verdicts_in, QueryFails}
 use Rattle.fits_session.specs.declared.refusal.Refusal.{Refusal}
@@ -69,4 +71,4 @@ verdicts_fails it h sum why s e = CommandFails-refused it (command.Sums h) why (
 -- asking whether an HDU is kept stamped fails as the query does
 pub kept_fails : (it : Marked) (h : ℕ) (why : Refusal) → kept_in it h ≡ Err why → CommandFails it (command.Kept h) why
 unfolding outcome_of
-kept_fails it h why e = CommandFails-refused it (command.Kept h) why (λ memory. there_memory (λ hdu. is_kept it.kept h) (hdu_of it.file h) (e ∙ ap Err memory)) (rw e refl)
+kept_fails it h why e = CommandFails-refused it (command.Kept h) why (λ memory. there_memory (λ (hdu : HduParts). is_kept it.kept h && are_right (verdicts_of hdu)) (hdu_of it.file h) (e ∙ ap Err memory)) (rw e refl)

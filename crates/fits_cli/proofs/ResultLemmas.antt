@@ -20,7 +20,7 @@ use Rattle.fits_cli.specs.Output.{standing_after}
 use Rattle.fits_cli.proofs.SizeLemmas.{AllIn, IsSized, line_sized}
 
 -- cards and names of what a line says are as long as they are
-said_line : (line : List ℕ) (command : Command) → reading_of line ≡ Said command → IsSized command
+pub said_line : (line : List ℕ) (command : Command) → reading_of line ≡ Said command → IsSized command
 unfolding reading_of
 said_line line command is = subst (λ (found : Option Command). AllIn IsSized found) (of (nat_le (length line) LINE_LIMIT) (command_of line) is) (line_sized line)
   where

@@ -1,10 +1,10 @@
 -- What the lines of a script print and do (own).
-use Rattle.std.specs.Prelude.{◌≡◌, ◌<◌, ◌⊎◌, ℕ, ◌+◌, Bool, false, true, List, [], ◌∷◌, ◌++◌, ◌||◌, codes, length, Option, Some, None, Result, Ok, Err, IsOk, IsOkAnd}
+use Rattle.std.specs.Prelude.{◌≡◌, ◌<◌, ◌⊎◌, ℕ, ◌+◌, Bool, false, true, List, [], ◌∷◌, ◌++◌, ◌||◌, codes, length, Option, Some, None, Result, Ok, Err, IsOk, IsOkAnd, if◌then◌else◌}
 use Rattle.std.specs.Fmt.{decimal}
 use Rattle.std.specs.List.{flat_map}
 use Rattle.fits_hdu.specs.declared.verdicts.Verdicts.{Verdicts}
 use Rattle.fits_session.specs.File.{FileParts, offsets_from}
-use Rattle.fits_session.specs.Marked.{Marked, is_stamped_after, kept_in, marked_after, marked_refusal, unmarked}
+use Rattle.fits_session.specs.Marked.{Marked, is_stamped_after, kept_in, marked_after, marked_refusal, unmarked, vouched}
 use Rattle.fits_session.specs.Query.{datasum_in, positions_in, rect_in, stats_in, value_in, verdicts_in}
 use Rattle.fits_session.specs.Report.{report_of}
 use Rattle.fits_session.specs.Refusal.{refusal_text, EditNeedsMemory}
@@ -120,9 +120,9 @@ pub record Standing : Type 0 where
   pub refused : ℕ
   pub edited : Bool
 
--- a file with its marks before the first line, on these terms: no HDU is kept
+-- a file with its marks before the first line, on these terms: each HDU is kept whose sums vouch for it, or none is
 abbrev pub marked_first : Terms → FileParts → Marked
-marked_first terms file = unmarked file
+marked_first terms file = record { file = file; kept = if terms.sums then (vouched file).kept else (unmarked file).kept }
 
 -- before the first line
 abbrev pub at_first_line : Terms → FileParts → Standing

@@ -19,4 +19,5 @@ pub mod Stating
 pub mod Summing
 pub mod Telling
 pub mod Terms
+pub mod Untouched
 pub mod ValueLine

@@ -14,6 +14,7 @@ use Rattle.fits_cli.specs.Listing.{listing}
 use Rattle.fits_cli.specs.Report.{report_text, status_of_report, strict_status}
 use Rattle.fits_cli.specs.Stating.{stating}
 use Rattle.fits_cli.specs.Summing.{status_of_sums, summing, wrong_summing}
+use Rattle.fits_cli.specs.Untouched.{untouched}
 use Rattle.fits_cli.specs.declared.end.End.{End}
 use Rattle.fits_cli.specs.declared.fault.Fault.{Fault}
 use Rattle.fits_cli.specs.declared.fault.Fault.TheVariants.{Refused, ScriptTooLong, Memory, ReadFailed, WriteFailed, Reread as RereadFault}
@@ -25,6 +26,7 @@ abbrev pub text_of : Telling → FileParts → List ℕ
 text_of telling.List file = listing file
 text_of telling.Sums file = summing file
 text_of telling.WrongSums file = wrong_summing file
+text_of telling.Untouched file = untouched file
 text_of telling.Statistics file = stating file
 text_of (telling.Report level) file = report_text level (report_of file)
 text_of (telling.StrictReport level) file = report_text level (report_of file)
@@ -36,6 +38,7 @@ abbrev pub status_of_text : Telling → FileParts → ℕ
 status_of_text telling.List file = 0
 status_of_text telling.Sums file = 0
 status_of_text telling.WrongSums file = status_of_sums file
+status_of_text telling.Untouched file = 0
 status_of_text telling.Statistics file = 0
 status_of_text (telling.Report level) file = status_of_report (report_of file)
 status_of_text (telling.StrictReport level) file = strict_status (report_of file)

@@ -43,6 +43,7 @@ mod stating;
 mod summing;
 mod telling;
 mod terms;
+mod untouched;
 mod value_line;
 mod verifying;
 mod verifying_cards;

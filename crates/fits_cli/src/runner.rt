@@ -1,3 +1,9 @@
+//! A file and how far its script has come.
+ghost use Rattle.std.specs.Prelude.{◌≡◌};
+ghost use Rattle.fits_cli.specs.Answer.{marked_first};
+ghost use Rattle.fits_session.specs.Marked.{unmarked};
+ghost use Rattle.fits_session.specs.Session.{file_of, marked_of};
+
 use crate::answer::{answer, is_edit};
 use crate::fault::Fault;
 use crate::new_errors::{NewErrors, errors_since};
@@ -56,11 +62,13 @@ impl<H: Holder + Drop> Runner<H> {
     ghost use Rattle.fits_session.specs.Report.{report_of, IsListedBefore};
     ghost use Rattle.fits_session.specs.Session.{file_of, marked_of};
 
-    /// Before the first line, on these terms. No HDU is kept stamped.
-    pub(crate) fn new(session: Session<H>, terms: Terms) -> Runner<H>
+    /// Before the first line, on these terms: where right sums are kept right, each HDU is kept stamped
+    /// whose sums vouch for it.
+    pub(crate) fn new(mut session: Session<H>, terms: Terms) -> Runner<H>
         requires { marked_of session ≡ unmarked (file_of session) }
         ensures { result ≡ at_first_line terms (file_of session) }
     {
+        keep_first(&mut session, terms);
         Runner {
             session,
             line: 1,
@@ -223,5 +231,15 @@ impl<H: Holder + Drop> Runner<H> {
         ensures { result ≡ (terms.spare && not self.now.edited) }
     {
         terms.spare && !self.edited
+    }
+}
+
+// Marks the HDUs that these terms have kept from the first line on.
+fn keep_first<H: Holder + Drop>(session: &mut Session<H>, terms: Terms)
+    requires { marked_of session.old ≡ unmarked (file_of session.old) }
+    ensures { marked_of session.new ≡ marked_first terms (file_of session.old) }
+{
+    if terms.sums {
+        session.keep_right();
     }
 }

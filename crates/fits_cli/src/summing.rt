@@ -91,7 +91,8 @@ fn any_wrong(verdicts: Verdicts) -> bool
     is_wrong(verdicts.datasum) || is_wrong(verdicts.checksum)
 }
 
-fn is_wrong(verdict: Verdict) -> bool
+/// Whether a verdict is so.
+pub(crate) fn is_wrong(verdict: Verdict) -> bool
     ensures { result ≡ is_wrong verdict }
 {
     matches!(verdict, Verdict::Wrong)

@@ -9,6 +9,7 @@ use crate::listing::list;
 use crate::printing::flush;
 use crate::stating::statistics;
 use crate::summing::{sum, wrong_sums};
+use crate::untouched::untouched_sums;
 use crate::verifying::{verify, verify_strictly};
 use crate::verifying_cards::{verify_strictly_with_cards, verify_with_cards};
 use fits_stream::{Sink, Source};
@@ -23,6 +24,8 @@ pub enum Telling {
     Sums,
     /// The same of HDUs of which a sum is wrong. The status is 1 where there is one.
     WrongSums,
+    /// A line for each card of a sum that is wrong: what a run says before that keeps right ones right.
+    Untouched,
     /// The statistics of each image of integers.
     Statistics,
     /// What is wrong, as a level has it. The status is 1 where there is an error.
@@ -87,6 +90,7 @@ fn print_text<F: Source, O: Sink>(
         Telling::List => list(alloc, file, out),
         Telling::Sums => sum(alloc, file, out),
         Telling::WrongSums => wrong_sums(alloc, file, out),
+        Telling::Untouched => untouched_sums(alloc, file, out),
         Telling::Statistics => statistics(alloc, file, out),
         Telling::Report(level) => verify(alloc, level, file, out),
         Telling::StrictReport(level) => verify_strictly(alloc, level, file, out),

@@ -1,5 +1,5 @@
 -- Headers that were read are those of a file, or the bytes have the fault.
-use Rattle.std.proofs.Common.{◌≡◌, ℕ, ◌+◌, List, [], ◌++◌, length, subst, ap, ◌∙◌, arith, Option, Some, inr}
+use Rattle.std.proofs.Common.{◌≡◌, ℕ, List, [], ◌++◌, length, subst, ap, ◌∙◌, arith, Option, Some, inr}
 use Rattle.std.proofs.lemmas.List.{append-nil}
 use Rattle.fits_hdu.specs.Hdu.{HduParts}
 use Rattle.fits_hdu.specs.declared.fault.HduFault.{HduFault}

@@ -1,3 +1,4 @@
+pub mod BesideLemmas
 pub mod BoundLemmas
 pub mod FileKindLemmas
 pub mod FileLemmas
@@ -25,8 +26,11 @@ pub mod ProblemLemmas
 pub mod ReadBackLemmas
 pub mod RepeatedLemmas
 pub mod RightLemmas
+pub mod RunLemmas
 pub mod SaidLemmas
 pub mod SetLemmas
 pub mod SparedLemmas
+pub mod SumCardLemmas
+pub mod SumLemmas
 pub mod TextLemmas
 pub mod WrittenStringLemmas

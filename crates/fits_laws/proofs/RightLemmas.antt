@@ -103,7 +103,7 @@ right_left (suc i) (u ∷ us) (k ∷ ks) right zero hdu there on = right zero hd
 right_left (suc i) (u ∷ us) (k ∷ ks) right (suc j) hdu there on = right_left i us ks (λ n v at m. right (suc n) v at m) j hdu there on
 
 -- what an edit and its stamp leave of an HDU that is kept then has both sums right
-edited_right : (primary : Bool) (edit : HduEdit) (kept : Bool) (hdu : HduParts) (made : Result HduParts Refusal) (stamps : Bool) → HasHduSizes edit → IsHdu primary hdu → hdu_made primary edit hdu ≡ made → IsOk made → kept_after edit kept ≡ true → stamp_follows edit kept ≡ stamps → verdicts_of (stamped_if stamps (made_or hdu made)) ≡ both_right
+pub edited_right : (primary : Bool) (edit : HduEdit) (kept : Bool) (hdu : HduParts) (made : Result HduParts Refusal) (stamps : Bool) → HasHduSizes edit → IsHdu primary hdu → hdu_made primary edit hdu ≡ made → IsOk made → kept_after edit kept ≡ true → stamp_follows edit kept ≡ stamps → verdicts_of (stamped_if stamps (made_or hdu made)) ≡ both_right
 unfolding hdu_made
 edited_right primary edit kept hdu (Err why) stamps sizes whole is ok on follows = cc
 edited_right primary (Cards edit) kept hdu (Ok new) stamps sizes whole is ok on follows = finished_right stamps primary new (stamped_if stamps new) (made_whole primary (Cards edit) hdu new sizes whole is) refl (sym follows ∙ on)
@@ -118,7 +118,7 @@ edited_right primary Keep kept hdu (Ok new) stamps sizes whole is ok on follows 
 edited_right primary Release kept hdu (Ok new) stamps sizes whole is ok on follows = cc
 
 -- an edit that isn't refused makes something
-accepted_ok : (stamps : Bool) (file : FileParts) (h : ℕ) (made : Result HduParts Refusal) → made_refusal stamps file h made ≡ None → IsOk made
+pub accepted_ok : (stamps : Bool) (file : FileParts) (h : ℕ) (made : Result HduParts Refusal) → made_refusal stamps file h made ≡ None → IsOk made
 accepted_ok stamps file h (Ok new) e = refl
 accepted_ok stamps file h (Err why) e = cc
 

@@ -1,5 +1,5 @@
 -- Names, and strings between their quotes, are text.
-use Rattle.std.proofs.Common.{ℕ, ◌+◌, ◌-◌, eqb, List, [], ◌∷◌, ◌++◌, refl, sym, ◌∙◌, ap, inl, inr, ◌≡◌, suc, true, not, drop, arith}
+use Rattle.std.proofs.Common.{ℕ, ◌+◌, eqb, List, [], ◌∷◌, ◌++◌, refl, sym, ◌∙◌, ap, inl, inr, ◌≡◌, suc, true, not, drop, arith}
 use Rattle.std.specs.List.{list_all, prefix_len}
 use Rattle.std.proofs.lemmas.List.Folds.{list_all-append}
 use Rattle.std.proofs.lemmas.Bool.{cases_Bool, and_parts, and_from, cond-true, cond-false}

@@ -5,7 +5,7 @@ use Rattle.fits_rules.specs.Image.{image_bits}
 use Rattle.fits_rules.specs.Lead.{lead_card}
 use Rattle.fits_rules.specs.declared.array_shape.Shape.{Shape}
 use Rattle.fits_image.specs.declared.kind.Kind.{Kind}
-use Rattle.fits_image.specs.Kind.{convention, has_offset, kind_of}
+use Rattle.fits_image.specs.Kind.{convention, kind_of}
 
 -- BSCALE is absent, or denotes 1 (4.4.2.5)
 abbrev pub IsUnscaled : List (List ℕ) → Type 0

@@ -6,3 +6,5 @@ pub mod Fresh
 pub mod Kinds
 pub mod LongStrings
 pub mod Problems
+pub mod Runs
+pub mod Sums

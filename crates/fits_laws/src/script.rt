@@ -1,13 +1,14 @@
 //! Laws of the definitions, each the contract of a function that does nothing.
-ghost use Rattle.std.specs.Prelude.{◌≡◌, ◌↔◌, ◌+◌, ◌<◌, ℕ, AllPairs, false, List, Some, length, take};
+ghost use Rattle.std.specs.Prelude.{◌≡◌, ◌↔◌, ◌+◌, ◌<◌, ℕ, true, AllPairs, false, List, Some, length, take};
 ghost use Rattle.fits_laws.specs.Forms.{Says};
+ghost use Rattle.fits_laws.specs.Runs.{IsEdited, LeavesSums};
 ghost use Rattle.fits_script.specs.declared.command.Command.{Command};
 ghost use Rattle.fits_script.specs.declared.limits.TheConstants.{LINE_LIMIT};
 ghost use Rattle.fits_script.specs.Line.{command_of, reading_of};
 ghost use Rattle.fits_session.specs.File.{FileParts, IsFile};
 ghost use Rattle.fits_session.specs.Report.{IsListedBefore};
 ghost use Rattle.fits_session.specs.declared.problem.Problem.{Problem};
-ghost use Rattle.fits_cli.specs.Answer.{at_first_line};
+ghost use Rattle.fits_cli.specs.Answer.{at_first_line, Standing};
 ghost use Rattle.fits_cli.specs.NewErrors.{new_errors, HasMoreErrors};
 ghost use Rattle.fits_cli.specs.Output.{standing_after, Output, IsOutputOf};
 ghost use Rattle.fits_cli.specs.Script.{IsCutInLines};
@@ -53,6 +54,20 @@ pub fn an_output()
 pub fn more_of_an_error_is_a_new_error()
     ensures { (before after : List Problem) → AllPairs IsListedBefore after
         → HasMoreErrors before after ↔ (0 < length (new_errors before after)) }
+{}
+
+/// What the lines of a script leave is what the edits leave that are done, in their order, each
+/// accepted in its turn.
+pub fn a_script_is_its_edits()
+    ensures { (standing : Standing) (lines : List (List ℕ)) → IsEdited standing lines }
+{}
+
+/// Where right sums are kept right, lines leave those of each HDU that was opened with right ones so,
+/// wherever it stands then, unless it was released; and the two cards of an HDU with a wrong sum, or
+/// with none, byte for byte, unless a line stamps it or changes such a card.
+pub fn a_script_keeps_right_sums_right()
+    ensures { (terms : Terms) (file : FileParts) (lines : List (List ℕ)) → terms.sums ≡ true
+        → IsFile file → LeavesSums terms file lines }
 {}
 
 /// Where no edit of a script is accepted, the file and its marks are as they were before the first

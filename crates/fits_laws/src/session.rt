@@ -22,6 +22,7 @@ ghost use Rattle.fits_laws.specs.Files.{IsKindIn};
 ghost use Rattle.fits_session.specs.Refusal.{refusal_of, size_refusal};
 ghost use Rattle.fits_session.specs.Report.{report_of, IsListedBefore};
 ghost use Rattle.fits_laws.specs.Problems.{IsTrailing, IsWrong};
+ghost use Rattle.fits_laws.specs.Sums.{IsVouched, KeptIsTheMark, OtherSumsStay, RightSumsStay};
 ghost use Rattle.fits_session.specs.Session.{file_of, marked_of, SessionState};
 ghost use Rattle.fits_edit.specs.declared.card_edit.CardEdit.{CardEdit};
 ghost use Rattle.fits_edit.specs.declared.edit.Edit.{Edit};
@@ -72,6 +73,20 @@ pub fn an_edited_file_is_a_file()
 pub fn kept_hdus_stay_right()
     ensures { (it : Marked) (edit : Edit) → HasSizes edit → IsFile it.file → AreRight it
         → marked_refusal it edit ≡ None → AreRight (marked_after it edit) }
+{}
+
+/// What holds of right sums, and of those of HDUs that are kept stamped, holds of them after accepted
+/// edits, wherever they stand then, until they are released. The cards of sums of an HDU that isn't
+/// kept stay, byte for byte, until an edit stamps it or takes such a card out, puts one in or moves one. In a
+/// file of which each HDU is kept whose sums vouch for it, the first is so of their sums, and the other
+/// of all others.
+pub fn right_sums_stay_right_and_others_as_they_are()
+    ensures right { RightSumsStay }
+    ensures others { OtherSumsStay }
+    ensures vouched { (file : FileParts) → IsVouched file }
+
+    // Where both sums are right in each HDU that is kept, a mark is what is said of it.
+    ensures said { KeptIsTheMark }
 {}
 
 /// Edits of a session, one after another, with queries and savings anywhere between: its file, and

@@ -24,7 +24,7 @@ use Rattle.fits_hdu.specs.declared.extension_name.ExtensionName.{ExtensionName}
 use Rattle.fits_session.specs.Away.{is_passed, parts_passed, at_start, AreKnownFrom, LoadsAlone, LoadWork}
 use Rattle.fits_session.specs.Edit.{changed_of, is_primary_hdu, with_hdu}
 use Rattle.fits_session.specs.File.{FileParts, file_bytes, joined_hdus, IsFile}
-use Rattle.fits_session.specs.Keeping.{IsRight}
+use Rattle.fits_session.specs.Keeping.{vouch, IsSound}
 use Rattle.fits_session.specs.Reading.{KeepsEach, ReadStops, SupplyStops}
 use Rattle.fits_session.specs.Session.{file_of, hdus_of, marked_of, state_of, HasStats, Holding, IsHad, IsHeld, IsKept, IsSoOf}
 use Rattle.fits_session.specs.declared.limits.TheConstants.{FILE_LIMIT}
@@ -207,12 +207,12 @@ module _ (holding : Holding) (hdus : List HduState) (tail : List ℕ) (h i bytes
         kept.len ∙ sym size ∙ ap (λ (f : FileParts). length (file_bytes f)) (sym left),
       )
 
-  -- both sums are as right as they were
-  right_still : IsRight new
+  -- its sums vouch for it as they did
+  right_still : IsSound new
   right_still on =
-      let was : IsRight old = subst IsRight (sym at.is) (kept.right i old at.index.within) in
+      let was : IsSound old = subst IsSound (sym at.is) (kept.right i old at.index.within) in
       let mark : new.kept ≡ old.kept = ap (λ (one : HduState). one.kept) loads.rest in
-      same_verdicts (parts_of old) (parts_of new) there.header cards_same loads.total ∙ was (sym mark ∙ on)
+      ap vouch (same_verdicts (parts_of old) (parts_of new) there.header cards_same loads.total) ∙ was (sym mark ∙ on)
 
   -- its cards describe its shape
   described_still : IsDescribed new
@@ -230,7 +230,7 @@ module _ (holding : Holding) (hdus : List HduState) (tail : List ℕ) (h i bytes
     whole = file_is.0;
     len = file_is.1;
     described = All-set IsDescribed hdus i new described_still kept.described;
-    right = All-set IsRight hdus i new right_still kept.right;
+    right = All-set IsSound hdus i new right_still kept.right;
     names = stands_same hdus i old new es at.index.within at.is called (ap (λ (one : HduState). one.entry) loads.rest) kept.names;
     roomy = omega (arith, kept.roomy, length-set hdus i new);
     had = All-set (IsHad holding) hdus i new had kept.had;

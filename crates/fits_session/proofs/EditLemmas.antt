@@ -21,7 +21,7 @@ use Rattle.fits_hdu.specs.Work.{PixelWork, plane_work}
 use Rattle.fits_session.specs.Edit.{changed_at, changed_of, file_after, hdu_edited, hdu_of, is_primary_hdu, with_hdu}
 use Rattle.fits_session.specs.File.{FileParts, file_bytes, joined_hdus, IsFile, IsFileOf}
 use Rattle.fits_session.specs.HduEdit.{hdu_made}
-use Rattle.fits_session.specs.Keeping.{kept_after, padded_if, stamp_follows, stamped_if, then_stamped, IsRight}
+use Rattle.fits_session.specs.Keeping.{kept_after, padded_if, stamp_follows, stamped_if, then_stamped, vouch, IsSound}
 use Rattle.fits_session.specs.Limits.{is_within_limits}
 use Rattle.fits_session.specs.Marked.{Marked, is_kept, marked_after, marked_file_after, marked_refusal, marks_after}
 use Rattle.fits_session.specs.Refusal.{limit_refusal, made_refusal, refusal_in, Fails, HduNeedsMemory, OrStampNeedsMemory}
@@ -43,7 +43,7 @@ use Rattle.fits_session.proofs.PixelEditLemmas.{pixels_keep}
 use Rattle.fits_session.proofs.ReshapeEditLemmas.{reshape_described, reshape_named}
 use Rattle.fits_session.proofs.StandingLemmas.{stands_same}
 use Rattle.fits_session.proofs.MakingLemmas.{limit_none, within_limits}
-use Rattle.fits_session.proofs.StateLemmas.{IsHduAt, file_of-same, kept_of-same, kept_there, parts_changed, right_moved, hdu_of-nowhere, hdu_of-there, hdus_of-changed, length-hdus_of, part_there, primary_there, reads_more, reads_none, reads_twice, reads_up_to, slice_get-hdus_of, works_nowhere, rooms_of-same, unread_of-same, works_of-same, works_there}
+use Rattle.fits_session.proofs.StateLemmas.{IsHduAt, file_of-same, kept_of-same, kept_there, parts_changed, right_moved, sound_of, hdu_of-nowhere, hdu_of-there, hdus_of-changed, length-hdus_of, part_there, primary_there, reads_more, reads_none, reads_twice, reads_up_to, slice_get-hdus_of, works_nowhere, rooms_of-same, unread_of-same, works_of-same, works_there}
 
 -- the file with another HDU at an index is one, where that HDU is one and the file isn't too long
 pub other_kept : (f : List ℕ) (file : FileParts) (i : ℕ) (hdu : HduParts) (change : HduParts → HduParts) → IsFileOf f file → slice_get file.hdus i ≡ Some hdu → IsHdu (is_primary_hdu (suc i)) (change hdu) → length (file_bytes (with_hdu file (suc i) change)) ≤ FILE_LIMIT → IsFile (with_hdu file (suc i) change)
@@ -346,15 +346,15 @@ module _ (holding : Holding) (hdus : List HduState) (tail : List ℕ) (h i : ℕ
   all_described : (result : Result ℕ Refusal) → IsEdited hdus tail h i edit bytes count old new result → All IsDescribed (set hdus i new)
   all_described result p = All-set IsDescribed hdus i new p.edits.described kept.described
 
-  -- in those that are kept stamped both sums are right still
-  all_right : IsRight new → All IsRight (set hdus i new)
-  all_right right = All-set IsRight hdus i new right kept.right
+  -- the sums of those that are kept stamped vouch for them still
+  all_right : IsSound new → All IsSound (set hdus i new)
+  all_right right = All-set IsSound hdus i new right kept.right
 
   -- where nothing of the one that was edited changed
-  right_same : (result : Result ℕ Refusal) → IsEdited hdus tail h i edit bytes count old new result → parts_of new ≡ parts_of old → new.kept ≡ old.kept → IsRight new
+  right_same : (result : Result ℕ Refusal) → IsEdited hdus tail h i edit bytes count old new result → parts_of new ≡ parts_of old → new.kept ≡ old.kept → IsSound new
   right_same result p same mark on =
-      let was : IsRight old = subst IsRight (sym p.at.is) (kept.right i old p.at.index.within) in
-      ap verdicts_of same ∙ was (sym mark ∙ on)
+      let was : IsSound old = subst IsSound (sym p.at.is) (kept.right i old p.at.index.within) in
+      ap (λ (hdu : HduParts). vouch (verdicts_of hdu)) same ∙ was (sym mark ∙ on)
 
   -- the data units are had as they were
   all_had : (result : Result ℕ Refusal) → IsEdited hdus tail h i edit bytes count old new result → All (IsHad holding) (set hdus i new)
@@ -384,7 +384,7 @@ module _ (holding : Holding) (hdus : List HduState) (tail : List ℕ) (h i : ℕ
         whole = left.0;
         len = left.1;
         described = all_described (Ok n) p;
-        right = all_right p.edits.right;
+        right = all_right (sound_of new p.edits.right);
         names = stands_same hdus i old new es p.at.index.within p.at.is called p.edits.entry kept.names;
         roomy = omega (arith, kept.roomy, length-set hdus i new);
         had = all_had (Ok n) p;
@@ -407,7 +407,7 @@ module _ (holding : Holding) (hdus : List HduState) (tail : List ℕ) (h i : ℕ
         whole = subst (λ (f : FileParts). IsFile f) (sym same) is.0;
         len = is.1 ∙ ap (λ (f : FileParts). length (file_bytes f)) (sym same);
         described = describes (all_described (Ok n) p);
-        right = right_moved (set hdus i new) left follows.hdus follows.kept (all_right p.edits.right);
+        right = right_moved (set hdus i new) left follows.hdus follows.kept (all_right (sound_of new p.edits.right));
         names = stands;
         roomy = omega (arith, still, kept.roomy, ap length follows.hdus, length-hdus_of left, length-hdus_of (set hdus i new), length-set hdus i new);
         had = moves holding (all_had (Ok n) p);

@@ -10,7 +10,7 @@ use Rattle.fits_hdu.specs.declared.extension_name.ExtensionName.{ExtensionName}
 use Rattle.std.specs.Map.{keys_of}
 use Rattle.fits_session.specs.File.{FileParts, file_bytes, IsFile}
 use Rattle.fits_session.specs.NameTable.{mended, names_of, IsTableOf, PointsAt, Stands}
-use Rattle.fits_session.specs.Keeping.{IsRight}
+use Rattle.fits_session.specs.Keeping.{IsSound}
 use Rattle.fits_session.specs.Marked.{Marked, unmarked}
 use Rattle.fits_session.specs.Session.{file_of, hdus_of, kept_of, marked_of, reads_of, state_of, uncounted, unentered, without_counts, without_entries, works_of, AreNamed, Holding, IsHad, IsKept}
 use Rattle.fits_session.proofs.StateLemmas.{IsHduAt, parts_same, unkept_right}
@@ -35,11 +35,11 @@ pub hdus_as : (hdus others : List HduState) → without_counts hdus ≡ without_
 hdus_as hdus others same = sym (hdus_of-uncounted hdus) ∙ ap hdus_of same ∙ hdus_of-uncounted others
 
 -- files with the same HDUs are the same
-file_with : (us vs : List HduParts) (tail : List ℕ) → us ≡ vs → (let file : FileParts = record { hdus = us; tail = tail } in file) ≡ record { hdus = vs; tail = tail }
+pub file_with : (us vs : List HduParts) (tail : List ℕ) → us ≡ vs → (let file : FileParts = record { hdus = us; tail = tail } in file) ≡ record { hdus = vs; tail = tail }
 file_with us vs tail same = ap (λ (hdus : List HduParts). let file : FileParts = record { hdus = hdus; tail = tail } in file) same
 
 -- and with the same marks too
-marked_with : (us vs : List HduParts) (tail : List ℕ) (a b : List Bool) → us ≡ vs → a ≡ b → (let it : Marked = record { file = record { hdus = us; tail = tail }; kept = a } in it) ≡ record { file = record { hdus = vs; tail = tail }; kept = b }
+pub marked_with : (us vs : List HduParts) (tail : List ℕ) (a b : List Bool) → us ≡ vs → a ≡ b → (let it : Marked = record { file = record { hdus = us; tail = tail }; kept = a } in it) ≡ record { file = record { hdus = vs; tail = tail }; kept = b }
 marked_with us vs tail a b same marks =
     ap (λ (hdus : List HduParts). let it : Marked = record { file = record { hdus = hdus; tail = tail }; kept = a } in it) same
     ∙ ap (λ (kept : List Bool). let it : Marked = record { file = record { hdus = vs; tail = tail }; kept = kept } in it) marks
@@ -53,7 +53,7 @@ pub seen_all : (P : HduState → Type 0) (see : HduState → HduState) → ((one
 seen_all P see on hdus p = All-map P see hdus (λ i d within. on (get_or hdus i d) (p i d within))
 
 -- the entry of one is the place of its name
-IsPlaced : List ExtensionName → HduState → Type 0
+unfoldable pub IsPlaced : List ExtensionName → HduState → Type 0
 IsPlaced keys hdu = PointsAt keys (name_of hdu) hdu.entry
 
 -- what is kept of HDUs is kept of them without their counts
@@ -65,7 +65,7 @@ kept_without holding hdus tail bytes entries room kept =
       whole = subst (λ (f : FileParts). IsFile f) same kept.whole;
       len = kept.len ∙ ap (λ (f : FileParts). length (file_bytes f)) same;
       described = seen_all IsDescribed uncounted (λ one p. p) hdus kept.described;
-      right = seen_all IsRight uncounted (λ one p. p) hdus kept.right;
+      right = seen_all IsSound uncounted (λ one p. p) hdus kept.right;
       names = record {
         table = subst (λ names. IsTableOf names entries) (sym (names_of-uncounted hdus)) kept.names.table;
         placed = seen_all (IsPlaced (keys_of entries)) uncounted (λ one p. p) hdus kept.names.placed;
@@ -83,7 +83,7 @@ kept_with holding hdus tail bytes entries room kept =
       whole = subst (λ (f : FileParts). IsFile f) same kept.whole;
       len = kept.len ∙ ap (λ (f : FileParts). length (file_bytes f)) same;
       described = all_seen IsDescribed uncounted (λ one p. p) hdus kept.described;
-      right = all_seen IsRight uncounted (λ one p. p) hdus kept.right;
+      right = all_seen IsSound uncounted (λ one p. p) hdus kept.right;
       names = record {
         table = subst (λ names. IsTableOf names entries) (names_of-uncounted hdus) kept.names.table;
         placed = all_seen (IsPlaced (keys_of entries)) uncounted (λ one p. p) hdus kept.names.placed;
@@ -150,10 +150,10 @@ pub described_moved : (hdus others : List HduState) → without_entries hdus ≡
 described_moved hdus others same p =
     all_seen IsDescribed unentered (λ one q. q) hdus (subst (All IsDescribed) (sym same) (seen_all IsDescribed unentered (λ one q. q) others p))
 
--- in those that are kept stamped both sums are right
-pub right_unentered : (hdus others : List HduState) → without_entries hdus ≡ without_entries others → All IsRight others → All IsRight hdus
+-- the sums of those that are kept stamped vouch for them
+pub right_unentered : (hdus others : List HduState) → without_entries hdus ≡ without_entries others → All IsSound others → All IsSound hdus
 right_unentered hdus others same p =
-    all_seen IsRight unentered (λ one q. q) hdus (subst (All IsRight) (sym same) (seen_all IsRight unentered (λ one q. q) others p))
+    all_seen IsSound unentered (λ one q. q) hdus (subst (All IsSound) (sym same) (seen_all IsSound unentered (λ one q. q) others p))
 
 -- and they are as many
 pub count_moved : (hdus others : List HduState) → without_entries hdus ≡ without_entries others → length hdus ≡ length others
@@ -173,8 +173,8 @@ opened_marks more (one ∷ hdus) all =
 pub opened_unmarked : (more : ℕ) (hdus : List HduState) (tail : List ℕ) → All (IsOpened more) hdus → marked_of (state_of hdus tail) ≡ unmarked (file_of (state_of hdus tail))
 opened_unmarked more hdus tail all = marked_with (hdus_of hdus) (hdus_of hdus) tail (kept_of hdus) (replicate (length (hdus_of hdus)) false) refl (opened_marks more hdus all)
 
--- and no sums that have to be right
-pub opened_right : (more : ℕ) (hdus : List HduState) → All (IsOpened more) hdus → All IsRight hdus
+-- and no sums that have to vouch for it
+pub opened_right : (more : ℕ) (hdus : List HduState) → All (IsOpened more) hdus → All IsSound hdus
 opened_right more hdus all = λ i d within. unkept_right (get_or hdus i d) (all i d within).kept
 
 pub ruleset opened_steps = (opened_unmarked, opened_right)

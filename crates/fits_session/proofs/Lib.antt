@@ -30,4 +30,5 @@ pub mod StampEditLemmas
 pub mod StandingLemmas
 pub mod StateLemmas
 pub mod TableLemmas
+pub mod VouchLemmas
 pub mod WalkLemmas

@@ -1,6 +1,6 @@
 -- Steps of queries.
-use Rattle.std.proofs.Common.{◌≡◌, ◌<◌, ◌+◌, ℕ, Bool, true, All, List, length, set, refl, ap, sym, ◌∙◌, subst, ℤ, Option, None, Some}
-use Rattle.std.specs.Prelude.{ok_or, Result, Ok, Err, IsOk}
+use Rattle.std.proofs.Common.{◌≡◌, ◌<◌, ◌+◌, ℕ, Bool, true, false, List, length, set, refl, ap, sym, ◌∙◌, subst, ℤ, Option, None, Some}
+use Rattle.std.specs.Prelude.{◌&&◌, ok_or, Result, Ok, Err, IsOk}
 use Rattle.fits_value.specs.declared.value.Value.{Value}
 use Rattle.fits_header.specs.Names.{header_names}
 use Rattle.fits_header.specs.Places.{keyword_places}
@@ -15,6 +15,8 @@ use Rattle.fits_hdu.specs.Sums.{data_sum, verdicts_of}
 use Rattle.fits_hdu.specs.declared.pixel_fault.PixelFault.{PixelFault}
 use Rattle.fits_hdu.specs.declared.pixel_fault.PixelFault.TheVariants as pixel
 use Rattle.fits_hdu.specs.Pixels.{Stats}
+use Rattle.fits_hdu.specs.declared.verdict.Verdict.{Verdict}
+use Rattle.fits_hdu.specs.declared.verdict.Verdict.TheVariants.{Right, Missing, Wrong}
 use Rattle.fits_hdu.specs.declared.verdicts.Verdicts.{Verdicts}
 use Rattle.fits_hdu.specs.State.{HduState, ReadsUpTo, parts_of}
 use Rattle.fits_hdu.specs.Work.{keyword_reads, plane_work}
@@ -26,7 +28,7 @@ use Rattle.fits_session.specs.HduEdit.{pixels_made, refusal_of_pixels, shaped}
 use Rattle.fits_session.specs.File.{IsFile}
 use Rattle.fits_session.specs.Query.{by_shape, card_count_in, datasum_in, kind_in, rect_in, shape_in, some_shape, stats_in, verdicts_in, value_in, positions_in, names_in, in_hdu, or_refused, refusal_of_keyword, PlacesFail, QueryFails}
 use Rattle.fits_session.specs.Edit.{is_primary_hdu}
-use Rattle.fits_session.specs.Keeping.{both_right, IsRight}
+use Rattle.fits_session.specs.Keeping.{are_right, both_right, is_right}
 use Rattle.fits_session.specs.Marked.{is_kept, kept_in}
 use Rattle.fits_session.specs.Session.{file_of, kept_of, marked_of, read_more, state_of, Asks, AsksPixels}
 use Rattle.fits_session.specs.Work.{reads_in, value_reads}
@@ -109,15 +111,37 @@ datasum_there hdus tail h i n hdu at is = ap Ok is ∙ sym (answer_there (λ (u 
 pub verdicts_there : (hdus : List HduState) (tail : List ℕ) (h i : ℕ) (hdu : HduState) (verdicts : Verdicts) → IsHduAt hdus h i hdu → verdicts ≡ verdicts_of (parts_of hdu) → Path (Result Verdicts Refusal) (Ok verdicts) (verdicts_in (file_of (state_of hdus tail)) h)
 verdicts_there hdus tail h i hdu verdicts at is = ap Ok is ∙ sym (answer_there (λ (u : HduParts). Ok (verdicts_of u)) hdus tail h i hdu at)
 
+-- where two hold the second does
+and_right : (a b : Bool) → (a && b) ≡ true → b ≡ true
+and_right true b on = on
+and_right false b on = cc
+
+-- where both are right each is
+is_both : (datasum checksum : Verdict) → (is_right datasum && is_right checksum) ≡ true → (datasum ≡ Right) × (checksum ≡ Right)
+is_both Right Right on = (refl, refl)
+is_both Right Missing on = cc
+is_both Right Wrong on = cc
+is_both Missing checksum on = cc
+is_both Wrong checksum on = cc
+
 -- whether it is kept stamped
-pub kept_said : (hdus : List HduState) (tail : List ℕ) (h i : ℕ) (hdu : HduState) (kept : Bool) → IsHduAt hdus h i hdu → kept ≡ hdu.kept → Path (Result Bool Refusal) (Ok kept) (kept_in (marked_of (state_of hdus tail)) h)
-kept_said hdus tail h i hdu kept at is = ap Ok (is ∙ sym (kept_there hdus h i hdu at)) ∙ sym (answer_there (λ (u : HduParts). Ok (is_kept (kept_of hdus) h)) hdus tail h i hdu at)
+pub kept_said : (hdus : List HduState) (tail : List ℕ) (h i : ℕ) (hdu : HduState) (kept : Bool) → IsHduAt hdus h i hdu → kept ≡ (hdu.kept && are_right (verdicts_of (parts_of hdu))) → Path (Result Bool Refusal) (Ok kept) (kept_in (marked_of (state_of hdus tail)) h)
+kept_said hdus tail h i hdu kept at is =
+    ap Ok (is ∙ ap (λ mark. mark && are_right (verdicts_of (parts_of hdu))) (sym (kept_there hdus h i hdu at)))
+    ∙ sym (answer_there (λ (u : HduParts). Ok (is_kept (kept_of hdus) h && are_right (verdicts_of u))) hdus tail h i hdu at)
+
+-- sums that are right are both
+both_are : (verdicts : Verdicts) → are_right verdicts ≡ true → verdicts ≡ both_right
+both_are verdicts on =
+    let parts = is_both verdicts.datasum verdicts.checksum on in
+    ap (λ (v : Verdict). let it : Verdicts = record { datasum = v; checksum = verdicts.checksum } in it) parts.0
+    ∙ ap (λ (v : Verdict). let it : Verdicts = record { datasum = Right; checksum = v } in it) parts.1
 
 -- and then both its sums are right
-pub kept_sums : (hdus : List HduState) (tail : List ℕ) (h i : ℕ) (hdu : HduState) (kept : Bool) → All IsRight hdus → IsHduAt hdus h i hdu → kept ≡ hdu.kept → kept ≡ true → verdicts_in (file_of (state_of hdus tail)) h ≡ Ok both_right
-kept_sums hdus tail h i hdu kept right at is on =
-    let own : IsRight hdu = subst IsRight (sym at.is) (right i hdu at.index.within) in
-    sym (verdicts_there hdus tail h i hdu both_right at (sym (own (sym is ∙ on))))
+pub kept_sums : (hdus : List HduState) (tail : List ℕ) (h i : ℕ) (hdu : HduState) (kept : Bool) → IsHduAt hdus h i hdu → kept ≡ (hdu.kept && are_right (verdicts_of (parts_of hdu))) → kept ≡ true → verdicts_in (file_of (state_of hdus tail)) h ≡ Ok both_right
+kept_sums hdus tail h i hdu kept at is on =
+    let right : are_right (verdicts_of (parts_of hdu)) ≡ true = and_right hdu.kept (are_right (verdicts_of (parts_of hdu))) (sym is ∙ on) in
+    sym (verdicts_there hdus tail h i hdu both_right at (sym (both_are (verdicts_of (parts_of hdu)) right)))
 
 -- the values of a rectangle of it
 rect_there : (hdus : List HduState) (tail : List ℕ) (h i : ℕ) (hdu : HduState) (lo hi : List ℕ) → IsFile (file_of (state_of hdus tail)) → IsHduAt hdus h i hdu → shape_of (is_primary hdu.header.shape.class) hdu.header.header.cards ≡ Ok hdu.header.shape → rect_in (file_of (state_of hdus tail)) h lo hi ≡ pixels_made (rect_of hdu.header.shape lo hi (parts_of hdu))

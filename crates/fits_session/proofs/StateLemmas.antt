@@ -17,7 +17,7 @@ use Rattle.fits_hdu.proofs.ShapeLemmas.{one_primary}
 use Rattle.fits_session.specs.Edit.{hdu_of, changed_at, changed_of, is_primary_hdu}
 use Rattle.fits_session.specs.File.{FileParts, IsFile, file_bytes, joined_hdus}
 use Rattle.fits_session.specs.declared.limits.TheConstants.{FILE_LIMIT, HDU_LIMIT}
-use Rattle.fits_session.specs.Keeping.{IsRight}
+use Rattle.fits_session.specs.Keeping.{vouch, IsRight, IsSound}
 use Rattle.fits_session.specs.Marked.{Marked, is_kept}
 use Rattle.fits_session.specs.Session.{SessionState, file_of, hdus_of, kept_of, marked_of, reads_of, rooms_of, works_of, state_of, unread, ReadsOnly, WorksOnly, Asks, IsIndexOf, IsNowhere}
 use Rattle.fits_session.proofs.ChangeLemmas.{hdu_is, part_within}
@@ -197,23 +197,27 @@ kept_at hdus i hdu l e =
 pub kept_there : (hdus : List HduState) (h i : ℕ) (hdu : HduState) → IsHduAt hdus h i hdu → is_kept (kept_of hdus) h ≡ hdu.kept
 kept_there hdus h i hdu at = ap (is_kept (kept_of hdus)) (at.index.at ∙ add-one i) ∙ kept_at hdus i hdu at.index.within at.is
 
--- where both sums are right in an HDU that is kept, they are in one with the same parts and mark
-right_one : (old new : HduState) → parts_of new ≡ parts_of old → new.kept ≡ old.kept → IsRight old → IsRight new
-right_one old new same mark right on = ap verdicts_of same ∙ right (sym mark ∙ on)
+-- sums that are right vouch for their HDU
+pub sound_of : (one : HduState) → IsRight one → IsSound one
+sound_of one right on = ap vouch (right on)
+
+-- where the sums of an HDU that is kept vouch for it, they do for one with the same parts and mark
+right_one : (old new : HduState) → parts_of new ≡ parts_of old → new.kept ≡ old.kept → IsSound old → IsSound new
+right_one old new same mark right on = ap (λ (hdu : HduParts). vouch (verdicts_of hdu)) same ∙ right (sym mark ∙ on)
 
 -- so in all of a list
-pub right_moved : (before after : List HduState) → hdus_of after ≡ hdus_of before → kept_of after ≡ kept_of before → All IsRight before → All IsRight after
-right_moved before [] p q all = All-nil IsRight
+pub right_moved : (before after : List HduState) → hdus_of after ≡ hdus_of before → kept_of after ≡ kept_of before → All IsSound before → All IsSound after
+right_moved before [] p q all = All-nil IsSound
 right_moved [] (new ∷ after) p q all = absurd (cc)
 right_moved (old ∷ before) (new ∷ after) p q all =
     let same : parts_of new ≡ parts_of old = cc in
     let mark : new.kept ≡ old.kept = cc in
     let others : hdus_of after ≡ hdus_of before = cc in
     let marks : kept_of after ≡ kept_of before = cc in
-    All-cons IsRight new after (right_one old new same mark (All-head IsRight old before all)) (right_moved before after others marks (All-tail IsRight old before all))
+    All-cons IsSound new after (right_one old new same mark (All-head IsSound old before all)) (right_moved before after others marks (All-tail IsSound old before all))
 
--- one that isn't kept has no sums that must be
-pub unkept_right : (new : HduState) → new.kept ≡ false → IsRight new
+-- one that isn't kept has no sums that must
+pub unkept_right : (new : HduState) → new.kept ≡ false → IsSound new
 unkept_right new mark on = cc
 
 -- HDU h alone was worked on

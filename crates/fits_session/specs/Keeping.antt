@@ -1,11 +1,12 @@
 -- HDUs that are kept stamped: which edits a stamp follows, and what it leaves (own).
-use Rattle.std.specs.Prelude.{◌≡◌, ℕ, Bool, true, false, [], ◌∷◌, ◌++◌, replicate, Result, Ok, Err}
+use Rattle.std.specs.Prelude.{◌≡◌, ℕ, ◌&&◌, Bool, true, false, not, [], ◌∷◌, ◌++◌, replicate, Result, Ok, Err}
 use Rattle.fits_card.specs.Header.{with_cards}
 use Rattle.fits_hdu.specs.Hdu.{HduParts}
 use Rattle.fits_hdu.specs.Stamp.{stamped}
 use Rattle.fits_hdu.specs.State.{HduState, parts_of}
 use Rattle.fits_hdu.specs.Sums.{verdicts_of}
-use Rattle.fits_hdu.specs.declared.verdict.Verdict.TheVariants.{Right}
+use Rattle.fits_hdu.specs.declared.verdict.Verdict.{Verdict}
+use Rattle.fits_hdu.specs.declared.verdict.Verdict.TheVariants.{Right, Wrong}
 use Rattle.fits_hdu.specs.declared.verdicts.Verdicts.{Verdicts}
 use Rattle.fits_edit.specs.declared.hdu_edit.HduEdit.{HduEdit}
 use Rattle.fits_edit.specs.declared.hdu_edit.HduEdit.TheVariants.{Cards, Keep, Pixels, Release, Reshape}
@@ -55,3 +56,29 @@ both_right = record { datasum = Right; checksum = Right }
 -- they are in an HDU that is kept
 abbrev pub IsRight : HduState → Type 0
 IsRight one = one.kept ≡ true → verdicts_of (parts_of one) ≡ both_right
+
+-- a sum is right
+abbrev pub is_right : Verdict → Bool
+is_right Right = true
+is_right verdict = false
+
+-- a sum is wrong
+abbrev pub is_wrong : Verdict → Bool
+is_wrong Wrong = true
+is_wrong verdict = false
+
+-- both sums are right
+abbrev pub are_right : Verdicts → Bool
+are_right verdicts = is_right verdicts.datasum && is_right verdicts.checksum
+
+-- the sums vouch for their HDU: CHECKSUM is right, and DATASUM isn't wrong
+abbrev pub vouch : Verdicts → Bool
+vouch verdicts = is_right verdicts.checksum && not (is_wrong verdicts.datasum)
+
+-- an HDU, kept where its sums vouch for it
+abbrev pub vouched_one : HduState → HduState
+vouched_one one = record one { kept = vouch (verdicts_of (parts_of one)) }
+
+-- the sums of an HDU that is kept vouch for it
+abbrev pub IsSound : HduState → Type 0
+IsSound one = one.kept ≡ true → vouch (verdicts_of (parts_of one)) ≡ true

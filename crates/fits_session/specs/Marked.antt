@@ -1,9 +1,11 @@
 -- A file some of whose HDUs are kept stamped: what edits come to then, and when they are refused (own).
-use Rattle.std.specs.Prelude.{ℕ, zero, suc, ◌-◌, Bool, false, List, length, get_or, replicate, Option, Result, Ok}
+use Rattle.std.specs.Prelude.{ℕ, zero, suc, ◌-◌, ◌&&◌, Bool, false, List, length, get_or, map, replicate, Option, Result, Ok}
 use Rattle.std.specs.List.{insert, remove}
+use Rattle.fits_hdu.specs.Hdu.{HduParts}
+use Rattle.fits_hdu.specs.Sums.{verdicts_of}
 use Rattle.fits_session.specs.Edit.{changed_of, file_after, hdu_of, with_hdu}
 use Rattle.fits_session.specs.File.{FileParts}
-use Rattle.fits_session.specs.Keeping.{kept_after, stamp_follows, stamped_if}
+use Rattle.fits_session.specs.Keeping.{are_right, kept_after, stamp_follows, stamped_if, vouch}
 use Rattle.fits_session.specs.Query.{in_hdu}
 use Rattle.fits_session.specs.Refusal.{refusal_in, refusal_of}
 use Rattle.fits_edit.specs.declared.edit.Edit.{Edit}
@@ -23,6 +25,10 @@ is_kept kept (suc i) = get_or kept i false
 -- a file of which no HDU is
 abbrev pub unmarked : FileParts → Marked
 unmarked file = record { file = file; kept = replicate (length file.hdus) false }
+
+-- a file of which each HDU is whose sums vouch for it
+abbrev pub vouched : FileParts → Marked
+vouched file = record { file = file; kept = map (λ (hdu : HduParts). vouch (verdicts_of hdu)) file.hdus }
 
 -- whether a stamp follows an edit
 abbrev pub is_stamped_after : List Bool → Edit → Bool
@@ -49,6 +55,6 @@ unfoldable pub marked_refusal : Marked → Edit → Option Refusal
 marked_refusal it (Hdu h edit) = refusal_in (stamp_follows edit (is_kept it.kept h)) it.file h edit (hdu_of it.file h)
 marked_refusal it edit = refusal_of it.file edit
 
--- whether HDU h is kept, or its refusal
+-- whether HDU h is kept, with both sums right, or its refusal
 abbrev pub kept_in : Marked → ℕ → Result Bool Refusal
-kept_in it h = in_hdu (λ hdu. Ok (is_kept it.kept h)) (hdu_of it.file h)
+kept_in it h = in_hdu (λ hdu. Ok (is_kept it.kept h && are_right (verdicts_of hdu))) (hdu_of it.file h)

@@ -18,7 +18,7 @@ use Rattle.fits_hdu.specs.Work.{apply_reads, open_reads, plane_work, FollowsBlan
 use Rattle.fits_session.specs.Edit.{changed_of, hdu_of, is_primary_hdu, made_or}
 use Rattle.fits_session.specs.File.{file_bytes, FileParts, IsFile}
 use Rattle.fits_session.specs.HduEdit.{hdu_changed, hdu_made, needs_pixels}
-use Rattle.fits_session.specs.Keeping.{kept_after, padded_if, stamp_follows, stamped_if, then_stamped, IsRight}
+use Rattle.fits_session.specs.Keeping.{kept_after, padded_if, stamp_follows, stamped_if, then_stamped, IsRight, IsSound}
 use Rattle.fits_session.specs.Marked.{is_stamped_after, marked_after, marked_refusal, Marked}
 use Rattle.fits_session.specs.NameTable.{Stands}
 use Rattle.fits_session.specs.Refusal.{limit_refusal, ChangeNeedsMemory, EditNeedsMemory, Fails, HduNeedsMemory, OrStampNeedsMemory}
@@ -216,12 +216,12 @@ pub record AsksPixels (h count : ℕ) (old new : SessionState) : Type 0 where
   pub pixel_work : works_of new.hdus ≡ changed_of h (read_more count) (works_of old.hdus)
 
 -- the HDUs and the tail are those of a file of so many bytes; the cards of each describe the shape that is kept; in those that are kept
--- stamped both sums are right; a table of names stands for them, with room for a name of each and one more; their data units are had so
+-- stamped the sums vouch for them; a table of names stands for them, with room for a name of each and one more; their data units are had so
 pub record IsKept (holding : Holding) (hdus : List HduState) (tail : List ℕ) (bytes : ℕ) (entries : List (ExtensionName × ℕ)) (room : ℕ) : Type 0 where
   pub whole : IsFile (file_of (state_of hdus tail))
   pub len : bytes ≡ length (file_bytes (file_of (state_of hdus tail)))
   pub described : All IsDescribed hdus
-  pub right : All IsRight hdus
+  pub right : All IsSound hdus
   pub names : Stands hdus entries
   pub roomy : room ≡ length hdus + 1
   pub had : All (IsHad holding) hdus

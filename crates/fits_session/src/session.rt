@@ -15,6 +15,7 @@ mod reading;
 mod reshaping;
 mod saving;
 mod stamping;
+mod vouching;
 
 use crate::holder::{Holder, InMemory};
 use crate::limits::FILE_LIMIT;

@@ -7,6 +7,7 @@ ghost use Rattle.fits_session.specs.Session.{hdus_of, AreNamed};
 
 use super::Session;
 use super::finding::index_of;
+use super::vouching::is_kept;
 use crate::holder::Holder;
 use crate::name_table::NameTable;
 use crate::offsets::HduOffsets;
@@ -90,8 +91,8 @@ impl<H: Holder + Drop> Session<H> {
         Ok(hdu.verdicts())
     }
 
-    /// Whether HDU h is kept stamped: then both its sums are right. Refusal 1. It takes no memory,
-    /// and reads nothing.
+    /// Whether HDU h is kept stamped, with both its sums right. Refusal 1. It takes no memory, and
+    /// reads nothing.
     pub fn kept(&self, h: usize) -> Result<bool, Refusal>
         ensures value { result ≡ kept_in (marked_of self.now) h }
         ensures right { IfOk result (λ kept. kept ≡ true
@@ -99,7 +100,8 @@ impl<H: Holder + Drop> Session<H> {
     {
         let i = index_of(&self.hdus, h)?;
         let hdu = &self.hdus[i];
-        Ok(hdu.kept())
+        let verdicts = hdu.verdicts();
+        Ok(is_kept(hdu.kept(), verdicts))
     }
 
     /// The value of a keyword in HDU h, with the cards that continue it, and its comment. Refusals

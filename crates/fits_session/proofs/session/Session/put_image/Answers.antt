@@ -15,7 +15,7 @@ use Rattle.fits_session.specs.NameTable.{names_of}
 use Rattle.fits_session.proofs.KeptLemmas.{kept_as}
 use Rattle.fits_session.proofs.StandingLemmas.{unnamed_stands}
 use Rattle.fits_session.proofs.TableLemmas.{names_within}
-use Rattle.fits_session.specs.Keeping.{IsRight}
+use Rattle.fits_session.specs.Keeping.{IsSound}
 use Rattle.fits_session.proofs.StateLemmas.{file_within, unkept_right}
 use Rattle.fits_session.proofs.session.Session.put_image.Goals as goal
 
@@ -105,7 +105,7 @@ invariant_of-self-2 g c =
       whole = left;
       len = omega (arith, more, long, c.self.invariant.len, c.in-Some.ensures.len);
       described = all_inserted IsDescribed hdus at new c.in_ok-hdu.ensures.described c.self.invariant.described;
-      right = all_inserted IsRight hdus at new (unkept_right new c.in_ok-hdu.ensures.kept) c.self.invariant.right;
+      right = all_inserted IsSound hdus at new (unkept_right new c.in_ok-hdu.ensures.kept) c.self.invariant.right;
       names = unnamed_stands hdus at new es c.in_ok-hdu.ensures.unnamed c.in_ok-hdu.ensures.entry c.self.invariant.names;
       roomy = omega (arith, c.in_ok-reserve-2.ensures.ok, c.len-3.ensures, c.self.inside.hdus.ok.0, ap length c.reserve.ensures.items, length-insert hdus at new (placed_at (length hdus) c.args.at c.args.axes.now placed).1);
       had = all_inserted (IsHad _) hdus at new (had_held _ new c.in_ok-hdu.ensures.held) c.self.invariant.had;

@@ -3,7 +3,7 @@ use Rattle.std.specs.List.{remove}
 use Rattle.std.proofs.lemmas.List.Edits.{length-remove}
 use Rattle.fits_session.specs.File.{FileParts, file_bytes, IsFile}
 use Rattle.fits_session.specs.NameTable.{Stands}
-use Rattle.fits_session.specs.Keeping.{IsRight}
+use Rattle.fits_session.specs.Keeping.{IsSound}
 use Rattle.fits_session.specs.Session.{without_entries, IsHad}
 use Rattle.fits_session.proofs.HadLemmas.{had_moved}
 use Rattle.fits_session.proofs.KeptLemmas.{count_moved, described_moved, file_of-unentered, right_unentered}
@@ -68,7 +68,7 @@ invariant_of-self g c =
       whole = subst (λ (f : FileParts). IsFile f) (sym same) left;
       len = omega (arith, ap (λ (f : FileParts). length (file_bytes f)) same, less, c.self.invariant.len, length-append (header_bytes hdu.header) hdu.data_unit, c.byte_len-header_len.ensures, ap (λ (h : HeaderState). length (header_bytes h.header)) c.header.ensures, c.data_len-data_len.ensures);
       described = described_moved c.leave.new.hdus.items (remove hdus c.in_ok-i.i) moved (all_left IsDescribed hdus c.in_ok-i.i c.self.invariant.described);
-      right = right_unentered c.leave.new.hdus.items (remove hdus c.in_ok-i.i) moved (all_left IsRight hdus c.in_ok-i.i c.self.invariant.right);
+      right = right_unentered c.leave.new.hdus.items (remove hdus c.in_ok-i.i) moved (all_left IsSound hdus c.in_ok-i.i c.self.invariant.right);
       names = subst (Stands c.leave.new.hdus.items) (sym c.release.ensures.names) c.leave.ensures.stands;
       roomy = omega (arith, c.self.invariant.roomy, c.leave.ensures.room, c.release.ensures.room, count_moved c.leave.new.hdus.items (remove hdus c.in_ok-i.i) moved, length-remove hdus c.in_ok-i.i at.index.within);
       had = had_moved _ c.leave.new.hdus.items (remove hdus c.in_ok-i.i) moved (all_left (IsHad _) hdus c.in_ok-i.i c.self.invariant.had);

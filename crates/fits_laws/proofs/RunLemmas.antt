@@ -1,0 +1,124 @@
+-- What lines leave is what their edits do that are done.
+use Rattle.std.proofs.Common.{◌≡◌, ℕ, List, [], ◌∷◌, ◌++◌, Bool, true, map, refl, ap, sym, subst, ◌∙◌, Option, None, Some}
+use Rattle.std.specs.Prelude.{Result, Ok, Err, if◌then◌else◌}
+use Rattle.fits_hdu.specs.declared.verdicts.Verdicts.{Verdicts}
+use Rattle.fits_edit.specs.declared.edit.Edit.{Edit as SessionEdit}
+use Rattle.fits_session.specs.Edit.{HasSizes}
+use Rattle.fits_session.specs.Marked.{Marked, kept_in, marked_after, marked_refusal}
+use Rattle.fits_session.specs.Query.{datasum_in, positions_in, rect_in, stats_in, value_in, verdicts_in}
+use Rattle.fits_session.specs.declared.refusal.Refusal.{Refusal}
+use Rattle.fits_script.specs.Line.{reading_of}
+use Rattle.fits_script.specs.declared.command.Command.{Command}
+use Rattle.fits_script.specs.declared.command.Command.TheVariants.{Nothing, Edit, Offsets, Get, Positions, Report, Statistics, Rectangle, Sums, Kept}
+use Rattle.fits_script.specs.declared.line_reading.LineReading.{LineReading}
+use Rattle.fits_script.specs.declared.line_reading.LineReading.TheVariants.{TooLong, NoCommand, Said}
+use Rattle.fits_cli.specs.Answer.{Standing, after_outcome, asked, kept_line, line_left, outcome_of, some_places, sums_asked, unless}
+use Rattle.fits_cli.specs.Output.{standing_after}
+use Rattle.fits_cli.proofs.ResultLemmas.{said_line}
+use Rattle.fits_cli.proofs.SizeLemmas.{IsSized}
+use Rattle.fits_session.specs.File.{FileParts, IsFile}
+use Rattle.fits_session.specs.Keeping.{are_right, vouch}
+use Rattle.fits_session.specs.Marked.{unmarked, vouched}
+use Rattle.fits_cli.specs.Answer.{at_first_line}
+use Rattle.fits_cli.specs.declared.terms.Terms.{Terms}
+use Rattle.fits_laws.specs.Runs.{IsEdited, LeavesSums, edit_unless, edits_of, edits_said}
+use Rattle.fits_laws.specs.Sums.{AreAccepted, AreKeptSo, AreKnown, known_after_each, marked_after_each, marks_after_each, right_marks, unvouched_cards}
+use Rattle.fits_laws.proofs.SumLemmas.{is_vouched, other_sums_stay, right_sums_stay}
+
+-- what follows other edits
+after_both : (it : Marked) (first others : List SessionEdit) → marked_after_each it (first ++ others) ≡ marked_after_each (marked_after_each it first) others
+after_both it [] others = refl
+after_both it (edit ∷ first) others = after_both (marked_after it edit) first others
+
+-- is accepted after them
+accepted_both : (it : Marked) (first others : List SessionEdit) → AreAccepted it first → AreAccepted (marked_after_each it first) others → AreAccepted it (first ++ others)
+accepted_both it [] others p q = q
+accepted_both it (edit ∷ first) others p q = (p.0, p.1, accepted_both (marked_after it edit) first others p.2 q)
+
+-- a question leaves all as it was
+asked_same : {X : Type 0} (standing : Standing) (command : Command) (text : X → List ℕ) (answer : Result X Refusal) → (after_outcome standing command (asked standing.marked text answer)).marked ≡ standing.marked
+asked_same standing command text (Ok answer) = refl
+asked_same standing command text (Err why) = refl
+
+-- also where two are asked
+sums_same : (standing : Standing) (command : Command) (sum : Result ℕ Refusal) (verdicts : Result Verdicts Refusal) → (after_outcome standing command (sums_asked standing.marked sum verdicts)).marked ≡ standing.marked
+sums_same standing command (Ok sum) (Ok verdicts) = refl
+sums_same standing command (Ok sum) (Err why) = refl
+sums_same standing command (Err why) verdicts = refl
+
+-- edits leave what they do, each accepted in its turn
+record Leaves (it left : Marked) (edits : List SessionEdit) : Type 0 where
+  is : left ≡ marked_after_each it edits
+  accepted : AreAccepted it edits
+
+-- none
+none_left : (it left : Marked) → left ≡ it → Leaves it left []
+none_left it left same = record { is = same; accepted = tt }
+
+-- an edit, done or refused
+edit_left : (standing : Standing) (edit : SessionEdit) (refusal : Option Refusal) → marked_refusal standing.marked edit ≡ refusal → HasSizes edit
+    → Leaves standing.marked (after_outcome standing (Edit edit) (unless refusal (record { text = []; left = marked_after standing.marked edit }))).marked (edit_unless refusal edit)
+edit_left standing edit (Some why) is sizes = none_left standing.marked standing.marked refl
+edit_left standing edit None is sizes = record { is = refl; accepted = (sizes, is, tt) }
+
+-- a command
+command_left : (standing : Standing) (command : Command) → IsSized command → Leaves standing.marked (after_outcome standing command (outcome_of standing.marked command)).marked (edits_said standing.marked (Said command))
+unfolding outcome_of
+command_left standing Nothing sized = none_left _ _ refl
+command_left standing (Edit edit) sized = edit_left standing edit (marked_refusal standing.marked edit) refl sized
+command_left standing Offsets sized = none_left _ _ refl
+command_left standing (Get hdu name) sized = none_left _ _ (asked_same standing (Get hdu name) _ (value_in standing.marked.file hdu name))
+command_left standing (Positions hdu name) sized = none_left _ _ (asked_same standing (Positions hdu name) _ (some_places (positions_in standing.marked.file hdu name)))
+command_left standing Report sized = none_left _ _ refl
+command_left standing (Statistics hdu) sized = none_left _ _ (asked_same standing (Statistics hdu) _ (stats_in standing.marked.file hdu))
+command_left standing (Rectangle hdu lo hi) sized = none_left _ _ (asked_same standing (Rectangle hdu lo hi) _ (rect_in standing.marked.file hdu lo hi))
+command_left standing (Sums hdu) sized = none_left _ _ (sums_same standing (Sums hdu) (datasum_in standing.marked.file hdu) (verdicts_in standing.marked.file hdu))
+command_left standing (Kept hdu) sized = none_left _ _ (asked_same standing (Kept hdu) kept_line (kept_in standing.marked hdu))
+
+-- a line
+one_left : (standing : Standing) (line : List ℕ) (reading : LineReading) → reading_of line ≡ reading → Leaves standing.marked (line_left standing reading).marked (edits_said standing.marked reading)
+unfolding line_left
+one_left standing line TooLong is = none_left _ _ refl
+one_left standing line NoCommand is = none_left _ _ refl
+one_left standing line (Said command) is = command_left standing command (said_line line command is)
+
+-- all lines
+pub lines_edited : (standing : Standing) (lines : List (List ℕ)) → IsEdited standing lines
+unfolding standing_after
+lines_edited standing [] = record { left = refl; accepted = tt }
+lines_edited standing (line ∷ lines) =
+    let next : Standing = line_left standing (reading_of line) in
+    let first = one_left standing line (reading_of line) refl in
+    let others = lines_edited next lines in
+    let said = edits_said standing.marked (reading_of line) in
+    record {
+      left = others.left ∙ ap (λ it. marked_after_each it (edits_of next lines)) first.is ∙ sym (after_both standing.marked said (edits_of next lines));
+      accepted = accepted_both standing.marked said (edits_of next lines) first.accepted (subst (λ it. AreAccepted it (edits_of next lines)) first.is others.accepted);
+    }
+
+-- the marks after edits are those that their HDUs have then
+kept_each : (it : Marked) (edits : List SessionEdit) → (marked_after_each it edits).kept ≡ marks_after_each it.kept edits
+unfolding marked_after
+kept_each it [] = refl
+kept_each it (edit ∷ edits) = kept_each (marked_after it edit) edits
+
+-- where right sums are kept right, the HDUs are kept whose sums vouch for them
+first_vouched : (terms : Terms) (file : FileParts) → terms.sums ≡ true → (at_first_line terms file).marked ≡ vouched file
+first_vouched terms file on = ap (λ (b : Bool). let it : Marked = record { file = file; kept = if b then (vouched file).kept else (unmarked file).kept } in it) on
+
+-- so lines leave right sums right, and others as they were
+pub leaves_sums_right : (terms : Terms) (file : FileParts) (lines : List (List ℕ)) → terms.sums ≡ true → IsFile file → LeavesSums terms file lines
+leaves_sums_right terms file lines on whole =
+    let first : Standing = at_first_line terms file in
+    let edits : List SessionEdit = edits_of first lines in
+    let done = lines_edited first lines in
+    let begins = first_vouched terms file on in
+    let start = is_vouched file in
+    let accepted : AreAccepted (vouched file) edits = subst (λ (it : Marked). AreAccepted it edits) begins done.accepted in
+    let left : (standing_after first lines).marked ≡ marked_after_each (vouched file) edits = done.left ∙ ap (λ (it : Marked). marked_after_each it edits) begins in
+    let sound : AreKeptSo vouch (marked_after_each (vouched file) edits) (marks_after_each (vouched file).kept edits) = right_sums_stay vouch (vouched file) (vouched file).kept edits refl whole accepted start.sound in
+    record {
+      sound = subst (λ (it : Marked). AreKeptSo vouch it it.kept) (sym left) (subst (AreKeptSo vouch (marked_after_each (vouched file) edits)) (sym (kept_each (vouched file) edits)) sound);
+      right = subst (λ (it : Marked). AreKeptSo are_right it (marks_after_each (right_marks file) edits)) (sym left) (right_sums_stay are_right (vouched file) (right_marks file) edits refl whole accepted start.right);
+      others = subst (λ (it : Marked). AreKnown it (known_after_each (vouched file) (map unvouched_cards file.hdus) edits)) (sym left) (other_sums_stay (vouched file) (map unvouched_cards file.hdus) edits start.others);
+    }

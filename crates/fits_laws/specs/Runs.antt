@@ -1,0 +1,45 @@
+-- What the lines of a script do to a file: the edits that are done, in their order (own).
+use Rattle.std.specs.Prelude.{◌≡◌, ℕ, List, [], ◌∷◌, ◌++◌, map, Option, None, Some}
+use Rattle.fits_edit.specs.declared.edit.Edit.{Edit}
+use Rattle.fits_session.specs.Marked.{Marked, marked_refusal}
+use Rattle.fits_session.specs.declared.refusal.Refusal.{Refusal}
+use Rattle.fits_script.specs.Line.{reading_of}
+use Rattle.fits_script.specs.declared.command.Command.TheVariants as command
+use Rattle.fits_script.specs.declared.line_reading.LineReading.{LineReading}
+use Rattle.fits_script.specs.declared.line_reading.LineReading.TheVariants.{Said}
+use Rattle.fits_cli.specs.Answer.{Standing, line_left}
+use Rattle.fits_cli.specs.Output.{standing_after}
+use Rattle.fits_session.specs.File.{FileParts}
+use Rattle.fits_session.specs.Keeping.{are_right, vouch}
+use Rattle.fits_session.specs.Marked.{vouched}
+use Rattle.fits_cli.specs.Answer.{at_first_line}
+use Rattle.fits_cli.specs.declared.terms.Terms.{Terms}
+use Rattle.fits_laws.specs.Sums.{known_after_each, marked_after_each, marks_after_each, right_marks, unvouched_cards, AreAccepted, AreKeptSo, AreKnown}
+
+-- an edit, unless it is refused
+abbrev pub edit_unless : Option Refusal → Edit → List Edit
+edit_unless None edit = edit ∷ []
+edit_unless (Some why) edit = []
+
+-- the edit of a line, if it says one that is done
+abbrev pub edits_said : Marked → LineReading → List Edit
+edits_said it (Said (command.Edit edit)) = edit_unless (marked_refusal it edit) edit
+edits_said it reading = []
+
+-- those of lines, in their order
+abbrev pub edits_of : Standing → List (List ℕ) → List Edit
+edits_of standing [] = []
+edits_of standing (line ∷ lines) = edits_said standing.marked (reading_of line) ++ edits_of (line_left standing (reading_of line)) lines
+
+-- lines leave what these edits do, each of which is accepted in its turn
+pub record IsEdited (standing : Standing) (lines : List (List ℕ)) : Type 0 where
+  pub left : (standing_after standing lines).marked ≡ marked_after_each standing.marked (edits_of standing lines)
+  pub accepted : AreAccepted standing.marked (edits_of standing lines)
+
+-- what the lines of a script leave of sums, where right ones are kept right: those of each HDU that is kept then vouch for it; of each that
+-- was opened with both right, and wasn't released, both are; the cards of the others are those of the file as it was opened, as long as no
+-- line stamps them or changes such a card
+pub record LeavesSums (terms : Terms) (file : FileParts) (lines : List (List ℕ)) : Type 0 where
+  pub sound : let left : Marked = (standing_after (at_first_line terms file) lines).marked in AreKeptSo vouch left left.kept
+  pub right : AreKeptSo are_right (standing_after (at_first_line terms file) lines).marked (marks_after_each (right_marks file) (edits_of (at_first_line terms file) lines))
+  pub others : AreKnown (standing_after (at_first_line terms file) lines).marked (known_after_each (vouched file) (map unvouched_cards file.hdus) (edits_of (at_first_line terms file) lines))
