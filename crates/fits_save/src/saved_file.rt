@@ -29,6 +29,7 @@ impl<P: Place + Drop> Model for SavedFile<P> {
 
     ghost view = { λ saved. record {
       stage = P.stage saved.place;
+      whole = saved.whole;
       failed = P.failed saved.place;
     } };
 
@@ -36,14 +37,15 @@ impl<P: Place + Drop> Model for SavedFile<P> {
 }
 
 impl<P: Place + Drop> SavedFile<P> {
-    ghost use Rattle.std.specs.Prelude.{◌≡◌, true, OnErr, OnOk};
+    ghost use Rattle.std.specs.Prelude.{◌≡◌, true, if◌then◌else◌, OnErr, OnOk};
     ghost use Rattle.fits_save.specs.Progress.{IsGivenUp};
     ghost use Rattle.fits_save.specs.Stages.{is_as_it_was, is_open, kept};
 
     /// The file at a place where nothing has happened yet.
     pub fn at(place: P, safe: bool) -> SavedFile<P>
         requires { P.stage place ≡ Stage.Untouched }
-        ensures { result.stage ≡ Stage.Untouched }
+        ensures stage { result.stage ≡ Stage.Untouched }
+        ensures whole { result.whole ≡ safe }
     {
         SavedFile {
             place,
@@ -60,7 +62,8 @@ impl<P: Place + Drop> SavedFile<P> {
     /// Whether what stands at the path stays whole until all is saved, asked before the first byte.
     /// Where it does it is never emptied from then on.
     pub fn spares(&mut self) -> bool
-        ensures { self.new.stage ≡ self.old.stage }
+        ensures stage { self.new.stage ≡ self.old.stage }
+        ensures whole { self.new.whole ≡ (if result then true else self.old.whole) }
     {
         let Stage::Untouched = self.place.reached() else {
             return self.whole;
@@ -78,6 +81,7 @@ impl<P: Place + Drop> SavedFile<P> {
     pub fn keep(&mut self) -> Result<(), SaveFault>
         ensures ok { OnOk result (self.new.stage ≡ kept self.old.stage) }
         ensures err { OnErr result (IsGivenUp self.new) }
+        ensures whole { self.new.whole ≡ self.old.whole }
     {
         match self.place.reached() {
             Stage::Partial => self.take_place(),
@@ -90,6 +94,7 @@ impl<P: Place + Drop> SavedFile<P> {
         requires { self.old.stage ≡ Stage.Partial }
         ensures ok { OnOk result (self.new.stage ≡ Stage.Placed) }
         ensures err { OnErr result (IsGivenUp self.new) }
+        ensures whole { self.new.whole ≡ self.old.whole }
     {
         match self.place.taking() {
             Taking::Link => self.link()?,
@@ -106,6 +111,7 @@ impl<P: Place + Drop> SavedFile<P> {
         ensures ok { OnOk result (self.new.stage ≡ Stage.Both) }
         ensures err { OnErr result (self.new.stage ≡ self.old.stage) }
         ensures cause { OnErr result (self.new.failed ≡ true) }
+        ensures whole { self.new.whole ≡ self.old.whole }
     {
         match self.place.link() {
             Ok(()) => Ok(()),
@@ -119,6 +125,7 @@ impl<P: Place + Drop> SavedFile<P> {
         ensures ok { OnOk result (self.new.stage ≡ Stage.Placed) }
         ensures err { OnErr result (is_as_it_was self.new.stage ≡ true) }
         ensures cause { OnErr result (self.new.failed ≡ true) }
+        ensures whole { self.new.whole ≡ self.old.whole }
     {
         self.settle()?;
         match self.place.rename() {
@@ -132,6 +139,7 @@ impl<P: Place + Drop> SavedFile<P> {
         requires { self.old.stage ≡ Stage.Partial }
         ensures ok { OnOk result (self.new.stage ≡ Stage.Both) }
         ensures err { OnErr result (IsGivenUp self.new) }
+        ensures whole { self.new.whole ≡ self.old.whole }
     {
         self.settle()?;
         match self.place.overwrite() {
@@ -146,6 +154,7 @@ impl<P: Place + Drop> SavedFile<P> {
         ensures ok { OnOk result (self.new.stage ≡ Stage.Agreed) }
         ensures err { OnErr result (is_as_it_was self.new.stage ≡ true) }
         ensures cause { OnErr result (self.new.failed ≡ true) }
+        ensures whole { self.new.whole ≡ self.old.whole }
     {
         if let Err(error) = self.place.settle() {
             return Err(SaveFault::Failed(error));
@@ -165,6 +174,7 @@ impl<P: Place + Drop> SavedFile<P> {
     fn open(&mut self) -> Result<(), SaveFault>
         ensures ok { OnOk result (is_open self.new.stage ≡ true) }
         ensures err { OnErr result (self.old.stage ≡ Stage.Untouched → is_as_it_was self.new.stage ≡ true) }
+        ensures whole { self.new.whole ≡ self.old.whole }
     {
         match self.place.reached() {
             Stage::Untouched => self.begin(),
@@ -179,6 +189,7 @@ impl<P: Place + Drop> SavedFile<P> {
         ensures ok { OnOk result (is_open self.new.stage ≡ true) }
         ensures err { OnErr result (is_as_it_was self.new.stage ≡ true) }
         ensures cause { OnErr result (self.new.failed ≡ true) }
+        ensures whole { self.new.whole ≡ self.old.whole }
     {
         match self.place.begin() {
             Ok(()) => Ok(()),
@@ -194,6 +205,7 @@ impl<P: Place + Drop> SavedFile<P> {
         ensures ok { OnOk result (self.new.stage ≡ Stage.Exposed) }
         ensures err { OnErr result (is_as_it_was self.new.stage ≡ true) }
         ensures cause { OnErr result (self.new.failed ≡ true) }
+        ensures whole { self.new.whole ≡ self.old.whole }
     {
         if self.whole {
             return Err(SaveFault::Opening(why));
