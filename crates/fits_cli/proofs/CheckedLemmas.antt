@@ -1,5 +1,5 @@
 -- A run of `edit -c`, from its answers to its end.
-use Rattle.std.proofs.Common.{◌≡◌, ◌⊎◌, ℕ, ◌<◌, ◌≤◌, Bool, true, take, List, [], length, refl, ap, sym, subst, ◌∙◌, inl, inr, arith, Option, Result, Some}
+use Rattle.std.proofs.Common.{◌≡◌, ◌⊎◌, ℕ, ◌+◌, ◌<◌, ◌≤◌, Bool, true, take, List, [], refl, ap, sym, subst, ◌∙◌, inl, inr, arith, Option, Result, Some}
 use Rattle.std.specs.Result.{IsErrAnd}
 use Rattle.std.proofs.lemmas.Result.{err_from_is_err_and}
 use Rattle.fits_stream.specs.Stream.{SourceState, SinkState, Prints, PrintsFront, StaysQuiet}
@@ -15,21 +15,23 @@ use Rattle.fits_cli.specs.declared.end.End.{End}
 use Rattle.fits_cli.specs.Faults.{status_of_fault, IsOnce, PrintFails, SaveFails}
 use Rattle.fits_cli.specs.NewErrors.{new_error_lines, new_errors, HasMoreErrors}
 use Rattle.fits_cli.specs.Output.{answers, output_of_lines, saved_bytes, standing_after, status_of}
+use Rattle.fits_cli.specs.Report.{errors_in, warnings_in}
 use Rattle.fits_cli.specs.Running.{heard, IsAnsweredRun}
 use Rattle.fits_cli.specs.Script.{script_lines}
 use Rattle.fits_cli.specs.declared.fault.Fault.{Fault}
 use Rattle.fits_cli.specs.declared.fault.Fault.TheVariants.{Memory}
 use Rattle.fits_cli.proofs.EditingLemmas.{Asked-done, again_stored, output_whole, script_told}
 use Rattle.fits_cli.proofs.NewErrorLemmas.{more-new, new-more}
+use Rattle.fits_cli.proofs.ReportLemmas.{all_counted}
 use Rattle.fits_cli.proofs.ResultLemmas.{lines_file, own_bytes}
 
 -- a fault before the script is answered ends such a run
-pub checked_exit : (whole : Bool) (old new : RunState) (result : Result (ℕ × ℕ × ℕ) Fault) (why : Fault) → IsErrAnd result (λ e. e ≡ why) → StopsChecked whole old new why → EndsChecked whole old new result
-checked_exit whole old new result why is stops = let exit = err_from_is_err_and result is in rw (exit.1, exit.2) stops
+pub checked_exit : (whole strict : Bool) (old new : RunState) (result : Result (ℕ × ℕ × ℕ × ℕ) Fault) (why : Fault) → IsErrAnd result (λ e. e ≡ why) → StopsChecked whole strict old new why → EndsChecked whole strict old new result
+checked_exit whole strict old new result why is stops = let exit = err_from_is_err_and result is in rw (exit.1, exit.2) stops
 
 -- its fault has its status
-pub checked_fault : (whole : Bool) (old new : RunState) (end : End) (undone errors : ℕ) (fault : Fault) → (end.status ≡ status_of_fault fault) × (end.fault ≡ Some fault) × (undone ≡ 0) × (errors ≡ 0) → StopsChecked whole old new fault → EndsCheckedAs whole old new end undone errors
-checked_fault whole old new end undone errors fault is stops = rw is.1 (stops, is.0, is.2, is.3)
+pub checked_fault : (whole strict : Bool) (old new : RunState) (end : End) (undone errors warnings : ℕ) (fault : Fault) → (end.status ≡ status_of_fault fault) × (end.fault ≡ Some fault) × (undone ≡ 0) × (errors ≡ 0) × (warnings ≡ 0) → StopsChecked whole strict old new fault → EndsCheckedAs whole strict old new end undone errors warnings
+checked_fault whole strict old new end undone errors warnings fault is stops = rw is.1 (stops, is.0, is.2, is.3, is.4)
 
 -- memory is refused before the first line
 pub First-report-refused : (old new : RunState) → StaysQuiet old.file new.file → new.script ≡ old.script → new.printed ≡ old.printed → new.saved ≡ old.saved → StopsBy old new Memory
@@ -83,10 +85,10 @@ Kept-back whole old new told told_after now before undone reported saved is some
 }
 
 -- memory is refused after the script
-pub Lacks-report : (whole : Bool) (old new : RunState) (told told_after : Option SinkState) (now : Standing) (before : List Problem) → IsReportedRun old.terms old.file new.file old.script new.script old.printed new.printed told told_after now before → new.saved ≡ old.saved
-    → kept_back whole now.refused ≡ 0 → StopsChecked whole old new Memory
+pub Lacks-report : (whole strict : Bool) (old new : RunState) (told told_after : Option SinkState) (now : Standing) (before : List Problem) → IsReportedRun old.terms old.file new.file old.script new.script old.printed new.printed told told_after now before → new.saved ≡ old.saved
+    → kept_back whole now.refused ≡ 0 → StopsChecked whole strict old new Memory
 unfolding up_to_reports
-Lacks-report whole old new told told_after now before reported saved all = inr (record {
+Lacks-report whole strict old new told told_after now before reported saved all = inr (record {
   run = up_to_reports whole old new new.printed told told_after now before reported all;
   printed = answered-printed old new new.printed told told_after now reported.run;
   flushed = reported.run.answered.flush.flushed;
@@ -94,26 +96,31 @@ Lacks-report whole old new told told_after now before reported saved all = inr (
 })
 
 -- there are new errors where some were found
-some-more : (before : List Problem) (file : FileParts) (count : ℕ) → count ≡ length (new_errors before (report_of file)) → 0 < count → HasMoreErrors before (report_of file)
-some-more before file count is some = new-more before (report_of file) (omega (arith, is, some))
+some-more : (strict : Bool) (before : List Problem) (file : FileParts) (errors warnings : ℕ) → errors ≡ errors_in (new_errors strict before (report_of file)) → warnings ≡ warnings_in (new_errors strict before (report_of file)) → 0 < errors + warnings
+    → HasMoreErrors strict before (report_of file)
+some-more strict before file errors warnings e w some =
+    new-more strict before (report_of file) (omega (arith, e, w, some, all_counted (new_errors strict before (report_of file))))
 
 -- and none where none was
-none-more : (before : List Problem) (file : FileParts) (count : ℕ) → count ≡ length (new_errors before (report_of file)) → count ≤ 0 → HasMoreErrors before (report_of file) → ⊥
-none-more before file count is none more = absurd (omega (arith, is, none, more-new before (report_of file) (in_order file) more))
+none-more : (strict : Bool) (before : List Problem) (file : FileParts) (errors warnings : ℕ) → errors ≡ errors_in (new_errors strict before (report_of file)) → warnings ≡ warnings_in (new_errors strict before (report_of file)) → errors + warnings ≤ 0
+    → HasMoreErrors strict before (report_of file) → ⊥
+none-more strict before file errors warnings e w none more =
+    absurd (omega (arith, e, w, none, all_counted (new_errors strict before (report_of file)), more-new strict before (report_of file) (in_order file) more))
 
 -- some errors are new
-pub Unsound-printed : (whole : Bool) (old new : RunState) (mid : SinkState) (told told_after : Option SinkState) (now : Standing) (before : List Problem) (count : ℕ) → IsReportedRun old.terms old.file new.file old.script new.script old.printed mid told told_after now before → new.saved ≡ old.saved
-    → kept_back whole now.refused ≡ 0 → count ≡ length (new_errors before (report_of now.marked.file)) → 0 < count → Prints (new_error_lines (new_errors before (report_of now.marked.file))) mid new.printed → new.printed.unflushed ≡ 0
-    → IsUnsound whole old new 1 count
+pub Unsound-printed : (whole strict : Bool) (old new : RunState) (mid : SinkState) (told told_after : Option SinkState) (now : Standing) (before : List Problem) (errors warnings : ℕ) → IsReportedRun old.terms old.file new.file old.script new.script old.printed mid told told_after now before → new.saved ≡ old.saved
+    → kept_back whole now.refused ≡ 0 → errors ≡ errors_in (new_errors strict before (report_of now.marked.file)) → warnings ≡ warnings_in (new_errors strict before (report_of now.marked.file)) → 0 < errors + warnings → Prints (new_error_lines (new_errors strict before (report_of now.marked.file))) mid new.printed → new.printed.unflushed ≡ 0
+    → IsUnsound whole strict old new 1 errors warnings
 unfolding up_to_reports
-Unsound-printed whole old new mid told told_after now before count reported saved all is some printed flushed =
+Unsound-printed whole strict old new mid told told_after now before errors warnings reported saved all e w some printed flushed =
     let done = reported.run.answered.script in
     record {
       run = up_to_reports whole old new mid told told_after now before reported all;
-      more = some-more before now.marked.file count is some;
+      more = some-more strict before now.marked.file errors warnings e w some;
       some = some;
-      count = is;
-      printed = Prints-more old.printed mid new.printed (answers (at_first_line old.terms reported.run.parts) (script_lines done.lines done.last)) (new_error_lines (new_errors before (report_of now.marked.file)))
+      errors_are = e;
+      warnings_are = w;
+      printed = Prints-more old.printed mid new.printed (answers (at_first_line old.terms reported.run.parts) (script_lines done.lines done.last)) (new_error_lines (new_errors strict before (report_of now.marked.file)))
           (answered-printed old new mid told told_after now reported.run) printed;
       flushed = flushed;
       saved = saved;
@@ -121,15 +128,15 @@ Unsound-printed whole old new mid told told_after now before count reported save
     }
 
 -- their lines can't be written
-pub New-errors-fail : (whole : Bool) (old new : RunState) (mid : SinkState) (told told_after : Option SinkState) (now : Standing) (before : List Problem) (count : ℕ) (fault : Fault) → IsReportedRun old.terms old.file new.file old.script new.script old.printed mid told told_after now before → new.saved ≡ old.saved
-    → kept_back whole now.refused ≡ 0 → count ≡ length (new_errors before (report_of now.marked.file)) → 0 < count → PrintFails (new_error_lines (new_errors before (report_of now.marked.file))) mid new.printed fault
-    → StopsChecked whole old new fault
+pub New-errors-fail : (whole strict : Bool) (old new : RunState) (mid : SinkState) (told told_after : Option SinkState) (now : Standing) (before : List Problem) (errors warnings : ℕ) (fault : Fault) → IsReportedRun old.terms old.file new.file old.script new.script old.printed mid told told_after now before → new.saved ≡ old.saved
+    → kept_back whole now.refused ≡ 0 → errors ≡ errors_in (new_errors strict before (report_of now.marked.file)) → warnings ≡ warnings_in (new_errors strict before (report_of now.marked.file)) → 0 < errors + warnings → PrintFails (new_error_lines (new_errors strict before (report_of now.marked.file))) mid new.printed fault
+    → StopsChecked whole strict old new fault
 unfolding up_to_reports
-New-errors-fail whole old new mid told told_after now before count fault reported saved all is some fails =
-    subst (λ (f : Fault). StopsChecked whole old new f) (sym fails.0)
+New-errors-fail whole strict old new mid told told_after now before errors warnings fault reported saved all e w some fails =
+    subst (λ (f : Fault). StopsChecked whole strict old new f) (sym fails.0)
     (inr (inl (record {
       run = up_to_reports whole old new mid told told_after now before reported all;
-      more = some-more before now.marked.file count is some;
+      more = some-more strict before now.marked.file errors warnings e w some;
       answered = mid;
       printed = answered-printed old new mid told told_after now reported.run;
       flushed = reported.run.answered.flush.flushed;
@@ -143,13 +150,13 @@ left_bytes : (old new : RunState) (mid : SinkState) (told told_after : Option Si
 left_bytes old new mid told told_after now run = ap (saved_bytes old.terms) run.answered.script.answered.left
 
 -- no error is new
-pub Sound-saved : (whole : Bool) (old new : RunState) (told told_after : Option SinkState) (now : Standing) (before : List Problem) (count : ℕ) → IsReportedRun old.terms old.file new.file old.script new.script old.printed new.printed told told_after now before
-    → kept_back whole now.refused ≡ 0 → count ≡ length (new_errors before (report_of now.marked.file)) → count ≤ 0 → Prints (saved_bytes old.terms now) old.saved new.saved → new.saved.unflushed ≡ 0
-    → IsSound whole old new (status_of now)
+pub Sound-saved : (whole strict : Bool) (old new : RunState) (told told_after : Option SinkState) (now : Standing) (before : List Problem) (errors warnings : ℕ) → IsReportedRun old.terms old.file new.file old.script new.script old.printed new.printed told told_after now before
+    → kept_back whole now.refused ≡ 0 → errors ≡ errors_in (new_errors strict before (report_of now.marked.file)) → warnings ≡ warnings_in (new_errors strict before (report_of now.marked.file)) → errors + warnings ≤ 0 → Prints (saved_bytes old.terms now) old.saved new.saved → new.saved.unflushed ≡ 0
+    → IsSound whole strict old new (status_of now)
 unfolding up_to_reports
-Sound-saved whole old new told told_after now before count reported all is none saved flushed = record {
+Sound-saved whole strict old new told told_after now before errors warnings reported all e w none saved flushed = record {
   run = up_to_reports whole old new new.printed told told_after now before reported all;
-  none = none-more before now.marked.file count is none;
+  none = none-more strict before now.marked.file errors warnings e w none;
   printed = answered-printed old new new.printed told told_after now reported.run;
   printed_flushed = reported.run.answered.flush.flushed;
   saved = subst (λ (t : List ℕ). Prints t old.saved new.saved) (left_bytes old new new.printed told told_after now reported.run) saved;
@@ -158,26 +165,26 @@ Sound-saved whole old new told told_after now before count reported all is none 
 }
 
 -- the file can't be saved
-pub Sound-fails : (whole : Bool) (old new : RunState) (told told_after : Option SinkState) (now : Standing) (before : List Problem) (count : ℕ) (fault : Fault) → IsReportedRun old.terms old.file new.file old.script new.script old.printed new.printed told told_after now before → (old.stored ≡ true) ⊎ IsOnce fault
-    → kept_back whole now.refused ≡ 0 → count ≡ length (new_errors before (report_of now.marked.file)) → count ≤ 0 → SaveFails (saved_bytes old.terms now) old.saved new.saved fault
-    → StopsChecked whole old new fault
+pub Sound-fails : (whole strict : Bool) (old new : RunState) (told told_after : Option SinkState) (now : Standing) (before : List Problem) (errors warnings : ℕ) (fault : Fault) → IsReportedRun old.terms old.file new.file old.script new.script old.printed new.printed told told_after now before → (old.stored ≡ true) ⊎ IsOnce fault
+    → kept_back whole now.refused ≡ 0 → errors ≡ errors_in (new_errors strict before (report_of now.marked.file)) → warnings ≡ warnings_in (new_errors strict before (report_of now.marked.file)) → errors + warnings ≤ 0 → SaveFails (saved_bytes old.terms now) old.saved new.saved fault
+    → StopsChecked whole strict old new fault
 unfolding up_to_reports
-Sound-fails whole old new told told_after now before count fault reported re all is none (inl fails) =
-    subst (λ (f : Fault). StopsChecked whole old new f) (sym fails.0)
+Sound-fails whole strict old new told told_after now before errors warnings fault reported re all e w none (inl fails) =
+    subst (λ (f : Fault). StopsChecked whole strict old new f) (sym fails.0)
     (inr (inr (record {
       run = up_to_reports whole old new new.printed told told_after now before reported all;
-      none = none-more before now.marked.file count is none;
+      none = none-more strict before now.marked.file errors warnings e w none;
       printed = answered-printed old new new.printed told told_after now reported.run;
       flushed = reported.run.answered.flush.flushed;
       saved = subst (λ (t : List ℕ). PrintsFront t old.saved new.saved) (left_bytes old new new.printed told told_after now reported.run) fails.1;
     })))
-Sound-fails whole old new told told_after now before count fault reported re all is none (inr fails) =
-    let here : SoundCopyFails whole old new = record {
+Sound-fails whole strict old new told told_after now before errors warnings fault reported re all e w none (inr fails) =
+    let here : SoundCopyFails whole strict old new = record {
       run = up_to_reports whole old new new.printed told told_after now before reported all;
-      none = none-more before now.marked.file count is none;
+      none = none-more strict before now.marked.file errors warnings e w none;
       printed = answered-printed old new new.printed told told_after now reported.run;
       flushed = reported.run.answered.flush.flushed;
       count = fails.1.0;
       saved = subst (λ (t : List ℕ). Prints (take fails.1.0 t) old.saved new.saved) (left_bytes old new new.printed told told_after now reported.run) fails.1.1;
     } in
-    subst (λ (f : Fault). StopsChecked whole old new f) (sym fails.0) (inr (again_stored old.stored fault fails.0 re, (refl, here)))
+    subst (λ (f : Fault). StopsChecked whole strict old new f) (sym fails.0) (inr (again_stored old.stored fault fails.0 re, (refl, here)))

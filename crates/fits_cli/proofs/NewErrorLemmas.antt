@@ -1,24 +1,26 @@
 -- What new errors are, and how they are found.
-use Rattle.std.proofs.Common.{◌≡◌, ℕ, suc, ◌+◌, ◌<◌, ◌≤◌, ◌==◌, ◌&&◌, Bool, List, [], ◌∷◌, ◌++◌, length, take, set, get_or, refl, ap, sym, subst, ◌∙◌, arith, true, false, cond, inl, inr}
+use Rattle.std.proofs.Common.{◌≡◌, ℕ, suc, ◌+◌, ◌-◌, ◌<◌, ◌≤◌, ◌==◌, ◌&&◌, ◌||◌, Bool, List, [], ◌∷◌, ◌++◌, length, take, set, get_or, refl, ap, sym, subst, ◌∙◌, arith, true, false, cond, inl, inr}
 use Rattle.std.specs.Prelude.{AllPairs, not, nat_lt, count_by}
 use Rattle.std.specs.List.{filter, list_any, All}
 use Rattle.std.specs.List.Sorted.{IsPartitionedBy}
 use Rattle.std.proofs.lemmas.Bool.{and_parts, both_ways, cases_eq, cases_lt, cases_Bool, eq-eqb, eqb-true, le-ltb, ne_eqb, not-false}
 use Rattle.std.proofs.lemmas.Bool.Decides.{nat_tests}
-use Rattle.std.proofs.lemmas.List.{append-nil, get_or_default, get_or-set_other}
+use Rattle.std.proofs.lemmas.List.{append-nil, get_or_default, get_or-set_other, take_all}
 use Rattle.std.proofs.lemmas.Grind.{get_or-set_at}
 use Rattle.std.proofs.lemmas.List.Concat.{flat_map-append}
 use Rattle.std.proofs.lemmas.List.Elements.{All-head, All-tail, filter_more, filter_passes}
 use Rattle.std.proofs.lemmas.List.Filters.{sum_by-filter_both}
 use Rattle.std.proofs.lemmas.List.Folds.{list_any_at, list_any_none}
-use Rattle.std.proofs.lemmas.List.Sums.{sum_by-cons, length-filter, get_or-le-sum_by, count_by_more_yes, count_by_more_no}
+use Rattle.std.proofs.lemmas.List.Sums.{sum_by-append, sum_by-cons, length-filter, get_or-le-sum_by, count_by_more_yes, count_by_more_no}
 use Rattle.std.proofs.lemmas.Map.Views.{any-filter_same}
 use Rattle.fits_codes.specs.Code.{is_error, number}
 use Rattle.fits_codes.specs.declared.code.Code.{Code}
 use Rattle.fits_codes.specs.declared.code.Code.TheVariants.{NotText}
 use Rattle.fits_session.specs.declared.problem.Problem.{Problem}
 use Rattle.fits_session.specs.Report.{IsListedBefore}
+use Rattle.fits_cli.specs.Report.{errors_in, warnings_in}
 use Rattle.fits_cli.specs.NewErrors.{count_of, has_more, HasMoreErrors, is_listed_before, is_new, is_of_code, is_same, new_error_line, new_error_lines, new_errors, stands_in, AreCounts}
+use Rattle.fits_cli.proofs.ReportLemmas.{errors-few, others_warn}
 
 -- a problem stands before another where the test says so
 before-true : (a b : Problem) → IsListedBefore a b → is_listed_before a b ≡ true
@@ -78,12 +80,12 @@ pub stands-nowhere : (report : List Problem) (it : Problem) (index : ℕ) → Is
 stands-nowhere report it index parted l = sym (list_any_none (is_same it) report (λ k d m. before-differs (get_or report k d) it (parted.0 k d (omega arith) (omega (arith, l, m)))))
 
 -- a problem of a code of which there are more is new where it didn't stand before
-pub new_where : (before after : List Problem) (it : Problem) (stood : Bool) → has_more before after it.code ≡ true → stood ≡ stands_in before it → not stood ≡ is_new before after it
-new_where before after it stood more is = rw (more, is) refl
+pub new_where : (strict : Bool) (before after : List Problem) (it : Problem) (stood : Bool) → has_more strict before after it.code ≡ true → stood ≡ stands_in before it → not stood ≡ is_new strict before after it
+new_where strict before after it stood more is = rw (more, is) refl
 
 -- others aren't
-pub not_new : (before after : List Problem) (it : Problem) → has_more before after it.code ≡ false → false ≡ is_new before after it
-not_new before after it more = rw more refl
+pub not_new : (strict : Bool) (before after : List Problem) (it : Problem) → has_more strict before after it.code ≡ false → false ≡ is_new strict before after it
+not_new strict before after it more = rw more refl
 
 -- numbers of codes are small
 number-below : (code : Code) → number code < 27
@@ -134,17 +136,38 @@ new-counted p report i count d l passes before = omega (arith, before, length-fi
 pub old-uncounted : (p : Problem → Bool) (report : List Problem) (i count : ℕ) (d : Problem) → i < length report → p (get_or report i d) ≡ false → count ≡ length (filter p (take i report)) → count ≡ length (filter p (take (i + 1) report))
 old-uncounted p report i count d l fails before = before ∙ ap length (sym (filter_no_more p report i d l fails))
 
+-- one more new problem is counted where it is an error
+pub error-counted : (p : Problem → Bool) (report : List Problem) (i errors : ℕ) (d : Problem) → i < length report → p (get_or report i d) ≡ true → errors ≡ errors_in (filter p (take i report))
+    → errors + cond (is_error (get_or report i d).code) 1 0 ≡ errors_in (filter p (take (i + 1) report))
+error-counted p report i errors d l passes before =
+    let one : Problem → ℕ = λ it. cond (is_error it.code) 1 0 in
+    let grown = ap errors_in (filter_one_more p report i d l passes) in
+    omega (arith, before, grown, sum_by-append one (filter p (take i report)) (get_or report i d ∷ []), sum_by-cons one (get_or report i d) [])
+
+-- another problem isn't
+pub error-uncounted : (p : Problem → Bool) (report : List Problem) (i errors : ℕ) (d : Problem) → i < length report → p (get_or report i d) ≡ false → errors ≡ errors_in (filter p (take i report)) → errors ≡ errors_in (filter p (take (i + 1) report))
+error-uncounted p report i errors d l fails before = before ∙ ap errors_in (sym (filter_no_more p report i d l fails))
+
+-- no more are errors than are new
+pub few-errors : (p : Problem → Bool) (report : List Problem) (i count errors : ℕ) → count ≡ length (filter p (take i report)) → errors ≡ errors_in (filter p (take i report)) → errors ≤ count
+few-errors p report i count errors counted are = omega (arith, counted, errors-few (filter p (take i report)) errors are)
+
+-- the others are warnings
+pub other-warnings : (p : Problem → Bool) (report : List Problem) (i count errors : ℕ) → length report ≤ i → count ≡ length (filter p (take i report)) → errors ≡ errors_in (filter p (take i report)) → count - errors ≡ warnings_in (filter p report)
+other-warnings p report i count errors l counted are =
+    ap (λ n. n - errors) counted ∙ (others_warn (filter p (take i report)) errors are ∙ ap (λ xs. warnings_in (filter p xs)) (take_all i report l))
+
 -- what an error is, by its number
 error-is : (code : Code) → is_error code ≡ list_any (λ n. n == number code) (1 ∷ 2 ∷ 3 ∷ 5 ∷ 6 ∷ 7 ∷ 12 ∷ 14 ∷ 15 ∷ 16 ∷ 17 ∷ 18 ∷ 20 ∷ 22 ∷ [])
 error-is NotText = refl
 error-is code = refl
 
 -- codes of one number
-more-same : (before after : List Problem) (a b : Code) → number a ≡ number b → has_more before after a ≡ has_more before after b
-more-same before after a b same =
+more-same : (strict : Bool) (before after : List Problem) (a b : Code) → number a ≡ number b → has_more strict before after a ≡ has_more strict before after b
+more-same strict before after a b same =
     let error : is_error a ≡ is_error b = error-is a ∙ (ap (λ m. list_any (λ n. n == m) (1 ∷ 2 ∷ 3 ∷ 5 ∷ 6 ∷ 7 ∷ 12 ∷ 14 ∷ 15 ∷ 16 ∷ 17 ∷ 18 ∷ 20 ∷ 22 ∷ [])) same ∙ sym (error-is b)) in
-    ap (λ e. e && nat_lt (count_of a before) (count_of a after)) error
-    ∙ ap (λ m. is_error b && nat_lt (count_by (λ (it : Problem). number it.code == m) before) (count_by (λ (it : Problem). number it.code == m) after)) same
+    ap (λ e. (strict || e) && nat_lt (count_of a before) (count_of a after)) error
+    ∙ ap (λ m. (strict || is_error b) && nat_lt (count_by (λ (it : Problem). number it.code == m) before) (count_by (λ (it : Problem). number it.code == m) after)) same
 
 -- a report without a problem
 abbrev without : Problem → List Problem → List Problem
@@ -200,45 +223,45 @@ no_more code before (x ∷ after) ordered stood =
         flipped a b h = grind (arith, nat_tests, h)
 
 -- where there are more of an error's code, some are new
-code-new : (before after : List Problem) (code : Code) → AllPairs IsListedBefore after → has_more before after code ≡ true → 0 < length (new_errors before after)
+code-new : (strict : Bool) (before after : List Problem) (code : Code) → AllPairs IsListedBefore after → has_more strict before after code ≡ true → 0 < length (new_errors strict before after)
 unfolding new_errors
-code-new before after code ordered more =
-    elim (cases_lt 0 (length (filter (is_new before after) after))) [
+code-new strict before after code ordered more =
+    elim (cases_lt 0 (length (filter (is_new strict before after) after))) [
       | inl some ↦ some
-      | inr none ↦ absurd (both_ways (has_more before after code) (fewer_or_same none) more)
+      | inr none ↦ absurd (both_ways (has_more strict before after code) (fewer_or_same none) more)
     ]
   where
-    none_new : length (filter (is_new before after) after) ≤ 0 → (k : ℕ) (d : Problem) → k < length after → is_new before after (get_or after k d) ≡ false
+    none_new : length (filter (is_new strict before after) after) ≤ 0 → (k : ℕ) (d : Problem) → k < length after → is_new strict before after (get_or after k d) ≡ false
     none_new none k d l =
-        one_if (is_new before after (get_or after k d)) (omega (arith, none, length-filter (is_new before after) after, get_or-le-sum_by (λ x. cond (is_new before after x) 1 0) after k d l))
+        one_if (is_new strict before after (get_or after k d)) (omega (arith, none, length-filter (is_new strict before after) after, get_or-le-sum_by (λ x. cond (is_new strict before after x) 1 0) after k d l))
       where
         one_if : (b : Bool) → cond b 1 0 ≤ 0 → b ≡ false
         one_if true h = absurd (omega (arith, h))
         one_if false h = refl
 
-    fewer_or_same : length (filter (is_new before after) after) ≤ 0 → has_more before after code ≡ false
+    fewer_or_same : length (filter (is_new strict before after) after) ≤ 0 → has_more strict before after code ≡ false
     fewer_or_same none =
         let le = no_more code before after ordered (λ k d l own. stood_of (get_or after k d) own (none_new none k d l)) in
-        no_error (is_error code) (le-ltb (count_of code before) (count_of code after) le)
+        no_error (strict || is_error code) (le-ltb (count_of code before) (count_of code after) le)
       where
         no_error : (b : Bool) {c : Bool} → c ≡ false → (b && c) ≡ false
         no_error true h = h
         no_error false h = refl
 
-        stood_of : (x : Problem) → is_of_code code x ≡ true → is_new before after x ≡ false → stands_in before x ≡ true
+        stood_of : (x : Problem) → is_of_code code x ≡ true → is_new strict before after x ≡ false → stands_in before x ≡ true
         stood_of x own old =
-            let more_too : has_more before after x.code ≡ true = more-same before after x.code code (eqb-true (number x.code) (number code) own) ∙ more in
+            let more_too : has_more strict before after x.code ≡ true = more-same strict before after x.code code (eqb-true (number x.code) (number code) own) ∙ more in
             not-false (stands_in before x) (rw more_too at old)
 
 -- so they are where there are more of some error
-pub more-new : (before after : List Problem) → AllPairs IsListedBefore after → HasMoreErrors before after → 0 < length (new_errors before after)
-more-new before after ordered more = code-new before after more.0 ordered more.1
+pub more-new : (strict : Bool) (before after : List Problem) → AllPairs IsListedBefore after → HasMoreErrors strict before after → 0 < length (new_errors strict before after)
+more-new strict before after ordered more = code-new strict before after more.0 ordered more.1
 
 -- of the code of a new error there are more
-pub new-more : (before after : List Problem) → 0 < length (new_errors before after) → HasMoreErrors before after
+pub new-more : (strict : Bool) (before after : List Problem) → 0 < length (new_errors strict before after) → HasMoreErrors strict before after
 unfolding new_errors
-new-more before after some = first (filter (is_new before after) after) (filter_passes (is_new before after) after) some
+new-more strict before after some = first (filter (is_new strict before after) after) (filter_passes (is_new strict before after) after) some
   where
-    first : (found : List Problem) → All (λ x. is_new before after x ≡ true) found → 0 < length found → HasMoreErrors before after
+    first : (found : List Problem) → All (λ x. is_new strict before after x ≡ true) found → 0 < length found → HasMoreErrors strict before after
     first [] all some = absurd (omega (arith, some))
-    first (x ∷ found) all some = (x.code, (and_parts (has_more before after x.code) (not (stands_in before x)) (All-head (λ y. is_new before after y ≡ true) x found all)).0)
+    first (x ∷ found) all some = (x.code, (and_parts (has_more strict before after x.code) (not (stands_in before x)) (All-head (λ y. is_new strict before after y ≡ true) x found all)).0)

@@ -64,4 +64,8 @@ errors-whole report i errors are l = are ∙ ap errors_in (take_all i report l)
 pub errors-few : (report : List Problem) (errors : ℕ) → errors ≡ errors_in report → errors ≤ length report
 errors-few report errors are = omega (arith, are, count_by-le-length (λ (it : Problem). is_error it.code) report)
 
+-- all are errors or warnings
+pub all_counted : (report : List Problem) → errors_in report + warnings_in report ≡ length report
+all_counted report = omega (arith, others_warn report (errors_in report) refl, errors-few report (errors_in report) refl)
+
 pub ruleset count_steps = (errors-none, errors-more, errors-same, errors-within, errors-whole, errors-few)

@@ -1,5 +1,6 @@
--- How a run of `edit -c` ends: nothing is saved where the result has more errors of some code than the file (own).
-use Rattle.std.specs.Prelude.{◌≡◌, ◌⊎◌, ℕ, ◌<◌, Bool, true, List, ◌++◌, length, take, Option, None, Result, Ok, Err, MatchOption, if◌then◌else◌}
+-- How a run of `edit -c` ends: nothing is saved where the result has more errors of some code than the file, or where it is strict more
+-- problems of any code (own).
+use Rattle.std.specs.Prelude.{◌≡◌, ◌⊎◌, ℕ, ◌+◌, ◌<◌, Bool, true, List, ◌++◌, take, Option, None, Result, Ok, Err, MatchOption, if◌then◌else◌}
 use Rattle.fits_stream.specs.Intake.{Tells}
 use Rattle.fits_stream.specs.Stream.{SourceState, SinkState, Prints, PrintsFront}
 use Rattle.fits_session.specs.Report.{report_of, IsReportOf}
@@ -9,6 +10,7 @@ use Rattle.fits_cli.specs.Ends.{RunState, IsAsked, ReadsWell, StopsBy}
 use Rattle.fits_cli.specs.Faults.{status_of_fault}
 use Rattle.fits_cli.specs.NewErrors.{new_error_lines, new_errors, HasMoreErrors}
 use Rattle.fits_cli.specs.Output.{Output, IsOutputOf}
+use Rattle.fits_cli.specs.Report.{errors_in, warnings_in}
 use Rattle.fits_cli.specs.Running.{IsAnsweredRun}
 use Rattle.fits_cli.specs.declared.end.End.{End}
 use Rattle.fits_cli.specs.declared.fault.Fault.{Fault}
@@ -38,22 +40,23 @@ pub record IsUpToReports (whole : Bool) (old new : RunState) : Type 0 where
   pub read : ReadsWell old new
 
 -- no error is new: the result is saved, as `edit` saves it
-pub record IsSound (whole : Bool) (old new : RunState) (status : ℕ) : Type 0 where
+pub record IsSound (whole strict : Bool) (old new : RunState) (status : ℕ) : Type 0 where
   pub run : IsUpToReports whole old new
-  pub none : HasMoreErrors run.before run.after → ⊥
+  pub none : HasMoreErrors strict run.before run.after → ⊥
   pub printed : Prints run.output.text old.printed new.printed
   pub printed_flushed : new.printed.unflushed ≡ 0
   pub saved : Prints run.output.saved old.saved new.saved
   pub saved_flushed : new.saved.unflushed ≡ 0
   pub status_is : status ≡ run.output.status
 
--- there are more of some error: the lines of the new ones follow the answers, and nothing is saved
-pub record IsUnsound (whole : Bool) (old new : RunState) (status errors : ℕ) : Type 0 where
+-- there are more of some error, or of some warning where it is strict: the lines of the new ones follow the answers, and nothing is saved
+pub record IsUnsound (whole strict : Bool) (old new : RunState) (status errors warnings : ℕ) : Type 0 where
   pub run : IsUpToReports whole old new
-  pub more : HasMoreErrors run.before run.after
-  pub some : 0 < errors
-  pub count : errors ≡ length (new_errors run.before run.after)
-  pub printed : Prints (run.output.text ++ new_error_lines (new_errors run.before run.after)) old.printed new.printed
+  pub more : HasMoreErrors strict run.before run.after
+  pub some : 0 < errors + warnings
+  pub errors_are : errors ≡ errors_in (new_errors strict run.before run.after)
+  pub warnings_are : warnings ≡ warnings_in (new_errors strict run.before run.after)
+  pub printed : Prints (run.output.text ++ new_error_lines (new_errors strict run.before run.after)) old.printed new.printed
   pub flushed : new.printed.unflushed ≡ 0
   pub saved : new.saved ≡ old.saved
   pub status_is : status ≡ 1
@@ -64,11 +67,11 @@ pub record IsKeptBack (whole : Bool) (old new : RunState) (status undone : ℕ) 
   pub some : 0 < undone
   pub count : undone ≡ kept_back whole asked.output.undone
 
--- how such a run ends without a fault, with how many lines and how many errors kept its result from being saved
-abbrev pub IsChecked : Bool → RunState → RunState → ℕ → ℕ → ℕ → Type 0
-IsChecked whole old new status undone errors =
-    (IsSound whole old new status × (undone ≡ 0) × (errors ≡ 0))
-    ⊎ ((IsKeptBack whole old new status undone × (errors ≡ 0)) ⊎ (IsUnsound whole old new status errors × (undone ≡ 0)))
+-- how such a run ends without a fault, with how many lines, and how many errors and warnings, kept its result from being saved
+abbrev pub IsChecked : Bool → Bool → RunState → RunState → ℕ → ℕ → ℕ → ℕ → Type 0
+IsChecked whole strict old new status undone errors warnings =
+    (IsSound whole strict old new status × (undone ≡ 0) × (errors ≡ 0) × (warnings ≡ 0))
+    ⊎ ((IsKeptBack whole old new status undone × (errors ≡ 0) × (warnings ≡ 0)) ⊎ (IsUnsound whole strict old new status errors warnings × (undone ≡ 0)))
 
 -- memory was refused after the script, for the report of its result or the lines of new errors: the answers are flushed, and nothing is saved
 pub record LacksReport (whole : Bool) (old new : RunState) : Type 0 where
@@ -78,56 +81,56 @@ pub record LacksReport (whole : Bool) (old new : RunState) : Type 0 where
   pub saved : new.saved ≡ old.saved
 
 -- a write of the lines of new errors failed: the answers are flushed, a prefix of the lines stands after them, and nothing is saved
-pub record NewErrorsFail (whole : Bool) (old new : RunState) : Type 0 where
+pub record NewErrorsFail (whole strict : Bool) (old new : RunState) : Type 0 where
   pub run : IsUpToReports whole old new
-  pub more : HasMoreErrors run.before run.after
+  pub more : HasMoreErrors strict run.before run.after
   pub answered : SinkState
   pub printed : Prints run.output.text old.printed answered
   pub flushed : answered.unflushed ≡ 0
-  pub lines : PrintsFront (new_error_lines (new_errors run.before run.after)) answered new.printed
+  pub lines : PrintsFront (new_error_lines (new_errors strict run.before run.after)) answered new.printed
   pub saved : new.saved ≡ old.saved
 
 -- a write of the saved file failed: no error is new, all answers are flushed, and a prefix of the file stands
-pub record SoundFails (whole : Bool) (old new : RunState) : Type 0 where
+pub record SoundFails (whole strict : Bool) (old new : RunState) : Type 0 where
   pub run : IsUpToReports whole old new
-  pub none : HasMoreErrors run.before run.after → ⊥
+  pub none : HasMoreErrors strict run.before run.after → ⊥
   pub printed : Prints run.output.text old.printed new.printed
   pub flushed : new.printed.unflushed ≡ 0
   pub saved : PrintsFront run.output.saved old.saved new.saved
 
 -- a read of data that are copied failed: no error is new, all answers are flushed, and a prefix of the file stands
-pub record SoundCopyFails (whole : Bool) (old new : RunState) : Type 0 where
+pub record SoundCopyFails (whole strict : Bool) (old new : RunState) : Type 0 where
   pub run : IsUpToReports whole old new
-  pub none : HasMoreErrors run.before run.after → ⊥
+  pub none : HasMoreErrors strict run.before run.after → ⊥
   pub printed : Prints run.output.text old.printed new.printed
   pub flushed : new.printed.unflushed ≡ 0
   pub count : ℕ
   pub saved : Prints (take count run.output.saved) old.saved new.saved
 
 -- what stands before a fault that comes after the script
-abbrev pub StopsLate : Bool → RunState → RunState → Fault → Type 0
-StopsLate whole old new (Refused why) = ⊥
-StopsLate whole old new ScriptTooLong = ⊥
-StopsLate whole old new Memory = LacksReport whole old new
-StopsLate whole old new ReadFailed = ⊥
-StopsLate whole old new WriteFailed = NewErrorsFail whole old new ⊎ SoundFails whole old new
-StopsLate whole old new (RereadFault why) = (old.stored ≡ true) × ((why ≡ again.Failed) × SoundCopyFails whole old new)
+abbrev pub StopsLate : Bool → Bool → RunState → RunState → Fault → Type 0
+StopsLate whole strict old new (Refused why) = ⊥
+StopsLate whole strict old new ScriptTooLong = ⊥
+StopsLate whole strict old new Memory = LacksReport whole old new
+StopsLate whole strict old new ReadFailed = ⊥
+StopsLate whole strict old new WriteFailed = NewErrorsFail whole strict old new ⊎ SoundFails whole strict old new
+StopsLate whole strict old new (RereadFault why) = (old.stored ≡ true) × ((why ≡ again.Failed) × SoundCopyFails whole strict old new)
 
 -- what stands before a fault: until the script is answered what stands before one of `edit`, where memory may be refused for the
 -- report of the file too, before the first line; and nothing is saved
-abbrev pub StopsChecked : Bool → RunState → RunState → Fault → Type 0
-StopsChecked whole old new fault = (StopsBy old new fault × (new.saved ≡ old.saved)) ⊎ StopsLate whole old new fault
+abbrev pub StopsChecked : Bool → Bool → RunState → RunState → Fault → Type 0
+StopsChecked whole strict old new fault = (StopsBy old new fault × (new.saved ≡ old.saved)) ⊎ StopsLate whole strict old new fault
 
 -- how such a run ends
-abbrev pub EndsChecked : Bool → RunState → RunState → Result (ℕ × ℕ × ℕ) Fault → Type 0
-EndsChecked whole old new (Ok (status, undone, errors)) = IsChecked whole old new status undone errors
-EndsChecked whole old new (Err fault) = StopsChecked whole old new fault
+abbrev pub EndsChecked : Bool → Bool → RunState → RunState → Result (ℕ × ℕ × ℕ × ℕ) Fault → Type 0
+EndsChecked whole strict old new (Ok (status, undone, errors, warnings)) = IsChecked whole strict old new status undone errors warnings
+EndsChecked whole strict old new (Err fault) = StopsChecked whole strict old new fault
 
 -- the same as it is answered: a fault has its status
-abbrev pub EndsCheckedAs : Bool → RunState → RunState → End → ℕ → ℕ → Type 0
-EndsCheckedAs whole old new end undone errors =
-    MatchOption end.fault (IsChecked whole old new end.status undone errors)
-    (λ fault. StopsChecked whole old new fault × (end.status ≡ status_of_fault fault) × (undone ≡ 0) × (errors ≡ 0))
+abbrev pub EndsCheckedAs : Bool → Bool → RunState → RunState → End → ℕ → ℕ → ℕ → Type 0
+EndsCheckedAs whole strict old new end undone errors warnings =
+    MatchOption end.fault (IsChecked whole strict old new end.status undone errors warnings)
+    (λ fault. StopsChecked whole strict old new fault × (end.status ≡ status_of_fault fault) × (undone ≡ 0) × (errors ≡ 0) × (warnings ≡ 0))
 
 -- what a private function of such a run keeps to: the run was answered as `edit` answers it, and this is the report of its file
 pub record IsReportedRun (terms : Terms) (file file_after script script_after : SourceState) (out out_after : SinkState) (told told_after : Option SinkState) (now : Standing) (before : List Problem) : Type 0 where

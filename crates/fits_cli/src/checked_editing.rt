@@ -29,6 +29,8 @@ pub struct CheckedEnd {
     pub undone: u64,
     /// How many errors are new, where that kept the file from being saved; else 0.
     pub new_errors: u64,
+    /// How many warnings are, where they count and that kept the file from being saved; else 0.
+    pub new_warnings: u64,
 }
 
 impl From<Fault> for CheckedEnd {
@@ -36,37 +38,41 @@ impl From<Fault> for CheckedEnd {
     ghost use Rattle.fits_cli.specs.Faults.{status_of_fault};
 
     ghost from_gives = { λ why it. (it.end.status ≡ status_of_fault why)
-        × (it.end.fault ≡ Some why) × (it.undone ≡ 0) × (it.new_errors ≡ 0) };
+        × (it.end.fault ≡ Some why) × (it.undone ≡ 0) × (it.new_errors ≡ 0)
+        × (it.new_warnings ≡ 0) };
 
     fn from(why: Fault) -> CheckedEnd {
         CheckedEnd {
             end: End::from(why),
             undone: 0,
             new_errors: 0,
+            new_warnings: 0,
         }
     }
 }
 
 /// Reads a file and opens it, and answers a script, as `run_edit` does. What the script made of the
-/// file is saved where there are no more of any error than there were; where `whole` is so, it is
-/// also to be that every line was done. The lines of new errors go to `out`, after the answers, and
-/// remarks on the lines that aren't done to `told`, if they are wanted.
+/// file is saved where there are no more of any error than there were, nor of any warning where
+/// `strict` is so; where `whole` is so, it is also to be that every line was done. The lines of what
+/// is new go to `out`, after the answers, and remarks on the lines that aren't done to `told`, if
+/// they are wanted.
 pub fn run_edit_checked<F: Source, S: Source, P: Sink, O: Sink, E: Sink>(
     alloc: Global,
     terms: Terms,
     whole: bool,
+    strict: bool,
     file: &mut F,
     script: &mut S,
     saved: &mut P,
     out: &mut O,
     told: &mut Option<E>,
 ) -> CheckedEnd
-    ensures ends { EndsCheckedAs whole
+    ensures ends { EndsCheckedAs whole strict
         (run_by terms false
         (F.state file.old) (S.state script.old) (O.state out.old) (P.state saved.old))
         (run_by terms false
         (F.state file.new) (S.state script.new) (O.state out.new) (P.state saved.new))
-        result.end result.undone result.new_errors }
+        result.end result.undone result.new_errors result.new_warnings }
     ensures told { RemarksEndAs terms (F.state file.old) (S.state script.old) (S.state script.new)
         (option_map E.state told.old) (option_map E.state told.new) result.end }
 {
@@ -75,6 +81,7 @@ pub fn run_edit_checked<F: Source, S: Source, P: Sink, O: Sink, E: Sink>(
             alloc,
             terms,
             whole,
+            strict,
             session,
             &mut FailedReads::none(),
             script,
@@ -91,6 +98,7 @@ pub fn run_edit_checked_stored<F: Stored, S: Source, P: Sink, O: Sink, E: Sink>(
     alloc: Global,
     terms: Terms,
     whole: bool,
+    strict: bool,
     file: &F,
     failed: &mut FailedReads,
     script: &mut S,
@@ -98,11 +106,11 @@ pub fn run_edit_checked_stored<F: Stored, S: Source, P: Sink, O: Sink, E: Sink>(
     out: &mut O,
     told: &mut Option<E>,
 ) -> CheckedEnd
-    ensures ends { AllTell F.bytes → (after : SourceState) × EndsCheckedAs whole
+    ensures ends { AllTell F.bytes → (after : SourceState) × EndsCheckedAs whole strict
         (run_by terms true (at_start (F.bytes file.now) failed.old)
         (S.state script.old) (O.state out.old) (P.state saved.old))
         (run_by terms true after (S.state script.new) (O.state out.new) (P.state saved.new))
-        result.end result.undone result.new_errors }
+        result.end result.undone result.new_errors result.new_warnings }
     ensures told { AllTell F.bytes → RemarksEndAs terms (at_start (F.bytes file.now) failed.old)
         (S.state script.old) (S.state script.new)
         (option_map E.state told.old) (option_map E.state told.new) result.end }
@@ -111,7 +119,7 @@ pub fn run_edit_checked_stored<F: Stored, S: Source, P: Sink, O: Sink, E: Sink>(
 {
     match Session::read_stored(alloc, file, failed) {
         Ok(session) => run_over(
-            alloc, terms, whole, session, failed, script, saved, out, told,
+            alloc, terms, whole, strict, session, failed, script, saved, out, told,
         ),
         Err(why) => CheckedEnd::from(Fault::from(why)),
     }
@@ -122,6 +130,7 @@ fn run_over<H: Holder + Drop, S: Source, P: Sink, O: Sink, E: Sink>(
     alloc: Global,
     terms: Terms,
     whole: bool,
+    strict: bool,
     session: Session<H>,
     failed: &mut FailedReads,
     script: &mut S,
@@ -130,10 +139,10 @@ fn run_over<H: Holder + Drop, S: Source, P: Sink, O: Sink, E: Sink>(
     told: &mut Option<E>,
 ) -> CheckedEnd
     requires { marked_of session ≡ unmarked (file_of session) }
-    ensures ends { H.steady → OverFile (file_of session) (λ file after. EndsCheckedAs whole
+    ensures ends { H.steady → OverFile (file_of session) (λ file after. EndsCheckedAs whole strict
         (run_by terms (not H.whole) file (S.state script.old) (O.state out.old) (P.state saved.old))
         (run_by terms (not H.whole) after (S.state script.new) (O.state out.new) (P.state saved.new))
-        result.end result.undone result.new_errors) }
+        result.end result.undone result.new_errors result.new_warnings) }
     ensures told { H.steady → OverFile (file_of session) (λ file after. RemarksEndAs terms file
         (S.state script.old) (S.state script.new)
         (option_map E.state told.old) (option_map E.state told.new) result.end) }
@@ -141,35 +150,37 @@ fn run_over<H: Holder + Drop, S: Source, P: Sink, O: Sink, E: Sink>(
         (RunCounts failed.old failed.new (S.state script.old) (S.state script.new)) }
 {
     match edit_checked(
-        alloc, terms, whole, session, failed, script, saved, out, told,
+        alloc, terms, whole, strict, session, failed, script, saved, out, told,
     ) {
-        Ok((status, undone, new_errors)) => CheckedEnd {
+        Ok((status, undone, new_errors, new_warnings)) => CheckedEnd {
             end: End {
                 status,
                 fault: None,
             },
             undone,
             new_errors,
+            new_warnings,
         },
         Err(fault) => CheckedEnd::from(fault),
     }
 }
 
-// The run as a result: its status, how many lines and how many errors kept the file from being
+// The run as a result: its status, how many lines, errors and warnings kept the file from being
 // saved, or the fault that ended it.
 fn edit_checked<H: Holder + Drop, S: Source, P: Sink, O: Sink, E: Sink>(
     alloc: Global,
     terms: Terms,
     whole: bool,
+    strict: bool,
     session: Session<H>,
     failed: &mut FailedReads,
     script: &mut S,
     saved: &mut P,
     out: &mut O,
     told: &mut Option<E>,
-) -> Result<(u8, u64, u64), Fault>
+) -> Result<(u8, u64, u64, u64), Fault>
     requires { marked_of session ≡ unmarked (file_of session) }
-    ensures ends { H.steady → OverFile (file_of session) (λ file after. EndsChecked whole
+    ensures ends { H.steady → OverFile (file_of session) (λ file after. EndsChecked whole strict
         (run_by terms (not H.whole) file (S.state script.old) (O.state out.old) (P.state saved.old))
         (run_by terms (not H.whole) after (S.state script.new) (O.state out.new) (P.state saved.new))
         result) }
@@ -187,15 +198,15 @@ fn edit_checked<H: Holder + Drop, S: Source, P: Sink, O: Sink, E: Sink>(
     )?;
     let undone = kept_back(whole, runner.refused());
     if undone > 0 {
-        return Ok((runner.status(), undone, 0));
+        return Ok((runner.status(), undone, 0, 0));
     }
-    let found = runner.errors_since(alloc, &before)?;
-    if found.count > 0 {
+    let found = runner.errors_since(alloc, strict, &before)?;
+    if found.are_some() {
         print_at_once(out, &found.text)?;
-        return Ok((1, 0, found.count));
+        return Ok((1, 0, found.errors, found.warnings));
     }
     runner.save(terms, failed, saved)?;
-    Ok((runner.status(), 0, 0))
+    Ok((runner.status(), 0, 0, 0))
 }
 
 // Asks for the report of a file that was opened, answers a script over it, and flushes the answers.

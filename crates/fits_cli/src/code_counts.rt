@@ -20,11 +20,17 @@ pub(crate) fn counts_of(report: &[Problem]) -> [usize; NUMBERS]
     counts
 }
 
-/// Whether a code is an error of which there are more than there were.
-pub(crate) fn has_more(had: &[usize; NUMBERS], has: &[usize; NUMBERS], code: Code) -> bool
+/// Whether a code is an error, or any code where it is strict, and there is more of it than there
+/// was.
+pub(crate) fn has_more(
+    strict: bool,
+    had: &[usize; NUMBERS],
+    has: &[usize; NUMBERS],
+    code: Code,
+) -> bool
     ensures { (before after : List Problem) → AreCounts before had.now → AreCounts after has.now
-        → result ≡ has_more before after code }
+        → result ≡ has_more strict before after code }
 {
     let number = code.number() as usize;
-    code.is_error() && had[number] < has[number]
+    (strict || code.is_error()) && had[number] < has[number]
 }

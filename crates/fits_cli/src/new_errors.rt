@@ -1,44 +1,69 @@
-//! Errors of a report that another hasn't.
-ghost use Rattle.std.specs.Prelude.{◌≡◌, ◌++◌, List, AllPairs, IfOk, OnOk, length};
+//! Errors of a report that another hasn't, and warnings where these count too.
+ghost use Rattle.std.specs.Prelude.{◌≡◌, ◌++◌, List, AllPairs, IfOk, OnOk};
 ghost use Rattle.fits_session.specs.Report.{IsListedBefore};
 ghost use Rattle.fits_session.specs.declared.problem.Problem.{Problem};
+ghost use Rattle.fits_cli.specs.Report.{errors_in, warnings_in};
 ghost use Rattle.fits_cli.specs.NewErrors.{is_listed_before, is_new, is_same, new_error_line, new_error_lines, new_errors, stands_in, AreCounts};
 
 use crate::code_counts::{NUMBERS, counts_of, has_more};
+use crate::end::one_if;
 use crate::report_text::push_problem;
 use fits_session::Problem;
 use std::alloc::{AllocError, Global};
 
-/// New errors: their lines, and how many there are.
+/// New errors and warnings: their lines, and how many there are.
 #[derive(Drop)]
 pub(crate) struct NewErrors {
     pub text: Vec<u8>,
-    pub count: u64,
+    pub errors: u64,
+    pub warnings: u64,
 }
 
-/// The errors of the report after that are new since the one before.
+impl NewErrors {
+    ghost use Rattle.std.specs.Prelude.{◌≡◌, ◌+◌, nat_lt};
+
+    /// Whether there are any.
+    pub(crate) fn are_some(&self) -> bool
+        ensures { result ≡ nat_lt 0 (self.now.errors + self.now.warnings) }
+    {
+        self.errors > 0 || self.warnings > 0
+    }
+}
+
+/// The errors of the report after that are new since the one before, and where it is strict the
+/// warnings.
 #[tactic(auto, unfolding(crate::specs::NewErrors::new_errors))]
 pub(crate) fn errors_since(
     alloc: Global,
+    strict: bool,
     before: &[Problem],
     after: &[Problem],
 ) -> Result<NewErrors, AllocError>
     requires { AllPairs IsListedBefore before.now }
     ensures text { IfOk result (λ found. found.text.items
-        ≡ new_error_lines (new_errors before.now after.now)) }
-    ensures count { IfOk result (λ found. found.count ≡ length (new_errors before.now after.now)) }
+        ≡ new_error_lines (new_errors strict before.now after.now)) }
+    ensures errors { IfOk result (λ found. found.errors
+        ≡ errors_in (new_errors strict before.now after.now)) }
+    ensures warnings { IfOk result (λ found. found.warnings
+        ≡ warnings_in (new_errors strict before.now after.now)) }
 {
     let had = counts_of(before);
     let has = counts_of(after);
     let mut text = Vec::new(alloc);
     let mut count = 0;
+    let mut errors = 0;
     for it in after {
-        if is_new(&had, &has, before, *it) {
+        if is_new(strict, &had, &has, before, *it) {
             push_new_error(&mut text, *it)?;
             count += 1;
+            errors += one_if(it.code.is_error()) as u64;
         }
     }
-    Ok(NewErrors { text, count })
+    Ok(NewErrors {
+        text,
+        errors,
+        warnings: count - errors,
+    })
 }
 
 // `+CODE HDU PLACE TEXT`
@@ -50,13 +75,19 @@ fn push_new_error(text: &mut Vec<u8>, it: Problem) -> Result<(), AllocError>
     push_problem(text, it)
 }
 
-// Whether a problem is a new error, by how many of each code there were and are.
-fn is_new(had: &[usize; NUMBERS], has: &[usize; NUMBERS], before: &[Problem], it: Problem) -> bool
+// Whether a problem is new, by how many of each code there were and are.
+fn is_new(
+    strict: bool,
+    had: &[usize; NUMBERS],
+    has: &[usize; NUMBERS],
+    before: &[Problem],
+    it: Problem,
+) -> bool
     requires ordered { AllPairs IsListedBefore before.now }
     requires counted { AreCounts before.now had.now }
-    ensures { (after : List Problem) → AreCounts after has.now → result ≡ is_new before.now after it }
+    ensures { (after : List Problem) → AreCounts after has.now → result ≡ is_new strict before.now after it }
 {
-    has_more(had, has, it.code) && !stands_in(before, it)
+    has_more(strict, had, has, it.code) && !stands_in(before, it)
 }
 
 // Whether a problem stands in a report. About as many of its problems are looked at as it has

@@ -48,12 +48,13 @@ impl<H: Holder + Drop> Model for Runner<H> {
 }
 
 impl<H: Holder + Drop> Runner<H> {
-    ghost use Rattle.std.specs.Prelude.{◌≡◌, ◌+◌, ◌^◌, ◌<◌, ◌&&◌, ◌||◌, not, true, AllPairs, if◌then◌else◌, length, IfOk, IfErr, OnOk, OnErr};
+    ghost use Rattle.std.specs.Prelude.{◌≡◌, ◌+◌, ◌^◌, ◌<◌, ◌&&◌, ◌||◌, not, true, AllPairs, if◌then◌else◌, IfOk, IfErr, OnOk, OnErr};
     ghost use Rattle.fits_stream.specs.Stream.{Prints};
     ghost use Rattle.fits_cli.specs.Answer.{at_first_line, line_answer, line_left, LineNeedsMemory};
     ghost use Rattle.fits_script.specs.Line.{reading_of};
     ghost use Rattle.fits_cli.specs.Output.{saved_bytes, status_of};
     ghost use Rattle.fits_cli.specs.Remark.{remark_by, remark_on};
+    ghost use Rattle.fits_cli.specs.Report.{errors_in, warnings_in};
     ghost use Rattle.fits_cli.specs.Reply.{counts_as_refused, reply_text};
     ghost use Rattle.fits_cli.specs.Faults.{FaultCounts, IsOnce, SaveFails};
     ghost use Rattle.fits_cli.specs.Running.{LacksReply};
@@ -164,21 +165,25 @@ impl<H: Holder + Drop> Runner<H> {
         self.session.report()
     }
 
-    /// The errors of the file as it stands that are new since this report.
+    /// The errors of the file as it stands that are new since this report, and where it is strict the
+    /// warnings.
     pub(crate) fn errors_since(
         &mut self,
         alloc: Global,
+        strict: bool,
         before: &[Problem],
     ) -> Result<NewErrors, AllocError>
         requires { AllPairs IsListedBefore before.now }
         ensures text { IfOk result (λ found. found.text.items
-            ≡ new_error_lines (new_errors before.now (report_of self.old.marked.file))) }
-        ensures count { IfOk result (λ found. found.count
-            ≡ length (new_errors before.now (report_of self.old.marked.file))) }
+            ≡ new_error_lines (new_errors strict before.now (report_of self.old.marked.file))) }
+        ensures errors { IfOk result (λ found. found.errors
+            ≡ errors_in (new_errors strict before.now (report_of self.old.marked.file))) }
+        ensures warnings { IfOk result (λ found. found.warnings
+            ≡ warnings_in (new_errors strict before.now (report_of self.old.marked.file))) }
         ensures left { self.new ≡ self.old }
     {
         let after = self.report()?;
-        errors_since(alloc, before, &after)
+        errors_since(alloc, strict, before, &after)
     }
 
     /// Saves the file on these terms, and flushes it.

@@ -19,6 +19,7 @@ pub mod LongStringLemmas
 pub mod LongValueLemmas
 pub mod MarkedLemmas
 pub mod NameLemmas
+pub mod NewLemmas
 pub mod OneValueLemmas
 pub mod OutputLemmas
 pub mod PixelFormLemmas

@@ -1,5 +1,5 @@
 //! Laws of the definitions, each the contract of a function that does nothing.
-ghost use Rattle.std.specs.Prelude.{◌≡◌, ◌↔◌, ◌+◌, ◌<◌, ℕ, true, AllPairs, false, List, Some, length, take};
+ghost use Rattle.std.specs.Prelude.{◌≡◌, ◌↔◌, ◌+◌, ◌<◌, ℕ, true, AllPairs, Bool, false, List, Some, length, take};
 ghost use Rattle.fits_laws.specs.Forms.{Says};
 ghost use Rattle.fits_laws.specs.Runs.{IsEdited, LeavesSums};
 ghost use Rattle.fits_script.specs.declared.command.Command.{Command};
@@ -11,6 +11,7 @@ ghost use Rattle.fits_session.specs.declared.problem.Problem.{Problem};
 ghost use Rattle.fits_cli.specs.Answer.{at_first_line, Standing};
 ghost use Rattle.fits_cli.specs.NewErrors.{new_errors, HasMoreErrors};
 ghost use Rattle.fits_cli.specs.Output.{standing_after, Output, IsOutputOf};
+ghost use Rattle.fits_cli.specs.Report.{warnings_in};
 ghost use Rattle.fits_cli.specs.Script.{IsCutInLines};
 ghost use Rattle.fits_cli.specs.declared.terms.Terms.{Terms};
 
@@ -50,10 +51,16 @@ pub fn an_output()
 {}
 
 /// Where a report in order has more of some error than another, at least one of its errors is new,
-/// and only there.
+/// and only there; so it is of errors and warnings, where these count.
 pub fn more_of_an_error_is_a_new_error()
-    ensures { (before after : List Problem) → AllPairs IsListedBefore after
-        → HasMoreErrors before after ↔ (0 < length (new_errors before after)) }
+    ensures { (strict : Bool) (before after : List Problem) → AllPairs IsListedBefore after
+        → HasMoreErrors strict before after ↔ (0 < length (new_errors strict before after)) }
+{}
+
+/// Where warnings don't count, none of what is new is a warning.
+pub fn new_errors_are_errors()
+    ensures { (before after : List Problem)
+        → warnings_in (new_errors false before after) ≡ 0 }
 {}
 
 /// What the lines of a script leave is what the edits leave that are done, in their order, each

@@ -12,4 +12,4 @@ returns-in-Ok-clause-ends g c tells =
 pub returns-in-Err-clause-ends : goal.returns-in-Err-clause-ends
 returns-in-Err-clause-ends g c tells =
     let stops = c.in-Err.ensures.err in
-    (record { remaining = stops.0; failures = c.read_stored.new.failed }, checked_fault c.args.whole _ _ c.from-in-Err.result.end c.from-in-Err.result.undone c.from-in-Err.result.new_errors c.from.result c.from-in-Err.ensures (rw c.from.ensures (inl ((StopsBy-opening _ _ _ refl refl refl stops.1), refl))))
+    (record { remaining = stops.0; failures = c.read_stored.new.failed }, checked_fault c.args.whole c.args.strict _ _ c.from-in-Err.result.end c.from-in-Err.result.undone c.from-in-Err.result.new_errors c.from-in-Err.result.new_warnings c.from.result c.from-in-Err.ensures (rw c.from.ensures (inl ((StopsBy-opening _ _ _ refl refl refl stops.1), refl))))
