@@ -27,6 +27,7 @@ const EDITS: Form = Form {
             'c',
             "Save nothing if the result has more errors of some code than IN, and print them",
         ),
+        Word::Strict,
         Word::Flag(
             "in-place",
             'i',

@@ -10,7 +10,8 @@ use std::io::{IsTerminal, Stderr};
 pub struct Detail<'c> {
     /// The command that is given.
     pub command: &'c str,
-    errors: Stderr,
+    /// Where it is told.
+    pub errors: Stderr,
     verbose: bool,
     on_terminal: bool,
     undone: &'c Cell<u64>,

@@ -19,7 +19,17 @@ pub fn run_on<F: Source, S: Source, P: Sink, O: Sink, E: Sink>(
     told: &mut Option<E>,
 ) -> CheckedEnd {
     if saving.checked {
-        return run_edit_checked(alloc, terms, saving.whole, file, script, saved, out, told);
+        return run_edit_checked(
+            alloc,
+            terms,
+            saving.whole,
+            saving.strict,
+            file,
+            script,
+            saved,
+            out,
+            told,
+        );
     }
     if saving.whole {
         let WholeEnd { end, undone } = run_edit_whole(alloc, terms, file, script, saved, out, told);
@@ -48,6 +58,7 @@ pub fn run_on_stored<F: Stored, S: Source, P: Sink, O: Sink, E: Sink>(
             alloc,
             terms,
             saving.whole,
+            saving.strict,
             file,
             failed,
             script,
@@ -68,11 +79,12 @@ pub fn run_on_stored<F: Stored, S: Source, P: Sink, O: Sink, E: Sink>(
     ended(run_edit_stored(alloc, terms, file, failed, script, saved, out, told))
 }
 
-/// The end of a run of which neither lines nor errors keep the file from being saved.
+/// The end of a run of which neither lines nor problems keep the file from being saved.
 pub fn ended(end: End) -> CheckedEnd {
     CheckedEnd {
         end,
         undone: 0,
         new_errors: 0,
+        new_warnings: 0,
     }
 }

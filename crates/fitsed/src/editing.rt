@@ -6,9 +6,8 @@ use crate::files::{Standing, is_stored, mode_of, source_of, standing_at};
 use crate::piece::{Piece, script_of};
 use crate::remarks::{before_remarks, remarks_after};
 use crate::reporting::{
-    NOT_TAKEN, report_beside, report_left_over, report_made_hyphen, report_new_errors,
-    report_replaced, report_undone, reported, reported_oddity, reported_of, reported_save,
-    reported_script,
+    NOT_TAKEN, report_beside, report_left_over, report_made_hyphen, report_new, report_replaced,
+    report_undone, reported, reported_oddity, reported_of, reported_save, reported_script,
 };
 use crate::saved_end::SavedEnd;
 use crate::scaled::{has_pixel_line, tell_scaled};
@@ -231,23 +230,20 @@ fn tell_saved<R: Eprint>(rt: &R, to: &str, there: Standing, done: &SavedEnd) {
 
 // Keeps what was saved, where all was; else what stood there stays as it was.
 fn kept<P: Place + Drop>(saved: BufWriter<SavedFile<P>>, done: CheckedEnd) -> SavedEnd {
-    if done.end.fault.is_some() || done.undone > 0 || done.new_errors > 0 {
+    let ended = SavedEnd {
+        done,
+        fault: None,
+        met: 0,
+    };
+    if !ended.is_saved() {
         let fault = saved.get_ref().fault();
-        return SavedEnd {
-            done,
-            fault,
-            met: 0,
-        };
+        return SavedEnd { fault, ..ended };
     }
     let Ok(mut saved) = saved.into_inner() else {
         return SavedEnd::from(Fault::WriteFailed);
     };
     match saved.keep() {
-        Ok(()) => SavedEnd {
-            done,
-            fault: None,
-            met: 0,
-        },
+        Ok(()) => ended,
         Err(fault) => SavedEnd::refused(fault),
     }
 }
@@ -264,9 +260,7 @@ fn status_of<R: Files<File = File> + Eprint + AllocGlobal>(
     if done.undone > 0 {
         report_undone(rt, at.to, done.undone);
     }
-    if done.new_errors > 0 {
-        report_new_errors(rt, at.to, done.new_errors);
-    }
+    report_new(rt, at.to, done.new_errors, done.new_warnings);
     if let Some(fault) = ended.fault {
         let status = reported_save(rt, at.subject, at.to, terms.saving, fault);
         if let (SaveFault::InPart(_), true) = (fault, at.subject.detail.tells()) {

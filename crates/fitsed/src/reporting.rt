@@ -154,10 +154,18 @@ fn lines_were(count: u64) -> &'static str {
     if count == 1 { "line was" } else { "lines were" }
 }
 
-/// Reports that a file isn't saved, since errors are new.
-pub fn report_new_errors<R: Eprint>(rt: &R, name: &str, new_errors: u64) {
-    let errors = if new_errors == 1 { "error" } else { "errors" };
-    let _ = eprintln!(rt; "fitsed: {name}: not saved: {new_errors} new {errors}");
+/// Reports that a file isn't saved, where errors or warnings are new.
+pub fn report_new<R: Eprint>(rt: &R, name: &str, errors: u64, warnings: u64) {
+    let of_errors = if errors == 1 { "error" } else { "errors" };
+    let of_warnings = if warnings == 1 { "warning" } else { "warnings" };
+    let _ = match (errors, warnings) {
+        (0, 0) => Ok(()),
+        (_, 0) => eprintln!(rt; "fitsed: {name}: not saved: {errors} new {of_errors}"),
+        (0, _) => eprintln!(rt; "fitsed: {name}: not saved: {warnings} new {of_warnings}"),
+        _ => eprintln!(rt;
+            "fitsed: {name}: not saved: {errors} new {of_errors} and {warnings} new {of_warnings}"
+        ),
+    };
 }
 
 /// Reports that another file stood where one was saved.

@@ -25,7 +25,8 @@ impl SavedEnd {
     /// Whether the result was saved.
     pub fn is_saved(&self) -> bool {
         let done = self.done;
-        done.end.fault.is_none() && done.undone == 0 && done.new_errors == 0
+        let new = done.new_errors.saturating_add(done.new_warnings);
+        done.end.fault.is_none() && done.undone == 0 && new == 0
     }
 
     /// Whether no further file is edited: it isn't the file alone that is to blame.

@@ -56,6 +56,8 @@ pub struct SavingTerms<'a> {
     pub whole: bool,
     /// Only where there are no more errors of any code.
     pub checked: bool,
+    /// And no more warnings.
+    pub strict: bool,
     /// So that sums that were right are right.
     pub sums: bool,
     /// Only where nothing stands.
@@ -182,6 +184,7 @@ fn terms_of<'a>(words: &ArgMatches<'a>) -> SavingTerms<'a> {
     SavingTerms {
         whole: words.get_flag("all"),
         checked: words.get_flag("check"),
+        strict: words.get_flag("warnings"),
         sums: words.get_flag("sums"),
         fresh: words.get_flag("no-clobber"),
         saving: Saving {

@@ -13,6 +13,8 @@ pub enum Word {
     File,
     /// Whether standard error is told more.
     Verbose(&'static str),
+    /// Whether warnings count as errors.
+    Strict,
     /// Whether a file that stands at OUT stays.
     NoClobber,
     /// What ends the name that the old file keeps.
@@ -41,6 +43,7 @@ impl Word {
             Word::Line => Ok(line(alloc)),
             Word::File => Ok(file(alloc)),
             Word::Verbose(help) => Ok(flag(alloc, "verbose", 'v', help)),
+            Word::Strict => strict(alloc),
             Word::NoClobber => no_clobber(alloc),
             Word::Backup => Ok(backup(alloc)),
             Word::Named => Ok(named(alloc)),
@@ -62,6 +65,11 @@ fn line<'a>(alloc: Global) -> Arg<'a> {
 fn file<'a>(alloc: Global) -> Arg<'a> {
     let help = "A file with lines of the script, - for standard input; may be repeated";
     list(alloc, "file", 'f', "SCRIPT", help)
+}
+
+fn strict<'a>(alloc: Global) -> Result<Arg<'a>, AllocError> {
+    let help = "With -c: warnings count as errors do";
+    flag(alloc, "warnings", 'w', help).requires_arg("check")
 }
 
 fn no_clobber<'a>(alloc: Global) -> Result<Arg<'a>, AllocError> {

@@ -42,7 +42,8 @@ fn bytes_of<R: Env + AllocGlobal>(rt: &R, index: usize) -> Result<Option<Vec<u8>
             Err(FillError::TooLong) => room = room.saturating_mul(2),
         }
     }
-    Err(AllocError)
+    // So much room is refused before.
+    Ok(None)
 }
 
 // The word of these bytes, or what stands for it.
