@@ -15,17 +15,24 @@ pub(crate) fn end_of_links<R: Files + AllocGlobal>(
     let alloc = rt.alloc();
     let mut end = format!(in alloc; "{path}")?;
     for _link in 0..LINKS {
-        match next_of(rt, end.as_str()) {
-            Ok(next) => end = next,
-            Err(error) if error.kind() == ErrorKind::OutOfMemory => return Err(AllocError),
-            // No link stands there.
-            Err(_) => {
+        match link_of(rt, end.as_str())? {
+            Some(next) => end = next,
+            None => {
                 let is_free = fs::symlink_metadata(rt, end.as_str()).is_err();
                 return Ok(is_free.then_some(end));
             }
         }
     }
     Ok(None)
+}
+
+// Where the link at a path leads, if one stands there.
+fn link_of<R: Files + AllocGlobal>(rt: &R, path: &str) -> Result<Option<String>, AllocError> {
+    match next_of(rt, path) {
+        Ok(next) => Ok(Some(next)),
+        Err(error) if error.kind() == ErrorKind::OutOfMemory => Err(AllocError),
+        Err(_) => Ok(None),
+    }
 }
 
 // Where the link at a path leads.
