@@ -1,6 +1,6 @@
 PREFIX = /usr/local
 
-.PHONY: all test install uninstall clean
+.PHONY: all test install uninstall deb dist clean
 
 all: crates/fitsed/out/fitsed
 
@@ -31,13 +31,20 @@ crates/fitsed/out/fitsed: crates/fitsed/out/proved
 test:
 	@sh .ci/test.sh
 
+# What is installed stands in packaging/files.sh, for the package too.
 install: crates/fitsed/out/fitsed
-	install -d $(DESTDIR)$(PREFIX)/bin $(DESTDIR)$(PREFIX)/share/man/man1
-	install -m 755 crates/fitsed/out/fitsed $(DESTDIR)$(PREFIX)/bin/fitsed
-	install -m 644 man/fitsed.1 $(DESTDIR)$(PREFIX)/share/man/man1/fitsed.1
+	sh packaging/files.sh $< '$(DESTDIR)' '$(PREFIX)'
 
 uninstall:
 	rm -f $(DESTDIR)$(PREFIX)/bin/fitsed $(DESTDIR)$(PREFIX)/share/man/man1/fitsed.1
+	rm -f $(DESTDIR)$(PREFIX)/share/bash-completion/completions/fitsed
+	rm -rf $(DESTDIR)$(PREFIX)/share/doc/fitsed
+
+deb: crates/fitsed/out/fitsed
+	sh packaging/deb.sh $< dist/fitsed.deb
+
+dist: crates/fitsed/out/fitsed
+	sh packaging/dist.sh
 
 clean:
-	rm -rf crates/*/out
+	rm -rf crates/*/out dist
