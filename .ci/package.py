@@ -95,10 +95,14 @@ def rows():
     yield from completions()
     with tempfile.TemporaryDirectory() as room:
         yield from without_toolchain(pathlib.Path(room))
-        if not shutil.which("dpkg-deb"):
-            print("dpkg-deb isn't installed: no package is made", file=sys.stderr)
+        lacks = [it for it in ("dpkg-deb", "strip", "readelf", "git") if not shutil.which(it)]
+        if lacks:
+            print(f"no package is made: {', '.join(lacks)} not installed", file=sys.stderr)
             return
         yield from package(pathlib.Path(room))
+        if not said("git", "rev-parse", "HEAD"):
+            print("no release is made: these sources are no repository", file=sys.stderr)
+            return
         yield from release(pathlib.Path(room))
 
 

@@ -1,7 +1,7 @@
 #!/bin/sh
-# All that has to hold, in nine parts: each lemma is used and each refused body well made, each refusal of memory is passed on, the tool that tries refused bodies
+# All that has to hold, in ten parts: each lemma is used and each refused body well made, each refusal of memory is passed on, the tool that tries refused bodies
 # does what it says, the proofs and tests of all crates, the refused bodies, refused memory, the program over real files and over the tables of cases/, the
-# instructions of the jobs of bench/. What failed is said once more at the end, with the clock of each part; the last line sums their counts.
+# package, the instructions of the jobs of bench/. What failed is said once more at the end, with the clock of each part; the last line sums their counts.
 # With ANEW all is proved and tried again, whatever an earlier run on this machine kept.
 set -u
 cd "$(dirname "$0")/.."
@@ -42,9 +42,11 @@ part stored sh .ci/stored.sh &
 stored=$!
 part cases python3 -B cases/run.py &
 cases=$!
+part package python3 -B .ci/package.py &
+package=$!
 part bench python3 -B bench/count &
-wait $! $refused $stored $cases $edits
+wait $! $refused $stored $cases $package $edits
 wait
 cat "$room/faults" "$room/clocks"
 awk '/^[0-9]+ passed, [0-9]+ failed/ { passed += $1; failed += $3; counted += 1 }
-     END { if (counted < 9) failed += 1; printf "%d passed, %d failed\n", passed, failed; exit failed > 0 }' "$room/counts" && [ ! -e "$room/failed" ]
+     END { if (counted < 10) failed += 1; printf "%d passed, %d failed\n", passed, failed; exit failed > 0 }' "$room/counts" && [ ! -e "$room/failed" ]
