@@ -35,7 +35,7 @@ cat >"$room/DEBIAN/control" <<END
 Package: fitsed
 Version: $version
 Architecture: amd64
-Maintainer: the fitsed developers <fitsed@localhost>
+Maintainer: Jurvakso maintainers <maintainers@users.noreply.jurvakso.example>
 Depends: libc6 (>= $library)
 Installed-Size: $(du -sk --apparent-size "$room/usr" | cut -f1)
 Section: science

@@ -1,10 +1,10 @@
-use std::fs::{File, OpenOptions};
+use std::fs::{File, OpenOptions, TryLockError};
 use std::io::ErrorKind;
 use std::os::unix::fs::{MetadataExt, OpenOptionsExt};
 use std::rt::Files;
 use std::{fs, io};
 
-/// How often a lock is asked for that another run takes away meanwhile.
+/// How often the file of a lock is looked for that other runs remove meanwhile.
 const TURNS: u32 = 1000;
 
 /// A lock by which one run at a time takes a path: that of a file beside it, which goes with the lock.
@@ -14,26 +14,39 @@ pub(crate) struct PathLock {
     file: File,
 }
 
+/// What comes of asking for a lock. Nothing is waited for.
+#[derive(Drop)]
+pub(crate) enum Asked {
+    Held(PathLock),
+    /// Another run has it.
+    Taken,
+    /// The folder takes no such file, or its system knows no locks.
+    Unknown,
+}
+
 impl PathLock {
-    /// Waits for the lock. None where the folder takes no such file, or its system knows no locks.
-    pub(crate) fn at<R: Files<File = File>>(rt: &R, name: &str) -> Option<PathLock> {
+    /// Asks for the lock whose file has this name.
+    pub(crate) fn ask<R: Files<File = File>>(rt: &R, name: &str) -> Asked {
         for _turn in 0..TURNS {
             match open(rt, name) {
-                Ok(file) => {
-                    if file.lock().is_err() {
-                        let _ = fs::remove_file(rt, name);
-                        return None;
-                    }
+                Ok(file) => match file.try_lock() {
                     // The run that had it may have removed the file.
-                    if stands(rt, name, &file) {
-                        return Some(PathLock { file });
+                    Ok(()) => {
+                        if stands(rt, name, &file) {
+                            return Asked::Held(PathLock { file });
+                        }
                     }
-                }
+                    Err(TryLockError::WouldBlock) => return Asked::Taken,
+                    Err(TryLockError::Error(_)) => {
+                        let _ = fs::remove_file(rt, name);
+                        return Asked::Unknown;
+                    }
+                },
                 Err(error) if error.kind() == ErrorKind::NotFound => {}
-                Err(_) => return None,
+                Err(_) => return Asked::Unknown,
             }
         }
-        None
+        Asked::Taken
     }
 
     /// Gives it back.

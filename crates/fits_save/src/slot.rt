@@ -3,7 +3,7 @@ ghost use Rattle.std.specs.Io.{WritesAtMost};
 use crate::begin_fault::BeginFault;
 use crate::beside::{Beside, NAMES};
 use crate::finding::{end_of_links, is_descriptor};
-use crate::path_lock::PathLock;
+use crate::path_lock::{Asked, PathLock};
 use crate::saving::Saving;
 use crate::seen::Seen;
 use crate::taking::Taking;
@@ -242,13 +242,17 @@ impl<R: Files<File = File>> Slot<'_, R> {
         }
     }
 
-    /// Whether what stands at the path is what was opened there, as it was then. Other runs over it
-    /// wait from then on, until it's unlocked.
+    /// Whether what stands at the path is what was opened there, as it was then, and no other run is
+    /// taking it. None does from then on, until it's unlocked.
     pub(crate) fn agrees(&mut self) -> bool {
         let Some(seen) = self.seen else {
             return true;
         };
-        self.lock = PathLock::at(self.rt, self.beside.lock());
+        match PathLock::ask(self.rt, self.beside.lock()) {
+            Asked::Held(lock) => self.lock = Some(lock),
+            Asked::Taken => return false,
+            Asked::Unknown => {}
+        }
         let agrees = match fs::metadata(self.rt, self.path.as_str()) {
             Ok(about) => seen.is_still(&about),
             Err(_) => false,
