@@ -5,6 +5,7 @@ import dataclasses
 import os
 import subprocess
 import tempfile
+import threading
 
 from fits import COMMENTS, MANDATORY, P0, PIXEL, THREE_PIXELS, file, header, pixels, zeros
 from program import differences, shown
@@ -427,7 +428,13 @@ ROOM = tempfile.TemporaryDirectory()
 
 def preloaded():
     """The library of faults.c, built."""
-    shim = f"{ROOM.name}/faults.so"
-    source = os.path.join(os.path.dirname(os.path.abspath(__file__)), "faults.c")
-    subprocess.run(["cc", "-shared", "-fPIC", "-O1", "-o", shim, source], check=True)
-    return shim
+    return built("faults.c", ROOM.name)
+
+
+def built(source, room):
+    """The library of a source of this folder, built in a room; rows beside one another find it whole, or build it too."""
+    library = f"{room}/{source.replace('.c', '.so')}"
+    part = f"{library}.{os.getpid()}.{threading.get_ident()}"
+    subprocess.run(["cc", "-shared", "-fPIC", "-O1", "-o", part, os.path.join(os.path.dirname(os.path.abspath(__file__)), source)], check=True)
+    os.replace(part, library)
+    return library

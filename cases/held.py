@@ -20,6 +20,7 @@ import threading
 import tty
 
 from again import contents
+from faults import built
 from fits import PIXEL, header, pixels
 from one_file import FIRST, TAIL, THIRD, WITH_OBJECT
 from program import Ran, shown
@@ -117,9 +118,7 @@ def preloaded():
         left_out("rows that hold runs up", "there is no cc")
         return None
     os.chmod(ROOM.name, 0o755)
-    source = os.path.join(os.path.dirname(os.path.abspath(__file__)), "calls.c")
-    subprocess.run(["cc", "-shared", "-fPIC", "-O1", "-o", f"{ROOM.name}/calls.so", source], check=True)
-    return f"{ROOM.name}/calls.so"
+    return built("calls.c", ROOM.name)
 
 
 @functools.cache
@@ -162,7 +161,7 @@ def begun(program, path, words, is_of_another=False, before=None, stdout=subproc
     who = as_another() if is_of_another else {}
     typed = [reachable(program.path) if is_of_another else program.path, *words]
     named = {"LD_PRELOAD": preloaded()} if environment else {}
-    how = {"cwd": path, "env": {**os.environ, **named, **environment}, "preexec_fn": before, **who}
+    how = {"cwd": path, "env": {**os.environ, **named, **environment}, "preexec_fn": lambda: begins(before), **who}
     ran = subprocess.Popen(typed, stdin=subprocess.DEVNULL, stdout=stdout, stderr=subprocess.PIPE, **how)
     timer = threading.Timer(TIMEOUT, ran.kill)
     timer.start()
@@ -175,6 +174,15 @@ def begun(program, path, words, is_of_another=False, before=None, stdout=subproc
         for pipe in (ran.stdout, ran.stderr):
             if pipe:
                 pipe.close()
+
+
+def begins(before):
+    """What a run does first: it ends by signals also where whoever started this passes over them, as a shell has it for what runs
+    beside it."""
+    for number in (signal.SIGINT, signal.SIGHUP, signal.SIGTERM, signal.SIGQUIT):
+        signal.signal(number, signal.SIG_DFL)
+    if before:
+        before()
 
 
 def is_held(ran):
