@@ -46,7 +46,7 @@ impl PathLock {
                 Err(_) => return Asked::Unknown,
             }
         }
-        Asked::Taken
+        Asked::Unknown
     }
 
     /// Gives it back.
