@@ -140,6 +140,7 @@ datasum_other = record {
   link = λ e. let letter = ap (λ (x : List ℕ). get_or x 0 0) e in omega (arith, letter);
 }
 
+-- the same of CHECKSUM
 checksum_other : IsOther (codes "CHECKSUM")
 unfolding axis_name
 checksum_other = record {
