@@ -76,6 +76,8 @@ def release(room):
     proof = (clone / f"dist/fitsed-{version}.proof").read_text()
     yield "the proof names the commit", True, f"commit {said('git', 'rev-parse', 'HEAD').strip()}" in proof
     yield "and the program", True, f"program {hashlib.sha256(PROGRAM.read_bytes()).hexdigest()}" in proof
+    said("dpkg-deb", "-x", clone / f"dist/fitsed_{version}_amd64.deb", room / "packed")
+    yield "and that of the package", True, f"packed {hashlib.sha256((room / 'packed/usr/bin/fitsed').read_bytes()).hexdigest()}" in proof
 
 
 def without_toolchain(room):

@@ -10,7 +10,16 @@ chmod 755 "$room"
 sh packaging/files.sh "$program" "$room" /usr
 documents=$room/usr/share/doc/fitsed
 gzip -9n "$room/usr/share/man/man1/fitsed.1"
-mv "$documents/CHANGELOG.md" "$documents/changelog"
+# The time of the commit, so that the same sources and program make the same package, to the byte; in an archive of them files have it.
+export SOURCE_DATE_EPOCH="${SOURCE_DATE_EPOCH:-$(git log -1 --format=%ct 2>/dev/null || stat -c %Y CHANGELOG.md)}"
+maintainer='Jurvakso maintainers <maintainers@users.noreply.jurvakso.example>'
+cat >"$documents/changelog" <<END
+fitsed ($version) unstable; urgency=medium
+
+  * What users see change stands in CHANGELOG.md.
+
+ -- $maintainer  $(date -R -u -d "@$SOURCE_DATE_EPOCH")
+END
 gzip -9n "$documents/changelog"
 rm "$documents/LICENSE-MIT" "$documents/LICENSE-APACHE"
 {
@@ -35,7 +44,7 @@ cat >"$room/DEBIAN/control" <<END
 Package: fitsed
 Version: $version
 Architecture: amd64
-Maintainer: Jurvakso maintainers <maintainers@users.noreply.jurvakso.example>
+Maintainer: $maintainer
 Depends: libc6 (>= $library)
 Installed-Size: $(du -sk --apparent-size "$room/usr" | cut -f1)
 Section: science
@@ -49,8 +58,6 @@ Description: editor and verifier for FITS files
  The program is compiled for x86-64-v2: processors since about 2009.
 END
 (cd "$room" && find usr -type f -exec md5sum {} +) | sort -k 2 >"$room/DEBIAN/md5sums"
-# The same sources and program make the same package, to the byte.
-export SOURCE_DATE_EPOCH="${SOURCE_DATE_EPOCH:-$(git log -1 --format=%ct 2>/dev/null || echo 0)}"
 mkdir -p "$(dirname "$file")"
 dpkg-deb --root-owner-group --build "$room" "$file" >/dev/null
 echo "$file"

@@ -15,6 +15,7 @@ sh packaging/deb.sh crates/fitsed/out/fitsed "dist/fitsed_${version}_amd64.deb"
         [ ! -e "$log" ] || sed -n "s/^logic=/$crate: logic=/p" "$log"
     done
     echo "program $(sha256sum <crates/fitsed/out/fitsed | cut -d' ' -f1)"
+    echo "packed $(dpkg-deb --fsys-tarfile "dist/fitsed_${version}_amd64.deb" | tar -xO ./usr/bin/fitsed | sha256sum | cut -d' ' -f1)"
 } >"dist/fitsed-$version.proof"
 (cd dist && sha256sum -- * >SHA256SUMS)
 ls dist

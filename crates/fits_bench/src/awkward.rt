@@ -4,10 +4,9 @@ use crate::cards::{EXTENSION, PRIMARY};
 use crate::files::{ImageText, end_header, fill_block, image_file, push_line, sky};
 use crate::memory::Stored;
 use crate::noise::Noise;
-use crate::runs::Outcome;
+use crate::runs::{ERRORS, Outcome, REPORT};
 use crate::template::Template;
 use crate::text::{push_number, push_numbers, push_text};
-use fits_cli::{Level, Telling};
 use std::alloc::{AllocError, Global};
 use std::io;
 
@@ -35,7 +34,7 @@ fn one_name(alloc: Global, outcome: &mut Outcome, noise: &mut Noise) -> io::Resu
         cards.push_copy(&mut file, number, noise)?;
     }
     end_header(&mut file)?;
-    outcome.tell(alloc, Telling::Report(Level::All), Stored(&file))?;
+    outcome.tell(alloc, REPORT, Stored(&file))?;
     let mut script = Vec::new(alloc);
     for _ in 0..100 {
         push_text(&mut script, "set 1 KEY")?;
@@ -67,7 +66,7 @@ fn many_extensions(alloc: Global, outcome: &mut Outcome, noise: &mut Noise) -> i
             end_header(&mut file)?;
         }
     }
-    outcome.tell(alloc, Telling::Report(Level::Errors), Stored(&file))?;
+    outcome.tell(alloc, ERRORS, Stored(&file))?;
     let mut script = Vec::new(alloc);
     for number in 0..500u64 {
         push_text(&mut script, "set")?;

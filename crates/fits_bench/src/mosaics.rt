@@ -4,9 +4,9 @@ use crate::digest::Digest;
 use crate::files::push_mosaic;
 use crate::memory::Stored;
 use crate::noise::Noise;
-use crate::runs::Outcome;
+use crate::runs::{ERRORS, Outcome, REPORT};
 use crate::text::{push_number, push_text};
-use fits_cli::{Level, Telling};
+use fits_cli::Telling;
 use std::alloc::{AllocError, Global};
 use std::io;
 use std::io::Write;
@@ -16,12 +16,7 @@ use std::io::Write;
 const INCOMING: &[(u64, usize)] = &[(60, 60), (120, 24), (24, 190), (250, 40), (62, 110)];
 
 /// What is asked of them.
-const TELLINGS: &[Telling] = &[
-    Telling::Report(Level::All),
-    Telling::Sums,
-    Telling::Report(Level::Errors),
-    Telling::List,
-];
+const TELLINGS: &[Telling] = &[REPORT, Telling::Sums, ERRORS, Telling::List];
 
 /// Sizes of mosaics that are corrected.
 const CORRECTED: &[(u64, usize)] = &[(60, 80), (120, 50), (30, 150)];
@@ -52,7 +47,7 @@ pub fn correct_mosaics(alloc: Global, rounds: usize, noise: &mut Noise) -> io::R
         let mut digest = Digest::new();
         digest.write_all(&saved)?;
         outcome.add(&digest);
-        outcome.tell(alloc, Telling::Report(Level::All), Stored(&saved))?;
+        outcome.tell(alloc, REPORT, Stored(&saved))?;
     }
     Ok(outcome)
 }

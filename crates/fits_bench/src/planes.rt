@@ -3,9 +3,9 @@
 use crate::files::{ImageText, image_file, push_image_header, push_line, sky};
 use crate::memory::{Stored, Tiled};
 use crate::noise::Noise;
-use crate::runs::Outcome;
+use crate::runs::{Outcome, REPORT};
 use crate::text::{push_number, push_numbers, push_text};
-use fits_cli::{Level, Telling};
+use fits_cli::Telling;
 use std::alloc::{AllocError, Global};
 use std::io;
 
@@ -180,8 +180,7 @@ fn change_corner(
     tile: &[u8],
     len: usize,
 ) -> io::Result<()> {
-    let report = Telling::Report(Level::All);
-    outcome.tell(alloc, report, Tiled::new(front, tile, len))?;
+    outcome.tell(alloc, REPORT, Tiled::new(front, tile, len))?;
     outcome.edit(alloc, Tiled::new(front, tile, len), CORNER)
 }
 

@@ -3,10 +3,24 @@
 use crate::digest::Digest;
 use crate::memory::Stored;
 use fits_card::Watched;
-use fits_cli::{End, Telling, run_edit, run_telling};
+use fits_cli::{End, Level, Telling, run_edit, run_telling};
 use std::alloc::Global;
 use std::io;
 use std::io::{BufWriter, Read, Write};
+
+/// What is wrong with a file.
+pub const REPORT: Telling = Telling::Report {
+    level: Level::All,
+    strict: false,
+    cards: false,
+};
+
+/// Its errors alone.
+pub const ERRORS: Telling = Telling::Report {
+    level: Level::Errors,
+    strict: false,
+    cards: false,
+};
 
 /// What runs came to.
 #[derive(Clone, Copy)]

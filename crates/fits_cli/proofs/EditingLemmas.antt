@@ -3,9 +3,9 @@ use Rattle.std.proofs.Common.{◌≡◌, ◌⊎◌, ℕ, ◌<◌, ◌≤◌, Boo
 use Rattle.std.specs.Prelude.{nat_le, if◌then◌else◌, IfSome}
 use Rattle.std.specs.Result.{OnOk, IfErr, IsErrAnd}
 use Rattle.std.proofs.lemmas.Result.{err_from_is_err_and}
-use Rattle.std.specs.Io.KnownBytes.{Appends, Consumes, IsAtEnd}
+use Rattle.std.specs.Io.KnownBytes.{Consumes, IsAtEnd}
 use Rattle.fits_stream.specs.Intake.{Gives, Tells}
-use Rattle.fits_stream.specs.Stream.{SourceState, SinkState, FailsToFlush, Flushes, Prints, PrintsFront, Reads, StaysQuiet}
+use Rattle.fits_stream.specs.Stream.{SourceState, SinkState, FailsToFlush, Flushes, Gains, Prints, PrintsFront, Reads, StaysQuiet}
 use Rattle.fits_stream.proofs.StreamLemmas.{Consumes-none}
 use Rattle.std.proofs.lemmas.List.{append-nil, take_all}
 use Rattle.fits_session.specs.File.{FileParts}
@@ -16,23 +16,26 @@ use Rattle.fits_session.specs.declared.open_fault.OpenFault.TheVariants.{NotFits
 use Rattle.fits_session.specs.declared.read_fault.ReadFileFault.{ReadFileFault}
 use Rattle.fits_session.specs.declared.read_fault.ReadFileFault.TheVariants.{Open, Failed}
 use Rattle.fits_cli.specs.Answer.{Standing, at_first_line}
-use Rattle.fits_cli.specs.Ends.{RunState, AreAllRemarks, AreToldOf, AsksAs, AsksBy, EndsAs, EndsBy, FlushesOrFails, EndsWhole, EndsWholeAs, Opens, HasLines, CopyingFails, IsAsked, IsDoneWhole, LacksPixels, IsRefused, IsUndone, Succeeds, AnswersFail, StopsBy}
-use Rattle.fits_cli.specs.Faults.{fault_of_file, status_of_fault}
-use Rattle.fits_cli.specs.declared.end.End.{End}
+use Rattle.fits_cli.specs.Ends.{end_of, RunState, AreToldOf, FlushesOrFails, Opens, HasLines, LacksPixels, IsRefused, AnswersFail, RemarksBy, RemarksEndAs, StopsBy}
+use Rattle.fits_cli.specs.Faults.{fault_of_file}
+use Rattle.fits_cli.specs.Terms.{check_of}
+use Rattle.fits_cli.specs.declared.edited.Edited.{Edited}
+use Rattle.fits_cli.specs.declared.level.Level.TheVariants.{Quiet}
+use Rattle.fits_session.specs.Report.{report_of}
+use Rattle.fits_session.specs.declared.problem.Problem.{Problem}
 use Rattle.fits_cli.specs.declared.limits.TheConstants.{SCRIPT_LIMIT}
 use Rattle.fits_cli.specs.Remark.{remarks, Remarks}
-use Rattle.fits_cli.specs.Output.{Output, answers, saved_bytes, standing_after, status_of, output_unopened, output_of_lines, output_too_long, IsOutputOf}
-use Rattle.fits_cli.specs.Running.{Heard, heard, AnswersScript, AnswersTooLong, NeedsMemoryAt, ScriptLacksPixels, ScriptReadFails, ScriptWriteFails, ScriptStops, FlushesThen, FlushesAnswers, IsAnsweredRun, IsFlushed}
+use Rattle.fits_cli.specs.Output.{Output, answers, standing_after, output_unopened, output_of_lines, output_too_long, IsOutputOf}
+use Rattle.fits_cli.specs.Running.{Heard, heard, AnswersScript, AnswersTooLong, NeedsMemoryAt, ScriptLacksPixels, ScriptReadFails, ScriptWriteFails, ScriptStops, FlushesThen, FlushesAnswers, IsAnsweredRun}
 use Rattle.fits_cli.specs.Script.{script_lines}
 use Rattle.fits_cli.specs.declared.fault.Fault.{Fault}
 use Rattle.fits_cli.specs.declared.fault.Fault.TheVariants.{Refused, ScriptTooLong, Memory, ReadFailed, WriteFailed, Reread as RereadFault}
 use Rattle.fits_cli.specs.declared.reread.Reread.{Reread}
-use Rattle.fits_cli.specs.declared.reread.Reread.TheVariants as again
 use Rattle.fits_cli.specs.declared.terms.Terms.{Terms}
-use Rattle.fits_cli.specs.Faults.{IsOnce, SaveFails}
+use Rattle.fits_cli.specs.Faults.{IsOnce}
 use Rattle.fits_cli.proofs.LinesLemmas.{IsCutInLines-none}
 use Rattle.fits_cli.proofs.RunLemmas.{answers-append, answers-none}
-use Rattle.fits_stream.proofs.StreamLemmas.{Appends-kept, Prints-none, Prints-flushed, PrintsFront-unflushed, PrintsFront-longer}
+use Rattle.fits_stream.proofs.StreamLemmas.{Gains-kept, Prints-none, Prints-flushed, PrintsFront-unflushed, PrintsFront-longer}
 
 -- bytes that a source had
 some_known : (left : Option (List ℕ)) → (bytes : List ℕ) × IfSome left (λ xs. xs ≡ bytes)
@@ -48,8 +51,8 @@ Prints-same : (a b : SinkState) → b ≡ a → Prints [] a b
 Prints-same a b same = subst (λ (s : SinkState). Prints [] a s) (sym same) (Prints-none a)
 
 -- a file whose bytes don't open: no other stream is touched
-IsRefused-opening : (old new : RunState) (why : OpenFault) → new.script ≡ old.script → new.printed ≡ old.printed → new.saved ≡ old.saved → Gives old.file (λ bytes. HasOpenFault bytes why) × StaysQuiet old.file new.file → IsRefused old new (Refused why)
-IsRefused-opening old new why script printed saved stops = record {
+IsRefused-opening : (old new : RunState) (why : OpenFault) → new.script ≡ old.script → new.printed ≡ old.printed → Gives old.file (λ bytes. HasOpenFault bytes why) × StaysQuiet old.file new.file → IsRefused old new (Refused why)
+IsRefused-opening old new why script printed stops = record {
   run =
       let other = some_bytes old.script in
       record {
@@ -60,29 +63,27 @@ IsRefused-opening old new why script printed saved stops = record {
         told_script = other.1;
         is = inl (record { why = why; fails = stops.0.2; is = refl });
         printed = Prints-same old.printed new.printed printed;
-        saved = Prints-same old.saved new.saved saved;
-        status_is = refl;
         fault_is = refl;
         read = record { of_file = stops.1; of_script = ap (λ (s : SourceState). s.failures) script };
       };
   script = script;
   printed = printed;
-  saved = saved;
 }
 
+-- memory is refused before the first line
+pub StopsBy-unread : (old new : RunState) → StaysQuiet old.file new.file → new.script ≡ old.script → new.printed ≡ old.printed → StopsBy old new Memory
+StopsBy-unread old new of_file script printed =
+    inl (record { read = record { of_file = of_file; of_script = ap (λ (s : SourceState). s.failures) script }; printed = inl (script, Prints-same old.printed new.printed printed) })
+
 -- a file that isn't read
-pub StopsBy-opening : (old new : RunState) (why : ReadFileFault) → new.script ≡ old.script → new.printed ≡ old.printed → new.saved ≡ old.saved → ReadStops old.file new.file why → StopsBy old new (fault_of_file why)
-StopsBy-opening old new (Open NotFits) script printed saved stops = IsRefused-opening old new NotFits script printed saved stops
-StopsBy-opening old new (Open (NoEnd hdu)) script printed saved stops = IsRefused-opening old new (NoEnd hdu) script printed saved stops
-StopsBy-opening old new (Open (BadShape hdu place)) script printed saved stops = IsRefused-opening old new (BadShape hdu place) script printed saved stops
-StopsBy-opening old new (Open (ShortData hdu)) script printed saved stops = IsRefused-opening old new (ShortData hdu) script printed saved stops
-StopsBy-opening old new (Open TooLarge) script printed saved stops = IsRefused-opening old new TooLarge script printed saved stops
-StopsBy-opening old new (Open OpenMemory) script printed saved stops = record {
-  read = record { of_file = stops; of_script = ap (λ (s : SourceState). s.failures) script };
-  printed = inl (script, Prints-same old.printed new.printed printed);
-  saved = saved;
-}
-StopsBy-opening old new Failed script printed saved stops = inl (record { failed = stops; script = script; printed = printed; saved = saved })
+pub StopsBy-opening : (old new : RunState) (why : ReadFileFault) → new.script ≡ old.script → new.printed ≡ old.printed → ReadStops old.file new.file why → StopsBy old new (fault_of_file why)
+StopsBy-opening old new (Open NotFits) script printed stops = IsRefused-opening old new NotFits script printed stops
+StopsBy-opening old new (Open (NoEnd hdu)) script printed stops = IsRefused-opening old new (NoEnd hdu) script printed stops
+StopsBy-opening old new (Open (BadShape hdu place)) script printed stops = IsRefused-opening old new (BadShape hdu place) script printed stops
+StopsBy-opening old new (Open (ShortData hdu)) script printed stops = IsRefused-opening old new (ShortData hdu) script printed stops
+StopsBy-opening old new (Open TooLarge) script printed stops = IsRefused-opening old new TooLarge script printed stops
+StopsBy-opening old new (Open OpenMemory) script printed stops = StopsBy-unread old new stops script printed
+StopsBy-opening old new Failed script printed stops = inl (record { failed = stops; script = script; printed = printed })
 
 -- what comes within a limit
 choice-within : (n limit : ℕ) (a b : Output) → n ≤ limit → a ≡ (if nat_le n limit then a else b)
@@ -124,9 +125,9 @@ all_lines old new before now held holds done = record {
 }
 
 -- the answers to some lines can't be flushed
-AnswersFail-flush : (old new : RunState) (mid : SinkState) (parts : FileParts) (lines others all : List (List ℕ)) → StaysQuiet old.file new.file → StaysQuiet old.script new.script → new.saved ≡ old.saved
+AnswersFail-flush : (old new : RunState) (mid : SinkState) (parts : FileParts) (lines others all : List (List ℕ)) → StaysQuiet old.file new.file → StaysQuiet old.script new.script
     → Opens old.file parts → HasLines old.script new.script all → all ≡ lines ++ others → Prints (answers (at_first_line old.terms parts) lines) old.printed mid → FailsToFlush mid new.printed → AnswersFail old new
-AnswersFail-flush old new mid parts lines others all of_file of_script saved opened has split printed failed = record {
+AnswersFail-flush old new mid parts lines others all of_file of_script opened has split printed failed = record {
   read = record { of_file = of_file; of_script = of_script };
   parts = parts;
   lines = all;
@@ -137,7 +138,6 @@ AnswersFail-flush old new mid parts lines others all of_file of_script saved ope
       let whole : answers first all ≡ answers first lines ++ answers (standing_after first lines) others = ap (answers first) split ∙ answers-append first lines others in
       rw whole (PrintsFront-longer old.printed new.printed (answers first lines) (answers (standing_after first lines) others)
       (PrintsFront-unflushed old.printed mid new.printed (answers first lines) printed failed));
-  saved = saved;
 }
 
 -- two faults in one place
@@ -154,19 +154,19 @@ Ended result why mid out = ((result ≡ Err why) × Flushes mid out) ⊎ ((resul
 
 -- a run whose script was answered whole, and whose answers aren't flushed
 StopsBy-done : (old new : RunState) (mid : SinkState) (told told_after : Option SinkState) (result : Result (Unit {0}) Fault) (fault : Fault) (parts : FileParts) (now : Standing) → result ≡ Err fault
-    → Opens old.file parts → StaysQuiet old.file new.file → new.saved ≡ old.saved
+    → Opens old.file parts → StaysQuiet old.file new.file
     → AnswersScript old.script new.script (at_first_line old.terms parts) now (heard old.printed told) (heard mid told_after) → (result ≡ Err WriteFailed) × FailsToFlush mid new.printed → StopsBy old new fault
-StopsBy-done old new mid told told_after result fault parts now is opened of_file saved done flush =
+StopsBy-done old new mid told told_after result fault parts now is opened of_file done flush =
     let lines : List (List ℕ) = script_lines done.lines done.last in
     subst (λ (f : Fault). StopsBy old new f) (same_fault result WriteFailed fault flush.0 is)
-    (inl (AnswersFail-flush old new mid parts lines [] lines of_file done.read.quiet saved opened
+    (inl (AnswersFail-flush old new mid parts lines [] lines of_file done.read.quiet opened
     (all_lines old.script new.script (at_first_line old.terms parts) now (heard old.printed told) (heard mid told_after) done) (sym (append-nil lines)) done.answered.said.printed flush.1))
 
 -- a run whose script is too long
 StopsBy-too_long : (old new : RunState) (mid : SinkState) (told told_after : Option SinkState) (result : Result (Unit {0}) Fault) (fault : Fault) (parts : FileParts) → result ≡ Err fault
-    → Opens old.file parts → StaysQuiet old.file new.file → new.saved ≡ old.saved
+    → Opens old.file parts → StaysQuiet old.file new.file
     → AnswersTooLong old.script new.script (at_first_line old.terms parts) (heard old.printed told) (heard mid told_after) → Ended result ScriptTooLong mid new.printed → StopsBy old new fault
-StopsBy-too_long old new mid told told_after result fault parts is opened of_file saved long (inl flush) =
+StopsBy-too_long old new mid told told_after result fault parts is opened of_file long (inl flush) =
     subst (λ (f : Fault). StopsBy old new f) (same_fault result ScriptTooLong fault flush.0 is)
     (record {
       run = record {
@@ -184,17 +184,14 @@ StopsBy-too_long old new mid told told_after result fault parts is opened of_fil
           is = choice-over (length long.script) SCRIPT_LIMIT (output_of_lines old.terms parts (script_lines long.lines long.last)) (output_too_long old.terms parts long.lines) long.long;
         });
         printed = Prints-flushed old.printed mid new.printed (answers (at_first_line old.terms parts) long.lines) long.said.printed flush.1;
-        saved = Prints-same old.saved new.saved saved;
-        status_is = refl;
         fault_is = refl;
         read = record { of_file = of_file; of_script = long.quiet };
       };
       printed = flush.1.flushed;
-      saved = saved;
     })
-StopsBy-too_long old new mid told told_after result fault parts is opened of_file saved long (inr flush) =
+StopsBy-too_long old new mid told told_after result fault parts is opened of_file long (inr flush) =
     subst (λ (f : Fault). StopsBy old new f) (same_fault result WriteFailed fault flush.0 is)
-    (inl (AnswersFail-flush old new mid parts long.lines [] long.lines of_file long.quiet saved opened
+    (inl (AnswersFail-flush old new mid parts long.lines [] long.lines of_file long.quiet opened
     (record { whole = long.lines; last = long.last; reached = long.reached; are = inl refl }) (sym (append-nil long.lines)) long.said.printed flush.1))
 
 -- before the first line
@@ -208,24 +205,23 @@ no_lines old new same = record {
 
 -- a run whose script needs memory that is refused
 StopsBy-memory : (old new : RunState) (mid : SinkState) (told told_after : Option SinkState) (result : Result (Unit {0}) Fault) (fault : Fault) (parts : FileParts) → result ≡ Err fault
-    → Opens old.file parts → StaysQuiet old.file new.file → new.saved ≡ old.saved → StaysQuiet old.script new.script
+    → Opens old.file parts → StaysQuiet old.file new.file → StaysQuiet old.script new.script
     → (new.script ≡ old.script × heard mid told_after ≡ heard old.printed told) ⊎ ((lines : List (List ℕ)) × HasLines old.script new.script lines × NeedsMemoryAt lines (at_first_line old.terms parts) (heard old.printed told) (heard mid told_after))
     → Ended result Memory mid new.printed → StopsBy old new fault
-StopsBy-memory old new mid told told_after result fault parts is opened of_file saved of_script (inl none) (inl flush) =
+StopsBy-memory old new mid told told_after result fault parts is opened of_file of_script (inl none) (inl flush) =
     subst (λ (f : Fault). StopsBy old new f) (same_fault result Memory fault flush.0 is)
-    (record {
+    (inl (record {
       read = record { of_file = of_file; of_script = of_script };
       printed = inl (none.0, Prints-flushed old.printed mid new.printed [] (Prints-same old.printed mid (ap (λ (h : Heard). h.out) none.1)) flush.1);
-      saved = saved;
-    })
-StopsBy-memory old new mid told told_after result fault parts is opened of_file saved of_script (inl none) (inr flush) =
+    }))
+StopsBy-memory old new mid told told_after result fault parts is opened of_file of_script (inl none) (inr flush) =
     subst (λ (f : Fault). StopsBy old new f) (same_fault result WriteFailed fault flush.0 is)
-    (inl (AnswersFail-flush old new mid parts [] [] [] of_file of_script saved opened (no_lines old.script new.script none.0) refl
+    (inl (AnswersFail-flush old new mid parts [] [] [] of_file of_script opened (no_lines old.script new.script none.0) refl
     (rw (answers-none (at_first_line old.terms parts)) (Prints-same old.printed mid (ap (λ (h : Heard). h.out) none.1))) flush.1))
-StopsBy-memory old new mid told told_after result fault parts is opened of_file saved of_script (inr some) (inl flush) =
+StopsBy-memory old new mid told told_after result fault parts is opened of_file of_script (inr some) (inl flush) =
     let at = some.2 in
     subst (λ (f : Fault). StopsBy old new f) (same_fault result Memory fault flush.0 is)
-    (record {
+    (inl (record {
       read = record { of_file = of_file; of_script = of_script };
       printed = inr (record {
         parts = parts;
@@ -238,23 +234,22 @@ StopsBy-memory old new mid told told_after result fault parts is opened of_file 
         printed = Prints-flushed old.printed mid new.printed (answers (at_first_line old.terms parts) at.done) at.said.printed flush.1;
         flushed = flush.1.flushed;
       });
-      saved = saved;
-    })
-StopsBy-memory old new mid told told_after result fault parts is opened of_file saved of_script (inr some) (inr flush) =
+    }))
+StopsBy-memory old new mid told told_after result fault parts is opened of_file of_script (inr some) (inr flush) =
     let at = some.2 in
     subst (λ (f : Fault). StopsBy old new f) (same_fault result WriteFailed fault flush.0 is)
-    (inl (AnswersFail-flush old new mid parts at.done (at.line ∷ at.others) some.0 of_file of_script saved opened some.1 at.split at.said.printed flush.1))
+    (inl (AnswersFail-flush old new mid parts at.done (at.line ∷ at.others) some.0 of_file of_script opened some.1 at.split at.said.printed flush.1))
 
 -- how the answers stand after a failed read, flushed or not
-flushed_or_not : (a b c : SinkState) (text : List ℕ) → Prints text a b → Flushes b c ⊎ FailsToFlush b c → Appends a.contents c.contents text × FlushesOrFails a c
+flushed_or_not : (a b c : SinkState) (text : List ℕ) → Prints text a b → Flushes b c ⊎ FailsToFlush b c → Gains a.contents c.contents text × FlushesOrFails a c
 flushed_or_not a b c text printed (inl flush) = let whole = Prints-flushed a b c text printed flush in (whole.bytes, inl (whole.quiet, flush.flushed))
-flushed_or_not a b c text printed (inr failed) = (Appends-kept a.contents b.contents c.contents text printed.bytes failed.bytes, inr (omega (arith, printed.quiet, failed.failed)))
+flushed_or_not a b c text printed (inr failed) = (Gains-kept a.contents b.contents c.contents text printed.bytes failed.bytes, inr (omega (arith, printed.quiet, failed.failed)))
 
 -- a run whose script can't be read
 StopsBy-read : (old new : RunState) (mid : SinkState) (told told_after : Option SinkState) (result : Result (Unit {0}) Fault) (fault : Fault) (parts : FileParts) → result ≡ Err fault
-    → Opens old.file parts → StaysQuiet old.file new.file → new.saved ≡ old.saved
+    → Opens old.file parts → StaysQuiet old.file new.file
     → ScriptReadFails old.script new.script (at_first_line old.terms parts) (heard old.printed told) (heard mid told_after) → (result ≡ Err ReadFailed) × (Flushes mid new.printed ⊎ FailsToFlush mid new.printed) → StopsBy old new fault
-StopsBy-read old new mid told told_after result fault parts is opened of_file saved fails flush =
+StopsBy-read old new mid told told_after result fault parts is opened of_file fails flush =
     let out = flushed_or_not old.printed mid new.printed (answers (at_first_line old.terms parts) fails.lines) fails.said.printed flush.1 in
     subst (λ (f : Fault). StopsBy old new f) (same_fault result ReadFailed fault flush.0 is)
     (inr (record {
@@ -268,14 +263,13 @@ StopsBy-read old new mid told told_after result fault parts is opened of_file sa
       short = fails.short;
       printed = out.0;
       flushed = out.1;
-      saved = saved;
     }))
 
 -- a run whose answers can't be written
 StopsBy-write : (old new : RunState) (mid : SinkState) (told told_after : Option SinkState) (result : Result (Unit {0}) Fault) (fault : Fault) (parts : FileParts) → result ≡ Err fault
-    → Opens old.file parts → StaysQuiet old.file new.file → new.saved ≡ old.saved
+    → Opens old.file parts → StaysQuiet old.file new.file
     → ScriptWriteFails old.script new.script (at_first_line old.terms parts) (heard old.printed told) (heard mid told_after) → (result ≡ Err WriteFailed) × (new.printed ≡ mid) → StopsBy old new fault
-StopsBy-write old new mid told told_after result fault parts is opened of_file saved fails flush =
+StopsBy-write old new mid told told_after result fault parts is opened of_file fails flush =
     subst (λ (f : Fault). StopsBy old new f) (same_fault result WriteFailed fault flush.0 is)
     (inl (record {
       read = record { of_file = of_file; of_script = fails.quiet };
@@ -284,14 +278,13 @@ StopsBy-write old new mid told told_after result fault parts is opened of_file s
       opened = opened;
       reached = fails.reached;
       printed = subst (λ (s : SinkState). PrintsFront (answers (at_first_line old.terms parts) fails.lines) old.printed s) (sym flush.1) fails.front.printed;
-      saved = saved;
     }))
 
 -- a run that wants data again, which it doesn't have
 StopsBy-pixels : (old new : RunState) (mid : SinkState) (told told_after : Option SinkState) (result : Result (Unit {0}) Fault) (why : Reread) (fault : Fault) (parts : FileParts) → result ≡ Err fault → old.stored ≡ true
-    → Opens old.file parts → StaysQuiet old.file new.file → new.saved ≡ old.saved
+    → Opens old.file parts → StaysQuiet old.file new.file
     → ScriptLacksPixels old.script new.script (at_first_line old.terms parts) (heard old.printed told) (heard mid told_after) why → Ended result (RereadFault why) mid new.printed → StopsBy old new fault
-StopsBy-pixels old new mid told told_after result why fault parts is stored opened of_file saved lacks (inl flush) =
+StopsBy-pixels old new mid told told_after result why fault parts is stored opened of_file lacks (inl flush) =
     let at = lacks.at in
     let here : LacksPixels old new = record {
       read = record { of_file = of_file; of_script = lacks.quiet };
@@ -306,13 +299,12 @@ StopsBy-pixels old new mid told told_after result why fault parts is stored open
         printed = Prints-flushed old.printed mid new.printed (answers (at_first_line old.terms parts) at.done) at.said.printed flush.1;
         flushed = flush.1.flushed;
       };
-      saved = saved;
     } in
-    subst (λ (f : Fault). StopsBy old new f) (same_fault result (RereadFault why) fault flush.0 is) (stored, (lacks.unchanged, inl here))
-StopsBy-pixels old new mid told told_after result why fault parts is stored opened of_file saved lacks (inr flush) =
+    subst (λ (f : Fault). StopsBy old new f) (same_fault result (RereadFault why) fault flush.0 is) (stored, lacks.unchanged, here)
+StopsBy-pixels old new mid told told_after result why fault parts is stored opened of_file lacks (inr flush) =
     let at = lacks.at in
     subst (λ (f : Fault). StopsBy old new f) (same_fault result WriteFailed fault flush.0 is)
-    (inl (AnswersFail-flush old new mid parts at.done (at.line ∷ at.others) lacks.lines of_file lacks.quiet saved opened lacks.reached at.split at.said.printed flush.1))
+    (inl (AnswersFail-flush old new mid parts at.done (at.line ∷ at.others) lacks.lines of_file lacks.quiet opened lacks.reached at.split at.said.printed flush.1))
 
 -- a flush that ends a run whose script was answered whole
 flush_fails : (result : Result (Unit {0}) Fault) (done : Unit {0}) (fault : Fault) (mid out : SinkState) → result ≡ Err fault → FlushesThen (Ok done) result mid out → (result ≡ Err WriteFailed) × FailsToFlush mid out
@@ -321,181 +313,36 @@ flush_fails result done fault mid out is (inr flush) = flush
 
 -- a run that ends after its script, before saving
 pub StopsBy-script : (old new : RunState) (mid : SinkState) (told told_after : Option SinkState) (answered result : Result (Unit {0}) Fault) (fault : Fault) (parts : FileParts) (now : Standing) → result ≡ Err fault
-    → Opens old.file parts → StaysQuiet old.file new.file → new.saved ≡ old.saved → (old.stored ≡ true) ⊎ IfErr answered IsOnce
+    → Opens old.file parts → StaysQuiet old.file new.file → (old.stored ≡ true) ⊎ IfErr answered IsOnce
     → OnOk answered (AnswersScript old.script new.script (at_first_line old.terms parts) now (heard old.printed told) (heard mid told_after))
     → IfErr answered (ScriptStops old.script new.script (at_first_line old.terms parts) (heard old.printed told) (heard mid told_after))
     → FlushesAnswers answered result mid new.printed → StopsBy old new fault
-StopsBy-script old new mid told told_after (Ok done) result fault parts now is opened of_file saved re ok err flush =
-    StopsBy-done old new mid told told_after result fault parts now is opened of_file saved ok (flush_fails result done fault mid new.printed is flush)
-StopsBy-script old new mid told told_after (Err (Refused why)) result fault parts now is opened of_file saved re ok err flush = absurd err
-StopsBy-script old new mid told told_after (Err ScriptTooLong) result fault parts now is opened of_file saved re ok err flush = StopsBy-too_long old new mid told told_after result fault parts is opened of_file saved err flush
-StopsBy-script old new mid told told_after (Err Memory) result fault parts now is opened of_file saved re ok err flush = StopsBy-memory old new mid told told_after result fault parts is opened of_file saved err.quiet err.at flush
-StopsBy-script old new mid told told_after (Err ReadFailed) result fault parts now is opened of_file saved re ok err flush = StopsBy-read old new mid told told_after result fault parts is opened of_file saved err flush
-StopsBy-script old new mid told told_after (Err WriteFailed) result fault parts now is opened of_file saved re ok err flush = StopsBy-write old new mid told told_after result fault parts is opened of_file saved err flush
-StopsBy-script old new mid told told_after (Err (RereadFault why)) result fault parts now is opened of_file saved re ok err flush =
-    elim re [ inl stored ↦ StopsBy-pixels old new mid told told_after result why fault parts is stored opened of_file saved err flush | inr once ↦ absurd once ]
-
--- a fault that is passed on is that of a call
-pub fault_exit : {T : Type 0} (result : Result T Fault) (why : Fault) (P : Fault → Type 0) → IsErrAnd result (λ e. e ≡ why) → P why → IfErr result P
-fault_exit result why P is stops = let exit = err_from_is_err_and result is in rw (exit.1, exit.2) stops
-
--- so ends a run that saves nothing
-pub asks_exit : (old new : RunState) (result : Result ℕ Fault) (why : Fault) → IsErrAnd result (λ e. e ≡ why) → StopsBy old new why → AsksBy old new result
-asks_exit old new result why is stops = let exit = err_from_is_err_and result is in rw (exit.1, exit.2) stops
-
--- its fault has its status
-pub asks_fault : (old new : RunState) (end : End) (fault : Fault) → (end.status ≡ status_of_fault fault) × (end.fault ≡ Some fault) → StopsBy old new fault → AsksAs old new end
-asks_fault old new end fault is stops = rw is.1 (stops, is.0)
-
--- of a run that saves it too
-pub ends_fault : (old new : RunState) (end : End) (fault : Fault) → (end.status ≡ status_of_fault fault) × (end.fault ≡ Some fault) → StopsBy old new fault → EndsAs old new end
-ends_fault old new end fault is stops = rw is.1 (stops, is.0)
-
--- a fault that is passed on ends a run
-pub ends_exit : (old new : RunState) (result : Result ℕ Fault) (why : Fault) → IsErrAnd result (λ e. e ≡ why) → StopsBy old new why → EndsBy old new result
-ends_exit old new result why is stops = let exit = err_from_is_err_and result is in rw (exit.1, exit.2) stops
+StopsBy-script old new mid told told_after (Ok done) result fault parts now is opened of_file re ok err flush =
+    StopsBy-done old new mid told told_after result fault parts now is opened of_file ok (flush_fails result done fault mid new.printed is flush)
+StopsBy-script old new mid told told_after (Err (Refused why)) result fault parts now is opened of_file re ok err flush = absurd err
+StopsBy-script old new mid told told_after (Err ScriptTooLong) result fault parts now is opened of_file re ok err flush = StopsBy-too_long old new mid told told_after result fault parts is opened of_file err flush
+StopsBy-script old new mid told told_after (Err Memory) result fault parts now is opened of_file re ok err flush = StopsBy-memory old new mid told told_after result fault parts is opened of_file err.quiet err.at flush
+StopsBy-script old new mid told told_after (Err ReadFailed) result fault parts now is opened of_file re ok err flush = StopsBy-read old new mid told told_after result fault parts is opened of_file err flush
+StopsBy-script old new mid told told_after (Err WriteFailed) result fault parts now is opened of_file re ok err flush = StopsBy-write old new mid told told_after result fault parts is opened of_file err flush
+StopsBy-script old new mid told told_after (Err (RereadFault why)) result fault parts now is opened of_file re ok err flush =
+    elim re [ inl stored ↦ StopsBy-pixels old new mid told told_after result why fault parts is stored opened of_file err flush | inr once ↦ absurd once ]
 
 -- nothing else is done
-pub flushed_done : (terms : Terms) (old new : SourceState) (parts : FileParts) (now : Standing) (held mid holds : SinkState) (told told_after : Option SinkState) (answered result : Result (Unit {0}) Fault) (done : Unit {0}) → result ≡ Ok done
-    → OnOk answered (AnswersScript old new (at_first_line terms parts) now (heard held told) (heard mid told_after)) → FlushesAnswers answered result mid holds → IsFlushed terms old new parts now held holds told told_after
-flushed_done terms old new parts now held mid holds told told_after (Ok a) result done is ok (inl flush) = record { mid = mid; script = ok; flush = flush.1 }
-flushed_done terms old new parts now held mid holds told told_after (Ok a) result done is ok (inr flush) = absurd (no_fault result done WriteFailed is flush.0)
-flushed_done terms old new parts now held mid holds told told_after (Err (Refused why)) result done is ok (inl flush) = absurd (no_fault result done (Refused why) is flush.0)
-flushed_done terms old new parts now held mid holds told told_after (Err (Refused why)) result done is ok (inr flush) = absurd (no_fault result done WriteFailed is flush.0)
-flushed_done terms old new parts now held mid holds told told_after (Err ScriptTooLong) result done is ok (inl flush) = absurd (no_fault result done ScriptTooLong is flush.0)
-flushed_done terms old new parts now held mid holds told told_after (Err ScriptTooLong) result done is ok (inr flush) = absurd (no_fault result done WriteFailed is flush.0)
-flushed_done terms old new parts now held mid holds told told_after (Err Memory) result done is ok (inl flush) = absurd (no_fault result done Memory is flush.0)
-flushed_done terms old new parts now held mid holds told told_after (Err Memory) result done is ok (inr flush) = absurd (no_fault result done WriteFailed is flush.0)
-flushed_done terms old new parts now held mid holds told told_after (Err (RereadFault why)) result done is ok (inl flush) = absurd (no_fault result done (RereadFault why) is flush.0)
-flushed_done terms old new parts now held mid holds told told_after (Err (RereadFault why)) result done is ok (inr flush) = absurd (no_fault result done WriteFailed is flush.0)
-flushed_done terms old new parts now held mid holds told told_after (Err ReadFailed) result done is ok flush = absurd (no_fault result done ReadFailed is flush.0)
-flushed_done terms old new parts now held mid holds told told_after (Err WriteFailed) result done is ok flush = absurd (no_fault result done WriteFailed is flush.0)
-
--- what is saved after the last line
-saved-left : (terms : Terms) (parts : FileParts) (now : Standing) (lines : List (List ℕ)) → now ≡ standing_after (at_first_line terms parts) lines
-    → saved_bytes terms now ≡ saved_bytes terms (standing_after (at_first_line terms parts) lines)
-saved-left terms parts now lines left = ap (saved_bytes terms) left
-
--- a failed read is no change
-pub failed_unchanged : again.Failed ≡ again.Changed → ⊥
-failed_unchanged same = cc
-
--- data are read again where the file is stored alone
-pub again_stored : (stored : Bool) (fault : Fault) → fault ≡ RereadFault again.Failed → (stored ≡ true) ⊎ IsOnce fault → stored ≡ true
-again_stored stored fault is (inl there) = there
-again_stored stored fault is (inr once) = absurd (subst IsOnce is once)
-
--- a run whose file can't be saved
-pub StopsBy-saving : (old new : RunState) (fault : Fault) (parts : FileParts) (now : Standing) (told told_after : Option SinkState) → Opens old.file parts → StaysQuiet old.file new.file → (old.stored ≡ true) ⊎ IsOnce fault
-    → IsFlushed old.terms old.script new.script parts now old.printed new.printed told told_after → SaveFails (saved_bytes old.terms now) old.saved new.saved fault → StopsBy old new fault
-StopsBy-saving old new fault parts now told told_after opened of_file re flushed (inl fails) =
-    let done = flushed.script in
-    let lines : List (List ℕ) = script_lines done.lines done.last in
-    subst (λ (f : Fault). StopsBy old new f) (sym fails.0)
-    (inr (record {
-      read = record { of_file = of_file; of_script = done.read.quiet };
-      file = opened.0;
-      script = done.script;
-      output = output_of_lines old.terms parts lines;
-      told_file = opened.1;
-      told_script = script_told old.script new.script done.script done.read done.ended;
-      is = output_whole old.terms old.script new.script old.file parts now (heard old.printed told) (heard flushed.mid told_after) opened done;
-      whole = refl;
-      printed = Prints-flushed old.printed flushed.mid new.printed (answers (at_first_line old.terms parts) lines) done.answered.said.printed flushed.flush;
-      flushed = flushed.flush.flushed;
-      saved = subst (λ (t : List ℕ). PrintsFront t old.saved new.saved) (saved-left old.terms parts now lines done.answered.left) fails.1;
-    }))
-StopsBy-saving old new fault parts now told told_after opened of_file re flushed (inr fails) =
-    let done = flushed.script in
-    let lines : List (List ℕ) = script_lines done.lines done.last in
-    let here : CopyingFails old new = record {
-      read = record { of_file = of_file; of_script = done.read.quiet };
-      file = opened.0;
-      script = done.script;
-      output = output_of_lines old.terms parts lines;
-      told_file = opened.1;
-      told_script = script_told old.script new.script done.script done.read done.ended;
-      is = output_whole old.terms old.script new.script old.file parts now (heard old.printed told) (heard flushed.mid told_after) opened done;
-      whole = refl;
-      printed = Prints-flushed old.printed flushed.mid new.printed (answers (at_first_line old.terms parts) lines) done.answered.said.printed flushed.flush;
-      flushed = flushed.flush.flushed;
-      count = fails.1.0;
-      saved = subst (λ (t : List ℕ). Prints (take fails.1.0 t) old.saved new.saved) (saved-left old.terms parts now lines done.answered.left) fails.1.1;
-    } in
-    subst (λ (f : Fault). StopsBy old new f) (sym fails.0) (again_stored old.stored fault fails.0 re, (failed_unchanged, inr (refl, here)))
-
--- a run to its end
-pub Succeeds-saved : (old new : RunState) (parts : FileParts) (now : Standing) (told told_after : Option SinkState) → Opens old.file parts → StaysQuiet old.file new.file
-    → IsFlushed old.terms old.script new.script parts now old.printed new.printed told told_after → Prints (saved_bytes old.terms now) old.saved new.saved → new.saved.unflushed ≡ 0
-    → Succeeds old new (status_of now)
-Succeeds-saved old new parts now told told_after opened of_file flushed saved flush =
-    let done = flushed.script in
-    let lines : List (List ℕ) = script_lines done.lines done.last in
-    record {
-      run = record {
-        file = opened.0;
-        script = done.script;
-        output = output_of_lines old.terms parts lines;
-        told_file = opened.1;
-        told_script = script_told old.script new.script done.script done.read done.ended;
-        is = output_whole old.terms old.script new.script old.file parts now (heard old.printed told) (heard flushed.mid told_after) opened done;
-        printed = Prints-flushed old.printed flushed.mid new.printed (answers (at_first_line old.terms parts) lines) done.answered.said.printed flushed.flush;
-        saved = subst (λ (t : List ℕ). Prints t old.saved new.saved) (saved-left old.terms parts now lines done.answered.left) saved;
-        status_is = ap status_of done.answered.left;
-        fault_is = refl;
-        read = record { of_file = of_file; of_script = done.read.quiet };
-      };
-      printed = flushed.flush.flushed;
-      saved = flush;
-    }
-
--- a run that saves nothing, to its end
-unfoldable pub Asked-done : (old new : RunState) (now : Standing) (told told_after : Option SinkState) → IsAnsweredRun old.terms old.file new.file old.script new.script old.printed new.printed told told_after now → new.saved ≡ old.saved → IsAsked old new (status_of now)
-Asked-done old new now told told_after run saved =
-    let done = run.answered.script in
-    let parts = run.parts in
-    let lines : List (List ℕ) = script_lines done.lines done.last in
-    record {
-      file = run.opened.0;
-      script = done.script;
-      output = output_of_lines old.terms parts lines;
-      told_file = run.opened.1;
-      told_script = script_told old.script new.script done.script done.read done.ended;
-      is = output_whole old.terms old.script new.script old.file parts now (heard old.printed told) (heard run.answered.mid told_after) run.opened done;
-      whole = refl;
-      printed = Prints-flushed old.printed run.answered.mid new.printed (answers (at_first_line old.terms parts) lines) done.answered.said.printed run.answered.flush;
-      flushed = run.answered.flush.flushed;
-      saved = saved;
-      status_is = ap status_of done.answered.left;
-      read = record { of_file = run.read; of_script = done.read.quiet };
-    }
-
--- a run of which some lines weren't done
-pub Undone-asked : (old new : RunState) (now : Standing) (told told_after : Option SinkState) → IsAnsweredRun old.terms old.file new.file old.script new.script old.printed new.printed told told_after now → new.saved ≡ old.saved → 0 < now.refused → IsUndone old new (status_of now) now.refused
-unfolding Asked-done standing_after
-Undone-asked old new now told told_after run saved some = record {
-  asked = Asked-done old new now told told_after run saved;
-  some = some;
-  count = ap (λ (s : Standing). s.refused) run.answered.script.answered.left;
-}
-
--- a run of which all were
-pub Whole-saved : (old new : RunState) (now : Standing) (told told_after : Option SinkState) → IsAnsweredRun old.terms old.file new.file old.script new.script old.printed new.printed told told_after now → Prints (saved_bytes old.terms now) old.saved new.saved → new.saved.unflushed ≡ 0 → now.refused ≡ 0
-    → IsDoneWhole old new (status_of now) now.refused
-unfolding Succeeds-saved standing_after
-Whole-saved old new now told told_after run saved flushed none = record {
-  done = Succeeds-saved old new run.parts now told told_after run.opened run.read run.answered saved flushed;
-  none = none;
-  all = sym (ap (λ (s : Standing). s.refused) run.answered.script.answered.left) ∙ none;
-}
-
--- a fault that is passed on ends such a run
-pub whole_exit : (old new : RunState) (result : Result (ℕ × ℕ) Fault) (why : Fault) → IsErrAnd result (λ e. e ≡ why) → StopsBy old new why → EndsWhole old new result
-whole_exit old new result why is stops = let exit = err_from_is_err_and result is in rw (exit.1, exit.2) stops
-
--- its fault has its status
-pub whole_fault : (old new : RunState) (end : End) (undone : ℕ) (fault : Fault) → (end.status ≡ status_of_fault fault) × (end.fault ≡ Some fault) × (undone ≡ 0) → StopsBy old new fault → EndsWholeAs old new end undone
-whole_fault old new end undone fault is stops = rw is.1 (stops, is.0, is.2)
+pub answered_run : (old new : RunState) (mid : SinkState) (told told_after : Option SinkState) (answered result : Result (Unit {0}) Fault) (done : Unit {0}) (parts : FileParts) (now : Standing) (before : List Problem) → result ≡ Ok done
+    → Opens old.file parts → StaysQuiet old.file new.file → ((check_of old.terms.saves ≡ Quiet → ⊥) → before ≡ report_of parts)
+    → OnOk answered (AnswersScript old.script new.script (at_first_line old.terms parts) now (heard old.printed told) (heard mid told_after)) → FlushesAnswers answered result mid new.printed → IsAnsweredRun old new told told_after now before
+answered_run old new mid told told_after (Ok a) result done parts now before is opened read before_is ok (inl flush) = record { parts = parts; opened = opened; read = read; mid = mid; script = ok; flush = flush.1; before_is = before_is }
+answered_run old new mid told told_after (Ok a) result done parts now before is opened read before_is ok (inr flush) = absurd (no_fault result done WriteFailed is flush.0)
+answered_run old new mid told told_after (Err (Refused why)) result done parts now before is opened read before_is ok (inl flush) = absurd (no_fault result done (Refused why) is flush.0)
+answered_run old new mid told told_after (Err (Refused why)) result done parts now before is opened read before_is ok (inr flush) = absurd (no_fault result done WriteFailed is flush.0)
+answered_run old new mid told told_after (Err ScriptTooLong) result done parts now before is opened read before_is ok (inl flush) = absurd (no_fault result done ScriptTooLong is flush.0)
+answered_run old new mid told told_after (Err ScriptTooLong) result done parts now before is opened read before_is ok (inr flush) = absurd (no_fault result done WriteFailed is flush.0)
+answered_run old new mid told told_after (Err Memory) result done parts now before is opened read before_is ok (inl flush) = absurd (no_fault result done Memory is flush.0)
+answered_run old new mid told told_after (Err Memory) result done parts now before is opened read before_is ok (inr flush) = absurd (no_fault result done WriteFailed is flush.0)
+answered_run old new mid told told_after (Err (RereadFault why)) result done parts now before is opened read before_is ok (inl flush) = absurd (no_fault result done (RereadFault why) is flush.0)
+answered_run old new mid told told_after (Err (RereadFault why)) result done parts now before is opened read before_is ok (inr flush) = absurd (no_fault result done WriteFailed is flush.0)
+answered_run old new mid told told_after (Err ReadFailed) result done parts now before is opened read before_is ok flush = absurd (no_fault result done ReadFailed is flush.0)
+answered_run old new mid told told_after (Err WriteFailed) result done parts now before is opened read before_is ok flush = absurd (no_fault result done WriteFailed is flush.0)
 
 -- remarks on the first of the lines that were reached
 AreToldOf-first : (terms : Terms) (file old new : SourceState) (told told_after : Option SinkState) (parts : FileParts) (all lines others : List (List ℕ)) → Opens file parts → HasLines old new all → all ≡ lines ++ others
@@ -533,26 +380,30 @@ AreToldOf-script terms file old new held mid told told_after (Err ReadFailed) pa
 AreToldOf-script terms file old new held mid told told_after (Err WriteFailed) parts now opened ok err =
     AreToldOf-first terms file old new told told_after parts err.lines err.front.done err.front.others opened err.reached err.front.split err.front.told
 
--- those of a run whose script was answered whole
-pub AllRemarks-answered : (terms : Terms) (file file_after old new : SourceState) (out out_after : SinkState) (told told_after : Option SinkState) (now : Standing)
-    → IsAnsweredRun terms file file_after old new out out_after told told_after now → AreAllRemarks terms file old told told_after
-AllRemarks-answered terms file file_after old new out out_after told told_after now run =
-    let done = run.answered.script in
+-- those of a run whose script was answered to its end, whatever ends it
+pub RemarksBy-answered : (old new : RunState) (told told_after : Option SinkState) (now : Standing) (before : List Problem) (result : Result Edited Fault) → IsAnsweredRun old new told told_after now before → RemarksBy old.terms old.file old.script new.script told told_after result
+RemarksBy-answered old new told told_after now before (Ok it) run =
+    let done = run.script in
     record {
       parts = run.parts;
       text = done.script;
       lines = done.lines;
       last = done.last;
       opened = run.opened;
-      told_script = script_told old new done.script done.read done.ended;
+      told_script = script_told old.script new.script done.script done.read done.ended;
       cut = done.cut;
       made = done.answered.said.told;
     }
+RemarksBy-answered old new told told_after now before (Err why) run =
+    let done = run.script in
+    AreToldOf-all old.terms old.file old.script new.script told told_after run.parts (script_lines done.lines done.last) run.opened
+    (all_lines old.script new.script (at_first_line old.terms run.parts) now (heard old.printed told) (heard run.mid told_after) done) done.answered.said.told
 
--- the same where such a run ends later by a fault
-pub AreToldOf-answered : (terms : Terms) (file file_after old new : SourceState) (out out_after : SinkState) (told told_after : Option SinkState) (now : Standing)
-    → IsAnsweredRun terms file file_after old new out out_after told told_after now → AreToldOf terms file old new told told_after
-AreToldOf-answered terms file file_after old new out out_after told told_after now run =
-    let done = run.answered.script in
-    AreToldOf-all terms file old new told told_after run.parts (script_lines done.lines done.last) run.opened
-    (all_lines old new (at_first_line terms run.parts) now (heard out told) (heard run.answered.mid told_after) done) done.answered.said.told
+-- or of one that ended before, by a fault that is passed on
+pub remarks_exit : (terms : Terms) (file script script_after : SourceState) (told told_after : Option SinkState) (result : Result Edited Fault) (why : Fault) → IsErrAnd result (λ e. e ≡ why) → AreToldOf terms file script script_after told told_after → RemarksBy terms file script script_after told told_after result
+remarks_exit terms file script script_after told told_after result why is made = let exit = err_from_is_err_and result is in rw exit.1 made
+
+-- so it is by the end
+pub RemarksEndAs-end : (terms : Terms) (file script script_after : SourceState) (told told_after : Option SinkState) (result : Result Edited Fault) → RemarksBy terms file script script_after told told_after result → RemarksEndAs terms file script script_after told told_after (end_of result)
+RemarksEndAs-end terms file script script_after told told_after (Ok it) made = made
+RemarksEndAs-end terms file script script_after told told_after (Err why) made = made

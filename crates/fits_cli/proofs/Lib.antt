@@ -1,8 +1,8 @@
 pub mod AnswerLemmas
 pub mod CardLemmas
-pub mod CheckedLemmas
 pub mod ComplaintLemmas
 pub mod EditingLemmas
+pub mod EndingLemmas
 pub mod ExitLemmas
 pub mod LinesLemmas
 pub mod ListingLemmas

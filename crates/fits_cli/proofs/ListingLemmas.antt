@@ -23,7 +23,7 @@ use Rattle.fits_stream.specs.Stream.{SourceState, SinkState, Prints, PrintsFront
 use Rattle.fits_cli.specs.Telling.{PrintingStops}
 use Rattle.fits_cli.specs.declared.fault.Fault.{Fault}
 use Rattle.fits_cli.specs.declared.fault.Fault.TheVariants.{Memory}
-use Rattle.fits_stream.proofs.StreamLemmas.{Prints-more, PrintsFront-more, PrintsFront-longer, AppendsFront-longer, AppendsFront-whole}
+use Rattle.fits_stream.proofs.StreamLemmas.{Prints-more, PrintsFront-more, PrintsFront-longer, GainsFront-longer, GainsFront-whole}
 
 -- the line of an HDU is that of its outline
 line_same : (number start : ℕ) (primary : Bool) (it : Outline) (u : HduParts) → is_primary_hdu number ≡ primary → IsHdu primary u → is_outline it u
@@ -143,7 +143,7 @@ rest_lines outlines i = (
 pub PrintingStops-lines : (a b : SinkState) (outlines : List Outline) (i : ℕ) → Prints (outlined_lines 1 0 (take i outlines)) a b → PrintingStops (outlined_lines 1 0 outlines) a b Memory
 PrintingStops-lines a b outlines i p =
     let rest = rest_lines outlines i in
-    (rw rest.1 (AppendsFront-longer a.contents b.contents (outlined_lines 1 0 (take i outlines)) rest.0 (AppendsFront-whole a.contents b.contents (outlined_lines 1 0 (take i outlines)) p.bytes)), p.quiet)
+    (rw rest.1 (GainsFront-longer a.contents b.contents (outlined_lines 1 0 (take i outlines)) rest.0 (GainsFront-whole a.contents b.contents (outlined_lines 1 0 (take i outlines)) p.bytes)), p.quiet)
 
 -- and so are they with a prefix of one more
 pub PrintingStops-line : (a b c : SinkState) (outlines : List Outline) (i start : ℕ) (it : Outline) (line : List ℕ) (fault : Fault) → i < length outlines → it ≡ get_or outlines i it → start ≡ outlined_len (take i outlines) → line ≡ hdu_line (i + 1) it.card_count (outlined_offsets start it) it.shape

@@ -18,7 +18,9 @@ use Rattle.fits_codes.specs.declared.code.Code.{Code}
 use Rattle.fits_codes.specs.declared.code.Code.TheVariants.{NotText}
 use Rattle.fits_session.specs.declared.problem.Problem.{Problem}
 use Rattle.fits_session.specs.Report.{IsListedBefore}
-use Rattle.fits_cli.specs.Report.{errors_in, warnings_in}
+use Rattle.fits_cli.specs.Report.{errors_in, lists, warnings_in}
+use Rattle.fits_cli.specs.declared.level.Level.{Level}
+use Rattle.fits_cli.specs.declared.level.Level.TheVariants.{All as AllOfThem, Errors, Quiet}
 use Rattle.fits_cli.specs.NewErrors.{count_of, has_more, HasMoreErrors, is_listed_before, is_new, is_of_code, is_same, new_error_line, new_error_lines, new_errors, stands_in, AreCounts}
 use Rattle.fits_cli.proofs.ReportLemmas.{errors-few, others_warn}
 
@@ -80,12 +82,12 @@ pub stands-nowhere : (report : List Problem) (it : Problem) (index : ℕ) → Is
 stands-nowhere report it index parted l = sym (list_any_none (is_same it) report (λ k d m. before-differs (get_or report k d) it (parted.0 k d (omega arith) (omega (arith, l, m)))))
 
 -- a problem of a code of which there are more is new where it didn't stand before
-pub new_where : (strict : Bool) (before after : List Problem) (it : Problem) (stood : Bool) → has_more strict before after it.code ≡ true → stood ≡ stands_in before it → not stood ≡ is_new strict before after it
-new_where strict before after it stood more is = rw (more, is) refl
+pub new_where : (level : Level) (before after : List Problem) (it : Problem) (stood : Bool) → has_more level before after it.code ≡ true → stood ≡ stands_in before it → not stood ≡ is_new level before after it
+new_where level before after it stood more is = rw (more, is) refl
 
 -- others aren't
-pub not_new : (strict : Bool) (before after : List Problem) (it : Problem) → has_more strict before after it.code ≡ false → false ≡ is_new strict before after it
-not_new strict before after it more = rw more refl
+pub not_new : (level : Level) (before after : List Problem) (it : Problem) → has_more level before after it.code ≡ false → false ≡ is_new level before after it
+not_new level before after it more = rw more refl
 
 -- numbers of codes are small
 number-below : (code : Code) → number code < 27
@@ -162,12 +164,17 @@ error-is : (code : Code) → is_error code ≡ list_any (λ n. n == number code)
 error-is NotText = refl
 error-is code = refl
 
+-- a level lists codes of one number alike
+lists-same : (level : Level) (a b : Code) → number a ≡ number b → lists level a ≡ lists level b
+lists-same AllOfThem a b same = refl
+lists-same Errors a b same = error-is a ∙ (ap (λ m. list_any (λ n. n == m) (1 ∷ 2 ∷ 3 ∷ 5 ∷ 6 ∷ 7 ∷ 12 ∷ 14 ∷ 15 ∷ 16 ∷ 17 ∷ 18 ∷ 20 ∷ 22 ∷ [])) same ∙ sym (error-is b))
+lists-same Quiet a b same = refl
+
 -- codes of one number
-more-same : (strict : Bool) (before after : List Problem) (a b : Code) → number a ≡ number b → has_more strict before after a ≡ has_more strict before after b
-more-same strict before after a b same =
-    let error : is_error a ≡ is_error b = error-is a ∙ (ap (λ m. list_any (λ n. n == m) (1 ∷ 2 ∷ 3 ∷ 5 ∷ 6 ∷ 7 ∷ 12 ∷ 14 ∷ 15 ∷ 16 ∷ 17 ∷ 18 ∷ 20 ∷ 22 ∷ [])) same ∙ sym (error-is b)) in
-    ap (λ e. (strict || e) && nat_lt (count_of a before) (count_of a after)) error
-    ∙ ap (λ m. (strict || is_error b) && nat_lt (count_by (λ (it : Problem). number it.code == m) before) (count_by (λ (it : Problem). number it.code == m) after)) same
+more-same : (level : Level) (before after : List Problem) (a b : Code) → number a ≡ number b → has_more level before after a ≡ has_more level before after b
+more-same level before after a b same =
+    ap (λ e. e && nat_lt (count_of a before) (count_of a after)) (lists-same level a b same)
+    ∙ ap (λ m. lists level b && nat_lt (count_by (λ (it : Problem). number it.code == m) before) (count_by (λ (it : Problem). number it.code == m) after)) same
 
 -- a report without a problem
 abbrev without : Problem → List Problem → List Problem
@@ -223,45 +230,61 @@ no_more code before (x ∷ after) ordered stood =
         flipped a b h = grind (arith, nat_tests, h)
 
 -- where there are more of an error's code, some are new
-code-new : (strict : Bool) (before after : List Problem) (code : Code) → AllPairs IsListedBefore after → has_more strict before after code ≡ true → 0 < length (new_errors strict before after)
+code-new : (level : Level) (before after : List Problem) (code : Code) → AllPairs IsListedBefore after → has_more level before after code ≡ true → 0 < length (new_errors level before after)
 unfolding new_errors
-code-new strict before after code ordered more =
-    elim (cases_lt 0 (length (filter (is_new strict before after) after))) [
+code-new level before after code ordered more =
+    elim (cases_lt 0 (length (filter (is_new level before after) after))) [
       | inl some ↦ some
-      | inr none ↦ absurd (both_ways (has_more strict before after code) (fewer_or_same none) more)
+      | inr none ↦ absurd (both_ways (has_more level before after code) (fewer_or_same none) more)
     ]
   where
-    none_new : length (filter (is_new strict before after) after) ≤ 0 → (k : ℕ) (d : Problem) → k < length after → is_new strict before after (get_or after k d) ≡ false
+    none_new : length (filter (is_new level before after) after) ≤ 0 → (k : ℕ) (d : Problem) → k < length after → is_new level before after (get_or after k d) ≡ false
     none_new none k d l =
-        one_if (is_new strict before after (get_or after k d)) (omega (arith, none, length-filter (is_new strict before after) after, get_or-le-sum_by (λ x. cond (is_new strict before after x) 1 0) after k d l))
+        one_if (is_new level before after (get_or after k d)) (omega (arith, none, length-filter (is_new level before after) after, get_or-le-sum_by (λ x. cond (is_new level before after x) 1 0) after k d l))
       where
         one_if : (b : Bool) → cond b 1 0 ≤ 0 → b ≡ false
         one_if true h = absurd (omega (arith, h))
         one_if false h = refl
 
-    fewer_or_same : length (filter (is_new strict before after) after) ≤ 0 → has_more strict before after code ≡ false
+    fewer_or_same : length (filter (is_new level before after) after) ≤ 0 → has_more level before after code ≡ false
     fewer_or_same none =
         let le = no_more code before after ordered (λ k d l own. stood_of (get_or after k d) own (none_new none k d l)) in
-        no_error (strict || is_error code) (le-ltb (count_of code before) (count_of code after) le)
+        no_error (lists level code) (le-ltb (count_of code before) (count_of code after) le)
       where
         no_error : (b : Bool) {c : Bool} → c ≡ false → (b && c) ≡ false
         no_error true h = h
         no_error false h = refl
 
-        stood_of : (x : Problem) → is_of_code code x ≡ true → is_new strict before after x ≡ false → stands_in before x ≡ true
+        stood_of : (x : Problem) → is_of_code code x ≡ true → is_new level before after x ≡ false → stands_in before x ≡ true
         stood_of x own old =
-            let more_too : has_more strict before after x.code ≡ true = more-same strict before after x.code code (eqb-true (number x.code) (number code) own) ∙ more in
+            let more_too : has_more level before after x.code ≡ true = more-same level before after x.code code (eqb-true (number x.code) (number code) own) ∙ more in
             not-false (stands_in before x) (rw more_too at old)
 
 -- so they are where there are more of some error
-pub more-new : (strict : Bool) (before after : List Problem) → AllPairs IsListedBefore after → HasMoreErrors strict before after → 0 < length (new_errors strict before after)
-more-new strict before after ordered more = code-new strict before after more.0 ordered more.1
+pub more-new : (level : Level) (before after : List Problem) → AllPairs IsListedBefore after → HasMoreErrors level before after → 0 < length (new_errors level before after)
+more-new level before after ordered more = code-new level before after more.0 ordered more.1
 
 -- of the code of a new error there are more
-pub new-more : (strict : Bool) (before after : List Problem) → 0 < length (new_errors strict before after) → HasMoreErrors strict before after
+pub new-more : (level : Level) (before after : List Problem) → 0 < length (new_errors level before after) → HasMoreErrors level before after
 unfolding new_errors
-new-more strict before after some = first (filter (is_new strict before after) after) (filter_passes (is_new strict before after) after) some
+new-more level before after some = first (filter (is_new level before after) after) (filter_passes (is_new level before after) after) some
   where
-    first : (found : List Problem) → All (λ x. is_new strict before after x ≡ true) found → 0 < length found → HasMoreErrors strict before after
+    first : (found : List Problem) → All (λ x. is_new level before after x ≡ true) found → 0 < length found → HasMoreErrors level before after
     first [] all some = absurd (omega (arith, some))
-    first (x ∷ found) all some = (x.code, (and_parts (has_more strict before after x.code) (not (stands_in before x)) (All-head (λ y. is_new strict before after y ≡ true) x found all)).0)
+    first (x ∷ found) all some = (x.code, (and_parts (has_more level before after x.code) (not (stands_in before x)) (All-head (λ y. is_new level before after y ≡ true) x found all)).0)
+
+-- where no problem counts, none of a report is new
+none_listed : (before after report : List Problem) → filter (is_new Quiet before after) report ≡ []
+none_listed before after [] = refl
+none_listed before after (x ∷ report) = none_listed before after report
+
+-- so there are no new ones
+pub none_quiet : (before after : List Problem) → new_errors Quiet before after ≡ []
+unfolding new_errors
+none_quiet before after = none_listed before after after
+
+-- where there are more of some, problems count
+pub more_counts : (level : Level) (before after : List Problem) → HasMoreErrors level before after → level ≡ Quiet → ⊥
+more_counts AllOfThem before after more quiet = absurd (cc)
+more_counts Errors before after more quiet = absurd (cc)
+more_counts Quiet before after more quiet = absurd (let e : false ≡ true = more.1 in cc)

@@ -4,7 +4,7 @@ use Rattle.std.proofs.Math.Seq.{map-set_same}
 use Rattle.std.proofs.lemmas.Option.{slice_get-map, slice_get_past, slice_get_read}
 use Rattle.fits_card.specs.CardList.{CardStore}
 use Rattle.fits_session.specs.Headers.{read_cards}
-use Rattle.fits_cli.specs.CardReport.{card_in, card_of}
+use Rattle.fits_cli.specs.Report.{card_in, card_of}
 
 -- place 0 has no card
 pub place_none : (cards : List (List ℕ)) (place : ℕ) → place ≡ 0 → None ≡ card_in place cards

@@ -1,5 +1,5 @@
 -- A report as a text: its lines, its counts, its closing line.
-use Rattle.std.proofs.Common.{◌≡◌, ℕ, ◌+◌, ◌-◌, ◌<◌, ◌≤◌, List, [], ◌∷◌, ◌++◌, length, take, drop, get_or, refl, ap, sym, ◌∙◌, arith, true, false}
+use Rattle.std.proofs.Common.{◌≡◌, ℕ, ◌+◌, ◌-◌, ◌<◌, ◌≤◌, List, [], ◌∷◌, ◌++◌, length, take, drop, get_or, refl, ap, sym, ◌∙◌, arith, true, false, zero, suc, None}
 use Rattle.std.specs.Prelude.{not}
 use Rattle.std.specs.List.{flat_map}
 use Rattle.std.proofs.lemmas.List.{append-nil, take_all, take_more, take-append-drop, length-take-le}
@@ -8,7 +8,7 @@ use Rattle.std.proofs.lemmas.List.Filters.{length-filter_both}
 use Rattle.std.proofs.lemmas.List.Sums.{length-filter, count_by-le-length, count_by_more_yes, count_by_more_no}
 use Rattle.fits_codes.specs.Code.{is_error}
 use Rattle.fits_session.specs.declared.problem.Problem.{Problem}
-use Rattle.fits_cli.specs.Report.{closing_line, errors_in, listed_line, problem_line, problem_lines, report_text, warnings_in}
+use Rattle.fits_cli.specs.Report.{card_of, card_problem_line, closing_line, errors_in, listed_line, problem_line, problem_lines, report_text, warnings_in}
 use Rattle.fits_cli.specs.declared.level.Level.TheVariants.{All}
 
 -- lines of the first problems, and of one more
@@ -23,16 +23,26 @@ pub lines-split : (line : Problem → List ℕ) (report : List Problem) (i : ℕ
 lines-split line report i =
     ap (flat_map line) (sym (take-append-drop i report)) ∙ flat_map-append line (take i report) (drop i report)
 
+-- no header has a card
+card_of-none : (h place : ℕ) → card_of [] h place ≡ None
+card_of-none zero place = refl
+card_of-none (suc index) place = refl
+
+-- so a line without headers is one without a card
+line-bare : (it : Problem) → problem_line it ≡ listed_line All [] it
+unfolding card_problem_line
+line-bare it = rw (card_of-none it.hdu it.place) refl
+
 -- one more line is added
-pub text_step : (text new : List ℕ) (report : List Problem) (i : ℕ) (d : Problem) → i < length report → text ≡ problem_lines All (take i report) → new ≡ text ++ problem_line (get_or report i d)
-    → new ≡ problem_lines All (take (i + 1) report)
+pub text_step : (text new : List ℕ) (report : List Problem) (i : ℕ) (d : Problem) → i < length report → text ≡ problem_lines All [] (take i report) → new ≡ text ++ problem_line (get_or report i d)
+    → new ≡ problem_lines All [] (take (i + 1) report)
 text_step text new report i d l before added =
-    added ∙ ap (λ t. t ++ problem_line (get_or report i d)) before ∙ sym (lines-more (listed_line All) report i d l)
+    added ∙ ap (λ t. t ++ problem_line (get_or report i d)) before ∙ ap (λ t. problem_lines All [] (take i report) ++ t) (line-bare (get_or report i d)) ∙ sym (lines-more (listed_line All []) report i d l)
 
 -- all lines, and the closing one
-pub text_whole : (text new : List ℕ) (report : List Problem) (i : ℕ) → length report ≤ i → text ≡ problem_lines All (take i report) → new ≡ text ++ closing_line report → new ≡ report_text All report
+pub text_whole : (text new : List ℕ) (report : List Problem) (i : ℕ) → length report ≤ i → text ≡ problem_lines All [] (take i report) → new ≡ text ++ closing_line report → new ≡ report_text All [] report
 text_whole text new report i l before added =
-    added ∙ ap (λ t. t ++ closing_line report) (before ∙ ap (problem_lines All) (take_all i report l))
+    added ∙ ap (λ t. t ++ closing_line report) (before ∙ ap (problem_lines All []) (take_all i report l))
 
 -- what isn't an error is a warning
 pub others_warn : (report : List Problem) (errors : ℕ) → errors ≡ errors_in report → length report - errors ≡ warnings_in report

@@ -12,6 +12,7 @@ use Rattle.fits_session.proofs.LawLemmas.{edited}
 use Rattle.fits_script.specs.Line.{command_of, reading_of, said_or_none}
 use Rattle.fits_script.specs.declared.command.Command.{Command}
 use Rattle.fits_script.specs.declared.command.Command.TheVariants.{Nothing, Edit, Offsets, Get, Positions, Report, Statistics, Rectangle, Sums, Kept}
+use Rattle.fits_script.specs.declared.misfit.Misfit.{Misfit}
 use Rattle.fits_script.specs.declared.limits.TheConstants.{LINE_LIMIT}
 use Rattle.fits_script.specs.declared.line_reading.LineReading.{LineReading}
 use Rattle.fits_script.specs.declared.line_reading.LineReading.TheVariants.{TooLong, NoCommand, Said}
@@ -22,11 +23,11 @@ use Rattle.fits_cli.proofs.SizeLemmas.{AllIn, IsSized, line_sized}
 -- cards and names of what a line says are as long as they are
 pub said_line : (line : List ℕ) (command : Command) → reading_of line ≡ Said command → IsSized command
 unfolding reading_of
-said_line line command is = subst (λ (found : Option Command). AllIn IsSized found) (of (nat_le (length line) LINE_LIMIT) (command_of line) is) (line_sized line)
+said_line line command is = subst (λ (found : Result Command Misfit). AllIn IsSized found) (of (nat_le (length line) LINE_LIMIT) (command_of line) is) (line_sized line)
   where
-    of : (within : Bool) (found : Option Command) → (if within then said_or_none found else TooLong) ≡ Said command → found ≡ Some command
-    of true (Some other) e = cc
-    of true None e = absurd (cc)
+    of : (within : Bool) (found : Result Command Misfit) → (if within then said_or_none line found else TooLong) ≡ Said command → found ≡ Ok command
+    of true (Ok other) e = cc
+    of true (Err why) e = absurd (cc)
     of false found e = absurd (cc)
 
 -- the file after a question is the one before
@@ -64,7 +65,7 @@ command_file standing (Kept hdu) sized p = asked_file standing (Kept hdu) kept_l
 line_file : (standing : Standing) (line : List ℕ) (reading : LineReading) → reading_of line ≡ reading → IsFile standing.marked.file → IsFile (line_left standing reading).marked.file
 unfolding line_left
 line_file standing line TooLong is p = p
-line_file standing line NoCommand is p = p
+line_file standing line (NoCommand misfit) is p = p
 line_file standing line (Said command) is p = command_file standing command (said_line line command is) p
 
 -- all lines do

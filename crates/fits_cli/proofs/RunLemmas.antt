@@ -6,9 +6,8 @@ use Rattle.fits_cli.specs.Answer.{Standing, line_answer, line_left, CommandWants
 use Rattle.fits_script.specs.declared.limits.TheConstants.{LINE_LIMIT}
 use Rattle.fits_script.specs.Line.{reading_of}
 use Rattle.fits_script.specs.declared.line_reading.LineReading.TheVariants.{TooLong}
-use Rattle.fits_cli.specs.declared.remark.Remark.TheVariants as remark
 use Rattle.fits_cli.specs.Output.{answers, standing_after}
-use Rattle.fits_cli.specs.Remark.{line_remark, remark_line, remark_on, remarks}
+use Rattle.fits_cli.specs.Remark.{line_remark, long_text, remark_line, remark_on, remarks}
 use Rattle.fits_cli.specs.Running.{Heard, AnswersLine, AnswersLines, LacksReply, LineStops, LinesStop, HasCome, HasStopped, Continues, PieceStops, EndsScript, EndStops, kept_of}
 use Rattle.fits_cli.specs.Script.{HasNoLineFeed, script_lines}
 use Rattle.fits_cli.specs.declared.fault.Fault.{Fault}
@@ -130,7 +129,7 @@ HasCome-open script kept piece before now held holds none come = record {
 }
 
 -- the remark on a line that is too long says so
-line_remark-long : (s : Standing) (line : List ℕ) → reading_of line ≡ TooLong → line_remark s line ≡ remark_line s.line (Some remark.TooLong)
+line_remark-long : (s : Standing) (line : List ℕ) → reading_of line ≡ TooLong → line_remark s line ≡ remark_line s.line (Some long_text)
 unfolding line_remark remark_on
 line_remark-long s line long = rw long refl
 

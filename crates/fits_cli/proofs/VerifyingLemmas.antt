@@ -1,27 +1,25 @@
 -- The run of `verify`: its lines as they are printed, from the problems that were found.
-use Rattle.std.proofs.Common.{◌≡◌, ℕ, ◌+◌, ◌<◌, ◌≤◌, List, [], ◌++◌, length, take, drop, get_or, refl, ap, sym, subst, ◌∙◌}
+use Rattle.std.proofs.Common.{◌≡◌, ℕ, ◌+◌, ◌<◌, ◌≤◌, Bool, List, [], ◌++◌, length, take, drop, get_or, refl, ap, sym, subst, ◌∙◌}
 use Rattle.std.specs.List.{flat_map}
 use Rattle.std.proofs.lemmas.List.{take_all}
 use Rattle.fits_stream.specs.Intake.{Gives}
-use Rattle.fits_stream.proofs.StreamLemmas.{Appends-none}
-use Rattle.fits_session.specs.File.{FileParts}
-use Rattle.fits_session.specs.Report.{IsReportOf}
+use Rattle.fits_stream.proofs.StreamLemmas.{Gains-none}
 use Rattle.fits_session.specs.declared.problem.Problem.{Problem}
 use Rattle.fits_cli.specs.Faults.{PrintFails}
-use Rattle.fits_cli.specs.Report.{closing_line, report_text, status_of_report}
+use Rattle.fits_cli.specs.Report.{closing_line, report_text}
 use Rattle.fits_stream.specs.Stream.{SourceState, SinkState, Prints, StaysQuiet}
-use Rattle.fits_cli.specs.Telling.{PrintingStops, TextIsTold, TextStopsBy}
+use Rattle.fits_cli.specs.Telling.{IsToldReport, PrintingStops, TextStopsBy}
 use Rattle.fits_cli.specs.declared.fault.Fault.{Fault}
 use Rattle.fits_cli.specs.declared.fault.Fault.TheVariants.{Refused, ScriptTooLong, Memory, ReadFailed, WriteFailed, Reread as RereadFault}
 use Rattle.fits_cli.specs.declared.level.Level.{Level}
 use Rattle.fits_cli.specs.declared.telling.Telling.TheVariants as telling
 use Rattle.fits_cli.proofs.ReportLemmas.{lines-more, lines-split}
-use Rattle.fits_stream.proofs.StreamLemmas.{Prints-more, PrintsFront-more, PrintsFront-longer, AppendsFront-more, AppendsFront-longer, AppendsFront-whole}
+use Rattle.fits_stream.proofs.StreamLemmas.{Prints-more, PrintsFront-more, PrintsFront-longer, GainsFront-more, GainsFront-longer, GainsFront-whole}
 use Rattle.fits_cli.proofs.TellingLemmas.{TextStopsBy-printing}
 
 -- a text of which nothing is printed, for want of memory
 pub PrintingStops-none : (a : SinkState) (text : List ℕ) → PrintingStops text a a Memory
-PrintingStops-none a text = (AppendsFront-longer a.contents a.contents [] text (AppendsFront-whole a.contents a.contents [] (Appends-none a.contents)), refl)
+PrintingStops-none a text = (GainsFront-longer a.contents a.contents [] text (GainsFront-whole a.contents a.contents [] (Gains-none a.contents)), refl)
 
 -- a text that a failed write stops
 pub PrintingStops-print : (a b : SinkState) (text : List ℕ) (fault : Fault) → PrintFails text a b fault → PrintingStops text a b fault
@@ -31,7 +29,7 @@ PrintingStops-print a b text fault failed = subst (λ (f : Fault). PrintingStops
 pub PrintingStops-longer : (a b : SinkState) (xs ys : List ℕ) (fault : Fault) → PrintingStops xs a b fault → PrintingStops (xs ++ ys) a b fault
 PrintingStops-longer a b xs ys (Refused why) stops = absurd stops
 PrintingStops-longer a b xs ys ScriptTooLong stops = absurd stops
-PrintingStops-longer a b xs ys Memory stops = (AppendsFront-longer a.contents b.contents xs ys stops.0, stops.1)
+PrintingStops-longer a b xs ys Memory stops = (GainsFront-longer a.contents b.contents xs ys stops.0, stops.1)
 PrintingStops-longer a b xs ys ReadFailed stops = absurd stops
 PrintingStops-longer a b xs ys (RereadFault why) stops = absurd stops
 PrintingStops-longer a b xs ys WriteFailed stops = PrintsFront-longer a b xs ys stops
@@ -40,7 +38,7 @@ PrintingStops-longer a b xs ys WriteFailed stops = PrintsFront-longer a b xs ys 
 pub PrintingStops-more : (a b c : SinkState) (xs ys : List ℕ) (fault : Fault) → Prints xs a b → PrintingStops ys b c fault → PrintingStops (xs ++ ys) a c fault
 PrintingStops-more a b c xs ys (Refused why) front stops = absurd stops
 PrintingStops-more a b c xs ys ScriptTooLong front stops = absurd stops
-PrintingStops-more a b c xs ys Memory front stops = (AppendsFront-more a.contents b.contents c.contents xs ys front.bytes stops.0, stops.1 ∙ front.quiet)
+PrintingStops-more a b c xs ys Memory front stops = (GainsFront-more a.contents b.contents c.contents xs ys front.bytes stops.0, stops.1 ∙ front.quiet)
 PrintingStops-more a b c xs ys ReadFailed front stops = absurd stops
 PrintingStops-more a b c xs ys (RereadFault why) front stops = absurd stops
 PrintingStops-more a b c xs ys WriteFailed front stops = PrintsFront-more a b c xs ys front stops
@@ -80,16 +78,8 @@ pub prints_line : (a b c : SinkState) (line : Problem → List ℕ) (report : Li
 prints_line a b c line report i d l front next =
     rw (lines-more line report i d l) (Prints-more a b c (flat_map line (take i report)) (line (get_or report i d)) front next)
 
--- the report of problems that were found
-pub reported : (file file_after : SourceState) (out out_after : SinkState) (level : Level) (report : List Problem) → Gives file (IsReportOf report) → StaysQuiet file file_after → Prints (report_text level report) out out_after
-    → TextIsTold (telling.Report level) file file_after out out_after (status_of_report report)
-reported file file_after out out_after level report given quiet printed =
-    let parts : FileParts = given.2.file in
-    record { parts = parts; opened = (given.0, given.1, given.2.opened); read = quiet; printed = rw (← given.2.all) printed; status_is = ap status_of_report given.2.all }
-
--- or a prefix of it
-pub TextStopsBy-report : (file file_after : SourceState) (out out_after : SinkState) (level : Level) (report : List Problem) (fault : Fault) → Gives file (IsReportOf report) → StaysQuiet file file_after → PrintingStops (report_text level report) out out_after fault
-    → TextStopsBy (telling.Report level) file file_after out out_after fault
-TextStopsBy-report file file_after out out_after level report fault given quiet stops =
-    let parts : FileParts = given.2.file in
-    TextStopsBy-printing (telling.Report level) file file_after out out_after parts fault (given.0, given.1, given.2.opened) quiet (rw (← given.2.all) stops)
+-- a report that was read is printed to a prefix
+pub TextStopsBy-report : (file file_after : SourceState) (out out_after : SinkState) (level : Level) (strict cards : Bool) (report : List Problem) (headers : List (List (List ℕ))) (fault : Fault) → Gives file (IsToldReport cards report headers)
+    → StaysQuiet file file_after → PrintingStops (report_text level headers report) out out_after fault → TextStopsBy (telling.Report level strict cards) file file_after out out_after fault
+TextStopsBy-report file file_after out out_after level strict cards report headers fault given quiet stops =
+    TextStopsBy-printing (telling.Report level strict cards) file file_after out out_after given.2.file fault (given.0, given.1, given.2.opened) quiet (rw (← given.2.all, ← given.2.told) stops)

@@ -84,7 +84,7 @@ outcome_of it (Edit edit) = unless (marked_refusal it edit) (record { text = [];
 outcome_of it Offsets = Ok (record { text = offset_lines 1 (offsets_from 0 it.file.hdus); left = it })
 outcome_of it (Get hdu name) = asked it (λ said. value_line said.0 said.1) (value_in it.file hdu name)
 outcome_of it (Positions hdu name) = asked it places_line (some_places (positions_in it.file hdu name))
-outcome_of it Report = Ok (record { text = report_text All (report_of it.file); left = it })
+outcome_of it Report = Ok (record { text = report_text All [] (report_of it.file); left = it })
 outcome_of it (Statistics hdu) = asked it statistics_line (stats_in it.file hdu)
 outcome_of it (Rectangle hdu lo hi) = asked it values_line (rect_in it.file hdu lo hi)
 outcome_of it (Sums hdu) = sums_asked it (datasum_in it.file hdu) (verdicts_in it.file hdu)
@@ -154,13 +154,13 @@ after_outcome standing command (Err why) = after_refused standing
 -- what a line prints
 unfoldable pub line_answer : Standing → LineReading → List ℕ
 line_answer standing TooLong = complaint standing.line (codes "too long")
-line_answer standing NoCommand = complaint standing.line (codes "not a command")
+line_answer standing (NoCommand misfit) = complaint standing.line (codes "not a command")
 line_answer standing (Said command) = outcome_text standing.line (outcome_of standing.marked command)
 
 -- what a line leaves
 unfoldable pub line_left : Standing → LineReading → Standing
 line_left standing TooLong = after_refused standing
-line_left standing NoCommand = after_refused standing
+line_left standing (NoCommand misfit) = after_refused standing
 line_left standing (Said command) = after_outcome standing command (outcome_of standing.marked command)
 
 -- a command may want data that had passed by
@@ -185,5 +185,5 @@ WantsPixels it reading = ⊥
 -- memory may run out at a line: in reading it, or on the way to its outcome
 unfoldable pub LineNeedsMemory : Marked → LineReading → Type 0
 LineNeedsMemory it TooLong = ⊥
-LineNeedsMemory it NoCommand = ⊥
+LineNeedsMemory it (NoCommand misfit) = ⊥
 LineNeedsMemory it (Said command) = ReadingNeedsMemory (Said command) ⊎ OutcomeNeedsMemory it command

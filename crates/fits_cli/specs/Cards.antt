@@ -6,7 +6,7 @@ use Rattle.std.specs.Str.{bytes_eq}
 use Rattle.fits_card.specs.Card.{keyword_name, is_text, is_text_byte}
 use Rattle.fits_value.specs.Text.{trimmed}
 use Rattle.fits_header.specs.Links.{header_links}
-use Rattle.fits_stream.specs.Stream.{SourceState, SinkState, AppendsFront, FailsOnce, Prints, PrintsFront, StaysQuiet}
+use Rattle.fits_stream.specs.Stream.{SourceState, SinkState, GainsFront, FailsOnce, Prints, PrintsFront, StaysQuiet}
 use Rattle.fits_session.specs.Headers.{ShowsHeaders}
 use Rattle.fits_session.specs.declared.open_fault.OpenFault.{OpenFault}
 use Rattle.fits_cli.specs.Faults.{status_of_fault}
@@ -122,7 +122,7 @@ pub record CardsNeedMemory (choice : CardChoice) (file file_after : SourceState)
   pub read : StaysQuiet file file_after
   pub quiet : out_after.failures ≡ out.failures
   pub printed : (out_after ≡ out)
-      ⊎ ((headers : List (List (List ℕ))) × (fault : Option OpenFault) × ShowsHeaders file headers fault × AppendsFront out.contents out_after.contents (cards_text choice headers))
+      ⊎ ((headers : List (List (List ℕ))) × (fault : Option OpenFault) × ShowsHeaders file headers fault × GainsFront out.contents out_after.contents (cards_text choice headers))
 
 -- a write failed: a prefix of the text stands
 pub record CardsFail (choice : CardChoice) (file file_after : SourceState) (out out_after : SinkState) : Type 0 where

@@ -1,9 +1,11 @@
--- How a run of `edit` ends: what was printed and saved, and what stood before a fault (own).
+-- How a run of `edit` or `ask` ends: what was printed and saved, what kept its result from being saved, and what stood before a fault (own).
 use Rattle.std.specs.Prelude.{◌≡◌, ◌⊎◌, ℕ, ◌+◌, ◌<◌, ◌≤◌, Bool, false, true, List, [], ◌∷◌, ◌++◌, length, take, Option, Some, None, Result, Ok, Err, MatchOption}
-use Rattle.std.specs.Io.KnownBytes.{Appends, Consumes, IsAtEnd}
+use Rattle.std.specs.Io.KnownBytes.{Consumes, IsAtEnd}
 use Rattle.fits_stream.specs.Intake.{Gives, Tells}
-use Rattle.fits_stream.specs.Stream.{SourceState, SinkState, FailsOnce, Prints, PrintsFront, StaysQuiet}
+use Rattle.fits_stream.specs.Stream.{SourceState, SinkState, FailsOnce, Gains, Prints, PrintsFront, StaysQuiet}
 use Rattle.fits_session.specs.File.{FileParts, IsFileOf}
+use Rattle.fits_session.specs.Report.{IsReportOf}
+use Rattle.fits_session.specs.declared.problem.Problem.{Problem}
 use Rattle.fits_cli.specs.Answer.{at_first_line, LineNeedsMemory, WantsPixels}
 use Rattle.fits_cli.specs.Faults.{status_of_fault, IsUnchanged}
 use Rattle.fits_cli.specs.declared.limits.TheConstants.{SCRIPT_LIMIT}
@@ -11,31 +13,37 @@ use Rattle.fits_script.specs.Line.{reading_of}
 use Rattle.fits_cli.specs.Output.{answers, standing_after, Output, IsOutputOf}
 use Rattle.fits_cli.specs.Remark.{remarks, Remarks}
 use Rattle.fits_cli.specs.Script.{IsCutInLines, script_lines}
-use Rattle.fits_cli.specs.Terms.{plain}
+use Rattle.fits_cli.specs.NewErrors.{new_error_lines, new_errors, HasMoreErrors}
+use Rattle.fits_cli.specs.Report.{errors_in, warnings_in}
+use Rattle.fits_cli.specs.Terms.{check_of, holds_back, plain}
+use Rattle.fits_cli.specs.declared.edited.Edited.{Edited}
+use Rattle.fits_cli.specs.declared.edited.Edited.TheVariants.{Done, KeptBack, Unsound}
 use Rattle.fits_cli.specs.declared.end.End.{End}
 use Rattle.fits_cli.specs.declared.fault.Fault.{Fault}
 use Rattle.fits_cli.specs.declared.fault.Fault.TheVariants.{Refused, ScriptTooLong, Memory, ReadFailed, WriteFailed, Reread as RereadFault}
+use Rattle.fits_cli.specs.declared.level.Level.TheVariants.{Quiet}
 use Rattle.fits_cli.specs.declared.reread.Reread.TheVariants as again
+use Rattle.fits_cli.specs.declared.saves.Saves.{Saves}
+use Rattle.fits_cli.specs.declared.saves.Saves.TheVariants.{Made, Nothing}
 use Rattle.fits_cli.specs.declared.terms.Terms.{Terms}
 use Rattle.fits_session.specs.Marked.{Marked}
 use Rattle.fits_script.specs.declared.line_reading.LineReading.{LineReading}
 
--- the terms and the four streams of a run, and whether the file is read again where its data are wanted
+-- the terms of a run and the streams that come before what it saves, and whether the file is read again where its data are wanted
 pub record RunState : Type 0 where
   pub terms : Terms
   pub stored : Bool
   pub file : SourceState
   pub script : SourceState
   pub printed : SinkState
-  pub saved : SinkState
 
--- four streams on these terms, of which the file is read again or not
-abbrev pub run_by : Terms → Bool → SourceState → SourceState → SinkState → SinkState → RunState
-run_by terms stored file script printed saved = record { terms = terms; stored = stored; file = file; script = script; printed = printed; saved = saved }
+-- these streams on these terms, of which the file is read again or not
+abbrev pub run_by : Terms → Bool → SourceState → SourceState → SinkState → RunState
+run_by terms stored file script printed = record { terms = terms; stored = stored; file = file; script = script; printed = printed }
 
--- four streams on plain terms
-abbrev pub run : SourceState → SourceState → SinkState → SinkState → RunState
-run file script printed saved = run_by plain false file script printed saved
+-- these streams on plain terms
+abbrev pub run : SourceState → SourceState → SinkState → RunState
+run file script printed = run_by plain false file script printed
 
 -- both sources were read without a failed call
 pub record ReadsWell (old new : RunState) : Type 0 where
@@ -63,38 +71,73 @@ pub record HasLines (old new : SourceState) (lines : List (List ℕ)) : Type 0 w
   pub reached : CameTo old new whole last
   pub are : (lines ≡ whole) ⊎ (IsAtEnd new.remaining × (length reached.came ≤ SCRIPT_LIMIT) × (lines ≡ script_lines whole last))
 
--- a run with the output of its file and its script, on its terms
-pub record IsRun (old new : RunState) (status : ℕ) (fault : Option Fault) : Type 0 where
+-- a run with the output of its file and its script, on its terms; with its answers the sink of answers stood so
+pub record IsRun (old new : RunState) (answered : SinkState) (fault : Option Fault) : Type 0 where
   pub file : List ℕ
   pub script : List ℕ
   pub output : Output
   pub told_file : Tells old.file file
   pub told_script : Tells old.script script
   pub is : IsOutputOf old.terms file script output
-  pub printed : Prints output.text old.printed new.printed
-  pub saved : Prints output.saved old.saved new.saved
-  pub status_is : status ≡ output.status
-  pub fault_is : fault ≡ output.fault
+  pub printed : Prints output.text old.printed answered
+  pub fault_is : output.fault ≡ fault
   pub read : ReadsWell old new
 
--- a run to its end: what it wrote is flushed
-pub record Succeeds (old new : RunState) (status : ℕ) : Type 0 where
-  pub run : IsRun old new status None
-  pub printed : new.printed.unflushed ≡ 0
-  pub saved : new.saved.unflushed ≡ 0
+-- the script was answered to its end and the answers are flushed; what becomes of the result is up to its lines and to two reports, of the
+-- bytes that were read and of those that the script makes of them
+pub record ReachesEnd (old new : RunState) (answered : SinkState) : Type 0 where
+  pub run : IsRun old new answered None
+  pub flushed : answered.unflushed ≡ 0
+  pub before : List Problem
+  pub after : List Problem
+  pub before_is : IsReportOf before run.file
+  pub after_is : IsReportOf after run.output.made
+
+-- the result is to be saved: it is wanted, no line holds it back, and there are no more problems of a code that counts
+abbrev pub IsDue : Saves → Output → List Problem → List Problem → Type 0
+IsDue Nothing output before after = ⊥
+IsDue (Made whole check) output before after = (holds_back (Made whole check) output.undone ≡ false) × (HasMoreErrors check before after → ⊥)
+
+-- it is, and is flushed; or none is wanted, and nothing is saved
+abbrev pub IsSaved : Saves → Output → List Problem → List Problem → SinkState → SinkState → Type 0
+IsSaved Nothing output before after saved holds = holds ≡ saved
+IsSaved (Made whole check) output before after saved holds =
+    IsDue (Made whole check) output before after × Prints output.saved saved holds × (holds.unflushed ≡ 0)
+
+-- a run to its end, whose result is where it is to be
+pub record Succeeds (old new : RunState) (saved holds : SinkState) (status : ℕ) : Type 0 where
+  pub end : ReachesEnd old new new.printed
+  pub status_is : status ≡ end.run.output.status
+  pub result : IsSaved old.terms.saves end.run.output end.before end.after saved holds
+
+-- so many lines weren't done, and every one was to be
+pub record IsKeptBack (old new : RunState) (undone : ℕ) : Type 0 where
+  pub end : ReachesEnd old new new.printed
+  pub kept : holds_back old.terms.saves end.run.output.undone ≡ true
+  pub count : undone ≡ end.run.output.undone
+
+-- there are more problems of a code that counts: the lines of the new ones follow the answers
+pub record IsUnsound (old new : RunState) (errors warnings : ℕ) : Type 0 where
+  pub answered : SinkState
+  pub end : ReachesEnd old new answered
+  pub done : holds_back old.terms.saves end.run.output.undone ≡ false
+  pub more : HasMoreErrors (check_of old.terms.saves) end.before end.after
+  pub some : 0 < errors + warnings
+  pub errors_are : errors ≡ errors_in (new_errors (check_of old.terms.saves) end.before end.after)
+  pub warnings_are : warnings ≡ warnings_in (new_errors (check_of old.terms.saves) end.before end.after)
+  pub lines : Prints (new_error_lines (new_errors (check_of old.terms.saves) end.before end.after)) answered new.printed
+  pub flushed : new.printed.unflushed ≡ 0
 
 -- the file doesn't open: no other stream was touched
 pub record IsRefused (old new : RunState) (fault : Fault) : Type 0 where
-  pub run : IsRun old new 2 (Some fault)
+  pub run : IsRun old new new.printed (Some fault)
   pub script : new.script ≡ old.script
   pub printed : new.printed ≡ old.printed
-  pub saved : new.saved ≡ old.saved
 
--- the script is too long: the answers are flushed, and nothing is saved
+-- the script is too long: the answers are flushed
 pub record IsTooLong (old new : RunState) : Type 0 where
-  pub run : IsRun old new 2 (Some ScriptTooLong)
+  pub run : IsRun old new new.printed (Some ScriptTooLong)
   pub printed : new.printed.unflushed ≡ 0
-  pub saved : new.saved ≡ old.saved
 
 -- a run stops at a line that needs this: the answers to the lines before it are flushed
 pub record StopsAtLine (Needs : Marked → LineReading → Type 0) (old new : RunState) : Type 0 where
@@ -108,26 +151,29 @@ pub record StopsAtLine (Needs : Marked → LineReading → Type 0) (old new : Ru
   pub printed : Prints (answers (at_first_line old.terms parts) lines) old.printed new.printed
   pub flushed : new.printed.unflushed ≡ 0
 
--- memory was refused: on the way to the first line, so that nothing is printed, or at a line; nothing is saved
+-- memory was refused: on the way to the first line, so that nothing is printed, or at a line
 pub record IsOutOfMemory (old new : RunState) : Type 0 where
   pub read : ReadsWell old new
   pub printed : (new.script ≡ old.script × Prints [] old.printed new.printed) ⊎ StopsAtLine LineNeedsMemory old new
-  pub saved : new.saved ≡ old.saved
+
+-- memory was refused after the script, for the report of its result or the lines of new problems
+pub record LacksReport (old new : RunState) : Type 0 where
+  pub end : ReachesEnd old new new.printed
+  pub done : holds_back old.terms.saves end.run.output.undone ≡ false
+  pub checked : check_of old.terms.saves ≡ Quiet → ⊥
 
 -- a read of the file failed: no other stream was touched
 pub record FileFails (old new : RunState) : Type 0 where
   pub failed : FailsOnce old.file new.file
   pub script : new.script ≡ old.script
   pub printed : new.printed ≡ old.printed
-  pub saved : new.saved ≡ old.saved
 
 -- at the end either nothing failed and all is passed on, or a call failed
 abbrev pub FlushesOrFails : SinkState → SinkState → Type 0
 FlushesOrFails old new =
     ((new.failures ≡ old.failures) × (new.unflushed ≡ 0)) ⊎ (new.failures ≡ old.failures + 1)
 
--- a read of the script failed: the whole lines that came before are answered, and nothing is saved;
--- the answers are flushed, unless that call fails too
+-- a read of the script failed: the whole lines that came before are answered; the answers are flushed, unless that call fails too
 pub record ScriptFails (old new : RunState) : Type 0 where
   pub of_file : StaysQuiet old.file new.file
   pub failed : FailsOnce old.script new.script
@@ -137,11 +183,10 @@ pub record ScriptFails (old new : RunState) : Type 0 where
   pub opened : Opens old.file parts
   pub reached : CameTo old.script new.script lines last
   pub short : length reached.came ≤ SCRIPT_LIMIT
-  pub printed : Appends old.printed.contents new.printed.contents (answers (at_first_line old.terms parts) lines)
+  pub printed : Gains old.printed.contents new.printed.contents (answers (at_first_line old.terms parts) lines)
   pub flushed : FlushesOrFails old.printed new.printed
-  pub saved : new.saved ≡ old.saved
 
--- a write of answers failed: a prefix of the answers stands, and nothing is saved
+-- a write of answers failed: a prefix of the answers stands
 pub record AnswersFail (old new : RunState) : Type 0 where
   pub read : ReadsWell old new
   pub parts : FileParts
@@ -149,109 +194,70 @@ pub record AnswersFail (old new : RunState) : Type 0 where
   pub opened : Opens old.file parts
   pub reached : HasLines old.script new.script lines
   pub printed : PrintsFront (answers (at_first_line old.terms parts) lines) old.printed new.printed
-  pub saved : new.saved ≡ old.saved
 
--- a write of the saved file failed: all answers are flushed, and a prefix of the file stands
-pub record SavingFails (old new : RunState) : Type 0 where
-  pub read : ReadsWell old new
-  pub file : List ℕ
-  pub script : List ℕ
-  pub output : Output
-  pub told_file : Tells old.file file
-  pub told_script : Tells old.script script
-  pub is : IsOutputOf old.terms file script output
-  pub whole : output.fault ≡ None
-  pub printed : Prints output.text old.printed new.printed
-  pub flushed : new.printed.unflushed ≡ 0
-  pub saved : PrintsFront output.saved old.saved new.saved
+-- a write of the lines of new problems failed: a prefix of them stands after the answers
+pub record NewErrorsFail (old new : RunState) : Type 0 where
+  pub answered : SinkState
+  pub end : ReachesEnd old new answered
+  pub done : holds_back old.terms.saves end.run.output.undone ≡ false
+  pub more : HasMoreErrors (check_of old.terms.saves) end.before end.after
+  pub lines : PrintsFront (new_error_lines (new_errors (check_of old.terms.saves) end.before end.after)) answered new.printed
 
--- data that a line wants aren't had again: nothing is saved
+-- data that a line wants aren't had again
 pub record LacksPixels (old new : RunState) : Type 0 where
   pub read : ReadsWell old new
   pub at : StopsAtLine WantsPixels old new
-  pub saved : new.saved ≡ old.saved
 
--- a read of data that are copied failed: all answers are flushed, and a prefix of the file stands
-pub record CopyingFails (old new : RunState) : Type 0 where
-  pub read : ReadsWell old new
-  pub file : List ℕ
-  pub script : List ℕ
-  pub output : Output
-  pub told_file : Tells old.file file
-  pub told_script : Tells old.script script
-  pub is : IsOutputOf old.terms file script output
-  pub whole : output.fault ≡ None
-  pub printed : Prints output.text old.printed new.printed
-  pub flushed : new.printed.unflushed ≡ 0
-  pub count : ℕ
-  pub saved : Prints (take count output.saved) old.saved new.saved
-
--- what stands before a fault that ends a run
+-- what stands before a fault that ends a run ahead of saving
 abbrev pub StopsBy : RunState → RunState → Fault → Type 0
 StopsBy old new (Refused why) = IsRefused old new (Refused why)
 StopsBy old new ScriptTooLong = IsTooLong old new
-StopsBy old new Memory = IsOutOfMemory old new
+StopsBy old new Memory = IsOutOfMemory old new ⊎ LacksReport old new
 StopsBy old new ReadFailed = FileFails old new ⊎ ScriptFails old new
-StopsBy old new WriteFailed = AnswersFail old new ⊎ SavingFails old new
-StopsBy old new (RereadFault why) = (old.stored ≡ true) × (IsUnchanged why × (LacksPixels old new ⊎ ((why ≡ again.Failed) × CopyingFails old new)))
+StopsBy old new WriteFailed = AnswersFail old new ⊎ NewErrorsFail old new
+StopsBy old new (RereadFault why) = (old.stored ≡ true) × IsUnchanged why × LacksPixels old new
 
--- how a run ends: with its output and its status, or by a fault
-abbrev pub EndsBy : RunState → RunState → Result ℕ Fault → Type 0
-EndsBy old new (Ok status) = Succeeds old new status
-EndsBy old new (Err fault) = StopsBy old new fault
+-- a write of the saved file failed: all answers are flushed, and a prefix of the file stands
+pub record SavingFails (old new : RunState) (saved holds : SinkState) : Type 0 where
+  pub end : ReachesEnd old new new.printed
+  pub due : IsDue old.terms.saves end.run.output end.before end.after
+  pub front : PrintsFront end.run.output.saved saved holds
 
--- the same as it is answered: a fault has its status
-abbrev pub EndsAs : RunState → RunState → End → Type 0
-EndsAs old new end =
-    MatchOption end.fault (Succeeds old new end.status) (λ fault. StopsBy old new fault × (end.status ≡ status_of_fault fault))
+-- a read of data that are copied failed: all answers are flushed, and a prefix of the file stands
+pub record CopyingFails (old new : RunState) (saved holds : SinkState) : Type 0 where
+  pub end : ReachesEnd old new new.printed
+  pub due : IsDue old.terms.saves end.run.output end.before end.after
+  pub count : ℕ
+  pub front : Prints (take count end.run.output.saved) saved holds
 
--- a run that saves nothing, to its end: it prints what `edit` prints, and ends with its status
-pub record IsAsked (old new : RunState) (status : ℕ) : Type 0 where
-  pub file : List ℕ
-  pub script : List ℕ
-  pub output : Output
-  pub told_file : Tells old.file file
-  pub told_script : Tells old.script script
-  pub is : IsOutputOf old.terms file script output
-  pub whole : output.fault ≡ None
-  pub printed : Prints output.text old.printed new.printed
-  pub flushed : new.printed.unflushed ≡ 0
-  pub saved : new.saved ≡ old.saved
-  pub status_is : status ≡ output.status
-  pub read : ReadsWell old new
+-- what stands before a fault that ends a run, which comes before anything is saved, or as the result is saved
+abbrev pub FailsBy : RunState → RunState → SinkState → SinkState → Fault → Type 0
+FailsBy old new saved holds fault =
+    (StopsBy old new fault × (holds ≡ saved))
+    ⊎ (((fault ≡ WriteFailed) × SavingFails old new saved holds) ⊎ ((old.stored ≡ true) × (fault ≡ RereadFault again.Failed) × CopyingFails old new saved holds))
 
--- how a run that saves nothing ends: with the output and the status of `edit`, or by a fault of it
-abbrev pub AsksBy : RunState → RunState → Result ℕ Fault → Type 0
-AsksBy old new (Ok status) = IsAsked old new status
-AsksBy old new (Err fault) = StopsBy old new fault
+-- how a run ends: its result is saved or none is wanted, or something keeps it from being saved, or by a fault
+abbrev pub EndsBy : RunState → RunState → SinkState → SinkState → Result Edited Fault → Type 0
+EndsBy old new saved holds (Ok (Done status)) = Succeeds old new saved holds status
+EndsBy old new saved holds (Ok (KeptBack undone)) = IsKeptBack old new undone × (holds ≡ saved)
+EndsBy old new saved holds (Ok (Unsound errors warnings)) = IsUnsound old new errors warnings × (holds ≡ saved)
+EndsBy old new saved holds (Err fault) = FailsBy old new saved holds fault
 
--- the same as it is answered: a fault has its status
-abbrev pub AsksAs : RunState → RunState → End → Type 0
-AsksAs old new end =
-    MatchOption end.fault (IsAsked old new end.status) (λ fault. StopsBy old new fault × (end.status ≡ status_of_fault fault))
+-- the status of a run that came to its end
+abbrev pub status_of_edited : Edited → ℕ
+status_of_edited (Done status) = status
+status_of_edited (KeptBack undone) = 1
+status_of_edited (Unsound errors warnings) = 1
 
--- a run that saves nothing unless every line was done: so many weren't, and nothing is saved
-pub record IsUndone (old new : RunState) (status undone : ℕ) : Type 0 where
-  pub asked : IsAsked old new status
-  pub some : 0 < undone
-  pub count : undone ≡ asked.output.undone
+-- how a run ended, with its status: that of a fault where one ended it
+abbrev pub end_of : Result Edited Fault → End
+end_of (Ok it) = record { status = status_of_edited it; fault = None }
+end_of (Err fault) = record { status = status_of_fault fault; fault = Some fault }
 
--- or all were
-pub record IsDoneWhole (old new : RunState) (status undone : ℕ) : Type 0 where
-  pub done : Succeeds old new status
-  pub none : undone ≡ 0
-  pub all : done.run.output.undone ≡ 0
-
--- how such a run ends
-abbrev pub EndsWhole : RunState → RunState → Result (ℕ × ℕ) Fault → Type 0
-EndsWhole old new (Ok (status, undone)) = IsDoneWhole old new status undone ⊎ IsUndone old new status undone
-EndsWhole old new (Err fault) = StopsBy old new fault
-
--- the same as it is answered: a fault has its status
-abbrev pub EndsWholeAs : RunState → RunState → End → ℕ → Type 0
-EndsWholeAs old new end undone =
-    MatchOption end.fault (IsDoneWhole old new end.status undone ⊎ IsUndone old new end.status undone)
-    (λ fault. StopsBy old new fault × (end.status ≡ status_of_fault fault) × (undone ≡ 0))
+-- how a run ends whose result nothing keeps from being saved, with its status: that of a fault where one ends it
+abbrev pub EndsAs : RunState → RunState → SinkState → SinkState → End → Type 0
+EndsAs old new saved holds end =
+    MatchOption end.fault (Succeeds old new saved holds end.status) (λ fault. FailsBy old new saved holds fault × (end.status ≡ status_of_fault fault))
 
 -- remarks were made on lines of a script over a file: those that were answered, or some of the first of them
 pub record AreRemarksOn (terms : Terms) (file script script_after : SourceState) (told told_after : Option SinkState) : Type 0 where
@@ -278,6 +284,11 @@ pub record AreAllRemarks (terms : Terms) (file script : SourceState) (told told_
   pub made : Remarks (remarks (at_first_line terms parts) (script_lines lines last)) told told_after
 
 -- the remarks of a run: on all lines of its script where it came to its end, else on some of the first
+abbrev pub RemarksBy : Terms → SourceState → SourceState → SourceState → Option SinkState → Option SinkState → Result Edited Fault → Type 0
+RemarksBy terms file script script_after told told_after (Ok it) = AreAllRemarks terms file script told told_after
+RemarksBy terms file script script_after told told_after (Err fault) = AreToldOf terms file script script_after told told_after
+
+-- the same by its end
 abbrev pub RemarksEndAs : Terms → SourceState → SourceState → SourceState → Option SinkState → Option SinkState → End → Type 0
 RemarksEndAs terms file script script_after told told_after end =
     MatchOption end.fault (AreAllRemarks terms file script told told_after) (λ fault. AreToldOf terms file script script_after told told_after)

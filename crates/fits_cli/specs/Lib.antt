@@ -1,7 +1,5 @@
 pub mod Answer
-pub mod CardReport
 pub mod Cards
-pub mod CheckedEnds
 pub mod Ends
 pub mod Faults
 pub mod Listing

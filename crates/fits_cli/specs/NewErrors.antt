@@ -1,10 +1,11 @@
--- Which errors of a report are new, and where it is strict which warnings: what keeps `edit -c` from saving (own).
+-- Which problems of a report are new, of those that count: what keeps `edit -c` from saving (own).
 use Rattle.std.specs.Prelude.{◌≡◌, ℕ, ◌==◌, ◌&&◌, ◌||◌, nat_lt, Bool, not, true, List, ◌++◌, codes, count_by, get_or}
 use Rattle.std.specs.List.{filter, flat_map, list_any}
-use Rattle.fits_codes.specs.Code.{is_error, number}
+use Rattle.fits_codes.specs.Code.{number}
 use Rattle.fits_codes.specs.declared.code.Code.{Code}
 use Rattle.fits_session.specs.declared.problem.Problem.{Problem}
-use Rattle.fits_cli.specs.Report.{problem_line}
+use Rattle.fits_cli.specs.Report.{lists, problem_line}
+use Rattle.fits_cli.specs.declared.level.Level.{Level}
 
 -- the problem is of this code
 abbrev pub is_of_code : Code → Problem → Bool
@@ -14,13 +15,13 @@ is_of_code code it = number it.code == number code
 abbrev pub count_of : Code → List Problem → ℕ
 count_of code report = count_by (is_of_code code) report
 
--- the code is an error, or any code where warnings count as errors, and the report after has more problems of it than the one before
-abbrev pub has_more : Bool → List Problem → List Problem → Code → Bool
-has_more strict before after code = (strict || is_error code) && nat_lt (count_of code before) (count_of code after)
+-- the code counts, and the report after has more problems of it than the one before
+abbrev pub has_more : Level → List Problem → List Problem → Code → Bool
+has_more level before after code = lists level code && nat_lt (count_of code before) (count_of code after)
 
 -- there are more of some such code
-abbrev pub HasMoreErrors : Bool → List Problem → List Problem → Type 0
-HasMoreErrors strict before after = (code : Code) × (has_more strict before after code ≡ true)
+abbrev pub HasMoreErrors : Level → List Problem → List Problem → Type 0
+HasMoreErrors level before after = (code : Code) × (has_more level before after code ≡ true)
 
 -- two problems say the same of the same place
 abbrev pub is_same : Problem → Problem → Bool
@@ -31,12 +32,12 @@ abbrev pub stands_in : List Problem → Problem → Bool
 stands_in report it = list_any (is_same it) report
 
 -- a problem of the report after is new: there are more of its code, and it didn't stand in the report before
-abbrev pub is_new : Bool → List Problem → List Problem → Problem → Bool
-is_new strict before after it = has_more strict before after it.code && not (stands_in before it)
+abbrev pub is_new : Level → List Problem → List Problem → Problem → Bool
+is_new level before after it = has_more level before after it.code && not (stands_in before it)
 
--- the new errors, and the new warnings where these count as errors, in the order of their report
-unfoldable pub new_errors : Bool → List Problem → List Problem → List Problem
-new_errors strict before after = filter (is_new strict before after) after
+-- the new ones of the problems that count, in the order of their report
+unfoldable pub new_errors : Level → List Problem → List Problem → List Problem
+new_errors level before after = filter (is_new level before after) after
 
 -- `+CODE HDU PLACE TEXT`
 unfoldable pub new_error_line : Problem → List ℕ

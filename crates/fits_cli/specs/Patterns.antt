@@ -1,7 +1,7 @@
 -- Which names a word asks for (own).
 use Rattle.std.specs.Prelude.{ℕ, ◌-◌, nat_le, Bool, List, length, take, drop, codes, Option, Some, None, if◌then◌else◌}
 use Rattle.std.specs.Str.{bytes_eq}
-use Rattle.fits_script.specs.Line.{name_of_text}
+use Rattle.fits_script.specs.Words.{name_of_text}
 use Rattle.fits_cli.specs.declared.name_pattern.NamePattern.{NamePattern}
 
 -- a word ends in an asterisk

@@ -1,10 +1,8 @@
 -- What is said of the lines that weren't done, where that is asked for (own).
 use Rattle.std.specs.Prelude.{◌≡◌, ℕ, ◌≤◌, List, [], ◌∷◌, ◌++◌, codes, Option, Some, None, Result, Ok, Err, if◌then◌else◌}
 use Rattle.std.specs.Char.{is_ascii_lowercase}
-use Rattle.std.specs.Io.KnownBytes.{Appends}
 use Rattle.std.specs.List.{list_any}
-use Rattle.std.specs.Option.{option_map}
-use Rattle.fits_stream.specs.Stream.{SinkState}
+use Rattle.fits_stream.specs.Stream.{Gains, SinkState}
 use Rattle.fits_value.specs.Unwritable.{unwritable_of}
 use Rattle.fits_value.specs.declared.unwritable.Unwritable.{Unwritable}
 use Rattle.fits_session.specs.Marked.{Marked}
@@ -18,7 +16,7 @@ use Rattle.fits_edit.specs.declared.hdu_edit.HduEdit.TheVariants.{Cards}
 use Rattle.fits_session.specs.declared.refusal.Refusal.{Refusal}
 use Rattle.fits_session.specs.declared.refusal.Refusal.TheVariants as refusal
 use Rattle.fits_script.specs.Line.{reading_of}
-use Rattle.fits_script.specs.Misfit.{ends_in_return, misfit_of}
+use Rattle.fits_script.specs.Misfit.{ends_in_return}
 use Rattle.fits_script.specs.Wording.{misfit_text, unwritable_text}
 use Rattle.fits_script.specs.declared.command.Command.{Command}
 use Rattle.fits_script.specs.declared.command.Command.TheVariants.{Edit, Get, Positions}
@@ -28,8 +26,6 @@ use Rattle.fits_cli.specs.Answer.{Done, Standing, complaint, line_left, outcome_
 use Rattle.fits_cli.specs.declared.clues.Clues.{Clues}
 use Rattle.fits_cli.specs.declared.reason.Reason.{Reason}
 use Rattle.fits_cli.specs.declared.reason.Reason.TheVariants.{CarriageReturn, SmallLetters, Unwritten, Plain}
-use Rattle.fits_cli.specs.declared.remark.Remark.{Remark}
-use Rattle.fits_cli.specs.declared.remark.Remark.TheVariants as remark
 use Rattle.fits_cli.specs.declared.reply.Reply.{Reply}
 use Rattle.fits_cli.specs.declared.reply.Reply.TheVariants as reply
 
@@ -125,34 +121,41 @@ reason_text why SmallLetters = codes "keyword names have capital letters"
 reason_text why (Unwritten it) = unwritable_text it
 reason_text why Plain = plain_text why
 
--- a remark in words
-unfoldable pub remark_text : Remark → List ℕ
-remark_text remark.TooLong = codes "a line has at most 100000 bytes"
-remark_text (remark.NoCommand misfit) = misfit_text misfit
-remark_text (remark.Refused why reason) = refusal_text why ++ (codes ": " ++ reason_text why reason)
+-- a refusal in words, and what it comes from
+abbrev pub refused_text : Refusal → Reason → List ℕ
+refused_text why reason = refusal_text why ++ (codes ": " ++ reason_text why reason)
 
--- the remark on a line, by what it comes to
-unfoldable pub remark_by : List ℕ → Reply → Option Remark
+-- what is said of a line that is past the limit
+abbrev pub long_text : List ℕ
+long_text = codes "a line has at most 100000 bytes"
+
+-- the remark on a line in words, by what it comes to
+unfoldable pub remark_by : List ℕ → Reply → Option (List ℕ)
 remark_by line (reply.Done text) = None
-remark_by line (reply.Refused why clues) = Some (remark.Refused why (reason_of line clues why))
-remark_by line reply.TooLong = Some remark.TooLong
-remark_by line reply.NoCommand = option_map remark.NoCommand (misfit_of line)
+remark_by line (reply.Refused why clues) = Some (refused_text why (reason_of line clues why))
+remark_by line reply.TooLong = Some long_text
+remark_by line (reply.NoCommand misfit) = Some (misfit_text misfit)
 
 -- the remark on a command that was refused
-abbrev pub outcome_remark : List ℕ → Command → Result Done Refusal → Option Remark
+abbrev pub outcome_remark : List ℕ → Command → Result Done Refusal → Option (List ℕ)
 outcome_remark line command (Ok done) = None
-outcome_remark line command (Err why) = Some (remark.Refused why (reason_of line (clues_of command) why))
+outcome_remark line command (Err why) = Some (refused_text why (reason_of line (clues_of command) why))
 
 -- the remark on a line, in a file with these marks: there is one unless it was done
-unfoldable pub remark_on : Marked → List ℕ → LineReading → Option Remark
-remark_on it line TooLong = Some remark.TooLong
-remark_on it line NoCommand = option_map remark.NoCommand (misfit_of line)
+unfoldable pub remark_on : Marked → List ℕ → LineReading → Option (List ℕ)
+remark_on it line TooLong = Some long_text
+remark_on it line (NoCommand misfit) = Some (misfit_text misfit)
 remark_on it line (Said command) = outcome_remark line command (outcome_of it command)
 
+-- the words of a remark, if there is one
+abbrev pub words_of : Option (List ℕ) → List ℕ
+words_of None = []
+words_of (Some text) = text
+
 -- a remark on line `number`, as it is said
-abbrev pub remark_line : ℕ → Option Remark → List ℕ
+abbrev pub remark_line : ℕ → Option (List ℕ) → List ℕ
 remark_line number None = []
-remark_line number (Some it) = complaint number (remark_text it)
+remark_line number (Some text) = complaint number text
 
 -- what is said of a line
 unfoldable pub line_remark : Standing → List ℕ → List ℕ
@@ -166,7 +169,7 @@ remarks standing (line ∷ lines) = line_remark standing line ++ remarks (line_l
 -- a text was written to a sink and passed on, as far as no call failed: one that does loses some of it, and ends nothing
 pub record IsSaid (text : List ℕ) (old new : SinkState) : Type 0 where
   pub later : old.failures ≤ new.failures
-  pub bytes : new.failures ≡ old.failures → Appends old.contents new.contents text
+  pub bytes : new.failures ≡ old.failures → Gains old.contents new.contents text
   pub flushed : new.failures ≡ old.failures → old.unflushed ≡ 0 → new.unflushed ≡ 0
 
 -- the same where remarks may go nowhere

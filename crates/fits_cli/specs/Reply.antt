@@ -16,14 +16,14 @@ abbrev pub reply_text : ℕ → Reply → List ℕ
 reply_text number (Done text) = text.items
 reply_text number (Refused why clues) = complaint number (refusal_text why)
 reply_text number TooLong = complaint number (codes "too long")
-reply_text number NoCommand = complaint number (codes "not a command")
+reply_text number (NoCommand misfit) = complaint number (codes "not a command")
 
 -- the line was refused or bad
 abbrev pub counts_as_refused : Reply → Bool
 counts_as_refused (Done text) = false
 counts_as_refused (Refused why clues) = true
 counts_as_refused TooLong = true
-counts_as_refused NoCommand = true
+counts_as_refused (NoCommand misfit) = true
 
 -- what the outcome of a command with these clues is to its line: out of memory alone ends the run
 abbrev pub settled : Clues → Result (Vec ℕ Global) SessionRefusal → Result Reply AllocError

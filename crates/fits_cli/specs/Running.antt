@@ -1,10 +1,10 @@
 -- What private functions of a run keep to: how far a script has come.
-use Rattle.std.specs.Prelude.{◌≡◌, ◌⊎◌, ℕ, ◌+◌, ◌<◌, ◌≤◌, List, ◌∷◌, ◌++◌, length, take, Option, Result, Ok, Err}
+use Rattle.std.specs.Prelude.{◌≡◌, ◌⊎◌, ℕ, Bool, ◌+◌, ◌<◌, ◌≤◌, List, ◌∷◌, ◌++◌, length, take, Option, Result, Ok, Err}
 use Rattle.std.specs.Io.KnownBytes.{IsAtEnd}
 use Rattle.fits_stream.specs.Intake.{Tells}
 use Rattle.fits_session.specs.File.{FileParts}
 use Rattle.fits_cli.specs.Answer.{Standing, at_first_line, line_answer, line_left, LineNeedsMemory, WantsPixels}
-use Rattle.fits_cli.specs.Ends.{CameTo, HasLines, Opens}
+use Rattle.fits_cli.specs.Ends.{run_by, CameTo, HasLines, Opens, RunState}
 use Rattle.fits_script.specs.declared.limits.TheConstants.{LINE_LIMIT}
 use Rattle.fits_cli.specs.declared.limits.TheConstants.{SCRIPT_LIMIT}
 use Rattle.fits_script.specs.Line.{reading_of}
@@ -17,6 +17,10 @@ use Rattle.fits_cli.specs.declared.fault.Fault.TheVariants.{Refused, ScriptTooLo
 use Rattle.fits_cli.specs.declared.reread.Reread.{Reread}
 use Rattle.fits_cli.specs.declared.terms.Terms.{Terms}
 use Rattle.fits_cli.specs.Faults.{IsUnchanged}
+use Rattle.fits_cli.specs.Terms.{check_of}
+use Rattle.fits_cli.specs.declared.level.Level.TheVariants.{Quiet}
+use Rattle.fits_session.specs.Report.{report_of}
+use Rattle.fits_session.specs.declared.problem.Problem.{Problem}
 use Rattle.fits_session.specs.Marked.{Marked}
 use Rattle.fits_script.specs.declared.line_reading.LineReading.{LineReading}
 
@@ -214,15 +218,20 @@ FlushesAnswers (Err ReadFailed) result held holds =
 FlushesAnswers (Err WriteFailed) result held holds = (result ≡ Err WriteFailed) × (holds ≡ held)
 FlushesAnswers (Err (RereadFault why)) result held holds = FlushesThen (Err (RereadFault why)) result held holds
 
--- a script that was answered whole, and its answers flushed
-pub record IsFlushed (terms : Terms) (old new : SourceState) (parts : FileParts) (now : Standing) (held holds : SinkState) (told told_after : Option SinkState) : Type 0 where
-  pub mid : SinkState
-  pub script : AnswersScript old new (at_first_line terms parts) now (heard held told) (heard mid told_after)
-  pub flush : Flushes mid holds
-
--- a file was opened, and a script over it answered: things stand so
-pub record IsAnsweredRun (terms : Terms) (file file_after script script_after : SourceState) (out out_after : SinkState) (told told_after : Option SinkState) (now : Standing) : Type 0 where
+-- a file was opened, a script over it answered to its end, and the answers flushed; things stand so, and where problems count this was
+-- the report of the file
+pub record IsAnsweredRun (old new : RunState) (told told_after : Option SinkState) (now : Standing) (before : List Problem) : Type 0 where
   pub parts : FileParts
-  pub opened : Opens file parts
-  pub read : StaysQuiet file file_after
-  pub answered : IsFlushed terms script script_after parts now out out_after told told_after
+  pub opened : Opens old.file parts
+  pub read : StaysQuiet old.file new.file
+  pub mid : SinkState
+  pub script : AnswersScript old.script new.script (at_first_line old.terms parts) now (heard old.printed told) (heard mid told_after)
+  pub flush : Flushes mid new.printed
+  pub before_is : (check_of old.terms.saves ≡ Quiet → ⊥) → before ≡ report_of parts
+
+-- this is so of each run that was answered so, and whose sink of answers stands so then and later
+abbrev pub OverAnswered : Terms → Bool → Standing → List Problem → SinkState → SinkState → (RunState → RunState → Type 0) → Type 0
+OverAnswered terms stored now before answered printed Is =
+    (file after script script_after : SourceState) (held : SinkState) (told told_after : Option SinkState)
+    → IsAnsweredRun (run_by terms stored file script held) (run_by terms stored after script_after answered) told told_after now before
+    → Is (run_by terms stored file script held) (run_by terms stored after script_after printed)

@@ -1,17 +1,17 @@
 -- How a run ends that prints a text of a file, as `list`, `sum`, `stat` and `verify` do (own).
-use Rattle.std.specs.Prelude.{◌≡◌, ◌⊎◌, ℕ, List, MatchOption}
+use Rattle.std.specs.Prelude.{◌≡◌, ◌⊎◌, ℕ, Bool, List, [], MatchOption, if◌then◌else◌}
 use Rattle.fits_stream.specs.Intake.{Gives}
-use Rattle.fits_stream.specs.Stream.{AppendsFront, SourceState, SinkState, FailsOnce, Prints, PrintsFront, StaysQuiet}
-use Rattle.fits_session.specs.File.{FileParts}
+use Rattle.fits_stream.specs.Stream.{GainsFront, SourceState, SinkState, FailsOnce, Prints, PrintsFront, StaysQuiet}
+use Rattle.fits_session.specs.File.{FileParts, IsFileOf}
 use Rattle.fits_session.specs.Headers.{cards_of}
 use Rattle.fits_session.specs.Opening.{HasOpenFault}
 use Rattle.fits_session.specs.Report.{report_of}
 use Rattle.fits_session.specs.declared.open_fault.OpenFault.{OpenFault}
-use Rattle.fits_cli.specs.CardReport.{card_report_text}
+use Rattle.fits_session.specs.declared.problem.Problem.{Problem}
 use Rattle.fits_cli.specs.Ends.{Opens}
 use Rattle.fits_cli.specs.Faults.{status_of_fault}
 use Rattle.fits_cli.specs.Listing.{listing}
-use Rattle.fits_cli.specs.Report.{report_text, status_of_report, strict_status}
+use Rattle.fits_cli.specs.Report.{report_text, status_of_report}
 use Rattle.fits_cli.specs.Stating.{stating}
 use Rattle.fits_cli.specs.Summing.{status_of_sums, summing, wrong_summing}
 use Rattle.fits_cli.specs.Untouched.{untouched}
@@ -21,6 +21,17 @@ use Rattle.fits_cli.specs.declared.fault.Fault.TheVariants.{Refused, ScriptTooLo
 use Rattle.fits_cli.specs.declared.telling.Telling.{Telling}
 use Rattle.fits_cli.specs.declared.telling.Telling.TheVariants as telling
 
+-- the headers whose cards a report is told with: all of a file, or none
+abbrev pub told_headers : Bool → FileParts → List (List (List ℕ))
+told_headers cards file = if cards then cards_of file.hdus else []
+
+-- these are the report of the file that bytes are, and the headers that it is told with
+pub record IsToldReport (cards : Bool) (report : List Problem) (headers : List (List (List ℕ))) (bytes : List ℕ) : Type 0 where
+  pub file : FileParts
+  pub opened : IsFileOf bytes file
+  pub all : report ≡ report_of file
+  pub told : headers ≡ told_headers cards file
+
 -- the text of a file
 abbrev pub text_of : Telling → FileParts → List ℕ
 text_of telling.List file = listing file
@@ -28,10 +39,7 @@ text_of telling.Sums file = summing file
 text_of telling.WrongSums file = wrong_summing file
 text_of telling.Untouched file = untouched file
 text_of telling.Statistics file = stating file
-text_of (telling.Report level) file = report_text level (report_of file)
-text_of (telling.StrictReport level) file = report_text level (report_of file)
-text_of (telling.CardReport level) file = card_report_text level (cards_of file.hdus) (report_of file)
-text_of (telling.StrictCardReport level) file = card_report_text level (cards_of file.hdus) (report_of file)
+text_of (telling.Report level strict cards) file = report_text level (told_headers cards file) (report_of file)
 
 -- the status of a run that has printed it
 abbrev pub status_of_text : Telling → FileParts → ℕ
@@ -40,10 +48,7 @@ status_of_text telling.Sums file = 0
 status_of_text telling.WrongSums file = status_of_sums file
 status_of_text telling.Untouched file = 0
 status_of_text telling.Statistics file = 0
-status_of_text (telling.Report level) file = status_of_report (report_of file)
-status_of_text (telling.StrictReport level) file = strict_status (report_of file)
-status_of_text (telling.CardReport level) file = status_of_report (report_of file)
-status_of_text (telling.StrictCardReport level) file = strict_status (report_of file)
+status_of_text (telling.Report level strict cards) file = status_of_report strict (report_of file)
 
 -- the text is printed and flushed
 pub record TextIsPrinted (kind : Telling) (file file_after : SourceState) (out out_after : SinkState) (status : ℕ) : Type 0 where
@@ -73,7 +78,7 @@ pub record TextIsOutOfMemory (kind : Telling) (file file_after : SourceState) (o
   pub read : StaysQuiet file file_after
   pub quiet : out_after.failures ≡ out.failures
   pub printed : (out_after ≡ out)
-      ⊎ ((parts : FileParts) × Opens file parts × AppendsFront out.contents out_after.contents (text_of kind parts))
+      ⊎ ((parts : FileParts) × Opens file parts × GainsFront out.contents out_after.contents (text_of kind parts))
 
 -- a read failed: nothing is printed
 pub record TextFileFails (file file_after : SourceState) (out out_after : SinkState) : Type 0 where
@@ -91,7 +96,7 @@ pub record TextFails (kind : Telling) (file file_after : SourceState) (out out_a
 abbrev pub PrintingStops : List ℕ → SinkState → SinkState → Fault → Type 0
 PrintingStops text out out_after (Refused why) = ⊥
 PrintingStops text out out_after ScriptTooLong = ⊥
-PrintingStops text out out_after Memory = AppendsFront out.contents out_after.contents text × (out_after.failures ≡ out.failures)
+PrintingStops text out out_after Memory = GainsFront out.contents out_after.contents text × (out_after.failures ≡ out.failures)
 PrintingStops text out out_after ReadFailed = ⊥
 PrintingStops text out out_after WriteFailed = PrintsFront text out out_after
 PrintingStops text out out_after (RereadFault why) = ⊥

@@ -1,7 +1,29 @@
 -- The terms of a run that edits (own).
-use Rattle.std.specs.Prelude.{false}
+use Rattle.std.specs.Prelude.{ℕ, ◌&&◌, nat_lt, Bool, false}
+use Rattle.fits_cli.specs.declared.level.Level.{Level}
+use Rattle.fits_cli.specs.declared.level.Level.TheVariants.{Quiet}
+use Rattle.fits_cli.specs.declared.saves.Saves.{Saves}
+use Rattle.fits_cli.specs.declared.saves.Saves.TheVariants.{Made, Nothing}
 use Rattle.fits_cli.specs.declared.terms.Terms.{Terms}
+
+-- every line is to be done
+abbrev pub is_whole : Saves → Bool
+is_whole Nothing = false
+is_whole (Made whole check) = whole
+
+-- lines that weren't done keep the result from being saved, where every one is to be
+abbrev pub holds_back : Saves → ℕ → Bool
+holds_back saves undone = is_whole saves && nat_lt 0 undone
+
+-- the level of the problems that keep the result from being saved
+abbrev pub check_of : Saves → Level
+check_of Nothing = Quiet
+check_of (Made whole check) = check
 
 -- plain terms: no sums are kept right, and a file is saved whatever its script did
 abbrev pub plain : Terms
-plain = record { sums = false; spare = false }
+plain = record { sums = false; spare = false; saves = Made false Quiet }
+
+-- the terms of a run that saves nothing
+abbrev pub asking : Terms
+asking = record { sums = false; spare = false; saves = Nothing }

@@ -3,6 +3,7 @@ ghost use Rattle.std.specs.Prelude.{◌≡◌, List};
 ghost use Rattle.fits_cli.specs.NewErrors.{has_more, AreCounts};
 ghost use Rattle.fits_session.specs.declared.problem.Problem.{Problem};
 
+use crate::level::Level;
 use fits_codes::Code;
 use fits_session::Problem;
 
@@ -20,17 +21,16 @@ pub(crate) fn counts_of(report: &[Problem]) -> [usize; NUMBERS]
     counts
 }
 
-/// Whether a code is an error, or any code where it is strict, and there is more of it than there
-/// was.
+/// Whether a level lists a code, and there is more of it than there was.
 pub(crate) fn has_more(
-    strict: bool,
+    level: Level,
     had: &[usize; NUMBERS],
     has: &[usize; NUMBERS],
     code: Code,
 ) -> bool
     ensures { (before after : List Problem) → AreCounts before had.now → AreCounts after has.now
-        → result ≡ has_more strict before after code }
+        → result ≡ has_more level before after code }
 {
     let number = code.number() as usize;
-    (strict || code.is_error()) && had[number] < has[number]
+    level.lists(code) && had[number] < has[number]
 }

@@ -1,22 +1,25 @@
-//! The run of `edit`: a file, a script, answers, and the file saved.
-ghost use Rattle.std.specs.Prelude.{◌≡◌, false, true, not, IfOk, IfErr, OnErr, OnOk, MatchOption};
+//! The run of a script over a file: a file, a script, answers, and what the script made of the file.
+ghost use Rattle.std.specs.Prelude.{◌≡◌, false, true, not, AllPairs, IfOk, IfErr, OnErr, OnOk};
 ghost use Rattle.std.specs.Option.{option_map};
-ghost use Rattle.fits_stream.specs.Stream.{SinkState, SourceState};
+ghost use Rattle.fits_stream.specs.Stream.{SourceState};
 ghost use Rattle.fits_session.specs.Away.{at_start, AllTell};
 ghost use Rattle.fits_session.specs.Marked.{unmarked};
+ghost use Rattle.fits_session.specs.Report.{IsListedBefore};
 ghost use Rattle.fits_session.specs.Session.{file_of, marked_of};
-ghost use Rattle.fits_cli.specs.Faults.{RunCounts};
-ghost use Rattle.fits_cli.specs.Ends.{run, run_by, AreAllRemarks, AreToldOf, EndsAs, EndsBy, OverFile, RemarksEndAs, StopsBy};
-ghost use Rattle.fits_cli.specs.Running.{FlushesAnswers, IsFlushed};
+ghost use Rattle.fits_cli.specs.Faults.{FaultCounts, RunCounts};
+ghost use Rattle.fits_cli.specs.Ends.{run, run_by, AreToldOf, EndsAs, EndsBy, OverFile, RemarksBy, StopsBy};
+ghost use Rattle.fits_cli.specs.Running.{FlushesAnswers, IsAnsweredRun, OverAnswered};
 
-use crate::end::End;
+use crate::edited::Edited;
+use crate::end::{End, end_of};
 use crate::fault::Fault;
-use crate::printing::flush;
+use crate::printing::{flush, print_at_once};
 use crate::remarking::Silence;
 use crate::runner::Runner;
+use crate::saves::Saves;
 use crate::script::answer_script;
 use crate::terms::{PLAIN, Terms};
-use fits_session::{Holder, Session};
+use fits_session::{Holder, Problem, Session};
 use fits_stream::{FailedReads, Sink, Source, Stored};
 use std::alloc::Global;
 
@@ -32,15 +35,16 @@ pub fn run_edit<F: Source, S: Source, P: Sink, O: Sink>(
     out: &mut O,
 ) -> End
     ensures { EndsAs
-        (run (F.state file.old) (S.state script.old) (O.state out.old) (P.state saved.old))
-        (run (F.state file.new) (S.state script.new) (O.state out.new) (P.state saved.new))
-        result }
+        (run (F.state file.old) (S.state script.old) (O.state out.old))
+        (run (F.state file.new) (S.state script.new) (O.state out.new))
+        (P.state saved.old) (P.state saved.new) result }
 {
     let mut told: Silence = None;
-    run_edit_told(alloc, PLAIN, file, script, saved, out, &mut told)
+    end_of(run_edit_told(alloc, PLAIN, file, script, saved, out, &mut told))
 }
 
-/// The same. Remarks on the lines that aren't done go to `told`, if they are wanted.
+/// The same on any terms. The lines of problems that keep the result from being saved go to `out`,
+/// after the answers; remarks on the lines that aren't done go to `told`, if they are wanted.
 pub fn run_edit_told<F: Source, S: Source, P: Sink, O: Sink, E: Sink>(
     alloc: Global,
     terms: Terms,
@@ -49,18 +53,16 @@ pub fn run_edit_told<F: Source, S: Source, P: Sink, O: Sink, E: Sink>(
     saved: &mut P,
     out: &mut O,
     told: &mut Option<E>,
-) -> End
-    ensures ends { EndsAs
-        (run_by terms false
-        (F.state file.old) (S.state script.old) (O.state out.old) (P.state saved.old))
-        (run_by terms false
-        (F.state file.new) (S.state script.new) (O.state out.new) (P.state saved.new))
-        result }
-    ensures told { RemarksEndAs terms (F.state file.old) (S.state script.old) (S.state script.new)
+) -> Result<Edited, Fault>
+    ensures ends { EndsBy
+        (run_by terms false (F.state file.old) (S.state script.old) (O.state out.old))
+        (run_by terms false (F.state file.new) (S.state script.new) (O.state out.new))
+        (P.state saved.old) (P.state saved.new) result }
+    ensures told { RemarksBy terms (F.state file.old) (S.state script.old) (S.state script.new)
         (option_map E.state told.old) (option_map E.state told.new) result }
 {
     match Session::read(alloc, file) {
-        Ok(session) => run_over(
+        Ok(session) => edit(
             alloc,
             terms,
             session,
@@ -70,7 +72,7 @@ pub fn run_edit_told<F: Source, S: Source, P: Sink, O: Sink, E: Sink>(
             out,
             told,
         ),
-        Err(why) => End::from(Fault::from(why)),
+        Err(why) => Err(Fault::from(why)),
     }
 }
 
@@ -86,56 +88,25 @@ pub fn run_edit_stored<F: Stored, S: Source, P: Sink, O: Sink, E: Sink>(
     saved: &mut P,
     out: &mut O,
     told: &mut Option<E>,
-) -> End
-    ensures ends { AllTell F.bytes → (after : SourceState) × EndsAs
-        (run_by terms true (at_start (F.bytes file.now) failed.old)
-        (S.state script.old) (O.state out.old) (P.state saved.old))
-        (run_by terms true after (S.state script.new) (O.state out.new) (P.state saved.new))
-        result }
-    ensures told { AllTell F.bytes → RemarksEndAs terms (at_start (F.bytes file.now) failed.old)
+) -> Result<Edited, Fault>
+    ensures ends { AllTell F.bytes → (after : SourceState) × EndsBy
+        (run_by terms true (at_start (F.bytes file.now) failed.old) (S.state script.old) (O.state out.old))
+        (run_by terms true after (S.state script.new) (O.state out.new))
+        (P.state saved.old) (P.state saved.new) result }
+    ensures told { AllTell F.bytes → RemarksBy terms (at_start (F.bytes file.now) failed.old)
         (S.state script.old) (S.state script.new)
         (option_map E.state told.old) (option_map E.state told.new) result }
-    ensures counted { MatchOption result.fault (failed.new ≡ failed.old)
-        (RunCounts failed.old failed.new (S.state script.old) (S.state script.new)) }
+    ensures quiet { OnOk result (failed.new ≡ failed.old) }
+    ensures counted { IfErr result (RunCounts failed.old failed.new
+        (S.state script.old) (S.state script.new)) }
 {
     match Session::read_stored(alloc, file, failed) {
-        Ok(session) => run_over(alloc, terms, session, failed, script, saved, out, told),
-        Err(why) => End::from(Fault::from(why)),
+        Ok(session) => edit(alloc, terms, session, failed, script, saved, out, told),
+        Err(why) => Err(Fault::from(why)),
     }
 }
 
 // The run over a file that was opened.
-fn run_over<H: Holder + Drop, S: Source, P: Sink, O: Sink, E: Sink>(
-    alloc: Global,
-    terms: Terms,
-    session: Session<H>,
-    failed: &mut FailedReads,
-    script: &mut S,
-    saved: &mut P,
-    out: &mut O,
-    told: &mut Option<E>,
-) -> End
-    requires { marked_of session ≡ unmarked (file_of session) }
-    ensures ends { H.steady → OverFile (file_of session) (λ file after. EndsAs
-        (run_by terms (not H.whole) file (S.state script.old) (O.state out.old) (P.state saved.old))
-        (run_by terms (not H.whole) after (S.state script.new) (O.state out.new) (P.state saved.new))
-        result) }
-    ensures told { H.steady → OverFile (file_of session) (λ file after. RemarksEndAs terms file
-        (S.state script.old) (S.state script.new)
-        (option_map E.state told.old) (option_map E.state told.new) result) }
-    ensures counted { MatchOption result.fault (failed.new ≡ failed.old)
-        (RunCounts failed.old failed.new (S.state script.old) (S.state script.new)) }
-{
-    match edit(alloc, terms, session, failed, script, saved, out, told) {
-        Ok(status) => End {
-            status,
-            fault: None,
-        },
-        Err(fault) => End::from(fault),
-    }
-}
-
-// The run as a result: its status, or the fault that ended it.
 fn edit<H: Holder + Drop, S: Source, P: Sink, O: Sink, E: Sink>(
     alloc: Global,
     terms: Terms,
@@ -145,29 +116,26 @@ fn edit<H: Holder + Drop, S: Source, P: Sink, O: Sink, E: Sink>(
     saved: &mut P,
     out: &mut O,
     told: &mut Option<E>,
-) -> Result<u8, Fault>
+) -> Result<Edited, Fault>
     requires { marked_of session ≡ unmarked (file_of session) }
     ensures ends { H.steady → OverFile (file_of session) (λ file after. EndsBy
-        (run_by terms (not H.whole) file (S.state script.old) (O.state out.old) (P.state saved.old))
-        (run_by terms (not H.whole) after (S.state script.new) (O.state out.new) (P.state saved.new))
-        result) }
-    ensures all { H.steady → OnOk result (OverFile (file_of session) (λ file after. AreAllRemarks terms
-        file (S.state script.old) (option_map E.state told.old) (option_map E.state told.new))) }
-    ensures some { H.steady → OnErr result (OverFile (file_of session) (λ file after. AreToldOf terms
-        file (S.state script.old) (S.state script.new)
-        (option_map E.state told.old) (option_map E.state told.new))) }
+        (run_by terms (not H.whole) file (S.state script.old) (O.state out.old))
+        (run_by terms (not H.whole) after (S.state script.new) (O.state out.new))
+        (P.state saved.old) (P.state saved.new) result) }
+    ensures told { H.steady → OverFile (file_of session) (λ file after. RemarksBy terms file
+        (S.state script.old) (S.state script.new)
+        (option_map E.state told.old) (option_map E.state told.new) result) }
     ensures quiet { OnOk result (failed.new ≡ failed.old) }
     ensures counted { IfErr result (RunCounts failed.old failed.new
         (S.state script.old) (S.state script.new)) }
 {
-    let mut runner = answered(alloc, terms, session, failed, script, out, told)?;
-    runner.save(terms, failed, saved)?;
-    Ok(runner.status())
+    let (mut runner, before) = answered(alloc, terms, session, failed, script, out, told)?;
+    save_result(alloc, terms, &mut runner, &before, failed, saved, out)
 }
 
-/// Answers a script over a file that was opened, and flushes the answers. Remarks on its lines go to
-/// `told`.
-pub(crate) fn answered<H: Holder + Drop, S: Source, O: Sink, E: Sink>(
+// Answers a script over a file that was opened, and flushes the answers. Before the first line it
+// asks for the report of the file, where that is wanted.
+fn answered<H: Holder + Drop, S: Source, O: Sink, E: Sink>(
     alloc: Global,
     terms: Terms,
     session: Session<H>,
@@ -175,16 +143,16 @@ pub(crate) fn answered<H: Holder + Drop, S: Source, O: Sink, E: Sink>(
     script: &mut S,
     out: &mut O,
     told: &mut Option<E>,
-) -> Result<Runner<H>, Fault>
+) -> Result<(Runner<H>, Vec<Problem>), Fault>
     requires { marked_of session ≡ unmarked (file_of session) }
-    ensures ok { H.steady → IfOk result (λ runner. IsFlushed terms
-        (S.state script.old) (S.state script.new) (file_of session) runner
-        (O.state out.old) (O.state out.new)
-        (option_map E.state told.old) (option_map E.state told.new)) }
-    ensures err { H.steady → IfErr result (λ fault. OverFile (file_of session) (λ file after.
-        (saved : SinkState) → StopsBy
-        (run_by terms (not H.whole) file (S.state script.old) (O.state out.old) saved)
-        (run_by terms (not H.whole) after (S.state script.new) (O.state out.new) saved) fault)) }
+    ensures ok { H.steady → IfOk result (λ done. OverFile (file_of session) (λ file after. IsAnsweredRun
+        (run_by terms (not H.whole) file (S.state script.old) (O.state out.old))
+        (run_by terms (not H.whole) after (S.state script.new) (O.state out.new))
+        (option_map E.state told.old) (option_map E.state told.new) done.0 done.1.items)) }
+    ensures ordered { IfOk result (λ done. AllPairs IsListedBefore done.1.items) }
+    ensures err { H.steady → IfErr result (λ fault. OverFile (file_of session) (λ file after. StopsBy
+        (run_by terms (not H.whole) file (S.state script.old) (O.state out.old))
+        (run_by terms (not H.whole) after (S.state script.new) (O.state out.new)) fault)) }
     ensures told { H.steady → OnErr result (OverFile (file_of session) (λ file after. AreToldOf terms
         file (S.state script.old) (S.state script.new)
         (option_map E.state told.old) (option_map E.state told.new))) }
@@ -193,13 +161,14 @@ pub(crate) fn answered<H: Holder + Drop, S: Source, O: Sink, E: Sink>(
         (S.state script.old) (S.state script.new)) }
 {
     let mut runner = Runner::new(session, terms);
+    let before = runner.report_for(alloc, terms.saves.check())?;
     let answered = answer_script(alloc, &mut runner, failed, script, out, told);
     flush_answers(answered, out)?;
-    Ok(runner)
+    Ok((runner, before))
 }
 
-/// Flushes the answers to a script, which are of use whatever ended it.
-pub(crate) fn flush_answers<O: Sink>(answered: Result<(), Fault>, out: &mut O) -> Result<(), Fault>
+// Flushes the answers to a script, which are of use whatever ended it.
+fn flush_answers<O: Sink>(answered: Result<(), Fault>, out: &mut O) -> Result<(), Fault>
     ensures { FlushesAnswers answered result (O.state out.old) (O.state out.new) }
 {
     match answered {
@@ -213,6 +182,44 @@ pub(crate) fn flush_answers<O: Sink>(answered: Result<(), Fault>, out: &mut O) -
         _ => {
             flush(out)?;
             answered
+        }
+    }
+}
+
+// Saves what a script made of a file that had this report, unless something keeps it from being
+// saved: a line that wasn't done, or a problem that is new.
+fn save_result<H: Holder + Drop, P: Sink, O: Sink>(
+    alloc: Global,
+    terms: Terms,
+    runner: &mut Runner<H>,
+    before: &[Problem],
+    failed: &mut FailedReads,
+    saved: &mut P,
+    out: &mut O,
+) -> Result<Edited, Fault>
+    requires { AllPairs IsListedBefore before.now }
+    ensures ends { H.steady → OverAnswered terms (not H.whole) runner.old before.now
+        (O.state out.old) (O.state out.new)
+        (λ old new. EndsBy old new (P.state saved.old) (P.state saved.new) result) }
+    ensures quiet { OnOk result (failed.new ≡ failed.old) }
+    ensures counted { IfErr result (FaultCounts failed.old failed.new) }
+{
+    match terms.saves {
+        Saves::Nothing => Ok(Edited::Done(runner.status())),
+        Saves::Made { check, .. } => {
+            if runner.is_held_back(terms.saves) {
+                return Ok(Edited::KeptBack(runner.refused()));
+            }
+            let found = runner.errors_since(alloc, check, before)?;
+            if found.are_some() {
+                print_at_once(out, &found.text)?;
+                return Ok(Edited::Unsound {
+                    errors: found.errors,
+                    warnings: found.warnings,
+                });
+            }
+            runner.save(terms, failed, saved)?;
+            Ok(Edited::Done(runner.status()))
         }
     }
 }

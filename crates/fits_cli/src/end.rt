@@ -1,5 +1,7 @@
 ghost use Rattle.std.specs.Prelude.{◌≡◌, if◌then◌else◌};
+ghost use Rattle.fits_cli.specs.Ends.{end_of};
 
+use crate::edited::Edited;
 use crate::fault::Fault;
 
 /// How a run ended.
@@ -24,6 +26,19 @@ impl From<Fault> for End {
             status: why.status(),
             fault: Some(why),
         }
+    }
+}
+
+/// How a run ended, whatever kept its result from being saved.
+pub(crate) fn end_of(edited: Result<Edited, Fault>) -> End
+    ensures { result ≡ end_of edited }
+{
+    match edited {
+        Ok(it) => End {
+            status: it.status(),
+            fault: None,
+        },
+        Err(why) => End::from(why),
     }
 }
 

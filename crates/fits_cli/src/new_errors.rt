@@ -1,4 +1,4 @@
-//! Errors of a report that another hasn't, and warnings where these count too.
+//! Problems of a report that another hasn't, of those that a level lists.
 ghost use Rattle.std.specs.Prelude.{◌≡◌, ◌++◌, List, AllPairs, IfOk, OnOk};
 ghost use Rattle.fits_session.specs.Report.{IsListedBefore};
 ghost use Rattle.fits_session.specs.declared.problem.Problem.{Problem};
@@ -7,11 +7,12 @@ ghost use Rattle.fits_cli.specs.NewErrors.{is_listed_before, is_new, is_same, ne
 
 use crate::code_counts::{NUMBERS, counts_of, has_more};
 use crate::end::one_if;
+use crate::level::Level;
 use crate::report_text::push_problem;
 use fits_session::Problem;
 use std::alloc::{AllocError, Global};
 
-/// New errors and warnings: their lines, and how many there are.
+/// New problems: their lines, and how many are errors and warnings.
 #[derive(Drop)]
 pub(crate) struct NewErrors {
     pub text: Vec<u8>,
@@ -20,7 +21,20 @@ pub(crate) struct NewErrors {
 }
 
 impl NewErrors {
-    ghost use Rattle.std.specs.Prelude.{◌≡◌, ◌+◌, nat_lt};
+    ghost use Rattle.std.specs.Prelude.{◌≡◌, ◌+◌, [], nat_lt};
+
+    /// None.
+    pub(crate) fn none(alloc: Global) -> NewErrors
+        ensures text { result.text.items ≡ [] }
+        ensures errors { result.errors ≡ 0 }
+        ensures warnings { result.warnings ≡ 0 }
+    {
+        NewErrors {
+            text: Vec::new(alloc),
+            errors: 0,
+            warnings: 0,
+        }
+    }
 
     /// Whether there are any.
     pub(crate) fn are_some(&self) -> bool
@@ -30,22 +44,21 @@ impl NewErrors {
     }
 }
 
-/// The errors of the report after that are new since the one before, and where it is strict the
-/// warnings.
+/// The problems of the report after that are new since the one before, of those that a level lists.
 #[tactic(auto, unfolding(crate::specs::NewErrors::new_errors))]
 pub(crate) fn errors_since(
     alloc: Global,
-    strict: bool,
+    level: Level,
     before: &[Problem],
     after: &[Problem],
 ) -> Result<NewErrors, AllocError>
     requires { AllPairs IsListedBefore before.now }
     ensures text { IfOk result (λ found. found.text.items
-        ≡ new_error_lines (new_errors strict before.now after.now)) }
+        ≡ new_error_lines (new_errors level before.now after.now)) }
     ensures errors { IfOk result (λ found. found.errors
-        ≡ errors_in (new_errors strict before.now after.now)) }
+        ≡ errors_in (new_errors level before.now after.now)) }
     ensures warnings { IfOk result (λ found. found.warnings
-        ≡ warnings_in (new_errors strict before.now after.now)) }
+        ≡ warnings_in (new_errors level before.now after.now)) }
 {
     let had = counts_of(before);
     let has = counts_of(after);
@@ -53,7 +66,7 @@ pub(crate) fn errors_since(
     let mut count = 0;
     let mut errors = 0;
     for it in after {
-        if is_new(strict, &had, &has, before, *it) {
+        if is_new(level, &had, &has, before, *it) {
             push_new_error(&mut text, *it)?;
             count += 1;
             errors += one_if(it.code.is_error()) as u64;
@@ -77,7 +90,7 @@ fn push_new_error(text: &mut Vec<u8>, it: Problem) -> Result<(), AllocError>
 
 // Whether a problem is new, by how many of each code there were and are.
 fn is_new(
-    strict: bool,
+    level: Level,
     had: &[usize; NUMBERS],
     has: &[usize; NUMBERS],
     before: &[Problem],
@@ -85,9 +98,9 @@ fn is_new(
 ) -> bool
     requires ordered { AllPairs IsListedBefore before.now }
     requires counted { AreCounts before.now had.now }
-    ensures { (after : List Problem) → AreCounts after has.now → result ≡ is_new strict before.now after it }
+    ensures { (after : List Problem) → AreCounts after has.now → result ≡ is_new level before.now after it }
 {
-    has_more(strict, had, has, it.code) && !stands_in(before, it)
+    has_more(level, had, has, it.code) && !stands_in(before, it)
 }
 
 // Whether a problem stands in a report. About as many of its problems are looked at as it has

@@ -1,7 +1,7 @@
 //! The card that a problem of a report is at.
 ghost use Rattle.std.specs.Prelude.{◌≡◌, ◌++◌, OnOk};
 ghost use Rattle.fits_session.specs.Headers.{read_cards};
-ghost use Rattle.fits_cli.specs.CardReport.{after_colon, card_in, card_of, card_problem_line};
+ghost use Rattle.fits_cli.specs.Report.{after_colon, card_in, card_of, card_problem_line};
 
 use crate::card_lines::push_shown_text;
 use crate::report_text::push_problem_text;
@@ -9,8 +9,8 @@ use fits_card::{Card, CardList};
 use fits_session::Problem;
 use std::alloc::AllocError;
 
-/// `CODE HDU PLACE TEXT: CARD`, and of an HDU as a whole `CODE HDU 0 TEXT`
-#[tactic(auto, unfolding(crate::specs::CardReport::card_problem_line))]
+/// `CODE HDU PLACE TEXT: CARD`, and without a card `CODE HDU PLACE TEXT`
+#[tactic(auto, unfolding(crate::specs::Report::card_problem_line))]
 pub(crate) fn push_card_problem(
     line: &mut Vec<u8>,
     it: Problem,

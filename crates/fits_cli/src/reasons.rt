@@ -9,7 +9,7 @@ ghost use Rattle.fits_cli.specs.Remark.{unwritable_in, unwritable_of_cards, unwr
 use crate::clues::Clues;
 use crate::reason::Reason;
 use fits_card::Name;
-use fits_script::Command;
+use fits_script::{Command, ends_in_return};
 use fits_session::{CardEdit, Edit, HduEdit, Refusal};
 use fits_value::{Unwritable, unwritable_of};
 
@@ -52,13 +52,6 @@ fn unless_returned(line: &[u8], reason: Reason) -> Reason
     } else {
         reason
     }
-}
-
-// Whether a line ends in a carriage return.
-fn ends_in_return(line: &[u8]) -> bool
-    ensures { result ≡ ends_in_return line.now }
-{
-    matches!(line, [.., b'\r'])
 }
 
 // A keyword name with a small letter is none.

@@ -1,16 +1,14 @@
 //! Remarks on the lines of a script that weren't done: which, and how they are said.
-ghost use Rattle.std.specs.Prelude.{◌≡◌, ◌++◌, true, codes, OnErr, OnOk};
+ghost use Rattle.std.specs.Prelude.{◌≡◌, OnErr, OnOk};
 ghost use Rattle.std.specs.Option.{option_map};
 ghost use Rattle.fits_stream.specs.Stream.{Prints, PrintsFront};
-ghost use Rattle.fits_session.specs.Refusal.{refusal_text};
 ghost use Rattle.fits_cli.specs.Answer.{complaint};
-ghost use Rattle.fits_cli.specs.Remark.{plain_text, reason_text, remark_by, remark_line, remark_text, IsSaid, Remarks};
+ghost use Rattle.fits_cli.specs.Remark.{plain_text, reason_text, refused_text, remark_by, remark_line, words_of, IsSaid, Remarks};
 
 use crate::reason::Reason;
 use crate::reasons::reason_of;
-use crate::remark::Remark;
-use crate::reply::Reply;
-use fits_script::{misfit_of, write_misfit, write_unwritable};
+use crate::reply::{Reply, counts_as_refused};
+use fits_script::{write_misfit, write_unwritable};
 use fits_session::Refusal;
 use fits_stream::{Sink, Watched, write_all};
 use itoa::Buffer;
@@ -19,92 +17,81 @@ use std::io;
 /// No sink of remarks: none are wanted.
 pub(crate) type Silence = Option<Watched<io::Sink>>;
 
-/// What is said of a line that came to this, where that is wanted. It takes no memory.
-pub(crate) fn remark_on<'a>(wanted: bool, line: &'a [u8], reply: &Reply) -> Option<Remark<'a>>
-    ensures { wanted ≡ true → result ≡ remark_by line.now reply.now }
-{
-    if !wanted {
-        return None;
-    }
-    remark_by(line, reply)
-}
-
-// What is said of a line that came to this.
-#[tactic(auto, unfolding(crate::specs::Remark::remark_by))]
-fn remark_by<'a>(line: &'a [u8], reply: &Reply) -> Option<Remark<'a>>
-    ensures { result ≡ remark_by line.now reply.now }
-{
-    match reply {
-        Reply::Done(_) => None,
-        Reply::Refused(why, clues) => {
-            let reason = reason_of(line, *clues, *why);
-            Some(Remark::Refused(*why, reason))
-        }
-        Reply::TooLong => Some(Remark::TooLong),
-        Reply::NoCommand => misfit_of(line).map(Remark::NoCommand),
-    }
-}
-
-/// Says a remark on line `number`, and passes it on. Where that fails the remark is lost, and
-/// nothing else: there is nobody left to tell.
-pub(crate) fn say<E: Sink>(told: &mut Option<E>, number: u64, remark: &Option<Remark<'_>>)
-    ensures { Remarks (remark_line number remark.now)
+/// Says what is to be said of line `number`, which came to this, and passes it on, where somebody
+/// hears it. Where that fails the remark is lost, and nothing else: there is nobody left to tell.
+pub(crate) fn say<E: Sink>(told: &mut Option<E>, number: u64, line: &[u8], reply: &Reply<'_>)
+    ensures { Remarks (remark_line number (remark_by line.now reply.now))
         (option_map E.state told.old) (option_map E.state told.new) }
 {
-    match (told, remark) {
-        (Some(sink), Some(remark)) => say_to(sink, number, remark),
-        _ => {}
+    match told {
+        Some(sink) => say_if(sink, number, line, reply),
+        None => {}
+    }
+}
+
+// The same to who hears it.
+fn say_if<E: Sink>(sink: &mut E, number: u64, line: &[u8], reply: &Reply<'_>)
+    ensures { IsSaid (remark_line number (remark_by line.now reply.now))
+        (E.state sink.old) (E.state sink.new) }
+{
+    if counts_as_refused(reply) {
+        say_to(sink, number, line, reply);
     }
 }
 
 // Says a remark, and passes it on.
-fn say_to<E: Sink>(sink: &mut E, number: u64, remark: &Remark<'_>)
-    ensures { IsSaid (complaint number (remark_text remark.now))
+fn say_to<E: Sink>(sink: &mut E, number: u64, line: &[u8], reply: &Reply<'_>)
+    ensures { IsSaid (complaint number (words_of (remark_by line.now reply.now)))
         (E.state sink.old) (E.state sink.new) }
 {
-    let _ = write_line(sink, number, remark);
+    let _ = write_line(sink, number, line, reply);
     let _ = sink.flush();
 }
 
 // `line N: WHY`
 #[tactic(auto, using(fits_stream::proofs::StreamLemmas::printing_steps))]
-fn write_line<E: Sink>(sink: &mut E, number: u64, remark: &Remark<'_>) -> io::Result<()>
-    ensures ok { OnOk result (Prints (complaint number (remark_text remark.now))
+fn write_line<E: Sink>(
+    sink: &mut E,
+    number: u64,
+    line: &[u8],
+    reply: &Reply<'_>,
+) -> io::Result<()>
+    ensures ok { OnOk result (Prints (complaint number (words_of (remark_by line.now reply.now)))
         (E.state sink.old) (E.state sink.new)) }
-    ensures err { OnErr result (PrintsFront (complaint number (remark_text remark.now))
+    ensures err { OnErr result
+        (PrintsFront (complaint number (words_of (remark_by line.now reply.now)))
         (E.state sink.old) (E.state sink.new)) }
 {
     let mut digits = Buffer::new();
     write_all(sink, b"line ")?;
     write_all(sink, digits.format(number).as_bytes())?;
     write_all(sink, b": ")?;
-    write_remark(sink, remark)?;
+    write_remark(sink, line, reply)?;
     write_all(sink, b"\n")
 }
 
-// Writes a remark in words.
-#[tactic(auto, unfolding(crate::specs::Remark::remark_text))]
-fn write_remark<E: Sink>(sink: &mut E, remark: &Remark<'_>) -> io::Result<()>
-    ensures ok { OnOk result (Prints (remark_text remark.now)
+// Writes what is said of a line that came to this.
+#[tactic(auto, unfolding(crate::specs::Remark::remark_by))]
+fn write_remark<E: Sink>(sink: &mut E, line: &[u8], reply: &Reply<'_>) -> io::Result<()>
+    ensures ok { OnOk result (Prints (words_of (remark_by line.now reply.now))
         (E.state sink.old) (E.state sink.new)) }
-    ensures err { OnErr result (PrintsFront (remark_text remark.now)
+    ensures err { OnErr result (PrintsFront (words_of (remark_by line.now reply.now))
         (E.state sink.old) (E.state sink.new)) }
 {
-    match remark {
-        Remark::TooLong => write_all(sink, b"a line has at most 100000 bytes"),
-        Remark::NoCommand(misfit) => write_misfit(sink, misfit),
-        Remark::Refused(why, reason) => write_refused(sink, *why, *reason),
+    match reply {
+        Reply::Done(_) => Ok(()),
+        Reply::Refused(why, clues) => write_refused(sink, *why, reason_of(line, *clues, *why)),
+        Reply::TooLong => write_all(sink, b"a line has at most 100000 bytes"),
+        Reply::NoCommand(misfit) => write_misfit(sink, misfit),
     }
 }
 
 // Writes a refusal, and what it comes from.
 #[tactic(auto, using(fits_stream::proofs::StreamLemmas::printing_steps))]
 fn write_refused<E: Sink>(sink: &mut E, why: Refusal, reason: Reason) -> io::Result<()>
-    ensures ok { OnOk result (Prints
-        (refusal_text why ++ (codes ": " ++ reason_text why reason))
+    ensures ok { OnOk result (Prints (refused_text why reason)
         (E.state sink.old) (E.state sink.new)) }
-    ensures err { OnErr result (PrintsFront
-        (refusal_text why ++ (codes ": " ++ reason_text why reason))
+    ensures err { OnErr result (PrintsFront (refused_text why reason)
         (E.state sink.old) (E.state sink.new)) }
 {
     write_all(sink, why.text().as_bytes())?;

@@ -8,25 +8,29 @@ use crate::clues::Clues;
 use crate::complaint::print_complaint;
 use crate::fault::Fault;
 use crate::printing::print;
+use fits_script::Misfit;
 use fits_session::Refusal;
 use fits_stream::Sink;
 use std::alloc::AllocError;
 
 /// What a line comes to.
 #[derive(Drop)]
-pub(crate) enum Reply {
+pub(crate) enum Reply<'a> {
     /// Its command was done, and prints this text.
     Done(Vec<u8>),
     /// Its command was refused, and tells so much of why.
     Refused(Refusal, Clues),
     /// It is past the limit.
     TooLong,
-    /// It says no command.
-    NoCommand,
+    /// It says no command, and this is why.
+    NoCommand(Misfit<'a>),
 }
 
 /// What the outcome of a command with these clues is to its line: out of memory alone ends the run.
-pub(crate) fn settled(clues: Clues, outcome: Result<Vec<u8>, Refusal>) -> Result<Reply, AllocError>
+pub(crate) fn settled<'a>(
+    clues: Clues,
+    outcome: Result<Vec<u8>, Refusal>,
+) -> Result<Reply<'a>, AllocError>
     ensures { result ≡ settled clues outcome }
 {
     match outcome {
@@ -37,17 +41,17 @@ pub(crate) fn settled(clues: Clues, outcome: Result<Vec<u8>, Refusal>) -> Result
 }
 
 /// Whether a line that comes to this was refused or bad.
-pub(crate) fn counts_as_refused(reply: &Reply) -> bool
+pub(crate) fn counts_as_refused(reply: &Reply<'_>) -> bool
     ensures { result ≡ counts_as_refused reply.now }
 {
     match reply {
         Reply::Done(_) => false,
-        Reply::Refused(_, _) | Reply::TooLong | Reply::NoCommand => true,
+        Reply::Refused(_, _) | Reply::TooLong | Reply::NoCommand(_) => true,
     }
 }
 
 /// Prints what a line comes to. It takes no memory.
-pub(crate) fn print_reply<O: Sink>(out: &mut O, line: u64, reply: &Reply) -> Result<(), Fault>
+pub(crate) fn print_reply<O: Sink>(out: &mut O, line: u64, reply: &Reply<'_>) -> Result<(), Fault>
     ensures ok { OnOk result (Prints (reply_text line reply.now)
         (O.state out.old) (O.state out.new)) }
     ensures err { IfErr result (PrintFails (reply_text line reply.now)
@@ -57,6 +61,6 @@ pub(crate) fn print_reply<O: Sink>(out: &mut O, line: u64, reply: &Reply) -> Res
         Reply::Done(text) => print(out, text),
         Reply::Refused(why, _) => print_complaint(out, line, why.text()),
         Reply::TooLong => print_complaint(out, line, "too long"),
-        Reply::NoCommand => print_complaint(out, line, "not a command"),
+        Reply::NoCommand(_) => print_complaint(out, line, "not a command"),
     }
 }

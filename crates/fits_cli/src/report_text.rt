@@ -1,8 +1,9 @@
 //! The report of a file as it is printed.
-ghost use Rattle.std.specs.Prelude.{◌≡◌, ◌++◌, ◌≤◌, length, IfOk, OnOk};
+ghost use Rattle.std.specs.Prelude.{◌≡◌, ◌++◌, ◌≤◌, [], length, IfOk, OnOk};
 ghost use Rattle.fits_cli.specs.Report.{closing_line, counts_line, errors_in, problem_line, problem_text};
-ghost use Rattle.fits_cli.specs.Report.{report_text, status_of_report};
+ghost use Rattle.fits_cli.specs.Report.{decisive, report_text, status_of_report};
 
+use crate::end::one_if;
 use crate::level::Level;
 use crate::pushing::{push_both, push_number};
 use fits_session::Problem;
@@ -10,7 +11,7 @@ use std::alloc::{AllocError, Global};
 
 /// A line for each problem, and the closing line.
 pub(crate) fn report_text(alloc: Global, report: &[Problem]) -> Result<Vec<u8>, AllocError>
-    ensures { IfOk result (λ text. text.items ≡ report_text Level.All report.now) }
+    ensures { IfOk result (λ text. text.items ≡ report_text Level.All [] report.now) }
 {
     let mut text = Vec::new(alloc);
     for it in report {
@@ -59,10 +60,21 @@ fn push_counts(text: &mut Vec<u8>, errors: usize, warnings: usize) -> Result<(),
 }
 
 /// The status of a run that has printed a report, at whatever level.
-pub(crate) fn status_of_report(report: &[Problem]) -> u8
-    ensures { result ≡ status_of_report report.now }
+pub(crate) fn status_of_report(strict: bool, report: &[Problem]) -> u8
+    ensures { result ≡ status_of_report strict report.now }
 {
-    if count_errors(report) == 0 { 0 } else { 1 }
+    one_if(decisive(strict, report) != 0)
+}
+
+// How many problems decide it.
+fn decisive(strict: bool, report: &[Problem]) -> usize
+    ensures { result ≡ decisive strict report.now }
+{
+    if strict {
+        report.len()
+    } else {
+        count_errors(report)
+    }
 }
 
 #[tactic(auto, using(crate::proofs::ReportLemmas::count_steps))]

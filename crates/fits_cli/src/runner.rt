@@ -6,11 +6,13 @@ ghost use Rattle.fits_session.specs.Session.{file_of, marked_of};
 
 use crate::answer::{answer, is_edit};
 use crate::fault::Fault;
+use crate::level::Level;
 use crate::new_errors::{NewErrors, errors_since};
 use crate::printing::flush;
 use crate::readying::ready;
 use crate::reasons::clues_of;
 use crate::reply::{Reply, counts_as_refused, settled};
+use crate::saves::Saves;
 use crate::terms::Terms;
 use fits_script::{LineReading, read_line};
 use fits_session::{Holder, Problem, Session};
@@ -59,6 +61,8 @@ impl<H: Holder + Drop> Runner<H> {
     ghost use Rattle.fits_cli.specs.Faults.{FaultCounts, IsOnce, SaveFails};
     ghost use Rattle.fits_cli.specs.Running.{LacksReply};
     ghost use Rattle.fits_cli.specs.NewErrors.{new_error_lines, new_errors};
+    ghost use Rattle.fits_cli.specs.Terms.{holds_back};
+    ghost use Rattle.fits_cli.specs.declared.level.Level.TheVariants.{Quiet};
     ghost use Rattle.fits_session.specs.Marked.{unmarked};
     ghost use Rattle.fits_session.specs.Report.{report_of, IsListedBefore};
     ghost use Rattle.fits_session.specs.Session.{file_of, marked_of};
@@ -99,16 +103,23 @@ impl<H: Holder + Drop> Runner<H> {
         self.refused
     }
 
+    /// Whether lines that weren't done keep the result from being saved, where every one is to be.
+    pub(crate) fn is_held_back(&self, saves: Saves) -> bool
+        ensures { result ≡ holds_back saves self.now.refused }
+    {
+        saves.whole() && self.refused > 0
+    }
+
     /// Does what a line says, and goes on to the next one. Where clues are wanted the reply has them.
     /// Reads of the file that fail are counted.
     #[tactic(auto, unfolding(crate::specs::Answer::line_answer, crate::specs::Answer::line_left, crate::specs::Answer::LineNeedsMemory, crate::specs::Remark::remark_by, crate::specs::Remark::remark_on))]
-    pub(crate) fn reply(
+    pub(crate) fn reply<'a>(
         &mut self,
         alloc: Global,
         wanted: bool,
-        line: &[u8],
+        line: &'a [u8],
         failed: &mut FailedReads,
-    ) -> Result<Reply, Fault>
+    ) -> Result<Reply<'a>, Fault>
         requires { self.old.line + 1 < 2 ^ 64 }
         ensures text { H.steady → IfOk result (λ reply.
             reply_text self.old.line reply ≡ line_answer self.old (reading_of line.now)) }
@@ -125,7 +136,7 @@ impl<H: Holder + Drop> Runner<H> {
     {
         match read_line(alloc, line) {
             Ok(LineReading::TooLong) => Ok(self.pass(Reply::TooLong, false)),
-            Ok(LineReading::NoCommand) => Ok(self.pass(Reply::NoCommand, false)),
+            Ok(LineReading::NoCommand(misfit)) => Ok(self.pass(Reply::NoCommand(misfit), false)),
             Ok(LineReading::Said(command)) => {
                 ready(&mut self.session, &command, failed)?;
                 let clues = clues_of(wanted, &command);
@@ -138,14 +149,14 @@ impl<H: Holder + Drop> Runner<H> {
     }
 
     // Goes on to the next line, after one that came to this, whose command is an edit or isn't.
-    fn pass(&mut self, reply: Reply, edits: bool) -> Reply
+    fn pass<'a>(&mut self, reply: Reply<'a>, edits: bool) -> Reply<'a>
         requires { self.old.line + 1 < 2 ^ 64 }
-        ensures same { result ≡ reply }
+        ensures same { result ≡ reply.entry }
         ensures left { self.new ≡ record {
           marked = self.old.marked;
           line = self.old.line + 1;
-          refused = self.old.refused + (if counts_as_refused reply then 1 else 0);
-          edited = if counts_as_refused reply then self.old.edited else edits || self.old.edited;
+          refused = self.old.refused + (if counts_as_refused reply.entry then 1 else 0);
+          edited = if counts_as_refused reply.entry then self.old.edited else edits || self.old.edited;
         } }
     {
         self.line += 1;
@@ -157,33 +168,55 @@ impl<H: Holder + Drop> Runner<H> {
         reply
     }
 
-    /// What is wrong with the file as it stands.
-    pub(crate) fn report(&mut self) -> Result<Vec<Problem>, AllocError>
+    /// What is wrong with the file as it stands, where a level lists any of it.
+    pub(crate) fn report_for(
+        &mut self,
+        alloc: Global,
+        level: Level,
+    ) -> Result<Vec<Problem>, AllocError>
+        ensures value { (level ≡ Quiet → ⊥)
+            → IfOk result (λ report. report.items ≡ report_of self.old.marked.file) }
+        ensures ordered { IfOk result (λ report. AllPairs IsListedBefore report.items) }
+        ensures left { self.new ≡ self.old }
+    {
+        if let Level::Quiet = level {
+            return Ok(Vec::new(alloc));
+        }
+        self.report()
+    }
+
+    // What is wrong with the file as it stands.
+    fn report(&mut self) -> Result<Vec<Problem>, AllocError>
         ensures value { IfOk result (λ report. report.items ≡ report_of self.old.marked.file) }
         ensures left { self.new ≡ self.old }
     {
         self.session.report()
     }
 
-    /// The errors of the file as it stands that are new since this report, and where it is strict the
-    /// warnings.
+    /// The problems of the file as it stands that are new since this report, of those that a level
+    /// lists. Where it lists none the file isn't looked at.
+    #[tactic(auto, using(crate::proofs::NewErrorLemmas::none_quiet))]
     pub(crate) fn errors_since(
         &mut self,
         alloc: Global,
-        strict: bool,
+        level: Level,
         before: &[Problem],
     ) -> Result<NewErrors, AllocError>
         requires { AllPairs IsListedBefore before.now }
         ensures text { IfOk result (λ found. found.text.items
-            ≡ new_error_lines (new_errors strict before.now (report_of self.old.marked.file))) }
+            ≡ new_error_lines (new_errors level before.now (report_of self.old.marked.file))) }
         ensures errors { IfOk result (λ found. found.errors
-            ≡ errors_in (new_errors strict before.now (report_of self.old.marked.file))) }
+            ≡ errors_in (new_errors level before.now (report_of self.old.marked.file))) }
         ensures warnings { IfOk result (λ found. found.warnings
-            ≡ warnings_in (new_errors strict before.now (report_of self.old.marked.file))) }
+            ≡ warnings_in (new_errors level before.now (report_of self.old.marked.file))) }
+        ensures err { OnErr result (level ≡ Quiet → ⊥) }
         ensures left { self.new ≡ self.old }
     {
+        if let Level::Quiet = level {
+            return Ok(NewErrors::none(alloc));
+        }
         let after = self.report()?;
-        errors_since(alloc, strict, before, &after)
+        errors_since(alloc, level, before, &after)
     }
 
     /// Saves the file on these terms, and flushes it.

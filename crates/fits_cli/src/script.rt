@@ -12,8 +12,8 @@ ghost use Rattle.fits_cli.specs.Running.{EndsScript, EndStops, LineStops, PieceS
 use crate::fault::Fault;
 use crate::limits::SCRIPT_LIMIT;
 use crate::printing::flush;
-use crate::remarking::{remark_on, say};
-use crate::reply::{Reply, print_reply};
+use crate::remarking::say;
+use crate::reply::{Reply, counts_as_refused, print_reply};
 use crate::runner::Runner;
 use fits_script::{LINE_LIMIT, split_far};
 use fits_session::Holder;
@@ -47,9 +47,8 @@ fn answer_line<H: Holder + Drop, O: Sink, E: Sink>(
     let number = runner.line();
     let wanted = told.is_some();
     let reply = runner.reply(alloc, wanted, line, failed)?;
-    let remark = remark_on(wanted, line, &reply);
-    print_answer(out, number, &reply, remark.is_some())?;
-    say(told, number, &remark);
+    print_answer(out, number, &reply, wanted && counts_as_refused(&reply))?;
+    say(told, number, line, &reply);
     Ok(())
 }
 
@@ -59,7 +58,7 @@ fn answer_line<H: Holder + Drop, O: Sink, E: Sink>(
 fn print_answer<O: Sink>(
     out: &mut O,
     number: u64,
-    reply: &Reply,
+    reply: &Reply<'_>,
     at_once: bool,
 ) -> Result<(), Fault>
     ensures ok { OnOk result (Prints (reply_text number reply.now)

@@ -10,8 +10,7 @@ use crate::printing::flush;
 use crate::stating::statistics;
 use crate::summing::{sum, wrong_sums};
 use crate::untouched::untouched_sums;
-use crate::verifying::{verify, verify_strictly};
-use crate::verifying_cards::{verify_strictly_with_cards, verify_with_cards};
+use crate::verifying::verify;
 use fits_stream::{Sink, Source};
 use std::alloc::Global;
 
@@ -28,14 +27,14 @@ pub enum Telling {
     Untouched,
     /// The statistics of each image of integers.
     Statistics,
-    /// What is wrong, as a level has it. The status is 1 where there is an error.
-    Report(Level),
-    /// The same. The status is 1 where there is an error or a warning.
-    StrictReport(Level),
-    /// What is wrong, as `Report`, with the card of each place.
-    CardReport(Level),
-    /// The same, with the status of `StrictReport`.
-    StrictCardReport(Level),
+    /// What is wrong. The status is 1 where there is an error.
+    Report {
+        level: Level,
+        /// Whether it is 1 where there is a warning, too.
+        strict: bool,
+        /// Whether each line has the card of its problem.
+        cards: bool,
+    },
 }
 
 /// Reads a file, opens it, and prints a text of it.
@@ -92,9 +91,10 @@ fn print_text<F: Source, O: Sink>(
         Telling::WrongSums => wrong_sums(alloc, file, out),
         Telling::Untouched => untouched_sums(alloc, file, out),
         Telling::Statistics => statistics(alloc, file, out),
-        Telling::Report(level) => verify(alloc, level, file, out),
-        Telling::StrictReport(level) => verify_strictly(alloc, level, file, out),
-        Telling::CardReport(level) => verify_with_cards(alloc, level, file, out),
-        Telling::StrictCardReport(level) => verify_strictly_with_cards(alloc, level, file, out),
+        Telling::Report {
+            level,
+            strict,
+            cards,
+        } => verify(alloc, level, strict, cards, file, out),
     }
 }

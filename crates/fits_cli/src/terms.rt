@@ -1,14 +1,29 @@
-/// What a run that edits keeps to, whatever its script says.
+use crate::level::Level;
+use crate::saves::Saves;
+
+/// What a run keeps to, whatever its script says.
 #[derive(Clone, Copy)]
 pub struct Terms {
     /// HDUs whose sums are right as the file is opened are kept right.
     pub sums: bool,
     /// Nothing is saved where no edit was accepted.
     pub spare: bool,
+    pub saves: Saves,
 }
 
-/// The terms of a run that has none of these.
+/// The terms of a run that has none of these, and saves what its script made.
 pub(crate) const PLAIN: Terms = Terms {
     sums: false,
     spare: false,
+    saves: Saves::Made {
+        whole: false,
+        check: Level::Quiet,
+    },
+};
+
+/// The terms of a run that saves nothing.
+pub(crate) const ASKING: Terms = Terms {
+    sums: false,
+    spare: false,
+    saves: Saves::Nothing,
 };

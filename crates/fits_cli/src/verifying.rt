@@ -1,16 +1,21 @@
 //! The run of `verify`: the report of a file.
-ghost use Rattle.std.specs.Prelude.{IfOk, IfErr, OnOk};
-ghost use Rattle.fits_stream.specs.Stream.{Prints};
-ghost use Rattle.fits_cli.specs.Report.{listed_line, problem_lines, report_text};
-ghost use Rattle.fits_cli.specs.Telling.{PrintingStops, TextEndsAs, TextIsTold, TextStopsBy};
+ghost use Rattle.std.specs.Prelude.{◌≡◌, false, IfOk, IfErr, OnOk};
+ghost use Rattle.fits_stream.specs.Intake.{Gives};
+ghost use Rattle.fits_stream.specs.Stream.{Prints, StaysQuiet};
+ghost use Rattle.fits_session.specs.Headers.{read_cards};
+ghost use Rattle.fits_session.specs.Reading.{ReadStops};
+ghost use Rattle.fits_cli.specs.Report.{listed_line, report_text};
+ghost use Rattle.fits_cli.specs.Telling.{IsToldReport, PrintingStops, TextEndsAs, TextIsTold, TextStopsBy};
 
-use crate::end::{End, one_if};
+use crate::end::End;
 use crate::fault::Fault;
 use crate::level::Level;
 use crate::printing::print;
-use crate::report_text::{push_closing_line, push_problem, status_of_report};
+use crate::problem_card::push_card_problem;
+use crate::report_text::{push_closing_line, status_of_report};
 use crate::telling::{Telling, run_telling};
-use fits_session::{Problem, read_report};
+use fits_card::CardList;
+use fits_session::{CardReport, Problem, ReadFileFault, read_card_report, read_report};
 use fits_stream::{Sink, Source};
 use std::alloc::Global;
 
@@ -18,44 +23,58 @@ use std::alloc::Global;
 ///
 /// The status is 1 where an error is found, at whatever level.
 pub fn run_verify<F: Source, O: Sink>(alloc: Global, level: Level, file: &mut F, out: &mut O) -> End
-    ensures { TextEndsAs (Telling.Report level) (F.state file.old) (F.state file.new)
+    ensures { TextEndsAs (Telling.Report level false false) (F.state file.old) (F.state file.new)
         (O.state out.old) (O.state out.new) result }
 {
-    run_telling(alloc, Telling::Report(level), file, out)
+    let report = Telling::Report {
+        level,
+        strict: false,
+        cards: false,
+    };
+    run_telling(alloc, report, file, out)
 }
 
-/// Reads a file, and prints its report. The status is 1 where an error is found.
+/// Reads a file, and prints its report, with the cards of its problems where they are asked for. The
+/// status is 1 where an error is found, and where it is strict a warning.
 pub(crate) fn verify<F: Source, O: Sink>(
     alloc: Global,
     level: Level,
+    strict: bool,
+    cards: bool,
     file: &mut F,
     out: &mut O,
 ) -> Result<u8, Fault>
-    ensures ok { IfOk result (λ status. TextIsTold (Telling.Report level)
+    ensures ok { IfOk result (λ status. TextIsTold (Telling.Report level strict cards)
         (F.state file.old) (F.state file.new) (O.state out.old) (O.state out.new) status) }
-    ensures err { IfErr result (TextStopsBy (Telling.Report level)
+    ensures err { IfErr result (TextStopsBy (Telling.Report level strict cards)
         (F.state file.old) (F.state file.new) (O.state out.old) (O.state out.new)) }
 {
-    let report = read_report(alloc, file)?;
-    print_report(alloc, level, &report, out)?;
-    Ok(status_of_report(&report))
+    let CardReport {
+        problems,
+        mut cards,
+    } = read_told(alloc, cards, file)?;
+    print_report(alloc, level, &problems, &mut cards, out)?;
+    Ok(status_of_report(strict, &problems))
 }
 
-/// Reads a file, and prints its report. The status is 1 where an error or a warning is found.
-pub(crate) fn verify_strictly<F: Source, O: Sink>(
+// Reads the report of a file, and the cards of its headers where they are asked for.
+fn read_told<F: Source>(
     alloc: Global,
-    level: Level,
+    cards: bool,
     file: &mut F,
-    out: &mut O,
-) -> Result<u8, Fault>
-    ensures ok { IfOk result (λ status. TextIsTold (Telling.StrictReport level)
-        (F.state file.old) (F.state file.new) (O.state out.old) (O.state out.new) status) }
-    ensures err { IfErr result (TextStopsBy (Telling.StrictReport level)
-        (F.state file.old) (F.state file.new) (O.state out.old) (O.state out.new)) }
+) -> Result<CardReport, ReadFileFault>
+    ensures ok { IfOk result (λ it. Gives (F.state file.old)
+        (IsToldReport cards it.problems.items (read_cards it.cards.items))) }
+    ensures quiet { OnOk result (StaysQuiet (F.state file.old) (F.state file.new)) }
+    ensures err { IfErr result (ReadStops (F.state file.old) (F.state file.new)) }
 {
-    let report = read_report(alloc, file)?;
-    print_report(alloc, level, &report, out)?;
-    Ok(one_if(!report.is_empty()))
+    if cards {
+        return read_card_report(alloc, file);
+    }
+    Ok(CardReport {
+        problems: read_report(alloc, file)?,
+        cards: Vec::new(alloc),
+    })
 }
 
 // Prints a report as a level has it. Room for one line is taken.
@@ -63,16 +82,19 @@ fn print_report<O: Sink>(
     alloc: Global,
     level: Level,
     report: &[Problem],
+    headers: &mut Vec<CardList>,
     out: &mut O,
 ) -> Result<(), Fault>
-    ensures ok { OnOk result (Prints (report_text level report.now)
+    ensures ok { OnOk result (Prints
+        (report_text level (read_cards headers.old.items) report.now)
         (O.state out.old) (O.state out.new)) }
-    ensures err { IfErr result (PrintingStops (report_text level report.now)
+    ensures err { IfErr result (PrintingStops
+        (report_text level (read_cards headers.old.items) report.now)
         (O.state out.old) (O.state out.new)) }
 {
     let mut line = Vec::new(alloc);
     for it in report {
-        print_problem(level, *it, &mut line, out)?;
+        print_problem(level, *it, headers, &mut line, out)?;
     }
     line.clear();
     push_closing_line(&mut line, report)?;
@@ -83,16 +105,20 @@ fn print_report<O: Sink>(
 fn print_problem<O: Sink>(
     level: Level,
     it: Problem,
+    headers: &mut Vec<CardList>,
     line: &mut Vec<u8>,
     out: &mut O,
 ) -> Result<(), Fault>
-    ensures ok { OnOk result (Prints (listed_line level it) (O.state out.old) (O.state out.new)) }
-    ensures err { IfErr result (PrintingStops (listed_line level it)
+    ensures ok { OnOk result (Prints (listed_line level (read_cards headers.old.items) it)
+        (O.state out.old) (O.state out.new)) }
+    ensures same { OnOk result (read_cards headers.new.items ≡ read_cards headers.old.items) }
+    ensures err { IfErr result (PrintingStops
+        (listed_line level (read_cards headers.old.items) it)
         (O.state out.old) (O.state out.new)) }
 {
     line.clear();
     if level.lists(it.code) {
-        push_problem(line, it)?;
+        push_card_problem(line, it, headers)?;
     }
     print(out, line.as_slice())
 }

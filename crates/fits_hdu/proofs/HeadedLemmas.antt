@@ -7,15 +7,16 @@ use Rattle.fits_card.specs.CardList.{CardStore}
 use Rattle.fits_card.specs.HeaderReading.{FrontComes}
 use Rattle.fits_card.specs.declared.header_front.HeaderFront.{HeaderFront}
 use Rattle.fits_card.specs.declared.header_front.HeaderFront.TheVariants.{Whole}
-use Rattle.fits_stream.specs.Intake.{Finds, IsOver, Passes, Supply, Takes}
+use Rattle.fits_stream.specs.Intake.{Finds, Supply, Takes}
 use Rattle.fits_stream.proofs.SightLemmas.{finds_begun, finds_spent, takes_more}
 use Rattle.fits_rules.specs.Shape.{shape_of}
 use Rattle.fits_rules.specs.Size.{data_length}
 use Rattle.fits_rules.specs.declared.array_shape.Shape.{Shape}
 use Rattle.fits_hdu.specs.declared.fault.HduFault.{HduFault}
-use Rattle.fits_hdu.specs.declared.fault.HduFault.TheVariants.{BadShape, ShortData}
-use Rattle.fits_hdu.specs.Reading.{FailsAfter, TakesHdu, IsPassed}
-use Rattle.fits_hdu.proofs.ReadingLemmas.{hdu_kept}
+use Rattle.fits_hdu.specs.declared.fault.HduFault.TheVariants.{BadShape, Memory, NoEnd, ShortData}
+use Rattle.fits_hdu.specs.declared.read_fault.ReadHduFault.TheVariants.{Hdu}
+use Rattle.fits_hdu.specs.Passing.{TakesFewer, UnitStops}
+use Rattle.fits_hdu.specs.Reading.{FailsAfter}
 
 -- the cards of a header stand before its END
 header_ends : (header : Header) (rest : List ℕ) → IsHeader header → AreFrontCards (header_bytes header ++ rest) header.cards
@@ -51,23 +52,25 @@ head_far primary a b header cards shape why p whole described short same is =
     }))
 
 -- or than what there was
-pub head_short : (primary : Bool) (a b c : Supply) (header : Header) (cards : List (List ℕ)) (shape : Shape) (count : ℕ) → Takes a b (header_bytes header) → IsHeader header → shape_of primary header.cards ≡ Ok shape
-    → Passes b c count → IsOver c → count < data_length shape → cards ≡ header.cards → Finds a c (FailsAfter primary cards ShortData)
-head_short primary a b c header cards shape count p whole described q over short same =
-    finds_spent (FailsAfter primary cards ShortData) a c (header_bytes header ++ q.bytes) (takes_more a b c (header_bytes header) q.bytes p q.taken) over.spent (record {
+head_short : (primary : Bool) (a b c : Supply) (len : ℕ) (header : Header) (cards : List (List ℕ)) (shape : Shape) → Takes a b (header_bytes header) → IsHeader header → shape_of primary header.cards ≡ Ok shape
+    → len ≡ data_length shape → TakesFewer b c len → cards ≡ header.cards → Finds a c (FailsAfter primary cards ShortData)
+head_short primary a b c len header cards shape p whole described is q same =
+    finds_spent (FailsAfter primary cards ShortData) a c (header_bytes header ++ q.bytes) (takes_more a b c (header_bytes header) q.bytes p q.taken) q.spent (record {
       fault = record {
         header = header;
         rest = q.bytes ++ c.ahead;
         shape = shape;
         cut = record { whole = whole; joined = append_assoc (header_bytes header) q.bytes c.ahead };
         described = described;
-        short = omega (arith, q.size, short, ap length over.none, length-append q.bytes c.ahead);
+        short = omega (arith, q.short, is, length-append q.bytes c.ahead);
       };
       front = rw (same, append_assoc) (header_ends header (q.bytes ++ c.ahead) whole);
     })
 
--- the HDU was taken, and its cards are kept
-pub head_taken : (primary : Bool) (a c : Supply) (len : ℕ) (header : Header) (cards : List (List ℕ)) (shape : Shape) → TakesHdu (λ hdu. IsPassed hdu header shape len) primary a c → cards ≡ header.cards
-    → TakesHdu (λ hdu. cards ≡ hdu.header.cards) primary a c
-head_taken primary a c len header cards shape p same =
-    hdu_kept (λ hdu. IsPassed hdu header shape len) (λ hdu. cards ≡ hdu.header.cards) primary a c p (λ hdu it. same ∙ ap (λ (h : Header). h.cards) (sym it.same))
+-- so its data unit wasn't taken
+pub head_stops : (primary : Bool) (a b c : Supply) (len : ℕ) (header : Header) (cards : List (List ℕ)) (shape : Shape) (why : HduFault) → Takes a b (header_bytes header) → IsHeader header → shape_of primary header.cards ≡ Ok shape
+    → len ≡ data_length shape → UnitStops len b c (Hdu why) → cards ≡ header.cards → Finds a c (FailsAfter primary cards why)
+head_stops primary a b c len header cards shape ShortData p whole described is q same = head_short primary a b c len header cards shape p whole described is q same
+head_stops primary a b c len header cards shape NoEnd p whole described is q same = absurd q
+head_stops primary a b c len header cards shape (BadShape place) p whole described is q same = absurd q
+head_stops primary a b c len header cards shape Memory p whole described is q same = absurd q

@@ -17,7 +17,7 @@ use Rattle.fits_rules.specs.declared.array_shape.Shape.{Shape}
 use Rattle.fits_rules.specs.declared.class.Class.{Class}
 use Rattle.fits_rules.specs.declared.class.Class.TheVariants.{Primary, Groups, Image, Table, Other}
 use Rattle.fits_rules.proofs.LawLemmas.{shape_bounded}
-use Rattle.fits_hdu.specs.Layout.{blank_number, fill_byte, layout_by, layout_of}
+use Rattle.fits_hdu.specs.Layout.{blank_number, layout_by, layout_of, layout_of_bytes}
 
 -- the pixels that axes span are the product of the axes
 spanned : (axes : List ℕ) → size.product axes ≡ product axes
@@ -109,20 +109,18 @@ pub image_some : (shape : Shape) (cards : List (List ℕ)) (bits : ℕ) → shap
 image_some shape cards bits described e = width_some (bits / 8) (image_is shape cards bits described (sym e)).width
 
 -- the layout of an image's pixels
-pub layout_of_pixels : (shape : Shape) (cards : List (List ℕ)) (bits used fill : ℕ) (blank : Option ℤ) → shape_of (is_primary shape.class) cards ≡ Ok shape → Some bits ≡ image_bits shape
-    → used ≡ data_size shape → fill ≡ fill_byte shape.class → blank ≡ blank_number (blank_said cards)
-    → (let it : Layout = record { width = bits / 8; pixels = used / (bits / 8); used = used; fill = fill; blank = blank } in it) ≡ layout_of shape cards
+pub pixels_read : (shape : Shape) (cards : List (List ℕ)) (bits : ℕ) (bytes : Layout) (blank : Option ℤ) → shape_of (is_primary shape.class) cards ≡ Ok shape → Some bits ≡ image_bits shape → bytes ≡ layout_of_bytes shape → blank ≡ blank_number (blank_said cards)
+    → record bytes { width = bits / 8; pixels = bytes.used / (bits / 8); blank = blank } ≡ layout_of shape cards
 unfolding layout_of
-layout_of_pixels shape cards bits used fill blank described image u f b =
+pixels_read shape cards bits bytes blank described image is b =
     let found = image_is shape cards bits described (sym image) in
-    let pixels : used / (bits / 8) ≡ product shape.axes = ap (λ n. n / (bits / 8)) (u ∙ found.size) ∙ mul-div_cancel_left (product shape.axes) (width_some (bits / 8) found.width) in
-    rw (← image, pixels, u, f, b) refl
+    let pixels : data_size shape / (bits / 8) ≡ product shape.axes = ap (λ n. n / (bits / 8)) found.size ∙ mul-div_cancel_left (product shape.axes) (width_some (bits / 8) found.width) in
+    rw (← image, is, b) (ap (λ n. record (layout_of_bytes shape) { width = bits / 8; pixels = n; blank = blank_number (blank_said cards) }) pixels)
 
--- and that of bytes alone
-pub layout_of_bytes : (shape : Shape) (cards : List (List ℕ)) (used fill : ℕ) → None ≡ image_bits shape → used ≡ data_size shape → fill ≡ fill_byte shape.class
-    → (let it : Layout = record { width = 0; pixels = 0; used = used; fill = fill; blank = None } in it) ≡ layout_of shape cards
+-- and that of what is no image
+pub bytes_read : (shape : Shape) (cards : List (List ℕ)) (bytes : Layout) → None ≡ image_bits shape → bytes ≡ layout_of_bytes shape → bytes ≡ layout_of shape cards
 unfolding layout_of
-layout_of_bytes shape cards used fill image u f = rw (← image, u, f) refl
+bytes_read shape cards bytes image is = is ∙ rw (← image) refl
 
 -- the undefined number of an image
 pub blank_of_pixels : (shape : Shape) (cards : List (List ℕ)) (bits : ℕ) → Some bits ≡ image_bits shape → blank_number (blank_said cards) ≡ (layout_of shape cards).blank
@@ -153,12 +151,16 @@ whole_blocks shape n e = (omega (arith, e), omega (arith, e))
 pub data_within : (shape : Shape) (n : ℕ) → n ≡ data_length shape → n ≤ 2 ^ 34 → data_size shape ≤ 2 ^ 34
 data_within shape n e small = omega (arith, small, (whole_blocks shape n e).0)
 
+-- bytes alone fit their layout
+pub bytes_fit : (shape : Shape) (bytes : List ℕ) → length bytes ≡ data_length shape → length bytes ≤ 2 ^ 34 → IsLayout (layout_of_bytes shape) bytes
+bytes_fit shape bytes size small =
+    let blocks = whole_blocks shape (length bytes) size in
+    record { width = inl refl; no_pixels = λ none. refl; room = omega arith; used = blocks.0; whole = blocks.1; limit = small }
+
 -- by the bits, the layout fits
 fits_by : (image : Option ℕ) (shape : Shape) (cards : List (List ℕ)) (bytes : List ℕ) → shape_of (is_primary shape.class) cards ≡ Ok shape → image_bits shape ≡ image → length bytes ≡ data_length shape → length bytes ≤ 2 ^ 34
     → IsLayout (layout_by image shape cards) bytes
-fits_by None shape cards bytes described image size small =
-    let blocks = whole_blocks shape (length bytes) size in
-    record { width = inl refl; no_pixels = λ none. refl; room = omega arith; used = blocks.0; whole = blocks.1; limit = small }
+fits_by None shape cards bytes described image size small = bytes_fit shape bytes size small
 fits_by (Some bits) shape cards bytes described image size small =
     let blocks = whole_blocks shape (length bytes) size in
     let found = image_is shape cards bits described image in
@@ -171,4 +173,4 @@ pub layout_fits : (shape : Shape) (cards : List (List ℕ)) (bytes : List ℕ) �
 unfolding layout_of
 layout_fits shape cards bytes described size small = fits_by (image_bits shape) shape cards bytes described refl size small
 
-pub ruleset layout_steps = (image_some, layout_of_pixels, layout_of_bytes, blank_of_pixels, blank_of_bytes, data_within, layout_fits)
+pub ruleset layout_steps = (image_some, pixels_read, bytes_read, blank_of_pixels, blank_of_bytes, data_within, layout_fits)

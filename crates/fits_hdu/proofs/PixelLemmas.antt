@@ -5,19 +5,19 @@ use Rattle.std.specs.Int.{w128}
 use Rattle.std.proofs.Math.Nat.{mul-le-mul_left}
 use Rattle.std.proofs.lemmas.Bool.{eqb-true, or_cases}
 use Rattle.std.proofs.lemmas.Int.{fits_signed_from_abs, to_z-of_z}
-use Rattle.std.proofs.lemmas.List.FromFn.{length-map-range_with_len}
 use Rattle.fits_value.proofs.FrontLemmas.{option_map_some}
 use Rattle.fits_card.specs.Header.{Header, IsHeader}
 use Rattle.fits_plane.specs.Layout.{IsLayout, block_count}
 use Rattle.fits_plane.specs.Paint.{can_store_paint, has_count, painted_number}
 use Rattle.fits_plane.specs.Pixels.{IsWidth, pixels}
-use Rattle.fits_plane.specs.Rectangle.{lies_within, product, rectangle_size, rectangle_values, rectangle_written, byte_written}
+use Rattle.fits_plane.specs.Rectangle.{lies_within, product, rectangle_size, rectangle_values, rectangle_written}
 use Rattle.fits_plane.specs.Statistics.{value_statistics}
 use Rattle.fits_plane.specs.Work.{rectangle_blocks}
 use Rattle.fits_plane.specs.declared.layout.Layout.{Layout}
 use Rattle.fits_plane.specs.declared.lent_paint.LentPaint.{LentPaint}
 use Rattle.fits_plane.specs.declared.value_summary.ValueSummary.{ValueSummary}
 use Rattle.fits_plane.proofs.PixelLemmas.{width_range}
+use Rattle.fits_plane.proofs.RectangleLemmas.{length-rectangle_written}
 use Rattle.fits_rules.specs.Class.{is_primary}
 use Rattle.fits_rules.specs.Image.{array_bits, image_bits, integer_bits}
 use Rattle.fits_rules.specs.Shape.{shape_of, is_bitpix}
@@ -131,11 +131,6 @@ pub offset_fits : (kind : Kind) (offset : ℤ) → offset ≡ offset_of kind →
 offset_fits kind offset is =
     let small : unsigned_abs offset ≤ 2 ^ 63 = rw is (small_offset kind) in
     to_z-of_z w128 offset (fits_signed_from_abs w128 offset (omega (arith, small)))
-
--- a rectangle that is written leaves as many bytes
-pub length-rectangle_written : (width : ℕ) (axes lo hi : List ℕ) (number : ℕ → ℤ) (bytes : List ℕ) → length (rectangle_written width axes lo hi number bytes) ≡ length bytes
-unfolding rectangle_written
-length-rectangle_written width axes lo hi number bytes = length-map-range_with_len (byte_written width axes lo hi number bytes) 0 (length bytes)
 
 -- the work of a write, by that of its plane
 pub patched : (layout : Layout) (shape : Shape) (cards : List (List ℕ)) (bytes axes lo hi : List ℕ) (old new : PixelWork) → layout ≡ layout_of shape cards → axes ≡ shape.axes

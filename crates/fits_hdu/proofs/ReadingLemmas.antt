@@ -4,7 +4,7 @@ use Rattle.std.proofs.lemmas.List.{length-append}
 use Rattle.std.specs.Prelude.{Ok, Err, IsErrOf}
 use Rattle.fits_card.specs.Header.{Header, IsHeader, header_bytes}
 use Rattle.fits_card.specs.HeaderReading.{HeaderStops}
-use Rattle.fits_stream.specs.Intake.{IsOver, IsSpent, Passes, Supply, Takes, TakingStops}
+use Rattle.fits_stream.specs.Intake.{IsOver, IsSpent, Supply, Takes, TakingStops}
 use Rattle.fits_card.specs.declared.header_reading.ReadHeaderFault.{ReadHeaderFault}
 use Rattle.fits_card.specs.declared.header_reading.ReadHeaderFault.TheVariants as header_fault
 use Rattle.fits_stream.specs.declared.reading.ReadFault.{ReadFault}
@@ -18,9 +18,11 @@ use Rattle.fits_rules.specs.declared.mandatory.ShapeFault.{ShapeFault}
 use Rattle.fits_rules.specs.declared.mandatory.ShapeFault.TheVariants as shape_fault
 use Rattle.fits_rules.proofs.LawLemmas.{shape_primary}
 use Rattle.fits_hdu.specs.declared.fault.HduFault.{HduFault}
-use Rattle.fits_hdu.specs.declared.fault.HduFault.TheVariants.{BadShape, ShortData}
-use Rattle.fits_hdu.specs.declared.read_fault.ReadHduFault.TheVariants.{Hdu}
+use Rattle.fits_hdu.specs.declared.fault.HduFault.TheVariants.{BadShape, Memory, NoEnd, ShortData}
+use Rattle.fits_hdu.specs.declared.read_fault.ReadHduFault.{ReadHduFault}
+use Rattle.fits_hdu.specs.declared.read_fault.ReadHduFault.TheVariants.{Failed, Hdu}
 use Rattle.fits_hdu.specs.Hdu.{HasHduFault, HduParts, IsHdu, hdu_bytes}
+use Rattle.fits_hdu.specs.Passing.{UnitStops}
 use Rattle.fits_hdu.specs.Reading.{HduStops, IsOutlined, IsPassed, TakesHdu, of_read, of_read_header, of_read_shape}
 
 -- there is no header, or memory was refused, or a call failed
@@ -70,6 +72,15 @@ pub stops_by_unit : (primary : Bool) (a b c : Supply) (bytes : List ℕ) (fault 
 stops_by_unit primary a b c bytes read_fault.Memory p q = q ∙ p.drawn.read.quiet
 stops_by_unit primary a b c bytes read_fault.Failed p q = omega (arith, q, p.drawn.read.quiet)
 
+-- after the header its data unit wasn't taken
+pub stops_in_unit : (primary : Bool) (a b c : Supply) (len : ℕ) (header : Header) (shape : Shape) (why : ReadHduFault) → Takes a b (header_bytes header) → IsHeader header → shape_of primary header.cards ≡ Ok shape → len ≡ data_length shape
+    → UnitStops len b c why → HduStops primary a c why
+stops_in_unit primary a b c len header shape (Hdu ShortData) p whole described unit q = stops_near primary a b c header shape q.bytes p whole described q.taken q.spent (omega (arith, q.short, unit))
+stops_in_unit primary a b c len header shape (Hdu NoEnd) p whole described unit q = absurd q
+stops_in_unit primary a b c len header shape (Hdu (BadShape place)) p whole described unit q = absurd q
+stops_in_unit primary a b c len header shape (Hdu Memory) p whole described unit q = absurd q
+stops_in_unit primary a b c len header shape Failed p whole described unit q = omega (arith, q, p.drawn.read.quiet)
+
 pub ruleset described_steps = (stops_by_header, stops_by_shape, stops_far)
 
 -- the header, and then the data unit
@@ -82,25 +93,21 @@ pub hdu_whole : (primary : Bool) (header : Header) (shape : Shape) (unit : List 
     → IsHdu primary (record { header = header; data_unit = unit })
 hdu_whole primary header shape unit whole described size = record { shape = shape; header = whole; described = described; size = size }
 
-pub ruleset read_steps = (shape_primary, hdu_taken, hdu_whole, stops_by_unit)
-
--- an HDU whose data unit was skipped
-pub hdu_passed : (primary : Bool) (a b c : Supply) (count len : ℕ) (header : Header) (shape : Shape) → Takes a b (header_bytes header) → IsHeader header → shape_of primary header.cards ≡ Ok shape
-    → Passes b c count → len ≡ count → len ≡ data_length shape → is_primary shape.class ≡ primary → TakesHdu (λ hdu. IsPassed hdu header shape len) primary a c
-hdu_passed primary a b c count len header shape p whole described q same unit class = record {
-  hdu = record { header = header; data_unit = q.bytes };
-  kept = record { same = refl; described = rw class described; unit = same ∙ sym q.size };
-  whole = hdu_whole primary header shape q.bytes whole described (q.size ∙ (sym same ∙ unit));
-  taken = hdu_taken a b c header q.bytes p q.taken;
+-- after the header its data unit was taken, and of both something is kept
+pub hdu_comes : (keeps : HduParts → Type 0) (primary : Bool) (a b c : Supply) (len : ℕ) (header : Header) (shape : Shape) (unit : List ℕ) → Takes a b (header_bytes header) → IsHeader header → shape_of primary header.cards ≡ Ok shape
+    → len ≡ data_length shape → Takes b c unit → length unit ≡ len → keeps (record { header = header; data_unit = unit }) → TakesHdu keeps primary a c
+hdu_comes keeps primary a b c len header shape unit p whole described is q size kept = record {
+  hdu = record { header = header; data_unit = unit };
+  kept = kept;
+  whole = hdu_whole primary header shape unit whole described (size ∙ is);
+  taken = hdu_taken a b c header unit p q;
 }
 
--- the data unit that was skipped is too short
-pub stops_passed : (primary : Bool) (a b c : Supply) (count : ℕ) (header : Header) (shape : Shape) → Takes a b (header_bytes header) → IsHeader header → shape_of primary header.cards ≡ Ok shape
-    → Passes b c count → IsOver c → count < data_length shape → HduStops primary a c (Hdu ShortData)
-stops_passed primary a b c count header shape p whole described q over short =
-    stops_over primary a b c header shape q.bytes p whole described q.taken over (omega (arith, q.size, short))
+-- a shape that cards describe is one of theirs wherever it stands
+pub described_so : (primary : Bool) (cards : List (List ℕ)) (shape : Shape) → shape_of primary cards ≡ Ok shape → shape_of (is_primary shape.class) cards ≡ Ok shape
+described_so primary cards shape described = rw (shape_primary primary cards shape described) described
 
-pub ruleset passing_steps = (shape_primary, hdu_passed, stops_passed)
+pub ruleset read_steps = (shape_primary, hdu_taken, hdu_whole, stops_by_unit)
 
 -- what is kept of an HDU that passed
 pub hdu_kept : (keeps keeps' : HduParts → Type 0) (primary : Bool) (a b : Supply) → TakesHdu keeps primary a b → ((hdu : HduParts) → keeps hdu → keeps' hdu) → TakesHdu keeps' primary a b

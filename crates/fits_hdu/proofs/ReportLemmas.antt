@@ -18,7 +18,7 @@ use Rattle.fits_plane.specs.declared.layout.Layout.{Layout}
 use Rattle.fits_hdu.specs.ExtensionName.{name_codes}
 use Rattle.fits_hdu.specs.Findings.{data_codes, hdu_counts, hdu_findings, is_filled, whole_codes}
 use Rattle.fits_hdu.specs.Hdu.{HduParts}
-use Rattle.fits_hdu.specs.Layout.{fill_byte, layout_by, layout_of}
+use Rattle.fits_hdu.specs.Layout.{fill_byte, layout_by, layout_of, layout_of_bytes}
 use Rattle.fits_hdu.specs.Sums.{verdicts_of}
 use Rattle.fits_hdu.specs.declared.verdicts.Verdicts.{Verdicts}
 
@@ -54,6 +54,11 @@ same_fill layout shape cards unit is =
 -- whether the data fill is what it should be, by the layout
 pub fill_known : (ok : Bool) (layout : Layout) (shape : Shape) (cards : List (List ℕ)) (unit : List ℕ) → layout ≡ layout_of shape cards → ok ≡ list_all (nat_eq layout.fill) (drop layout.used unit) → ok ≡ is_filled shape unit
 fill_known ok layout shape cards unit is test = test ∙ same_fill layout shape cards unit is
+
+-- and by that of bytes alone
+pub fill_of_bytes : (ok : Bool) (layout : Layout) (shape : Shape) (unit : List ℕ) → layout ≡ layout_of_bytes shape → ok ≡ list_all (nat_eq layout.fill) (drop layout.used unit) → ok ≡ is_filled shape unit
+unfolding is_filled
+fill_of_bytes ok layout shape unit is test = test ∙ rw is refl
 
 -- the codes of a header, by its mark
 pub marked_codes : (codes : List Code) (mark : HeaderMark) (seen shape : Shape) (header : Header) → codes ≡ header_judged mark seen → mark ≡ header_mark_of header shape → seen ≡ shape → codes ≡ header_codes_of shape header

@@ -21,16 +21,15 @@ abbrev pub blank_number : Option IntegerSaid → Option ℤ
 blank_number (Some (Number number)) = Some number
 blank_number said = None
 
--- the layout of pixels of so many bits, or of bytes alone
+-- the layout of bytes alone, of which no pixels are read
+abbrev pub layout_of_bytes : Shape → Layout
+layout_of_bytes shape = record { width = 0; pixels = 0; used = data_size shape; fill = fill_byte shape.class; blank = None }
+
+-- that of pixels of so many bits, or of bytes alone
 abbrev pub layout_by : Option ℕ → Shape → List (List ℕ) → Layout
-layout_by (Some bits) shape cards = record {
-  width = bits / 8;
-  pixels = product shape.axes;
-  used = data_size shape;
-  fill = fill_byte shape.class;
-  blank = blank_number (blank_said cards);
-}
-layout_by None shape cards = record { width = 0; pixels = 0; used = data_size shape; fill = fill_byte shape.class; blank = None }
+layout_by (Some bits) shape cards =
+    record (layout_of_bytes shape) { width = bits / 8; pixels = product shape.axes; blank = blank_number (blank_said cards) }
+layout_by None shape cards = layout_of_bytes shape
 
 -- how the data unit is read of an HDU of this shape and with these cards
 unfoldable pub layout_of : Shape → List (List ℕ) → Layout

@@ -1,12 +1,8 @@
 -- The statistics of an image that passes by, of which no more than a piece is held at once (own).
-use Rattle.std.specs.Prelude.{◌≡◌, ℕ, List, length, Option}
+use Rattle.std.specs.Prelude.{ℕ, List, Option}
 use Rattle.std.specs.Option.{option_map}
-use Rattle.fits_stream.specs.Intake.{Supply, Takes}
-use Rattle.fits_plane.specs.Passing.{ArePassed}
 use Rattle.fits_plane.specs.Pixels.{pixels}
 use Rattle.fits_plane.specs.Statistics.{value_statistics}
-use Rattle.fits_plane.specs.declared.layout.Layout.{Layout}
-use Rattle.fits_plane.specs.declared.passed_pixels.PassedPixels.{PassedPixels}
 use Rattle.fits_rules.specs.declared.array_shape.Shape.{Shape}
 use Rattle.fits_image.specs.Kind.{kind_in, offset_of}
 use Rattle.fits_image.specs.declared.kind.Kind.{Kind}
@@ -25,16 +21,3 @@ image_pixels shape cards = option_map (pixels_of_kind shape cards) (kind_in shap
 -- the statistics of a data unit whose pixels are read so: of their values, stored numbers plus the offset (4.4.2.5)
 abbrev pub values_of : List ℕ → ImagePixels → Stats
 values_of unit it = value_statistics (offset_of it.kind) it.layout.blank (pixels it.layout.width unit 0 it.layout.pixels)
-
--- bytes were taken, and these are the statistics of the pixels in them
-pub record TakesPixels (layout : Layout) (old new : Supply) (it : PassedPixels) : Type 0 where
-  pub bytes : List ℕ
-  pub taken : Takes old new bytes
-  pub passed : ArePassed layout bytes it
-
--- so many bytes were taken, and these are the statistics of the data unit that they are, where it is an image
-pub record TakesStats (image : Option ImagePixels) (len : ℕ) (old new : Supply) (stats : Option Stats) : Type 0 where
-  pub bytes : List ℕ
-  pub taken : Takes old new bytes
-  pub size : length bytes ≡ len
-  pub are : stats ≡ option_map (values_of bytes) image

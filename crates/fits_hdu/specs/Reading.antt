@@ -83,12 +83,12 @@ CardsCome primary cards None old new = TakesHdu (λ hdu. cards ≡ hdu.header.ca
 CardsCome primary cards (Some why) old new = Finds old new (FailsAfter primary cards why)
 
 -- the parts of an HDU by its header and its data unit, whose bytes passed by
-abbrev pub passed_parts : HeaderState → PassedState → HduParts
-passed_parts header unit = record { header = header.header; data_unit = unit.bytes }
+abbrev pub passed_parts : Header → PassedState → HduParts
+passed_parts header unit = record { header = header; data_unit = unit.bytes }
 
 -- an HDU passed by: its header is kept, with what is kept beside its cards, and what is known of its data unit, which was read as they say
 pub record IsPassedWhole (header : HeaderState) (unit : PassedState) (hdu : HduParts) : Type 0 where
-  pub parts : passed_parts header unit ≡ hdu
+  pub parts : passed_parts header.header unit ≡ hdu
   pub described : shape_of (is_primary header.shape.class) header.header.cards ≡ Ok header.shape
   pub size : length unit.bytes ≡ data_length header.shape
   pub layout : unit.layout ≡ layout_of header.shape header.header.cards

@@ -6,10 +6,13 @@ use Rattle.fits_value.specs.Says.{chain_length}
 use Rattle.fits_rules.specs.Lead.{lead_place}
 use Rattle.fits_header.specs.Work.{mark_reads}
 use Rattle.fits_plane.specs.Layout.{block_count}
+use Rattle.fits_plane.specs.declared.layout.Layout.{Layout}
+use Rattle.fits_plane.specs.Work.{rectangle_blocks}
 use Rattle.fits_plane.specs.Plane.{PlaneState}
 use Rattle.fits_image.specs.Kind.{offset_of}
 use Rattle.fits_image.specs.declared.kind.Kind.{Kind}
 use Rattle.fits_sum.specs.Words.{word_total}
+use Rattle.fits_hdu.specs.Layout.{layout_of}
 use Rattle.fits_hdu.specs.State.{HduState}
 
 -- what is read after a change of the cards: the leads of BZERO, BSCALE, BLANK, DATASUM and CHECKSUM
@@ -109,6 +112,16 @@ pub record IsPatched (touched blocks : ℕ) (old new : PixelWork) : Type 0 where
   pub scans : new.scans ≤ old.scans + touched
   pub more_joins : old.joins ≤ new.joins
   pub joins : (d : ℕ) → blocks ≤ 2 ^ d → new.joins ≤ old.joins + touched * d
+
+-- how its data unit is read, by its cards
+abbrev pub layout_in : HduState → Layout
+layout_in hdu = layout_of hdu.header.shape hdu.header.header.cards
+
+-- the blocks that hold a byte of a rectangle were written to
+abbrev pub IsPatchedIn : List ℕ → List ℕ → HduState → HduState → Type 0
+IsPatchedIn lo hi old new =
+    let touched = rectangle_blocks (layout_in old) old.plane.bytes old.header.shape.axes lo hi in
+    IsPatched touched (block_count old.plane.bytes) (plane_work old.plane) (plane_work new.plane)
 
 -- so many pixels were read at most, and no block was scanned
 pub record IsRead (kept : ℕ) (old new : PixelWork) : Type 0 where

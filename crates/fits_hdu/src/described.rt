@@ -8,7 +8,7 @@ ghost use Rattle.fits_rules.specs.Class.{is_primary};
 ghost use Rattle.fits_hdu.specs.Reading.{HduStops, IsPassed, TakesHdu};
 
 use crate::data_unit::unit_len;
-use crate::fault::HduFault;
+use crate::passing::skip_unit;
 use crate::read_fault::ReadHduFault;
 use fits_card::{CardList, read_header};
 use fits_rules::{Shape, shape};
@@ -65,7 +65,6 @@ pub(crate) fn read_described<R: Source>(
 }
 
 /// The header that comes next, as `read_described`. Its data unit is skipped.
-#[tactic(auto, using(crate::proofs::ReadingLemmas::passing_steps))]
 pub(crate) fn read_past<R: Source>(
     alloc: Global,
     intake: &mut Intake,
@@ -83,13 +82,11 @@ pub(crate) fn read_past<R: Source>(
         (supply (R.state source.old) intake.old) (supply (R.state source.new) intake.new)) }
 {
     let head = read_described(alloc, intake, source, primary)?;
-    let Ok(data_len) = intake.skip(source, head.unit_len) else {
-        drop(head);
-        return Err(ReadHduFault::Failed);
-    };
-    if data_len < head.unit_len {
-        drop(head);
-        return Err(ReadHduFault::Hdu(HduFault::ShortData));
+    match skip_unit(intake, source, head.unit_len) {
+        Ok(()) => Ok(head),
+        Err(fault) => {
+            drop(head);
+            Err(fault)
+        }
     }
-    Ok(head)
 }

@@ -1,10 +1,12 @@
 ghost use Rattle.std.specs.Prelude.{◌≡◌, ◌≤◌, ◌^◌, length, Ok, IfOk};
-ghost use Rattle.fits_card.specs.Header.{header_bytes};
+ghost use Rattle.fits_card.specs.Header.{header_bytes, IsHeader};
 ghost use Rattle.fits_rules.specs.Class.{is_primary};
 ghost use Rattle.fits_rules.specs.Shape.{shape_of};
 ghost use Rattle.fits_header.specs.Findings.{card_findings};
 ghost use Rattle.fits_hdu.specs.ExtensionName.{extension_name};
-ghost use Rattle.fits_hdu.specs.Passing.{codes_by};
+ghost use Rattle.fits_hdu.specs.Findings.{whole_codes};
+ghost use Rattle.fits_hdu.specs.Layout.{layout_of_bytes};
+ghost use Rattle.fits_hdu.specs.Reading.{passed_parts};
 
 use crate::described::Described;
 use crate::extension_name::extension_name;
@@ -14,10 +16,10 @@ use crate::found::with_data_codes;
 use crate::read_fault::ReadHduFault;
 use crate::summed::{Summed, read_summed};
 use crate::sums::{sum_keywords, verdicts_by, whole_sum};
-use crate::unit_sums::UnitSums;
 use fits_card::CardList;
 use fits_codes::judge_header_mark;
 use fits_header::Header;
+use fits_plane::PassedUnit;
 use fits_stream::{Intake, Source};
 use fits_sum::fold;
 use std::alloc::{AllocError, Global};
@@ -50,22 +52,28 @@ impl FoundCards {
         ensures err { IfErr result (HduStops primary
             (supply (R.state source.old) intake.old) (supply (R.state source.new) intake.new)) }
     {
-        let Summed { head, sums } = read_summed(alloc, intake, source, primary)?;
-        match found_cards_of(alloc, head, sums) {
+        let Summed { head, unit } = read_summed(alloc, intake, source, primary)?;
+        match found_cards_of(alloc, head, &unit) {
             Ok(it) => Ok(it),
             Err(_) => Err(ReadHduFault::Hdu(HduFault::Memory)),
         }
     }
 }
 
-// What is found of an HDU with this header and these sums of its data unit, and its cards.
+// What is found of an HDU of this header and this data unit, and its cards.
 #[tactic(auto, using(crate::proofs::ReportLemmas::few_codes))]
-fn found_cards_of(alloc: Global, head: Described, sums: UnitSums) -> Result<FoundCards, AllocError>
+fn found_cards_of(
+    alloc: Global,
+    head: Described,
+    unit: &PassedUnit,
+) -> Result<FoundCards, AllocError>
+    requires whole { IsHeader head.cards.header }
+    requires small { length (header_bytes head.cards.header) ≤ 2 ^ 34 }
     requires described { shape_of (is_primary head.shape.class) head.cards.header.cards
         ≡ Ok head.shape }
-    requires small { length (header_bytes head.cards.header) ≤ 2 ^ 34 }
+    requires layout { unit.now.layout ≡ layout_of_bytes head.shape }
     ensures whole { IfOk result (λ it. it.found.whole
-        ≡ codes_by head.shape head.cards.header sums) }
+        ≡ whole_codes head.shape (passed_parts head.cards.header unit.now)) }
     ensures cards { IfOk result (λ it. it.found.of_cards.items
         ≡ card_findings head.shape head.cards.header.cards) }
     ensures name { IfOk result (λ it. it.found.name
@@ -75,11 +83,11 @@ fn found_cards_of(alloc: Global, head: Described, sums: UnitSums) -> Result<Foun
     let Described { cards, shape, .. } = head;
     let mut header = Header::open(alloc, cards, shape)?;
     let said = sum_keywords(&mut header);
-    let whole = whole_sum(header.total(), sums.total);
-    let verdicts = verdicts_by(said, fold(sums.total), whole);
+    let total = unit.total();
+    let verdicts = verdicts_by(said, fold(total), whole_sum(header.total(), total));
     let mark = header.mark();
     let codes = judge_header_mark(&mark, header.shape());
-    let whole = with_data_codes(codes, sums.filled, verdicts);
+    let whole = with_data_codes(codes, unit.fill_ok(), verdicts);
     let name = extension_name(&mut header);
     let of_cards = header.findings(alloc);
     let cards = header.into_cards();

@@ -95,7 +95,7 @@ impl Hdu {
     ghost use Rattle.fits_hdu.specs.Layout.{layout_of};
     ghost use Rattle.fits_hdu.specs.Reading.{HduStops};
     ghost use Rattle.fits_hdu.specs.State.{name_of, parts_of, IsDescribed, ReadsUpTo};
-    ghost use Rattle.fits_hdu.specs.Work.{apply_reads, keyword_reads, name_reads, plane_work, FollowsBlank, IsOpened, IsScanned};
+    ghost use Rattle.fits_hdu.specs.Work.{apply_reads, keyword_reads, layout_in, name_reads, plane_work, FollowsBlank, IsOpened, IsScanned};
     ghost use Rattle.fits_hdu.specs.Hdu.{IsHdu, IsHduOf, HduFails, hdu_bytes, hdu_after, keeps_shape};
 
     /// The HDU that these bytes begin with, the primary one or an extension, and how many bytes it
@@ -262,8 +262,7 @@ impl Hdu {
     pub fn plane(&self) -> &Plane
         requires { self.now.absent ≡ None }
         ensures value { result.now ≡ self.now.plane }
-        ensures layout { result.now.layout
-            ≡ layout_of self.now.header.shape self.now.header.header.cards }
+        ensures layout { result.now.layout ≡ layout_in self.now }
     {
         self.unit.plane()
     }
@@ -409,9 +408,7 @@ impl Hdu {
 
         // The data unit is scanned again where the number that BLANK says changes.
         ensures scans { FollowsBlank
-            (layout_of self.old.header.shape self.old.header.header.cards).blank
-            (layout_of self.new.header.shape self.new.header.header.cards).blank
-            (block_count self.old.plane.bytes)
+            (layout_in self.old).blank (layout_in self.new).blank (block_count self.old.plane.bytes)
             (plane_work self.old.plane) (plane_work self.new.plane) }
     {
         self.header.apply(change);

@@ -3,8 +3,8 @@ ghost use Rattle.std.specs.Prelude.{◌≡◌};
 use crate::described::read_described;
 use crate::fault::HduFault;
 use crate::image_pixels::image_pixels;
+use crate::passing::{pass_unit, skip_unit};
 use crate::read_fault::ReadHduFault;
-use crate::unit_stats::read_unit_stats;
 use fits_plane::ValueSummary;
 use fits_stream::{Intake, Source};
 use std::alloc::Global;
@@ -41,10 +41,17 @@ impl HduStats {
         let Ok(image) = image_pixels(alloc, head) else {
             return Err(ReadHduFault::Hdu(HduFault::Memory));
         };
-        match read_unit_stats(intake, source, unit_len, image) {
-            Ok(Some(found)) => Ok(found),
-            Ok(None) => Err(ReadHduFault::Hdu(HduFault::ShortData)),
-            Err(_) => Err(ReadHduFault::Failed),
+        match image {
+            Some(image) => {
+                let unit = pass_unit(intake, source, unit_len, image.layout)?;
+                Ok(HduStats {
+                    stats: Some(unit.value_stats(image.kind.offset())),
+                })
+            }
+            None => {
+                skip_unit(intake, source, unit_len)?;
+                Ok(HduStats { stats: None })
+            }
         }
     }
 }

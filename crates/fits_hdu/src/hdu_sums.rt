@@ -1,15 +1,15 @@
-ghost use Rattle.std.specs.Prelude.{◌≡◌, ◌≤◌, ◌^◌, length};
-ghost use Rattle.fits_card.specs.Header.{header_bytes};
-ghost use Rattle.fits_sum.specs.OnesComplement.{ones_complement};
-ghost use Rattle.fits_hdu.specs.Passing.{verdicts_of_sums};
+ghost use Rattle.std.specs.Prelude.{◌≤◌, ◌^◌, length};
+ghost use Rattle.fits_card.specs.Header.{header_bytes, IsHeader};
+ghost use Rattle.fits_hdu.specs.Reading.{passed_parts};
+ghost use Rattle.fits_hdu.specs.Sums.{AreSumsOf};
 
 use crate::described::Described;
 use crate::read_fault::ReadHduFault;
 use crate::summed::{Summed, read_summed};
 use crate::sums::{sum_keywords_in, verdicts_by, whole_sum};
-use crate::unit_sums::UnitSums;
 use crate::verdicts::Verdicts;
 use fits_header::header_total;
+use fits_plane::PassedUnit;
 use fits_stream::{Intake, Source};
 use fits_sum::fold;
 use std::alloc::Global;
@@ -44,22 +44,23 @@ impl HduSums {
         ensures err { IfErr result (HduStops primary
             (supply (R.state source.old) intake.old) (supply (R.state source.new) intake.new)) }
     {
-        let Summed { head, sums } = read_summed(alloc, intake, source, primary)?;
-        Ok(sums_of(head, sums))
+        let Summed { head, unit } = read_summed(alloc, intake, source, primary)?;
+        Ok(sums_of(head, &unit))
     }
 }
 
-// The sums of an HDU with this header and these sums of its data unit. It takes no memory: of the
-// cards nothing is kept.
-fn sums_of(head: Described, sums: UnitSums) -> HduSums
-    requires { length (header_bytes head.cards.header) ≤ 2 ^ 34 }
-    ensures sum { result.datasum ≡ ones_complement sums.total }
-    ensures verdicts { result.verdicts ≡ verdicts_of_sums head.cards.header sums }
+// The sums of an HDU of this header and this data unit. It takes no memory: of the cards nothing is
+// kept.
+fn sums_of(head: Described, unit: &PassedUnit) -> HduSums
+    requires whole { IsHeader head.cards.header }
+    requires small { length (header_bytes head.cards.header) ≤ 2 ^ 34 }
+    ensures { AreSumsOf result.datasum result.verdicts (passed_parts head.cards.header unit.now) }
 {
     let Described { mut cards, .. } = head;
     let said = sum_keywords_in(&mut cards);
-    let datasum = fold(sums.total);
-    let whole = whole_sum(header_total(&mut cards), sums.total);
+    let total = unit.total();
+    let datasum = fold(total);
+    let whole = whole_sum(header_total(&mut cards), total);
     HduSums {
         datasum,
         verdicts: verdicts_by(said, datasum, whole),

@@ -1,5 +1,7 @@
 use crate::data_unit::unit_len;
 use crate::fault::HduFault;
+use crate::passing::skip_unit;
+use crate::read_fault::ReadHduFault;
 use fits_card::{CardList, HeaderFront, read_front};
 use fits_rules::{ShapeFault, shape};
 use fits_stream::{Intake, ReadFault, Source};
@@ -62,13 +64,13 @@ impl Headed {
             }
         };
         drop(shape);
-        match intake.skip(source, unit_len) {
-            Ok(count) if count == unit_len => Ok(Headed { cards, fault: None }),
-            Ok(_) => Ok(Headed {
+        match skip_unit(intake, source, unit_len) {
+            Ok(()) => Ok(Headed { cards, fault: None }),
+            Err(ReadHduFault::Hdu(why)) => Ok(Headed {
                 cards,
-                fault: Some(HduFault::ShortData),
+                fault: Some(why),
             }),
-            Err(_) => Err(ReadFault::Failed),
+            Err(ReadHduFault::Failed) => Err(ReadFault::Failed),
         }
     }
 }

@@ -6,7 +6,7 @@ ghost use Rattle.fits_plane.specs.Layout.{block_count};
 ghost use Rattle.fits_rules.specs.Class.{is_primary};
 ghost use Rattle.fits_rules.specs.Shape.{shape_of};
 ghost use Rattle.fits_rules.specs.Size.{data_length, data_size};
-ghost use Rattle.fits_hdu.specs.Layout.{blank_number, fill_byte, layout_of};
+ghost use Rattle.fits_hdu.specs.Layout.{blank_number, fill_byte, layout_of, layout_of_bytes};
 ghost use Rattle.fits_hdu.specs.Work.{plane_work, FollowsBlank, IsMade, IsScanned};
 
 use fits_card::Name;
@@ -26,33 +26,31 @@ pub(crate) fn layout_of(header: &mut Header) -> Layout
         ≡ Ok header.old.shape }
     ensures work { ReadsUpTo header.old header.new 1 }
 {
-    let fill = fill_byte(header.shape().class);
-    let used = used_bytes(header.shape());
+    let bytes = layout_of_bytes(header.shape());
     let Some(bits) = image_bits(header.shape()) else {
-        return Layout {
-            width: 0,
-            pixels: 0,
-            used,
-            fill,
-            blank: None,
-        };
+        return bytes;
     };
     let width = (bits / 8) as usize;
     Layout {
         width,
-        pixels: used / width,
-        used,
-        fill,
+        pixels: bytes.used / width,
         blank: blank_number(header),
+        ..bytes
     }
 }
 
-/// How many bytes of its data unit stand before the fill.
-pub(crate) fn used_bytes(shape: &Shape) -> usize
+/// The layout of a data unit of which no pixels are read.
+pub(crate) fn layout_of_bytes(shape: &Shape) -> Layout
     requires { data_size shape.now ≤ 2 ^ 34 }
-    ensures { result ≡ data_size shape.now }
+    ensures { result ≡ layout_of_bytes shape.now }
 {
-    data_bytes(shape).unwrap_or(0) as usize
+    Layout {
+        width: 0,
+        pixels: 0,
+        used: data_bytes(shape).unwrap_or(0) as usize,
+        fill: fill_byte(shape.class),
+        blank: None,
+    }
 }
 
 /// The stored number of undefined pixels that BLANK says, where it says an integer of 64 bits.

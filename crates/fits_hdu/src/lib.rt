@@ -21,6 +21,7 @@ mod new_image;
 mod one_card;
 mod outline;
 mod passed_hdu;
+mod passing;
 mod pixel_fault;
 mod read_fault;
 mod reshape_fault;
@@ -33,9 +34,6 @@ mod sum_keywords;
 mod sum_said;
 mod summed;
 mod sums;
-mod unit_away;
-mod unit_stats;
-mod unit_sums;
 mod verdict;
 mod verdicts;
 

@@ -3,8 +3,8 @@ ghost use Rattle.std.specs.Prelude.{◌≡◌};
 use crate::described::{Described, read_described};
 use crate::fault::HduFault;
 use crate::layout::layout_of;
+use crate::passing::pass_unit;
 use crate::read_fault::ReadHduFault;
-use crate::unit_away::pass_unit;
 use fits_header::Header;
 use fits_plane::PassedUnit;
 use fits_stream::{Intake, Source};
@@ -46,14 +46,10 @@ impl PassedHdu {
         };
         let layout = layout_of(&mut header);
         match pass_unit(intake, source, unit_len, layout) {
-            Ok(Some(unit)) => Ok(PassedHdu { header, unit }),
-            Ok(None) => {
+            Ok(unit) => Ok(PassedHdu { header, unit }),
+            Err(fault) => {
                 drop(header);
-                Err(ReadHduFault::Hdu(HduFault::ShortData))
-            }
-            Err(_) => {
-                drop(header);
-                Err(ReadHduFault::Failed)
+                Err(fault)
             }
         }
     }

@@ -1,16 +1,20 @@
 -- A line's words, put together and taken apart.
-use Rattle.std.proofs.Common.{◌≡◌, ℕ, ◌≤◌, List, [], ◌∷◌, ◌++◌, length, refl, ap, sym, ◌∙◌, inl, inr, rules, true, false, Bool, Option, None, Some}
+use Rattle.std.proofs.Common.{◌≡◌, ℕ, ◌≤◌, List, [], ◌∷◌, ◌++◌, length, refl, ap, sym, ◌∙◌, inl, inr, rules, true, false, Bool, Option, None, Some, Result, Ok, Err}
 use Rattle.std.specs.Prelude.{◌==◌, ◌&&◌, nat_le, unwrap_or, if◌then◌else◌}
 use Rattle.std.specs.List.{list_all, list_any}
+use Rattle.std.specs.Option.{ok_or}
 use Rattle.std.proofs.lemmas.Bool.{and_parts, cases_Bool, leb-true, or_from}
 use Rattle.std.proofs.lemmas.List.{append-nil}
-use Rattle.std.proofs.lemmas.Option.{option_and_then_some}
 use Rattle.fits_card.specs.Card.{card_of_text}
 use Rattle.fits_value.specs.Number.{value_of}
 use Rattle.fits_value.specs.Spelling.{is_digit, is_space}
 use Rattle.fits_script.specs.Cut.{HasNo}
 use Rattle.fits_laws.specs.Forms.{followed, IsNumber, IsName, IsCard}
-use Rattle.fits_script.specs.Line.{after_word, alone, card_last, first_word, name_first, name_of_text, name_of_word, number_first, number_of_word}
+use Rattle.fits_script.specs.Line.{◌>>=◌, card_last, ended, next_word}
+use Rattle.fits_script.specs.Misfit.{more_misfit}
+use Rattle.fits_script.specs.Words.{after_next, after_word, first_word, name_of_text, name_of_word, number_of_word}
+use Rattle.fits_script.specs.declared.misfit.Misfit.{Misfit}
+use Rattle.fits_script.specs.declared.misfit.Misfit.TheVariants.{LongCard, WordMissing}
 use Rattle.fits_script.proofs.WordLemmas.{first_word-alone, after_word-alone, first_word-cut, after_word-cut}
 
 -- a word is what comes first of it and what follows
@@ -104,66 +108,68 @@ IsName-is word name bare is =
     let parts = and_parts (nat_le 1 (length word)) (nat_le (length word) 8) all in
     record { unspaced = bare; some = leb-true 1 (length word) parts.0; few = leb-true (length word) 8 parts.1; is = sym same })
 
+-- the same of what is said, or why nothing is
+tested_ok : {X P : Type 0} (test : Bool) (x y : X) (why : Misfit) → (if test then Ok x else Err why) ≡ Ok y → (test ≡ true → x ≡ y → P) → P
+tested_ok {X = X} true x y why e give = give refl (let z : ◌≡◌ {A = Result X Misfit} (Ok x) (Ok y) = e in cc)
+tested_ok {X = X} false x y why e give = absurd (let z : ◌≡◌ {A = Result X Misfit} (Err why) (Ok y) = e in cc)
+
+-- what is there is said
+pub was_some : {X : Type 0} (found : Option X) (why : Misfit) (x : X) → ok_or found why ≡ Ok x → found ≡ Some x
+was_some {X = X} None why x e = absurd (let z : ◌≡◌ {A = Result X Misfit} (Err why) (Ok x) = e in cc)
+was_some {X = X} (Some y) why x e = ap Some (let z : ◌≡◌ {A = Result X Misfit} (Ok y) (Ok x) = e in let same : y ≡ x = cc in same)
+
+-- a part and what follows from it are said
+pub both_said : {X Y P : Type 0} (part : Result X Misfit) (next : X → Result Y Misfit) (y : Y) → (part >>= next) ≡ Ok y → ((x : X) → part ≡ Ok x → next x ≡ Ok y → P) → P
+both_said {Y = Y} (Err why) next y e give = absurd (let z : ◌≡◌ {A = Result Y Misfit} (Err why) (Ok y) = e in cc)
+both_said (Ok x) next y e give = give x refl e
+
 -- the card of a text that is one
-pub card_last-is : (rest : Option (List ℕ)) (card : List ℕ) → IsCard (unwrap_or rest []) card → card_last rest ≡ Some card
+pub card_last-is : (rest : Option (List ℕ)) (card : List ℕ) → IsCard (unwrap_or rest []) card → card_last rest ≡ Ok card
 unfolding card_last
-card_last-is rest card is = let short : nat_le (length (unwrap_or rest [])) 80 ≡ true = search (rules, is.short) in rw short (ap Some (sym is.is))
+card_last-is rest card is = let short : nat_le (length (unwrap_or rest [])) 80 ≡ true = search (rules, is.short) in rw short (ap Ok (sym is.is))
 
 -- a text that has a card is one
-pub IsCard-is : (rest : Option (List ℕ)) (card : List ℕ) → card_last rest ≡ Some card → IsCard (unwrap_or rest []) card
+pub IsCard-is : (rest : Option (List ℕ)) (card : List ℕ) → card_last rest ≡ Ok card → IsCard (unwrap_or rest []) card
 unfolding card_last
 IsCard-is rest card is =
-    tested_some (nat_le (length (unwrap_or rest [])) 80) (card_of_text (unwrap_or rest [])) card is (λ short same. record { short = leb-true (length (unwrap_or rest [])) 80 short; is = sym same })
+    let text = unwrap_or rest [] in
+    tested_ok (nat_le (length text) 80) (card_of_text text) card (LongCard (length text)) is (λ short same. record { short = leb-true (length text) 80 short; is = sym same })
 
--- a number comes first, where it is written there
-pub number_first-is : (word : List ℕ) (rest : Option (List ℕ)) (number : ℕ) → IsNumber word number → number_first (Some (word ++ followed rest)) ≡ Some (number, rest)
-unfolding number_first
-number_first-is word rest number is =
-    let bare : HasNo 32 word = digits_bare word is.digits in
-    rw (first_word-followed word rest bare, number_of_word-is word number is, after_word-followed word rest bare) refl
+-- what a word reads as, where it is written next
+pub next_is : {X : Type 0} (reads : List ℕ → Option X) (another : List ℕ → Misfit) (size : ℕ) (rest : Option (List ℕ)) (word : List ℕ) (more : Option (List ℕ)) (x : X) → rest ≡ Some (word ++ followed more) → HasNo 32 word → reads word ≡ Some x
+    → (next_word reads another size rest ≡ Ok x) × (after_next rest ≡ more)
+unfolding next_word
+next_is reads another size rest word more x is bare read = rw is (rw (first_word-followed word more bare, read) refl, after_word-followed word more bare)
 
--- a name comes first, where it is written there
-pub name_first-is : (word : List ℕ) (rest : Option (List ℕ)) (name : List ℕ) → IsName word name → name_first (Some (word ++ followed rest)) ≡ Some (name, rest)
-unfolding name_first
-name_first-is word rest name is =
-    rw (first_word-followed word rest is.unspaced, name_of_word-is word name is, after_word-followed word rest is.unspaced) refl
-
--- where a number comes first, it is written there
-pub record NumberFirst (rest : Option (List ℕ)) (number : ℕ) (more : Option (List ℕ)) : Type 0 where
+-- where the next word is read, it is written there
+pub record NextSays {X : Type 0} (reads : List ℕ → Option X) (rest : Option (List ℕ)) (x : X) : Type 0 where
   pub word : List ℕ
-  pub is : rest ≡ Some (word ++ followed more)
-  pub is_number : IsNumber word number
+  pub is : rest ≡ Some (word ++ followed (after_next rest))
+  pub bare : HasNo 32 word
+  pub read : reads word ≡ Some x
 
--- where a name comes first, it is written there
-pub record NameFirst (rest : Option (List ℕ)) (name : List ℕ) (more : Option (List ℕ)) : Type 0 where
-  pub word : List ℕ
-  pub is : rest ≡ Some (word ++ followed more)
-  pub is_name : IsName word name
+-- what is read of a text
+pub next_says : {X : Type 0} (reads : List ℕ → Option X) (another : List ℕ → Misfit) (size : ℕ) (rest : Option (List ℕ)) (x : X) → next_word reads another size rest ≡ Ok x → NextSays reads rest x
+unfolding next_word
+next_says {X = X} reads another size None x e = absurd (let z : ◌≡◌ {A = Result X Misfit} (Err WordMissing) (Ok x) = e in cc)
+next_says reads another size (Some text) x e =
+    record { word = first_word text; is = ap Some (followed-after_word text); bare = first_word-bare text; read = was_some (reads (first_word text)) _ x e }
 
--- what comes first of a text, and the rest
-pub NumberFirst-is : (rest : Option (List ℕ)) (cut : ℕ × Option (List ℕ)) → number_first rest ≡ Some cut → NumberFirst rest cut.0 cut.1
-unfolding number_first
-NumberFirst-is None cut e = absurd (let z : ◌≡◌ {A = Option (ℕ × Option (List ℕ))} None (Some cut) = e in cc)
-NumberFirst-is (Some text) cut e =
-    option_and_then_some (λ number. Some (number, after_word text)) (number_of_word (first_word text)) cut e (λ number is made.
-    let same : ◌≡◌ {A = ℕ × Option (List ℕ)} cut (number, after_word text) = cc in
-    rw same (record { word = first_word text; is = ap Some (followed-after_word text); is_number = IsNumber-is (first_word text) number is }))
+-- nothing follows where a line ends
+pub ended-says : {X : Type 0} (size : ℕ) (rest : Option (List ℕ)) (x y : X) → ended size rest x ≡ Ok y → (rest ≡ None) × (x ≡ y)
+unfolding ended
+ended-says {X = X} size None x y e = (refl, let z : ◌≡◌ {A = Result X Misfit} (Ok x) (Ok y) = e in cc)
+ended-says {X = X} size (Some text) x y e = absurd (let z : ◌≡◌ {A = Result X Misfit} (Err (more_misfit size text)) (Ok y) = e in cc)
 
--- what comes first of a text, and the rest
-pub NameFirst-is : (rest : Option (List ℕ)) (cut : List ℕ × Option (List ℕ)) → name_first rest ≡ Some cut → NameFirst rest cut.0 cut.1
-unfolding name_first
-NameFirst-is None cut e = absurd (let z : ◌≡◌ {A = Option (List ℕ × Option (List ℕ))} None (Some cut) = e in cc)
-NameFirst-is (Some text) cut e =
-    option_and_then_some (λ name. Some (name, after_word text)) (name_of_word (first_word text)) cut e (λ name is made.
-    let same : ◌≡◌ {A = List ℕ × Option (List ℕ)} cut (name, after_word text) = cc in
-    rw same (record { word = first_word text; is = ap Some (followed-after_word text); is_name = IsName-is (first_word text) name (first_word-bare text) is }))
-
--- nothing follows what is alone
-pub alone-is : {X : Type 0} (rest : Option (List ℕ)) (x y : X) → alone rest x ≡ Some y → (rest ≡ None) × (x ≡ y)
-unfolding alone
-alone-is {X = X} None x y e = (refl, let z : ◌≡◌ {A = Option X} (Some x) (Some y) = e in cc)
-alone-is {X = X} (Some text) x y e = absurd (let z : ◌≡◌ {A = Option X} None (Some y) = e in cc)
+-- and there all is said
+pub ended-is : {X : Type 0} (size : ℕ) (rest : Option (List ℕ)) (x : X) → rest ≡ None → ended size rest x ≡ Ok x
+unfolding ended
+ended-is size rest x is = rw is refl
 
 -- nothing follows a word that ends a text
 pub followed-nothing : (rest : Option (List ℕ)) (word : List ℕ) (more : Option (List ℕ)) → rest ≡ Some (word ++ followed more) → more ≡ None → rest ≡ Some word
 followed-nothing rest word more is none = is ∙ rw none (ap Some (append-nil word))
+
+-- a word that ends a text is one that nothing follows
+pub nothing-followed : (rest : Option (List ℕ)) (word : List ℕ) → rest ≡ Some word → rest ≡ Some (word ++ followed None)
+nothing-followed rest word is = is ∙ ap Some (sym (append-nil word))

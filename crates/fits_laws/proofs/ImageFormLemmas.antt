@@ -1,23 +1,22 @@
 -- The words of a new image, put together and taken apart.
-use Rattle.std.proofs.Common.{◌≡◌, ℕ, List, [], ◌∷◌, ◌++◌, refl, ap, sym, ◌∙◌, inl, inr, true, Option, None, Some}
+use Rattle.std.proofs.Common.{◌≡◌, ℕ, List, [], ◌∷◌, refl, ap, sym, ◌∙◌, inl, inr, true, Option, None, Some}
 use Rattle.std.specs.Prelude.{◌==◌, codes}
 use Rattle.std.specs.List.{slice_split}
 use Rattle.std.specs.Str.{bytes_eq}
 use Rattle.std.proofs.lemmas.Bool.{cases_Bool}
-use Rattle.std.proofs.lemmas.Option.{option_and_then_some}
 use Rattle.std.proofs.lemmas.Slice.Eq.{bytes_eq-Decides}
 use Rattle.fits_image.specs.declared.kind.Kind.{Kind}
 use Rattle.fits_image.specs.declared.kind.Kind.TheVariants.{U8, I8, I16, U16, I32, U32, I64, U64}
 use Rattle.fits_script.specs.Cut.{HasNo}
-use Rattle.fits_laws.specs.Forms.{followed, kind_word, AreNumbers, IsAxes, IsLengths}
-use Rattle.fits_script.specs.Line.{after_word, axes_last, axes_of_word, each_read, first_word, kind_first, kind_of_word, list_of_text, number_of_word}
+use Rattle.fits_laws.specs.Forms.{kind_word, AreNumbers, IsAxes, IsLengths}
+use Rattle.fits_script.specs.Words.{axes_of_word, each_read, kind_of_word, list_of_text, number_of_word}
 use Rattle.fits_script.proofs.VerbLemmas.{either_some}
-use Rattle.fits_laws.proofs.FormLemmas.{first_word-followed, after_word-followed, followed-after_word, number_of_word-is, IsNumber-is}
+use Rattle.fits_laws.proofs.FormLemmas.{number_of_word-is, IsNumber-is}
 use Rattle.fits_laws.proofs.JoinedLemmas.{each_read-none, each_read-some, list_of_text-joined, joined-parts, some_parts, EachHasNo}
-use Rattle.fits_laws.proofs.PixelFormLemmas.{digit-between, digits_without}
+use Rattle.fits_laws.proofs.PixelFormLemmas.{digit-between, digits_without, joined_without}
 
 -- the kind of a kind's word
-kind_of_word-is : (kind : Kind) → kind_of_word (kind_word kind) ≡ Some kind
+pub kind_of_word-is : (kind : Kind) → kind_of_word (kind_word kind) ≡ Some kind
 unfolding kind_of_word
 kind_of_word-is U8 = refl
 kind_of_word-is I8 = refl
@@ -29,7 +28,7 @@ kind_of_word-is I64 = refl
 kind_of_word-is U64 = refl
 
 -- which has no space
-kind_word-bare : (kind : Kind) → HasNo 32 (kind_word kind)
+pub kind_word-bare : (kind : Kind) → HasNo 32 (kind_word kind)
 kind_word-bare U8 = refl
 kind_word-bare I8 = refl
 kind_word-bare I16 = refl
@@ -44,7 +43,7 @@ named : (word : List ℕ) (is kind : Kind) → bytes_eq word (kind_word is) ≡ 
 named word is kind test e = let same : is ≡ kind = cc in (bytes_eq-Decides word (kind_word is)).0 test ∙ ap kind_word same
 
 -- a word that names a kind is its word
-kind_of_word-says : (word : List ℕ) (kind : Kind) → kind_of_word word ≡ Some kind → word ≡ kind_word kind
+pub kind_of_word-says : (word : List ℕ) (kind : Kind) → kind_of_word word ≡ Some kind → word ≡ kind_word kind
 unfolding kind_of_word
 kind_of_word-says word kind e =
     either_some (bytes_eq word (codes "u8")) _ _ kind e (named word U8 kind)
@@ -57,33 +56,25 @@ kind_of_word-says word kind e =
     (λ not_i64 e7. either_some (bytes_eq word (codes "u64")) _ _ kind e7 (named word U64 kind)
     (λ not_u64 e8. absurd (let z : ◌≡◌ {A = Option Kind} None (Some kind) = e8 in cc)))))))))
 
--- a word that names a kind and what follows it
-kind_first-word : (word : List ℕ) (kind : Kind) (rest : Option (List ℕ)) → HasNo 32 word → kind_of_word word ≡ Some kind → kind_first (Some (word ++ followed rest)) ≡ Some (kind, rest)
-unfolding kind_first
-kind_first-word word kind rest bare is = rw (first_word-followed word rest bare, is, after_word-followed word rest bare) refl
+-- words that are lengths read as their numbers, and have neither comma nor space
+record LengthsRead (words : List (List ℕ)) (numbers : List ℕ) : Type 0 where
+  pub read : each_read number_of_word words ≡ Some numbers
+  pub no_comma : EachHasNo 44 words
+  pub no_space : EachHasNo 32 words
 
--- a kind comes first, where its word is written there
-pub kind_first-is : (kind : Kind) (rest : Option (List ℕ)) → kind_first (Some (kind_word kind ++ followed rest)) ≡ Some (kind, rest)
-kind_first-is kind rest = kind_first-word (kind_word kind) kind rest (kind_word-bare kind) (kind_of_word-is kind)
-
--- and where it comes first, it is written there
-pub kind_first-says : (rest : Option (List ℕ)) (cut : Kind × Option (List ℕ)) → kind_first rest ≡ Some cut → rest ≡ Some (kind_word cut.0 ++ followed cut.1)
-unfolding kind_first
-kind_first-says None cut e = absurd (let z : ◌≡◌ {A = Option (Kind × Option (List ℕ))} None (Some cut) = e in cc)
-kind_first-says (Some text) cut e =
-    option_and_then_some (λ kind. Some (kind, after_word text)) (kind_of_word (first_word text)) cut e (λ kind is made.
-    let same : ◌≡◌ {A = Kind × Option (List ℕ)} cut (kind, after_word text) = cc in
-    rw same (ap Some (followed-after_word text ∙ ap (λ w. w ++ followed (after_word text)) (kind_of_word-says (first_word text) kind is))))
-
--- words that are lengths read as their numbers
-lengths_read : (words : List (List ℕ)) (numbers : List ℕ) → AreNumbers words numbers → (each_read number_of_word words ≡ Some numbers) × EachHasNo 44 words
+-- words that are lengths
+lengths_read : (words : List (List ℕ)) (numbers : List ℕ) → AreNumbers words numbers → LengthsRead words numbers
 unfolding each_read
-lengths_read [] [] are = (refl, tt)
+lengths_read [] [] are = record { read = refl; no_comma = tt; no_space = tt }
 lengths_read [] (n ∷ numbers) are = absurd are
 lengths_read (word ∷ words) [] are = absurd are
 lengths_read (word ∷ words) (n ∷ numbers) are =
     let others = lengths_read words numbers are.1 in
-    (rw (number_of_word-is word n are.0, others.0) refl, (digits_without 44 word (λ b d. (digit-between b d).1) are.0.digits, others.1))
+    record {
+      read = rw (number_of_word-is word n are.0, others.read) refl;
+      no_comma = (digits_without 44 word (λ b d. (digit-between b d).1) are.0.digits, others.no_comma);
+      no_space = (digits_without 32 word (λ b d. (digit-between b d).2) are.0.digits, others.no_space);
+    }
 
 -- words that read as lengths are
 AreNumbers-are : (words : List (List ℕ)) (numbers : List ℕ) → each_read number_of_word words ≡ Some numbers → AreNumbers words numbers
@@ -94,7 +85,7 @@ AreNumbers-are (word ∷ words) numbers e = each_read-some number_of_word word w
 lengths_of_text : (text axes : List ℕ) → IsLengths text axes → list_of_text number_of_word 44 text ≡ Some axes
 lengths_of_text text axes is =
     let read = lengths_read is.words axes is.are_numbers in
-    list_of_text-joined number_of_word 44 text is.words axes is.is is.some read.1 read.0
+    list_of_text-joined number_of_word 44 text is.words axes is.is is.some read.no_comma read.read
 
 -- a hyphen is no length
 not_hyphen : list_of_text number_of_word 44 (codes "-") ≡ None
@@ -102,7 +93,7 @@ unfolding list_of_text each_read number_of_word
 not_hyphen = refl
 
 -- the axes of a word that is some
-axes_of_word-is : (text axes : List ℕ) → IsAxes text axes → axes_of_word text ≡ Some axes
+pub axes_of_word-is : (text axes : List ℕ) → IsAxes text axes → axes_of_word text ≡ Some axes
 unfolding axes_of_word
 axes_of_word-is text axes (inl none) = rw (none.0, none.1) refl
 axes_of_word-is text axes (inr is) =
@@ -113,20 +104,14 @@ axes_of_word-is text axes (inr is) =
     ]
 
 -- a word with axes is some
-IsAxes-is : (text axes : List ℕ) → axes_of_word text ≡ Some axes → IsAxes text axes
+pub IsAxes-is : (text axes : List ℕ) → axes_of_word text ≡ Some axes → IsAxes text axes
 unfolding axes_of_word list_of_text
 IsAxes-is text axes e =
     either_some (bytes_eq text (codes "-")) _ _ axes e
     (λ hyphen none. inl ((bytes_eq-Decides text (codes "-")).0 hyphen, let z : ◌≡◌ {A = Option (List ℕ)} (Some []) (Some axes) = none in cc))
     (λ other read. let words : List (List ℕ) = slice_split (λ b. b == 44) text in inr (record { words = words; is = joined-parts 44 text; some = some_parts 44 text; are_numbers = AreNumbers-are words axes read }))
 
--- axes end a line, where they are written there
-pub axes_last-is : (text axes : List ℕ) → IsAxes text axes → axes_last (Some text) ≡ Some axes
-unfolding axes_last
-axes_last-is text axes is = axes_of_word-is text axes is
-
--- and where they end it, they are written there
-pub axes_last-says : (rest : Option (List ℕ)) (axes : List ℕ) → axes_last rest ≡ Some axes → (text : List ℕ) × (rest ≡ Some text) × IsAxes text axes
-unfolding axes_last
-axes_last-says None axes e = absurd (let z : ◌≡◌ {A = Option (List ℕ)} None (Some axes) = e in cc)
-axes_last-says (Some text) axes e = (text, refl, IsAxes-is text axes e)
+-- axes have no space
+pub axes_bare : (text axes : List ℕ) → IsAxes text axes → HasNo 32 text
+axes_bare text axes (inl none) = rw none.0 refl
+axes_bare text axes (inr is) = rw is.is (joined_without 32 44 is.words refl (lengths_read is.words axes is.are_numbers).no_space)

@@ -8,7 +8,7 @@ use Rattle.fits_script.specs.Cut.{HasNo}
 use Rattle.std.proofs.lemmas.List.Splits.{join_with_byte-slice_split, length-slice_split}
 use Rattle.fits_script.proofs.PartsLemmas.{parts-cut, parts-none}
 use Rattle.std.proofs.lemmas.Option.{option_and_then_some}
-use Rattle.fits_script.specs.Line.{each_read, list_of_text}
+use Rattle.fits_script.specs.Words.{each_read, list_of_text}
 
 -- a byte is itself
 same_byte : (b : ℕ) → (b == b) ≡ true

@@ -1,15 +1,21 @@
 -- Rectangles and values in a line, put together and taken apart.
-use Rattle.std.proofs.Common.{◌≡◌, ℕ, ◌≤◌, List, [], ◌∷◌, ◌++◌, length, refl, ap, sym, inl, inr, arith, rules, true, false, Bool, Option, None, Some}
+use Rattle.std.proofs.Common.{◌≡◌, ℕ, ◌≤◌, List, [], ◌∷◌, ◌++◌, length, refl, ap, sym, inl, inr, arith, rules, true, false, Bool, Option, None, Some, Result, Ok, Err}
 use Rattle.std.specs.Prelude.{◌==◌, nat_le, ℤ, map, if◌then◌else◌}
 use Rattle.std.specs.List.{join_with_byte, list_all, list_any, slice_split}
+use Rattle.std.specs.Option.{option_map}
 use Rattle.std.proofs.lemmas.Bool.{and_parts, cases_Bool, leb-true, or_from, or_parts}
 use Rattle.std.proofs.lemmas.Option.{option_and_then_some}
 use Rattle.fits_value.specs.Number.{signed, value_of}
 use Rattle.fits_value.specs.Spelling.{is_digit}
+use Rattle.fits_edit.specs.declared.paint.Paint.{Paint}
+use Rattle.fits_edit.specs.declared.paint.Paint.TheVariants.{Write}
 use Rattle.fits_script.specs.Cut.{HasNo}
-use Rattle.fits_laws.specs.Forms.{followed, minus_if, AreAxes, AreValues, IsAxis, IsRectangle, IsValue, IsValues}
-use Rattle.fits_script.specs.Line.{after_colon, after_word, axis_of_word, before_colon, corners_of_word, each_read, first_word, is_negative, is_number, list_of_text, number_of_word, rectangle_first, value_last, value_of_word, values_last, without_minus}
-use Rattle.fits_laws.proofs.FormLemmas.{first_word-followed, after_word-followed, followed-after_word, number_of_word-is, three_parts, tested_some, IsNumber-is}
+use Rattle.fits_laws.specs.Forms.{minus_if, AreAxes, AreValues, IsAxis, IsRectangle, IsValue, IsValues}
+use Rattle.fits_script.specs.Line.{values_last}
+use Rattle.fits_script.specs.Words.{after_colon, axis_of_word, before_colon, corners_of_word, each_read, is_negative, is_number, list_of_text, number_of_word, value_of_word, without_minus}
+use Rattle.fits_script.specs.declared.misfit.Misfit.{Misfit}
+use Rattle.fits_script.specs.declared.misfit.Misfit.TheVariants.{WordMissing}
+use Rattle.fits_laws.proofs.FormLemmas.{number_of_word-is, three_parts, tested_some, was_some, IsNumber-is}
 use Rattle.fits_script.proofs.PartsLemmas.{before_colon-cut, after_colon-cut}
 use Rattle.fits_laws.proofs.JoinedLemmas.{joined-parts, some_parts, EachHasNo, each_read-none, each_read-some, list_of_text-joined}
 
@@ -36,7 +42,7 @@ without_between other byte (b ∷ bs) back differs first rest =
     or_from (b == other) (list_any (λ x. x == other) (bs ++ byte ∷ back)) parts.0 (without_between other byte bs back differs parts.1 rest)
 
 -- nor in joined parts, where it is in none of them
-joined_without : (other byte : ℕ) (parts : List (List ℕ)) → (byte == other) ≡ false → EachHasNo other parts → HasNo other (join_with_byte byte parts)
+pub joined_without : (other byte : ℕ) (parts : List (List ℕ)) → (byte == other) ≡ false → EachHasNo other parts → HasNo other (join_with_byte byte parts)
 joined_without other byte [] differs all = refl
 joined_without other byte (part ∷ []) differs all = all.0
 joined_without other byte (part ∷ next ∷ parts) differs all =
@@ -114,14 +120,14 @@ AreAxes-are [] axes e = rw (sym (each_read-none axis_of_word axes e)) tt
 AreAxes-are (part ∷ parts) axes e = each_read-some axis_of_word part parts axes e (λ axis others is are same. rw (sym same) (IsAxis-is part axis is, AreAxes-are parts others are))
 
 -- the corners of a rectangle
-corners_of_word-is : (word lo hi : List ℕ) → IsRectangle word lo hi → corners_of_word word ≡ Some (lo, hi)
+pub corners_of_word-is : (word lo hi : List ℕ) → IsRectangle word lo hi → corners_of_word word ≡ Some (lo, hi)
 unfolding corners_of_word
 corners_of_word-is word lo hi is =
     let axes = axes_read is.axes lo hi is.are_axes in
     rw (list_of_text-joined axis_of_word 44 word is.axes axes.axes is.is is.some axes.no_comma axes.read, axes.lower, axes.upper) refl
 
 -- a word that has corners is a rectangle
-IsRectangle-is : (word : List ℕ) (corners : List ℕ × List ℕ) → corners_of_word word ≡ Some corners → IsRectangle word corners.0 corners.1
+pub IsRectangle-is : (word : List ℕ) (corners : List ℕ × List ℕ) → corners_of_word word ≡ Some corners → IsRectangle word corners.0 corners.1
 unfolding corners_of_word list_of_text
 IsRectangle-is word corners e =
     option_and_then_some _ (list_of_text axis_of_word 44 word) corners e (λ axes read e1.
@@ -129,27 +135,9 @@ IsRectangle-is word corners e =
     let parts : List (List ℕ) = slice_split (λ b. b == 44) word in
     rw same (record { axes = parts; is = joined-parts 44 word; some = some_parts 44 word; are_axes = AreAxes-are parts axes read }))
 
--- a rectangle comes first, where it is written there
-pub rectangle_first-is : (word : List ℕ) (rest : Option (List ℕ)) (lo hi : List ℕ) → IsRectangle word lo hi → rectangle_first (Some (word ++ followed rest)) ≡ Some (lo, hi, rest)
-unfolding rectangle_first
-rectangle_first-is word rest lo hi is =
-    let bare : HasNo 32 word = rw is.is (joined_without 32 44 is.axes refl (axes_read is.axes lo hi is.are_axes).no_space) in
-    rw (first_word-followed word rest bare, after_word-followed word rest bare, corners_of_word-is word lo hi is) refl
-
--- where a rectangle comes first, it is written there
-pub record RectangleFirst (rest : Option (List ℕ)) (lo hi : List ℕ) (more : Option (List ℕ)) : Type 0 where
-  pub word : List ℕ
-  pub is : rest ≡ Some (word ++ followed more)
-  pub is_rectangle : IsRectangle word lo hi
-
--- what comes first of a text, and the rest
-pub RectangleFirst-is : (rest : Option (List ℕ)) (cut : List ℕ × List ℕ × Option (List ℕ)) → rectangle_first rest ≡ Some cut → RectangleFirst rest cut.0 cut.1 cut.2
-unfolding rectangle_first
-RectangleFirst-is None cut e = absurd (let z : ◌≡◌ {A = Option (List ℕ × List ℕ × Option (List ℕ))} None (Some cut) = e in cc)
-RectangleFirst-is (Some text) cut e =
-    option_and_then_some _ (corners_of_word (first_word text)) cut e (λ corners is e1.
-    let same : ◌≡◌ {A = List ℕ × List ℕ × Option (List ℕ)} cut (corners.0, corners.1, after_word text) = cc in
-    rw same (record { word = first_word text; is = ap Some (followed-after_word text); is_rectangle = IsRectangle-is (first_word text) corners is }))
+-- and has no space
+pub rectangle_bare : (word lo hi : List ℕ) → IsRectangle word lo hi → HasNo 32 word
+rectangle_bare word lo hi is = rw is.is (joined_without 32 44 is.axes refl (axes_read is.axes lo hi is.are_axes).no_space)
 
 -- digits begin with no minus sign
 sized : (size : List ℕ) → list_all is_digit size ≡ true → 1 ≤ length size → (is_negative size ≡ false) × (without_minus size ≡ size)
@@ -174,11 +162,11 @@ value_by false size digits some few =
     rw (plain.0, plain.1, is_size size digits some few) refl
 
 -- a word that is a value reads as its number
-value_of_word-is : (word : List ℕ) (number : ℤ) → IsValue word number → value_of_word word ≡ Some number
+pub value_of_word-is : (word : List ℕ) (number : ℤ) → IsValue word number → value_of_word word ≡ Some number
 value_of_word-is word number is = rw (is.is, is.value) (value_by is.negative is.size is.digits is.some is.few)
 
 -- and has no space
-value_bare : (word : List ℕ) (number : ℤ) → IsValue word number → HasNo 32 word
+pub value_bare : (word : List ℕ) (number : ℤ) → IsValue word number → HasNo 32 word
 value_bare word number is = rw is.is (signed_bare is.negative is.size (digits_without 32 is.size (λ b d. (digit-between b d).2) is.digits))
   where
     signed_bare : (negative : Bool) (size : List ℕ) → HasNo 32 size → HasNo 32 (minus_if negative ++ size)
@@ -193,7 +181,7 @@ value_parts negative word size number is e =
     record { negative = negative; size = size; is = is; digits = parts.0; some = leb-true 1 (length size) parts.1; few = leb-true (length size) 30 parts.2; value = sym same })
 
 -- a word that reads as a value is one
-IsValue-is : (word : List ℕ) (number : ℤ) → value_of_word word ≡ Some number → IsValue word number
+pub IsValue-is : (word : List ℕ) (number : ℤ) → value_of_word word ≡ Some number → IsValue word number
 unfolding value_of_word
 IsValue-is [] number e = value_parts false [] [] number refl e
 IsValue-is (b ∷ bs) number e =
@@ -217,28 +205,26 @@ AreValues-are : (words : List (List ℕ)) (numbers : List ℤ) → each_read val
 AreValues-are [] numbers e = rw (sym (each_read-none value_of_word numbers e)) tt
 AreValues-are (word ∷ words) numbers e = each_read-some value_of_word word words numbers e (λ number others is are same. rw (sym same) (IsValue-is word number is, AreValues-are words others are))
 
--- a value ends a line, where it is written there
-pub value_last-is : (text : List ℕ) (number : ℤ) → IsValue text number → value_last (Some text) ≡ Some number
-unfolding value_last
-value_last-is text number is = value_of_word-is text number is
-
--- and where one ends it, it is written there
-pub value_last-says : (rest : Option (List ℕ)) (number : ℤ) → value_last rest ≡ Some number → (text : List ℕ) × (rest ≡ Some text) × IsValue text number
-unfolding value_last
-value_last-says None number e = absurd (let z : ◌≡◌ {A = Option ℤ} None (Some number) = e in cc)
-value_last-says (Some text) number e = (text, refl, IsValue-is text number e)
+-- a text that reads as values is some
+IsValues-is : (text : List ℕ) (numbers : List ℤ) → list_of_text value_of_word 32 text ≡ Some numbers → IsValues text numbers
+unfolding list_of_text
+IsValues-is text numbers e =
+    let words : List (List ℕ) = slice_split (λ b. b == 32) text in
+    record { words = words; is = joined-parts 32 text; some = some_parts 32 text; are_values = AreValues-are words numbers e }
 
 -- values end a line, where they are written there
-pub values_last-is : (text : List ℕ) (numbers : List ℤ) → IsValues text numbers → values_last (Some text) ≡ Some numbers
+pub values_last-is : (size : ℕ) (text : List ℕ) (numbers : List ℤ) → IsValues text numbers → values_last size (Some text) ≡ Ok (Write numbers)
 unfolding values_last
-values_last-is text numbers is =
+values_last-is size text numbers is =
     let read = values_read is.words numbers is.are_values in
-    list_of_text-joined value_of_word 32 text is.words numbers is.is is.some read.1 read.0
+    rw (list_of_text-joined value_of_word 32 text is.words numbers is.is is.some read.1 read.0) refl
 
 -- and where they end it, they are written there
-pub values_last-says : (rest : Option (List ℕ)) (numbers : List ℤ) → values_last rest ≡ Some numbers → (text : List ℕ) × (rest ≡ Some text) × IsValues text numbers
-unfolding values_last list_of_text
-values_last-says None numbers e = absurd (let z : ◌≡◌ {A = Option (List ℤ)} None (Some numbers) = e in cc)
-values_last-says (Some text) numbers e =
-    let words : List (List ℕ) = slice_split (λ b. b == 32) text in
-    (text, refl, record { words = words; is = joined-parts 32 text; some = some_parts 32 text; are_values = AreValues-are words numbers e })
+pub values_last-says : (size : ℕ) (rest : Option (List ℕ)) (paint : Paint) → values_last size rest ≡ Ok paint → (text : List ℕ) × (numbers : List ℤ) × (rest ≡ Some text) × IsValues text numbers × (paint ≡ Write numbers)
+unfolding values_last
+values_last-says size None paint e = absurd (let z : ◌≡◌ {A = Result Paint Misfit} (Err WordMissing) (Ok paint) = e in cc)
+values_last-says size (Some text) paint e = written (list_of_text value_of_word 32 text) refl (was_some (option_map Write (list_of_text value_of_word 32 text)) _ paint e)
+  where
+    written : (read : Option (List ℤ)) → list_of_text value_of_word 32 text ≡ read → option_map Write read ≡ Some paint → (t : List ℕ) × (numbers : List ℤ) × (◌≡◌ {A = Option (List ℕ)} (Some text) (Some t)) × IsValues t numbers × (paint ≡ Write numbers)
+    written None is made = absurd (let z : ◌≡◌ {A = Option Paint} None (Some paint) = made in cc)
+    written (Some numbers) is made = (text, numbers, refl, IsValues-is text numbers is, let z : ◌≡◌ {A = Option Paint} (Some (Write numbers)) (Some paint) = made in cc)

@@ -79,7 +79,7 @@ command_left standing (Kept hdu) sized = none_left _ _ (asked_same standing (Kep
 one_left : (standing : Standing) (line : List ℕ) (reading : LineReading) → reading_of line ≡ reading → Leaves standing.marked (line_left standing reading).marked (edits_said standing.marked reading)
 unfolding line_left
 one_left standing line TooLong is = none_left _ _ refl
-one_left standing line NoCommand is = none_left _ _ refl
+one_left standing line (NoCommand misfit) is = none_left _ _ refl
 one_left standing line (Said command) is = command_left standing command (said_line line command is)
 
 -- all lines

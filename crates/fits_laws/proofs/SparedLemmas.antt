@@ -52,7 +52,7 @@ command_stays standing (Kept hdu) e = asked_stays standing (Kept hdu) kept_line 
 line_stays : (standing : Standing) (reading : LineReading) → Stays standing (line_left standing reading)
 unfolding line_left
 line_stays standing TooLong e = (e, refl)
-line_stays standing NoCommand e = (e, refl)
+line_stays standing (NoCommand misfit) e = (e, refl)
 line_stays standing (Said command) e = command_stays standing command e
 
 -- all lines leave them, where none of them is an edit that was accepted

@@ -17,7 +17,7 @@ use Rattle.fits_edit.specs.declared.hdu_edit.HduEdit.TheVariants.{Cards, Keep, P
 use Rattle.fits_edit.specs.declared.paint.Paint.{Paint}
 use Rattle.fits_edit.specs.declared.paint.Paint.TheVariants.{Fill, Write}
 use Rattle.fits_script.specs.Cut.{HasNo}
-use Rattle.fits_script.specs.Line.{name_of_text}
+use Rattle.fits_script.specs.Words.{name_of_text}
 use Rattle.fits_script.specs.declared.command.Command.{Command}
 use Rattle.fits_script.specs.declared.command.Command.TheVariants.{Nothing, Edit, Offsets, Get, Positions, Report, Statistics, Rectangle, Sums, Kept}
 

@@ -1,5 +1,5 @@
 //! Laws of the definitions, each the contract of a function that does nothing.
-ghost use Rattle.std.specs.Prelude.{◌≡◌, ◌↔◌, ◌+◌, ◌<◌, ℕ, true, AllPairs, Bool, false, List, Some, length, take};
+ghost use Rattle.std.specs.Prelude.{◌≡◌, ◌↔◌, ◌+◌, ◌<◌, ℕ, true, AllPairs, Bool, false, List, Some, length, take, Ok};
 ghost use Rattle.fits_laws.specs.Forms.{Says};
 ghost use Rattle.fits_laws.specs.Runs.{IsEdited, LeavesSums};
 ghost use Rattle.fits_script.specs.declared.command.Command.{Command};
@@ -13,6 +13,8 @@ ghost use Rattle.fits_cli.specs.NewErrors.{new_errors, HasMoreErrors};
 ghost use Rattle.fits_cli.specs.Output.{standing_after, Output, IsOutputOf};
 ghost use Rattle.fits_cli.specs.Report.{warnings_in};
 ghost use Rattle.fits_cli.specs.Script.{IsCutInLines};
+ghost use Rattle.fits_cli.specs.declared.level.Level.{Level};
+ghost use Rattle.fits_cli.specs.declared.level.Level.TheVariants.{Errors};
 ghost use Rattle.fits_cli.specs.declared.terms.Terms.{Terms};
 
 /// What a line comes to is decided by one byte more than a line may have.
@@ -23,7 +25,7 @@ pub fn reading_of_a_front()
 /// A line within the limit says a command exactly where it has its form.
 pub fn what_a_line_says()
     ensures { (line : List ℕ) (command : Command)
-        → (command_of line ≡ Some command) ↔ Says line command }
+        → (command_of line ≡ Ok command) ↔ Says line command }
 {}
 
 /// A script is cut into lines in one way.
@@ -50,17 +52,17 @@ pub fn an_output()
         → (output : Output) × IsOutputOf terms file script output }
 {}
 
-/// Where a report in order has more of some error than another, at least one of its errors is new,
-/// and only there; so it is of errors and warnings, where these count.
+/// Where a report in order has more problems than another of some code that counts, at least one of
+/// them is new, and only there.
 pub fn more_of_an_error_is_a_new_error()
-    ensures { (strict : Bool) (before after : List Problem) → AllPairs IsListedBefore after
-        → HasMoreErrors strict before after ↔ (0 < length (new_errors strict before after)) }
+    ensures { (level : Level) (before after : List Problem) → AllPairs IsListedBefore after
+        → HasMoreErrors level before after ↔ (0 < length (new_errors level before after)) }
 {}
 
 /// Where warnings don't count, none of what is new is a warning.
 pub fn new_errors_are_errors()
     ensures { (before after : List Problem)
-        → warnings_in (new_errors false before after) ≡ 0 }
+        → warnings_in (new_errors Errors before after) ≡ 0 }
 {}
 
 /// What the lines of a script leave is what the edits leave that are done, in their order, each

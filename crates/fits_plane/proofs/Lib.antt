@@ -14,7 +14,6 @@ pub mod LeafLemmas
 pub mod PaintLemmas
 pub mod PartLemmas
 pub mod PassedLemmas
-pub mod PassedBlockLemmas
 pub mod PathLemmas
 pub mod PixelLemmas
 pub mod PlaceLemmas

@@ -1,9 +1,17 @@
 -- What the pixels of a rectangle are given.
-use Rattle.std.proofs.Common.{◌≡◌, ◌<◌, ◌≤◌, ◌+◌, ◌-◌, ◌∙◌, ◌-ℤ◌, ℕ, ℤ, pos, true, List, length, get_or, take, drop, ap, arith, subst, sym}
+use Rattle.std.proofs.Common.{◌≡◌, ◌<◌, ◌≤◌, ◌+◌, ◌-◌, ◌*◌, ◌^◌, ◌∙◌, ◌-ℤ◌, ℕ, ℤ, pos, true, List, length, get_or, take, drop, ap, arith, subst, sym}
 use Rattle.std.proofs.lemmas.Bool.{eqb-true}
 use Rattle.fits_plane.specs.Paint.{painted_number, has_count, HasValues}
 use Rattle.fits_plane.specs.declared.lent_paint.LentPaint.{LentPaint}
 use Rattle.fits_plane.specs.declared.lent_paint.LentPaint.TheVariants.{Fill, Write}
+use Rattle.fits_plane.specs.declared.layout.Layout.{Layout}
+use Rattle.fits_plane.specs.declared.painting.Painting.{Painting}
+use Rattle.fits_plane.specs.Layout.{IsLayout}
+use Rattle.fits_plane.specs.Painting.{Suits}
+use Rattle.fits_plane.specs.Rectangle.{product, rectangle_size, row_count, row_size}
+use Rattle.fits_plane.specs.ShortRows.{CanPaint}
+use Rattle.fits_plane.proofs.LeafLemmas.{layout_small}
+use Rattle.fits_plane.proofs.RowLemmas.{rectangle_size-le-product, row_lies}
 use Rattle.fits_plane.proofs.WriteLemmas.{Part, part_of}
 
 -- where there is a value for each of some pixels, there is one for each of fewer
@@ -23,3 +31,18 @@ pub part_number : (paint : LentPaint) (values slice : List ℤ) (offset : ℤ) (
 part_number paint values slice offset at n x is same enough b =
     ap (λ v. v -ℤ offset) ((written_part paint values slice at n is same enough).is x b ∙ ap (λ vs. get_or vs (at + x) (pos 0)) same)
     ∙ sym (ap (λ p. painted_number p offset (at + x)) is)
+
+-- an image has no more pixels than bytes
+pub few_pixels : (layout : Layout) (bytes : List ℕ) (it : Painting) → IsLayout layout bytes → Suits layout it → product it.axes.now < 2 ^ 62
+few_pixels layout bytes it fits h = omega (arith, h.all, layout_small layout bytes fits, fits.limit)
+
+-- a row of a rectangle can be painted
+pub can_paint_row : (layout : Layout) (bytes : List ℕ) (it : Painting) (side rows row : ℕ) → IsLayout layout bytes → Suits layout it
+    → side ≡ row_size it.lo.now it.hi.now → rows ≡ row_count it.lo.now it.hi.now → row < rows → CanPaint layout.width it (row * side) side
+can_paint_row layout bytes it side rows row fits h e all b =
+    let room = row_lies it.axes.now it.lo.now it.hi.now side rows row h.rectangle e all b in
+    record {
+      ranks = omega (arith, room, rectangle_size-le-product _ _ _ h.rectangle, few_pixels layout bytes it fits h);
+      values = has_values it.paint.now (rectangle_size it.lo.now it.hi.now) _ h.count room;
+      storable = λ x near. h.storable (row * side + x) (omega (arith, room, near));
+    }

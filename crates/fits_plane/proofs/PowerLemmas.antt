@@ -2,8 +2,8 @@
 use Rattle.std.proofs.Common.{◌≡◌, ◌≤◌, ◌*◌, ◌/◌, ◌^◌, ℕ, zero, suc, ◌<◌, arith, ap, sym, inl, inr, ◌∙◌}
 use Rattle.std.proofs.lemmas.Bool.{cases_eq, cases_lt}
 use Rattle.std.proofs.lemmas.Bool.Decides.{nat_tests}
-use Rattle.fits_plane.specs.Tree.{most_above}
-use Rattle.std.proofs.Math.Nat.{pow-suc, mul-le-mul_left, pow-le-pow_right}
+use Rattle.fits_plane.specs.Tree.{most_above, IsLeastPower}
+use Rattle.std.proofs.Math.Nat.{one-le-pow, pow-suc, mul-le-mul_left, pow-le-pow_right}
 
 -- a power that a place is multiplied by is no more than the product
 pub power_alone : (k place leaf : ℕ) → 1 ≤ place → 2 ^ k * place ≤ leaf → 2 ^ k ≤ leaf
@@ -52,6 +52,10 @@ few_above k n d place u b h = elim (cases_eq place 1) [
 -- no more stand above any place
 pub most_above_le : (d place : ℕ) → most_above d place ≤ d
 most_above_le d place = grind (arith, nat_tests)
+
+-- it is no less than 1
+pub power_some : (m n : ℕ) → IsLeastPower m n → 1 ≤ n
+power_some m n h = let some = one-le-pow h.depth 2 (omega arith) in omega (arith, h.power, some)
 
 -- the least power is no more than any that is enough
 pub least_power : (depth n used d : ℕ) → n ≡ 2 ^ depth → ((e : ℕ) → used ≤ 2 ^ e → depth ≤ e) → used ≤ 2 ^ d → n ≤ 2 ^ d

@@ -9,7 +9,9 @@ use Rattle.fits_plane.specs.declared.both.Both.{Both}
 use Rattle.fits_plane.specs.declared.layout.Layout.{Layout}
 use Rattle.fits_plane.specs.declared.lent_paint.LentPaint.{LentPaint}
 use Rattle.fits_plane.specs.declared.lent_paint.LentPaint.TheVariants.{Fill, Write}
-use Rattle.fits_plane.specs.Paint.{painted_number, HasValues}
+use Rattle.fits_plane.specs.declared.painting.Painting.{Painting}
+use Rattle.fits_plane.specs.Paint.{HasValues}
+use Rattle.fits_plane.specs.Painting.{number_of}
 use Rattle.fits_plane.specs.Pixels.{pixel, IsWidth, IsStorable}
 use Rattle.fits_plane.specs.Layout.{IsLayout, block_count, block_pixels}
 use Rattle.fits_plane.specs.Leaves.{leaf_unit, leaf_of, IsBlockTree, IsBlockTreeBut}
@@ -148,16 +150,16 @@ has_less (Fill value) m n l h = tt
 has_less (Write values) m n l h = omega (arith, l, h)
 
 -- what can be painted can be painted in part
-pub can_paint : (w : ℕ) (paint : LentPaint) (offset : ℤ) (rank count a n : ℕ) → CanPaint w paint offset rank count → a + n ≤ count → CanPaint w paint offset (rank + a) n
-can_paint w paint offset rank count a n h room = record {
+pub can_paint : (w : ℕ) (it : Painting) (rank count a n : ℕ) → CanPaint w it rank count → a + n ≤ count → CanPaint w it (rank + a) n
+can_paint w it rank count a n h room = record {
   ranks = omega (arith, h.ranks, room);
-  values = has_less paint (rank + count) (rank + a + n) (omega (arith, room)) h.values;
-  storable = λ x b. let e : rank + (a + x) ≡ rank + a + x = omega arith in subst (λ i. IsStorable w (painted_number paint offset i)) e (h.storable (a + x) (omega (arith, b, room)));
+  values = has_less it.paint.now (rank + count) (rank + a + n) (omega (arith, room)) h.values;
+  storable = λ x b. let e : rank + (a + x) ≡ rank + a + x = omega arith in subst (λ i. IsStorable w (number_of it i)) e (h.storable (a + x) (omega (arith, b, room)));
 }
 
 -- and its first pixels by themselves
-pub can_paint_first : (w : ℕ) (paint : LentPaint) (offset : ℤ) (rank count n : ℕ) → CanPaint w paint offset rank count → n ≤ count → CanPaint w paint offset rank n
-can_paint_first w paint offset rank count n h room = let e : rank + 0 ≡ rank = omega arith in subst (λ r. CanPaint w paint offset r n) e (can_paint w paint offset rank count 0 n h (omega (arith, room)))
+pub can_paint_first : (w : ℕ) (it : Painting) (rank count n : ℕ) → CanPaint w it rank count → n ≤ count → CanPaint w it rank n
+can_paint_first w it rank count n h room = let e : rank + 0 ≡ rank = omega arith in subst (λ r. CanPaint w it r n) e (can_paint w it rank count 0 n h (omega (arith, room)))
 
 -- a row of two blocks, so much of which lies in the first
 pub record InTwo (per p start count here : ℕ) : Type 0 where

@@ -6,6 +6,7 @@ pub mod Exchange
 pub mod Layout
 pub mod Leaves
 pub mod Paint
+pub mod Painting
 pub mod Parts
 pub mod Passing
 pub mod Pixels

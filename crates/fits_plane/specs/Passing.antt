@@ -1,11 +1,10 @@
 -- What is known of a data unit whose bytes pass by, of which no more than a piece is held at once (own).
-use Rattle.std.specs.Prelude.{◌≡◌, ◌⊎◌, ◌<◌, ◌≤◌, ℕ, ◌*◌, ◌/◌, ◌%◌, ◌^◌, ℤ, Bool, List, Option, drop, length, min, nat_eq, slice_index}
+use Rattle.std.specs.Prelude.{◌≡◌, ◌⊎◌, ◌<◌, ◌≤◌, ℕ, ◌/◌, ◌%◌, ◌^◌, ℤ, Bool, List, Option, drop, length, min, nat_eq, slice_index}
 use Rattle.std.specs.List.{list_all}
 use Rattle.fits_plane.specs.Layout.{IsLayout}
 use Rattle.fits_plane.specs.Pixels.{pixels, IsWidth}
 use Rattle.fits_plane.specs.Statistics.{statistics}
 use Rattle.fits_plane.specs.declared.layout.Layout.{Layout}
-use Rattle.fits_plane.specs.declared.passed_pixels.PassedPixels.{PassedPixels}
 use Rattle.fits_plane.specs.declared.pixel_summary.PixelSummary.{PixelSummary}
 use Rattle.fits_sum.specs.Words.{word_total}
 
@@ -13,32 +12,22 @@ use Rattle.fits_sum.specs.Words.{word_total}
 abbrev pub pixels_in : Layout → ℕ → ℕ
 pixels_in layout count = min layout.pixels (count / layout.width)
 
--- how many bytes these are, and the statistics of the pixels in them; each is a byte
-pub record ArePassed (layout : Layout) (bytes : List ℕ) (it : PassedPixels) : Type 0 where
-  pub count : it.count ≡ length bytes
-  pub small : (k : ℕ) → slice_index bytes k < 256
-  pub stored : it.stored ≡ statistics layout.blank (pixels layout.width bytes 0 (pixels_in layout (length bytes)))
-
--- all bytes of a data unit passed by, which the layout fits
-pub record HasPassed (layout : Layout) (unit : List ℕ) (it : PassedPixels) : Type 0 where
-  pub fits : IsLayout layout unit
-  pub passed : ArePassed layout unit it
-
 -- the bytes of a data unit that passed by so far, and how all of them are read
 pub record PassingState : Type 0 where
   pub layout : Layout
   pub bytes : List ℕ
 
--- so many whole blocks passed by, with the statistics of their pixels, the total of their words, and whether those that are data fill are
--- what they should be
-pub record IsPassing (layout : Layout) (bytes : List ℕ) (it : PassedPixels) (total : ℕ) (filled : Bool) : Type 0 where
+-- so many bytes of it passed by, in whole blocks, with the statistics of their pixels, the total of their words, and whether those that
+-- are data fill are what they should be
+pub record IsPassing (layout : Layout) (bytes : List ℕ) (count : ℕ) (stored : PixelSummary) (total : ℕ) (filled : Bool) : Type 0 where
   pub width : (layout.width ≡ 0) ⊎ IsWidth layout.width
   pub no_pixels : layout.width ≡ 0 → layout.pixels ≡ 0
-  pub passed : ArePassed layout bytes it
+  pub small : (k : ℕ) → slice_index bytes k < 256
   pub whole : length bytes % 2880 ≡ 0
   pub few : length bytes ≤ 2 ^ 34
+  pub count_is : count ≡ length bytes
+  pub stored_are : stored ≡ statistics layout.blank (pixels layout.width bytes 0 (pixels_in layout (length bytes)))
   pub total_is : total ≡ word_total bytes
-  pub bounded : total ≤ 4294967295 * (length bytes / 4)
   pub filled_is : filled ≡ list_all (nat_eq layout.fill) (drop layout.used bytes)
 
 -- a data unit whose bytes passed by, how it is read, and the stored number of undefined pixels as they did

@@ -4,10 +4,11 @@ use Rattle.fits_plane.specs.declared.pixel_summary.PixelSummary.{PixelSummary}
 use Rattle.fits_plane.specs.declared.word_summary.WordSummary.{WordSummary}
 use Rattle.fits_plane.specs.declared.both.Both.{Both}
 use Rattle.fits_plane.specs.declared.layout.Layout.{Layout}
-use Rattle.fits_plane.specs.declared.lent_paint.LentPaint.{LentPaint}
+use Rattle.fits_plane.specs.declared.painting.Painting.{Painting}
 use Rattle.fits_plane.specs.Layout.{IsLayout, block_count}
 use Rattle.fits_plane.specs.Leaves.{leaf_unit, AreLeaves, IsLeaf, IsBlockTreeBut}
-use Rattle.fits_plane.specs.Paint.{painted_number, HasValues}
+use Rattle.fits_plane.specs.Paint.{HasValues}
+use Rattle.fits_plane.specs.Painting.{number_of}
 use Rattle.fits_plane.specs.Pixels.{pixel, IsStorable}
 
 -- the leaves are those of the bytes, which the layout fits
@@ -25,11 +26,11 @@ pub record IsKeptBut (layout : Layout) (bytes : List ℕ) (n place : ℕ) (nodes
   pub right : (k : ℕ) → k < block_count bytes → IsLeaf layout bytes (drop n nodes) k
   pub units : (k : ℕ) → block_count bytes ≤ k → get_or (drop n nodes) k leaf_unit ≡ leaf_unit
 
--- the paint has a number for each of so many pixels from a rank on, and such pixels can store it
-pub record CanPaint (width : ℕ) (paint : LentPaint) (offset : ℤ) (rank count : ℕ) : Type 0 where
+-- there is a number for each of so many pixels from a rank on, and such pixels can store it
+pub record CanPaint (width : ℕ) (it : Painting) (rank count : ℕ) : Type 0 where
   pub ranks : rank + count < 2 ^ 62
-  pub values : HasValues paint (rank + count)
-  pub storable : (x : ℕ) → x < count → IsStorable width (painted_number paint offset (rank + x))
+  pub values : HasValues it.paint.now (rank + count)
+  pub storable : (x : ℕ) → x < count → IsStorable width (number_of it (rank + x))
 
 -- the first x pixels of a row are written, and every other byte is as before
 pub record RowWritten (w start x : ℕ) (value : ℕ → ℤ) (old new : List ℕ) : Type 0 where

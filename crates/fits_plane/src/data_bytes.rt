@@ -3,7 +3,7 @@ ghost use Rattle.fits_plane.specs.Layout.{block_count};
 ghost use Rattle.fits_plane.specs.Pixels.{pixel, IsStorable};
 
 use crate::layout::Layout;
-use crate::lent_paint::LentPaint;
+use crate::painting::Painting;
 use crate::pixel_reads::value_of;
 use crate::pixel_writer::PixelWriter;
 use crate::pixels::{pixel_at, read_bytes};
@@ -46,9 +46,9 @@ impl DataBytes {
     ghost use Rattle.fits_stream.specs.Stream.{Prints, PrintsFront};
     ghost use Rattle.fits_plane.specs.Layout.{IsLayout, block_count, block_pixels};
     ghost use Rattle.fits_plane.specs.Leaves.{leaf_of, AreLeaves};
-    ghost use Rattle.fits_plane.specs.Paint.{has_count, painted_number};
+    ghost use Rattle.fits_plane.specs.Painting.{number_of, Suits};
     ghost use Rattle.fits_plane.specs.Pixels.{pixel, IsStorable, IsWidth};
-    ghost use Rattle.fits_plane.specs.Rectangle.{IsRectangle, IsWritten, product, rectangle_size, rectangle_written};
+    ghost use Rattle.fits_plane.specs.Rectangle.{IsWritten};
     ghost use Rattle.fits_plane.specs.ShortRows.{CanPaint, RowWritten};
 
     /// Bytes that nothing looked at yet.
@@ -161,30 +161,14 @@ impl DataBytes {
     }
 
     /// Paints a rectangle, row by row.
-    pub(crate) fn paint_rows(
-        &mut self,
-        width: usize,
-        axes: &[u64],
-        lo: &[u64],
-        hi: &[u64],
-        paint: &LentPaint,
-        offset: i128,
-    )
-        requires width { IsWidth width }
-        requires rectangle { IsRectangle axes.now lo.now hi.now }
-        requires room { product axes.now * width ≤ length self.old.bytes }
-        requires small { product axes.now < 2 ^ 62 }
-        requires count { has_count paint.now (rectangle_size lo.now hi.now) ≡ true }
-        requires storable { (k : ℕ) → k < rectangle_size lo.now hi.now
-            → IsStorable width (painted_number paint.now offset k) }
-        ensures written { IsWritten width axes.now lo.now hi.now (painted_number paint.now offset)
-            self.old.bytes self.new.bytes }
-        ensures value { self.new.bytes ≡ rectangle_written width axes.now lo.now hi.now
-            (painted_number paint.now offset) self.old.bytes }
+    pub(crate) fn paint_rows(&mut self, layout: Layout, painting: &Painting)
+        requires layout { IsLayout layout self.old.bytes }
+        requires suits { Suits layout painting.now }
+        ensures written { IsWritten layout.width painting.now.axes.now painting.now.lo.now
+            painting.now.hi.now (number_of painting.now) self.old.bytes self.new.bytes }
         ensures work { self.new ≡ record self.old { bytes = self.new.bytes } }
     {
-        let bytes = self.bytes.as_mut_slice();
-        pixel_writes::paint_rows(bytes, width, axes, lo, hi, paint, offset);
+        pixel_writes::paint_rows(self.bytes.as_mut_slice(), layout, painting);
     }
 
     /// Paints pixels of block k, of which this is kept, and says what is kept of it then. One scan is
@@ -195,9 +179,8 @@ impl DataBytes {
         k: usize,
         start: usize,
         count: usize,
-        paint: &LentPaint,
+        painting: &Painting,
         rank: usize,
-        offset: i128,
         all: Leaf,
     ) -> Leaf
         requires layout { IsLayout layout self.old.bytes }
@@ -206,9 +189,9 @@ impl DataBytes {
         requires low { k * block_pixels layout.width ≤ start }
         requires high { start + count ≤ (k + 1) * block_pixels layout.width }
         requires within { start + count ≤ layout.pixels }
-        requires paint { CanPaint layout.width paint.now offset rank count }
+        requires paint { CanPaint layout.width painting.now rank count }
         ensures written { RowWritten layout.width start count
-            (λ x. painted_number paint.now offset (rank + x)) self.old.bytes self.new.bytes }
+            (λ x. number_of painting.now (rank + x)) self.old.bytes self.new.bytes }
         ensures leaf { all ≡ leaf_of layout self.old.bytes k
             → result ≡ leaf_of layout self.new.bytes k }
         ensures work { self.new
@@ -216,7 +199,7 @@ impl DataBytes {
     {
         self.scans.tick();
         let bytes = self.bytes.as_mut_slice();
-        parts::paint_block(bytes, layout, k, start, count, paint, rank, offset, all)
+        parts::paint_block(bytes, layout, k, start, count, painting, rank, all)
     }
 
     /// Writes the bytes, or a prefix of them where a call failed.

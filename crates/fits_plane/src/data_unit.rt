@@ -3,7 +3,7 @@ ghost use Rattle.std.specs.Prelude.{◌≡◌};
 use crate::absent::Absent;
 use crate::again::{CopyFault, LoadFault, copy_again, read_again};
 use crate::layout::Layout;
-use crate::lent_paint::LentPaint;
+use crate::painting::Painting;
 use crate::passed_unit::PassedUnit;
 use crate::plane::Plane;
 use crate::plane_room::PlaneRoom;
@@ -46,11 +46,10 @@ impl DataUnit {
     ghost use Rattle.fits_plane.specs.Again.{CopyCounts, CopyFails, LoadCounts, PrintsLike};
     ghost use Rattle.fits_plane.specs.DataUnit.{IsCounted, IsToldBy};
     ghost use Rattle.fits_plane.specs.Statistics.{value_statistics};
-    ghost use Rattle.fits_plane.specs.Paint.{has_count, painted_number};
-    ghost use Rattle.fits_plane.specs.Pixels.{pixels, IsStorable, IsWidth};
+    ghost use Rattle.fits_plane.specs.Painting.{Paints, Suits};
+    ghost use Rattle.fits_plane.specs.Pixels.{pixels, IsWidth};
     ghost use Rattle.fits_plane.specs.Rectangle.{IsRectangle, product, rectangle_size, rectangle_values};
     ghost use Rattle.fits_plane.specs.Layout.{IsLayout, block_count, block_pixels};
-    ghost use Rattle.fits_plane.specs.Plane.{IsPainted};
 
     /// A data unit in memory.
     pub fn held(plane: Plane) -> DataUnit
@@ -182,25 +181,13 @@ impl DataUnit {
     }
 
     /// Gives the pixels of a rectangle the values of a paint, each less the offset. It takes no memory.
-    pub fn paint_rect(
-        &mut self,
-        axes: &[u64],
-        lo: &[u64],
-        hi: &[u64],
-        paint: &LentPaint,
-        offset: i128,
-    )
+    pub fn paint_rect(&mut self, painting: &Painting)
         requires held { self.old.absent ≡ None }
-        requires rectangle { IsRectangle axes.now lo.now hi.now }
-        requires all { product axes.now ≡ self.old.plane.layout.pixels }
-        requires count { has_count paint.now (rectangle_size lo.now hi.now) ≡ true }
-        requires storable { (k : ℕ) → k < rectangle_size lo.now hi.now
-            → IsStorable self.old.plane.layout.width (painted_number paint.now offset k) }
-        ensures painted { IsPainted axes.now lo.now hi.now (painted_number paint.now offset)
-            self.old.plane self.new.plane }
+        requires suits { Suits self.old.plane.layout painting.now }
+        ensures painted { Paints painting.now self.old.plane self.new.plane }
         ensures held { self.new.absent ≡ None }
     {
-        self.plane.paint_rect(axes, lo, hi, paint, offset);
+        self.plane.paint_rect(painting);
     }
 
     /// The values of a rectangle in file order, each its stored number and the offset.

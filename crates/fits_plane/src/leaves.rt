@@ -3,17 +3,18 @@ ghost use Rattle.std.specs.Prelude.{◌≡◌, ◌≤◌, ◌<◌, ◌*◌, ◌+
 ghost use Rattle.fits_sum.specs.Words.{word_total};
 ghost use Rattle.fits_plane.specs.Summary.{PixelFits, WordFits, HalvesFit};
 ghost use Rattle.fits_plane.specs.Statistics.{statistics};
-ghost use Rattle.fits_plane.specs.Pixels.{pixels, IsWidth};
-ghost use Rattle.fits_plane.specs.Rectangle.{IsRectangle, product};
+ghost use Rattle.fits_plane.specs.Painting.{touches, Suits};
+ghost use Rattle.fits_plane.specs.Pixels.{pixels};
 ghost use Rattle.fits_plane.specs.DataBytes.{IsScanned};
 ghost use Rattle.fits_plane.specs.Layout.{IsLayout, block_count, block_pixels};
-ghost use Rattle.fits_plane.specs.Tree.{most_above, nodes_left};
-ghost use Rattle.fits_plane.specs.Work.{is_touched, touched_blocks};
+ghost use Rattle.fits_plane.specs.Tree.{most_above, nodes_left, IsLeastPower};
+ghost use Rattle.fits_plane.specs.Work.{rectangle_blocks};
 ghost use Rattle.fits_plane.specs.Leaves.{leaf_unit, IsLeaf, AreLeaves, IsBlockTree, IsBlockTreeBut};
 
 use crate::data_bytes::DataBytes;
 use crate::layout::Layout;
 use crate::nodes::{climb, write_leaf};
+use crate::painting::Painting;
 use crate::rectangle::{row_len, row_start, rows};
 use crate::scan::{Leaf, pixels_per_block};
 use crate::tree::Tree;
@@ -130,20 +131,15 @@ fn refresh_rows(
     width: usize,
     store: &mut DataBytes,
     layout: Layout,
-    axes: &[u64],
-    lo: &[u64],
-    hi: &[u64],
+    painting: &Painting,
     joins: &mut Count,
 )
     requires layout { IsLayout layout store.old.bytes }
-    requires width { IsWidth layout.width }
+    requires suits { Suits layout painting.now }
     requires tree { IsBlockTree width nodes.old }
-    requires some { 1 ≤ width }
-    requires within { block_count store.old.bytes ≤ width }
-    requires rectangle { IsRectangle axes.now lo.now hi.now }
-    requires all { product axes.now ≡ layout.pixels }
+    requires power { IsLeastPower (block_count store.old.bytes) width }
     requires fresh { (k : ℕ) → k < block_count store.old.bytes
-        → is_touched axes.now lo.now hi.now (block_pixels layout.width) layout.pixels k ≡ false
+        → touches painting.now layout k ≡ false
         → IsLeaf layout store.old.bytes (drop width nodes.old) k }
     ensures tree { IsBlockTree width nodes.new }
     ensures right { (k : ℕ) → k < block_count store.old.bytes
@@ -153,21 +149,21 @@ fn refresh_rows(
         ≡ slice_index_or (drop width nodes.old) k leaf_unit }
     ensures same { IsScanned store.old store.new }
     ensures more_work { store.old.scans ≤ store.new.scans }
-    ensures work { store.new.scans ≤ store.old.scans
-        + touched_blocks axes.now lo.now hi.now (block_pixels layout.width) layout.pixels
-        (block_count store.old.bytes) }
+    ensures work { store.new.scans ≤ store.old.scans + rectangle_blocks layout store.old.bytes
+        painting.now.axes.now painting.now.lo.now painting.now.hi.now }
     ensures more { joins.old.total ≤ joins.new.total }
-    ensures few { (d : ℕ) → width ≤ 2 ^ d → joins.new.total
+    ensures few { (d : ℕ) → block_count store.old.bytes ≤ 2 ^ d → joins.new.total
         ≤ joins.old.total + (store.new.scans - store.old.scans) * d }
-    ensures most { (h : ℕ) → width ≡ 2 ^ h → joins.new.total + 1 ≤ joins.old.total + width }
+    ensures most { (d : ℕ) → block_count store.old.bytes ≤ 2 ^ d
+        → joins.new.total ≤ joins.old.total + 2 ^ d }
 {
     let per = pixels_per_block(layout.width);
-    let side = row_len(axes, lo, hi) as usize;
+    let side = row_len(painting.axes, painting.lo, painting.hi) as usize;
     let mut next = 0usize;
     // No leaf is written yet, and above the root nothing is to be joined.
     let mut last = 1usize;
-    for row in 0..rows(axes, lo, hi) {
-        let first = row_start(axes, lo, hi, row);
+    for row in 0..rows(painting.axes, painting.lo, painting.hi) {
+        let first = row_start(painting.axes, painting.lo, painting.hi, row);
         let start = (first / per).max(next);
         let stop = (first + side - 1) / per + 1;
         last = refresh_blocks(nodes, width, last, store, layout, start, stop, joins);
@@ -183,41 +179,28 @@ impl Tree<Leaf> {
         &mut self,
         store: &mut DataBytes,
         layout: Layout,
-        axes: &[u64],
-        lo: &[u64],
-        hi: &[u64],
+        painting: &Painting,
     )
         requires layout { IsLayout layout store.old.bytes }
-        requires width { IsWidth layout.width }
+        requires suits { Suits layout painting.now }
         requires whole { length store.old.bytes ≡ 2880 * length self.old.leaves }
-        requires rectangle { IsRectangle axes.now lo.now hi.now }
-        requires all { product axes.now ≡ layout.pixels }
         requires fresh { (k : ℕ) → k < length self.old.leaves
-            → is_touched axes.now lo.now hi.now (block_pixels layout.width) layout.pixels k ≡ false
+            → touches painting.now layout k ≡ false
             → IsLeaf layout store.old.bytes self.old.leaves k }
         ensures long { length self.new.leaves ≡ length self.old.leaves }
         ensures right { AreLeaves layout store.old.bytes self.new.leaves }
         ensures same { IsScanned store.old store.new }
         ensures more_work { store.old.scans ≤ store.new.scans }
-        ensures work { store.new.scans ≤ store.old.scans
-            + touched_blocks axes.now lo.now hi.now (block_pixels layout.width) layout.pixels
-            (length self.old.leaves) }
+        ensures work { store.new.scans ≤ store.old.scans + rectangle_blocks layout
+            store.old.bytes painting.now.axes.now painting.now.lo.now painting.now.hi.now }
         ensures more { self.old.joins ≤ self.new.joins }
-        ensures joins { (d : ℕ) → length self.old.leaves ≤ 2 ^ d
+        ensures joins { (d : ℕ) → block_count store.old.bytes ≤ 2 ^ d
             → self.new.joins ≤ self.old.joins + (store.new.scans - store.old.scans) * d }
-        ensures most { (d : ℕ) → length self.old.leaves ≤ 2 ^ d
+        ensures most { (d : ℕ) → block_count store.old.bytes ≤ 2 ^ d
             → self.new.joins ≤ self.old.joins + 2 ^ d }
     {
-        refresh_rows(
-            self.nodes.as_mut_slice(),
-            self.width,
-            store,
-            layout,
-            axes,
-            lo,
-            hi,
-            &mut self.joins,
-        );
+        let nodes = self.nodes.as_mut_slice();
+        refresh_rows(nodes, self.width, store, layout, painting, &mut self.joins);
     }
 }
 

@@ -1,10 +1,5 @@
-//! A rectangle is painted, and what is kept of its blocks is made anew.
-ghost use Rattle.std.specs.Prelude.{◌≡◌, ◌≤◌, ◌<◌, ◌*◌, ◌+◌, ◌-◌, ◌^◌, ℕ, true, length, slice_index, IsTrue};
-ghost use Rattle.fits_plane.specs.Paint.{has_count, painted_number};
-ghost use Rattle.fits_plane.specs.Pixels.{IsWidth, IsStorable};
-ghost use Rattle.fits_plane.specs.Rectangle.{IsRectangle, product, rectangle_size, rectangle_written};
-ghost use Rattle.fits_plane.specs.Layout.{block_pixels};
-ghost use Rattle.fits_plane.specs.Work.{touched_blocks};
+ghost use Rattle.std.specs.Prelude.{◌≤◌, ◌+◌, slice_index, IsTrue};
+ghost use Rattle.fits_plane.specs.Painting.{plane_by, Paints, Suits};
 ghost use Rattle.fits_plane.specs.ShortRows.{IsKept};
 
 use crate::data_bytes::DataBytes;
@@ -13,6 +8,18 @@ use crate::lent_paint::LentPaint;
 use crate::rectangle::row_len;
 use crate::scan::{Leaf, pixels_per_block};
 use crate::tree::Tree;
+
+/// A rectangle of pixels with what they are given: the values of a paint, each less the offset.
+///
+/// Its corners count from 1, and it has a length for each axis of all pixels.
+#[derive(Drop)]
+pub struct Painting<'a> {
+    pub axes: &'a [u64],
+    pub lo: &'a [u64],
+    pub hi: &'a [u64],
+    pub paint: &'a LentPaint<'a>,
+    pub offset: i128,
+}
 
 /// Whether each row is an eighth of a block at most, and no block has pixels of two rows.
 ///
@@ -28,40 +35,16 @@ fn are_apart(axes: &[u64], per: usize, side: usize) -> bool
 }
 
 /// Paints all rows, and then scans each block that has a pixel of one.
-fn paint_and_scan(
-    tree: &mut Tree<Leaf>,
-    store: &mut DataBytes,
-    layout: Layout,
-    axes: &[u64],
-    lo: &[u64],
-    hi: &[u64],
-    paint: &LentPaint,
-    offset: i128,
-)
+fn paint_and_scan(tree: &mut Tree<Leaf>, store: &mut DataBytes, layout: Layout, painting: &Painting)
     requires kept { IsKept layout store.old.bytes tree.old.leaves }
-    requires width { IsWidth layout.width }
-    requires rectangle { IsRectangle axes.now lo.now hi.now }
-    requires all { product axes.now ≡ layout.pixels }
-    requires count { has_count paint.now (rectangle_size lo.now hi.now) ≡ true }
-    requires storable { (k : ℕ) → k < rectangle_size lo.now hi.now
-        → IsStorable layout.width (painted_number paint.now offset k) }
-    ensures long { length store.new.bytes ≡ length store.old.bytes }
-    ensures value { store.new.bytes ≡ rectangle_written layout.width axes.now lo.now hi.now
-        (painted_number paint.now offset) store.old.bytes }
+    requires suits { Suits layout painting.now }
+    ensures painted { Paints painting.now (plane_by layout store.old tree.old.joins)
+        (plane_by layout store.new tree.new.joins) }
     ensures kept { IsKept layout store.new.bytes tree.new.leaves }
-    ensures reads { store.new.reads ≡ store.old.reads }
-    ensures more_scans { store.old.scans ≤ store.new.scans }
-    ensures scans { store.new.scans ≤ store.old.scans
-        + touched_blocks axes.now lo.now hi.now (block_pixels layout.width) layout.pixels
-        (length tree.old.leaves) }
-    ensures more { tree.old.joins ≤ tree.new.joins }
-    ensures joins { (d : ℕ) → length tree.old.leaves ≤ 2 ^ d → tree.new.joins
-        ≤ tree.old.joins + (store.new.scans - store.old.scans) * d }
-    ensures most { (d : ℕ) → length tree.old.leaves ≤ 2 ^ d
-        → tree.new.joins ≤ tree.old.joins + 2 ^ d }
 {
-    store.paint_rows(layout.width, axes, lo, hi, paint, offset);
-    tree.refresh_rectangle(store, layout, axes, lo, hi);
+    store.paint_rows(layout, painting);
+    store.are_bytes();
+    tree.refresh_rectangle(store, layout, painting);
 }
 
 /// Paints a rectangle, and makes the leaves of its blocks anew.
@@ -69,39 +52,19 @@ pub(crate) fn paint_rectangle(
     tree: &mut Tree<Leaf>,
     store: &mut DataBytes,
     layout: Layout,
-    axes: &[u64],
-    lo: &[u64],
-    hi: &[u64],
-    paint: &LentPaint,
-    offset: i128,
+    painting: &Painting,
 )
     requires kept { IsKept layout store.old.bytes tree.old.leaves }
-    requires width { IsWidth layout.width }
-    requires rectangle { IsRectangle axes.now lo.now hi.now }
-    requires all { product axes.now ≡ layout.pixels }
-    requires count { has_count paint.now (rectangle_size lo.now hi.now) ≡ true }
-    requires storable { (k : ℕ) → k < rectangle_size lo.now hi.now
-        → IsStorable layout.width (painted_number paint.now offset k) }
-    ensures long { length store.new.bytes ≡ length store.old.bytes }
-    ensures value { store.new.bytes ≡ rectangle_written layout.width axes.now lo.now hi.now
-        (painted_number paint.now offset) store.old.bytes }
+    requires suits { Suits layout painting.now }
+    ensures painted { Paints painting.now (plane_by layout store.old tree.old.joins)
+        (plane_by layout store.new tree.new.joins) }
     ensures kept { IsKept layout store.new.bytes tree.new.leaves }
-    ensures reads { store.new.reads ≡ store.old.reads }
-    ensures more_scans { store.old.scans ≤ store.new.scans }
-    ensures scans { store.new.scans ≤ store.old.scans
-        + touched_blocks axes.now lo.now hi.now (block_pixels layout.width) layout.pixels
-        (length tree.old.leaves) }
-    ensures more { tree.old.joins ≤ tree.new.joins }
-    ensures joins { (d : ℕ) → length tree.old.leaves ≤ 2 ^ d → tree.new.joins
-        ≤ tree.old.joins + (store.new.scans - store.old.scans) * d }
-    ensures most { (d : ℕ) → length tree.old.leaves ≤ 2 ^ d
-        → tree.new.joins ≤ tree.old.joins + 2 ^ d }
 {
     let per = pixels_per_block(layout.width);
-    let side = row_len(axes, lo, hi) as usize;
-    if are_apart(axes, per, side) {
-        tree.paint_short_rows(store, layout, axes, lo, hi, paint, offset);
+    let side = row_len(painting.axes, painting.lo, painting.hi) as usize;
+    if are_apart(painting.axes, per, side) {
+        tree.paint_short_rows(store, layout, painting);
     } else {
-        paint_and_scan(tree, store, layout, axes, lo, hi, paint, offset);
+        paint_and_scan(tree, store, layout, painting);
     }
 }

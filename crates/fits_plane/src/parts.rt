@@ -4,13 +4,13 @@ ghost use Rattle.std.specs.Prelude.{◌≡◌, ◌≤◌, ◌<◌, ◌*◌, ◌+
 ghost use Rattle.fits_plane.specs.Pixels.{IsWidth};
 ghost use Rattle.fits_plane.specs.Layout.{IsLayout, block_pixels};
 ghost use Rattle.fits_plane.specs.Leaves.{leaf_of};
-ghost use Rattle.fits_plane.specs.Paint.{painted_number};
+ghost use Rattle.fits_plane.specs.Painting.{number_of};
 ghost use Rattle.fits_plane.specs.Parts.{part_of, AreGroupsChanged};
 ghost use Rattle.fits_plane.specs.ShortRows.{CanPaint, RowWritten};
 
 use crate::exchange::exchanged;
 use crate::layout::Layout;
-use crate::lent_paint::LentPaint;
+use crate::painting::Painting;
 use crate::pixel_writes::paint_row;
 use crate::pixels::read_bytes;
 use crate::scan::{Leaf, scan_block, scan_part};
@@ -68,9 +68,8 @@ pub(crate) fn paint_block(
     k: usize,
     start: usize,
     count: usize,
-    paint: &LentPaint,
+    painting: &Painting,
     rank: usize,
-    offset: i128,
     all: Leaf,
 ) -> Leaf
     requires layout { IsLayout layout bytes.old }
@@ -79,9 +78,9 @@ pub(crate) fn paint_block(
     requires low { k * block_pixels layout.width ≤ start }
     requires high { start + count ≤ (k + 1) * block_pixels layout.width }
     requires within { start + count ≤ layout.pixels }
-    requires paint { CanPaint layout.width paint.now offset rank count }
+    requires paint { CanPaint layout.width painting.now rank count }
     ensures written { RowWritten layout.width start count
-        (λ x. painted_number paint.now offset (rank + x)) bytes.old bytes.new }
+        (λ x. number_of painting.now (rank + x)) bytes.old bytes.new }
     ensures leaf { all ≡ leaf_of layout bytes.old k → result ≡ leaf_of layout bytes.new k }
 {
     read_bytes(bytes);
@@ -89,6 +88,6 @@ pub(crate) fn paint_block(
     let from = start * layout.width / 8;
     let to = ((start + count) * layout.width).div_ceil(8);
     let gone = scan_groups(bytes, layout, from, to);
-    paint_row(bytes, layout.width, start, count, paint, rank, offset);
+    paint_row(bytes, layout.width, start, count, painting, rank);
     leaf_after(bytes, layout, k, from, to, all, gone)
 }

@@ -1,7 +1,6 @@
 ghost use Rattle.std.specs.Prelude.{◌≡◌};
 
 use crate::layout::Layout;
-use crate::passed_blocks::PassedBlocks;
 use crate::pixel_summary::PixelSummary;
 use crate::value_summary::ValueSummary;
 use fits_stream::GoneBytes;
@@ -38,28 +37,29 @@ impl PassedUnit {
     ghost use Rattle.std.specs.List.{list_all};
     ghost use Rattle.fits_sum.specs.Words.{word_total};
     ghost use Rattle.fits_plane.specs.Layout.{IsLayout};
-    ghost use Rattle.fits_plane.specs.Passing.{IsPassing};
+    ghost use Rattle.fits_plane.specs.Passing.{IsKnown};
     ghost use Rattle.fits_plane.specs.Pixels.{pixels};
     ghost use Rattle.fits_plane.specs.Statistics.{value_statistics};
 
     /// A data unit all of whose blocks passed by.
     pub(crate) fn of(
         layout: Layout,
-        passed: PassedBlocks,
+        stored: PixelSummary,
+        total: u64,
         filled: bool,
+        len: usize,
         gone: GoneBytes,
     ) -> PassedUnit
-        requires fits { IsLayout layout gone.bytes }
-        requires passed { IsPassing layout gone.bytes passed.pixels passed.total filled }
+        requires { IsKnown gone.bytes layout layout.blank stored total filled len }
         ensures { result ≡ record { bytes = gone.bytes; layout = layout; blank = layout.blank } }
     {
         PassedUnit {
             layout,
             blank: layout.blank,
-            stored: passed.pixels.stored,
-            total: passed.total,
+            stored,
+            total,
             filled,
-            len: passed.pixels.count,
+            len,
             gone,
         }
     }

@@ -1,10 +1,19 @@
-ghost use Rattle.std.specs.Prelude.{◌≡◌};
+ghost use Rattle.std.specs.Prelude.{◌≡◌, ◌-◌, ◌/◌, ◌%◌, ◌⊎◌, ◌≤◌, length, min};
+ghost use Rattle.fits_sum.specs.Words.{word_total};
+ghost use Rattle.fits_plane.specs.Pixels.{pixels, IsWidth};
+ghost use Rattle.fits_plane.specs.Statistics.{statistics};
 
 use crate::filling::is_filled;
 use crate::layout::Layout;
-use crate::passed_blocks::PassedBlocks;
 use crate::passed_unit::PassedUnit;
+use crate::pixel_summary::PixelSummary;
+use crate::pixels::read_bytes;
+use crate::scan::{Leaf, pixels_per_block, scan_part};
+use crate::summary::Summary;
+use crate::word_summary::WordSummary;
+use fits_card::BLOCK_LEN;
 use fits_stream::GoneBytes;
+use fits_sum::words_total;
 use std::marker::Model;
 
 /// A data unit whose bytes pass by, piece by piece, each of which is let go.
@@ -13,7 +22,9 @@ use std::marker::Model;
 #[derive(Drop)]
 pub struct PassingUnit {
     layout: Layout,
-    passed: PassedBlocks,
+    count: usize,
+    stored: PixelSummary,
+    total: u64,
     filled: bool,
     gone: GoneBytes,
 }
@@ -26,7 +37,7 @@ impl Model for PassingUnit {
     ghost view = { λ it. record { layout = it.layout; bytes = it.gone.bytes } };
 
     ghost invariant = { λ it. IsPassing
-        it.layout it.gone.bytes it.passed.pixels it.passed.total it.filled };
+        it.layout it.gone.bytes it.count it.stored it.total it.filled };
 }
 
 impl PassingUnit {
@@ -42,7 +53,9 @@ impl PassingUnit {
     {
         PassingUnit {
             layout,
-            passed: PassedBlocks::none(),
+            count: 0,
+            stored: PixelSummary::unit(),
+            total: 0,
             filled: true,
             gone: GoneBytes::none(),
         }
@@ -52,7 +65,7 @@ impl PassingUnit {
     pub fn byte_len(&self) -> usize
         ensures { result ≡ length self.now.bytes }
     {
-        self.passed.pixels.count
+        self.count
     }
 
     /// The piece that follows passes by. Each of its blocks is scanned once.
@@ -61,11 +74,32 @@ impl PassingUnit {
         requires room { length self.old.bytes + length piece.now ≤ 2 ^ 34 }
         ensures { self.new ≡ record self.old { bytes = self.old.bytes ++ piece.now } }
     {
-        let used = self.layout.used.saturating_sub(self.passed.pixels.count);
-        let filled = is_filled(piece, used, self.layout.fill);
-        self.passed = self.passed.and(piece, self.layout);
+        if self.layout.width == 0 {
+            self.add_part(piece);
+            return;
+        }
+        for k in 0..piece.len() / BLOCK_LEN {
+            let at = BLOCK_LEN * k;
+            self.add_part(&piece[at..at + BLOCK_LEN]);
+        }
+    }
+
+    // So does what follows, a block or bytes without pixels.
+    fn add_part(&mut self, part: &[u8])
+        requires whole { length part.now % 2880 ≡ 0 }
+        requires block { (self.old.layout.width ≡ 0) ⊎ (length part.now ≡ 2880) }
+        requires room { length self.old.bytes + length part.now ≤ 2 ^ 34 }
+        ensures { self.new ≡ record self.old { bytes = self.old.bytes ++ part.now } }
+    {
+        read_bytes(part);
+        let used = self.layout.used.saturating_sub(self.count);
+        let filled = is_filled(part, used, self.layout.fill);
+        let found = scan_next(part, self.layout, self.count);
+        self.stored = self.stored.join(found.first);
+        self.total += found.second.total;
         self.filled = self.filled && filled;
-        self.gone.add(piece);
+        self.count += part.len();
+        self.gone.add(part);
     }
 
     /// What is known of it once all of it passed by.
@@ -77,6 +111,38 @@ impl PassingUnit {
           blank = self.layout.blank;
         } }
     {
-        PassedUnit::of(self.layout, self.passed, self.filled, self.gone)
+        PassedUnit::of(
+            self.layout,
+            self.stored,
+            self.total,
+            self.filled,
+            self.count,
+            self.gone,
+        )
     }
+}
+
+// What is kept of a block, or of bytes without pixels, that so many bytes stand before.
+fn scan_next(part: &[u8], layout: Layout, count: usize) -> Leaf
+    requires width { (layout.width ≡ 0) ⊎ IsWidth layout.width }
+    requires block { (layout.width ≡ 0) ⊎ (length part.now ≡ 2880) }
+    requires whole { length part.now % 2880 ≡ 0 }
+    requires room { length part.now ≤ 17179869184 }
+    ensures first { result.first ≡ statistics layout.blank (pixels layout.width part.now 0
+        (min (layout.pixels - count / layout.width) (2880 / layout.width))) }
+    ensures second { result.second.total ≡ word_total part.now }
+{
+    let Some(before) = count.checked_div(layout.width) else {
+        return Leaf {
+            first: PixelSummary::unit(),
+            second: WordSummary {
+                total: words_total(part),
+            },
+        };
+    };
+    let held = layout
+        .pixels
+        .saturating_sub(before)
+        .min(pixels_per_block(layout.width));
+    scan_part(part, layout.width, held, layout.blank)
 }

@@ -4,8 +4,7 @@ use crate::converting::{convert_run, converts_run};
 use crate::data_bytes::DataBytes;
 use crate::layout::Layout;
 use crate::leaves::{leaves_of, root_of, zero_leaves};
-use crate::lent_paint::LentPaint;
-use crate::painting::paint_rectangle;
+use crate::painting::{Painting, paint_rectangle};
 use crate::pixel_reads::read_rows;
 use crate::pixel_summary::PixelSummary;
 use crate::pixels::read_bytes;
@@ -14,7 +13,6 @@ use crate::rectangle::rectangle_len;
 use crate::scan::Leaf;
 use crate::tree::Tree;
 use crate::value_summary::ValueSummary;
-use crate::values::Values;
 use fits_card::BLOCK_LEN;
 use fits_stream::Sink;
 use std::alloc::{AllocError, Global};
@@ -62,11 +60,10 @@ impl Plane {
     ghost use Rattle.fits_sum.specs.Words.{word_total};
     ghost use Rattle.fits_plane.specs.Converting.{can_store_run, kept_numbers, run_made};
     ghost use Rattle.fits_plane.specs.Statistics.{statistics, value_statistics};
-    ghost use Rattle.fits_plane.specs.Paint.{has_count, painted_number};
-    ghost use Rattle.fits_plane.specs.Pixels.{pixel, pixels, IsStorable, IsWidth};
-    ghost use Rattle.fits_plane.specs.Rectangle.{IsRectangle, product, rectangle_size, rectangle_values, rectangle_written};
+    ghost use Rattle.fits_plane.specs.Painting.{Paints, Suits};
+    ghost use Rattle.fits_plane.specs.Pixels.{pixel, pixels, IsWidth};
+    ghost use Rattle.fits_plane.specs.Rectangle.{IsRectangle, product, rectangle_size, rectangle_values};
     ghost use Rattle.fits_plane.specs.Layout.{IsLayout, block_count, block_pixels};
-    ghost use Rattle.fits_plane.specs.Plane.{IsPainted};
 
     /// The data unit of a copy of these bytes.
     pub fn open(alloc: Global, bytes: &[u8], layout: Layout) -> Result<Plane, AllocError>
@@ -201,62 +198,11 @@ impl Plane {
     }
 
     /// Gives the pixels of a rectangle the values of a paint, each less the offset. It takes no memory.
-    pub fn paint_rect(
-        &mut self,
-        axes: &[u64],
-        lo: &[u64],
-        hi: &[u64],
-        paint: &LentPaint,
-        offset: i128,
-    )
-        requires rectangle { IsRectangle axes.now lo.now hi.now }
-        requires all { product axes.now ≡ self.old.layout.pixels }
-        requires count { has_count paint.now (rectangle_size lo.now hi.now) ≡ true }
-        requires storable { (k : ℕ) → k < rectangle_size lo.now hi.now
-            → IsStorable self.old.layout.width (painted_number paint.now offset k) }
-        ensures { IsPainted axes.now lo.now hi.now (painted_number paint.now offset)
-            self.old self.new }
+    pub fn paint_rect(&mut self, painting: &Painting)
+        requires { Suits self.old.layout painting.now }
+        ensures { Paints painting.now self.old self.new }
     {
-        paint_rectangle(
-            &mut self.tree,
-            &mut self.store,
-            self.layout,
-            axes,
-            lo,
-            hi,
-            paint,
-            offset,
-        );
-    }
-
-    /// Fills a rectangle with a stored number. It takes no memory.
-    pub fn fill_rect(&mut self, axes: &[u64], lo: &[u64], hi: &[u64], stored: i64)
-        requires rectangle { IsRectangle axes.now lo.now hi.now }
-        requires all { product axes.now ≡ self.old.layout.pixels }
-        requires storable { IsStorable self.old.layout.width stored }
-        ensures { IsPainted axes.now lo.now hi.now (λ k. stored) self.old self.new }
-    {
-        self.paint_rect(axes, lo, hi, &LentPaint::Fill(i128::from(stored)), 0);
-    }
-
-    /// Writes the values of a rectangle in file order, each less the offset. It takes no memory.
-    pub fn write_rect(
-        &mut self,
-        axes: &[u64],
-        lo: &[u64],
-        hi: &[u64],
-        values: &[i128],
-        offset: i128,
-    )
-        requires rectangle { IsRectangle axes.now lo.now hi.now }
-        requires all { product axes.now ≡ self.old.layout.pixels }
-        requires count { length values.now ≡ rectangle_size lo.now hi.now }
-        requires storable { (k : ℕ) → k < length values.now
-            → IsStorable self.old.layout.width (slice_index_or values.now k (pos 0) -ℤ offset) }
-        ensures { IsPainted axes.now lo.now hi.now
-            (λ k. slice_index_or values.now k (pos 0) -ℤ offset) self.old self.new }
-    {
-        self.paint_rect(axes, lo, hi, &LentPaint::Write(Values::new(values)), offset);
+        paint_rectangle(&mut self.tree, &mut self.store, self.layout, painting);
     }
 
     /// The values of a rectangle in file order, each its stored number and the offset.

@@ -102,26 +102,6 @@ pub(crate) fn scan_part(block: &[u8], width: usize, held: usize, blank: Option<i
     }
 }
 
-/// The statistics of the first pixels of a block alone, where the total of its words isn't asked for.
-pub(crate) fn scan_numbers(
-    block: &[u8],
-    width: usize,
-    held: usize,
-    blank: Option<i64>,
-) -> PixelSummary
-    requires width { IsWidth width }
-    requires within { held * width ≤ length block.now }
-    requires whole { length block.now % 8 ≡ 0 }
-    requires short { length block.now ≤ 2880 }
-    ensures { result ≡ statistics blank (pixels width block.now 0 held) }
-{
-    if width == 1 {
-        pixels_8::scan(block, held, blank)
-    } else {
-        scan_part(block, width, held, blank).first
-    }
-}
-
 /// How many whole pixels a block has.
 pub(crate) fn pixels_per_block(width: usize) -> usize
     ensures { result ≡ block_pixels width }

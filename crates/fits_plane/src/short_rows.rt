@@ -1,19 +1,18 @@
 //! Short rows of a rectangle, painted one by one: what is kept of a row's blocks is made anew from
 //! what the row changed.
-ghost use Rattle.std.specs.Prelude.{◌≡◌, ◌≤◌, ◌<◌, ◌*◌, ◌+◌, ◌-◌, ◌/◌, ◌^◌, ℕ, true, drop, length, slice_index, slice_index_or};
-ghost use Rattle.fits_plane.specs.Paint.{has_count, painted_number};
-ghost use Rattle.fits_plane.specs.Pixels.{IsWidth, IsStorable};
-ghost use Rattle.fits_plane.specs.Rectangle.{IsRectangle, product, rectangle_size, rectangle_written, row_size};
+ghost use Rattle.std.specs.Prelude.{◌≡◌, ◌≤◌, ◌<◌, ◌*◌, ◌+◌, ◌-◌, ◌/◌, ◌^◌, ℕ, drop, length, slice_index, slice_index_or};
+ghost use Rattle.fits_plane.specs.Painting.{number_of, plane_by, Paints, Suits};
+ghost use Rattle.fits_plane.specs.Pixels.{IsWidth};
+ghost use Rattle.fits_plane.specs.Rectangle.{row_size};
 ghost use Rattle.fits_plane.specs.Layout.{block_count, block_pixels};
 ghost use Rattle.fits_plane.specs.Leaves.{leaf_unit};
-ghost use Rattle.fits_plane.specs.Tree.{most_above, nodes_left};
-ghost use Rattle.fits_plane.specs.Work.{touched_blocks};
+ghost use Rattle.fits_plane.specs.Tree.{most_above, nodes_left, IsLeastPower};
 ghost use Rattle.fits_plane.specs.ShortRows.{IsKept, IsKeptBut, CanPaint, RowWritten};
 
 use crate::data_bytes::DataBytes;
 use crate::layout::Layout;
-use crate::lent_paint::LentPaint;
 use crate::nodes::{climb, write_leaf};
+use crate::painting::Painting;
 use crate::rectangle::{row_len, row_start, rows};
 use crate::scan::{Leaf, pixels_per_block};
 use crate::tree::Tree;
@@ -39,9 +38,8 @@ fn paint_part(
     k: usize,
     start: usize,
     count: usize,
-    paint: &LentPaint,
+    painting: &Painting,
     rank: usize,
-    offset: i128,
     joins: &mut Count,
 ) -> usize
     requires kept { IsKeptBut layout store.old.bytes width last nodes.old }
@@ -50,10 +48,10 @@ fn paint_part(
     requires low { k * block_pixels layout.width ≤ start }
     requires high { start + count ≤ (k + 1) * block_pixels layout.width }
     requires within { start + count ≤ layout.pixels }
-    requires paint { CanPaint layout.width paint.now offset rank count }
+    requires paint { CanPaint layout.width painting.now rank count }
     ensures place { result ≡ width + k }
     ensures written { RowWritten layout.width start count
-        (λ x. painted_number paint.now offset (rank + x)) store.old.bytes store.new.bytes }
+        (λ x. number_of painting.now (rank + x)) store.old.bytes store.new.bytes }
     ensures kept { IsKeptBut layout store.new.bytes width result nodes.new }
     ensures reads { store.new.reads ≡ store.old.reads }
     ensures scans { store.new.scans ≡ store.old.scans + 1 }
@@ -63,7 +61,7 @@ fn paint_part(
         + nodes_left h (last - width) ≤ joins.old.total + nodes_left h k }
 {
     let all = leaf_at(nodes, width, k);
-    let leaf = store.paint_block(layout, k, start, count, paint, rank, offset, all);
+    let leaf = store.paint_block(layout, k, start, count, painting, rank, all);
     write_leaf(nodes, width, last, k, leaf, joins)
 }
 
@@ -77,9 +75,8 @@ fn paint_short_row(
     layout: Layout,
     start: usize,
     count: usize,
-    paint: &LentPaint,
+    painting: &Painting,
     rank: usize,
-    offset: i128,
     joins: &mut Count,
 ) -> usize
     requires kept { IsKeptBut layout store.old.bytes width last nodes.old }
@@ -87,10 +84,10 @@ fn paint_short_row(
     requires some { 0 < count }
     requires short { count ≤ block_pixels layout.width }
     requires within { start + count ≤ layout.pixels }
-    requires paint { CanPaint layout.width paint.now offset rank count }
+    requires paint { CanPaint layout.width painting.now rank count }
     ensures place { result ≡ width + (start + count - 1) / block_pixels layout.width }
     ensures written { RowWritten layout.width start count
-        (λ x. painted_number paint.now offset (rank + x)) store.old.bytes store.new.bytes }
+        (λ x. number_of painting.now (rank + x)) store.old.bytes store.new.bytes }
     ensures kept { IsKeptBut layout store.new.bytes width result nodes.new }
     ensures reads { store.new.reads ≡ store.old.reads }
     ensures scans { store.new.scans ≡ store.old.scans + ((start + count - 1)
@@ -107,7 +104,7 @@ fn paint_short_row(
     let next = (k + 1) * per;
     let here = count.min(next - start);
     let place = paint_part(
-        nodes, width, last, store, layout, k, start, here, paint, rank, offset, joins,
+        nodes, width, last, store, layout, k, start, here, painting, rank, joins,
     );
     if here < count {
         let rest = count - here;
@@ -120,9 +117,8 @@ fn paint_short_row(
             k + 1,
             next,
             rest,
-            paint,
+            painting,
             rank + here,
-            offset,
             joins,
         )
     } else {
@@ -136,44 +132,27 @@ fn paint_rows_apart(
     width: usize,
     store: &mut DataBytes,
     layout: Layout,
-    axes: &[u64],
-    lo: &[u64],
-    hi: &[u64],
-    paint: &LentPaint,
-    offset: i128,
+    painting: &Painting,
     joins: &mut Count,
 )
     requires kept { IsKeptBut layout store.old.bytes width 1 nodes.old }
-    requires width { IsWidth layout.width }
-    requires rectangle { IsRectangle axes.now lo.now hi.now }
-    requires all { product axes.now ≡ layout.pixels }
-    requires count { has_count paint.now (rectangle_size lo.now hi.now) ≡ true }
-    requires storable { (k : ℕ) → k < rectangle_size lo.now hi.now
-        → IsStorable layout.width (painted_number paint.now offset k) }
-    requires short { row_size lo.now hi.now ≤ block_pixels layout.width }
-    requires apart { block_pixels layout.width + row_size lo.now hi.now ≤ slice_index axes.now 0 }
-    ensures long { length store.new.bytes ≡ length store.old.bytes }
-    ensures value { store.new.bytes ≡ rectangle_written layout.width axes.now lo.now hi.now
-        (painted_number paint.now offset) store.old.bytes }
+    requires power { IsLeastPower (block_count store.old.bytes) width }
+    requires suits { Suits layout painting.now }
+    requires short { row_size painting.now.lo.now painting.now.hi.now ≤ block_pixels layout.width }
+    requires apart { block_pixels layout.width + row_size painting.now.lo.now painting.now.hi.now
+        ≤ slice_index painting.now.axes.now 0 }
+    ensures painted { Paints painting.now (plane_by layout store.old joins.old.total)
+        (plane_by layout store.new joins.new.total) }
     ensures kept { IsKeptBut layout store.new.bytes width 1 nodes.new }
-    ensures reads { store.new.reads ≡ store.old.reads }
-    ensures more_scans { store.old.scans ≤ store.new.scans }
-    ensures scans { store.new.scans ≤ store.old.scans
-        + touched_blocks axes.now lo.now hi.now (block_pixels layout.width) layout.pixels
-        (block_count store.old.bytes) }
-    ensures more { joins.old.total ≤ joins.new.total }
-    ensures few { (d : ℕ) → width ≤ 2 ^ d → joins.new.total
-        ≤ joins.old.total + (store.new.scans - store.old.scans) * d }
-    ensures most { (h : ℕ) → width ≡ 2 ^ h → joins.new.total + 1 ≤ joins.old.total + width }
 {
-    let side = row_len(axes, lo, hi) as usize;
+    let side = row_len(painting.axes, painting.lo, painting.hi) as usize;
     // No leaf is written yet, and above the root nothing is to be joined.
     let mut last = 1usize;
-    for row in 0..rows(axes, lo, hi) {
-        let start = row_start(axes, lo, hi, row);
+    for row in 0..rows(painting.axes, painting.lo, painting.hi) {
+        let start = row_start(painting.axes, painting.lo, painting.hi, row);
         let rank = row as usize * side;
         last = paint_short_row(
-            nodes, width, last, store, layout, start, side, paint, rank, offset, joins,
+            nodes, width, last, store, layout, start, side, painting, rank, joins,
         );
     }
     climb(nodes, width, last, 1, joins);
@@ -187,48 +166,20 @@ impl Tree<Leaf> {
         &mut self,
         store: &mut DataBytes,
         layout: Layout,
-        axes: &[u64],
-        lo: &[u64],
-        hi: &[u64],
-        paint: &LentPaint,
-        offset: i128,
+        painting: &Painting,
     )
         requires kept { IsKept layout store.old.bytes self.old.leaves }
-        requires width { IsWidth layout.width }
-        requires rectangle { IsRectangle axes.now lo.now hi.now }
-        requires all { product axes.now ≡ layout.pixels }
-        requires count { has_count paint.now (rectangle_size lo.now hi.now) ≡ true }
-        requires storable { (k : ℕ) → k < rectangle_size lo.now hi.now
-            → IsStorable layout.width (painted_number paint.now offset k) }
-        requires short { row_size lo.now hi.now ≤ block_pixels layout.width }
-        requires apart { block_pixels layout.width + row_size lo.now hi.now
-            ≤ slice_index axes.now 0 }
-        ensures long { length store.new.bytes ≡ length store.old.bytes }
-        ensures value { store.new.bytes ≡ rectangle_written layout.width axes.now lo.now hi.now
-            (painted_number paint.now offset) store.old.bytes }
+        requires suits { Suits layout painting.now }
+        requires short { row_size painting.now.lo.now painting.now.hi.now
+            ≤ block_pixels layout.width }
+        requires apart { block_pixels layout.width
+            + row_size painting.now.lo.now painting.now.hi.now
+            ≤ slice_index painting.now.axes.now 0 }
+        ensures painted { Paints painting.now (plane_by layout store.old self.old.joins)
+            (plane_by layout store.new self.new.joins) }
         ensures kept { IsKept layout store.new.bytes self.new.leaves }
-        ensures reads { store.new.reads ≡ store.old.reads }
-        ensures more_scans { store.old.scans ≤ store.new.scans }
-        ensures scans { store.new.scans ≤ store.old.scans
-            + touched_blocks axes.now lo.now hi.now (block_pixels layout.width) layout.pixels
-            (length self.old.leaves) }
-        ensures more { self.old.joins ≤ self.new.joins }
-        ensures joins { (d : ℕ) → length self.old.leaves ≤ 2 ^ d → self.new.joins
-            ≤ self.old.joins + (store.new.scans - store.old.scans) * d }
-        ensures most { (d : ℕ) → length self.old.leaves ≤ 2 ^ d
-            → self.new.joins ≤ self.old.joins + 2 ^ d }
     {
-        paint_rows_apart(
-            self.nodes.as_mut_slice(),
-            self.width,
-            store,
-            layout,
-            axes,
-            lo,
-            hi,
-            paint,
-            offset,
-            &mut self.joins,
-        );
+        let nodes = self.nodes.as_mut_slice();
+        paint_rows_apart(nodes, self.width, store, layout, painting, &mut self.joins);
     }
 }

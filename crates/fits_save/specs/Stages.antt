@@ -49,11 +49,6 @@ is_as_it_was Whole = true
 is_as_it_was Agreed = true
 is_as_it_was stage = false
 
--- or the whole result stands beside it
-abbrev pub is_had : Stage → Bool
-is_had Copying = true
-is_had stage = is_as_it_was stage
-
 -- bytes go where the result goes
 abbrev pub is_open : Stage → Bool
 is_open Partial = true

@@ -14,8 +14,11 @@ pub trait Place {
     /// What stands at both.
     ghost stage: { Self → Stage };
 
-    /// Whether a call failed, or what stands at the path wasn't what was opened there.
+    /// Whether a call failed.
     ghost failed: { Self → Bool };
+
+    /// Whether what stood at the path, when it was looked at, wasn't what was opened there.
+    ghost differs: { Self → Bool };
 
     /// What stands at both.
     fn reached(&self) -> Stage
@@ -55,7 +58,7 @@ pub trait Place {
     fn agrees(&mut self) -> bool
         ensures yes { result ≡ true → stage self.new ≡ after Act.Compare (stage self.old) }
         ensures no { result ≡ false → stage self.new ≡ stage self.old }
-        ensures failed { result ≡ false → failed self.new ≡ true };
+        ensures differs { result ≡ false → differs self.new ≡ true };
 
     /// How the new file takes the path.
     fn taking(&self) -> Taking;

@@ -1,3 +1,5 @@
+ghost use Rattle.fits_save.specs.Progress.{IsSpared, IsTrueOf, Progress};
+
 use crate::begin_fault::BeginFault;
 use crate::place::Place;
 use crate::save_fault::SaveFault;
@@ -31,15 +33,16 @@ impl<P: Place + Drop> Model for SavedFile<P> {
       stage = P.stage saved.place;
       whole = saved.whole;
       failed = P.failed saved.place;
+      differs = P.differs saved.place;
     } };
 
     ghost invariant = { λ saved. is_safe saved.whole (P.stage saved.place) ≡ true };
 }
 
 impl<P: Place + Drop> SavedFile<P> {
-    ghost use Rattle.std.specs.Prelude.{◌≡◌, true, if◌then◌else◌, OnErr, OnOk};
-    ghost use Rattle.fits_save.specs.Progress.{IsGivenUp};
-    ghost use Rattle.fits_save.specs.Stages.{is_as_it_was, is_open, kept};
+    ghost use Rattle.std.specs.Prelude.{◌≡◌, true, if◌then◌else◌, IfErr, OnOk};
+    ghost use Rattle.fits_save.specs.Progress.{IsTrueOf};
+    ghost use Rattle.fits_save.specs.Stages.{is_open, kept};
 
     /// The file at a place where nothing has happened yet.
     pub fn at(place: P, safe: bool) -> SavedFile<P>
@@ -55,7 +58,11 @@ impl<P: Place + Drop> SavedFile<P> {
     }
 
     /// The place.
-    pub fn place(&self) -> &P {
+    pub fn place(&self) -> &P
+        ensures stage { P.stage result.now ≡ self.now.stage }
+        ensures failed { P.failed result.now ≡ self.now.failed }
+        ensures differs { P.differs result.now ≡ self.now.differs }
+    {
         &self.place
     }
 
@@ -77,10 +84,11 @@ impl<P: Place + Drop> SavedFile<P> {
 
     /// Ends the saving, once all bytes are written: the result takes its path.
     ///
-    /// Where it fails, what stood there is as it was, or the whole result stands beside it.
+    /// Where it fails, what stood there is as it was, or the whole result stands beside it
+    /// (`InPart`); the fault says which, and why.
     pub fn keep(&mut self) -> Result<(), SaveFault>
         ensures ok { OnOk result (self.new.stage ≡ kept self.old.stage) }
-        ensures err { OnErr result (IsGivenUp self.new) }
+        ensures err { IfErr result (λ fault. IsTrueOf fault self.new) }
         ensures whole { self.new.whole ≡ self.old.whole }
     {
         match self.place.reached() {
@@ -93,7 +101,7 @@ impl<P: Place + Drop> SavedFile<P> {
     fn take_place(&mut self) -> Result<(), SaveFault>
         requires { self.old.stage ≡ Stage.Partial }
         ensures ok { OnOk result (self.new.stage ≡ Stage.Placed) }
-        ensures err { OnErr result (IsGivenUp self.new) }
+        ensures err { IfErr result (λ fault. IsTrueOf fault self.new) }
         ensures whole { self.new.whole ≡ self.old.whole }
     {
         match self.place.taking() {
@@ -109,8 +117,7 @@ impl<P: Place + Drop> SavedFile<P> {
     fn link(&mut self) -> Result<(), SaveFault>
         requires { self.old.stage ≡ Stage.Partial }
         ensures ok { OnOk result (self.new.stage ≡ Stage.Both) }
-        ensures err { OnErr result (self.new.stage ≡ self.old.stage) }
-        ensures cause { OnErr result (self.new.failed ≡ true) }
+        ensures err { IfErr result (λ fault. IsTrueOf fault self.new) }
         ensures whole { self.new.whole ≡ self.old.whole }
     {
         match self.place.link() {
@@ -123,8 +130,7 @@ impl<P: Place + Drop> SavedFile<P> {
     fn rename(&mut self) -> Result<(), SaveFault>
         requires { self.old.stage ≡ Stage.Partial }
         ensures ok { OnOk result (self.new.stage ≡ Stage.Placed) }
-        ensures err { OnErr result (is_as_it_was self.new.stage ≡ true) }
-        ensures cause { OnErr result (self.new.failed ≡ true) }
+        ensures err { IfErr result (λ fault. IsTrueOf fault self.new) }
         ensures whole { self.new.whole ≡ self.old.whole }
     {
         self.settle()?;
@@ -138,7 +144,7 @@ impl<P: Place + Drop> SavedFile<P> {
     fn overwrite(&mut self) -> Result<(), SaveFault>
         requires { self.old.stage ≡ Stage.Partial }
         ensures ok { OnOk result (self.new.stage ≡ Stage.Both) }
-        ensures err { OnErr result (IsGivenUp self.new) }
+        ensures err { IfErr result (λ fault. IsTrueOf fault self.new) }
         ensures whole { self.new.whole ≡ self.old.whole }
     {
         self.settle()?;
@@ -152,8 +158,7 @@ impl<P: Place + Drop> SavedFile<P> {
     fn settle(&mut self) -> Result<(), SaveFault>
         requires { self.old.stage ≡ Stage.Partial }
         ensures ok { OnOk result (self.new.stage ≡ Stage.Agreed) }
-        ensures err { OnErr result (is_as_it_was self.new.stage ≡ true) }
-        ensures cause { OnErr result (self.new.failed ≡ true) }
+        ensures err { IfErr result (λ fault. IsTrueOf fault self.new) }
         ensures whole { self.new.whole ≡ self.old.whole }
     {
         if let Err(error) = self.place.settle() {
@@ -173,7 +178,7 @@ impl<P: Place + Drop> SavedFile<P> {
     // What bytes go to is open.
     fn open(&mut self) -> Result<(), SaveFault>
         ensures ok { OnOk result (is_open self.new.stage ≡ true) }
-        ensures err { OnErr result (self.old.stage ≡ Stage.Untouched → is_as_it_was self.new.stage ≡ true) }
+        ensures err { IfErr result (λ fault. self.old.stage ≡ Stage.Untouched → IsTrueOf fault self.new) }
         ensures whole { self.new.whole ≡ self.old.whole }
     {
         match self.place.reached() {
@@ -187,8 +192,7 @@ impl<P: Place + Drop> SavedFile<P> {
     fn begin(&mut self) -> Result<(), SaveFault>
         requires { self.old.stage ≡ Stage.Untouched }
         ensures ok { OnOk result (is_open self.new.stage ≡ true) }
-        ensures err { OnErr result (is_as_it_was self.new.stage ≡ true) }
-        ensures cause { OnErr result (self.new.failed ≡ true) }
+        ensures err { IfErr result (λ fault. IsTrueOf fault self.new) }
         ensures whole { self.new.whole ≡ self.old.whole }
     {
         match self.place.begin() {
@@ -203,8 +207,7 @@ impl<P: Place + Drop> SavedFile<P> {
         requires untouched { self.old.stage ≡ Stage.Untouched }
         requires failed { self.old.failed ≡ true }
         ensures ok { OnOk result (self.new.stage ≡ Stage.Exposed) }
-        ensures err { OnErr result (is_as_it_was self.new.stage ≡ true) }
-        ensures cause { OnErr result (self.new.failed ≡ true) }
+        ensures err { IfErr result (λ fault. IsTrueOf fault self.new) }
         ensures whole { self.new.whole ≡ self.old.whole }
     {
         if self.whole {
@@ -242,7 +245,9 @@ impl<P: Place + Drop> Write for SavedFile<P> {
 }
 
 // Why a file didn't get the name of another.
-fn rename_fault(error: io::Error) -> SaveFault {
+fn rename_fault(error: io::Error) -> SaveFault
+    ensures { (it : Progress) → IsSpared it → IsTrueOf result it }
+{
     match error.kind() {
         // The old one was to keep a name that another file has.
         ErrorKind::AlreadyExists => SaveFault::Stands,

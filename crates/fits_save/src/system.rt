@@ -19,6 +19,7 @@ pub struct System<'a, R: Files<File = File>> {
     slot: Slot<'a, R>,
     stage: Stage,
     failed: bool,
+    differs: bool,
 }
 
 impl<'a, R: Files<File = File> + AllocGlobal> System<'a, R> {
@@ -39,6 +40,7 @@ impl<'a, R: Files<File = File> + AllocGlobal> System<'a, R> {
             slot: Slot::of(rt, path, mode, seen, saving)?,
             stage: Stage::Untouched,
             failed: false,
+            differs: false,
         })
     }
 }
@@ -90,6 +92,8 @@ impl<R: Files<File = File>> Place for System<'_, R> {
     ghost stage = { λ place. place.stage };
 
     ghost failed = { λ place. place.failed };
+
+    ghost differs = { λ place. place.differs };
 
     fn reached(&self) -> Stage {
         self.stage
@@ -145,7 +149,7 @@ impl<R: Files<File = File>> Place for System<'_, R> {
         if agrees {
             self.stage = self.stage.after(Act::Compare);
         } else {
-            self.failed = true;
+            self.differs = true;
         }
         agrees
     }
@@ -192,6 +196,7 @@ impl<R: Files<File = File>> Drop for System<'_, R> {
             slot: _slot,
             stage: _,
             failed: _,
+            differs: _,
         } = self;
     }
 }

@@ -1,6 +1,5 @@
 pub mod CutLemmas
 pub mod ListLemmas
-pub mod MisfitLemmas
 pub mod PartsLemmas
 pub mod RectangleLemmas
 pub mod ValuesLemmas

@@ -3,7 +3,7 @@ use Rattle.std.proofs.Common.{◌≡◌, ℕ, List, [], ◌∷◌, ◌++◌, ref
 use Rattle.std.specs.Prelude.{is_some}
 use Rattle.std.specs.Option.{option_map}
 use Rattle.fits_script.specs.Cut.{HasNo}
-use Rattle.fits_script.specs.Line.{◌>>=◌, each_read, list_of_text}
+use Rattle.fits_script.specs.Words.{◌>>=◌, each_read, list_of_text}
 use Rattle.fits_script.proofs.PartsLemmas.{parts-none, parts-cut}
 
 -- a text without the byte is one part

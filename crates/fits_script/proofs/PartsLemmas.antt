@@ -4,7 +4,7 @@ use Rattle.std.specs.Prelude.{◌==◌}
 use Rattle.std.specs.List.{list_any, onto_first, slice_split}
 use Rattle.std.proofs.lemmas.Bool.{or_parts}
 use Rattle.fits_script.specs.Cut.{HasNo}
-use Rattle.fits_script.specs.Line.{after_colon, before_colon}
+use Rattle.fits_script.specs.Words.{after_colon, before_colon}
 
 -- a byte is itself
 same_byte : (b : ℕ) → (b == b) ≡ true

@@ -5,7 +5,7 @@ use Rattle.std.proofs.Math.Nat.{pow-le-pow_right, pow-suc}
 use Rattle.std.proofs.lemmas.Bool.{or_parts}
 use Rattle.fits_value.specs.Spelling.{is_space}
 use Rattle.fits_script.specs.Cut.{HasNo}
-use Rattle.fits_script.specs.Line.{first_word, after_word}
+use Rattle.fits_script.specs.Words.{first_word, after_word}
 
 -- without a space a text is one word
 pub first_word-alone : (word : List ℕ) → HasNo 32 word → first_word word ≡ word

@@ -3,20 +3,19 @@
 
 mod command;
 mod cut;
-mod form_misfit;
+mod forms;
 mod image_words;
 mod limits;
 mod line;
 mod line_fault;
-mod line_misfit;
 mod line_reading;
 mod misfit;
+mod misfits;
+mod next_words;
 mod part;
 mod rectangle_words;
 mod value_words;
 mod verb;
-mod word_fault;
-mod word_misfit;
 mod wording;
 mod words;
 
@@ -25,10 +24,9 @@ pub use cut::{split_far, split_once};
 pub use limits::LINE_LIMIT;
 pub use line::{parse_line, read_line};
 pub use line_fault::LineFault;
-pub use line_misfit::misfit_of;
 pub use line_reading::LineReading;
 pub use misfit::Misfit;
+pub use misfits::ends_in_return;
 pub use verb::Verb;
-pub use word_fault::WordFault;
 pub use wording::{write_misfit, write_unwritable};
 pub use words::padded_name;

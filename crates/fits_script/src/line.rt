@@ -1,24 +1,29 @@
 //! The lines of a script: which bytes are which command.
 ghost use Rattle.std.specs.Prelude.{◌≡◌, IfOk, IsErrOf, OnErr};
 ghost use Rattle.std.specs.Option.{option_copied};
-ghost use Rattle.std.specs.Result.{result_ok};
 ghost use Rattle.fits_script.specs.Line.{cards_command, command_of, reading_of, said_by, said_of};
-ghost use Rattle.fits_script.specs.Line.{said_or_none, words_said, ReadingNeedsMemory};
+ghost use Rattle.fits_script.specs.Line.{verb_said, ReadingNeedsMemory, SayingNeedsMemory};
+ghost use Rattle.fits_script.specs.Words.{first_word, verb_of};
 ghost use Rattle.fits_script.specs.declared.command.Command.{Command};
 
 use crate::command::Command;
-use crate::image_words::array_words;
+use crate::forms::{
+    array_words, card_words, field_words, fill_words, move_words, name_word, place_word,
+    rectangle_word, write_words,
+};
 use crate::limits::LINE_LIMIT;
 use crate::line_fault::LineFault;
 use crate::line_reading::LineReading;
+use crate::misfit::Misfit;
+use crate::misfits::{no_verb, unless_returned};
+use crate::next_words::{ended, next_hdu};
 use crate::verb::{Verb, verb_of};
-use crate::word_fault::WordFault;
-use crate::words::{
-    alone, card_words, cut_word, field_words, fill_words, move_words, name_word, number_first,
-    place_word, rectangle_word, write_words,
-};
+use crate::words::cut_word;
 use fits_edit::{CardEdit, Edit, HduEdit};
 use std::alloc::{AllocError, Global};
+
+// What a line says, or why it says no command.
+type Said<'a> = Result<Command, Misfit<'a>>;
 
 /// The command that a line says, without its line feed.
 pub fn parse_line(alloc: Global, line: &[u8]) -> Result<Command, LineFault>
@@ -29,14 +34,14 @@ pub fn parse_line(alloc: Global, line: &[u8]) -> Result<Command, LineFault>
 {
     match read_line(alloc, line) {
         Ok(LineReading::Said(command)) => Ok(command),
-        Ok(LineReading::TooLong | LineReading::NoCommand) => Err(LineFault::Bad),
+        Ok(LineReading::TooLong | LineReading::NoCommand(_)) => Err(LineFault::Bad),
         Err(refused) => Err(LineFault::from(refused)),
     }
 }
 
 /// What a line comes to, without its line feed.
 #[tactic(auto, unfolding(crate::specs::Line::reading_of))]
-pub fn read_line(alloc: Global, line: &[u8]) -> Result<LineReading, AllocError>
+pub fn read_line(alloc: Global, line: &[u8]) -> Result<LineReading<'_>, AllocError>
     ensures ok { IfOk result (λ reading. reading ≡ reading_of line.now) }
     ensures err { OnErr result (ReadingNeedsMemory (reading_of line.now)) }
 {
@@ -44,59 +49,56 @@ pub fn read_line(alloc: Global, line: &[u8]) -> Result<LineReading, AllocError>
         return Ok(LineReading::TooLong);
     }
     match command_of(alloc, line) {
-        Ok(Some(command)) => Ok(LineReading::Said(command)),
-        Ok(None) => Ok(LineReading::NoCommand),
+        Ok(Ok(command)) => Ok(LineReading::Said(command)),
+        Ok(Err(misfit)) => Ok(LineReading::NoCommand(unless_returned(line, misfit))),
         Err(refused) => Err(refused),
     }
 }
 
-// What a line within the limit says.
+// What a line within the limit says, or why it says no command.
 #[tactic(auto, unfolding(crate::specs::Line::command_of))]
-fn command_of(alloc: Global, line: &[u8]) -> Result<Option<Command>, AllocError>
+fn command_of(alloc: Global, line: &[u8]) -> Result<Said<'_>, AllocError>
     ensures ok { IfOk result (λ said. said ≡ command_of line.now) }
-    ensures err { OnErr result (ReadingNeedsMemory (said_or_none (command_of line.now))) }
+    ensures err { OnErr result (SayingNeedsMemory (command_of line.now)) }
 {
     match line {
-        [] | [b'#', ..] => Ok(Some(Command::Nothing)),
-        _ => Ok(words_said(alloc, line)?.ok()),
+        [] | [b'#', ..] => Ok(Ok(Command::Nothing)),
+        _ => words_said(alloc, line),
     }
 }
 
-// What the words of a line say, or why they say nothing.
-#[tactic(auto, unfolding(crate::specs::Line::words_said, crate::specs::Line::verb_said))]
-fn words_said(alloc: Global, line: &[u8]) -> Result<Result<Command, WordFault>, AllocError>
-    ensures ok { IfOk result (λ said. said ≡ words_said line.now) }
-    ensures err { OnErr result (ReadingNeedsMemory (said_or_none (result_ok (words_said line.now)))) }
+// What the words of a line say.
+#[tactic(auto, unfolding(crate::specs::Line::verb_said))]
+fn words_said(alloc: Global, line: &[u8]) -> Result<Said<'_>, AllocError>
+    ensures ok { IfOk result (λ said. said ≡ verb_said (verb_of (first_word line.now)) line.now) }
+    ensures err { OnErr result (SayingNeedsMemory (verb_said (verb_of (first_word line.now)) line.now)) }
 {
     let (word, rest) = cut_word(line);
     match verb_of(word) {
-        Some(verb) => said_by(alloc, verb, rest),
-        None => Ok(Err(WordFault::NoVerb)),
+        Some(verb) => said_by(alloc, verb, line.len(), rest),
+        None => Ok(Err(no_verb(line))),
     }
 }
 
 // What a verb and the rest of the line say: most verbs name an HDU first.
-#[tactic(auto, unfolding(crate::specs::Line::said_by, crate::specs::Line::hdu_said))]
+#[tactic(auto, unfolding(crate::specs::Line::said_by))]
 fn said_by(
     alloc: Global,
     verb: Verb,
+    size: usize,
     rest: Option<&[u8]>,
-) -> Result<Result<Command, WordFault>, AllocError>
-    ensures ok { IfOk result (λ said. said ≡ said_by verb (option_copied rest.entry)) }
-    ensures err { OnErr result
-        (ReadingNeedsMemory (said_or_none (result_ok (said_by verb (option_copied rest.entry))))) }
+) -> Result<Said<'_>, AllocError>
+    ensures ok { IfOk result (λ said. said ≡ said_by verb size (option_copied rest.entry)) }
+    ensures err { OnErr result (SayingNeedsMemory (said_by verb size (option_copied rest.entry))) }
 {
-    let said = match verb {
-        Verb::Offsets => alone(rest, Command::Offsets),
-        Verb::Report => alone(rest, Command::Report),
-        _ => {
-            let Some((hdu, rest)) = number_first(rest) else {
-                return Ok(Err(WordFault::NoHdu));
-            };
-            said_of(alloc, verb, hdu, rest)?
-        }
-    };
-    Ok(said.ok_or(WordFault::OtherWords))
+    match verb {
+        Verb::Offsets => Ok(ended(size, rest, Command::Offsets)),
+        Verb::Report => Ok(ended(size, rest, Command::Report)),
+        _ => match next_hdu(size, rest) {
+            Ok((hdu, rest)) => said_of(alloc, verb, size, hdu, rest),
+            Err(misfit) => Ok(Err(misfit)),
+        },
+    }
 }
 
 // What a verb says of an HDU, by what follows the HDU's number.
@@ -104,31 +106,31 @@ fn said_by(
 fn said_of(
     alloc: Global,
     verb: Verb,
+    size: usize,
     hdu: usize,
     rest: Option<&[u8]>,
-) -> Result<Option<Command>, AllocError>
-    ensures ok { IfOk result (λ said. said ≡ said_of verb hdu (option_copied rest.entry)) }
-    ensures err { OnErr result
-        (ReadingNeedsMemory (said_or_none (said_of verb hdu (option_copied rest.entry)))) }
+) -> Result<Said<'_>, AllocError>
+    ensures ok { IfOk result (λ said. said ≡ said_of verb size hdu (option_copied rest.entry)) }
+    ensures err { OnErr result (SayingNeedsMemory (said_of verb size hdu (option_copied rest.entry))) }
 {
     Ok(match verb {
-        Verb::Insert => card_words(rest).map(|(place, card)| cards_command(
+        Verb::Insert => card_words(size, rest).map(|(place, card)| cards_command(
             hdu,
             CardEdit::Insert { place, card },
         )),
-        Verb::Put => card_words(rest).map(|(place, card)| cards_command(
+        Verb::Put => card_words(size, rest).map(|(place, card)| cards_command(
             hdu,
             CardEdit::Put { place, card },
         )),
-        Verb::Delete => place_word(rest).map(|place| cards_command(
+        Verb::Delete => place_word(size, rest).map(|place| cards_command(
             hdu,
             CardEdit::Delete { place },
         )),
-        Verb::Move => move_words(rest).map(|(from, to)| cards_command(
+        Verb::Move => move_words(size, rest).map(|(from, to)| cards_command(
             hdu,
             CardEdit::Move { from, to },
         )),
-        Verb::Set => field_words(alloc, rest)?.map(|(name, value, comment)| cards_command(
+        Verb::Set => field_words(alloc, size, rest)?.map(|(name, value, comment)| cards_command(
             hdu,
             CardEdit::Set {
                 name,
@@ -136,39 +138,45 @@ fn said_of(
                 comment,
             },
         )),
-        Verb::Unset => name_word(rest).map(|name| cards_command(hdu, CardEdit::Unset { name })),
-        Verb::Fill => fill_words(alloc, rest)?.map(|(lo, hi, paint)| hdu_command(
+        Verb::Unset => name_word(size, rest).map(|name| cards_command(
+            hdu,
+            CardEdit::Unset { name },
+        )),
+        Verb::Fill => fill_words(alloc, size, rest)?.map(|(lo, hi, paint)| hdu_command(
             hdu,
             HduEdit::Pixels { lo, hi, paint },
         )),
-        Verb::Write => write_words(alloc, rest)?.map(|(lo, hi, paint)| hdu_command(
+        Verb::Write => write_words(alloc, size, rest)?.map(|(lo, hi, paint)| hdu_command(
             hdu,
             HduEdit::Pixels { lo, hi, paint },
         )),
-        Verb::Reshape => array_words(alloc, rest)?.map(|(kind, axes)| hdu_command(
+        Verb::Reshape => array_words(alloc, size, rest)?.map(|(kind, axes)| hdu_command(
             hdu,
             HduEdit::Reshape { kind, axes },
         )),
-        Verb::New => array_words(alloc, rest)?.map(|(kind, axes)| Command::Edit(Edit::NewImage {
-            at: hdu,
-            kind,
-            axes,
-        })),
-        Verb::Remove => alone(rest, Command::Edit(Edit::RemoveHdu { hdu })),
-        Verb::Stamp => alone(rest, hdu_command(hdu, HduEdit::Stamp)),
-        Verb::Keep => alone(rest, hdu_command(hdu, HduEdit::Keep)),
-        Verb::Release => alone(rest, hdu_command(hdu, HduEdit::Release)),
-        Verb::Kept => alone(rest, Command::Kept { hdu }),
-        Verb::Get => name_word(rest).map(|name| Command::Get { hdu, name }),
-        Verb::Positions => name_word(rest).map(|name| Command::Positions { hdu, name }),
-        Verb::Statistics => alone(rest, Command::Statistics { hdu }),
-        Verb::Rectangle => rectangle_word(alloc, rest)?.map(|(lo, hi)| Command::Rectangle {
+        Verb::New => array_words(alloc, size, rest)?.map(|(kind, axes)| Command::Edit(
+            Edit::NewImage {
+                at: hdu,
+                kind,
+                axes,
+            },
+        )),
+        Verb::Remove => ended(size, rest, Command::Edit(Edit::RemoveHdu { hdu })),
+        Verb::Stamp => ended(size, rest, hdu_command(hdu, HduEdit::Stamp)),
+        Verb::Keep => ended(size, rest, hdu_command(hdu, HduEdit::Keep)),
+        Verb::Release => ended(size, rest, hdu_command(hdu, HduEdit::Release)),
+        Verb::Kept => ended(size, rest, Command::Kept { hdu }),
+        Verb::Get => name_word(size, rest).map(|name| Command::Get { hdu, name }),
+        Verb::Positions => name_word(size, rest).map(|name| Command::Positions { hdu, name }),
+        Verb::Statistics => ended(size, rest, Command::Statistics { hdu }),
+        Verb::Rectangle => rectangle_word(alloc, size, rest)?.map(|(lo, hi)| Command::Rectangle {
             hdu,
             lo,
             hi,
         }),
-        Verb::Sums => alone(rest, Command::Sums { hdu }),
-        Verb::Offsets | Verb::Report => None,
+        Verb::Sums => ended(size, rest, Command::Sums { hdu }),
+        Verb::Offsets => ended(size, rest, Command::Offsets),
+        Verb::Report => ended(size, rest, Command::Report),
     })
 }
 

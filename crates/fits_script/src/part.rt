@@ -1,7 +1,7 @@
 //! Lists of words in a line, each read in one way.
 ghost use Rattle.std.specs.Prelude.{◌≡◌, is_some, List, ℕ, Option, None, Some};
 ghost use Rattle.std.specs.Prelude.{IfNone, IfOk, IfSome, IsSome, OnErr};
-ghost use Rattle.fits_script.specs.Line.{list_of_text};
+ghost use Rattle.fits_script.specs.Words.{list_of_text};
 
 use crate::cut::split_once;
 use std::alloc::{AllocError, Global};

@@ -1,9 +1,9 @@
 //! The word of a rectangle: `lo:hi` for each axis, joined by commas.
-ghost use Rattle.std.specs.Prelude.{◌≡◌, is_some, map, IfOk, IsSome, OnErr};
-ghost use Rattle.fits_script.specs.Line.{after_colon, axis_of_word, before_colon, corners_of_word};
+ghost use Rattle.std.specs.Prelude.{◌≡◌, map, IfOk, IsSome, OnErr};
+ghost use Rattle.fits_script.specs.Words.{after_colon, axis_of_word, before_colon, corners_of_word};
 
 use crate::cut::split_once;
-use crate::part::{Part, is_list, read_list};
+use crate::part::{Part, read_list};
 use crate::words::number_of_word;
 use fits_edit::Corner;
 use std::alloc::{AllocError, Global};
@@ -18,7 +18,7 @@ impl Part for (u64, u64) {
 }
 
 /// The corners of a rectangle, unless a word is none.
-#[tactic(auto, unfolding(crate::specs::Line::corners_of_word))]
+#[tactic(auto, unfolding(crate::specs::Words::corners_of_word))]
 pub(crate) fn corners_of(alloc: Global, word: &[u8]) -> Result<Option<(Corner, Corner)>, AllocError>
     ensures ok { IfOk result (λ corners. corners ≡ corners_of_word word.now) }
     ensures err { OnErr result (IsSome (corners_of_word word.now)) }
@@ -48,15 +48,8 @@ fn corners(alloc: Global, axes: &[(u64, u64)]) -> Result<(Corner, Corner), Alloc
     Ok((Corner::new(lo), Corner::new(hi)))
 }
 
-/// Whether a word is a rectangle.
-pub(crate) fn is_rectangle(word: &[u8]) -> bool
-    ensures { result ≡ is_some (corners_of_word word.now) }
-{
-    is_list::<(u64, u64)>(word, b',')
-}
-
 // The numbers of an axis, unless a text is none.
-#[tactic(auto, unfolding(crate::specs::Line::axis_of_word))]
+#[tactic(auto, unfolding(crate::specs::Words::axis_of_word))]
 fn read_axis(axis: &[u8]) -> Option<(u64, u64)>
     ensures { result ≡ axis_of_word axis.now }
 {

@@ -1,16 +1,18 @@
 //! The values of pixels that end a line: each an optional minus sign and digits.
 ghost use Rattle.std.specs.Prelude.{◌≡◌, ◌<◌, ◌≤◌, ◌^◌, false, length};
-ghost use Rattle.std.specs.Prelude.{IfOk, IfSome, IfNone, IsSome, IsTrue, OnErr};
+ghost use Rattle.std.specs.Prelude.{IfOk, IfSome, IfNone, IsOk, IsTrue, OnErr};
 ghost use Rattle.std.specs.List.{list_all};
 ghost use Rattle.std.specs.Option.{option_copied};
-ghost use Rattle.fits_script.specs.Line.{is_negative, is_number, value_last, value_of_word};
-ghost use Rattle.fits_script.specs.Line.{values_last, without_minus};
+ghost use Rattle.fits_script.specs.Line.{values_last};
+ghost use Rattle.fits_script.specs.Words.{is_negative, is_number, value_of_word, without_minus};
 ghost use Rattle.fits_value.specs.Number.{value_of};
 ghost use Rattle.fits_value.specs.Spelling.{is_digit};
 
+use crate::misfit::Misfit;
+use crate::misfits::{values_misfit, word_misfit};
 use crate::part::{Part, read_list};
 use crate::words::{DIGITS, number_of_word};
-use fits_edit::PixelValues;
+use fits_edit::{Paint, PixelValues};
 use std::alloc::{AllocError, Global};
 
 /// How many digits a value has at most.
@@ -24,35 +26,28 @@ impl Part for i128 {
     }
 }
 
-/// The value that ends a line.
-#[tactic(auto, unfolding(crate::specs::Line::value_last))]
-pub(crate) fn value_last(rest: Option<&[u8]>) -> Option<i128>
-    ensures { result ≡ value_last (option_copied rest.entry) }
-{
-    read_value(rest?)
-}
-
-/// The values that end a line.
+/// The values that end a line of this size and are written, or why they aren't.
 #[tactic(auto, unfolding(crate::specs::Line::values_last))]
 pub(crate) fn values_last(
     alloc: Global,
+    size: usize,
     rest: Option<&[u8]>,
-) -> Result<Option<PixelValues>, AllocError>
-    ensures ok { IfOk result (λ values. values ≡ values_last (option_copied rest.entry)) }
-    ensures err { OnErr result (IsSome (values_last (option_copied rest.entry))) }
+) -> Result<Result<Paint, Misfit<'_>>, AllocError>
+    ensures ok { IfOk result (λ paint. paint ≡ values_last size (option_copied rest.entry)) }
+    ensures err { OnErr result (IsOk (values_last size (option_copied rest.entry))) }
 {
     let Some(text) = rest else {
-        return Ok(None);
+        return Ok(Err(Misfit::WordMissing));
     };
     match read_list(alloc, text, b' ') {
-        Ok(Some(values)) => Ok(Some(PixelValues::new(values))),
-        Ok(None) => Ok(None),
+        Ok(Some(values)) => Ok(Ok(Paint::Write(PixelValues::new(values)))),
+        Ok(None) => Ok(Err(word_misfit(size, text, values_misfit(size, text)))),
         Err(refused) => Err(refused),
     }
 }
 
 /// The number of a value, unless the word is none.
-#[tactic(auto, unfolding(crate::specs::Line::value_of_word))]
+#[tactic(auto, unfolding(crate::specs::Words::value_of_word))]
 pub(crate) fn read_value(word: &[u8]) -> Option<i128>
     ensures { result ≡ value_of_word word.now }
 {
@@ -73,7 +68,7 @@ fn cut_sign(word: &[u8]) -> (bool, &[u8])
 }
 
 // The number of 1 to 30 digits. Most have few.
-#[tactic(auto, unfolding(crate::specs::Line::number_of_word))]
+#[tactic(auto, unfolding(crate::specs::Words::number_of_word))]
 fn size_of_word(word: &[u8]) -> Option<u128>
     ensures some { IfSome result (λ size. IsTrue (is_number 30 word.now)
         × (size ≡ value_of word.now)) }

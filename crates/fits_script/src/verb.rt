@@ -2,7 +2,7 @@
 ghost use Rattle.std.specs.Prelude.{◌≡◌, map};
 ghost use Rattle.std.specs.Char.{to_ascii_lowercase};
 ghost use Rattle.std.specs.Str.{bytes_eq};
-ghost use Rattle.fits_script.specs.Line.{verb_of, verb_word};
+ghost use Rattle.fits_script.specs.Words.{verb_of, verb_word};
 ghost use Rattle.fits_script.specs.Misfit.{is_capital_verb};
 
 use crate::words::is_word;
@@ -61,7 +61,7 @@ const VERBS: [Verb; 22] = [
 ];
 
 /// The verb that a word is.
-#[tactic(auto, unfolding(crate::specs::Line::verb_of))]
+#[tactic(auto, unfolding(crate::specs::Words::verb_of))]
 pub(crate) fn verb_of(word: &[u8]) -> Option<Verb>
     ensures { result ≡ verb_of word.now }
 {
@@ -80,7 +80,7 @@ pub(crate) fn is_capital_verb(word: &[u8]) -> bool
 }
 
 // Whether a word is a verb's but for its letters.
-#[tactic(auto, using(crate::proofs::MisfitLemmas::letter_steps))]
+#[tactic(auto, using(crate::proofs::VerbLemmas::letter_steps))]
 fn is_in_capitals(word: &[u8], verb: Verb) -> bool
     ensures { result ≡ bytes_eq (map to_ascii_lowercase word.now) (verb_word verb) }
 {

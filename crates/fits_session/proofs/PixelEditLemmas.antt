@@ -11,7 +11,7 @@ use Rattle.fits_rules.specs.declared.array_shape.Shape.{Shape}
 use Rattle.fits_hdu.specs.Hdu.{HduParts, hdu_bytes, IsHdu}
 use Rattle.fits_hdu.specs.Layout.{layout_of}
 use Rattle.fits_hdu.specs.State.{HduState, IsDescribed, parts_of}
-use Rattle.fits_hdu.specs.Work.{IsPatched, PixelWork, plane_work}
+use Rattle.fits_hdu.specs.Work.{IsPatched, IsPatchedIn, PixelWork, plane_work}
 use Rattle.fits_hdu.specs.declared.pixel_fault.PixelFault.{PixelFault}
 use Rattle.fits_hdu.specs.Pixels.{painted}
 use Rattle.fits_hdu.proofs.PixelLemmas.{painted_hdu}
@@ -107,7 +107,7 @@ may_made (Err why) p = absurd (cc)
 -- one that is made owes this
 pub paints : {X : Type 0} (lo hi : List ℕ) (paint : Paint) (bytes hdus : ℕ) (old mid new : HduState) (x : X) → IsHdu (is_primary old.header.shape.class) (parts_of old) → shape_of (is_primary old.header.shape.class) old.header.header.cards ≡ Ok old.header.shape
     → painted old.header.shape lo hi (plane_paint paint) (parts_of old) ≡ Ok (parts_of mid) → limit_refusal (length_with bytes (parts_of old) (padded_if old.kept (parts_of mid))) hdus ≡ None → mid.header.reads ≡ old.header.reads
-    → IsPatched (rectangle_blocks (layout_of old.header.shape old.header.header.cards) old.plane.bytes old.header.shape.axes lo hi) (block_count old.plane.bytes) (plane_work old.plane) (plane_work mid.plane) → mid.entry ≡ old.entry → mid.kept ≡ old.kept → mid.absent ≡ None → IsFinished old.kept mid new
+    → IsPatchedIn lo hi old mid → mid.entry ≡ old.entry → mid.kept ≡ old.kept → mid.absent ≡ None → IsFinished old.kept mid new
     → HduEditsTo {X = X} (Pixels lo hi paint) bytes hdus old new (Ok x)
 unfolding hdu_made
 paints lo hi paint bytes hdus old mid new x whole described is limits reads patched entry kept held finished =

@@ -25,7 +25,7 @@ AllTell bytes = (file : _) → (xs : List ℕ) × (bytes file ≡ Some xs)
 
 -- the parts of an HDU that passed by
 abbrev pub parts_passed : PassedHdu → HduParts
-parts_passed it = passed_parts it.header it.unit
+parts_passed it = passed_parts it.header.header it.unit
 
 -- of an HDU that passed by this is known
 abbrev pub is_passed : PassedHdu → HduParts → Type 0

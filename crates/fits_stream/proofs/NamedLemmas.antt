@@ -1,14 +1,17 @@
 -- A text with a name before each of its lines: what is told of it is the text, and it grows line by line.
 use Rattle.std.proofs.Common.{◌≡◌, ℕ, zero, suc, ◌+◌, ◌-◌, ◌<◌, ◌≤◌, ◌==◌, Bool, true, false, ◌&&◌, ◌||◌, nat_le, List, [], ◌∷◌, ◌++◌, length, take, drop, slice_index_or, refl, ap, sym, subst, ◌∙◌, append_assoc, append-nil, take-append-drop, arith, Option, None, Some, IfSome, if◌then◌else◌}
-use Rattle.std.proofs.lemmas.List.{length-append, length-take, length-drop, take_all}
-use Rattle.std.proofs.lemmas.Bool.{false≢true, and_parts, and_from, or_parts, leb-true, le-leb, eqb-false}
+use Rattle.std.proofs.lemmas.List.{length-append, length-take, length-drop, take_all, take-take}
+use Rattle.std.proofs.lemmas.Bool.{false≢true, and_parts, and_from, or_parts, leb-true, le-leb, lt-ltb, eqb-false}
 use Rattle.std.proofs.lemmas.Option.{none-some, same_Some}
 use Rattle.std.proofs.lemmas.Slice.Eq.{bytes_eq-Decides}
 use Rattle.std.proofs.Math.Seq.{take-add, drop-append_seam}
 use Rattle.std.specs.List.{list_any}
 use Rattle.std.specs.Str.{bytes_eq}
 use Rattle.std.specs.Io.KnownBytes.{Appends, Keeps}
-use Rattle.fits_stream.specs.Named.{line_begins, named_from, named, is_one_line, unnamed_from, last_told, ends_named, told_in, told_of, name_begun, EndsNamed, IsNamed}
+use Rattle.fits_stream.specs.Named.{line_begins, named_from, named, is_one_line, unnamed_from, last_told, ends_named, told_in, told_of, name_begun, unnamed, EndsNamed, IsNamed}
+use Rattle.fits_stream.specs.Stream.{Held, SinkState, Gains, FailsToWrite, Stays, Writes}
+use Rattle.std.specs.Prelude.{nat_lt, Result, Ok, Err, IfOk, OnErr}
+use Rattle.std.specs.Io.{WritesAtMost}
 
 -- as many bytes as are to be left out are
 unnamed-skip : (n : ℕ) (zs ys : List ℕ) → unnamed_from n (length zs) (zs ++ ys) ≡ unnamed_from n 0 ys
@@ -325,6 +328,65 @@ told-going_on name left sent count n a b line taken none one within some cut end
     rw (none) (subst (λ k. Appends (told_of name 0 sent a) (told_of name k count b) (take n line)) next (subst (λ k. Appends (told_of name 0 sent a) (told_of name (left_after name (take n line)) k b) (take n line)) all
     (told-line name sent a b (take n line) (one_line-take n line one) many p)))
 
+-- a sink that holds and took what it did gives the same text
+pub unnamed-kept : (name : List ℕ) (left sent : ℕ) (a b : Held) → Stays a b → Stays (unnamed name left sent a) (unnamed name left sent b)
+unnamed-kept name left sent a b k = record { told = told-kept name left sent a.told b.told k.told; taken = told-kept name left sent a.taken b.taken k.taken }
+
+-- a part of a name leaves what is told of the text as it was
+pub unnamed-names : (name : List ℕ) (left sent m : ℕ) (a b : Held) → left ≤ length name → m ≤ left → 0 < left → Gains a b (take m (drop (length name - left) name))
+    → Stays (unnamed name left sent a) (unnamed name (left - m) (sent + m) b)
+unnamed-names name left sent m a b within le some p = record { told = told-name name left sent m a.told b.told within le some p.told; taken = told-name name left sent m a.taken b.taken within le some p.taken }
+
+-- what stays, and stays again, stays
+pub Stays-more : (a b c : Held) → Stays a b → Stays b c → Stays a c
+Stays-more a b c p q = record { told = Keeps-more a.told b.told c.told p.told q.told; taken = Keeps-more a.taken b.taken c.taken p.taken q.taken }
+
+-- what stays, and then grows, grows
+pub Gains-after : (a b c : Held) (bs : List ℕ) → Stays a b → Gains b c bs → Gains a c bs
+Gains-after a b c bs p q = record { told = Appends-after a.told b.told c.told bs p.told q.told; taken = Appends-after a.taken b.taken c.taken bs p.taken q.taken }
+
+-- a line that ends makes the text grow by it, and the next one wants its whole name
+pub unnamed-ended : (name : List ℕ) (left sent count n : ℕ) (a b : Held) (line taken : List ℕ) → left ≡ 0 → is_one_line line ≡ true → n ≤ length line → (n == 0) ≡ false → taken ≡ take n line
+    → line_begins false taken ≡ true → count ≡ sent + n → Gains a b (take n line) → Gains (unnamed name left sent a) (unnamed name (length name) count b) (take n line)
+unnamed-ended name left sent count n a b line taken none one within some cut ends counted p = record { told = told-ended name left sent count n a.told b.told line taken none one within some cut ends counted p.told; taken = told-ended name left sent count n a.taken b.taken line taken none one within some cut ends counted p.taken }
+
+-- a part of a line that goes on makes the text grow by it
+pub unnamed-going_on : (name : List ℕ) (left sent count n : ℕ) (a b : Held) (line taken : List ℕ) → left ≡ 0 → is_one_line line ≡ true → n ≤ length line → (n == 0) ≡ false → taken ≡ take n line
+    → line_begins false taken ≡ false → count ≡ sent + n → Gains a b (take n line) → Gains (unnamed name left sent a) (unnamed name left count b) (take n line)
+unnamed-going_on name left sent count n a b line taken none one within some cut ends counted p = record { told = told-going_on name left sent count n a.told b.told line taken none one within some cut ends counted p.told; taken = told-going_on name left sent count n a.taken b.taken line taken none one within some cut ends counted p.taken }
+
+-- a failed call, or none
+abbrev one_if : Bool → ℕ
+one_if b = if b then 1 else 0
+
+-- a condition beside one that holds is that condition
+both-true : (b : Bool) → one_if (b && true) ≡ one_if b
+both-true true = refl
+both-true false = refl
+
+-- a line was written, after what was left of its name
+pub named_writes : {E : Type 0} (r : Result ℕ E) (name : List ℕ) (l0 l1 l2 s0 s1 s2 : ℕ) (a b c : SinkState) (u v : ℕ) (piece line : List ℕ) → Stays (unnamed name l0 s0 a.contents) (unnamed name l1 s1 b.contents) → b.failures ≡ a.failures
+    → IfOk r (λ n. Gains (unnamed name l1 s1 b.contents) (unnamed name l2 s2 c.contents) (take n line)) → IfOk r (λ n. c.failures ≡ b.failures + (if n == 0 then 1 else 0)) → WritesAtMost r line
+    → line ≡ take (length line) piece → 0 < length line → v ≡ u + 1
+    → IfOk r (λ n. Writes n piece (record { contents = unnamed name l0 s0 a.contents; failures = a.failures; unflushed = u }) (record { contents = unnamed name l2 s2 c.contents; failures = c.failures; unflushed = v }))
+named_writes (Ok n) name l0 l1 l2 s0 s1 s2 a b c u v piece line kept quiet gains fails few front some ticks =
+    let cut : take n line ≡ take n piece = ap (take n) front ∙ take-take n (length line) piece few in
+    let many : nat_lt 0 (length piece) ≡ true = lt-ltb 0 (length piece) (omega (arith, some, ap length front, length-take (length line) piece)) in
+    let same : (if (n == 0) && nat_lt 0 (length piece) then 1 else 0) ≡ (if n == 0 then 1 else 0) = ap (λ t. if (n == 0) && t then 1 else 0) many ∙ both-true (n == 0) in
+    record {
+      bytes = Gains-after _ _ _ (take n piece) kept (subst (λ t. Gains (unnamed name l1 s1 b.contents) (unnamed name l2 s2 c.contents) t) cut gains);
+      failed = fails ∙ ap (λ t. t + (if n == 0 then 1 else 0)) quiet ∙ ap (λ t. a.failures + t) (sym same);
+      unflushed = ticks;
+    }
+named_writes (Err e) name l0 l1 l2 s0 s1 s2 a b c u v piece line kept quiet gains fails few front some ticks = tt
+
+-- or wasn't
+pub named_fails : {E : Type 0} (r : Result ℕ E) (name : List ℕ) (l0 l1 l2 s0 s1 s2 : ℕ) (a b c : SinkState) (u v : ℕ) → Stays (unnamed name l0 s0 a.contents) (unnamed name l1 s1 b.contents) → b.failures ≡ a.failures
+    → OnErr r (Stays (unnamed name l1 s1 b.contents) (unnamed name l2 s2 c.contents)) → OnErr r (c.failures ≡ b.failures + 1) → v ≡ u + 1
+    → OnErr r (FailsToWrite (record { contents = unnamed name l0 s0 a.contents; failures = a.failures; unflushed = u }) (record { contents = unnamed name l2 s2 c.contents; failures = c.failures; unflushed = v }))
+named_fails (Ok n) name l0 l1 l2 s0 s1 s2 a b c u v kept quiet stays fails ticks = tt
+named_fails (Err e) name l0 l1 l2 s0 s1 s2 a b c u v kept quiet stays fails ticks = record { bytes = Stays-more _ _ _ kept stays; failed = fails ∙ ap (λ t. t + 1) quiet; unflushed = ticks }
+
 pub ruleset line_steps = (one_line-plain, one_line-first, line_begins-last)
 
-pub ruleset naming_steps = (told-name, told-kept, Keeps-more, Appends-after, told-ended, told-going_on)
+pub ruleset naming_steps = (unnamed-kept, unnamed-names, Stays-more, Gains-after, unnamed-ended, unnamed-going_on)

@@ -1,9 +1,9 @@
 -- What streams took and gave, put together.
-use Rattle.std.proofs.Common.{◌≡◌, ℕ, ◌+◌, ◌-◌, ◌≤◌, List, [], ◌++◌, length, take, drop, refl, ap, sym, ◌∙◌, append_assoc, arith, Option, None, Some}
+use Rattle.std.proofs.Common.{◌≡◌, ℕ, ◌+◌, ◌-◌, ◌≤◌, List, [], ◌++◌, length, take, drop, refl, sym, ◌∙◌, append_assoc, arith, subst, Option, None, Some}
 use Rattle.std.proofs.lemmas.List.{append-nil, take_all, take_rest, length-append, take-append-le}
 use Rattle.std.proofs.Math.Seq.{take-add, take-append-add}
 use Rattle.std.specs.Io.KnownBytes.{Appends, Keeps, Consumes}
-use Rattle.fits_stream.specs.Stream.{SinkState, SourceState, AppendsFront, Prints, PrintsFront, FailsToFlush, FailsToWrite, Flushes, Reads}
+use Rattle.fits_stream.specs.Stream.{Held, SinkState, SourceState, Gains, GainsFront, Prints, PrintsFront, FailsToFlush, FailsToWrite, Flushes, Reads, Stays}
 
 -- nothing is written
 pub Appends-none : (a : Option (List ℕ)) → Appends a a []
@@ -24,58 +24,75 @@ Appends-kept (Some xs) None c bs p q = absurd p
 Appends-kept (Some xs) (Some ys) None bs p q = absurd q
 Appends-kept (Some xs) (Some ys) (Some zs) bs p q = q ∙ p
 
+-- a sink took nothing
+pub Gains-none : (a : Held) → Gains a a []
+Gains-none a = record { told = Appends-none a.told; taken = Appends-none a.taken }
+
+-- a sink took bytes, then others
+pub Gains-more : (a b c : Held) (bs cs : List ℕ) → Gains a b bs → Gains b c cs → Gains a c (bs ++ cs)
+Gains-more a b c bs cs p q = record {
+  told = Appends-more a.told b.told c.told bs cs p.told q.told;
+  taken = Appends-more a.taken b.taken c.taken bs cs p.taken q.taken;
+}
+
+-- a sink took bytes, and holds them still
+pub Gains-kept : (a b c : Held) (bs : List ℕ) → Gains a b bs → Stays b c → Gains a c bs
+Gains-kept a b c bs p q = record {
+  told = Appends-kept a.told b.told c.told bs p.told q.told;
+  taken = Appends-kept a.taken b.taken c.taken bs p.taken q.taken;
+}
+
 -- some bytes of a text are a prefix of it
-pub AppendsFront-taken : (a b : Option (List ℕ)) (bs : List ℕ) (n : ℕ) → n ≤ length bs → Appends a b (take n bs) → AppendsFront a b bs
-AppendsFront-taken None b bs n le p = tt
-AppendsFront-taken (Some xs) None bs n le p = absurd p
-AppendsFront-taken (Some xs) (Some ys) bs n le p = (n, le, p)
+pub GainsFront-taken : (a b : Held) (bs : List ℕ) (n : ℕ) → n ≤ length bs → Gains a b (take n bs) → GainsFront a b bs
+GainsFront-taken a b bs n le p = record { count = n; few = le; gains = p }
 
 -- all of them are too
-pub AppendsFront-whole : (a b : Option (List ℕ)) (bs : List ℕ) → Appends a b bs → AppendsFront a b bs
-AppendsFront-whole a b bs p = AppendsFront-taken a b bs (length bs) (omega arith) (rw (take_all (length bs) bs (omega arith)) p)
+pub GainsFront-whole : (a b : Held) (bs : List ℕ) → Gains a b bs → GainsFront a b bs
+GainsFront-whole a b bs p = record { count = length bs; few = omega arith; gains = rw (take_all (length bs) bs (omega arith)) p }
 
 -- a prefix of a longer text
-pub AppendsFront-longer : (a b : Option (List ℕ)) (bs cs : List ℕ) → AppendsFront a b bs → AppendsFront a b (bs ++ cs)
-AppendsFront-longer None b bs cs p = tt
-AppendsFront-longer (Some xs) None bs cs p = absurd p
-AppendsFront-longer (Some xs) (Some ys) bs cs p =
-    (p.0, omega (arith, p.1, length-append bs cs), p.2 ∙ ap (λ t. xs ++ t) (sym (take-append-le p.0 bs cs p.1)))
+pub GainsFront-longer : (a b : Held) (bs cs : List ℕ) → GainsFront a b bs → GainsFront a b (bs ++ cs)
+GainsFront-longer a b bs cs p = record {
+  count = p.count;
+  few = omega (arith, p.few, length-append bs cs);
+  gains = subst (Gains a b) (sym (take-append-le p.count bs cs p.few)) p.gains;
+}
 
 -- bytes are written, then a prefix of others
-pub AppendsFront-more : (a b c : Option (List ℕ)) (bs cs : List ℕ) → Appends a b bs → AppendsFront b c cs → AppendsFront a c (bs ++ cs)
-AppendsFront-more None b c bs cs p q = tt
-AppendsFront-more (Some xs) None c bs cs p q = absurd p
-AppendsFront-more (Some xs) (Some ys) None bs cs p q = absurd q
-AppendsFront-more (Some xs) (Some ys) (Some zs) bs cs p q =
-    (length bs + q.0, omega (arith, q.1, length-append bs cs), rw (take-append-add bs cs q.0, q.2, p, append_assoc) refl)
+pub GainsFront-more : (a b c : Held) (bs cs : List ℕ) → Gains a b bs → GainsFront b c cs → GainsFront a c (bs ++ cs)
+GainsFront-more a b c bs cs p q = record {
+  count = length bs + q.count;
+  few = omega (arith, q.few, length-append bs cs);
+  gains = subst (Gains a c) (sym (take-append-add bs cs q.count)) (Gains-more a b c bs (take q.count cs) p q.gains);
+}
 
 -- nothing is printed
 pub Prints-none : (a : SinkState) → Prints [] a a
-Prints-none a = record { bytes = Appends-none a.contents; quiet = refl }
+Prints-none a = record { bytes = Gains-none a.contents; quiet = refl }
 
 -- a text, and then another
 pub Prints-more : (a b c : SinkState) (xs ys : List ℕ) → Prints xs a b → Prints ys b c → Prints (xs ++ ys) a c
-Prints-more a b c xs ys p q = record { bytes = Appends-more a.contents b.contents c.contents xs ys p.bytes q.bytes; quiet = q.quiet ∙ p.quiet }
+Prints-more a b c xs ys p q = record { bytes = Gains-more a.contents b.contents c.contents xs ys p.bytes q.bytes; quiet = q.quiet ∙ p.quiet }
 
 -- a prefix of a text is one of a longer text
 pub PrintsFront-longer : (a b : SinkState) (xs ys : List ℕ) → PrintsFront xs a b → PrintsFront (xs ++ ys) a b
-PrintsFront-longer a b xs ys p = record { bytes = AppendsFront-longer a.contents b.contents xs ys p.bytes; failed = p.failed }
+PrintsFront-longer a b xs ys p = record { bytes = GainsFront-longer a.contents b.contents xs ys p.bytes; failed = p.failed }
 
 -- a text, and then a prefix of another
 pub PrintsFront-more : (a b c : SinkState) (xs ys : List ℕ) → Prints xs a b → PrintsFront ys b c → PrintsFront (xs ++ ys) a c
 PrintsFront-more a b c xs ys p q = record {
-  bytes = AppendsFront-more a.contents b.contents c.contents xs ys p.bytes q.bytes;
+  bytes = GainsFront-more a.contents b.contents c.contents xs ys p.bytes q.bytes;
   failed = omega (arith, p.quiet, q.failed);
 }
 
 -- a text that is flushed
 pub Prints-flushed : (a b c : SinkState) (text : List ℕ) → Prints text a b → Flushes b c → Prints text a c
-Prints-flushed a b c text p q = record { bytes = Appends-kept a.contents b.contents c.contents text p.bytes q.bytes; quiet = q.quiet ∙ p.quiet }
+Prints-flushed a b c text p q = record { bytes = Gains-kept a.contents b.contents c.contents text p.bytes q.bytes; quiet = q.quiet ∙ p.quiet }
 
 -- a text that can't be flushed
 pub PrintsFront-unflushed : (a b c : SinkState) (text : List ℕ) → Prints text a b → FailsToFlush b c → PrintsFront text a c
 PrintsFront-unflushed a b c text p q = record {
-  bytes = AppendsFront-whole a.contents c.contents text (Appends-kept a.contents b.contents c.contents text p.bytes q.bytes);
+  bytes = GainsFront-whole a.contents c.contents text (Gains-kept a.contents b.contents c.contents text p.bytes q.bytes);
   failed = omega (arith, p.quiet, q.failed);
 }
 
@@ -88,7 +105,7 @@ pub Prints-begun : (a : SinkState) (text : List ℕ) → Prints (take 0 text) a 
 Prints-begun a text = Prints-none a
 
 -- a write takes more of it
-pub Prints-taken : (a b c : SinkState) (text : List ℕ) (m n : ℕ) → Prints (take m text) a b → Appends b.contents c.contents (take n (take (length text - m) (drop m text))) → c.failures ≡ b.failures → Prints (take (m + n) text) a c
+pub Prints-taken : (a b c : SinkState) (text : List ℕ) (m n : ℕ) → Prints (take m text) a b → Gains b.contents c.contents (take n (take (length text - m) (drop m text))) → c.failures ≡ b.failures → Prints (take (m + n) text) a c
 Prints-taken a b c text m n p q quiet = rw (take-add m n text) (Prints-more a b c _ _ p (record { bytes = rw (take_rest text m) at q; quiet = quiet }))
 
 -- all of it is written
@@ -98,14 +115,14 @@ Prints-all a b text n le p = rw (take_all n text le) at p
 -- a write fails within it
 pub PrintsFront-failed : (a b c : SinkState) (text : List ℕ) (n : ℕ) → n ≤ length text → Prints (take n text) a b → FailsToWrite b c → PrintsFront text a c
 PrintsFront-failed a b c text n le p q = record {
-  bytes = AppendsFront-taken a.contents c.contents text n le (Appends-kept a.contents b.contents c.contents (take n text) p.bytes q.bytes);
+  bytes = GainsFront-taken a.contents c.contents text n le (Gains-kept a.contents b.contents c.contents (take n text) p.bytes q.bytes);
   failed = omega (arith, p.quiet, q.failed);
 }
 
 -- or takes nothing
-pub PrintsFront-stalled : (a b c : SinkState) (text : List ℕ) (m n : ℕ) → m + n ≤ length text → Prints (take m text) a b → Appends b.contents c.contents (take n (take (length text - m) (drop m text))) → c.failures ≡ b.failures + 1 → PrintsFront text a c
+pub PrintsFront-stalled : (a b c : SinkState) (text : List ℕ) (m n : ℕ) → m + n ≤ length text → Prints (take m text) a b → Gains b.contents c.contents (take n (take (length text - m) (drop m text))) → c.failures ≡ b.failures + 1 → PrintsFront text a c
 PrintsFront-stalled a b c text m n le p q failed = record {
-  bytes = AppendsFront-taken a.contents c.contents text (m + n) le (rw (take-add m n text) (Appends-more a.contents b.contents c.contents _ _ p.bytes (rw (take_rest text m) at q)));
+  bytes = GainsFront-taken a.contents c.contents text (m + n) le (rw (take-add m n text) (Gains-more a.contents b.contents c.contents _ _ p.bytes (rw (take_rest text m) at q)));
   failed = omega (arith, p.quiet, failed);
 }
 

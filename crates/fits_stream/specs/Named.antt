@@ -1,6 +1,7 @@
 -- A text with a name before each of its lines (own).
 use Rattle.std.specs.Prelude.{◌≡◌, ℕ, zero, suc, ◌+◌, ◌-◌, ◌==◌, nat_le, Bool, true, false, ◌&&◌, ◌||◌, List, [], ◌∷◌, ◌++◌, length, take, drop, Option, Some, None, IfSome, if◌then◌else◌}
 use Rattle.std.specs.Str.{bytes_eq}
+use Rattle.fits_stream.specs.Stream.{Held}
 
 -- whether a line begins after these bytes, where one began before them or not
 abbrev pub line_begins : Bool → List ℕ → Bool
@@ -61,6 +62,10 @@ told_in name left sent bytes =
 abbrev pub told_of : List ℕ → ℕ → ℕ → Option (List ℕ) → Option (List ℕ)
 told_of name left sent None = None
 told_of name left sent (Some bytes) = told_in name left sent bytes
+
+-- what a sink with names before its lines holds and took, where the sink below holds and took so much
+abbrev pub unnamed : List ℕ → ℕ → ℕ → Held → Held
+unnamed name left sent below = record { told = told_of name left sent below.told; taken = told_of name left sent below.taken }
 
 -- where a text is told, what a sink holds ends with it, the name before each of its lines
 abbrev pub IsNamed : List ℕ → ℕ → ℕ → Option (List ℕ) → Option (List ℕ) → Type 0

@@ -1,11 +1,15 @@
 -- What streams do to the bytes that are known of them, and which calls count as failed (own).
-use Rattle.std.specs.Prelude.{◌≡◌, ℕ, ◌+◌, ◌≤◌, List, ◌++◌, length, take, nat_lt, ◌==◌, ◌&&◌, if◌then◌else◌, Option, None, Some}
+use Rattle.std.specs.Prelude.{◌≡◌, ℕ, ◌+◌, ◌≤◌, List, length, take, nat_lt, ◌==◌, ◌&&◌, if◌then◌else◌, Option}
 use Rattle.std.specs.Io.KnownBytes.{Appends, Consumes, Keeps}
 
--- the bytes that a sink holds, where it tells them, how many of its calls failed, and how many writes there were since its
--- last flush that succeeded
+-- the bytes that a sink holds, where it tells them, and those that its writes took, where that is known
+pub record Held : Type 0 where
+  pub told : Option (List ℕ)
+  pub taken : Option (List ℕ)
+
+-- what a sink holds and took, how many of its calls failed, and how many writes there were since its last flush that succeeded
 pub record SinkState : Type 0 where
-  pub contents : Option (List ℕ)
+  pub contents : Held
   pub failures : ℕ
   pub unflushed : ℕ
 
@@ -14,43 +18,53 @@ pub record SourceState : Type 0 where
   pub remaining : Option (List ℕ)
   pub failures : ℕ
 
--- what a sink holds grew by a prefix of these bytes, perhaps by none of them or by all
-abbrev pub AppendsFront : Option (List ℕ) → Option (List ℕ) → List ℕ → Type 0
-AppendsFront None new bytes = Unit {0}
-AppendsFront (Some xs) None bytes = ⊥
-AppendsFront (Some xs) (Some ys) bytes = (n : ℕ) × (n ≤ length bytes) × (ys ≡ xs ++ take n bytes)
+-- what a sink holds grew by these bytes, and so did what its writes took
+pub record Gains (old new : Held) (bytes : List ℕ) : Type 0 where
+  pub told : Appends old.told new.told bytes
+  pub taken : Appends old.taken new.taken bytes
+
+-- neither did
+pub record Stays (old new : Held) : Type 0 where
+  pub told : Keeps old.told new.told
+  pub taken : Keeps old.taken new.taken
+
+-- they grew by a prefix of these bytes, perhaps by none of them or by all
+pub record GainsFront (old new : Held) (bytes : List ℕ) : Type 0 where
+  pub count : ℕ
+  pub few : count ≤ length bytes
+  pub gains : Gains old new (take count bytes)
 
 -- a sink took all of these bytes, and no call failed
 pub record Prints (text : List ℕ) (old new : SinkState) : Type 0 where
-  pub bytes : Appends old.contents new.contents text
+  pub bytes : Gains old.contents new.contents text
   pub quiet : new.failures ≡ old.failures
 
 -- a sink took a prefix of these bytes, and then one call failed
 pub record PrintsFront (text : List ℕ) (old new : SinkState) : Type 0 where
-  pub bytes : AppendsFront old.contents new.contents text
+  pub bytes : GainsFront old.contents new.contents text
   pub failed : new.failures ≡ old.failures + 1
 
 -- one write took so many bytes of a piece: where it took none of a piece that isn't empty it is a failed call
 pub record Writes (count : ℕ) (piece : List ℕ) (old new : SinkState) : Type 0 where
-  pub bytes : Appends old.contents new.contents (take count piece)
+  pub bytes : Gains old.contents new.contents (take count piece)
   pub failed : new.failures ≡ old.failures + (if (count == 0) && nat_lt 0 (length piece) then 1 else 0)
   pub unflushed : new.unflushed ≡ old.unflushed + 1
 
 -- one write failed, and took nothing
 pub record FailsToWrite (old new : SinkState) : Type 0 where
-  pub bytes : Keeps old.contents new.contents
+  pub bytes : Stays old.contents new.contents
   pub failed : new.failures ≡ old.failures + 1
   pub unflushed : new.unflushed ≡ old.unflushed + 1
 
 -- what a sink took is passed on
 pub record Flushes (old new : SinkState) : Type 0 where
-  pub bytes : Keeps old.contents new.contents
+  pub bytes : Stays old.contents new.contents
   pub quiet : new.failures ≡ old.failures
   pub flushed : new.unflushed ≡ 0
 
 -- it isn't: the call failed
 pub record FailsToFlush (old new : SinkState) : Type 0 where
-  pub bytes : Keeps old.contents new.contents
+  pub bytes : Stays old.contents new.contents
   pub failed : new.failures ≡ old.failures + 1
   pub unflushed : new.unflushed ≡ old.unflushed
 
@@ -72,8 +86,10 @@ pub record FailsToRead (old new : SourceState) : Type 0 where
   pub bytes : Keeps old.remaining new.remaining
   pub failed : FailsOnce old new
 
--- a stream, how many of its calls have failed, and how many writes there were since its last flush that succeeded
+-- a stream, the bytes that its writes took, how many of its calls have failed, and how many writes there were since its last flush that
+-- succeeded
 pub record Watch (S : Type 0) : Type 0 where
   pub stream : S
+  pub taken : List ℕ
   pub failures : ℕ
   pub unflushed : ℕ

@@ -1,7 +1,7 @@
 ghost use Rattle.std.specs.Prelude.{◌≡◌, ◌+◌, ◌<◌, ◌≤◌, ◌==◌, length, take, false, true, if◌then◌else◌, IfOk, OnOk, OnErr};
 ghost use Rattle.std.specs.Io.{WritesAtMost};
-ghost use Rattle.std.specs.Io.KnownBytes.{Appends, Keeps};
-ghost use Rattle.fits_stream.specs.Named.{is_one_line, line_begins, told_of};
+ghost use Rattle.fits_stream.specs.Named.{is_one_line, line_begins, unnamed};
+ghost use Rattle.fits_stream.specs.Stream.{Gains, Stays};
 
 use crate::count::Count;
 use crate::sink::Sink;
@@ -48,8 +48,10 @@ impl<'a, O: Sink> NamedLines<'a, O> {
     pub fn new(sink: O, name: &'a [u8]) -> NamedLines<'a, O>
         ensures sink { result.sink ≡ sink }
         ensures name { result.name ≡ name.now }
-        ensures empty { IfSome (O.state sink).contents (λ bytes. told_of result.name
-            result.left result.sent (O.state sink).contents ≡ Some []) }
+        ensures empty { IfSome (O.state sink).contents.told (λ bytes. told_of result.name
+            result.left result.sent (O.state sink).contents.told ≡ Some []) }
+        ensures none { IfSome (O.state sink).contents.taken (λ bytes. told_of result.name
+            result.left result.sent (O.state sink).contents.taken ≡ Some []) }
     {
         NamedLines {
             sink,
@@ -64,8 +66,11 @@ impl<'a, O: Sink> NamedLines<'a, O> {
     pub fn into_inner(self) -> O
         ensures sink { result ≡ self.entry.sink }
         ensures named { IsNamed self.entry.name self.entry.left self.entry.sent
-            (O.state result).contents (told_of self.entry.name self.entry.left self.entry.sent
-            (O.state result).contents) }
+            (O.state result).contents.told (told_of self.entry.name self.entry.left
+            self.entry.sent (O.state result).contents.told) }
+        ensures taken { IsNamed self.entry.name self.entry.left self.entry.sent
+            (O.state result).contents.taken (told_of self.entry.name self.entry.left
+            self.entry.sent (O.state result).contents.taken) }
     {
         let NamedLines { sink, .. } = self;
         sink
@@ -73,10 +78,10 @@ impl<'a, O: Sink> NamedLines<'a, O> {
 }
 
 impl<'a, O: Sink> Sink for NamedLines<'a, O> {
-    ghost use Rattle.fits_stream.specs.Named.{told_of};
+    ghost use Rattle.fits_stream.specs.Named.{unnamed};
 
     ghost state = { λ it. record {
-      contents = told_of it.name it.left it.sent (O.state it.sink).contents;
+      contents = unnamed it.name it.left it.sent (O.state it.sink).contents;
       failures = (O.state it.sink).failures;
       unflushed = it.unflushed;
     } };
@@ -114,8 +119,8 @@ fn write_name<O: Sink>(
 ) -> io::Result<()>
     requires { left.old ≤ length name.now }
     ensures within { left.new ≤ length name.now }
-    ensures kept { Keeps (told_of name.now left.old sent.old.total (O.state sink.old).contents)
-        (told_of name.now left.new sent.new.total (O.state sink.new).contents) }
+    ensures kept { Stays (unnamed name.now left.old sent.old.total (O.state sink.old).contents)
+        (unnamed name.now left.new sent.new.total (O.state sink.new).contents) }
     ensures whole { OnOk result (left.new ≡ 0) }
     ensures quiet { OnOk result ((O.state sink.new).failures ≡ (O.state sink.old).failures) }
     ensures failed { OnErr result
@@ -146,15 +151,15 @@ fn write_line<O: Sink>(
     requires some { 0 < length line.now }
     ensures within { left.new ≤ length name.now }
     ensures bound { WritesAtMost result line.now }
-    ensures ok { IfOk result (λ count. Appends
-        (told_of name.now left.old sent.old.total (O.state sink.old).contents)
-        (told_of name.now left.new sent.new.total (O.state sink.new).contents)
+    ensures ok { IfOk result (λ count. Gains
+        (unnamed name.now left.old sent.old.total (O.state sink.old).contents)
+        (unnamed name.now left.new sent.new.total (O.state sink.new).contents)
         (take count line.now)) }
     ensures quiet { IfOk result (λ count. (O.state sink.new).failures
         ≡ (O.state sink.old).failures + (if count == 0 then 1 else 0)) }
-    ensures kept { OnErr result (Keeps
-        (told_of name.now left.old sent.old.total (O.state sink.old).contents)
-        (told_of name.now left.new sent.new.total (O.state sink.new).contents)) }
+    ensures kept { OnErr result (Stays
+        (unnamed name.now left.old sent.old.total (O.state sink.old).contents)
+        (unnamed name.now left.new sent.new.total (O.state sink.new).contents)) }
     ensures failed { OnErr result
         ((O.state sink.new).failures ≡ (O.state sink.old).failures + 1) }
 {

@@ -1,6 +1,7 @@
-ghost use Rattle.std.specs.Prelude.{◌≡◌};
+ghost use Rattle.std.specs.Prelude.{◌≡◌, [], Some};
 
 use crate::count::Count;
+use crate::gone_bytes::GoneBytes;
 use crate::sink::Sink;
 use crate::skipping::skip_by_reading;
 use crate::source::Source;
@@ -8,16 +9,23 @@ use std::io;
 use std::io::{Read, Write};
 use std::marker::Model;
 
-/// A reader or a writer of std, with a count of its failed calls, and of its writes since the last
-/// flush that succeeded.
+/// A reader or a writer of std, with the bytes that its writes took, which contracts alone see, a
+/// count of its failed calls, and one of its writes since the last flush that succeeded.
 ///
 /// Every kind of error is a failed call. That no call is tried again, and that a flush reaches the
 /// writer below is tested: std's `Write` doesn't say what has arrived.
 #[derive(Drop)]
 pub struct Watched<S> {
-    stream: S,
+    stream: Logged<S>,
     failed: Count,
     unflushed: Count,
+}
+
+// A reader or a writer, and the bytes that its writes took.
+#[derive(Drop)]
+struct Logged<S> {
+    stream: S,
+    taken: GoneBytes,
 }
 
 impl<S> Model for Watched<S> {
@@ -26,7 +34,8 @@ impl<S> Model for Watched<S> {
     ghost Value = { Watch S };
 
     ghost view = { λ it. record {
-      stream = it.stream;
+      stream = it.stream.stream;
+      taken = it.stream.taken.bytes;
       failures = it.failed.total;
       unflushed = it.unflushed.total;
     } };
@@ -34,10 +43,14 @@ impl<S> Model for Watched<S> {
 
 impl<S> Watched<S> {
     pub fn new(stream: S) -> Watched<S>
-        ensures { result ≡ record { stream = stream; failures = 0; unflushed = 0 } }
+        ensures { result
+            ≡ record { stream = stream; taken = []; failures = 0; unflushed = 0 } }
     {
         Watched {
-            stream,
+            stream: Logged {
+                stream,
+                taken: GoneBytes::none(),
+            },
             failed: Count::new(),
             unflushed: Count::new(),
         }
@@ -48,7 +61,7 @@ impl<S> Watched<S> {
         ensures { result ≡ self.stream }
     {
         let Watched { stream, .. } = self;
-        stream
+        stream.stream
     }
 }
 
@@ -56,7 +69,7 @@ impl<R: Read> Source for Watched<R> {
     ghost state = { λ it. record { remaining = R.remaining it.stream; failures = it.failures } };
 
     fn read(&mut self, buffer: &mut [u8]) -> io::Result<usize> {
-        match self.stream.read(buffer) {
+        match self.stream.stream.read(buffer) {
             Ok(n) => Ok(n),
             Err(error) => {
                 self.failed.tick();
@@ -67,7 +80,7 @@ impl<R: Read> Source for Watched<R> {
 
     #[tactic(auto, using(crate::proofs::IntakeLemmas::skips_gone))]
     fn skip(&mut self, buffer: &mut [u8], len: usize) -> io::Result<usize> {
-        match skip_by_reading(&mut self.stream, buffer, len) {
+        match skip_by_reading(&mut self.stream.stream, buffer, len) {
             Ok(count) => Ok(count),
             Err(error) => {
                 self.failed.tick();
@@ -77,16 +90,38 @@ impl<R: Read> Source for Watched<R> {
     }
 }
 
+impl<W: Write> Logged<W> {
+    ghost use Rattle.std.specs.Prelude.{◌≡◌, ◌++◌, take, IfOk, OnErr};
+    ghost use Rattle.std.specs.Io.{WritesAtMost};
+    ghost use Rattle.std.specs.Io.KnownBytes.{Appends, Keeps};
+
+    // Writes a prefix of the piece, and logs it.
+    fn put(&mut self, piece: &[u8]) -> io::Result<usize>
+        ensures bound { WritesAtMost result piece.now }
+        ensures told { IfOk result (λ count. Appends (W.contents self.old.stream)
+            (W.contents self.new.stream) (take count piece.now)) }
+        ensures taken { IfOk result (λ count. self.new.taken.bytes
+            ≡ self.old.taken.bytes ++ take count piece.now) }
+        ensures kept { OnErr result (Keeps (W.contents self.old.stream)
+            (W.contents self.new.stream)) }
+        ensures same { OnErr result (self.new.taken.bytes ≡ self.old.taken.bytes) }
+    {
+        let n = self.stream.write(piece)?;
+        self.taken.add(&piece[..n]);
+        Ok(n)
+    }
+}
+
 impl<W: Write> Sink for Watched<W> {
     ghost state = { λ it. record {
-      contents = W.contents it.stream;
+      contents = record { told = W.contents it.stream; taken = Some it.taken };
       failures = it.failures;
       unflushed = it.unflushed;
     } };
 
     fn write(&mut self, piece: &[u8]) -> io::Result<usize> {
         self.unflushed.tick();
-        match self.stream.write(piece) {
+        match self.stream.put(piece) {
             Ok(n) => {
                 if n == 0 && !piece.is_empty() {
                     self.failed.tick();
@@ -101,7 +136,7 @@ impl<W: Write> Sink for Watched<W> {
     }
 
     fn flush(&mut self) -> io::Result<()> {
-        match self.stream.flush() {
+        match self.stream.stream.flush() {
             Ok(()) => {
                 self.unflushed = Count::new();
                 Ok(())

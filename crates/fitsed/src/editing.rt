@@ -1,6 +1,5 @@
 //! Files that are edited.
 use crate::detail::Detail;
-use crate::edit_runs::{run_on, run_on_stored};
 use crate::explaining::INPUT;
 use crate::files::{Standing, is_stored, mode_of, source_of, standing_at};
 use crate::piece::{Piece, script_of};
@@ -15,9 +14,9 @@ use crate::subject::Subject;
 use crate::task::{Inputs, SavingTerms};
 use crate::words::oddity_of;
 use crate::wrong_sums::tell_wrong_sums;
-use fits_cli::{CheckedEnd, Fault, Terms};
+use fits_cli::{Edited, Fault, Level, Saves, Terms, run_edit_stored, run_edit_told};
 use fits_save::{Place, SaveFault, SavedFile, Seen, System};
-use fits_stream::{NamedLines, Sink, Source, Watched};
+use fits_stream::{FailedReads, NamedLines, Sink, Source, Watched};
 use std::fs::File;
 use std::io::{BufWriter, Write};
 use std::rt::Files;
@@ -162,23 +161,36 @@ fn edited<R: Files<File = File> + Eprint + AllocGlobal, S: Source, O: Sink>(
         tell_wrong_sums(rt, at.subject);
     }
     let there = standing_at(rt, at.to, &file);
-    let of_run = Terms {
-        sums: terms.sums,
-        spare: matches!(there, Standing::Same),
-    };
+    let of_run = terms_of(terms, there);
     let mut saved = Watched::new(saved);
     let alloc = rt.alloc();
     let done = if is_stored(&file) && spares {
-        run_on_stored(
-            alloc, terms, of_run, &file, script, &mut saved, out, &mut told,
+        let failed = &mut FailedReads::none();
+        run_edit_stored(
+            alloc, of_run, &file, failed, script, &mut saved, out, &mut told,
         )
     } else {
         let mut file = source_of(file);
-        run_on(
-            alloc, terms, of_run, &mut file, script, &mut saved, out, &mut told,
-        )
+        run_edit_told(alloc, of_run, &mut file, script, &mut saved, out, &mut told)
     };
     finished(rt, at, there, saved.into_inner(), done)
+}
+
+// The terms of a run. A file that stands where its result goes is spared.
+fn terms_of(terms: SavingTerms<'_>, there: Standing) -> Terms {
+    let check = match (terms.checked, terms.strict) {
+        (false, _) => Level::Quiet,
+        (true, false) => Level::Errors,
+        (true, true) => Level::All,
+    };
+    Terms {
+        sums: terms.sums,
+        spare: matches!(there, Standing::Same),
+        saves: Saves::Made {
+            whole: terms.whole,
+            check,
+        },
+    }
 }
 
 // Why a result can't be saved as is wanted, if it is asked before the run.
@@ -199,7 +211,7 @@ fn finished<R: Files<File = File> + Eprint>(
     at: FilePair<'_>,
     there: Standing,
     saved: BufWriter<SavedFile<System<'_, R>>>,
-    done: CheckedEnd,
+    done: Result<Edited, Fault>,
 ) -> SavedEnd {
     let met = saved.get_ref().place().met();
     let done = SavedEnd {
@@ -229,7 +241,7 @@ fn tell_saved<R: Eprint>(rt: &R, to: &str, there: Standing, done: &SavedEnd) {
 }
 
 // Keeps what was saved, where all was; else what stood there stays as it was.
-fn kept<P: Place + Drop>(saved: BufWriter<SavedFile<P>>, done: CheckedEnd) -> SavedEnd {
+fn kept<P: Place + Drop>(saved: BufWriter<SavedFile<P>>, done: Result<Edited, Fault>) -> SavedEnd {
     let ended = SavedEnd {
         done,
         fault: None,
@@ -256,11 +268,11 @@ fn status_of<R: Files<File = File> + Eprint + AllocGlobal>(
     other: &str,
     ended: &SavedEnd,
 ) -> u8 {
-    let done = ended.done;
-    if done.undone > 0 {
-        report_undone(rt, at.to, done.undone);
+    match ended.done {
+        Ok(Edited::KeptBack(undone)) => report_undone(rt, at.to, undone),
+        Ok(Edited::Unsound { errors, warnings }) => report_new(rt, at.to, errors, warnings),
+        _ => {}
     }
-    report_new(rt, at.to, done.new_errors, done.new_warnings);
     if let Some(fault) = ended.fault {
         let status = reported_save(rt, at.subject, at.to, terms.saving, fault);
         if let (SaveFault::InPart(_), true) = (fault, at.subject.detail.tells()) {
@@ -268,8 +280,8 @@ fn status_of<R: Files<File = File> + Eprint + AllocGlobal>(
         }
         return status;
     }
-    match done.end.fault {
-        Some(fault) => reported_of(rt, at.subject, other, fault),
-        None => done.end.status,
+    match ended.done {
+        Ok(done) => done.status(),
+        Err(fault) => reported_of(rt, at.subject, other, fault),
     }
 }

@@ -3,7 +3,6 @@
 
 mod arguments;
 mod detail;
-mod edit_runs;
 mod editing;
 mod explaining;
 mod files;

@@ -11,10 +11,7 @@ use crate::scaled::{has_pixel_line, tell_scaled};
 use crate::subject::Subject;
 use crate::task::Inputs;
 use crate::words::oddity_of;
-use fits_cli::{
-    CardChoice, CardPlace, CardsEnd, End, Fault, Telling, run_ask, run_ask_stored, run_cards,
-    run_telling,
-};
+use fits_cli::{CardChoice, End, Fault, Telling, run_ask, run_ask_stored, run_cards, run_telling};
 use fits_stream::{FailedReads, NamedLines, Sink, Source, Watched};
 use std::alloc::{AllocError, Global};
 use std::fs::File;
@@ -86,9 +83,7 @@ pub fn each<R: rt::Files<File = File> + Print + Eprint + AllocGlobal>(
             named: files.named,
             detail,
         };
-        let done = one(rt, job, subject, &mut out);
-        report_changed(rt, path, &done.changed);
-        let end = done.end;
+        let end = one(rt, job, subject, &mut out);
         status = status.max(end.status);
         if let Some(fault) = end.fault {
             let _status = reported_of(rt, subject, path, fault);
@@ -124,7 +119,7 @@ pub fn name<R: rt::Files<File = File> + Print + Eprint + AllocGlobal>(
             named: true,
             ..unnamed
         };
-        let end = one(rt, Job::Tell(telling), unnamed, &mut io::sink()).end;
+        let end = one(rt, Job::Tell(telling), unnamed, &mut io::sink());
         status = status.max(end.status);
         if let Some(fault) = end.fault {
             let _status = reported_of(rt, subject, path, fault);
@@ -142,24 +137,24 @@ pub fn name<R: rt::Files<File = File> + Print + Eprint + AllocGlobal>(
 }
 
 // Does a job with a file.
-fn one<R: rt::Files<File = File> + AllocGlobal, W: Write>(
+fn one<R: rt::Files<File = File> + Eprint + AllocGlobal, W: Write>(
     rt: &R,
     job: Job<'_>,
     subject: Subject<'_>,
     out: &mut W,
-) -> CardsEnd {
+) -> End {
     let Ok(file) = fs::open(rt, subject.name) else {
-        return ended(rt.alloc(), End::from(Fault::ReadFailed));
+        return End::from(Fault::ReadFailed);
     };
     if !subject.named {
         let mut out = Watched::new(out);
-        return run(rt.alloc(), job, subject, file, &mut out);
+        return run(rt, job, subject, file, &mut out);
     }
     let Ok(name) = before_lines(rt.alloc(), subject.name) else {
-        return ended(rt.alloc(), End::from(Fault::Memory));
+        return End::from(Fault::Memory);
     };
     let mut out = NamedLines::new(Watched::new(out), name.as_bytes());
-    run(rt.alloc(), job, subject, file, &mut out)
+    run(rt, job, subject, file, &mut out)
 }
 
 // Answers standard input over one file, as it comes.
@@ -191,24 +186,24 @@ fn ask_as_it_comes<R: rt::Files<File = File> + Input + Print + Eprint + AllocGlo
 }
 
 // Does a job.
-fn run<O: Sink>(
-    alloc: Global,
+fn run<R: Eprint + AllocGlobal, O: Sink>(
+    rt: &R,
     job: Job<'_>,
     subject: Subject<'_>,
     file: File,
     out: &mut O,
-) -> CardsEnd {
+) -> End {
     match job {
         Job::Ask(text) => {
             let mut script = text;
-            let end = asked(alloc, subject, file, &mut script, out);
-            ended(alloc, end)
+            asked(rt.alloc(), subject, file, &mut script, out)
         }
-        Job::Show(choice) => run_cards(alloc, choice, &mut source_of(file), out),
-        Job::Tell(telling) => ended(
-            alloc,
-            run_telling(alloc, telling, &mut source_of(file), out),
-        ),
+        Job::Show(choice) => {
+            let done = run_cards(rt.alloc(), choice, &mut source_of(file), out);
+            report_changed(rt, subject.name, &done.changed);
+            done.end
+        }
+        Job::Tell(telling) => run_telling(rt.alloc(), telling, &mut source_of(file), out),
     }
 }
 
@@ -237,14 +232,6 @@ fn asked<S: Source, O: Sink>(
         );
     }
     run_ask(alloc, &mut source_of(file), script, out, &mut told)
-}
-
-// The end of a run that shows no cards.
-fn ended(alloc: Global, end: End) -> CardsEnd {
-    CardsEnd {
-        end,
-        changed: Vec::new(alloc),
-    }
 }
 
 // What stands before each line: the name and a colon.

@@ -1,12 +1,12 @@
 //! How the run over a file that is edited ended, and its saving.
 use crate::reporting::ends_all;
-use fits_cli::{CheckedEnd, Fault};
+use fits_cli::{Edited, Fault};
 use fits_save::SaveFault;
 
 /// How a run ended, and why its result wasn't saved, if that is why.
 #[derive(Clone, Copy)]
 pub struct SavedEnd {
-    pub done: CheckedEnd,
+    pub done: Result<Edited, Fault>,
     pub fault: Option<SaveFault>,
     /// How many names beside OUT were taken: the number of the new file's.
     pub met: u32,
@@ -16,7 +16,7 @@ impl SavedEnd {
     /// The end of a run whose result isn't saved.
     pub fn refused(fault: SaveFault) -> SavedEnd {
         SavedEnd {
-            done: CheckedEnd::from(Fault::WriteFailed),
+            done: Err(Fault::WriteFailed),
             fault: Some(fault),
             met: 0,
         }
@@ -24,9 +24,7 @@ impl SavedEnd {
 
     /// Whether the result was saved.
     pub fn is_saved(&self) -> bool {
-        let done = self.done;
-        let new = done.new_errors.saturating_add(done.new_warnings);
-        done.end.fault.is_none() && done.undone == 0 && new == 0
+        matches!(self.done, Ok(Edited::Done(_)))
     }
 
     /// Whether no further file is edited: it isn't the file alone that is to blame.
@@ -34,7 +32,7 @@ impl SavedEnd {
         match self.fault {
             Some(SaveFault::Failed(_) | SaveFault::InPart(_)) => true,
             Some(_) => false,
-            None => self.done.end.fault.is_some_and(ends_all),
+            None => matches!(self.done, Err(why) if ends_all(why)),
         }
     }
 }
@@ -42,7 +40,7 @@ impl SavedEnd {
 impl From<Fault> for SavedEnd {
     fn from(why: Fault) -> SavedEnd {
         SavedEnd {
-            done: CheckedEnd::from(why),
+            done: Err(why),
             fault: None,
             met: 0,
         }

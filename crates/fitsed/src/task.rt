@@ -126,7 +126,7 @@ pub fn task_of<'m, 'a>(
             files,
         },
         "verify" if words.get_flag("files-with-errors") => Task::Name {
-            telling: report_of(words, Level::Quiet),
+            telling: report_of(words, Level::Quiet, false),
             files,
         },
         _ => Task::Tell {
@@ -238,27 +238,20 @@ fn telling_of<'a>(name: &str, words: &ArgMatches<'a>) -> Result<Telling, TaskFau
         "sum" if words.get_flag("check") => Ok(Telling::WrongSums),
         "sum" => Ok(Telling::Sums),
         "stat" => Ok(Telling::Statistics),
-        "verify" if words.get_flag("print-cards") => Ok(card_report_of(words, level_of(words))),
-        "verify" => Ok(report_of(words, level_of(words))),
+        "verify" => {
+            let cards = words.get_flag("print-cards");
+            Ok(report_of(words, level_of(words), cards))
+        }
         _ => Err(TaskFault::Missing),
     }
 }
 
 // The report of `verify`, as a level has it.
-fn report_of(words: &ArgMatches<'_>, level: Level) -> Telling {
-    if words.get_flag("warnings") {
-        Telling::StrictReport(level)
-    } else {
-        Telling::Report(level)
-    }
-}
-
-// The same with the card of each problem.
-fn card_report_of(words: &ArgMatches<'_>, level: Level) -> Telling {
-    if words.get_flag("warnings") {
-        Telling::StrictCardReport(level)
-    } else {
-        Telling::CardReport(level)
+fn report_of(words: &ArgMatches<'_>, level: Level, cards: bool) -> Telling {
+    Telling::Report {
+        level,
+        strict: words.get_flag("warnings"),
+        cards,
     }
 }
 

@@ -17,8 +17,9 @@ impl Hdu {
 
     /// The HDU whose data unit passed by, and lies at this place of a file.
     pub fn away(alloc: Global, passed: PassedHdu, place: u64) -> Result<Hdu, AllocError>
-        requires { IsPassedWhole passed.header passed.unit (passed_parts passed.header passed.unit) }
-        ensures parts { IfOk result (λ it. parts_of it ≡ passed_parts passed.header passed.unit) }
+        requires { IsPassedWhole passed.header passed.unit (passed_parts passed.header.header passed.unit) }
+        ensures parts { IfOk result (λ it. parts_of it
+            ≡ passed_parts passed.header.header passed.unit) }
         ensures shape { IfOk result (λ it. it.header.shape ≡ passed.header.shape) }
         ensures known { IfOk result (IsKnownAt place) }
     {

@@ -2,22 +2,19 @@
 use super::Hdu;
 use crate::pixel_fault::PixelFault;
 use fits_image::Kind;
-use fits_plane::{LentPaint, ValueSummary, is_rectangle, rectangle_len};
+use fits_plane::{LentPaint, Painting, ValueSummary, is_rectangle, rectangle_len};
 use std::alloc::Global;
 
 impl Hdu {
     ghost use Rattle.std.specs.Prelude.{◌≡◌, ◌≤◌, ◌<◌, ◌+◌, ◌^◌, ℕ, true, length, None, Some, Ok, Err, IsOk, IfOk, IfErr, OnOk, OnErr};
     ghost use Rattle.fits_plane.specs.DataUnit.{IsCounted};
-    ghost use Rattle.fits_plane.specs.Layout.{block_count};
     ghost use Rattle.fits_plane.specs.Paint.{can_store_paint, has_count, painted_number};
     ghost use Rattle.fits_plane.specs.Pixels.{IsStorable};
     ghost use Rattle.fits_plane.specs.Rectangle.{lies_within, rectangle_size, IsRectangle};
-    ghost use Rattle.fits_plane.specs.Work.{rectangle_blocks};
     ghost use Rattle.fits_image.specs.Kind.{kind_in, offset_of, width_of};
-    ghost use Rattle.fits_hdu.specs.Layout.{layout_of};
     ghost use Rattle.fits_hdu.specs.Pixels.{painted, rect_of, stats_of, RectFails};
     ghost use Rattle.fits_hdu.specs.State.{parts_of, IsDescribed};
-    ghost use Rattle.fits_hdu.specs.Work.{plane_work, IsPatched};
+    ghost use Rattle.fits_hdu.specs.Work.{IsPatchedIn};
 
     /// The statistics of its pixels, where it is an image of integers. It takes no memory, and
     /// reads no card and no pixel.
@@ -72,16 +69,19 @@ impl Hdu {
             (parts_of self.old) ≡ Err why) }
         ensures same { OnErr result (self.new ≡ self.old) }
         ensures rest { self.new ≡ record self.old { plane = self.new.plane } }
-        ensures work { OnOk result (IsPatched
-            (rectangle_blocks (layout_of self.old.header.shape self.old.header.header.cards)
-            self.old.plane.bytes self.old.header.shape.axes lo.now hi.now)
-            (block_count self.old.plane.bytes)
-            (plane_work self.old.plane) (plane_work self.new.plane)) }
+        ensures work { OnOk result (IsPatchedIn lo.now hi.now self.old self.new) }
         ensures described { IsDescribed self.old }
     {
         let kind = self.paintable(lo, hi, paint)?;
         let axes = self.header.shape().axes.as_slice();
-        self.unit.paint_rect(axes, lo, hi, paint, kind.offset());
+        let offset = kind.offset();
+        self.unit.paint_rect(&Painting {
+            axes,
+            lo,
+            hi,
+            paint,
+            offset,
+        });
         Ok(())
     }
 

@@ -1,6 +1,10 @@
-use Rattle.std.proofs.Common.{refl}
-use Rattle.fits_cli.proofs.EditingLemmas.{StopsBy-opening, asks_fault}
+use Rattle.fits_cli.proofs.EditingLemmas.{RemarksEndAs-end}
+use Rattle.fits_cli.proofs.EndingLemmas.{EndsAs-asked}
+use Rattle.fits_cli.specs.Terms.{asking}
 use Rattle.fits_cli.proofs.asking.run_ask.Goals as goal
 
-pub returns-in-Err-clause-ends : goal.returns-in-Err-clause-ends
-returns-in-Err-clause-ends g c saved = asks_fault _ _ c.from-in-Err.result c.from.result c.from-in-Err.ensures (rw c.from.ensures (StopsBy-opening _ _ _ refl refl refl c.in-Err.ensures.err))
+pub returns-clause-ends : goal.returns-clause-ends
+returns-clause-ends g c saved = rw c.end_of.ensures (EndsAs-asked _ _ _ _ _ _ _ _ _ saved c.run_edit_told.result c.run_edit_told.ensures.ends)
+
+pub returns-clause-told : goal.returns-clause-told
+returns-clause-told g c = rw c.end_of.ensures (RemarksEndAs-end asking _ _ _ _ _ c.run_edit_told.result c.run_edit_told.ensures.told)

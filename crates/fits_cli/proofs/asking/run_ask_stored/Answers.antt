@@ -1,14 +1,12 @@
-use Rattle.std.proofs.Common.{refl}
-use Rattle.fits_cli.proofs.EditingLemmas.{StopsBy-opening, asks_fault}
-use Rattle.fits_session.specs.Away.{at_start}
+use Rattle.fits_cli.proofs.EditingLemmas.{RemarksEndAs-end}
+use Rattle.fits_cli.proofs.EndingLemmas.{EndsAs-asked}
+use Rattle.fits_cli.specs.Terms.{asking}
 use Rattle.fits_cli.proofs.asking.run_ask_stored.Goals as goal
 
-pub returns-in-Ok-clause-ends : goal.returns-in-Ok-clause-ends
-returns-in-Ok-clause-ends g c tells saved =
-    let file = at_start (g.F.Stored.bytes c.args.file.now) c.args.failed.now in
-    (file, c.run_over.ensures.ends tells file file c.in-Ok.ensures.ok refl saved)
+pub returns-clause-ends : goal.returns-clause-ends
+returns-clause-ends g c tells saved =
+    let ends = c.run_edit_stored.ensures.ends tells in
+    (ends.0, rw c.end_of.ensures (EndsAs-asked _ _ _ _ _ _ _ _ _ saved c.run_edit_stored.result ends.1))
 
-pub returns-in-Err-clause-ends : goal.returns-in-Err-clause-ends
-returns-in-Err-clause-ends g c tells saved =
-    let stops = c.in-Err.ensures.err in
-    (record { remaining = stops.0; failures = c.read_stored.new.failed }, asks_fault _ _ c.from-in-Err.result c.from.result c.from-in-Err.ensures (rw c.from.ensures (StopsBy-opening _ _ _ refl refl refl stops.1)))
+pub returns-clause-told : goal.returns-clause-told
+returns-clause-told g c tells = rw c.end_of.ensures (RemarksEndAs-end asking _ _ _ _ _ c.run_edit_stored.result (c.run_edit_stored.ensures.told tells))

@@ -1,6 +1,12 @@
-use Rattle.std.proofs.Common.{refl}
-use Rattle.fits_cli.proofs.EditingLemmas.{StopsBy-opening, ends_fault}
+use Rattle.std.proofs.Common.{inl, refl}
+use Rattle.fits_cli.proofs.EditingLemmas.{StopsBy-opening}
 use Rattle.fits_cli.proofs.editing.run_edit_told.Goals as goal
 
 pub returns-in-Err-clause-ends : goal.returns-in-Err-clause-ends
-returns-in-Err-clause-ends g c = ends_fault _ _ c.from-in-Err.result c.from.result c.from-in-Err.ensures (rw c.from.ensures (StopsBy-opening _ _ _ refl refl refl c.in-Err.ensures.err))
+returns-in-Err-clause-ends g c = inl (rw c.from.ensures (StopsBy-opening _ _ _ refl refl c.in-Err.ensures.err), refl)
+
+pub returns-in-Ok-clause-ends : goal.returns-in-Ok-clause-ends
+returns-in-Ok-clause-ends g c = c.edit.ensures.ends tt (g.F.Source.state c.args.file.now) (g.F.Source.state c.read.new.source) c.in-Ok.ensures.ok c.in-Ok.ensures.quiet
+
+pub returns-in-Ok-clause-told : goal.returns-in-Ok-clause-told
+returns-in-Ok-clause-told g c = c.edit.ensures.told tt (g.F.Source.state c.args.file.now) (g.F.Source.state c.read.new.source) c.in-Ok.ensures.ok c.in-Ok.ensures.quiet

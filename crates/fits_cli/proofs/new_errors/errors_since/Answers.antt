@@ -6,7 +6,7 @@ use Rattle.fits_cli.proofs.new_errors.errors_since.Goals.{then-is_new+in_ok-push
 
 pub loop-it-preserved : goal.loop-it-preserved
 loop-it-preserved c =
-    let p = is_new c.args.strict c.args.before.now c.args.after.now in
+    let p = is_new c.args.level c.args.before.now c.args.after.now in
     let own = sym (c.is_new.ensures c.args.after.now c.counts_of-has.ensures) in
     elim c.if-is_new.branch [
       | then-is_new+in_ok-push_new_error w ↦
@@ -32,4 +32,4 @@ loop-it-preserved c =
 pub returns-clause-warnings : goal.returns-clause-warnings
 unfolding new_errors
 returns-clause-warnings c =
-    other-warnings (is_new c.args.strict c.args.before.now c.args.after.now) c.args.after.now c.loop-it.it-index c.loop-it.count c.loop-it.errors c.loop-it-test.false c.loop-it.invariant.count c.loop-it.invariant.errors
+    other-warnings (is_new c.args.level c.args.before.now c.args.after.now) c.args.after.now c.loop-it.it-index c.loop-it.count c.loop-it.errors c.loop-it-test.false c.loop-it.invariant.count c.loop-it.invariant.errors

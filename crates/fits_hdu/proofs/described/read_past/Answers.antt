@@ -1,27 +1,26 @@
-use Rattle.std.proofs.Common.{arith}
-use Rattle.std.proofs.lemmas.Grind.{common_steps}
+use Rattle.std.proofs.Common.{refl, sym, arith}
 use Rattle.fits_stream.proofs.SightLemmas.{takes_fewer}
-use Rattle.fits_rules.proofs.LawLemmas.{shape_primary}
-use Rattle.fits_hdu.proofs.ReadingLemmas.{hdu_passed, stops_passed}
+use Rattle.fits_hdu.specs.Reading.{IsPassed}
+use Rattle.fits_hdu.proofs.ReadingLemmas.{described_so, hdu_comes, stops_in_unit}
 use Rattle.fits_hdu.proofs.described.read_past.Goals as goal
 
--- the source ended within the data unit
-pub returns-then-data_len-head-clause-err : goal.returns-then-data_len-head-clause-err
-returns-then-data_len-head-clause-err g c =
+pub returns-in-Ok-clause-ok : goal.returns-in-Ok-clause-ok
+returns-in-Ok-clause-ok g c =
     let head = c.in_ok-head.ensures in
-    stops_passed _ _ _ _ c.in-Ok.data_len c.in_ok-head.head.cards.header c.in_ok-head.head.shape head.taken head.whole head.described
-    c.in-Ok.ensures.ok (c.in-Ok.ensures.ends (grind (arith, common_steps))) (grind (arith, common_steps))
+    let header = c.in_ok-head.head.cards.header in
+    let shape = c.in_ok-head.head.shape in
+    let unit = c.in-Ok.ensures.ok in
+    hdu_comes (λ hdu. IsPassed hdu header shape c.in_ok-head.head.unit_len) _ _ _ _ c.in_ok-head.head.unit_len header shape unit.bytes head.taken head.whole head.described head.len unit.taken unit.size
+    (record { same = refl; described = described_so _ header.cards shape head.described; unit = sym unit.size })
 
-pub returns-clause-ok : goal.returns-clause-ok
-returns-clause-ok g c =
+pub returns-in-Ok-clause-described : goal.returns-in-Ok-clause-described
+returns-in-Ok-clause-described g c = described_so _ c.in_ok-head.head.cards.header.cards c.in_ok-head.head.shape c.in_ok-head.ensures.described
+
+pub returns-in-Ok-clause-small : goal.returns-in-Ok-clause-small
+returns-in-Ok-clause-small g c = omega (arith, takes_fewer _ _ _ c.in_ok-head.ensures.taken, c.requires)
+
+-- the data unit didn't come
+pub returns-in-Err-clause-err : goal.returns-in-Err-clause-err
+returns-in-Err-clause-err g c =
     let head = c.in_ok-head.ensures in
-    hdu_passed _ _ _ _ c.in-Ok.data_len c.in_ok-head.head.unit_len c.in_ok-head.head.cards.header c.in_ok-head.head.shape head.taken head.whole head.described
-    c.in-Ok.ensures.ok (grind (arith, common_steps)) head.len (shape_primary _ _ _ head.described)
-
-pub returns-clause-described : goal.returns-clause-described
-returns-clause-described g c =
-    let head = c.in_ok-head.ensures in
-    rw (shape_primary _ _ c.in_ok-head.head.shape head.described) head.described
-
-pub returns-clause-small : goal.returns-clause-small
-returns-clause-small g c = omega (arith, takes_fewer _ _ _ c.in_ok-head.ensures.taken, c.requires)
+    stops_in_unit _ _ _ _ c.in_ok-head.head.unit_len c.in_ok-head.head.cards.header c.in_ok-head.head.shape c.in-Err.fault head.taken head.whole head.described head.len c.in-Err.ensures.err

@@ -12,7 +12,7 @@ invariant-loop-row l = record {
   tree : IsBlockTreeBut l.width l.last l.nodes;
   leaf : (l.last ≡ 1) ⊎ (l.width ≤ l.last);
   order : l.last ≤ l.width + l.next;
-  walk : Walk l.axes l.lo l.hi (block_pixels l.layout.width) l.layout.pixels (block_count l.initial.store.bytes) (row_size l.lo l.hi) l.row l.next (l.store.scans - l.initial.store.scans) (IsLeaf l.layout l.initial.store.bytes (drop l.width l.nodes));
+  walk : Walk l.painting.axes.now l.painting.lo.now l.painting.hi.now (block_pixels l.layout.width) l.layout.pixels (block_count l.initial.store.bytes) (row_size l.painting.lo.now l.painting.hi.now) l.row l.next (l.store.scans - l.initial.store.scans) (IsLeaf l.layout l.initial.store.bytes (drop l.width l.nodes));
   units : (k : ℕ) → block_count l.initial.store.bytes ≤ k → get_or (drop l.width l.nodes) k leaf_unit ≡ get_or (drop l.width l.initial.nodes) k leaf_unit;
   same : IsScanned l.initial.store l.store;
   more_work : l.initial.store.scans ≤ l.store.scans;

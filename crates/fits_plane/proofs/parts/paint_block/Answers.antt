@@ -1,7 +1,4 @@
-use Rattle.std.proofs.Common.{◌*◌, ◌+◌, ◌/◌, ◌∙◌, arith, ap, inl, inr}
-use Rattle.std.specs.Int.{w128}
-use Rattle.std.proofs.lemmas.Int.{to_z-of_z}
-use Rattle.fits_plane.specs.Paint.{painted_number}
+use Rattle.std.proofs.Common.{◌*◌, ◌+◌, ◌/◌, arith, inl, inr}
 use Rattle.fits_plane.specs.Parts.{AreGroupsChanged}
 use Rattle.fits_plane.proofs.PlaneLemmas.{layout_stays}
 use Rattle.fits_plane.proofs.ShortRowLemmas.{part_groups}
@@ -46,17 +43,6 @@ leaf_after-requires-clause-high c =
     let r = c.requires in
     let g = part_groups c.args.layout c.args.bytes.now c.args.k c.args.start c.args.count c.div_ceil-to.result r.layout r.width r.some r.low r.high r.within c.div_ceil-to.ensures in
     g.high
-
--- the row's numbers, by the offset as the code has it
-pub paint_row-requires-clause-storable : goal.paint_row-requires-clause-storable
-paint_row-requires-clause-storable c = λ x b. rw (to_z-of_z w128 c.args.offset c.ranges.offset) (c.requires.paint.storable x b)
-
-pub returns-clause-written : goal.returns-clause-written
-returns-clause-written c = record {
-  long = c.paint_row.ensures.long;
-  inside = λ x b. c.paint_row.ensures.inside x b ∙ ap (λ z. painted_number c.args.paint.now z (c.args.rank + x)) (to_z-of_z w128 c.args.offset c.ranges.offset);
-  outside = c.paint_row.ensures.outside;
-}
 
 -- what went of the block was exchanged for what came
 pub returns-clause-leaf : goal.returns-clause-leaf

@@ -1,6 +1,4 @@
 use Rattle.std.proofs.Common.{◌∙◌, arith, inl, inr, refl}
-use Rattle.std.specs.Int.{w128}
-use Rattle.std.proofs.lemmas.Int.{to_z-of_z}
 use Rattle.fits_plane.proofs.ShortRowLemmas.{part_groups, kept_after}
 use Rattle.fits_plane.proofs.short_rows.paint_part.Goals as goal
 
@@ -16,13 +14,6 @@ write_leaf-requires-clause-within c =
     let r = c.requires in
     let g = part_groups c.args.layout c.args.store.now.bytes c.args.k c.args.start c.args.count _ r.kept.fits r.width r.some r.low r.high r.within refl in
     omega (arith, g.block, r.kept.within)
-
--- the row's numbers, by the offset as the code has it
-pub paint_block-leaf-requires-clause-paint : goal.paint_block-leaf-requires-clause-paint
-paint_block-leaf-requires-clause-paint c = rw (to_z-of_z w128 c.args.offset c.ranges.offset) c.requires.paint
-
-pub returns-clause-written : goal.returns-clause-written
-returns-clause-written c = rw (to_z-of_z w128 c.args.offset c.ranges.offset) at c.paint_block-leaf.ensures.written
 
 -- the leaf of the block is made anew
 pub returns-clause-kept : goal.returns-clause-kept

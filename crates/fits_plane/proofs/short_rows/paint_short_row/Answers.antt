@@ -1,7 +1,5 @@
-use Rattle.std.proofs.Common.{◌≡◌, ◌*◌, ◌+◌, ◌-◌, ◌/◌, ℕ, ap, arith, inl, inr, refl, rules, subst, to_z, of_z}
-use Rattle.std.specs.Int.{w128}
-use Rattle.std.proofs.lemmas.Int.{to_z-of_z}
-use Rattle.fits_plane.specs.Paint.{painted_number}
+use Rattle.std.proofs.Common.{◌≡◌, ◌*◌, ◌+◌, ◌-◌, ◌/◌, ℕ, ap, arith, inl, inr, refl, rules, subst}
+use Rattle.fits_plane.specs.Painting.{number_of}
 use Rattle.fits_plane.specs.ShortRows.{RowWritten}
 use Rattle.fits_plane.specs.Tree.{nodes_left}
 use Rattle.fits_plane.proofs.PowerLemmas.{most_above_le}
@@ -11,13 +9,12 @@ use Rattle.fits_plane.proofs.short_rows.paint_short_row.Goals as goal
 -- the first block's pixels
 pub paint_part-place-requires-clause-paint : goal.paint_part-place-requires-clause-paint
 paint_part-place-requires-clause-paint c =
-    rw (to_z-of_z w128 c.args.offset c.ranges.offset) (can_paint_first c.args.layout.width c.args.paint.now c.args.offset c.args.rank c.args.count c.min-here.result c.requires.paint (omega (arith, c.min-here.ensures)))
+    can_paint_first c.args.layout.width c.args.painting.now c.args.rank c.args.count c.min-here.result c.requires.paint (omega (arith, c.min-here.ensures))
 
 -- and the second's
 pub paint_part-requires-clause-paint : goal.paint_part-requires-clause-paint
 paint_part-requires-clause-paint c =
-    rw (to_z-of_z w128 c.args.offset c.ranges.offset)
-    (can_paint c.args.layout.width c.args.paint.now c.args.offset c.args.rank c.args.count c.min-here.result (c.args.count - c.min-here.result) c.requires.paint (omega (arith, c.if-here-count.true)))
+    can_paint c.args.layout.width c.args.painting.now c.args.rank c.args.count c.min-here.result (c.args.count - c.min-here.result) c.requires.paint (omega (arith, c.if-here-count.true))
 
 -- Said, so that a body that breaks it is refused at once.
 pub paint_part-requires-clause-high : goal.paint_part-requires-clause-high
@@ -50,16 +47,14 @@ returns-then-here-count-clause-written c =
       | inl one ↦ absurd (omega (arith, one.all, c.if-here-count.true))
       | inr two ↦ two.cut
     ] in
-    subst (λ z. RowWritten c.args.layout.width c.args.start c.args.count (λ x. painted_number c.args.paint.now z (c.args.rank + x)) c.args.store.now.bytes c.paint_part.new.store.bytes) (to_z-of_z w128 c.args.offset c.ranges.offset)
-    (row_joined c.args.layout.width c.args.start c.args.count here next (c.args.count - here) c.args.rank (painted_number c.args.paint.now (to_z w128 (of_z w128 c.args.offset))) c.args.store.now.bytes c.paint_part-place.new.store.bytes c.paint_part.new.store.bytes
-    (omega (arith, c.if-here-count.true)) cut refl c.paint_part-place.ensures.written c.paint_part.ensures.written)
+    row_joined c.args.layout.width c.args.start c.args.count here next (c.args.count - here) c.args.rank (number_of c.args.painting.now) c.args.store.now.bytes c.paint_part-place.new.store.bytes c.paint_part.new.store.bytes
+    (omega (arith, c.if-here-count.true)) cut refl c.paint_part-place.ensures.written c.paint_part.ensures.written
 
 -- the one run is the row
 pub returns-else-here-count-clause-written : goal.returns-else-here-count-clause-written
 returns-else-here-count-clause-written c =
     let all : c.min-here.result ≡ c.args.count = omega (arith, c.min-here.ensures, c.if-here-count.false) in
-    subst (λ z. RowWritten c.args.layout.width c.args.start c.args.count (λ x. painted_number c.args.paint.now z (c.args.rank + x)) c.args.store.now.bytes c.paint_part-place.new.store.bytes) (to_z-of_z w128 c.args.offset c.ranges.offset)
-    (subst (λ n. RowWritten c.args.layout.width c.args.start n (λ x. painted_number c.args.paint.now (to_z w128 (of_z w128 c.args.offset)) (c.args.rank + x)) c.args.store.now.bytes c.paint_part-place.new.store.bytes) all c.paint_part-place.ensures.written)
+    subst (λ n. RowWritten c.args.layout.width c.args.start n (λ x. number_of c.args.painting.now (c.args.rank + x)) c.args.store.now.bytes c.paint_part-place.new.store.bytes) all c.paint_part-place.ensures.written
 
 -- the last leaf is that of the row's last block
 pub returns-then-here-count-clause-place : goal.returns-then-here-count-clause-place

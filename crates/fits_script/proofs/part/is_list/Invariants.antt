@@ -1,6 +1,6 @@
 use Rattle.std.proofs.Common.{◌≡◌, length}
 use Rattle.std.specs.Prelude.{is_some}
-use Rattle.fits_script.specs.Line.{list_of_text}
+use Rattle.fits_script.specs.Words.{list_of_text}
 use Rattle.fits_script.proofs.part.is_list.Given as goal
 
 abbrev pub invariant-parts : goal.invariant-parts

@@ -4,7 +4,7 @@ use Rattle.std.proofs.lemmas.Iterator.{YieldsList-from_slice}
 use Rattle.std.proofs.lemmas.Iterator.Consumers.{YieldsList-from_copied}
 use Rattle.std.proofs.lemmas.Iterator.Search.{find_from_yields_List}
 use Rattle.std.proofs.lemmas.Iterator.Adapters.{option_map_id}
-use Rattle.fits_script.specs.Line.{verb_of, verb_word}
+use Rattle.fits_script.specs.Words.{verb_of, verb_word}
 use Rattle.fits_script.specs.declared.verb.TheConstants.{VERBS}
 use Rattle.fits_script.proofs.verb.verb_of.Goals as goal
 

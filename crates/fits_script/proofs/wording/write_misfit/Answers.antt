@@ -23,3 +23,9 @@ returns-in-LongName-clause-ok g c = rw (c.in-LongName.is) c.write_all-in-LongNam
 
 pub returns-in-LongName-clause-err : goal.returns-in-LongName-clause-err
 returns-in-LongName-clause-err g c = rw (c.in-LongName.is) c.write_all-in-LongName.ensures.err
+
+pub returns-in-WordMissing-clause-ok : goal.returns-in-WordMissing-clause-ok
+returns-in-WordMissing-clause-ok g c = rw (c.in-WordMissing.is) c.write_all-in-WordMissing.ensures.ok
+
+pub returns-in-WordMissing-clause-err : goal.returns-in-WordMissing-clause-err
+returns-in-WordMissing-clause-err g c = rw (c.in-WordMissing.is) c.write_all-in-WordMissing.ensures.err

@@ -1,8 +1,8 @@
 use Rattle.std.proofs.Common.{◌+◌, ◌-◌, ◌≤◌, rules, subst, sym, take, drop, length}
 use Rattle.std.proofs.lemmas.List.{take_rest}
-use Rattle.std.specs.Io.KnownBytes.{Appends, Keeps}
-use Rattle.fits_stream.specs.Named.{told_of}
-use Rattle.fits_stream.proofs.NamedLemmas.{told-name, Keeps-more}
+use Rattle.fits_stream.specs.Named.{unnamed}
+use Rattle.fits_stream.specs.Stream.{Gains, Stays}
+use Rattle.fits_stream.proofs.NamedLemmas.{unnamed-names, Stays-more}
 use Rattle.fits_stream.proofs.named_lines.write_name.Goals as goal
 
 pub loop-left-preserved : goal.loop-left-preserved
@@ -14,11 +14,11 @@ loop-left-preserved g c =
     let holds = (g.O.Sink.state c.write.new.self).contents in
     let within : left ≤ length name = c.loop-left.invariant.within in
     let few : n ≤ left = search rules in
-    let came : Appends held holds (take n (drop (length name - left) name)) = subst (λ piece. Appends held holds (take n piece)) (take_rest name (length name - left)) c.in_ok-n.ensures.ok.bytes in
-    let more : Keeps (told_of name left c.loop-left.sent.total held) (told_of name (left - n) (c.loop-left.sent.total + n) holds) =
-    told-name name left c.loop-left.sent.total n held holds within few (search rules) came in
+    let came : Gains held holds (take n (drop (length name - left) name)) = subst (λ piece. Gains held holds (take n piece)) (take_rest name (length name - left)) c.in_ok-n.ensures.ok.bytes in
+    let more : Stays (unnamed name left c.loop-left.sent.total held) (unnamed name (left - n) (c.loop-left.sent.total + n) holds) =
+    unnamed-names name left c.loop-left.sent.total n held holds within few (search rules) came in
     record {
       within = search rules;
-      kept = Keeps-more _ _ _ c.loop-left.invariant.kept (subst (λ k. Keeps (told_of name left c.loop-left.sent.total held) (told_of name (left - n) k holds)) (sym c.add.ensures) more);
+      kept = Stays-more _ _ _ c.loop-left.invariant.kept (subst (λ k. Stays (unnamed name left c.loop-left.sent.total held) (unnamed name (left - n) k holds)) (sym c.add.ensures) more);
       quiet = search rules;
     }

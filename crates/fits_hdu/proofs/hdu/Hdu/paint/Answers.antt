@@ -1,28 +1,35 @@
 use Rattle.std.proofs.Common.{◌≡◌, ◌∙◌, Some, ap, sym, subst, length, true}
 use Rattle.std.specs.Prelude.{Ok}
-use Rattle.fits_plane.specs.Layout.{block_count}
 use Rattle.fits_plane.specs.Paint.{painted_number}
-use Rattle.fits_plane.specs.Rectangle.{lies_within, product, rectangle_written}
-use Rattle.fits_plane.specs.Work.{rectangle_blocks}
+use Rattle.fits_plane.specs.Rectangle.{lies_within, product, rectangle_written, IsRectangle}
 use Rattle.fits_plane.specs.declared.layout.Layout.{Layout}
 use Rattle.fits_rules.specs.declared.array_shape.Shape.{Shape}
 use Rattle.fits_image.specs.Kind.{kind_in, offset_of}
-use Rattle.fits_hdu.specs.Layout.{layout_of}
 use Rattle.fits_hdu.specs.Pixels.{painted}
 use Rattle.fits_hdu.specs.State.{HduState, parts_of}
-use Rattle.fits_hdu.specs.Work.{IsPatched, plane_work}
-use Rattle.fits_hdu.proofs.PixelLemmas.{layout_pixels, layout_width, length-rectangle_written, offset_fits, painted-done, patched}
+use Rattle.fits_hdu.specs.Work.{IsPatchedIn}
+use Rattle.fits_plane.proofs.RectangleLemmas.{length-rectangle_written}
+use Rattle.fits_hdu.proofs.PixelLemmas.{kind_width, layout_pixels, layout_width, offset_fits, painted-done, patched}
 use Rattle.fits_hdu.proofs.hdu.Hdu.paint.Goals as goal
 
-pub paint_rect-requires-clause-storable : goal.paint_rect-requires-clause-storable
-paint_rect-requires-clause-storable c =
+-- the rectangle is one of the image, and its pixels can store the values
+pub paint_rect-requires-clause-suits : goal.paint_rect-requires-clause-suits
+paint_rect-requires-clause-suits c =
     let t = c.self.inside in
     let kind = c.in_ok-kind.kind in
     let e = c.in_ok-kind.ensures in
     let some = subst (λ (s : HduState). kind_in s.header.shape s.header.header.cards ≡ Some kind) (sym c.self.view_is) e.kind in
+    let within = subst (λ (s : HduState). IsRectangle s.header.shape.axes c.args.lo.now c.args.hi.now) (sym c.self.view_is) e.rectangle in
     let width = ap (λ (l : Layout). l.width) c.self.invariant.layout ∙ layout_width t.header.shape t.header.header.cards kind c.self.invariant.described some in
-    let offset = offset_fits kind c.offset.result c.offset.ensures ∙ c.offset.ensures in
-    rw (width, offset) e.numbers
+    let axes = c.as_slice-axes.ensures ∙ ap (λ (shape : Shape). shape.axes) c.shape.ensures.value in
+    let offset = offset_fits kind c.offset-offset.result c.offset-offset.ensures ∙ c.offset-offset.ensures in
+    record {
+      width = rw width (kind_width kind);
+      rectangle = rw axes within;
+      all = ap product axes ∙ layout_pixels t.header.shape t.header.header.cards kind some ∙ ap (λ (l : Layout). l.pixels) (sym c.self.invariant.layout);
+      count = e.count;
+      storable = rw (width, offset) e.numbers;
+    }
 
 pub returns-clause-ok : goal.returns-clause-ok
 returns-clause-ok c =
@@ -33,7 +40,7 @@ returns-clause-ok c =
     let within = subst (λ (s : HduState). lies_within s.header.shape.axes c.args.lo.now c.args.hi.now ≡ true) (sym c.self.view_is) e.within in
     let width = ap (λ (l : Layout). l.width) c.self.invariant.layout ∙ layout_width t.header.shape t.header.header.cards kind c.self.invariant.described some in
     let axes = c.as_slice-axes.ensures ∙ ap (λ (shape : Shape). shape.axes) c.shape.ensures.value in
-    let offset = offset_fits kind c.offset.result c.offset.ensures ∙ c.offset.ensures in
+    let offset = offset_fits kind c.offset-offset.result c.offset-offset.ensures ∙ c.offset-offset.ensures in
     let put : c.paint_rect.new.self.plane.bytes ≡ rectangle_written t.unit.plane.layout.width t.header.shape.axes c.args.lo.now c.args.hi.now (painted_number c.args.paint.now (offset_of kind)) t.unit.plane.bytes =
     c.paint_rect.ensures.painted.bytes
     ∙ ap (λ o. rectangle_written t.unit.plane.layout.width c.as_slice-axes.result.now c.args.lo.now c.args.hi.now (painted_number c.args.paint.now o) t.unit.plane.bytes) offset
@@ -47,18 +54,9 @@ returns-clause-work c =
     let t = c.self.inside in
     let e = c.paint_rect.ensures.painted in
     let axes = c.as_slice-axes.ensures ∙ ap (λ (shape : Shape). shape.axes) c.shape.ensures.value in
-    subst (λ (s : HduState). IsPatched (rectangle_blocks (layout_of s.header.shape s.header.header.cards) s.plane.bytes s.header.shape.axes c.args.lo.now c.args.hi.now)
-    (block_count s.plane.bytes) (plane_work s.plane) (record { scans = c.paint_rect.new.self.plane.scans; reads = c.paint_rect.new.self.plane.reads; joins = c.paint_rect.new.self.plane.joins })) c.self.view_is
+    subst (λ (s : HduState). IsPatchedIn c.args.lo.now c.args.hi.now s (record s { plane = c.paint_rect.new.self.plane })) c.self.view_is
     (patched t.unit.plane.layout t.header.shape t.header.header.cards t.unit.plane.bytes c.as_slice-axes.result.now c.args.lo.now c.args.hi.now _ _ c.self.invariant.layout axes
     e.reads e.more_scans e.scans e.more_joins e.joins)
-
-pub paint_rect-requires-clause-all : goal.paint_rect-requires-clause-all
-paint_rect-requires-clause-all c =
-    let t = c.self.inside in
-    let kind = c.in_ok-kind.kind in
-    let some = subst (λ (s : HduState). kind_in s.header.shape s.header.header.cards ≡ Some kind) (sym c.self.view_is) c.in_ok-kind.ensures.kind in
-    let axes = c.as_slice-axes.ensures ∙ ap (λ (shape : Shape). shape.axes) c.shape.ensures.value in
-    ap product axes ∙ layout_pixels t.header.shape t.header.header.cards kind some ∙ ap (λ (l : Layout). l.pixels) (sym c.self.invariant.layout)
 
 -- the bytes of pixels alone change, and they stay as many
 pub invariant_of-self : goal.invariant_of-self

@@ -1,51 +1,66 @@
-use Rattle.std.proofs.Common.{◌∙◌, ap, arith}
-use Rattle.std.specs.Prelude.{◌%◌}
+use Rattle.std.proofs.Common.{◌≡◌, ◌≤◌, ◌^◌, ◌∙◌, length, None, Some, refl, ap, arith, sym}
+use Rattle.std.proofs.lemmas.Result.{err_from_is_err_and}
 use Rattle.fits_stream.proofs.SightLemmas.{takes_fewer}
-use Rattle.fits_rules.proofs.LawLemmas.{shape_primary}
+use Rattle.fits_plane.specs.Pixels.{pixels}
+use Rattle.fits_plane.specs.Statistics.{value_statistics}
+use Rattle.fits_plane.specs.declared.layout.Layout.{Layout}
+use Rattle.fits_image.specs.Kind.{offset_of}
+use Rattle.fits_hdu.specs.PassingStats.{values_of}
+use Rattle.fits_hdu.specs.Pixels.{AreStatsOf}
 use Rattle.fits_hdu.proofs.LayoutLemmas.{data_within}
-use Rattle.fits_hdu.proofs.PassingLemmas.{stops_summed}
-use Rattle.fits_hdu.proofs.StatsLemmas.{found_fits, found_width, hdu_told, unit_blocks}
+use Rattle.fits_hdu.proofs.PixelLemmas.{offset_fits}
+use Rattle.fits_hdu.proofs.ReadingLemmas.{described_so, hdu_comes, stops_in_unit}
+use Rattle.fits_hdu.proofs.StatsLemmas.{found_fits, stats_told}
 use Rattle.fits_hdu.proofs.hdu_stats.HduStats.read.Goals as goal
 
 pub image_pixels-requires-clause-described : goal.image_pixels-requires-clause-described
-image_pixels-requires-clause-described g c =
-    let head = c.in_ok-head.ensures in
-    rw (shape_primary _ _ c.in_ok-head.head.shape head.described) head.described
+image_pixels-requires-clause-described g c = described_so _ c.in_ok-head.head.cards.header.cards c.in_ok-head.head.shape c.in_ok-head.ensures.described
 
 pub image_pixels-requires-clause-small : goal.image_pixels-requires-clause-small
 image_pixels-requires-clause-small g c =
     let head = c.in_ok-head.ensures in
     data_within c.in_ok-head.head.shape c.in_ok-head.head.unit_len head.len (omega (arith, head.room, takes_fewer _ _ _ head.taken, c.requires))
 
-pub read_unit_stats-requires-clause-width : goal.read_unit_stats-requires-clause-width
-read_unit_stats-requires-clause-width g c =
+pub pass_unit-requires : goal.pass_unit-requires
+pass_unit-requires g c = λ unit size.
     let head = c.in_ok-head.ensures in
-    found_width c.in_ok-head.head.shape c.in_ok-head.head.cards.header.cards c.in-Ok.image (rw (shape_primary _ _ c.in_ok-head.head.shape head.described) head.described) c.in-Ok.ensures
+    let shape = c.in_ok-head.head.shape in
+    let cards = c.in_ok-head.head.cards.header.cards in
+    let small : length unit ≤ 2 ^ 34 = omega (arith, size, head.room, takes_fewer _ _ _ head.taken, c.requires) in
+    found_fits shape cards c.in-Some.image (described_so _ cards shape head.described) (sym c.in-Some.is ∙ c.in-Ok.ensures) unit (size ∙ head.len) small
 
-pub read_unit_stats-requires-clause-layout : goal.read_unit_stats-requires-clause-layout
-read_unit_stats-requires-clause-layout g c =
+pub returns-in_ok-unit-in-Some-clause-ok : goal.returns-in_ok-unit-in-Some-clause-ok
+returns-in_ok-unit-in-Some-clause-ok g c =
     let head = c.in_ok-head.ensures in
-    found_fits c.in_ok-head.head.shape c.in_ok-head.head.cards.header.cards c.in-Ok.image c.in_ok-head.head.unit_len (rw (shape_primary _ _ c.in_ok-head.head.shape head.described) head.described) c.in-Ok.ensures head.len
-    (omega (arith, head.room, takes_fewer _ _ _ head.taken, c.requires))
+    let header = c.in_ok-head.head.cards.header in
+    let shape = c.in_ok-head.head.shape in
+    let image = c.in-Some.image in
+    let unit = c.in_ok-unit-in-Some.unit in
+    let values : c.value_stats.result ≡ values_of unit.bytes image =
+    c.value_stats.ensures ∙ ap (λ o. value_statistics o unit.layout.blank (pixels unit.layout.width unit.bytes 0 unit.layout.pixels)) (offset_fits image.kind c.offset.result c.offset.ensures ∙ c.offset.ensures)
+    ∙ ap (λ (l : Layout). value_statistics (offset_of image.kind) l.blank (pixels l.width unit.bytes 0 l.pixels)) c.in_ok-unit-in-Some.ensures.layout in
+    hdu_comes (AreStatsOf (Some c.value_stats.result)) _ _ _ _ c.in_ok-head.head.unit_len header shape unit.bytes head.taken head.whole head.described head.len c.in_ok-unit-in-Some.ensures.ok c.in_ok-unit-in-Some.ensures.size
+    (stats_told _ shape header unit.bytes (Some image) (Some c.value_stats.result) head.described (sym c.in-Some.is ∙ c.in-Ok.ensures) (ap Some values))
 
-pub read_unit_stats-requires-clause-room : goal.read_unit_stats-requires-clause-room
-read_unit_stats-requires-clause-room g c =
+-- it is no image
+pub returns-in_ok-skip_unit-in-None-clause-ok : goal.returns-in_ok-skip_unit-in-None-clause-ok
+returns-in_ok-skip_unit-in-None-clause-ok g c =
     let head = c.in_ok-head.ensures in
-    omega (arith, head.room, takes_fewer _ _ _ head.taken, c.requires)
+    let header = c.in_ok-head.head.cards.header in
+    let shape = c.in_ok-head.head.shape in
+    let unit = c.in_ok-skip_unit-in-None.ensures.ok in
+    hdu_comes (AreStatsOf None) _ _ _ _ c.in_ok-head.head.unit_len header shape unit.bytes head.taken head.whole head.described head.len unit.taken unit.size
+    (stats_told _ shape header unit.bytes None None head.described (sym c.in-None.is ∙ c.in-Ok.ensures) refl)
 
-pub read_unit_stats-requires-clause-blocks : goal.read_unit_stats-requires-clause-blocks
-read_unit_stats-requires-clause-blocks g c = ap (λ n. n % 2880) c.in_ok-head.ensures.len ∙ unit_blocks c.in_ok-head.head.shape
-
-pub returns-in-Ok-Some-clause-ok : goal.returns-in-Ok-Some-clause-ok
-returns-in-Ok-Some-clause-ok g c =
+-- the data unit didn't come
+pub returns-in_err-unit-in-Some-clause-err : goal.returns-in_err-unit-in-Some-clause-err
+returns-in_err-unit-in-Some-clause-err g c =
     let head = c.in_ok-head.ensures in
-    let unit = c.in-Ok-Some.ensures in
-    hdu_told _ _ _ _ c.in_ok-head.head.unit_len c.in_ok-head.head.cards.header c.in_ok-head.head.shape c.in-Ok.image c.in-Ok-Some.found.stats head.taken head.whole head.described
-    (rw c.in-Ok-Some.field-0-is at unit.ok) c.in-Ok.ensures head.len
+    let failed = err_from_is_err_and c.from_residual-in_err-unit-in-Some.result c.from_residual-in_err-unit-in-Some.ensures.1 in
+    rw (failed.1, failed.2) (stops_in_unit _ _ _ _ c.in_ok-head.head.unit_len c.in_ok-head.head.cards.header c.in_ok-head.head.shape _ head.taken head.whole head.described head.len c.in_err-unit-in-Some.ensures.err)
 
--- the source ended within the data unit
-pub returns-in-Ok-None-clause-err : goal.returns-in-Ok-None-clause-err
-returns-in-Ok-None-clause-err g c =
+pub returns-in_err-skip_unit-in-None-clause-err : goal.returns-in_err-skip_unit-in-None-clause-err
+returns-in_err-skip_unit-in-None-clause-err g c =
     let head = c.in_ok-head.ensures in
-    stops_summed _ _ _ _ c.in_ok-head.head.unit_len c.in_ok-head.head.cards.header c.in_ok-head.head.shape head.taken head.whole head.described
-    (rw c.in-Ok-None.field-0-is at c.in-Ok-None.ensures.short) head.len
+    let failed = err_from_is_err_and c.from_residual-in_err-skip_unit-in-None.result c.from_residual-in_err-skip_unit-in-None.ensures.1 in
+    rw (failed.1, failed.2) (stops_in_unit _ _ _ _ c.in_ok-head.head.unit_len c.in_ok-head.head.cards.header c.in_ok-head.head.shape _ head.taken head.whole head.described head.len c.in_err-skip_unit-in-None.ensures.err)

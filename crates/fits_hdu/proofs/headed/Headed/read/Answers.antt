@@ -1,10 +1,8 @@
-use Rattle.std.proofs.Common.{◌<◌, ap, arith}
+use Rattle.std.proofs.Common.{◌≡◌, ap}
 use Rattle.std.specs.Prelude.{Err}
-use Rattle.std.proofs.lemmas.Grind.{common_steps}
 use Rattle.fits_card.specs.Header.{Header}
-use Rattle.fits_rules.proofs.LawLemmas.{shape_primary}
-use Rattle.fits_hdu.proofs.HeadedLemmas.{head_broken, head_far, head_short, head_taken, whole_comes}
-use Rattle.fits_hdu.proofs.ReadingLemmas.{hdu_passed}
+use Rattle.fits_hdu.proofs.HeadedLemmas.{head_broken, head_far, head_stops, whole_comes}
+use Rattle.fits_hdu.proofs.ReadingLemmas.{hdu_comes}
 use Rattle.fits_hdu.proofs.headed.Headed.read.Goals as goal
 
 -- the cards break a rule
@@ -20,16 +18,15 @@ returns-in-Err-unit_len-clause-ok g c =
     head_far c.args.primary _ _ c.in-Ok-Whole.cards.header c.shape.new.cards.header.cards c.in-Ok.shape c.in-Err-unit_len.why head.0 head.1 c.in-Ok.ensures.ok (rw c.left.ensures at c.in-Err-unit_len.ensures.short) (ap (λ (h : Header). h.cards) c.shape.ensures.work.header) c.in-Err-unit_len.ensures.fault
 
 -- it was skipped
-pub returns-in-Ok-skip-clause-ok : goal.returns-in-Ok-skip-clause-ok
-returns-in-Ok-skip-clause-ok g c =
+pub returns-in-Ok-skip_unit-clause-ok : goal.returns-in-Ok-skip_unit-clause-ok
+returns-in-Ok-skip_unit-clause-ok g c =
     let head = whole_comes _ _ c.in-Ok-Whole.field-0 c.in-Ok-Whole.cards c.in-Ok-Whole.ensures.ok c.in-Ok-Whole.field-0-is in
-    head_taken c.args.primary _ _ c.in-Ok-unit_len.unit_len c.in-Ok-Whole.cards.header c.shape.new.cards.header.cards c.in-Ok.shape
-    (hdu_passed c.args.primary _ _ _ c.in-Ok-skip.count c.in-Ok-unit_len.unit_len c.in-Ok-Whole.cards.header c.in-Ok.shape head.0 head.1 c.in-Ok.ensures.ok c.in-Ok-skip.ensures.ok (grind (arith, common_steps)) c.in-Ok-unit_len.ensures.ok (shape_primary _ _ _ c.in-Ok.ensures.ok))
-    (ap (λ (h : Header). h.cards) c.shape.ensures.work.header)
+    let unit = c.in-Ok-skip_unit.ensures.ok in
+    hdu_comes (λ hdu. c.shape.new.cards.header.cards ≡ hdu.header.cards) _ _ _ _ c.in-Ok-unit_len.unit_len c.in-Ok-Whole.cards.header c.in-Ok.shape unit.bytes head.0 head.1 c.in-Ok.ensures.ok c.in-Ok-unit_len.ensures.ok unit.taken unit.size (ap (λ (h : Header). h.cards) c.shape.ensures.work.header)
 
--- the source ended within it
-pub returns-in-Ok-2-clause-ok : goal.returns-in-Ok-2-clause-ok
-returns-in-Ok-2-clause-ok g c =
+-- or wasn't there
+pub returns-in-Err-Hdu-clause-ok : goal.returns-in-Err-Hdu-clause-ok
+returns-in-Err-Hdu-clause-ok g c =
     let head = whole_comes _ _ c.in-Ok-Whole.field-0 c.in-Ok-Whole.cards c.in-Ok-Whole.ensures.ok c.in-Ok-Whole.field-0-is in
-    let few : c.in-Ok-skip.count < c.in-Ok-unit_len.unit_len = grind (arith, common_steps) in
-    head_short c.args.primary _ _ _ c.in-Ok-Whole.cards.header c.shape.new.cards.header.cards c.in-Ok.shape c.in-Ok-skip.count head.0 head.1 c.in-Ok.ensures.ok c.in-Ok-skip.ensures.ok (c.in-Ok-skip.ensures.ends few) (grind (arith, common_steps)) (ap (λ (h : Header). h.cards) c.shape.ensures.work.header)
+    head_stops c.args.primary _ _ _ c.in-Ok-unit_len.unit_len c.in-Ok-Whole.cards.header c.shape.new.cards.header.cards c.in-Ok.shape c.in-Err-Hdu.why head.0 head.1 c.in-Ok.ensures.ok c.in-Ok-unit_len.ensures.ok
+    (rw c.in-Err-Hdu.field-0-is at c.in-Err-Hdu.ensures.err) (ap (λ (h : Header). h.cards) c.shape.ensures.work.header)

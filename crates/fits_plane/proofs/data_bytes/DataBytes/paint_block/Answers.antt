@@ -1,9 +1,7 @@
 use Rattle.std.proofs.Common.{◌≡◌, ◌+◌, ◌∙◌, ℕ, ℤ, ap, arith, subst, sym}
-use Rattle.std.specs.Int.{w128}
-use Rattle.std.proofs.lemmas.Int.{to_z-of_z}
 use Rattle.std.proofs.lemmas.List.{with_items_is}
 use Rattle.fits_plane.specs.Leaves.{leaf_of}
-use Rattle.fits_plane.specs.Paint.{painted_number}
+use Rattle.fits_plane.specs.Painting.{number_of}
 use Rattle.fits_plane.specs.ShortRows.{RowWritten}
 use Rattle.fits_plane.proofs.data_bytes.DataBytes.paint_block.Goals as goal
 
@@ -13,10 +11,9 @@ returns-clause-written c =
     let a = c.args in
     let old : c.as_mut_slice-bytes.result.now ≡ a.self.now.bytes = c.as_mut_slice-bytes.ensures.value ∙ ap (λ s. s.bytes) c.self.view_is in
     let new = with_items_is c.self.inside.bytes c.paint_block.new.bytes (omega (arith, c.paint_block.ensures.written.long, c.as_mut_slice-bytes.ensures.len)) in
-    let number : ℕ → ℤ = λ x. painted_number a.paint.now a.offset (a.rank + x) in
-    let here = subst (λ z. RowWritten a.layout.width a.start a.count (λ x. painted_number a.paint.now z (a.rank + x)) c.as_mut_slice-bytes.result.now c.paint_block.new.bytes) (to_z-of_z w128 a.offset c.ranges.offset) c.paint_block.ensures.written in
+    let number : ℕ → ℤ = λ x. number_of a.painting.now (a.rank + x) in
     subst (RowWritten a.layout.width a.start a.count number a.self.now.bytes) (sym new)
-    (subst (λ xs. RowWritten a.layout.width a.start a.count number xs c.paint_block.new.bytes) old here)
+    (subst (λ xs. RowWritten a.layout.width a.start a.count number xs c.paint_block.new.bytes) old c.paint_block.ensures.written)
 
 -- and so is their block
 pub returns-clause-leaf : goal.returns-clause-leaf

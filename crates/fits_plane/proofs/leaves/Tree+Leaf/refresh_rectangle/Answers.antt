@@ -2,19 +2,22 @@ use Rattle.std.proofs.Common.{◌≡◌, ◌<◌, ◌∙◌, ◌+◌, get_or, ta
 use Rattle.std.proofs.lemmas.List.{with_items_is, get_or-take, get_or-drop, length-take, length-drop}
 use Rattle.fits_plane.specs.Layout.{block_count}
 use Rattle.fits_plane.specs.Leaves.{leaf_unit, IsBlockTree}
-use Rattle.fits_plane.proofs.PowerLemmas.{least_power}
+use Rattle.fits_plane.specs.Tree.{IsLeastPower}
 use Rattle.fits_plane.proofs.TreeLemmas.{leaves_used}
 use Rattle.fits_plane.proofs.leaves.Tree+Leaf.refresh_rectangle.Goals as goal
 
 -- the nodes are those of the tree
 pub refresh_rows-requires-clause-tree : goal.refresh_rows-requires-clause-tree
-refresh_rows-requires-clause-tree c = subst (IsBlockTree c.self.inside.width) (sym c.as_mut_slice.ensures.value) c.self.invariant.tree
+refresh_rows-requires-clause-tree c = subst (IsBlockTree c.self.inside.width) (sym c.as_mut_slice-nodes.ensures.value) c.self.invariant.tree
 
--- a leaf for each block
-pub refresh_rows-requires-clause-within : goal.refresh_rows-requires-clause-within
-refresh_rows-requires-clause-within c =
+-- the least power of two is that of the blocks, which the leaves are
+pub refresh_rows-requires-clause-power : goal.refresh_rows-requires-clause-power
+refresh_rows-requires-clause-power c =
     let t = c.self.inside in
-    omega (arith, c.requires.whole, ap (λ z. length z.leaves) c.self.view_is, length-take t.used (drop t.width t.nodes.items), c.self.invariant.power.enough)
+    let v = c.self.invariant in
+    let many = leaves_used t.width t.used t.nodes.items c.args.self.now.leaves v.tree.long v.power.enough (ap (λ z. z.leaves) c.self.view_is) in
+    let blocks : t.used ≡ block_count c.args.store.now.bytes = omega (arith, many, c.requires.whole) in
+    subst (λ n. IsLeastPower n t.width) blocks v.power
 
 -- what is not touched is as it was
 pub refresh_rows-requires-clause-fresh : goal.refresh_rows-requires-clause-fresh
@@ -23,7 +26,7 @@ refresh_rows-requires-clause-fresh c = λ k b e.
     let v = c.self.invariant in
     let many = leaves_used t.width t.used t.nodes.items c.args.self.now.leaves v.tree.long v.power.enough (ap (λ z. z.leaves) c.self.view_is) in
     let below : k < t.used = omega (arith, b, many, c.requires.whole) in
-    ap (λ xs. get_or (drop t.width xs) k leaf_unit) c.as_mut_slice.ensures.value ∙ sym (get_or-take t.used (drop t.width t.nodes.items) k leaf_unit below)
+    ap (λ xs. get_or (drop t.width xs) k leaf_unit) c.as_mut_slice-nodes.ensures.value ∙ sym (get_or-take t.used (drop t.width t.nodes.items) k leaf_unit below)
     ∙ ap (λ z. get_or z.leaves k leaf_unit) c.self.view_is ∙ c.requires.fresh k (omega (arith, below, many)) e
 
 -- the nodes are a tree still, and the leaves past those in use are as before
@@ -38,7 +41,7 @@ invariant_of-self c =
       tree = subst (IsBlockTree t.width) (sym same) c.refresh_rows.ensures.tree;
       power = v.power;
       units = λ k low high. ap (λ xs. get_or xs (t.width + k) leaf_unit) same ∙ sym (get_or-drop t.width new k leaf_unit) ∙ c.refresh_rows.ensures.units k (omega (arith, low, many, c.requires.whole))
-          ∙ ap (λ xs. get_or (drop t.width xs) k leaf_unit) c.as_mut_slice.ensures.value ∙ get_or-drop t.width t.nodes.items k leaf_unit ∙ v.units k low high;
+          ∙ ap (λ xs. get_or (drop t.width xs) k leaf_unit) c.as_mut_slice-nodes.ensures.value ∙ get_or-drop t.width t.nodes.items k leaf_unit ∙ v.units k low high;
     }
 
 -- as many leaves are in use
@@ -63,26 +66,8 @@ returns-clause-right c = λ k b.
     ap (λ xs. get_or (take t.used (drop t.width xs)) k leaf_unit) same ∙ get_or-take t.used (drop t.width new) k leaf_unit below
     ∙ c.refresh_rows.ensures.right k (omega (arith, below, many, c.requires.whole))
 
--- each block that is touched is one of the leaves
-pub returns-clause-work : goal.returns-clause-work
-returns-clause-work c =
-    let blocks : block_count c.args.store.now.bytes ≡ length c.args.self.now.leaves = omega (arith, c.requires.whole) in
-    rw (← blocks) c.refresh_rows.ensures.work
-
 pub returns-clause-joins : goal.returns-clause-joins
-returns-clause-joins c = λ d u.
-    let t = c.self.inside in
-    let made = ap (λ z. z.joins) c.self.view_is in
-    let v = c.self.invariant in
-    let many = leaves_used t.width t.used t.nodes.items c.args.self.now.leaves v.tree.long v.power.enough (ap (λ z. z.leaves) c.self.view_is) in
-    let few = least_power v.power.depth t.width t.used d v.power.power v.power.least (omega (arith, many, u)) in
-    omega (arith, made, c.refresh_rows.ensures.few d few)
+returns-clause-joins c = λ d u. let made = ap (λ z. z.joins) c.self.view_is in omega (arith, made, c.refresh_rows.ensures.few d u)
 
 pub returns-clause-most : goal.returns-clause-most
-returns-clause-most c = λ d u.
-    let t = c.self.inside in
-    let made = ap (λ z. z.joins) c.self.view_is in
-    let v = c.self.invariant in
-    let many = leaves_used t.width t.used t.nodes.items c.args.self.now.leaves v.tree.long v.power.enough (ap (λ z. z.leaves) c.self.view_is) in
-    let few = least_power v.power.depth t.width t.used d v.power.power v.power.least (omega (arith, many, u)) in
-    omega (arith, made, few, c.refresh_rows.ensures.most v.power.depth v.power.power)
+returns-clause-most c = λ d u. let made = ap (λ z. z.joins) c.self.view_is in omega (arith, made, c.refresh_rows.ensures.most d u)

@@ -1,5 +1,0 @@
-use Rattle.fits_cli.proofs.EditingLemmas.{whole_fault}
-use Rattle.fits_cli.proofs.whole_editing.run_over.Goals as goal
-
-pub returns-in-Err-clause-ends : goal.returns-in-Err-clause-ends
-returns-in-Err-clause-ends g c steady file after opened quiet = whole_fault _ _ c.from.result.end c.from.result.undone c.in-Err.fault c.from.ensures (c.in-Err.ensures.ends steady file after opened quiet)

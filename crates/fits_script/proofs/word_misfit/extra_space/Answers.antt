@@ -1,6 +1,0 @@
--- Said, so that a body that breaks it is refused at once.
-use Rattle.std.proofs.Common.{rules}
-use Rattle.fits_script.proofs.word_misfit.extra_space.Goals as goal
-
-pub returns : goal.returns
-returns c = search rules
