@@ -50,12 +50,7 @@ fn say_to<E: Sink>(sink: &mut E, number: u64, line: &[u8], reply: &Reply<'_>)
 
 // `line N: WHY`
 #[tactic(auto, using(fits_stream::proofs::StreamLemmas::printing_steps))]
-fn write_line<E: Sink>(
-    sink: &mut E,
-    number: u64,
-    line: &[u8],
-    reply: &Reply<'_>,
-) -> io::Result<()>
+fn write_line<E: Sink>(sink: &mut E, number: u64, line: &[u8], reply: &Reply<'_>) -> io::Result<()>
     ensures ok { OnOk result (Prints (complaint number (words_of (remark_by line.now reply.now)))
         (E.state sink.old) (E.state sink.new)) }
     ensures err { OnErr result
