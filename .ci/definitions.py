@@ -98,7 +98,7 @@ def faults():
         yield f"a file isn't there: {row}" if missing or not paths else None
         texts = [it.read_text() for it in paths if it not in missing]
         for name in NAME.findall(behind):
-            yield None if stands_in(name, texts) else f"{name} isn't there: {row}"
+            yield None if counts[name] == 1 or stands_in(name, texts) else f"{name} isn't there: {row}"
 
 
 def main():
