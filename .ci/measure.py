@@ -1,5 +1,5 @@
 #!/usr/bin/env python3
-"""Measures what the gate costs: runs it on a fresh clone of HEAD, and prints the table of docs/GATE.md.
+"""Measures what the gate costs: runs it on a fresh clone of HEAD, and prints a table by crate.
 
 Processor minutes (user and system) of each check, added up by crate: its proof, its tests, and its refused bodies.
 They are read from /proc five times a second, so that of each check a fifth of a second at most is missing. All is proved

@@ -1,7 +1,7 @@
 #!/bin/sh
-# All that has to hold, in ten parts: each lemma is used and each refused body well made, each refusal of memory is passed on, the tool that tries refused bodies
-# does what it says, the proofs and tests of all crates, the refused bodies, refused memory, the program over real files and over the tables of cases/, the
-# package, the instructions of the jobs of bench/. What failed is said once more at the end, with the clock of each part; the last line sums their counts.
+# All that has to hold, in eleven parts: each lemma is used and each refused body well made, each refusal of memory is passed on, the documents name what is
+# there, the tool that tries refused bodies does what it says, the proofs and tests of all crates, the refused bodies, refused memory, the program over real
+# files and over the tables of cases/, the package, the instructions of the jobs of bench/. What failed is said once more at the end, with the clock of each part; the last line sums their counts.
 # With ANEW all is proved and tried again, whatever an earlier run on this machine kept.
 set -u
 cd "$(dirname "$0")/.."
@@ -28,6 +28,7 @@ part() {
 echo "processors $processors, RT_JOBS ${RT_JOBS:-not set}, $(grep MemAvailable /proc/meminfo | tr -s ' ')"
 part lemmas python3 -B .ci/lemmas.py
 part memory python3 -B .ci/passed_on.py
+part definitions python3 -B .ci/definitions.py --check
 part proofs rt ci ${ANEW:+--anew} &
 proofs=$!
 part tool nice -n 10 python3 -B .ci/edits_test.py &
@@ -49,4 +50,4 @@ wait $! $refused $stored $cases $package $edits
 wait
 cat "$room/faults" "$room/clocks"
 awk '/^[0-9]+ passed, [0-9]+ failed/ { passed += $1; failed += $3; counted += 1 }
-     END { if (counted < 10) failed += 1; printf "%d passed, %d failed\n", passed, failed; exit failed > 0 }' "$room/counts" && [ ! -e "$room/failed" ]
+     END { if (counted < 11) failed += 1; printf "%d passed, %d failed\n", passed, failed; exit failed > 0 }' "$room/counts" && [ ! -e "$room/failed" ]

@@ -9,5 +9,5 @@ install -d "$to/bin" "$to/share/man/man1" "$to/share/bash-completion/completions
 install -m 755 "$program" "$to/bin/fitsed"
 install -m 644 man/fitsed.1 "$to/share/man/man1/fitsed.1"
 install -m 644 packaging/fitsed.bash "$to/share/bash-completion/completions/fitsed"
-install -m 644 README.md docs/GUIDE.md docs/RULES.md docs/PROVED.md CHANGELOG.md LICENSE-MIT LICENSE-APACHE "$documents/"
+install -m 644 README.md docs/GUIDE.md docs/RULES.md docs/PROVED.md docs/DEFINITIONS.md CHANGELOG.md LICENSE-MIT LICENSE-APACHE "$documents/"
 find examples -type f -exec install -D -m 644 {} "$documents/{}" \;
