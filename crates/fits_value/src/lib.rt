@@ -19,6 +19,7 @@ mod text;
 mod unreadable;
 mod unwritable;
 mod value;
+mod writable;
 mod write;
 
 pub use excerpt::Excerpt;
@@ -33,6 +34,6 @@ pub use strings::{
 };
 pub use text::Text;
 pub use unreadable::{Unreadable, unreadable_of};
-pub use unwritable::{Unwritable, writable};
+pub use unwritable::{Unwritable, unwritable_of};
 pub use value::Value;
 pub use write::{WriteFault, write_value};
