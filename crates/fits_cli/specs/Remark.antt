@@ -2,8 +2,9 @@
 use Rattle.std.specs.Prelude.{◌≡◌, ℕ, ◌≤◌, List, [], ◌∷◌, ◌++◌, codes, Option, Some, None, Result, Ok, Err, if◌then◌else◌}
 use Rattle.std.specs.Char.{is_ascii_lowercase}
 use Rattle.std.specs.List.{list_any}
+use Rattle.std.specs.Result.{result_err}
 use Rattle.fits_stream.specs.Stream.{Gains, SinkState}
-use Rattle.fits_value.specs.Unwritable.{unwritable_of}
+use Rattle.fits_value.specs.Unwritable.{writable}
 use Rattle.fits_value.specs.declared.unwritable.Unwritable.{Unwritable}
 use Rattle.fits_session.specs.Marked.{Marked}
 use Rattle.fits_session.specs.Refusal.{refusal_text}
@@ -29,46 +30,34 @@ use Rattle.fits_cli.specs.declared.reason.Reason.TheVariants.{CarriageReturn, Sm
 use Rattle.fits_cli.specs.declared.reply.Reply.{Reply}
 use Rattle.fits_cli.specs.declared.reply.Reply.TheVariants as reply
 
--- the name of a keyword that an edit of cards changes
-abbrev pub name_of_cards : CardEdit → Option (List ℕ)
-name_of_cards (Set name value comment) = Some name
-name_of_cards (Unset name) = Some name
-name_of_cards edit = None
+-- a command that tells nothing of why it may be refused, and one that tells a keyword name alone
+abbrev pub no_clues : Clues
+no_clues = record { name = None; unwritable = None }
+
+abbrev pub name_alone : List ℕ → Clues
+name_alone name = record { name = Some name; unwritable = None }
+
+-- what an edit of cards tells: the name of the keyword, and why what it gives it can't be written
+abbrev pub clues_of_cards : CardEdit → Clues
+clues_of_cards (Set name value comment) = record { name = Some name; unwritable = result_err (writable value comment) }
+clues_of_cards (Unset name) = name_alone name
+clues_of_cards edit = no_clues
 
 -- the same of an edit of an HDU, and of any edit
-abbrev pub name_of_hdu : HduEdit → Option (List ℕ)
-name_of_hdu (Cards edit) = name_of_cards edit
-name_of_hdu edit = None
+abbrev pub clues_of_hdu : HduEdit → Clues
+clues_of_hdu (Cards edit) = clues_of_cards edit
+clues_of_hdu edit = no_clues
 
-abbrev pub name_of_edit : FileEdit → Option (List ℕ)
-name_of_edit (Hdu hdu edit) = name_of_hdu edit
-name_of_edit edit = None
-
--- the keyword name that a command has
-unfoldable pub name_in : Command → Option (List ℕ)
-name_in (Get hdu name) = Some name
-name_in (Positions hdu name) = Some name
-name_in (Edit edit) = name_of_edit edit
-name_in command = None
-
--- why what an edit of cards gives a keyword can't be written
-abbrev pub unwritable_of_cards : CardEdit → Option Unwritable
-unwritable_of_cards (Set name value comment) = unwritable_of value comment
-unwritable_of_cards edit = None
-
--- the same of an edit of an HDU, and of any edit
-abbrev pub unwritable_of_hdu : HduEdit → Option Unwritable
-unwritable_of_hdu (Cards edit) = unwritable_of_cards edit
-unwritable_of_hdu edit = None
-
-abbrev pub unwritable_of_edit : FileEdit → Option Unwritable
-unwritable_of_edit (Hdu hdu edit) = unwritable_of_hdu edit
-unwritable_of_edit edit = None
+abbrev pub clues_of_edit : FileEdit → Clues
+clues_of_edit (Hdu hdu edit) = clues_of_hdu edit
+clues_of_edit edit = no_clues
 
 -- the same of any command
-unfoldable pub unwritable_in : Command → Option Unwritable
-unwritable_in (Edit edit) = unwritable_of_edit edit
-unwritable_in command = None
+unfoldable pub clues_of : Command → Clues
+clues_of (Get hdu name) = name_alone name
+clues_of (Positions hdu name) = name_alone name
+clues_of (Edit edit) = clues_of_edit edit
+clues_of command = no_clues
 
 -- a keyword name with a small letter is none (4.1.2.1)
 abbrev pub name_reason : Option (List ℕ) → Reason
@@ -79,10 +68,6 @@ name_reason (Some name) = if list_any is_ascii_lowercase name then SmallLetters 
 abbrev pub value_reason : Option Unwritable → Reason
 value_reason None = Plain
 value_reason (Some why) = Unwritten why
-
--- what a command tells of why it may be refused
-abbrev pub clues_of : Command → Clues
-clues_of command = record { name = name_in command; unwritable = unwritable_in command }
 
 -- a carriage return at the end of a line is a byte of its name or its card; where it has none, this
 abbrev pub unless_returned : List ℕ → Reason → Reason

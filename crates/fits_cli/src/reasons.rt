@@ -3,29 +3,92 @@ ghost use Rattle.std.specs.Prelude.{◌≡◌, true, Some};
 ghost use Rattle.std.specs.Char.{is_ascii_lowercase};
 ghost use Rattle.std.specs.List.{list_any};
 ghost use Rattle.fits_script.specs.Misfit.{ends_in_return};
-ghost use Rattle.fits_cli.specs.Remark.{clues_of, name_in, name_of_cards, name_of_edit, name_of_hdu, name_reason, reason_of, unless_returned};
-ghost use Rattle.fits_cli.specs.Remark.{unwritable_in, unwritable_of_cards, unwritable_of_edit, unwritable_of_hdu, value_reason};
+ghost use Rattle.fits_cli.specs.Remark.{clues_of, clues_of_cards, clues_of_edit, clues_of_hdu, name_alone, no_clues};
+ghost use Rattle.fits_cli.specs.Remark.{name_reason, reason_of, unless_returned, value_reason};
 
 use crate::clues::Clues;
 use crate::reason::Reason;
 use fits_card::Name;
 use fits_script::{Command, ends_in_return};
 use fits_session::{CardEdit, Edit, HduEdit, Refusal};
-use fits_value::{Unwritable, unwritable_of};
+use fits_value::{Unwritable, writable};
 
 /// What a command tells of why it may be refused, where that is wanted.
 pub(crate) fn clues_of(wanted: bool, command: &Command) -> Clues
     ensures { wanted ≡ true → result ≡ clues_of command.now }
 {
-    if !wanted {
-        return Clues {
-            name: None,
-            unwritable: None,
-        };
+    if wanted {
+        clues_in(command)
+    } else {
+        no_clues()
     }
+}
+
+// A command that tells nothing.
+fn no_clues() -> Clues
+    ensures { result ≡ no_clues }
+{
     Clues {
-        name: name_in(command),
-        unwritable: unwritable_in(command),
+        name: None,
+        unwritable: None,
+    }
+}
+
+// One that tells a keyword name alone.
+fn name_alone(name: &Name) -> Clues
+    ensures { result ≡ name_alone name.now }
+{
+    Clues {
+        name: Some(*name),
+        unwritable: None,
+    }
+}
+
+#[tactic(auto, unfolding(crate::specs::Remark::clues_of))]
+fn clues_in(command: &Command) -> Clues
+    ensures { result ≡ clues_of command.now }
+{
+    match command {
+        Command::Get { name, .. } => name_alone(name),
+        Command::Positions { name, .. } => name_alone(name),
+        Command::Edit(edit) => clues_of_edit(edit),
+        _ => no_clues(),
+    }
+}
+
+fn clues_of_edit(edit: &Edit) -> Clues
+    ensures { result ≡ clues_of_edit edit.now }
+{
+    match edit {
+        Edit::Hdu { edit, .. } => clues_of_hdu(edit),
+        _ => no_clues(),
+    }
+}
+
+fn clues_of_hdu(edit: &HduEdit) -> Clues
+    ensures { result ≡ clues_of_hdu edit.now }
+{
+    match edit {
+        HduEdit::Cards(edit) => clues_of_cards(edit),
+        _ => no_clues(),
+    }
+}
+
+// The keyword, and why what it is given can't be written.
+fn clues_of_cards(edit: &CardEdit) -> Clues
+    ensures { result ≡ clues_of_cards edit.now }
+{
+    match edit {
+        CardEdit::Set {
+            name,
+            value,
+            comment,
+        } => Clues {
+            name: Some(*name),
+            unwritable: writable(value, comment).err(),
+        },
+        CardEdit::Unset { name } => name_alone(name),
+        _ => no_clues(),
     }
 }
 
@@ -87,84 +150,5 @@ fn value_reason(why: Option<Unwritable>) -> Reason
     match why {
         Some(why) => Reason::Unwritten(why),
         None => Reason::Plain,
-    }
-}
-
-// The keyword name that a command has.
-#[tactic(auto, unfolding(crate::specs::Remark::name_in))]
-fn name_in(command: &Command) -> Option<Name>
-    ensures { result ≡ name_in command.now }
-{
-    match command {
-        Command::Get { name, .. } => Some(*name),
-        Command::Positions { name, .. } => Some(*name),
-        Command::Edit(edit) => name_of_edit(edit),
-        _ => None,
-    }
-}
-
-fn name_of_edit(edit: &Edit) -> Option<Name>
-    ensures { result ≡ name_of_edit edit.now }
-{
-    match edit {
-        Edit::Hdu { edit, .. } => name_of_hdu(edit),
-        _ => None,
-    }
-}
-
-fn name_of_hdu(edit: &HduEdit) -> Option<Name>
-    ensures { result ≡ name_of_hdu edit.now }
-{
-    match edit {
-        HduEdit::Cards(edit) => name_of_cards(edit),
-        _ => None,
-    }
-}
-
-fn name_of_cards(edit: &CardEdit) -> Option<Name>
-    ensures { result ≡ name_of_cards edit.now }
-{
-    match edit {
-        CardEdit::Set { name, .. } => Some(*name),
-        CardEdit::Unset { name } => Some(*name),
-        _ => None,
-    }
-}
-
-// Why what a command gives a keyword can't be written.
-#[tactic(auto, unfolding(crate::specs::Remark::unwritable_in))]
-fn unwritable_in(command: &Command) -> Option<Unwritable>
-    ensures { result ≡ unwritable_in command.now }
-{
-    match command {
-        Command::Edit(edit) => unwritable_of_edit(edit),
-        _ => None,
-    }
-}
-
-fn unwritable_of_edit(edit: &Edit) -> Option<Unwritable>
-    ensures { result ≡ unwritable_of_edit edit.now }
-{
-    match edit {
-        Edit::Hdu { edit, .. } => unwritable_of_hdu(edit),
-        _ => None,
-    }
-}
-
-fn unwritable_of_hdu(edit: &HduEdit) -> Option<Unwritable>
-    ensures { result ≡ unwritable_of_hdu edit.now }
-{
-    match edit {
-        HduEdit::Cards(edit) => unwritable_of_cards(edit),
-        _ => None,
-    }
-}
-
-fn unwritable_of_cards(edit: &CardEdit) -> Option<Unwritable>
-    ensures { result ≡ unwritable_of_cards edit.now }
-{
-    match edit {
-        CardEdit::Set { value, comment, .. } => unwritable_of(value, comment),
-        _ => None,
     }
 }
