@@ -1,13 +1,11 @@
 -- The steps along a chain: what the links after a text come to, by the first of them.
 use Rattle.std.proofs.Common.{◌≡◌, ℕ, ◌≤◌, ◌<◌, ◌+◌, Bool, true, false, List, [], ◌∷◌, ◌++◌, length, drop, get_or, Option, None, Some, refl, sym, ◌∙◌, ap, inl, inr, append_assoc}
-use Rattle.std.specs.Prelude.{IsTrue, ◌↔◌}
 use Rattle.std.specs.Option.{option_map}
-use Rattle.std.proofs.lemmas.Bool.{cases_Bool, cases_lt, both_ways, false_from_ne_true, cond-true, cond-false}
+use Rattle.std.proofs.lemmas.Bool.{cases_Bool, cases_lt, cond-true, cond-false}
 use Rattle.std.proofs.lemmas.List.{drop_all, drop_more}
 use Rattle.fits_value.proofs.FrontLemmas.{chosen}
 use Rattle.fits_value.proofs.ReadLemmas.{Said}
-use Rattle.fits_value.proofs.AmpersandLemmas.{ampersand_told, ampersand_said}
-use Rattle.fits_value.specs.LongString.{EndsInAmpersand, without_last}
+use Rattle.fits_value.specs.LongString.{without_last}
 use Rattle.fits_value.specs.Says.{card_says, said_string, card_string, is_continue, string_with, link_string, link_says, link_before, links_of, ends_in_ampersand, joined, links_after}
 use Rattle.fits_value.specs.declared.value.Value.{Value}
 use Rattle.fits_value.specs.declared.value.Value.TheVariants.{Str}
@@ -39,25 +37,18 @@ next_some text comment link card rest e = elim (chosen (ends_in_ampersand text) 
   | inr w ↦ absurd (let z = w.1 in (cc))
 ]
 
--- whether a text ends in an ampersand
-is_open_as : (text : List ℕ) (b : Bool) → IsTrue b ↔ EndsInAmpersand text → b ≡ ends_in_ampersand text
-is_open_as text b h = elim (cases_Bool b) [
-  | inl e ↦ e ∙ sym (ampersand_said text (h.0 e))
-  | inr e ↦ e ∙ sym (false_from_ne_true (ends_in_ampersand text) (λ is. both_ways b e (h.1 (ampersand_told text is))))
-]
-
 -- nothing continues a text after the last card
 pub next_link-end : (text : List ℕ) (place : ℕ) (cards : List (List ℕ)) → length cards ≤ place → next_link text (drop place cards) ≡ None
 next_link-end text place cards within = ap (λ (x : List (List ℕ)). next_link text x) (drop_all place cards within)
 
 -- nor one that ends in no ampersand
-pub next_link-closed : (text : List ℕ) (cards : List (List ℕ)) (b : Bool) → IsTrue b ↔ EndsInAmpersand text → b ≡ false → next_link text cards ≡ None
+pub next_link-closed : (text : List ℕ) (cards : List (List ℕ)) (b : Bool) → b ≡ ends_in_ampersand text → b ≡ false → next_link text cards ≡ None
 next_link-closed text [] b h e = refl
-next_link-closed text (card ∷ cards) b h e = cond-false (ends_in_ampersand text) _ _ (sym (is_open_as text b h) ∙ e)
+next_link-closed text (card ∷ cards) b h e = cond-false (ends_in_ampersand text) _ _ (sym h ∙ e)
 
 -- the link of the next card
-pub next_link-open : (text : List ℕ) (cards : List (List ℕ)) (card : List ℕ) (rest : List (List ℕ)) (b : Bool) → IsTrue b ↔ EndsInAmpersand text → b ≡ true → cards ≡ card ∷ rest → next_link text cards ≡ link_says card
-next_link-open text cards card rest b h e at = ap (λ (x : List (List ℕ)). next_link text x) at ∙ cond-true (ends_in_ampersand text) _ _ (sym (is_open_as text b h) ∙ e)
+pub next_link-open : (text : List ℕ) (cards : List (List ℕ)) (card : List ℕ) (rest : List (List ℕ)) (b : Bool) → b ≡ ends_in_ampersand text → b ≡ true → cards ≡ card ∷ rest → next_link text cards ≡ link_says card
+next_link-open text cards card rest b h e at = ap (λ (x : List (List ℕ)). next_link text x) at ∙ cond-true (ends_in_ampersand text) _ _ (sym h ∙ e)
 
 -- the string of a link
 pub link_string-said : (card : List ℕ) → link_string card ≡ option_map (λ (x : Link). x.0) (link_says card)

@@ -1,6 +1,6 @@
 -- Written cards are cards of a header before its END.
-use Rattle.std.proofs.Common.{◌≡◌, ℕ, zero, suc, ◌&&◌, true, false, not, eqb, leb, List, [], ◌∷◌, ◌++◌, length, take, drop, codes, bytes_eq, All, Option, None, Some, Result, Ok, Err, refl, sym, ◌∙◌, ap, subst, inl, inr}
-use Rattle.std.specs.Prelude.{IfOk, OnOk, IsTrue}
+use Rattle.std.proofs.Common.{◌≡◌, ℕ, zero, suc, true, false, not, eqb, leb, List, [], ◌∷◌, ◌++◌, length, take, drop, codes, bytes_eq, All, Option, None, Some, Result, Ok, Err, refl, sym, ◌∙◌, ap, subst, inl, inr}
+use Rattle.std.specs.Prelude.{IfOk, OnOk, IsTrue, is_ok}
 use Rattle.std.proofs.lemmas.Bool.{cases_Bool, and_parts, cond-true, cond-false, not-true, eqb-true}
 use Rattle.std.proofs.lemmas.List.Elements.{All-cons, All-nil}
 use Rattle.std.proofs.lemmas.Slice.Eq.{bytes_eq-Decides}
@@ -9,7 +9,7 @@ use Rattle.fits_card.specs.Header.{IsInnerCard}
 use Rattle.fits_card.specs.Name.{end_name, is_valueless, is_spelled, is_settable}
 use Rattle.fits_value.proofs.WrittenLemmas.{commented_after, lead_name}
 use Rattle.fits_value.specs.Spelling.{doubled}
-use Rattle.fits_value.specs.Written.{value_lead, value_field, continue_lead, card_of, quoted, fitting, cards_of_string, is_long, characters_of, cards_of, all_fit, is_writable, is_writable_value, is_writable_comment, write_says}
+use Rattle.fits_value.specs.Written.{value_lead, value_field, continue_lead, card_of, quoted, fitting, cards_of_string, is_long, characters_of, cards_of, all_fit, writable_parts, is_writable, write_says}
 use Rattle.fits_value.proofs.WritableLemmas.{says_parts}
 use Rattle.fits_value.specs.declared.value.Value.{Value}
 use Rattle.fits_value.specs.declared.write.WriteFault.{WriteFault}
@@ -94,5 +94,5 @@ pub inner_written : (written : List (List ℕ)) (name : List ℕ) (value : Value
 unfolding is_writable
 inner_written written name value comment size settable e =
     let w = says_parts name value comment written e in
-    let fits = (and_parts (is_writable_value value && is_writable_comment comment) (all_fit (cards_of name value comment)) w.0).1 in
+    let fits = (and_parts (is_ok (writable_parts value comment)) (all_fit (cards_of name value comment)) w.0).1 in
     subst (λ (x : List (List ℕ)). All IsInnerCard x) w.1 (inner_cards name value comment size (settable_valued name settable) fits)

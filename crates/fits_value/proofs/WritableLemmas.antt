@@ -1,8 +1,9 @@
 -- Which values and comments can be written.
-use Rattle.std.proofs.Common.{◌≡◌, ℕ, suc, ◌≤◌, ◌&&◌, ◌||◌, Bool, true, not, eqb, List, [], ◌∷◌, length, take, All, Option, Some, None, sym, refl, ◌∙◌, ap, subst, arith, inl, inr, bytes_eq}
-use Rattle.std.specs.Prelude.{◌↔◌, IsTrue, IfSome}
+use Rattle.std.proofs.Common.{◌≡◌, ℕ, suc, ◌≤◌, ◌&&◌, ◌||◌, Bool, true, false, not, eqb, List, [], ◌∷◌, length, take, All, Option, Some, None, sym, refl, ◌∙◌, ap, subst, arith, inl, inr, bytes_eq}
+use Rattle.std.specs.Prelude.{◌↔◌, IsTrue, IsOk, IfSome, Result, Ok, Err, is_ok}
 use Rattle.std.specs.Cmp.{both_ways}
 use Rattle.std.specs.List.{suffix_len}
+use Rattle.std.specs.Result.{result_and}
 use Rattle.std.proofs.Math.Seq.{take-length}
 use Rattle.std.proofs.lemmas.List.{length-take-le}
 use Rattle.std.proofs.lemmas.List.Elements.{All-cons, All-nil}
@@ -18,9 +19,11 @@ use Rattle.fits_value.specs.Spelling.{is_space, Spells}
 use Rattle.fits_value.specs.Scan.{number_of}
 use Rattle.fits_value.specs.Text.{normal_form}
 use Rattle.fits_value.specs.Says.{ends_in_ampersand}
-use Rattle.fits_value.specs.Written.{cards_of, IsWritableValue, IsWritableComment, IsWritable, whole_kind, number_kind, is_integer_kind, is_real_kind, is_integer, is_real, is_number, is_writable_string, is_writable_value, is_writable_comment, all_fit, is_writable, write_says}
+use Rattle.fits_value.specs.Written.{cards_of, IsWritableValue, IsWritableComment, IsWritable, whole_kind, number_kind, is_integer_kind, is_real_kind, is_integer, is_real, is_number, unless, writable_string, writable_value, writable_comment, writable_parts, all_fit, is_writable, write_says}
 use Rattle.fits_value.specs.declared.reading.ValueKind.{ValueKind}
 use Rattle.fits_value.specs.declared.reading.ValueKind.TheVariants.{Undefined, Logical, Integer, Real, Complex, Str}
+use Rattle.fits_value.specs.declared.unwritable.Unwritable.{Unwritable}
+use Rattle.fits_value.specs.declared.unwritable.Unwritable.TheVariants.{NotNumber, StringBytes, StringSpaces, StringAmpersand, CommentBytes, CommentSpaces}
 use Rattle.fits_value.specs.declared.value.Value.{Value}
 use Rattle.fits_value.specs.declared.value.Value.TheVariants as value
 
@@ -101,36 +104,63 @@ number_tested s = (
   ],
 )
 
--- and characters that can be written
-string_tested : (s : List ℕ) → IsTrue (is_writable_string s) ↔ IsWritableValue (value.Str s)
-unfolding is_writable_string
-string_tested s = (
-  λ h.
-      let p = and_parts (is_text s) (bytes_eq (normal_form s) s && not (ends_in_ampersand s)) h in
-      let q = and_parts (bytes_eq (normal_form s) s) (not (ends_in_ampersand s)) p.1 in
-      (p.0, (bytes_eq-Decides (normal_form s) s).0 q.0, λ e. (let z = sym (not-true (ends_in_ampersand s) q.1) ∙ ampersand_said s e in absurd (cc))),
-  λ w. and_from _ _ w.0 (and_from _ _ ((bytes_eq-Decides (normal_form s) s).1 w.1) (not_from_false (ends_in_ampersand s) (false_from_ne_true (ends_in_ampersand s) (λ e. w.2 (ampersand_told s e))))),
-)
+-- it is so where a test holds
+pub unless_ok : (test : Bool) (why : Unwritable) → is_ok (unless test why) ≡ test
+unless_ok true why = refl
+unless_ok false why = refl
 
--- a value can be written exactly where it is found to
-value_tested : (value : Value) → IsTrue (is_writable_value value) ↔ IsWritableValue value
+-- and where two do
+pub and_ok : (a b : Result (Unit {0}) Unwritable) → is_ok (result_and a b) ≡ is_ok a && is_ok b
+and_ok (Ok done) b = refl
+and_ok (Err why) b = refl
+
+-- two tests in turn
+two_ok : (a b : Bool) (x y : Unwritable) → is_ok (result_and (unless a x) (unless b y)) ≡ a && b
+two_ok a b x y = and_ok (unless a x) (unless b y) ∙ rw (unless_ok a x, unless_ok b y) refl
+
+-- a string can be written exactly where it is found to
+string_tested : (s : List ℕ) → IsOk (writable_string s) ↔ IsWritableValue (value.Str s)
+unfolding writable_string
+string_tested s =
+    let a = is_text s in
+    let b = bytes_eq (normal_form s) s in
+    let c = not (ends_in_ampersand s) in
+    let tests : is_ok (result_and (result_and (unless a StringBytes) (unless b StringSpaces)) (unless c StringAmpersand)) ≡ a && b && c =
+    and_ok (result_and (unless a StringBytes) (unless b StringSpaces)) (unless c StringAmpersand) ∙ rw (two_ok a b StringBytes StringSpaces, unless_ok c StringAmpersand) refl in (
+      λ h.
+          let p = and_parts (a && b) c (sym tests ∙ h) in
+          let q = and_parts a b p.0 in
+          (q.0, (bytes_eq-Decides (normal_form s) s).0 q.1, λ e. (let z = sym (not-true (ends_in_ampersand s) p.1) ∙ ampersand_said s e in absurd (cc))),
+      λ w. tests ∙ and_from _ _ (and_from _ _ w.0 ((bytes_eq-Decides (normal_form s) s).1 w.1)) (not_from_false (ends_in_ampersand s) (false_from_ne_true (ends_in_ampersand s) (λ e. w.2 (ampersand_told s e)))),
+    )
+
+-- and a value
+value_tested : (value : Value) → IsOk (writable_value value) ↔ IsWritableValue value
+unfolding writable_value
 value_tested value.Undefined = (λ _. tt, λ _. refl)
 value_tested (value.Logical flag) = (λ _. tt, λ _. refl)
-value_tested (value.Integer text) = integer_tested text
-value_tested (value.Real text) = real_tested text
-value_tested (value.Complex real imaginary) = (
-  λ h. let p = and_parts (is_number real) (is_number imaginary) h in ((number_tested real).0 p.0, (number_tested imaginary).0 p.1),
-  λ w. and_from _ _ ((number_tested real).1 w.0) ((number_tested imaginary).1 w.1),
-)
+value_tested (value.Integer text) =
+    let test = unless_ok (is_integer text) NotNumber in
+    (λ h. (integer_tested text).0 (sym test ∙ h), λ w. test ∙ (integer_tested text).1 w)
+value_tested (value.Real text) =
+    let test = unless_ok (is_real text) NotNumber in
+    (λ h. (real_tested text).0 (sym test ∙ h), λ w. test ∙ (real_tested text).1 w)
+value_tested (value.Complex real imaginary) =
+    let test = unless_ok (is_number real && is_number imaginary) NotNumber in (
+      λ h. let p = and_parts (is_number real) (is_number imaginary) (sym test ∙ h) in ((number_tested real).0 p.0, (number_tested imaginary).0 p.1),
+      λ w. test ∙ and_from _ _ ((number_tested real).1 w.0) ((number_tested imaginary).1 w.1),
+    )
 value_tested (value.Str text) = string_tested text
 
 -- and a comment
-comment_tested : (comment : Option (List ℕ)) → IsTrue (is_writable_comment comment) ↔ IfSome comment IsWritableComment
+comment_tested : (comment : Option (List ℕ)) → IsOk (writable_comment comment) ↔ IfSome comment IsWritableComment
+unfolding writable_comment
 comment_tested None = (λ _. tt, λ _. refl)
-comment_tested (Some text) = (
-  λ h. let p = and_parts (is_text text) (eqb (suffix_len is_space text) 0) h in (p.0, eqb-true (suffix_len is_space text) 0 p.1),
-  λ w. and_from _ _ w.0 (eq-eqb (suffix_len is_space text) 0 w.1),
-)
+comment_tested (Some text) =
+    let tests = two_ok (is_text text) (eqb (suffix_len is_space text) 0) CommentBytes CommentSpaces in (
+      λ h. let p = and_parts (is_text text) (eqb (suffix_len is_space text) 0) (sym tests ∙ h) in (p.0, eqb-true (suffix_len is_space text) 0 p.1),
+      λ w. tests ∙ and_from _ _ w.0 (eq-eqb (suffix_len is_space text) 0 w.1),
+    )
 
 -- cards fit exactly where each has 80 bytes
 fit_tested : (cards : List (List ℕ)) → IsTrue (all_fit cards) ↔ All (λ card. length card ≡ 80) cards
@@ -145,17 +175,17 @@ fit_tested (card ∷ cards) =
 pub what_can_be_written : (name : List ℕ) (value : Value) (comment : Option (List ℕ)) → IsTrue (is_writable name value comment) ↔ IsWritable name value comment
 unfolding is_writable
 what_can_be_written name value comment =
-    let can = is_writable_value value && is_writable_comment comment in
+    let parts = and_ok (writable_value value) (writable_comment comment) in
     let fits = all_fit (cards_of name value comment) in (
       λ h.
-          let p = and_parts can fits h in
-          let q = and_parts (is_writable_value value) (is_writable_comment comment) p.0 in
+          let p = and_parts (is_ok (writable_parts value comment)) fits h in
+          let q = and_parts (is_ok (writable_value value)) (is_ok (writable_comment comment)) (sym parts ∙ p.0) in
           record {
             is_value = (value_tested value).0 q.0;
             is_comment = (comment_tested comment).0 q.1;
             fits = (fit_tested (cards_of name value comment)).0 p.1;
           },
-      λ w. and_from _ _ (and_from _ _ ((value_tested value).1 w.is_value) ((comment_tested comment).1 w.is_comment)) ((fit_tested (cards_of name value comment)).1 w.fits),
+      λ w. and_from _ _ (parts ∙ and_from _ _ ((value_tested value).1 w.is_value) ((comment_tested comment).1 w.is_comment)) ((fit_tested (cards_of name value comment)).1 w.fits),
     )
 
 -- what has cards can be written, and these are they

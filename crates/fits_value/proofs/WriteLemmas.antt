@@ -1,13 +1,13 @@
 -- Cards that are written, and those that are too long.
 use Rattle.std.proofs.Common.{◌≡◌, ℕ, ◌<◌, ◌≤◌, ◌+◌, ◌-◌, ◌&&◌, Bool, true, false, cond, eqb, ltb, List, [], ◌∷◌, ◌++◌, length, take, drop, replicate, get_or, Option, None, Some, Result, Ok, Err, sym, ◌∙◌, ap, subst, arith, inl, inr, length-append}
-use Rattle.std.specs.Prelude.{IfOk, OnOk, IsTrue}
+use Rattle.std.specs.Prelude.{IfOk, OnOk, IsTrue, is_ok}
 use Rattle.std.proofs.Math.Seq.{get_or-append_seam}
 use Rattle.std.proofs.lemmas.List.{append-nil}
 use Rattle.std.proofs.lemmas.List.Folds.{list_all_at}
 use Rattle.std.proofs.lemmas.Bool.{cond-true, cond-false, lt-ltb, cases_Bool, eq-eqb, eqb-true, false_from_ne_true}
 use Rattle.fits_value.proofs.PieceLemmas.{string_end, string_more, doubled_least, card_size, open_size, piece_some, split_size}
 use Rattle.fits_value.specs.Spelling.{doubled}
-use Rattle.fits_value.specs.Written.{fitting, filled, quoted, card_of, continue_lead, cards_of_string, all_fit, cards_of, is_writable_value, is_writable_comment, is_writable, write_says}
+use Rattle.fits_value.specs.Written.{fitting, filled, quoted, card_of, continue_lead, cards_of_string, all_fit, cards_of, writable_parts, is_writable, write_says}
 use Rattle.fits_value.specs.declared.value.Value.{Value}
 use Rattle.fits_value.specs.declared.write.WriteFault.{WriteFault}
 use Rattle.fits_value.specs.declared.write.WriteFault.TheVariants.{BadValue}
@@ -85,14 +85,12 @@ filled_is (c ∷ s) fill len e f =
     ap (λ (x : List ℕ). (c ∷ s) ++ x) is ∙ sym (cond-true (ltb 0 (length (c ∷ s))) ((c ∷ s) ++ replicate (8 - length (doubled (c ∷ s))) 32) [] (lt-ltb 0 (length (c ∷ s)) (omega arith)))
 
 -- what can't be written has no cards
-pub bad_says : (name : List ℕ) (value : Value) (comment : Option (List ℕ)) → is_writable_value value && is_writable_comment comment ≡ false → write_says name value comment ≡ None
+pub bad_says : (name : List ℕ) (value : Value) (comment : Option (List ℕ)) → is_ok (writable_parts value comment) ≡ false → write_says name value comment ≡ None
 unfolding write_says is_writable
-bad_says name value comment h =
-    let can : is_writable_value value && is_writable_comment comment && all_fit (cards_of name value comment) ≡ false = ap (λ (b : Bool). b && all_fit (cards_of name value comment)) h in
-    cond-false (is_writable_value value && is_writable_comment comment && all_fit (cards_of name value comment)) _ None can
+bad_says name value comment h = cond-false (is_ok (writable_parts value comment) && all_fit (cards_of name value comment)) _ None (ap (λ (b : Bool). b && all_fit (cards_of name value comment)) h)
 
 -- what can be has, where they fit
-pub says_fit : (name : List ℕ) (value : Value) (comment : Option (List ℕ)) → is_writable_value value && is_writable_comment comment ≡ true
+pub says_fit : (name : List ℕ) (value : Value) (comment : Option (List ℕ)) → is_ok (writable_parts value comment) ≡ true
     → write_says name value comment ≡ cond (all_fit (cards_of name value comment)) (Some (cards_of name value comment)) None
 unfolding write_says is_writable
 says_fit name value comment h = ap (λ (b : Bool). cond (b && all_fit (cards_of name value comment)) (Some (cards_of name value comment)) None) h

@@ -1,17 +1,11 @@
--- Why a value and a comment can't be written, or don't fit their cards (own).
-use Rattle.std.specs.Prelude.{ℕ, zero, suc, ◌+◌, ◌-◌, ◌==◌, nat_le, nat_lt, max, Bool, not, ◌&&◌, List, length, drop, Option, None, Some, if◌then◌else◌}
-use Rattle.std.specs.List.{suffix_len}
-use Rattle.std.specs.Option.{option_or}
-use Rattle.std.specs.Str.{bytes_eq}
-use Rattle.fits_card.specs.Card.{is_text}
-use Rattle.fits_value.specs.Spelling.{is_space, doubled}
-use Rattle.fits_value.specs.Says.{ends_in_ampersand}
-use Rattle.fits_value.specs.Text.{normal_form}
-use Rattle.fits_value.specs.Written.{quoted, value_field, fitting, is_long, characters_of, is_integer, is_real, is_number}
+-- Whether a value and a comment can be written and fit their cards, and why not (own).
+use Rattle.std.specs.Prelude.{ℕ, zero, suc, ◌+◌, ◌-◌, nat_le, nat_lt, max, List, length, drop, Option, None, Some, Result, Ok, Err, if◌then◌else◌}
+use Rattle.std.specs.Result.{result_and}
+use Rattle.fits_value.specs.Spelling.{doubled}
+use Rattle.fits_value.specs.Written.{quoted, value_field, fitting, is_long, characters_of, unless, writable_parts}
 use Rattle.fits_value.specs.declared.unwritable.Unwritable.{Unwritable}
-use Rattle.fits_value.specs.declared.unwritable.Unwritable.TheVariants.{NotNumber, StringBytes, StringSpaces, StringAmpersand, CommentBytes, CommentSpaces, LongNumber, NoRoom, LongComment}
+use Rattle.fits_value.specs.declared.unwritable.Unwritable.TheVariants.{LongNumber, NoRoom, LongComment}
 use Rattle.fits_value.specs.declared.value.Value.{Value}
-use Rattle.fits_value.specs.declared.value.Value.TheVariants.{Undefined, Logical, Integer, Real, Complex, Str}
 
 -- what the last card has of a string over at most so many cards and one more (4.2.1.2)
 abbrev pub last_piece : ℕ → List ℕ → List ℕ
@@ -34,44 +28,17 @@ value_end value = 10 + length (last_field value)
 abbrev pub comment_room : ℕ → ℕ
 comment_room before = 78 - max 30 before
 
--- this fault, where a test fails
-abbrev pub unless : Bool → Unwritable → Option Unwritable
-unless test fault = if test then None else Some fault
-
--- why the characters of a string can't be written: bytes that aren't text, spaces at its end, an ampersand there
-unfoldable pub string_fault : List ℕ → Option Unwritable
-string_fault text =
-    if not (is_text text) then Some StringBytes
-    else if not (bytes_eq (normal_form text) text) then Some StringSpaces
-    else unless (not (ends_in_ampersand text)) StringAmpersand
-
--- why a value can't be
-unfoldable pub value_fault : Value → Option Unwritable
-value_fault Undefined = None
-value_fault (Logical flag) = None
-value_fault (Integer text) = unless (is_integer text) NotNumber
-value_fault (Real text) = unless (is_real text) NotNumber
-value_fault (Complex real imaginary) = unless (is_number real && is_number imaginary) NotNumber
-value_fault (Str text) = string_fault text
-
--- why a comment can't be: bytes that aren't text, spaces at its end
-unfoldable pub comment_fault : Option (List ℕ) → Option Unwritable
-comment_fault None = None
-comment_fault (Some comment) =
-    if not (is_text comment) then Some CommentBytes else unless (suffix_len is_space comment == 0) CommentSpaces
-
--- why a comment doesn't fit after so many bytes
-abbrev pub comment_room_fault : ℕ → Option (List ℕ) → Option Unwritable
-comment_room_fault before None = None
-comment_room_fault before (Some comment) =
-    if nat_lt 78 before then Some NoRoom
+-- a comment has room after so many bytes, or why not
+abbrev pub comment_has_room : ℕ → Option (List ℕ) → Result (Unit {0}) Unwritable
+comment_has_room before None = Ok tt
+comment_has_room before (Some comment) =
+    if nat_lt 78 before then Err NoRoom
     else unless (nat_le (length comment) (comment_room before)) (LongComment (length comment) (comment_room before))
 
--- why a card doesn't hold so many bytes and a comment
-unfoldable pub room_fault : ℕ → Option (List ℕ) → Option Unwritable
-room_fault before comment = if nat_lt 80 before then Some LongNumber else comment_room_fault before comment
+-- a card has room for so many bytes and a comment, or why not
+unfoldable pub has_room : ℕ → Option (List ℕ) → Result (Unit {0}) Unwritable
+has_room before comment = if nat_lt 80 before then Err LongNumber else comment_has_room before comment
 
--- why a value and a comment can't be written: the first fault of the value, of the comment, of the room for both
-unfoldable pub unwritable_of : Value → Option (List ℕ) → Option Unwritable
-unwritable_of value comment =
-    option_or (option_or (value_fault value) (comment_fault comment)) (room_fault (value_end value) comment)
+-- a value and a comment can be written, or the first fault: of the value, of the comment, of the room for both
+unfoldable pub writable : Value → Option (List ℕ) → Result (Unit {0}) Unwritable
+writable value comment = result_and (writable_parts value comment) (has_room (value_end value) comment)

@@ -1,6 +1,7 @@
 -- The cards that a value and a comment are written to (FITS Standard 4.0, sections 4.1.2.3 and 4.2; layout own).
-use Rattle.std.specs.Prelude.{◌≡◌, ℕ, zero, suc, ◌+◌, ◌-◌, ◌==◌, nat_le, nat_lt, Bool, true, false, not, ◌&&◌, ◌||◌, List, [], ◌∷◌, ◌++◌, length, take, drop, replicate, codes, All, Option, None, Some, IfSome, if◌then◌else◌}
+use Rattle.std.specs.Prelude.{◌≡◌, ℕ, zero, suc, ◌+◌, ◌-◌, ◌==◌, nat_le, nat_lt, Bool, true, false, not, ◌&&◌, ◌||◌, List, [], ◌∷◌, ◌++◌, length, take, drop, replicate, codes, All, Option, None, Some, IfSome, Result, Ok, Err, is_ok, if◌then◌else◌}
 use Rattle.std.specs.List.{list_all, suffix_len}
+use Rattle.std.specs.Result.{result_and}
 use Rattle.std.specs.Str.{bytes_eq}
 use Rattle.fits_card.specs.Card.{IsText, is_text, card_of_text}
 use Rattle.fits_value.specs.Number.{IsInteger, IsReal, IsNumber}
@@ -11,6 +12,8 @@ use Rattle.fits_value.specs.LongString.{EndsInAmpersand}
 use Rattle.fits_value.specs.Says.{ends_in_ampersand}
 use Rattle.fits_value.specs.declared.reading.ValueKind.{ValueKind}
 use Rattle.fits_value.specs.declared.reading.ValueKind.TheVariants as kind
+use Rattle.fits_value.specs.declared.unwritable.Unwritable.{Unwritable}
+use Rattle.fits_value.specs.declared.unwritable.Unwritable.TheVariants.{NotNumber, StringBytes, StringSpaces, StringAmpersand, CommentBytes, CommentSpaces}
 use Rattle.fits_value.specs.declared.value.Value.{Value}
 use Rattle.fits_value.specs.declared.value.Value.TheVariants.{Undefined, Logical, Integer, Real, Complex, Str}
 
@@ -136,24 +139,35 @@ is_real text = is_real_kind (number_kind text)
 abbrev pub is_number : List ℕ → Bool
 is_number text = is_integer text || is_real text
 
--- characters of a string that can be written
-unfoldable pub is_writable_string : List ℕ → Bool
-is_writable_string text =
-    is_text text && (bytes_eq (normal_form text) text && not (ends_in_ampersand text))
+-- where a test fails, this is why (own)
+abbrev pub unless : Bool → Unwritable → Result (Unit {0}) Unwritable
+unless test why = if test then Ok tt else Err why
 
--- a value that can be written
-abbrev pub is_writable_value : Value → Bool
-is_writable_value Undefined = true
-is_writable_value (Logical flag) = true
-is_writable_value (Integer text) = is_integer text
-is_writable_value (Real text) = is_real text
-is_writable_value (Complex real imaginary) = is_number real && is_number imaginary
-is_writable_value (Str text) = is_writable_string text
+-- characters of a string can be written, or the first that is wrong: bytes that aren't text, spaces at the end, an ampersand there
+unfoldable pub writable_string : List ℕ → Result (Unit {0}) Unwritable
+writable_string text =
+    result_and
+    (result_and (unless (is_text text) StringBytes) (unless (bytes_eq (normal_form text) text) StringSpaces))
+    (unless (not (ends_in_ampersand text)) StringAmpersand)
 
--- a comment that can be written, or none
-abbrev pub is_writable_comment : Option (List ℕ) → Bool
-is_writable_comment None = true
-is_writable_comment (Some comment) = is_text comment && (suffix_len is_space comment == 0)
+-- a value can be written, or why not
+unfoldable pub writable_value : Value → Result (Unit {0}) Unwritable
+writable_value Undefined = Ok tt
+writable_value (Logical flag) = Ok tt
+writable_value (Integer text) = unless (is_integer text) NotNumber
+writable_value (Real text) = unless (is_real text) NotNumber
+writable_value (Complex real imaginary) = unless (is_number real && is_number imaginary) NotNumber
+writable_value (Str text) = writable_string text
+
+-- a comment can be, or the first that is wrong: bytes that aren't text, spaces at the end
+unfoldable pub writable_comment : Option (List ℕ) → Result (Unit {0}) Unwritable
+writable_comment None = Ok tt
+writable_comment (Some comment) =
+    result_and (unless (is_text comment) CommentBytes) (unless (suffix_len is_space comment == 0) CommentSpaces)
+
+-- both can be, where they fit their cards, or the first fault: of the value, of the comment
+abbrev pub writable_parts : Value → Option (List ℕ) → Result (Unit {0}) Unwritable
+writable_parts value comment = result_and (writable_value value) (writable_comment comment)
 
 -- each of these cards has 80 bytes
 abbrev pub all_fit : List (List ℕ) → Bool
@@ -162,7 +176,7 @@ all_fit cards = list_all (λ card. length card == 80) cards
 -- a value and a comment can be written and fit their cards
 unfoldable pub is_writable : List ℕ → Value → Option (List ℕ) → Bool
 is_writable name value comment =
-    is_writable_value value && is_writable_comment comment && all_fit (cards_of name value comment)
+    is_ok (writable_parts value comment) && all_fit (cards_of name value comment)
 
 -- the cards that a value and a comment are written to, where they can be
 unfoldable pub write_says : List ℕ → Value → Option (List ℕ) → Option (List (List ℕ))

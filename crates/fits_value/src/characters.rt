@@ -1,5 +1,6 @@
 //! The characters of strings (FITS Standard 4.0, section 4.2.1).
 ghost use Rattle.std.specs.Prelude.{◌≡◌, ℕ, List, ◌≤◌, IfOk, length, take, drop};
+ghost use Rattle.std.specs.Str.{bytes_eq};
 ghost use Rattle.fits_value.specs.Spelling.{doubled, IsSpaces};
 ghost use Rattle.fits_value.specs.Scan.{undoubled};
 ghost use Rattle.fits_value.specs.Text.{normal_form};
@@ -34,6 +35,14 @@ pub(crate) fn normal_len(text: &[u8]) -> usize
 {
     let len = trimmed_len(text);
     if len == 0 { text.len().min(1) } else { len }
+}
+
+/// Whether a text is in normal form.
+#[tactic(auto, using(crate::proofs::WritableLemmas::normal_tests))]
+pub(crate) fn is_normal(text: &[u8]) -> bool
+    ensures { result ≡ bytes_eq (normal_form text.now) text.now }
+{
+    normal_len(text) == text.len()
 }
 
 /// Takes the spaces at the end off, but one of spaces alone.

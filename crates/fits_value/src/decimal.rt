@@ -4,6 +4,7 @@ ghost use Rattle.fits_value.specs.Spelling.{is_digit, IsDigits};
 ghost use Rattle.fits_value.specs.Number.{signed, value_of};
 ghost use Rattle.fits_value.specs.NumberSteps.{is_minus, after_sign, after_digits, fraction_digits, after_fraction, is_lowered, exponent_digits, after_exponent, BeginsWithDecimal};
 ghost use Rattle.fits_value.specs.Scan.{number_of};
+ghost use Rattle.fits_value.specs.Written.{number_kind, is_integer, is_real, is_number};
 ghost use Rattle.fits_value.specs.declared.reading.ValueKind.TheVariants.{Integer, Real};
 
 use crate::reading::ValueKind;
@@ -126,4 +127,34 @@ pub(crate) fn scan_number(text: &[u8]) -> Option<(ValueKind, usize)>
         ValueKind::Real
     };
     Some((kind, text.len() - rest.len()))
+}
+
+// The kind of a text that is a number.
+#[tactic(auto, unfolding(crate::specs::Written::number_kind))]
+fn number_kind(text: &[u8]) -> Option<ValueKind>
+    ensures { result ≡ number_kind text.now }
+{
+    let (kind, len) = scan_number(text)?;
+    if len == text.len() { Some(kind) } else { None }
+}
+
+/// Whether a text is an integer.
+pub(crate) fn is_integer(text: &[u8]) -> bool
+    ensures { result ≡ is_integer text.now }
+{
+    matches!(number_kind(text), Some(ValueKind::Integer))
+}
+
+/// Whether a text is a real number.
+pub(crate) fn is_real(text: &[u8]) -> bool
+    ensures { result ≡ is_real text.now }
+{
+    matches!(number_kind(text), Some(ValueKind::Real))
+}
+
+/// Whether a text is an integer or a real number.
+pub(crate) fn is_number(text: &[u8]) -> bool
+    ensures { result ≡ is_number text.now }
+{
+    is_integer(text) || is_real(text)
 }

@@ -19,7 +19,6 @@ mod text;
 mod unreadable;
 mod unwritable;
 mod value;
-mod writable;
 mod write;
 
 pub use excerpt::Excerpt;
@@ -34,6 +33,6 @@ pub use strings::{
 };
 pub use text::Text;
 pub use unreadable::{Unreadable, unreadable_of};
-pub use unwritable::{Unwritable, unwritable_of};
+pub use unwritable::{Unwritable, writable};
 pub use value::Value;
 pub use write::{WriteFault, write_value};

@@ -1,9 +1,9 @@
 //! Strings that go on over CONTINUE cards (FITS Standard 4.0, section 4.2.1.2).
-ghost use Rattle.std.specs.Prelude.{◌≡◌, ◌≤◌, ◌<◌, ◌+◌, ◌↔◌, ℕ, List, Option, None, [], ◌∷◌, ◌++◌, length, drop, IsTrue, IfOk, IfSome, Ok, OnOk};
+ghost use Rattle.std.specs.Prelude.{◌≡◌, ◌≤◌, ◌<◌, ◌+◌, ℕ, List, Option, None, [], ◌∷◌, ◌++◌, length, drop, IfOk, IfSome, Ok, OnOk};
 ghost use Rattle.fits_card.specs.CardList.{ReadsUpTo};
 ghost use Rattle.fits_value.specs.Text.{normal_form};
-ghost use Rattle.fits_value.specs.LongString.{EndsInAmpersand, cards_from, without_last};
-ghost use Rattle.fits_value.specs.Says.{link_says, links_of, links_after, whole_string, long_says, chain_length, link_count};
+ghost use Rattle.fits_value.specs.LongString.{cards_from, without_last};
+ghost use Rattle.fits_value.specs.Says.{ends_in_ampersand, link_says, links_of, links_after, whole_string, long_says, chain_length, link_count};
 ghost use Rattle.fits_value.specs.Chaining.{next_link, next_string};
 
 use crate::characters::normalize;
@@ -25,9 +25,9 @@ fn card_at(cards: &mut CardList, place: usize) -> Card
     cards.card(place)
 }
 
-// Whether a text ends in an ampersand.
-fn is_open(text: &[u8]) -> bool
-    ensures { IsTrue result ↔ EndsInAmpersand text.now }
+/// Whether a text ends in an ampersand.
+pub(crate) fn is_open(text: &[u8]) -> bool
+    ensures { result ≡ ends_in_ampersand text.now }
 {
     matches!(text, [.., b'&'])
 }

@@ -1,17 +1,19 @@
-//! Why a value and a comment can't be written, or don't fit their cards.
-ghost use Rattle.std.specs.Prelude.{◌≡◌, ◌≤◌, ◌<◌, ◌+◌, ◌-◌, ℕ, List, length, IsTrue, IfSome, IfNone, None, Some};
+//! Whether a value and a comment can be written and fit their cards, and why not.
+ghost use Rattle.std.specs.Prelude.{◌≡◌, ◌≤◌, ◌<◌, ◌+◌, ◌-◌, ℕ, List, length, IsTrue, IfSome, IfNone, None, OnErr, OnOk, Some};
 ghost use Rattle.fits_card.specs.declared.card.TheConstants.{CARD_LEN};
 ghost use Rattle.fits_value.specs.Spelling.{doubled};
-ghost use Rattle.fits_value.specs.Unwritable.{last_piece, value_end, unless, string_fault, value_fault, comment_fault, comment_room_fault, room_fault, unwritable_of};
-ghost use Rattle.fits_value.specs.Written.{is_writable, write_says};
+ghost use Rattle.fits_value.specs.Unwritable.{last_piece, value_end, comment_has_room, has_room, writable};
+ghost use Rattle.fits_value.specs.Written.{unless, writable_string, writable_value, writable_comment, writable_parts, is_writable, write_says};
 ghost use Rattle.fits_value.specs.declared.strings.TheConstants.{MOST_CHARACTERS};
 ghost use Rattle.fits_value.specs.declared.value.Value.TheVariants.{Complex, Str};
 
+use crate::characters::is_normal;
+use crate::decimal::{is_integer, is_number, is_real};
+use crate::long_string::is_open;
 use crate::spaces::trimmed_len;
 use crate::strings::MOST_CHARACTERS;
 use crate::text::Text;
 use crate::value::Value;
-use crate::writable::{is_integer, is_normal, is_number, is_open, is_real};
 use crate::write::{doubled_len, piece_len};
 use fits_card::is_text;
 
@@ -41,75 +43,75 @@ pub enum Unwritable {
     LongComment { bytes: usize, room: usize },
 }
 
-/// Why a value and a comment can't be written: the first test that fails, none where they can be.
-#[tactic(auto, using(crate::proofs::UnwritableLemmas::unwritable_steps), unfolding(crate::specs::Unwritable::unwritable_of))]
-pub fn unwritable_of(value: &Value, comment: &Option<Text>) -> Option<Unwritable>
-    ensures value { result ≡ unwritable_of value.now comment.now }
+/// Whether a value and a comment can be written and fit their cards, or the first reason why not.
+#[tactic(auto, using(crate::proofs::UnwritableLemmas::writable_steps), unfolding(crate::specs::Unwritable::writable))]
+pub fn writable(value: &Value, comment: &Option<Text>) -> Result<(), Unwritable>
+    ensures value { result ≡ writable value.now comment.now }
 
-    // It is none exactly where they can be, under whichever name.
-    ensures none { IfNone result ((name : List ℕ) → length name ≡ 8
+    // It is so under whichever name.
+    ensures ok { OnOk result ((name : List ℕ) → length name ≡ 8
         → IsTrue (is_writable name value.now comment.now)) }
-    ensures some { IfSome result (λ _. (name : List ℕ) → length name ≡ 8
+    ensures err { OnErr result ((name : List ℕ) → length name ≡ 8
         → write_says name value.now comment.now ≡ None) }
 {
-    value_fault(value)
-        .or(comment_fault(comment))
-        .or(room_fault(value, comment))
+    writable_parts(value, comment).and(has_room(value, comment))
 }
 
-// This fault, where a test fails.
-fn unless(test: bool, fault: Unwritable) -> Option<Unwritable>
-    ensures { result ≡ unless test fault }
+/// The same, where they fit.
+pub(crate) fn writable_parts(value: &Value, comment: &Option<Text>) -> Result<(), Unwritable>
+    ensures { result ≡ writable_parts value.now comment.now }
 {
-    if test { None } else { Some(fault) }
+    writable_value(value).and(writable_comment(comment))
 }
 
-// Why the characters of a string can't be written.
-#[tactic(auto, unfolding(crate::specs::Unwritable::string_fault))]
-fn string_fault(characters: &[u8]) -> Option<Unwritable>
-    ensures { result ≡ string_fault characters.now }
+// Where a test fails, this is why.
+fn unless(test: bool, why: Unwritable) -> Result<(), Unwritable>
+    ensures { result ≡ unless test why }
 {
-    if !is_text(characters) {
-        return Some(Unwritable::StringBytes);
-    }
-    if !is_normal(characters) {
-        return Some(Unwritable::StringSpaces);
-    }
-    unless(!is_open(characters), Unwritable::StringAmpersand)
+    if test { Ok(()) } else { Err(why) }
 }
 
-// Why a value can't be written.
-#[tactic(auto, unfolding(crate::specs::Unwritable::value_fault))]
-fn value_fault(value: &Value) -> Option<Unwritable>
-    ensures { result ≡ value_fault value.now }
+// Whether the characters of a string can be written.
+#[tactic(auto, unfolding(crate::specs::Written::writable_string))]
+fn writable_string(characters: &[u8]) -> Result<(), Unwritable>
+    ensures { result ≡ writable_string characters.now }
+{
+    unless(is_text(characters), Unwritable::StringBytes)
+        .and(unless(is_normal(characters), Unwritable::StringSpaces))
+        .and(unless(!is_open(characters), Unwritable::StringAmpersand))
+}
+
+// Whether a value can be written.
+#[tactic(auto, unfolding(crate::specs::Written::writable_value))]
+fn writable_value(value: &Value) -> Result<(), Unwritable>
+    ensures { result ≡ writable_value value.now }
 {
     match value {
-        Value::Undefined => None,
-        Value::Logical(_) => None,
+        Value::Undefined => Ok(()),
+        Value::Logical(_) => Ok(()),
         Value::Integer(text) => unless(is_integer(text.as_bytes()), Unwritable::NotNumber),
         Value::Real(text) => unless(is_real(text.as_bytes()), Unwritable::NotNumber),
         Value::Complex(real, imaginary) => {
             let are_numbers = is_number(real.as_bytes()) && is_number(imaginary.as_bytes());
             unless(are_numbers, Unwritable::NotNumber)
         }
-        Value::Str(text) => string_fault(text.as_bytes()),
+        Value::Str(text) => writable_string(text.as_bytes()),
     }
 }
 
-// Why a comment, where there is one, can't be written.
-#[tactic(auto, unfolding(crate::specs::Unwritable::comment_fault))]
-fn comment_fault(comment: &Option<Text>) -> Option<Unwritable>
-    ensures { result ≡ comment_fault comment.now }
+// Whether a comment, where there is one, can be written.
+#[tactic(auto, unfolding(crate::specs::Written::writable_comment))]
+fn writable_comment(comment: &Option<Text>) -> Result<(), Unwritable>
+    ensures { result ≡ writable_comment comment.now }
 {
     match comment {
         Some(text) => {
             let bytes = text.as_bytes();
-            if !is_text(bytes) {
-                return Some(Unwritable::CommentBytes);
-            }
-            unless(trimmed_len(bytes) == bytes.len(), Unwritable::CommentSpaces)
+            let trimmed = trimmed_len(bytes) == bytes.len();
+            let spaces = unless(trimmed, Unwritable::CommentSpaces);
+            unless(is_text(bytes), Unwritable::CommentBytes).and(spaces)
         }
-        None => None,
+        None => Ok(()),
     }
 }
 
@@ -185,28 +187,28 @@ fn value_end(value: &Value) -> Option<usize>
     }
 }
 
-// Why a comment doesn't fit after so many bytes of a card.
-fn comment_room_fault(before: usize, comment: &[u8]) -> Option<Unwritable>
-    ensures { result ≡ comment_room_fault before (Some comment.now) }
+// Whether a comment has room after so many bytes of a card.
+fn comment_has_room(before: usize, comment: &[u8]) -> Result<(), Unwritable>
+    ensures { result ≡ comment_has_room before (Some comment.now) }
 {
     if 78 < before {
-        return Some(Unwritable::NoRoom);
+        return Err(Unwritable::NoRoom);
     }
     let bytes = comment.len();
     let room = 78 - before.max(30);
     unless(bytes <= room, Unwritable::LongComment { bytes, room })
 }
 
-// Why a card doesn't hold a value and a comment.
-#[tactic(auto, unfolding(crate::specs::Unwritable::room_fault))]
-fn room_fault(value: &Value, comment: &Option<Text>) -> Option<Unwritable>
-    ensures { result ≡ room_fault (value_end value.now) comment.now }
+// Whether a card has room for a value and a comment.
+#[tactic(auto, unfolding(crate::specs::Unwritable::has_room))]
+fn has_room(value: &Value, comment: &Option<Text>) -> Result<(), Unwritable>
+    ensures { result ≡ has_room (value_end value.now) comment.now }
 {
     let Some(end) = value_end(value) else {
-        return Some(Unwritable::LongNumber);
+        return Err(Unwritable::LongNumber);
     };
     match comment {
-        Some(text) => comment_room_fault(end, text.as_bytes()),
-        None => None,
+        Some(text) => comment_has_room(end, text.as_bytes()),
+        None => Ok(()),
     }
 }

@@ -11,8 +11,8 @@ ghost use Rattle.fits_value.specs.declared.value.Value.TheVariants.{Str};
 use crate::card_text::{justified_card, pair_card, string_card};
 use crate::strings::MOST_CHARACTERS;
 use crate::text::Text;
+use crate::unwritable::writable_parts;
 use crate::value::Value;
-use crate::writable::is_writable;
 use fits_card::{Card, Cards, Name};
 use std::alloc::{AllocError, Global};
 use thiserror::Error;
@@ -264,7 +264,7 @@ pub fn write_value(
     ensures firm { write_says name.now value.now comment.now ≡ None
         → result ≡ Err WriteFault.BadValue }
 {
-    if !is_writable(value, comment) {
+    if writable_parts(value, comment).is_err() {
         return Err(WriteFault::BadValue);
     }
     written(alloc, name, value, comment)
