@@ -1,5 +1,5 @@
 -- Where the header cut falls, and that it can fall nowhere else.
-use Rattle.std.proofs.Common.{◌≡◌, ◌⊎◌, ℕ, ◌+◌, ◌*◌, ◌/◌, ◌<◌, ◌≤◌, Bool, true, false, List, [], ◌∷◌, ◌++◌, length, take, drop, get_or, refl, ap, sym, ◌∙◌, append_assoc, inl, inr, arith, All, zero, suc}
+use Rattle.std.proofs.Common.{◌≡◌, ◌⊎◌, ℕ, ◌+◌, ◌*◌, ◌/◌, ◌<◌, ◌≤◌, Bool, true, false, List, [], ◌∷◌, ◌++◌, length, take, drop, get_or, refl, ap, sym, ◌∙◌, append_assoc, inl, inr, arith, All, subst, zero, suc}
 use Rattle.std.proofs.lemmas.Bool.{cases_lt}
 use Rattle.std.proofs.lemmas.List.{append-nil, length-append, length-take-le, length-drop, take_at, drop_at, get_or_default, take-append-drop}
 use Rattle.std.proofs.lemmas.List.Concat.{flat_map-append}
@@ -9,6 +9,7 @@ use Rattle.std.proofs.Math.Seq.{take-add}
 use Rattle.fits_card.specs.Card.{IsEnd, is_end}
 use Rattle.fits_card.specs.Header.{Header, IsHeader, IsInnerCard, IsHeaderOf, HasNoHeader, joined_cards, header_bytes, header_length, fill_length}
 use Rattle.fits_card.specs.HeaderSteps.{HasHeader, HasNoEnd, IsEndPlace, header_at, piece, pieces}
+use Rattle.fits_stream.specs.Gave.{FindsAll}
 use Rattle.fits_stream.specs.Intake.{Supply, Takes}
 use Rattle.fits_card.proofs.EmitLemmas.{joined-at}
 use Rattle.fits_card.proofs.HeaderLemmas.{length-joined_cards, length-header_bytes}
@@ -217,3 +218,10 @@ cut_taken f a b len header are none p whole has =
     let joined : f ≡ header_bytes header ++ b.ahead = sym are ∙ takes_ahead a b (header_bytes header) none p in
     let same = one_header f header has.header b.ahead (drop len f) (record { whole = whole; joined = joined }) has.cut in
     (rw (sym same.1) (record { whole = whole; joined = joined }), has.size ∙ ap (λ (h : Header). length (header_bytes h)) (sym same.0))
+
+-- where a header is, none isn't found
+pub not_missing : (f : List ℕ) (a b : Supply) (len : ℕ) → a.ahead ≡ f → a.left ≡ 0 → HasHeader f len → FindsAll a b HasNoHeader → ⊥
+not_missing f a b len are none has found =
+    let joined : f ≡ found.bytes ++ (b.ahead ++ []) = sym are ∙ takes_ahead a b found.bytes none found.taken ∙ ap (λ t. found.bytes ++ t) (sym (append-nil b.ahead)) in
+    let missing : HasNoHeader f = subst HasNoHeader (sym joined) (found.all [] (omega arith) (λ _. refl)) in
+    missing has.header (drop len f) has.cut

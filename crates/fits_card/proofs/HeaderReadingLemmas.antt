@@ -9,10 +9,12 @@ use Rattle.fits_card.specs.Card.{IsEnd}
 use Rattle.fits_card.specs.Header.{Header, AreFrontCards, IsHeader, IsInnerCard, HasNoHeader, header_bytes, joined_cards}
 use Rattle.fits_card.specs.HeaderReading.{IsCut}
 use Rattle.fits_card.specs.HeaderSteps.{HasNoEnd, IsEndPlace, piece, pieces}
-use Rattle.fits_stream.specs.Intake.{Finds, IsSpent, Supply, Takes}
+use Rattle.fits_stream.specs.Gave.{FindsAll}
+use Rattle.fits_stream.specs.Intake.{IsSpent, Supply, Takes}
 use Rattle.fits_card.proofs.HeaderLemmas.{fill_length-by_cards, length-joined_cards}
 use Rattle.fits_card.proofs.CutLemmas.{header-end_place, inner-pieces, joined-pieces, length-spread, pieces-more, piece-joined_cards, length-piece}
-use Rattle.fits_stream.proofs.SightLemmas.{finds_spent, takes_and_holds, takes_more, takes_none}
+use Rattle.fits_stream.proofs.GaveLemmas.{finds_all_spent}
+use Rattle.fits_stream.proofs.SightLemmas.{takes_and_holds, takes_more, takes_none}
 
 -- one more card of a block, after others
 pub pushed : (start cards next : List (List ℕ)) (card : List ℕ) (f : List ℕ) (k : ℕ) → cards ≡ start ++ pieces f k → next ≡ cards ++ card ∷ [] → card ≡ piece f k → next ≡ start ++ pieces f (k + 1)
@@ -102,9 +104,9 @@ pub ruleset header_steps = (blocks_none, no_cards, inner_more, length-more, inne
 
 -- the source ended, or the limit came, within a block: these cards stand before END
 pub stops_cut : (cards all : List (List ℕ)) (block : List ℕ) (a b c : Supply) → Takes a b (joined_cards cards) → Takes b c [] → IsSpent c → All IsInnerCard cards → length cards % 36 ≡ 0 → length c.ahead < 2880 → block ≡ c.ahead
-    → AreFrontCards (joined_cards cards ++ block) all → Finds a c (IsCut all)
+    → AreFrontCards (joined_cards cards ++ block) all → FindsAll a c (IsCut all)
 stops_cut cards all block a b c p q spent inner full short same front =
-    finds_spent (IsCut all) a c (joined_cards cards) (takes_and_holds a b c (joined_cards cards) p q) spent (record {
+    finds_all_spent (IsCut all) a c (joined_cards cards) (takes_and_holds a b c (joined_cards cards) p q) spent (record {
       none = no_header_short cards c.ahead inner full short;
       front = subst (λ t. AreFrontCards (joined_cards cards ++ t) all) same front;
     })

@@ -68,7 +68,7 @@ pub fn read_header<R: Source>(
 }
 
 /// The header that comes next, as `read_header`, or the cards before an END whose block isn't whole.
-#[tactic(auto, using(crate::proofs::HeaderReadingLemmas::header_steps))]
+#[tactic(auto, using(crate::proofs::HeaderReadingLemmas::header_steps, fits_stream::proofs::SightLemmas::takes_steps))]
 pub fn read_front<R: Source>(
     alloc: Global,
     intake: &mut Intake,
@@ -85,17 +85,25 @@ pub fn read_front<R: Source>(
         };
         let ahead = intake.ahead();
         if ahead.len() < BLOCK_LEN {
-            let cards = cards_before_end(cards, ahead)?;
+            let Ok(cards) = cards_before_end(cards, ahead) else {
+                return Err(ReadFault::Memory);
+            };
             return Ok(HeaderFront::Cut(cards));
         }
         let (block, _) = ahead.split_at(BLOCK_LEN);
         if let Some(count) = end_place(block) {
-            push_cards(&mut cards, block, count)?;
-            let list = ended_list(alloc, cards, block, count)?;
+            let Ok(()) = push_cards(&mut cards, block, count) else {
+                return Err(ReadFault::Memory);
+            };
+            let Ok(list) = ended_list(alloc, cards, block, count) else {
+                return Err(ReadFault::Memory);
+            };
             intake.pass(BLOCK_LEN);
             return Ok(HeaderFront::Whole(list));
         }
-        push_cards(&mut cards, block, BLOCK_LEN / CARD_LEN)?;
+        let Ok(()) = push_cards(&mut cards, block, BLOCK_LEN / CARD_LEN) else {
+            return Err(ReadFault::Memory);
+        };
         intake.pass(BLOCK_LEN);
     }
 }

@@ -5,8 +5,10 @@ use Rattle.std.specs.Result.{OnOk, IfErr, IsErrAnd}
 use Rattle.std.proofs.lemmas.Result.{err_from_is_err_and}
 use Rattle.std.specs.Io.KnownBytes.{Consumes, IsAtEnd}
 use Rattle.fits_stream.specs.Intake.{Gives, Tells}
-use Rattle.fits_stream.specs.Stream.{SourceState, SinkState, FailsToFlush, Flushes, Gains, Prints, PrintsFront, Reads, StaysQuiet}
-use Rattle.fits_stream.proofs.StreamLemmas.{Consumes-none}
+use Rattle.fits_stream.specs.Stream.{SourceState, SinkState, FailsToFlush, Flushes, Gains, IsDry, Prints, PrintsFront, Reads, StaysQuiet}
+use Rattle.fits_stream.specs.Log.{Logs}
+use Rattle.fits_stream.proofs.LogLemmas.{Logs-none}
+use Rattle.fits_stream.proofs.StreamLemmas.{Consumes-none, quiet_none, quiet_read}
 use Rattle.std.proofs.lemmas.List.{append-nil, take_all}
 use Rattle.fits_session.specs.File.{FileParts}
 use Rattle.fits_session.specs.Opening.{HasOpenFault}
@@ -16,7 +18,7 @@ use Rattle.fits_session.specs.declared.open_fault.OpenFault.TheVariants.{NotFits
 use Rattle.fits_session.specs.declared.read_fault.ReadFileFault.{ReadFileFault}
 use Rattle.fits_session.specs.declared.read_fault.ReadFileFault.TheVariants.{Open, Failed}
 use Rattle.fits_cli.specs.Answer.{Standing, at_first_line}
-use Rattle.fits_cli.specs.Ends.{end_of, RunState, AreToldOf, FlushesOrFails, Opens, HasLines, LacksPixels, IsRefused, AnswersFail, RemarksBy, RemarksEndAs, StopsBy}
+use Rattle.fits_cli.specs.Ends.{end_of, RunState, AreToldOf, FlushesOrFails, IsQuiet, Opens, HasLines, LacksPixels, IsRefused, AnswersFail, RemarksBy, RemarksEndAs, StopsBy}
 use Rattle.fits_cli.specs.Faults.{fault_of_file}
 use Rattle.fits_cli.specs.Terms.{check_of}
 use Rattle.fits_cli.specs.declared.edited.Edited.{Edited}
@@ -46,6 +48,10 @@ some_known (Some xs) = (xs, refl)
 some_bytes : (source : SourceState) → (bytes : List ℕ) × Tells source bytes
 some_bytes source = some_known source.remaining
 
+-- a source that wasn't read
+quiet_same : (a b : SourceState) → b ≡ a → StaysQuiet a b
+quiet_same a b same = subst (λ (s : SourceState). StaysQuiet a s) (sym same) (quiet_none a)
+
 -- a sink that wasn't touched
 Prints-same : (a b : SinkState) → b ≡ a → Prints [] a b
 Prints-same a b same = subst (λ (s : SinkState). Prints [] a s) (sym same) (Prints-none a)
@@ -64,16 +70,16 @@ IsRefused-opening old new why script printed stops = record {
         is = inl (record { why = why; fails = stops.0.2; is = refl });
         printed = Prints-same old.printed new.printed printed;
         fault_is = refl;
-        read = record { of_file = stops.1; of_script = ap (λ (s : SourceState). s.failures) script };
+        read = record { of_file = inr stops.1; of_script = quiet_same old.script new.script script };
       };
   script = script;
   printed = printed;
 }
 
 -- memory is refused before the first line
-pub StopsBy-unread : (old new : RunState) → StaysQuiet old.file new.file → new.script ≡ old.script → new.printed ≡ old.printed → StopsBy old new Memory
+pub StopsBy-unread : (old new : RunState) → IsQuiet old.stored old.file new.file → new.script ≡ old.script → new.printed ≡ old.printed → StopsBy old new Memory
 StopsBy-unread old new of_file script printed =
-    inl (record { read = record { of_file = of_file; of_script = ap (λ (s : SourceState). s.failures) script }; printed = inl (script, Prints-same old.printed new.printed printed) })
+    inl (record { read = record { of_file = of_file; of_script = quiet_same old.script new.script script }; printed = inl (script, Prints-same old.printed new.printed printed) })
 
 -- a file that isn't read
 pub StopsBy-opening : (old new : RunState) (why : ReadFileFault) → new.script ≡ old.script → new.printed ≡ old.printed → ReadStops old.file new.file why → StopsBy old new (fault_of_file why)
@@ -82,7 +88,7 @@ StopsBy-opening old new (Open (NoEnd hdu)) script printed stops = IsRefused-open
 StopsBy-opening old new (Open (BadShape hdu place)) script printed stops = IsRefused-opening old new (BadShape hdu place) script printed stops
 StopsBy-opening old new (Open (ShortData hdu)) script printed stops = IsRefused-opening old new (ShortData hdu) script printed stops
 StopsBy-opening old new (Open TooLarge) script printed stops = IsRefused-opening old new TooLarge script printed stops
-StopsBy-opening old new (Open OpenMemory) script printed stops = StopsBy-unread old new stops script printed
+StopsBy-opening old new (Open OpenMemory) script printed stops = StopsBy-unread old new (inr stops) script printed
 StopsBy-opening old new Failed script printed stops = inl (record { failed = stops; script = script; printed = printed })
 
 -- what comes within a limit
@@ -112,20 +118,20 @@ known_told (Some xs) None bytes read ended = absurd read
 known_told (Some xs) (Some ys) bytes read ended = read ∙ ap (λ t. bytes ++ t) ended ∙ append-nil bytes
 
 -- so all that it had is told
-pub script_told : (a b : SourceState) (bytes : List ℕ) → Reads bytes a b → IsAtEnd b.remaining → Tells a bytes
-script_told a b bytes read ended = known_told a.remaining b.remaining bytes read.gone ended
+pub script_told : (a b : SourceState) (bytes : List ℕ) → Reads bytes a b → IsDry b → Tells a bytes
+script_told a b bytes read ended = known_told a.remaining b.remaining bytes read.gone ended.left
 
 -- all its lines
 all_lines : (old new : SourceState) (before now : Standing) (held holds : Heard) (done : AnswersScript old new before now held holds) → HasLines old new (script_lines done.lines done.last)
 all_lines old new before now held holds done = record {
   whole = done.lines;
   last = done.last;
-  reached = record { came = done.script; read = done.read.gone; cut = rw (take_all SCRIPT_LIMIT done.script done.short) done.cut };
+  reached = record { came = done.script; read = done.read.gone; log = done.read.log; cut = rw (take_all SCRIPT_LIMIT done.script done.short) done.cut };
   are = inr (done.ended, done.short, refl);
 }
 
 -- the answers to some lines can't be flushed
-AnswersFail-flush : (old new : RunState) (mid : SinkState) (parts : FileParts) (lines others all : List (List ℕ)) → StaysQuiet old.file new.file → StaysQuiet old.script new.script
+AnswersFail-flush : (old new : RunState) (mid : SinkState) (parts : FileParts) (lines others all : List (List ℕ)) → IsQuiet old.stored old.file new.file → StaysQuiet old.script new.script
     → Opens old.file parts → HasLines old.script new.script all → all ≡ lines ++ others → Prints (answers (at_first_line old.terms parts) lines) old.printed mid → FailsToFlush mid new.printed → AnswersFail old new
 AnswersFail-flush old new mid parts lines others all of_file of_script opened has split printed failed = record {
   read = record { of_file = of_file; of_script = of_script };
@@ -154,17 +160,17 @@ Ended result why mid out = ((result ≡ Err why) × Flushes mid out) ⊎ ((resul
 
 -- a run whose script was answered whole, and whose answers aren't flushed
 StopsBy-done : (old new : RunState) (mid : SinkState) (told told_after : Option SinkState) (result : Result (Unit {0}) Fault) (fault : Fault) (parts : FileParts) (now : Standing) → result ≡ Err fault
-    → Opens old.file parts → StaysQuiet old.file new.file
+    → Opens old.file parts → IsQuiet old.stored old.file new.file
     → AnswersScript old.script new.script (at_first_line old.terms parts) now (heard old.printed told) (heard mid told_after) → (result ≡ Err WriteFailed) × FailsToFlush mid new.printed → StopsBy old new fault
 StopsBy-done old new mid told told_after result fault parts now is opened of_file done flush =
     let lines : List (List ℕ) = script_lines done.lines done.last in
     subst (λ (f : Fault). StopsBy old new f) (same_fault result WriteFailed fault flush.0 is)
-    (inl (AnswersFail-flush old new mid parts lines [] lines of_file done.read.quiet opened
+    (inl (AnswersFail-flush old new mid parts lines [] lines of_file (quiet_read old.script new.script done.script done.read) opened
     (all_lines old.script new.script (at_first_line old.terms parts) now (heard old.printed told) (heard mid told_after) done) (sym (append-nil lines)) done.answered.said.printed flush.1))
 
 -- a run whose script is too long
 StopsBy-too_long : (old new : RunState) (mid : SinkState) (told told_after : Option SinkState) (result : Result (Unit {0}) Fault) (fault : Fault) (parts : FileParts) → result ≡ Err fault
-    → Opens old.file parts → StaysQuiet old.file new.file
+    → Opens old.file parts → IsQuiet old.stored old.file new.file
     → AnswersTooLong old.script new.script (at_first_line old.terms parts) (heard old.printed told) (heard mid told_after) → Ended result ScriptTooLong mid new.printed → StopsBy old new fault
 StopsBy-too_long old new mid told told_after result fault parts is opened of_file long (inl flush) =
     subst (λ (f : Fault). StopsBy old new f) (same_fault result ScriptTooLong fault flush.0 is)
@@ -199,13 +205,13 @@ no_lines : (old new : SourceState) → new ≡ old → HasLines old new []
 no_lines old new same = record {
   whole = [];
   last = [];
-  reached = record { came = []; read = subst (λ (s : SourceState). Consumes old.remaining s.remaining []) (sym same) (Consumes-none old.remaining); cut = IsCutInLines-none };
+  reached = record { came = []; read = subst (λ (s : SourceState). Consumes old.remaining s.remaining []) (sym same) (Consumes-none old.remaining); log = subst (λ (s : SourceState). Logs old.log s.log []) (sym same) (Logs-none old.log); cut = IsCutInLines-none };
   are = inl refl;
 }
 
 -- a run whose script needs memory that is refused
 StopsBy-memory : (old new : RunState) (mid : SinkState) (told told_after : Option SinkState) (result : Result (Unit {0}) Fault) (fault : Fault) (parts : FileParts) → result ≡ Err fault
-    → Opens old.file parts → StaysQuiet old.file new.file → StaysQuiet old.script new.script
+    → Opens old.file parts → IsQuiet old.stored old.file new.file → StaysQuiet old.script new.script
     → (new.script ≡ old.script × heard mid told_after ≡ heard old.printed told) ⊎ ((lines : List (List ℕ)) × HasLines old.script new.script lines × NeedsMemoryAt lines (at_first_line old.terms parts) (heard old.printed told) (heard mid told_after))
     → Ended result Memory mid new.printed → StopsBy old new fault
 StopsBy-memory old new mid told told_after result fault parts is opened of_file of_script (inl none) (inl flush) =
@@ -247,7 +253,7 @@ flushed_or_not a b c text printed (inr failed) = (Gains-kept a.contents b.conten
 
 -- a run whose script can't be read
 StopsBy-read : (old new : RunState) (mid : SinkState) (told told_after : Option SinkState) (result : Result (Unit {0}) Fault) (fault : Fault) (parts : FileParts) → result ≡ Err fault
-    → Opens old.file parts → StaysQuiet old.file new.file
+    → Opens old.file parts → IsQuiet old.stored old.file new.file
     → ScriptReadFails old.script new.script (at_first_line old.terms parts) (heard old.printed told) (heard mid told_after) → (result ≡ Err ReadFailed) × (Flushes mid new.printed ⊎ FailsToFlush mid new.printed) → StopsBy old new fault
 StopsBy-read old new mid told told_after result fault parts is opened of_file fails flush =
     let out = flushed_or_not old.printed mid new.printed (answers (at_first_line old.terms parts) fails.lines) fails.said.printed flush.1 in
@@ -267,7 +273,7 @@ StopsBy-read old new mid told told_after result fault parts is opened of_file fa
 
 -- a run whose answers can't be written
 StopsBy-write : (old new : RunState) (mid : SinkState) (told told_after : Option SinkState) (result : Result (Unit {0}) Fault) (fault : Fault) (parts : FileParts) → result ≡ Err fault
-    → Opens old.file parts → StaysQuiet old.file new.file
+    → Opens old.file parts → IsQuiet old.stored old.file new.file
     → ScriptWriteFails old.script new.script (at_first_line old.terms parts) (heard old.printed told) (heard mid told_after) → (result ≡ Err WriteFailed) × (new.printed ≡ mid) → StopsBy old new fault
 StopsBy-write old new mid told told_after result fault parts is opened of_file fails flush =
     subst (λ (f : Fault). StopsBy old new f) (same_fault result WriteFailed fault flush.0 is)
@@ -282,7 +288,7 @@ StopsBy-write old new mid told told_after result fault parts is opened of_file f
 
 -- a run that wants data again, which it doesn't have
 StopsBy-pixels : (old new : RunState) (mid : SinkState) (told told_after : Option SinkState) (result : Result (Unit {0}) Fault) (why : Reread) (fault : Fault) (parts : FileParts) → result ≡ Err fault → old.stored ≡ true
-    → Opens old.file parts → StaysQuiet old.file new.file
+    → Opens old.file parts → IsQuiet old.stored old.file new.file
     → ScriptLacksPixels old.script new.script (at_first_line old.terms parts) (heard old.printed told) (heard mid told_after) why → Ended result (RereadFault why) mid new.printed → StopsBy old new fault
 StopsBy-pixels old new mid told told_after result why fault parts is stored opened of_file lacks (inl flush) =
     let at = lacks.at in
@@ -313,7 +319,7 @@ flush_fails result done fault mid out is (inr flush) = flush
 
 -- a run that ends after its script, before saving
 pub StopsBy-script : (old new : RunState) (mid : SinkState) (told told_after : Option SinkState) (answered result : Result (Unit {0}) Fault) (fault : Fault) (parts : FileParts) (now : Standing) → result ≡ Err fault
-    → Opens old.file parts → StaysQuiet old.file new.file → (old.stored ≡ true) ⊎ IfErr answered IsOnce
+    → Opens old.file parts → IsQuiet old.stored old.file new.file → (old.stored ≡ true) ⊎ IfErr answered IsOnce
     → OnOk answered (AnswersScript old.script new.script (at_first_line old.terms parts) now (heard old.printed told) (heard mid told_after))
     → IfErr answered (ScriptStops old.script new.script (at_first_line old.terms parts) (heard old.printed told) (heard mid told_after))
     → FlushesAnswers answered result mid new.printed → StopsBy old new fault
@@ -329,7 +335,7 @@ StopsBy-script old new mid told told_after (Err (RereadFault why)) result fault 
 
 -- nothing else is done
 pub answered_run : (old new : RunState) (mid : SinkState) (told told_after : Option SinkState) (answered result : Result (Unit {0}) Fault) (done : Unit {0}) (parts : FileParts) (now : Standing) (before : List Problem) → result ≡ Ok done
-    → Opens old.file parts → StaysQuiet old.file new.file → ((check_of old.terms.saves ≡ Quiet → ⊥) → before ≡ report_of parts)
+    → Opens old.file parts → IsQuiet old.stored old.file new.file → ((check_of old.terms.saves ≡ Quiet → ⊥) → before ≡ report_of parts)
     → OnOk answered (AnswersScript old.script new.script (at_first_line old.terms parts) now (heard old.printed told) (heard mid told_after)) → FlushesAnswers answered result mid new.printed → IsAnsweredRun old new told told_after now before
 answered_run old new mid told told_after (Ok a) result done parts now before is opened read before_is ok (inl flush) = record { parts = parts; opened = opened; read = read; mid = mid; script = ok; flush = flush.1; before_is = before_is }
 answered_run old new mid told told_after (Ok a) result done parts now before is opened read before_is ok (inr flush) = absurd (no_fault result done WriteFailed is flush.0)

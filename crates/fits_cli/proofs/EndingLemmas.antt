@@ -4,7 +4,7 @@ use Rattle.std.specs.Prelude.{nat_lt}
 use Rattle.std.specs.Result.{IsErrAnd}
 use Rattle.std.proofs.lemmas.Result.{err_from_is_err_and}
 use Rattle.fits_stream.specs.Stream.{SourceState, SinkState, Prints, PrintsFront, StaysQuiet}
-use Rattle.fits_stream.proofs.StreamLemmas.{Prints-flushed}
+use Rattle.fits_stream.proofs.StreamLemmas.{quiet_read, Prints-flushed}
 use Rattle.fits_session.specs.File.{FileParts}
 use Rattle.fits_session.specs.Report.{report_of}
 use Rattle.fits_session.specs.declared.problem.Problem.{Problem}
@@ -48,7 +48,7 @@ reaches_end old new last told told_after now before file script run =
         is = output_whole old.terms old.script new.script old.file run.parts now (heard old.printed told) (heard run.mid told_after) run.opened done;
         printed = Prints-flushed old.printed run.mid new.printed (answers first (script_lines done.lines done.last)) done.answered.said.printed run.flush;
         fault_is = refl;
-        read = record { of_file = ap (λ (s : SourceState). s.failures) file ∙ run.read; of_script = ap (λ (s : SourceState). s.failures) script ∙ done.read.quiet };
+        read = record { of_file = rw file run.read; of_script = rw script (quiet_read old.script new.script done.script done.read) };
       };
       flushed = run.flush.flushed;
       before = report_of run.parts;

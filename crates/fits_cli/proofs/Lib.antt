@@ -21,8 +21,10 @@ pub mod RunLemmas
 pub mod ScriptLemmas
 pub mod SizeLemmas
 pub mod StatingLemmas
+pub mod StoredLemmas
 pub mod SummingLemmas
 pub mod TellingLemmas
+pub mod UnderWayLemmas
 pub mod UntouchedLemmas
 pub mod ValueLineLemmas
 pub mod VerifyingLemmas

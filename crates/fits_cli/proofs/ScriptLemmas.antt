@@ -3,15 +3,16 @@ use Rattle.std.proofs.Common.{◌≡◌, ℕ, ◌+◌, ◌-◌, ◌<◌, ◌≤�
 use Rattle.std.proofs.lemmas.List.{append-nil, take_all, take-append-le, take-take, length-append, length-take-le}
 use Rattle.std.proofs.Math.Seq.{take-append-add}
 use Rattle.std.specs.Prelude.{IfSome}
-use Rattle.std.specs.Io.KnownBytes.{Consumes, IsAtEnd, Keeps}
-use Rattle.fits_stream.proofs.StreamLemmas.{Prints-flushed, PrintsFront-unflushed, Reads-more}
+use Rattle.std.specs.Io.KnownBytes.{Consumes, Keeps}
+use Rattle.fits_stream.specs.Log.{Logs}
+use Rattle.fits_stream.proofs.StreamLemmas.{quiet_read, reads_fail_now, Prints-flushed, PrintsFront-unflushed, Reads-more}
 use Rattle.fits_cli.specs.Answer.{Standing}
 use Rattle.fits_cli.specs.Ends.{CameTo, HasLines}
 use Rattle.fits_cli.specs.declared.limits.TheConstants.{SCRIPT_LIMIT}
 use Rattle.fits_cli.specs.Running.{Heard, heard, HasCome, HasStopped, Continues, PieceStops, LinesStop, EndsScript, EndStops, AnswersScript, AnswersTooLong, ScriptStops, ScriptReadFails}
 use Rattle.fits_cli.specs.Script.{IsCutInLines, script_lines}
 use Rattle.fits_cli.specs.Faults.{FlushFails}
-use Rattle.fits_stream.specs.Stream.{SourceState, SinkState, FailsToRead, Flushes, Reads}
+use Rattle.fits_stream.specs.Stream.{SourceState, SinkState, FailsToRead, Flushes, IsDry, Reads, StaysQuiet}
 use Rattle.fits_cli.specs.declared.fault.Fault.{Fault}
 use Rattle.fits_cli.specs.declared.fault.Fault.TheVariants.{Refused, ScriptTooLong, Memory, ReadFailed, WriteFailed, Reread as RereadFault}
 
@@ -20,8 +21,8 @@ within_limit : (limit : ℕ) (bytes : List ℕ) → length bytes ≤ limit → t
 within_limit limit bytes short = take_all limit bytes short
 
 -- what came within the limit, cut into lines
-came_within : (old new : SourceState) (came last : List ℕ) (lines : List (List ℕ)) → Consumes old.remaining new.remaining came → length came ≤ SCRIPT_LIMIT → IsCutInLines came lines last → CameTo old new lines last
-came_within old new came last lines read short cut = record { came = came; read = read; cut = rw (within_limit SCRIPT_LIMIT came short) cut }
+came_within : (old new : SourceState) (came last : List ℕ) (lines : List (List ℕ)) → Consumes old.remaining new.remaining came → Logs old.log new.log came → length came ≤ SCRIPT_LIMIT → IsCutInLines came lines last → CameTo old new lines last
+came_within old new came last lines read log short cut = record { came = came; read = read; log = log; cut = rw (within_limit SCRIPT_LIMIT came short) cut }
 
 -- what a failed read leaves
 kept_bytes : (a b c : Option (List ℕ)) (came : List ℕ) → Consumes a b came → Keeps b c → Consumes a c came
@@ -36,17 +37,17 @@ pub ScriptReadFails-after : (old mid new : SourceState) (came kept : List ℕ) (
     → HasCome came kept before now held holds → ScriptReadFails old new before held holds
 unfolding came_within
 ScriptReadFails-after old mid new came kept before now held holds read failed short come = record {
-  failed = omega (arith, read.quiet, failed.failed);
+  failed = reads_fail_now old mid new came read failed;
   lines = come.lines;
   last = come.last;
-  reached = came_within old new came come.last come.lines (kept_bytes old.remaining mid.remaining new.remaining came read.gone failed.bytes) short come.cut;
+  reached = came_within old new came come.last come.lines (kept_bytes old.remaining mid.remaining new.remaining came read.gone failed.bytes) (rw failed.log read.log) short come.cut;
   short = short;
   said = come.answered.said;
 }
 
 -- lines of a script that aren't all answered
 ScriptStops-lines : (old new : SourceState) (lines : List (List ℕ)) (before : Standing) (held holds : Heard) (fault : Fault)
-    → HasLines old new lines → new.failures ≡ old.failures → LinesStop lines before held holds fault → ScriptStops old new before held holds fault
+    → HasLines old new lines → StaysQuiet old new → LinesStop lines before held holds fault → ScriptStops old new before held holds fault
 ScriptStops-lines old new lines before held holds (Refused why) has quiet stops = stops
 ScriptStops-lines old new lines before held holds ScriptTooLong has quiet stops = absurd stops
 ScriptStops-lines old new lines before held holds Memory has quiet stops = record { quiet = quiet; at = inr (lines, has, stops) }
@@ -60,8 +61,8 @@ ScriptStops-came : (old new : SourceState) (came text : List ℕ) (before : Stan
     → HasStopped text before held holds fault → ScriptStops old new before held holds fault
 ScriptStops-came old new came text before held holds fault read within stopped =
     ScriptStops-lines old new stopped.lines before held holds fault
-    (record { whole = stopped.lines; last = stopped.last; reached = record { came = came; read = read.gone; cut = rw within stopped.cut }; are = inl refl })
-    read.quiet stopped.stops
+    (record { whole = stopped.lines; last = stopped.last; reached = record { came = came; read = read.gone; log = read.log; cut = rw within stopped.cut }; are = inl refl })
+    (quiet_read old new came read) stopped.stops
 
 -- a piece within the limit isn't answered
 pub ScriptStops-piece : (old mid new : SourceState) (came piece kept : List ℕ) (before now : Standing) (held holds more : Heard) (fault : Fault)
@@ -115,8 +116,8 @@ AnswersTooLong-over old mid new n came buffer kept kept_now before now next held
       last = answered.last;
       told = script.2;
       long = omega (arith, size, ap length script.3, length-append all script.1, over, short);
-      quiet = read_all.quiet;
-      reached = record { came = all; read = read_all.gone; cut = rw front answered.cut };
+      quiet = quiet_read old new all read_all;
+      reached = record { came = all; read = read_all.gone; log = read_all.log; cut = rw front answered.cut };
       cut = rw (script.3, take_longer SCRIPT_LIMIT all script.1 (omega (arith, size, over, short)), front) answered.cut;
       said = answered.answered.said;
     }
@@ -129,7 +130,7 @@ read_at_end a b c n came buffer read none zero =
 
 -- the whole script is answered
 pub AnswersScript-end : (old mid new : SourceState) (n : ℕ) (came buffer kept : List ℕ) (before now next : Standing) (held holds more : Heard)
-    → Reads came old mid → Reads (take n buffer) mid new → n ≡ 0 → IsAtEnd new.remaining → length came ≤ SCRIPT_LIMIT
+    → Reads came old mid → Reads (take n buffer) mid new → n ≡ 0 → IsDry new → length came ≤ SCRIPT_LIMIT
     → HasCome came kept before now held holds → EndsScript kept now next holds more → AnswersScript old new before next held more
 AnswersScript-end old mid new n came buffer kept before now next held holds more read none zero ended short come ends = record {
   script = came;
@@ -144,7 +145,7 @@ AnswersScript-end old mid new n came buffer kept before now next held holds more
 
 -- its last line isn't answered
 pub ScriptStops-end : (old mid new : SourceState) (n : ℕ) (came buffer kept : List ℕ) (before now : Standing) (held holds more : Heard) (fault : Fault)
-    → Reads came old mid → Reads (take n buffer) mid new → n ≡ 0 → IsAtEnd new.remaining → length came ≤ SCRIPT_LIMIT
+    → Reads came old mid → Reads (take n buffer) mid new → n ≡ 0 → IsDry new → length came ≤ SCRIPT_LIMIT
     → HasCome came kept before now held holds → EndStops kept now holds more fault → ScriptStops old new before held more fault
 unfolding came_within
 ScriptStops-end old mid new n came buffer kept before now held holds more fault read none zero ended short come stops =
@@ -153,10 +154,10 @@ ScriptStops-end old mid new n came buffer kept before now held holds more fault 
     (record {
       whole = come.lines;
       last = come.last;
-      reached = came_within old new came come.last come.lines whole.gone short come.cut;
+      reached = came_within old new came come.last come.lines whole.gone whole.log short come.cut;
       are = inr (ended, short, refl);
     })
-    whole.quiet (stops come.lines come.last before held come.kept_is come.answered)
+    (quiet_read old new came whole) (stops come.lines come.last before held come.kept_is come.answered)
 
 -- the answers to a piece are passed on
 pub Continues-flushed : (piece kept_before kept_now : List ℕ) (before now : Standing) (held : Heard) (mid out : SinkState) (told : Option SinkState)

@@ -17,7 +17,7 @@ use Rattle.fits_cli.proofs.ListingLemmas.{listing-outlined}
 use Rattle.fits_stream.proofs.StreamLemmas.{Prints-flushed, PrintsFront-unflushed}
 
 -- a text that isn't printed to its end
-pub TextStopsBy-printing : (kind : Telling) (file file_after : SourceState) (out out_after : SinkState) (parts : FileParts) (fault : Fault) → Opens file parts → file_after.failures ≡ file.failures
+pub TextStopsBy-printing : (kind : Telling) (file file_after : SourceState) (out out_after : SinkState) (parts : FileParts) (fault : Fault) → Opens file parts → StaysQuiet file file_after
     → PrintingStops (text_of kind parts) out out_after fault → TextStopsBy kind file file_after out out_after fault
 TextStopsBy-printing kind file file_after out out_after parts (Refused why) opened read stops = absurd stops
 TextStopsBy-printing kind file file_after out out_after parts ScriptTooLong opened read stops = absurd stops

@@ -1,8 +1,11 @@
 -- How a run of `edit` or `ask` ends: what was printed and saved, what kept its result from being saved, and what stood before a fault (own).
 use Rattle.std.specs.Prelude.{◌≡◌, ◌⊎◌, ℕ, ◌+◌, ◌<◌, ◌≤◌, Bool, false, true, List, [], ◌∷◌, ◌++◌, length, take, Option, Some, None, Result, Ok, Err, MatchOption}
-use Rattle.std.specs.Io.KnownBytes.{Consumes, IsAtEnd}
+use Rattle.std.specs.Io.KnownBytes.{Consumes}
+use Rattle.fits_stream.specs.Agree.{IsOf}
 use Rattle.fits_stream.specs.Intake.{Gives, Tells}
-use Rattle.fits_stream.specs.Stream.{SourceState, SinkState, FailsOnce, Gains, Prints, PrintsFront, StaysQuiet}
+use Rattle.fits_stream.specs.Log.{Logs}
+use Rattle.fits_stream.specs.Stored.{ReadLogState}
+use Rattle.fits_stream.specs.Stream.{SourceState, SinkState, FailsOnce, Gains, IsDry, Prints, PrintsFront, StaysQuiet}
 use Rattle.fits_session.specs.File.{FileParts, IsFileOf}
 use Rattle.fits_session.specs.Report.{IsReportOf}
 use Rattle.fits_session.specs.declared.problem.Problem.{Problem}
@@ -45,9 +48,13 @@ run_by terms stored file script printed = record { terms = terms; stored = store
 abbrev pub run : SourceState → SourceState → SinkState → RunState
 run file script printed = run_by plain false file script printed
 
+-- no call of a file failed; of a stored one its log has how many reads did
+abbrev pub IsQuiet : Bool → SourceState → SourceState → Type 0
+IsQuiet stored old new = (stored ≡ true) ⊎ StaysQuiet old new
+
 -- both sources were read without a failed call
 pub record ReadsWell (old new : RunState) : Type 0 where
-  pub of_file : StaysQuiet old.file new.file
+  pub of_file : IsQuiet old.stored old.file new.file
   pub of_script : StaysQuiet old.script new.script
 
 -- the file's bytes are these parts
@@ -55,13 +62,22 @@ abbrev pub Opens : SourceState → FileParts → Type 0
 Opens old parts = Gives old (λ bytes. IsFileOf bytes parts)
 
 -- this is so of each file with these parts, before and after it was read without a failed call
-abbrev pub OverFile : FileParts → (SourceState → SourceState → Type 0) → Type 0
-OverFile parts Is = (file after : SourceState) → Opens file parts → StaysQuiet file after → Is file after
+abbrev pub OverFile : Bool → FileParts → (SourceState → SourceState → Type 0) → Type 0
+OverFile stored parts Is = (file after : SourceState) → Opens file parts → IsQuiet stored file after → Is file after
+
+-- a stored file of these bytes, of which so many reads have failed
+abbrev pub stored_file : List ℕ → ReadLogState → SourceState
+stored_file bytes log = record { remaining = Some bytes; log = None; failures = log.failures }
+
+-- this is so of each file that all the reads of a log may be of, before the last of them and after
+abbrev pub OverReads : ReadLogState → ReadLogState → (SourceState → SourceState → Type 0) → Type 0
+OverReads old new Is = (bytes : List ℕ) → IsOf bytes new → Is (stored_file bytes old) (stored_file bytes new)
 
 -- what was read of a script, as far as its limit, and the whole lines of that
 pub record CameTo (old new : SourceState) (lines : List (List ℕ)) (last : List ℕ) : Type 0 where
   pub came : List ℕ
   pub read : Consumes old.remaining new.remaining came
+  pub log : Logs old.log new.log came
   pub cut : IsCutInLines (take SCRIPT_LIMIT came) lines last
 
 -- the lines that may have been answered: the whole ones, and the last piece too where the script ended with it
@@ -69,7 +85,7 @@ pub record HasLines (old new : SourceState) (lines : List (List ℕ)) : Type 0 w
   pub whole : List (List ℕ)
   pub last : List ℕ
   pub reached : CameTo old new whole last
-  pub are : (lines ≡ whole) ⊎ (IsAtEnd new.remaining × (length reached.came ≤ SCRIPT_LIMIT) × (lines ≡ script_lines whole last))
+  pub are : (lines ≡ whole) ⊎ (IsDry new × (length reached.came ≤ SCRIPT_LIMIT) × (lines ≡ script_lines whole last))
 
 -- a run with the output of its file and its script, on its terms; with its answers the sink of answers stood so
 pub record IsRun (old new : RunState) (answered : SinkState) (fault : Option Fault) : Type 0 where
@@ -175,7 +191,7 @@ FlushesOrFails old new =
 
 -- a read of the script failed: the whole lines that came before are answered; the answers are flushed, unless that call fails too
 pub record ScriptFails (old new : RunState) : Type 0 where
-  pub of_file : StaysQuiet old.file new.file
+  pub of_file : IsQuiet old.stored old.file new.file
   pub failed : FailsOnce old.script new.script
   pub parts : FileParts
   pub lines : List (List ℕ)

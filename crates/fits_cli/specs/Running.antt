@@ -1,17 +1,20 @@
 -- What private functions of a run keep to: how far a script has come.
-use Rattle.std.specs.Prelude.{◌≡◌, ◌⊎◌, ℕ, Bool, ◌+◌, ◌<◌, ◌≤◌, List, ◌∷◌, ◌++◌, length, take, Option, Result, Ok, Err}
-use Rattle.std.specs.Io.KnownBytes.{IsAtEnd}
+use Rattle.std.specs.Prelude.{◌≡◌, ◌⊎◌, ℕ, Bool, false, ◌+◌, ◌<◌, ◌≤◌, List, ◌∷◌, ◌++◌, length, take, Option, Result, Ok, Err}
 use Rattle.fits_stream.specs.Intake.{Tells}
+use Rattle.fits_stream.specs.Agree.{Agrees, IsOf}
+use Rattle.fits_stream.specs.Stored.{ReadLogState}
+use Rattle.fits_hdu.specs.State.{HduState}
+use Rattle.fits_session.specs.Away.{AllLie}
 use Rattle.fits_session.specs.File.{FileParts}
 use Rattle.fits_cli.specs.Answer.{Standing, at_first_line, line_answer, line_left, LineNeedsMemory, WantsPixels}
-use Rattle.fits_cli.specs.Ends.{run_by, CameTo, HasLines, Opens, RunState}
+use Rattle.fits_cli.specs.Ends.{run_by, CameTo, HasLines, IsQuiet, Opens, OverFile, RunState}
 use Rattle.fits_script.specs.declared.limits.TheConstants.{LINE_LIMIT}
 use Rattle.fits_cli.specs.declared.limits.TheConstants.{SCRIPT_LIMIT}
 use Rattle.fits_script.specs.Line.{reading_of}
 use Rattle.fits_cli.specs.Output.{answers, standing_after}
 use Rattle.fits_cli.specs.Remark.{line_remark, remarks, Remarks}
 use Rattle.fits_cli.specs.Script.{IsCutInLines, script_lines}
-use Rattle.fits_stream.specs.Stream.{SourceState, SinkState, FailsOnce, FailsToFlush, Flushes, Prints, PrintsFront, Reads, StaysQuiet}
+use Rattle.fits_stream.specs.Stream.{SourceState, SinkState, FailsOnce, FailsToFlush, Flushes, IsDry, Prints, PrintsFront, Reads, StaysQuiet}
 use Rattle.fits_cli.specs.declared.fault.Fault.{Fault}
 use Rattle.fits_cli.specs.declared.fault.Fault.TheVariants.{Refused, ScriptTooLong, Memory, ReadFailed, WriteFailed, Reread as RereadFault}
 use Rattle.fits_cli.specs.declared.reread.Reread.{Reread}
@@ -23,6 +26,20 @@ use Rattle.fits_session.specs.Report.{report_of}
 use Rattle.fits_session.specs.declared.problem.Problem.{Problem}
 use Rattle.fits_session.specs.Marked.{Marked}
 use Rattle.fits_script.specs.declared.line_reading.LineReading.{LineReading}
+
+-- a file under its script: how far it has come, and what the reads of its file gave
+pub record Progress : Type 0 where
+  pub standing : Standing
+  pub log : ReadLogState
+
+-- of the lines before this one some were refused at most, and the data units lie in each file that the reads may be of
+pub record IsUnderWay (hdus : List HduState) (log : ReadLogState) (line refused : ℕ) : Type 0 where
+  pub few : refused < line
+  pub lie : (bytes : List ℕ) → IsOf bytes log → AllLie bytes hdus
+
+-- where data are read again from a file its reads agree
+abbrev pub Steady : Bool → ReadLogState → Type 0
+Steady whole log = whole ≡ false → Agrees log
 
 -- what hears of the lines: the sink of their answers, and that of remarks on them, if there is one
 pub record Heard : Type 0 where
@@ -146,7 +163,7 @@ pub record AnswersScript (old new : SourceState) (before now : Standing) (held h
   pub lines : List (List ℕ)
   pub last : List ℕ
   pub read : Reads script old new
-  pub ended : IsAtEnd new.remaining
+  pub ended : IsDry new
   pub short : length script ≤ SCRIPT_LIMIT
   pub cut : IsCutInLines script lines last
   pub answered : AnswersLines (script_lines lines last) before now held holds
@@ -218,12 +235,16 @@ FlushesAnswers (Err ReadFailed) result held holds =
 FlushesAnswers (Err WriteFailed) result held holds = (result ≡ Err WriteFailed) × (holds ≡ held)
 FlushesAnswers (Err (RereadFault why)) result held holds = FlushesThen (Err (RereadFault why)) result held holds
 
+-- this is so of each file with the parts that a run has at its first line, before and after it was read without a failed call
+abbrev pub OverFirst : Bool → Terms → Standing → (SourceState → SourceState → Type 0) → Type 0
+OverFirst stored terms first Is = (parts : FileParts) → first ≡ at_first_line terms parts → OverFile stored parts Is
+
 -- a file was opened, a script over it answered to its end, and the answers flushed; things stand so, and where problems count this was
 -- the report of the file
 pub record IsAnsweredRun (old new : RunState) (told told_after : Option SinkState) (now : Standing) (before : List Problem) : Type 0 where
   pub parts : FileParts
   pub opened : Opens old.file parts
-  pub read : StaysQuiet old.file new.file
+  pub read : IsQuiet old.stored old.file new.file
   pub mid : SinkState
   pub script : AnswersScript old.script new.script (at_first_line old.terms parts) now (heard old.printed told) (heard mid told_after)
   pub flush : Flushes mid new.printed

@@ -1,5 +1,6 @@
 //! What a command makes of a file, and what it prints.
 ghost use Rattle.std.specs.Prelude.{◌≡◌, ◌++◌, IfOk, IfErr, OnOk, OnErr, Ok};
+ghost use Rattle.fits_session.specs.Away.{LieStill};
 ghost use Rattle.fits_session.specs.Session.{marked_of};
 ghost use Rattle.fits_cli.specs.Answer.{offset_line, offset_lines, offsets_text};
 ghost use Rattle.fits_cli.specs.Answer.{is_edit, outcome_of, CommandFails, IsReady};
@@ -26,6 +27,7 @@ pub(crate) fn answer<H: Holder + Drop>(
         ≡ Ok (record { text = text.items; left = marked_of session.new })) }
     ensures err { IfErr result (CommandFails (marked_of session.old) command) }
     ensures kept { OnErr result (marked_of session.new ≡ marked_of session.old) }
+    ensures stays { LieStill session.old.hdus session.new.hdus }
 {
     match command {
         Command::Nothing => Ok(Vec::new(alloc)),

@@ -1,16 +1,16 @@
 //! The run of `ask`: a file, a script, and answers; nothing is saved.
 ghost use Rattle.std.specs.Prelude.{◌≡◌, false, true, MatchOption};
 ghost use Rattle.std.specs.Option.{option_map};
-ghost use Rattle.fits_stream.specs.Stream.{SinkState, SourceState};
-ghost use Rattle.fits_session.specs.Away.{at_start, AllTell};
+ghost use Rattle.fits_stream.specs.Stream.{SinkState};
+ghost use Rattle.fits_plane.specs.Again.{Follows};
 ghost use Rattle.fits_cli.specs.Faults.{RunCounts};
 ghost use Rattle.fits_cli.specs.Terms.{asking};
-ghost use Rattle.fits_cli.specs.Ends.{run_by, EndsAs, RemarksEndAs};
+ghost use Rattle.fits_cli.specs.Ends.{run_by, EndsAs, OverReads, RemarksEndAs};
 
 use crate::editing::{run_edit_stored, run_edit_told};
 use crate::end::{End, end_of};
 use crate::terms::ASKING;
-use fits_stream::{FailedReads, Sink, Source, Stored, Watched};
+use fits_stream::{ReadLog, Sink, Source, Stored, Watched};
 use std::alloc::Global;
 use std::io;
 
@@ -34,25 +34,26 @@ pub fn run_ask<F: Source, S: Source, O: Sink, E: Sink>(
     end_of(run_edit_told(alloc, ASKING, file, script, &mut nowhere, out, told))
 }
 
-/// The same of a stored file, as `run_edit_stored` reads it. Reads of it that fail are counted.
+/// The same of a stored file, as `run_edit_stored` reads it.
 pub fn run_ask_stored<F: Stored, S: Source, O: Sink, E: Sink>(
     alloc: Global,
     file: &F,
-    failed: &mut FailedReads,
+    log: &mut ReadLog,
     script: &mut S,
     out: &mut O,
     told: &mut Option<E>,
 ) -> End
-    ensures ends { AllTell F.bytes → (saved : SinkState) → (after : SourceState) × EndsAs
-        (run_by asking true (at_start (F.bytes file.now) failed.old) (S.state script.old) (O.state out.old))
+    ensures ends { OverReads log.old log.new (λ file after. (saved : SinkState) → EndsAs
+        (run_by asking true file (S.state script.old) (O.state out.old))
         (run_by asking true after (S.state script.new) (O.state out.new))
-        saved saved result }
-    ensures told { AllTell F.bytes → RemarksEndAs asking (at_start (F.bytes file.now) failed.old)
+        saved saved result) }
+    ensures told { OverReads log.old log.new (λ file after. RemarksEndAs asking file
         (S.state script.old) (S.state script.new)
-        (option_map E.state told.old) (option_map E.state told.new) result }
-    ensures counted { MatchOption result.fault (failed.new ≡ failed.old)
-        (RunCounts failed.old failed.new (S.state script.old) (S.state script.new)) }
+        (option_map E.state told.old) (option_map E.state told.new) result) }
+    ensures counted { MatchOption result.fault (log.new.failures ≡ log.old.failures)
+        (RunCounts log.old.failures log.new.failures (S.state script.old) (S.state script.new)) }
+    ensures follows { Follows log.old log.new }
 {
     let mut nowhere = Watched::new(io::sink());
-    end_of(run_edit_stored(alloc, ASKING, file, failed, script, &mut nowhere, out, told))
+    end_of(run_edit_stored(alloc, ASKING, file, log, script, &mut nowhere, out, told))
 }

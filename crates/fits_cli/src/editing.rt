@@ -1,14 +1,15 @@
 //! The run of a script over a file: a file, a script, answers, and what the script made of the file.
-ghost use Rattle.std.specs.Prelude.{◌≡◌, false, true, not, AllPairs, IfOk, IfErr, OnErr, OnOk};
+ghost use Rattle.std.specs.Prelude.{◌≡◌, ℕ, List, false, true, not, AllPairs, IfOk, IfErr, OnErr, OnOk};
 ghost use Rattle.std.specs.Option.{option_map};
-ghost use Rattle.fits_stream.specs.Stream.{SourceState};
-ghost use Rattle.fits_session.specs.Away.{at_start, AllTell};
+ghost use Rattle.fits_stream.specs.Agree.{IsOf};
+ghost use Rattle.fits_plane.specs.Again.{Follows};
+ghost use Rattle.fits_session.specs.Away.{AllLie};
 ghost use Rattle.fits_session.specs.Marked.{unmarked};
 ghost use Rattle.fits_session.specs.Report.{IsListedBefore};
 ghost use Rattle.fits_session.specs.Session.{file_of, marked_of};
 ghost use Rattle.fits_cli.specs.Faults.{FaultCounts, RunCounts};
-ghost use Rattle.fits_cli.specs.Ends.{run, run_by, AreToldOf, EndsAs, EndsBy, OverFile, RemarksBy, StopsBy};
-ghost use Rattle.fits_cli.specs.Running.{FlushesAnswers, IsAnsweredRun, OverAnswered};
+ghost use Rattle.fits_cli.specs.Ends.{run, run_by, AreToldOf, EndsAs, EndsBy, OverFile, OverReads, RemarksBy, StopsBy};
+ghost use Rattle.fits_cli.specs.Running.{FlushesAnswers, IsAnsweredRun, OverAnswered, OverFirst, Steady};
 
 use crate::edited::Edited;
 use crate::end::{End, end_of};
@@ -20,7 +21,7 @@ use crate::saves::Saves;
 use crate::script::answer_script;
 use crate::terms::{PLAIN, Terms};
 use fits_session::{Holder, Problem, Session};
-use fits_stream::{FailedReads, Sink, Source, Stored};
+use fits_stream::{ReadLog, Sink, Source, Stored};
 use std::alloc::Global;
 
 /// Reads a file and opens it, answers a script, and saves what the script made of the file.
@@ -66,7 +67,7 @@ pub fn run_edit_told<F: Source, S: Source, P: Sink, O: Sink, E: Sink>(
             alloc,
             terms,
             session,
-            &mut FailedReads::none(),
+            &mut ReadLog::none(),
             script,
             saved,
             out,
@@ -78,93 +79,131 @@ pub fn run_edit_told<F: Source, S: Source, P: Sink, O: Sink, E: Sink>(
 
 /// The same of a stored file, in which its data stay until a line wants them. They are read again
 /// then, or where they are copied as it is saved: where they have changed meanwhile, or aren't had,
-/// the run ends by `Fault::Reread`, and nothing more is saved. Reads of it that fail are counted.
+/// the run ends by `Fault::Reread`, and nothing more is saved.
+///
+/// What it ends with goes by what the reads of the file gave, which the log has: where they may have
+/// been of some bytes the run is that of these bytes, whatever the file was before, between and after
+/// them.
 pub fn run_edit_stored<F: Stored, S: Source, P: Sink, O: Sink, E: Sink>(
     alloc: Global,
     terms: Terms,
     file: &F,
-    failed: &mut FailedReads,
+    log: &mut ReadLog,
     script: &mut S,
     saved: &mut P,
     out: &mut O,
     told: &mut Option<E>,
 ) -> Result<Edited, Fault>
-    ensures ends { AllTell F.bytes → (after : SourceState) × EndsBy
-        (run_by terms true (at_start (F.bytes file.now) failed.old) (S.state script.old) (O.state out.old))
+    ensures ends { OverReads log.old log.new (λ file after. EndsBy
+        (run_by terms true file (S.state script.old) (O.state out.old))
         (run_by terms true after (S.state script.new) (O.state out.new))
-        (P.state saved.old) (P.state saved.new) result }
-    ensures told { AllTell F.bytes → RemarksBy terms (at_start (F.bytes file.now) failed.old)
+        (P.state saved.old) (P.state saved.new) result) }
+    ensures told { OverReads log.old log.new (λ file after. RemarksBy terms file
         (S.state script.old) (S.state script.new)
-        (option_map E.state told.old) (option_map E.state told.new) result }
-    ensures quiet { OnOk result (failed.new ≡ failed.old) }
-    ensures counted { IfErr result (RunCounts failed.old failed.new
+        (option_map E.state told.old) (option_map E.state told.new) result) }
+    ensures quiet { OnOk result (log.new.failures ≡ log.old.failures) }
+    ensures counted { IfErr result (RunCounts log.old.failures log.new.failures
         (S.state script.old) (S.state script.new)) }
+    ensures follows { Follows log.old log.new }
 {
-    match Session::read_stored(alloc, file, failed) {
-        Ok(session) => edit(alloc, terms, session, failed, script, saved, out, told),
+    match Session::read_stored(alloc, file, log) {
+        Ok(session) => edit(alloc, terms, session, log, script, saved, out, told),
         Err(why) => Err(Fault::from(why)),
     }
 }
 
-// The run over a file that was opened.
+// The run over a file that was opened by these reads.
 fn edit<H: Holder + Drop, S: Source, P: Sink, O: Sink, E: Sink>(
     alloc: Global,
     terms: Terms,
     session: Session<H>,
-    failed: &mut FailedReads,
+    log: &mut ReadLog,
     script: &mut S,
     saved: &mut P,
     out: &mut O,
     told: &mut Option<E>,
 ) -> Result<Edited, Fault>
-    requires { marked_of session ≡ unmarked (file_of session) }
-    ensures ends { H.steady → OverFile (file_of session) (λ file after. EndsBy
+    requires unmarked { marked_of session ≡ unmarked (file_of session) }
+    requires lie { (bytes : List ℕ) → IsOf bytes log.old → AllLie bytes session.hdus }
+    ensures ends { Steady H.whole log.new → OverFile (not H.whole) (file_of session) (λ file after. EndsBy
         (run_by terms (not H.whole) file (S.state script.old) (O.state out.old))
         (run_by terms (not H.whole) after (S.state script.new) (O.state out.new))
         (P.state saved.old) (P.state saved.new) result) }
-    ensures told { H.steady → OverFile (file_of session) (λ file after. RemarksBy terms file
+    ensures told { Steady H.whole log.new → OverFile (not H.whole) (file_of session) (λ file after. RemarksBy terms file
         (S.state script.old) (S.state script.new)
         (option_map E.state told.old) (option_map E.state told.new) result) }
-    ensures quiet { OnOk result (failed.new ≡ failed.old) }
-    ensures counted { IfErr result (RunCounts failed.old failed.new
+    ensures quiet { OnOk result (log.new.failures ≡ log.old.failures) }
+    ensures counted { IfErr result (RunCounts log.old.failures log.new.failures
         (S.state script.old) (S.state script.new)) }
+    ensures follows { Follows log.old log.new }
 {
-    let (mut runner, before) = answered(alloc, terms, session, failed, script, out, told)?;
-    save_result(alloc, terms, &mut runner, &before, failed, saved, out)
+    let mut runner = Runner::new(session, terms, log.take());
+    let ended = run(alloc, terms, &mut runner, script, saved, out, told);
+    *log = runner.into_log();
+    ended
 }
 
-// Answers a script over a file that was opened, and flushes the answers. Before the first line it
-// asks for the report of the file, where that is wanted.
+// The same from the first line on.
+fn run<H: Holder + Drop, S: Source, P: Sink, O: Sink, E: Sink>(
+    alloc: Global,
+    terms: Terms,
+    runner: &mut Runner<H>,
+    script: &mut S,
+    saved: &mut P,
+    out: &mut O,
+    told: &mut Option<E>,
+) -> Result<Edited, Fault>
+    requires { runner.old.standing.line ≡ 1 }
+    ensures ends { Steady H.whole runner.new.log → OverFirst (not H.whole) terms runner.old.standing (λ file after. EndsBy
+        (run_by terms (not H.whole) file (S.state script.old) (O.state out.old))
+        (run_by terms (not H.whole) after (S.state script.new) (O.state out.new))
+        (P.state saved.old) (P.state saved.new) result) }
+    ensures told { Steady H.whole runner.new.log → OverFirst (not H.whole) terms runner.old.standing (λ file after. RemarksBy
+        terms file (S.state script.old) (S.state script.new)
+        (option_map E.state told.old) (option_map E.state told.new) result) }
+    ensures quiet { OnOk result (runner.new.log.failures ≡ runner.old.log.failures) }
+    ensures counted { IfErr result (RunCounts runner.old.log.failures runner.new.log.failures
+        (S.state script.old) (S.state script.new)) }
+    ensures follows { Follows runner.old.log runner.new.log }
+{
+    let before = answered(alloc, terms, runner, script, out, told)?;
+    save_result(alloc, terms, runner, &before, saved, out)
+}
+
+// Answers a script over a file, and flushes the answers. Before the first line it asks for the report
+// of the file, where that is wanted, and answers it.
 fn answered<H: Holder + Drop, S: Source, O: Sink, E: Sink>(
     alloc: Global,
     terms: Terms,
-    session: Session<H>,
-    failed: &mut FailedReads,
+    runner: &mut Runner<H>,
     script: &mut S,
     out: &mut O,
     told: &mut Option<E>,
-) -> Result<(Runner<H>, Vec<Problem>), Fault>
-    requires { marked_of session ≡ unmarked (file_of session) }
-    ensures ok { H.steady → IfOk result (λ done. OverFile (file_of session) (λ file after. IsAnsweredRun
+) -> Result<Vec<Problem>, Fault>
+    requires { runner.old.standing.line ≡ 1 }
+    ensures ok { Steady H.whole runner.new.log → IfOk result (λ before. OverFirst (not H.whole) terms runner.old.standing
+        (λ file after. IsAnsweredRun
         (run_by terms (not H.whole) file (S.state script.old) (O.state out.old))
         (run_by terms (not H.whole) after (S.state script.new) (O.state out.new))
-        (option_map E.state told.old) (option_map E.state told.new) done.0 done.1.items)) }
-    ensures ordered { IfOk result (λ done. AllPairs IsListedBefore done.1.items) }
-    ensures err { H.steady → IfErr result (λ fault. OverFile (file_of session) (λ file after. StopsBy
+        (option_map E.state told.old) (option_map E.state told.new)
+        runner.new.standing before.items)) }
+    ensures ordered { IfOk result (λ before. AllPairs IsListedBefore before.items) }
+    ensures err { Steady H.whole runner.new.log → IfErr result (λ fault. OverFirst (not H.whole) terms runner.old.standing
+        (λ file after. StopsBy
         (run_by terms (not H.whole) file (S.state script.old) (O.state out.old))
         (run_by terms (not H.whole) after (S.state script.new) (O.state out.new)) fault)) }
-    ensures told { H.steady → OnErr result (OverFile (file_of session) (λ file after. AreToldOf terms
-        file (S.state script.old) (S.state script.new)
+    ensures told { Steady H.whole runner.new.log → OnErr result (OverFirst (not H.whole) terms runner.old.standing
+        (λ file after. AreToldOf terms file (S.state script.old) (S.state script.new)
         (option_map E.state told.old) (option_map E.state told.new))) }
-    ensures quiet { OnOk result (failed.new ≡ failed.old) }
-    ensures counted { IfErr result (RunCounts failed.old failed.new
+    ensures quiet { OnOk result (runner.new.log.failures ≡ runner.old.log.failures) }
+    ensures counted { IfErr result (RunCounts runner.old.log.failures runner.new.log.failures
         (S.state script.old) (S.state script.new)) }
+    ensures follows { Follows runner.old.log runner.new.log }
 {
-    let mut runner = Runner::new(session, terms);
     let before = runner.report_for(alloc, terms.saves.check())?;
-    let answered = answer_script(alloc, &mut runner, failed, script, out, told);
+    let answered = answer_script(alloc, runner, script, out, told);
     flush_answers(answered, out)?;
-    Ok((runner, before))
+    Ok(before)
 }
 
 // Flushes the answers to a script, which are of use whatever ended it.
@@ -193,16 +232,16 @@ fn save_result<H: Holder + Drop, P: Sink, O: Sink>(
     terms: Terms,
     runner: &mut Runner<H>,
     before: &[Problem],
-    failed: &mut FailedReads,
     saved: &mut P,
     out: &mut O,
 ) -> Result<Edited, Fault>
     requires { AllPairs IsListedBefore before.now }
-    ensures ends { H.steady → OverAnswered terms (not H.whole) runner.old before.now
-        (O.state out.old) (O.state out.new)
+    ensures ends { Steady H.whole runner.new.log → OverAnswered terms (not H.whole)
+        runner.old.standing before.now (O.state out.old) (O.state out.new)
         (λ old new. EndsBy old new (P.state saved.old) (P.state saved.new) result) }
-    ensures quiet { OnOk result (failed.new ≡ failed.old) }
-    ensures counted { IfErr result (FaultCounts failed.old failed.new) }
+    ensures quiet { OnOk result (runner.new.log.failures ≡ runner.old.log.failures) }
+    ensures counted { IfErr result (FaultCounts runner.old.log.failures runner.new.log.failures) }
+    ensures follows { Follows runner.old.log runner.new.log }
 {
     match terms.saves {
         Saves::Nothing => Ok(Edited::Done(runner.status())),
@@ -218,7 +257,7 @@ fn save_result<H: Holder + Drop, P: Sink, O: Sink>(
                     warnings: found.warnings,
                 });
             }
-            runner.save(terms, failed, saved)?;
+            runner.save(terms, saved)?;
             Ok(Edited::Done(runner.status()))
         }
     }

@@ -1,5 +1,6 @@
 //! Whether an HDU is kept stamped.
 ghost use Rattle.std.specs.Prelude.{◌≡◌, IfOk, IfErr, OnErr, Ok};
+ghost use Rattle.fits_session.specs.Away.{LieStill};
 ghost use Rattle.fits_session.specs.Session.{marked_of};
 ghost use Rattle.fits_cli.specs.Answer.{kept_line, outcome_of, CommandFails};
 ghost use Rattle.fits_script.specs.declared.command.Command.TheVariants.{Kept};
@@ -18,6 +19,7 @@ pub(crate) fn kept<H: Holder + Drop>(
         ≡ Ok (record { text = text.items; left = marked_of session.new })) }
     ensures err { IfErr result (CommandFails (marked_of session.old) (Kept hdu)) }
     ensures same { OnErr result (marked_of session.new ≡ marked_of session.old) }
+    ensures stays { LieStill session.old.hdus session.new.hdus }
 {
     let kept = session.kept(hdu)?;
     Ok(kept_line(alloc, kept)?)

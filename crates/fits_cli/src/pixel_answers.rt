@@ -1,5 +1,6 @@
 //! What queries of pixels and sums print.
 ghost use Rattle.std.specs.Prelude.{◌≡◌, IfOk, IfErr, OnErr, Ok};
+ghost use Rattle.fits_session.specs.Away.{LieStill};
 ghost use Rattle.fits_session.specs.Session.{marked_of, HasStats, IsHeld, IsSoOf};
 ghost use Rattle.fits_cli.specs.Answer.{outcome_of, CommandFails};
 ghost use Rattle.fits_script.specs.declared.command.Command.TheVariants.{Rectangle, Statistics, Sums};
@@ -20,6 +21,7 @@ pub(crate) fn statistics<H: Holder + Drop>(
         ≡ Ok (record { text = text.items; left = marked_of session.new })) }
     ensures err { IfErr result (CommandFails (marked_of session.old) (Statistics hdu)) }
     ensures kept { OnErr result (marked_of session.new ≡ marked_of session.old) }
+    ensures stays { LieStill session.old.hdus session.new.hdus }
 {
     let stats = session.known_stats(hdu)?;
     Ok(statistics_line(alloc, &stats)?)
@@ -39,6 +41,7 @@ pub(crate) fn rectangle<H: Holder + Drop>(
         ≡ Ok (record { text = text.items; left = marked_of session.new })) }
     ensures err { IfErr result (CommandFails (marked_of session.old) (Rectangle hdu lo hi)) }
     ensures kept { OnErr result (marked_of session.new ≡ marked_of session.old) }
+    ensures stays { LieStill session.old.hdus session.new.hdus }
 {
     let values = session.held_rect(hdu, lo.as_slice(), hi.as_slice())?;
     Ok(values_line(alloc, &values)?)
@@ -55,6 +58,7 @@ pub(crate) fn sums<H: Holder + Drop>(
         ≡ Ok (record { text = text.items; left = marked_of session.new })) }
     ensures err { IfErr result (CommandFails (marked_of session.old) (Sums hdu)) }
     ensures kept { OnErr result (marked_of session.new ≡ marked_of session.old) }
+    ensures stays { LieStill session.old.hdus session.new.hdus }
 {
     let sum = session.datasum(hdu)?;
     let verdicts = session.verdicts(hdu)?;

@@ -1,6 +1,7 @@
 //! A file and how far its script has come.
 ghost use Rattle.std.specs.Prelude.{◌≡◌};
 ghost use Rattle.fits_cli.specs.Answer.{marked_first};
+ghost use Rattle.fits_session.specs.Away.{LieStill};
 ghost use Rattle.fits_session.specs.Marked.{unmarked};
 ghost use Rattle.fits_session.specs.Session.{file_of, marked_of};
 
@@ -16,14 +17,16 @@ use crate::saves::Saves;
 use crate::terms::Terms;
 use fits_script::{LineReading, read_line};
 use fits_session::{Holder, Problem, Session};
-use fits_stream::{FailedReads, Sink};
+use fits_stream::{ReadLog, Sink};
 use std::alloc::{AllocError, Global};
 use std::marker::Model;
 
-/// A file and how far its script has come. Contracts see the standing.
+/// A file and how far its script has come. Contracts see the standing, and what came of the file.
 #[derive(Drop)]
 pub(crate) struct Runner<H: Holder + Drop> {
     session: Session<H>,
+    /// The reads of its file so far.
+    log: ReadLog,
     /// The number of the line that comes, from 1.
     line: u64,
     /// How many lines so far were refused or bad.
@@ -33,25 +36,31 @@ pub(crate) struct Runner<H: Holder + Drop> {
 }
 
 impl<H: Holder + Drop> Model for Runner<H> {
-    ghost use Rattle.std.specs.Prelude.{◌<◌};
-    ghost use Rattle.fits_cli.specs.Answer.{Standing};
+    ghost use Rattle.fits_cli.specs.Running.{IsUnderWay, Progress};
     ghost use Rattle.fits_session.specs.Session.{marked_of};
 
-    ghost Value = { Standing };
+    ghost Value = { Progress };
 
     ghost view = { λ runner. record {
-      marked = marked_of runner.session;
-      line = runner.line;
-      refused = runner.refused;
-      edited = runner.edited;
+      standing = record {
+        marked = marked_of runner.session;
+        line = runner.line;
+        refused = runner.refused;
+        edited = runner.edited;
+      };
+      log = runner.log;
     } };
 
-    ghost invariant = { λ runner. runner.refused < runner.line };
+    ghost invariant = { λ runner. IsUnderWay runner.session.hdus runner.log
+        runner.line runner.refused };
 }
 
 impl<H: Holder + Drop> Runner<H> {
-    ghost use Rattle.std.specs.Prelude.{◌≡◌, ◌+◌, ◌^◌, ◌<◌, ◌&&◌, ◌||◌, not, true, AllPairs, if◌then◌else◌, IfOk, IfErr, OnOk, OnErr};
+    ghost use Rattle.std.specs.Prelude.{◌≡◌, ◌+◌, ◌^◌, ◌<◌, ◌&&◌, ℕ, List, ◌||◌, not, true, AllPairs, if◌then◌else◌, IfOk, IfErr, OnOk, OnErr};
+    ghost use Rattle.fits_stream.specs.Agree.{IsOf};
     ghost use Rattle.fits_stream.specs.Stream.{Prints};
+    ghost use Rattle.fits_plane.specs.Again.{Follows};
+    ghost use Rattle.fits_session.specs.Away.{AllLie};
     ghost use Rattle.fits_cli.specs.Answer.{at_first_line, line_answer, line_left, LineNeedsMemory};
     ghost use Rattle.fits_script.specs.Line.{reading_of};
     ghost use Rattle.fits_cli.specs.Output.{saved_bytes, status_of};
@@ -59,7 +68,7 @@ impl<H: Holder + Drop> Runner<H> {
     ghost use Rattle.fits_cli.specs.Report.{errors_in, warnings_in};
     ghost use Rattle.fits_cli.specs.Reply.{counts_as_refused, reply_text};
     ghost use Rattle.fits_cli.specs.Faults.{FaultCounts, IsOnce, SaveFails};
-    ghost use Rattle.fits_cli.specs.Running.{LacksReply};
+    ghost use Rattle.fits_cli.specs.Running.{LacksReply, Steady};
     ghost use Rattle.fits_cli.specs.NewErrors.{new_error_lines, new_errors};
     ghost use Rattle.fits_cli.specs.Terms.{holds_back};
     ghost use Rattle.fits_cli.specs.declared.level.Level.TheVariants.{Quiet};
@@ -68,77 +77,87 @@ impl<H: Holder + Drop> Runner<H> {
     ghost use Rattle.fits_session.specs.Session.{file_of, marked_of};
 
     /// Before the first line, on these terms: where right sums are kept right, each HDU is kept stamped
-    /// whose sums vouch for it.
-    pub(crate) fn new(mut session: Session<H>, terms: Terms) -> Runner<H>
-        requires { marked_of session ≡ unmarked (file_of session) }
-        ensures { result ≡ at_first_line terms (file_of session) }
+    /// whose sums vouch for it. The reads so far are those by which the file was opened.
+    pub(crate) fn new(mut session: Session<H>, terms: Terms, log: ReadLog) -> Runner<H>
+        requires unmarked { marked_of session ≡ unmarked (file_of session) }
+        requires lie { (bytes : List ℕ) → IsOf bytes log → AllLie bytes session.hdus }
+        ensures standing { result.standing ≡ at_first_line terms (file_of session) }
+        ensures log { result.log ≡ log }
     {
         keep_first(&mut session, terms);
         Runner {
             session,
+            log,
             line: 1,
             refused: 0,
             edited: false,
         }
     }
 
+    /// The reads of its file.
+    pub(crate) fn into_log(self) -> ReadLog
+        ensures { result ≡ self.log }
+    {
+        let Runner { log, .. } = self;
+        log
+    }
+
     /// The number of the line that comes.
     pub(crate) fn line(&self) -> u64
-        ensures { result ≡ self.now.line }
+        ensures { result ≡ self.now.standing.line }
     {
         self.line
     }
 
     /// The status of a run whose script ended here: 1 where a line was refused or bad, else 0.
     pub(crate) fn status(&self) -> u8
-        ensures { result ≡ status_of self.now }
+        ensures { result ≡ status_of self.now.standing }
     {
         if self.refused == 0 { 0 } else { 1 }
     }
 
     /// How many lines were refused or bad.
     pub(crate) fn refused(&self) -> u64
-        ensures { result ≡ self.now.refused }
+        ensures { result ≡ self.now.standing.refused }
     {
         self.refused
     }
 
     /// Whether lines that weren't done keep the result from being saved, where every one is to be.
     pub(crate) fn is_held_back(&self, saves: Saves) -> bool
-        ensures { result ≡ holds_back saves self.now.refused }
+        ensures { result ≡ holds_back saves self.now.standing.refused }
     {
         saves.whole() && self.refused > 0
     }
 
     /// Does what a line says, and goes on to the next one. Where clues are wanted the reply has them.
-    /// Reads of the file that fail are counted.
     #[tactic(auto, unfolding(crate::specs::Answer::line_answer, crate::specs::Answer::line_left, crate::specs::Answer::LineNeedsMemory, crate::specs::Remark::remark_by, crate::specs::Remark::remark_on))]
     pub(crate) fn reply<'a>(
         &mut self,
         alloc: Global,
         wanted: bool,
         line: &'a [u8],
-        failed: &mut FailedReads,
     ) -> Result<Reply<'a>, Fault>
-        requires { self.old.line + 1 < 2 ^ 64 }
-        ensures text { H.steady → IfOk result (λ reply.
-            reply_text self.old.line reply ≡ line_answer self.old (reading_of line.now)) }
-        ensures remark { H.steady → IfOk result (λ reply. wanted ≡ true → remark_by line.now reply
-            ≡ remark_on self.old.marked line.now (reading_of line.now)) }
-        ensures left { H.steady → OnOk result
-            (self.new ≡ line_left self.old (reading_of line.now)) }
-        ensures err { H.steady → IfErr result
-            (LacksReply self.old.marked (reading_of line.now)) }
-        ensures quiet { OnOk result (failed.new ≡ failed.old) }
-        ensures counted { IfErr result (FaultCounts failed.old failed.new) }
+        requires { self.old.standing.line + 1 < 2 ^ 64 }
+        ensures text { Steady H.whole self.new.log → IfOk result (λ reply.
+            reply_text self.old.standing.line reply ≡ line_answer self.old.standing (reading_of line.now)) }
+        ensures remark { Steady H.whole self.new.log → IfOk result (λ reply. wanted ≡ true → remark_by line.now reply
+            ≡ remark_on self.old.standing.marked line.now (reading_of line.now)) }
+        ensures left { Steady H.whole self.new.log → OnOk result
+            (self.new.standing ≡ line_left self.old.standing (reading_of line.now)) }
+        ensures err { Steady H.whole self.new.log → IfErr result
+            (LacksReply self.old.standing.marked (reading_of line.now)) }
+        ensures quiet { OnOk result (self.new.log.failures ≡ self.old.log.failures) }
+        ensures counted { IfErr result (FaultCounts self.old.log.failures self.new.log.failures) }
         ensures once { H.whole ≡ true → IfErr result IsOnce }
-        ensures line { OnOk result (self.new.line ≡ self.old.line + 1) }
+        ensures line { OnOk result (self.new.standing.line ≡ self.old.standing.line + 1) }
+        ensures follows { Follows self.old.log self.new.log }
     {
         match read_line(alloc, line) {
             Ok(LineReading::TooLong) => Ok(self.pass(Reply::TooLong, false)),
             Ok(LineReading::NoCommand(misfit)) => Ok(self.pass(Reply::NoCommand(misfit), false)),
             Ok(LineReading::Said(command)) => {
-                ready(&mut self.session, &command, failed)?;
+                ready(&mut self.session, &command, &mut self.log)?;
                 let clues = clues_of(wanted, &command);
                 let edits = is_edit(&command);
                 let reply = settled(clues, answer(alloc, &mut self.session, command))?;
@@ -150,14 +169,15 @@ impl<H: Holder + Drop> Runner<H> {
 
     // Goes on to the next line, after one that came to this, whose command is an edit or isn't.
     fn pass<'a>(&mut self, reply: Reply<'a>, edits: bool) -> Reply<'a>
-        requires { self.old.line + 1 < 2 ^ 64 }
+        requires { self.old.standing.line + 1 < 2 ^ 64 }
         ensures same { result ≡ reply.entry }
-        ensures left { self.new ≡ record {
-          marked = self.old.marked;
-          line = self.old.line + 1;
-          refused = self.old.refused + (if counts_as_refused reply.entry then 1 else 0);
-          edited = if counts_as_refused reply.entry then self.old.edited else edits || self.old.edited;
+        ensures left { self.new.standing ≡ record {
+          marked = self.old.standing.marked;
+          line = self.old.standing.line + 1;
+          refused = self.old.standing.refused + (if counts_as_refused reply.entry then 1 else 0);
+          edited = if counts_as_refused reply.entry then self.old.standing.edited else edits || self.old.standing.edited;
         } }
+        ensures log { self.new.log ≡ self.old.log }
     {
         self.line += 1;
         if counts_as_refused(&reply) {
@@ -175,7 +195,7 @@ impl<H: Holder + Drop> Runner<H> {
         level: Level,
     ) -> Result<Vec<Problem>, AllocError>
         ensures value { (level ≡ Quiet → ⊥)
-            → IfOk result (λ report. report.items ≡ report_of self.old.marked.file) }
+            → IfOk result (λ report. report.items ≡ report_of self.old.standing.marked.file) }
         ensures ordered { IfOk result (λ report. AllPairs IsListedBefore report.items) }
         ensures left { self.new ≡ self.old }
     {
@@ -187,7 +207,7 @@ impl<H: Holder + Drop> Runner<H> {
 
     // What is wrong with the file as it stands.
     fn report(&mut self) -> Result<Vec<Problem>, AllocError>
-        ensures value { IfOk result (λ report. report.items ≡ report_of self.old.marked.file) }
+        ensures value { IfOk result (λ report. report.items ≡ report_of self.old.standing.marked.file) }
         ensures left { self.new ≡ self.old }
     {
         self.session.report()
@@ -204,11 +224,11 @@ impl<H: Holder + Drop> Runner<H> {
     ) -> Result<NewErrors, AllocError>
         requires { AllPairs IsListedBefore before.now }
         ensures text { IfOk result (λ found. found.text.items
-            ≡ new_error_lines (new_errors level before.now (report_of self.old.marked.file))) }
+            ≡ new_error_lines (new_errors level before.now (report_of self.old.standing.marked.file))) }
         ensures errors { IfOk result (λ found. found.errors
-            ≡ errors_in (new_errors level before.now (report_of self.old.marked.file))) }
+            ≡ errors_in (new_errors level before.now (report_of self.old.standing.marked.file))) }
         ensures warnings { IfOk result (λ found. found.warnings
-            ≡ warnings_in (new_errors level before.now (report_of self.old.marked.file))) }
+            ≡ warnings_in (new_errors level before.now (report_of self.old.standing.marked.file))) }
         ensures err { OnErr result (level ≡ Quiet → ⊥) }
         ensures left { self.new ≡ self.old }
     {
@@ -221,52 +241,44 @@ impl<H: Holder + Drop> Runner<H> {
 
     /// Saves the file on these terms, and flushes it.
     #[tactic(auto, using(fits_stream::proofs::StreamLemmas::flush_steps))]
-    pub(crate) fn save<P: Sink>(
-        &mut self,
-        terms: Terms,
-        failed: &mut FailedReads,
-        saved: &mut P,
-    ) -> Result<(), Fault>
-        ensures ok { H.steady → OnOk result (Prints (saved_bytes terms self.old)
+    pub(crate) fn save<P: Sink>(&mut self, terms: Terms, saved: &mut P) -> Result<(), Fault>
+        ensures ok { Steady H.whole self.new.log → OnOk result (Prints (saved_bytes terms self.old.standing)
             (P.state saved.old) (P.state saved.new)) }
-        ensures err { H.steady → IfErr result (SaveFails (saved_bytes terms self.old)
+        ensures err { Steady H.whole self.new.log → IfErr result (SaveFails (saved_bytes terms self.old.standing)
             (P.state saved.old) (P.state saved.new)) }
-        ensures quiet { OnOk result (failed.new ≡ failed.old) }
-        ensures counted { IfErr result (FaultCounts failed.old failed.new) }
+        ensures quiet { OnOk result (self.new.log.failures ≡ self.old.log.failures) }
+        ensures counted { IfErr result (FaultCounts self.old.log.failures self.new.log.failures) }
         ensures once { H.whole ≡ true → IfErr result IsOnce }
         ensures flushed { OnOk result ((P.state saved.new).unflushed ≡ 0) }
-        ensures left { self.new ≡ self.old }
+        ensures standing { self.new.standing ≡ self.old.standing }
+        ensures follows { Follows self.old.log self.new.log }
     {
-        self.write(terms, failed, saved)?;
+        self.write(terms, saved)?;
         flush(saved)
     }
 
     // Writes what is saved on these terms.
-    fn write<P: Sink>(
-        &mut self,
-        terms: Terms,
-        failed: &mut FailedReads,
-        saved: &mut P,
-    ) -> Result<(), Fault>
-        ensures ok { H.steady → OnOk result (Prints (saved_bytes terms self.old)
+    fn write<P: Sink>(&mut self, terms: Terms, saved: &mut P) -> Result<(), Fault>
+        ensures ok { Steady H.whole self.new.log → OnOk result (Prints (saved_bytes terms self.old.standing)
             (P.state saved.old) (P.state saved.new)) }
-        ensures err { H.steady → IfErr result (SaveFails (saved_bytes terms self.old)
+        ensures err { Steady H.whole self.new.log → IfErr result (SaveFails (saved_bytes terms self.old.standing)
             (P.state saved.old) (P.state saved.new)) }
-        ensures quiet { OnOk result (failed.new ≡ failed.old) }
-        ensures counted { IfErr result (FaultCounts failed.old failed.new) }
+        ensures quiet { OnOk result (self.new.log.failures ≡ self.old.log.failures) }
+        ensures counted { IfErr result (FaultCounts self.old.log.failures self.new.log.failures) }
         ensures once { H.whole ≡ true → IfErr result IsOnce }
-        ensures left { self.new ≡ self.old }
+        ensures standing { self.new.standing ≡ self.old.standing }
+        ensures follows { Follows self.old.log self.new.log }
     {
         if self.is_spared(terms) {
             return Ok(());
         }
-        self.session.write(failed, saved)?;
+        self.session.write(&mut self.log, saved)?;
         Ok(())
     }
 
     // Whether nothing is saved on these terms, since no edit was accepted.
     fn is_spared(&self, terms: Terms) -> bool
-        ensures { result ≡ (terms.spare && not self.now.edited) }
+        ensures { result ≡ (terms.spare && not self.now.standing.edited) }
     {
         terms.spare && !self.edited
     }
@@ -275,7 +287,8 @@ impl<H: Holder + Drop> Runner<H> {
 // Marks the HDUs that these terms have kept from the first line on.
 fn keep_first<H: Holder + Drop>(session: &mut Session<H>, terms: Terms)
     requires { marked_of session.old ≡ unmarked (file_of session.old) }
-    ensures { marked_of session.new ≡ marked_first terms (file_of session.old) }
+    ensures marked { marked_of session.new ≡ marked_first terms (file_of session.old) }
+    ensures stays { LieStill session.old.hdus session.new.hdus }
 {
     if terms.sums {
         session.keep_right();

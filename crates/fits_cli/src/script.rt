@@ -6,7 +6,8 @@ ghost use Rattle.fits_stream.specs.Stream.{Prints};
 ghost use Rattle.fits_script.specs.Line.{reading_of};
 ghost use Rattle.fits_cli.specs.Faults.{FaultCounts, IsOnce, PrintFails, ScriptCounts};
 ghost use Rattle.fits_cli.specs.Reply.{reply_text};
-ghost use Rattle.fits_cli.specs.Running.{heard, kept_of, AnswersLine, AnswersScript, Continues};
+ghost use Rattle.fits_plane.specs.Again.{Follows};
+ghost use Rattle.fits_cli.specs.Running.{heard, kept_of, AnswersLine, AnswersScript, Continues, Steady};
 ghost use Rattle.fits_cli.specs.Running.{EndsScript, EndStops, LineStops, PieceStops, ScriptStops};
 
 use crate::fault::Fault;
@@ -17,7 +18,7 @@ use crate::reply::{Reply, counts_as_refused, print_reply};
 use crate::runner::Runner;
 use fits_script::{LINE_LIMIT, split_far};
 use fits_session::Holder;
-use fits_stream::{FailedReads, PIECE_LEN, Sink, Source, buffer_of};
+use fits_stream::{PIECE_LEN, Sink, Source, buffer_of};
 use std::alloc::Global;
 
 /// How many bytes of a line are kept until it ends. More aren't needed: it is too long.
@@ -27,26 +28,26 @@ const LINE_ROOM: usize = LINE_LIMIT + 1;
 fn answer_line<H: Holder + Drop, O: Sink, E: Sink>(
     alloc: Global,
     runner: &mut Runner<H>,
-    failed: &mut FailedReads,
     line: &[u8],
     out: &mut O,
     told: &mut Option<E>,
 ) -> Result<(), Fault>
-    requires { runner.old.line + 1 < 2 ^ 64 }
-    ensures ok { H.steady → OnOk result (AnswersLine line.now runner.old runner.new
+    requires { runner.old.standing.line + 1 < 2 ^ 64 }
+    ensures ok { Steady H.whole runner.new.log → OnOk result (AnswersLine line.now runner.old.standing runner.new.standing
         (heard (O.state out.old) (option_map E.state told.old))
         (heard (O.state out.new) (option_map E.state told.new))) }
-    ensures err { H.steady → IfErr result (LineStops line.now runner.old
+    ensures err { Steady H.whole runner.new.log → IfErr result (LineStops line.now runner.old.standing
         (heard (O.state out.old) (option_map E.state told.old))
         (heard (O.state out.new) (option_map E.state told.new))) }
-    ensures quiet { OnOk result (failed.new ≡ failed.old) }
-    ensures counted { IfErr result (FaultCounts failed.old failed.new) }
+    ensures quiet { OnOk result (runner.new.log.failures ≡ runner.old.log.failures) }
+    ensures counted { IfErr result (FaultCounts runner.old.log.failures runner.new.log.failures) }
     ensures once { H.whole ≡ true → IfErr result IsOnce }
-    ensures line { OnOk result (runner.new.line ≡ runner.old.line + 1) }
+    ensures follows { Follows runner.old.log runner.new.log }
+    ensures line { OnOk result (runner.new.standing.line ≡ runner.old.standing.line + 1) }
 {
     let number = runner.line();
     let wanted = told.is_some();
-    let reply = runner.reply(alloc, wanted, line, failed)?;
+    let reply = runner.reply(alloc, wanted, line)?;
     print_answer(out, number, &reply, wanted && counts_as_refused(&reply))?;
     say(told, number, line, &reply);
     Ok(())
@@ -91,26 +92,26 @@ fn keep(line: &mut Vec<u8>, more: &[u8])
 fn answer_piece<H: Holder + Drop, O: Sink, E: Sink>(
     alloc: Global,
     runner: &mut Runner<H>,
-    failed: &mut FailedReads,
     line: &mut Vec<u8>,
     piece: &[u8],
     out: &mut O,
     told: &mut Option<E>,
 ) -> Result<(), Fault>
-    requires numbers { runner.old.line + length piece.now + 1 < 2 ^ 64 }
+    requires numbers { runner.old.standing.line + length piece.now + 1 < 2 ^ 64 }
     requires room { LINE_LIMIT + 1 ≤ vec_capacity line.old }
     requires within { vec_len line.old ≤ LINE_LIMIT + 1 }
-    ensures ok { H.steady → OnOk result (Continues piece.now line.old.items line.new.items runner.old
-        runner.new
+    ensures ok { Steady H.whole runner.new.log → OnOk result (Continues piece.now line.old.items line.new.items runner.old.standing
+        runner.new.standing
         (heard (O.state out.old) (option_map E.state told.old))
         (heard (O.state out.new) (option_map E.state told.new))) }
-    ensures err { H.steady → IfErr result (PieceStops piece.now line.old.items runner.old
+    ensures err { Steady H.whole runner.new.log → IfErr result (PieceStops piece.now line.old.items runner.old.standing
         (heard (O.state out.old) (option_map E.state told.old))
         (heard (O.state out.new) (option_map E.state told.new))) }
-    ensures quiet { OnOk result (failed.new ≡ failed.old) }
-    ensures counted { IfErr result (FaultCounts failed.old failed.new) }
+    ensures quiet { OnOk result (runner.new.log.failures ≡ runner.old.log.failures) }
+    ensures counted { IfErr result (FaultCounts runner.old.log.failures runner.new.log.failures) }
     ensures once { H.whole ≡ true → IfErr result IsOnce }
-    ensures line { OnOk result (runner.new.line ≤ runner.old.line + length piece.now) }
+    ensures follows { Follows runner.old.log runner.new.log }
+    ensures line { OnOk result (runner.new.standing.line ≤ runner.old.standing.line + length piece.now) }
     ensures room { OnOk result (LINE_LIMIT + 1 ≤ vec_capacity line.new) }
     ensures within { OnOk result (vec_len line.new ≤ LINE_LIMIT + 1) }
 {
@@ -121,7 +122,7 @@ fn answer_piece<H: Holder + Drop, O: Sink, E: Sink>(
             return Ok(());
         };
         keep(line, front);
-        answer_line(alloc, runner, failed, line, out, told)?;
+        answer_line(alloc, runner, line, out, told)?;
         line.clear();
         rest = next;
     }
@@ -131,31 +132,31 @@ fn answer_piece<H: Holder + Drop, O: Sink, E: Sink>(
 fn answer_at_once<H: Holder + Drop, O: Sink, E: Sink>(
     alloc: Global,
     runner: &mut Runner<H>,
-    failed: &mut FailedReads,
     line: &mut Vec<u8>,
     piece: &[u8],
     out: &mut O,
     told: &mut Option<E>,
 ) -> Result<(), Fault>
-    requires numbers { runner.old.line + length piece.now + 1 < 2 ^ 64 }
+    requires numbers { runner.old.standing.line + length piece.now + 1 < 2 ^ 64 }
     requires room { LINE_LIMIT + 1 ≤ vec_capacity line.old }
     requires within { vec_len line.old ≤ LINE_LIMIT + 1 }
-    ensures ok { H.steady → OnOk result (Continues piece.now line.old.items line.new.items runner.old
-        runner.new
+    ensures ok { Steady H.whole runner.new.log → OnOk result (Continues piece.now line.old.items line.new.items runner.old.standing
+        runner.new.standing
         (heard (O.state out.old) (option_map E.state told.old))
         (heard (O.state out.new) (option_map E.state told.new))) }
-    ensures err { H.steady → IfErr result (PieceStops piece.now line.old.items runner.old
+    ensures err { Steady H.whole runner.new.log → IfErr result (PieceStops piece.now line.old.items runner.old.standing
         (heard (O.state out.old) (option_map E.state told.old))
         (heard (O.state out.new) (option_map E.state told.new))) }
-    ensures quiet { OnOk result (failed.new ≡ failed.old) }
-    ensures counted { IfErr result (FaultCounts failed.old failed.new) }
+    ensures quiet { OnOk result (runner.new.log.failures ≡ runner.old.log.failures) }
+    ensures counted { IfErr result (FaultCounts runner.old.log.failures runner.new.log.failures) }
     ensures once { H.whole ≡ true → IfErr result IsOnce }
+    ensures follows { Follows runner.old.log runner.new.log }
     ensures flushed { OnOk result ((O.state out.new).unflushed ≡ 0) }
-    ensures line { OnOk result (runner.new.line ≤ runner.old.line + length piece.now) }
+    ensures line { OnOk result (runner.new.standing.line ≤ runner.old.standing.line + length piece.now) }
     ensures room { OnOk result (LINE_LIMIT + 1 ≤ vec_capacity line.new) }
     ensures within { OnOk result (vec_len line.new ≤ LINE_LIMIT + 1) }
 {
-    answer_piece(alloc, runner, failed, line, piece, out, told)?;
+    answer_piece(alloc, runner, line, piece, out, told)?;
     flush(out)
 }
 
@@ -163,26 +164,26 @@ fn answer_at_once<H: Holder + Drop, O: Sink, E: Sink>(
 fn answer_last_line<H: Holder + Drop, O: Sink, E: Sink>(
     alloc: Global,
     runner: &mut Runner<H>,
-    failed: &mut FailedReads,
     line: &[u8],
     out: &mut O,
     told: &mut Option<E>,
 ) -> Result<(), Fault>
-    requires { runner.old.line + 1 < 2 ^ 64 }
-    ensures ok { H.steady → OnOk result (EndsScript line.now runner.old runner.new
+    requires { runner.old.standing.line + 1 < 2 ^ 64 }
+    ensures ok { Steady H.whole runner.new.log → OnOk result (EndsScript line.now runner.old.standing runner.new.standing
         (heard (O.state out.old) (option_map E.state told.old))
         (heard (O.state out.new) (option_map E.state told.new))) }
-    ensures err { H.steady → IfErr result (EndStops line.now runner.old
+    ensures err { Steady H.whole runner.new.log → IfErr result (EndStops line.now runner.old.standing
         (heard (O.state out.old) (option_map E.state told.old))
         (heard (O.state out.new) (option_map E.state told.new))) }
-    ensures quiet { OnOk result (failed.new ≡ failed.old) }
-    ensures counted { IfErr result (FaultCounts failed.old failed.new) }
+    ensures quiet { OnOk result (runner.new.log.failures ≡ runner.old.log.failures) }
+    ensures counted { IfErr result (FaultCounts runner.old.log.failures runner.new.log.failures) }
     ensures once { H.whole ≡ true → IfErr result IsOnce }
+    ensures follows { Follows runner.old.log runner.new.log }
 {
     if line.is_empty() {
         return Ok(());
     }
-    answer_line(alloc, runner, failed, line, out, told)?;
+    answer_line(alloc, runner, line, out, told)?;
     Ok(())
 }
 
@@ -190,30 +191,29 @@ fn answer_last_line<H: Holder + Drop, O: Sink, E: Sink>(
 pub(crate) fn answer_script<H: Holder + Drop, S: Source, O: Sink, E: Sink>(
     alloc: Global,
     runner: &mut Runner<H>,
-    failed: &mut FailedReads,
     script: &mut S,
     out: &mut O,
     told: &mut Option<E>,
 ) -> Result<(), Fault>
-    requires { runner.old.line ≡ 1 }
-    ensures ok { H.steady → OnOk result (AnswersScript (S.state script.old) (S.state script.new) runner.old
-        runner.new
+    requires { runner.old.standing.line ≡ 1 }
+    ensures ok { Steady H.whole runner.new.log → OnOk result (AnswersScript (S.state script.old) (S.state script.new) runner.old.standing
+        runner.new.standing
         (heard (O.state out.old) (option_map E.state told.old))
         (heard (O.state out.new) (option_map E.state told.new))) }
-    ensures err { H.steady → IfErr result (ScriptStops (S.state script.old) (S.state script.new) runner.old
+    ensures err { Steady H.whole runner.new.log → IfErr result (ScriptStops (S.state script.old) (S.state script.new) runner.old.standing
         (heard (O.state out.old) (option_map E.state told.old))
         (heard (O.state out.new) (option_map E.state told.new))) }
-    ensures quiet { OnOk result (failed.new ≡ failed.old) }
-    ensures counted { IfErr result (ScriptCounts failed.old failed.new
+    ensures quiet { OnOk result (runner.new.log.failures ≡ runner.old.log.failures) }
+    ensures counted { IfErr result (ScriptCounts runner.old.log.failures runner.new.log.failures
         (S.state script.old) (S.state script.new)) }
     ensures once { H.whole ≡ true → IfErr result IsOnce }
+    ensures follows { Follows runner.old.log runner.new.log }
 {
     let mut buffer = buffer_of(alloc, PIECE_LEN)?;
     let mut line = Vec::with_capacity(alloc, LINE_ROOM)?;
     answer_pieces(
         alloc,
         runner,
-        failed,
         script,
         out,
         told,
@@ -226,28 +226,28 @@ pub(crate) fn answer_script<H: Holder + Drop, S: Source, O: Sink, E: Sink>(
 fn answer_pieces<H: Holder + Drop, S: Source, O: Sink, E: Sink>(
     alloc: Global,
     runner: &mut Runner<H>,
-    failed: &mut FailedReads,
     script: &mut S,
     out: &mut O,
     told: &mut Option<E>,
     piece: &mut [u8],
     line: &mut Vec<u8>,
 ) -> Result<(), Fault>
-    requires first { runner.old.line ≡ 1 }
+    requires first { runner.old.standing.line ≡ 1 }
     requires wide { 0 < length piece.old }
     requires empty { line.old.items ≡ [] }
     requires room { LINE_LIMIT + 1 ≤ vec_capacity line.old }
-    ensures ok { H.steady → OnOk result (AnswersScript (S.state script.old) (S.state script.new) runner.old
-        runner.new
+    ensures ok { Steady H.whole runner.new.log → OnOk result (AnswersScript (S.state script.old) (S.state script.new) runner.old.standing
+        runner.new.standing
         (heard (O.state out.old) (option_map E.state told.old))
         (heard (O.state out.new) (option_map E.state told.new))) }
-    ensures err { H.steady → IfErr result (ScriptStops (S.state script.old) (S.state script.new) runner.old
+    ensures err { Steady H.whole runner.new.log → IfErr result (ScriptStops (S.state script.old) (S.state script.new) runner.old.standing
         (heard (O.state out.old) (option_map E.state told.old))
         (heard (O.state out.new) (option_map E.state told.new))) }
-    ensures quiet { OnOk result (failed.new ≡ failed.old) }
-    ensures counted { IfErr result (ScriptCounts failed.old failed.new
+    ensures quiet { OnOk result (runner.new.log.failures ≡ runner.old.log.failures) }
+    ensures counted { IfErr result (ScriptCounts runner.old.log.failures runner.new.log.failures
         (S.state script.old) (S.state script.new)) }
     ensures once { H.whole ≡ true → IfErr result IsOnce }
+    ensures follows { Follows runner.old.log runner.new.log }
 {
     let mut taken = 0usize;
     loop {
@@ -255,16 +255,16 @@ fn answer_pieces<H: Holder + Drop, S: Source, O: Sink, E: Sink>(
             return Err(Fault::ReadFailed);
         };
         if n == 0 {
-            return answer_last_line(alloc, runner, failed, line, out, told);
+            return answer_last_line(alloc, runner, line, out, told);
         }
         let room = SCRIPT_LIMIT - taken;
         if n > room {
             let (front, _) = piece.split_at(room);
-            answer_piece(alloc, runner, failed, line, front, out, told)?;
+            answer_piece(alloc, runner, line, front, out, told)?;
             return Err(Fault::ScriptTooLong);
         }
         let (front, _) = piece.split_at(n);
-        answer_at_once(alloc, runner, failed, line, front, out, told)?;
+        answer_at_once(alloc, runner, line, front, out, told)?;
         taken += n;
     }
 }

@@ -12,7 +12,7 @@ use Rattle.fits_rules.specs.Size.{data_length}
 use Rattle.fits_rules.specs.declared.array_shape.Shape.{Shape}
 use Rattle.fits_rules.proofs.LawLemmas.{shape_primary}
 use Rattle.fits_header.specs.State.{HeaderState}
-use Rattle.fits_plane.specs.Again.{CopyFails, PrintsLike}
+use Rattle.fits_plane.specs.Again.{CopyFails, CopyWrites, PrintsLike}
 use Rattle.fits_plane.specs.Passing.{PassedState}
 use Rattle.fits_plane.specs.declared.again.CopyFault.{CopyFault}
 use Rattle.fits_plane.specs.declared.again.CopyFault.TheVariants.{Failed, Changed, Write}
@@ -50,6 +50,12 @@ pub copy_more : (xs ys : List ℕ) (a b c : SinkState) (why : CopyFault) → Pri
 copy_more xs ys a b c Failed p q = (length xs + q.0, rw (take-append-add xs ys q.0) (Prints-more a b c xs (take q.0 ys) p q.1))
 copy_more xs ys a b c Changed p q = absurd q
 copy_more xs ys a b c Write p q = PrintsFront-more a b c xs ys p q
+
+-- a header, and then what was written before a copy failed
+pub writes_more : (xs : List ℕ) (a b c : SinkState) (why : CopyFault) → Prints xs a b → CopyWrites b c why → CopyWrites a c why
+writes_more xs a b c Failed p q = (xs ++ q.0, Prints-more a b c xs q.0 p q.1)
+writes_more xs a b c Changed p q = (xs ++ q.0, Prints-more a b c xs q.0 p q.1)
+writes_more xs a b c Write p q = (xs ++ q.0, PrintsFront-more a b c xs q.0 p q.1)
 
 -- a header, and then bytes that are as many as a data unit and have its total
 pub like_more : (header : Header) (unit : List ℕ) (a b c : SinkState) → IsHeader header → Prints (header_bytes header) a b → PrintsLike unit b c → PrintsLike (header_bytes header ++ unit) a c

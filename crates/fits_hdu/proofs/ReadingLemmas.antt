@@ -1,7 +1,7 @@
 -- Steps of reading an HDU from a source.
 use Rattle.std.proofs.Common.{◌≡◌, ℕ, ◌+◌, ◌<◌, Bool, List, ◌++◌, length, refl, ap, sym, ◌∙◌, append_assoc, arith}
 use Rattle.std.proofs.lemmas.List.{length-append}
-use Rattle.std.specs.Prelude.{Ok, Err, IsErrOf}
+use Rattle.std.specs.Prelude.{Ok, Err, IsErrOf, OnErr, Result}
 use Rattle.fits_card.specs.Header.{Header, IsHeader, header_bytes}
 use Rattle.fits_card.specs.HeaderReading.{HeaderStops}
 use Rattle.fits_stream.specs.Intake.{IsOver, IsSpent, Supply, Takes, TakingStops}
@@ -9,7 +9,8 @@ use Rattle.fits_card.specs.declared.header_reading.ReadHeaderFault.{ReadHeaderFa
 use Rattle.fits_card.specs.declared.header_reading.ReadHeaderFault.TheVariants as header_fault
 use Rattle.fits_stream.specs.declared.reading.ReadFault.{ReadFault}
 use Rattle.fits_stream.specs.declared.reading.ReadFault.TheVariants as read_fault
-use Rattle.fits_stream.proofs.SightLemmas.{finds_begun, finds_spent, takes_more}
+use Rattle.fits_stream.proofs.GaveLemmas.{finds_all_begun, finds_all_spent}
+use Rattle.fits_stream.proofs.SightLemmas.{takes_more, takes_quiet, takes_then_fails, takes_then_quiet}
 use Rattle.fits_rules.specs.Class.{is_primary}
 use Rattle.fits_rules.specs.Shape.{shape_of}
 use Rattle.fits_rules.specs.Size.{data_length}
@@ -36,22 +37,22 @@ pub stops_by_shape : (primary : Bool) (a b : Supply) (header : Header) (fault : 
     → ((place : ℕ) → IsErrOf {T = Shape} {E = ShapeFault} (Err fault) (shape_fault.Bad place) → shape_of primary header.cards ≡ Err place)
     → HduStops primary a b (of_read_shape fault)
 stops_by_shape primary a b header (shape_fault.Bad place) p whole broken =
-    finds_begun (λ bytes. HasHduFault primary bytes (BadShape place)) a b (header_bytes header) p
+    finds_all_begun (λ bytes. HasHduFault primary bytes (BadShape place)) a b (header_bytes header) p
     (λ rest le. record { header = header; rest = b.ahead ++ rest; cut = record { whole = whole; joined = refl }; broken = broken place refl })
-stops_by_shape primary a b header shape_fault.Memory p whole broken = p.drawn.read.quiet
+stops_by_shape primary a b header shape_fault.Memory p whole broken = takes_quiet a b (header_bytes header) p
 
 -- the data unit is longer than what may be taken
 pub stops_far : (primary : Bool) (a b : Supply) (header : Header) (shape : Shape) (why : HduFault) → Takes a b (header_bytes header) → IsHeader header → shape_of primary header.cards ≡ Ok shape
     → length b.ahead + b.left < data_length shape → why ≡ ShortData → HduStops primary a b (Hdu why)
 stops_far primary a b header shape why p whole described short is =
-    rw is (finds_begun (λ bytes. HasHduFault primary bytes ShortData) a b (header_bytes header) p
+    rw is (finds_all_begun (λ bytes. HasHduFault primary bytes ShortData) a b (header_bytes header) p
     (λ rest le. record { header = header; rest = b.ahead ++ rest; shape = shape; cut = record { whole = whole; joined = refl }; described = described; short = omega (arith, le, short, length-append b.ahead rest) }))
 
 -- or than what was left
 pub stops_near : (primary : Bool) (a b c : Supply) (header : Header) (shape : Shape) (unit : List ℕ) → Takes a b (header_bytes header) → IsHeader header → shape_of primary header.cards ≡ Ok shape
     → Takes b c unit → IsSpent c → length unit + length c.ahead < data_length shape → HduStops primary a c (Hdu ShortData)
 stops_near primary a b c header shape unit p whole described q spent short =
-    finds_spent (λ bytes. HasHduFault primary bytes ShortData) a c (header_bytes header ++ unit) (takes_more a b c (header_bytes header) unit p q) spent
+    finds_all_spent (λ bytes. HasHduFault primary bytes ShortData) a c (header_bytes header ++ unit) (takes_more a b c (header_bytes header) unit p q) spent
     (record {
       header = header;
       rest = unit ++ c.ahead;
@@ -69,8 +70,8 @@ stops_over primary a b c header shape unit p whole described q over short =
 
 -- after the header memory for the data unit was refused, or a call failed
 pub stops_by_unit : (primary : Bool) (a b c : Supply) (bytes : List ℕ) (fault : ReadFault) → Takes a b bytes → TakingStops b.source c.source fault → HduStops primary a c (of_read fault)
-stops_by_unit primary a b c bytes read_fault.Memory p q = q ∙ p.drawn.read.quiet
-stops_by_unit primary a b c bytes read_fault.Failed p q = omega (arith, q, p.drawn.read.quiet)
+stops_by_unit primary a b c bytes read_fault.Memory p q = takes_then_quiet a b c.source bytes p q
+stops_by_unit primary a b c bytes read_fault.Failed p q = takes_then_fails a b c.source bytes p q
 
 -- after the header its data unit wasn't taken
 pub stops_in_unit : (primary : Bool) (a b c : Supply) (len : ℕ) (header : Header) (shape : Shape) (why : ReadHduFault) → Takes a b (header_bytes header) → IsHeader header → shape_of primary header.cards ≡ Ok shape → len ≡ data_length shape
@@ -79,7 +80,7 @@ stops_in_unit primary a b c len header shape (Hdu ShortData) p whole described u
 stops_in_unit primary a b c len header shape (Hdu NoEnd) p whole described unit q = absurd q
 stops_in_unit primary a b c len header shape (Hdu (BadShape place)) p whole described unit q = absurd q
 stops_in_unit primary a b c len header shape (Hdu Memory) p whole described unit q = absurd q
-stops_in_unit primary a b c len header shape Failed p whole described unit q = omega (arith, q, p.drawn.read.quiet)
+stops_in_unit primary a b c len header shape Failed p whole described unit q = takes_then_fails a b c.source (header_bytes header) p q
 
 pub ruleset described_steps = (stops_by_header, stops_by_shape, stops_far)
 

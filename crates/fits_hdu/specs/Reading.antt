@@ -1,7 +1,8 @@
 -- How an HDU is read from a source, whatever is kept of it (own).
 use Rattle.std.specs.Prelude.{◌≡◌, ◌≤◌, ℕ, ◌+◌, Bool, List, length, Ok, Option, None, Some}
 use Rattle.fits_card.specs.Header.{Header, AreFrontCards, header_bytes}
-use Rattle.fits_stream.specs.Intake.{Supply, Finds, Takes}
+use Rattle.fits_stream.specs.Gave.{FindsAll}
+use Rattle.fits_stream.specs.Intake.{Supply, Takes}
 use Rattle.fits_stream.specs.Stream.{FailsOnce, StaysQuiet}
 use Rattle.fits_card.specs.declared.header_reading.ReadHeaderFault.{ReadHeaderFault}
 use Rattle.fits_card.specs.declared.header_reading.ReadHeaderFault.TheVariants as header
@@ -43,7 +44,7 @@ of_read read.Failed = Failed
 -- no HDU comes, for this fault; or memory was refused; or a call failed
 abbrev pub HduStops : Bool → Supply → Supply → ReadHduFault → Type 0
 HduStops primary old new (Hdu Memory) = StaysQuiet old.source new.source
-HduStops primary old new (Hdu fault) = Finds old new (λ bytes. HasHduFault primary bytes fault)
+HduStops primary old new (Hdu fault) = FindsAll old new (λ bytes. HasHduFault primary bytes fault)
 HduStops primary old new Failed = FailsOnce old.source new.source
 
 -- an HDU was taken, and of it something is kept
@@ -80,7 +81,7 @@ pub record FailsAfter (primary : Bool) (cards : List (List ℕ)) (why : HduFault
 -- an HDU with these cards was taken; or none comes, for this fault, and these are the cards before END
 abbrev pub CardsCome : Bool → List (List ℕ) → Option HduFault → Supply → Supply → Type 0
 CardsCome primary cards None old new = TakesHdu (λ hdu. cards ≡ hdu.header.cards) primary old new
-CardsCome primary cards (Some why) old new = Finds old new (FailsAfter primary cards why)
+CardsCome primary cards (Some why) old new = FindsAll old new (FailsAfter primary cards why)
 
 -- the parts of an HDU by its header and its data unit, whose bytes passed by
 abbrev pub passed_parts : Header → PassedState → HduParts

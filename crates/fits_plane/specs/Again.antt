@@ -1,45 +1,90 @@
 -- Bytes of a stored file that are read again (own).
-use Rattle.std.specs.Prelude.{◌≡◌, ◌<◌, ◌≤◌, ℕ, ◌+◌, List, length, take, Option, IfSome}
-use Rattle.fits_stream.specs.Stream.{SinkState, Prints, PrintsFront}
+use Rattle.std.specs.Prelude.{◌≡◌, ◌<◌, ◌≤◌, ℕ, ◌+◌, List, ◌++◌, length, take}
+use Rattle.fits_stream.specs.Agree.{EndsAt, IsOf, ReadsOn, ReadsShort, ReadsSome}
+use Rattle.fits_stream.specs.Log.{IsEnded, Logs}
+use Rattle.fits_stream.specs.Stored.{ReadLogState}
+use Rattle.fits_stream.specs.Stream.{SinkState, SourceState, Prints, PrintsFront, Reads}
 use Rattle.fits_sum.specs.Words.{word_total}
 use Rattle.fits_plane.specs.declared.again.CopyFault.{CopyFault}
 use Rattle.fits_plane.specs.declared.again.CopyFault.TheVariants.{Failed, Changed, Write}
 use Rattle.fits_plane.specs.declared.again.LoadFault.{LoadFault}
 use Rattle.fits_plane.specs.declared.again.LoadFault.TheVariants as load
 
--- they are those that come next, where these are told
-abbrev pub ComeNext : Option (List ℕ) → List ℕ → Type 0
-ComeNext rest bytes = IfSome rest (λ xs. bytes ≡ take (length bytes) xs)
+-- reads go on: a file of which the later ones may be is one of which the earlier ones may be
+abbrev pub Follows : ReadLogState → ReadLogState → Type 0
+Follows old new = (bytes : List ℕ) → IsOf bytes new → IsOf bytes old
 
--- so many of them were copied, which have this total
-pub record Copies (rest : Option (List ℕ)) (len total : ℕ) (old new : SinkState) : Type 0 where
+-- why bytes weren't read from a place on: memory was refused, a read failed, or fewer came
+abbrev pub LoadStops : ℕ → ℕ → ReadLogState → ReadLogState → LoadFault → Type 0
+LoadStops place len old new load.Changed = ReadsShort place len old new
+LoadStops place len old new why = ReadsSome place old new
+
+-- so many bytes of a source were copied, which have this total
+pub record CopiesNext (len total : ℕ) (source source' : SourceState) (sink sink' : SinkState) : Type 0 where
   pub bytes : List ℕ
-  pub are : ComeNext rest bytes
+  pub read : Reads bytes source source'
   pub size : length bytes ≡ len
   pub total_is : total ≡ word_total bytes
-  pub written : Prints bytes old new
+  pub written : Prints bytes sink sink'
 
--- no more of them were copied than these
-pub record CopiesFront (Ends : List ℕ → Type 0) (rest : Option (List ℕ)) (len : ℕ) : Type 0 where
+-- no more were copied than these, and some of those that followed came
+pub record NextStops (Ends : List ℕ → Type 0) (len : ℕ) (source source' : SourceState) : Type 0 where
   pub bytes : List ℕ
-  pub are : ComeNext rest bytes
+  pub rest : List ℕ
+  pub logs : Logs source.log source'.log (bytes ++ rest)
   pub few : length bytes ≤ len
   pub ends : Ends bytes
 
--- fewer than so many come, where they are told
-abbrev pub IsShort : Option (List ℕ) → ℕ → Type 0
-IsShort rest len = IfSome rest (λ xs. length xs < len)
+-- fewer came, and then a read gave none
+pub record NextShort (Ends : List ℕ → Type 0) (len : ℕ) (source source' : SourceState) : Type 0 where
+  pub bytes : List ℕ
+  pub rest : List ℕ
+  pub logs : Logs source.log source'.log (bytes ++ rest)
+  pub short : length (bytes ++ rest) < len
+  pub over : IsEnded source'.log
+  pub ends : Ends bytes
 
 -- why they weren't all copied: a read failed, there are fewer, or a write failed
-abbrev pub CopyStops : Option (List ℕ) → ℕ → SinkState → SinkState → CopyFault → Type 0
-CopyStops rest len old new Failed = CopiesFront (λ bytes. Prints bytes old new) rest len
-CopyStops rest len old new Changed = CopiesFront (λ bytes. Prints bytes old new) rest len × IsShort rest len
-CopyStops rest len old new Write = CopiesFront (λ bytes. PrintsFront bytes old new) rest len
+abbrev pub CopyNextStops : ℕ → SourceState → SourceState → SinkState → SinkState → CopyFault → Type 0
+CopyNextStops len source source' old new Failed = NextStops (λ bytes. Prints bytes old new) len source source'
+CopyNextStops len source source' old new Changed = NextShort (λ bytes. Prints bytes old new) len source source'
+CopyNextStops len source source' old new Write = NextStops (λ bytes. PrintsFront bytes old new) len source source'
 
--- why they weren't read: memory was refused, a read failed, or there are fewer
-abbrev pub LoadStops : Option (List ℕ) → ℕ → LoadFault → Type 0
-LoadStops rest len load.Changed = IsShort rest len
-LoadStops rest len why = Unit {0}
+-- so many bytes of a stored file were copied from a place on, which have this total
+pub record Copies (place len total : ℕ) (log log' : ReadLogState) (sink sink' : SinkState) : Type 0 where
+  pub bytes : List ℕ
+  pub read : ReadsOn place log log' bytes
+  pub size : length bytes ≡ len
+  pub total_is : total ≡ word_total bytes
+  pub written : Prints bytes sink sink'
+
+-- no more were copied than these, and some of those that followed came
+pub record CopiesFront (Ends : List ℕ → Type 0) (place len : ℕ) (log log' : ReadLogState) : Type 0 where
+  pub bytes : List ℕ
+  pub rest : List ℕ
+  pub read : ReadsOn place log log' (bytes ++ rest)
+  pub few : length bytes ≤ len
+  pub ends : Ends bytes
+
+-- fewer came, and then a read gave none
+pub record CopiesShort (Ends : List ℕ → Type 0) (place len : ℕ) (log log' : ReadLogState) : Type 0 where
+  pub bytes : List ℕ
+  pub rest : List ℕ
+  pub read : ReadsOn place log log' (bytes ++ rest)
+  pub short : length (bytes ++ rest) < len
+  pub over : EndsAt log' (place + length (bytes ++ rest))
+  pub ends : Ends bytes
+
+-- why they weren't all copied: a read failed, there are fewer, or a write failed
+abbrev pub CopyStops : ℕ → ℕ → ReadLogState → ReadLogState → SinkState → SinkState → CopyFault → Type 0
+CopyStops place len log log' old new Failed = CopiesFront (λ bytes. Prints bytes old new) place len log log'
+CopyStops place len log log' old new Changed = CopiesShort (λ bytes. Prints bytes old new) place len log log'
+CopyStops place len log log' old new Write = CopiesFront (λ bytes. PrintsFront bytes old new) place len log log'
+
+-- what was written of bytes that weren't all copied, whatever the file did
+abbrev pub CopyWrites : SinkState → SinkState → CopyFault → Type 0
+CopyWrites old new Write = (bytes : List ℕ) × PrintsFront bytes old new
+CopyWrites old new why = (bytes : List ℕ) × Prints bytes old new
 
 -- how many reads have failed, before and after bytes weren't read: one more where that is why, else no more
 abbrev pub LoadCounts : ℕ → ℕ → LoadFault → Type 0

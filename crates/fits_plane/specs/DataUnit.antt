@@ -31,9 +31,3 @@ IsCounted plane absent = IfSome absent (λ it. plane.layout.blank ≡ it.blank)
 -- where it isn't in memory, it is what these bytes have at its place
 abbrev pub LiesIn : List ℕ → PlaneState → Option Absence → Type 0
 LiesIn bytes plane absent = IfSome absent (λ it. take (length plane.bytes) (drop it.place bytes) ≡ plane.bytes)
-
--- a file that tells its bytes has it there
-pub record IsToldBy (told : Option (List ℕ)) (plane : PlaneState) (absent : Option Absence) : Type 0 where
-  pub bytes : List ℕ
-  pub told_is : told ≡ Some bytes
-  pub lies : LiesIn bytes plane absent

@@ -1,10 +1,10 @@
 //! Bytes of a stored file that are read again.
 ghost use Rattle.std.specs.Prelude.{◌≡◌, ◌<◌, ◌≤◌, ◌%◌, ◌^◌, length, IfOk, IfErr, OnOk};
-ghost use Rattle.fits_stream.specs.Stored.{bytes_from};
-ghost use Rattle.fits_plane.specs.Again.{ComeNext, Copies, CopyCounts, CopyStops, LoadCounts, LoadStops};
+ghost use Rattle.fits_stream.specs.Agree.{ReadsOn};
+ghost use Rattle.fits_plane.specs.Again.{Copies, CopiesNext, CopyCounts, CopyNextStops, CopyStops, LoadCounts, LoadStops};
 
 use fits_stream::{
-    FailedReads, Intake, ReadFault, Sink, Source, Stored, StoredSource, fill, write_all,
+    Intake, ReadFault, ReadLog, Sink, Source, Stored, StoredSource, fill, write_all,
 };
 use fits_sum::words_total;
 use std::alloc::Global;
@@ -35,22 +35,22 @@ pub enum CopyFault {
 pub(crate) fn read_again<F: Stored>(
     alloc: Global,
     file: &F,
-    failed: &mut FailedReads,
+    log: &mut ReadLog,
     place: u64,
     len: usize,
 ) -> Result<Vec<u8>, LoadFault>
-    ensures are { IfOk result (λ bytes. ComeNext (bytes_from place (F.bytes file.now)) bytes.items) }
+    ensures are { IfOk result (λ bytes. ReadsOn place log.old log.new bytes.items) }
     ensures size { IfOk result (λ bytes. length bytes.items ≡ len) }
-    ensures quiet { OnOk result (failed.new ≡ failed.old) }
-    ensures err { IfErr result (LoadStops (bytes_from place (F.bytes file.now)) len) }
-    ensures counted { IfErr result (LoadCounts failed.old failed.new) }
+    ensures quiet { OnOk result (log.new.failures ≡ log.old.failures) }
+    ensures err { IfErr result (LoadStops place len log.old log.new) }
+    ensures counted { IfErr result (LoadCounts log.old.failures log.new.failures) }
 {
     let Ok(mut intake) = Intake::new(alloc, len) else {
         return Err(LoadFault::Memory);
     };
-    let mut source = StoredSource::new(file, place, failed.take());
+    let mut source = StoredSource::new(file, place, log.take());
     let taken = intake.take(alloc, &mut source, len);
-    *failed = source.into_failed();
+    *log = source.into_log();
     let bytes = match taken {
         Ok(bytes) => bytes,
         Err(ReadFault::Memory) => return Err(LoadFault::Memory),
@@ -66,7 +66,7 @@ pub(crate) fn read_again<F: Stored>(
 /// their words.
 pub(crate) fn copy_again<F: Stored, W: Sink>(
     file: &F,
-    failed: &mut FailedReads,
+    log: &mut ReadLog,
     place: u64,
     len: usize,
     room: &mut [u8],
@@ -76,17 +76,17 @@ pub(crate) fn copy_again<F: Stored, W: Sink>(
     requires words { length room.old % 4 ≡ 0 }
     requires whole { len % 4 ≡ 0 }
     requires few { len ≤ 2 ^ 34 }
-    ensures ok { IfOk result (λ total. Copies (bytes_from place (F.bytes file.now)) len total
+    ensures ok { IfOk result (λ total. Copies place len total log.old log.new
         (W.state sink.old) (W.state sink.new)) }
     ensures size { length room.new ≡ length room.old }
-    ensures quiet { OnOk result (failed.new ≡ failed.old) }
-    ensures err { IfErr result (CopyStops (bytes_from place (F.bytes file.now)) len
+    ensures quiet { OnOk result (log.new.failures ≡ log.old.failures) }
+    ensures err { IfErr result (CopyStops place len log.old log.new
         (W.state sink.old) (W.state sink.new)) }
-    ensures counted { IfErr result (CopyCounts failed.old failed.new) }
+    ensures counted { IfErr result (CopyCounts log.old.failures log.new.failures) }
 {
-    let mut source = StoredSource::new(file, place, failed.take());
+    let mut source = StoredSource::new(file, place, log.take());
     let copied = copy_next(&mut source, len, room, sink);
-    *failed = source.into_failed();
+    *log = source.into_log();
     copied
 }
 
@@ -101,12 +101,12 @@ fn copy_next<R: Source, W: Sink>(
     requires words { length room.old % 4 ≡ 0 }
     requires whole { len % 4 ≡ 0 }
     requires few { len ≤ 2 ^ 34 }
-    ensures ok { IfOk result (λ total. Copies (R.state source.old).remaining len total
-        (W.state sink.old) (W.state sink.new)) }
+    ensures ok { IfOk result (λ total. CopiesNext len total
+        (R.state source.old) (R.state source.new) (W.state sink.old) (W.state sink.new)) }
     ensures size { length room.new ≡ length room.old }
     ensures quiet { OnOk result ((R.state source.new).failures ≡ (R.state source.old).failures) }
-    ensures err { IfErr result (CopyStops (R.state source.old).remaining len
-        (W.state sink.old) (W.state sink.new)) }
+    ensures err { IfErr result (CopyNextStops len
+        (R.state source.old) (R.state source.new) (W.state sink.old) (W.state sink.new)) }
     ensures counted { IfErr result
         (CopyCounts (R.state source.old).failures (R.state source.new).failures) }
 {

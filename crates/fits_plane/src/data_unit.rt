@@ -9,7 +9,7 @@ use crate::plane::Plane;
 use crate::plane_room::PlaneRoom;
 use crate::value_summary::ValueSummary;
 use fits_card::BLOCK_LEN;
-use fits_stream::{FailedReads, Sink, Stored};
+use fits_stream::{ReadLog, Sink, Stored};
 use fits_sum::words_total;
 use std::alloc::{AllocError, Global};
 use std::marker::Model;
@@ -37,14 +37,15 @@ impl Model for DataUnit {
 }
 
 impl DataUnit {
-    ghost use Rattle.std.specs.Prelude.{◌≡◌, ◌≤◌, ◌<◌, ◌*◌, ◌+◌, ◌%◌, ◌-ℤ◌, ◌^◌, ◌↔◌, ℕ, true, None, Some, drop, length, nat_eq, unsigned_abs, All, IsTrue, IfOk, IfErr, IfSome, IsOk, OnOk, OnErr};
+    ghost use Rattle.std.specs.Prelude.{◌≡◌, ◌≤◌, ◌<◌, ◌*◌, ◌+◌, ◌%◌, ◌-ℤ◌, ◌^◌, ◌↔◌, ℕ, List, true, None, Some, drop, length, nat_eq, unsigned_abs, All, IsTrue, IfOk, IfErr, IfSome, IsOk, OnOk, OnErr};
     ghost use Rattle.std.specs.List.{list_all};
     ghost use Rattle.std.specs.Option.{option_map};
+    ghost use Rattle.fits_stream.specs.Agree.{IsOf, ReadsOn};
     ghost use Rattle.fits_stream.specs.Stream.{Prints, PrintsFront};
     ghost use Rattle.fits_sum.specs.Words.{word_total};
     ghost use Rattle.fits_plane.specs.Converting.{can_store_run, kept_numbers, run_made};
-    ghost use Rattle.fits_plane.specs.Again.{CopyCounts, CopyFails, LoadCounts, PrintsLike};
-    ghost use Rattle.fits_plane.specs.DataUnit.{IsCounted, IsToldBy};
+    ghost use Rattle.fits_plane.specs.Again.{CopyCounts, CopyFails, CopyWrites, Follows, LoadCounts, PrintsLike};
+    ghost use Rattle.fits_plane.specs.DataUnit.{IsCounted, LiesIn};
     ghost use Rattle.fits_plane.specs.Statistics.{value_statistics};
     ghost use Rattle.fits_plane.specs.Painting.{Paints, Suits};
     ghost use Rattle.fits_plane.specs.Pixels.{pixels, IsWidth};
@@ -287,11 +288,14 @@ impl DataUnit {
         &mut self,
         alloc: Global,
         file: &F,
-        failed: &mut FailedReads,
+        log: &mut ReadLog,
     ) -> Result<(), LoadFault>
         ensures held { OnOk result (self.new.absent ≡ None) }
         ensures layout { OnOk result (self.new.plane.layout ≡ self.old.plane.layout) }
-        ensures same { IsToldBy (F.bytes file.now) self.old.plane self.old.absent
+        ensures loaded { OnOk result (IfSome self.old.absent
+            (λ it. ReadsOn it.place log.old log.new self.new.plane.bytes)) }
+        ensures same { (bytes : List ℕ) → IsOf bytes log.new
+            → LiesIn bytes self.old.plane self.old.absent
             → OnOk result (self.new.plane.bytes ≡ self.old.plane.bytes) }
         ensures size { OnOk result
             (length self.new.plane.bytes ≡ length self.old.plane.bytes) }
@@ -306,18 +310,20 @@ impl DataUnit {
         ensures more_joins { self.old.plane.joins ≤ self.new.plane.joins }
         ensures joins { (d : ℕ) → block_count self.old.plane.bytes ≤ 2 ^ d
             → self.new.plane.joins ≤ self.old.plane.joins + 2 ^ d }
-        ensures quiet { OnOk result (failed.new ≡ failed.old) }
+        ensures quiet { OnOk result (log.new.failures ≡ log.old.failures) }
         ensures err { OnErr result (self.new ≡ self.old) }
-        ensures counted { IfErr result (LoadCounts failed.old failed.new) }
-        ensures steady { IsToldBy (F.bytes file.now) self.old.plane self.old.absent
+        ensures counted { IfErr result (LoadCounts log.old.failures log.new.failures) }
+        ensures steady { (bytes : List ℕ) → IsOf bytes log.new
+            → LiesIn bytes self.old.plane self.old.absent
             → IfErr result (λ why. why ≡ LoadFault.Changed → ⊥) }
+        ensures follows { Follows log.old log.new }
     {
         let Some(it) = &self.absent else {
             return Ok(());
         };
         let len = it.unit.byte_len();
         let layout = it.unit.layout();
-        let bytes = read_again(alloc, file, failed, it.place, len)?;
+        let bytes = read_again(alloc, file, log, it.place, len)?;
         if words_total(bytes.as_slice()) != it.unit.total() {
             return Err(LoadFault::Changed);
         }
@@ -335,22 +341,26 @@ impl DataUnit {
     pub fn emit_from<F: Stored, W: Sink>(
         &self,
         file: &F,
-        failed: &mut FailedReads,
+        log: &mut ReadLog,
         room: &mut [u8],
         sink: &mut W,
     ) -> Result<(), CopyFault>
         requires wide { 0 < length room.old }
         requires words { length room.old % 4 ≡ 0 }
-        ensures ok { IsToldBy (F.bytes file.now) self.now.plane self.now.absent
+        ensures ok { (bytes : List ℕ) → IsOf bytes log.new
+            → LiesIn bytes self.now.plane self.now.absent
             → OnOk result (Prints self.now.plane.bytes (W.state sink.old) (W.state sink.new)) }
         ensures like { OnOk result (PrintsLike self.now.plane.bytes
             (W.state sink.old) (W.state sink.new)) }
-        ensures err { IsToldBy (F.bytes file.now) self.now.plane self.now.absent
+        ensures err { (bytes : List ℕ) → IsOf bytes log.new
+            → LiesIn bytes self.now.plane self.now.absent
             → IfErr result (CopyFails self.now.plane.bytes
             (W.state sink.old) (W.state sink.new)) }
+        ensures writes { IfErr result (CopyWrites (W.state sink.old) (W.state sink.new)) }
+        ensures follows { Follows log.old log.new }
         ensures size { length room.new ≡ length room.old }
-        ensures quiet { OnOk result (failed.new ≡ failed.old) }
-        ensures counted { IfErr result (CopyCounts failed.old failed.new) }
+        ensures quiet { OnOk result (log.new.failures ≡ log.old.failures) }
+        ensures counted { IfErr result (CopyCounts log.old.failures log.new.failures) }
     {
         let Some(it) = &self.absent else {
             return match self.plane.emit(sink) {
@@ -359,7 +369,7 @@ impl DataUnit {
             };
         };
         let _layout = it.unit.layout();
-        let total = copy_again(file, failed, it.place, it.unit.byte_len(), room, sink)?;
+        let total = copy_again(file, log, it.place, it.unit.byte_len(), room, sink)?;
         if total != it.unit.total() {
             return Err(CopyFault::Changed);
         }

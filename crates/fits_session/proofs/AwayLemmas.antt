@@ -1,5 +1,5 @@
 -- Data units that lie in a stored file, and what loading one leaves.
-use Rattle.std.proofs.Common.{All, ◌≡◌, ℕ, ◌+◌, ◌≤◌, List, [], ◌∷◌, ◌++◌, length, map, take, drop, get_or, set, refl, ap, sym, subst, ◌∙◌, arith, Option, None, Some, suc, zero, add-one}
+use Rattle.std.proofs.Common.{All, ◌≡◌, ℕ, ◌+◌, ◌<◌, ◌≤◌, List, [], ◌∷◌, ◌++◌, length, map, take, drop, get_or, set, refl, ap, sym, subst, ◌∙◌, arith, Option, None, Some, suc, zero, add-one}
 use Rattle.std.specs.Prelude.{IfSome, Err, Ok, OnErr, OnOk, Result, false}
 use Rattle.std.proofs.Math.Seq.{drop-append-add, take-append_seam}
 use Rattle.std.proofs.lemmas.List.{append_assoc, length-append, length-set, map-append, set-get_or}
@@ -12,8 +12,8 @@ use Rattle.fits_rules.specs.Shape.{shape_of}
 use Rattle.fits_header.specs.State.{HeaderState}
 use Rattle.fits_hdu.specs.ExtensionName.{extension_name}
 use Rattle.fits_plane.specs.DataUnit.{Absence, IsCounted, LiesIn}
-use Rattle.fits_stream.specs.Intake.{supply, IntakeState, TellsAll}
-use Rattle.fits_stream.specs.Stored.{left_at, Placed}
+use Rattle.fits_stream.specs.Intake.{supply, IntakeState, TellsAll, Supply}
+use Rattle.fits_stream.specs.Stored.{bytes_from, Lent, ReadLogState}
 use Rattle.fits_stream.specs.Stream.{SourceState}
 use Rattle.fits_hdu.specs.Hdu.{HduParts, hdu_bytes, IsHdu}
 use Rattle.fits_hdu.specs.State.{HduState, name_of, parts_of, IsDescribed}
@@ -21,11 +21,20 @@ use Rattle.fits_hdu.specs.Work.{IsKnownAt, IsOpened, Loads, plane_work}
 use Rattle.fits_hdu.specs.declared.passed_hdu.PassedHdu.{PassedHdu}
 use Rattle.fits_hdu.proofs.PassedLemmas.{same_verdicts}
 use Rattle.fits_hdu.specs.declared.extension_name.ExtensionName.{ExtensionName}
-use Rattle.fits_session.specs.Away.{is_passed, parts_passed, at_start, AreKnownFrom, LoadsAlone, LoadWork}
+use Rattle.fits_stream.specs.Agree.{IsOf}
+use Rattle.fits_stream.specs.Gave.{Gave, GaveAll}
+use Rattle.fits_stream.specs.Log.{unskipped, Grows}
+use Rattle.fits_stream.proofs.GaveLemmas.{gave_fact, gave_of}
+use Rattle.fits_plane.specs.Again.{Follows}
+use Rattle.fits_plane.proofs.AgainLemmas.{again_some, follows_on}
+use Rattle.fits_session.specs.declared.read_fault.ReadFileFault.TheVariants.{Open, Failed}
+use Rattle.fits_session.specs.declared.open_fault.OpenFault.TheVariants.{NotFits, NoEnd, BadShape, ShortData, TooLarge, Memory}
+use Rattle.fits_session.specs.Away.{is_passed, parts_passed, AllLie, AreKnownFrom, LoadsAlone, LoadWork, StoredStops}
 use Rattle.fits_session.specs.Edit.{changed_of, is_primary_hdu, with_hdu}
 use Rattle.fits_session.specs.File.{FileParts, file_bytes, joined_hdus, IsFile}
+use Rattle.fits_session.specs.Opening.{HasOpenFault}
 use Rattle.fits_session.specs.Keeping.{vouch, IsSound}
-use Rattle.fits_session.specs.Reading.{KeepsEach, ReadStops, SupplyStops}
+use Rattle.fits_session.specs.Reading.{GaveFault, KeepsEach, SupplyStops}
 use Rattle.fits_session.specs.Session.{file_of, hdus_of, marked_of, state_of, HasStats, Holding, IsHad, IsHeld, IsKept, IsSoOf}
 use Rattle.fits_session.specs.declared.limits.TheConstants.{FILE_LIMIT}
 use Rattle.fits_session.proofs.HadLemmas.{had_held}
@@ -121,32 +130,62 @@ known_lie front (hdu ∷ hdus) tail p =
 
 -- ---- a stored file
 
--- from its start on it has all its bytes
-pub from_start : (told : Option (List ℕ)) → left_at (Some 0) told None ≡ told
-from_start None = refl
-from_start (Some xs) = refl
+-- HDUs whose data units passed by lie in the file that they are of
+pub stored_lie : (hdus : List HduState) (tail : List ℕ) → AreKnownFrom 0 hdus → AllLie (joined_hdus (hdus_of hdus) ++ tail) hdus
+stored_lie hdus tail known = λ i d within. record { held = λ no. absurd (cc); lies = known_lie [] hdus tail known i d within }
 
--- so a source of it from there on tells what it tells
-pub stored_told : {F : Type 0} (bytes : F → Option (List ℕ)) (source : Placed F) (file : F) (failed : ℕ) (intake : IntakeState) (left : ℕ) (xs : List ℕ) → source ≡ record { file = file; place = Some 0; failures = failed } → intake ≡ record { ahead = []; left = left }
-    → TellsAll (supply (record { remaining = left_at source.place (bytes source.file) None; failures = source.failures }) intake) xs → IfSome (bytes file) (λ all. all ≡ xs)
-stored_told bytes source file failed intake left xs is of told =
-    let there : TellsAll (supply (record { remaining = left_at (Some 0) (bytes file) None; failures = failed }) (record { ahead = []; left = left })) xs = rw (is, of) at told in
-    subst (λ (t : Option (List ℕ)). IfSome t (λ all. all ≡ xs)) (from_start (bytes file)) there
+-- and are had so
+pub stored_had : (hdus : List HduState) → All (IsHad (record { whole = false; told = None })) hdus
+stored_had hdus = λ i d within. record { held = λ no. absurd (cc); lies = tt }
 
--- and why it doesn't open is why the file doesn't
-pub stored_stops : {F : Type 0} (bytes : F → Option (List ℕ)) (source : Placed F) (file : F) (failed : ℕ) (intake : IntakeState) (after : SourceState) (why : ReadFileFault) → source ≡ record { file = file; place = Some 0; failures = failed } → intake ≡ record { ahead = []; left = FILE_LIMIT }
-    → SupplyStops (supply (record { remaining = left_at source.place (bytes source.file) None; failures = source.failures }) intake) after why → ReadStops (at_start (bytes file) failed) after why
-stored_stops bytes source file failed intake after why is of stops =
-    let there : SupplyStops (supply (record { remaining = left_at (Some 0) (bytes file) None; failures = failed }) intake) after why = rw is at stops in
-    subst (λ (t : Option (List ℕ)). ReadStops (at_start t failed) after why) (from_start (bytes file)) (read_stops (record { remaining = left_at (Some 0) (bytes file) None; failures = failed }) after intake why of there)
+-- a stored file that is lent, as a source
+abbrev lent_source : {F : Type 0} → (F → Option (List ℕ)) → Lent F → SourceState
+lent_source tell a = record { remaining = bytes_from a.log.at (tell a.file); log = Some (unskipped a.log); failures = a.failures }
 
--- those that it tells are the file, of which the data units that passed by lie in it
-pub stored_had : (told : Option (List ℕ)) (hdus : List HduState) (tail : List ℕ) → IfSome told (λ left. left ≡ joined_hdus (hdus_of hdus) ++ tail) → AreKnownFrom 0 hdus → All (IsHad (record { whole = false; told = told })) hdus
-stored_had None hdus tail same known = λ i d within. record { held = λ no. absurd (cc); lies = tt }
-stored_had (Some xs) hdus tail same known = λ i d within. record {
-  held = λ no. absurd (cc);
-  lies = subst (λ (bytes : List ℕ). LiesIn bytes (get_or hdus i d).plane (get_or hdus i d).absent) (sym same) (known_lie [] hdus tail known i d within);
-}
+-- a fact of all that it gave is one of each file that its reads may be of
+stored_fact : {F : Type 0} (P : List ℕ → Type 0) (tell : F → Option (List ℕ)) (a b : Lent F) (old new : ReadLogState) → a.log.at ≡ 0 → a.log.came ≡ old.came → a.log.ends ≡ old.ends → new ≡ record { came = b.log.came; ends = b.log.ends; failures = b.failures }
+    → GaveAll (lent_source tell a) (lent_source tell b) P → (xs : List ℕ) → IsOf xs new → P xs
+stored_fact P tell a b old new at came ends is gave xs of =
+    gave_of P xs a.log b.log (lent_source tell a) (lent_source tell b) old new refl refl at (sym came) (sym ends) (ap (λ (l : ReadLogState). l.came) is) (ap (λ (l : ReadLogState). l.ends) is) gave of
+
+-- so each is what came
+pub stored_of : {F : Type 0} (tell : F → Option (List ℕ)) (a b : Lent F) (i : IntakeState) (old new : ReadLogState) (limit : ℕ) (file : List ℕ) → a.log.at ≡ 0 → a.log.came ≡ old.came → a.log.ends ≡ old.ends
+    → new ≡ record { came = b.log.came; ends = b.log.ends; failures = b.failures } → i ≡ record { ahead = []; left = limit }
+    → (i.ahead ≡ [] → Gave (lent_source tell a) (lent_source tell b) file) → (xs : List ℕ) → IsOf xs new → xs ≡ file
+stored_of tell a b i old new limit file at came ends is begun gave xs of =
+    stored_fact (λ t. t ≡ file) tell a b old new at came ends is (gave_fact (λ t. t ≡ file) (lent_source tell a) (lent_source tell b) file (gave (ap (λ (k : IntakeState). k.ahead) begun)) refl) xs of
+
+-- and has the fault for which it isn't opened
+pub stored_stops : {F : Type 0} (tell : F → Option (List ℕ)) (a b : Lent F) (i : IntakeState) (old new : ReadLogState) (why : ReadFileFault) → a.log.at ≡ 0 → a.log.came ≡ old.came → a.log.ends ≡ old.ends → a.failures ≡ old.failures
+    → new ≡ record { came = b.log.came; ends = b.log.ends; failures = b.failures } → SupplyStops (supply (lent_source tell a) i) (lent_source tell b) why → GaveFault (lent_source tell a) (lent_source tell b) why → StoredStops old new why
+stored_stops tell a b i old new (Open NotFits) at came ends same is p q =
+    (stored_fact (λ s. HasOpenFault s NotFits) tell a b old new at came ends is q, ap (λ (l : ReadLogState). l.failures) is ∙ p.1.quiet ∙ same)
+stored_stops tell a b i old new (Open (NoEnd h)) at came ends same is p q =
+    (stored_fact (λ s. HasOpenFault s (NoEnd h)) tell a b old new at came ends is q, ap (λ (l : ReadLogState). l.failures) is ∙ p.1.quiet ∙ same)
+stored_stops tell a b i old new (Open (BadShape h place)) at came ends same is p q =
+    (stored_fact (λ s. HasOpenFault s (BadShape h place)) tell a b old new at came ends is q, ap (λ (l : ReadLogState). l.failures) is ∙ p.1.quiet ∙ same)
+stored_stops tell a b i old new (Open (ShortData h)) at came ends same is p q =
+    (stored_fact (λ s. HasOpenFault s (ShortData h)) tell a b old new at came ends is q, ap (λ (l : ReadLogState). l.failures) is ∙ p.1.quiet ∙ same)
+stored_stops tell a b i old new (Open TooLarge) at came ends same is p q =
+    (stored_fact (λ s. HasOpenFault s TooLarge) tell a b old new at came ends is q, ap (λ (l : ReadLogState). l.failures) is ∙ p.1.quiet ∙ same)
+stored_stops tell a b i old new (Open Memory) at came ends same is p q = ap (λ (l : ReadLogState). l.failures) is ∙ p.quiet ∙ same
+stored_stops tell a b i old new Failed at came ends same is p q = ap (λ (l : ReadLogState). l.failures) is ∙ p.failed ∙ ap (λ n. n + 1) same
+
+-- and the log goes on
+pub stored_follows : {F : Type 0} (a b : Lent F) (old new : ReadLogState) → a.log.at ≡ 0 → a.log.came ≡ old.came → a.log.ends ≡ old.ends → new ≡ record { came = b.log.came; ends = b.log.ends; failures = b.failures }
+    → Grows (Some (unskipped a.log)) (Some (unskipped b.log)) → Follows old new
+stored_follows a b old new at came ends is grows =
+    let some = again_some a b 0 old new at came ends is grows in follows_on 0 old new some.bytes some.read
+
+-- also where it isn't opened
+pub supply_grows : (a : SourceState) (i : IntakeState) (b : SourceState) (why : ReadFileFault) → SupplyStops (supply a i) b why → Grows a.log b.log
+supply_grows a i b (Open NotFits) p = p.1.log
+supply_grows a i b (Open (NoEnd h)) p = p.1.log
+supply_grows a i b (Open (BadShape h place)) p = p.1.log
+supply_grows a i b (Open (ShortData h)) p = p.1.log
+supply_grows a i b (Open TooLarge) p = p.1.log
+supply_grows a i b (Open Memory) p = p.log
+supply_grows a i b Failed p = p.log
 
 -- ---- loading
 

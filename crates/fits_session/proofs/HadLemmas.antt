@@ -1,11 +1,17 @@
 -- How the data units of a session are had, and what leaves them so.
-use Rattle.std.proofs.Common.{◌≡◌, ◌<◌, ◌∙◌, ap, sym, subst, ℕ, List, length, get_or, set, Option, None, Some}
-use Rattle.std.specs.Prelude.{All, IfSome, true}
+use Rattle.std.proofs.Common.{[], ◌≡◌, ◌<◌, ◌∙◌, ap, sym, subst, ℕ, List, length, get_or, set, Option, None, Some}
+use Rattle.std.proofs.lemmas.Option.{none-some}
+use Rattle.fits_stream.specs.Agree.{IsOf}
+use Rattle.fits_stream.specs.Stored.{ReadLogState}
+use Rattle.std.specs.Prelude.{All, Bool, IfSome, true, false}
+use Rattle.fits_session.specs.Away.{in_file, Agree, AgreeOn, AllLie, LieStill}
+use Rattle.fits_plane.specs.Again.{Follows}
 use Rattle.std.proofs.lemmas.List.Elements.{All-set}
 use Rattle.fits_hdu.specs.State.{HduState, ReadsUpTo}
-use Rattle.fits_plane.specs.DataUnit.{IsToldBy, LiesIn}
+use Rattle.fits_plane.specs.DataUnit.{LiesIn}
 use Rattle.fits_plane.specs.Plane.{PlaneState}
-use Rattle.fits_session.specs.Session.{unentered, without_entries, HasStats, Holding, IsHad, IsHeld, IsReadyFor, IsSoOf, StaysHad}
+use Rattle.fits_hdu.specs.declared.extension_name.ExtensionName.{ExtensionName}
+use Rattle.fits_session.specs.Session.{unentered, without_entries, HasStats, Holding, IsHad, IsHeld, IsKept, IsReadyFor, IsSoOf, StaysHad}
 use Rattle.fits_edit.specs.declared.edit.Edit.{Edit}
 use Rattle.fits_edit.specs.declared.edit.Edit.TheVariants.{Hdu, NewImage, RemoveHdu}
 use Rattle.fits_session.proofs.KeptLemmas.{all_seen, seen_all}
@@ -30,14 +36,6 @@ lies_held (Some bytes) one held = rw held tt
 -- and is had in any way
 pub had_held : (holding : Holding) (one : HduState) → one.absent ≡ None → IsHad holding one
 had_held holding one held = record { held = λ whole. held; lies = lies_held holding.told one held }
-
--- a file that tells its bytes has it where it lies
-pub told_by : (told : Option (List ℕ)) (one : HduState) → (xs : List ℕ) × (told ≡ Some xs) → IfSome told (λ bytes. LiesIn bytes one.plane one.absent) → IsToldBy told one.plane one.absent
-told_by told one tells lies = record {
-  bytes = tells.0;
-  told_is = tells.1;
-  lies = let here : IfSome (Option.Some tells.0) (λ bytes. LiesIn bytes one.plane one.absent) = subst (λ (t : Option (List ℕ)). IfSome t (λ bytes. LiesIn bytes one.plane one.absent)) tells.1 lies in here;
-}
 
 -- HDUs that are all in memory are
 pub all_held : (holding : Holding) (hdus : List HduState) → All IsHeld hdus → All (IsHad holding) hdus
@@ -83,3 +81,32 @@ pub ready_held : (edit : Edit) (hdus : List HduState) → All IsHeld hdus → Is
 ready_held (Hdu h edit) hdus held = λ needs. so_held h hdus held
 ready_held (NewImage at kind axes) hdus held = tt
 ready_held (RemoveHdu h) hdus held = tt
+
+-- one of HDUs that all lie in a file does
+pub one_lies_in : (bytes : List ℕ) (hdus : List HduState) (i : ℕ) (one : HduState) → AllLie bytes hdus → i < length hdus → one ≡ get_or hdus i one → LiesIn bytes one.plane one.absent
+one_lies_in bytes hdus i one lie within is =
+    let had : IsHad (in_file bytes) one = subst (IsHad (in_file bytes)) (sym is) (lie i one within) in had.lies
+
+-- what is so of all is so of one
+pub agree_on : (whole : Bool) (log : ReadLogState) (hdus : List HduState) (i : ℕ) (one : HduState) → Agree whole log hdus → i < length hdus → one ≡ get_or hdus i one → AgreeOn whole log one
+agree_on whole log hdus i one agree within is = λ lies. let all = agree.given lies in (all.0, (all.1.0, one_lies_in all.0 hdus i one all.1.1 within is))
+
+-- reads that agree did so before the last of them
+pub agree_before : (whole : Bool) (old new : ReadLogState) (hdus : List HduState) → Follows old new → Agree whole new hdus → Agree whole old hdus
+agree_before whole old new hdus follows agree = record { given = λ lies. let all = agree.given lies in (all.0, (follows all.0 all.1.0, all.1.1)) }
+
+-- and of HDUs that lie where those lay
+pub agree_lying : (whole : Bool) (log : ReadLogState) (old new : List HduState) → LieStill old new → Agree whole log old → Agree whole log new
+agree_lying whole log old new lie agree = record { given = λ lies. let all = agree.given lies in (all.0, (all.1.0, lie all.0 all.1.1)) }
+
+-- what a session keeps beside how its data units are had goes for any way in which they are
+pub kept_in : (holding other : Holding) (hdus : List HduState) (tail : List ℕ) (bytes : ℕ) (es : List (ExtensionName × ℕ)) (room : ℕ) → IsKept holding hdus tail bytes es room → All (IsHad other) hdus → IsKept other hdus tail bytes es room
+kept_in holding other hdus tail bytes es room kept had = record {
+  whole = kept.whole;
+  len = kept.len;
+  described = kept.described;
+  right = kept.right;
+  names = kept.names;
+  roomy = kept.roomy;
+  had = had;
+}

@@ -5,13 +5,17 @@ use Rattle.std.proofs.lemmas.Bool.{cases_lt}
 use Rattle.std.proofs.lemmas.List.{append-nil, length-append, map-append}
 use Rattle.std.specs.Io.KnownBytes.{Consumes}
 use Rattle.fits_card.specs.CardList.{CardStore}
-use Rattle.fits_stream.specs.Intake.{supply, Finds, IntakeState, IsSpent, Supply}
-use Rattle.fits_stream.specs.Stream.{SourceState}
-use Rattle.fits_stream.proofs.SightLemmas.{finds_begun, finds_next, finds_spent, past_limit, within_limit}
-use Rattle.fits_hdu.specs.Hdu.{HduParts}
+use Rattle.fits_stream.specs.Gave.{FindsAll}
+use Rattle.fits_stream.specs.Intake.{supply, IntakeState, IsSpent, Supply, Takes, TakingStops}
+use Rattle.fits_stream.specs.Stream.{SourceState, StaysQuiet}
+use Rattle.fits_stream.proofs.GaveLemmas.{finds, finds_all_begun, finds_all_next, finds_all_spent, finds_then}
+use Rattle.fits_stream.proofs.SightLemmas.{past_limit, within_limit, takes_quiet, takes_then_quiet, takes_then_fails}
+use Rattle.fits_hdu.specs.Hdu.{HduParts, hdu_bytes}
 use Rattle.fits_hdu.specs.Reading.{CardsCome, FailsAfter, TakesHdu}
 use Rattle.fits_hdu.specs.declared.fault.HduFault.{HduFault}
 use Rattle.fits_hdu.specs.declared.fault.HduFault.TheVariants as hdu_fault
+use Rattle.fits_stream.specs.declared.reading.ReadFault.{ReadFault}
+use Rattle.fits_stream.specs.declared.reading.ReadFault.TheVariants as read_fault
 use Rattle.fits_session.specs.File.{begins_extension, is_first, joined_hdus, IsFrontOf}
 use Rattle.fits_session.specs.declared.limits.TheConstants.{FILE_LIMIT, HDU_LIMIT}
 use Rattle.fits_session.specs.Headers.{cards_of, read_cards, AreHeadersIn, ShowsHeaders, StopsBy, StopsHere}
@@ -33,10 +37,6 @@ each_cards [] (u ∷ us) p = absurd p
 each_cards (k ∷ ks) [] p = absurd p
 each_cards (k ∷ ks) (u ∷ us) p = rw (p.0, each_cards ks us p.1) refl
 
--- what was found is so of what follows from it
-finds_then : (P Q : List ℕ → Type 0) (a b : Supply) → Finds a b P → ((s : List ℕ) → P s → Q s) → Finds a b Q
-finds_then P Q a b f next = record { sight = f.sight; in_sight = f.in_sight; is = next (a.ahead ++ f.sight) f.is; bytes = f.bytes; taken = f.taken }
-
 -- bytes that don't begin as a file have no header
 none_shown : (bytes : List ℕ) → HasOpenFault bytes NotFits → AreHeadersIn [] (Some NotFits) bytes
 none_shown bytes p = record {
@@ -52,7 +52,7 @@ none_shown bytes p = record {
 }
 
 -- so none is shown
-pub headers_none : (ks : List CardStore) (a b : Supply) → ks ≡ [] → Finds a b (λ bytes. HasOpenFault bytes NotFits) → Finds a b (AreHeadersIn (read_cards ks) (Some NotFits))
+pub headers_none : (ks : List CardStore) (a b : Supply) → ks ≡ [] → FindsAll a b (λ bytes. HasOpenFault bytes NotFits) → FindsAll a b (AreHeadersIn (read_cards ks) (Some NotFits))
 headers_none ks a b none f = rw none (finds_then (λ bytes. HasOpenFault bytes NotFits) (AreHeadersIn [] (Some NotFits)) a b f none_shown)
 
 -- one more is still few
@@ -92,21 +92,21 @@ pub cards_whole : (primary : Bool) (k : CardStore) (fault : Option HduFault) (a 
 cards_whole primary k fault a b p none = subst (λ f. CardsCome primary k.header.cards f a b) none p
 
 -- or none did
-pub cards_cut : (primary : Bool) (k : CardStore) (fault : Option HduFault) (why : HduFault) (a b : Supply) → CardsCome primary k.header.cards fault a b → fault ≡ Some why → Finds a b (FailsAfter primary k.header.cards why)
+pub cards_cut : (primary : Bool) (k : CardStore) (fault : Option HduFault) (why : HduFault) (a b : Supply) → CardsCome primary k.header.cards fault a b → fault ≡ Some why → FindsAll a b (FailsAfter primary k.header.cards why)
 cards_cut primary k fault why a b p some = subst (λ f. CardsCome primary k.header.cards f a b) some p
 
 -- so the walk over headers ends
 pub headers_stop : (ks new : List CardStore) (k : CardStore) (a b c : Supply) (h : ℕ) (primary : Bool) (why : HduFault) (found : OpenFault) → length a.ahead + a.left ≤ FILE_LIMIT → Walked is_header ks a b → NextBegins (nat_eq (length ks) 0) b.ahead → length ks < HDU_LIMIT
-    → primary ≡ nat_eq (length ks) 0 → new ≡ ks ++ k ∷ [] → h ≡ length new → found ≡ open_fault_of why h → Finds b c (FailsAfter primary k.header.cards why) → Finds a c (AreHeadersIn (read_cards new) (Some found))
+    → primary ≡ nat_eq (length ks) 0 → new ≡ ks ++ k ∷ [] → h ≡ length new → found ≡ open_fault_of why h → FindsAll b c (FailsAfter primary k.header.cards why) → FindsAll a c (AreHeadersIn (read_cards new) (Some found))
 headers_stop ks new k a b c h primary why found limit p begins few at is place same f =
     let us = p.hdus in
     let count : length ks ≡ length us = each_length is_header ks us p.each in
     let same_first : nat_eq (length ks) 0 ≡ is_first us = first_of is_header ks us p.each in
     let next : NextBegins (is_first us) b.ahead = subst (λ (b' : Bool). NextBegins b' b.ahead) same_first begins in
-    let here : Finds b c (FailsAfter (is_first us) k.header.cards why) = subst (λ (b' : Bool). Finds b c (FailsAfter b' k.header.cards why)) (at ∙ same_first) f in
+    let here : FindsAll b c (FailsAfter (is_first us) k.header.cards why) = subst (λ (b' : Bool). FindsAll b c (FailsAfter b' k.header.cards why)) (at ∙ same_first) f in
     let shown : read_cards new ≡ cards_of us ++ k.header.cards ∷ [] = read_more ks new k is ∙ ap (λ t. t ++ k.header.cards ∷ []) (each_cards ks us p.each) in
     let number : h ≡ length us + 1 = omega (arith, place, count, ap length is, length-append ks (k ∷ [])) in
-    rw same (finds_next (FailsAfter (is_first us) k.header.cards why) (AreHeadersIn (read_cards new) (Some (open_fault_of why h))) a b c (joined_hdus us) p.taken here
+    rw same (finds_all_next (FailsAfter (is_first us) k.header.cards why) (AreHeadersIn (read_cards new) (Some (open_fault_of why h))) a b c (joined_hdus us) p.taken here
     (λ s le fails. stops_shown us b.ahead s k.header.cards (read_cards new) h why (few_after a b (joined_hdus us) s p.taken limit le) p.front next (omega (arith, few, count)) number shown fails))
 
 -- HDUs after which none must stand are shown whole
@@ -126,26 +126,26 @@ all_shown us rest all fault some few size front is stops = record {
 
 -- no further HDU begins: those of a file are shown
 pub headers_whole : (ks : List CardStore) (a b : Supply) → length a.ahead + a.left ≤ FILE_LIMIT → Walked is_header ks a b → 0 < length ks → length ks ≤ HDU_LIMIT → begins_extension b.ahead ≡ false → (length b.ahead < 2880 → IsSpent b)
-    → Finds a b (AreHeadersIn (read_cards ks) None)
+    → FindsAll a b (AreHeadersIn (read_cards ks) None)
 headers_whole ks a b limit p some few ends short =
     let us = p.hdus in
     let count : length ks ≡ length us = each_length is_header ks us p.each in
     let are : read_cards ks ≡ cards_of us = each_cards ks us p.each in
     elim (cases_lt (length b.ahead) 2880) [
-      | inl less ↦ finds_spent (AreHeadersIn (read_cards ks) None) a b (joined_hdus us) p.taken (short less)
+      | inl less ↦ finds_all_spent (AreHeadersIn (read_cards ks) None) a b (joined_hdus us) p.taken (short less)
           (all_shown us b.ahead (read_cards ks) None (omega (arith, some, count)) (omega (arith, few, count)) (subst (λ t. length (joined_hdus us ++ t) ≤ FILE_LIMIT) (append-nil b.ahead) (few_after a b (joined_hdus us) [] p.taken limit (omega arith))) p.front are
           (goes_on-some us b.ahead (omega (arith, some, count)) ∙ ends, refl))
-      | inr many ↦ finds_begun (AreHeadersIn (read_cards ks) None) a b (joined_hdus us) p.taken
+      | inr many ↦ finds_all_begun (AreHeadersIn (read_cards ks) None) a b (joined_hdus us) p.taken
           (λ s le. all_shown us (b.ahead ++ s) (read_cards ks) None (omega (arith, some, count)) (omega (arith, few, count)) (few_after a b (joined_hdus us) s p.taken limit le) p.front are
           (goes_on-some us (b.ahead ++ s) (omega (arith, some, count)) ∙ (extension_same b.ahead s (inr (omega (arith, many))) ∙ ends), refl))
     ]
 
 -- one begins after as many as a file may have: those are shown
-pub headers_full : (ks : List CardStore) (a b : Supply) → length a.ahead + a.left ≤ FILE_LIMIT → Walked is_header ks a b → length ks ≡ HDU_LIMIT → begins_extension b.ahead ≡ true → Finds a b (AreHeadersIn (read_cards ks) (Some TooLarge))
+pub headers_full : (ks : List CardStore) (a b : Supply) → length a.ahead + a.left ≤ FILE_LIMIT → Walked is_header ks a b → length ks ≡ HDU_LIMIT → begins_extension b.ahead ≡ true → FindsAll a b (AreHeadersIn (read_cards ks) (Some TooLarge))
 headers_full ks a b limit p all more =
     let us = p.hdus in
     let count : length us ≡ HDU_LIMIT = omega (arith, each_length is_header ks us p.each, all) in
-    finds_begun (AreHeadersIn (read_cards ks) (Some TooLarge)) a b (joined_hdus us) p.taken
+    finds_all_begun (AreHeadersIn (read_cards ks) (Some TooLarge)) a b (joined_hdus us) p.taken
     (λ s le. all_shown us (b.ahead ++ s) (read_cards ks) (Some TooLarge) (omega (arith, count)) (omega (arith, count)) (few_after a b (joined_hdus us) s p.taken limit le) p.front (each_cards ks us p.each)
     (count, extension_more b.ahead s more, refl))
 
@@ -164,27 +164,39 @@ pub within_when : (a : Option (List ℕ)) (left : ℕ) (more : Bool) → more �
 within_when a left more is p = within_limit a left (subst (λ b. IfSome a (λ xs. IsTrue b ↔ (left < length xs))) is p)
 
 -- what was found stays where no more is left than may be taken
-pub headers_stay : (old : SourceState) (b : Supply) (i : IntakeState) (headers : List (List (List ℕ))) (found : Option OpenFault) → i ≡ record { ahead = []; left = FILE_LIMIT } → Finds (supply old i) b (AreHeadersIn headers found)
+pub headers_stay : (old : SourceState) (b : Supply) (i : IntakeState) (headers : List (List (List ℕ))) (found : Option OpenFault) → i ≡ record { ahead = []; left = FILE_LIMIT } → FindsAll (supply old i) b (AreHeadersIn headers found)
     → IfSome b.source.remaining (λ bytes. length bytes ≤ b.left) → ShowsHeaders old headers found
 headers_stay old b i headers found is f few =
-    let g : Finds (record { ahead = []; source = old; left = FILE_LIMIT }) b (AreHeadersIn headers found) = subst (λ (j : IntakeState). Finds (supply old j) b (AreHeadersIn headers found)) is f in
+    let g : FindsAll (record { ahead = []; source = old; left = FILE_LIMIT }) b (AreHeadersIn headers found) = subst (λ (j : IntakeState). FindsAll (supply old j) b (AreHeadersIn headers found)) is f in
+    let seen = finds (AreHeadersIn headers found) (record { ahead = []; source = old; left = FILE_LIMIT }) b g in
     record {
       found = found;
-      bytes = g.sight;
-      first = g.in_sight;
-      are = g.is;
+      bytes = seen.sight;
+      first = seen.in_sight;
+      are = seen.is;
       fault_is = inl (refl, left_in old.remaining b.source.remaining g.taken.more (λ n. n ≤ b.left) (λ n. n ≤ FILE_LIMIT) g.taken.drawn.read.gone few (λ n le. omega (arith, le, g.taken.drawn.count)));
     }
 
 -- and is another where more is
-pub headers_over : (old : SourceState) (b : Supply) (i : IntakeState) (headers : List (List (List ℕ))) (found : Option OpenFault) → i ≡ record { ahead = []; left = FILE_LIMIT } → Finds (supply old i) b (AreHeadersIn headers found)
+pub headers_over : (old : SourceState) (b : Supply) (i : IntakeState) (headers : List (List (List ℕ))) (found : Option OpenFault) → i ≡ record { ahead = []; left = FILE_LIMIT } → FindsAll (supply old i) b (AreHeadersIn headers found)
     → IfSome b.source.remaining (λ bytes. b.left < length bytes) → ShowsHeaders old headers (Some TooLarge)
 headers_over old b i headers found is f many =
-    let g : Finds (record { ahead = []; source = old; left = FILE_LIMIT }) b (AreHeadersIn headers found) = subst (λ (j : IntakeState). Finds (supply old j) b (AreHeadersIn headers found)) is f in
+    let g : FindsAll (record { ahead = []; source = old; left = FILE_LIMIT }) b (AreHeadersIn headers found) = subst (λ (j : IntakeState). FindsAll (supply old j) b (AreHeadersIn headers found)) is f in
+    let seen = finds (AreHeadersIn headers found) (record { ahead = []; source = old; left = FILE_LIMIT }) b g in
     record {
       found = found;
-      bytes = g.sight;
-      first = g.in_sight;
-      are = g.is;
+      bytes = seen.sight;
+      first = seen.in_sight;
+      are = seen.is;
       fault_is = inr (refl, left_in old.remaining b.source.remaining g.taken.more (λ n. b.left < n) (λ n. FILE_LIMIT < n) g.taken.drawn.read.gone many (λ n less. omega (arith, less, g.taken.drawn.count)));
     }
+
+-- the cards of an HDU come without a failed call
+pub cards_quiet : (primary : Bool) (cards : List (List ℕ)) (fault : Option HduFault) (a b : Supply) → CardsCome primary cards fault a b → StaysQuiet a.source b.source
+cards_quiet primary cards None a b p = takes_quiet a b (hdu_bytes p.hdu) p.taken
+cards_quiet primary cards (Some why) a b p = takes_quiet a b p.bytes p.taken
+
+-- bytes are taken, and then no more
+pub taking_after : (a b : Supply) (c : SourceState) (bytes : List ℕ) (why : ReadFault) → Takes a b bytes → TakingStops b.source c why → TakingStops a.source c why
+taking_after a b c bytes read_fault.Memory p stops = takes_then_quiet a b c bytes p stops
+taking_after a b c bytes read_fault.Failed p stops = takes_then_fails a b c bytes p stops

@@ -6,9 +6,13 @@ use Rattle.std.specs.List.{starts_with}
 use Rattle.std.proofs.lemmas.Bool.{cases_lt, false≢true}
 use Rattle.std.proofs.lemmas.List.{append-nil, length-append, take_all, take-append-le}
 use Rattle.std.proofs.lemmas.List.Concat.{flat_map-append}
-use Rattle.fits_stream.specs.Intake.{supply, Finds, Gives, GivesAll, IntakeState, IsLimited, IsOver, IsSpent, Supply, Takes, TellsAll}
-use Rattle.fits_stream.specs.Stream.{FailsOnce, SourceState, StaysQuiet}
-use Rattle.fits_stream.proofs.SightLemmas.{finds_begun, finds_given, finds_next, finds_spent, long_given, no_bytes, past_limit, rest_given, takes_and_holds, takes_fewer, takes_more, tells_after, within_limit}
+use Rattle.fits_stream.specs.declared.reading.ReadFault.{ReadFault}
+use Rattle.fits_stream.specs.declared.reading.ReadFault.TheVariants as read_fault
+use Rattle.fits_stream.specs.Gave.{FindsAll, Gave, Overruns}
+use Rattle.fits_stream.specs.Intake.{supply, TakingStops, Gives, GivesAll, IntakeState, IsLimited, IsOver, IsSpent, Supply, Takes, TellsAll}
+use Rattle.fits_stream.specs.Stream.{FailsOnce, IsDry, SourceState, StaysQuiet}
+use Rattle.fits_stream.proofs.GaveLemmas.{finds, finds_all_begun, finds_all_next, finds_all_spent, found_gave, gave, gave_then, long_gave, overruns_known, overruns_quiet}
+use Rattle.fits_stream.proofs.SightLemmas.{finds_given, long_given, no_bytes, rest_given, takes_and_holds, takes_fewer, takes_more, takes_quiet, takes_then_fails, takes_then_quiet, tells_after, within_limit}
 use Rattle.fits_hdu.specs.Hdu.{HduParts, HasHduFault, IsHdu, hdu_bytes}
 use Rattle.fits_hdu.specs.Reading.{HduStops, TakesHdu, IsKeptWhole}
 use Rattle.fits_hdu.specs.State.{HduState}
@@ -19,7 +23,7 @@ use Rattle.fits_hdu.specs.declared.read_fault.ReadHduFault.TheVariants as read_h
 use Rattle.fits_session.specs.File.{FileParts, begins_extension, file_bytes, goes_on, is_first, is_followed, joined_hdus, IsFile, IsFileOf, IsFrontOf}
 use Rattle.fits_session.specs.declared.limits.TheConstants.{FILE_LIMIT, HDU_LIMIT}
 use Rattle.fits_session.specs.Opening.{BeginsAsFits, HasOpenFault, open_fault_of}
-use Rattle.fits_session.specs.Reading.{file_fault_of, is_of_bytes, IsKeptOf, IsReadWhole, IsWalkOf, KeepsEach, NextBegins, ReadStops, RestStops, SupplyStops, Walked, WalkStops}
+use Rattle.fits_session.specs.Reading.{file_fault_of, of_read, is_of_bytes, IsKeptOf, GaveFault, IsFresh, IsReadWhole, IsWalkOf, KeepsEach, NextBegins, ReadStops, RestStops, SupplyStops, Walked, WalkStops}
 use Rattle.fits_session.specs.Session.{file_of, hdus_of, state_of, IsHeld}
 use Rattle.fits_session.specs.declared.open_fault.OpenFault.TheVariants.{NotFits, NoEnd, BadShape, ShortData, TooLarge, Memory}
 use Rattle.fits_session.specs.declared.read_fault.ReadFileFault.{ReadFileFault}
@@ -143,9 +147,9 @@ few_after a b bytes s p limit le = omega (arith, limit, takes_fewer a b bytes p,
 
 -- a fault of the next HDU is the file's
 stops_at : (us : List HduParts) (a b c : Supply) (fault : HduFault) → length a.ahead + a.left ≤ FILE_LIMIT → Takes a b (joined_hdus us) → IsFrontOf (joined_hdus us) us [] → NextBegins (is_first us) b.ahead → length us < HDU_LIMIT
-    → Finds b c (λ s. HasHduFault (is_first us) s fault) → Finds a c (λ bytes. HasOpenFault bytes (open_fault_of fault (length us + 1)))
+    → FindsAll b c (λ s. HasHduFault (is_first us) s fault) → FindsAll a c (λ bytes. HasOpenFault bytes (open_fault_of fault (length us + 1)))
 stops_at us a b c fault limit p front begins few f =
-    finds_next (λ s. HasHduFault (is_first us) s fault) (λ bytes. HasOpenFault bytes (open_fault_of fault (length us + 1))) a b c (joined_hdus us) p f
+    finds_all_next (λ s. HasHduFault (is_first us) s fault) (λ bytes. HasOpenFault bytes (open_fault_of fault (length us + 1))) a b c (joined_hdus us) p f
     (λ s le fails. fails_at us b.ahead s fault (few_after a b (joined_hdus us) s p limit le) front begins few fails)
 
 -- so is whatever ended its reading
@@ -154,8 +158,8 @@ walk_stops : (us : List HduParts) (a b c : Supply) (fault : ReadHduFault) → le
 walk_stops us a b c (read_hdu.Hdu hdu_fault.NoEnd) limit p front begins few stops = stops_at us a b c hdu_fault.NoEnd limit p front begins few stops
 walk_stops us a b c (read_hdu.Hdu (hdu_fault.BadShape place)) limit p front begins few stops = stops_at us a b c (hdu_fault.BadShape place) limit p front begins few stops
 walk_stops us a b c (read_hdu.Hdu hdu_fault.ShortData) limit p front begins few stops = stops_at us a b c hdu_fault.ShortData limit p front begins few stops
-walk_stops us a b c (read_hdu.Hdu hdu_fault.Memory) limit p front begins few stops = stops ∙ p.drawn.read.quiet
-walk_stops us a b c read_hdu.Failed limit p front begins few stops = omega (arith, stops, p.drawn.read.quiet)
+walk_stops us a b c (read_hdu.Hdu hdu_fault.Memory) limit p front begins few stops = takes_then_quiet a b c.source (joined_hdus us) p stops
+walk_stops us a b c read_hdu.Failed limit p front begins few stops = takes_then_fails a b c.source (joined_hdus us) p stops
 
 -- so the walk stops
 pub stops_by_hdu : {K : Type 0} (keeps : K → HduParts → Type 0) (ks : List K) (a b c : Supply) (h : ℕ) (primary : Bool) (fault : ReadHduFault) → length a.ahead + a.left ≤ FILE_LIMIT → Walked keeps ks a b → NextBegins (nat_eq (length ks) 0) b.ahead → length ks < HDU_LIMIT
@@ -169,31 +173,44 @@ stops_by_hdu keeps ks a b c h primary fault limit p begins few at is stops =
 
 -- a call of the source failed after HDUs
 pub walk_failed : {K : Type 0} (keeps : K → HduParts → Type 0) (ks : List K) (a b : Supply) (c : SourceState) → Walked keeps ks a b → FailsOnce b.source c → FailsOnce a.source c
-walk_failed keeps ks a b c p failed = omega (arith, failed, p.taken.drawn.read.quiet)
+walk_failed keeps ks a b c p failed = takes_then_fails a b c (joined_hdus p.hdus) p.taken failed
 
 -- the bytes don't begin as a file does
-not_fits_begun : (a b : Supply) → length a.ahead + a.left ≤ FILE_LIMIT → Takes a b [] → starts_with nat_eq b.ahead (codes "SIMPLE  ") ≡ false → 8 ≤ length b.ahead → Finds a b (λ bytes. HasOpenFault bytes NotFits)
+not_fits_begun : (a b : Supply) → length a.ahead + a.left ≤ FILE_LIMIT → Takes a b [] → starts_with nat_eq b.ahead (codes "SIMPLE  ") ≡ false → 8 ≤ length b.ahead → FindsAll a b (λ bytes. HasOpenFault bytes NotFits)
 not_fits_begun a b limit p e many =
-    finds_begun (λ bytes. HasOpenFault bytes NotFits) a b [] p
+    finds_all_begun (λ bytes. HasOpenFault bytes NotFits) a b [] p
     (λ s le. (few_after a b [] s p limit le, λ begins. let no : true ≡ false = sym begins ∙ begins_same (codes "SIMPLE  ") b.ahead s 8 (inr many) ∙ e in cc))
 
 -- bytes that don't begin as a file, and no more of them
-not_fits_spent : (a b : Supply) → length a.ahead + a.left ≤ FILE_LIMIT → Takes a b [] → starts_with nat_eq b.ahead (codes "SIMPLE  ") ≡ false → IsSpent b → Finds a b (λ bytes. HasOpenFault bytes NotFits)
+not_fits_spent : (a b : Supply) → length a.ahead + a.left ≤ FILE_LIMIT → Takes a b [] → starts_with nat_eq b.ahead (codes "SIMPLE  ") ≡ false → IsSpent b → FindsAll a b (λ bytes. HasOpenFault bytes NotFits)
 not_fits_spent a b limit p e spent =
-    finds_spent (λ bytes. HasOpenFault bytes NotFits) a b [] p spent (omega (arith, limit, takes_fewer a b [] p), λ begins. let no : true ≡ false = sym begins ∙ e in cc)
+    finds_all_spent (λ bytes. HasOpenFault bytes NotFits) a b [] p spent (omega (arith, limit, takes_fewer a b [] p), λ begins. let no : true ≡ false = sym begins ∙ e in cc)
 
 -- a file that doesn't begin as one stops the walk
-pub stops_at_first : (a b : Supply) → length a.ahead + a.left ≤ FILE_LIMIT → Takes a b [] → (length b.ahead < 2880 → IsSpent b) → starts_with nat_eq b.ahead (codes "SIMPLE  ") ≡ false → Finds a b (λ bytes. HasOpenFault bytes NotFits)
+pub stops_at_first : (a b : Supply) → length a.ahead + a.left ≤ FILE_LIMIT → Takes a b [] → (length b.ahead < 2880 → IsSpent b) → starts_with nat_eq b.ahead (codes "SIMPLE  ") ≡ false → FindsAll a b (λ bytes. HasOpenFault bytes NotFits)
 stops_at_first a b limit p short e =
     elim (cases_lt (length b.ahead) 2880) [ inl few ↦ not_fits_spent a b limit p e (short few) | inr many ↦ not_fits_begun a b limit p e (omega (arith, many)) ]
 
 -- an extension begins after as many HDUs as a file may have
-pub stops_full : {K : Type 0} (keeps : K → HduParts → Type 0) (ks : List K) (a b : Supply) → Walked keeps ks a b → length ks ≡ HDU_LIMIT → begins_extension b.ahead ≡ true → Finds a b (λ bytes. HasOpenFault bytes TooLarge)
+pub stops_full : {K : Type 0} (keeps : K → HduParts → Type 0) (ks : List K) (a b : Supply) → Walked keeps ks a b → length ks ≡ HDU_LIMIT → begins_extension b.ahead ≡ true → FindsAll a b (λ bytes. HasOpenFault bytes TooLarge)
 stops_full keeps ks a b p all e =
-    finds_begun (λ bytes. HasOpenFault bytes TooLarge) a b (joined_hdus p.hdus) p.taken
+    finds_all_begun (λ bytes. HasOpenFault bytes TooLarge) a b (joined_hdus p.hdus) p.taken
     (λ s le. inr (record { before = p.hdus; rest = b.ahead ++ s; front = front_rest p.hdus (b.ahead ++ s) p.front; all = omega (arith, all, each_length keeps ks p.hdus p.each); more = extension_more b.ahead s e }))
 
-pub ruleset walk_steps = (walked_none, walked_more, walk_shorter, next_first, next_more, walk_failed)
+-- the bytes after HDUs weren't taken
+pub tail_stops : {K : Type 0} (keeps : K → HduParts → Type 0) (ks : List K) (a b : Supply) (c : SourceState) (fault : ReadFault) (why : ReadFileFault) → Walked keeps ks a b → TakingStops b.source c fault → why ≡ of_read fault → SupplyStops a c why
+tail_stops keeps ks a b c read_fault.Memory why p stops is = rw is (takes_then_quiet a b c (joined_hdus p.hdus) p.taken stops)
+tail_stops keeps ks a b c read_fault.Failed why p stops is = rw is (takes_then_fails a b c (joined_hdus p.hdus) p.taken stops)
+
+-- memory was refused after HDUs
+pub walk_quiet : {K : Type 0} (keeps : K → HduParts → Type 0) (ks : List K) (a b : Supply) (c : SourceState) → Walked keeps ks a b → StaysQuiet b.source c → StaysQuiet a.source c
+walk_quiet keeps ks a b c p quiet = takes_then_quiet a b c (joined_hdus p.hdus) p.taken quiet
+
+-- no call fails where HDUs come
+pub walked_quiet : {K : Type 0} (keeps : K → HduParts → Type 0) (ks : List K) (a b : Supply) → Walked keeps ks a b → StaysQuiet a.source b.source
+walked_quiet keeps ks a b p = takes_quiet a b (joined_hdus p.hdus) p.taken
+
+pub ruleset walk_steps = (walk_quiet, walked_quiet, walked_none, walked_more, walk_shorter, next_first, next_more, walk_failed)
 
 -- what is left is more than may be taken, or a call failed: so of all
 pub ends_before : (a b : Supply) (c : SourceState) (bytes : List ℕ) (before : ReadFileFault) → IsLimited FILE_LIMIT a → Takes a b bytes → RestStops b c before → SupplyStops a c before
@@ -202,9 +219,9 @@ ends_before a b c bytes (Open (NoEnd h)) far p stops = absurd stops
 ends_before a b c bytes (Open (BadShape h place)) far p stops = absurd stops
 ends_before a b c bytes (Open (ShortData h)) far p stops = absurd stops
 ends_before a b c bytes (Open TooLarge) far p stops =
-    let all = long_given FILE_LIMIT a b bytes p far stops.0 in ((all.0, all.1, inl all.2), stops.1 ∙ p.drawn.read.quiet)
+    let all = long_given FILE_LIMIT a b bytes p far (overruns_known b.left b.source c stops) in ((all.0, all.1, inl all.2), takes_then_quiet a b c bytes p (overruns_quiet b.left true b.source c stops))
 ends_before a b c bytes (Open Memory) far p stops = absurd stops
-ends_before a b c bytes Failed far p stops = omega (arith, stops, p.drawn.read.quiet)
+ends_before a b c bytes Failed far p stops = takes_then_fails a b c bytes p stops
 
 -- a fault of what was taken
 pub settled_before : (a b : Supply) (c : SourceState) (fault before : ReadFileFault) → is_of_bytes fault ≡ true → IsLimited FILE_LIMIT a → WalkStops a b fault → RestStops b c before → SupplyStops a c before
@@ -217,16 +234,16 @@ settled_before a b c (Open Memory) before is far p q = absurd (false≢true is)
 settled_before a b c Failed before is far p q = absurd (false≢true is)
 
 -- what was found of what was taken is so of all where no more is left
-finds_all : (P : List ℕ → Type 0) (a b : Supply) (c : SourceState) → Finds a b P → IfSome b.source.remaining (λ ys. length ys ≤ b.left) → StaysQuiet b.source c → GivesAll a P × StaysQuiet a.source c
-finds_all P a b c p few quiet = (finds_given P a b p few, quiet ∙ p.taken.drawn.read.quiet)
+found_of_all : (P : List ℕ → Type 0) (a b : Supply) (c : SourceState) → FindsAll a b P → IfSome b.source.remaining (λ ys. length ys ≤ b.left) → StaysQuiet b.source c → GivesAll a P × StaysQuiet a.source c
+found_of_all P a b c p few quiet = (finds_given P a b (finds P a b p) few, takes_then_quiet a b c p.bytes p.taken quiet)
 
 -- so is a fault
 pub settled_here : (a b : Supply) (c : SourceState) (fault : ReadFileFault) → is_of_bytes fault ≡ true → WalkStops a b fault → IfSome b.source.remaining (λ ys. length ys ≤ b.left) → StaysQuiet b.source c → SupplyStops a c fault
-settled_here a b c (Open NotFits) is p few quiet = finds_all (λ s. HasOpenFault s NotFits) a b c p few quiet
-settled_here a b c (Open (NoEnd h)) is p few quiet = finds_all (λ s. HasOpenFault s (NoEnd h)) a b c p few quiet
-settled_here a b c (Open (BadShape h place)) is p few quiet = finds_all (λ s. HasOpenFault s (BadShape h place)) a b c p few quiet
-settled_here a b c (Open (ShortData h)) is p few quiet = finds_all (λ s. HasOpenFault s (ShortData h)) a b c p few quiet
-settled_here a b c (Open TooLarge) is p few quiet = finds_all (λ s. HasOpenFault s TooLarge) a b c p few quiet
+settled_here a b c (Open NotFits) is p few quiet = found_of_all (λ s. HasOpenFault s NotFits) a b c p few quiet
+settled_here a b c (Open (NoEnd h)) is p few quiet = found_of_all (λ s. HasOpenFault s (NoEnd h)) a b c p few quiet
+settled_here a b c (Open (BadShape h place)) is p few quiet = found_of_all (λ s. HasOpenFault s (BadShape h place)) a b c p few quiet
+settled_here a b c (Open (ShortData h)) is p few quiet = found_of_all (λ s. HasOpenFault s (ShortData h)) a b c p few quiet
+settled_here a b c (Open TooLarge) is p few quiet = found_of_all (λ s. HasOpenFault s TooLarge) a b c p few quiet
 settled_here a b c (Open Memory) is p few quiet = absurd (false≢true is)
 settled_here a b c Failed is p few quiet = absurd (false≢true is)
 
@@ -239,6 +256,56 @@ settled_early a b (Open (ShortData h)) early p = absurd (false≢true (sym early
 settled_early a b (Open TooLarge) early p = absurd (false≢true (sym early))
 settled_early a b (Open Memory) early p = p
 settled_early a b Failed early p = p
+
+-- more came than may be taken of a source: it is too large, whatever follows
+pub rest_gave : (a b : Supply) (c : SourceState) (bytes : List ℕ) (before : ReadFileFault) → IsFresh a → Takes a b bytes → RestStops b c before → GaveFault a.source c before
+rest_gave a b c bytes (Open NotFits) fresh p stops = absurd stops
+rest_gave a b c bytes (Open (NoEnd h)) fresh p stops = absurd stops
+rest_gave a b c bytes (Open (BadShape h place)) fresh p stops = absurd stops
+rest_gave a b c bytes (Open (ShortData h)) fresh p stops = absurd stops
+rest_gave a b c bytes (Open TooLarge) fresh p stops =
+    gave_then (λ all. FILE_LIMIT < length all) (λ all. HasOpenFault all TooLarge) a.source c (long_gave FILE_LIMIT a b c bytes fresh.none fresh.room p stops) (λ all far. inl far)
+rest_gave a b c bytes (Open Memory) fresh p stops = absurd stops
+rest_gave a b c bytes Failed fresh p stops = tt
+
+-- so it is where a fault was found before
+pub gave_before : (a b : Supply) (c : SourceState) (fault before : ReadFileFault) → is_of_bytes fault ≡ true → IsFresh a → WalkStops a b fault → RestStops b c before → GaveFault a.source c before
+gave_before a b c (Open NotFits) before is fresh p q = rest_gave a b c p.bytes before fresh p.taken q
+gave_before a b c (Open (NoEnd h)) before is fresh p q = rest_gave a b c p.bytes before fresh p.taken q
+gave_before a b c (Open (BadShape h place)) before is fresh p q = rest_gave a b c p.bytes before fresh p.taken q
+gave_before a b c (Open (ShortData h)) before is fresh p q = rest_gave a b c p.bytes before fresh p.taken q
+gave_before a b c (Open TooLarge) before is fresh p q = rest_gave a b c p.bytes before fresh p.taken q
+gave_before a b c (Open Memory) before is fresh p q = absurd (false≢true is)
+gave_before a b c Failed before is fresh p q = absurd (false≢true is)
+
+-- else that fault is one of all that came
+pub gave_here : (a b : Supply) (c : SourceState) (fault : ReadFileFault) → is_of_bytes fault ≡ true → IsFresh a → WalkStops a b fault → Overruns b.left false b.source c → IsDry c → GaveFault a.source c fault
+gave_here a b c (Open NotFits) is fresh p rest dry = found_gave (λ s. HasOpenFault s NotFits) a b c fresh.none p rest dry
+gave_here a b c (Open (NoEnd h)) is fresh p rest dry = found_gave (λ s. HasOpenFault s (NoEnd h)) a b c fresh.none p rest dry
+gave_here a b c (Open (BadShape h place)) is fresh p rest dry = found_gave (λ s. HasOpenFault s (BadShape h place)) a b c fresh.none p rest dry
+gave_here a b c (Open (ShortData h)) is fresh p rest dry = found_gave (λ s. HasOpenFault s (ShortData h)) a b c fresh.none p rest dry
+gave_here a b c (Open TooLarge) is fresh p rest dry = found_gave (λ s. HasOpenFault s TooLarge) a b c fresh.none p rest dry
+gave_here a b c (Open Memory) is fresh p rest dry = absurd (false≢true is)
+gave_here a b c Failed is fresh p rest dry = absurd (false≢true is)
+
+-- the bytes aren't at fault
+pub gave_early : (a b : SourceState) (fault : ReadFileFault) → is_of_bytes fault ≡ false → GaveFault a b fault
+gave_early a b (Open NotFits) early = absurd (false≢true (sym early))
+gave_early a b (Open (NoEnd h)) early = absurd (false≢true (sym early))
+gave_early a b (Open (BadShape h place)) early = absurd (false≢true (sym early))
+gave_early a b (Open (ShortData h)) early = absurd (false≢true (sym early))
+gave_early a b (Open TooLarge) early = absurd (false≢true (sym early))
+gave_early a b (Open Memory) early = tt
+gave_early a b Failed early = tt
+
+-- memory was refused, or a call failed
+pub gave_of_read : (a b : SourceState) (fault : ReadFault) (why : ReadFileFault) → why ≡ of_read fault → GaveFault a b why
+gave_of_read a b read_fault.Memory why is = rw is tt
+gave_of_read a b read_fault.Failed why is = rw is tt
+
+-- an intake of as many bytes as a file may have begins
+pub fresh : (a : SourceState) (i : IntakeState) → i ≡ record { ahead = []; left = FILE_LIMIT } → IsFresh (supply a i)
+fresh a i is = record { none = ap (λ (j : IntakeState). j.ahead) is; room = omega (arith, ap (λ (j : IntakeState). j.left) is) }
 
 -- none of a source is ahead: what was found of all is so of what it has
 source_stops : (a c : SourceState) (fault : ReadFileFault) → SupplyStops (record { ahead = []; source = a; left = FILE_LIMIT }) c fault → ReadStops a c fault
@@ -309,9 +376,9 @@ kept_alone keeps ks followed a p = (p.0, p.1, (p.2.0, p.2.1, p.2.2))
 
 pub ruleset outline_steps = (kept_alone)
 
-pub ruleset end_steps = (within_limit, past_limit)
+pub ruleset end_steps = (within_limit)
 
-pub ruleset settled_steps = (settled_before, settled_here, settled_early)
+pub ruleset settled_steps = (settled_before, settled_here, settled_early, gave_before, gave_here, gave_early)
 
 -- the HDUs that are kept whole are those of the file
 each_is : (hdus : List HduState) (us : List HduParts) → KeepsEach IsKeptWhole hdus us → hdus_of hdus ≡ us
@@ -343,9 +410,9 @@ pub all_passed : {K : Type 0} (keeps : K → HduParts → Type 0) (ks : List K) 
 all_passed keeps ks tail a b c p q = takes_more a b c (joined_hdus p.hdus) tail p.taken q
 
 -- and are a file, of which nothing is left
-pub walked_whole : {K : Type 0} (keeps : K → HduParts → Type 0) (ks : List K) (tail : List ℕ) (bytes : ℕ) (a b c : Supply) (p : Walked keeps ks a b) → length a.ahead + a.left ≤ FILE_LIMIT → Takes b c tail → 0 < length ks → length ks ≤ HDU_LIMIT → begins_extension tail ≡ false
-    → IsOver c → IfSome c.source.remaining (λ ys. length ys ≤ c.left) → bytes ≡ length (joined_hdus p.hdus ++ tail) → IsReadWhole keeps ks bytes tail a
-walked_whole keeps ks tail bytes a b c p limit q some few ends over short len =
+pub walked_whole : {K : Type 0} (keeps : K → HduParts → Type 0) (ks : List K) (tail : List ℕ) (bytes : ℕ) (a b c : Supply) (d : SourceState) (p : Walked keeps ks a b) → length a.ahead + a.left ≤ FILE_LIMIT → Takes b c tail → 0 < length ks → length ks ≤ HDU_LIMIT → begins_extension tail ≡ false
+    → IsOver c → IfSome c.source.remaining (λ ys. length ys ≤ c.left) → bytes ≡ length (joined_hdus p.hdus ++ tail) → Overruns c.left false c.source d → IsDry d → IsReadWhole keeps ks bytes tail a d
+walked_whole keeps ks tail bytes a b c d p limit q some few ends over short len rest dry =
     let all : List ℕ = joined_hdus p.hdus ++ tail in
     let taken : Takes a c all = all_passed keeps ks tail a b c p q in
     let s = rest_given c short in
@@ -357,27 +424,32 @@ walked_whole keeps ks tail bytes a b c p limit q some few ends over short len =
       whole = file_walked keeps ks p.hdus tail p.each p.front some few ends (omega (arith, limit, takes_fewer a c all taken));
       len = len;
       told = subst (TellsAll a) (ap (λ t. all ++ t) none ∙ append-nil all) told;
+      came = λ begun. gave a c d all begun taken over rest dry;
     }
 
 -- so HDUs that are kept whole and a tail are the file
-pub whole_given : (hdus : List HduState) (bytes : ℕ) (tail : List ℕ) (a : Supply) → IsReadWhole IsKeptWhole hdus bytes tail a → GivesAll a (λ all. IsFileOf all (file_of (state_of hdus tail)))
-whole_given hdus bytes tail a r = rw (each_is hdus r.hdus r.each) (file_bytes (record { hdus = r.hdus; tail = tail }), r.told, r.whole)
+pub whole_given : (hdus : List HduState) (bytes : ℕ) (tail : List ℕ) (a : Supply) (d : SourceState) → IsReadWhole IsKeptWhole hdus bytes tail a d → GivesAll a (λ all. IsFileOf all (file_of (state_of hdus tail)))
+whole_given hdus bytes tail a d r = rw (each_is hdus r.hdus r.each) (file_bytes (record { hdus = r.hdus; tail = tail }), r.told, r.whole)
+
+-- and what came
+pub whole_came : (hdus : List HduState) (bytes : ℕ) (tail : List ℕ) (a : Supply) (d : SourceState) → IsReadWhole IsKeptWhole hdus bytes tail a d → a.ahead ≡ [] → Gave a.source d (file_bytes (file_of (state_of hdus tail)))
+whole_came hdus bytes tail a d r begun = rw (each_is hdus r.hdus r.each) (r.came begun)
 
 -- they are one
-pub whole_is : (hdus : List HduState) (bytes : ℕ) (tail : List ℕ) (a : Supply) → IsReadWhole IsKeptWhole hdus bytes tail a → IsFile (file_of (state_of hdus tail))
-whole_is hdus bytes tail a r = rw (each_is hdus r.hdus r.each) r.whole
+pub whole_is : (hdus : List HduState) (bytes : ℕ) (tail : List ℕ) (a : Supply) (d : SourceState) → IsReadWhole IsKeptWhole hdus bytes tail a d → IsFile (file_of (state_of hdus tail))
+whole_is hdus bytes tail a d r = rw (each_is hdus r.hdus r.each) r.whole
 
 -- of so many bytes
-pub whole_long : (hdus : List HduState) (bytes : ℕ) (tail : List ℕ) (a : Supply) → IsReadWhole IsKeptWhole hdus bytes tail a → bytes ≡ length (file_bytes (file_of (state_of hdus tail)))
-whole_long hdus bytes tail a r = rw (each_is hdus r.hdus r.each) r.len
+pub whole_long : (hdus : List HduState) (bytes : ℕ) (tail : List ℕ) (a : Supply) (d : SourceState) → IsReadWhole IsKeptWhole hdus bytes tail a d → bytes ≡ length (file_bytes (file_of (state_of hdus tail)))
+whole_long hdus bytes tail a d r = rw (each_is hdus r.hdus r.each) r.len
 
 -- they were opened
-pub whole_opened : (hdus : List HduState) (bytes : ℕ) (tail : List ℕ) (a : Supply) → IsReadWhole IsKeptWhole hdus bytes tail a → All (IsOpened 0) hdus
-whole_opened hdus bytes tail a r = each_opened hdus r.hdus r.each
+pub whole_opened : (hdus : List HduState) (bytes : ℕ) (tail : List ℕ) (a : Supply) (d : SourceState) → IsReadWhole IsKeptWhole hdus bytes tail a d → All (IsOpened 0) hdus
+whole_opened hdus bytes tail a d r = each_opened hdus r.hdus r.each
 
 -- and are in memory
-pub whole_held : (hdus : List HduState) (bytes : ℕ) (tail : List ℕ) (a : Supply) → IsReadWhole IsKeptWhole hdus bytes tail a → All IsHeld hdus
-whole_held hdus bytes tail a r = each_held hdus r.hdus r.each
+pub whole_held : (hdus : List HduState) (bytes : ℕ) (tail : List ℕ) (a : Supply) (d : SourceState) → IsReadWhole IsKeptWhole hdus bytes tail a d → All IsHeld hdus
+whole_held hdus bytes tail a d r = each_held hdus r.hdus r.each
 
 -- the tail that was read begins no extension
 pub tail_ends : (tail : List ℕ) (a b : Supply) → Takes a b tail → b.ahead ≡ [] → 2880 ≤ length a.ahead → begins_extension tail ≡ begins_extension a.ahead

@@ -1,8 +1,9 @@
 -- Data units that lie in a stored file: where they lie, and what loading one owes (own).
-use Rattle.std.specs.Prelude.{◌≡◌, ◌⊎◌, ℕ, ◌+◌, List, [], ◌∷◌, length, true, Option, Some, IfSome}
+use Rattle.std.specs.Prelude.{◌≡◌, ◌⊎◌, ℕ, ◌+◌, Bool, List, [], ◌∷◌, length, false, true, All, Option, Some, IfSome}
 use Rattle.std.specs.List.{slice_get}
 use Rattle.fits_card.specs.Header.{header_bytes}
-use Rattle.fits_stream.specs.Stream.{SourceState}
+use Rattle.fits_stream.specs.Agree.{IsOf}
+use Rattle.fits_stream.specs.Stored.{ReadLogState}
 use Rattle.fits_plane.specs.DataUnit.{LiesIn}
 use Rattle.fits_plane.specs.Layout.{block_count}
 use Rattle.fits_hdu.specs.Hdu.{HduParts, hdu_bytes}
@@ -13,15 +14,33 @@ use Rattle.fits_hdu.specs.declared.passed_hdu.PassedHdu.{PassedHdu}
 use Rattle.fits_session.specs.Edit.{changed_of, hdu_of}
 use Rattle.fits_session.specs.File.{FileParts}
 use Rattle.fits_session.specs.HduEdit.{needs_pixels}
-use Rattle.fits_session.specs.Reading.{ReadStops}
-use Rattle.fits_session.specs.Session.{SessionState}
+use Rattle.fits_session.specs.Opening.{HasOpenFault}
+use Rattle.fits_session.specs.Session.{Holding, IsHad, SessionState}
 use Rattle.fits_edit.specs.declared.edit.Edit.{Edit}
 use Rattle.fits_edit.specs.declared.edit.Edit.TheVariants.{Hdu}
+use Rattle.fits_session.specs.declared.open_fault.OpenFault.TheVariants.{Memory}
+use Rattle.fits_session.specs.declared.read_fault.ReadFileFault.TheVariants.{Open, Failed}
 use Rattle.fits_session.specs.declared.read_fault.ReadFileFault.{ReadFileFault}
 
--- each file of a kind tells its bytes
-abbrev pub AllTell : {F : Type 0} → (F → Option (List ℕ)) → Type 0
-AllTell bytes = (file : _) → (xs : List ℕ) × (bytes file ≡ Some xs)
+-- data units may lie in a file of these bytes
+abbrev pub in_file : List ℕ → Holding
+in_file bytes = record { whole = false; told = Some bytes }
+
+-- those of these do
+abbrev pub AllLie : List ℕ → List HduState → Type 0
+AllLie bytes hdus = All (IsHad (in_file bytes)) hdus
+
+-- in whatever file those of some HDUs lay, those of others lie
+abbrev pub LieStill : List HduState → List HduState → Type 0
+LieStill old new = (bytes : List ℕ) → AllLie bytes old → AllLie bytes new
+
+-- where data units lie in a file its reads agree: some bytes may have given them all, in which the data unit of this one lies
+abbrev pub AgreeOn : Bool → ReadLogState → HduState → Type 0
+AgreeOn whole log one = whole ≡ false → (bytes : List ℕ) × (IsOf bytes log × LiesIn bytes one.plane one.absent)
+
+-- the same of those of all of these
+pub record Agree (whole : Bool) (log : ReadLogState) (hdus : List HduState) : Type 0 where
+  pub given : whole ≡ false → (bytes : List ℕ) × (IsOf bytes log × AllLie bytes hdus)
 
 -- the parts of an HDU that passed by
 abbrev pub parts_passed : PassedHdu → HduParts
@@ -36,10 +55,6 @@ abbrev pub AreKnownFrom : ℕ → List HduState → Type 0
 AreKnownFrom start [] = Unit {0}
 AreKnownFrom start (one ∷ hdus) =
     IsKnownAt (start + length (header_bytes one.header.header)) one × AreKnownFrom (start + length (hdu_bytes (parts_of one))) hdus
-
--- a file that tells its bytes has the data unit of one where it lies
-abbrev pub LiesThere : Option (List ℕ) → HduState → Type 0
-LiesThere told one = IfSome told (λ bytes. LiesIn bytes one.plane one.absent)
 
 -- so much work on its data unit loading HDU h is
 abbrev pub LoadWork : FileParts → ℕ → PixelWork → PixelWork → Type 0
@@ -60,11 +75,8 @@ abbrev pub LoadsFor : Edit → SessionState → SessionState → Type 0
 LoadsFor (Hdu h edit) old new = (new ≡ old) ⊎ ((needs_pixels edit ≡ true) × LoadsAlone h old new)
 LoadsFor edit old new = new ≡ old
 
--- a stored file at its start, of which so many reads have failed
-abbrev pub at_start : Option (List ℕ) → ℕ → SourceState
-at_start told failed = record { remaining = told; failures = failed }
-
--- why it isn't opened: so many reads have failed before and after
-abbrev pub StoredStops : Option (List ℕ) → ℕ → ℕ → ReadFileFault → Type 0
-StoredStops told before after why =
-    (left : Option (List ℕ)) × ReadStops (at_start told before) (record { remaining = left; failures = after }) why
+-- why a stored file isn't opened: its reads before and after
+abbrev pub StoredStops : ReadLogState → ReadLogState → ReadFileFault → Type 0
+StoredStops old new (Open Memory) = new.failures ≡ old.failures
+StoredStops old new (Open fault) = ((bytes : List ℕ) → IsOf bytes new → HasOpenFault bytes fault) × (new.failures ≡ old.failures)
+StoredStops old new Failed = new.failures ≡ old.failures + 1

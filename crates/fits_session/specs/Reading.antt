@@ -1,7 +1,8 @@
 -- How a file is read from a source, whatever is kept of its HDUs (own).
-use Rattle.std.specs.Prelude.{◌≡◌, ℕ, ◌<◌, Bool, true, false, List, [], ◌∷◌, length, nat_eq, codes, IfSome}
+use Rattle.std.specs.Prelude.{◌≡◌, ℕ, ◌<◌, ◌≤◌, Bool, true, false, List, [], ◌∷◌, length, nat_eq, codes}
 use Rattle.std.specs.List.{starts_with}
-use Rattle.fits_stream.specs.Intake.{Supply, Finds, Gives, GivesAll, Takes, TellsAll}
+use Rattle.fits_stream.specs.Intake.{Supply, Gives, GivesAll, Takes, TellsAll}
+use Rattle.fits_stream.specs.Gave.{FindsAll, Gave, GaveAll, Overruns}
 use Rattle.fits_stream.specs.Stream.{SourceState, FailsOnce, StaysQuiet}
 use Rattle.fits_stream.specs.declared.reading.ReadFault.{ReadFault}
 use Rattle.fits_stream.specs.declared.reading.ReadFault.TheVariants as read
@@ -19,6 +20,7 @@ use Rattle.fits_hdu.specs.declared.read_fault.ReadHduFault.{ReadHduFault}
 use Rattle.fits_hdu.specs.declared.read_fault.ReadHduFault.TheVariants as hdu
 use Rattle.fits_session.specs.File.{FileParts, begins_extension, file_bytes, is_followed, joined_hdus, IsFile, IsFileOf, IsFrontOf}
 use Rattle.fits_session.specs.Opening.{HasOpenFault, open_fault_of}
+use Rattle.fits_session.specs.declared.limits.TheConstants.{FILE_LIMIT}
 use Rattle.fits_session.specs.declared.open_fault.OpenFault.TheVariants.{TooLarge, Memory}
 use Rattle.fits_session.specs.declared.read_fault.ReadFileFault.{ReadFileFault}
 use Rattle.fits_session.specs.declared.read_fault.ReadFileFault.TheVariants.{Open, Failed}
@@ -36,7 +38,7 @@ file_fault_of hdu.Failed h = Failed
 -- the bytes that may be taken don't open, for this fault; or memory was refused; or a call failed
 abbrev pub WalkStops : Supply → Supply → ReadFileFault → Type 0
 WalkStops old new (Open Memory) = StaysQuiet old.source new.source
-WalkStops old new (Open fault) = Finds old new (λ bytes. HasOpenFault bytes fault)
+WalkStops old new (Open fault) = FindsAll old new (λ bytes. HasOpenFault bytes fault)
 WalkStops old new Failed = FailsOnce old.source new.source
 
 -- all the bytes of a source don't open, for this fault; or memory was refused; or a call failed
@@ -51,9 +53,20 @@ SupplyStops old new (Open Memory) = StaysQuiet old.source new
 SupplyStops old new (Open fault) = GivesAll old (λ bytes. HasOpenFault bytes fault) × StaysQuiet old.source new
 SupplyStops old new Failed = FailsOnce old.source new
 
--- more is left than may be taken; or a call failed
+-- where its bytes are at fault, the fault is one of all that a source gave, and of all that may follow that
+abbrev pub GaveFault : SourceState → SourceState → ReadFileFault → Type 0
+GaveFault old new (Open Memory) = Unit {0}
+GaveFault old new (Open fault) = GaveAll old new (λ bytes. HasOpenFault bytes fault)
+GaveFault old new Failed = Unit {0}
+
+-- no bytes are ahead, and as many may be taken as a file may have
+pub record IsFresh (first : Supply) : Type 0 where
+  pub none : first.ahead ≡ []
+  pub room : FILE_LIMIT ≤ first.left
+
+-- more came than may be taken; or a call failed
 abbrev pub RestStops : Supply → SourceState → ReadFileFault → Type 0
-RestStops old new (Open TooLarge) = IfSome old.source.remaining (λ bytes. old.left < length bytes) × StaysQuiet old.source new
+RestStops old new (Open TooLarge) = Overruns old.left true old.source new
 RestStops old new (Open fault) = ⊥
 RestStops old new Failed = FailsOnce old.source new
 
@@ -78,12 +91,13 @@ pub record Walked {K : Type 0} (keeps : K → HduParts → Type 0) (kept : List 
   pub taken : Takes old new (joined_hdus hdus)
 
 -- HDUs, of which this is kept, and this tail were taken, and are all that might be: they are a file of so many bytes
-pub record IsReadWhole {K : Type 0} (keeps : K → HduParts → Type 0) (kept : List K) (bytes : ℕ) (tail : List ℕ) (old : Supply) : Type 0 where
+pub record IsReadWhole {K : Type 0} (keeps : K → HduParts → Type 0) (kept : List K) (bytes : ℕ) (tail : List ℕ) (old : Supply) (new : SourceState) : Type 0 where
   pub hdus : List HduParts
   pub each : KeepsEach keeps kept hdus
   pub whole : IsFile (record { hdus = hdus; tail = tail })
   pub len : bytes ≡ length (file_bytes (record { hdus = hdus; tail = tail }))
   pub told : TellsAll old (file_bytes (record { hdus = hdus; tail = tail }))
+  pub came : old.ahead ≡ [] → Gave old.source new (file_bytes (record { hdus = hdus; tail = tail }))
 
 -- the bytes are a file, of whose HDUs this is kept
 abbrev pub IsKeptOf : {K : Type 0} → (K → HduParts → Type 0) → List K → List ℕ → Type 0

@@ -4,7 +4,7 @@ ghost use Rattle.fits_hdu.specs.declared.found_cards.FoundCards.{FoundCards};
 ghost use Rattle.fits_stream.specs.Intake.{Gives};
 ghost use Rattle.fits_stream.specs.Stream.{StaysQuiet};
 ghost use Rattle.fits_session.specs.Headers.{read_cards};
-ghost use Rattle.fits_session.specs.Reading.{ReadStops};
+ghost use Rattle.fits_session.specs.Reading.{GaveFault, ReadStops};
 ghost use Rattle.fits_session.specs.Report.{IsCardReportOf};
 
 use crate::problem::Problem;
@@ -34,6 +34,7 @@ pub fn read_card_report<R: Source>(
         (IsCardReportOf it.problems.items (read_cards it.cards.items))) }
     ensures quiet { OnOk result (StaysQuiet (R.state source.old) (R.state source.new)) }
     ensures err { IfErr result (ReadStops (R.state source.old) (R.state source.new)) }
+    ensures gave { IfErr result (GaveFault (R.state source.old) (R.state source.new)) }
 {
     let (kept, followed) = read_kept::<FoundCards, R>(alloc, source)?;
     let (found, cards) = parted(alloc, kept)?;

@@ -1,6 +1,7 @@
 //! The headers of a source, also of one that is no file, whose data pass by.
 ghost use Rattle.std.specs.Prelude.{◌≡◌, ◌+◌, ◌≤◌, [], length, IfOk, IfErr, OnOk};
-ghost use Rattle.fits_stream.specs.Intake.{supply, Finds, TakingStops};
+ghost use Rattle.fits_stream.specs.Gave.{FindsAll};
+ghost use Rattle.fits_stream.specs.Intake.{supply, TakingStops};
 ghost use Rattle.fits_stream.specs.Stream.{StaysQuiet};
 ghost use Rattle.fits_session.specs.declared.limits.TheConstants.{FILE_LIMIT};
 ghost use Rattle.fits_session.specs.Headers.{read_cards, AreHeadersIn, ShowsHeaders};
@@ -57,7 +58,7 @@ fn walk_headers<R: Source>(
 ) -> Result<Option<OpenFault>, ReadFault>
     requires few { length intake.old.ahead + intake.old.left ≤ FILE_LIMIT }
     requires empty { headers.old.items ≡ [] }
-    ensures ok { IfOk result (λ fault. Finds
+    ensures ok { IfOk result (λ fault. FindsAll
         (supply (R.state source.old) intake.old) (supply (R.state source.new) intake.new)
         (AreHeadersIn (read_cards headers.new.items) fault)) }
     ensures err { IfErr result (TakingStops (R.state source.old) (R.state source.new)) }

@@ -1,5 +1,6 @@
-ghost use Rattle.std.specs.Prelude.{◌≡◌, ◌+◌, ℕ, List, Option, None, Bool, true, false, length, IfErr, IsOk, OnErr, OnOk};
-ghost use Rattle.fits_plane.specs.Again.{CopyCounts, CopyFails, LoadCounts, PrintsLike};
+ghost use Rattle.std.specs.Prelude.{◌≡◌, ◌+◌, ℕ, List, None, Bool, true, false, length, IfErr, IsOk, OnErr, OnOk};
+ghost use Rattle.fits_plane.specs.Again.{CopyCounts, CopyFails, CopyWrites, Follows, LoadCounts, PrintsLike};
+ghost use Rattle.fits_session.specs.Away.{AgreeOn};
 ghost use Rattle.fits_stream.specs.Stream.{Prints};
 ghost use Rattle.fits_hdu.specs.Hdu.{hdu_bytes};
 ghost use Rattle.fits_hdu.specs.State.{parts_of, ReadsUpTo};
@@ -8,7 +9,7 @@ ghost use Rattle.fits_session.specs.Session.{IsHad};
 
 use fits_hdu::Hdu;
 use fits_plane::{CopyFault, LoadFault};
-use fits_stream::{FailedReads, Sink, Stored, buffer_of};
+use fits_stream::{ReadLog, Sink, Stored, buffer_of};
 use std::alloc::{AllocError, Global};
 use std::marker::Model;
 
@@ -17,46 +18,42 @@ pub trait Holder {
     /// Whether all of them are in memory.
     ghost whole: { Bool };
 
-    /// The bytes of the file that the others lie in, where it tells them.
-    ghost told: { Self → Option (List ℕ) };
-
-    /// What is read again is known to be what was read before.
-    ghost steady: { Type 0 };
-
     /// Has the data unit of an HDU in memory: it is read again, where it lies in the file.
-    fn load(&self, alloc: Global, hdu: &mut Hdu, failed: &mut FailedReads) -> Result<(), LoadFault>
-        requires { IsHad (record { whole = whole; told = told self.now }) hdu.old }
+    fn load(&self, alloc: Global, hdu: &mut Hdu, log: &mut ReadLog) -> Result<(), LoadFault>
+        requires { IsHad (record { whole = whole; told = None }) hdu.old }
         ensures held { OnOk result (hdu.new.absent ≡ None) }
-        ensures same { steady → OnOk result (parts_of hdu.new ≡ parts_of hdu.old) }
+        ensures same { AgreeOn whole log.new hdu.old → OnOk result (parts_of hdu.new ≡ parts_of hdu.old) }
         ensures loads { Loads hdu.old hdu.new }
         ensures idle { hdu.old.absent ≡ None → hdu.new ≡ hdu.old }
         ensures at_once { hdu.old.absent ≡ None → IsOk result }
-        ensures quiet { OnOk result (failed.new ≡ failed.old) }
+        ensures quiet { OnOk result (log.new.failures ≡ log.old.failures) }
         ensures err { OnErr result (hdu.new ≡ hdu.old) }
-        ensures counted { IfErr result (LoadCounts failed.old failed.new) }
-        ensures unchanged { steady → IfErr result (λ why. why ≡ LoadFault.Changed → ⊥) };
+        ensures counted { IfErr result (LoadCounts log.old.failures log.new.failures) }
+        ensures unchanged { AgreeOn whole log.new hdu.old → IfErr result (λ why. why ≡ LoadFault.Changed → ⊥) }
+        ensures follows { Follows log.old log.new };
 
     /// Writes an HDU: its data unit is read again, where it lies in the file. It takes no memory.
     fn emit<W: Sink>(
         &mut self,
         hdu: &mut Hdu,
-        failed: &mut FailedReads,
+        log: &mut ReadLog,
         sink: &mut W,
     ) -> Result<(), CopyFault>
-        requires { IsHad (record { whole = whole; told = told self.old }) hdu.old }
-        ensures ok { steady → OnOk result (Prints (hdu_bytes (parts_of hdu.old))
+        requires { IsHad (record { whole = whole; told = None }) hdu.old }
+        ensures ok { AgreeOn whole log.new hdu.old → OnOk result (Prints (hdu_bytes (parts_of hdu.old))
             (W.state sink.old) (W.state sink.new)) }
         ensures like { OnOk result (PrintsLike (hdu_bytes (parts_of hdu.old))
             (W.state sink.old) (W.state sink.new)) }
-        ensures err { steady → IfErr result (CopyFails (hdu_bytes (parts_of hdu.old))
+        ensures err { AgreeOn whole log.new hdu.old → IfErr result (CopyFails (hdu_bytes (parts_of hdu.old))
             (W.state sink.old) (W.state sink.new)) }
         ensures written { whole ≡ true → IfErr result (λ why. why ≡ CopyFault.Write) }
-        ensures quiet { OnOk result (failed.new ≡ failed.old) }
-        ensures counted { IfErr result (CopyCounts failed.old failed.new) }
+        ensures quiet { OnOk result (log.new.failures ≡ log.old.failures) }
+        ensures counted { IfErr result (CopyCounts log.old.failures log.new.failures) }
         ensures work { ReadsUpTo hdu.old hdu.new (length hdu.old.header.header.cards) }
         ensures all_read { OnOk result (hdu.new.header.reads
             ≡ hdu.old.header.reads + length hdu.old.header.header.cards) }
-        ensures told { told self.new ≡ told self.old };
+        ensures writes { IfErr result (CopyWrites (W.state sink.old) (W.state sink.new)) }
+        ensures follows { Follows log.old log.new };
 }
 
 /// All data units are in memory.
@@ -66,23 +63,14 @@ pub struct InMemory;
 impl Holder for InMemory {
     ghost whole = { true };
 
-    ghost told = { λ _. None };
-
-    ghost steady = { Unit {0} };
-
-    fn load(
-        &self,
-        _alloc: Global,
-        _hdu: &mut Hdu,
-        _failed: &mut FailedReads,
-    ) -> Result<(), LoadFault> {
+    fn load(&self, _alloc: Global, _hdu: &mut Hdu, _log: &mut ReadLog) -> Result<(), LoadFault> {
         Ok(())
     }
 
     fn emit<W: Sink>(
         &mut self,
         hdu: &mut Hdu,
-        _failed: &mut FailedReads,
+        _log: &mut ReadLog,
         sink: &mut W,
     ) -> Result<(), CopyFault> {
         match hdu.emit(sink) {
@@ -128,29 +116,18 @@ impl<'f, F: Stored> InFile<'f, F> {
 }
 
 impl<'f, F: Stored> Holder for InFile<'f, F> {
-    ghost use Rattle.fits_session.specs.Away.{AllTell};
-
     ghost whole = { false };
 
-    ghost told = { λ it. F.bytes it };
-
-    ghost steady = { AllTell F.bytes };
-
-    fn load(
-        &self,
-        alloc: Global,
-        hdu: &mut Hdu,
-        failed: &mut FailedReads,
-    ) -> Result<(), LoadFault> {
-        hdu.load(alloc, self.file, failed)
+    fn load(&self, alloc: Global, hdu: &mut Hdu, log: &mut ReadLog) -> Result<(), LoadFault> {
+        hdu.load(alloc, self.file, log)
     }
 
     fn emit<W: Sink>(
         &mut self,
         hdu: &mut Hdu,
-        failed: &mut FailedReads,
+        log: &mut ReadLog,
         sink: &mut W,
     ) -> Result<(), CopyFault> {
-        hdu.emit_from(self.file, failed, self.room.as_mut_slice(), sink)
+        hdu.emit_from(self.file, log, self.room.as_mut_slice(), sink)
     }
 }

@@ -5,7 +5,7 @@ ghost use Rattle.fits_stream.specs.Stream.{StaysQuiet};
 ghost use Rattle.fits_header.specs.Findings.{found_at};
 ghost use Rattle.fits_hdu.specs.ExtensionName.{name_codes};
 ghost use Rattle.fits_session.specs.File.{FileParts, IsFileOf, is_followed};
-ghost use Rattle.fits_session.specs.Reading.{is_found, KeepsEach, ReadStops};
+ghost use Rattle.fits_session.specs.Reading.{is_found, GaveFault, KeepsEach, ReadStops};
 ghost use Rattle.fits_session.specs.NameTable.{IsTableOf};
 ghost use Rattle.fits_session.specs.Report.{found_from, found_names, in_hdu, report_of, trailing, IsReportOf};
 
@@ -26,6 +26,7 @@ pub fn read_report<R: Source>(alloc: Global, source: &mut R) -> Result<Vec<Probl
     ensures ok { IfOk result (λ report. Gives (R.state source.old) (IsReportOf report.items)) }
     ensures quiet { OnOk result (StaysQuiet (R.state source.old) (R.state source.new)) }
     ensures err { IfErr result (ReadStops (R.state source.old) (R.state source.new)) }
+    ensures gave { IfErr result (GaveFault (R.state source.old) (R.state source.new)) }
 {
     let (found, followed) = read_kept::<Findings, R>(alloc, source)?;
     let report = report_of(alloc, &found, followed)?;

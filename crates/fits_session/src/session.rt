@@ -50,19 +50,21 @@ pub struct Session<H: Holder + Drop = InMemory> {
 }
 
 impl<H: Holder + Drop> Model for Session<H> {
+    ghost use Rattle.std.specs.Prelude.{None};
     ghost use Rattle.fits_session.specs.Session.{SessionState, state_of, IsKept};
 
     ghost Value = { SessionState };
 
     ghost view = { λ session. state_of session.hdus.items session.tail.items };
 
-    ghost invariant = { λ session. IsKept (record { whole = H.whole; told = H.told session.holder })
+    ghost invariant = { λ session. IsKept (record { whole = H.whole; told = None })
         session.hdus.items session.tail.items session.len
         session.names.numbers.items session.names.room };
 }
 
 impl Session {
     ghost use Rattle.std.specs.Prelude.{◌≡◌, ◌<◌, length, All, IfOk, IfErr, IsErrOf, OnOk};
+    ghost use Rattle.fits_stream.specs.Gave.{Gave};
     ghost use Rattle.fits_stream.specs.Intake.{Gives};
     ghost use Rattle.fits_stream.specs.Stream.{StaysQuiet};
     ghost use Rattle.fits_hdu.specs.Work.{name_reads, IsOpened};
@@ -70,7 +72,7 @@ impl Session {
     ghost use Rattle.fits_session.specs.declared.limits.TheConstants.{FILE_LIMIT};
     ghost use Rattle.fits_session.specs.Marked.{unmarked};
     ghost use Rattle.fits_session.specs.Opening.{HasOpenFault, OpenFails};
-    ghost use Rattle.fits_session.specs.Reading.{ReadStops};
+    ghost use Rattle.fits_session.specs.Reading.{GaveFault, ReadStops};
     ghost use Rattle.fits_session.specs.Session.{file_of, marked_of, state_of, EditsTo, IsHeld};
 
     /// Opens the file that has these bytes. No HDU is kept stamped.
@@ -104,11 +106,14 @@ impl Session {
     pub fn read<R: Source>(alloc: Global, source: &mut R) -> Result<Session, ReadFileFault>
         ensures ok { IfOk result (λ session. Gives (R.state source.old)
             (λ bytes. IsFileOf bytes (file_of session))) }
+        ensures came { IfOk result (λ session. Gave (R.state source.old) (R.state source.new)
+            (file_bytes (file_of session))) }
         ensures unmarked { IfOk result (λ session. marked_of session
             ≡ unmarked (file_of session)) }
         ensures opened { IfOk result (λ session. All (IsOpened name_reads) session.hdus) }
         ensures quiet { OnOk result (StaysQuiet (R.state source.old) (R.state source.new)) }
         ensures err { IfErr result (ReadStops (R.state source.old) (R.state source.new)) }
+        ensures gave { IfErr result (GaveFault (R.state source.old) (R.state source.new)) }
     {
         let intake = Intake::new(alloc, FILE_LIMIT as usize)?;
         match read_file(alloc, intake, source) {
@@ -143,7 +148,8 @@ impl Session {
 }
 
 impl<H: Holder + Drop> Session<H> {
-    ghost use Rattle.std.specs.Prelude.{◌≡◌, length, All, IfOk};
+    ghost use Rattle.std.specs.Prelude.{◌≡◌, ℕ, List, length, None, All, IfOk};
+    ghost use Rattle.fits_session.specs.Away.{AllLie, LieStill};
     ghost use Rattle.fits_hdu.specs.Work.{name_reads, IsOpened};
     ghost use Rattle.fits_session.specs.File.{file_bytes, IsFile};
     ghost use Rattle.fits_session.specs.Marked.{unmarked};
@@ -160,13 +166,15 @@ impl<H: Holder + Drop> Session<H> {
         requires len { parts.1
             ≡ length (file_bytes (file_of (state_of parts.0.items parts.2.items))) }
         requires opened { All (IsOpened 0) parts.0.items }
-        requires had { All (IsHad (record { whole = H.whole; told = H.told holder }))
+        requires had { All (IsHad (record { whole = H.whole; told = None }))
             parts.0.items }
         ensures file { IfOk result (λ session. file_of session
             ≡ file_of (state_of parts.0.items parts.2.items)) }
         ensures unmarked { IfOk result (λ session. marked_of session
             ≡ unmarked (file_of session)) }
         ensures opened { IfOk result (λ session. All (IsOpened name_reads) session.hdus) }
+        ensures lie { (bytes : List ℕ) → AllLie bytes parts.0.items
+            → IfOk result (λ session. AllLie bytes session.hdus) }
     {
         let (mut hdus, len, tail) = parts;
         let names = name_all(alloc, &mut hdus)?;
@@ -184,7 +192,8 @@ impl<H: Holder + Drop> Session<H> {
     /// sees to it.
     pub fn make(&mut self, edit: Edit) -> Result<(), Refusal>
         requires { IsReadyFor edit self.old.hdus }
-        ensures { EditsTo edit self.old self.new result }
+        ensures edits { EditsTo edit self.old self.new result }
+        ensures stays { LieStill self.old.hdus self.new.hdus }
     {
         match &edit {
             Edit::Hdu { hdu, edit } => self.edit_hdu(*hdu, edit),

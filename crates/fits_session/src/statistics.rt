@@ -2,7 +2,7 @@
 ghost use Rattle.std.specs.Prelude.{IfOk, IfErr, OnOk};
 ghost use Rattle.fits_stream.specs.Intake.{Gives};
 ghost use Rattle.fits_stream.specs.Stream.{StaysQuiet};
-ghost use Rattle.fits_session.specs.Reading.{AreStatisticsOfFile, ReadStops};
+ghost use Rattle.fits_session.specs.Reading.{AreStatisticsOfFile, GaveFault, ReadStops};
 
 use crate::read_fault::ReadFileFault;
 use crate::walking::read_kept;
@@ -22,6 +22,7 @@ pub fn read_statistics<R: Source>(
     ensures ok { IfOk result (λ stats. Gives (R.state source.old) (AreStatisticsOfFile stats.items)) }
     ensures quiet { OnOk result (StaysQuiet (R.state source.old) (R.state source.new)) }
     ensures err { IfErr result (ReadStops (R.state source.old) (R.state source.new)) }
+    ensures gave { IfErr result (GaveFault (R.state source.old) (R.state source.new)) }
 {
     let (stats, _) = read_kept(alloc, source)?;
     Ok(stats)

@@ -2,7 +2,7 @@
 ghost use Rattle.std.specs.Prelude.{IfOk, IfErr, OnOk};
 ghost use Rattle.fits_stream.specs.Intake.{Gives};
 ghost use Rattle.fits_stream.specs.Stream.{StaysQuiet};
-ghost use Rattle.fits_session.specs.Reading.{AreSumsOfFile, ReadStops};
+ghost use Rattle.fits_session.specs.Reading.{AreSumsOfFile, GaveFault, ReadStops};
 
 use crate::read_fault::ReadFileFault;
 use crate::walking::read_kept;
@@ -18,6 +18,7 @@ pub fn read_sums<R: Source>(alloc: Global, source: &mut R) -> Result<Vec<HduSums
     ensures ok { IfOk result (λ sums. Gives (R.state source.old) (AreSumsOfFile sums.items)) }
     ensures quiet { OnOk result (StaysQuiet (R.state source.old) (R.state source.new)) }
     ensures err { IfErr result (ReadStops (R.state source.old) (R.state source.new)) }
+    ensures gave { IfErr result (GaveFault (R.state source.old) (R.state source.new)) }
 {
     let (sums, _) = read_kept(alloc, source)?;
     Ok(sums)

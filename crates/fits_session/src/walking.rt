@@ -2,12 +2,13 @@
 ghost use Rattle.std.specs.Prelude.{◌≡◌, ◌+◌, ◌≤◌, ◌<◌, false, length, codes, nat_eq, IfOk, IfErr, IfSome, OnOk};
 ghost use Rattle.std.specs.List.{starts_with};
 ghost use Rattle.fits_card.specs.declared.card_list.TheConstants.{BLOCK_LEN};
+ghost use Rattle.fits_stream.specs.Gave.{Overruns};
 ghost use Rattle.fits_stream.specs.Intake.{supply, Gives, IsLimited, IsSpent, Supply};
-ghost use Rattle.fits_stream.specs.Stream.{StaysQuiet};
+ghost use Rattle.fits_stream.specs.Stream.{IsDry, StaysQuiet};
 ghost use Rattle.fits_session.specs.File.{begins_extension};
 ghost use Rattle.fits_session.specs.declared.limits.TheConstants.{FILE_LIMIT, HDU_LIMIT};
 ghost use Rattle.fits_session.specs.Opening.{open_fault_of};
-ghost use Rattle.fits_session.specs.Reading.{file_fault_of, is_of_bytes, IsWalkOf, ReadStops, RestStops, SupplyStops, Walked, WalkStops};
+ghost use Rattle.fits_session.specs.Reading.{file_fault_of, is_of_bytes, GaveFault, IsFresh, IsWalkOf, ReadStops, RestStops, SupplyStops, Walked, WalkStops};
 
 use crate::limits::{FILE_LIMIT, HDU_LIMIT};
 use crate::open_fault::OpenFault;
@@ -70,6 +71,7 @@ pub(crate) fn read_kept<K: Kept + Drop, R: Source>(
         (IsWalkOf K.keeps walk.0.items walk.1)) }
     ensures quiet { OnOk result (StaysQuiet (R.state source.old) (R.state source.new)) }
     ensures err { IfErr result (ReadStops (R.state source.old) (R.state source.new)) }
+    ensures gave { IfErr result (GaveFault (R.state source.old) (R.state source.new)) }
 {
     let mut intake = Intake::new(alloc, FILE_LIMIT as usize)?;
     match walk(alloc, &mut intake, source) {
@@ -89,6 +91,9 @@ pub(crate) fn read_kept<K: Kept + Drop, R: Source>(
 pub(crate) fn end<R: Source>(intake: Intake, source: &mut R) -> Result<(), ReadFileFault>
     ensures ok { OnOk result (IfSome (R.state source.old).remaining
         (λ bytes. length bytes ≤ intake.entry.left)) }
+    ensures came { OnOk result (Overruns intake.entry.left false
+        (R.state source.old) (R.state source.new)) }
+    ensures over { OnOk result (IsDry (R.state source.new)) }
     ensures quiet { OnOk result (StaysQuiet (R.state source.old) (R.state source.new)) }
     ensures err { IfErr result (RestStops (supply (R.state source.old) intake.entry)
         (R.state source.new)) }
@@ -108,9 +113,12 @@ pub(crate) fn settled<R: Source>(
     source: &mut R,
     fault: ReadFileFault,
 ) -> ReadFileFault
-    ensures { (first : Supply) → IsLimited FILE_LIMIT first
+    ensures stops { (first : Supply) → IsLimited FILE_LIMIT first
         → WalkStops first (supply (R.state source.old) intake.entry) fault
         → SupplyStops first (R.state source.new) result }
+    ensures gave { (first : Supply) → IsFresh first
+        → WalkStops first (supply (R.state source.old) intake.entry) fault
+        → GaveFault first.source (R.state source.new) result }
 {
     if !is_of_bytes(fault) {
         return fault;

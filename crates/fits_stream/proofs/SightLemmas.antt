@@ -1,13 +1,14 @@
 -- What is in sight of a source, and what of it was taken.
 use Rattle.std.proofs.Common.{◌≡◌, ◌⊎◌, ℕ, ◌+◌, ◌<◌, ◌≤◌, List, [], ◌∷◌, ◌++◌, length, take, replicate, refl, ap, sym, ◌∙◌, append_assoc, subst, arith, inl, inr, true, false, Option, None, Some}
 use Rattle.std.specs.Prelude.{IfSome, IsTrue, ◌↔◌, MatchOption}
-use Rattle.std.specs.Io.KnownBytes.{Consumes, IsAtEnd}
+use Rattle.std.specs.Io.KnownBytes.{Consumes}
+use Rattle.fits_stream.specs.Log.{IsDone, Log}
 use Rattle.std.proofs.lemmas.Bool.{cases_lt}
 use Rattle.std.proofs.lemmas.List.{append-nil, length-append, length-replicate, length-take-le, take_all}
 use Rattle.std.proofs.Math.Seq.{take-append-add}
 use Rattle.fits_stream.specs.Intake.{supply, Draws, Finds, Gives, GivesAll, IntakeState, IsInSight, IsLimited, IsSpent, Supply, Takes, Tells, TellsAll}
-use Rattle.fits_stream.specs.Stream.{SourceState}
-use Rattle.fits_stream.proofs.StreamLemmas.{Reads-none, Reads-more}
+use Rattle.fits_stream.specs.Stream.{FailsOnce, SourceState, StaysQuiet}
+use Rattle.fits_stream.proofs.StreamLemmas.{Reads-none, Reads-more, quiet_read, reads_fails, reads_quiet}
 
 -- nothing is taken
 pub takes_none : (a : Supply) → Takes a a []
@@ -77,12 +78,12 @@ ahead_after : (a b : Supply) (bytes s : List ℕ) → (p : Takes a b bytes) → 
 ahead_after a b bytes s p = sym (append_assoc a.ahead p.more s) ∙ (ap (λ t. t ++ s) p.joined ∙ append_assoc bytes b.ahead s)
 
 -- nothing is in sight of what is spent
-known_spent : (a : Option (List ℕ)) (left : ℕ) → (left ≡ 0) ⊎ IsAtEnd a → InSight a left []
-known_spent None left p = omega arith
-known_spent (Some xs) left p =
+known_spent : (a : Option (List ℕ)) (log : Option Log) (left : ℕ) → (left ≡ 0) ⊎ IsDone a log → InSight a left []
+known_spent None log left p = omega arith
+known_spent (Some xs) log left p =
     elim p [
       | inl none ↦ sym (ap (λ n. take n xs) none)
-      | inr end ↦ sym (ap (take left) end ∙ take_all left [] (omega arith))
+      | inr end ↦ sym (ap (take left) end.left ∙ take_all left [] (omega arith))
     ]
 
 -- bytes that begin what is ahead and in sight have a fact, whatever follows them
@@ -101,20 +102,10 @@ finds_begun P a b bytes p q =
 pub finds_spent : (P : List ℕ → Type 0) (a b : Supply) (bytes : List ℕ) → Takes a b bytes → IsSpent b → P (bytes ++ b.ahead) → Finds a b P
 finds_spent P a b bytes p spent q = record {
   sight = p.more;
-  in_sight = subst (IsInSight a) (append-nil p.more) (sight_after a b p.more [] p.drawn (known_spent b.source.remaining b.left spent));
+  in_sight = subst (IsInSight a) (append-nil p.more) (sight_after a b p.more [] p.drawn (known_spent b.source.remaining b.source.log b.left spent));
   is = subst P (sym p.joined) q;
   bytes = bytes;
   taken = p;
-}
-
--- or what follows them was found
-pub finds_next : (P Q : List ℕ → Type 0) (a b c : Supply) (bytes : List ℕ) → Takes a b bytes → Finds b c P → ((s : List ℕ) → length s ≤ b.left → P (b.ahead ++ s) → Q (bytes ++ (b.ahead ++ s))) → Finds a c Q
-finds_next P Q a b c bytes p f q = record {
-  sight = p.more ++ f.sight;
-  in_sight = sight_after a b p.more f.sight p.drawn f.in_sight;
-  is = subst Q (sym (ahead_after a b bytes f.sight p)) (q f.sight (sight_within b f.sight f.in_sight) f.is);
-  bytes = bytes ++ f.bytes;
-  taken = takes_more a b c bytes f.bytes p f.taken;
 }
 
 -- no bytes
@@ -148,13 +139,13 @@ takes_ahead a b bytes none p =
     sym (append-nil a.ahead) ∙ (ap (λ t. a.ahead ++ t) (sym (no_bytes p.more few)) ∙ p.joined)
 
 -- what is left, which is nothing where the source is spent
-known_rest : (a : Option (List ℕ)) (left : ℕ) → IfSome a (λ xs. length xs ≤ left) → (s : List ℕ) × IfSome a (λ xs. xs ≡ s) × ((length s ≤ left) × ((left ≡ 0) ⊎ IsAtEnd a → s ≡ []))
-known_rest None left few = ([], tt, (omega arith, λ _. refl))
-known_rest (Some xs) left few = (xs, refl, (few, λ spent. elim spent [ inl zero ↦ no_bytes xs (omega (arith, few, zero)) | inr end ↦ end ]))
+known_rest : (a : Option (List ℕ)) (log : Option Log) (left : ℕ) → IfSome a (λ xs. length xs ≤ left) → (s : List ℕ) × IfSome a (λ xs. xs ≡ s) × ((length s ≤ left) × ((left ≡ 0) ⊎ IsDone a log → s ≡ []))
+known_rest None log left few = ([], tt, (omega arith, λ _. refl))
+known_rest (Some xs) log left few = (xs, refl, (few, λ spent. elim spent [ inl zero ↦ no_bytes xs (omega (arith, few, zero)) | inr end ↦ end.left ]))
 
 -- the same of a source that is read up to a limit
 pub rest_given : (a : Supply) → IfSome a.source.remaining (λ xs. length xs ≤ a.left) → Gives a.source (λ s. (length s ≤ a.left) × (IsSpent a → s ≡ []))
-rest_given a few = known_rest a.source.remaining a.left few
+rest_given a few = known_rest a.source.remaining a.source.log a.left few
 
 -- what is gone, and what is left, is all
 known_tells : (a b : Option (List ℕ)) (bytes s : List ℕ) → Consumes a b bytes → IfSome b (λ ys. ys ≡ s) → IfSome a (λ xs. xs ≡ bytes ++ s)
@@ -197,3 +188,17 @@ within_limit (Some xs) left p = elim (cases_lt left (length xs)) [ inl over ↦ 
 pub past_limit : (a : Option (List ℕ)) (left : ℕ) → IfSome a (λ xs. IsTrue true ↔ (left < length xs)) → IfSome a (λ xs. left < length xs)
 past_limit None left p = tt
 past_limit (Some xs) left p = p.0 refl
+
+-- bytes are taken without a failed call
+pub takes_quiet : (a b : Supply) (bytes : List ℕ) → Takes a b bytes → StaysQuiet a.source b.source
+takes_quiet a b bytes p = quiet_read a.source b.source p.more p.drawn.read
+
+-- and then none fails, or one does
+pub takes_then_quiet : (a b : Supply) (c : SourceState) (bytes : List ℕ) → Takes a b bytes → StaysQuiet b.source c → StaysQuiet a.source c
+takes_then_quiet a b c bytes p q = reads_quiet a.source b.source c p.more p.drawn.read q
+
+-- or a call failed then
+pub takes_then_fails : (a b : Supply) (c : SourceState) (bytes : List ℕ) → Takes a b bytes → FailsOnce b.source c → FailsOnce a.source c
+takes_then_fails a b c bytes p q = reads_fails a.source b.source c p.more p.drawn.read q
+
+pub ruleset takes_steps = (takes_quiet, takes_then_quiet, takes_then_fails)

@@ -1,9 +1,11 @@
 -- What streams took and gave, put together.
-use Rattle.std.proofs.Common.{◌≡◌, ℕ, ◌+◌, ◌-◌, ◌≤◌, List, [], ◌++◌, length, take, drop, refl, sym, ◌∙◌, append_assoc, arith, subst, Option, None, Some}
+use Rattle.std.proofs.Common.{◌≡◌, ℕ, ◌+◌, ◌-◌, ◌≤◌, List, [], ◌++◌, length, take, drop, refl, ap, sym, ◌∙◌, append_assoc, arith, subst, Option, None, Some}
 use Rattle.std.proofs.lemmas.List.{append-nil, take_all, take_rest, length-append, take-append-le}
 use Rattle.std.proofs.Math.Seq.{take-add, take-append-add}
 use Rattle.std.specs.Io.KnownBytes.{Appends, Keeps, Consumes}
-use Rattle.fits_stream.specs.Stream.{Held, SinkState, SourceState, Gains, GainsFront, Prints, PrintsFront, FailsToFlush, FailsToWrite, Flushes, Reads, Stays}
+use Rattle.fits_stream.specs.Stream.{FailsOnce, FailsToRead, StaysQuiet, Held, SinkState, SourceState, Gains, GainsFront, Prints, PrintsFront, FailsToFlush, FailsToWrite, Flushes, Reads, Stays}
+use Rattle.fits_stream.specs.Log.{Grows, Log}
+use Rattle.fits_stream.proofs.LogLemmas.{Logs-none, Logs-more}
 
 -- nothing is written
 pub Appends-none : (a : Option (List ℕ)) → Appends a a []
@@ -142,8 +144,48 @@ Consumes-more (Some xs) (Some ys) (Some zs) bs cs p q = rw (p, q, append_assoc) 
 
 -- nothing is read
 pub Reads-none : (a : SourceState) → Reads [] a a
-Reads-none a = record { gone = Consumes-none a.remaining; quiet = refl }
+Reads-none a = record { gone = Consumes-none a.remaining; log = Logs-none a.log; quiet = refl }
 
 -- bytes are read, then others
 pub Reads-more : (a b c : SourceState) (bs cs : List ℕ) → Reads bs a b → Reads cs b c → Reads (bs ++ cs) a c
-Reads-more a b c bs cs p q = record { gone = Consumes-more a.remaining b.remaining c.remaining bs cs p.gone q.gone; quiet = q.quiet ∙ p.quiet }
+Reads-more a b c bs cs p q = record { gone = Consumes-more a.remaining b.remaining c.remaining bs cs p.gone q.gone; log = Logs-more a.log b.log c.log bs cs p.log q.log; quiet = q.quiet ∙ p.quiet }
+
+-- a log that goes on and goes on
+pub Grows-none : (a : Option Log) → Grows a a
+Grows-none a = record { bytes = []; logs = Logs-none a }
+
+-- and then goes on
+pub Grows-more : (a b c : Option Log) → Grows a b → Grows b c → Grows a c
+Grows-more a b c p q = record { bytes = p.bytes ++ q.bytes; logs = Logs-more a b c p.bytes q.bytes p.logs q.logs }
+
+-- no call failed
+pub quiet_none : (a : SourceState) → StaysQuiet a a
+quiet_none a = record { quiet = refl; log = Grows-none a.log }
+
+-- none does where bytes come
+pub quiet_read : (a b : SourceState) (bytes : List ℕ) → Reads bytes a b → StaysQuiet a b
+quiet_read a b bytes p = record { quiet = p.quiet; log = record { bytes = bytes; logs = p.log } }
+
+-- nor where none did since, and none since then
+pub quiet_more : (a b c : SourceState) → StaysQuiet a b → StaysQuiet b c → StaysQuiet a c
+quiet_more a b c p q = record { quiet = q.quiet ∙ p.quiet; log = Grows-more a.log b.log c.log p.log q.log }
+
+-- bytes are read, and then none are
+pub reads_quiet : (a b c : SourceState) (bytes : List ℕ) → Reads bytes a b → StaysQuiet b c → StaysQuiet a c
+reads_quiet a b c bytes p q = quiet_more a b c (quiet_read a b bytes p) q
+
+-- a call failed
+pub fails_now : (a b : SourceState) → FailsToRead a b → FailsOnce a b
+fails_now a b p = record { failed = p.failed; log = rw p.log (Grows-none a.log) }
+
+-- after others that didn't
+pub quiet_fails : (a b c : SourceState) → StaysQuiet a b → FailsOnce b c → FailsOnce a c
+quiet_fails a b c p q = record { failed = omega (arith, p.quiet, q.failed); log = Grows-more a.log b.log c.log p.log q.log }
+
+-- or after bytes that came
+pub reads_fails : (a b c : SourceState) (bytes : List ℕ) → Reads bytes a b → FailsOnce b c → FailsOnce a c
+reads_fails a b c bytes p q = quiet_fails a b c (quiet_read a b bytes p) q
+
+-- also where that was the next call
+pub reads_fail_now : (a b c : SourceState) (bytes : List ℕ) → Reads bytes a b → FailsToRead b c → FailsOnce a c
+reads_fail_now a b c bytes p q = reads_fails a b c bytes p (fails_now b c q)

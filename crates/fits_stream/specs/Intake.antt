@@ -1,7 +1,6 @@
 -- Bytes of a source, taken up to a limit (own).
 use Rattle.std.specs.Prelude.{◌≡◌, ◌⊎◌, ℕ, ◌+◌, ◌<◌, ◌≤◌, List, [], ◌++◌, length, take, IfSome, MatchOption}
-use Rattle.std.specs.Io.KnownBytes.{IsAtEnd}
-use Rattle.fits_stream.specs.Stream.{SourceState, FailsOnce, Reads, StaysQuiet}
+use Rattle.fits_stream.specs.Stream.{SourceState, FailsOnce, IsDry, Reads, StaysQuiet}
 use Rattle.fits_stream.specs.declared.reading.ReadFault.{ReadFault}
 use Rattle.fits_stream.specs.declared.reading.ReadFault.TheVariants.{Memory, Failed}
 
@@ -56,7 +55,7 @@ TakingStops old new Failed = FailsOnce old new
 
 -- nothing comes after the bytes ahead: no more may be taken, or nothing is left
 abbrev pub IsSpent : Supply → Type 0
-IsSpent now = (now.left ≡ 0) ⊎ IsAtEnd now.source.remaining
+IsSpent now = (now.left ≡ 0) ⊎ IsDry now.source
 
 -- nothing comes any more
 pub record IsOver (now : Supply) : Type 0 where

@@ -1,6 +1,7 @@
 -- What streams do to the bytes that are known of them, and which calls count as failed (own).
 use Rattle.std.specs.Prelude.{◌≡◌, ℕ, ◌+◌, ◌≤◌, List, length, take, nat_lt, ◌==◌, ◌&&◌, if◌then◌else◌, Option}
 use Rattle.std.specs.Io.KnownBytes.{Appends, Consumes, Keeps}
+use Rattle.fits_stream.specs.Log.{Grows, IsDone, Log, Logs}
 
 -- the bytes that a sink holds, where it tells them, and those that its writes took, where that is known
 pub record Held : Type 0 where
@@ -13,9 +14,10 @@ pub record SinkState : Type 0 where
   pub failures : ℕ
   pub unflushed : ℕ
 
--- the bytes that a source has left, where it tells them, and how many of its calls failed
+-- the bytes that a source has left, where it tells them, what its calls gave, where it keeps that, and how many of them failed
 pub record SourceState : Type 0 where
   pub remaining : Option (List ℕ)
+  pub log : Option Log
   pub failures : ℕ
 
 -- what a sink holds grew by these bytes, and so did what its writes took
@@ -69,27 +71,36 @@ pub record FailsToFlush (old new : SinkState) : Type 0 where
   pub unflushed : new.unflushed ≡ old.unflushed
 
 -- since then no call of a source failed
-abbrev pub StaysQuiet : SourceState → SourceState → Type 0
-StaysQuiet old new = new.failures ≡ old.failures
+pub record StaysQuiet (old new : SourceState) : Type 0 where
+  pub quiet : new.failures ≡ old.failures
+  pub log : Grows old.log new.log
 
 -- since then one did
-abbrev pub FailsOnce : SourceState → SourceState → Type 0
-FailsOnce old new = new.failures ≡ old.failures + 1
+pub record FailsOnce (old new : SourceState) : Type 0 where
+  pub failed : new.failures ≡ old.failures + 1
+  pub log : Grows old.log new.log
 
 -- these bytes came from a source, and no call failed
 pub record Reads (bytes : List ℕ) (old new : SourceState) : Type 0 where
   pub gone : Consumes old.remaining new.remaining bytes
-  pub quiet : StaysQuiet old new
+  pub log : Logs old.log new.log bytes
+  pub quiet : new.failures ≡ old.failures
+
+-- a source told its end
+abbrev pub IsDry : SourceState → Type 0
+IsDry now = IsDone now.remaining now.log
 
 -- one read failed, and nothing came
 pub record FailsToRead (old new : SourceState) : Type 0 where
   pub bytes : Keeps old.remaining new.remaining
-  pub failed : FailsOnce old new
+  pub log : new.log ≡ old.log
+  pub failed : new.failures ≡ old.failures + 1
 
--- a stream, the bytes that its writes took, how many of its calls have failed, and how many writes there were since its last flush that
--- succeeded
+-- a stream, the bytes that its writes took, what its reads gave, how many of its calls have failed, and how many writes there were since
+-- its last flush that succeeded
 pub record Watch (S : Type 0) : Type 0 where
   pub stream : S
   pub taken : List ℕ
+  pub log : Log
   pub failures : ℕ
   pub unflushed : ℕ

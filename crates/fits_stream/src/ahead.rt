@@ -16,11 +16,10 @@ pub(crate) enum Ahead<'a> {
 
 impl<'a> Ahead<'a> {
     ghost use Rattle.std.specs.Prelude.{◌≡◌, ◌+◌, ◌<◌, ◌≤◌, true, [], length, drop, IfOk, IfErr, OnOk, OnErr};
-    ghost use Rattle.std.specs.Io.KnownBytes.{IsAtEnd};
     ghost use Rattle.fits_stream.specs.Ahead.{ahead_bytes, is_lent};
     ghost use Rattle.fits_stream.specs.declared.reading.TheConstants.{PIECE_LEN};
     ghost use Rattle.fits_stream.specs.Intake.{ReadsAfter, Skips, TakingStops};
-    ghost use Rattle.fits_stream.specs.Stream.{FailsOnce};
+    ghost use Rattle.fits_stream.specs.Stream.{FailsOnce, IsDry};
 
     pub(crate) fn bytes(&self) -> &[u8]
         ensures { result.now ≡ ahead_bytes self.now }
@@ -56,7 +55,7 @@ impl<'a> Ahead<'a> {
             ≡ length (ahead_bytes self.old) + count) }
         ensures within { IfOk result (λ count. count ≤ len) }
         ensures ends { IfOk result (λ count. count < len
-            → IsAtEnd (R.state source.new).remaining) }
+            → IsDry (R.state source.new)) }
         ensures lent { is_lent self.new ≡ is_lent self.old }
         ensures size { OnErr result (length (ahead_bytes self.new) ≡ length (ahead_bytes self.old)) }
         ensures err { OnErr result (FailsOnce (R.state source.old) (R.state source.new)) }
@@ -82,7 +81,7 @@ impl<'a> Ahead<'a> {
             (R.state source.old) (R.state source.new) bytes.items) }
         ensures within { IfOk result (λ bytes. length bytes.items ≤ len) }
         ensures ends { IfOk result (λ bytes. length bytes.items < len
-            → IsAtEnd (R.state source.new).remaining) }
+            → IsDry (R.state source.new)) }
         ensures none { ahead_bytes self.new ≡ [] }
         ensures lent { is_lent self.new ≡ is_lent self.old }
         ensures err { IfErr result (TakingStops (R.state source.old) (R.state source.new)) }
@@ -101,7 +100,7 @@ impl<'a> Ahead<'a> {
         ensures ok { IfOk result (Skips (R.state source.old) (R.state source.new)) }
         ensures within { IfOk result (λ count. count ≤ len) }
         ensures ends { IfOk result (λ count. count < len
-            → IsAtEnd (R.state source.new).remaining) }
+            → IsDry (R.state source.new)) }
         ensures none { ahead_bytes self.new ≡ [] }
         ensures lent { is_lent self.new ≡ is_lent self.old }
         ensures err { OnErr result (FailsOnce (R.state source.old) (R.state source.new)) }

@@ -1,5 +1,6 @@
-ghost use Rattle.std.specs.Prelude.{◌≡◌, ◌<◌, ◌↔◌, length, IfOk, IfSome, OnOk, OnErr, IsTrue};
-ghost use Rattle.fits_stream.specs.Stream.{FailsOnce, StaysQuiet};
+ghost use Rattle.std.specs.Prelude.{◌≡◌, ◌<◌, ◌↔◌, length, IfOk, IfSome, OnOk, OnErr, IsTrue, false};
+ghost use Rattle.fits_stream.specs.Gave.{Overruns};
+ghost use Rattle.fits_stream.specs.Stream.{FailsOnce, IsDry, StaysQuiet};
 
 use crate::ahead::Ahead;
 use crate::piece::Piece;
@@ -38,10 +39,11 @@ impl<'a> Model for Intake<'a> {
 }
 
 impl<'a> Intake<'a> {
-    ghost use Rattle.std.specs.Prelude.{◌≡◌, ◌+◌, ◌<◌, ◌≤◌, ◌↔◌, ◌^◌, [], length, drop, max, IfOk, IfErr, IfSome, OnOk, OnErr, IsTrue};
+    ghost use Rattle.std.specs.Prelude.{◌≡◌, ◌+◌, ◌<◌, ◌≤◌, ◌↔◌, ◌^◌, [], length, drop, max, IfOk, IfErr, IfSome, OnOk, OnErr, IsTrue, false};
     ghost use Rattle.fits_stream.specs.declared.reading.TheConstants.{PIECE_LEN};
+    ghost use Rattle.fits_stream.specs.Gave.{Overruns};
     ghost use Rattle.fits_stream.specs.Intake.{supply, IsOver, IsSpent, Passes, Takes, TakingStops};
-    ghost use Rattle.fits_stream.specs.Stream.{FailsOnce, StaysQuiet};
+    ghost use Rattle.fits_stream.specs.Stream.{FailsOnce, IsDry, StaysQuiet};
 
     /// An intake of so many bytes, of which none is ahead yet. It takes room for a piece.
     pub fn new(alloc: Global, limit: usize) -> Result<Intake<'a>, AllocError>
@@ -164,6 +166,9 @@ impl<'a> Intake<'a> {
     pub fn overruns<R: Source>(mut self, source: &mut R) -> io::Result<bool>
         ensures more { IfOk result (λ more. IfSome (R.state source.old).remaining
             (λ bytes. IsTrue more ↔ (self.entry.left < length bytes))) }
+        ensures came { IfOk result (λ more. Overruns self.entry.left more
+            (R.state source.old) (R.state source.new)) }
+        ensures over { IfOk result (λ more. more ≡ false → IsDry (R.state source.new)) }
         ensures quiet { OnOk result (StaysQuiet (R.state source.old) (R.state source.new)) }
         ensures err { OnErr result (FailsOnce (R.state source.old) (R.state source.new)) }
     {
@@ -183,6 +188,9 @@ impl<'a> Intake<'a> {
 fn has_more<R: Source>(source: &mut R) -> io::Result<bool>
     ensures ok { IfOk result (λ more. IfSome (R.state source.old).remaining
         (λ bytes. IsTrue more ↔ (0 < length bytes))) }
+    ensures came { IfOk result (λ more. Overruns 0 more
+        (R.state source.old) (R.state source.new)) }
+    ensures over { IfOk result (λ more. more ≡ false → IsDry (R.state source.new)) }
     ensures quiet { OnOk result (StaysQuiet (R.state source.old) (R.state source.new)) }
     ensures err { OnErr result (FailsOnce (R.state source.old) (R.state source.new)) }
 {

@@ -2,13 +2,15 @@
 #![tactic(auto)]
 
 mod ahead;
+mod came;
 mod count;
-mod failed_reads;
 mod file_source;
+mod giver;
 mod gone_bytes;
 mod intake;
 mod named_lines;
 mod piece;
+mod read_log;
 mod reading;
 mod sink;
 mod skipping;
@@ -19,13 +21,14 @@ mod stored_source;
 mod watched;
 mod writing;
 
+pub use came::Came;
 pub use count::Count;
-pub use failed_reads::FailedReads;
 pub use file_source::FileSource;
 pub use gone_bytes::GoneBytes;
 pub use intake::Intake;
 pub use named_lines::NamedLines;
 pub use piece::fill;
+pub use read_log::ReadLog;
 pub use reading::{PIECE_LEN, ReadFault, buffer_of};
 pub use sink::Sink;
 pub use source::Source;

@@ -1,7 +1,6 @@
 ghost use Rattle.std.specs.Prelude.{◌≡◌, ◌+◌, ◌-◌, ◌<◌, ◌≤◌, length, take, drop, IfOk, IfErr, OnOk, OnErr};
-ghost use Rattle.std.specs.Io.KnownBytes.{IsAtEnd};
 ghost use Rattle.fits_stream.specs.Intake.{ReadsAfter, TakingStops};
-ghost use Rattle.fits_stream.specs.Stream.{FailsOnce, Reads};
+ghost use Rattle.fits_stream.specs.Stream.{FailsOnce, Reads, IsDry};
 
 use crate::reading::{PIECE_LEN, ReadFault, buffer_of};
 use crate::source::Source;
@@ -33,10 +32,9 @@ impl Model for Piece {
 
 impl Piece {
     ghost use Rattle.std.specs.Prelude.{◌≡◌, ◌+◌, ◌<◌, ◌≤◌, [], length, drop, IfOk, IfErr, OnOk, OnErr};
-    ghost use Rattle.std.specs.Io.KnownBytes.{IsAtEnd};
     ghost use Rattle.fits_stream.specs.declared.reading.TheConstants.{PIECE_LEN};
     ghost use Rattle.fits_stream.specs.Intake.{ReadsAfter, Skips, TakingStops};
-    ghost use Rattle.fits_stream.specs.Stream.{FailsOnce};
+    ghost use Rattle.fits_stream.specs.Stream.{FailsOnce, IsDry};
 
     pub(crate) fn new(alloc: Global) -> Result<Piece, AllocError>
         ensures { IfOk result (λ piece. piece ≡ []) }
@@ -71,7 +69,7 @@ impl Piece {
         ensures count { IfOk result (λ count. length self.new ≡ length self.old + count) }
         ensures within { IfOk result (λ count. count ≤ len) }
         ensures ends { IfOk result (λ count. count < len
-            → IsAtEnd (R.state source.new).remaining) }
+            → IsDry (R.state source.new)) }
         ensures size { OnErr result (length self.new ≡ length self.old) }
         ensures err { OnErr result (FailsOnce (R.state source.old) (R.state source.new)) }
     {
@@ -93,7 +91,7 @@ impl Piece {
             (R.state source.old) (R.state source.new) bytes.items) }
         ensures within { IfOk result (λ bytes. length bytes.items ≤ len) }
         ensures ends { IfOk result (λ bytes. length bytes.items < len
-            → IsAtEnd (R.state source.new).remaining) }
+            → IsDry (R.state source.new)) }
         ensures none { self.new ≡ [] }
         ensures err { IfErr result (TakingStops (R.state source.old) (R.state source.new)) }
     {
@@ -107,7 +105,7 @@ impl Piece {
         ensures ok { IfOk result (Skips (R.state source.old) (R.state source.new)) }
         ensures within { IfOk result (λ count. count ≤ len) }
         ensures ends { IfOk result (λ count. count < len
-            → IsAtEnd (R.state source.new).remaining) }
+            → IsDry (R.state source.new)) }
         ensures none { self.new ≡ [] }
         ensures err { OnErr result (FailsOnce (R.state source.old) (R.state source.new)) }
     {
@@ -138,7 +136,7 @@ fn fill_after<R: Source>(
     ensures ok { IfOk result (λ count. ReadsAfter (take held room.old)
         (R.state source.old) (R.state source.new) (take (held + count) room.new)) }
     ensures within { IfOk result (λ count. count ≤ len) }
-    ensures ends { IfOk result (λ count. count < len → IsAtEnd (R.state source.new).remaining) }
+    ensures ends { IfOk result (λ count. count < len → IsDry (R.state source.new)) }
     ensures size { length room.new ≡ length room.old }
     ensures err { OnErr result (FailsOnce (R.state source.old) (R.state source.new)) }
 {
@@ -155,7 +153,7 @@ pub fn fill<R: Source>(source: &mut R, room: &mut [u8]) -> io::Result<usize>
         (R.state source.old) (R.state source.new)) }
     ensures within { IfOk result (λ count. count ≤ length room.new) }
     ensures ends { IfOk result (λ count. count < length room.new
-        → IsAtEnd (R.state source.new).remaining) }
+        → IsDry (R.state source.new)) }
     ensures size { length room.new ≡ length room.old }
     ensures err { OnErr result (FailsOnce (R.state source.old) (R.state source.new)) }
 {
@@ -186,7 +184,7 @@ fn take_after<R: Source>(
         (R.state source.old) (R.state source.new) bytes.items) }
     ensures within { IfOk result (λ bytes. length bytes.items ≤ len) }
     ensures ends { IfOk result (λ bytes. length bytes.items < len
-        → IsAtEnd (R.state source.new).remaining) }
+        → IsDry (R.state source.new)) }
     ensures size { length room.new ≡ length room.old }
     ensures err { IfErr result (TakingStops (R.state source.old) (R.state source.new)) }
 {
@@ -200,7 +198,9 @@ fn take_after<R: Source>(
         if n == 0 {
             return Ok(bytes);
         }
-        bytes.extend_from_slice(&next[..n])?;
+        let Ok(()) = bytes.extend_from_slice(&next[..n]) else {
+            return Err(ReadFault::Memory);
+        };
     }
     Ok(bytes)
 }

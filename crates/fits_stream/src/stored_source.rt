@@ -1,72 +1,115 @@
-ghost use Rattle.std.specs.Prelude.{◌≡◌, ◌≤◌, ◌+◌, ℕ, Some};
+ghost use Rattle.std.specs.Prelude.{◌≡◌, Some};
+ghost use Rattle.fits_stream.specs.Log.{unskipped};
 
-use crate::failed_reads::FailedReads;
+use crate::came::Came;
+use crate::count::Count;
+use crate::giver::Giver;
+use crate::read_log::ReadLog;
 use crate::skipping::skip_by_reading;
 use crate::source::Source;
 use crate::stored::Stored;
 use std::io;
-use std::io::Read;
 use std::marker::Model;
 
-/// The bytes of a stored file that is lent, from a place on. Those that nobody asks for are gone past
-/// unread.
+/// The bytes of a stored file that is lent, from a place on. Each of them is read.
 #[derive(Drop)]
 pub struct StoredSource<'f, F> {
     at: AtPlace<'f, F>,
-    failed: FailedReads,
+    failed: Count,
 }
 
 impl<'f, F> Model for StoredSource<'f, F> {
-    ghost use Rattle.std.specs.Prelude.{Some};
-    ghost use Rattle.fits_stream.specs.Stored.{Placed};
+    ghost use Rattle.fits_stream.specs.Stored.{Lent};
 
-    ghost Value = { Placed F };
+    ghost Value = { Lent F };
 
     ghost view = { λ it. record {
-      file = it.at.file.now;
-      place = Some it.at.place;
-      failures = it.failed;
+      file = it.at.file;
+      log = it.at.log;
+      failures = it.failed.total;
     } };
 }
 
-/// A stored file, and the place of its next byte.
+/// A stored file, the place of its next byte, and what came of it.
 #[derive(Drop)]
 pub(crate) struct AtPlace<'f, F> {
-    pub file: &'f F,
-    pub place: u64,
+    file: &'f F,
+    place: u64,
+    came: Came,
+}
+
+impl<'f, F> Model for AtPlace<'f, F> {
+    ghost use Rattle.std.specs.Prelude.{◌≡◌};
+    ghost use Rattle.fits_stream.specs.Stored.{LentAt};
+
+    ghost Value = { LentAt F };
+
+    ghost view = { λ it. record { file = it.file.now; log = it.came.log } };
+
+    ghost invariant = { λ it. it.place ≡ it.came.log.at };
 }
 
 impl<'f, F> StoredSource<'f, F> {
-    /// The bytes from this place on. Its failed calls are counted on from these.
-    pub fn new(file: &'f F, place: u64, failed: FailedReads) -> StoredSource<'f, F>
-        ensures { result ≡ record { file = file.now; place = Some place; failures = failed } }
+    ghost use Rattle.std.specs.Prelude.{◌≡◌};
+
+    /// The bytes from this place on. It goes on with the log.
+    pub fn new(file: &'f F, place: u64, log: ReadLog) -> StoredSource<'f, F>
+        ensures file { result.file ≡ file.now }
+        ensures place { result.log.at ≡ place }
+        ensures came { result.log.came ≡ log.came }
+        ensures ends { result.log.ends ≡ log.ends }
+        ensures failures { result.failures ≡ log.failures }
     {
+        let ReadLog { came, failed } = log;
         StoredSource {
-            at: AtPlace { file, place },
+            at: AtPlace::new(file, place, came),
             failed,
         }
     }
 
-    /// How many calls have failed, its own and those before.
-    pub fn into_failed(self) -> FailedReads
-        ensures { result ≡ self.entry.failures }
+    /// The log, with its own reads.
+    pub fn into_log(self) -> ReadLog
+        ensures { result ≡ record { came = self.entry.log.came; ends = self.entry.log.ends; failures = self.entry.failures } }
     {
-        let StoredSource { failed, .. } = self;
-        failed
+        let StoredSource { at, failed } = self;
+        ReadLog {
+            came: at.into_came(),
+            failed,
+        }
+    }
+}
+
+impl<'f, F> AtPlace<'f, F> {
+    ghost use Rattle.std.specs.Prelude.{◌≡◌};
+    ghost use Rattle.fits_stream.specs.Log.{turned};
+
+    fn new(file: &'f F, place: u64, came: Came) -> AtPlace<'f, F>
+        ensures { result ≡ record { file = file.now; log = turned came.log place } }
+    {
+        let mut came = came;
+        came.turn(place);
+        AtPlace { file, place, came }
+    }
+
+    fn into_came(self) -> Came
+        ensures { result.log ≡ self.entry.log }
+    {
+        let AtPlace { came, .. } = self;
+        came
     }
 }
 
 impl<'f, F: Stored> Source for StoredSource<'f, F> {
-    ghost use Rattle.std.specs.Prelude.{None};
-    ghost use Rattle.fits_stream.specs.Stored.{left_at};
+    ghost use Rattle.fits_stream.specs.Stored.{bytes_from};
 
     ghost state = { λ it. record {
-      remaining = left_at it.place (F.bytes it.file) None;
+      remaining = bytes_from it.log.at (F.bytes it.file);
+      log = Some (unskipped it.log);
       failures = it.failures;
     } };
 
     fn read(&mut self, buffer: &mut [u8]) -> io::Result<usize> {
-        match self.at.read(buffer) {
+        match self.at.give(buffer) {
             Ok(n) => Ok(n),
             Err(error) => {
                 self.failed.tick();
@@ -75,9 +118,9 @@ impl<'f, F: Stored> Source for StoredSource<'f, F> {
         }
     }
 
-    #[tactic(auto, using(crate::proofs::IntakeLemmas::skips_gone))]
+    #[tactic(auto, using(crate::proofs::IntakeLemmas::skip_steps))]
     fn skip(&mut self, buffer: &mut [u8], len: usize) -> io::Result<usize> {
-        match self.at.skip(buffer, len) {
+        match skip_by_reading(&mut self.at, buffer, len) {
             Ok(count) => Ok(count),
             Err(error) => {
                 self.failed.tick();
@@ -87,55 +130,21 @@ impl<'f, F: Stored> Source for StoredSource<'f, F> {
     }
 }
 
-impl<'f, F: Stored> Read for AtPlace<'f, F> {
+impl<'f, F: Stored> Giver for AtPlace<'f, F> {
     ghost use Rattle.fits_stream.specs.Stored.{bytes_from};
 
-    ghost remaining = { λ it. bytes_from it.place (F.bytes it.file.now) };
+    ghost stock = { λ it. record {
+      left = bytes_from it.log.at (F.bytes it.file);
+      log = Some (unskipped it.log);
+    } };
 
-    fn read(&mut self, buf: &mut [u8]) -> io::Result<usize> {
-        let n = self.file.read_from(buf, self.place)?;
+    fn give(&mut self, buffer: &mut [u8]) -> io::Result<usize> {
+        let n = self.file.read_from(buffer, self.place)?;
         let Some(next) = self.place.checked_add(n as u64) else {
             return Err(io::Error::from(io::ErrorKind::FileTooLarge));
         };
         self.place = next;
+        self.came.give(buffer, n);
         Ok(n)
-    }
-}
-
-impl<'f, F: Stored> AtPlace<'f, F> {
-    ghost use Rattle.std.specs.Prelude.{◌≡◌, ◌<◌, ◌≤◌, length, IfOk};
-    ghost use Rattle.std.specs.Io.KnownBytes.{IsAtEnd};
-    ghost use Rattle.fits_stream.specs.Stored.{bytes_from, GoesPast};
-
-    /// Goes past the next bytes, so many or as many as there are, and says how many. Those that the
-    /// file isn't known to have are read.
-    pub(crate) fn skip(&mut self, buffer: &mut [u8], len: usize) -> io::Result<usize>
-        requires { 0 < length buffer.old }
-        ensures ok { IfOk result (GoesPast
-            (bytes_from self.old.place (F.bytes self.old.file.now))
-            (bytes_from self.new.place (F.bytes self.new.file.now))) }
-        ensures within { IfOk result (λ count. count ≤ len) }
-        ensures ends { IfOk result (λ count. count < len
-            → IsAtEnd (bytes_from self.new.place (F.bytes self.new.file.now))) }
-        ensures size { length buffer.new ≡ length buffer.old }
-    {
-        let past = self.go_past(len);
-        let more = skip_by_reading(self, buffer, len - past)?;
-        Ok(past + more)
-    }
-
-    /// Goes past so many bytes, or as many as the file is known to have, and says how many.
-    pub(crate) fn go_past(&mut self, len: usize) -> usize
-        ensures ok { GoesPast
-            (bytes_from self.old.place (F.bytes self.old.file.now))
-            (bytes_from self.new.place (F.bytes self.new.file.now)) result }
-        ensures within { result ≤ len }
-    {
-        let Some(left) = self.file.known_len().checked_sub(self.place) else {
-            return 0;
-        };
-        let count = left.min(len as u64);
-        self.place += count;
-        count as usize
     }
 }

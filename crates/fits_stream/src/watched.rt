@@ -1,6 +1,9 @@
 ghost use Rattle.std.specs.Prelude.{◌≡◌, [], Some};
+ghost use Rattle.fits_stream.specs.Log.{unbegun, unskipped};
 
+use crate::came::Came;
 use crate::count::Count;
+use crate::giver::Giver;
 use crate::gone_bytes::GoneBytes;
 use crate::sink::Sink;
 use crate::skipping::skip_by_reading;
@@ -9,8 +12,8 @@ use std::io;
 use std::io::{Read, Write};
 use std::marker::Model;
 
-/// A reader or a writer of std, with the bytes that its writes took, which contracts alone see, a
-/// count of its failed calls, and one of its writes since the last flush that succeeded.
+/// A reader or a writer of std, with the bytes that its calls took or gave, which contracts alone
+/// see, a count of its failed calls, and one of its writes since the last flush that succeeded.
 ///
 /// Every kind of error is a failed call. That no call is tried again, and that a flush reaches the
 /// writer below is tested: std's `Write` doesn't say what has arrived.
@@ -21,11 +24,12 @@ pub struct Watched<S> {
     unflushed: Count,
 }
 
-// A reader or a writer, and the bytes that its writes took.
+// A reader or a writer, and the bytes that its calls took or gave.
 #[derive(Drop)]
 struct Logged<S> {
     stream: S,
     taken: GoneBytes,
+    came: Came,
 }
 
 impl<S> Model for Watched<S> {
@@ -36,6 +40,7 @@ impl<S> Model for Watched<S> {
     ghost view = { λ it. record {
       stream = it.stream.stream;
       taken = it.stream.taken.bytes;
+      log = it.stream.came.log;
       failures = it.failed.total;
       unflushed = it.unflushed.total;
     } };
@@ -43,13 +48,19 @@ impl<S> Model for Watched<S> {
 
 impl<S> Watched<S> {
     pub fn new(stream: S) -> Watched<S>
-        ensures { result
-            ≡ record { stream = stream; taken = []; failures = 0; unflushed = 0 } }
+        ensures { result ≡ record {
+          stream = stream;
+          taken = [];
+          log = unbegun;
+          failures = 0;
+          unflushed = 0;
+        } }
     {
         Watched {
             stream: Logged {
                 stream,
                 taken: GoneBytes::none(),
+                came: Came::none(),
             },
             failed: Count::new(),
             unflushed: Count::new(),
@@ -66,10 +77,14 @@ impl<S> Watched<S> {
 }
 
 impl<R: Read> Source for Watched<R> {
-    ghost state = { λ it. record { remaining = R.remaining it.stream; failures = it.failures } };
+    ghost state = { λ it. record {
+      remaining = R.remaining it.stream;
+      log = Some (unskipped it.log);
+      failures = it.failures;
+    } };
 
     fn read(&mut self, buffer: &mut [u8]) -> io::Result<usize> {
-        match self.stream.stream.read(buffer) {
+        match self.stream.give(buffer) {
             Ok(n) => Ok(n),
             Err(error) => {
                 self.failed.tick();
@@ -78,15 +93,28 @@ impl<R: Read> Source for Watched<R> {
         }
     }
 
-    #[tactic(auto, using(crate::proofs::IntakeLemmas::skips_gone))]
+    #[tactic(auto, using(crate::proofs::IntakeLemmas::skip_steps))]
     fn skip(&mut self, buffer: &mut [u8], len: usize) -> io::Result<usize> {
-        match skip_by_reading(&mut self.stream.stream, buffer, len) {
+        match skip_by_reading(&mut self.stream, buffer, len) {
             Ok(count) => Ok(count),
             Err(error) => {
                 self.failed.tick();
                 Err(error)
             }
         }
+    }
+}
+
+impl<R: Read> Giver for Logged<R> {
+    ghost stock = { λ it. record {
+      left = R.remaining it.stream;
+      log = Some (unskipped it.came.log);
+    } };
+
+    fn give(&mut self, buffer: &mut [u8]) -> io::Result<usize> {
+        let n = self.stream.read(buffer)?;
+        self.came.give(buffer, n);
+        Ok(n)
     }
 }
 

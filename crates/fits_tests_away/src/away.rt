@@ -11,7 +11,7 @@ use crate::rows::{
 use fits_fixtures::{Plan, SMOOTH, broken_bytes, holds, reader, same, stored_bytes, writer};
 use fits_hdu::{Hdu, HduFault, PassedHdu, Stats, Verdicts};
 use fits_image::Kind;
-use fits_stream::{FailedReads, Intake, Source, Stored, StoredSource};
+use fits_stream::{Intake, ReadLog, Source, Stored, StoredSource};
 use std::alloc::{AllocError, Global};
 use std::process::Abort;
 use std::test::Fail;
@@ -29,7 +29,7 @@ fn passed<S: Source>(alloc: Global, source: &mut S, primary: bool) -> Result<Hdu
 pub fn stored_away<F: Stored>(alloc: Global, file: &F, primary: bool) -> Result<Hdu, Fail> {
     passed(
         alloc,
-        &mut StoredSource::new(file, HDU_AT as u64, FailedReads::none()),
+        &mut StoredSource::new(file, HDU_AT as u64, ReadLog::none()),
         primary,
     )
 }
@@ -173,7 +173,7 @@ fn check_sources<R: Abort + AllocGlobal>(
         check_known(rt, &mut reader(from_hdu(file), plan), wanted, row)?;
     }
     let stored = stored_bytes(file, file.len());
-    let mut source = StoredSource::new(&stored, HDU_AT as u64, FailedReads::none());
+    let mut source = StoredSource::new(&stored, HDU_AT as u64, ReadLog::none());
     check_known(rt, &mut source, wanted, row)
 }
 
@@ -215,8 +215,8 @@ fn a_data_unit_is_loaded(rt: HostRuntime) -> Result<(), Fail> {
 fn check_loaded<R: Abort + AllocGlobal>(rt: &R, file: &[u8], row: HduRow<'_>) -> Result<(), Fail> {
     let stored = stored_bytes(file, file.len());
     let mut found = stored_away(rt.alloc(), &stored, is_primary(row))?;
-    found.load(rt.alloc(), &stored, &mut FailedReads::none())?;
-    found.load(rt.alloc(), &broken_bytes(&[], 0), &mut FailedReads::none())?;
+    found.load(rt.alloc(), &stored, &mut ReadLog::none())?;
+    found.load(rt.alloc(), &broken_bytes(&[], 0), &mut ReadLog::none())?;
     check_held(rt, &mut found, from_hdu(file), row)
 }
 
@@ -245,12 +245,7 @@ pub fn check_copy<R: Abort + AllocGlobal, F: Stored>(
     let is_of_words = !bytes.is_empty() && bytes.len() % 4 == 0;
     holds!(rt; is_of_words, room);
     let mut sink = writer(rt.alloc(), SMOOTH);
-    let copied = hdu.emit_from(
-        file,
-        &mut FailedReads::none(),
-        bytes.as_mut_slice(),
-        &mut sink,
-    );
+    let copied = hdu.emit_from(file, &mut ReadLog::none(), bytes.as_mut_slice(), &mut sink);
     holds!(rt; copied.is_ok(), room);
     let (written, _) = sink.into_inner().into_parts();
     holds!(rt; written.as_slice() == wanted, room);
@@ -281,7 +276,7 @@ fn check_copies<R: Abort + AllocGlobal>(
     let stored = stored_bytes(file, file.len());
     let mut hdu = stored_away(rt.alloc(), &stored, is_primary(row))?;
     check_copy(rt, &mut hdu, &stored, room, hdu_in(file))?;
-    hdu.load(rt.alloc(), &stored, &mut FailedReads::none())?;
+    hdu.load(rt.alloc(), &stored, &mut ReadLog::none())?;
     check_copy(rt, &mut hdu, &broken_bytes(&[], 0), room, hdu_in(file))?;
     Ok(())
 }

@@ -5,7 +5,7 @@ use crate::rows::{BLANKED, BYTES, HduRow, LARGE, REALS, TABLE, file_with, hdu_in
 use fits_card::{CARD_LEN, Cards, Change};
 use fits_fixtures::{card_of, change, holds, same, stored_bytes};
 use fits_hdu::Hdu;
-use fits_stream::{FailedReads, Stored};
+use fits_stream::{ReadLog, Stored};
 use std::alloc::{AllocError, Global};
 use std::process::Abort;
 use std::test::Fail;
@@ -57,7 +57,7 @@ fn check_edited<R: Abort + AllocGlobal, F: Stored>(
     put_cards(rt, found, place, cards)?;
     check_counted(rt, found, edited, row, is_counted)?;
     check_copy(rt, found, file, 2880, edited)?;
-    found.load(rt.alloc(), file, &mut FailedReads::none())?;
+    found.load(rt.alloc(), file, &mut ReadLog::none())?;
     check_held(rt, found, edited, row)
 }
 

@@ -5,7 +5,7 @@ ghost use Rattle.fits_plane.specs.DataUnit.{IsCounted};
 use fits_card::BLOCK_LEN;
 use fits_fixtures::{SMOOTH, broken_bytes, holds, same, stored_bytes, unit_of, writer};
 use fits_plane::{DataUnit, Layout, PassedUnit, PassingUnit, Plane, ValueSummary};
-use fits_stream::{FailedReads, Source, Stored, StoredSource, fill};
+use fits_stream::{ReadLog, Source, Stored, StoredSource, fill};
 use std::alloc::AllocError;
 use std::process::Abort;
 use std::test::Fail;
@@ -27,7 +27,7 @@ fn a_lent_file_is_read_from_a_place_on(rt: HostRuntime) -> Result<(), Fail> {
     for case in GONE_PAST {
         let (place, known, len, past, next) = *case;
         let file = stored_bytes(b"abcdefghij", known);
-        let mut source = StoredSource::new(&file, place, FailedReads::none());
+        let mut source = StoredSource::new(&file, place, ReadLog::none());
         let mut room = [0; 3];
         same!(rt; source.skip(&mut room, len)?, past, case);
         let count = fill(&mut source, &mut room)?;
@@ -167,7 +167,7 @@ fn check_unit_away<R: Abort + AllocGlobal>(
     let mut found = DataUnit::away(rt.alloc(), unit, UNIT_AT)?;
     holds!(rt; !found.is_held());
     check_unit(rt, &mut found, &stored, bytes, layout)?;
-    found.load(rt.alloc(), &stored, &mut FailedReads::none())?;
+    found.load(rt.alloc(), &stored, &mut ReadLog::none())?;
     holds!(rt; found.is_held());
     check_unit(rt, &mut found, &broken_bytes(&[], 0), bytes, layout)
 }
@@ -198,8 +198,8 @@ fn check_unit<R: Abort + AllocGlobal, F: Stored>(
     check_answers(rt, found, bytes, layout)?;
     let mut room = [0u8; 400];
     let mut sink = writer(rt.alloc(), SMOOTH);
-    let failed = &mut FailedReads::none();
-    holds!(rt; found.emit_from(file, failed, &mut room, &mut sink).is_ok());
+    let log = &mut ReadLog::none();
+    holds!(rt; found.emit_from(file, log, &mut room, &mut sink).is_ok());
     let (written, _) = sink.into_inner().into_parts();
     holds!(rt; written.as_slice() == bytes);
     Ok(())

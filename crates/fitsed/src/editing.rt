@@ -16,7 +16,7 @@ use crate::words::oddity_of;
 use crate::wrong_sums::tell_wrong_sums;
 use fits_cli::{Edited, Fault, Level, Saves, Terms, run_edit_stored, run_edit_told};
 use fits_save::{Place, SaveFault, SavedFile, Seen, System};
-use fits_stream::{FailedReads, NamedLines, Sink, Source, Watched};
+use fits_stream::{NamedLines, ReadLog, Sink, Source, Watched};
 use std::fs::File;
 use std::io::{BufWriter, Write};
 use std::rt::Files;
@@ -165,9 +165,9 @@ fn edited<R: Files<File = File> + Eprint + AllocGlobal, S: Source, O: Sink>(
     let mut saved = Watched::new(saved);
     let alloc = rt.alloc();
     let done = if is_stored(&file) && spares {
-        let failed = &mut FailedReads::none();
+        let log = &mut ReadLog::none();
         run_edit_stored(
-            alloc, of_run, &file, failed, script, &mut saved, out, &mut told,
+            alloc, of_run, &file, log, script, &mut saved, out, &mut told,
         )
     } else {
         let mut file = source_of(file);

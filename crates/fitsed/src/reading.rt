@@ -12,7 +12,7 @@ use crate::subject::Subject;
 use crate::task::Inputs;
 use crate::words::oddity_of;
 use fits_cli::{CardChoice, End, Fault, Telling, run_ask, run_ask_stored, run_cards, run_telling};
-use fits_stream::{FailedReads, NamedLines, Sink, Source, Watched};
+use fits_stream::{NamedLines, ReadLog, Sink, Source, Watched};
 use std::alloc::{AllocError, Global};
 use std::fs::File;
 use std::io::{BufWriter, Write};
@@ -222,14 +222,7 @@ fn asked<S: Source, O: Sink>(
         return End::from(Fault::Memory);
     };
     if is_stored(&file) {
-        return run_ask_stored(
-            alloc,
-            &file,
-            &mut FailedReads::none(),
-            script,
-            out,
-            &mut told,
-        );
+        return run_ask_stored(alloc, &file, &mut ReadLog::none(), script, out, &mut told);
     }
     run_ask(alloc, &mut source_of(file), script, out, &mut told)
 }

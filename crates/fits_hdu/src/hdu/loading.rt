@@ -2,14 +2,15 @@
 use super::Hdu;
 use crate::passed_hdu::PassedHdu;
 use fits_plane::{CopyFault, DataUnit, LoadFault};
-use fits_stream::{FailedReads, Sink, Stored};
+use fits_stream::{ReadLog, Sink, Stored};
 use std::alloc::{AllocError, Global};
 
 impl Hdu {
-    ghost use Rattle.std.specs.Prelude.{◌≡◌, ◌+◌, ◌%◌, ◌<◌, ◌↔◌, length, None, IfOk, IfErr, IsOk, IsTrue, OnOk, OnErr};
+    ghost use Rattle.std.specs.Prelude.{◌≡◌, ◌+◌, ◌%◌, ◌<◌, ◌↔◌, ℕ, List, length, None, IfOk, IfErr, IfSome, IsOk, IsTrue, OnOk, OnErr};
+    ghost use Rattle.fits_stream.specs.Agree.{IsOf, ReadsOn};
     ghost use Rattle.fits_stream.specs.Stream.{Prints};
-    ghost use Rattle.fits_plane.specs.Again.{CopyCounts, CopyFails, LoadCounts, PrintsLike};
-    ghost use Rattle.fits_plane.specs.DataUnit.{IsCounted, IsToldBy};
+    ghost use Rattle.fits_plane.specs.Again.{CopyCounts, CopyFails, CopyWrites, Follows, LoadCounts, PrintsLike};
+    ghost use Rattle.fits_plane.specs.DataUnit.{IsCounted, LiesIn};
     ghost use Rattle.fits_hdu.specs.Hdu.{hdu_bytes};
     ghost use Rattle.fits_hdu.specs.Reading.{passed_parts, IsPassedWhole};
     ghost use Rattle.fits_hdu.specs.State.{parts_of, ReadsUpTo};
@@ -54,21 +55,26 @@ impl Hdu {
         &mut self,
         alloc: Global,
         file: &F,
-        failed: &mut FailedReads,
+        log: &mut ReadLog,
     ) -> Result<(), LoadFault>
         ensures held { OnOk result (self.new.absent ≡ None) }
-        ensures same { IsToldBy (F.bytes file.now) self.old.plane self.old.absent
+        ensures loaded { OnOk result (IfSome self.old.absent
+            (λ it. ReadsOn it.place log.old log.new self.new.plane.bytes)) }
+        ensures same { (bytes : List ℕ) → IsOf bytes log.new
+            → LiesIn bytes self.old.plane self.old.absent
             → OnOk result (parts_of self.new ≡ parts_of self.old) }
         ensures loads { Loads self.old self.new }
         ensures idle { self.old.absent ≡ None → self.new ≡ self.old }
         ensures at_once { self.old.absent ≡ None → IsOk result }
-        ensures quiet { OnOk result (failed.new ≡ failed.old) }
+        ensures quiet { OnOk result (log.new.failures ≡ log.old.failures) }
         ensures err { OnErr result (self.new ≡ self.old) }
-        ensures counted { IfErr result (LoadCounts failed.old failed.new) }
-        ensures steady { IsToldBy (F.bytes file.now) self.old.plane self.old.absent
+        ensures counted { IfErr result (LoadCounts log.old.failures log.new.failures) }
+        ensures steady { (bytes : List ℕ) → IsOf bytes log.new
+            → LiesIn bytes self.old.plane self.old.absent
             → IfErr result (λ why. why ≡ LoadFault.Changed → ⊥) }
+        ensures follows { Follows log.old log.new }
     {
-        self.unit.load(alloc, file, failed)
+        self.unit.load(alloc, file, log)
     }
 
     /// Writes the header and then the data unit: that in memory, or else what the file has at its
@@ -79,23 +85,27 @@ impl Hdu {
     pub fn emit_from<F: Stored, W: Sink>(
         &mut self,
         file: &F,
-        failed: &mut FailedReads,
+        log: &mut ReadLog,
         room: &mut [u8],
         sink: &mut W,
     ) -> Result<(), CopyFault>
         requires wide { 0 < length room.old }
         requires words { length room.old % 4 ≡ 0 }
-        ensures ok { IsToldBy (F.bytes file.now) self.old.plane self.old.absent
+        ensures ok { (bytes : List ℕ) → IsOf bytes log.new
+            → LiesIn bytes self.old.plane self.old.absent
             → OnOk result (Prints (hdu_bytes (parts_of self.old))
             (W.state sink.old) (W.state sink.new)) }
         ensures like { OnOk result (PrintsLike (hdu_bytes (parts_of self.old))
             (W.state sink.old) (W.state sink.new)) }
-        ensures err { IsToldBy (F.bytes file.now) self.old.plane self.old.absent
+        ensures err { (bytes : List ℕ) → IsOf bytes log.new
+            → LiesIn bytes self.old.plane self.old.absent
             → IfErr result (CopyFails (hdu_bytes (parts_of self.old))
             (W.state sink.old) (W.state sink.new)) }
+        ensures writes { IfErr result (CopyWrites (W.state sink.old) (W.state sink.new)) }
+        ensures follows { Follows log.old log.new }
         ensures size { length room.new ≡ length room.old }
-        ensures quiet { OnOk result (failed.new ≡ failed.old) }
-        ensures counted { IfErr result (CopyCounts failed.old failed.new) }
+        ensures quiet { OnOk result (log.new.failures ≡ log.old.failures) }
+        ensures counted { IfErr result (CopyCounts log.old.failures log.new.failures) }
 
         // The HDU stays, and each card is read once at most.
         ensures work { ReadsUpTo self.old self.new (length self.old.header.header.cards) }
@@ -107,6 +117,6 @@ impl Hdu {
         let Ok(()) = self.header.emit(sink) else {
             return Err(CopyFault::Write);
         };
-        self.unit.emit_from(file, failed, room, sink)
+        self.unit.emit_from(file, log, room, sink)
     }
 }

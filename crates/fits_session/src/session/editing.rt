@@ -21,12 +21,14 @@ use fits_hdu::Hdu;
 use std::alloc::Global;
 
 impl<H: Holder + Drop> Session<H> {
+    ghost use Rattle.fits_session.specs.Away.{LieStill};
     ghost use Rattle.fits_session.specs.Session.{EditsTo, IsReadyFor};
 
     // Makes an edit of HDU h, or refuses it.
     pub(super) fn edit_hdu(&mut self, h: usize, edit: &HduEdit) -> Result<(), Refusal>
         requires { IsReadyFor (Edit.Hdu h edit.now) self.old.hdus }
-        ensures { EditsTo (Edit.Hdu h edit.now) self.old self.new result }
+        ensures edits { EditsTo (Edit.Hdu h edit.now) self.old self.new result }
+        ensures stays { LieStill self.old.hdus self.new.hdus }
     {
         let i = index_of(&self.hdus, h)?;
         let count = self.hdus.len() as u64;

@@ -12,11 +12,13 @@ use fits_image::{Kind, are_axes, image_shape};
 use fits_rules::Axes;
 
 impl<H: Holder + Drop> Session<H> {
+    ghost use Rattle.fits_session.specs.Away.{LieStill};
     ghost use Rattle.fits_session.specs.Session.{EditsTo};
 
     // Puts in a new image as HDU `at`.
     pub(super) fn put_image(&mut self, at: usize, kind: Kind, axes: &Axes) -> Result<(), Refusal>
-        ensures { EditsTo (Edit.NewImage at kind axes.now) self.old self.new result }
+        ensures edits { EditsTo (Edit.NewImage at kind axes.now) self.old self.new result }
+        ensures stays { LieStill self.old.hdus self.new.hdus }
     {
         if !is_within(at, self.hdus.len() + 1) {
             return Err(Refusal::NoHdu);
@@ -46,7 +48,8 @@ impl<H: Holder + Drop> Session<H> {
 
     // Takes HDU h out. It takes no memory.
     pub(super) fn take_out(&mut self, h: usize) -> Result<(), Refusal>
-        ensures { EditsTo (Edit.RemoveHdu h) self.old self.new result }
+        ensures edits { EditsTo (Edit.RemoveHdu h) self.old self.new result }
+        ensures stays { LieStill self.old.hdus self.new.hdus }
     {
         let i = index_of(&self.hdus, h)?;
         if i == 0 {

@@ -26,6 +26,7 @@ use std::alloc::{AllocError, Global};
 impl<H: Holder + Drop> Session<H> {
     ghost use Rattle.std.specs.Prelude.{◌≡◌, true, length, IfOk, IfErr, OnOk, OnErr, None, Ok};
     ghost use Rattle.fits_plane.specs.Rectangle.{rectangle_size};
+    ghost use Rattle.fits_session.specs.Away.{LieStill};
     ghost use Rattle.fits_session.specs.Edit.{hdu_of};
     ghost use Rattle.fits_session.specs.File.{offsets_from};
     ghost use Rattle.fits_session.specs.Keeping.{both_right};
@@ -110,6 +111,7 @@ impl<H: Holder + Drop> Session<H> {
         ensures ok { IfOk result (λ said. value_in (file_of self.old) h name.now ≡ Ok said) }
         ensures err { IfErr result (QueryFails (value_in (file_of self.old) h name.now)) }
         ensures asks { Asks h (value_reads (file_of self.old) h name.now) self.old self.new }
+        ensures stays { LieStill self.old.hdus self.new.hdus }
     {
         let i = index_of(&self.hdus, h)?;
         let hdu = &mut self.hdus[i];
@@ -190,6 +192,7 @@ impl<H: Holder + Drop> Session<H> {
         ensures asks { OnOk result (AsksPixels h (rectangle_size lo.now hi.now)
             self.old self.new) }
         ensures same { OnErr result (self.new ≡ self.old) }
+        ensures stays { LieStill self.old.hdus self.new.hdus }
     {
         let i = index_of(&self.hdus, h)?;
         let hdu = &mut self.hdus[i];

@@ -1,5 +1,6 @@
 //! The HDUs of a source, and what follows them.
-ghost use Rattle.std.specs.Prelude.{◌≡◌, ◌+◌, ◌≤◌, ◌<◌, false, length, All, IfOk, IfErr, OnOk};
+ghost use Rattle.fits_stream.specs.Gave.{Gave};
+ghost use Rattle.std.specs.Prelude.{[], ◌≡◌, ◌+◌, ◌≤◌, ◌<◌, false, length, All, IfOk, IfErr, OnOk};
 ghost use Rattle.fits_card.specs.declared.card_list.TheConstants.{BLOCK_LEN};
 ghost use Rattle.fits_stream.specs.Intake.{supply, GivesAll, IsLimited, IsOver, IsSpent, Takes, TakingStops, TellsAll};
 ghost use Rattle.fits_stream.specs.Stream.{StaysQuiet};
@@ -7,7 +8,7 @@ ghost use Rattle.fits_hdu.specs.Work.{IsOpened};
 ghost use Rattle.fits_session.specs.File.{begins_extension, file_bytes, IsFile, IsFileOf};
 ghost use Rattle.fits_session.specs.declared.limits.TheConstants.{FILE_LIMIT};
 ghost use Rattle.fits_session.specs.Away.{AreKnownFrom};
-ghost use Rattle.fits_session.specs.Reading.{IsReadWhole, SupplyStops};
+ghost use Rattle.fits_session.specs.Reading.{GaveFault, IsFresh, IsReadWhole, SupplyStops};
 ghost use Rattle.fits_session.specs.Session.{file_of, state_of, IsHeld};
 
 use crate::placing::placed;
@@ -29,6 +30,9 @@ pub(crate) fn read_file<R: Source>(
     requires limited { IsLimited FILE_LIMIT (supply (R.state source.old) intake) }
     ensures ok { IfOk result (λ parts. GivesAll (supply (R.state source.old) intake.entry)
         (λ bytes. IsFileOf bytes (file_of (state_of parts.0.items parts.2.items)))) }
+    ensures came { IfOk result (λ parts. intake.entry.ahead ≡ []
+        → Gave (R.state source.old) (R.state source.new)
+        (file_bytes (file_of (state_of parts.0.items parts.2.items)))) }
     ensures whole { IfOk result (λ parts. IsFile
         (file_of (state_of parts.0.items parts.2.items))) }
     ensures len { IfOk result (λ parts. parts.1
@@ -38,6 +42,8 @@ pub(crate) fn read_file<R: Source>(
     ensures quiet { OnOk result (StaysQuiet (R.state source.old) (R.state source.new)) }
     ensures err { IfErr result (SupplyStops (supply (R.state source.old) intake.entry)
         (R.state source.new)) }
+    ensures gave { IfErr result (λ why. IsFresh (supply (R.state source.old) intake.entry)
+        → GaveFault (R.state source.old) (R.state source.new) why) }
 {
     read_whole::<Hdu, R>(alloc, intake, source)
 }
@@ -52,6 +58,9 @@ pub(crate) fn read_away<R: Source>(
     requires limited { IsLimited FILE_LIMIT (supply (R.state source.old) intake) }
     ensures told { IfOk result (λ parts. TellsAll (supply (R.state source.old) intake.entry)
         (file_bytes (file_of (state_of parts.0.items parts.2.items)))) }
+    ensures came { IfOk result (λ parts. intake.entry.ahead ≡ []
+        → Gave (R.state source.old) (R.state source.new)
+        (file_bytes (file_of (state_of parts.0.items parts.2.items)))) }
     ensures whole { IfOk result (λ parts. IsFile
         (file_of (state_of parts.0.items parts.2.items))) }
     ensures len { IfOk result (λ parts. parts.1
@@ -60,6 +69,8 @@ pub(crate) fn read_away<R: Source>(
     ensures quiet { OnOk result (StaysQuiet (R.state source.old) (R.state source.new)) }
     ensures err { IfErr result (SupplyStops (supply (R.state source.old) intake.entry)
         (R.state source.new)) }
+    ensures gave { IfErr result (λ why. IsFresh (supply (R.state source.old) intake.entry)
+        → GaveFault (R.state source.old) (R.state source.new) why) }
 {
     let (passed, len, tail) = read_whole::<PassedHdu, R>(alloc, intake, source)?;
     let hdus = placed(alloc, passed)?;
@@ -75,10 +86,12 @@ fn read_whole<K: Kept + Drop, R: Source>(
     requires few { length intake.ahead + intake.left ≤ FILE_LIMIT }
     requires limited { IsLimited FILE_LIMIT (supply (R.state source.old) intake) }
     ensures ok { IfOk result (λ parts. IsReadWhole K.keeps parts.0.items parts.1 parts.2.items
-        (supply (R.state source.old) intake.entry)) }
+        (supply (R.state source.old) intake.entry) (R.state source.new)) }
     ensures quiet { OnOk result (StaysQuiet (R.state source.old) (R.state source.new)) }
     ensures err { IfErr result (SupplyStops (supply (R.state source.old) intake.entry)
         (R.state source.new)) }
+    ensures gave { IfErr result (λ why. IsFresh (supply (R.state source.old) intake.entry)
+        → GaveFault (R.state source.old) (R.state source.new) why) }
 {
     let all = intake.left();
     let hdus = match walk(alloc, &mut intake, source) {

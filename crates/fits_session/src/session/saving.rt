@@ -1,6 +1,8 @@
 //! Writing the file.
-ghost use Rattle.std.specs.Prelude.{◌≡◌, ◌+◌, ◌%◌, true, length, All, IfErr, IsOk, IsErr, OnOk, OnErr};
-ghost use Rattle.fits_plane.specs.Again.{CopyCounts, CopyFails, PrintsLike};
+ghost use Rattle.std.specs.Prelude.{◌≡◌, ◌+◌, ◌%◌, ℕ, List, None, true, length, All, IfErr, IsOk, IsErr, OnOk, OnErr};
+ghost use Rattle.fits_plane.specs.Again.{CopyCounts, CopyFails, Follows, PrintsLike};
+ghost use Rattle.fits_stream.specs.Agree.{IsOf};
+ghost use Rattle.fits_session.specs.Away.{Agree};
 ghost use Rattle.fits_stream.specs.Stream.{Prints, PrintsFront};
 ghost use Rattle.fits_session.specs.File.{joined_hdus};
 ghost use Rattle.fits_session.specs.Session.{hdus_of, each_read, IsHad, ReadsOnceAtMost};
@@ -10,7 +12,7 @@ use crate::holder::Holder;
 use crate::save_fault::SaveFault;
 use fits_hdu::Hdu;
 use fits_plane::CopyFault;
-use fits_stream::{FailedReads, Sink, write_all};
+use fits_stream::{ReadLog, Sink, write_all};
 
 impl Session {
     ghost use Rattle.std.specs.Prelude.{◌≡◌, ◌+◌, OnOk, OnErr};
@@ -30,7 +32,9 @@ impl Session {
         ensures work { ReadsOnceAtMost self.old.hdus self.new.hdus }
         ensures all_read { OnOk result (self.new.hdus ≡ each_read self.old.hdus) }
     {
-        match self.write(&mut FailedReads::none(), sink) {
+        self.are_held();
+        let mut log = ReadLog::none();
+        match self.write(&mut log, sink) {
             Ok(()) => Ok(()),
             Err(_) => Err(SaveFault::Device),
         }
@@ -38,8 +42,10 @@ impl Session {
 }
 
 impl<H: Holder + Drop> Session<H> {
-    ghost use Rattle.std.specs.Prelude.{◌≡◌, true, IfErr, OnOk};
-    ghost use Rattle.fits_plane.specs.Again.{CopyCounts, CopyFails, PrintsLike};
+    ghost use Rattle.std.specs.Prelude.{◌≡◌, ℕ, List, true, IfErr, OnOk};
+    ghost use Rattle.fits_plane.specs.Again.{CopyCounts, CopyFails, Follows, PrintsLike};
+    ghost use Rattle.fits_stream.specs.Agree.{IsOf};
+    ghost use Rattle.fits_session.specs.Away.{Agree, LieStill};
     ghost use Rattle.fits_stream.specs.Stream.{Prints};
     ghost use Rattle.fits_session.specs.File.{file_bytes};
     ghost use Rattle.fits_session.specs.Session.{file_of, each_read, marked_of, ReadsOnceAtMost};
@@ -47,27 +53,25 @@ impl<H: Holder + Drop> Session<H> {
     /// Writes the file, as `save`. Data units that aren't in memory are read again, and reads that fail
     /// are counted; where they have another total than they had, it ends there. It takes no memory.
     #[tactic(auto, using(crate::proofs::SaveLemmas::save_steps))]
-    pub fn write<W: Sink>(
-        &mut self,
-        failed: &mut FailedReads,
-        sink: &mut W,
-    ) -> Result<(), CopyFault>
-        ensures ok { H.steady → OnOk result (Prints (file_bytes (file_of self.old))
+    pub fn write<W: Sink>(&mut self, log: &mut ReadLog, sink: &mut W) -> Result<(), CopyFault>
+        ensures ok { Agree H.whole log.new self.old.hdus → OnOk result (Prints (file_bytes (file_of self.old))
             (W.state sink.old) (W.state sink.new)) }
         ensures like { OnOk result (PrintsLike (file_bytes (file_of self.old))
             (W.state sink.old) (W.state sink.new)) }
-        ensures quiet { OnOk result (failed.new ≡ failed.old) }
-        ensures err { H.steady → IfErr result (CopyFails (file_bytes (file_of self.old))
+        ensures quiet { OnOk result (log.new.failures ≡ log.old.failures) }
+        ensures err { Agree H.whole log.new self.old.hdus → IfErr result (CopyFails (file_bytes (file_of self.old))
             (W.state sink.old) (W.state sink.new)) }
-        ensures counted { IfErr result (CopyCounts failed.old failed.new) }
+        ensures counted { IfErr result (CopyCounts log.old.failures log.new.failures) }
+        ensures follows { Follows log.old log.new }
         ensures written { H.whole ≡ true → IfErr result (λ why. why ≡ CopyFault.Write) }
 
         // The file stays, and each card is read once at most.
         ensures file { marked_of self.new ≡ marked_of self.old }
+        ensures stays { LieStill self.old.hdus self.new.hdus }
         ensures work { ReadsOnceAtMost self.old.hdus self.new.hdus }
         ensures all_read { OnOk result (self.new.hdus ≡ each_read self.old.hdus) }
     {
-        write_hdus(&mut self.holder, &mut self.hdus, failed, sink)?;
+        write_hdus(&mut self.holder, &mut self.hdus, log, sink)?;
         let Ok(()) = write_all(sink, &self.tail) else {
             return Err(CopyFault::Write);
         };
@@ -80,21 +84,21 @@ impl<H: Holder + Drop> Session<H> {
 fn write_hdus<H: Holder, W: Sink>(
     holder: &mut H,
     hdus: &mut Vec<Hdu>,
-    failed: &mut FailedReads,
+    log: &mut ReadLog,
     sink: &mut W,
 ) -> Result<(), CopyFault>
-    requires { All (IsHad (record { whole = H.whole; told = H.told holder.old })) hdus.old.items }
-    ensures ok { H.steady → OnOk result (Prints (joined_hdus (hdus_of hdus.old.items))
+    requires { All (IsHad (record { whole = H.whole; told = None })) hdus.old.items }
+    ensures ok { Agree H.whole log.new hdus.old.items → OnOk result (Prints (joined_hdus (hdus_of hdus.old.items))
         (W.state sink.old) (W.state sink.new)) }
     ensures like { OnOk result (PrintsLike (joined_hdus (hdus_of hdus.old.items))
         (W.state sink.old) (W.state sink.new)) }
     ensures words { OnOk result (length (joined_hdus (hdus_of hdus.old.items)) % 4 ≡ 0) }
-    ensures quiet { OnOk result (failed.new ≡ failed.old) }
-    ensures err { H.steady → IfErr result (CopyFails (joined_hdus (hdus_of hdus.old.items))
+    ensures quiet { OnOk result (log.new.failures ≡ log.old.failures) }
+    ensures err { Agree H.whole log.new hdus.old.items → IfErr result (CopyFails (joined_hdus (hdus_of hdus.old.items))
         (W.state sink.old) (W.state sink.new)) }
-    ensures counted { IfErr result (CopyCounts failed.old failed.new) }
+    ensures counted { IfErr result (CopyCounts log.old.failures log.new.failures) }
     ensures written { H.whole ≡ true → IfErr result (λ why. why ≡ CopyFault.Write) }
-    ensures told { H.told holder.new ≡ H.told holder.old }
+    ensures follows { Follows log.old log.new }
     ensures work { ReadsOnceAtMost hdus.old.items hdus.new.items }
     ensures all_read { OnOk result (hdus.new.items ≡ each_read hdus.old.items) }
 {
@@ -102,7 +106,7 @@ fn write_hdus<H: Holder, W: Sink>(
         let hdu = &mut hdus[i];
         // It is of whole words, so the total of what is written is known.
         let _whole = hdu.card_count();
-        holder.emit(hdu, failed, sink)?;
+        holder.emit(hdu, log, sink)?;
     }
     Ok(())
 }

@@ -14,6 +14,7 @@ use fits_hdu::{Hdu, Verdict, Verdicts};
 impl<H: Holder + Drop> Session<H> {
     ghost use Rattle.std.specs.Prelude.{◌≡◌, map};
     ghost use Rattle.fits_session.specs.Keeping.{vouched_one};
+    ghost use Rattle.fits_session.specs.Away.{LieStill};
     ghost use Rattle.fits_session.specs.Marked.{vouched};
     ghost use Rattle.fits_session.specs.Session.{file_of, marked_of, state_of};
 
@@ -22,6 +23,7 @@ impl<H: Holder + Drop> Session<H> {
     pub fn keep_right(&mut self)
         ensures marks { marked_of self.new ≡ vouched (file_of self.old) }
         ensures rest { self.new ≡ state_of (map vouched_one self.old.hdus) self.old.tail }
+        ensures stays { LieStill self.old.hdus self.new.hdus }
     {
         mark_all(&mut self.hdus);
     }

@@ -4,9 +4,7 @@ use Rattle.fits_cli.specs.Terms.{asking}
 use Rattle.fits_cli.proofs.asking.run_ask_stored.Goals as goal
 
 pub returns-clause-ends : goal.returns-clause-ends
-returns-clause-ends g c tells saved =
-    let ends = c.run_edit_stored.ensures.ends tells in
-    (ends.0, rw c.end_of.ensures (EndsAs-asked _ _ _ _ _ _ _ _ _ saved c.run_edit_stored.result ends.1))
+returns-clause-ends g c bytes is saved = rw c.end_of.ensures (EndsAs-asked _ _ _ _ _ _ _ _ _ saved c.run_edit_stored.result (c.run_edit_stored.ensures.ends bytes is))
 
 pub returns-clause-told : goal.returns-clause-told
-returns-clause-told g c tells = rw c.end_of.ensures (RemarksEndAs-end asking _ _ _ _ _ c.run_edit_stored.result (c.run_edit_stored.ensures.told tells))
+returns-clause-told g c bytes is = rw c.end_of.ensures (RemarksEndAs-end asking _ _ _ _ _ c.run_edit_stored.result (c.run_edit_stored.ensures.told bytes is))

@@ -1,31 +1,30 @@
 use Rattle.std.proofs.Common.{refl}
-use Rattle.fits_session.specs.Session.{file_of}
 use Rattle.fits_cli.proofs.EditingLemmas.{answered_run, AreToldOf-script, StopsBy-script, StopsBy-unread}
 use Rattle.fits_cli.proofs.ExitLemmas.{at_exit, once_or}
 use Rattle.fits_cli.proofs.editing.answered.Goals as goal
 
 -- memory is refused for the file's report
 pub returns-in_err-before-clause-err : goal.returns-in_err-before-clause-err
-returns-in_err-before-clause-err g c steady = at_exit c.from_residual.result _ _ c.from_residual.ensures.1 (λ file after opened quiet. StopsBy-unread _ _ quiet refl refl)
+returns-in_err-before-clause-err g c steady = at_exit c.from_residual.result _ _ c.from_residual.ensures.1 (λ parts first file after opened quiet. StopsBy-unread _ _ quiet refl refl)
 
 -- the script isn't answered to its end
 pub returns-in_err-flush_answers-clause-err : goal.returns-in_err-flush_answers-clause-err
 returns-in_err-flush_answers-clause-err g c steady =
     at_exit c.from_residual-in_err-flush_answers.result _ _ c.from_residual-in_err-flush_answers.ensures.1
-    (λ file after opened quiet. StopsBy-script _ _ _ _ _ c.answer_script-answered.result c.flush_answers.result _ (file_of c.args.session) c.answer_script-answered.new.runner c.in_err-flush_answers.was opened quiet
-    (once_or g.H.Holder.whole _ c.answer_script-answered.ensures.once) (rw (c.in_ok-before.ensures.left, c.new-runner.ensures) at (c.answer_script-answered.ensures.ok steady))
-    (rw (c.in_ok-before.ensures.left, c.new-runner.ensures) at (c.answer_script-answered.ensures.err steady)) c.flush_answers.ensures)
+    (λ parts first file after opened quiet. StopsBy-script _ _ _ _ _ c.answer_script-answered.result c.flush_answers.result _ parts c.answer_script-answered.new.runner.standing c.in_err-flush_answers.was opened quiet
+    (once_or g.H.Holder.whole _ c.answer_script-answered.ensures.once) (rw (c.in_ok-before.ensures.left, first) at (c.answer_script-answered.ensures.ok steady))
+    (rw (c.in_ok-before.ensures.left, first) at (c.answer_script-answered.ensures.err steady)) c.flush_answers.ensures)
 
 -- it is
 pub returns-clause-ok : goal.returns-clause-ok
-returns-clause-ok g c steady file after opened quiet =
-    answered_run _ _ _ _ _ c.answer_script-answered.result c.flush_answers.result _ (file_of c.args.session) c.answer_script-answered.new.runner c.in_ok-before.before.items c.in_ok-flush_answers.was opened quiet
-    (λ counts. rw c.new-runner.ensures at (c.in_ok-before.ensures.value (rw c.check.ensures counts)))
-    (rw (c.in_ok-before.ensures.left, c.new-runner.ensures) at (c.answer_script-answered.ensures.ok steady)) c.flush_answers.ensures
+returns-clause-ok g c steady parts first file after opened quiet =
+    answered_run _ _ _ _ _ c.answer_script-answered.result c.flush_answers.result _ parts c.answer_script-answered.new.runner.standing c.in_ok-before.before.items c.in_ok-flush_answers.was opened quiet
+    (λ counts. rw first at (c.in_ok-before.ensures.value (rw c.check.ensures counts)))
+    (rw (c.in_ok-before.ensures.left, first) at (c.answer_script-answered.ensures.ok steady)) c.flush_answers.ensures
 
 -- what is said where it isn't
 pub returns-in_err-flush_answers-clause-told : goal.returns-in_err-flush_answers-clause-told
 returns-in_err-flush_answers-clause-told g c steady =
     at_exit c.from_residual-in_err-flush_answers.result _ _ c.from_residual-in_err-flush_answers.ensures.1
-    (λ file after opened quiet. AreToldOf-script c.args.terms file _ _ _ _ _ _ c.answer_script-answered.result (file_of c.args.session) c.answer_script-answered.new.runner opened
-    (rw (c.in_ok-before.ensures.left, c.new-runner.ensures) at (c.answer_script-answered.ensures.ok steady)) (rw (c.in_ok-before.ensures.left, c.new-runner.ensures) at (c.answer_script-answered.ensures.err steady)))
+    (λ parts first file after opened quiet. AreToldOf-script c.args.terms file _ _ _ _ _ _ c.answer_script-answered.result parts c.answer_script-answered.new.runner.standing opened
+    (rw (c.in_ok-before.ensures.left, first) at (c.answer_script-answered.ensures.ok steady)) (rw (c.in_ok-before.ensures.left, first) at (c.answer_script-answered.ensures.err steady)))

@@ -1,19 +1,26 @@
 use Rattle.std.proofs.Common.{inl, refl}
+use Rattle.fits_cli.specs.Ends.{stored_file}
 use Rattle.fits_cli.proofs.EditingLemmas.{StopsBy-opening}
-use Rattle.fits_session.specs.Away.{at_start}
+use Rattle.fits_cli.proofs.StoredLemmas.{opened_of, stops_of}
+use Rattle.fits_cli.proofs.UnderWayLemmas.{follows_more}
 use Rattle.fits_cli.proofs.editing.run_edit_stored.Goals as goal
 
-pub returns-in-Ok-clause-ends : goal.returns-in-Ok-clause-ends
-returns-in-Ok-clause-ends g c tells =
-    let file = at_start (g.F.Stored.bytes c.args.file.now) c.args.failed.now in
-    (file, c.edit.ensures.ends tells file file c.in-Ok.ensures.ok refl)
+pub edit-requires-clause-lie : goal.edit-requires-clause-lie
+edit-requires-clause-lie g c = λ bytes is. rw (c.in-Ok.ensures.of bytes is) c.in-Ok.ensures.lie
 
-pub returns-in-Err-clause-ends : goal.returns-in-Err-clause-ends
-returns-in-Err-clause-ends g c tells =
-    let stops = c.in-Err.ensures.err in
-    (record { remaining = stops.0; failures = c.read_stored.new.failed }, inl (rw c.from.ensures (StopsBy-opening _ _ _ refl refl stops.1), refl))
+pub returns-in-Ok-clause-ends : goal.returns-in-Ok-clause-ends
+returns-in-Ok-clause-ends g c bytes is =
+    c.edit.ensures.ends (λ lies. (bytes, is)) (stored_file bytes c.args.log.now) (stored_file bytes c.edit.new.log)
+    (opened_of bytes c.args.log.now _ c.in-Ok.ensures.ok (c.in-Ok.ensures.of bytes (c.edit.ensures.follows bytes is))) (inl refl)
 
 pub returns-in-Ok-clause-told : goal.returns-in-Ok-clause-told
-returns-in-Ok-clause-told g c tells =
-    let file = at_start (g.F.Stored.bytes c.args.file.now) c.args.failed.now in
-    c.edit.ensures.told tells file file c.in-Ok.ensures.ok refl
+returns-in-Ok-clause-told g c bytes is =
+    c.edit.ensures.told (λ lies. (bytes, is)) (stored_file bytes c.args.log.now) (stored_file bytes c.edit.new.log)
+    (opened_of bytes c.args.log.now _ c.in-Ok.ensures.ok (c.in-Ok.ensures.of bytes (c.edit.ensures.follows bytes is))) (inl refl)
+
+pub returns-in-Err-clause-ends : goal.returns-in-Err-clause-ends
+returns-in-Err-clause-ends g c bytes is =
+    inl (rw c.from.ensures (StopsBy-opening _ _ _ refl refl (stops_of bytes c.args.log.now c.read_stored.new.log _ is c.in-Err.ensures.err)), refl)
+
+pub returns-in-Ok-clause-follows : goal.returns-in-Ok-clause-follows
+returns-in-Ok-clause-follows g c = follows_more _ _ _ c.in-Ok.ensures.follows c.edit.ensures.follows

@@ -7,18 +7,18 @@ use Rattle.fits_cli.proofs.editing.save_result.Goals as goal
 -- no result is wanted
 pub returns-in-Nothing-clause-ends : goal.returns-in-Nothing-clause-ends
 returns-in-Nothing-clause-ends g c steady file after script script_after held told told_after run =
-    rw c.status.ensures (Succeeds-asked _ _ _ told told_after c.args.runner.now c.args.before.now c.in-Nothing.is run)
+    rw c.status.ensures (Succeeds-asked _ _ _ told told_after c.args.runner.now.standing c.args.before.now c.in-Nothing.is run)
 
 -- lines that weren't done hold it back
 pub returns-then-is_held_back-clause-ends : goal.returns-then-is_held_back-clause-ends
 returns-then-is_held_back-clause-ends g c steady file after script script_after held told told_after run =
-    (rw c.refused.ensures (Kept-back _ _ told told_after c.args.runner.now c.args.before.now (sym c.is_held_back.ensures ∙ c.if-is_held_back.true) run), refl)
+    (rw c.refused.ensures (Kept-back _ _ told told_after c.args.runner.now.standing c.args.before.now (sym c.is_held_back.ensures ∙ c.if-is_held_back.true) run), refl)
 
 -- memory is refused for its report
 pub returns-in_err-found-in-Made-clause-ends : goal.returns-in_err-found-in-Made-clause-ends
 returns-in_err-found-in-Made-clause-ends g c steady file after script script_after held told told_after run =
     ends_exit _ _ _ _ _ _ c.from_residual.ensures.1
-    (inl (Lacks-report _ _ told told_after c.args.runner.now c.args.before.now run (sym c.is_held_back.ensures ∙ c.if-is_held_back.false) (rw c.in-Made.is c.in_err-found-in-Made.ensures.err), refl))
+    (inl (Lacks-report _ _ told told_after c.args.runner.now.standing c.args.before.now run (sym c.is_held_back.ensures ∙ c.if-is_held_back.false) (rw c.in-Made.is c.in_err-found-in-Made.ensures.err), refl))
 
 -- the lines of what is new can't be written
 pub returns-in_err-print_at_once-in-Made-clause-ends : goal.returns-in_err-print_at_once-in-Made-clause-ends
@@ -26,7 +26,7 @@ returns-in_err-print_at_once-in-Made-clause-ends g c steady file after script sc
     let fails = rw (c.deref.ensures.value, c.in_ok-found-in-Made.ensures.text) at c.in_err-print_at_once-in-Made.ensures.err in
     ends_exit _ _ _ _ _ _ c.from_residual-in_err-print_at_once-in-Made.ensures.1
     (inl (
-      rw fails.0 (inr (New-errors-fail _ _ _ told told_after c.args.runner.now c.args.before.now c.in_ok-found-in-Made.found.errors c.in_ok-found-in-Made.found.warnings refl refl run (sym c.is_held_back.ensures ∙ c.if-is_held_back.false)
+      rw fails.0 (inr (New-errors-fail _ _ _ told told_after c.args.runner.now.standing c.args.before.now c.in_ok-found-in-Made.found.errors c.in_ok-found-in-Made.found.warnings refl refl run (sym c.is_held_back.ensures ∙ c.if-is_held_back.false)
           (rw c.in-Made.is (record { errors_are = c.in_ok-found-in-Made.ensures.errors; warnings_are = c.in_ok-found-in-Made.ensures.warnings })) (ltb-true _ _ (sym c.are_some.ensures ∙ c.if-are_some.true)) (rw c.in-Made.is fails.1))),
       refl,
     ))
@@ -35,7 +35,7 @@ returns-in_err-print_at_once-in-Made-clause-ends g c steady file after script sc
 pub returns-then-are_some-clause-ends : goal.returns-then-are_some-clause-ends
 returns-then-are_some-clause-ends g c steady file after script script_after held told told_after run =
     let printed = rw (c.deref.ensures.value, c.in_ok-found-in-Made.ensures.text) at c.in_ok-print_at_once-in-Made.ensures.ok in (
-      Unsound-printed _ _ _ told told_after c.args.runner.now c.args.before.now c.in_ok-found-in-Made.found.errors c.in_ok-found-in-Made.found.warnings refl refl run (sym c.is_held_back.ensures ∙ c.if-is_held_back.false)
+      Unsound-printed _ _ _ told told_after c.args.runner.now.standing c.args.before.now c.in_ok-found-in-Made.found.errors c.in_ok-found-in-Made.found.warnings refl refl run (sym c.is_held_back.ensures ∙ c.if-is_held_back.false)
           (rw c.in-Made.is (record { errors_are = c.in_ok-found-in-Made.ensures.errors; warnings_are = c.in_ok-found-in-Made.ensures.warnings })) (ltb-true _ _ (sym c.are_some.ensures ∙ c.if-are_some.true)) (rw c.in-Made.is printed) c.in_ok-print_at_once-in-Made.ensures.flushed,
       refl,
     )
@@ -44,7 +44,7 @@ returns-then-are_some-clause-ends g c steady file after script script_after held
 pub returns-in_err-save-in-Made-clause-ends : goal.returns-in_err-save-in-Made-clause-ends
 returns-in_err-save-in-Made-clause-ends g c steady file after script script_after held told told_after run =
     ends_exit _ _ _ _ _ _ c.from_residual-in_err-save-in-Made.ensures.1
-    (Saving-fails _ _ _ _ told told_after c.args.runner.now c.args.before.now c.in-Made.whole c.in-Made.check c.in_ok-found-in-Made.found.errors c.in_ok-found-in-Made.found.warnings _ run c.in-Made.is (sym c.is_held_back.ensures ∙ c.if-is_held_back.false)
+    (Saving-fails _ _ _ _ told told_after c.args.runner.now.standing c.args.before.now c.in-Made.whole c.in-Made.check c.in_ok-found-in-Made.found.errors c.in_ok-found-in-Made.found.warnings _ run c.in-Made.is (sym c.is_held_back.ensures ∙ c.if-is_held_back.false)
     (rw c.in-Made.is (record { errors_are = c.in_ok-found-in-Made.ensures.errors; warnings_are = c.in_ok-found-in-Made.ensures.warnings })) (ltb-false _ _ (sym c.are_some.ensures ∙ c.if-are_some.false)) (once_or g.H.Holder.whole _ c.in_err-save-in-Made.ensures.once)
     (rw c.in_ok-found-in-Made.ensures.left at (c.in_err-save-in-Made.ensures.err steady)))
 
@@ -52,5 +52,5 @@ returns-in_err-save-in-Made-clause-ends g c steady file after script script_afte
 pub returns-in_ok-save-in-Made-clause-ends : goal.returns-in_ok-save-in-Made-clause-ends
 returns-in_ok-save-in-Made-clause-ends g c steady file after script script_after held told told_after run =
     rw (c.status-in-Made.ensures, c.in_ok-save-in-Made.ensures.left, c.in_ok-found-in-Made.ensures.left)
-    (Succeeds-saved _ _ _ _ told told_after c.args.runner.now c.args.before.now c.in-Made.whole c.in-Made.check c.in_ok-found-in-Made.found.errors c.in_ok-found-in-Made.found.warnings run c.in-Made.is (sym c.is_held_back.ensures ∙ c.if-is_held_back.false)
+    (Succeeds-saved _ _ _ _ told told_after c.args.runner.now.standing c.args.before.now c.in-Made.whole c.in-Made.check c.in_ok-found-in-Made.found.errors c.in_ok-found-in-Made.found.warnings run c.in-Made.is (sym c.is_held_back.ensures ∙ c.if-is_held_back.false)
     (rw c.in-Made.is (record { errors_are = c.in_ok-found-in-Made.ensures.errors; warnings_are = c.in_ok-found-in-Made.ensures.warnings })) (ltb-false _ _ (sym c.are_some.ensures ∙ c.if-are_some.false)) (rw c.in_ok-found-in-Made.ensures.left at (c.in_ok-save-in-Made.ensures.ok steady)) c.in_ok-save-in-Made.ensures.flushed)

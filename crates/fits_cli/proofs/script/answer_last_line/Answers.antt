@@ -9,7 +9,7 @@ returns-then-is_empty-clause-ok g c steady = EndsScript-none c.args.line.now _ _
 pub returns-in_err-answer_line-clause-err : goal.returns-in_err-answer_line-clause-err
 returns-in_err-answer_line-clause-err g c steady =
     let some : 0 < length c.args.line.now = search rules in
-    at_exit _ _ _ c.from_residual.ensures.1 (EndStops-line c.args.line.now c.args.runner.now _ _ _ some (c.in_err-answer_line.ensures.err steady))
+    at_exit _ _ _ c.from_residual.ensures.1 (EndStops-line c.args.line.now c.args.runner.now.standing _ _ _ some (c.in_err-answer_line.ensures.err steady))
 
 pub returns-clause-ok : goal.returns-clause-ok
 returns-clause-ok g c steady =

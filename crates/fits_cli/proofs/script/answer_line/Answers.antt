@@ -7,11 +7,11 @@ pub returns-clause-ok : goal.returns-clause-ok
 returns-clause-ok g c steady = record {
   said = record {
     printed = rw (c.line-number.ensures, (c.in_ok-reply.ensures.text steady)) at c.in_ok-print_answer.ensures.ok;
-    told = said_line g.E.Sink.state c.args.runner.now c.args.line.now _ c.is_some-wanted.result c.in_ok-reply.reply c.args.told.now _
+    told = said_line g.E.Sink.state c.args.runner.now.standing c.args.line.now _ c.is_some-wanted.result c.in_ok-reply.reply c.args.told.now _
         c.line-number.ensures c.is_some-wanted.ensures (c.in_ok-reply.ensures.remark steady) c.say.ensures;
   };
   left = (c.in_ok-reply.ensures.left steady);
 }
 
 pub returns-in_err-reply-clause-err : goal.returns-in_err-reply-clause-err
-returns-in_err-reply-clause-err g c steady = at_exit _ _ _ c.from_residual.ensures.1 (LineStops-reply c.args.line.now c.args.runner.now _ _ (c.in_err-reply.ensures.err steady))
+returns-in_err-reply-clause-err g c steady = at_exit _ _ _ c.from_residual.ensures.1 (LineStops-reply c.args.line.now c.args.runner.now.standing _ _ (c.in_err-reply.ensures.err steady))

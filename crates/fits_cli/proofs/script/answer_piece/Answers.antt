@@ -1,6 +1,7 @@
 use Rattle.std.proofs.Common.{◌≡◌, ◌++◌, ◌∷◌, [], ◌∙◌, length, ap, sym, append_assoc, refl, arith}
 use Rattle.std.proofs.lemmas.List.{length-append}
 use Rattle.fits_cli.proofs.ExitLemmas.{at_exit}
+use Rattle.fits_cli.proofs.UnderWayLemmas.{follows_more, follows_none, steady_before}
 use Rattle.fits_cli.proofs.RunLemmas.{Continues-none, Continues-open, Continues-line, PieceStops-line}
 use Rattle.fits_cli.proofs.script.answer_piece.Goals as goal
 
@@ -8,8 +9,9 @@ pub loop-front-init : goal.loop-front-init
 loop-front-init g c = record {
   done = [];
   split = refl;
-  answered = λ steady. Continues-none c.args.line.now.items c.args.runner.now _;
+  answered = λ steady. Continues-none c.args.line.now.items c.args.runner.now.standing _;
   quiet = refl;
+  follows = follows_none c.args.runner.now.log;
   numbered = omega arith;
   room = c.requires.room;
   within = c.requires.within;
@@ -19,7 +21,7 @@ pub returns-in_default-clause-ok : goal.returns-in_default-clause-ok
 returns-in_default-clause-ok g c steady =
     let inv = c.loop-front.invariant in
     rw inv.split
-    (Continues-open inv.done c.loop-front.rest.now c.args.line.now.items c.loop-front.line.items c.keep.new.line.items c.args.runner.now c.loop-front.runner _ _
+    (Continues-open inv.done c.loop-front.rest.now c.args.line.now.items c.loop-front.line.items c.keep.new.line.items c.args.runner.now.standing c.loop-front.runner.standing _ _
     (inv.answered steady) c.in_default.ensures.none c.keep.ensures.kept)
 
 pub returns-in_err-answer_line-clause-err : goal.returns-in_err-answer_line-clause-err
@@ -31,8 +33,8 @@ returns-in_err-answer_line-clause-err g c steady =
     let whole : c.args.piece.now ≡ inv.done ++ (front ++ 10 ∷ next) = inv.split ∙ ap (λ t. inv.done ++ t) cut in
     at_exit _ _ _ c.from_residual.ensures.1
     (rw whole
-    (PieceStops-line inv.done front next c.args.line.now.items c.loop-front.line.items c.keep-in-loop-front.new.line.items c.args.runner.now c.loop-front.runner _ _ _ c.in_err-answer_line.field-0.0
-    (inv.answered steady) c.in-Some.ensures.some.0 c.keep-in-loop-front.ensures.kept (rw c.deref.ensures.value at (c.in_err-answer_line.ensures.err steady))))
+    (PieceStops-line inv.done front next c.args.line.now.items c.loop-front.line.items c.keep-in-loop-front.new.line.items c.args.runner.now.standing c.loop-front.runner.standing _ _ _ c.in_err-answer_line.field-0.0
+    (inv.answered (steady_before g.H.Holder.whole _ _ c.answer_line.ensures.follows steady)) c.in-Some.ensures.some.0 c.keep-in-loop-front.ensures.kept (rw c.deref.ensures.value at (c.in_err-answer_line.ensures.err steady))))
 
 pub loop-front-preserved : goal.loop-front-preserved
 loop-front-preserved g c =
@@ -45,10 +47,14 @@ loop-front-preserved g c =
       done = done ++ (front ++ 10 ∷ []);
       split = inv.split ∙ ap (λ t. done ++ t) (cut ∙ sym (append_assoc front (10 ∷ []) next)) ∙ sym (append_assoc done (front ++ 10 ∷ []) next);
       answered = λ steady. rw c.clear.ensures.items
-          (Continues-line done front c.args.line.now.items c.loop-front.line.items c.keep-in-loop-front.new.line.items c.args.runner.now c.loop-front.runner c.answer_line.new.runner _ _ _
-          (inv.answered steady) c.in-Some.ensures.some.0 c.keep-in-loop-front.ensures.kept (rw c.deref.ensures.value at (c.in_ok-answer_line.ensures.ok steady)));
+          (Continues-line done front c.args.line.now.items c.loop-front.line.items c.keep-in-loop-front.new.line.items c.args.runner.now.standing c.loop-front.runner.standing c.answer_line.new.runner.standing _ _ _
+          (inv.answered (steady_before g.H.Holder.whole _ _ c.answer_line.ensures.follows steady)) c.in-Some.ensures.some.0 c.keep-in-loop-front.ensures.kept (rw c.deref.ensures.value at (c.in_ok-answer_line.ensures.ok steady)));
       quiet = c.in_ok-answer_line.ensures.quiet ∙ inv.quiet;
+      follows = follows_more _ _ _ inv.follows c.answer_line.ensures.follows;
       numbered = omega (arith, c.in_ok-answer_line.ensures.line, ap length cut, length-append front (10 ∷ next), inv.numbered);
       room = omega (arith, c.clear.ensures.capacity, c.keep-in-loop-front.ensures.room);
       within = omega (arith, c.clear.ensures.len);
     }
+
+pub returns-in_err-answer_line-clause-follows : goal.returns-in_err-answer_line-clause-follows
+returns-in_err-answer_line-clause-follows g c = follows_more _ _ _ c.loop-front.invariant.follows c.answer_line.ensures.follows

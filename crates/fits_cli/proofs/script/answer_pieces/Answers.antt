@@ -3,6 +3,7 @@ use Rattle.std.proofs.lemmas.List.{length-append, length-take-le}
 use Rattle.fits_stream.proofs.StreamLemmas.{Reads-none, Reads-more}
 use Rattle.fits_cli.proofs.ExitLemmas.{at_exit, last_err, last_ok}
 use Rattle.fits_cli.proofs.RunLemmas.{HasCome-none}
+use Rattle.fits_cli.proofs.UnderWayLemmas.{follows_more, follows_none, steady_before}
 use Rattle.fits_cli.proofs.ScriptLemmas.{ScriptReadFails-after, ScriptStops-piece, ScriptStops-over, ScriptStops-end, AnswersTooLong-over, AnswersScript-end}
 use Rattle.fits_cli.proofs.script.answer_pieces.Goals as goal
 
@@ -12,8 +13,9 @@ loop-n-init g c = record {
   read = Reads-none (g.S.Source.state c.args.script.now);
   counted = refl;
   short = omega arith;
-  has = λ steady. rw c.requires.empty (HasCome-none c.args.runner.now _);
+  has = λ steady. rw c.requires.empty (HasCome-none c.args.runner.now.standing _);
   quiet = refl;
+  follows = follows_none c.args.runner.now.log;
   numbered = omega (arith, c.requires.first);
   wide = c.requires.wide;
   room = c.requires.room;
@@ -23,48 +25,48 @@ loop-n-init g c = record {
 pub returns-in_default-clause-err : goal.returns-in_default-clause-err
 returns-in_default-clause-err g c steady =
     let inv = c.loop-n.invariant in
-    ScriptReadFails-after _ (g.S.Source.state c.loop-n.script) _ inv.came c.loop-n.line.items c.args.runner.now c.loop-n.runner _ _
+    ScriptReadFails-after _ (g.S.Source.state c.loop-n.script) _ inv.came c.loop-n.line.items c.args.runner.now.standing c.loop-n.runner.standing _ _
     inv.read c.in_default.ensures.err (omega (arith, inv.counted, inv.short)) (inv.has steady)
 
 pub returns-then-n-eq0-clause-err : goal.returns-then-n-eq0-clause-err
 returns-then-n-eq0-clause-err g c steady =
     let inv = c.loop-n.invariant in
     last_err _ (rw c.deref.ensures.value at (c.answer_last_line.ensures.err steady))
-    (λ why stops. ScriptStops-end _ (g.S.Source.state c.loop-n.script) _ c.in-Ok.n inv.came c.read.new.buffer c.loop-n.line.items c.args.runner.now c.loop-n.runner _ _ _
+    (λ why stops. ScriptStops-end _ (g.S.Source.state c.loop-n.script) _ c.in-Ok.n inv.came c.read.new.buffer c.loop-n.line.items c.args.runner.now.standing c.loop-n.runner.standing _ _ _
     why inv.read c.in-Ok.ensures.ok c.if-n-eq0.true (c.in-Ok.ensures.ends c.if-n-eq0.true (search rules)) (omega (arith, inv.counted, inv.short))
-    (inv.has steady) stops)
+    (inv.has (steady_before g.H.Holder.whole _ _ c.answer_last_line.ensures.follows steady)) stops)
 
 pub returns-then-n-eq0-clause-ok : goal.returns-then-n-eq0-clause-ok
 returns-then-n-eq0-clause-ok g c steady =
     let inv = c.loop-n.invariant in
     last_ok _ (rw c.deref.ensures.value at (c.answer_last_line.ensures.ok steady))
-    (λ ends. AnswersScript-end _ (g.S.Source.state c.loop-n.script) _ c.in-Ok.n inv.came c.read.new.buffer c.loop-n.line.items c.args.runner.now c.loop-n.runner _ _ _ _
+    (λ ends. AnswersScript-end _ (g.S.Source.state c.loop-n.script) _ c.in-Ok.n inv.came c.read.new.buffer c.loop-n.line.items c.args.runner.now.standing c.loop-n.runner.standing _ _ _ _
     inv.read c.in-Ok.ensures.ok c.if-n-eq0.true (c.in-Ok.ensures.ends c.if-n-eq0.true (search rules)) (omega (arith, inv.counted, inv.short))
-    (inv.has steady) ends)
+    (inv.has (steady_before g.H.Holder.whole _ _ c.answer_last_line.ensures.follows steady)) ends)
 
 pub returns-in_err-answer_piece-clause-err : goal.returns-in_err-answer_piece-clause-err
 returns-in_err-answer_piece-clause-err g c steady =
     let inv = c.loop-n.invariant in
     at_exit _ _ _ c.from_residual.ensures.1
-    (ScriptStops-over _ (g.S.Source.state c.loop-n.script) _ c.in-Ok.n inv.came c.read.new.buffer c.loop-n.line.items c.args.runner.now c.loop-n.runner _ _ _
+    (ScriptStops-over _ (g.S.Source.state c.loop-n.script) _ c.in-Ok.n inv.came c.read.new.buffer c.loop-n.line.items c.args.runner.now.standing c.loop-n.runner.standing _ _ _
     c.in_err-answer_piece.field-0.0 inv.read c.in-Ok.ensures.ok (omega (arith, inv.counted, inv.short)) (omega (arith, c.if-n-room.true, inv.counted)) (search rules)
-    (inv.has steady) (rw (c.split_at.ensures.front, inv.counted) at (c.in_err-answer_piece.ensures.err steady)))
+    (inv.has (steady_before g.H.Holder.whole _ _ c.answer_piece.ensures.follows steady)) (rw (c.split_at.ensures.front, inv.counted) at (c.in_err-answer_piece.ensures.err steady)))
 
 pub returns-then-n-room-clause-err : goal.returns-then-n-room-clause-err
 returns-then-n-room-clause-err g c steady =
     let inv = c.loop-n.invariant in
     AnswersTooLong-over _ (g.S.Source.state c.loop-n.script) _ c.in-Ok.n inv.came c.read.new.buffer c.loop-n.line.items c.answer_piece.new.line.items
-    c.args.runner.now c.loop-n.runner c.answer_piece.new.runner _ _ _ inv.read c.in-Ok.ensures.ok (omega (arith, inv.counted, inv.short)) (omega (arith, c.if-n-room.true, inv.counted)) (search rules)
-    (inv.has steady) (rw (c.split_at.ensures.front, inv.counted) at (c.in_ok-answer_piece.ensures.ok steady))
+    c.args.runner.now.standing c.loop-n.runner.standing c.answer_piece.new.runner.standing _ _ _ inv.read c.in-Ok.ensures.ok (omega (arith, inv.counted, inv.short)) (omega (arith, c.if-n-room.true, inv.counted)) (search rules)
+    (inv.has (steady_before g.H.Holder.whole _ _ c.answer_piece.ensures.follows steady)) (rw (c.split_at.ensures.front, inv.counted) at (c.in_ok-answer_piece.ensures.ok steady))
 
 pub returns-in_err-answer_at_once-clause-err : goal.returns-in_err-answer_at_once-clause-err
 returns-in_err-answer_at_once-clause-err g c steady =
     let inv = c.loop-n.invariant in
     let size : length (take c.in-Ok.n c.read.new.buffer) ≡ c.in-Ok.n = length-take-le c.in-Ok.n c.read.new.buffer (search rules) in
     at_exit _ _ _ c.from_residual-in_err-answer_at_once.ensures.1
-    (ScriptStops-piece _ (g.S.Source.state c.loop-n.script) _ inv.came (take c.in-Ok.n c.read.new.buffer) c.loop-n.line.items c.args.runner.now c.loop-n.runner _ _ _
+    (ScriptStops-piece _ (g.S.Source.state c.loop-n.script) _ inv.came (take c.in-Ok.n c.read.new.buffer) c.loop-n.line.items c.args.runner.now.standing c.loop-n.runner.standing _ _ _
     c.in_err-answer_at_once.field-0.0 inv.read c.in-Ok.ensures.ok (omega (arith, c.if-n-room.false, inv.counted, inv.short, size))
-    (inv.has steady) (rw c.split_at-in-loop-n.ensures.front at (c.in_err-answer_at_once.ensures.err steady)))
+    (inv.has (steady_before g.H.Holder.whole _ _ c.answer_at_once.ensures.follows steady)) (rw c.split_at-in-loop-n.ensures.front at (c.in_err-answer_at_once.ensures.err steady)))
 
 pub loop-n-preserved : goal.loop-n-preserved
 loop-n-preserved g c =
@@ -74,10 +76,23 @@ loop-n-preserved g c =
       read = Reads-more _ _ _ _ _ inv.read c.in-Ok.ensures.ok;
       counted = omega (arith, inv.counted, length-append inv.came (take c.in-Ok.n c.read.new.buffer), length-take-le c.in-Ok.n c.read.new.buffer (search rules));
       short = omega (arith, c.if-n-room.false, inv.short);
-      has = λ steady. (rw c.split_at-in-loop-n.ensures.front at (c.in_ok-answer_at_once.ensures.ok steady)) inv.came c.args.runner.now _ (inv.has steady);
+      has = λ steady. (rw c.split_at-in-loop-n.ensures.front at (c.in_ok-answer_at_once.ensures.ok steady)) inv.came c.args.runner.now.standing _ (inv.has (steady_before g.H.Holder.whole _ _ c.answer_at_once.ensures.follows steady));
       quiet = c.in_ok-answer_at_once.ensures.quiet ∙ inv.quiet;
+      follows = follows_more _ _ _ inv.follows c.answer_at_once.ensures.follows;
       numbered = omega (arith, c.in_ok-answer_at_once.ensures.line, c.split_at-in-loop-n.ensures.front_len, inv.numbered);
       wide = omega (arith, inv.wide, c.read.auto.buffer);
       room = c.in_ok-answer_at_once.ensures.room;
       within = c.in_ok-answer_at_once.ensures.within;
     }
+
+pub returns-then-n-eq0-clause-follows : goal.returns-then-n-eq0-clause-follows
+returns-then-n-eq0-clause-follows g c = follows_more _ _ _ c.loop-n.invariant.follows c.answer_last_line.ensures.follows
+
+pub returns-in_err-answer_piece-clause-follows : goal.returns-in_err-answer_piece-clause-follows
+returns-in_err-answer_piece-clause-follows g c = follows_more _ _ _ c.loop-n.invariant.follows c.answer_piece.ensures.follows
+
+pub returns-then-n-room-clause-follows : goal.returns-then-n-room-clause-follows
+returns-then-n-room-clause-follows g c = follows_more _ _ _ c.loop-n.invariant.follows c.answer_piece.ensures.follows
+
+pub returns-in_err-answer_at_once-clause-follows : goal.returns-in_err-answer_at_once-clause-follows
+returns-in_err-answer_at_once-clause-follows g c = follows_more _ _ _ c.loop-n.invariant.follows c.answer_at_once.ensures.follows

@@ -2,9 +2,10 @@ use Rattle.std.proofs.Common.{◌≡◌, ◌<◌, ◌≤◌, ◌+◌, ◌-◌, L
 use Rattle.std.specs.Prelude.{vec_len, vec_capacity}
 use Rattle.std.specs.Option.{option_map}
 use Rattle.fits_stream.specs.Stream.{Reads}
+use Rattle.fits_plane.specs.Again.{Follows}
 use Rattle.fits_script.specs.declared.limits.TheConstants.{LINE_LIMIT}
 use Rattle.fits_cli.specs.declared.limits.TheConstants.{SCRIPT_LIMIT}
-use Rattle.fits_cli.specs.Running.{heard, HasCome}
+use Rattle.fits_cli.specs.Running.{heard, HasCome, Steady}
 use Rattle.fits_cli.proofs.script.answer_pieces.Given as goal
 
 abbrev pub invariant-loop-n : goal.invariant-loop-n
@@ -13,9 +14,10 @@ invariant-loop-n g l = record {
   read : Reads came (g.S.Source.state l.fn.script) (g.S.Source.state l.script);
   counted : l.taken ≡ length came;
   short : l.taken ≤ SCRIPT_LIMIT;
-  has : g.H.Holder.steady → HasCome came l.line.items l.fn.runner l.runner (heard (g.O.Sink.state l.fn.out) (option_map g.E.Sink.state l.fn.told)) (heard (g.O.Sink.state l.out) (option_map g.E.Sink.state l.told));
-  quiet : l.failed ≡ l.fn.failed;
-  numbered : l.runner.line ≤ l.taken + 1;
+  has : Steady g.H.Holder.whole l.runner.log → HasCome came l.line.items l.fn.runner.standing l.runner.standing (heard (g.O.Sink.state l.fn.out) (option_map g.E.Sink.state l.fn.told)) (heard (g.O.Sink.state l.out) (option_map g.E.Sink.state l.told));
+  quiet : l.runner.log.failures ≡ l.fn.runner.log.failures;
+  follows : Follows l.fn.runner.log l.runner.log;
+  numbered : l.runner.standing.line ≤ l.taken + 1;
   wide : 0 < length l.piece;
   room : LINE_LIMIT + 1 ≤ vec_capacity l.line;
   within : vec_len l.line ≤ LINE_LIMIT + 1;

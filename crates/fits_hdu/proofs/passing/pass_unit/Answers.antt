@@ -2,7 +2,7 @@ use Rattle.std.proofs.Common.{◌≡◌, ◌<◌, ◌∙◌, length, replicate, 
 use Rattle.std.proofs.lemmas.Grind.{common_steps}
 use Rattle.std.proofs.lemmas.List.{length-replicate}
 use Rattle.fits_stream.proofs.IntakeLemmas.{takes_passed}
-use Rattle.fits_stream.proofs.SightLemmas.{takes_and_holds, takes_more, takes_none}
+use Rattle.fits_stream.proofs.SightLemmas.{takes_and_holds, takes_more, takes_none, takes_then_fails}
 use Rattle.fits_plane.specs.declared.layout.Layout.{Layout}
 use Rattle.fits_hdu.proofs.passing.pass_unit.Goals as goal
 
@@ -61,3 +61,7 @@ returns-clause-layout g c = rw c.end.ensures c.loop-unit.invariant.layout
 
 pub returns-clause-blank : goal.returns-clause-blank
 returns-clause-blank g c = rw c.end.ensures (ap (λ (l : Layout). l.blank) c.loop-unit.invariant.layout)
+
+-- a call failed
+pub returns-in_default-clause-err : goal.returns-in_default-clause-err
+returns-in_default-clause-err g c = takes_then_fails _ _ _ _ c.loop-unit.invariant.taken c.in_default.ensures.err

@@ -1,3 +1,6 @@
+use Rattle.fits_stream.proofs.SightLemmas.{takes_then_fails, takes_then_quiet}
+use Rattle.fits_stream.proofs.StreamLemmas.{quiet_fails}
+use Rattle.fits_session.proofs.HeadersLemmas.{cards_quiet, taking_after}
 use Rattle.std.proofs.Common.{◌≡◌, ◌+◌, [], ◌∷◌, length, ap, ◌∙◌, arith}
 use Rattle.std.proofs.lemmas.List.{length-append}
 use Rattle.std.proofs.lemmas.Grind.{common_steps}
@@ -50,3 +53,12 @@ hdu-preserved g c = record {
   begins = next_more c.hdu.headers.items c.push.new.self.items c.in-Ok-read.head.cards _ c.in-Ok-push.ensures.items (grind (arith, common_steps));
   few = few_more (length c.hdu.headers.items) (length c.push.new.self.items) c.hdu.invariant.few (ap length c.in-Ok-push.ensures.items ∙ length-append c.hdu.headers.items (c.in-Ok-read.head.cards ∷ [])) (grind (arith, common_steps));
 }
+
+pub returns-in-Err-clause-err : goal.returns-in-Err-clause-err
+returns-in-Err-clause-err g c = taking_after _ _ _ _ c.in-Err.why c.hdu.invariant.walked.taken c.in-Err.ensures.err
+
+pub returns-in_default-push-clause-err : goal.returns-in_default-push-clause-err
+returns-in_default-push-clause-err g c = takes_then_quiet _ _ _ _ c.hdu.invariant.walked.taken (cards_quiet _ _ c.in-Ok-read.head.fault _ _ c.in-Ok-read.ensures.ok)
+
+pub returns-in_default-hold-clause-err : goal.returns-in_default-hold-clause-err
+returns-in_default-hold-clause-err g c = takes_then_fails _ _ _ _ c.hdu.invariant.walked.taken (quiet_fails _ _ _ (cards_quiet _ _ c.in-Ok-read.head.fault _ _ c.in-Ok-read.ensures.ok) c.in_default-hold.ensures.err)

@@ -1,10 +1,11 @@
+use Rattle.fits_stream.proofs.SightLemmas.{takes_then_quiet}
 use Rattle.std.proofs.Common.{◌+◌, length, ap, arith}
 use Rattle.std.proofs.lemmas.Grind.{common_steps}
 use Rattle.fits_stream.specs.Intake.{IntakeState, supply}
 use Rattle.fits_stream.proofs.SightLemmas.{limited_source}
 use Rattle.fits_session.specs.declared.limits.TheConstants.{FILE_LIMIT}
 use Rattle.fits_session.specs.Reading.{IsWalkOf}
-use Rattle.fits_session.proofs.WalkLemmas.{kept_before, kept_given, read_given, read_stops}
+use Rattle.fits_session.proofs.WalkLemmas.{fresh, kept_before, kept_given, read_given, read_stops, rest_gave}
 use Rattle.fits_session.proofs.walking.read_kept.Goals as goal
 
 pub returns-in-Ok-end-clause-ok : goal.returns-in-Ok-end-clause-ok
@@ -21,4 +22,16 @@ returns-in-Err-end-clause-err g c =
 pub returns-in-Err-clause-err : goal.returns-in-Err-clause-err
 returns-in-Err-clause-err g c =
     read_stops (g.R.Source.state c.args.source.now) (g.R.Source.state c.settled.new.source) c.in_ok-intake.intake c.settled.result c.in_ok-intake.ensures
-    (c.settled.ensures (supply (g.R.Source.state c.args.source.now) c.in_ok-intake.intake) (limited_source FILE_LIMIT (g.R.Source.state c.args.source.now) c.in_ok-intake.intake c.in_ok-intake.ensures) c.in-Err.ensures.err)
+    (c.settled.ensures.stops (supply (g.R.Source.state c.args.source.now) c.in_ok-intake.intake) (limited_source FILE_LIMIT (g.R.Source.state c.args.source.now) c.in_ok-intake.intake c.in_ok-intake.ensures) c.in-Err.ensures.err)
+
+-- nothing failed
+pub returns-in-Ok-end-clause-quiet : goal.returns-in-Ok-end-clause-quiet
+returns-in-Ok-end-clause-quiet g c = takes_then_quiet _ _ _ _ c.in-Ok.ensures.walked.taken c.in-Ok-end.ensures.quiet
+
+-- the fault is one of what came
+pub returns-in-Err-clause-gave : goal.returns-in-Err-clause-gave
+returns-in-Err-clause-gave g c = c.settled.ensures.gave _ (fresh (g.R.Source.state c.args.source.now) c.in_ok-intake.intake c.in_ok-intake.ensures) c.in-Err.ensures.err
+
+pub returns-in-Err-end-clause-gave : goal.returns-in-Err-end-clause-gave
+returns-in-Err-end-clause-gave g c =
+    rest_gave _ _ (g.R.Source.state c.end.new.source) _ c.in-Err-end.fault (fresh (g.R.Source.state c.args.source.now) c.in_ok-intake.intake c.in_ok-intake.ensures) c.in-Ok.ensures.walked.taken c.in-Err-end.ensures.err

@@ -1,6 +1,7 @@
 use Rattle.std.proofs.Common.{arith}
 use Rattle.std.proofs.lemmas.Grind.{common_steps}
-use Rattle.fits_stream.proofs.SightLemmas.{takes_fewer}
+use Rattle.std.proofs.lemmas.Result.{err_from_is_err_and}
+use Rattle.fits_stream.proofs.SightLemmas.{takes_fewer, takes_quiet, takes_then_fails, takes_then_quiet}
 use Rattle.fits_session.proofs.WalkLemmas.{stops_at_first, stops_by_hdu, stops_full, walk_shorter, walked_more}
 use Rattle.fits_session.proofs.walking.walk.Goals as goal
 
@@ -24,3 +25,13 @@ returns-then-len-eq-HDU_LIMIT-clause-err g c =
 -- less is left with each HDU
 pub hdu-smaller : goal.hdu-smaller
 hdu-smaller g c = walk_shorter (g.K.Kept.keeps c.in-Ok-read_next.next) c.is_empty.result _ _ _ c.in-Ok-read_next.ensures.ok c.in-Ok-hold.ensures.ok
+
+-- memory was refused after an HDU
+pub returns-in_err-push-in-Ok-read_next-clause-err : goal.returns-in_err-push-in-Ok-read_next-clause-err
+returns-in_err-push-in-Ok-read_next-clause-err g c =
+    let p = err_from_is_err_and c.from_residual.result c.from_residual.ensures.1 in
+    rw (p.1, p.2) (takes_then_quiet _ _ _ _ c.hdu.invariant.walked.taken (takes_quiet _ _ _ c.in-Ok-read_next.ensures.ok.taken))
+
+-- a call failed after one
+pub returns-in_default-hold-clause-err : goal.returns-in_default-hold-clause-err
+returns-in_default-hold-clause-err g c = takes_then_fails _ _ _ _ c.hdu.invariant.walked.taken (takes_then_fails _ _ _ _ c.in-Ok-read_next.ensures.ok.taken c.in_default-hold.ensures.err)

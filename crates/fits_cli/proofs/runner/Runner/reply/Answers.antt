@@ -1,11 +1,60 @@
-use Rattle.std.proofs.Common.{◌∙◌, sym}
+use Rattle.std.proofs.Common.{◌∙◌, rules, sym}
 use Rattle.std.proofs.lemmas.Result.{err_from_is_err_and}
+use Rattle.fits_cli.specs.Answer.{line_answer, line_left, LineNeedsMemory}
+use Rattle.fits_cli.specs.Remark.{remark_by, remark_on}
+use Rattle.fits_cli.specs.Running.{Steady}
 use Rattle.fits_cli.proofs.RunLemmas.{lacks_pixels}
+use Rattle.fits_cli.proofs.UnderWayLemmas.{lie_on, steady_agree}
 use Rattle.fits_cli.proofs.runner.Runner.reply.Goals as goal
 
 -- the data that the line wants aren't had again
 pub returns-in_err-ready-in-Ok-Said-clause-err : goal.returns-in_err-ready-in-Ok-Said-clause-err
 returns-in_err-ready-in-Ok-Said-clause-err g c steady =
     let exit = err_from_is_err_and c.from_residual.result c.from_residual.ensures.1 in
-    rw (exit.1, exit.2) (lacks_pixels c.args.self.now.marked c.args.line.now c.in-Ok-Said.command c.in_err-ready-in-Ok-Said.field-0.0 (sym c.in-Ok-Said.field-0-is ∙ c.in-Ok-Said.ensures.ok) c.in_err-ready-in-Ok-Said.ensures.wanted
-    (c.in_err-ready-in-Ok-Said.ensures.unchanged steady))
+    rw (exit.1, exit.2) (lacks_pixels c.args.self.now.standing.marked c.args.line.now c.in-Ok-Said.command c.in_err-ready-in-Ok-Said.field-0.0 (sym c.in-Ok-Said.field-0-is ∙ c.in-Ok-Said.ensures.ok) c.in_err-ready-in-Ok-Said.ensures.wanted
+    (c.in_err-ready-in-Ok-Said.ensures.unchanged (steady_agree g.H.Holder.whole _ _ _ c.ready.ensures.follows c.self.invariant.lie steady)))
+
+pub returns-in_err-ready-in-Ok-Said-clause-follows : goal.returns-in_err-ready-in-Ok-Said-clause-follows
+returns-in_err-ready-in-Ok-Said-clause-follows g c = rw (← c.self.view_is) c.ready.ensures.follows
+
+pub invariant_of-self : goal.invariant_of-self
+invariant_of-self g c = record { few = c.self.invariant.few; lie = lie_on _ _ _ _ c.ready.ensures.follows c.ready.ensures.stays c.self.invariant.lie }
+
+pub invariant_of-self-in_err-reply-in-Ok-Said : goal.invariant_of-self-in_err-reply-in-Ok-Said
+invariant_of-self-in_err-reply-in-Ok-Said g c = record { few = c.self.invariant.few; lie = λ bytes is. c.answer.ensures.stays bytes (lie_on _ _ _ _ c.ready.ensures.follows c.ready.ensures.stays c.self.invariant.lie bytes is) }
+
+pub invariant_of-self-in-Ok-Said : goal.invariant_of-self-in-Ok-Said
+invariant_of-self-in-Ok-Said g c = record { few = c.self.invariant.few; lie = λ bytes is. c.answer.ensures.stays bytes (lie_on _ _ _ _ c.ready.ensures.follows c.ready.ensures.stays c.self.invariant.lie bytes is) }
+
+pub returns-in_err-reply-in-Ok-Said-clause-follows : goal.returns-in_err-reply-in-Ok-Said-clause-follows
+returns-in_err-reply-in-Ok-Said-clause-follows g c = rw (← c.self.view_is) c.ready.ensures.follows
+
+pub returns-in_ok-reply-in-Ok-Said-clause-follows : goal.returns-in_ok-reply-in-Ok-Said-clause-follows
+returns-in_ok-reply-in-Ok-Said-clause-follows g c = rw (c.pass-in-Ok-Said.ensures.log, ← c.self.view_is) c.ready.ensures.follows
+
+pub returns-in_err-reply-in-Ok-Said-clause-err : goal.returns-in_err-reply-in-Ok-Said-clause-err
+unfolding LineNeedsMemory
+returns-in_err-reply-in-Ok-Said-clause-err g c steady =
+    let same = c.in_ok-ready-in-Ok-Said.ensures.same (steady_agree g.H.Holder.whole _ _ _ c.ready.ensures.follows c.self.invariant.lie steady) in
+    search (rules, same)
+
+pub returns-in_ok-reply-in-Ok-Said-clause-text : goal.returns-in_ok-reply-in-Ok-Said-clause-text
+unfolding line_answer
+returns-in_ok-reply-in-Ok-Said-clause-text g c steady =
+    let own : Steady g.H.Holder.whole c.ready.new.log = rw c.pass-in-Ok-Said.ensures.log at steady in
+    let same = c.in_ok-ready-in-Ok-Said.ensures.same (steady_agree g.H.Holder.whole _ _ _ c.ready.ensures.follows c.self.invariant.lie own) in
+    search (rules, same)
+
+pub returns-in_ok-reply-in-Ok-Said-clause-remark : goal.returns-in_ok-reply-in-Ok-Said-clause-remark
+unfolding remark_by remark_on
+returns-in_ok-reply-in-Ok-Said-clause-remark g c steady =
+    let own : Steady g.H.Holder.whole c.ready.new.log = rw c.pass-in-Ok-Said.ensures.log at steady in
+    let same = c.in_ok-ready-in-Ok-Said.ensures.same (steady_agree g.H.Holder.whole _ _ _ c.ready.ensures.follows c.self.invariant.lie own) in
+    search (rules, same)
+
+pub returns-in_ok-reply-in-Ok-Said-clause-left : goal.returns-in_ok-reply-in-Ok-Said-clause-left
+unfolding line_left
+returns-in_ok-reply-in-Ok-Said-clause-left g c steady =
+    let own : Steady g.H.Holder.whole c.ready.new.log = rw c.pass-in-Ok-Said.ensures.log at steady in
+    let same = c.in_ok-ready-in-Ok-Said.ensures.same (steady_agree g.H.Holder.whole _ _ _ c.ready.ensures.follows c.self.invariant.lie own) in
+    search (rules, same)

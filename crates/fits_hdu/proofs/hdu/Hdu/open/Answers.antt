@@ -2,7 +2,7 @@ use Rattle.std.proofs.Common.{ap, refl}
 use Rattle.fits_stream.specs.Intake.{IntakeState}
 use Rattle.fits_rules.proofs.LawLemmas.{shape_primary}
 use Rattle.fits_hdu.specs.State.{parts_of}
-use Rattle.fits_hdu.proofs.OpenLemmas.{hdu_opened}
+use Rattle.fits_hdu.proofs.OpenLemmas.{hdu_opened, open_fails}
 use Rattle.fits_hdu.proofs.hdu.Hdu.open.Goals as goal
 
 pub returns-in-Ok-clause-found : goal.returns-in-Ok-clause-found
@@ -15,3 +15,7 @@ returns-in-Ok-clause-len c =
 
 pub returns-in-Ok-clause-class : goal.returns-in-Ok-clause-class
 returns-in-Ok-clause-class c = shape_primary c.args.primary _ c.in-Ok.hdu.header.shape c.in-Ok.ensures.described
+
+pub returns-in-Err-Hdu-clause-fault : goal.returns-in-Err-Hdu-clause-fault
+returns-in-Err-Hdu-clause-fault c =
+    open_fails c.args.primary c.args.bytes.now _ _ c.in-Err-Hdu.fault (ap (λ (i : IntakeState). i.ahead) c.of-intake.ensures) (ap (λ (i : IntakeState). i.left) c.of-intake.ensures) (rw c.in-Err-Hdu.field-0-is at c.in-Err-Hdu.ensures.err)

@@ -2,7 +2,7 @@ use Rattle.std.proofs.Common.{◌∙◌, ap, arith, length}
 use Rattle.std.proofs.lemmas.Grind.{common_steps}
 use Rattle.std.proofs.lemmas.Result.{err_from_is_err_and}
 use Rattle.fits_card.specs.Header.{Header}
-use Rattle.fits_stream.proofs.SightLemmas.{takes_fewer}
+use Rattle.fits_stream.proofs.SightLemmas.{takes_fewer, takes_quiet, takes_then_quiet}
 use Rattle.fits_rules.proofs.LawLemmas.{shape_primary}
 use Rattle.fits_hdu.proofs.ReadingLemmas.{hdu_taken, hdu_whole, stops_by_unit, stops_over}
 use Rattle.fits_hdu.proofs.hdu.Hdu.read.Goals as goal
@@ -44,7 +44,7 @@ returns-in-Ok-of-clause-opened g c = record {
 
 -- memory was refused
 pub returns-in-Err-of-clause-err : goal.returns-in-Err-of-clause-err
-returns-in-Err-of-clause-err g c = c.in-Ok.ensures.ok.drawn.read.quiet ∙ c.in_ok-cards.ensures.taken.drawn.read.quiet
+returns-in-Err-of-clause-err g c = takes_then_quiet _ _ _ _ c.in_ok-cards.ensures.taken (takes_quiet _ _ _ c.in-Ok.ensures.ok)
 
 pub of-requires-clause-small : goal.of-requires-clause-small
 of-requires-clause-small g c = omega (arith, c.in-Ok.ensures.within, c.in_ok-cards.ensures.room, takes_fewer _ _ _ c.in_ok-cards.ensures.taken, c.requires)

@@ -1,18 +1,11 @@
-use Rattle.std.proofs.Common.{rules, sym, subst}
-use Rattle.std.specs.Prelude.{IfSome}
-use Rattle.fits_plane.specs.DataUnit.{LiesIn}
-use Rattle.fits_session.proofs.HadLemmas.{told_by}
+use Rattle.std.proofs.Common.{refl, rules}
 use Rattle.fits_session.proofs.holder.InFileHolder.emit.Goals as goal
 
 pub returns-clause-ok : goal.returns-clause-ok
-returns-clause-ok g c steady =
-    let lies = subst (λ file. IfSome (g.F.Stored.bytes file) (λ bytes. LiesIn bytes c.args.hdu.now.plane c.args.hdu.now.absent)) (sym c.self.view_is) c.requires.lies in
-    c.emit_from.ensures.ok (told_by (g.F.Stored.bytes c.self.inside.file.now) c.args.hdu.now (steady c.self.inside.file.now) lies)
+returns-clause-ok g c agree = let all = agree refl in c.emit_from.ensures.ok all.0 all.1.0 all.1.1
 
 pub returns-clause-err : goal.returns-clause-err
-returns-clause-err g c steady =
-    let lies = subst (λ file. IfSome (g.F.Stored.bytes file) (λ bytes. LiesIn bytes c.args.hdu.now.plane c.args.hdu.now.absent)) (sym c.self.view_is) c.requires.lies in
-    c.emit_from.ensures.err (told_by (g.F.Stored.bytes c.self.inside.file.now) c.args.hdu.now (steady c.self.inside.file.now) lies)
+returns-clause-err g c agree = let all = agree refl in c.emit_from.ensures.err all.0 all.1.0 all.1.1
 
 -- Said, so that a body that breaks it is refused at once.
 pub returns-clause-like : goal.returns-clause-like

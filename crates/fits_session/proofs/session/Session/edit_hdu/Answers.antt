@@ -6,12 +6,14 @@ use Rattle.fits_session.specs.Work.{follow_reads}
 use Rattle.std.specs.Prelude.{Ok, Err}
 use Rattle.std.proofs.lemmas.Result.{err_from_is_err_and}
 use Rattle.fits_session.proofs.EditLemmas.{IsEdited, IsFollowed, edits_made, edits_nowhere, edits_refused, followed_none, kept_followed, kept_refused, kept_unrenamed, stood_before}
+use Rattle.fits_session.specs.Away.{in_file, AllLie}
+use Rattle.fits_session.proofs.HadLemmas.{kept_in}
 use Rattle.fits_session.proofs.MakingLemmas.{kept_limits}
 use Rattle.fits_session.proofs.StateLemmas.{file_within, is_at, part_there}
 use Rattle.fits_session.proofs.session.Session.edit_hdu.Goals as goal
 
-pub returns-in_err-i : goal.returns-in_err-i
-returns-in_err-i g c =
+pub returns-in_err-i-clause-edits : goal.returns-in_err-i-clause-edits
+returns-in_err-i-clause-edits g c =
     let p = err_from_is_err_and c.from_residual.result c.from_residual.ensures.1 in
     rw (p.1, p.2, c.in_err-i.ensures.why, ← c.self.view_is) (edits_nowhere c.self.inside.hdus.items c.self.inside.tail.items c.args.h c.args.edit.now (rw c.deref.ensures.value at c.in_err-i.ensures.none))
 
@@ -39,8 +41,8 @@ invariant_of-self g c =
     } in
     kept_refused _ c.self.inside.hdus.items c.self.inside.tail.items c.args.h c.in_ok-i.i c.args.edit.now c.self.inside.len c.len-count.result c.self.inside.names.numbers.items c.self.inside.names.room c.index_mut.result.now c.edit_hdu.new.hdu c.self.invariant c.in_err-self-inside.field-0.0 edited
 
-pub returns-in_err-self-inside : goal.returns-in_err-self-inside
-returns-in_err-self-inside g c =
+pub returns-in_err-self-inside-clause-edits : goal.returns-in_err-self-inside-clause-edits
+returns-in_err-self-inside-clause-edits g c =
     let p = err_from_is_err_and c.from_residual-in_err-self-inside.result c.from_residual-in_err-self-inside.ensures.1 in
     let edited : IsEdited c.self.inside.hdus.items c.self.inside.tail.items c.args.h c.in_ok-i.i c.args.edit.now c.self.inside.len c.len-count.result c.index_mut.result.now c.edit_hdu.new.hdu (Err c.in_err-self-inside.field-0.0) = record {
       at = is_at c.self.inside.hdus.items c.deref.result.now c.args.h c.args.h c.in_ok-i.i c.index_mut.result.now c.deref.ensures.value refl c.in_ok-i.ensures.found c.index_mut.ensures.value;
@@ -94,8 +96,8 @@ invariant_of-self-else-may_rename g c =
     } in
     kept_unrenamed _ c.self.inside.hdus.items c.self.inside.tail.items c.args.h c.in_ok-i.i c.args.edit.now c.self.inside.len c.len-count.result c.self.inside.names.numbers.items c.self.inside.names.room c.index_mut.result.now c.edit_hdu.new.hdu c.self.invariant c.in_ok-self-inside.field-0 (sym c.if-may_rename.ensures) edited
 
-pub returns-then-may_rename : goal.returns-then-may_rename
-returns-then-may_rename g c =
+pub returns-then-may_rename-clause-edits : goal.returns-then-may_rename-clause-edits
+returns-then-may_rename-clause-edits g c =
     let edited : IsEdited c.self.inside.hdus.items c.self.inside.tail.items c.args.h c.in_ok-i.i c.args.edit.now c.self.inside.len c.len-count.result c.index_mut.result.now c.edit_hdu.new.hdu (Ok c.in_ok-self-inside.field-0) = record {
       at = is_at c.self.inside.hdus.items c.deref.result.now c.args.h c.args.h c.in_ok-i.i c.index_mut.result.now c.deref.ensures.value refl c.in_ok-i.ensures.found c.index_mut.ensures.value;
       file = c.self.invariant.whole;
@@ -113,8 +115,8 @@ returns-then-may_rename g c =
     let few : name_reads ≤ follow_reads c.args.edit.now (Ok (parts_of c.edit_hdu.new.hdu)) = rw (sym c.if-may_rename.ensures) (omega arith) in
     rw (← c.self.view_is) (edits_made c.self.inside.hdus.items c.follow.new.hdus.items c.self.inside.tail.items c.args.h c.in_ok-i.i c.args.edit.now c.self.inside.len c.len-count.result c.in_ok-self-inside.field-0 name_reads c.index_mut.result.now c.edit_hdu.new.hdu tt edited follows few)
 
-pub returns-else-may_rename : goal.returns-else-may_rename
-returns-else-may_rename g c =
+pub returns-else-may_rename-clause-edits : goal.returns-else-may_rename-clause-edits
+returns-else-may_rename-clause-edits g c =
     let edited : IsEdited c.self.inside.hdus.items c.self.inside.tail.items c.args.h c.in_ok-i.i c.args.edit.now c.self.inside.len c.len-count.result c.index_mut.result.now c.edit_hdu.new.hdu (Ok c.in_ok-self-inside.field-0) = record {
       at = is_at c.self.inside.hdus.items c.deref.result.now c.args.h c.args.h c.in_ok-i.i c.index_mut.result.now c.deref.ensures.value refl c.in_ok-i.ensures.found c.index_mut.ensures.value;
       file = c.self.invariant.whole;
@@ -128,3 +130,48 @@ returns-else-may_rename g c =
 -- Said, so that a body that breaks it is refused at once.
 pub edit_hdu-requires-clause-ready : goal.edit_hdu-requires-clause-ready
 edit_hdu-requires-clause-ready g c = search rules
+
+pub returns-in_err-self-inside-clause-stays : goal.returns-in_err-self-inside-clause-stays
+returns-in_err-self-inside-clause-stays g c = λ bytes lie.
+    let own : AllLie bytes c.self.inside.hdus.items = rw (← c.self.view_is) at lie in
+    let edited : IsEdited c.self.inside.hdus.items c.self.inside.tail.items c.args.h c.in_ok-i.i c.args.edit.now c.self.inside.len c.len-count.result c.index_mut.result.now c.edit_hdu.new.hdu (Err c.in_err-self-inside.field-0.0) = record {
+      at = is_at c.self.inside.hdus.items c.deref.result.now c.args.h c.args.h c.in_ok-i.i c.index_mut.result.now c.deref.ensures.value refl c.in_ok-i.ensures.found c.index_mut.ensures.value;
+      file = c.self.invariant.whole;
+      size = c.self.invariant.len;
+      number = c.len-count.ensures ∙ sym c.deref.ensures.len ∙ ap length c.deref.ensures.value;
+      edits = c.in_err-self-inside.ensures.edits;
+      long = tt;
+    } in
+    (kept_refused (in_file bytes) c.self.inside.hdus.items c.self.inside.tail.items c.args.h c.in_ok-i.i c.args.edit.now c.self.inside.len c.len-count.result c.self.inside.names.numbers.items c.self.inside.names.room c.index_mut.result.now c.edit_hdu.new.hdu (kept_in _ (in_file bytes) _ _ _ _ _ c.self.invariant own) c.in_err-self-inside.field-0.0 edited).had
+
+pub returns-then-may_rename-clause-stays : goal.returns-then-may_rename-clause-stays
+returns-then-may_rename-clause-stays g c = λ bytes lie.
+    let own : AllLie bytes c.self.inside.hdus.items = rw (← c.self.view_is) at lie in
+    let edited : IsEdited c.self.inside.hdus.items c.self.inside.tail.items c.args.h c.in_ok-i.i c.args.edit.now c.self.inside.len c.len-count.result c.index_mut.result.now c.edit_hdu.new.hdu (Ok c.in_ok-self-inside.field-0) = record {
+      at = is_at c.self.inside.hdus.items c.deref.result.now c.args.h c.args.h c.in_ok-i.i c.index_mut.result.now c.deref.ensures.value refl c.in_ok-i.ensures.found c.index_mut.ensures.value;
+      file = c.self.invariant.whole;
+      size = c.self.invariant.len;
+      number = c.len-count.ensures ∙ sym c.deref.ensures.len ∙ ap length c.deref.ensures.value;
+      edits = c.in_ok-self-inside.ensures.edits;
+      long = c.in_ok-self-inside.ensures.len;
+    } in
+    let follows : IsFollowed (set c.self.inside.hdus.items c.in_ok-i.i c.edit_hdu.new.hdu) c.follow.new.hdus.items c.args.h name_reads = record {
+      hdus = c.follow.ensures.hdus;
+      reads = subst (λ h. ReadsOnly h name_reads (reads_of (set c.self.inside.hdus.items c.in_ok-i.i c.edit_hdu.new.hdu)) (reads_of c.follow.new.hdus.items)) (sym edited.at.index.at) c.follow.ensures.reads;
+      works = c.follow.ensures.works;
+      kept = c.follow.ensures.kept;
+    } in
+    (kept_followed (in_file bytes) c.self.inside.hdus.items c.self.inside.tail.items c.args.h c.in_ok-i.i c.args.edit.now c.self.inside.len c.len-count.result c.self.inside.names.numbers.items c.self.inside.names.room c.index_mut.result.now c.edit_hdu.new.hdu (kept_in _ (in_file bytes) _ _ _ _ _ c.self.invariant own) c.in_ok-self-inside.field-0 name_reads c.follow.new.table.room c.follow.new.hdus.items c.follow.new.table.numbers.items edited follows c.follow.ensures.described c.follow.ensures.had c.follow.ensures.stands c.follow.ensures.room).had
+
+pub returns-else-may_rename-clause-stays : goal.returns-else-may_rename-clause-stays
+returns-else-may_rename-clause-stays g c = λ bytes lie.
+    let own : AllLie bytes c.self.inside.hdus.items = rw (← c.self.view_is) at lie in
+    let edited : IsEdited c.self.inside.hdus.items c.self.inside.tail.items c.args.h c.in_ok-i.i c.args.edit.now c.self.inside.len c.len-count.result c.index_mut.result.now c.edit_hdu.new.hdu (Ok c.in_ok-self-inside.field-0) = record {
+      at = is_at c.self.inside.hdus.items c.deref.result.now c.args.h c.args.h c.in_ok-i.i c.index_mut.result.now c.deref.ensures.value refl c.in_ok-i.ensures.found c.index_mut.ensures.value;
+      file = c.self.invariant.whole;
+      size = c.self.invariant.len;
+      number = c.len-count.ensures ∙ sym c.deref.ensures.len ∙ ap length c.deref.ensures.value;
+      edits = c.in_ok-self-inside.ensures.edits;
+      long = c.in_ok-self-inside.ensures.len;
+    } in
+    (kept_unrenamed (in_file bytes) c.self.inside.hdus.items c.self.inside.tail.items c.args.h c.in_ok-i.i c.args.edit.now c.self.inside.len c.len-count.result c.self.inside.names.numbers.items c.self.inside.names.room c.index_mut.result.now c.edit_hdu.new.hdu (kept_in _ (in_file bytes) _ _ _ _ _ c.self.invariant own) c.in_ok-self-inside.field-0 (sym c.if-may_rename.ensures) edited).had

@@ -1,6 +1,8 @@
 use Rattle.std.proofs.Common.{ap, refl}
 use Rattle.std.proofs.lemmas.Result.{err_from_is_err_and}
+use Rattle.fits_session.specs.Away.{in_file, AllLie}
 use Rattle.fits_session.specs.Session.{uncounted}
+use Rattle.fits_session.proofs.HadLemmas.{kept_in}
 use Rattle.fits_session.proofs.KeptLemmas.{described_at, kept_read}
 use Rattle.fits_session.proofs.QueryLemmas.{rect_asks, rect_fails, rect_ok}
 use Rattle.fits_session.proofs.StateLemmas.{is_at}
@@ -30,3 +32,10 @@ returns-clause-asks g c =
     rw (← c.self.view_is) (rect_asks c.self.inside.hdus.items c.self.inside.tail.items c.args.h c.in_ok-i.i _ c.index_mut-hdu.result.now c.rect.new.self
     (is_at c.self.inside.hdus.items c.deref.result.now c.args.h c.args.h c.in_ok-i.i c.index_mut-hdu.result.now c.deref.ensures.value refl c.in_ok-i.ensures.found c.index_mut-hdu.ensures.value)
     c.in_ok-values.ensures.work)
+
+pub returns-clause-stays : goal.returns-clause-stays
+returns-clause-stays g c = λ bytes lie.
+    let own : AllLie bytes c.self.inside.hdus.items = rw (← c.self.view_is) at lie in
+    (kept_read (in_file bytes) c.self.inside.hdus.items c.self.inside.tail.items c.args.h c.in_ok-i.i c.self.inside.len c.self.inside.names.numbers.items c.self.inside.names.room c.index_mut-hdu.result.now c.rect.new.self
+    (is_at c.self.inside.hdus.items c.deref.result.now c.args.h c.args.h c.in_ok-i.i c.index_mut-hdu.result.now c.deref.ensures.value refl c.in_ok-i.ensures.found c.index_mut-hdu.ensures.value)
+    (ap uncounted c.in_ok-values.ensures.work) (kept_in _ (in_file bytes) _ _ _ _ _ c.self.invariant own)).had

@@ -1,8 +1,10 @@
-use Rattle.std.proofs.Common.{ap, inr, refl, subst, sym}
+use Rattle.std.proofs.Common.{ap, false, inr, refl, subst, sym, None, Some}
+use Rattle.std.proofs.lemmas.List.Elements.{All-set}
 use Rattle.fits_hdu.specs.State.{HduState}
-use Rattle.fits_session.specs.Away.{LoadWork}
+use Rattle.fits_session.specs.Away.{in_file, Agree, AllLie, LoadWork}
 use Rattle.fits_session.specs.Session.{file_of, state_of, Holding, IsHad}
 use Rattle.fits_session.proofs.AwayLemmas.{held_stays, kept_loaded, load_work, loaded_had, loaded_same, loads_alone}
+use Rattle.fits_session.proofs.HadLemmas.{agree_on}
 use Rattle.fits_session.proofs.StateLemmas.{is_at, reads_of-same, works_nowhere, works_there}
 use Rattle.fits_session.proofs.session.Session.load.Goals as goal
 
@@ -11,16 +13,32 @@ returns-in_default-clause-work g c = rw (← c.self.view_is) (works_nowhere c.se
 
 pub invariant_of-self : goal.invariant_of-self
 invariant_of-self g c =
-    let holding : Holding = record { whole = g.H.Holder.whole; told = g.H.Holder.told c.self.inside.holder } in
+    let holding : Holding = record { whole = g.H.Holder.whole; told = None } in
     let at = is_at c.self.inside.hdus.items c.deref.result.now c.args.h c.args.h c.in-Ok.i c.index_mut.result.now c.deref.ensures.value refl c.in-Ok.ensures.found c.index_mut.ensures.value in
     let was : IsHad holding c.index_mut.result.now = subst (IsHad holding) (sym at.is) (c.self.invariant.had c.in-Ok.i c.index_mut.result.now at.index.within) in
     kept_loaded holding c.self.inside.hdus.items c.self.inside.tail.items c.args.h c.in-Ok.i c.self.inside.len c.self.inside.names.numbers.items c.self.inside.names.room c.index_mut.result.now c.load.new.hdu at c.self.invariant c.load.ensures.loads
     (loaded_had c.load.result holding c.index_mut.result.now c.load.new.hdu c.load.ensures.held c.load.ensures.err was)
 
 pub returns-clause-same : goal.returns-clause-same
-returns-clause-same g c steady =
+returns-clause-same g c agree =
     let at = is_at c.self.inside.hdus.items c.deref.result.now c.args.h c.args.h c.in-Ok.i c.index_mut.result.now c.deref.ensures.value refl c.in-Ok.ensures.found c.index_mut.ensures.value in
-    rw (← c.self.view_is) (loaded_same c.load.result c.self.inside.hdus.items c.self.inside.tail.items c.args.h c.in-Ok.i c.index_mut.result.now c.load.new.hdu at c.load.ensures.loads (c.load.ensures.same steady))
+    let own : Agree g.H.Holder.whole c.load.new.log c.self.inside.hdus.items = rw (← c.self.view_is) at agree in
+    let there = agree_on _ _ c.self.inside.hdus.items c.in-Ok.i c.index_mut.result.now own at.index.within at.is in
+    rw (← c.self.view_is) (loaded_same c.load.result c.self.inside.hdus.items c.self.inside.tail.items c.args.h c.in-Ok.i c.index_mut.result.now c.load.new.hdu at c.load.ensures.loads (c.load.ensures.same there))
+
+pub returns-clause-unchanged : goal.returns-clause-unchanged
+returns-clause-unchanged g c agree =
+    let at = is_at c.self.inside.hdus.items c.deref.result.now c.args.h c.args.h c.in-Ok.i c.index_mut.result.now c.deref.ensures.value refl c.in-Ok.ensures.found c.index_mut.ensures.value in
+    let own : Agree g.H.Holder.whole c.load.new.log c.self.inside.hdus.items = rw (← c.self.view_is) at agree in
+    c.load.ensures.unchanged (agree_on _ _ c.self.inside.hdus.items c.in-Ok.i c.index_mut.result.now own at.index.within at.is)
+
+pub returns-clause-stays : goal.returns-clause-stays
+returns-clause-stays g c xs lie =
+    let holding : Holding = in_file xs in
+    let at = is_at c.self.inside.hdus.items c.deref.result.now c.args.h c.args.h c.in-Ok.i c.index_mut.result.now c.deref.ensures.value refl c.in-Ok.ensures.found c.index_mut.ensures.value in
+    let own : AllLie xs c.self.inside.hdus.items = rw (← c.self.view_is) at lie in
+    let was : IsHad holding c.index_mut.result.now = subst (IsHad holding) (sym at.is) (own c.in-Ok.i c.index_mut.result.now at.index.within) in
+    All-set (IsHad holding) c.self.inside.hdus.items c.in-Ok.i c.load.new.hdu (loaded_had c.load.result holding c.index_mut.result.now c.load.new.hdu c.load.ensures.held c.load.ensures.err was) own
 
 pub returns-clause-alone : goal.returns-clause-alone
 returns-clause-alone g c =
@@ -39,14 +57,14 @@ returns-clause-reads g c =
 
 pub returns-clause-work : goal.returns-clause-work
 returns-clause-work g c =
-    let holding : Holding = record { whole = g.H.Holder.whole; told = g.H.Holder.told c.self.inside.holder } in
+    let holding : Holding = record { whole = g.H.Holder.whole; told = None } in
     let at = is_at c.self.inside.hdus.items c.deref.result.now c.args.h c.args.h c.in-Ok.i c.index_mut.result.now c.deref.ensures.value refl c.in-Ok.ensures.found c.index_mut.ensures.value in
     let work = load_work holding c.self.inside.hdus.items c.self.inside.tail.items c.args.h c.in-Ok.i c.self.inside.len c.self.inside.names.numbers.items c.self.inside.names.room c.index_mut.result.now c.load.new.hdu at c.self.invariant c.load.ensures.loads in
     rw (← c.self.view_is) (works_there c.self.inside.hdus.items c.args.h c.in-Ok.i (LoadWork (file_of (state_of c.self.inside.hdus.items c.self.inside.tail.items)) c.args.h) c.index_mut.result.now c.load.new.hdu at work)
 
 pub returns-clause-whole : goal.returns-clause-whole
 returns-clause-whole g c whole =
-    let holding : Holding = record { whole = g.H.Holder.whole; told = g.H.Holder.told c.self.inside.holder } in
+    let holding : Holding = record { whole = g.H.Holder.whole; told = None } in
     let at = is_at c.self.inside.hdus.items c.deref.result.now c.args.h c.args.h c.in-Ok.i c.index_mut.result.now c.deref.ensures.value refl c.in-Ok.ensures.found c.index_mut.ensures.value in
     let was : IsHad holding c.index_mut.result.now = subst (IsHad holding) (sym at.is) (c.self.invariant.had c.in-Ok.i c.index_mut.result.now at.index.within) in
     c.load.ensures.at_once (was.held whole)

@@ -15,3 +15,6 @@ invariant_of-result g c = record {
   roomy = c.in_ok-names.ensures.room;
   had = c.in_ok-names.ensures.had _ c.requires.had;
 }
+
+pub returns-clause-lie : goal.returns-clause-lie
+returns-clause-lie g c = λ bytes lie. c.in_ok-names.ensures.had _ lie

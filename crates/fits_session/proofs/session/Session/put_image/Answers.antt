@@ -4,6 +4,7 @@ use Rattle.fits_hdu.specs.Hdu.{hdu_bytes}
 use Rattle.fits_image.specs.ImageCards.{are_axes}
 use Rattle.fits_hdu.specs.NewImage.{new_image}
 use Rattle.fits_rules.specs.declared.array_shape.Shape.{Shape}
+use Rattle.fits_session.specs.Away.{in_file, AllLie}
 use Rattle.fits_session.specs.CardEdit.{is_within}
 use Rattle.fits_session.specs.Session.{IsHad}
 use Rattle.fits_session.proofs.HadLemmas.{had_held}
@@ -19,50 +20,50 @@ use Rattle.fits_session.specs.Keeping.{IsSound}
 use Rattle.fits_session.proofs.StateLemmas.{file_within, unkept_right}
 use Rattle.fits_session.proofs.session.Session.put_image.Goals as goal
 
-pub returns-then-not-is_within : goal.returns-then-not-is_within
-returns-then-not-is_within g c =
+pub returns-then-not-is_within-clause-edits : goal.returns-then-not-is_within-clause-edits
+returns-then-not-is_within-clause-edits g c =
     let many : length c.self.inside.hdus.items ≡ c.len.result = omega (arith, c.len.ensures, c.self.inside.hdus.ok.0) in
     rw (← c.self.view_is) (new_nowhere c.self.inside.hdus.items c.self.inside.tail.items c.args.at c.args.kind c.args.axes.now (ap (λ n. is_within c.args.at (n + 1)) many ∙ sym c.is_within.ensures ∙ c.if-not-is_within.true))
 
-pub returns-then-at-eq1 : goal.returns-then-at-eq1
-returns-then-at-eq1 g c =
+pub returns-then-at-eq1-clause-edits : goal.returns-then-at-eq1-clause-edits
+returns-then-at-eq1-clause-edits g c =
     let many : length c.self.inside.hdus.items ≡ c.len.result = omega (arith, c.len.ensures, c.self.inside.hdus.ok.0) in
     rw (← c.self.view_is) (new_first c.self.inside.hdus.items c.self.inside.tail.items c.args.at c.args.kind c.args.axes.now (ap (λ n. is_within c.args.at (n + 1)) many ∙ sym c.is_within.ensures ∙ c.if-not-is_within.false) c.if-at-eq1.true)
 
-pub returns-then-not-are_axes : goal.returns-then-not-are_axes
-returns-then-not-are_axes g c =
+pub returns-then-not-are_axes-clause-edits : goal.returns-then-not-are_axes-clause-edits
+returns-then-not-are_axes-clause-edits g c =
     let many : length c.self.inside.hdus.items ≡ c.len.result = omega (arith, c.len.ensures, c.self.inside.hdus.ok.0) in
     rw (← c.self.view_is) (new_shapeless c.self.inside.hdus.items c.self.inside.tail.items c.args.at c.args.kind c.args.axes.now (ap (λ n. is_within c.args.at (n + 1)) many ∙ sym c.is_within.ensures ∙ c.if-not-is_within.false) c.if-at-eq1.false (ap are_axes (sym c.as_slice.ensures) ∙ sym c.are_axes.ensures ∙ c.if-not-are_axes.true))
 
-pub returns-then-len-ge-HDU_LIMIT : goal.returns-then-len-ge-HDU_LIMIT
-returns-then-len-ge-HDU_LIMIT g c =
+pub returns-then-len-ge-HDU_LIMIT-clause-edits : goal.returns-then-len-ge-HDU_LIMIT-clause-edits
+returns-then-len-ge-HDU_LIMIT-clause-edits g c =
     let many : length c.self.inside.hdus.items ≡ c.len.result = omega (arith, c.len.ensures, c.self.inside.hdus.ok.0) in
     let placed = is_placed (length c.self.inside.hdus.items) c.len.result c.args.at c.args.axes.now c.as_slice.result.now many (sym c.is_within.ensures ∙ c.if-not-is_within.false) c.if-at-eq1.false c.as_slice.ensures (sym c.are_axes.ensures ∙ c.if-not-are_axes.false) in
     rw (← c.self.view_is) (new_too_large c.self.inside.hdus.items c.self.inside.tail.items c.args.at c.args.kind c.args.axes.now placed (inl (grind (arith, c.if-len-ge-HDU_LIMIT.true, c.len-2.ensures, c.self.inside.hdus.ok.0))))
 
-pub returns-in_err-shape : goal.returns-in_err-shape
-returns-in_err-shape g c =
+pub returns-in_err-shape-clause-edits : goal.returns-in_err-shape-clause-edits
+returns-in_err-shape-clause-edits g c =
     let many : length c.self.inside.hdus.items ≡ c.len.result = omega (arith, c.len.ensures, c.self.inside.hdus.ok.0) in
     let placed = is_placed (length c.self.inside.hdus.items) c.len.result c.args.at c.args.axes.now c.as_slice.result.now many (sym c.is_within.ensures ∙ c.if-not-is_within.false) c.if-at-eq1.false c.as_slice.ensures (sym c.are_axes.ensures ∙ c.if-not-are_axes.false) in
     let p = err_from_is_err_and c.from_residual.result c.from_residual.ensures.1 in
     rw (p.1, p.2, ← c.self.view_is) (new_memory c.self.inside.hdus.items c.self.inside.tail.items c.args.at c.args.kind c.args.axes.now placed)
 
-pub returns-in_err-hdu : goal.returns-in_err-hdu
-returns-in_err-hdu g c =
+pub returns-in_err-hdu-clause-edits : goal.returns-in_err-hdu-clause-edits
+returns-in_err-hdu-clause-edits g c =
     let many : length c.self.inside.hdus.items ≡ c.len.result = omega (arith, c.len.ensures, c.self.inside.hdus.ok.0) in
     let placed = is_placed (length c.self.inside.hdus.items) c.len.result c.args.at c.args.axes.now c.as_slice.result.now many (sym c.is_within.ensures ∙ c.if-not-is_within.false) c.if-at-eq1.false c.as_slice.ensures (sym c.are_axes.ensures ∙ c.if-not-are_axes.false) in
     let p = err_from_is_err_and c.from_residual-in_err-hdu.result c.from_residual-in_err-hdu.ensures.1 in
     rw (p.1, p.2, ← c.self.view_is) (new_memory c.self.inside.hdus.items c.self.inside.tail.items c.args.at c.args.kind c.args.axes.now placed)
 
-pub returns-in_err-reserve : goal.returns-in_err-reserve
-returns-in_err-reserve g c =
+pub returns-in_err-reserve-clause-edits : goal.returns-in_err-reserve-clause-edits
+returns-in_err-reserve-clause-edits g c =
     let many : length c.self.inside.hdus.items ≡ c.len.result = omega (arith, c.len.ensures, c.self.inside.hdus.ok.0) in
     let placed = is_placed (length c.self.inside.hdus.items) c.len.result c.args.at c.args.axes.now c.as_slice.result.now many (sym c.is_within.ensures ∙ c.if-not-is_within.false) c.if-at-eq1.false c.as_slice.ensures (sym c.are_axes.ensures ∙ c.if-not-are_axes.false) in
     let p = err_from_is_err_and c.from_residual-in_err-reserve.result c.from_residual-in_err-reserve.ensures.1 in
     rw (p.1, p.2, c.reserve.ensures.items, ← c.self.view_is) (new_memory c.self.inside.hdus.items c.self.inside.tail.items c.args.at c.args.kind c.args.axes.now placed)
 
-pub returns-in_err-reserve-2 : goal.returns-in_err-reserve-2
-returns-in_err-reserve-2 g c =
+pub returns-in_err-reserve-2-clause-edits : goal.returns-in_err-reserve-2-clause-edits
+returns-in_err-reserve-2-clause-edits g c =
     let many : length c.self.inside.hdus.items ≡ c.len.result = omega (arith, c.len.ensures, c.self.inside.hdus.ok.0) in
     let placed = is_placed (length c.self.inside.hdus.items) c.len.result c.args.at c.args.axes.now c.as_slice.result.now many (sym c.is_within.ensures ∙ c.if-not-is_within.false) c.if-at-eq1.false c.as_slice.ensures (sym c.are_axes.ensures ∙ c.if-not-are_axes.false) in
     let p = err_from_is_err_and c.from_residual-in_err-reserve-2.result c.from_residual-in_err-reserve-2.ensures.1 in
@@ -77,8 +78,8 @@ pub invariant_of-self-in_err-reserve-2 : goal.invariant_of-self-in_err-reserve-2
 invariant_of-self-in_err-reserve-2 g c =
     rw c.reserve.ensures.items (kept_as _ c.self.inside.hdus.items c.self.inside.tail.items c.self.inside.len c.self.inside.names.numbers.items c.reserve-2.new.self.numbers.items c.self.inside.names.room c.reserve-2.new.self.room c.reserve-2.ensures.names c.in_err-reserve-2.ensures.err c.self.invariant)
 
-pub returns-in_default : goal.returns-in_default
-returns-in_default g c =
+pub returns-in_default-clause-edits : goal.returns-in_default-clause-edits
+returns-in_default-clause-edits g c =
     let many : length c.self.inside.hdus.items ≡ c.len.result = omega (arith, c.len.ensures, c.self.inside.hdus.ok.0) in
     let placed = is_placed (length c.self.inside.hdus.items) c.len.result c.args.at c.args.axes.now c.as_slice.result.now many (sym c.is_within.ensures ∙ c.if-not-is_within.false) c.if-at-eq1.false c.as_slice.ensures (sym c.are_axes.ensures ∙ c.if-not-are_axes.false) in
     let axes_are : c.in_ok-shape.shape.axes ≡ c.args.axes.now = ap (λ (shape : Shape). shape.axes) c.in_ok-shape.ensures ∙ c.as_slice-2.ensures in
@@ -111,8 +112,8 @@ invariant_of-self-2 g c =
       had = all_inserted (IsHad _) hdus at new (had_held _ new c.in_ok-hdu.ensures.held) c.self.invariant.had;
     })
 
-pub returns : goal.returns
-returns g c =
+pub returns-clause-edits : goal.returns-clause-edits
+returns-clause-edits g c =
     let many : length c.self.inside.hdus.items ≡ c.len.result = omega (arith, c.len.ensures, c.self.inside.hdus.ok.0) in
     let placed = is_placed (length c.self.inside.hdus.items) c.len.result c.args.at c.args.axes.now c.as_slice.result.now many (sym c.is_within.ensures ∙ c.if-not-is_within.false) c.if-at-eq1.false c.as_slice.ensures (sym c.are_axes.ensures ∙ c.if-not-are_axes.false) in
     let axes_are : c.in_ok-shape.shape.axes ≡ c.args.axes.now = ap (λ (shape : Shape). shape.axes) c.in_ok-shape.ensures ∙ c.as_slice-2.ensures in
@@ -121,3 +122,16 @@ returns g c =
     let fits = new_fits c.self.inside.hdus.items c.self.inside.tail.items c.args.at c.args.kind c.args.axes.now placed (grind (arith, c.if-len-ge-HDU_LIMIT.false, c.len-2.ensures, c.self.inside.hdus.ok.0)) (omega (arith, size, long, c.self.invariant.len, c.in-Some.ensures.len, c.in-Some.ensures.within)) in
     let is = c.in_ok-hdu.ensures.hdu ∙ ap (new_image c.args.kind) axes_are in
     rw (c.in-Ok.ensures.items, c.reserve.ensures.items, ← c.self.view_is) (new_made c.self.inside.hdus.items c.self.inside.tail.items c.args.at tt c.args.kind c.args.axes.now c.in_ok-hdu.hdu placed fits is c.in_ok-hdu.ensures.kept c.in_ok-hdu.ensures.work c.in_ok-hdu.ensures.scans)
+
+pub returns-clause-stays : goal.returns-clause-stays
+returns-clause-stays g c = λ bytes lie.
+    let own : AllLie bytes c.self.inside.hdus.items = rw (← c.self.view_is) at lie in
+    rw (c.in-Ok.ensures.items, c.reserve.ensures.items) (all_inserted (IsHad (in_file bytes)) c.self.inside.hdus.items (c.args.at - 1) c.in_ok-hdu.hdu (had_held (in_file bytes) c.in_ok-hdu.hdu c.in_ok-hdu.ensures.held) own)
+
+-- there is room for one more, and none of them changes
+pub returns-in_err-reserve-clause-stays : goal.returns-in_err-reserve-clause-stays
+returns-in_err-reserve-clause-stays g c = rw (c.reserve.ensures.items, ← c.self.view_is) (λ bytes lie. lie)
+
+-- there is room for one more, and none of them changes
+pub returns-in_err-reserve-2-clause-stays : goal.returns-in_err-reserve-2-clause-stays
+returns-in_err-reserve-2-clause-stays g c = rw (c.reserve.ensures.items, ← c.self.view_is) (λ bytes lie. lie)

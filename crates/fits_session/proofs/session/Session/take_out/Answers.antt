@@ -1,6 +1,7 @@
 use Rattle.std.proofs.Common.{ap, length, ◌<◌, ◌∙◌, arith, refl, subst, sym}
 use Rattle.std.specs.List.{remove}
 use Rattle.std.proofs.lemmas.List.Edits.{length-remove}
+use Rattle.fits_session.specs.Away.{in_file, AllLie}
 use Rattle.fits_session.specs.File.{FileParts, file_bytes, IsFile}
 use Rattle.fits_session.specs.NameTable.{Stands}
 use Rattle.fits_session.specs.Keeping.{IsSound}
@@ -17,13 +18,13 @@ use Rattle.fits_session.proofs.ListEditLemmas.{all_left, primary_stays, removed_
 use Rattle.fits_session.proofs.StateLemmas.{file_within, is_at, part_there}
 use Rattle.fits_session.proofs.session.Session.take_out.Goals as goal
 
-pub returns-in_err-i : goal.returns-in_err-i
-returns-in_err-i g c =
+pub returns-in_err-i-clause-edits : goal.returns-in_err-i-clause-edits
+returns-in_err-i-clause-edits g c =
     let p = err_from_is_err_and c.from_residual.result c.from_residual.ensures.1 in
     rw (p.1, p.2, c.in_err-i.ensures.why, ← c.self.view_is) (removes_nowhere c.self.inside.hdus.items c.self.inside.tail.items c.args.h (rw c.deref.ensures.value at c.in_err-i.ensures.none))
 
-pub returns-then-i-eq0 : goal.returns-then-i-eq0
-returns-then-i-eq0 g c = rw (← c.self.view_is) (primary_stays c.self.inside.hdus.items c.self.inside.tail.items c.args.h c.in_ok-i.i (rw c.deref.ensures.value at c.in_ok-i.ensures.found) (grind (arith, c.if-i-eq0.true)))
+pub returns-then-i-eq0-clause-edits : goal.returns-then-i-eq0-clause-edits
+returns-then-i-eq0-clause-edits g c = rw (← c.self.view_is) (primary_stays c.self.inside.hdus.items c.self.inside.tail.items c.args.h c.in_ok-i.i (rw c.deref.ensures.value at c.in_ok-i.ensures.found) (grind (arith, c.if-i-eq0.true)))
 
 pub byte_len-header_len-requires : goal.byte_len-header_len-requires
 byte_len-header_len-requires g c =
@@ -74,8 +75,15 @@ invariant_of-self g c =
       had = had_moved _ c.leave.new.hdus.items (remove hdus c.in_ok-i.i) moved (all_left (IsHad _) hdus c.in_ok-i.i c.self.invariant.had);
     }
 
-pub returns : goal.returns
-returns g c =
+pub returns-clause-edits : goal.returns-clause-edits
+returns-clause-edits g c =
     let behind : 0 < c.in_ok-i.i = grind (arith, c.if-i-eq0.false) in
     let at = (is_at c.self.inside.hdus.items c.deref.result.now c.args.h c.args.h c.in_ok-i.i c.remove-hdu.result c.deref.ensures.value refl c.in_ok-i.ensures.found c.remove-hdu.ensures.value) in
     rw (← c.self.view_is) (removes c.self.inside.hdus.items c.leave.new.hdus.items c.self.inside.tail.items c.args.h c.in_ok-i.i tt c.remove-hdu.result at behind (c.leave.ensures.hdus ∙ ap without_entries c.remove-hdu.ensures.items))
+
+pub returns-clause-stays : goal.returns-clause-stays
+returns-clause-stays g c = λ bytes lie.
+    let hdus = c.self.inside.hdus.items in
+    let own : AllLie bytes hdus = rw (← c.self.view_is) at lie in
+    let moved = c.leave.ensures.hdus ∙ ap without_entries c.remove-hdu.ensures.items in
+    had_moved (in_file bytes) c.leave.new.hdus.items (remove hdus c.in_ok-i.i) moved (all_left (IsHad (in_file bytes)) hdus c.in_ok-i.i own)

@@ -1,5 +1,7 @@
 use Rattle.std.proofs.Common.{refl}
 use Rattle.std.proofs.lemmas.Result.{err_from_is_err_and}
+use Rattle.fits_session.specs.Away.{in_file, AllLie}
+use Rattle.fits_session.proofs.HadLemmas.{kept_in}
 use Rattle.fits_session.proofs.KeptLemmas.{kept_read, uncounted_read}
 use Rattle.fits_session.proofs.QueryLemmas.{value_ok, value_fails, value_asks}
 use Rattle.fits_session.proofs.StateLemmas.{is_at, asked_none}
@@ -44,3 +46,17 @@ returns-clause-asks g c =
     rw (← c.self.view_is) (value_asks c.self.inside.hdus.items c.self.inside.tail.items c.args.h c.in_ok-i.i c.index_mut-hdu.result.now c.value.new.self c.args.name.now
     (is_at c.self.inside.hdus.items c.deref.result.now c.args.h c.args.h c.in_ok-i.i c.index_mut-hdu.result.now c.deref.ensures.value refl c.in_ok-i.ensures.found c.index_mut-hdu.ensures.value)
     c.value.ensures.work)
+
+pub returns-in_err-said-clause-stays : goal.returns-in_err-said-clause-stays
+returns-in_err-said-clause-stays g c = λ bytes lie.
+    let own : AllLie bytes c.self.inside.hdus.items = rw (← c.self.view_is) at lie in
+    (kept_read (in_file bytes) c.self.inside.hdus.items c.self.inside.tail.items c.args.h c.in_ok-i.i c.self.inside.len c.self.inside.names.numbers.items c.self.inside.names.room c.index_mut-hdu.result.now c.value.new.self
+    (is_at c.self.inside.hdus.items c.deref.result.now c.args.h c.args.h c.in_ok-i.i c.index_mut-hdu.result.now c.deref.ensures.value refl c.in_ok-i.ensures.found c.index_mut-hdu.ensures.value)
+    (uncounted_read _ _ _ c.value.ensures.work) (kept_in _ (in_file bytes) _ _ _ _ _ c.self.invariant own)).had
+
+pub returns-clause-stays : goal.returns-clause-stays
+returns-clause-stays g c = λ bytes lie.
+    let own : AllLie bytes c.self.inside.hdus.items = rw (← c.self.view_is) at lie in
+    (kept_read (in_file bytes) c.self.inside.hdus.items c.self.inside.tail.items c.args.h c.in_ok-i.i c.self.inside.len c.self.inside.names.numbers.items c.self.inside.names.room c.index_mut-hdu.result.now c.value.new.self
+    (is_at c.self.inside.hdus.items c.deref.result.now c.args.h c.args.h c.in_ok-i.i c.index_mut-hdu.result.now c.deref.ensures.value refl c.in_ok-i.ensures.found c.index_mut-hdu.ensures.value)
+    (uncounted_read _ _ _ c.value.ensures.work) (kept_in _ (in_file bytes) _ _ _ _ _ c.self.invariant own)).had

@@ -1,24 +1,31 @@
+use Rattle.std.proofs.Common.{◌++◌, subst, None}
+use Rattle.fits_stream.specs.Stream.{Prints, PrintsFront}
+use Rattle.fits_session.specs.File.{joined_hdus}
+use Rattle.fits_session.specs.Away.{in_file, Agree, AllLie}
+use Rattle.fits_stream.proofs.StreamLemmas.{Prints-more, PrintsFront-more}
 use Rattle.std.proofs.lemmas.Result.{err_from_is_err_and}
 use Rattle.fits_session.specs.Session.{hdus_of, Holding}
 use Rattle.fits_session.proofs.KeptLemmas.{marked_counted, kept_counted}
+use Rattle.fits_session.proofs.HadLemmas.{kept_in}
 use Rattle.fits_session.proofs.SaveLemmas.{copy_hdus}
 use Rattle.fits_session.proofs.session.Session.write.Goals as goal
 
 -- the HDUs were read, and nothing else of them changes
 pub invariant_of-self : goal.invariant_of-self
 invariant_of-self g c =
-    let holding : Holding = record { whole = g.H.Holder.whole; told = g.H.Holder.told c.self.inside.holder } in
-    rw c.write_hdus.ensures.told (kept_counted holding c.self.inside.hdus.items c.write_hdus.new.hdus.items c.self.inside.tail.items c.self.inside.len c.self.inside.names.numbers.items c.self.inside.names.room c.write_hdus.ensures.work.hdus c.self.invariant)
+    let holding : Holding = record { whole = g.H.Holder.whole; told = None } in
+    (kept_counted holding c.self.inside.hdus.items c.write_hdus.new.hdus.items c.self.inside.tail.items c.self.inside.len c.self.inside.names.numbers.items c.self.inside.names.room c.write_hdus.ensures.work.hdus c.self.invariant)
 
 pub invariant_of-self-2 : goal.invariant_of-self-2
 invariant_of-self-2 g c =
-    let holding : Holding = record { whole = g.H.Holder.whole; told = g.H.Holder.told c.self.inside.holder } in
-    rw c.write_hdus.ensures.told (kept_counted holding c.self.inside.hdus.items c.write_hdus.new.hdus.items c.self.inside.tail.items c.self.inside.len c.self.inside.names.numbers.items c.self.inside.names.room c.write_hdus.ensures.work.hdus c.self.invariant)
+    let holding : Holding = record { whole = g.H.Holder.whole; told = None } in
+    (kept_counted holding c.self.inside.hdus.items c.write_hdus.new.hdus.items c.self.inside.tail.items c.self.inside.len c.self.inside.names.numbers.items c.self.inside.names.room c.write_hdus.ensures.work.hdus c.self.invariant)
 
 pub returns-in_err-write_hdus-clause-err : goal.returns-in_err-write_hdus-clause-err
-returns-in_err-write_hdus-clause-err g c steady =
+returns-in_err-write_hdus-clause-err g c agree =
+    let own : Agree g.H.Holder.whole c.write_hdus.new.log c.self.inside.hdus.items = rw (← c.self.view_is) at agree in
     let p = err_from_is_err_and c.from_residual.result c.from_residual.ensures.1 in
-    rw (p.1, p.2, ← c.self.view_is) (copy_hdus (hdus_of c.self.inside.hdus.items) c.self.inside.tail.items _ _ c.in_err-write_hdus.field-0.0 (c.in_err-write_hdus.ensures.err steady))
+    rw (p.1, p.2, ← c.self.view_is) (copy_hdus (hdus_of c.self.inside.hdus.items) c.self.inside.tail.items _ _ c.in_err-write_hdus.field-0.0 (c.in_err-write_hdus.ensures.err own))
 
 pub returns-in_err-write_hdus-clause-file : goal.returns-in_err-write_hdus-clause-file
 returns-in_err-write_hdus-clause-file g c = rw (← c.self.view_is) (marked_counted c.self.inside.hdus.items c.write_hdus.new.hdus.items c.self.inside.tail.items c.write_hdus.ensures.work.hdus)
@@ -28,8 +35,35 @@ returns-clause-file g c = rw (← c.self.view_is) (marked_counted c.self.inside.
 
 pub invariant_of-self-in_default : goal.invariant_of-self-in_default
 invariant_of-self-in_default g c =
-    let holding : Holding = record { whole = g.H.Holder.whole; told = g.H.Holder.told c.self.inside.holder } in
-    rw c.write_hdus.ensures.told (kept_counted holding c.self.inside.hdus.items c.write_hdus.new.hdus.items c.self.inside.tail.items c.self.inside.len c.self.inside.names.numbers.items c.self.inside.names.room c.write_hdus.ensures.work.hdus c.self.invariant)
+    let holding : Holding = record { whole = g.H.Holder.whole; told = None } in
+    (kept_counted holding c.self.inside.hdus.items c.write_hdus.new.hdus.items c.self.inside.tail.items c.self.inside.len c.self.inside.names.numbers.items c.self.inside.names.room c.write_hdus.ensures.work.hdus c.self.invariant)
 
 pub returns-in_default-clause-file : goal.returns-in_default-clause-file
 returns-in_default-clause-file g c = rw (← c.self.view_is) (marked_counted c.self.inside.hdus.items c.write_hdus.new.hdus.items c.self.inside.tail.items c.write_hdus.ensures.work.hdus)
+
+pub returns-in_default-clause-err : goal.returns-in_default-clause-err
+returns-in_default-clause-err g c = λ agree.
+    let own : Agree g.H.Holder.whole c.write_hdus.new.log c.self.inside.hdus.items = rw (← c.self.view_is) at agree in
+    let all = PrintsFront-more _ _ _ (joined_hdus (hdus_of c.self.inside.hdus.items)) _ (c.in_ok-write_hdus.ensures.ok own) c.in_default.ensures.err in
+    rw (← c.self.view_is) (subst (λ t. PrintsFront (joined_hdus (hdus_of c.self.inside.hdus.items) ++ t) (g.W.Sink.state c.args.sink.now) (g.W.Sink.state c.write_all.new.sink)) c.deref.ensures.value all)
+
+pub returns-clause-ok : goal.returns-clause-ok
+returns-clause-ok g c = λ agree.
+    let own : Agree g.H.Holder.whole c.write_hdus.new.log c.self.inside.hdus.items = rw (← c.self.view_is) at agree in
+    let all = Prints-more _ _ _ (joined_hdus (hdus_of c.self.inside.hdus.items)) _ (c.in_ok-write_hdus.ensures.ok own) c.in-Ok.ensures.ok in
+    rw (← c.self.view_is) (subst (λ t. Prints (joined_hdus (hdus_of c.self.inside.hdus.items) ++ t) (g.W.Sink.state c.args.sink.now) (g.W.Sink.state c.write_all.new.sink)) c.deref.ensures.value all)
+
+pub returns-in_err-write_hdus-clause-stays : goal.returns-in_err-write_hdus-clause-stays
+returns-in_err-write_hdus-clause-stays g c = λ bytes lie.
+    let own : AllLie bytes c.self.inside.hdus.items = rw (← c.self.view_is) at lie in
+    (kept_counted (in_file bytes) c.self.inside.hdus.items c.write_hdus.new.hdus.items c.self.inside.tail.items c.self.inside.len c.self.inside.names.numbers.items c.self.inside.names.room c.write_hdus.ensures.work.hdus (kept_in _ (in_file bytes) _ _ _ _ _ c.self.invariant own)).had
+
+pub returns-clause-stays : goal.returns-clause-stays
+returns-clause-stays g c = λ bytes lie.
+    let own : AllLie bytes c.self.inside.hdus.items = rw (← c.self.view_is) at lie in
+    (kept_counted (in_file bytes) c.self.inside.hdus.items c.write_hdus.new.hdus.items c.self.inside.tail.items c.self.inside.len c.self.inside.names.numbers.items c.self.inside.names.room c.write_hdus.ensures.work.hdus (kept_in _ (in_file bytes) _ _ _ _ _ c.self.invariant own)).had
+
+pub returns-in_default-clause-stays : goal.returns-in_default-clause-stays
+returns-in_default-clause-stays g c = λ bytes lie.
+    let own : AllLie bytes c.self.inside.hdus.items = rw (← c.self.view_is) at lie in
+    (kept_counted (in_file bytes) c.self.inside.hdus.items c.write_hdus.new.hdus.items c.self.inside.tail.items c.self.inside.len c.self.inside.names.numbers.items c.self.inside.names.room c.write_hdus.ensures.work.hdus (kept_in _ (in_file bytes) _ _ _ _ _ c.self.invariant own)).had

@@ -33,3 +33,9 @@ returns-clause-len g c =
     let r = c.in_ok-passed.ensures.ok in
     let same = c.in_ok-hdus.ensures.parts ∙ passed_are c.in_ok-passed.passed.items r.hdus r.each in
     rw same r.len
+
+pub returns-clause-came : goal.returns-clause-came
+returns-clause-came g c = λ none.
+    let r = c.in_ok-passed.ensures.ok in
+    let same = c.in_ok-hdus.ensures.parts ∙ passed_are c.in_ok-passed.passed.items r.hdus r.each in
+    rw same (r.came none)

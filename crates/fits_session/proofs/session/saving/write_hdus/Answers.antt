@@ -1,32 +1,36 @@
-use Rattle.std.proofs.Common.{◌<◌, ◌≤◌, ◌∙◌, length, arith, subst, sym}
+use Rattle.std.proofs.Common.{None, ◌<◌, ◌≤◌, ◌∙◌, length, arith, subst, sym}
 use Rattle.std.proofs.lemmas.Grind.{common_steps}
 use Rattle.std.proofs.lemmas.Result.{err_from_is_err_and}
 use Rattle.fits_hdu.proofs.StateLemmas.{parts_read}
-use Rattle.fits_session.specs.Session.{Holding, IsHad}
-use Rattle.fits_session.proofs.HadLemmas.{had_set}
-use Rattle.fits_session.proofs.SaveLemmas.{Prints-hdu, copy_hdu, like_hdu, words_hdu, hdus_kept, first_read_more, all_read, once_at_end, once_at_most}
+use Rattle.fits_session.specs.Session.{hdus_of, Holding, IsHad}
+use Rattle.fits_session.proofs.StateLemmas.{length-hdus_of}
+use Rattle.fits_session.proofs.HadLemmas.{agree_before, agree_lying, agree_on, had_set}
+use Rattle.fits_session.proofs.SaveLemmas.{Prints-hdu, Prints-hdus, copy_hdu, like_hdu, words_hdu, hdus_kept, first_read_more, all_read, once_at_end, once_at_most}
 use Rattle.fits_session.proofs.session.saving.write_hdus.Goals as goal
 
 pub loop-i-preserved : goal.loop-i-preserved
 loop-i-preserved g c =
     let l : c.loop-i.i < length c.loop-i.hdus.items = omega (arith, c.loop-i.invariant.count) in
     record {
-      printed = λ steady. Prints-hdu _ _ _ c.loop-i.hdus.items _ c.loop-i.i c.index_mut-hdu.result.now c.loop-i.invariant.same l c.index_mut-hdu.ensures.value (c.loop-i.invariant.printed steady) (c.in_ok-emit.ensures.ok steady);
+      printed = λ agree. Prints-hdu _ _ _ c.loop-i.hdus.items _ c.loop-i.i c.index_mut-hdu.result.now c.loop-i.invariant.same l c.index_mut-hdu.ensures.value (c.loop-i.invariant.printed (agree_before _ _ _ _ c.emit.ensures.follows agree))
+          (c.in_ok-emit.ensures.ok (agree_on _ _ c.loop-i.hdus.items c.loop-i.i c.index_mut-hdu.result.now (agree_lying _ _ _ _ c.loop-i.invariant.lie agree) l c.index_mut-hdu.ensures.value));
       like = like_hdu _ _ _ c.loop-i.hdus.items _ c.loop-i.i c.index_mut-hdu.result.now c.loop-i.invariant.same l c.index_mut-hdu.ensures.value c.loop-i.invariant.words c.loop-i.invariant.like c.in_ok-emit.ensures.like;
       words = words_hdu c.loop-i.hdus.items _ c.loop-i.i c.index_mut-hdu.result.now _ c.loop-i.invariant.same l c.index_mut-hdu.ensures.value c.card_count-whole.ensures.whole c.loop-i.invariant.words;
       quiet = c.in_ok-emit.ensures.quiet ∙ c.loop-i.invariant.quiet;
       same = hdus_kept c.loop-i.hdus.items _ c.loop-i.i c.index_mut-hdu.result.now _ c.loop-i.invariant.same l c.index_mut-hdu.ensures.value (parts_read _ _ _ c.emit.ensures.work);
       count = grind (arith, common_steps);
       had = had_set _ c.loop-i.hdus.items c.loop-i.i c.index_mut-hdu.result.now _ _ l c.index_mut-hdu.ensures.value c.emit.ensures.work c.loop-i.invariant.had;
-      told = c.emit.ensures.told ∙ c.loop-i.invariant.told;
+      follows = λ xs is. c.loop-i.invariant.follows xs (c.emit.ensures.follows xs is);
+      lie = λ xs lie. had_set _ c.loop-i.hdus.items c.loop-i.i c.index_mut-hdu.result.now _ _ l c.index_mut-hdu.ensures.value c.emit.ensures.work (c.loop-i.invariant.lie xs lie);
       work = first_read_more _ c.loop-i.hdus.items c.loop-i.i c.index_mut-hdu.result.now _ _ c.loop-i.invariant.work l c.index_mut-hdu.ensures.value c.emit.ensures.work c.in_ok-emit.ensures.all_read;
     }
 
 pub returns-in_err-emit-clause-err : goal.returns-in_err-emit-clause-err
-returns-in_err-emit-clause-err g c steady =
+returns-in_err-emit-clause-err g c agree =
     let l : c.loop-i.i < length c.loop-i.hdus.items = omega (arith, c.loop-i.invariant.count) in
     let p = err_from_is_err_and c.from_residual.result c.from_residual.ensures.1 in
-    rw (p.1, p.2) (copy_hdu _ _ _ c.loop-i.hdus.items _ c.loop-i.i c.index_mut-hdu.result.now c.in_err-emit.field-0.0 c.loop-i.invariant.same l c.index_mut-hdu.ensures.value (c.loop-i.invariant.printed steady) (c.in_err-emit.ensures.err steady))
+    rw (p.1, p.2) (copy_hdu _ _ _ c.loop-i.hdus.items _ c.loop-i.i c.index_mut-hdu.result.now c.in_err-emit.field-0.0 c.loop-i.invariant.same l c.index_mut-hdu.ensures.value (c.loop-i.invariant.printed (agree_before _ _ _ _ c.emit.ensures.follows agree))
+    (c.in_err-emit.ensures.err (agree_on _ _ c.loop-i.hdus.items c.loop-i.i c.index_mut-hdu.result.now (agree_lying _ _ _ _ c.loop-i.invariant.lie agree) l c.index_mut-hdu.ensures.value)))
 
 pub returns-in_err-emit-clause-work : goal.returns-in_err-emit-clause-work
 returns-in_err-emit-clause-work g c =
@@ -46,5 +50,12 @@ returns-clause-all_read g c =
 pub emit-requires : goal.emit-requires
 emit-requires g c =
     let l : c.loop-i.i < length c.loop-i.hdus.items = omega (arith, c.loop-i.invariant.count) in
-    let holding : Holding = record { whole = g.H.Holder.whole; told = g.H.Holder.told c.args.holder.now } in
-    rw c.loop-i.invariant.told (subst (IsHad holding) (sym c.index_mut-hdu.ensures.value) (c.loop-i.invariant.had c.loop-i.i c.index_mut-hdu.result.now l))
+    let holding : Holding = record { whole = g.H.Holder.whole; told = None } in
+    (subst (IsHad holding) (sym c.index_mut-hdu.ensures.value) (c.loop-i.invariant.had c.loop-i.i c.index_mut-hdu.result.now l))
+
+pub returns-in_err-emit-clause-follows : goal.returns-in_err-emit-clause-follows
+returns-in_err-emit-clause-follows g c = λ xs is. c.loop-i.invariant.follows xs (c.emit.ensures.follows xs is)
+
+pub returns-clause-ok : goal.returns-clause-ok
+returns-clause-ok g c = λ agree.
+    Prints-hdus _ _ (hdus_of c.args.hdus.now.items) c.loop-i.i (omega (arith, length-hdus_of c.args.hdus.now.items, c.loop-i.invariant.count)) (c.loop-i.invariant.printed agree)

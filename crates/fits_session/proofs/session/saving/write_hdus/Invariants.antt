@@ -1,5 +1,6 @@
-use Rattle.std.proofs.Common.{All, ◌≡◌, ◌%◌, take, length}
-use Rattle.fits_plane.specs.Again.{PrintsLike}
+use Rattle.std.proofs.Common.{All, ◌≡◌, ◌%◌, take, length, ℕ, List, None, true}
+use Rattle.fits_session.specs.Away.{Agree, AllLie}
+use Rattle.fits_plane.specs.Again.{Follows, PrintsLike}
 use Rattle.fits_stream.specs.Stream.{Prints}
 use Rattle.fits_session.specs.File.{joined_hdus}
 use Rattle.fits_session.specs.Session.{hdus_of, IsHad}
@@ -8,13 +9,14 @@ use Rattle.fits_session.proofs.session.saving.write_hdus.Given as goal
 
 abbrev pub invariant-loop-i : goal.invariant-loop-i
 invariant-loop-i g l = record {
-  printed : g.H.Holder.steady → Prints (joined_hdus (take l.i (hdus_of l.fn.hdus.items))) (g.W.Sink.state l.fn.sink) (g.W.Sink.state l.sink);
+  printed : Agree g.H.Holder.whole l.log l.fn.hdus.items → Prints (joined_hdus (take l.i (hdus_of l.fn.hdus.items))) (g.W.Sink.state l.fn.sink) (g.W.Sink.state l.sink);
   like : PrintsLike (joined_hdus (take l.i (hdus_of l.fn.hdus.items))) (g.W.Sink.state l.fn.sink) (g.W.Sink.state l.sink);
   words : length (joined_hdus (take l.i (hdus_of l.fn.hdus.items))) % 4 ≡ 0;
-  quiet : l.failed ≡ l.fn.failed;
+  quiet : l.log.failures ≡ l.fn.log.failures;
+  follows : Follows l.fn.log l.log;
+  lie : (bytes : List ℕ) → AllLie bytes l.fn.hdus.items → AllLie bytes l.hdus.items;
   same : hdus_of l.hdus.items ≡ hdus_of l.fn.hdus.items;
   count : length l.hdus.items ≡ length l.fn.hdus.items;
-  had : All (IsHad (record { whole = g.H.Holder.whole; told = g.H.Holder.told l.fn.holder })) l.hdus.items;
-  told : g.H.Holder.told l.holder ≡ g.H.Holder.told l.fn.holder;
+  had : All (IsHad (record { whole = g.H.Holder.whole; told = None })) l.hdus.items;
   work : l.hdus.items ≡ first_read l.i l.fn.hdus.items;
 }

@@ -1,5 +1,5 @@
-use Rattle.fits_stream.proofs.StoredLemmas.{past_more}
+use Rattle.fits_stream.proofs.StoredLemmas.{past_grows}
 use Rattle.fits_stream.proofs.file_source.PlacedFile.skip.Goals as goal
 
-pub returns-clause-ok : goal.returns-clause-ok
-returns-clause-ok g c = past_more _ _ _ c.go_past-past.result c.in_ok-more.more c.go_past-past.ensures.ok c.in_ok-more.ensures.ok
+pub returns-in-Err-clause-err : goal.returns-in-Err-clause-err
+returns-in-Err-clause-err g c = past_grows _ _ _ _ c.go_past-past.ensures.ok c.in-Err.ensures.err

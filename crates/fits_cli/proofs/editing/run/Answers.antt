@@ -1,0 +1,28 @@
+use Rattle.std.proofs.Common.{inl, refl}
+use Rattle.fits_cli.proofs.EditingLemmas.{RemarksBy-answered, remarks_exit}
+use Rattle.fits_cli.proofs.EndingLemmas.{ends_exit}
+use Rattle.fits_cli.proofs.UnderWayLemmas.{follows_more, steady_before}
+use Rattle.fits_cli.proofs.editing.run.Goals as goal
+
+pub save_result-requires : goal.save_result-requires
+save_result-requires g c = rw c.deref.ensures.value c.in_ok-before.ensures.ordered
+
+-- the script isn't answered to its end
+pub returns-in_err-before-clause-ends : goal.returns-in_err-before-clause-ends
+returns-in_err-before-clause-ends g c steady parts first file after opened quiet = ends_exit _ _ _ _ _ _ c.from_residual.ensures.1 (inl (c.in_err-before.ensures.err steady parts first file after opened quiet, refl))
+
+pub returns-in_err-before-clause-told : goal.returns-in_err-before-clause-told
+returns-in_err-before-clause-told g c steady parts first file after opened quiet = remarks_exit _ _ _ _ _ _ _ _ c.from_residual.ensures.1 (c.in_err-before.ensures.told steady parts first file after opened quiet)
+
+-- it is
+pub returns-clause-ends : goal.returns-clause-ends
+returns-clause-ends g c steady parts first file after opened quiet =
+    let saves = rw c.deref.ensures.value at (c.save_result.ensures.ends steady) in
+    saves file after _ _ _ _ _ (c.in_ok-before.ensures.ok (steady_before g.H.Holder.whole _ _ c.save_result.ensures.follows steady) parts first file after opened quiet)
+
+pub returns-clause-told : goal.returns-clause-told
+returns-clause-told g c steady parts first file after opened quiet =
+    RemarksBy-answered _ _ _ _ c.answered-before.new.runner.standing c.in_ok-before.before.items c.save_result.result (c.in_ok-before.ensures.ok (steady_before g.H.Holder.whole _ _ c.save_result.ensures.follows steady) parts first file after opened quiet)
+
+pub returns-clause-follows : goal.returns-clause-follows
+returns-clause-follows g c = follows_more _ _ _ c.in_ok-before.ensures.follows c.save_result.ensures.follows

@@ -1,0 +1,27 @@
+use Rattle.std.proofs.Common.{refl}
+use Rattle.std.proofs.lemmas.Result.{err_from_is_err_and}
+use Rattle.fits_cli.proofs.UnderWayLemmas.{lie_on, saves_all, saves_not, steady_agree}
+use Rattle.fits_cli.proofs.runner.Runner.write.Goals as goal
+
+pub invariant_of-self : goal.invariant_of-self
+invariant_of-self g c = record { few = c.self.invariant.few; lie = lie_on _ _ _ _ c.write.ensures.follows c.write.ensures.stays c.self.invariant.lie }
+
+pub invariant_of-self-2 : goal.invariant_of-self-2
+invariant_of-self-2 g c = record { few = c.self.invariant.few; lie = lie_on _ _ _ _ c.write.ensures.follows c.write.ensures.stays c.self.invariant.lie }
+
+pub returns-in_err-write-clause-follows : goal.returns-in_err-write-clause-follows
+returns-in_err-write-clause-follows g c = rw (← c.self.view_is) c.write.ensures.follows
+
+pub returns-clause-follows : goal.returns-clause-follows
+returns-clause-follows g c = rw (← c.self.view_is) c.write.ensures.follows
+
+pub returns-clause-ok : goal.returns-clause-ok
+returns-clause-ok g c steady =
+    let agree = steady_agree g.H.Holder.whole _ _ _ c.write.ensures.follows c.self.invariant.lie steady in
+    saves_all c.args.terms c.args.self.now.standing c.is_spared.result _ _ c.is_spared.ensures c.if-is_spared.false (rw (← c.self.view_is) (c.in_ok-write.ensures.ok agree))
+
+pub returns-in_err-write-clause-err : goal.returns-in_err-write-clause-err
+returns-in_err-write-clause-err g c steady =
+    let exit = err_from_is_err_and c.from_residual.result c.from_residual.ensures.1 in
+    let agree = steady_agree g.H.Holder.whole _ _ _ c.write.ensures.follows c.self.invariant.lie steady in
+    rw (exit.1, exit.2) (saves_not c.args.terms c.args.self.now.standing c.is_spared.result _ _ c.in_err-write.field-0.0 _ c.is_spared.ensures c.if-is_spared.false refl (rw (← c.self.view_is) (c.in_err-write.ensures.err agree)))

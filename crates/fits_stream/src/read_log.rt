@@ -1,0 +1,45 @@
+ghost use Rattle.std.specs.Prelude.{◌≡◌, []};
+
+use crate::came::Came;
+use crate::count::Count;
+use std::marker::Model;
+use std::mem;
+
+/// The reads of a stored file: the bytes that came, each with its place, the places at which none did,
+/// and how many reads failed. It
+/// takes no bytes, and only contracts see it.
+///
+/// Outside this crate it can only be begun anew with none: a `StoredSource` goes on with it.
+#[derive(Drop)]
+pub struct ReadLog {
+    pub(crate) came: Came,
+    pub(crate) failed: Count,
+}
+
+impl Model for ReadLog {
+    ghost use Rattle.fits_stream.specs.Stored.{ReadLogState};
+
+    ghost Value = { ReadLogState };
+
+    ghost view = { λ it. record { came = it.came.log.came; ends = it.came.log.ends; failures = it.failed.total } };
+}
+
+impl ReadLog {
+    /// None so far.
+    pub fn none() -> ReadLog
+        ensures { result ≡ record { came = []; ends = []; failures = 0 } }
+    {
+        ReadLog {
+            came: Came::none(),
+            failed: Count::new(),
+        }
+    }
+
+    /// Those that it has, to be gone on with elsewhere. It is begun anew.
+    pub fn take(&mut self) -> ReadLog
+        ensures value { result ≡ self.old }
+        ensures left { self.new ≡ record { came = []; ends = []; failures = 0 } }
+    {
+        mem::replace(self, ReadLog::none())
+    }
+}
