@@ -5,7 +5,7 @@ use Rattle.std.specs.Result.{IsErrAnd}
 use Rattle.std.proofs.lemmas.Result.{err_from_is_err_and}
 use Rattle.fits_stream.specs.Stream.{SourceState, SinkState, Prints, PrintsFront, StaysQuiet}
 use Rattle.fits_stream.proofs.StreamLemmas.{quiet_read, Prints-flushed}
-use Rattle.fits_session.specs.File.{FileParts}
+use Rattle.fits_session.specs.File.{file_bytes, FileParts}
 use Rattle.fits_session.specs.Report.{report_of}
 use Rattle.fits_session.specs.declared.problem.Problem.{Problem}
 use Rattle.fits_session.proofs.OrderLemmas.{in_order}
@@ -31,7 +31,7 @@ use Rattle.fits_cli.specs.declared.saves.Saves.TheVariants.{Made, Nothing}
 use Rattle.fits_cli.proofs.EditingLemmas.{output_whole, script_told}
 use Rattle.fits_cli.proofs.NewErrorLemmas.{more-new, more_counts, new-more}
 use Rattle.fits_cli.proofs.ReportLemmas.{all_counted}
-use Rattle.fits_cli.proofs.ResultLemmas.{lines_file, own_bytes}
+use Rattle.fits_cli.proofs.ResultLemmas.{lines_file}
 
 -- the run at the end of its script
 unfoldable pub reaches_end : (old new last : RunState) (told told_after : Option SinkState) (now : Standing) (before : List Problem) → last.file ≡ new.file → last.script ≡ new.script → IsAnsweredRun old new told told_after now before → ReachesEnd old last new.printed
@@ -40,23 +40,24 @@ reaches_end old new last told told_after now before file script run =
     let first : Standing = at_first_line old.terms run.parts in
     record {
       run = record {
-        file = run.opened.0;
+        file = file_bytes run.parts;
         script = done.script;
         output = output_of_lines old.terms run.parts (script_lines done.lines done.last);
-        told_file = run.opened.1;
+        told_file = run.opened.told;
         told_script = script_told old.script new.script done.script done.read done.ended;
-        is = output_whole old.terms old.script new.script old.file run.parts now (heard old.printed told) (heard run.mid told_after) run.opened done;
+        is = output_whole old.terms old.script new.script run.parts now (heard old.printed told) (heard run.mid told_after) run.opened.is done;
         printed = Prints-flushed old.printed run.mid new.printed (answers first (script_lines done.lines done.last)) done.answered.said.printed run.flush;
         fault_is = refl;
         read = record { of_file = rw file run.read; of_script = rw script (quiet_read old.script new.script done.script done.read) };
       };
+      gave = rw file run.opened.gave;
       flushed = run.flush.flushed;
       before = report_of run.parts;
       after = report_of now.marked.file;
-      before_is = record { file = run.parts; opened = run.opened.2; all = refl };
+      before_is = record { file = run.parts; opened = run.opened.is; all = refl };
       after_is = record {
         file = (standing_after first (script_lines done.lines done.last)).marked.file;
-        opened = lines_file first (script_lines done.lines done.last) (own_bytes run.opened.0 run.parts run.opened.2);
+        opened = lines_file first (script_lines done.lines done.last) run.opened.is;
         all = ap (λ (s : Standing). report_of s.marked.file) done.answered.left;
       };
     }

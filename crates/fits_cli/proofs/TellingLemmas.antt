@@ -4,11 +4,10 @@ use Rattle.fits_stream.specs.Intake.{Gives}
 use Rattle.fits_hdu.specs.declared.outline.Outline.{Outline}
 use Rattle.fits_session.specs.File.{FileParts}
 use Rattle.fits_session.specs.Reading.{IsOutlineOf}
-use Rattle.fits_cli.specs.Ends.{Opens}
 use Rattle.fits_cli.specs.Faults.{FlushFails}
 use Rattle.fits_cli.specs.Listing.{outlined_lines}
 use Rattle.fits_stream.specs.Stream.{SourceState, SinkState, Flushes, Prints, StaysQuiet}
-use Rattle.fits_cli.specs.Telling.{text_of, PrintingStops, TextIsPrinted, TextIsTold, TextStopsBy}
+use Rattle.fits_cli.specs.Telling.{text_of, Opens, PrintingStops, TextIsPrinted, TextIsTold, TextStopsBy}
 use Rattle.fits_cli.specs.declared.fault.Fault.{Fault}
 use Rattle.fits_cli.specs.declared.fault.Fault.TheVariants.{Refused, ScriptTooLong, Memory, ReadFailed, WriteFailed, Reread as RereadFault}
 use Rattle.fits_cli.specs.declared.telling.Telling.{Telling}

@@ -2,12 +2,15 @@
 use Rattle.std.specs.Prelude.{◌≡◌, ◌⊎◌, ℕ, ◌+◌, ◌<◌, ◌≤◌, Bool, false, true, List, [], ◌∷◌, ◌++◌, length, take, Option, Some, None, Result, Ok, Err, MatchOption}
 use Rattle.std.specs.Io.KnownBytes.{Consumes}
 use Rattle.fits_stream.specs.Agree.{IsOf}
-use Rattle.fits_stream.specs.Intake.{Gives, Tells}
+use Rattle.fits_stream.specs.Gave.{Gave, GaveAll}
+use Rattle.fits_stream.specs.Intake.{Tells}
 use Rattle.fits_stream.specs.Log.{Logs}
 use Rattle.fits_stream.specs.Stored.{ReadLogState}
 use Rattle.fits_stream.specs.Stream.{SourceState, SinkState, FailsOnce, Gains, IsDry, Prints, PrintsFront, StaysQuiet}
-use Rattle.fits_session.specs.File.{FileParts, IsFileOf}
+use Rattle.fits_session.specs.File.{file_bytes, FileParts, IsFile}
+use Rattle.fits_session.specs.Opening.{HasOpenFault}
 use Rattle.fits_session.specs.Report.{IsReportOf}
+use Rattle.fits_session.specs.declared.open_fault.OpenFault.{OpenFault}
 use Rattle.fits_session.specs.declared.problem.Problem.{Problem}
 use Rattle.fits_cli.specs.Answer.{at_first_line, LineNeedsMemory, WantsPixels}
 use Rattle.fits_cli.specs.Faults.{status_of_fault, IsUnchanged}
@@ -57,13 +60,15 @@ pub record ReadsWell (old new : RunState) : Type 0 where
   pub of_file : IsQuiet old.stored old.file new.file
   pub of_script : StaysQuiet old.script new.script
 
--- the file's bytes are these parts
-abbrev pub Opens : SourceState → FileParts → Type 0
-Opens old parts = Gives old (λ bytes. IsFileOf bytes parts)
+-- what a source gave to its end is this file, and all that it had left, as far as it tells that
+pub record GaveFile (old new : SourceState) (parts : FileParts) : Type 0 where
+  pub told : Tells old (file_bytes parts)
+  pub gave : Gave old new (file_bytes parts)
+  pub is : IsFile parts
 
--- this is so of each file with these parts, before and after it was read without a failed call
+-- this is so of each source that gave this file, before and after it was read without a failed call
 abbrev pub OverFile : Bool → FileParts → (SourceState → SourceState → Type 0) → Type 0
-OverFile stored parts Is = (file after : SourceState) → Opens file parts → IsQuiet stored file after → Is file after
+OverFile stored parts Is = (file after : SourceState) → GaveFile file after parts → IsQuiet stored file after → Is file after
 
 -- a stored file of these bytes, of which so many reads have failed
 abbrev pub stored_file : List ℕ → ReadLogState → SourceState
@@ -103,6 +108,7 @@ pub record IsRun (old new : RunState) (answered : SinkState) (fault : Option Fau
 -- bytes that were read and of those that the script makes of them
 pub record ReachesEnd (old new : RunState) (answered : SinkState) : Type 0 where
   pub run : IsRun old new answered None
+  pub gave : Gave old.file new.file run.file
   pub flushed : answered.unflushed ≡ 0
   pub before : List Problem
   pub after : List Problem
@@ -144,15 +150,17 @@ pub record IsUnsound (old new : RunState) (errors warnings : ℕ) : Type 0 where
   pub lines : Prints (new_error_lines (new_errors (check_of old.terms.saves) end.before end.after)) answered new.printed
   pub flushed : new.printed.unflushed ≡ 0
 
--- the file doesn't open: no other stream was touched
-pub record IsRefused (old new : RunState) (fault : Fault) : Type 0 where
-  pub run : IsRun old new new.printed (Some fault)
+-- the file doesn't open, nor would it, whatever else might have come where no read had given none: no other stream was touched
+pub record IsRefused (old new : RunState) (why : OpenFault) : Type 0 where
+  pub run : IsRun old new new.printed (Some (Refused why))
+  pub gave : GaveAll old.file new.file (λ bytes. HasOpenFault bytes why)
   pub script : new.script ≡ old.script
   pub printed : new.printed ≡ old.printed
 
 -- the script is too long: the answers are flushed
 pub record IsTooLong (old new : RunState) : Type 0 where
   pub run : IsRun old new new.printed (Some ScriptTooLong)
+  pub gave : Gave old.file new.file run.file
   pub printed : new.printed.unflushed ≡ 0
 
 -- a run stops at a line that needs this: the answers to the lines before it are flushed
@@ -161,7 +169,7 @@ pub record StopsAtLine (Needs : Marked → LineReading → Type 0) (old new : Ru
   pub lines : List (List ℕ)
   pub line : List ℕ
   pub others : List (List ℕ)
-  pub opened : Opens old.file parts
+  pub opened : GaveFile old.file new.file parts
   pub reached : HasLines old.script new.script (lines ++ line ∷ others)
   pub needs : Needs (standing_after (at_first_line old.terms parts) lines).marked (reading_of line)
   pub printed : Prints (answers (at_first_line old.terms parts) lines) old.printed new.printed
@@ -196,7 +204,7 @@ pub record ScriptFails (old new : RunState) : Type 0 where
   pub parts : FileParts
   pub lines : List (List ℕ)
   pub last : List ℕ
-  pub opened : Opens old.file parts
+  pub opened : GaveFile old.file new.file parts
   pub reached : CameTo old.script new.script lines last
   pub short : length reached.came ≤ SCRIPT_LIMIT
   pub printed : Gains old.printed.contents new.printed.contents (answers (at_first_line old.terms parts) lines)
@@ -207,7 +215,7 @@ pub record AnswersFail (old new : RunState) : Type 0 where
   pub read : ReadsWell old new
   pub parts : FileParts
   pub lines : List (List ℕ)
-  pub opened : Opens old.file parts
+  pub opened : GaveFile old.file new.file parts
   pub reached : HasLines old.script new.script lines
   pub printed : PrintsFront (answers (at_first_line old.terms parts) lines) old.printed new.printed
 
@@ -226,7 +234,7 @@ pub record LacksPixels (old new : RunState) : Type 0 where
 
 -- what stands before a fault that ends a run ahead of saving
 abbrev pub StopsBy : RunState → RunState → Fault → Type 0
-StopsBy old new (Refused why) = IsRefused old new (Refused why)
+StopsBy old new (Refused why) = IsRefused old new why
 StopsBy old new ScriptTooLong = IsTooLong old new
 StopsBy old new Memory = IsOutOfMemory old new ⊎ LacksReport old new
 StopsBy old new ReadFailed = FileFails old new ⊎ ScriptFails old new
@@ -276,35 +284,35 @@ EndsAs old new saved holds end =
     MatchOption end.fault (Succeeds old new saved holds end.status) (λ fault. FailsBy old new saved holds fault × (end.status ≡ status_of_fault fault))
 
 -- remarks were made on lines of a script over a file: those that were answered, or some of the first of them
-pub record AreRemarksOn (terms : Terms) (file script script_after : SourceState) (told told_after : Option SinkState) : Type 0 where
+pub record AreRemarksOn (terms : Terms) (file file_after script script_after : SourceState) (told told_after : Option SinkState) : Type 0 where
   pub parts : FileParts
   pub lines : List (List ℕ)
   pub others : List (List ℕ)
-  pub opened : Opens file parts
+  pub opened : GaveFile file file_after parts
   pub reached : HasLines script script_after (lines ++ others)
   pub made : Remarks (remarks (at_first_line terms parts) lines) told told_after
 
 -- or none were, where the script wasn't reached
-abbrev pub AreToldOf : Terms → SourceState → SourceState → SourceState → Option SinkState → Option SinkState → Type 0
-AreToldOf terms file script script_after told told_after = (told_after ≡ told) ⊎ AreRemarksOn terms file script script_after told told_after
+abbrev pub AreToldOf : Terms → SourceState → SourceState → SourceState → SourceState → Option SinkState → Option SinkState → Type 0
+AreToldOf terms file file_after script script_after told told_after = (told_after ≡ told) ⊎ AreRemarksOn terms file file_after script script_after told told_after
 
 -- remarks were made on all lines of a script over a file
-pub record AreAllRemarks (terms : Terms) (file script : SourceState) (told told_after : Option SinkState) : Type 0 where
+pub record AreAllRemarks (terms : Terms) (file file_after script : SourceState) (told told_after : Option SinkState) : Type 0 where
   pub parts : FileParts
   pub text : List ℕ
   pub lines : List (List ℕ)
   pub last : List ℕ
-  pub opened : Opens file parts
+  pub opened : GaveFile file file_after parts
   pub told_script : Tells script text
   pub cut : IsCutInLines text lines last
   pub made : Remarks (remarks (at_first_line terms parts) (script_lines lines last)) told told_after
 
 -- the remarks of a run: on all lines of its script where it came to its end, else on some of the first
-abbrev pub RemarksBy : Terms → SourceState → SourceState → SourceState → Option SinkState → Option SinkState → Result Edited Fault → Type 0
-RemarksBy terms file script script_after told told_after (Ok it) = AreAllRemarks terms file script told told_after
-RemarksBy terms file script script_after told told_after (Err fault) = AreToldOf terms file script script_after told told_after
+abbrev pub RemarksBy : Terms → SourceState → SourceState → SourceState → SourceState → Option SinkState → Option SinkState → Result Edited Fault → Type 0
+RemarksBy terms file file_after script script_after told told_after (Ok it) = AreAllRemarks terms file file_after script told told_after
+RemarksBy terms file file_after script script_after told told_after (Err fault) = AreToldOf terms file file_after script script_after told told_after
 
 -- the same by its end
-abbrev pub RemarksEndAs : Terms → SourceState → SourceState → SourceState → Option SinkState → Option SinkState → End → Type 0
-RemarksEndAs terms file script script_after told told_after end =
-    MatchOption end.fault (AreAllRemarks terms file script told told_after) (λ fault. AreToldOf terms file script script_after told told_after)
+abbrev pub RemarksEndAs : Terms → SourceState → SourceState → SourceState → SourceState → Option SinkState → Option SinkState → End → Type 0
+RemarksEndAs terms file file_after script script_after told told_after end =
+    MatchOption end.fault (AreAllRemarks terms file file_after script told told_after) (λ fault. AreToldOf terms file file_after script script_after told told_after)

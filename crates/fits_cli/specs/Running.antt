@@ -7,7 +7,7 @@ use Rattle.fits_hdu.specs.State.{HduState}
 use Rattle.fits_session.specs.Away.{AllLie}
 use Rattle.fits_session.specs.File.{FileParts}
 use Rattle.fits_cli.specs.Answer.{Standing, at_first_line, line_answer, line_left, LineNeedsMemory, WantsPixels}
-use Rattle.fits_cli.specs.Ends.{run_by, CameTo, HasLines, IsQuiet, Opens, OverFile, RunState}
+use Rattle.fits_cli.specs.Ends.{run_by, CameTo, GaveFile, HasLines, IsQuiet, OverFile, RunState}
 use Rattle.fits_script.specs.declared.limits.TheConstants.{LINE_LIMIT}
 use Rattle.fits_cli.specs.declared.limits.TheConstants.{SCRIPT_LIMIT}
 use Rattle.fits_script.specs.Line.{reading_of}
@@ -235,7 +235,7 @@ FlushesAnswers (Err ReadFailed) result held holds =
 FlushesAnswers (Err WriteFailed) result held holds = (result ≡ Err WriteFailed) × (holds ≡ held)
 FlushesAnswers (Err (RereadFault why)) result held holds = FlushesThen (Err (RereadFault why)) result held holds
 
--- this is so of each file with the parts that a run has at its first line, before and after it was read without a failed call
+-- this is so of each source that gave the file that a run has at its first line, before and after it was read without a failed call
 abbrev pub OverFirst : Bool → Terms → Standing → (SourceState → SourceState → Type 0) → Type 0
 OverFirst stored terms first Is = (parts : FileParts) → first ≡ at_first_line terms parts → OverFile stored parts Is
 
@@ -243,7 +243,7 @@ OverFirst stored terms first Is = (parts : FileParts) → first ≡ at_first_lin
 -- the report of the file
 pub record IsAnsweredRun (old new : RunState) (told told_after : Option SinkState) (now : Standing) (before : List Problem) : Type 0 where
   pub parts : FileParts
-  pub opened : Opens old.file parts
+  pub opened : GaveFile old.file new.file parts
   pub read : IsQuiet old.stored old.file new.file
   pub mid : SinkState
   pub script : AnswersScript old.script new.script (at_first_line old.terms parts) now (heard old.printed told) (heard mid told_after)

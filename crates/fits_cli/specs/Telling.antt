@@ -8,7 +8,6 @@ use Rattle.fits_session.specs.Opening.{HasOpenFault}
 use Rattle.fits_session.specs.Report.{report_of}
 use Rattle.fits_session.specs.declared.open_fault.OpenFault.{OpenFault}
 use Rattle.fits_session.specs.declared.problem.Problem.{Problem}
-use Rattle.fits_cli.specs.Ends.{Opens}
 use Rattle.fits_cli.specs.Faults.{status_of_fault}
 use Rattle.fits_cli.specs.Listing.{listing}
 use Rattle.fits_cli.specs.Report.{report_text, status_of_report}
@@ -40,6 +39,10 @@ text_of telling.WrongSums file = wrong_summing file
 text_of telling.Untouched file = untouched file
 text_of telling.Statistics file = stating file
 text_of (telling.Report level strict cards) file = report_text level (told_headers cards file) (report_of file)
+
+-- the file's bytes are these parts
+abbrev pub Opens : SourceState → FileParts → Type 0
+Opens old parts = Gives old (λ bytes. IsFileOf bytes parts)
 
 -- the status of a run that has printed it
 abbrev pub status_of_text : Telling → FileParts → ℕ

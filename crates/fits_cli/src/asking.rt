@@ -27,7 +27,7 @@ pub fn run_ask<F: Source, S: Source, O: Sink, E: Sink>(
         (run_by asking false (F.state file.old) (S.state script.old) (O.state out.old))
         (run_by asking false (F.state file.new) (S.state script.new) (O.state out.new))
         saved saved result }
-    ensures told { RemarksEndAs asking (F.state file.old) (S.state script.old) (S.state script.new)
+    ensures told { RemarksEndAs asking (F.state file.old) (F.state file.new) (S.state script.old) (S.state script.new)
         (option_map E.state told.old) (option_map E.state told.new) result }
 {
     let mut nowhere = Watched::new(io::sink());
@@ -47,7 +47,7 @@ pub fn run_ask_stored<F: Stored, S: Source, O: Sink, E: Sink>(
         (run_by asking true file (S.state script.old) (O.state out.old))
         (run_by asking true after (S.state script.new) (O.state out.new))
         saved saved result) }
-    ensures told { OverReads log.old log.new (λ file after. RemarksEndAs asking file
+    ensures told { OverReads log.old log.new (λ file after. RemarksEndAs asking file after
         (S.state script.old) (S.state script.new)
         (option_map E.state told.old) (option_map E.state told.new) result) }
     ensures counted { MatchOption result.fault (log.new.failures ≡ log.old.failures)

@@ -59,7 +59,7 @@ pub fn run_edit_told<F: Source, S: Source, P: Sink, O: Sink, E: Sink>(
         (run_by terms false (F.state file.old) (S.state script.old) (O.state out.old))
         (run_by terms false (F.state file.new) (S.state script.new) (O.state out.new))
         (P.state saved.old) (P.state saved.new) result }
-    ensures told { RemarksBy terms (F.state file.old) (S.state script.old) (S.state script.new)
+    ensures told { RemarksBy terms (F.state file.old) (F.state file.new) (S.state script.old) (S.state script.new)
         (option_map E.state told.old) (option_map E.state told.new) result }
 {
     match Session::read(alloc, file) {
@@ -98,7 +98,7 @@ pub fn run_edit_stored<F: Stored, S: Source, P: Sink, O: Sink, E: Sink>(
         (run_by terms true file (S.state script.old) (O.state out.old))
         (run_by terms true after (S.state script.new) (O.state out.new))
         (P.state saved.old) (P.state saved.new) result) }
-    ensures told { OverReads log.old log.new (λ file after. RemarksBy terms file
+    ensures told { OverReads log.old log.new (λ file after. RemarksBy terms file after
         (S.state script.old) (S.state script.new)
         (option_map E.state told.old) (option_map E.state told.new) result) }
     ensures quiet { OnOk result (log.new.failures ≡ log.old.failures) }
@@ -129,7 +129,7 @@ fn edit<H: Holder + Drop, S: Source, P: Sink, O: Sink, E: Sink>(
         (run_by terms (not H.whole) file (S.state script.old) (O.state out.old))
         (run_by terms (not H.whole) after (S.state script.new) (O.state out.new))
         (P.state saved.old) (P.state saved.new) result) }
-    ensures told { Steady H.whole log.new → OverFile (not H.whole) (file_of session) (λ file after. RemarksBy terms file
+    ensures told { Steady H.whole log.new → OverFile (not H.whole) (file_of session) (λ file after. RemarksBy terms file after
         (S.state script.old) (S.state script.new)
         (option_map E.state told.old) (option_map E.state told.new) result) }
     ensures quiet { OnOk result (log.new.failures ≡ log.old.failures) }
@@ -159,7 +159,7 @@ fn run<H: Holder + Drop, S: Source, P: Sink, O: Sink, E: Sink>(
         (run_by terms (not H.whole) after (S.state script.new) (O.state out.new))
         (P.state saved.old) (P.state saved.new) result) }
     ensures told { Steady H.whole runner.new.log → OverFirst (not H.whole) terms runner.old.standing (λ file after. RemarksBy
-        terms file (S.state script.old) (S.state script.new)
+        terms file after (S.state script.old) (S.state script.new)
         (option_map E.state told.old) (option_map E.state told.new) result) }
     ensures quiet { OnOk result (runner.new.log.failures ≡ runner.old.log.failures) }
     ensures counted { IfErr result (RunCounts runner.old.log.failures runner.new.log.failures
@@ -193,7 +193,7 @@ fn answered<H: Holder + Drop, S: Source, O: Sink, E: Sink>(
         (run_by terms (not H.whole) file (S.state script.old) (O.state out.old))
         (run_by terms (not H.whole) after (S.state script.new) (O.state out.new)) fault)) }
     ensures told { Steady H.whole runner.new.log → OnErr result (OverFirst (not H.whole) terms runner.old.standing
-        (λ file after. AreToldOf terms file (S.state script.old) (S.state script.new)
+        (λ file after. AreToldOf terms file after (S.state script.old) (S.state script.new)
         (option_map E.state told.old) (option_map E.state told.new))) }
     ensures quiet { OnOk result (runner.new.log.failures ≡ runner.old.log.failures) }
     ensures counted { IfErr result (RunCounts runner.old.log.failures runner.new.log.failures

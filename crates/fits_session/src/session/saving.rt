@@ -1,6 +1,6 @@
 //! Writing the file.
 ghost use Rattle.std.specs.Prelude.{◌≡◌, ◌+◌, ◌%◌, ℕ, List, None, true, length, All, IfErr, IsOk, IsErr, OnOk, OnErr};
-ghost use Rattle.fits_plane.specs.Again.{CopyCounts, CopyFails, Follows, PrintsLike};
+ghost use Rattle.fits_plane.specs.Again.{CopyCounts, CopyFails, CopyWrites, Follows, PrintsLike};
 ghost use Rattle.fits_stream.specs.Agree.{IsOf};
 ghost use Rattle.fits_session.specs.Away.{Agree};
 ghost use Rattle.fits_stream.specs.Stream.{Prints, PrintsFront};
@@ -43,7 +43,7 @@ impl Session {
 
 impl<H: Holder + Drop> Session<H> {
     ghost use Rattle.std.specs.Prelude.{◌≡◌, ℕ, List, true, IfErr, OnOk};
-    ghost use Rattle.fits_plane.specs.Again.{CopyCounts, CopyFails, Follows, PrintsLike};
+    ghost use Rattle.fits_plane.specs.Again.{CopyCounts, CopyFails, CopyWrites, Follows, PrintsLike};
     ghost use Rattle.fits_stream.specs.Agree.{IsOf};
     ghost use Rattle.fits_session.specs.Away.{Agree, LieStill};
     ghost use Rattle.fits_stream.specs.Stream.{Prints};
@@ -64,6 +64,7 @@ impl<H: Holder + Drop> Session<H> {
         ensures counted { IfErr result (CopyCounts log.old.failures log.new.failures) }
         ensures follows { Follows log.old log.new }
         ensures written { H.whole ≡ true → IfErr result (λ why. why ≡ CopyFault.Write) }
+        ensures writes { IfErr result (CopyWrites (W.state sink.old) (W.state sink.new)) }
 
         // The file stays, and each card is read once at most.
         ensures file { marked_of self.new ≡ marked_of self.old }
@@ -98,6 +99,7 @@ fn write_hdus<H: Holder, W: Sink>(
         (W.state sink.old) (W.state sink.new)) }
     ensures counted { IfErr result (CopyCounts log.old.failures log.new.failures) }
     ensures written { H.whole ≡ true → IfErr result (λ why. why ≡ CopyFault.Write) }
+    ensures writes { IfErr result (CopyWrites (W.state sink.old) (W.state sink.new)) }
     ensures follows { Follows log.old log.new }
     ensures work { ReadsOnceAtMost hdus.old.items hdus.new.items }
     ensures all_read { OnOk result (hdus.new.items ≡ each_read hdus.old.items) }

@@ -7,4 +7,4 @@ pub returns-clause-ends : goal.returns-clause-ends
 returns-clause-ends g c bytes is saved = rw c.end_of.ensures (EndsAs-asked _ _ _ _ _ _ _ _ _ saved c.run_edit_stored.result (c.run_edit_stored.ensures.ends bytes is))
 
 pub returns-clause-told : goal.returns-clause-told
-returns-clause-told g c bytes is = rw c.end_of.ensures (RemarksEndAs-end asking _ _ _ _ _ c.run_edit_stored.result (c.run_edit_stored.ensures.told bytes is))
+returns-clause-told g c bytes is = rw c.end_of.ensures (RemarksEndAs-end asking _ _ _ _ _ _ c.run_edit_stored.result (c.run_edit_stored.ensures.told bytes is))

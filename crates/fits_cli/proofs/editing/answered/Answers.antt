@@ -26,5 +26,5 @@ returns-clause-ok g c steady parts first file after opened quiet =
 pub returns-in_err-flush_answers-clause-told : goal.returns-in_err-flush_answers-clause-told
 returns-in_err-flush_answers-clause-told g c steady =
     at_exit c.from_residual-in_err-flush_answers.result _ _ c.from_residual-in_err-flush_answers.ensures.1
-    (λ parts first file after opened quiet. AreToldOf-script c.args.terms file _ _ _ _ _ _ c.answer_script-answered.result parts c.answer_script-answered.new.runner.standing opened
+    (λ parts first file after opened quiet. AreToldOf-script c.args.terms file after _ _ _ _ _ _ c.answer_script-answered.result parts c.answer_script-answered.new.runner.standing opened
     (rw (c.in_ok-before.ensures.left, first) at (c.answer_script-answered.ensures.ok steady)) (rw (c.in_ok-before.ensures.left, first) at (c.answer_script-answered.ensures.err steady)))

@@ -12,7 +12,7 @@ pub returns-in_err-before-clause-ends : goal.returns-in_err-before-clause-ends
 returns-in_err-before-clause-ends g c steady parts first file after opened quiet = ends_exit _ _ _ _ _ _ c.from_residual.ensures.1 (inl (c.in_err-before.ensures.err steady parts first file after opened quiet, refl))
 
 pub returns-in_err-before-clause-told : goal.returns-in_err-before-clause-told
-returns-in_err-before-clause-told g c steady parts first file after opened quiet = remarks_exit _ _ _ _ _ _ _ _ c.from_residual.ensures.1 (c.in_err-before.ensures.told steady parts first file after opened quiet)
+returns-in_err-before-clause-told g c steady parts first file after opened quiet = remarks_exit _ _ _ _ _ _ _ _ _ c.from_residual.ensures.1 (c.in_err-before.ensures.told steady parts first file after opened quiet)
 
 -- it is
 pub returns-clause-ends : goal.returns-clause-ends

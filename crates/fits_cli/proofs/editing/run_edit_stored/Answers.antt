@@ -1,7 +1,7 @@
 use Rattle.std.proofs.Common.{inl, refl}
 use Rattle.fits_cli.specs.Ends.{stored_file}
 use Rattle.fits_cli.proofs.EditingLemmas.{StopsBy-opening}
-use Rattle.fits_cli.proofs.StoredLemmas.{opened_of, stops_of}
+use Rattle.fits_cli.proofs.StoredLemmas.{gave_of, opened_of, stops_of}
 use Rattle.fits_cli.proofs.UnderWayLemmas.{follows_more}
 use Rattle.fits_cli.proofs.editing.run_edit_stored.Goals as goal
 
@@ -11,16 +11,16 @@ edit-requires-clause-lie g c = λ bytes is. rw (c.in-Ok.ensures.of bytes is) c.i
 pub returns-in-Ok-clause-ends : goal.returns-in-Ok-clause-ends
 returns-in-Ok-clause-ends g c bytes is =
     c.edit.ensures.ends (λ lies. (bytes, is)) (stored_file bytes c.args.log.now) (stored_file bytes c.edit.new.log)
-    (opened_of bytes c.args.log.now _ c.in-Ok.ensures.ok (c.in-Ok.ensures.of bytes (c.edit.ensures.follows bytes is))) (inl refl)
+    (opened_of bytes c.args.log.now c.edit.new.log _ c.in-Ok.ensures.ok (c.in-Ok.ensures.of bytes (c.edit.ensures.follows bytes is))) (inl refl)
 
 pub returns-in-Ok-clause-told : goal.returns-in-Ok-clause-told
 returns-in-Ok-clause-told g c bytes is =
     c.edit.ensures.told (λ lies. (bytes, is)) (stored_file bytes c.args.log.now) (stored_file bytes c.edit.new.log)
-    (opened_of bytes c.args.log.now _ c.in-Ok.ensures.ok (c.in-Ok.ensures.of bytes (c.edit.ensures.follows bytes is))) (inl refl)
+    (opened_of bytes c.args.log.now c.edit.new.log _ c.in-Ok.ensures.ok (c.in-Ok.ensures.of bytes (c.edit.ensures.follows bytes is))) (inl refl)
 
 pub returns-in-Err-clause-ends : goal.returns-in-Err-clause-ends
 returns-in-Err-clause-ends g c bytes is =
-    inl (rw c.from.ensures (StopsBy-opening _ _ _ refl refl (stops_of bytes c.args.log.now c.read_stored.new.log _ is c.in-Err.ensures.err)), refl)
+    inl (rw c.from.ensures (StopsBy-opening _ _ _ refl refl (stops_of bytes c.args.log.now c.read_stored.new.log _ is c.in-Err.ensures.err) (gave_of bytes c.args.log.now c.read_stored.new.log _ is c.in-Err.ensures.err)), refl)
 
 pub returns-in-Ok-clause-follows : goal.returns-in-Ok-clause-follows
 returns-in-Ok-clause-follows g c = follows_more _ _ _ c.in-Ok.ensures.follows c.edit.ensures.follows

@@ -51,6 +51,6 @@ returns-in_err-save-in-Made-clause-ends g c steady file after script script_afte
 -- it is
 pub returns-in_ok-save-in-Made-clause-ends : goal.returns-in_ok-save-in-Made-clause-ends
 returns-in_ok-save-in-Made-clause-ends g c steady file after script script_after held told told_after run =
-    rw (c.status-in-Made.ensures, c.in_ok-save-in-Made.ensures.left, c.in_ok-found-in-Made.ensures.left)
+    rw (c.status-in-Made.ensures, c.save-in-Made.ensures.standing, c.in_ok-found-in-Made.ensures.left)
     (Succeeds-saved _ _ _ _ told told_after c.args.runner.now.standing c.args.before.now c.in-Made.whole c.in-Made.check c.in_ok-found-in-Made.found.errors c.in_ok-found-in-Made.found.warnings run c.in-Made.is (sym c.is_held_back.ensures ∙ c.if-is_held_back.false)
     (rw c.in-Made.is (record { errors_are = c.in_ok-found-in-Made.ensures.errors; warnings_are = c.in_ok-found-in-Made.ensures.warnings })) (ltb-false _ _ (sym c.are_some.ensures ∙ c.if-are_some.false)) (rw c.in_ok-found-in-Made.ensures.left at (c.in_ok-save-in-Made.ensures.ok steady)) c.in_ok-save-in-Made.ensures.flushed)

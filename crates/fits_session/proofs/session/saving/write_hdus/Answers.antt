@@ -2,6 +2,7 @@ use Rattle.std.proofs.Common.{None, ◌<◌, ◌≤◌, ◌∙◌, length, arith
 use Rattle.std.proofs.lemmas.Grind.{common_steps}
 use Rattle.std.proofs.lemmas.Result.{err_from_is_err_and}
 use Rattle.fits_hdu.proofs.StateLemmas.{parts_read}
+use Rattle.fits_hdu.proofs.PassedLemmas.{writes_more}
 use Rattle.fits_session.specs.Session.{hdus_of, Holding, IsHad}
 use Rattle.fits_session.proofs.StateLemmas.{length-hdus_of}
 use Rattle.fits_session.proofs.HadLemmas.{agree_before, agree_lying, agree_on, had_set}
@@ -59,3 +60,8 @@ returns-in_err-emit-clause-follows g c = λ xs is. c.loop-i.invariant.follows xs
 pub returns-clause-ok : goal.returns-clause-ok
 returns-clause-ok g c = λ agree.
     Prints-hdus _ _ (hdus_of c.args.hdus.now.items) c.loop-i.i (omega (arith, length-hdus_of c.args.hdus.now.items, c.loop-i.invariant.count)) (c.loop-i.invariant.printed agree)
+
+pub returns-in_err-emit-clause-writes : goal.returns-in_err-emit-clause-writes
+returns-in_err-emit-clause-writes g c =
+    let p = err_from_is_err_and c.from_residual.result c.from_residual.ensures.1 in
+    rw (p.1, p.2) (writes_more c.loop-i.invariant.like.like _ _ _ c.in_err-emit.field-0.0 c.loop-i.invariant.like.written c.in_err-emit.ensures.writes)
