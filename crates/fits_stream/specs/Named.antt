@@ -1,7 +1,7 @@
 -- A text with a name before each of its lines (own).
-use Rattle.std.specs.Prelude.{◌≡◌, ℕ, zero, suc, ◌+◌, ◌-◌, ◌==◌, nat_le, Bool, true, false, ◌&&◌, ◌||◌, List, [], ◌∷◌, ◌++◌, length, take, drop, Option, Some, None, IfSome, if◌then◌else◌}
+use Rattle.std.specs.Prelude.{◌≡◌, ◌⊎◌, ℕ, zero, suc, ◌+◌, ◌-◌, ◌==◌, ◌≤◌, nat_le, Bool, true, false, ◌&&◌, ◌||◌, List, [], ◌∷◌, ◌++◌, length, take, drop, Option, Some, None, IfSome, if◌then◌else◌}
 use Rattle.std.specs.Str.{bytes_eq}
-use Rattle.fits_stream.specs.Stream.{Held}
+use Rattle.fits_stream.specs.Stream.{Held, SinkState}
 
 -- whether a line begins after these bytes, where one began before them or not
 abbrev pub line_begins : Bool → List ℕ → Bool
@@ -80,3 +80,8 @@ pub record Naming (O : Type 0) : Type 0 where
   pub left : ℕ
   pub sent : ℕ
   pub unflushed : ℕ
+
+-- as much of the name is left at most as it has; and where no write waits to be passed on none waits in the sink below, once one was made
+pub record IsNaming (name : List ℕ) (left sent unflushed : ℕ) (below : SinkState) : Type 0 where
+  pub within : left ≤ length name
+  pub passed_on : unflushed ≡ 0 → (sent ≡ 0) ⊎ (below.unflushed ≡ 0)

@@ -24,8 +24,7 @@ pub struct NamedLines<'a, O: Sink> {
 }
 
 impl<'a, O: Sink> Model for NamedLines<'a, O> {
-    ghost use Rattle.std.specs.Prelude.{◌≤◌, length};
-    ghost use Rattle.fits_stream.specs.Named.{Naming};
+    ghost use Rattle.fits_stream.specs.Named.{IsNaming, Naming};
 
     ghost Value = { Naming O };
 
@@ -37,7 +36,8 @@ impl<'a, O: Sink> Model for NamedLines<'a, O> {
       unflushed = it.unflushed.total;
     } };
 
-    ghost invariant = { λ it. it.left ≤ length it.name.now };
+    ghost invariant = { λ it. IsNaming it.name.now it.left it.sent.total it.unflushed.total
+        (O.state it.sink) };
 }
 
 impl<'a, O: Sink> NamedLines<'a, O> {
