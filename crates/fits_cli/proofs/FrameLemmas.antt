@@ -12,7 +12,7 @@ use Rattle.fits_session.specs.declared.read_fault.ReadFileFault.{ReadFileFault}
 use Rattle.fits_session.specs.declared.read_fault.ReadFileFault.TheVariants as opening
 use Rattle.fits_cli.specs.Answer.{Standing}
 use Rattle.fits_cli.specs.Faults.{fault_of_copy, fault_of_file, FlushFails, PrintFails}
-use Rattle.fits_cli.specs.Frame.{AnswersLeave, EndLeaves, IsUnanswered, Leaves, LeavesEnd, LeavesFault, LinesLeave, PrintsPart, PrintsSome, ResultLeaves, SavingLeaves, ScriptAnswers, ScriptLeaves}
+use Rattle.fits_cli.specs.Frame.{AnswersLeave, EndLeaves, IsUnanswered, LeavesAs, LeavesEnd, LeavesFault, LinesLeave, PrintsPart, PrintsSome, ResultLeaves, SavingLeaves, ScriptAnswers, ScriptLeaves}
 use Rattle.fits_cli.specs.Output.{saved_bytes}
 use Rattle.fits_cli.specs.Running.{FlushesAnswers}
 use Rattle.fits_cli.specs.declared.edited.Edited.{Edited}
@@ -166,7 +166,7 @@ leaves_result script script' out mid out' saved holds (RereadFault why) answers 
 -- or comes to its end
 pub leaves_answered : (terms : Terms) (script script' : SourceState) (out mid out' saved holds : SinkState) (now : Standing) (result : Result Edited Fault) → ScriptAnswers script script' out mid × (mid.unflushed ≡ 0)
     → OnOk result (PrintsSome mid out') → OnOk result (mid.unflushed ≡ 0 → out'.unflushed ≡ 0) → IfOk result (EndLeaves terms.saves (saved_bytes terms now) saved holds) → IfErr result (ResultLeaves mid out' saved holds)
-    → Leaves terms script script' out out' saved holds result
+    → LeavesAs terms script script' out out' saved holds result
 leaves_answered terms script script' out mid out' saved holds now (Ok it) answers said flushed ends stops = record {
   answers = record { quiet = answers.0.quiet; said = some_more out mid out' answers.0.said said };
   flushed = flushed answers.1;
@@ -185,7 +185,7 @@ leaves_stopped script script' out out' saved WriteFailed p = (p.0, inl (p.1, ref
 leaves_stopped script script' out out' saved (RereadFault why) p = (p.0, p.1, some_none saved)
 
 -- the fault is passed on
-pub leaves_exit : (terms : Terms) (script script' : SourceState) (out out' saved holds : SinkState) (result : Result Edited Fault) (why : Fault) → IsErrAnd result (λ e. e ≡ why) → LeavesFault script script' out out' saved holds why → Leaves terms script script' out out' saved holds result
+pub leaves_exit : (terms : Terms) (script script' : SourceState) (out out' saved holds : SinkState) (result : Result Edited Fault) (why : Fault) → IsErrAnd result (λ e. e ≡ why) → LeavesFault script script' out out' saved holds why → LeavesAs terms script script' out out' saved holds result
 leaves_exit terms script script' out out' saved holds result why is p = let exit = err_from_is_err_and result is in rw (exit.1, exit.2) p
 
 -- a file that doesn't open

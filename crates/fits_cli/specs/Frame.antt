@@ -101,6 +101,6 @@ LeavesFault script script' out out' saved holds WriteFailed =
 LeavesFault script script' out out' saved holds (RereadFault why) = ScriptAnswers script script' out out' × (out'.unflushed ≡ 0) × PrintsSome saved holds
 
 -- what stands then
-abbrev pub Leaves : Terms → SourceState → SourceState → SinkState → SinkState → SinkState → SinkState → Result Edited Fault → Type 0
-Leaves terms script script' out out' saved holds (Ok it) = LeavesEnd terms script script' out out' saved holds it
-Leaves terms script script' out out' saved holds (Err fault) = LeavesFault script script' out out' saved holds fault
+abbrev pub LeavesAs : Terms → SourceState → SourceState → SinkState → SinkState → SinkState → SinkState → Result Edited Fault → Type 0
+LeavesAs terms script script' out out' saved holds (Ok it) = LeavesEnd terms script script' out out' saved holds it
+LeavesAs terms script script' out out' saved holds (Err fault) = LeavesFault script script' out out' saved holds fault

@@ -8,7 +8,7 @@ ghost use Rattle.fits_session.specs.Marked.{unmarked};
 ghost use Rattle.fits_session.specs.Report.{IsListedBefore};
 ghost use Rattle.fits_session.specs.Session.{file_of, marked_of};
 ghost use Rattle.fits_cli.specs.Faults.{FaultCounts, RunCounts};
-ghost use Rattle.fits_cli.specs.Frame.{AnswersLeave, EndLeaves, Leaves, PrintsSome, ResultLeaves, ScriptAnswers};
+ghost use Rattle.fits_cli.specs.Frame.{AnswersLeave, EndLeaves, LeavesAs, PrintsSome, ResultLeaves, ScriptAnswers};
 ghost use Rattle.fits_cli.specs.Output.{saved_bytes};
 ghost use Rattle.fits_cli.specs.Ends.{run, run_by, AreToldOf, EndsAs, EndsBy, OverFile, OverReads, RemarksBy, StopsBy};
 ghost use Rattle.fits_cli.specs.Running.{FlushesAnswers, IsAnsweredRun, OverAnswered, OverFirst, Steady};
@@ -106,7 +106,7 @@ pub fn run_edit_stored<F: Stored, S: Source, P: Sink, O: Sink, E: Sink>(
     ensures quiet { OnOk result (log.new.failures ≡ log.old.failures) }
     ensures counted { IfErr result (RunCounts log.old.failures log.new.failures
         (S.state script.old) (S.state script.new)) }
-    ensures leaves { Leaves terms (S.state script.old) (S.state script.new)
+    ensures leaves { LeavesAs terms (S.state script.old) (S.state script.new)
         (O.state out.old) (O.state out.new) (P.state saved.old) (P.state saved.new) result }
     ensures follows { Follows log.old log.new }
 {
@@ -139,7 +139,7 @@ fn edit<H: Holder + Drop, S: Source, P: Sink, O: Sink, E: Sink>(
     ensures quiet { OnOk result (log.new.failures ≡ log.old.failures) }
     ensures counted { IfErr result (RunCounts log.old.failures log.new.failures
         (S.state script.old) (S.state script.new)) }
-    ensures leaves { Leaves terms (S.state script.old) (S.state script.new)
+    ensures leaves { LeavesAs terms (S.state script.old) (S.state script.new)
         (O.state out.old) (O.state out.new) (P.state saved.old) (P.state saved.new) result }
     ensures follows { Follows log.old log.new }
 {
@@ -170,7 +170,7 @@ fn run<H: Holder + Drop, S: Source, P: Sink, O: Sink, E: Sink>(
     ensures quiet { OnOk result (runner.new.log.failures ≡ runner.old.log.failures) }
     ensures counted { IfErr result (RunCounts runner.old.log.failures runner.new.log.failures
         (S.state script.old) (S.state script.new)) }
-    ensures leaves { Leaves terms (S.state script.old) (S.state script.new)
+    ensures leaves { LeavesAs terms (S.state script.old) (S.state script.new)
         (O.state out.old) (O.state out.new) (P.state saved.old) (P.state saved.new) result }
     ensures follows { Follows runner.old.log runner.new.log }
 {
