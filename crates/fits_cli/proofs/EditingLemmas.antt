@@ -158,11 +158,11 @@ AnswersFail-flush old new mid parts lines others all of_file of_script opened ha
 }
 
 -- two faults in one place
-same_fault : (r : Result (Unit {0}) Fault) (a b : Fault) → r ≡ Err a → r ≡ Err b → a ≡ b
+pub same_fault : (r : Result (Unit {0}) Fault) (a b : Fault) → r ≡ Err a → r ≡ Err b → a ≡ b
 same_fault r a b p q = let e : ◌≡◌ {A = Result (Unit {0}) Fault} (Err a) (Err b) = sym p ∙ q in cc
 
 -- done and a fault in one place
-no_fault : (r : Result (Unit {0}) Fault) (a : Unit {0}) (b : Fault) → r ≡ Ok a → r ≡ Err b → ⊥
+pub no_fault : (r : Result (Unit {0}) Fault) (a : Unit {0}) (b : Fault) → r ≡ Ok a → r ≡ Err b → ⊥
 no_fault r a b p q = let e : ◌≡◌ {A = Result (Unit {0}) Fault} (Ok a) (Err b) = sym p ∙ q in absurd (cc)
 
 -- a fault after the script, with its answers flushed or not

@@ -5,6 +5,7 @@ pub mod EditingLemmas
 pub mod EndingLemmas
 pub mod ExitLemmas
 pub mod LinesLemmas
+pub mod FrameLemmas
 pub mod ListingLemmas
 pub mod NewErrorLemmas
 pub mod NumberedLemmas

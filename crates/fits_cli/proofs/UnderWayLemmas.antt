@@ -1,19 +1,29 @@
 -- What the reads of a file leave of it while a script is answered.
-use Rattle.std.proofs.Common.{◌≡◌, ℕ, List, false, refl, sym, subst, ◌∙◌, inl, inr}
+use Rattle.std.proofs.Common.{◌≡◌, ℕ, zero, suc, ◌+◌, add-one, List, [], ◌∷◌, Some, ap, true, false, refl, sym, subst, ◌∙◌, inl, inr}
 use Rattle.std.specs.Prelude.{Bool, ◌&&◌, not}
+use Rattle.std.specs.List.{slice_get}
 use Rattle.fits_stream.specs.Agree.{IsOf}
 use Rattle.fits_stream.specs.Stored.{ReadLogState}
-use Rattle.fits_hdu.specs.State.{HduState}
+use Rattle.fits_edit.specs.declared.edit.Edit.{Edit as SessionEdit}
+use Rattle.fits_edit.specs.declared.edit.Edit.TheVariants.{Hdu, NewImage, RemoveHdu}
+use Rattle.fits_hdu.specs.Hdu.{HduParts}
+use Rattle.fits_hdu.specs.State.{HduState, parts_of}
+use Rattle.fits_hdu.specs.Work.{Loads}
 use Rattle.fits_stream.specs.Stream.{SinkState, Prints}
-use Rattle.fits_plane.specs.Again.{CopyFails, Follows}
+use Rattle.fits_stream.proofs.StreamLemmas.{Prints-none}
+use Rattle.fits_plane.specs.Again.{CopyFails, Follows, PrintsLike}
 use Rattle.fits_plane.specs.declared.again.CopyFault.{CopyFault}
 use Rattle.fits_plane.specs.declared.again.CopyFault.TheVariants.{Failed, Changed, Write}
-use Rattle.fits_session.specs.Away.{Agree, AllLie, LieStill}
+use Rattle.fits_script.specs.declared.line_reading.LineReading.{LineReading}
+use Rattle.fits_session.specs.Away.{Agree, AllLie, LieStill, LoadsAlone, LoadsAt, LoadsFor}
+use Rattle.fits_session.specs.Edit.{changed_at}
 use Rattle.fits_session.specs.File.{file_bytes}
-use Rattle.fits_cli.specs.Answer.{Standing}
+use Rattle.fits_session.specs.Marked.{Marked}
+use Rattle.fits_session.specs.Session.{hdus_of, kept_of, marked_of, SessionState}
+use Rattle.fits_cli.specs.Answer.{Standing, line_answer, line_left}
 use Rattle.fits_cli.specs.Faults.{fault_of_copy, SaveFails}
 use Rattle.fits_cli.specs.Output.{saved_bytes}
-use Rattle.fits_cli.specs.Running.{Steady}
+use Rattle.fits_cli.specs.Running.{AreLike, IsLike, IsLikeHdu, RepliesLike, Steady}
 use Rattle.fits_cli.specs.declared.fault.Fault.{Fault}
 use Rattle.fits_cli.specs.declared.terms.Terms.{Terms}
 
@@ -56,3 +66,69 @@ pub saves_not : (terms : Terms) (standing : Standing) (spared : Bool) (old new :
 saves_not terms standing spared old new why fault is all so p =
     subst (λ (t : List ℕ). SaveFails t old new fault) (sym (saved_whole terms standing (sym is ∙ all)))
     (subst (SaveFails (file_bytes standing.marked.file) old new) (sym so) (save_fails (file_bytes standing.marked.file) old new why p))
+
+-- it is like what is saved, whatever the reads gave
+pub saves_like : (terms : Terms) (standing : Standing) (spared : Bool) (old new : SinkState) → spared ≡ (terms.spare && not standing.edited) → spared ≡ false → PrintsLike (file_bytes standing.marked.file) old new → PrintsLike (saved_bytes terms standing) old new
+saves_like terms standing spared old new is all p = subst (λ (t : List ℕ). PrintsLike t old new) (sym (saved_whole terms standing (sym is ∙ all))) p
+
+-- nothing is, where it is spared
+pub saves_none : (terms : Terms) (standing : Standing) (spared : Bool) (sink : SinkState) → spared ≡ (terms.spare && not standing.edited) → spared ≡ true → PrintsLike (saved_bytes terms standing) sink sink
+saves_none terms standing spared sink is all =
+    let none : (terms.spare && not standing.edited) ≡ true = sym is ∙ all in
+    rw none (record { like = []; size = refl; total = refl; written = Prints-none sink })
+
+-- an HDU is like itself
+like_hdu : (one : HduParts) → IsLikeHdu one one
+like_hdu one = record { header = refl; size = refl; total = refl }
+
+-- so are those of a file
+like_hdus : (hdus : List HduParts) → AreLike hdus hdus
+like_hdus [] = tt
+like_hdus (one ∷ hdus) = (like_hdu one, like_hdus hdus)
+
+-- and the file
+like_none : (it : Marked) → IsLike it it
+like_none it = record { hdus = like_hdus it.file.hdus; tail = refl; kept = refl }
+
+-- an HDU whose data were loaded is like the one before
+loaded_hdu : (old new : HduState) → Loads old new → IsLikeHdu (parts_of old) (parts_of new)
+loaded_hdu old new loads = record { header = ap (λ (s : HduState). s.header.header) loads.rest; size = loads.size; total = loads.total }
+
+-- as one of those of a file
+loaded_hdus : (i : ℕ) (now : HduState) (hdus : List HduState) → ((one : HduState) → slice_get hdus i ≡ Some one → Loads one now) → AreLike (hdus_of hdus) (hdus_of (changed_at i (λ one. now) hdus))
+loaded_hdus i now [] loads = tt
+loaded_hdus zero now (one ∷ hdus) loads = (loaded_hdu one now (loads one refl), like_hdus (hdus_of hdus))
+loaded_hdus (suc i) now (one ∷ hdus) loads = (like_hdu (parts_of one), loaded_hdus i now hdus loads)
+
+-- their marks stay
+loaded_kept : (i : ℕ) (now : HduState) (hdus : List HduState) → ((one : HduState) → slice_get hdus i ≡ Some one → Loads one now) → kept_of (changed_at i (λ one. now) hdus) ≡ kept_of hdus
+loaded_kept i now [] loads = refl
+loaded_kept zero now (one ∷ hdus) loads = ap (λ k. k ∷ kept_of hdus) (ap (λ (s : HduState). s.kept) (loads one refl).rest)
+loaded_kept (suc i) now (one ∷ hdus) loads = ap (λ ks. one.kept ∷ ks) (loaded_kept i now hdus loads)
+
+-- so a file is like the one before, of which an HDU was loaded
+loaded_alone : (h : ℕ) (old new : SessionState) → LoadsAlone h old new → IsLike (marked_of old) (marked_of new)
+loaded_alone zero old new alone = rw alone.is (like_none (marked_of old))
+loaded_alone (suc i) old new alone =
+    let loads : (one : HduState) → slice_get old.hdus i ≡ Some one → Loads one alone.now = λ one there. alone.loads i one (add-one i) there in
+    rw alone.is (record { hdus = loaded_hdus i alone.now old.hdus loads; tail = refl; kept = loaded_kept i alone.now old.hdus loads })
+
+-- or none was
+pub loaded_at : (h : ℕ) (old new : SessionState) → LoadsAt h old new → IsLike (marked_of old) (marked_of new)
+loaded_at h old new (inl same) = rw same (like_none (marked_of old))
+loaded_at h old new (inr alone) = loaded_alone h old new alone
+
+-- the same for an edit
+pub loaded_for : (edit : SessionEdit) (old new : SessionState) → LoadsFor edit old new → IsLike (marked_of old) (marked_of new)
+loaded_for (Hdu h edit) old new (inl same) = rw same (like_none (marked_of old))
+loaded_for (Hdu h edit) old new (inr needed) = loaded_alone h old new needed.1
+loaded_for (NewImage at kind axes) old new same = rw same (like_none (marked_of old))
+loaded_for (RemoveHdu h) old new same = rw same (like_none (marked_of old))
+
+-- where nothing is read again the file stays
+pub like_same : (old new : SessionState) → new ≡ old → IsLike (marked_of old) (marked_of new)
+like_same old new same = rw same (like_none (marked_of old))
+
+-- a line without a command is answered over the file itself
+pub replies_here : (before now : Standing) (reading : LineReading) (text : List ℕ) → text ≡ line_answer before reading → now ≡ line_left before reading → RepliesLike before now reading text
+replies_here before now reading text said left = record { had = before.marked; like = like_none before.marked; text_is = said; left = left }

@@ -2,6 +2,7 @@ pub mod Answer
 pub mod Cards
 pub mod Ends
 pub mod Faults
+pub mod Frame
 pub mod Listing
 pub mod NewErrors
 pub mod Numbered

@@ -3,7 +3,9 @@ use Rattle.std.specs.Prelude.{◌≡◌, ◌⊎◌, ℕ, Bool, false, ◌+◌, �
 use Rattle.fits_stream.specs.Intake.{Tells}
 use Rattle.fits_stream.specs.Agree.{Agrees, IsOf}
 use Rattle.fits_stream.specs.Stored.{ReadLogState}
+use Rattle.fits_hdu.specs.Hdu.{HduParts}
 use Rattle.fits_hdu.specs.State.{HduState}
+use Rattle.fits_sum.specs.Words.{word_total}
 use Rattle.fits_session.specs.Away.{AllLie}
 use Rattle.fits_session.specs.File.{FileParts}
 use Rattle.fits_cli.specs.Answer.{Standing, at_first_line, line_answer, line_left, LineNeedsMemory, WantsPixels}
@@ -40,6 +42,32 @@ pub record IsUnderWay (hdus : List HduState) (log : ReadLogState) (line refused 
 -- where data are read again from a file its reads agree
 abbrev pub Steady : Bool → ReadLogState → Type 0
 Steady whole log = whole ≡ false → Agrees log
+
+-- an HDU with these cards, whose data unit is as long and has the same total
+pub record IsLikeHdu (one other : HduParts) : Type 0 where
+  pub header : other.header ≡ one.header
+  pub size : length other.data_unit ≡ length one.data_unit
+  pub total : word_total other.data_unit ≡ word_total one.data_unit
+
+-- one by one
+abbrev pub AreLike : List HduParts → List HduParts → Type 0
+AreLike [] [] = Unit {0}
+AreLike [] (other ∷ others) = ⊥
+AreLike (one ∷ hdus) [] = ⊥
+AreLike (one ∷ hdus) (other ∷ others) = IsLikeHdu one other × AreLike hdus others
+
+-- a file like this one, with the same marks: all that a file may be whose data were read again
+pub record IsLike (one other : Marked) : Type 0 where
+  pub hdus : AreLike one.file.hdus other.file.hdus
+  pub tail : other.file.tail ≡ one.file.tail
+  pub kept : other.kept ≡ one.kept
+
+-- a line is answered, and things stand as after it, over a file like the one that stands
+pub record RepliesLike (before now : Standing) (reading : LineReading) (text : List ℕ) : Type 0 where
+  pub had : Marked
+  pub like : IsLike before.marked had
+  pub text_is : text ≡ line_answer (record before { marked = had }) reading
+  pub left : now ≡ line_left (record before { marked = had }) reading
 
 -- what hears of the lines: the sink of their answers, and that of remarks on them, if there is one
 pub record Heard : Type 0 where

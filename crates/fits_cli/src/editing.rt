@@ -8,6 +8,8 @@ ghost use Rattle.fits_session.specs.Marked.{unmarked};
 ghost use Rattle.fits_session.specs.Report.{IsListedBefore};
 ghost use Rattle.fits_session.specs.Session.{file_of, marked_of};
 ghost use Rattle.fits_cli.specs.Faults.{FaultCounts, RunCounts};
+ghost use Rattle.fits_cli.specs.Frame.{AnswersLeave, EndLeaves, LeavesAs, PrintsSome, ResultLeaves, ScriptAnswers};
+ghost use Rattle.fits_cli.specs.Output.{saved_bytes};
 ghost use Rattle.fits_cli.specs.Ends.{run, run_by, AreToldOf, EndsAs, EndsBy, OverFile, OverReads, RemarksBy, StopsBy};
 ghost use Rattle.fits_cli.specs.Running.{FlushesAnswers, IsAnsweredRun, OverAnswered, OverFirst, Steady};
 
@@ -104,6 +106,8 @@ pub fn run_edit_stored<F: Stored, S: Source, P: Sink, O: Sink, E: Sink>(
     ensures quiet { OnOk result (log.new.failures ≡ log.old.failures) }
     ensures counted { IfErr result (RunCounts log.old.failures log.new.failures
         (S.state script.old) (S.state script.new)) }
+    ensures leaves { LeavesAs terms (S.state script.old) (S.state script.new)
+        (O.state out.old) (O.state out.new) (P.state saved.old) (P.state saved.new) result }
     ensures follows { Follows log.old log.new }
 {
     match Session::read_stored(alloc, file, log) {
@@ -135,6 +139,8 @@ fn edit<H: Holder + Drop, S: Source, P: Sink, O: Sink, E: Sink>(
     ensures quiet { OnOk result (log.new.failures ≡ log.old.failures) }
     ensures counted { IfErr result (RunCounts log.old.failures log.new.failures
         (S.state script.old) (S.state script.new)) }
+    ensures leaves { LeavesAs terms (S.state script.old) (S.state script.new)
+        (O.state out.old) (O.state out.new) (P.state saved.old) (P.state saved.new) result }
     ensures follows { Follows log.old log.new }
 {
     let mut runner = Runner::new(session, terms, log.take());
@@ -164,6 +170,8 @@ fn run<H: Holder + Drop, S: Source, P: Sink, O: Sink, E: Sink>(
     ensures quiet { OnOk result (runner.new.log.failures ≡ runner.old.log.failures) }
     ensures counted { IfErr result (RunCounts runner.old.log.failures runner.new.log.failures
         (S.state script.old) (S.state script.new)) }
+    ensures leaves { LeavesAs terms (S.state script.old) (S.state script.new)
+        (O.state out.old) (O.state out.new) (P.state saved.old) (P.state saved.new) result }
     ensures follows { Follows runner.old.log runner.new.log }
 {
     let before = answered(alloc, terms, runner, script, out, told)?;
@@ -198,6 +206,11 @@ fn answered<H: Holder + Drop, S: Source, O: Sink, E: Sink>(
     ensures quiet { OnOk result (runner.new.log.failures ≡ runner.old.log.failures) }
     ensures counted { IfErr result (RunCounts runner.old.log.failures runner.new.log.failures
         (S.state script.old) (S.state script.new)) }
+    ensures said { OnOk result (ScriptAnswers (S.state script.old) (S.state script.new)
+        (O.state out.old) (O.state out.new)) }
+    ensures flushed { OnOk result ((O.state out.new).unflushed ≡ 0) }
+    ensures leaves { IfErr result (AnswersLeave (S.state script.old) (S.state script.new)
+        (O.state out.old) (O.state out.new)) }
     ensures follows { Follows runner.old.log runner.new.log }
 {
     let before = runner.report_for(alloc, terms.saves.check())?;
@@ -241,6 +254,13 @@ fn save_result<H: Holder + Drop, P: Sink, O: Sink>(
         (λ old new. EndsBy old new (P.state saved.old) (P.state saved.new) result) }
     ensures quiet { OnOk result (runner.new.log.failures ≡ runner.old.log.failures) }
     ensures counted { IfErr result (FaultCounts runner.old.log.failures runner.new.log.failures) }
+    ensures said { OnOk result (PrintsSome (O.state out.old) (O.state out.new)) }
+    ensures flushed { OnOk result ((O.state out.old).unflushed ≡ 0
+        → (O.state out.new).unflushed ≡ 0) }
+    ensures like { IfOk result (EndLeaves terms.saves (saved_bytes terms runner.new.standing)
+        (P.state saved.old) (P.state saved.new)) }
+    ensures leaves { IfErr result (ResultLeaves (O.state out.old) (O.state out.new)
+        (P.state saved.old) (P.state saved.new)) }
     ensures follows { Follows runner.old.log runner.new.log }
 {
     match terms.saves {

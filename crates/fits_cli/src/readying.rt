@@ -4,6 +4,7 @@ ghost use Rattle.fits_plane.specs.Again.{Follows, LoadCounts};
 ghost use Rattle.fits_session.specs.Away.{Agree, LieStill};
 ghost use Rattle.fits_session.specs.Session.{marked_of};
 ghost use Rattle.fits_cli.specs.Answer.{CommandWantsPixels, IsReady};
+ghost use Rattle.fits_cli.specs.Running.{IsLike};
 
 use fits_plane::LoadFault;
 use fits_script::Command;
@@ -20,6 +21,7 @@ pub(crate) fn ready<H: Holder + Drop>(
     ensures ready { OnOk result (IsReady command.now session.new.hdus) }
     ensures same { Agree H.whole log.new session.old.hdus
         → OnOk result (marked_of session.new ≡ marked_of session.old) }
+    ensures like { IsLike (marked_of session.old) (marked_of session.new) }
     ensures stays { LieStill session.old.hdus session.new.hdus }
     ensures quiet { OnOk result (log.new.failures ≡ log.old.failures) }
     ensures counted { IfErr result (LoadCounts log.old.failures log.new.failures) }

@@ -59,7 +59,7 @@ impl<H: Holder + Drop> Runner<H> {
     ghost use Rattle.std.specs.Prelude.{◌≡◌, ◌+◌, ◌^◌, ◌<◌, ◌&&◌, ℕ, List, ◌||◌, not, true, AllPairs, if◌then◌else◌, IfOk, IfErr, OnOk, OnErr};
     ghost use Rattle.fits_stream.specs.Agree.{IsOf};
     ghost use Rattle.fits_stream.specs.Stream.{Prints};
-    ghost use Rattle.fits_plane.specs.Again.{Follows};
+    ghost use Rattle.fits_plane.specs.Again.{Follows, PrintsLike};
     ghost use Rattle.fits_session.specs.Away.{AllLie};
     ghost use Rattle.fits_cli.specs.Answer.{at_first_line, line_answer, line_left, LineNeedsMemory};
     ghost use Rattle.fits_script.specs.Line.{reading_of};
@@ -68,7 +68,8 @@ impl<H: Holder + Drop> Runner<H> {
     ghost use Rattle.fits_cli.specs.Report.{errors_in, warnings_in};
     ghost use Rattle.fits_cli.specs.Reply.{counts_as_refused, reply_text};
     ghost use Rattle.fits_cli.specs.Faults.{FaultCounts, IsOnce, SaveFails};
-    ghost use Rattle.fits_cli.specs.Running.{LacksReply, Steady};
+    ghost use Rattle.fits_cli.specs.Frame.{IsUnanswered, SavingLeaves};
+    ghost use Rattle.fits_cli.specs.Running.{LacksReply, RepliesLike, Steady};
     ghost use Rattle.fits_cli.specs.NewErrors.{new_error_lines, new_errors};
     ghost use Rattle.fits_cli.specs.Terms.{holds_back};
     ghost use Rattle.fits_cli.specs.declared.level.Level.TheVariants.{Quiet};
@@ -145,10 +146,13 @@ impl<H: Holder + Drop> Runner<H> {
             ≡ remark_on self.old.standing.marked line.now (reading_of line.now)) }
         ensures left { Steady H.whole self.new.log → OnOk result
             (self.new.standing ≡ line_left self.old.standing (reading_of line.now)) }
+        ensures like { IfOk result (λ reply. RepliesLike self.old.standing self.new.standing
+            (reading_of line.now) (reply_text self.old.standing.line reply)) }
         ensures err { Steady H.whole self.new.log → IfErr result
             (LacksReply self.old.standing.marked (reading_of line.now)) }
         ensures quiet { OnOk result (self.new.log.failures ≡ self.old.log.failures) }
         ensures counted { IfErr result (FaultCounts self.old.log.failures self.new.log.failures) }
+        ensures unanswered { IfErr result IsUnanswered }
         ensures once { H.whole ≡ true → IfErr result IsOnce }
         ensures line { OnOk result (self.new.standing.line ≡ self.old.standing.line + 1) }
         ensures follows { Follows self.old.log self.new.log }
@@ -249,6 +253,9 @@ impl<H: Holder + Drop> Runner<H> {
         ensures quiet { OnOk result (self.new.log.failures ≡ self.old.log.failures) }
         ensures counted { IfErr result (FaultCounts self.old.log.failures self.new.log.failures) }
         ensures once { H.whole ≡ true → IfErr result IsOnce }
+        ensures like { OnOk result (PrintsLike (saved_bytes terms self.old.standing)
+            (P.state saved.old) (P.state saved.new)) }
+        ensures leaves { IfErr result (SavingLeaves (P.state saved.old) (P.state saved.new)) }
         ensures flushed { OnOk result ((P.state saved.new).unflushed ≡ 0) }
         ensures standing { self.new.standing ≡ self.old.standing }
         ensures follows { Follows self.old.log self.new.log }
@@ -266,6 +273,9 @@ impl<H: Holder + Drop> Runner<H> {
         ensures quiet { OnOk result (self.new.log.failures ≡ self.old.log.failures) }
         ensures counted { IfErr result (FaultCounts self.old.log.failures self.new.log.failures) }
         ensures once { H.whole ≡ true → IfErr result IsOnce }
+        ensures like { OnOk result (PrintsLike (saved_bytes terms self.old.standing)
+            (P.state saved.old) (P.state saved.new)) }
+        ensures leaves { IfErr result (SavingLeaves (P.state saved.old) (P.state saved.new)) }
         ensures standing { self.new.standing ≡ self.old.standing }
         ensures follows { Follows self.old.log self.new.log }
     {

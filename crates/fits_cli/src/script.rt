@@ -1,10 +1,12 @@
 //! A script, answered line by line as it comes.
-ghost use Rattle.std.specs.Prelude.{◌≡◌, ◌<◌, ◌≤◌, ◌+◌, ◌^◌, ◌++◌, true, [], length, IfErr, OnOk};
+ghost use Rattle.std.specs.Prelude.{◌≡◌, ◌<◌, ◌≤◌, ◌+◌, ◌^◌, ◌++◌, true, [], length, take, IfErr, IfOk, OnErr, OnOk};
 ghost use Rattle.std.specs.Prelude.{vec_capacity, vec_len};
 ghost use Rattle.std.specs.Option.{option_map};
-ghost use Rattle.fits_stream.specs.Stream.{Prints};
+ghost use Rattle.std.specs.Io.{ReadsAtMost};
+ghost use Rattle.fits_stream.specs.Stream.{FailsToRead, IsDry, Prints, Reads};
 ghost use Rattle.fits_script.specs.Line.{reading_of};
 ghost use Rattle.fits_cli.specs.Faults.{FaultCounts, IsOnce, PrintFails, ScriptCounts};
+ghost use Rattle.fits_cli.specs.Frame.{LinesLeave, PrintsSome, ScriptAnswers, ScriptLeaves};
 ghost use Rattle.fits_cli.specs.Reply.{reply_text};
 ghost use Rattle.fits_plane.specs.Again.{Follows};
 ghost use Rattle.fits_cli.specs.Running.{heard, kept_of, AnswersLine, AnswersScript, Continues, Steady};
@@ -20,6 +22,7 @@ use fits_script::{LINE_LIMIT, split_far};
 use fits_session::Holder;
 use fits_stream::{PIECE_LEN, Sink, Source, buffer_of};
 use std::alloc::Global;
+use std::io;
 
 /// How many bytes of a line are kept until it ends. More aren't needed: it is too long.
 const LINE_ROOM: usize = LINE_LIMIT + 1;
@@ -41,6 +44,8 @@ fn answer_line<H: Holder + Drop, O: Sink, E: Sink>(
         (heard (O.state out.new) (option_map E.state told.new))) }
     ensures quiet { OnOk result (runner.new.log.failures ≡ runner.old.log.failures) }
     ensures counted { IfErr result (FaultCounts runner.old.log.failures runner.new.log.failures) }
+    ensures said { OnOk result (PrintsSome (O.state out.old) (O.state out.new)) }
+    ensures leaves { IfErr result (LinesLeave (O.state out.old) (O.state out.new)) }
     ensures once { H.whole ≡ true → IfErr result IsOnce }
     ensures follows { Follows runner.old.log runner.new.log }
     ensures line { OnOk result (runner.new.standing.line ≡ runner.old.standing.line + 1) }
@@ -109,6 +114,8 @@ fn answer_piece<H: Holder + Drop, O: Sink, E: Sink>(
         (heard (O.state out.new) (option_map E.state told.new))) }
     ensures quiet { OnOk result (runner.new.log.failures ≡ runner.old.log.failures) }
     ensures counted { IfErr result (FaultCounts runner.old.log.failures runner.new.log.failures) }
+    ensures said { OnOk result (PrintsSome (O.state out.old) (O.state out.new)) }
+    ensures leaves { IfErr result (LinesLeave (O.state out.old) (O.state out.new)) }
     ensures once { H.whole ≡ true → IfErr result IsOnce }
     ensures follows { Follows runner.old.log runner.new.log }
     ensures line { OnOk result (runner.new.standing.line ≤ runner.old.standing.line + length piece.now) }
@@ -149,6 +156,8 @@ fn answer_at_once<H: Holder + Drop, O: Sink, E: Sink>(
         (heard (O.state out.new) (option_map E.state told.new))) }
     ensures quiet { OnOk result (runner.new.log.failures ≡ runner.old.log.failures) }
     ensures counted { IfErr result (FaultCounts runner.old.log.failures runner.new.log.failures) }
+    ensures said { OnOk result (PrintsSome (O.state out.old) (O.state out.new)) }
+    ensures leaves { IfErr result (LinesLeave (O.state out.old) (O.state out.new)) }
     ensures once { H.whole ≡ true → IfErr result IsOnce }
     ensures follows { Follows runner.old.log runner.new.log }
     ensures flushed { OnOk result ((O.state out.new).unflushed ≡ 0) }
@@ -177,6 +186,8 @@ fn answer_last_line<H: Holder + Drop, O: Sink, E: Sink>(
         (heard (O.state out.new) (option_map E.state told.new))) }
     ensures quiet { OnOk result (runner.new.log.failures ≡ runner.old.log.failures) }
     ensures counted { IfErr result (FaultCounts runner.old.log.failures runner.new.log.failures) }
+    ensures said { OnOk result (PrintsSome (O.state out.old) (O.state out.new)) }
+    ensures leaves { IfErr result (LinesLeave (O.state out.old) (O.state out.new)) }
     ensures once { H.whole ≡ true → IfErr result IsOnce }
     ensures follows { Follows runner.old.log runner.new.log }
 {
@@ -206,6 +217,10 @@ pub(crate) fn answer_script<H: Holder + Drop, S: Source, O: Sink, E: Sink>(
     ensures quiet { OnOk result (runner.new.log.failures ≡ runner.old.log.failures) }
     ensures counted { IfErr result (ScriptCounts runner.old.log.failures runner.new.log.failures
         (S.state script.old) (S.state script.new)) }
+    ensures said { OnOk result (ScriptAnswers (S.state script.old) (S.state script.new)
+        (O.state out.old) (O.state out.new)) }
+    ensures leaves { IfErr result (ScriptLeaves (S.state script.old) (S.state script.new)
+        (O.state out.old) (O.state out.new)) }
     ensures once { H.whole ≡ true → IfErr result IsOnce }
     ensures follows { Follows runner.old.log runner.new.log }
 {
@@ -220,6 +235,26 @@ pub(crate) fn answer_script<H: Holder + Drop, S: Source, O: Sink, E: Sink>(
         buffer.as_mut_slice(),
         &mut line,
     )
+}
+
+// Reads on in a script, of which so many bytes were taken. What these were answered is passed on by
+// then: who asks by a pipe has it before more is waited for.
+fn read_on<S: Source, O: Sink>(
+    script: &mut S,
+    _out: &O,
+    _taken: usize,
+    piece: &mut [u8],
+) -> io::Result<usize>
+    requires passed_on { 0 < _taken → (O.state _out.now).unflushed ≡ 0 }
+    ensures bound { ReadsAtMost result piece.new }
+    ensures ok { IfOk result (λ count. Reads (take count piece.new)
+        (S.state script.old) (S.state script.new)) }
+    ensures ends { IfOk result (λ count. count ≡ 0 → 0 < length piece.new
+        → IsDry (S.state script.new)) }
+    ensures size { length piece.new ≡ length piece.old }
+    ensures err { OnErr result (FailsToRead (S.state script.old) (S.state script.new)) }
+{
+    script.read(piece)
 }
 
 // Answers a script piece by piece. `piece` and `line` are room for a piece and for a line.
@@ -246,12 +281,16 @@ fn answer_pieces<H: Holder + Drop, S: Source, O: Sink, E: Sink>(
     ensures quiet { OnOk result (runner.new.log.failures ≡ runner.old.log.failures) }
     ensures counted { IfErr result (ScriptCounts runner.old.log.failures runner.new.log.failures
         (S.state script.old) (S.state script.new)) }
+    ensures said { OnOk result (ScriptAnswers (S.state script.old) (S.state script.new)
+        (O.state out.old) (O.state out.new)) }
+    ensures leaves { IfErr result (ScriptLeaves (S.state script.old) (S.state script.new)
+        (O.state out.old) (O.state out.new)) }
     ensures once { H.whole ≡ true → IfErr result IsOnce }
     ensures follows { Follows runner.old.log runner.new.log }
 {
     let mut taken = 0usize;
     loop {
-        let Ok(n) = script.read(piece) else {
+        let Ok(n) = read_on(script, out, taken, piece) else {
             return Err(Fault::ReadFailed);
         };
         if n == 0 {

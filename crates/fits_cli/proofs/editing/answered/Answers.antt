@@ -1,6 +1,7 @@
 use Rattle.std.proofs.Common.{refl}
 use Rattle.fits_cli.proofs.EditingLemmas.{answered_run, AreToldOf-script, StopsBy-script, StopsBy-unread}
 use Rattle.fits_cli.proofs.ExitLemmas.{at_exit, once_or}
+use Rattle.fits_cli.proofs.FrameLemmas.{answers_done, answers_stop, script_none}
 use Rattle.fits_cli.proofs.editing.answered.Goals as goal
 
 -- memory is refused for the file's report
@@ -28,3 +29,17 @@ returns-in_err-flush_answers-clause-told g c steady =
     at_exit c.from_residual-in_err-flush_answers.result _ _ c.from_residual-in_err-flush_answers.ensures.1
     (λ parts first file after opened quiet. AreToldOf-script c.args.terms file after _ _ _ _ _ _ c.answer_script-answered.result parts c.answer_script-answered.new.runner.standing opened
     (rw (c.in_ok-before.ensures.left, first) at (c.answer_script-answered.ensures.ok steady)) (rw (c.in_ok-before.ensures.left, first) at (c.answer_script-answered.ensures.err steady)))
+
+pub returns-clause-said : goal.returns-clause-said
+returns-clause-said g c = (answers_done _ _ _ _ _ c.answer_script-answered.result c.flush_answers.result _ c.in_ok-flush_answers.was c.answer_script-answered.ensures.said c.flush_answers.ensures).0
+
+pub returns-clause-flushed : goal.returns-clause-flushed
+returns-clause-flushed g c = (answers_done _ _ _ _ _ c.answer_script-answered.result c.flush_answers.result _ c.in_ok-flush_answers.was c.answer_script-answered.ensures.said c.flush_answers.ensures).1
+
+pub returns-in_err-before-clause-leaves : goal.returns-in_err-before-clause-leaves
+returns-in_err-before-clause-leaves g c = at_exit c.from_residual.result _ _ c.from_residual.ensures.1 (script_none _ _)
+
+pub returns-in_err-flush_answers-clause-leaves : goal.returns-in_err-flush_answers-clause-leaves
+returns-in_err-flush_answers-clause-leaves g c =
+    at_exit c.from_residual-in_err-flush_answers.result _ _ c.from_residual-in_err-flush_answers.ensures.1
+    (answers_stop _ _ _ _ _ c.answer_script-answered.result c.flush_answers.result _ c.in_err-flush_answers.was c.answer_script-answered.ensures.said c.answer_script-answered.ensures.leaves c.flush_answers.ensures)

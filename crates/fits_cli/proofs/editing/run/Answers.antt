@@ -2,6 +2,7 @@ use Rattle.std.proofs.Common.{inl, refl}
 use Rattle.fits_cli.proofs.EditingLemmas.{RemarksBy-answered, remarks_exit}
 use Rattle.fits_cli.proofs.EndingLemmas.{ends_exit}
 use Rattle.fits_cli.proofs.UnderWayLemmas.{follows_more, steady_before}
+use Rattle.fits_cli.proofs.FrameLemmas.{leaves_answered, leaves_exit, leaves_stopped}
 use Rattle.fits_cli.proofs.editing.run.Goals as goal
 
 pub save_result-requires : goal.save_result-requires
@@ -26,3 +27,12 @@ returns-clause-told g c steady parts first file after opened quiet =
 
 pub returns-clause-follows : goal.returns-clause-follows
 returns-clause-follows g c = follows_more _ _ _ c.in_ok-before.ensures.follows c.save_result.ensures.follows
+
+-- what stands then
+pub returns-in_err-before-clause-leaves : goal.returns-in_err-before-clause-leaves
+returns-in_err-before-clause-leaves g c = leaves_exit _ _ _ _ _ _ _ _ _ c.from_residual.ensures.1 (leaves_stopped _ _ _ _ _ c.in_err-before.field-0.0 c.in_err-before.ensures.leaves)
+
+pub returns-clause-leaves : goal.returns-clause-leaves
+returns-clause-leaves g c =
+    leaves_answered c.args.terms _ _ _ _ _ _ _ c.save_result.new.runner.standing c.save_result.result (c.in_ok-before.ensures.said, c.in_ok-before.ensures.flushed)
+    c.save_result.ensures.said c.save_result.ensures.flushed c.save_result.ensures.like c.save_result.ensures.leaves

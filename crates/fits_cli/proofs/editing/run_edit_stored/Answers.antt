@@ -3,6 +3,7 @@ use Rattle.fits_cli.specs.Ends.{stored_file}
 use Rattle.fits_cli.proofs.EditingLemmas.{StopsBy-opening}
 use Rattle.fits_cli.proofs.StoredLemmas.{gave_of, opened_of, stops_of}
 use Rattle.fits_cli.proofs.UnderWayLemmas.{follows_more}
+use Rattle.fits_cli.proofs.FrameLemmas.{leaves_unread}
 use Rattle.fits_cli.proofs.editing.run_edit_stored.Goals as goal
 
 pub edit-requires-clause-lie : goal.edit-requires-clause-lie
@@ -24,3 +25,6 @@ returns-in-Err-clause-ends g c bytes is =
 
 pub returns-in-Ok-clause-follows : goal.returns-in-Ok-clause-follows
 returns-in-Ok-clause-follows g c = follows_more _ _ _ c.in-Ok.ensures.follows c.edit.ensures.follows
+
+pub returns-in-Err-clause-leaves : goal.returns-in-Err-clause-leaves
+returns-in-Err-clause-leaves g c = rw c.from.ensures (leaves_unread _ _ _ _)

@@ -1,7 +1,8 @@
 use Rattle.std.proofs.Common.{◌∙◌, inl, inr, refl, sym}
 use Rattle.std.proofs.lemmas.Bool.{ltb-true, ltb-false}
 use Rattle.fits_cli.proofs.EndingLemmas.{ends_exit, Kept-back, Lacks-report, New-errors-fail, Saving-fails, Succeeds-asked, Succeeds-saved, Unsound-printed}
-use Rattle.fits_cli.proofs.ExitLemmas.{once_or}
+use Rattle.fits_cli.proofs.ExitLemmas.{once_or, at_exit}
+use Rattle.fits_cli.proofs.FrameLemmas.{result_part, result_saving, some_none}
 use Rattle.fits_cli.proofs.editing.save_result.Goals as goal
 
 -- no result is wanted
@@ -54,3 +55,28 @@ returns-in_ok-save-in-Made-clause-ends g c steady file after script script_after
     rw (c.status-in-Made.ensures, c.save-in-Made.ensures.standing, c.in_ok-found-in-Made.ensures.left)
     (Succeeds-saved _ _ _ _ told told_after c.args.runner.now.standing c.args.before.now c.in-Made.whole c.in-Made.check c.in_ok-found-in-Made.found.errors c.in_ok-found-in-Made.found.warnings run c.in-Made.is (sym c.is_held_back.ensures ∙ c.if-is_held_back.false)
     (rw c.in-Made.is (record { errors_are = c.in_ok-found-in-Made.ensures.errors; warnings_are = c.in_ok-found-in-Made.ensures.warnings })) (ltb-false _ _ (sym c.are_some.ensures ∙ c.if-are_some.false)) (rw c.in_ok-found-in-Made.ensures.left at (c.in_ok-save-in-Made.ensures.ok steady)) c.in_ok-save-in-Made.ensures.flushed)
+
+-- what stands then
+pub returns-in_err-print_at_once-in-Made-clause-leaves : goal.returns-in_err-print_at_once-in-Made-clause-leaves
+returns-in_err-print_at_once-in-Made-clause-leaves g c = at_exit _ _ _ c.from_residual-in_err-print_at_once-in-Made.ensures.1 (result_part _ _ _ _ _ c.in_err-print_at_once-in-Made.ensures.err)
+
+pub returns-then-are_some-clause-said : goal.returns-then-are_some-clause-said
+returns-then-are_some-clause-said g c = record { text = _; printed = c.in_ok-print_at_once-in-Made.ensures.ok }
+
+pub returns-in_err-save-in-Made-clause-leaves : goal.returns-in_err-save-in-Made-clause-leaves
+returns-in_err-save-in-Made-clause-leaves g c = at_exit _ _ _ c.from_residual-in_err-save-in-Made.ensures.1 (result_saving _ _ _ _ c.in_err-save-in-Made.ensures.leaves)
+
+pub returns-in_ok-save-in-Made-clause-like : goal.returns-in_ok-save-in-Made-clause-like
+returns-in_ok-save-in-Made-clause-like g c = rw c.in-Made.is (rw (c.save-in-Made.ensures.standing, c.in_ok-found-in-Made.ensures.left) (rw c.in_ok-found-in-Made.ensures.left at c.in_ok-save-in-Made.ensures.like), c.in_ok-save-in-Made.ensures.flushed)
+
+pub returns-in-Nothing-clause-like : goal.returns-in-Nothing-clause-like
+returns-in-Nothing-clause-like g c = rw c.in-Nothing.is refl
+
+pub returns-in-Nothing-clause-said : goal.returns-in-Nothing-clause-said
+returns-in-Nothing-clause-said g c = some_none _
+
+pub returns-then-is_held_back-clause-said : goal.returns-then-is_held_back-clause-said
+returns-then-is_held_back-clause-said g c = some_none _
+
+pub returns-in_ok-save-in-Made-clause-said : goal.returns-in_ok-save-in-Made-clause-said
+returns-in_ok-save-in-Made-clause-said g c = some_none _

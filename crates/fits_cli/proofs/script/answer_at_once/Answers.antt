@@ -1,5 +1,6 @@
 use Rattle.fits_cli.proofs.ExitLemmas.{last_err, last_ok}
 use Rattle.fits_cli.proofs.ScriptLemmas.{Continues-flushed, PieceStops-unflushed}
+use Rattle.fits_cli.proofs.FrameLemmas.{line_unflushed, some_flushed}
 use Rattle.fits_cli.proofs.script.answer_at_once.Goals as goal
 
 pub returns-clause-ok : goal.returns-clause-ok
@@ -7,3 +8,9 @@ returns-clause-ok g c steady = last_ok _ c.flush.ensures.ok (Continues-flushed _
 
 pub returns-clause-err : goal.returns-clause-err
 returns-clause-err g c steady = last_err _ c.flush.ensures.err (λ why failed. PieceStops-unflushed _ _ _ _ _ _ _ _ _ why (c.in_ok-answer_piece.ensures.ok steady) failed)
+
+pub returns-clause-said : goal.returns-clause-said
+returns-clause-said g c = last_ok _ c.flush.ensures.ok (λ flush. some_flushed _ _ _ c.in_ok-answer_piece.ensures.said flush)
+
+pub returns-clause-leaves : goal.returns-clause-leaves
+returns-clause-leaves g c = last_err _ c.flush.ensures.err (λ why failed. line_unflushed _ _ _ why c.in_ok-answer_piece.ensures.said failed)

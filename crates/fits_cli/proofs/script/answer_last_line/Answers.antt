@@ -1,6 +1,7 @@
 use Rattle.std.proofs.Common.{rules, ◌<◌, ◌≡◌, length}
 use Rattle.fits_cli.proofs.ExitLemmas.{at_exit}
 use Rattle.fits_cli.proofs.RunLemmas.{EndsScript-none, EndsScript-line, EndStops-line}
+use Rattle.fits_cli.proofs.FrameLemmas.{some_none}
 use Rattle.fits_cli.proofs.script.answer_last_line.Goals as goal
 
 pub returns-then-is_empty-clause-ok : goal.returns-then-is_empty-clause-ok
@@ -15,3 +16,6 @@ pub returns-clause-ok : goal.returns-clause-ok
 returns-clause-ok g c steady =
     let some : 0 < length c.args.line.now = search rules in
     EndsScript-line c.args.line.now _ _ _ _ some (c.in_ok-answer_line.ensures.ok steady)
+
+pub returns-then-is_empty-clause-said : goal.returns-then-is_empty-clause-said
+returns-then-is_empty-clause-said g c = some_none _

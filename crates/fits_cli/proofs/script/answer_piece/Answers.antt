@@ -3,6 +3,7 @@ use Rattle.std.proofs.lemmas.List.{length-append}
 use Rattle.fits_cli.proofs.ExitLemmas.{at_exit}
 use Rattle.fits_cli.proofs.UnderWayLemmas.{follows_more, follows_none, steady_before}
 use Rattle.fits_cli.proofs.RunLemmas.{Continues-none, Continues-open, Continues-line, PieceStops-line}
+use Rattle.fits_cli.proofs.FrameLemmas.{line_more, some_more, some_none}
 use Rattle.fits_cli.proofs.script.answer_piece.Goals as goal
 
 pub loop-front-init : goal.loop-front-init
@@ -11,6 +12,7 @@ loop-front-init g c = record {
   split = refl;
   answered = λ steady. Continues-none c.args.line.now.items c.args.runner.now.standing _;
   quiet = refl;
+  said = some_none _;
   follows = follows_none c.args.runner.now.log;
   numbered = omega arith;
   room = c.requires.room;
@@ -50,6 +52,7 @@ loop-front-preserved g c =
           (Continues-line done front c.args.line.now.items c.loop-front.line.items c.keep-in-loop-front.new.line.items c.args.runner.now.standing c.loop-front.runner.standing c.answer_line.new.runner.standing _ _ _
           (inv.answered (steady_before g.H.Holder.whole _ _ c.answer_line.ensures.follows steady)) c.in-Some.ensures.some.0 c.keep-in-loop-front.ensures.kept (rw c.deref.ensures.value at (c.in_ok-answer_line.ensures.ok steady)));
       quiet = c.in_ok-answer_line.ensures.quiet ∙ inv.quiet;
+      said = some_more _ _ _ inv.said c.in_ok-answer_line.ensures.said;
       follows = follows_more _ _ _ inv.follows c.answer_line.ensures.follows;
       numbered = omega (arith, c.in_ok-answer_line.ensures.line, ap length cut, length-append front (10 ∷ next), inv.numbered);
       room = omega (arith, c.clear.ensures.capacity, c.keep-in-loop-front.ensures.room);
@@ -58,3 +61,7 @@ loop-front-preserved g c =
 
 pub returns-in_err-answer_line-clause-follows : goal.returns-in_err-answer_line-clause-follows
 returns-in_err-answer_line-clause-follows g c = follows_more _ _ _ c.loop-front.invariant.follows c.answer_line.ensures.follows
+
+pub returns-in_err-answer_line-clause-leaves : goal.returns-in_err-answer_line-clause-leaves
+returns-in_err-answer_line-clause-leaves g c =
+    at_exit _ _ _ c.from_residual.ensures.1 (line_more _ _ _ c.in_err-answer_line.field-0.0 c.loop-front.invariant.said c.in_err-answer_line.ensures.leaves)

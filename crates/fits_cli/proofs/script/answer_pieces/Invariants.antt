@@ -5,6 +5,7 @@ use Rattle.fits_stream.specs.Stream.{Reads}
 use Rattle.fits_plane.specs.Again.{Follows}
 use Rattle.fits_script.specs.declared.limits.TheConstants.{LINE_LIMIT}
 use Rattle.fits_cli.specs.declared.limits.TheConstants.{SCRIPT_LIMIT}
+use Rattle.fits_cli.specs.Frame.{PrintsSome}
 use Rattle.fits_cli.specs.Running.{heard, HasCome, Steady}
 use Rattle.fits_cli.proofs.script.answer_pieces.Given as goal
 
@@ -15,10 +16,12 @@ invariant-loop-n g l = record {
   counted : l.taken ≡ length came;
   short : l.taken ≤ SCRIPT_LIMIT;
   has : Steady g.H.Holder.whole l.runner.log → HasCome came l.line.items l.fn.runner.standing l.runner.standing (heard (g.O.Sink.state l.fn.out) (option_map g.E.Sink.state l.fn.told)) (heard (g.O.Sink.state l.out) (option_map g.E.Sink.state l.told));
+  said : PrintsSome (g.O.Sink.state l.fn.out) (g.O.Sink.state l.out);
   quiet : l.runner.log.failures ≡ l.fn.runner.log.failures;
   follows : Follows l.fn.runner.log l.runner.log;
   numbered : l.runner.standing.line ≤ l.taken + 1;
   wide : 0 < length l.piece;
+  passed_on : 0 < l.taken → (g.O.Sink.state l.out).unflushed ≡ 0;
   room : LINE_LIMIT + 1 ≤ vec_capacity l.line;
   within : vec_len l.line ≤ LINE_LIMIT + 1;
 }

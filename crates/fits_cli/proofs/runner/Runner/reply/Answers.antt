@@ -4,7 +4,7 @@ use Rattle.fits_cli.specs.Answer.{line_answer, line_left, LineNeedsMemory}
 use Rattle.fits_cli.specs.Remark.{remark_by, remark_on}
 use Rattle.fits_cli.specs.Running.{Steady}
 use Rattle.fits_cli.proofs.RunLemmas.{lacks_pixels}
-use Rattle.fits_cli.proofs.UnderWayLemmas.{lie_on, steady_agree}
+use Rattle.fits_cli.proofs.UnderWayLemmas.{lie_on, steady_agree, replies_here}
 use Rattle.fits_cli.proofs.runner.Runner.reply.Goals as goal
 
 -- the data that the line wants aren't had again
@@ -58,3 +58,7 @@ returns-in_ok-reply-in-Ok-Said-clause-left g c steady =
     let own : Steady g.H.Holder.whole c.ready.new.log = rw c.pass-in-Ok-Said.ensures.log at steady in
     let same = c.in_ok-ready-in-Ok-Said.ensures.same (steady_agree g.H.Holder.whole _ _ _ c.ready.ensures.follows c.self.invariant.lie own) in
     search (rules, same)
+
+pub returns-in_ok-reply-in-Ok-Said-clause-like : goal.returns-in_ok-reply-in-Ok-Said-clause-like
+unfolding line_answer line_left
+returns-in_ok-reply-in-Ok-Said-clause-like g c = record { had = _; like = rw (← c.self.view_is) c.ready.ensures.like; text_is = search rules; left = search rules }

@@ -1,6 +1,7 @@
 use Rattle.std.proofs.Common.{refl}
 use Rattle.std.proofs.lemmas.Result.{err_from_is_err_and}
-use Rattle.fits_cli.proofs.UnderWayLemmas.{lie_on, saves_all, saves_not, steady_agree}
+use Rattle.fits_cli.proofs.FrameLemmas.{saving_of}
+use Rattle.fits_cli.proofs.UnderWayLemmas.{lie_on, saves_all, saves_like, saves_none, saves_not, steady_agree}
 use Rattle.fits_cli.proofs.runner.Runner.write.Goals as goal
 
 pub invariant_of-self : goal.invariant_of-self
@@ -25,3 +26,15 @@ returns-in_err-write-clause-err g c steady =
     let exit = err_from_is_err_and c.from_residual.result c.from_residual.ensures.1 in
     let agree = steady_agree g.H.Holder.whole _ _ _ c.write.ensures.follows c.self.invariant.lie steady in
     rw (exit.1, exit.2) (saves_not c.args.terms c.args.self.now.standing c.is_spared.result _ _ c.in_err-write.field-0.0 _ c.is_spared.ensures c.if-is_spared.false refl (rw (← c.self.view_is) (c.in_err-write.ensures.err agree)))
+
+pub returns-then-is_spared-clause-like : goal.returns-then-is_spared-clause-like
+returns-then-is_spared-clause-like g c = saves_none c.args.terms c.args.self.now.standing c.is_spared.result _ c.is_spared.ensures c.if-is_spared.true
+
+pub returns-clause-like : goal.returns-clause-like
+returns-clause-like g c =
+    saves_like c.args.terms c.args.self.now.standing c.is_spared.result _ _ c.is_spared.ensures c.if-is_spared.false (rw (← c.self.view_is) c.in_ok-write.ensures.like)
+
+pub returns-in_err-write-clause-leaves : goal.returns-in_err-write-clause-leaves
+returns-in_err-write-clause-leaves g c =
+    let exit = err_from_is_err_and c.from_residual.result c.from_residual.ensures.1 in
+    rw (exit.1, exit.2) (saving_of _ _ c.in_err-write.field-0.0 c.in_err-write.ensures.writes)
