@@ -2,7 +2,8 @@ use Rattle.std.proofs.Common.{rules, ◌≡◌, ◌∙◌, ap, sym, subst, take,
 use Rattle.std.proofs.lemmas.Result.{err_from_is_err_and}
 use Rattle.fits_stream.specs.Stream.{Prints}
 use Rattle.fits_sum.specs.Words.{word_total}
-use Rattle.fits_plane.specs.Again.{CopyStops}
+use Rattle.std.specs.Option.{IfSome}
+use Rattle.fits_plane.specs.Again.{Copies, CopyStops}
 use Rattle.fits_plane.proofs.AgainLemmas.{copy_fails, copy_follows, follows_on, unit_read}
 use Rattle.fits_plane.proofs.data_unit.DataUnit.emit_from.Goals as goal
 
@@ -47,3 +48,12 @@ returns-clause-follows g c = follows_on c.in-Some.it.place _ _ _ c.in_ok-total.e
 -- Said, so that a body that breaks it is refused at once.
 pub returns-clause-like : goal.returns-clause-like
 returns-clause-like g c = search rules
+
+pub returns-clause-copied : goal.returns-clause-copied
+returns-clause-copied g c =
+    let p = c.in_ok-total.ensures.ok in
+    let size : length c.args.self.now.plane.bytes ≡ c.byte_len.result = search rules in
+    let total : word_total c.args.self.now.plane.bytes ≡ c.in_ok-total.total = search rules in
+    let said : IfSome c.args.self.now.absent (λ it. Copies it.place c.byte_len.result c.in_ok-total.total c.args.log.now c.copy_again.new.log (g.W.Sink.state c.args.sink.now) (g.W.Sink.state c.copy_again.new.sink)) =
+    rw (← c.self.view_is, c.in-Some.is) p in
+    rw (size, total) said
