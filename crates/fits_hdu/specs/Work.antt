@@ -1,9 +1,13 @@
 -- How much work the calls of an HDU are at most: cards read, blocks scanned, pixels read, nodes joined (own).
-use Rattle.std.specs.Prelude.{◌≡◌, ◌⊎◌, ℕ, ◌+◌, ◌*◌, ◌^◌, ◌≤◌, ℤ, List, length, codes, false, Option, None, Some, if◌then◌else◌}
+use Rattle.std.specs.Prelude.{◌≡◌, ◌⊎◌, ℕ, ◌+◌, ◌*◌, ◌^◌, ◌≤◌, ℤ, List, ◌++◌, length, codes, false, Option, None, Some, if◌then◌else◌}
 use Rattle.std.specs.Ordering.{int_eq}
 use Rattle.std.specs.Option.{option_map_or}
 use Rattle.fits_value.specs.Says.{chain_length}
 use Rattle.fits_rules.specs.Lead.{lead_place}
+use Rattle.fits_card.specs.Header.{header_bytes}
+use Rattle.fits_stream.specs.Stored.{ReadLogState}
+use Rattle.fits_stream.specs.Stream.{SinkState, Prints}
+use Rattle.fits_plane.specs.Again.{IsUnitRead}
 use Rattle.fits_header.specs.Work.{mark_reads}
 use Rattle.fits_plane.specs.Layout.{block_count}
 use Rattle.fits_plane.specs.declared.layout.Layout.{Layout}
@@ -145,6 +149,12 @@ pub record Loads (old new : HduState) : Type 0 where
   pub size : length new.plane.bytes ≡ length old.plane.bytes
   pub rest : new ≡ record old { plane = new.plane; absent = new.absent }
   pub work : IsLoaded (block_count old.plane.bytes) (plane_work old.plane) (plane_work new.plane)
+
+-- an HDU was written: exactly its header, and then its data unit, that in memory or what the reads from its place on gave
+pub record WritesHdu (one : HduState) (log log' : ReadLogState) (old new : SinkState) : Type 0 where
+  pub unit : List ℕ
+  pub are : IsUnitRead one.plane.bytes one.absent log log' unit
+  pub written : Prints (header_bytes one.header.header ++ unit) old new
 
 -- each of so many pixels was read once at most, and each of so many new blocks scanned once at most
 pub record IsRenewed (kept blocks : ℕ) (old new : PixelWork) : Type 0 where

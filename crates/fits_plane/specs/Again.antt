@@ -1,10 +1,12 @@
 -- Bytes of a stored file that are read again (own).
-use Rattle.std.specs.Prelude.{◌≡◌, ◌<◌, ◌≤◌, ℕ, ◌+◌, List, ◌++◌, length, take}
+use Rattle.std.specs.Prelude.{◌≡◌, ◌<◌, ◌≤◌, ℕ, ◌+◌, List, ◌++◌, length, take, Option, MatchOption}
 use Rattle.fits_stream.specs.Agree.{EndsAt, IsOf, ReadsOn, ReadsShort, ReadsSome}
 use Rattle.fits_stream.specs.Log.{IsEnded, Logs}
 use Rattle.fits_stream.specs.Stored.{ReadLogState}
 use Rattle.fits_stream.specs.Stream.{SinkState, SourceState, Prints, PrintsFront, Reads}
 use Rattle.fits_sum.specs.Words.{word_total}
+use Rattle.fits_plane.specs.DataUnit.{Absence}
+use Rattle.fits_plane.specs.Plane.{PlaneState}
 use Rattle.fits_plane.specs.declared.again.CopyFault.{CopyFault}
 use Rattle.fits_plane.specs.declared.again.CopyFault.TheVariants.{Failed, Changed, Write}
 use Rattle.fits_plane.specs.declared.again.LoadFault.{LoadFault}
@@ -108,3 +110,19 @@ pub record PrintsLike (bytes : List ℕ) (old new : SinkState) : Type 0 where
   pub size : length like ≡ length bytes
   pub total : word_total like ≡ word_total bytes
   pub written : Prints like old new
+
+-- these bytes were read from a place on, as many as a data unit has that lies there, with the same total
+pub record ReadsBack (place : ℕ) (unit : List ℕ) (log log' : ReadLogState) (bytes : List ℕ) : Type 0 where
+  pub read : ReadsOn place log log' bytes
+  pub size : length bytes ≡ length unit
+  pub total : word_total bytes ≡ word_total unit
+
+-- these are the bytes of a data unit: those in memory, or such as the reads from its place on gave
+abbrev pub IsUnitRead : List ℕ → Option Absence → ReadLogState → ReadLogState → List ℕ → Type 0
+IsUnitRead unit absent log log' bytes = MatchOption absent (bytes ≡ unit) (λ it. ReadsBack it.place unit log log' bytes)
+
+-- a data unit was written, and so it was had
+pub record CopiesUnit (plane : PlaneState) (absent : Option Absence) (log log' : ReadLogState) (old new : SinkState) : Type 0 where
+  pub bytes : List ℕ
+  pub are : IsUnitRead plane.bytes absent log log' bytes
+  pub written : Prints bytes old new

@@ -44,7 +44,7 @@ impl DataUnit {
     ghost use Rattle.fits_stream.specs.Stream.{Prints, PrintsFront};
     ghost use Rattle.fits_sum.specs.Words.{word_total};
     ghost use Rattle.fits_plane.specs.Converting.{can_store_run, kept_numbers, run_made};
-    ghost use Rattle.fits_plane.specs.Again.{Copies, CopyCounts, CopyFails, CopyWrites, Follows, LoadCounts, PrintsLike};
+    ghost use Rattle.fits_plane.specs.Again.{CopiesUnit, CopyCounts, CopyFails, CopyWrites, Follows, LoadCounts, PrintsLike};
     ghost use Rattle.fits_plane.specs.DataUnit.{IsCounted, LiesIn};
     ghost use Rattle.fits_plane.specs.Statistics.{value_statistics};
     ghost use Rattle.fits_plane.specs.Painting.{Paints, Suits};
@@ -352,9 +352,8 @@ impl DataUnit {
             → OnOk result (Prints self.now.plane.bytes (W.state sink.old) (W.state sink.new)) }
         ensures like { OnOk result (PrintsLike self.now.plane.bytes
             (W.state sink.old) (W.state sink.new)) }
-        ensures copied { OnOk result (IfSome self.now.absent (λ it. Copies it.place
-            (length self.now.plane.bytes) (word_total self.now.plane.bytes)
-            log.old log.new (W.state sink.old) (W.state sink.new))) }
+        ensures copied { OnOk result (CopiesUnit self.now.plane self.now.absent log.old log.new
+            (W.state sink.old) (W.state sink.new)) }
         ensures err { (bytes : List ℕ) → IsOf bytes log.new
             → LiesIn bytes self.now.plane self.now.absent
             → IfErr result (CopyFails self.now.plane.bytes

@@ -12,7 +12,9 @@ use Rattle.fits_stream.proofs.StreamLemmas.{Prints-none, Prints-more, PrintsFron
 use Rattle.fits_header.specs.State.{HeaderState}
 use Rattle.fits_hdu.specs.Hdu.{HduParts, hdu_bytes, IsHdu}
 use Rattle.fits_hdu.specs.State.{HduState, ReadsUpTo, parts_of}
-use Rattle.fits_hdu.specs.Work.{PixelWork, plane_work}
+use Rattle.fits_hdu.specs.Work.{PixelWork, plane_work, WritesHdu}
+use Rattle.fits_session.specs.Away.{WritesHdus}
+use Rattle.fits_stream.specs.Stored.{ReadLogState}
 use Rattle.fits_hdu.proofs.PassedLemmas.{copy_more, hdu_words, like_append, like_printed}
 use Rattle.fits_session.specs.File.{joined_hdus}
 use Rattle.fits_session.specs.Session.{hdus_of, reads_of, works_of, once_read, each_read, uncounted, without_counts, ReadsOnceAtMost}
@@ -152,6 +154,26 @@ read_next (one ∷ before) (hdu ∷ hdus) (suc i) old new most e l is r more =
 -- the same in the loop's words
 pub first_read_more : (before hdus : List HduState) (i : ℕ) (old new : HduState) (most : ℕ) → hdus ≡ first_read i before → i < length hdus → old ≡ get_or hdus i old → ReadsUpTo old new most → new.header.reads ≡ old.header.reads + length old.header.header.cards → set hdus i new ≡ first_read (i + 1) before
 first_read_more before hdus i old new most e l is r more = rw (add-one i) (read_next before hdus i old new most e l is r more)
+
+-- one more is written
+written_more : (before hdus : List HduState) (i : ℕ) (hdu : HduState) (a b c : ReadLogState) (s t u : SinkState) → hdus ≡ first_read i before → i < length hdus → hdu ≡ get_or hdus i hdu → WritesHdus (take i before) a b s t → WritesHdu hdu b c t u → WritesHdus (take (suc i) before) a c s u
+written_more before [] i hdu a b c s t u e l is p q = absurd (omega arith)
+written_more [] (one ∷ hdus) zero hdu a b c s t u e l is p q = absurd (cc)
+written_more [] (one ∷ hdus) (suc i) hdu a b c s t u e l is p q = absurd (cc)
+written_more (one ∷ before) (first ∷ hdus) zero hdu a b c s t u e l is p q =
+    let head : first ≡ one = cc in
+    (c, u, subst (λ (h : HduState). WritesHdu h a c s u) (is ∙ head) (rw (p.0, p.1) at q), refl, refl)
+written_more (one ∷ before) (first ∷ hdus) (suc i) hdu a b c s t u e l is p q =
+    let tail : hdus ≡ first_read i before = cc in
+    (p.0, p.1, p.2, written_more before hdus i hdu p.0 b c p.1 t u tail (omega arith) is p.3 q)
+
+-- the same in the loop's words
+pub WritesHdus-more : (before hdus : List HduState) (i : ℕ) (hdu : HduState) (a b c : ReadLogState) (s t u : SinkState) → hdus ≡ first_read i before → i < length hdus → hdu ≡ get_or hdus i hdu → WritesHdus (take i before) a b s t → WritesHdu hdu b c t u → WritesHdus (take (i + 1) before) a c s u
+WritesHdus-more before hdus i hdu a b c s t u e l is p q = rw (add-one i) (written_more before hdus i hdu a b c s t u e l is p q)
+
+-- in the end all are
+pub WritesHdus-all : (before : List HduState) (i : ℕ) (a b : ReadLogState) (s t : SinkState) → length before ≤ i → WritesHdus (take i before) a b s t → WritesHdus before a b s t
+WritesHdus-all before i a b s t l p = rw (take_all i before l) at p
 
 -- in the end all were read
 first_read_all : (before : List HduState) (i : ℕ) → length before ≤ i → first_read i before ≡ each_read before

@@ -4,12 +4,13 @@ use Rattle.std.specs.List.{slice_get}
 use Rattle.fits_card.specs.Header.{header_bytes}
 use Rattle.fits_stream.specs.Agree.{IsOf}
 use Rattle.fits_stream.specs.Stored.{ReadLogState}
+use Rattle.fits_stream.specs.Stream.{SinkState, Prints}
 use Rattle.fits_plane.specs.DataUnit.{LiesIn}
 use Rattle.fits_plane.specs.Layout.{block_count}
 use Rattle.fits_hdu.specs.Hdu.{HduParts, hdu_bytes}
 use Rattle.fits_hdu.specs.Reading.{passed_parts, IsPassedWhole}
 use Rattle.fits_hdu.specs.State.{HduState, parts_of}
-use Rattle.fits_hdu.specs.Work.{IsKnownAt, IsLoaded, Loads, PixelWork}
+use Rattle.fits_hdu.specs.Work.{IsKnownAt, IsLoaded, Loads, PixelWork, WritesHdu}
 use Rattle.fits_hdu.specs.declared.passed_hdu.PassedHdu.{PassedHdu}
 use Rattle.fits_session.specs.Edit.{changed_of, hdu_of}
 use Rattle.fits_session.specs.File.{FileParts}
@@ -80,3 +81,14 @@ abbrev pub StoredStops : ReadLogState → ReadLogState → ReadFileFault → Typ
 StoredStops old new (Open Memory) = new.failures ≡ old.failures
 StoredStops old new (Open fault) = ((bytes : List ℕ) → IsOf bytes new → HasOpenFault bytes fault) × (new.failures ≡ old.failures)
 StoredStops old new Failed = new.failures ≡ old.failures + 1
+
+-- HDUs were written, one after another
+abbrev pub WritesHdus : List HduState → ReadLogState → ReadLogState → SinkState → SinkState → Type 0
+WritesHdus [] log log' old new = (log' ≡ log) × (new ≡ old)
+WritesHdus (one ∷ hdus) log log' old new = (mid : ReadLogState) × (sink : SinkState) × WritesHdu one log mid old sink × WritesHdus hdus mid log' sink new
+
+-- and then exactly the tail
+pub record WritesFile (session : SessionState) (log log' : ReadLogState) (old new : SinkState) : Type 0 where
+  pub mid : SinkState
+  pub hdus : WritesHdus session.hdus log log' old mid
+  pub tail : Prints session.tail mid new

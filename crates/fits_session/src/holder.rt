@@ -4,7 +4,7 @@ ghost use Rattle.fits_session.specs.Away.{AgreeOn};
 ghost use Rattle.fits_stream.specs.Stream.{Prints};
 ghost use Rattle.fits_hdu.specs.Hdu.{hdu_bytes};
 ghost use Rattle.fits_hdu.specs.State.{parts_of, ReadsUpTo};
-ghost use Rattle.fits_hdu.specs.Work.{Loads};
+ghost use Rattle.fits_hdu.specs.Work.{Loads, WritesHdu};
 ghost use Rattle.fits_session.specs.Session.{IsHad};
 
 use fits_hdu::Hdu;
@@ -43,6 +43,8 @@ pub trait Holder {
         ensures ok { AgreeOn whole log.new hdu.old → OnOk result (Prints (hdu_bytes (parts_of hdu.old))
             (W.state sink.old) (W.state sink.new)) }
         ensures like { OnOk result (PrintsLike (hdu_bytes (parts_of hdu.old))
+            (W.state sink.old) (W.state sink.new)) }
+        ensures copied { OnOk result (WritesHdu hdu.old log.old log.new
             (W.state sink.old) (W.state sink.new)) }
         ensures err { AgreeOn whole log.new hdu.old → IfErr result (CopyFails (hdu_bytes (parts_of hdu.old))
             (W.state sink.old) (W.state sink.new)) }

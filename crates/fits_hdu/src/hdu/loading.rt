@@ -14,7 +14,7 @@ impl Hdu {
     ghost use Rattle.fits_hdu.specs.Hdu.{hdu_bytes};
     ghost use Rattle.fits_hdu.specs.Reading.{passed_parts, IsPassedWhole};
     ghost use Rattle.fits_hdu.specs.State.{parts_of, ReadsUpTo};
-    ghost use Rattle.fits_hdu.specs.Work.{IsKnownAt, Loads};
+    ghost use Rattle.fits_hdu.specs.Work.{IsKnownAt, Loads, WritesHdu};
 
     /// The HDU whose data unit passed by, and lies at this place of a file.
     pub fn away(alloc: Global, passed: PassedHdu, place: u64) -> Result<Hdu, AllocError>
@@ -96,6 +96,8 @@ impl Hdu {
             → OnOk result (Prints (hdu_bytes (parts_of self.old))
             (W.state sink.old) (W.state sink.new)) }
         ensures like { OnOk result (PrintsLike (hdu_bytes (parts_of self.old))
+            (W.state sink.old) (W.state sink.new)) }
+        ensures copied { OnOk result (WritesHdu self.old log.old log.new
             (W.state sink.old) (W.state sink.new)) }
         ensures err { (bytes : List ℕ) → IsOf bytes log.new
             → LiesIn bytes self.old.plane self.old.absent

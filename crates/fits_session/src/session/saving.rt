@@ -2,7 +2,7 @@
 ghost use Rattle.std.specs.Prelude.{◌≡◌, ◌+◌, ◌%◌, ℕ, List, None, true, length, All, IfErr, IsOk, IsErr, OnOk, OnErr};
 ghost use Rattle.fits_plane.specs.Again.{CopyCounts, CopyFails, CopyWrites, Follows, PrintsLike};
 ghost use Rattle.fits_stream.specs.Agree.{IsOf};
-ghost use Rattle.fits_session.specs.Away.{Agree};
+ghost use Rattle.fits_session.specs.Away.{Agree, WritesHdus};
 ghost use Rattle.fits_stream.specs.Stream.{Prints, PrintsFront};
 ghost use Rattle.fits_session.specs.File.{joined_hdus};
 ghost use Rattle.fits_session.specs.Session.{hdus_of, each_read, IsHad, ReadsOnceAtMost};
@@ -45,7 +45,7 @@ impl<H: Holder + Drop> Session<H> {
     ghost use Rattle.std.specs.Prelude.{◌≡◌, ℕ, List, true, IfErr, OnOk};
     ghost use Rattle.fits_plane.specs.Again.{CopyCounts, CopyFails, CopyWrites, Follows, PrintsLike};
     ghost use Rattle.fits_stream.specs.Agree.{IsOf};
-    ghost use Rattle.fits_session.specs.Away.{Agree, LieStill};
+    ghost use Rattle.fits_session.specs.Away.{Agree, LieStill, WritesFile};
     ghost use Rattle.fits_stream.specs.Stream.{Prints};
     ghost use Rattle.fits_session.specs.File.{file_bytes};
     ghost use Rattle.fits_session.specs.Session.{file_of, each_read, marked_of, ReadsOnceAtMost};
@@ -57,6 +57,8 @@ impl<H: Holder + Drop> Session<H> {
         ensures ok { Agree H.whole log.new self.old.hdus → OnOk result (Prints (file_bytes (file_of self.old))
             (W.state sink.old) (W.state sink.new)) }
         ensures like { OnOk result (PrintsLike (file_bytes (file_of self.old))
+            (W.state sink.old) (W.state sink.new)) }
+        ensures copied { OnOk result (WritesFile self.old log.old log.new
             (W.state sink.old) (W.state sink.new)) }
         ensures quiet { OnOk result (log.new.failures ≡ log.old.failures) }
         ensures err { Agree H.whole log.new self.old.hdus → IfErr result (CopyFails (file_bytes (file_of self.old))
@@ -92,6 +94,8 @@ fn write_hdus<H: Holder, W: Sink>(
     ensures ok { Agree H.whole log.new hdus.old.items → OnOk result (Prints (joined_hdus (hdus_of hdus.old.items))
         (W.state sink.old) (W.state sink.new)) }
     ensures like { OnOk result (PrintsLike (joined_hdus (hdus_of hdus.old.items))
+        (W.state sink.old) (W.state sink.new)) }
+    ensures copied { OnOk result (WritesHdus hdus.old.items log.old log.new
         (W.state sink.old) (W.state sink.new)) }
     ensures words { OnOk result (length (joined_hdus (hdus_of hdus.old.items)) % 4 ≡ 0) }
     ensures quiet { OnOk result (log.new.failures ≡ log.old.failures) }

@@ -1,5 +1,6 @@
 use Rattle.std.proofs.lemmas.Result.{IfErr-weaker, on_ok_weaker}
 use Rattle.fits_card.specs.Header.{header_bytes}
+use Rattle.fits_stream.proofs.StreamLemmas.{Prints-more}
 use Rattle.fits_hdu.proofs.PassedLemmas.{copy_more, like_more, writes_more}
 use Rattle.fits_hdu.proofs.hdu.Hdu.emit_from.Goals as goal
 
@@ -18,3 +19,6 @@ returns-clause-err g c = λ xs is lie.
 
 pub returns-clause-writes : goal.returns-clause-writes
 returns-clause-writes g c = IfErr-weaker c.emit_from.result _ _ (λ why wrote. writes_more (header_bytes c.self.inside.header.header) _ _ _ why c.in-Ok.ensures.ok wrote) c.emit_from.ensures.writes
+
+pub returns-clause-copied : goal.returns-clause-copied
+returns-clause-copied g c = rw (← c.self.view_is) (on_ok_weaker c.emit_from.result (λ unit. record { unit = unit.bytes; are = unit.are; written = Prints-more _ _ _ _ unit.bytes c.in-Ok.ensures.ok unit.written }) c.emit_from.ensures.copied)

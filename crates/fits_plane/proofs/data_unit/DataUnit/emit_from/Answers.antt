@@ -2,8 +2,7 @@ use Rattle.std.proofs.Common.{rules, ◌≡◌, ◌∙◌, ap, sym, subst, take,
 use Rattle.std.proofs.lemmas.Result.{err_from_is_err_and}
 use Rattle.fits_stream.specs.Stream.{Prints}
 use Rattle.fits_sum.specs.Words.{word_total}
-use Rattle.std.specs.Option.{IfSome}
-use Rattle.fits_plane.specs.Again.{Copies, CopyStops}
+use Rattle.fits_plane.specs.Again.{CopyStops, ReadsBack}
 use Rattle.fits_plane.proofs.AgainLemmas.{copy_fails, copy_follows, follows_on, unit_read}
 use Rattle.fits_plane.proofs.data_unit.DataUnit.emit_from.Goals as goal
 
@@ -52,8 +51,7 @@ returns-clause-like g c = search rules
 pub returns-clause-copied : goal.returns-clause-copied
 returns-clause-copied g c =
     let p = c.in_ok-total.ensures.ok in
-    let size : length c.args.self.now.plane.bytes ≡ c.byte_len.result = search rules in
-    let total : word_total c.args.self.now.plane.bytes ≡ c.in_ok-total.total = search rules in
-    let said : IfSome c.args.self.now.absent (λ it. Copies it.place c.byte_len.result c.in_ok-total.total c.args.log.now c.copy_again.new.log (g.W.Sink.state c.args.sink.now) (g.W.Sink.state c.copy_again.new.sink)) =
-    rw (← c.self.view_is, c.in-Some.is) p in
-    rw (size, total) said
+    let unit = c.in-Some.it.unit in
+    let back : ReadsBack c.in-Some.it.place unit.bytes c.args.log.now c.copy_again.new.log p.bytes =
+    record { read = p.read; size = p.size ∙ c.byte_len.ensures; total = sym p.total_is ∙ c.if-total.false ∙ c.total.ensures } in
+    record { bytes = p.bytes; are = rw (← c.self.view_is, c.in-Some.is) back; written = p.written }

@@ -6,7 +6,7 @@ use Rattle.fits_hdu.proofs.PassedLemmas.{writes_more}
 use Rattle.fits_session.specs.Session.{hdus_of, Holding, IsHad}
 use Rattle.fits_session.proofs.StateLemmas.{length-hdus_of}
 use Rattle.fits_session.proofs.HadLemmas.{agree_before, agree_lying, agree_on, had_set}
-use Rattle.fits_session.proofs.SaveLemmas.{Prints-hdu, Prints-hdus, copy_hdu, like_hdu, words_hdu, hdus_kept, first_read_more, all_read, once_at_end, once_at_most}
+use Rattle.fits_session.proofs.SaveLemmas.{Prints-hdu, Prints-hdus, WritesHdus-all, WritesHdus-more, copy_hdu, like_hdu, words_hdu, hdus_kept, first_read_more, all_read, once_at_end, once_at_most}
 use Rattle.fits_session.proofs.session.saving.write_hdus.Goals as goal
 
 pub loop-i-preserved : goal.loop-i-preserved
@@ -16,6 +16,7 @@ loop-i-preserved g c =
       printed = λ agree. Prints-hdu _ _ _ c.loop-i.hdus.items _ c.loop-i.i c.index_mut-hdu.result.now c.loop-i.invariant.same l c.index_mut-hdu.ensures.value (c.loop-i.invariant.printed (agree_before _ _ _ _ c.emit.ensures.follows agree))
           (c.in_ok-emit.ensures.ok (agree_on _ _ c.loop-i.hdus.items c.loop-i.i c.index_mut-hdu.result.now (agree_lying _ _ _ _ c.loop-i.invariant.lie agree) l c.index_mut-hdu.ensures.value));
       like = like_hdu _ _ _ c.loop-i.hdus.items _ c.loop-i.i c.index_mut-hdu.result.now c.loop-i.invariant.same l c.index_mut-hdu.ensures.value c.loop-i.invariant.words c.loop-i.invariant.like c.in_ok-emit.ensures.like;
+      copied = WritesHdus-more _ c.loop-i.hdus.items c.loop-i.i c.index_mut-hdu.result.now _ _ _ _ _ _ c.loop-i.invariant.work l c.index_mut-hdu.ensures.value c.loop-i.invariant.copied c.in_ok-emit.ensures.copied;
       words = words_hdu c.loop-i.hdus.items _ c.loop-i.i c.index_mut-hdu.result.now _ c.loop-i.invariant.same l c.index_mut-hdu.ensures.value c.card_count-whole.ensures.whole c.loop-i.invariant.words;
       quiet = c.in_ok-emit.ensures.quiet ∙ c.loop-i.invariant.quiet;
       same = hdus_kept c.loop-i.hdus.items _ c.loop-i.i c.index_mut-hdu.result.now _ c.loop-i.invariant.same l c.index_mut-hdu.ensures.value (parts_read _ _ _ c.emit.ensures.work);
@@ -65,3 +66,6 @@ pub returns-in_err-emit-clause-writes : goal.returns-in_err-emit-clause-writes
 returns-in_err-emit-clause-writes g c =
     let p = err_from_is_err_and c.from_residual.result c.from_residual.ensures.1 in
     rw (p.1, p.2) (writes_more c.loop-i.invariant.like.like _ _ _ c.in_err-emit.field-0.0 c.loop-i.invariant.like.written c.in_err-emit.ensures.writes)
+
+pub returns-clause-copied : goal.returns-clause-copied
+returns-clause-copied g c = WritesHdus-all c.args.hdus.now.items c.loop-i.i _ _ _ _ (omega (arith, c.loop-i.invariant.count)) c.loop-i.invariant.copied

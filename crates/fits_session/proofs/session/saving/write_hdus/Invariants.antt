@@ -1,5 +1,5 @@
 use Rattle.std.proofs.Common.{All, ◌≡◌, ◌%◌, take, length, ℕ, List, None, true}
-use Rattle.fits_session.specs.Away.{Agree, AllLie}
+use Rattle.fits_session.specs.Away.{Agree, AllLie, WritesHdus}
 use Rattle.fits_plane.specs.Again.{Follows, PrintsLike}
 use Rattle.fits_stream.specs.Stream.{Prints}
 use Rattle.fits_session.specs.File.{joined_hdus}
@@ -11,6 +11,7 @@ abbrev pub invariant-loop-i : goal.invariant-loop-i
 invariant-loop-i g l = record {
   printed : Agree g.H.Holder.whole l.log l.fn.hdus.items → Prints (joined_hdus (take l.i (hdus_of l.fn.hdus.items))) (g.W.Sink.state l.fn.sink) (g.W.Sink.state l.sink);
   like : PrintsLike (joined_hdus (take l.i (hdus_of l.fn.hdus.items))) (g.W.Sink.state l.fn.sink) (g.W.Sink.state l.sink);
+  copied : WritesHdus (take l.i l.fn.hdus.items) l.fn.log l.log (g.W.Sink.state l.fn.sink) (g.W.Sink.state l.sink);
   words : length (joined_hdus (take l.i (hdus_of l.fn.hdus.items))) % 4 ≡ 0;
   quiet : l.log.failures ≡ l.fn.log.failures;
   follows : Follows l.fn.log l.log;
