@@ -1,7 +1,7 @@
 //! Files that are edited.
 use crate::detail::Detail;
 use crate::explaining::INPUT;
-use crate::files::{Standing, is_stored, mode_of, source_of, standing_at};
+use crate::files::{Standing, is_stored, mode_of, standing_at};
 use crate::piece::{Piece, script_of};
 use crate::remarks::{before_remarks, remarks_after};
 use crate::reporting::{
@@ -16,7 +16,7 @@ use crate::words::oddity_of;
 use crate::wrong_sums::tell_wrong_sums;
 use fits_cli::{Edited, Fault, Level, Saves, Terms, run_edit_stored, run_edit_told};
 use fits_save::{Place, SaveFault, SavedFile, Seen, System};
-use fits_stream::{NamedLines, ReadLog, Sink, Source, Watched};
+use fits_stream::{FileSource, NamedLines, ReadLog, Sink, Source, Watched};
 use std::fs::File;
 use std::io::{BufWriter, Write};
 use std::rt::Files;
@@ -164,14 +164,21 @@ fn edited<R: Files<File = File> + Eprint + AllocGlobal, S: Source, O: Sink>(
     let of_run = terms_of(terms, there);
     let mut saved = Watched::new(saved);
     let alloc = rt.alloc();
-    let done = if is_stored(&file) && spares {
-        let log = &mut ReadLog::none();
-        run_edit_stored(
-            alloc, of_run, &file, log, script, &mut saved, out, &mut told,
-        )
-    } else {
-        let mut file = source_of(file);
-        run_edit_told(alloc, of_run, &mut file, script, &mut saved, out, &mut told)
+    let done = match (is_stored(&file), spares) {
+        (true, true) => {
+            let log = &mut ReadLog::none();
+            run_edit_stored(
+                alloc, of_run, &file, log, script, &mut saved, out, &mut told,
+            )
+        }
+        (true, false) => {
+            let mut file = FileSource::stored(file);
+            run_edit_told(alloc, of_run, &mut file, script, &mut saved, out, &mut told)
+        }
+        (false, _) => {
+            let mut file = Watched::new(file);
+            run_edit_told(alloc, of_run, &mut file, script, &mut saved, out, &mut told)
+        }
     };
     finished(rt, at, there, saved.into_inner(), done)
 }

@@ -224,7 +224,7 @@ fn asked<S: Source, O: Sink>(
     if is_stored(&file) {
         return run_ask_stored(alloc, &file, &mut ReadLog::none(), script, out, &mut told);
     }
-    run_ask(alloc, &mut source_of(file), script, out, &mut told)
+    run_ask(alloc, &mut Watched::new(file), script, out, &mut told)
 }
 
 // What stands before each line: the name and a colon.
