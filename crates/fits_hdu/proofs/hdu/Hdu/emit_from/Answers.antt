@@ -4,6 +4,11 @@ use Rattle.fits_stream.proofs.StreamLemmas.{Prints-more}
 use Rattle.fits_hdu.proofs.PassedLemmas.{copy_more, like_more, writes_more}
 use Rattle.fits_hdu.proofs.hdu.Hdu.emit_from.Goals as goal
 
+pub returns-clause-ok : goal.returns-clause-ok
+returns-clause-ok g c = λ xs is lie.
+    let own = rw (← c.self.view_is) at lie in
+    rw (← c.self.view_is) (on_ok_weaker c.emit_from.result (λ p. Prints-more _ _ _ _ _ c.in-Ok.ensures.ok p) (c.emit_from.ensures.ok xs is own))
+
 pub returns-clause-like : goal.returns-clause-like
 returns-clause-like g c =
     let header = c.self.inside.header.header in

@@ -1,4 +1,6 @@
 use Rattle.std.proofs.Common.{◌++◌, subst, None}
+use Rattle.fits_plane.specs.declared.again.CopyFault.TheVariants.{Write}
+use Rattle.fits_hdu.proofs.PassedLemmas.{writes_more}
 use Rattle.fits_stream.specs.Stream.{Prints, PrintsFront}
 use Rattle.fits_session.specs.File.{joined_hdus}
 use Rattle.fits_session.specs.Away.{in_file, Agree, AllLie}
@@ -67,3 +69,13 @@ pub returns-in_default-clause-stays : goal.returns-in_default-clause-stays
 returns-in_default-clause-stays g c = λ bytes lie.
     let own : AllLie bytes c.self.inside.hdus.items = rw (← c.self.view_is) at lie in
     (kept_counted (in_file bytes) c.self.inside.hdus.items c.write_hdus.new.hdus.items c.self.inside.tail.items c.self.inside.len c.self.inside.names.numbers.items c.self.inside.names.room c.write_hdus.ensures.work.hdus (kept_in _ (in_file bytes) _ _ _ _ _ c.self.invariant own)).had
+
+-- headers and tail are exactly those of the file
+pub returns-clause-copied : goal.returns-clause-copied
+returns-clause-copied g c =
+    let tail = subst (λ t. Prints t (g.W.Sink.state c.write_hdus.new.sink) (g.W.Sink.state c.write_all.new.sink)) c.deref.ensures.value c.in-Ok.ensures.ok in
+    rw (← c.self.view_is) (record { mid = g.W.Sink.state c.write_hdus.new.sink; hdus = c.in_ok-write_hdus.ensures.copied; tail = tail })
+
+-- the tail isn't written whole
+pub returns-in_default-clause-writes : goal.returns-in_default-clause-writes
+returns-in_default-clause-writes g c = let like = c.in_ok-write_hdus.ensures.like in writes_more like.like _ _ _ Write like.written (c.deref.result.now, c.in_default.ensures.err)
