@@ -162,7 +162,7 @@ written_more [] (one ∷ hdus) zero hdu a b c s t u e l is p q = absurd (cc)
 written_more [] (one ∷ hdus) (suc i) hdu a b c s t u e l is p q = absurd (cc)
 written_more (one ∷ before) (first ∷ hdus) zero hdu a b c s t u e l is p q =
     let head : first ≡ one = cc in
-    (c, u, subst (λ (h : HduState). WritesHdu h a c s u) (is ∙ head) (rw (p.0, p.1) at q), refl, refl)
+    (c, u, subst (λ (h : HduState). WritesHdu h a c s u) (is ∙ head) (rw (p.0, p.1) at q), (refl, refl))
 written_more (one ∷ before) (first ∷ hdus) (suc i) hdu a b c s t u e l is p q =
     let tail : hdus ≡ first_read i before = cc in
     (p.0, p.1, p.2, written_more before hdus i hdu p.0 b c p.1 t u tail (omega arith) is p.3 q)
