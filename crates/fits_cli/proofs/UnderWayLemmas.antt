@@ -110,7 +110,7 @@ loaded_kept (suc i) now (one ∷ hdus) loads = ap (λ ks. one.kept ∷ ks) (load
 loaded_alone : (h : ℕ) (old new : SessionState) → LoadsAlone h old new → IsLike (marked_of old) (marked_of new)
 loaded_alone zero old new alone = rw alone.is (like_none (marked_of old))
 loaded_alone (suc i) old new alone =
-    let loads : (one : HduState) → slice_get old.hdus i ≡ Some one → Loads one alone.now = λ one there. alone.loads i one (add-one i) there in
+    let loads : (one : HduState) → slice_get old.hdus i ≡ Some one → Loads one alone.now = λ one there. alone.loads i one (sym (add-one i)) there in
     rw alone.is (record { hdus = loaded_hdus i alone.now old.hdus loads; tail = refl; kept = loaded_kept i alone.now old.hdus loads })
 
 -- or none was

@@ -1,5 +1,5 @@
 -- What private functions of a run keep to: how far a script has come.
-use Rattle.std.specs.Prelude.{◌≡◌, ◌⊎◌, ℕ, Bool, false, ◌+◌, ◌<◌, ◌≤◌, List, ◌∷◌, ◌++◌, length, take, Option, Result, Ok, Err}
+use Rattle.std.specs.Prelude.{◌≡◌, ◌⊎◌, ℕ, Bool, false, ◌+◌, ◌<◌, ◌≤◌, List, [], ◌∷◌, ◌++◌, length, take, Option, Result, Ok, Err}
 use Rattle.fits_stream.specs.Intake.{Tells}
 use Rattle.fits_stream.specs.Agree.{Agrees, IsOf}
 use Rattle.fits_stream.specs.Stored.{ReadLogState}

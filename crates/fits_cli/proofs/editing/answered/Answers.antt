@@ -43,3 +43,9 @@ pub returns-in_err-flush_answers-clause-leaves : goal.returns-in_err-flush_answe
 returns-in_err-flush_answers-clause-leaves g c =
     at_exit c.from_residual-in_err-flush_answers.result _ _ c.from_residual-in_err-flush_answers.ensures.1
     (answers_stop _ _ _ _ _ c.answer_script-answered.result c.flush_answers.result _ c.in_err-flush_answers.was c.answer_script-answered.ensures.said c.answer_script-answered.ensures.leaves c.flush_answers.ensures)
+
+pub returns-in_err-flush_answers-clause-follows : goal.returns-in_err-flush_answers-clause-follows
+returns-in_err-flush_answers-clause-follows g c = rw c.in_ok-before.ensures.left at c.answer_script-answered.ensures.follows
+
+pub returns-clause-follows : goal.returns-clause-follows
+returns-clause-follows g c = rw c.in_ok-before.ensures.left at c.answer_script-answered.ensures.follows

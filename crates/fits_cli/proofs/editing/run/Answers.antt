@@ -23,7 +23,7 @@ returns-clause-ends g c steady parts first file after opened quiet =
 
 pub returns-clause-told : goal.returns-clause-told
 returns-clause-told g c steady parts first file after opened quiet =
-    RemarksBy-answered _ _ _ _ c.answered-before.new.runner.standing c.in_ok-before.before.items c.save_result.result (c.in_ok-before.ensures.ok (steady_before g.H.Holder.whole _ _ c.save_result.ensures.follows steady) parts first file after opened quiet)
+    RemarksBy-answered _ _ _ _ c.answered.new.runner.standing c.in_ok-before.before.items c.save_result.result (c.in_ok-before.ensures.ok (steady_before g.H.Holder.whole _ _ c.save_result.ensures.follows steady) parts first file after opened quiet)
 
 pub returns-clause-follows : goal.returns-clause-follows
 returns-clause-follows g c = follows_more _ _ _ c.in_ok-before.ensures.follows c.save_result.ensures.follows

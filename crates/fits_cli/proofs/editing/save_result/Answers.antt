@@ -52,7 +52,7 @@ returns-in_err-save-in-Made-clause-ends g c steady file after script script_afte
 -- it is
 pub returns-in_ok-save-in-Made-clause-ends : goal.returns-in_ok-save-in-Made-clause-ends
 returns-in_ok-save-in-Made-clause-ends g c steady file after script script_after held told told_after run =
-    rw (c.status-in-Made.ensures, c.save-in-Made.ensures.standing, c.in_ok-found-in-Made.ensures.left)
+    rw (c.status-in-Made.ensures, c.save.ensures.standing, c.in_ok-found-in-Made.ensures.left)
     (Succeeds-saved _ _ _ _ told told_after c.args.runner.now.standing c.args.before.now c.in-Made.whole c.in-Made.check c.in_ok-found-in-Made.found.errors c.in_ok-found-in-Made.found.warnings run c.in-Made.is (sym c.is_held_back.ensures ∙ c.if-is_held_back.false)
     (rw c.in-Made.is (record { errors_are = c.in_ok-found-in-Made.ensures.errors; warnings_are = c.in_ok-found-in-Made.ensures.warnings })) (ltb-false _ _ (sym c.are_some.ensures ∙ c.if-are_some.false)) (rw c.in_ok-found-in-Made.ensures.left at (c.in_ok-save-in-Made.ensures.ok steady)) c.in_ok-save-in-Made.ensures.flushed)
 
@@ -67,7 +67,7 @@ pub returns-in_err-save-in-Made-clause-leaves : goal.returns-in_err-save-in-Made
 returns-in_err-save-in-Made-clause-leaves g c = at_exit _ _ _ c.from_residual-in_err-save-in-Made.ensures.1 (result_saving _ _ _ _ c.in_err-save-in-Made.ensures.leaves)
 
 pub returns-in_ok-save-in-Made-clause-like : goal.returns-in_ok-save-in-Made-clause-like
-returns-in_ok-save-in-Made-clause-like g c = rw c.in-Made.is (rw (c.save-in-Made.ensures.standing, c.in_ok-found-in-Made.ensures.left) (rw c.in_ok-found-in-Made.ensures.left at c.in_ok-save-in-Made.ensures.like), c.in_ok-save-in-Made.ensures.flushed)
+returns-in_ok-save-in-Made-clause-like g c = rw c.in-Made.is (rw (c.save.ensures.standing, c.in_ok-found-in-Made.ensures.left) (rw c.in_ok-found-in-Made.ensures.left at c.in_ok-save-in-Made.ensures.like), c.in_ok-save-in-Made.ensures.flushed)
 
 pub returns-in-Nothing-clause-like : goal.returns-in-Nothing-clause-like
 returns-in-Nothing-clause-like g c = rw c.in-Nothing.is refl
@@ -80,3 +80,9 @@ returns-then-is_held_back-clause-said g c = some_none _
 
 pub returns-in_ok-save-in-Made-clause-said : goal.returns-in_ok-save-in-Made-clause-said
 returns-in_ok-save-in-Made-clause-said g c = some_none _
+
+pub returns-in_ok-save-in-Made-clause-follows : goal.returns-in_ok-save-in-Made-clause-follows
+returns-in_ok-save-in-Made-clause-follows g c = rw c.in_ok-found-in-Made.ensures.left at c.save.ensures.follows
+
+pub returns-in_err-save-in-Made-clause-follows : goal.returns-in_err-save-in-Made-clause-follows
+returns-in_err-save-in-Made-clause-follows g c = rw c.in_ok-found-in-Made.ensures.left at c.save.ensures.follows

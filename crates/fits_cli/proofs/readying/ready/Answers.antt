@@ -1,3 +1,4 @@
+use Rattle.std.proofs.Common.{refl}
 use Rattle.fits_cli.proofs.UnderWayLemmas.{like_same, loaded_at, loaded_for}
 use Rattle.fits_cli.proofs.readying.ready.Goals as goal
 

@@ -5,6 +5,7 @@ use Rattle.fits_cli.proofs.ExitLemmas.{at_exit, last_err, last_ok}
 use Rattle.fits_cli.proofs.RunLemmas.{HasCome-none}
 use Rattle.fits_cli.proofs.UnderWayLemmas.{follows_more, follows_none, steady_before}
 use Rattle.fits_cli.proofs.ScriptLemmas.{ScriptReadFails-after, ScriptStops-piece, ScriptStops-over, ScriptStops-end, AnswersTooLong-over, AnswersScript-end}
+use Rattle.fits_cli.specs.Frame.{ScriptAnswers}
 use Rattle.fits_cli.proofs.FrameLemmas.{script_more, some_more, some_none}
 use Rattle.fits_cli.proofs.script.answer_pieces.Goals as goal
 
@@ -109,7 +110,8 @@ pub returns-then-n-eq0-clause-said : goal.returns-then-n-eq0-clause-said
 returns-then-n-eq0-clause-said g c =
     let inv = c.loop-n.invariant in
     let quiet = quiet_read _ _ _ (Reads-more _ (g.S.Source.state c.loop-n.script) _ _ _ inv.read c.in-Ok.ensures.ok) in
-    last_ok _ c.answer_last_line.ensures.said (λ said. record { quiet = quiet; said = some_more _ _ _ inv.said said })
+    last_ok {Q = ScriptAnswers (g.S.Source.state c.args.script.now) (g.S.Source.state c.read_on.new.script) (g.O.Sink.state c.args.out.now) (g.O.Sink.state c.answer_last_line.new.out)}
+    _ c.answer_last_line.ensures.said (λ said. record { quiet = quiet; said = some_more _ _ _ inv.said said })
 
 pub returns-then-n-eq0-clause-leaves : goal.returns-then-n-eq0-clause-leaves
 returns-then-n-eq0-clause-leaves g c =
