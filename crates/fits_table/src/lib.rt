@@ -1,0 +1,19 @@
+//! What the header of a table says of its columns (FITS Standard 4.0, sections 7.2 and 7.3).
+#![tactic(auto)]
+
+mod descriptor;
+mod element;
+mod form;
+mod form_reading;
+mod format;
+mod laws;
+mod numerals;
+mod table_kind;
+
+pub use descriptor::Descriptor;
+pub use element::Element;
+pub use form::Form;
+pub use form_reading::form_of;
+pub use format::Format;
+pub use laws::forms_are_read_exactly;
+pub use table_kind::TableKind;
