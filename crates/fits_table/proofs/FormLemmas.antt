@@ -2,7 +2,7 @@
 use Rattle.std.proofs.Common.{◌≡◌, ℕ, List, Some, ap, sym, ◌∙◌}
 use Rattle.std.specs.Prelude.{◌↔◌}
 use Rattle.fits_table.specs.Form.{IsForm, form_width}
-use Rattle.fits_table.specs.FormLaws.{FormsAreReadExactly, FormsHaveOneWidth}
+use Rattle.fits_table.specs.Laws.{FormsAreReadExactly, FormsHaveOneWidth}
 use Rattle.fits_table.specs.FormSteps.{form_of}
 use Rattle.fits_table.specs.declared.form.Form.{Form}
 use Rattle.fits_table.specs.declared.form.Form.TheVariants.{Field, Elements, Array}

@@ -1,3 +1,6 @@
+pub mod DimensionLaws
+pub mod DimensionLemmas
+pub mod DisplayLaws
 pub mod ElementsLemmas
 pub mod FieldLemmas
 pub mod FormLemmas

@@ -1,6 +1,9 @@
+pub mod DimensionSteps
+pub mod Dimensions
+pub mod Display
 pub mod Element
 pub mod Form
-pub mod FormLaws
 pub mod FormSteps
 pub mod Format
+pub mod Laws
 pub mod Numeral

@@ -2,6 +2,8 @@
 #![tactic(auto)]
 
 mod descriptor;
+mod dimensions;
+mod display;
 mod element;
 mod form;
 mod form_reading;
@@ -11,9 +13,10 @@ mod numerals;
 mod table_kind;
 
 pub use descriptor::Descriptor;
+pub use display::Display;
 pub use element::Element;
 pub use form::Form;
 pub use form_reading::form_of;
 pub use format::Format;
-pub use laws::forms_are_read_exactly;
+pub use laws::{dimensions_are_read_exactly, displays_are_read_exactly, forms_are_read_exactly};
 pub use table_kind::TableKind;
