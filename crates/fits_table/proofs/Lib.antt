@@ -5,5 +5,9 @@ pub mod ElementsLemmas
 pub mod FieldLemmas
 pub mod FormLemmas
 pub mod LetterLemmas
+pub mod MisfitLemmas
+pub mod NameLemmas
 pub mod NumeralLaws
 pub mod NumeralLemmas
+pub mod SaidLemmas
+pub mod StartLemmas

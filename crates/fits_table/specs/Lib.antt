@@ -1,3 +1,5 @@
+pub mod Column
+pub mod Content
 pub mod DimensionSteps
 pub mod Dimensions
 pub mod Display
@@ -6,4 +8,7 @@ pub mod Form
 pub mod FormSteps
 pub mod Format
 pub mod Laws
+pub mod Leads
+pub mod Misfit
+pub mod Name
 pub mod Numeral

@@ -4,7 +4,7 @@ ghost use Rattle.fits_table.specs.Display.{display_letters, is_point, is_exponen
 use crate::numerals::{numeral, split_digits};
 
 /// How the values of a column are displayed (FITS Standard 4.0, tables 16 and 20).
-#[derive(Clone, Copy, PartialEq, Eq, Debug)]
+#[derive(Clone, Copy)]
 pub enum Display {
     /// Aw
     Text,

@@ -1,5 +1,5 @@
 /// Which of the two kinds of tables an extension is, by its XTENSION.
-#[derive(Clone, Copy, PartialEq, Eq, Debug)]
+#[derive(Clone, Copy)]
 pub enum TableKind {
     /// TABLE: rows of characters (FITS Standard 4.0, section 7.2).
     Ascii,
