@@ -1,3 +1,4 @@
+pub mod ColumnsLemmas
 pub mod DimensionLaws
 pub mod DimensionLemmas
 pub mod DisplayLaws

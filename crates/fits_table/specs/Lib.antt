@@ -1,4 +1,5 @@
 pub mod Column
+pub mod Columns
 pub mod Content
 pub mod DimensionSteps
 pub mod Dimensions
@@ -12,3 +13,5 @@ pub mod Leads
 pub mod Misfit
 pub mod Name
 pub mod Numeral
+pub mod Table
+pub mod TableCode

@@ -1,4 +1,4 @@
-ghost use Rattle.std.specs.Prelude.{◌≡◌};
+ghost use Rattle.std.specs.Prelude.{◌≡◌, ◌<◌, ◌^◌};
 ghost use Rattle.fits_table.specs.Element.{element_letter, element_of, elements_width};
 
 /// The type of an element of a binary table's column (FITS Standard 4.0, section 7.3.1, table 18).
@@ -75,7 +75,8 @@ pub(crate) fn element_of(letter: u8) -> Option<Element>
 
 /// How many bytes of a row so many elements take.
 pub(crate) fn elements_width(element: Element, count: u64) -> u128
-    ensures { result ≡ elements_width element count }
+    ensures value { result ≡ elements_width element count }
+    ensures within { result < 2 ^ 69 }
 {
     let count = count as u128;
     match element {

@@ -28,13 +28,14 @@ pub enum Form {
 }
 
 impl Form {
-    ghost use Rattle.std.specs.Prelude.{◌≡◌};
+    ghost use Rattle.std.specs.Prelude.{◌≡◌, ◌<◌, ◌^◌};
     ghost use Rattle.fits_table.specs.Form.{form_width};
 
     /// How many bytes of a row the column takes.
     #[tactic(auto, unfolding(crate::specs::Form::form_width))]
     pub fn width(self) -> u128
-        ensures { result ≡ form_width self }
+        ensures value { result ≡ form_width self }
+        ensures within { result < 2 ^ 69 }
     {
         match self {
             Form::Field { width, .. } => width as u128,

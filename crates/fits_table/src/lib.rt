@@ -3,6 +3,7 @@
 
 mod column;
 mod column_leads;
+mod columns_mark;
 mod content;
 mod descriptor;
 mod dimensions;
@@ -15,11 +16,16 @@ mod laws;
 mod misfits;
 mod names;
 mod numerals;
+mod rows;
 mod said;
+mod table_code;
 mod table_kind;
+mod table_mark;
+mod table_rules;
 
 pub use column::{Column, column_of};
 pub use column_leads::ColumnLeads;
+pub use columns_mark::ColumnsMark;
 pub use descriptor::Descriptor;
 pub use element::Element;
 pub use form::Form;
@@ -27,4 +33,8 @@ pub use form_reading::form_of;
 pub use format::Format;
 pub use laws::{dimensions_are_read_exactly, displays_are_read_exactly, forms_are_read_exactly};
 pub use names::is_same_name;
+pub use rows::Rows;
+pub use table_code::TableCode;
 pub use table_kind::TableKind;
+pub use table_mark::TableMark;
+pub use table_rules::{has_table_code, rows_of};
