@@ -1,9 +1,11 @@
+pub mod ColumnNameLemmas
 pub mod ColumnsLemmas
 pub mod DimensionLaws
 pub mod DimensionLemmas
 pub mod DisplayLaws
 pub mod ElementsLemmas
 pub mod FieldLemmas
+pub mod FieldsLemmas
 pub mod FormLemmas
 pub mod LetterLemmas
 pub mod MisfitLemmas

@@ -5,6 +5,7 @@ pub mod DimensionSteps
 pub mod Dimensions
 pub mod Display
 pub mod Element
+pub mod Fields
 pub mod Form
 pub mod FormSteps
 pub mod Format
@@ -15,3 +16,4 @@ pub mod Name
 pub mod Numeral
 pub mod Table
 pub mod TableCode
+pub mod TableMark

@@ -1,7 +1,7 @@
 -- TTYPEn: the names of columns (FITS Standard 4.0, sections 7.2.2 and 7.3.2).
-use Rattle.std.specs.Prelude.{ℕ, ◌==◌, ◌&&◌, ◌||◌, Bool, not, List, map}
+use Rattle.std.specs.Prelude.{ℕ, ◌==◌, ◌&&◌, ◌||◌, Bool, false, not, List, [], ◌∷◌, map, Option, Some}
 use Rattle.std.specs.Char.{is_ascii_alphanumeric, to_ascii_lowercase}
-use Rattle.std.specs.List.{list_all}
+use Rattle.std.specs.List.{list_all, list_any}
 use Rattle.std.specs.Str.{bytes_eq}
 use Rattle.fits_value.specs.Characters.{is_space}
 
@@ -20,3 +20,13 @@ lowered name = map to_ascii_lowercase name
 -- both texts are the same name, which is neither empty nor blank (own)
 unfoldable pub is_same_name : List ℕ → List ℕ → Bool
 is_same_name one other = not (list_all is_space one) && bytes_eq (lowered one) (lowered other)
+
+-- two columns' TTYPEn say one name
+abbrev pub are_one : Option (List ℕ) → Option (List ℕ) → Bool
+are_one (Some one) (Some other) = is_same_name one other
+are_one one other = false
+
+-- W32: a name stands twice among those of the columns
+unfoldable pub has_twins : List (Option (List ℕ)) → Bool
+has_twins [] = false
+has_twins (name ∷ names) = list_any (are_one name) names || has_twins names

@@ -3,12 +3,14 @@
 
 mod column;
 mod column_leads;
+mod column_names;
 mod columns_mark;
 mod content;
 mod descriptor;
 mod dimensions;
 mod display;
 mod element;
+mod fields;
 mod form;
 mod form_reading;
 mod format;
@@ -25,14 +27,16 @@ mod table_rules;
 
 pub use column::{Column, column_of};
 pub use column_leads::ColumnLeads;
+pub use column_names::{column_name, dimensions_name, is_past};
 pub use columns_mark::ColumnsMark;
 pub use descriptor::Descriptor;
 pub use element::Element;
+pub use fields::fields_of;
 pub use form::Form;
 pub use form_reading::form_of;
 pub use format::Format;
 pub use laws::{dimensions_are_read_exactly, displays_are_read_exactly, forms_are_read_exactly};
-pub use names::is_same_name;
+pub use names::are_one;
 pub use rows::Rows;
 pub use table_code::TableCode;
 pub use table_kind::TableKind;

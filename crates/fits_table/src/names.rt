@@ -1,9 +1,14 @@
 //! The names of columns.
-ghost use Rattle.std.specs.Prelude.{◌≡◌};
+ghost use Rattle.std.specs.Prelude.{◌≡◌, option_and_then};
 ghost use Rattle.std.specs.List.{list_all};
 ghost use Rattle.std.specs.Str.{bytes_eq};
+ghost use Rattle.fits_rules.specs.Reads.{string_said};
 ghost use Rattle.fits_value.specs.Characters.{is_space};
-ghost use Rattle.fits_table.specs.Name.{is_recommended, is_plain_name, lowered, is_same_name};
+ghost use Rattle.fits_table.specs.Name.{is_recommended, is_plain_name, lowered, is_same_name, are_one};
+
+use crate::said::string_said;
+use fits_card::Card;
+use fits_value::CardString;
 
 // Whether a character is recommended in a name.
 fn is_recommended(byte: u8) -> bool
@@ -34,11 +39,32 @@ fn differ_in_case(one: &[u8], other: &[u8]) -> bool
     one.eq_ignore_ascii_case(other)
 }
 
-/// Whether two names of columns are one, where case is ignored: a name that is neither empty nor
-/// blank.
+// Whether two names of columns are one, where case is ignored: a name that is neither empty nor
+// blank.
 #[tactic(auto, unfolding(crate::specs::Name::is_same_name))]
-pub fn is_same_name(one: &[u8], other: &[u8]) -> bool
+fn is_same_name(one: &[u8], other: &[u8]) -> bool
     ensures { result ≡ is_same_name one.now other.now }
 {
     !are_spaces(one) && differ_in_case(one, other)
+}
+
+// The string that TTYPEn's lead says.
+fn name_said(lead: &Option<Card>) -> Option<CardString>
+    ensures { result ≡ option_and_then string_said lead.now }
+{
+    match lead {
+        Some(card) => string_said(card),
+        None => None,
+    }
+}
+
+/// Whether the leads of two columns' TTYPEn say one name.
+pub fn are_one(one: &Option<Card>, other: &Option<Card>) -> bool
+    ensures { result ≡ are_one (option_and_then string_said one.now)
+        (option_and_then string_said other.now) }
+{
+    match (name_said(one), name_said(other)) {
+        (Some(one), Some(other)) => is_same_name(one.as_bytes(), other.as_bytes()),
+        _ => false,
+    }
 }
