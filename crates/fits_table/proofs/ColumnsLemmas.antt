@@ -35,9 +35,9 @@ or_false : (b : Bool) → (b || false) ≡ b
 or_false true = refl
 or_false false = refl
 
--- what holds of one of the columns, or of one more
-any_more : (p : Column → Bool) (columns : List Column) (column : Column) → (list_any p columns || p column) ≡ list_any p (columns ++ column ∷ [])
-any_more p columns column = sym (list_any-append p columns (column ∷ []) ∙ ap (λ b. list_any p columns || b) (or_false (p column)))
+-- what holds of one in a list, or of one more
+pub any_more : {X : Type 0} (p : X → Bool) (xs : List X) (x : X) → (list_any p xs || p x) ≡ list_any p (xs ++ x ∷ [])
+any_more p xs x = sym (list_any-append p xs (x ∷ []) ∙ ap (λ b. list_any p xs || b) (or_false (p x)))
 
 -- all of it
 pub with_more : (kind : TableKind) (row : ℕ) (columns : List Column) (column : Column) (before : ColumnsMark) → before ≡ columns_mark kind row columns →

@@ -7,10 +7,16 @@ use Rattle.fits_table.specs.Fields.{fields_in, fields_of}
 
 pub ruleset fields_steps = (number_is, number_nothing, number_large)
 
+-- a card that is there
+pub card_there : (cards : List (List ℕ)) (place : ℕ) (card : List ℕ) → 1 ≤ place → place ≤ length cards → card ≡ get_or cards (place - 1) card → Some card ≡ card_at cards place
+card_there cards place card from to is = sym (slice_get-get_or cards (place - 1) card (omega arith) ∙ ap Some (sym is))
+
+pub ruleset card_steps = (card_there)
+
 -- the card of the place
-pub place_there : (cards : List (List ℕ)) (axes : ℕ) (card : List ℕ) → 6 + axes ≤ length cards → card ≡ get_or cards (6 + axes - 1) card → fields_in card ≡ fields_of cards axes
+pub place_there : (cards : List (List ℕ)) (axes : ℕ) (card : List ℕ) → Some card ≡ card_at cards (6 + axes) → fields_in card ≡ fields_of cards axes
 unfolding fields_of
-place_there cards axes card within is = sym (ap (option_and_then fields_in) (slice_get-get_or cards (6 + axes - 1) card (omega arith) ∙ ap Some (sym is)))
+place_there cards axes card is = ap (option_and_then fields_in) is
 
 -- none is there
 pub place_past : (cards : List (List ℕ)) (axes : ℕ) → length cards < 6 + axes → None ≡ fields_of cards axes

@@ -8,6 +8,7 @@ pub mod FieldLemmas
 pub mod FieldsLemmas
 pub mod FormLemmas
 pub mod LetterLemmas
+pub mod MarkingLemmas
 pub mod MisfitLemmas
 pub mod NameLemmas
 pub mod NumeralLaws

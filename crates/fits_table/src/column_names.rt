@@ -16,7 +16,7 @@ const ROOTS: [[u8; 5]; 12] = [
 ];
 
 /// The keyword of column `n` that has this root, for `n` below 1000.
-pub fn column_name(root: &[u8; 5], n: usize) -> Name
+pub(crate) fn column_name(root: &[u8; 5], n: usize) -> Name
     requires { n < 1000 }
     ensures { result ≡ column_name root.now n }
 {
@@ -26,7 +26,7 @@ pub fn column_name(root: &[u8; 5], n: usize) -> Name
 }
 
 /// The keyword TDIMn, for `n` below 1000.
-pub fn dimensions_name(n: usize) -> Name
+pub(crate) fn dimensions_name(n: usize) -> Name
     requires { n < 1000 }
     ensures { result ≡ column_name (codes "TDIM") n }
 {
@@ -88,7 +88,7 @@ fn column_number(name: &Name) -> Option<u64>
 }
 
 /// Whether a card has a value for a column after so many.
-pub fn is_past(fields: u64, card: &Card) -> bool
+pub(crate) fn is_past(fields: u64, card: &Card) -> bool
     ensures { result ≡ is_past fields card.now }
 {
     if !card.has_value() {

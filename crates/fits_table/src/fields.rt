@@ -1,9 +1,9 @@
 //! How many columns a table has.
 ghost use Rattle.std.specs.Prelude.{◌≡◌, ◌≤◌, ◌<◌, IfSome};
-ghost use Rattle.fits_card.specs.CardList.{ReadsUpTo};
 ghost use Rattle.fits_table.specs.Fields.{fields_in, fields_of};
 
-use fits_card::{Card, CardList};
+use crate::header_cards::HeaderCards;
+use fits_card::Card;
 use fits_rules::{IntegerSaid, integer_said};
 
 /// The most columns that a table may have (FITS Standard 4.0, sections 7.2.1 and 7.3.1).
@@ -24,17 +24,16 @@ fn fields_in(card: &Card) -> Option<u64>
     }
 }
 
-/// The columns that the card right after GCOUNT says, in a header with so many axes. It takes no
-/// memory.
+/// The columns that the card right after GCOUNT says, in a header with so many axes.
 #[tactic(auto, using(crate::proofs::FieldsLemmas::place_steps))]
-pub fn fields_of(cards: &mut CardList, axes: usize) -> Option<u64>
+pub(crate) fn fields_of<H: HeaderCards>(cards: &mut H, axes: usize) -> Option<u64>
     requires { axes < 1000 }
-    ensures value { result ≡ fields_of cards.old.header.cards axes }
+    ensures value { result ≡ fields_of (H.cards cards.old) axes }
     ensures within { IfSome result (λ fields. fields ≤ 999) }
-    ensures work { ReadsUpTo cards.old cards.new 1 }
+    ensures same { H.cards cards.new ≡ H.cards cards.old }
 {
-    if cards.len() < 6 + axes {
+    if cards.count() < 6 + axes {
         return None;
     }
-    fields_in(&cards.card(6 + axes))
+    fields_in(&cards.card_at(6 + axes))
 }

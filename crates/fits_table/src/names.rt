@@ -59,7 +59,7 @@ fn name_said(lead: &Option<Card>) -> Option<CardString>
 }
 
 /// Whether the leads of two columns' TTYPEn say one name.
-pub fn are_one(one: &Option<Card>, other: &Option<Card>) -> bool
+pub(crate) fn are_one(one: &Option<Card>, other: &Option<Card>) -> bool
     ensures { result ≡ are_one (option_and_then string_said one.now)
         (option_and_then string_said other.now) }
 {

@@ -1,0 +1,11 @@
+use Rattle.std.proofs.Common.{◌≡◌, map}
+use Rattle.fits_table.specs.Column.{column_of}
+use Rattle.fits_table.specs.Columns.{columns_mark}
+use Rattle.fits_table.specs.TableMark.{leads_of}
+use Rattle.fits_table.proofs.marking.columns_mark.Given as goal
+
+abbrev pub invariant-loop-i : goal.invariant-loop-i
+invariant-loop-i g l = record {
+  same : g.H.HeaderCards.cards l.cards ≡ g.H.HeaderCards.cards l.fn.cards;
+  value : l.mark ≡ columns_mark l.kind l.row (map (column_of l.kind) (leads_of (g.H.HeaderCards.cards l.fn.cards) l.i));
+}
