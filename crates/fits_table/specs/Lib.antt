@@ -16,4 +16,5 @@ pub mod Name
 pub mod Numeral
 pub mod Table
 pub mod TableCode
+pub mod TableKind
 pub mod TableMark

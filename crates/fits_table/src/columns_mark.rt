@@ -54,7 +54,7 @@ fn leaves_row(row: u64, column: &Column) -> bool
 impl ColumnsMark {
     /// No columns.
     #[tactic(auto, unfolding(crate::specs::Columns::columns_mark))]
-    pub fn new(kind: TableKind, row: u64) -> ColumnsMark
+    pub(crate) fn new(kind: TableKind, row: u64) -> ColumnsMark
         ensures { result ≡ columns_mark kind row [] }
     {
         ColumnsMark {
@@ -68,7 +68,7 @@ impl ColumnsMark {
 
     /// One column more, in a table of this kind with rows of so many bytes.
     #[tactic(auto, using(crate::proofs::ColumnsLemmas::columns_steps))]
-    pub fn with(&self, kind: TableKind, row: u64, column: &Column) -> ColumnsMark
+    pub(crate) fn with(&self, kind: TableKind, row: u64, column: &Column) -> ColumnsMark
         ensures { (columns : List declared.Column) → self.now ≡ columns_mark kind row columns
             → result ≡ columns_mark kind row (columns ++ column.now ∷ []) }
     {

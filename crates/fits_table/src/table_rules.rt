@@ -35,7 +35,7 @@ fn is_plain(kind: TableKind, shape: &Shape) -> bool
 
 /// The rows of bytes that the shape of a table describes.
 #[tactic(auto, unfolding(crate::specs::Table::rows_of))]
-pub fn rows_of(kind: TableKind, shape: &Shape) -> Option<Rows>
+pub(crate) fn rows_of(kind: TableKind, shape: &Shape) -> Option<Rows>
     ensures { result ≡ rows_of kind shape.now }
 {
     if is_plain(kind, shape) {

@@ -2,13 +2,11 @@
 //! and 20 of the FITS Standard 4.0 and of its sections 7.2 and 7.3, as are the examples '60A' with
 //! '(5,4,3)', and TIME with Time.
 
-use fits_card::{Card, CardList};
-use fits_fixtures::{card_of, header_of, name_of, same};
-use fits_rules::{Shape, integer_said, lead_card, shape};
+use fits_fixtures::{card_of, header_of, same};
+use fits_rules::shape;
 use fits_table::{
-    ColumnLeads, ColumnsMark, Descriptor, Element, Form, Format, TableCode, TableKind, TableMark,
-    are_one, column_name, column_of, dimensions_name, fields_of, form_of, has_table_code, is_past,
-    rows_of,
+    ColumnLeads, Descriptor, Element, Form, Format, TableCode, TableKind, column_of, form_of,
+    has_table_code, table_kind_of, table_mark_of,
 };
 use std::test::Fail;
 
@@ -284,135 +282,6 @@ fn characters_of_a_row_count_from_1(rt: HostRuntime) {
     }
 }
 
-/// Two cards TTYPEn, and whether they say one name.
-const NAMES: &[(&str, &str, bool)] = &[
-    ("TTYPE1  = 'TIME'", "TTYPE2  = 'Time'", true),
-    ("TTYPE1  = 'a'", "TTYPE2  = 'a   '", true),
-    ("TTYPE1  = 'a'", "TTYPE2  = 'b'", false),
-    ("TTYPE1  = 'a'", "TTYPE2  = ' a'", false),
-    ("TTYPE1  = ''", "TTYPE2  = ''", false),
-    ("TTYPE1  = ' '", "TTYPE2  = ' '", false),
-    ("TTYPE1  = 5", "TTYPE2  = 5", false),
-];
-
-#[test]
-fn names_in_another_case_are_one(rt: HostRuntime) {
-    for (one, other, wanted) in NAMES {
-        let found = are_one(&Some(card_of(one)), &Some(card_of(other)));
-        same!(rt; found, *wanted, (*one, *other));
-    }
-}
-
-#[test]
-fn a_column_has_keywords_of_its_number(rt: HostRuntime) {
-    same!(rt; column_name(b"TFORM", 1), name_of("TFORM1"));
-    same!(rt; column_name(b"TBCOL", 12), name_of("TBCOL12"));
-    same!(rt; column_name(b"TTYPE", 999), name_of("TTYPE999"));
-    same!(rt; dimensions_name(1), name_of("TDIM1"));
-    same!(rt; dimensions_name(12), name_of("TDIM12"));
-    same!(rt; dimensions_name(999), name_of("TDIM999"));
-}
-
-/// A number of columns, a card, and whether it is of a later column.
-const LATER: &[(u64, &str, bool)] = &[
-    (3, "TFORM3  = '1J'", false),
-    (3, "TFORM4  = '1J'", true),
-    (3, "TFORM04 = '1J'", false),
-    (3, "TFORM4", false),
-    (3, "TDIM10  = '(1)'", true),
-    (0, "TUNIT1  = 's'", true),
-    (0, "TLMAX1  = 5", true),
-    (0, "TFORM   = '1J'", false),
-    (0, "TFORM1A = '1J'", false),
-    (0, "TFOO1   = 1", false),
-    (0, "NAXIS1  = 1", false),
-];
-
-#[test]
-fn a_keyword_may_be_of_a_later_column(rt: HostRuntime) {
-    for (fields, card, wanted) in LATER {
-        same!(rt; is_past(*fields, &card_of(card)), *wanted, card);
-    }
-}
-
-// The lead of a keyword of a column.
-fn lead_of(cards: &mut CardList, root: &[u8; 5], n: usize) -> Option<Card> {
-    if n < 1000 {
-        lead_card(cards, &column_name(root, n))
-    } else {
-        None
-    }
-}
-
-// The leads of a column's keywords.
-fn leads_of(cards: &mut CardList, n: usize) -> ColumnLeads {
-    let dimensions = if n < 1000 {
-        lead_card(cards, &dimensions_name(n))
-    } else {
-        None
-    };
-    ColumnLeads {
-        form: lead_of(cards, b"TFORM", n),
-        start: lead_of(cards, b"TBCOL", n),
-        name: lead_of(cards, b"TTYPE", n),
-        dimensions,
-        null: lead_of(cards, b"TNULL", n),
-        scale: lead_of(cards, b"TSCAL", n),
-        zero: lead_of(cards, b"TZERO", n),
-        display: lead_of(cards, b"TDISP", n),
-    }
-}
-
-// Whether an earlier column has the name of column n.
-fn has_twin(cards: &mut CardList, n: usize) -> bool {
-    let name = lead_of(cards, b"TTYPE", n);
-    for earlier in 1..n {
-        let other = lead_of(cards, b"TTYPE", earlier);
-        if are_one(&other, &name) {
-            return true;
-        }
-    }
-    false
-}
-
-// What a header of this shape says of its columns.
-fn mark_of(cards: &mut CardList, kind: TableKind, shape: &Shape) -> TableMark {
-    let axes = shape.axes.as_slice().len();
-    let fields = if axes < 1000 {
-        fields_of(cards, axes)
-    } else {
-        None
-    };
-    let row = match rows_of(kind, shape) {
-        Some(rows) => rows.width,
-        None => 0,
-    };
-    let mut columns = ColumnsMark::new(kind, row);
-    let mut has_twins = false;
-    for n in 1..1000 {
-        if n as u64 <= fields.unwrap_or(0) {
-            let leads = leads_of(cards, n);
-            columns = columns.with(kind, row, &column_of(kind, &leads));
-            has_twins = has_twins || has_twin(cards, n);
-        }
-    }
-    let mut has_past = false;
-    for place in 1..cards.len() + 1 {
-        has_past = has_past || is_past(fields.unwrap_or(0), &cards.card(place));
-    }
-    let heap = match lead_card(cards, &name_of("THEAP")) {
-        Some(card) => Some(integer_said(&card)),
-        None => None,
-    };
-    TableMark {
-        fields,
-        columns,
-        heap,
-        has_twins,
-        has_past,
-    }
-}
-
 /// All codes.
 const CODES: [TableCode; 8] = [
     TableCode::BadFieldCount,
@@ -425,158 +294,104 @@ const CODES: [TableCode; 8] = [
     TableCode::OddName,
 ];
 
-/// A kind of table, its cards in front of TFIELDS, the others, and the codes that it has.
-const TABLES: &[(TableKind, &str, &str, &str)] = &[
+/// The cards of a table in front of TFIELDS, the others, and the codes that it has.
+const TABLES: &[(&str, &str, &str)] = &[
     (
-        TableKind::Binary,
         BINTABLE,
         "TFIELDS = 2|TFORM1  = '1J'|TTYPE1  = 'c1'|TFORM2  = '4A'|TTYPE2  = 'c2'",
         "",
     ),
     (
-        TableKind::Binary,
         BINTABLE,
-        "TFIELDS = 1|TFORM1  = '1D'|THEAP   = 80",
+        "TFIELDS = 2|TFORM2  = '1J'|TFORM1  = '4A'|TFORM1  = '9A'",
         "",
     ),
+    (BINTABLE, "TFIELDS = 1|TFORM1  = '1D'|THEAP   = 80", ""),
+    (BINTABLE, "TFIELDS = 1|TFORM1  = '1D'|THEAP   = 85", ""),
+    (BINTABLE, "TFIELDS = 1|TFORM1  = '1D'|THEAP   = 79", "E30"),
+    (BINTABLE, "TFIELDS = 1|TFORM1  = '1D'|THEAP   = 86", "E30"),
+    (BINTABLE, "TFIELDS = 1|TFORM1  = '1D'|THEAP   = 'x'", "E30"),
+    (EMPTY, "TFIELDS = 1|TFORM1  = '1D'", ""),
+    (EMPTY, "TFIELDS = 1|TFORM1  = '1D'|THEAP   = 80", "E30"),
+    (BINTABLE, "TFIELDS = 99|TFORM1  = '1D'", "E28"),
+    (BINTABLE, "TFIELDS = 999|TFORM1  = '1D'", "E28"),
+    (BINTABLE, "TFIELDS = 1000|TFORM1  = '1D'", "E27"),
+    (BINTABLE, "TFIELDS = -1|TFORM1  = '1D'", "E27"),
+    (BINTABLE, "TFIELDS = '1'|TFORM1  = '1D'", "E27"),
+    (BINTABLE, "TFORM1  = '1D'", "E27"),
+    (BINTABLE, "COMMENT x|TFIELDS = 1|TFORM1  = '1D'", "E27"),
+    (BINTABLE, "TFIELDS = 1|TFORM1  = '500J'", "E29"),
+    (BINTABLE, "TFIELDS = 1|TFORM1  = '1J'", "E29"),
+    (BINTABLE, "TFIELDS = 1|TFORM1  = 'rubbish'", "E28"),
+    (BINTABLE, "TFIELDS = 1", "E28"),
+    (BINTABLE, "TFIELDS = 1|TFORM1  = 5", "E28"),
+    (BINTABLE, "TFIELDS = 0", "E29"),
+    (BINTABLE, "TFIELDS = 1|TFORM1  = '1D'|TNULL1  = 0", "E31"),
     (
-        TableKind::Binary,
         BINTABLE,
-        "TFIELDS = 1|TFORM1  = '1D'|THEAP   = 85",
-        "",
-    ),
-    (
-        TableKind::Binary,
-        BINTABLE,
-        "TFIELDS = 1|TFORM1  = '1D'|THEAP   = 79",
-        "E30",
-    ),
-    (
-        TableKind::Binary,
-        BINTABLE,
-        "TFIELDS = 1|TFORM1  = '1D'|THEAP   = 86",
-        "E30",
-    ),
-    (
-        TableKind::Binary,
-        BINTABLE,
-        "TFIELDS = 1|TFORM1  = '1D'|THEAP   = 'x'",
-        "E30",
-    ),
-    (
-        TableKind::Binary,
-        BINTABLE,
-        "TFIELDS = 99|TFORM1  = '1D'",
-        "E28",
-    ),
-    (
-        TableKind::Binary,
-        BINTABLE,
-        "TFIELDS = 1000|TFORM1  = '1D'",
-        "E27",
-    ),
-    (
-        TableKind::Binary,
-        BINTABLE,
-        "TFIELDS = -1|TFORM1  = '1D'",
-        "E27",
-    ),
-    (
-        TableKind::Binary,
-        BINTABLE,
-        "TFIELDS = '1'|TFORM1  = '1D'",
-        "E27",
-    ),
-    (TableKind::Binary, BINTABLE, "TFORM1  = '1D'", "E27"),
-    (
-        TableKind::Binary,
-        BINTABLE,
-        "COMMENT x|TFIELDS = 1|TFORM1  = '1D'",
-        "E27",
-    ),
-    (
-        TableKind::Binary,
-        BINTABLE,
-        "TFIELDS = 1|TFORM1  = '500J'",
-        "E29",
-    ),
-    (
-        TableKind::Binary,
-        BINTABLE,
-        "TFIELDS = 1|TFORM1  = '1J'",
-        "E29",
-    ),
-    (
-        TableKind::Binary,
-        BINTABLE,
-        "TFIELDS = 1|TFORM1  = 'rubbish'",
-        "E28",
-    ),
-    (TableKind::Binary, BINTABLE, "TFIELDS = 1", "E28"),
-    (
-        TableKind::Binary,
-        BINTABLE,
-        "TFIELDS = 1|TFORM1  = 5",
-        "E28",
-    ),
-    (TableKind::Binary, BINTABLE, "TFIELDS = 0", "E29"),
-    (
-        TableKind::Binary,
-        BINTABLE,
-        "TFIELDS = 1|TFORM1  = '1D'|TNULL1  = 0",
+        "TFIELDS = 2|TFORM1  = '4A'|TDIM1   = '(2,2)'|TFORM2  = '4A'|TDIM2   = '(2,3)'",
         "E31",
     ),
     (
-        TableKind::Binary,
         BINTABLE,
-        "TFIELDS = 2|TFORM1  = '1J'|TTYPE1  = 'c1'|TFORM2  = '4A'|TTYPE2  = 'C1'",
+        "TFIELDS = 2|TFORM1  = '1J'|TTYPE1  = 'TIME'|TFORM2  = '4A'|TTYPE2  = 'Time'",
         "W32",
     ),
     (
-        TableKind::Binary,
         BINTABLE,
-        "TFIELDS = 1|TFORM1  = '1D'|TFORM2  = '1D'",
-        "W33",
+        "TFIELDS = 3|TFORM1  = '4A'|TFORM2  = '2A'|TFORM3  = '2A'|TTYPE1  = 'a'|TTYPE2  = 'b'|TTYPE3  = 'a   '",
+        "W32",
     ),
     (
-        TableKind::Binary,
+        BINTABLE,
+        "TFIELDS = 2|TFORM1  = '4A'|TFORM2  = '4A'|TTYPE1  = ' '|TTYPE2  = ' '",
+        "W34",
+    ),
+    (
+        BINTABLE,
+        "TFIELDS = 2|TFORM1  = '4A'|TFORM2  = '4A'|TTYPE1  = ''|TTYPE2  = ''",
+        "",
+    ),
+    (
+        BINTABLE,
+        "TFIELDS = 2|TFORM1  = '4A'|TFORM2  = '4A'|TTYPE1  = 5|TTYPE2  = 5",
+        "",
+    ),
+    (
         BINTABLE,
         "TFIELDS = 1|TFORM1  = '1D'|TTYPE1  = 'a-b'",
         "W34",
     ),
+    (BINTABLE, "TFIELDS = 1|TFORM1  = '1D'|TTYPE1  = 'Az_09'", ""),
+    (BINTABLE, "TFIELDS = 1|TFORM1  = '1D'|TFORM2  = '1D'", "W33"),
     (
-        TableKind::Ascii,
+        BINTABLE,
+        "TFIELDS = 1|TFORM1  = '1D'|TDIM10  = '(1)'",
+        "W33",
+    ),
+    (BINTABLE, "TFIELDS = 1|TFORM1  = '1D'|TLMAX2  = 5", "W33"),
+    (
+        BINTABLE,
+        "TFIELDS = 1|TFORM1  = '1D'|TFORM02 = '1D'|TFORM2|TFORM2A = 1|TFOO2   = 1",
+        "",
+    ),
+    (
         TABLE,
         "TFIELDS = 2|TFORM1  = 'A4'|TBCOL1  = 1|TFORM2  = 'I4'|TBCOL2  = 5",
         "",
     ),
+    (TABLE, "TFIELDS = 1|TFORM1  = 'A4'|TBCOL1  = 3", ""),
     (
-        TableKind::Ascii,
         TABLE,
-        "TFIELDS = 1|TFORM1  = 'A4'|TBCOL1  = 3",
+        "TFIELDS = 2|TFORM1  = 'A8'|TBCOL1  = 1|TFORM2  = 'I4'|TBCOL2  = 5",
         "",
     ),
-    (
-        TableKind::Ascii,
-        TABLE,
-        "TFIELDS = 1|TFORM1  = 'A4'|TBCOL1  = 6",
-        "E29",
-    ),
-    (TableKind::Ascii, TABLE, "TFIELDS = 1|TFORM1  = 'A4'", "E28"),
-    (
-        TableKind::Ascii,
-        TABLE,
-        "TFIELDS = 1|TFORM1  = '4A'|TBCOL1  = 1",
-        "E28",
-    ),
-    (TableKind::Ascii, TABLE, "TFIELDS = 0|THEAP   = 7", ""),
-    (TableKind::Ascii, BINTABLE, "TFIELDS = 0", "E29"),
-    (
-        TableKind::Binary,
-        WORDS,
-        "TFIELDS = 1|TFORM1  = '1D'",
-        "E29",
-    ),
+    (TABLE, "TFIELDS = 1|TFORM1  = 'A4'|TBCOL1  = 6", "E29"),
+    (TABLE, "TFIELDS = 1|TFORM1  = 'A4'", "E28"),
+    (TABLE, "TFIELDS = 1|TFORM1  = '4A'|TBCOL1  = 1", "E28"),
+    (TABLE, "TFIELDS = 0|THEAP   = 7", ""),
+    (HEAPED, "TFIELDS = 0", "E29"),
+    (WORDS, "TFIELDS = 1|TFORM1  = '1D'", "E29"),
 ];
 
 /// Ten rows of eight bytes, and a heap of five.
@@ -587,20 +402,52 @@ const BINTABLE: &str =
 const TABLE: &str =
     "XTENSION= 'TABLE'|BITPIX  = 8|NAXIS   = 2|NAXIS1  = 8|NAXIS2  = 10|PCOUNT  = 0|GCOUNT  = 1";
 
+/// Ten rows of eight bytes alone.
+const EMPTY: &str =
+    "XTENSION= 'BINTABLE'|BITPIX  = 8|NAXIS   = 2|NAXIS1  = 8|NAXIS2  = 10|PCOUNT  = 0|GCOUNT  = 1";
+
+/// Rows of characters, and five more.
+const HEAPED: &str =
+    "XTENSION= 'TABLE'|BITPIX  = 8|NAXIS   = 2|NAXIS1  = 8|NAXIS2  = 10|PCOUNT  = 5|GCOUNT  = 1";
+
 /// Rows of words.
 const WORDS: &str =
     "XTENSION= 'BINTABLE'|BITPIX  = 16|NAXIS   = 2|NAXIS1  = 8|NAXIS2  = 10|PCOUNT  = 0|GCOUNT  = 1";
 
+/// A card of XTENSION, and the kind of table that it says.
+const KINDS: &[(&str, Option<TableKind>)] = &[
+    ("XTENSION= 'TABLE   '", Some(TableKind::Ascii)),
+    ("XTENSION= 'BINTABLE'", Some(TableKind::Binary)),
+    ("XTENSION= 'IMAGE   '", None),
+    ("XTENSION= 'bintable'", None),
+    ("XTENSION= ' TABLE  '", None),
+    ("XTENSION= 5", None),
+];
+
+#[test]
+fn a_table_is_named_by_its_extension(rt: HostRuntime) {
+    for (card, wanted) in KINDS {
+        same!(rt; table_kind_of(&card_of(card)), *wanted, card);
+    }
+}
+
 #[test]
 fn a_table_has_the_codes_of_its_header(rt: HostRuntime) -> Result<(), Fail> {
-    for (kind, front, columns, wanted) in TABLES {
+    for (front, columns, wanted) in TABLES {
+        let kind = if front.starts_with("XTENSION= 'TABLE'") {
+            TableKind::Ascii
+        } else {
+            TableKind::Binary
+        };
         let texts = format!(in rt.alloc(); "{front}|{columns}|END")?;
         let mut header = header_of(rt.alloc(), &texts)?;
         let shape = shape(rt.alloc(), &mut header, false)?;
-        let mark = mark_of(&mut header, *kind, &shape);
-        for code in CODES {
-            let has = has_table_code(*kind, &shape, &mark, code);
-            same!(rt; has, wanted.contains(code.label()), (*columns, code.label()));
+        if shape.axes.as_slice().len() < 1000 {
+            let mark = table_mark_of(&mut header, kind, &shape);
+            for code in CODES {
+                let has = has_table_code(kind, &shape, &mark, code);
+                same!(rt; has, wanted.contains(code.label()), (*columns, code.label()));
+            }
         }
     }
     Ok(())
