@@ -1,5 +1,5 @@
 -- The names of the keywords of columns, by those of the axes.
-use Rattle.std.proofs.Common.{◌≡◌, ℕ, ◌≤◌, ◌+◌, ◌-◌, suc, List, [], ◌∷◌, ◌++◌, length, drop, get_or, codes, replicate, refl, ap, sym, ◌∙◌, arith, length-append, append_assoc, zero}
+use Rattle.std.proofs.Common.{◌≡◌, ℕ, ◌+◌, ◌-◌, suc, List, [], ◌∷◌, ◌++◌, length, drop, get_or, codes, replicate, refl, ap, sym, ◌∙◌, arith, length-append, append_assoc, zero}
 use Rattle.std.specs.Fmt.{decimal}
 use Rattle.std.proofs.lemmas.List.{length-replicate}
 use Rattle.fits_rules.specs.Shape.{axis_name}

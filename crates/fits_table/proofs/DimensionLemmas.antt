@@ -1,9 +1,9 @@
 -- How many elements an array has.
-use Rattle.std.proofs.Common.{◌≡◌, ℕ, zero, suc, ◌≤◌, ◌<◌, ◌+◌, ◌*◌, ◌-◌, ◌^◌, List, [], ◌∷◌, Option, None, Some, option_and_then, inl, inr, refl, ap, sym, ◌∙◌, arith}
+use Rattle.std.proofs.Common.{◌≡◌, ℕ, zero, suc, ◌≤◌, ◌<◌, ◌*◌, ◌-◌, ◌^◌, List, [], ◌∷◌, Option, None, Some, option_and_then, inl, inr, refl, ap, sym, ◌∙◌, arith}
 use Rattle.std.specs.Prelude.{min}
 use Rattle.std.specs.List.{fold, slice_split}
 use Rattle.std.specs.Option.{option_map}
-use Rattle.std.proofs.Math.Nat.{min-eq_left, min-eq_right, min-le_right, mul-le-mul_right, mul_assoc}
+use Rattle.std.proofs.Math.Nat.{min-eq_left, min-eq_right, min-le_right, mul_assoc}
 use Rattle.std.proofs.lemmas.Bool.{cases_lt}
 use Rattle.fits_rules.specs.Size.{product}
 use Rattle.fits_table.specs.Dimensions.{is_comma, numerals, bracketed, dimensions_of}

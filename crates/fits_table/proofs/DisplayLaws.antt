@@ -1,5 +1,5 @@
 -- A text is spelled as each way of display that it is read as.
-use Rattle.std.proofs.Common.{◌≡◌, ℕ, ◌==◌, ◌&&◌, ◌||◌, Bool, true, false, List, [], ◌∷◌, ◌++◌, length, take, drop, bytes_eq, Option, None, Some, refl, ap, sym, ◌∙◌, append_assoc}
+use Rattle.std.proofs.Common.{◌≡◌, ℕ, ◌==◌, ◌||◌, true, false, List, [], ◌∷◌, ◌++◌, length, take, drop, bytes_eq, Option, None, Some, refl, ap, sym, ◌∙◌, append_assoc}
 use Rattle.std.specs.Prelude.{IsTrue, is_some}
 use Rattle.std.specs.List.{list_all, take_while, prefix_len}
 use Rattle.std.proofs.Math.Seq.{take-append_seam, drop-append_seam}
@@ -10,7 +10,7 @@ use Rattle.fits_value.specs.Characters.{is_digit}
 use Rattle.fits_value.specs.NumberSteps.{after_digits}
 use Rattle.fits_value.proofs.FrontLemmas.{Stops}
 use Rattle.fits_value.proofs.NumberLemmas.{front_taken}
-use Rattle.fits_table.specs.Display.{display_letters, is_numeral, is_nothing, is_point, is_exponent, is_point_exponent, may_follow, IsDisplay, has_width, is_display}
+use Rattle.fits_table.specs.Display.{display_letters, is_numeral, is_nothing, is_point, is_point_exponent, may_follow, IsDisplay, has_width, is_display}
 use Rattle.fits_table.specs.Laws.{DisplaysAreReadExactly}
 use Rattle.fits_table.specs.Numeral.{numeral}
 use Rattle.fits_table.specs.declared.display.Display.{Display}

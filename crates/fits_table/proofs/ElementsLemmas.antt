@@ -1,5 +1,5 @@
 -- The forms of columns of binary tables.
-use Rattle.std.proofs.Common.{◌≡◌, ℕ, ◌≤◌, ◌==◌, Bool, true, false, cond, leb, List, [], ◌∷◌, ◌++◌, Option, None, Some, option_and_then, refl, ap, sym, ◌∙◌, subst, inl, inr}
+use Rattle.std.proofs.Common.{◌≡◌, ℕ, ◌≤◌, ◌==◌, true, false, cond, leb, List, [], ◌∷◌, ◌++◌, Option, None, Some, option_and_then, refl, ap, sym, ◌∙◌, subst, inl, inr}
 use Rattle.std.specs.List.{list_all, take_while, prefix_len}
 use Rattle.std.specs.Option.{option_map}
 use Rattle.std.proofs.lemmas.Bool.{cond-true, cond-false, le-leb, leb-true, eqb-true}
@@ -12,7 +12,6 @@ use Rattle.fits_value.proofs.NumberLemmas.{front_taken}
 use Rattle.fits_table.specs.Element.{element_letter, element_of}
 use Rattle.fits_table.specs.Form.{IsCount, AreElements, IsArray, IsForm, descriptor_letter}
 use Rattle.fits_table.specs.FormSteps.{count_of, array_of, counted_form, binary_form}
-use Rattle.fits_table.specs.Numeral.{numeral}
 use Rattle.fits_table.specs.declared.descriptor.Descriptor.{Descriptor}
 use Rattle.fits_table.specs.declared.descriptor.Descriptor.TheVariants.{Narrow, Wide}
 use Rattle.fits_table.specs.declared.element.Element.{Element}

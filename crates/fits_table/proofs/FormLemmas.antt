@@ -1,6 +1,5 @@
 -- A text says one form, the one that is read.
 use Rattle.std.proofs.Common.{◌≡◌, ℕ, List, Some, ap, sym, ◌∙◌}
-use Rattle.std.specs.Prelude.{◌↔◌}
 use Rattle.fits_table.specs.Form.{IsForm, form_width}
 use Rattle.fits_table.specs.Laws.{FormsAreReadExactly, FormsHaveOneWidth}
 use Rattle.fits_table.specs.FormSteps.{form_of}

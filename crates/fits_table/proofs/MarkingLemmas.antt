@@ -1,8 +1,7 @@
 -- One column more of a header.
-use Rattle.std.proofs.Common.{◌≡◌, ℕ, zero, suc, ◌+◌, ◌-◌, ◌<◌, ◌||◌, Bool, true, false, List, [], ◌∷◌, ◌++◌, length, take, map, get_or, Option, None, Some, option_and_then, refl, ap, sym, ◌∙◌, arith}
+use Rattle.std.proofs.Common.{◌≡◌, ℕ, zero, suc, ◌+◌, ◌-◌, ◌<◌, ◌||◌, Bool, true, false, List, [], ◌∷◌, ◌++◌, length, take, map, get_or, Option, Some, option_and_then, refl, ap, sym, ◌∙◌, arith}
 use Rattle.std.specs.List.{list_any, range_with_len, slice_get}
 use Rattle.std.proofs.lemmas.List.{map-append, take_more}
-use Rattle.std.proofs.lemmas.List.Folds.{list_any-append}
 use Rattle.std.proofs.lemmas.Option.{slice_get-get_or}
 use Rattle.fits_card.specs.Header.{card_at}
 use Rattle.fits_rules.specs.Reads.{string_said}
@@ -10,8 +9,6 @@ use Rattle.fits_table.specs.Column.{column_of}
 use Rattle.fits_table.specs.Leads.{column_leads, is_past}
 use Rattle.fits_table.specs.Name.{are_one, has_twins}
 use Rattle.fits_table.specs.TableMark.{leads_of, names_of}
-use Rattle.fits_table.specs.declared.column.Column.{Column}
-use Rattle.fits_table.specs.declared.column_leads.ColumnLeads.{ColumnLeads}
 use Rattle.fits_table.specs.declared.table_kind.TableKind.{TableKind}
 use Rattle.fits_table.proofs.ColumnsLemmas.{any_more}
 

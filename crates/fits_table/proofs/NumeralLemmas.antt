@@ -1,12 +1,12 @@
 -- The numbers of digits alone.
 use Rattle.std.proofs.Common.{◌≡◌, ℕ, ◌≤◌, Bool, true, false, List, [], ◌∷◌, Option, None, Some, option_and_then, refl, ap, sym, ◌∙◌, leb, inl, inr, arith}
-use Rattle.std.specs.Prelude.{◌↔◌, ℤ, pos, negsuc, FitsSigned}
+use Rattle.std.specs.Prelude.{ℤ, pos, negsuc, FitsSigned}
 use Rattle.std.specs.Int.{w64}
 use Rattle.std.specs.List.{list_all}
-use Rattle.std.proofs.lemmas.Bool.{and_parts, cases_Bool, cond-true, cond-false, leb-true}
+use Rattle.std.proofs.lemmas.Bool.{and_parts, cases_Bool, cond-false, leb-true}
 use Rattle.std.proofs.lemmas.Bool.Decides.{nat_tests}
 use Rattle.fits_value.specs.Characters.{is_digit}
-use Rattle.fits_value.specs.NumberSteps.{is_minus, after_sign}
+use Rattle.fits_value.specs.NumberSteps.{after_sign}
 use Rattle.fits_value.specs.Says.{number_in, integer_in}
 use Rattle.fits_value.proofs.NumberLemmas.{digit_no_sign, no_sign}
 use Rattle.fits_rules.specs.Shape.{up_to}

@@ -1,7 +1,6 @@
 -- The place in a row that a card says.
-use Rattle.std.proofs.Common.{◌≡◌, ℕ, ◌&&◌, Bool, true, false, leb, cond, Option, None, Some, option_and_then, refl, ap, sym, ◌∙◌, arith, inl, inr}
-use Rattle.std.specs.Prelude.{ℤ, pos, negsuc, ◌≤ℤ◌}
-use Rattle.std.proofs.lemmas.Bool.{cases_Bool, cond-false, leb-true, and_parts}
+use Rattle.std.proofs.Common.{◌≡◌, ℕ, Bool, true, false, leb, cond, Option, None, Some, option_and_then, refl, ap, sym, arith}
+use Rattle.std.specs.Prelude.{ℤ, pos, negsuc}
 use Rattle.std.proofs.lemmas.Bool.Decides.{nat_tests}
 use Rattle.fits_rules.specs.Reads.{has_64_bits, in_64_bits}
 use Rattle.fits_rules.specs.declared.integers.IntegerSaid.TheVariants.{Nothing, TooLarge, Number}

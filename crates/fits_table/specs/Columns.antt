@@ -1,5 +1,5 @@
 -- What the columns of a table come to (FITS Standard 4.0, sections 7.2.1 and 7.3.1).
-use Rattle.std.specs.Prelude.{ℕ, ◌+◌, Bool, ◌||◌, false, nat_lt, is_none, List, Option}
+use Rattle.std.specs.Prelude.{ℕ, ◌+◌, Bool, ◌||◌, false, nat_lt, is_none, List}
 use Rattle.std.specs.List.{list_any, sum_by}
 use Rattle.std.specs.Option.{option_map_or}
 use Rattle.fits_table.specs.DimensionSteps.{limited}

@@ -1,5 +1,5 @@
 -- The keywords of columns (FITS Standard 4.0, sections 7.2.1, 7.2.2, 7.3.1 and 7.3.2).
-use Rattle.std.specs.Prelude.{ℕ, ◌-◌, Bool, ◌&&◌, false, not, nat_lt, List, [], ◌∷◌, ◌++◌, length, take, drop, codes, replicate, Option, None, if◌then◌else◌}
+use Rattle.std.specs.Prelude.{ℕ, ◌-◌, Bool, ◌&&◌, false, nat_lt, List, [], ◌∷◌, ◌++◌, length, take, drop, codes, replicate, Option, None, if◌then◌else◌}
 use Rattle.std.specs.Fmt.{decimal}
 use Rattle.std.specs.List.{list_all, take_while}
 use Rattle.std.specs.Option.{option_map_or}

@@ -14,7 +14,7 @@ use Rattle.fits_table.specs.Dimensions.{dimensions_of}
 use Rattle.fits_table.specs.Display.{is_display}
 use Rattle.fits_table.specs.declared.column_leads.ColumnLeads.{ColumnLeads}
 use Rattle.fits_table.specs.declared.content.Content.{Content}
-use Rattle.fits_table.specs.declared.content.Content.TheVariants.{Characters, Logicals, Bits, Integers, Reals}
+use Rattle.fits_table.specs.declared.content.Content.TheVariants.{Characters, Logicals, Integers, Reals}
 use Rattle.fits_table.specs.declared.display.Display.{Display}
 use Rattle.fits_table.specs.declared.display.Display.TheVariants as display
 use Rattle.fits_table.specs.declared.display.TheConstants.{DISPLAYS}

@@ -1,4 +1,4 @@
-ghost use Rattle.std.specs.Prelude.{◌≡◌, option_and_then};
+ghost use Rattle.std.specs.Prelude.{◌≡◌};
 ghost use Rattle.fits_table.specs.Column.{form_said, start_said, has_odd_name, column_of};
 
 use crate::column_leads::ColumnLeads;

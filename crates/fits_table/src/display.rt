@@ -1,4 +1,4 @@
-ghost use Rattle.std.specs.Prelude.{◌≡◌, take, drop, length};
+ghost use Rattle.std.specs.Prelude.{◌≡◌, take, drop};
 ghost use Rattle.fits_table.specs.Display.{display_letters, is_point, is_exponent, is_point_exponent, is_numeral, may_follow, has_width, is_display};
 
 use crate::numerals::{numeral, split_digits};

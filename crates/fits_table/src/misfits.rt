@@ -1,10 +1,8 @@
 //! Keywords that a column can't have.
-ghost use Rattle.std.specs.Prelude.{◌≡◌, IfSome, IfNone, None, Some};
+ghost use Rattle.std.specs.Prelude.{◌≡◌, None, Some};
 ghost use Rattle.fits_codes.specs.Alone.{kind_said};
-ghost use Rattle.fits_codes.specs.Keywords.{suits};
 ghost use Rattle.fits_rules.specs.Reads.{string_said};
-ghost use Rattle.fits_value.specs.declared.reading.ValueKind.TheVariants as kind;
-ghost use Rattle.fits_table.specs.Misfit.{is_integers, is_numbers, null_suits, scale_suits, dimensions_suit, may_display, display_suits, is_defined, kind_misfits, text_misfits, has_misfit};
+ghost use Rattle.fits_table.specs.Misfit.{null_suits, scale_suits, dimensions_suit, may_display, display_suits, is_defined, kind_misfits, text_misfits, has_misfit};
 
 use crate::column_leads::ColumnLeads;
 use crate::content::{Content, content_of};

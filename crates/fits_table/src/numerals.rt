@@ -1,5 +1,5 @@
 //! Numbers without a sign.
-ghost use Rattle.std.specs.Prelude.{◌≡◌, ◌≤◌, length, IfSome};
+ghost use Rattle.std.specs.Prelude.{◌≡◌, ◌≤◌, length};
 ghost use Rattle.std.specs.List.{list_all, prefix_len, take_while};
 ghost use Rattle.fits_value.specs.Characters.{is_digit};
 ghost use Rattle.fits_value.specs.NumberSteps.{after_digits};

@@ -1,4 +1,4 @@
-use Rattle.std.proofs.Common.{◌==◌, Some, rules, tests}
+use Rattle.std.proofs.Common.{rules, tests}
 use Rattle.std.proofs.lemmas.Iterator.Consumers.{fold_from_yields_List}
 use Rattle.std.proofs.lemmas.Iterator.Splits.{YieldsList-from_slice_split}
 use Rattle.fits_table.specs.Dimensions.{is_comma}
