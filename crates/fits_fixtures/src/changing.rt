@@ -7,6 +7,7 @@ use std::io;
 
 /// Bytes that have places, and others that stand there once so many reads were made. It tells none of
 /// them.
+#[derive(Drop)]
 pub struct ChangingBytes<'a> {
     bytes: &'a [u8],
     then: &'a [u8],

@@ -10,9 +10,9 @@ use std::process::Abort;
 use std::test::Fail;
 
 /// Where the only pixel of the file lies, and how long the file is.
-const PIXEL_AT: usize = 3 * 2880;
+const PIXEL_AT: usize = 2 * 2880;
 
-const FILE_LEN: usize = 4 * 2880;
+const FILE_LEN: usize = 3 * 2880;
 
 /// What is saved of each file, whatever it was before.
 const TERMS: Terms = Terms {
@@ -48,7 +48,7 @@ const RUNS: &[(&str, Change, &str, bool)] = &[
     ("sum 2", Change::Pixel, "datasum 0 verdicts 0 0\n", true),
     ("sum 2", Change::End, "datasum 0 verdicts 0 0\n", true),
     // All that is read again is in memory.
-    ("fill 2 7", Change::None, "", false),
+    ("fill 2 1:1 7", Change::None, "", false),
     ("rm 2", Change::Pixel, "", false),
 ];
 
@@ -119,8 +119,8 @@ fn a_file_is_what_its_reads_gave(rt: HostRuntime) -> Result<(), Fail> {
                 same!(rt; written(saved).starts_with(&bytes[..2880]), true, script);
             }
             Err(Fault::Reread(Reread::Changed)) => {
-                holds!(rt; stops, script);
-                holds!(rt; bytes.starts_with(&written(saved)), script);
+                holds!(rt; *stops, script);
+                holds!(rt; then.starts_with(&written(saved)), script);
             }
             _ => holds!(rt; false, script),
         }
