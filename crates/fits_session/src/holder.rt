@@ -136,3 +136,5 @@ impl<'f, F: Stored> Holder for InFile<'f, F> {
         hdu.emit_from(self.file, log, self.room.as_mut_slice(), sink)
     }
 }
+
+mod fields;
