@@ -57,13 +57,20 @@ fn written(stream: Watched<PlannedWriter>) -> Vec<u8> {
     bytes
 }
 
+// Puts a byte at a place that is there.
+fn put(bytes: &mut [u8], place: usize, new: u8) {
+    if let Some(byte) = bytes.get_mut(place) {
+        *byte = new;
+    }
+}
+
 // The bytes that stand there after a change.
 fn changed(alloc: Global, bytes: &[u8], change: Change) -> Result<Vec<u8>, AllocError> {
     let mut then = Vec::from_slice(alloc, bytes)?;
     match change {
         Change::None => {}
-        Change::Pixel => then[PIXEL_AT] = 1,
-        Change::Header => then[79] = b'x',
+        Change::Pixel => put(&mut then, PIXEL_AT, 1),
+        Change::Header => put(&mut then, 79, b'x'),
         Change::End => then.truncate(PIXEL_AT + 1),
     }
     Ok(then)
@@ -116,7 +123,8 @@ fn a_file_is_what_its_reads_gave(rt: HostRuntime) -> Result<(), Fail> {
             Ok(Edited::Done(status)) => {
                 same!(rt; status, 0, script);
                 holds!(rt; !stops, script);
-                same!(rt; written(saved).starts_with(&bytes[..2880]), true, script);
+                let (header, _) = bytes.split_at(bytes.len().min(2880));
+                holds!(rt; written(saved).starts_with(header), script);
             }
             Err(Fault::Reread(Reread::Changed)) => {
                 holds!(rt; *stops, script);
