@@ -14,6 +14,7 @@ some_there : (at : ℕ) (bytes : List ℕ) (some more : List (ℕ × ℕ)) → A
 some_there at bytes [] more p = tt
 some_there at bytes (one ∷ some) more p = (p.0, some_there at bytes some more p.1)
 
+-- and the last of them
 more_there : (at : ℕ) (bytes : List ℕ) (some more : List (ℕ × ℕ)) → AreThere at bytes (some ++ more) → AreThere at bytes more
 more_there at bytes [] more p = p
 more_there at bytes (one ∷ some) more p = more_there at bytes some more p.1

@@ -49,6 +49,7 @@ are-right : (at : ℕ) (xs ys : List ℕ) (more : List (ℕ × ℕ)) → AreTher
 are-right at xs ys [] p = tt
 are-right at xs ys (one ∷ more) p = (there-right at xs ys one p.0, are-right at xs ys more p.1)
 
+-- bytes that are there are so with more after them
 are-left : (at : ℕ) (xs ys : List ℕ) (more : List (ℕ × ℕ)) → AreThere at xs more → AreThere at (xs ++ ys) more
 are-left at xs ys [] p = tt
 are-left at xs ys (one ∷ more) p = (there-left at xs ys one p.0, are-left at xs ys more p.1)
