@@ -166,7 +166,7 @@ unchanged_of load.Failed same e = cc
 unchanged_of load.Changed same e = same refl
 
 -- data that a line wants aren't had again
-pub lacks_pixels : (it : Marked) (line : List ℕ) (command : Command) (why : LoadFault) → Said command ≡ reading_of line → CommandWantsPixels command → (why ≡ load.Changed → ⊥) → LacksReply it (reading_of line) (fault_of_load why)
+pub lacks_pixels : (it : Marked) (line : List ℕ) (command : Command) (why : LoadFault) → Said command ≡ reading_of line → CommandWantsPixels it.file command → (why ≡ load.Changed → ⊥) → LacksReply it (reading_of line) (fault_of_load why)
 unfolding WantsPixels
 lacks_pixels it line command why is wants same = (unchanged_of why same, rw (← is) wants)
 

@@ -5,10 +5,11 @@ use Rattle.std.specs.List.{flat_map}
 use Rattle.fits_hdu.specs.declared.verdicts.Verdicts.{Verdicts}
 use Rattle.fits_session.specs.File.{FileParts, offsets_from}
 use Rattle.fits_session.specs.Marked.{Marked, is_stamped_after, kept_in, marked_after, marked_refusal, unmarked, vouched}
-use Rattle.fits_session.specs.Query.{datasum_in, positions_in, rect_in, stats_in, value_in, verdicts_in}
+use Rattle.fits_session.specs.Away.{EditWantsPixels}
+use Rattle.fits_session.specs.Query.{datasum_in, kind_in, positions_in, rect_in, stats_in, value_in, verdicts_in}
 use Rattle.fits_session.specs.Report.{report_of}
 use Rattle.fits_session.specs.Refusal.{refusal_text, EditNeedsMemory}
-use Rattle.fits_session.specs.Session.{HasStats, IsHeld, IsReadyFor, IsSoOf, NeedsPixels}
+use Rattle.fits_session.specs.Session.{HasPixels, HasStats, IsReadyFor, IsSoOf}
 use Rattle.fits_hdu.specs.State.{HduState}
 use Rattle.fits_session.specs.declared.offsets.HduOffsets.{HduOffsets}
 use Rattle.fits_session.specs.declared.refusal.Refusal.{Refusal}
@@ -163,23 +164,23 @@ line_left standing TooLong = after_refused standing
 line_left standing (NoCommand misfit) = after_refused standing
 line_left standing (Said command) = after_outcome standing command (outcome_of standing.marked command)
 
--- a command may want data that had passed by
-unfoldable pub CommandWantsPixels : Command → Type 0
-CommandWantsPixels (Edit edit) = NeedsPixels edit
-CommandWantsPixels (Statistics hdu) = Unit {0}
-CommandWantsPixels (Rectangle hdu lo hi) = Unit {0}
-CommandWantsPixels command = ⊥
+-- a command may want data that had passed by: of an HDU that is there and an image, or, of a reshape, an array
+unfoldable pub CommandWantsPixels : FileParts → Command → Type 0
+CommandWantsPixels file (Edit edit) = EditWantsPixels file edit
+CommandWantsPixels file (Statistics hdu) = IsOk (kind_in file hdu)
+CommandWantsPixels file (Rectangle hdu lo hi) = IsOk (kind_in file hdu)
+CommandWantsPixels file command = ⊥
 
 -- then they are in memory, or known
 unfoldable pub IsReady : Command → List HduState → Type 0
 IsReady (Edit edit) hdus = IsReadyFor edit hdus
 IsReady (Statistics hdu) hdus = IsSoOf HasStats hdu hdus
-IsReady (Rectangle hdu lo hi) hdus = IsSoOf IsHeld hdu hdus
+IsReady (Rectangle hdu lo hi) hdus = IsSoOf HasPixels hdu hdus
 IsReady command hdus = Unit {0}
 
 -- a line may want them
 unfoldable pub WantsPixels : Marked → LineReading → Type 0
-WantsPixels it (Said command) = CommandWantsPixels command
+WantsPixels it (Said command) = CommandWantsPixels it.file command
 WantsPixels it reading = ⊥
 
 -- memory may run out at a line: in reading it, or on the way to its outcome

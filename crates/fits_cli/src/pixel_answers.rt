@@ -1,7 +1,7 @@
 //! What queries of pixels and sums print.
 ghost use Rattle.std.specs.Prelude.{◌≡◌, IfOk, IfErr, OnErr, Ok};
 ghost use Rattle.fits_session.specs.Away.{LieStill};
-ghost use Rattle.fits_session.specs.Session.{marked_of, HasStats, IsHeld, IsSoOf};
+ghost use Rattle.fits_session.specs.Session.{marked_of, HasPixels, HasStats, IsSoOf};
 ghost use Rattle.fits_cli.specs.Answer.{outcome_of, CommandFails};
 ghost use Rattle.fits_script.specs.declared.command.Command.TheVariants.{Rectangle, Statistics, Sums};
 
@@ -36,7 +36,7 @@ pub(crate) fn rectangle<H: Holder + Drop>(
     lo: Corner,
     hi: Corner,
 ) -> Result<Vec<u8>, Refusal>
-    requires { IsSoOf IsHeld hdu session.old.hdus }
+    requires { IsSoOf HasPixels hdu session.old.hdus }
     ensures ok { IfOk result (λ text. outcome_of (marked_of session.old) (Rectangle hdu lo hi)
         ≡ Ok (record { text = text.items; left = marked_of session.new })) }
     ensures err { IfErr result (CommandFails (marked_of session.old) (Rectangle hdu lo hi)) }

@@ -2,7 +2,7 @@
 ghost use Rattle.std.specs.Prelude.{◌≡◌, true, IfErr, IsOk, OnErr, OnOk};
 ghost use Rattle.fits_plane.specs.Again.{Follows, LoadCounts};
 ghost use Rattle.fits_session.specs.Away.{Agree, LieStill};
-ghost use Rattle.fits_session.specs.Session.{marked_of};
+ghost use Rattle.fits_session.specs.Session.{file_of, marked_of};
 ghost use Rattle.fits_cli.specs.Answer.{CommandWantsPixels, IsReady};
 ghost use Rattle.fits_cli.specs.Running.{IsLike};
 
@@ -23,10 +23,11 @@ pub(crate) fn ready<H: Holder + Drop>(
         → OnOk result (marked_of session.new ≡ marked_of session.old) }
     ensures like { IsLike (marked_of session.old) (marked_of session.new) }
     ensures stays { LieStill session.old.hdus session.new.hdus }
+    ensures at_once { IsReady command.now session.old.hdus → IsOk result }
     ensures quiet { OnOk result (log.new.failures ≡ log.old.failures) }
     ensures counted { IfErr result (LoadCounts log.old.failures log.new.failures) }
     ensures follows { Follows log.old log.new }
-    ensures wanted { OnErr result (CommandWantsPixels command.now) }
+    ensures wanted { OnErr result (CommandWantsPixels (file_of session.old) command.now) }
     ensures unchanged { Agree H.whole log.new session.old.hdus
         → IfErr result (λ why. why ≡ LoadFault.Changed → ⊥) }
     ensures whole { H.whole ≡ true → IsOk result }
@@ -34,7 +35,7 @@ pub(crate) fn ready<H: Holder + Drop>(
     match command {
         Command::Edit(edit) => session.load_for(edit, log),
         Command::Statistics { hdu } => session.load_counts(*hdu, log),
-        Command::Rectangle { hdu, .. } => session.load(*hdu, log),
+        Command::Rectangle { hdu, .. } => session.load_pixels(*hdu, log),
         _ => Ok(()),
     }
 }

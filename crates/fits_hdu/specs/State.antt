@@ -1,10 +1,12 @@
 -- What an HDU under edits is to its callers.
-use Rattle.std.specs.Prelude.{◌≡◌, ℕ, Bool, Ok, Option}
+use Rattle.std.specs.Prelude.{◌≡◌, ℕ, Bool, Ok, Option, None, Some}
 use Rattle.fits_rules.specs.Class.{is_primary}
 use Rattle.fits_rules.specs.Shape.{shape_of}
 use Rattle.fits_header.specs.State.{HeaderState}
 use Rattle.fits_header.specs.State as header
-use Rattle.fits_plane.specs.DataUnit.{Absence}
+use Rattle.fits_image.specs.Kind.{kind_in}
+use Rattle.fits_image.specs.declared.kind.Kind.{Kind}
+use Rattle.fits_plane.specs.DataUnit.{Absence, IsCounted}
 use Rattle.fits_plane.specs.Plane.{PlaneState}
 use Rattle.fits_hdu.specs.ExtensionName.{extension_name}
 use Rattle.fits_hdu.specs.Hdu.{HduParts}
@@ -30,6 +32,14 @@ IsDescribed hdu = shape_of (is_primary hdu.header.shape.class) hdu.header.header
 -- what it is called
 abbrev pub name_of : HduState → Option ExtensionName
 name_of hdu = extension_name (is_primary hdu.header.shape.class) hdu.header.header.cards
+
+-- its pixels are in memory, if it is an image of integers
+abbrev pub HasPixels : HduState → Type 0
+HasPixels hdu = (kind : Kind) → kind_in hdu.header.shape hdu.header.header.cards ≡ Some kind → hdu.absent ≡ None
+
+-- its statistics are known, if it is one
+abbrev pub HasStats : HduState → Type 0
+HasStats hdu = (kind : Kind) → kind_in hdu.header.shape hdu.header.header.cards ≡ Some kind → IsCounted hdu.plane hdu.absent
 
 -- so many of its cards were read at most, and nothing else changed
 pub record ReadsUpTo (old new : HduState) (count : ℕ) : Type 0 where

@@ -1,20 +1,17 @@
 -- Bytes of a stored file that are read again.
-use Rattle.std.proofs.Common.{◌≡◌, ◌+◌, ◌<◌, ◌≤◌, ◌%◌, ◌/◌, ℕ, List, [], ◌++◌, length, min, take, drop, ap, sym, ◌∙◌, arith, subst, append_assoc, inl, inr, Option, None, Some}
-use Rattle.std.specs.List.{slice_get}
+use Rattle.std.proofs.Common.{◌≡◌, ◌+◌, ◌<◌, ◌≤◌, ◌%◌, ◌/◌, ℕ, List, [], ◌++◌, length, min, take, drop, ap, sym, ◌∙◌, arith, subst, append_assoc, Some}
 use Rattle.std.proofs.lemmas.List.{append-nil, length-append, length-drop, length-take, take-append-drop, take-take, take_all}
 use Rattle.std.proofs.Math.Seq.{take-append_seam}
-use Rattle.fits_stream.specs.Agree.{EndsAt, IsOf, ReadsOn, ReadsShort, ReadsSome}
-use Rattle.fits_stream.specs.Intake.{supply, IntakeState, IsOver, Takes}
-use Rattle.fits_stream.specs.Log.{unskipped, Adds, Grows, HasEnded, Logs}
-use Rattle.fits_stream.specs.Stored.{bytes_from, Lent, ReadLogState}
+use Rattle.fits_stream.specs.Agree.{IsOf, ReadsOn, ReadsSome}
+use Rattle.fits_stream.specs.Log.{unskipped, Adds, Grows, Logs}
+use Rattle.fits_stream.specs.Stored.{Lent, ReadLogState}
 use Rattle.fits_stream.specs.Stream.{SinkState, SourceState, FailsOnce, IsDry, Prints, PrintsFront, Reads}
 use Rattle.fits_stream.proofs.AgreeLemmas.{of_before, of_read, reads_on}
 use Rattle.fits_stream.proofs.LogLemmas.{Logs-more}
-use Rattle.fits_stream.proofs.SightLemmas.{no_bytes}
 use Rattle.fits_stream.proofs.StreamLemmas.{PrintsFront-longer, Reads-more}
 use Rattle.fits_sum.specs.Words.{word_total}
 use Rattle.fits_sum.proofs.WordLemmas.{word_total-append}
-use Rattle.fits_plane.specs.Again.{CopyFails, CopyStops, CopyWrites, Follows, LoadStops, NextShort, NextStops}
+use Rattle.fits_plane.specs.Again.{CopyFails, CopyStops, Follows, LoadStops, NextShort, NextStops, ReadsFewer}
 use Rattle.fits_plane.specs.declared.again.CopyFault.{CopyFault}
 use Rattle.fits_plane.specs.declared.again.CopyFault.TheVariants.{Failed, Changed, Write}
 use Rattle.fits_plane.specs.declared.again.LoadFault.{LoadFault}
@@ -48,6 +45,15 @@ next_short a b c len n done piece Ends p q dry within short ends = record {
   ends = ends;
 }
 
+-- and nothing is done with them
+pub next_fewer : (a b c : SourceState) (len n : ℕ) (done piece : List ℕ) → Reads done a b → Reads (take n piece) b c → IsDry c → n ≤ length piece → length done + n < len → ReadsFewer len a c
+next_fewer a b c len n done piece p q dry within short = record {
+  bytes = done ++ take n piece;
+  logs = Logs-more a.log b.log c.log done (take n piece) p.log q.log;
+  short = omega (arith, short, length-append done (take n piece), length-take n piece, within);
+  over = dry.told;
+}
+
 -- or a write did
 pub next_stopped : (a b : SourceState) (len : ℕ) (done : List ℕ) (Ends : List ℕ → Type 0) → Reads done a b → length done ≤ len → Ends done → NextStops Ends len a b
 next_stopped a b len done Ends p few ends = record { bytes = done; rest = []; logs = subst (Logs a.log b.log) (sym (append-nil done)) p.log; few = few; ends = ends }
@@ -58,25 +64,7 @@ pub lent_reads : {F : Type 0} (a b : Lent F) (place : ℕ) (old new : ReadLogSta
 lent_reads a b place old new bytes at came ends is adds =
     subst (λ p. ReadsOn p old new bytes) at (reads_on a.log b.log old new bytes adds (sym came) (sym ends) (ap (λ (l : ReadLogState). l.came) is) (ap (λ (l : ReadLogState). l.ends) is))
 
--- all that was asked for was taken
-taken_all : (more bytes ahead : List ℕ) (len left : ℕ) → more ≡ bytes ++ ahead → len ≡ left + length more → len ≤ length bytes → more ≡ bytes
-taken_all more bytes ahead len left joined count all =
-    let none : length ahead ≤ 0 = omega (arith, count, all, ap length joined, length-append bytes ahead) in
-    joined ∙ ap (λ t. bytes ++ t) (no_bytes ahead none) ∙ append-nil bytes
-
--- an intake took so many bytes of a stored file
-pub again_taken : {F : Type 0} (tell : F → Option (List ℕ)) (a b : Lent F) (i j : IntakeState) (place len : ℕ) (old new : ReadLogState) (bytes : List ℕ) → a.log.at ≡ place → a.log.came ≡ old.came → a.log.ends ≡ old.ends
-    → new ≡ record { came = b.log.came; ends = b.log.ends; failures = b.failures } → i ≡ record { ahead = []; left = len }
-    → Takes (supply (record { remaining = bytes_from a.log.at (tell a.file); log = Some (unskipped a.log); failures = a.failures }) i) (supply (record { remaining = bytes_from b.log.at (tell b.file); log = Some (unskipped b.log); failures = b.failures }) j) bytes
-    → len ≤ length bytes → ReadsOn place old new bytes
-again_taken tell a b i j place len old new bytes at came ends is begun takes all =
-    let none : i.ahead ≡ [] = ap (λ (k : IntakeState). k.ahead) begun in
-    let left : i.left ≡ len = ap (λ (k : IntakeState). k.left) begun in
-    let joined : takes.more ≡ bytes ++ j.ahead = ap (λ t. t ++ takes.more) (sym none) ∙ takes.joined in
-    let whole : takes.more ≡ bytes = taken_all takes.more bytes j.ahead len j.left joined (sym left ∙ takes.drawn.count) all in
-    lent_reads a b place old new bytes at came ends is (subst (Adds (unskipped a.log) (unskipped b.log)) whole takes.drawn.read.log)
-
--- or it stopped
+-- and what its log gained, whatever that was
 pub again_some : {F : Type 0} (a b : Lent F) (place : ℕ) (old new : ReadLogState) → a.log.at ≡ place → a.log.came ≡ old.came → a.log.ends ≡ old.ends → new ≡ record { came = b.log.came; ends = b.log.ends; failures = b.failures }
     → Grows (Some (unskipped a.log)) (Some (unskipped b.log)) → ReadsSome place old new
 again_some a b place old new at came ends is grows = record { bytes = grows.bytes; read = lent_reads a b place old new grows.bytes at came ends is grows.logs }

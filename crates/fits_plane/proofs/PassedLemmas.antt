@@ -13,7 +13,7 @@ use Rattle.fits_plane.specs.Summary.{pixel_unit, pixels_joined}
 use Rattle.fits_plane.specs.SummaryLaws.{pixel_laws}
 use Rattle.fits_plane.specs.Statistics.{statistics, AllFit64}
 use Rattle.fits_plane.specs.Pixels.{pixels, IsWidth}
-use Rattle.fits_plane.specs.Layout.{IsLayout}
+use Rattle.fits_plane.specs.Layout.{IsLayout, block_count}
 use Rattle.fits_plane.specs.Passing.{IsPassing, pixels_in}
 use Rattle.fits_plane.proofs.FillLemmas.{filled-append}
 use Rattle.fits_plane.proofs.LeafLemmas.{layout_small, next, pixels_fit, statistics-append}
@@ -123,11 +123,11 @@ pub total_small : (bytes : List ℕ) → length bytes % 2880 ≡ 0 → ((k : ℕ
 total_small bytes whole small = word_total-le (length bytes / 4) bytes (omega (arith, whole)) (λ i le. small i)
 
 -- a part more passed by: a block, or bytes without pixels
-pub passing_more : (layout : Layout) (bytes part all : List ℕ) (count count' used total total' : ℕ) (stored stored' : PixelSummary) (filled here both : Bool) → IsPassing layout bytes count stored total filled
+pub passing_more : (layout : Layout) (bytes part all : List ℕ) (count count' used total total' scans scans' : ℕ) (stored stored' : PixelSummary) (filled here both : Bool) → IsPassing layout bytes count stored total filled scans
     → (layout.width ≡ 0) ⊎ (length part ≡ 2880) → length part % 2880 ≡ 0 → length bytes + length part ≤ 2 ^ 34 → ((k : ℕ) → slice_index part k < 256) → all ≡ bytes ++ part → count' ≡ count + length part
     → stored' ≡ pixels_joined stored (found_in layout part count) → total' ≡ total + word_total part → used ≡ layout.used - count → here ≡ list_all (nat_eq layout.fill) (drop used part) → both ≡ (filled && here)
-    → IsPassing layout all count' stored' total' both
-passing_more layout xs ys all count count' used total total' stored stored' filled here both p block whole room bytes is more joined sum start fill and =
+    → scans' ≡ scans + block_count part → IsPassing layout all count' stored' total' both scans'
+passing_more layout xs ys all count count' used total total' scans scans' stored stored' filled here both p block whole room bytes is more joined sum start fill and again =
     let small : (k : ℕ) → slice_index (xs ++ ys) k < 256 = small-append xs ys p.small bytes in
     let wide : pixels_joined (passed layout xs) (found_in layout ys (length xs)) ≡ passed layout (xs ++ ys) = elim p.width [
       | inl none ↦ passed_bare layout xs ys (p.no_pixels none)
@@ -151,6 +151,7 @@ passing_more layout xs ys all count count' used total total' stored stored' fill
           and ∙ ap (λ b. b && here) p.filled_is
           ∙ ap (λ b. list_all (nat_eq layout.fill) (drop layout.used xs) && b) (fill ∙ ap (λ n. list_all (nat_eq layout.fill) (drop n ys)) (start ∙ ap (λ n. layout.used - n) p.count_is))
           ∙ sym (filled-append layout.fill layout.used xs ys);
+      scans_are = omega (arith, again, p.scans_are, p.whole, whole, length-append xs ys);
     })
 
 -- a front of a piece passed by, and a block more

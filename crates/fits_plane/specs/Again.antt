@@ -1,7 +1,7 @@
 -- Bytes of a stored file that are read again (own).
 use Rattle.std.specs.Prelude.{◌≡◌, ◌<◌, ◌≤◌, ℕ, ◌+◌, List, ◌++◌, length, take, Option, MatchOption}
 use Rattle.fits_stream.specs.Agree.{EndsAt, IsOf, ReadsOn, ReadsShort, ReadsSome}
-use Rattle.fits_stream.specs.Log.{IsEnded, Logs}
+use Rattle.fits_stream.specs.Log.{Grows, IsEnded, Logs}
 use Rattle.fits_stream.specs.Stored.{ReadLogState}
 use Rattle.fits_stream.specs.Stream.{SinkState, SourceState, Prints, PrintsFront, Reads}
 use Rattle.fits_sum.specs.Words.{word_total}
@@ -20,6 +20,18 @@ Follows old new = (bytes : List ℕ) → IsOf bytes new → IsOf bytes old
 abbrev pub LoadStops : ℕ → ℕ → ReadLogState → ReadLogState → LoadFault → Type 0
 LoadStops place len old new load.Changed = ReadsShort place len old new
 LoadStops place len old new why = ReadsSome place old new
+
+-- fewer than so many bytes of a source came, and then a read gave none
+pub record ReadsFewer (len : ℕ) (source source' : SourceState) : Type 0 where
+  pub bytes : List ℕ
+  pub logs : Logs source.log source'.log bytes
+  pub short : length bytes < len
+  pub over : IsEnded source'.log
+
+-- why so many weren't read
+abbrev pub LoadNextStops : ℕ → SourceState → SourceState → LoadFault → Type 0
+LoadNextStops len source source' load.Changed = ReadsFewer len source source'
+LoadNextStops len source source' why = Grows source.log source'.log
 
 -- so many bytes of a source were copied, which have this total
 pub record CopiesNext (len total : ℕ) (source source' : SourceState) (sink sink' : SinkState) : Type 0 where

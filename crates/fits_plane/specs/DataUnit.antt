@@ -14,10 +14,10 @@ pub record UnitState : Type 0 where
   pub plane : PlaneState
   pub absent : Option Absence
 
--- its bytes are those in memory, or those that are known
+-- what is in memory of it, or what is known: its blocks were scanned as they passed by
 abbrev pub plane_of : PlaneState → Option Absent → PlaneState
 plane_of plane None = plane
-plane_of plane (Some it) = record plane { bytes = it.unit.bytes; layout = it.unit.layout }
+plane_of plane (Some it) = record { bytes = it.unit.bytes; layout = it.unit.layout; scans = it.unit.scans; reads = 0; joins = 0 }
 
 -- where it lies
 abbrev pub absence_of : Option Absent → Option Absence

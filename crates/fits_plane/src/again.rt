@@ -1,11 +1,10 @@
 //! Bytes of a stored file that are read again.
 ghost use Rattle.std.specs.Prelude.{◌≡◌, ◌<◌, ◌≤◌, ◌%◌, ◌^◌, length, IfOk, IfErr, OnOk};
 ghost use Rattle.fits_stream.specs.Agree.{ReadsOn};
-ghost use Rattle.fits_plane.specs.Again.{Copies, CopiesNext, CopyCounts, CopyNextStops, CopyStops, LoadCounts, LoadStops};
+ghost use Rattle.fits_stream.specs.Stream.{Reads};
+ghost use Rattle.fits_plane.specs.Again.{Copies, CopiesNext, CopyCounts, CopyNextStops, CopyStops, LoadCounts, LoadNextStops, LoadStops};
 
-use fits_stream::{
-    Intake, ReadFault, ReadLog, Sink, Source, Stored, StoredSource, fill, write_all,
-};
+use fits_stream::{ReadLog, Sink, Source, Stored, StoredSource, fill, write_all};
 use fits_sum::words_total;
 use std::alloc::Global;
 
@@ -31,33 +30,61 @@ pub enum CopyFault {
     Write,
 }
 
-/// So many bytes of a file from a place on.
+/// So many bytes of a file from a place on, read through a room.
 pub(crate) fn read_again<F: Stored>(
     alloc: Global,
     file: &F,
     log: &mut ReadLog,
     place: u64,
     len: usize,
+    room: &mut [u8],
 ) -> Result<Vec<u8>, LoadFault>
+    requires wide { 0 < length room.old }
     ensures are { IfOk result (λ bytes. ReadsOn place log.old log.new bytes.items) }
-    ensures size { IfOk result (λ bytes. length bytes.items ≡ len) }
+    ensures len { IfOk result (λ bytes. length bytes.items ≡ len) }
+    ensures size { length room.new ≡ length room.old }
     ensures quiet { OnOk result (log.new.failures ≡ log.old.failures) }
     ensures err { IfErr result (LoadStops place len log.old log.new) }
     ensures counted { IfErr result (LoadCounts log.old.failures log.new.failures) }
 {
-    let Ok(mut intake) = Intake::new(alloc, len) else {
+    let mut source = StoredSource::new(file, place, log.take());
+    let read = read_next(alloc, &mut source, len, room);
+    *log = source.into_log();
+    read
+}
+
+// The next bytes of a source, so many, read through a room.
+fn read_next<R: Source>(
+    alloc: Global,
+    source: &mut R,
+    len: usize,
+    room: &mut [u8],
+) -> Result<Vec<u8>, LoadFault>
+    requires wide { 0 < length room.old }
+    ensures are { IfOk result (λ bytes. Reads bytes.items
+        (R.state source.old) (R.state source.new)) }
+    ensures len { IfOk result (λ bytes. length bytes.items ≡ len) }
+    ensures size { length room.new ≡ length room.old }
+    ensures quiet { OnOk result ((R.state source.new).failures ≡ (R.state source.old).failures) }
+    ensures err { IfErr result (LoadNextStops len (R.state source.old) (R.state source.new)) }
+    ensures counted { IfErr result
+        (LoadCounts (R.state source.old).failures (R.state source.new).failures) }
+{
+    let Ok(mut bytes) = Vec::with_capacity(alloc, len) else {
         return Err(LoadFault::Memory);
     };
-    let mut source = StoredSource::new(file, place, log.take());
-    let taken = intake.take(alloc, &mut source, len);
-    *log = source.into_log();
-    let bytes = match taken {
-        Ok(bytes) => bytes,
-        Err(ReadFault::Memory) => return Err(LoadFault::Memory),
-        Err(ReadFault::Failed) => return Err(LoadFault::Failed),
-    };
-    if bytes.len() < len {
-        return Err(LoadFault::Changed);
+    while bytes.len() < len {
+        let most = room.len().min(len - bytes.len());
+        let (piece, _) = room.split_at_mut(most);
+        let Ok(n) = fill(source, piece) else {
+            return Err(LoadFault::Failed);
+        };
+        if n < most {
+            return Err(LoadFault::Changed);
+        }
+        let Ok(()) = bytes.extend_from_slice(piece) else {
+            return Err(LoadFault::Memory);
+        };
     }
     Ok(bytes)
 }

@@ -82,11 +82,14 @@ impl DataBytes {
         self.bytes = bytes;
     }
 
-    /// Counts so many blocks that were scanned.
-    pub(crate) fn count_scans(&mut self, blocks: usize)
-        ensures { self.new ≡ record self.old { scans = self.old.scans + blocks } }
+    /// Counts on from the scans of the same blocks as they passed by. Each was scanned once since.
+    pub(crate) fn count_on(&mut self, passed: Count)
+        requires { self.old.scans ≡ block_count self.old.bytes }
+        ensures { self.new ≡ record self.old { scans = passed.total + self.old.scans } }
     {
-        tick_each(&mut self.scans, blocks);
+        let mut scans = passed;
+        scans.add(self.bytes.len() / BLOCK_LEN);
+        self.scans = scans;
     }
 
     /// Scans block k.
@@ -112,7 +115,7 @@ impl DataBytes {
         ensures joins { (d : ℕ) → length tree.old.leaves ≤ 2 ^ d
             → tree.new.joins ≤ tree.old.joins + 2 ^ d }
     {
-        tick_each(&mut self.scans, self.bytes.len() / BLOCK_LEN);
+        self.scans.add(self.bytes.len() / BLOCK_LEN);
         let bytes = self.bytes.as_slice();
         tree.refresh(|k| scan_block(bytes, layout, k));
     }
@@ -209,15 +212,6 @@ impl DataBytes {
             (W.state sink.old) (W.state sink.new)) }
     {
         write_all(sink, self.bytes.as_slice())
-    }
-}
-
-/// So many times more.
-fn tick_each(count: &mut Count, times: usize)
-    ensures { count.new.total ≡ count.old.total + times }
-{
-    for time in 0..times {
-        count.tick();
     }
 }
 

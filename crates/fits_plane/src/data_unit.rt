@@ -1,4 +1,8 @@
-ghost use Rattle.std.specs.Prelude.{◌≡◌};
+ghost use Rattle.std.specs.Prelude.{◌≡◌, ◌≤◌, ◌<◌, ◌^◌, ℕ, List, drop, length, take, IfErr, IfOk, OnOk};
+ghost use Rattle.fits_stream.specs.Agree.{IsOf, ReadsOn};
+ghost use Rattle.fits_sum.specs.Words.{word_total};
+ghost use Rattle.fits_plane.specs.Again.{Follows, LoadCounts};
+ghost use Rattle.fits_plane.specs.Layout.{block_count};
 
 use crate::absent::Absent;
 use crate::again::{CopyFault, LoadFault, copy_again, read_again};
@@ -8,9 +12,7 @@ use crate::passed_unit::PassedUnit;
 use crate::plane::Plane;
 use crate::plane_room::PlaneRoom;
 use crate::value_summary::ValueSummary;
-use fits_card::BLOCK_LEN;
 use fits_stream::{ReadLog, Sink, Stored};
-use fits_sum::words_total;
 use std::alloc::{AllocError, Global};
 use std::marker::Model;
 
@@ -70,10 +72,11 @@ impl DataUnit {
             ≡ Some (record { place = place; blank = unit.blank })) }
         ensures scans { IfOk result (λ it. it.plane.scans ≡ block_count unit.bytes) }
         ensures reads { IfOk result (λ it. it.plane.reads ≡ 0) }
-        ensures joins { IfOk result (λ it. it.plane.joins ≤ 1) }
+        ensures joins { IfOk result (λ it. it.plane.joins ≡ 0) }
     {
+        let _scanned = unit.layout();
         Ok(DataUnit {
-            plane: Plane::away(alloc, unit.byte_len() / BLOCK_LEN)?,
+            plane: Plane::away(alloc)?,
             absent: Some(Absent { unit, place }),
         })
     }
@@ -282,14 +285,17 @@ impl DataUnit {
         self.plane.renew(room, bytes, layout);
     }
 
-    /// Reads it into memory, where it isn't: each of its blocks is scanned again, and its counts go
-    /// on. What is read is compared with what is known of it, by its length and its total.
+    /// Reads it into memory, where it isn't, through a room: each of its blocks is scanned once again,
+    /// and its counts go on. What is read is compared with what is known of it, by its length and its
+    /// total.
     pub fn load<F: Stored>(
         &mut self,
         alloc: Global,
         file: &F,
         log: &mut ReadLog,
+        room: &mut [u8],
     ) -> Result<(), LoadFault>
+        requires { 0 < length room.old }
         ensures held { OnOk result (self.new.absent ≡ None) }
         ensures layout { OnOk result (self.new.plane.layout ≡ self.old.plane.layout) }
         ensures loaded { OnOk result (IfSome self.old.absent
@@ -304,6 +310,8 @@ impl DataUnit {
         ensures idle { self.old.absent ≡ None → self.new ≡ self.old }
         ensures at_once { self.old.absent ≡ None → IsOk result }
         ensures reads { self.new.plane.reads ≡ self.old.plane.reads }
+        ensures scanned { OnOk result (IfSome self.old.absent (λ _. self.new.plane.scans
+            ≡ self.old.plane.scans + block_count self.old.plane.bytes)) }
         ensures more_scans { self.old.plane.scans ≤ self.new.plane.scans }
         ensures scans { self.new.plane.scans
             ≤ self.old.plane.scans + block_count self.old.plane.bytes }
@@ -317,22 +325,22 @@ impl DataUnit {
             → LiesIn bytes self.old.plane self.old.absent
             → IfErr result (λ why. why ≡ LoadFault.Changed → ⊥) }
         ensures follows { Follows log.old log.new }
+        ensures room { length room.new ≡ length room.old }
     {
-        let Some(it) = &self.absent else {
+        let Some(it) = self.absent.take() else {
             return Ok(());
         };
-        let len = it.unit.byte_len();
-        let layout = it.unit.layout();
-        let bytes = read_again(alloc, file, log, it.place, len)?;
-        if words_total(bytes.as_slice()) != it.unit.total() {
-            return Err(LoadFault::Changed);
+        match plane_again(alloc, file, log, &it, room) {
+            Ok(mut plane) => {
+                plane.count_on(it.unit.into_scans());
+                self.plane = plane;
+                Ok(())
+            }
+            Err(why) => {
+                self.absent = Some(it);
+                Err(why)
+            }
         }
-        let Ok(room) = PlaneRoom::new(alloc, len / BLOCK_LEN) else {
-            return Err(LoadFault::Memory);
-        };
-        self.plane.renew(room, bytes, layout);
-        self.absent = None;
-        Ok(())
     }
 
     /// Writes its bytes: those in memory, or else those that the file has at its place, through a room
@@ -377,6 +385,43 @@ impl DataUnit {
         }
         Ok(())
     }
+}
+
+// The plane of a data unit that isn't in memory, as its file has it now, which is to have the length
+// and the total that are known.
+fn plane_again<F: Stored>(
+    alloc: Global,
+    file: &F,
+    log: &mut ReadLog,
+    it: &Absent,
+    room: &mut [u8],
+) -> Result<Plane, LoadFault>
+    requires { 0 < length room.old }
+    ensures are { IfOk result (λ p. ReadsOn it.now.place log.old log.new p.bytes) }
+    ensures size { IfOk result (λ p. length p.bytes ≡ length it.now.unit.bytes) }
+    ensures total { IfOk result (λ p. word_total p.bytes ≡ word_total it.now.unit.bytes) }
+    ensures layout { IfOk result (λ p. p.layout ≡ it.now.unit.layout) }
+    ensures scans { IfOk result (λ p. p.scans ≡ block_count p.bytes) }
+    ensures reads { IfOk result (λ p. p.reads ≡ 0) }
+    ensures joins { IfOk result
+        (λ p. (d : ℕ) → block_count p.bytes ≤ 2 ^ d → p.joins ≤ 2 ^ d) }
+    ensures quiet { OnOk result (log.new.failures ≡ log.old.failures) }
+    ensures counted { IfErr result (LoadCounts log.old.failures log.new.failures) }
+    ensures steady { (bytes : List ℕ) → IsOf bytes log.new
+        → take (length it.now.unit.bytes) (drop it.now.place bytes) ≡ it.now.unit.bytes
+        → IfErr result (λ why. why ≡ LoadFault.Changed → ⊥) }
+    ensures follows { Follows log.old log.new }
+    ensures room { length room.new ≡ length room.old }
+{
+    let layout = it.unit.layout();
+    let bytes = read_again(alloc, file, log, it.place, it.unit.byte_len(), room)?;
+    let Ok(plane) = Plane::of(alloc, bytes, layout) else {
+        return Err(LoadFault::Memory);
+    };
+    if plane.total() != it.unit.total() {
+        return Err(LoadFault::Changed);
+    }
+    Ok(plane)
 }
 
 mod fields;

@@ -3,13 +3,13 @@ ghost use Rattle.std.specs.Prelude.{◌≡◌};
 use crate::layout::Layout;
 use crate::pixel_summary::PixelSummary;
 use crate::value_summary::ValueSummary;
-use fits_stream::GoneBytes;
+use fits_stream::{Count, GoneBytes};
 use std::marker::Model;
 
 /// What is known of a data unit whose bytes passed by. None of them is kept.
 ///
-/// Contracts see its bytes, how they are read, and the stored number of undefined pixels as they
-/// passed by.
+/// Contracts see its bytes, how they are read, the stored number of undefined pixels as they passed
+/// by, and how many of its blocks were scanned then.
 #[derive(Drop)]
 pub struct PassedUnit {
     layout: Layout,
@@ -18,6 +18,7 @@ pub struct PassedUnit {
     total: u64,
     filled: bool,
     len: usize,
+    scans: Count,
     gone: GoneBytes,
 }
 
@@ -26,17 +27,22 @@ impl Model for PassedUnit {
 
     ghost Value = { PassedState };
 
-    ghost view = { λ it. record { bytes = it.gone.bytes; layout = it.layout; blank = it.blank } };
+    ghost view = { λ it. record {
+      bytes = it.gone.bytes;
+      layout = it.layout;
+      blank = it.blank;
+      scans = it.scans.total;
+    } };
 
     ghost invariant = { λ it. IsKnown
-        it.gone.bytes it.layout it.blank it.stored it.total it.filled it.len };
+        it.gone.bytes it.layout it.blank it.stored it.total it.filled it.len it.scans.total };
 }
 
 impl PassedUnit {
     ghost use Rattle.std.specs.Prelude.{◌≡◌, ◌^◌, ◌≤◌, ◌↔◌, IsTrue, drop, length, nat_eq, unsigned_abs};
     ghost use Rattle.std.specs.List.{list_all};
     ghost use Rattle.fits_sum.specs.Words.{word_total};
-    ghost use Rattle.fits_plane.specs.Layout.{IsLayout};
+    ghost use Rattle.fits_plane.specs.Layout.{IsLayout, block_count};
     ghost use Rattle.fits_plane.specs.Passing.{IsKnown};
     ghost use Rattle.fits_plane.specs.Pixels.{pixels};
     ghost use Rattle.fits_plane.specs.Statistics.{value_statistics};
@@ -48,10 +54,16 @@ impl PassedUnit {
         total: u64,
         filled: bool,
         len: usize,
+        scans: Count,
         gone: GoneBytes,
     ) -> PassedUnit
-        requires { IsKnown gone.bytes layout layout.blank stored total filled len }
-        ensures { result ≡ record { bytes = gone.bytes; layout = layout; blank = layout.blank } }
+        requires { IsKnown gone.bytes layout layout.blank stored total filled len scans.total }
+        ensures { result ≡ record {
+          bytes = gone.bytes;
+          layout = layout;
+          blank = layout.blank;
+          scans = scans.total;
+        } }
     {
         PassedUnit {
             layout,
@@ -60,6 +72,7 @@ impl PassedUnit {
             total,
             filled,
             len,
+            scans,
             gone,
         }
     }
@@ -67,6 +80,7 @@ impl PassedUnit {
     pub fn layout(&self) -> Layout
         ensures value { result ≡ self.now.layout }
         ensures fits { IsLayout result self.now.bytes }
+        ensures scanned { self.now.scans ≡ block_count self.now.bytes }
     {
         self.layout
     }
@@ -118,6 +132,13 @@ impl PassedUnit {
         } }
     {
         self.layout.blank = blank;
+    }
+
+    /// How many of its blocks were scanned as they passed by.
+    pub(crate) fn into_scans(self) -> Count
+        ensures { result.total ≡ self.scans }
+    {
+        self.scans
     }
 }
 

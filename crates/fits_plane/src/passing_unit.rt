@@ -1,5 +1,6 @@
-ghost use Rattle.std.specs.Prelude.{◌≡◌, ◌-◌, ◌/◌, ◌%◌, ◌⊎◌, ◌≤◌, length, min};
+ghost use Rattle.std.specs.Prelude.{◌≡◌, ◌+◌, ◌-◌, ◌/◌, ◌%◌, ◌⊎◌, ◌≤◌, length, min};
 ghost use Rattle.fits_sum.specs.Words.{word_total};
+ghost use Rattle.fits_plane.specs.Layout.{block_count};
 ghost use Rattle.fits_plane.specs.Pixels.{pixels, IsWidth};
 ghost use Rattle.fits_plane.specs.Statistics.{statistics};
 
@@ -12,7 +13,7 @@ use crate::scan::{Leaf, pixels_per_block, scan_part};
 use crate::summary::Summary;
 use crate::word_summary::WordSummary;
 use fits_card::BLOCK_LEN;
-use fits_stream::GoneBytes;
+use fits_stream::{Count, GoneBytes};
 use fits_sum::words_total;
 use std::marker::Model;
 
@@ -26,6 +27,7 @@ pub struct PassingUnit {
     stored: PixelSummary,
     total: u64,
     filled: bool,
+    scans: Count,
     gone: GoneBytes,
 }
 
@@ -37,12 +39,12 @@ impl Model for PassingUnit {
     ghost view = { λ it. record { layout = it.layout; bytes = it.gone.bytes } };
 
     ghost invariant = { λ it. IsPassing
-        it.layout it.gone.bytes it.count it.stored it.total it.filled };
+        it.layout it.gone.bytes it.count it.stored it.total it.filled it.scans.total };
 }
 
 impl PassingUnit {
     ghost use Rattle.std.specs.Prelude.{◌≡◌, ◌+◌, ◌%◌, ◌^◌, ◌≤◌, ◌⊎◌, ◌++◌, [], length};
-    ghost use Rattle.fits_plane.specs.Layout.{IsLayout};
+    ghost use Rattle.fits_plane.specs.Layout.{IsLayout, block_count};
     ghost use Rattle.fits_plane.specs.Pixels.{IsWidth};
 
     /// A data unit that is read so, and of which nothing passed by yet.
@@ -57,6 +59,7 @@ impl PassingUnit {
             stored: PixelSummary::unit(),
             total: 0,
             filled: true,
+            scans: Count::new(),
             gone: GoneBytes::none(),
         }
     }
@@ -94,7 +97,7 @@ impl PassingUnit {
         read_bytes(part);
         let used = self.layout.used.saturating_sub(self.count);
         let filled = is_filled(part, used, self.layout.fill);
-        let found = scan_next(part, self.layout, self.count);
+        let found = scan_next(part, self.layout, self.count, &mut self.scans);
         self.stored = self.stored.join(found.first);
         self.total += found.second.total;
         self.filled = self.filled && filled;
@@ -109,6 +112,7 @@ impl PassingUnit {
           bytes = self.bytes;
           layout = self.layout;
           blank = self.layout.blank;
+          scans = block_count self.bytes;
         } }
     {
         PassedUnit::of(
@@ -117,13 +121,15 @@ impl PassingUnit {
             self.total,
             self.filled,
             self.count,
+            self.scans,
             self.gone,
         )
     }
 }
 
-// What is kept of a block, or of bytes without pixels, that so many bytes stand before.
-fn scan_next(part: &[u8], layout: Layout, count: usize) -> Leaf
+// What is kept of a block, or of bytes without pixels, that so many bytes stand before. Each block is
+// scanned once.
+fn scan_next(part: &[u8], layout: Layout, count: usize, scans: &mut Count) -> Leaf
     requires width { (layout.width ≡ 0) ⊎ IsWidth layout.width }
     requires block { (layout.width ≡ 0) ⊎ (length part.now ≡ 2880) }
     requires whole { length part.now % 2880 ≡ 0 }
@@ -131,7 +137,9 @@ fn scan_next(part: &[u8], layout: Layout, count: usize) -> Leaf
     ensures first { result.first ≡ statistics layout.blank (pixels layout.width part.now 0
         (min (layout.pixels - count / layout.width) (2880 / layout.width))) }
     ensures second { result.second.total ≡ word_total part.now }
+    ensures work { scans.new.total ≡ scans.old.total + block_count part.now }
 {
+    scans.add(part.len() / BLOCK_LEN);
     let Some(before) = count.checked_div(layout.width) else {
         return Leaf {
             first: PixelSummary::unit(),

@@ -14,7 +14,7 @@ use crate::scan::Leaf;
 use crate::tree::Tree;
 use crate::value_summary::ValueSummary;
 use fits_card::BLOCK_LEN;
-use fits_stream::Sink;
+use fits_stream::{Count, Sink};
 use std::alloc::{AllocError, Global};
 use std::io;
 use std::marker::Model;
@@ -54,7 +54,7 @@ impl Model for Plane {
 }
 
 impl Plane {
-    ghost use Rattle.std.specs.Prelude.{◌≡◌, ◌≤◌, ◌<◌, ◌*◌, ◌+◌, ◌%◌, ◌-ℤ◌, ◌^◌, ◌↔◌, ℕ, pos, true, drop, length, replicate, slice_index_or, unsigned_abs, All, IsTrue, IfOk, OnOk, OnErr};
+    ghost use Rattle.std.specs.Prelude.{◌≡◌, ◌≤◌, ◌<◌, ◌*◌, ◌+◌, ◌%◌, ◌-ℤ◌, ◌^◌, ◌↔◌, [], ℕ, pos, true, drop, length, replicate, slice_index_or, unsigned_abs, All, IsTrue, IfOk, OnOk, OnErr};
     ghost use Rattle.std.specs.Option.{option_map};
     ghost use Rattle.fits_stream.specs.Stream.{Prints, PrintsFront};
     ghost use Rattle.fits_sum.specs.Words.{word_total};
@@ -122,12 +122,9 @@ impl Plane {
         })
     }
 
-    /// What is kept of a data unit of so many blocks that isn't in memory: no byte. Each of its blocks
-    /// was scanned as it passed by.
-    pub(crate) fn away(alloc: Global, blocks: usize) -> Result<Plane, AllocError>
-        ensures scans { IfOk result (λ p. p.scans ≡ blocks) }
-        ensures reads { IfOk result (λ p. p.reads ≡ 0) }
-        ensures joins { IfOk result (λ p. p.joins ≤ 1) }
+    /// What stands for a data unit that isn't in memory: no byte.
+    pub(crate) fn away(alloc: Global) -> Result<Plane, AllocError>
+        ensures { IfOk result (λ p. p.bytes ≡ []) }
     {
         let layout = Layout {
             width: 0,
@@ -136,9 +133,15 @@ impl Plane {
             fill: 0,
             blank: None,
         };
-        let mut plane = Plane::of(alloc, Vec::new(alloc), layout)?;
-        plane.store.count_scans(blocks);
-        Ok(plane)
+        Plane::of(alloc, Vec::new(alloc), layout)
+    }
+
+    /// Counts on from the scans of its blocks as they passed by. Each was scanned once since.
+    pub(crate) fn count_on(&mut self, passed: Count)
+        requires { self.old.scans ≡ block_count self.old.bytes }
+        ensures { self.new ≡ record self.old { scans = passed.total + self.old.scans } }
+    {
+        self.store.count_on(passed);
     }
 
     pub fn layout(&self) -> Layout

@@ -1,9 +1,9 @@
 -- Data units that lie in a stored file, and what loading one leaves.
-use Rattle.std.proofs.Common.{All, ◌≡◌, ℕ, ◌+◌, ◌<◌, ◌≤◌, List, [], ◌∷◌, ◌++◌, length, map, take, drop, get_or, set, refl, ap, sym, subst, ◌∙◌, arith, Option, None, Some, suc, zero, add-one}
-use Rattle.std.specs.Prelude.{IfSome, Err, Ok, OnErr, OnOk, Result, false}
+use Rattle.std.proofs.Common.{All, ◌≡◌, ℕ, ◌+◌, ◌<◌, ◌≤◌, List, [], ◌∷◌, ◌++◌, length, map, take, drop, get_or, set, refl, ap, sym, subst, ◌∙◌, arith, Option, None, Some, suc, true, zero, add-one}
+use Rattle.std.specs.Prelude.{Bool, IfSome, Err, Ok, OnErr, OnOk, Result, false, is_some}
 use Rattle.std.proofs.Math.Seq.{drop-append-add, take-append_seam}
 use Rattle.std.proofs.lemmas.List.{append_assoc, length-append, length-set, map-append, set-get_or}
-use Rattle.std.proofs.lemmas.Option.{slice_get_read}
+use Rattle.std.proofs.lemmas.Option.{same_Some, slice_get_read}
 use Rattle.std.specs.List.{slice_get}
 use Rattle.std.proofs.lemmas.List.Elements.{All-cons, All-nil, All-set}
 use Rattle.fits_card.specs.Header.{Header, IsHeader, header_bytes}
@@ -35,7 +35,7 @@ use Rattle.fits_session.specs.File.{FileParts, file_bytes, joined_hdus, IsFile}
 use Rattle.fits_session.specs.Opening.{HasOpenFault}
 use Rattle.fits_session.specs.Keeping.{vouch, IsSound}
 use Rattle.fits_session.specs.Reading.{GaveFault, KeepsEach, SupplyStops}
-use Rattle.fits_session.specs.Session.{file_of, hdus_of, marked_of, state_of, HasStats, Holding, IsHad, IsHeld, IsKept, IsSoOf}
+use Rattle.fits_session.specs.Session.{file_of, hdus_of, marked_of, state_of, HasArray, HasPixels, HasStats, Holding, IsHad, IsHeld, IsKept, IsSoOf}
 use Rattle.fits_session.specs.declared.limits.TheConstants.{FILE_LIMIT}
 use Rattle.fits_session.proofs.HadLemmas.{had_held}
 use Rattle.fits_session.proofs.EditLemmas.{length_changed, other_kept}
@@ -308,6 +308,43 @@ held_stays hdus tail h i old new at idle held =
     let same : new ≡ old = idle (held i old at.index (sym at.is)) in
     ap (λ (left : List HduState). state_of left tail) (ap (set hdus i) (same ∙ at.is) ∙ set-get_or hdus i old)
 
--- the statistics of what is held are known
-pub held_known : (hdus : List HduState) (h : ℕ) → IsSoOf IsHeld h hdus → IsSoOf HasStats h hdus
-held_known hdus h held i one at is = subst (λ (absent : Option Absence). IsCounted one.plane absent) (sym (held i one at is)) tt
+-- what is held has its pixels in memory, as an image
+pub held_pixels : (hdus : List HduState) (h : ℕ) → IsSoOf IsHeld h hdus → IsSoOf HasPixels h hdus
+held_pixels hdus h held i one at is kind found = held i one at is
+
+-- and as an array
+pub held_array : (hdus : List HduState) (h : ℕ) → IsSoOf IsHeld h hdus → IsSoOf HasArray h hdus
+held_array hdus h held i one at is bits found = held i one at is
+
+-- the statistics of pixels in memory are known
+pub held_known : (hdus : List HduState) (h : ℕ) → IsSoOf HasPixels h hdus → IsSoOf HasStats h hdus
+held_known hdus h held i one at is kind found = subst (λ (absent : Option Absence). IsCounted one.plane absent) (sym (held i one at is kind found)) tt
+
+-- ---- what is wanted of an HDU
+
+-- what is so of the HDU at its index is so of HDU h
+pub so_there : (Is : HduState → Type 0) (hdus : List HduState) (h i : ℕ) (hdu : HduState) → IsHduAt hdus h i hdu → Is hdu → IsSoOf Is h hdus
+so_there Is hdus h i hdu at is j one index there =
+    let same_index : j ≡ i = omega (arith, index.at, at.index.at) in
+    let own : slice_get hdus j ≡ Some one = slice_get_read hdus (length hdus) j one refl index.within (sym there) in
+    let found : slice_get hdus j ≡ Some hdu = ap (slice_get hdus) same_index ∙ slice_get_read hdus (length hdus) i hdu refl at.index.within at.is in
+    subst Is (same_Some hdu one (sym found ∙ own)) is
+
+-- it is in memory, if such a thing is found of it
+abbrev pub HeldIf : {X : Type 0} → (HduState → Option X) → HduState → Type 0
+HeldIf {X} find one = (x : X) → find one ≡ Some x → one.absent ≡ None
+
+-- what is found
+found_some : {X Y : Type 0} (found : Option X) → is_some found ≡ true → ((x : X) → found ≡ Some x → Y) → Y
+found_some None some go = absurd (cc)
+found_some (Some x) some go = go x refl
+
+-- where it is found, that is all
+pub some_held : {X : Type 0} (find : HduState → Option X) (hdus : List HduState) (h i : ℕ) (hdu : HduState) (found : Option X) → IsHduAt hdus h i hdu → found ≡ find hdu → is_some found ≡ true → IsSoOf (HeldIf find) h hdus → IsSoOf IsHeld h hdus
+some_held find hdus h i hdu found at is some held =
+    so_there IsHeld hdus h i hdu at (found_some found some (λ x one. held i hdu at.index (sym at.is) x (sym is ∙ one)))
+
+-- where it isn't, there is nothing to be in memory
+pub none_held : {X : Type 0} (find : HduState → Option X) (hdus : List HduState) (h i : ℕ) (hdu : HduState) (found : Option X) → IsHduAt hdus h i hdu → found ≡ find hdu → is_some found ≡ false → IsSoOf (HeldIf find) h hdus
+none_held find hdus h i hdu found at is none =
+    so_there (HeldIf find) hdus h i hdu at (λ x one. absurd (let z : true ≡ false = sym (ap is_some (is ∙ one)) ∙ none in cc))

@@ -11,9 +11,11 @@ use Rattle.fits_hdu.specs.State.{HduState, ReadsUpTo}
 use Rattle.fits_plane.specs.DataUnit.{LiesIn}
 use Rattle.fits_plane.specs.Plane.{PlaneState}
 use Rattle.fits_hdu.specs.declared.extension_name.ExtensionName.{ExtensionName}
-use Rattle.fits_session.specs.Session.{unentered, without_entries, HasStats, Holding, IsHad, IsHeld, IsKept, IsReadyFor, IsSoOf, StaysHad}
+use Rattle.fits_session.specs.Session.{unentered, without_entries, HasArray, HasPixels, HasStats, Holding, IsHad, IsHeld, IsKept, IsReadyFor, IsReadyTo, IsSoOf, StaysHad}
 use Rattle.fits_edit.specs.declared.edit.Edit.{Edit}
 use Rattle.fits_edit.specs.declared.edit.Edit.TheVariants.{Hdu, NewImage, RemoveHdu}
+use Rattle.fits_edit.specs.declared.hdu_edit.HduEdit.{HduEdit}
+use Rattle.fits_edit.specs.declared.hdu_edit.HduEdit.TheVariants.{Cards, Keep, Pixels, Release, Reshape, Stamp}
 use Rattle.fits_session.proofs.KeptLemmas.{all_seen, seen_all}
 use Rattle.fits_session.proofs.StateLemmas.{IsHduAt}
 
@@ -72,13 +74,26 @@ had_moved holding hdus others same p =
 pub so_held : (h : ℕ) (hdus : List HduState) → All IsHeld hdus → IsSoOf IsHeld h hdus
 so_held h hdus held i one at there = subst IsHeld there (held i one at.within)
 
--- so its statistics are known
+-- so are its pixels
+pub so_pixels : (h : ℕ) (hdus : List HduState) → All IsHeld hdus → IsSoOf HasPixels h hdus
+so_pixels h hdus held i one at there kind found = so_held h hdus held i one at there
+
+-- and its statistics are known
 pub so_counted : (h : ℕ) (hdus : List HduState) → All IsHeld hdus → IsSoOf HasStats h hdus
-so_counted h hdus held i one at there = let here : IsHeld one = so_held h hdus held i one at there in rw here tt
+so_counted h hdus held i one at there kind found = let here : IsHeld one = so_held h hdus held i one at there in rw here tt
+
+-- what an edit of an HDU in memory wants is
+ready_one : (edit : HduEdit) (one : HduState) → IsHeld one → IsReadyTo edit one
+ready_one (Cards edit) one held = tt
+ready_one (Pixels lo hi paint) one held = λ kind found. held
+ready_one (Reshape kind axes) one held = λ bits found. held
+ready_one Stamp one held = tt
+ready_one Keep one held = tt
+ready_one Release one held = tt
 
 -- and any edit may be made
 pub ready_held : (edit : Edit) (hdus : List HduState) → All IsHeld hdus → IsReadyFor edit hdus
-ready_held (Hdu h edit) hdus held = λ needs. so_held h hdus held
+ready_held (Hdu h edit) hdus held = λ i one at there. ready_one edit one (so_held h hdus held i one at there)
 ready_held (NewImage at kind axes) hdus held = tt
 ready_held (RemoveHdu h) hdus held = tt
 

@@ -1,10 +1,11 @@
 -- Steps of queries.
 use Rattle.std.proofs.Common.{◌≡◌, ◌<◌, ◌+◌, ℕ, Bool, true, false, List, length, set, refl, ap, sym, ◌∙◌, subst, ℤ, Option, None, Some}
-use Rattle.std.specs.Prelude.{◌&&◌, ok_or, Result, Ok, Err, IsOk}
+use Rattle.std.specs.Prelude.{◌&&◌, ok_or, Result, Ok, Err, IsOk, is_some}
 use Rattle.fits_value.specs.declared.value.Value.{Value}
 use Rattle.fits_header.specs.Names.{header_names}
 use Rattle.fits_header.specs.Places.{keyword_places}
 use Rattle.fits_rules.specs.Class.{is_primary}
+use Rattle.fits_rules.specs.Image.{array_bits}
 use Rattle.fits_rules.specs.Shape.{shape_of}
 use Rattle.fits_rules.specs.declared.array_shape.Shape.{Shape}
 use Rattle.fits_hdu.specs.Hdu.{HduParts}
@@ -26,7 +27,7 @@ use Rattle.fits_hdu.specs.declared.keyword.KeywordFault.TheVariants as keyword
 use Rattle.fits_session.specs.Edit.{hdu_of}
 use Rattle.fits_session.specs.HduEdit.{pixels_made, refusal_of_pixels, shaped}
 use Rattle.fits_session.specs.File.{IsFile}
-use Rattle.fits_session.specs.Query.{by_shape, card_count_in, datasum_in, kind_in, rect_in, shape_in, some_shape, stats_in, verdicts_in, value_in, positions_in, names_in, in_hdu, or_refused, refusal_of_keyword, PlacesFail, QueryFails}
+use Rattle.fits_session.specs.Query.{array_in, by_shape, card_count_in, datasum_in, kind_in, rect_in, shape_in, some_shape, stats_in, verdicts_in, value_in, positions_in, names_in, in_hdu, or_refused, refusal_of_keyword, PlacesFail, QueryFails}
 use Rattle.fits_session.specs.Edit.{is_primary_hdu}
 use Rattle.fits_session.specs.Keeping.{are_right, both_right, is_right}
 use Rattle.fits_session.specs.Marked.{is_kept, kept_in}
@@ -97,6 +98,21 @@ image_there answer hdus tail h i hdu found p at described is =
 pub kind_there : (hdus : List HduState) (tail : List ℕ) (h i : ℕ) (hdu : HduState) (kind : Option Kind) → IsFile (file_of (state_of hdus tail)) → IsHduAt hdus h i hdu → shape_of (is_primary hdu.header.shape.class) hdu.header.header.cards ≡ Ok hdu.header.shape → kind ≡ hdu_kind hdu.header.shape hdu.header.header.cards
     → ok_or kind refusal.NotImage ≡ kind_in (file_of (state_of hdus tail)) h
 kind_there hdus tail h i hdu kind p at described is = image_there (λ shape it. hdu_kind shape it.header.cards) hdus tail h i hdu kind p at described is
+
+-- what is there is an answer
+some_answer : {X : Type 0} (found : Option X) (answer : Result X Refusal) → ok_or found refusal.NotImage ≡ answer → is_some found ≡ true → IsOk answer
+some_answer {X} None answer e some = absurd (cc)
+some_answer {X} (Some x) answer e some = subst (λ (r : Result X Refusal). IsOk r) e refl
+
+-- it is an image
+pub image_is : (hdus : List HduState) (tail : List ℕ) (h i : ℕ) (hdu : HduState) (kind : Option Kind) → IsFile (file_of (state_of hdus tail)) → IsHduAt hdus h i hdu → shape_of (is_primary hdu.header.shape.class) hdu.header.header.cards ≡ Ok hdu.header.shape → kind ≡ hdu_kind hdu.header.shape hdu.header.header.cards
+    → is_some kind ≡ true → IsOk (kind_in (file_of (state_of hdus tail)) h)
+image_is hdus tail h i hdu kind p at described is some = some_answer kind _ (kind_there hdus tail h i hdu kind p at described is) some
+
+-- or an array
+pub array_is : (hdus : List HduState) (tail : List ℕ) (h i : ℕ) (hdu : HduState) (bits : Option ℕ) → IsFile (file_of (state_of hdus tail)) → IsHduAt hdus h i hdu → shape_of (is_primary hdu.header.shape.class) hdu.header.header.cards ≡ Ok hdu.header.shape → bits ≡ array_bits hdu.header.shape
+    → is_some bits ≡ true → IsOk (array_in (file_of (state_of hdus tail)) h)
+array_is hdus tail h i hdu bits p at described is some = some_answer bits _ (image_there (λ shape it. array_bits shape) hdus tail h i hdu bits p at described is) some
 
 -- its statistics
 pub stats_there : (hdus : List HduState) (tail : List ℕ) (h i : ℕ) (hdu : HduState) (stats : Option Stats) → IsFile (file_of (state_of hdus tail)) → IsHduAt hdus h i hdu → shape_of (is_primary hdu.header.shape.class) hdu.header.header.cards ≡ Ok hdu.header.shape → stats ≡ stats_of hdu.header.shape (parts_of hdu)

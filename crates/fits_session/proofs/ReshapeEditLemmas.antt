@@ -129,15 +129,6 @@ fails_as stamps primary bytes hdus most spare hdu made reshape.TooLarge whole e 
     inl (ap (λ m. within_refusal stamps bytes hdus hdu (reshape_made m)) f.1 ∙ too_long stamps primary bytes hdus most spare hdu f.0 (whole f.0 f.1) e part is f.2)
 fails_as stamps primary bytes hdus most spare hdu made reshape.Memory whole e part is some f = inr (refl, inl (needs_made stamps bytes hdus hdu made f some))
 
--- what was found to be none
-pub no_array_bits : (bits : Option ℕ) (b : Bool) → is_some bits ≡ not b → b ≡ true → bits ≡ None
-no_array_bits None b found none = refl
-no_array_bits (Some n) b found none = absurd (let z : true ≡ not true = found ∙ ap not none in cc)
-
--- or not to be
-pub is_array_bits : (bits : Option ℕ) (b : Bool) → is_some bits ≡ not b → b ≡ false → bits ≢ None
-is_array_bits bits b found some none = let z : false ≡ not false = sym (ap is_some none) ∙ found ∙ ap not some in cc
-
 -- what is no array of integers is made no other
 pub no_array : (kind : Kind) (axes : List ℕ) (shape : Shape) (hdu : HduParts) → array_bits shape ≡ None → reshaped kind axes shape hdu ≡ Err reshape.NotImage
 unfolding reshaped array_kind

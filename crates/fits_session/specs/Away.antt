@@ -1,5 +1,5 @@
 -- Data units that lie in a stored file: where they lie, and what loading one owes (own).
-use Rattle.std.specs.Prelude.{◌≡◌, ◌⊎◌, ℕ, ◌+◌, Bool, List, [], ◌∷◌, length, false, true, All, Option, Some, IfSome}
+use Rattle.std.specs.Prelude.{◌≡◌, ◌⊎◌, ℕ, ◌+◌, Bool, List, [], ◌∷◌, length, false, true, All, Option, Some, IfSome, IsOk}
 use Rattle.std.specs.List.{slice_get}
 use Rattle.fits_card.specs.Header.{header_bytes}
 use Rattle.fits_stream.specs.Agree.{IsOf}
@@ -16,9 +16,12 @@ use Rattle.fits_session.specs.Edit.{changed_of, hdu_of}
 use Rattle.fits_session.specs.File.{FileParts}
 use Rattle.fits_session.specs.HduEdit.{needs_pixels}
 use Rattle.fits_session.specs.Opening.{HasOpenFault}
+use Rattle.fits_session.specs.Query.{array_in, kind_in}
 use Rattle.fits_session.specs.Session.{Holding, IsHad, SessionState}
 use Rattle.fits_edit.specs.declared.edit.Edit.{Edit}
 use Rattle.fits_edit.specs.declared.edit.Edit.TheVariants.{Hdu}
+use Rattle.fits_edit.specs.declared.hdu_edit.HduEdit.{HduEdit}
+use Rattle.fits_edit.specs.declared.hdu_edit.HduEdit.TheVariants.{Pixels, Reshape}
 use Rattle.fits_session.specs.declared.open_fault.OpenFault.TheVariants.{Memory}
 use Rattle.fits_session.specs.declared.read_fault.ReadFileFault.TheVariants.{Open, Failed}
 use Rattle.fits_session.specs.declared.read_fault.ReadFileFault.{ReadFileFault}
@@ -56,6 +59,18 @@ abbrev pub AreKnownFrom : ℕ → List HduState → Type 0
 AreKnownFrom start [] = Unit {0}
 AreKnownFrom start (one ∷ hdus) =
     IsKnownAt (start + length (header_bytes one.header.header)) one × AreKnownFrom (start + length (hdu_bytes (parts_of one))) hdus
+
+-- an edit of HDU h wants its pixels: one of pixels where it is an image of integers, a reshape where it is an array of them; where it
+-- isn't, or isn't there, they are refused whatever its data are
+abbrev pub HduWantsPixels : FileParts → ℕ → HduEdit → Type 0
+HduWantsPixels file h (Pixels lo hi paint) = IsOk (kind_in file h)
+HduWantsPixels file h (Reshape kind axes) = IsOk (array_in file h)
+HduWantsPixels file h edit = ⊥
+
+-- so an edit of a file wants some
+abbrev pub EditWantsPixels : FileParts → Edit → Type 0
+EditWantsPixels file (Hdu h edit) = HduWantsPixels file h edit
+EditWantsPixels file edit = ⊥
 
 -- so much work on its data unit loading HDU h is
 abbrev pub LoadWork : FileParts → ℕ → PixelWork → PixelWork → Type 0

@@ -3,6 +3,7 @@ use Rattle.std.specs.Prelude.{◌≡◌, ◌<◌, ℕ, Bool, ℤ, List, length, 
 use Rattle.fits_value.specs.declared.value.Value.{Value}
 use Rattle.fits_header.specs.Names.{header_names}
 use Rattle.fits_header.specs.Places.{keyword_places}
+use Rattle.fits_rules.specs.Image.{array_bits}
 use Rattle.fits_rules.specs.Shape.{shape_of}
 use Rattle.fits_rules.specs.declared.array_shape.Shape.{Shape}
 use Rattle.fits_hdu.specs.Hdu.{HduParts}
@@ -49,6 +50,10 @@ by_shape primary answer hdu = shaped (shape_of primary hdu.header.cards) (λ sha
 -- the kind of the integer image that HDU h is (5.2)
 abbrev pub kind_in : FileParts → ℕ → Result Kind Refusal
 kind_in file h = in_hdu (by_shape (is_primary_hdu h) (λ shape hdu. ok_or (hdu_kind shape hdu.header.cards) pixel.NotImage)) (hdu_of file h)
+
+-- the bits of the integers that HDU h is an array of, with axes or without (4.4.1.1)
+abbrev pub array_in : FileParts → ℕ → Result ℕ Refusal
+array_in file h = in_hdu (by_shape (is_primary_hdu h) (λ shape hdu. ok_or (array_bits shape) pixel.NotImage)) (hdu_of file h)
 
 -- the statistics of the pixels of HDU h
 abbrev pub stats_in : FileParts → ℕ → Result Stats Refusal

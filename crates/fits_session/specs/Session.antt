@@ -3,15 +3,17 @@ use Rattle.std.specs.Prelude.{◌≡◌, ◌⊎◌, ℕ, Bool, ◌+◌, ◌-◌,
 use Rattle.std.specs.List.{insert, remove, slice_get}
 use Rattle.fits_card.specs.declared.change.Change.{Change}
 use Rattle.fits_rules.specs.Class.{is_primary}
-use Rattle.fits_plane.specs.DataUnit.{IsCounted, LiesIn}
+use Rattle.fits_plane.specs.DataUnit.{LiesIn}
 use Rattle.fits_plane.specs.Layout.{block_count}
 use Rattle.fits_plane.specs.Work.{rectangle_blocks}
+use Rattle.fits_rules.specs.Image.{array_bits}
 use Rattle.fits_rules.specs.Shape.{shape_of}
 use Rattle.fits_rules.specs.declared.array_shape.Shape.{Shape}
 use Rattle.fits_hdu.specs.Hdu.{HduParts, hdu_bytes, IsHdu}
 use Rattle.fits_header.specs.Work.{shape_reads}
 use Rattle.fits_hdu.specs.Layout.{layout_of}
 use Rattle.fits_hdu.specs.State.{HduState, parts_of, IsDescribed}
+pub use Rattle.fits_hdu.specs.State.{HasPixels, HasStats}
 use Rattle.fits_hdu.specs.declared.extension_name.ExtensionName.{ExtensionName}
 use Rattle.fits_hdu.specs.Reshape.{kept_count}
 use Rattle.fits_hdu.specs.Work.{apply_reads, open_reads, plane_work, FollowsBlank, IsMade, IsPatched, IsRenewed, PixelWork}
@@ -250,18 +252,24 @@ IsSoOf Is h hdus = (i : ℕ) (one : HduState) → IsIndexOf (length hdus) h i �
 abbrev pub IsHeld : HduState → Type 0
 IsHeld one = one.absent ≡ None
 
--- its statistics are known
-abbrev pub HasStats : HduState → Type 0
-HasStats one = IsCounted one.plane one.absent
+-- it is, if it is an array of integers, with axes or without
+abbrev pub HasArray : HduState → Type 0
+HasArray one = (bits : ℕ) → array_bits one.header.shape ≡ Some bits → one.absent ≡ None
+
+-- the pixels that an edit of an HDU wants are in memory: those of an image, and for a reshape those of an array
+abbrev pub IsReadyTo : HduEdit → HduState → Type 0
+IsReadyTo (Pixels lo hi paint) one = HasPixels one
+IsReadyTo (Reshape kind axes) one = HasArray one
+IsReadyTo edit one = Unit {0}
 
 -- an edit needs pixels
 abbrev pub NeedsPixels : Edit → Type 0
 NeedsPixels (Hdu h edit) = needs_pixels edit ≡ true
 NeedsPixels edit = ⊥
 
--- then those of its HDU are in memory
+-- those that it wants of its HDU are in memory
 abbrev pub IsReadyFor : Edit → List HduState → Type 0
-IsReadyFor (Hdu h edit) hdus = needs_pixels edit ≡ true → IsSoOf IsHeld h hdus
+IsReadyFor (Hdu h edit) hdus = IsSoOf (IsReadyTo edit) h hdus
 IsReadyFor edit hdus = Unit {0}
 
 -- none of so many HDUs is HDU h

@@ -19,7 +19,7 @@ pub trait Holder {
     ghost whole: { Bool };
 
     /// Has the data unit of an HDU in memory: it is read again, where it lies in the file.
-    fn load(&self, alloc: Global, hdu: &mut Hdu, log: &mut ReadLog) -> Result<(), LoadFault>
+    fn load(&mut self, alloc: Global, hdu: &mut Hdu, log: &mut ReadLog) -> Result<(), LoadFault>
         requires { IsHad (record { whole = whole; told = None }) hdu.old }
         ensures held { OnOk result (hdu.new.absent ≡ None) }
         ensures same { AgreeOn whole log.new hdu.old → OnOk result (parts_of hdu.new ≡ parts_of hdu.old) }
@@ -65,7 +65,12 @@ pub struct InMemory;
 impl Holder for InMemory {
     ghost whole = { true };
 
-    fn load(&self, _alloc: Global, _hdu: &mut Hdu, _log: &mut ReadLog) -> Result<(), LoadFault> {
+    fn load(
+        &mut self,
+        _alloc: Global,
+        _hdu: &mut Hdu,
+        _log: &mut ReadLog,
+    ) -> Result<(), LoadFault> {
         Ok(())
     }
 
@@ -82,14 +87,14 @@ impl Holder for InMemory {
     }
 }
 
-/// How many bytes are copied at once.
+/// How many bytes are read at once.
 const ROOM_LEN: usize = 65_536;
 
 /// Data units that aren't in memory lie in a stored file.
 #[derive(Drop)]
 pub struct InFile<'f, F> {
     file: &'f F,
-    /// What is copied goes through it.
+    /// What is loaded or copied goes through it.
     room: Vec<u8>,
 }
 
@@ -120,8 +125,8 @@ impl<'f, F: Stored> InFile<'f, F> {
 impl<'f, F: Stored> Holder for InFile<'f, F> {
     ghost whole = { false };
 
-    fn load(&self, alloc: Global, hdu: &mut Hdu, log: &mut ReadLog) -> Result<(), LoadFault> {
-        hdu.load(alloc, self.file, log)
+    fn load(&mut self, alloc: Global, hdu: &mut Hdu, log: &mut ReadLog) -> Result<(), LoadFault> {
+        hdu.load(alloc, self.file, log, self.room.as_mut_slice())
     }
 
     fn emit<W: Sink>(
@@ -133,3 +138,5 @@ impl<'f, F: Stored> Holder for InFile<'f, F> {
         hdu.emit_from(self.file, log, self.room.as_mut_slice(), sink)
     }
 }
+
+mod fields;

@@ -215,8 +215,10 @@ fn a_data_unit_is_loaded(rt: HostRuntime) -> Result<(), Fail> {
 fn check_loaded<R: Abort + AllocGlobal>(rt: &R, file: &[u8], row: HduRow<'_>) -> Result<(), Fail> {
     let stored = stored_bytes(file, file.len());
     let mut found = stored_away(rt.alloc(), &stored, is_primary(row))?;
-    found.load(rt.alloc(), &stored, &mut ReadLog::none())?;
-    found.load(rt.alloc(), &broken_bytes(&[], 0), &mut ReadLog::none())?;
+    let mut room = [0u8; 400];
+    let mut log = ReadLog::none();
+    found.load(rt.alloc(), &stored, &mut log, &mut room)?;
+    found.load(rt.alloc(), &broken_bytes(&[], 0), &mut log, &mut room)?;
     check_held(rt, &mut found, from_hdu(file), row)
 }
 
@@ -276,7 +278,8 @@ fn check_copies<R: Abort + AllocGlobal>(
     let stored = stored_bytes(file, file.len());
     let mut hdu = stored_away(rt.alloc(), &stored, is_primary(row))?;
     check_copy(rt, &mut hdu, &stored, room, hdu_in(file))?;
-    hdu.load(rt.alloc(), &stored, &mut ReadLog::none())?;
+    let mut piece = [0u8; 2880];
+    hdu.load(rt.alloc(), &stored, &mut ReadLog::none(), &mut piece)?;
     check_copy(rt, &mut hdu, &broken_bytes(&[], 0), room, hdu_in(file))?;
     Ok(())
 }

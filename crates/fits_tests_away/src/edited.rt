@@ -57,7 +57,8 @@ fn check_edited<R: Abort + AllocGlobal, F: Stored>(
     put_cards(rt, found, place, cards)?;
     check_counted(rt, found, edited, row, is_counted)?;
     check_copy(rt, found, file, 2880, edited)?;
-    found.load(rt.alloc(), file, &mut ReadLog::none())?;
+    let mut room = [0u8; 2880];
+    found.load(rt.alloc(), file, &mut ReadLog::none(), &mut room)?;
     check_held(rt, found, edited, row)
 }
 

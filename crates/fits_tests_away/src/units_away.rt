@@ -167,7 +167,8 @@ fn check_unit_away<R: Abort + AllocGlobal>(
     let mut found = DataUnit::away(rt.alloc(), unit, UNIT_AT)?;
     holds!(rt; !found.is_held());
     check_unit(rt, &mut found, &stored, bytes, layout)?;
-    found.load(rt.alloc(), &stored, &mut ReadLog::none())?;
+    let mut room = [0u8; 400];
+    found.load(rt.alloc(), &stored, &mut ReadLog::none(), &mut room)?;
     holds!(rt; found.is_held());
     check_unit(rt, &mut found, &broken_bytes(&[], 0), bytes, layout)
 }

@@ -11,6 +11,7 @@ impl Hdu {
     ghost use Rattle.fits_stream.specs.Stream.{Prints};
     ghost use Rattle.fits_plane.specs.Again.{CopyCounts, CopyFails, CopyWrites, Follows, LoadCounts, PrintsLike};
     ghost use Rattle.fits_plane.specs.DataUnit.{IsCounted, LiesIn};
+    ghost use Rattle.fits_plane.specs.Layout.{block_count};
     ghost use Rattle.fits_hdu.specs.Hdu.{hdu_bytes};
     ghost use Rattle.fits_hdu.specs.Reading.{passed_parts, IsPassedWhole};
     ghost use Rattle.fits_hdu.specs.State.{parts_of, ReadsUpTo};
@@ -49,14 +50,16 @@ impl Hdu {
         self.unit.is_counted()
     }
 
-    /// Reads its data unit into memory, where it isn't there, from the file that it lies in. What is
-    /// read is compared with what is known of it, by its length and its total.
+    /// Reads its data unit into memory, where it isn't there, from the file that it lies in, through a
+    /// room. What is read is compared with what is known of it, by its length and its total.
     pub fn load<F: Stored>(
         &mut self,
         alloc: Global,
         file: &F,
         log: &mut ReadLog,
+        room: &mut [u8],
     ) -> Result<(), LoadFault>
+        requires { 0 < length room.old }
         ensures held { OnOk result (self.new.absent ≡ None) }
         ensures loaded { OnOk result (IfSome self.old.absent
             (λ it. ReadsOn it.place log.old log.new self.new.plane.bytes)) }
@@ -64,6 +67,8 @@ impl Hdu {
             → LiesIn bytes self.old.plane self.old.absent
             → OnOk result (parts_of self.new ≡ parts_of self.old) }
         ensures loads { Loads self.old self.new }
+        ensures scanned { OnOk result (IfSome self.old.absent (λ _. self.new.plane.scans
+            ≡ self.old.plane.scans + block_count self.old.plane.bytes)) }
         ensures idle { self.old.absent ≡ None → self.new ≡ self.old }
         ensures at_once { self.old.absent ≡ None → IsOk result }
         ensures quiet { OnOk result (log.new.failures ≡ log.old.failures) }
@@ -73,8 +78,9 @@ impl Hdu {
             → LiesIn bytes self.old.plane self.old.absent
             → IfErr result (λ why. why ≡ LoadFault.Changed → ⊥) }
         ensures follows { Follows log.old log.new }
+        ensures size { length room.new ≡ length room.old }
     {
-        self.unit.load(alloc, file, log)
+        self.unit.load(alloc, file, log, room)
     }
 
     /// Writes the header and then the data unit: that in memory, or else what the file has at its

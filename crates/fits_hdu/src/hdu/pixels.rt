@@ -7,20 +7,19 @@ use std::alloc::Global;
 
 impl Hdu {
     ghost use Rattle.std.specs.Prelude.{◌≡◌, ◌≤◌, ◌<◌, ◌+◌, ◌^◌, ℕ, true, length, None, Some, Ok, Err, IsOk, IfOk, IfErr, OnOk, OnErr};
-    ghost use Rattle.fits_plane.specs.DataUnit.{IsCounted};
     ghost use Rattle.fits_plane.specs.Paint.{can_store_paint, has_count, painted_number};
     ghost use Rattle.fits_plane.specs.Pixels.{IsStorable};
     ghost use Rattle.fits_plane.specs.Rectangle.{lies_within, rectangle_size, IsRectangle};
     ghost use Rattle.fits_image.specs.Kind.{kind_in, offset_of, width_of};
     ghost use Rattle.fits_hdu.specs.Pixels.{painted, rect_of, stats_of, RectFails};
-    ghost use Rattle.fits_hdu.specs.State.{parts_of, IsDescribed};
+    ghost use Rattle.fits_hdu.specs.State.{parts_of, HasPixels, HasStats, IsDescribed};
     ghost use Rattle.fits_hdu.specs.Work.{IsPatchedIn};
 
     /// The statistics of its pixels, where it is an image of integers. It takes no memory, and
     /// reads no card and no pixel.
     #[tactic(auto, using(crate::proofs::PixelLemmas::pixel_steps))]
     pub fn stats(&self) -> Option<ValueSummary>
-        requires { IsCounted self.now.plane self.now.absent }
+        requires { HasStats self.now }
         ensures { result ≡ stats_of self.now.header.shape (parts_of self.now) }
     {
         let kind = self.kind?;
@@ -31,7 +30,7 @@ impl Hdu {
     /// read once.
     #[tactic(auto, using(crate::proofs::PixelLemmas::pixel_steps))]
     pub fn rect(&mut self, alloc: Global, lo: &[u64], hi: &[u64]) -> Result<Vec<i128>, PixelFault>
-        requires { self.old.absent ≡ None }
+        requires { HasPixels self.old }
         ensures ok { IfOk result (λ values. rect_of
             self.old.header.shape lo.now hi.now (parts_of self.old) ≡ Ok values.items) }
         ensures err { IfErr result (RectFails (rect_of
@@ -61,7 +60,7 @@ impl Hdu {
     /// It takes no memory. Of the data unit it scans the blocks that hold a byte of the rectangle.
     #[tactic(auto, using(crate::proofs::PixelLemmas::pixel_steps))]
     pub fn paint(&mut self, lo: &[u64], hi: &[u64], paint: &LentPaint) -> Result<(), PixelFault>
-        requires { self.old.absent ≡ None }
+        requires { HasPixels self.old }
         ensures ok { OnOk result (painted
             self.old.header.shape lo.now hi.now paint.now (parts_of self.old)
             ≡ Ok (parts_of self.new)) }
@@ -70,6 +69,7 @@ impl Hdu {
         ensures same { OnErr result (self.new ≡ self.old) }
         ensures rest { self.new ≡ record self.old { plane = self.new.plane } }
         ensures work { OnOk result (IsPatchedIn lo.now hi.now self.old self.new) }
+        ensures held { OnOk result (self.new.absent ≡ None) }
         ensures described { IsDescribed self.old }
     {
         let kind = self.paintable(lo, hi, paint)?;

@@ -1,9 +1,10 @@
-//! What is kept of a data unit that passed by: plain values alone, and its bytes for contracts.
+//! What is kept of a data unit that passed by: plain values alone, and for contracts its bytes and a
+//! count.
 
 use super::PassedUnit;
 use crate::layout::Layout;
 use crate::pixel_summary::PixelSummary;
-use fits_stream::GoneBytes;
+use fits_stream::{Count, GoneBytes};
 
 // A value that holds no memory of its own.
 fn plain<T: Copy>(_value: T) {}
@@ -18,6 +19,7 @@ fn apart(unit: PassedUnit) {
         total,
         filled,
         len,
+        scans,
         gone,
     } = unit;
     plain::<Layout>(layout);
@@ -26,5 +28,6 @@ fn apart(unit: PassedUnit) {
     plain::<u64>(total);
     plain::<bool>(filled);
     plain::<usize>(len);
+    let _scans: Count = scans;
     let _gone: GoneBytes = gone;
 }

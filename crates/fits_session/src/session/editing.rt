@@ -3,8 +3,7 @@ ghost use Rattle.std.specs.Prelude.{◌≡◌, ◌≤◌, ◌^◌, true, length,
 ghost use Rattle.fits_hdu.specs.Hdu.{hdu_bytes};
 ghost use Rattle.fits_hdu.specs.State.{parts_of};
 ghost use Rattle.fits_session.specs.Limits.{is_within_limits};
-ghost use Rattle.fits_session.specs.HduEdit.{needs_pixels};
-ghost use Rattle.fits_session.specs.Session.{length_with, HduEditsTo, IsHeld};
+ghost use Rattle.fits_session.specs.Session.{length_with, HduEditsTo, IsReadyTo};
 
 use super::Session;
 use super::cards::edit_cards;
@@ -51,7 +50,7 @@ fn edit_hdu(
 ) -> Result<u64, Refusal>
     requires part { length (hdu_bytes (parts_of hdu.old)) ≤ len }
     requires within { is_within_limits len hdus ≡ true }
-    requires ready { needs_pixels edit.now ≡ true → IsHeld hdu.old }
+    requires ready { IsReadyTo edit.now hdu.old }
     ensures edits { HduEditsTo edit.now len hdus hdu.old hdu.new result }
     ensures len { IfOk result (λ after. after
         ≡ length_with len (parts_of hdu.old) (parts_of hdu.new)) }
@@ -71,7 +70,7 @@ fn make_edit(
 ) -> Result<(), Refusal>
     requires part { length (hdu_bytes (parts_of hdu.old)) ≤ len }
     requires within { is_within_limits len hdus ≡ true }
-    requires ready { needs_pixels edit.now ≡ true → IsHeld hdu.old }
+    requires ready { IsReadyTo edit.now hdu.old }
     ensures { HduEditsTo edit.now len hdus hdu.old hdu.new result }
 {
     match edit {

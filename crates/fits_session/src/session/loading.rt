@@ -9,6 +9,7 @@ use crate::limits::FILE_LIMIT;
 use crate::read_fault::ReadFileFault;
 use fits_edit::{Edit, HduEdit};
 use fits_plane::LoadFault;
+use fits_rules::array_bits;
 use fits_stream::{Intake, ReadLog, Stored, StoredSource};
 use std::alloc::Global;
 
@@ -52,11 +53,12 @@ impl<'f, F: Stored> Session<InFile<'f, F>> {
 }
 
 impl<H: Holder + Drop> Session<H> {
-    ghost use Rattle.std.specs.Prelude.{◌≡◌, ◌⊎◌, ◌↔◌, ℕ, List, true, IfErr, IsOk, IsTrue, OnErr, OnOk};
+    ghost use Rattle.std.specs.Prelude.{◌≡◌, ◌⊎◌, ℕ, List, false, true, IfErr, IsOk, IsTrue, OnErr, OnOk};
     ghost use Rattle.fits_plane.specs.Again.{Follows, LoadCounts};
     ghost use Rattle.fits_stream.specs.Agree.{IsOf};
-    ghost use Rattle.fits_session.specs.Away.{Agree, LieStill, LoadsAt, LoadsFor, LoadWork};
-    ghost use Rattle.fits_session.specs.Session.{file_of, marked_of, reads_of, works_of, HasStats, IsHeld, IsReadyFor, IsSoOf, NeedsPixels, WorksOnly};
+    ghost use Rattle.fits_session.specs.Away.{Agree, EditWantsPixels, LieStill, LoadsAt, LoadsFor, LoadWork};
+    ghost use Rattle.fits_session.specs.Query.{array_in, kind_in};
+    ghost use Rattle.fits_session.specs.Session.{file_of, marked_of, reads_of, works_of, HasArray, HasPixels, HasStats, IsHeld, IsReadyFor, IsSoOf, NeedsPixels, WorksOnly};
 
     /// Has the data unit of HDU h in memory, if there is one: where it lies in a file it is read
     /// again, and judged by its length and its total. Reads that fail are counted.
@@ -65,6 +67,7 @@ impl<H: Holder + Drop> Session<H> {
         ensures same { Agree H.whole log.new self.old.hdus → OnOk result (marked_of self.new ≡ marked_of self.old) }
         ensures alone { LoadsAt h self.old self.new }
         ensures idle { IsSoOf IsHeld h self.old.hdus → self.new ≡ self.old }
+        ensures at_once { IsSoOf IsHeld h self.old.hdus → IsOk result }
         ensures quiet { OnOk result (log.new.failures ≡ log.old.failures) }
         ensures err { OnErr result (self.new ≡ self.old) }
         ensures counted { IfErr result (LoadCounts log.old.failures log.new.failures) }
@@ -82,13 +85,59 @@ impl<H: Holder + Drop> Session<H> {
         self.holder.load(self.alloc, &mut self.hdus[i], log)
     }
 
-    /// Has the pixels that an edit needs in memory, as `load`.
+    /// Has the pixels of HDU h in memory, if it is there and an image of integers, as `load`.
+    pub fn load_pixels(&mut self, h: usize, log: &mut ReadLog) -> Result<(), LoadFault>
+        ensures held { OnOk result (IsSoOf HasPixels h self.new.hdus) }
+        ensures wanted { OnErr result (IsOk (kind_in (file_of self.old) h)) }
+        ensures same { Agree H.whole log.new self.old.hdus → OnOk result (marked_of self.new ≡ marked_of self.old) }
+        ensures alone { LoadsAt h self.old self.new }
+        ensures idle { IsSoOf HasPixels h self.old.hdus → self.new ≡ self.old }
+        ensures at_once { IsSoOf HasPixels h self.old.hdus → IsOk result }
+        ensures quiet { OnOk result (log.new.failures ≡ log.old.failures) }
+        ensures err { OnErr result (self.new ≡ self.old) }
+        ensures counted { IfErr result (LoadCounts log.old.failures log.new.failures) }
+        ensures unchanged { Agree H.whole log.new self.old.hdus → IfErr result (λ why. why ≡ LoadFault.Changed → ⊥) }
+        ensures follows { Follows log.old log.new }
+        ensures stays { LieStill self.old.hdus self.new.hdus }
+        ensures whole { H.whole ≡ true → IsOk result }
+    {
+        if self.is_image(h) {
+            return self.load(h, log);
+        }
+        Ok(())
+    }
+
+    // Has the pixels of HDU h in memory, if it is there and an array of integers.
+    fn load_array(&mut self, h: usize, log: &mut ReadLog) -> Result<(), LoadFault>
+        ensures held { OnOk result (IsSoOf HasArray h self.new.hdus) }
+        ensures wanted { OnErr result (IsOk (array_in (file_of self.old) h)) }
+        ensures same { Agree H.whole log.new self.old.hdus → OnOk result (marked_of self.new ≡ marked_of self.old) }
+        ensures alone { LoadsAt h self.old self.new }
+        ensures idle { IsSoOf HasArray h self.old.hdus → self.new ≡ self.old }
+        ensures at_once { IsSoOf HasArray h self.old.hdus → IsOk result }
+        ensures quiet { OnOk result (log.new.failures ≡ log.old.failures) }
+        ensures err { OnErr result (self.new ≡ self.old) }
+        ensures counted { IfErr result (LoadCounts log.old.failures log.new.failures) }
+        ensures unchanged { Agree H.whole log.new self.old.hdus → IfErr result (λ why. why ≡ LoadFault.Changed → ⊥) }
+        ensures follows { Follows log.old log.new }
+        ensures stays { LieStill self.old.hdus self.new.hdus }
+        ensures whole { H.whole ≡ true → IsOk result }
+    {
+        if self.is_array(h) {
+            return self.load(h, log);
+        }
+        Ok(())
+    }
+
+    /// Has the pixels that an edit wants in memory, as `load`.
     pub fn load_for(&mut self, edit: &Edit, log: &mut ReadLog) -> Result<(), LoadFault>
         ensures ready { OnOk result (IsReadyFor edit.now self.new.hdus) }
         ensures needed { OnErr result (NeedsPixels edit.now) }
+        ensures wanted { OnErr result (EditWantsPixels (file_of self.old) edit.now) }
         ensures same { Agree H.whole log.new self.old.hdus → OnOk result (marked_of self.new ≡ marked_of self.old) }
         ensures alone { LoadsFor edit.now self.old self.new }
         ensures idle { IsReadyFor edit.now self.old.hdus → self.new ≡ self.old }
+        ensures at_once { IsReadyFor edit.now self.old.hdus → IsOk result }
         ensures quiet { OnOk result (log.new.failures ≡ log.old.failures) }
         ensures err { OnErr result (self.new ≡ self.old) }
         ensures counted { IfErr result (LoadCounts log.old.failures log.new.failures) }
@@ -100,19 +149,25 @@ impl<H: Holder + Drop> Session<H> {
         match edit {
             Edit::Hdu {
                 hdu,
-                edit: HduEdit::Pixels { .. } | HduEdit::Reshape { .. },
-            } => self.load(*hdu, log),
+                edit: HduEdit::Pixels { .. },
+            } => self.load_pixels(*hdu, log),
+            Edit::Hdu {
+                hdu,
+                edit: HduEdit::Reshape { .. },
+            } => self.load_array(*hdu, log),
             _ => Ok(()),
         }
     }
 
-    /// Has the statistics of HDU h known, if there is one: where BLANK names another number than it
-    /// did as its data unit passed by, that is loaded.
+    /// Has the statistics of HDU h known, if it is there and an image of integers: where BLANK names
+    /// another number than it did as its data unit passed by, that is loaded.
     pub fn load_counts(&mut self, h: usize, log: &mut ReadLog) -> Result<(), LoadFault>
         ensures known { OnOk result (IsSoOf HasStats h self.new.hdus) }
+        ensures wanted { OnErr result (IsOk (kind_in (file_of self.old) h)) }
         ensures same { Agree H.whole log.new self.old.hdus → OnOk result (marked_of self.new ≡ marked_of self.old) }
         ensures alone { LoadsAt h self.old self.new }
         ensures idle { IsSoOf HasStats h self.old.hdus → self.new ≡ self.old }
+        ensures at_once { IsSoOf HasStats h self.old.hdus → IsOk result }
         ensures quiet { OnOk result (log.new.failures ≡ log.old.failures) }
         ensures err { OnErr result (self.new ≡ self.old) }
         ensures counted { IfErr result (LoadCounts log.old.failures log.new.failures) }
@@ -124,12 +179,40 @@ impl<H: Holder + Drop> Session<H> {
         if self.has_counts(h) {
             return Ok(());
         }
-        self.load(h, log)
+        self.load_pixels(h, log)
+    }
+
+    // Whether HDU h is there and an image of integers.
+    fn is_image(&self, h: usize) -> bool
+        ensures is { result ≡ true → IsOk (kind_in (file_of self.now) h) }
+        ensures held { result ≡ true → IsSoOf HasPixels h self.now.hdus
+            → IsSoOf IsHeld h self.now.hdus }
+        ensures none { result ≡ false → IsSoOf HasPixels h self.now.hdus }
+    {
+        match index_of(&self.hdus, h) {
+            Ok(i) => self.hdus[i].kind().is_some(),
+            Err(_) => false,
+        }
+    }
+
+    // Whether HDU h is there and an array of integers.
+    fn is_array(&self, h: usize) -> bool
+        ensures is { result ≡ true → IsOk (array_in (file_of self.now) h) }
+        ensures held { result ≡ true → IsSoOf HasArray h self.now.hdus
+            → IsSoOf IsHeld h self.now.hdus }
+        ensures none { result ≡ false → IsSoOf HasArray h self.now.hdus }
+    {
+        match index_of(&self.hdus, h) {
+            Ok(i) => array_bits(self.hdus[i].shape()).is_some(),
+            Err(_) => false,
+        }
     }
 
     // Whether the statistics of HDU h are known.
     fn has_counts(&self, h: usize) -> bool
-        ensures { IsTrue result ↔ IsSoOf HasStats h self.now.hdus }
+        ensures known { result ≡ true → IsSoOf HasStats h self.now.hdus }
+        ensures held { result ≡ false → IsSoOf HasStats h self.now.hdus
+            → IsSoOf HasPixels h self.now.hdus }
     {
         match index_of(&self.hdus, h) {
             Ok(i) => self.hdus[i].is_counted(),

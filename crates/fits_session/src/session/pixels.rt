@@ -3,7 +3,7 @@ ghost use Rattle.std.specs.Prelude.{◌≡◌, ◌≤◌, true, length};
 ghost use Rattle.fits_hdu.specs.Hdu.{hdu_bytes};
 ghost use Rattle.fits_hdu.specs.State.{parts_of};
 ghost use Rattle.fits_session.specs.Limits.{is_within_limits};
-ghost use Rattle.fits_session.specs.Session.{HduEditsTo, IsHeld};
+ghost use Rattle.fits_session.specs.Session.{HasPixels, HduEditsTo};
 
 use super::cards::keeps_limits;
 use super::keeping::{finish, spare_cards, stamp_cards};
@@ -23,7 +23,7 @@ pub(super) fn paint_pixels(
     hi: &Corner,
     paint: &Paint,
 ) -> Result<(), Refusal>
-    requires held { IsHeld hdu.old }
+    requires held { HasPixels hdu.old }
     requires part { length (hdu_bytes (parts_of hdu.old)) ≤ len }
     requires within { is_within_limits len hdus ≡ true }
     ensures { HduEditsTo (HduEdit.Pixels lo.now hi.now paint.now) len hdus hdu.old hdu.new result }
@@ -48,7 +48,7 @@ fn paint_kept(
     paint: &Paint,
 ) -> Result<(), Refusal>
     requires kept { hdu.old.kept ≡ true }
-    requires held { IsHeld hdu.old }
+    requires held { HasPixels hdu.old }
     requires part { length (hdu_bytes (parts_of hdu.old)) ≤ len }
     requires within { is_within_limits len hdus ≡ true }
     ensures { HduEditsTo (HduEdit.Pixels lo.now hi.now paint.now) len hdus hdu.old hdu.new result }

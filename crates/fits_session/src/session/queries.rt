@@ -33,7 +33,7 @@ impl<H: Holder + Drop> Session<H> {
     ghost use Rattle.fits_session.specs.Marked.{kept_in};
     ghost use Rattle.fits_session.specs.Query.{card_count_in, datasum_in, kind_in, names_in, positions_in, rect_in, shape_in, stats_in, value_in, verdicts_in, PlacesFail, QueryFails};
     ghost use Rattle.fits_session.specs.Report.{counts_in, report_of};
-    ghost use Rattle.fits_session.specs.Session.{file_of, marked_of, Asks, AsksPixels, HasStats, IsHeld, IsSoOf};
+    ghost use Rattle.fits_session.specs.Session.{file_of, marked_of, Asks, AsksPixels, HasPixels, HasStats, IsSoOf};
     ghost use Rattle.fits_session.specs.Work.{value_reads};
 
     /// How many HDUs there are.
@@ -183,9 +183,10 @@ impl<H: Holder + Drop> Session<H> {
         hdu.stats().ok_or(Refusal::NotImage)
     }
 
-    /// The values of a rectangle of HDU h, as `rect`. Its data unit is in memory: `load` sees to it.
+    /// The values of a rectangle of HDU h, as `rect`. Its pixels are in memory: `load_pixels` sees to
+    /// it.
     pub fn held_rect(&mut self, h: usize, lo: &[u64], hi: &[u64]) -> Result<Vec<i128>, Refusal>
-        requires { IsSoOf IsHeld h self.old.hdus }
+        requires { IsSoOf HasPixels h self.old.hdus }
         ensures ok { IfOk result (λ values. rect_in (file_of self.old) h lo.now hi.now
             ≡ Ok values.items) }
         ensures err { IfErr result (QueryFails (rect_in (file_of self.old) h lo.now hi.now)) }

@@ -3,7 +3,7 @@ ghost use Rattle.std.specs.Prelude.{◌≡◌, ◌≤◌, true, length};
 ghost use Rattle.fits_hdu.specs.Hdu.{hdu_bytes};
 ghost use Rattle.fits_hdu.specs.State.{parts_of};
 ghost use Rattle.fits_session.specs.Limits.{is_within_limits};
-ghost use Rattle.fits_session.specs.Session.{HduEditsTo, IsHeld};
+ghost use Rattle.fits_session.specs.Session.{HasArray, HduEditsTo};
 
 use super::editing::hdu_len;
 use super::keeping::{finish, spare_cards, stamp_cards};
@@ -24,15 +24,15 @@ pub(super) fn reshape(
     kind: Kind,
     axes: &Axes,
 ) -> Result<(), Refusal>
-    requires held { IsHeld hdu.old }
+    requires held { HasArray hdu.old }
     requires part { length (hdu_bytes (parts_of hdu.old)) ≤ len }
     requires within { is_within_limits len hdus ≡ true }
     ensures { HduEditsTo (HduEdit.Reshape kind axes.now) len hdus hdu.old hdu.new result }
 {
     let _whole = hdu.card_count();
-    if array_bits(hdu.shape()).is_none() {
+    let Some(_bits) = array_bits(hdu.shape()) else {
         return Err(Refusal::NotImage);
-    }
+    };
     let most = FILE_LIMIT - (len - hdu_len(hdu));
     let spare = spare_cards(hdu);
     let cards = stamp_cards(alloc, hdu)?;

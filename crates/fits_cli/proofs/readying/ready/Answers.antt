@@ -9,7 +9,7 @@ pub returns-in-Statistics-clause-like : goal.returns-in-Statistics-clause-like
 returns-in-Statistics-clause-like g c = loaded_at _ _ _ c.load_counts.ensures.alone
 
 pub returns-in-Rectangle-clause-like : goal.returns-in-Rectangle-clause-like
-returns-in-Rectangle-clause-like g c = loaded_at _ _ _ c.load.ensures.alone
+returns-in-Rectangle-clause-like g c = loaded_at _ _ _ c.load_pixels.ensures.alone
 
 pub returns-in_default-clause-like : goal.returns-in_default-clause-like
 returns-in_default-clause-like g c = like_same _ _ refl

@@ -6,7 +6,7 @@ use Rattle.fits_plane.specs.declared.layout.Layout.{Layout}
 use Rattle.fits_rules.specs.declared.array_shape.Shape.{Shape}
 use Rattle.fits_image.specs.Kind.{kind_in, offset_of}
 use Rattle.fits_hdu.specs.Pixels.{painted}
-use Rattle.fits_hdu.specs.State.{HduState, parts_of}
+use Rattle.fits_hdu.specs.State.{HduState, parts_of, HasPixels}
 use Rattle.fits_hdu.specs.Work.{IsPatchedIn}
 use Rattle.fits_plane.proofs.RectangleLemmas.{length-rectangle_written}
 use Rattle.fits_hdu.proofs.PixelLemmas.{kind_width, layout_pixels, layout_width, offset_fits, painted-done, patched}
@@ -70,3 +70,6 @@ invariant_of-self c =
       kind = kept.kind;
       sums = kept.sums;
     }
+
+pub paint_rect-requires-clause-held : goal.paint_rect-requires-clause-held
+paint_rect-requires-clause-held c = subst HasPixels (sym c.self.view_is) c.requires c.in_ok-kind.kind (subst (λ (s : HduState). kind_in s.header.shape s.header.header.cards ≡ Some c.in_ok-kind.kind) (sym c.self.view_is) c.in_ok-kind.ensures.kind)

@@ -5,7 +5,7 @@ use Rattle.fits_rules.specs.declared.array_shape.Shape.{Shape}
 use Rattle.fits_hdu.specs.Hdu.{HduParts}
 use Rattle.fits_image.specs.Kind.{offset_of, width_of}
 use Rattle.fits_hdu.specs.Pixels.{rect_of}
-use Rattle.fits_hdu.specs.State.{HduState, parts_of}
+use Rattle.fits_hdu.specs.State.{HduState, parts_of, HasPixels}
 use Rattle.fits_hdu.specs.declared.pixel_fault.PixelFault.{PixelFault}
 use Rattle.fits_hdu.specs.declared.pixel_fault.PixelFault.TheVariants.{NotImage, BadRectangle}
 use Rattle.fits_hdu.proofs.PixelLemmas.{offset_fits, plane_pixels, plane_width, rect_of-bad, rect_of-not_image, rect_of-values}
@@ -59,3 +59,6 @@ rect-requires-clause-all c =
     let some = c.in-Some.is in
     let axes = c.as_slice-axes.ensures ∙ ap (λ (shape : Shape). shape.axes) c.shape.ensures.value in
     ap product axes ∙ plane_pixels t.unit.plane.layout t.header.shape t.header.header.cards c.in-Some.kind t.kind c.self.invariant.layout c.self.invariant.kind some
+
+pub rect-requires-clause-held : goal.rect-requires-clause-held
+rect-requires-clause-held c = subst HasPixels (sym c.self.view_is) c.requires c.in-Some.kind (sym c.self.invariant.kind ∙ c.in-Some.is)

@@ -5,7 +5,7 @@ use Rattle.fits_plane.specs.declared.value_summary.ValueSummary.{ValueSummary}
 use Rattle.fits_hdu.specs.Hdu.{HduParts}
 use Rattle.fits_image.specs.Kind.{offset_of}
 use Rattle.fits_hdu.specs.Pixels.{stats_of}
-use Rattle.fits_hdu.specs.State.{HduState, parts_of}
+use Rattle.fits_hdu.specs.State.{HduState, parts_of, HasStats}
 use Rattle.fits_hdu.proofs.PixelLemmas.{offset_fits, stats_of-image, stats_of-none}
 use Rattle.fits_hdu.proofs.hdu.Hdu.stats.Goals as goal
 
@@ -28,3 +28,8 @@ returns c =
     ∙ ap (λ o. value_statistics o t.unit.plane.layout.blank (pixels t.unit.plane.layout.width t.unit.plane.bytes 0 t.unit.plane.layout.pixels)) (offset_fits c.in_ok-kind.kind c.offset.result c.offset.ensures ∙ c.offset.ensures) in
     subst (λ (s : HduState). Some values ≡ stats_of s.header.shape (parts_of s)) c.self.view_is
     (stats_of-image t.header.shape hdu c.in_ok-kind.kind t.unit.plane.layout values (sym c.self.invariant.kind ∙ some) c.self.invariant.layout found)
+
+pub value_stats-requires-clause-counted : goal.value_stats-requires-clause-counted
+value_stats-requires-clause-counted c =
+    let some : c.self.inside.kind ≡ Some c.in_ok-kind.kind = search rules in
+    subst HasStats (sym c.self.view_is) c.requires c.in_ok-kind.kind (sym c.self.invariant.kind ∙ some)

@@ -21,6 +21,6 @@ invariant_of-self c =
     let both : c.if-self.self ≡ (it.filled && c.is_filled-filled.result) = elim c.if-self.branch [ then-self w ↦ rw w.if-self.true w.self-is | else-self w ↦ rw w.if-self.false (w.self-is ∙ w.if-self.false) ] in
     let block : (it.layout.width ≡ 0) ⊎ (length part ≡ 2880) = subst (λ (p : PassingState). (p.layout.width ≡ 0) ⊎ (length part ≡ 2880)) (sym c.self.view_is) c.requires.block in
     let room : length it.gone.bytes + length part ≤ 2 ^ 34 = omega (arith, ap (λ (p : PassingState). length p.bytes) c.self.view_is, c.requires.room) in
-    passing_more it.layout it.gone.bytes part _ it.count _ c.saturating_sub-used.result it.total _ it.stored _ it.filled c.is_filled-filled.result _ c.self.invariant block c.requires.whole room c.read_bytes.ensures
+    passing_more it.layout it.gone.bytes part _ it.count _ c.saturating_sub-used.result it.total _ it.scans.total _ it.stored _ it.filled c.is_filled-filled.result _ c.self.invariant block c.requires.whole room c.read_bytes.ensures
     c.add.ensures refl (c.join-self-inside.ensures ∙ ap (pixels_joined it.stored) c.scan_next-found.ensures.first) (ap (λ n. it.total + n) c.scan_next-found.ensures.second) c.saturating_sub-used.ensures
-    c.is_filled-filled.ensures both
+    c.is_filled-filled.ensures both c.scan_next-found.ensures.work

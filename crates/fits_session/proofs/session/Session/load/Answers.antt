@@ -2,7 +2,7 @@ use Rattle.std.proofs.Common.{ap, false, inr, refl, subst, sym, None, Some}
 use Rattle.std.proofs.lemmas.List.Elements.{All-set}
 use Rattle.fits_hdu.specs.State.{HduState}
 use Rattle.fits_session.specs.Away.{in_file, Agree, AllLie, LoadWork}
-use Rattle.fits_session.specs.Session.{file_of, state_of, Holding, IsHad}
+use Rattle.fits_session.specs.Session.{file_of, state_of, Holding, IsHad, IsHeld, IsSoOf}
 use Rattle.fits_session.proofs.AwayLemmas.{held_stays, kept_loaded, load_work, loaded_had, loaded_same, loads_alone}
 use Rattle.fits_session.proofs.HadLemmas.{agree_on}
 use Rattle.fits_session.proofs.StateLemmas.{is_at, reads_of-same, works_nowhere, works_there}
@@ -68,3 +68,9 @@ returns-clause-whole g c whole =
     let at = is_at c.self.inside.hdus.items c.deref.result.now c.args.h c.args.h c.in-Ok.i c.index_mut.result.now c.deref.ensures.value refl c.in-Ok.ensures.found c.index_mut.ensures.value in
     let was : IsHad holding c.index_mut.result.now = subst (IsHad holding) (sym at.is) (c.self.invariant.had c.in-Ok.i c.index_mut.result.now at.index.within) in
     c.load.ensures.at_once (was.held whole)
+
+pub returns-clause-at_once : goal.returns-clause-at_once
+returns-clause-at_once g c held =
+    let at = is_at c.self.inside.hdus.items c.deref.result.now c.args.h c.args.h c.in-Ok.i c.index_mut.result.now c.deref.ensures.value refl c.in-Ok.ensures.found c.index_mut.ensures.value in
+    let own : IsSoOf IsHeld c.args.h c.self.inside.hdus.items = rw (← c.self.view_is) at held in
+    c.load.ensures.at_once (own c.in-Ok.i c.index_mut.result.now at.index (sym at.is))

@@ -101,5 +101,5 @@ returns c =
     (rw (c.as_slice-3.ensures, c.as_slice-4.ensures, header, room.shape, plane) at c.in-Ok.ensures.work)
     (ap (λ (state : HduState). state.entry) rest ∙ ap (λ (state : HduState). state.entry) room.rest)
     (ap (λ (state : HduState). state.kept) rest ∙ ap (λ (state : HduState). state.kept) room.rest)
-    (ap (λ (state : HduState). state.absent) rest ∙ (ap (λ (state : HduState). state.absent) room.rest ∙ c.requires.held))
+    c.in-Ok.ensures.held
     (subst (λ b. IsFinished b mid c.finish.new.hdu) stamps c.finish.ensures)

@@ -25,5 +25,5 @@ returns c =
     (rw (c.as_slice.ensures, c.as_slice-2.ensures) at c.in_ok-paint.ensures.work)
     (ap (λ (state : HduState). state.entry) rest)
     (ap (λ (state : HduState). state.kept) rest)
-    (ap (λ (state : HduState). state.absent) rest ∙ c.requires.held)
+    c.in_ok-paint.ensures.held
     (unstamped_finished hdu.kept new unkept (rw (ap (λ (state : HduState). state.header) rest) c.paint.ensures.described))

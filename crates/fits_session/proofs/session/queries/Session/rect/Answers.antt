@@ -1,5 +1,5 @@
-use Rattle.fits_session.proofs.HadLemmas.{so_held}
+use Rattle.fits_session.proofs.HadLemmas.{so_pixels}
 use Rattle.fits_session.proofs.session.queries.Session.rect.Goals as goal
 
 pub held_rect-requires : goal.held_rect-requires
-held_rect-requires c = so_held c.args.h c.args.self.now.hdus c.are_held.ensures
+held_rect-requires c = so_pixels c.args.h c.args.self.now.hdus c.are_held.ensures

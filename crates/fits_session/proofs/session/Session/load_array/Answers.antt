@@ -1,0 +1,6 @@
+use Rattle.std.proofs.lemmas.Result.{on_ok_weaker}
+use Rattle.fits_session.proofs.AwayLemmas.{held_array}
+use Rattle.fits_session.proofs.session.Session.load_array.Goals as goal
+
+pub returns-then-is_array-clause-held : goal.returns-then-is_array-clause-held
+returns-then-is_array-clause-held g c = on_ok_weaker c.load.result (held_array c.load.new.self.hdus c.args.h) c.load.ensures.held
