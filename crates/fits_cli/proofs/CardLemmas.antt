@@ -122,7 +122,7 @@ pub any_more : (some more shown : List ShownCard) (before empty : Bool) → more
 any_more some more shown before empty is p q = some_more some shown before _ empty p q refl ∙ ap has_some (sym is)
 
 -- by a flush that fails
-pub CardsStop-flush : (choice : CardChoice) (file file_after : SourceState) (out mid out_after : SinkState) (headers : List (List (List ℕ))) (found : Option OpenFault) (fault : Fault) → ShowsHeaders file headers found → StaysQuiet file file_after
+pub CardsStop-flush : (choice : CardChoice) (file file_after : SourceState) (out mid out_after : SinkState) (headers : List (List (List ℕ))) (found : Option OpenFault) (fault : Fault) → ShowsHeaders file file_after headers found → StaysQuiet file file_after
     → Prints (cards_text choice headers) out mid → FlushFails mid out_after fault → CardsStop choice file file_after out out_after fault
 CardsStop-flush choice file file_after out mid out_after headers found fault shows read printed failed =
     subst (λ (f : Fault). CardsStop choice file file_after out out_after f) (sym failed.0)

@@ -1,5 +1,5 @@
 -- What a run leaves, step by step, whatever the reads of its file gave.
-use Rattle.std.proofs.Common.{◌≡◌, ◌⊎◌, ℕ, List, [], ◌++◌, refl, sym, ap, subst, ◌∙◌, inl, inr, Result, Ok, Err}
+use Rattle.std.proofs.Common.{◌≡◌, ◌⊎◌, ℕ, Bool, List, [], ◌++◌, refl, sym, ap, subst, ◌∙◌, inl, inr, Result, Ok, Err}
 use Rattle.std.specs.Result.{IfErr, IfOk, IsErrAnd, OnOk}
 use Rattle.std.proofs.lemmas.Result.{err_from_is_err_and}
 use Rattle.fits_plane.specs.Again.{CopyWrites, PrintsLike}
@@ -12,13 +12,18 @@ use Rattle.fits_session.specs.declared.read_fault.ReadFileFault.{ReadFileFault}
 use Rattle.fits_session.specs.declared.read_fault.ReadFileFault.TheVariants as opening
 use Rattle.fits_cli.specs.Answer.{Standing}
 use Rattle.fits_cli.specs.Faults.{fault_of_copy, fault_of_file, FlushFails, PrintFails}
-use Rattle.fits_cli.specs.Frame.{AnswersLeave, EndLeaves, IsUnanswered, LeavesAs, LeavesEnd, LeavesFault, LinesLeave, PrintsPart, PrintsSome, ResultLeaves, SavingLeaves, ScriptAnswers, ScriptLeaves}
+use Rattle.fits_cli.specs.Ends.{end_of}
+use Rattle.fits_cli.specs.Frame.{AnswersLeave, AsksLeave, EndLeaves, IsUnanswered, LeavesAs, LeavesEnd, LeavesFault, LinesLeave, PrintsPart, PrintsSome, ResultLeaves, SavingLeaves, ScriptAnswers, ScriptLeaves}
 use Rattle.fits_cli.specs.Output.{saved_bytes}
 use Rattle.fits_cli.specs.Running.{FlushesAnswers}
 use Rattle.fits_cli.specs.declared.edited.Edited.{Edited}
 use Rattle.fits_cli.specs.declared.fault.Fault.{Fault}
 use Rattle.fits_cli.specs.declared.fault.Fault.TheVariants.{Refused, ScriptTooLong, Memory, ReadFailed, WriteFailed, Reread as RereadFault}
+use Rattle.fits_cli.specs.declared.level.Level.{Level}
+use Rattle.fits_cli.specs.declared.saves.Saves.{Saves}
+use Rattle.fits_cli.specs.declared.saves.Saves.TheVariants.{Made}
 use Rattle.fits_cli.specs.declared.terms.Terms.{Terms}
+use Rattle.fits_cli.specs.Terms.{asking}
 use Rattle.fits_cli.proofs.EditingLemmas.{no_fault, same_fault}
 
 -- nothing was written
@@ -139,33 +144,33 @@ pub like_flushed : (bytes : List ℕ) (a b c : SinkState) → PrintsLike bytes a
 like_flushed bytes a b c p flush = record { like = p.like; size = p.size; total = p.total; written = Prints-flushed a b c p.like p.written flush }
 
 -- a result that isn't saved whole
-pub result_saving : (out saved holds : SinkState) (fault : Fault) → SavingLeaves saved holds fault → ResultLeaves out out saved holds fault
-result_saving out saved holds (Refused why) p = absurd p
-result_saving out saved holds ScriptTooLong p = absurd p
-result_saving out saved holds Memory p = absurd p
-result_saving out saved holds ReadFailed p = absurd p
-result_saving out saved holds WriteFailed p = inr (refl, p)
-result_saving out saved holds (RereadFault why) p = (refl, p)
+pub result_saving : (whole : Bool) (check : Level) (out saved holds : SinkState) (fault : Fault) → SavingLeaves saved holds fault → ResultLeaves (Made whole check) out out saved holds fault
+result_saving whole check out saved holds (Refused why) p = absurd p
+result_saving whole check out saved holds ScriptTooLong p = absurd p
+result_saving whole check out saved holds Memory p = absurd p
+result_saving whole check out saved holds ReadFailed p = absurd p
+result_saving whole check out saved holds WriteFailed p = inr (refl, p)
+result_saving whole check out saved holds (RereadFault why) p = (refl, p)
 
 -- the lines of what is new aren't written
-pub result_part : (text : List ℕ) (out out' saved : SinkState) (fault : Fault) → PrintFails text out out' fault → ResultLeaves out out' saved saved fault
-result_part text out out' saved fault failed = rw failed.0 (inl (record { text = text; front = failed.1 }, refl))
+pub result_part : (saves : Saves) (text : List ℕ) (out out' saved : SinkState) (fault : Fault) → PrintFails text out out' fault → ResultLeaves saves out out' saved saved fault
+result_part saves text out out' saved fault failed = rw failed.0 (inl (record { text = text; front = failed.1 }, refl))
 
 -- a run that ends after its answers
-leaves_result : (script script' : SourceState) (out mid out' saved holds : SinkState) (fault : Fault) → ScriptAnswers script script' out mid → mid.unflushed ≡ 0 → ResultLeaves mid out' saved holds fault → LeavesFault script script' out out' saved holds fault
-leaves_result script script' out mid out' saved holds (Refused why) answers flushed p = absurd p
-leaves_result script script' out mid out' saved holds ScriptTooLong answers flushed p = absurd p
-leaves_result script script' out mid out' saved holds Memory answers flushed p = (subst (λ (s : SinkState). ScriptAnswers script script' out s) (sym p.0) answers, p.1)
-leaves_result script script' out mid out' saved holds ReadFailed answers flushed p = absurd p
-leaves_result script script' out mid out' saved holds WriteFailed answers flushed (inl p) = (answers.quiet, inl (part_more out mid out' answers.said p.0, p.1))
-leaves_result script script' out mid out' saved holds WriteFailed answers flushed (inr p) =
+leaves_result : (saves : Saves) (script script' : SourceState) (out mid out' saved holds : SinkState) (fault : Fault) → ScriptAnswers script script' out mid → mid.unflushed ≡ 0 → ResultLeaves saves mid out' saved holds fault → LeavesFault saves script script' out out' saved holds fault
+leaves_result saves script script' out mid out' saved holds (Refused why) answers flushed p = absurd p
+leaves_result saves script script' out mid out' saved holds ScriptTooLong answers flushed p = absurd p
+leaves_result saves script script' out mid out' saved holds Memory answers flushed p = (subst (λ (s : SinkState). ScriptAnswers script script' out s) (sym p.0) answers, p.1)
+leaves_result saves script script' out mid out' saved holds ReadFailed answers flushed p = absurd p
+leaves_result saves script script' out mid out' saved holds WriteFailed answers flushed (inl p) = (answers.quiet, inl (part_more out mid out' answers.said p.0, p.1))
+leaves_result saves script script' out mid out' saved holds WriteFailed answers flushed (inr p) =
     (answers.quiet, inr (subst (λ (s : SinkState). PrintsSome out s) (sym p.0) answers.said, ap (λ (s : SinkState). s.unflushed) p.0 ∙ flushed, p.1))
-leaves_result script script' out mid out' saved holds (RereadFault why) answers flushed p =
+leaves_result saves script script' out mid out' saved holds (RereadFault why) answers flushed p =
     (subst (λ (s : SinkState). ScriptAnswers script script' out s) (sym p.0) answers, ap (λ (s : SinkState). s.unflushed) p.0 ∙ flushed, p.1)
 
 -- or comes to its end
 pub leaves_answered : (terms : Terms) (script script' : SourceState) (out mid out' saved holds : SinkState) (now : Standing) (result : Result Edited Fault) → ScriptAnswers script script' out mid × (mid.unflushed ≡ 0)
-    → OnOk result (PrintsSome mid out') → OnOk result (mid.unflushed ≡ 0 → out'.unflushed ≡ 0) → IfOk result (EndLeaves terms.saves (saved_bytes terms now) saved holds) → IfErr result (ResultLeaves mid out' saved holds)
+    → OnOk result (PrintsSome mid out') → OnOk result (mid.unflushed ≡ 0 → out'.unflushed ≡ 0) → IfOk result (EndLeaves terms.saves (saved_bytes terms now) saved holds) → IfErr result (ResultLeaves terms.saves mid out' saved holds)
     → LeavesAs terms script script' out out' saved holds result
 leaves_answered terms script script' out mid out' saved holds now (Ok it) answers said flushed ends stops = record {
   answers = record { quiet = answers.0.quiet; said = some_more out mid out' answers.0.said said };
@@ -173,27 +178,37 @@ leaves_answered terms script script' out mid out' saved holds now (Ok it) answer
   now = now;
   result = ends;
 }
-leaves_answered terms script script' out mid out' saved holds now (Err fault) answers said flushed ends stops = leaves_result script script' out mid out' saved holds fault answers.0 answers.1 stops
+leaves_answered terms script script' out mid out' saved holds now (Err fault) answers said flushed ends stops = leaves_result terms.saves script script' out mid out' saved holds fault answers.0 answers.1 stops
 
 -- a run that ends before its script does
-pub leaves_stopped : (script script' : SourceState) (out out' saved : SinkState) (fault : Fault) → AnswersLeave script script' out out' fault → LeavesFault script script' out out' saved saved fault
-leaves_stopped script script' out out' saved (Refused why) p = absurd p
-leaves_stopped script script' out out' saved ScriptTooLong p = (p.0, p.1, refl)
-leaves_stopped script script' out out' saved Memory p = (p, refl)
-leaves_stopped script script' out out' saved ReadFailed p = (inl p, refl)
-leaves_stopped script script' out out' saved WriteFailed p = (p.0, inl (p.1, refl))
-leaves_stopped script script' out out' saved (RereadFault why) p = (p.0, p.1, some_none saved)
+pub leaves_stopped : (saves : Saves) (script script' : SourceState) (out out' saved : SinkState) (fault : Fault) → AnswersLeave script script' out out' fault → LeavesFault saves script script' out out' saved saved fault
+leaves_stopped saves script script' out out' saved (Refused why) p = absurd p
+leaves_stopped saves script script' out out' saved ScriptTooLong p = (p.0, p.1, refl)
+leaves_stopped saves script script' out out' saved Memory p = (p, refl)
+leaves_stopped saves script script' out out' saved ReadFailed p = (inl p, refl)
+leaves_stopped saves script script' out out' saved WriteFailed p = (p.0, inl (p.1, refl))
+leaves_stopped saves script script' out out' saved (RereadFault why) p = (p.0, p.1, some_none saved)
 
 -- the fault is passed on
-pub leaves_exit : (terms : Terms) (script script' : SourceState) (out out' saved holds : SinkState) (result : Result Edited Fault) (why : Fault) → IsErrAnd result (λ e. e ≡ why) → LeavesFault script script' out out' saved holds why → LeavesAs terms script script' out out' saved holds result
+pub leaves_exit : (terms : Terms) (script script' : SourceState) (out out' saved holds : SinkState) (result : Result Edited Fault) (why : Fault) → IsErrAnd result (λ e. e ≡ why) → LeavesFault terms.saves script script' out out' saved holds why → LeavesAs terms script script' out out' saved holds result
 leaves_exit terms script script' out out' saved holds result why is p = let exit = err_from_is_err_and result is in rw (exit.1, exit.2) p
 
 -- a file that doesn't open
-pub leaves_unread : (script : SourceState) (out saved : SinkState) (why : ReadFileFault) → LeavesFault script script out out saved saved (fault_of_file why)
-leaves_unread script out saved (opening.Open NotFits) = (refl, refl, refl)
-leaves_unread script out saved (opening.Open (NoEnd hdu)) = (refl, refl, refl)
-leaves_unread script out saved (opening.Open (BadShape hdu place)) = (refl, refl, refl)
-leaves_unread script out saved (opening.Open (ShortData hdu)) = (refl, refl, refl)
-leaves_unread script out saved (opening.Open TooLarge) = (refl, refl, refl)
-leaves_unread script out saved (opening.Open OpenMemory) = (script_none script out, refl)
-leaves_unread script out saved opening.Failed = (inr (refl, refl), refl)
+pub leaves_unread : (saves : Saves) (script : SourceState) (out saved : SinkState) (why : ReadFileFault) → LeavesFault saves script script out out saved saved (fault_of_file why)
+leaves_unread saves script out saved (opening.Open NotFits) = (refl, refl, refl)
+leaves_unread saves script out saved (opening.Open (NoEnd hdu)) = (refl, refl, refl)
+leaves_unread saves script out saved (opening.Open (BadShape hdu place)) = (refl, refl, refl)
+leaves_unread saves script out saved (opening.Open (ShortData hdu)) = (refl, refl, refl)
+leaves_unread saves script out saved (opening.Open TooLarge) = (refl, refl, refl)
+leaves_unread saves script out saved (opening.Open OpenMemory) = (script_none script out, refl)
+leaves_unread saves script out saved opening.Failed = (inr (refl, refl), refl)
+
+-- a run that saves nothing
+pub asks_leave : (script script' : SourceState) (out out' saved holds : SinkState) (result : Result Edited Fault) → LeavesAs asking script script' out out' saved holds result → AsksLeave script script' out out' (end_of result)
+asks_leave script script' out out' saved holds (Ok it) p = (p.answers, p.flushed)
+asks_leave script script' out out' saved holds (Err (Refused why)) p = (p.0, p.1)
+asks_leave script script' out out' saved holds (Err ScriptTooLong) p = (p.0, p.1)
+asks_leave script script' out out' saved holds (Err Memory) p = p.0
+asks_leave script script' out out' saved holds (Err ReadFailed) p = p.0
+asks_leave script script' out out' saved holds (Err WriteFailed) p = (p.0, elim p.1 [ inl part ↦ part.0 | inr never ↦ absurd never.2 ])
+asks_leave script script' out out' saved holds (Err (RereadFault why)) p = (p.0, p.1)

@@ -5,7 +5,6 @@ use Rattle.std.specs.Fmt.{decimal}
 use Rattle.std.proofs.lemmas.List.{append-nil, get_or_default, length-append, take_all, take-append-drop, take_more, length-take-le}
 use Rattle.std.proofs.lemmas.List.Elements.{All-head, All-tail}
 use Rattle.fits_card.specs.Header.{header_bytes}
-use Rattle.fits_stream.specs.Intake.{Gives}
 use Rattle.fits_rules.specs.Class.{is_primary}
 use Rattle.fits_rules.specs.Shape.{shape_of}
 use Rattle.fits_rules.specs.declared.array_shape.Shape.{Shape}
@@ -14,7 +13,7 @@ use Rattle.fits_hdu.specs.declared.outline.Outline.{Outline}
 use Rattle.fits_hdu.proofs.ShapeLemmas.{one_primary}
 use Rattle.fits_session.specs.File.{FileParts, joined_hdus, offsets_from, IsFileOf}
 use Rattle.fits_session.specs.declared.limits.TheConstants.{FILE_LIMIT}
-use Rattle.fits_session.specs.Reading.{is_outline, IsOutlineOf, KeepsEach}
+use Rattle.fits_session.specs.Reading.{is_outline, GaveWhole, IsOutlineOf, KeepsEach}
 use Rattle.fits_session.specs.Edit.{is_primary_hdu}
 use Rattle.fits_session.specs.declared.offsets.HduOffsets.{HduOffsets}
 use Rattle.fits_cli.specs.Listing.{axes_text, more_axes_text, line_front, line_back, hdu_line, line_of, hdu_lines, listing, outlined_len, outlined_lines, outlined_offsets}
@@ -80,10 +79,10 @@ outlined_len-kept (it ∷ outlines) (u ∷ us) p =
     omega (arith, p.0.header, p.0.unit, outlined_len-kept outlines us p.1, length-append (hdu_bytes u) (joined_hdus us), length-append (header_bytes u.header) u.data_unit)
 
 -- they keep to the limit
-pub outlined_within : (file : SourceState) (outlines : List Outline) → Gives file (IsOutlineOf outlines) → outlined_len outlines ≤ FILE_LIMIT
-outlined_within file outlines p =
-    let file : FileParts = p.2.0 in
-    omega (arith, outlined_len-kept outlines file.hdus p.2.2, p.2.1.size, ap length p.2.1.front.joined, length-append (joined_hdus file.hdus) file.tail)
+pub outlined_within : (file file_after : SourceState) (outlines : List Outline) → GaveWhole file file_after (IsOutlineOf outlines) → outlined_len outlines ≤ FILE_LIMIT
+outlined_within file file_after outlines p =
+    let file : FileParts = p.is.0 in
+    omega (arith, outlined_len-kept outlines file.hdus p.is.2, p.is.1.size, ap length p.is.1.front.joined, length-append (joined_hdus file.hdus) file.tail)
 
 -- lines of some outlines, and of more
 lines-append : (n start : ℕ) (xs ys : List Outline) → outlined_lines n start (xs ++ ys) ≡ outlined_lines n start xs ++ outlined_lines (n + length xs) (start + outlined_len xs) ys

@@ -2,7 +2,6 @@
 use Rattle.std.proofs.Common.{◌≡◌, ℕ, ◌+◌, ◌<◌, Bool, true, false, List, [], ◌∷◌, ◌++◌, take, drop, refl, ap, sym, ◌∙◌, arith, rules, All}
 use Rattle.std.specs.Prelude.{nat_le, Ok}
 use Rattle.std.proofs.lemmas.List.Elements.{All-head, All-tail}
-use Rattle.fits_stream.specs.Intake.{Gives}
 use Rattle.fits_stream.specs.Stream.{SourceState, SinkState, Prints, StaysQuiet}
 use Rattle.fits_rules.specs.Class.{is_primary}
 use Rattle.fits_rules.specs.Shape.{shape_of}
@@ -11,7 +10,7 @@ use Rattle.fits_hdu.specs.declared.hdu_stats.HduStats.{HduStats}
 use Rattle.fits_hdu.proofs.ShapeLemmas.{one_primary}
 use Rattle.fits_session.specs.File.{FileParts, IsFileOf}
 use Rattle.fits_session.specs.Edit.{is_primary_hdu}
-use Rattle.fits_session.specs.Reading.{are_stats, AreStatisticsOfFile, KeepsEach}
+use Rattle.fits_session.specs.Reading.{are_stats, AreStatisticsOfFile, GaveWhole, KeepsEach}
 use Rattle.fits_cli.specs.Numbered.{numbered}
 use Rattle.fits_cli.specs.Stating.{stat_line, stat_line_by, stat_line_of, stat_lines, stating}
 use Rattle.fits_cli.specs.Telling.{PrintingStops, TextIsTold, TextStopsBy}
@@ -56,15 +55,15 @@ unfolding stating
 stating-found stats bytes file p each = front_lines stats file.hdus p.front.first p.front.others each
 
 -- the statistics that were found are told
-pub stated : (file file_after : SourceState) (out out_after : SinkState) (stats : List HduStats) → Gives file (AreStatisticsOfFile stats) → StaysQuiet file file_after → Prints (stat_lines stats) out out_after
+pub stated : (file file_after : SourceState) (out out_after : SinkState) (stats : List HduStats) → GaveWhole file file_after (AreStatisticsOfFile stats) → StaysQuiet file file_after → Prints (stat_lines stats) out out_after
     → TextIsTold telling.Statistics file file_after out out_after 0
 stated file file_after out out_after stats given quiet printed =
-    let parts : FileParts = given.2.0 in
-    record { parts = parts; opened = (given.0, given.1, given.2.1); read = quiet; printed = rw (← stating-found stats given.0 parts given.2.1 given.2.2) printed; status_is = refl }
+    let parts : FileParts = given.is.0 in
+    record { parts = parts; opened = record { bytes = given.bytes; told = given.told; gave = given.gave; is = given.is.1 }; read = quiet; printed = rw (← stating-found stats given.bytes parts given.is.1 given.is.2) printed; status_is = refl }
 
 -- or a prefix of them
-pub TextStopsBy-stating : (file file_after : SourceState) (out out_after : SinkState) (stats : List HduStats) (fault : Fault) → Gives file (AreStatisticsOfFile stats) → StaysQuiet file file_after → PrintingStops (stat_lines stats) out out_after fault
+pub TextStopsBy-stating : (file file_after : SourceState) (out out_after : SinkState) (stats : List HduStats) (fault : Fault) → GaveWhole file file_after (AreStatisticsOfFile stats) → StaysQuiet file file_after → PrintingStops (stat_lines stats) out out_after fault
     → TextStopsBy telling.Statistics file file_after out out_after fault
 TextStopsBy-stating file file_after out out_after stats fault given quiet stops =
-    let parts : FileParts = given.2.0 in
-    TextStopsBy-printing telling.Statistics file file_after out out_after parts fault (given.0, given.1, given.2.1) quiet (rw (← stating-found stats given.0 parts given.2.1 given.2.2) stops)
+    let parts : FileParts = given.is.0 in
+    TextStopsBy-printing telling.Statistics file file_after out out_after parts fault (record { bytes = given.bytes; told = given.told; gave = given.gave; is = given.is.1 }) quiet (rw (← stating-found stats given.bytes parts given.is.1 given.is.2) stops)

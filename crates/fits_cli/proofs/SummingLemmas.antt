@@ -2,12 +2,11 @@
 use Rattle.std.proofs.Common.{◌≡◌, ℕ, ◌+◌, ◌<◌, Bool, ◌||◌, if◌then◌else◌, List, [], ◌∷◌, ◌++◌, length, take, drop, get_or, refl, ap, sym, ◌∙◌, append_assoc, arith}
 use Rattle.std.specs.List.{list_any}
 use Rattle.std.proofs.lemmas.List.{append-nil, take-append-drop, take_more, length-take-le}
-use Rattle.fits_stream.specs.Intake.{Gives}
 use Rattle.fits_hdu.specs.Hdu.{HduParts}
 use Rattle.fits_hdu.specs.Sums.{data_sum, verdicts_of}
 use Rattle.fits_hdu.specs.declared.hdu_sums.HduSums.{HduSums}
 use Rattle.fits_session.specs.File.{FileParts}
-use Rattle.fits_session.specs.Reading.{is_summed, AreSumsOfFile, KeepsEach}
+use Rattle.fits_session.specs.Reading.{is_summed, AreSumsOfFile, GaveWhole, KeepsEach}
 use Rattle.fits_stream.specs.Stream.{SourceState, SinkState, Prints, StaysQuiet}
 use Rattle.fits_cli.specs.Summing.{any_wrong, has_wrong, summed_from, summed_line, summed_lines, summing, wrong_line, wrong_lines, wrong_summing}
 use Rattle.fits_cli.specs.Numbered.{numbered}
@@ -82,18 +81,18 @@ stops_before_line a b sums i front =
     rw (lines-split sums i) (PrintingStops-more a b b (summed_lines 1 (take i sums)) rest Memory front (PrintingStops-none b rest))
 
 -- the sums that were found are told
-pub summed : (file file_after : SourceState) (out out_after : SinkState) (sums : List HduSums) → Gives file (AreSumsOfFile sums) → StaysQuiet file file_after → Prints (summed_lines 1 sums) out out_after
+pub summed : (file file_after : SourceState) (out out_after : SinkState) (sums : List HduSums) → GaveWhole file file_after (AreSumsOfFile sums) → StaysQuiet file file_after → Prints (summed_lines 1 sums) out out_after
     → TextIsTold telling.Sums file file_after out out_after 0
 summed file file_after out out_after sums given quiet printed =
-    let parts : FileParts = given.2.0 in
-    record { parts = parts; opened = (given.0, given.1, given.2.1); read = quiet; printed = rw (← summing-summed sums parts given.2.2) printed; status_is = refl }
+    let parts : FileParts = given.is.0 in
+    record { parts = parts; opened = record { bytes = given.bytes; told = given.told; gave = given.gave; is = given.is.1 }; read = quiet; printed = rw (← summing-summed sums parts given.is.2) printed; status_is = refl }
 
 -- or a prefix of them
-pub TextStopsBy-summing : (file file_after : SourceState) (out out_after : SinkState) (sums : List HduSums) (fault : Fault) → Gives file (AreSumsOfFile sums) → StaysQuiet file file_after → PrintingStops (summed_lines 1 sums) out out_after fault
+pub TextStopsBy-summing : (file file_after : SourceState) (out out_after : SinkState) (sums : List HduSums) (fault : Fault) → GaveWhole file file_after (AreSumsOfFile sums) → StaysQuiet file file_after → PrintingStops (summed_lines 1 sums) out out_after fault
     → TextStopsBy telling.Sums file file_after out out_after fault
 TextStopsBy-summing file file_after out out_after sums fault given quiet stops =
-    let parts : FileParts = given.2.0 in
-    TextStopsBy-printing telling.Sums file file_after out out_after parts fault (given.0, given.1, given.2.1) quiet (rw (← summing-summed sums parts given.2.2) stops)
+    let parts : FileParts = given.is.0 in
+    TextStopsBy-printing telling.Sums file file_after out out_after parts fault (record { bytes = given.bytes; told = given.told; gave = given.gave; is = given.is.1 }) quiet (rw (← summing-summed sums parts given.is.2) stops)
 
 -- lines of wrong sums are those of their HDUs
 wrong_same : (n : ℕ) (sums : List HduSums) (us : List HduParts) → KeepsEach is_summed sums us → numbered (λ h (it : HduSums). wrong_line h it.datasum it.verdicts) n sums ≡ numbered (λ h (hdu : HduParts). wrong_line h (data_sum hdu) (verdicts_of hdu)) n us
@@ -119,15 +118,15 @@ wrong_found (it ∷ sums) [] p = absurd p
 wrong_found (it ∷ sums) (u ∷ us) p = ap (λ v. any_wrong v || has_wrong sums) p.0.right ∙ ap (λ b. any_wrong (verdicts_of u) || b) (wrong_found sums us p.1)
 
 -- the wrong sums that were found are told
-pub summed_wrong : (file file_after : SourceState) (out out_after : SinkState) (sums : List HduSums) (wrong : Bool) (status : ℕ) → Gives file (AreSumsOfFile sums) → StaysQuiet file file_after → Prints (wrong_lines sums) out out_after → wrong ≡ has_wrong sums
+pub summed_wrong : (file file_after : SourceState) (out out_after : SinkState) (sums : List HduSums) (wrong : Bool) (status : ℕ) → GaveWhole file file_after (AreSumsOfFile sums) → StaysQuiet file file_after → Prints (wrong_lines sums) out out_after → wrong ≡ has_wrong sums
     → status ≡ (if wrong then 1 else 0) → TextIsTold telling.WrongSums file file_after out out_after status
 summed_wrong file file_after out out_after sums wrong status given quiet printed is said =
-    let parts : FileParts = given.2.0 in
-    record { parts = parts; opened = (given.0, given.1, given.2.1); read = quiet; printed = rw (← wrong_summed sums parts given.2.2) printed; status_is = said ∙ ap (λ b. if b then 1 else 0) (is ∙ wrong_found sums parts.hdus given.2.2) }
+    let parts : FileParts = given.is.0 in
+    record { parts = parts; opened = record { bytes = given.bytes; told = given.told; gave = given.gave; is = given.is.1 }; read = quiet; printed = rw (← wrong_summed sums parts given.is.2) printed; status_is = said ∙ ap (λ b. if b then 1 else 0) (is ∙ wrong_found sums parts.hdus given.is.2) }
 
 -- or a prefix of them
-pub TextStopsBy-wrong : (file file_after : SourceState) (out out_after : SinkState) (sums : List HduSums) (fault : Fault) → Gives file (AreSumsOfFile sums) → StaysQuiet file file_after → PrintingStops (wrong_lines sums) out out_after fault
+pub TextStopsBy-wrong : (file file_after : SourceState) (out out_after : SinkState) (sums : List HduSums) (fault : Fault) → GaveWhole file file_after (AreSumsOfFile sums) → StaysQuiet file file_after → PrintingStops (wrong_lines sums) out out_after fault
     → TextStopsBy telling.WrongSums file file_after out out_after fault
 TextStopsBy-wrong file file_after out out_after sums fault given quiet stops =
-    let parts : FileParts = given.2.0 in
-    TextStopsBy-printing telling.WrongSums file file_after out out_after parts fault (given.0, given.1, given.2.1) quiet (rw (← wrong_summed sums parts given.2.2) stops)
+    let parts : FileParts = given.is.0 in
+    TextStopsBy-printing telling.WrongSums file file_after out out_after parts fault (record { bytes = given.bytes; told = given.told; gave = given.gave; is = given.is.1 }) quiet (rw (← wrong_summed sums parts given.is.2) stops)

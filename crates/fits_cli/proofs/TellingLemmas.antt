@@ -1,9 +1,8 @@
 -- A run that prints a text of a file, from the bytes that were read to its end.
 use Rattle.std.proofs.Common.{◌≡◌, ℕ, List, refl, sym, subst, inr}
-use Rattle.fits_stream.specs.Intake.{Gives}
 use Rattle.fits_hdu.specs.declared.outline.Outline.{Outline}
 use Rattle.fits_session.specs.File.{FileParts}
-use Rattle.fits_session.specs.Reading.{IsOutlineOf}
+use Rattle.fits_session.specs.Reading.{GaveWhole, IsOutlineOf}
 use Rattle.fits_cli.specs.Faults.{FlushFails}
 use Rattle.fits_cli.specs.Listing.{outlined_lines}
 use Rattle.fits_stream.specs.Stream.{SourceState, SinkState, Flushes, Prints, StaysQuiet}
@@ -16,7 +15,7 @@ use Rattle.fits_cli.proofs.ListingLemmas.{listing-outlined}
 use Rattle.fits_stream.proofs.StreamLemmas.{Prints-flushed, PrintsFront-unflushed}
 
 -- a text that isn't printed to its end
-pub TextStopsBy-printing : (kind : Telling) (file file_after : SourceState) (out out_after : SinkState) (parts : FileParts) (fault : Fault) → Opens file parts → StaysQuiet file file_after
+pub TextStopsBy-printing : (kind : Telling) (file file_after : SourceState) (out out_after : SinkState) (parts : FileParts) (fault : Fault) → Opens file file_after parts → StaysQuiet file file_after
     → PrintingStops (text_of kind parts) out out_after fault → TextStopsBy kind file file_after out out_after fault
 TextStopsBy-printing kind file file_after out out_after parts (Refused why) opened read stops = absurd stops
 TextStopsBy-printing kind file file_after out out_after parts ScriptTooLong opened read stops = absurd stops
@@ -43,14 +42,14 @@ TextIsPrinted-flushed kind file file_after out mid out_after status told flush =
 }
 
 -- the listing of outlines that were read
-pub listed : (file file_after : SourceState) (out out_after : SinkState) (outlines : List Outline) → Gives file (IsOutlineOf outlines) → StaysQuiet file file_after → Prints (outlined_lines 1 0 outlines) out out_after → TextIsTold telling.List file file_after out out_after 0
+pub listed : (file file_after : SourceState) (out out_after : SinkState) (outlines : List Outline) → GaveWhole file file_after (IsOutlineOf outlines) → StaysQuiet file file_after → Prints (outlined_lines 1 0 outlines) out out_after → TextIsTold telling.List file file_after out out_after 0
 listed file file_after out out_after outlines given quiet printed =
-    let parts : FileParts = given.2.0 in
-    record { parts = parts; opened = (given.0, given.1, given.2.1); read = quiet; printed = rw (← listing-outlined outlines given.0 parts given.2.1 given.2.2) printed; status_is = refl }
+    let parts : FileParts = given.is.0 in
+    record { parts = parts; opened = record { bytes = given.bytes; told = given.told; gave = given.gave; is = given.is.1 }; read = quiet; printed = rw (← listing-outlined outlines given.bytes parts given.is.1 given.is.2) printed; status_is = refl }
 
 -- or a prefix of it
-pub TextStopsBy-listing : (file file_after : SourceState) (out out_after : SinkState) (outlines : List Outline) (fault : Fault) → Gives file (IsOutlineOf outlines) → StaysQuiet file file_after → PrintingStops (outlined_lines 1 0 outlines) out out_after fault → TextStopsBy telling.List file file_after out out_after fault
+pub TextStopsBy-listing : (file file_after : SourceState) (out out_after : SinkState) (outlines : List Outline) (fault : Fault) → GaveWhole file file_after (IsOutlineOf outlines) → StaysQuiet file file_after → PrintingStops (outlined_lines 1 0 outlines) out out_after fault → TextStopsBy telling.List file file_after out out_after fault
 TextStopsBy-listing file file_after out out_after outlines fault given quiet stops =
-    let parts : FileParts = given.2.0 in
-    TextStopsBy-printing telling.List file file_after out out_after parts fault (given.0, given.1, given.2.1) quiet
-    (rw (← listing-outlined outlines given.0 parts given.2.1 given.2.2) stops)
+    let parts : FileParts = given.is.0 in
+    TextStopsBy-printing telling.List file file_after out out_after parts fault (record { bytes = given.bytes; told = given.told; gave = given.gave; is = given.is.1 }) quiet
+    (rw (← listing-outlined outlines given.bytes parts given.is.1 given.is.2) stops)

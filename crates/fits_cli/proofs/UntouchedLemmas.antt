@@ -1,12 +1,11 @@
 -- The lines on wrong sums, from the sums that were found.
 use Rattle.std.proofs.Common.{◌≡◌, ℕ, ◌+◌, List, [], ◌∷◌, ◌++◌, refl, ap, ◌∙◌}
-use Rattle.fits_stream.specs.Intake.{Gives}
 use Rattle.fits_stream.specs.Stream.{SourceState, SinkState, Prints, StaysQuiet}
 use Rattle.fits_hdu.specs.Hdu.{HduParts}
 use Rattle.fits_hdu.specs.Sums.{verdicts_of}
 use Rattle.fits_hdu.specs.declared.hdu_sums.HduSums.{HduSums}
 use Rattle.fits_session.specs.File.{FileParts}
-use Rattle.fits_session.specs.Reading.{is_summed, AreSumsOfFile, KeepsEach}
+use Rattle.fits_session.specs.Reading.{is_summed, AreSumsOfFile, GaveWhole, KeepsEach}
 use Rattle.fits_cli.specs.Numbered.{numbered}
 use Rattle.fits_cli.specs.Telling.{PrintingStops, TextIsTold, TextStopsBy}
 use Rattle.fits_cli.specs.Untouched.{untouched, untouched_by, untouched_lines}
@@ -30,14 +29,14 @@ unfolding untouched
 untouched_found sums file each = untouched_same 1 sums file.hdus each
 
 -- they are told
-pub told_untouched : (file file_after : SourceState) (out out_after : SinkState) (sums : List HduSums) → Gives file (AreSumsOfFile sums) → StaysQuiet file file_after → Prints (untouched_by sums) out out_after → TextIsTold telling.Untouched file file_after out out_after 0
+pub told_untouched : (file file_after : SourceState) (out out_after : SinkState) (sums : List HduSums) → GaveWhole file file_after (AreSumsOfFile sums) → StaysQuiet file file_after → Prints (untouched_by sums) out out_after → TextIsTold telling.Untouched file file_after out out_after 0
 told_untouched file file_after out out_after sums given quiet printed =
-    let parts : FileParts = given.2.0 in
-    record { parts = parts; opened = (given.0, given.1, given.2.1); read = quiet; printed = rw (← untouched_found sums parts given.2.2) printed; status_is = refl }
+    let parts : FileParts = given.is.0 in
+    record { parts = parts; opened = record { bytes = given.bytes; told = given.told; gave = given.gave; is = given.is.1 }; read = quiet; printed = rw (← untouched_found sums parts given.is.2) printed; status_is = refl }
 
 -- or a prefix of them
-pub TextStopsBy-untouched : (file file_after : SourceState) (out out_after : SinkState) (sums : List HduSums) (fault : Fault) → Gives file (AreSumsOfFile sums) → StaysQuiet file file_after → PrintingStops (untouched_by sums) out out_after fault
+pub TextStopsBy-untouched : (file file_after : SourceState) (out out_after : SinkState) (sums : List HduSums) (fault : Fault) → GaveWhole file file_after (AreSumsOfFile sums) → StaysQuiet file file_after → PrintingStops (untouched_by sums) out out_after fault
     → TextStopsBy telling.Untouched file file_after out out_after fault
 TextStopsBy-untouched file file_after out out_after sums fault given quiet stops =
-    let parts : FileParts = given.2.0 in
-    TextStopsBy-printing telling.Untouched file file_after out out_after parts fault (given.0, given.1, given.2.1) quiet (rw (← untouched_found sums parts given.2.2) stops)
+    let parts : FileParts = given.is.0 in
+    TextStopsBy-printing telling.Untouched file file_after out out_after parts fault (record { bytes = given.bytes; told = given.told; gave = given.gave; is = given.is.1 }) quiet (rw (← untouched_found sums parts given.is.2) stops)

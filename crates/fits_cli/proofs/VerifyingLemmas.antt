@@ -2,8 +2,8 @@
 use Rattle.std.proofs.Common.{◌≡◌, ℕ, ◌+◌, ◌<◌, ◌≤◌, Bool, List, [], ◌++◌, length, take, drop, get_or, refl, ap, sym, subst, ◌∙◌}
 use Rattle.std.specs.List.{flat_map}
 use Rattle.std.proofs.lemmas.List.{take_all}
-use Rattle.fits_stream.specs.Intake.{Gives}
 use Rattle.fits_stream.proofs.StreamLemmas.{Gains-none}
+use Rattle.fits_session.specs.Reading.{GaveWhole}
 use Rattle.fits_session.specs.declared.problem.Problem.{Problem}
 use Rattle.fits_cli.specs.Faults.{PrintFails}
 use Rattle.fits_cli.specs.Report.{closing_line, report_text}
@@ -79,7 +79,7 @@ prints_line a b c line report i d l front next =
     rw (lines-more line report i d l) (Prints-more a b c (flat_map line (take i report)) (line (get_or report i d)) front next)
 
 -- a report that was read is printed to a prefix
-pub TextStopsBy-report : (file file_after : SourceState) (out out_after : SinkState) (level : Level) (strict cards : Bool) (report : List Problem) (headers : List (List (List ℕ))) (fault : Fault) → Gives file (IsToldReport cards report headers)
+pub TextStopsBy-report : (file file_after : SourceState) (out out_after : SinkState) (level : Level) (strict cards : Bool) (report : List Problem) (headers : List (List (List ℕ))) (fault : Fault) → GaveWhole file file_after (IsToldReport cards report headers)
     → StaysQuiet file file_after → PrintingStops (report_text level headers report) out out_after fault → TextStopsBy (telling.Report level strict cards) file file_after out out_after fault
 TextStopsBy-report file file_after out out_after level strict cards report headers fault given quiet stops =
-    TextStopsBy-printing (telling.Report level strict cards) file file_after out out_after given.2.file fault (given.0, given.1, given.2.opened) quiet (rw (← given.2.all, ← given.2.told) stops)
+    TextStopsBy-printing (telling.Report level strict cards) file file_after out out_after given.is.file fault (record { bytes = given.bytes; told = given.told; gave = given.gave; is = given.is.opened }) quiet (rw (← given.is.all, ← given.is.told) stops)

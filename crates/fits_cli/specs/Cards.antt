@@ -110,7 +110,7 @@ end_of_cards choice shown fault = end_by choice (has_some (changed_of shown)) (h
 pub record CardsAreShown (choice : CardChoice) (file file_after : SourceState) (out out_after : SinkState) (end : End) (changed : List CardPlace) : Type 0 where
   pub headers : List (List (List ℕ))
   pub fault : Option OpenFault
-  pub shows : ShowsHeaders file headers fault
+  pub shows : ShowsHeaders file file_after headers fault
   pub read : StaysQuiet file file_after
   pub printed : Prints (cards_text choice headers) out out_after
   pub flushed : out_after.unflushed ≡ 0
@@ -122,13 +122,13 @@ pub record CardsNeedMemory (choice : CardChoice) (file file_after : SourceState)
   pub read : StaysQuiet file file_after
   pub quiet : out_after.failures ≡ out.failures
   pub printed : (out_after ≡ out)
-      ⊎ ((headers : List (List (List ℕ))) × (fault : Option OpenFault) × ShowsHeaders file headers fault × GainsFront out.contents out_after.contents (cards_text choice headers))
+      ⊎ ((headers : List (List (List ℕ))) × (fault : Option OpenFault) × ShowsHeaders file file_after headers fault × GainsFront out.contents out_after.contents (cards_text choice headers))
 
 -- a write failed: a prefix of the text stands
 pub record CardsFail (choice : CardChoice) (file file_after : SourceState) (out out_after : SinkState) : Type 0 where
   pub headers : List (List (List ℕ))
   pub fault : Option OpenFault
-  pub shows : ShowsHeaders file headers fault
+  pub shows : ShowsHeaders file file_after headers fault
   pub read : StaysQuiet file file_after
   pub printed : PrintsFront (cards_text choice headers) out out_after
 

@@ -1,11 +1,12 @@
 -- What stands at the end of a run, whatever the reads of its file gave (own).
-use Rattle.std.specs.Prelude.{◌≡◌, ◌⊎◌, ℕ, List, Result, Ok, Err}
+use Rattle.std.specs.Prelude.{◌≡◌, ◌⊎◌, ℕ, List, MatchOption, Result, Ok, Err}
 use Rattle.fits_plane.specs.Again.{PrintsLike}
 use Rattle.fits_stream.specs.Stream.{SinkState, SourceState, FailsOnce, Prints, PrintsFront, StaysQuiet}
 use Rattle.fits_cli.specs.Answer.{Standing}
 use Rattle.fits_cli.specs.Output.{saved_bytes}
 use Rattle.fits_cli.specs.declared.edited.Edited.{Edited}
 use Rattle.fits_cli.specs.declared.edited.Edited.TheVariants.{Done, KeptBack, Unsound}
+use Rattle.fits_cli.specs.declared.end.End.{End}
 use Rattle.fits_cli.specs.declared.fault.Fault.{Fault}
 use Rattle.fits_cli.specs.declared.fault.Fault.TheVariants.{Refused, ScriptTooLong, Memory, ReadFailed, WriteFailed, Reread as RereadFault}
 use Rattle.fits_cli.specs.declared.saves.Saves.{Saves}
@@ -75,12 +76,17 @@ EndLeaves saves bytes saved holds (Done status) = SavesLike saves bytes saved ho
 EndLeaves saves bytes saved holds (KeptBack undone) = holds ≡ saved
 EndLeaves saves bytes saved holds (Unsound errors warnings) = holds ≡ saved
 
+-- a prefix of the result was saved, and one call failed; none is where none is wanted
+abbrev pub SavesPart : Saves → SinkState → SinkState → Type 0
+SavesPart Nothing saved holds = ⊥
+SavesPart (Made whole check) saved holds = PrintsPart saved holds
+
 -- the result isn't saved: nothing was begun, or a call failed as it is said, or data weren't had again
-abbrev pub ResultLeaves : SinkState → SinkState → SinkState → SinkState → Fault → Type 0
-ResultLeaves out out' saved holds Memory = (out' ≡ out) × (holds ≡ saved)
-ResultLeaves out out' saved holds WriteFailed = (PrintsPart out out' × (holds ≡ saved)) ⊎ ((out' ≡ out) × PrintsPart saved holds)
-ResultLeaves out out' saved holds (RereadFault why) = (out' ≡ out) × PrintsSome saved holds
-ResultLeaves out out' saved holds fault = ⊥
+abbrev pub ResultLeaves : Saves → SinkState → SinkState → SinkState → SinkState → Fault → Type 0
+ResultLeaves saves out out' saved holds Memory = (out' ≡ out) × (holds ≡ saved)
+ResultLeaves saves out out' saved holds WriteFailed = (PrintsPart out out' × (holds ≡ saved)) ⊎ ((out' ≡ out) × SavesPart saves saved holds)
+ResultLeaves saves out out' saved holds (RereadFault why) = (out' ≡ out) × PrintsSome saved holds
+ResultLeaves saves out out' saved holds fault = ⊥
 
 -- a run came to its end: no call of its script or of a sink failed, what was written is passed on, and what is saved is like the file
 -- that the script left
@@ -91,16 +97,30 @@ pub record LeavesEnd (terms : Terms) (script script' : SourceState) (out out' sa
   pub result : EndLeaves terms.saves (saved_bytes terms now) saved holds it
 
 -- a fault ended it: nothing is saved before the answers are flushed, and a call failed exactly where it is said so
-abbrev pub LeavesFault : SourceState → SourceState → SinkState → SinkState → SinkState → SinkState → Fault → Type 0
-LeavesFault script script' out out' saved holds (Refused why) = (script' ≡ script) × (out' ≡ out) × (holds ≡ saved)
-LeavesFault script script' out out' saved holds ScriptTooLong = ScriptAnswers script script' out out' × (out'.unflushed ≡ 0) × (holds ≡ saved)
-LeavesFault script script' out out' saved holds Memory = ScriptAnswers script script' out out' × (holds ≡ saved)
-LeavesFault script script' out out' saved holds ReadFailed = (FailsOnce script script' ⊎ ((script' ≡ script) × (out' ≡ out))) × (holds ≡ saved)
-LeavesFault script script' out out' saved holds WriteFailed =
-    StaysQuiet script script' × ((PrintsPart out out' × (holds ≡ saved)) ⊎ (PrintsSome out out' × (out'.unflushed ≡ 0) × PrintsPart saved holds))
-LeavesFault script script' out out' saved holds (RereadFault why) = ScriptAnswers script script' out out' × (out'.unflushed ≡ 0) × PrintsSome saved holds
+abbrev pub LeavesFault : Saves → SourceState → SourceState → SinkState → SinkState → SinkState → SinkState → Fault → Type 0
+LeavesFault saves script script' out out' saved holds (Refused why) = (script' ≡ script) × (out' ≡ out) × (holds ≡ saved)
+LeavesFault saves script script' out out' saved holds ScriptTooLong = ScriptAnswers script script' out out' × (out'.unflushed ≡ 0) × (holds ≡ saved)
+LeavesFault saves script script' out out' saved holds Memory = ScriptAnswers script script' out out' × (holds ≡ saved)
+LeavesFault saves script script' out out' saved holds ReadFailed = (FailsOnce script script' ⊎ ((script' ≡ script) × (out' ≡ out))) × (holds ≡ saved)
+LeavesFault saves script script' out out' saved holds WriteFailed =
+    StaysQuiet script script' × ((PrintsPart out out' × (holds ≡ saved)) ⊎ (PrintsSome out out' × (out'.unflushed ≡ 0) × SavesPart saves saved holds))
+LeavesFault saves script script' out out' saved holds (RereadFault why) = ScriptAnswers script script' out out' × (out'.unflushed ≡ 0) × PrintsSome saved holds
 
 -- what stands then
 abbrev pub LeavesAs : Terms → SourceState → SourceState → SinkState → SinkState → SinkState → SinkState → Result Edited Fault → Type 0
 LeavesAs terms script script' out out' saved holds (Ok it) = LeavesEnd terms script script' out out' saved holds it
-LeavesAs terms script script' out out' saved holds (Err fault) = LeavesFault script script' out out' saved holds fault
+LeavesAs terms script script' out out' saved holds (Err fault) = LeavesFault terms.saves script script' out out' saved holds fault
+
+-- a fault ended a run that saves nothing: a call failed exactly where it is said so
+abbrev pub AsksFault : SourceState → SourceState → SinkState → SinkState → Fault → Type 0
+AsksFault script script' out out' (Refused why) = (script' ≡ script) × (out' ≡ out)
+AsksFault script script' out out' ScriptTooLong = ScriptAnswers script script' out out' × (out'.unflushed ≡ 0)
+AsksFault script script' out out' Memory = ScriptAnswers script script' out out'
+AsksFault script script' out out' ReadFailed = FailsOnce script script' ⊎ ((script' ≡ script) × (out' ≡ out))
+AsksFault script script' out out' WriteFailed = StaysQuiet script script' × PrintsPart out out'
+AsksFault script script' out out' (RereadFault why) = ScriptAnswers script script' out out' × (out'.unflushed ≡ 0)
+
+-- what stands after a run that saves nothing
+abbrev pub AsksLeave : SourceState → SourceState → SinkState → SinkState → End → Type 0
+AsksLeave script script' out out' end =
+    MatchOption end.fault (ScriptAnswers script script' out out' × (out'.unflushed ≡ 0)) (λ fault. AsksFault script script' out out' fault)

@@ -1,10 +1,12 @@
 -- How a run ends that prints a text of a file, as `list`, `sum`, `stat` and `verify` do (own).
 use Rattle.std.specs.Prelude.{◌≡◌, ◌⊎◌, ℕ, Bool, List, [], MatchOption, if◌then◌else◌}
+use Rattle.fits_stream.specs.Gave.{GaveAll}
 use Rattle.fits_stream.specs.Intake.{Gives}
 use Rattle.fits_stream.specs.Stream.{GainsFront, SourceState, SinkState, FailsOnce, Prints, PrintsFront, StaysQuiet}
 use Rattle.fits_session.specs.File.{FileParts, IsFileOf}
 use Rattle.fits_session.specs.Headers.{cards_of}
 use Rattle.fits_session.specs.Opening.{HasOpenFault}
+use Rattle.fits_session.specs.Reading.{GaveWhole}
 use Rattle.fits_session.specs.Report.{report_of}
 use Rattle.fits_session.specs.declared.open_fault.OpenFault.{OpenFault}
 use Rattle.fits_session.specs.declared.problem.Problem.{Problem}
@@ -40,9 +42,9 @@ text_of telling.Untouched file = untouched file
 text_of telling.Statistics file = stating file
 text_of (telling.Report level strict cards) file = report_text level (told_headers cards file) (report_of file)
 
--- the file's bytes are these parts
-abbrev pub Opens : SourceState → FileParts → Type 0
-Opens old parts = Gives old (λ bytes. IsFileOf bytes parts)
+-- what a source gave to its end is the file of these parts
+abbrev pub Opens : SourceState → SourceState → FileParts → Type 0
+Opens old new parts = GaveWhole old new (λ bytes. IsFileOf bytes parts)
 
 -- the status of a run that has printed it
 abbrev pub status_of_text : Telling → FileParts → ℕ
@@ -56,7 +58,7 @@ status_of_text (telling.Report level strict cards) file = status_of_report stric
 -- the text is printed and flushed
 pub record TextIsPrinted (kind : Telling) (file file_after : SourceState) (out out_after : SinkState) (status : ℕ) : Type 0 where
   pub parts : FileParts
-  pub opened : Opens file parts
+  pub opened : Opens file file_after parts
   pub read : StaysQuiet file file_after
   pub printed : Prints (text_of kind parts) out out_after
   pub flushed : out_after.unflushed ≡ 0
@@ -65,14 +67,15 @@ pub record TextIsPrinted (kind : Telling) (file file_after : SourceState) (out o
 -- the text is printed, and not yet flushed
 pub record TextIsTold (kind : Telling) (file file_after : SourceState) (out out_after : SinkState) (status : ℕ) : Type 0 where
   pub parts : FileParts
-  pub opened : Opens file parts
+  pub opened : Opens file file_after parts
   pub read : StaysQuiet file file_after
   pub printed : Prints (text_of kind parts) out out_after
   pub status_is : status ≡ status_of_text kind parts
 
--- the file doesn't open: nothing is printed
+-- the file doesn't open, nor would it, whatever else might have come where no read had given none: nothing is printed
 pub record TextIsRefused (file file_after : SourceState) (out out_after : SinkState) (why : OpenFault) : Type 0 where
   pub fails : Gives file (λ bytes. HasOpenFault bytes why)
+  pub gave : GaveAll file file_after (λ bytes. HasOpenFault bytes why)
   pub read : StaysQuiet file file_after
   pub printed : out_after ≡ out
 
@@ -81,7 +84,7 @@ pub record TextIsOutOfMemory (kind : Telling) (file file_after : SourceState) (o
   pub read : StaysQuiet file file_after
   pub quiet : out_after.failures ≡ out.failures
   pub printed : (out_after ≡ out)
-      ⊎ ((parts : FileParts) × Opens file parts × GainsFront out.contents out_after.contents (text_of kind parts))
+      ⊎ ((parts : FileParts) × Opens file file_after parts × GainsFront out.contents out_after.contents (text_of kind parts))
 
 -- a read failed: nothing is printed
 pub record TextFileFails (file file_after : SourceState) (out out_after : SinkState) : Type 0 where
@@ -91,7 +94,7 @@ pub record TextFileFails (file file_after : SourceState) (out out_after : SinkSt
 -- a write failed: a prefix of the text stands
 pub record TextFails (kind : Telling) (file file_after : SourceState) (out out_after : SinkState) : Type 0 where
   pub parts : FileParts
-  pub opened : Opens file parts
+  pub opened : Opens file file_after parts
   pub read : StaysQuiet file file_after
   pub printed : PrintsFront (text_of kind parts) out out_after
 

@@ -4,6 +4,7 @@ ghost use Rattle.std.specs.Option.{option_map};
 ghost use Rattle.fits_stream.specs.Stream.{SinkState};
 ghost use Rattle.fits_plane.specs.Again.{Follows};
 ghost use Rattle.fits_cli.specs.Faults.{RunCounts};
+ghost use Rattle.fits_cli.specs.Frame.{AsksLeave};
 ghost use Rattle.fits_cli.specs.Terms.{asking};
 ghost use Rattle.fits_cli.specs.Ends.{run_by, EndsAs, OverReads, RemarksEndAs};
 
@@ -52,6 +53,8 @@ pub fn run_ask_stored<F: Stored, S: Source, O: Sink, E: Sink>(
         (option_map E.state told.old) (option_map E.state told.new) result) }
     ensures counted { MatchOption result.fault (log.new.failures ≡ log.old.failures)
         (RunCounts log.old.failures log.new.failures (S.state script.old) (S.state script.new)) }
+    ensures leaves { AsksLeave (S.state script.old) (S.state script.new)
+        (O.state out.old) (O.state out.new) result }
     ensures follows { Follows log.old log.new }
 {
     let mut nowhere = Watched::new(io::sink());

@@ -259,7 +259,7 @@ fn save_result<H: Holder + Drop, P: Sink, O: Sink>(
         → (O.state out.new).unflushed ≡ 0) }
     ensures like { IfOk result (EndLeaves terms.saves (saved_bytes terms runner.new.standing)
         (P.state saved.old) (P.state saved.new)) }
-    ensures leaves { IfErr result (ResultLeaves (O.state out.old) (O.state out.new)
+    ensures leaves { IfErr result (ResultLeaves terms.saves (O.state out.old) (O.state out.new)
         (P.state saved.old) (P.state saved.new)) }
     ensures follows { Follows runner.old.log runner.new.log }
 {

@@ -1,9 +1,8 @@
 //! The run of `verify`: the report of a file.
 ghost use Rattle.std.specs.Prelude.{◌≡◌, false, IfOk, IfErr, OnOk};
-ghost use Rattle.fits_stream.specs.Intake.{Gives};
 ghost use Rattle.fits_stream.specs.Stream.{Prints, StaysQuiet};
 ghost use Rattle.fits_session.specs.Headers.{read_cards};
-ghost use Rattle.fits_session.specs.Reading.{ReadStops};
+ghost use Rattle.fits_session.specs.Reading.{GaveFault, GaveWhole, ReadStops};
 ghost use Rattle.fits_cli.specs.Report.{listed_line, report_text};
 ghost use Rattle.fits_cli.specs.Telling.{IsToldReport, PrintingStops, TextEndsAs, TextIsTold, TextStopsBy};
 
@@ -63,10 +62,11 @@ fn read_told<F: Source>(
     cards: bool,
     file: &mut F,
 ) -> Result<CardReport, ReadFileFault>
-    ensures ok { IfOk result (λ it. Gives (F.state file.old)
+    ensures ok { IfOk result (λ it. GaveWhole (F.state file.old) (F.state file.new)
         (IsToldReport cards it.problems.items (read_cards it.cards.items))) }
     ensures quiet { OnOk result (StaysQuiet (F.state file.old) (F.state file.new)) }
     ensures err { IfErr result (ReadStops (F.state file.old) (F.state file.new)) }
+    ensures gave { IfErr result (GaveFault (F.state file.old) (F.state file.new)) }
 {
     if cards {
         return read_card_report(alloc, file);

@@ -4,11 +4,10 @@ use Rattle.fits_card.specs.CardList.{CardStore}
 use Rattle.fits_hdu.specs.Hdu.{HduParts}
 use Rattle.fits_hdu.specs.declared.findings.Findings.{Findings}
 use Rattle.fits_hdu.specs.declared.found_cards.FoundCards.{FoundCards}
-use Rattle.fits_stream.specs.Intake.{Gives}
 use Rattle.fits_stream.specs.Stream.{SourceState}
 use Rattle.fits_session.specs.File.{FileParts, is_followed, IsFileOf}
 use Rattle.fits_session.specs.Headers.{cards_of, read_cards}
-use Rattle.fits_session.specs.Reading.{is_found, is_found_with_cards, IsWalkOf, KeepsEach}
+use Rattle.fits_session.specs.Reading.{is_found, is_found_with_cards, GaveWhole, IsWalkOf, KeepsEach}
 use Rattle.fits_session.specs.Report.{report_of, IsCardReportOf}
 use Rattle.fits_session.specs.declared.problem.Problem.{Problem}
 
@@ -27,19 +26,21 @@ cards_kept (it ∷ kept) [] p = absurd p
 cards_kept (it ∷ kept) (u ∷ us) p = rw (p.0.cards_are, cards_kept kept us p.1) refl
 
 -- so the report of what was found, with the cards, is that of the file
-pub card_reported : (source : SourceState) (kept : List FoundCards) (followed : Bool) (found : List Findings) (cards : List CardStore) (report : List Problem) → Gives source (IsWalkOf is_found_with_cards kept followed)
+pub card_reported : (old new : SourceState) (kept : List FoundCards) (followed : Bool) (found : List Findings) (cards : List CardStore) (report : List Problem) → GaveWhole old new (IsWalkOf is_found_with_cards kept followed)
     → found ≡ map (λ (it : FoundCards). it.found) kept → cards ≡ map (λ (it : FoundCards). it.cards) kept
     → ((bytes : List ℕ) (file : FileParts) → IsFileOf bytes file → KeepsEach is_found found file.hdus → followed ≡ is_followed file.tail → report ≡ report_of file)
-    → Gives source (IsCardReportOf report (read_cards cards))
-card_reported source kept followed found cards report given found_is cards_is all =
-    let file : FileParts = given.2.0 in
-    let each : KeepsEach is_found found file.hdus = rw found_is (found_alone kept file.hdus given.2.2) in (
-      given.0,
-      given.1,
-      record {
+    → GaveWhole old new (IsCardReportOf report (read_cards cards))
+card_reported old new kept followed found cards report given found_is cards_is all =
+    let file : FileParts = given.is.0 in
+    let each : KeepsEach is_found found file.hdus = rw found_is (found_alone kept file.hdus given.is.2) in
+    record {
+      bytes = given.bytes;
+      told = given.told;
+      gave = given.gave;
+      is = record {
         file = file;
-        opened = given.2.1;
-        all = all given.0 file given.2.1 each given.2.3;
-        cards_are = ap read_cards cards_is ∙ cards_kept kept file.hdus given.2.2;
-      },
-    )
+        opened = given.is.1;
+        all = all given.bytes file given.is.1 each given.is.3;
+        cards_are = ap read_cards cards_is ∙ cards_kept kept file.hdus given.is.2;
+      };
+    }

@@ -5,10 +5,10 @@ use Rattle.std.proofs.lemmas.Bool.{cases_lt}
 use Rattle.std.proofs.lemmas.List.{append-nil, length-append, map-append}
 use Rattle.std.specs.Io.KnownBytes.{Consumes}
 use Rattle.fits_card.specs.CardList.{CardStore}
-use Rattle.fits_stream.specs.Gave.{FindsAll}
+use Rattle.fits_stream.specs.Gave.{FindsAll, Overruns}
 use Rattle.fits_stream.specs.Intake.{supply, IntakeState, IsSpent, Supply, Takes, TakingStops}
-use Rattle.fits_stream.specs.Stream.{SourceState, StaysQuiet}
-use Rattle.fits_stream.proofs.GaveLemmas.{finds, finds_all_begun, finds_all_next, finds_all_spent, finds_then}
+use Rattle.fits_stream.specs.Stream.{IsDry, SourceState, StaysQuiet}
+use Rattle.fits_stream.proofs.GaveLemmas.{finds, finds_all_begun, finds_all_next, finds_all_spent, finds_then, found_gave, long_gave}
 use Rattle.fits_stream.proofs.SightLemmas.{past_limit, within_limit, takes_quiet, takes_then_quiet, takes_then_fails}
 use Rattle.fits_hdu.specs.Hdu.{HduParts, hdu_bytes}
 use Rattle.fits_hdu.specs.Reading.{CardsCome, FailsAfter, TakesHdu}
@@ -164,31 +164,35 @@ pub within_when : (a : Option (List ℕ)) (left : ℕ) (more : Bool) → more �
 within_when a left more is p = within_limit a left (subst (λ b. IfSome a (λ xs. IsTrue b ↔ (left < length xs))) is p)
 
 -- what was found stays where no more is left than may be taken
-pub headers_stay : (old : SourceState) (b : Supply) (i : IntakeState) (headers : List (List (List ℕ))) (found : Option OpenFault) → i ≡ record { ahead = []; left = FILE_LIMIT } → FindsAll (supply old i) b (AreHeadersIn headers found)
-    → IfSome b.source.remaining (λ bytes. length bytes ≤ b.left) → ShowsHeaders old headers found
-headers_stay old b i headers found is f few =
-    let g : FindsAll (record { ahead = []; source = old; left = FILE_LIMIT }) b (AreHeadersIn headers found) = subst (λ (j : IntakeState). FindsAll (supply old j) b (AreHeadersIn headers found)) is f in
-    let seen = finds (AreHeadersIn headers found) (record { ahead = []; source = old; left = FILE_LIMIT }) b g in
+pub headers_stay : (old new : SourceState) (b : Supply) (i : IntakeState) (headers : List (List (List ℕ))) (found : Option OpenFault) → i ≡ record { ahead = []; left = FILE_LIMIT } → FindsAll (supply old i) b (AreHeadersIn headers found)
+    → IfSome b.source.remaining (λ bytes. length bytes ≤ b.left) → Overruns b.left false b.source new → IsDry new → ShowsHeaders old new headers found
+headers_stay old new b i headers found is f few rest dry =
+    let first : Supply = record { ahead = []; source = old; left = FILE_LIMIT } in
+    let g : FindsAll first b (AreHeadersIn headers found) = subst (λ (j : IntakeState). FindsAll (supply old j) b (AreHeadersIn headers found)) is f in
+    let seen = finds (AreHeadersIn headers found) first b g in
     record {
       found = found;
       bytes = seen.sight;
       first = seen.in_sight;
       are = seen.is;
       fault_is = inl (refl, left_in old.remaining b.source.remaining g.taken.more (λ n. n ≤ b.left) (λ n. n ≤ FILE_LIMIT) g.taken.drawn.read.gone few (λ n le. omega (arith, le, g.taken.drawn.count)));
+      gave = inl (refl, found_gave (AreHeadersIn headers found) first b new refl g rest dry);
     }
 
 -- and is another where more is
-pub headers_over : (old : SourceState) (b : Supply) (i : IntakeState) (headers : List (List (List ℕ))) (found : Option OpenFault) → i ≡ record { ahead = []; left = FILE_LIMIT } → FindsAll (supply old i) b (AreHeadersIn headers found)
-    → IfSome b.source.remaining (λ bytes. b.left < length bytes) → ShowsHeaders old headers (Some TooLarge)
-headers_over old b i headers found is f many =
-    let g : FindsAll (record { ahead = []; source = old; left = FILE_LIMIT }) b (AreHeadersIn headers found) = subst (λ (j : IntakeState). FindsAll (supply old j) b (AreHeadersIn headers found)) is f in
-    let seen = finds (AreHeadersIn headers found) (record { ahead = []; source = old; left = FILE_LIMIT }) b g in
+pub headers_over : (old new : SourceState) (b : Supply) (i : IntakeState) (headers : List (List (List ℕ))) (found : Option OpenFault) → i ≡ record { ahead = []; left = FILE_LIMIT } → FindsAll (supply old i) b (AreHeadersIn headers found)
+    → IfSome b.source.remaining (λ bytes. b.left < length bytes) → Overruns b.left true b.source new → ShowsHeaders old new headers (Some TooLarge)
+headers_over old new b i headers found is f many rest =
+    let first : Supply = record { ahead = []; source = old; left = FILE_LIMIT } in
+    let g : FindsAll first b (AreHeadersIn headers found) = subst (λ (j : IntakeState). FindsAll (supply old j) b (AreHeadersIn headers found)) is f in
+    let seen = finds (AreHeadersIn headers found) first b g in
     record {
       found = found;
       bytes = seen.sight;
       first = seen.in_sight;
       are = seen.is;
       fault_is = inr (refl, left_in old.remaining b.source.remaining g.taken.more (λ n. b.left < n) (λ n. FILE_LIMIT < n) g.taken.drawn.read.gone many (λ n less. omega (arith, less, g.taken.drawn.count)));
+      gave = inr (refl, long_gave FILE_LIMIT first b new g.bytes refl (omega arith) g.taken rest);
     }
 
 -- the cards of an HDU come without a failed call

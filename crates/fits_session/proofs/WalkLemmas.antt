@@ -1,6 +1,7 @@
 -- Steps of a walk over the HDUs of a source.
-use Rattle.std.proofs.Common.{All, ◌≡◌, ◌⊎◌, ℕ, ◌+◌, ◌<◌, ◌≤◌, Bool, true, false, List, [], ◌∷◌, ◌++◌, length, take, refl, subst, ap, sym, ◌∙◌, arith, rules, inl, inr}
+use Rattle.std.proofs.Common.{All, ◌≡◌, ◌⊎◌, ℕ, ◌+◌, ◌-◌, ◌<◌, ◌≤◌, Bool, true, false, List, [], ◌∷◌, ◌++◌, length, take, refl, subst, ap, sym, ◌∙◌, arith, rules, inl, inr, Option, None, Some}
 use Rattle.std.specs.Prelude.{IfSome, nat_eq, not, codes}
+use Rattle.std.specs.Io.KnownBytes.{Consumes, IsAtEnd}
 use Rattle.std.specs.Str.{bytes_eq}
 use Rattle.std.specs.List.{starts_with}
 use Rattle.std.proofs.lemmas.Bool.{cases_lt, false≢true}
@@ -13,6 +14,7 @@ use Rattle.fits_stream.specs.Intake.{supply, TakingStops, Gives, GivesAll, Intak
 use Rattle.fits_stream.specs.Stream.{FailsOnce, IsDry, SourceState, StaysQuiet}
 use Rattle.fits_stream.proofs.GaveLemmas.{finds, finds_all_begun, finds_all_next, finds_all_spent, found_gave, gave, gave_then, long_gave, overruns_known, overruns_quiet}
 use Rattle.fits_stream.proofs.SightLemmas.{finds_given, long_given, no_bytes, rest_given, takes_and_holds, takes_fewer, takes_more, takes_quiet, takes_then_fails, takes_then_quiet, tells_after, within_limit}
+use Rattle.fits_stream.proofs.StreamLemmas.{Reads-none}
 use Rattle.fits_hdu.specs.Hdu.{HduParts, HasHduFault, IsHdu, hdu_bytes}
 use Rattle.fits_hdu.specs.Reading.{HduStops, TakesHdu, IsKeptWhole}
 use Rattle.fits_hdu.specs.State.{HduState}
@@ -23,7 +25,7 @@ use Rattle.fits_hdu.specs.declared.read_fault.ReadHduFault.TheVariants as read_h
 use Rattle.fits_session.specs.File.{FileParts, begins_extension, file_bytes, goes_on, is_first, is_followed, joined_hdus, IsFile, IsFileOf, IsFrontOf}
 use Rattle.fits_session.specs.declared.limits.TheConstants.{FILE_LIMIT, HDU_LIMIT}
 use Rattle.fits_session.specs.Opening.{BeginsAsFits, HasOpenFault, open_fault_of}
-use Rattle.fits_session.specs.Reading.{file_fault_of, of_read, is_of_bytes, IsKeptOf, GaveFault, IsFresh, IsReadWhole, IsWalkOf, KeepsEach, NextBegins, ReadStops, RestStops, SupplyStops, Walked, WalkStops}
+use Rattle.fits_session.specs.Reading.{file_fault_of, of_read, is_of_bytes, IsKeptOf, GaveFault, GaveWhole, IsFresh, IsReadWhole, IsWalkOf, KeepsEach, NextBegins, ReadStops, RestStops, SupplyStops, Walked, WalkStops}
 use Rattle.fits_session.specs.Session.{file_of, hdus_of, state_of, IsHeld}
 use Rattle.fits_session.specs.declared.open_fault.OpenFault.TheVariants.{NotFits, NoEnd, BadShape, ShortData, TooLarge, Memory}
 use Rattle.fits_session.specs.declared.read_fault.ReadFileFault.{ReadFileFault}
@@ -322,8 +324,10 @@ pub read_stops : (a c : SourceState) (i : IntakeState) (fault : ReadFileFault) �
 read_stops a c i fault is p = source_stops a c fault (subst (λ (j : IntakeState). SupplyStops (supply a j) c fault) is p)
 
 -- and what all of them are
-pub read_given : (P : List ℕ → Type 0) (a : SourceState) (i : IntakeState) → i ≡ record { ahead = []; left = FILE_LIMIT } → GivesAll (supply a i) P → Gives a P
-read_given P a i is p = subst (λ (j : IntakeState). GivesAll (supply a j) P) is p
+pub read_given : (P : List ℕ → Type 0) (a c : SourceState) (i : IntakeState) → i ≡ record { ahead = []; left = FILE_LIMIT } → (bytes : List ℕ) × TellsAll (supply a i) bytes × Gave a c bytes × P bytes → GaveWhole a c P
+read_given P a c i is p =
+    let q = subst (λ (j : IntakeState). (bytes : List ℕ) × TellsAll (supply a j) bytes × Gave a c bytes × P bytes) is p in
+    record { bytes = q.0; told = q.1; gave = q.2; is = q.3 }
 
 -- HDUs and what follows them are a file
 pub file_walked : {K : Type 0} (keeps : K → HduParts → Type 0) (ks : List K) (us : List HduParts) (tail : List ℕ) → KeepsEach keeps ks us → IsFrontOf (joined_hdus us) us [] → 0 < length ks → length ks ≤ HDU_LIMIT → begins_extension tail ≡ false → length (joined_hdus us ++ tail) ≤ FILE_LIMIT
@@ -331,14 +335,6 @@ pub file_walked : {K : Type 0} (keeps : K → HduParts → Type 0) (ks : List K)
 file_walked keeps ks us tail each front some few ends size =
     let count : length ks ≡ length us = each_length keeps ks us each in
     record { front = front_rest us tail front; ends = goes_on-some us tail (omega (arith, some, count)) ∙ ends; size = size; count = omega (arith, few, count) }
-
--- the first block of what follows the last HDU, and what is left, begin no extension
-rest_ends : (first s : List ℕ) (b : Supply) → begins_extension first ≡ false → (length first < 2880 → IsSpent b) → (IsSpent b → s ≡ []) → begins_extension (first ++ s) ≡ false
-rest_ends first s b ends short none =
-    elim (cases_lt (length first) 2880) [
-      | inl few ↦ extension_same first s (inl (none (short few))) ∙ ends
-      | inr many ↦ extension_same first s (inr (omega (arith, many))) ∙ ends
-    ]
 
 -- bytes follow where there are any
 followed : (bytes : List ℕ) → not (nat_eq (length bytes) 0) ≡ is_followed bytes
@@ -349,30 +345,75 @@ followed (byte ∷ bytes) = ap not (not_zero (length (byte ∷ bytes)) (omega ar
 pub followed_seen : (bytes : List ℕ) (none : Bool) → none ≡ nat_eq (length bytes) 0 → not none ≡ is_followed bytes
 followed_seen bytes none is = ap not is ∙ followed bytes
 
--- bytes follow the last HDU where the first block of what follows has any
-followed_by : (first s : List ℕ) (b : Supply) → (length first < 2880 → IsSpent b) → (IsSpent b → s ≡ []) → not (nat_eq (length first) 0) ≡ is_followed (first ++ s)
-followed_by [] s b short none = rw (none (short (omega arith))) refl
-followed_by (byte ∷ bytes) s b short none = followed (byte ∷ bytes)
+-- bytes follow the last HDU where a whole block of them is seen
+followed_on : (first s : List ℕ) → 2880 ≤ length first → not (nat_eq (length first) 0) ≡ is_followed (first ++ s)
+followed_on [] s many = absurd (omega (arith, many))
+followed_on (byte ∷ bytes) s many = followed (byte ∷ bytes)
 
--- all of the source is a file
-pub kept_given : {K : Type 0} (keeps : K → HduParts → Type 0) (ks : List K) (none : Bool) (a b : Supply) → Walked keeps ks a b → length a.ahead + a.left ≤ FILE_LIMIT → none ≡ nat_eq (length b.ahead) 0 → 0 < length ks → length ks ≤ HDU_LIMIT → begins_extension b.ahead ≡ false
-    → (length b.ahead < 2880 → IsSpent b) → IfSome b.source.remaining (λ ys. length ys ≤ b.left) → GivesAll a (IsWalkOf keeps ks (not none))
-kept_given keeps ks none a b p limit is some few ends short rest =
-    let s = rest_given b rest in
-    let tail : List ℕ = b.ahead ++ s.0 in
-    let file : FileParts = record { hdus = p.hdus; tail = tail } in (
-      joined_hdus p.hdus ++ tail,
-      tells_after a b (joined_hdus p.hdus) s.0 p.taken s.1,
-      (file, file_walked keeps ks p.hdus tail p.each p.front some few (rest_ends b.ahead s.0 b ends short s.2.1) (few_after a b (joined_hdus p.hdus) s.0 p.taken limit s.2.0), p.each, ap not is ∙ followed_by b.ahead s.0 b short s.2.1),
-    )
+-- what came last is all that was left
+tells_last : (x y : Option (List ℕ)) (bytes : List ℕ) → Consumes x y bytes → IsAtEnd y → IfSome x (λ left. left ≡ bytes)
+tells_last None y bytes p end = tt
+tells_last (Some xs) None bytes p end = absurd p
+tells_last (Some xs) (Some ys) bytes p end = p ∙ (ap (λ t. bytes ++ t) end ∙ append-nil bytes)
+
+-- no more came than might
+few_came : (left : ℕ) (a b : SourceState) (rest : Overruns left false a b) → length rest.bytes ≤ left
+few_came left a b rest = elim (cases_lt left (length rest.bytes)) [ inl far ↦ absurd (false≢true (rest.far.1 far)) | inr le ↦ le ]
+
+-- what is ahead is taken too, and nothing is ahead then
+ahead_too : (a b : Supply) (bytes : List ℕ) → Takes a b bytes → Takes a (record { ahead = []; source = b.source; left = b.left }) (bytes ++ b.ahead)
+ahead_too a b bytes p = record { more = p.more; joined = p.joined ∙ sym (append-nil (bytes ++ b.ahead)); drawn = record { read = p.drawn.read; count = p.drawn.count } }
+
+-- so is all that comes after it
+rest_too : (b : Supply) (c : SourceState) (rest : Overruns b.left false b.source c) → Takes b (record { ahead = []; source = c; left = b.left - length rest.bytes }) (b.ahead ++ rest.bytes)
+rest_too b c rest = record { more = rest.bytes; joined = sym (append-nil (b.ahead ++ rest.bytes)); drawn = record { read = rest.read; count = omega (arith, few_came b.left b.source c rest) } }
+
+-- no more comes
+none_comes : (c : SourceState) (left : ℕ) → Overruns left false c c
+none_comes c left = record { bytes = []; read = Reads-none c; far = (λ so. absurd (false≢true so), λ far. absurd (omega (arith, far))) }
+
+-- where nothing may follow what is ahead, a source gave what was taken, and that
+gave_ahead : (a b : Supply) (c : SourceState) (bytes : List ℕ) → a.ahead ≡ [] → Takes a b bytes → IsSpent b → Overruns b.left false b.source c → IsDry c → Gave a.source c (bytes ++ b.ahead)
+gave_ahead a b c bytes begun p spent rest dry = gave a (record { ahead = []; source = b.source; left = b.left }) c (bytes ++ b.ahead) begun (ahead_too a b bytes p) (record { none = refl; spent = spent }) rest dry
+
+-- else also what came then
+gave_rest : (a b : Supply) (c : SourceState) (bytes : List ℕ) → a.ahead ≡ [] → Takes a b bytes → (rest : Overruns b.left false b.source c) → IsDry c → Gave a.source c (bytes ++ (b.ahead ++ rest.bytes))
+gave_rest a b c bytes begun p rest dry =
+    let last : Supply = record { ahead = []; source = c; left = b.left - length rest.bytes } in
+    gave a last c (bytes ++ (b.ahead ++ rest.bytes)) begun (takes_more a b last bytes (b.ahead ++ rest.bytes) p (rest_too b c rest)) (record { none = refl; spent = inr dry }) (none_comes c last.left) dry
+
+-- all that a source gave is a file
+pub kept_given : {K : Type 0} (keeps : K → HduParts → Type 0) (ks : List K) (none : Bool) (a b : Supply) (c : SourceState) → a.ahead ≡ [] → Walked keeps ks a b → length a.ahead + a.left ≤ FILE_LIMIT → none ≡ nat_eq (length b.ahead) 0 → 0 < length ks → length ks ≤ HDU_LIMIT → begins_extension b.ahead ≡ false
+    → (length b.ahead < 2880 → IsSpent b) → IfSome b.source.remaining (λ ys. length ys ≤ b.left) → Overruns b.left false b.source c → IsDry c → (bytes : List ℕ) × TellsAll a bytes × Gave a.source c bytes × IsWalkOf keeps ks (not none) bytes
+kept_given keeps ks none a b c begun p limit is some few ends short within rest dry =
+    let front : List ℕ = joined_hdus p.hdus in
+    elim (cases_lt (length b.ahead) 2880) [
+      | inl less ↦
+          let s = rest_given b within in
+          let over : b.ahead ++ s.0 ≡ b.ahead = ap (λ t. b.ahead ++ t) (s.2.1 (short less)) ∙ append-nil b.ahead in
+          let size : length (front ++ b.ahead) ≤ FILE_LIMIT = subst (λ t. length (front ++ t) ≤ FILE_LIMIT) (append-nil b.ahead) (few_after a b front [] p.taken limit (omega arith)) in (
+            front ++ b.ahead,
+            subst (TellsAll a) (ap (λ t. front ++ t) over) (tells_after a b front s.0 p.taken s.1),
+            gave_ahead a b c front begun p.taken (short less) rest dry,
+            (record { hdus = p.hdus; tail = b.ahead }, file_walked keeps ks p.hdus b.ahead p.each p.front some few ends size, p.each, ap not is ∙ followed b.ahead),
+          )
+      | inr many ↦
+          let tail : List ℕ = b.ahead ++ rest.bytes in
+          let ended : begins_extension tail ≡ false = extension_same b.ahead rest.bytes (inr (omega (arith, many))) ∙ ends in (
+            front ++ tail,
+            tells_after a b front rest.bytes p.taken (tells_last b.source.remaining c.remaining rest.bytes rest.read.gone dry.left),
+            gave_rest a b c front begun p.taken rest dry,
+            (record { hdus = p.hdus; tail = tail }, file_walked keeps ks p.hdus tail p.each p.front some few ended (few_after a b front rest.bytes p.taken limit (few_came b.left b.source c rest)), p.each, ap not is ∙ followed_on b.ahead rest.bytes many),
+          )
+    ]
 
 -- a walk whose source has more than may be taken, or fails
 pub kept_before : {K : Type 0} (keeps : K → HduParts → Type 0) (ks : List K) (a b : Supply) (c : SourceState) (before : ReadFileFault) → IsLimited FILE_LIMIT a → Walked keeps ks a b → RestStops b c before → SupplyStops a c before
 kept_before keeps ks a b c before far p q = ends_before a b c (joined_hdus p.hdus) before far p.taken q
 
 -- what is kept of a file, whatever follows
-pub kept_alone : {K : Type 0} (keeps : K → HduParts → Type 0) (ks : List K) (followed : Bool) (a : SourceState) → Gives a (IsWalkOf keeps ks followed) → Gives a (IsKeptOf keeps ks)
-kept_alone keeps ks followed a p = (p.0, p.1, (p.2.0, p.2.1, p.2.2))
+pub kept_alone : {K : Type 0} (keeps : K → HduParts → Type 0) (ks : List K) (followed : Bool) (a c : SourceState) → GaveWhole a c (IsWalkOf keeps ks followed) → GaveWhole a c (IsKeptOf keeps ks)
+kept_alone keeps ks followed a c p = record { bytes = p.bytes; told = p.told; gave = p.gave; is = (p.is.0, p.is.1, p.is.2) }
 
 pub ruleset outline_steps = (kept_alone)
 

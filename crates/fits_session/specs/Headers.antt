@@ -1,6 +1,7 @@
 -- The headers of a file, also of one that doesn't open: as far as they can be read (own; FITS Standard 4.0, sections 3.1 and 3.3.1).
 use Rattle.std.specs.Prelude.{◌≡◌, ◌⊎◌, ℕ, ◌+◌, ◌<◌, ◌≤◌, true, false, List, [], ◌∷◌, ◌++◌, length, take, map, Option, Some, None, IfSome, MatchOption}
 use Rattle.fits_card.specs.CardList.{CardStore}
+use Rattle.fits_stream.specs.Gave.{GaveAll}
 use Rattle.fits_stream.specs.Stream.{SourceState}
 use Rattle.fits_hdu.specs.Hdu.{HduParts}
 use Rattle.fits_hdu.specs.Reading.{FailsAfter}
@@ -62,10 +63,17 @@ FaultStays old found fault =
     ((fault ≡ found) × IfSome old.remaining (λ all. length all ≤ FILE_LIMIT))
     ⊎ ((fault ≡ Some TooLarge) × IfSome old.remaining (λ all. FILE_LIMIT < length all))
 
+-- the same of the bytes that a source gave, and of all that may follow them
+abbrev pub GaveHeaders : SourceState → SourceState → List (List (List ℕ)) → Option OpenFault → Option OpenFault → Type 0
+GaveHeaders old new headers found fault =
+    ((fault ≡ found) × GaveAll old new (AreHeadersIn headers found))
+    ⊎ ((fault ≡ Some TooLarge) × GaveAll old new (λ bytes. FILE_LIMIT < length bytes))
+
 -- these are the cards of the headers that a source has, in as many bytes as a file may have, and this is why it isn't a file, if it isn't
-pub record ShowsHeaders (old : SourceState) (headers : List (List (List ℕ))) (fault : Option OpenFault) : Type 0 where
+pub record ShowsHeaders (old new : SourceState) (headers : List (List (List ℕ))) (fault : Option OpenFault) : Type 0 where
   pub found : Option OpenFault
   pub bytes : List ℕ
   pub first : IsFirstOf old bytes
   pub are : AreHeadersIn headers found bytes
   pub fault_is : FaultStays old found fault
+  pub gave : GaveHeaders old new headers found fault

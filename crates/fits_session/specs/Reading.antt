@@ -1,7 +1,7 @@
 -- How a file is read from a source, whatever is kept of its HDUs (own).
 use Rattle.std.specs.Prelude.{◌≡◌, ℕ, ◌<◌, ◌≤◌, Bool, true, false, List, [], ◌∷◌, length, nat_eq, codes}
 use Rattle.std.specs.List.{starts_with}
-use Rattle.fits_stream.specs.Intake.{Supply, Gives, GivesAll, Takes, TellsAll}
+use Rattle.fits_stream.specs.Intake.{Supply, Gives, GivesAll, Takes, Tells, TellsAll}
 use Rattle.fits_stream.specs.Gave.{FindsAll, Gave, GaveAll, Overruns}
 use Rattle.fits_stream.specs.Stream.{SourceState, FailsOnce, StaysQuiet}
 use Rattle.fits_stream.specs.declared.reading.ReadFault.{ReadFault}
@@ -40,6 +40,13 @@ abbrev pub WalkStops : Supply → Supply → ReadFileFault → Type 0
 WalkStops old new (Open Memory) = StaysQuiet old.source new.source
 WalkStops old new (Open fault) = FindsAll old new (λ bytes. HasOpenFault bytes fault)
 WalkStops old new Failed = FailsOnce old.source new.source
+
+-- so are all the bytes that a source gave to its end, which are all that it had left, as far as it tells them
+pub record GaveWhole (old new : SourceState) (fact : List ℕ → Type 0) : Type 0 where
+  pub bytes : List ℕ
+  pub told : Tells old bytes
+  pub gave : Gave old new bytes
+  pub is : fact bytes
 
 -- all the bytes of a source don't open, for this fault; or memory was refused; or a call failed
 abbrev pub ReadStops : SourceState → SourceState → ReadFileFault → Type 0

@@ -1,10 +1,9 @@
 //! The report of a file with the cards of its headers.
 ghost use Rattle.std.specs.Prelude.{◌≡◌, map, IfOk, IfErr, OnOk};
 ghost use Rattle.fits_hdu.specs.declared.found_cards.FoundCards.{FoundCards};
-ghost use Rattle.fits_stream.specs.Intake.{Gives};
 ghost use Rattle.fits_stream.specs.Stream.{StaysQuiet};
 ghost use Rattle.fits_session.specs.Headers.{read_cards};
-ghost use Rattle.fits_session.specs.Reading.{GaveFault, ReadStops};
+ghost use Rattle.fits_session.specs.Reading.{GaveFault, GaveWhole, ReadStops};
 ghost use Rattle.fits_session.specs.Report.{IsCardReportOf};
 
 use crate::problem::Problem;
@@ -30,7 +29,7 @@ pub fn read_card_report<R: Source>(
     alloc: Global,
     source: &mut R,
 ) -> Result<CardReport, ReadFileFault>
-    ensures ok { IfOk result (λ it. Gives (R.state source.old)
+    ensures ok { IfOk result (λ it. GaveWhole (R.state source.old) (R.state source.new)
         (IsCardReportOf it.problems.items (read_cards it.cards.items))) }
     ensures quiet { OnOk result (StaysQuiet (R.state source.old) (R.state source.new)) }
     ensures err { IfErr result (ReadStops (R.state source.old) (R.state source.new)) }

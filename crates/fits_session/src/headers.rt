@@ -27,7 +27,7 @@ pub struct Headers {
 ///
 /// No data unit and no tail is kept.
 pub fn read_headers<R: Source>(alloc: Global, source: &mut R) -> Result<Headers, ReadFault>
-    ensures ok { IfOk result (λ it. ShowsHeaders (R.state source.old)
+    ensures ok { IfOk result (λ it. ShowsHeaders (R.state source.old) (R.state source.new)
         (read_cards it.headers.items) it.fault) }
     ensures quiet { OnOk result (StaysQuiet (R.state source.old) (R.state source.new)) }
     ensures err { IfErr result (TakingStops (R.state source.old) (R.state source.new)) }

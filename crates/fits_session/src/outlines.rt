@@ -1,8 +1,7 @@
 //! The HDUs of a source without their cards and data.
 ghost use Rattle.std.specs.Prelude.{IfOk, IfErr, OnOk};
-ghost use Rattle.fits_stream.specs.Intake.{Gives};
 ghost use Rattle.fits_stream.specs.Stream.{StaysQuiet};
-ghost use Rattle.fits_session.specs.Reading.{GaveFault, IsOutlineOf, ReadStops};
+ghost use Rattle.fits_session.specs.Reading.{GaveFault, GaveWhole, IsOutlineOf, ReadStops};
 
 use crate::read_fault::ReadFileFault;
 use crate::walking::read_kept;
@@ -19,7 +18,7 @@ pub fn read_outlines<R: Source>(
     alloc: Global,
     source: &mut R,
 ) -> Result<Vec<Outline>, ReadFileFault>
-    ensures ok { IfOk result (λ outlines. Gives (R.state source.old) (IsOutlineOf outlines.items)) }
+    ensures ok { IfOk result (λ outlines. GaveWhole (R.state source.old) (R.state source.new) (IsOutlineOf outlines.items)) }
     ensures quiet { OnOk result (StaysQuiet (R.state source.old) (R.state source.new)) }
     ensures err { IfErr result (ReadStops (R.state source.old) (R.state source.new)) }
     ensures gave { IfErr result (GaveFault (R.state source.old) (R.state source.new)) }

@@ -1,11 +1,10 @@
 //! The report of a file.
 ghost use Rattle.std.specs.Prelude.{◌≡◌, ◌++◌, ◌+◌, length, map, List, ℕ, IfOk, IfErr, OnOk};
-ghost use Rattle.fits_stream.specs.Intake.{Gives};
 ghost use Rattle.fits_stream.specs.Stream.{StaysQuiet};
 ghost use Rattle.fits_header.specs.Findings.{found_at};
 ghost use Rattle.fits_hdu.specs.ExtensionName.{name_codes};
 ghost use Rattle.fits_session.specs.File.{FileParts, IsFileOf, is_followed};
-ghost use Rattle.fits_session.specs.Reading.{is_found, GaveFault, KeepsEach, ReadStops};
+ghost use Rattle.fits_session.specs.Reading.{is_found, GaveFault, GaveWhole, KeepsEach, ReadStops};
 ghost use Rattle.fits_session.specs.NameTable.{IsTableOf};
 ghost use Rattle.fits_session.specs.Report.{found_from, found_names, in_hdu, report_of, trailing, IsReportOf};
 
@@ -23,7 +22,7 @@ use std::alloc::{AllocError, Global};
 ///
 /// No data unit and no tail is kept.
 pub fn read_report<R: Source>(alloc: Global, source: &mut R) -> Result<Vec<Problem>, ReadFileFault>
-    ensures ok { IfOk result (λ report. Gives (R.state source.old) (IsReportOf report.items)) }
+    ensures ok { IfOk result (λ report. GaveWhole (R.state source.old) (R.state source.new) (IsReportOf report.items)) }
     ensures quiet { OnOk result (StaysQuiet (R.state source.old) (R.state source.new)) }
     ensures err { IfErr result (ReadStops (R.state source.old) (R.state source.new)) }
     ensures gave { IfErr result (GaveFault (R.state source.old) (R.state source.new)) }

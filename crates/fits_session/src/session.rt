@@ -72,7 +72,7 @@ impl Session {
     ghost use Rattle.fits_session.specs.declared.limits.TheConstants.{FILE_LIMIT};
     ghost use Rattle.fits_session.specs.Marked.{unmarked};
     ghost use Rattle.fits_session.specs.Opening.{HasOpenFault, OpenFails};
-    ghost use Rattle.fits_session.specs.Reading.{GaveFault, ReadStops};
+    ghost use Rattle.fits_session.specs.Reading.{GaveFault, GaveWhole, ReadStops};
     ghost use Rattle.fits_session.specs.Session.{file_of, marked_of, state_of, EditsTo, IsHeld};
 
     /// Opens the file that has these bytes. No HDU is kept stamped.

@@ -1,8 +1,7 @@
 //! The statistics of the HDUs of a source, whose data pass by.
 ghost use Rattle.std.specs.Prelude.{IfOk, IfErr, OnOk};
-ghost use Rattle.fits_stream.specs.Intake.{Gives};
 ghost use Rattle.fits_stream.specs.Stream.{StaysQuiet};
-ghost use Rattle.fits_session.specs.Reading.{AreStatisticsOfFile, GaveFault, ReadStops};
+ghost use Rattle.fits_session.specs.Reading.{AreStatisticsOfFile, GaveFault, GaveWhole, ReadStops};
 
 use crate::read_fault::ReadFileFault;
 use crate::walking::read_kept;
@@ -19,7 +18,7 @@ pub fn read_statistics<R: Source>(
     alloc: Global,
     source: &mut R,
 ) -> Result<Vec<HduStats>, ReadFileFault>
-    ensures ok { IfOk result (λ stats. Gives (R.state source.old) (AreStatisticsOfFile stats.items)) }
+    ensures ok { IfOk result (λ stats. GaveWhole (R.state source.old) (R.state source.new) (AreStatisticsOfFile stats.items)) }
     ensures quiet { OnOk result (StaysQuiet (R.state source.old) (R.state source.new)) }
     ensures err { IfErr result (ReadStops (R.state source.old) (R.state source.new)) }
     ensures gave { IfErr result (GaveFault (R.state source.old) (R.state source.new)) }

@@ -1,8 +1,7 @@
 //! The sums of the HDUs of a source, whose data pass by.
 ghost use Rattle.std.specs.Prelude.{IfOk, IfErr, OnOk};
-ghost use Rattle.fits_stream.specs.Intake.{Gives};
 ghost use Rattle.fits_stream.specs.Stream.{StaysQuiet};
-ghost use Rattle.fits_session.specs.Reading.{AreSumsOfFile, GaveFault, ReadStops};
+ghost use Rattle.fits_session.specs.Reading.{AreSumsOfFile, GaveFault, GaveWhole, ReadStops};
 
 use crate::read_fault::ReadFileFault;
 use crate::walking::read_kept;
@@ -15,7 +14,7 @@ use std::alloc::Global;
 /// No data unit and no tail is kept.
 #[tactic(auto, using(crate::proofs::WalkLemmas::outline_steps))]
 pub fn read_sums<R: Source>(alloc: Global, source: &mut R) -> Result<Vec<HduSums>, ReadFileFault>
-    ensures ok { IfOk result (λ sums. Gives (R.state source.old) (AreSumsOfFile sums.items)) }
+    ensures ok { IfOk result (λ sums. GaveWhole (R.state source.old) (R.state source.new) (AreSumsOfFile sums.items)) }
     ensures quiet { OnOk result (StaysQuiet (R.state source.old) (R.state source.new)) }
     ensures err { IfErr result (ReadStops (R.state source.old) (R.state source.new)) }
     ensures gave { IfErr result (GaveFault (R.state source.old) (R.state source.new)) }

@@ -3,12 +3,12 @@ ghost use Rattle.std.specs.Prelude.{◌≡◌, ◌+◌, ◌≤◌, ◌<◌, fals
 ghost use Rattle.std.specs.List.{starts_with};
 ghost use Rattle.fits_card.specs.declared.card_list.TheConstants.{BLOCK_LEN};
 ghost use Rattle.fits_stream.specs.Gave.{Overruns};
-ghost use Rattle.fits_stream.specs.Intake.{supply, Gives, IsLimited, IsSpent, Supply};
+ghost use Rattle.fits_stream.specs.Intake.{supply, IsLimited, IsSpent, Supply};
 ghost use Rattle.fits_stream.specs.Stream.{IsDry, StaysQuiet};
 ghost use Rattle.fits_session.specs.File.{begins_extension};
 ghost use Rattle.fits_session.specs.declared.limits.TheConstants.{FILE_LIMIT, HDU_LIMIT};
 ghost use Rattle.fits_session.specs.Opening.{open_fault_of};
-ghost use Rattle.fits_session.specs.Reading.{file_fault_of, is_of_bytes, GaveFault, IsFresh, IsWalkOf, ReadStops, RestStops, SupplyStops, Walked, WalkStops};
+ghost use Rattle.fits_session.specs.Reading.{file_fault_of, is_of_bytes, GaveFault, GaveWhole, IsFresh, IsWalkOf, ReadStops, RestStops, SupplyStops, Walked, WalkStops};
 
 use crate::limits::{FILE_LIMIT, HDU_LIMIT};
 use crate::open_fault::OpenFault;
@@ -67,7 +67,7 @@ pub(crate) fn read_kept<K: Kept + Drop, R: Source>(
     alloc: Global,
     source: &mut R,
 ) -> Result<(Vec<K>, bool), ReadFileFault>
-    ensures ok { IfOk result (λ walk. Gives (R.state source.old)
+    ensures ok { IfOk result (λ walk. GaveWhole (R.state source.old) (R.state source.new)
         (IsWalkOf K.keeps walk.0.items walk.1)) }
     ensures quiet { OnOk result (StaysQuiet (R.state source.old) (R.state source.new)) }
     ensures err { IfErr result (ReadStops (R.state source.old) (R.state source.new)) }

@@ -1,4 +1,10 @@
 //! Files that are edited.
+ghost use Rattle.std.specs.Prelude.{◌≡◌, true, None};
+ghost use Rattle.std.specs.Io.Buffered.{writer_inner};
+ghost use Rattle.std.specs.Option.{option_map};
+ghost use Rattle.fitsed.specs.Running.{terms_by, Edits, Runs};
+ghost use Rattle.fitsed.specs.Saving.{is_saved, status_of_saving, IsKept, StandsOrFails};
+
 use crate::detail::Detail;
 use crate::explaining::INPUT;
 use crate::files::{Standing, is_stored, mode_of, standing_at};
@@ -17,6 +23,7 @@ use crate::wrong_sums::tell_wrong_sums;
 use fits_cli::{Edited, Fault, Level, Saves, Terms, run_edit_stored, run_edit_told};
 use fits_save::{Place, SaveFault, SavedFile, Seen, System};
 use fits_stream::{FileSource, NamedLines, ReadLog, Sink, Source, Watched};
+use std::alloc::Global;
 use std::fs::File;
 use std::io::{BufWriter, Write};
 use std::rt::Files;
@@ -136,7 +143,10 @@ fn edited<R: Files<File = File> + Eprint + AllocGlobal, S: Source, O: Sink>(
     terms: SavingTerms<'_>,
     script: &mut S,
     out: &mut O,
-) -> SavedEnd {
+) -> SavedEnd
+    ensures { Edits terms (S.state script.old) (S.state script.new)
+        (O.state out.old) (O.state out.new) result.done }
+{
     let Ok(file) = fs::open(rt, at.subject.name) else {
         return SavedEnd::from(Fault::ReadFailed);
     };
@@ -163,28 +173,56 @@ fn edited<R: Files<File = File> + Eprint + AllocGlobal, S: Source, O: Sink>(
     let there = standing_at(rt, at.to, &file);
     let of_run = terms_of(terms, there);
     let mut saved = Watched::new(saved);
-    let alloc = rt.alloc();
-    let done = match (is_stored(&file), spares) {
-        (true, true) => {
-            let log = &mut ReadLog::none();
-            run_edit_stored(
-                alloc, of_run, &file, log, script, &mut saved, out, &mut told,
-            )
-        }
-        (true, false) => {
-            let mut file = FileSource::stored(file);
-            run_edit_told(alloc, of_run, &mut file, script, &mut saved, out, &mut told)
-        }
-        (false, _) => {
-            let mut file = Watched::new(file);
-            run_edit_told(alloc, of_run, &mut file, script, &mut saved, out, &mut told)
-        }
-    };
+    let done = run_over(
+        rt.alloc(),
+        of_run,
+        file,
+        spares,
+        script,
+        &mut saved,
+        out,
+        &mut told,
+    );
     finished(rt, at, there, saved.into_inner(), done)
 }
 
+// Does a script over a file. The data of a regular one stay in it where its result is a new file's;
+// else it is read from its first byte to its last.
+fn run_over<S: Source, P: Sink, O: Sink, E: Sink>(
+    alloc: Global,
+    terms: Terms,
+    file: File,
+    spares: bool,
+    script: &mut S,
+    saved: &mut P,
+    out: &mut O,
+    told: &mut Option<E>,
+) -> Result<Edited, Fault>
+    ensures { Runs terms
+        (record { script = S.state script.old; out = O.state out.old; saved = P.state saved.old; told = option_map E.state told.old })
+        (record { script = S.state script.new; out = O.state out.new; saved = P.state saved.new; told = option_map E.state told.new })
+        result }
+{
+    match (is_stored(&file), spares) {
+        (true, true) => {
+            let mut log = ReadLog::none();
+            run_edit_stored(alloc, terms, &file, &mut log, script, saved, out, told)
+        }
+        (true, false) => {
+            let mut file = FileSource::stored(file);
+            run_edit_told(alloc, terms, &mut file, script, saved, out, told)
+        }
+        (false, _) => {
+            let mut file = Watched::new(file);
+            run_edit_told(alloc, terms, &mut file, script, saved, out, told)
+        }
+    }
+}
+
 // The terms of a run. A file that stands where its result goes is spared.
-fn terms_of(terms: SavingTerms<'_>, there: Standing) -> Terms {
+fn terms_of(terms: SavingTerms<'_>, there: Standing) -> Terms
+    ensures { result ≡ terms_by terms result.spare }
+{
     let check = match (terms.checked, terms.strict) {
         (false, _) => Level::Quiet,
         (true, false) => Level::Errors,
@@ -217,13 +255,15 @@ fn finished<R: Files<File = File> + Eprint>(
     rt: &R,
     at: FilePair<'_>,
     there: Standing,
-    saved: BufWriter<SavedFile<System<'_, R>>>,
+    mut saved: BufWriter<SavedFile<System<'_, R>>>,
     done: Result<Edited, Fault>,
-) -> SavedEnd {
+) -> SavedEnd
+    ensures { StandsOrFails done result.done }
+{
     let met = saved.get_ref().place().met();
     let done = SavedEnd {
         met,
-        ..kept(saved, done)
+        ..kept(&mut saved, done)
     };
     if at.subject.detail.tells() {
         tell_saved(rt, at.to, there, &done);
@@ -248,7 +288,14 @@ fn tell_saved<R: Eprint>(rt: &R, to: &str, there: Standing, done: &SavedEnd) {
 }
 
 // Keeps what was saved, where all was; else what stood there stays as it was.
-fn kept<P: Place + Drop>(saved: BufWriter<SavedFile<P>>, done: Result<Edited, Fault>) -> SavedEnd {
+fn kept<P: Place + Drop>(
+    saved: &mut BufWriter<SavedFile<P>>,
+    done: Result<Edited, Fault>,
+) -> SavedEnd
+    ensures done { StandsOrFails done result.done }
+    ensures kept { is_saved result.done ≡ true → IsKept (writer_inner saved.new).stage }
+    ensures fault { is_saved result.done ≡ true → result.fault ≡ None }
+{
     let ended = SavedEnd {
         done,
         fault: None,
@@ -258,10 +305,10 @@ fn kept<P: Place + Drop>(saved: BufWriter<SavedFile<P>>, done: Result<Edited, Fa
         let fault = saved.get_ref().fault();
         return SavedEnd { fault, ..ended };
     }
-    let Ok(mut saved) = saved.into_inner() else {
+    let Ok(()) = saved.flush() else {
         return SavedEnd::from(Fault::WriteFailed);
     };
-    match saved.keep() {
+    match saved.get_mut().keep() {
         Ok(()) => ended,
         Err(fault) => SavedEnd::refused(fault),
     }
@@ -274,7 +321,9 @@ fn status_of<R: Files<File = File> + Eprint + AllocGlobal>(
     terms: SavingTerms<'_>,
     other: &str,
     ended: &SavedEnd,
-) -> u8 {
+) -> u8
+    ensures { result ≡ status_of_saving ended.now.fault ended.now.done }
+{
     match ended.done {
         Ok(Edited::KeptBack(undone)) => report_undone(rt, at.to, undone),
         Ok(Edited::Unsound { errors, warnings }) => report_new(rt, at.to, errors, warnings),

@@ -1,4 +1,6 @@
 //! What is done with each file that is read.
+ghost use Rattle.fitsed.specs.Running.{Asks};
+
 use crate::detail::Detail;
 use crate::explaining::INPUT;
 use crate::files::{is_stored, source_of};
@@ -214,7 +216,10 @@ fn asked<S: Source, O: Sink>(
     file: File,
     script: &mut S,
     out: &mut O,
-) -> End {
+) -> End
+    ensures { Asks (S.state script.old) (S.state script.new)
+        (O.state out.old) (O.state out.new) result }
+{
     let Ok(before) = before_remarks(alloc, subject) else {
         return End::from(Fault::Memory);
     };

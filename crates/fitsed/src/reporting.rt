@@ -1,4 +1,7 @@
 //! What standard error is told.
+ghost use Rattle.std.specs.Prelude.{◌≡◌};
+ghost use Rattle.fits_cli.specs.Faults.{status_of_fault};
+
 use crate::detail::Detail;
 use crate::explaining::{INPUT, explain, explain_read, tell_call, tell_cause};
 use crate::piece::ScriptFault;
@@ -13,7 +16,9 @@ use std::rt::Files;
 pub const NOT_TAKEN: u8 = 2;
 
 /// Reports a fault, and gives its status.
-pub fn reported<R: Eprint>(rt: &R, fault: Fault) -> u8 {
+pub fn reported<R: Eprint>(rt: &R, fault: Fault) -> u8
+    ensures { result ≡ status_of_fault fault }
+{
     let _ = eprintln!(rt; "{fault}");
     fault.status()
 }
@@ -32,14 +37,18 @@ pub fn reported_of<R: Files<File = File> + Eprint + AllocGlobal>(
     subject: Subject<'_>,
     other: &str,
     fault: Fault,
-) -> u8 {
+) -> u8
+    ensures { result ≡ status_of_fault fault }
+{
     let status = named_fault(rt, subject.name, subject.named, fault);
     explain(rt, subject, other, fault);
     status
 }
 
 /// Reports a fault with a name, or without.
-pub fn named_fault<R: Eprint>(rt: &R, name: &str, named: bool, fault: Fault) -> u8 {
+pub fn named_fault<R: Eprint>(rt: &R, name: &str, named: bool, fault: Fault) -> u8
+    ensures { result ≡ status_of_fault fault }
+{
     if !named {
         return reported(rt, fault);
     }
@@ -52,7 +61,9 @@ pub fn reported_script<R: Files<File = File> + Eprint + AllocGlobal>(
     rt: &R,
     detail: Detail<'_>,
     why: ScriptFault<'_>,
-) -> u8 {
+) -> u8
+    ensures { result ≡ status_of_fault why.fault }
+{
     let status = reported(rt, why.fault);
     if let (Fault::ReadFailed, true) = (why.fault, detail.tells()) {
         match why.path {
@@ -86,7 +97,9 @@ pub fn reported_save<R: Files<File = File> + Eprint + AllocGlobal>(
     to: &str,
     saving: Saving<'_>,
     fault: SaveFault,
-) -> u8 {
+) -> u8
+    ensures { result ≡ 3 }
+{
     let _ = match fault {
         SaveFault::Changed => {
             let changed = Fault::Reread(Reread::Changed);

@@ -1,4 +1,8 @@
 //! How the run over a file that is edited ended, and its saving.
+ghost use Rattle.std.specs.Prelude.{◌≡◌, None, Some, Err};
+ghost use Rattle.fits_cli.specs.declared.fault.Fault.TheVariants.{WriteFailed};
+ghost use Rattle.fitsed.specs.Saving.{is_saved};
+
 use crate::reporting::ends_all;
 use fits_cli::{Edited, Fault};
 use fits_save::SaveFault;
@@ -14,7 +18,9 @@ pub struct SavedEnd {
 
 impl SavedEnd {
     /// The end of a run whose result isn't saved.
-    pub fn refused(fault: SaveFault) -> SavedEnd {
+    pub fn refused(fault: SaveFault) -> SavedEnd
+        ensures { result ≡ record { done = Err WriteFailed; fault = Some fault; met = 0 } }
+    {
         SavedEnd {
             done: Err(Fault::WriteFailed),
             fault: Some(fault),
@@ -23,7 +29,9 @@ impl SavedEnd {
     }
 
     /// Whether the result was saved.
-    pub fn is_saved(&self) -> bool {
+    pub fn is_saved(&self) -> bool
+        ensures { result ≡ is_saved self.now.done }
+    {
         matches!(self.done, Ok(Edited::Done(_)))
     }
 
@@ -38,6 +46,8 @@ impl SavedEnd {
 }
 
 impl From<Fault> for SavedEnd {
+    ghost from_gives = { λ why end. end ≡ record { done = Err why; fault = None; met = 0 } };
+
     fn from(why: Fault) -> SavedEnd {
         SavedEnd {
             done: Err(why),

@@ -30,7 +30,7 @@ returns-clause-follows g c = follows_more _ _ _ c.in_ok-before.ensures.follows c
 
 -- what stands then
 pub returns-in_err-before-clause-leaves : goal.returns-in_err-before-clause-leaves
-returns-in_err-before-clause-leaves g c = leaves_exit _ _ _ _ _ _ _ _ _ c.from_residual.ensures.1 (leaves_stopped _ _ _ _ _ c.in_err-before.field-0.0 c.in_err-before.ensures.leaves)
+returns-in_err-before-clause-leaves g c = leaves_exit _ _ _ _ _ _ _ _ _ c.from_residual.ensures.1 (leaves_stopped c.args.terms.saves _ _ _ _ _ c.in_err-before.field-0.0 c.in_err-before.ensures.leaves)
 
 pub returns-clause-leaves : goal.returns-clause-leaves
 returns-clause-leaves g c =

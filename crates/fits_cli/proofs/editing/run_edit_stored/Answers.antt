@@ -27,4 +27,4 @@ pub returns-in-Ok-clause-follows : goal.returns-in-Ok-clause-follows
 returns-in-Ok-clause-follows g c = follows_more _ _ _ c.in-Ok.ensures.follows c.edit.ensures.follows
 
 pub returns-in-Err-clause-leaves : goal.returns-in-Err-clause-leaves
-returns-in-Err-clause-leaves g c = rw c.from.ensures (leaves_unread _ _ _ _)
+returns-in-Err-clause-leaves g c = rw c.from.ensures (leaves_unread _ _ _ _ _)

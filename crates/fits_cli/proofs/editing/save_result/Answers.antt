@@ -58,13 +58,13 @@ returns-in_ok-save-in-Made-clause-ends g c steady file after script script_after
 
 -- what stands then
 pub returns-in_err-print_at_once-in-Made-clause-leaves : goal.returns-in_err-print_at_once-in-Made-clause-leaves
-returns-in_err-print_at_once-in-Made-clause-leaves g c = at_exit _ _ _ c.from_residual-in_err-print_at_once-in-Made.ensures.1 (result_part _ _ _ _ _ c.in_err-print_at_once-in-Made.ensures.err)
+returns-in_err-print_at_once-in-Made-clause-leaves g c = at_exit _ _ _ c.from_residual-in_err-print_at_once-in-Made.ensures.1 (result_part _ _ _ _ _ _ c.in_err-print_at_once-in-Made.ensures.err)
 
 pub returns-then-are_some-clause-said : goal.returns-then-are_some-clause-said
 returns-then-are_some-clause-said g c = record { text = _; printed = c.in_ok-print_at_once-in-Made.ensures.ok }
 
 pub returns-in_err-save-in-Made-clause-leaves : goal.returns-in_err-save-in-Made-clause-leaves
-returns-in_err-save-in-Made-clause-leaves g c = at_exit _ _ _ c.from_residual-in_err-save-in-Made.ensures.1 (result_saving _ _ _ _ c.in_err-save-in-Made.ensures.leaves)
+returns-in_err-save-in-Made-clause-leaves g c = at_exit _ _ _ c.from_residual-in_err-save-in-Made.ensures.1 (rw c.in-Made.is (result_saving c.in-Made.whole c.in-Made.check _ _ _ _ c.in_err-save-in-Made.ensures.leaves))
 
 pub returns-in_ok-save-in-Made-clause-like : goal.returns-in_ok-save-in-Made-clause-like
 returns-in_ok-save-in-Made-clause-like g c = rw c.in-Made.is (rw (c.save.ensures.standing, c.in_ok-found-in-Made.ensures.left) (rw c.in_ok-found-in-Made.ensures.left at c.in_ok-save-in-Made.ensures.like), c.in_ok-save-in-Made.ensures.flushed)

@@ -4,7 +4,7 @@ use Rattle.fits_cli.proofs.TellingLemmas.{listed, TextStopsBy-listing}
 use Rattle.fits_cli.proofs.listing.list.Goals as goal
 
 pub print_outlines-requires : goal.print_outlines-requires
-print_outlines-requires g c = rw c.deref.ensures.value (outlined_within (g.F.Source.state c.args.file.now) c.in_ok-outlines.outlines.items c.in_ok-outlines.ensures.ok)
+print_outlines-requires g c = rw c.deref.ensures.value (outlined_within (g.F.Source.state c.args.file.now) _ c.in_ok-outlines.outlines.items c.in_ok-outlines.ensures.ok)
 
 pub returns-in_err-print_outlines-clause-err : goal.returns-in_err-print_outlines-clause-err
 returns-in_err-print_outlines-clause-err g c =

@@ -10,9 +10,10 @@ use Rattle.fits_session.proofs.walking.read_kept.Goals as goal
 
 pub returns-in-Ok-end-clause-ok : goal.returns-in-Ok-end-clause-ok
 returns-in-Ok-end-clause-ok g c =
-    read_given (IsWalkOf g.K.Kept.keeps c.in-Ok.kept.items _) (g.R.Source.state c.args.source.now) c.in_ok-intake.intake c.in_ok-intake.ensures
-    (kept_given g.K.Kept.keeps c.in-Ok.kept.items c.is_empty-followed.result _ _ c.in-Ok.ensures.walked (omega (arith, ap (λ (i : IntakeState). length i.ahead + i.left) c.in_ok-intake.ensures)) (grind (arith, common_steps))
-    c.in-Ok.ensures.some c.in-Ok.ensures.few c.in-Ok.ensures.ends c.in-Ok.ensures.short c.in-Ok-end.ensures.ok)
+    read_given (IsWalkOf g.K.Kept.keeps c.in-Ok.kept.items _) (g.R.Source.state c.args.source.now) (g.R.Source.state c.end.new.source) c.in_ok-intake.intake c.in_ok-intake.ensures
+    (kept_given g.K.Kept.keeps c.in-Ok.kept.items c.is_empty-followed.result _ _ (g.R.Source.state c.end.new.source) (ap (λ (i : IntakeState). i.ahead) c.in_ok-intake.ensures) c.in-Ok.ensures.walked
+    (omega (arith, ap (λ (i : IntakeState). length i.ahead + i.left) c.in_ok-intake.ensures)) (grind (arith, common_steps)) c.in-Ok.ensures.some c.in-Ok.ensures.few c.in-Ok.ensures.ends c.in-Ok.ensures.short c.in-Ok-end.ensures.ok
+    c.in-Ok-end.ensures.came c.in-Ok-end.ensures.over)
 
 pub returns-in-Err-end-clause-err : goal.returns-in-Err-end-clause-err
 returns-in-Err-end-clause-err g c =

@@ -1,0 +1,30 @@
+-- How a run over a file ends, once its result is kept or isn't (own).
+use Rattle.std.specs.Prelude.{◌≡◌, ◌⊎◌, ℕ, Bool, true, false, Option, None, Some, Result, Ok, Err}
+use Rattle.fits_save.specs.Stages.{kept}
+use Rattle.fits_save.specs.declared.save_fault.SaveFault.{SaveFault}
+use Rattle.fits_save.specs.declared.stage.Stage.{Stage}
+use Rattle.fits_cli.specs.Ends.{end_of}
+use Rattle.fits_cli.specs.declared.edited.Edited.{Edited}
+use Rattle.fits_cli.specs.declared.edited.Edited.TheVariants.{Done, KeptBack, Unsound}
+use Rattle.fits_cli.specs.declared.fault.Fault.{Fault}
+use Rattle.fits_cli.specs.declared.fault.Fault.TheVariants.{WriteFailed}
+
+-- the result is saved: a fault ended the run, or something kept the result back, or it is
+abbrev pub is_saved : Result Edited Fault → Bool
+is_saved (Ok (Done status)) = true
+is_saved (Ok (KeptBack undone)) = false
+is_saved (Ok (Unsound errors warnings)) = false
+is_saved (Err why) = false
+
+-- a run ended so, and its result is where it is to be; or it couldn't be kept
+abbrev pub StandsOrFails : Result Edited Fault → Result Edited Fault → Type 0
+StandsOrFails done ended = (ended ≡ done) ⊎ ((is_saved done ≡ true) × (ended ≡ Err WriteFailed))
+
+-- no result waits beside its path for being kept
+abbrev pub IsKept : Stage → Type 0
+IsKept stage = kept stage ≡ stage
+
+-- the status: that of the run, or 3 where saving is at fault
+abbrev pub status_of_saving : Option SaveFault → Result Edited Fault → ℕ
+status_of_saving None done = (end_of done).status
+status_of_saving (Some fault) done = 3
