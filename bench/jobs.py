@@ -183,11 +183,63 @@ def table_line(columns, cards, noise):
     ][noise.within(0, 9)]
 
 
+# -- asked: a detector that stays on the disk, of which keywords are asked by the thousand
+
+QUESTIONS = 1000
+
+
+def asked(noise):
+    while True:
+        lines = [f"get 1 KEY{5 * noise.within(0, 10) + noise.within(1, 4)}" for _ in range(QUESTIONS)]
+        yield Round({IN: frame(16, noise), SCRIPT: script(lines)}, [Command(["ask", IN], stdin=SCRIPT)])
+
+
+# -- painted: a mosaic that stays on the disk, a region of each of whose images is printed, written or filled
+
+# Images of 64 by 64 pixels of 16 bits.
+PAINTED_IMAGES, PAINTED_WORDS, PAINTED_DETAILS = 200, 1_024, 30
+
+
+def painted(noise):
+    while True:
+        primary = header([PRIMARY, *shape(8, [])])
+        images = [painted_image(noise) for _ in range(PAINTED_IMAGES)]
+        lines = [line for hdu in range(2, PAINTED_IMAGES + 2) for line in painted_lines(hdu, noise)]
+        yield Round({IN: b"".join([primary, *images]), SCRIPT: script(lines)}, [edit()])
+
+
+def painted_image(noise):
+    cards = header([EXTENSION, *extension_shape(16, [64, 64]), *details(PAINTED_DETAILS, noise)])
+    return cards + filled(noise.words(PAINTED_WORDS))
+
+
+def painted_lines(hdu, noise):
+    column, row, level = noise.within(1, 50), noise.within(1, 60), noise.within(0, 30_000)
+    return [
+        [f"rect {hdu} {column}:{column + 9},{row}:{row + 3}"],
+        [f"write {hdu} {column}:{column + 3},{row}:{row} 1 2 3 {level}"],
+        [f"fill {hdu} {column}:{column + 9},{row}:{row + 3} {level}", f"stat {hdu}"],
+    ][hdu % 3]
+
+
+# -- opened: files of many HDUs without data, opened and saved
+
+# How many HDUs, and how many cards each has beside those that describe it.
+CROWDS = [(5000, 24), (10_000, 0)]
+
+
+def opened(noise):
+    for hdus, cards in itertools.cycle(CROWDS):
+        primary = header([PRIMARY, *shape(8, []), *details(cards, noise)])
+        extensions = [header([EXTENSION, *extension_shape(8, []), *details(cards, noise)]) for _ in range(1, hdus)]
+        yield Round({IN: b"".join([primary, *extensions]), SCRIPT: b"set 1 OBJECT 'M31'\n"}, [edit()])
+
+
 def script(lines):
     return "".join(f"{line}\n" for line in lines).encode()
 
 
-JOBS = {job.__name__: job for job in (folders, frames, kept, reshapes, tables)}
+JOBS = {job.__name__: job for job in (folders, frames, kept, reshapes, tables, asked, painted, opened)}
 
 
 def rounds(name, count, seed):
