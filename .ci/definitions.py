@@ -18,7 +18,7 @@ MOST = 300
 HEAD = re.compile(r"(?:(?:pub|abbrev|unfoldable|record) )+([A-Za-z_]\w*) ")
 PART = re.compile(r"\(([^()]*)\)")
 NAME = re.compile(r"`([\w:.]+)`")
-FILE = re.compile(r"\b(fits_\w+)/([\w/]+\.rt)\b")
+FILE = re.compile(r"\b(fitsed|fits_\w+)/([\w/]+\.rt)\b")
 
 FRONT = """\
 # Definitions

@@ -1,17 +1,17 @@
 -- How a run ends whose script was answered to its end.
-use Rattle.std.proofs.Common.{◌≡◌, ◌⊎◌, ℕ, ◌+◌, ◌<◌, ◌≤◌, ◌&&◌, Bool, List, [], length, take, refl, ap, sym, subst, ◌∙◌, inl, inr, arith, true, false, Result, Ok, Err, Option, None}
+use Rattle.std.proofs.Common.{◌≡◌, ◌⊎◌, ℕ, ◌+◌, ◌<◌, ◌≤◌, ◌&&◌, Bool, List, [], take, refl, ap, sym, subst, ◌∙◌, inl, inr, arith, true, false, Result, Ok, Err, Option}
 use Rattle.std.specs.Prelude.{nat_lt}
 use Rattle.std.specs.Result.{IsErrAnd}
 use Rattle.std.proofs.lemmas.Result.{err_from_is_err_and}
-use Rattle.fits_stream.specs.Stream.{SourceState, SinkState, Prints, PrintsFront, StaysQuiet}
+use Rattle.fits_stream.specs.Stream.{SourceState, SinkState, Prints, PrintsFront}
 use Rattle.fits_stream.proofs.StreamLemmas.{quiet_read, Prints-flushed}
 use Rattle.fits_session.specs.File.{file_bytes, FileParts}
 use Rattle.fits_session.specs.Report.{report_of}
 use Rattle.fits_session.specs.declared.problem.Problem.{Problem}
 use Rattle.fits_session.proofs.OrderLemmas.{in_order}
 use Rattle.fits_cli.specs.Answer.{Standing, at_first_line}
-use Rattle.fits_cli.specs.Ends.{end_of, EndsAs, EndsBy, FailsBy, IsDue, IsKeptBack, IsSaved, IsUnsound, LacksReport, NewErrorsFail, ReachesEnd, RunState, StopsBy, Succeeds}
-use Rattle.fits_cli.specs.Faults.{IsOnce, PrintFails, SaveFails}
+use Rattle.fits_cli.specs.Ends.{end_of, EndsAs, EndsBy, FailsBy, IsDue, IsKeptBack, IsSaved, IsUnsound, NewErrorsFail, ReachesEnd, RunState, StopsBy, Succeeds}
+use Rattle.fits_cli.specs.Faults.{IsOnce, SaveFails}
 use Rattle.fits_cli.specs.NewErrors.{new_error_lines, new_errors, HasMoreErrors}
 use Rattle.fits_cli.specs.Output.{answers, output_of_lines, Output, saved_bytes, standing_after, status_of}
 use Rattle.fits_cli.specs.Report.{errors_in, warnings_in}
@@ -22,7 +22,7 @@ use Rattle.fits_cli.specs.Ends.{run_by}
 use Rattle.fits_cli.specs.declared.edited.Edited.{Edited}
 use Rattle.fits_cli.specs.declared.edited.Edited.TheVariants.{Done, KeptBack, Unsound}
 use Rattle.fits_cli.specs.declared.fault.Fault.{Fault}
-use Rattle.fits_cli.specs.declared.fault.Fault.TheVariants.{Memory, WriteFailed, Reread as RereadFault}
+use Rattle.fits_cli.specs.declared.fault.Fault.TheVariants.{Memory, Reread as RereadFault}
 use Rattle.fits_cli.specs.declared.level.Level.{Level}
 use Rattle.fits_cli.specs.declared.level.Level.TheVariants.{Quiet}
 use Rattle.fits_cli.specs.declared.reread.Reread.TheVariants as again

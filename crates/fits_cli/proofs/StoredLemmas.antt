@@ -4,7 +4,7 @@ use Rattle.std.proofs.lemmas.List.{append-nil}
 use Rattle.fits_stream.specs.Gave.{GaveAll}
 use Rattle.fits_stream.specs.Agree.{IsOf}
 use Rattle.fits_stream.specs.Stored.{ReadLogState}
-use Rattle.fits_stream.specs.Stream.{SourceState, FailsOnce, StaysQuiet}
+use Rattle.fits_stream.specs.Stream.{StaysQuiet}
 use Rattle.fits_session.specs.Away.{StoredStops}
 use Rattle.fits_session.specs.File.{FileParts, file_bytes, IsFile}
 use Rattle.fits_session.specs.Opening.{HasOpenFault}

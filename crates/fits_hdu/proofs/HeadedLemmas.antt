@@ -1,5 +1,5 @@
 -- The cards of a header, whether the rest of its HDU can be read or not.
-use Rattle.std.proofs.Common.{◌≡◌, ℕ, ◌+◌, ◌<◌, Bool, List, ◌++◌, length, refl, ap, sym, ◌∙◌, append_assoc, subst, arith, inl}
+use Rattle.std.proofs.Common.{◌≡◌, ℕ, ◌+◌, ◌<◌, Bool, List, ◌++◌, length, refl, ap, ◌∙◌, append_assoc, subst, arith, inl}
 use Rattle.std.proofs.lemmas.List.{length-append}
 use Rattle.std.specs.Prelude.{Ok, Err}
 use Rattle.fits_card.specs.Header.{Header, AreFrontCards, IsHeader, header_bytes, joined_cards}

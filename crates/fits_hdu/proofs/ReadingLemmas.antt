@@ -1,7 +1,7 @@
 -- Steps of reading an HDU from a source.
-use Rattle.std.proofs.Common.{◌≡◌, ℕ, ◌+◌, ◌<◌, Bool, List, ◌++◌, length, refl, ap, sym, ◌∙◌, append_assoc, arith}
+use Rattle.std.proofs.Common.{◌≡◌, ℕ, ◌+◌, ◌<◌, Bool, List, ◌++◌, length, refl, ap, ◌∙◌, append_assoc, arith}
 use Rattle.std.proofs.lemmas.List.{length-append}
-use Rattle.std.specs.Prelude.{Ok, Err, IsErrOf, OnErr, Result}
+use Rattle.std.specs.Prelude.{Ok, Err, IsErrOf}
 use Rattle.fits_card.specs.Header.{Header, IsHeader, header_bytes}
 use Rattle.fits_card.specs.HeaderReading.{HeaderStops}
 use Rattle.fits_stream.specs.Intake.{IsOver, IsSpent, Supply, Takes, TakingStops}

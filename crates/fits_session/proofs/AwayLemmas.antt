@@ -1,6 +1,6 @@
 -- Data units that lie in a stored file, and what loading one leaves.
-use Rattle.std.proofs.Common.{All, ◌≡◌, ℕ, ◌+◌, ◌<◌, ◌≤◌, List, [], ◌∷◌, ◌++◌, length, map, take, drop, get_or, set, refl, ap, sym, subst, ◌∙◌, arith, Option, None, Some, suc, true, zero, add-one}
-use Rattle.std.specs.Prelude.{Bool, IfSome, Err, Ok, OnErr, OnOk, Result, false, is_some}
+use Rattle.std.proofs.Common.{All, ◌≡◌, ℕ, ◌+◌, ◌≤◌, List, [], ◌∷◌, ◌++◌, length, map, take, drop, set, refl, ap, sym, subst, ◌∙◌, arith, Option, None, Some, suc, true, zero, add-one}
+use Rattle.std.specs.Prelude.{Err, Ok, OnErr, OnOk, Result, false, is_some}
 use Rattle.std.proofs.Math.Seq.{drop-append-add, take-append_seam}
 use Rattle.std.proofs.lemmas.List.{append_assoc, length-append, length-set, map-append, set-get_or}
 use Rattle.std.proofs.lemmas.Option.{same_Some, slice_get_read}
@@ -12,7 +12,7 @@ use Rattle.fits_rules.specs.Shape.{shape_of}
 use Rattle.fits_header.specs.State.{HeaderState}
 use Rattle.fits_hdu.specs.ExtensionName.{extension_name}
 use Rattle.fits_plane.specs.DataUnit.{Absence, IsCounted, LiesIn}
-use Rattle.fits_stream.specs.Intake.{supply, IntakeState, TellsAll, Supply}
+use Rattle.fits_stream.specs.Intake.{supply, IntakeState}
 use Rattle.fits_stream.specs.Stored.{bytes_from, Lent, ReadLogState}
 use Rattle.fits_stream.specs.Stream.{SourceState}
 use Rattle.fits_hdu.specs.Hdu.{HduParts, hdu_bytes, IsHdu}
@@ -41,7 +41,6 @@ use Rattle.fits_session.proofs.HadLemmas.{had_held}
 use Rattle.fits_session.proofs.EditLemmas.{length_changed, other_kept}
 use Rattle.fits_session.specs.declared.read_fault.ReadFileFault.{ReadFileFault}
 use Rattle.fits_session.proofs.StandingLemmas.{stands_same}
-use Rattle.fits_session.proofs.WalkLemmas.{read_stops}
 use Rattle.fits_session.proofs.StateLemmas.{IsHduAt, hdu_of-there, hdus_of-changed, marked_of-same, slice_get-hdus_of, whole_there}
 
 -- ---- HDUs that passed by

@@ -1,9 +1,7 @@
 -- How the data units of a session are had, and what leaves them so.
-use Rattle.std.proofs.Common.{[], ◌≡◌, ◌<◌, ◌∙◌, ap, sym, subst, ℕ, List, length, get_or, set, Option, None, Some}
-use Rattle.std.proofs.lemmas.Option.{none-some}
-use Rattle.fits_stream.specs.Agree.{IsOf}
+use Rattle.std.proofs.Common.{◌≡◌, ◌<◌, ◌∙◌, ap, sym, subst, ℕ, List, length, get_or, set, Option, None, Some}
 use Rattle.fits_stream.specs.Stored.{ReadLogState}
-use Rattle.std.specs.Prelude.{All, Bool, IfSome, true, false}
+use Rattle.std.specs.Prelude.{All, Bool, IfSome, true}
 use Rattle.fits_session.specs.Away.{in_file, Agree, AgreeOn, AllLie, LieStill}
 use Rattle.fits_plane.specs.Again.{Follows}
 use Rattle.std.proofs.lemmas.List.Elements.{All-set}
@@ -11,7 +9,7 @@ use Rattle.fits_hdu.specs.State.{HduState, ReadsUpTo}
 use Rattle.fits_plane.specs.DataUnit.{LiesIn}
 use Rattle.fits_plane.specs.Plane.{PlaneState}
 use Rattle.fits_hdu.specs.declared.extension_name.ExtensionName.{ExtensionName}
-use Rattle.fits_session.specs.Session.{unentered, without_entries, HasArray, HasPixels, HasStats, Holding, IsHad, IsHeld, IsKept, IsReadyFor, IsReadyTo, IsSoOf, StaysHad}
+use Rattle.fits_session.specs.Session.{unentered, without_entries, HasPixels, HasStats, Holding, IsHad, IsHeld, IsKept, IsReadyFor, IsReadyTo, IsSoOf, StaysHad}
 use Rattle.fits_edit.specs.declared.edit.Edit.{Edit}
 use Rattle.fits_edit.specs.declared.edit.Edit.TheVariants.{Hdu, NewImage, RemoveHdu}
 use Rattle.fits_edit.specs.declared.hdu_edit.HduEdit.{HduEdit}

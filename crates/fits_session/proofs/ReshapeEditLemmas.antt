@@ -1,6 +1,6 @@
 -- Reshapes: what they make of an HDU, and owe.
 use Rattle.std.proofs.Common.{◌≡◌, inl, inr, ℕ, ◌+◌, ◌-◌, ◌<◌, ◌≤◌, Bool, true, false, List, length, refl, ap, sym, subst, ◌∙◌, arith, Option, None, Some}
-use Rattle.std.specs.Prelude.{◌≢◌, is_some, not, Result, Ok, Err, if◌then◌else◌}
+use Rattle.std.specs.Prelude.{◌≢◌, Result, Ok, Err, if◌then◌else◌}
 use Rattle.std.specs.Option.{option_map}
 use Rattle.fits_card.specs.Header.{header_length}
 use Rattle.fits_plane.specs.Layout.{block_count}

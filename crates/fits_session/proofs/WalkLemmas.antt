@@ -10,7 +10,7 @@ use Rattle.std.proofs.lemmas.List.Concat.{flat_map-append}
 use Rattle.fits_stream.specs.declared.reading.ReadFault.{ReadFault}
 use Rattle.fits_stream.specs.declared.reading.ReadFault.TheVariants as read_fault
 use Rattle.fits_stream.specs.Gave.{FindsAll, Gave, Overruns}
-use Rattle.fits_stream.specs.Intake.{supply, TakingStops, Gives, GivesAll, IntakeState, IsLimited, IsOver, IsSpent, Supply, Takes, TellsAll}
+use Rattle.fits_stream.specs.Intake.{supply, TakingStops, GivesAll, IntakeState, IsLimited, IsOver, IsSpent, Supply, Takes, TellsAll}
 use Rattle.fits_stream.specs.Stream.{FailsOnce, IsDry, SourceState, StaysQuiet}
 use Rattle.fits_stream.proofs.GaveLemmas.{finds, finds_all_begun, finds_all_next, finds_all_spent, found_gave, gave, gave_then, long_gave, overruns_known, overruns_quiet}
 use Rattle.fits_stream.proofs.SightLemmas.{finds_given, long_given, no_bytes, rest_given, takes_and_holds, takes_fewer, takes_more, takes_quiet, takes_then_fails, takes_then_quiet, tells_after, within_limit}
@@ -22,7 +22,7 @@ use Rattle.fits_hdu.specs.declared.fault.HduFault.{HduFault}
 use Rattle.fits_hdu.specs.declared.fault.HduFault.TheVariants as hdu_fault
 use Rattle.fits_hdu.specs.declared.read_fault.ReadHduFault.{ReadHduFault}
 use Rattle.fits_hdu.specs.declared.read_fault.ReadHduFault.TheVariants as read_hdu
-use Rattle.fits_session.specs.File.{FileParts, begins_extension, file_bytes, goes_on, is_first, is_followed, joined_hdus, IsFile, IsFileOf, IsFrontOf}
+use Rattle.fits_session.specs.File.{begins_extension, file_bytes, goes_on, is_first, is_followed, joined_hdus, IsFile, IsFileOf, IsFrontOf}
 use Rattle.fits_session.specs.declared.limits.TheConstants.{FILE_LIMIT, HDU_LIMIT}
 use Rattle.fits_session.specs.Opening.{BeginsAsFits, HasOpenFault, open_fault_of}
 use Rattle.fits_session.specs.Reading.{file_fault_of, of_read, is_of_bytes, IsKeptOf, GaveFault, GaveWhole, IsFresh, IsReadWhole, IsWalkOf, KeepsEach, NextBegins, ReadStops, RestStops, SupplyStops, Walked, WalkStops}

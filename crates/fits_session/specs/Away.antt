@@ -1,5 +1,5 @@
 -- Data units that lie in a stored file: where they lie, and what loading one owes (own).
-use Rattle.std.specs.Prelude.{◌≡◌, ◌⊎◌, ℕ, ◌+◌, Bool, List, [], ◌∷◌, length, false, true, All, Option, Some, IfSome, IsOk}
+use Rattle.std.specs.Prelude.{◌≡◌, ◌⊎◌, ℕ, ◌+◌, Bool, List, [], ◌∷◌, length, false, true, All, Some, IsOk}
 use Rattle.std.specs.List.{slice_get}
 use Rattle.fits_card.specs.Header.{header_bytes}
 use Rattle.fits_stream.specs.Agree.{IsOf}

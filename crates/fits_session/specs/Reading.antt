@@ -1,5 +1,5 @@
 -- How a file is read from a source, whatever is kept of its HDUs (own).
-use Rattle.std.specs.Prelude.{◌≡◌, ℕ, ◌<◌, ◌≤◌, Bool, true, false, List, [], ◌∷◌, length, nat_eq, codes}
+use Rattle.std.specs.Prelude.{◌≡◌, ℕ, ◌≤◌, Bool, true, false, List, [], ◌∷◌, length, nat_eq, codes}
 use Rattle.std.specs.List.{starts_with}
 use Rattle.fits_stream.specs.Intake.{Supply, Gives, GivesAll, Takes, Tells, TellsAll}
 use Rattle.fits_stream.specs.Gave.{FindsAll, Gave, GaveAll, Overruns}

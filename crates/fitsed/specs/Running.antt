@@ -1,5 +1,5 @@
 -- What a run over a file of the system comes to, by what its calls gave and took (own).
-use Rattle.std.specs.Prelude.{◌≡◌, ◌⊎◌, Bool, true, false, List, [], Option, Some, Result, Err}
+use Rattle.std.specs.Prelude.{◌≡◌, ◌⊎◌, Bool, true, false, [], Option, Some, Result, Err}
 use Rattle.fits_stream.specs.Log.{unbegun}
 use Rattle.fits_stream.specs.Stored.{ReadLogState}
 use Rattle.fits_stream.specs.Stream.{SinkState, SourceState}
@@ -106,5 +106,5 @@ pub record AsksNothing (script script' : SourceState) (out out' : SinkState) (en
   pub out_is : out' ≡ out
 
 -- a script is done over a file, and nothing saved; or it isn't
-abbrev pub Asks : SourceState → SourceState → SinkState → SinkState → End → Type 0
-Asks script script' out out' end = AsksByPlaces script script' out out' end ⊎ (AsksThrough script script' out out' end ⊎ AsksNothing script script' out out' end)
+abbrev pub AsksFile : SourceState → SourceState → SinkState → SinkState → End → Type 0
+AsksFile script script' out out' end = AsksByPlaces script script' out out' end ⊎ (AsksThrough script script' out out' end ⊎ AsksNothing script script' out out' end)

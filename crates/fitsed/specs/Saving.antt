@@ -21,8 +21,8 @@ abbrev pub StandsOrFails : Result Edited Fault → Result Edited Fault → Type 
 StandsOrFails done ended = (ended ≡ done) ⊎ ((is_saved done ≡ true) × (ended ≡ Err WriteFailed))
 
 -- no result waits beside its path for being kept
-abbrev pub IsKept : Stage → Type 0
-IsKept stage = kept stage ≡ stage
+abbrev pub IsPlaced : Stage → Type 0
+IsPlaced stage = kept stage ≡ stage
 
 -- the status: that of the run, or 3 where saving is at fault
 abbrev pub status_of_saving : Option SaveFault → Result Edited Fault → ℕ

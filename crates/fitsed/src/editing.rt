@@ -3,7 +3,7 @@ ghost use Rattle.std.specs.Prelude.{◌≡◌, true, None};
 ghost use Rattle.std.specs.Io.Buffered.{writer_inner};
 ghost use Rattle.std.specs.Option.{option_map};
 ghost use Rattle.fitsed.specs.Running.{terms_by, Edits, Runs};
-ghost use Rattle.fitsed.specs.Saving.{is_saved, status_of_saving, IsKept, StandsOrFails};
+ghost use Rattle.fitsed.specs.Saving.{is_saved, status_of_saving, IsPlaced, StandsOrFails};
 
 use crate::detail::Detail;
 use crate::explaining::INPUT;
@@ -144,7 +144,7 @@ fn edited<R: Files<File = File> + Eprint + AllocGlobal, S: Source, O: Sink>(
     script: &mut S,
     out: &mut O,
 ) -> SavedEnd
-    ensures { Edits terms (S.state script.old) (S.state script.new)
+    ensures { Edits terms.entry (S.state script.old) (S.state script.new)
         (O.state out.old) (O.state out.new) result.done }
 {
     let Ok(file) = fs::open(rt, at.subject.name) else {
@@ -221,7 +221,7 @@ fn run_over<S: Source, P: Sink, O: Sink, E: Sink>(
 
 // The terms of a run. A file that stands where its result goes is spared.
 fn terms_of(terms: SavingTerms<'_>, there: Standing) -> Terms
-    ensures { result ≡ terms_by terms result.spare }
+    ensures { result ≡ terms_by terms.entry result.spare }
 {
     let check = match (terms.checked, terms.strict) {
         (false, _) => Level::Quiet,
@@ -293,7 +293,7 @@ fn kept<P: Place + Drop>(
     done: Result<Edited, Fault>,
 ) -> SavedEnd
     ensures done { StandsOrFails done result.done }
-    ensures kept { is_saved result.done ≡ true → IsKept (writer_inner saved.new).stage }
+    ensures kept { is_saved result.done ≡ true → IsPlaced (writer_inner saved.new).stage }
     ensures fault { is_saved result.done ≡ true → result.fault ≡ None }
 {
     let ended = SavedEnd {

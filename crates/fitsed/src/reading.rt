@@ -1,5 +1,5 @@
 //! What is done with each file that is read.
-ghost use Rattle.fitsed.specs.Running.{Asks};
+ghost use Rattle.fitsed.specs.Running.{AsksFile};
 
 use crate::detail::Detail;
 use crate::explaining::INPUT;
@@ -217,7 +217,7 @@ fn asked<S: Source, O: Sink>(
     script: &mut S,
     out: &mut O,
 ) -> End
-    ensures { Asks (S.state script.old) (S.state script.new)
+    ensures { AsksFile (S.state script.old) (S.state script.new)
         (O.state out.old) (O.state out.new) result }
 {
     let Ok(before) = before_remarks(alloc, subject) else {

@@ -62,7 +62,7 @@ pub fn reported_script<R: Files<File = File> + Eprint + AllocGlobal>(
     detail: Detail<'_>,
     why: ScriptFault<'_>,
 ) -> u8
-    ensures { result ≡ status_of_fault why.fault }
+    ensures { result ≡ status_of_fault why.entry.fault }
 {
     let status = reported(rt, why.fault);
     if let (Fault::ReadFailed, true) = (why.fault, detail.tells()) {

@@ -1,4 +1,4 @@
-use Rattle.std.proofs.Common.{◌≡◌, ◌<◌, ◌≤◌, ◌+◌, ◌-◌, ◌*◌, ◌/◌, ℕ, List, arith, ap, refl, subst, ◌∙◌}
+use Rattle.std.proofs.Common.{◌≡◌, ◌<◌, ◌≤◌, ◌+◌, ◌-◌, ◌*◌, ◌/◌, ℕ, List, arith, ap, refl, ◌∙◌}
 use Rattle.std.proofs.Math.Nat.{mul-le-mul_right}
 use Rattle.fits_plane.specs.Layout.{block_count, block_pixels}
 use Rattle.fits_plane.specs.Painting.{number_of}
@@ -11,7 +11,6 @@ use Rattle.fits_plane.proofs.PaintLemmas.{can_paint_row}
 use Rattle.fits_plane.proofs.PathLemmas.{all_left}
 use Rattle.fits_plane.proofs.PowerLemmas.{least_power, most_above_le}
 use Rattle.fits_plane.proofs.RectangleLemmas.{written_is}
-use Rattle.fits_plane.proofs.RowLemmas.{row_lies}
 use Rattle.fits_plane.proofs.ShortRowLemmas.{kept_done}
 use Rattle.fits_plane.proofs.WriteLemmas.{rows_begun, rows_more, write_all}
 use Rattle.fits_plane.proofs.short_rows.paint_rows_apart.Goals as goal

@@ -1,4 +1,3 @@
-use Rattle.fits_stream.proofs.SightLemmas.{takes_then_fails}
 use Rattle.std.proofs.Common.{◌≡◌, ◌≤◌, ◌%◌, ◌∙◌, length, ap, arith, subst, sym}
 use Rattle.fits_stream.proofs.SightLemmas.{takes_fewer}
 use Rattle.fits_rules.proofs.LawLemmas.{shape_primary}

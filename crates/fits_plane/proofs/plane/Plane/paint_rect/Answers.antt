@@ -1,5 +1,5 @@
-use Rattle.std.proofs.Common.{ap, subst}
-use Rattle.fits_plane.specs.Painting.{plane_by, Paints, Suits}
+use Rattle.std.proofs.Common.{subst}
+use Rattle.fits_plane.specs.Painting.{plane_by, Paints}
 use Rattle.fits_plane.specs.Plane.{PlaneState}
 use Rattle.fits_plane.proofs.plane.Plane.paint_rect.Goals as goal
 

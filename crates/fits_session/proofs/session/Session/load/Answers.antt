@@ -1,4 +1,4 @@
-use Rattle.std.proofs.Common.{ap, false, inr, refl, subst, sym, None, Some}
+use Rattle.std.proofs.Common.{ap, inr, refl, subst, sym, None}
 use Rattle.std.proofs.lemmas.List.Elements.{All-set}
 use Rattle.fits_hdu.specs.State.{HduState}
 use Rattle.fits_session.specs.Away.{in_file, Agree, AllLie, LoadWork}

@@ -1,4 +1,4 @@
-use Rattle.std.proofs.Common.{All, ◌≡◌, ◌%◌, take, length, ℕ, List, None, true}
+use Rattle.std.proofs.Common.{All, ◌≡◌, ◌%◌, take, length, ℕ, List, None}
 use Rattle.fits_session.specs.Away.{Agree, AllLie, WritesHdus}
 use Rattle.fits_plane.specs.Again.{Follows, PrintsLike}
 use Rattle.fits_stream.specs.Stream.{Prints}

@@ -1,4 +1,4 @@
-use Rattle.std.proofs.Common.{false, refl, rules, subst}
+use Rattle.std.proofs.Common.{refl, rules, subst}
 use Rattle.fits_plane.specs.Again.{CopyFails}
 use Rattle.fits_session.specs.File.{file_bytes}
 use Rattle.fits_session.specs.Session.{file_of}
