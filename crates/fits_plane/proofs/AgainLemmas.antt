@@ -22,9 +22,9 @@ pub copied_more : (done piece : List ℕ) (total more : ℕ) → total ≡ word_
 copied_more done piece total more was is words =
     ap (λ n. n + more) was ∙ ap (λ n. word_total done + n) is ∙ sym (word_total-append (length done / 4) done piece (omega (arith, words)))
 
--- the lesser of whole words is of whole words
-pub least_words : (least a b : ℕ) → least ≡ min a b → a % 4 ≡ 0 → b % 4 ≡ 0 → least % 4 ≡ 0
-least_words least a b is p q = omega (arith, is, p, q)
+-- the lesser of whole blocks is of whole blocks
+pub least_blocks : (least a b : ℕ) → least ≡ min a b → a % 2880 ≡ 0 → b % 2880 ≡ 0 → least % 2880 ≡ 0
+least_blocks least a b is p q = omega (arith, is, p, q)
 
 -- what came, and then a piece
 pub came_more : (a b c : SourceState) (done piece : List ℕ) (n : ℕ) → Reads done a b → Reads (take n piece) b c → length piece ≤ n → Reads (done ++ piece) a c
@@ -59,13 +59,13 @@ pub next_stopped : (a b : SourceState) (len : ℕ) (done : List ℕ) (Ends : Lis
 next_stopped a b len done Ends p few ends = record { bytes = done; rest = []; logs = subst (Logs a.log b.log) (sym (append-nil done)) p.log; few = few; ends = ends }
 
 -- a stored file is gone on with: what a source of it read from a place on
-pub lent_reads : {F : Type 0} (a b : Lent F) (place : ℕ) (old new : ReadLogState) (bytes : List ℕ) → a.log.at ≡ place → a.log.came ≡ old.came → a.log.ends ≡ old.ends → new ≡ record { came = b.log.came; ends = b.log.ends; failures = b.failures }
+pub lent_reads : {F : Type 0} (a b : Lent F) (place : ℕ) (old new : ReadLogState) (bytes : List ℕ) → a.log.at ≡ place → a.log.came ≡ old.came → a.log.ends ≡ old.ends → new ≡ record { came = b.log.came; ends = b.log.ends; failures = b.failures; looked = b.looked }
     → Adds (unskipped a.log) (unskipped b.log) bytes → ReadsOn place old new bytes
 lent_reads a b place old new bytes at came ends is adds =
     subst (λ p. ReadsOn p old new bytes) at (reads_on a.log b.log old new bytes adds (sym came) (sym ends) (ap (λ (l : ReadLogState). l.came) is) (ap (λ (l : ReadLogState). l.ends) is))
 
 -- and what its log gained, whatever that was
-pub again_some : {F : Type 0} (a b : Lent F) (place : ℕ) (old new : ReadLogState) → a.log.at ≡ place → a.log.came ≡ old.came → a.log.ends ≡ old.ends → new ≡ record { came = b.log.came; ends = b.log.ends; failures = b.failures }
+pub again_some : {F : Type 0} (a b : Lent F) (place : ℕ) (old new : ReadLogState) → a.log.at ≡ place → a.log.came ≡ old.came → a.log.ends ≡ old.ends → new ≡ record { came = b.log.came; ends = b.log.ends; failures = b.failures; looked = b.looked }
     → Grows (Some (unskipped a.log)) (Some (unskipped b.log)) → ReadsSome place old new
 again_some a b place old new at came ends is grows = record { bytes = grows.bytes; read = lent_reads a b place old new grows.bytes at came ends is grows.logs }
 

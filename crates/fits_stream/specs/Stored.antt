@@ -45,19 +45,23 @@ pub record Placed (F : Type 0) : Type 0 where
   pub log : Log
   pub failures : ℕ
 
--- a stored file that is lent, what came of it, where its next byte lies, and how many of its calls have failed
+-- a stored file that is lent, what came of it, where its next byte lies, how many of its calls have failed, and how many blocks of what
+-- came were looked at
 pub record Lent (F : Type 0) : Type 0 where
   pub file : F
   pub log : Log
   pub failures : ℕ
+  pub looked : ℕ
 
 -- a stored file that is lent, where its next byte lies, and what came of it
 pub record LentAt (F : Type 0) : Type 0 where
   pub file : F
   pub log : Log
 
--- reads of a stored file: what came, each byte with its place, the places at which none did, and how many failed
+-- reads of a stored file: what came, each byte with its place, the places at which none did, how many failed, and how many blocks of what
+-- came were looked at as it was copied
 pub record ReadLogState : Type 0 where
   pub came : List (ℕ × ℕ)
   pub ends : List ℕ
   pub failures : ℕ
+  pub looked : ℕ

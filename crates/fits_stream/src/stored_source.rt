@@ -16,6 +16,7 @@ use std::marker::Model;
 pub struct StoredSource<'f, F> {
     at: AtPlace<'f, F>,
     failed: Count,
+    looked: Count,
 }
 
 impl<'f, F> Model for StoredSource<'f, F> {
@@ -27,6 +28,7 @@ impl<'f, F> Model for StoredSource<'f, F> {
       file = it.at.file;
       log = it.at.log;
       failures = it.failed.total;
+      looked = it.looked.total;
     } };
 }
 
@@ -59,22 +61,29 @@ impl<'f, F> StoredSource<'f, F> {
         ensures came { result.log.came ≡ log.came }
         ensures ends { result.log.ends ≡ log.ends }
         ensures failures { result.failures ≡ log.failures }
+        ensures looked { result.looked ≡ log.looked }
     {
-        let ReadLog { came, failed } = log;
+        let ReadLog {
+            came,
+            failed,
+            looked,
+        } = log;
         StoredSource {
             at: AtPlace::new(file, place, came),
             failed,
+            looked,
         }
     }
 
     /// The log, with its own reads.
     pub fn into_log(self) -> ReadLog
-        ensures { result ≡ record { came = self.entry.log.came; ends = self.entry.log.ends; failures = self.entry.failures } }
+        ensures { result ≡ record { came = self.entry.log.came; ends = self.entry.log.ends; failures = self.entry.failures; looked = self.entry.looked } }
     {
-        let StoredSource { at, failed } = self;
+        let StoredSource { at, failed, looked } = self;
         ReadLog {
             came: at.into_came(),
             failed,
+            looked,
         }
     }
 }
