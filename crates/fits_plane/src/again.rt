@@ -115,11 +115,11 @@ pub(crate) fn copy_again<F: Stored, W: Sink>(
         (W.state sink.old) (W.state sink.new)) }
     ensures counted { IfErr result (CopyCounts log.old.failures log.new.failures) }
 {
-    let mut looked = Count::new();
+    let mut looked = log.take_looked();
     let mut source = StoredSource::new(file, place, log.take());
     let copied = copy_next(&mut source, len, room, sink, &mut looked);
     *log = source.into_log();
-    log.look(looked);
+    log.put_looked(looked);
     copied
 }
 

@@ -29,13 +29,6 @@ impl Count {
         ensures { self.new.total ≡ self.old.total + 1 }
     {}
 
-    /// As often as another more.
-    pub fn join(&mut self, other: Count)
-        ensures { self.new.total ≡ self.old.total + other.total }
-    {
-        let _other = other;
-    }
-
     /// So many times more.
     pub fn add(&mut self, times: usize)
         ensures { self.new.total ≡ self.old.total + times }

@@ -1,4 +1,4 @@
-ghost use Rattle.std.specs.Prelude.{◌≡◌, ◌+◌, []};
+ghost use Rattle.std.specs.Prelude.{◌≡◌, []};
 
 use crate::came::Came;
 use crate::count::Count;
@@ -45,10 +45,19 @@ impl ReadLog {
         mem::replace(self, ReadLog::none())
     }
 
-    /// So many blocks of what came were looked at.
-    pub fn look(&mut self, looked: Count)
-        ensures { self.new ≡ record self.old { looked = self.old.looked + looked.total } }
+    /// How many blocks of what came were looked at, to be counted on beside it.
+    pub fn take_looked(&mut self) -> Count
+        ensures value { result.total ≡ self.old.looked }
+        ensures left { self.new ≡ record self.old { looked = 0 } }
     {
-        self.looked.join(looked);
+        mem::replace(&mut self.looked, Count::new())
+    }
+
+    /// So many were looked at.
+    pub fn put_looked(&mut self, looked: Count)
+        requires { self.old.looked ≡ 0 }
+        ensures { self.new ≡ record self.old { looked = looked.total } }
+    {
+        self.looked = looked;
     }
 }
