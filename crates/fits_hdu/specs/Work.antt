@@ -7,7 +7,7 @@ use Rattle.fits_rules.specs.Lead.{lead_place}
 use Rattle.fits_card.specs.Header.{header_bytes}
 use Rattle.fits_stream.specs.Stored.{ReadLogState}
 use Rattle.fits_stream.specs.Stream.{SinkState, Prints}
-use Rattle.fits_plane.specs.Again.{IsUnitRead}
+use Rattle.fits_plane.specs.Again.{copied_blocks, IsUnitRead}
 use Rattle.fits_header.specs.Work.{mark_reads}
 use Rattle.fits_plane.specs.Layout.{block_count}
 use Rattle.fits_plane.specs.declared.layout.Layout.{Layout}
@@ -155,6 +155,7 @@ pub record WritesHdu (one : HduState) (log log' : ReadLogState) (old new : SinkS
   pub unit : List ℕ
   pub are : IsUnitRead one.plane.bytes one.absent log log' unit
   pub written : Prints (header_bytes one.header.header ++ unit) old new
+  pub looked : log'.looked ≡ log.looked + copied_blocks one.plane.bytes one.absent
 
 -- each of so many pixels was read once at most, and each of so many new blocks scanned once at most
 pub record IsRenewed (kept blocks : ℕ) (old new : PixelWork) : Type 0 where

@@ -1,7 +1,8 @@
 -- Bytes of a stored file that are read again.
-use Rattle.std.proofs.Common.{◌≡◌, ◌+◌, ◌<◌, ◌≤◌, ◌%◌, ◌/◌, ℕ, List, [], ◌++◌, length, min, take, drop, ap, sym, ◌∙◌, arith, subst, append_assoc, Some}
+use Rattle.std.proofs.Common.{◌≡◌, ◌+◌, ◌<◌, ◌≤◌, ◌%◌, ◌/◌, ℕ, List, [], ◌++◌, length, min, take, drop, ap, sym, ◌∙◌, arith, subst, append_assoc, Option, Some}
 use Rattle.std.proofs.lemmas.List.{append-nil, length-append, length-drop, length-take, take-append-drop, take-take, take_all}
 use Rattle.std.proofs.Math.Seq.{take-append_seam}
+use Rattle.std.specs.List.{slice_get}
 use Rattle.fits_stream.specs.Agree.{IsOf, ReadsOn, ReadsSome}
 use Rattle.fits_stream.specs.Log.{unskipped, Adds, Grows, Logs}
 use Rattle.fits_stream.specs.Stored.{Lent, ReadLogState}
@@ -11,7 +12,7 @@ use Rattle.fits_stream.proofs.LogLemmas.{Logs-more}
 use Rattle.fits_stream.proofs.StreamLemmas.{PrintsFront-longer, Reads-more}
 use Rattle.fits_sum.specs.Words.{word_total}
 use Rattle.fits_sum.proofs.WordLemmas.{word_total-append}
-use Rattle.fits_plane.specs.Again.{CopyFails, CopyStops, Follows, LoadStops, NextShort, NextStops, ReadsFewer}
+use Rattle.fits_plane.specs.Again.{CopyFails, CopyNextStops, CopyStops, Follows, LoadStops, NextShort, NextStops, ReadsFewer}
 use Rattle.fits_plane.specs.declared.again.CopyFault.{CopyFault}
 use Rattle.fits_plane.specs.declared.again.CopyFault.TheVariants.{Failed, Changed, Write}
 use Rattle.fits_plane.specs.declared.again.LoadFault.{LoadFault}
@@ -22,9 +23,9 @@ pub copied_more : (done piece : List ℕ) (total more : ℕ) → total ≡ word_
 copied_more done piece total more was is words =
     ap (λ n. n + more) was ∙ ap (λ n. word_total done + n) is ∙ sym (word_total-append (length done / 4) done piece (omega (arith, words)))
 
--- the lesser of whole words is of whole words
-pub least_words : (least a b : ℕ) → least ≡ min a b → a % 4 ≡ 0 → b % 4 ≡ 0 → least % 4 ≡ 0
-least_words least a b is p q = omega (arith, is, p, q)
+-- the lesser of whole blocks is of whole blocks
+pub least_blocks : (least a b : ℕ) → least ≡ min a b → a % 2880 ≡ 0 → b % 2880 ≡ 0 → least % 2880 ≡ 0
+least_blocks least a b is p q = omega (arith, is, p, q)
 
 -- what came, and then a piece
 pub came_more : (a b c : SourceState) (done piece : List ℕ) (n : ℕ) → Reads done a b → Reads (take n piece) b c → length piece ≤ n → Reads (done ++ piece) a c
@@ -59,15 +60,25 @@ pub next_stopped : (a b : SourceState) (len : ℕ) (done : List ℕ) (Ends : Lis
 next_stopped a b len done Ends p few ends = record { bytes = done; rest = []; logs = subst (Logs a.log b.log) (sym (append-nil done)) p.log; few = few; ends = ends }
 
 -- a stored file is gone on with: what a source of it read from a place on
-pub lent_reads : {F : Type 0} (a b : Lent F) (place : ℕ) (old new : ReadLogState) (bytes : List ℕ) → a.log.at ≡ place → a.log.came ≡ old.came → a.log.ends ≡ old.ends → new ≡ record { came = b.log.came; ends = b.log.ends; failures = b.failures }
+pub lent_reads : {F : Type 0} {k : ℕ} (a b : Lent F) (place : ℕ) (old new : ReadLogState) (bytes : List ℕ) → a.log.at ≡ place → a.log.came ≡ old.came → a.log.ends ≡ old.ends → new ≡ record { came = b.log.came; ends = b.log.ends; failures = b.failures; looked = k }
     → Adds (unskipped a.log) (unskipped b.log) bytes → ReadsOn place old new bytes
 lent_reads a b place old new bytes at came ends is adds =
     subst (λ p. ReadsOn p old new bytes) at (reads_on a.log b.log old new bytes adds (sym came) (sym ends) (ap (λ (l : ReadLogState). l.came) is) (ap (λ (l : ReadLogState). l.ends) is))
 
 -- and what its log gained, whatever that was
-pub again_some : {F : Type 0} (a b : Lent F) (place : ℕ) (old new : ReadLogState) → a.log.at ≡ place → a.log.came ≡ old.came → a.log.ends ≡ old.ends → new ≡ record { came = b.log.came; ends = b.log.ends; failures = b.failures }
+pub again_some : {F : Type 0} {k : ℕ} (a b : Lent F) (place : ℕ) (old new : ReadLogState) → a.log.at ≡ place → a.log.came ≡ old.came → a.log.ends ≡ old.ends → new ≡ record { came = b.log.came; ends = b.log.ends; failures = b.failures; looked = k }
     → Grows (Some (unskipped a.log)) (Some (unskipped b.log)) → ReadsSome place old new
 again_some a b place old new at came ends is grows = record { bytes = grows.bytes; read = lent_reads a b place old new grows.bytes at came ends is grows.logs }
+
+-- bytes of it weren't all copied
+pub copy_stops : {F : Type 0} {k : ℕ} (a b : Lent F) (x y : Option (List ℕ)) (n m place len : ℕ) (old new : ReadLogState) (s t : SinkState) (why : CopyFault) → a.log.at ≡ place → a.log.came ≡ old.came → a.log.ends ≡ old.ends → new ≡ record { came = b.log.came; ends = b.log.ends; failures = b.failures; looked = k }
+    → CopyNextStops len (record { remaining = x; log = Some (unskipped a.log); failures = n }) (record { remaining = y; log = Some (unskipped b.log); failures = m }) s t why → CopyStops place len old new s t why
+copy_stops a b x y n m place len old new s t Failed at came ends is p = record { bytes = p.bytes; rest = p.rest; read = lent_reads a b place old new (p.bytes ++ p.rest) at came ends is p.logs; few = p.few; ends = p.ends }
+copy_stops a b x y n m place len old new s t Changed at came ends is p =
+    let read : ReadsOn place old new (p.bytes ++ p.rest) = lent_reads a b place old new (p.bytes ++ p.rest) at came ends is p.logs in
+    let gone : b.log.at ≡ place + length (p.bytes ++ p.rest) = p.logs.at ∙ ap (λ i. i + length (p.bytes ++ p.rest)) at in
+    record { bytes = p.bytes; rest = p.rest; read = read; short = p.short; over = (p.over.0, ap (λ (l : ReadLogState). slice_get l.ends p.over.0) is ∙ p.over.1 ∙ ap Some gone); ends = p.ends }
+copy_stops a b x y n m place len old new s t Write at came ends is p = record { bytes = p.bytes; rest = p.rest; read = lent_reads a b place old new (p.bytes ++ p.rest) at came ends is p.logs; few = p.few; ends = p.ends }
 
 -- reads follow one another
 pub follows_on : (place : ℕ) (old new : ReadLogState) (bytes : List ℕ) → ReadsOn place old new bytes → Follows old new

@@ -1,11 +1,12 @@
 -- Bytes of a stored file that are read again (own).
-use Rattle.std.specs.Prelude.{◌≡◌, ◌<◌, ◌≤◌, ℕ, ◌+◌, List, ◌++◌, length, take, Option, MatchOption}
+use Rattle.std.specs.Prelude.{◌≡◌, ◌<◌, ◌≤◌, ℕ, ◌+◌, List, ◌++◌, length, take, Option, None, Some, MatchOption}
 use Rattle.fits_stream.specs.Agree.{EndsAt, IsOf, ReadsOn, ReadsShort, ReadsSome}
 use Rattle.fits_stream.specs.Log.{Grows, IsEnded, Logs}
 use Rattle.fits_stream.specs.Stored.{ReadLogState}
 use Rattle.fits_stream.specs.Stream.{SinkState, SourceState, Prints, PrintsFront, Reads}
 use Rattle.fits_sum.specs.Words.{word_total}
 use Rattle.fits_plane.specs.DataUnit.{Absence}
+use Rattle.fits_plane.specs.Layout.{block_count}
 use Rattle.fits_plane.specs.Plane.{PlaneState}
 use Rattle.fits_plane.specs.declared.again.CopyFault.{CopyFault}
 use Rattle.fits_plane.specs.declared.again.CopyFault.TheVariants.{Failed, Changed, Write}
@@ -133,8 +134,19 @@ pub record ReadsBack (place : ℕ) (unit : List ℕ) (log log' : ReadLogState) (
 abbrev pub IsUnitRead : List ℕ → Option Absence → ReadLogState → ReadLogState → List ℕ → Type 0
 IsUnitRead unit absent log log' bytes = MatchOption absent (bytes ≡ unit) (λ it. ReadsBack it.place unit log log' bytes)
 
--- a data unit was written, and so it was had
+-- how many blocks are looked at as a data unit is written: those of one that isn't in memory
+abbrev pub copied_blocks : List ℕ → Option Absence → ℕ
+copied_blocks bytes None = 0
+copied_blocks bytes (Some it) = block_count bytes
+
+-- so many blocks were looked at, at most
+pub record Looks (count : ℕ) (log log' : ReadLogState) : Type 0 where
+  pub more : log.looked ≤ log'.looked
+  pub most : log'.looked ≤ log.looked + count
+
+-- a data unit was written, and so it was had; each block of one that isn't in memory was looked at once
 pub record CopiesUnit (plane : PlaneState) (absent : Option Absence) (log log' : ReadLogState) (old new : SinkState) : Type 0 where
   pub bytes : List ℕ
   pub are : IsUnitRead plane.bytes absent log log' bytes
   pub written : Prints bytes old new
+  pub looked : log'.looked ≡ log.looked + copied_blocks plane.bytes absent

@@ -1,10 +1,12 @@
 //! Bytes of a stored file that are read again.
-ghost use Rattle.std.specs.Prelude.{◌≡◌, ◌<◌, ◌≤◌, ◌%◌, ◌^◌, length, IfOk, IfErr, OnOk};
+ghost use Rattle.std.specs.Prelude.{◌≡◌, ◌<◌, ◌≤◌, ◌+◌, ◌*◌, ◌/◌, ◌%◌, ◌^◌, length, IfOk, IfErr, OnOk};
+ghost use Rattle.fits_sum.specs.Words.{word_total};
 ghost use Rattle.fits_stream.specs.Agree.{ReadsOn};
 ghost use Rattle.fits_stream.specs.Stream.{Reads};
-ghost use Rattle.fits_plane.specs.Again.{Copies, CopiesNext, CopyCounts, CopyNextStops, CopyStops, LoadCounts, LoadNextStops, LoadStops};
+ghost use Rattle.fits_plane.specs.Again.{Copies, CopiesNext, CopyCounts, CopyNextStops, CopyStops, LoadCounts, LoadNextStops, LoadStops, Looks};
 
-use fits_stream::{ReadLog, Sink, Source, Stored, StoredSource, fill, write_all};
+use fits_card::BLOCK_LEN;
+use fits_stream::{Count, ReadLog, Sink, Source, Stored, StoredSource, fill, write_all};
 use fits_sum::words_total;
 use std::alloc::Global;
 
@@ -46,10 +48,11 @@ pub(crate) fn read_again<F: Stored>(
     ensures quiet { OnOk result (log.new.failures ≡ log.old.failures) }
     ensures err { IfErr result (LoadStops place len log.old log.new) }
     ensures counted { IfErr result (LoadCounts log.old.failures log.new.failures) }
+    ensures looked { log.new.looked ≡ log.old.looked }
 {
-    let mut source = StoredSource::new(file, place, log.take());
+    let mut source = StoredSource::new(file, place, log.take_reads());
     let read = read_next(alloc, &mut source, len, room);
-    *log = source.into_log();
+    log.put_reads(source.into_log());
     read
 }
 
@@ -89,8 +92,8 @@ fn read_next<R: Source>(
     Ok(bytes)
 }
 
-/// Copies so many bytes of a file from a place on, through a room of whole words, and says the total of
-/// their words.
+/// Copies so many bytes of a file from a place on, in whole blocks, through a room of one block at
+/// least, and says the total of their words. Each block is looked at once for it.
 pub(crate) fn copy_again<F: Stored, W: Sink>(
     file: &F,
     log: &mut ReadLog,
@@ -99,21 +102,24 @@ pub(crate) fn copy_again<F: Stored, W: Sink>(
     room: &mut [u8],
     sink: &mut W,
 ) -> Result<u64, CopyFault>
-    requires wide { 0 < length room.old }
-    requires words { length room.old % 4 ≡ 0 }
-    requires whole { len % 4 ≡ 0 }
+    requires wide { 2880 ≤ length room.old }
+    requires whole { len % 2880 ≡ 0 }
     requires few { len ≤ 2 ^ 34 }
     ensures ok { IfOk result (λ total. Copies place len total log.old log.new
         (W.state sink.old) (W.state sink.new)) }
+    ensures looked { OnOk result (log.new.looked ≡ log.old.looked + len / 2880) }
+    ensures looks { Looks (len / 2880) log.old log.new }
     ensures size { length room.new ≡ length room.old }
     ensures quiet { OnOk result (log.new.failures ≡ log.old.failures) }
     ensures err { IfErr result (CopyStops place len log.old log.new
         (W.state sink.old) (W.state sink.new)) }
     ensures counted { IfErr result (CopyCounts log.old.failures log.new.failures) }
 {
-    let mut source = StoredSource::new(file, place, log.take());
-    let copied = copy_next(&mut source, len, room, sink);
-    *log = source.into_log();
+    let mut looked = log.take_looked();
+    let mut source = StoredSource::new(file, place, log.take_reads());
+    let copied = copy_next(&mut source, len, room, sink, &mut looked);
+    log.put_reads(source.into_log());
+    log.put_looked(looked);
     copied
 }
 
@@ -123,13 +129,16 @@ fn copy_next<R: Source, W: Sink>(
     len: usize,
     room: &mut [u8],
     sink: &mut W,
+    looked: &mut Count,
 ) -> Result<u64, CopyFault>
-    requires wide { 0 < length room.old }
-    requires words { length room.old % 4 ≡ 0 }
-    requires whole { len % 4 ≡ 0 }
+    requires wide { 2880 ≤ length room.old }
+    requires whole { len % 2880 ≡ 0 }
     requires few { len ≤ 2 ^ 34 }
     ensures ok { IfOk result (λ total. CopiesNext len total
         (R.state source.old) (R.state source.new) (W.state sink.old) (W.state sink.new)) }
+    ensures looked { OnOk result (looked.new.total ≡ looked.old.total + len / 2880) }
+    ensures more { looked.old.total ≤ looked.new.total }
+    ensures most { looked.new.total ≤ looked.old.total + len / 2880 }
     ensures size { length room.new ≡ length room.old }
     ensures quiet { OnOk result ((R.state source.new).failures ≡ (R.state source.old).failures) }
     ensures err { IfErr result (CopyNextStops len
@@ -137,10 +146,11 @@ fn copy_next<R: Source, W: Sink>(
     ensures counted { IfErr result
         (CopyCounts (R.state source.old).failures (R.state source.new).failures) }
 {
+    let wide = room.len() / BLOCK_LEN * BLOCK_LEN;
     let mut count = 0;
     let mut total = 0u64;
     while count < len {
-        let most = room.len().min(len - count);
+        let most = wide.min(len - count);
         let (piece, _) = room.split_at_mut(most);
         let Ok(n) = fill(source, piece) else {
             return Err(CopyFault::Failed);
@@ -151,8 +161,20 @@ fn copy_next<R: Source, W: Sink>(
         let Ok(()) = write_all(sink, piece) else {
             return Err(CopyFault::Write);
         };
-        total += words_total(piece);
+        total += total_of(piece, looked);
         count += most;
     }
     Ok(total)
+}
+
+// The total of the words of whole blocks, each of which is looked at.
+fn total_of(blocks: &[u8], looked: &mut Count) -> u64
+    requires whole { length blocks.now % 2880 ≡ 0 }
+    requires few { length blocks.now ≤ 2 ^ 34 }
+    ensures value { result ≡ word_total blocks.now }
+    ensures within { result ≤ 4294967295 * (length blocks.now / 4) }
+    ensures looked { looked.new.total ≡ looked.old.total + length blocks.now / 2880 }
+{
+    looked.add(blocks.len() / BLOCK_LEN);
+    words_total(blocks)
 }

@@ -46,7 +46,7 @@ impl DataUnit {
     ghost use Rattle.fits_stream.specs.Stream.{Prints, PrintsFront};
     ghost use Rattle.fits_sum.specs.Words.{word_total};
     ghost use Rattle.fits_plane.specs.Converting.{can_store_run, kept_numbers, run_made};
-    ghost use Rattle.fits_plane.specs.Again.{CopiesUnit, CopyCounts, CopyFails, CopyWrites, Follows, LoadCounts, PrintsLike};
+    ghost use Rattle.fits_plane.specs.Again.{copied_blocks, CopiesUnit, CopyCounts, CopyFails, CopyWrites, Follows, LoadCounts, Looks, PrintsLike};
     ghost use Rattle.fits_plane.specs.DataUnit.{IsCounted, LiesIn};
     ghost use Rattle.fits_plane.specs.Statistics.{value_statistics};
     ghost use Rattle.fits_plane.specs.Painting.{Paints, Suits};
@@ -325,6 +325,7 @@ impl DataUnit {
             → LiesIn bytes self.old.plane self.old.absent
             → IfErr result (λ why. why ≡ LoadFault.Changed → ⊥) }
         ensures follows { Follows log.old log.new }
+        ensures looked { log.new.looked ≡ log.old.looked }
         ensures room { length room.new ≡ length room.old }
     {
         let Some(it) = self.absent.take() else {
@@ -353,8 +354,7 @@ impl DataUnit {
         room: &mut [u8],
         sink: &mut W,
     ) -> Result<(), CopyFault>
-        requires wide { 0 < length room.old }
-        requires words { length room.old % 4 ≡ 0 }
+        requires { 2880 ≤ length room.old }
         ensures ok { (bytes : List ℕ) → IsOf bytes log.new
             → LiesIn bytes self.now.plane self.now.absent
             → OnOk result (Prints self.now.plane.bytes (W.state sink.old) (W.state sink.new)) }
@@ -371,6 +371,7 @@ impl DataUnit {
         ensures size { length room.new ≡ length room.old }
         ensures quiet { OnOk result (log.new.failures ≡ log.old.failures) }
         ensures counted { IfErr result (CopyCounts log.old.failures log.new.failures) }
+        ensures looks { Looks (copied_blocks self.now.plane.bytes self.now.absent) log.old log.new }
     {
         let Some(it) = &self.absent else {
             return match self.plane.emit(sink) {
@@ -411,6 +412,7 @@ fn plane_again<F: Stored>(
         → take (length it.now.unit.bytes) (drop it.now.place bytes) ≡ it.now.unit.bytes
         → IfErr result (λ why. why ≡ LoadFault.Changed → ⊥) }
     ensures follows { Follows log.old log.new }
+    ensures looked { log.new.looked ≡ log.old.looked }
     ensures room { length room.new ≡ length room.old }
 {
     let layout = it.unit.layout();

@@ -142,21 +142,21 @@ abbrev lent_source : {F : Type 0} → (F → Option (List ℕ)) → Lent F → S
 lent_source tell a = record { remaining = bytes_from a.log.at (tell a.file); log = Some (unskipped a.log); failures = a.failures }
 
 -- a fact of all that it gave is one of each file that its reads may be of
-stored_fact : {F : Type 0} (P : List ℕ → Type 0) (tell : F → Option (List ℕ)) (a b : Lent F) (old new : ReadLogState) → a.log.at ≡ 0 → a.log.came ≡ old.came → a.log.ends ≡ old.ends → new ≡ record { came = b.log.came; ends = b.log.ends; failures = b.failures }
+stored_fact : {F : Type 0} {k : ℕ} (P : List ℕ → Type 0) (tell : F → Option (List ℕ)) (a b : Lent F) (old new : ReadLogState) → a.log.at ≡ 0 → a.log.came ≡ old.came → a.log.ends ≡ old.ends → new ≡ record { came = b.log.came; ends = b.log.ends; failures = b.failures; looked = k }
     → GaveAll (lent_source tell a) (lent_source tell b) P → (xs : List ℕ) → IsOf xs new → P xs
 stored_fact P tell a b old new at came ends is gave xs of =
     gave_of P xs a.log b.log (lent_source tell a) (lent_source tell b) old new refl refl at (sym came) (sym ends) (ap (λ (l : ReadLogState). l.came) is) (ap (λ (l : ReadLogState). l.ends) is) gave of
 
 -- so each is what came
-pub stored_of : {F : Type 0} (tell : F → Option (List ℕ)) (a b : Lent F) (i : IntakeState) (old new : ReadLogState) (limit : ℕ) (file : List ℕ) → a.log.at ≡ 0 → a.log.came ≡ old.came → a.log.ends ≡ old.ends
-    → new ≡ record { came = b.log.came; ends = b.log.ends; failures = b.failures } → i ≡ record { ahead = []; left = limit }
+pub stored_of : {F : Type 0} {k : ℕ} (tell : F → Option (List ℕ)) (a b : Lent F) (i : IntakeState) (old new : ReadLogState) (limit : ℕ) (file : List ℕ) → a.log.at ≡ 0 → a.log.came ≡ old.came → a.log.ends ≡ old.ends
+    → new ≡ record { came = b.log.came; ends = b.log.ends; failures = b.failures; looked = k } → i ≡ record { ahead = []; left = limit }
     → (i.ahead ≡ [] → Gave (lent_source tell a) (lent_source tell b) file) → (xs : List ℕ) → IsOf xs new → xs ≡ file
 stored_of tell a b i old new limit file at came ends is begun gave xs of =
     stored_fact (λ t. t ≡ file) tell a b old new at came ends is (gave_fact (λ t. t ≡ file) (lent_source tell a) (lent_source tell b) file (gave (ap (λ (k : IntakeState). k.ahead) begun)) refl) xs of
 
 -- and has the fault for which it isn't opened
-pub stored_stops : {F : Type 0} (tell : F → Option (List ℕ)) (a b : Lent F) (i : IntakeState) (old new : ReadLogState) (why : ReadFileFault) → a.log.at ≡ 0 → a.log.came ≡ old.came → a.log.ends ≡ old.ends → a.failures ≡ old.failures
-    → new ≡ record { came = b.log.came; ends = b.log.ends; failures = b.failures } → SupplyStops (supply (lent_source tell a) i) (lent_source tell b) why → GaveFault (lent_source tell a) (lent_source tell b) why → StoredStops old new why
+pub stored_stops : {F : Type 0} {k : ℕ} (tell : F → Option (List ℕ)) (a b : Lent F) (i : IntakeState) (old new : ReadLogState) (why : ReadFileFault) → a.log.at ≡ 0 → a.log.came ≡ old.came → a.log.ends ≡ old.ends → a.failures ≡ old.failures
+    → new ≡ record { came = b.log.came; ends = b.log.ends; failures = b.failures; looked = k } → SupplyStops (supply (lent_source tell a) i) (lent_source tell b) why → GaveFault (lent_source tell a) (lent_source tell b) why → StoredStops old new why
 stored_stops tell a b i old new (Open NotFits) at came ends same is p q =
     (stored_fact (λ s. HasOpenFault s NotFits) tell a b old new at came ends is q, ap (λ (l : ReadLogState). l.failures) is ∙ p.1.quiet ∙ same)
 stored_stops tell a b i old new (Open (NoEnd h)) at came ends same is p q =
@@ -171,7 +171,7 @@ stored_stops tell a b i old new (Open Memory) at came ends same is p q = ap (λ 
 stored_stops tell a b i old new Failed at came ends same is p q = ap (λ (l : ReadLogState). l.failures) is ∙ p.failed ∙ ap (λ n. n + 1) same
 
 -- and the log goes on
-pub stored_follows : {F : Type 0} (a b : Lent F) (old new : ReadLogState) → a.log.at ≡ 0 → a.log.came ≡ old.came → a.log.ends ≡ old.ends → new ≡ record { came = b.log.came; ends = b.log.ends; failures = b.failures }
+pub stored_follows : {F : Type 0} {k : ℕ} (a b : Lent F) (old new : ReadLogState) → a.log.at ≡ 0 → a.log.came ≡ old.came → a.log.ends ≡ old.ends → new ≡ record { came = b.log.came; ends = b.log.ends; failures = b.failures; looked = k }
     → Grows (Some (unskipped a.log)) (Some (unskipped b.log)) → Follows old new
 stored_follows a b old new at came ends is grows =
     let some = again_some a b 0 old new at came ends is grows in follows_on 0 old new some.bytes some.read

@@ -1,5 +1,5 @@
 ghost use Rattle.std.specs.Prelude.{◌≡◌, ◌+◌, ℕ, List, None, Bool, true, false, length, IfErr, IsOk, OnErr, OnOk};
-ghost use Rattle.fits_plane.specs.Again.{CopyCounts, CopyFails, CopyWrites, Follows, LoadCounts, PrintsLike};
+ghost use Rattle.fits_plane.specs.Again.{copied_blocks, CopyCounts, CopyFails, CopyWrites, Follows, LoadCounts, Looks, PrintsLike};
 ghost use Rattle.fits_session.specs.Away.{AgreeOn};
 ghost use Rattle.fits_stream.specs.Stream.{Prints};
 ghost use Rattle.fits_hdu.specs.Hdu.{hdu_bytes};
@@ -55,6 +55,7 @@ pub trait Holder {
         ensures all_read { OnOk result (hdu.new.header.reads
             ≡ hdu.old.header.reads + length hdu.old.header.header.cards) }
         ensures writes { IfErr result (CopyWrites (W.state sink.old) (W.state sink.new)) }
+        ensures looks { Looks (copied_blocks hdu.old.plane.bytes hdu.old.absent) log.old log.new }
         ensures follows { Follows log.old log.new };
 }
 

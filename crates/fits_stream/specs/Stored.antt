@@ -56,8 +56,10 @@ pub record LentAt (F : Type 0) : Type 0 where
   pub file : F
   pub log : Log
 
--- reads of a stored file: what came, each byte with its place, the places at which none did, and how many failed
+-- reads of a stored file: what came, each byte with its place, the places at which none did, how many failed, and how many blocks of what
+-- came were looked at as it was copied
 pub record ReadLogState : Type 0 where
   pub came : List (ℕ × ℕ)
   pub ends : List ℕ
   pub failures : ℕ
+  pub looked : ℕ

@@ -54,13 +54,14 @@ impl<'f, F> StoredSource<'f, F> {
 
     /// The bytes from this place on. It goes on with the log.
     pub fn new(file: &'f F, place: u64, log: ReadLog) -> StoredSource<'f, F>
+        requires { log.looked ≡ 0 }
         ensures file { result.file ≡ file.now }
         ensures place { result.log.at ≡ place }
         ensures came { result.log.came ≡ log.came }
         ensures ends { result.log.ends ≡ log.ends }
         ensures failures { result.failures ≡ log.failures }
     {
-        let ReadLog { came, failed } = log;
+        let ReadLog { came, failed, .. } = log;
         StoredSource {
             at: AtPlace::new(file, place, came),
             failed,
@@ -69,12 +70,13 @@ impl<'f, F> StoredSource<'f, F> {
 
     /// The log, with its own reads.
     pub fn into_log(self) -> ReadLog
-        ensures { result ≡ record { came = self.entry.log.came; ends = self.entry.log.ends; failures = self.entry.failures } }
+        ensures { result ≡ record { came = self.entry.log.came; ends = self.entry.log.ends; failures = self.entry.failures; looked = 0 } }
     {
         let StoredSource { at, failed } = self;
         ReadLog {
             came: at.into_came(),
             failed,
+            looked: Count::new(),
         }
     }
 }

@@ -197,7 +197,7 @@ fn check_unit<R: Abort + AllocGlobal, F: Stored>(
     same!(rt; found.is_counted(), found.is_held());
     found.set_blank(layout.blank);
     check_answers(rt, found, bytes, layout)?;
-    let mut room = [0u8; 400];
+    let mut room = [0u8; 3000];
     let mut sink = writer(rt.alloc(), SMOOTH);
     let log = &mut ReadLog::none();
     holds!(rt; found.emit_from(file, log, &mut room, &mut sink).is_ok());

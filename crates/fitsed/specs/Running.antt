@@ -25,7 +25,7 @@ pub record Streams : Type 0 where
 
 -- no read of a file was made
 abbrev pub unread : ReadLogState
-unread = record { came = []; ends = []; failures = 0 }
+unread = record { came = []; ends = []; failures = 0; looked = 0 }
 
 -- a run over a file that stays where it is: by what its reads gave, first and again
 pub record RunsByPlaces (terms : Terms) (old new : Streams) (done : Result Edited Fault) : Type 0 where

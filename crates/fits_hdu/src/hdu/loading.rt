@@ -6,10 +6,10 @@ use fits_stream::{ReadLog, Sink, Stored};
 use std::alloc::{AllocError, Global};
 
 impl Hdu {
-    ghost use Rattle.std.specs.Prelude.{◌≡◌, ◌+◌, ◌%◌, ◌<◌, ◌↔◌, ℕ, List, length, None, IfOk, IfErr, IfSome, IsOk, IsTrue, OnOk, OnErr};
+    ghost use Rattle.std.specs.Prelude.{◌≡◌, ◌≤◌, ◌+◌, ◌%◌, ◌<◌, ◌↔◌, ℕ, List, length, None, IfOk, IfErr, IfSome, IsOk, IsTrue, OnOk, OnErr};
     ghost use Rattle.fits_stream.specs.Agree.{IsOf, ReadsOn};
     ghost use Rattle.fits_stream.specs.Stream.{Prints};
-    ghost use Rattle.fits_plane.specs.Again.{CopyCounts, CopyFails, CopyWrites, Follows, LoadCounts, PrintsLike};
+    ghost use Rattle.fits_plane.specs.Again.{copied_blocks, CopyCounts, CopyFails, CopyWrites, Follows, LoadCounts, Looks, PrintsLike};
     ghost use Rattle.fits_plane.specs.DataUnit.{IsCounted, LiesIn};
     ghost use Rattle.fits_plane.specs.Layout.{block_count};
     ghost use Rattle.fits_hdu.specs.Hdu.{hdu_bytes};
@@ -95,8 +95,7 @@ impl Hdu {
         room: &mut [u8],
         sink: &mut W,
     ) -> Result<(), CopyFault>
-        requires wide { 0 < length room.old }
-        requires words { length room.old % 4 ≡ 0 }
+        requires { 2880 ≤ length room.old }
         ensures ok { (bytes : List ℕ) → IsOf bytes log.new
             → LiesIn bytes self.old.plane self.old.absent
             → OnOk result (Prints (hdu_bytes (parts_of self.old))
@@ -114,6 +113,7 @@ impl Hdu {
         ensures size { length room.new ≡ length room.old }
         ensures quiet { OnOk result (log.new.failures ≡ log.old.failures) }
         ensures counted { IfErr result (CopyCounts log.old.failures log.new.failures) }
+        ensures looks { Looks (copied_blocks self.old.plane.bytes self.old.absent) log.old log.new }
 
         // The HDU stays, and each card is read once at most.
         ensures work { ReadsUpTo self.old self.new (length self.old.header.header.cards) }

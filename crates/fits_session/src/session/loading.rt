@@ -44,9 +44,9 @@ impl<'f, F: Stored> Session<InFile<'f, F>> {
     {
         let holder = InFile::new(alloc, file)?;
         let intake = Intake::new(alloc, FILE_LIMIT as usize)?;
-        let mut source = StoredSource::new(file, 0, log.take());
+        let mut source = StoredSource::new(file, 0, log.take_reads());
         let read = read_away(alloc, intake, &mut source);
-        *log = source.into_log();
+        log.put_reads(source.into_log());
         let parts = read?;
         Ok(Session::of(alloc, parts, holder)?)
     }

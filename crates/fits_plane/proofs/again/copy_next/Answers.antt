@@ -1,20 +1,21 @@
 use Rattle.std.proofs.Common.{◌≡◌, ◌-◌, ◌%◌, ◌++◌, ◌∙◌, length, arith, [], refl}
 use Rattle.std.proofs.lemmas.List.{length-append}
 use Rattle.fits_stream.proofs.StreamLemmas.{Prints-more, Prints-none, PrintsFront-more, Reads-none}
-use Rattle.fits_plane.proofs.AgainLemmas.{came_more, copied_more, least_words, next_failed, next_short, next_stopped}
+use Rattle.fits_plane.proofs.AgainLemmas.{came_more, copied_more, least_blocks, next_failed, next_short, next_stopped}
 use Rattle.fits_plane.proofs.again.copy_next.Goals as goal
 
 pub loop-count-init : goal.loop-count-init
 loop-count-init g c = record {
   done = [];
   size = refl;
-  words = refl;
+  blocks = refl;
   within = omega arith;
   read = Reads-none _;
   written = Prints-none _;
   total_is = refl;
   bounded = omega arith;
   wide = refl;
+  looked = omega arith;
 }
 
 pub returns-in_default-write_all-clause-err : goal.returns-in_default-write_all-clause-err
@@ -30,17 +31,18 @@ loop-count-preserved g c =
     let inv = c.loop-count.invariant in
     let piece = c.fill.new.room in
     let long : length piece ≡ c.min-most.result = omega (arith, c.fill.ensures.size, c.split_at_mut-piece.ensures.front_len, c.min-most.ensures, c.in-Ok.ensures.within, c.if-n-most.false) in
-    let words : c.min-most.result % 4 ≡ 0 = least_words c.min-most.result (length c.loop-count.room) (c.args.len - c.loop-count.count) c.min-most.ensures (omega (arith, inv.wide, c.requires.words)) (omega (arith, c.requires.whole, inv.words, inv.within)) in
+    let blocks : c.min-most.result % 2880 ≡ 0 = least_blocks c.min-most.result _ (c.args.len - c.loop-count.count) c.min-most.ensures (omega arith) (omega (arith, c.requires.whole, inv.blocks, inv.within)) in
     record {
       done = inv.done ++ piece;
       size = omega (arith, length-append inv.done piece, inv.size, long);
-      words = omega (arith, inv.words, words);
+      blocks = omega (arith, inv.blocks, blocks);
       within = omega (arith, c.min-most.ensures, inv.within);
       read = came_more (g.R.Source.state c.args.source.now) _ _ inv.done piece c.in-Ok.n inv.read c.in-Ok.ensures.ok (omega (arith, long, c.if-n-most.false));
       written = Prints-more _ _ _ inv.done piece inv.written c.in-Ok-write_all.ensures.ok;
-      total_is = copied_more inv.done piece _ _ inv.total_is c.words_total-total.ensures.value (omega (arith, inv.size, inv.words));
-      bounded = omega (arith, inv.bounded, c.words_total-total.ensures.within, long, inv.words, words);
+      total_is = copied_more inv.done piece _ _ inv.total_is c.total_of-total.ensures.value (omega (arith, inv.size, inv.blocks));
+      bounded = omega (arith, inv.bounded, c.total_of-total.ensures.within, long, inv.blocks, blocks);
       wide = omega (arith, length-append piece c.split_at_mut-piece.result.1.now, c.fill.ensures.size, c.split_at_mut-piece.ensures.front_len, c.split_at_mut-piece.ensures.back_len, inv.wide);
+      looked = omega (arith, c.total_of-total.ensures.looked, inv.looked, long, inv.blocks, blocks);
     }
 
 pub returns-clause-ok : goal.returns-clause-ok

@@ -26,4 +26,4 @@ pub returns-clause-writes : goal.returns-clause-writes
 returns-clause-writes g c = IfErr-weaker c.emit_from.result _ _ (λ why wrote. writes_more (header_bytes c.self.inside.header.header) _ _ _ why c.in-Ok.ensures.ok wrote) c.emit_from.ensures.writes
 
 pub returns-clause-copied : goal.returns-clause-copied
-returns-clause-copied g c = rw (← c.self.view_is) (on_ok_weaker c.emit_from.result (λ unit. record { unit = unit.bytes; are = unit.are; written = Prints-more _ _ _ _ unit.bytes c.in-Ok.ensures.ok unit.written }) c.emit_from.ensures.copied)
+returns-clause-copied g c = rw (← c.self.view_is) (on_ok_weaker c.emit_from.result (λ unit. record { unit = unit.bytes; are = unit.are; written = Prints-more _ _ _ _ unit.bytes c.in-Ok.ensures.ok unit.written; looked = unit.looked }) c.emit_from.ensures.copied)

@@ -1,4 +1,4 @@
-use Rattle.std.proofs.Common.{rules, ◌≡◌, ◌∙◌, ap, sym, subst, take, drop, length}
+use Rattle.std.proofs.Common.{rules, ◌≡◌, ◌+◌, ◌/◌, ◌∙◌, ap, sym, subst, take, drop, length}
 use Rattle.std.proofs.lemmas.Result.{err_from_is_err_and}
 use Rattle.fits_stream.specs.Stream.{Prints}
 use Rattle.fits_sum.specs.Words.{word_total}
@@ -54,4 +54,4 @@ returns-clause-copied g c =
     let unit = c.in-Some.it.unit in
     let back : ReadsBack c.in-Some.it.place unit.bytes c.args.log.now c.copy_again.new.log p.bytes =
     record { read = p.read; size = p.size ∙ c.byte_len.ensures; total = sym p.total_is ∙ c.if-total.false ∙ c.total.ensures } in
-    record { bytes = p.bytes; are = rw (← c.self.view_is, c.in-Some.is) back; written = p.written }
+    record { bytes = p.bytes; are = rw (← c.self.view_is, c.in-Some.is) back; written = p.written; looked = rw (← c.self.view_is, c.in-Some.is) (c.in_ok-total.ensures.looked ∙ ap (λ n. c.args.log.now.looked + n / 2880) c.byte_len.ensures) }
