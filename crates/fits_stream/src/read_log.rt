@@ -9,7 +9,8 @@ use std::mem;
 /// how many reads failed, and how many blocks of what came were looked at as it was copied. It takes
 /// no bytes, and only contracts see it.
 ///
-/// Outside this crate it can only be begun anew with none: a `StoredSource` goes on with it.
+/// Outside this crate nothing can be added to its reads: a `StoredSource` goes on with them, and they
+/// are put back.
 #[derive(Drop)]
 pub struct ReadLog {
     pub(crate) came: Came,

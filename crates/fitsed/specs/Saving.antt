@@ -9,7 +9,7 @@ use Rattle.fits_cli.specs.declared.edited.Edited.TheVariants.{Done, KeptBack, Un
 use Rattle.fits_cli.specs.declared.fault.Fault.{Fault}
 use Rattle.fits_cli.specs.declared.fault.Fault.TheVariants.{WriteFailed}
 
--- the result is saved: a fault ended the run, or something kept the result back, or it is
+-- the result is saved: no fault ended the run, and nothing kept the result back
 abbrev pub is_saved : Result Edited Fault → Bool
 is_saved (Ok (Done status)) = true
 is_saved (Ok (KeptBack undone)) = false
