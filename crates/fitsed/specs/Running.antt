@@ -3,12 +3,13 @@ use Rattle.std.specs.Prelude.{◌≡◌, ◌⊎◌, Bool, true, false, [], Optio
 use Rattle.fits_stream.specs.Log.{unbegun}
 use Rattle.fits_stream.specs.Stored.{ReadLogState}
 use Rattle.fits_stream.specs.Stream.{SinkState, SourceState}
-use Rattle.fits_cli.specs.Ends.{run_by, EndsAs, EndsBy, OverReads, RemarksBy, RemarksEndAs}
+use Rattle.fits_cli.specs.Ends.{end_of, run_by, EndsAs, EndsBy, OverReads, RemarksBy, RemarksEndAs}
 use Rattle.fits_cli.specs.Frame.{AsksLeave, LeavesAs}
 use Rattle.fits_cli.specs.Terms.{asking}
 use Rattle.fits_cli.specs.declared.edited.Edited.{Edited}
 use Rattle.fits_cli.specs.declared.end.End.{End}
 use Rattle.fits_cli.specs.declared.fault.Fault.{Fault}
+use Rattle.fits_cli.specs.declared.fault.Fault.TheVariants.{Memory, ReadFailed, WriteFailed}
 use Rattle.fits_cli.specs.declared.level.Level.{Level}
 use Rattle.fits_cli.specs.declared.level.Level.TheVariants.{All, Errors, Quiet}
 use Rattle.fits_cli.specs.declared.saves.Saves.TheVariants.{Made}
@@ -68,10 +69,9 @@ pub record EditsFile (asked : SavingTerms) (script script' : SourceState) (out o
   pub runs : Runs (terms_by asked spare) (record { script = script; out = out; saved = saved; told = told }) (record { script = script'; out = out'; saved = holds; told = told_after }) done
   pub kept : StandsOrFails done ended
 
--- none was begun: no other stream was touched
+-- none was begun, for want of memory, of the file or of its place: no other stream was touched
 pub record EditsNothing (script script' : SourceState) (out out' : SinkState) (ended : Result Edited Fault) : Type 0 where
-  pub why : Fault
-  pub failed : ended ≡ Err why
+  pub failed : (ended ≡ Err Memory) ⊎ ((ended ≡ Err ReadFailed) ⊎ (ended ≡ Err WriteFailed))
   pub script_is : script' ≡ script
   pub out_is : out' ≡ out
 
@@ -98,10 +98,9 @@ pub record AsksThrough (script script' : SourceState) (out out' : SinkState) (en
   pub ends : (saved : SinkState) → EndsAs (run_by asking false file script out) (run_by asking false after script' out') saved saved end
   pub remarks : RemarksEndAs asking file after script script' told told_after end
 
--- none was begun: no other stream was touched
+-- none was begun, for want of memory: no other stream was touched
 pub record AsksNothing (script script' : SourceState) (out out' : SinkState) (end : End) : Type 0 where
-  pub why : Fault
-  pub failed : end.fault ≡ Some why
+  pub is : end ≡ end_of (Err Memory)
   pub script_is : script' ≡ script
   pub out_is : out' ≡ out
 
