@@ -1,7 +1,7 @@
 -- What lines print, put together.
 use Rattle.std.proofs.Common.{◌≡◌, ℕ, ◌+◌, ◌<◌, ◌≤◌, List, [], ◌∷◌, ◌++◌, length, take, get_or, refl, ap, sym, ◌∙◌, append_assoc, arith, suc}
 use Rattle.std.proofs.lemmas.List.{append-nil, get_or_default, take_all, take_more, length-take-le}
-use Rattle.fits_session.specs.declared.offsets.HduOffsets.{HduOffsets}
+use Rattle.fits_passing.specs.declared.offsets.HduOffsets.{HduOffsets}
 use Rattle.fits_cli.specs.Answer.{offset_line, offset_lines}
 
 -- lines of offsets, and of more

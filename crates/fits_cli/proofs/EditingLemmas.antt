@@ -11,29 +11,29 @@ use Rattle.fits_stream.specs.Log.{Logs}
 use Rattle.fits_stream.proofs.LogLemmas.{Logs-none}
 use Rattle.fits_stream.proofs.StreamLemmas.{Consumes-none, quiet_none, quiet_read}
 use Rattle.std.proofs.lemmas.List.{append-nil, take_all}
-use Rattle.fits_session.specs.File.{file_bytes, FileParts, IsFile, IsFileOf}
-use Rattle.fits_session.specs.Opening.{HasOpenFault}
-use Rattle.fits_session.specs.Reading.{GaveFault, ReadStops}
-use Rattle.fits_session.specs.declared.open_fault.OpenFault.{OpenFault}
-use Rattle.fits_session.specs.declared.open_fault.OpenFault.TheVariants.{NotFits, NoEnd, BadShape, ShortData, TooLarge, Memory as OpenMemory}
-use Rattle.fits_session.specs.declared.read_fault.ReadFileFault.{ReadFileFault}
-use Rattle.fits_session.specs.declared.read_fault.ReadFileFault.TheVariants.{Open, Failed}
+use Rattle.fits_passing.specs.File.{file_bytes, FileParts, IsFile, IsFileOf}
+use Rattle.fits_passing.specs.Opening.{HasOpenFault}
+use Rattle.fits_passing.specs.Reading.{GaveFault, ReadStops}
+use Rattle.fits_passing.specs.declared.open_fault.OpenFault.{OpenFault}
+use Rattle.fits_passing.specs.declared.open_fault.OpenFault.TheVariants.{NotFits, NoEnd, BadShape, ShortData, TooLarge, Memory as OpenMemory}
+use Rattle.fits_passing.specs.declared.read_file_fault.ReadFileFault.{ReadFileFault}
+use Rattle.fits_passing.specs.declared.read_file_fault.ReadFileFault.TheVariants.{Open, Failed}
 use Rattle.fits_cli.specs.Answer.{Standing, at_first_line}
 use Rattle.fits_cli.specs.Ends.{end_of, RunState, AreToldOf, FlushesOrFails, GaveFile, IsQuiet, HasLines, LacksPixels, IsRefused, AnswersFail, RemarksBy, RemarksEndAs, StopsBy}
-use Rattle.fits_cli.specs.Faults.{fault_of_file}
+use Rattle.fits_tell.specs.Faults.{fault_of_file}
 use Rattle.fits_cli.specs.Terms.{check_of}
 use Rattle.fits_cli.specs.declared.edited.Edited.{Edited}
-use Rattle.fits_cli.specs.declared.level.Level.TheVariants.{Quiet}
-use Rattle.fits_session.specs.Report.{report_of}
-use Rattle.fits_session.specs.declared.problem.Problem.{Problem}
+use Rattle.fits_tell.specs.declared.level.Level.TheVariants.{Quiet}
+use Rattle.fits_passing.specs.Report.{report_of}
+use Rattle.fits_passing.specs.declared.problem.Problem.{Problem}
 use Rattle.fits_cli.specs.declared.limits.TheConstants.{SCRIPT_LIMIT}
 use Rattle.fits_cli.specs.Remark.{remarks, Remarks}
 use Rattle.fits_cli.specs.Output.{Output, answers, standing_after, output_unopened, output_of_lines, output_too_long, IsOutputOf}
 use Rattle.fits_cli.specs.Running.{Heard, heard, AnswersScript, AnswersTooLong, NeedsMemoryAt, ScriptLacksPixels, ScriptReadFails, ScriptWriteFails, ScriptStops, FlushesThen, FlushesAnswers, IsAnsweredRun}
 use Rattle.fits_cli.specs.Script.{script_lines}
-use Rattle.fits_cli.specs.declared.fault.Fault.{Fault}
-use Rattle.fits_cli.specs.declared.fault.Fault.TheVariants.{Refused, ScriptTooLong, Memory, ReadFailed, WriteFailed, Reread as RereadFault}
-use Rattle.fits_cli.specs.declared.reread.Reread.{Reread}
+use Rattle.fits_tell.specs.declared.fault.Fault.{Fault}
+use Rattle.fits_tell.specs.declared.fault.Fault.TheVariants.{Refused, ScriptTooLong, Memory, ReadFailed, WriteFailed, Reread as RereadFault}
+use Rattle.fits_tell.specs.declared.reread.Reread.{Reread}
 use Rattle.fits_cli.specs.declared.terms.Terms.{Terms}
 use Rattle.fits_cli.specs.Faults.{IsOnce}
 use Rattle.fits_cli.proofs.LinesLemmas.{IsCutInLines-none}

@@ -5,32 +5,32 @@ use Rattle.std.specs.Result.{IsErrAnd}
 use Rattle.std.proofs.lemmas.Result.{err_from_is_err_and}
 use Rattle.fits_stream.specs.Stream.{SourceState, SinkState, Prints, PrintsFront}
 use Rattle.fits_stream.proofs.StreamLemmas.{quiet_read, Prints-flushed}
-use Rattle.fits_session.specs.File.{file_bytes, FileParts}
-use Rattle.fits_session.specs.Report.{report_of}
-use Rattle.fits_session.specs.declared.problem.Problem.{Problem}
+use Rattle.fits_passing.specs.File.{file_bytes, FileParts}
+use Rattle.fits_passing.specs.Report.{report_of}
+use Rattle.fits_passing.specs.declared.problem.Problem.{Problem}
 use Rattle.fits_session.proofs.OrderLemmas.{in_order}
 use Rattle.fits_cli.specs.Answer.{Standing, at_first_line}
 use Rattle.fits_cli.specs.Ends.{end_of, EndsAs, EndsBy, FailsBy, IsDue, IsKeptBack, IsSaved, IsUnsound, NewErrorsFail, ReachesEnd, RunState, StopsBy, Succeeds}
 use Rattle.fits_cli.specs.Faults.{IsOnce, SaveFails}
 use Rattle.fits_cli.specs.NewErrors.{new_error_lines, new_errors, HasMoreErrors}
 use Rattle.fits_cli.specs.Output.{answers, output_of_lines, Output, saved_bytes, standing_after, status_of}
-use Rattle.fits_cli.specs.Report.{errors_in, warnings_in}
+use Rattle.fits_tell.specs.Report.{errors_in, warnings_in}
 use Rattle.fits_cli.specs.Running.{heard, IsAnsweredRun}
 use Rattle.fits_cli.specs.Script.{script_lines}
 use Rattle.fits_cli.specs.Terms.{asking, check_of, holds_back, is_whole}
 use Rattle.fits_cli.specs.Ends.{run_by}
 use Rattle.fits_cli.specs.declared.edited.Edited.{Edited}
 use Rattle.fits_cli.specs.declared.edited.Edited.TheVariants.{Done, KeptBack, Unsound}
-use Rattle.fits_cli.specs.declared.fault.Fault.{Fault}
-use Rattle.fits_cli.specs.declared.fault.Fault.TheVariants.{Memory, Reread as RereadFault}
-use Rattle.fits_cli.specs.declared.level.Level.{Level}
-use Rattle.fits_cli.specs.declared.level.Level.TheVariants.{Quiet}
-use Rattle.fits_cli.specs.declared.reread.Reread.TheVariants as again
+use Rattle.fits_tell.specs.declared.fault.Fault.{Fault}
+use Rattle.fits_tell.specs.declared.fault.Fault.TheVariants.{Memory, Reread as RereadFault}
+use Rattle.fits_tell.specs.declared.level.Level.{Level}
+use Rattle.fits_tell.specs.declared.level.Level.TheVariants.{Quiet}
+use Rattle.fits_tell.specs.declared.reread.Reread.TheVariants as again
 use Rattle.fits_cli.specs.declared.saves.Saves.{Saves}
 use Rattle.fits_cli.specs.declared.saves.Saves.TheVariants.{Made, Nothing}
 use Rattle.fits_cli.proofs.EditingLemmas.{output_whole, script_told}
 use Rattle.fits_cli.proofs.NewErrorLemmas.{more-new, more_counts, new-more}
-use Rattle.fits_cli.proofs.ReportLemmas.{all_counted}
+use Rattle.fits_tell.proofs.ReportLemmas.{all_counted}
 use Rattle.fits_cli.proofs.ResultLemmas.{lines_file}
 
 -- the run at the end of its script

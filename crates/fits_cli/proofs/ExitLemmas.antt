@@ -1,31 +1,17 @@
 -- What a function returns where it passes a fault on.
 use Rattle.std.proofs.Common.{◌≡◌, ◌⊎◌, ℕ, Bool, List, Result, Ok, Err, false, inl, inr, refl, true}
 use Rattle.std.specs.Prelude.{not}
-use Rattle.std.specs.Result.{IfErr, IsErrAnd, OnOk}
-use Rattle.std.proofs.lemmas.Result.{err_from_is_err_and}
-use Rattle.fits_cli.specs.Faults.{PrintFails}
+use Rattle.std.specs.Result.{IfErr, IsErrAnd}
+use Rattle.fits_tell.specs.Faults.{PrintFails}
 use Rattle.fits_stream.specs.Stream.{SinkState, PrintsFront}
-use Rattle.fits_cli.specs.declared.fault.Fault.{Fault}
-use Rattle.fits_cli.specs.declared.fault.Fault.TheVariants.{WriteFailed}
-
--- what is so of the fault is so of the result
-pub at_exit : {T E : Type 0} (r : Result T E) (P : E → Type 0) (why : E) → IsErrAnd r (λ e. e ≡ why) → P why → IfErr r P
-at_exit r P why is here = let exit = err_from_is_err_and r is in rw (exit.1, exit.2) here
+use Rattle.fits_tell.specs.declared.fault.Fault.{Fault}
+use Rattle.fits_tell.specs.declared.fault.Fault.TheVariants.{WriteFailed}
+use Rattle.fits_tell.proofs.ExitLemmas.{at_exit}
 
 -- a failed write that is passed on
 pub print_exit : {T : Type 0} (r : Result T Fault) (text : List ℕ) (a b : SinkState) (why : Fault) → IsErrAnd r (λ e. e ≡ why) → why ≡ WriteFailed → PrintsFront text a b
     → IfErr r (PrintFails text a b)
 print_exit r text a b why is write front = at_exit r (PrintFails text a b) why is (write, front)
-
--- what follows where a call is the last one, and is done
-pub last_ok : {T E P Q : Type 0} (r : Result T E) → OnOk r P → (P → Q) → OnOk r Q
-last_ok (Ok x) p f = f p
-last_ok (Err e) p f = p
-
--- and where it fails
-pub last_err : {T E : Type 0} {P Q : E → Type 0} (r : Result T E) → IfErr r P → ((why : E) → P why → Q why) → IfErr r Q
-last_err (Ok x) p f = p
-last_err (Err e) p f = f e p
 
 -- a write that is the last call, of a text that ends a whole
 pub print_last : {T : Type 0} (r : Result T Fault) (text whole : List ℕ) (a b c : SinkState) → IfErr r (PrintFails text b c) → (PrintsFront text b c → PrintsFront whole a c) → IfErr r (PrintFails whole a c)

@@ -7,19 +7,19 @@ use Rattle.fits_plane.specs.declared.again.CopyFault.{CopyFault}
 use Rattle.fits_plane.specs.declared.again.CopyFault.TheVariants.{Failed, Changed, Write}
 use Rattle.fits_stream.specs.Stream.{SinkState, SourceState, FailsToFlush, Flushes, StaysQuiet}
 use Rattle.fits_stream.proofs.StreamLemmas.{Prints-flushed, Prints-more, Prints-none, PrintsFront-more, PrintsFront-unflushed, quiet_none}
-use Rattle.fits_session.specs.declared.open_fault.OpenFault.TheVariants.{NotFits, NoEnd, BadShape, ShortData, TooLarge, Memory as OpenMemory}
-use Rattle.fits_session.specs.declared.read_fault.ReadFileFault.{ReadFileFault}
-use Rattle.fits_session.specs.declared.read_fault.ReadFileFault.TheVariants as opening
+use Rattle.fits_passing.specs.declared.open_fault.OpenFault.TheVariants.{NotFits, NoEnd, BadShape, ShortData, TooLarge, Memory as OpenMemory}
+use Rattle.fits_passing.specs.declared.read_file_fault.ReadFileFault.{ReadFileFault}
+use Rattle.fits_passing.specs.declared.read_file_fault.ReadFileFault.TheVariants as opening
 use Rattle.fits_cli.specs.Answer.{Standing}
-use Rattle.fits_cli.specs.Faults.{fault_of_copy, fault_of_file, FlushFails, PrintFails}
+use Rattle.fits_tell.specs.Faults.{fault_of_copy, fault_of_file, FlushFails, PrintFails}
 use Rattle.fits_cli.specs.Ends.{end_of}
 use Rattle.fits_cli.specs.Frame.{AnswersLeave, AsksLeave, EndLeaves, IsUnanswered, LeavesAs, LeavesFault, LinesLeave, PrintsPart, PrintsSome, ResultLeaves, SavingLeaves, ScriptAnswers, ScriptLeaves}
 use Rattle.fits_cli.specs.Output.{saved_bytes}
 use Rattle.fits_cli.specs.Running.{FlushesAnswers}
 use Rattle.fits_cli.specs.declared.edited.Edited.{Edited}
-use Rattle.fits_cli.specs.declared.fault.Fault.{Fault}
-use Rattle.fits_cli.specs.declared.fault.Fault.TheVariants.{Refused, ScriptTooLong, Memory, ReadFailed, WriteFailed, Reread as RereadFault}
-use Rattle.fits_cli.specs.declared.level.Level.{Level}
+use Rattle.fits_tell.specs.declared.fault.Fault.{Fault}
+use Rattle.fits_tell.specs.declared.fault.Fault.TheVariants.{Refused, ScriptTooLong, Memory, ReadFailed, WriteFailed, Reread as RereadFault}
+use Rattle.fits_tell.specs.declared.level.Level.{Level}
 use Rattle.fits_cli.specs.declared.saves.Saves.{Saves}
 use Rattle.fits_cli.specs.declared.saves.Saves.TheVariants.{Made}
 use Rattle.fits_cli.specs.declared.terms.Terms.{Terms}

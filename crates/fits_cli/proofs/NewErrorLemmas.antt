@@ -16,13 +16,13 @@ use Rattle.std.proofs.lemmas.Map.Views.{any-filter_same}
 use Rattle.fits_codes.specs.Code.{is_error, number}
 use Rattle.fits_codes.specs.declared.code.Code.{Code}
 use Rattle.fits_codes.specs.declared.code.Code.TheVariants.{NotText}
-use Rattle.fits_session.specs.declared.problem.Problem.{Problem}
-use Rattle.fits_session.specs.Report.{IsListedBefore}
-use Rattle.fits_cli.specs.Report.{errors_in, lists, warnings_in}
-use Rattle.fits_cli.specs.declared.level.Level.{Level}
-use Rattle.fits_cli.specs.declared.level.Level.TheVariants.{All as AllOfThem, Errors, Quiet}
+use Rattle.fits_passing.specs.declared.problem.Problem.{Problem}
+use Rattle.fits_passing.specs.Report.{IsListedBefore}
+use Rattle.fits_tell.specs.Report.{errors_in, lists, warnings_in}
+use Rattle.fits_tell.specs.declared.level.Level.{Level}
+use Rattle.fits_tell.specs.declared.level.Level.TheVariants.{All as AllOfThem, Errors, Quiet}
 use Rattle.fits_cli.specs.NewErrors.{count_of, has_more, HasMoreErrors, is_listed_before, is_new, is_of_code, is_same, new_error_line, new_error_lines, new_errors, stands_in, AreCounts}
-use Rattle.fits_cli.proofs.ReportLemmas.{errors-few, others_warn}
+use Rattle.fits_tell.proofs.ReportLemmas.{errors-few, others_warn}
 
 -- a problem stands before another where the test says so
 before-true : (a b : Problem) → IsListedBefore a b → is_listed_before a b ≡ true

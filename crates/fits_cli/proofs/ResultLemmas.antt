@@ -1,13 +1,13 @@
 -- What a script makes of a file is a file.
 use Rattle.std.proofs.Common.{◌≡◌, ℕ, Bool, true, false, List, [], ◌∷◌, length, refl, subst, Option, None, Some}
 use Rattle.std.specs.Prelude.{Result, Ok, Err, if◌then◌else◌, nat_le}
-use Rattle.fits_hdu.specs.declared.verdicts.Verdicts.{Verdicts}
+use Rattle.fits_passing.specs.declared.verdicts.Verdicts.{Verdicts}
 use Rattle.fits_session.specs.Edit.{HasSizes}
-use Rattle.fits_session.specs.File.{FileParts, IsFile, IsFileOf}
+use Rattle.fits_passing.specs.File.{FileParts, IsFile, IsFileOf}
 use Rattle.fits_session.specs.Marked.{kept_in, marked_after, marked_refusal}
 use Rattle.fits_session.specs.Query.{datasum_in, positions_in, rect_in, stats_in, value_in, verdicts_in}
 use Rattle.fits_edit.specs.declared.edit.Edit.{Edit as SessionEdit}
-use Rattle.fits_session.specs.declared.refusal.Refusal.{Refusal}
+use Rattle.fits_edits.specs.declared.refusal.Refusal.{Refusal}
 use Rattle.fits_session.proofs.LawLemmas.{edited}
 use Rattle.fits_script.specs.Line.{command_of, reading_of, said_or_none}
 use Rattle.fits_script.specs.declared.command.Command.{Command}

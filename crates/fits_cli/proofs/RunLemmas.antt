@@ -10,9 +10,10 @@ use Rattle.fits_cli.specs.Output.{answers, standing_after}
 use Rattle.fits_cli.specs.Remark.{line_remark, long_text, remark_line, remark_on, remarks}
 use Rattle.fits_cli.specs.Running.{Heard, AnswersLine, AnswersLines, LacksReply, LineStops, LinesStop, HasCome, HasStopped, Continues, PieceStops, EndsScript, EndStops, kept_of}
 use Rattle.fits_cli.specs.Script.{HasNoLineFeed, script_lines}
-use Rattle.fits_cli.specs.declared.fault.Fault.{Fault}
-use Rattle.fits_cli.specs.declared.fault.Fault.TheVariants.{Refused, ScriptTooLong, Memory, ReadFailed, WriteFailed, Reread as RereadFault}
-use Rattle.fits_cli.specs.Faults.{fault_of_load, reread_of, IsUnchanged}
+use Rattle.fits_tell.specs.declared.fault.Fault.{Fault}
+use Rattle.fits_tell.specs.declared.fault.Fault.TheVariants.{Refused, ScriptTooLong, Memory, ReadFailed, WriteFailed, Reread as RereadFault}
+use Rattle.fits_tell.specs.Faults.{fault_of_load, reread_of}
+use Rattle.fits_cli.specs.Faults.{IsUnchanged}
 use Rattle.fits_plane.specs.declared.again.LoadFault.{LoadFault}
 use Rattle.fits_plane.specs.declared.again.LoadFault.TheVariants as load
 use Rattle.fits_session.specs.Marked.{Marked}

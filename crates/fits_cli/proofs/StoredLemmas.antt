@@ -6,13 +6,13 @@ use Rattle.fits_stream.specs.Agree.{IsOf}
 use Rattle.fits_stream.specs.Stored.{ReadLogState}
 use Rattle.fits_stream.specs.Stream.{StaysQuiet}
 use Rattle.fits_session.specs.Away.{StoredStops}
-use Rattle.fits_session.specs.File.{FileParts, file_bytes, IsFile}
-use Rattle.fits_session.specs.Opening.{HasOpenFault}
-use Rattle.fits_session.specs.Reading.{GaveFault, ReadStops}
-use Rattle.fits_session.specs.declared.open_fault.OpenFault.{OpenFault}
-use Rattle.fits_session.specs.declared.open_fault.OpenFault.TheVariants.{NotFits, NoEnd, BadShape, ShortData, TooLarge, Memory}
-use Rattle.fits_session.specs.declared.read_fault.ReadFileFault.{ReadFileFault}
-use Rattle.fits_session.specs.declared.read_fault.ReadFileFault.TheVariants.{Open, Failed}
+use Rattle.fits_passing.specs.File.{FileParts, file_bytes, IsFile}
+use Rattle.fits_passing.specs.Opening.{HasOpenFault}
+use Rattle.fits_passing.specs.Reading.{GaveFault, ReadStops}
+use Rattle.fits_passing.specs.declared.open_fault.OpenFault.{OpenFault}
+use Rattle.fits_passing.specs.declared.open_fault.OpenFault.TheVariants.{NotFits, NoEnd, BadShape, ShortData, TooLarge, Memory}
+use Rattle.fits_passing.specs.declared.read_file_fault.ReadFileFault.{ReadFileFault}
+use Rattle.fits_passing.specs.declared.read_file_fault.ReadFileFault.TheVariants.{Open, Failed}
 use Rattle.fits_cli.specs.Ends.{stored_file, GaveFile}
 
 -- a file whose reads have failed as often as before

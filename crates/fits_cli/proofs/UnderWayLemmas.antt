@@ -6,7 +6,7 @@ use Rattle.fits_stream.specs.Agree.{IsOf}
 use Rattle.fits_stream.specs.Stored.{ReadLogState}
 use Rattle.fits_edit.specs.declared.edit.Edit.{Edit as SessionEdit}
 use Rattle.fits_edit.specs.declared.edit.Edit.TheVariants.{Hdu, NewImage, RemoveHdu}
-use Rattle.fits_hdu.specs.Hdu.{HduParts}
+use Rattle.fits_passing.specs.Hdu.{HduParts}
 use Rattle.fits_hdu.specs.State.{HduState, parts_of}
 use Rattle.fits_hdu.specs.Work.{Loads}
 use Rattle.fits_stream.specs.Stream.{SinkState, Prints}
@@ -17,14 +17,15 @@ use Rattle.fits_plane.specs.declared.again.CopyFault.TheVariants.{Failed, Change
 use Rattle.fits_script.specs.declared.line_reading.LineReading.{LineReading}
 use Rattle.fits_session.specs.Away.{Agree, AllLie, LieStill, LoadsAlone, LoadsAt, LoadsFor}
 use Rattle.fits_session.specs.Edit.{changed_at}
-use Rattle.fits_session.specs.File.{file_bytes}
+use Rattle.fits_passing.specs.File.{file_bytes}
 use Rattle.fits_session.specs.Marked.{Marked}
 use Rattle.fits_session.specs.Session.{hdus_of, kept_of, marked_of, SessionState}
 use Rattle.fits_cli.specs.Answer.{Standing, line_answer, line_left}
-use Rattle.fits_cli.specs.Faults.{fault_of_copy, SaveFails}
+use Rattle.fits_tell.specs.Faults.{fault_of_copy}
+use Rattle.fits_cli.specs.Faults.{SaveFails}
 use Rattle.fits_cli.specs.Output.{saved_bytes}
 use Rattle.fits_cli.specs.Running.{AreLike, IsLike, IsLikeHdu, RepliesLike, Steady}
-use Rattle.fits_cli.specs.declared.fault.Fault.{Fault}
+use Rattle.fits_tell.specs.declared.fault.Fault.{Fault}
 use Rattle.fits_cli.specs.declared.terms.Terms.{Terms}
 
 -- reads that agree did so before the last of them

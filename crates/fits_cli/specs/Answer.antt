@@ -2,32 +2,30 @@
 use Rattle.std.specs.Prelude.{◌≡◌, ◌<◌, ◌⊎◌, ℕ, ◌+◌, Bool, false, true, List, [], ◌∷◌, ◌++◌, ◌||◌, codes, length, Option, Some, None, Result, Ok, Err, IsOk, IsOkAnd, if◌then◌else◌}
 use Rattle.std.specs.Fmt.{decimal}
 use Rattle.std.specs.List.{flat_map}
-use Rattle.fits_hdu.specs.declared.verdicts.Verdicts.{Verdicts}
-use Rattle.fits_session.specs.File.{FileParts, offsets_from}
+use Rattle.fits_passing.specs.declared.verdicts.Verdicts.{Verdicts}
+use Rattle.fits_passing.specs.File.{FileParts, offsets_from}
 use Rattle.fits_session.specs.Marked.{Marked, is_stamped_after, kept_in, marked_after, marked_refusal, unmarked, vouched}
 use Rattle.fits_session.specs.Away.{EditWantsPixels}
 use Rattle.fits_session.specs.Query.{datasum_in, kind_in, positions_in, rect_in, stats_in, value_in, verdicts_in}
-use Rattle.fits_session.specs.Report.{report_of}
-use Rattle.fits_session.specs.Refusal.{refusal_text, EditNeedsMemory}
+use Rattle.fits_passing.specs.Report.{report_of}
+use Rattle.fits_edits.specs.Refusal.{refusal_text}
+use Rattle.fits_session.specs.Refusal.{EditNeedsMemory}
 use Rattle.fits_session.specs.Session.{HasPixels, HasStats, IsReadyFor, IsSoOf}
 use Rattle.fits_hdu.specs.State.{HduState}
-use Rattle.fits_session.specs.declared.offsets.HduOffsets.{HduOffsets}
-use Rattle.fits_session.specs.declared.refusal.Refusal.{Refusal}
-use Rattle.fits_session.specs.declared.refusal.Refusal.TheVariants.{NoKey, Memory}
+use Rattle.fits_passing.specs.declared.offsets.HduOffsets.{HduOffsets}
+use Rattle.fits_edits.specs.declared.refusal.Refusal.{Refusal}
+use Rattle.fits_edits.specs.declared.refusal.Refusal.TheVariants.{NoKey, Memory}
 use Rattle.fits_script.specs.Line.{ReadingNeedsMemory}
-use Rattle.fits_cli.specs.PixelLines.{statistics_line, sums_line, values_line}
-use Rattle.fits_cli.specs.Report.{report_text}
+use Rattle.fits_tell.specs.PixelLines.{statistics_line, sums_line, values_line}
+use Rattle.fits_tell.specs.Report.{report_text}
 use Rattle.fits_cli.specs.ValueLine.{value_line}
 use Rattle.fits_script.specs.declared.line_reading.LineReading.{LineReading}
 use Rattle.fits_script.specs.declared.line_reading.LineReading.TheVariants.{TooLong, NoCommand, Said}
 use Rattle.fits_script.specs.declared.command.Command.{Command}
 use Rattle.fits_script.specs.declared.command.Command.TheVariants.{Nothing, Edit, Offsets, Get, Positions, Report, Statistics, Rectangle, Sums, Kept}
-use Rattle.fits_cli.specs.declared.level.Level.TheVariants.{All}
+use Rattle.fits_tell.specs.declared.level.Level.TheVariants.{All}
 use Rattle.fits_cli.specs.declared.terms.Terms.{Terms}
-
--- the offsets of an HDU: where its header begins, its data begin and it ends
-abbrev pub offsets_text : HduOffsets → List ℕ
-offsets_text at = decimal at.header_start ++ (codes " " ++ (decimal at.data_start ++ (codes " " ++ decimal at.hdu_end)))
+use Rattle.fits_tell.specs.Listing.{offsets_text}
 
 -- an HDU's number and its offsets
 abbrev pub offset_line : ℕ → HduOffsets → List ℕ

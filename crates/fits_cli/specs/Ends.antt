@@ -7,28 +7,29 @@ use Rattle.fits_stream.specs.Intake.{Tells}
 use Rattle.fits_stream.specs.Log.{Logs}
 use Rattle.fits_stream.specs.Stored.{ReadLogState}
 use Rattle.fits_stream.specs.Stream.{SourceState, SinkState, FailsOnce, Gains, IsDry, Prints, PrintsFront, StaysQuiet}
-use Rattle.fits_session.specs.File.{file_bytes, FileParts, IsFile}
-use Rattle.fits_session.specs.Opening.{HasOpenFault}
-use Rattle.fits_session.specs.Report.{IsReportOf}
-use Rattle.fits_session.specs.declared.open_fault.OpenFault.{OpenFault}
-use Rattle.fits_session.specs.declared.problem.Problem.{Problem}
+use Rattle.fits_passing.specs.File.{file_bytes, FileParts, IsFile}
+use Rattle.fits_passing.specs.Opening.{HasOpenFault}
+use Rattle.fits_passing.specs.Report.{IsReportOf}
+use Rattle.fits_passing.specs.declared.open_fault.OpenFault.{OpenFault}
+use Rattle.fits_passing.specs.declared.problem.Problem.{Problem}
 use Rattle.fits_cli.specs.Answer.{at_first_line, LineNeedsMemory, WantsPixels}
-use Rattle.fits_cli.specs.Faults.{status_of_fault, IsUnchanged}
+use Rattle.fits_tell.specs.Faults.{status_of_fault}
+use Rattle.fits_cli.specs.Faults.{IsUnchanged}
 use Rattle.fits_cli.specs.declared.limits.TheConstants.{SCRIPT_LIMIT}
 use Rattle.fits_script.specs.Line.{reading_of}
 use Rattle.fits_cli.specs.Output.{answers, standing_after, Output, IsOutputOf}
 use Rattle.fits_cli.specs.Remark.{remarks, Remarks}
 use Rattle.fits_cli.specs.Script.{IsCutInLines, script_lines}
 use Rattle.fits_cli.specs.NewErrors.{new_error_lines, new_errors, HasMoreErrors}
-use Rattle.fits_cli.specs.Report.{errors_in, warnings_in}
+use Rattle.fits_tell.specs.Report.{errors_in, warnings_in}
 use Rattle.fits_cli.specs.Terms.{check_of, holds_back, plain}
 use Rattle.fits_cli.specs.declared.edited.Edited.{Edited}
 use Rattle.fits_cli.specs.declared.edited.Edited.TheVariants.{Done, KeptBack, Unsound}
-use Rattle.fits_cli.specs.declared.end.End.{End}
-use Rattle.fits_cli.specs.declared.fault.Fault.{Fault}
-use Rattle.fits_cli.specs.declared.fault.Fault.TheVariants.{Refused, ScriptTooLong, Memory, ReadFailed, WriteFailed, Reread as RereadFault}
-use Rattle.fits_cli.specs.declared.level.Level.TheVariants.{Quiet}
-use Rattle.fits_cli.specs.declared.reread.Reread.TheVariants as again
+use Rattle.fits_tell.specs.declared.end.End.{End}
+use Rattle.fits_tell.specs.declared.fault.Fault.{Fault}
+use Rattle.fits_tell.specs.declared.fault.Fault.TheVariants.{Refused, ScriptTooLong, Memory, ReadFailed, WriteFailed, Reread as RereadFault}
+use Rattle.fits_tell.specs.declared.level.Level.TheVariants.{Quiet}
+use Rattle.fits_tell.specs.declared.reread.Reread.TheVariants as again
 use Rattle.fits_cli.specs.declared.saves.Saves.{Saves}
 use Rattle.fits_cli.specs.declared.saves.Saves.TheVariants.{Made, Nothing}
 use Rattle.fits_cli.specs.declared.terms.Terms.{Terms}

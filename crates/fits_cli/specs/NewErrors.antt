@@ -3,9 +3,9 @@ use Rattle.std.specs.Prelude.{◌≡◌, ℕ, ◌==◌, ◌&&◌, ◌||◌, nat_
 use Rattle.std.specs.List.{filter, flat_map, list_any}
 use Rattle.fits_codes.specs.Code.{number}
 use Rattle.fits_codes.specs.declared.code.Code.{Code}
-use Rattle.fits_session.specs.declared.problem.Problem.{Problem}
-use Rattle.fits_cli.specs.Report.{lists, problem_line}
-use Rattle.fits_cli.specs.declared.level.Level.{Level}
+use Rattle.fits_passing.specs.declared.problem.Problem.{Problem}
+use Rattle.fits_tell.specs.Report.{lists, problem_line}
+use Rattle.fits_tell.specs.declared.level.Level.{Level}
 
 -- the problem is of this code
 abbrev pub is_of_code : Code → Problem → Bool

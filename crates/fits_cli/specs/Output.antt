@@ -1,15 +1,15 @@
 -- What a run of `edit` writes and answers: functions of its terms, the file and the script (own).
 use Rattle.std.specs.Prelude.{◌≡◌, ◌⊎◌, ℕ, nat_le, List, [], ◌∷◌, ◌++◌, ◌==◌, ◌&&◌, not, length, take, Option, Some, None, if◌then◌else◌}
-use Rattle.fits_session.specs.File.{FileParts, file_bytes, IsFileOf}
-use Rattle.fits_session.specs.Opening.{HasOpenFault}
-use Rattle.fits_session.specs.declared.open_fault.OpenFault.{OpenFault}
+use Rattle.fits_passing.specs.File.{FileParts, file_bytes, IsFileOf}
+use Rattle.fits_passing.specs.Opening.{HasOpenFault}
+use Rattle.fits_passing.specs.declared.open_fault.OpenFault.{OpenFault}
 use Rattle.fits_cli.specs.declared.limits.TheConstants.{SCRIPT_LIMIT}
 use Rattle.fits_script.specs.Line.{reading_of}
 use Rattle.fits_cli.specs.Script.{IsCutInLines, script_lines}
 use Rattle.fits_cli.specs.Answer.{Standing, at_first_line, line_answer, line_left}
 use Rattle.fits_cli.specs.declared.terms.Terms.{Terms}
-use Rattle.fits_cli.specs.declared.fault.Fault.{Fault}
-use Rattle.fits_cli.specs.declared.fault.Fault.TheVariants.{Refused, ScriptTooLong}
+use Rattle.fits_tell.specs.declared.fault.Fault.{Fault}
+use Rattle.fits_tell.specs.declared.fault.Fault.TheVariants.{Refused, ScriptTooLong}
 
 -- what lines print, one after another
 unfoldable pub answers : Standing → List (List ℕ) → List ℕ

@@ -3,11 +3,11 @@ use Rattle.std.specs.Prelude.{◌≡◌, ◌⊎◌, ℕ, Bool, false, ◌+◌, �
 use Rattle.fits_stream.specs.Intake.{Tells}
 use Rattle.fits_stream.specs.Agree.{Agrees, IsOf}
 use Rattle.fits_stream.specs.Stored.{ReadLogState}
-use Rattle.fits_hdu.specs.Hdu.{HduParts}
+use Rattle.fits_passing.specs.Hdu.{HduParts}
 use Rattle.fits_hdu.specs.State.{HduState}
 use Rattle.fits_sum.specs.Words.{word_total}
 use Rattle.fits_session.specs.Away.{AllLie}
-use Rattle.fits_session.specs.File.{FileParts}
+use Rattle.fits_passing.specs.File.{FileParts}
 use Rattle.fits_cli.specs.Answer.{Standing, at_first_line, line_answer, line_left, LineNeedsMemory, WantsPixels}
 use Rattle.fits_cli.specs.Ends.{run_by, CameTo, GaveFile, HasLines, IsQuiet, OverFile, RunState}
 use Rattle.fits_script.specs.declared.limits.TheConstants.{LINE_LIMIT}
@@ -17,15 +17,15 @@ use Rattle.fits_cli.specs.Output.{answers, standing_after}
 use Rattle.fits_cli.specs.Remark.{line_remark, remarks, Remarks}
 use Rattle.fits_cli.specs.Script.{IsCutInLines, script_lines}
 use Rattle.fits_stream.specs.Stream.{SourceState, SinkState, FailsOnce, FailsToFlush, Flushes, IsDry, Prints, PrintsFront, Reads, StaysQuiet}
-use Rattle.fits_cli.specs.declared.fault.Fault.{Fault}
-use Rattle.fits_cli.specs.declared.fault.Fault.TheVariants.{Refused, ScriptTooLong, Memory, ReadFailed, WriteFailed, Reread as RereadFault}
-use Rattle.fits_cli.specs.declared.reread.Reread.{Reread}
+use Rattle.fits_tell.specs.declared.fault.Fault.{Fault}
+use Rattle.fits_tell.specs.declared.fault.Fault.TheVariants.{Refused, ScriptTooLong, Memory, ReadFailed, WriteFailed, Reread as RereadFault}
+use Rattle.fits_tell.specs.declared.reread.Reread.{Reread}
 use Rattle.fits_cli.specs.declared.terms.Terms.{Terms}
 use Rattle.fits_cli.specs.Faults.{IsUnchanged}
 use Rattle.fits_cli.specs.Terms.{check_of}
-use Rattle.fits_cli.specs.declared.level.Level.TheVariants.{Quiet}
-use Rattle.fits_session.specs.Report.{report_of}
-use Rattle.fits_session.specs.declared.problem.Problem.{Problem}
+use Rattle.fits_tell.specs.declared.level.Level.TheVariants.{Quiet}
+use Rattle.fits_passing.specs.Report.{report_of}
+use Rattle.fits_passing.specs.declared.problem.Problem.{Problem}
 use Rattle.fits_session.specs.Marked.{Marked}
 use Rattle.fits_script.specs.declared.line_reading.LineReading.{LineReading}
 

@@ -1,7 +1,7 @@
 -- The terms of a run that edits (own).
 use Rattle.std.specs.Prelude.{ℕ, ◌&&◌, nat_lt, Bool, false}
-use Rattle.fits_cli.specs.declared.level.Level.{Level}
-use Rattle.fits_cli.specs.declared.level.Level.TheVariants.{Quiet}
+use Rattle.fits_tell.specs.declared.level.Level.{Level}
+use Rattle.fits_tell.specs.declared.level.Level.TheVariants.{Quiet}
 use Rattle.fits_cli.specs.declared.saves.Saves.{Saves}
 use Rattle.fits_cli.specs.declared.saves.Saves.TheVariants.{Made, Nothing}
 use Rattle.fits_cli.specs.declared.terms.Terms.{Terms}

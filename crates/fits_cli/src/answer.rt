@@ -2,17 +2,16 @@
 ghost use Rattle.std.specs.Prelude.{◌≡◌, ◌++◌, IfOk, IfErr, OnOk, OnErr, Ok};
 ghost use Rattle.fits_session.specs.Away.{LieStill};
 ghost use Rattle.fits_session.specs.Session.{marked_of};
-ghost use Rattle.fits_cli.specs.Answer.{offset_line, offset_lines, offsets_text};
+ghost use Rattle.fits_cli.specs.Answer.{offset_line, offset_lines};
 ghost use Rattle.fits_cli.specs.Answer.{is_edit, outcome_of, CommandFails, IsReady};
 
 use crate::kept_line::kept;
 use crate::pixel_answers::{rectangle, statistics, sums};
 use crate::places_line::positions;
-use crate::pushing::push_number;
-use crate::report_text::report_text;
 use crate::value_line::value_line;
 use fits_script::Command;
 use fits_session::{HduOffsets, Holder, Refusal, Session};
+use fits_tell::{push_number, push_offsets, report_text};
 use std::alloc::{AllocError, Global};
 
 /// Does a command, and gives what it prints; or its refusal, which leaves the file and its marks.
@@ -81,13 +80,4 @@ fn push_offset_line(text: &mut Vec<u8>, number: usize, at: HduOffsets) -> Result
     text.extend_from_slice(b" ")?;
     push_offsets(text, at)?;
     text.extend_from_slice(b"\n")
-}
-
-/// Where an HDU begins, its data begin, and it ends.
-pub(crate) fn push_offsets(text: &mut Vec<u8>, at: HduOffsets) -> Result<(), AllocError>
-    ensures { OnOk result (text.new.items ≡ text.old.items ++ offsets_text at) }
-{
-    push_number(text, b"", at.header_start)?;
-    push_number(text, b" ", at.data_start)?;
-    push_number(text, b" ", at.hdu_end)
 }

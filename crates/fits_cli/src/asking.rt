@@ -8,10 +8,11 @@ ghost use Rattle.fits_cli.specs.Frame.{AsksLeave};
 ghost use Rattle.fits_cli.specs.Terms.{asking};
 ghost use Rattle.fits_cli.specs.Ends.{run_by, EndsAs, OverReads, RemarksEndAs};
 
+use crate::edited::end_of;
 use crate::editing::{run_edit_stored, run_edit_told};
-use crate::end::{End, end_of};
 use crate::terms::ASKING;
 use fits_stream::{ReadLog, Sink, Source, Stored, Watched};
+use fits_tell::End;
 use std::alloc::Global;
 use std::io;
 

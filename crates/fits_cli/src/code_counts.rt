@@ -1,11 +1,11 @@
 //! How many problems of a report are of each code.
 ghost use Rattle.std.specs.Prelude.{◌≡◌, List};
 ghost use Rattle.fits_cli.specs.NewErrors.{has_more, AreCounts};
-ghost use Rattle.fits_session.specs.declared.problem.Problem.{Problem};
+ghost use Rattle.fits_passing.specs.declared.problem.Problem.{Problem};
 
-use crate::level::Level;
 use fits_codes::Code;
 use fits_session::Problem;
+use fits_tell::Level;
 
 /// One more than the greatest number of a code.
 pub(crate) const NUMBERS: usize = 27;

@@ -3,11 +3,10 @@ ghost use Rattle.std.specs.Prelude.{OnOk, IfErr};
 ghost use Rattle.std.specs.Fmt.{decimal};
 ghost use Rattle.fits_stream.specs.Stream.{Prints};
 ghost use Rattle.fits_cli.specs.Answer.{complaint};
-ghost use Rattle.fits_cli.specs.Faults.{PrintFails};
+ghost use Rattle.fits_tell.specs.Faults.{PrintFails};
 
-use crate::fault::Fault;
-use crate::printing::print;
 use fits_stream::Sink;
+use fits_tell::{Fault, print};
 use itoa::Buffer;
 
 /// `line N: WHY`

@@ -1,3 +1,8 @@
+ghost use Rattle.std.specs.Prelude.{◌≡◌};
+ghost use Rattle.fits_cli.specs.Ends.{end_of};
+
+use fits_tell::{End, Fault};
+
 /// How a run came to its end.
 #[derive(Clone, Copy)]
 pub enum Edited {
@@ -21,5 +26,18 @@ impl Edited {
             Edited::Done(status) => status,
             Edited::KeptBack(_) | Edited::Unsound { .. } => 1,
         }
+    }
+}
+
+/// How a run ended, whatever kept its result from being saved.
+pub(crate) fn end_of(edited: Result<Edited, Fault>) -> End
+    ensures { result ≡ end_of edited }
+{
+    match edited {
+        Ok(it) => End {
+            status: it.status(),
+            fault: None,
+        },
+        Err(why) => End::from(why),
     }
 }

@@ -5,7 +5,7 @@ ghost use Rattle.fits_stream.specs.Agree.{IsOf};
 ghost use Rattle.fits_plane.specs.Again.{Follows};
 ghost use Rattle.fits_session.specs.Away.{AllLie};
 ghost use Rattle.fits_session.specs.Marked.{unmarked};
-ghost use Rattle.fits_session.specs.Report.{IsListedBefore};
+ghost use Rattle.fits_passing.specs.Report.{IsListedBefore};
 ghost use Rattle.fits_session.specs.Session.{file_of, marked_of};
 ghost use Rattle.fits_cli.specs.Faults.{FaultCounts, RunCounts};
 ghost use Rattle.fits_cli.specs.Frame.{AnswersLeave, EndLeaves, LeavesAs, PrintsSome, ResultLeaves, ScriptAnswers};
@@ -13,10 +13,7 @@ ghost use Rattle.fits_cli.specs.Output.{saved_bytes};
 ghost use Rattle.fits_cli.specs.Ends.{run, run_by, AreToldOf, EndsAs, EndsBy, OverFile, OverReads, RemarksBy, StopsBy};
 ghost use Rattle.fits_cli.specs.Running.{FlushesAnswers, IsAnsweredRun, OverAnswered, OverFirst, Steady};
 
-use crate::edited::Edited;
-use crate::end::{End, end_of};
-use crate::fault::Fault;
-use crate::printing::{flush, print_at_once};
+use crate::edited::{Edited, end_of};
 use crate::remarking::Silence;
 use crate::runner::Runner;
 use crate::saves::Saves;
@@ -24,6 +21,7 @@ use crate::script::answer_script;
 use crate::terms::{PLAIN, Terms};
 use fits_session::{Holder, Problem, Session};
 use fits_stream::{ReadLog, Sink, Source, Stored};
+use fits_tell::{End, Fault, flush, print_at_once};
 use std::alloc::Global;
 
 /// Reads a file and opens it, answers a script, and saves what the script made of the file.

@@ -1,70 +1,38 @@
-//! Scripts over FITS files: their lines, their answers, and the runs of the program `fitsed`.
+//! Scripts over FITS files: the answers to their lines, and the runs of `edit` and `ask`.
 #![tactic(auto)]
 
 mod answer;
 mod asking;
-mod card_choice;
-mod card_lines;
-mod card_place;
-mod cards;
-mod choosing;
 mod clues;
 mod code_counts;
 mod complaint;
 mod edited;
 mod editing;
-mod end;
-mod fault;
-mod file_fault;
 mod kept_line;
-mod level;
 mod limits;
-mod listing;
-mod name_pattern;
 mod new_errors;
 mod pixel_answers;
-mod pixel_lines;
 mod places_line;
-mod printing;
-mod problem_card;
-mod pushing;
 mod readying;
 mod reason;
 mod reasons;
 mod remarking;
 mod reply;
-mod report_text;
-mod reread;
 mod runner;
 mod saves;
 mod script;
-mod shown_card;
-mod stating;
-mod summing;
-mod telling;
 mod terms;
-mod untouched;
 mod value_line;
-mod verifying;
 
 pub use asking::{run_ask, run_ask_stored};
-pub use card_choice::CardChoice;
-pub use card_place::CardPlace;
-pub use cards::{CardsEnd, run_cards};
 pub use edited::Edited;
 pub use editing::{run_edit, run_edit_stored, run_edit_told};
-pub use end::End;
-pub use fault::Fault;
-pub use file_fault::FileFault;
-pub use level::Level;
+pub use fits_tell::{
+    CardChoice, CardPlace, CardsEnd, End, Fault, FileFault, Level, NamePattern, Reread, Telling,
+    run_cards, run_list, run_sum, run_telling, run_verify,
+};
 pub use limits::SCRIPT_LIMIT;
-pub use listing::run_list;
-pub use name_pattern::NamePattern;
-pub use reread::Reread;
 pub use saves::Saves;
-pub use summing::run_sum;
-pub use telling::{Telling, run_telling};
 pub use terms::Terms;
-pub use verifying::run_verify;
 // The lines of a script are named here too.
 pub use fits_script::{Command, LINE_LIMIT, LineFault, LineReading, parse_line, read_line};

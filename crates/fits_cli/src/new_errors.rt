@@ -1,15 +1,13 @@
 //! Problems of a report that another hasn't, of those that a level lists.
 ghost use Rattle.std.specs.Prelude.{◌≡◌, ◌++◌, List, AllPairs, IfOk, OnOk};
-ghost use Rattle.fits_session.specs.Report.{IsListedBefore};
-ghost use Rattle.fits_session.specs.declared.problem.Problem.{Problem};
-ghost use Rattle.fits_cli.specs.Report.{errors_in, warnings_in};
+ghost use Rattle.fits_passing.specs.Report.{IsListedBefore};
+ghost use Rattle.fits_passing.specs.declared.problem.Problem.{Problem};
+ghost use Rattle.fits_tell.specs.Report.{errors_in, warnings_in};
 ghost use Rattle.fits_cli.specs.NewErrors.{is_listed_before, is_new, is_same, new_error_line, new_error_lines, new_errors, stands_in, AreCounts};
 
 use crate::code_counts::{NUMBERS, counts_of, has_more};
-use crate::end::one_if;
-use crate::level::Level;
-use crate::report_text::push_problem;
 use fits_session::Problem;
+use fits_tell::{Level, one_if, push_problem};
 use std::alloc::{AllocError, Global};
 
 /// New problems: their lines, and how many are errors and warnings.

@@ -5,8 +5,8 @@ ghost use Rattle.fits_session.specs.Session.{marked_of, HasPixels, HasStats, IsS
 ghost use Rattle.fits_cli.specs.Answer.{outcome_of, CommandFails};
 ghost use Rattle.fits_script.specs.declared.command.Command.TheVariants.{Rectangle, Statistics, Sums};
 
-use crate::pixel_lines::{statistics_line, sums_line, values_line};
 use fits_session::{Corner, Holder, Refusal, Session};
+use fits_tell::{statistics_line, sums_line, values_line};
 use std::alloc::Global;
 
 /// `stat H`

@@ -5,9 +5,9 @@ ghost use Rattle.fits_session.specs.Session.{marked_of};
 ghost use Rattle.fits_cli.specs.Answer.{outcome_of, places_line, CommandFails};
 ghost use Rattle.fits_script.specs.declared.command.Command.TheVariants.{Positions};
 
-use crate::pushing::push_number;
 use fits_card::Name;
 use fits_session::{Holder, Refusal, Session};
+use fits_tell::push_number;
 use std::alloc::{AllocError, Global};
 
 /// `pos H NAME`

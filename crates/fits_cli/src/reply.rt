@@ -1,16 +1,15 @@
 //! What a line comes to, and what is printed of it.
 ghost use Rattle.std.specs.Prelude.{◌≡◌, OnOk, IfErr};
 ghost use Rattle.fits_stream.specs.Stream.{Prints};
-ghost use Rattle.fits_cli.specs.Faults.{PrintFails};
+ghost use Rattle.fits_tell.specs.Faults.{PrintFails};
 ghost use Rattle.fits_cli.specs.Reply.{counts_as_refused, reply_text, settled};
 
 use crate::clues::Clues;
 use crate::complaint::print_complaint;
-use crate::fault::Fault;
-use crate::printing::print;
 use fits_script::Misfit;
 use fits_session::Refusal;
 use fits_stream::Sink;
+use fits_tell::{Fault, print};
 use std::alloc::AllocError;
 
 /// What a line comes to.

@@ -6,10 +6,7 @@ ghost use Rattle.fits_session.specs.Marked.{unmarked};
 ghost use Rattle.fits_session.specs.Session.{file_of, marked_of};
 
 use crate::answer::{answer, is_edit};
-use crate::fault::Fault;
-use crate::level::Level;
 use crate::new_errors::{NewErrors, errors_since};
-use crate::printing::flush;
 use crate::readying::ready;
 use crate::reasons::clues_of;
 use crate::reply::{Reply, counts_as_refused, settled};
@@ -18,6 +15,7 @@ use crate::terms::Terms;
 use fits_script::{LineReading, read_line};
 use fits_session::{Holder, Problem, Session};
 use fits_stream::{ReadLog, Sink};
+use fits_tell::{Fault, Level, flush};
 use std::alloc::{AllocError, Global};
 use std::marker::Model;
 
@@ -65,16 +63,16 @@ impl<H: Holder + Drop> Runner<H> {
     ghost use Rattle.fits_script.specs.Line.{reading_of};
     ghost use Rattle.fits_cli.specs.Output.{saved_bytes, status_of};
     ghost use Rattle.fits_cli.specs.Remark.{remark_by, remark_on};
-    ghost use Rattle.fits_cli.specs.Report.{errors_in, warnings_in};
+    ghost use Rattle.fits_tell.specs.Report.{errors_in, warnings_in};
     ghost use Rattle.fits_cli.specs.Reply.{counts_as_refused, reply_text};
     ghost use Rattle.fits_cli.specs.Faults.{FaultCounts, IsOnce, SaveFails};
     ghost use Rattle.fits_cli.specs.Frame.{IsUnanswered, SavingLeaves};
     ghost use Rattle.fits_cli.specs.Running.{LacksReply, RepliesLike, Steady};
     ghost use Rattle.fits_cli.specs.NewErrors.{new_error_lines, new_errors};
     ghost use Rattle.fits_cli.specs.Terms.{holds_back};
-    ghost use Rattle.fits_cli.specs.declared.level.Level.TheVariants.{Quiet};
+    ghost use Rattle.fits_tell.specs.declared.level.Level.TheVariants.{Quiet};
     ghost use Rattle.fits_session.specs.Marked.{unmarked};
-    ghost use Rattle.fits_session.specs.Report.{report_of, IsListedBefore};
+    ghost use Rattle.fits_passing.specs.Report.{report_of, IsListedBefore};
     ghost use Rattle.fits_session.specs.Session.{file_of, marked_of};
 
     /// Before the first line, on these terms: where right sums are kept right, each HDU is kept stamped

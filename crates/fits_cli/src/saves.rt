@@ -1,4 +1,4 @@
-use crate::level::Level;
+use fits_tell::Level;
 
 /// What a run saves.
 #[derive(Clone, Copy)]

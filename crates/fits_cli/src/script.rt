@@ -5,22 +5,22 @@ ghost use Rattle.std.specs.Option.{option_map};
 ghost use Rattle.std.specs.Io.{ReadsAtMost};
 ghost use Rattle.fits_stream.specs.Stream.{FailsToRead, IsDry, Prints, Reads};
 ghost use Rattle.fits_script.specs.Line.{reading_of};
-ghost use Rattle.fits_cli.specs.Faults.{FaultCounts, IsOnce, PrintFails, ScriptCounts};
+ghost use Rattle.fits_cli.specs.Faults.{FaultCounts, IsOnce, ScriptCounts};
+ghost use Rattle.fits_tell.specs.Faults.{PrintFails};
 ghost use Rattle.fits_cli.specs.Frame.{LinesLeave, PrintsSome, ScriptAnswers, ScriptLeaves};
 ghost use Rattle.fits_cli.specs.Reply.{reply_text};
 ghost use Rattle.fits_plane.specs.Again.{Follows};
 ghost use Rattle.fits_cli.specs.Running.{heard, kept_of, AnswersLine, AnswersScript, Continues, Steady};
 ghost use Rattle.fits_cli.specs.Running.{EndsScript, EndStops, LineStops, PieceStops, ScriptStops};
 
-use crate::fault::Fault;
 use crate::limits::SCRIPT_LIMIT;
-use crate::printing::flush;
 use crate::remarking::say;
 use crate::reply::{Reply, counts_as_refused, print_reply};
 use crate::runner::Runner;
 use fits_script::{LINE_LIMIT, split_far};
 use fits_session::Holder;
 use fits_stream::{PIECE_LEN, Sink, Source, buffer_of};
+use fits_tell::{Fault, flush};
 use std::alloc::Global;
 use std::io;
 

@@ -1,5 +1,5 @@
-use crate::level::Level;
 use crate::saves::Saves;
+use fits_tell::Level;
 
 /// What a run keeps to, whatever its script says.
 #[derive(Clone, Copy)]

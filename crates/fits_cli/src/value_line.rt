@@ -4,8 +4,8 @@ ghost use Rattle.std.specs.Option.{option_copied};
 ghost use Rattle.fits_cli.specs.ValueLine.{comment_text, value_line, value_text};
 ghost use Rattle.fits_value.specs.Spelling.{doubled};
 
-use crate::pushing::push_both;
 use fits_script::split_far;
+use fits_tell::push_both;
 use fits_value::{Text, Value};
 use std::alloc::{AllocError, Global};
 

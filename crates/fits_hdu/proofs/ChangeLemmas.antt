@@ -12,8 +12,8 @@ use Rattle.fits_rules.specs.SameShape.{same_shape}
 use Rattle.fits_rules.specs.declared.array_shape.Shape.{Shape}
 use Rattle.fits_rules.proofs.SameShapeLemmas.{same_shape-Decides}
 use Rattle.fits_header.specs.State.{still_describes}
-use Rattle.fits_hdu.specs.Hdu.{HduParts, IsHdu, hdu_after, keeps_shape}
-use Rattle.fits_hdu.proofs.LayoutLemmas.{layout_kept}
+use Rattle.fits_passing.specs.Hdu.{HduParts, IsHdu, hdu_after, keeps_shape}
+use Rattle.fits_passing.proofs.LayoutLemmas.{layout_kept}
 
 -- cards before END are left where such ones are put in
 pub inner_after : (cards : List (List ℕ)) (change : Change) → All IsInnerCard cards → All IsInnerCard (new_cards change) → All IsInnerCard (cards_after cards change)

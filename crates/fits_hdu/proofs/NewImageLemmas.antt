@@ -8,7 +8,7 @@ use Rattle.fits_rules.specs.Lead.{lead_card}
 use Rattle.fits_rules.specs.Reads.{string_said}
 use Rattle.fits_rules.specs.Shape.{axis_name}
 use Rattle.fits_rules.specs.Size.{data_length}
-use Rattle.fits_hdu.specs.Hdu.{IsHdu, hdu_bytes, HduParts}
+use Rattle.fits_passing.specs.Hdu.{IsHdu, hdu_bytes, HduParts}
 use Rattle.fits_image.specs.ImageCards.{are_axes, image_cards, image_shape}
 use Rattle.fits_hdu.specs.NewImage.{new_image}
 use Rattle.fits_image.specs.declared.kind.Kind.{Kind}
@@ -19,7 +19,7 @@ use Rattle.fits_rules.specs.declared.array_shape.Shape.{Shape}
 use Rattle.fits_image.proofs.ImageHeaderLemmas.{new_described}
 use Rattle.fits_image.proofs.ImageKindLemmas.{behind_counts, bscale_is}
 use Rattle.fits_image.proofs.ImageCardLemmas.{new_is_header, offset_count, count_of_cards, described, axes_from, IsLater, bzero_name, image_cards_are, image_list, lead_by, offset_list, passed, scaling_list}
-use Rattle.fits_hdu.specs.ExtensionName.{called, extension_name, version_said}
+use Rattle.fits_passing.specs.ExtensionName.{called, extension_name, version_said}
 
 -- a new image is an HDU
 pub new_is_hdu : (kind : Kind) (axes : List ℕ) → are_axes axes ≡ true → IsHdu false (new_image kind axes)

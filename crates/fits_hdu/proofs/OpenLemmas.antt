@@ -4,11 +4,11 @@ use Rattle.std.proofs.lemmas.List.{append-nil, drop_at, length-append}
 use Rattle.fits_stream.specs.Gave.{FindsAll}
 use Rattle.fits_stream.specs.Intake.{Supply, Takes}
 use Rattle.fits_stream.proofs.SightLemmas.{takes_ahead}
-use Rattle.fits_hdu.specs.Hdu.{HasHduFault, HduFails, HduParts, IsHdu, IsHduOf, hdu_bytes}
-use Rattle.fits_hdu.specs.Reading.{HduStops}
-use Rattle.fits_hdu.specs.declared.fault.HduFault.{HduFault}
-use Rattle.fits_hdu.specs.declared.fault.HduFault.TheVariants.{NoEnd, BadShape, ShortData, Memory}
-use Rattle.fits_hdu.specs.declared.read_fault.ReadHduFault.TheVariants as read
+use Rattle.fits_passing.specs.Hdu.{HasHduFault, HduFails, HduParts, IsHdu, IsHduOf, hdu_bytes}
+use Rattle.fits_passing.specs.HduReading.{HduStops}
+use Rattle.fits_passing.specs.declared.hdu_fault.HduFault.{HduFault}
+use Rattle.fits_passing.specs.declared.hdu_fault.HduFault.TheVariants.{NoEnd, BadShape, ShortData, Memory}
+use Rattle.fits_passing.specs.declared.read_hdu_fault.ReadHduFault.TheVariants as read
 
 -- an HDU that was taken of bytes, how many bytes it has, and that they are there
 pub hdu_opened : (primary : Bool) (f : List ℕ) (a b : Supply) (hdu : HduParts) (left len : ℕ) → a.ahead ≡ f → a.left ≡ 0 → Takes a b (hdu_bytes hdu) → IsHdu primary hdu → left ≡ length b.ahead + b.left → len ≡ length f - left

@@ -26,7 +26,7 @@ use Rattle.fits_hdu.specs.Reshape.{IsUnshaped, ReshapingLeavesLeads, cards_resha
 use Rattle.fits_hdu.proofs.ReshapeLemmas.{offset_small}
 use Rattle.fits_hdu.proofs.ScalingLemmas.{number_keeps_lead}
 use Rattle.fits_hdu.proofs.SettingLemmas.{card_or_later, lead_parts}
-use Rattle.fits_hdu.proofs.ShapeLemmas.{axis_named, bitpix_named, naxis_named}
+use Rattle.fits_passing.proofs.ShapeLemmas.{axis_named, bitpix_named, naxis_named}
 
 -- a card has another name
 abbrev pub Differs : List ℕ → List ℕ → Type 0

@@ -1,49 +1,19 @@
--- An HDU whose data unit passes by.
-use Rattle.std.proofs.Common.{◌≡◌, ◌≤◌, ℕ, ◌+◌, Bool, List, ◌++◌, ◌%◌, ap, length, sym, take, refl, ◌∙◌, arith}
+-- An HDU whose data unit passed by: what is copied of it, and its sums.
+use Rattle.std.proofs.Common.{◌≡◌, ℕ, ◌+◌, Bool, List, ◌++◌, ◌%◌, ap, length, sym, take, refl, ◌∙◌, arith}
 use Rattle.std.proofs.Math.Seq.{take-append-add}
 use Rattle.std.proofs.lemmas.List.{length-append}
-use Rattle.std.specs.Prelude.{Ok}
 use Rattle.fits_card.specs.Header.{Header, IsHeader, header_bytes}
-use Rattle.fits_stream.specs.Intake.{Supply, Takes}
 use Rattle.fits_stream.specs.Stream.{SinkState, Prints}
 use Rattle.fits_stream.proofs.StreamLemmas.{Prints-more, PrintsFront-more}
-use Rattle.fits_rules.specs.Shape.{shape_of}
-use Rattle.fits_rules.specs.Size.{data_length}
-use Rattle.fits_rules.specs.declared.array_shape.Shape.{Shape}
-use Rattle.fits_rules.proofs.LawLemmas.{shape_primary}
-use Rattle.fits_header.specs.State.{HeaderState}
 use Rattle.fits_plane.specs.Again.{CopyFails, CopyWrites, PrintsLike}
-use Rattle.fits_plane.specs.Passing.{PassedState}
 use Rattle.fits_plane.specs.declared.again.CopyFault.{CopyFault}
 use Rattle.fits_plane.specs.declared.again.CopyFault.TheVariants.{Failed, Changed, Write}
 use Rattle.fits_sum.specs.OnesComplement.{ones_complement}
 use Rattle.fits_sum.specs.Words.{word_total}
 use Rattle.fits_sum.proofs.WordLemmas.{totals_add}
-use Rattle.fits_hdu.specs.Layout.{layout_of}
-use Rattle.fits_hdu.specs.Hdu.{HduParts, hdu_bytes, IsHdu}
-use Rattle.fits_hdu.specs.Reading.{IsPassedWhole, TakesHdu}
-use Rattle.fits_hdu.specs.Sums.{data_sum, hdu_sum, sum_keywords, verdicts_by, verdicts_of}
-use Rattle.fits_hdu.specs.Work.{apply_reads, open_reads}
-use Rattle.fits_hdu.proofs.PassingLemmas.{header_words, unit_words}
-use Rattle.fits_hdu.proofs.ReadingLemmas.{hdu_taken, hdu_whole}
-
--- its header was taken, and then its data unit
-pub hdu_passed : (primary : Bool) (a b c : Supply) (len : ℕ) (before : Header) (shape : Shape) (header : HeaderState) (unit : PassedState) → Takes a b (header_bytes before) → IsHeader before → shape_of primary before.cards ≡ Ok shape
-    → len ≡ data_length shape → header.header ≡ before → header.shape ≡ shape → Takes b c unit.bytes → length unit.bytes ≡ len → unit.layout ≡ layout_of shape before.cards → unit.blank ≡ unit.layout.blank
-    → header.reads + apply_reads ≤ open_reads before.cards + 1 → TakesHdu (IsPassedWhole header unit) primary a c
-hdu_passed primary a b c len before shape header unit p whole described of_len same shaped q size layout blank reads = record {
-  hdu = record { header = before; data_unit = unit.bytes };
-  kept = record {
-    parts = rw same refl;
-    described = rw (same, shaped, shape_primary primary before.cards shape described) described;
-    size = rw shaped (size ∙ of_len);
-    layout = rw (same, shaped) layout;
-    blank = blank;
-    reads = rw same reads;
-  };
-  whole = hdu_whole primary before shape unit.bytes whole described (size ∙ of_len);
-  taken = hdu_taken a b c before unit.bytes p q;
-}
+use Rattle.fits_passing.specs.Hdu.{HduParts, hdu_bytes, IsHdu}
+use Rattle.fits_passing.specs.Sums.{data_sum, hdu_sum, sum_keywords, verdicts_by, verdicts_of}
+use Rattle.fits_passing.proofs.PassingLemmas.{header_words, unit_words}
 
 -- what was copied of an HDU before a copy failed: its header, and a prefix of its data unit
 pub copy_more : (xs ys : List ℕ) (a b c : SinkState) (why : CopyFault) → Prints xs a b → CopyFails ys b c why → CopyFails (xs ++ ys) a c why

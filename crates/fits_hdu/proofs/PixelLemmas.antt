@@ -1,10 +1,8 @@
 -- The pixels of an image of integers: their layout by the kind, and their values.
-use Rattle.std.proofs.Common.{nat_lt, ◌≡◌, ◌≤◌, ◌<◌, ℕ, ◌+◌, ◌*◌, ◌/◌, ◌^◌, Bool, true, false, cond, List, length, inl, inr, refl, ap, sym, ◌∙◌, subst, arith, Option, None, Some, ℤ, pos, negsuc, to_z, of_z}
-use Rattle.std.specs.Prelude.{Result, Ok, Err, IsOk, IsTrue, unsigned_abs, not}
-use Rattle.std.specs.Int.{w128}
+use Rattle.std.proofs.Common.{nat_lt, ◌≡◌, ◌≤◌, ◌<◌, ℕ, ◌+◌, ◌*◌, ◌/◌, ◌^◌, Bool, true, false, cond, List, length, inl, inr, refl, ap, sym, ◌∙◌, subst, arith, Option, None, Some, ℤ, pos, negsuc}
+use Rattle.std.specs.Prelude.{Result, Ok, Err, IsOk, IsTrue, not}
 use Rattle.std.proofs.Math.Nat.{mul-le-mul_left}
 use Rattle.std.proofs.lemmas.Bool.{eqb-true, or_cases}
-use Rattle.std.proofs.lemmas.Int.{fits_signed_from_abs, to_z-of_z}
 use Rattle.fits_value.proofs.FrontLemmas.{option_map_some}
 use Rattle.fits_card.specs.Header.{Header, IsHeader}
 use Rattle.fits_plane.specs.Layout.{IsLayout, block_count}
@@ -23,16 +21,18 @@ use Rattle.fits_rules.specs.Image.{array_bits, image_bits, integer_bits}
 use Rattle.fits_rules.specs.Shape.{shape_of, is_bitpix}
 use Rattle.fits_rules.specs.declared.array_shape.Shape.{Shape}
 use Rattle.fits_rules.proofs.LawLemmas.{shape_bounded}
-use Rattle.fits_hdu.specs.Hdu.{HduParts, IsHdu}
+use Rattle.fits_passing.specs.Hdu.{HduParts, IsHdu}
 use Rattle.fits_image.specs.Kind.{kind_in, kind_of, convention, has_offset, offset_of, width_of}
-use Rattle.fits_hdu.proofs.LayoutLemmas.{kept}
-use Rattle.fits_hdu.specs.Layout.{layout_by, layout_of}
-use Rattle.fits_hdu.specs.Pixels.{painted, painted_by, rect_by, rect_of, stats_of, with_numbers}
+use Rattle.fits_passing.proofs.LayoutLemmas.{kept}
+use Rattle.fits_passing.specs.Layout.{layout_by, layout_of}
+use Rattle.fits_hdu.specs.Pixels.{painted, painted_by, rect_by, rect_of, with_numbers}
+use Rattle.fits_passing.specs.Stats.{stats_of}
 use Rattle.fits_hdu.specs.Work.{IsPatched, PixelWork}
 use Rattle.fits_image.specs.declared.kind.Kind.{Kind}
 use Rattle.fits_image.specs.declared.kind.Kind.TheVariants.{U8, I8, I16, U16, I32, U32, I64, U64}
 use Rattle.fits_hdu.specs.declared.pixel_fault.PixelFault.{PixelFault}
 use Rattle.fits_hdu.specs.declared.pixel_fault.PixelFault.TheVariants.{NotImage, BadRectangle, WrongCount, OutOfRange}
+use Rattle.fits_passing.proofs.StatsLemmas.{small_offset}
 
 -- ---- the layout of an image
 
@@ -114,23 +114,6 @@ kind_width I32 = inr (inr (inl refl))
 kind_width U32 = inr (inr (inl refl))
 kind_width I64 = inr (inr (inr refl))
 kind_width U64 = inr (inr (inr refl))
-
--- no offset is larger than 2^63
-pub small_offset : (kind : Kind) → unsigned_abs (offset_of kind) ≤ 2 ^ 63
-small_offset U8 = omega arith
-small_offset I8 = omega arith
-small_offset I16 = omega arith
-small_offset U16 = omega arith
-small_offset I32 = omega arith
-small_offset U32 = omega arith
-small_offset I64 = omega arith
-small_offset U64 = omega arith
-
--- so an offset is a number of 128 bits
-pub offset_fits : (kind : Kind) (offset : ℤ) → offset ≡ offset_of kind → to_z w128 (of_z w128 offset) ≡ offset
-offset_fits kind offset is =
-    let small : unsigned_abs offset ≤ 2 ^ 63 = rw is (small_offset kind) in
-    to_z-of_z w128 offset (fits_signed_from_abs w128 offset (omega (arith, small)))
 
 -- the work of a write, by that of its plane
 pub patched : (layout : Layout) (shape : Shape) (cards : List (List ℕ)) (bytes axes lo hi : List ℕ) (old new : PixelWork) → layout ≡ layout_of shape cards → axes ≡ shape.axes

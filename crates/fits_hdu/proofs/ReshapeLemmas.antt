@@ -25,13 +25,13 @@ use Rattle.fits_image.specs.declared.kind.Kind.{Kind}
 use Rattle.fits_image.specs.declared.kind.Kind.TheVariants.{U8, I8, I16, U16, I32, U32, I64, U64}
 use Rattle.fits_image.proofs.ImageCardLemmas.{bscale_name, bzero_name, number_inner, shape_cards_inner}
 use Rattle.fits_image.proofs.NumberCardLemmas.{IsValueName, number_card, number_is_one_card}
-use Rattle.fits_hdu.specs.Hdu.{HduParts}
+use Rattle.fits_passing.specs.Hdu.{HduParts}
 use Rattle.fits_hdu.specs.Keyword.{keyword_cards, replacing}
 use Rattle.fits_hdu.specs.Reshape.{adds, can_reshape, cards_reshaped, describes_array, kept_count, reshaped, reshaped_by, reshaped_shape, reshaped_to, scales_otherwise, with_number, with_scaling, ReshapedIsHdu, ReshapingKeepsValues}
 use Rattle.fits_hdu.specs.declared.reshape_fault.ReshapeFault.{ReshapeFault}
 use Rattle.fits_hdu.specs.declared.reshape_fault.ReshapeFault.TheVariants.{BadShape}
 use Rattle.fits_hdu.proofs.ChangeLemmas.{inner_after}
-use Rattle.fits_hdu.proofs.LayoutLemmas.{array_values_are, kept}
+use Rattle.fits_passing.proofs.LayoutLemmas.{array_values_are, kept}
 use Rattle.fits_hdu.proofs.StampingLemmas.{brought}
 
 -- a pixel of a kind has a width

@@ -31,7 +31,7 @@ use Rattle.fits_hdu.proofs.PlanLemmas.{bscale_unshaped, bzero_unshaped}
 use Rattle.fits_hdu.proofs.ReshapeLemmas.{offset_small}
 use Rattle.fits_hdu.proofs.ScalingLemmas.{number_count, number_keeps_count, number_keeps_reads}
 use Rattle.fits_hdu.proofs.SettingLemmas.{chain_from, count_by_chain, reads_by_chain}
-use Rattle.fits_hdu.proofs.ShapeLemmas.{named_at}
+use Rattle.fits_passing.proofs.ShapeLemmas.{named_at}
 
 -- a name that begins with B is not that of the first card
 first_differs : (primary : Bool) (cards : List (List ℕ)) (card first name : List ℕ) → get_or name 0 0 ≡ 66 → card_at cards 1 ≡ Some card → first_card primary cards ≡ Some first → Differs name card

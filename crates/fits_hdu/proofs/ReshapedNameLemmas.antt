@@ -16,7 +16,7 @@ use Rattle.fits_rules.specs.declared.class.Class.TheVariants.{Primary, Groups, I
 use Rattle.fits_rules.proofs.DescribesLemmas.{described}
 use Rattle.fits_rules.proofs.LawLemmas.{shape_primary}
 use Rattle.fits_rules.proofs.SameShapeLemmas.{same_shape-Decides}
-use Rattle.fits_hdu.specs.ExtensionName.{extension_name}
+use Rattle.fits_passing.specs.ExtensionName.{extension_name}
 use Rattle.fits_hdu.specs.Reshape.{IsOther, ReshapingKeepsNames, cards_reshaped, reshaped_shape}
 use Rattle.fits_hdu.proofs.OtherLeadLemmas.{reshaping_leaves_leads}
 use Rattle.fits_hdu.proofs.ReshapeLemmas.{can_parts, kind_of_array, reshaped_has_kind, reshaped_is}

@@ -16,15 +16,15 @@ use Rattle.fits_rules.specs.declared.array_shape.Shape.{Shape}
 use Rattle.fits_image.specs.Kind.{array_kind, kind_in, offset_of, width_of}
 use Rattle.fits_image.specs.declared.kind.Kind.{Kind}
 use Rattle.fits_image.proofs.ImageCardLemmas.{width_most}
-use Rattle.fits_hdu.specs.Hdu.{HduParts, IsHdu, hdu_bytes}
-use Rattle.fits_hdu.specs.Layout.{layout_of}
+use Rattle.fits_passing.specs.Hdu.{HduParts, IsHdu, hdu_bytes}
+use Rattle.fits_passing.specs.Layout.{layout_of}
 use Rattle.fits_hdu.specs.Reshape.{ReshapeFails, can_reshape, cards_reshaped, kept_count, reshaped, reshaped_by, reshaped_shape, reshaped_to, unit_reshaped}
 use Rattle.fits_hdu.specs.Reshaping.{IsPlan, PlanFails, UnitFails, unit_planned}
 use Rattle.fits_hdu.specs.Work.{IsRead, IsRenewed, IsRescanned, PixelWork}
 use Rattle.fits_hdu.specs.declared.reshape_fault.ReshapeFault.{ReshapeFault}
 use Rattle.fits_hdu.specs.declared.reshape_fault.ReshapeFault.TheVariants.{NotImage, BadShape, OutOfRange, TooLarge, Memory}
 use Rattle.fits_hdu.specs.declared.reshaping.Reshaping.{Reshaping}
-use Rattle.fits_hdu.proofs.LayoutLemmas.{array_spanned}
+use Rattle.fits_passing.proofs.LayoutLemmas.{array_spanned}
 use Rattle.fits_hdu.proofs.PixelLemmas.{layout_pixels, layout_width}
 use Rattle.fits_hdu.proofs.ReshapeLemmas.{length_reshaped, reshaped_is_hdu, room_reshaped, size_reshaped}
 

@@ -13,9 +13,9 @@ use Rattle.fits_sum.specs.OnesComplement.{ones_complement}
 use Rattle.fits_sum.specs.Words.{word_total}
 use Rattle.fits_sum.proofs.TextLemmas.{stamped_sums_to_all_ones}
 use Rattle.fits_value.specs.Says.{first_chain_length}
-use Rattle.fits_hdu.specs.Hdu.{HduParts, IsHdu}
+use Rattle.fits_passing.specs.Hdu.{HduParts, IsHdu}
 use Rattle.fits_hdu.specs.Stamp.{stamped, with_keyword}
-use Rattle.fits_hdu.specs.Sums.{data_sum, hdu_sum}
+use Rattle.fits_passing.specs.Sums.{data_sum, hdu_sum}
 use Rattle.fits_image.proofs.LeadFromLemmas.{From, from_lead}
 use Rattle.fits_hdu.proofs.SettingLemmas.{chain_from, gone_of, set_is, set_leads}
 use Rattle.fits_image.proofs.PlainTextLemmas.{plain_card, plain_named, plain_valued}

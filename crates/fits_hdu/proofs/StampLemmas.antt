@@ -16,7 +16,7 @@ use Rattle.fits_rules.specs.declared.array_shape.Shape.{Shape}
 use Rattle.fits_rules.proofs.DescribesLemmas.{described}
 use Rattle.fits_rules.proofs.KeepingLemmas.{described_within, splice_keeps}
 use Rattle.fits_hdu.proofs.SettingLemmas.{IsOwn, IsSet}
-use Rattle.fits_hdu.proofs.ShapeLemmas.{axis_named, bitpix_named, naxis_named, named_at}
+use Rattle.fits_passing.proofs.ShapeLemmas.{axis_named, bitpix_named, naxis_named, named_at}
 
 -- the name begins with B to F and not with BI, as those of a stamp and of a scaling, and no name of a shape
 pub record IsLow (name : List ℕ) : Type 0 where

@@ -10,10 +10,10 @@ use Rattle.fits_rules.proofs.DescribesLemmas.{described}
 use Rattle.fits_sum.specs.ChecksumText.{checksum_text, zeros}
 use Rattle.fits_image.proofs.LeadFromLemmas.{lead_card_is}
 use Rattle.fits_image.proofs.PlainTextLemmas.{plain_card}
-use Rattle.fits_hdu.specs.ExtensionName.{extension_name}
-use Rattle.fits_hdu.specs.Hdu.{HduParts}
+use Rattle.fits_passing.specs.ExtensionName.{extension_name}
+use Rattle.fits_passing.specs.Hdu.{HduParts}
 use Rattle.fits_hdu.specs.Stamp.{IsOneCard, IsSumName, StampingKeepsNames, stamped, with_keyword}
-use Rattle.fits_hdu.specs.Sums.{data_sum, hdu_sum}
+use Rattle.fits_passing.specs.Sums.{data_sum, hdu_sum}
 use Rattle.fits_hdu.proofs.SettingLemmas.{set_keeps}
 use Rattle.fits_hdu.proofs.StampLemmas.{set_after}
 use Rattle.fits_hdu.proofs.StampingLemmas.{datasum_one, set_cards, set_one, set_shape, stamped_by, sum_low, text_one, zeros_one}

@@ -29,13 +29,14 @@ use Rattle.fits_sum.specs.OnesComplement.{ones_complement}
 use Rattle.fits_sum.specs.Words.{word_total}
 use Rattle.fits_sum.proofs.SumLemmas.{ones_complement-add}
 use Rattle.fits_sum.proofs.WordLemmas.{totals_add}
-use Rattle.fits_hdu.specs.Hdu.{HduParts, IsHdu, hdu_after, hdu_bytes, keeps_shape}
+use Rattle.fits_passing.specs.Hdu.{HduParts, IsHdu, hdu_after, hdu_bytes, keeps_shape}
 use Rattle.fits_hdu.specs.Keyword.{keyword_cards, own_count, replacing}
-use Rattle.fits_hdu.specs.Layout.{blank_number, layout_by, layout_of}
+use Rattle.fits_passing.specs.Layout.{blank_number, layout_by, layout_of}
 use Rattle.fits_hdu.specs.Stamp.{DatasumIsWritten, IsOneCard, IsSumName, stamped, with_datasum, with_keyword, with_string}
 use Rattle.fits_hdu.specs.State.{HduState, ReadsUpTo}
-use Rattle.fits_hdu.specs.Sums.{data_sum, hdu_sum}
-use Rattle.fits_hdu.specs.Work.{FollowsBlank, PixelWork, apply_reads, keyword_reads, stamp_count_reads, stamp_reads}
+use Rattle.fits_passing.specs.Sums.{data_sum, hdu_sum}
+use Rattle.fits_hdu.specs.Work.{FollowsBlank, PixelWork, keyword_reads, stamp_count_reads, stamp_reads}
+use Rattle.fits_passing.specs.Work.{apply_reads}
 use Rattle.fits_hdu.specs.declared.keyword_cards.KeywordCards.{KeywordCards}
 use Rattle.fits_hdu.proofs.KeywordLemmas.{keyword_within}
 use Rattle.fits_hdu.proofs.SettingLemmas.{IsKept, IsSet, chain_alone, chain_from, count_by_chain, reads_by_chain, set_is, set_keeps, set_leads}

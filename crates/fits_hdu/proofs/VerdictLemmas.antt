@@ -13,13 +13,13 @@ use Rattle.fits_value.specs.Number.{value_of}
 use Rattle.fits_value.specs.Spelling.{is_digit, is_space}
 use Rattle.fits_value.specs.declared.value.Value.{Value}
 use Rattle.fits_value.specs.declared.value.Value.TheVariants.{Str}
-use Rattle.fits_hdu.specs.Hdu.{HduParts, IsHdu}
+use Rattle.fits_passing.specs.Hdu.{HduParts, IsHdu}
 use Rattle.fits_hdu.specs.Stamp.{IsOneCard, IsSumName, stamped, with_keyword}
-use Rattle.fits_hdu.specs.Sums.{checksum_verdict, data_sum, datasum_verdict, hdu_sum, right_if, sum_keywords, sum_of_lead, sum_of_number, sum_of_text, sum_of_value, unspaced, verdicts_by, verdicts_of}
-use Rattle.fits_hdu.specs.declared.sum_keywords.SumKeywords.{SumKeywords}
-use Rattle.fits_hdu.specs.declared.sum_said.SumSaid.TheVariants.{Nothing, Number, Other}
-use Rattle.fits_hdu.specs.declared.verdict.Verdict.{Verdict}
-use Rattle.fits_hdu.specs.declared.verdict.Verdict.TheVariants.{Right}
+use Rattle.fits_passing.specs.Sums.{checksum_verdict, data_sum, datasum_verdict, hdu_sum, right_if, sum_keywords, sum_of_lead, sum_of_number, sum_of_text, sum_of_value, unspaced, verdicts_by, verdicts_of}
+use Rattle.fits_passing.specs.declared.keywords.SumKeywords.{SumKeywords}
+use Rattle.fits_passing.specs.declared.sum_said.SumSaid.TheVariants.{Nothing, Number, Other}
+use Rattle.fits_passing.specs.declared.verdict.Verdict.{Verdict}
+use Rattle.fits_passing.specs.declared.verdict.Verdict.TheVariants.{Right}
 use Rattle.fits_hdu.proofs.RightLemmas.{stamped_sum}
 use Rattle.fits_image.proofs.LeadFromLemmas.{From, lead_card_is}
 use Rattle.fits_hdu.proofs.SettingLemmas.{set_is, set_leads}

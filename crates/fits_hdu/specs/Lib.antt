@@ -1,16 +1,9 @@
-pub mod ExtensionName
-pub mod Findings
-pub mod Hdu
 pub mod Keyword
-pub mod Layout
 pub mod NewImage
-pub mod Passing
-pub mod PassingStats
 pub mod Pixels
 pub mod Reading
 pub mod Stamp
 pub mod State
-pub mod Sums
 pub mod Work
 pub mod Reshape
 pub mod Reshaping

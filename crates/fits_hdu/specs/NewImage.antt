@@ -4,7 +4,7 @@ use Rattle.fits_card.specs.Header.{new_header}
 use Rattle.fits_rules.specs.Size.{data_length}
 use Rattle.fits_image.specs.ImageCards.{image_cards, image_shape}
 use Rattle.fits_image.specs.declared.kind.Kind.{Kind}
-use Rattle.fits_hdu.specs.Hdu.{HduParts}
+use Rattle.fits_passing.specs.Hdu.{HduParts}
 
 -- a new image: each byte of its data unit is zero
 unfoldable pub new_image : Kind → List ℕ → HduParts

@@ -1,36 +1,14 @@
 -- The pixels of an integer image, and what may be written to them (FITS Standard 4.0, sections 4.4.2.5 and 5.2; own).
 use Rattle.std.specs.Prelude.{◌≡◌, ℕ, not, ℤ, List, Option, None, Some, Result, Ok, Err, IsOk, if◌then◌else◌}
-use Rattle.std.specs.Option.{option_map}
 use Rattle.fits_plane.specs.Paint.{can_store_paint, has_count, painted_number}
-use Rattle.fits_plane.specs.Pixels.{pixels}
 use Rattle.fits_plane.specs.Rectangle.{lies_within, rectangle_size, rectangle_values, rectangle_written}
-use Rattle.fits_plane.specs.Statistics.{value_statistics}
 use Rattle.fits_plane.specs.declared.lent_paint.LentPaint.{LentPaint}
-pub use Rattle.fits_plane.specs.declared.value_summary.ValueSummary.{ValueSummary as Stats}
-use Rattle.fits_rules.specs.Class.{is_primary}
-use Rattle.fits_rules.specs.Shape.{shape_of}
 use Rattle.fits_rules.specs.declared.array_shape.Shape.{Shape}
-use Rattle.fits_hdu.specs.Hdu.{HduParts}
+use Rattle.fits_passing.specs.Hdu.{HduParts}
 use Rattle.fits_image.specs.Kind.{kind_in, offset_of, width_of}
-use Rattle.fits_hdu.specs.Layout.{layout_of}
 use Rattle.fits_image.specs.declared.kind.Kind.{Kind}
 use Rattle.fits_hdu.specs.declared.pixel_fault.PixelFault.{PixelFault}
 use Rattle.fits_hdu.specs.declared.pixel_fault.PixelFault.TheVariants.{NotImage, BadRectangle, WrongCount, OutOfRange, Memory}
-
--- the stored numbers of the pixels, in order
-abbrev pub stored_numbers : Shape → HduParts → List ℤ
-stored_numbers shape hdu = let layout = layout_of shape hdu.header.cards in pixels layout.width hdu.data_unit 0 layout.pixels
-
--- the statistics of an image of integers: of its values, stored numbers plus the offset (4.4.2.5)
-unfoldable pub stats_of : Shape → HduParts → Option Stats
-stats_of shape hdu =
-    option_map (λ kind. value_statistics (offset_of kind) (layout_of shape hdu.header.cards).blank (stored_numbers shape hdu)) (kind_in shape hdu.header.cards)
-
--- these are the statistics of an HDU, by the shape that its cards describe: none where it is no image of integers
-pub record AreStatsOf (stats : Option Stats) (hdu : HduParts) : Type 0 where
-  pub shape : Shape
-  pub described : shape_of (is_primary shape.class) hdu.header.cards ≡ Ok shape
-  pub are : stats ≡ stats_of shape hdu
 
 -- a number for each pixel of a rectangle, by its rank, in place of those that stood there
 abbrev pub with_numbers : Shape → Kind → List ℕ → List ℕ → (ℕ → ℤ) → HduParts → HduParts

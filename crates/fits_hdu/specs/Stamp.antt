@@ -10,10 +10,10 @@ use Rattle.fits_rules.specs.Shape.{shape_of}
 use Rattle.fits_rules.specs.declared.array_shape.Shape.{Shape}
 use Rattle.fits_value.specs.Written.{write_says}
 use Rattle.fits_value.specs.declared.value.Value.TheVariants.{Str}
-use Rattle.fits_hdu.specs.ExtensionName.{extension_name}
-use Rattle.fits_hdu.specs.Hdu.{HduParts}
+use Rattle.fits_passing.specs.ExtensionName.{extension_name}
+use Rattle.fits_passing.specs.Hdu.{HduParts}
 use Rattle.fits_hdu.specs.Keyword.{keyword_cards, own_count, replacing}
-use Rattle.fits_hdu.specs.Sums.{data_sum, hdu_sum}
+use Rattle.fits_passing.specs.Sums.{data_sum, hdu_sum}
 
 -- written cards instead of a keyword's, where they can be written
 abbrev pub with_written : List (List ℕ) → List ℕ → Option (List (List ℕ)) → List (List ℕ)

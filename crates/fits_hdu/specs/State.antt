@@ -8,9 +8,9 @@ use Rattle.fits_image.specs.Kind.{kind_in}
 use Rattle.fits_image.specs.declared.kind.Kind.{Kind}
 use Rattle.fits_plane.specs.DataUnit.{Absence, IsCounted}
 use Rattle.fits_plane.specs.Plane.{PlaneState}
-use Rattle.fits_hdu.specs.ExtensionName.{extension_name}
-use Rattle.fits_hdu.specs.Hdu.{HduParts}
-use Rattle.fits_hdu.specs.declared.extension_name.ExtensionName.{ExtensionName}
+use Rattle.fits_passing.specs.ExtensionName.{extension_name}
+use Rattle.fits_passing.specs.Hdu.{HduParts}
+use Rattle.fits_passing.specs.declared.called.ExtensionName.{ExtensionName}
 
 -- its header, its data unit, read as its cards say, where its name stands in a table of names, if its holder said so, whether that keeps
 -- it stamped, and where its data unit lies, if it isn't in memory

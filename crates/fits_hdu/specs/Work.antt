@@ -8,7 +8,6 @@ use Rattle.fits_card.specs.Header.{header_bytes}
 use Rattle.fits_stream.specs.Stored.{ReadLogState}
 use Rattle.fits_stream.specs.Stream.{SinkState, Prints}
 use Rattle.fits_plane.specs.Again.{copied_blocks, IsUnitRead}
-use Rattle.fits_header.specs.Work.{mark_reads}
 use Rattle.fits_plane.specs.Layout.{block_count}
 use Rattle.fits_plane.specs.declared.layout.Layout.{Layout}
 use Rattle.fits_plane.specs.Work.{rectangle_blocks}
@@ -16,24 +15,9 @@ use Rattle.fits_plane.specs.Plane.{PlaneState}
 use Rattle.fits_image.specs.Kind.{offset_of}
 use Rattle.fits_image.specs.declared.kind.Kind.{Kind}
 use Rattle.fits_sum.specs.Words.{word_total}
-use Rattle.fits_hdu.specs.Layout.{layout_of}
+use Rattle.fits_passing.specs.Layout.{layout_of}
 use Rattle.fits_hdu.specs.State.{HduState}
-
--- what is read after a change of the cards: the leads of BZERO, BSCALE, BLANK, DATASUM and CHECKSUM
-abbrev pub lead_reads : ℕ
-lead_reads = 5
-
--- what an extension is called is found by place 1 and the leads of EXTNAME and EXTVER
-abbrev pub name_reads : ℕ
-name_reads = 3
-
--- a change of the cards reads so many when it is made: the leads, and those that decide the codes of the header
-abbrev pub apply_reads : ℕ
-apply_reads = mark_reads + lead_reads
-
--- an HDU is opened by so many: its shape is read, then each card for what is kept beside it, and then what a change reads
-abbrev pub open_reads : List (List ℕ) → ℕ
-open_reads cards = 4 * length cards + 4 + apply_reads
+use Rattle.fits_passing.specs.Work.{apply_reads, open_reads}
 
 -- a keyword is read by so many: the cards of its lead's value, and one
 unfoldable pub keyword_reads : List (List ℕ) → List ℕ → ℕ

@@ -7,19 +7,17 @@ mod reporting;
 mod reshaping;
 mod stamping;
 
-use crate::described::{Described, read_described};
-use crate::extension_name::{ExtensionName, extension_name};
-use crate::fault::HduFault;
 use crate::keyword::{KeywordFault, keyword_cards, keyword_value};
 use crate::keyword_cards::KeywordCards;
-use crate::layout::{follow_blank, plane_of};
-use crate::read_fault::ReadHduFault;
-use crate::sum_keywords::SumKeywords;
-use crate::sums::sum_keywords;
+use crate::planes::{follow_blank, plane_of};
 use fits_card::{CardList, Change, Name, has_header};
 use fits_codes::HeaderMark;
 use fits_header::Header;
 use fits_image::{Kind, image_kind};
+use fits_passing::{
+    Described, ExtensionName, HduFault, ReadHduFault, SumKeywords, extension_name, read_described,
+    sum_keywords,
+};
 use fits_plane::{DataUnit, Plane};
 use fits_rules::Shape;
 use fits_stream::{Intake, Sink, Source};
@@ -53,9 +51,9 @@ impl Model for Hdu {
     ghost use Rattle.fits_rules.specs.Size.{data_length};
     ghost use Rattle.fits_codes.specs.HeaderCodes.{header_mark_of};
     ghost use Rattle.fits_image.specs.Kind.{kind_in};
-    ghost use Rattle.fits_hdu.specs.Layout.{layout_of};
+    ghost use Rattle.fits_passing.specs.Layout.{layout_of};
     ghost use Rattle.fits_hdu.specs.State.{HduState};
-    ghost use Rattle.fits_hdu.specs.Sums.{sum_keywords};
+    ghost use Rattle.fits_passing.specs.Sums.{sum_keywords};
 
     ghost Value = { HduState };
 
@@ -92,11 +90,12 @@ impl Hdu {
     ghost use Rattle.fits_rules.specs.Size.{data_length};
     ghost use Rattle.fits_hdu.specs.Keyword.{keyword_cards, keyword_value, KeywordFails};
     ghost use Rattle.fits_image.specs.Kind.{kind_in};
-    ghost use Rattle.fits_hdu.specs.Layout.{layout_of};
-    ghost use Rattle.fits_hdu.specs.Reading.{HduStops};
+    ghost use Rattle.fits_passing.specs.Layout.{layout_of};
+    ghost use Rattle.fits_passing.specs.HduReading.{HduStops};
     ghost use Rattle.fits_hdu.specs.State.{name_of, parts_of, IsDescribed, ReadsUpTo};
-    ghost use Rattle.fits_hdu.specs.Work.{apply_reads, keyword_reads, layout_in, name_reads, plane_work, FollowsBlank, IsOpened, IsScanned};
-    ghost use Rattle.fits_hdu.specs.Hdu.{IsHdu, IsHduOf, HduFails, hdu_bytes, hdu_after, keeps_shape};
+    ghost use Rattle.fits_passing.specs.Work.{apply_reads, name_reads};
+    ghost use Rattle.fits_hdu.specs.Work.{keyword_reads, layout_in, plane_work, FollowsBlank, IsOpened, IsScanned};
+    ghost use Rattle.fits_passing.specs.Hdu.{IsHdu, IsHduOf, HduFails, hdu_bytes, hdu_after, keeps_shape};
 
     /// The HDU that these bytes begin with, the primary one or an extension, and how many bytes it
     /// has (FITS Standard 4.0, section 3.1).
@@ -196,7 +195,7 @@ impl Hdu {
     ///
     /// A data unit longer than what may still be taken isn't begun, and memory is asked for as its
     /// bytes come.
-    #[tactic(auto, using(crate::proofs::ReadingLemmas::read_steps))]
+    #[tactic(auto, using(fits_passing::proofs::ReadingLemmas::read_steps))]
     pub fn read<R: Source>(
         alloc: Global,
         intake: &mut Intake,

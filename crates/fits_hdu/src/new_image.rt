@@ -1,12 +1,12 @@
 //! How long a new image is.
 ghost use Rattle.std.specs.Prelude.{◌≡◌, ◌≤◌, ◌<◌, ◌^◌, true, length, IfSome, None};
 ghost use Rattle.fits_image.specs.ImageCards.{are_axes, image_shape};
-ghost use Rattle.fits_hdu.specs.Hdu.{hdu_bytes};
+ghost use Rattle.fits_passing.specs.Hdu.{hdu_bytes};
 ghost use Rattle.fits_hdu.specs.NewImage.{new_image};
 
-use crate::data_unit::unit_len;
 use fits_card::header_len;
 use fits_image::{Kind, card_count};
+use fits_passing::unit_len;
 use fits_rules::Shape;
 
 /// How many bytes a new image has, with its header and its fill (FITS Standard 4.0, section 3.1),

@@ -9,11 +9,11 @@ ghost use Rattle.fits_hdu.specs.Reshape.{reshaped_shape};
 ghost use Rattle.fits_hdu.specs.Reshaping.{unit_planned, UnitFails};
 ghost use Rattle.fits_hdu.specs.Work.{plane_work, IsRead};
 
-use crate::data_unit::unit_len;
 use crate::reshape_fault::ReshapeFault;
 use crate::reshaping::Reshaping;
 use fits_card::{CARD_LEN, header_len};
 use fits_image::Kind;
+use fits_passing::unit_len;
 use fits_plane::DataUnit;
 use fits_rules::{Shape, data_bytes};
 use std::alloc::Global;

@@ -3,15 +3,15 @@ use Rattle.std.proofs.Common.{◌≡◌, ℕ, List, refl, ap, ◌∙◌, Option,
 use Rattle.std.specs.Prelude.{◌↔◌, ok_or, Result, Ok, Err}
 use Rattle.fits_rules.specs.Shape.{shape_of}
 use Rattle.fits_rules.specs.declared.array_shape.Shape.{Shape}
-use Rattle.fits_hdu.specs.Hdu.{HduParts}
+use Rattle.fits_passing.specs.Hdu.{HduParts}
 use Rattle.fits_image.specs.Kind.{kind_in as hdu_kind}
 use Rattle.fits_laws.specs.Kinds.{IsKind}
 use Rattle.fits_image.specs.declared.kind.Kind.{Kind}
 use Rattle.fits_hdu.specs.declared.pixel_fault.PixelFault.{PixelFault}
 use Rattle.fits_hdu.specs.declared.pixel_fault.PixelFault.TheVariants as pixel
-use Rattle.fits_session.specs.Edit.{hdu_of, is_primary_hdu}
-use Rattle.fits_session.specs.HduEdit.{pixels_made, shaped}
-use Rattle.fits_session.specs.File.{FileParts}
+use Rattle.fits_session.specs.Edit.{hdu_of}
+use Rattle.fits_passing.specs.File.{is_primary_hdu, FileParts}
+use Rattle.fits_edits.specs.HduEdit.{pixels_made, shaped}
 use Rattle.fits_session.specs.Query.{by_shape, in_hdu, kind_in}
 use Rattle.fits_laws.specs.Files.{IsKindIn}
 

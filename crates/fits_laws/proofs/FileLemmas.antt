@@ -4,19 +4,19 @@ use Rattle.std.specs.Prelude.{nat_eq, codes}
 use Rattle.std.specs.List.{starts_with}
 use Rattle.std.proofs.lemmas.Bool.{cases_lt}
 use Rattle.std.proofs.lemmas.List.{length-append}
-use Rattle.fits_hdu.specs.Hdu.{HduParts, hdu_bytes, IsHduOf, HasHduFault}
-use Rattle.fits_hdu.specs.declared.fault.HduFault.{HduFault}
-use Rattle.fits_hdu.specs.declared.fault.HduFault.TheVariants as hdu_fault
+use Rattle.fits_passing.specs.Hdu.{HduParts, hdu_bytes, IsHduOf, HasHduFault}
+use Rattle.fits_passing.specs.declared.hdu_fault.HduFault.{HduFault}
+use Rattle.fits_passing.specs.declared.hdu_fault.HduFault.TheVariants as hdu_fault
 use Rattle.fits_laws.proofs.HduLemmas.{no_fault, one_fault, hdu_or_fault, BeginsWithHdu}
-use Rattle.fits_session.specs.File.{FileParts, begins_extension, is_first, goes_on, IsFrontOf, IsFileOf}
-use Rattle.fits_session.specs.declared.limits.TheConstants.{FILE_LIMIT, HDU_LIMIT}
-use Rattle.fits_session.specs.Opening.{BeginsAsFits, StopsAt, FailsAt, HasTooManyHdus, HasOpenFault, open_fault_of}
+use Rattle.fits_passing.specs.File.{FileParts, begins_extension, is_first, goes_on, IsFrontOf, IsFileOf}
+use Rattle.fits_passing.specs.declared.limits.TheConstants.{FILE_LIMIT, HDU_LIMIT}
+use Rattle.fits_passing.specs.Opening.{BeginsAsFits, StopsAt, FailsAt, HasTooManyHdus, HasOpenFault, open_fault_of}
 use Rattle.fits_laws.specs.Files.{IsFileOrNot}
-use Rattle.fits_session.specs.declared.open_fault.OpenFault.{OpenFault}
-use Rattle.fits_session.specs.declared.open_fault.OpenFault.TheVariants.{NotFits, NoEnd, BadShape, ShortData, TooLarge, Memory}
-use Rattle.fits_session.proofs.FrontLemmas.{front_none, front_push, goes_on-some, front_begins, hdu_long}
+use Rattle.fits_passing.specs.declared.open_fault.OpenFault.{OpenFault}
+use Rattle.fits_passing.specs.declared.open_fault.OpenFault.TheVariants.{NotFits, NoEnd, BadShape, ShortData, TooLarge, Memory}
+use Rattle.fits_passing.proofs.FrontLemmas.{front_none, front_push, goes_on-some, front_begins, hdu_long}
 use Rattle.fits_laws.proofs.FrontLemmas.{goes_on-push, fronts_level, fronts_ahead, none_beyond, file_begins}
-use Rattle.fits_session.proofs.FileLemmas.{fault_here}
+use Rattle.fits_passing.proofs.FileLemmas.{fault_here}
 
 -- neither of two numbers is the less
 same_number : (m n : ℕ) → (m < n → ⊥) → (n < m → ⊥) → m ≡ n

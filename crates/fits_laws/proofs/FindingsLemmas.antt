@@ -7,11 +7,11 @@ use Rattle.fits_header.specs.Findings.{card_findings}
 use Rattle.fits_header.specs.declared.finding.Finding.{Finding}
 use Rattle.fits_rules.specs.Class.{is_primary}
 use Rattle.fits_rules.specs.Shape.{shape_of}
-use Rattle.fits_hdu.specs.ExtensionName.{extension_name}
-use Rattle.fits_hdu.specs.Findings.{AreFindings, whole_codes}
-use Rattle.fits_hdu.specs.Hdu.{HduParts}
-use Rattle.fits_hdu.specs.declared.extension_name.ExtensionName.{ExtensionName}
-use Rattle.fits_hdu.proofs.ShapeLemmas.{one_primary}
+use Rattle.fits_passing.specs.ExtensionName.{extension_name}
+use Rattle.fits_passing.specs.Findings.{AreFindings, whole_codes}
+use Rattle.fits_passing.specs.Hdu.{HduParts}
+use Rattle.fits_passing.specs.declared.called.ExtensionName.{ExtensionName}
+use Rattle.fits_passing.proofs.ShapeLemmas.{one_primary}
 
 -- cards describe one shape
 one_shape : (cards : List (List ℕ)) (s t : Shape) → shape_of (is_primary s.class) cards ≡ Ok s → shape_of (is_primary t.class) cards ≡ Ok t → s ≡ t

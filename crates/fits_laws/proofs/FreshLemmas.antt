@@ -3,13 +3,13 @@ use Rattle.std.proofs.Common.{◌≡◌, ℕ, List, [], ◌∷◌, refl, ap, sym
 use Rattle.std.specs.Prelude.{None, Result, Ok, Err}
 use Rattle.std.proofs.lemmas.List.Elements.{All-head, All-tail}
 use Rattle.fits_session.specs.Edit.{HasSizes}
-use Rattle.fits_session.specs.File.{FileParts, file_bytes, IsFile, IsFileOf}
+use Rattle.fits_passing.specs.File.{FileParts, file_bytes, IsFile, IsFileOf}
 use Rattle.fits_laws.specs.Fresh.{Answered, EditsInTurn, Fresh, ReadsAs, after_answer, fresh, marked_after_all}
 use Rattle.fits_session.specs.Marked.{Marked, marked_after, marked_refusal}
 use Rattle.fits_laws.specs.Edits.{AreRight}
 use Rattle.fits_session.specs.Session.{file_of, marked_of, EditsTo, SessionState}
 use Rattle.fits_edit.specs.declared.edit.Edit.{Edit}
-use Rattle.fits_session.specs.declared.refusal.Refusal.{Refusal}
+use Rattle.fits_edits.specs.declared.refusal.Refusal.{Refusal}
 
 -- an accepted edit leaves a file, and both sums right in the HDUs that are kept stamped
 abbrev pub LeavesFiles : Type 0

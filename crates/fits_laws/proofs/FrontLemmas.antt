@@ -1,10 +1,10 @@
 -- How the HDUs of two readings of one file go along.
 use Rattle.std.proofs.Common.{◌≡◌, ℕ, ◌<◌, true, false, List, [], ◌∷◌, ◌++◌, length, refl, sym, ◌∙◌, arith, All, suc}
-use Rattle.fits_hdu.specs.Hdu.{HduParts, IsHdu, IsHduOf}
+use Rattle.fits_passing.specs.Hdu.{HduParts, IsHdu, IsHduOf}
 use Rattle.fits_laws.proofs.HduLemmas.{one_hdu, extension_begins, BeginsWithHdu}
-use Rattle.fits_session.specs.File.{FileParts, joined_hdus, begins_extension, is_first, goes_on, IsFrontOf, IsFileOf}
-use Rattle.fits_session.specs.Opening.{BeginsAsFits}
-use Rattle.fits_session.proofs.FrontLemmas.{first_hdu, front_begins, joined-first, some_hdus}
+use Rattle.fits_passing.specs.File.{FileParts, joined_hdus, begins_extension, is_first, goes_on, IsFrontOf, IsFileOf}
+use Rattle.fits_passing.specs.Opening.{BeginsAsFits}
+use Rattle.fits_passing.proofs.FrontLemmas.{first_hdu, front_begins, joined-first, some_hdus}
 
 -- after one more HDU the next one is an extension
 pub goes_on-push : (us : List HduParts) (u : HduParts) (rest : List ℕ) → goes_on (us ++ u ∷ []) rest ≡ begins_extension rest

@@ -10,10 +10,10 @@ use Rattle.fits_card.proofs.CutLemmas.{one_header, header_or_none}
 use Rattle.fits_rules.specs.Shape.{shape_of}
 use Rattle.fits_rules.specs.Size.{data_length}
 use Rattle.fits_rules.specs.declared.array_shape.Shape.{Shape}
-use Rattle.fits_hdu.specs.declared.fault.HduFault.{HduFault}
-use Rattle.fits_hdu.specs.declared.fault.HduFault.TheVariants.{NoEnd, BadShape, ShortData, Memory}
-use Rattle.fits_hdu.specs.Hdu.{HduParts, IsHduOf, BreaksShape, LacksData, HasHduFault}
-use Rattle.fits_hdu.proofs.HduLemmas.{hdu_begins, header_of_hdu}
+use Rattle.fits_passing.specs.declared.hdu_fault.HduFault.{HduFault}
+use Rattle.fits_passing.specs.declared.hdu_fault.HduFault.TheVariants.{NoEnd, BadShape, ShortData, Memory}
+use Rattle.fits_passing.specs.Hdu.{HduParts, IsHduOf, BreaksShape, LacksData, HasHduFault}
+use Rattle.fits_passing.proofs.HduLemmas.{hdu_begins, header_of_hdu}
 
 -- the same cards have one shape
 one_shape : (primary : Bool) (a b : Header) (s t : Shape) → a ≡ b → shape_of primary a.cards ≡ Ok s → shape_of primary b.cards ≡ Ok t → s ≡ t

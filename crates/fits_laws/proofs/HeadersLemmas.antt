@@ -1,15 +1,15 @@
 -- Headers that were read are those of a file, or the bytes have the fault.
 use Rattle.std.proofs.Common.{◌≡◌, ℕ, List, [], ◌++◌, length, subst, ap, ◌∙◌, arith, Option, Some, inr}
 use Rattle.std.proofs.lemmas.List.{append-nil}
-use Rattle.fits_hdu.specs.Hdu.{HduParts}
-use Rattle.fits_hdu.specs.declared.fault.HduFault.{HduFault}
-use Rattle.fits_hdu.specs.declared.fault.HduFault.TheVariants as hdu_fault
-use Rattle.fits_session.specs.File.{joined_hdus, IsFrontOf}
-use Rattle.fits_session.specs.Headers.{cards_of, AreHeadersIn, StopsHere}
+use Rattle.fits_passing.specs.Hdu.{HduParts}
+use Rattle.fits_passing.specs.declared.hdu_fault.HduFault.{HduFault}
+use Rattle.fits_passing.specs.declared.hdu_fault.HduFault.TheVariants as hdu_fault
+use Rattle.fits_passing.specs.File.{joined_hdus, IsFrontOf}
+use Rattle.fits_passing.specs.Headers.{cards_of, AreHeadersIn, StopsHere}
 use Rattle.fits_laws.specs.Files.{HeadersTellFaults, HeadersTellFiles}
-use Rattle.fits_session.specs.Opening.{BeginsAsFits, FailsAt}
-use Rattle.fits_session.specs.declared.open_fault.OpenFault.{OpenFault}
-use Rattle.fits_session.specs.declared.open_fault.OpenFault.TheVariants.{NotFits, NoEnd, BadShape, ShortData, TooLarge, Memory}
+use Rattle.fits_passing.specs.Opening.{BeginsAsFits, FailsAt}
+use Rattle.fits_passing.specs.declared.open_fault.OpenFault.{OpenFault}
+use Rattle.fits_passing.specs.declared.open_fault.OpenFault.TheVariants.{NotFits, NoEnd, BadShape, ShortData, TooLarge, Memory}
 
 -- headers without a fault are those of a file
 pub tell_files : HeadersTellFiles

@@ -1,9 +1,9 @@
 -- Files some of whose HDUs are kept stamped.
 use Rattle.std.proofs.Common.{◌≡◌, ℕ, zero, suc, false, List, [], ◌∷◌, length, get_or, replicate, refl, ap, ◌∙◌}
-use Rattle.fits_hdu.specs.Hdu.{HduParts}
+use Rattle.fits_passing.specs.Hdu.{HduParts}
 use Rattle.fits_session.specs.Edit.{changed_at, changed_of, file_after, hdu_of, with_hdu}
-use Rattle.fits_session.specs.File.{FileParts}
-use Rattle.fits_session.specs.Keeping.{stamp_follows, stamped_if}
+use Rattle.fits_passing.specs.File.{FileParts}
+use Rattle.fits_edits.specs.Keeping.{stamp_follows, stamped_if}
 use Rattle.fits_session.specs.Marked.{is_kept, marked_after, marked_refusal}
 use Rattle.fits_laws.specs.Edits.{UnmarkedArePlain}
 use Rattle.fits_session.specs.Refusal.{refusal_in, refusal_of}

@@ -5,10 +5,10 @@ use Rattle.std.specs.List.{filter}
 use Rattle.std.proofs.lemmas.Bool.{and_parts, cases_Bool}
 use Rattle.std.proofs.lemmas.List.Sums.{sum_by-cons}
 use Rattle.fits_codes.specs.Code.{is_error}
-use Rattle.fits_session.specs.declared.problem.Problem.{Problem}
+use Rattle.fits_passing.specs.declared.problem.Problem.{Problem}
 use Rattle.fits_cli.specs.NewErrors.{count_of, has_more, is_new, stands_in}
-use Rattle.fits_cli.specs.Report.{warnings_in}
-use Rattle.fits_cli.specs.declared.level.Level.TheVariants.{Errors}
+use Rattle.fits_tell.specs.Report.{warnings_in}
+use Rattle.fits_tell.specs.declared.level.Level.TheVariants.{Errors}
 
 -- it is an error, where warnings don't count
 new_error : (before after : List Problem) (it : Problem) → is_new Errors before after it ≡ true → is_error it.code ≡ true

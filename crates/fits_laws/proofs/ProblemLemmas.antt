@@ -10,17 +10,17 @@ use Rattle.fits_codes.specs.declared.code.Code.{Code}
 use Rattle.fits_codes.specs.declared.code.Code.TheVariants.{DuplicateExtension}
 use Rattle.fits_header.specs.Findings.{card_findings, codes_at, found_at}
 use Rattle.fits_header.specs.declared.finding.Finding.{Finding}
-use Rattle.fits_hdu.specs.ExtensionName.{name_codes}
-use Rattle.fits_hdu.specs.Findings.{hdu_findings, whole_codes}
-use Rattle.fits_hdu.specs.Hdu.{HduParts}
-use Rattle.fits_hdu.specs.declared.extension_name.ExtensionName.{ExtensionName}
-use Rattle.fits_session.specs.Edit.{hdu_of, is_primary_hdu}
-use Rattle.fits_session.specs.File.{FileParts, is_followed}
-use Rattle.fits_session.specs.Report.{in_hdu, is_repeated, name_in, names_from, report_of, trailing, trails, wrong_from, wrong_in}
+use Rattle.fits_passing.specs.ExtensionName.{name_codes}
+use Rattle.fits_passing.specs.Findings.{hdu_findings, whole_codes}
+use Rattle.fits_passing.specs.Hdu.{HduParts}
+use Rattle.fits_passing.specs.declared.called.ExtensionName.{ExtensionName}
+use Rattle.fits_session.specs.Edit.{hdu_of}
+use Rattle.fits_passing.specs.File.{is_primary_hdu, FileParts, is_followed}
+use Rattle.fits_passing.specs.Report.{in_hdu, is_repeated, name_in, names_from, report_of, trailing, trails, wrong_from, wrong_in}
 use Rattle.fits_laws.specs.Problems.{IsCodeAt, IsTrailing, IsWrong}
-use Rattle.fits_session.specs.declared.problem.Problem.{Problem}
+use Rattle.fits_passing.specs.declared.problem.Problem.{Problem}
 use Rattle.fits_laws.proofs.RepeatedLemmas.{has_repeated, repeated_has}
-use Rattle.fits_session.proofs.ReportLemmas.{trailing_some}
+use Rattle.fits_passing.proofs.ReportLemmas.{trailing_some}
 
 -- no element is in an empty list
 in_none : {X : Type 0} (x : X) → Contains [] x → ⊥

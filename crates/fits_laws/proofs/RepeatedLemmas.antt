@@ -2,13 +2,13 @@
 use Rattle.std.proofs.Common.{◌≡◌, ℕ, ◌+◌, ◌≤◌, true, List, [], ◌∷◌, refl, ap, sym, ◌∙◌, arith, inl, inr, Option, None, Some, zero, suc}
 use Rattle.std.specs.Prelude.{nat_le}
 use Rattle.std.specs.List.{slice_get}
-use Rattle.fits_hdu.specs.Hdu.{HduParts}
-use Rattle.fits_hdu.specs.declared.extension_name.ExtensionName.{ExtensionName}
+use Rattle.fits_passing.specs.Hdu.{HduParts}
+use Rattle.fits_passing.specs.declared.called.ExtensionName.{ExtensionName}
 use Rattle.fits_session.specs.Edit.{hdu_of}
-use Rattle.fits_session.specs.File.{FileParts}
-use Rattle.fits_session.specs.Report.{called_count, is_called, is_repeated, name_in, names_from}
+use Rattle.fits_passing.specs.File.{FileParts}
+use Rattle.fits_passing.specs.Report.{called_count, is_called, is_repeated, name_in, names_from}
 use Rattle.fits_laws.specs.Problems.{HasNameOfAnother}
-use Rattle.fits_session.proofs.NameLemmas.{count_called, count_other, first_or, name_itself, same_name}
+use Rattle.fits_passing.proofs.NameLemmas.{count_called, count_other, first_or, name_itself, same_name}
 
 -- what is called so has this name
 pub name_is : (name : ExtensionName) (first : Option ExtensionName) → is_called name first ≡ true → first ≡ Some name

@@ -12,7 +12,7 @@ use Rattle.fits_rules.specs.Shape.{axis_name, shape_of}
 use Rattle.fits_rules.specs.declared.array_shape.Shape.{Shape}
 use Rattle.fits_header.proofs.TurnLemmas.{lead-append}
 use Rattle.fits_image.specs.declared.kind.Kind.{Kind}
-use Rattle.fits_hdu.specs.Hdu.{HduParts, hdu_after, keeps_shape}
+use Rattle.fits_passing.specs.Hdu.{HduParts, hdu_after, keeps_shape}
 use Rattle.fits_plane.specs.Paint.{can_store_paint, has_count, painted_number}
 use Rattle.fits_plane.specs.Rectangle.{lies_within, rectangle_size}
 use Rattle.fits_plane.specs.declared.lent_paint.LentPaint.{LentPaint}
@@ -26,11 +26,11 @@ use Rattle.fits_hdu.proofs.ReshapeLemmas.{can_parts, reshaped_has_kind, reshaped
 use Rattle.fits_edit.specs.declared.hdu_edit.HduEdit.{HduEdit}
 use Rattle.fits_edit.specs.declared.hdu_edit.HduEdit.TheVariants.{Cards, Keep, Pixels, Release, Reshape, Stamp}
 use Rattle.fits_edit.specs.Paint.{plane_paint}
-use Rattle.fits_session.specs.CardEdit.{change_of}
-use Rattle.fits_session.specs.Edit.{hdu_edited, made_or}
-use Rattle.fits_session.specs.HduEdit.{hdu_changed, hdu_made, hdu_reshaped, pixels_made, reshape_made, shaped}
-use Rattle.fits_session.specs.declared.refusal.Refusal.{Refusal}
-use Rattle.fits_session.specs.declared.refusal.Refusal.TheVariants as refusal
+use Rattle.fits_edits.specs.CardEdit.{change_of}
+use Rattle.fits_session.specs.Edit.{hdu_edited}
+use Rattle.fits_edits.specs.HduEdit.{made_or, hdu_changed, hdu_made, hdu_reshaped, pixels_made, reshape_made, shaped}
+use Rattle.fits_edits.specs.declared.refusal.Refusal.{Refusal}
+use Rattle.fits_edits.specs.declared.refusal.Refusal.TheVariants as refusal
 use Rattle.fits_laws.specs.Sums.{SumCards, has_no_sum, leaves_sums, passes_sums, sum_cards}
 
 -- where both hold each does

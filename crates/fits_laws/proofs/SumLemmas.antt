@@ -2,20 +2,20 @@
 use Rattle.std.proofs.Common.{◌≡◌, ℕ, zero, suc, ◌-◌, Bool, true, false, List, [], ◌∷◌, get_or, refl, ap, sym, subst, ◌∙◌, Option, None, Some}
 use Rattle.std.specs.Prelude.{◌&&◌, not, if◌then◌else◌, Ok}
 use Rattle.std.specs.List.{slice_get}
-use Rattle.fits_hdu.specs.Hdu.{HduParts, IsHdu}
+use Rattle.fits_passing.specs.Hdu.{HduParts, IsHdu}
 use Rattle.fits_hdu.specs.NewImage.{new_image}
-use Rattle.fits_hdu.specs.Sums.{verdicts_of}
-use Rattle.fits_hdu.specs.declared.verdict.Verdict.{Verdict}
-use Rattle.fits_hdu.specs.declared.verdict.Verdict.TheVariants.{Right, Missing, Wrong}
-use Rattle.fits_hdu.specs.declared.verdicts.Verdicts.{Verdicts}
+use Rattle.fits_passing.specs.Sums.{verdicts_of}
+use Rattle.fits_passing.specs.declared.verdict.Verdict.{Verdict}
+use Rattle.fits_passing.specs.declared.verdict.Verdict.TheVariants.{Right, Missing, Wrong}
+use Rattle.fits_passing.specs.declared.verdicts.Verdicts.{Verdicts}
 use Rattle.fits_edit.specs.declared.edit.Edit.{Edit}
 use Rattle.fits_edit.specs.declared.edit.Edit.TheVariants.{Hdu, NewImage, RemoveHdu}
 use Rattle.fits_edit.specs.declared.hdu_edit.HduEdit.{HduEdit}
 use Rattle.fits_edit.specs.declared.hdu_edit.HduEdit.TheVariants.{Cards, Keep, Pixels, Release, Reshape, Stamp}
-use Rattle.fits_session.specs.Edit.{changed_at, file_after, hdu_edited, hdu_of, is_primary_hdu, HasSizes}
-use Rattle.fits_session.specs.File.{FileParts, file_bytes, IsFile}
-use Rattle.fits_session.specs.HduEdit.{hdu_made, HasHduSizes}
-use Rattle.fits_session.specs.Keeping.{are_right, both_right, is_right, is_wrong, kept_after, stamp_follows, stamped_if, vouch}
+use Rattle.fits_session.specs.Edit.{changed_at, file_after, hdu_edited, hdu_of, HasSizes}
+use Rattle.fits_passing.specs.File.{is_primary_hdu, FileParts, file_bytes, IsFile}
+use Rattle.fits_edits.specs.HduEdit.{hdu_made, HasHduSizes}
+use Rattle.fits_edits.specs.Keeping.{are_right, both_right, is_right, is_wrong, kept_after, stamp_follows, stamped_if, vouch}
 use Rattle.fits_session.specs.Marked.{Marked, is_kept, marked_after, marked_refusal, marks_after}
 use Rattle.fits_session.specs.Query.{in_hdu}
 use Rattle.fits_session.specs.Refusal.{refusal_in}

@@ -1,15 +1,15 @@
 -- What laws say of the bytes of files, and of their headers (own).
 use Rattle.std.specs.Prelude.{◌⊎◌, ℕ, List, ◌≡◌, Some, None, Ok}
-use Rattle.fits_session.specs.File.{FileParts, IsFileOf}
-use Rattle.fits_session.specs.declared.open_fault.OpenFault.{OpenFault}
-use Rattle.fits_session.specs.Opening.{HasOpenFault}
-use Rattle.fits_session.specs.Headers.{AreHeadersIn, cards_of}
+use Rattle.fits_passing.specs.File.{FileParts, IsFileOf, is_primary_hdu}
+use Rattle.fits_passing.specs.declared.open_fault.OpenFault.{OpenFault}
+use Rattle.fits_passing.specs.Opening.{HasOpenFault}
+use Rattle.fits_passing.specs.Headers.{AreHeadersIn, cards_of}
 use Rattle.fits_rules.specs.Shape.{shape_of}
 use Rattle.fits_rules.specs.declared.array_shape.Shape.{Shape}
-use Rattle.fits_hdu.specs.Hdu.{HduParts}
+use Rattle.fits_passing.specs.Hdu.{HduParts}
 use Rattle.fits_laws.specs.Kinds.{IsKind}
 use Rattle.fits_image.specs.declared.kind.Kind.{Kind}
-use Rattle.fits_session.specs.Edit.{hdu_of, is_primary_hdu}
+use Rattle.fits_session.specs.Edit.{hdu_of}
 
 -- the bytes are a file, or have a fault
 abbrev pub IsFileOrNot : List ℕ → Type 0

@@ -3,18 +3,18 @@ use Rattle.std.specs.Prelude.{◌≡◌, ℕ, ℤ, List, [], ◌∷◌, length, 
 use Rattle.fits_header.specs.declared.counts.Counts.{Counts}
 use Rattle.fits_value.specs.declared.value.Value.{Value}
 use Rattle.fits_image.specs.declared.kind.Kind.{Kind}
-use Rattle.fits_hdu.specs.Pixels.{Stats}
-use Rattle.fits_hdu.specs.declared.verdicts.Verdicts.{Verdicts}
+use Rattle.fits_passing.specs.Stats.{Stats}
+use Rattle.fits_passing.specs.declared.verdicts.Verdicts.{Verdicts}
 use Rattle.fits_rules.specs.declared.array_shape.Shape.{Shape}
-use Rattle.fits_session.specs.File.{FileParts, file_bytes, offsets_from, IsFileOf}
+use Rattle.fits_passing.specs.File.{FileParts, file_bytes, offsets_from, IsFileOf}
 use Rattle.fits_session.specs.Marked.{marked_after, Marked}
 use Rattle.fits_session.specs.Query.{card_count_in, datasum_in, kind_in, names_in, positions_in, rect_in, shape_in, stats_in, value_in, verdicts_in}
-use Rattle.fits_session.specs.Report.{counts_in, report_of}
+use Rattle.fits_passing.specs.Report.{counts_in, report_of}
 use Rattle.fits_session.specs.Session.{marked_of, EditsTo, SessionState}
 use Rattle.fits_edit.specs.declared.edit.Edit.{Edit}
-use Rattle.fits_session.specs.declared.offsets.HduOffsets.{HduOffsets}
-use Rattle.fits_session.specs.declared.problem.Problem.{Problem}
-use Rattle.fits_session.specs.declared.refusal.Refusal.{Refusal}
+use Rattle.fits_passing.specs.declared.offsets.HduOffsets.{HduOffsets}
+use Rattle.fits_passing.specs.declared.problem.Problem.{Problem}
+use Rattle.fits_edits.specs.declared.refusal.Refusal.{Refusal}
 
 -- all that queries answer of a file: of the whole, and of HDU h, or its refusal
 pub record Fresh : Type 0 where

@@ -5,13 +5,13 @@ use Rattle.fits_rules.specs.declared.array_shape.Shape.{Shape}
 use Rattle.fits_codes.specs.declared.code.Code.{Code}
 use Rattle.fits_codes.specs.declared.code.Code.TheVariants.{DuplicateExtension}
 use Rattle.fits_header.specs.Findings.{codes_at}
-use Rattle.fits_hdu.specs.Findings.{whole_codes}
-use Rattle.fits_hdu.specs.Hdu.{HduParts}
-use Rattle.fits_hdu.specs.declared.extension_name.ExtensionName.{ExtensionName}
-use Rattle.fits_session.specs.Edit.{hdu_of, is_primary_hdu}
-use Rattle.fits_session.specs.File.{FileParts, is_followed}
-use Rattle.fits_session.specs.declared.problem.Problem.{Problem}
-use Rattle.fits_session.specs.Report.{name_in, trails}
+use Rattle.fits_passing.specs.Findings.{whole_codes}
+use Rattle.fits_passing.specs.Hdu.{HduParts}
+use Rattle.fits_passing.specs.declared.called.ExtensionName.{ExtensionName}
+use Rattle.fits_session.specs.Edit.{hdu_of}
+use Rattle.fits_passing.specs.File.{is_primary_hdu, FileParts, is_followed}
+use Rattle.fits_passing.specs.declared.problem.Problem.{Problem}
+use Rattle.fits_passing.specs.Report.{name_in, trails}
 
 -- another HDU than HDU h is called so
 pub record IsNameOfAnother (file : FileParts) (h : ℕ) (name : ExtensionName) : Type 0 where

@@ -9,12 +9,12 @@ ghost use Rattle.fits_rules.specs.Image.{image_bits};
 ghost use Rattle.fits_rules.specs.Shape.{shape_of};
 ghost use Rattle.fits_rules.specs.declared.array_shape.Shape.{Shape};
 ghost use Rattle.fits_codes.specs.declared.code.Code.{Code};
-ghost use Rattle.fits_hdu.specs.declared.extension_name.ExtensionName.{ExtensionName};
-ghost use Rattle.fits_hdu.specs.declared.fault.HduFault.{HduFault};
+ghost use Rattle.fits_passing.specs.declared.called.ExtensionName.{ExtensionName};
+ghost use Rattle.fits_passing.specs.declared.hdu_fault.HduFault.{HduFault};
 ghost use Rattle.fits_image.specs.declared.kind.Kind.{Kind};
 ghost use Rattle.fits_header.specs.declared.finding.Finding.{Finding};
-ghost use Rattle.fits_hdu.specs.Findings.{AreFindings};
-ghost use Rattle.fits_hdu.specs.Hdu.{HduParts, IsHdu, IsHduOf, HasHduFault, hdu_after};
+ghost use Rattle.fits_passing.specs.Findings.{AreFindings};
+ghost use Rattle.fits_passing.specs.Hdu.{HduParts, IsHdu, IsHduOf, HasHduFault, hdu_after};
 ghost use Rattle.fits_image.specs.Kind.{kind_in};
 ghost use Rattle.fits_laws.specs.Kinds.{IsKind};
 ghost use Rattle.fits_image.specs.ImageCards.{are_axes, image_cards, image_shape};
@@ -22,8 +22,8 @@ ghost use Rattle.fits_hdu.specs.NewImage.{new_image};
 ghost use Rattle.fits_hdu.specs.Pixels.{painted};
 ghost use Rattle.fits_hdu.specs.Reshape.{ReshapedIsHdu, ReshapingKeepsNames, ReshapingKeepsValues, ReshapingLeavesLeads, ScalingGivesOffset, ScalingKeepsShapes};
 ghost use Rattle.fits_hdu.specs.Stamp.{stamped, DatasumIsWritten, StampingKeepsNames};
-ghost use Rattle.fits_hdu.specs.Sums.{hdu_sum, verdicts_of};
-ghost use Rattle.fits_hdu.specs.declared.verdict.Verdict.TheVariants.{Right};
+ghost use Rattle.fits_passing.specs.Sums.{hdu_sum, verdicts_of};
+ghost use Rattle.fits_passing.specs.declared.verdict.Verdict.TheVariants.{Right};
 
 /// Bytes begin with one HDU at most.
 pub fn one_hdu()

@@ -5,16 +5,16 @@ ghost use Rattle.fits_laws.specs.Runs.{IsEdited, LeavesSums};
 ghost use Rattle.fits_script.specs.declared.command.Command.{Command};
 ghost use Rattle.fits_script.specs.declared.limits.TheConstants.{LINE_LIMIT};
 ghost use Rattle.fits_script.specs.Line.{command_of, reading_of};
-ghost use Rattle.fits_session.specs.File.{FileParts, IsFile};
-ghost use Rattle.fits_session.specs.Report.{IsListedBefore};
-ghost use Rattle.fits_session.specs.declared.problem.Problem.{Problem};
+ghost use Rattle.fits_passing.specs.File.{FileParts, IsFile};
+ghost use Rattle.fits_passing.specs.Report.{IsListedBefore};
+ghost use Rattle.fits_passing.specs.declared.problem.Problem.{Problem};
 ghost use Rattle.fits_cli.specs.Answer.{at_first_line, Standing};
 ghost use Rattle.fits_cli.specs.NewErrors.{new_errors, HasMoreErrors};
 ghost use Rattle.fits_cli.specs.Output.{standing_after, Output, IsOutputOf};
-ghost use Rattle.fits_cli.specs.Report.{warnings_in};
+ghost use Rattle.fits_tell.specs.Report.{warnings_in};
 ghost use Rattle.fits_cli.specs.Script.{IsCutInLines};
-ghost use Rattle.fits_cli.specs.declared.level.Level.{Level};
-ghost use Rattle.fits_cli.specs.declared.level.Level.TheVariants.{Errors};
+ghost use Rattle.fits_tell.specs.declared.level.Level.{Level};
+ghost use Rattle.fits_tell.specs.declared.level.Level.TheVariants.{Errors};
 ghost use Rattle.fits_cli.specs.declared.terms.Terms.{Terms};
 
 /// What a line comes to is decided by one byte more than a line may have.

@@ -8,8 +8,8 @@ ghost use Rattle.fits_rules.specs.Lead.{lead_place};
 ghost use Rattle.fits_rules.specs.Shape.{shape_of};
 ghost use Rattle.fits_rules.specs.declared.array_shape.Shape.{Shape};
 ghost use Rattle.fits_value.specs.Says.{chain_length};
-ghost use Rattle.fits_hdu.specs.Hdu.{HduParts};
-ghost use Rattle.fits_hdu.specs.Layout.{layout_of};
+ghost use Rattle.fits_passing.specs.Hdu.{HduParts};
+ghost use Rattle.fits_passing.specs.Layout.{layout_of};
 ghost use Rattle.fits_hdu.specs.State.{HduState};
 ghost use Rattle.fits_image.specs.Kind.{array_kind};
 ghost use Rattle.fits_image.specs.declared.kind.Kind.{Kind};
@@ -17,16 +17,17 @@ ghost use Rattle.fits_hdu.specs.Reshape.{kept_count};
 ghost use Rattle.fits_hdu.specs.Work.{keyword_reads, plane_work, FollowsBlank, IsOpened, IsRenewed, PixelWork};
 ghost use Rattle.fits_laws.specs.Bounds.{mandatory_count, most_reads, moved_count, reshaped_count, stamped_count};
 ghost use Rattle.fits_laws.specs.Bounds.{unworked, NoneFalls, OthersStay, SameCounts, ScansUpTo, WorksUpTo};
-ghost use Rattle.fits_session.specs.CardEdit.{change_of};
+ghost use Rattle.fits_edits.specs.CardEdit.{change_of};
 ghost use Rattle.fits_session.specs.Edit.{hdu_edited};
-ghost use Rattle.fits_session.specs.Session.{unread, without_entries, works_of, Asks, AsksPixels, EditsTo, HduWork, PutsIn, ReadsOnceAtMost};
+ghost use Rattle.fits_edits.specs.Making.{unread, HduWork};
+ghost use Rattle.fits_session.specs.Session.{without_entries, works_of, Asks, AsksPixels, EditsTo, PutsIn, ReadsOnceAtMost};
 ghost use Rattle.fits_session.specs.Session.{SessionState};
 ghost use Rattle.fits_session.specs.Work.{reads_in_all};
 ghost use Rattle.fits_edit.specs.declared.card_edit.CardEdit.{CardEdit};
 ghost use Rattle.fits_edit.specs.declared.edit.Edit.{Edit};
 ghost use Rattle.fits_edit.specs.declared.hdu_edit.HduEdit.{HduEdit};
 ghost use Rattle.fits_edit.specs.declared.paint.Paint.{Paint};
-ghost use Rattle.fits_session.specs.declared.refusal.Refusal.{Refusal};
+ghost use Rattle.fits_edits.specs.declared.refusal.Refusal.{Refusal};
 
 /// An edit of cards, or a stamp, reads cards of its HDU alone, at most four for each mandatory one,
 /// four for each that it takes out or puts in, and 64; it scans no block, or each of its data unit

@@ -10,36 +10,37 @@ use Rattle.fits_card.specs.Header.{Header, IsHeader, header_bytes}
 use Rattle.fits_rules.specs.Class.{is_primary}
 use Rattle.fits_rules.specs.Shape.{shape_of}
 use Rattle.fits_header.specs.State.{HeaderState}
-use Rattle.fits_hdu.specs.ExtensionName.{extension_name}
+use Rattle.fits_passing.specs.ExtensionName.{extension_name}
 use Rattle.fits_plane.specs.DataUnit.{Absence, IsCounted, LiesIn}
 use Rattle.fits_stream.specs.Intake.{supply, IntakeState}
 use Rattle.fits_stream.specs.Stored.{bytes_from, Lent, ReadLogState}
 use Rattle.fits_stream.specs.Stream.{SourceState}
-use Rattle.fits_hdu.specs.Hdu.{HduParts, hdu_bytes, IsHdu}
+use Rattle.fits_passing.specs.Hdu.{HduParts, hdu_bytes, IsHdu}
 use Rattle.fits_hdu.specs.State.{HduState, name_of, parts_of, IsDescribed}
 use Rattle.fits_hdu.specs.Work.{IsKnownAt, IsOpened, Loads, plane_work}
-use Rattle.fits_hdu.specs.declared.passed_hdu.PassedHdu.{PassedHdu}
+use Rattle.fits_passing.specs.declared.passed_hdu.PassedHdu.{PassedHdu}
 use Rattle.fits_hdu.proofs.PassedLemmas.{same_verdicts}
-use Rattle.fits_hdu.specs.declared.extension_name.ExtensionName.{ExtensionName}
+use Rattle.fits_passing.specs.declared.called.ExtensionName.{ExtensionName}
 use Rattle.fits_stream.specs.Agree.{IsOf}
 use Rattle.fits_stream.specs.Gave.{Gave, GaveAll}
 use Rattle.fits_stream.specs.Log.{unskipped, Grows}
 use Rattle.fits_stream.proofs.GaveLemmas.{gave_fact, gave_of}
 use Rattle.fits_plane.specs.Again.{Follows}
 use Rattle.fits_plane.proofs.AgainLemmas.{again_some, follows_on}
-use Rattle.fits_session.specs.declared.read_fault.ReadFileFault.TheVariants.{Open, Failed}
-use Rattle.fits_session.specs.declared.open_fault.OpenFault.TheVariants.{NotFits, NoEnd, BadShape, ShortData, TooLarge, Memory}
+use Rattle.fits_passing.specs.declared.read_file_fault.ReadFileFault.TheVariants.{Open, Failed}
+use Rattle.fits_passing.specs.declared.open_fault.OpenFault.TheVariants.{NotFits, NoEnd, BadShape, ShortData, TooLarge, Memory}
 use Rattle.fits_session.specs.Away.{is_passed, parts_passed, AllLie, AreKnownFrom, LoadsAlone, LoadWork, StoredStops}
-use Rattle.fits_session.specs.Edit.{changed_of, is_primary_hdu, with_hdu}
-use Rattle.fits_session.specs.File.{FileParts, file_bytes, joined_hdus, IsFile}
-use Rattle.fits_session.specs.Opening.{HasOpenFault}
-use Rattle.fits_session.specs.Keeping.{vouch, IsSound}
-use Rattle.fits_session.specs.Reading.{GaveFault, KeepsEach, SupplyStops}
-use Rattle.fits_session.specs.Session.{file_of, hdus_of, marked_of, state_of, HasArray, HasPixels, HasStats, Holding, IsHad, IsHeld, IsKept, IsSoOf}
-use Rattle.fits_session.specs.declared.limits.TheConstants.{FILE_LIMIT}
-use Rattle.fits_session.proofs.HadLemmas.{had_held}
+use Rattle.fits_session.specs.Edit.{changed_of, with_hdu}
+use Rattle.fits_passing.specs.File.{is_primary_hdu, FileParts, file_bytes, joined_hdus, IsFile}
+use Rattle.fits_passing.specs.Opening.{HasOpenFault}
+use Rattle.fits_edits.specs.Keeping.{vouch, IsSound}
+use Rattle.fits_passing.specs.Reading.{GaveFault, KeepsEach, SupplyStops}
+use Rattle.fits_session.specs.Session.{file_of, hdus_of, marked_of, state_of, HasPixels, HasStats, IsHeld, IsKept, IsSoOf}
+use Rattle.fits_edits.specs.Making.{HasArray, Holding, IsHad}
+use Rattle.fits_passing.specs.declared.limits.TheConstants.{FILE_LIMIT}
+use Rattle.fits_edits.proofs.HadLemmas.{had_held}
 use Rattle.fits_session.proofs.EditLemmas.{length_changed, other_kept}
-use Rattle.fits_session.specs.declared.read_fault.ReadFileFault.{ReadFileFault}
+use Rattle.fits_passing.specs.declared.read_file_fault.ReadFileFault.{ReadFileFault}
 use Rattle.fits_session.proofs.StandingLemmas.{stands_same}
 use Rattle.fits_session.proofs.StateLemmas.{IsHduAt, hdu_of-there, hdus_of-changed, marked_of-same, slice_get-hdus_of, whole_there}
 

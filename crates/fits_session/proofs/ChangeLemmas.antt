@@ -3,10 +3,9 @@ use Rattle.std.proofs.Common.{◌≡◌, ℕ, ◌+◌, ◌≤◌, Bool, true, fa
 use Rattle.std.specs.List.{slice_get}
 use Rattle.std.proofs.lemmas.List.{length-append}
 use Rattle.std.proofs.lemmas.Option.{slice_get_within, get_or_from_slice_get}
-use Rattle.fits_hdu.specs.Hdu.{HduParts, hdu_bytes, IsHdu}
+use Rattle.fits_passing.specs.Hdu.{HduParts, hdu_bytes, IsHdu}
 use Rattle.fits_session.specs.Edit.{changed_at}
-use Rattle.fits_session.specs.File.{joined_hdus, goes_on, IsFrontOf}
-use Rattle.fits_session.specs.Edit.{is_primary_hdu}
+use Rattle.fits_passing.specs.File.{joined_hdus, goes_on, IsFrontOf, is_primary_hdu}
 
 -- an extension is no primary HDU
 other_at : (i : ℕ) → is_primary_hdu (suc (suc i)) ≡ false

@@ -13,21 +13,21 @@ use Rattle.fits_header.specs.Findings.{card_findings, counts_of, found_at, summe
 use Rattle.fits_header.specs.declared.counts.Counts.{Counts}
 use Rattle.fits_header.specs.declared.finding.Finding.{Finding}
 use Rattle.fits_header.proofs.FindingLemmas.{counts-append}
-use Rattle.fits_hdu.specs.ExtensionName.{name_codes}
-use Rattle.fits_hdu.specs.Findings.{hdu_counts, hdu_findings, whole_codes}
-use Rattle.fits_hdu.specs.Hdu.{HduParts, hdu_bytes}
+use Rattle.fits_passing.specs.ExtensionName.{name_codes}
+use Rattle.fits_passing.specs.Findings.{hdu_counts, hdu_findings, whole_codes}
+use Rattle.fits_passing.specs.Hdu.{HduParts, hdu_bytes}
 use Rattle.fits_hdu.specs.State.{HduState, name_of, parts_of, IsDescribed}
-use Rattle.fits_hdu.specs.declared.extension_name.ExtensionName.{ExtensionName}
-use Rattle.fits_session.specs.File.{is_followed, joined_hdus, IsFile}
-use Rattle.fits_session.specs.Edit.{is_primary_hdu}
-use Rattle.fits_session.specs.Report.{counts_in, in_hdu, is_repeated, name_in, names_from, report_of, trailing, trails, wrong_from, wrong_in}
-use Rattle.fits_session.specs.NameTable.{names_of, IsTableOf, PointsAt}
+use Rattle.fits_passing.specs.declared.called.ExtensionName.{ExtensionName}
+use Rattle.fits_passing.specs.File.{is_followed, joined_hdus, IsFile, is_primary_hdu}
+use Rattle.fits_passing.specs.Report.{counts_in, in_hdu, is_repeated, name_in, names_from, report_of, trailing, trails, wrong_from, wrong_in}
+use Rattle.fits_session.specs.NameTable.{names_of}
+use Rattle.fits_passing.specs.NameCounts.{IsTableOf, PointsAt}
 use Rattle.fits_session.specs.Session.{file_of, hdus_of, state_of, AreNamed}
-use Rattle.fits_session.specs.declared.problem.Problem.{Problem}
+use Rattle.fits_passing.specs.declared.problem.Problem.{Problem}
 use Rattle.fits_session.proofs.OffsetLemmas.{ends_within, hdus_more, start_more}
 use Rattle.fits_session.proofs.NameLemmas.{named_there, names_are}
 use Rattle.fits_session.proofs.StandingLemmas.{points_there}
-use Rattle.fits_session.proofs.ReportLemmas.{trailing_none, trailing_some}
+use Rattle.fits_passing.proofs.ReportLemmas.{trailing_none, trailing_some}
 use Rattle.fits_session.proofs.StateLemmas.{described_there, file_size, length-hdus_of, IsHduAt}
 
 -- what is wrong in HDUs, and in more

@@ -1,41 +1,22 @@
 -- How the data units of a session are had, and what leaves them so.
-use Rattle.std.proofs.Common.{◌≡◌, ◌<◌, ◌∙◌, ap, sym, subst, ℕ, List, length, get_or, set, Option, None, Some}
+use Rattle.std.proofs.Common.{◌≡◌, ◌<◌, sym, subst, ℕ, List, length, get_or, set, Option}
 use Rattle.fits_stream.specs.Stored.{ReadLogState}
-use Rattle.std.specs.Prelude.{All, Bool, IfSome, true}
+use Rattle.std.specs.Prelude.{All, Bool, true}
 use Rattle.fits_session.specs.Away.{in_file, Agree, AgreeOn, AllLie, LieStill}
 use Rattle.fits_plane.specs.Again.{Follows}
 use Rattle.std.proofs.lemmas.List.Elements.{All-set}
 use Rattle.fits_hdu.specs.State.{HduState, ReadsUpTo}
 use Rattle.fits_plane.specs.DataUnit.{LiesIn}
-use Rattle.fits_plane.specs.Plane.{PlaneState}
-use Rattle.fits_hdu.specs.declared.extension_name.ExtensionName.{ExtensionName}
-use Rattle.fits_session.specs.Session.{unentered, without_entries, HasPixels, HasStats, Holding, IsHad, IsHeld, IsKept, IsReadyFor, IsReadyTo, IsSoOf, StaysHad}
+use Rattle.fits_passing.specs.declared.called.ExtensionName.{ExtensionName}
+use Rattle.fits_session.specs.Session.{unentered, without_entries, HasPixels, HasStats, IsHeld, IsKept, IsReadyFor, IsSoOf}
+use Rattle.fits_edits.specs.Making.{Holding, IsHad, IsReadyTo, StaysHad}
 use Rattle.fits_edit.specs.declared.edit.Edit.{Edit}
 use Rattle.fits_edit.specs.declared.edit.Edit.TheVariants.{Hdu, NewImage, RemoveHdu}
 use Rattle.fits_edit.specs.declared.hdu_edit.HduEdit.{HduEdit}
 use Rattle.fits_edit.specs.declared.hdu_edit.HduEdit.TheVariants.{Cards, Keep, Pixels, Release, Reshape, Stamp}
 use Rattle.fits_session.proofs.KeptLemmas.{all_seen, seen_all}
 use Rattle.fits_session.proofs.StateLemmas.{IsHduAt}
-
--- one that lies where it lay, and has the bytes that it had, is had as it was
-pub had_same : (old new : HduState) → new.absent ≡ old.absent → new.plane.bytes ≡ old.plane.bytes → StaysHad old new
-had_same old new place bytes holding p = record {
-  held = λ whole. place ∙ p.held whole;
-  lies = rw (place, bytes) p.lies;
-}
-
--- so is one whose cards were read
-pub had_read : (old new : HduState) (count : ℕ) → ReadsUpTo old new count → StaysHad old new
-had_read old new count read = had_same old new read.absent (ap (λ (plane : PlaneState). plane.bytes) read.plane)
-
--- what is in memory lies in any file
-lies_held : (told : Option (List ℕ)) (one : HduState) → one.absent ≡ None → IfSome told (λ bytes. LiesIn bytes one.plane one.absent)
-lies_held None one held = tt
-lies_held (Some bytes) one held = rw held tt
-
--- and is had in any way
-pub had_held : (holding : Holding) (one : HduState) → one.absent ≡ None → IsHad holding one
-had_held holding one held = record { held = λ whole. held; lies = lies_held holding.told one held }
+use Rattle.fits_edits.proofs.HadLemmas.{had_read, had_held}
 
 -- HDUs that are all in memory are
 pub all_held : (holding : Holding) (hdus : List HduState) → All IsHeld hdus → All (IsHad holding) hdus

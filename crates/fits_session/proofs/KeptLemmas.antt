@@ -3,16 +3,18 @@ use Rattle.std.proofs.Common.{◌≡◌, ℕ, Bool, false, List, [], ◌∷◌, 
 use Rattle.std.specs.Prelude.{All}
 use Rattle.std.proofs.lemmas.List.{get_or-map, length-map}
 use Rattle.std.proofs.lemmas.List.Elements.{All-head, All-map, All-tail}
-use Rattle.fits_hdu.specs.Hdu.{HduParts}
+use Rattle.fits_passing.specs.Hdu.{HduParts}
 use Rattle.fits_hdu.specs.State.{HduState, ReadsUpTo, name_of, parts_of, IsDescribed}
 use Rattle.fits_hdu.specs.Work.{IsOpened, PixelWork, plane_work}
-use Rattle.fits_hdu.specs.declared.extension_name.ExtensionName.{ExtensionName}
+use Rattle.fits_passing.specs.declared.called.ExtensionName.{ExtensionName}
 use Rattle.std.specs.Map.{keys_of}
-use Rattle.fits_session.specs.File.{FileParts, file_bytes, IsFile}
-use Rattle.fits_session.specs.NameTable.{mended, names_of, IsTableOf, PointsAt, Stands}
-use Rattle.fits_session.specs.Keeping.{IsSound}
+use Rattle.fits_passing.specs.File.{FileParts, file_bytes, IsFile}
+use Rattle.fits_session.specs.NameTable.{mended, names_of, Stands}
+use Rattle.fits_passing.specs.NameCounts.{IsTableOf, PointsAt}
+use Rattle.fits_edits.specs.Keeping.{IsSound}
 use Rattle.fits_session.specs.Marked.{Marked, unmarked}
-use Rattle.fits_session.specs.Session.{file_of, hdus_of, kept_of, marked_of, reads_of, state_of, uncounted, unentered, without_counts, without_entries, works_of, AreNamed, Holding, IsHad, IsKept}
+use Rattle.fits_session.specs.Session.{file_of, hdus_of, kept_of, marked_of, reads_of, state_of, uncounted, unentered, without_counts, without_entries, works_of, AreNamed, IsKept}
+use Rattle.fits_edits.specs.Making.{Holding, IsHad}
 use Rattle.fits_session.proofs.StateLemmas.{IsHduAt, parts_same, unkept_right}
 
 -- the parts of HDUs are no counts

@@ -5,9 +5,11 @@ use Rattle.std.specs.Map.{keys_of}
 use Rattle.std.proofs.lemmas.List.{get_or-drop, get_or-set_same, length-set, set-set, take_more_set}
 use Rattle.std.proofs.lemmas.List.Elements.{All-push}
 use Rattle.fits_hdu.specs.State.{HduState, ReadsUpTo, name_of}
-use Rattle.fits_hdu.specs.Work.{name_reads, IsOpened}
-use Rattle.fits_hdu.specs.declared.extension_name.ExtensionName.{ExtensionName}
-use Rattle.fits_session.specs.NameTable.{Enters, Leaves, PointsAt, Stands, Stood}
+use Rattle.fits_passing.specs.Work.{name_reads}
+use Rattle.fits_hdu.specs.Work.{IsOpened}
+use Rattle.fits_passing.specs.declared.called.ExtensionName.{ExtensionName}
+use Rattle.fits_passing.specs.NameCounts.{Enters, PointsAt}
+use Rattle.fits_session.specs.NameTable.{Leaves, Stands, Stood}
 use Rattle.fits_session.proofs.StandingLemmas.{entered_as, renamed_leaves, stands_same}
 
 -- what holds anyhow holds where there is no error

@@ -4,12 +4,12 @@ use Rattle.std.proofs.lemmas.List.{length-append, take_more, take_all}
 use Rattle.std.proofs.lemmas.List.Concat.{flat_map-append}
 use Rattle.std.proofs.lemmas.List.Folds.{length-flat_map-take}
 use Rattle.fits_card.specs.Header.{header_bytes}
-use Rattle.fits_hdu.specs.Hdu.{HduParts, hdu_bytes}
+use Rattle.fits_passing.specs.Hdu.{HduParts, hdu_bytes}
 use Rattle.fits_hdu.specs.State.{HduState, parts_of}
-use Rattle.fits_session.specs.File.{joined_hdus, offsets_from}
+use Rattle.fits_passing.specs.File.{joined_hdus, offsets_from}
 use Rattle.fits_session.specs.Session.{hdus_of}
 use Rattle.fits_session.proofs.StateLemmas.{get_or-hdus_of, length-hdus_of}
-use Rattle.fits_session.specs.declared.offsets.HduOffsets.{HduOffsets}
+use Rattle.fits_passing.specs.declared.offsets.HduOffsets.{HduOffsets}
 
 -- the offsets of one HDU that begins here
 abbrev offsets_at : ℕ → HduParts → HduOffsets

@@ -17,15 +17,14 @@ use Rattle.fits_codes.specs.declared.code.Code.TheVariants.{BadDataFill, WrongDa
 use Rattle.fits_header.specs.Findings.{card_findings, card_of, codes_at, context_at, found_at}
 use Rattle.fits_header.specs.declared.finding.Finding.{Finding}
 use Rattle.fits_header.proofs.FilterLemmas.{AllPairs-append, AllPairs-map}
-use Rattle.fits_hdu.specs.ExtensionName.{name_codes}
-use Rattle.fits_hdu.specs.Findings.{data_codes, has_data_code, hdu_findings, is_filled, whole_codes}
-use Rattle.fits_hdu.specs.Sums.{verdicts_of}
-use Rattle.fits_hdu.specs.Hdu.{HduParts}
-use Rattle.fits_hdu.specs.declared.extension_name.ExtensionName.{ExtensionName}
-use Rattle.fits_session.specs.File.{FileParts}
-use Rattle.fits_session.specs.Edit.{is_primary_hdu}
-use Rattle.fits_session.specs.Report.{in_hdu, is_repeated, name_in, names_from, report_of, trailing, trails, wrong_from, wrong_in, IsListedBefore}
-use Rattle.fits_session.specs.declared.problem.Problem.{Problem}
+use Rattle.fits_passing.specs.ExtensionName.{name_codes}
+use Rattle.fits_passing.specs.Findings.{data_codes, has_data_code, hdu_findings, is_filled, whole_codes}
+use Rattle.fits_passing.specs.Sums.{verdicts_of}
+use Rattle.fits_passing.specs.Hdu.{HduParts}
+use Rattle.fits_passing.specs.declared.called.ExtensionName.{ExtensionName}
+use Rattle.fits_passing.specs.File.{FileParts, is_primary_hdu}
+use Rattle.fits_passing.specs.Report.{in_hdu, is_repeated, name_in, names_from, report_of, trailing, trails, wrong_from, wrong_in, IsListedBefore}
+use Rattle.fits_passing.specs.declared.problem.Problem.{Problem}
 
 -- a code has a smaller number
 abbrev IsCodeBefore : Code → Code → Type 0

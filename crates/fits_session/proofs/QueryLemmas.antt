@@ -8,33 +8,33 @@ use Rattle.fits_rules.specs.Class.{is_primary}
 use Rattle.fits_rules.specs.Image.{array_bits}
 use Rattle.fits_rules.specs.Shape.{shape_of}
 use Rattle.fits_rules.specs.declared.array_shape.Shape.{Shape}
-use Rattle.fits_hdu.specs.Hdu.{HduParts}
+use Rattle.fits_passing.specs.Hdu.{HduParts}
 use Rattle.fits_hdu.specs.Keyword.{keyword_value, KeywordFails}
 use Rattle.fits_image.specs.Kind.{kind_in as hdu_kind}
-use Rattle.fits_hdu.specs.Pixels.{rect_of, stats_of, RectFails}
-use Rattle.fits_hdu.specs.Sums.{data_sum, verdicts_of}
+use Rattle.fits_hdu.specs.Pixels.{rect_of, RectFails}
+use Rattle.fits_passing.specs.Stats.{stats_of, Stats}
+use Rattle.fits_passing.specs.Sums.{data_sum, verdicts_of}
 use Rattle.fits_hdu.specs.declared.pixel_fault.PixelFault.{PixelFault}
 use Rattle.fits_hdu.specs.declared.pixel_fault.PixelFault.TheVariants as pixel
-use Rattle.fits_hdu.specs.Pixels.{Stats}
-use Rattle.fits_hdu.specs.declared.verdict.Verdict.{Verdict}
-use Rattle.fits_hdu.specs.declared.verdict.Verdict.TheVariants.{Right, Missing, Wrong}
-use Rattle.fits_hdu.specs.declared.verdicts.Verdicts.{Verdicts}
+use Rattle.fits_passing.specs.declared.verdict.Verdict.{Verdict}
+use Rattle.fits_passing.specs.declared.verdict.Verdict.TheVariants.{Right, Missing, Wrong}
+use Rattle.fits_passing.specs.declared.verdicts.Verdicts.{Verdicts}
 use Rattle.fits_hdu.specs.State.{HduState, ReadsUpTo, parts_of}
 use Rattle.fits_hdu.specs.Work.{keyword_reads, plane_work}
 use Rattle.fits_image.specs.declared.kind.Kind.{Kind}
 use Rattle.fits_hdu.specs.declared.keyword.KeywordFault.{KeywordFault}
 use Rattle.fits_hdu.specs.declared.keyword.KeywordFault.TheVariants as keyword
 use Rattle.fits_session.specs.Edit.{hdu_of}
-use Rattle.fits_session.specs.HduEdit.{pixels_made, refusal_of_pixels, shaped}
-use Rattle.fits_session.specs.File.{IsFile}
-use Rattle.fits_session.specs.Query.{array_in, by_shape, card_count_in, datasum_in, kind_in, rect_in, shape_in, some_shape, stats_in, verdicts_in, value_in, positions_in, names_in, in_hdu, or_refused, refusal_of_keyword, PlacesFail, QueryFails}
-use Rattle.fits_session.specs.Edit.{is_primary_hdu}
-use Rattle.fits_session.specs.Keeping.{are_right, both_right, is_right}
+use Rattle.fits_edits.specs.HduEdit.{pixels_made, refusal_of_pixels, shaped}
+use Rattle.fits_passing.specs.File.{IsFile, is_primary_hdu}
+use Rattle.fits_session.specs.Query.{array_in, by_shape, card_count_in, datasum_in, kind_in, rect_in, shape_in, some_shape, stats_in, verdicts_in, value_in, positions_in, names_in, in_hdu, or_refused, PlacesFail, QueryFails}
+use Rattle.fits_edits.specs.Refusal.{refusal_of_keyword}
+use Rattle.fits_edits.specs.Keeping.{are_right, both_right, is_right}
 use Rattle.fits_session.specs.Marked.{is_kept, kept_in}
 use Rattle.fits_session.specs.Session.{file_of, kept_of, marked_of, read_more, state_of, Asks, AsksPixels}
 use Rattle.fits_session.specs.Work.{reads_in, value_reads}
-use Rattle.fits_session.specs.declared.refusal.Refusal.{Refusal}
-use Rattle.fits_session.specs.declared.refusal.Refusal.TheVariants as refusal
+use Rattle.fits_edits.specs.declared.refusal.Refusal.{Refusal}
+use Rattle.fits_edits.specs.declared.refusal.Refusal.TheVariants as refusal
 use Rattle.fits_session.proofs.StateLemmas.{IsHduAt, hdu_of-there, described_there, asked, kept_there, marked_of-same, reads_of-same, works_changed}
 
 -- how many cards HDU h has

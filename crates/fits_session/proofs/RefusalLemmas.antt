@@ -1,9 +1,7 @@
 -- No test refuses an edit for memory.
-use Rattle.std.proofs.Common.{◌≡◌, ℕ, ◌+◌, refl, ap, sym, ◌∙◌, [], ◌∷◌, length, Bool, true, false, List, Option, None, Some}
-use Rattle.std.specs.Prelude.{◌==◌, if◌then◌else◌, not, Result, Ok, Err, IsErrOf}
-use Rattle.std.specs.List.{list_all, list_any}
-use Rattle.fits_card.specs.Card.{is_text, is_end}
-use Rattle.fits_card.specs.Change.{cards_after, new_cards}
+use Rattle.std.proofs.Common.{◌≡◌, ℕ, ◌+◌, refl, ap, [], ◌∷◌, length, Bool, true, false, List, Option, None, Some}
+use Rattle.std.specs.Prelude.{◌==◌, if◌then◌else◌, not, Result, Ok, Err}
+use Rattle.fits_card.specs.Change.{cards_after}
 use Rattle.fits_card.specs.declared.change.Change.{Change}
 use Rattle.fits_card.specs.Name.{is_settable}
 use Rattle.fits_card.specs.declared.change.Change.TheVariants.{Splice}
@@ -14,7 +12,7 @@ use Rattle.fits_rules.specs.Shape.{shape_of}
 use Rattle.fits_rules.specs.declared.array_shape.Shape.{Shape}
 use Rattle.fits_plane.specs.Paint.{can_store_paint, has_count}
 use Rattle.fits_plane.specs.Rectangle.{lies_within, rectangle_size}
-use Rattle.fits_hdu.specs.Hdu.{HduParts, hdu_after, keeps_shape}
+use Rattle.fits_passing.specs.Hdu.{HduParts, hdu_after, keeps_shape}
 use Rattle.fits_hdu.specs.Keyword.{keyword_cards, replacing}
 use Rattle.fits_image.specs.Kind.{kind_in, offset_of, width_of}
 use Rattle.fits_image.specs.ImageCards.{are_axes}
@@ -25,12 +23,12 @@ use Rattle.fits_hdu.specs.declared.keyword_cards.KeywordCards.{KeywordCards}
 use Rattle.fits_image.specs.declared.kind.Kind.{Kind}
 use Rattle.fits_hdu.specs.declared.pixel_fault.PixelFault.{PixelFault}
 use Rattle.fits_hdu.specs.declared.pixel_fault.PixelFault.TheVariants as pixel
-use Rattle.fits_session.specs.CardEdit.{change_of, is_in_range, is_keyword_name, is_within, own_refusal, set_of, setting, tested, unless, unset_of, unsetting}
-use Rattle.fits_session.specs.Edit.{hdu_of, is_primary_hdu, with_hdu, with_new_hdu}
-use Rattle.fits_session.specs.File.{FileParts, file_bytes}
-use Rattle.fits_session.specs.HduEdit.{hdu_changed, hdu_made, hdu_reshaped, pixels_made, shaped}
-use Rattle.fits_session.specs.Keeping.{padded_if, stamp_follows}
-use Rattle.fits_session.specs.Limits.{is_within_limits}
+use Rattle.fits_edits.specs.CardEdit.{change_of, is_within, set_of, setting}
+use Rattle.fits_session.specs.Edit.{hdu_of, with_hdu, with_new_hdu}
+use Rattle.fits_passing.specs.File.{is_primary_hdu, FileParts, file_bytes}
+use Rattle.fits_edits.specs.HduEdit.{hdu_changed, hdu_made, hdu_reshaped, pixels_made, shaped}
+use Rattle.fits_edits.specs.Keeping.{padded_if, stamp_follows}
+use Rattle.fits_passing.specs.Limits.{is_within_limits}
 use Rattle.fits_session.specs.Marked.{Marked, is_kept, marked_refusal}
 use Rattle.fits_session.specs.Refusal.{made_refusal, new_image_refusal, refusal_in, refusal_of, removal_refusal, size_refusal}
 use Rattle.fits_edit.specs.Paint.{plane_paint}
@@ -40,92 +38,16 @@ use Rattle.fits_edit.specs.declared.edit.Edit.{Edit}
 use Rattle.fits_edit.specs.declared.edit.Edit.TheVariants.{Hdu, NewImage, RemoveHdu}
 use Rattle.fits_edit.specs.declared.hdu_edit.HduEdit.{HduEdit}
 use Rattle.fits_edit.specs.declared.hdu_edit.HduEdit.TheVariants.{Cards, Keep, Pixels, Release, Reshape, Stamp}
-use Rattle.fits_session.specs.declared.refusal.Refusal.{Refusal}
-use Rattle.fits_session.specs.declared.refusal.Refusal.TheVariants.{NoHdu, NoCard, NoKey, BadText, EndCard, BadName, BadValue, NotImage, BadRect, WrongCount, Range, PrimaryStays, TooLarge, Memory}
-use Rattle.fits_session.specs.declared.refusal.Refusal.TheVariants as refusal
-use Rattle.fits_session.proofs.ReshapeEditLemmas.{reshape_firm}
-
--- this isn't out of memory
-IsFirm : Option Refusal → Type 0
-IsFirm refused = refused ≡ Some Memory → ⊥
-
--- of two neither
-firm_choice : (test : Bool) (a b : Option Refusal) → IsFirm a → IsFirm b → IsFirm (if test then a else b)
-unfolding IsFirm
-firm_choice true a b p q = p
-firm_choice false a b p q = q
-
--- none is firm
-firm_none : IsFirm None
-unfolding IsFirm
-firm_none e = absurd (cc)
-
--- a refusal of its own
-abbrev IsOther : Refusal → Type 0
-IsOther why = why ≡ Memory → ⊥
-
--- one refusal is firm
-firm_some : (why : Refusal) → IsOther why → IsFirm (Some why)
-unfolding IsFirm
-firm_some why other e = other (same why e)
-  where
-    same : (why : Refusal) → ◌≡◌ {A = Option Refusal} (Some why) (Some Memory) → why ≡ Memory
-    same why e = cc
-
--- the own tests of a change never are out of memory
-firm_own : (count : ℕ) (change : Change) → IsFirm (own_refusal count change)
-unfolding own_refusal
-firm_own count change =
-    firm_choice (not (is_in_range count change)) (Some NoCard) _ (firm_some NoCard (λ e. cc))
-    (firm_choice (not (list_all is_text (new_cards change))) (Some BadText) _ (firm_some BadText (λ e. cc))
-    (firm_choice (list_any is_end (new_cards change)) (Some EndCard) None (firm_some EndCard (λ e. cc)) firm_none))
-
--- nor is the change that an edit makes
-FirmChange : Result Change Refusal → Type 0
-FirmChange made = made ≡ Err Memory → ⊥
-
--- a change unless it is refused
-firm_unless : (refused : Option Refusal) (change : Change) → IsFirm refused → FirmChange (unless refused change)
-unfolding IsFirm FirmChange
-firm_unless None change firm e = absurd (cc)
-firm_unless (Some why) change firm e = firm (let same : why ≡ Memory = cc in ap Some same)
-
--- a change among so many cards
-firm_tested : (count : ℕ) (change : Change) → FirmChange (tested count change)
-firm_tested count change = firm_unless (own_refusal count change) change (firm_own count change)
-
--- of two changes neither
-firm_either : (test : Bool) (a b : Result Change Refusal) → FirmChange a → FirmChange b → FirmChange (if test then a else b)
-firm_either true a b p q = p
-firm_either false a b p q = q
-
--- a change that is refused for its name or its value
-firm_refused : (why : Refusal) → IsOther why → FirmChange (Err why)
-unfolding FirmChange
-firm_refused why other e = other (same why e)
-  where
-    same : (why : Refusal) → ◌≡◌ {A = Result Change Refusal} (Err why) (Err Memory) → why ≡ Memory
-    same why e = cc
-
--- a change that is made
-firm_made : (change : Change) → FirmChange (Ok change)
-unfolding FirmChange
-firm_made change e = absurd (cc)
+use Rattle.fits_edits.specs.declared.refusal.Refusal.{Refusal}
+use Rattle.fits_edits.specs.declared.refusal.Refusal.TheVariants.{NoHdu, BadName, BadValue, NotImage, BadRect, WrongCount, Range, PrimaryStays, TooLarge, Memory}
+use Rattle.fits_edits.specs.declared.refusal.Refusal.TheVariants as refusal
+use Rattle.fits_edits.proofs.ReshapeEditLemmas.{reshape_firm}
+use Rattle.fits_edits.proofs.FirmLemmas.{IsFirm, firm_choice, firm_none, IsOther, firm_some, FirmChange, firm_tested, firm_either, firm_refused, firm_made, firm_unset}
 
 -- written cards instead of a keyword's
 firm_setting : (count : ℕ) (old : Option KeywordCards) (new : Option (List (List ℕ))) → FirmChange (setting count old new)
 firm_setting count old None = firm_refused BadValue (λ e. cc)
 firm_setting count old (Some new) = firm_made (replacing count old new)
-
--- a keyword that is taken out
-firm_unsetting : (old : Option KeywordCards) → FirmChange (unsetting old)
-firm_unsetting None = firm_refused NoKey (λ e. cc)
-firm_unsetting (Some old) = firm_made (Splice old.place old.count [])
-
--- that is there or not
-firm_unset : (cards : List (List ℕ)) (name : List ℕ) → FirmChange (unset_of cards name)
-unfolding unset_of
-firm_unset cards name = firm_either (is_keyword_name name) _ (Err BadName) (firm_unsetting (keyword_cards cards name)) (firm_refused BadName (λ e. cc))
 
 -- the change of each edit
 firm_change : (cards : List (List ℕ)) (edit : CardEdit) → FirmChange (change_of cards edit)
@@ -137,19 +59,6 @@ firm_change cards (Move from to) = firm_tested (length cards) (change.Move from 
 firm_change cards (Set name value comment) =
     firm_either (is_settable name) _ (Err BadName) (firm_setting (length cards) (keyword_cards cards name) (write_says name value comment)) (firm_refused BadName (λ e. cc))
 firm_change cards (Unset name) = firm_unset cards name
-
--- so what makes such a change isn't out of memory
-of_firm : (made result : Result Change Refusal) → FirmChange made → result ≡ made → IsErrOf result Memory → ⊥
-unfolding FirmChange
-of_firm made result firm is memory = firm (sym is ∙ memory)
-
--- of a card that goes or moves
-pub tested_firm : (count : ℕ) (change : Change) (result : Result Change Refusal) → result ≡ tested count change → IsErrOf result Memory → ⊥
-tested_firm count change result = of_firm (tested count change) result (firm_tested count change)
-
--- and of a keyword that goes
-pub unset_firm : (cards : List (List ℕ)) (name : List ℕ) (result : Result Change Refusal) → result ≡ unset_of cards name → IsErrOf result Memory → ⊥
-unset_firm cards name result = of_firm (unset_of cards name) result (firm_unset cards name)
 
 -- nor is what an edit makes of an HDU
 FirmMade : Result HduParts Refusal → Type 0

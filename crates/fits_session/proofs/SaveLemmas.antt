@@ -10,13 +10,13 @@ use Rattle.fits_plane.specs.declared.again.CopyFault.TheVariants.{Failed, Change
 use Rattle.fits_stream.specs.Stream.{SinkState, Prints, PrintsFront}
 use Rattle.fits_stream.proofs.StreamLemmas.{Prints-none, Prints-more, PrintsFront-longer, PrintsFront-more}
 use Rattle.fits_header.specs.State.{HeaderState}
-use Rattle.fits_hdu.specs.Hdu.{HduParts, hdu_bytes, IsHdu}
+use Rattle.fits_passing.specs.Hdu.{HduParts, hdu_bytes, IsHdu}
 use Rattle.fits_hdu.specs.State.{HduState, ReadsUpTo, parts_of}
 use Rattle.fits_hdu.specs.Work.{PixelWork, plane_work, WritesHdu}
 use Rattle.fits_session.specs.Away.{WritesHdus}
 use Rattle.fits_stream.specs.Stored.{ReadLogState}
 use Rattle.fits_hdu.proofs.PassedLemmas.{copy_more, hdu_words, like_append, like_printed}
-use Rattle.fits_session.specs.File.{joined_hdus}
+use Rattle.fits_passing.specs.File.{joined_hdus}
 use Rattle.fits_session.specs.Session.{hdus_of, reads_of, works_of, once_read, each_read, uncounted, without_counts, ReadsOnceAtMost}
 use Rattle.fits_session.proofs.KeptLemmas.{uncounted_read}
 use Rattle.fits_session.proofs.StateLemmas.{get_or-hdus_of, hdus_of-same, length-hdus_of, parts_same, works_of-same}

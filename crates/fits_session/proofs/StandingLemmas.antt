@@ -1,32 +1,21 @@
 -- HDUs whose names come and go, and the table that stands for them.
-use Rattle.std.proofs.Common.{◌≡◌, ℕ, ◌+◌, ◌<◌, ◌≤◌, ◌^◌, true, cond, List, [], ◌∷◌, ◌++◌, length, get_or, take, drop, set, map, refl, ap, sym, subst, ◌∙◌, arith, Option, None, Some, zero, suc}
+use Rattle.std.proofs.Common.{◌≡◌, ℕ, ◌+◌, ◌<◌, ◌≤◌, ◌^◌, true, List, [], ◌∷◌, ◌++◌, length, get_or, take, drop, set, map, refl, ap, sym, subst, ◌∙◌, arith, Option, None, Some, zero, suc}
 use Rattle.std.specs.Prelude.{All}
 use Rattle.std.specs.List.{insert, remove, slice_get, sum_by}
 use Rattle.std.specs.Map.{keys_of, lookup}
 use Rattle.std.specs.Option.{is_some, IsSome}
 use Rattle.std.proofs.lemmas.List.Elements.{All-append, All-cons, All-drop, All-map, All-push, All-set, All-take, All-weaker}
-use Rattle.std.proofs.lemmas.List.Sums.{length-filter, sum_by_push, sum_by-cons, sum_by-insert, sum_by-remove, sum_by-set}
+use Rattle.std.proofs.lemmas.List.Sums.{sum_by-insert, sum_by-remove, sum_by-set}
 use Rattle.std.proofs.lemmas.List.{get_or-map, length-map, map-append, map-set, set-get_or, take_more_set}
 use Rattle.indexmap.proofs.SetLemmas.{map-insert, map-remove}
-use Rattle.fits_hdu.specs.ExtensionName.{is_same_name}
+use Rattle.fits_passing.specs.ExtensionName.{is_same_name}
 use Rattle.fits_hdu.specs.State.{name_of, HduState}
-use Rattle.fits_hdu.specs.declared.extension_name.ExtensionName.{ExtensionName}
-use Rattle.fits_session.specs.NameTable.{entry_moved, mended, moved, names_of, said_of, ArePlaced, Enters, IsTableOf, Leaves, PointsAt, Stands, TellsOf, TellsOfFew}
-use Rattle.fits_session.specs.Report.{called_count, is_called}
-use Rattle.fits_session.proofs.NameLemmas.{count_called, name_itself}
-
--- one where an HDU is called so
-pub one_if : ExtensionName → Option ExtensionName → ℕ
-one_if name said = cond (is_called name said) 1 0
-
--- how many are called so, as a sum
-count_sum : (name : ExtensionName) (names : List (Option ExtensionName)) → called_count name names ≡ sum_by (one_if name) names
-unfolding one_if
-count_sum name names = length-filter (is_called name) names
-
--- one name before others
-pub count_cons : (name : ExtensionName) (first : Option ExtensionName) (names : List (Option ExtensionName)) → called_count name (first ∷ names) ≡ one_if name first + called_count name names
-count_cons name first names = omega (arith, count_sum name (first ∷ names), count_sum name names, sum_by-cons (one_if name) first names)
+use Rattle.fits_passing.specs.declared.called.ExtensionName.{ExtensionName}
+use Rattle.fits_session.specs.NameTable.{entry_moved, mended, moved, names_of, ArePlaced, Leaves, Stands}
+use Rattle.fits_passing.specs.NameCounts.{said_of, Enters, IsTableOf, PointsAt, TellsOf, TellsOfFew}
+use Rattle.fits_passing.specs.Report.{called_count, is_called}
+use Rattle.fits_passing.proofs.NameLemmas.{count_called, name_itself}
+use Rattle.fits_passing.proofs.NameCountLemmas.{one_if, count_sum, count_cons, table_alike, count_push}
 
 -- a name in place of another
 pub count_set : (name : ExtensionName) (names : List (Option ExtensionName)) (i : ℕ) (new : Option ExtensionName) → i < length names → called_count name (get_or names i new ∷ set names i new) ≡ called_count name (new ∷ names)
@@ -41,14 +30,6 @@ count_insert name names i new = omega (arith, count_cons name new names, count_s
 pub count_remove : (name : ExtensionName) (names : List (Option ExtensionName)) (i : ℕ) (d : Option ExtensionName) → i < length names → called_count name names ≡ called_count name (get_or names i d ∷ remove names i)
 count_remove name names i d within =
     omega (arith, count_cons name (get_or names i d) (remove names i), count_sum name (remove names i), count_sum name names, sum_by-remove (one_if name) names i d within)
-
--- a table tells of names by their counts alone
-pub told_alike : (xs ys : List (Option ExtensionName)) (es : List (ExtensionName × ℕ)) → ((name : ExtensionName) → called_count name xs ≡ called_count name ys) → TellsOf xs es → TellsOf ys es
-told_alike xs ys es same told name = told name ∙ ap said_of (same name)
-
--- so a table of some is one of others that have each name as often
-pub table_alike : (xs ys : List (Option ExtensionName)) (es : List (ExtensionName × ℕ)) → ((name : ExtensionName) → called_count name xs ≡ called_count name ys) → IsTableOf xs es → IsTableOf ys es
-table_alike xs ys es same p = record { told = told_alike xs ys es same p.told; once = p.once }
 
 -- an HDU that isn't called anything changes nothing
 pub table_unnamed : (names : List (Option ExtensionName)) (es : List (ExtensionName × ℕ)) → IsTableOf names es → IsTableOf (None ∷ names) es
@@ -131,10 +112,6 @@ kept_stand hdus es fs table placed others = record {
     by None entry found points = points
     by (Some name) None found points = points
     by (Some name) (Some at) found points = others at name points (found name refl)
-
--- a name after others counts as one before them
-pub count_push : (name : ExtensionName) (names : List (Option ExtensionName)) (last : Option ExtensionName) → called_count name (last ∷ names) ≡ called_count name (names ++ last ∷ [])
-count_push name names last = omega (arith, count_cons name last names, count_sum name names, count_sum name (names ++ last ∷ []), sum_by_push (one_if name) names last)
 
 -- what HDUs are called, where one gets an entry
 pub names_entered : (hdus : List HduState) (i : ℕ) (hdu new : HduState) → i < length hdus → hdu ≡ get_or hdus i hdu → name_of new ≡ name_of hdu → names_of (set hdus i new) ≡ names_of hdus

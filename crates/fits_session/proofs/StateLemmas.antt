@@ -8,18 +8,19 @@ use Rattle.std.proofs.lemmas.List.Elements.{All-cons, All-head, All-nil, All-tai
 use Rattle.std.proofs.lemmas.Option.{slice_get_read, slice_get_within, slice_get-map, get_or_from_slice_get}
 use Rattle.fits_rules.specs.Class.{is_primary}
 use Rattle.fits_rules.specs.Shape.{shape_of}
-use Rattle.fits_hdu.specs.Hdu.{HduParts, hdu_bytes, IsHdu}
+use Rattle.fits_passing.specs.Hdu.{HduParts, hdu_bytes, IsHdu}
 use Rattle.fits_hdu.specs.State.{HduState, ReadsUpTo, parts_of}
-use Rattle.fits_hdu.specs.Sums.{verdicts_of}
+use Rattle.fits_passing.specs.Sums.{verdicts_of}
 use Rattle.fits_hdu.specs.Work.{PixelWork, plane_work}
 use Rattle.fits_hdu.proofs.StateLemmas.{parts_read}
-use Rattle.fits_hdu.proofs.ShapeLemmas.{one_primary}
-use Rattle.fits_session.specs.Edit.{hdu_of, changed_at, changed_of, is_primary_hdu}
-use Rattle.fits_session.specs.File.{FileParts, IsFile, file_bytes, joined_hdus}
-use Rattle.fits_session.specs.declared.limits.TheConstants.{FILE_LIMIT, HDU_LIMIT}
-use Rattle.fits_session.specs.Keeping.{vouch, IsRight, IsSound}
+use Rattle.fits_passing.proofs.ShapeLemmas.{one_primary}
+use Rattle.fits_session.specs.Edit.{hdu_of, changed_at, changed_of}
+use Rattle.fits_passing.specs.File.{is_primary_hdu, FileParts, IsFile, file_bytes, joined_hdus}
+use Rattle.fits_passing.specs.declared.limits.TheConstants.{FILE_LIMIT, HDU_LIMIT}
+use Rattle.fits_edits.specs.Keeping.{vouch, IsRight, IsSound}
 use Rattle.fits_session.specs.Marked.{Marked, is_kept}
-use Rattle.fits_session.specs.Session.{SessionState, file_of, hdus_of, kept_of, marked_of, reads_of, rooms_of, works_of, state_of, unread, ReadsOnly, WorksOnly, Asks, IsIndexOf, IsNowhere}
+use Rattle.fits_session.specs.Session.{SessionState, file_of, hdus_of, kept_of, marked_of, reads_of, rooms_of, works_of, state_of, ReadsOnly, WorksOnly, Asks, IsIndexOf, IsNowhere}
+use Rattle.fits_edits.specs.Making.{unread}
 use Rattle.fits_session.proofs.ChangeLemmas.{hdu_is, part_within}
 
 -- HDU h of those under edits

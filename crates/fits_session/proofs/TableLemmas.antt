@@ -1,8 +1,8 @@
 -- The table of names: what one name more or fewer leaves of it.
-use Rattle.std.proofs.Common.{◌≡◌, ℕ, ◌+◌, ◌-◌, ◌<◌, ◌≤◌, ◌^◌, Bool, true, false, cond, not, true≢false, List, [], ◌∷◌, ◌++◌, length, get_or, drop, set, refl, ap, sym, subst, ◌∙◌, arith, inl, inr, Option, None, Some, zero, suc}
+use Rattle.std.proofs.Common.{◌≡◌, ℕ, ◌+◌, ◌-◌, ◌<◌, ◌≤◌, Bool, true, false, cond, not, true≢false, List, [], ◌∷◌, ◌++◌, length, get_or, drop, set, refl, ap, sym, subst, ◌∙◌, arith, inl, inr, Option, None, Some, zero, suc}
 use Rattle.std.specs.Prelude.{nat_le, nat_lt, ◌||◌}
 use Rattle.std.specs.Cmp.{IsEquivalence}
-use Rattle.std.specs.List.{list_any, position_or_len, remove, slice_get, AllByRecursion, IsDistinct}
+use Rattle.std.specs.List.{list_any, remove, slice_get, AllByRecursion, IsDistinct}
 use Rattle.std.specs.Map.{keys_of, lookup}
 use Rattle.std.specs.Option.{is_some, option_map, unwrap_or, IsSome}
 use Rattle.std.proofs.lemmas.List.{drop_more, map-append, set-get_or}
@@ -11,13 +11,15 @@ use Rattle.std.proofs.lemmas.Option.{slice_get-get_or, slice_get-map, slice_get_
 use Rattle.std.proofs.lemmas.Map.Made.{length-le_from_is_member}
 use Rattle.std.proofs.lemmas.Map.Keys.{IsDistinct-cons, IsDistinct-head, IsDistinct-push, IsDistinct-tail}
 use Rattle.indexmap.proofs.SetLemmas.{map-remove}
-use Rattle.indexmap.specs.IndexMap.{insert_entry, set_value_at}
-use Rattle.fits_hdu.specs.ExtensionName.{is_same_name}
-use Rattle.fits_hdu.specs.declared.extension_name.ExtensionName.{ExtensionName}
-use Rattle.fits_session.specs.NameTable.{moved, number_in, said_of, Enters, IsTableOf, PointsAt, TellsOf, TellsOfFew}
-use Rattle.fits_session.specs.Report.{called_count, is_repeated}
+use Rattle.indexmap.specs.IndexMap.{set_value_at}
+use Rattle.fits_passing.specs.ExtensionName.{is_same_name}
+use Rattle.fits_passing.specs.declared.called.ExtensionName.{ExtensionName}
+use Rattle.fits_session.specs.NameTable.{moved}
+use Rattle.fits_passing.specs.NameCounts.{number_in, said_of, Enters, IsTableOf, PointsAt, TellsOf}
+use Rattle.fits_passing.specs.Report.{called_count, is_repeated}
 use Rattle.fits_session.proofs.PlaceLemmas.{get_before, get_behind}
-use Rattle.fits_session.proofs.NameLemmas.{count_called, count_other, count_within, name_itself, other_way, same_name, same_or}
+use Rattle.fits_passing.proofs.NameLemmas.{count_called, count_other, name_itself, other_way, same_name, same_or}
+use Rattle.fits_passing.proofs.NameCountLemmas.{number_told, told_more}
 
 -- whether two names are the same is an equivalence
 pub same_laws : IsEquivalence is_same_name
@@ -29,29 +31,6 @@ same_laws = record {
   ];
   congr = λ x y z p. ap (λ (it : ExtensionName). is_same_name it z) (same_name x y p);
 }
-
--- the number that is said of a name
-said_number : (n : ℕ) → unwrap_or (said_of n) 0 ≡ n
-said_number zero = refl
-said_number (suc n) = refl
-
--- a table's number of a name is how many have it
-pub number_told : (names : List (Option ExtensionName)) (es : List (ExtensionName × ℕ)) (name : ExtensionName) → TellsOf names es → number_in es name ≡ called_count name names
-number_told names es name told = ap (λ o. unwrap_or o 0) (told name) ∙ said_number (called_count name names)
-
--- a table that has one more of a name tells of it too
-pub told_more : (names : List (Option ExtensionName)) (es fs : List (ExtensionName × ℕ)) (name : ExtensionName) (n : ℕ) → TellsOf names es → n ≡ number_in es name
-    → ((q : ExtensionName) → lookup (is_same_name q) fs ≡ cond (is_same_name name q) (Some (n + 1)) (lookup (is_same_name q) es)) → TellsOf (Some name ∷ names) fs
-told_more names es fs name n told is puts q =
-    elim (same_or name q) [
-      | inl same ↦
-          let e : name ≡ q = same_name name q same in
-          let count : called_count q (Some name ∷ names) ≡ suc (called_count q names) = count_called q (Some name) names (ap (λ (it : ExtensionName). is_same_name q it) e ∙ name_itself q) in
-          let so_far : n + 1 ≡ suc (called_count q names) = omega (arith, is, number_told names es name told, ap (λ (it : ExtensionName). called_count it names) e) in
-          puts q ∙ ap (λ b. cond b (Option.Some (n + 1)) (lookup (is_same_name q) es)) same ∙ ap (λ m. Option.Some m) so_far ∙ ap said_of (sym count)
-      | inr not ↦
-          puts q ∙ ap (λ b. cond b (Option.Some (n + 1)) (lookup (is_same_name q) es)) not ∙ told q ∙ ap said_of (sym (count_other q (Some name) names (other_way name q not)))
-    ]
 
 -- and one that has one fewer
 pub told_fewer : (names : List (Option ExtensionName)) (es fs : List (ExtensionName × ℕ)) (name : ExtensionName) (left : Option ℕ) → TellsOf (Some name ∷ names) es → left ≡ said_of (number_in es name - 1)
@@ -66,36 +45,6 @@ told_fewer names es fs name left told is puts q =
       | inr not ↦
           puts q ∙ ap (λ b. cond b left (lookup (is_same_name q) es)) not ∙ told q ∙ ap said_of (count_other q (Some name) names (other_way name q not))
     ]
-
-module _ (name : ExtensionName) (v : ℕ) where
-  -- a name that stood at a place stands there once a name is put in
-  pub kept_by_insert : (es : List (ExtensionName × ℕ)) (at : ℕ) (other : ExtensionName) → slice_get (keys_of es) at ≡ Some other → slice_get (keys_of (insert_entry is_same_name es name v)) at ≡ Some other
-  kept_by_insert [] at other p = cc
-  kept_by_insert (e ∷ es) zero other p =
-      elim (same_or name e.0) [
-        | inl same ↦ ap (λ b. slice_get (keys_of (cond b ((e.0, v) ∷ es) (e ∷ insert_entry is_same_name es name v))) 0) same ∙ p
-        | inr not ↦ ap (λ b. slice_get (keys_of (cond b ((e.0, v) ∷ es) (e ∷ insert_entry is_same_name es name v))) 0) not ∙ p
-      ]
-  kept_by_insert (e ∷ es) (suc at) other p =
-      elim (same_or name e.0) [
-        | inl same ↦ ap (λ b. slice_get (keys_of (cond b ((e.0, v) ∷ es) (e ∷ insert_entry is_same_name es name v))) (suc at)) same ∙ p
-        | inr not ↦ ap (λ b. slice_get (keys_of (cond b ((e.0, v) ∷ es) (e ∷ insert_entry is_same_name es name v))) (suc at)) not ∙ kept_by_insert es at other p
-      ]
-
-  -- and the name stands at its own place
-  pub placed_by_insert : (es : List (ExtensionName × ℕ)) → slice_get (keys_of (insert_entry is_same_name es name v)) (position_or_len (is_same_name name) (keys_of es)) ≡ Some name
-  placed_by_insert [] = refl
-  placed_by_insert (e ∷ es) =
-      let rest : ℕ = position_or_len (is_same_name name) (keys_of es) in
-      elim (same_or name e.0) [
-        | inl same ↦
-            let here = ap (λ b. slice_get (keys_of (cond b ((e.0, v) ∷ es) (e ∷ insert_entry is_same_name es name v))) (cond (not b) (1 + rest) 0)) same in
-            here ∙ ap (λ (it : ExtensionName). Option.Some it) (sym (same_name name e.0 same))
-        | inr not' ↦
-            let here = ap (λ b. slice_get (keys_of (cond b ((e.0, v) ∷ es) (e ∷ insert_entry is_same_name es name v))) (cond (not b) (1 + rest) 0)) not' in
-            let number : 1 + rest ≡ suc rest = omega arith in
-            here ∙ ap (λ n. slice_get (keys_of (e ∷ insert_entry is_same_name es name v)) n) number ∙ placed_by_insert es
-      ]
 
 -- a number above 0 is said
 pub said_some : (n : ℕ) → 0 < n → Some n ≡ said_of n
@@ -114,10 +63,6 @@ another_place es fs place at name other there gone stands found is =
     let same : other ≡ name = cc in
     let none : lookup (is_same_name other) fs ≡ None = ap (λ (it : ExtensionName). lookup (is_same_name it) fs) same ∙ gone in
     true≢false (sym (subst IsSome none found))
-
--- so few have a name
-pub few_have : (es : List (ExtensionName × ℕ)) (name : ExtensionName) (n : ℕ) → TellsOfFew es → n ≡ number_in es name → n < 2 ^ 63
-few_have es name n few is = omega (arith, is, number_told few.names es name few.table.told, count_within name few.names, few.few)
 
 -- the entry that is read at the place of a name
 pub entry_read : (es : List (ExtensionName × ℕ)) (place : ℕ) (it : ExtensionName × ℕ) (name : ExtensionName) → it ≡ get_or es place it → slice_get (keys_of es) place ≡ Some name → (slice_get es place ≡ Some it) × (it.0 ≡ name)
@@ -361,11 +306,6 @@ pub points_nowhere : (names : List (Option ExtensionName)) (keys : List Extensio
 unfolding is_repeated
 points_nowhere names keys None entry points is = refl
 points_nowhere names keys (Some name) entry points is = absurd (subst (PointsAt keys (Some name)) is points)
-
--- a table of no names has none
-pub table_empty : (es : List (ExtensionName × ℕ)) → es ≡ [] → IsTableOf [] es
-unfolding IsDistinct
-table_empty es none = record { told = λ name. ap (lookup (is_same_name name)) none; once = subst (λ (fs : List (ExtensionName × ℕ)). IsDistinct is_same_name (keys_of fs)) (sym none) tt }
 
 -- what is looked for from a place on
 pub looked_on : (es : List (ExtensionName × ℕ)) (place : ℕ) (it : ExtensionName × ℕ) (name : ExtensionName) → place < length es → it ≡ get_or es place it → is_same_name name it.0 ≡ false → lookup (is_same_name name) (drop place es) ≡ lookup (is_same_name name) (drop (place + 1) es)

@@ -3,16 +3,18 @@ use Rattle.std.proofs.Common.{◌≡◌, ℕ, ◌+◌, ◌<◌, ◌≤◌, ◌^�
 use Rattle.std.proofs.lemmas.List.{drop_more, get_or_at, length-append, length-map, length-take}
 use Rattle.std.specs.Map.{keys_of}
 use Rattle.fits_card.specs.Header.{header_bytes}
-use Rattle.fits_hdu.specs.Hdu.{HduParts, hdu_bytes}
+use Rattle.fits_passing.specs.Hdu.{HduParts, hdu_bytes}
 use Rattle.fits_hdu.specs.State.{HduState, name_of, parts_of, IsDescribed}
-use Rattle.fits_hdu.specs.Sums.{verdicts_of}
-use Rattle.fits_hdu.specs.declared.extension_name.ExtensionName.{ExtensionName}
-use Rattle.fits_session.specs.File.{FileParts, file_bytes, joined_hdus, IsFile}
-use Rattle.fits_session.specs.Keeping.{vouch, vouched_one, IsSound}
+use Rattle.fits_passing.specs.Sums.{verdicts_of}
+use Rattle.fits_passing.specs.declared.called.ExtensionName.{ExtensionName}
+use Rattle.fits_passing.specs.File.{FileParts, file_bytes, joined_hdus, IsFile}
+use Rattle.fits_edits.specs.Keeping.{vouch, vouched_one, IsSound}
 use Rattle.fits_session.specs.Marked.{vouched}
-use Rattle.fits_session.specs.NameTable.{names_of, IsTableOf}
-use Rattle.fits_session.specs.Session.{file_of, hdus_of, kept_of, marked_of, state_of, Holding, IsHad, IsKept}
-use Rattle.fits_session.specs.declared.limits.TheConstants.{FILE_LIMIT}
+use Rattle.fits_session.specs.NameTable.{names_of}
+use Rattle.fits_passing.specs.NameCounts.{IsTableOf}
+use Rattle.fits_session.specs.Session.{file_of, hdus_of, kept_of, marked_of, state_of, IsKept}
+use Rattle.fits_edits.specs.Making.{Holding, IsHad}
+use Rattle.fits_passing.specs.declared.limits.TheConstants.{FILE_LIMIT}
 use Rattle.fits_session.proofs.KeptLemmas.{file_with, marked_with, seen_all, IsPlaced}
 use Rattle.fits_session.proofs.OffsetLemmas.{ends_within}
 

@@ -7,24 +7,25 @@ use Rattle.fits_stream.specs.Stored.{ReadLogState}
 use Rattle.fits_stream.specs.Stream.{SinkState, Prints}
 use Rattle.fits_plane.specs.DataUnit.{LiesIn}
 use Rattle.fits_plane.specs.Layout.{block_count}
-use Rattle.fits_hdu.specs.Hdu.{HduParts, hdu_bytes}
-use Rattle.fits_hdu.specs.Reading.{passed_parts, IsPassedWhole}
+use Rattle.fits_passing.specs.Hdu.{HduParts, hdu_bytes}
+use Rattle.fits_passing.specs.HduReading.{passed_parts, IsPassedWhole}
 use Rattle.fits_hdu.specs.State.{HduState, parts_of}
 use Rattle.fits_hdu.specs.Work.{IsKnownAt, IsLoaded, Loads, PixelWork, WritesHdu}
-use Rattle.fits_hdu.specs.declared.passed_hdu.PassedHdu.{PassedHdu}
+use Rattle.fits_passing.specs.declared.passed_hdu.PassedHdu.{PassedHdu}
 use Rattle.fits_session.specs.Edit.{changed_of, hdu_of}
-use Rattle.fits_session.specs.File.{FileParts}
-use Rattle.fits_session.specs.HduEdit.{needs_pixels}
-use Rattle.fits_session.specs.Opening.{HasOpenFault}
+use Rattle.fits_passing.specs.File.{FileParts}
+use Rattle.fits_edits.specs.HduEdit.{needs_pixels}
+use Rattle.fits_passing.specs.Opening.{HasOpenFault}
 use Rattle.fits_session.specs.Query.{array_in, kind_in}
-use Rattle.fits_session.specs.Session.{Holding, IsHad, SessionState}
+use Rattle.fits_edits.specs.Making.{Holding, IsHad}
+use Rattle.fits_session.specs.Session.{SessionState}
 use Rattle.fits_edit.specs.declared.edit.Edit.{Edit}
 use Rattle.fits_edit.specs.declared.edit.Edit.TheVariants.{Hdu}
 use Rattle.fits_edit.specs.declared.hdu_edit.HduEdit.{HduEdit}
 use Rattle.fits_edit.specs.declared.hdu_edit.HduEdit.TheVariants.{Pixels, Reshape}
-use Rattle.fits_session.specs.declared.open_fault.OpenFault.TheVariants.{Memory}
-use Rattle.fits_session.specs.declared.read_fault.ReadFileFault.TheVariants.{Open, Failed}
-use Rattle.fits_session.specs.declared.read_fault.ReadFileFault.{ReadFileFault}
+use Rattle.fits_passing.specs.declared.open_fault.OpenFault.TheVariants.{Memory}
+use Rattle.fits_passing.specs.declared.read_file_fault.ReadFileFault.TheVariants.{Open, Failed}
+use Rattle.fits_passing.specs.declared.read_file_fault.ReadFileFault.{ReadFileFault}
 
 -- data units may lie in a file of these bytes
 abbrev pub in_file : List ℕ → Holding

@@ -1,14 +1,13 @@
 -- Edits: the file after each (own).
-use Rattle.std.specs.Prelude.{ℕ, ◌-◌, Bool, nat_le, List, [], ◌∷◌, Option, None, Result, Ok, Err, zero, suc}
+use Rattle.std.specs.Prelude.{ℕ, ◌-◌, Bool, List, [], ◌∷◌, Option, None, zero, suc}
 use Rattle.std.specs.List.{slice_get, insert, remove}
-use Rattle.fits_hdu.specs.Hdu.{HduParts}
+use Rattle.fits_passing.specs.Hdu.{HduParts}
 use Rattle.fits_hdu.specs.NewImage.{new_image}
-use Rattle.fits_session.specs.File.{FileParts}
-use Rattle.fits_session.specs.HduEdit.{hdu_made, HasHduSizes}
+use Rattle.fits_passing.specs.File.{FileParts, is_primary_hdu}
+use Rattle.fits_edits.specs.HduEdit.{hdu_made, HasHduSizes, made_or}
 use Rattle.fits_edit.specs.declared.edit.Edit.{Edit}
 use Rattle.fits_edit.specs.declared.edit.Edit.TheVariants.{Hdu, NewImage, RemoveHdu}
 use Rattle.fits_edit.specs.declared.hdu_edit.HduEdit.{HduEdit}
-use Rattle.fits_session.specs.declared.refusal.Refusal.{Refusal}
 
 -- HDU h, from 1, if it is there
 abbrev pub hdu_of : FileParts → ℕ → Option HduParts
@@ -29,15 +28,6 @@ changed_of (suc h) change xs = changed_at h change xs
 -- the file with HDU h changed
 abbrev pub with_hdu : FileParts → ℕ → (HduParts → HduParts) → FileParts
 with_hdu file h change = record file { hdus = changed_of h change file.hdus }
-
--- whether HDU h is the primary one
-abbrev pub is_primary_hdu : ℕ → Bool
-is_primary_hdu h = nat_le h 1
-
--- what was made of an HDU; where nothing was it stays
-abbrev pub made_or : HduParts → Result HduParts Refusal → HduParts
-made_or hdu (Ok made) = made
-made_or hdu (Err why) = hdu
 
 -- an HDU after an edit; one that isn't made leaves it
 abbrev pub hdu_edited : Bool → HduEdit → HduParts → HduParts

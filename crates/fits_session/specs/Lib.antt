@@ -1,17 +1,9 @@
 pub mod Away
-pub mod CardEdit
 pub mod Edit
-pub mod File
-pub mod HduEdit
-pub mod Headers
-pub mod Keeping
-pub mod Limits
 pub mod Marked
 pub mod NameTable
-pub mod Opening
 pub mod Query
 pub mod Reading
 pub mod Refusal
-pub mod Report
 pub mod Session
 pub mod Work

@@ -1,16 +1,16 @@
 -- A file some of whose HDUs are kept stamped: what edits come to then, and when they are refused (own).
 use Rattle.std.specs.Prelude.{ℕ, zero, suc, ◌-◌, ◌&&◌, Bool, false, List, length, get_or, map, replicate, Option, Result, Ok}
 use Rattle.std.specs.List.{insert, remove}
-use Rattle.fits_hdu.specs.Hdu.{HduParts}
-use Rattle.fits_hdu.specs.Sums.{verdicts_of}
+use Rattle.fits_passing.specs.Hdu.{HduParts}
+use Rattle.fits_passing.specs.Sums.{verdicts_of}
 use Rattle.fits_session.specs.Edit.{changed_of, file_after, hdu_of, with_hdu}
-use Rattle.fits_session.specs.File.{FileParts}
-use Rattle.fits_session.specs.Keeping.{are_right, kept_after, stamp_follows, stamped_if, vouch}
+use Rattle.fits_passing.specs.File.{FileParts}
+use Rattle.fits_edits.specs.Keeping.{are_right, kept_after, stamp_follows, stamped_if, vouch}
 use Rattle.fits_session.specs.Query.{in_hdu}
 use Rattle.fits_session.specs.Refusal.{refusal_in, refusal_of}
 use Rattle.fits_edit.specs.declared.edit.Edit.{Edit}
 use Rattle.fits_edit.specs.declared.edit.Edit.TheVariants.{Hdu, NewImage, RemoveHdu}
-use Rattle.fits_session.specs.declared.refusal.Refusal.{Refusal}
+use Rattle.fits_edits.specs.declared.refusal.Refusal.{Refusal}
 
 -- a file, and which of its HDUs are kept stamped
 pub record Marked : Type 0 where

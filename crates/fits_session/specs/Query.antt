@@ -6,24 +6,23 @@ use Rattle.fits_header.specs.Places.{keyword_places}
 use Rattle.fits_rules.specs.Image.{array_bits}
 use Rattle.fits_rules.specs.Shape.{shape_of}
 use Rattle.fits_rules.specs.declared.array_shape.Shape.{Shape}
-use Rattle.fits_hdu.specs.Hdu.{HduParts}
+use Rattle.fits_passing.specs.Hdu.{HduParts}
 use Rattle.fits_hdu.specs.Keyword.{keyword_value}
 use Rattle.fits_image.specs.Kind.{kind_in as hdu_kind}
-use Rattle.fits_hdu.specs.Pixels.{rect_of, stats_of}
-use Rattle.fits_hdu.specs.Sums.{data_sum, verdicts_of}
+use Rattle.fits_hdu.specs.Pixels.{rect_of}
+use Rattle.fits_passing.specs.Stats.{stats_of, Stats}
+use Rattle.fits_passing.specs.Sums.{data_sum, verdicts_of}
 use Rattle.fits_image.specs.declared.kind.Kind.{Kind}
 use Rattle.fits_hdu.specs.declared.pixel_fault.PixelFault.{PixelFault}
 use Rattle.fits_hdu.specs.declared.pixel_fault.PixelFault.TheVariants as pixel
-use Rattle.fits_hdu.specs.Pixels.{Stats}
-use Rattle.fits_hdu.specs.declared.verdicts.Verdicts.{Verdicts}
+use Rattle.fits_passing.specs.declared.verdicts.Verdicts.{Verdicts}
 use Rattle.fits_hdu.specs.declared.keyword.KeywordFault.{KeywordFault}
-use Rattle.fits_hdu.specs.declared.keyword.KeywordFault.TheVariants as keyword
-use Rattle.fits_session.specs.File.{FileParts}
+use Rattle.fits_passing.specs.File.{FileParts, is_primary_hdu}
 use Rattle.fits_session.specs.Edit.{hdu_of}
-use Rattle.fits_session.specs.HduEdit.{shaped}
-use Rattle.fits_session.specs.Edit.{is_primary_hdu}
-use Rattle.fits_session.specs.declared.refusal.Refusal.{Refusal}
-use Rattle.fits_session.specs.declared.refusal.Refusal.TheVariants.{NoHdu, NoKey, BadValue, Shape as BadShape, Memory}
+use Rattle.fits_edits.specs.HduEdit.{shaped}
+use Rattle.fits_edits.specs.declared.refusal.Refusal.{Refusal}
+use Rattle.fits_edits.specs.declared.refusal.Refusal.TheVariants.{NoHdu, Shape as BadShape, Memory}
+use Rattle.fits_edits.specs.Refusal.{refusal_of_keyword}
 
 -- what an HDU answers, if it is there
 abbrev pub in_hdu : {X : Type 0} → (HduParts → Result X Refusal) → Option HduParts → Result X Refusal
@@ -70,12 +69,6 @@ verdicts_in file h = in_hdu (λ hdu. Ok (verdicts_of hdu)) (hdu_of file h)
 -- the values of a rectangle of HDU h, in file order
 abbrev pub rect_in : FileParts → ℕ → List ℕ → List ℕ → Result (List ℤ) Refusal
 rect_in file h lo hi = in_hdu (by_shape (is_primary_hdu h) (λ shape hdu. rect_of shape lo hi hdu)) (hdu_of file h)
-
--- a keyword's fault as a refusal
-abbrev pub refusal_of_keyword : KeywordFault → Refusal
-refusal_of_keyword keyword.NoKey = NoKey
-refusal_of_keyword keyword.BadValue = BadValue
-refusal_of_keyword keyword.Memory = Memory
 
 -- a keyword's value, or its fault as a refusal
 abbrev pub or_refused : Result (Value × Option (List ℕ)) KeywordFault → Result (Value × Option (List ℕ)) Refusal

@@ -2,10 +2,10 @@ ghost use Rattle.std.specs.Prelude.{◌≡◌, ◌+◌, ℕ, List, None, Bool, t
 ghost use Rattle.fits_plane.specs.Again.{copied_blocks, CopyCounts, CopyFails, CopyWrites, Follows, LoadCounts, Looks, PrintsLike};
 ghost use Rattle.fits_session.specs.Away.{AgreeOn};
 ghost use Rattle.fits_stream.specs.Stream.{Prints};
-ghost use Rattle.fits_hdu.specs.Hdu.{hdu_bytes};
+ghost use Rattle.fits_passing.specs.Hdu.{hdu_bytes};
 ghost use Rattle.fits_hdu.specs.State.{parts_of, ReadsUpTo};
 ghost use Rattle.fits_hdu.specs.Work.{Loads, WritesHdu};
-ghost use Rattle.fits_session.specs.Session.{IsHad};
+ghost use Rattle.fits_edits.specs.Making.{IsHad};
 
 use fits_hdu::Hdu;
 use fits_plane::{CopyFault, LoadFault};

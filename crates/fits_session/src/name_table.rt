@@ -1,8 +1,8 @@
 //! The table of what the HDUs of a session are called.
 ghost use Rattle.std.specs.Prelude.{◌≡◌, ◌≤◌, vec_capacity};
 
-use crate::name_counts::NameCounts;
 use fits_hdu::ExtensionName;
+use fits_passing::NameCounts;
 use std::alloc::{AllocError, Global};
 
 /// Each name that HDUs of a session have, once, with how many have it. An HDU knows the place of
@@ -20,10 +20,11 @@ pub(crate) struct NameTable {
 impl NameTable {
     ghost use Rattle.std.specs.Prelude.{◌≡◌, ◌+◌, ◌-◌, ◌<◌, ◌≤◌, ◌^◌, ℕ, List, length, Option, Some, None, ◌∷◌, IfOk, IfSome, OnOk, OnErr, IsTrue, slice_get, vec_capacity};
     ghost use Rattle.std.specs.Map.{keys_of, lookup};
-    ghost use Rattle.fits_hdu.specs.ExtensionName.{is_same_name};
-    ghost use Rattle.fits_hdu.specs.declared.extension_name.ExtensionName.{ExtensionName};
-    ghost use Rattle.fits_session.specs.Report.{is_repeated};
-    ghost use Rattle.fits_session.specs.NameTable.{Enters, IsTableOf, OthersMove, PointsAt, TellsAt, TellsOf, TellsOfFew, TellsOfOneFewer};
+    ghost use Rattle.fits_passing.specs.ExtensionName.{is_same_name};
+    ghost use Rattle.fits_passing.specs.declared.called.ExtensionName.{ExtensionName};
+    ghost use Rattle.fits_passing.specs.Report.{is_repeated};
+    ghost use Rattle.fits_passing.specs.NameCounts.{Enters, IsTableOf, PointsAt, TellsOf, TellsOfFew};
+    ghost use Rattle.fits_session.specs.NameTable.{OthersMove, TellsAt, TellsOfOneFewer};
 
     /// The table with these names, and with room for so many.
     pub(crate) fn of(

@@ -1,10 +1,11 @@
 //! HDUs whose data units passed by, as they lie in a file.
 ghost use Rattle.std.specs.Prelude.{◌≡◌, ◌≤◌, ◌^◌, length, map, All, IfOk};
 ghost use Rattle.fits_session.specs.Away.{is_passed, parts_passed, AreKnownFrom};
-ghost use Rattle.fits_session.specs.File.{joined_hdus};
+ghost use Rattle.fits_passing.specs.File.{joined_hdus};
 ghost use Rattle.fits_session.specs.Session.{hdus_of};
 
-use fits_hdu::{Hdu, PassedHdu};
+use fits_hdu::Hdu;
+use fits_passing::PassedHdu;
 use std::alloc::{AllocError, Global};
 
 /// The HDUs of a file that passed by, of which the first begins it.

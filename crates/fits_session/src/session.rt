@@ -1,30 +1,22 @@
 ghost use Rattle.std.specs.Prelude.{◌≡◌};
 
-mod cards;
-mod changes;
 mod editing;
 mod finding;
-mod keeping;
 mod list_edits;
 mod loading;
 mod naming;
 mod opening;
-mod pixels;
 mod queries;
 mod reading;
-mod reshaping;
 mod saving;
-mod stamping;
 mod vouching;
 
 use crate::holder::{Holder, InMemory};
-use crate::limits::FILE_LIMIT;
 use crate::name_table::NameTable;
-use crate::open_fault::OpenFault;
-use crate::read_fault::ReadFileFault;
-use crate::refusal::Refusal;
 use fits_edit::Edit;
+use fits_edits::Refusal;
 use fits_hdu::Hdu;
+use fits_passing::{FILE_LIMIT, OpenFault, ReadFileFault};
 use fits_stream::{Intake, Source};
 use naming::name_all;
 use opening::test_start;
@@ -67,12 +59,13 @@ impl Session {
     ghost use Rattle.fits_stream.specs.Gave.{Gave};
     ghost use Rattle.fits_stream.specs.Intake.{Gives};
     ghost use Rattle.fits_stream.specs.Stream.{StaysQuiet};
-    ghost use Rattle.fits_hdu.specs.Work.{name_reads, IsOpened};
-    ghost use Rattle.fits_session.specs.File.{file_bytes, IsFile, IsFileOf};
-    ghost use Rattle.fits_session.specs.declared.limits.TheConstants.{FILE_LIMIT};
+    ghost use Rattle.fits_passing.specs.Work.{name_reads};
+    ghost use Rattle.fits_hdu.specs.Work.{IsOpened};
+    ghost use Rattle.fits_passing.specs.File.{file_bytes, IsFile, IsFileOf};
+    ghost use Rattle.fits_passing.specs.declared.limits.TheConstants.{FILE_LIMIT};
     ghost use Rattle.fits_session.specs.Marked.{unmarked};
-    ghost use Rattle.fits_session.specs.Opening.{HasOpenFault, OpenFails};
-    ghost use Rattle.fits_session.specs.Reading.{GaveFault, GaveWhole, ReadStops};
+    ghost use Rattle.fits_passing.specs.Opening.{HasOpenFault, OpenFails};
+    ghost use Rattle.fits_passing.specs.Reading.{GaveFault, GaveWhole, ReadStops};
     ghost use Rattle.fits_session.specs.Session.{file_of, marked_of, state_of, EditsTo, IsHeld};
 
     /// Opens the file that has these bytes. No HDU is kept stamped.
@@ -150,10 +143,12 @@ impl Session {
 impl<H: Holder + Drop> Session<H> {
     ghost use Rattle.std.specs.Prelude.{◌≡◌, ℕ, List, length, None, All, IfOk};
     ghost use Rattle.fits_session.specs.Away.{AllLie, LieStill};
-    ghost use Rattle.fits_hdu.specs.Work.{name_reads, IsOpened};
-    ghost use Rattle.fits_session.specs.File.{file_bytes, IsFile};
+    ghost use Rattle.fits_passing.specs.Work.{name_reads};
+    ghost use Rattle.fits_hdu.specs.Work.{IsOpened};
+    ghost use Rattle.fits_passing.specs.File.{file_bytes, IsFile};
     ghost use Rattle.fits_session.specs.Marked.{unmarked};
-    ghost use Rattle.fits_session.specs.Session.{file_of, marked_of, state_of, EditsTo, IsHad, IsReadyFor};
+    ghost use Rattle.fits_session.specs.Session.{file_of, marked_of, state_of, EditsTo, IsReadyFor};
+    ghost use Rattle.fits_edits.specs.Making.{IsHad};
 
     // The session of the HDUs of a file, how many bytes it has, and the bytes after the last HDU.
     #[tactic(auto, using(crate::proofs::KeptLemmas::opened_steps))]

@@ -2,7 +2,8 @@
 
 use fits_fixtures::{FileText, P0, PIXEL, Plan, SMOOTH, change, file_of, reader, same, stored};
 use fits_hdu::Stats;
-use fits_session::{OpenFault, ReadFileFault, Session, read_outlines, read_statistics, read_sums};
+use fits_passing::{read_outlines, read_statistics, read_sums};
+use fits_session::{OpenFault, ReadFileFault, Session};
 use std::process::Abort;
 use std::test::Fail;
 

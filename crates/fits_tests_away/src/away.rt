@@ -1,6 +1,6 @@
 //! Data units that aren't in memory: known as they pass by, loaded, and copied from the file that they lie in.
 ghost use Rattle.std.specs.Prelude.{◌≡◌, ◌≤◌, ◌^◌, length, None, IsTrue};
-ghost use Rattle.fits_hdu.specs.Hdu.{hdu_bytes};
+ghost use Rattle.fits_passing.specs.Hdu.{hdu_bytes};
 ghost use Rattle.fits_hdu.specs.State.{parts_of};
 ghost use Rattle.fits_plane.specs.DataUnit.{IsCounted};
 
@@ -9,8 +9,9 @@ use crate::rows::{
     TABLE, file_with, from_hdu, hdu_in, is_primary,
 };
 use fits_fixtures::{Plan, SMOOTH, broken_bytes, holds, reader, same, stored_bytes, writer};
-use fits_hdu::{Hdu, HduFault, PassedHdu, Stats, Verdicts};
+use fits_hdu::{Hdu, HduFault, Stats, Verdicts};
 use fits_image::Kind;
+use fits_passing::PassedHdu;
 use fits_stream::{Intake, ReadLog, Source, Stored, StoredSource};
 use std::alloc::{AllocError, Global};
 use std::process::Abort;

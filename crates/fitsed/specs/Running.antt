@@ -7,11 +7,11 @@ use Rattle.fits_cli.specs.Ends.{end_of, run_by, EndsAs, EndsBy, OverReads, Remar
 use Rattle.fits_cli.specs.Frame.{AsksLeave, LeavesAs}
 use Rattle.fits_cli.specs.Terms.{asking}
 use Rattle.fits_cli.specs.declared.edited.Edited.{Edited}
-use Rattle.fits_cli.specs.declared.end.End.{End}
-use Rattle.fits_cli.specs.declared.fault.Fault.{Fault}
-use Rattle.fits_cli.specs.declared.fault.Fault.TheVariants.{Memory, ReadFailed, WriteFailed}
-use Rattle.fits_cli.specs.declared.level.Level.{Level}
-use Rattle.fits_cli.specs.declared.level.Level.TheVariants.{All, Errors, Quiet}
+use Rattle.fits_tell.specs.declared.end.End.{End}
+use Rattle.fits_tell.specs.declared.fault.Fault.{Fault}
+use Rattle.fits_tell.specs.declared.fault.Fault.TheVariants.{Memory, ReadFailed, WriteFailed}
+use Rattle.fits_tell.specs.declared.level.Level.{Level}
+use Rattle.fits_tell.specs.declared.level.Level.TheVariants.{All, Errors, Quiet}
 use Rattle.fits_cli.specs.declared.saves.Saves.TheVariants.{Made}
 use Rattle.fits_cli.specs.declared.terms.Terms.{Terms}
 use Rattle.fitsed.specs.Saving.{StandsOrFails}

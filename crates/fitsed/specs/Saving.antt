@@ -6,8 +6,8 @@ use Rattle.fits_save.specs.declared.stage.Stage.{Stage}
 use Rattle.fits_cli.specs.Ends.{end_of}
 use Rattle.fits_cli.specs.declared.edited.Edited.{Edited}
 use Rattle.fits_cli.specs.declared.edited.Edited.TheVariants.{Done, KeptBack, Unsound}
-use Rattle.fits_cli.specs.declared.fault.Fault.{Fault}
-use Rattle.fits_cli.specs.declared.fault.Fault.TheVariants.{WriteFailed}
+use Rattle.fits_tell.specs.declared.fault.Fault.{Fault}
+use Rattle.fits_tell.specs.declared.fault.Fault.TheVariants.{WriteFailed}
 
 -- the result is saved: no fault ended the run, and nothing kept the result back
 abbrev pub is_saved : Result Edited Fault → Bool

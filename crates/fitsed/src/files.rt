@@ -1,6 +1,6 @@
 //! Files that are read.
 use fits_card::CardList;
-use fits_session::{Headers, read_headers};
+use fits_passing::{Headers, read_headers};
 use fits_stream::FileSource;
 use std::fs;
 use std::fs::File;

@@ -1,6 +1,6 @@
 //! What standard error is told.
 ghost use Rattle.std.specs.Prelude.{◌≡◌};
-ghost use Rattle.fits_cli.specs.Faults.{status_of_fault};
+ghost use Rattle.fits_tell.specs.Faults.{status_of_fault};
 
 use crate::detail::Detail;
 use crate::explaining::{INPUT, explain, explain_read, tell_call, tell_cause};

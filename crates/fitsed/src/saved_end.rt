@@ -1,6 +1,6 @@
 //! How the run over a file that is edited ended, and its saving.
 ghost use Rattle.std.specs.Prelude.{◌≡◌, None, Some, Err};
-ghost use Rattle.fits_cli.specs.declared.fault.Fault.TheVariants.{WriteFailed};
+ghost use Rattle.fits_tell.specs.declared.fault.Fault.TheVariants.{WriteFailed};
 ghost use Rattle.fitsed.specs.Saving.{is_saved};
 
 use crate::reporting::ends_all;

@@ -1,10 +1,10 @@
 //! What an HDU under edits keeps: a header and a data unit, and beside them plain values alone.
 
 use super::Hdu;
-use crate::sum_keywords::SumKeywords;
 use fits_codes::HeaderMark;
 use fits_header::Header;
 use fits_image::Kind;
+use fits_passing::SumKeywords;
 use fits_plane::DataUnit;
 
 // A value that holds no memory of its own.

@@ -1,6 +1,6 @@
 //! An HDU whose data unit lies in a file, and is read again where it is wanted.
 use super::Hdu;
-use crate::passed_hdu::PassedHdu;
+use fits_passing::PassedHdu;
 use fits_plane::{CopyFault, DataUnit, LoadFault};
 use fits_stream::{ReadLog, Sink, Stored};
 use std::alloc::{AllocError, Global};
@@ -12,8 +12,8 @@ impl Hdu {
     ghost use Rattle.fits_plane.specs.Again.{copied_blocks, CopyCounts, CopyFails, CopyWrites, Follows, LoadCounts, Looks, PrintsLike};
     ghost use Rattle.fits_plane.specs.DataUnit.{IsCounted, LiesIn};
     ghost use Rattle.fits_plane.specs.Layout.{block_count};
-    ghost use Rattle.fits_hdu.specs.Hdu.{hdu_bytes};
-    ghost use Rattle.fits_hdu.specs.Reading.{passed_parts, IsPassedWhole};
+    ghost use Rattle.fits_passing.specs.Hdu.{hdu_bytes};
+    ghost use Rattle.fits_passing.specs.HduReading.{passed_parts, IsPassedWhole};
     ghost use Rattle.fits_hdu.specs.State.{parts_of, ReadsUpTo};
     ghost use Rattle.fits_hdu.specs.Work.{IsKnownAt, Loads, WritesHdu};
 

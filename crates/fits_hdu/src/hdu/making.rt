@@ -1,9 +1,9 @@
 //! Making an HDU of nothing.
 use super::Hdu;
-use crate::data_unit::unit_len;
-use crate::layout::zero_plane;
+use crate::planes::zero_plane;
 use fits_header::Header;
 use fits_image::{Kind, image_header};
+use fits_passing::unit_len;
 use fits_plane::DataUnit;
 use fits_rules::Shape;
 use std::alloc::{AllocError, Global};
@@ -14,11 +14,12 @@ const LARGEST_UNIT: usize = 1 << 34;
 impl Hdu {
     ghost use Rattle.std.specs.Prelude.{◌≡◌, ◌^◌, ◌≤◌, true, false, length, None, IfOk};
     ghost use Rattle.fits_plane.specs.Layout.{block_count};
-    ghost use Rattle.fits_hdu.specs.Hdu.{hdu_bytes};
+    ghost use Rattle.fits_passing.specs.Hdu.{hdu_bytes};
     ghost use Rattle.fits_image.specs.ImageCards.{are_axes, image_shape};
     ghost use Rattle.fits_hdu.specs.NewImage.{new_image};
     ghost use Rattle.fits_hdu.specs.State.{name_of, parts_of, IsDescribed};
-    ghost use Rattle.fits_hdu.specs.Work.{open_reads, plane_work, IsMade};
+    ghost use Rattle.fits_passing.specs.Work.{open_reads};
+    ghost use Rattle.fits_hdu.specs.Work.{plane_work, IsMade};
 
     /// A new image of this kind and shape (FITS Standard 4.0, section 7.1), each of whose bytes of
     /// data is zero. With its header it has 2^34 bytes at most. It isn't called anything.

@@ -11,7 +11,8 @@ impl Hdu {
     ghost use Rattle.fits_plane.specs.Pixels.{IsStorable};
     ghost use Rattle.fits_plane.specs.Rectangle.{lies_within, rectangle_size, IsRectangle};
     ghost use Rattle.fits_image.specs.Kind.{kind_in, offset_of, width_of};
-    ghost use Rattle.fits_hdu.specs.Pixels.{painted, rect_of, stats_of, RectFails};
+    ghost use Rattle.fits_hdu.specs.Pixels.{painted, rect_of, RectFails};
+    ghost use Rattle.fits_passing.specs.Stats.{stats_of};
     ghost use Rattle.fits_hdu.specs.State.{parts_of, HasPixels, HasStats, IsDescribed};
     ghost use Rattle.fits_hdu.specs.Work.{IsPatchedIn};
 

@@ -2,25 +2,23 @@
 ghost use Rattle.std.specs.Prelude.{◌≡◌};
 
 use super::Hdu;
-use crate::found::with_data_codes;
-use crate::sums::{verdicts_by, whole_sum};
-use crate::verdicts::Verdicts;
 use fits_codes::{Code, CodeSet, judge_header_mark};
 use fits_header::{Counts, Finding};
+use fits_passing::{Verdicts, verdicts_by, whole_sum, with_data_codes};
 use fits_sum::fold;
 use std::alloc::{AllocError, Global};
 
 impl Hdu {
     ghost use Rattle.std.specs.Prelude.{◌≡◌, ◌+◌, ◌≤◌, ◌^◌, length, Ok, IfOk};
     ghost use Rattle.fits_header.specs.Findings.{card_findings};
-    ghost use Rattle.fits_hdu.specs.Findings.{hdu_counts, whole_codes};
-    ghost use Rattle.fits_hdu.specs.Hdu.{hdu_bytes};
+    ghost use Rattle.fits_passing.specs.Findings.{hdu_counts, whole_codes};
+    ghost use Rattle.fits_passing.specs.Hdu.{hdu_bytes};
     ghost use Rattle.fits_hdu.specs.State.{parts_of, IsDescribed};
-    ghost use Rattle.fits_hdu.specs.Sums.{data_sum, verdicts_of};
+    ghost use Rattle.fits_passing.specs.Sums.{data_sum, verdicts_of};
 
     /// The sum of its data unit, with the fill (FITS Standard 4.0, Appendix J). It takes no memory,
     /// and nothing is read.
-    #[tactic(auto, unfolding(crate::specs::Sums::data_sum))]
+    #[tactic(auto, unfolding(fits_passing::specs::Sums::data_sum))]
     pub fn datasum(&self) -> u32
         ensures { result ≡ data_sum (parts_of self.now) }
     {

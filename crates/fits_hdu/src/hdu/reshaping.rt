@@ -2,14 +2,13 @@
 ghost use Rattle.std.specs.Prelude.{◌≡◌, ◌≤◌, ◌+◌, length};
 
 use super::Hdu;
-use crate::layout::layout_of;
 use crate::reshape_fault::ReshapeFault;
 use crate::reshaped_header::{count_reshaped, rewrite};
 use crate::reshaped_unit::{reshape_unit, unit_within};
 use crate::reshaping::{Reshaping, plan};
-use crate::sums::sum_keywords;
 use fits_card::{BLOCK_LEN, header_len};
 use fits_image::{Kind, image_kind};
+use fits_passing::{layout_of, sum_keywords};
 use fits_plane::PlaneRoom;
 use std::alloc::Global;
 
@@ -20,11 +19,12 @@ impl Hdu {
     ghost use Rattle.fits_plane.specs.Layout.{block_count};
     ghost use Rattle.fits_rules.specs.Size.{data_length};
     ghost use Rattle.fits_image.specs.Kind.{array_kind};
-    ghost use Rattle.fits_hdu.specs.Hdu.{hdu_bytes};
+    ghost use Rattle.fits_passing.specs.Hdu.{hdu_bytes};
     ghost use Rattle.fits_hdu.specs.Reshape.{cards_reshaped, kept_count, length_spared, reshaped, reshaped_shape, ReshapeFails};
     ghost use Rattle.fits_hdu.specs.Reshaping.{IsPlan};
     ghost use Rattle.fits_hdu.specs.State.{parts_of, IsDescribed};
-    ghost use Rattle.fits_hdu.specs.Work.{apply_reads, plane_work, reshape_reads, scaling_reads, IsRead, IsRenewed, IsRescanned};
+    ghost use Rattle.fits_passing.specs.Work.{apply_reads};
+    ghost use Rattle.fits_hdu.specs.Work.{plane_work, reshape_reads, scaling_reads, IsRead, IsRenewed, IsRescanned};
 
     /// Makes it an array of this kind and with these axes, where it is one of integers and has so
     /// many bytes at most then, with as many cards more as are to be spared, and answers how many

@@ -7,19 +7,20 @@ ghost use Rattle.fits_hdu.specs.Keyword.{replacing};
 use super::Hdu;
 use crate::keyword_cards::{count_of, replacement};
 use crate::stamp_cards::StampCards;
-use crate::sums::{CHECKSUM, DATASUM};
 use fits_card::{Card, Cards, Name};
+use fits_passing::{CHECKSUM, DATASUM};
 use fits_sum::{datasum_card, encode, fold};
 use std::alloc::{AllocError, Global};
 
 impl Hdu {
     ghost use Rattle.std.specs.Prelude.{◌≡◌, ◌≤◌, ◌+◌, ◌-◌, ◌^◌, length, Ok, Some, OnOk, OnErr};
-    ghost use Rattle.fits_hdu.specs.Hdu.{hdu_bytes};
+    ghost use Rattle.fits_passing.specs.Hdu.{hdu_bytes};
     ghost use Rattle.fits_hdu.specs.Keyword.{own_count};
     ghost use Rattle.fits_hdu.specs.Stamp.{stamp_adds, stamped, with_keyword, IsOneCard, IsSumName};
     ghost use Rattle.fits_hdu.specs.State.{parts_of, IsDescribed, ReadsUpTo};
-    ghost use Rattle.fits_hdu.specs.Sums.{hdu_sum};
-    ghost use Rattle.fits_hdu.specs.Work.{apply_reads, keyword_reads, plane_work, stamp_count_reads, stamp_reads};
+    ghost use Rattle.fits_passing.specs.Sums.{hdu_sum};
+    ghost use Rattle.fits_passing.specs.Work.{apply_reads};
+    ghost use Rattle.fits_hdu.specs.Work.{keyword_reads, plane_work, stamp_count_reads, stamp_reads};
 
     /// How many cards its header has when it is stamped. The cards that it reads are counted. It
     /// takes no memory.
@@ -104,7 +105,7 @@ impl Hdu {
     }
 
     // The sum of the whole of it.
-    #[tactic(auto, using(crate::proofs::StampingLemmas::sum_steps), unfolding(crate::specs::Sums::hdu_sum))]
+    #[tactic(auto, using(crate::proofs::StampingLemmas::sum_steps), unfolding(fits_passing::specs::Sums::hdu_sum))]
     fn sum(&self) -> u32
         requires { length (hdu_bytes (parts_of self.now)) ≤ 2 ^ 34 }
         ensures { result ≡ hdu_sum (parts_of self.now) }

@@ -2,7 +2,7 @@
 ghost use Rattle.std.specs.Prelude.{◌≡◌, length, IfOk, IfErr, OnErr};
 ghost use Rattle.fits_session.specs.Session.{IsIndexOf, IsNowhere};
 
-use crate::refusal::Refusal;
+use fits_edits::Refusal;
 use fits_hdu::Hdu;
 
 /// The index of HDU h. Refusal 1.

@@ -1,14 +1,13 @@
 //! Edits of the list of HDUs: a new image is put in, or an HDU is taken out.
 use super::Session;
-use super::changes::is_within;
 use super::finding::index_of;
 use super::naming::leave;
 use crate::holder::Holder;
-use crate::limits::{FILE_LIMIT, HDU_LIMIT};
-use crate::refusal::Refusal;
 use fits_edit::Edit;
+use fits_edits::{Refusal, is_within};
 use fits_hdu::{Hdu, image_len};
 use fits_image::{Kind, are_axes, image_shape};
+use fits_passing::{FILE_LIMIT, HDU_LIMIT};
 use fits_rules::Axes;
 
 impl<H: Holder + Drop> Session<H> {

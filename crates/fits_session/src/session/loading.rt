@@ -5,9 +5,8 @@ use super::Session;
 use super::finding::index_of;
 use super::reading::read_away;
 use crate::holder::{Holder, InFile};
-use crate::limits::FILE_LIMIT;
-use crate::read_fault::ReadFileFault;
 use fits_edit::{Edit, HduEdit};
+use fits_passing::{FILE_LIMIT, ReadFileFault};
 use fits_plane::LoadFault;
 use fits_rules::array_bits;
 use fits_stream::{Intake, ReadLog, Stored, StoredSource};
@@ -17,9 +16,10 @@ impl<'f, F: Stored> Session<InFile<'f, F>> {
     ghost use Rattle.std.specs.Prelude.{◌≡◌, ℕ, List, All, IfErr, IfOk, OnOk};
     ghost use Rattle.fits_plane.specs.Again.{Follows};
     ghost use Rattle.fits_stream.specs.Agree.{IsOf};
-    ghost use Rattle.fits_hdu.specs.Work.{name_reads, IsOpened};
+    ghost use Rattle.fits_passing.specs.Work.{name_reads};
+    ghost use Rattle.fits_hdu.specs.Work.{IsOpened};
     ghost use Rattle.fits_session.specs.Away.{Agree, AllLie, StoredStops};
-    ghost use Rattle.fits_session.specs.File.{file_bytes, IsFileOf};
+    ghost use Rattle.fits_passing.specs.File.{file_bytes, IsFileOf};
     ghost use Rattle.fits_session.specs.Marked.{unmarked};
     ghost use Rattle.fits_session.specs.Session.{file_of, marked_of};
 
@@ -58,7 +58,8 @@ impl<H: Holder + Drop> Session<H> {
     ghost use Rattle.fits_stream.specs.Agree.{IsOf};
     ghost use Rattle.fits_session.specs.Away.{Agree, EditWantsPixels, LieStill, LoadsAt, LoadsFor, LoadWork};
     ghost use Rattle.fits_session.specs.Query.{array_in, kind_in};
-    ghost use Rattle.fits_session.specs.Session.{file_of, marked_of, reads_of, works_of, HasArray, HasPixels, HasStats, IsHeld, IsReadyFor, IsSoOf, NeedsPixels, WorksOnly};
+    ghost use Rattle.fits_session.specs.Session.{file_of, marked_of, reads_of, works_of, HasPixels, HasStats, IsHeld, IsReadyFor, IsSoOf, NeedsPixels, WorksOnly};
+    ghost use Rattle.fits_edits.specs.Making.{HasArray};
 
     /// Has the data unit of HDU h in memory, if there is one: where it lies in a file it is read
     /// again, and judged by its length and its total. Reads that fail are counted.

@@ -1,13 +1,15 @@
 //! HDUs that come to a name and lose it, and the table that tells of it.
 ghost use Rattle.std.specs.Prelude.{◌≡◌, ◌+◌, ◌<◌, ◌≤◌, ◌^◌, length, map, All, Option, IfOk, OnOk};
 ghost use Rattle.fits_hdu.specs.State.{IsDescribed};
-ghost use Rattle.fits_hdu.specs.Work.{name_reads, IsOpened};
+ghost use Rattle.fits_passing.specs.Work.{name_reads};
+ghost use Rattle.fits_hdu.specs.Work.{IsOpened};
 ghost use Rattle.fits_session.specs.NameTable.{mended, Leaves, Stands, Stood};
-ghost use Rattle.fits_session.specs.Session.{hdus_of, kept_of, reads_of, without_entries, works_of, Holding, IsHad, ReadsOnly};
+ghost use Rattle.fits_session.specs.Session.{hdus_of, kept_of, reads_of, without_entries, works_of, ReadsOnly};
+ghost use Rattle.fits_edits.specs.Making.{Holding, IsHad};
 
-use crate::name_counts::NameCounts;
 use crate::name_table::NameTable;
 use fits_hdu::Hdu;
+use fits_passing::NameCounts;
 use std::alloc::{AllocError, Global};
 
 /// The table of what HDUs are called; each HDU gets the entry of its name. The cards that say it

@@ -1,10 +1,9 @@
 //! What is tested of the bytes of a file before anything else.
 ghost use Rattle.std.specs.Prelude.{◌≤◌, ◌<◌, IfErr, IsErrOf, OnOk, length};
-ghost use Rattle.fits_session.specs.declared.limits.TheConstants.{FILE_LIMIT};
-ghost use Rattle.fits_session.specs.Opening.{BeginsAsFits, HasOpenFault, OpenFails};
+ghost use Rattle.fits_passing.specs.declared.limits.TheConstants.{FILE_LIMIT};
+ghost use Rattle.fits_passing.specs.Opening.{BeginsAsFits, HasOpenFault, OpenFails};
 
-use crate::limits::FILE_LIMIT;
-use crate::open_fault::OpenFault;
+use fits_passing::{FILE_LIMIT, OpenFault};
 
 /// Tests how long a file is, and then its first bytes.
 pub(crate) fn test_start(bytes: &[u8]) -> Result<(), OpenFault>

@@ -1,8 +1,8 @@
 //! What a session answers. Queries leave the file as it is.
 ghost use Rattle.std.specs.Prelude.{◌≡◌, ◌≤◌, ◌+◌, length, IfOk};
-ghost use Rattle.fits_session.specs.File.{joined_hdus, offsets_from};
-ghost use Rattle.fits_session.specs.declared.limits.TheConstants.{FILE_LIMIT};
-ghost use Rattle.fits_session.specs.Report.{counts_in, names_from, wrong_from};
+ghost use Rattle.fits_passing.specs.File.{joined_hdus, offsets_from};
+ghost use Rattle.fits_passing.specs.declared.limits.TheConstants.{FILE_LIMIT};
+ghost use Rattle.fits_passing.specs.Report.{counts_in, names_from, wrong_from};
 ghost use Rattle.fits_session.specs.Session.{hdus_of, AreNamed};
 
 use super::Session;
@@ -10,15 +10,13 @@ use super::finding::index_of;
 use super::vouching::is_kept;
 use crate::holder::Holder;
 use crate::name_table::NameTable;
-use crate::offsets::HduOffsets;
-use crate::problem::Problem;
-use crate::refusal::Refusal;
-use crate::reporting::{push_problems, push_trailing};
 use fits_card::Name;
 use fits_codes::Code;
+use fits_edits::Refusal;
 use fits_hdu::{Hdu, Stats, Verdicts};
 use fits_header::Counts;
 use fits_image::Kind;
+use fits_passing::{HduOffsets, Problem, push_problems, push_trailing};
 use fits_rules::Shape;
 use fits_value::{Text, Value};
 use std::alloc::{AllocError, Global};
@@ -28,11 +26,11 @@ impl<H: Holder + Drop> Session<H> {
     ghost use Rattle.fits_plane.specs.Rectangle.{rectangle_size};
     ghost use Rattle.fits_session.specs.Away.{LieStill};
     ghost use Rattle.fits_session.specs.Edit.{hdu_of};
-    ghost use Rattle.fits_session.specs.File.{offsets_from};
-    ghost use Rattle.fits_session.specs.Keeping.{both_right};
+    ghost use Rattle.fits_passing.specs.File.{offsets_from};
+    ghost use Rattle.fits_edits.specs.Keeping.{both_right};
     ghost use Rattle.fits_session.specs.Marked.{kept_in};
     ghost use Rattle.fits_session.specs.Query.{card_count_in, datasum_in, kind_in, names_in, positions_in, rect_in, shape_in, stats_in, value_in, verdicts_in, PlacesFail, QueryFails};
-    ghost use Rattle.fits_session.specs.Report.{counts_in, report_of};
+    ghost use Rattle.fits_passing.specs.Report.{counts_in, report_of};
     ghost use Rattle.fits_session.specs.Session.{file_of, marked_of, Asks, AsksPixels, HasPixels, HasStats, IsSoOf};
     ghost use Rattle.fits_session.specs.Work.{value_reads};
 

@@ -5,17 +5,17 @@ ghost use Rattle.fits_card.specs.declared.card_list.TheConstants.{BLOCK_LEN};
 ghost use Rattle.fits_stream.specs.Intake.{supply, GivesAll, IsLimited, IsOver, IsSpent, Takes, TakingStops, TellsAll};
 ghost use Rattle.fits_stream.specs.Stream.{StaysQuiet};
 ghost use Rattle.fits_hdu.specs.Work.{IsOpened};
-ghost use Rattle.fits_session.specs.File.{begins_extension, file_bytes, IsFile, IsFileOf};
-ghost use Rattle.fits_session.specs.declared.limits.TheConstants.{FILE_LIMIT};
+ghost use Rattle.fits_passing.specs.File.{begins_extension, file_bytes, IsFile, IsFileOf};
+ghost use Rattle.fits_passing.specs.declared.limits.TheConstants.{FILE_LIMIT};
 ghost use Rattle.fits_session.specs.Away.{AreKnownFrom};
-ghost use Rattle.fits_session.specs.Reading.{GaveFault, IsFresh, IsReadWhole, SupplyStops};
+ghost use Rattle.fits_passing.specs.Reading.{GaveFault, IsFresh, SupplyStops};
+ghost use Rattle.fits_session.specs.Reading.{IsReadWhole};
 ghost use Rattle.fits_session.specs.Session.{file_of, state_of, IsHeld};
 
 use crate::placing::placed;
-use crate::read_fault::ReadFileFault;
-use crate::walking::{end, settled, walk};
 use fits_card::BLOCK_LEN;
-use fits_hdu::{Hdu, Kept, PassedHdu};
+use fits_hdu::Hdu;
+use fits_passing::{Kept, PassedHdu, ReadFileFault, end, settled, walk};
 use fits_stream::{Intake, ReadFault, Source};
 use std::alloc::Global;
 

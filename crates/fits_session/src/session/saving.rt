@@ -4,8 +4,9 @@ ghost use Rattle.fits_plane.specs.Again.{CopyCounts, CopyFails, CopyWrites, Foll
 ghost use Rattle.fits_stream.specs.Agree.{IsOf};
 ghost use Rattle.fits_session.specs.Away.{Agree, WritesHdus};
 ghost use Rattle.fits_stream.specs.Stream.{Prints, PrintsFront};
-ghost use Rattle.fits_session.specs.File.{joined_hdus};
-ghost use Rattle.fits_session.specs.Session.{hdus_of, each_read, IsHad, ReadsOnceAtMost};
+ghost use Rattle.fits_passing.specs.File.{joined_hdus};
+ghost use Rattle.fits_session.specs.Session.{hdus_of, each_read, ReadsOnceAtMost};
+ghost use Rattle.fits_edits.specs.Making.{IsHad};
 
 use super::Session;
 use crate::holder::Holder;
@@ -17,7 +18,7 @@ use fits_stream::{ReadLog, Sink, write_all};
 impl Session {
     ghost use Rattle.std.specs.Prelude.{◌≡◌, ◌+◌, OnOk, OnErr};
     ghost use Rattle.fits_stream.specs.Stream.{Prints, PrintsFront};
-    ghost use Rattle.fits_session.specs.File.{file_bytes};
+    ghost use Rattle.fits_passing.specs.File.{file_bytes};
     ghost use Rattle.fits_session.specs.Session.{file_of, each_read, marked_of, ReadsOnceAtMost};
 
     /// Writes the file. Where a call fails a prefix was written. It takes no memory.
@@ -47,7 +48,7 @@ impl<H: Holder + Drop> Session<H> {
     ghost use Rattle.fits_stream.specs.Agree.{IsOf};
     ghost use Rattle.fits_session.specs.Away.{Agree, LieStill, WritesFile};
     ghost use Rattle.fits_stream.specs.Stream.{Prints};
-    ghost use Rattle.fits_session.specs.File.{file_bytes};
+    ghost use Rattle.fits_passing.specs.File.{file_bytes};
     ghost use Rattle.fits_session.specs.Session.{file_of, each_read, marked_of, ReadsOnceAtMost};
 
     /// Writes the file, as `save`. Data units that aren't in memory are read again, and reads that fail

@@ -1,11 +1,11 @@
 //! HDUs whose sums vouch for them: each edit of one is followed by a stamp from now on.
 ghost use Rattle.std.specs.Prelude.{◌≡◌, ◌≤◌, ◌^◌, ◌&&◌, length, map};
-ghost use Rattle.fits_hdu.specs.Hdu.{hdu_bytes};
+ghost use Rattle.fits_passing.specs.Hdu.{hdu_bytes};
 ghost use Rattle.fits_hdu.specs.State.{parts_of};
-ghost use Rattle.fits_session.specs.File.{joined_hdus};
-ghost use Rattle.fits_session.specs.Keeping.{are_right, is_right, vouch, vouched_one};
+ghost use Rattle.fits_passing.specs.File.{joined_hdus};
+ghost use Rattle.fits_edits.specs.Keeping.{are_right, is_right, vouch, vouched_one};
 ghost use Rattle.fits_session.specs.Session.{hdus_of};
-ghost use Rattle.fits_session.specs.declared.limits.TheConstants.{FILE_LIMIT};
+ghost use Rattle.fits_passing.specs.declared.limits.TheConstants.{FILE_LIMIT};
 
 use super::Session;
 use crate::holder::Holder;
@@ -13,7 +13,7 @@ use fits_hdu::{Hdu, Verdict, Verdicts};
 
 impl<H: Holder + Drop> Session<H> {
     ghost use Rattle.std.specs.Prelude.{◌≡◌, map};
-    ghost use Rattle.fits_session.specs.Keeping.{vouched_one};
+    ghost use Rattle.fits_edits.specs.Keeping.{vouched_one};
     ghost use Rattle.fits_session.specs.Away.{LieStill};
     ghost use Rattle.fits_session.specs.Marked.{vouched};
     ghost use Rattle.fits_session.specs.Session.{file_of, marked_of, state_of};

@@ -1,5 +1,5 @@
 use Rattle.fits_session.specs.Session.{marked_of}
-use Rattle.fits_cli.proofs.ExitLemmas.{at_exit}
+use Rattle.fits_tell.proofs.ExitLemmas.{at_exit}
 use Rattle.fits_cli.proofs.RefusalLemmas.{CommandFails-edit}
 use Rattle.fits_cli.proofs.answer.answer.Goals as goal
 

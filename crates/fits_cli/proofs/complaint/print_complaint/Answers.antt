@@ -1,5 +1,6 @@
 use Rattle.fits_cli.proofs.ComplaintLemmas.{complaint_word, complaint_number, complaint_colon, complaint_why, complaint_end, complaint_whole}
-use Rattle.fits_cli.proofs.ExitLemmas.{last_ok, print_exit, print_last}
+use Rattle.fits_tell.proofs.ExitLemmas.{last_ok}
+use Rattle.fits_cli.proofs.ExitLemmas.{print_exit, print_last}
 use Rattle.fits_cli.proofs.complaint.print_complaint.Goals as goal
 
 pub returns-in_err-print-clause-err : goal.returns-in_err-print-clause-err

@@ -1,6 +1,7 @@
 use Rattle.std.proofs.Common.{refl}
 use Rattle.fits_cli.proofs.EditingLemmas.{answered_run, AreToldOf-script, StopsBy-script, StopsBy-unread}
-use Rattle.fits_cli.proofs.ExitLemmas.{at_exit, once_or}
+use Rattle.fits_tell.proofs.ExitLemmas.{at_exit}
+use Rattle.fits_cli.proofs.ExitLemmas.{once_or}
 use Rattle.fits_cli.proofs.FrameLemmas.{answers_done, answers_stop, script_none}
 use Rattle.fits_cli.proofs.editing.answered.Goals as goal
 

@@ -1,7 +1,8 @@
 use Rattle.std.proofs.Common.{◌∙◌, inl, inr, refl, sym}
 use Rattle.std.proofs.lemmas.Bool.{ltb-true, ltb-false}
 use Rattle.fits_cli.proofs.EndingLemmas.{ends_exit, Kept-back, Lacks-report, New-errors-fail, Saving-fails, Succeeds-asked, Succeeds-saved, Unsound-printed}
-use Rattle.fits_cli.proofs.ExitLemmas.{once_or, at_exit}
+use Rattle.fits_cli.proofs.ExitLemmas.{once_or}
+use Rattle.fits_tell.proofs.ExitLemmas.{at_exit}
 use Rattle.fits_cli.proofs.FrameLemmas.{result_part, result_saving, some_none}
 use Rattle.fits_cli.proofs.editing.save_result.Goals as goal
 

@@ -1,7 +1,7 @@
 use Rattle.std.proofs.Common.{◌≡◌, ◌≤◌, length, take}
 use Rattle.std.specs.List.{filter}
 use Rattle.fits_cli.specs.NewErrors.{is_new, new_error_lines}
-use Rattle.fits_cli.specs.Report.{errors_in}
+use Rattle.fits_tell.specs.Report.{errors_in}
 use Rattle.fits_cli.proofs.new_errors.errors_since.Given as goal
 
 abbrev pub invariant-loop-it : goal.invariant-loop-it

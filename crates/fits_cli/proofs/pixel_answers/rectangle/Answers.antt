@@ -1,5 +1,5 @@
 use Rattle.fits_session.specs.Session.{marked_of}
-use Rattle.fits_cli.proofs.ExitLemmas.{at_exit}
+use Rattle.fits_tell.proofs.ExitLemmas.{at_exit}
 use Rattle.fits_cli.proofs.PixelAnswerLemmas.{rectangle_of_corners_fails}
 use Rattle.fits_cli.proofs.pixel_answers.rectangle.Goals as goal
 

@@ -1,6 +1,6 @@
 use Rattle.std.proofs.Common.{◌∙◌, sym}
 use Rattle.fits_session.specs.Session.{marked_of}
-use Rattle.fits_cli.proofs.ExitLemmas.{at_exit}
+use Rattle.fits_tell.proofs.ExitLemmas.{at_exit}
 use Rattle.fits_cli.proofs.PixelAnswerLemmas.{sums_fails, verdicts_fails}
 use Rattle.fits_cli.proofs.pixel_answers.sums.Goals as goal
 

@@ -1,5 +1,5 @@
 use Rattle.fits_cli.proofs.ComplaintLemmas.{complaint_word, complaint_number, complaint_colon, complaint_why, complaint_end, complaint_whole}
-use Rattle.fits_cli.proofs.ExitLemmas.{at_exit, last_err, last_ok}
+use Rattle.fits_tell.proofs.ExitLemmas.{at_exit, last_err, last_ok}
 use Rattle.fits_cli.specs.Remark.{remark_by, words_of}
 use Rattle.fits_cli.proofs.remarking.write_line.Goals as goal
 

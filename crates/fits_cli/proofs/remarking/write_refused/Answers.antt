@@ -1,7 +1,7 @@
 use Rattle.std.proofs.Common.{codes, ◌++◌}
-use Rattle.fits_session.specs.Refusal.{refusal_text}
+use Rattle.fits_edits.specs.Refusal.{refusal_text}
 use Rattle.fits_stream.proofs.StreamLemmas.{PrintsFront-longer, PrintsFront-more}
-use Rattle.fits_cli.proofs.ExitLemmas.{at_exit, last_err}
+use Rattle.fits_tell.proofs.ExitLemmas.{at_exit, last_err}
 use Rattle.fits_cli.specs.Remark.{reason_text}
 use Rattle.fits_cli.proofs.remarking.write_refused.Goals as goal
 

@@ -1,4 +1,4 @@
-use Rattle.fits_cli.proofs.ExitLemmas.{last_err, last_ok}
+use Rattle.fits_tell.proofs.ExitLemmas.{last_err, last_ok}
 use Rattle.fits_cli.proofs.ScriptLemmas.{Continues-flushed, PieceStops-unflushed}
 use Rattle.fits_cli.proofs.FrameLemmas.{line_unflushed, some_flushed}
 use Rattle.fits_cli.proofs.script.answer_at_once.Goals as goal

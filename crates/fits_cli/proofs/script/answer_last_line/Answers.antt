@@ -1,5 +1,5 @@
 use Rattle.std.proofs.Common.{rules, ◌<◌, ◌≡◌, length}
-use Rattle.fits_cli.proofs.ExitLemmas.{at_exit}
+use Rattle.fits_tell.proofs.ExitLemmas.{at_exit}
 use Rattle.fits_cli.proofs.RunLemmas.{EndsScript-none, EndsScript-line, EndStops-line}
 use Rattle.fits_cli.proofs.FrameLemmas.{some_none}
 use Rattle.fits_cli.proofs.script.answer_last_line.Goals as goal

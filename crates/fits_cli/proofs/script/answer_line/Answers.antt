@@ -1,4 +1,4 @@
-use Rattle.fits_cli.proofs.ExitLemmas.{at_exit}
+use Rattle.fits_tell.proofs.ExitLemmas.{at_exit}
 use Rattle.fits_cli.proofs.RemarkLemmas.{said_line}
 use Rattle.fits_cli.proofs.RunLemmas.{LineStops-reply}
 use Rattle.fits_cli.proofs.FrameLemmas.{line_none, line_part}

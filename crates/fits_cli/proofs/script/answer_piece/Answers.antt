@@ -1,6 +1,6 @@
 use Rattle.std.proofs.Common.{◌≡◌, ◌++◌, ◌∷◌, [], ◌∙◌, length, ap, sym, append_assoc, refl, arith}
 use Rattle.std.proofs.lemmas.List.{length-append}
-use Rattle.fits_cli.proofs.ExitLemmas.{at_exit}
+use Rattle.fits_tell.proofs.ExitLemmas.{at_exit}
 use Rattle.fits_cli.proofs.UnderWayLemmas.{follows_more, follows_none, steady_before}
 use Rattle.fits_cli.proofs.RunLemmas.{Continues-none, Continues-open, Continues-line, PieceStops-line}
 use Rattle.fits_cli.proofs.FrameLemmas.{line_more, some_more, some_none}

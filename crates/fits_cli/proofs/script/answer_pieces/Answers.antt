@@ -1,7 +1,7 @@
 use Rattle.std.proofs.Common.{◌≡◌, ◌++◌, ◌∙◌, [], take, length, refl, ap, arith, rules}
 use Rattle.std.proofs.lemmas.List.{length-append, length-take-le}
 use Rattle.fits_stream.proofs.StreamLemmas.{Reads-none, Reads-more, quiet_read, reads_fail_now}
-use Rattle.fits_cli.proofs.ExitLemmas.{at_exit, last_err, last_ok}
+use Rattle.fits_tell.proofs.ExitLemmas.{at_exit, last_err, last_ok}
 use Rattle.fits_cli.proofs.RunLemmas.{HasCome-none}
 use Rattle.fits_cli.proofs.UnderWayLemmas.{follows_more, follows_none, steady_before}
 use Rattle.fits_cli.proofs.ScriptLemmas.{ScriptReadFails-after, ScriptStops-piece, ScriptStops-over, ScriptStops-end, AnswersTooLong-over, AnswersScript-end}

@@ -1,4 +1,4 @@
-use Rattle.fits_hdu.proofs.HduLemmas.{primary_begins}
+use Rattle.fits_passing.proofs.HduLemmas.{primary_begins}
 use Rattle.fits_laws.proofs.HduLemmas.{extension_begins}
 use Rattle.fits_laws.proofs.hdu.how_hdus_begin.Goals as goal
 

@@ -2,12 +2,12 @@ use Rattle.std.proofs.Common.{All, ◌≡◌, ◌∙◌, ◌+◌, List, ap, arit
 use Rattle.std.proofs.lemmas.List.{length-append}
 use Rattle.std.proofs.lemmas.List.Elements.{All-tail}
 use Rattle.fits_card.specs.Header.{header_bytes}
-use Rattle.fits_hdu.specs.Hdu.{HduParts, hdu_bytes}
+use Rattle.fits_passing.specs.Hdu.{HduParts, hdu_bytes}
 use Rattle.fits_hdu.specs.State.{HduState, parts_of}
 use Rattle.fits_hdu.specs.Work.{IsKnownAt}
-use Rattle.fits_hdu.specs.declared.passed_hdu.PassedHdu.{PassedHdu}
+use Rattle.fits_passing.specs.declared.passed_hdu.PassedHdu.{PassedHdu}
 use Rattle.fits_session.specs.Away.{is_passed, parts_passed, AreKnownFrom}
-use Rattle.fits_session.specs.File.{joined_hdus}
+use Rattle.fits_passing.specs.File.{joined_hdus}
 use Rattle.fits_session.specs.Session.{hdus_of}
 use Rattle.fits_session.proofs.AwayLemmas.{joined_push, known_push, pushed_parts}
 use Rattle.fits_session.proofs.placing.placed.Goals as goal

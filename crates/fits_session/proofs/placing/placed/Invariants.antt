@@ -1,7 +1,7 @@
 use Rattle.std.proofs.Common.{All, ◌≡◌, ◌++◌, length, map}
-use Rattle.fits_hdu.specs.declared.passed_hdu.PassedHdu.{PassedHdu}
+use Rattle.fits_passing.specs.declared.passed_hdu.PassedHdu.{PassedHdu}
 use Rattle.fits_session.specs.Away.{is_passed, parts_passed, AreKnownFrom}
-use Rattle.fits_session.specs.File.{joined_hdus}
+use Rattle.fits_passing.specs.File.{joined_hdus}
 use Rattle.fits_session.specs.Session.{hdus_of}
 use Rattle.fits_session.proofs.placing.placed.Given as goal
 

@@ -1,4 +1,4 @@
-use Rattle.fits_cli.proofs.ExitLemmas.{last_err, last_ok}
+use Rattle.fits_tell.proofs.ExitLemmas.{last_err, last_ok}
 use Rattle.fits_cli.proofs.FrameLemmas.{like_flushed, saving_unflushed}
 use Rattle.fits_cli.proofs.runner.Runner.save.Goals as goal
 

@@ -1,6 +1,6 @@
 use Rattle.std.proofs.Common.{◌∙◌}
 use Rattle.fits_hdu.proofs.ChangeLemmas.{kept_value}
-use Rattle.fits_hdu.proofs.LayoutLemmas.{layout_kept}
+use Rattle.fits_passing.proofs.LayoutLemmas.{layout_kept}
 use Rattle.fits_hdu.proofs.hdu.Hdu.apply.Goals as goal
 
 pub apply-requires-clause-kept : goal.apply-requires-clause-kept

@@ -9,7 +9,8 @@ use Rattle.fits_hdu.specs.Pixels.{painted}
 use Rattle.fits_hdu.specs.State.{HduState, parts_of, HasPixels}
 use Rattle.fits_hdu.specs.Work.{IsPatchedIn}
 use Rattle.fits_plane.proofs.RectangleLemmas.{length-rectangle_written}
-use Rattle.fits_hdu.proofs.PixelLemmas.{kind_width, layout_pixels, layout_width, offset_fits, painted-done, patched}
+use Rattle.fits_hdu.proofs.PixelLemmas.{kind_width, layout_pixels, layout_width, painted-done, patched}
+use Rattle.fits_passing.proofs.StatsLemmas.{offset_fits}
 use Rattle.fits_hdu.proofs.hdu.Hdu.paint.Goals as goal
 
 -- the rectangle is one of the image, and its pixels can store the values

@@ -3,11 +3,12 @@ use Rattle.std.specs.Prelude.{Err, IsTrue}
 use Rattle.fits_plane.specs.Paint.{can_store_paint, has_count}
 use Rattle.fits_plane.specs.Rectangle.{lies_within, product, rectangle_size}
 use Rattle.fits_rules.specs.declared.array_shape.Shape.{Shape}
-use Rattle.fits_hdu.specs.Hdu.{HduParts}
+use Rattle.fits_passing.specs.Hdu.{HduParts}
 use Rattle.fits_hdu.specs.Pixels.{painted}
 use Rattle.fits_hdu.specs.State.{HduState, parts_of}
 use Rattle.fits_hdu.specs.declared.pixel_fault.PixelFault.TheVariants.{NotImage, BadRectangle, WrongCount, OutOfRange}
-use Rattle.fits_hdu.proofs.PixelLemmas.{few_places, offset_fits, painted-not_image, painted-bad, painted-count, painted-out, plane_pixels}
+use Rattle.fits_hdu.proofs.PixelLemmas.{few_places, painted-not_image, painted-bad, painted-count, painted-out, plane_pixels}
+use Rattle.fits_passing.proofs.StatsLemmas.{offset_fits}
 use Rattle.fits_hdu.proofs.hdu.Hdu.paintable.Goals as goal
 
 pub returns-in_default-clause-err : goal.returns-in_default-clause-err

@@ -4,7 +4,7 @@ use Rattle.std.proofs.lemmas.Result.{err_from_is_err_and}
 use Rattle.fits_card.specs.Header.{Header}
 use Rattle.fits_stream.proofs.SightLemmas.{takes_fewer, takes_quiet, takes_then_quiet}
 use Rattle.fits_rules.proofs.LawLemmas.{shape_primary}
-use Rattle.fits_hdu.proofs.ReadingLemmas.{hdu_taken, hdu_whole, stops_by_unit, stops_over}
+use Rattle.fits_passing.proofs.ReadingLemmas.{hdu_taken, hdu_whole, stops_by_unit, stops_over}
 use Rattle.fits_hdu.proofs.hdu.Hdu.read.Goals as goal
 
 -- the source ended within the data unit

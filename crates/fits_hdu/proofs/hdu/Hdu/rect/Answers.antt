@@ -2,13 +2,14 @@ use Rattle.std.proofs.Common.{◌≡◌, ◌∙◌, ap, sym, subst, rules, refl,
 use Rattle.std.specs.Prelude.{Result, Err, Ok, IsOk}
 use Rattle.fits_plane.specs.Rectangle.{lies_within, product, rectangle_values}
 use Rattle.fits_rules.specs.declared.array_shape.Shape.{Shape}
-use Rattle.fits_hdu.specs.Hdu.{HduParts}
+use Rattle.fits_passing.specs.Hdu.{HduParts}
 use Rattle.fits_image.specs.Kind.{offset_of, width_of}
 use Rattle.fits_hdu.specs.Pixels.{rect_of}
 use Rattle.fits_hdu.specs.State.{HduState, parts_of, HasPixels}
 use Rattle.fits_hdu.specs.declared.pixel_fault.PixelFault.{PixelFault}
 use Rattle.fits_hdu.specs.declared.pixel_fault.PixelFault.TheVariants.{NotImage, BadRectangle}
-use Rattle.fits_hdu.proofs.PixelLemmas.{offset_fits, plane_pixels, plane_width, rect_of-bad, rect_of-not_image, rect_of-values}
+use Rattle.fits_passing.proofs.StatsLemmas.{offset_fits}
+use Rattle.fits_hdu.proofs.PixelLemmas.{plane_pixels, plane_width, rect_of-bad, rect_of-not_image, rect_of-values}
 use Rattle.fits_hdu.proofs.hdu.Hdu.rect.Goals as goal
 
 pub returns-in_default-clause-err : goal.returns-in_default-clause-err

@@ -1,6 +1,6 @@
 use Rattle.std.proofs.Common.{◌∙◌, ap, length, sym}
 use Rattle.fits_rules.specs.Size.{data_length}
-use Rattle.fits_hdu.proofs.LayoutLemmas.{data_within, layout_fits}
+use Rattle.fits_passing.proofs.LayoutLemmas.{data_within, layout_fits}
 use Rattle.fits_hdu.proofs.hdu.Hdu.renew.Goals as goal
 
 pub layout_of-layout-requires : goal.layout_of-layout-requires

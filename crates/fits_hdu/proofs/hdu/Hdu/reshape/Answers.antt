@@ -10,11 +10,12 @@ use Rattle.fits_rules.specs.Size.{data_length}
 use Rattle.fits_rules.specs.declared.array_shape.Shape.{Shape}
 use Rattle.fits_image.specs.Kind.{array_kind}
 use Rattle.fits_image.specs.declared.kind.Kind.{Kind}
-use Rattle.fits_hdu.specs.Hdu.{HduParts, IsHdu, hdu_bytes}
+use Rattle.fits_passing.specs.Hdu.{HduParts, IsHdu, hdu_bytes}
 use Rattle.fits_hdu.specs.Reshape.{ReshapeFails, kept_count, reshaped}
 use Rattle.fits_hdu.specs.Reshaping.{IsPlan, UnitFails}
 use Rattle.fits_hdu.specs.State.{HduState, parts_of}
-use Rattle.fits_hdu.specs.Work.{IsRead, IsRenewed, apply_reads, plan_reads, plane_work, reshape_reads, scaling_reads}
+use Rattle.fits_hdu.specs.Work.{IsRead, IsRenewed, plan_reads, plane_work, reshape_reads, scaling_reads}
+use Rattle.fits_passing.specs.Work.{apply_reads}
 use Rattle.fits_hdu.specs.declared.reshaping.Reshaping.{Reshaping}
 use Rattle.fits_hdu.specs.declared.reshape_fault.ReshapeFault.{ReshapeFault}
 use Rattle.fits_hdu.proofs.PlanLemmas.{change_brings}

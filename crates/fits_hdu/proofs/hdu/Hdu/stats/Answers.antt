@@ -2,11 +2,12 @@ use Rattle.std.proofs.Common.{◌≡◌, ◌∙◌, ap, sym, subst, rules, None,
 use Rattle.fits_plane.specs.Pixels.{pixels}
 use Rattle.fits_plane.specs.Statistics.{value_statistics}
 use Rattle.fits_plane.specs.declared.value_summary.ValueSummary.{ValueSummary}
-use Rattle.fits_hdu.specs.Hdu.{HduParts}
+use Rattle.fits_passing.specs.Hdu.{HduParts}
 use Rattle.fits_image.specs.Kind.{offset_of}
-use Rattle.fits_hdu.specs.Pixels.{stats_of}
+use Rattle.fits_passing.specs.Stats.{stats_of}
 use Rattle.fits_hdu.specs.State.{HduState, parts_of, HasStats}
-use Rattle.fits_hdu.proofs.PixelLemmas.{offset_fits, stats_of-image, stats_of-none}
+use Rattle.fits_passing.proofs.StatsLemmas.{offset_fits}
+use Rattle.fits_hdu.proofs.PixelLemmas.{stats_of-image, stats_of-none}
 use Rattle.fits_hdu.proofs.hdu.Hdu.stats.Goals as goal
 
 pub returns-in_err-kind : goal.returns-in_err-kind

@@ -1,4 +1,4 @@
-use Rattle.fits_hdu.proofs.SumLemmas.{verdicts_known}
+use Rattle.fits_passing.proofs.SumLemmas.{verdicts_known}
 use Rattle.fits_hdu.proofs.hdu.Hdu.verdicts.Goals as goal
 
 pub returns : goal.returns

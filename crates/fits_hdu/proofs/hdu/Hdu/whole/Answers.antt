@@ -1,4 +1,5 @@
-use Rattle.fits_hdu.proofs.ReportLemmas.{fill_known, marked_codes, whole_known}
+use Rattle.fits_hdu.proofs.ReportLemmas.{fill_known}
+use Rattle.fits_passing.proofs.FindingLemmas.{marked_codes, whole_known}
 use Rattle.fits_hdu.proofs.hdu.Hdu.whole.Goals as goal
 
 pub returns : goal.returns

@@ -1,5 +1,6 @@
 use Rattle.std.proofs.Common.{◌-◌, refl, arith}
-use Rattle.fits_session.proofs.TableLemmas.{enters_last, enters_there, few_have, number_read}
+use Rattle.fits_session.proofs.TableLemmas.{enters_last, enters_there, number_read}
+use Rattle.fits_passing.proofs.NameCountLemmas.{few_have}
 use Rattle.fits_session.proofs.name_table.NameTable.enter.Goals as goal
 
 pub overflow_add-it : goal.overflow_add-it

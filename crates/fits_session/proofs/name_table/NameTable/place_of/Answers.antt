@@ -2,9 +2,9 @@ use Rattle.std.proofs.Common.{List, ℕ, Option, ap, sym, ◌∙◌, refl}
 use Rattle.std.specs.List.{slice_get}
 use Rattle.std.specs.Map.{keys_of, lookup}
 use Rattle.std.proofs.lemmas.List.{drop_all}
-use Rattle.fits_hdu.specs.ExtensionName.{is_same_name}
-use Rattle.fits_hdu.specs.declared.extension_name.ExtensionName.{ExtensionName}
-use Rattle.fits_session.proofs.NameLemmas.{same_name}
+use Rattle.fits_passing.specs.ExtensionName.{is_same_name}
+use Rattle.fits_passing.specs.declared.called.ExtensionName.{ExtensionName}
+use Rattle.fits_passing.proofs.NameLemmas.{same_name}
 use Rattle.fits_session.proofs.TableLemmas.{key_read, looked_on}
 use Rattle.fits_session.proofs.name_table.NameTable.place_of.Goals as goal
 

@@ -1,6 +1,6 @@
 use Rattle.std.proofs.Common.{◌≡◌, drop}
 use Rattle.std.specs.Map.{lookup}
-use Rattle.fits_hdu.specs.ExtensionName.{is_same_name}
+use Rattle.fits_passing.specs.ExtensionName.{is_same_name}
 use Rattle.fits_session.proofs.name_table.NameTable.place_of.Given as goal
 
 abbrev pub invariant-loop-place : goal.invariant-loop-place

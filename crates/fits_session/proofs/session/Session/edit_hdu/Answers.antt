@@ -1,6 +1,6 @@
 use Rattle.std.proofs.Common.{rules, ◌≤◌, length, refl, arith, ap, set, subst, sym, ◌∙◌}
 use Rattle.fits_hdu.specs.State.{parts_of}
-use Rattle.fits_hdu.specs.Work.{name_reads}
+use Rattle.fits_passing.specs.Work.{name_reads}
 use Rattle.fits_session.specs.Session.{reads_of, ReadsOnly}
 use Rattle.fits_session.specs.Work.{follow_reads}
 use Rattle.std.specs.Prelude.{Ok, Err}
@@ -8,7 +8,7 @@ use Rattle.std.proofs.lemmas.Result.{err_from_is_err_and}
 use Rattle.fits_session.proofs.EditLemmas.{IsEdited, IsFollowed, edits_made, edits_nowhere, edits_refused, followed_none, kept_followed, kept_refused, kept_unrenamed, stood_before}
 use Rattle.fits_session.specs.Away.{in_file, AllLie}
 use Rattle.fits_session.proofs.HadLemmas.{kept_in}
-use Rattle.fits_session.proofs.MakingLemmas.{kept_limits}
+use Rattle.fits_edits.proofs.MakingLemmas.{kept_limits}
 use Rattle.fits_session.proofs.StateLemmas.{file_within, is_at, part_there}
 use Rattle.fits_session.proofs.session.Session.edit_hdu.Goals as goal
 

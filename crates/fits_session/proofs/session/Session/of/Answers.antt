@@ -1,4 +1,4 @@
-use Rattle.fits_hdu.specs.Work.{name_reads}
+use Rattle.fits_passing.specs.Work.{name_reads}
 use Rattle.fits_session.proofs.KeptLemmas.{opened_right, opened_unmarked}
 use Rattle.fits_session.proofs.session.Session.of.Goals as goal
 

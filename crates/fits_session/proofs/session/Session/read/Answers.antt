@@ -1,4 +1,4 @@
-use Rattle.fits_session.proofs.WalkLemmas.{fresh}
+use Rattle.fits_passing.proofs.WalkLemmas.{fresh}
 use Rattle.fits_session.proofs.session.Session.read.Goals as goal
 
 -- the fault is one of what came

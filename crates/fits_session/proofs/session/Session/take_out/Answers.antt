@@ -2,10 +2,11 @@ use Rattle.std.proofs.Common.{ap, length, ◌<◌, ◌∙◌, arith, refl, subst
 use Rattle.std.specs.List.{remove}
 use Rattle.std.proofs.lemmas.List.Edits.{length-remove}
 use Rattle.fits_session.specs.Away.{in_file, AllLie}
-use Rattle.fits_session.specs.File.{FileParts, file_bytes, IsFile}
+use Rattle.fits_passing.specs.File.{FileParts, file_bytes, IsFile}
 use Rattle.fits_session.specs.NameTable.{Stands}
-use Rattle.fits_session.specs.Keeping.{IsSound}
-use Rattle.fits_session.specs.Session.{without_entries, IsHad}
+use Rattle.fits_edits.specs.Keeping.{IsSound}
+use Rattle.fits_session.specs.Session.{without_entries}
+use Rattle.fits_edits.specs.Making.{IsHad}
 use Rattle.fits_session.proofs.HadLemmas.{had_moved}
 use Rattle.fits_session.proofs.KeptLemmas.{count_moved, described_moved, file_of-unentered, right_unentered}
 use Rattle.fits_session.proofs.StandingLemmas.{removed_leaves}

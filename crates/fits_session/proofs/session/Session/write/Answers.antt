@@ -2,11 +2,12 @@ use Rattle.std.proofs.Common.{◌++◌, subst, None}
 use Rattle.fits_plane.specs.declared.again.CopyFault.TheVariants.{Write}
 use Rattle.fits_hdu.proofs.PassedLemmas.{writes_more}
 use Rattle.fits_stream.specs.Stream.{Prints, PrintsFront}
-use Rattle.fits_session.specs.File.{joined_hdus}
+use Rattle.fits_passing.specs.File.{joined_hdus}
 use Rattle.fits_session.specs.Away.{in_file, Agree, AllLie}
 use Rattle.fits_stream.proofs.StreamLemmas.{Prints-more, PrintsFront-more}
 use Rattle.std.proofs.lemmas.Result.{err_from_is_err_and}
-use Rattle.fits_session.specs.Session.{hdus_of, Holding}
+use Rattle.fits_session.specs.Session.{hdus_of}
+use Rattle.fits_edits.specs.Making.{Holding}
 use Rattle.fits_session.proofs.KeptLemmas.{marked_counted, kept_counted}
 use Rattle.fits_session.proofs.HadLemmas.{kept_in}
 use Rattle.fits_session.proofs.SaveLemmas.{copy_hdus}

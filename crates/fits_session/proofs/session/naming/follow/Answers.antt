@@ -2,13 +2,16 @@ use Rattle.std.proofs.Common.{◌+◌, set, sym, ap, subst, ◌∙◌, refl, ari
 use Rattle.std.proofs.lemmas.List.{length-map, length-set}
 use Rattle.std.proofs.lemmas.List.Elements.{All-set}
 use Rattle.fits_hdu.specs.State.{name_of, IsDescribed}
-use Rattle.fits_hdu.specs.Work.{name_reads, plane_work}
+use Rattle.fits_passing.specs.Work.{name_reads}
+use Rattle.fits_hdu.specs.Work.{plane_work}
 use Rattle.fits_hdu.proofs.StateLemmas.{parts_read}
 use Rattle.fits_session.specs.NameTable.{names_of}
-use Rattle.fits_session.specs.Session.{reads_of, ReadsOnly, StaysHad}
-use Rattle.fits_session.proofs.HadLemmas.{had_at, had_moved, had_read}
+use Rattle.fits_session.specs.Session.{reads_of, ReadsOnly}
+use Rattle.fits_edits.specs.Making.{StaysHad}
+use Rattle.fits_session.proofs.HadLemmas.{had_at, had_moved}
+use Rattle.fits_edits.proofs.HadLemmas.{had_read}
 use Rattle.fits_session.proofs.KeptLemmas.{described_moved, hdus_moved, kept_moved, reads_moved, works_moved}
-use Rattle.fits_session.proofs.MakingLemmas.{lasts_read}
+use Rattle.fits_edits.proofs.MakingLemmas.{lasts_read}
 use Rattle.fits_session.proofs.NamingLemmas.{follows_leaves, follows_same, points_was}
 use Rattle.fits_session.proofs.StateLemmas.{IsHduAt, hdus_of-same, kept_of-same, reads_more, works_of-same}
 use Rattle.fits_session.proofs.TableLemmas.{names_within}

@@ -4,15 +4,16 @@ use Rattle.std.proofs.lemmas.List.{length-set, length-take-le, take_all}
 use Rattle.std.proofs.lemmas.List.Elements.{All-nil}
 use Rattle.std.proofs.lemmas.Result.{IfOk-weaker}
 use Rattle.fits_hdu.specs.State.{HduState, IsDescribed}
-use Rattle.fits_hdu.specs.Work.{name_reads, IsOpened}
+use Rattle.fits_passing.specs.Work.{name_reads}
+use Rattle.fits_hdu.specs.Work.{IsOpened}
 use Rattle.fits_hdu.proofs.StateLemmas.{parts_read}
 use Rattle.fits_session.specs.NameTable.{Stands}
 use Rattle.fits_session.proofs.HadLemmas.{had_named}
-use Rattle.fits_session.proofs.MakingLemmas.{lasts_read}
+use Rattle.fits_edits.proofs.MakingLemmas.{lasts_read}
 use Rattle.fits_session.proofs.NamingLemmas.{all_more, first_after, name_kept, ok_or, opened_more, rest_after, with_entry}
 use Rattle.fits_session.proofs.StandingLemmas.{entered_as, few_told, one_more_stands}
 use Rattle.fits_session.proofs.StateLemmas.{hdus_of-same}
-use Rattle.fits_session.proofs.TableLemmas.{table_empty}
+use Rattle.fits_passing.proofs.NameCountLemmas.{table_empty}
 use Rattle.fits_session.proofs.session.naming.name_all.Goals as goal
 
 pub loop-i-init : goal.loop-i-init

@@ -1,9 +1,11 @@
 use Rattle.std.proofs.Common.{◌≡◌, drop, length, take}
 use Rattle.std.specs.Prelude.{All}
 use Rattle.fits_hdu.specs.State.{IsDescribed}
-use Rattle.fits_hdu.specs.Work.{name_reads, IsOpened}
+use Rattle.fits_passing.specs.Work.{name_reads}
+use Rattle.fits_hdu.specs.Work.{IsOpened}
 use Rattle.fits_session.specs.NameTable.{Stands}
-use Rattle.fits_session.specs.Session.{hdus_of, Holding, IsHad}
+use Rattle.fits_session.specs.Session.{hdus_of}
+use Rattle.fits_edits.specs.Making.{Holding, IsHad}
 use Rattle.fits_session.proofs.session.naming.name_all.Given as goal
 
 abbrev pub invariant-loop-i : goal.invariant-loop-i

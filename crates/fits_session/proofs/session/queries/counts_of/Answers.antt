@@ -1,7 +1,7 @@
 use Rattle.std.proofs.Common.{◌≤◌, ◌<◌, length, ap, ◌∙◌, arith}
 use Rattle.std.proofs.lemmas.List.{take_all}
-use Rattle.fits_session.specs.File.{joined_hdus}
-use Rattle.fits_session.specs.Report.{counts_in, names_from}
+use Rattle.fits_passing.specs.File.{joined_hdus}
+use Rattle.fits_passing.specs.Report.{counts_in, names_from}
 use Rattle.fits_session.specs.Session.{hdus_of}
 use Rattle.fits_session.proofs.CountLemmas.{all_listed, counts_more, counts_small, hdu_small, within_more}
 use Rattle.fits_session.proofs.ReportLemmas.{hdus_stay}

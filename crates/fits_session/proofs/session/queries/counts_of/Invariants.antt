@@ -1,6 +1,6 @@
 use Rattle.std.proofs.Common.{◌≡◌, ◌+◌, ◌≤◌, length, take}
-use Rattle.fits_session.specs.File.{joined_hdus}
-use Rattle.fits_session.specs.Report.{counts_in, names_from, wrong_from}
+use Rattle.fits_passing.specs.File.{joined_hdus}
+use Rattle.fits_passing.specs.Report.{counts_in, names_from, wrong_from}
 use Rattle.fits_session.specs.Session.{hdus_of}
 use Rattle.fits_session.proofs.session.queries.counts_of.Given as goal
 

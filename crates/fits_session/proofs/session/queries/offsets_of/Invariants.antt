@@ -1,5 +1,5 @@
 use Rattle.std.proofs.Common.{◌≡◌, length, take}
-use Rattle.fits_session.specs.File.{joined_hdus, offsets_from}
+use Rattle.fits_passing.specs.File.{joined_hdus, offsets_from}
 use Rattle.fits_session.specs.Session.{hdus_of}
 use Rattle.fits_session.proofs.session.queries.offsets_of.Given as goal
 

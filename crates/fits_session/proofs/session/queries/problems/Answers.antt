@@ -1,5 +1,5 @@
 use Rattle.std.proofs.Common.{◌≤◌, ◌<◌, length, ap, ◌∙◌, arith}
-use Rattle.fits_session.specs.Report.{names_from}
+use Rattle.fits_passing.specs.Report.{names_from}
 use Rattle.fits_session.specs.Session.{hdus_of}
 use Rattle.fits_session.proofs.CountLemmas.{all_listed, hdu_small, listed_here}
 use Rattle.fits_session.proofs.ReportLemmas.{hdus_stay}

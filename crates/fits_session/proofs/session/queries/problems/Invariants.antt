@@ -1,5 +1,5 @@
 use Rattle.std.proofs.Common.{◌≡◌, take}
-use Rattle.fits_session.specs.Report.{names_from, wrong_from}
+use Rattle.fits_passing.specs.Report.{names_from, wrong_from}
 use Rattle.fits_session.specs.Session.{hdus_of}
 use Rattle.fits_session.proofs.session.queries.problems.Given as goal
 

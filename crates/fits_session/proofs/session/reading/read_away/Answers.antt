@@ -1,7 +1,7 @@
 use Rattle.std.proofs.Common.{◌∙◌, List, ap, arith, length}
 use Rattle.std.proofs.lemmas.List.{length-append}
-use Rattle.fits_hdu.specs.Hdu.{HduParts}
-use Rattle.fits_session.specs.File.{joined_hdus}
+use Rattle.fits_passing.specs.Hdu.{HduParts}
+use Rattle.fits_passing.specs.File.{joined_hdus}
 use Rattle.fits_session.proofs.AwayLemmas.{passed_are, passed_known}
 use Rattle.fits_session.proofs.session.reading.read_away.Goals as goal
 

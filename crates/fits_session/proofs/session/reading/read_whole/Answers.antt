@@ -1,7 +1,8 @@
 use Rattle.std.proofs.Common.{arith}
 use Rattle.std.proofs.lemmas.List.{length-append}
-use Rattle.fits_session.specs.File.{joined_hdus}
-use Rattle.fits_session.proofs.WalkLemmas.{all_passed, ends_before, gave_of_read, hdus_length, rest_gave, tail_stops, walked_whole}
+use Rattle.fits_passing.specs.File.{joined_hdus}
+use Rattle.fits_session.proofs.WalkLemmas.{all_passed, gave_of_read, hdus_length, tail_stops, walked_whole}
+use Rattle.fits_passing.proofs.WalkLemmas.{ends_before, rest_gave}
 use Rattle.fits_stream.proofs.SightLemmas.{takes_then_quiet}
 use Rattle.fits_session.proofs.session.reading.read_whole.Goals as goal
 

@@ -3,11 +3,11 @@ use Rattle.std.proofs.lemmas.Result.{err_from_is_err_and}
 use Rattle.fits_session.specs.Away.{AllLie}
 use Rattle.fits_stream.specs.Stored.{bytes_from, ReadLogState}
 use Rattle.fits_stream.specs.Log.{unskipped}
-use Rattle.fits_session.specs.File.{file_bytes, FileParts}
+use Rattle.fits_passing.specs.File.{file_bytes, FileParts}
 use Rattle.fits_session.specs.Session.{file_of, state_of}
-use Rattle.fits_session.specs.declared.limits.TheConstants.{FILE_LIMIT}
+use Rattle.fits_passing.specs.declared.limits.TheConstants.{FILE_LIMIT}
 use Rattle.fits_session.proofs.AwayLemmas.{known_opened, stored_follows, stored_had, stored_lie, stored_of, stored_stops, supply_grows}
-use Rattle.fits_session.proofs.WalkLemmas.{fresh}
+use Rattle.fits_passing.proofs.WalkLemmas.{fresh}
 use Rattle.fits_session.proofs.session.loading.Session+InFile+F.read_stored.Goals as goal
 
 pub of-requires-clause-opened : goal.of-requires-clause-opened

@@ -1,0 +1,10 @@
+pub mod CardEditLemmas
+pub mod CardLemmas
+pub mod FirmLemmas
+pub mod HadLemmas
+pub mod KeepingLemmas
+pub mod KeywordLemmas
+pub mod MakingLemmas
+pub mod PixelEditLemmas
+pub mod ReshapeEditLemmas
+pub mod StampEditLemmas

@@ -1,0 +1,6 @@
+pub mod CardEdit
+pub mod HduEdit
+pub mod Keeping
+pub mod Making
+pub mod Refusal
+pub mod Work

@@ -1,0 +1,15 @@
+//! An edit made of one HDU, or why it is refused.
+#![tactic(auto)]
+
+mod cards;
+mod changes;
+mod keeping;
+mod making;
+mod pixels;
+mod refusal;
+mod reshaping;
+mod stamping;
+
+pub use changes::is_within;
+pub use making::edit_hdu;
+pub use refusal::Refusal;

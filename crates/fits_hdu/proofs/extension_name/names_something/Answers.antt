@@ -1,6 +1,0 @@
--- Said, so that a body that breaks it is refused at once.
-use Rattle.std.proofs.Common.{rules}
-use Rattle.fits_hdu.proofs.extension_name.names_something.Goals as goal
-
-pub returns-then-ne : goal.returns-then-ne
-returns-then-ne c = search rules

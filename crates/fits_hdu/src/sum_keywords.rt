@@ -1,8 +1,0 @@
-use crate::sum_said::SumSaid;
-
-/// What DATASUM and CHECKSUM say.
-#[derive(Clone, Copy)]
-pub(crate) struct SumKeywords {
-    pub datasum: SumSaid,
-    pub checksum: SumSaid,
-}

@@ -1,0 +1,17 @@
+pub mod ExtensionName
+pub mod File
+pub mod Findings
+pub mod Hdu
+pub mod HduReading
+pub mod Headers
+pub mod Layout
+pub mod Limits
+pub mod NameCounts
+pub mod Opening
+pub mod Passing
+pub mod PassingStats
+pub mod Reading
+pub mod Report
+pub mod Stats
+pub mod Sums
+pub mod Work

@@ -1,0 +1,12 @@
+pub mod CardLemmas
+pub mod ExitLemmas
+pub mod ListingLemmas
+pub mod NumberedLemmas
+pub mod PixelLineLemmas
+pub mod ProblemCardLemmas
+pub mod ReportLemmas
+pub mod StatingLemmas
+pub mod SummingLemmas
+pub mod TellingLemmas
+pub mod UntouchedLemmas
+pub mod VerifyingLemmas

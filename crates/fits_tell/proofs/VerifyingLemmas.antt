@@ -1,0 +1,84 @@
+-- The run of `verify`: its lines as they are printed, from the problems that were found.
+use Rattle.std.proofs.Common.{◌≡◌, ℕ, ◌+◌, ◌<◌, ◌≤◌, Bool, List, [], ◌++◌, length, take, drop, get_or, refl, ap, sym, subst, ◌∙◌}
+use Rattle.std.specs.List.{flat_map}
+use Rattle.std.proofs.lemmas.List.{take_all}
+use Rattle.fits_stream.proofs.StreamLemmas.{Gains-none, Prints-more, PrintsFront-more, PrintsFront-longer, GainsFront-more, GainsFront-longer, GainsFront-whole}
+use Rattle.fits_passing.specs.Reading.{GaveWhole}
+use Rattle.fits_passing.specs.declared.problem.Problem.{Problem}
+use Rattle.fits_tell.specs.Faults.{PrintFails}
+use Rattle.fits_tell.specs.Report.{closing_line, report_text}
+use Rattle.fits_stream.specs.Stream.{SourceState, SinkState, Prints, StaysQuiet}
+use Rattle.fits_tell.specs.Telling.{IsToldReport, PrintingStops, TextStopsBy}
+use Rattle.fits_tell.specs.declared.fault.Fault.{Fault}
+use Rattle.fits_tell.specs.declared.fault.Fault.TheVariants.{Refused, ScriptTooLong, Memory, ReadFailed, WriteFailed, Reread as RereadFault}
+use Rattle.fits_tell.specs.declared.level.Level.{Level}
+use Rattle.fits_tell.specs.declared.telling.Telling.TheVariants as telling
+use Rattle.fits_tell.proofs.ReportLemmas.{lines-more, lines-split}
+use Rattle.fits_tell.proofs.TellingLemmas.{TextStopsBy-printing}
+
+-- a text of which nothing is printed, for want of memory
+pub PrintingStops-none : (a : SinkState) (text : List ℕ) → PrintingStops text a a Memory
+PrintingStops-none a text = (GainsFront-longer a.contents a.contents [] text (GainsFront-whole a.contents a.contents [] (Gains-none a.contents)), refl)
+
+-- a text that a failed write stops
+pub PrintingStops-print : (a b : SinkState) (text : List ℕ) (fault : Fault) → PrintFails text a b fault → PrintingStops text a b fault
+PrintingStops-print a b text fault failed = subst (λ (f : Fault). PrintingStops text a b f) (sym failed.0) failed.1
+
+-- what stops a text stops a longer one
+pub PrintingStops-longer : (a b : SinkState) (xs ys : List ℕ) (fault : Fault) → PrintingStops xs a b fault → PrintingStops (xs ++ ys) a b fault
+PrintingStops-longer a b xs ys (Refused why) stops = absurd stops
+PrintingStops-longer a b xs ys ScriptTooLong stops = absurd stops
+PrintingStops-longer a b xs ys Memory stops = (GainsFront-longer a.contents b.contents xs ys stops.0, stops.1)
+PrintingStops-longer a b xs ys ReadFailed stops = absurd stops
+PrintingStops-longer a b xs ys (RereadFault why) stops = absurd stops
+PrintingStops-longer a b xs ys WriteFailed stops = PrintsFront-longer a b xs ys stops
+
+-- what stops a text stops it after another
+pub PrintingStops-more : (a b c : SinkState) (xs ys : List ℕ) (fault : Fault) → Prints xs a b → PrintingStops ys b c fault → PrintingStops (xs ++ ys) a c fault
+PrintingStops-more a b c xs ys (Refused why) front stops = absurd stops
+PrintingStops-more a b c xs ys ScriptTooLong front stops = absurd stops
+PrintingStops-more a b c xs ys Memory front stops = (GainsFront-more a.contents b.contents c.contents xs ys front.bytes stops.0, stops.1 ∙ front.quiet)
+PrintingStops-more a b c xs ys ReadFailed front stops = absurd stops
+PrintingStops-more a b c xs ys (RereadFault why) front stops = absurd stops
+PrintingStops-more a b c xs ys WriteFailed front stops = PrintsFront-more a b c xs ys front stops
+
+-- a report whose problems have these lines
+abbrev pub report_by : (Problem → List ℕ) → List Problem → List ℕ
+report_by line report = flat_map line report ++ closing_line report
+
+-- the line of the next problem stops the report
+pub stops_at_line : (a b c : SinkState) (line : Problem → List ℕ) (report : List Problem) (i : ℕ) (d : Problem) (fault : Fault) → i < length report → Prints (flat_map line (take i report)) a b → PrintingStops (line (get_or report i d)) b c fault
+    → PrintingStops (report_by line report) a c fault
+stops_at_line a b c line report i d fault l front stops =
+    let rest : List ℕ = flat_map line (drop (i + 1) report) in
+    let next : List ℕ = line (get_or report i d) in
+    let lines : flat_map line report ≡ (flat_map line (take i report) ++ next) ++ rest =
+    lines-split line report (i + 1) ∙ ap (λ t. t ++ rest) (lines-more line report i d l) in
+    PrintingStops-longer a c (flat_map line report) (closing_line report) fault
+    (rw lines (PrintingStops-longer a c (flat_map line (take i report) ++ next) rest fault (PrintingStops-more a b c (flat_map line (take i report)) next fault front stops)))
+
+-- the closing line stops the report
+pub stops_at_closing : (a b c : SinkState) (line : Problem → List ℕ) (report : List Problem) (i : ℕ) (fault : Fault) → length report ≤ i → Prints (flat_map line (take i report)) a b → PrintingStops (closing_line report) b c fault
+    → PrintingStops (report_by line report) a c fault
+stops_at_closing a b c line report i fault l front stops =
+    PrintingStops-more a b c (flat_map line report) (closing_line report) fault (rw (take_all i report l) at front) stops
+
+-- memory is refused before the closing line
+pub stops_before_closing : (a b : SinkState) (line : Problem → List ℕ) (report : List Problem) (i : ℕ) → length report ≤ i → Prints (flat_map line (take i report)) a b → PrintingStops (report_by line report) a b Memory
+stops_before_closing a b line report i l front = stops_at_closing a b b line report i Memory l front (PrintingStops-none b (closing_line report))
+
+-- all lines, and the closing one
+pub prints_report : (a b c : SinkState) (line : Problem → List ℕ) (report : List Problem) (i : ℕ) → length report ≤ i → Prints (flat_map line (take i report)) a b → Prints (closing_line report) b c → Prints (report_by line report) a c
+prints_report a b c line report i l front closing = Prints-more a b c (flat_map line report) (closing_line report) (rw (take_all i report l) at front) closing
+
+-- one more line
+pub prints_line : (a b c : SinkState) (line : Problem → List ℕ) (report : List Problem) (i : ℕ) (d : Problem) → i < length report → Prints (flat_map line (take i report)) a b → Prints (line (get_or report i d)) b c
+    → Prints (flat_map line (take (i + 1) report)) a c
+prints_line a b c line report i d l front next =
+    rw (lines-more line report i d l) (Prints-more a b c (flat_map line (take i report)) (line (get_or report i d)) front next)
+
+-- a report that was read is printed to a prefix
+pub TextStopsBy-report : (file file_after : SourceState) (out out_after : SinkState) (level : Level) (strict cards : Bool) (report : List Problem) (headers : List (List (List ℕ))) (fault : Fault) → GaveWhole file file_after (IsToldReport cards report headers)
+    → StaysQuiet file file_after → PrintingStops (report_text level headers report) out out_after fault → TextStopsBy (telling.Report level strict cards) file file_after out out_after fault
+TextStopsBy-report file file_after out out_after level strict cards report headers fault given quiet stops =
+    TextStopsBy-printing (telling.Report level strict cards) file file_after out out_after given.is.file fault (record { bytes = given.bytes; told = given.told; gave = given.gave; is = given.is.opened }) quiet (rw (← given.is.all, ← given.is.told) stops)

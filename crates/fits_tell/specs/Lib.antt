@@ -1,0 +1,11 @@
+pub mod Cards
+pub mod Faults
+pub mod Listing
+pub mod Numbered
+pub mod Patterns
+pub mod PixelLines
+pub mod Report
+pub mod Stating
+pub mod Summing
+pub mod Telling
+pub mod Untouched

@@ -1,0 +1,29 @@
+use fits_plane::LoadFault;
+use thiserror::Error;
+
+/// Why data that had passed by weren't had again.
+#[derive(Clone, Copy, Debug, Error)]
+pub enum Reread {
+    #[error("no memory")]
+    Memory,
+    #[error("read failed")]
+    Failed,
+    /// They have another total than they had, or there are fewer.
+    #[error("the file changed while it was read")]
+    Changed,
+}
+
+impl From<LoadFault> for Reread {
+    ghost use Rattle.std.specs.Prelude.{◌≡◌};
+    ghost use Rattle.fits_tell.specs.Faults.{reread_of};
+
+    ghost from_gives = { λ why fault. fault ≡ reread_of why };
+
+    fn from(why: LoadFault) -> Reread {
+        match why {
+            LoadFault::Memory => Reread::Memory,
+            LoadFault::Failed => Reread::Failed,
+            LoadFault::Changed => Reread::Changed,
+        }
+    }
+}
