@@ -2,9 +2,9 @@
 use Rattle.std.proofs.Common.{◌≡◌, ◌⊎◌, ℕ, Bool, List, [], ◌++◌, refl, sym, ap, subst, ◌∙◌, inl, inr, Result, Ok, Err}
 use Rattle.std.specs.Result.{IfErr, IfOk, IsErrAnd, OnOk}
 use Rattle.std.proofs.lemmas.Result.{err_from_is_err_and}
-use Rattle.fits_plane.specs.Again.{CopyWrites, PrintsLike}
-use Rattle.fits_plane.specs.declared.again.CopyFault.{CopyFault}
-use Rattle.fits_plane.specs.declared.again.CopyFault.TheVariants.{Failed, Changed, Write}
+use Rattle.fits_unit.specs.Again.{CopyWrites, PrintsLike}
+use Rattle.fits_unit.specs.declared.again.CopyFault.{CopyFault}
+use Rattle.fits_unit.specs.declared.again.CopyFault.TheVariants.{Failed, Changed, Write}
 use Rattle.fits_stream.specs.Stream.{SinkState, SourceState, FailsToFlush, Flushes, StaysQuiet}
 use Rattle.fits_stream.proofs.StreamLemmas.{Prints-flushed, Prints-more, Prints-none, PrintsFront-more, PrintsFront-unflushed, quiet_none}
 use Rattle.fits_passing.specs.declared.open_fault.OpenFault.TheVariants.{NotFits, NoEnd, BadShape, ShortData, TooLarge, Memory as OpenMemory}

@@ -14,8 +14,8 @@ use Rattle.fits_tell.specs.declared.fault.Fault.{Fault}
 use Rattle.fits_tell.specs.declared.fault.Fault.TheVariants.{Refused, ScriptTooLong, Memory, ReadFailed, WriteFailed, Reread as RereadFault}
 use Rattle.fits_tell.specs.Faults.{fault_of_load, reread_of}
 use Rattle.fits_cli.specs.Faults.{IsUnchanged}
-use Rattle.fits_plane.specs.declared.again.LoadFault.{LoadFault}
-use Rattle.fits_plane.specs.declared.again.LoadFault.TheVariants as load
+use Rattle.fits_unit.specs.declared.again.LoadFault.{LoadFault}
+use Rattle.fits_unit.specs.declared.again.LoadFault.TheVariants as load
 use Rattle.fits_session.specs.Marked.{Marked}
 use Rattle.fits_script.specs.declared.command.Command.{Command}
 use Rattle.fits_script.specs.declared.line_reading.LineReading.TheVariants.{Said}

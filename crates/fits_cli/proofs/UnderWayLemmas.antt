@@ -11,9 +11,9 @@ use Rattle.fits_hdu.specs.State.{HduState, parts_of}
 use Rattle.fits_hdu.specs.Work.{Loads}
 use Rattle.fits_stream.specs.Stream.{SinkState, Prints}
 use Rattle.fits_stream.proofs.StreamLemmas.{Prints-none}
-use Rattle.fits_plane.specs.Again.{CopyFails, Follows, PrintsLike}
-use Rattle.fits_plane.specs.declared.again.CopyFault.{CopyFault}
-use Rattle.fits_plane.specs.declared.again.CopyFault.TheVariants.{Failed, Changed, Write}
+use Rattle.fits_unit.specs.Again.{CopyFails, Follows, PrintsLike}
+use Rattle.fits_unit.specs.declared.again.CopyFault.{CopyFault}
+use Rattle.fits_unit.specs.declared.again.CopyFault.TheVariants.{Failed, Changed, Write}
 use Rattle.fits_script.specs.declared.line_reading.LineReading.{LineReading}
 use Rattle.fits_session.specs.Away.{Agree, AllLie, LieStill, LoadsAlone, LoadsAt, LoadsFor}
 use Rattle.fits_session.specs.Edit.{changed_at}

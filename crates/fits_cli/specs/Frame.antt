@@ -1,6 +1,6 @@
 -- What stands at the end of a run, whatever the reads of its file gave (own).
 use Rattle.std.specs.Prelude.{◌≡◌, ◌⊎◌, ℕ, List, MatchOption, Result, Ok, Err}
-use Rattle.fits_plane.specs.Again.{PrintsLike}
+use Rattle.fits_unit.specs.Again.{PrintsLike}
 use Rattle.fits_stream.specs.Stream.{SinkState, SourceState, FailsOnce, Prints, PrintsFront, StaysQuiet}
 use Rattle.fits_cli.specs.Answer.{Standing}
 use Rattle.fits_cli.specs.Output.{saved_bytes}

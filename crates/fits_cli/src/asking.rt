@@ -2,7 +2,7 @@
 ghost use Rattle.std.specs.Prelude.{◌≡◌, false, true, MatchOption};
 ghost use Rattle.std.specs.Option.{option_map};
 ghost use Rattle.fits_stream.specs.Stream.{SinkState};
-ghost use Rattle.fits_plane.specs.Again.{Follows};
+ghost use Rattle.fits_unit.specs.Again.{Follows};
 ghost use Rattle.fits_cli.specs.Faults.{RunCounts};
 ghost use Rattle.fits_cli.specs.Frame.{AsksLeave};
 ghost use Rattle.fits_cli.specs.Terms.{asking};

@@ -2,7 +2,7 @@
 ghost use Rattle.std.specs.Prelude.{◌≡◌, ℕ, List, false, true, not, AllPairs, IfOk, IfErr, OnErr, OnOk};
 ghost use Rattle.std.specs.Option.{option_map};
 ghost use Rattle.fits_stream.specs.Agree.{IsOf};
-ghost use Rattle.fits_plane.specs.Again.{Follows};
+ghost use Rattle.fits_unit.specs.Again.{Follows};
 ghost use Rattle.fits_session.specs.Away.{AllLie};
 ghost use Rattle.fits_session.specs.Marked.{unmarked};
 ghost use Rattle.fits_passing.specs.Report.{IsListedBefore};

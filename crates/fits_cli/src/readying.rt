@@ -1,15 +1,15 @@
 //! What a command wants of the data of a file, before it is done.
 ghost use Rattle.std.specs.Prelude.{◌≡◌, true, IfErr, IsOk, OnErr, OnOk};
-ghost use Rattle.fits_plane.specs.Again.{Follows, LoadCounts};
+ghost use Rattle.fits_unit.specs.Again.{Follows, LoadCounts};
 ghost use Rattle.fits_session.specs.Away.{Agree, LieStill};
 ghost use Rattle.fits_session.specs.Session.{file_of, marked_of};
 ghost use Rattle.fits_cli.specs.Answer.{CommandWantsPixels, IsReady};
 ghost use Rattle.fits_cli.specs.Running.{IsLike};
 
-use fits_plane::LoadFault;
 use fits_script::Command;
 use fits_session::{Holder, Session};
 use fits_stream::ReadLog;
+use fits_unit::LoadFault;
 
 /// Has the data that a command wants in memory, or known.
 #[tactic(auto, unfolding(crate::specs::Answer::CommandWantsPixels, crate::specs::Answer::IsReady))]

@@ -57,7 +57,7 @@ impl<H: Holder + Drop> Runner<H> {
     ghost use Rattle.std.specs.Prelude.{◌≡◌, ◌+◌, ◌^◌, ◌<◌, ◌&&◌, ℕ, List, ◌||◌, not, true, AllPairs, if◌then◌else◌, IfOk, IfErr, OnOk, OnErr};
     ghost use Rattle.fits_stream.specs.Agree.{IsOf};
     ghost use Rattle.fits_stream.specs.Stream.{Prints};
-    ghost use Rattle.fits_plane.specs.Again.{Follows, PrintsLike};
+    ghost use Rattle.fits_unit.specs.Again.{Follows, PrintsLike};
     ghost use Rattle.fits_session.specs.Away.{AllLie};
     ghost use Rattle.fits_cli.specs.Answer.{at_first_line, line_answer, line_left, LineNeedsMemory};
     ghost use Rattle.fits_script.specs.Line.{reading_of};

@@ -9,7 +9,7 @@ ghost use Rattle.fits_cli.specs.Faults.{FaultCounts, IsOnce, ScriptCounts};
 ghost use Rattle.fits_tell.specs.Faults.{PrintFails};
 ghost use Rattle.fits_cli.specs.Frame.{LinesLeave, PrintsSome, ScriptAnswers, ScriptLeaves};
 ghost use Rattle.fits_cli.specs.Reply.{reply_text};
-ghost use Rattle.fits_plane.specs.Again.{Follows};
+ghost use Rattle.fits_unit.specs.Again.{Follows};
 ghost use Rattle.fits_cli.specs.Running.{heard, kept_of, AnswersLine, AnswersScript, Continues, Steady};
 ghost use Rattle.fits_cli.specs.Running.{EndsScript, EndStops, LineStops, PieceStops, ScriptStops};
 

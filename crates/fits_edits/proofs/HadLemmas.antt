@@ -2,8 +2,8 @@
 use Rattle.std.proofs.Common.{◌≡◌, ◌∙◌, ap, ℕ, List, Option, None, Some}
 use Rattle.std.specs.Prelude.{IfSome}
 use Rattle.fits_hdu.specs.State.{HduState, ReadsUpTo}
-use Rattle.fits_plane.specs.DataUnit.{LiesIn}
 use Rattle.fits_plane.specs.Plane.{PlaneState}
+use Rattle.fits_unit.specs.DataUnit.{LiesIn}
 use Rattle.fits_edits.specs.Making.{Holding, IsHad, StaysHad}
 
 -- one that lies where it lay, and has the bytes that it had, is had as it was

@@ -8,7 +8,7 @@ use Rattle.fits_card.specs.declared.change.Change.{Change}
 use Rattle.fits_card.specs.declared.change.Change.TheVariants as changes
 use Rattle.fits_card.proofs.ChangeLemmas.{length-moved, length-spliced}
 use Rattle.fits_card.proofs.HeaderLemmas.{fill_length-by_cards, length-header_bytes}
-use Rattle.fits_plane.specs.Layout.{block_count}
+use Rattle.fits_pixels.specs.Layout.{block_count}
 use Rattle.fits_rules.specs.Class.{is_primary}
 use Rattle.fits_rules.specs.Shape.{shape_of}
 use Rattle.fits_rules.proofs.SameShapeLemmas.{same_shape-Decides}

@@ -3,7 +3,7 @@ use Rattle.std.proofs.Common.{◌≡◌, inl, ℕ, ◌+◌, ◌-◌, ◌≤◌, 
 use Rattle.std.specs.Prelude.{Result, Ok, Err, IsOk}
 use Rattle.std.proofs.lemmas.List.{length-append}
 use Rattle.fits_card.specs.Header.{Header, header_bytes, header_length}
-use Rattle.fits_plane.specs.Layout.{block_count}
+use Rattle.fits_pixels.specs.Layout.{block_count}
 use Rattle.fits_plane.specs.Work.{rectangle_blocks}
 use Rattle.fits_rules.specs.Class.{is_primary}
 use Rattle.fits_rules.specs.Shape.{shape_of}

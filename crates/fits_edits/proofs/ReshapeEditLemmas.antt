@@ -3,7 +3,7 @@ use Rattle.std.proofs.Common.{◌≡◌, inl, inr, ℕ, ◌+◌, ◌-◌, ◌<�
 use Rattle.std.specs.Prelude.{◌≢◌, Result, Ok, Err, if◌then◌else◌}
 use Rattle.std.specs.Option.{option_map}
 use Rattle.fits_card.specs.Header.{header_length}
-use Rattle.fits_plane.specs.Layout.{block_count}
+use Rattle.fits_pixels.specs.Layout.{block_count}
 use Rattle.fits_rules.specs.Class.{is_primary}
 use Rattle.fits_rules.specs.Shape.{shape_of}
 use Rattle.fits_rules.specs.declared.array_shape.Shape.{Shape}

@@ -2,9 +2,9 @@
 use Rattle.std.specs.Prelude.{◌≡◌, ℕ, Bool, ◌+◌, ◌-◌, ◌≤◌, List, Option, length, true, Result, Ok, Err, IfErr, IfSome, OnOk, OnErr, None, Some, ℤ}
 use Rattle.fits_card.specs.declared.change.Change.{Change}
 use Rattle.fits_rules.specs.Class.{is_primary}
-use Rattle.fits_plane.specs.DataUnit.{LiesIn}
-use Rattle.fits_plane.specs.Layout.{block_count}
+use Rattle.fits_pixels.specs.Layout.{block_count}
 use Rattle.fits_plane.specs.Work.{rectangle_blocks}
+use Rattle.fits_unit.specs.DataUnit.{LiesIn}
 use Rattle.fits_rules.specs.Image.{array_bits}
 use Rattle.fits_rules.specs.Shape.{shape_of}
 use Rattle.fits_rules.specs.declared.array_shape.Shape.{Shape}

@@ -5,9 +5,9 @@ use Rattle.std.proofs.lemmas.List.{length-append}
 use Rattle.fits_card.specs.Header.{Header, IsHeader, header_bytes}
 use Rattle.fits_stream.specs.Stream.{SinkState, Prints}
 use Rattle.fits_stream.proofs.StreamLemmas.{Prints-more, PrintsFront-more}
-use Rattle.fits_plane.specs.Again.{CopyFails, CopyWrites, PrintsLike}
-use Rattle.fits_plane.specs.declared.again.CopyFault.{CopyFault}
-use Rattle.fits_plane.specs.declared.again.CopyFault.TheVariants.{Failed, Changed, Write}
+use Rattle.fits_unit.specs.Again.{CopyFails, CopyWrites, PrintsLike}
+use Rattle.fits_unit.specs.declared.again.CopyFault.{CopyFault}
+use Rattle.fits_unit.specs.declared.again.CopyFault.TheVariants.{Failed, Changed, Write}
 use Rattle.fits_sum.specs.OnesComplement.{ones_complement}
 use Rattle.fits_sum.specs.Words.{word_total}
 use Rattle.fits_sum.proofs.WordLemmas.{totals_add}

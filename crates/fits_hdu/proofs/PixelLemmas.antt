@@ -5,16 +5,16 @@ use Rattle.std.proofs.Math.Nat.{mul-le-mul_left}
 use Rattle.std.proofs.lemmas.Bool.{eqb-true, or_cases}
 use Rattle.fits_value.proofs.FrontLemmas.{option_map_some}
 use Rattle.fits_card.specs.Header.{Header, IsHeader}
-use Rattle.fits_plane.specs.Layout.{IsLayout, block_count}
+use Rattle.fits_pixels.specs.Layout.{IsLayout, block_count}
+use Rattle.fits_pixels.specs.Pixels.{IsWidth, pixels}
+use Rattle.fits_pixels.specs.Statistics.{value_statistics}
+use Rattle.fits_pixels.specs.declared.layout.Layout.{Layout}
+use Rattle.fits_pixels.specs.declared.value_summary.ValueSummary.{ValueSummary}
+use Rattle.fits_pixels.proofs.PixelLemmas.{width_range}
 use Rattle.fits_plane.specs.Paint.{can_store_paint, has_count, painted_number}
-use Rattle.fits_plane.specs.Pixels.{IsWidth, pixels}
 use Rattle.fits_plane.specs.Rectangle.{lies_within, product, rectangle_size, rectangle_values, rectangle_written}
-use Rattle.fits_plane.specs.Statistics.{value_statistics}
 use Rattle.fits_plane.specs.Work.{rectangle_blocks}
-use Rattle.fits_plane.specs.declared.layout.Layout.{Layout}
 use Rattle.fits_plane.specs.declared.lent_paint.LentPaint.{LentPaint}
-use Rattle.fits_plane.specs.declared.value_summary.ValueSummary.{ValueSummary}
-use Rattle.fits_plane.proofs.PixelLemmas.{width_range}
 use Rattle.fits_plane.proofs.RectangleLemmas.{length-rectangle_written}
 use Rattle.fits_rules.specs.Class.{is_primary}
 use Rattle.fits_rules.specs.Image.{array_bits, image_bits, integer_bits}

@@ -10,7 +10,7 @@ use Rattle.fits_header.specs.Findings.{card_counts, card_findings, counts_by, co
 use Rattle.fits_header.specs.declared.counts.Counts.{Counts}
 use Rattle.fits_header.specs.declared.finding.Finding.{Finding}
 use Rattle.fits_header.proofs.FindingLemmas.{codes-found_at, counts-append}
-use Rattle.fits_plane.specs.declared.layout.Layout.{Layout}
+use Rattle.fits_pixels.specs.declared.layout.Layout.{Layout}
 use Rattle.fits_passing.specs.ExtensionName.{name_codes}
 use Rattle.fits_passing.specs.Findings.{hdu_counts, hdu_findings, is_filled, whole_codes}
 use Rattle.fits_passing.specs.Hdu.{HduParts}

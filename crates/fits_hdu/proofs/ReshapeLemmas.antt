@@ -7,8 +7,8 @@ use Rattle.std.proofs.lemmas.Bool.{and_parts, cases_Bool, cond-true, cond-false}
 use Rattle.fits_card.specs.Change.{spliced}
 use Rattle.fits_card.specs.Header.{Header, IsHeader, IsInnerCard, fill_length, with_cards}
 use Rattle.fits_card.proofs.HeaderLemmas.{inner-spliced, whole-with_cards}
+use Rattle.fits_pixels.specs.Pixels.{IsWidth}
 use Rattle.fits_plane.specs.Converting.{KeepsValues, can_store_run, kept_numbers, run_written}
-use Rattle.fits_plane.specs.Pixels.{IsWidth}
 use Rattle.fits_plane.proofs.ConvertLemmas.{converting_keeps_values, length-kept_numbers, run_is_written}
 use Rattle.fits_rules.specs.Class.{is_primary}
 use Rattle.fits_rules.specs.Image.{array_bits, integer_bits, is_array}

@@ -5,9 +5,9 @@ use Rattle.std.proofs.Math.Nat.{mul-div_cancel_left, mul-le-mul_right}
 use Rattle.std.proofs.lemmas.List.{length-append}
 use Rattle.fits_card.specs.Header.{header_bytes, header_length, with_cards}
 use Rattle.fits_card.proofs.HeaderLemmas.{length-header_bytes}
+use Rattle.fits_pixels.specs.declared.layout.Layout.{Layout}
 use Rattle.fits_plane.specs.Converting.{kept_numbers, run_made}
 use Rattle.fits_plane.specs.Plane.{PlaneState}
-use Rattle.fits_plane.specs.declared.layout.Layout.{Layout}
 use Rattle.fits_rules.specs.Class.{is_primary}
 use Rattle.fits_rules.specs.Image.{image_bits, is_array}
 use Rattle.fits_rules.specs.Shape.{shape_of}

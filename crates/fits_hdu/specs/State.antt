@@ -6,8 +6,8 @@ use Rattle.fits_header.specs.State.{HeaderState}
 use Rattle.fits_header.specs.State as header
 use Rattle.fits_image.specs.Kind.{kind_in}
 use Rattle.fits_image.specs.declared.kind.Kind.{Kind}
-use Rattle.fits_plane.specs.DataUnit.{Absence, IsCounted}
 use Rattle.fits_plane.specs.Plane.{PlaneState}
+use Rattle.fits_unit.specs.DataUnit.{Absence, IsCounted}
 use Rattle.fits_passing.specs.ExtensionName.{extension_name}
 use Rattle.fits_passing.specs.Hdu.{HduParts}
 use Rattle.fits_passing.specs.declared.called.ExtensionName.{ExtensionName}

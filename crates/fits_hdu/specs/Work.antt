@@ -7,11 +7,11 @@ use Rattle.fits_rules.specs.Lead.{lead_place}
 use Rattle.fits_card.specs.Header.{header_bytes}
 use Rattle.fits_stream.specs.Stored.{ReadLogState}
 use Rattle.fits_stream.specs.Stream.{SinkState, Prints}
-use Rattle.fits_plane.specs.Again.{copied_blocks, IsUnitRead}
-use Rattle.fits_plane.specs.Layout.{block_count}
-use Rattle.fits_plane.specs.declared.layout.Layout.{Layout}
+use Rattle.fits_pixels.specs.Layout.{block_count}
+use Rattle.fits_pixels.specs.declared.layout.Layout.{Layout}
 use Rattle.fits_plane.specs.Work.{rectangle_blocks}
 use Rattle.fits_plane.specs.Plane.{PlaneState}
+use Rattle.fits_unit.specs.Again.{copied_blocks, IsUnitRead}
 use Rattle.fits_image.specs.Kind.{offset_of}
 use Rattle.fits_image.specs.declared.kind.Kind.{Kind}
 use Rattle.fits_sum.specs.Words.{word_total}

@@ -18,9 +18,10 @@ use fits_passing::{
     Described, ExtensionName, HduFault, ReadHduFault, SumKeywords, extension_name, read_described,
     sum_keywords,
 };
-use fits_plane::{DataUnit, Plane};
+use fits_plane::Plane;
 use fits_rules::Shape;
 use fits_stream::{Intake, Sink, Source};
+use fits_unit::DataUnit;
 use fits_value::{Text, Value};
 use std::alloc::{AllocError, Global};
 use std::io;
@@ -84,7 +85,7 @@ impl Hdu {
     ghost use Rattle.fits_stream.specs.Intake.{supply, Takes};
     ghost use Rattle.fits_stream.specs.Stream.{Prints, PrintsFront};
     ghost use Rattle.fits_header.specs.Work.{shape_reads};
-    ghost use Rattle.fits_plane.specs.Layout.{block_count};
+    ghost use Rattle.fits_pixels.specs.Layout.{block_count};
     ghost use Rattle.fits_rules.specs.Class.{is_primary};
     ghost use Rattle.fits_rules.specs.Shape.{shape_of};
     ghost use Rattle.fits_rules.specs.Size.{data_length};

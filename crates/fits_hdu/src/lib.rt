@@ -17,7 +17,7 @@ mod scaling;
 mod stamp_cards;
 
 pub use fits_passing::{ExtensionName, HduFault, ReadHduFault, Verdict, Verdicts};
-pub use fits_plane::ValueSummary as Stats;
+pub use fits_pixels::ValueSummary as Stats;
 pub use hdu::Hdu;
 pub use keyword::KeywordFault;
 pub use keyword_cards::{KeywordCards, replacement};

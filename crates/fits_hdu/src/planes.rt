@@ -1,15 +1,16 @@
 //! The data unit of a header: of its bytes, of zeros, and as BLANK says.
 ghost use Rattle.std.specs.Prelude.{◌≡◌, ◌≤◌, ◌^◌, length, replicate, IfOk};
 ghost use Rattle.fits_header.specs.State.{ReadsUpTo};
-ghost use Rattle.fits_plane.specs.Layout.{block_count};
+ghost use Rattle.fits_pixels.specs.Layout.{block_count};
 ghost use Rattle.fits_rules.specs.Size.{data_length};
 ghost use Rattle.fits_passing.specs.Layout.{blank_number, layout_of};
 ghost use Rattle.fits_hdu.specs.Work.{plane_work, FollowsBlank, IsMade, IsScanned};
 
 use fits_header::Header;
 use fits_passing::{blank_number, layout_of};
-use fits_plane::{DataUnit, Plane};
+use fits_plane::Plane;
 use fits_rules::image_bits;
+use fits_unit::DataUnit;
 use std::alloc::{AllocError, Global};
 
 /// The stored number of undefined pixels, where the header describes an image of integers. It takes

@@ -1,7 +1,7 @@
 //! The data unit of an array that is made another.
 ghost use Rattle.std.specs.Prelude.{◌≡◌, ◌≤◌, ◌<◌, ◌+◌, ◌*◌, ◌%◌, ◌^◌, true, None, is_some, min, pos, IfNone, IfOk, IfSome, IfErr, OnErr, OnOk};
 ghost use Rattle.fits_card.specs.Header.{header_length};
-ghost use Rattle.fits_plane.specs.Layout.{block_pixels};
+ghost use Rattle.fits_pixels.specs.Layout.{block_pixels};
 ghost use Rattle.fits_rules.specs.Image.{is_array};
 ghost use Rattle.fits_rules.specs.Size.{array_values, data_length};
 ghost use Rattle.fits_image.specs.Kind.{width_of};
@@ -14,8 +14,8 @@ use crate::reshaping::Reshaping;
 use fits_card::{CARD_LEN, header_len};
 use fits_image::Kind;
 use fits_passing::unit_len;
-use fits_plane::DataUnit;
 use fits_rules::{Shape, data_bytes};
+use fits_unit::DataUnit;
 use std::alloc::Global;
 
 /// How many bytes the data unit has that a shape describes, where it and a header of so many cards,

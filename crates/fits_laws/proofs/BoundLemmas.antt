@@ -10,7 +10,7 @@ use Rattle.fits_session.proofs.PlaceLemmas.{get_before, get_behind}
 use Rattle.fits_session.proofs.KeptLemmas.{reads_of-unentered, works_of-unentered}
 use Rattle.fits_card.specs.declared.change.Change.{Change}
 use Rattle.fits_value.specs.Says.{chain_length}
-use Rattle.fits_plane.specs.Layout.{block_count, block_pixels}
+use Rattle.fits_pixels.specs.Layout.{block_count, block_pixels}
 use Rattle.fits_plane.specs.Work.{rectangle_blocks, is_touched}
 use Rattle.fits_rules.specs.Lead.{lead_place}
 use Rattle.fits_rules.specs.Shape.{shape_of}

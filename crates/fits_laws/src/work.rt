@@ -2,7 +2,7 @@
 //! queries of a session do at most, by what they touch, beside the exact counts of `specs/Work`.
 ghost use Rattle.std.specs.Prelude.{◌≡◌, ◌<◌, ◌≤◌, ◌+◌, ◌-◌, ◌*◌, ◌^◌, ℕ, ℤ, Bool, true, false, List, get_or, length, map, max, Option, Err, Ok, Result, Some};
 ghost use Rattle.std.specs.List.{remove};
-ghost use Rattle.fits_plane.specs.Layout.{block_count};
+ghost use Rattle.fits_pixels.specs.Layout.{block_count};
 ghost use Rattle.fits_plane.specs.Work.{rectangle_blocks};
 ghost use Rattle.fits_rules.specs.Lead.{lead_place};
 ghost use Rattle.fits_rules.specs.Shape.{shape_of};

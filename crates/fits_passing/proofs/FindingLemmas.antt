@@ -9,7 +9,7 @@ use Rattle.fits_codes.specs.HeaderCodes.{has_header_code, header_codes, header_j
 use Rattle.fits_codes.specs.declared.code.Code.{Code}
 use Rattle.fits_codes.specs.declared.header_mark.HeaderMark.{HeaderMark}
 use Rattle.fits_header.specs.Findings.{header_codes_of}
-use Rattle.fits_plane.specs.declared.layout.Layout.{Layout}
+use Rattle.fits_pixels.specs.declared.layout.Layout.{Layout}
 use Rattle.fits_passing.specs.Findings.{data_codes, is_filled, whole_codes}
 use Rattle.fits_passing.specs.Hdu.{HduParts}
 use Rattle.fits_passing.specs.Layout.{layout_of_bytes}

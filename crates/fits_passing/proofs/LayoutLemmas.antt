@@ -4,10 +4,10 @@ use Rattle.std.specs.Prelude.{◌==◌, nat_lt, unsigned_abs, Ok, if◌then◌el
 use Rattle.std.proofs.lemmas.Bool.{false≢true, and_parts, or_cases, eqb-true}
 use Rattle.std.proofs.Math.Nat.{mul-div_cancel_left}
 use Rattle.fits_codes.specs.HeaderCodes.{blank_said}
-use Rattle.fits_plane.specs.Layout.{IsLayout}
-use Rattle.fits_plane.specs.Pixels.{IsWidth}
+use Rattle.fits_pixels.specs.Layout.{IsLayout}
+use Rattle.fits_pixels.specs.Pixels.{IsWidth}
+use Rattle.fits_pixels.specs.declared.layout.Layout.{Layout}
 use Rattle.fits_plane.specs.Rectangle.{product}
-use Rattle.fits_plane.specs.declared.layout.Layout.{Layout}
 use Rattle.fits_rules.specs.Class.{is_primary}
 use Rattle.fits_rules.specs.Image.{array_bits, image_bits, integer_bits, is_array}
 use Rattle.fits_rules.specs.Shape.{is_bitpix, shape_of}

@@ -8,7 +8,7 @@ use Rattle.fits_rules.specs.Size.{data_length}
 use Rattle.fits_rules.specs.declared.array_shape.Shape.{Shape}
 use Rattle.fits_rules.proofs.LawLemmas.{shape_primary}
 use Rattle.fits_header.specs.State.{HeaderState}
-use Rattle.fits_plane.specs.Passing.{PassedState}
+use Rattle.fits_unit.specs.Passing.{PassedState}
 use Rattle.fits_passing.specs.Layout.{layout_of}
 use Rattle.fits_passing.specs.HduReading.{IsPassedWhole, TakesHdu}
 use Rattle.fits_passing.specs.Work.{apply_reads, open_reads}

@@ -12,7 +12,7 @@ use Rattle.fits_passing.specs.Findings.{AreFindings, AreFoundCards}
 use Rattle.fits_passing.specs.Hdu.{HduParts}
 use Rattle.fits_passing.specs.Passing.{IsSummed}
 use Rattle.fits_passing.specs.HduReading.{TakesHdu, passed_parts}
-use Rattle.fits_plane.specs.Passing.{PassedState}
+use Rattle.fits_unit.specs.Passing.{PassedState}
 use Rattle.fits_passing.specs.declared.called.ExtensionName.{ExtensionName}
 use Rattle.fits_passing.proofs.ReadingLemmas.{hdu_kept}
 

@@ -8,8 +8,8 @@ use Rattle.fits_image.specs.declared.kind.Kind.{Kind}
 use Rattle.fits_image.specs.declared.kind.Kind.TheVariants.{U8, I8, I16, U16, I32, U32, I64, U64}
 use Rattle.std.specs.Option.{option_map}
 use Rattle.fits_card.specs.Header.{Header}
-use Rattle.fits_plane.specs.Layout.{IsLayout}
-use Rattle.fits_plane.specs.declared.layout.Layout.{Layout}
+use Rattle.fits_pixels.specs.Layout.{IsLayout}
+use Rattle.fits_pixels.specs.declared.layout.Layout.{Layout}
 use Rattle.fits_rules.specs.Class.{is_primary}
 use Rattle.fits_rules.specs.Image.{image_bits}
 use Rattle.fits_rules.specs.Shape.{shape_of}

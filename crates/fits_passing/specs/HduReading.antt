@@ -15,7 +15,7 @@ use Rattle.fits_rules.specs.declared.array_shape.Shape.{Shape}
 use Rattle.fits_rules.specs.declared.mandatory.ShapeFault.{ShapeFault}
 use Rattle.fits_rules.specs.declared.mandatory.ShapeFault.TheVariants as shape
 use Rattle.fits_header.specs.State.{HeaderState}
-use Rattle.fits_plane.specs.Passing.{PassedState}
+use Rattle.fits_unit.specs.Passing.{PassedState}
 use Rattle.fits_passing.specs.Hdu.{HduParts, HasHduFault, IsHdu, hdu_bytes}
 use Rattle.fits_passing.specs.Layout.{layout_of}
 use Rattle.fits_passing.specs.declared.hdu_fault.HduFault.{HduFault}

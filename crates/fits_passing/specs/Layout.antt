@@ -1,8 +1,8 @@
 -- How the bytes of a data unit are read: as integer pixels, or as bytes alone (FITS Standard 4.0, sections 3.3.2, 4.4.2.5 and 5.2).
 use Rattle.std.specs.Prelude.{ℕ, ◌/◌, ℤ, List, Option, None, Some}
 use Rattle.fits_codes.specs.HeaderCodes.{blank_said}
+use Rattle.fits_pixels.specs.declared.layout.Layout.{Layout}
 use Rattle.fits_plane.specs.Rectangle.{product}
-use Rattle.fits_plane.specs.declared.layout.Layout.{Layout}
 use Rattle.fits_rules.specs.Image.{image_bits}
 use Rattle.fits_rules.specs.Size.{data_size}
 use Rattle.fits_rules.specs.declared.array_shape.Shape.{Shape}

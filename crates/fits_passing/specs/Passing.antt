@@ -6,7 +6,7 @@ use Rattle.fits_stream.specs.Stream.{FailsOnce}
 use Rattle.fits_rules.specs.Class.{is_primary}
 use Rattle.fits_rules.specs.Shape.{shape_of}
 use Rattle.fits_rules.specs.declared.array_shape.Shape.{Shape}
-use Rattle.fits_plane.specs.Passing.{PassedState}
+use Rattle.fits_unit.specs.Passing.{PassedState}
 use Rattle.fits_passing.specs.Hdu.{HduParts}
 use Rattle.fits_passing.specs.Layout.{layout_of_bytes}
 use Rattle.fits_passing.specs.HduReading.{passed_parts}

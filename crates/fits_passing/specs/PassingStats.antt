@@ -1,8 +1,8 @@
 -- The statistics of an image that passes by, of which no more than a piece is held at once (own).
 use Rattle.std.specs.Prelude.{ℕ, List, Option}
 use Rattle.std.specs.Option.{option_map}
-use Rattle.fits_plane.specs.Pixels.{pixels}
-use Rattle.fits_plane.specs.Statistics.{value_statistics}
+use Rattle.fits_pixels.specs.Pixels.{pixels}
+use Rattle.fits_pixels.specs.Statistics.{value_statistics}
 use Rattle.fits_rules.specs.declared.array_shape.Shape.{Shape}
 use Rattle.fits_image.specs.Kind.{kind_in, offset_of}
 use Rattle.fits_image.specs.declared.kind.Kind.{Kind}

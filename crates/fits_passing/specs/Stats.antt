@@ -1,9 +1,9 @@
 -- The statistics of an image of integers (own).
 use Rattle.std.specs.Prelude.{◌≡◌, ℤ, List, Option, Ok}
 use Rattle.std.specs.Option.{option_map}
-use Rattle.fits_plane.specs.Pixels.{pixels}
-use Rattle.fits_plane.specs.Statistics.{value_statistics}
-pub use Rattle.fits_plane.specs.declared.value_summary.ValueSummary.{ValueSummary as Stats}
+use Rattle.fits_pixels.specs.Pixels.{pixels}
+use Rattle.fits_pixels.specs.Statistics.{value_statistics}
+pub use Rattle.fits_pixels.specs.declared.value_summary.ValueSummary.{ValueSummary as Stats}
 use Rattle.fits_rules.specs.Class.{is_primary}
 use Rattle.fits_rules.specs.Shape.{shape_of}
 use Rattle.fits_rules.specs.declared.array_shape.Shape.{Shape}

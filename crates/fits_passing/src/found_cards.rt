@@ -19,9 +19,9 @@ use crate::sums::{sum_keywords, verdicts_by, whole_sum};
 use fits_card::CardList;
 use fits_codes::judge_header_mark;
 use fits_header::Header;
-use fits_plane::PassedUnit;
 use fits_stream::{Intake, Source};
 use fits_sum::fold;
+use fits_unit::PassedUnit;
 use std::alloc::{AllocError, Global};
 
 /// What is found of an HDU, and its cards.

@@ -5,7 +5,7 @@ use crate::hdu_fault::HduFault;
 use crate::image_pixels::image_pixels;
 use crate::passing::{pass_unit, skip_unit};
 use crate::read_hdu_fault::ReadHduFault;
-use fits_plane::ValueSummary;
+use fits_pixels::ValueSummary;
 use fits_stream::{Intake, Source};
 use std::alloc::Global;
 

@@ -9,9 +9,9 @@ use crate::summed::{Summed, read_summed};
 use crate::sums::{sum_keywords_in, verdicts_by, whole_sum};
 use crate::verdicts::Verdicts;
 use fits_header::header_total;
-use fits_plane::PassedUnit;
 use fits_stream::{Intake, Source};
 use fits_sum::fold;
+use fits_unit::PassedUnit;
 use std::alloc::Global;
 
 /// The sums of an HDU: what is told of it where it passes by.

@@ -8,7 +8,7 @@ use crate::described::Described;
 use crate::layout::layout_of;
 use fits_header::Header;
 use fits_image::{Kind, pixel_kind};
-use fits_plane::Layout;
+use fits_pixels::Layout;
 use fits_rules::image_bits;
 use std::alloc::{AllocError, Global};
 

@@ -9,7 +9,7 @@ ghost use Rattle.fits_passing.specs.Layout.{blank_number, fill_byte, layout_of, 
 
 use fits_card::Name;
 use fits_header::Header;
-use fits_plane::Layout;
+use fits_pixels::Layout;
 use fits_rules::{Class, IntegerSaid, Shape, data_bytes, image_bits, integer_said};
 
 const BLANK: Name = Name(*b"BLANK   ");

@@ -43,7 +43,7 @@ pub use card_report::{CardReport, read_card_report};
 pub use data_unit::unit_len;
 pub use described::{Described, read_described};
 pub use findings::Findings;
-pub use fits_plane::ValueSummary as Stats;
+pub use fits_pixels::ValueSummary as Stats;
 pub use found::with_data_codes;
 pub use found_cards::FoundCards;
 pub use hdu_fault::HduFault;

@@ -6,8 +6,8 @@ use crate::layout::layout_of;
 use crate::passing::pass_unit;
 use crate::read_hdu_fault::ReadHduFault;
 use fits_header::Header;
-use fits_plane::PassedUnit;
 use fits_stream::{Intake, Source};
+use fits_unit::PassedUnit;
 use std::alloc::Global;
 
 /// An HDU whose data unit passed by: its header, and what is known of its data unit.

@@ -1,14 +1,15 @@
 //! A data unit that passes by: its bytes are looked at, or skipped.
 ghost use Rattle.std.specs.Prelude.{◌≡◌, ℕ, List, length, IfOk, IfErr, OnOk};
-ghost use Rattle.fits_plane.specs.Layout.{IsLayout};
+ghost use Rattle.fits_pixels.specs.Layout.{IsLayout};
 ghost use Rattle.fits_stream.specs.Intake.{supply, Passes, Takes};
 ghost use Rattle.fits_passing.specs.Passing.{UnitStops};
 
 use crate::hdu_fault::HduFault;
 use crate::read_hdu_fault::ReadHduFault;
 use fits_card::BLOCK_LEN;
-use fits_plane::{Layout, PassedUnit, PassingUnit};
+use fits_pixels::Layout;
 use fits_stream::{Intake, PIECE_LEN, Source};
+use fits_unit::{PassedUnit, PassingUnit};
 
 /// As many bytes as an intake holds at once in whole blocks.
 const BLOCKS_LEN: usize = PIECE_LEN - PIECE_LEN % BLOCK_LEN;

@@ -9,8 +9,8 @@ use crate::described::{Described, read_described};
 use crate::layout::layout_of_bytes;
 use crate::passing::pass_unit;
 use crate::read_hdu_fault::ReadHduFault;
-use fits_plane::PassedUnit;
 use fits_stream::{Intake, Source};
+use fits_unit::PassedUnit;
 use std::alloc::Global;
 
 /// A header, and what is known of its data unit.

@@ -5,8 +5,9 @@ use Rattle.std.specs.List.{range_with_len, list_any}
 use Rattle.std.proofs.Math.Nat.{add-mul, div-mul-le_self, le-div_iff_mul-le, div-lt_iff_lt-mul, div-eq_of_lt-le}
 use Rattle.std.proofs.lemmas.Bool.{cases_lt}
 use Rattle.std.proofs.lemmas.List.Sums.{sum_by-append, sum_by-cons}
+use Rattle.fits_pixels.specs.Block.{held}
 use Rattle.fits_plane.specs.Rectangle.{product, place, rectangle_size, IsRectangle, is_inside}
-use Rattle.fits_plane.specs.Work.{held, is_touched, touched_blocks}
+use Rattle.fits_plane.specs.Work.{is_touched, touched_blocks}
 use Rattle.fits_plane.proofs.PlaceLemmas.{one_if, place-number, number-lt-size, number, number_grows}
 use Rattle.fits_plane.proofs.RowLemmas.{Row, in_row}
 

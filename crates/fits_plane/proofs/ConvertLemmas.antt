@@ -10,19 +10,18 @@ use Rattle.std.specs.List.{flat_map, list_all}
 use Rattle.std.specs.Prelude.{IsTrue, pos, ◌+ℤ◌, ◌-ℤ◌, ◌↔◌}
 use Rattle.byteorder.specs.Endian.{low_bytes}
 use Rattle.byteorder.specs.Numbers.{length-bytes_high_first}
-use Rattle.fits_plane.proofs.LaneLemmas.{more}
-use Rattle.fits_plane.proofs.LeafLemmas.{block_pixels_some, pixels_room}
-use Rattle.fits_plane.proofs.PixelLemmas.{by_width, length-pixels, pixel-same, width_range}
+use Rattle.fits_pixels.proofs.LaneLemmas.{more}
+use Rattle.fits_pixels.proofs.LayoutLemmas.{block_pixels_some, pixels_room}
+use Rattle.fits_pixels.proofs.PixelLemmas.{by_width, length-pixels, pixel-same, width_range}
+use Rattle.fits_pixels.proofs.TestLemmas.{can_store_decides, same_test}
+use Rattle.fits_pixels.specs.Layout.{IsLayout, block_pixels}
+use Rattle.fits_pixels.specs.Block.{block_numbers, held}
+use Rattle.fits_pixels.specs.Pixels.{IsStorable, IsWidth, can_store, pixel, pixels, stored_bytes}
+use Rattle.fits_pixels.specs.declared.layout.Layout.{Layout}
 use Rattle.fits_plane.proofs.RectangleLemmas.{pixel_bytes, pixel_of_bytes}
-use Rattle.fits_plane.proofs.TestLemmas.{can_store_decides, same_test}
 use Rattle.fits_plane.proofs.WriteLemmas.{pixel_away, pixel_kept}
 use Rattle.fits_plane.proofs.ZeroLemmas.{zero_byte}
 use Rattle.fits_plane.specs.Converting.{CanStoreRunDecides, ConvertingKeepsValues, IsRun, RunIsWritten, WrittenIsRun, can_store_run, kept_numbers, run_made, run_written}
-use Rattle.fits_plane.specs.Layout.{IsLayout, block_pixels}
-use Rattle.fits_plane.specs.Leaves.{block_numbers}
-use Rattle.fits_plane.specs.Pixels.{IsStorable, IsWidth, can_store, pixel, pixels, stored_bytes}
-use Rattle.fits_plane.specs.Work.{held}
-use Rattle.fits_plane.specs.declared.layout.Layout.{Layout}
 
 -- ---- tests
 

@@ -3,13 +3,13 @@ use Rattle.std.proofs.Common.{◌≡◌, ◌<◌, ◌^◌, ℕ, ℤ, Option, Som
 use Rattle.std.specs.Prelude.{◌+ℤ◌, ◌-ℤ◌}
 use Rattle.std.specs.Int.{int_min, int_max, int_wrap, w128}
 use Rattle.std.proofs.lemmas.Int.{ints, clamps, int_wrap-add_left, int_wrap-add_right}
-use Rattle.fits_plane.specs.declared.pixel_summary.PixelSummary.{PixelSummary}
-use Rattle.fits_plane.specs.declared.word_summary.WordSummary.{WordSummary}
-use Rattle.fits_plane.specs.declared.both.Both.{Both}
-use Rattle.fits_plane.specs.Summary.{added, sum_added, lesser, greater, pixels_joined, words_joined}
-use Rattle.fits_plane.specs.SummaryLaws.{same_pixels, same_both, lesser_assoc, greater_assoc}
+use Rattle.fits_pixels.specs.declared.pixel_summary.PixelSummary.{PixelSummary}
+use Rattle.fits_pixels.specs.declared.word_summary.WordSummary.{WordSummary}
+use Rattle.fits_pixels.specs.declared.both.Both.{Both}
+use Rattle.fits_pixels.specs.Summary.{added, sum_added, lesser, greater, pixels_joined, words_joined}
+use Rattle.fits_pixels.specs.SummaryLaws.{same_pixels, same_both, lesser_assoc, greater_assoc}
+use Rattle.fits_pixels.proofs.StatisticsLemmas.{word_leaf}
 use Rattle.fits_plane.specs.Exchange.{taken, sum_taken, pixels_without, words_without, IsExchanged}
-use Rattle.fits_plane.proofs.LeafLemmas.{word_leaf}
 
 -- ---- counts and sums
 

@@ -4,7 +4,7 @@ use Rattle.std.proofs.Math.Nat.{div-div-eq-div-mul, div-le_self}
 use Rattle.std.proofs.lemmas.Bool.{cases_eq}
 use Rattle.std.proofs.lemmas.List.{ext_get_or, length-drop, length-set, get_or-drop, get_or-set_same, get_or-set_other}
 use Rattle.std.proofs.lemmas.Nat.{pow-add}
-use Rattle.fits_plane.specs.Summary.{SummaryLaws}
+use Rattle.fits_pixels.specs.Summary.{SummaryLaws}
 use Rattle.fits_plane.specs.Tree.{IsTree, IsTreeBut, IsAbove, IsJoined}
 
 -- a place halved once, and then k times

@@ -1,45 +1,29 @@
--- The leaves of a data unit: one block of it, a block that an edit leaves alone, and all blocks together.
-use Rattle.std.proofs.Common.{◌≡◌, ◌≢◌, ◌<◌, ◌≤◌, ℕ, zero, suc, ◌+◌, ◌-◌, ◌*◌, ◌/◌, ◌%◌, ◌^◌, List, [], ◌∷◌, ◌++◌, length, slice_index, get_or, map, min, take, drop, set, refl, arith, sym, ◌∙◌, ap, subst, inl, inr, ◌⊎◌, ℤ, pos, Bool, true, false, cond, Some, None, Option, FitsSigned}
-use Rattle.std.specs.Int.{w64, w128}
-use Rattle.std.proofs.Math.Nat.{add-mul, div-eq_of_lt-le, mod-eq_of_lt, mul-le-mul_left}
+-- The leaves of a data unit: a block that an edit leaves alone, and all blocks together.
+use Rattle.std.proofs.Common.{◌≡◌, ◌≢◌, ◌<◌, ◌≤◌, ℕ, suc, ◌+◌, ◌-◌, ◌*◌, ◌/◌, ◌%◌, ◌^◌, List, [], ◌∷◌, ◌++◌, length, slice_index, get_or, min, drop, set, arith, sym, ◌∙◌, ap, subst, inl, inr, ◌⊎◌, ℤ, false}
+use Rattle.std.proofs.Math.Nat.{add-mul, div-eq_of_lt-le, mod-eq_of_lt}
 use Rattle.std.proofs.lemmas.Bool.{cases_lt, false≢true}
-use Rattle.std.proofs.lemmas.Bool.Decides.{nat_tests}
-use Rattle.std.proofs.lemmas.Int.{ints}
-use Rattle.std.proofs.lemmas.List.{map-append, drop_all, ext_get_or, get_or_append_left, get_or-append_right, get_or-set_same, get_or-set_other, length-take, length-drop, get_or-take, get_or-drop}
-use Rattle.byteorder.specs.Endian.{big_from, twos_complement}
-use Rattle.byteorder.specs.Numbers.{big_from-lt}
+use Rattle.std.proofs.lemmas.List.{drop_all, ext_get_or, get_or_append_left, get_or-append_right, get_or-set_same, get_or-set_other, length-take, length-drop, get_or-take, get_or-drop}
 use Rattle.fits_sum.specs.Words.{word_total}
 use Rattle.fits_sum.proofs.WordLemmas.{word_total-part, word_total-le}
-use Rattle.fits_plane.specs.declared.pixel_summary.PixelSummary.{PixelSummary}
-use Rattle.fits_plane.specs.declared.word_summary.WordSummary.{WordSummary}
-use Rattle.fits_plane.specs.declared.both.Both.{Both}
-use Rattle.fits_plane.specs.declared.layout.Layout.{Layout}
-use Rattle.fits_plane.specs.Summary.{all_joined, pixel_unit, pixels_joined, PixelFits, words_joined, halves_joined}
-use Rattle.fits_plane.specs.SummaryLaws.{pixel_laws, same_both}
-use Rattle.fits_plane.specs.Statistics.{is_blank, statistics, number_summary, AllFit64}
-use Rattle.fits_plane.specs.Pixels.{pixels, stored_number, IsWidth}
+use Rattle.fits_pixels.specs.declared.pixel_summary.PixelSummary.{PixelSummary}
+use Rattle.fits_pixels.specs.declared.word_summary.WordSummary.{WordSummary}
+use Rattle.fits_pixels.specs.declared.both.Both.{Both}
+use Rattle.fits_pixels.specs.declared.layout.Layout.{Layout}
+use Rattle.fits_pixels.specs.Summary.{all_joined, pixels_joined, words_joined, halves_joined}
+use Rattle.fits_pixels.specs.SummaryLaws.{same_both}
+use Rattle.fits_pixels.specs.Statistics.{statistics, AllFit64}
+use Rattle.fits_pixels.specs.Pixels.{pixels, IsWidth}
+use Rattle.fits_pixels.specs.Layout.{IsLayout, block_pixels}
+use Rattle.fits_pixels.specs.Block.{held, leaf_of, block_of}
+use Rattle.fits_pixels.proofs.PixelLemmas.{pixel-same, pixels-same, pixels-append, length-pixels, by_width}
+use Rattle.fits_pixels.proofs.LayoutLemmas.{block_pixels_some, layout_room, layout_small}
+use Rattle.fits_pixels.proofs.StatisticsLemmas.{word_leaf, pixels_fit, statistics-append, next}
 use Rattle.fits_plane.specs.Rectangle.{product, IsWritten}
-use Rattle.fits_plane.specs.Layout.{IsLayout, block_pixels}
-use Rattle.fits_plane.specs.Work.{held, is_touched}
-use Rattle.fits_plane.specs.Leaves.{leaf_unit, leaf_of, block_of, AreLeaves}
-use Rattle.fits_plane.proofs.ExactLemmas.{joined_is_exact}
-use Rattle.fits_plane.proofs.TreeLemmas.{all_joined-append}
-use Rattle.fits_plane.proofs.PixelLemmas.{pixels-part, pixel-same, pixels-same, pixels-append, length-pixels, by_width}
+use Rattle.fits_plane.specs.Work.{is_touched}
+use Rattle.fits_plane.specs.Leaves.{leaf_unit, AreLeaves}
 use Rattle.fits_plane.proofs.BlockLemmas.{touched_by}
 
 -- ---- widths and blocks
-
--- a block is made of whole pixels
-pub block_pixels-width : (w : ℕ) → IsWidth w → block_pixels w * w ≡ 2880
-block_pixels-width w h = by_width (λ w. block_pixels w * w ≡ 2880) refl refl refl refl w h
-
--- a block holds a pixel
-pub block_pixels_some : (w : ℕ) → IsWidth w → 0 < block_pixels w
-block_pixels_some w h = by_width (λ w. 0 < block_pixels w) (omega arith) (omega arith) (omega arith) (omega arith) w h
-
--- the pixels have room in the blocks
-pub pixels_room : (w n blocks : ℕ) → IsWidth w → n * w ≤ 2880 * blocks → n ≤ blocks * block_pixels w
-pixels_room w n blocks h = by_width (λ w. n * w ≤ 2880 * blocks → n ≤ blocks * block_pixels w) (λ r. omega (arith, r)) (λ r. omega (arith, r)) (λ r. omega (arith, r)) (λ r. omega (arith, r)) w h
 
 -- the pixel that a byte of block k is of lies in block k
 byte_block : (w k j : ℕ) → IsWidth w → 2880 * k ≤ j → j < 2880 * k + 2880 → j / w / block_pixels w ≡ k
@@ -52,28 +36,6 @@ pixel_bytes : (w k x m : ℕ) → IsWidth w → x < block_pixels w → m < w →
 pixel_bytes w k x m h = by_width (λ w. x < block_pixels w → m < w → (2880 * k ≤ (k * block_pixels w + x) * w + m) × ((k * block_pixels w + x) * w + m < 2880 * k + 2880))
     (λ a b. (omega (arith, a, b), omega (arith, a, b))) (λ a b. (omega (arith, a, b), omega (arith, a, b)))
     (λ a b. (omega (arith, a, b), omega (arith, a, b))) (λ a b. (omega (arith, a, b), omega (arith, a, b))) w h
-
--- without pixels a block holds none
-none_held : (per n k : ℕ) → n ≡ 0 → held per n k ≡ 0
-none_held per n k e = omega (arith, e)
-
--- the pixels of a block, read in the block alone
-pub block_part : (w n k at size : ℕ) (xs : List ℕ) → (w ≡ 0) ⊎ IsWidth w → (w ≡ 0 → n ≡ 0) → at ≡ 2880 * k → size ≡ 2880
-    → pixels w (take size (drop at xs)) 0 (held (block_pixels w) n k) ≡ pixels w xs (k * block_pixels w) (held (block_pixels w) n k)
-block_part w n k at size xs h none e s = elim h [
-  | inl z ↦
-      let few = none_held (block_pixels w) n k (none z) in
-      ap (pixels w (take size (drop at xs)) 0) few ∙ sym (ap (pixels w xs (k * block_pixels w)) few)
-  | inr h ↦
-      let whole = block_pixels-width w h in
-      let more = mul-le-mul_left w (let short : held (block_pixels w) n k ≤ block_pixels w = omega arith in short) in
-      let start : k * (block_pixels w * w) ≡ k * 2880 = ap (λ m. k * m) whole in
-      pixels-part w (k * block_pixels w) size (held (block_pixels w) n k) at xs (omega (arith, e, start)) (omega (arith, more, whole, s))
-]
-
--- word summaries are alike where their totals are
-pub word_leaf : (t u : ℕ) → t ≡ u → (let x : WordSummary = record { total = t } in x) ≡ record { total = u }
-word_leaf t u e = cc
 
 -- ---- a block that holds no pixel of a rectangle
 
@@ -110,67 +72,6 @@ Leaf = Both PixelSummary WordSummary
 abbrev leaves_joined : Leaf → Leaf → Leaf
 leaves_joined x y = halves_joined pixels_joined words_joined x y
 
--- a number of 8 bits fits 64
-fit_1 : (n : ℕ) → n < 256 → FitsSigned w64 (pos n)
-fit_1 n h = omega (arith, ints, h)
-
--- a number of 16 bits fits 64
-fit_2 : (n : ℕ) → n < 65536 → FitsSigned w64 (twos_complement 2 n)
-fit_2 n h = grind (arith, ints, nat_tests)
-
--- a number of 32 bits fits 64
-fit_4 : (n : ℕ) → n < 2 ^ 32 → FitsSigned w64 (twos_complement 4 n)
-fit_4 n h = grind (arith, ints, nat_tests)
-
--- a number of 64 bits fits 64
-fit_8 : (n : ℕ) → n < 2 ^ 64 → FitsSigned w64 (twos_complement 8 n)
-fit_8 n h = grind (arith, ints, nat_tests)
-
--- a stored number is a signed one of 64 bits
-pub stored_fits : (w n : ℕ) → IsWidth w → n < 256 ^ w → FitsSigned w64 (stored_number w n)
-stored_fits w n h = by_width (λ w. n < 256 ^ w → FitsSigned w64 (stored_number w n)) (λ b. fit_1 n (omega (arith, b))) (λ b. fit_2 n (omega (arith, b))) (λ b. fit_4 n (omega (arith, b))) (λ b. fit_8 n (omega (arith, b))) w h
-
--- the pixels of a width fit
-all_fit : (w : ℕ) (xs : List ℕ) (a n : ℕ) → IsWidth w → ((k : ℕ) → slice_index xs k < 256) → AllFit64 (pixels w xs a n)
-all_fit w xs a zero h b = tt
-all_fit w xs a (suc n) h b = (stored_fits w (big_from (a * w) w xs) h (big_from-lt (a * w) w xs b), all_fit w xs (a + 1) n h b)
-
--- no pixels fit
-no_pixels_fit : (w : ℕ) (xs : List ℕ) (a n : ℕ) → n ≡ 0 → AllFit64 (pixels w xs a n)
-no_pixels_fit w xs a n e = subst (λ m. AllFit64 (pixels w xs a m)) (sym e) tt
-
--- the pixels are signed numbers of 64 bits
-pub pixels_fit : (w : ℕ) (xs : List ℕ) (a n : ℕ) → (w ≡ 0) ⊎ IsWidth w → (w ≡ 0 → n ≡ 0) → ((k : ℕ) → slice_index xs k < 256) → AllFit64 (pixels w xs a n)
-pixels_fit w xs a n h none b = elim h [ inl z ↦ no_pixels_fit w xs a n (none z) | inr h ↦ all_fit w xs a n h b ]
-
--- a number of 64 bits fits 128
-wide : (x : ℤ) → FitsSigned w64 x → FitsSigned w128 x
-wide x h = omega (arith, ints, h)
-
--- a pixel's summary fits
-one_fits : (t : Bool) (x : ℤ) → FitsSigned w64 x → PixelFits (cond t (record { defined = 0; blank = 1; least = None; greatest = None; sum = pos 0 }) (record { defined = 1; blank = 0; least = Some x; greatest = Some x; sum = x }))
-one_fits true x h = record { defined = omega arith; blank = omega arith; sum = omega (arith, ints) }
-one_fits false x h = record { defined = omega arith; blank = omega arith; sum = wide x h }
-
--- the pixels' summaries joined fit
-summaries_fit : (blank : Option ℤ) (xs : List ℤ) → AllFit64 xs → PixelFits (all_joined pixel_unit pixels_joined (map (number_summary blank) xs))
-summaries_fit blank [] f = pixel_laws.unit_fits
-summaries_fit blank (x ∷ xs) f = pixel_laws.join_fits _ _ (one_fits (is_blank blank x) x f.0) (summaries_fit blank xs f.1)
-
--- the statistics of two runs of pixels are joined to those of both
-pub statistics-append : (blank : Option ℤ) (ps qs : List ℤ) → AllFit64 ps → AllFit64 qs → AllFit64 (ps ++ qs) → length ps < 2 ^ 62 → length qs < 2 ^ 62 → length (ps ++ qs) < 2 ^ 62
-    → pixels_joined (statistics blank ps) (statistics blank qs) ≡ statistics blank (ps ++ qs)
-statistics-append blank ps qs f g h a b c =
-    let p = joined_is_exact blank ps f a in
-    let q = joined_is_exact blank qs g b in
-    ap (λ y. pixels_joined y (statistics blank qs)) (sym p) ∙ ap (pixels_joined (all_joined pixel_unit pixels_joined (map (number_summary blank) ps))) (sym q)
-    ∙ sym (all_joined-append pixel_laws (map (number_summary blank) ps) (map (number_summary blank) qs) (summaries_fit blank qs g))
-    ∙ ap (all_joined pixel_unit pixels_joined) (sym (map-append (number_summary blank) ps qs)) ∙ joined_is_exact blank (ps ++ qs) h c
-
--- the pixels after a whole block begin with the next block
-pub next : (w p m rest q : ℕ) (xs : List ℕ) → (rest ≡ 0) ⊎ (p + m ≡ q) → pixels w xs (p + m) rest ≡ pixels w xs q rest
-next w p m rest q xs h = elim h [ inl e ↦ rw e refl | inr e ↦ ap (λ k. pixels w xs k rest) e ]
-
 -- the leaves of the blocks from block a on
 leaves_from : (layout : Layout) (xs : List ℕ) → (layout.width ≡ 0) ⊎ IsWidth layout.width → (layout.width ≡ 0 → layout.pixels ≡ 0) → ((k : ℕ) → slice_index xs k < 256) → layout.pixels < 2 ^ 62
     → (ls : List Leaf) (a : ℕ) → ((k : ℕ) → k < length ls → get_or ls k leaf_unit ≡ leaf_of layout xs (a + k))
@@ -198,24 +99,6 @@ leaves_from layout xs h none b small (x ∷ ls) a f =
     (omega (arith, ap length cut, length-pixels w (a * per) (m + rest) xs, small)) in
     ap (λ y. pixels_joined y (all_joined leaf_unit leaves_joined ls).first) (ap (λ z. z.first) here) ∙ ap (pixels_joined (statistics layout.blank ps)) ih
     ∙ joined ∙ ap (statistics layout.blank) (sym cut) ∙ ap (λ k. statistics layout.blank (pixels w xs (a * per) k)) (sym whole)
-
--- a layout's pixels have room, whatever its width
-pub layout_room : (layout : Layout) (xs : List ℕ) (blocks : ℕ) → IsLayout layout xs → length xs ≡ 2880 * blocks → layout.pixels ≤ blocks * block_pixels layout.width
-layout_room layout xs blocks h e = elim h.width [
-  | inl z ↦ omega (arith, h.no_pixels z)
-  | inr w ↦ pixels_room layout.width layout.pixels blocks w (omega (arith, h.room, h.used, e))
-]
-
--- pixels of a width have as many bytes or more
-few_case : (w n limit : ℕ) → IsWidth w → n * w ≤ limit → n ≤ limit
-few_case w n limit h = by_width (λ w. n * w ≤ limit → n ≤ limit) (λ r. omega (arith, r)) (λ r. omega (arith, r)) (λ r. omega (arith, r)) (λ r. omega (arith, r)) w h
-
--- a layout has no more pixels than bytes
-pub layout_small : (layout : Layout) (xs : List ℕ) → IsLayout layout xs → layout.pixels ≤ length xs
-layout_small layout xs h = elim h.width [
-  | inl z ↦ omega (arith, h.no_pixels z)
-  | inr w ↦ few_case layout.width layout.pixels (length xs) w (omega (arith, h.room, h.used))
-]
 
 -- the leaves joined have the statistics of all pixels
 pub leaves_statistics : (layout : Layout) (xs : List ℕ) (ls : List Leaf) → IsLayout layout xs → length xs ≡ 2880 * length ls → ((k : ℕ) → slice_index xs k < 256) → AreLeaves layout xs ls

@@ -1,16 +1,16 @@
 -- What the pixels of a rectangle are given.
 use Rattle.std.proofs.Common.{◌≡◌, ◌<◌, ◌≤◌, ◌+◌, ◌-◌, ◌*◌, ◌^◌, ◌∙◌, ◌-ℤ◌, ℕ, ℤ, pos, true, List, length, get_or, take, drop, ap, arith, subst, sym}
 use Rattle.std.proofs.lemmas.Bool.{eqb-true}
+use Rattle.fits_pixels.specs.declared.layout.Layout.{Layout}
+use Rattle.fits_pixels.specs.Layout.{IsLayout}
+use Rattle.fits_pixels.proofs.LayoutLemmas.{layout_small}
 use Rattle.fits_plane.specs.Paint.{painted_number, has_count, HasValues}
 use Rattle.fits_plane.specs.declared.lent_paint.LentPaint.{LentPaint}
 use Rattle.fits_plane.specs.declared.lent_paint.LentPaint.TheVariants.{Fill, Write}
-use Rattle.fits_plane.specs.declared.layout.Layout.{Layout}
 use Rattle.fits_plane.specs.declared.painting.Painting.{Painting}
-use Rattle.fits_plane.specs.Layout.{IsLayout}
 use Rattle.fits_plane.specs.Painting.{Suits}
 use Rattle.fits_plane.specs.Rectangle.{product, rectangle_size, row_count, row_size}
 use Rattle.fits_plane.specs.ShortRows.{CanPaint}
-use Rattle.fits_plane.proofs.LeafLemmas.{layout_small}
 use Rattle.fits_plane.proofs.RowLemmas.{rectangle_size-le-product, row_lies}
 use Rattle.fits_plane.proofs.WriteLemmas.{Part, part_of}
 

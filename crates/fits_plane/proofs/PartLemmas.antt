@@ -6,21 +6,21 @@ use Rattle.std.proofs.lemmas.Bool.{cases_lt}
 use Rattle.std.proofs.lemmas.List.{ext_get_or, drop-drop, length-take, length-drop, get_or-take, get_or-drop}
 use Rattle.fits_sum.specs.Words.{word_total}
 use Rattle.fits_sum.proofs.WordLemmas.{word_total-append, word_total-le}
-use Rattle.fits_plane.specs.declared.pixel_summary.PixelSummary.{PixelSummary}
-use Rattle.fits_plane.specs.declared.word_summary.WordSummary.{WordSummary}
-use Rattle.fits_plane.specs.declared.both.Both.{Both}
-use Rattle.fits_plane.specs.declared.layout.Layout.{Layout}
-use Rattle.fits_plane.specs.Summary.{pixels_joined, added}
-use Rattle.fits_plane.specs.SummaryLaws.{same_both}
-use Rattle.fits_plane.specs.Statistics.{statistics, AllFit64}
-use Rattle.fits_plane.specs.Pixels.{pixels, IsWidth}
-use Rattle.fits_plane.specs.Layout.{IsLayout, block_pixels}
-use Rattle.fits_plane.specs.Work.{held}
-use Rattle.fits_plane.specs.Leaves.{leaf_of}
+use Rattle.fits_pixels.specs.declared.pixel_summary.PixelSummary.{PixelSummary}
+use Rattle.fits_pixels.specs.declared.word_summary.WordSummary.{WordSummary}
+use Rattle.fits_pixels.specs.declared.both.Both.{Both}
+use Rattle.fits_pixels.specs.declared.layout.Layout.{Layout}
+use Rattle.fits_pixels.specs.Summary.{pixels_joined, added}
+use Rattle.fits_pixels.specs.SummaryLaws.{same_both}
+use Rattle.fits_pixels.specs.Statistics.{statistics, AllFit64}
+use Rattle.fits_pixels.specs.Pixels.{pixels, IsWidth}
+use Rattle.fits_pixels.specs.Layout.{IsLayout, block_pixels}
+use Rattle.fits_pixels.specs.Block.{held, leaf_of}
+use Rattle.fits_pixels.proofs.PixelLemmas.{by_width, width_range, pixels-append, pixels-same, pixel-same, pixels-part, length-pixels}
+use Rattle.fits_pixels.proofs.StatisticsLemmas.{pixels_fit, statistics-append, next, word_leaf}
+use Rattle.fits_pixels.proofs.LayoutLemmas.{layout_small}
 use Rattle.fits_plane.specs.Parts.{group_pixels, part_of, AreGroupsChanged}
 use Rattle.fits_plane.specs.Exchange.{leaves_joined, IsExchanged}
-use Rattle.fits_plane.proofs.PixelLemmas.{by_width, width_range, pixels-append, pixels-same, pixel-same, pixels-part, length-pixels}
-use Rattle.fits_plane.proofs.LeafLemmas.{pixels_fit, statistics-append, next, word_leaf, layout_small}
 
 -- a group is made of whole pixels
 group_width : (w : ℕ) → IsWidth w → group_pixels w * w ≡ 8

@@ -1,9 +1,9 @@
 -- A data unit that is edited: its layout stays, and so do the leaves of blocks that were left alone.
 use Rattle.std.proofs.Common.{◌≡◌, ℕ, ◌%◌, List, length, arith, ◌∙◌, ap, inl, inr}
-use Rattle.fits_plane.specs.declared.layout.Layout.{Layout}
-use Rattle.fits_plane.specs.Pixels.{IsWidth}
+use Rattle.fits_pixels.specs.declared.layout.Layout.{Layout}
+use Rattle.fits_pixels.specs.Pixels.{IsWidth}
+use Rattle.fits_pixels.specs.Layout.{IsLayout}
 use Rattle.fits_plane.specs.Rectangle.{product, IsRectangle}
-use Rattle.fits_plane.specs.Layout.{IsLayout}
 use Rattle.fits_plane.proofs.RowLemmas.{product_some}
 
 -- a layout that has a pixel has a width

@@ -10,9 +10,9 @@ use Rattle.std.proofs.lemmas.List.Elements.{All-get_or}
 use Rattle.std.proofs.lemmas.List.FromFn.{length-map-range_with_len, get_or-map-range_with_len, fill_by_all}
 use Rattle.byteorder.specs.Endian.{big_from, big_bytes, low_bytes, twos_complement}
 use Rattle.byteorder.specs.Numbers.{big_from-bytes, big_from-lt}
-use Rattle.fits_plane.specs.Pixels.{stored_number, stored_bytes, pixel, IsWidth, IsStorable}
+use Rattle.fits_pixels.specs.Pixels.{stored_number, stored_bytes, pixel, IsWidth, IsStorable}
+use Rattle.fits_pixels.proofs.PixelLemmas.{big_from-same, stored_back, by_width, width_range}
 use Rattle.fits_plane.specs.Rectangle.{product, is_inside, rank, rectangle_size, IsRectangle, IsWritten, is_pixel_of, byte_written, rectangle_written, RectangleIsWritten, WrittenIsRectangle}
-use Rattle.fits_plane.proofs.PixelLemmas.{big_from-same, stored_back, by_width, width_range}
 use Rattle.fits_plane.proofs.PlaceLemmas.{rem_at, quot_at, number-lt-size, rank-number}
 
 -- ---- the bytes of a number

@@ -3,23 +3,24 @@ use Rattle.std.proofs.Common.{◌≡◌, ◌≢◌, ◌<◌, ◌≤◌, ℕ, ◌
 use Rattle.std.proofs.Math.Nat.{mul-le-mul_right, div-mul-le_self, div-lt_iff_lt-mul, div-eq_of_lt-le}
 use Rattle.std.proofs.lemmas.Bool.{cases_lt, cases_eq}
 use Rattle.std.proofs.lemmas.List.{get_or-set_same, get_or-set_other, get_or-drop, get_or-take, get_or_past, length-drop, length-take}
-use Rattle.fits_plane.specs.declared.pixel_summary.PixelSummary.{PixelSummary}
-use Rattle.fits_plane.specs.declared.word_summary.WordSummary.{WordSummary}
-use Rattle.fits_plane.specs.declared.both.Both.{Both}
-use Rattle.fits_plane.specs.declared.layout.Layout.{Layout}
+use Rattle.fits_pixels.specs.declared.pixel_summary.PixelSummary.{PixelSummary}
+use Rattle.fits_pixels.specs.declared.word_summary.WordSummary.{WordSummary}
+use Rattle.fits_pixels.specs.declared.both.Both.{Both}
+use Rattle.fits_pixels.specs.declared.layout.Layout.{Layout}
+use Rattle.fits_pixels.specs.Pixels.{pixel, IsWidth, IsStorable}
+use Rattle.fits_pixels.specs.Layout.{IsLayout, block_count, block_pixels}
+use Rattle.fits_pixels.specs.Block.{leaf_of}
+use Rattle.fits_pixels.proofs.PixelLemmas.{by_width}
+use Rattle.fits_pixels.proofs.LayoutLemmas.{block_pixels_some}
 use Rattle.fits_plane.specs.declared.lent_paint.LentPaint.{LentPaint}
 use Rattle.fits_plane.specs.declared.lent_paint.LentPaint.TheVariants.{Fill, Write}
 use Rattle.fits_plane.specs.declared.painting.Painting.{Painting}
 use Rattle.fits_plane.specs.Paint.{HasValues}
 use Rattle.fits_plane.specs.Painting.{number_of}
-use Rattle.fits_plane.specs.Pixels.{pixel, IsWidth, IsStorable}
-use Rattle.fits_plane.specs.Layout.{IsLayout, block_count, block_pixels}
-use Rattle.fits_plane.specs.Leaves.{leaf_unit, leaf_of, IsBlockTree, IsBlockTreeBut}
+use Rattle.fits_plane.specs.Leaves.{leaf_unit, IsBlockTree, IsBlockTreeBut}
 use Rattle.fits_plane.specs.ShortRows.{IsKept, IsKeptBut, CanPaint, RowWritten}
-use Rattle.fits_plane.proofs.PixelLemmas.{by_width}
 use Rattle.fits_plane.proofs.PlaneLemmas.{layout_stays}
 use Rattle.fits_plane.proofs.JoinLemmas.{tree_begun}
-use Rattle.fits_plane.proofs.LeafLemmas.{block_pixels_some}
 use Rattle.fits_plane.proofs.PartLemmas.{leaf-same}
 use Rattle.fits_plane.proofs.TreeLemmas.{leaves_used}
 use Rattle.fits_plane.proofs.WriteLemmas.{pixel_away}

@@ -1,9 +1,9 @@
 -- Bytes of a data unit that were looked at, and not changed.
 use Rattle.std.proofs.Common.{◌≡◌, ◌+◌, ℕ, ap, arith, subst, sym, ◌∙◌}
-use Rattle.fits_plane.specs.declared.layout.Layout.{Layout}
+use Rattle.fits_pixels.specs.declared.layout.Layout.{Layout}
+use Rattle.fits_pixels.specs.Layout.{IsLayout}
+use Rattle.fits_pixels.specs.Block.{leaf_of}
 use Rattle.fits_plane.specs.DataBytes.{DataState, IsScanned}
-use Rattle.fits_plane.specs.Layout.{IsLayout}
-use Rattle.fits_plane.specs.Leaves.{leaf_of}
 
 -- they are the same bytes
 pub same_bytes : (old new : DataState) → IsScanned old new → new.bytes ≡ old.bytes

@@ -4,7 +4,8 @@ use Rattle.std.proofs.lemmas.List.{drop-drop, drop_more, take_all, take-append-d
 use Rattle.std.proofs.Math.Seq.{take-add}
 use Rattle.std.proofs.Math.Nat.{pow-suc, one-le-pow, mul-le-mul_left}
 use Rattle.std.specs.Prelude.{replicate}
-use Rattle.fits_plane.specs.Summary.{SummaryLaws, all_joined}
+use Rattle.fits_pixels.specs.Summary.{SummaryLaws, all_joined}
+use Rattle.fits_pixels.proofs.StatisticsLemmas.{next, all_joined-append}
 use Rattle.fits_plane.specs.Tree.{IsTree}
 
 -- as many leaves are in use as a tree is seen to have
@@ -16,10 +17,6 @@ products : (i m w : ℕ) → w ≡ m * 2 → (i * w ≡ 2 * i * m) × ((i + 1) *
 products i m w e = rw e (omega arith, omega arith, omega arith, omega arith)
 
 module _ {S : Type 0} {unit : S} {join : S → S → S} {fits : S → Type 0} (laws : SummaryLaws unit join fits) where
-  pub all_joined-append : (xs ys : List S) → fits (all_joined unit join ys) → all_joined unit join (xs ++ ys) ≡ join (all_joined unit join xs) (all_joined unit join ys)
-  all_joined-append [] ys f = sym (laws.left_unit (all_joined unit join ys) f)
-  all_joined-append (x ∷ xs) ys f = ap (join x) (all_joined-append xs ys f) ∙ sym (laws.assoc x (all_joined unit join xs) (all_joined unit join ys))
-
   -- a node is the total of the leaves below it
   pub node_total : (h i n : ℕ) (nodes : List S) → IsTree unit join fits n nodes → 1 ≤ i → n ≤ i * 2 ^ h → (i + 1) * 2 ^ h ≤ 2 * n → get_or nodes i unit ≡ all_joined unit join (take (2 ^ h) (drop (i * 2 ^ h) nodes))
   node_total zero i n nodes t p low high =
@@ -43,7 +40,7 @@ module _ {S : Type 0} {unit : S} {join : S → S → S} {fits : S → Type 0} (l
       ∙ take-add m m (drop (2 * i * m) nodes) ∙ ap (λ ys. take m (drop (2 * i * m) nodes) ++ take m ys) next in
       let fit_right : fits (all_joined unit join (take m (drop ((2 * i + 1) * m) nodes))) = subst fits right (t.fit (2 * i + 1) (omega arith)) in
       t.joined i p below ∙ ap (λ x. join x (get_or nodes (2 * i + 1) unit)) left ∙ ap (join (all_joined unit join (take m (drop (2 * i * m) nodes)))) right
-      ∙ sym (all_joined-append (take m (drop (2 * i * m) nodes)) (take m (drop ((2 * i + 1) * m) nodes)) fit_right) ∙ ap (all_joined unit join) (sym whole)
+      ∙ sym (all_joined-append laws (take m (drop (2 * i * m) nodes)) (take m (drop ((2 * i + 1) * m) nodes)) fit_right) ∙ ap (all_joined unit join) (sym whole)
 
   pub root_total : (d n : ℕ) (nodes : List S) → IsTree unit join fits n nodes → n ≡ 2 ^ d → get_or nodes 1 unit ≡ all_joined unit join (drop n nodes)
   root_total d n nodes t e =
@@ -60,7 +57,7 @@ module _ {S : Type 0} {unit : S} {join : S → S → S} {fits : S → Type 0} (l
 
   pub all_joined-padded : (xs : List S) (k : ℕ) → fits (all_joined unit join xs) → all_joined unit join (xs ++ replicate k unit) ≡ all_joined unit join xs
   all_joined-padded xs k f =
-      all_joined-append xs (replicate k unit) (subst fits (sym (all_joined-units k)) laws.unit_fits)
+      all_joined-append laws xs (replicate k unit) (subst fits (sym (all_joined-units k)) laws.unit_fits)
       ∙ ap (join (all_joined unit join xs)) (all_joined-units k) ∙ laws.right_unit _ f
 
   -- each value fits

@@ -3,10 +3,10 @@ use Rattle.std.proofs.Common.{◌≡◌, ◌≢◌, ◌<◌, ◌≤◌, ℕ, ◌
 use Rattle.std.proofs.lemmas.Bool.{cases_lt, cases_eq}
 use Rattle.std.proofs.lemmas.List.{length-take, length-drop, get_or-take, get_or-drop}
 use Rattle.std.proofs.Math.Nat.{mul-le-mul_right, mul-le-mul_left, le-div_iff_mul-le, div-lt_iff_lt-mul}
-use Rattle.fits_plane.specs.Pixels.{pixel, IsWidth}
+use Rattle.fits_pixels.specs.Pixels.{pixel, IsWidth}
+use Rattle.fits_pixels.proofs.PixelLemmas.{pixel-same, width_range}
 use Rattle.fits_plane.specs.Rectangle.{product, place, row_size, row_count, IsRectangle, is_inside, IsWritten}
 use Rattle.fits_plane.specs.ShortRows.{RowWritten}
-use Rattle.fits_plane.proofs.PixelLemmas.{pixel-same, width_range}
 use Rattle.fits_plane.proofs.PlaceLemmas.{number, place-number, number-lt-size, rank-number}
 use Rattle.fits_plane.proofs.RowLemmas.{Row, row_of, in_row, rectangle_size-rows}
 

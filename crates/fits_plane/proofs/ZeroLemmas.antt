@@ -3,15 +3,14 @@ use Rattle.std.proofs.Common.{◌≡◌, ◌<◌, ◌≤◌, ℕ, zero, suc, ◌
 use Rattle.std.proofs.Math.Nat.{le-div_iff_mul-le}
 use Rattle.std.proofs.lemmas.List.{drop-replicate, take-replicate}
 use Rattle.fits_sum.specs.Words.{word_total}
-use Rattle.fits_plane.specs.declared.layout.Layout.{Layout}
-use Rattle.fits_plane.specs.Statistics.{statistics}
-use Rattle.fits_plane.specs.SummaryLaws.{same_both}
-use Rattle.fits_plane.specs.Pixels.{pixel, pixels}
-use Rattle.fits_plane.specs.Layout.{block_pixels}
-use Rattle.fits_plane.specs.Work.{held}
-use Rattle.fits_plane.specs.Leaves.{block_of, leaf_of}
-use Rattle.fits_plane.proofs.LeafLemmas.{word_leaf}
-use Rattle.fits_plane.proofs.PixelLemmas.{pixel-same, pixels-same}
+use Rattle.fits_pixels.specs.declared.layout.Layout.{Layout}
+use Rattle.fits_pixels.specs.Statistics.{statistics}
+use Rattle.fits_pixels.specs.SummaryLaws.{same_both}
+use Rattle.fits_pixels.specs.Pixels.{pixel, pixels}
+use Rattle.fits_pixels.specs.Layout.{block_pixels}
+use Rattle.fits_pixels.specs.Block.{held, block_of, leaf_of}
+use Rattle.fits_pixels.proofs.StatisticsLemmas.{word_leaf}
+use Rattle.fits_pixels.proofs.PixelLemmas.{pixel-same, pixels-same}
 
 -- each byte of zeros, and each past them
 pub zero_byte : (n i : ℕ) → slice_index (replicate n 0) i ≡ 0

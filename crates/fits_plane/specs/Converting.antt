@@ -1,7 +1,7 @@
 -- Pixels stored anew, at another width and with another offset (FITS Standard 4.0, 3.3.2 and 4.4.2.5; own).
 use Rattle.std.specs.List.{flat_map, list_all}
 use Rattle.std.specs.Prelude.{All, Bool, IsTrue, List, None, Option, Some, if◌then◌else◌, length, map, pos, replicate, slice_index, slice_index_or, true, ℕ, ℤ, ◌*◌, ◌++◌, ◌+ℤ◌, ◌-ℤ◌, ◌-◌, ◌<◌, ◌↔◌, ◌≡◌, ◌≤◌}
-use Rattle.fits_plane.specs.Pixels.{IsStorable, IsWidth, can_store, pixel, pixels, stored_bytes}
+use Rattle.fits_pixels.specs.Pixels.{IsStorable, IsWidth, can_store, pixel, pixels, stored_bytes}
 
 -- the first n stored numbers, each with the shift: the old offset less the new one
 abbrev pub kept_numbers : ℕ → List ℕ → ℕ → ℤ → List ℤ

@@ -1,10 +1,10 @@
 -- A summary of which a part went and another came in its place (own).
 use Rattle.std.specs.Prelude.{◌≡◌, ℕ, ◌+◌, ◌-◌, ◌%◌, ◌^◌, ℤ, ◌-ℤ◌}
 use Rattle.std.specs.Int.{int_wrap, w128}
-use Rattle.fits_plane.specs.declared.pixel_summary.PixelSummary.{PixelSummary}
-use Rattle.fits_plane.specs.declared.word_summary.WordSummary.{WordSummary}
-use Rattle.fits_plane.specs.declared.both.Both.{Both}
-use Rattle.fits_plane.specs.Summary.{pixels_joined, words_joined, halves_joined}
+use Rattle.fits_pixels.specs.declared.pixel_summary.PixelSummary.{PixelSummary}
+use Rattle.fits_pixels.specs.declared.word_summary.WordSummary.{WordSummary}
+use Rattle.fits_pixels.specs.declared.both.Both.{Both}
+use Rattle.fits_pixels.specs.Summary.{pixels_joined, words_joined, halves_joined}
 
 -- one number of 64 bits less another, with a borrow left out
 abbrev pub taken : ℕ → ℕ → ℕ

@@ -1,6 +1,6 @@
 -- What the pixels of a rectangle are given: values, each a stored number and the offset (FITS Standard 4.0, 4.4.2.5; own).
 use Rattle.std.specs.Prelude.{◌≤◌, ◌==◌, ◌-ℤ◌, ℕ, ℤ, pos, Bool, true, length, slice_index_or}
-use Rattle.fits_plane.specs.Pixels.{can_store, can_store_all}
+use Rattle.fits_pixels.specs.Pixels.{can_store, can_store_all}
 use Rattle.fits_plane.specs.declared.lent_paint.LentPaint.{LentPaint}
 use Rattle.fits_plane.specs.declared.lent_paint.LentPaint.TheVariants.{Fill, Write}
 

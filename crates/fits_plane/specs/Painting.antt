@@ -1,11 +1,11 @@
 -- A rectangle of pixels with what they are given (own).
 use Rattle.std.specs.Prelude.{◌≡◌, ◌<◌, ℕ, ℤ, Bool, true}
-use Rattle.fits_plane.specs.declared.layout.Layout.{Layout}
+use Rattle.fits_pixels.specs.declared.layout.Layout.{Layout}
+use Rattle.fits_pixels.specs.Layout.{block_pixels}
+use Rattle.fits_pixels.specs.Pixels.{IsStorable, IsWidth}
 use Rattle.fits_plane.specs.declared.painting.Painting.{Painting}
 use Rattle.fits_plane.specs.DataBytes.{DataState}
-use Rattle.fits_plane.specs.Layout.{block_pixels}
 use Rattle.fits_plane.specs.Paint.{has_count, painted_number}
-use Rattle.fits_plane.specs.Pixels.{IsStorable, IsWidth}
 use Rattle.fits_plane.specs.Plane.{PlaneState, IsPainted}
 use Rattle.fits_plane.specs.Rectangle.{product, rectangle_size, IsRectangle}
 use Rattle.fits_plane.specs.Work.{is_touched}

@@ -1,12 +1,12 @@
 -- Parts of a data unit, by groups of eight bytes: each holds whole pixels and whole words (own).
 use Rattle.std.specs.Prelude.{◌≡◌, ◌≤◌, ◌<◌, ◌⊎◌, ℕ, ◌-◌, ◌*◌, ◌/◌, List, length, slice_index, take, drop, min}
-use Rattle.fits_plane.specs.declared.pixel_summary.PixelSummary.{PixelSummary}
-use Rattle.fits_plane.specs.declared.word_summary.WordSummary.{WordSummary}
-use Rattle.fits_plane.specs.declared.both.Both.{Both}
-use Rattle.fits_plane.specs.declared.layout.Layout.{Layout}
-use Rattle.fits_plane.specs.Summary.{side_by_side}
-use Rattle.fits_plane.specs.Statistics.{statistics}
-use Rattle.fits_plane.specs.Pixels.{pixels}
+use Rattle.fits_pixels.specs.declared.pixel_summary.PixelSummary.{PixelSummary}
+use Rattle.fits_pixels.specs.declared.word_summary.WordSummary.{WordSummary}
+use Rattle.fits_pixels.specs.declared.both.Both.{Both}
+use Rattle.fits_pixels.specs.declared.layout.Layout.{Layout}
+use Rattle.fits_pixels.specs.Summary.{side_by_side}
+use Rattle.fits_pixels.specs.Statistics.{statistics}
+use Rattle.fits_pixels.specs.Pixels.{pixels}
 use Rattle.fits_sum.specs.Words.{word_total}
 
 -- how many pixels of so many bytes a group of eight bytes has

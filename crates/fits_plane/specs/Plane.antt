@@ -1,9 +1,9 @@
 -- What a data unit is to its callers.
 use Rattle.std.specs.Prelude.{◌≡◌, ◌≤◌, ◌+◌, ◌*◌, ◌^◌, ℕ, ℤ, List}
-use Rattle.fits_plane.specs.Layout.{block_count}
+use Rattle.fits_pixels.specs.Layout.{block_count}
+use Rattle.fits_pixels.specs.declared.layout.Layout.{Layout}
 use Rattle.fits_plane.specs.Rectangle.{rectangle_written}
 use Rattle.fits_plane.specs.Work.{rectangle_blocks}
-use Rattle.fits_plane.specs.declared.layout.Layout.{Layout}
 
 -- its bytes with a layout, and how many blocks were scanned, pixels read and nodes joined so far
 pub record PlaneState : Type 0 where

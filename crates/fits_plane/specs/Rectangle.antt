@@ -1,7 +1,7 @@
 -- Rectangles of pixels; the first axis varies fastest (FITS Standard 4.0, 3.3.2; own).
 use Rattle.std.specs.Prelude.{◌≡◌, ◌≢◌, ◌<◌, ◌≤◌, ◌↔◌, ℕ, ◌+◌, ◌-◌, ◌*◌, ◌/◌, ◌%◌, Bool, true, false, IsTrue, ◌&&◌, nat_le, nat_lt, List, [], ◌∷◌, length, map, filter, count_by, slice_index, ℤ, ◌+ℤ◌, All, if◌then◌else◌}
 use Rattle.std.specs.List.{range_with_len}
-use Rattle.fits_plane.specs.Pixels.{pixel, stored_bytes, IsWidth, IsStorable}
+use Rattle.fits_pixels.specs.Pixels.{pixel, stored_bytes, IsWidth, IsStorable}
 
 -- how many pixels the axes span
 abbrev pub product : List ℕ → ℕ

@@ -1,15 +1,15 @@
 -- A data unit that is painted run by run, with what is kept of its blocks (own).
 use Rattle.std.specs.Prelude.{◌≡◌, ◌≤◌, ◌<◌, ◌⊎◌, ℕ, ◌+◌, ◌*◌, ◌^◌, ℤ, List, drop, get_or, length, slice_index}
-use Rattle.fits_plane.specs.declared.pixel_summary.PixelSummary.{PixelSummary}
-use Rattle.fits_plane.specs.declared.word_summary.WordSummary.{WordSummary}
-use Rattle.fits_plane.specs.declared.both.Both.{Both}
-use Rattle.fits_plane.specs.declared.layout.Layout.{Layout}
+use Rattle.fits_pixels.specs.declared.pixel_summary.PixelSummary.{PixelSummary}
+use Rattle.fits_pixels.specs.declared.word_summary.WordSummary.{WordSummary}
+use Rattle.fits_pixels.specs.declared.both.Both.{Both}
+use Rattle.fits_pixels.specs.declared.layout.Layout.{Layout}
+use Rattle.fits_pixels.specs.Layout.{IsLayout, block_count}
+use Rattle.fits_pixels.specs.Pixels.{pixel, IsStorable}
 use Rattle.fits_plane.specs.declared.painting.Painting.{Painting}
-use Rattle.fits_plane.specs.Layout.{IsLayout, block_count}
 use Rattle.fits_plane.specs.Leaves.{leaf_unit, AreLeaves, IsLeaf, IsBlockTreeBut}
 use Rattle.fits_plane.specs.Paint.{HasValues}
 use Rattle.fits_plane.specs.Painting.{number_of}
-use Rattle.fits_plane.specs.Pixels.{pixel, IsStorable}
 
 -- the leaves are those of the bytes, which the layout fits
 pub record IsKept (layout : Layout) (bytes : List ℕ) (leaves : List (Both PixelSummary WordSummary)) : Type 0 where

@@ -1,13 +1,10 @@
 -- Which blocks an edit of a rectangle has to scan (own).
-use Rattle.std.specs.Prelude.{ℕ, ◌-◌, ◌*◌, Bool, List, count_by, min}
+use Rattle.std.specs.Prelude.{ℕ, ◌*◌, Bool, List, count_by}
 use Rattle.std.specs.List.{range_with_len, list_any}
-use Rattle.fits_plane.specs.declared.layout.Layout.{Layout}
-use Rattle.fits_plane.specs.Layout.{block_pixels, block_count}
+use Rattle.fits_pixels.specs.declared.layout.Layout.{Layout}
+use Rattle.fits_pixels.specs.Layout.{block_pixels, block_count}
+use Rattle.fits_pixels.specs.Block.{held}
 use Rattle.fits_plane.specs.Rectangle.{is_inside}
-
--- how many of n pixels block k holds, where a whole block holds `per`
-abbrev pub held : ℕ → ℕ → ℕ → ℕ
-held per n k = min per (n - k * per)
 
 -- does block k hold a pixel of the rectangle?
 abbrev pub is_touched : List ℕ → List ℕ → List ℕ → ℕ → ℕ → ℕ → Bool

@@ -4,21 +4,17 @@
 //! are kept. So its pixels are stored without a test, and those of the last block, where it isn't
 //! kept whole, are tested one by one.
 ghost use Rattle.std.specs.Prelude.{◌≡◌, ◌≤◌, ◌<◌, ◌*◌, ◌+◌, ◌+ℤ◌, ◌%◌, ◌^◌, ◌⊎◌, ◌↔◌, ℕ, ℤ, pos, List, IsTrue, IfSome, length, slice_index, slice_index_or, unsigned_abs};
+ghost use Rattle.fits_pixels.specs.Layout.{block_pixels};
+ghost use Rattle.fits_pixels.specs.Pixels.{pixel, IsWidth, IsStorable};
+ghost use Rattle.fits_pixels.specs.Statistics.{statistics};
 ghost use Rattle.fits_plane.specs.DataBytes.{IsRead};
-ghost use Rattle.fits_plane.specs.Layout.{block_pixels};
-ghost use Rattle.fits_plane.specs.Pixels.{pixel, IsWidth, IsStorable};
 ghost use Rattle.fits_plane.specs.ShortRows.{IsKept};
-ghost use Rattle.fits_plane.specs.Statistics.{statistics};
 
 use crate::data_bytes::DataBytes;
-use crate::layout::Layout;
 use crate::pixel_reads::value_of;
-use crate::pixel_summary::PixelSummary;
 use crate::pixel_writer::PixelWriter;
-use crate::pixels::is_storable;
-use crate::scan::{Leaf, pixels_per_block};
 use crate::tree::Tree;
-use crate::width::Width;
+use fits_pixels::{Layout, Leaf, PixelSummary, Width, is_storable, pixels_per_block};
 
 /// Whether pixels of so many bytes can store a number with the shift, where there is one.
 fn has_room(number: Option<i64>, width: usize, shift: i128) -> bool

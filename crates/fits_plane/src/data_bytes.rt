@@ -1,17 +1,14 @@
 ghost use Rattle.std.specs.Prelude.{◌≡◌, ◌≤◌, ◌<◌, ◌*◌, ◌+◌, ◌+ℤ◌, ◌^◌, ℕ, length, slice_index, unsigned_abs};
-ghost use Rattle.fits_plane.specs.Layout.{block_count};
-ghost use Rattle.fits_plane.specs.Pixels.{pixel, IsStorable};
+ghost use Rattle.fits_pixels.specs.Layout.{block_count};
+ghost use Rattle.fits_pixels.specs.Pixels.{pixel, IsStorable};
 
-use crate::layout::Layout;
 use crate::painting::Painting;
 use crate::pixel_reads::value_of;
 use crate::pixel_writer::PixelWriter;
-use crate::pixels::{pixel_at, read_bytes};
-use crate::scan::{Leaf, scan_block};
 use crate::tree::Tree;
-use crate::width::Width;
 use crate::{parts, pixel_writes};
 use fits_card::BLOCK_LEN;
+use fits_pixels::{Layout, Leaf, Width, pixel_at, read_bytes, scan_block};
 use fits_stream::{Count, Sink, write_all};
 use fits_sum::all_are;
 use std::io;
@@ -44,10 +41,11 @@ impl Model for DataBytes {
 impl DataBytes {
     ghost use Rattle.std.specs.Prelude.{◌≡◌, ◌≤◌, ◌<◌, ◌*◌, ◌+◌, ◌+ℤ◌, ◌^◌, ◌↔◌, ℕ, true, drop, length, slice_index, unsigned_abs, All, IsTrue, OnOk, OnErr};
     ghost use Rattle.fits_stream.specs.Stream.{Prints, PrintsFront};
-    ghost use Rattle.fits_plane.specs.Layout.{IsLayout, block_count, block_pixels};
-    ghost use Rattle.fits_plane.specs.Leaves.{leaf_of, AreLeaves};
+    ghost use Rattle.fits_pixels.specs.Layout.{IsLayout, block_count, block_pixels};
+    ghost use Rattle.fits_pixels.specs.Block.{leaf_of};
+    ghost use Rattle.fits_pixels.specs.Pixels.{pixel, IsStorable, IsWidth};
+    ghost use Rattle.fits_plane.specs.Leaves.{AreLeaves};
     ghost use Rattle.fits_plane.specs.Painting.{number_of, Suits};
-    ghost use Rattle.fits_plane.specs.Pixels.{pixel, IsStorable, IsWidth};
     ghost use Rattle.fits_plane.specs.Rectangle.{IsWritten};
     ghost use Rattle.fits_plane.specs.ShortRows.{CanPaint, RowWritten};
 

@@ -1,13 +1,9 @@
 //! A summary of which a part went and another came in its place, made without a look at the rest.
 ghost use Rattle.std.specs.Prelude.{◌≡◌, ℤ, Option, IsTrue, IfSome};
-ghost use Rattle.fits_plane.specs.Summary.{lesser, greater};
+ghost use Rattle.fits_pixels.specs.Summary.{lesser, greater};
 ghost use Rattle.fits_plane.specs.Exchange.{pixels_without, words_without, IsExchanged};
 
-use crate::both::Both;
-use crate::pixel_summary::PixelSummary;
-use crate::scan::Leaf;
-use crate::summary::Summary;
-use crate::word_summary::WordSummary;
+use fits_pixels::{Both, Leaf, PixelSummary, Summary, WordSummary};
 
 /// Whether the least number is known once some went and others came: it is, unless it went itself
 /// and none that came is as low.

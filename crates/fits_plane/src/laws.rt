@@ -1,9 +1,9 @@
 //! What stands of rectangles and of runs whatever is written, of tests whatever they are of, and of
 //! summaries whatever they are joined from, as contracts.
+ghost use Rattle.fits_pixels.specs.Pixels.{CanStoreDecides, CanStoreAllDecides};
+ghost use Rattle.fits_pixels.specs.Statistics.{JoinedIsExact, OffsetIsExact};
 ghost use Rattle.fits_plane.specs.Converting.{CanStoreRunDecides, ConvertingKeepsValues, RunIsWritten, WrittenIsRun};
-ghost use Rattle.fits_plane.specs.Pixels.{CanStoreDecides, CanStoreAllDecides};
 ghost use Rattle.fits_plane.specs.Rectangle.{LiesWithinDecides, RectangleIsWritten, WrittenIsRectangle};
-ghost use Rattle.fits_plane.specs.Statistics.{JoinedIsExact, OffsetIsExact};
 
 /// A rectangle of numbers is written.
 pub fn rectangles_are_written()

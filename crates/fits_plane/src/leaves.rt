@@ -1,23 +1,22 @@
 //! The leaves of a data unit's tree: its blocks, each scanned once.
 ghost use Rattle.std.specs.Prelude.{◌≡◌, ◌≤◌, ◌<◌, ◌*◌, ◌+◌, ◌-◌, ◌/◌, ◌^◌, ◌⊎◌, ℕ, false, drop, length, max, replicate, slice_index_or, IfOk, OnOk};
 ghost use Rattle.fits_sum.specs.Words.{word_total};
-ghost use Rattle.fits_plane.specs.Summary.{PixelFits, WordFits, HalvesFit};
-ghost use Rattle.fits_plane.specs.Statistics.{statistics};
+ghost use Rattle.fits_pixels.specs.Summary.{PixelFits, WordFits, HalvesFit};
+ghost use Rattle.fits_pixels.specs.Statistics.{statistics};
+ghost use Rattle.fits_pixels.specs.Pixels.{pixels};
+ghost use Rattle.fits_pixels.specs.Layout.{IsLayout, block_count, block_pixels};
 ghost use Rattle.fits_plane.specs.Painting.{touches, Suits};
-ghost use Rattle.fits_plane.specs.Pixels.{pixels};
 ghost use Rattle.fits_plane.specs.DataBytes.{IsScanned};
-ghost use Rattle.fits_plane.specs.Layout.{IsLayout, block_count, block_pixels};
 ghost use Rattle.fits_plane.specs.Tree.{most_above, nodes_left, IsLeastPower};
 ghost use Rattle.fits_plane.specs.Work.{rectangle_blocks};
 ghost use Rattle.fits_plane.specs.Leaves.{leaf_unit, IsLeaf, AreLeaves, IsBlockTree, IsBlockTreeBut};
 
 use crate::data_bytes::DataBytes;
-use crate::layout::Layout;
 use crate::nodes::{climb, write_leaf};
 use crate::painting::Painting;
 use crate::rectangle::{row_len, row_start, rows};
-use crate::scan::{Leaf, pixels_per_block};
 use crate::tree::Tree;
+use fits_pixels::{Layout, Leaf, pixels_per_block};
 use fits_stream::Count;
 use std::alloc::{AllocError, Global};
 

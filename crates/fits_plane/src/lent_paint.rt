@@ -1,9 +1,9 @@
 ghost use Rattle.std.specs.Prelude.{◌≡◌, ◌<◌, ℕ, true, IsTrue};
+ghost use Rattle.fits_pixels.specs.Pixels.{IsWidth, IsStorable};
 ghost use Rattle.fits_plane.specs.Paint.{can_store_paint, has_count, painted_number};
-ghost use Rattle.fits_plane.specs.Pixels.{IsWidth, IsStorable};
 
-use crate::pixels::{are_storable, stores};
 use crate::values::Values;
+use fits_pixels::{are_storable, stores};
 
 /// What the pixels of a rectangle are given.
 #[derive(Drop)]

@@ -1,66 +1,29 @@
-//! Data units of integer images: pixels and sums, with statistics that stand under edits.
+//! The bytes of a data unit of integers: pixels and sums, with statistics that stand under edits.
 #![tactic(auto)]
 
-mod absent;
-mod again;
-mod both;
 mod converting;
 mod data_bytes;
-mod data_unit;
 mod exchange;
-mod extremes;
-mod filling;
-mod halves;
 pub mod laws;
-mod layout;
 mod leaves;
 mod lent_paint;
-mod long_halves;
 mod nodes;
 mod painting;
 mod parts;
-mod passed_unit;
-mod passes;
-mod passing_unit;
 mod pixel_reads;
-mod pixel_summary;
 mod pixel_writer;
 mod pixel_writes;
-mod pixels;
-mod pixels_16;
-mod pixels_32;
-mod pixels_64;
-mod pixels_8;
 mod plane;
 mod plane_room;
 mod rectangle;
-mod scan;
-mod scan_end;
 mod short_rows;
-mod signed;
-mod signed_pixel;
-mod summary;
 mod tree;
-mod value_summary;
 mod values;
-mod width;
-mod word_summary;
 
-pub use again::{CopyFault, LoadFault};
-pub use both::Both;
-pub use data_unit::DataUnit;
-pub use layout::Layout;
 pub use lent_paint::LentPaint;
 pub use painting::Painting;
-pub use passed_unit::PassedUnit;
-pub use passing_unit::PassingUnit;
-pub use pixel_summary::PixelSummary;
-pub use pixels::{are_storable, is_storable};
 pub use plane::Plane;
 pub use plane_room::PlaneRoom;
 pub use rectangle::{is_rectangle, rectangle_len};
-pub use summary::Summary;
 pub use tree::Tree;
-pub use value_summary::ValueSummary;
 pub use values::Values;
-pub use word_summary::WordSummary;

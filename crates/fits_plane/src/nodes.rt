@@ -2,7 +2,7 @@
 ghost use Rattle.std.specs.Prelude.{◌≡◌, ◌≤◌, ◌<◌, ◌*◌, ◌+◌, ◌-◌, ◌^◌, ◌⊎◌, ℕ, drop, take, length, slice_set, slice_index_or, IfOk, IfSome, replicate};
 ghost use Rattle.fits_plane.specs.Tree.{IsTree, IsTreeBut, IsLeastPower, most_above, nodes_left};
 
-use crate::summary::Summary;
+use fits_pixels::Summary;
 use fits_stream::Count;
 use std::alloc::{AllocError, Global};
 

@@ -3,11 +3,10 @@ ghost use Rattle.fits_plane.specs.Painting.{plane_by, Paints, Suits};
 ghost use Rattle.fits_plane.specs.ShortRows.{IsKept};
 
 use crate::data_bytes::DataBytes;
-use crate::layout::Layout;
 use crate::lent_paint::LentPaint;
 use crate::rectangle::row_len;
-use crate::scan::{Leaf, pixels_per_block};
 use crate::tree::Tree;
+use fits_pixels::{Layout, Leaf, pixels_per_block};
 
 /// A rectangle of pixels with what they are given: the values of a paint, each less the offset.
 ///

@@ -1,19 +1,17 @@
 //! A block of which a part is painted: what went of its summary and what came, without a look at the
 //! rest.
 ghost use Rattle.std.specs.Prelude.{◌≡◌, ◌≤◌, ◌<◌, ◌*◌, ◌+◌, ◌-◌, ℕ, List, length, slice_index};
-ghost use Rattle.fits_plane.specs.Pixels.{IsWidth};
-ghost use Rattle.fits_plane.specs.Layout.{IsLayout, block_pixels};
-ghost use Rattle.fits_plane.specs.Leaves.{leaf_of};
+ghost use Rattle.fits_pixels.specs.Pixels.{IsWidth};
+ghost use Rattle.fits_pixels.specs.Layout.{IsLayout, block_pixels};
+ghost use Rattle.fits_pixels.specs.Block.{leaf_of};
 ghost use Rattle.fits_plane.specs.Painting.{number_of};
 ghost use Rattle.fits_plane.specs.Parts.{part_of, AreGroupsChanged};
 ghost use Rattle.fits_plane.specs.ShortRows.{CanPaint, RowWritten};
 
 use crate::exchange::exchanged;
-use crate::layout::Layout;
 use crate::painting::Painting;
 use crate::pixel_writes::paint_row;
-use crate::pixels::read_bytes;
-use crate::scan::{Leaf, scan_block, scan_part};
+use fits_pixels::{Layout, Leaf, read_bytes, scan_block, scan_part};
 
 /// Scans a part of a block, by groups of eight bytes.
 fn scan_groups(bytes: &[u8], layout: Layout, from: usize, to: usize) -> Leaf

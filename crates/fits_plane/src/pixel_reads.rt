@@ -1,7 +1,7 @@
 //! Rectangles of pixels, read from the bytes of a data unit.
 ghost use Rattle.std.specs.Prelude.{◌≡◌, ◌≤◌, ◌<◌, ◌*◌, ◌+◌, ◌+ℤ◌, ◌^◌, ◌++◌, [], ◌∷◌, length, map, unsigned_abs, vec_len, vec_capacity};
 ghost use Rattle.std.specs.List.{range_with_len};
-ghost use Rattle.fits_plane.specs.Pixels.{IsWidth};
+ghost use Rattle.fits_pixels.specs.Pixels.{IsWidth};
 ghost use Rattle.fits_plane.specs.Rectangle.{IsRectangle, product, rectangle_size, value_at, rectangle_values};
 
 use crate::data_bytes::DataBytes;

@@ -1,7 +1,6 @@
 ghost use Rattle.std.specs.Prelude.{◌≡◌, ◌≤◌, ◌*◌, ◌+◌};
 
-use crate::pixels::put_pixel;
-use crate::width::Width;
+use fits_pixels::{Width, put_pixel};
 
 /// Bytes of pixels that can be written, and not read.
 ///
@@ -14,7 +13,7 @@ pub(crate) struct PixelWriter<'a> {
 
 impl<'a> PixelWriter<'a> {
     ghost use Rattle.std.specs.Prelude.{◌≡◌, ◌≤◌, ◌<◌, ◌*◌, ◌+◌, ◌⊎◌, ℕ, length, slice_index};
-    ghost use Rattle.fits_plane.specs.Pixels.{pixel, IsStorable, IsWidth};
+    ghost use Rattle.fits_pixels.specs.Pixels.{pixel, IsStorable, IsWidth};
 
     pub(crate) fn new(bytes: &'a mut [u8]) -> PixelWriter<'a>
         ensures same_reference { result.bytes.ghost_name ≡ bytes.entry.ghost_name }

@@ -1,17 +1,17 @@
 //! Rectangles of pixels, painted in the bytes of a data unit.
 ghost use Rattle.std.specs.Prelude.{◌≡◌, ◌≤◌, ◌<◌, ◌*◌, ◌+◌, ◌-ℤ◌, ◌⊎◌, ℕ, pos, length, slice_index, slice_index_or, FitsSigned};
 ghost use Rattle.std.specs.Int.{w64};
-ghost use Rattle.fits_plane.specs.Layout.{IsLayout};
+ghost use Rattle.fits_pixels.specs.Layout.{IsLayout};
+ghost use Rattle.fits_pixels.specs.Pixels.{pixel, IsWidth, IsStorable};
 ghost use Rattle.fits_plane.specs.Painting.{number_of, Suits};
-ghost use Rattle.fits_plane.specs.Pixels.{pixel, IsWidth, IsStorable};
 ghost use Rattle.fits_plane.specs.Rectangle.{IsWritten};
 ghost use Rattle.fits_plane.specs.ShortRows.{CanPaint, RowWritten};
 
-use crate::layout::Layout;
 use crate::lent_paint::LentPaint;
 use crate::painting::Painting;
 use crate::pixel_writer::PixelWriter;
 use crate::rectangle::{row_len, row_start, rows};
+use fits_pixels::Layout;
 
 /// Writes one number over a run of pixels.
 fn fill_row(pixels: &mut PixelWriter<'_>, width: usize, start: usize, count: usize, stored: i64)

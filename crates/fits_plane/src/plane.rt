@@ -2,18 +2,14 @@ ghost use Rattle.std.specs.Prelude.{◌≡◌, replicate, IfOk};
 
 use crate::converting::{convert_run, converts_run};
 use crate::data_bytes::DataBytes;
-use crate::layout::Layout;
 use crate::leaves::{leaves_of, root_of, zero_leaves};
 use crate::painting::{Painting, paint_rectangle};
 use crate::pixel_reads::read_rows;
-use crate::pixel_summary::PixelSummary;
-use crate::pixels::read_bytes;
 use crate::plane_room::PlaneRoom;
 use crate::rectangle::rectangle_len;
-use crate::scan::Leaf;
 use crate::tree::Tree;
-use crate::value_summary::ValueSummary;
 use fits_card::BLOCK_LEN;
+use fits_pixels::{Layout, Leaf, PixelSummary, ValueSummary, read_bytes};
 use fits_stream::{Count, Sink};
 use std::alloc::{AllocError, Global};
 use std::io;
@@ -32,7 +28,7 @@ pub struct Plane {
 
 impl Model for Plane {
     ghost use Rattle.std.specs.Prelude.{◌≡◌, ◌*◌, length};
-    ghost use Rattle.fits_plane.specs.Layout.{IsLayout};
+    ghost use Rattle.fits_pixels.specs.Layout.{IsLayout};
     ghost use Rattle.fits_plane.specs.Leaves.{AreLeaves};
     ghost use Rattle.fits_plane.specs.Plane.{PlaneState};
 
@@ -58,12 +54,12 @@ impl Plane {
     ghost use Rattle.std.specs.Option.{option_map};
     ghost use Rattle.fits_stream.specs.Stream.{Prints, PrintsFront};
     ghost use Rattle.fits_sum.specs.Words.{word_total};
+    ghost use Rattle.fits_pixels.specs.Statistics.{statistics, value_statistics};
+    ghost use Rattle.fits_pixels.specs.Pixels.{pixel, pixels, IsWidth};
+    ghost use Rattle.fits_pixels.specs.Layout.{IsLayout, block_count, block_pixels};
     ghost use Rattle.fits_plane.specs.Converting.{can_store_run, kept_numbers, run_made};
-    ghost use Rattle.fits_plane.specs.Statistics.{statistics, value_statistics};
     ghost use Rattle.fits_plane.specs.Painting.{Paints, Suits};
-    ghost use Rattle.fits_plane.specs.Pixels.{pixel, pixels, IsWidth};
     ghost use Rattle.fits_plane.specs.Rectangle.{IsRectangle, product, rectangle_size, rectangle_values};
-    ghost use Rattle.fits_plane.specs.Layout.{IsLayout, block_count, block_pixels};
 
     /// The data unit of a copy of these bytes.
     pub fn open(alloc: Global, bytes: &[u8], layout: Layout) -> Result<Plane, AllocError>
@@ -123,7 +119,7 @@ impl Plane {
     }
 
     /// What stands for a data unit that isn't in memory: no byte.
-    pub(crate) fn away(alloc: Global) -> Result<Plane, AllocError>
+    pub fn away(alloc: Global) -> Result<Plane, AllocError>
         ensures { IfOk result (λ p. p.bytes ≡ []) }
     {
         let layout = Layout {
@@ -137,7 +133,7 @@ impl Plane {
     }
 
     /// Counts on from the scans of its blocks as they passed by. Each was scanned once since.
-    pub(crate) fn count_on(&mut self, passed: Count)
+    pub fn count_on(&mut self, passed: Count)
         requires { self.old.scans ≡ block_count self.old.bytes }
         ensures { self.new ≡ record self.old { scans = passed.total + self.old.scans } }
     {

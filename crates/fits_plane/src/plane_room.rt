@@ -1,5 +1,5 @@
-use crate::scan::Leaf;
 use crate::tree::Tree;
+use fits_pixels::Leaf;
 use std::alloc::{AllocError, Global};
 use std::marker::Model;
 

@@ -1,21 +1,20 @@
 //! Short rows of a rectangle, painted one by one: what is kept of a row's blocks is made anew from
 //! what the row changed.
 ghost use Rattle.std.specs.Prelude.{◌≡◌, ◌≤◌, ◌<◌, ◌*◌, ◌+◌, ◌-◌, ◌/◌, ◌^◌, ℕ, drop, length, slice_index, slice_index_or};
+ghost use Rattle.fits_pixels.specs.Pixels.{IsWidth};
+ghost use Rattle.fits_pixels.specs.Layout.{block_count, block_pixels};
 ghost use Rattle.fits_plane.specs.Painting.{number_of, plane_by, Paints, Suits};
-ghost use Rattle.fits_plane.specs.Pixels.{IsWidth};
 ghost use Rattle.fits_plane.specs.Rectangle.{row_size};
-ghost use Rattle.fits_plane.specs.Layout.{block_count, block_pixels};
 ghost use Rattle.fits_plane.specs.Leaves.{leaf_unit};
 ghost use Rattle.fits_plane.specs.Tree.{most_above, nodes_left, IsLeastPower};
 ghost use Rattle.fits_plane.specs.ShortRows.{IsKept, IsKeptBut, CanPaint, RowWritten};
 
 use crate::data_bytes::DataBytes;
-use crate::layout::Layout;
 use crate::nodes::{climb, write_leaf};
 use crate::painting::Painting;
 use crate::rectangle::{row_len, row_start, rows};
-use crate::scan::{Leaf, pixels_per_block};
 use crate::tree::Tree;
+use fits_pixels::{Layout, Leaf, pixels_per_block};
 use fits_stream::Count;
 
 /// The leaf of block k.

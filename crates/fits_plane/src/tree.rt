@@ -1,8 +1,8 @@
 ghost use Rattle.std.specs.Prelude.{◌≡◌, ◌≤◌, ◌<◌, ◌*◌, ◌+◌, ◌^◌, ℕ, length, replicate, slice_set, slice_index_or, IfOk, OnOk, OnErr};
-ghost use Rattle.fits_plane.specs.Summary.{all_joined};
+ghost use Rattle.fits_pixels.specs.Summary.{all_joined};
 
 use crate::nodes::{plant_again, plant_tree, power_from, set_leaf, units_of};
-use crate::summary::Summary;
+use fits_pixels::Summary;
 use fits_stream::Count;
 use std::alloc::{AllocError, Global};
 use std::marker::Model;

@@ -11,7 +11,7 @@ use Rattle.fits_rules.specs.Class.{is_primary}
 use Rattle.fits_rules.specs.Shape.{shape_of}
 use Rattle.fits_header.specs.State.{HeaderState}
 use Rattle.fits_passing.specs.ExtensionName.{extension_name}
-use Rattle.fits_plane.specs.DataUnit.{Absence, IsCounted, LiesIn}
+use Rattle.fits_unit.specs.DataUnit.{Absence, IsCounted, LiesIn}
 use Rattle.fits_stream.specs.Intake.{supply, IntakeState}
 use Rattle.fits_stream.specs.Stored.{bytes_from, Lent, ReadLogState}
 use Rattle.fits_stream.specs.Stream.{SourceState}
@@ -25,8 +25,8 @@ use Rattle.fits_stream.specs.Agree.{IsOf}
 use Rattle.fits_stream.specs.Gave.{Gave, GaveAll}
 use Rattle.fits_stream.specs.Log.{unskipped, Grows}
 use Rattle.fits_stream.proofs.GaveLemmas.{gave_fact, gave_of}
-use Rattle.fits_plane.specs.Again.{Follows}
-use Rattle.fits_plane.proofs.AgainLemmas.{again_some, follows_on}
+use Rattle.fits_unit.specs.Again.{Follows}
+use Rattle.fits_unit.proofs.AgainLemmas.{again_some, follows_on}
 use Rattle.fits_passing.specs.declared.read_file_fault.ReadFileFault.TheVariants.{Open, Failed}
 use Rattle.fits_passing.specs.declared.open_fault.OpenFault.TheVariants.{NotFits, NoEnd, BadShape, ShortData, TooLarge, Memory}
 use Rattle.fits_session.specs.Away.{is_passed, parts_passed, AllLie, AreKnownFrom, LoadsAlone, LoadWork, StoredStops}

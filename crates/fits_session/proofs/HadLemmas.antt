@@ -3,10 +3,10 @@ use Rattle.std.proofs.Common.{◌≡◌, ◌<◌, sym, subst, ℕ, List, length,
 use Rattle.fits_stream.specs.Stored.{ReadLogState}
 use Rattle.std.specs.Prelude.{All, Bool, true}
 use Rattle.fits_session.specs.Away.{in_file, Agree, AgreeOn, AllLie, LieStill}
-use Rattle.fits_plane.specs.Again.{Follows}
+use Rattle.fits_unit.specs.Again.{Follows}
 use Rattle.std.proofs.lemmas.List.Elements.{All-set}
 use Rattle.fits_hdu.specs.State.{HduState, ReadsUpTo}
-use Rattle.fits_plane.specs.DataUnit.{LiesIn}
+use Rattle.fits_unit.specs.DataUnit.{LiesIn}
 use Rattle.fits_passing.specs.declared.called.ExtensionName.{ExtensionName}
 use Rattle.fits_session.specs.Session.{unentered, without_entries, HasPixels, HasStats, IsHeld, IsKept, IsReadyFor, IsSoOf}
 use Rattle.fits_edits.specs.Making.{Holding, IsHad, IsReadyTo, StaysHad}

@@ -14,7 +14,7 @@ use Rattle.fits_passing.specs.Work.{open_reads}
 use Rattle.fits_hdu.specs.Work.{plane_work, IsMade}
 use Rattle.fits_image.specs.declared.kind.Kind.{Kind}
 use Rattle.fits_hdu.proofs.NewImageLemmas.{new_is_hdu}
-use Rattle.fits_plane.specs.Layout.{block_count}
+use Rattle.fits_pixels.specs.Layout.{block_count}
 use Rattle.fits_edits.specs.CardEdit.{is_within}
 use Rattle.fits_session.specs.Edit.{hdu_of, with_new_hdu, without_hdu, file_after}
 use Rattle.fits_passing.specs.File.{FileParts, file_bytes, goes_on, joined_hdus, IsFile, IsFileOf, IsFrontOf}

@@ -4,9 +4,9 @@ use Rattle.std.proofs.lemmas.Bool.{cases_lt}
 use Rattle.std.proofs.Math.Seq.{take-append_seam}
 use Rattle.std.proofs.lemmas.List.{append-nil, length-append, take_all, take_more, drop_more, take-append-drop, take-append-le}
 use Rattle.std.proofs.lemmas.List.Concat.{flat_map-append}
-use Rattle.fits_plane.specs.Again.{CopyFails, PrintsLike}
-use Rattle.fits_plane.specs.declared.again.CopyFault.{CopyFault}
-use Rattle.fits_plane.specs.declared.again.CopyFault.TheVariants.{Failed, Changed, Write}
+use Rattle.fits_unit.specs.Again.{CopyFails, PrintsLike}
+use Rattle.fits_unit.specs.declared.again.CopyFault.{CopyFault}
+use Rattle.fits_unit.specs.declared.again.CopyFault.TheVariants.{Failed, Changed, Write}
 use Rattle.fits_stream.specs.Stream.{SinkState, Prints, PrintsFront}
 use Rattle.fits_stream.proofs.StreamLemmas.{Prints-none, Prints-more, PrintsFront-longer, PrintsFront-more}
 use Rattle.fits_header.specs.State.{HeaderState}

@@ -5,8 +5,8 @@ use Rattle.fits_card.specs.Header.{header_bytes}
 use Rattle.fits_stream.specs.Agree.{IsOf}
 use Rattle.fits_stream.specs.Stored.{ReadLogState}
 use Rattle.fits_stream.specs.Stream.{SinkState, Prints}
-use Rattle.fits_plane.specs.DataUnit.{LiesIn}
-use Rattle.fits_plane.specs.Layout.{block_count}
+use Rattle.fits_pixels.specs.Layout.{block_count}
+use Rattle.fits_unit.specs.DataUnit.{LiesIn}
 use Rattle.fits_passing.specs.Hdu.{HduParts, hdu_bytes}
 use Rattle.fits_passing.specs.HduReading.{passed_parts, IsPassedWhole}
 use Rattle.fits_hdu.specs.State.{HduState, parts_of}

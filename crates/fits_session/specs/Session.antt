@@ -1,7 +1,7 @@
 -- What a session is to its callers, and what its calls owe.
 use Rattle.std.specs.Prelude.{◌≡◌, ◌⊎◌, ℕ, Bool, ◌+◌, ◌-◌, ◌<◌, ◌≤◌, List, length, get_or, map, All, true, Result, IfErr, OnOk, OnErr, None, Some}
 use Rattle.std.specs.List.{insert, remove, slice_get}
-use Rattle.fits_plane.specs.Layout.{block_count}
+use Rattle.fits_pixels.specs.Layout.{block_count}
 use Rattle.fits_passing.specs.Hdu.{HduParts}
 use Rattle.fits_hdu.specs.State.{HduState, parts_of, IsDescribed}
 pub use Rattle.fits_hdu.specs.State.{HasPixels, HasStats}

@@ -1,5 +1,5 @@
 ghost use Rattle.std.specs.Prelude.{◌≡◌, ◌+◌, ℕ, List, None, Bool, true, false, length, IfErr, IsOk, OnErr, OnOk};
-ghost use Rattle.fits_plane.specs.Again.{copied_blocks, CopyCounts, CopyFails, CopyWrites, Follows, LoadCounts, Looks, PrintsLike};
+ghost use Rattle.fits_unit.specs.Again.{copied_blocks, CopyCounts, CopyFails, CopyWrites, Follows, LoadCounts, Looks, PrintsLike};
 ghost use Rattle.fits_session.specs.Away.{AgreeOn};
 ghost use Rattle.fits_stream.specs.Stream.{Prints};
 ghost use Rattle.fits_passing.specs.Hdu.{hdu_bytes};
@@ -8,8 +8,8 @@ ghost use Rattle.fits_hdu.specs.Work.{Loads, WritesHdu};
 ghost use Rattle.fits_edits.specs.Making.{IsHad};
 
 use fits_hdu::Hdu;
-use fits_plane::{CopyFault, LoadFault};
 use fits_stream::{ReadLog, Sink, Stored, buffer_of};
+use fits_unit::{CopyFault, LoadFault};
 use std::alloc::{AllocError, Global};
 use std::marker::Model;
 

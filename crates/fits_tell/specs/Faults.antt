@@ -11,10 +11,10 @@ use Rattle.fits_tell.specs.declared.fault.Fault.{Fault}
 use Rattle.fits_tell.specs.declared.fault.Fault.TheVariants.{Refused, ScriptTooLong, Memory, ReadFailed, WriteFailed, Reread as RereadFault}
 use Rattle.fits_tell.specs.declared.reread.Reread.{Reread}
 use Rattle.fits_tell.specs.declared.reread.Reread.TheVariants as again
-use Rattle.fits_plane.specs.declared.again.LoadFault.{LoadFault}
-use Rattle.fits_plane.specs.declared.again.LoadFault.TheVariants as load
-use Rattle.fits_plane.specs.declared.again.CopyFault.{CopyFault}
-use Rattle.fits_plane.specs.declared.again.CopyFault.TheVariants as copy
+use Rattle.fits_unit.specs.declared.again.LoadFault.{LoadFault}
+use Rattle.fits_unit.specs.declared.again.LoadFault.TheVariants as load
+use Rattle.fits_unit.specs.declared.again.CopyFault.{CopyFault}
+use Rattle.fits_unit.specs.declared.again.CopyFault.TheVariants as copy
 
 -- the status that goes with a fault
 abbrev pub status_of_fault : Fault → ℕ

@@ -2,8 +2,8 @@ ghost use Rattle.std.specs.Prelude.{◌≡◌};
 
 use crate::reread::Reread;
 use fits_passing::{OpenFault, ReadFileFault};
-use fits_plane::{CopyFault, LoadFault};
 use fits_stream::ReadFault;
+use fits_unit::{CopyFault, LoadFault};
 use std::alloc::AllocError;
 use thiserror::Error;
 

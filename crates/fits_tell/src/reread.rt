@@ -1,4 +1,4 @@
-use fits_plane::LoadFault;
+use fits_unit::LoadFault;
 use thiserror::Error;
 
 /// Why data that had passed by weren't had again.

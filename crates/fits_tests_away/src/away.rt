@@ -2,7 +2,7 @@
 ghost use Rattle.std.specs.Prelude.{◌≡◌, ◌≤◌, ◌^◌, length, None, IsTrue};
 ghost use Rattle.fits_passing.specs.Hdu.{hdu_bytes};
 ghost use Rattle.fits_hdu.specs.State.{parts_of};
-ghost use Rattle.fits_plane.specs.DataUnit.{IsCounted};
+ghost use Rattle.fits_unit.specs.DataUnit.{IsCounted};
 
 use crate::rows::{
     BLANKED, BYTES, DATA_AT, HDU_AT, HDUS, HduRow, ILL_FILLED, LARGE, NO_DATA, REALS, SUMMED,

@@ -1,11 +1,13 @@
 //! Stored files that are lent, and data units that lie in one.
 ghost use Rattle.std.specs.Prelude.{◌≡◌};
-ghost use Rattle.fits_plane.specs.DataUnit.{IsCounted};
+ghost use Rattle.fits_unit.specs.DataUnit.{IsCounted};
 
 use fits_card::BLOCK_LEN;
 use fits_fixtures::{SMOOTH, broken_bytes, holds, same, stored_bytes, unit_of, writer};
-use fits_plane::{DataUnit, Layout, PassedUnit, PassingUnit, Plane, ValueSummary};
+use fits_pixels::{Layout, ValueSummary};
+use fits_plane::Plane;
 use fits_stream::{ReadLog, Source, Stored, StoredSource, fill};
+use fits_unit::{DataUnit, PassedUnit, PassingUnit};
 use std::alloc::AllocError;
 use std::process::Abort;
 use std::test::Fail;

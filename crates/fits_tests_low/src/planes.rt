@@ -1,7 +1,8 @@
 //! Data units: trees over their blocks, and what they say where memory is refused.
 
 use fits_fixtures::{holds, same};
-use fits_plane::{Layout, PixelSummary, Plane, PlaneRoom, Tree, WordSummary};
+use fits_pixels::{Layout, PixelSummary, WordSummary};
+use fits_plane::{Plane, PlaneRoom, Tree};
 use std::alloc::AllocError;
 use std::process::Abort;
 use std::test::Fail;

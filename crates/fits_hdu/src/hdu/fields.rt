@@ -5,7 +5,7 @@ use fits_codes::HeaderMark;
 use fits_header::Header;
 use fits_image::Kind;
 use fits_passing::SumKeywords;
-use fits_plane::DataUnit;
+use fits_unit::DataUnit;
 
 // A value that holds no memory of its own.
 fn plain<T: Copy>(_value: T) {}

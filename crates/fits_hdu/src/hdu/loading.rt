@@ -1,17 +1,17 @@
 //! An HDU whose data unit lies in a file, and is read again where it is wanted.
 use super::Hdu;
 use fits_passing::PassedHdu;
-use fits_plane::{CopyFault, DataUnit, LoadFault};
 use fits_stream::{ReadLog, Sink, Stored};
+use fits_unit::{CopyFault, DataUnit, LoadFault};
 use std::alloc::{AllocError, Global};
 
 impl Hdu {
     ghost use Rattle.std.specs.Prelude.{◌≡◌, ◌≤◌, ◌+◌, ◌%◌, ◌<◌, ◌↔◌, ℕ, List, length, None, IfOk, IfErr, IfSome, IsOk, IsTrue, OnOk, OnErr};
     ghost use Rattle.fits_stream.specs.Agree.{IsOf, ReadsOn};
     ghost use Rattle.fits_stream.specs.Stream.{Prints};
-    ghost use Rattle.fits_plane.specs.Again.{copied_blocks, CopyCounts, CopyFails, CopyWrites, Follows, LoadCounts, Looks, PrintsLike};
-    ghost use Rattle.fits_plane.specs.DataUnit.{IsCounted, LiesIn};
-    ghost use Rattle.fits_plane.specs.Layout.{block_count};
+    ghost use Rattle.fits_pixels.specs.Layout.{block_count};
+    ghost use Rattle.fits_unit.specs.Again.{copied_blocks, CopyCounts, CopyFails, CopyWrites, Follows, LoadCounts, Looks, PrintsLike};
+    ghost use Rattle.fits_unit.specs.DataUnit.{IsCounted, LiesIn};
     ghost use Rattle.fits_passing.specs.Hdu.{hdu_bytes};
     ghost use Rattle.fits_passing.specs.HduReading.{passed_parts, IsPassedWhole};
     ghost use Rattle.fits_hdu.specs.State.{parts_of, ReadsUpTo};

@@ -4,8 +4,8 @@ use crate::planes::zero_plane;
 use fits_header::Header;
 use fits_image::{Kind, image_header};
 use fits_passing::unit_len;
-use fits_plane::DataUnit;
 use fits_rules::Shape;
+use fits_unit::DataUnit;
 use std::alloc::{AllocError, Global};
 
 /// How many bytes the data unit of a new image has at most.
@@ -13,7 +13,7 @@ const LARGEST_UNIT: usize = 1 << 34;
 
 impl Hdu {
     ghost use Rattle.std.specs.Prelude.{◌≡◌, ◌^◌, ◌≤◌, true, false, length, None, IfOk};
-    ghost use Rattle.fits_plane.specs.Layout.{block_count};
+    ghost use Rattle.fits_pixels.specs.Layout.{block_count};
     ghost use Rattle.fits_passing.specs.Hdu.{hdu_bytes};
     ghost use Rattle.fits_image.specs.ImageCards.{are_axes, image_shape};
     ghost use Rattle.fits_hdu.specs.NewImage.{new_image};

@@ -2,13 +2,14 @@
 use super::Hdu;
 use crate::pixel_fault::PixelFault;
 use fits_image::Kind;
-use fits_plane::{LentPaint, Painting, ValueSummary, is_rectangle, rectangle_len};
+use fits_pixels::ValueSummary;
+use fits_plane::{LentPaint, Painting, is_rectangle, rectangle_len};
 use std::alloc::Global;
 
 impl Hdu {
     ghost use Rattle.std.specs.Prelude.{◌≡◌, ◌≤◌, ◌<◌, ◌+◌, ◌^◌, ℕ, true, length, None, Some, Ok, Err, IsOk, IfOk, IfErr, OnOk, OnErr};
+    ghost use Rattle.fits_pixels.specs.Pixels.{IsStorable};
     ghost use Rattle.fits_plane.specs.Paint.{can_store_paint, has_count, painted_number};
-    ghost use Rattle.fits_plane.specs.Pixels.{IsStorable};
     ghost use Rattle.fits_plane.specs.Rectangle.{lies_within, rectangle_size, IsRectangle};
     ghost use Rattle.fits_image.specs.Kind.{kind_in, offset_of, width_of};
     ghost use Rattle.fits_hdu.specs.Pixels.{painted, rect_of, RectFails};

@@ -16,7 +16,7 @@ impl Hdu {
     ghost use Rattle.std.specs.Prelude.{◌≡◌, ◌≤◌, ◌+◌, ◌^◌, length, None, Ok, IfErr, IfOk, OnErr, OnOk};
     ghost use Rattle.fits_card.specs.Change.{new_cards};
     ghost use Rattle.fits_card.specs.Header.{with_cards};
-    ghost use Rattle.fits_plane.specs.Layout.{block_count};
+    ghost use Rattle.fits_pixels.specs.Layout.{block_count};
     ghost use Rattle.fits_rules.specs.Size.{data_length};
     ghost use Rattle.fits_image.specs.Kind.{array_kind};
     ghost use Rattle.fits_passing.specs.Hdu.{hdu_bytes};

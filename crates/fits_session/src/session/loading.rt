@@ -7,14 +7,14 @@ use super::reading::read_away;
 use crate::holder::{Holder, InFile};
 use fits_edit::{Edit, HduEdit};
 use fits_passing::{FILE_LIMIT, ReadFileFault};
-use fits_plane::LoadFault;
 use fits_rules::array_bits;
 use fits_stream::{Intake, ReadLog, Stored, StoredSource};
+use fits_unit::LoadFault;
 use std::alloc::Global;
 
 impl<'f, F: Stored> Session<InFile<'f, F>> {
     ghost use Rattle.std.specs.Prelude.{◌≡◌, ℕ, List, All, IfErr, IfOk, OnOk};
-    ghost use Rattle.fits_plane.specs.Again.{Follows};
+    ghost use Rattle.fits_unit.specs.Again.{Follows};
     ghost use Rattle.fits_stream.specs.Agree.{IsOf};
     ghost use Rattle.fits_passing.specs.Work.{name_reads};
     ghost use Rattle.fits_hdu.specs.Work.{IsOpened};
@@ -54,7 +54,7 @@ impl<'f, F: Stored> Session<InFile<'f, F>> {
 
 impl<H: Holder + Drop> Session<H> {
     ghost use Rattle.std.specs.Prelude.{◌≡◌, ◌⊎◌, ℕ, List, false, true, IfErr, IsOk, IsTrue, OnErr, OnOk};
-    ghost use Rattle.fits_plane.specs.Again.{Follows, LoadCounts};
+    ghost use Rattle.fits_unit.specs.Again.{Follows, LoadCounts};
     ghost use Rattle.fits_stream.specs.Agree.{IsOf};
     ghost use Rattle.fits_session.specs.Away.{Agree, EditWantsPixels, LieStill, LoadsAt, LoadsFor, LoadWork};
     ghost use Rattle.fits_session.specs.Query.{array_in, kind_in};

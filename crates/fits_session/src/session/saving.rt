@@ -1,6 +1,6 @@
 //! Writing the file.
 ghost use Rattle.std.specs.Prelude.{◌≡◌, ◌+◌, ◌%◌, ℕ, List, None, true, length, All, IfErr, IsOk, IsErr, OnOk, OnErr};
-ghost use Rattle.fits_plane.specs.Again.{CopyCounts, CopyFails, CopyWrites, Follows, PrintsLike};
+ghost use Rattle.fits_unit.specs.Again.{CopyCounts, CopyFails, CopyWrites, Follows, PrintsLike};
 ghost use Rattle.fits_stream.specs.Agree.{IsOf};
 ghost use Rattle.fits_session.specs.Away.{Agree, WritesHdus};
 ghost use Rattle.fits_stream.specs.Stream.{Prints, PrintsFront};
@@ -12,8 +12,8 @@ use super::Session;
 use crate::holder::Holder;
 use crate::save_fault::SaveFault;
 use fits_hdu::Hdu;
-use fits_plane::CopyFault;
 use fits_stream::{ReadLog, Sink, write_all};
+use fits_unit::CopyFault;
 
 impl Session {
     ghost use Rattle.std.specs.Prelude.{◌≡◌, ◌+◌, OnOk, OnErr};
@@ -44,7 +44,7 @@ impl Session {
 
 impl<H: Holder + Drop> Session<H> {
     ghost use Rattle.std.specs.Prelude.{◌≡◌, ℕ, List, true, IfErr, OnOk};
-    ghost use Rattle.fits_plane.specs.Again.{CopyCounts, CopyFails, CopyWrites, Follows, PrintsLike};
+    ghost use Rattle.fits_unit.specs.Again.{CopyCounts, CopyFails, CopyWrites, Follows, PrintsLike};
     ghost use Rattle.fits_stream.specs.Agree.{IsOf};
     ghost use Rattle.fits_session.specs.Away.{Agree, LieStill, WritesFile};
     ghost use Rattle.fits_stream.specs.Stream.{Prints};

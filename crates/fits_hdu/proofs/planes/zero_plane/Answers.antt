@@ -1,6 +1,6 @@
 use Rattle.std.proofs.Common.{◌≡◌, ℕ, length, replicate, arith, sym, subst, ◌∙◌}
 use Rattle.std.proofs.lemmas.List.{length-replicate}
-use Rattle.fits_plane.specs.Layout.{IsLayout}
+use Rattle.fits_pixels.specs.Layout.{IsLayout}
 use Rattle.fits_passing.proofs.LayoutLemmas.{layout_fits}
 use Rattle.fits_hdu.proofs.planes.zero_plane.Goals as goal
 

@@ -1,8 +1,8 @@
 use Rattle.std.proofs.Common.{rules, subst, ℕ, ◌≡◌, ◌+◌, ◌%◌, ◌≤◌, ◌∙◌, ap, arith}
 use Rattle.std.specs.Prelude.{min, IfSome}
-use Rattle.fits_plane.specs.DataUnit.{UnitState}
-use Rattle.fits_plane.specs.Layout.{block_pixels}
-use Rattle.fits_plane.specs.declared.layout.Layout.{Layout}
+use Rattle.fits_pixels.specs.Layout.{block_pixels}
+use Rattle.fits_pixels.specs.declared.layout.Layout.{Layout}
+use Rattle.fits_unit.specs.DataUnit.{UnitState}
 use Rattle.fits_rules.specs.Size.{array_values, data_length}
 use Rattle.fits_hdu.specs.Work.{plane_work, IsRead}
 use Rattle.fits_hdu.proofs.ReshapedUnitLemmas.{stay_within}

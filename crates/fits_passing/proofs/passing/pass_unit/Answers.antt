@@ -3,7 +3,7 @@ use Rattle.std.proofs.lemmas.Grind.{common_steps}
 use Rattle.std.proofs.lemmas.List.{length-replicate}
 use Rattle.fits_stream.proofs.IntakeLemmas.{takes_passed}
 use Rattle.fits_stream.proofs.SightLemmas.{takes_and_holds, takes_more, takes_none, takes_then_fails}
-use Rattle.fits_plane.specs.declared.layout.Layout.{Layout}
+use Rattle.fits_pixels.specs.declared.layout.Layout.{Layout}
 use Rattle.fits_passing.proofs.passing.pass_unit.Goals as goal
 
 -- a layout that fits so many bytes is one of whole pixels

@@ -1,7 +1,7 @@
 use Rattle.std.proofs.Common.{◌≡◌, ◌≤◌, ◌^◌, ◌∙◌, length, refl, arith, sym, subst}
 use Rattle.std.proofs.lemmas.Result.{err_from_is_err_and}
 use Rattle.fits_stream.proofs.SightLemmas.{takes_fewer}
-use Rattle.fits_plane.specs.Layout.{IsLayout}
+use Rattle.fits_pixels.specs.Layout.{IsLayout}
 use Rattle.fits_passing.specs.Passing.{IsSummed}
 use Rattle.fits_passing.proofs.LayoutLemmas.{bytes_fit, data_within}
 use Rattle.fits_passing.proofs.ReadingLemmas.{described_so, hdu_comes, stops_in_unit}

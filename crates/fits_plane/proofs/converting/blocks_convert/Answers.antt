@@ -4,11 +4,11 @@ use Rattle.std.proofs.lemmas.Bool.{cases_lt}
 use Rattle.std.proofs.lemmas.Int.{to_z-of_z}
 use Rattle.std.specs.Int.{w128}
 use Rattle.std.specs.Prelude.{◌+ℤ◌}
+use Rattle.fits_pixels.specs.Layout.{block_pixels}
+use Rattle.fits_pixels.specs.Block.{block_numbers}
+use Rattle.fits_pixels.specs.Pixels.{IsStorable, pixel}
+use Rattle.fits_pixels.specs.Statistics.{statistics}
 use Rattle.fits_plane.proofs.ConvertLemmas.{block_decides, block_within}
-use Rattle.fits_plane.specs.Layout.{block_pixels}
-use Rattle.fits_plane.specs.Leaves.{block_numbers}
-use Rattle.fits_plane.specs.Pixels.{IsStorable, pixel}
-use Rattle.fits_plane.specs.Statistics.{statistics}
 use Rattle.fits_plane.proofs.converting.blocks_convert.Goals as goal
 
 -- the block at hand is one more

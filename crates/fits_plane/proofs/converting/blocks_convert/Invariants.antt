@@ -1,7 +1,7 @@
 use Rattle.std.proofs.Common.{ℕ, ◌*◌, ◌<◌}
 use Rattle.std.specs.Prelude.{◌+ℤ◌}
-use Rattle.fits_plane.specs.Layout.{block_pixels}
-use Rattle.fits_plane.specs.Pixels.{IsStorable, pixel}
+use Rattle.fits_pixels.specs.Layout.{block_pixels}
+use Rattle.fits_pixels.specs.Pixels.{IsStorable, pixel}
 use Rattle.fits_plane.proofs.converting.blocks_convert.Given as goal
 
 abbrev pub invariant-loop-k : goal.invariant-loop-k

@@ -4,11 +4,11 @@ use Rattle.std.proofs.lemmas.Bool.{cases_lt}
 use Rattle.std.proofs.lemmas.Int.{to_z-of_z}
 use Rattle.std.specs.Int.{w128, w64}
 use Rattle.std.specs.Prelude.{◌+ℤ◌}
-use Rattle.fits_plane.proofs.PixelLemmas.{storable_fits}
+use Rattle.fits_pixels.proofs.PixelLemmas.{storable_fits}
+use Rattle.fits_pixels.specs.Pixels.{IsStorable, pixel}
 use Rattle.fits_plane.proofs.StoreLemmas.{read_more}
 use Rattle.fits_plane.proofs.WriteLemmas.{row_more}
 use Rattle.fits_plane.specs.DataBytes.{DataState}
-use Rattle.fits_plane.specs.Pixels.{IsStorable, pixel}
 use Rattle.fits_plane.proofs.converting.convert_each.Goals as goal
 
 -- one number more is stored

@@ -1,6 +1,6 @@
 use Rattle.std.proofs.Common.{ℕ, ◌+◌, ◌<◌, ◌≡◌}
 use Rattle.std.specs.Prelude.{◌+ℤ◌}
-use Rattle.fits_plane.specs.Pixels.{IsStorable, pixel}
+use Rattle.fits_pixels.specs.Pixels.{IsStorable, pixel}
 use Rattle.fits_plane.proofs.converting.converts_each.Given as goal
 
 abbrev pub invariant-loop-x : goal.invariant-loop-x

@@ -2,10 +2,10 @@ use Rattle.std.proofs.Common.{ap, arith, subst, sym, ℕ, ◌*◌, ◌-◌, ◌/
 use Rattle.std.proofs.lemmas.Int.{to_z-of_z}
 use Rattle.std.specs.Int.{w128}
 use Rattle.std.specs.Prelude.{◌+ℤ◌}
+use Rattle.fits_pixels.proofs.LayoutLemmas.{block_pixels_some}
+use Rattle.fits_pixels.specs.Layout.{block_pixels}
+use Rattle.fits_pixels.specs.Pixels.{IsStorable, pixel}
 use Rattle.fits_plane.proofs.ConvertLemmas.{parts_decide, whole_blocks}
-use Rattle.fits_plane.proofs.LeafLemmas.{block_pixels_some}
-use Rattle.fits_plane.specs.Layout.{block_pixels}
-use Rattle.fits_plane.specs.Pixels.{IsStorable, pixel}
 use Rattle.fits_plane.proofs.converting.converts_run.Goals as goal
 
 -- a full block has a number that can't be stored

@@ -1,7 +1,7 @@
 use Rattle.std.proofs.Common.{arith, refl}
 use Rattle.std.proofs.lemmas.Int.{to_z-of_z}
 use Rattle.std.specs.Int.{w128}
-use Rattle.fits_plane.proofs.SummaryLemmas.{all_fit, blank_fits, greatest_fits, least_fits}
+use Rattle.fits_pixels.proofs.SummaryLemmas.{all_fit, blank_fits, greatest_fits, least_fits}
 use Rattle.fits_plane.proofs.converting.summary_converts.Goals as goal
 
 -- the least can't be stored

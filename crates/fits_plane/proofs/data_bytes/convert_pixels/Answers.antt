@@ -2,9 +2,9 @@ use Rattle.std.proofs.Common.{ap, arith, of_z, rules, subst, sym, to_z, ℕ, ℤ
 use Rattle.std.proofs.lemmas.Int.{to_z-of_z}
 use Rattle.std.specs.Int.{w128, w64}
 use Rattle.std.specs.Prelude.{◌+ℤ◌}
+use Rattle.fits_pixels.proofs.PixelLemmas.{storable_fits}
+use Rattle.fits_pixels.specs.Pixels.{IsStorable, pixel}
 use Rattle.fits_plane.proofs.ConvertLemmas.{front_more}
-use Rattle.fits_plane.proofs.PixelLemmas.{storable_fits}
-use Rattle.fits_plane.specs.Pixels.{IsStorable, pixel}
 use Rattle.fits_plane.proofs.data_bytes.convert_pixels.Goals as goal
 
 -- the number fits a pixel

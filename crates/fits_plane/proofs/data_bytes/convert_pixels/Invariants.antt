@@ -1,7 +1,7 @@
 use Rattle.std.proofs.Common.{◌+◌, ◌≡◌}
 use Rattle.std.specs.Prelude.{◌+ℤ◌}
+use Rattle.fits_pixels.specs.Pixels.{pixel}
 use Rattle.fits_plane.proofs.ConvertLemmas.{FrontWritten}
-use Rattle.fits_plane.specs.Pixels.{pixel}
 use Rattle.fits_plane.proofs.data_bytes.convert_pixels.Given as goal
 
 abbrev pub invariant-loop-x : goal.invariant-loop-x

@@ -1,5 +1,5 @@
 use Rattle.std.proofs.Common.{◌<◌, ◌^◌, ◌∙◌, IsTrue, ap, rules}
-use Rattle.fits_plane.specs.Summary.{pixels_joined, words_joined}
+use Rattle.fits_pixels.specs.Summary.{pixels_joined, words_joined}
 use Rattle.fits_plane.proofs.ExchangeLemmas.{leaves_exchanged}
 use Rattle.fits_plane.proofs.exchange.exchanged.Goals as goal
 

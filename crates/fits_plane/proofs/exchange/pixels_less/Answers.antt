@@ -1,7 +1,7 @@
 use Rattle.std.proofs.Common.{refl, rules, SFits}
 use Rattle.std.specs.Int.{w128}
 use Rattle.std.proofs.lemmas.Int.{wrapping_sub_is}
-use Rattle.fits_plane.specs.SummaryLaws.{same_pixels}
+use Rattle.fits_pixels.specs.SummaryLaws.{same_pixels}
 use Rattle.fits_plane.proofs.exchange.pixels_less.Goals as goal
 
 pub returns : goal.returns

@@ -1,4 +1,4 @@
-use Rattle.fits_plane.proofs.ValueLemmas.{offset_is_exact}
+use Rattle.fits_pixels.proofs.ValueLemmas.{offset_is_exact}
 use Rattle.fits_plane.proofs.laws.offsets_are_exact.Goals as goal
 
 pub returns : goal.returns

@@ -1,5 +1,6 @@
+use Rattle.fits_pixels.proofs.TestLemmas.{can_store_decides, can_store_all_decides}
 use Rattle.fits_plane.proofs.ConvertLemmas.{can_store_run_decides}
-use Rattle.fits_plane.proofs.TestLemmas.{lies_within_decides, can_store_decides, can_store_all_decides}
+use Rattle.fits_plane.proofs.CornerLemmas.{lies_within_decides}
 use Rattle.fits_plane.proofs.laws.tests_decide.Goals as goal
 
 pub returns-clause-lies_within : goal.returns-clause-lies_within

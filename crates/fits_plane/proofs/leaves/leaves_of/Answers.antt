@@ -1,7 +1,8 @@
 use Rattle.std.proofs.Common.{rules, ◌≡◌, ◌∷◌, ◌∙◌, [], length, arith, ap}
 use Rattle.std.proofs.lemmas.List.{length-append}
-use Rattle.fits_plane.specs.Summary.{PixelFits, WordFits, HalvesFit}
-use Rattle.fits_plane.specs.Leaves.{leaf_unit, leaf_of}
+use Rattle.fits_pixels.specs.Summary.{PixelFits, WordFits, HalvesFit}
+use Rattle.fits_pixels.specs.Block.{leaf_of}
+use Rattle.fits_plane.specs.Leaves.{leaf_unit}
 use Rattle.fits_plane.proofs.LeafLemmas.{pushed}
 use Rattle.fits_plane.proofs.StoreLemmas.{fits_scanned, leaf_scanned, same_bytes, scanned_again}
 use Rattle.fits_plane.proofs.leaves.leaves_of.Goals as goal

@@ -1,7 +1,8 @@
 use Rattle.std.proofs.Common.{◌≡◌, ◌<◌, ◌+◌, ◌-◌, ℕ, drop, length, ap, arith, inr, ◌∙◌}
 use Rattle.std.proofs.lemmas.List.{length-drop}
+use Rattle.fits_pixels.specs.Block.{leaf_of}
 use Rattle.fits_plane.specs.Tree.{most_above, nodes_left}
-use Rattle.fits_plane.specs.Leaves.{leaf_unit, leaf_of}
+use Rattle.fits_plane.specs.Leaves.{leaf_unit}
 use Rattle.fits_plane.proofs.LeafLemmas.{set_more, set_beside, joins_next}
 use Rattle.fits_plane.proofs.PowerLemmas.{most_above_le}
 use Rattle.fits_plane.proofs.StoreLemmas.{fits_scanned, leaf_scanned, same_bytes, scanned_again}

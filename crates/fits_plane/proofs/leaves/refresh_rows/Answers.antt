@@ -1,13 +1,13 @@
 use Rattle.std.proofs.Common.{◌≡◌, ◌≤◌, ◌+◌, ◌-◌, ◌/◌, max, ◌<◌, ◌*◌, ℕ, List, drop, get_or, length, refl, arith, ap, inl, inr, sym, subst, ◌∙◌}
 use Rattle.std.proofs.Math.Nat.{mul-le-mul_left}
+use Rattle.fits_pixels.specs.Layout.{block_count, block_pixels}
+use Rattle.fits_pixels.proofs.LayoutLemmas.{block_pixels_some, layout_room, layout_small}
 use Rattle.fits_plane.specs.Rectangle.{product, row_size, row_count}
-use Rattle.fits_plane.specs.Layout.{block_count, block_pixels}
 use Rattle.fits_plane.specs.Tree.{most_above}
 use Rattle.fits_plane.specs.Leaves.{leaf_unit, IsLeaf}
 use Rattle.fits_plane.proofs.RowLemmas.{row_of, rectangle_size-rows}
 use Rattle.fits_plane.proofs.BlockLemmas.{walk_begun, walk_more, walk_all, walk_work, joins_more, stop_room}
 use Rattle.fits_plane.proofs.JoinLemmas.{tree_begun, tree_done}
-use Rattle.fits_plane.proofs.LeafLemmas.{block_pixels_some, layout_room, layout_small}
 use Rattle.fits_plane.proofs.PaintLemmas.{few_pixels}
 use Rattle.fits_plane.proofs.PathLemmas.{all_left}
 use Rattle.fits_plane.proofs.PowerLemmas.{least_power, most_above_le, power_some}

@@ -1,7 +1,7 @@
 use Rattle.std.proofs.Common.{◌≡◌, ◌≤◌, ◌+◌, ◌-◌, ◌*◌, ◌^◌, ◌⊎◌, ℕ, drop, get_or}
+use Rattle.fits_pixels.specs.Layout.{block_count, block_pixels}
 use Rattle.fits_plane.specs.Rectangle.{row_size}
 use Rattle.fits_plane.specs.DataBytes.{IsScanned}
-use Rattle.fits_plane.specs.Layout.{block_count, block_pixels}
 use Rattle.fits_plane.specs.Tree.{most_above, nodes_left}
 use Rattle.fits_plane.specs.Leaves.{leaf_unit, IsLeaf, IsBlockTreeBut}
 use Rattle.fits_plane.proofs.BlockLemmas.{Walk}

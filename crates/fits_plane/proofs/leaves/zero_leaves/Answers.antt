@@ -1,9 +1,10 @@
 use Rattle.std.proofs.Common.{rules, ◌≡◌, ◌<◌, ◌≤◌, ◌*◌, ◌/◌, ◌+◌, ◌∷◌, ◌∙◌, [], ℕ, length, get_or, arith, ap, sym, subst}
 use Rattle.std.proofs.lemmas.List.{get_or_read, length-append}
-use Rattle.fits_plane.specs.Summary.{PixelFits, WordFits, HalvesFit}
+use Rattle.fits_pixels.specs.Summary.{PixelFits, WordFits, HalvesFit}
+use Rattle.fits_pixels.specs.Layout.{block_pixels}
+use Rattle.fits_pixels.specs.Block.{leaf_of}
 use Rattle.fits_plane.specs.DataBytes.{IsScanned}
-use Rattle.fits_plane.specs.Layout.{block_pixels}
-use Rattle.fits_plane.specs.Leaves.{leaf_unit, leaf_of}
+use Rattle.fits_plane.specs.Leaves.{leaf_unit}
 use Rattle.fits_plane.proofs.LeafLemmas.{pushed}
 use Rattle.fits_plane.proofs.StoreLemmas.{fits_scanned, leaf_scanned, same_bytes, scanned_again}
 use Rattle.fits_plane.proofs.ZeroLemmas.{zero_leaf}

@@ -1,5 +1,5 @@
 use Rattle.std.proofs.Common.{◌≡◌, ◌<◌, ◌≤◌, ◌+◌, ℕ, length, get_or}
-use Rattle.fits_plane.specs.Summary.{PixelFits, WordFits, HalvesFit}
+use Rattle.fits_pixels.specs.Summary.{PixelFits, WordFits, HalvesFit}
 use Rattle.fits_plane.specs.DataBytes.{IsScanned}
 use Rattle.fits_plane.specs.Leaves.{leaf_unit, IsLeaf}
 use Rattle.fits_plane.proofs.leaves.zero_leaves.Given as goal

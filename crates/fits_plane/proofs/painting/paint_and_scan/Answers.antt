@@ -1,7 +1,7 @@
 use Rattle.std.proofs.Common.{◌≡◌, ◌≤◌, ◌-◌, ◌/◌, ◌∙◌, ap, arith, refl, sym}
 use Rattle.std.proofs.Math.Nat.{mul-le-mul_right}
+use Rattle.fits_pixels.specs.Layout.{block_pixels}
 use Rattle.fits_plane.specs.DataBytes.{DataState}
-use Rattle.fits_plane.specs.Layout.{block_pixels}
 use Rattle.fits_plane.specs.Painting.{number_of}
 use Rattle.fits_plane.specs.Work.{rectangle_blocks, touched_blocks}
 use Rattle.fits_plane.proofs.LeafLemmas.{untouched_leaf}

@@ -1,10 +1,10 @@
 use Rattle.std.proofs.Common.{◌≡◌, ◌*◌, ◌-◌, ◌∙◌, ℕ, List, min, take, drop, ap, arith, refl}
 use Rattle.fits_sum.specs.Words.{word_total}
-use Rattle.fits_plane.specs.Statistics.{statistics}
-use Rattle.fits_plane.specs.Pixels.{pixels}
+use Rattle.fits_pixels.specs.Statistics.{statistics}
+use Rattle.fits_pixels.specs.Pixels.{pixels}
+use Rattle.fits_pixels.specs.SummaryLaws.{same_both}
+use Rattle.fits_pixels.proofs.StatisticsLemmas.{word_leaf}
 use Rattle.fits_plane.specs.Parts.{group_pixels}
-use Rattle.fits_plane.specs.SummaryLaws.{same_both}
-use Rattle.fits_plane.proofs.LeafLemmas.{word_leaf}
 use Rattle.fits_plane.proofs.PartLemmas.{part_alone}
 use Rattle.fits_plane.proofs.parts.scan_groups.Goals as goal
 

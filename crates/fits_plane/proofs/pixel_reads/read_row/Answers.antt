@@ -1,8 +1,8 @@
 use Rattle.std.proofs.Common.{◌≡◌, ◌+◌, ◌∙◌, ℤ, ap, length, to_z, of_z, arith, rules}
 use Rattle.std.specs.Int.{w128}
 use Rattle.std.proofs.lemmas.Int.{to_z-of_z}
+use Rattle.fits_pixels.specs.Pixels.{pixel}
 use Rattle.fits_plane.specs.DataBytes.{DataState}
-use Rattle.fits_plane.specs.Pixels.{pixel}
 use Rattle.fits_plane.specs.Rectangle.{value_at}
 use Rattle.fits_plane.proofs.ReadLemmas.{value-more}
 use Rattle.fits_plane.proofs.StoreLemmas.{read_more}

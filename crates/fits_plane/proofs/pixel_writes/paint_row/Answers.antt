@@ -1,9 +1,9 @@
 use Rattle.std.proofs.Common.{◌≡◌, ◌<◌, ◌+◌, ◌∙◌, FitsSigned, arith, rules, subst, sym}
 use Rattle.std.specs.Int.{w64, w128}
 use Rattle.std.proofs.lemmas.Int.{to_z-of_z}
+use Rattle.fits_pixels.specs.Pixels.{pixel, IsStorable}
 use Rattle.fits_plane.specs.Paint.{painted_number}
 use Rattle.fits_plane.specs.Painting.{number_of}
-use Rattle.fits_plane.specs.Pixels.{pixel, IsStorable}
 use Rattle.fits_plane.proofs.PaintLemmas.{part_number, written_part}
 use Rattle.fits_plane.proofs.pixel_writes.paint_row.Goals as goal
 

@@ -2,9 +2,9 @@ use Rattle.std.proofs.Common.{rules, FitsSigned, to_z, of_z, ◌∙◌, ℤ, ap,
 use Rattle.std.specs.Prelude.{◌-ℤ◌}
 use Rattle.std.specs.Int.{w64, w128}
 use Rattle.std.proofs.lemmas.Int.{to_z-of_z}
-use Rattle.fits_plane.specs.Pixels.{IsStorable}
+use Rattle.fits_pixels.specs.Pixels.{IsStorable}
+use Rattle.fits_pixels.proofs.PixelLemmas.{storable_fits}
 use Rattle.fits_plane.proofs.WriteLemmas.{row_begun, row_more, pixel_room}
-use Rattle.fits_plane.proofs.PixelLemmas.{storable_fits}
 use Rattle.fits_plane.proofs.pixel_writes.write_row.Goals as goal
 
 pub loop-x-preserved : goal.loop-x-preserved

@@ -1,9 +1,9 @@
 use Rattle.std.proofs.Common.{◌↔◌, IsTrue, true, false, arith, refl}
 use Rattle.std.proofs.lemmas.Bool.{iff_false}
+use Rattle.fits_pixels.proofs.TestLemmas.{same_test}
 use Rattle.fits_plane.specs.Rectangle.{IsRectangle}
 use Rattle.fits_plane.proofs.TurnLemmas.{same_lengths}
-use Rattle.fits_plane.proofs.CornerLemmas.{corners_lie, corners_make, refuted}
-use Rattle.fits_plane.proofs.TestLemmas.{same_test, lies_within_decides}
+use Rattle.fits_plane.proofs.CornerLemmas.{corners_lie, corners_make, refuted, lies_within_decides}
 use Rattle.fits_plane.proofs.rectangle.is_rectangle.Goals.{then-lo-axes-via-then-lo-axes, then-lo-axes-via-else-lo-axes+then-hi-axes}
 use Rattle.fits_plane.proofs.rectangle.is_rectangle.Goals as goal
 

@@ -1,12 +1,12 @@
 use Rattle.std.proofs.Common.{◌≡◌, ◌<◌, ◌≤◌, ◌+◌, ◌-◌, ◌*◌, ◌/◌, ℕ, List, arith, ap, refl, ◌∙◌}
 use Rattle.std.proofs.Math.Nat.{mul-le-mul_right}
-use Rattle.fits_plane.specs.Layout.{block_count, block_pixels}
+use Rattle.fits_pixels.specs.Layout.{block_count, block_pixels}
+use Rattle.fits_pixels.proofs.LayoutLemmas.{block_pixels_some, layout_room}
 use Rattle.fits_plane.specs.Painting.{number_of}
 use Rattle.fits_plane.specs.Rectangle.{row_size, row_count}
 use Rattle.fits_plane.specs.Tree.{most_above}
 use Rattle.fits_plane.proofs.ApartRowLemmas.{apart_begun, apart_more, row_past}
 use Rattle.fits_plane.proofs.BlockLemmas.{walk_work, joins_more}
-use Rattle.fits_plane.proofs.LeafLemmas.{block_pixels_some, layout_room}
 use Rattle.fits_plane.proofs.PaintLemmas.{can_paint_row}
 use Rattle.fits_plane.proofs.PathLemmas.{all_left}
 use Rattle.fits_plane.proofs.PowerLemmas.{least_power, most_above_le}

@@ -1,5 +1,5 @@
 use Rattle.std.proofs.Common.{◌≡◌, ◌<◌, ◌≤◌, ◌+◌, ◌-◌, ◌*◌, ◌/◌, ◌^◌, ℕ}
-use Rattle.fits_plane.specs.Layout.{block_count, block_pixels}
+use Rattle.fits_pixels.specs.Layout.{block_count, block_pixels}
 use Rattle.fits_plane.specs.Painting.{number_of}
 use Rattle.fits_plane.specs.Rectangle.{place, row_count, row_size}
 use Rattle.fits_plane.specs.ShortRows.{IsKeptBut}

@@ -4,8 +4,8 @@ use Rattle.fits_card.specs.Header.{Header, new_header}
 use Rattle.fits_rules.specs.Size.{data_length}
 use Rattle.fits_rules.specs.Class.{is_primary}
 use Rattle.fits_rules.specs.declared.array_shape.Shape.{Shape}
-use Rattle.fits_plane.specs.DataUnit.{UnitState}
 use Rattle.fits_plane.specs.Plane.{PlaneState}
+use Rattle.fits_unit.specs.DataUnit.{UnitState}
 use Rattle.fits_passing.specs.ExtensionName.{extension_name}
 use Rattle.fits_image.specs.ImageCards.{image_cards}
 use Rattle.fits_hdu.specs.State.{parts_of}

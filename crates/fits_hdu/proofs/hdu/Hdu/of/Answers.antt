@@ -1,7 +1,7 @@
 use Rattle.std.proofs.Common.{◌∙◌, ap, arith, length, sym}
 use Rattle.fits_rules.specs.Size.{data_length}
-use Rattle.fits_plane.specs.DataUnit.{UnitState}
 use Rattle.fits_plane.specs.Plane.{PlaneState}
+use Rattle.fits_unit.specs.DataUnit.{UnitState}
 use Rattle.fits_hdu.proofs.hdu.Hdu.of.Goals as goal
 
 pub plane_of-requires-clause-size : goal.plane_of-requires-clause-size

@@ -1,8 +1,8 @@
 use Rattle.std.proofs.Common.{◌≡◌, ◌∙◌, Some, ap, sym, subst, length, true}
 use Rattle.std.specs.Prelude.{Ok}
+use Rattle.fits_pixels.specs.declared.layout.Layout.{Layout}
 use Rattle.fits_plane.specs.Paint.{painted_number}
 use Rattle.fits_plane.specs.Rectangle.{lies_within, product, rectangle_written, IsRectangle}
-use Rattle.fits_plane.specs.declared.layout.Layout.{Layout}
 use Rattle.fits_rules.specs.declared.array_shape.Shape.{Shape}
 use Rattle.fits_image.specs.Kind.{kind_in, offset_of}
 use Rattle.fits_hdu.specs.Pixels.{painted}

@@ -1,7 +1,7 @@
 use Rattle.std.proofs.Common.{◌≡◌, ◌∙◌, ap, sym, subst, rules, None, Some}
-use Rattle.fits_plane.specs.Pixels.{pixels}
-use Rattle.fits_plane.specs.Statistics.{value_statistics}
-use Rattle.fits_plane.specs.declared.value_summary.ValueSummary.{ValueSummary}
+use Rattle.fits_pixels.specs.Pixels.{pixels}
+use Rattle.fits_pixels.specs.Statistics.{value_statistics}
+use Rattle.fits_pixels.specs.declared.value_summary.ValueSummary.{ValueSummary}
 use Rattle.fits_passing.specs.Hdu.{HduParts}
 use Rattle.fits_image.specs.Kind.{offset_of}
 use Rattle.fits_passing.specs.Stats.{stats_of}

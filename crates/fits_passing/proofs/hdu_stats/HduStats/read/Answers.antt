@@ -1,9 +1,9 @@
 use Rattle.std.proofs.Common.{◌≡◌, ◌≤◌, ◌^◌, ◌∙◌, length, None, Some, refl, ap, arith, sym}
 use Rattle.std.proofs.lemmas.Result.{err_from_is_err_and}
 use Rattle.fits_stream.proofs.SightLemmas.{takes_fewer}
-use Rattle.fits_plane.specs.Pixels.{pixels}
-use Rattle.fits_plane.specs.Statistics.{value_statistics}
-use Rattle.fits_plane.specs.declared.layout.Layout.{Layout}
+use Rattle.fits_pixels.specs.Pixels.{pixels}
+use Rattle.fits_pixels.specs.Statistics.{value_statistics}
+use Rattle.fits_pixels.specs.declared.layout.Layout.{Layout}
 use Rattle.fits_image.specs.Kind.{offset_of}
 use Rattle.fits_passing.specs.PassingStats.{values_of}
 use Rattle.fits_passing.specs.Stats.{AreStatsOf}

@@ -1,8 +1,8 @@
 use Rattle.std.proofs.Common.{◌≡◌, ◌≤◌, ◌%◌, ◌∙◌, length, ap, arith, subst, sym}
 use Rattle.fits_stream.proofs.SightLemmas.{takes_fewer}
 use Rattle.fits_rules.proofs.LawLemmas.{shape_primary}
-use Rattle.fits_plane.specs.Layout.{IsLayout}
-use Rattle.fits_plane.specs.declared.layout.Layout.{Layout}
+use Rattle.fits_pixels.specs.Layout.{IsLayout}
+use Rattle.fits_pixels.specs.declared.layout.Layout.{Layout}
 use Rattle.fits_passing.specs.Layout.{layout_of}
 use Rattle.fits_passing.proofs.LayoutLemmas.{data_within, layout_fits}
 use Rattle.fits_passing.proofs.PassedLemmas.{hdu_passed}

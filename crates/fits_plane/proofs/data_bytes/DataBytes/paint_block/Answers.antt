@@ -1,6 +1,6 @@
 use Rattle.std.proofs.Common.{◌≡◌, ◌+◌, ◌∙◌, ℕ, ℤ, ap, arith, subst, sym}
 use Rattle.std.proofs.lemmas.List.{with_items_is}
-use Rattle.fits_plane.specs.Leaves.{leaf_of}
+use Rattle.fits_pixels.specs.Block.{leaf_of}
 use Rattle.fits_plane.specs.Painting.{number_of}
 use Rattle.fits_plane.specs.ShortRows.{RowWritten}
 use Rattle.fits_plane.proofs.data_bytes.DataBytes.paint_block.Goals as goal

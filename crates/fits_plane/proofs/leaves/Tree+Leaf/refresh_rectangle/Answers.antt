@@ -1,6 +1,6 @@
 use Rattle.std.proofs.Common.{◌≡◌, ◌<◌, ◌∙◌, ◌+◌, get_or, take, drop, length, arith, ap, sym, subst}
 use Rattle.std.proofs.lemmas.List.{with_items_is, get_or-take, get_or-drop, length-take, length-drop}
-use Rattle.fits_plane.specs.Layout.{block_count}
+use Rattle.fits_pixels.specs.Layout.{block_count}
 use Rattle.fits_plane.specs.Leaves.{leaf_unit, IsBlockTree}
 use Rattle.fits_plane.specs.Tree.{IsLeastPower}
 use Rattle.fits_plane.proofs.TreeLemmas.{leaves_used}

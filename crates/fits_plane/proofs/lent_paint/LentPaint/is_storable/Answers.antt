@@ -1,8 +1,8 @@
 use Rattle.std.proofs.Common.{◌↔◌, ◌∙◌, IsTrue, ap, rules, sym}
 use Rattle.std.specs.Prelude.{◌-ℤ◌}
+use Rattle.fits_pixels.specs.Pixels.{IsStorable}
+use Rattle.fits_pixels.proofs.TestLemmas.{same_test, can_store_decides}
 use Rattle.fits_plane.specs.Paint.{can_store_paint}
-use Rattle.fits_plane.specs.Pixels.{IsStorable}
-use Rattle.fits_plane.proofs.TestLemmas.{same_test, can_store_decides}
 use Rattle.fits_plane.proofs.lent_paint.LentPaint.is_storable.Goals as goal
 
 -- one value

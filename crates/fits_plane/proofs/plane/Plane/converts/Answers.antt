@@ -2,9 +2,9 @@ use Rattle.std.proofs.Math.Nat.{mod-le}
 use Rattle.std.proofs.Common.{ap, arith, refl}
 use Rattle.std.proofs.lemmas.Int.{to_z-of_z}
 use Rattle.std.specs.Int.{w128}
+use Rattle.fits_pixels.specs.Layout.{block_pixels}
 use Rattle.fits_plane.proofs.ConvertLemmas.{kept_decides}
 use Rattle.fits_plane.specs.Converting.{can_store_run}
-use Rattle.fits_plane.specs.Layout.{block_pixels}
 use Rattle.fits_plane.proofs.plane.Plane.converts.Goals as goal
 
 -- no number, and each can be stored

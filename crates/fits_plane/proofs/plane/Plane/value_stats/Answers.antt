@@ -2,11 +2,12 @@ use Rattle.std.proofs.Common.{◌≤◌, ◌^◌, ◌∙◌, length, ap, arith, 
 use Rattle.std.specs.Prelude.{unsigned_abs}
 use Rattle.std.specs.Int.{w128}
 use Rattle.std.proofs.lemmas.Int.{to_z-of_z}
-use Rattle.fits_plane.specs.Pixels.{pixels}
-use Rattle.fits_plane.specs.Statistics.{summary_with}
-use Rattle.fits_plane.proofs.LeafLemmas.{layout_small, pixels_fit}
-use Rattle.fits_plane.proofs.PixelLemmas.{length-pixels}
-use Rattle.fits_plane.proofs.ValueLemmas.{Small, statistics_small, offset_is_exact}
+use Rattle.fits_pixels.specs.Pixels.{pixels}
+use Rattle.fits_pixels.specs.Statistics.{summary_with}
+use Rattle.fits_pixels.proofs.LayoutLemmas.{layout_small}
+use Rattle.fits_pixels.proofs.StatisticsLemmas.{pixels_fit}
+use Rattle.fits_pixels.proofs.PixelLemmas.{length-pixels}
+use Rattle.fits_pixels.proofs.ValueLemmas.{Small, statistics_small, offset_is_exact}
 use Rattle.fits_plane.proofs.plane.Plane.value_stats.Goals as goal
 
 -- the statistics are small enough

@@ -1,6 +1,6 @@
 use Rattle.std.proofs.Common.{◌∙◌, ℕ, length, get_or, replicate, ap, arith, sym, subst}
 use Rattle.std.proofs.lemmas.List.{length-replicate}
-use Rattle.fits_plane.specs.Layout.{IsLayout}
+use Rattle.fits_pixels.specs.Layout.{IsLayout}
 use Rattle.fits_plane.specs.Leaves.{leaf_unit}
 use Rattle.fits_plane.proofs.StoreLemmas.{leaf_scanned, same_bytes}
 use Rattle.fits_plane.proofs.plane.Plane.zeroed.Goals as goal

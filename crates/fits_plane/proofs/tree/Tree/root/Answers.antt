@@ -1,7 +1,7 @@
 use Rattle.std.proofs.Common.{◌∙◌, arith, ap}
 use Rattle.std.proofs.lemmas.List.{get_or_read}
 use Rattle.std.proofs.Math.Nat.{one-le-pow}
-use Rattle.fits_plane.specs.Summary.{all_joined}
+use Rattle.fits_pixels.specs.Summary.{all_joined}
 use Rattle.fits_plane.proofs.TreeLemmas.{root_of_used}
 use Rattle.fits_plane.proofs.tree.Tree.root.Goals as goal
 

@@ -1,5 +1,5 @@
 use Rattle.std.proofs.Common.{◌++◌, subst, None}
-use Rattle.fits_plane.specs.declared.again.CopyFault.TheVariants.{Write}
+use Rattle.fits_unit.specs.declared.again.CopyFault.TheVariants.{Write}
 use Rattle.fits_hdu.proofs.PassedLemmas.{writes_more}
 use Rattle.fits_stream.specs.Stream.{Prints, PrintsFront}
 use Rattle.fits_passing.specs.File.{joined_hdus}

@@ -1,6 +1,6 @@
 use Rattle.std.proofs.Common.{All, ◌≡◌, ◌%◌, take, length, ℕ, List, None}
 use Rattle.fits_session.specs.Away.{Agree, AllLie, WritesHdus}
-use Rattle.fits_plane.specs.Again.{Follows, PrintsLike}
+use Rattle.fits_unit.specs.Again.{Follows, PrintsLike}
 use Rattle.fits_stream.specs.Stream.{Prints}
 use Rattle.fits_passing.specs.File.{joined_hdus}
 use Rattle.fits_session.specs.Session.{hdus_of}

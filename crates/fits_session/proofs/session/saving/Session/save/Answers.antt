@@ -1,5 +1,5 @@
 use Rattle.std.proofs.Common.{refl, rules, subst}
-use Rattle.fits_plane.specs.Again.{CopyFails}
+use Rattle.fits_unit.specs.Again.{CopyFails}
 use Rattle.fits_passing.specs.File.{file_bytes}
 use Rattle.fits_session.specs.Session.{file_of}
 use Rattle.fits_session.proofs.session.saving.Session.save.Goals as goal

@@ -1,0 +1,14 @@
+pub mod ApartLemmas
+pub mod ExactLemmas
+pub mod FillLemmas
+pub mod HalfLemmas
+pub mod LaneLemmas
+pub mod LayoutLemmas
+pub mod PixelLemmas
+pub mod RunLemmas
+pub mod ScanLemmas
+pub mod SignedLemmas
+pub mod StatisticsLemmas
+pub mod SummaryLemmas
+pub mod TestLemmas
+pub mod ValueLemmas

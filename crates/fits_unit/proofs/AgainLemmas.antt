@@ -1,0 +1,121 @@
+-- Bytes of a stored file that are read again.
+use Rattle.std.proofs.Common.{◌≡◌, ◌+◌, ◌<◌, ◌≤◌, ◌%◌, ◌/◌, ℕ, List, [], ◌++◌, length, min, take, drop, ap, sym, ◌∙◌, arith, subst, append_assoc, Option, Some}
+use Rattle.std.proofs.lemmas.List.{append-nil, length-append, length-drop, length-take, take-append-drop, take-take, take_all}
+use Rattle.std.proofs.Math.Seq.{take-append_seam}
+use Rattle.std.specs.List.{slice_get}
+use Rattle.fits_stream.specs.Agree.{IsOf, ReadsOn, ReadsSome}
+use Rattle.fits_stream.specs.Log.{unskipped, Adds, Grows, Logs}
+use Rattle.fits_stream.specs.Stored.{Lent, ReadLogState}
+use Rattle.fits_stream.specs.Stream.{SinkState, SourceState, FailsOnce, IsDry, Prints, PrintsFront, Reads}
+use Rattle.fits_stream.proofs.AgreeLemmas.{of_before, of_read, reads_on}
+use Rattle.fits_stream.proofs.LogLemmas.{Logs-more}
+use Rattle.fits_stream.proofs.StreamLemmas.{PrintsFront-longer, Reads-more}
+use Rattle.fits_sum.specs.Words.{word_total}
+use Rattle.fits_sum.proofs.WordLemmas.{word_total-append}
+use Rattle.fits_unit.specs.Again.{CopyFails, CopyNextStops, CopyStops, Follows, LoadStops, NextShort, NextStops, ReadsFewer}
+use Rattle.fits_unit.specs.declared.again.CopyFault.{CopyFault}
+use Rattle.fits_unit.specs.declared.again.CopyFault.TheVariants.{Failed, Changed, Write}
+use Rattle.fits_unit.specs.declared.again.LoadFault.{LoadFault}
+use Rattle.fits_unit.specs.declared.again.LoadFault.TheVariants as load
+
+-- the words of what was copied, and of a piece more
+pub copied_more : (done piece : List ℕ) (total more : ℕ) → total ≡ word_total done → more ≡ word_total piece → length done % 4 ≡ 0 → total + more ≡ word_total (done ++ piece)
+copied_more done piece total more was is words =
+    ap (λ n. n + more) was ∙ ap (λ n. word_total done + n) is ∙ sym (word_total-append (length done / 4) done piece (omega (arith, words)))
+
+-- the lesser of whole blocks is of whole blocks
+pub least_blocks : (least a b : ℕ) → least ≡ min a b → a % 2880 ≡ 0 → b % 2880 ≡ 0 → least % 2880 ≡ 0
+least_blocks least a b is p q = omega (arith, is, p, q)
+
+-- what came, and then a piece
+pub came_more : (a b c : SourceState) (done piece : List ℕ) (n : ℕ) → Reads done a b → Reads (take n piece) b c → length piece ≤ n → Reads (done ++ piece) a c
+came_more a b c done piece n p q all = Reads-more a b c done piece p (subst (λ t. Reads t b c) (take_all n piece all) q)
+
+-- a read failed then: some of what follows came
+pub next_failed : (a b c : SourceState) (len : ℕ) (done : List ℕ) (Ends : List ℕ → Type 0) → Reads done a b → FailsOnce b c → length done ≤ len → Ends done → NextStops Ends len a c
+next_failed a b c len done Ends p q few ends = record { bytes = done; rest = q.log.bytes; logs = Logs-more a.log b.log c.log done q.log.bytes p.log q.log.logs; few = few; ends = ends }
+
+-- or all that follows
+pub next_short : (a b c : SourceState) (len n : ℕ) (done piece : List ℕ) (Ends : List ℕ → Type 0) → Reads done a b → Reads (take n piece) b c → IsDry c → n ≤ length piece → length done + n < len → Ends done → NextShort Ends len a c
+next_short a b c len n done piece Ends p q dry within short ends = record {
+  bytes = done;
+  rest = take n piece;
+  logs = Logs-more a.log b.log c.log done (take n piece) p.log q.log;
+  short = omega (arith, short, length-append done (take n piece), length-take n piece, within);
+  over = dry.told;
+  ends = ends;
+}
+
+-- and nothing is done with them
+pub next_fewer : (a b c : SourceState) (len n : ℕ) (done piece : List ℕ) → Reads done a b → Reads (take n piece) b c → IsDry c → n ≤ length piece → length done + n < len → ReadsFewer len a c
+next_fewer a b c len n done piece p q dry within short = record {
+  bytes = done ++ take n piece;
+  logs = Logs-more a.log b.log c.log done (take n piece) p.log q.log;
+  short = omega (arith, short, length-append done (take n piece), length-take n piece, within);
+  over = dry.told;
+}
+
+-- or a write did
+pub next_stopped : (a b : SourceState) (len : ℕ) (done : List ℕ) (Ends : List ℕ → Type 0) → Reads done a b → length done ≤ len → Ends done → NextStops Ends len a b
+next_stopped a b len done Ends p few ends = record { bytes = done; rest = []; logs = subst (Logs a.log b.log) (sym (append-nil done)) p.log; few = few; ends = ends }
+
+-- a stored file is gone on with: what a source of it read from a place on
+pub lent_reads : {F : Type 0} {k : ℕ} (a b : Lent F) (place : ℕ) (old new : ReadLogState) (bytes : List ℕ) → a.log.at ≡ place → a.log.came ≡ old.came → a.log.ends ≡ old.ends → new ≡ record { came = b.log.came; ends = b.log.ends; failures = b.failures; looked = k }
+    → Adds (unskipped a.log) (unskipped b.log) bytes → ReadsOn place old new bytes
+lent_reads a b place old new bytes at came ends is adds =
+    subst (λ p. ReadsOn p old new bytes) at (reads_on a.log b.log old new bytes adds (sym came) (sym ends) (ap (λ (l : ReadLogState). l.came) is) (ap (λ (l : ReadLogState). l.ends) is))
+
+-- and what its log gained, whatever that was
+pub again_some : {F : Type 0} {k : ℕ} (a b : Lent F) (place : ℕ) (old new : ReadLogState) → a.log.at ≡ place → a.log.came ≡ old.came → a.log.ends ≡ old.ends → new ≡ record { came = b.log.came; ends = b.log.ends; failures = b.failures; looked = k }
+    → Grows (Some (unskipped a.log)) (Some (unskipped b.log)) → ReadsSome place old new
+again_some a b place old new at came ends is grows = record { bytes = grows.bytes; read = lent_reads a b place old new grows.bytes at came ends is grows.logs }
+
+-- bytes of it weren't all copied
+pub copy_stops : {F : Type 0} {k : ℕ} (a b : Lent F) (x y : Option (List ℕ)) (n m place len : ℕ) (old new : ReadLogState) (s t : SinkState) (why : CopyFault) → a.log.at ≡ place → a.log.came ≡ old.came → a.log.ends ≡ old.ends → new ≡ record { came = b.log.came; ends = b.log.ends; failures = b.failures; looked = k }
+    → CopyNextStops len (record { remaining = x; log = Some (unskipped a.log); failures = n }) (record { remaining = y; log = Some (unskipped b.log); failures = m }) s t why → CopyStops place len old new s t why
+copy_stops a b x y n m place len old new s t Failed at came ends is p = record { bytes = p.bytes; rest = p.rest; read = lent_reads a b place old new (p.bytes ++ p.rest) at came ends is p.logs; few = p.few; ends = p.ends }
+copy_stops a b x y n m place len old new s t Changed at came ends is p =
+    let read : ReadsOn place old new (p.bytes ++ p.rest) = lent_reads a b place old new (p.bytes ++ p.rest) at came ends is p.logs in
+    let gone : b.log.at ≡ place + length (p.bytes ++ p.rest) = p.logs.at ∙ ap (λ i. i + length (p.bytes ++ p.rest)) at in
+    record { bytes = p.bytes; rest = p.rest; read = read; short = p.short; over = (p.over.0, ap (λ (l : ReadLogState). slice_get l.ends p.over.0) is ∙ p.over.1 ∙ ap Some gone); ends = p.ends }
+copy_stops a b x y n m place len old new s t Write at came ends is p = record { bytes = p.bytes; rest = p.rest; read = lent_reads a b place old new (p.bytes ++ p.rest) at came ends is p.logs; few = p.few; ends = p.ends }
+
+-- reads follow one another
+pub follows_on : (place : ℕ) (old new : ReadLogState) (bytes : List ℕ) → ReadsOn place old new bytes → Follows old new
+follows_on place old new bytes p xs is = of_before xs place old new bytes p is
+
+-- a data unit that lies there is what was read
+pub unit_read : (xs unit bytes : List ℕ) (place : ℕ) (old new : ReadLogState) → ReadsOn place old new bytes → IsOf xs new → take (length unit) (drop place xs) ≡ unit → length bytes ≡ length unit → bytes ≡ unit
+unit_read xs unit bytes place old new p is lies size =
+    sym (take-append_seam bytes (drop (place + length bytes) xs)) ∙ ap (λ n. take n (bytes ++ drop (place + length bytes) xs)) size ∙ ap (take (length unit)) (sym (of_read xs place old new bytes p is)) ∙ lies
+
+-- a front of what was read is one of it
+pub front_read : (xs unit bytes rest : List ℕ) (place : ℕ) (old new : ReadLogState) → ReadsOn place old new (bytes ++ rest) → IsOf xs new → take (length unit) (drop place xs) ≡ unit → length bytes ≤ length unit → take (length bytes) unit ≡ bytes
+front_read xs unit bytes rest place old new p is lies few =
+    let after : List ℕ = rest ++ drop (place + length (bytes ++ rest)) xs in
+    let there : drop place xs ≡ bytes ++ after = of_read xs place old new (bytes ++ rest) p is ∙ append_assoc bytes rest (drop (place + length (bytes ++ rest)) xs) in
+    ap (take (length bytes)) (sym lies) ∙ take-take (length bytes) (length unit) (drop place xs) few ∙ ap (take (length bytes)) there ∙ take-append_seam bytes after
+
+-- a data unit that lies there isn't copied whole for these reasons alone
+pub copy_fails : (xs unit : List ℕ) (place : ℕ) (log log' : ReadLogState) (old new : SinkState) (why : CopyFault) → IsOf xs log' → take (length unit) (drop place xs) ≡ unit → CopyStops place (length unit) log log' old new why → CopyFails unit old new why
+copy_fails xs unit place log log' old new Failed is lies p =
+    let front = front_read xs unit p.bytes p.rest place log log' p.read is lies p.few in
+    (length p.bytes, subst (λ t. Prints t old new) (sym front) p.ends)
+copy_fails xs unit place log log' old new Changed is lies p =
+    let end : length xs ≤ place + length (p.bytes ++ p.rest) = is.ends p.over.0 (place + length (p.bytes ++ p.rest)) p.over.1 in
+    absurd (omega (arith, end, p.short, length-drop place xs, length-take (length unit) (drop place xs), ap length lies))
+copy_fails xs unit place log log' old new Write is lies p =
+    let front = front_read xs unit p.bytes p.rest place log log' p.read is lies p.few in
+    subst (λ t. PrintsFront t old new) (ap (λ t. t ++ drop (length p.bytes) unit) (sym front) ∙ take-append-drop (length p.bytes) unit) (PrintsFront-longer old new p.bytes (drop (length p.bytes) unit) p.ends)
+
+-- a log goes on, also where bytes weren't copied
+pub copy_follows : (place len : ℕ) (log log' : ReadLogState) (old new : SinkState) (why : CopyFault) → CopyStops place len log log' old new why → Follows log log'
+copy_follows place len log log' old new Failed p = follows_on place log log' (p.bytes ++ p.rest) p.read
+copy_follows place len log log' old new Changed p = follows_on place log log' (p.bytes ++ p.rest) p.read
+copy_follows place len log log' old new Write p = follows_on place log log' (p.bytes ++ p.rest) p.read
+
+-- or weren't loaded
+pub load_follows : (place len : ℕ) (log log' : ReadLogState) (why : LoadFault) → LoadStops place len log log' why → Follows log log'
+load_follows place len log log' load.Changed p = follows_on place log log' p.bytes p.read
+load_follows place len log log' load.Memory p = follows_on place log log' p.bytes p.read
+load_follows place len log log' load.Failed p = follows_on place log log' p.bytes p.read

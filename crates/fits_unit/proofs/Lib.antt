@@ -1,0 +1,2 @@
+pub mod AgainLemmas
+pub mod PassedLemmas

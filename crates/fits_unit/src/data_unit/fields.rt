@@ -1,0 +1,17 @@
+//! What a data unit keeps: a plane, and of one that isn't in memory what is known of it, and its place.
+
+use super::DataUnit;
+use crate::absent::Absent;
+use crate::passed_unit::PassedUnit;
+use fits_plane::Plane;
+
+/// Takes a data unit apart, and nothing calls it: each field has the type that is written here, and
+/// one more, or one of another type, doesn't compile.
+fn apart(unit: DataUnit, away: Absent) {
+    let DataUnit { plane, absent } = unit;
+    let _plane: Plane = plane;
+    let _absent: Option<Absent> = absent;
+    let Absent { unit, place } = away;
+    let _unit: PassedUnit = unit;
+    let _place: u64 = place;
+}
