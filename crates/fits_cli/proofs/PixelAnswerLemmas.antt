@@ -9,12 +9,12 @@ use Rattle.fits_rules.specs.Shape.{shape_of}
 use Rattle.fits_rules.specs.declared.array_shape.Shape.{Shape}
 use Rattle.fits_session.specs.Edit.{hdu_of}
 use Rattle.fits_passing.specs.File.{is_primary_hdu, FileParts}
-use Rattle.fits_edits.specs.HduEdit.{pixels_made, shaped}
-use Rattle.fits_edits.specs.Keeping.{are_right}
+use Rattle.fits_making.specs.HduEdit.{pixels_made, shaped}
+use Rattle.fits_making.specs.Keeping.{are_right}
 use Rattle.fits_session.specs.Marked.{Marked, is_kept, kept_in}
 use Rattle.fits_session.specs.Query.{by_shape, datasum_in, in_hdu, rect_in, stats_in, verdicts_in, QueryFails}
-use Rattle.fits_edits.specs.declared.refusal.Refusal.{Refusal}
-use Rattle.fits_edits.specs.declared.refusal.Refusal.TheVariants.{NoHdu, NotImage, Memory}
+use Rattle.fits_making.specs.declared.refusal.Refusal.{Refusal}
+use Rattle.fits_making.specs.declared.refusal.Refusal.TheVariants.{NoHdu, NotImage, Memory}
 use Rattle.fits_cli.specs.Answer.{outcome_of, OutcomeNeedsMemory, CommandFails}
 use Rattle.fits_script.specs.declared.command.Command.TheVariants as command
 use Rattle.fits_cli.proofs.RefusalLemmas.{CommandFails-query, CommandFails-refused}

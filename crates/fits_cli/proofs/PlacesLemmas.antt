@@ -6,7 +6,7 @@ use Rattle.std.proofs.lemmas.List.{append-nil, take_all, take_more}
 use Rattle.std.proofs.lemmas.List.Concat.{flat_map-append}
 use Rattle.fits_session.specs.Marked.{Marked}
 use Rattle.fits_session.specs.Query.{positions_in}
-use Rattle.fits_edits.specs.declared.refusal.Refusal.TheVariants.{NoKey}
+use Rattle.fits_making.specs.declared.refusal.Refusal.TheVariants.{NoKey}
 use Rattle.fits_cli.specs.Answer.{places_line, spaced, outcome_of}
 use Rattle.fits_script.specs.declared.command.Command.TheVariants.{Positions}
 

@@ -4,10 +4,10 @@ use Rattle.std.specs.Prelude.{IsOk}
 use Rattle.fits_session.specs.Marked.{Marked, is_stamped_after, marked_refusal}
 use Rattle.fits_session.specs.Query.{QueryFails}
 use Rattle.fits_session.specs.Refusal.{EditNeedsMemory}
-use Rattle.fits_edits.specs.Refusal.{Fails}
+use Rattle.fits_making.specs.Refusal.{Fails}
 use Rattle.fits_edit.specs.declared.edit.Edit.{Edit}
-use Rattle.fits_edits.specs.declared.refusal.Refusal.{Refusal}
-use Rattle.fits_edits.specs.declared.refusal.Refusal.TheVariants.{NoHdu, NoCard, NoKey, BadText, EndCard, Shape as OtherShape, BadName, BadValue, NotImage, BadRect, WrongCount, Range, PrimaryStays, TooLarge, Memory}
+use Rattle.fits_making.specs.declared.refusal.Refusal.{Refusal}
+use Rattle.fits_making.specs.declared.refusal.Refusal.TheVariants.{NoHdu, NoCard, NoKey, BadText, EndCard, Shape as OtherShape, BadName, BadValue, NotImage, BadRect, WrongCount, Range, PrimaryStays, TooLarge, Memory}
 use Rattle.fits_session.proofs.RefusalLemmas.{never_memory}
 use Rattle.fits_cli.specs.Answer.{outcome_of, OutcomeNeedsMemory, CommandFails}
 use Rattle.fits_script.specs.declared.command.Command.{Command}

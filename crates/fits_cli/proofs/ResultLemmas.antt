@@ -7,7 +7,7 @@ use Rattle.fits_passing.specs.File.{FileParts, IsFile, IsFileOf}
 use Rattle.fits_session.specs.Marked.{kept_in, marked_after, marked_refusal}
 use Rattle.fits_session.specs.Query.{datasum_in, positions_in, rect_in, stats_in, value_in, verdicts_in}
 use Rattle.fits_edit.specs.declared.edit.Edit.{Edit as SessionEdit}
-use Rattle.fits_edits.specs.declared.refusal.Refusal.{Refusal}
+use Rattle.fits_making.specs.declared.refusal.Refusal.{Refusal}
 use Rattle.fits_session.proofs.LawLemmas.{edited}
 use Rattle.fits_script.specs.Line.{command_of, reading_of, said_or_none}
 use Rattle.fits_script.specs.declared.command.Command.{Command}

@@ -8,13 +8,13 @@ use Rattle.fits_session.specs.Marked.{Marked, is_stamped_after, kept_in, marked_
 use Rattle.fits_session.specs.Away.{EditWantsPixels}
 use Rattle.fits_session.specs.Query.{datasum_in, kind_in, positions_in, rect_in, stats_in, value_in, verdicts_in}
 use Rattle.fits_passing.specs.Report.{report_of}
-use Rattle.fits_edits.specs.Refusal.{refusal_text}
+use Rattle.fits_making.specs.Refusal.{refusal_text}
 use Rattle.fits_session.specs.Refusal.{EditNeedsMemory}
 use Rattle.fits_session.specs.Session.{HasPixels, HasStats, IsReadyFor, IsSoOf}
 use Rattle.fits_hdu.specs.State.{HduState}
 use Rattle.fits_passing.specs.declared.offsets.HduOffsets.{HduOffsets}
-use Rattle.fits_edits.specs.declared.refusal.Refusal.{Refusal}
-use Rattle.fits_edits.specs.declared.refusal.Refusal.TheVariants.{NoKey, Memory}
+use Rattle.fits_making.specs.declared.refusal.Refusal.{Refusal}
+use Rattle.fits_making.specs.declared.refusal.Refusal.TheVariants.{NoKey, Memory}
 use Rattle.fits_script.specs.Line.{ReadingNeedsMemory}
 use Rattle.fits_tell.specs.PixelLines.{statistics_line, sums_line, values_line}
 use Rattle.fits_tell.specs.Report.{report_text}

@@ -7,15 +7,15 @@ use Rattle.fits_stream.specs.Stream.{Gains, SinkState}
 use Rattle.fits_value.specs.Unwritable.{writable}
 use Rattle.fits_value.specs.declared.unwritable.Unwritable.{Unwritable}
 use Rattle.fits_session.specs.Marked.{Marked}
-use Rattle.fits_edits.specs.Refusal.{refusal_text}
+use Rattle.fits_making.specs.Refusal.{refusal_text}
 use Rattle.fits_edit.specs.declared.card_edit.CardEdit.{CardEdit}
 use Rattle.fits_edit.specs.declared.card_edit.CardEdit.TheVariants.{Set, Unset}
 use Rattle.fits_edit.specs.declared.edit.Edit.{Edit as FileEdit}
 use Rattle.fits_edit.specs.declared.edit.Edit.TheVariants.{Hdu}
 use Rattle.fits_edit.specs.declared.hdu_edit.HduEdit.{HduEdit}
 use Rattle.fits_edit.specs.declared.hdu_edit.HduEdit.TheVariants.{Cards}
-use Rattle.fits_edits.specs.declared.refusal.Refusal.{Refusal}
-use Rattle.fits_edits.specs.declared.refusal.Refusal.TheVariants as refusal
+use Rattle.fits_making.specs.declared.refusal.Refusal.{Refusal}
+use Rattle.fits_making.specs.declared.refusal.Refusal.TheVariants as refusal
 use Rattle.fits_script.specs.Line.{reading_of}
 use Rattle.fits_script.specs.Misfit.{ends_in_return}
 use Rattle.fits_script.specs.Wording.{misfit_text, unwritable_text}

@@ -3,9 +3,9 @@ use Rattle.std.specs.Prelude.{ℕ, Bool, true, false, List, codes, Result, Ok, E
 use Rattle.std.specs.declared.alloc.AllocError.{AllocError}
 use Rattle.std.specs.declared.alloc.Global.{Global}
 use Rattle.std.specs.declared.vec.Vec.{Vec}
-use Rattle.fits_edits.specs.declared.refusal.Refusal.{Refusal as SessionRefusal}
-use Rattle.fits_edits.specs.declared.refusal.Refusal.TheVariants.{Memory}
-use Rattle.fits_edits.specs.Refusal.{refusal_text}
+use Rattle.fits_making.specs.declared.refusal.Refusal.{Refusal as SessionRefusal}
+use Rattle.fits_making.specs.declared.refusal.Refusal.TheVariants.{Memory}
+use Rattle.fits_making.specs.Refusal.{refusal_text}
 use Rattle.fits_cli.specs.Answer.{complaint}
 use Rattle.fits_cli.specs.declared.clues.Clues.{Clues}
 use Rattle.fits_cli.specs.declared.reply.Reply.{Reply}

@@ -25,13 +25,13 @@ use Rattle.fits_hdu.specs.Reshape.{kept_count}
 use Rattle.fits_hdu.specs.Work.{keyword_reads, reshape_reads, stamp_count_reads, stamp_reads, plane_work, IsPatched, IsRenewed, IsRescanned, PixelWork}
 use Rattle.fits_hdu.specs.declared.keyword_cards.KeywordCards.{KeywordCards}
 use Rattle.fits_laws.specs.Bounds.{mandatory_count, moved_count, reshaped_count, stamped_count, Grows, NoneFalls, OthersStay, SameCounts, WorksUpTo}
-use Rattle.fits_edits.specs.CardEdit.{change_of, is_keyword_name, set_of, setting, unset_of, unsetting}
+use Rattle.fits_making.specs.CardEdit.{change_of, is_keyword_name, set_of, setting, unset_of, unsetting}
 use Rattle.fits_session.specs.Edit.{changed_of, hdu_edited, hdu_of}
 use Rattle.fits_passing.specs.File.{is_primary_hdu}
-use Rattle.fits_edits.specs.HduEdit.{made_or, hdu_changed, hdu_made}
+use Rattle.fits_making.specs.HduEdit.{made_or, hdu_changed, hdu_made}
 use Rattle.fits_session.specs.Session.{AreIdle, Asks, AsksPixels, EditsTo, ReadsOnly, SessionState, file_of, hdus_of, read_more, reads_of, without_entries, works_of}
-use Rattle.fits_edits.specs.Making.{HduWork, PatchesIn, ReshapesIn}
-use Rattle.fits_edits.specs.Work.{change_reads, follow_up_reads, own_reads, reads_to_find, reads_to_reshape}
+use Rattle.fits_making.specs.Making.{HduWork, PatchesIn, ReshapesIn}
+use Rattle.fits_making.specs.Work.{change_reads, follow_up_reads, own_reads, reads_to_find, reads_to_reshape}
 use Rattle.fits_session.specs.Work.{follow_reads, reads_in_all}
 use Rattle.fits_edit.specs.declared.card_edit.CardEdit.{CardEdit}
 use Rattle.fits_edit.specs.declared.card_edit.CardEdit.TheVariants.{Insert, Put, Delete, Move, Set, Unset}
@@ -40,7 +40,7 @@ use Rattle.fits_edit.specs.declared.edit.Edit.TheVariants.{Hdu, NewImage, Remove
 use Rattle.fits_edit.specs.declared.hdu_edit.HduEdit.{HduEdit}
 use Rattle.fits_edit.specs.declared.hdu_edit.HduEdit.TheVariants.{Cards, Keep, Pixels, Release, Reshape, Stamp}
 use Rattle.fits_edit.specs.declared.paint.Paint.{Paint}
-use Rattle.fits_edits.specs.declared.refusal.Refusal.{Refusal}
+use Rattle.fits_making.specs.declared.refusal.Refusal.{Refusal}
 use Rattle.fits_card.specs.Name.{is_settable}
 use Rattle.fits_value.specs.Written.{write_says}
 use Rattle.std.proofs.lemmas.List.Sums.{count_by-le-length}

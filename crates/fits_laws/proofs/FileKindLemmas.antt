@@ -11,7 +11,7 @@ use Rattle.fits_hdu.specs.declared.pixel_fault.PixelFault.{PixelFault}
 use Rattle.fits_hdu.specs.declared.pixel_fault.PixelFault.TheVariants as pixel
 use Rattle.fits_session.specs.Edit.{hdu_of}
 use Rattle.fits_passing.specs.File.{is_primary_hdu, FileParts}
-use Rattle.fits_edits.specs.HduEdit.{pixels_made, shaped}
+use Rattle.fits_making.specs.HduEdit.{pixels_made, shaped}
 use Rattle.fits_session.specs.Query.{by_shape, in_hdu, kind_in}
 use Rattle.fits_laws.specs.Files.{IsKindIn}
 

@@ -9,7 +9,7 @@ use Rattle.fits_session.specs.Marked.{Marked, marked_after, marked_refusal}
 use Rattle.fits_laws.specs.Edits.{AreRight}
 use Rattle.fits_session.specs.Session.{file_of, marked_of, EditsTo, SessionState}
 use Rattle.fits_edit.specs.declared.edit.Edit.{Edit}
-use Rattle.fits_edits.specs.declared.refusal.Refusal.{Refusal}
+use Rattle.fits_making.specs.declared.refusal.Refusal.{Refusal}
 
 -- an accepted edit leaves a file, and both sums right in the HDUs that are kept stamped
 abbrev pub LeavesFiles : Type 0

@@ -12,19 +12,19 @@ use Rattle.fits_value.specs.Written.{write_says}
 use Rattle.fits_passing.specs.Hdu.{HduParts, hdu_after, keeps_shape}
 use Rattle.fits_hdu.specs.Keyword.{keyword_cards}
 use Rattle.fits_hdu.specs.declared.keyword_cards.KeywordCards.{KeywordCards}
-use Rattle.fits_edits.specs.CardEdit.{change_of, is_in_range, is_keyword_name, own_refusal, set_of, setting, unless, unset_of, unsetting, HasCardSizes}
+use Rattle.fits_making.specs.CardEdit.{change_of, is_in_range, is_keyword_name, own_refusal, set_of, setting, unless, unset_of, unsetting, HasCardSizes}
 use Rattle.fits_laws.specs.Edits.{LeavesNoMore}
 use Rattle.fits_session.specs.Edit.{hdu_of, with_hdu}
 use Rattle.fits_passing.specs.File.{is_primary_hdu, FileParts, IsFileOf}
-use Rattle.fits_edits.specs.HduEdit.{hdu_changed, hdu_made}
+use Rattle.fits_making.specs.HduEdit.{hdu_changed, hdu_made}
 use Rattle.fits_session.specs.Refusal.{made_refusal, refusal_in, refusal_of, size_refusal}
 use Rattle.fits_edit.specs.declared.card_edit.CardEdit.{CardEdit}
 use Rattle.fits_edit.specs.declared.card_edit.CardEdit.TheVariants.{Insert, Put, Delete, Move, Set, Unset}
 use Rattle.fits_edit.specs.declared.edit.Edit.TheVariants.{Hdu}
 use Rattle.fits_edit.specs.declared.hdu_edit.HduEdit.TheVariants.{Cards}
-use Rattle.fits_edits.specs.declared.refusal.Refusal.{Refusal}
-use Rattle.fits_edits.specs.declared.refusal.Refusal.TheVariants as refusal
-use Rattle.fits_edits.proofs.CardEditLemmas.{made_in_range, made_inner}
+use Rattle.fits_making.specs.declared.refusal.Refusal.{Refusal}
+use Rattle.fits_making.specs.declared.refusal.Refusal.TheVariants as refusal
+use Rattle.fits_making.proofs.CardEditLemmas.{made_in_range, made_inner}
 use Rattle.fits_laws.proofs.RightLemmas.{changed_at-same, fewer_cards}
 
 -- a refusal by a test of the edit itself

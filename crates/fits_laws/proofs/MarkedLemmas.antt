@@ -3,7 +3,7 @@ use Rattle.std.proofs.Common.{◌≡◌, ℕ, zero, suc, false, List, [], ◌∷
 use Rattle.fits_passing.specs.Hdu.{HduParts}
 use Rattle.fits_session.specs.Edit.{changed_at, changed_of, file_after, hdu_of, with_hdu}
 use Rattle.fits_passing.specs.File.{FileParts}
-use Rattle.fits_edits.specs.Keeping.{stamp_follows, stamped_if}
+use Rattle.fits_making.specs.Keeping.{stamp_follows, stamped_if}
 use Rattle.fits_session.specs.Marked.{is_kept, marked_after, marked_refusal}
 use Rattle.fits_laws.specs.Edits.{UnmarkedArePlain}
 use Rattle.fits_session.specs.Refusal.{refusal_in, refusal_of}

@@ -7,23 +7,23 @@ use Rattle.fits_card.specs.declared.change.Change.{Change}
 use Rattle.fits_card.proofs.HeaderLemmas.{whole-with_cards}
 use Rattle.fits_passing.specs.Hdu.{HduParts, hdu_after, hdu_bytes, IsHdu}
 use Rattle.fits_hdu.proofs.ChangeLemmas.{inner_after}
-use Rattle.fits_edits.proofs.MakingLemmas.{header_long, kept_limits}
+use Rattle.fits_making.proofs.MakingLemmas.{header_long, kept_limits}
 use Rattle.std.specs.List.{slice_get, insert, remove}
 use Rattle.fits_session.specs.Edit.{changed_at, changed_of, hdu_edited, hdu_of, file_after, with_hdu, HasSizes}
 use Rattle.fits_passing.specs.File.{is_primary_hdu, FileParts, file_bytes, IsFileOf, IsFile}
-use Rattle.fits_edits.specs.HduEdit.{made_or, hdu_made, HasHduSizes}
+use Rattle.fits_making.specs.HduEdit.{made_or, hdu_made, HasHduSizes}
 use Rattle.std.specs.Prelude.{not, if◌then◌else◌, Result, Ok, Err, IsOk}
 use Rattle.fits_image.specs.declared.kind.Kind.{Kind}
-use Rattle.fits_edits.specs.CardEdit.{is_within}
+use Rattle.fits_making.specs.CardEdit.{is_within}
 use Rattle.fits_session.specs.Refusal.{new_image_refusal, made_refusal, refusal_in, refusal_of, size_refusal}
-use Rattle.fits_edits.specs.declared.refusal.Refusal.{Refusal}
-use Rattle.fits_edits.specs.declared.refusal.Refusal.TheVariants as refusal
+use Rattle.fits_making.specs.declared.refusal.Refusal.{Refusal}
+use Rattle.fits_making.specs.declared.refusal.Refusal.TheVariants as refusal
 use Rattle.fits_session.proofs.ListEditLemmas.{in_range}
 use Rattle.fits_hdu.specs.Stamp.{stamped}
 use Rattle.fits_passing.specs.Sums.{verdicts_of}
 use Rattle.fits_hdu.specs.NewImage.{new_image}
 use Rattle.fits_hdu.proofs.VerdictLemmas.{stamped_right}
-use Rattle.fits_edits.specs.Keeping.{both_right, kept_after, stamp_follows, stamped_if}
+use Rattle.fits_making.specs.Keeping.{both_right, kept_after, stamp_follows, stamped_if}
 use Rattle.fits_session.specs.Marked.{Marked, is_kept, marked_after, marked_refusal}
 use Rattle.fits_laws.specs.Edits.{AreRight}
 use Rattle.fits_passing.specs.declared.limits.TheConstants.{FILE_LIMIT, HDU_LIMIT}
@@ -33,7 +33,7 @@ use Rattle.fits_edit.specs.declared.hdu_edit.HduEdit.{HduEdit}
 use Rattle.fits_edit.specs.declared.hdu_edit.HduEdit.TheVariants.{Cards, Keep, Pixels, Release, Reshape, Stamp}
 use Rattle.fits_session.proofs.ChangeLemmas.{changed_at-both, hdu_is, length-changed}
 use Rattle.fits_session.proofs.EditLemmas.{length_changed}
-use Rattle.fits_edits.proofs.KeepingLemmas.{finished_right, no_longer}
+use Rattle.fits_making.proofs.KeepingLemmas.{finished_right, no_longer}
 use Rattle.fits_session.proofs.LawLemmas.{made_whole}
 
 -- how many bytes an HDU has with its cards changed

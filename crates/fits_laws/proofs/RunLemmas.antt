@@ -6,7 +6,7 @@ use Rattle.fits_edit.specs.declared.edit.Edit.{Edit as SessionEdit}
 use Rattle.fits_session.specs.Edit.{HasSizes}
 use Rattle.fits_session.specs.Marked.{Marked, kept_in, marked_after, marked_refusal}
 use Rattle.fits_session.specs.Query.{datasum_in, positions_in, rect_in, stats_in, value_in, verdicts_in}
-use Rattle.fits_edits.specs.declared.refusal.Refusal.{Refusal}
+use Rattle.fits_making.specs.declared.refusal.Refusal.{Refusal}
 use Rattle.fits_script.specs.Line.{reading_of}
 use Rattle.fits_script.specs.declared.command.Command.{Command}
 use Rattle.fits_script.specs.declared.command.Command.TheVariants.{Nothing, Edit, Offsets, Get, Positions, Report, Statistics, Rectangle, Sums, Kept}
@@ -17,7 +17,7 @@ use Rattle.fits_cli.specs.Output.{standing_after}
 use Rattle.fits_cli.proofs.ResultLemmas.{said_line}
 use Rattle.fits_cli.proofs.SizeLemmas.{IsSized}
 use Rattle.fits_passing.specs.File.{FileParts, IsFile}
-use Rattle.fits_edits.specs.Keeping.{are_right, vouch}
+use Rattle.fits_making.specs.Keeping.{are_right, vouch}
 use Rattle.fits_session.specs.Marked.{unmarked, vouched}
 use Rattle.fits_cli.specs.Answer.{at_first_line}
 use Rattle.fits_cli.specs.declared.terms.Terms.{Terms}

@@ -27,8 +27,8 @@ use Rattle.fits_rules.proofs.LeadLemmas.{NoneBefore, lead_at}
 use Rattle.fits_rules.proofs.LeadCardLemmas.{lead_to}
 use Rattle.fits_hdu.specs.Keyword.{keyword_cards, keyword_value, with_links, replacing}
 use Rattle.fits_hdu.proofs.KeywordLemmas.{keyword_at, keyword_nowhere, lead_says}
-use Rattle.fits_edits.specs.CardEdit.{setting, set_of}
-use Rattle.fits_edits.proofs.CardEditLemmas.{set_if}
+use Rattle.fits_making.specs.CardEdit.{setting, set_of}
+use Rattle.fits_making.proofs.CardEditLemmas.{set_if}
 
 -- a card that is written under a name has that name and a value
 written_valued : (name value : List ℕ) (comment : Option (List ℕ)) → length name ≡ 8 → is_valueless name ≡ false → is_value_of name (card_of (value_lead name) value comment) ≡ true

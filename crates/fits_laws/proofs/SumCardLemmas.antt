@@ -26,11 +26,11 @@ use Rattle.fits_hdu.proofs.ReshapeLemmas.{can_parts, reshaped_has_kind, reshaped
 use Rattle.fits_edit.specs.declared.hdu_edit.HduEdit.{HduEdit}
 use Rattle.fits_edit.specs.declared.hdu_edit.HduEdit.TheVariants.{Cards, Keep, Pixels, Release, Reshape, Stamp}
 use Rattle.fits_edit.specs.Paint.{plane_paint}
-use Rattle.fits_edits.specs.CardEdit.{change_of}
+use Rattle.fits_making.specs.CardEdit.{change_of}
 use Rattle.fits_session.specs.Edit.{hdu_edited}
-use Rattle.fits_edits.specs.HduEdit.{made_or, hdu_changed, hdu_made, hdu_reshaped, pixels_made, reshape_made, shaped}
-use Rattle.fits_edits.specs.declared.refusal.Refusal.{Refusal}
-use Rattle.fits_edits.specs.declared.refusal.Refusal.TheVariants as refusal
+use Rattle.fits_making.specs.HduEdit.{made_or, hdu_changed, hdu_made, hdu_reshaped, pixels_made, reshape_made, shaped}
+use Rattle.fits_making.specs.declared.refusal.Refusal.{Refusal}
+use Rattle.fits_making.specs.declared.refusal.Refusal.TheVariants as refusal
 use Rattle.fits_laws.specs.Sums.{SumCards, has_no_sum, leaves_sums, passes_sums, sum_cards}
 
 -- where both hold each does

@@ -14,8 +14,8 @@ use Rattle.fits_edit.specs.declared.hdu_edit.HduEdit.{HduEdit}
 use Rattle.fits_edit.specs.declared.hdu_edit.HduEdit.TheVariants.{Cards, Keep, Pixels, Release, Reshape, Stamp}
 use Rattle.fits_session.specs.Edit.{changed_at, file_after, hdu_edited, hdu_of, HasSizes}
 use Rattle.fits_passing.specs.File.{is_primary_hdu, FileParts, file_bytes, IsFile}
-use Rattle.fits_edits.specs.HduEdit.{hdu_made, HasHduSizes}
-use Rattle.fits_edits.specs.Keeping.{are_right, both_right, is_right, is_wrong, kept_after, stamp_follows, stamped_if, vouch}
+use Rattle.fits_making.specs.HduEdit.{hdu_made, HasHduSizes}
+use Rattle.fits_making.specs.Keeping.{are_right, both_right, is_right, is_wrong, kept_after, stamp_follows, stamped_if, vouch}
 use Rattle.fits_session.specs.Marked.{Marked, is_kept, marked_after, marked_refusal, marks_after}
 use Rattle.fits_session.specs.Query.{in_hdu}
 use Rattle.fits_session.specs.Refusal.{refusal_in}

@@ -11,7 +11,7 @@ use Rattle.fits_hdu.specs.Keyword.{own_count}
 use Rattle.fits_hdu.specs.State.{HduState}
 use Rattle.fits_hdu.specs.Work.{PixelWork}
 use Rattle.fits_session.specs.Session.{reads_of, works_of}
-use Rattle.fits_edits.specs.declared.refusal.Refusal.{Refusal}
+use Rattle.fits_making.specs.declared.refusal.Refusal.{Refusal}
 
 -- how many mandatory cards a shape has before those of its extension: the first, BITPIX, NAXIS and its axes (4.4.1.1)
 abbrev pub mandatory_count : Shape → ℕ

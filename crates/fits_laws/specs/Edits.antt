@@ -6,7 +6,7 @@ use Rattle.fits_passing.specs.Hdu.{HduParts}
 use Rattle.fits_passing.specs.Sums.{verdicts_of}
 use Rattle.fits_session.specs.Edit.{file_after, hdu_of}
 use Rattle.fits_passing.specs.File.{FileParts}
-use Rattle.fits_edits.specs.Keeping.{both_right}
+use Rattle.fits_making.specs.Keeping.{both_right}
 use Rattle.fits_session.specs.Refusal.{refusal_of}
 use Rattle.fits_edit.specs.declared.edit.Edit.{Edit}
 use Rattle.fits_session.specs.Marked.{Marked, is_kept, marked_after, marked_refusal, unmarked}

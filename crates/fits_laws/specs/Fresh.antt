@@ -14,7 +14,7 @@ use Rattle.fits_session.specs.Session.{marked_of, EditsTo, SessionState}
 use Rattle.fits_edit.specs.declared.edit.Edit.{Edit}
 use Rattle.fits_passing.specs.declared.offsets.HduOffsets.{HduOffsets}
 use Rattle.fits_passing.specs.declared.problem.Problem.{Problem}
-use Rattle.fits_edits.specs.declared.refusal.Refusal.{Refusal}
+use Rattle.fits_making.specs.declared.refusal.Refusal.{Refusal}
 
 -- all that queries answer of a file: of the whole, and of HDU h, or its refusal
 pub record Fresh : Type 0 where

@@ -2,7 +2,7 @@
 use Rattle.std.specs.Prelude.{◌≡◌, ℕ, List, [], ◌∷◌, ◌++◌, map, Option, None, Some}
 use Rattle.fits_edit.specs.declared.edit.Edit.{Edit}
 use Rattle.fits_session.specs.Marked.{Marked, marked_refusal}
-use Rattle.fits_edits.specs.declared.refusal.Refusal.{Refusal}
+use Rattle.fits_making.specs.declared.refusal.Refusal.{Refusal}
 use Rattle.fits_script.specs.Line.{reading_of}
 use Rattle.fits_script.specs.declared.command.Command.TheVariants as command
 use Rattle.fits_script.specs.declared.line_reading.LineReading.{LineReading}
@@ -10,7 +10,7 @@ use Rattle.fits_script.specs.declared.line_reading.LineReading.TheVariants.{Said
 use Rattle.fits_cli.specs.Answer.{Standing, line_left}
 use Rattle.fits_cli.specs.Output.{standing_after}
 use Rattle.fits_passing.specs.File.{FileParts}
-use Rattle.fits_edits.specs.Keeping.{are_right, vouch}
+use Rattle.fits_making.specs.Keeping.{are_right, vouch}
 use Rattle.fits_session.specs.Marked.{vouched}
 use Rattle.fits_cli.specs.Answer.{at_first_line}
 use Rattle.fits_cli.specs.declared.terms.Terms.{Terms}

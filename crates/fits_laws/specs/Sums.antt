@@ -9,13 +9,13 @@ use Rattle.fits_rules.specs.Lead.{lead_card}
 use Rattle.fits_passing.specs.Hdu.{HduParts}
 use Rattle.fits_passing.specs.Sums.{verdicts_of}
 use Rattle.fits_passing.specs.declared.verdicts.Verdicts.{Verdicts}
-use Rattle.fits_edits.specs.CardEdit.{change_of}
+use Rattle.fits_making.specs.CardEdit.{change_of}
 use Rattle.fits_session.specs.Edit.{changed_of, hdu_of, HasSizes}
 use Rattle.fits_passing.specs.File.{FileParts, IsFile}
-use Rattle.fits_edits.specs.Keeping.{are_right, both_right, vouch}
+use Rattle.fits_making.specs.Keeping.{are_right, both_right, vouch}
 use Rattle.fits_session.specs.Marked.{Marked, is_kept, kept_in, marked_after, marked_refusal, marks_after, vouched}
 use Rattle.fits_session.specs.Query.{in_hdu}
-use Rattle.fits_edits.specs.declared.refusal.Refusal.{Refusal}
+use Rattle.fits_making.specs.declared.refusal.Refusal.{Refusal}
 use Rattle.fits_laws.specs.Edits.{AreRight}
 use Rattle.fits_edit.specs.declared.edit.Edit.{Edit}
 use Rattle.fits_edit.specs.declared.edit.Edit.TheVariants.{Hdu, NewImage, RemoveHdu}

@@ -7,7 +7,7 @@ ghost use Rattle.fits_value.specs.declared.value.Value.{Value};
 ghost use Rattle.fits_passing.specs.Hdu.{HduParts, hdu_after};
 ghost use Rattle.fits_hdu.specs.Keyword.{keyword_value};
 ghost use Rattle.fits_image.specs.declared.kind.Kind.{Kind};
-ghost use Rattle.fits_edits.specs.CardEdit.{set_of, HasCardSizes};
+ghost use Rattle.fits_making.specs.CardEdit.{set_of, HasCardSizes};
 ghost use Rattle.fits_laws.specs.Edits.{LeavesNoMore};
 ghost use Rattle.fits_session.specs.Edit.{hdu_of, with_hdu, HasSizes};
 ghost use Rattle.fits_passing.specs.File.{FileParts, file_bytes, IsFile, IsFileOf};
@@ -29,7 +29,7 @@ ghost use Rattle.fits_edit.specs.declared.edit.Edit.{Edit};
 ghost use Rattle.fits_edit.specs.declared.hdu_edit.HduEdit.{HduEdit};
 ghost use Rattle.fits_passing.specs.declared.open_fault.OpenFault.{OpenFault};
 ghost use Rattle.fits_passing.specs.declared.problem.Problem.{Problem};
-ghost use Rattle.fits_edits.specs.declared.refusal.Refusal.TheVariants.{Memory, TooLarge};
+ghost use Rattle.fits_making.specs.declared.refusal.Refusal.TheVariants.{Memory, TooLarge};
 
 use crate::image::which_kind_an_image_has;
 

@@ -17,9 +17,9 @@ ghost use Rattle.fits_hdu.specs.Reshape.{kept_count};
 ghost use Rattle.fits_hdu.specs.Work.{keyword_reads, plane_work, FollowsBlank, IsOpened, IsRenewed, PixelWork};
 ghost use Rattle.fits_laws.specs.Bounds.{mandatory_count, most_reads, moved_count, reshaped_count, stamped_count};
 ghost use Rattle.fits_laws.specs.Bounds.{unworked, NoneFalls, OthersStay, SameCounts, ScansUpTo, WorksUpTo};
-ghost use Rattle.fits_edits.specs.CardEdit.{change_of};
+ghost use Rattle.fits_making.specs.CardEdit.{change_of};
 ghost use Rattle.fits_session.specs.Edit.{hdu_edited};
-ghost use Rattle.fits_edits.specs.Making.{unread, HduWork};
+ghost use Rattle.fits_making.specs.Making.{unread, HduWork};
 ghost use Rattle.fits_session.specs.Session.{without_entries, works_of, Asks, AsksPixels, EditsTo, PutsIn, ReadsOnceAtMost};
 ghost use Rattle.fits_session.specs.Session.{SessionState};
 ghost use Rattle.fits_session.specs.Work.{reads_in_all};
@@ -27,7 +27,7 @@ ghost use Rattle.fits_edit.specs.declared.card_edit.CardEdit.{CardEdit};
 ghost use Rattle.fits_edit.specs.declared.edit.Edit.{Edit};
 ghost use Rattle.fits_edit.specs.declared.hdu_edit.HduEdit.{HduEdit};
 ghost use Rattle.fits_edit.specs.declared.paint.Paint.{Paint};
-ghost use Rattle.fits_edits.specs.declared.refusal.Refusal.{Refusal};
+ghost use Rattle.fits_making.specs.declared.refusal.Refusal.{Refusal};
 
 /// An edit of cards, or a stamp, reads cards of its HDU alone, at most four for each mandatory one,
 /// four for each that it takes out or puts in, and 64; it scans no block, or each of its data unit

@@ -33,12 +33,12 @@ use Rattle.fits_session.specs.Away.{is_passed, parts_passed, AllLie, AreKnownFro
 use Rattle.fits_session.specs.Edit.{changed_of, with_hdu}
 use Rattle.fits_passing.specs.File.{is_primary_hdu, FileParts, file_bytes, joined_hdus, IsFile}
 use Rattle.fits_passing.specs.Opening.{HasOpenFault}
-use Rattle.fits_edits.specs.Keeping.{vouch, IsSound}
+use Rattle.fits_making.specs.Keeping.{vouch, IsSound}
 use Rattle.fits_passing.specs.Reading.{GaveFault, KeepsEach, SupplyStops}
 use Rattle.fits_session.specs.Session.{file_of, hdus_of, marked_of, state_of, HasPixels, HasStats, IsHeld, IsKept, IsSoOf}
-use Rattle.fits_edits.specs.Making.{HasArray, Holding, IsHad}
+use Rattle.fits_making.specs.Making.{HasArray, Holding, IsHad}
 use Rattle.fits_passing.specs.declared.limits.TheConstants.{FILE_LIMIT}
-use Rattle.fits_edits.proofs.HadLemmas.{had_held}
+use Rattle.fits_making.proofs.HadLemmas.{had_held}
 use Rattle.fits_session.proofs.EditLemmas.{length_changed, other_kept}
 use Rattle.fits_passing.specs.declared.read_file_fault.ReadFileFault.{ReadFileFault}
 use Rattle.fits_session.proofs.StandingLemmas.{stands_same}

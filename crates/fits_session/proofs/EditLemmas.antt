@@ -20,32 +20,32 @@ use Rattle.fits_hdu.specs.Reshape.{reshaped_shape}
 use Rattle.fits_hdu.specs.Work.{PixelWork, plane_work}
 use Rattle.fits_session.specs.Edit.{changed_at, changed_of, file_after, hdu_edited, hdu_of, with_hdu}
 use Rattle.fits_passing.specs.File.{is_primary_hdu, FileParts, file_bytes, joined_hdus, IsFile, IsFileOf}
-use Rattle.fits_edits.specs.HduEdit.{hdu_made}
-use Rattle.fits_edits.specs.Keeping.{kept_after, padded_if, stamp_follows, stamped_if, then_stamped, vouch, IsSound}
+use Rattle.fits_making.specs.HduEdit.{hdu_made}
+use Rattle.fits_making.specs.Keeping.{kept_after, padded_if, stamp_follows, stamped_if, then_stamped, vouch, IsSound}
 use Rattle.fits_passing.specs.Limits.{is_within_limits}
 use Rattle.fits_session.specs.Marked.{Marked, is_kept, marked_after, marked_file_after, marked_refusal, marks_after}
-use Rattle.fits_edits.specs.Refusal.{limit_refusal, Fails, HduNeedsMemory, OrStampNeedsMemory}
+use Rattle.fits_making.specs.Refusal.{limit_refusal, Fails, HduNeedsMemory, OrStampNeedsMemory}
 use Rattle.fits_session.specs.Refusal.{made_refusal, refusal_in}
 use Rattle.fits_session.specs.Session.{file_of, hdus_of, kept_of, marked_of, reads_of, state_of, works_of, AreIdle, EditsTo, EditWork, HduWorks, IsKept, IsNowhere, ReadsOnly, WorksOnly}
-use Rattle.fits_edits.specs.Making.{length_with, within_refusal, HduEditsTo, HduWork, Holding, IsHad, IsIdle}
+use Rattle.fits_making.specs.Making.{length_with, within_refusal, HduEditsTo, HduWork, Holding, IsHad, IsIdle}
 use Rattle.fits_session.specs.NameTable.{Stands, Stood}
 use Rattle.fits_session.specs.Work.{edit_reads, follow_reads, reads_in_all}
-use Rattle.fits_edits.specs.Work.{follow_up_reads, hdu_reads}
+use Rattle.fits_making.specs.Work.{follow_up_reads, hdu_reads}
 use Rattle.fits_edit.specs.HduEdit.{may_rename}
 use Rattle.fits_edit.specs.declared.edit.Edit.{Edit}
 use Rattle.fits_edit.specs.declared.edit.Edit.TheVariants.{Hdu, NewImage, RemoveHdu}
 use Rattle.fits_edit.specs.declared.hdu_edit.HduEdit.{HduEdit}
 use Rattle.fits_edit.specs.declared.hdu_edit.HduEdit.TheVariants.{Cards, Keep, Pixels, Release, Reshape, Stamp}
 use Rattle.fits_passing.specs.declared.limits.TheConstants.{FILE_LIMIT}
-use Rattle.fits_edits.specs.declared.refusal.Refusal.{Refusal}
-use Rattle.fits_edits.specs.declared.refusal.Refusal.TheVariants as refusal
+use Rattle.fits_making.specs.declared.refusal.Refusal.{Refusal}
+use Rattle.fits_making.specs.declared.refusal.Refusal.TheVariants as refusal
 use Rattle.fits_session.proofs.HadLemmas.{had_at}
-use Rattle.fits_edits.proofs.KeepingLemmas.{finished_named, finished_shape, stamped_made}
+use Rattle.fits_making.proofs.KeepingLemmas.{finished_named, finished_shape, stamped_made}
 use Rattle.fits_session.proofs.ChangeLemmas.{changed_at-both, front_changed, goes_on-changed, joined-changed, length-changed}
-use Rattle.fits_edits.proofs.PixelEditLemmas.{pixels_keep}
-use Rattle.fits_edits.proofs.ReshapeEditLemmas.{reshape_described, reshape_named}
+use Rattle.fits_making.proofs.PixelEditLemmas.{pixels_keep}
+use Rattle.fits_making.proofs.ReshapeEditLemmas.{reshape_described, reshape_named}
 use Rattle.fits_session.proofs.StandingLemmas.{stands_same}
-use Rattle.fits_edits.proofs.MakingLemmas.{limit_none, within_limits}
+use Rattle.fits_making.proofs.MakingLemmas.{limit_none, within_limits}
 use Rattle.fits_session.proofs.StateLemmas.{IsHduAt, file_of-same, kept_of-same, kept_there, parts_changed, right_moved, sound_of, hdu_of-nowhere, hdu_of-there, hdus_of-changed, length-hdus_of, part_there, primary_there, reads_more, reads_none, reads_twice, reads_up_to, slice_get-hdus_of, works_nowhere, rooms_of-same, unread_of-same, works_of-same, works_there}
 
 -- the file with another HDU at an index is one, where that HDU is one and the file isn't too long

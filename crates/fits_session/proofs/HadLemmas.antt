@@ -9,14 +9,14 @@ use Rattle.fits_hdu.specs.State.{HduState, ReadsUpTo}
 use Rattle.fits_unit.specs.DataUnit.{LiesIn}
 use Rattle.fits_passing.specs.declared.called.ExtensionName.{ExtensionName}
 use Rattle.fits_session.specs.Session.{unentered, without_entries, HasPixels, HasStats, IsHeld, IsKept, IsReadyFor, IsSoOf}
-use Rattle.fits_edits.specs.Making.{Holding, IsHad, IsReadyTo, StaysHad}
+use Rattle.fits_making.specs.Making.{Holding, IsHad, IsReadyTo, StaysHad}
 use Rattle.fits_edit.specs.declared.edit.Edit.{Edit}
 use Rattle.fits_edit.specs.declared.edit.Edit.TheVariants.{Hdu, NewImage, RemoveHdu}
 use Rattle.fits_edit.specs.declared.hdu_edit.HduEdit.{HduEdit}
 use Rattle.fits_edit.specs.declared.hdu_edit.HduEdit.TheVariants.{Cards, Keep, Pixels, Release, Reshape, Stamp}
 use Rattle.fits_session.proofs.KeptLemmas.{all_seen, seen_all}
 use Rattle.fits_session.proofs.StateLemmas.{IsHduAt}
-use Rattle.fits_edits.proofs.HadLemmas.{had_read, had_held}
+use Rattle.fits_making.proofs.HadLemmas.{had_read, had_held}
 
 -- HDUs that are all in memory are
 pub all_held : (holding : Holding) (hdus : List HduState) → All IsHeld hdus → All (IsHad holding) hdus

@@ -11,10 +11,10 @@ use Rattle.std.specs.Map.{keys_of}
 use Rattle.fits_passing.specs.File.{FileParts, file_bytes, IsFile}
 use Rattle.fits_session.specs.NameTable.{mended, names_of, Stands}
 use Rattle.fits_passing.specs.NameCounts.{IsTableOf, PointsAt}
-use Rattle.fits_edits.specs.Keeping.{IsSound}
+use Rattle.fits_making.specs.Keeping.{IsSound}
 use Rattle.fits_session.specs.Marked.{Marked, unmarked}
 use Rattle.fits_session.specs.Session.{file_of, hdus_of, kept_of, marked_of, reads_of, state_of, uncounted, unentered, without_counts, without_entries, works_of, AreNamed, IsKept}
-use Rattle.fits_edits.specs.Making.{Holding, IsHad}
+use Rattle.fits_making.specs.Making.{Holding, IsHad}
 use Rattle.fits_session.proofs.StateLemmas.{IsHduAt, parts_same, unkept_right}
 
 -- the parts of HDUs are no counts

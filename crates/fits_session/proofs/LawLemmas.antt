@@ -16,12 +16,12 @@ use Rattle.fits_hdu.proofs.NewImageLemmas.{new_is_hdu}
 use Rattle.fits_hdu.specs.Pixels.{painted}
 use Rattle.fits_hdu.proofs.PixelLemmas.{painted_hdu}
 use Rattle.fits_hdu.proofs.StampingLemmas.{stamped_is_hdu}
-use Rattle.fits_edits.specs.CardEdit.{change_of}
+use Rattle.fits_making.specs.CardEdit.{change_of}
 use Rattle.fits_session.specs.Edit.{hdu_edited, hdu_of, file_after, with_hdu, with_new_hdu, without_hdu, HasSizes}
 use Rattle.fits_passing.specs.File.{is_primary_hdu, FileParts, file_bytes, IsFileOf, IsFile}
-use Rattle.fits_edits.specs.HduEdit.{made_or, hdu_changed, hdu_made, pixels_made, shaped, HasHduSizes}
+use Rattle.fits_making.specs.HduEdit.{made_or, hdu_changed, hdu_made, pixels_made, shaped, HasHduSizes}
 use Rattle.fits_edit.specs.Paint.{plane_paint}
-use Rattle.fits_edits.specs.Keeping.{padded_if, stamp_follows, stamped_if}
+use Rattle.fits_making.specs.Keeping.{padded_if, stamp_follows, stamped_if}
 use Rattle.fits_passing.specs.Limits.{is_within_limits}
 use Rattle.fits_session.specs.Marked.{Marked, is_kept, marked_after, marked_refusal}
 use Rattle.fits_passing.specs.declared.limits.TheConstants.{FILE_LIMIT}
@@ -30,15 +30,15 @@ use Rattle.fits_edit.specs.declared.edit.Edit.{Edit}
 use Rattle.fits_edit.specs.declared.edit.Edit.TheVariants.{Hdu, NewImage, RemoveHdu}
 use Rattle.fits_edit.specs.declared.hdu_edit.HduEdit.{HduEdit}
 use Rattle.fits_edit.specs.declared.hdu_edit.HduEdit.TheVariants.{Cards, Keep, Pixels, Release, Reshape, Stamp}
-use Rattle.fits_edits.specs.declared.refusal.Refusal.{Refusal}
-use Rattle.fits_edits.specs.declared.refusal.Refusal.TheVariants as refusal
-use Rattle.fits_edits.proofs.CardEditLemmas.{made_inner}
+use Rattle.fits_making.specs.declared.refusal.Refusal.{Refusal}
+use Rattle.fits_making.specs.declared.refusal.Refusal.TheVariants as refusal
+use Rattle.fits_making.proofs.CardEditLemmas.{made_inner}
 use Rattle.fits_session.proofs.ChangeLemmas.{changed_at-both, hdu_is}
 use Rattle.fits_session.proofs.EditLemmas.{length_changed, other_kept}
-use Rattle.fits_edits.proofs.KeepingLemmas.{finished_short, finished_whole}
+use Rattle.fits_making.proofs.KeepingLemmas.{finished_short, finished_whole}
 use Rattle.fits_session.proofs.ListEditLemmas.{inserted_is_a_file, new_passes, removed_is_a_file}
-use Rattle.fits_edits.proofs.MakingLemmas.{kept_whole, limit_none, within_limits}
-use Rattle.fits_edits.proofs.ReshapeEditLemmas.{reshape_whole}
+use Rattle.fits_making.proofs.MakingLemmas.{kept_whole, limit_none, within_limits}
+use Rattle.fits_making.proofs.ReshapeEditLemmas.{reshape_whole}
 
 -- a change that is taken keeps the shape
 taken : (kept : Bool) (hdu made : HduParts) → ◌≡◌ {A = Result HduParts Refusal} (if kept then Ok hdu else Err refusal.Shape) (Ok made) → (kept ≡ true) × (hdu ≡ made)

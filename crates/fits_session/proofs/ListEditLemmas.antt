@@ -15,19 +15,19 @@ use Rattle.fits_hdu.specs.Work.{plane_work, IsMade}
 use Rattle.fits_image.specs.declared.kind.Kind.{Kind}
 use Rattle.fits_hdu.proofs.NewImageLemmas.{new_is_hdu}
 use Rattle.fits_pixels.specs.Layout.{block_count}
-use Rattle.fits_edits.specs.CardEdit.{is_within}
+use Rattle.fits_making.specs.CardEdit.{is_within}
 use Rattle.fits_session.specs.Edit.{hdu_of, with_new_hdu, without_hdu, file_after}
 use Rattle.fits_passing.specs.File.{FileParts, file_bytes, goes_on, joined_hdus, IsFile, IsFileOf, IsFrontOf}
 use Rattle.fits_passing.specs.Limits.{is_within_limits}
 use Rattle.fits_passing.specs.declared.limits.TheConstants.{FILE_LIMIT, HDU_LIMIT}
 use Rattle.fits_session.specs.Refusal.{new_image_refusal, primary_refusal, refusal_of, removal_refusal, size_refusal, NewNeedsMemory}
-use Rattle.fits_edits.specs.Refusal.{Fails}
+use Rattle.fits_making.specs.Refusal.{Fails}
 use Rattle.fits_session.specs.Marked.{Marked, marked_after, marked_refusal}
 use Rattle.fits_session.specs.Session.{file_of, hdus_of, kept_of, marked_of, state_of, unentered, without_entries, EditsTo, IsIndexOf, IsNowhere, SessionState}
 use Rattle.fits_edit.specs.declared.edit.Edit.TheVariants.{NewImage, RemoveHdu}
-use Rattle.fits_edits.specs.declared.refusal.Refusal.{Refusal}
-use Rattle.fits_edits.specs.declared.refusal.Refusal.TheVariants as refusal
-use Rattle.fits_edits.proofs.MakingLemmas.{kept_limits, limit_none, within_limits}
+use Rattle.fits_making.specs.declared.refusal.Refusal.{Refusal}
+use Rattle.fits_making.specs.declared.refusal.Refusal.TheVariants as refusal
+use Rattle.fits_making.proofs.MakingLemmas.{kept_limits, limit_none, within_limits}
 use Rattle.fits_passing.proofs.FrontLemmas.{goes_on-some, some_hdus}
 use Rattle.indexmap.proofs.SetLemmas.{map-remove}
 use Rattle.fits_session.proofs.KeptLemmas.{file_of-unentered, kept_moved}

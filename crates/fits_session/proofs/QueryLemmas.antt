@@ -25,16 +25,16 @@ use Rattle.fits_image.specs.declared.kind.Kind.{Kind}
 use Rattle.fits_hdu.specs.declared.keyword.KeywordFault.{KeywordFault}
 use Rattle.fits_hdu.specs.declared.keyword.KeywordFault.TheVariants as keyword
 use Rattle.fits_session.specs.Edit.{hdu_of}
-use Rattle.fits_edits.specs.HduEdit.{pixels_made, refusal_of_pixels, shaped}
+use Rattle.fits_making.specs.HduEdit.{pixels_made, refusal_of_pixels, shaped}
 use Rattle.fits_passing.specs.File.{IsFile, is_primary_hdu}
 use Rattle.fits_session.specs.Query.{array_in, by_shape, card_count_in, datasum_in, kind_in, rect_in, shape_in, some_shape, stats_in, verdicts_in, value_in, positions_in, names_in, in_hdu, or_refused, PlacesFail, QueryFails}
-use Rattle.fits_edits.specs.Refusal.{refusal_of_keyword}
-use Rattle.fits_edits.specs.Keeping.{are_right, both_right, is_right}
+use Rattle.fits_making.specs.Refusal.{refusal_of_keyword}
+use Rattle.fits_making.specs.Keeping.{are_right, both_right, is_right}
 use Rattle.fits_session.specs.Marked.{is_kept, kept_in}
 use Rattle.fits_session.specs.Session.{file_of, kept_of, marked_of, read_more, state_of, Asks, AsksPixels}
 use Rattle.fits_session.specs.Work.{reads_in, value_reads}
-use Rattle.fits_edits.specs.declared.refusal.Refusal.{Refusal}
-use Rattle.fits_edits.specs.declared.refusal.Refusal.TheVariants as refusal
+use Rattle.fits_making.specs.declared.refusal.Refusal.{Refusal}
+use Rattle.fits_making.specs.declared.refusal.Refusal.TheVariants as refusal
 use Rattle.fits_session.proofs.StateLemmas.{IsHduAt, hdu_of-there, described_there, asked, kept_there, marked_of-same, reads_of-same, works_changed}
 
 -- how many cards HDU h has

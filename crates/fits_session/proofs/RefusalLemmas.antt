@@ -23,11 +23,11 @@ use Rattle.fits_hdu.specs.declared.keyword_cards.KeywordCards.{KeywordCards}
 use Rattle.fits_image.specs.declared.kind.Kind.{Kind}
 use Rattle.fits_hdu.specs.declared.pixel_fault.PixelFault.{PixelFault}
 use Rattle.fits_hdu.specs.declared.pixel_fault.PixelFault.TheVariants as pixel
-use Rattle.fits_edits.specs.CardEdit.{change_of, is_within, set_of, setting}
+use Rattle.fits_making.specs.CardEdit.{change_of, is_within, set_of, setting}
 use Rattle.fits_session.specs.Edit.{hdu_of, with_hdu, with_new_hdu}
 use Rattle.fits_passing.specs.File.{is_primary_hdu, FileParts, file_bytes}
-use Rattle.fits_edits.specs.HduEdit.{hdu_changed, hdu_made, hdu_reshaped, pixels_made, shaped}
-use Rattle.fits_edits.specs.Keeping.{padded_if, stamp_follows}
+use Rattle.fits_making.specs.HduEdit.{hdu_changed, hdu_made, hdu_reshaped, pixels_made, shaped}
+use Rattle.fits_making.specs.Keeping.{padded_if, stamp_follows}
 use Rattle.fits_passing.specs.Limits.{is_within_limits}
 use Rattle.fits_session.specs.Marked.{Marked, is_kept, marked_refusal}
 use Rattle.fits_session.specs.Refusal.{made_refusal, new_image_refusal, refusal_in, refusal_of, removal_refusal, size_refusal}
@@ -38,11 +38,11 @@ use Rattle.fits_edit.specs.declared.edit.Edit.{Edit}
 use Rattle.fits_edit.specs.declared.edit.Edit.TheVariants.{Hdu, NewImage, RemoveHdu}
 use Rattle.fits_edit.specs.declared.hdu_edit.HduEdit.{HduEdit}
 use Rattle.fits_edit.specs.declared.hdu_edit.HduEdit.TheVariants.{Cards, Keep, Pixels, Release, Reshape, Stamp}
-use Rattle.fits_edits.specs.declared.refusal.Refusal.{Refusal}
-use Rattle.fits_edits.specs.declared.refusal.Refusal.TheVariants.{NoHdu, BadName, BadValue, NotImage, BadRect, WrongCount, Range, PrimaryStays, TooLarge, Memory}
-use Rattle.fits_edits.specs.declared.refusal.Refusal.TheVariants as refusal
-use Rattle.fits_edits.proofs.ReshapeEditLemmas.{reshape_firm}
-use Rattle.fits_edits.proofs.FirmLemmas.{IsFirm, firm_choice, firm_none, IsOther, firm_some, FirmChange, firm_tested, firm_either, firm_refused, firm_made, firm_unset}
+use Rattle.fits_making.specs.declared.refusal.Refusal.{Refusal}
+use Rattle.fits_making.specs.declared.refusal.Refusal.TheVariants.{NoHdu, BadName, BadValue, NotImage, BadRect, WrongCount, Range, PrimaryStays, TooLarge, Memory}
+use Rattle.fits_making.specs.declared.refusal.Refusal.TheVariants as refusal
+use Rattle.fits_making.proofs.ReshapeEditLemmas.{reshape_firm}
+use Rattle.fits_making.proofs.FirmLemmas.{IsFirm, firm_choice, firm_none, IsOther, firm_some, FirmChange, firm_tested, firm_either, firm_refused, firm_made, firm_unset}
 
 -- written cards instead of a keyword's
 firm_setting : (count : ℕ) (old : Option KeywordCards) (new : Option (List (List ℕ))) → FirmChange (setting count old new)

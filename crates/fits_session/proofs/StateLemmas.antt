@@ -17,10 +17,10 @@ use Rattle.fits_passing.proofs.ShapeLemmas.{one_primary}
 use Rattle.fits_session.specs.Edit.{hdu_of, changed_at, changed_of}
 use Rattle.fits_passing.specs.File.{is_primary_hdu, FileParts, IsFile, file_bytes, joined_hdus}
 use Rattle.fits_passing.specs.declared.limits.TheConstants.{FILE_LIMIT, HDU_LIMIT}
-use Rattle.fits_edits.specs.Keeping.{vouch, IsRight, IsSound}
+use Rattle.fits_making.specs.Keeping.{vouch, IsRight, IsSound}
 use Rattle.fits_session.specs.Marked.{Marked, is_kept}
 use Rattle.fits_session.specs.Session.{SessionState, file_of, hdus_of, kept_of, marked_of, reads_of, rooms_of, works_of, state_of, ReadsOnly, WorksOnly, Asks, IsIndexOf, IsNowhere}
-use Rattle.fits_edits.specs.Making.{unread}
+use Rattle.fits_making.specs.Making.{unread}
 use Rattle.fits_session.proofs.ChangeLemmas.{hdu_is, part_within}
 
 -- HDU h of those under edits

@@ -8,12 +8,12 @@ use Rattle.fits_hdu.specs.State.{HduState, name_of, parts_of, IsDescribed}
 use Rattle.fits_passing.specs.Sums.{verdicts_of}
 use Rattle.fits_passing.specs.declared.called.ExtensionName.{ExtensionName}
 use Rattle.fits_passing.specs.File.{FileParts, file_bytes, joined_hdus, IsFile}
-use Rattle.fits_edits.specs.Keeping.{vouch, vouched_one, IsSound}
+use Rattle.fits_making.specs.Keeping.{vouch, vouched_one, IsSound}
 use Rattle.fits_session.specs.Marked.{vouched}
 use Rattle.fits_session.specs.NameTable.{names_of}
 use Rattle.fits_passing.specs.NameCounts.{IsTableOf}
 use Rattle.fits_session.specs.Session.{file_of, hdus_of, kept_of, marked_of, state_of, IsKept}
-use Rattle.fits_edits.specs.Making.{Holding, IsHad}
+use Rattle.fits_making.specs.Making.{Holding, IsHad}
 use Rattle.fits_passing.specs.declared.limits.TheConstants.{FILE_LIMIT}
 use Rattle.fits_session.proofs.KeptLemmas.{file_with, marked_with, seen_all, IsPlaced}
 use Rattle.fits_session.proofs.OffsetLemmas.{ends_within}

@@ -14,10 +14,10 @@ use Rattle.fits_hdu.specs.Work.{IsKnownAt, IsLoaded, Loads, PixelWork, WritesHdu
 use Rattle.fits_passing.specs.declared.passed_hdu.PassedHdu.{PassedHdu}
 use Rattle.fits_session.specs.Edit.{changed_of, hdu_of}
 use Rattle.fits_passing.specs.File.{FileParts}
-use Rattle.fits_edits.specs.HduEdit.{needs_pixels}
+use Rattle.fits_making.specs.HduEdit.{needs_pixels}
 use Rattle.fits_passing.specs.Opening.{HasOpenFault}
 use Rattle.fits_session.specs.Query.{array_in, kind_in}
-use Rattle.fits_edits.specs.Making.{Holding, IsHad}
+use Rattle.fits_making.specs.Making.{Holding, IsHad}
 use Rattle.fits_session.specs.Session.{SessionState}
 use Rattle.fits_edit.specs.declared.edit.Edit.{Edit}
 use Rattle.fits_edit.specs.declared.edit.Edit.TheVariants.{Hdu}

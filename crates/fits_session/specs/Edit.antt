@@ -4,7 +4,7 @@ use Rattle.std.specs.List.{slice_get, insert, remove}
 use Rattle.fits_passing.specs.Hdu.{HduParts}
 use Rattle.fits_hdu.specs.NewImage.{new_image}
 use Rattle.fits_passing.specs.File.{FileParts, is_primary_hdu}
-use Rattle.fits_edits.specs.HduEdit.{hdu_made, HasHduSizes, made_or}
+use Rattle.fits_making.specs.HduEdit.{hdu_made, HasHduSizes, made_or}
 use Rattle.fits_edit.specs.declared.edit.Edit.{Edit}
 use Rattle.fits_edit.specs.declared.edit.Edit.TheVariants.{Hdu, NewImage, RemoveHdu}
 use Rattle.fits_edit.specs.declared.hdu_edit.HduEdit.{HduEdit}

@@ -5,12 +5,12 @@ use Rattle.fits_passing.specs.Hdu.{HduParts}
 use Rattle.fits_passing.specs.Sums.{verdicts_of}
 use Rattle.fits_session.specs.Edit.{changed_of, file_after, hdu_of, with_hdu}
 use Rattle.fits_passing.specs.File.{FileParts}
-use Rattle.fits_edits.specs.Keeping.{are_right, kept_after, stamp_follows, stamped_if, vouch}
+use Rattle.fits_making.specs.Keeping.{are_right, kept_after, stamp_follows, stamped_if, vouch}
 use Rattle.fits_session.specs.Query.{in_hdu}
 use Rattle.fits_session.specs.Refusal.{refusal_in, refusal_of}
 use Rattle.fits_edit.specs.declared.edit.Edit.{Edit}
 use Rattle.fits_edit.specs.declared.edit.Edit.TheVariants.{Hdu, NewImage, RemoveHdu}
-use Rattle.fits_edits.specs.declared.refusal.Refusal.{Refusal}
+use Rattle.fits_making.specs.declared.refusal.Refusal.{Refusal}
 
 -- a file, and which of its HDUs are kept stamped
 pub record Marked : Type 0 where

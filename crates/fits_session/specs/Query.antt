@@ -19,10 +19,10 @@ use Rattle.fits_passing.specs.declared.verdicts.Verdicts.{Verdicts}
 use Rattle.fits_hdu.specs.declared.keyword.KeywordFault.{KeywordFault}
 use Rattle.fits_passing.specs.File.{FileParts, is_primary_hdu}
 use Rattle.fits_session.specs.Edit.{hdu_of}
-use Rattle.fits_edits.specs.HduEdit.{shaped}
-use Rattle.fits_edits.specs.declared.refusal.Refusal.{Refusal}
-use Rattle.fits_edits.specs.declared.refusal.Refusal.TheVariants.{NoHdu, Shape as BadShape, Memory}
-use Rattle.fits_edits.specs.Refusal.{refusal_of_keyword}
+use Rattle.fits_making.specs.HduEdit.{shaped}
+use Rattle.fits_making.specs.declared.refusal.Refusal.{Refusal}
+use Rattle.fits_making.specs.declared.refusal.Refusal.TheVariants.{NoHdu, Shape as BadShape, Memory}
+use Rattle.fits_making.specs.Refusal.{refusal_of_keyword}
 
 -- what an HDU answers, if it is there
 abbrev pub in_hdu : {X : Type 0} → (HduParts → Result X Refusal) → Option HduParts → Result X Refusal

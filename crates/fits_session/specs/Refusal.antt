@@ -4,17 +4,17 @@ use Rattle.fits_passing.specs.Hdu.{HduParts}
 use Rattle.fits_image.specs.ImageCards.{are_axes}
 use Rattle.fits_hdu.specs.NewImage.{new_image}
 use Rattle.fits_image.specs.declared.kind.Kind.{Kind}
-use Rattle.fits_edits.specs.CardEdit.{is_within}
+use Rattle.fits_making.specs.CardEdit.{is_within}
 use Rattle.fits_session.specs.Edit.{hdu_of, with_hdu, with_new_hdu}
 use Rattle.fits_passing.specs.File.{is_primary_hdu, FileParts, file_bytes}
-use Rattle.fits_edits.specs.HduEdit.{hdu_made}
-use Rattle.fits_edits.specs.Keeping.{padded_if}
+use Rattle.fits_making.specs.HduEdit.{hdu_made}
+use Rattle.fits_making.specs.Keeping.{padded_if}
 use Rattle.fits_edit.specs.declared.edit.Edit.{Edit}
 use Rattle.fits_edit.specs.declared.edit.Edit.TheVariants.{Hdu, NewImage, RemoveHdu}
 use Rattle.fits_edit.specs.declared.hdu_edit.HduEdit.{HduEdit}
-use Rattle.fits_edits.specs.declared.refusal.Refusal.{Refusal}
-use Rattle.fits_edits.specs.declared.refusal.Refusal.TheVariants.{NoHdu, Shape, PrimaryStays, TooLarge}
-use Rattle.fits_edits.specs.Refusal.{limit_refusal, HduNeedsMemory, OrStampNeedsMemory}
+use Rattle.fits_making.specs.declared.refusal.Refusal.{Refusal}
+use Rattle.fits_making.specs.declared.refusal.Refusal.TheVariants.{NoHdu, Shape, PrimaryStays, TooLarge}
+use Rattle.fits_making.specs.Refusal.{limit_refusal, HduNeedsMemory, OrStampNeedsMemory}
 
 -- a file would
 abbrev pub size_refusal : FileParts → Option Refusal

@@ -10,19 +10,19 @@ use Rattle.fits_passing.specs.Work.{open_reads}
 use Rattle.fits_hdu.specs.Work.{plane_work, IsMade, PixelWork}
 use Rattle.fits_session.specs.Edit.{changed_of, hdu_of}
 use Rattle.fits_passing.specs.File.{is_primary_hdu, file_bytes, FileParts, IsFile}
-use Rattle.fits_edits.specs.HduEdit.{needs_pixels}
-use Rattle.fits_edits.specs.Keeping.{IsSound}
+use Rattle.fits_making.specs.HduEdit.{needs_pixels}
+use Rattle.fits_making.specs.Keeping.{IsSound}
 use Rattle.fits_session.specs.Marked.{is_stamped_after, marked_after, marked_refusal, Marked}
 use Rattle.fits_session.specs.NameTable.{Stands}
 use Rattle.fits_session.specs.Refusal.{EditNeedsMemory}
-use Rattle.fits_edits.specs.Refusal.{Fails}
+use Rattle.fits_making.specs.Refusal.{Fails}
 use Rattle.fits_session.specs.Work.{edit_reads}
 use Rattle.fits_edit.specs.declared.edit.Edit.{Edit}
 use Rattle.fits_edit.specs.declared.edit.Edit.TheVariants.{Hdu, NewImage, RemoveHdu}
 use Rattle.fits_edit.specs.declared.hdu_edit.HduEdit.{HduEdit}
 use Rattle.fits_edit.specs.declared.hdu_edit.HduEdit.TheVariants.{Reshape}
-use Rattle.fits_edits.specs.declared.refusal.Refusal.{Refusal}
-use Rattle.fits_edits.specs.Making.{Holding, IsHad, HduWork, unread, IsReadyTo}
+use Rattle.fits_making.specs.declared.refusal.Refusal.{Refusal}
+use Rattle.fits_making.specs.Making.{Holding, IsHad, HduWork, unread, IsReadyTo}
 
 -- HDUs under edits, and the bytes that trail them
 pub record SessionState : Type 0 where

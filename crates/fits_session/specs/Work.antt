@@ -6,13 +6,13 @@ use Rattle.fits_hdu.specs.Work.{keyword_reads}
 use Rattle.fits_passing.specs.Work.{name_reads}
 use Rattle.fits_session.specs.Edit.{hdu_of}
 use Rattle.fits_passing.specs.File.{is_primary_hdu, FileParts}
-use Rattle.fits_edits.specs.HduEdit.{hdu_made}
-use Rattle.fits_edits.specs.Keeping.{stamp_follows}
+use Rattle.fits_making.specs.HduEdit.{hdu_made}
+use Rattle.fits_making.specs.Keeping.{stamp_follows}
 use Rattle.fits_session.specs.Marked.{Marked, is_kept}
 use Rattle.fits_edit.specs.HduEdit.{may_rename}
 use Rattle.fits_edit.specs.declared.hdu_edit.HduEdit.{HduEdit}
-use Rattle.fits_edits.specs.declared.refusal.Refusal.{Refusal}
-use Rattle.fits_edits.specs.Work.{hdu_reads, follow_up_reads}
+use Rattle.fits_making.specs.declared.refusal.Refusal.{Refusal}
+use Rattle.fits_making.specs.Work.{hdu_reads, follow_up_reads}
 
 -- how many cards are read after an edit that makes something of an HDU, to know what it is called then
 abbrev pub follow_reads : HduEdit → Result HduParts Refusal → ℕ

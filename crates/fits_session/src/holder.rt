@@ -5,7 +5,7 @@ ghost use Rattle.fits_stream.specs.Stream.{Prints};
 ghost use Rattle.fits_passing.specs.Hdu.{hdu_bytes};
 ghost use Rattle.fits_hdu.specs.State.{parts_of, ReadsUpTo};
 ghost use Rattle.fits_hdu.specs.Work.{Loads, WritesHdu};
-ghost use Rattle.fits_edits.specs.Making.{IsHad};
+ghost use Rattle.fits_making.specs.Making.{IsHad};
 
 use fits_hdu::Hdu;
 use fits_stream::{ReadLog, Sink, Stored, buffer_of};

@@ -8,7 +8,7 @@ mod save_fault;
 mod session;
 
 pub use fits_edit::{CardEdit, Corner, Edit, HduEdit, Paint, PixelValues};
-pub use fits_edits::Refusal;
+pub use fits_making::Refusal;
 pub use fits_passing::{
     FILE_LIMIT, HDU_LIMIT, HduOffsets, OpenFault, Problem, ReadFileFault, within,
 };

@@ -14,8 +14,8 @@ mod vouching;
 use crate::holder::{Holder, InMemory};
 use crate::name_table::NameTable;
 use fits_edit::Edit;
-use fits_edits::Refusal;
 use fits_hdu::Hdu;
+use fits_making::Refusal;
 use fits_passing::{FILE_LIMIT, OpenFault, ReadFileFault};
 use fits_stream::{Intake, Source};
 use naming::name_all;
@@ -148,7 +148,7 @@ impl<H: Holder + Drop> Session<H> {
     ghost use Rattle.fits_passing.specs.File.{file_bytes, IsFile};
     ghost use Rattle.fits_session.specs.Marked.{unmarked};
     ghost use Rattle.fits_session.specs.Session.{file_of, marked_of, state_of, EditsTo, IsReadyFor};
-    ghost use Rattle.fits_edits.specs.Making.{IsHad};
+    ghost use Rattle.fits_making.specs.Making.{IsHad};
 
     // The session of the HDUs of a file, how many bytes it has, and the bytes after the last HDU.
     #[tactic(auto, using(crate::proofs::KeptLemmas::opened_steps))]

@@ -6,8 +6,8 @@ use super::finding::index_of;
 use super::naming::follow;
 use crate::holder::Holder;
 use fits_edit::{Edit, HduEdit};
-use fits_edits::{Refusal, edit_hdu};
 use fits_hdu::Hdu;
+use fits_making::{Refusal, edit_hdu};
 
 impl<H: Holder + Drop> Session<H> {
     ghost use Rattle.fits_session.specs.Away.{LieStill};

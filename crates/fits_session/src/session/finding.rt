@@ -2,8 +2,8 @@
 ghost use Rattle.std.specs.Prelude.{◌≡◌, length, IfOk, IfErr, OnErr};
 ghost use Rattle.fits_session.specs.Session.{IsIndexOf, IsNowhere};
 
-use fits_edits::Refusal;
 use fits_hdu::Hdu;
+use fits_making::Refusal;
 
 /// The index of HDU h. Refusal 1.
 pub(crate) fn index_of(hdus: &[Hdu], h: usize) -> Result<usize, Refusal>

@@ -4,9 +4,9 @@ use super::finding::index_of;
 use super::naming::leave;
 use crate::holder::Holder;
 use fits_edit::Edit;
-use fits_edits::{Refusal, is_within};
 use fits_hdu::{Hdu, image_len};
 use fits_image::{Kind, are_axes, image_shape};
+use fits_making::{Refusal, is_within};
 use fits_passing::{FILE_LIMIT, HDU_LIMIT};
 use fits_rules::Axes;
 

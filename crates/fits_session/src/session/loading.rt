@@ -59,7 +59,7 @@ impl<H: Holder + Drop> Session<H> {
     ghost use Rattle.fits_session.specs.Away.{Agree, EditWantsPixels, LieStill, LoadsAt, LoadsFor, LoadWork};
     ghost use Rattle.fits_session.specs.Query.{array_in, kind_in};
     ghost use Rattle.fits_session.specs.Session.{file_of, marked_of, reads_of, works_of, HasPixels, HasStats, IsHeld, IsReadyFor, IsSoOf, NeedsPixels, WorksOnly};
-    ghost use Rattle.fits_edits.specs.Making.{HasArray};
+    ghost use Rattle.fits_making.specs.Making.{HasArray};
 
     /// Has the data unit of HDU h in memory, if there is one: where it lies in a file it is read
     /// again, and judged by its length and its total. Reads that fail are counted.

@@ -5,7 +5,7 @@ ghost use Rattle.fits_passing.specs.Work.{name_reads};
 ghost use Rattle.fits_hdu.specs.Work.{IsOpened};
 ghost use Rattle.fits_session.specs.NameTable.{mended, Leaves, Stands, Stood};
 ghost use Rattle.fits_session.specs.Session.{hdus_of, kept_of, reads_of, without_entries, works_of, ReadsOnly};
-ghost use Rattle.fits_edits.specs.Making.{Holding, IsHad};
+ghost use Rattle.fits_making.specs.Making.{Holding, IsHad};
 
 use crate::name_table::NameTable;
 use fits_hdu::Hdu;

@@ -6,7 +6,7 @@ ghost use Rattle.fits_session.specs.Away.{Agree, WritesHdus};
 ghost use Rattle.fits_stream.specs.Stream.{Prints, PrintsFront};
 ghost use Rattle.fits_passing.specs.File.{joined_hdus};
 ghost use Rattle.fits_session.specs.Session.{hdus_of, each_read, ReadsOnceAtMost};
-ghost use Rattle.fits_edits.specs.Making.{IsHad};
+ghost use Rattle.fits_making.specs.Making.{IsHad};
 
 use super::Session;
 use crate::holder::Holder;

@@ -3,7 +3,7 @@ ghost use Rattle.std.specs.Prelude.{◌≡◌, ◌≤◌, ◌^◌, ◌&&◌, len
 ghost use Rattle.fits_passing.specs.Hdu.{hdu_bytes};
 ghost use Rattle.fits_hdu.specs.State.{parts_of};
 ghost use Rattle.fits_passing.specs.File.{joined_hdus};
-ghost use Rattle.fits_edits.specs.Keeping.{are_right, is_right, vouch, vouched_one};
+ghost use Rattle.fits_making.specs.Keeping.{are_right, is_right, vouch, vouched_one};
 ghost use Rattle.fits_session.specs.Session.{hdus_of};
 ghost use Rattle.fits_passing.specs.declared.limits.TheConstants.{FILE_LIMIT};
 
@@ -13,7 +13,7 @@ use fits_hdu::{Hdu, Verdict, Verdicts};
 
 impl<H: Holder + Drop> Session<H> {
     ghost use Rattle.std.specs.Prelude.{◌≡◌, map};
-    ghost use Rattle.fits_edits.specs.Keeping.{vouched_one};
+    ghost use Rattle.fits_making.specs.Keeping.{vouched_one};
     ghost use Rattle.fits_session.specs.Away.{LieStill};
     ghost use Rattle.fits_session.specs.Marked.{vouched};
     ghost use Rattle.fits_session.specs.Session.{file_of, marked_of, state_of};

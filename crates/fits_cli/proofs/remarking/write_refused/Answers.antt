@@ -1,5 +1,5 @@
 use Rattle.std.proofs.Common.{codes, ◌++◌}
-use Rattle.fits_edits.specs.Refusal.{refusal_text}
+use Rattle.fits_making.specs.Refusal.{refusal_text}
 use Rattle.fits_stream.proofs.StreamLemmas.{PrintsFront-longer, PrintsFront-more}
 use Rattle.fits_tell.proofs.ExitLemmas.{at_exit, last_err}
 use Rattle.fits_cli.specs.Remark.{reason_text}

@@ -8,7 +8,7 @@ use Rattle.std.proofs.lemmas.Result.{err_from_is_err_and}
 use Rattle.fits_session.proofs.EditLemmas.{IsEdited, IsFollowed, edits_made, edits_nowhere, edits_refused, followed_none, kept_followed, kept_refused, kept_unrenamed, stood_before}
 use Rattle.fits_session.specs.Away.{in_file, AllLie}
 use Rattle.fits_session.proofs.HadLemmas.{kept_in}
-use Rattle.fits_edits.proofs.MakingLemmas.{kept_limits}
+use Rattle.fits_making.proofs.MakingLemmas.{kept_limits}
 use Rattle.fits_session.proofs.StateLemmas.{file_within, is_at, part_there}
 use Rattle.fits_session.proofs.session.Session.edit_hdu.Goals as goal
 

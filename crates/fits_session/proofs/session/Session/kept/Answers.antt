@@ -1,7 +1,7 @@
 use Rattle.std.proofs.Common.{ap, refl, ◌∙◌, arith}
 use Rattle.std.specs.Prelude.{◌&&◌}
 use Rattle.fits_passing.specs.declared.verdicts.Verdicts.{Verdicts}
-use Rattle.fits_edits.specs.Keeping.{are_right}
+use Rattle.fits_making.specs.Keeping.{are_right}
 use Rattle.fits_session.proofs.QueryLemmas.{kept_said, kept_sums}
 use Rattle.fits_session.proofs.StateLemmas.{is_at, file_within, part_there}
 use Rattle.fits_session.proofs.session.Session.kept.Goals as goal

@@ -3,7 +3,7 @@ use Rattle.std.proofs.lemmas.List.Elements.{All-set}
 use Rattle.fits_hdu.specs.State.{HduState}
 use Rattle.fits_session.specs.Away.{in_file, Agree, AllLie, LoadWork}
 use Rattle.fits_session.specs.Session.{file_of, state_of, IsHeld, IsSoOf}
-use Rattle.fits_edits.specs.Making.{Holding, IsHad}
+use Rattle.fits_making.specs.Making.{Holding, IsHad}
 use Rattle.fits_session.proofs.AwayLemmas.{held_stays, kept_loaded, load_work, loaded_had, loaded_same, loads_alone}
 use Rattle.fits_session.proofs.HadLemmas.{agree_on}
 use Rattle.fits_session.proofs.StateLemmas.{is_at, reads_of-same, works_nowhere, works_there}

@@ -5,9 +5,9 @@ use Rattle.fits_image.specs.ImageCards.{are_axes}
 use Rattle.fits_hdu.specs.NewImage.{new_image}
 use Rattle.fits_rules.specs.declared.array_shape.Shape.{Shape}
 use Rattle.fits_session.specs.Away.{in_file, AllLie}
-use Rattle.fits_edits.specs.CardEdit.{is_within}
-use Rattle.fits_edits.specs.Making.{IsHad}
-use Rattle.fits_edits.proofs.HadLemmas.{had_held}
+use Rattle.fits_making.specs.CardEdit.{is_within}
+use Rattle.fits_making.specs.Making.{IsHad}
+use Rattle.fits_making.proofs.HadLemmas.{had_held}
 use Rattle.fits_session.proofs.ListEditLemmas.{all_inserted, is_placed, new_first, new_fits, new_left, new_made, new_memory, new_nowhere, new_shapeless, new_size, new_too_large, placed_at}
 use Rattle.std.proofs.lemmas.List.{length-map}
 use Rattle.std.proofs.lemmas.List.Edits.{length-insert}
@@ -16,7 +16,7 @@ use Rattle.fits_session.specs.NameTable.{names_of}
 use Rattle.fits_session.proofs.KeptLemmas.{kept_as}
 use Rattle.fits_session.proofs.StandingLemmas.{unnamed_stands}
 use Rattle.fits_session.proofs.TableLemmas.{names_within}
-use Rattle.fits_edits.specs.Keeping.{IsSound}
+use Rattle.fits_making.specs.Keeping.{IsSound}
 use Rattle.fits_session.proofs.StateLemmas.{file_within, unkept_right}
 use Rattle.fits_session.proofs.session.Session.put_image.Goals as goal
 

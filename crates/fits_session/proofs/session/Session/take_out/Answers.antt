@@ -4,9 +4,9 @@ use Rattle.std.proofs.lemmas.List.Edits.{length-remove}
 use Rattle.fits_session.specs.Away.{in_file, AllLie}
 use Rattle.fits_passing.specs.File.{FileParts, file_bytes, IsFile}
 use Rattle.fits_session.specs.NameTable.{Stands}
-use Rattle.fits_edits.specs.Keeping.{IsSound}
+use Rattle.fits_making.specs.Keeping.{IsSound}
 use Rattle.fits_session.specs.Session.{without_entries}
-use Rattle.fits_edits.specs.Making.{IsHad}
+use Rattle.fits_making.specs.Making.{IsHad}
 use Rattle.fits_session.proofs.HadLemmas.{had_moved}
 use Rattle.fits_session.proofs.KeptLemmas.{count_moved, described_moved, file_of-unentered, right_unentered}
 use Rattle.fits_session.proofs.StandingLemmas.{removed_leaves}

@@ -7,7 +7,7 @@ use Rattle.fits_session.specs.Away.{in_file, Agree, AllLie}
 use Rattle.fits_stream.proofs.StreamLemmas.{Prints-more, PrintsFront-more}
 use Rattle.std.proofs.lemmas.Result.{err_from_is_err_and}
 use Rattle.fits_session.specs.Session.{hdus_of}
-use Rattle.fits_edits.specs.Making.{Holding}
+use Rattle.fits_making.specs.Making.{Holding}
 use Rattle.fits_session.proofs.KeptLemmas.{marked_counted, kept_counted}
 use Rattle.fits_session.proofs.HadLemmas.{kept_in}
 use Rattle.fits_session.proofs.SaveLemmas.{copy_hdus}

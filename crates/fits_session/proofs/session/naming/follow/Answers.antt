@@ -7,11 +7,11 @@ use Rattle.fits_hdu.specs.Work.{plane_work}
 use Rattle.fits_hdu.proofs.StateLemmas.{parts_read}
 use Rattle.fits_session.specs.NameTable.{names_of}
 use Rattle.fits_session.specs.Session.{reads_of, ReadsOnly}
-use Rattle.fits_edits.specs.Making.{StaysHad}
+use Rattle.fits_making.specs.Making.{StaysHad}
 use Rattle.fits_session.proofs.HadLemmas.{had_at, had_moved}
-use Rattle.fits_edits.proofs.HadLemmas.{had_read}
+use Rattle.fits_making.proofs.HadLemmas.{had_read}
 use Rattle.fits_session.proofs.KeptLemmas.{described_moved, hdus_moved, kept_moved, reads_moved, works_moved}
-use Rattle.fits_edits.proofs.MakingLemmas.{lasts_read}
+use Rattle.fits_making.proofs.MakingLemmas.{lasts_read}
 use Rattle.fits_session.proofs.NamingLemmas.{follows_leaves, follows_same, points_was}
 use Rattle.fits_session.proofs.StateLemmas.{IsHduAt, hdus_of-same, kept_of-same, reads_more, works_of-same}
 use Rattle.fits_session.proofs.TableLemmas.{names_within}

@@ -9,7 +9,7 @@ use Rattle.fits_hdu.specs.Work.{IsOpened}
 use Rattle.fits_hdu.proofs.StateLemmas.{parts_read}
 use Rattle.fits_session.specs.NameTable.{Stands}
 use Rattle.fits_session.proofs.HadLemmas.{had_named}
-use Rattle.fits_edits.proofs.MakingLemmas.{lasts_read}
+use Rattle.fits_making.proofs.MakingLemmas.{lasts_read}
 use Rattle.fits_session.proofs.NamingLemmas.{all_more, first_after, name_kept, ok_or, opened_more, rest_after, with_entry}
 use Rattle.fits_session.proofs.StandingLemmas.{entered_as, few_told, one_more_stands}
 use Rattle.fits_session.proofs.StateLemmas.{hdus_of-same}

@@ -5,7 +5,7 @@ use Rattle.fits_passing.specs.Work.{name_reads}
 use Rattle.fits_hdu.specs.Work.{IsOpened}
 use Rattle.fits_session.specs.NameTable.{Stands}
 use Rattle.fits_session.specs.Session.{hdus_of}
-use Rattle.fits_edits.specs.Making.{Holding, IsHad}
+use Rattle.fits_making.specs.Making.{Holding, IsHad}
 use Rattle.fits_session.proofs.session.naming.name_all.Given as goal
 
 abbrev pub invariant-loop-i : goal.invariant-loop-i

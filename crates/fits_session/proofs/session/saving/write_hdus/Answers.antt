@@ -4,7 +4,7 @@ use Rattle.std.proofs.lemmas.Result.{err_from_is_err_and}
 use Rattle.fits_hdu.proofs.StateLemmas.{parts_read}
 use Rattle.fits_hdu.proofs.PassedLemmas.{writes_more}
 use Rattle.fits_session.specs.Session.{hdus_of}
-use Rattle.fits_edits.specs.Making.{Holding, IsHad}
+use Rattle.fits_making.specs.Making.{Holding, IsHad}
 use Rattle.fits_session.proofs.StateLemmas.{length-hdus_of}
 use Rattle.fits_session.proofs.HadLemmas.{agree_before, agree_lying, agree_on, had_set}
 use Rattle.fits_session.proofs.SaveLemmas.{Prints-hdu, Prints-hdus, WritesHdus-all, WritesHdus-more, copy_hdu, like_hdu, words_hdu, hdus_kept, first_read_more, all_read, once_at_end, once_at_most}

@@ -4,7 +4,7 @@ use Rattle.fits_unit.specs.Again.{Follows, PrintsLike}
 use Rattle.fits_stream.specs.Stream.{Prints}
 use Rattle.fits_passing.specs.File.{joined_hdus}
 use Rattle.fits_session.specs.Session.{hdus_of}
-use Rattle.fits_edits.specs.Making.{IsHad}
+use Rattle.fits_making.specs.Making.{IsHad}
 use Rattle.fits_session.proofs.SaveLemmas.{first_read}
 use Rattle.fits_session.proofs.session.saving.write_hdus.Given as goal
 

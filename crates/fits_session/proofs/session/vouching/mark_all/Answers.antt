@@ -1,6 +1,6 @@
 use Rattle.std.proofs.Common.{ap, ◌∙◌, ◌<◌, length, rules, set}
 use Rattle.std.proofs.lemmas.List.Edits.{map_over_more}
-use Rattle.fits_edits.specs.Keeping.{vouched_one}
+use Rattle.fits_making.specs.Keeping.{vouched_one}
 use Rattle.fits_session.proofs.VouchLemmas.{small_ahead}
 use Rattle.fits_session.proofs.session.vouching.mark_all.Goals as goal
 

@@ -1,5 +1,5 @@
 use Rattle.std.proofs.Common.{◌≡◌, ◌++◌, drop, map, take}
-use Rattle.fits_edits.specs.Keeping.{vouched_one}
+use Rattle.fits_making.specs.Keeping.{vouched_one}
 use Rattle.fits_session.proofs.session.vouching.mark_all.Given as goal
 
 abbrev pub invariant-loop-i : goal.invariant-loop-i
