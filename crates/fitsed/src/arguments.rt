@@ -38,6 +38,7 @@ const EDITS: Form = Form {
             's',
             "Keep sums right that are right, and leave wrong ones as they are",
         ),
+        Word::Done,
         Word::NoClobber,
         Word::Flag(
             "safe",

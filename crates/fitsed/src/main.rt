@@ -100,13 +100,14 @@ fn status_of<R: Files<File = File> + Input + Print + Eprint + AllocGlobal>(
             script,
             paths,
             named,
+            done,
             terms,
         } => {
             let files = Inputs {
                 paths: &paths,
                 named,
             };
-            edit_in_place(rt, &script, files, terms, detail)
+            edit_in_place(rt, &script, files, done, terms, detail)
         }
         Task::Ask { script, files } => ask(rt, &script, files, detail),
         Task::Show { choice, files } => each(rt, Job::Show(&choice), files, detail),

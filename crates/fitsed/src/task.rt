@@ -25,6 +25,8 @@ pub enum Task<'m, 'a> {
         script: Vec<Piece<'a>>,
         paths: Vec<&'a str>,
         named: bool,
+        /// Whether the name of each is told once it is saved.
+        done: bool,
         terms: SavingTerms<'a>,
     },
     /// A script is done on each file, and nothing is saved.
@@ -161,6 +163,7 @@ fn edit_of<'m, 'a>(
             script,
             named: are_named(&paths, named)?,
             paths,
+            done: words.get_flag("done"),
             terms,
         });
     }

@@ -15,6 +15,8 @@ pub enum Word {
     Verbose(&'static str),
     /// Whether warnings count as errors.
     Strict,
+    /// Whether each file is told of once it is done.
+    Done,
     /// Whether a file that stands at OUT stays.
     NoClobber,
     /// What ends the name that the old file keeps.
@@ -44,6 +46,7 @@ impl Word {
             Word::File => Ok(file(alloc)),
             Word::Verbose(help) => Ok(flag(alloc, "verbose", 'v', help)),
             Word::Strict => strict(alloc),
+            Word::Done => done(alloc),
             Word::NoClobber => no_clobber(alloc),
             Word::Backup => Ok(backup(alloc)),
             Word::Named => Ok(named(alloc)),
@@ -70,6 +73,14 @@ fn file<'a>(alloc: Global) -> Arg<'a> {
 fn strict<'a>(alloc: Global) -> Result<Arg<'a>, AllocError> {
     let help = "With -c: warnings count as errors do";
     flag(alloc, "warnings", 'w', help).requires_arg("check")
+}
+
+fn done<'a>(alloc: Global) -> Result<Arg<'a>, AllocError> {
+    Arg::new(alloc, "done")
+        .long("done")
+        .action(ArgAction::SetTrue)
+        .help("With -i: write the name of each file to standard error once it is saved")
+        .requires_arg("in-place")
 }
 
 fn no_clobber<'a>(alloc: Global) -> Result<Arg<'a>, AllocError> {
